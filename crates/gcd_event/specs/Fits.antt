@@ -1,0 +1,42 @@
+-- Which events fit: their fields are in the ranges of their kind (this project's own rule).
+use Rattle.std.specs.Prelude.{ℕ, ◌<◌, ◌≤◌}
+use Rattle.gcd_plan.specs.declared.names.Blk.{Blk}
+use Rattle.gcd_plan.specs.declared.names.Obj.{Obj}
+use Rattle.gcd_plan.specs.declared.names.Run.{Run}
+use Rattle.gcd_plan.specs.declared.names.Run.TheVariants.{Block, Source}
+use Rattle.gcd_event.specs.declared.event.Event.{Event}
+use Rattle.gcd_event.specs.declared.event.Event.TheVariants.{Start, Act as Acted, Wake, End, Deliver, DeliverEnd, Tick, Ready, FeedEnd, Misuse, Halt}
+
+-- a worker's number
+abbrev pub IsWorker : ℕ → Type 0
+IsWorker w = w < 64
+
+-- a block's number, main among them
+abbrev pub IsBlock : Blk → Type 0
+IsBlock b = b.0 ≤ 16384
+
+-- a source's number
+abbrev pub IsSource : Obj → Type 0
+IsSource s = (1 ≤ s.0) × (s.0 ≤ 1023)
+
+abbrev pub IsRun : Run → Type 0
+IsRun (Block b) = IsBlock b
+IsRun (Source s) = IsSource s
+
+-- an act's place in its body
+abbrev pub IsIndex : ℕ → Type 0
+IsIndex i = i ≤ 65534
+
+-- the event fits
+abbrev pub IsFitting : Event → Type 0
+IsFitting (Start w b) = IsWorker w × IsBlock b
+IsFitting (Acted w run i) = IsWorker w × IsRun run × IsIndex i
+IsFitting (Wake w b) = IsWorker w × IsBlock b
+IsFitting (End w b) = IsWorker w × IsBlock b
+IsFitting (Deliver w s) = IsWorker w × IsSource s
+IsFitting (DeliverEnd w s) = IsWorker w × IsSource s
+IsFitting (Tick t) = (1 ≤ t) × (t ≤ 86400000)
+IsFitting (Ready s n) = IsSource s × (1 ≤ n) × (n ≤ 2147483647)
+IsFitting (FeedEnd s) = IsSource s
+IsFitting (Misuse w run i c) = IsWorker w × IsRun run × IsIndex i × (1 ≤ c) × (c ≤ 8)
+IsFitting Halt = Unit {0}

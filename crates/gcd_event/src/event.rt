@@ -1,0 +1,127 @@
+// What happens in a run.
+ghost use Rattle.std.specs.Prelude.{IsTrue, ◌↔◌};
+
+use gcd_plan::{Blk, Obj, Run};
+
+/// What happened, in one atomic step. Tick, Ready, FeedEnd and Halt are worker 0's (this project's own rule: libdispatch
+/// keeps no journal).
+#[derive(Clone, Copy, Debug, PartialEq, Eq)]
+pub enum Event {
+    /// The worker started the block (dispatch_async(3)).
+    Start {
+        worker: u8,
+        blk: Blk,
+    },
+    /// The run made its act of this index, from 0.
+    Act {
+        worker: u8,
+        run: Run,
+        index: u32,
+    },
+    /// The parked block goes on, with the worker (dispatch_sync(3), dispatch_semaphore_wait(3), dispatch_group_wait(3)).
+    Wake {
+        worker: u8,
+        blk: Blk,
+    },
+    /// The block ended.
+    End {
+        worker: u8,
+        blk: Blk,
+    },
+    /// The source's pending value was handed to its handler (dispatch_source_get_data(3)).
+    Deliver {
+        worker: u8,
+        src: Obj,
+    },
+    /// The handler's run ended.
+    DeliverEnd {
+        worker: u8,
+        src: Obj,
+    },
+    /// Time has come to this moment, in milliseconds from the run's begin.
+    Tick {
+        at: u32,
+    },
+    /// So many bytes came on the read source's feed.
+    Ready {
+        src: Obj,
+        bytes: u32,
+    },
+    /// The read source's feed has ended; this cancels the source.
+    FeedEnd {
+        src: Obj,
+    },
+    /// The run's act of this index is a misuse with this code, and ends the run of the plan.
+    Misuse {
+        worker: u8,
+        run: Run,
+        index: u32,
+        code: u8,
+    },
+    /// The outside failed, which ends the run of the plan.
+    Halt,
+}
+
+impl Event {
+    ghost use Rattle.gcd_event.specs.Fits.{IsFitting};
+
+    /// Whether the event's fields are in their ranges: a worker below 64, a block of at most 16,384, a source from 1 to
+    /// 1,023, an index of at most 65,534, a time from 1 to 86,400,000, bytes from 1 to 2^31 - 1, a code from 1 to 8.
+    pub fn fits(&self) -> bool
+        ensures { IsTrue result ↔ IsFitting self.now }
+    {
+        match self {
+            Event::Start { worker, blk } => is_worker(*worker) && is_block(*blk),
+            Event::Act { worker, run, index } => is_worker(*worker)
+                && is_run(*run)
+                && *index <= 65_534,
+            Event::Wake { worker, blk } => is_worker(*worker) && is_block(*blk),
+            Event::End { worker, blk } => is_worker(*worker) && is_block(*blk),
+            Event::Deliver { worker, src } => is_worker(*worker) && is_source(*src),
+            Event::DeliverEnd { worker, src } => is_worker(*worker) && is_source(*src),
+            Event::Tick { at } => 1 <= *at && *at <= 86_400_000,
+            Event::Ready { src, bytes } => is_source(*src)
+                && 1 <= *bytes
+                && *bytes <= 2_147_483_647,
+            Event::FeedEnd { src } => is_source(*src),
+            Event::Misuse {
+                worker,
+                run,
+                index,
+                code,
+            } => {
+                is_worker(*worker) && is_run(*run) && *index <= 65_534 && 1 <= *code && *code <= 8
+            }
+            Event::Halt => true,
+        }
+    }
+}
+
+ghost use Rattle.gcd_event.specs.Fits.{IsWorker, IsBlock, IsSource, IsRun};
+
+fn is_worker(worker: u8) -> bool
+    ensures { IsTrue result ↔ IsWorker worker }
+{
+    worker < 64
+}
+
+fn is_block(b: Blk) -> bool
+    ensures { IsTrue result ↔ IsBlock b }
+{
+    b.0 <= 16_384
+}
+
+fn is_source(s: Obj) -> bool
+    ensures { IsTrue result ↔ IsSource s }
+{
+    1 <= s.0 && s.0 <= 1_023
+}
+
+fn is_run(run: Run) -> bool
+    ensures { IsTrue result ↔ IsRun run }
+{
+    match run {
+        Run::Block(b) => is_block(b),
+        Run::Source(s) => is_source(s),
+    }
+}

@@ -1,0 +1,167 @@
+// A valid plan.
+ghost use Rattle.std.specs.Prelude.{◌≡◌, ◌<◌, ◌≤◌, ◌^◌, IfOk, length, map, option_map, slice_get, Some};
+ghost use Rattle.gcd_plan.specs.PlanView.{kind_of, first_target, starts_active, acts_of, work_of, cancel_block, path_of, name_of_obj, name_of_blk, IsRun, file_view, view_of};
+ghost use Rattle.gcd_plan.specs.Validity.{IsPlan};
+
+use crate::act::Act;
+use crate::copy::copied_parts;
+use crate::kind::Kind;
+use crate::names::{Blk, Obj, Run};
+use crate::parts::{FilePart, Parts};
+use crate::work::Work;
+use std::alloc::{AllocError, Global};
+use std::marker::Model;
+
+/// A valid plan: its kinds and ranges fit, its names are apart, each block is submitted at most once, and its targets
+/// lead to `root`. Contracts see it as the plain lists of its parts (`PlanView`).
+#[derive(Debug, Drop)]
+pub struct Plan {
+    parts: Parts,
+}
+
+impl Model for Plan {
+    ghost use Rattle.gcd_plan.specs.PlanView.{PlanView, view_of};
+    ghost use Rattle.gcd_plan.specs.Validity.{IsPlan};
+
+    ghost Value = { PlanView };
+
+    ghost view = { λ p. view_of p.parts };
+
+    ghost invariant = { λ p. IsPlan (view_of p.parts) };
+}
+
+impl Plan {
+    /// The plan of these parts, which the caller knows to be valid. [`Plan::of_parts`] is the test.
+    pub fn of_valid_parts(parts: Parts) -> Plan
+        requires { IsPlan (view_of parts) }
+        ensures { result ≡ view_of parts }
+    {
+        Plan { parts }
+    }
+
+    /// How many objects there are, `root` among them: 1 to 1,024.
+    pub fn objects(&self) -> u32
+        ensures count { result ≡ length self.now.objects }
+        ensures valid { IsPlan self.now }
+    {
+        self.parts.objects.len() as u32
+    }
+
+    /// How many blocks there are, `main` among them: 1 to 16,385.
+    pub fn blocks(&self) -> u32
+        ensures count { result ≡ length self.now.blocks }
+        ensures valid { IsPlan self.now }
+    {
+        self.parts.blocks.len() as u32
+    }
+
+    /// The kind of an object.
+    pub fn kind(&self, o: Obj) -> Kind
+        requires { o.0 < length self.now.objects }
+        ensures { kind_of self.now o.0 ≡ Some result }
+    {
+        self.parts.objects[o.0 as usize].kind
+    }
+
+    /// The target that the plan gives an object; `root` for one that has none (dispatch_set_target_queue(3)).
+    pub fn first_target(&self, o: Obj) -> Obj
+        requires { o.0 < length self.now.objects }
+        ensures { result.0 ≡ first_target self.now o.0 }
+    {
+        self.parts.objects[o.0 as usize].target
+    }
+
+    /// Whether an object is created active (dispatch_activate(3)).
+    pub fn starts_active(&self, o: Obj) -> bool
+        requires { o.0 < length self.now.objects }
+        ensures { result ≡ starts_active self.now o.0 }
+    {
+        self.parts.objects[o.0 as usize].active
+    }
+
+    /// What a run does, in order. An object that is no source has no acts.
+    pub fn acts(&self, run: Run) -> &[Act]
+        requires { IsRun self.now run }
+        ensures { result.now ≡ acts_of self.now run }
+    {
+        match run {
+            Run::Block(b) => &self.parts.blocks[b.0 as usize].acts,
+            Run::Source(s) => &self.parts.objects[s.0 as usize].handler,
+        }
+    }
+
+    /// What a block computes; None exactly where the plan gives it no work.
+    pub fn work(&self, b: Blk) -> Option<Work>
+        requires { b.0 < length self.now.blocks }
+        ensures { result ≡ work_of self.now b.0 }
+    {
+        self.parts.blocks[b.0 as usize].work
+    }
+
+    /// The cancellation block of a source; None exactly where the plan gives it none
+    /// (dispatch_source_set_cancel_handler(3)).
+    pub fn cancel_block(&self, s: Obj) -> Option<Blk>
+        requires { s.0 < length self.now.objects }
+        ensures { result ≡ cancel_block self.now s.0 }
+    {
+        self.parts.objects[s.0 as usize].cancel
+    }
+
+    /// The files, by number, at most 64.
+    pub fn files(&self) -> &[FilePart]
+        ensures files { map file_view result.now ≡ self.now.files }
+        ensures few { length result.now ≤ 64 }
+    {
+        &self.parts.files
+    }
+
+    /// The path of a read source's feed; empty for every other object.
+    pub fn path_of(&self, s: Obj) -> &str
+        requires { s.0 < length self.now.objects }
+        ensures { result.now ≡ path_of self.now s.0 }
+    {
+        self.parts.objects[s.0 as usize].path.as_str()
+    }
+
+    /// The name of an object.
+    pub fn name_of_obj(&self, o: Obj) -> &str
+        requires { o.0 < length self.now.objects }
+        ensures { result.now ≡ name_of_obj self.now o.0 }
+    {
+        self.parts.objects[o.0 as usize].name.as_str()
+    }
+
+    /// The name of a block.
+    pub fn name_of_blk(&self, b: Blk) -> &str
+        requires { b.0 < length self.now.blocks }
+        ensures { result.now ≡ name_of_blk self.now b.0 }
+    {
+        self.parts.blocks[b.0 as usize].name.as_str()
+    }
+
+    /// The number of the script's line that declares a file.
+    pub fn line_of_file(&self, f: u32) -> u32
+        requires { f < length self.now.files }
+        ensures { option_map (λ g. g.line) (slice_get self.now.files f) ≡ Some result }
+    {
+        self.parts.files[f as usize].line
+    }
+
+    /// The last due time of timers, in milliseconds: 1 to 86,400,000 (this project's own rule).
+    pub fn until(&self) -> u32
+        ensures { result ≡ self.now.until }
+    {
+        self.parts.until
+    }
+}
+
+impl Plan {
+    /// The same plan once more.
+    pub fn copied(&self, alloc: Global) -> Result<Plan, AllocError>
+        ensures { IfOk result (λ p. p ≡ self.now) }
+    {
+        Ok(Plan {
+            parts: copied_parts(alloc, &self.parts)?,
+        })
+    }
+}
