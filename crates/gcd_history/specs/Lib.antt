@@ -1,0 +1,16 @@
+pub use Rattle.gcd_plan.specs.PlanView
+pub use Rattle.gcd_plan.specs.Kinds
+pub use Rattle.gcd_plan.specs.Chains
+pub use Rattle.gcd_plan.specs.StartRule
+pub mod Runs
+pub mod Groups
+pub mod Submitted
+pub mod Tree
+pub mod Holds
+pub mod Semas
+pub mod Parked
+pub mod Timers
+pub mod Sources
+pub mod Misuses
+pub mod Permitted
+pub mod Choice
