@@ -14,3 +14,5 @@ pub mod Sources
 pub mod Misuses
 pub mod Permitted
 pub mod Choice
+pub mod History
+pub mod Ends

@@ -1,6 +1,6 @@
 -- Which blocks are parked, what they wait for, and which runs a worker has (dispatch_sync(3), dispatch_group_wait(3),
 -- dispatch_semaphore_wait(3)).
-use Rattle.std.specs.Prelude.{ℕ, ◌+◌, ◌==◌, Bool, false, ◌&&◌, if◌then◌else◌, List, [], ◌∷◌, length, Option, Some, None, is_some, is_none}
+use Rattle.std.specs.Prelude.{ℕ, ◌+◌, ◌==◌, Bool, true, false, ◌&&◌, if◌then◌else◌, List, [], ◌∷◌, length, Option, Some, None, is_some, is_none, count_by}
 use Rattle.std.specs.Option.{option_map_or}
 use Rattle.std.specs.List.{list_any}
 use Rattle.gcd_plan.specs.PlanView.{PlanView}
@@ -25,6 +25,14 @@ reason_of plan past (Some (GroupWait g)) = Some (Group g (length past))
 reason_of plan past (Some (Wait s)) = Some (Rank s (wait_count plan past s.0 + 1))
 reason_of plan past _ = None
 
+-- the act parks its block until a Wake
+abbrev pub parks : Option Act → Bool
+parks (Some (Sync q b)) = true
+parks (Some (BarrierSync q b)) = true
+parks (Some (GroupWait g)) = true
+parks (Some (Wait s)) = true
+parks _ = false
+
 -- what the run's last act makes it wait for, where no Wake stands since
 abbrev pub parked_by : PlanView → List Event → Run → Option Reason
 parked_by plan [] run = None
@@ -39,6 +47,10 @@ reason plan past run = if is_open past run then parked_by plan past run else Non
 -- block b is parked
 unfoldable pub is_parked : PlanView → List Event → ℕ → Bool
 is_parked plan past b = is_some (reason plan past (Block (record { 0 = b })))
+
+-- how many runs are open and not parked
+abbrev pub running : PlanView → List Event → ℕ
+running plan past = count_by (λ run. is_none (parked_by plan past run)) (open_runs past)
 
 -- the worker's: open, not parked, and last started, woken or delivered by w (this project's own rule)
 unfoldable pub has_run : PlanView → List Event → ℕ → Run → Bool

@@ -21,6 +21,18 @@ use Rattle.gcd_history.specs.Timers.{may_tick}
 use Rattle.gcd_history.specs.Sources.{is_pending, is_live}
 use Rattle.gcd_history.specs.Misuses.{misuse}
 
+-- the last event is Misuse
+abbrev pub ends_in_misuse : List Event → Bool
+ends_in_misuse [] = false
+ends_in_misuse (Misuse w r i c ∷ past) = true
+ends_in_misuse (e ∷ past) = false
+
+-- the last event is Halt
+abbrev pub ends_in_halt : List Event → Bool
+ends_in_halt [] = false
+ends_in_halt (Halt ∷ past) = true
+ends_in_halt (e ∷ past) = false
+
 -- the last event is Misuse or Halt (this project's own rule)
 abbrev pub is_halted : List Event → Bool
 is_halted [] = false

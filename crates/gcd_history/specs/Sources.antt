@@ -1,5 +1,5 @@
 -- What is pending at a source (dispatch_source_create(3), dispatch_source_merge_data(3)).
-use Rattle.std.specs.Prelude.{ℕ, ◌+◌, ◌-◌, ◌==◌, bit_or, Bool, false, not, ◌&&◌, if◌then◌else◌, List, [], ◌∷◌, ◌++◌, filter, map, fold, Option, Some}
+use Rattle.std.specs.Prelude.{ℕ, ◌+◌, ◌-◌, ◌==◌, bit_or, Bool, false, not, ◌&&◌, if◌then◌else◌, List, [], ◌∷◌, ◌++◌, filter, map, fold, Option, Some, None, count_by}
 use Rattle.std.specs.Option.{option_map_or}
 use Rattle.std.specs.List.{range_with_len}
 use Rattle.gcd_plan.specs.PlanView.{PlanView, kind_of}
@@ -69,9 +69,19 @@ handed plan [] s = []
 handed plan (e ∷ past) s = handed plan past s ++ (if delivers s e then pending plan past s ∷ [] else [])
 
 -- what the last Deliver of source s handed over, 0 before one (dispatch_source_get_data(3))
-abbrev pub data_at : PlanView → List Event → ℕ → ℕ
-data_at plan [] s = 0
-data_at plan (e ∷ past) s = if delivers s e then pending plan past s else data_at plan past s
+abbrev pub last_data : PlanView → List Event → ℕ → ℕ
+last_data plan [] s = 0
+last_data plan (e ∷ past) s = if delivers s e then pending plan past s else last_data plan past s
+
+-- what the event after past hands over: what is pending at its source, where it is a Deliver, and else nothing
+-- (dispatch_source_get_data(3))
+abbrev pub handed_by : PlanView → List Event → Event → Option ℕ
+handed_by plan past (Deliver w s) = Some (pending plan past s.0)
+handed_by plan past _ = None
+
+-- how many Delivers of source s stand
+abbrev pub delivery_count : List Event → ℕ → ℕ
+delivery_count past s = count_by (delivers s) past
 
 -- all that the Delivers of source s handed over, in one
 abbrev pub received : PlanView → List Event → ℕ → ℕ

@@ -1,0 +1,6 @@
+pub mod Lists
+pub mod LawfulLemmas
+pub mod Reasons
+pub mod Fitting
+mod Samples
+mod RowsOrder
