@@ -1,6 +1,6 @@
 -- What a history says, the oldest event first: `h ++ e ∷ []` is h, followed by e, and position i is `take i h`. Each word
 -- is that of the files before, over the events in reverse.
-use Rattle.std.specs.Prelude.{◌≡◌, ◌≤◌, ℕ, Bool, List, length, take, Option, Some, None, slice_get, reverse, IsTrue, option_map, option_and_then}
+use Rattle.std.specs.Prelude.{◌≡◌, ◌≤◌, ℕ, Bool, List, length, take, Option, Some, None, slice_get, reverse, is_some, IsTrue, option_map, option_and_then}
 use Rattle.gcd_plan.specs.PlanView.{PlanView}
 use Rattle.gcd_plan.specs.declared.act.Act.{Act}
 use Rattle.gcd_plan.specs.declared.names.Blk.{Blk}
@@ -108,6 +108,10 @@ semaphore_wait_passes plan h s k = semas.passes plan (reverse h) s k
 -- the submissions, the first first (dispatch_async(3))
 unfoldable pub submissions_of : PlanView → List Event → List Submission
 submissions_of plan h = submitted.submitted plan (reverse h)
+
+-- block b is submitted
+unfoldable pub is_submitted : PlanView → List Event → ℕ → Bool
+is_submitted plan h b = is_some (submitted.submission_of plan (reverse h) b)
 
 -- the node on which block b was submitted; none for main, and for a block that is not submitted
 unfoldable pub node_of : PlanView → List Event → ℕ → Option Obj

@@ -16,3 +16,6 @@ pub mod Permitted
 pub mod Choice
 pub mod History
 pub mod Ends
+pub mod Values
+pub mod Report
+pub mod JournalText
