@@ -4,3 +4,8 @@ pub mod Reasons
 pub mod Fitting
 mod Samples
 mod RowsOrder
+mod RowsObjects
+mod RowsGroups
+mod RowsSources
+mod RowsForged
+mod RowsValues
