@@ -1,0 +1,11 @@
+pub mod Lists
+pub mod LawfulLemmas
+pub mod Reasons
+pub mod Fitting
+mod Samples
+mod RowsOrder
+mod RowsObjects
+mod RowsGroups
+mod RowsSources
+mod RowsForged
+mod RowsValues

@@ -1,0 +1,85 @@
+-- Lists: what std's lemmas lack.
+use Rattle.std.proofs.Common.{◌≡◌, ℕ, zero, suc, ◌+◌, ◌-◌, ◌<◌, Bool, true, false, ◌&&◌, ◌||◌, cond, List, [], ◌∷◌, ◌++◌, length, get_or, drop, take, filter, map, Some, None, find, reverse, refl, ap, ◌∙◌, arith}
+use Rattle.std.specs.List.{slice_get, list_any, flat_map, range_with_len}
+use Rattle.std.specs.Option.{option_or}
+use Rattle.std.proofs.lemmas.List.{take_more, drop_more, reverse-append}
+use Rattle.std.proofs.lemmas.List.Folds.{find-append}
+
+-- ## Reading at an index
+
+pub slice_get_front : {X : Type 0} → (xs ys : List X) (i : ℕ) → i < length xs → slice_get (xs ++ ys) i ≡ slice_get xs i
+slice_get_front [] ys i h = absurd (omega arith)
+slice_get_front (x ∷ xs) ys zero h = refl
+slice_get_front (x ∷ xs) ys (suc i) h = let l : i < length xs = omega arith in slice_get_front xs ys i l
+
+pub slice_get_end : {X : Type 0} → (xs : List X) (y : X) (ys : List X) → slice_get (xs ++ y ∷ ys) (length xs) ≡ Some y
+slice_get_end [] y ys = refl
+slice_get_end (x ∷ xs) y ys = slice_get_end xs y ys
+
+-- ## One element more
+
+pub reverse_push : {X : Type 0} → (xs : List X) (y : X) → reverse (xs ++ y ∷ []) ≡ y ∷ reverse xs
+reverse_push xs y = reverse-append xs (y ∷ [])
+
+-- what stands before place i of a list, the newest first
+pub past_more : {X : Type 0} → (xs : List X) (i : ℕ) (d : X) → i < length xs → reverse (take (i + 1) xs) ≡ get_or xs i d ∷ reverse (take i xs)
+past_more xs i d h = ap reverse (take_more xs i d h) ∙ reverse_push (take i xs) (get_or xs i d)
+
+pub range_more : (a n : ℕ) → a < n → range_with_len a (n - a) ≡ a ∷ range_with_len (a + 1) (n - (a + 1))
+range_more a n h = let e : n - a ≡ suc (n - (a + 1)) = omega arith in ap (range_with_len a) e
+
+-- ## Tests of some element
+
+pub list_any-filter : {X : Type 0} → (test p : X → Bool) (xs : List X) → list_any test (filter p xs) ≡ list_any (λ x. p x && test x) xs
+list_any-filter test p [] = refl
+list_any-filter test p (x ∷ xs) =
+    elim (p x) as (λ v. list_any test (cond v (x ∷ filter p xs) (filter p xs)) ≡ ((v && test x) || list_any (λ y. p y && test y) xs)) [
+      | true ↦ ap (λ b. test x || b) (list_any-filter test p xs)
+      | false ↦ list_any-filter test p xs
+    ]
+
+-- tests that agree at each element
+pub list_any_same : {X : Type 0} → (p q : X → Bool) (xs : List X) → ((x : X) → p x ≡ q x) → list_any p xs ≡ list_any q xs
+list_any_same p q [] same = refl
+list_any_same p q (x ∷ xs) same = ap (λ v. v || list_any p xs) (same x) ∙ ap (λ v. q x || v) (list_any_same p q xs same)
+
+pub none_passes : {X : Type 0} → (xs : List X) → list_any (λ x. false) xs ≡ false
+none_passes [] = refl
+none_passes (x ∷ xs) = none_passes xs
+
+-- ## The first that passes
+
+find_none : {X : Type 0} → (p : X → Bool) (x : X) (xs : List X) → find p (x ∷ xs) ≡ None → (p x ≡ false) × (find p xs ≡ None)
+find_none p x xs none =
+    elim (p x) as (λ v. cond v (Some x) (find p xs) ≡ None → (v ≡ false) × (find p xs ≡ None)) [ true ↦ λ n. cc | false ↦ λ n. (refl, n) ] none
+
+-- where nothing is found, each fails
+pub fails_from_find : {X : Type 0} → (p : X → Bool) (xs : List X) (k : ℕ) (d : X) → find p xs ≡ None → k < length xs → p (get_or xs k d) ≡ false
+fails_from_find p [] k d none h = absurd (omega arith)
+fails_from_find p (x ∷ xs) zero d none h = (find_none p x xs none).0
+fails_from_find p (x ∷ xs) (suc k) d none h = let l : k < length xs = omega arith in fails_from_find p xs k d (find_none p x xs none).1 l
+
+-- a search over what each element of a list gives, one element on
+pub find_flat_more : {X Y : Type 0} → (p : Y → Bool) (f : X → List Y) (xs : List X) (i : ℕ) (d : X) → i < length xs → find p (flat_map f (drop i xs)) ≡ option_or (find p (f (get_or xs i d))) (find p (flat_map f (drop (i + 1) xs)))
+find_flat_more p f xs i d h = ap (λ l. find p (flat_map f l)) (drop_more xs i d h) ∙ find-append p (f (get_or xs i d)) (flat_map f (drop (i + 1) xs))
+
+-- the same over the numbers up to n
+pub find_map_range_more : {Y : Type 0} → (p : Y → Bool) (f : ℕ → Y) (a n : ℕ) → a < n → find p (map f (range_with_len a (n - a))) ≡ cond (p (f a)) (Some (f a)) (find p (map f (range_with_len (a + 1) (n - (a + 1)))))
+find_map_range_more p f a n h = ap (λ l. find p (map f l)) (range_more a n h)
+
+pub find_flat_range_more : {Y : Type 0} → (p : Y → Bool) (f : ℕ → List Y) (a n : ℕ) → a < n → find p (flat_map f (range_with_len a (n - a))) ≡ option_or (find p (f a)) (find p (flat_map f (range_with_len (a + 1) (n - (a + 1)))))
+find_flat_range_more p f a n h = ap (λ l. find p (flat_map f l)) (range_more a n h) ∙ find-append p (f a) (flat_map f (range_with_len (a + 1) (n - (a + 1))))
+
+pub ruleset appended = find-append
+
+-- the first is found at this step
+pub found_flat : {X Y : Type 0} → (p : Y → Bool) (f : X → List Y) (xs : List X) (i : ℕ) (d : X) (e : Y) → i < length xs → find p (f (get_or xs i d)) ≡ Some e → find p (flat_map f (drop i xs)) ≡ Some e
+found_flat p f xs i d e h found = find_flat_more p f xs i d h ∙ ap (λ o. option_or o (find p (flat_map f (drop (i + 1) xs)))) found
+
+pub found_map_range : {Y : Type 0} → (p : Y → Bool) (f : ℕ → Y) (a n : ℕ) (e : Y) → a < n → find p (f a ∷ []) ≡ Some e → find p (map f (range_with_len a (n - a))) ≡ Some e
+found_map_range p f a n e h found =
+    let split : find p (map f (range_with_len a (n - a))) ≡ option_or (find p (f a ∷ [])) (find p (map f (range_with_len (a + 1) (n - (a + 1))))) = ap (λ l. find p (map f l)) (range_more a n h) ∙ find-append p (f a ∷ []) (map f (range_with_len (a + 1) (n - (a + 1)))) in
+    split ∙ ap (λ o. option_or o (find p (map f (range_with_len (a + 1) (n - (a + 1)))))) found
+
+pub found_flat_range : {Y : Type 0} → (p : Y → Bool) (f : ℕ → List Y) (a n : ℕ) (e : Y) → a < n → find p (f a) ≡ Some e → find p (flat_map f (range_with_len a (n - a))) ≡ Some e
+found_flat_range p f a n e h found = find_flat_range_more p f a n h ∙ ap (λ o. option_or o (find p (flat_map f (range_with_len (a + 1) (n - (a + 1)))))) found

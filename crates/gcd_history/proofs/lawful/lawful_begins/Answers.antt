@@ -1,0 +1,5 @@
+use Rattle.gcd_history.proofs.LawfulLemmas.{lawful_none}
+use Rattle.gcd_history.proofs.lawful.lawful_begins.Goals as goal
+
+pub returns : goal.returns
+returns c = lawful_none

@@ -1,0 +1,5 @@
+use Rattle.gcd_history.proofs.Fitting.{permitted_fits}
+use Rattle.gcd_history.proofs.lawful.permitted_events_fit.Goals as goal
+
+pub returns : goal.returns
+returns c = permitted_fits

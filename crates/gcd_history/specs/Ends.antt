@@ -1,0 +1,59 @@
+-- How a history ends, the oldest event first (this project's own rule).
+use Rattle.std.specs.Prelude.{◌≡◌, Bool, true, false, List, length, reverse, IsTrue}
+use Rattle.gcd_plan.specs.PlanView.{PlanView}
+use Rattle.gcd_event.specs.declared.event.Event.{Event}
+use Rattle.gcd_history.specs.declared.state.State.{State}
+use Rattle.gcd_history.specs.declared.state.State.TheVariants.{Drained, Stuck, Misused, Halted, Live}
+use Rattle.gcd_history.specs.Permitted as permitted
+use Rattle.gcd_history.specs.Choice as choice
+
+-- the last event is Misuse or Halt
+unfoldable pub is_halted : List Event → Bool
+is_halted h = permitted.is_halted (reverse h)
+
+abbrev pub IsHalted : List Event → Type 0
+IsHalted h = IsTrue (is_halted h)
+
+-- the last event is Misuse
+unfoldable pub ends_in_misuse : List Event → Bool
+ends_in_misuse h = permitted.ends_in_misuse (reverse h)
+
+-- the last event is Halt
+unfoldable pub ends_in_halt : List Event → Bool
+ends_in_halt h = permitted.ends_in_halt (reverse h)
+
+-- not halted, no event of any worker is permitted, no due time is left, and no read source is live
+unfoldable pub IsQuiescent : PlanView → List Event → Type 0
+IsQuiescent plan h = choice.IsQuiescent plan (reverse h)
+
+-- each submitted block has ended
+unfoldable pub all_ended : PlanView → List Event → Bool
+all_ended plan h = choice.all_ended plan (reverse h)
+
+-- quiescent, and each submitted block has ended
+pub record IsDrained (plan : PlanView) (h : List Event) : Type 0 where
+  pub quiescent : IsQuiescent plan h
+  pub ended : all_ended plan h ≡ true
+
+-- quiescent, and a submitted block has not ended
+pub record IsStuck (plan : PlanView) (h : List Event) : Type 0 where
+  pub quiescent : IsQuiescent plan h
+  pub left : all_ended plan h ≡ false
+
+-- neither halted nor quiescent
+pub record IsGoingOn (plan : PlanView) (h : List Event) : Type 0 where
+  pub unhalted : is_halted h ≡ false
+  pub unquiet : ¬ IsQuiescent plan h
+
+-- as long as a history may be, and neither halted nor quiescent
+pub record IsFull (plan : PlanView) (h : List Event) : Type 0 where
+  pub whole : length h ≡ 65535
+  pub going_on : IsGoingOn plan h
+
+-- how far the history has come
+abbrev pub HasState : PlanView → List Event → State → Type 0
+HasState plan h Drained = IsDrained plan h
+HasState plan h Stuck = IsStuck plan h
+HasState plan h Misused = IsTrue (ends_in_misuse h)
+HasState plan h Halted = IsTrue (ends_in_halt h)
+HasState plan h Live = IsGoingOn plan h

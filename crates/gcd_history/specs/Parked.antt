@@ -1,0 +1,72 @@
+-- Which blocks are parked, what they wait for, and which runs a worker has (dispatch_sync(3), dispatch_group_wait(3),
+-- dispatch_semaphore_wait(3)).
+use Rattle.std.specs.Prelude.{ℕ, ◌+◌, ◌==◌, Bool, true, false, ◌&&◌, if◌then◌else◌, List, [], ◌∷◌, length, Option, Some, None, is_some, is_none, count_by}
+use Rattle.std.specs.Option.{option_map_or}
+use Rattle.std.specs.List.{list_any}
+use Rattle.gcd_plan.specs.PlanView.{PlanView}
+use Rattle.gcd_plan.specs.declared.act.Act.{Act}
+use Rattle.gcd_plan.specs.declared.act.Act.TheVariants.{Sync, BarrierSync, GroupWait, Wait}
+use Rattle.gcd_plan.specs.declared.names.Run.{Run}
+use Rattle.gcd_plan.specs.declared.names.Run.TheVariants.{Block}
+use Rattle.gcd_plan.specs.declared.reason.Reason.{Reason}
+use Rattle.gcd_plan.specs.declared.reason.Reason.TheVariants.{Block as EndOf, Group, Rank}
+use Rattle.gcd_event.specs.declared.event.Event.{Event}
+use Rattle.gcd_event.specs.declared.event.Event.TheVariants.{Act as Acted, Wake}
+use Rattle.gcd_history.specs.Runs.{same_run, opens, is_open, open_runs, act_at, last_worker, is_ended}
+use Rattle.gcd_history.specs.Groups.{is_empty_above}
+use Rattle.gcd_history.specs.Semas.{wait_count, passes}
+
+-- what the act, recorded after past, makes its block wait for (dispatch_sync(3), dispatch_barrier_sync(3),
+-- dispatch_group_wait(3), dispatch_semaphore_wait(3))
+abbrev pub reason_of : PlanView → List Event → Option Act → Option Reason
+reason_of plan past (Some (Sync q b)) = Some (EndOf b)
+reason_of plan past (Some (BarrierSync q b)) = Some (EndOf b)
+reason_of plan past (Some (GroupWait g)) = Some (Group g (length past))
+reason_of plan past (Some (Wait s)) = Some (Rank s (wait_count plan past s.0 + 1))
+reason_of plan past _ = None
+
+-- the act parks its block until a Wake
+abbrev pub parks : Option Act → Bool
+parks (Some (Sync q b)) = true
+parks (Some (BarrierSync q b)) = true
+parks (Some (GroupWait g)) = true
+parks (Some (Wait s)) = true
+parks _ = false
+
+-- what the run's last act makes it wait for, where no Wake stands since
+abbrev pub parked_by : PlanView → List Event → Run → Option Reason
+parked_by plan [] run = None
+parked_by plan (Acted w r i ∷ past) run = if same_run r run then reason_of plan past (act_at plan r i) else parked_by plan past run
+parked_by plan (Wake w b ∷ past) run = if same_run (Block b) run then None else parked_by plan past run
+parked_by plan (e ∷ past) run = if opens e run then None else parked_by plan past run
+
+-- what the run waits for, where it is parked: open, and its last act has parked it (this project's own rule)
+unfoldable pub reason : PlanView → List Event → Run → Option Reason
+reason plan past run = if is_open past run then parked_by plan past run else None
+
+-- block b is parked
+unfoldable pub is_parked : PlanView → List Event → ℕ → Bool
+is_parked plan past b = is_some (reason plan past (Block (record { 0 = b })))
+
+-- how many runs are open and not parked
+abbrev pub running : PlanView → List Event → ℕ
+running plan past = count_by (λ run. is_none (parked_by plan past run)) (open_runs past)
+
+-- the worker's: open, not parked, and last started, woken or delivered by w (this project's own rule)
+unfoldable pub has_run : PlanView → List Event → ℕ → Run → Bool
+has_run plan past w run =
+    is_open past run && (is_none (parked_by plan past run) && option_map_or (λ v. v == w) (last_worker past run) false)
+
+-- the worker has a run that is open and not parked
+unfoldable pub is_busy : PlanView → List Event → ℕ → Bool
+is_busy plan past w = list_any (has_run plan past w) (open_runs past)
+
+-- what is waited for has come: the block has ended, the group was empty above the position, the wait passes
+unfoldable pub has_come : PlanView → List Event → Reason → Bool
+has_come plan past (EndOf b) = is_ended past b.0
+has_come plan past (Group g position) = is_empty_above plan past g.0 position
+has_come plan past (Rank s k) = passes plan past s.0 k
+
+-- what block b waits for has come
+unfoldable pub may_wake : PlanView → List Event → ℕ → Bool
+may_wake plan past b = option_map_or (has_come plan past) (reason plan past (Block (record { 0 = b }))) false

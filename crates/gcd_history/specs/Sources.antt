@@ -1,0 +1,100 @@
+-- What is pending at a source (dispatch_source_create(3), dispatch_source_merge_data(3)).
+use Rattle.std.specs.Prelude.{ℕ, ◌+◌, ◌-◌, ◌==◌, bit_or, Bool, false, not, ◌&&◌, if◌then◌else◌, List, [], ◌∷◌, ◌++◌, filter, map, fold, Option, Some, None, count_by}
+use Rattle.std.specs.Option.{option_map_or}
+use Rattle.std.specs.List.{range_with_len}
+use Rattle.gcd_plan.specs.PlanView.{PlanView, kind_of}
+use Rattle.gcd_plan.specs.Kinds.{has_kind, is_read_kind}
+use Rattle.gcd_plan.specs.declared.act.Act.{Act}
+use Rattle.gcd_plan.specs.declared.act.Act.TheVariants.{Merge}
+use Rattle.gcd_plan.specs.declared.kind.Kind.{Kind}
+use Rattle.gcd_plan.specs.declared.kind.Kind.TheVariants.{Or}
+use Rattle.gcd_event.specs.declared.event.Event.{Event}
+use Rattle.gcd_event.specs.declared.event.Event.TheVariants.{Deliver, Ready, Tick}
+use Rattle.gcd_history.specs.Runs.{act_of}
+use Rattle.gcd_history.specs.Holds.{is_active}
+use Rattle.gcd_history.specs.Submitted.{is_cancelled}
+use Rattle.gcd_history.specs.Timers.{now, is_due}
+
+-- two values in one: joined bit by bit, and else added (dispatch_source_create(3))
+abbrev pub folded : Kind → ℕ → ℕ → ℕ
+folded Or a b = bit_or a b
+folded _ a b = a + b
+
+-- the values in one
+abbrev pub fold_of : Kind → List ℕ → ℕ
+fold_of kind values = fold (folded kind) 0 values
+
+-- how the values of source s are made one
+abbrev pub fold_at : PlanView → ℕ → List ℕ → ℕ
+fold_at plan s values = option_map_or (λ kind. fold_of kind values) (kind_of plan s) 0
+
+-- what the act merges into source s; a merge of 0 has no effect (dispatch_source_merge_data(3))
+abbrev pub merged_by : ℕ → Option Act → List ℕ
+merged_by s (Some (Merge t n)) = if t.0 == s then (if n == 0 then [] else n ∷ []) else []
+merged_by s _ = []
+
+-- 1 for each due time of timer s after from, up to the tick
+abbrev pub beats : PlanView → List Event → ℕ → (from to : ℕ) → List ℕ
+beats plan past s from to = map (λ t. 1) (filter (is_due plan past s) (range_with_len (from + 1) (to - from)))
+
+-- what the event after past adds to the inputs of source s: a merge above 0, the bytes of a Ready, or 1 for each due time
+-- up to a Tick (dispatch_source_create(3))
+abbrev pub input : PlanView → List Event → Event → ℕ → List ℕ
+input plan past (Ready t n) s = if t.0 == s then n ∷ [] else []
+input plan past (Tick t) s = beats plan past s (now past) t
+input plan past e s = merged_by s (act_of plan e)
+
+-- the event is a Deliver of source s
+abbrev pub delivers : ℕ → Event → Bool
+delivers s (Deliver w t) = t.0 == s
+delivers s _ = false
+
+-- all inputs of source s
+abbrev pub inputs : PlanView → List Event → ℕ → List ℕ
+inputs plan [] s = []
+inputs plan (e ∷ past) s = inputs plan past s ++ input plan past e s
+
+-- the inputs of source s after its last Deliver
+abbrev pub new_inputs : PlanView → List Event → ℕ → List ℕ
+new_inputs plan [] s = []
+new_inputs plan (e ∷ past) s = if delivers s e then [] else new_inputs plan past s ++ input plan past e s
+
+-- the value that waits to be handed over (dispatch_source_get_data(3))
+abbrev pub pending : PlanView → List Event → ℕ → ℕ
+pending plan past s = fold_at plan s (new_inputs plan past s)
+
+-- what the Delivers of source s handed over, in order
+abbrev pub handed : PlanView → List Event → ℕ → List ℕ
+handed plan [] s = []
+handed plan (e ∷ past) s = handed plan past s ++ (if delivers s e then pending plan past s ∷ [] else [])
+
+-- what the last Deliver of source s handed over, 0 before one (dispatch_source_get_data(3))
+abbrev pub last_data : PlanView → List Event → ℕ → ℕ
+last_data plan [] s = 0
+last_data plan (e ∷ past) s = if delivers s e then pending plan past s else last_data plan past s
+
+-- what the event after past hands over: what is pending at its source, where it is a Deliver, and else nothing
+-- (dispatch_source_get_data(3))
+abbrev pub handed_by : PlanView → List Event → Event → Option ℕ
+handed_by plan past (Deliver w s) = Some (pending plan past s.0)
+handed_by plan past _ = None
+
+-- how many Delivers of source s stand
+abbrev pub delivery_count : List Event → ℕ → ℕ
+delivery_count past s = count_by (delivers s) past
+
+-- all that the Delivers of source s handed over, in one
+abbrev pub received : PlanView → List Event → ℕ → ℕ
+received plan past s = fold_at plan s (handed plan past s)
+
+-- all inputs of source s, in one
+abbrev pub merged : PlanView → List Event → ℕ → ℕ
+merged plan past s = fold_at plan s (inputs plan past s)
+
+-- something is pending at source s, and it is not cancelled (dispatch_source_create(3), dispatch_source_cancel(3))
+unfoldable pub is_pending : PlanView → List Event → ℕ → Bool
+is_pending plan past s = not (pending plan past s == 0) && not (is_cancelled plan past s)
+
+-- s is a read source that is active and not cancelled (dispatch_source_create(3))
+unfoldable pub is_live : PlanView → List Event → ℕ → Bool
+is_live plan past s = has_kind is_read_kind plan s && (is_active plan past s && not (is_cancelled plan past s))

@@ -1,0 +1,32 @@
+//! What a history of events says: the definitions that every other crate cites. No code of the program stands here.
+//!
+//! A history is the list of its events in order, `List Event`; position i is what its first i events say, `take i h`. Its
+//! words take the plan, the history and numbers of objects and blocks:
+//!
+//! | file of specs/ | words |
+//! |---|---|
+//! | `History` | what may come next (`why`, `IsPermitted`, `IsLawful`, `choice_of`), and what is open, parked, submitted, held, due and pending then |
+//! | `Ends` | how a history ends: `IsHalted`, `IsQuiescent`, `IsDrained`, `IsStuck`, `IsFull`, `HasState` |
+//! | `Values` | what a block's work computes: `value_of` |
+//! | `Report`, `JournalText` | the texts of a run: `report_text`, `journal_text` |
+//! | the others | the same words by recursion, over the events in reverse, the newest first: `e ∷ past` is past, followed by e |
+//!
+//! The words of `History`, `Ends` and the texts are `unfoldable`, and each is one line over a word of the other files at
+//! `reverse h`. So a crate above cites them shut, and where it proves something of one event more it opens them, and computes
+//! by `reverse (h ++ e ∷ []) ≡ e ∷ reverse h` (`proofs/Lists`, `reverse_push`).
+//!
+//! | law, a function with an empty body | says |
+//! |---|---|
+//! | [`lawful::lawful_begins`], [`lawful::lawful_goes_on`] | what makes a history lawful |
+//! | [`lawful::fronts_are_lawful`], [`lawful::next_is_permitted`] | what a lawful history is made of |
+//! | [`lawful::permitted_events_fit`] | a permitted event has its fields in their ranges |
+//!
+//! Nothing here says that a run exists, that a worker does anything, or which of several lawful histories comes.
+#![tactic(auto)]
+
+pub mod lawful;
+mod state;
+mod submission;
+
+pub use state::State;
+pub use submission::Submission;
