@@ -1,0 +1,6 @@
+//! Waiting blocks.
+#![tactic(auto)]
+
+mod lists;
+
+pub use lists::Lists;

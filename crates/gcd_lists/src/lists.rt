@@ -1,0 +1,97 @@
+// The lists of waiting blocks.
+ghost use Rattle.std.specs.Prelude.{◌≡◌, ◌<◌, ◌++◌, ◌∷◌, [], IfOk, None, length, drop, replicate, slice_get, slice_set};
+ghost use Rattle.gcd_lists.specs.ListsView.{list_at, place_of};
+
+use gcd_plan::{Blk, Obj, Plan};
+use std::alloc::{AllocError, Global};
+use std::marker::Model;
+
+/// What waits on each object of a plan.
+#[derive(Debug, Drop)]
+pub struct Lists {
+    next: Vec<Option<Blk>>,
+    places: Vec<Option<(Obj, bool)>>,
+    heads: Vec<Option<Blk>>,
+    tails: Vec<Option<Blk>>,
+}
+
+impl Model for Lists {
+    ghost use Rattle.gcd_lists.specs.ListsView.{ListsView};
+    ghost use Rattle.gcd_lists.specs.Links.{view_of};
+
+    ghost Value = { ListsView };
+
+    ghost view = { λ l. view_of l.next.items l.places.items l.heads.items };
+}
+
+impl Lists {
+    /// Nothing waits anywhere.
+    pub fn new(alloc: Global, plan: &Plan) -> Result<Lists, AllocError>
+        ensures { IfOk result (λ l. l ≡ record { lists = replicate (length plan.now.objects) []; blocks = length plan.now.blocks }) }
+    {
+        let objects = plan.objects() as usize;
+        let blocks = plan.blocks() as usize;
+        Ok(Lists {
+            next: vec![in alloc; None; blocks]?,
+            places: vec![in alloc; None; blocks]?,
+            heads: vec![in alloc; None; objects]?,
+            tails: vec![in alloc; None; objects]?,
+        })
+    }
+
+    /// The block waits on the node, behind all that wait there.
+    pub fn push(&mut self, node: Obj, blk: Blk, barrier: bool)
+        requires node { node.0 < length self.old.lists }
+        requires blk { blk.0 < self.old.blocks }
+        requires waits_nowhere { place_of self.old blk.0 ≡ None }
+        ensures { self.new ≡ record self.old { lists = slice_set self.old.lists node.0 (list_at self.old node.0 ++ (blk, barrier) ∷ []) } }
+    {
+        self.places[blk.0 as usize] = Some((node, barrier));
+        self.next[blk.0 as usize] = None;
+        match self.tails[node.0 as usize] {
+            Some(last) => self.next[last.0 as usize] = Some(blk),
+            None => self.heads[node.0 as usize] = Some(blk),
+        }
+        self.tails[node.0 as usize] = Some(blk);
+    }
+
+    /// The block that waits first on the node, and whether it is a barrier; None exactly where nothing waits there.
+    pub fn first(&self, node: Obj) -> Option<(Blk, bool)>
+        requires { node.0 < length self.now.lists }
+        ensures { result ≡ slice_get (list_at self.now node.0) 0 }
+    {
+        match self.heads[node.0 as usize] {
+            Some(blk) => match self.places[blk.0 as usize] {
+                Some((_, barrier)) => Some((blk, barrier)),
+                None => None,
+            },
+            None => None,
+        }
+    }
+
+    /// Takes the block that waits first on the node off its list.
+    pub fn pop(&mut self, node: Obj) -> Option<(Blk, bool)>
+        requires { node.0 < length self.old.lists }
+        ensures value { result ≡ slice_get (list_at self.old node.0) 0 }
+        ensures rest { self.new ≡ record self.old { lists = slice_set self.old.lists node.0 (drop 1 (list_at self.old node.0)) } }
+    {
+        let first = self.first(node);
+        if let Some((blk, _)) = first {
+            let second = self.next[blk.0 as usize];
+            self.heads[node.0 as usize] = second;
+            if second.is_none() {
+                self.tails[node.0 as usize] = None;
+            }
+            self.places[blk.0 as usize] = None;
+        }
+        first
+    }
+
+    /// Where the block waits, and whether it is a barrier there; None exactly where it waits nowhere.
+    pub fn place(&self, blk: Blk) -> Option<(Obj, bool)>
+        requires { blk.0 < self.now.blocks }
+        ensures { result ≡ place_of self.now blk.0 }
+    {
+        self.places[blk.0 as usize]
+    }
+}
