@@ -12,16 +12,18 @@ pub struct Lists {
     next: Vec<Option<Blk>>,
     places: Vec<Option<(Obj, bool)>>,
     heads: Vec<Option<Blk>>,
-    tails: Vec<Option<Blk>>,
+    lasts: Vec<Blk>,
 }
 
 impl Model for Lists {
     ghost use Rattle.gcd_lists.specs.ListsView.{ListsView};
-    ghost use Rattle.gcd_lists.specs.Links.{view_of};
+    ghost use Rattle.gcd_lists.specs.Links.{view_of, AreLinked};
 
     ghost Value = { ListsView };
 
     ghost view = { λ l. view_of l.next.items l.places.items l.heads.items };
+
+    ghost invariant = { λ l. AreLinked l.next.items l.places.items l.heads.items l.lasts.items };
 }
 
 impl Lists {
@@ -35,7 +37,7 @@ impl Lists {
             next: vec![in alloc; None; blocks]?,
             places: vec![in alloc; None; blocks]?,
             heads: vec![in alloc; None; objects]?,
-            tails: vec![in alloc; None; objects]?,
+            lasts: vec![in alloc; Blk(0); objects]?,
         })
     }
 
@@ -48,11 +50,14 @@ impl Lists {
     {
         self.places[blk.0 as usize] = Some((node, barrier));
         self.next[blk.0 as usize] = None;
-        match self.tails[node.0 as usize] {
-            Some(last) => self.next[last.0 as usize] = Some(blk),
+        match self.heads[node.0 as usize] {
+            Some(_) => {
+                let last = self.lasts[node.0 as usize];
+                self.next[last.0 as usize] = Some(blk);
+            }
             None => self.heads[node.0 as usize] = Some(blk),
         }
-        self.tails[node.0 as usize] = Some(blk);
+        self.lasts[node.0 as usize] = blk;
     }
 
     /// The block that waits first on the node, and whether it is a barrier; None exactly where nothing waits there.
@@ -77,11 +82,7 @@ impl Lists {
     {
         let first = self.first(node);
         if let Some((blk, _)) = first {
-            let second = self.next[blk.0 as usize];
-            self.heads[node.0 as usize] = second;
-            if second.is_none() {
-                self.tails[node.0 as usize] = None;
-            }
+            self.heads[node.0 as usize] = self.next[blk.0 as usize];
             self.places[blk.0 as usize] = None;
         }
         first
