@@ -7,8 +7,8 @@ use Rattle.std.proofs.lemmas.List.Sums.{count_by-le-length}
 use Rattle.std.proofs.lemmas.Option.{none-some, same_Some}
 use Rattle.gcd_plan.specs.declared.names.Blk.{Blk}
 use Rattle.gcd_plan.specs.declared.names.Obj.{Obj}
-use Rattle.gcd_lists.specs.ListsView.{barrier_in, place_from}
-use Rattle.gcd_lists.specs.Links.{Hold, IsChain, IsLast, entry, walk, is_on, lists_of}
+use Rattle.gcd_lists.specs.ListsView.{ListsView, barrier_in, place_from}
+use Rattle.gcd_lists.specs.Links.{Hold, AreLinked, IsChain, IsLast, entry, walk, is_on, lists_of, view_of}
 use Rattle.gcd_lists.proofs.Places.{place_from_is}
 use Rattle.gcd_lists.proofs.Chains.{walk_is, place_in_chain, last_in_chain}
 
@@ -87,3 +87,11 @@ module _ (links : List (Option Blk)) (places : List (Option (Obj × Bool))) (hea
           × (entry links (get_or lasts n (record { 0 = 0 })).0 ≡ None)
       last [] chain end = absurd (none-some b (sym chain ∙ some))
       last (w ∷ ws) chain end = last_in_chain (entry links) (entry places) n (get_or lasts n (record { 0 = 0 })) (entry heads n) w ws chain end
+
+  -- the view of the arrays
+  pub view_is : view_of links places heads ≡ record { lists = lists; blocks = length links }
+  view_is = ap (λ xs. record { lists = xs; blocks = length links }) lists_seen
+
+  -- the arrays hold what they are seen as
+  pub linked : AreLinked links places heads lasts
+  linked = subst (Hold links places heads lasts) (sym lists_seen) h

@@ -48,16 +48,14 @@ impl Lists {
         requires waits_nowhere { place_of self.old blk.0 ≡ None }
         ensures { self.new ≡ record self.old { lists = slice_set self.old.lists node.0 (list_at self.old node.0 ++ (blk, barrier) ∷ []) } }
     {
+        let last = self.lasts[node.0 as usize];
+        self.lasts[node.0 as usize] = blk;
         self.places[blk.0 as usize] = Some((node, barrier));
         self.next[blk.0 as usize] = None;
         match self.heads[node.0 as usize] {
-            Some(_) => {
-                let last = self.lasts[node.0 as usize];
-                self.next[last.0 as usize] = Some(blk);
-            }
+            Some(_) => self.next[last.0 as usize] = Some(blk),
             None => self.heads[node.0 as usize] = Some(blk),
         }
-        self.lasts[node.0 as usize] = blk;
     }
 
     /// The block that waits first on the node, and whether it is a barrier; None exactly where nothing waits there.
@@ -80,12 +78,10 @@ impl Lists {
         ensures value { result ≡ slice_get (list_at self.old node.0) 0 }
         ensures rest { self.new ≡ record self.old { lists = slice_set self.old.lists node.0 (drop 1 (list_at self.old node.0)) } }
     {
-        let first = self.first(node);
-        if let Some((blk, _)) = first {
-            self.heads[node.0 as usize] = self.next[blk.0 as usize];
-            self.places[blk.0 as usize] = None;
-        }
-        first
+        let (blk, barrier) = self.first(node)?;
+        self.heads[node.0 as usize] = self.next[blk.0 as usize];
+        self.places[blk.0 as usize] = None;
+        Some((blk, barrier))
     }
 
     /// Where the block waits, and whether it is a barrier there; None exactly where it waits nowhere.
