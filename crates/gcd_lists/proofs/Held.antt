@@ -7,9 +7,9 @@ use Rattle.std.proofs.lemmas.List.Sums.{count_by-le-length}
 use Rattle.std.proofs.lemmas.Option.{none-some, same_Some}
 use Rattle.gcd_plan.specs.declared.names.Blk.{Blk}
 use Rattle.gcd_plan.specs.declared.names.Obj.{Obj}
-use Rattle.gcd_lists.specs.ListsView.{ListsView, barrier_in, place_from}
+use Rattle.gcd_lists.specs.ListsView.{ListsView, barrier_in, place_of}
 use Rattle.gcd_lists.specs.Links.{Hold, AreLinked, IsChain, IsLast, entry, walk, is_on, lists_of, view_of}
-use Rattle.gcd_lists.proofs.Places.{place_from_is}
+use Rattle.gcd_lists.proofs.Places.{place_of_is}
 use Rattle.gcd_lists.proofs.Chains.{walk_is, place_in_chain, last_in_chain}
 
 -- where something stands, the array reaches
@@ -44,14 +44,13 @@ module _ (links : List (Option Blk)) (places : List (Option (Obj × Bool))) (hea
       ∙ walk_is (entry links) (entry places) i (length links) (entry heads i) (get_or lists i []) (h.queues i).chain (list_short i))
 
   -- the place of a block is told by the lists
-  pub place_seen : (b : ℕ) → place_from 0 lists b ≡ entry places b
-  place_seen b =
-      place_from_is lists 0 b (entry places b)
-      (record {
-        only = λ n i barrier at found. subst (λ m. entry places b ≡ Some (record { 0 = m }, barrier)) (let e : i ≡ n = omega arith in e)
-        (place_in_chain (entry links) (entry places) i b (entry heads i) (get_or lists i []) barrier (h.queues i).chain found);
-        there = λ n barrier is. (n, omega arith, h.found b n barrier is);
-      })
+  pub place_seen : (view : ListsView) → view.lists ≡ lists → (b : ℕ) → place_of view b ≡ entry places b
+  place_seen view same b =
+      place_of_is view b (entry places b)
+      (λ n barrier found.
+      place_in_chain (entry links) (entry places) n b (entry heads n) (get_or lists n []) barrier (h.queues n).chain
+      (subst (λ xs. barrier_in b (get_or xs n []) ≡ Some barrier) same found))
+      (λ n barrier is. subst (λ xs. barrier_in b (get_or xs n []) ≡ Some barrier) (sym same) (h.found b n barrier is))
 
   -- where nothing is at the head, the list is empty
   pub none_first : (n : ℕ) → entry heads n ≡ None → get_or lists n [] ≡ []

@@ -1,8 +1,8 @@
 -- Where a block waits, told from the lists.
-use Rattle.std.proofs.Common.{◌≡◌, ◌≢◌, ℕ, zero, suc, ◌+◌, ◌==◌, Bool, true, false, cond, List, [], ◌∷◌, ◌++◌, get_or, Option, Some, None, refl, ap, sym, ◌∙◌, arith}
+use Rattle.std.proofs.Common.{◌≡◌, ◌≢◌, ℕ, zero, suc, ◌+◌, ◌==◌, Bool, true, false, cond, List, [], ◌∷◌, ◌++◌, get_or, Option, Some, None, refl, ap, sym, ◌∙◌, subst, arith}
 use Rattle.std.specs.Option.{option_or, option_map}
 use Rattle.std.proofs.lemmas.Bool.{eq-eqb, ne_eqb}
-use Rattle.std.proofs.lemmas.Option.{none-some}
+use Rattle.std.proofs.lemmas.Option.{none-some, same_Some}
 use Rattle.gcd_plan.specs.declared.names.Blk.{Blk}
 use Rattle.gcd_plan.specs.declared.names.Obj.{Obj}
 use Rattle.gcd_lists.specs.ListsView.{ListsView, list_at, barrier_in, place_from, place_of}
@@ -68,3 +68,60 @@ place_from_is (ws ∷ lists) from b place t =
         → option_or (option_map (λ barrier. (record { 0 = from }, barrier)) o) (place_from (suc from) lists b) ≡ place
     here None none later = later none
     here (Some barrier) found later = sym (t.only from 0 barrier (omega arith) found)
+
+-- ## What the place of a block says of the lists
+
+-- the place is that of each list that has the block, and the list of the place has it
+pub place_of_is : (view : ListsView) (b : ℕ) (place : Option (Obj × Bool))
+    → ((n : ℕ) (barrier : Bool) → barrier_in b (list_at view n) ≡ Some barrier → place ≡ Some (record { 0 = n }, barrier))
+    → ((n : ℕ) (barrier : Bool) → place ≡ Some (record { 0 = n }, barrier) → barrier_in b (list_at view n) ≡ Some barrier)
+    → place_of view b ≡ place
+place_of_is view b place only there =
+    place_from_is view.lists 0 b place
+    (record {
+      only = λ n i barrier at found. only n barrier (subst (λ m. barrier_in b (list_at view m) ≡ Some barrier) (let e : i ≡ n = omega arith in e) found);
+      there = λ n barrier is. (n, omega arith, there n barrier is);
+    })
+
+-- a block that is in no list waits nowhere
+pub place_of_none : (view : ListsView) (b : ℕ) → ((n : ℕ) → barrier_in b (list_at view n) ≡ None) → place_of view b ≡ None
+place_of_none view b none =
+    place_of_is view b None (λ n barrier found. absurd (none-some barrier (sym (none n) ∙ found))) (λ n barrier is. absurd (none-some _ is))
+
+-- a block that waits is in the list of its node
+in_place_from : (lists : List (List (Blk × Bool))) (from b : ℕ) (o : Obj) (barrier : Bool) → place_from from lists b ≡ Some (o, barrier)
+    → (i : ℕ) × (o.0 ≡ from + i) × (barrier_in b (get_or lists i []) ≡ Some barrier)
+in_place_from [] from b o barrier there = absurd (none-some _ there)
+in_place_from (ws ∷ lists) from b o barrier there = here (barrier_in b ws) refl there (λ later. in_place_from lists (suc from) b o barrier later)
+  where
+    here : (found : Option Bool) → barrier_in b ws ≡ found
+        → option_or (option_map (λ flag. (record { 0 = from }, flag)) found) (place_from (suc from) lists b) ≡ Some (o, barrier)
+        → (place_from (suc from) lists b ≡ Some (o, barrier) → (i : ℕ) × (o.0 ≡ suc from + i) × (barrier_in b (get_or lists i []) ≡ Some barrier))
+        → (i : ℕ) × (o.0 ≡ from + i) × (barrier_in b (get_or (ws ∷ lists) i []) ≡ Some barrier)
+    here None e is later = let rest = later is in (suc rest.0, omega (arith, rest.1), rest.2)
+    here (Some flag) e is later =
+        let same = same_Some _ _ is in
+        let node : from ≡ o.0 = ap (λ p. p.0.0) same in
+        (0, omega arith, e ∙ ap (λ p. Some p.1) same)
+
+pub in_list_of_place : (view : ListsView) (b : ℕ) (o : Obj) (barrier : Bool) → place_of view b ≡ Some (o, barrier)
+    → barrier_in b (list_at view o.0) ≡ Some barrier
+in_list_of_place view b o barrier there =
+    let found = in_place_from view.lists 0 b o barrier there in
+    subst (λ n. barrier_in b (list_at view n) ≡ Some barrier) (let e : found.0 ≡ o.0 = omega (arith, found.1) in e) found.2
+
+-- a block that waits nowhere is in no list
+in_no_list_from : (lists : List (List (Blk × Bool))) (from b i : ℕ) → place_from from lists b ≡ None → barrier_in b (get_or lists i []) ≡ None
+in_no_list_from [] from b i none = refl
+in_no_list_from (ws ∷ lists) from b i none = here (barrier_in b ws) refl none i (λ k later. in_no_list_from lists (suc from) b k later)
+  where
+    here : (found : Option Bool) → barrier_in b ws ≡ found
+        → option_or (option_map (λ flag. (record { 0 = from }, flag)) found) (place_from (suc from) lists b) ≡ None → (k : ℕ)
+        → ((j : ℕ) → place_from (suc from) lists b ≡ None → barrier_in b (get_or lists j []) ≡ None)
+        → barrier_in b (get_or (ws ∷ lists) k []) ≡ None
+    here None e is zero later = e
+    here None e is (suc k) later = later k is
+    here (Some flag) e is k later = absurd (none-some _ (sym is))
+
+pub in_no_list : (view : ListsView) (b n : ℕ) → place_of view b ≡ None → barrier_in b (list_at view n) ≡ None
+in_no_list view b n none = in_no_list_from view.lists 0 b n none

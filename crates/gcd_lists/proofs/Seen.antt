@@ -1,7 +1,7 @@
 -- The arrays and the view of them: what each call reads and leaves.
 use Rattle.std.proofs.Common.{◌≡◌, ℕ, ◌<◌, Bool, List, [], ◌∷◌, ◌++◌, length, get_or, set, drop, replicate, Option, Some, None, refl, ap, sym, ◌∙◌, subst, arith}
 use Rattle.std.specs.List.{slice_get}
-use Rattle.std.proofs.lemmas.List.{get_or_read, set-get_or, length-replicate}
+use Rattle.std.proofs.lemmas.List.{get_or_read, length-replicate}
 use Rattle.std.proofs.lemmas.Option.{none-some, same_Some}
 use Rattle.gcd_plan.specs.declared.names.Blk.{Blk}
 use Rattle.gcd_plan.specs.declared.names.Obj.{Obj}
@@ -15,6 +15,10 @@ pub record Shows (links : List (Option Blk)) (places : List (Option (Obj × Bool
   (v : ListsView) : Type 0 where
   pub linked : AreLinked links places heads lasts
   pub seen : view_of links places heads ≡ v
+
+pub shown : {links : List (Option Blk)} {places : List (Option (Obj × Bool))} {heads : List (Option Blk)} {lasts : List Blk} {v : ListsView}
+    → AreLinked links places heads lasts → view_of links places heads ≡ v → Shows links places heads lasts v
+shown linked seen = record { linked = linked; seen = seen }
 
 shows_from : (links places heads lasts lists : _) (blocks : ℕ) → Hold links places heads lasts lists → length links ≡ blocks
     → Shows links places heads lasts (record { lists = lists; blocks = blocks })
@@ -40,21 +44,22 @@ module _ {links : List (Option Blk)} {places : List (Option (Obj × Bool))} {hea
   pub blocks_long : length links ≡ v.blocks
   blocks_long = ap (λ u. u.blocks) s.seen
 
-  -- the arrays reach over the plan
-  pub links_reach : (b : ℕ) → b < v.blocks → b < length links
-  links_reach b block = omega (arith, blocks_long)
+  -- what the code reads at a block and at a node
+  pub place_read : (b : ℕ) (x : Option (Obj × Bool)) → b < length places → x ≡ get_or places b x → entry places b ≡ x
+  place_read b x within read = sym (get_or_read places b x within read None)
 
+  pub head_read : (n : ℕ) (x : Option Blk) → n < length v.lists → x ≡ get_or heads n x → entry heads n ≡ x
+  head_read n x node read = sym (get_or_read heads n x (omega (arith, hold.heads_long)) read None)
+
+  pub last_read : (n : ℕ) (x : Blk) → n < length v.lists → x ≡ get_or lasts n x → get_or lasts n (record { 0 = 0 }) ≡ x
+  last_read n x node read = sym (get_or_read lasts n x (omega (arith, hold.lasts_long)) read (record { 0 = 0 }))
+
+  -- the places reach over the plan
   pub places_reach : (b : ℕ) → b < v.blocks → b < length places
   places_reach b block = omega (arith, blocks_long, hold.places_long)
 
-  pub heads_reach : (n : ℕ) → n < length v.lists → n < length heads
-  heads_reach n node = omega (arith, hold.heads_long)
-
-  pub lasts_reach : (n : ℕ) → n < length v.lists → n < length lasts
-  lasts_reach n node = omega (arith, hold.lasts_long)
-
   pub place_is : (b : ℕ) → entry places b ≡ place_of v b
-  place_is b = sym (place_seen links places heads lasts v.lists hold b)
+  place_is b = sym (place_seen links places heads lasts v.lists hold v refl b)
 
   -- what is first at a node
   pub none_waits : (n : ℕ) → entry heads n ≡ None → ◌≡◌ {A = Option (Blk × Bool)} None (slice_get (list_at v n) 0)
@@ -125,11 +130,3 @@ module _ {links : List (Option Blk)} {places : List (Option (Obj × Bool))} {hea
       rw link
       (shows_from links (set places b.0 None) (set heads n.0 (entry links b.0)) lasts (set v.lists n.0 (drop 1 (list_at v n.0))) v.blocks
       (hold_rest links places heads lasts v.lists n.0 b hold node (first_at_head n.0 b barrier first)) blocks_long)
-
-  -- where nothing is first, the list is empty, and without its first it is the same
-  pub nothing_leaves : (n : ℕ) → ◌≡◌ {A = Option (Blk × Bool)} (slice_get (list_at v n) 0) None → set v.lists n (drop 1 (list_at v n)) ≡ v.lists
-  nothing_leaves n none = empty (list_at v n) refl none
-    where
-      empty : (ws : List (Blk × Bool)) → list_at v n ≡ ws → ◌≡◌ {A = Option (Blk × Bool)} (slice_get ws 0) None → set v.lists n (drop 1 (list_at v n)) ≡ v.lists
-      empty [] e first = ap (λ ws. set v.lists n (drop 1 ws)) e ∙ ap (set v.lists n) (sym e) ∙ set-get_or v.lists n []
-      empty (w ∷ ws) e first = absurd (none-some w (sym first))
