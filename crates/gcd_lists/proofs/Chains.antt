@@ -39,8 +39,8 @@ module _ (next : ℕ → Option Blk) (place : ℕ → Option (Obj × Bool)) (nod
       elim (cases_eq w.0.0 b) [
         | inl e ↦ (ws, omega arith, subst (λ x. IsChain next place node (next x) ws) e chain.2)
         | inr ne ↦
-          let rest = chain_behind b (next w.0.0) ws barrier chain.2 (sym (barrier_in_later b w ws ne) ∙ found) in
-          (rest.0, omega (arith, rest.1), rest.2)
+            let rest = chain_behind b (next w.0.0) ws barrier chain.2 (sym (barrier_in_later b w ws ne) ∙ found) in
+            (rest.0, omega (arith, rest.1), rest.2)
       ]
 
   -- chains from one block are equally long
@@ -102,7 +102,7 @@ last_rest b (w ∷ v ∷ ws) last = last
 
 -- what a new last block changes of the links and places: its own, and the link of the block before it
 pub record Links (next : ℕ → Option Blk) (place : ℕ → Option (Obj × Bool)) (next' : ℕ → Option Blk) (place' : ℕ → Option (Obj × Bool))
-  (node : ℕ) (end b : Blk) (barrier : Bool) : Type 0 where
+    (node : ℕ) (end b : Blk) (barrier : Bool) : Type 0 where
   pub nowhere : place b.0 ≡ None
   pub ended : next end.0 ≡ None
   pub linked : next' end.0 ≡ Some b
@@ -112,7 +112,7 @@ pub record Links (next : ℕ → Option Blk) (place : ℕ → Option (Obj × Boo
   pub places : (c : ℕ) → c ≢ b.0 → place' c ≡ place c
 
 module _ (next : ℕ → Option Blk) (place : ℕ → Option (Obj × Bool)) (next' : ℕ → Option Blk) (place' : ℕ → Option (Obj × Bool))
-  (node : ℕ) (end b : Blk) (barrier : Bool) (l : Links next place next' place' node end b barrier) where
+    (node : ℕ) (end b : Blk) (barrier : Bool) (l : Links next place next' place' node end b barrier) where
   pub chain_pushed : (at : Option Blk) (w : Blk × Bool) (ws : List (Blk × Bool)) → IsChain next place node at (w ∷ ws) → IsLast end (w ∷ ws)
       → IsChain next' place' node at (w ∷ ws ++ (b, barrier) ∷ [])
   chain_pushed at w [] chain last =

@@ -1,5 +1,5 @@
 -- What changes of the arrays keep: a block that comes behind a list, and one that leaves its front.
-use Rattle.std.proofs.Common.{◌≡◌, ◌≢◌, ℕ, zero, suc, ◌+◌, ◌≤◌, ◌<◌, ◌==◌, Bool, true, false, cond, List, [], ◌∷◌, ◌++◌, length, map, get_or, set, drop, replicate, Option, Some, None, refl, ap, sym, ◌∙◌, subst, inl, inr, arith, count_by}
+use Rattle.std.proofs.Common.{◌≡◌, ◌≢◌, ℕ, suc, ◌+◌, ◌≤◌, ◌<◌, Bool, cond, List, [], ◌∷◌, ◌++◌, length, get_or, set, drop, replicate, Option, Some, None, refl, ap, sym, ◌∙◌, subst, inl, inr, arith, count_by}
 use Rattle.std.proofs.lemmas.Bool.{cases_eq, cases_lt, eq-eqb, ne_eqb}
 use Rattle.std.proofs.lemmas.List.{length-set, get_or-set_same, get_or-set_other, get_or-replicate, get_or_past, length-replicate, length_push}
 use Rattle.std.proofs.lemmas.List.Sums.{sum_by-set}
@@ -28,7 +28,7 @@ nothing_waits objects blocks = record {
   heads_long = length-replicate objects None ∙ sym (length-replicate objects []);
   lasts_long = length-replicate objects (record { 0 = 0 }) ∙ sym (length-replicate objects []);
   queues = λ n. subst (λ ws. IsQueue (replicate blocks None) (replicate blocks None) n (entry (replicate objects None) n) (get_or (replicate objects (record { 0 = 0 })) n (record { 0 = 0 })) ws)
-  (sym (nothing_at n)) (record { chain = entry_nothing objects n; last = tt; few = omega arith });
+      (sym (nothing_at n)) (record { chain = entry_nothing objects n; last = tt; few = omega arith });
   found = λ b n barrier is. absurd (none-some _ (sym (entry_nothing blocks b) ∙ is));
 }
   where
@@ -79,7 +79,7 @@ untouched : (links places links' places' : _) (n : ℕ) (head : Option Blk) (end
     → count_by (is_on n) places ≤ count_by (is_on n) places' → IsQueue links' places' n head end ws
 untouched links places links' places' n head end ws q same more = record {
   chain = chain_same (entry links) (entry places) (entry links') (entry places') n head ws q.chain
-  (λ b barrier found. same b barrier (place_in_chain (entry links) (entry places) n b head ws barrier q.chain found));
+      (λ b barrier found. same b barrier (place_in_chain (entry links) (entry places) n b head ws barrier q.chain found));
   last = q.last;
   few = omega (arith, q.few, more);
 }
@@ -87,8 +87,8 @@ untouched links places links' places' n head end ws q same more = record {
 -- what a block that comes behind the list of node n changes: b waited nowhere, its place is written, and the links and
 -- heads lead from the list to it
 pub record Comes
-  (links : List (Option Blk)) (places : List (Option (Obj × Bool))) (heads : List (Option Blk)) (lists : List (List (Blk × Bool)))
-  (links' : List (Option Blk)) (heads' : List (Option Blk)) (n : ℕ) (b : Blk) (barrier : Bool) : Type 0 where
+    (links : List (Option Blk)) (places : List (Option (Obj × Bool))) (heads : List (Option Blk)) (lists : List (List (Blk × Bool)))
+    (links' : List (Option Blk)) (heads' : List (Option Blk)) (n : ℕ) (b : Blk) (barrier : Bool) : Type 0 where
   pub node : n < length lists
   pub block : b.0 < length places
   pub nowhere : entry places b.0 ≡ None
@@ -97,11 +97,11 @@ pub record Comes
   pub heads_other : (m : ℕ) → m ≢ n → entry heads' m ≡ entry heads m
   pub links_other : (c m : ℕ) (flag : Bool) → m ≢ n → entry places c ≡ Some (record { 0 = m }, flag) → entry links' c ≡ entry links c
   pub chain : IsChain (entry links') (entry (set places b.0 (Some (record { 0 = n }, barrier)))) n (entry heads' n)
-    (get_or lists n [] ++ (b, barrier) ∷ [])
+      (get_or lists n [] ++ (b, barrier) ∷ [])
 
 module _ (links : List (Option Blk)) (places : List (Option (Obj × Bool))) (heads : List (Option Blk)) (lasts : List Blk)
-  (lists : List (List (Blk × Bool))) (links' : List (Option Blk)) (heads' : List (Option Blk)) (n : ℕ) (b : Blk) (barrier : Bool)
-  (h : Hold links places heads lasts lists) (c : Comes links places heads lists links' heads' n b barrier) where
+    (lists : List (List (Blk × Bool))) (links' : List (Option Blk)) (heads' : List (Option Blk)) (n : ℕ) (b : Blk) (barrier : Bool)
+    (h : Hold links places heads lasts lists) (c : Comes links places heads lists links' heads' n b barrier) where
   -- the place that the block has now, and those that stay
   place_new : entry (set places b.0 (Some (record { 0 = n }, barrier))) b.0 ≡ Some (record { 0 = n }, barrier)
   place_new = get_or-set_same places b.0 (Some (record { 0 = n }, barrier)) None c.block
@@ -165,8 +165,8 @@ module _ (links : List (Option Blk)) (places : List (Option (Obj × Bool))) (hea
   found_before x m flag there =
       elim (cases_eq m n) [
         | inl at ↦
-          rw (at, list_new)
-          (barrier_in_front x (get_or lists n []) ((b, barrier) ∷ []) flag (subst (λ k. barrier_in x (get_or lists k []) ≡ Some flag) at (h.found x m flag there)))
+            rw (at, list_new)
+            (barrier_in_front x (get_or lists n []) ((b, barrier) ∷ []) flag (subst (λ k. barrier_in x (get_or lists k []) ≡ Some flag) at (h.found x m flag there)))
         | inr apart ↦ ap (barrier_in x) (list_old m apart) ∙ h.found x m flag there
       ]
 
@@ -175,10 +175,10 @@ module _ (links : List (Option Blk)) (places : List (Option (Obj × Bool))) (hea
   found_after x m flag there =
       elim (cases_eq x b.0) [
         | inl e ↦
-          let same = same_Some _ _ (sym place_new ∙ ap (entry (set places b.0 (Some (record { 0 = n }, barrier)))) (sym e) ∙ there) in
-          let node : n ≡ m = ap (λ p. p.0.0) same in
-          let flags : barrier ≡ flag = ap (λ p. p.1) same in
-          rw (← node, ← flags, e) found_behind
+            let same = same_Some _ _ (sym place_new ∙ ap (entry (set places b.0 (Some (record { 0 = n }, barrier)))) (sym e) ∙ there) in
+            let node : n ≡ m = ap (λ p. p.0.0) same in
+            let flags : barrier ≡ flag = ap (λ p. p.1) same in
+            rw (← node, ← flags, e) found_behind
         | inr ne ↦ found_before x m flag (sym (place_old x ne) ∙ there)
       ]
 
@@ -214,9 +214,9 @@ comes_first links places heads lasts lists n b barrier h node block nowhere none
 
 -- a block comes behind others
 module _ (links : List (Option Blk)) (places : List (Option (Obj × Bool))) (heads : List (Option Blk)) (lasts : List Blk)
-  (lists : List (List (Blk × Bool))) (n : ℕ) (a end b : Blk) (barrier : Bool) (h : Hold links places heads lasts lists)
-  (node : n < length lists) (block : b.0 < length links) (nowhere : entry places b.0 ≡ None) (some : entry heads n ≡ Some a)
-  (is_end : get_or lasts n (record { 0 = 0 }) ≡ end) where
+    (lists : List (List (Blk × Bool))) (n : ℕ) (a end b : Blk) (barrier : Bool) (h : Hold links places heads lasts lists)
+    (node : n < length lists) (block : b.0 < length links) (nowhere : entry places b.0 ≡ None) (some : entry heads n ≡ Some a)
+    (is_end : get_or lasts n (record { 0 = 0 }) ≡ end) where
   -- the last block of the list
   end_waits : (flag : Bool) × (entry places end.0 ≡ Some (record { 0 = n }, flag)) × (entry links end.0 ≡ None)
   end_waits = rw (← is_end) (some_last links places heads lasts lists h n a some)
@@ -265,8 +265,8 @@ module _ (links : List (Option Blk)) (places : List (Option (Obj × Bool))) (hea
 
 -- the first block leaves the list of node n
 module _ (links : List (Option Blk)) (places : List (Option (Obj × Bool))) (heads : List (Option Blk)) (lasts : List Blk)
-  (lists : List (List (Blk × Bool))) (n : ℕ) (b : Blk) (h : Hold links places heads lasts lists) (node : n < length lists)
-  (some : entry heads n ≡ Some b) where
+    (lists : List (List (Blk × Bool))) (n : ℕ) (b : Blk) (h : Hold links places heads lasts lists) (node : n < length lists)
+    (some : entry heads n ≡ Some b) where
   leaver : First places links n b (get_or lists n [])
   leaver = some_first links places heads lasts lists h n b some
 
@@ -295,7 +295,7 @@ module _ (links : List (Option Blk)) (places : List (Option (Obj × Bool))) (hea
       (λ x flag found. (
         refl,
         place_kept x (λ e. none-some flag (sym (once_in_chain (entry links) (entry places) n (entry heads n) (b, leaver.barrier) leaver.rest chain_before)
-        ∙ ap (λ y. barrier_in y leaver.rest) (sym e) ∙ found)),
+            ∙ ap (λ y. barrier_in y leaver.rest) (sym e) ∙ found)),
       ))
 
   queue_rest : IsQueue links (set places b.0 None) n (entry links b.0) (get_or lasts n (record { 0 = 0 })) (drop 1 (get_or lists n []))
@@ -303,9 +303,9 @@ module _ (links : List (Option Blk)) (places : List (Option (Obj × Bool))) (hea
     chain = rw rest_is chain_after;
     last = last_rest (get_or lasts n (record { 0 = 0 })) (get_or lists n []) (h.queues n).last;
     few =
-      let long : length (get_or lists n []) ≡ suc (length leaver.rest) = ap length leaver.splits in
-      let rest : length (drop 1 (get_or lists n [])) ≡ length leaver.rest = ap length rest_is in
-      omega (arith, long, rest, (h.queues n).few, taken_here places b.0 n leaver.barrier leaver_within leaver.placed);
+        let long : length (get_or lists n []) ≡ suc (length leaver.rest) = ap length leaver.splits in
+        let rest : length (drop 1 (get_or lists n [])) ≡ length leaver.rest = ap length rest_is in
+        omega (arith, long, rest, (h.queues n).few, taken_here places b.0 n leaver.barrier leaver_within leaver.placed);
   }
 
   queue_elsewhere : (m : ℕ) → m ≢ n → IsQueue links (set places b.0 None) m (entry heads m) (get_or lasts m (record { 0 = 0 })) (get_or lists m [])
@@ -332,9 +332,9 @@ module _ (links : List (Option Blk)) (places : List (Option (Obj × Bool))) (hea
   found_kept x m flag ne there =
       elim (cases_eq m n) [
         | inl at ↦
-          rw (at, list_after, rest_is)
-          (sym (barrier_in_later x (b, leaver.barrier) leaver.rest (λ e. ne (sym e)))
-          ∙ ap (barrier_in x) (sym leaver.splits) ∙ subst (λ k. barrier_in x (get_or lists k []) ≡ Some flag) at (h.found x m flag there))
+            rw (at, list_after, rest_is)
+            (sym (barrier_in_later x (b, leaver.barrier) leaver.rest (λ e. ne (sym e)))
+            ∙ ap (barrier_in x) (sym leaver.splits) ∙ subst (λ k. barrier_in x (get_or lists k []) ≡ Some flag) at (h.found x m flag there))
         | inr apart ↦ ap (barrier_in x) (list_kept m apart) ∙ h.found x m flag there
       ]
 
@@ -349,6 +349,6 @@ module _ (links : List (Option Blk)) (places : List (Option (Obj × Bool))) (hea
       | inr apart ↦ rw (list_kept m apart, head_kept m apart) (queue_elsewhere m apart)
     ];
     found = λ x m flag there.
-      found_kept x m flag (λ e. none-some _ (sym place_gone ∙ ap (entry (set places b.0 None)) (sym e) ∙ there))
-      (let ne : x ≢ b.0 = λ e. none-some _ (sym place_gone ∙ ap (entry (set places b.0 None)) (sym e) ∙ there) in sym (place_kept x ne) ∙ there);
+        found_kept x m flag (λ e. none-some _ (sym place_gone ∙ ap (entry (set places b.0 None)) (sym e) ∙ there))
+        (let ne : x ≢ b.0 = λ e. none-some _ (sym place_gone ∙ ap (entry (set places b.0 None)) (sym e) ∙ there) in sym (place_kept x ne) ∙ there);
   }

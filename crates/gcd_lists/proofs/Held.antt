@@ -1,6 +1,5 @@
 -- What the arrays tell of the lists that they hold.
-use Rattle.std.proofs.Common.{◌≡◌, ◌≢◌, ℕ, zero, suc, ◌+◌, ◌≤◌, ◌<◌, Bool, List, [], ◌∷◌, length, map, get_or, Option, Some, None, refl, ap, sym, ◌∙◌, subst, inl, inr, arith}
-use Rattle.std.specs.List.{slice_get}
+use Rattle.std.proofs.Common.{◌≡◌, ℕ, ◌≤◌, ◌<◌, Bool, List, [], ◌∷◌, length, get_or, Option, Some, None, refl, ap, sym, ◌∙◌, subst, inl, inr, arith}
 use Rattle.std.proofs.lemmas.Bool.{cases_lt}
 use Rattle.std.proofs.lemmas.List.{length-map, get_or-map, get_or_past, ext_get_or}
 use Rattle.std.proofs.lemmas.List.Sums.{count_by-le-length}
@@ -28,7 +27,7 @@ pub record First (places : List (Option (Obj × Bool))) (links : List (Option Bl
   pub placed : entry places b.0 ≡ Some (record { 0 = node }, barrier)
 
 module _ (links : List (Option Blk)) (places : List (Option (Obj × Bool))) (heads : List (Option Blk)) (lasts : List Blk)
-  (lists : List (List (Blk × Bool))) (h : Hold links places heads lasts lists) where
+    (lists : List (List (Blk × Bool))) (h : Hold links places heads lasts lists) where
   -- no list has more blocks than there are
   pub list_short : (n : ℕ) → length (get_or lists n []) ≤ length links
   list_short n = omega (arith, (h.queues n).few, count_by-le-length (is_on n) places, h.places_long)

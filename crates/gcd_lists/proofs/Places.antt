@@ -37,9 +37,9 @@ barrier_in_back b (w ∷ ws) vs none =
 -- place, and the list of the place has it
 pub record Tells (lists : List (List (Blk × Bool))) (from b : ℕ) (place : Option (Obj × Bool)) : Type 0 where
   pub only : (n i : ℕ) (barrier : Bool) → n ≡ from + i → barrier_in b (get_or lists i []) ≡ Some barrier
-    → place ≡ Some (record { 0 = n }, barrier)
+      → place ≡ Some (record { 0 = n }, barrier)
   pub there : (n : ℕ) (barrier : Bool) → place ≡ Some (record { 0 = n }, barrier)
-    → (i : ℕ) × (n ≡ from + i) × (barrier_in b (get_or lists i []) ≡ Some barrier)
+      → (i : ℕ) × (n ≡ from + i) × (barrier_in b (get_or lists i []) ≡ Some barrier)
 
 nowhere_is_none : (place : Option (Obj × Bool)) → ((n : ℕ) (barrier : Bool) → place ≡ Some (record { 0 = n }, barrier) → ⊥) → None ≡ place
 nowhere_is_none None never = refl

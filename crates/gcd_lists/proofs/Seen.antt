@@ -12,7 +12,7 @@ use Rattle.gcd_lists.proofs.Changes.{nothing_waits, hold_longer, hold_rest, come
 
 -- arrays that hold the lists of a view
 pub record Shows (links : List (Option Blk)) (places : List (Option (Obj × Bool))) (heads : List (Option Blk)) (lasts : List Blk)
-  (v : ListsView) : Type 0 where
+    (v : ListsView) : Type 0 where
   pub linked : AreLinked links places heads lasts
   pub seen : view_of links places heads ≡ v
 
@@ -37,7 +37,7 @@ shows_nothing objects blocks links places heads lasts =
     (nothing_waits objects blocks) (length-replicate blocks None))
 
 module _ {links : List (Option Blk)} {places : List (Option (Obj × Bool))} {heads : List (Option Blk)} {lasts : List Blk} {v : ListsView}
-  (s : Shows links places heads lasts v) where
+    (s : Shows links places heads lasts v) where
   pub hold : Hold links places heads lasts v.lists
   hold = subst (λ u. Hold links places heads lasts u.lists) s.seen s.linked
 

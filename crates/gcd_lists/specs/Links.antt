@@ -41,22 +41,22 @@ IsLast b (w ∷ v ∷ ws) = IsLast b (v ∷ ws)
 
 -- the list of one node: its chain, its last block, and that it is no longer than the places on the node are many
 pub record IsQueue
-  (links : List (Option Blk)) (places : List (Option (Obj × Bool))) (node : ℕ) (head : Option Blk) (end : Blk) (ws : List (Blk × Bool))
-  : Type 0 where
+    (links : List (Option Blk)) (places : List (Option (Obj × Bool))) (node : ℕ) (head : Option Blk) (end : Blk) (ws : List (Blk × Bool))
+    : Type 0 where
   pub chain : IsChain (entry links) (entry places) node head ws
   pub last : IsLast end ws
   pub few : length ws ≤ count_by (is_on node) places
 
 -- the arrays hold the lists, and a block that has a place is in the list of that node
 pub record Hold
-  (links : List (Option Blk)) (places : List (Option (Obj × Bool))) (heads : List (Option Blk)) (lasts : List Blk)
-  (lists : List (List (Blk × Bool))) : Type 0 where
+    (links : List (Option Blk)) (places : List (Option (Obj × Bool))) (heads : List (Option Blk)) (lasts : List Blk)
+    (lists : List (List (Blk × Bool))) : Type 0 where
   pub places_long : length places ≡ length links
   pub heads_long : length heads ≡ length lists
   pub lasts_long : length lasts ≡ length lists
   pub queues : (n : ℕ) → IsQueue links places n (entry heads n) (slice_index_or lasts n (record { 0 = 0 })) (slice_index_or lists n [])
   pub found : (b n : ℕ) (barrier : Bool) → entry places b ≡ Some (record { 0 = n }, barrier)
-    → barrier_in b (slice_index_or lists n []) ≡ Some barrier
+      → barrier_in b (slice_index_or lists n []) ≡ Some barrier
 
 -- what is true of the arrays of each `Lists`
 abbrev pub AreLinked : List (Option Blk) → List (Option (Obj × Bool)) → List (Option Blk) → List Blk → Type 0

@@ -1,6 +1,6 @@
 -- What waits on the objects of a plan: for each object a list of blocks in the order of their submission
 -- (dispatch_async(3), dispatch_barrier_async(3)).
-use Rattle.std.specs.Prelude.{ℕ, zero, suc, ◌==◌, Bool, if◌then◌else◌, List, [], ◌∷◌, Option, Some, None, option_map, slice_index_or}
+use Rattle.std.specs.Prelude.{ℕ, suc, ◌==◌, Bool, if◌then◌else◌, List, [], ◌∷◌, Option, Some, None, option_map, slice_index_or}
 use Rattle.std.specs.Option.{option_or}
 use Rattle.gcd_plan.specs.declared.names.Blk.{Blk}
 use Rattle.gcd_plan.specs.declared.names.Obj.{Obj}

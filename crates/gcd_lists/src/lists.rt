@@ -6,11 +6,17 @@ use gcd_plan::{Blk, Obj, Plan};
 use std::alloc::{AllocError, Global};
 use std::marker::Model;
 
-/// What waits on each object of a plan.
+/// What waits on each object of a plan, in order (dispatch_async(3), dispatch_barrier_async(3)). Contracts see it as
+/// plain lists (`ListsView`).
+///
+/// Each block has one link, to the block behind it, since it waits at one place at a time.
 #[derive(Debug, Drop)]
 pub struct Lists {
+    // By block: the block behind it in its list. Of a block that waits nowhere it says nothing.
     next: Vec<Option<Blk>>,
+    // By block: the object on which it waits, and whether it is a barrier.
     places: Vec<Option<(Obj, bool)>>,
+    // By object: the first and the last block of its list. The last of an empty list says nothing.
     heads: Vec<Option<Blk>>,
     lasts: Vec<Blk>,
 }
@@ -27,7 +33,8 @@ impl Model for Lists {
 }
 
 impl Lists {
-    /// Nothing waits anywhere.
+    /// Lists for the plan's objects and blocks; nothing waits. It takes all the memory that the lists ever need: an `Err`
+    /// comes only of want of it. (This project's own rule.)
     pub fn new(alloc: Global, plan: &Plan) -> Result<Lists, AllocError>
         ensures { IfOk result (λ l. l ≡ record { lists = replicate (length plan.now.objects) []; blocks = length plan.now.blocks }) }
     {
@@ -41,7 +48,8 @@ impl Lists {
         })
     }
 
-    /// The block waits on the node, behind all that wait there.
+    /// The block waits on the object from now on, behind all that wait there, as a barrier or not (dispatch_async(3),
+    /// dispatch_barrier_async(3)). It waits nowhere before: [`Lists::place`] is the test.
     pub fn push(&mut self, node: Obj, blk: Blk, barrier: bool)
         requires node { node.0 < length self.old.lists }
         requires blk { blk.0 < self.old.blocks }
@@ -58,21 +66,19 @@ impl Lists {
         }
     }
 
-    /// The block that waits first on the node, and whether it is a barrier; None exactly where nothing waits there.
+    /// The block that waits first on the object, and whether it is a barrier; None exactly where nothing waits there.
+    /// (This project's own rule.)
     pub fn first(&self, node: Obj) -> Option<(Blk, bool)>
         requires { node.0 < length self.now.lists }
         ensures { result ≡ slice_get (list_at self.now node.0) 0 }
     {
-        match self.heads[node.0 as usize] {
-            Some(blk) => match self.places[blk.0 as usize] {
-                Some((_, barrier)) => Some((blk, barrier)),
-                None => None,
-            },
-            None => None,
-        }
+        let blk = self.heads[node.0 as usize]?;
+        let (_, barrier) = self.places[blk.0 as usize]?;
+        Some((blk, barrier))
     }
 
-    /// Takes the block that waits first on the node off its list.
+    /// Takes the block that waits first off the object's list, and gives it, with whether it is a barrier; it waits
+    /// nowhere afterwards. None exactly where nothing waits there, and then nothing changes. (This project's own rule.)
     pub fn pop(&mut self, node: Obj) -> Option<(Blk, bool)>
         requires { node.0 < length self.old.lists }
         ensures value { result ≡ slice_get (list_at self.old node.0) 0 }
@@ -84,7 +90,8 @@ impl Lists {
         Some((blk, barrier))
     }
 
-    /// Where the block waits, and whether it is a barrier there; None exactly where it waits nowhere.
+    /// The object on which the block waits, and whether it is a barrier there; None exactly where it waits nowhere. (This
+    /// project's own rule.)
     pub fn place(&self, blk: Blk) -> Option<(Obj, bool)>
         requires { blk.0 < self.now.blocks }
         ensures { result ≡ place_of self.now blk.0 }

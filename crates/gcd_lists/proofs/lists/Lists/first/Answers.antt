@@ -2,21 +2,22 @@ use Rattle.std.proofs.Common.{◌∙◌, arith}
 use Rattle.gcd_lists.proofs.Seen.{shown, head_read, place_read, first_within, first_waits, none_waits}
 use Rattle.gcd_lists.proofs.lists.Lists.first.Goals as goal
 
-pub index-requires-in-Some : goal.index-requires-in-Some
-index-requires-in-Some c =
+pub returns-in_err-blk : goal.returns-in_err-blk
+returns-in_err-blk c =
     let s = shown c.self.invariant c.self.view_is in
-    let head = head_read s c.args.node.0 c.index.result.now c.requires c.index.ensures ∙ c.in-Some.is in
-    omega (arith, first_within s c.args.node.0 c.in-Some.blk head, c.self.inside.places.ok.0)
+    let head = head_read s c.args.node.0 c.index.result.now c.requires c.index.ensures ∙ c.in_err-blk.was in
+    c.from_residual.ensures ∙ none_waits s c.args.node.0 head
 
-pub returns-in-Some-index : goal.returns-in-Some-index
-returns-in-Some-index c =
+pub index-requires-2 : goal.index-requires-2
+index-requires-2 c =
     let s = shown c.self.invariant c.self.view_is in
-    let head = head_read s c.args.node.0 c.index.result.now c.requires c.index.ensures ∙ c.in-Some.is in
-    let within = first_within s c.args.node.0 c.in-Some.blk head in
-    let place = place_read s c.in-Some.blk.0 c.index-in-Some.result.now within c.index-in-Some.ensures ∙ c.in-Some-index.is in
-    first_waits s c.args.node.0 c.in-Some.blk _ c.in-Some-index.barrier head place
+    let head = head_read s c.args.node.0 c.index.result.now c.requires c.index.ensures ∙ c.in_ok-blk.was in
+    omega (arith, first_within s c.args.node.0 c.in_ok-blk.blk head, c.self.inside.places.ok.0)
 
-pub returns-in-None : goal.returns-in-None
-returns-in-None c =
+pub returns : goal.returns
+returns c =
     let s = shown c.self.invariant c.self.view_is in
-    none_waits s c.args.node.0 (head_read s c.args.node.0 c.index.result.now c.requires c.index.ensures ∙ c.in-None.is)
+    let head = head_read s c.args.node.0 c.index.result.now c.requires c.index.ensures ∙ c.in_ok-blk.was in
+    let within = first_within s c.args.node.0 c.in_ok-blk.blk head in
+    let place = place_read s c.in_ok-blk.blk.0 c.index-2.result.now within c.index-2.ensures ∙ c.in_ok-barrier.was in
+    first_waits s c.args.node.0 c.in_ok-blk.blk _ c.in_ok-barrier.barrier head place

@@ -1,5 +1,4 @@
-use Rattle.std.proofs.Common.{◌≡◌, [], None, length, replicate, ap, ◌∙◌, rules}
-use Rattle.gcd_lists.specs.ListsView.{ListsView}
+use Rattle.std.proofs.Common.{◌≡◌, [], None, length, replicate, rules}
 use Rattle.gcd_lists.proofs.Seen.{Shows, shows_nothing}
 use Rattle.gcd_lists.proofs.lists.Lists.new.Goals as goal
 
