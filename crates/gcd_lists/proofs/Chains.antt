@@ -6,7 +6,7 @@ use Rattle.std.proofs.lemmas.Option.{none-some, same_Some}
 use Rattle.gcd_plan.specs.declared.names.Blk.{Blk}
 use Rattle.gcd_plan.specs.declared.names.Obj.{Obj}
 use Rattle.gcd_lists.specs.ListsView.{barrier_in}
-use Rattle.gcd_lists.specs.Links.{walk, IsChain, IsLast}
+use Rattle.gcd_lists.specs.Links.{walk, IsChain, IsLast, on}
 use Rattle.gcd_lists.proofs.Places.{barrier_in_here, barrier_in_later}
 
 module _ (next : ℕ → Option Blk) (place : ℕ → Option (Obj × Bool)) (node : ℕ) where
@@ -23,7 +23,7 @@ module _ (next : ℕ → Option Blk) (place : ℕ → Option (Obj × Bool)) (nod
 
   -- a block of the chain has its place on the node
   pub place_in_chain : (b : ℕ) (at : Option Blk) (ws : List (Blk × Bool)) (barrier : Bool) → IsChain next place node at ws
-      → barrier_in b ws ≡ Some barrier → place b ≡ Some (record { 0 = node }, barrier)
+      → barrier_in b ws ≡ Some barrier → place b ≡ on node barrier
   place_in_chain b at [] barrier chain found = absurd (none-some barrier found)
   place_in_chain b at (w ∷ ws) barrier chain found =
       elim (cases_eq w.0.0 b) [
@@ -68,7 +68,7 @@ module _ (next : ℕ → Option Blk) (place : ℕ → Option (Obj × Bool)) (nod
 
   -- the last block of a chain has its place on the node, and no block behind it
   pub last_in_chain : (b : Blk) (at : Option Blk) (w : Blk × Bool) (ws : List (Blk × Bool)) → IsChain next place node at (w ∷ ws)
-      → IsLast b (w ∷ ws) → (barrier : Bool) × (place b.0 ≡ Some (record { 0 = node }, barrier)) × (next b.0 ≡ None)
+      → IsLast b (w ∷ ws) → (barrier : Bool) × (place b.0 ≡ on node barrier) × (next b.0 ≡ None)
   last_in_chain b at w [] chain last = (w.1, ap (λ x. place x.0) last ∙ chain.1, ap (λ x. next x.0) last ∙ chain.2)
   last_in_chain b at w (v ∷ ws) chain last = last_in_chain b (next w.0.0) v ws chain.2 last
 
@@ -89,7 +89,7 @@ chain_same next place next' place' node at (w ∷ ws) chain same =
           | inr ne ↦ same b barrier (barrier_in_later b w ws ne ∙ found)
         ]
 
--- the list of a block that is last stays so behind other blocks
+-- a block behind a list is its last, and the rest of a list has the same last
 pub last_pushed : (b : Blk) (barrier : Bool) (ws : List (Blk × Bool)) → IsLast b (ws ++ (b, barrier) ∷ [])
 last_pushed b barrier [] = refl
 last_pushed b barrier (w ∷ []) = refl
@@ -100,19 +100,20 @@ last_rest b [] last = last
 last_rest b (w ∷ []) last = tt
 last_rest b (w ∷ v ∷ ws) last = last
 
--- what a new last block changes of the links and places: its own, and the link of the block before it
-pub record Links (next : ℕ → Option Blk) (place : ℕ → Option (Obj × Bool)) (next' : ℕ → Option Blk) (place' : ℕ → Option (Obj × Bool))
+-- what a new last block b changes: its own link and place, and the link of the block that was last
+pub record Appends (next : ℕ → Option Blk) (place : ℕ → Option (Obj × Bool)) (next' : ℕ → Option Blk) (place' : ℕ → Option (Obj × Bool))
     (node : ℕ) (end b : Blk) (barrier : Bool) : Type 0 where
   pub nowhere : place b.0 ≡ None
   pub ended : next end.0 ≡ None
   pub linked : next' end.0 ≡ Some b
   pub ends : next' b.0 ≡ None
   pub others : (c : ℕ) → c ≢ b.0 → c ≢ end.0 → next' c ≡ next c
-  pub placed : place' b.0 ≡ Some (record { 0 = node }, barrier)
+  pub placed : place' b.0 ≡ on node barrier
   pub places : (c : ℕ) → c ≢ b.0 → place' c ≡ place c
 
 module _ (next : ℕ → Option Blk) (place : ℕ → Option (Obj × Bool)) (next' : ℕ → Option Blk) (place' : ℕ → Option (Obj × Bool))
-    (node : ℕ) (end b : Blk) (barrier : Bool) (l : Links next place next' place' node end b barrier) where
+    (node : ℕ) (end b : Blk) (barrier : Bool) (l : Appends next place next' place' node end b barrier) where
+  -- the chain goes on to the new block
   pub chain_pushed : (at : Option Blk) (w : Blk × Bool) (ws : List (Blk × Bool)) → IsChain next place node at (w ∷ ws) → IsLast end (w ∷ ws)
       → IsChain next' place' node at (w ∷ ws ++ (b, barrier) ∷ [])
   chain_pushed at w [] chain last =

@@ -7,10 +7,10 @@ use Rattle.std.proofs.lemmas.Option.{none-some, same_Some}
 use Rattle.gcd_plan.specs.declared.names.Blk.{Blk}
 use Rattle.gcd_plan.specs.declared.names.Obj.{Obj}
 use Rattle.gcd_lists.specs.ListsView.{barrier_in}
-use Rattle.gcd_lists.specs.Links.{Hold, IsQueue, IsChain, IsLast, entry, is_on}
+use Rattle.gcd_lists.specs.Links.{Hold, IsQueue, IsChain, IsLast, entry, is_on, last_at, on}
 use Rattle.gcd_lists.proofs.Places.{barrier_in_here, barrier_in_later, barrier_in_front, barrier_in_back}
 use Rattle.gcd_lists.proofs.Held.{First, none_first, some_first, some_last, entry_within}
-use Rattle.gcd_lists.proofs.Chains.{place_in_chain, once_in_chain, chain_same, chain_pushed, last_pushed, last_rest, Links}
+use Rattle.gcd_lists.proofs.Chains.{place_in_chain, once_in_chain, chain_same, chain_pushed, last_pushed, last_rest, Appends}
 
 -- in an array of nothing, nothing stands
 pub entry_nothing : {X : Type 0} → (n i : ℕ) → entry (replicate {A = Option X} n None) i ≡ None
@@ -27,8 +27,7 @@ nothing_waits objects blocks = record {
   places_long = length-replicate blocks None ∙ sym (length-replicate blocks None);
   heads_long = length-replicate objects None ∙ sym (length-replicate objects []);
   lasts_long = length-replicate objects (record { 0 = 0 }) ∙ sym (length-replicate objects []);
-  queues = λ n. subst (λ ws. IsQueue (replicate blocks None) (replicate blocks None) n (entry (replicate objects None) n) (get_or (replicate objects (record { 0 = 0 })) n (record { 0 = 0 })) ws)
-      (sym (nothing_at n)) (record { chain = entry_nothing objects n; last = tt; few = omega arith });
+  queues = λ n. rw (nothing_at n) (record { chain = entry_nothing objects n; last = tt; few = omega arith });
   found = λ b n barrier is. absurd (none-some _ (sym (entry_nothing blocks b) ∙ is));
 }
   where
@@ -41,12 +40,12 @@ nothing_waits objects blocks = record {
 
 -- how many places are on a node, where one is given to a block that waited nowhere, and where one is taken away
 placed_here : (places : List (Option (Obj × Bool))) (b n : ℕ) (barrier : Bool) → b < length places → entry places b ≡ None
-    → count_by (is_on n) (set places b (Some (record { 0 = n }, barrier))) ≡ count_by (is_on n) places + 1
+    → count_by (is_on n) (set places b (on n barrier)) ≡ count_by (is_on n) places + 1
 placed_here places b n barrier lt nowhere =
     let value : Option (Obj × Bool) → ℕ = λ p. cond (is_on n p) 1 0 in
-    let more = sum_by-set value places b (Some (record { 0 = n }, barrier)) None lt in
+    let more = sum_by-set value places b (on n barrier) None lt in
     let old : value (entry places b) ≡ 0 = ap value nowhere in
-    let new : value (Some (record { 0 = n }, barrier)) ≡ 1 = ap (λ t. cond t 1 0) (eq-eqb n n refl) in
+    let new : value (on n barrier) ≡ 1 = ap (λ t. cond t 1 0) (eq-eqb n n refl) in
     omega (arith, more, old, new)
 
 placed_elsewhere : (places : List (Option (Obj × Bool))) (b n : ℕ) (place : Option (Obj × Bool)) → b < length places → entry places b ≡ None
@@ -57,7 +56,7 @@ placed_elsewhere places b n place lt nowhere =
     let old : value (entry places b) ≡ 0 = ap value nowhere in
     omega (arith, more, old)
 
-taken_here : (places : List (Option (Obj × Bool))) (b n : ℕ) (barrier : Bool) → b < length places → entry places b ≡ Some (record { 0 = n }, barrier)
+taken_here : (places : List (Option (Obj × Bool))) (b n : ℕ) (barrier : Bool) → b < length places → entry places b ≡ on n barrier
     → count_by (is_on n) (set places b None) + 1 ≡ count_by (is_on n) places
 taken_here places b n barrier lt there =
     let value : Option (Obj × Bool) → ℕ = λ p. cond (is_on n p) 1 0 in
@@ -66,7 +65,7 @@ taken_here places b n barrier lt there =
     omega (arith, more, old)
 
 taken_elsewhere : (places : List (Option (Obj × Bool))) (b m n : ℕ) (barrier : Bool) → b < length places → m ≢ n
-    → entry places b ≡ Some (record { 0 = m }, barrier) → count_by (is_on n) (set places b None) ≡ count_by (is_on n) places
+    → entry places b ≡ on m barrier → count_by (is_on n) (set places b None) ≡ count_by (is_on n) places
 taken_elsewhere places b m n barrier lt apart there =
     let value : Option (Obj × Bool) → ℕ = λ p. cond (is_on n p) 1 0 in
     let more = sum_by-set value places b None None lt in
@@ -75,7 +74,7 @@ taken_elsewhere places b m n barrier lt apart there =
 
 -- a change that leaves the list of a node alone
 untouched : (links places links' places' : _) (n : ℕ) (head : Option Blk) (end : Blk) (ws : List (Blk × Bool)) → IsQueue links places n head end ws
-    → ((b : ℕ) (barrier : Bool) → entry places b ≡ Some (record { 0 = n }, barrier) → (entry links' b ≡ entry links b) × (entry places' b ≡ entry places b))
+    → ((b : ℕ) (barrier : Bool) → entry places b ≡ on n barrier → (entry links' b ≡ entry links b) × (entry places' b ≡ entry places b))
     → count_by (is_on n) places ≤ count_by (is_on n) places' → IsQueue links' places' n head end ws
 untouched links places links' places' n head end ws q same more = record {
   chain = chain_same (entry links) (entry places) (entry links') (entry places') n head ws q.chain
@@ -95,22 +94,22 @@ pub record Comes
   pub links_long : length links' ≡ length links
   pub heads_long : length heads' ≡ length heads
   pub heads_other : (m : ℕ) → m ≢ n → entry heads' m ≡ entry heads m
-  pub links_other : (c m : ℕ) (flag : Bool) → m ≢ n → entry places c ≡ Some (record { 0 = m }, flag) → entry links' c ≡ entry links c
-  pub chain : IsChain (entry links') (entry (set places b.0 (Some (record { 0 = n }, barrier)))) n (entry heads' n)
+  pub links_other : (c m : ℕ) (flag : Bool) → m ≢ n → entry places c ≡ on m flag → entry links' c ≡ entry links c
+  pub chain : IsChain (entry links') (entry (set places b.0 (on n barrier))) n (entry heads' n)
       (get_or lists n [] ++ (b, barrier) ∷ [])
 
 module _ (links : List (Option Blk)) (places : List (Option (Obj × Bool))) (heads : List (Option Blk)) (lasts : List Blk)
     (lists : List (List (Blk × Bool))) (links' : List (Option Blk)) (heads' : List (Option Blk)) (n : ℕ) (b : Blk) (barrier : Bool)
     (h : Hold links places heads lasts lists) (c : Comes links places heads lists links' heads' n b barrier) where
   -- the place that the block has now, and those that stay
-  place_new : entry (set places b.0 (Some (record { 0 = n }, barrier))) b.0 ≡ Some (record { 0 = n }, barrier)
-  place_new = get_or-set_same places b.0 (Some (record { 0 = n }, barrier)) None c.block
+  place_new : entry (set places b.0 (on n barrier)) b.0 ≡ on n barrier
+  place_new = get_or-set_same places b.0 (on n barrier) None c.block
 
-  place_old : (x : ℕ) → x ≢ b.0 → entry (set places b.0 (Some (record { 0 = n }, barrier))) x ≡ entry places x
-  place_old x ne = get_or-set_other places b.0 x (Some (record { 0 = n }, barrier)) None ne
+  place_old : (x : ℕ) → x ≢ b.0 → entry (set places b.0 (on n barrier)) x ≡ entry places x
+  place_old x ne = get_or-set_other places b.0 x (on n barrier) None ne
 
   -- a block that waits is not the one that comes
-  waits_before : (x m : ℕ) (flag : Bool) → entry places x ≡ Some (record { 0 = m }, flag) → x ≢ b.0
+  waits_before : (x m : ℕ) (flag : Bool) → entry places x ≡ on m flag → x ≢ b.0
   waits_before x m flag there e = none-some _ (sym c.nowhere ∙ ap (entry places) (sym e) ∙ there)
 
   -- what stands at a node afterwards
@@ -120,14 +119,14 @@ module _ (links : List (Option Blk)) (places : List (Option (Obj × Bool))) (hea
   list_old : (m : ℕ) → m ≢ n → get_or (set lists n (get_or lists n [] ++ (b, barrier) ∷ [])) m [] ≡ get_or lists m []
   list_old m ne = get_or-set_other lists n m (get_or lists n [] ++ (b, barrier) ∷ []) [] ne
 
-  end_new : get_or (set lasts n b) n (record { 0 = 0 }) ≡ b
+  end_new : last_at (set lasts n b) n ≡ b
   end_new = get_or-set_same lasts n b (record { 0 = 0 }) (omega (arith, c.node, h.lasts_long))
 
-  end_old : (m : ℕ) → m ≢ n → get_or (set lasts n b) m (record { 0 = 0 }) ≡ get_or lasts m (record { 0 = 0 })
+  end_old : (m : ℕ) → m ≢ n → last_at (set lasts n b) m ≡ last_at lasts m
   end_old m ne = get_or-set_other lasts n m b (record { 0 = 0 }) ne
 
-  queue_new : IsQueue links' (set places b.0 (Some (record { 0 = n }, barrier))) n (entry heads' n)
-      (get_or (set lasts n b) n (record { 0 = 0 })) (get_or (set lists n (get_or lists n [] ++ (b, barrier) ∷ [])) n [])
+  queue_new : IsQueue links' (set places b.0 (on n barrier)) n (entry heads' n)
+      (last_at (set lasts n b) n) (get_or (set lists n (get_or lists n [] ++ (b, barrier) ∷ [])) n [])
   queue_new =
       rw (list_new, end_new)
       (record {
@@ -136,13 +135,13 @@ module _ (links : List (Option Blk)) (places : List (Option (Obj × Bool))) (hea
         few = omega (arith, length_push (get_or lists n []) (b, barrier), (h.queues n).few, placed_here places b.0 n barrier c.block c.nowhere);
       })
 
-  queue_old : (m : ℕ) → m ≢ n → IsQueue links' (set places b.0 (Some (record { 0 = n }, barrier))) m (entry heads' m)
-      (get_or (set lasts n b) m (record { 0 = 0 })) (get_or (set lists n (get_or lists n [] ++ (b, barrier) ∷ [])) m [])
+  queue_old : (m : ℕ) → m ≢ n → IsQueue links' (set places b.0 (on n barrier)) m (entry heads' m)
+      (last_at (set lasts n b) m) (get_or (set lists n (get_or lists n [] ++ (b, barrier) ∷ [])) m [])
   queue_old m ne =
       rw (list_old m ne, end_old m ne, c.heads_other m ne)
-      (untouched links places links' (set places b.0 (Some (record { 0 = n }, barrier))) m (entry heads m) (get_or lasts m (record { 0 = 0 })) (get_or lists m []) (h.queues m)
+      (untouched links places links' (set places b.0 (on n barrier)) m (entry heads m) (last_at lasts m) (get_or lists m []) (h.queues m)
       (λ x flag there. (c.links_other x m flag ne there, place_old x (waits_before x m flag there)))
-      (placed_elsewhere places b.0 m (Some (record { 0 = n }, barrier)) c.block c.nowhere))
+      (placed_elsewhere places b.0 m (on n barrier) c.block c.nowhere))
 
   -- the block was not in the list
   absent : barrier_in b.0 (get_or lists n []) ≡ None
@@ -160,7 +159,7 @@ module _ (links : List (Option Blk)) (places : List (Option (Obj × Bool))) (hea
       ap (barrier_in b.0) list_new ∙ barrier_in_back b.0 (get_or lists n []) ((b, barrier) ∷ []) absent
       ∙ barrier_in_here b.0 (b, barrier) [] refl
 
-  found_before : (x m : ℕ) (flag : Bool) → entry places x ≡ Some (record { 0 = m }, flag)
+  found_before : (x m : ℕ) (flag : Bool) → entry places x ≡ on m flag
       → barrier_in x (get_or (set lists n (get_or lists n [] ++ (b, barrier) ∷ [])) m []) ≡ Some flag
   found_before x m flag there =
       elim (cases_eq m n) [
@@ -170,12 +169,12 @@ module _ (links : List (Option Blk)) (places : List (Option (Obj × Bool))) (hea
         | inr apart ↦ ap (barrier_in x) (list_old m apart) ∙ h.found x m flag there
       ]
 
-  found_after : (x m : ℕ) (flag : Bool) → entry (set places b.0 (Some (record { 0 = n }, barrier))) x ≡ Some (record { 0 = m }, flag)
+  found_after : (x m : ℕ) (flag : Bool) → entry (set places b.0 (on n barrier)) x ≡ on m flag
       → barrier_in x (get_or (set lists n (get_or lists n [] ++ (b, barrier) ∷ [])) m []) ≡ Some flag
   found_after x m flag there =
       elim (cases_eq x b.0) [
         | inl e ↦
-            let same = same_Some _ _ (sym place_new ∙ ap (entry (set places b.0 (Some (record { 0 = n }, barrier)))) (sym e) ∙ there) in
+            let same = same_Some _ _ (sym place_new ∙ ap (entry (set places b.0 (on n barrier))) (sym e) ∙ there) in
             let node : n ≡ m = ap (λ p. p.0.0) same in
             let flags : barrier ≡ flag = ap (λ p. p.1) same in
             rw (← node, ← flags, e) found_behind
@@ -183,10 +182,10 @@ module _ (links : List (Option Blk)) (places : List (Option (Obj × Bool))) (hea
       ]
 
   -- the arrays hold the list with the block behind it
-  pub hold_longer : Hold links' (set places b.0 (Some (record { 0 = n }, barrier))) heads' (set lasts n b)
+  pub hold_longer : Hold links' (set places b.0 (on n barrier)) heads' (set lasts n b)
       (set lists n (get_or lists n [] ++ (b, barrier) ∷ []))
   hold_longer = record {
-    places_long = length-set places b.0 (Some (record { 0 = n }, barrier)) ∙ h.places_long ∙ sym c.links_long;
+    places_long = length-set places b.0 (on n barrier) ∙ h.places_long ∙ sym c.links_long;
     heads_long = c.heads_long ∙ h.heads_long ∙ sym (length-set lists n (get_or lists n [] ++ (b, barrier) ∷ []));
     lasts_long = length-set lasts n b ∙ h.lasts_long ∙ sym (length-set lists n (get_or lists n [] ++ (b, barrier) ∷ []));
     queues = λ m. elim (cases_eq m n) [ inl at ↦ rw at queue_new | inr apart ↦ queue_old m apart ];
@@ -207,7 +206,7 @@ comes_first links places heads lasts lists n b barrier h node block nowhere none
   links_other = λ x m flag ne there. get_or-set_other links b.0 x None None (λ e. none-some _ (sym nowhere ∙ ap (entry places) (sym e) ∙ there));
   chain = rw (none_first links places heads lasts lists h n none) (
     get_or-set_same heads n (Some b) None (omega (arith, node, h.heads_long)),
-    get_or-set_same places b.0 (Some (record { 0 = n }, barrier)) None (omega (arith, block, h.places_long)),
+    get_or-set_same places b.0 (on n barrier) None (omega (arith, block, h.places_long)),
     get_or-set_same links b.0 None None block,
   );
 }
@@ -216,22 +215,22 @@ comes_first links places heads lasts lists n b barrier h node block nowhere none
 module _ (links : List (Option Blk)) (places : List (Option (Obj × Bool))) (heads : List (Option Blk)) (lasts : List Blk)
     (lists : List (List (Blk × Bool))) (n : ℕ) (a end b : Blk) (barrier : Bool) (h : Hold links places heads lasts lists)
     (node : n < length lists) (block : b.0 < length links) (nowhere : entry places b.0 ≡ None) (some : entry heads n ≡ Some a)
-    (is_end : get_or lasts n (record { 0 = 0 }) ≡ end) where
+    (is_end : last_at lasts n ≡ end) where
   -- the last block of the list
-  end_waits : (flag : Bool) × (entry places end.0 ≡ Some (record { 0 = n }, flag)) × (entry links end.0 ≡ None)
+  end_waits : (flag : Bool) × (entry places end.0 ≡ on n flag) × (entry links end.0 ≡ None)
   end_waits = rw (← is_end) (some_last links places heads lasts lists h n a some)
 
   -- a block that waits is not the one that comes, and one that waits elsewhere is not the last of the list
-  not_new : (x m : ℕ) (flag : Bool) → entry places x ≡ Some (record { 0 = m }, flag) → x ≢ b.0
+  not_new : (x m : ℕ) (flag : Bool) → entry places x ≡ on m flag → x ≢ b.0
   not_new x m flag there e = none-some _ (sym nowhere ∙ ap (entry places) (sym e) ∙ there)
 
-  not_end : (x m : ℕ) (flag : Bool) → m ≢ n → entry places x ≡ Some (record { 0 = m }, flag) → x ≢ end.0
+  not_end : (x m : ℕ) (flag : Bool) → m ≢ n → entry places x ≡ on m flag → x ≢ end.0
   not_end x m flag apart there e = apart (ap (λ p. p.0.0) (same_Some _ _ (sym there ∙ ap (entry places) e ∙ end_waits.1)))
 
   end_within : end.0 < length (set links b.0 None)
   end_within = omega (arith, entry_within places end.0 _ end_waits.1, h.places_long, length-set links b.0 None)
 
-  linked : Links (entry links) (entry places) (entry (set (set links b.0 None) end.0 (Some b))) (entry (set places b.0 (Some (record { 0 = n }, barrier))))
+  linked : Appends (entry links) (entry places) (entry (set (set links b.0 None) end.0 (Some b))) (entry (set places b.0 (on n barrier)))
       n end b barrier
   linked = record {
     nowhere = nowhere;
@@ -239,16 +238,16 @@ module _ (links : List (Option Blk)) (places : List (Option (Obj × Bool))) (hea
     linked = get_or-set_same (set links b.0 None) end.0 (Some b) None end_within;
     ends = get_or-set_other (set links b.0 None) end.0 b.0 (Some b) None (λ e. not_new end.0 n end_waits.0 end_waits.1 (sym e)) ∙ get_or-set_same links b.0 None None block;
     others = λ x new last. get_or-set_other (set links b.0 None) end.0 x (Some b) None last ∙ get_or-set_other links b.0 x None None new;
-    placed = get_or-set_same places b.0 (Some (record { 0 = n }, barrier)) None (omega (arith, block, h.places_long));
-    places = λ x new. get_or-set_other places b.0 x (Some (record { 0 = n }, barrier)) None new;
+    placed = get_or-set_same places b.0 (on n barrier) None (omega (arith, block, h.places_long));
+    places = λ x new. get_or-set_other places b.0 x (on n barrier) None new;
   }
 
   longer : (ws : List (Blk × Bool)) → IsChain (entry links) (entry places) n (entry heads n) ws → IsLast end ws
-      → IsChain (entry (set (set links b.0 None) end.0 (Some b))) (entry (set places b.0 (Some (record { 0 = n }, barrier)))) n (entry heads n)
+      → IsChain (entry (set (set links b.0 None) end.0 (Some b))) (entry (set places b.0 (on n barrier))) n (entry heads n)
       (ws ++ (b, barrier) ∷ [])
   longer [] chain last = absurd (none-some a (sym chain ∙ some))
   longer (w ∷ ws) chain last =
-      chain_pushed (entry links) (entry places) (entry (set (set links b.0 None) end.0 (Some b))) (entry (set places b.0 (Some (record { 0 = n }, barrier))))
+      chain_pushed (entry links) (entry places) (entry (set (set links b.0 None) end.0 (Some b))) (entry (set places b.0 (on n barrier)))
       n end b barrier linked (entry heads n) w ws chain last
 
   pub comes_behind : Comes links places heads lists (set (set links b.0 None) end.0 (Some b)) heads n b barrier
@@ -267,52 +266,52 @@ module _ (links : List (Option Blk)) (places : List (Option (Obj × Bool))) (hea
 module _ (links : List (Option Blk)) (places : List (Option (Obj × Bool))) (heads : List (Option Blk)) (lasts : List Blk)
     (lists : List (List (Blk × Bool))) (n : ℕ) (b : Blk) (h : Hold links places heads lasts lists) (node : n < length lists)
     (some : entry heads n ≡ Some b) where
-  leaver : First places links n b (get_or lists n [])
-  leaver = some_first links places heads lasts lists h n b some
+  taken : First places n b (get_or lists n [])
+  taken = some_first links places heads lasts lists h n b some
 
-  leaver_within : b.0 < length places
-  leaver_within = entry_within places b.0 _ leaver.placed
+  taken_within : b.0 < length places
+  taken_within = entry_within places b.0 _ taken.placed
 
   place_gone : entry (set places b.0 None) b.0 ≡ None
-  place_gone = get_or-set_same places b.0 None None leaver_within
+  place_gone = get_or-set_same places b.0 None None taken_within
 
   place_kept : (x : ℕ) → x ≢ b.0 → entry (set places b.0 None) x ≡ entry places x
   place_kept x ne = get_or-set_other places b.0 x None None ne
 
   -- a block that waits elsewhere is not the one that leaves
-  not_leaver : (x m : ℕ) (flag : Bool) → m ≢ n → entry places x ≡ Some (record { 0 = m }, flag) → x ≢ b.0
-  not_leaver x m flag apart there e = apart (ap (λ p. p.0.0) (same_Some _ _ (sym there ∙ ap (entry places) e ∙ leaver.placed)))
+  not_taken : (x m : ℕ) (flag : Bool) → m ≢ n → entry places x ≡ on m flag → x ≢ b.0
+  not_taken x m flag apart there e = apart (ap (λ p. p.0.0) (same_Some _ _ (sym there ∙ ap (entry places) e ∙ taken.placed)))
 
-  chain_before : IsChain (entry links) (entry places) n (entry heads n) ((b, leaver.barrier) ∷ leaver.rest)
-  chain_before = subst (IsChain (entry links) (entry places) n (entry heads n)) leaver.splits (h.queues n).chain
+  chain_before : IsChain (entry links) (entry places) n (entry heads n) ((b, taken.barrier) ∷ taken.rest)
+  chain_before = subst (IsChain (entry links) (entry places) n (entry heads n)) taken.splits (h.queues n).chain
 
-  rest_is : drop 1 (get_or lists n []) ≡ leaver.rest
-  rest_is = ap (drop 1) leaver.splits
+  rest_is : drop 1 (get_or lists n []) ≡ taken.rest
+  rest_is = ap (drop 1) taken.splits
 
-  chain_after : IsChain (entry links) (entry (set places b.0 None)) n (entry links b.0) leaver.rest
+  chain_after : IsChain (entry links) (entry (set places b.0 None)) n (entry links b.0) taken.rest
   chain_after =
-      chain_same (entry links) (entry places) (entry links) (entry (set places b.0 None)) n (entry links b.0) leaver.rest chain_before.2
+      chain_same (entry links) (entry places) (entry links) (entry (set places b.0 None)) n (entry links b.0) taken.rest chain_before.2
       (λ x flag found. (
         refl,
-        place_kept x (λ e. none-some flag (sym (once_in_chain (entry links) (entry places) n (entry heads n) (b, leaver.barrier) leaver.rest chain_before)
-            ∙ ap (λ y. barrier_in y leaver.rest) (sym e) ∙ found)),
+        place_kept x (λ e. none-some flag (sym (once_in_chain (entry links) (entry places) n (entry heads n) (b, taken.barrier) taken.rest chain_before)
+            ∙ ap (λ y. barrier_in y taken.rest) (sym e) ∙ found)),
       ))
 
-  queue_rest : IsQueue links (set places b.0 None) n (entry links b.0) (get_or lasts n (record { 0 = 0 })) (drop 1 (get_or lists n []))
+  queue_rest : IsQueue links (set places b.0 None) n (entry links b.0) (last_at lasts n) (drop 1 (get_or lists n []))
   queue_rest = record {
     chain = rw rest_is chain_after;
-    last = last_rest (get_or lasts n (record { 0 = 0 })) (get_or lists n []) (h.queues n).last;
+    last = last_rest (last_at lasts n) (get_or lists n []) (h.queues n).last;
     few =
-        let long : length (get_or lists n []) ≡ suc (length leaver.rest) = ap length leaver.splits in
-        let rest : length (drop 1 (get_or lists n [])) ≡ length leaver.rest = ap length rest_is in
-        omega (arith, long, rest, (h.queues n).few, taken_here places b.0 n leaver.barrier leaver_within leaver.placed);
+        let long : length (get_or lists n []) ≡ suc (length taken.rest) = ap length taken.splits in
+        let rest : length (drop 1 (get_or lists n [])) ≡ length taken.rest = ap length rest_is in
+        omega (arith, long, rest, (h.queues n).few, taken_here places b.0 n taken.barrier taken_within taken.placed);
   }
 
-  queue_elsewhere : (m : ℕ) → m ≢ n → IsQueue links (set places b.0 None) m (entry heads m) (get_or lasts m (record { 0 = 0 })) (get_or lists m [])
+  queue_elsewhere : (m : ℕ) → m ≢ n → IsQueue links (set places b.0 None) m (entry heads m) (last_at lasts m) (get_or lists m [])
   queue_elsewhere m ne =
-      untouched links places links (set places b.0 None) m (entry heads m) (get_or lasts m (record { 0 = 0 })) (get_or lists m []) (h.queues m)
-      (λ x flag there. (refl, place_kept x (not_leaver x m flag ne there)))
-      (let same = taken_elsewhere places b.0 n m leaver.barrier leaver_within (λ e. ne (sym e)) leaver.placed in omega (arith, same))
+      untouched links places links (set places b.0 None) m (entry heads m) (last_at lasts m) (get_or lists m []) (h.queues m)
+      (λ x flag there. (refl, place_kept x (not_taken x m flag ne there)))
+      (let same = taken_elsewhere places b.0 n m taken.barrier taken_within (λ e. ne (sym e)) taken.placed in omega (arith, same))
 
   list_after : get_or (set lists n (drop 1 (get_or lists n []))) n [] ≡ drop 1 (get_or lists n [])
   list_after = get_or-set_same lists n (drop 1 (get_or lists n [])) [] node
@@ -327,14 +326,14 @@ module _ (links : List (Option Blk)) (places : List (Option (Obj × Bool))) (hea
   head_kept m ne = get_or-set_other heads n m (entry links b.0) None ne
 
   -- another block that waits is found where it was
-  found_kept : (x m : ℕ) (flag : Bool) → x ≢ b.0 → entry places x ≡ Some (record { 0 = m }, flag)
+  found_kept : (x m : ℕ) (flag : Bool) → x ≢ b.0 → entry places x ≡ on m flag
       → barrier_in x (get_or (set lists n (drop 1 (get_or lists n []))) m []) ≡ Some flag
   found_kept x m flag ne there =
       elim (cases_eq m n) [
         | inl at ↦
             rw (at, list_after, rest_is)
-            (sym (barrier_in_later x (b, leaver.barrier) leaver.rest (λ e. ne (sym e)))
-            ∙ ap (barrier_in x) (sym leaver.splits) ∙ subst (λ k. barrier_in x (get_or lists k []) ≡ Some flag) at (h.found x m flag there))
+            (sym (barrier_in_later x (b, taken.barrier) taken.rest (λ e. ne (sym e)))
+            ∙ ap (barrier_in x) (sym taken.splits) ∙ subst (λ k. barrier_in x (get_or lists k []) ≡ Some flag) at (h.found x m flag there))
         | inr apart ↦ ap (barrier_in x) (list_kept m apart) ∙ h.found x m flag there
       ]
 

@@ -7,7 +7,7 @@ use Rattle.std.proofs.lemmas.Option.{none-some, same_Some}
 use Rattle.gcd_plan.specs.declared.names.Blk.{Blk}
 use Rattle.gcd_plan.specs.declared.names.Obj.{Obj}
 use Rattle.gcd_lists.specs.ListsView.{ListsView, barrier_in, place_of}
-use Rattle.gcd_lists.specs.Links.{Hold, AreLinked, IsChain, IsLast, entry, walk, is_on, lists_of, view_of}
+use Rattle.gcd_lists.specs.Links.{Hold, AreLinked, IsChain, IsLast, entry, walk, is_on, lists_of, view_of, last_at, on}
 use Rattle.gcd_lists.proofs.Places.{place_of_is}
 use Rattle.gcd_lists.proofs.Chains.{walk_is, place_in_chain, last_in_chain}
 
@@ -20,11 +20,11 @@ entry_within xs i x is =
     ]
 
 -- the first of a list
-pub record First (places : List (Option (Obj × Bool))) (links : List (Option Blk)) (node : ℕ) (b : Blk) (ws : List (Blk × Bool)) : Type 0 where
+pub record First (places : List (Option (Obj × Bool))) (node : ℕ) (b : Blk) (ws : List (Blk × Bool)) : Type 0 where
   pub barrier : Bool
   pub rest : List (Blk × Bool)
   pub splits : ws ≡ (b, barrier) ∷ rest
-  pub placed : entry places b.0 ≡ Some (record { 0 = node }, barrier)
+  pub placed : entry places b.0 ≡ on node barrier
 
 module _ (links : List (Option Blk)) (places : List (Option (Obj × Bool))) (heads : List (Option Blk)) (lasts : List Blk)
     (lists : List (List (Blk × Bool))) (h : Hold links places heads lasts lists) where
@@ -60,10 +60,10 @@ module _ (links : List (Option Blk)) (places : List (Option (Obj × Bool))) (hea
       empty (w ∷ ws) chain = absurd (none-some w.0 (sym none ∙ chain.0))
 
   -- a block at the head is the first of the list
-  pub some_first : (n : ℕ) (b : Blk) → entry heads n ≡ Some b → First places links n b (get_or lists n [])
+  pub some_first : (n : ℕ) (b : Blk) → entry heads n ≡ Some b → First places n b (get_or lists n [])
   some_first n b some = first (get_or lists n []) (h.queues n).chain
     where
-      first : (ws : List (Blk × Bool)) → IsChain (entry links) (entry places) n (entry heads n) ws → First places links n b ws
+      first : (ws : List (Blk × Bool)) → IsChain (entry links) (entry places) n (entry heads n) ws → First places n b ws
       first [] chain = absurd (none-some b (sym chain ∙ some))
       first (w ∷ ws) chain =
           let same : w.0 ≡ b = same_Some w.0 b (sym chain.0 ∙ some) in
@@ -76,15 +76,15 @@ module _ (links : List (Option Blk)) (places : List (Option (Obj × Bool))) (hea
 
   -- behind a block that waits, the last of the list waits
   pub some_last : (n : ℕ) (b : Blk) → entry heads n ≡ Some b
-      → (barrier : Bool) × (entry places (get_or lasts n (record { 0 = 0 })).0 ≡ Some (record { 0 = n }, barrier))
-      × (entry links (get_or lasts n (record { 0 = 0 })).0 ≡ None)
+      → (barrier : Bool) × (entry places (last_at lasts n).0 ≡ on n barrier)
+      × (entry links (last_at lasts n).0 ≡ None)
   some_last n b some = last (get_or lists n []) (h.queues n).chain (h.queues n).last
     where
-      last : (ws : List (Blk × Bool)) → IsChain (entry links) (entry places) n (entry heads n) ws → IsLast (get_or lasts n (record { 0 = 0 })) ws
-          → (barrier : Bool) × (entry places (get_or lasts n (record { 0 = 0 })).0 ≡ Some (record { 0 = n }, barrier))
-          × (entry links (get_or lasts n (record { 0 = 0 })).0 ≡ None)
+      last : (ws : List (Blk × Bool)) → IsChain (entry links) (entry places) n (entry heads n) ws → IsLast (last_at lasts n) ws
+          → (barrier : Bool) × (entry places (last_at lasts n).0 ≡ on n barrier)
+          × (entry links (last_at lasts n).0 ≡ None)
       last [] chain end = absurd (none-some b (sym chain ∙ some))
-      last (w ∷ ws) chain end = last_in_chain (entry links) (entry places) n (get_or lasts n (record { 0 = 0 })) (entry heads n) w ws chain end
+      last (w ∷ ws) chain end = last_in_chain (entry links) (entry places) n (last_at lasts n) (entry heads n) w ws chain end
 
   -- the view of the arrays
   pub view_is : view_of links places heads ≡ record { lists = lists; blocks = length links }

@@ -41,6 +41,7 @@ pub record Tells (lists : List (List (Blk × Bool))) (from b : ℕ) (place : Opt
   pub there : (n : ℕ) (barrier : Bool) → place ≡ Some (record { 0 = n }, barrier)
       → (i : ℕ) × (n ≡ from + i) × (barrier_in b (get_or lists i []) ≡ Some barrier)
 
+-- what is on no node is no place
 nowhere_is_none : (place : Option (Obj × Bool)) → ((n : ℕ) (barrier : Bool) → place ≡ Some (record { 0 = n }, barrier) → ⊥) → None ≡ place
 nowhere_is_none None never = refl
 nowhere_is_none (Some p) never = absurd (never p.0.0 p.1 refl)
@@ -58,6 +59,7 @@ tells_later ws lists from b place t none = record {
     later n barrier (zero, at, found) = absurd (none-some barrier (sym none ∙ found))
     later n barrier (suc i, at, found) = (i, omega arith, found)
 
+-- the place that tells is the one that is found
 pub place_from_is : (lists : List (List (Blk × Bool))) (from b : ℕ) (place : Option (Obj × Bool)) → Tells lists from b place
     → place_from from lists b ≡ place
 place_from_is [] from b place t = nowhere_is_none place (λ n barrier is. none-some barrier (t.there n barrier is).2)
@@ -88,7 +90,7 @@ pub place_of_none : (view : ListsView) (b : ℕ) → ((n : ℕ) → barrier_in b
 place_of_none view b none =
     place_of_is view b None (λ n barrier found. absurd (none-some barrier (sym (none n) ∙ found))) (λ n barrier is. absurd (none-some _ is))
 
--- a block that waits is in the list of its node
+-- where a block is found, its list has it
 in_place_from : (lists : List (List (Blk × Bool))) (from b : ℕ) (o : Obj) (barrier : Bool) → place_from from lists b ≡ Some (o, barrier)
     → (i : ℕ) × (o.0 ≡ from + i) × (barrier_in b (get_or lists i []) ≡ Some barrier)
 in_place_from [] from b o barrier there = absurd (none-some _ there)
@@ -104,13 +106,14 @@ in_place_from (ws ∷ lists) from b o barrier there = here (barrier_in b ws) ref
         let node : from ≡ o.0 = ap (λ p. p.0.0) same in
         (0, omega arith, e ∙ ap (λ p. Some p.1) same)
 
+-- a block that waits is in the list of its node
 pub in_list_of_place : (view : ListsView) (b : ℕ) (o : Obj) (barrier : Bool) → place_of view b ≡ Some (o, barrier)
     → barrier_in b (list_at view o.0) ≡ Some barrier
 in_list_of_place view b o barrier there =
     let found = in_place_from view.lists 0 b o barrier there in
     subst (λ n. barrier_in b (list_at view n) ≡ Some barrier) (let e : found.0 ≡ o.0 = omega (arith, found.1) in e) found.2
 
--- a block that waits nowhere is in no list
+-- where a block is not found, no list has it
 in_no_list_from : (lists : List (List (Blk × Bool))) (from b i : ℕ) → place_from from lists b ≡ None → barrier_in b (get_or lists i []) ≡ None
 in_no_list_from [] from b i none = refl
 in_no_list_from (ws ∷ lists) from b i none = here (barrier_in b ws) refl none i (λ k later. in_no_list_from lists (suc from) b k later)
@@ -123,5 +126,6 @@ in_no_list_from (ws ∷ lists) from b i none = here (barrier_in b ws) refl none 
     here None e is (suc k) later = later k is
     here (Some flag) e is k later = absurd (none-some _ (sym is))
 
+-- a block that waits nowhere is in no list
 pub in_no_list : (view : ListsView) (b n : ℕ) → place_of view b ≡ None → barrier_in b (list_at view n) ≡ None
 in_no_list view b n none = in_no_list_from view.lists 0 b n none

@@ -1,12 +1,12 @@
 -- The arrays and the view of them: what each call reads and leaves.
 use Rattle.std.proofs.Common.{◌≡◌, ℕ, ◌<◌, Bool, List, [], ◌∷◌, ◌++◌, length, get_or, set, drop, replicate, Option, Some, None, refl, ap, sym, ◌∙◌, subst, arith}
 use Rattle.std.specs.List.{slice_get}
-use Rattle.std.proofs.lemmas.List.{get_or_read, length-replicate}
+use Rattle.std.proofs.lemmas.List.{get_or_read, get_or-set_same, length-replicate}
 use Rattle.std.proofs.lemmas.Option.{none-some, same_Some}
 use Rattle.gcd_plan.specs.declared.names.Blk.{Blk}
 use Rattle.gcd_plan.specs.declared.names.Obj.{Obj}
 use Rattle.gcd_lists.specs.ListsView.{ListsView, list_at, place_of}
-use Rattle.gcd_lists.specs.Links.{Hold, AreLinked, entry, view_of}
+use Rattle.gcd_lists.specs.Links.{Hold, AreLinked, entry, lists_of, view_of, last_at}
 use Rattle.gcd_lists.proofs.Held.{First, place_seen, none_first, some_first, some_last, entry_within, view_is, linked}
 use Rattle.gcd_lists.proofs.Changes.{nothing_waits, hold_longer, hold_rest, comes_first, comes_behind}
 
@@ -51,7 +51,7 @@ module _ {links : List (Option Blk)} {places : List (Option (Obj × Bool))} {hea
   pub head_read : (n : ℕ) (x : Option Blk) → n < length v.lists → x ≡ get_or heads n x → entry heads n ≡ x
   head_read n x node read = sym (get_or_read heads n x (omega (arith, hold.heads_long)) read None)
 
-  pub last_read : (n : ℕ) (x : Blk) → n < length v.lists → x ≡ get_or lasts n x → get_or lasts n (record { 0 = 0 }) ≡ x
+  pub last_read : (n : ℕ) (x : Blk) → n < length v.lists → x ≡ get_or lasts n x → last_at lasts n ≡ x
   last_read n x node read = sym (get_or_read lasts n x (omega (arith, hold.lasts_long)) read (record { 0 = 0 }))
 
   -- the places reach over the plan
@@ -65,7 +65,7 @@ module _ {links : List (Option Blk)} {places : List (Option (Obj × Bool))} {hea
   pub none_waits : (n : ℕ) → entry heads n ≡ None → ◌≡◌ {A = Option (Blk × Bool)} None (slice_get (list_at v n) 0)
   none_waits n none = ap (λ ws. slice_get ws 0) (sym (none_first links places heads lasts v.lists hold n none))
 
-  pub first_placed : (n : ℕ) (b : Blk) → entry heads n ≡ Some b → First places links n b (list_at v n)
+  pub first_placed : (n : ℕ) (b : Blk) → entry heads n ≡ Some b → First places n b (list_at v n)
   first_placed n b some = some_first links places heads lasts v.lists hold n b some
 
   pub first_within : (n : ℕ) (b : Blk) → entry heads n ≡ Some b → b.0 < length places
@@ -102,7 +102,7 @@ module _ {links : List (Option Blk)} {places : List (Option (Obj × Bool))} {hea
       (comes.links_long ∙ blocks_long)
 
   pub shows_behind : (n : Obj) (a end b : Blk) (barrier : Bool) → n.0 < length v.lists → b.0 < v.blocks → place_of v b.0 ≡ None → entry heads n.0 ≡ Some a
-      → get_or lasts n.0 (record { 0 = 0 }) ≡ end
+      → last_at lasts n.0 ≡ end
       → Shows (set (set links b.0 None) end.0 (Some b)) (set places b.0 (Some (n, barrier))) heads (set lasts n.0 b)
       (record v { lists = set v.lists n.0 (list_at v n.0 ++ (b, barrier) ∷ []) })
   shows_behind n a end b barrier node block nowhere some is_end =
@@ -114,19 +114,29 @@ module _ {links : List (Option Blk)} {places : List (Option (Obj × Bool))} {hea
       (comes.links_long ∙ blocks_long)
 
   -- the last block of a list is one of the plan's
-  pub end_within : (n : Obj) (a end : Blk) → entry heads n.0 ≡ Some a → get_or lasts n.0 (record { 0 = 0 }) ≡ end → end.0 < length links
+  pub end_within : (n : Obj) (a end : Blk) → entry heads n.0 ≡ Some a → last_at lasts n.0 ≡ end → end.0 < length links
   end_within n a end some is_end =
       let last = rw is_end at (some_last links places heads lasts v.lists hold n.0 a some) in
       omega (arith, entry_within places end.0 _ last.1, hold.places_long)
 
-  pub leaver_within : (n : Obj) (b : Blk) (barrier : Bool) → ◌≡◌ {A = Option (Blk × Bool)} (slice_get (list_at v n.0) 0) (Some (b, barrier)) → b.0 < length links
-  leaver_within n b barrier first = omega (arith, first_within n.0 b (first_at_head n.0 b barrier first), hold.places_long)
+  pub taken_within : (n : Obj) (b : Blk) (barrier : Bool) → ◌≡◌ {A = Option (Blk × Bool)} (slice_get (list_at v n.0) 0) (Some (b, barrier)) → b.0 < length links
+  taken_within n b barrier first = omega (arith, first_within n.0 b (first_at_head n.0 b barrier first), hold.places_long)
 
   pub shows_rest : (n : Obj) (b : Blk) (barrier : Bool) (second : Option Blk) → n.0 < length v.lists
       → ◌≡◌ {A = Option (Blk × Bool)} (slice_get (list_at v n.0) 0) (Some (b, barrier)) → second ≡ get_or links b.0 second
       → Shows links (set places b.0 None) (set heads n.0 second) lasts (record v { lists = set v.lists n.0 (drop 1 (list_at v n.0)) })
   shows_rest n b barrier second node first read =
-      let link : second ≡ entry links b.0 = get_or_read links b.0 second (leaver_within n b barrier first) read None in
+      let link : second ≡ entry links b.0 = get_or_read links b.0 second (taken_within n b barrier first) read None in
       rw link
       (shows_from links (set places b.0 None) (set heads n.0 (entry links b.0)) lasts (set v.lists n.0 (drop 1 (list_at v n.0))) v.blocks
       (hold_rest links places heads lasts v.lists n.0 b hold node (first_at_head n.0 b barrier first)) blocks_long)
+
+  -- the block that leaves waits nowhere afterwards
+  pub taken_gone : (n : Obj) (b : Blk) (barrier : Bool) (second : Option Blk) → n.0 < length v.lists
+      → ◌≡◌ {A = Option (Blk × Bool)} (slice_get (list_at v n.0) 0) (Some (b, barrier)) → second ≡ get_or links b.0 second
+      → place_of (view_of links (set places b.0 None) (set heads n.0 second)) b.0 ≡ None
+  taken_gone n b barrier second node first read =
+      let after = shows_rest n b barrier second node first read in
+      place_seen links (set places b.0 None) (set heads n.0 second) lasts (lists_of links (set places b.0 None) (set heads n.0 second)) after.linked
+      (view_of links (set places b.0 None) (set heads n.0 second)) refl b.0
+      ∙ get_or-set_same places b.0 None None (omega (arith, taken_within n b barrier first, hold.places_long))

@@ -9,6 +9,14 @@ use Rattle.gcd_lists.specs.ListsView.{ListsView, barrier_in}
 abbrev pub entry : {X : Type 0} → List (Option X) → ℕ → Option X
 entry xs i = slice_index_or xs i None
 
+-- the last block that an array has at a node
+abbrev pub last_at : List Blk → ℕ → Blk
+last_at lasts node = slice_index_or lasts node (record { 0 = 0 })
+
+-- a place on the node
+abbrev pub on : ℕ → Bool → Option (Obj × Bool)
+on node barrier = Some (record { 0 = node }, barrier)
+
 -- the blocks from `at` along the links, at most as many as the bound, each with the flag of its place
 abbrev pub walk : (ℕ → Option Blk) → (ℕ → Option (Obj × Bool)) → ℕ → Option Blk → List (Blk × Bool)
 walk next place zero at = []
@@ -31,7 +39,7 @@ is_on node (Some place) = place.0.0 == node
 abbrev pub IsChain : (ℕ → Option Blk) → (ℕ → Option (Obj × Bool)) → ℕ → Option Blk → List (Blk × Bool) → Type 0
 IsChain next place node at [] = at ≡ None
 IsChain next place node at (w ∷ ws) =
-    (at ≡ Some w.0) × (place w.0.0 ≡ Some (record { 0 = node }, w.1)) × IsChain next place node (next w.0.0) ws
+    (at ≡ Some w.0) × (place w.0.0 ≡ on node w.1) × IsChain next place node (next w.0.0) ws
 
 -- the block is the last of the list, unless the list is empty
 abbrev pub IsLast : Blk → List (Blk × Bool) → Type 0
@@ -54,9 +62,8 @@ pub record Hold
   pub places_long : length places ≡ length links
   pub heads_long : length heads ≡ length lists
   pub lasts_long : length lasts ≡ length lists
-  pub queues : (n : ℕ) → IsQueue links places n (entry heads n) (slice_index_or lasts n (record { 0 = 0 })) (slice_index_or lists n [])
-  pub found : (b n : ℕ) (barrier : Bool) → entry places b ≡ Some (record { 0 = n }, barrier)
-      → barrier_in b (slice_index_or lists n []) ≡ Some barrier
+  pub queues : (n : ℕ) → IsQueue links places n (entry heads n) (last_at lasts n) (slice_index_or lists n [])
+  pub found : (b n : ℕ) (barrier : Bool) → entry places b ≡ on n barrier → barrier_in b (slice_index_or lists n []) ≡ Some barrier
 
 -- what is true of the arrays of each `Lists`
 abbrev pub AreLinked : List (Option Blk) → List (Option (Obj × Bool)) → List (Option Blk) → List Blk → Type 0

@@ -10,7 +10,7 @@
 //! | `Lists::new` | lists of the plan's objects and blocks, all empty; or want of memory | |
 //! | `push` | | the block behind all that wait on the object, nothing else changed |
 //! | `first` | the first of the object's list; None exactly where it is empty | |
-//! | `pop` | the same | the object's list without its first, nothing else changed |
+//! | `pop` | the same | the object's list without its first, which waits nowhere then; nothing else changed |
 //! | `place` | where the block waits, and whether as a barrier; None exactly where it waits nowhere | |
 //!
 //! What a call names is of the plan (its number is below the number of lists, or of blocks), and a block that is pushed

@@ -1,5 +1,5 @@
 // The lists of waiting blocks.
-ghost use Rattle.std.specs.Prelude.{◌≡◌, ◌<◌, ◌++◌, ◌∷◌, [], IfOk, None, length, drop, replicate, slice_get, slice_set};
+ghost use Rattle.std.specs.Prelude.{◌≡◌, ◌<◌, ◌++◌, ◌∷◌, [], IfOk, IfSome, None, length, drop, replicate, slice_get, slice_set};
 ghost use Rattle.gcd_lists.specs.ListsView.{list_at, place_of};
 
 use gcd_plan::{Blk, Obj, Plan};
@@ -83,6 +83,7 @@ impl Lists {
         requires { node.0 < length self.old.lists }
         ensures value { result ≡ slice_get (list_at self.old node.0) 0 }
         ensures rest { self.new ≡ record self.old { lists = slice_set self.old.lists node.0 (drop 1 (list_at self.old node.0)) } }
+        ensures gone { IfSome result (λ waiting. place_of self.new waiting.0.0 ≡ None) }
     {
         let (blk, barrier) = self.first(node)?;
         self.heads[node.0 as usize] = self.next[blk.0 as usize];
