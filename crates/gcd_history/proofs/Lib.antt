@@ -9,3 +9,5 @@ mod RowsGroups
 mod RowsSources
 mod RowsForged
 mod RowsValues
+pub mod RunsOpen
+pub mod StartedOnce

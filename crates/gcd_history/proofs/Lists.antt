@@ -1,9 +1,11 @@
 -- Lists: what std's lemmas lack.
-use Rattle.std.proofs.Common.{◌≡◌, ℕ, zero, suc, ◌+◌, ◌-◌, ◌<◌, Bool, true, false, ◌&&◌, ◌||◌, cond, List, [], ◌∷◌, ◌++◌, length, get_or, drop, take, filter, map, Some, None, find, reverse, refl, ap, ◌∙◌, arith}
+use Rattle.std.proofs.Common.{◌≡◌, ℕ, zero, suc, ◌+◌, ◌-◌, ◌<◌, Bool, true, false, ◌&&◌, ◌||◌, cond, List, [], ◌∷◌, ◌++◌, length, get_or, drop, take, filter, map, Some, None, find, reverse, count_by, ◌≤◌, refl, ap, ◌∙◌, arith}
 use Rattle.std.specs.List.{slice_get, list_any, flat_map, range_with_len}
 use Rattle.std.specs.Option.{option_or}
 use Rattle.std.proofs.lemmas.List.{take_more, drop_more, reverse-append}
+use Rattle.std.proofs.lemmas.Bool.{or_parts}
 use Rattle.std.proofs.lemmas.List.Folds.{find-append}
+use Rattle.std.proofs.lemmas.List.Sums.{sum_by-cons, sum_by-append}
 
 -- ## Reading at an index
 
@@ -46,6 +48,41 @@ list_any_same p q (x ∷ xs) same = ap (λ v. v || list_any p xs) (same x) ∙ a
 pub none_passes : {X : Type 0} → (xs : List X) → list_any (λ x. false) xs ≡ false
 none_passes [] = refl
 none_passes (x ∷ xs) = none_passes xs
+
+-- ## Counts
+
+pub count_by-cons : {X : Type 0} → (p : X → Bool) (x : X) (xs : List X) → count_by p (x ∷ xs) ≡ cond (p x) 1 0 + count_by p xs
+count_by-cons p x xs = sum_by-cons (λ y. cond (p y) 1 0) x xs
+
+pub count_by-append : {X : Type 0} → (p : X → Bool) (xs ys : List X) → count_by p (xs ++ ys) ≡ count_by p xs + count_by p ys
+count_by-append p xs ys = sum_by-append (λ y. cond (p y) 1 0) xs ys
+
+-- where none passes, none is counted
+pub none_counted : {X : Type 0} → (p : X → Bool) (xs : List X) → list_any p xs ≡ false → count_by p xs ≡ 0
+none_counted p [] none = refl
+none_counted p (x ∷ xs) none =
+    let parts = or_parts (p x) (list_any p xs) none in
+    let step : count_by p (x ∷ xs) ≡ 0 + count_by p xs = count_by-cons p x xs ∙ ap (λ v. cond v 1 0 + count_by p xs) parts.0 in
+    let rest : count_by p xs ≡ 0 = none_counted p xs parts.1 in
+    omega arith
+
+pub some_counted : {X : Type 0} → (p : X → Bool) (xs : List X) → list_any p xs ≡ true → 1 ≤ count_by p xs
+some_counted p [] some = cc
+some_counted p (x ∷ xs) some =
+    let step = count_by-cons p x xs in
+    elim (p x) as (λ v. count_by p (x ∷ xs) ≡ cond v 1 0 + count_by p xs → (v || list_any p xs) ≡ true → 1 ≤ count_by p (x ∷ xs)) [
+      true ↦ λ e k. omega arith
+    | false ↦ λ e k. let more : 1 ≤ count_by p xs = some_counted p xs k in omega arith
+    ] step some
+
+-- one more is counted once, where it passes and none before it does
+pub count_more : {X : Type 0} → (p : X → Bool) (x : X) (xs : List X) → (p x ≡ true → list_any p xs ≡ false) → count_by p xs ≤ 1 → count_by p (x ∷ xs) ≤ 1
+count_more p x xs none few =
+    let step = count_by-cons p x xs in
+    elim (p x) as (λ v. p x ≡ v → count_by p (x ∷ xs) ≡ cond v 1 0 + count_by p xs → count_by p (x ∷ xs) ≤ 1) [
+      true ↦ λ e k. let zero : count_by p xs ≡ 0 = none_counted p xs (none e) in omega arith
+    | false ↦ λ e k. omega arith
+    ] refl step
 
 -- ## The first that passes
 
