@@ -11,3 +11,5 @@ mod RowsForged
 mod RowsValues
 pub mod RunsOpen
 pub mod StartedOnce
+pub mod Sums
+pub mod SubmittedOnce

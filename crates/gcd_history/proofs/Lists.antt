@@ -1,9 +1,10 @@
 -- Lists: what std's lemmas lack.
-use Rattle.std.proofs.Common.{◌≡◌, ℕ, zero, suc, ◌+◌, ◌-◌, ◌<◌, Bool, true, false, ◌&&◌, ◌||◌, cond, List, [], ◌∷◌, ◌++◌, length, get_or, drop, take, filter, map, Some, None, find, reverse, count_by, ◌≤◌, refl, ap, ◌∙◌, arith}
-use Rattle.std.specs.List.{slice_get, list_any, flat_map, range_with_len}
+use Rattle.std.proofs.Common.{◌≡◌, ℕ, zero, suc, ◌+◌, ◌-◌, ◌<◌, Bool, true, false, ◌&&◌, ◌||◌, cond, List, [], ◌∷◌, ◌++◌, length, get_or, drop, take, filter, map, Some, None, find, reverse, count_by, ◌≤◌, refl, ap, ◌∙◌, sym, arith}
+use Rattle.std.specs.List.{slice_get, list_any, list_all, flat_map, range_with_len}
 use Rattle.std.specs.Option.{option_or}
 use Rattle.std.proofs.lemmas.List.{take_more, drop_more, reverse-append}
-use Rattle.std.proofs.lemmas.Bool.{or_parts}
+use Rattle.std.proofs.lemmas.Bool.{or_parts, and_parts}
+use Rattle.std.proofs.lemmas.Option.{same_Some}
 use Rattle.std.proofs.lemmas.List.Folds.{find-append}
 use Rattle.std.proofs.lemmas.List.Sums.{sum_by-cons, sum_by-append}
 
@@ -17,6 +18,12 @@ slice_get_front (x ∷ xs) ys (suc i) h = let l : i < length xs = omega arith in
 pub slice_get_end : {X : Type 0} → (xs : List X) (y : X) (ys : List X) → slice_get (xs ++ y ∷ ys) (length xs) ≡ Some y
 slice_get_end [] y ys = refl
 slice_get_end (x ∷ xs) y ys = slice_get_end xs y ys
+
+-- what all pass, the one at a place passes
+pub list_all_place : {X : Type 0} → (p : X → Bool) (xs : List X) (k : ℕ) (x : X) → list_all p xs ≡ true → slice_get xs k ≡ Some x → p x ≡ true
+list_all_place p [] k x all at = cc
+list_all_place p (y ∷ xs) zero x all at = ap p (sym (same_Some y x at)) ∙ (and_parts (p y) (list_all p xs) all).0
+list_all_place p (y ∷ xs) (suc k) x all at = list_all_place p xs k x (and_parts (p y) (list_all p xs) all).1 at
 
 -- ## One element more
 
@@ -71,8 +78,8 @@ some_counted p [] some = cc
 some_counted p (x ∷ xs) some =
     let step = count_by-cons p x xs in
     elim (p x) as (λ v. count_by p (x ∷ xs) ≡ cond v 1 0 + count_by p xs → (v || list_any p xs) ≡ true → 1 ≤ count_by p (x ∷ xs)) [
-      true ↦ λ e k. omega arith
-    | false ↦ λ e k. let more : 1 ≤ count_by p xs = some_counted p xs k in omega arith
+      | true ↦ λ e k. omega arith
+      | false ↦ λ e k. let more : 1 ≤ count_by p xs = some_counted p xs k in omega arith
     ] step some
 
 -- one more is counted once, where it passes and none before it does
@@ -80,8 +87,8 @@ pub count_more : {X : Type 0} → (p : X → Bool) (x : X) (xs : List X) → (p 
 count_more p x xs none few =
     let step = count_by-cons p x xs in
     elim (p x) as (λ v. p x ≡ v → count_by p (x ∷ xs) ≡ cond v 1 0 + count_by p xs → count_by p (x ∷ xs) ≤ 1) [
-      true ↦ λ e k. let zero : count_by p xs ≡ 0 = none_counted p xs (none e) in omega arith
-    | false ↦ λ e k. omega arith
+      | true ↦ λ e k. let zero : count_by p xs ≡ 0 = none_counted p xs (none e) in omega arith
+      | false ↦ λ e k. omega arith
     ] refl step
 
 -- ## The first that passes

@@ -1,14 +1,13 @@
 -- Which runs are open, an event on.
-use Rattle.std.proofs.Common.{◌≡◌, ◌⊎◌, inl, inr, ⊎_elim, ℕ, Bool, true, false, not, ◌&&◌, ◌||◌, List, [], ◌∷◌, ◌++◌, filter, refl, ap, sym, ◌∙◌, subst}
+use Rattle.std.proofs.Common.{◌≡◌, Bool, true, false, not, ◌&&◌, ◌||◌, List, [], ◌∷◌, ◌++◌, filter, refl, ap, sym, ◌∙◌, subst}
 use Rattle.std.specs.List.{list_any}
-use Rattle.std.proofs.lemmas.Bool.{eqb-true, eq-eqb, or_cases, or_left, or_right, and_parts, and_from}
+use Rattle.std.proofs.lemmas.Bool.{eqb-true, eq-eqb}
 use Rattle.std.proofs.lemmas.List.Folds.{list_any-append}
-use Rattle.gcd_plan.specs.declared.names.Blk.{Blk}
 use Rattle.gcd_plan.specs.declared.names.Run.{Run}
 use Rattle.gcd_plan.specs.declared.names.Run.TheVariants.{Block, Source}
 use Rattle.gcd_event.specs.declared.event.Event.{Event}
 use Rattle.gcd_event.specs.declared.event.Event.TheVariants.{Start, Act as Acted, Wake, End, Deliver, DeliverEnd, Tick, Ready, FeedEnd, Misuse, Halt}
-use Rattle.gcd_history.specs.Runs.{same_run, opens, open_runs, is_open, starts, is_started}
+use Rattle.gcd_history.specs.Runs.{same_run, opens, open_runs, is_open}
 use Rattle.gcd_history.proofs.Lists.{list_any-filter, list_any_same, none_passes}
 
 -- runs that pass the test are one
@@ -25,10 +24,10 @@ same_run-refl (Source s) = eq-eqb s.0 s.0 refl
 pub same_run-sym : (r q : Run) → same_run r q ≡ same_run q r
 same_run-sym r q =
     elim (same_run r q) as (λ v. same_run r q ≡ v → v ≡ same_run q r) [
-      true ↦ λ e. let same = same_run-true r q e in sym (subst (λ k. same_run k r ≡ true) same (same_run-refl r))
-    | false ↦ λ e. elim (same_run q r) as (λ v. same_run q r ≡ v → false ≡ v) [
-        true ↦ λ f. let same = same_run-true q r f in sym e ∙ subst (λ k. same_run k q ≡ true) same (same_run-refl q)
-      | false ↦ λ f. refl
+      | true ↦ λ e. let same = same_run-true r q e in sym (subst (λ k. same_run k r ≡ true) same (same_run-refl r))
+      | false ↦ λ e. elim (same_run q r) as (λ v. same_run q r ≡ v → false ≡ v) [
+        | true ↦ λ f. let same = same_run-true q r f in sym e ∙ subst (λ k. same_run k q ≡ true) same (same_run-refl q)
+        | false ↦ λ f. refl
       ] refl
     ] refl
 
@@ -64,8 +63,8 @@ other_than_itself gone run r same = subst (λ k. (not (same_run gone r) && same_
 still_one : (gone run r : Run) → same_run gone run ≡ false → (not (same_run gone r) && same_run run r) ≡ same_run run r
 still_one gone run r apart =
     elim (same_run run r) as (λ v. same_run run r ≡ v → (not (same_run gone r) && v) ≡ v) [
-      true ↦ λ e. let other : same_run gone r ≡ false = subst (λ k. same_run gone k ≡ false) (same_run-true run r e) apart in ap (λ v. not v && true) other
-    | false ↦ λ e. nothing (not (same_run gone r))
+      | true ↦ λ e. let other : same_run gone r ≡ false = subst (λ k. same_run gone k ≡ false) (same_run-true run r e) apart in ap (λ v. not v && true) other
+      | false ↦ λ e. nothing (not (same_run gone r))
     ] refl
 
 -- one run is taken away
@@ -73,9 +72,9 @@ taken : (runs : List Run) (gone run : Run) → list_any (same_run run) (filter (
 taken runs gone run =
     list_any-filter (same_run run) (λ r. not (same_run gone r)) runs
     ∙ elim (same_run gone run) as (λ v. same_run gone run ≡ v → list_any (λ r. not (same_run gone r) && same_run run r) runs ≡ (not v && list_any (same_run run) runs)) [
-        true ↦ λ e. list_any_same (λ r. not (same_run gone r) && same_run run r) (λ r. false) runs (λ r. other_than_itself gone run r (same_run-true gone run e)) ∙ none_passes runs
+      | true ↦ λ e. list_any_same (λ r. not (same_run gone r) && same_run run r) (λ r. false) runs (λ r. other_than_itself gone run r (same_run-true gone run e)) ∙ none_passes runs
       | false ↦ λ e. list_any_same (λ r. not (same_run gone r) && same_run run r) (same_run run) runs (λ r. still_one gone run r e)
-      ] refl
+    ] refl
 
 -- open: begun now, or open before and not ended now
 pub is_open-step : (e : Event) (past : List Event) (run : Run) → is_open (e ∷ past) run ≡ (opens e run || (not (closes e run) && is_open past run))

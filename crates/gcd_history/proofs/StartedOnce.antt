@@ -1,15 +1,14 @@
 -- Each block starts at most once, after its submission, and ends at most once.
-use Rattle.std.proofs.Common.{◌≡◌, ◌⊎◌, ⊎_elim, ℕ, suc, ◌+◌, ◌≤◌, ◌<◌, Bool, true, false, not, ◌&&◌, ◌||◌, cond, ◌==◌, List, [], ◌∷◌, ◌++◌, Option, Some, None, is_some, find, refl, ap, sym, ◌∙◌, subst, arith, count_by}
-use Rattle.std.specs.List.{list_any}
+use Rattle.std.proofs.Common.{◌≡◌, ⊎_elim, ℕ, ◌≤◌, Bool, true, false, not, ◌&&◌, ◌||◌, ◌==◌, List, [], ◌∷◌, Option, Some, None, is_some, find, refl, ap, sym, ◌∙◌, subst, arith, count_by}
 use Rattle.std.specs.Option.{option_or}
-use Rattle.std.proofs.lemmas.Bool.{eqb-true, eq-eqb, or_cases, or_left, or_right, or_parts, and_parts, and_from, both_ways, cases_Bool, not-true}
+use Rattle.std.proofs.lemmas.Bool.{eqb-true, or_cases, or_right, and_parts, both_ways, cases_Bool, not-true}
 use Rattle.std.proofs.lemmas.List.Folds.{find-append}
 use Rattle.gcd_plan.specs.PlanView.{PlanView}
 use Rattle.gcd_plan.specs.declared.names.Blk.{Blk}
 use Rattle.gcd_plan.specs.declared.names.Run.{Run}
-use Rattle.gcd_plan.specs.declared.names.Run.TheVariants.{Block, Source}
+use Rattle.gcd_plan.specs.declared.names.Run.TheVariants.{Block}
 use Rattle.gcd_event.specs.declared.event.Event.{Event}
-use Rattle.gcd_event.specs.declared.event.Event.TheVariants.{Start, Act as Acted, Wake, End, Deliver, DeliverEnd, Tick, Ready, FeedEnd, Misuse, Halt}
+use Rattle.gcd_event.specs.declared.event.Event.TheVariants.{Start, End, Deliver, DeliverEnd}
 use Rattle.gcd_history.specs.declared.submission.Submission.{Submission}
 use Rattle.gcd_history.specs.Runs.{opens, is_open, starts, is_started, ends, is_ended}
 use Rattle.gcd_history.specs.Submitted.{submitted, submissions, submission_of}
@@ -40,7 +39,7 @@ pub started_from_open : (past : List Event) (b : Blk) → is_open past (Block b)
 started_from_open [] b h = h
 started_from_open (e ∷ past) b h =
     let step : (starts b.0 e || (not (closes e (Block b)) && is_open past (Block b))) ≡ true =
-        ap (λ v. v || (not (closes e (Block b)) && is_open past (Block b))) (sym (opens-starts e b)) ∙ sym (is_open-step e past (Block b)) ∙ h in
+    ap (λ v. v || (not (closes e (Block b)) && is_open past (Block b))) (sym (opens-starts e b)) ∙ sym (is_open-step e past (Block b)) ∙ h in
     open_step (starts b.0 e) (is_started past b.0) (closes e (Block b)) (is_open past (Block b)) step (started_from_open past b)
 
 pub open_from_has_run : (plan : PlanView) (past : List Event) (w : ℕ) (r : Run) → has_run plan past w r ≡ true → is_open past r ≡ true
@@ -91,9 +90,9 @@ pub started_from_ended : (plan : PlanView) (past : List Event) → IsLawful plan
 started_from_ended plan [] h b ended = cc
 started_from_ended plan (e ∷ past) h b ended =
     or_right (starts b e) (is_started past b) (⊎_elim
-        (λ now. started_from_open past (record { 0 = b }) (at_its_end plan past b e h.1 now))
-        (started_from_ended plan past h.0 b)
-        (or_cases (ends b e) (is_ended past b) ended))
+    (λ now. started_from_open past (record { 0 = b }) (at_its_end plan past b e h.1 now))
+    (started_from_ended plan past h.0 b)
+    (or_cases (ends b e) (is_ended past b) ended))
 
 -- a block that is not started has not ended
 pub unended_from_unstarted : (plan : PlanView) (past : List Event) → IsLawful plan past → (b : ℕ) → is_started past b ≡ false → is_ended past b ≡ false
@@ -112,16 +111,16 @@ pub open_not_ended : (plan : PlanView) (past : List Event) → IsLawful plan pas
 open_not_ended plan [] h b live = refl
 open_not_ended plan (e ∷ past) h b live =
     let step : (starts b.0 e || (not (ends b.0 e) && is_open past (Block b))) ≡ true =
-        ap (λ v. v || (not (ends b.0 e) && is_open past (Block b))) (sym (opens-starts e b))
-        ∙ ap (λ v. opens e (Block b) || (not v && is_open past (Block b))) (sym (closes-ends e b))
-        ∙ sym (is_open-step e past (Block b)) ∙ live in
+    ap (λ v. v || (not (ends b.0 e) && is_open past (Block b))) (sym (opens-starts e b))
+    ∙ ap (λ v. opens e (Block b) || (not v && is_open past (Block b))) (sym (closes-ends e b))
+    ∙ sym (is_open-step e past (Block b)) ∙ live in
     ⊎_elim
-        (λ now. either_false (ends b.0 e) (is_ended past b.0) (start_is_no_end e b.0 now)
-            (unended_from_unstarted plan past h.0 b.0 (at_its_start plan past b.0 e h.1 now).1))
-        (λ old.
-            let parts = and_parts (not (ends b.0 e)) (is_open past (Block b)) old in
-            either_false (ends b.0 e) (is_ended past b.0) (not-true (ends b.0 e) parts.0) (open_not_ended plan past h.0 b parts.1))
-        (or_cases (starts b.0 e) (not (ends b.0 e) && is_open past (Block b)) step)
+    (λ now. either_false (ends b.0 e) (is_ended past b.0) (start_is_no_end e b.0 now)
+    (unended_from_unstarted plan past h.0 b.0 (at_its_start plan past b.0 e h.1 now).1))
+    (λ old.
+    let parts = and_parts (not (ends b.0 e)) (is_open past (Block b)) old in
+    either_false (ends b.0 e) (is_ended past b.0) (not-true (ends b.0 e) parts.0) (open_not_ended plan past h.0 b parts.1))
+    (or_cases (starts b.0 e) (not (ends b.0 e) && is_open past (Block b)) step)
 
 -- a block ends at most once
 pub ended_once : (plan : PlanView) (past : List Event) → IsLawful plan past → (b : ℕ) → count_by (ends b) past ≤ 1
