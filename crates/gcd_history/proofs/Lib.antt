@@ -13,3 +13,5 @@ pub mod RunsOpen
 pub mod StartedOnce
 pub mod Sums
 pub mod SubmittedOnce
+pub mod InOrder
+pub mod PublicLaws

@@ -1,9 +1,9 @@
 -- Lists: what std's lemmas lack.
-use Rattle.std.proofs.Common.{◌≡◌, ℕ, zero, suc, ◌+◌, ◌-◌, ◌<◌, Bool, true, false, ◌&&◌, ◌||◌, cond, List, [], ◌∷◌, ◌++◌, length, get_or, drop, take, filter, map, Some, None, find, reverse, count_by, ◌≤◌, refl, ap, ◌∙◌, sym, arith}
-use Rattle.std.specs.List.{slice_get, list_any, list_all, flat_map, range_with_len}
+use Rattle.std.proofs.Common.{◌≡◌, ℕ, zero, suc, ◌+◌, ◌-◌, ◌<◌, Bool, true, false, ◌&&◌, ◌||◌, cond, List, [], ◌∷◌, ◌++◌, length, get_or, drop, take, filter, map, Some, None, is_some, ⊎_elim, subst, length-append, find, reverse, count_by, ◌≤◌, refl, ap, ◌∙◌, sym, arith}
+use Rattle.std.specs.List.{slice_get, list_any, list_all, AllPairs, flat_map, range_with_len}
 use Rattle.std.specs.Option.{option_or}
-use Rattle.std.proofs.lemmas.List.{take_more, drop_more, reverse-append}
-use Rattle.std.proofs.lemmas.Bool.{or_parts, and_parts}
+use Rattle.std.proofs.lemmas.List.{take_more, drop_more, reverse-append, get_or_append_left, get_or-append_right}
+use Rattle.std.proofs.lemmas.Bool.{or_parts, and_parts, cases_lt}
 use Rattle.std.proofs.lemmas.Option.{same_Some}
 use Rattle.std.proofs.lemmas.List.Folds.{find-append}
 use Rattle.std.proofs.lemmas.List.Sums.{sum_by-cons, sum_by-append}
@@ -56,6 +56,48 @@ pub none_passes : {X : Type 0} → (xs : List X) → list_any (λ x. false) xs �
 none_passes [] = refl
 none_passes (x ∷ xs) = none_passes xs
 
+-- what is found passes
+pub any_from_find : {X : Type 0} → (p : X → Bool) (xs : List X) → is_some (find p xs) ≡ true → list_any p xs ≡ true
+any_from_find p [] h = cc
+any_from_find p (x ∷ xs) h =
+    elim (p x) as (λ v. is_some (cond v (Some x) (find p xs)) ≡ true → (v || list_any p xs) ≡ true) [
+      | true ↦ λ k. refl
+      | false ↦ λ k. any_from_find p xs k
+    ] h
+
+-- what is found passes its test, and any that all pass
+pub found_passes : {X : Type 0} → (p q : X → Bool) (xs : List X) (x : X) → find p xs ≡ Some x → list_all q xs ≡ true → (p x ≡ true) × (q x ≡ true)
+found_passes p q [] x found all = cc
+found_passes p q (y ∷ xs) x found all =
+    let parts = and_parts (q y) (list_all q xs) all in
+    elim (p y) as (λ v. p y ≡ v → cond v (Some y) (find p xs) ≡ Some x → (p x ≡ true) × (q x ≡ true)) [
+      | true ↦ λ e k. let same = same_Some y x k in (subst (λ z. p z ≡ true) same e, subst (λ z. q z ≡ true) same parts.0)
+      | false ↦ λ e k. found_passes p q xs x k parts.1
+    ] refl found
+
+-- what passes is found
+pub find_from_any : {X : Type 0} → (p : X → Bool) (xs : List X) → list_any p xs ≡ true → is_some (find p xs) ≡ true
+find_from_any p [] h = cc
+find_from_any p (x ∷ xs) h =
+    elim (p x) as (λ v. (v || list_any p xs) ≡ true → is_some (cond v (Some x) (find p xs)) ≡ true) [
+      | true ↦ λ k. refl
+      | false ↦ λ k. find_from_any p xs k
+    ] h
+
+-- each pair, where a list goes on
+pub all_pairs_append : {X : Type 0} → (R : X → X → Type 0) (xs ys : List X) → AllPairs R xs → ((k : ℕ) (d x : X) → k < length ys → R x (get_or ys k d)) → AllPairs R (xs ++ ys)
+all_pairs_append R xs ys pairs new i j d l m =
+    let whole = length-append xs ys in
+    ⊎_elim
+    (λ early.
+    let first : i < length xs = omega arith in
+    subst (λ x. R x (get_or (xs ++ ys) j d)) (sym (get_or_append_left xs ys d i first))
+    (subst (λ y. R (get_or xs i d) y) (sym (get_or_append_left xs ys d j early)) (pairs i j d l early)))
+    (λ late.
+    let k : j - length xs < length ys = omega (arith, whole) in
+    subst (λ y. R (get_or (xs ++ ys) i d) y) (sym (get_or-append_right xs ys (length xs) j d refl late)) (new (j - length xs) d (get_or (xs ++ ys) i d) k))
+    (cases_lt j (length xs))
+
 -- ## Counts
 
 pub count_by-cons : {X : Type 0} → (p : X → Bool) (x : X) (xs : List X) → count_by p (x ∷ xs) ≡ cond (p x) 1 0 + count_by p xs
@@ -63,6 +105,16 @@ count_by-cons p x xs = sum_by-cons (λ y. cond (p y) 1 0) x xs
 
 pub count_by-append : {X : Type 0} → (p : X → Bool) (xs ys : List X) → count_by p (xs ++ ys) ≡ count_by p xs + count_by p ys
 count_by-append p xs ys = sum_by-append (λ y. cond (p y) 1 0) xs ys
+
+pub count_by-reverse : {X : Type 0} → (p : X → Bool) (xs : List X) → count_by p (reverse xs) ≡ count_by p xs
+count_by-reverse p [] = refl
+count_by-reverse p (x ∷ xs) =
+    let split : count_by p (reverse (x ∷ xs)) ≡ count_by p (reverse xs) + count_by p (x ∷ []) = ap (count_by p) (reverse-append (x ∷ []) xs) ∙ count_by-append p (reverse xs) (x ∷ []) in
+    let rest = count_by-reverse p xs in
+    let step = count_by-cons p x xs in
+    let one : count_by p (x ∷ []) ≡ cond (p x) 1 0 + count_by p [] = count_by-cons p x [] in
+    let none : count_by p [] ≡ 0 = refl in
+    omega arith
 
 -- where none passes, none is counted
 pub none_counted : {X : Type 0} → (p : X → Bool) (xs : List X) → list_any p xs ≡ false → count_by p xs ≡ 0

@@ -25,6 +25,7 @@
 #![tactic(auto)]
 
 pub mod lawful;
+pub mod laws;
 mod state;
 mod submission;
 
