@@ -15,3 +15,6 @@ pub mod Sums
 pub mod SubmittedOnce
 pub mod InOrder
 pub mod PublicLaws
+pub mod Merged
+pub mod FreeAtStart
+pub mod Woken

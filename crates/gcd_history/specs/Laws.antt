@@ -1,13 +1,18 @@
 -- What holds of every lawful history, the oldest event first.
-use Rattle.std.specs.Prelude.{◌≡◌, ◌≤◌, ℕ, ◌==◌, true, false, List, take, Some, slice_get, count_by, IsTrue, AllPairs}
+use Rattle.std.specs.Prelude.{◌≡◌, ◌≤◌, ℕ, ◌==◌, true, false, List, take, Some, None, slice_get, count_by, IsTrue, AllPairs}
 use Rattle.gcd_plan.specs.PlanView.{PlanView}
+use Rattle.gcd_plan.specs.Chains.{is_in}
 use Rattle.gcd_plan.specs.declared.names.Blk.{Blk}
+use Rattle.gcd_plan.specs.declared.names.Obj.{Obj}
+use Rattle.gcd_plan.specs.declared.names.Run.TheVariants.{Block, Source}
+use Rattle.gcd_plan.specs.declared.reason.Reason.{Reason}
 use Rattle.gcd_event.specs.declared.event.Event.{Event}
-use Rattle.gcd_event.specs.declared.event.Event.TheVariants.{Start}
+use Rattle.gcd_event.specs.declared.event.Event.TheVariants.{Start, Wake, Deliver}
 use Rattle.gcd_history.specs.declared.submission.Submission.{Submission}
 use Rattle.gcd_history.specs.Runs.{starts, ends}
 use Rattle.gcd_history.specs.Permitted.{is_on}
-use Rattle.gcd_history.specs.History.{is_started, is_submitted, submissions_of}
+use Rattle.gcd_history.specs.History.{is_started, is_submitted, submissions_of, nodes_of_run, is_free, reason_of, has_come, received_of, pending_of, merged_of}
+use Rattle.gcd_history.specs.Sources.{joined}
 
 -- each block starts at most once, and ends at most once (dispatch_async(3))
 pub record RunsOnce (h : List Event) : Type 0 where
@@ -38,3 +43,31 @@ IsBehindOther h s t =
 -- blocks start in the order of their submission on a node (dispatch_queue_create(3))
 abbrev pub StartsInOrder : PlanView → List Event → Type 0
 StartsInOrder plan h = AllPairs (IsBehindOther h) (submissions_of plan h)
+
+-- at a block's Start each object of its chain is free, and at a Deliver each object of the source's chain (dispatch_suspend(3),
+-- dispatch_activate(3), dispatch_set_target_queue(3))
+pub record BeginsFree (plan : PlanView) (h : List Event) : Type 0 where
+  pub starts : (i w : ℕ) (b : Blk) (o : ℕ) → slice_get h i ≡ Some (Start w b) → IsTrue (is_in o (nodes_of_run plan (take i h) (Block b))) → IsTrue (is_free plan (take i h) o)
+  pub delivers : (i w : ℕ) (s : Obj) (o : ℕ) → slice_get h i ≡ Some (Deliver w s) → IsTrue (is_in o (nodes_of_run plan (take i h) (Source s))) → IsTrue (is_free plan (take i h) o)
+
+-- at position i block b is parked, and what it waits for has come
+pub record IsDueAtWake (plan : PlanView) (h : List Event) (i : ℕ) (b : Blk) : Type 0 where
+  pub reason : Reason
+  pub parked : reason_of plan (take i h) b.0 ≡ Some reason
+  pub come : has_come plan (take i h) reason ≡ true
+
+-- each Wake finds that what its block waits for has come (dispatch_sync(3), dispatch_group_wait(3), dispatch_semaphore_wait(3))
+abbrev pub WakesHaveCause : PlanView → List Event → Type 0
+WakesHaveCause plan h = (i w : ℕ) (b : Blk) → slice_get h i ≡ Some (Wake w b) → IsDueAtWake plan h i b
+
+-- no block is parked
+abbrev pub NoneParked : PlanView → List Event → Type 0
+NoneParked plan h = (b : ℕ) → reason_of plan h b ≡ None
+
+-- whatever a block has waited for at some position has come
+abbrev pub WaitsHavePassed : PlanView → List Event → Type 0
+WaitsHavePassed plan h = (i b : ℕ) (reason : Reason) → reason_of plan (take i h) b ≡ Some reason → has_come plan h reason ≡ true
+
+-- what the Delivers of each source handed over, with what is pending, is all that it was given (dispatch_source_merge_data(3))
+abbrev pub IsConserved : PlanView → List Event → Type 0
+IsConserved plan h = (s : ℕ) → joined plan s (received_of plan h s) (pending_of plan h s) ≡ merged_of plan h s

@@ -5,7 +5,7 @@ ghost use Rattle.gcd_plan.specs.Validity.{IsPlan};
 ghost use Rattle.gcd_event.specs.declared.event.Event.{Event};
 ghost use Rattle.gcd_history.specs.History.{IsLawful};
 ghost use Rattle.gcd_history.specs.Ends.{IsDrained};
-ghost use Rattle.gcd_history.specs.Laws.{RunsOnce, StartsAfterSubmission, AllEndOnce, IsSubmittedOnce, StartsInOrder};
+ghost use Rattle.gcd_history.specs.Laws.{RunsOnce, StartsAfterSubmission, AllEndOnce, IsSubmittedOnce, StartsInOrder, BeginsFree, WakesHaveCause, NoneParked, WaitsHavePassed, IsConserved};
 
 /// Each block starts at most once, after its submission, and ends at most once; where the run is drained each submitted
 /// block has ended exactly once (dispatch_async(3)).
@@ -23,4 +23,24 @@ pub fn blocks_are_submitted_once()
 /// Of two submissions on one node the later starts only after the earlier has started (dispatch_queue_create(3)).
 pub fn blocks_start_in_order()
     ensures { (plan : PlanView) (h : List Event) → IsPlan plan → IsLawful plan h → StartsInOrder plan h }
+{}
+
+/// At a block's Start and at a Deliver each object of the chain is active, with hold 0, and its target is not about to change
+/// (dispatch_suspend(3), dispatch_activate(3), dispatch_set_target_queue(3)).
+pub fn runs_begin_free()
+    ensures { (plan : PlanView) (h : List Event) → IsLawful plan h → BeginsFree plan h }
+{}
+
+/// A Wake stands only where what its block waits for had come; where the run is drained no block is parked, and whatever a
+/// block has waited for has come, so every wait has passed (dispatch_sync(3), dispatch_group_wait(3),
+/// dispatch_semaphore_wait(3)).
+pub fn wakes_have_causes()
+    ensures cause { (plan : PlanView) (h : List Event) → IsLawful plan h → WakesHaveCause plan h }
+    ensures none { (plan : PlanView) (h : List Event) → IsLawful plan h → IsDrained plan h → NoneParked plan h }
+    ensures passed { (plan : PlanView) (h : List Event) → IsLawful plan h → IsDrained plan h → WaitsHavePassed plan h }
+{}
+
+/// What the Delivers of a source handed over, with what is pending, is all that it was given (dispatch_source_merge_data(3)).
+pub fn merged_data_is_conserved()
+    ensures { (plan : PlanView) (h : List Event) → IsConserved plan h }
 {}
