@@ -18,3 +18,5 @@ pub mod PublicLaws
 pub mod Merged
 pub mod FreeAtStart
 pub mod Woken
+pub mod Walks
+pub mod OpenNodes

@@ -5,7 +5,8 @@ use Rattle.std.specs.Option.{option_or}
 use Rattle.std.proofs.lemmas.List.{take_more, drop_more, reverse-append, get_or_append_left, get_or-append_right}
 use Rattle.std.proofs.lemmas.Bool.{or_parts, and_parts, cases_lt}
 use Rattle.std.proofs.lemmas.Option.{same_Some}
-use Rattle.std.proofs.lemmas.List.Folds.{find-append}
+use Rattle.std.proofs.lemmas.List.Folds.{find-append, list_any_at}
+use Rattle.std.proofs.lemmas.List.FromFn.{length-range_with_len, get_or-range_with_len}
 use Rattle.std.proofs.lemmas.List.Sums.{sum_by-cons, sum_by-append}
 
 -- ## Reading at an index
@@ -142,6 +143,13 @@ count_more p x xs none few =
       | true ↦ λ e k. let zero : count_by p xs ≡ 0 = none_counted p xs (none e) in omega arith
       | false ↦ λ e k. omega arith
     ] refl step
+
+-- a number below the bound that passes
+pub any_in_range : (p : ℕ → Bool) (size n : ℕ) → n < size → p n ≡ true → list_any p (range_with_len 0 size) ≡ true
+any_in_range p size n within h =
+    let long : n < length (range_with_len 0 size) = omega (arith, length-range_with_len 0 size) in
+    let at : get_or (range_with_len 0 size) n 0 ≡ n = get_or-range_with_len 0 size n 0 within ∙ omega arith in
+    list_any_at p (range_with_len 0 size) n 0 long (ap p at ∙ h)
 
 -- ## The first that passes
 

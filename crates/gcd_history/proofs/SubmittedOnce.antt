@@ -179,7 +179,7 @@ handler_act_gives_none b (GroupAsync g q c) fine = cc
 handler_act_gives_none b (Notify g q c) fine = cc
 handler_act_gives_none b act fine = refl
 
-no_acts : (acts : List Act) (i : ℕ) (act : Act) → (length acts == 0) ≡ true → slice_get acts i ≡ Some act → ⊥
+pub no_acts : (acts : List Act) (i : ℕ) (act : Act) → (length acts == 0) ≡ true → slice_get acts i ≡ Some act → ⊥
 no_acts acts i act none at =
     let empty : length acts ≡ 0 = eqb-true (length acts) 0 none in
     let within : i < length acts = slice_get_within acts i act at in
@@ -199,7 +199,7 @@ source_handler plan obj b i act kind fields at =
     let all = (and_parts (list_all (λ a. is_handler_act a && is_act plan a) obj.handler) _ (and_parts (not obj.active) _ (and_parts (is_queue plan obj.target.0) _ fields).1).1).0 in
     handler_act_gives_none b act (and_parts (is_handler_act act) (is_act plan act) (list_all_place (λ a. is_handler_act a && is_act plan a) obj.handler i act all at)).0
 
-object_fields : (plan : PlanView) (k : ℕ) (obj : ObjView) → IsPlan plan → slice_get plan.objects k ≡ Some obj → has_fields plan obj.kind obj ≡ true
+pub object_fields : (plan : PlanView) (k : ℕ) (obj : ObjView) → IsPlan plan → slice_get plan.objects k ≡ Some obj → has_fields plan obj.kind obj ≡ true
 object_fields plan k obj valid at =
     (and_parts (has_path obj.kind obj.path) (has_fields plan obj.kind obj) (and_parts (is_kind obj.kind) _ (list_all_place (is_object plan) plan.objects k obj valid.objects at)).1).1
 
