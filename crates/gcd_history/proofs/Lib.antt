@@ -20,3 +20,4 @@ pub mod FreeAtStart
 pub mod Woken
 pub mod Walks
 pub mod OpenNodes
+pub mod TargetActs
