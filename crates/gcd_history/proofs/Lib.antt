@@ -21,3 +21,4 @@ pub mod Woken
 pub mod Walks
 pub mod OpenNodes
 pub mod TargetActs
+pub mod TreeStands
