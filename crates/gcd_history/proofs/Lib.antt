@@ -22,3 +22,4 @@ pub mod Walks
 pub mod OpenNodes
 pub mod TargetActs
 pub mod TreeStands
+pub mod RunsAlone

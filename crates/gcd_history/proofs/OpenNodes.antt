@@ -1,29 +1,29 @@
 -- The nodes of runs: they are queues or sources, and stay as they are.
-use Rattle.std.proofs.Common.{◌≡◌, ◌⊎◌, inl, inr, ⊎_elim, ℕ, ◌<◌, Bool, true, false, not, ◌&&◌, ◌||◌, cond, ◌==◌, leb, ltb, List, [], ◌∷◌, ◌++◌, length, Option, Some, None, is_some, is_none, find, option_and_then, option_map, refl, ap, sym, ◌∙◌, subst, arith}
+use Rattle.std.proofs.Common.{◌≡◌, ◌⊎◌, inl, inr, ⊎_elim, ℕ, Bool, true, false, not, ◌&&◌, cond, ◌==◌, List, [], ◌∷◌, ◌++◌, length, Option, Some, None, is_some, is_none, find, option_and_then, option_map, refl, ap, sym, ◌∙◌, subst}
 use Rattle.std.specs.List.{list_any, list_all, slice_get, flat_map, range_with_len}
 use Rattle.std.specs.Option.{option_map_or}
-use Rattle.std.proofs.lemmas.Bool.{eqb-true, eq-eqb, or_cases, or_left, or_right, and_parts, and_from, both_ways}
+use Rattle.std.proofs.lemmas.Bool.{eqb-true, eq-eqb, or_cases, or_left, or_right, and_parts, and_from}
 use Rattle.std.proofs.lemmas.Option.{same_Some}
 use Rattle.std.proofs.lemmas.List.Folds.{list_all-append}
-use Rattle.gcd_plan.specs.PlanView.{PlanView, ObjView, BlkView, kind_of, acts_of, cancel_block}
+use Rattle.gcd_plan.specs.PlanView.{PlanView, ObjView, kind_of, cancel_block}
 use Rattle.gcd_plan.specs.Kinds.{has_kind, is_queue, is_node, is_source, is_queue_kind, is_node_kind, is_source_kind, is_read_kind, is_group_kind}
-use Rattle.gcd_plan.specs.Validity.{IsPlan, is_act, is_block, is_work, is_handler_act, has_fields, is_submittable}
+use Rattle.gcd_plan.specs.Validity.{IsPlan, is_act, is_block, is_work, is_handler_act, has_fields}
 use Rattle.gcd_plan.specs.declared.act.Act.{Act}
-use Rattle.gcd_plan.specs.declared.act.Act.TheVariants.{Async, Barrier, Sync, BarrierSync, GroupAsync, Notify, Enter, Leave, GroupWait, Signal, Wait, Suspend, Resume, Activate, Target, Merge, Cancel, Retain, Release}
+use Rattle.gcd_plan.specs.declared.act.Act.TheVariants.{Async, Barrier, Sync, BarrierSync, GroupAsync, Notify, Cancel}
 use Rattle.gcd_plan.specs.declared.kind.Kind.{Kind}
-use Rattle.gcd_plan.specs.declared.kind.Kind.TheVariants.{Serial, Concurrent, Group, Semaphore, Add, Or, Timer, Read}
+use Rattle.gcd_plan.specs.declared.kind.Kind.TheVariants.{Serial, Concurrent, Group, Semaphore, Read}
 use Rattle.gcd_plan.specs.declared.names.Blk.{Blk}
 use Rattle.gcd_plan.specs.declared.names.Obj.{Obj}
 use Rattle.gcd_plan.specs.declared.names.Run.{Run}
 use Rattle.gcd_plan.specs.declared.names.Run.TheVariants.{Block, Source}
 use Rattle.gcd_event.specs.declared.event.Event.{Event}
-use Rattle.gcd_event.specs.declared.event.Event.TheVariants.{Start, Act as Acted, Wake, End, Deliver, DeliverEnd, Tick, Ready, FeedEnd, Misuse, Halt}
+use Rattle.gcd_event.specs.declared.event.Event.TheVariants.{Start, Act as Acted, Deliver, FeedEnd}
 use Rattle.gcd_history.specs.declared.submission.Submission.{Submission}
 use Rattle.gcd_history.specs.Runs.{same_run, opens, open_runs, is_open, act_at, act_of}
 use Rattle.gcd_history.specs.Groups.{count}
 use Rattle.gcd_history.specs.Submitted.{on_node, submitted_by, cancels, is_cancelled, cancelled_by, at_cancel, registered, notify_blocks, at_empty, submissions, submitted, submission_of}
 use Rattle.gcd_history.specs.Tree.{node_of, is_run_on, is_open_on}
-use Rattle.gcd_history.specs.Permitted.{IsLawful, is_known, is_worker, is_feed}
+use Rattle.gcd_history.specs.Permitted.{IsLawful, is_worker, is_feed}
 use Rattle.gcd_history.proofs.Lists.{list_all_place}
 use Rattle.gcd_history.proofs.RunsOpen.{closes, same_run-true, same_run-refl, is_open-step}
 use Rattle.gcd_history.proofs.Reasons.{allowed, at_start}
@@ -36,23 +36,23 @@ use Rattle.gcd_history.proofs.SubmittedOnce.{object_fields, no_acts}
 pub open_cases : (e : Event) (past : List Event) (run : Run) → is_open (e ∷ past) run ≡ true → (opens e run ≡ true) ⊎ (is_open past run ≡ true)
 open_cases e past run live =
     ⊎_elim (λ now. inl now) (λ old. inr (and_parts (not (closes e run)) (is_open past run) old).1)
-        (or_cases (opens e run) (not (closes e run) && is_open past run) (sym (is_open-step e past run) ∙ live))
+    (or_cases (opens e run) (not (closes e run) && is_open past run) (sym (is_open-step e past run) ∙ live))
 
 any_same : (test : Run → Bool) (q : Run) (runs : List Run) → list_any (same_run q) runs ≡ true → test q ≡ true → list_any test runs ≡ true
 any_same test q [] live h = cc
 any_same test q (r ∷ runs) live h =
     ⊎_elim
-        (λ here. or_left (test r) (list_any test runs) (ap test (sym (same_run-true q r here)) ∙ h))
-        (λ later. or_right (test r) (list_any test runs) (any_same test q runs later h))
-        (or_cases (same_run q r) (list_any (same_run q) runs) live)
+    (λ here. or_left (test r) (list_any test runs) (ap test (sym (same_run-true q r here)) ∙ h))
+    (λ later. or_right (test r) (list_any test runs) (any_same test q runs later h))
+    (or_cases (same_run q r) (list_any (same_run q) runs) live)
 
 same_any : (test : Run → Bool) (runs : List Run) → list_any test runs ≡ true → (q : Run) × (list_any (same_run q) runs ≡ true) × (test q ≡ true)
 same_any test [] h = cc
 same_any test (r ∷ runs) h =
     ⊎_elim
-        (λ here. (r, or_left (same_run r r) (list_any (same_run r) runs) (same_run-refl r), here))
-        (λ later. let found = same_any test runs later in (found.0, or_right (same_run found.0 r) (list_any (same_run found.0) runs) found.1, found.2))
-        (or_cases (test r) (list_any test runs) h)
+    (λ here. (r, or_left (same_run r r) (list_any (same_run r) runs) (same_run-refl r), here))
+    (λ later. let found = same_any test runs later in (found.0, or_right (same_run found.0 r) (list_any (same_run found.0) runs) found.1, found.2))
+    (or_cases (test r) (list_any test runs) h)
 
 -- an open run passes, so one of the open runs does
 pub any_open : (past : List Event) (test : Run → Bool) (q : Run) → is_open past q ≡ true → test q ≡ true → list_any test (open_runs past) ≡ true
@@ -101,8 +101,8 @@ node_kept_begun plan e past h (Block b) now = cc
 pub kind_implies : (p q : Kind → Bool) (plan : PlanView) (o : ℕ) → ((kind : Kind) → p kind ≡ true → q kind ≡ true) → has_kind p plan o ≡ true → has_kind q plan o ≡ true
 kind_implies p q plan o implies h =
     elim (kind_of plan o) as (λ k. option_map_or p k false ≡ true → option_map_or q k false ≡ true) [
-      None ↦ λ k. cc
-    | Some kind ↦ λ k. implies kind k
+      | None ↦ λ k. cc
+      | Some kind ↦ λ k. implies kind k
     ] h
 
 queue_kind_is_node : (kind : Kind) → is_queue_kind kind ≡ true → is_node_kind kind ≡ true
@@ -132,10 +132,10 @@ feed_is_node plan o h = kind_implies is_read_kind is_node_kind plan o read_kind_
 block_act : (plan : PlanView) (b : Blk) (i : ℕ) (act : Act) → IsPlan plan → act_at plan (Block b) i ≡ Some act → is_act plan act ≡ true
 block_act plan b i act valid at =
     elim (slice_get plan.blocks b.0) as (λ o. slice_get plan.blocks b.0 ≡ o → slice_get (option_map_or (λ blk. blk.acts) o []) i ≡ Some act → is_act plan act ≡ true) [
-      None ↦ λ none k. cc
-    | Some blk ↦ λ some k.
-      let fine = (and_parts (option_map_or (is_work plan) blk.work true) (list_all (is_act plan) blk.acts) (list_all_place (is_block plan) plan.blocks b.0 blk valid.blocks some)).1 in
-      list_all_place (is_act plan) blk.acts i act fine k
+      | None ↦ λ none k. cc
+      | Some blk ↦ λ some k.
+          let fine = (and_parts (option_map_or (is_work plan) blk.work true) (list_all (is_act plan) blk.acts) (list_all_place (is_block plan) plan.blocks b.0 blk valid.blocks some)).1 in
+          list_all_place (is_act plan) blk.acts i act fine k
     ] refl at
 
 handler_act_fits : (plan : PlanView) (obj : ObjView) (i : ℕ) (act : Act) (kind : Kind) → has_fields plan kind obj ≡ true → slice_get obj.handler i ≡ Some act → is_act plan act ≡ true
@@ -154,8 +154,8 @@ handler_act_fits plan obj i act kind fields at =
 source_act : (plan : PlanView) (s : Obj) (i : ℕ) (act : Act) → IsPlan plan → act_at plan (Source s) i ≡ Some act → is_act plan act ≡ true
 source_act plan s i act valid at =
     elim (slice_get plan.objects s.0) as (λ o. slice_get plan.objects s.0 ≡ o → slice_get (option_map_or (λ obj. obj.handler) o []) i ≡ Some act → is_act plan act ≡ true) [
-      None ↦ λ none k. cc
-    | Some obj ↦ λ some k. handler_act_fits plan obj i act obj.kind (object_fields plan s.0 obj valid some) k
+      | None ↦ λ none k. cc
+      | Some obj ↦ λ some k. handler_act_fits plan obj i act obj.kind (object_fields plan s.0 obj valid some) k
     ] refl at
 
 pub act_fits : (plan : PlanView) (run : Run) (i : ℕ) (act : Act) → IsPlan plan → act_at plan run i ≡ Some act → is_act plan act ≡ true
@@ -192,8 +192,8 @@ registered_fit plan g act h = refl
 of_recorded : (P : Option Act → Bool) (plan : PlanView) (e : Event) → IsPlan plan → P None ≡ true → ((act : Act) → is_act plan act ≡ true → P (Some act) ≡ true) → P (act_of plan e) ≡ true
 of_recorded P plan e valid none some =
     elim (act_of plan e) as (λ o. act_of plan e ≡ o → P o ≡ true) [
-      None ↦ λ k. none
-    | Some act ↦ λ k. some act (recorded_fits plan e act valid k)
+      | None ↦ λ k. none
+      | Some act ↦ λ k. some act (recorded_fits plan e act valid k)
     ] refl
 
 both_fit : (plan : PlanView) (xs ys : List Submission) → list_all (on_a_node plan) xs ≡ true → list_all (on_a_node plan) ys ≡ true → list_all (on_a_node plan) (xs ++ ys) ≡ true
@@ -202,7 +202,7 @@ both_fit plan xs ys h k = list_all-append (on_a_node plan) xs ys ∙ and_from (l
 notify_and_new : (plan : PlanView) (past : List Event) (e : Event) (g : ℕ) → IsPlan plan → list_all (on_a_node plan) (notify_blocks plan past g) ≡ true → list_all (on_a_node plan) (notify_blocks plan past g ++ registered g (act_of plan e)) ≡ true
 notify_and_new plan past e g valid old =
     both_fit plan (notify_blocks plan past g) (registered g (act_of plan e)) old
-        (of_recorded (λ o. list_all (on_a_node plan) (registered g o)) plan e valid refl (registered_fit plan g))
+    (of_recorded (λ o. list_all (on_a_node plan) (registered g o)) plan e valid refl (registered_fit plan g))
 
 notify_fit : (plan : PlanView) (past : List Event) (g : ℕ) → IsPlan plan → list_all (on_a_node plan) (notify_blocks plan past g) ≡ true
 notify_fit plan [] g valid = refl
@@ -230,20 +230,20 @@ cancels_node plan past (FeedEnd t) s valid h now =
     subst (λ o. is_node plan o.0 ≡ true) (same_Some t s now) (feed_is_node plan t.0 (allowed plan past (FeedEnd t) h.1).known)
 cancels_node plan past (Acted w r i) s valid h now =
     elim (act_at plan r i) as (λ o. act_at plan r i ≡ o → cancelled_by o ≡ Some s → is_node plan s.0 ≡ true) [
-      None ↦ λ none k. cc
-    | Some act ↦ λ some k. cancel_act_node plan act s (act_fits plan r i act valid some) k
+      | None ↦ λ none k. cc
+      | Some act ↦ λ some k. cancel_act_node plan act s (act_fits plan r i act valid some) k
     ] refl now
 cancels_node plan past e s valid h now = cc
 
 cancel_fit : (plan : PlanView) (past : List Event) (e : Event) → IsPlan plan → IsLawful plan (e ∷ past) → list_all (on_a_node plan) (at_cancel plan past (cancels plan e)) ≡ true
 cancel_fit plan past e valid h =
     elim (cancels plan e) as (λ o. cancels plan e ≡ o → list_all (on_a_node plan) (at_cancel plan past o) ≡ true) [
-      None ↦ λ none. refl
-    | Some s ↦ λ now. elim (is_cancelled plan past s.0) as (λ v. list_all (on_a_node plan) (cond v [] (option_map_or (λ b. on_node s b false) (cancel_block plan s.0) [])) ≡ true) [
-        true ↦ refl
-      | false ↦ elim (cancel_block plan s.0) as (λ o. list_all (on_a_node plan) (option_map_or (λ b. on_node s b false) o []) ≡ true) [
-          None ↦ refl
-        | Some b ↦ one_fits plan s b false (cancels_node plan past e s valid h now)
+      | None ↦ λ none. refl
+      | Some s ↦ λ now. elim (is_cancelled plan past s.0) as (λ v. list_all (on_a_node plan) (cond v [] (option_map_or (λ b. on_node s b false) (cancel_block plan s.0) [])) ≡ true) [
+        | true ↦ refl
+        | false ↦ elim (cancel_block plan s.0) as (λ o. list_all (on_a_node plan) (option_map_or (λ b. on_node s b false) o []) ≡ true) [
+          | None ↦ refl
+          | Some b ↦ one_fits plan s b false (cancels_node plan past e s valid h now)
         ]
       ]
     ] refl
@@ -254,23 +254,23 @@ submitted_fit plan (e ∷ past) valid h =
     let fired = flat_map (at_empty plan past e) (range_with_len 0 (length plan.objects)) in
     let own = of_recorded (λ o. list_all (on_a_node plan) (submitted_by o)) plan e valid refl (own_fit plan) in
     both_fit plan (submitted plan past) (submissions plan past e) (submitted_fit plan past valid h.0)
-        (both_fit plan (submitted_by (act_of plan e) ++ at_cancel plan past (cancels plan e)) fired
-            (both_fit plan (submitted_by (act_of plan e)) (at_cancel plan past (cancels plan e)) own (cancel_fit plan past e valid h))
-            (all_fired_fit plan past e (range_with_len 0 (length plan.objects)) valid))
+    (both_fit plan (submitted_by (act_of plan e) ++ at_cancel plan past (cancels plan e)) fired
+    (both_fit plan (submitted_by (act_of plan e)) (at_cancel plan past (cancels plan e)) own (cancel_fit plan past e valid h))
+    (all_fired_fit plan past e (range_with_len 0 (length plan.objects)) valid))
 
 found_fits : (plan : PlanView) (p : Submission → Bool) (xs : List Submission) (n : ℕ) → list_all (on_a_node plan) xs ≡ true → option_map (λ o. o.0) (option_and_then (λ s. s.node) (find p xs)) ≡ Some n → is_node plan n ≡ true
 found_fits plan p [] n all is = cc
 found_fits plan p (s ∷ xs) n all is =
     let parts = and_parts (on_a_node plan s) (list_all (on_a_node plan) xs) all in
     elim (p s) as (λ v. option_map (λ o. o.0) (option_and_then (λ t. t.node) (cond v (Some s) (find p xs))) ≡ Some n → is_node plan n ≡ true) [
-      true ↦ λ k. elim s.node as (λ o. option_map_or (λ q. is_node plan q.0) o true ≡ true → option_map (λ q. q.0) o ≡ Some n → is_node plan n ≡ true) [
-          None ↦ λ a b. cc
+      | true ↦ λ k. elim s.node as (λ o. option_map_or (λ q. is_node plan q.0) o true ≡ true → option_map (λ q. q.0) o ≡ Some n → is_node plan n ≡ true) [
+        | None ↦ λ a b. cc
         | Some q ↦ λ a b. subst (λ m. is_node plan m ≡ true) (same_Some q.0 n b) a
-        ] parts.0 k
-    | false ↦ λ k. found_fits plan p xs n parts.1 k
+      ] parts.0 k
+      | false ↦ λ k. found_fits plan p xs n parts.1 k
     ] is
 
-begun_source : (plan : PlanView) (past : List Event) (e : Event) (s : Obj) → IsLawful plan (e ∷ past) → opens e (Source s) ≡ true → is_source plan s.0 ≡ true
+pub begun_source : (plan : PlanView) (past : List Event) (e : Event) (s : Obj) → IsLawful plan (e ∷ past) → opens e (Source s) ≡ true → is_source plan s.0 ≡ true
 begun_source plan past (Deliver w t) s h now =
     subst (λ n. is_source plan n ≡ true) (eqb-true t.0 s.0 now) (and_parts (is_worker w) (is_source plan t.0) (allowed plan past (Deliver w t) h.1).known).1
 begun_source plan past e s h now = cc

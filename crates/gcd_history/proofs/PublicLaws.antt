@@ -1,22 +1,27 @@
 -- The laws over histories in order, from those by recursion.
-use Rattle.std.proofs.Common.{◌≡◌, ℕ, ◌≤◌, ◌==◌, true, List, take, drop, ◌++◌, ⊎_elim, reverse, Some, is_some, count_by, ap, sym, ◌∙◌, subst, arith}
+use Rattle.std.proofs.Common.{◌≡◌, ℕ, zero, suc, ◌+◌, ◌-◌, ◌<◌, ◌≤◌, ◌==◌, true, List, [], ◌∷◌, length, take, drop, ◌++◌, ⊎_elim, reverse, Some, None, is_some, refl, count_by, ap, sym, ◌∙◌, subst, arith}
 use Rattle.std.proofs.lemmas.Bool.{eqb-true}
-use Rattle.std.proofs.lemmas.List.{take-append-drop, reverse-append}
-use Rattle.std.proofs.lemmas.Option.{none-some}
+use Rattle.std.proofs.lemmas.List.{take-append-drop, reverse-append, take_all}
+use Rattle.std.specs.Bool.{IsTrue}
+use Rattle.std.specs.List.{slice_get}
+use Rattle.std.proofs.lemmas.Option.{none-some, slice_get_within, get_or_from_slice_get}
 use Rattle.gcd_plan.specs.PlanView.{PlanView}
 use Rattle.gcd_plan.specs.Validity.{IsPlan}
+use Rattle.gcd_plan.specs.Chains.{chain_by, is_in}
+use Rattle.gcd_plan.specs.declared.names.Run.{Run}
 use Rattle.gcd_plan.specs.declared.names.Run.TheVariants.{Block}
 use Rattle.gcd_event.specs.declared.event.Event.{Event}
 use Rattle.gcd_event.specs.declared.event.Event.TheVariants.{Start, Wake, Deliver}
-use Rattle.gcd_history.specs.Runs.{starts, ends, is_ended as is_ended_after}
+use Rattle.gcd_history.specs.Runs.{starts, ends, is_ended as is_ended_after, is_open as is_open_after}
+use Rattle.gcd_history.specs.Tree.{target, chain_of_run}
 use Rattle.gcd_history.specs.Submitted.{submitted, submission_of}
 use Rattle.gcd_history.specs.Parked.{reason, is_parked, has_come as has_come_after}
 use Rattle.gcd_history.specs.Permitted.{IsLawful as IsLawfulAfter}
-use Rattle.gcd_history.specs.History.{why, IsLawful, is_started, is_submitted, submissions_of, is_free, nodes_of_run, reason_of, has_come, received_of, pending_of, merged_of}
+use Rattle.gcd_history.specs.History.{why, IsLawful, is_started, is_submitted, submissions_of, is_free, nodes_of_run, reason_of, has_come, received_of, pending_of, merged_of, is_open, is_active, chain_of, node_of_run, is_barrier_of}
 use Rattle.gcd_history.specs.Ends.{IsDrained, all_ended}
-use Rattle.gcd_history.specs.Laws.{RunsOnce, StartsAfterSubmission, AllEndOnce, IsSubmittedOnce, StartsInOrder, BeginsFree, WakesHaveCause, NoneParked, WaitsHavePassed, IsConserved}
-use Rattle.gcd_history.proofs.Lists.{count_by-reverse, some_counted, found_passes}
-use Rattle.gcd_history.proofs.LawfulLemmas.{lawful_after}
+use Rattle.gcd_history.specs.Laws.{RunsOnce, StartsAfterSubmission, AllEndOnce, IsSubmittedOnce, StartsInOrder, BeginsFree, WakesHaveCause, NoneParked, WaitsHavePassed, IsConserved, RunsExclude, BarriersExclude, TreeStands}
+use Rattle.gcd_history.proofs.Lists.{count_by-reverse, some_counted, found_passes, past_more}
+use Rattle.gcd_history.proofs.LawfulLemmas.{lawful_after, lawful_take}
 use Rattle.gcd_history.proofs.Reasons.{at_start, at_wake}
 use Rattle.gcd_history.proofs.StartedOnce.{started_once, ended_once, some_kept}
 use Rattle.gcd_history.proofs.SubmittedOnce.{submitted_once}
@@ -24,6 +29,14 @@ use Rattle.gcd_history.proofs.InOrder.{starts_in_order as starts_in_order_after}
 use Rattle.gcd_history.proofs.FreeAtStart.{start_begins_alone, deliver_begins_alone}
 use Rattle.gcd_history.proofs.Woken.{came, none_parked, parked_on}
 use Rattle.gcd_history.proofs.Merged.{conserved}
+use Rattle.gcd_history.proofs.RunsAlone.{runs_alone, barriers_alone}
+use Rattle.gcd_history.proofs.TreeStands.{stands, chain_step}
+use Rattle.gcd_history.proofs.Walks.{reaches-in}
+
+none_past : {X : Type 0} → (xs : List X) (i : ℕ) → slice_get xs i ≡ None → length xs ≤ i
+none_past [] i h = omega arith
+none_past (x ∷ xs) zero h = cc
+none_past (x ∷ xs) (suc i) h = let rest = none_past xs i h in omega arith
 
 pub runs_once : (plan : PlanView) (h : List Event) → IsLawful plan h → RunsOnce h
 runs_once plan h lawful =
@@ -101,3 +114,46 @@ waits_have_passed plan h lawful drained i b r is =
 pub is_conserved : (plan : PlanView) (h : List Event) → IsConserved plan h
 unfolding received_of pending_of merged_of
 is_conserved plan h s = conserved plan (reverse h) s
+
+pub runs_exclude : (plan : PlanView) (h : List Event) → IsPlan plan → IsLawful plan h → RunsExclude plan h
+unfolding is_open nodes_of_run
+runs_exclude plan h valid lawful i o r q exclusive r_on q_on r_in q_in =
+    runs_alone plan (reverse (take i h)) valid (lawful_after plan (take i h) (lawful_take plan h i lawful)) o r q exclusive r_on q_on r_in q_in
+
+pub barriers_exclude : (plan : PlanView) (h : List Event) → IsLawful plan h → BarriersExclude plan h
+unfolding is_open is_barrier_of node_of_run
+barriers_exclude plan h lawful i n r q has r_on q_on barrier node =
+    barriers_alone plan (reverse (take i h)) (lawful_after plan (take i h) (lawful_take plan h i lawful)) n r q has r_on q_on barrier node
+
+-- where place i has no event, one event more is none more
+no_more : (h : List Event) (i : ℕ) → length h ≤ i → take (i + 1) h ≡ take i h
+no_more h i past = take_all (i + 1) h (omega arith) ∙ sym (take_all i h past)
+
+chain_at : (plan : PlanView) (h : List Event) → IsPlan plan → IsLawful plan h → (i : ℕ) (run : Run) → IsTrue (is_open (take i h) run) → IsTrue (is_open (take (i + 1) h) run) → nodes_of_run plan (take (i + 1) h) run ≡ nodes_of_run plan (take i h) run
+unfolding is_open nodes_of_run
+chain_at plan h valid lawful i run before now =
+    elim (slice_get h i) as (λ o. slice_get h i ≡ o → chain_of_run plan (reverse (take (i + 1) h)) run ≡ chain_of_run plan (reverse (take i h)) run) [
+      | None ↦ λ none. ap (λ l. chain_of_run plan (reverse l) run) (no_more h i (none_past h i none))
+      | Some e ↦ λ some.
+          let within : i < length h = slice_get_within h i e some in
+          let turned : reverse (take (i + 1) h) ≡ e ∷ reverse (take i h) = past_more h i e within ∙ ap (λ d. d ∷ reverse (take i h)) (get_or_from_slice_get h i e e some) in
+          let whole : IsLawfulAfter plan (e ∷ reverse (take i h)) = subst (IsLawfulAfter plan) turned (lawful_after plan (take (i + 1) h) (lawful_take plan h (i + 1) lawful)) in
+          let on : is_open_after (e ∷ reverse (take i h)) run ≡ true = subst (λ l. is_open_after l run ≡ true) turned now in
+          ap (λ l. chain_of_run plan l run) turned ∙ chain_step plan e (reverse (take i h)) (valid, whole, stands plan (reverse (take i h)) valid whole.0) run before on
+    ] refl
+
+active_at : (plan : PlanView) (h : List Event) → IsPlan plan → IsLawful plan h → (i o : ℕ) (run : Run) → IsTrue (is_open (take i h) run) → IsTrue (is_in o (nodes_of_run plan (take i h) run)) → IsTrue (is_active plan (take i h) o)
+unfolding is_open nodes_of_run is_active
+active_at plan h valid lawful i o run live inside =
+    (stands plan (reverse (take i h)) valid (lawful_after plan (take i h) (lawful_take plan h i lawful))).active o run live inside
+
+rooted_at : (plan : PlanView) (h : List Event) → IsPlan plan → IsLawful plan h → (i o : ℕ) → o < length plan.objects → IsTrue (is_in 0 (chain_of plan (take i h) o))
+unfolding chain_of
+rooted_at plan h valid lawful i o within =
+    let past = reverse (take i h) in
+    let goal = (stands plan past valid (lawful_after plan (take i h) (lawful_take plan h i lawful))).rooted o within in
+    let one : suc (length plan.objects - 1) ≡ length plan.objects = omega arith in
+    subst (λ k. is_in 0 (chain_by (target plan past) k o) ≡ true) one (reaches-in (target plan past) (length plan.objects - 1) o ∙ goal)
+
+pub tree_stands : (plan : PlanView) (h : List Event) → IsPlan plan → IsLawful plan h → TreeStands plan h
+tree_stands plan h valid lawful = record { kept = chain_at plan h valid lawful; active = active_at plan h valid lawful; rooted = rooted_at plan h valid lawful }

@@ -1,30 +1,29 @@
 -- What is known where a target act is no misuse, and which targets an event leaves.
-use Rattle.std.proofs.Common.{◌≡◌, ◌⊎◌, inl, inr, ⊎_elim, ℕ, ◌<◌, Bool, true, false, not, ◌&&◌, ◌||◌, cond, ◌==◌, List, [], ◌∷◌, length, Option, Some, None, is_some, option_and_then, unwrap_or, refl, ap, sym, ◌∙◌, subst, arith}
+use Rattle.std.proofs.Common.{◌≡◌, ⊎_elim, ℕ, Bool, true, false, not, ◌&&◌, ◌==◌, List, [], ◌∷◌, length, Some, None, is_some, option_and_then, unwrap_or, refl, ap, sym, ◌∙◌, subst}
 use Rattle.std.specs.List.{list_any}
 use Rattle.std.specs.Option.{option_map_or}
-use Rattle.std.proofs.lemmas.Bool.{eqb-true, eq-eqb, or_left, and_from, not-true, not-false, both_ways, cases_eq, cases_Bool, ne_eqb, and_cases}
-use Rattle.std.proofs.lemmas.Option.{same_Some}
+use Rattle.std.proofs.lemmas.Bool.{eq-eqb, or_left, and_from, not-false, both_ways, cases_eq, ne_eqb, and_cases}
 use Rattle.gcd_plan.specs.PlanView.{PlanView, starts_active}
 use Rattle.gcd_plan.specs.Kinds.{is_queue, is_node, is_node_kind}
-use Rattle.gcd_plan.specs.Chains.{chain_by, is_in}
+use Rattle.gcd_plan.specs.Chains.{is_in}
 use Rattle.gcd_plan.specs.Validity.{IsPlan}
 use Rattle.gcd_plan.specs.declared.act.Act.{Act}
 use Rattle.gcd_plan.specs.declared.act.Act.TheVariants.{Target}
 use Rattle.gcd_plan.specs.declared.names.Obj.{Obj}
 use Rattle.gcd_plan.specs.declared.names.Run.{Run}
 use Rattle.gcd_event.specs.declared.event.Event.{Event}
-use Rattle.gcd_event.specs.declared.event.Event.TheVariants.{Start, Act as Acted, Wake, End, Deliver, DeliverEnd, Tick, Ready, FeedEnd, Misuse, Halt}
+use Rattle.gcd_event.specs.declared.event.Event.TheVariants.{Act as Acted}
 use Rattle.gcd_history.specs.Runs.{act_at, act_of, is_open}
-use Rattle.gcd_history.specs.Tree.{Aim, aim, aim_after, asked, settled, target, is_moving, next_on_walk, node_of, chain, chain_of_run, is_open_on, would_cycle, aims_at, has_child}
+use Rattle.gcd_history.specs.Tree.{Aim, aim, aim_after, asked, target, is_moving, next_on_walk, node_of, chain, chain_of_run, is_open_on, would_cycle, aims_at, has_child}
 use Rattle.gcd_history.specs.Holds.{is_active}
-use Rattle.gcd_history.specs.Misuses.{first_code, is_released, named, act_misuses, misuse}
+use Rattle.gcd_history.specs.Misuses.{first_code, is_released, named, misuse}
 use Rattle.gcd_history.specs.Permitted.{IsLawful, misuse_at}
 use Rattle.gcd_history.proofs.Lists.{any_in_range}
 use Rattle.gcd_history.proofs.RunsOpen.{closes}
 use Rattle.gcd_history.proofs.Reasons.{at_act}
 use Rattle.gcd_history.proofs.Woken.{open_kept}
 use Rattle.gcd_history.proofs.Fitting.{has_object}
-use Rattle.gcd_history.proofs.Walks.{Child, child_in, all_in}
+use Rattle.gcd_history.proofs.Walks.{child_in, all_in}
 use Rattle.gcd_history.proofs.OpenNodes.{open_on_from, open_on_to, node_kept_open, open_node, queue_is_node}
 
 -- ## No misuse
@@ -61,13 +60,13 @@ at_target plan past w r i p t h at = no_misuse plan past p t (no_misuse_at plan 
 pub no_child : (plan : PlanView) (past : List Event) (o t : ℕ) → TargetFacts plan past o t → is_active plan past o ≡ true → has_child plan past o ≡ false
 no_child plan past o t facts active =
     let made : starts_active plan o ≡ true = ⊎_elim
-        (λ idle. not-false (starts_active plan o) idle)
-        (λ other. absurd (both_ways (is_active plan past o) other active))
-        (and_cases (not (starts_active plan o)) (is_active plan past o) facts.still) in
+    (λ idle. not-false (starts_active plan o) idle)
+    (λ other. absurd (both_ways (is_active plan past o) other active))
+    (and_cases (not (starts_active plan o)) (is_active plan past o) facts.still) in
     ⊎_elim
-        (λ other. absurd (both_ways (starts_active plan o) other made))
-        (λ none. none)
-        (and_cases (starts_active plan o) (has_child plan past o) facts.childless)
+    (λ other. absurd (both_ways (starts_active plan o) other made))
+    (λ none. none)
+    (and_cases (starts_active plan o) (has_child plan past o) facts.childless)
 
 -- ## Who aims at an object
 
@@ -78,7 +77,7 @@ child_found plan past p o low other node at =
     let one : not (p == 0) ≡ true = ap not (ne_eqb p 0 low) in
     let two : not (p == o) ≡ true = ap not (ne_eqb p o other) in
     any_in_range (λ q. not (q == 0) && (is_node plan q && (not (q == o) && aims_at plan past q o))) (length plan.objects) p (has_object is_node_kind plan p node)
-        (and_from (not (p == 0)) _ one (and_from (is_node plan p) _ node (and_from (not (p == o)) (aims_at plan past p o) two aims)))
+    (and_from (not (p == 0)) _ one (and_from (is_node plan p) _ node (and_from (not (p == o)) (aims_at plan past p o) two aims)))
 
 -- the nodes of a run whose node is n are the chain of n
 pub nodes_at : (plan : PlanView) (past : List Event) (q : Run) (n : ℕ) → node_of plan past q ≡ Some n → chain_of_run plan past q ≡ chain plan past n
@@ -88,8 +87,8 @@ nodes_at plan past q n node = ap (λ o. option_map_or (chain plan past) o []) no
 pub node_beneath : (plan : PlanView) (past : List Event) (q : Run) (o : ℕ) → is_in o (chain_of_run plan past q) ≡ true → (n : ℕ) × (node_of plan past q ≡ Some n) × (is_in o (chain plan past n) ≡ true)
 node_beneath plan past q o inside =
     elim (node_of plan past q) as (λ k. node_of plan past q ≡ k → is_in o (option_map_or (chain plan past) k []) ≡ true → (n : ℕ) × (node_of plan past q ≡ Some n) × (is_in o (chain plan past n) ≡ true)) [
-      None ↦ λ none h. cc
-    | Some n ↦ λ some h. (n, some, h)
+      | None ↦ λ none h. cc
+      | Some n ↦ λ some h. (n, some, h)
     ] refl inside
 
 -- a run that is beneath a childless object is on it
@@ -99,12 +98,12 @@ on_it plan past q o valid h queues live inside none =
     let at = node_beneath plan past q o inside in
     let node : is_node plan at.0 ≡ true = open_node plan past q at.0 valid h live at.1 in
     ⊎_elim
-        (λ same. subst (λ m. node_of plan past q ≡ Some m) same at.1)
-        (λ other.
-            let c = child_in (target plan past) (length plan.objects) at.0 o at.2 other in
-            let child_node : is_node plan c.child ≡ true = all_in (is_node plan) (target plan past) (length plan.objects) at.0 c.child node (λ m. queue_is_node plan (target plan past m) (queues m)) c.inside in
-            absurd (both_ways (has_child plan past o) none (child_found plan past c.child o c.below_root c.other child_node c.parent)))
-        (cases_eq at.0 o)
+    (λ same. subst (λ m. node_of plan past q ≡ Some m) same at.1)
+    (λ other.
+    let c = child_in (target plan past) (length plan.objects) at.0 o at.2 other in
+    let child_node : is_node plan c.child ≡ true = all_in (is_node plan) (target plan past) (length plan.objects) at.0 c.child node (λ m. queue_is_node plan (target plan past m) (queues m)) c.inside in
+    absurd (both_ways (has_child plan past o) none (child_found plan past c.child o c.below_root c.other child_node c.parent)))
+    (cases_eq at.0 o)
 
 -- ## What an event leaves
 
@@ -129,6 +128,6 @@ aim_unasked plan e past o none on =
 pub walk_unasked : (plan : PlanView) (past : List Event) (m : ℕ) → (next_on_walk plan past m ≡ target plan past m → ⊥) → is_moving plan past m ≡ true
 walk_unasked plan past m differs =
     elim (aim plan past m).request as (λ o. (unwrap_or o (target plan past m) ≡ target plan past m → ⊥) → is_some o ≡ true) [
-      None ↦ λ k. absurd (k refl)
-    | Some t ↦ λ k. refl
+      | None ↦ λ k. absurd (k refl)
+      | Some t ↦ λ k. refl
     ] differs

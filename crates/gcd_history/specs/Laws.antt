@@ -1,7 +1,9 @@
 -- What holds of every lawful history, the oldest event first.
-use Rattle.std.specs.Prelude.{◌≡◌, ◌≤◌, ℕ, ◌==◌, true, false, List, take, Some, None, slice_get, count_by, IsTrue, AllPairs}
+use Rattle.std.specs.Prelude.{◌≡◌, ◌≤◌, ◌<◌, ◌+◌, length, ℕ, ◌==◌, true, false, List, take, Some, None, slice_get, count_by, IsTrue, AllPairs}
 use Rattle.gcd_plan.specs.PlanView.{PlanView}
 use Rattle.gcd_plan.specs.Chains.{is_in}
+use Rattle.gcd_plan.specs.Kinds.{is_exclusive, has_barriers}
+use Rattle.gcd_plan.specs.declared.names.Run.{Run}
 use Rattle.gcd_plan.specs.declared.names.Blk.{Blk}
 use Rattle.gcd_plan.specs.declared.names.Obj.{Obj}
 use Rattle.gcd_plan.specs.declared.names.Run.TheVariants.{Block, Source}
@@ -11,7 +13,7 @@ use Rattle.gcd_event.specs.declared.event.Event.TheVariants.{Start, Wake, Delive
 use Rattle.gcd_history.specs.declared.submission.Submission.{Submission}
 use Rattle.gcd_history.specs.Runs.{starts, ends}
 use Rattle.gcd_history.specs.Permitted.{is_on}
-use Rattle.gcd_history.specs.History.{is_started, is_submitted, submissions_of, nodes_of_run, is_free, reason_of, has_come, received_of, pending_of, merged_of}
+use Rattle.gcd_history.specs.History.{is_started, is_submitted, submissions_of, nodes_of_run, is_free, reason_of, has_come, received_of, pending_of, merged_of, is_open, is_active, chain_of, node_of_run, is_barrier_of}
 use Rattle.gcd_history.specs.Sources.{joined}
 
 -- each block starts at most once, and ends at most once (dispatch_async(3))
@@ -71,3 +73,24 @@ WaitsHavePassed plan h = (i b : ℕ) (reason : Reason) → reason_of plan (take 
 -- what the Delivers of each source handed over, with what is pending, is all that it was given (dispatch_source_merge_data(3))
 abbrev pub IsConserved : PlanView → List Event → Type 0
 IsConserved plan h = (s : ℕ) → joined plan s (received_of plan h s) (pending_of plan h s) ≡ merged_of plan h s
+
+-- runs that are open at one position beneath one serial queue or source are one run (dispatch_queue_create(3),
+-- dispatch_set_target_queue(3))
+abbrev pub RunsExclude : PlanView → List Event → Type 0
+RunsExclude plan h =
+    (i o : ℕ) (r q : Run) → IsTrue (is_exclusive plan o) → IsTrue (is_open (take i h) r) → IsTrue (is_open (take i h) q)
+    → IsTrue (is_in o (nodes_of_run plan (take i h) r)) → IsTrue (is_in o (nodes_of_run plan (take i h) q)) → r ≡ q
+
+-- a barrier of a concurrent queue other than root and a run of that queue that are open at one position are one run
+-- (dispatch_barrier_async(3))
+abbrev pub BarriersExclude : PlanView → List Event → Type 0
+BarriersExclude plan h =
+    (i n : ℕ) (r q : Run) → IsTrue (has_barriers plan n) → IsTrue (is_open (take i h) r) → IsTrue (is_open (take i h) q)
+    → IsTrue (is_barrier_of plan (take i h) n r) → node_of_run plan (take i h) q ≡ Some n → r ≡ q
+
+-- while a run is open the chain of its node does not change, and each object of it is active; and following the targets from
+-- any object ends at root (dispatch_set_target_queue(3), dispatch_activate(3))
+pub record TreeStands (plan : PlanView) (h : List Event) : Type 0 where
+  pub kept : (i : ℕ) (run : Run) → IsTrue (is_open (take i h) run) → IsTrue (is_open (take (i + 1) h) run) → nodes_of_run plan (take (i + 1) h) run ≡ nodes_of_run plan (take i h) run
+  pub active : (i o : ℕ) (run : Run) → IsTrue (is_open (take i h) run) → IsTrue (is_in o (nodes_of_run plan (take i h) run)) → IsTrue (is_active plan (take i h) o)
+  pub rooted : (i o : ℕ) → o < length plan.objects → IsTrue (is_in 0 (chain_of plan (take i h) o))

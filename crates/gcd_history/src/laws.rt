@@ -5,7 +5,7 @@ ghost use Rattle.gcd_plan.specs.Validity.{IsPlan};
 ghost use Rattle.gcd_event.specs.declared.event.Event.{Event};
 ghost use Rattle.gcd_history.specs.History.{IsLawful};
 ghost use Rattle.gcd_history.specs.Ends.{IsDrained};
-ghost use Rattle.gcd_history.specs.Laws.{RunsOnce, StartsAfterSubmission, AllEndOnce, IsSubmittedOnce, StartsInOrder, BeginsFree, WakesHaveCause, NoneParked, WaitsHavePassed, IsConserved};
+ghost use Rattle.gcd_history.specs.Laws.{RunsOnce, StartsAfterSubmission, AllEndOnce, IsSubmittedOnce, StartsInOrder, BeginsFree, WakesHaveCause, NoneParked, WaitsHavePassed, IsConserved, RunsExclude, BarriersExclude, TreeStands};
 
 /// Each block starts at most once, after its submission, and ends at most once; where the run is drained each submitted
 /// block has ended exactly once (dispatch_async(3)).
@@ -23,6 +23,17 @@ pub fn blocks_are_submitted_once()
 /// Of two submissions on one node the later starts only after the earlier has started (dispatch_queue_create(3)).
 pub fn blocks_start_in_order()
     ensures { (plan : PlanView) (h : List Event) → IsPlan plan → IsLawful plan h → StartsInOrder plan h }
+{}
+
+/// No two different runs that are open at one position lie beneath one serial queue or source there (dispatch_queue_create(3),
+/// dispatch_set_target_queue(3)).
+pub fn runs_exclude_each_other()
+    ensures { (plan : PlanView) (h : List Event) → IsPlan plan → IsLawful plan h → RunsExclude plan h }
+{}
+
+/// No run of a concurrent queue other than root overlaps a barrier of that queue (dispatch_barrier_async(3)).
+pub fn barriers_exclude()
+    ensures { (plan : PlanView) (h : List Event) → IsLawful plan h → BarriersExclude plan h }
 {}
 
 /// At a block's Start and at a Deliver each object of the chain is active, with hold 0, and its target is not about to change
@@ -43,4 +54,10 @@ pub fn wakes_have_causes()
 /// What the Delivers of a source handed over, with what is pending, is all that it was given (dispatch_source_merge_data(3)).
 pub fn merged_data_is_conserved()
     ensures { (plan : PlanView) (h : List Event) → IsConserved plan h }
+{}
+
+/// While a run is open the chain of its node does not change and each object of it is active, and following targets from any
+/// object ends at root (dispatch_set_target_queue(3), dispatch_activate(3)).
+pub fn tree_stands_under_open_runs()
+    ensures { (plan : PlanView) (h : List Event) → IsPlan plan → IsLawful plan h → TreeStands plan h }
 {}
