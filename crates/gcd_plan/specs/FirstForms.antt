@@ -1,6 +1,6 @@
 -- The plans that scripts of the first forms make: serial queues on root, blocks that submit blocks to them, and works
 -- that count the lines of a whole file.
-use Rattle.std.specs.Prelude.{◌≡◌, ℕ, ◌==◌, nat_lt, Bool, true, false, ◌&&◌, List, [], ◌∷◌, length, Option}
+use Rattle.std.specs.Prelude.{◌≡◌, ◌==◌, Bool, true, false, ◌&&◌, List, [], ◌∷◌}
 use Rattle.std.specs.Option.{option_map_or}
 use Rattle.std.specs.List.{list_all}
 use Rattle.gcd_plan.specs.PlanView.{PlanView, ObjView, BlkView}

@@ -1,5 +1,5 @@
 -- A plan as its readers see it: plain lists by number.
-use Rattle.std.specs.Prelude.{ℕ, ◌<◌, Bool, false, List, [], length, map, Option, None, slice_get, option_map, unwrap_or, string_bytes}
+use Rattle.std.specs.Prelude.{ℕ, ◌<◌, Bool, false, List, [], length, map, Option, slice_get, option_map, string_bytes}
 use Rattle.std.specs.Option.{option_map_or, option_and_then}
 use Rattle.gcd_plan.specs.declared.act.Act.{Act}
 use Rattle.gcd_plan.specs.declared.names.Blk.{Blk}

@@ -1,6 +1,6 @@
 -- When a waiting block may start, and a handler may run, over plain data: whatever tells which objects are free, which
 -- exclude, and beneath which a run is open (dispatch_async(3), dispatch_suspend(3), dispatch_barrier_async(3)).
-use Rattle.std.specs.Prelude.{ℕ, Bool, true, false, not, ◌&&◌, ◌||◌, if◌then◌else◌, List, [], ◌∷◌, Option, Some, None}
+use Rattle.std.specs.Prelude.{ℕ, Bool, not, ◌&&◌, ◌||◌, if◌then◌else◌, List, [], ◌∷◌, Option, Some, None}
 use Rattle.std.specs.List.{list_any}
 use Rattle.gcd_plan.specs.declared.why.Why.{Why}
 use Rattle.gcd_plan.specs.declared.why.Why.TheVariants.{Behind, NotFree, Excluded, Fenced}

@@ -1,10 +1,10 @@
 -- Which lists are a plan: kinds, ranges and names fit, each block is submitted at most once, targets lead to root.
-use Rattle.std.specs.Prelude.{◌≡◌, ℕ, ◌+◌, ◌≤◌, ◌<◌, ◌==◌, nat_le, nat_lt, Bool, true, false, not, ◌&&◌, List, [], ◌∷◌, ◌++◌, length, map, Option, Some, None, count_by, sum_by, slice_get, option_to_list, codes, is_none}
+use Rattle.std.specs.Prelude.{◌≡◌, ℕ, ◌+◌, ◌≤◌, ◌<◌, ◌==◌, nat_le, nat_lt, Bool, true, false, not, ◌&&◌, List, [], ◌++◌, length, map, Option, Some, None, count_by, sum_by, slice_get, option_to_list, codes, is_none}
 use Rattle.std.specs.Option.{option_map_or, option_map}
 use Rattle.std.specs.List.{list_all, flat_map}
 use Rattle.std.specs.Str.{bytes_eq}
 use Rattle.gcd_plan.specs.PlanView.{PlanView, ObjView, BlkView, FileView, first_target}
-use Rattle.gcd_plan.specs.Kinds.{is_queue_kind, is_source_kind, is_node_kind, is_merge_kind, is_group_kind, is_semaphore_kind, has_kind, is_queue}
+use Rattle.gcd_plan.specs.Kinds.{is_source_kind, is_node_kind, is_merge_kind, is_group_kind, is_semaphore_kind, has_kind, is_queue}
 use Rattle.gcd_plan.specs.Chains.{chain_by, is_in}
 use Rattle.gcd_plan.specs.Names.{is_name, is_path}
 use Rattle.gcd_plan.specs.declared.act.Act.{Act}
@@ -12,7 +12,7 @@ use Rattle.gcd_plan.specs.declared.act.Act.TheVariants.{Async, Barrier, Sync, Ba
 use Rattle.gcd_plan.specs.declared.names.Blk.{Blk}
 use Rattle.gcd_plan.specs.declared.names.Obj.{Obj}
 use Rattle.gcd_plan.specs.declared.kind.Kind.{Kind}
-use Rattle.gcd_plan.specs.declared.kind.Kind.TheVariants.{Serial, Concurrent, Group, Semaphore, Add, Or, Timer, Read}
+use Rattle.gcd_plan.specs.declared.kind.Kind.TheVariants.{Serial, Concurrent, Group, Semaphore, Timer, Read}
 use Rattle.gcd_plan.specs.declared.work.Work.{Work}
 
 -- the queue root: object 0

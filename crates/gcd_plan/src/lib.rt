@@ -1,21 +1,49 @@
 //! A plan: the objects, blocks and files of a run, with what each block and handler does.
+//!
+//! Contracts see a [`Plan`] as plain lists by number (`PlanView`); object 0 is the queue `root`, block 0 is `main`.
+//!
+//! | call | answer |
+//! |---|---|
+//! | `Plan::of_parts` | the plan of the parts; None exactly where they are no valid plan (`IsPlan`) |
+//! | `Plan::of_valid_parts` | the same of parts that the caller knows to be valid |
+//! | `Plan::copied` | the same plan once more, or want of memory |
+//! | `objects`, `blocks`, `kind`, `first_target`, .. | what the plan holds, exactly |
+//! | `is_name`, `is_path`, `block_of` | the tests of names and paths, the block that an act submits |
+//!
+//! `specs/StartRule` has the rule by which a block starts over plain data, since the parts of the machine and the
+//! definitions over histories both cite it. `proofs/Lists` has the lemmas on lists that std lacks.
+//!
+//! The crate says nothing of a run: when a block may start is said over histories (`gcd_history`).
 #![tactic(auto)]
 
 mod act;
 mod copy;
 mod kind;
+mod kinds_valid;
+mod limits_valid;
 mod names;
+mod names_once;
+mod names_valid;
+mod once_valid;
 mod parts;
+mod parts_valid;
 mod plan;
 mod reason;
+mod submitted_once;
+mod validity;
 mod why;
 mod work;
 
 pub use act::Act;
 pub use kind::Kind;
 pub use names::{Blk, Obj, Run};
+pub use names_valid::{is_name, is_path};
+pub use once_valid::block_of;
 pub use parts::{BlkPart, FilePart, ObjPart, Parts};
 pub use plan::Plan;
 pub use reason::Reason;
 pub use why::Why;
 pub use work::{How, WHOLE_FILE, Work};
+
+#[cfg(test)]
+mod tests;

@@ -1,5 +1,5 @@
 // A valid plan.
-ghost use Rattle.std.specs.Prelude.{◌≡◌, ◌<◌, ◌≤◌, ◌^◌, IfOk, length, map, option_map, slice_get, Some};
+ghost use Rattle.std.specs.Prelude.{◌≡◌, ◌<◌, ◌≤◌, ◌^◌, ◌↔◌, IfOk, IfSome, IsSome, length, map, option_map, slice_get, Some};
 ghost use Rattle.gcd_plan.specs.PlanView.{kind_of, first_target, starts_active, acts_of, work_of, cancel_block, path_of, name_of_obj, name_of_blk, IsRun, file_view, view_of};
 ghost use Rattle.gcd_plan.specs.Validity.{IsPlan};
 
@@ -8,6 +8,7 @@ use crate::copy::copied_parts;
 use crate::kind::Kind;
 use crate::names::{Blk, Obj, Run};
 use crate::parts::{FilePart, Parts};
+use crate::validity::is_valid;
 use crate::work::Work;
 use std::alloc::{AllocError, Global};
 use std::marker::Model;
@@ -37,6 +38,22 @@ impl Plan {
         ensures { result ≡ view_of parts }
     {
         Plan { parts }
+    }
+
+    /// The plan of these parts. None, with the parts dropped, exactly where they are no valid plan: `root` is not object
+    /// 0 or `main` not block 0, another name is ill-formed or taken, a number is out of range, what stands somewhere is
+    /// not of the kind that is asked there, an act is barred in a handler, a block is submitted twice, a cycle of targets
+    /// stands, or a limit is passed. It takes no memory, and so compares each name with each other and each submission
+    /// with each other.
+    pub fn of_parts(parts: Parts) -> Option<Plan>
+        ensures plan { IfSome result (λ plan. plan ≡ view_of parts) }
+        ensures valid { IsSome result ↔ IsPlan (view_of parts) }
+    {
+        if is_valid(&parts) {
+            Some(Plan::of_valid_parts(parts))
+        } else {
+            None
+        }
     }
 
     /// How many objects there are, `root` among them: 1 to 1,024.

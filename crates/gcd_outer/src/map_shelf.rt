@@ -1,0 +1,101 @@
+// A shelf in memory, which tells what it holds.
+ghost use Rattle.std.specs.Prelude.{◌≡◌, ◌≢◌, List, ℕ, Some, None, option_map, true, OnOk, OnErr};
+ghost use Rattle.gcd_outer.specs.Pages.{content_of};
+
+use crate::shelf::{LoadFault, Shelf};
+use std::alloc::{AllocError, Global};
+use std::collections::BTreeMap;
+
+/// A shelf in memory. It tells what it holds. Besides want of memory it fails just in the loads that
+/// `fail` names. (This project's own rule.)
+#[derive(Drop)]
+pub struct MapShelf {
+    alloc: Global,
+    pages: BTreeMap<String, Vec<u8>>,
+    failing: Vec<u64>,
+    loads: u64,
+    faults: u64,
+}
+
+impl MapShelf {
+    /// An empty shelf, which has not been asked for anything.
+    pub fn new(alloc: Global) -> Self
+        ensures empty { (name : List ℕ) → ⟦<MapShelf as Shelf>⟧.content result name ≡ None }
+        ensures loads { ⟦<MapShelf as Shelf>⟧.loads result ≡ 0 }
+        ensures faults { ⟦<MapShelf as Shelf>⟧.faults result ≡ 0 }
+    {
+        MapShelf {
+            alloc,
+            pages: BTreeMap::new(alloc),
+            failing: Vec::new(alloc),
+            loads: 0,
+            faults: 0,
+        }
+    }
+
+    /// Puts these bytes under the name, in place of what stood there. Want of memory leaves the shelf
+    /// as it was.
+    pub fn put(&mut self, name: &str, bytes: &[u8]) -> Result<(), AllocError>
+        ensures put { OnOk result (⟦<MapShelf as Shelf>⟧.content self.new name.now ≡ Some bytes.now) }
+        ensures others { (other : List ℕ) → other ≢ name.now
+            → ⟦<MapShelf as Shelf>⟧.content self.new other ≡ ⟦<MapShelf as Shelf>⟧.content self.old other }
+        ensures wanting { OnErr result (⟦<MapShelf as Shelf>⟧.content self.new ≡ ⟦<MapShelf as Shelf>⟧.content self.old) }
+        ensures loads { ⟦<MapShelf as Shelf>⟧.loads self.new ≡ ⟦<MapShelf as Shelf>⟧.loads self.old }
+        ensures faults { ⟦<MapShelf as Shelf>⟧.faults self.new ≡ ⟦<MapShelf as Shelf>⟧.faults self.old }
+    {
+        let name = String::from_str(self.alloc, name)?;
+        let bytes = bytes.to_vec(self.alloc)?;
+        self.pages.insert(name, bytes)?;
+        Ok(())
+    }
+
+    /// The load of this number, counted from 0, is to fail. Want of memory leaves the shelf as it was.
+    pub fn fail(&mut self, load: u64) -> Result<(), AllocError>
+        ensures content { ⟦<MapShelf as Shelf>⟧.content self.new ≡ ⟦<MapShelf as Shelf>⟧.content self.old }
+        ensures loads { ⟦<MapShelf as Shelf>⟧.loads self.new ≡ ⟦<MapShelf as Shelf>⟧.loads self.old }
+        ensures faults { ⟦<MapShelf as Shelf>⟧.faults self.new ≡ ⟦<MapShelf as Shelf>⟧.faults self.old }
+    {
+        self.failing.push(load)?;
+        Ok(())
+    }
+}
+
+// A function of its own, so that the load below knows what an absent name means.
+fn page_of<'a>(pages: &'a BTreeMap<String, Vec<u8>>, name: &str) -> Option<&'a [u8]>
+    ensures { option_map (λ b. b.now) result ≡ content_of pages.now name.now }
+{
+    let page = pages.get(name)?;
+    Some(page.as_slice())
+}
+
+impl Shelf for MapShelf {
+    ghost tells = { true };
+
+    ghost content = { λ s. content_of s.pages };
+
+    ghost loads = { λ s. s.loads };
+
+    ghost faults = { λ s. s.faults };
+
+    fn load(&mut self, name: &str, most: usize, into: &mut Vec<u8>) -> Result<(), LoadFault> {
+        into.clear();
+        let number = self.loads;
+        self.loads = number.saturating_add(1);
+        if self.failing.contains(&number) {
+            self.faults = self.faults.saturating_add(1);
+            return Err(LoadFault::Failed);
+        }
+        match page_of(&self.pages, name) {
+            None => Err(LoadFault::Missing),
+            Some(bytes) => {
+                if bytes.len() > most {
+                    return Err(LoadFault::TooLong(bytes.len()));
+                }
+                if into.extend_from_slice(bytes).is_err() {
+                    return Err(LoadFault::Memory);
+                }
+                Ok(())
+            }
+        }
+    }
+}

@@ -1,0 +1,5 @@
+pub mod Lists
+pub mod Apart
+pub mod Once
+pub mod Walks
+pub mod Valid

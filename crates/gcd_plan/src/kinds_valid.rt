@@ -1,0 +1,113 @@
+// Whether what parts name is of the kind that is asked.
+ghost use Rattle.std.specs.Prelude.{◌≡◌};
+ghost use Rattle.gcd_plan.specs.PlanView.{view_of, kind_of};
+ghost use Rattle.gcd_plan.specs.Kinds.{has_kind, is_queue_kind, is_node_kind, is_source_kind, is_group_kind, is_semaphore_kind, is_merge_kind, is_queue};
+ghost use Rattle.gcd_plan.specs.Validity.{is_submittable, is_held_object, is_act, is_handler_act};
+
+use crate::act::Act;
+use crate::kind::Kind;
+use crate::names::{Blk, Obj};
+use crate::parts::Parts;
+
+fn kind_at(parts: &Parts, o: Obj) -> Option<Kind>
+    ensures { result ≡ kind_of (view_of parts.now) o.0 }
+{
+    parts.objects.get(o.0 as usize).map(|object| object.kind)
+}
+
+/// Whether the object is a queue.
+pub fn is_queue(parts: &Parts, o: Obj) -> bool
+    ensures { result ≡ is_queue (view_of parts.now) o.0 }
+{
+    matches!(kind_at(parts, o), Some(Kind::Serial | Kind::Concurrent))
+}
+
+fn is_group(parts: &Parts, o: Obj) -> bool
+    ensures { result ≡ has_kind is_group_kind (view_of parts.now) o.0 }
+{
+    matches!(kind_at(parts, o), Some(Kind::Group))
+}
+
+fn is_semaphore(parts: &Parts, o: Obj) -> bool
+    ensures { result ≡ has_kind is_semaphore_kind (view_of parts.now) o.0 }
+{
+    matches!(kind_at(parts, o), Some(Kind::Semaphore(_)))
+}
+
+fn is_merge_source(parts: &Parts, o: Obj) -> bool
+    ensures { result ≡ has_kind is_merge_kind (view_of parts.now) o.0 }
+{
+    matches!(kind_at(parts, o), Some(Kind::Add | Kind::Or))
+}
+
+fn is_source(parts: &Parts, o: Obj) -> bool
+    ensures { result ≡ has_kind is_source_kind (view_of parts.now) o.0 }
+{
+    matches!(
+        kind_at(parts, o),
+        Some(Kind::Add | Kind::Or | Kind::Timer { .. } | Kind::Read)
+    )
+}
+
+fn is_held_object(parts: &Parts, o: Obj) -> bool
+    ensures { result ≡ is_held_object (view_of parts.now) o }
+{
+    o.0 > 0 && (is_queue(parts, o) || is_source(parts, o))
+}
+
+/// Whether the block is one of the plan's, and not main.
+pub fn is_submittable(parts: &Parts, b: Blk) -> bool
+    ensures { result ≡ is_submittable (view_of parts.now) b }
+{
+    b.0 > 0 && (b.0 as usize) < parts.blocks.len()
+}
+
+fn is_counted(parts: &Parts, o: Obj) -> bool
+    ensures { result ≡ is_act (view_of parts.now) (Act.Retain o) }
+{
+    o.0 > 0 && (o.0 as usize) < parts.objects.len()
+}
+
+fn is_submission(parts: &Parts, q: Obj, b: Blk) -> bool
+    ensures { result ≡ is_act (view_of parts.now) (Act.Async q b) }
+{
+    is_queue(parts, q) && is_submittable(parts, b)
+}
+
+/// Whether what the act names is of the kinds that it asks, and its value is in range.
+pub fn is_act(parts: &Parts, act: Act) -> bool
+    ensures { result ≡ is_act (view_of parts.now) act }
+{
+    match act {
+        Act::Async(q, b) | Act::Barrier(q, b) | Act::Sync(q, b) | Act::BarrierSync(q, b) => {
+            is_submission(parts, q, b)
+        }
+        Act::GroupAsync(g, q, b) | Act::Notify(g, q, b) => {
+            is_group(parts, g) && is_submission(parts, q, b)
+        }
+        Act::Enter(g) | Act::Leave(g) | Act::GroupWait(g) => is_group(parts, g),
+        Act::Signal(s) | Act::Wait(s) => is_semaphore(parts, s),
+        Act::Suspend(o) | Act::Resume(o) | Act::Activate(o) => is_held_object(parts, o),
+        Act::Target(o, t) => is_held_object(parts, o) && is_queue(parts, t),
+        Act::Merge(s, n) => is_merge_source(parts, s) && n <= 2_147_483_647,
+        Act::Cancel(s) => is_source(parts, s),
+        Act::Retain(o) | Act::Release(o) => is_counted(parts, o),
+    }
+}
+
+/// Whether a handler may have the act: it submits no block and waits for nothing (this project's own rule).
+pub fn is_handler_act(act: Act) -> bool
+    ensures { result ≡ is_handler_act act }
+{
+    !matches!(
+        act,
+        Act::Async(..)
+            | Act::Barrier(..)
+            | Act::Sync(..)
+            | Act::BarrierSync(..)
+            | Act::GroupAsync(..)
+            | Act::Notify(..)
+            | Act::GroupWait(_)
+            | Act::Wait(_)
+    )
+}

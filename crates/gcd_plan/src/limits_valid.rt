@@ -1,0 +1,49 @@
+// Whether the lists keep the limits.
+ghost use Rattle.std.specs.Prelude.{◌≡◌, ◌≤◌, ◌<◌, ◌+◌, sum_by, length, MatchOption, IsTrue, ◌↔◌};
+ghost use Rattle.gcd_plan.specs.PlanView.{view_of};
+ghost use Rattle.gcd_plan.specs.Validity.{act_count};
+
+use crate::parts::{BlkPart, ObjPart, Parts};
+
+/// How many acts the blocks have together; None exactly where that is above `most`.
+#[tactic(auto, using(std::proofs::lemmas::List::Sums::sum_by_more_le))]
+pub fn block_acts(blocks: &[BlkPart], most: usize) -> Option<usize>
+    ensures { MatchOption result (most < sum_by (λ b. length b.acts.items) blocks.now)
+        (λ n. (n ≡ sum_by (λ b. length b.acts.items) blocks.now) × (n ≤ most)) }
+{
+    let mut total = 0;
+    for b in blocks {
+        if b.acts.len() > most - total {
+            return None;
+        }
+        total += b.acts.len();
+    }
+    Some(total)
+}
+
+/// How many acts the handlers have together; None exactly where that is above `most`.
+#[tactic(auto, using(std::proofs::lemmas::List::Sums::sum_by_more_le))]
+pub fn handler_acts(objects: &[ObjPart], most: usize) -> Option<usize>
+    ensures { MatchOption result (most < sum_by (λ o. length o.handler.items) objects.now)
+        (λ n. (n ≡ sum_by (λ o. length o.handler.items) objects.now) × (n ≤ most)) }
+{
+    let mut total = 0;
+    for o in objects {
+        if o.handler.len() > most - total {
+            return None;
+        }
+        total += o.handler.len();
+    }
+    Some(total)
+}
+
+/// Whether all bodies together have at most 65,535 acts.
+#[tactic(auto, using(crate::proofs::Valid::acts_seen))]
+pub fn has_few_acts(parts: &Parts) -> bool
+    ensures { IsTrue result ↔ (act_count (view_of parts.now) ≤ 65535) }
+{
+    match block_acts(&parts.blocks, 65_535) {
+        None => false,
+        Some(n) => handler_acts(&parts.objects, 65_535 - n).is_some(),
+    }
+}

@@ -1,0 +1,142 @@
+// Whether names are apart, each block is submitted at most once, and targets lead to root.
+ghost use Rattle.std.specs.Prelude.{◌≡◌, ◌≤◌, ◌<◌, ◌+◌, ◌==◌, string_bytes, count_by, sum_by, length, false, ◌++◌};
+ghost use Rattle.std.specs.List.{list_all};
+ghost use Rattle.std.specs.Option.{option_map_or, option_to_list};
+ghost use Rattle.std.specs.Str.{bytes_eq};
+ghost use Rattle.gcd_plan.specs.PlanView.{view_of, first_target};
+ghost use Rattle.gcd_plan.specs.Chains.{chain_by, is_in};
+ghost use Rattle.gcd_plan.specs.Validity.{block_of, blocks_of, reaches_root};
+
+use crate::act::Act;
+use crate::names::Blk;
+use crate::parts::{BlkPart, FilePart, ObjPart, Parts};
+
+/// How many files have the name.
+pub fn files_named(files: &[FilePart], name: &str) -> usize
+    ensures named { result ≡ count_by (λ f. bytes_eq name.now (string_bytes f.name)) files.now }
+    ensures few { result ≤ length files.now }
+{
+    files.iter().filter(|f| name == f.name.as_str()).count()
+}
+
+/// How many objects have the name.
+pub fn objects_named(objects: &[ObjPart], name: &str) -> usize
+    ensures named { result ≡ count_by (λ o. bytes_eq name.now (string_bytes o.name)) objects.now }
+    ensures few { result ≤ length objects.now }
+{
+    objects.iter().filter(|o| name == o.name.as_str()).count()
+}
+
+/// How many blocks have the name.
+pub fn blocks_named(blocks: &[BlkPart], name: &str) -> usize
+    ensures named { result ≡ count_by (λ b. bytes_eq name.now (string_bytes b.name)) blocks.now }
+    ensures few { result ≤ length blocks.now }
+{
+    blocks.iter().filter(|b| name == b.name.as_str()).count()
+}
+
+/// The block that the act submits; None exactly where it submits none.
+pub fn block_of(act: Act) -> Option<Blk>
+    ensures { result ≡ block_of act }
+{
+    match act {
+        Act::Async(_, b) | Act::Barrier(_, b) | Act::Sync(_, b) | Act::BarrierSync(_, b) => Some(b),
+        Act::GroupAsync(_, _, b) | Act::Notify(_, _, b) => Some(b),
+        _ => None,
+    }
+}
+
+fn submits(act: Act, b: Blk) -> bool
+    ensures { result ≡ option_map_or (λ c. c.0 == b.0) (block_of act) false }
+{
+    match block_of(act) {
+        Some(c) => c.0 == b.0,
+        None => false,
+    }
+}
+
+/// How many of the acts submit the block.
+pub fn submissions_in(acts: &[Act], b: Blk) -> usize
+    ensures count { result ≡ count_by (λ c. c.0 == b.0) (blocks_of acts.now) }
+    ensures few { result ≤ length acts.now }
+{
+    acts_submitting(acts, b)
+}
+
+fn acts_submitting(acts: &[Act], b: Blk) -> usize
+    ensures count { result ≡ count_by (λ act. option_map_or (λ c. c.0 == b.0) (block_of act) false) acts.now }
+    ensures few { result ≤ length acts.now }
+{
+    acts.iter().filter(|act| submits(**act, b)).count()
+}
+
+/// How many acts of the blocks submit the block.
+#[tactic(auto, using(std::proofs::lemmas::List::Sums::sum_by_more_le))]
+pub fn block_submissions(blocks: &[BlkPart], b: Blk) -> usize
+    requires { sum_by (λ p. length p.acts.items) blocks.now ≤ 65535 }
+    ensures count { result ≡ sum_by (λ p. count_by (λ c. c.0 == b.0) (blocks_of p.acts.items)) blocks.now }
+    ensures few { result ≤ 65535 }
+{
+    let mut total = 0;
+    for p in blocks {
+        total += submissions_in(&p.acts, b);
+    }
+    total
+}
+
+fn cancels(cancel: Option<Blk>, b: Blk) -> usize
+    ensures count { result ≡ count_by (λ c. c.0 == b.0) (option_to_list cancel) }
+    ensures few { result ≤ 1 }
+{
+    match cancel {
+        Some(c) if c.0 == b.0 => 1,
+        _ => 0,
+    }
+}
+
+/// How often the object submits the block: by its handler's acts, and as its cancellation block.
+pub fn submissions_of(o: &ObjPart, b: Blk) -> usize
+    requires { length o.now.handler.items < 66559 }
+    ensures count { result ≡ count_by (λ c. c.0 == b.0) (blocks_of o.now.handler.items ++ option_to_list o.now.cancel) }
+    ensures few { result ≤ length o.now.handler.items + 1 }
+{
+    submissions_in(&o.handler, b) + cancels(o.cancel, b)
+}
+
+/// How often the objects submit the block.
+#[tactic(auto, using(std::proofs::lemmas::List::Sums::sum_by_more_le))]
+pub fn object_submissions(objects: &[ObjPart], b: Blk) -> usize
+    requires { sum_by (λ o. length o.handler.items + 1) objects.now ≤ 66559 }
+    ensures count { result ≡ sum_by (λ o. count_by (λ c. c.0 == b.0) (blocks_of o.handler.items ++ option_to_list o.cancel)) objects.now }
+    ensures few { result ≤ 66559 }
+{
+    let mut total = 0;
+    for o in objects {
+        total += submissions_of(o, b);
+    }
+    total
+}
+
+/// Whether following the first targets from the object ends at root.
+#[tactic(auto, using(crate::proofs::Walks::walk_on))]
+pub fn reaches_root(parts: &Parts, o: u32) -> bool
+    ensures { result ≡ reaches_root (view_of parts.now) o }
+{
+    let mut at = o;
+    for _ in 0..parts.objects.len() {
+        if at == 0 {
+            return true;
+        }
+        at = target_of(parts, at);
+    }
+    false
+}
+
+fn target_of(parts: &Parts, o: u32) -> u32
+    ensures { result ≡ first_target (view_of parts.now) o }
+{
+    match parts.objects.get(o as usize) {
+        Some(object) => object.target.0,
+        None => 0,
+    }
+}

@@ -1,0 +1,264 @@
+use crate::{
+    Act, Blk, BlkPart, FilePart, How, Kind, Obj, ObjPart, Parts, Plan, Run, WHOLE_FILE, Work,
+};
+use std::alloc::{AllocError, Global};
+use std::test::Fail;
+
+// One object beside root and a group, main with some acts, a block with a work, and a file.
+struct Case {
+    what: &'static str,
+    name: &'static str,
+    kind: Kind,
+    target: u32,
+    active: bool,
+    acts: &'static [Act],
+    file: u32,
+    until: u32,
+    valid: bool,
+}
+
+const PLAIN: Case = Case {
+    what: "a serial queue",
+    name: "q",
+    kind: Kind::Serial,
+    target: 0,
+    active: true,
+    acts: &[Act::Async(Obj(1), Blk(1))],
+    file: 0,
+    until: 1000,
+    valid: true,
+};
+
+const CASES: [Case; 24] = [
+    PLAIN,
+    Case {
+        what: "a barrier",
+        kind: Kind::Concurrent,
+        acts: &[Act::Barrier(Obj(1), Blk(1))],
+        ..PLAIN
+    },
+    Case {
+        what: "an inactive queue",
+        active: false,
+        acts: &[Act::Activate(Obj(1))],
+        ..PLAIN
+    },
+    Case {
+        what: "a member of the group",
+        acts: &[Act::GroupAsync(Obj(2), Obj(1), Blk(1))],
+        ..PLAIN
+    },
+    Case {
+        what: "a timer",
+        kind: Kind::Timer {
+            start: 1,
+            every: 86_400_000,
+        },
+        active: false,
+        acts: &[Act::Cancel(Obj(1))],
+        ..PLAIN
+    },
+    Case {
+        what: "a semaphore",
+        kind: Kind::Semaphore(2_147_483_647),
+        acts: &[Act::Signal(Obj(1))],
+        ..PLAIN
+    },
+    Case {
+        what: "no acts",
+        acts: &[],
+        ..PLAIN
+    },
+    Case {
+        what: "a taken name",
+        name: "main",
+        valid: false,
+        ..PLAIN
+    },
+    Case {
+        what: "a file's name",
+        name: "log",
+        valid: false,
+        ..PLAIN
+    },
+    Case {
+        what: "a capital letter",
+        name: "Q",
+        valid: false,
+        ..PLAIN
+    },
+    Case {
+        what: "no name",
+        name: "",
+        valid: false,
+        ..PLAIN
+    },
+    Case {
+        what: "33 letters",
+        name: "abcdefghijklmnopqrstuvwxyzabcdefg",
+        valid: false,
+        ..PLAIN
+    },
+    Case {
+        what: "a group as target",
+        target: 2,
+        valid: false,
+        ..PLAIN
+    },
+    Case {
+        what: "no such target",
+        target: 3,
+        valid: false,
+        ..PLAIN
+    },
+    Case {
+        what: "a cycle of targets",
+        target: 1,
+        valid: false,
+        ..PLAIN
+    },
+    Case {
+        what: "a source that is created active",
+        kind: Kind::Add,
+        acts: &[],
+        valid: false,
+        ..PLAIN
+    },
+    Case {
+        what: "a read source without a path",
+        kind: Kind::Read,
+        active: false,
+        acts: &[],
+        valid: false,
+        ..PLAIN
+    },
+    Case {
+        what: "a timer that is never due again",
+        kind: Kind::Timer { start: 1, every: 0 },
+        active: false,
+        acts: &[],
+        valid: false,
+        ..PLAIN
+    },
+    Case {
+        what: "main submitted",
+        acts: &[Act::Async(Obj(1), Blk(0))],
+        valid: false,
+        ..PLAIN
+    },
+    Case {
+        what: "a block submitted twice",
+        acts: &[Act::Async(Obj(1), Blk(1)), Act::Sync(Obj(0), Blk(1))],
+        valid: false,
+        ..PLAIN
+    },
+    Case {
+        what: "a queue that is merged into",
+        acts: &[Act::Merge(Obj(1), 1)],
+        valid: false,
+        ..PLAIN
+    },
+    Case {
+        what: "root suspended",
+        acts: &[Act::Suspend(Obj(0))],
+        valid: false,
+        ..PLAIN
+    },
+    Case {
+        what: "no such file",
+        file: 1,
+        valid: false,
+        ..PLAIN
+    },
+    Case {
+        what: "no time",
+        until: 0,
+        valid: false,
+        ..PLAIN
+    },
+];
+
+fn object(
+    alloc: Global,
+    name: &str,
+    kind: Kind,
+    target: u32,
+    active: bool,
+) -> Result<ObjPart, AllocError> {
+    Ok(ObjPart {
+        name: String::from_str(alloc, name)?,
+        kind,
+        target: Obj(target),
+        active,
+        path: String::new(alloc),
+        handler: Vec::new(alloc),
+        cancel: None,
+    })
+}
+
+fn parts(alloc: Global, case: &Case) -> Result<Parts, AllocError> {
+    let root = object(alloc, "root", Kind::Concurrent, 0, true)?;
+    let tried = object(alloc, case.name, case.kind, case.target, case.active)?;
+    let group = object(alloc, "g", Kind::Group, 0, true)?;
+    let main = BlkPart {
+        name: String::from_str(alloc, "main")?,
+        acts: Vec::from_slice(alloc, case.acts)?,
+        work: None,
+    };
+    let counts = BlkPart {
+        name: String::from_str(alloc, "b1")?,
+        acts: Vec::new(alloc),
+        work: Some(Work {
+            how: How::Lines,
+            file: case.file,
+            start: 0,
+            len: WHOLE_FILE,
+        }),
+    };
+    let log = FilePart {
+        name: String::from_str(alloc, "log")?,
+        path: String::from_str(alloc, "log.txt")?,
+        line: 1,
+    };
+    Ok(Parts {
+        objects: vec![in alloc; root, tried, group]?,
+        blocks: vec![in alloc; main, counts]?,
+        files: vec![in alloc; log]?,
+        until: case.until,
+    })
+}
+
+#[test]
+fn accepts_exactly_valid_parts(rt: HostRuntime) -> Result<(), Fail> {
+    for case in CASES.iter() {
+        let plan = Plan::of_parts(parts(rt.alloc(), case)?);
+        assert_eq!(rt; plan.is_some(), case.valid, "{}", case.what);
+    }
+    Ok(())
+}
+
+#[test]
+fn tells_what_a_plan_holds(rt: HostRuntime) -> Result<(), Fail> {
+    let made = Plan::of_parts(parts(rt.alloc(), &PLAIN)?).ok_or("valid")?;
+    let plan = made.copied(rt.alloc())?;
+    assert_eq!(rt; plan.objects(), 3);
+    assert_eq!(rt; plan.blocks(), 2);
+    assert_eq!(rt; plan.until(), 1000);
+    assert_eq!(rt; plan.files().len(), 1);
+    if plan.objects() > 2 && plan.blocks() > 1 && plan.files().len() > 0 {
+        assert_eq!(rt; plan.kind(Obj(2)), Kind::Group);
+        assert_eq!(rt; plan.first_target(Obj(1)), Obj(0));
+        assert_eq!(rt; plan.starts_active(Obj(1)), true);
+        assert_eq!(rt; plan.cancel_block(Obj(1)), None);
+        assert_eq!(rt; plan.path_of(Obj(1)), "");
+        assert_eq!(rt; plan.name_of_obj(Obj(1)), "q");
+        assert_eq!(rt; plan.name_of_blk(Blk(1)), "b1");
+        assert_eq!(rt; plan.line_of_file(0), 1);
+        assert_eq!(rt;
+            plan.acts(Run::Block(Blk(0))),
+            [Act::Async(Obj(1), Blk(1))].as_slice()
+        );
+        assert_eq!(rt; plan.work(Blk(0)), None);
+    }
+    Ok(())
+}
