@@ -23,3 +23,4 @@ pub mod OpenNodes
 pub mod TargetActs
 pub mod TreeStands
 pub mod RunsAlone
+pub mod Choices

@@ -168,8 +168,8 @@ recorded_fits plan (Acted w r i) act valid at = act_fits plan r i act valid at
 recorded_fits plan e act valid at = cc
 
 -- it was submitted on a queue or source, or is main
-abbrev on_a_node : PlanView → Submission → Bool
-on_a_node plan s = option_map_or (λ o. is_node plan o.0) s.node true
+abbrev pub on_a_node : PlanView → Submission → Bool
+on_a_node plan s = option_map_or (λ o. is_node plan o.0) s.node (s.blk.0 == 0)
 
 one_fits : (plan : PlanView) (q : Obj) (b : Blk) (barrier : Bool) → is_node plan q.0 ≡ true → list_all (on_a_node plan) (on_node q b barrier) ≡ true
 one_fits plan q b barrier h = and_from (is_node plan q.0) true h refl
@@ -248,7 +248,7 @@ cancel_fit plan past e valid h =
       ]
     ] refl
 
-submitted_fit : (plan : PlanView) (past : List Event) → IsPlan plan → IsLawful plan past → list_all (on_a_node plan) (submitted plan past) ≡ true
+pub submitted_fit : (plan : PlanView) (past : List Event) → IsPlan plan → IsLawful plan past → list_all (on_a_node plan) (submitted plan past) ≡ true
 submitted_fit plan [] valid h = refl
 submitted_fit plan (e ∷ past) valid h =
     let fired = flat_map (at_empty plan past e) (range_with_len 0 (length plan.objects)) in
@@ -263,7 +263,7 @@ found_fits plan p [] n all is = cc
 found_fits plan p (s ∷ xs) n all is =
     let parts = and_parts (on_a_node plan s) (list_all (on_a_node plan) xs) all in
     elim (p s) as (λ v. option_map (λ o. o.0) (option_and_then (λ t. t.node) (cond v (Some s) (find p xs))) ≡ Some n → is_node plan n ≡ true) [
-      | true ↦ λ k. elim s.node as (λ o. option_map_or (λ q. is_node plan q.0) o true ≡ true → option_map (λ q. q.0) o ≡ Some n → is_node plan n ≡ true) [
+      | true ↦ λ k. elim s.node as (λ o. option_map_or (λ q. is_node plan q.0) o (s.blk.0 == 0) ≡ true → option_map (λ q. q.0) o ≡ Some n → is_node plan n ≡ true) [
         | None ↦ λ a b. cc
         | Some q ↦ λ a b. subst (λ m. is_node plan m ≡ true) (same_Some q.0 n b) a
       ] parts.0 k

@@ -1,5 +1,6 @@
 -- What is known where an event is permitted: no reason applies.
-use Rattle.std.proofs.Common.{◌≡◌, ℕ, Bool, true, false, not, ◌==◌, List, [], ◌∷◌, None, is_some, refl}
+use Rattle.std.proofs.Common.{◌≡◌, ℕ, Bool, true, false, not, ◌==◌, List, [], ◌∷◌, Option, Some, None, is_some, refl, ap}
+use Rattle.std.specs.Option.{option_map_or}
 use Rattle.std.proofs.lemmas.Bool.{not-true, not-false, and_parts, eqb-true}
 use Rattle.gcd_plan.specs.PlanView.{PlanView}
 use Rattle.gcd_plan.specs.StartRule.{first_of, is_held, is_excluded}
@@ -8,9 +9,9 @@ use Rattle.gcd_plan.specs.declared.names.Obj.{Obj}
 use Rattle.gcd_plan.specs.declared.names.Run.{Run}
 use Rattle.gcd_plan.specs.declared.names.Run.TheVariants.{Block, Source}
 use Rattle.gcd_plan.specs.declared.why.Why.{Why}
-use Rattle.gcd_plan.specs.declared.why.Why.TheVariants.{Over, NoSuch, Busy, Unready, Behind, NotFree, Excluded, Fenced, NotOwn, NotNext, IsMisuse, NotParked, Waiting, NotDue, NotLive}
+use Rattle.gcd_plan.specs.declared.why.Why.TheVariants.{Over, NoSuch, Busy, Unready, Behind, NotFree, Excluded, Fenced, NotOwn, NotNext, IsMisuse, NotParked, Waiting, NotDue, NotLive, NotMisuse}
 use Rattle.gcd_event.specs.declared.event.Event.{Event}
-use Rattle.gcd_event.specs.declared.event.Event.TheVariants.{Start, Act as Acted, Wake, End, Deliver, DeliverEnd, Tick, Ready, FeedEnd}
+use Rattle.gcd_event.specs.declared.event.Event.TheVariants.{Start, Act as Acted, Wake, End, Deliver, DeliverEnd, Tick, Ready, FeedEnd, Misuse}
 use Rattle.gcd_history.specs.Runs.{acts_done, act_at, is_started}
 use Rattle.gcd_history.specs.Submitted.{submission_of}
 use Rattle.gcd_history.specs.Tree.{chain}
@@ -137,6 +138,26 @@ at_deliver plan past w s h =
     let three = first_none NotFree (is_held (knowledge plan past) (chain plan past s.0)) last two.1 in
     let four = first_none Excluded (is_excluded (knowledge plan past) (chain plan past s.0)) [] three.1 in
     record { idle = one.0; ready = not-false (is_pending plan past s.0) two.0; held = three.0; excluded = four.0 }
+
+-- of a Misuse
+pub record MisuseFacts (plan : PlanView) (past : List Event) (w : ℕ) (r : Run) (i c : ℕ) : Type 0 where
+  pub own : has_run plan past w r ≡ true
+  pub next : i ≡ acts_done past r
+  pub code : misuse_at plan past r i ≡ Some c
+
+code_is : (o : Option ℕ) (c : ℕ) → option_map_or (λ code. code == c) o false ≡ true → o ≡ Some c
+code_is None c h = cc
+code_is (Some code) c h = ap Some (eqb-true code c h)
+
+pub at_misuse : (plan : PlanView) (past : List Event) (w : ℕ) (r : Run) (i c : ℕ) → why plan past (Misuse w r i c) ≡ None → MisuseFacts plan past w r i c
+unfolding is_next
+at_misuse plan past w r i c h =
+    let same = option_map_or (λ code. code == c) (misuse_at plan past r i) false in
+    let own = first_none NotOwn (not (has_run plan past w r)) ((NotNext, not (is_next plan past r i)) ∷ (NotMisuse, not same) ∷ []) (allowed plan past (Misuse w r i c) h).kind in
+    let following = first_none NotNext (not (is_next plan past r i)) ((NotMisuse, not same) ∷ []) own.1 in
+    let fine = first_none NotMisuse (not same) [] following.1 in
+    let parts = and_parts (i == acts_done past r) (is_some (act_at plan r i)) (not-false (is_next plan past r i) following.0) in
+    record { own = not-false (has_run plan past w r) own.0; next = eqb-true i (acts_done past r) parts.0; code = code_is (misuse_at plan past r i) c (not-false same fine.0) }
 
 -- of a Tick
 pub at_tick : (plan : PlanView) (past : List Event) (t : ℕ) → why plan past (Tick t) ≡ None → may_tick plan past t ≡ true
