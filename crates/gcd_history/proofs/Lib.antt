@@ -24,3 +24,5 @@ pub mod TargetActs
 pub mod TreeStands
 pub mod RunsAlone
 pub mod Choices
+pub mod Quiet
+pub mod OneState

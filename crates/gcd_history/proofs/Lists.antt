@@ -3,9 +3,9 @@ use Rattle.std.proofs.Common.{◌≡◌, ℕ, zero, suc, ◌+◌, ◌-◌, ◌<�
 use Rattle.std.specs.List.{slice_get, list_any, list_all, AllPairs, flat_map, range_with_len}
 use Rattle.std.specs.Option.{option_or}
 use Rattle.std.proofs.lemmas.List.{take_more, drop_more, reverse-append, get_or_append_left, get_or-append_right}
-use Rattle.std.proofs.lemmas.Bool.{or_parts, or_cases, or_left, or_right, and_parts, cases_lt, cases_eq}
+use Rattle.std.proofs.lemmas.Bool.{or_parts, or_cases, or_left, or_right, and_parts, and_from, cases_lt, cases_eq}
 use Rattle.std.proofs.lemmas.Option.{same_Some}
-use Rattle.std.proofs.lemmas.List.Folds.{find-append, list_any_at, list_any-append}
+use Rattle.std.proofs.lemmas.List.Folds.{find-append, list_any_at, list_any-append, list_all-append}
 use Rattle.std.proofs.lemmas.List.FromFn.{length-range_with_len, get_or-range_with_len}
 use Rattle.std.proofs.lemmas.List.Sums.{sum_by-cons, sum_by-append}
 
@@ -80,8 +80,8 @@ pub found_is : {X : Type 0} → (p : X → Bool) (xs : List X) (x : X) → find 
 found_is p [] x found = cc
 found_is p (y ∷ xs) x found =
     elim (p y) as (λ v. p y ≡ v → cond v (Some y) (find p xs) ≡ Some x → p x ≡ true) [
-      true ↦ λ e k. subst (λ z. p z ≡ true) (same_Some y x k) e
-    | false ↦ λ e k. found_is p xs x k
+      | true ↦ λ e k. subst (λ z. p z ≡ true) (same_Some y x k) e
+      | false ↦ λ e k. found_is p xs x k
     ] refl found
 
 -- what is found stands in the list
@@ -89,8 +89,8 @@ pub found_any : {X : Type 0} → (p q : X → Bool) (xs : List X) (x : X) → fi
 found_any p q [] x found h = cc
 found_any p q (y ∷ xs) x found h =
     elim (p y) as (λ v. cond v (Some y) (find p xs) ≡ Some x → (q y || list_any q xs) ≡ true) [
-      true ↦ λ k. or_left (q y) (list_any q xs) (ap q (same_Some y x k) ∙ h)
-    | false ↦ λ k. or_right (q y) (list_any q xs) (found_any p q xs x k h)
+      | true ↦ λ k. or_left (q y) (list_any q xs) (ap q (same_Some y x k) ∙ h)
+      | false ↦ λ k. or_right (q y) (list_any q xs) (found_any p q xs x k h)
     ] found
 
 -- what passes is found
@@ -172,11 +172,11 @@ pub any_in_range_from : (p : ℕ → Bool) (a size n : ℕ) → a ≤ n → n < 
 any_in_range_from p a zero n above below h = absurd (omega arith)
 any_in_range_from p a (suc size) n above below h =
     ⊎_elim
-        (λ here. or_left (p a) (list_any p (range_with_len (a + 1) size)) (ap p here ∙ h))
-        (λ other.
-            let next : a + 1 ≤ n = grind arith in
-            or_right (p a) (list_any p (range_with_len (a + 1) size)) (any_in_range_from p (a + 1) size n next (omega arith) h))
-        (cases_eq a n)
+    (λ here. or_left (p a) (list_any p (range_with_len (a + 1) size)) (ap p here ∙ h))
+    (λ other.
+    let next : a + 1 ≤ n = grind arith in
+    or_right (p a) (list_any p (range_with_len (a + 1) size)) (any_in_range_from p (a + 1) size n next (omega arith) h))
+    (cases_eq a n)
 
 pub any_left : {X : Type 0} → (p : X → Bool) (xs ys : List X) → list_any p xs ≡ true → list_any p (xs ++ ys) ≡ true
 any_left p xs ys h = list_any-append p xs ys ∙ or_left (list_any p xs) (list_any p ys) h
@@ -189,13 +189,24 @@ pub any_flat : {X Y : Type 0} → (p : Y → Bool) (f : X → List Y) (xs : List
 any_flat p f [] h = cc
 any_flat p f (x ∷ xs) h =
     ⊎_elim (λ here. any_left p (f x) (flat_map f xs) here) (λ later. any_right p (f x) (flat_map f xs) (any_flat p f xs later))
-        (or_cases (list_any p (f x)) (list_any (λ y. list_any p (f y)) xs) h)
+    (or_cases (list_any p (f x)) (list_any (λ y. list_any p (f y)) xs) h)
 
 pub any_map : {X Y : Type 0} → (p : Y → Bool) (f : X → Y) (xs : List X) → list_any (λ x. p (f x)) xs ≡ true → list_any p (map f xs) ≡ true
 any_map p f [] h = cc
 any_map p f (x ∷ xs) h =
     ⊎_elim (λ here. or_left (p (f x)) (list_any p (map f xs)) here) (λ later. or_right (p (f x)) (list_any p (map f xs)) (any_map p f xs later))
-        (or_cases (p (f x)) (list_any (λ y. p (f y)) xs) h)
+    (or_cases (p (f x)) (list_any (λ y. p (f y)) xs) h)
+
+pub all_flat : {X Y : Type 0} → (p : Y → Bool) (f : X → List Y) (xs : List X) → ((x : X) → list_all p (f x) ≡ true) → list_all p (flat_map f xs) ≡ true
+all_flat p f [] h = refl
+all_flat p f (x ∷ xs) h = list_all-append p (f x) (flat_map f xs) ∙ and_from (list_all p (f x)) (list_all p (flat_map f xs)) (h x) (all_flat p f xs h)
+
+pub all_map : {X Y : Type 0} → (p : Y → Bool) (f : X → Y) (xs : List X) → ((x : X) → p (f x) ≡ true) → list_all p (map f xs) ≡ true
+all_map p f [] h = refl
+all_map p f (x ∷ xs) h = and_from (p (f x)) (list_all p (map f xs)) (h x) (all_map p f xs h)
+
+pub all_both : {X : Type 0} → (p : X → Bool) (xs ys : List X) → list_all p xs ≡ true → list_all p ys ≡ true → list_all p (xs ++ ys) ≡ true
+all_both p xs ys h k = list_all-append p xs ys ∙ and_from (list_all p xs) (list_all p ys) h k
 
 -- ## The first that passes
 

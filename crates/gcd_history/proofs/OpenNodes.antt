@@ -276,7 +276,7 @@ begun_source plan past (Deliver w t) s h now =
 begun_source plan past e s h now = cc
 
 -- an open handler is a source's
-open_source : (plan : PlanView) (past : List Event) (s : Obj) → IsLawful plan past → is_open past (Source s) ≡ true → is_source plan s.0 ≡ true
+pub open_source : (plan : PlanView) (past : List Event) (s : Obj) → IsLawful plan past → is_open past (Source s) ≡ true → is_source plan s.0 ≡ true
 open_source plan [] s h live = cc
 open_source plan (e ∷ past) s h live =
     ⊎_elim (λ now. begun_source plan past e s h now) (λ old. open_source plan past s h.0 old) (open_cases e past (Source s) live)

@@ -1,6 +1,6 @@
 -- The laws over histories in order, from those by recursion.
 use Rattle.std.proofs.Common.{◌≡◌, ℕ, zero, suc, ◌+◌, ◌-◌, ◌<◌, ◌≤◌, ◌==◌, true, List, [], ◌∷◌, length, take, drop, ◌++◌, ⊎_elim, reverse, Some, None, is_some, refl, count_by, ap, sym, ◌∙◌, subst, arith}
-use Rattle.std.proofs.lemmas.Bool.{eqb-true}
+use Rattle.std.proofs.lemmas.Bool.{eqb-true, both_ways}
 use Rattle.std.proofs.lemmas.List.{take-append-drop, reverse-append, take_all}
 use Rattle.std.specs.Bool.{IsTrue}
 use Rattle.std.specs.List.{slice_get}
@@ -11,18 +11,19 @@ use Rattle.gcd_plan.specs.Chains.{chain_by, is_in}
 use Rattle.gcd_plan.specs.declared.names.Run.{Run}
 use Rattle.gcd_plan.specs.declared.names.Run.TheVariants.{Block}
 use Rattle.gcd_event.specs.declared.event.Event.{Event}
-use Rattle.gcd_event.specs.declared.event.Event.TheVariants.{Start, Wake, Deliver}
+use Rattle.gcd_event.specs.declared.event.Event.TheVariants.{Start, Wake, Deliver, Halt}
 use Rattle.gcd_history.specs.Runs.{starts, ends, is_ended as is_ended_after, is_open as is_open_after}
 use Rattle.gcd_history.specs.Tree.{target, chain_of_run}
 use Rattle.gcd_history.specs.Submitted.{submitted, submission_of}
 use Rattle.gcd_history.specs.Parked.{reason, is_parked, has_come as has_come_after}
-use Rattle.gcd_history.specs.Permitted.{IsLawful as IsLawfulAfter}
-use Rattle.gcd_history.specs.History.{why, IsLawful, is_started, is_submitted, submissions_of, is_free, nodes_of_run, reason_of, has_come, received_of, pending_of, merged_of, is_open, is_active, chain_of, node_of_run, is_barrier_of}
-use Rattle.gcd_history.specs.Ends.{IsDrained, all_ended}
-use Rattle.gcd_history.specs.Laws.{RunsOnce, StartsAfterSubmission, AllEndOnce, IsSubmittedOnce, StartsInOrder, BeginsFree, WakesHaveCause, NoneParked, WaitsHavePassed, IsConserved, RunsExclude, BarriersExclude, TreeStands}
+use Rattle.gcd_history.specs.Permitted.{IsLawful as IsLawfulAfter, is_halted as is_halted_after}
+use Rattle.gcd_history.specs.Choice.{choice}
+use Rattle.gcd_history.specs.History.{why, IsLawful, is_started, is_submitted, submissions_of, is_free, nodes_of_run, reason_of, has_come, received_of, pending_of, merged_of, is_open, is_active, chain_of, node_of_run, is_barrier_of, choice_of, running_of, next_due_of, is_live_feed}
+use Rattle.gcd_history.specs.Ends.{IsDrained, all_ended, IsQuiescent, IsHalted, is_halted}
+use Rattle.gcd_history.specs.Laws.{RunsOnce, StartsAfterSubmission, AllEndOnce, IsSubmittedOnce, StartsInOrder, BeginsFree, WakesHaveCause, NoneParked, WaitsHavePassed, IsConserved, RunsExclude, BarriersExclude, TreeStands, IsChoiceOf, HasNoChoice, IsAtRest}
 use Rattle.gcd_history.proofs.Lists.{count_by-reverse, some_counted, found_passes, past_more}
 use Rattle.gcd_history.proofs.LawfulLemmas.{lawful_after, lawful_take}
-use Rattle.gcd_history.proofs.Reasons.{at_start, at_wake}
+use Rattle.gcd_history.proofs.Reasons.{allowed, at_start, at_wake}
 use Rattle.gcd_history.proofs.StartedOnce.{started_once, ended_once, some_kept}
 use Rattle.gcd_history.proofs.SubmittedOnce.{submitted_once}
 use Rattle.gcd_history.proofs.InOrder.{starts_in_order as starts_in_order_after}
@@ -32,6 +33,8 @@ use Rattle.gcd_history.proofs.Merged.{conserved}
 use Rattle.gcd_history.proofs.RunsAlone.{runs_alone, barriers_alone}
 use Rattle.gcd_history.proofs.TreeStands.{stands, chain_step}
 use Rattle.gcd_history.proofs.Walks.{reaches-in}
+use Rattle.gcd_history.proofs.Choices.{chosen_is, chosen_where_permitted}
+use Rattle.gcd_history.proofs.Quiet.{quiescent_from_rest, rest_from_quiescent, only_halt}
 
 none_past : {X : Type 0} → (xs : List X) (i : ℕ) → slice_get xs i ≡ None → length xs ≤ i
 none_past [] i h = omega arith
@@ -157,3 +160,36 @@ rooted_at plan h valid lawful i o within =
 
 pub tree_stands : (plan : PlanView) (h : List Event) → IsPlan plan → IsLawful plan h → TreeStands plan h
 tree_stands plan h valid lawful = record { kept = chain_at plan h valid lawful; active = active_at plan h valid lawful; rooted = rooted_at plan h valid lawful }
+
+pub choice_is_permitted : (plan : PlanView) (h : List Event) (w from : ℕ) (e : Event) → choice_of plan h w from ≡ Some e → IsChoiceOf plan h w e
+unfolding choice_of why
+choice_is_permitted plan h w from e at =
+    let chosen = chosen_is plan (reverse h) w from e at in
+    record { permitted = chosen.permitted_now; work = chosen.work; by = chosen.by }
+
+pub no_choice_is_none : (plan : PlanView) (h : List Event) (w from : ℕ) → IsPlan plan → IsLawful plan h → from ≤ length plan.objects → choice_of plan h w from ≡ None → HasNoChoice plan h w
+unfolding choice_of why
+no_choice_is_none plan h w from valid lawful le none e one =
+    let some = chosen_where_permitted plan (reverse h) from e valid (lawful_after plan h lawful) le one.work one.permitted in
+    let here : is_some (choice plan (reverse h) w from) ≡ true = subst (λ v. is_some (choice plan (reverse h) v from) ≡ true) one.by some in
+    both_ways (is_some (choice plan (reverse h) w from)) (ap is_some none) here
+
+pub rest_is_quiescent : (plan : PlanView) (h : List Event) → IsPlan plan → IsLawful plan h → IsAtRest plan h → IsQuiescent plan h
+unfolding IsQuiescent is_halted running_of choice_of next_due_of is_live_feed
+rest_is_quiescent plan h valid lawful rest =
+    quiescent_from_rest plan (reverse h) valid (lawful_after plan h lawful)
+    (record { goes_on = rest.unhalted; idle = rest.idle; no_choice = rest.no_choice; no_time = rest.no_time; no_feed = rest.no_feed })
+
+pub quiescent_is_rest : (plan : PlanView) (h : List Event) → IsPlan plan → IsLawful plan h → IsQuiescent plan h → IsAtRest plan h
+unfolding IsQuiescent is_halted running_of choice_of next_due_of is_live_feed
+quiescent_is_rest plan h valid lawful quiet =
+    let rest = rest_from_quiescent plan (reverse h) valid (lawful_after plan h lawful) quiet in
+    record { unhalted = rest.goes_on; idle = rest.idle; no_choice = rest.no_choice; no_time = rest.no_time; no_feed = rest.no_feed }
+
+pub halted_stands : (plan : PlanView) (h : List Event) (e : Event) → IsHalted h → why plan h e ≡ None → ⊥
+unfolding is_halted why
+halted_stands plan h e halted may = both_ways (is_halted_after (reverse h)) (allowed plan (reverse h) e may).goes_on halted
+
+pub quiescent_stands : (plan : PlanView) (h : List Event) (e : Event) → IsQuiescent plan h → why plan h e ≡ None → e ≡ Halt
+unfolding IsQuiescent why
+quiescent_stands plan h e quiet may = only_halt plan (reverse h) e quiet may

@@ -13,7 +13,9 @@ use Rattle.gcd_event.specs.declared.event.Event.TheVariants.{Start, Wake, Delive
 use Rattle.gcd_history.specs.declared.submission.Submission.{Submission}
 use Rattle.gcd_history.specs.Runs.{starts, ends}
 use Rattle.gcd_history.specs.Permitted.{is_on}
-use Rattle.gcd_history.specs.History.{is_started, is_submitted, submissions_of, nodes_of_run, is_free, reason_of, has_come, received_of, pending_of, merged_of, is_open, is_active, chain_of, node_of_run, is_barrier_of}
+use Rattle.gcd_history.specs.History.{is_started, is_submitted, submissions_of, nodes_of_run, is_free, reason_of, has_come, received_of, pending_of, merged_of, is_open, is_active, chain_of, node_of_run, is_barrier_of, why, choice_of, running_of, next_due_of, is_live_feed}
+use Rattle.gcd_history.specs.Choice.{is_work, worker_of}
+use Rattle.gcd_history.specs.Ends.{is_halted}
 use Rattle.gcd_history.specs.Sources.{joined}
 
 -- each block starts at most once, and ends at most once (dispatch_async(3))
@@ -94,3 +96,22 @@ pub record TreeStands (plan : PlanView) (h : List Event) : Type 0 where
   pub kept : (i : ℕ) (run : Run) → IsTrue (is_open (take i h) run) → IsTrue (is_open (take (i + 1) h) run) → nodes_of_run plan (take (i + 1) h) run ≡ nodes_of_run plan (take i h) run
   pub active : (i o : ℕ) (run : Run) → IsTrue (is_open (take i h) run) → IsTrue (is_in o (nodes_of_run plan (take i h) run)) → IsTrue (is_active plan (take i h) o)
   pub rooted : (i o : ℕ) → o < length plan.objects → IsTrue (is_in 0 (chain_of plan (take i h) o))
+
+-- an event that worker w may record next: permitted, its own, and none of the outside's (this project's own rule)
+pub record IsChoiceOf (plan : PlanView) (h : List Event) (w : ℕ) (e : Event) : Type 0 where
+  pub permitted : why plan h e ≡ None
+  pub work : is_work e ≡ true
+  pub by : worker_of e ≡ w
+
+-- no event of worker w is permitted
+abbrev pub HasNoChoice : PlanView → List Event → ℕ → Type 0
+HasNoChoice plan h w = (e : Event) → IsChoiceOf plan h w e → ⊥
+
+-- nothing goes on: not halted, no run is open and unparked, worker 0 has no choice, no due time is left, and no read source is
+-- live (this project's own rule)
+pub record IsAtRest (plan : PlanView) (h : List Event) : Type 0 where
+  pub unhalted : is_halted h ≡ false
+  pub idle : running_of plan h ≡ 0
+  pub no_choice : choice_of plan h 0 0 ≡ None
+  pub no_time : next_due_of plan h ≡ None
+  pub no_feed : (s : ℕ) → is_live_feed plan h s ≡ false

@@ -1,11 +1,13 @@
 // What holds of every lawful history. Each function's contract is a law; its body is empty.
-ghost use Rattle.std.specs.Prelude.{List};
+ghost use Rattle.std.specs.Prelude.{◌≡◌, ◌≤◌, ℕ, List, length, Some, None};
 ghost use Rattle.gcd_plan.specs.PlanView.{PlanView};
 ghost use Rattle.gcd_plan.specs.Validity.{IsPlan};
 ghost use Rattle.gcd_event.specs.declared.event.Event.{Event};
-ghost use Rattle.gcd_history.specs.History.{IsLawful};
-ghost use Rattle.gcd_history.specs.Ends.{IsDrained};
-ghost use Rattle.gcd_history.specs.Laws.{RunsOnce, StartsAfterSubmission, AllEndOnce, IsSubmittedOnce, StartsInOrder, BeginsFree, WakesHaveCause, NoneParked, WaitsHavePassed, IsConserved, RunsExclude, BarriersExclude, TreeStands};
+ghost use Rattle.gcd_event.specs.declared.event.Event.TheVariants.{Halt};
+ghost use Rattle.gcd_history.specs.History.{IsLawful, why, choice_of};
+ghost use Rattle.gcd_history.specs.Ends.{IsDrained, IsQuiescent, IsHalted, HasState};
+ghost use Rattle.gcd_history.specs.declared.state.State.{State};
+ghost use Rattle.gcd_history.specs.Laws.{RunsOnce, StartsAfterSubmission, AllEndOnce, IsSubmittedOnce, StartsInOrder, BeginsFree, WakesHaveCause, NoneParked, WaitsHavePassed, IsConserved, RunsExclude, BarriersExclude, TreeStands, IsChoiceOf, HasNoChoice, IsAtRest};
 
 /// Each block starts at most once, after its submission, and ends at most once; where the run is drained each submitted
 /// block has ended exactly once (dispatch_async(3)).
@@ -60,4 +62,29 @@ pub fn merged_data_is_conserved()
 /// object ends at root (dispatch_set_target_queue(3), dispatch_activate(3)).
 pub fn tree_stands_under_open_runs()
     ensures { (plan : PlanView) (h : List Event) → IsPlan plan → IsLawful plan h → TreeStands plan h }
+{}
+
+/// What a worker chooses is an event of its own that is permitted; it chooses none exactly where no event of its own is
+/// permitted, from whatever node on it looks (this project's own rule).
+pub fn choices_are_complete()
+    ensures chosen { (plan : PlanView) (h : List Event) (w from : ℕ) (e : Event) → choice_of plan h w from ≡ Some e → IsChoiceOf plan h w e }
+    ensures none { (plan : PlanView) (h : List Event) (w from : ℕ) → IsPlan plan → IsLawful plan h → from ≤ length plan.objects → choice_of plan h w from ≡ None → HasNoChoice plan h w }
+{}
+
+/// A history is quiescent exactly where it is at rest: no run is open and unparked, worker 0 has no choice, no due time is
+/// left and no read source is live (this project's own rule).
+pub fn quiescent_is_at_rest()
+    ensures quiescent { (plan : PlanView) (h : List Event) → IsPlan plan → IsLawful plan h → IsAtRest plan h → IsQuiescent plan h }
+    ensures rest { (plan : PlanView) (h : List Event) → IsPlan plan → IsLawful plan h → IsQuiescent plan h → IsAtRest plan h }
+{}
+
+/// After a misuse or a halt nothing is permitted, and after a quiescent history a halt alone (this project's own rule).
+pub fn ended_histories_stand()
+    ensures halted { (plan : PlanView) (h : List Event) (e : Event) → IsHalted h → why plan h e ≡ None → ⊥ }
+    ensures quiescent { (plan : PlanView) (h : List Event) (e : Event) → IsQuiescent plan h → why plan h e ≡ None → e ≡ Halt }
+{}
+
+/// A history has come to one state (this project's own rule).
+pub fn states_are_apart()
+    ensures { (plan : PlanView) (h : List Event) (s t : State) → HasState plan h s → HasState plan h t → s ≡ t }
 {}

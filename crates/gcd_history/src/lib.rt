@@ -28,6 +28,8 @@
 //! | [`laws::wakes_have_causes`] | a parked block wakes only when what it waits for has come |
 //! | [`laws::merged_data_is_conserved`] | what was merged was handed over, or is pending |
 //! | [`laws::tree_stands_under_open_runs`] | targets lead to root, and stand still under an open run |
+//! | [`laws::choices_are_complete`] | a worker has a choice exactly where an event of its own is permitted |
+//! | [`laws::quiescent_is_at_rest`], [`laws::ended_histories_stand`], [`laws::states_are_apart`] | how to see that nothing goes on, and what can still come then |
 //!
 //! Nothing here says that a run exists, that a worker does anything, or which of several lawful histories comes.
 #![tactic(auto)]
