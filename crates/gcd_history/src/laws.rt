@@ -14,12 +14,14 @@ ghost use Rattle.gcd_history.specs.Laws.{RunsOnce, StartsAfterSubmission, AllEnd
 pub fn blocks_run_once()
     ensures once { (plan : PlanView) (h : List Event) → IsLawful plan h → RunsOnce h }
     ensures after { (plan : PlanView) (h : List Event) → IsLawful plan h → StartsAfterSubmission plan h }
-    ensures drained { (plan : PlanView) (h : List Event) → IsLawful plan h → IsDrained plan h → AllEndOnce plan h }
+    ensures drained { (plan : PlanView) (h : List Event) → IsLawful plan h → IsDrained plan h
+        → AllEndOnce plan h }
 {}
 
 /// Each block is submitted at most once (this project's own rule).
 pub fn blocks_are_submitted_once()
-    ensures { (plan : PlanView) (h : List Event) → IsPlan plan → IsLawful plan h → IsSubmittedOnce plan h }
+    ensures { (plan : PlanView) (h : List Event) → IsPlan plan → IsLawful plan h
+        → IsSubmittedOnce plan h }
 {}
 
 /// Of two submissions on one node the later starts only after the earlier has started (dispatch_queue_create(3)).
@@ -49,8 +51,10 @@ pub fn runs_begin_free()
 /// dispatch_semaphore_wait(3)).
 pub fn wakes_have_causes()
     ensures cause { (plan : PlanView) (h : List Event) → IsLawful plan h → WakesHaveCause plan h }
-    ensures none { (plan : PlanView) (h : List Event) → IsLawful plan h → IsDrained plan h → NoneParked plan h }
-    ensures passed { (plan : PlanView) (h : List Event) → IsLawful plan h → IsDrained plan h → WaitsHavePassed plan h }
+    ensures none { (plan : PlanView) (h : List Event) → IsLawful plan h → IsDrained plan h
+        → NoneParked plan h }
+    ensures passed { (plan : PlanView) (h : List Event) → IsLawful plan h → IsDrained plan h
+        → WaitsHavePassed plan h }
 {}
 
 /// What the Delivers of a source handed over, with what is pending, is all that it was given (dispatch_source_merge_data(3)).
@@ -67,24 +71,30 @@ pub fn tree_stands_under_open_runs()
 /// What a worker chooses is an event of its own that is permitted; it chooses none exactly where no event of its own is
 /// permitted, from whatever node on it looks (this project's own rule).
 pub fn choices_are_complete()
-    ensures chosen { (plan : PlanView) (h : List Event) (w from : ℕ) (e : Event) → choice_of plan h w from ≡ Some e → IsChoiceOf plan h w e }
-    ensures none { (plan : PlanView) (h : List Event) (w from : ℕ) → IsPlan plan → IsLawful plan h → from ≤ length plan.objects → choice_of plan h w from ≡ None → HasNoChoice plan h w }
+    ensures chosen { (plan : PlanView) (h : List Event) (w from : ℕ) (e : Event)
+        → choice_of plan h w from ≡ Some e → IsChoiceOf plan h w e }
+    ensures none { (plan : PlanView) (h : List Event) (w from : ℕ) → IsPlan plan → IsLawful plan h
+        → from ≤ length plan.objects → choice_of plan h w from ≡ None → HasNoChoice plan h w }
 {}
 
 /// A history is quiescent exactly where it is at rest: no run is open and unparked, worker 0 has no choice, no due time is
 /// left and no read source is live (this project's own rule).
 pub fn quiescent_is_at_rest()
-    ensures quiescent { (plan : PlanView) (h : List Event) → IsPlan plan → IsLawful plan h → IsAtRest plan h → IsQuiescent plan h }
-    ensures rest { (plan : PlanView) (h : List Event) → IsPlan plan → IsLawful plan h → IsQuiescent plan h → IsAtRest plan h }
+    ensures quiescent { (plan : PlanView) (h : List Event) → IsPlan plan → IsLawful plan h → IsAtRest plan h
+        → IsQuiescent plan h }
+    ensures rest { (plan : PlanView) (h : List Event) → IsPlan plan → IsLawful plan h → IsQuiescent plan h
+        → IsAtRest plan h }
 {}
 
 /// After a misuse or a halt nothing is permitted, and after a quiescent history a halt alone (this project's own rule).
 pub fn ended_histories_stand()
     ensures halted { (plan : PlanView) (h : List Event) (e : Event) → IsHalted h → why plan h e ≡ None → ⊥ }
-    ensures quiescent { (plan : PlanView) (h : List Event) (e : Event) → IsQuiescent plan h → why plan h e ≡ None → e ≡ Halt }
+    ensures quiescent { (plan : PlanView) (h : List Event) (e : Event) → IsQuiescent plan h → why plan h e ≡ None
+        → e ≡ Halt }
 {}
 
 /// A history has come to one state (this project's own rule).
 pub fn states_are_apart()
-    ensures { (plan : PlanView) (h : List Event) (s t : State) → HasState plan h s → HasState plan h t → s ≡ t }
+    ensures { (plan : PlanView) (h : List Event) (s t : State) → HasState plan h s → HasState plan h t
+        → s ≡ t }
 {}
