@@ -1,0 +1,5 @@
+pub use Rattle.gcd_plan.specs.PlanView
+pub mod Lines
+pub mod Forms
+pub mod Drafts
+pub mod Faults

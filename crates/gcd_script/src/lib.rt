@@ -1,0 +1,4 @@
+//! The script language.
+#![tactic(auto)]
+
+mod meaning;
