@@ -3,3 +3,4 @@ pub mod Lines
 pub mod Forms
 pub mod Drafts
 pub mod Faults
+pub mod Words

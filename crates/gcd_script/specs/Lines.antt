@@ -1,12 +1,12 @@
 -- How a script is cut into lines, and a line into words (this project's own rules).
-use Rattle.std.specs.Prelude.{ℕ, ◌==◌, nat_le, not, ◌&&◌, Bool, if◌then◌else◌, List, [], ◌∷◌, length, filter}
+use Rattle.std.specs.Prelude.{ℕ, ◌==◌, nat_le, not, ◌&&◌, Bool, List, [], ◌∷◌, length, filter}
 use Rattle.std.specs.List.{slice_split, list_all}
 
 -- the parts of a text, without a last part that is empty
 abbrev pub but_empty_last : List (List ℕ) → List (List ℕ)
 but_empty_last [] = []
-but_empty_last (part ∷ []) = if length part == 0 then [] else part ∷ []
-but_empty_last (part ∷ next ∷ parts) = part ∷ but_empty_last (next ∷ parts)
+but_empty_last ([] ∷ []) = []
+but_empty_last (part ∷ parts) = part ∷ but_empty_last parts
 
 -- the lines of a text: each ends with the byte 10, which a last line may lack
 abbrev pub lines_of : List ℕ → List (List ℕ)
