@@ -1,5 +1,6 @@
 -- What the lines of a script declare: the plan so far, and the body that is open (this project's own rules).
-use Rattle.std.specs.Prelude.{ℕ, ◌+◌, ◌||◌, Bool, true, false, if◌then◌else◌, List, [], ◌∷◌, ◌++◌, length, map, Option, Some, None, option_map, slice_get, slice_set, position, codes}
+use Rattle.std.specs.Prelude.{ℕ, ◌+◌, ◌||◌, Bool, true, false, if◌then◌else◌, List, [], ◌∷◌, ◌++◌, length, map, Option, Some, None, option_map, slice_get, slice_set, codes}
+use Rattle.std.specs.List.{position_from}
 use Rattle.std.specs.Option.{option_map_or, option_or}
 use Rattle.std.specs.Str.{bytes_eq}
 use Rattle.gcd_plan.specs.PlanView.{PlanView, ObjView, BlkView, FileView}
@@ -30,7 +31,7 @@ is_reserved name = bytes_eq name (codes "root") || bytes_eq name (codes "main")
 
 -- the place of the first of these that is the name
 abbrev pub place_of : List ℕ → List (List ℕ) → Option ℕ
-place_of name names = position (bytes_eq name) names
+place_of name names = position_from (bytes_eq name) 0 names
 
 -- what a declared name means
 abbrev pub meaning_among : PlanView → List ℕ → Option Meaning

@@ -4,3 +4,4 @@ pub mod Forms
 pub mod Drafts
 pub mod Faults
 pub mod Words
+pub mod Sound
