@@ -5,3 +5,4 @@ pub mod Drafts
 pub mod Faults
 pub mod Words
 pub mod Sound
+pub mod Kept
