@@ -69,7 +69,7 @@ module _ (plan : PlanView) (valid : IsPlan plan) (forms : IsOfFirstForms plan) (
   grows = record { kinds = λ o kind h. h; objects = omega arith; blocks = let same = same_length in omega arith; files = omega arith }
 
   -- what the act does not change of the blocks
-  same_map : {Y : Type 0} (f : BlkView → Y) → f fuller ≡ f block → map f new.blocks ≡ map f plan.blocks
+  pub same_map : {Y : Type 0} (f : BlkView → Y) → f fuller ≡ f block → map f new.blocks ≡ map f plan.blocks
   same_map f same = map-set_same f plan.blocks b.0 fuller block (same ∙ ap f (sym old_block))
 
   same_names : names_of new ≡ names_of plan
@@ -85,11 +85,11 @@ module _ (plan : PlanView) (valid : IsPlan plan) (forms : IsOfFirstForms plan) (
   own : BlkView → List Blk
   own blk = blocks_of blk.acts
 
-  submits_of : Act → List Blk
+  pub submits_of : Act → List Blk
   submits_of a = option_to_list (block_of a)
 
   -- the blocks that the new plan submits: those of the old one, and the act's
-  more_submitted : (q : ℕ) → count_by (λ (c : Blk). c.0 == q) (submitted_blocks new) ≡ count_by (λ (c : Blk). c.0 == q) (submitted_blocks plan) + count_by (λ (c : Blk). c.0 == q) (submits_of act)
+  pub more_submitted : (q : ℕ) → count_by (λ (c : Blk). c.0 == q) (submitted_blocks new) ≡ count_by (λ (c : Blk). c.0 == q) (submitted_blocks plan) + count_by (λ (c : Blk). c.0 == q) (submits_of act)
   unfolding own submits_of
   more_submitted q =
       let p = λ (c : Blk). c.0 == q in
@@ -107,13 +107,17 @@ module _ (plan : PlanView) (valid : IsPlan plan) (forms : IsOfFirstForms plan) (
       in
       omega arith
 
-  more_acts : sum_by (λ (blk : BlkView). length blk.acts) new.blocks ≡ sum_by (λ (blk : BlkView). length blk.acts) plan.blocks + 1
+  pub more_acts : sum_by (λ (blk : BlkView). length blk.acts) new.blocks ≡ sum_by (λ (blk : BlkView). length blk.acts) plan.blocks + 1
   more_acts =
       let size = λ (blk : BlkView). length blk.acts in
       let changed = sum_by-set size plan.blocks b.0 fuller block within in
       let before : size (get_or plan.blocks b.0 block) ≡ size block = ap size old_block in
       let joined = length_push block.acts act in
       omega arith
+
+  pub own_count : (c : Blk) → block_of act ≡ Some c → (q : ℕ) → count_by (λ (d : Blk). d.0 == q) (submits_of act) ≡ cond (c.0 == q) 1 0
+  unfolding submits_of
+  own_count c submits q = ap (λ o. count_by (λ (d : Blk). d.0 == q) (option_to_list o)) submits ∙ zero-add (cond (c.0 == q) 1 0)
 
   -- where the act fits, there is room, and its block is not submitted yet
   module _ (c : Blk) (submits : block_of act ≡ Some c) (fits : is_act plan act ≡ true) (fresh : list_any (λ (d : Blk). d.0 == c.0) (submitted_blocks plan) ≡ false) (room : act_count plan < 65535) where
@@ -125,9 +129,8 @@ module _ (plan : PlanView) (valid : IsPlan plan) (forms : IsOfFirstForms plan) (
         block_grows plan new grows fuller (and_from (option_map_or (is_work plan) block.work true) (list_all (is_act plan) (block.acts ++ act ∷ [])) parts.0 acts)
 
     submitted_once : (q : ℕ) → count_by (λ (d : Blk). d.0 == q) (submitted_blocks new) ≤ 1
-    unfolding submits_of
     submitted_once q =
-        let one : count_by (λ (d : Blk). d.0 == q) (submits_of act) ≡ cond (c.0 == q) 1 0 = ap (λ o. count_by (λ (d : Blk). d.0 == q) (option_to_list o)) submits ∙ zero-add (cond (c.0 == q) 1 0) in
+        let one = own_count c submits q in
         let more = more_submitted q in
         let few = valid.once q in
         elim (c.0 == q) as (λ v. c.0 == q ≡ v → count_by (λ (d : Blk). d.0 == q) (submits_of act) ≡ cond v 1 0 → count_by (λ (d : Blk). d.0 == q) (submitted_blocks new) ≤ 1) [

@@ -48,13 +48,13 @@ count_insert p {y} i =
     omega arith
 
 module _ (plan : PlanView) where
-  abbrev file_names : List (List ℕ)
+  abbrev pub file_names : List (List ℕ)
   file_names = map (λ f. f.name) plan.files
 
-  abbrev object_names : List (List ℕ)
+  abbrev pub object_names : List (List ℕ)
   object_names = map (λ o. o.name) plan.objects
 
-  abbrev block_names : List (List ℕ)
+  abbrev pub block_names : List (List ℕ)
   block_names = map (λ b. b.name) plan.blocks
 
   pub file_inserts : (file : FileView) → Inserts file.name (names_of plan) (names_of (with_file file plan))
@@ -93,11 +93,11 @@ module _ (plan : PlanView) where
     pub free : is_reserved name ≡ false
     pub unknown : meaning_among plan name ≡ None
 
-no_part : {X Y : Type 0} (f : X → Y) (o : Option X) (p : Option Y) → option_or (option_map f o) p ≡ None → (o ≡ None) × (p ≡ None)
+pub no_part : {X Y : Type 0} (f : X → Y) (o : Option X) (p : Option Y) → option_or (option_map f o) p ≡ None → (o ≡ None) × (p ≡ None)
 no_part f None p h = (refl, h)
 no_part f (Some x) p h = cc
 
-no_map : {X Y : Type 0} (f : X → Y) (o : Option X) → option_map f o ≡ None → o ≡ None
+pub no_map : {X Y : Type 0} (f : X → Y) (o : Option X) → option_map f o ≡ None → o ≡ None
 no_map f None h = refl
 no_map f (Some x) h = cc
 

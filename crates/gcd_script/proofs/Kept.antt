@@ -212,6 +212,14 @@ act_kept queue block draft sound b opened known_queue known_block is_a_queue is_
     } in
     subst (λ p. IsDraft (record draft { plan = p })) (sym same) kept
 
+-- the block that a right act's line names
+pub block_named : (queue block : List ℕ) (draft : DraftView) → IsDraft draft → first_code (codes_of draft (AsyncLine queue block)) ≡ None → IsBlockName draft.plan block (number_of draft.plan block)
+block_named queue block draft sound right =
+    let (outside, (unknown, (other, rest))) = all_fail (codes_of draft (AsyncLine queue block)) right in
+    block_known draft.plan sound.valid block
+        (or_parts (is_unknown draft.plan queue) (is_unknown draft.plan block) unknown).1
+        (or_parts (is_other is_queue_name draft.plan queue) (is_other is_block_name draft.plan block) other).1
+
 has_first : (blocks : List BlkView) (name : List ℕ) → option_map (λ (x : BlkView). x.name) (slice_get blocks 0) ≡ Some name → 0 < length blocks
 has_first [] name h = cc
 has_first (b ∷ blocks) name h = omega arith

@@ -57,6 +57,20 @@ first_idle : (blocks more : List BlkView) → option_map_or (λ (b : BlkView). i
 first_idle [] more h = cc
 first_idle (b ∷ blocks) more h = h
 
+module _ (plan : PlanView) where
+  -- a queue or a block with no act submits nothing
+  pub queue_submits : (name : List ℕ) → submitted_blocks (with_object (serial_queue name) plan) ≡ submitted_blocks plan
+  queue_submits name =
+      let own = λ (o : ObjView). blocks_of o.handler ++ option_to_list o.cancel in
+      ap (λ xs. flat_map (λ (b : BlkView). blocks_of b.acts) plan.blocks ++ xs)
+      (flat_map-append own plan.objects (serial_queue name ∷ []) ∙ append-nil (flat_map own plan.objects))
+
+  pub block_submits : (name : List ℕ) (work : Option Work) → submitted_blocks (with_block (new_block name work) plan) ≡ submitted_blocks plan
+  block_submits name work =
+      let own = λ (b : BlkView). blocks_of b.acts in
+      ap (λ xs. xs ++ flat_map (λ (o : ObjView). blocks_of o.handler ++ option_to_list o.cancel) plan.objects)
+      (flat_map-append own plan.blocks (new_block name work ∷ []) ∙ append-nil (flat_map own plan.blocks))
+
 module _ (plan : PlanView) (valid : IsPlan plan) (forms : IsOfFirstForms plan) where
   -- one file more
   file_grows : (file : FileView) → Grows plan (with_file file plan)
@@ -103,12 +117,6 @@ module _ (plan : PlanView) (valid : IsPlan plan) (forms : IsOfFirstForms plan) w
     files = omega arith;
   }
 
-  queue_submits : (name : List ℕ) → submitted_blocks (with_object (serial_queue name) plan) ≡ submitted_blocks plan
-  queue_submits name =
-      let own = λ (o : ObjView). blocks_of o.handler ++ option_to_list o.cancel in
-      ap (λ xs. flat_map (λ (b : BlkView). blocks_of b.acts) plan.blocks ++ xs)
-      (flat_map-append own plan.objects (serial_queue name ∷ []) ∙ append-nil (flat_map own plan.objects))
-
   pub queue_valid : (name : List ℕ) → IsFit plan name → length plan.objects < 1024 → IsPlan (with_object (serial_queue name) plan)
   queue_valid name fit few =
       let queue = serial_queue name in
@@ -134,7 +142,7 @@ module _ (plan : PlanView) (valid : IsPlan plan) (forms : IsOfFirstForms plan) w
         objects = push_all (is_object new) plan.objects queue (list_all_map (is_object plan) (is_object new) (object_grows plan new grows) plan.objects valid.objects) (and_from (has_kind is_queue_kind new 0) true (root_is_queue new first) refl);
         blocks = list_all_map (is_block plan) (is_block new) (block_grows plan new grows) plan.blocks valid.blocks;
         files = valid.files;
-        once = λ b. subst (λ xs. count_by (λ (c : Blk). c.0 == b) xs ≤ 1) (sym (queue_submits name)) (valid.once b);
+        once = λ b. subst (λ xs. count_by (λ (c : Blk). c.0 == b) xs ≤ 1) (sym (queue_submits plan name)) (valid.once b);
         targets = all_reach_root new first queues;
       }
 
@@ -153,12 +161,6 @@ module _ (plan : PlanView) (valid : IsPlan plan) (forms : IsOfFirstForms plan) w
     blocks = let more = length_push plan.blocks (new_block name work) in omega arith;
     files = omega arith;
   }
-
-  block_submits : (name : List ℕ) (work : Option Work) → submitted_blocks (with_block (new_block name work) plan) ≡ submitted_blocks plan
-  block_submits name work =
-      let own = λ (b : BlkView). blocks_of b.acts in
-      ap (λ xs. xs ++ flat_map (λ (o : ObjView). blocks_of o.handler ++ option_to_list o.cancel) plan.objects)
-      (flat_map-append own plan.blocks (new_block name work ∷ []) ∙ append-nil (flat_map own plan.blocks))
 
   pub block_valid : (name : List ℕ) (work : Option Work) → IsFit plan name → length plan.blocks < 16385 → option_map_or (is_work plan) work true ≡ true → IsPlan (with_block (new_block name work) plan)
   block_valid name work fit few readable =
@@ -183,7 +185,7 @@ module _ (plan : PlanView) (valid : IsPlan plan) (forms : IsOfFirstForms plan) w
         objects = list_all_map (is_object plan) (is_object new) (object_grows plan new grows) plan.objects valid.objects;
         blocks = push_all (is_block new) plan.blocks block (list_all_map (is_block plan) (is_block new) (block_grows plan new grows) plan.blocks valid.blocks) (and_from (option_map_or (is_work new) work true) true readable refl);
         files = valid.files;
-        once = λ b. subst (λ xs. count_by (λ (c : Blk). c.0 == b) xs ≤ 1) (sym (block_submits name work)) (valid.once b);
+        once = λ b. subst (λ xs. count_by (λ (c : Blk). c.0 == b) xs ≤ 1) (sym (block_submits plan name work)) (valid.once b);
         targets = valid.targets;
       }
 

@@ -88,6 +88,21 @@ with_act act plan b =
 abbrev pub async_of : PlanView → (queue block : List ℕ) → Act
 async_of plan queue block = Async (record { 0 = number_of plan queue }) (record { 0 = number_of plan block })
 
+-- a draft with this plan, in which no body is open
+abbrev pub closed : PlanView → DraftView → DraftView
+closed plan draft = record draft { plan = plan; body = None }
+
+-- a draft with one more block, whose body is open
+abbrev pub with_body : BlkView → DraftView → DraftView
+with_body block draft = record draft {
+  plan = with_block block draft.plan;
+  body = Some (record { 0 = length draft.plan.blocks });
+}
+
+-- a draft in whose open body one more act stands
+abbrev pub with_own_act : Act → DraftView → DraftView
+with_own_act act draft = record draft { plan = option_map_or (with_act act draft.plan) draft.body draft.plan }
+
 -- the plan before the first line: root and main alone, and timers until 1000
 abbrev pub empty_draft : DraftView
 empty_draft = record {
@@ -98,24 +113,13 @@ empty_draft = record {
 
 -- the draft after a line of the form, the line of that number
 abbrev pub after : (number : ℕ) → LineForm → DraftView → DraftView
-after number (FileLine name path) draft =
-    record draft { plan = with_file (new_file number name path) draft.plan; body = None }
-after number (QueueLine name) draft =
-    record draft { plan = with_object (serial_queue name) draft.plan; body = None }
-after number (BlockLine name None) draft =
-    record draft {
-      plan = with_block (new_block name None) draft.plan;
-      body = Some (record { 0 = length draft.plan.blocks });
-    }
+after number (FileLine name path) draft = closed (with_file (new_file number name path) draft.plan) draft
+after number (QueueLine name) draft = closed (with_object (serial_queue name) draft.plan) draft
+after number (BlockLine name None) draft = with_body (new_block name None) draft
 after number (BlockLine name (Some file)) draft =
-    record draft {
-      plan = with_block (new_block name (Some (line_count (number_of draft.plan file)))) draft.plan;
-      body = Some (record { 0 = length draft.plan.blocks });
-    }
-after number MainLine draft =
-    record draft { body = Some (record { 0 = 0 }); has_main = true }
-after number (AsyncLine queue block) draft =
-    record draft { plan = option_map_or (with_act (async_of draft.plan queue block) draft.plan) draft.body draft.plan }
+    with_body (new_block name (Some (line_count (number_of draft.plan file)))) draft
+after number MainLine draft = record draft { body = Some (record { 0 = 0 }); has_main = true }
+after number (AsyncLine queue block) draft = with_own_act (async_of draft.plan queue block) draft
 
 -- the draft after these lines, the newest first; a line of no form declares nothing
 abbrev pub draft_of : List (List ℕ) → DraftView

@@ -2,6 +2,8 @@
 ghost use Rattle.std.specs.Prelude.{◌≡◌, ◌==◌, ℕ, not, nat_le, is_none, is_some, false, length, slice_get};
 ghost use Rattle.std.specs.Option.{option_map_or};
 ghost use Rattle.gcd_plan.specs.PlanView.{PlanView, view_of};
+ghost use Rattle.gcd_script.specs.Drafts.{is_reserved};
+ghost use Rattle.gcd_script.specs.Faults.{first_code, is_file_name, is_block_name};
 
 use crate::draft::Draft;
 use crate::form::Form;
@@ -9,9 +11,6 @@ use crate::limits::{MOST_ACTS, MOST_BLOCKS, MOST_FILES, MOST_OBJECTS};
 use crate::meaning::Meaning;
 use crate::names::is_name;
 use gcd_plan::{Blk, Kind, Obj};
-
-ghost use Rattle.gcd_script.specs.Drafts.{is_reserved};
-ghost use Rattle.gcd_script.specs.Faults.{first_code, is_file_name, is_block_name};
 
 // The first code whose test holds.
 fn first_code(rows: &[(u8, bool)]) -> Option<u8>
@@ -110,7 +109,10 @@ impl<'a> Draft<'a> {
                 (2, self.is_unfit(name)),
                 (8, self.parts.blocks.len() >= MOST_BLOCKS),
             ]),
-            Form::Block { name, counts: Some(file) } => self.code_of_work(name, file),
+            Form::Block {
+                name,
+                counts: Some(file),
+            } => self.code_of_work(name, file),
             Form::Main => first_code(&[(9, self.has_main)]),
             Form::Async { queue, block } => self.code_of_async(queue, block),
         }

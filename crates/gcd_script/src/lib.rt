@@ -1,6 +1,7 @@
 //! The script language.
 #![tactic(auto)]
 
+mod additions;
 mod draft;
 mod faults;
 mod form;
