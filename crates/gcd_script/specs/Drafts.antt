@@ -121,8 +121,11 @@ after number (BlockLine name (Some file)) draft =
 after number MainLine draft = record draft { body = Some (record { 0 = 0 }); has_main = true }
 after number (AsyncLine queue block) draft = with_own_act (async_of draft.plan queue block) draft
 
--- the draft after these lines, the newest first; a line of no form declares nothing
+-- the draft after a line; one of no form declares nothing
+abbrev pub after_line : (number : ℕ) → List ℕ → DraftView → DraftView
+after_line number line draft = option_map_or (λ form. after number form draft) (form_of (words_of line)) draft
+
+-- the draft after these lines, the newest first
 abbrev pub draft_of : List (List ℕ) → DraftView
 draft_of [] = empty_draft
-draft_of (line ∷ past) =
-    option_map_or (λ form. after (length past + 1) form (draft_of past)) (form_of (words_of line)) (draft_of past)
+draft_of (line ∷ past) = after_line (length past + 1) line (draft_of past)

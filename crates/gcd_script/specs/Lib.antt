@@ -6,3 +6,4 @@ pub mod Faults
 pub mod Words
 pub mod Sound
 pub mod Kept
+pub mod Refusals

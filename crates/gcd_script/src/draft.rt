@@ -179,4 +179,12 @@ impl<'a> Draft<'a> {
             None => 0,
         }
     }
+
+    /// The parts of the plan.
+    pub fn into_parts(self) -> Parts
+        ensures { result ≡ self.entry.parts }
+    {
+        let Draft { parts, .. } = self;
+        parts
+    }
 }
