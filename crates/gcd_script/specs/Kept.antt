@@ -10,7 +10,7 @@ use Rattle.gcd_plan.specs.PlanView.{PlanView, view_of}
 use Rattle.gcd_plan.specs.Validity.{submitted_blocks, act_count}
 use Rattle.gcd_script.specs.declared.draft.Draft.{Draft}
 use Rattle.gcd_script.specs.declared.meaning.Meaning.{Meaning}
-use Rattle.gcd_script.specs.Drafts.{DraftView, meaning_of}
+use Rattle.gcd_script.specs.Drafts.{meaning_of}
 
 -- what the code's map from names has at a name
 abbrev pub look_up : BTreeMap (Bor (List ℕ)) Meaning → List ℕ → Option Meaning
@@ -20,10 +20,6 @@ look_up meanings name = get_by (λ key. slice_cmp nat_cmp name key.now) meanings
 abbrev pub Declares : (old new : List ℕ → Option Meaning) → List ℕ → Meaning → Type 0
 Declares old new name meaning = (q : List ℕ) → new q ≡ (if bytes_eq name q then Some meaning else old q)
 
--- a draft of the code, seen by what its lines declare
-abbrev pub draft_view : Draft → DraftView
-draft_view d = record { plan = view_of d.parts; body = d.body; has_main = d.has_main }
-
 -- what is kept beside a plan agrees with it: what each name means, which blocks are submitted, and how many acts there
 -- are
 pub record Agrees (meanings : List ℕ → Option Meaning) (submitted : List Bool) (acts : ℕ) (plan : PlanView) : Type 0 where
@@ -32,5 +28,6 @@ pub record Agrees (meanings : List ℕ → Option Meaning) (submitted : List Boo
   pub blocks : (b : ℕ) → slice_index_or submitted b false ≡ list_any (λ c. c.0 == b) (submitted_blocks plan)
   pub count : acts ≡ act_count plan
 
+-- what the parser keeps beside a draft's plan agrees with it
 abbrev pub IsKept : Draft → Type 0
 IsKept d = Agrees (look_up d.meanings) d.submitted.items d.acts (view_of d.parts)

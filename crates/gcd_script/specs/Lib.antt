@@ -3,7 +3,7 @@ pub mod Lines
 pub mod Forms
 pub mod Drafts
 pub mod Faults
-pub mod Words
-pub mod Sound
-pub mod Kept
 pub mod Refusals
+pub mod Sound
+pub mod Views
+pub mod Kept

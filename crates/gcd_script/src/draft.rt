@@ -2,10 +2,10 @@
 ghost use Rattle.std.specs.Prelude.{◌≡◌, ◌<◌, Ok, Some, None, false, length, IfOk, OnOk};
 ghost use Rattle.gcd_plan.specs.PlanView.{view_of};
 
-use crate::additions::{declare, push_act, push_block, push_file, push_queue};
+use crate::additions::{block_part, declare, push_act, push_block, push_file, push_queue, queue_part};
 use crate::form::Form;
 use crate::meaning::Meaning;
-use gcd_plan::{Act, Blk, BlkPart, FilePart, How, Kind, Obj, ObjPart, Parts, WHOLE_FILE, Work};
+use gcd_plan::{Act, Blk, How, Kind, Obj, Parts, WHOLE_FILE, Work};
 use std::alloc::{AllocError, Global};
 use std::collections::BTreeMap;
 
@@ -23,35 +23,21 @@ pub struct Draft<'a> {
 
 impl<'a> Draft<'a> {
     ghost use Rattle.gcd_script.specs.Forms.{AsyncLine};
-    ghost use Rattle.gcd_script.specs.Words.{form_view};
     ghost use Rattle.gcd_script.specs.Drafts.{empty_draft, meaning_of, number_of, new_file, serial_queue, new_block, with_file, with_object, async_of, closed, with_body, with_own_act, after};
     ghost use Rattle.gcd_script.specs.Faults.{codes_of, first_code, is_unfit};
     ghost use Rattle.gcd_script.specs.Sound.{IsDraft};
-    ghost use Rattle.gcd_script.specs.Kept.{draft_view, IsKept};
+    ghost use Rattle.gcd_script.specs.Kept.{IsKept};
+    ghost use Rattle.gcd_script.specs.Views.{form_view, draft_view};
 
     /// The draft before the first line: `root` and `main` alone.
     pub fn new(alloc: Global) -> Result<Draft<'a>, AllocError>
         ensures view { IfOk result (λ d. draft_view d ≡ empty_draft) }
         ensures kept { IfOk result IsKept }
     {
-        let root = ObjPart {
-            name: String::from_str(alloc, "root")?,
-            kind: Kind::Concurrent,
-            target: Obj(0),
-            active: true,
-            path: String::new(alloc),
-            handler: Vec::new(alloc),
-            cancel: None,
-        };
-        let main = BlkPart {
-            name: String::from_str(alloc, "main")?,
-            acts: Vec::new(alloc),
-            work: None,
-        };
         let mut objects = Vec::new(alloc);
-        objects.push(root)?;
+        objects.push(queue_part(alloc, "root", Kind::Concurrent)?)?;
         let mut blocks = Vec::new(alloc);
-        blocks.push(main)?;
+        blocks.push(block_part(alloc, "main", None)?)?;
         let mut submitted = Vec::new(alloc);
         submitted.push(false)?;
         Ok(Draft {

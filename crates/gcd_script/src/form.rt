@@ -31,7 +31,7 @@ pub enum Form<'a> {
 
 impl<'a> Form<'a> {
     ghost use Rattle.gcd_script.specs.Forms.{form_of};
-    ghost use Rattle.gcd_script.specs.Words.{form_view};
+    ghost use Rattle.gcd_script.specs.Views.{form_view};
 
     /// The form of a line with these words; None exactly where it is of no form.
     pub fn of_words(words: &[&'a str]) -> Option<Form<'a>>

@@ -2,9 +2,9 @@
 #![tactic(auto)]
 
 mod additions;
+mod codes;
 mod draft;
 mod fault;
-mod faults;
 mod form;
 mod limits;
 mod lines;

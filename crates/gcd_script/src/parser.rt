@@ -3,7 +3,8 @@ ghost use Rattle.std.specs.Prelude.{◌≡◌, ◌<◌, None, length, IfOk, IfEr
 ghost use Rattle.gcd_plan.specs.FirstForms.{IsOfFirstForms};
 ghost use Rattle.gcd_script.specs.Drafts.{after_line};
 ghost use Rattle.gcd_script.specs.Faults.{code_of, IsScriptOf};
-ghost use Rattle.gcd_script.specs.Kept.{draft_view, IsKept};
+ghost use Rattle.gcd_script.specs.Kept.{IsKept};
+ghost use Rattle.gcd_script.specs.Views.{draft_view};
 ghost use Rattle.gcd_script.specs.Refusals.{IsRefusal, IsLineRefusal};
 ghost use Rattle.gcd_script.specs.Sound.{IsDraft};
 

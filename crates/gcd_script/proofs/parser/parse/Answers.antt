@@ -4,7 +4,7 @@ use Rattle.gcd_plan.specs.FirstForms.{IsOfFirstForms}
 use Rattle.gcd_plan.specs.PlanView.{view_of}
 use Rattle.gcd_plan.specs.Validity.{IsPlan}
 use Rattle.gcd_script.specs.Faults.{IsScriptOf}
-use Rattle.gcd_script.specs.Kept.{draft_view}
+use Rattle.gcd_script.specs.Views.{draft_view}
 use Rattle.gcd_script.proofs.Reading.{read_sound, reads_on, refusal, is_script, lacks_main}
 use Rattle.gcd_script.proofs.parser.parse.Goals as goal
 

@@ -1,5 +1,6 @@
 use Rattle.std.proofs.Common.{length}
-use Rattle.gcd_script.specs.Kept.{draft_view, IsKept}
+use Rattle.gcd_script.specs.Kept.{IsKept}
+use Rattle.gcd_script.specs.Views.{draft_view}
 use Rattle.gcd_script.proofs.Reading.{HasRead}
 use Rattle.gcd_script.proofs.parser.parse.Given as goal
 

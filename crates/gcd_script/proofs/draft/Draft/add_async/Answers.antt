@@ -3,7 +3,8 @@ use Rattle.gcd_plan.specs.declared.names.Blk.{Blk}
 use Rattle.gcd_plan.specs.declared.act.Act.{Act}
 use Rattle.gcd_plan.specs.declared.act.Act.TheVariants.{Async}
 use Rattle.gcd_plan.specs.PlanView.{view_of}
-use Rattle.gcd_script.specs.Kept.{Agrees, look_up, draft_view}
+use Rattle.gcd_script.specs.Kept.{Agrees, look_up}
+use Rattle.gcd_script.specs.Views.{draft_view}
 use Rattle.gcd_script.proofs.Acts.{at_place, is_new}
 use Rattle.gcd_script.proofs.Agreement.{act_agrees}
 use Rattle.gcd_script.proofs.Kept.{block_named}

@@ -48,9 +48,9 @@ fn is_no_block(meaning: Option<Meaning>) -> bool
 impl<'a> Draft<'a> {
     ghost use Rattle.gcd_plan.specs.Kinds.{is_queue};
     ghost use Rattle.gcd_script.specs.Forms.{BlockLine, AsyncLine};
-    ghost use Rattle.gcd_script.specs.Words.{form_view};
     ghost use Rattle.gcd_script.specs.Faults.{codes_of, is_unfit, is_queue_name, is_submitted_block};
-    ghost use Rattle.gcd_script.specs.Kept.{draft_view, IsKept};
+    ghost use Rattle.gcd_script.specs.Kept.{IsKept};
+    ghost use Rattle.gcd_script.specs.Views.{form_view, draft_view};
 
     // Whether a name can't be declared: it is no name, reserved or taken.
     fn is_unfit(&self, name: &str) -> bool
