@@ -75,16 +75,16 @@ module _ (old new : List ℕ → Option Meaning) (flags : List Bool) (count : �
         let more = acts.more_submitted plan valid forms b block stands act q in
         let own = acts.own_count plan valid forms b block stands act c submits q in
         elim (c.0 == q) as (λ v. c.0 == q ≡ v → count_by (λ (d : Blk). d.0 == q) (acts.submits_of plan valid forms b block stands act act) ≡ cond v 1 0 → get_or (set flags c.0 true) q false ≡ list_any (λ (d : Blk). d.0 == q) (submitted_blocks acted)) [
-          true ↦ λ e own.
-            ap (λ n. get_or (set flags c.0 true) n false) (sym (eqb-true c.0 q e))
-            ∙ get_or-set_same flags c.0 true false within
-            ∙ sym (any_counts (λ (d : Blk). d.0 == q) (submitted_blocks acted) ∙ lt-ltb 0 (count_by (λ (d : Blk). d.0 == q) (submitted_blocks acted)) (omega arith))
-        | false ↦ λ e own.
-            get_or-set_other flags c.0 q true false (λ same. eqb-false c.0 q e (sym same))
-            ∙ kept.blocks q
-            ∙ any_counts (λ (d : Blk). d.0 == q) (submitted_blocks plan)
-            ∙ ap (ltb 0) (omega arith)
-            ∙ sym (any_counts (λ (d : Blk). d.0 == q) (submitted_blocks acted))
+          | true ↦ λ e own.
+              ap (λ n. get_or (set flags c.0 true) n false) (sym (eqb-true c.0 q e))
+              ∙ get_or-set_same flags c.0 true false within
+              ∙ sym (any_counts (λ (d : Blk). d.0 == q) (submitted_blocks acted) ∙ lt-ltb 0 (count_by (λ (d : Blk). d.0 == q) (submitted_blocks acted)) (omega arith))
+          | false ↦ λ e own.
+              get_or-set_other flags c.0 q true false (λ same. eqb-false c.0 q e (sym same))
+              ∙ kept.blocks q
+              ∙ any_counts (λ (d : Blk). d.0 == q) (submitted_blocks plan)
+              ∙ ap (ltb 0) (omega arith)
+              ∙ sym (any_counts (λ (d : Blk). d.0 == q) (submitted_blocks acted))
         ] refl own
 
     pub act_agrees : Agrees old (set flags c.0 true) (count + 1) acted

@@ -18,12 +18,13 @@ use Rattle.gcd_plan.specs.declared.work.Work.{Work}
 use Rattle.gcd_script.specs.declared.meaning.Meaning.{Meaning}
 use Rattle.gcd_script.specs.declared.meaning.Meaning.TheVariants.{File, Object, Block}
 use Rattle.gcd_script.specs.Lines.{words_of, is_printable}
-use Rattle.gcd_script.specs.Forms.{LineForm, FileLine, QueueLine, BlockLine, MainLine, AsyncLine, form_of, first_form}
+use Rattle.gcd_script.specs.Forms.{LineForm, FileLine, QueueLine, BlockLine, MainLine, AsyncLine, form_of, fits_form}
 use Rattle.gcd_script.specs.Drafts.{DraftView, place_of, meaning_among, meaning_of, number_of, number_in, is_reserved, new_file, serial_queue, new_block, line_count, with_file, with_object, with_block, with_act, async_of, empty_draft, after, draft_of}
 use Rattle.gcd_script.specs.Faults.{codes_of, first_code, code_of, first_fault, is_unfit, is_unknown, is_other, is_file_name, is_queue_name, is_block_name, is_submitted, is_submitted_block, is_full_of_files, is_full_of_objects, is_full_of_blocks, is_full_of_acts}
 use Rattle.gcd_script.specs.Sound.{IsDraft}
 use Rattle.gcd_script.proofs.Places.{same_bytes, place_within, place_above}
 use Rattle.gcd_script.proofs.Inserts.{fit_from}
+use Rattle.gcd_script.proofs.Written.{written}
 use Rattle.gcd_script.proofs.Queues.{serial_above_root, all_reach_root}
 use Rattle.gcd_script.proofs.Valid.{file_valid, file_first, queue_valid, queue_first, block_valid, block_first}
 use Rattle.gcd_script.proofs.Acts as acts
@@ -149,31 +150,6 @@ block_known plan valid name is_known fits =
     let from = found plan name k.0 k.1 in
     subst (IsBlockName plan name) (sym (number_from plan name k.0 k.1)) (block_case plan valid name from.0 k.0 k.1 from.1 k.2)
 
--- what a line's form says of its words beyond their number: a path is one
-abbrev pub path_fits : LineForm → Bool
-path_fits (FileLine name path) = is_path path
-path_fits _ = true
-
--- a row of the table of forms
-row_fits : (test : Bool) (row form : LineForm) (rest : List (Bool × LineForm)) → (test ≡ true → path_fits row ≡ true) → (first_form rest ≡ Some form → path_fits form ≡ true) → first_form ((test, row) ∷ rest) ≡ Some form → path_fits form ≡ true
-row_fits true row form rest here there h = let same : row ≡ form = cc in subst (λ f. path_fits f ≡ true) same (here refl)
-row_fits false row form rest here there h = there h
-
-no_row : (form : LineForm) → first_form [] ≡ Some form → path_fits form ≡ true
-no_row form h = cc
-
-pub form_fits : (words : List (List ℕ)) (form : LineForm) → form_of words ≡ Some form → path_fits form ≡ true
-form_fits [] form h = cc
-form_fits (k ∷ []) form h = row_fits (bytes_eq k (codes "main")) MainLine form [] (λ t. refl) (no_row form) h
-form_fits (k ∷ a ∷ []) form h = row_fits (bytes_eq k (codes "block")) (BlockLine a None) form [] (λ t. refl) (no_row form) h
-form_fits (k ∷ a ∷ b ∷ []) form h =
-    row_fits (bytes_eq k (codes "file") && is_path b) (FileLine a b) form ((bytes_eq k (codes "queue") && bytes_eq b (codes "serial"), QueueLine a) ∷ (bytes_eq k (codes "async"), AsyncLine a b) ∷ []) (λ t. (and_parts (bytes_eq k (codes "file")) (is_path b) t).1)
-    (row_fits (bytes_eq k (codes "queue") && bytes_eq b (codes "serial")) (QueueLine a) form ((bytes_eq k (codes "async"), AsyncLine a b) ∷ []) (λ t. refl)
-    (row_fits (bytes_eq k (codes "async")) (AsyncLine a b) form [] (λ t. refl) (no_row form)))
-    h
-form_fits (k ∷ a ∷ b ∷ c ∷ []) form h = row_fits (bytes_eq k (codes "block") && bytes_eq b (codes "lines")) (BlockLine a (Some c)) form [] (λ t. refl) (no_row form) h
-form_fits (k ∷ a ∷ b ∷ c ∷ d ∷ words) form h = cc
-
 below : (m n : ℕ) → leb n m ≡ false → m < n
 below m n h = leb-false n m h
 
@@ -217,14 +193,14 @@ pub block_named : (queue block : List ℕ) (draft : DraftView) → IsDraft draft
 block_named queue block draft sound right =
     let (outside, (unknown, (other, rest))) = all_fail (codes_of draft (AsyncLine queue block)) right in
     block_known draft.plan sound.valid block
-        (or_parts (is_unknown draft.plan queue) (is_unknown draft.plan block) unknown).1
-        (or_parts (is_other is_queue_name draft.plan queue) (is_other is_block_name draft.plan block) other).1
+    (or_parts (is_unknown draft.plan queue) (is_unknown draft.plan block) unknown).1
+    (or_parts (is_other is_queue_name draft.plan queue) (is_other is_block_name draft.plan block) other).1
 
 has_first : (blocks : List BlkView) (name : List ℕ) → option_map (λ (x : BlkView). x.name) (slice_get blocks 0) ≡ Some name → 0 < length blocks
 has_first [] name h = cc
 has_first (b ∷ blocks) name h = omega arith
 
-pub form_kept : (number : ℕ) (form : LineForm) (draft : DraftView) → IsDraft draft → path_fits form ≡ true → first_code (codes_of draft form) ≡ None → IsDraft (after number form draft)
+pub form_kept : (number : ℕ) (form : LineForm) (draft : DraftView) → IsDraft draft → fits_form form ≡ true → first_code (codes_of draft form) ≡ None → IsDraft (after number form draft)
 form_kept number (FileLine name path) draft sound fits right =
     let (unfit, full) = all_fail (codes_of draft (FileLine name path)) right in
     record {
@@ -327,5 +303,5 @@ draft_sound [] h = empty_sound
 draft_sound (line ∷ past) h =
     let parts = no_fault_parts (first_fault past) (λ code. (length past + 1, code)) (code_of (draft_of past) line) h in
     let right = right_line (draft_of past) line parts.1 in
-    let kept = form_kept (length past + 1) right.0 (draft_of past) (draft_sound past parts.0) (form_fits (words_of line) right.0 right.1.form_is) right.1.no_fault in
+    let kept = form_kept (length past + 1) right.0 (draft_of past) (draft_sound past parts.0) (written (words_of line) right.0 right.1.form_is).fits right.1.no_fault in
     subst (λ o. IsDraft (option_map_or (λ form. after (length past + 1) form (draft_of past)) o (draft_of past))) (sym right.1.form_is) kept

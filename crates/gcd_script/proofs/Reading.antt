@@ -93,9 +93,9 @@ module _ (bytes : List ℕ) (n : ℕ) (rest : List ℕ) (draft : DraftView) (rea
     refused code fault =
         let met : first_fault (line ∷ past) ≡ Some (n + 1, code) = fault_of_newest ∙ ap (option_map (λ c. (n + 1, c))) fault in
         let whole : reverse (lines_of bytes) ≡ reverse (drop (suc n) (lines_of bytes)) ++ (line ∷ past) =
-          ap reverse (sym (take-append-drop (suc n) (lines_of bytes)))
-          ∙ reverse-append (take (suc n) (lines_of bytes)) (drop (suc n) (lines_of bytes))
-          ∙ ap (λ ls. reverse (drop (suc n) (lines_of bytes)) ++ ls) newest
+        ap reverse (sym (take-append-drop (suc n) (lines_of bytes)))
+        ∙ reverse-append (take (suc n) (lines_of bytes)) (drop (suc n) (lines_of bytes))
+        ∙ ap (λ ls. reverse (drop (suc n) (lines_of bytes)) ++ ls) newest
         in
         ap (λ o. option_or o (missing_main (reverse (lines_of bytes)))) (ap first_fault whole ∙ fault_stays (reverse (drop (suc n) (lines_of bytes))) (line ∷ past) (n + 1, code) met)
 

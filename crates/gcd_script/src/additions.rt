@@ -35,7 +35,13 @@ pub fn block_part(alloc: Global, name: &str, work: Option<Work>) -> Result<BlkPa
 }
 
 /// Adds a file.
-pub fn push_file(alloc: Global, parts: &mut Parts, number: u32, name: &str, path: &str) -> Result<(), AllocError>
+pub fn push_file(
+    alloc: Global,
+    parts: &mut Parts,
+    number: u32,
+    name: &str,
+    path: &str,
+) -> Result<(), AllocError>
     ensures { OnOk result (view_of parts.new ≡ with_file (new_file number name.now path.now) (view_of parts.old)) }
 {
     parts.files.push(FilePart {
@@ -55,7 +61,12 @@ pub fn push_queue(alloc: Global, parts: &mut Parts, name: &str) -> Result<(), Al
 }
 
 /// Adds a block with no act.
-pub fn push_block(alloc: Global, parts: &mut Parts, name: &str, work: Option<Work>) -> Result<(), AllocError>
+pub fn push_block(
+    alloc: Global,
+    parts: &mut Parts,
+    name: &str,
+    work: Option<Work>,
+) -> Result<(), AllocError>
     ensures { OnOk result (view_of parts.new ≡ with_block (new_block name.now work) (view_of parts.old)) }
 {
     parts.blocks.push(block_part(alloc, name, work)?)?;
@@ -74,7 +85,11 @@ pub fn push_act(parts: &mut Parts, b: Blk, act: Act) -> Result<(), AllocError>
 ghost use Rattle.gcd_script.specs.Kept.{look_up, Declares};
 
 /// Makes a name known.
-pub fn declare<'a>(meanings: &mut BTreeMap<&'a str, Meaning>, name: &'a str, meaning: Meaning) -> Result<(), AllocError>
+pub fn declare<'a>(
+    meanings: &mut BTreeMap<&'a str, Meaning>,
+    name: &'a str,
+    meaning: Meaning,
+) -> Result<(), AllocError>
     ensures { OnOk result (Declares (look_up meanings.old) (look_up meanings.new) name.now meaning) }
 {
     meanings.insert(name, meaning)?;

@@ -2,7 +2,9 @@
 ghost use Rattle.std.specs.Prelude.{◌≡◌, ◌<◌, Ok, Some, None, false, length, IfOk, OnOk};
 ghost use Rattle.gcd_plan.specs.PlanView.{view_of};
 
-use crate::additions::{block_part, declare, push_act, push_block, push_file, push_queue, queue_part};
+use crate::additions::{
+    block_part, declare, push_act, push_block, push_file, push_queue, queue_part,
+};
 use crate::form::Form;
 use crate::meaning::Meaning;
 use gcd_plan::{Act, Blk, How, Kind, Obj, Parts, WHOLE_FILE, Work};
@@ -75,7 +77,10 @@ impl<'a> Draft<'a> {
             Form::File { name, path } => self.add_file(alloc, number, name, path),
             Form::Queue { name } => self.add_queue(alloc, name),
             Form::Block { name, counts: None } => self.add_block(alloc, name, None),
-            Form::Block { name, counts: Some(file) } => {
+            Form::Block {
+                name,
+                counts: Some(file),
+            } => {
                 let work = Work {
                     how: How::Lines,
                     file: self.number(file),
@@ -93,7 +98,13 @@ impl<'a> Draft<'a> {
         }
     }
 
-    fn add_file(&mut self, alloc: Global, number: u32, name: &'a str, path: &str) -> Result<(), AllocError>
+    fn add_file(
+        &mut self,
+        alloc: Global,
+        number: u32,
+        name: &'a str,
+        path: &str,
+    ) -> Result<(), AllocError>
         requires kept { IsKept self.old }
         requires unfit { is_unfit (view_of self.old.parts) name.now ≡ false }
         requires room { length (view_of self.old.parts).files < 64 }
@@ -121,7 +132,12 @@ impl<'a> Draft<'a> {
         Ok(())
     }
 
-    fn add_block(&mut self, alloc: Global, name: &'a str, work: Option<Work>) -> Result<(), AllocError>
+    fn add_block(
+        &mut self,
+        alloc: Global,
+        name: &'a str,
+        work: Option<Work>,
+    ) -> Result<(), AllocError>
         requires kept { IsKept self.old }
         requires unfit { is_unfit (view_of self.old.parts) name.now ≡ false }
         requires room { length (view_of self.old.parts).blocks < 16385 }

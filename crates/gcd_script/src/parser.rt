@@ -16,7 +16,12 @@ use gcd_plan::Plan;
 use std::alloc::Global;
 
 // Takes one line more, the line of that number. After an error the draft is of no use.
-fn take_line<'a>(draft: &mut Draft<'a>, alloc: Global, number: u32, line: &'a [u8]) -> Result<(), ParseFault>
+fn take_line<'a>(
+    draft: &mut Draft<'a>,
+    alloc: Global,
+    number: u32,
+    line: &'a [u8],
+) -> Result<(), ParseFault>
     requires kept { IsKept draft.old }
     requires sound { IsDraft (draft_view draft.old) }
     ensures right { OnOk result (code_of (draft_view draft.old) line.now ≡ None) }
@@ -25,11 +30,17 @@ fn take_line<'a>(draft: &mut Draft<'a>, alloc: Global, number: u32, line: &'a [u
     ensures refused { IfErr result (IsLineRefusal (draft_view draft.old) number line.now) }
 {
     let Some(text) = printable(line) else {
-        return Err(ParseFault::Refused { line: number, code: 1 });
+        return Err(ParseFault::Refused {
+            line: number,
+            code: 1,
+        });
     };
     let words = words_of(alloc, text)?;
     let Some(form) = Form::of_words(&words) else {
-        return Err(ParseFault::Refused { line: number, code: 1 });
+        return Err(ParseFault::Refused {
+            line: number,
+            code: 1,
+        });
     };
     if let Some(code) = draft.code(&form) {
         return Err(ParseFault::Refused { line: number, code });
@@ -54,7 +65,10 @@ pub fn parse(alloc: Global, bytes: &[u8]) -> Result<Plan, ParseFault>
         rest = more;
     }
     if !draft.has_main {
-        return Err(ParseFault::Refused { line: number + 1, code: 9 });
+        return Err(ParseFault::Refused {
+            line: number + 1,
+            code: 9,
+        });
     }
     Ok(Plan::of_valid_parts(draft.into_parts()))
 }

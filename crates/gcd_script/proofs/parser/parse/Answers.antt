@@ -16,8 +16,8 @@ pub returns-in_err-take_line-clause-refused : goal.returns-in_err-take_line-clau
 returns-in_err-take_line-clause-refused c =
     let p = err_from_is_err_and c.from_residual-in_err-take_line.result c.from_residual-in_err-take_line.ensures.1 in
     rw (p.1, p.2)
-        (refusal c.args.bytes.now c.loop-line.number c.loop-line.rest.now (draft_view c.loop-line.draft) c.loop-line.invariant.read
-            c.in-Some.line.now c.in-Some.more.now c.in-Some.ensures.0 c.in_err-take_line.field-0.0 c.in_err-take_line.ensures.refused)
+    (refusal c.args.bytes.now c.loop-line.number c.loop-line.rest.now (draft_view c.loop-line.draft) c.loop-line.invariant.read
+    c.in-Some.line.now c.in-Some.more.now c.in-Some.ensures.0 c.in_err-take_line.field-0.0 c.in_err-take_line.ensures.refused)
 
 pub loop-line-preserved : goal.loop-line-preserved
 loop-line-preserved c = record {
@@ -39,7 +39,7 @@ of_valid_parts-requires c =
 pub returns-clause-script : goal.returns-clause-script
 returns-clause-script c =
     subst (IsScriptOf c.args.bytes.now) (sym (c.of_valid_parts.ensures ∙ ap view_of c.into_parts.ensures))
-        (is_script c.args.bytes.now c.loop-line.number c.loop-line.rest.now (draft_view c.loop-line.draft) c.loop-line.invariant.read c.in_default.ensures c.if-not-draft.false)
+    (is_script c.args.bytes.now c.loop-line.number c.loop-line.rest.now (draft_view c.loop-line.draft) c.loop-line.invariant.read c.in_default.ensures c.if-not-draft.false)
 
 pub returns-clause-forms : goal.returns-clause-forms
 returns-clause-forms c =

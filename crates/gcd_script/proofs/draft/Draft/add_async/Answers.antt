@@ -31,5 +31,5 @@ returns-in_ok-push_act-clause-kept c =
     let inside : body.0 < length plan.blocks = subst (λ o. IfSome o (λ b. b.0 < length plan.blocks)) c.in-Some.is sound.body in
     let at = at_place plan.blocks body.0 inside in
     subst (Agrees (look_up old.meanings) (set old.submitted.items block.0 true) (old.acts + 1))
-        (sym (c.in_ok-push_act.ensures ∙ is_new plan sound.valid sound.forms body at.0 at.1 act))
-        (act_agrees (look_up old.meanings) (look_up old.meanings) old.submitted.items old.acts plan c.requires.kept sound.valid sound.forms body at.0 at.1 act block refl within)
+    (sym (c.in_ok-push_act.ensures ∙ is_new plan sound.valid sound.forms body at.0 at.1 act))
+    (act_agrees (look_up old.meanings) (look_up old.meanings) old.submitted.items old.acts plan c.requires.kept sound.valid sound.forms body at.0 at.1 act block refl within)
