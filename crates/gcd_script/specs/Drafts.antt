@@ -44,12 +44,13 @@ meaning_among plan name =
 abbrev pub meaning_of : PlanView → List ℕ → Option Meaning
 meaning_of plan name = if is_reserved name then None else meaning_among plan name
 
--- the number that a used name stands for; 0 where it is not declared
+-- the number that a meaning carries
 abbrev pub number_in : Meaning → ℕ
 number_in (File f) = f
 number_in (Object o) = o.0
 number_in (Block b) = b.0
 
+-- the number that a used name stands for; 0 where it is not declared
 abbrev pub number_of : PlanView → List ℕ → ℕ
 number_of plan name = option_map_or number_in (meaning_of plan name) 0
 
@@ -69,13 +70,15 @@ line_count file = record { how = Lines; file = file; start = 0; len = 16777216 }
 abbrev pub new_file : (number : ℕ) → (name path : List ℕ) → FileView
 new_file number name path = record { name = name; path = path; line = number }
 
--- a plan with one more file, object or block
+-- a plan with one more file
 abbrev pub with_file : FileView → PlanView → PlanView
 with_file file plan = record plan { files = plan.files ++ file ∷ [] }
 
+-- one more object
 abbrev pub with_object : ObjView → PlanView → PlanView
 with_object object plan = record plan { objects = plan.objects ++ object ∷ [] }
 
+-- one more block
 abbrev pub with_block : BlkView → PlanView → PlanView
 with_block block plan = record plan { blocks = plan.blocks ++ block ∷ [] }
 

@@ -20,15 +20,17 @@ is_unfit plan name = not (is_name name) || (is_reserved name || is_some (meaning
 abbrev pub is_unknown : PlanView → List ℕ → Bool
 is_unknown plan name = is_none (meaning_of plan name)
 
--- what the form asks of a used name: a file, a queue, a block
+-- what a form may ask of a used name: that it is a file's
 abbrev pub is_file_name : PlanView → Meaning → Bool
 is_file_name plan (File f) = true
 is_file_name plan _ = false
 
+-- or a queue's
 abbrev pub is_queue_name : PlanView → Meaning → Bool
 is_queue_name plan (Object o) = is_queue plan o.0
 is_queue_name plan _ = false
 
+-- or a block's
 abbrev pub is_block_name : PlanView → Meaning → Bool
 is_block_name plan (Block b) = true
 is_block_name plan _ = false
@@ -37,24 +39,28 @@ is_block_name plan _ = false
 abbrev pub is_other : (PlanView → Meaning → Bool) → PlanView → List ℕ → Bool
 is_other asked plan name = option_map_or (λ meaning. not (asked plan meaning)) (meaning_of plan name) false
 
--- an earlier line submits the block of that name
+-- it is a block that an earlier line submits
 abbrev pub is_submitted_block : PlanView → Meaning → Bool
 is_submitted_block plan (Block b) = list_any (λ c. c.0 == b.0) (submitted_blocks plan)
 is_submitted_block plan _ = false
 
+-- the used name is that of a block that an earlier line submits
 abbrev pub is_submitted : PlanView → List ℕ → Bool
 is_submitted plan name = option_map_or (is_submitted_block plan) (meaning_of plan name) false
 
--- no file, object, block or act more: 64 files, 1,023 objects beside root, 16,384 blocks beside main, 65,535 acts
+-- there are 64 files
 abbrev pub is_full_of_files : PlanView → Bool
 is_full_of_files plan = nat_le 64 (length plan.files)
 
+-- there are 1,023 objects beside root
 abbrev pub is_full_of_objects : PlanView → Bool
 is_full_of_objects plan = nat_le 1024 (length plan.objects)
 
+-- there are 16,384 blocks beside main
 abbrev pub is_full_of_blocks : PlanView → Bool
 is_full_of_blocks plan = nat_le 16385 (length plan.blocks)
 
+-- there are 65,535 acts in all bodies together
 abbrev pub is_full_of_acts : PlanView → Bool
 is_full_of_acts plan = nat_le 65535 (act_count plan)
 

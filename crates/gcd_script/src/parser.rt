@@ -49,7 +49,13 @@ fn take_line<'a>(
     Ok(())
 }
 
-/// The plan of a script.
+/// The plan that a script declares (this project's own rule).
+///
+/// A text that is no script is `Refused`, with its first line at fault, counted from 1, and the lowest code that applies
+/// to it: the page of this crate has the codes. Where all lines are right and none is `main`, the line after the last is
+/// named. `Memory` says that memory ran out, and nothing of the text.
+///
+/// The text has fewer than 2^32 - 1 bytes, so that the number of each line, and of the line after the last, fits.
 pub fn parse(alloc: Global, bytes: &[u8]) -> Result<Plan, ParseFault>
     requires { length bytes.now < u32.MAX }
     ensures script { IfOk result (IsScriptOf bytes.now) }
