@@ -1,12 +1,11 @@
 -- One act more at the end of a body keeps a plan valid and of the first forms.
-use Rattle.std.proofs.Common.{ℕ, zero, suc, ◌≡◌, ◌<◌, ◌≤◌, ◌+◌, ◌==◌, Bool, true, false, not, ◌&&◌, ◌||◌, cond, eqb, List, [], ◌∷◌, ◌++◌, length, map, set, Option, Some, None, is_none, option_map, option_to_list, slice_get, slice_set, get_or, count_by, sum_by, codes, refl, sym, ap, ◌∙◌, subst, zero-add, arith}
+use Rattle.std.proofs.Common.{ℕ, zero, suc, ◌≡◌, ◌<◌, ◌≤◌, ◌+◌, ◌==◌, Bool, true, false, cond, List, [], ◌∷◌, ◌++◌, length, map, set, Option, Some, None, is_none, option_map, option_to_list, slice_get, slice_set, get_or, count_by, sum_by, refl, sym, ap, ◌∙◌, subst, zero-add, arith}
 use Rattle.std.specs.List.{list_all, list_any, flat_map}
 use Rattle.std.specs.Option.{option_map_or}
 use Rattle.std.specs.Str.{bytes_eq}
-use Rattle.std.proofs.lemmas.Bool.{and_parts, and_from, or_parts, eqb-true, cases_Bool}
+use Rattle.std.proofs.lemmas.Bool.{and_parts, and_from, or_parts, eqb-true}
 use Rattle.std.proofs.lemmas.List.{append-nil, length_push, length-set}
 use Rattle.std.proofs.lemmas.List.Concat.{flat_map-append}
-use Rattle.std.proofs.lemmas.List.Folds.{list_all-append}
 use Rattle.std.proofs.lemmas.List.Sums.{sum_by-cons, sum_by-set}
 use Rattle.std.proofs.lemmas.Option.{slice_get_within, slice_get-map, get_or_from_slice_get}
 use Rattle.std.proofs.Math.Seq.{map-set_same}
@@ -16,9 +15,8 @@ use Rattle.gcd_plan.specs.PlanView.{PlanView, ObjView, BlkView}
 use Rattle.gcd_plan.specs.Validity.{IsPlan, names_of, block_of, blocks_of, submitted_blocks, act_count, is_act, is_object, is_block, is_work}
 use Rattle.gcd_plan.specs.declared.act.Act.{Act}
 use Rattle.gcd_plan.specs.declared.names.Blk.{Blk}
-use Rattle.gcd_plan.specs.declared.names.Obj.{Obj}
 use Rattle.gcd_script.specs.Drafts.{with_act}
-use Rattle.gcd_script.proofs.Growth.{Grows, list_all_map, object_grows, block_grows, act_grows, has_kind_grows}
+use Rattle.gcd_script.proofs.Growth.{Grows, list_all_map, object_grows, block_grows}
 use Rattle.gcd_script.proofs.Inserts.{count-append, count-cons}
 use Rattle.gcd_script.proofs.Queues.{element_passes}
 use Rattle.gcd_script.proofs.Valid.{first_block_grows, push_all}

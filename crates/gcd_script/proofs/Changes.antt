@@ -1,16 +1,14 @@
 -- How what is kept beside a plan changes with it.
-use Rattle.std.proofs.Common.{ℕ, zero, suc, ◌≡◌, ◌≢◌, ◌<◌, ◌≤◌, ◌+◌, ◌==◌, Bool, true, false, not, ◌&&◌, ◌||◌, cond, eqb, ltb, List, [], ◌∷◌, ◌++◌, length, map, set, Option, Some, None, option_map, option_to_list, slice_get, get_or, count_by, sum_by, refl, sym, ap, ◌∙◌, subst, arith}
-use Rattle.std.specs.List.{list_any, flat_map}
-use Rattle.std.specs.Option.{option_map_or, option_or}
+use Rattle.std.proofs.Common.{ℕ, ◌≡◌, ◌+◌, Bool, true, false, ◌||◌, cond, ltb, List, [], ◌∷◌, ◌++◌, length, map, Option, Some, None, option_map, count_by, refl, sym, ap, ◌∙◌, arith}
+use Rattle.std.specs.List.{list_any}
+use Rattle.std.specs.Option.{option_or}
 use Rattle.std.specs.Str.{bytes_eq}
-use Rattle.std.proofs.lemmas.Bool.{cond-true, cond-false, lt-ltb, le-ltb, cases_Bool}
-use Rattle.std.proofs.lemmas.List.{map_push, length-map, length_push}
+use Rattle.std.proofs.lemmas.Bool.{lt-ltb}
+use Rattle.std.proofs.lemmas.List.{map_push, length-map}
 use Rattle.gcd_plan.specs.PlanView.{PlanView, ObjView, BlkView, FileView}
-use Rattle.gcd_plan.specs.Validity.{IsPlan, submitted_blocks}
-use Rattle.gcd_plan.specs.declared.names.Blk.{Blk}
 use Rattle.gcd_script.specs.declared.meaning.Meaning.{Meaning}
 use Rattle.gcd_script.specs.declared.meaning.Meaning.TheVariants.{File, Object, Block}
-use Rattle.gcd_script.specs.Drafts.{place_of, meaning_among, meaning_of, is_reserved, with_file, with_object, with_block}
+use Rattle.gcd_script.specs.Drafts.{place_of, meaning_of, is_reserved, with_file, with_object, with_block}
 use Rattle.gcd_script.specs.Kept.{Declares}
 use Rattle.gcd_script.proofs.Places.{same_bytes, bytes_same, place_push}
 use Rattle.gcd_script.proofs.Inserts.{IsFit, file_names, object_names, block_names, no_part, no_map, count-cons}

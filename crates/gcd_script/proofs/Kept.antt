@@ -1,17 +1,14 @@
 -- A right line keeps a draft sound: so right lines make a valid plan.
-use Rattle.std.proofs.Common.{ℕ, zero, suc, ◌≡◌, ◌<◌, ◌≤◌, ◌+◌, ◌==◌, Bool, true, false, not, ◌&&◌, ◌||◌, cond, eqb, ltb, leb, List, [], ◌∷◌, ◌++◌, length, map, Option, Some, None, IfSome, is_some, is_none, option_map, slice_get, count_by, codes, refl, sym, ap, ◌∙◌, subst, lit<, lit≤, arith}
-use Rattle.std.specs.List.{list_all, list_any}
+use Rattle.std.proofs.Common.{ℕ, ◌≡◌, ◌<◌, ◌≤◌, ◌+◌, ◌==◌, Bool, true, false, not, cond, ltb, leb, List, [], ◌∷◌, length, map, Option, Some, None, IfSome, is_none, option_map, slice_get, count_by, codes, refl, sym, ap, ◌∙◌, subst, lit≤, arith}
+use Rattle.std.specs.List.{list_any}
 use Rattle.std.specs.Option.{option_map_or, option_or}
 use Rattle.std.specs.Str.{bytes_eq}
-use Rattle.std.proofs.lemmas.Bool.{and_parts, and_from, or_parts, not-false, not-true, leb-false, lt-ltb, cases_Bool}
+use Rattle.std.proofs.lemmas.Bool.{and_from, or_parts, not-false, leb-false, lt-ltb}
 use Rattle.std.proofs.lemmas.List.{length_push, length-map}
-use Rattle.gcd_plan.specs.FirstForms.{IsOfFirstForms, is_serial_kind, is_first_work}
-use Rattle.gcd_plan.specs.Kinds.{has_kind, is_queue, is_queue_kind}
-use Rattle.gcd_plan.specs.Names.{is_path}
+use Rattle.gcd_plan.specs.FirstForms.{is_first_work}
+use Rattle.gcd_plan.specs.Kinds.{is_queue}
 use Rattle.gcd_plan.specs.PlanView.{PlanView, ObjView, BlkView, FileView}
-use Rattle.gcd_plan.specs.Validity.{IsPlan, root_view, names_of, submitted_blocks, act_count, is_submittable, is_act, is_work}
-use Rattle.gcd_plan.specs.declared.act.Act.{Act}
-use Rattle.gcd_plan.specs.declared.act.Act.TheVariants.{Async}
+use Rattle.gcd_plan.specs.Validity.{IsPlan, submitted_blocks, act_count, is_submittable, is_act, is_work}
 use Rattle.gcd_plan.specs.declared.names.Blk.{Blk}
 use Rattle.gcd_plan.specs.declared.names.Obj.{Obj}
 use Rattle.gcd_plan.specs.declared.work.Work.{Work}
@@ -19,8 +16,8 @@ use Rattle.gcd_script.specs.declared.meaning.Meaning.{Meaning}
 use Rattle.gcd_script.specs.declared.meaning.Meaning.TheVariants.{File, Object, Block}
 use Rattle.gcd_script.specs.Lines.{words_of, is_printable}
 use Rattle.gcd_script.specs.Forms.{LineForm, FileLine, QueueLine, BlockLine, MainLine, AsyncLine, form_of, fits_form}
-use Rattle.gcd_script.specs.Drafts.{DraftView, place_of, meaning_among, meaning_of, number_of, number_in, is_reserved, new_file, serial_queue, new_block, line_count, with_file, with_object, with_block, with_act, async_of, empty_draft, after, draft_of}
-use Rattle.gcd_script.specs.Faults.{codes_of, first_code, code_of, first_fault, is_unfit, is_unknown, is_other, is_file_name, is_queue_name, is_block_name, is_submitted, is_submitted_block, is_full_of_files, is_full_of_objects, is_full_of_blocks, is_full_of_acts}
+use Rattle.gcd_script.specs.Drafts.{DraftView, place_of, meaning_among, meaning_of, number_of, number_in, is_reserved, new_file, new_block, line_count, with_block, with_act, async_of, empty_draft, after, draft_of}
+use Rattle.gcd_script.specs.Faults.{codes_of, first_code, code_of, first_fault, is_unfit, is_unknown, is_other, is_file_name, is_queue_name, is_block_name, is_submitted, is_submitted_block, is_full_of_blocks, is_full_of_acts}
 use Rattle.gcd_script.specs.Sound.{IsDraft}
 use Rattle.gcd_script.proofs.Places.{same_bytes, place_within, place_above}
 use Rattle.gcd_script.proofs.Inserts.{fit_from}

@@ -1,6 +1,6 @@
 -- How far a text was read, line by line, and what is known of it then.
-use Rattle.std.proofs.Common.{ℕ, zero, suc, ◌≡◌, ◌<◌, ◌≤◌, ◌+◌, Bool, true, false, cond, List, [], ◌∷◌, ◌++◌, length, map, take, drop, reverse, Option, Some, None, option_map, refl, sym, ap, ◌∙◌, subst, add-one, arith}
-use Rattle.std.specs.Option.{option_or, option_map_or}
+use Rattle.std.proofs.Common.{ℕ, zero, suc, ◌≡◌, ◌<◌, ◌≤◌, ◌+◌, true, false, cond, List, [], ◌∷◌, ◌++◌, length, take, drop, reverse, Some, None, option_map, refl, sym, ap, ◌∙◌, subst, add-one, arith}
+use Rattle.std.specs.Option.{option_or}
 use Rattle.std.proofs.lemmas.List.{reverse-append, take-append-drop, length-reverse, length-take-le, length-drop}
 use Rattle.gcd_script.specs.Lines.{lines_of}
 use Rattle.gcd_script.specs.Drafts.{DraftView, empty_draft, after_line, draft_of}

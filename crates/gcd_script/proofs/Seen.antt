@@ -1,5 +1,5 @@
 -- Answers of std as the definitions see them.
-use Rattle.std.proofs.Common.{◌≡◌, length, map, vec_len, Bool, true, false, not, Option, Some, None, is_some, is_none, refl, sym, ap, ◌∙◌}
+use Rattle.std.proofs.Common.{◌≡◌, length, map, vec_len, Bool, true, false, not, Option, is_some, is_none, sym, ap, ◌∙◌}
 use Rattle.std.proofs.lemmas.List.{length-map}
 use Rattle.std.specs.declared.vec.Vec.{Vec}
 

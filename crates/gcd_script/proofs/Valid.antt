@@ -1,29 +1,25 @@
 -- What is declared keeps a plan valid and of the first forms.
-use Rattle.std.proofs.Common.{ℕ, zero, suc, ◌≡◌, ◌<◌, ◌≤◌, ◌+◌, ◌==◌, ◌⊎◌, Bool, true, false, not, ◌&&◌, ◌||◌, cond, eqb, ltb, leb, List, [], ◌∷◌, ◌++◌, length, map, Option, Some, None, is_some, is_none, option_map, option_to_list, slice_get, slice_set, get_or, count_by, sum_by, codes, refl, sym, ap, ◌∙◌, subst, arith}
-use Rattle.std.specs.List.{list_all, list_any, flat_map}
+use Rattle.std.proofs.Common.{ℕ, ◌≡◌, ◌<◌, ◌≤◌, ◌==◌, Bool, true, false, ◌&&◌, List, [], ◌∷◌, ◌++◌, length, Option, Some, None, is_none, option_map, option_to_list, slice_get, count_by, codes, refl, sym, ap, ◌∙◌, subst, arith}
+use Rattle.std.specs.List.{list_all, flat_map}
 use Rattle.std.specs.Option.{option_map_or}
-use Rattle.std.specs.Str.{bytes_eq}
-use Rattle.std.proofs.lemmas.Bool.{and_parts, and_from, or_parts, leb-false, ltb-true, lt-ltb, eqb-true}
-use Rattle.std.proofs.lemmas.List.{append_assoc, append-nil, length_push, length-set}
+use Rattle.std.proofs.lemmas.Bool.{and_from}
+use Rattle.std.proofs.lemmas.List.{append-nil, length_push}
 use Rattle.std.proofs.lemmas.List.Concat.{flat_map-append}
 use Rattle.std.proofs.lemmas.List.Folds.{list_all-append}
-use Rattle.std.proofs.lemmas.List.Sums.{sum_by-cons, sum_by_push, sum_by-append, sum_by-set}
-use Rattle.std.proofs.lemmas.Option.{slice_get_within, slice_get-map, get_or_from_slice_get}
-use Rattle.std.proofs.Math.Seq.{map-set_same}
-use Rattle.gcd_plan.specs.FirstForms.{IsOfFirstForms, is_plain_queue, is_first_block, is_first_act, is_first_work, is_serial_kind, after_root}
-use Rattle.gcd_plan.specs.Kinds.{has_kind, is_queue, is_queue_kind}
+use Rattle.std.proofs.lemmas.List.Sums.{sum_by_push}
+use Rattle.gcd_plan.specs.FirstForms.{IsOfFirstForms, is_first_block, is_first_act, is_first_work, is_serial_kind}
+use Rattle.gcd_plan.specs.Kinds.{has_kind, is_queue_kind}
 use Rattle.gcd_plan.specs.Names.{is_name, is_path}
-use Rattle.gcd_plan.specs.PlanView.{PlanView, ObjView, BlkView, FileView, kind_of}
-use Rattle.gcd_plan.specs.Validity.{IsPlan, root_view, names_of, block_of, blocks_of, submitted_blocks, act_count, is_submittable, is_act, is_object, is_block, is_work, is_file}
+use Rattle.gcd_plan.specs.PlanView.{PlanView, ObjView, BlkView, FileView}
+use Rattle.gcd_plan.specs.Validity.{IsPlan, root_view, names_of, blocks_of, submitted_blocks, is_object, is_block, is_work, is_file}
 use Rattle.gcd_plan.specs.declared.act.Act.{Act}
 use Rattle.gcd_plan.specs.declared.act.Act.TheVariants.{Async}
 use Rattle.gcd_plan.specs.declared.kind.Kind.{Kind}
 use Rattle.gcd_plan.specs.declared.names.Blk.{Blk}
-use Rattle.gcd_plan.specs.declared.names.Obj.{Obj}
 use Rattle.gcd_plan.specs.declared.work.Work.{Work}
-use Rattle.gcd_script.specs.Drafts.{new_file, serial_queue, new_block, with_file, with_object, with_block, with_act}
-use Rattle.gcd_script.proofs.Growth.{Grows, and_map, list_all_map, object_grows, block_grows, act_grows, has_kind_grows}
-use Rattle.gcd_script.proofs.Inserts.{Inserts, IsFit, list_all_insert, apart_insert, fit_is_new, file_inserts, object_inserts, block_inserts}
+use Rattle.gcd_script.specs.Drafts.{new_file, serial_queue, new_block, with_file, with_object, with_block}
+use Rattle.gcd_script.proofs.Growth.{Grows, and_map, list_all_map, object_grows, block_grows, has_kind_grows}
+use Rattle.gcd_script.proofs.Inserts.{IsFit, list_all_insert, apart_insert, fit_is_new, file_inserts, object_inserts, block_inserts}
 use Rattle.gcd_script.proofs.Queues.{first_kept, element_kept, queues_push, all_reach_root, root_is_queue}
 
 -- kinds stay where objects are added

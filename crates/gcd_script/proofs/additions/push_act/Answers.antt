@@ -1,10 +1,9 @@
-use Rattle.std.proofs.Common.{◌≡◌, ◌<◌, List, ◌++◌, [], ◌∷◌, length, map, set, Option, Some, option_map, slice_get, slice_set, refl, sym, ap, ◌∙◌, subst}
+use Rattle.std.proofs.Common.{◌≡◌, ◌<◌, ◌++◌, [], ◌∷◌, length, map, set, Some, option_map, slice_get, slice_set, refl, sym, ap, ◌∙◌, subst}
 use Rattle.std.specs.Option.{option_map_or}
 use Rattle.std.proofs.lemmas.List.{map-set, length-map}
 use Rattle.std.proofs.lemmas.Option.{slice_get-map, slice_get_read}
-use Rattle.gcd_plan.specs.declared.act.Act.{Act}
 use Rattle.gcd_plan.specs.declared.parts.BlkPart.{BlkPart}
-use Rattle.gcd_plan.specs.PlanView.{PlanView, BlkView, view_of, blk_view}
+use Rattle.gcd_plan.specs.PlanView.{BlkView, view_of, blk_view}
 use Rattle.gcd_script.proofs.additions.push_act.Goals as goal
 
 pub returns : goal.returns

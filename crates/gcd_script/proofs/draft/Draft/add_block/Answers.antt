@@ -1,6 +1,6 @@
-use Rattle.std.proofs.Common.{◌∙◌, sym, subst}
+use Rattle.std.proofs.Common.{◌∙◌}
 use Rattle.gcd_plan.specs.PlanView.{view_of, blk_view}
-use Rattle.gcd_script.specs.Kept.{Agrees, look_up}
+use Rattle.gcd_script.specs.Kept.{look_up}
 use Rattle.gcd_script.proofs.Agreement.{block_agrees}
 use Rattle.gcd_script.proofs.Seen.{seen_length}
 use Rattle.gcd_script.proofs.draft.Draft.add_block.Goals as goal

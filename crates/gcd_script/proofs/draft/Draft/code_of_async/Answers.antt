@@ -1,4 +1,4 @@
-use Rattle.std.proofs.Common.{◌≡◌, not, leb, is_none, false, ap, ◌∙◌, sym}
+use Rattle.std.proofs.Common.{◌≡◌, not, leb, is_none, false, ap, ◌∙◌}
 use Rattle.std.specs.Option.{option_map_or}
 use Rattle.gcd_plan.specs.PlanView.{view_of}
 use Rattle.gcd_script.specs.Faults.{is_unknown, is_other, is_queue_name, is_block_name, is_submitted, is_submitted_block, is_full_of_acts}

@@ -1,4 +1,4 @@
-use Rattle.std.proofs.Common.{◌≡◌, not, leb, is_none, false, ap, ◌∙◌, sym}
+use Rattle.std.proofs.Common.{◌≡◌, not, leb, is_none, false, ap, ◌∙◌}
 use Rattle.std.specs.Option.{option_map_or}
 use Rattle.gcd_plan.specs.PlanView.{view_of, blk_view}
 use Rattle.gcd_script.specs.Faults.{is_unknown, is_other, is_file_name, is_full_of_blocks}
