@@ -83,6 +83,9 @@ too_many_words = refl
 empty_line : fault_of (codes "main\n\n") ≡ Some (2, 1)
 empty_line = refl
 
+one_end : fault_of (codes "\n") ≡ Some (1, 1)
+one_end = refl
+
 comment : fault_of (codes "# main\nmain\n") ≡ Some (1, 1)
 comment = refl
 

@@ -1,5 +1,5 @@
 // What may be wrong with a line of a form.
-ghost use Rattle.std.specs.Prelude.{◌≡◌, ◌==◌, ℕ, not, nat_le, is_none, is_some, false, length, slice_get};
+ghost use Rattle.std.specs.Prelude.{◌≡◌, not, false};
 ghost use Rattle.std.specs.Option.{option_map_or};
 ghost use Rattle.gcd_plan.specs.PlanView.{PlanView, view_of};
 ghost use Rattle.gcd_script.specs.Drafts.{is_reserved};
@@ -10,7 +10,7 @@ use crate::form::Form;
 use crate::limits::{MOST_ACTS, MOST_BLOCKS, MOST_FILES, MOST_OBJECTS};
 use crate::meaning::Meaning;
 use crate::names::is_name;
-use gcd_plan::{Blk, Kind, Obj};
+use gcd_plan::{Kind, Obj};
 
 // The first code whose test holds.
 fn first_code(rows: &[(u8, bool)]) -> Option<u8>

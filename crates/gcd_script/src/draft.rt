@@ -6,6 +6,7 @@ use crate::additions::{
     block_part, declare, push_act, push_block, push_file, push_queue, queue_part,
 };
 use crate::form::Form;
+use crate::limits::{MOST_BLOCKS, MOST_FILES, MOST_OBJECTS};
 use crate::meaning::Meaning;
 use gcd_plan::{Act, Blk, How, Kind, Obj, Parts, WHOLE_FILE, Work};
 use std::alloc::{AllocError, Global};
@@ -107,7 +108,7 @@ impl<'a> Draft<'a> {
     ) -> Result<(), AllocError>
         requires kept { IsKept self.old }
         requires unfit { is_unfit (view_of self.old.parts) name.now ≡ false }
-        requires room { length (view_of self.old.parts).files < 64 }
+        requires room { length (view_of self.old.parts).files < MOST_FILES }
         ensures view { OnOk result (draft_view self.new ≡ closed (with_file (new_file number name.now path.now) (view_of self.old.parts)) (draft_view self.old)) }
         ensures kept { OnOk result (IsKept self.new) }
     {
@@ -121,7 +122,7 @@ impl<'a> Draft<'a> {
     fn add_queue(&mut self, alloc: Global, name: &'a str) -> Result<(), AllocError>
         requires kept { IsKept self.old }
         requires unfit { is_unfit (view_of self.old.parts) name.now ≡ false }
-        requires room { length (view_of self.old.parts).objects < 1024 }
+        requires room { length (view_of self.old.parts).objects < MOST_OBJECTS }
         ensures view { OnOk result (draft_view self.new ≡ closed (with_object (serial_queue name.now) (view_of self.old.parts)) (draft_view self.old)) }
         ensures kept { OnOk result (IsKept self.new) }
     {
@@ -140,7 +141,7 @@ impl<'a> Draft<'a> {
     ) -> Result<(), AllocError>
         requires kept { IsKept self.old }
         requires unfit { is_unfit (view_of self.old.parts) name.now ≡ false }
-        requires room { length (view_of self.old.parts).blocks < 16385 }
+        requires room { length (view_of self.old.parts).blocks < MOST_BLOCKS }
         ensures view { OnOk result (draft_view self.new ≡ with_body (new_block name.now work) (draft_view self.old)) }
         ensures kept { OnOk result (IsKept self.new) }
     {

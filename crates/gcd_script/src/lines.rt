@@ -1,5 +1,5 @@
 // Lines of a text, and words of a line.
-ghost use Rattle.std.specs.Prelude.{◌≡◌, ◌==◌, ◌+◌, ◌<◌, [], ◌∷◌, true, false, length, map, position, IfOk, MatchOption};
+ghost use Rattle.std.specs.Prelude.{◌≡◌, ◌==◌, ◌<◌, [], ◌∷◌, true, false, length, map, position, IfOk, MatchOption};
 ghost use Rattle.gcd_script.specs.Lines.{lines_of, is_line_byte, is_printable, words_of};
 
 use std::alloc::{AllocError, Global};
