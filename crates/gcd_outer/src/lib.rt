@@ -31,18 +31,36 @@
 //! Nothing is said of what a file holds or of what a terminal shows.
 #![tactic(auto)]
 
+mod answer_list;
+mod calls;
+mod clock;
+mod feed;
 mod file_shelf;
+mod jump_clock;
+mod list_poller;
 mod map_shelf;
+mod poller;
 mod shelf;
 mod sink;
 mod stdout_sink;
+mod system_clock;
+mod tell;
+mod text_log;
+mod told;
 mod vec_sink;
 
+pub use clock::Clock;
 pub use file_shelf::FileShelf;
+pub use jump_clock::JumpClock;
+pub use list_poller::ListPoller;
 pub use map_shelf::MapShelf;
+pub use poller::{FEEDS, Poller};
 pub use shelf::{LoadFault, Shelf};
 pub use sink::{Failed, Sink, write_whole};
 pub use stdout_sink::StdoutSink;
+pub use system_clock::SystemClock;
+pub use tell::Tell;
+pub use told::Told;
 pub use vec_sink::VecSink;
 
 #[cfg(test)]

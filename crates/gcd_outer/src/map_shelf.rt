@@ -1,7 +1,8 @@
 // A shelf in memory, which tells what it holds.
-ghost use Rattle.std.specs.Prelude.{◌≡◌, ◌≢◌, List, ℕ, Some, None, option_map, true, OnOk, OnErr};
+ghost use Rattle.std.specs.Prelude.{◌≡◌, ◌≢◌, ◌++◌, ◌∷◌, [], List, ℕ, Some, None, option_map, true, OnOk, OnErr};
 ghost use Rattle.gcd_outer.specs.Pages.{content_of};
 
+use crate::calls::Calls;
 use crate::shelf::{LoadFault, Shelf};
 use std::alloc::{AllocError, Global};
 use std::collections::BTreeMap;
@@ -12,23 +13,24 @@ use std::collections::BTreeMap;
 pub struct MapShelf {
     alloc: Global,
     pages: BTreeMap<String, Vec<u8>>,
-    failing: Vec<u64>,
-    loads: u64,
+    loads: Calls,
     faults: u64,
 }
 
 impl MapShelf {
+    ghost use Rattle.gcd_outer.specs.InMemory.{failing_loads};
+
     /// An empty shelf, which has not been asked for anything.
     pub fn new(alloc: Global) -> Self
         ensures empty { (name : List ℕ) → ⟦<MapShelf as Shelf>⟧.content result name ≡ None }
         ensures loads { ⟦<MapShelf as Shelf>⟧.loads result ≡ 0 }
         ensures faults { ⟦<MapShelf as Shelf>⟧.faults result ≡ 0 }
+        ensures failing { failing_loads result ≡ [] }
     {
         MapShelf {
             alloc,
             pages: BTreeMap::new(alloc),
-            failing: Vec::new(alloc),
-            loads: 0,
+            loads: Calls::new(alloc),
             faults: 0,
         }
     }
@@ -42,6 +44,7 @@ impl MapShelf {
         ensures wanting { OnErr result (⟦<MapShelf as Shelf>⟧.content self.new ≡ ⟦<MapShelf as Shelf>⟧.content self.old) }
         ensures loads { ⟦<MapShelf as Shelf>⟧.loads self.new ≡ ⟦<MapShelf as Shelf>⟧.loads self.old }
         ensures faults { ⟦<MapShelf as Shelf>⟧.faults self.new ≡ ⟦<MapShelf as Shelf>⟧.faults self.old }
+        ensures failing { failing_loads self.new ≡ failing_loads self.old }
     {
         let name = String::from_str(self.alloc, name)?;
         let bytes = bytes.to_vec(self.alloc)?;
@@ -54,9 +57,10 @@ impl MapShelf {
         ensures content { ⟦<MapShelf as Shelf>⟧.content self.new ≡ ⟦<MapShelf as Shelf>⟧.content self.old }
         ensures loads { ⟦<MapShelf as Shelf>⟧.loads self.new ≡ ⟦<MapShelf as Shelf>⟧.loads self.old }
         ensures faults { ⟦<MapShelf as Shelf>⟧.faults self.new ≡ ⟦<MapShelf as Shelf>⟧.faults self.old }
+        ensures ok { OnOk result (failing_loads self.new ≡ failing_loads self.old ++ load ∷ []) }
+        ensures wanting { OnErr result (failing_loads self.new ≡ failing_loads self.old) }
     {
-        self.failing.push(load)?;
-        Ok(())
+        self.loads.fail(load)
     }
 }
 
@@ -73,15 +77,13 @@ impl Shelf for MapShelf {
 
     ghost content = { λ s. content_of s.pages };
 
-    ghost loads = { λ s. s.loads };
+    ghost loads = { λ s. s.loads.made };
 
     ghost faults = { λ s. s.faults };
 
     fn load(&mut self, name: &str, most: usize, into: &mut Vec<u8>) -> Result<(), LoadFault> {
         into.clear();
-        let number = self.loads;
-        self.loads = number.saturating_add(1);
-        if self.failing.contains(&number) {
+        if self.loads.next() {
             self.faults = self.faults.saturating_add(1);
             return Err(LoadFault::Failed);
         }

@@ -1,6 +1,7 @@
 // A sink in memory, which tells what it took.
-ghost use Rattle.std.specs.Prelude.{◌≡◌, ◌<◌, [], true, IfOk};
+ghost use Rattle.std.specs.Prelude.{◌≡◌, ◌<◌, ◌++◌, ◌∷◌, [], true, IfOk, OnOk, OnErr};
 
+use crate::calls::Calls;
 use crate::sink::{Failed, Sink};
 use std::alloc::{AllocError, Global};
 
@@ -11,25 +12,28 @@ pub struct VecSink {
     bytes: Vec<u8>,
     room: usize,
     most: usize,
-    failing: Vec<u64>,
-    writes: u64,
+    writes: Calls,
     faults: u64,
     ghost takes_some: { 0 < most },
 }
 
 impl VecSink {
+    ghost use Rattle.gcd_outer.specs.InMemory.{failing_writes, room_of, most_of};
+
     /// A sink with room for `room` bytes, which takes at most `most` of them at a write.
     pub fn new(alloc: Global, room: usize, most: usize) -> Result<Self, AllocError>
         requires { 0 < most }
         ensures empty { IfOk result (λ s. ⟦<VecSink as Sink>⟧.taken s ≡ []) }
         ensures faults { IfOk result (λ s. ⟦<VecSink as Sink>⟧.faults s ≡ 0) }
+        ensures room { IfOk result (λ s. room_of s ≡ room) }
+        ensures most { IfOk result (λ s. most_of s ≡ most) }
+        ensures failing { IfOk result (λ s. failing_writes s ≡ []) }
     {
         Ok(VecSink {
             bytes: Vec::with_capacity(alloc, room)?,
             room,
             most,
-            failing: Vec::new(alloc),
-            writes: 0,
+            writes: Calls::new(alloc),
             faults: 0,
         })
     }
@@ -38,9 +42,12 @@ impl VecSink {
     pub fn fail(&mut self, write: u64) -> Result<(), AllocError>
         ensures taken { ⟦<VecSink as Sink>⟧.taken self.new ≡ ⟦<VecSink as Sink>⟧.taken self.old }
         ensures faults { ⟦<VecSink as Sink>⟧.faults self.new ≡ ⟦<VecSink as Sink>⟧.faults self.old }
+        ensures room { room_of self.new ≡ room_of self.old }
+        ensures most { most_of self.new ≡ most_of self.old }
+        ensures ok { OnOk result (failing_writes self.new ≡ failing_writes self.old ++ write ∷ []) }
+        ensures wanting { OnErr result (failing_writes self.new ≡ failing_writes self.old) }
     {
-        self.failing.push(write)?;
-        Ok(())
+        self.writes.fail(write)
     }
 
     /// All that it took, in order.
@@ -59,12 +66,10 @@ impl Sink for VecSink {
     ghost faults = { λ s. s.faults };
 
     fn write(&mut self, piece: &[u8]) -> Result<usize, Failed> {
-        let number = self.writes;
-        self.writes = number.saturating_add(1);
         let count = piece.len().min(self.most);
-        let fails = self.failing.contains(&number)
-            || self.bytes.len().saturating_add(count) > self.room;
-        if fails || self.bytes.extend_from_slice(&piece[..count]).is_err() {
+        let planned = self.writes.next();
+        let past_room = self.bytes.len().saturating_add(count) > self.room;
+        if planned || past_room || self.bytes.extend_from_slice(&piece[..count]).is_err() {
             self.faults = self.faults.saturating_add(1);
             return Err(Failed);
         }

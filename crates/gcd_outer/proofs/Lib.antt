@@ -1,0 +1,4 @@
+mod AnswerLemmas
+mod FeedLemmas
+mod TellLemmas
+mod TextLemmas
