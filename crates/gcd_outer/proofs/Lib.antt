@@ -1,4 +1,5 @@
 mod AnswerLemmas
 mod FeedLemmas
+mod SlotLemmas
 mod TellLemmas
 mod TextLemmas

@@ -4,5 +4,6 @@ pub mod InMemory
 pub mod Outside
 pub mod Pages
 pub mod Planned
+pub mod Slots
 pub mod Tells
 pub mod Texts
