@@ -1,5 +1,5 @@
 -- The answers of a poller in memory after one more was given.
-use Rattle.std.proofs.Common.{◌≡◌, ◌≤◌, ◌+◌, ◌-◌, ◌∙◌, ◌++◌, ℕ, List, [], ◌∷◌, ap, sym, drop, length, slice_set, replicate, take, arith, append_assoc, add_comm}
+use Rattle.std.proofs.Common.{◌≡◌, ◌≤◌, ◌+◌, ◌-◌, ◌∙◌, ◌++◌, ℕ, List, [], ◌∷◌, sym, drop, length, slice_set, arith, append_assoc}
 use Rattle.std.proofs.lemmas.List.{drop-drop, drop-set-lt, replicate_more}
 use Rattle.std.proofs.Math.ListN.{drop_of_length-le}
 use Rattle.gcd_outer.specs.declared.tell.Tell.{Tell}

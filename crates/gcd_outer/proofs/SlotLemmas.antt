@@ -1,5 +1,5 @@
 -- The feeds of the poller over the system after one was read, and what two readings told together.
-use Rattle.std.proofs.Common.{◌≡◌, ◌≢◌, ◌∙◌, ◌++◌, ◌<◌, ◌≤◌, ◌==◌, ◌||◌, ◌&&◌, ℕ, zero, suc, Bool, true, false, List, [], ◌∷◌, Option, Some, None, slice_set, length, ap, sym, refl, arith, eq-eqb, inl, inr, append-nil}
+use Rattle.std.proofs.Common.{◌≡◌, ◌≢◌, ◌∙◌, ◌++◌, ◌≤◌, ◌==◌, ◌||◌, ◌&&◌, ℕ, zero, suc, Bool, false, List, [], ◌∷◌, Option, Some, None, slice_set, length, ap, sym, refl, arith, eq-eqb, inl, inr, append-nil}
 use Rattle.std.proofs.Math.Bool.{and-true, and-false, or-false}
 use Rattle.std.proofs.lemmas.Bool.Decides.{eqb_tells}
 use Rattle.std.specs.List.{slice_get}

@@ -1,7 +1,9 @@
--- What the constructors and setters of a shelf and a sink in memory determine.
-use Rattle.std.specs.Prelude.{ℕ, List}
-use Rattle.gcd_outer.specs.Planned.{Planned}
+-- What the constructors and setters of the things in memory determine.
+use Rattle.std.specs.Prelude.{◌≡◌, ℕ, List}
+use Rattle.gcd_outer.specs.declared.jump_clock.JumpClock.{JumpClock}
+use Rattle.gcd_outer.specs.declared.list_poller.ListPoller.{ListPoller}
 use Rattle.gcd_outer.specs.declared.map_shelf.MapShelf.{MapShelf}
+use Rattle.gcd_outer.specs.declared.tell.Tell.{Tell}
 use Rattle.gcd_outer.specs.declared.vec_sink.VecSink.{VecSink}
 
 -- the loads, counted from 0, that are to fail
@@ -12,6 +14,10 @@ failing_loads shelf = shelf.loads.failing
 abbrev pub failing_writes : VecSink → List ℕ
 failing_writes sink = sink.writes.failing
 
+-- how many writes to a sink there were
+abbrev pub writes_of : VecSink → ℕ
+writes_of sink = sink.writes.made
+
 -- how many bytes a sink has room for
 abbrev pub room_of : VecSink → ℕ
 room_of sink = sink.room
@@ -19,3 +25,48 @@ room_of sink = sink.room
 -- how many bytes a sink takes at a write, at most
 abbrev pub most_of : VecSink → ℕ
 most_of sink = sink.most
+
+-- by how many milliseconds an answer moves a clock on
+abbrev pub step_of : JumpClock → ℕ
+step_of clock = clock.step
+
+-- the answers that a poller has still to give
+abbrev pub left_of : ListPoller → List (List Tell)
+left_of poller = poller.answers.left
+
+-- how many watches a poller has room for
+abbrev pub watch_room_of : ListPoller → ℕ
+watch_room_of poller = poller.watch_room
+
+-- how many bytes of addresses and paths a poller has room for
+abbrev pub byte_room_of : ListPoller → ℕ
+byte_room_of poller = poller.byte_room
+
+-- the listens, counted from 0, that are to fail
+abbrev pub failing_listens : ListPoller → List ℕ
+failing_listens poller = poller.listens.failing
+
+-- the watches, counted from 0, that are to fail
+abbrev pub failing_watches : ListPoller → List ℕ
+failing_watches poller = poller.watches.failing
+
+-- the polls, counted from 0, that are to fail
+abbrev pub failing_polls : ListPoller → List ℕ
+failing_polls poller = poller.polls.failing
+
+-- how many polls of a poller there were
+abbrev pub polls_of : ListPoller → ℕ
+polls_of poller = poller.polls.made
+
+-- a poller before and after a change of what is to fail alone
+pub record IsSamePoller (old new : ListPoller) : Type 0 where
+  pub answers : new.answers ≡ old.answers
+  pub feeds : new.feeds.items ≡ old.feeds.items
+  pub paths : new.paths ≡ old.paths
+  pub addresses : new.addresses ≡ old.addresses
+  pub watch_room : new.watch_room ≡ old.watch_room
+  pub byte_room : new.byte_room ≡ old.byte_room
+  pub listens : new.listens.made ≡ old.listens.made
+  pub watches : new.watches.made ≡ old.watches.made
+  pub polls : new.polls.made ≡ old.polls.made
+  pub faults : new.faults ≡ old.faults

@@ -37,6 +37,8 @@ pub struct ListPoller {
 }
 
 impl ListPoller {
+    ghost use Rattle.gcd_outer.specs.InMemory.{left_of, watch_room_of, byte_room_of, failing_listens, failing_watches, failing_polls, IsSamePoller};
+
     /// A poller with these answers to give, with room for so many watches, and for so many bytes of
     /// addresses and paths together. No feed is watched. The room is taken here: no later call takes
     /// memory, but for a second address.
@@ -53,6 +55,12 @@ impl ListPoller {
         ensures listens { IfOk result (λ p. ⟦<ListPoller as Poller>⟧.listens p ≡ 0) }
         ensures addresses { IfOk result (λ p. ⟦<ListPoller as Poller>⟧.addresses p ≡ []) }
         ensures faults { IfOk result (λ p. ⟦<ListPoller as Poller>⟧.faults p ≡ 0) }
+        ensures left { IfOk result (λ p. left_of p ≡ answers.items) }
+        ensures watch_room { IfOk result (λ p. watch_room_of p ≡ watches) }
+        ensures byte_room { IfOk result (λ p. byte_room_of p ≡ bytes) }
+        ensures failing_listens { IfOk result (λ p. failing_listens p ≡ []) }
+        ensures failing_watches { IfOk result (λ p. failing_watches p ≡ []) }
+        ensures failing_polls { IfOk result (λ p. failing_polls p ≡ []) }
     {
         Ok(ListPoller {
             answers: AnswerList::new(answers),
@@ -69,17 +77,35 @@ impl ListPoller {
     }
 
     /// The listen of this number, counted from 0, is to fail. Want of memory leaves the poller as it was.
-    pub fn fail_listen(&mut self, listen: u64) -> Result<(), AllocError> {
+    pub fn fail_listen(&mut self, listen: u64) -> Result<(), AllocError>
+        ensures ok { OnOk result (failing_listens self.new ≡ failing_listens self.old ++ listen ∷ []) }
+        ensures wanting { OnErr result (failing_listens self.new ≡ failing_listens self.old) }
+        ensures watches { failing_watches self.new ≡ failing_watches self.old }
+        ensures polls { failing_polls self.new ≡ failing_polls self.old }
+        ensures same { IsSamePoller self.old self.new }
+    {
         self.listens.fail(listen)
     }
 
     /// The watch of this number, counted from 0, is to fail. Want of memory leaves the poller as it was.
-    pub fn fail_watch(&mut self, watch: u64) -> Result<(), AllocError> {
+    pub fn fail_watch(&mut self, watch: u64) -> Result<(), AllocError>
+        ensures ok { OnOk result (failing_watches self.new ≡ failing_watches self.old ++ watch ∷ []) }
+        ensures wanting { OnErr result (failing_watches self.new ≡ failing_watches self.old) }
+        ensures listens { failing_listens self.new ≡ failing_listens self.old }
+        ensures polls { failing_polls self.new ≡ failing_polls self.old }
+        ensures same { IsSamePoller self.old self.new }
+    {
         self.watches.fail(watch)
     }
 
     /// The poll of this number, counted from 0, is to fail. Want of memory leaves the poller as it was.
-    pub fn fail_poll(&mut self, poll: u64) -> Result<(), AllocError> {
+    pub fn fail_poll(&mut self, poll: u64) -> Result<(), AllocError>
+        ensures ok { OnOk result (failing_polls self.new ≡ failing_polls self.old ++ poll ∷ []) }
+        ensures wanting { OnErr result (failing_polls self.new ≡ failing_polls self.old) }
+        ensures listens { failing_listens self.new ≡ failing_listens self.old }
+        ensures watches { failing_watches self.new ≡ failing_watches self.old }
+        ensures same { IsSamePoller self.old self.new }
+    {
         self.polls.fail(poll)
     }
 }
@@ -106,6 +132,13 @@ fn give_next(answers: &AnswerList, feeds: &mut [Feed], into: &mut Told)
 }
 
 impl Poller for ListPoller {
+    ghost use Rattle.std.specs.Prelude.{◌≡◌, ◌≤◌, ◌-◌, ◌^◌, ◌⊎◌, ℕ, true, map, length, drop, Contains, IsErr, OnOk, OnErr};
+    ghost use Rattle.gcd_outer.specs.Outside.{Rises};
+    ghost use Rattle.gcd_outer.specs.Answers.{first_of};
+    ghost use Rattle.gcd_outer.specs.Feeds.{watched_in, ended_in, watched_at_in};
+    ghost use Rattle.gcd_outer.specs.InMemory.{left_of, failing_polls, polls_of};
+    ghost use Rattle.gcd_outer.specs.Tells.{AreTells, allowed_of, ended_by, answers_after};
+
     ghost tells = { true };
 
     ghost answers = { λ p. p.answers.given };
@@ -150,7 +183,32 @@ impl Poller for ListPoller {
         is_watched(&self.feeds, feed)
     }
 
-    fn poll(&mut self, wait_ms: u32, into: &mut Told) -> Result<(), Failed> {
+    // What each poller promises, and then: it fails just where that is planned, or after 2^64 - 1
+    // answers; else the next answer is given, without the tells that may not be given.
+    fn poll(&mut self, wait_ms: u32, into: &mut Told) -> Result<(), Failed>
+        requires { (feed : ℕ) × (⟦<ListPoller as Poller>⟧.watched self.old feed ≡ true) }
+        ensures told { OnOk result (AreTells (⟦<ListPoller as Poller>⟧.watched self.old) (⟦<ListPoller as Poller>⟧.ended self.old) into.new) }
+        ensures few { OnOk result (length into.new ≤ 64) }
+        ensures ended { OnOk result ((feed : ℕ) → ⟦<ListPoller as Poller>⟧.ended self.new feed ≡ ended_by (⟦<ListPoller as Poller>⟧.ended self.old) into.new feed) }
+        ensures unended { OnErr result ((feed : ℕ) → ⟦<ListPoller as Poller>⟧.ended self.new feed ≡ ⟦<ListPoller as Poller>⟧.ended self.old feed) }
+        ensures kept { OnErr result (into.new ≡ into.old) }
+        ensures watched { (feed : ℕ) → ⟦<ListPoller as Poller>⟧.watched self.new feed ≡ ⟦<ListPoller as Poller>⟧.watched self.old feed }
+        ensures answers { OnOk result (⟦<ListPoller as Poller>⟧.answers self.new ≡ answers_after (⟦<ListPoller as Poller>⟧.answers self.old) wait_ms into.new) }
+        ensures no_answer { OnErr result (⟦<ListPoller as Poller>⟧.answers self.new ≡ ⟦<ListPoller as Poller>⟧.answers self.old) }
+        ensures watched_at { (feed : ℕ) → ⟦<ListPoller as Poller>⟧.watched_at self.new feed ≡ ⟦<ListPoller as Poller>⟧.watched_at self.old feed }
+        ensures watches { ⟦<ListPoller as Poller>⟧.watches self.new ≡ ⟦<ListPoller as Poller>⟧.watches self.old }
+        ensures listens { ⟦<ListPoller as Poller>⟧.listens self.new ≡ ⟦<ListPoller as Poller>⟧.listens self.old }
+        ensures addresses { ⟦<ListPoller as Poller>⟧.addresses self.new ≡ ⟦<ListPoller as Poller>⟧.addresses self.old }
+        ensures ok { OnOk result (⟦<ListPoller as Poller>⟧.faults self.new ≡ ⟦<ListPoller as Poller>⟧.faults self.old) }
+        ensures failed { OnErr result (Rises (⟦<ListPoller as Poller>⟧.faults self.old) (⟦<ListPoller as Poller>⟧.faults self.new)) }
+        ensures faults { ⟦<ListPoller as Poller>⟧.faults self.old ≤ ⟦<ListPoller as Poller>⟧.faults self.new }
+
+        ensures planned { Contains (failing_polls self.old) (polls_of self.old) → IsErr result }
+        ensures only_planned { OnErr result (Contains (failing_polls self.old) (polls_of self.old) ⊎ (length (⟦<ListPoller as Poller>⟧.answers self.old) ≡ 2 ^ 64 - 1)) }
+        ensures given { OnOk result (into.new ≡ allowed_of (⟦<ListPoller as Poller>⟧.watched self.old) (⟦<ListPoller as Poller>⟧.ended self.old) (first_of (left_of self.old))) }
+        ensures left { OnOk result (left_of self.new ≡ drop 1 (left_of self.old)) }
+        ensures all_left { OnErr result (left_of self.new ≡ left_of self.old) }
+    {
         if self.polls.next() || self.answers.given() == usize::MAX {
             self.faults = self.faults.saturating_add(1);
             return Err(Failed);

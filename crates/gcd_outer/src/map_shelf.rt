@@ -7,8 +7,8 @@ use crate::shelf::{LoadFault, Shelf};
 use std::alloc::{AllocError, Global};
 use std::collections::BTreeMap;
 
-/// A shelf in memory. It tells what it holds. Besides want of memory it fails just in the loads that
-/// `fail` names. (This project's own rule.)
+/// A shelf in memory. It tells what it holds. It fails just in the loads that `fail` names. (This
+/// project's own rule.)
 #[derive(Drop)]
 pub struct MapShelf {
     alloc: Global,
@@ -73,6 +73,11 @@ fn page_of<'a>(pages: &'a BTreeMap<String, Vec<u8>>, name: &str) -> Option<&'a [
 }
 
 impl Shelf for MapShelf {
+    ghost use Rattle.std.specs.Prelude.{◌≡◌, ◌≤◌, ◌<◌, List, ℕ, true, Some, None, [], length, Contains, OnOk, OnErr, IsErrOf};
+    ghost use Rattle.gcd_outer.specs.InMemory.{failing_loads};
+    ghost use Rattle.gcd_outer.specs.Outside.{Rises, next_count};
+    ghost use Rattle.gcd_outer.specs.Pages.{content_of};
+
     ghost tells = { true };
 
     ghost content = { λ s. content_of s.pages };
@@ -81,7 +86,24 @@ impl Shelf for MapShelf {
 
     ghost faults = { λ s. s.faults };
 
-    fn load(&mut self, name: &str, most: usize, into: &mut Vec<u8>) -> Result<(), LoadFault> {
+    // What each shelf promises, and then: it fails just where that is planned.
+    fn load(&mut self, name: &str, most: usize, into: &mut Vec<u8>) -> Result<(), LoadFault>
+        ensures fits { OnOk result (length into.new.items ≤ most) }
+        ensures content { OnOk result (⟦<MapShelf as Shelf>⟧.content self.old name.now ≡ Some into.new.items) }
+        ensures missing { IsErrOf result LoadFault.Missing → ⟦<MapShelf as Shelf>⟧.content self.old name.now ≡ None }
+        ensures seen { (n : ℕ) → IsErrOf result (LoadFault.TooLong n) → most < n }
+        ensures longer { (n : ℕ) → IsErrOf result (LoadFault.TooLong n)
+            → (bytes : List ℕ) × (⟦<MapShelf as Shelf>⟧.content self.old name.now ≡ Some bytes) × (length bytes ≡ n) }
+        ensures empty { OnErr result (into.new.items ≡ []) }
+        ensures failed { IsErrOf result LoadFault.Failed → Rises (⟦<MapShelf as Shelf>⟧.faults self.old) (⟦<MapShelf as Shelf>⟧.faults self.new) }
+        ensures faults { ⟦<MapShelf as Shelf>⟧.faults self.old ≤ ⟦<MapShelf as Shelf>⟧.faults self.new }
+        ensures same { ⟦<MapShelf as Shelf>⟧.content self.new ≡ ⟦<MapShelf as Shelf>⟧.content self.old }
+        ensures loads { ⟦<MapShelf as Shelf>⟧.loads self.new ≡ next_count (⟦<MapShelf as Shelf>⟧.loads self.old) }
+
+        ensures planned { Contains (failing_loads self.old) (⟦<MapShelf as Shelf>⟧.loads self.old) → IsErrOf result LoadFault.Failed }
+        ensures only_planned { IsErrOf result LoadFault.Failed → Contains (failing_loads self.old) (⟦<MapShelf as Shelf>⟧.loads self.old) }
+        ensures failing { failing_loads self.new ≡ failing_loads self.old }
+    {
         into.clear();
         if self.loads.next() {
             self.faults = self.faults.saturating_add(1);

@@ -85,9 +85,9 @@ pub trait Poller {
     fn is_watched(&self, feed: u32) -> bool
         ensures { result ≡ watched self.now feed };
 
-    /// What came from the watched feeds since they were last told of, of at most 64 feeds, after a wait
-    /// of at most `wait_ms` milliseconds where nothing had come. It is one of the calls that wait for
-    /// others. After `Ok`, `into` is this answer and nothing else; after `Failed` it is as it was.
+    /// What came from the watched feeds since they were last told of, in at most 64 tells, after a wait
+    /// of at most about `wait_ms` milliseconds where nothing had come. It is one of the calls that wait
+    /// for others. After `Ok`, `into` is this answer and nothing else; after `Failed` it is as it was.
     fn poll(&mut self, wait_ms: u32, into: &mut Told) -> Result<(), Failed>
         requires { (feed : ℕ) × (watched self.old feed ≡ true) }
         ensures told { OnOk result (AreTells (watched self.old) (ended self.old) into.new) }

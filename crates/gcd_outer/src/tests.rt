@@ -1,6 +1,6 @@
 use crate::{
-    Clock, Failed, FileShelf, JumpClock, ListPoller, LoadFault, MapShelf, Poller, Shelf, Sink,
-    StdoutSink, SystemClock, Tell, Told, VecSink, write_whole,
+    Clock, Failed, FileShelf, JumpClock, ListPoller, LoadFault, MapShelf, NetPoller, Poller, Shelf,
+    Sink, StdoutSink, SystemClock, Tell, Told, VecSink, write_whole,
 };
 use std::alloc::{AllocError, Global};
 use std::fs;
@@ -146,5 +146,24 @@ fn the_system_clock_waits(rt: HostRuntime) -> Result<(), Fail> {
     clock.wait_until(before.saturating_add(20));
     let after = clock.now();
     assert!(rt; after >= before.saturating_add(20), "{before} {after}");
+    Ok(())
+}
+
+// A value that may go to another thread.
+fn sent<T: Send>(value: T) -> T {
+    value
+}
+
+#[test]
+fn each_may_go_to_another_thread(rt: HostRuntime) -> Result<(), Fail> {
+    let alloc = rt.alloc();
+    sent(MapShelf::new(alloc));
+    sent(FileShelf::new(&rt));
+    sent(VecSink::new(alloc, 1, 1)?);
+    sent(StdoutSink::new(&rt));
+    sent(ListPoller::new(alloc, Vec::new(alloc), 0, 0)?);
+    sent(NetPoller::new(&rt, alloc)?);
+    sent(JumpClock::new(1));
+    sent(SystemClock::new(&rt)?);
     Ok(())
 }

@@ -1,12 +1,13 @@
 // A sink in memory, which tells what it took.
-ghost use Rattle.std.specs.Prelude.{◌≡◌, ◌<◌, ◌++◌, ◌∷◌, [], true, IfOk, OnOk, OnErr};
+ghost use Rattle.std.specs.Prelude.{◌≡◌, ◌≤◌, ◌<◌, ◌++◌, ◌∷◌, [], true, vec_capacity, IfOk, OnOk, OnErr};
 
 use crate::calls::Calls;
 use crate::sink::{Failed, Sink};
 use std::alloc::{AllocError, Global};
 
-/// A sink in memory with room for a stated number of bytes. It tells what it took. It fails in the
-/// writes that `fail` names and in one that would pass its room. (This project's own rule.)
+/// A sink in memory with room for a stated number of bytes. It tells what it took. It fails just in the
+/// writes that `fail` names and in one that would pass its room, and takes nothing then. (This project's
+/// own rule.)
 #[derive(Drop)]
 pub struct VecSink {
     bytes: Vec<u8>,
@@ -15,6 +16,7 @@ pub struct VecSink {
     writes: Calls,
     faults: u64,
     ghost takes_some: { 0 < most },
+    ghost reserved: { room ≤ vec_capacity bytes },
 }
 
 impl VecSink {
@@ -59,13 +61,36 @@ impl VecSink {
 }
 
 impl Sink for VecSink {
+    ghost use Rattle.std.specs.Prelude.{◌≡◌, ◌≤◌, ◌<◌, ◌+◌, ◌++◌, ◌⊎◌, true, length, take, min, Contains, IsErr, IfOk, OnOk, OnErr};
+    ghost use Rattle.gcd_outer.specs.InMemory.{failing_writes, writes_of, room_of, most_of};
+    ghost use Rattle.gcd_outer.specs.Outside.{Rises, next_count};
+
     ghost tells = { true };
 
     ghost taken = { λ s. s.bytes.items };
 
     ghost faults = { λ s. s.faults };
 
-    fn write(&mut self, piece: &[u8]) -> Result<usize, Failed> {
+    // What each sink promises, and then: it takes as much as it may at once, and fails just where that
+    // is planned or would pass its room.
+    fn write(&mut self, piece: &[u8]) -> Result<usize, Failed>
+        ensures some { 0 < length piece.now → IfOk result (λ n. 0 < n) }
+        ensures within { IfOk result (λ n. n ≤ length piece.now) }
+        ensures taken { IfOk result (λ n. ⟦<VecSink as Sink>⟧.taken self.new ≡ ⟦<VecSink as Sink>⟧.taken self.old ++ take n piece.now) }
+        ensures nothing { OnErr result (⟦<VecSink as Sink>⟧.taken self.new ≡ ⟦<VecSink as Sink>⟧.taken self.old) }
+        ensures failed { OnErr result (Rises (⟦<VecSink as Sink>⟧.faults self.old) (⟦<VecSink as Sink>⟧.faults self.new)) }
+        ensures faults { ⟦<VecSink as Sink>⟧.faults self.old ≤ ⟦<VecSink as Sink>⟧.faults self.new }
+
+        ensures count { IfOk result (λ n. n ≡ min (length piece.now) (most_of self.old)) }
+        ensures room { OnOk result (length (⟦<VecSink as Sink>⟧.taken self.new) ≤ room_of self.old) }
+        ensures planned { Contains (failing_writes self.old) (writes_of self.old) → IsErr result }
+        ensures only_so { OnErr result (Contains (failing_writes self.old) (writes_of self.old)
+            ⊎ (room_of self.old < length (⟦<VecSink as Sink>⟧.taken self.old) + min (length piece.now) (most_of self.old))) }
+        ensures writes { writes_of self.new ≡ next_count (writes_of self.old) }
+        ensures same_room { room_of self.new ≡ room_of self.old }
+        ensures same_most { most_of self.new ≡ most_of self.old }
+        ensures failing { failing_writes self.new ≡ failing_writes self.old }
+    {
         let count = piece.len().min(self.most);
         let planned = self.writes.next();
         let past_room = self.bytes.len().saturating_add(count) > self.room;

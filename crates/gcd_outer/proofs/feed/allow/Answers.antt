@@ -1,4 +1,4 @@
-use Rattle.std.proofs.Common.{rules, ◌≡◌, ◌∙◌, ◌++◌, ℕ, Bool, List, false, get_or, take, ap, sym, arith, length-append, length}
+use Rattle.std.proofs.Common.{◌∙◌, ℕ, Bool, List, false, get_or, take, ap, sym, arith, length-append}
 use Rattle.std.proofs.lemmas.List.{take_more}
 use Rattle.gcd_outer.specs.declared.tell.Tell.{Tell}
 use Rattle.gcd_outer.specs.Feeds.{watched_in, ended_in}

@@ -1,4 +1,4 @@
-use Rattle.std.proofs.Common.{◌≡◌, refl}
+use Rattle.std.proofs.Common.{refl}
 use Rattle.std.proofs.lemmas.Result.{IfOk-weaker}
 use Rattle.gcd_outer.specs.declared.feed.Feed.{Feed}
 use Rattle.gcd_outer.proofs.FeedLemmas.{lookup-replicate}

@@ -1,4 +1,4 @@
-use Rattle.std.proofs.Common.{◌≡◌, List, [], arith}
+use Rattle.std.proofs.Common.{◌≡◌, [], arith}
 use Rattle.gcd_outer.proofs.AnswerLemmas.{left-written, left-passed, left-none, given-empty}
 use Rattle.gcd_outer.proofs.answer_list.AnswerList.give.Goals as goal
 

@@ -1,4 +1,4 @@
-use Rattle.std.proofs.Common.{refl, arith, length-append}
+use Rattle.std.proofs.Common.{refl, length-append}
 use Rattle.gcd_outer.proofs.TextLemmas.{texts_of-append, lengths_of-append}
 use Rattle.gcd_outer.proofs.text_log.TextLog.push.Goals as goal
 
