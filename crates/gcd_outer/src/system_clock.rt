@@ -1,5 +1,5 @@
 // The system's clock.
-ghost use Rattle.std.specs.Prelude.{false};
+ghost use Rattle.std.specs.Prelude.{◌≡◌, false, IfOk};
 
 use crate::clock::Clock;
 use std::time::{Duration, Instant};
@@ -17,7 +17,9 @@ pub struct SystemClock<'a, R: time::Clock> {
 
 impl<'a, R: time::Clock> SystemClock<'a, R> {
     /// A clock that starts now. An error is the system's, where it gives no time.
-    pub fn new(rt: &'a R) -> io::Result<Self> {
+    pub fn new(rt: &'a R) -> io::Result<Self>
+        ensures { IfOk result (λ c. ⟦<SystemClock<'a, R> as Clock>⟧.present c ≡ 0) }
+    {
         let start = Instant::now(rt)?;
         Ok(SystemClock { rt, start, last: 0 })
     }
