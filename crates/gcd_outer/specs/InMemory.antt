@@ -1,5 +1,6 @@
 -- What the constructors and setters of the things in memory determine.
-use Rattle.std.specs.Prelude.{◌≡◌, ℕ, List}
+use Rattle.std.specs.Prelude.{◌≡◌, ℕ, Bool, List, map}
+use Rattle.gcd_outer.specs.Feeds.{watched_in, ended_in, watched_at_in}
 use Rattle.gcd_outer.specs.declared.jump_clock.JumpClock.{JumpClock}
 use Rattle.gcd_outer.specs.declared.list_poller.ListPoller.{ListPoller}
 use Rattle.gcd_outer.specs.declared.map_shelf.MapShelf.{MapShelf}
@@ -53,6 +54,38 @@ failing_watches poller = poller.watches.failing
 -- the polls, counted from 0, that are to fail
 abbrev pub failing_polls : ListPoller → List ℕ
 failing_polls poller = poller.polls.failing
+
+-- the answers that a poller has given
+abbrev pub answers_of : ListPoller → List (List Tell)
+answers_of poller = poller.answers.given
+
+-- how many answers there were at the watch of a feed
+abbrev pub watched_at_of : ListPoller → ℕ → ℕ
+watched_at_of poller = watched_at_in poller.feeds.items
+
+-- the feed and the path of each watch that succeeded
+abbrev pub watches_of : ListPoller → List (ℕ × List ℕ)
+watches_of poller = poller.paths
+
+-- how many listens there were
+abbrev pub listens_of : ListPoller → ℕ
+listens_of poller = poller.listens.made
+
+-- the address of each listen that succeeded
+abbrev pub addresses_of : ListPoller → List (List ℕ)
+addresses_of poller = map (λ address. address.1) poller.addresses
+
+-- whether a feed is watched
+abbrev pub watched_of : ListPoller → ℕ → Bool
+watched_of poller = watched_in poller.feeds.items
+
+-- whether a feed has ended
+abbrev pub ended_of : ListPoller → ℕ → Bool
+ended_of poller = ended_in poller.feeds.items
+
+-- how often a poller has failed
+abbrev pub faults_of : ListPoller → ℕ
+faults_of poller = poller.faults
 
 -- how many polls of a poller there were
 abbrev pub polls_of : ListPoller → ℕ

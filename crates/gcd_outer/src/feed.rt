@@ -46,8 +46,10 @@ pub(crate) fn begin(feeds: &mut [Feed], feed: u32, watched_at: usize)
     ensures ended { ended_in feeds.new feed ≡ false }
     ensures watched_at { watched_at_in feeds.new feed ≡ watched_at }
     ensures others { (other : ℕ) → other ≢ feed → watched_in feeds.new other ≡ watched_in feeds.old other }
-    ensures others_ended { (other : ℕ) → other ≢ feed → ended_in feeds.new other ≡ ended_in feeds.old other }
-    ensures others_at { (other : ℕ) → other ≢ feed → watched_at_in feeds.new other ≡ watched_at_in feeds.old other }
+    ensures others_ended { (other : ℕ) → other ≢ feed
+        → ended_in feeds.new other ≡ ended_in feeds.old other }
+    ensures others_at { (other : ℕ) → other ≢ feed
+        → watched_at_in feeds.new other ≡ watched_at_in feeds.old other }
 {
     feeds[feed as usize] = Feed {
         watched: true,

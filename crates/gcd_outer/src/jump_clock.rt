@@ -46,7 +46,8 @@ impl Clock for JumpClock {
         ensures goes_on { result ≤ ⟦<JumpClock as Clock>⟧.present self.new }
         ensures told { result ≡ ⟦<JumpClock as Clock>⟧.present self.old }
         ensures waited { ⟦<JumpClock as Clock>⟧.waited self.new ≡ ⟦<JumpClock as Clock>⟧.waited self.old }
-        ensures steps { ⟦<JumpClock as Clock>⟧.present self.new ≡ min (⟦<JumpClock as Clock>⟧.present self.old + step_of self.old) 18446744073709551615 }
+        ensures steps { ⟦<JumpClock as Clock>⟧.present self.new
+            ≡ min (⟦<JumpClock as Clock>⟧.present self.old + step_of self.old) 18446744073709551615 }
         ensures step { step_of self.new ≡ step_of self.old }
     {
         let now = self.present;
@@ -58,8 +59,10 @@ impl Clock for JumpClock {
     fn wait_until(&mut self, t: u64)
         ensures reached { t ≤ ⟦<JumpClock as Clock>⟧.present self.new }
         ensures goes_on { ⟦<JumpClock as Clock>⟧.present self.old ≤ ⟦<JumpClock as Clock>⟧.present self.new }
-        ensures waited { ⟦<JumpClock as Clock>⟧.waited self.new ≡ max (⟦<JumpClock as Clock>⟧.waited self.old) t }
-        ensures jumps { ⟦<JumpClock as Clock>⟧.present self.new ≡ max (⟦<JumpClock as Clock>⟧.present self.old) t }
+        ensures waited { ⟦<JumpClock as Clock>⟧.waited self.new
+            ≡ max (⟦<JumpClock as Clock>⟧.waited self.old) t }
+        ensures jumps { ⟦<JumpClock as Clock>⟧.present self.new
+            ≡ max (⟦<JumpClock as Clock>⟧.present self.old) t }
         ensures step { step_of self.new ≡ step_of self.old }
     {
         self.present = self.present.max(t);

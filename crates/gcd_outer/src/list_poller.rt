@@ -1,5 +1,5 @@
 // A poller in memory, which tells its answers, watches and listens.
-ghost use Rattle.std.specs.Prelude.{◌≡◌, ◌<◌, ◌≤◌, ◌++◌, ◌∷◌, [], ℕ, true, false, map, length, IfOk, OnOk, OnErr};
+ghost use Rattle.std.specs.Prelude.{◌≡◌, ◌<◌, ◌≤◌, ◌++◌, ◌∷◌, [], ℕ, true, false, length, IfOk, OnOk, OnErr};
 ghost use Rattle.gcd_outer.specs.declared.poller.TheConstants.{FEEDS};
 ghost use Rattle.gcd_outer.specs.Answers.{first_of};
 ghost use Rattle.gcd_outer.specs.Feeds.{watched_in, ended_in, watched_at_in};
@@ -132,30 +132,31 @@ fn give_next(answers: &AnswerList, feeds: &mut [Feed], into: &mut Told)
 }
 
 impl Poller for ListPoller {
-    ghost use Rattle.std.specs.Prelude.{◌≡◌, ◌≤◌, ◌-◌, ◌^◌, ◌⊎◌, ℕ, true, map, length, drop, Contains, IsErr, OnOk, OnErr};
+    ghost use Rattle.std.specs.Prelude.{◌≡◌, ◌≤◌, ◌-◌, ◌^◌, ◌⊎◌, ℕ, true, length, drop, Contains, IsErr, OnOk, OnErr};
     ghost use Rattle.gcd_outer.specs.Outside.{Rises};
     ghost use Rattle.gcd_outer.specs.Answers.{first_of};
-    ghost use Rattle.gcd_outer.specs.Feeds.{watched_in, ended_in, watched_at_in};
+    ghost use Rattle.gcd_outer.specs.InMemory.{answers_of, watched_at_of, watches_of, listens_of};
+    ghost use Rattle.gcd_outer.specs.InMemory.{addresses_of, watched_of, ended_of, faults_of};
     ghost use Rattle.gcd_outer.specs.InMemory.{left_of, failing_polls, polls_of};
     ghost use Rattle.gcd_outer.specs.Tells.{AreTells, allowed_of, ended_by, answers_after};
 
     ghost tells = { true };
 
-    ghost answers = { λ p. p.answers.given };
+    ghost answers = { answers_of };
 
-    ghost watched_at = { λ p. watched_at_in p.feeds.items };
+    ghost watched_at = { watched_at_of };
 
-    ghost watches = { λ p. p.paths };
+    ghost watches = { watches_of };
 
-    ghost listens = { λ p. p.listens.made };
+    ghost listens = { listens_of };
 
-    ghost addresses = { λ p. map (λ t. t.1) p.addresses };
+    ghost addresses = { addresses_of };
 
-    ghost watched = { λ p. watched_in p.feeds.items };
+    ghost watched = { watched_of };
 
-    ghost ended = { λ p. ended_in p.feeds.items };
+    ghost ended = { ended_of };
 
-    ghost faults = { λ p. p.faults };
+    ghost faults = { faults_of };
 
     fn listen(&mut self, addr: &str) -> Result<(), Failed> {
         let planned = self.listens.next();
@@ -186,26 +187,30 @@ impl Poller for ListPoller {
     // What each poller promises, and then: it fails just where that is planned, or after 2^64 - 1
     // answers; else the next answer is given, without the tells that may not be given.
     fn poll(&mut self, wait_ms: u32, into: &mut Told) -> Result<(), Failed>
-        requires { (feed : ℕ) × (⟦<ListPoller as Poller>⟧.watched self.old feed ≡ true) }
-        ensures told { OnOk result (AreTells (⟦<ListPoller as Poller>⟧.watched self.old) (⟦<ListPoller as Poller>⟧.ended self.old) into.new) }
+        requires { (feed : ℕ) × (watched_of self.old feed ≡ true) }
+        ensures told { OnOk result (AreTells (watched_of self.old) (ended_of self.old) into.new) }
         ensures few { OnOk result (length into.new ≤ 64) }
-        ensures ended { OnOk result ((feed : ℕ) → ⟦<ListPoller as Poller>⟧.ended self.new feed ≡ ended_by (⟦<ListPoller as Poller>⟧.ended self.old) into.new feed) }
-        ensures unended { OnErr result ((feed : ℕ) → ⟦<ListPoller as Poller>⟧.ended self.new feed ≡ ⟦<ListPoller as Poller>⟧.ended self.old feed) }
+        ensures ended { OnOk result ((feed : ℕ)
+            → ended_of self.new feed ≡ ended_by (ended_of self.old) into.new feed) }
+        ensures unended { OnErr result ((feed : ℕ) → ended_of self.new feed ≡ ended_of self.old feed) }
         ensures kept { OnErr result (into.new ≡ into.old) }
-        ensures watched { (feed : ℕ) → ⟦<ListPoller as Poller>⟧.watched self.new feed ≡ ⟦<ListPoller as Poller>⟧.watched self.old feed }
-        ensures answers { OnOk result (⟦<ListPoller as Poller>⟧.answers self.new ≡ answers_after (⟦<ListPoller as Poller>⟧.answers self.old) wait_ms into.new) }
-        ensures no_answer { OnErr result (⟦<ListPoller as Poller>⟧.answers self.new ≡ ⟦<ListPoller as Poller>⟧.answers self.old) }
-        ensures watched_at { (feed : ℕ) → ⟦<ListPoller as Poller>⟧.watched_at self.new feed ≡ ⟦<ListPoller as Poller>⟧.watched_at self.old feed }
-        ensures watches { ⟦<ListPoller as Poller>⟧.watches self.new ≡ ⟦<ListPoller as Poller>⟧.watches self.old }
-        ensures listens { ⟦<ListPoller as Poller>⟧.listens self.new ≡ ⟦<ListPoller as Poller>⟧.listens self.old }
-        ensures addresses { ⟦<ListPoller as Poller>⟧.addresses self.new ≡ ⟦<ListPoller as Poller>⟧.addresses self.old }
-        ensures ok { OnOk result (⟦<ListPoller as Poller>⟧.faults self.new ≡ ⟦<ListPoller as Poller>⟧.faults self.old) }
-        ensures failed { OnErr result (Rises (⟦<ListPoller as Poller>⟧.faults self.old) (⟦<ListPoller as Poller>⟧.faults self.new)) }
-        ensures faults { ⟦<ListPoller as Poller>⟧.faults self.old ≤ ⟦<ListPoller as Poller>⟧.faults self.new }
+        ensures watched { (feed : ℕ) → watched_of self.new feed ≡ watched_of self.old feed }
+        ensures answers { OnOk result (answers_of self.new
+            ≡ answers_after (answers_of self.old) wait_ms into.new) }
+        ensures no_answer { OnErr result (answers_of self.new ≡ answers_of self.old) }
+        ensures watched_at { (feed : ℕ) → watched_at_of self.new feed ≡ watched_at_of self.old feed }
+        ensures watches { watches_of self.new ≡ watches_of self.old }
+        ensures listens { listens_of self.new ≡ listens_of self.old }
+        ensures addresses { addresses_of self.new ≡ addresses_of self.old }
+        ensures ok { OnOk result (faults_of self.new ≡ faults_of self.old) }
+        ensures failed { OnErr result (Rises (faults_of self.old) (faults_of self.new)) }
+        ensures faults { faults_of self.old ≤ faults_of self.new }
 
         ensures planned { Contains (failing_polls self.old) (polls_of self.old) → IsErr result }
-        ensures only_planned { OnErr result (Contains (failing_polls self.old) (polls_of self.old) ⊎ (length (⟦<ListPoller as Poller>⟧.answers self.old) ≡ 2 ^ 64 - 1)) }
-        ensures given { OnOk result (into.new ≡ allowed_of (⟦<ListPoller as Poller>⟧.watched self.old) (⟦<ListPoller as Poller>⟧.ended self.old) (first_of (left_of self.old))) }
+        ensures only_planned { OnErr result (Contains (failing_polls self.old) (polls_of self.old)
+            ⊎ (length (answers_of self.old) ≡ 2 ^ 64 - 1)) }
+        ensures given { OnOk result (into.new
+            ≡ allowed_of (watched_of self.old) (ended_of self.old) (first_of (left_of self.old))) }
         ensures left { OnOk result (left_of self.new ≡ drop 1 (left_of self.old)) }
         ensures all_left { OnErr result (left_of self.new ≡ left_of self.old) }
     {

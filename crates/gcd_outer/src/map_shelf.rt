@@ -41,7 +41,8 @@ impl MapShelf {
         ensures put { OnOk result (⟦<MapShelf as Shelf>⟧.content self.new name.now ≡ Some bytes.now) }
         ensures others { (other : List ℕ) → other ≢ name.now
             → ⟦<MapShelf as Shelf>⟧.content self.new other ≡ ⟦<MapShelf as Shelf>⟧.content self.old other }
-        ensures wanting { OnErr result (⟦<MapShelf as Shelf>⟧.content self.new ≡ ⟦<MapShelf as Shelf>⟧.content self.old) }
+        ensures wanting { OnErr result (
+            ⟦<MapShelf as Shelf>⟧.content self.new ≡ ⟦<MapShelf as Shelf>⟧.content self.old) }
         ensures loads { ⟦<MapShelf as Shelf>⟧.loads self.new ≡ ⟦<MapShelf as Shelf>⟧.loads self.old }
         ensures faults { ⟦<MapShelf as Shelf>⟧.faults self.new ≡ ⟦<MapShelf as Shelf>⟧.faults self.old }
         ensures failing { failing_loads self.new ≡ failing_loads self.old }
@@ -89,19 +90,25 @@ impl Shelf for MapShelf {
     // What each shelf promises, and then: it fails just where that is planned.
     fn load(&mut self, name: &str, most: usize, into: &mut Vec<u8>) -> Result<(), LoadFault>
         ensures fits { OnOk result (length into.new.items ≤ most) }
-        ensures content { OnOk result (⟦<MapShelf as Shelf>⟧.content self.old name.now ≡ Some into.new.items) }
-        ensures missing { IsErrOf result LoadFault.Missing → ⟦<MapShelf as Shelf>⟧.content self.old name.now ≡ None }
+        ensures content { OnOk result (
+            ⟦<MapShelf as Shelf>⟧.content self.old name.now ≡ Some into.new.items) }
+        ensures missing { IsErrOf result LoadFault.Missing
+            → ⟦<MapShelf as Shelf>⟧.content self.old name.now ≡ None }
         ensures seen { (n : ℕ) → IsErrOf result (LoadFault.TooLong n) → most < n }
         ensures longer { (n : ℕ) → IsErrOf result (LoadFault.TooLong n)
             → (bytes : List ℕ) × (⟦<MapShelf as Shelf>⟧.content self.old name.now ≡ Some bytes) × (length bytes ≡ n) }
         ensures empty { OnErr result (into.new.items ≡ []) }
-        ensures failed { IsErrOf result LoadFault.Failed → Rises (⟦<MapShelf as Shelf>⟧.faults self.old) (⟦<MapShelf as Shelf>⟧.faults self.new) }
+        ensures failed { IsErrOf result LoadFault.Failed
+            → Rises (⟦<MapShelf as Shelf>⟧.faults self.old) (⟦<MapShelf as Shelf>⟧.faults self.new) }
         ensures faults { ⟦<MapShelf as Shelf>⟧.faults self.old ≤ ⟦<MapShelf as Shelf>⟧.faults self.new }
         ensures same { ⟦<MapShelf as Shelf>⟧.content self.new ≡ ⟦<MapShelf as Shelf>⟧.content self.old }
-        ensures loads { ⟦<MapShelf as Shelf>⟧.loads self.new ≡ next_count (⟦<MapShelf as Shelf>⟧.loads self.old) }
+        ensures loads { ⟦<MapShelf as Shelf>⟧.loads self.new
+            ≡ next_count (⟦<MapShelf as Shelf>⟧.loads self.old) }
 
-        ensures planned { Contains (failing_loads self.old) (⟦<MapShelf as Shelf>⟧.loads self.old) → IsErrOf result LoadFault.Failed }
-        ensures only_planned { IsErrOf result LoadFault.Failed → Contains (failing_loads self.old) (⟦<MapShelf as Shelf>⟧.loads self.old) }
+        ensures planned { Contains (failing_loads self.old) (⟦<MapShelf as Shelf>⟧.loads self.old)
+            → IsErrOf result LoadFault.Failed }
+        ensures only_planned { IsErrOf result LoadFault.Failed
+            → Contains (failing_loads self.old) (⟦<MapShelf as Shelf>⟧.loads self.old) }
         ensures failing { failing_loads self.new ≡ failing_loads self.old }
     {
         into.clear();

@@ -46,8 +46,10 @@ pub struct NetPoller<'a, R: Net + Files<File = File>> {
 impl<'a, R: Net + Files<File = File>> NetPoller<'a, R> {
     /// A poller that watches no feed. An error is the system's, or want of memory.
     pub fn new(rt: &'a R, alloc: Global) -> io::Result<Self>
-        ensures watched { IfOk result (λ p. (feed : ℕ) → ⟦<NetPoller<'a, R> as Poller>⟧.watched p feed ≡ false) }
-        ensures ended { IfOk result (λ p. (feed : ℕ) → ⟦<NetPoller<'a, R> as Poller>⟧.ended p feed ≡ false) }
+        ensures watched { IfOk result (λ p. (feed : ℕ)
+            → ⟦<NetPoller<'a, R> as Poller>⟧.watched p feed ≡ false) }
+        ensures ended { IfOk result (λ p. (feed : ℕ)
+            → ⟦<NetPoller<'a, R> as Poller>⟧.ended p feed ≡ false) }
         ensures faults { IfOk result (λ p. ⟦<NetPoller<'a, R> as Poller>⟧.faults p ≡ 0) }
     {
         Ok(NetPoller {

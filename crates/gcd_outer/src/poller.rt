@@ -51,10 +51,12 @@ pub trait Poller {
         ensures watched { (feed : ℕ) → watched self.new feed ≡ watched self.old feed }
         ensures ended { (feed : ℕ) → ended self.new feed ≡ ended self.old feed }
         ensures answers { tells ≡ true → answers self.new ≡ answers self.old }
-        ensures watched_at { (feed : ℕ) → tells ≡ true → watched_at self.new feed ≡ watched_at self.old feed }
+        ensures watched_at { (feed : ℕ) → tells ≡ true
+            → watched_at self.new feed ≡ watched_at self.old feed }
         ensures watches { tells ≡ true → watches self.new ≡ watches self.old }
         ensures listens { tells ≡ true → listens self.new ≡ next_count (listens self.old) }
-        ensures address { tells ≡ true → OnOk result (addresses self.new ≡ addresses self.old ++ addr.now ∷ []) }
+        ensures address { tells ≡ true
+            → OnOk result (addresses self.new ≡ addresses self.old ++ addr.now ∷ []) }
         ensures no_address { tells ≡ true → OnErr result (addresses self.new ≡ addresses self.old) }
         ensures ok { OnOk result (faults self.new ≡ faults self.old) }
         ensures failed { OnErr result (Rises (faults self.old) (faults self.new)) }
@@ -71,9 +73,12 @@ pub trait Poller {
         ensures unended { OnErr result ((other : ℕ) → ended self.new other ≡ ended self.old other) }
         ensures answers { tells ≡ true → answers self.new ≡ answers self.old }
         ensures at { tells ≡ true → OnOk result (watched_at self.new feed ≡ length (answers self.old)) }
-        ensures others_at { (other : ℕ) → tells ≡ true → other ≢ feed → watched_at self.new other ≡ watched_at self.old other }
-        ensures no_at { tells ≡ true → OnErr result ((other : ℕ) → watched_at self.new other ≡ watched_at self.old other) }
-        ensures path { tells ≡ true → OnOk result (watches self.new ≡ watches self.old ++ (feed, path.now) ∷ []) }
+        ensures others_at { (other : ℕ) → tells ≡ true → other ≢ feed
+            → watched_at self.new other ≡ watched_at self.old other }
+        ensures no_at { tells ≡ true
+            → OnErr result ((other : ℕ) → watched_at self.new other ≡ watched_at self.old other) }
+        ensures path { tells ≡ true
+            → OnOk result (watches self.new ≡ watches self.old ++ (feed, path.now) ∷ []) }
         ensures no_path { tells ≡ true → OnErr result (watches self.new ≡ watches self.old) }
         ensures listens { tells ≡ true → listens self.new ≡ listens self.old }
         ensures addresses { tells ≡ true → addresses self.new ≡ addresses self.old }
@@ -92,13 +97,16 @@ pub trait Poller {
         requires { (feed : ℕ) × (watched self.old feed ≡ true) }
         ensures told { OnOk result (AreTells (watched self.old) (ended self.old) into.new) }
         ensures few { OnOk result (length into.new ≤ 64) }
-        ensures ended { OnOk result ((feed : ℕ) → ended self.new feed ≡ ended_by (ended self.old) into.new feed) }
+        ensures ended { OnOk result (
+            (feed : ℕ) → ended self.new feed ≡ ended_by (ended self.old) into.new feed) }
         ensures unended { OnErr result ((feed : ℕ) → ended self.new feed ≡ ended self.old feed) }
         ensures kept { OnErr result (into.new ≡ into.old) }
         ensures watched { (feed : ℕ) → watched self.new feed ≡ watched self.old feed }
-        ensures answers { tells ≡ true → OnOk result (answers self.new ≡ answers_after (answers self.old) wait_ms into.new) }
+        ensures answers { tells ≡ true
+            → OnOk result (answers self.new ≡ answers_after (answers self.old) wait_ms into.new) }
         ensures no_answer { tells ≡ true → OnErr result (answers self.new ≡ answers self.old) }
-        ensures watched_at { (feed : ℕ) → tells ≡ true → watched_at self.new feed ≡ watched_at self.old feed }
+        ensures watched_at { (feed : ℕ) → tells ≡ true
+            → watched_at self.new feed ≡ watched_at self.old feed }
         ensures watches { tells ≡ true → watches self.new ≡ watches self.old }
         ensures listens { tells ≡ true → listens self.new ≡ listens self.old }
         ensures addresses { tells ≡ true → addresses self.new ≡ addresses self.old }

@@ -66,8 +66,10 @@ impl Slots {
         requires { feed < FEEDS }
         ensures watched { watched_slot self.new.slots.items feed ≡ is_there source }
         ensures ended { ended_slot self.new.slots.items feed ≡ false }
-        ensures others { (other : ℕ) → other ≢ feed → watched_slot self.new.slots.items other ≡ watched_slot self.old.slots.items other }
-        ensures others_ended { (other : ℕ) → other ≢ feed → ended_slot self.new.slots.items other ≡ ended_slot self.old.slots.items other }
+        ensures others { (other : ℕ) → other ≢ feed
+            → watched_slot self.new.slots.items other ≡ watched_slot self.old.slots.items other }
+        ensures others_ended { (other : ℕ) → other ≢ feed
+            → ended_slot self.new.slots.items other ≡ ended_slot self.old.slots.items other }
     {
         self.slots[feed as usize] = Slot {
             source,

@@ -76,8 +76,10 @@ impl Sink for VecSink {
     fn write(&mut self, piece: &[u8]) -> Result<usize, Failed>
         ensures some { 0 < length piece.now → IfOk result (λ n. 0 < n) }
         ensures within { IfOk result (λ n. n ≤ length piece.now) }
-        ensures taken { IfOk result (λ n. ⟦<VecSink as Sink>⟧.taken self.new ≡ ⟦<VecSink as Sink>⟧.taken self.old ++ take n piece.now) }
-        ensures nothing { OnErr result (⟦<VecSink as Sink>⟧.taken self.new ≡ ⟦<VecSink as Sink>⟧.taken self.old) }
+        ensures taken { IfOk result (λ n.
+            ⟦<VecSink as Sink>⟧.taken self.new ≡ ⟦<VecSink as Sink>⟧.taken self.old ++ take n piece.now) }
+        ensures nothing { OnErr result (
+            ⟦<VecSink as Sink>⟧.taken self.new ≡ ⟦<VecSink as Sink>⟧.taken self.old) }
         ensures failed { OnErr result (Rises (⟦<VecSink as Sink>⟧.faults self.old) (⟦<VecSink as Sink>⟧.faults self.new)) }
         ensures faults { ⟦<VecSink as Sink>⟧.faults self.old ≤ ⟦<VecSink as Sink>⟧.faults self.new }
 
