@@ -15,13 +15,17 @@ pub mod Sums
 pub mod SubmittedOnce
 pub mod InOrder
 pub mod PublicLaws
+pub mod PublicFacts
 pub mod Merged
 pub mod FreeAtStart
 pub mod Woken
+pub mod WaitsPass
+pub mod OneRun
 pub mod Walks
 pub mod OpenNodes
 pub mod TargetActs
 pub mod TreeStands
+pub mod MovesAlone
 pub mod RunsAlone
 pub mod Choices
 pub mod Quiet
