@@ -3,12 +3,14 @@ pub mod LawfulLemmas
 pub mod Reasons
 pub mod Fitting
 mod Samples
+mod SampleLaws
 mod RowsOrder
 mod RowsObjects
 mod RowsGroups
 mod RowsSources
 mod RowsForged
 mod RowsValues
+mod RowsOfLaws
 pub mod RunsOpen
 pub mod StartedOnce
 pub mod Sums

@@ -56,7 +56,8 @@ by_worker w e = e
 -- what is permitted to one free worker is permitted to every other
 abbrev pub FreeWorkersAreAlike : PlanView → List Event → Type 0
 FreeWorkersAreAlike plan h =
-    (e : Event) (w : ℕ) → IsFreeWorker plan h (worker_of e) → IsFreeWorker plan h w → w < 64 → why plan h e ≡ None → why plan h (by_worker w e) ≡ None
+    (e : Event) (w : ℕ) → IsFreeWorker plan h (worker_of e) → IsFreeWorker plan h w → w < 64
+    → why plan h e ≡ None → why plan h (by_worker w e) ≡ None
 
 -- ## Wakes
 
@@ -67,11 +68,13 @@ wakes b _ = false
 
 -- a block that may wake may wake until its Wake
 abbrev pub MayWakeUntilWoken : PlanView → (h later : List Event) → Type 0
-MayWakeUntilWoken plan h later = (b : ℕ) → MayWake plan h b → list_any (wakes b) later ≡ false → MayWake plan (h ++ later) b
+MayWakeUntilWoken plan h later =
+    (b : ℕ) → MayWake plan h b → list_any (wakes b) later ≡ false → MayWake plan (h ++ later) b
 
 -- where a block may wake its Wake is permitted to every free worker
 abbrev pub WakesArePermitted : PlanView → List Event → Type 0
-WakesArePermitted plan h = (b w : ℕ) → MayWake plan h b → IsFreeWorker plan h w → w < 64 → why plan h (Wake w (record { 0 = b })) ≡ None
+WakesArePermitted plan h =
+    (b w : ℕ) → MayWake plan h b → IsFreeWorker plan h w → w < 64 → why plan h (Wake w (record { 0 = b })) ≡ None
 
 -- ## Fields
 
@@ -87,4 +90,5 @@ OnlyActiveMove plan h = (o t : ℕ) → request_of plan h o ≡ Some t → IsTru
 
 -- where an event changes the target of an object, no run is open beneath the object after it
 abbrev pub TargetsChangeAlone : PlanView → List Event → Event → Type 0
-TargetsChangeAlone plan h e = (o : ℕ) → (target_of plan (h ++ e ∷ []) o ≡ target_of plan h o → ⊥) → open_beneath_of plan (h ++ e ∷ []) o ≡ 0
+TargetsChangeAlone plan h e =
+    (o : ℕ) → (target_of plan (h ++ e ∷ []) o ≡ target_of plan h o → ⊥) → open_beneath_of plan (h ++ e ∷ []) o ≡ 0

@@ -76,7 +76,9 @@ WaitsHavePassed plan h = (i b : ℕ) (reason : Reason) → reason_of plan (take 
 
 -- each wait on a group passes (dispatch_group_wait(3))
 abbrev pub GroupWaitsPass : PlanView → List Event → Type 0
-GroupWaitsPass plan h = (i : ℕ) (e : Event) (g : Obj) → slice_get h i ≡ Some e → act_of plan e ≡ Some (GroupWait g) → IsTrue (group_wait_passes plan h g.0 i)
+GroupWaitsPass plan h =
+    (i : ℕ) (e : Event) (g : Obj) → slice_get h i ≡ Some e → act_of plan e ≡ Some (GroupWait g)
+    → IsTrue (group_wait_passes plan h g.0 i)
 
 -- each wait on a semaphore passes, from the first to the last that stands (dispatch_semaphore_wait(3))
 abbrev pub SemaphoreWaitsPass : PlanView → List Event → Type 0
