@@ -7,7 +7,7 @@ use Rattle.gcd_plan.specs.declared.act.Act.TheVariants.{Async, Barrier, Sync, Gr
 use Rattle.gcd_plan.specs.declared.kind.Kind.{Kind}
 use Rattle.gcd_plan.specs.declared.kind.Kind.TheVariants.{Add, Or}
 use Rattle.gcd_plan.specs.declared.reason.Reason.TheVariants.{Block as EndOf, Group, Rank}
-use Rattle.gcd_plan.specs.declared.why.Why.TheVariants.{Busy, Behind, NotFree, Excluded, Fenced, Waiting}
+use Rattle.gcd_plan.specs.declared.why.Why.TheVariants.{Busy, Unready, Behind, NotFree, Excluded, Fenced, Waiting}
 use Rattle.gcd_event.specs.declared.event.Event.{Event}
 use Rattle.gcd_event.specs.declared.event.Event.TheVariants.{Start, Act as Acted, Wake, End, Deliver, DeliverEnd}
 use Rattle.gcd_history.specs.Runs.{starts, ends}
@@ -45,6 +45,11 @@ once_premise : (slice_get whole 3 ≡ Some (Start 0 (b 1)))
     × (count_by (ends 1) whole ≡ 1)
 unfolding words
 once_premise = (refl, refl, refl, refl, refl)
+
+-- b1 may not start before its submission, nor again
+once_refused : (why one_async (take 1 whole) (Start 1 (b 1)) ≡ Some Unready) × (why one_async whole (Start 0 (b 1)) ≡ Some Unready)
+unfolding words words_of_history
+once_refused = (refl, refl)
 
 -- ## 2 Of two submissions on one node the later starts only after the earlier has started
 

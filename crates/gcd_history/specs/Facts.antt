@@ -15,7 +15,7 @@ use Rattle.gcd_history.specs.Laws.{MayWake}
 
 -- ## Workers and their runs
 
--- the open and unparked runs of a worker are one
+-- the runs that a worker has, open and not parked, are one run
 abbrev pub HasOneRun : PlanView → List Event → Type 0
 HasOneRun plan h = (w : ℕ) (r q : Run) → IsTrue (has_run plan h w r) → IsTrue (has_run plan h w q) → r ≡ q
 
