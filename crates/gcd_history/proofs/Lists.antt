@@ -53,6 +53,26 @@ pub list_any_same : {X : Type 0} → (p q : X → Bool) (xs : List X) → ((x : 
 list_any_same p q [] same = refl
 list_any_same p q (x ∷ xs) same = ap (λ v. v || list_any p xs) (same x) ∙ ap (λ v. q x || v) (list_any_same p q xs same)
 
+or-comm : (x y : Bool) → (x || y) ≡ (y || x)
+or-comm true true = refl
+or-comm true false = refl
+or-comm false true = refl
+or-comm false false = refl
+
+or-false : (x : Bool) → (x || false) ≡ x
+or-false true = refl
+or-false false = refl
+
+-- in whatever order they stand
+pub list_any-reverse : {X : Type 0} → (p : X → Bool) (xs : List X) → list_any p (reverse xs) ≡ list_any p xs
+list_any-reverse p [] = refl
+list_any-reverse p (x ∷ xs) =
+    ap (list_any p) (reverse-append (x ∷ []) xs)
+    ∙ list_any-append p (reverse xs) (x ∷ [])
+    ∙ ap (λ v. v || (p x || false)) (list_any-reverse p xs)
+    ∙ or-comm (list_any p xs) (p x || false)
+    ∙ ap (λ v. v || list_any p xs) (or-false (p x))
+
 pub none_passes : {X : Type 0} → (xs : List X) → list_any (λ x. false) xs ≡ false
 none_passes [] = refl
 none_passes (x ∷ xs) = none_passes xs

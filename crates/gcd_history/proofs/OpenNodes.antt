@@ -1,17 +1,17 @@
 -- The nodes of runs: they are queues or sources, and stay as they are.
-use Rattle.std.proofs.Common.{◌≡◌, ◌⊎◌, inl, inr, ⊎_elim, ℕ, Bool, true, false, not, ◌&&◌, cond, ◌==◌, List, [], ◌∷◌, ◌++◌, length, Option, Some, None, is_some, is_none, find, option_and_then, option_map, refl, ap, sym, ◌∙◌, subst}
+use Rattle.std.proofs.Common.{◌≡◌, ◌⊎◌, inl, inr, ⊎_elim, ℕ, Bool, true, false, not, ◌&&◌, cond, ◌==◌, List, [], ◌∷◌, ◌++◌, length, Option, Some, None, is_some, find, option_and_then, option_map, refl, ap, sym, ◌∙◌, subst}
 use Rattle.std.specs.List.{list_any, list_all, slice_get, flat_map, range_with_len}
 use Rattle.std.specs.Option.{option_map_or}
 use Rattle.std.proofs.lemmas.Bool.{eqb-true, eq-eqb, or_cases, or_left, or_right, and_parts, and_from}
 use Rattle.std.proofs.lemmas.Option.{same_Some}
 use Rattle.std.proofs.lemmas.List.Folds.{list_all-append}
-use Rattle.gcd_plan.specs.PlanView.{PlanView, ObjView, kind_of, cancel_block}
+use Rattle.gcd_plan.specs.PlanView.{PlanView, kind_of, cancel_block}
 use Rattle.gcd_plan.specs.Kinds.{has_kind, is_queue, is_node, is_source, is_queue_kind, is_node_kind, is_source_kind, is_read_kind, is_group_kind}
-use Rattle.gcd_plan.specs.Validity.{IsPlan, is_act, is_block, is_work, is_handler_act, has_fields}
+use Rattle.gcd_plan.specs.Validity.{IsPlan, is_act, is_block, is_work}
 use Rattle.gcd_plan.specs.declared.act.Act.{Act}
 use Rattle.gcd_plan.specs.declared.act.Act.TheVariants.{Async, Barrier, Sync, BarrierSync, GroupAsync, Notify, Cancel}
 use Rattle.gcd_plan.specs.declared.kind.Kind.{Kind}
-use Rattle.gcd_plan.specs.declared.kind.Kind.TheVariants.{Serial, Concurrent, Group, Semaphore, Read}
+use Rattle.gcd_plan.specs.declared.kind.Kind.TheVariants.{Serial, Concurrent, Read}
 use Rattle.gcd_plan.specs.declared.names.Blk.{Blk}
 use Rattle.gcd_plan.specs.declared.names.Obj.{Obj}
 use Rattle.gcd_plan.specs.declared.names.Run.{Run}
@@ -28,7 +28,7 @@ use Rattle.gcd_history.proofs.Lists.{list_all_place}
 use Rattle.gcd_history.proofs.RunsOpen.{closes, same_run-true, same_run-refl, is_open-step}
 use Rattle.gcd_history.proofs.Reasons.{allowed, at_start}
 use Rattle.gcd_history.proofs.StartedOnce.{started_from_open, submitted_from_started, submission_of-kept, some_kept}
-use Rattle.gcd_history.proofs.SubmittedOnce.{object_fields, no_acts}
+use Rattle.gcd_history.proofs.SubmittedOnce.{handler_act}
 
 -- ## Open runs
 
@@ -138,29 +138,9 @@ block_act plan b i act valid at =
           list_all_place (is_act plan) blk.acts i act fine k
     ] refl at
 
-handler_act_fits : (plan : PlanView) (obj : ObjView) (i : ℕ) (act : Act) (kind : Kind) → has_fields plan kind obj ≡ true → slice_get obj.handler i ≡ Some act → is_act plan act ≡ true
-handler_act_fits plan obj i act Serial fields at =
-    absurd (no_acts obj.handler i act (and_parts (length obj.handler == 0) (is_none obj.cancel) (and_parts (is_queue plan obj.target.0) _ fields).1).0 at)
-handler_act_fits plan obj i act Concurrent fields at =
-    absurd (no_acts obj.handler i act (and_parts (length obj.handler == 0) (is_none obj.cancel) (and_parts (is_queue plan obj.target.0) _ fields).1).0 at)
-handler_act_fits plan obj i act Group fields at =
-    absurd (no_acts obj.handler i act (and_parts (length obj.handler == 0) (is_none obj.cancel) (and_parts obj.active _ (and_parts (obj.target.0 == 0) _ fields).1).1).0 at)
-handler_act_fits plan obj i act (Semaphore n) fields at =
-    absurd (no_acts obj.handler i act (and_parts (length obj.handler == 0) (is_none obj.cancel) (and_parts obj.active _ (and_parts (obj.target.0 == 0) _ fields).1).1).0 at)
-handler_act_fits plan obj i act kind fields at =
-    let all = (and_parts (list_all (λ a. is_handler_act a && is_act plan a) obj.handler) _ (and_parts (not obj.active) _ (and_parts (is_queue plan obj.target.0) _ fields).1).1).0 in
-    (and_parts (is_handler_act act) (is_act plan act) (list_all_place (λ a. is_handler_act a && is_act plan a) obj.handler i act all at)).1
-
-source_act : (plan : PlanView) (s : Obj) (i : ℕ) (act : Act) → IsPlan plan → act_at plan (Source s) i ≡ Some act → is_act plan act ≡ true
-source_act plan s i act valid at =
-    elim (slice_get plan.objects s.0) as (λ o. slice_get plan.objects s.0 ≡ o → slice_get (option_map_or (λ obj. obj.handler) o []) i ≡ Some act → is_act plan act ≡ true) [
-      | None ↦ λ none k. cc
-      | Some obj ↦ λ some k. handler_act_fits plan obj i act obj.kind (object_fields plan s.0 obj valid some) k
-    ] refl at
-
 pub act_fits : (plan : PlanView) (run : Run) (i : ℕ) (act : Act) → IsPlan plan → act_at plan run i ≡ Some act → is_act plan act ≡ true
 act_fits plan (Block b) i act valid at = block_act plan b i act valid at
-act_fits plan (Source s) i act valid at = source_act plan s i act valid at
+act_fits plan (Source s) i act valid at = (handler_act plan s i act valid at).1
 
 -- the act that an event records
 pub recorded_fits : (plan : PlanView) (e : Event) (act : Act) → IsPlan plan → act_of plan e ≡ Some act → is_act plan act ≡ true

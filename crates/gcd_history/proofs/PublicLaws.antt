@@ -1,10 +1,10 @@
 -- The laws over histories in order, from those by recursion.
-use Rattle.std.proofs.Common.{◌≡◌, ℕ, zero, suc, ◌+◌, ◌-◌, ◌<◌, ◌≤◌, ◌==◌, true, List, [], ◌∷◌, length, take, drop, ◌++◌, ⊎_elim, reverse, Some, None, is_some, refl, count_by, ap, sym, ◌∙◌, subst, arith}
+use Rattle.std.proofs.Common.{◌≡◌, ℕ, zero, suc, ◌+◌, ◌-◌, ◌<◌, ◌≤◌, ◌==◌, true, List, [], ◌∷◌, length, take, drop, ◌++◌, reverse, Some, None, is_some, refl, count_by, ap, sym, ◌∙◌, subst, arith}
 use Rattle.std.proofs.lemmas.Bool.{eqb-true, both_ways}
-use Rattle.std.proofs.lemmas.List.{take-append-drop, reverse-append, take_all}
+use Rattle.std.proofs.lemmas.List.{take-append-drop, reverse-append, take_all, length-reverse, length-take-le}
 use Rattle.std.specs.Bool.{IsTrue}
 use Rattle.std.specs.List.{slice_get}
-use Rattle.std.proofs.lemmas.Option.{none-some, slice_get_within, get_or_from_slice_get}
+use Rattle.std.proofs.lemmas.Option.{slice_get_within, get_or_from_slice_get}
 use Rattle.gcd_plan.specs.PlanView.{PlanView}
 use Rattle.gcd_plan.specs.Validity.{IsPlan}
 use Rattle.gcd_plan.specs.Chains.{chain_by, is_in}
@@ -12,15 +12,17 @@ use Rattle.gcd_plan.specs.declared.names.Run.{Run}
 use Rattle.gcd_plan.specs.declared.names.Run.TheVariants.{Block}
 use Rattle.gcd_event.specs.declared.event.Event.{Event}
 use Rattle.gcd_event.specs.declared.event.Event.TheVariants.{Start, Wake, Deliver, Halt}
-use Rattle.gcd_history.specs.Runs.{starts, ends, is_ended as is_ended_after, is_open as is_open_after}
+use Rattle.gcd_history.specs.Groups.{is_empty_above}
+use Rattle.gcd_history.specs.Semas.{waits}
+use Rattle.gcd_history.specs.Runs.{act_of, starts, ends, is_ended as is_ended_after, is_open as is_open_after}
 use Rattle.gcd_history.specs.Tree.{target, chain_of_run}
 use Rattle.gcd_history.specs.Submitted.{submitted, submission_of}
 use Rattle.gcd_history.specs.Parked.{reason, is_parked, has_come as has_come_after}
 use Rattle.gcd_history.specs.Permitted.{IsLawful as IsLawfulAfter, is_halted as is_halted_after}
-use Rattle.gcd_history.specs.Choice.{choice}
-use Rattle.gcd_history.specs.History.{why, IsLawful, is_started, is_submitted, submissions_of, is_free, nodes_of_run, reason_of, has_come, received_of, pending_of, merged_of, is_open, is_active, chain_of, node_of_run, is_barrier_of, choice_of, running_of, next_due_of, is_live_feed}
+use Rattle.gcd_history.specs.Choice.{choice, all_ended as all_ended_after}
+use Rattle.gcd_history.specs.History.{why, IsLawful, is_started, is_submitted, submissions_of, is_free, nodes_of_run, reason_of, has_come, group_wait_passes, semaphore_wait_passes, received_of, pending_of, merged_of, is_open, is_active, chain_of, node_of_run, is_barrier_of, choice_of, running_of, next_due_of, is_live_feed}
 use Rattle.gcd_history.specs.Ends.{IsDrained, all_ended, IsQuiescent, IsHalted, is_halted}
-use Rattle.gcd_history.specs.Laws.{RunsOnce, StartsAfterSubmission, AllEndOnce, IsSubmittedOnce, StartsInOrder, BeginsFree, WakesHaveCause, NoneParked, WaitsHavePassed, IsConserved, RunsExclude, BarriersExclude, TreeStands, IsChoiceOf, HasNoChoice, IsAtRest}
+use Rattle.gcd_history.specs.Laws.{RunsOnce, StartsAfterSubmission, AllEndOnce, IsSubmittedOnce, StartsInOrder, BeginsFree, WakesHaveCause, NoneParked, WaitsHavePassed, GroupWaitsPass, SemaphoreWaitsPass, IsConserved, RunsExclude, BarriersExclude, TreeStands, IsChoiceOf, HasNoChoice, IsAtRest}
 use Rattle.gcd_history.proofs.Lists.{count_by-reverse, some_counted, found_passes, past_more}
 use Rattle.gcd_history.proofs.LawfulLemmas.{lawful_after, lawful_take}
 use Rattle.gcd_history.proofs.Reasons.{allowed, at_start, at_wake}
@@ -28,7 +30,8 @@ use Rattle.gcd_history.proofs.StartedOnce.{started_once, ended_once, some_kept}
 use Rattle.gcd_history.proofs.SubmittedOnce.{submitted_once}
 use Rattle.gcd_history.proofs.InOrder.{starts_in_order as starts_in_order_after}
 use Rattle.gcd_history.proofs.FreeAtStart.{start_begins_alone, deliver_begins_alone}
-use Rattle.gcd_history.proofs.Woken.{came, none_parked, parked_on}
+use Rattle.gcd_history.proofs.Woken.{came, none_parked}
+use Rattle.gcd_history.proofs.WaitsPass.{passed, group_wait_passed, semaphore_wait_passed}
 use Rattle.gcd_history.proofs.Merged.{conserved}
 use Rattle.gcd_history.proofs.RunsAlone.{runs_alone, barriers_alone}
 use Rattle.gcd_history.proofs.TreeStands.{stands, chain_step}
@@ -74,7 +77,7 @@ is_submitted_once plan h valid lawful b = submitted_once plan (reverse h) valid 
 
 pub starts_in_order : (plan : PlanView) (h : List Event) → IsPlan plan → IsLawful plan h → StartsInOrder plan h
 unfolding submissions_of is_started
-starts_in_order plan h valid lawful = starts_in_order_after plan (reverse h) valid (lawful_after plan h lawful)
+starts_in_order plan h valid lawful i = starts_in_order_after plan (reverse (take i h)) valid (lawful_after plan (take i h) (lawful_take plan h i lawful))
 
 pub begins_free : (plan : PlanView) (h : List Event) → IsLawful plan h → BeginsFree plan h
 unfolding IsLawful why is_free nodes_of_run
@@ -99,20 +102,42 @@ pub none_is_parked : (plan : PlanView) (h : List Event) → IsLawful plan h → 
 unfolding reason_of all_ended
 none_is_parked plan h lawful drained b = none_parked plan (reverse h) (lawful_after plan h lawful) drained.ended (record { 0 = b })
 
+-- the events from a position on, in reverse
+turned_at : (h : List Event) (i : ℕ) → reverse h ≡ reverse (drop i h) ++ reverse (take i h)
+turned_at h i = ap reverse (sym (take-append-drop i h)) ∙ reverse-append (take i h) (drop i h)
+
 pub waits_have_passed : (plan : PlanView) (h : List Event) → IsLawful plan h → IsDrained plan h → WaitsHavePassed plan h
 unfolding reason_of has_come all_ended
 waits_have_passed plan h lawful drained i b r is =
-    let split : reverse h ≡ reverse (drop i h) ++ reverse (take i h) = ap reverse (sym (take-append-drop i h)) ∙ reverse-append (take i h) (drop i h) in
-    let past = lawful_after plan h lawful in
-    let whole : IsLawfulAfter plan (reverse (drop i h) ++ reverse (take i h)) = subst (IsLawfulAfter plan) split past in
-    let later = parked_on plan (reverse (drop i h)) (reverse (take i h)) whole (record { 0 = b }) r is in
-    ⊎_elim
-    (λ still.
-    let none = none_parked plan (reverse h) past drained.ended (record { 0 = b }) in
-    let is_now : reason plan (reverse h) (Block (record { 0 = b })) ≡ Some r = subst (λ k. reason plan k (Block (record { 0 = b })) ≡ Some r) (sym split) still in
-    absurd (none-some r (sym none ∙ is_now)))
-    (λ come. subst (λ k. has_come_after plan k r ≡ true) (sym split) come)
-    later
+    let split = turned_at h i in
+    let whole : IsLawfulAfter plan (reverse (drop i h) ++ reverse (take i h)) = subst (IsLawfulAfter plan) split (lawful_after plan h lawful) in
+    let ended : all_ended_after plan (reverse (drop i h) ++ reverse (take i h)) ≡ true = subst (λ k. all_ended_after plan k ≡ true) split drained.ended in
+    subst (λ k. has_come_after plan k r ≡ true) (sym split) (passed plan (reverse (drop i h)) (reverse (take i h)) whole ended (record { 0 = b }) r is)
+
+-- the same, with the event at the position
+turned_to : (h : List Event) (i : ℕ) (e : Event) → slice_get h i ≡ Some e → reverse h ≡ reverse (drop (i + 1) h) ++ e ∷ reverse (take i h)
+turned_to h i e at =
+    let within : i < length h = slice_get_within h i e at in
+    turned_at h (i + 1) ∙ ap (λ k. reverse (drop (i + 1) h) ++ k) (past_more h i e within ∙ ap (λ d. d ∷ reverse (take i h)) (get_or_from_slice_get h i e e at))
+
+pub group_waits_pass : (plan : PlanView) (h : List Event) → IsPlan plan → IsLawful plan h → IsDrained plan h → GroupWaitsPass plan h
+unfolding group_wait_passes all_ended
+group_waits_pass plan h valid lawful drained i e g at waits =
+    let split = turned_to h i e at in
+    let later = reverse (drop (i + 1) h) in
+    let past = reverse (take i h) in
+    let whole : IsLawfulAfter plan (later ++ e ∷ past) = subst (IsLawfulAfter plan) split (lawful_after plan h lawful) in
+    let ended : all_ended_after plan (later ++ e ∷ past) ≡ true = subst (λ k. all_ended_after plan k ≡ true) split drained.ended in
+    let within : i < length h = slice_get_within h i e at in
+    let long : length past ≡ i = length-reverse (take i h) ∙ length-take-le i h (omega arith) in
+    subst (λ n. is_empty_above plan (reverse h) g.0 n ≡ true) long
+    (subst (λ k. is_empty_above plan k g.0 (length past) ≡ true) (sym split) (group_wait_passed plan later past e g valid whole ended waits))
+
+pub semaphore_waits_pass : (plan : PlanView) (h : List Event) → IsPlan plan → IsLawful plan h → IsDrained plan h → SemaphoreWaitsPass plan h
+unfolding semaphore_wait_passes all_ended
+semaphore_waits_pass plan h valid lawful drained s k low =
+    let same = count_by-reverse (λ e. waits s (act_of plan e)) h in
+    semaphore_wait_passed plan (reverse h) s k valid (lawful_after plan h lawful) drained.ended (omega arith)
 
 pub is_conserved : (plan : PlanView) (h : List Event) → IsConserved plan h
 unfolding received_of pending_of merged_of

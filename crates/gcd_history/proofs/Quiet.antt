@@ -1,4 +1,5 @@
--- When nothing more can come: no run is open and unparked, and worker 0 has no choice.
+-- Free workers are alike, a run that is open and unparked goes on, and so when nothing more can come: no run is open and
+-- unparked, and worker 0 has no choice.
 use Rattle.std.proofs.Common.{◌≡◌, ⊎_elim, ℕ, ◌+◌, ◌<◌, ◌≤◌, Bool, true, false, not, ◌&&◌, cond, ◌==◌, ltb, leb, List, [], ◌∷◌, length, get_or, Some, None, is_some, is_none, option_and_then, refl, ap, sym, ◌∙◌, subst, arith}
 use Rattle.std.specs.List.{list_any, list_all, sum_by, slice_get}
 use Rattle.std.specs.Option.{option_map_or}
@@ -27,8 +28,10 @@ use Rattle.gcd_history.specs.Timers.{now, next_due, may_tick}
 use Rattle.gcd_history.specs.Sources.{is_pending, is_live}
 use Rattle.gcd_history.specs.Misuses.{first_code, act_misuses, is_released, named, misuse}
 use Rattle.gcd_history.specs.Permitted.{why, permitted, IsLawful, is_halted, is_known, is_worker, has_block, is_run_of, is_ready, knowledge, node_reasons, is_next, has_act_left, misuse_at, reasons}
-use Rattle.gcd_history.specs.Choice.{choice, is_work, IsQuiescent}
+use Rattle.gcd_history.specs.Choice.{choice, is_work, worker_of, IsQuiescent}
+use Rattle.gcd_history.specs.Facts.{is_of_run, by_worker}
 use Rattle.gcd_history.proofs.Lists.{some_counted, none_counted}
+use Rattle.gcd_history.proofs.RunsOpen.{same_run-refl}
 use Rattle.gcd_history.proofs.Reasons.{first_none, allowed, at_act, at_end, at_deliver_end, at_misuse, at_tick, at_ready, at_feed_end}
 use Rattle.gcd_history.proofs.OpenNodes.{open_cases, any_open, open_any}
 use Rattle.gcd_history.proofs.Choices.{chosen_where_permitted, chosen_is, none_is}
@@ -42,9 +45,13 @@ none_why plan past e on known none =
     none_first Over (is_halted past) ((NoSuch, not (is_known plan e)) ∷ reasons plan past e) on
     (none_first NoSuch (not (is_known plan e)) (reasons plan past e) (ap not known) none)
 
--- ## With no run that is open and unparked, all workers are alike
+-- ## Free workers are alike
 
--- no worker has a run
+-- the worker has no run that is open and unparked
+abbrev HasNone : PlanView → List Event → ℕ → Type 0
+HasNone plan past w = (r : Run) → has_run plan past w r ≡ false
+
+-- where no run is open and unparked, no worker has one
 none_has : (plan : PlanView) (past : List Event) (w : ℕ) (r : Run) → running plan past ≡ 0 → has_run plan past w r ≡ true → ⊥
 unfolding has_run
 none_has plan past w r quiet own =
@@ -53,48 +60,69 @@ none_has plan past w r quiet own =
     let some : 1 ≤ running plan past = some_counted (λ q. is_none (parked_by plan past q)) (open_runs past) (any_open past (λ q. is_none (parked_by plan past q)) r parts.0 unparked) in
     omega arith
 
-none_busy : (plan : PlanView) (past : List Event) (w : ℕ) → running plan past ≡ 0 → is_busy plan past w ≡ false
+pub all_free : (plan : PlanView) (past : List Event) (w : ℕ) → running plan past ≡ 0 → HasNone plan past w
+all_free plan past w quiet r = ⊎_elim (λ own. absurd (none_has plan past w r quiet own)) (λ none. none) (cases_Bool (has_run plan past w r))
+
+not_busy : (plan : PlanView) (past : List Event) (w : ℕ) → HasNone plan past w → is_busy plan past w ≡ false
 unfolding is_busy
-none_busy plan past w quiet =
+not_busy plan past w free =
     ⊎_elim
-    (λ busy. let r = open_any past (has_run plan past w) busy in absurd (none_has plan past w r.0 quiet r.2))
+    (λ busy. let r = open_any past (has_run plan past w) busy in absurd (both_ways (has_run plan past w r.0) (free r.0) r.2))
     (λ idle. idle)
     (cases_Bool (list_any (has_run plan past w) (open_runs past)))
 
-start_by_zero : (plan : PlanView) (past : List Event) (w : ℕ) (b : Blk) → running plan past ≡ 0 → why plan past (Start w b) ≡ None → why plan past (Start 0 b) ≡ None
-start_by_zero plan past w b quiet h =
+start_by : (plan : PlanView) (past : List Event) (w v : ℕ) (b : Blk) → is_worker v ≡ true → HasNone plan past v → why plan past (Start w b) ≡ None → why plan past (Start v b) ≡ None
+start_by plan past w v b fits free h =
     let a = allowed plan past (Start w b) h in
     let rest = (Unready, not (is_ready plan past b.0)) ∷ node_reasons plan past (submission_of plan past b.0) in
-    none_why plan past (Start 0 b) a.goes_on (and_parts (is_worker w) (has_block plan b.0) a.known).1
-    (none_first Busy (is_busy plan past 0) rest (none_busy plan past 0 quiet) (first_none Busy (is_busy plan past w) rest a.kind).1)
+    none_why plan past (Start v b) a.goes_on (and_from (is_worker v) (has_block plan b.0) fits (and_parts (is_worker w) (has_block plan b.0) a.known).1)
+    (none_first Busy (is_busy plan past v) rest (not_busy plan past v free) (first_none Busy (is_busy plan past w) rest a.kind).1)
 
-wake_by_zero : (plan : PlanView) (past : List Event) (w : ℕ) (b : Blk) → running plan past ≡ 0 → why plan past (Wake w b) ≡ None → why plan past (Wake 0 b) ≡ None
-wake_by_zero plan past w b quiet h =
+wake_by : (plan : PlanView) (past : List Event) (w v : ℕ) (b : Blk) → is_worker v ≡ true → HasNone plan past v → why plan past (Wake w b) ≡ None → why plan past (Wake v b) ≡ None
+wake_by plan past w v b fits free h =
     let a = allowed plan past (Wake w b) h in
     let rest = (NotParked, not (is_parked plan past b.0)) ∷ (Waiting, not (may_wake plan past b.0)) ∷ [] in
-    none_why plan past (Wake 0 b) a.goes_on (and_parts (is_worker w) (has_block plan b.0) a.known).1
-    (none_first Busy (is_busy plan past 0) rest (none_busy plan past 0 quiet) (first_none Busy (is_busy plan past w) rest a.kind).1)
+    none_why plan past (Wake v b) a.goes_on (and_from (is_worker v) (has_block plan b.0) fits (and_parts (is_worker w) (has_block plan b.0) a.known).1)
+    (none_first Busy (is_busy plan past v) rest (not_busy plan past v free) (first_none Busy (is_busy plan past w) rest a.kind).1)
 
-deliver_by_zero : (plan : PlanView) (past : List Event) (w : ℕ) (s : Obj) → running plan past ≡ 0 → why plan past (Deliver w s) ≡ None → why plan past (Deliver 0 s) ≡ None
-deliver_by_zero plan past w s quiet h =
+deliver_by : (plan : PlanView) (past : List Event) (w v : ℕ) (s : Obj) → is_worker v ≡ true → HasNone plan past v → why plan past (Deliver w s) ≡ None → why plan past (Deliver v s) ≡ None
+deliver_by plan past w v s fits free h =
     let a = allowed plan past (Deliver w s) h in
     let rest = (Unready, not (is_pending plan past s.0)) ∷ run_reasons (knowledge plan past) (chain plan past s.0) in
-    none_why plan past (Deliver 0 s) a.goes_on (and_parts (is_worker w) (is_source plan s.0) a.known).1
-    (none_first Busy (is_busy plan past 0) rest (none_busy plan past 0 quiet) (first_none Busy (is_busy plan past w) rest a.kind).1)
+    none_why plan past (Deliver v s) a.goes_on (and_from (is_worker v) (is_source plan s.0) fits (and_parts (is_worker w) (is_source plan s.0) a.known).1)
+    (none_first Busy (is_busy plan past v) rest (not_busy plan past v free) (first_none Busy (is_busy plan past w) rest a.kind).1)
+
+-- what is permitted to one free worker is permitted to every other
+pub alike : (plan : PlanView) (past : List Event) (e : Event) (v : ℕ) → is_worker v ≡ true → HasNone plan past (worker_of e) → HasNone plan past v → why plan past e ≡ None → why plan past (by_worker v e) ≡ None
+alike plan past (Start w b) v fits none free h = start_by plan past w v b fits free h
+alike plan past (Wake w b) v fits none free h = wake_by plan past w v b fits free h
+alike plan past (Deliver w s) v fits none free h = deliver_by plan past w v s fits free h
+alike plan past (Acted w r i) v fits none free h = absurd (both_ways (has_run plan past w r) (none r) (at_act plan past w r i h).own)
+alike plan past (End w b) v fits none free h = absurd (both_ways (has_run plan past w (Block b)) (none (Block b)) (at_end plan past w b h).own)
+alike plan past (DeliverEnd w s) v fits none free h = absurd (both_ways (has_run plan past w (Source s)) (none (Source s)) (at_deliver_end plan past w s h).own)
+alike plan past (Misuse w r i c) v fits none free h = absurd (both_ways (has_run plan past w r) (none r) (at_misuse plan past w r i c h).own)
+alike plan past e v fits none free h = h
+
+work_kept : (e : Event) (v : ℕ) → is_work e ≡ true → is_work (by_worker v e) ≡ true
+work_kept (Tick t) v work = absurd (both_ways false refl work)
+work_kept (Ready s n) v work = absurd (both_ways false refl work)
+work_kept (FeedEnd s) v work = absurd (both_ways false refl work)
+work_kept Halt v work = absurd (both_ways false refl work)
+work_kept e v work = refl
+
+its_worker : (e : Event) (v : ℕ) → is_work e ≡ true → worker_of (by_worker v e) ≡ v
+its_worker (Tick t) v work = absurd (both_ways false refl work)
+its_worker (Ready s n) v work = absurd (both_ways false refl work)
+its_worker (FeedEnd s) v work = absurd (both_ways false refl work)
+its_worker Halt v work = absurd (both_ways false refl work)
+its_worker e v work = refl
 
 -- so worker 0 has a choice, where any worker has
 zero_chooses : (plan : PlanView) (past : List Event) (e : Event) → IsPlan plan → IsLawful plan past → running plan past ≡ 0 → is_work e ≡ true → why plan past e ≡ None → is_some (choice plan past 0 0) ≡ true
-zero_chooses plan past (Start w b) valid lawful quiet work h = chosen_where_permitted plan past 0 (Start 0 b) valid lawful (omega arith) refl (start_by_zero plan past w b quiet h)
-zero_chooses plan past (Wake w b) valid lawful quiet work h = chosen_where_permitted plan past 0 (Wake 0 b) valid lawful (omega arith) refl (wake_by_zero plan past w b quiet h)
-zero_chooses plan past (Deliver w s) valid lawful quiet work h = chosen_where_permitted plan past 0 (Deliver 0 s) valid lawful (omega arith) refl (deliver_by_zero plan past w s quiet h)
-zero_chooses plan past (Acted w r i) valid lawful quiet work h = absurd (none_has plan past w r quiet (at_act plan past w r i h).own)
-zero_chooses plan past (End w b) valid lawful quiet work h = absurd (none_has plan past w (Block b) quiet (at_end plan past w b h).own)
-zero_chooses plan past (DeliverEnd w s) valid lawful quiet work h = absurd (none_has plan past w (Source s) quiet (at_deliver_end plan past w s h).own)
-zero_chooses plan past (Misuse w r i c) valid lawful quiet work h = absurd (none_has plan past w r quiet (at_misuse plan past w r i c h).own)
-zero_chooses plan past (Tick t) valid lawful quiet work h = absurd (both_ways false refl work)
-zero_chooses plan past (Ready s n) valid lawful quiet work h = absurd (both_ways false refl work)
-zero_chooses plan past (FeedEnd s) valid lawful quiet work h = absurd (both_ways false refl work)
-zero_chooses plan past Halt valid lawful quiet work h = absurd (both_ways false refl work)
+zero_chooses plan past e valid lawful quiet work h =
+    let may = alike plan past e 0 refl (all_free plan past (worker_of e) quiet) (all_free plan past 0 quiet) h in
+    let some = chosen_where_permitted plan past 0 (by_worker 0 e) valid lawful (omega arith) (work_kept e 0 work) may in
+    subst (λ w. is_some (choice plan past w 0) ≡ true) (its_worker e 0 work) some
 
 -- ## A run that is open and unparked has a permitted event
 
@@ -203,26 +231,34 @@ has_own plan past r w live unparked last =
     and_from (is_open past r) _ live
     (and_from (is_none (parked_by plan past r)) _ (ap is_none unparked) (ap (λ o. option_map_or (λ v. v == w) o false) last ∙ eq-eqb w w refl))
 
--- the run's next event: its end, its act, or a misuse
-abbrev OwnEvent : PlanView → List Event → Type 0
-OwnEvent plan past = (e : Event) × (is_work e ≡ true) × (why plan past e ≡ None)
+-- an event of the run's own is permitted: its end, its act, or a misuse
+pub record OwnEvent (plan : PlanView) (past : List Event) (r : Run) : Type 0 where
+  pub event : Event
+  pub work : is_work event ≡ true
+  pub permitted_now : why plan past event ≡ None
+  pub of_run : is_of_run r event ≡ true
+  pub by : has_run plan past (worker_of event) r ≡ true
 
-end_event : (plan : PlanView) (past : List Event) (w : ℕ) → is_halted past ≡ false → is_worker w ≡ true → (r : Run) → is_run_of plan r ≡ true → has_run plan past w r ≡ true → act_at plan r (acts_done past r) ≡ None → OwnEvent plan past
+end_event : (plan : PlanView) (past : List Event) (w : ℕ) → is_halted past ≡ false → is_worker w ≡ true → (r : Run) → is_run_of plan r ≡ true → has_run plan past w r ≡ true → act_at plan r (acts_done past r) ≡ None → OwnEvent plan past r
 unfolding has_act_left
-end_event plan past w on fits (Block b) known own none = (
-  End w b,
-  refl,
-  none_why plan past (End w b) on (and_from (is_worker w) (has_block plan b.0) fits known)
+end_event plan past w on fits (Block b) known own none = record {
+  event = End w b;
+  work = refl;
+  permitted_now = none_why plan past (End w b) on (and_from (is_worker w) (has_block plan b.0) fits known)
       (none_first NotOwn (not (has_run plan past w (Block b))) ((NotNext, has_act_left plan past (Block b)) ∷ []) (ap not own)
-      (none_first NotNext (has_act_left plan past (Block b)) [] (ap is_some none) refl)),
-)
-end_event plan past w on fits (Source s) known own none = (
-  DeliverEnd w s,
-  refl,
-  none_why plan past (DeliverEnd w s) on (and_from (is_worker w) (is_source plan s.0) fits known)
+      (none_first NotNext (has_act_left plan past (Block b)) [] (ap is_some none) refl));
+  of_run = same_run-refl (Block b);
+  by = own;
+}
+end_event plan past w on fits (Source s) known own none = record {
+  event = DeliverEnd w s;
+  work = refl;
+  permitted_now = none_why plan past (DeliverEnd w s) on (and_from (is_worker w) (is_source plan s.0) fits known)
       (none_first NotOwn (not (has_run plan past w (Source s))) ((NotNext, has_act_left plan past (Source s)) ∷ []) (ap not own)
-      (none_first NotNext (has_act_left plan past (Source s)) [] (ap is_some none) refl)),
-)
+      (none_first NotNext (has_act_left plan past (Source s)) [] (ap is_some none) refl));
+  of_run = same_run-refl (Source s);
+  by = own;
+}
 
 next_is : (plan : PlanView) (past : List Event) (r : Run) (act : Act) → act_at plan r (acts_done past r) ≡ Some act → is_next plan past r (acts_done past r) ≡ true
 unfolding is_next
@@ -232,42 +268,57 @@ code_of : (plan : PlanView) (past : List Event) (r : Run) (i c : ℕ) (act : Act
 unfolding misuse_at
 code_of plan past r i c act at h = sym (ap (option_and_then (misuse plan past)) at) ∙ h
 
-act_event : (plan : PlanView) (past : List Event) (w : ℕ) → IsPlan plan → is_halted past ≡ false → is_worker w ≡ true → (r : Run) → is_run_of plan r ≡ true → has_run plan past w r ≡ true → (act : Act) → act_at plan r (acts_done past r) ≡ Some act → OwnEvent plan past
+act_event : (plan : PlanView) (past : List Event) (w : ℕ) → IsPlan plan → is_halted past ≡ false → is_worker w ≡ true → (r : Run) → is_run_of plan r ≡ true → has_run plan past w r ≡ true → (act : Act) → act_at plan r (acts_done past r) ≡ Some act → OwnEvent plan past r
 act_event plan past w valid on fits r known own act at =
     let i = acts_done past r in
     let low : leb i 65534 ≡ true = le-leb i 65534 (index_fits plan r i act valid at) in
     let next = next_is plan past r act at in
-    elim (misuse_at plan past r i) as (λ o. misuse_at plan past r i ≡ o → OwnEvent plan past) [
-      | None ↦ λ fine. (
-        Acted w r i,
-        refl,
-        none_why plan past (Acted w r i) on (and_from (is_worker w) _ fits (and_from (is_run_of plan r) (leb i 65534) known low))
+    elim (misuse_at plan past r i) as (λ o. misuse_at plan past r i ≡ o → OwnEvent plan past r) [
+      | None ↦ λ fine. record {
+        event = Acted w r i;
+        work = refl;
+        permitted_now = none_why plan past (Acted w r i) on (and_from (is_worker w) _ fits (and_from (is_run_of plan r) (leb i 65534) known low))
             (none_first NotOwn (not (has_run plan past w r)) ((NotNext, not (is_next plan past r i)) ∷ (IsMisuse, is_some (misuse_at plan past r i)) ∷ []) (ap not own)
             (none_first NotNext (not (is_next plan past r i)) ((IsMisuse, is_some (misuse_at plan past r i)) ∷ []) (ap not next)
-            (none_first IsMisuse (is_some (misuse_at plan past r i)) [] (ap is_some fine) refl))),
-      )
+            (none_first IsMisuse (is_some (misuse_at plan past r i)) [] (ap is_some fine) refl)));
+        of_run = same_run-refl r;
+        by = own;
+      }
       | Some c ↦ λ wrong.
           let coded = code_fits plan past act c (code_of plan past r i c act at wrong) in
           let same : option_map_or (λ code. code == c) (misuse_at plan past r i) false ≡ true = ap (λ o. option_map_or (λ code. code == c) o false) wrong ∙ eq-eqb c c refl in
-          let it = not (option_map_or (λ code. code == c) (misuse_at plan past r i) false) in (
-            Misuse w r i c,
-            refl,
-            none_why plan past (Misuse w r i c) on (and_from (is_worker w) _ fits (and_from (is_run_of plan r) _ known (and_from (leb i 65534) _ low coded)))
+          let it = not (option_map_or (λ code. code == c) (misuse_at plan past r i) false) in
+          record {
+            event = Misuse w r i c;
+            work = refl;
+            permitted_now = none_why plan past (Misuse w r i c) on (and_from (is_worker w) _ fits (and_from (is_run_of plan r) _ known (and_from (leb i 65534) _ low coded)))
                 (none_first NotOwn (not (has_run plan past w r)) ((NotNext, not (is_next plan past r i)) ∷ (NotMisuse, it) ∷ []) (ap not own)
                 (none_first NotNext (not (is_next plan past r i)) ((NotMisuse, it) ∷ []) (ap not next)
-                (none_first NotMisuse it [] (ap not same) refl))),
-          )
+                (none_first NotMisuse it [] (ap not same) refl)));
+            of_run = same_run-refl r;
+            by = own;
+          }
     ] refl
 
--- the run's own next event
-pub own_event : (plan : PlanView) (past : List Event) → IsPlan plan → IsLawful plan past → is_halted past ≡ false → (r : Run) → is_open past r ≡ true → parked_by plan past r ≡ None → OwnEvent plan past
+-- of a run that is open and not parked
+pub own_event : (plan : PlanView) (past : List Event) → IsPlan plan → IsLawful plan past → is_halted past ≡ false → (r : Run) → is_open past r ≡ true → parked_by plan past r ≡ None → OwnEvent plan past r
 own_event plan past valid lawful on r live unparked =
     let o = owned plan past lawful r live in
     let own = has_own plan past r o.worker live unparked o.last in
-    elim (act_at plan r (acts_done past r)) as (λ k. act_at plan r (acts_done past r) ≡ k → OwnEvent plan past) [
+    elim (act_at plan r (acts_done past r)) as (λ k. act_at plan r (acts_done past r) ≡ k → OwnEvent plan past r) [
       | None ↦ λ none. end_event plan past o.worker on o.fits r o.known own none
       | Some act ↦ λ some. act_event plan past o.worker valid on o.fits r o.known own act some
     ] refl
+
+-- ## Wakes
+
+-- where a block may wake, its Wake is permitted to every free worker
+pub wake_permitted : (plan : PlanView) (past : List Event) (b : Blk) (w : ℕ) → IsLawful plan past → is_halted past ≡ false → is_worker w ≡ true → HasNone plan past w → is_open past (Block b) ≡ true → is_parked plan past b.0 ≡ true → may_wake plan past b.0 ≡ true → why plan past (Wake w b) ≡ None
+wake_permitted plan past b w lawful on fits free live parked may =
+    none_why plan past (Wake w b) on (and_from (is_worker w) (has_block plan b.0) fits (owned plan past lawful (Block b) live).known)
+    (none_first Busy (is_busy plan past w) ((NotParked, not (is_parked plan past b.0)) ∷ (Waiting, not (may_wake plan past b.0)) ∷ []) (not_busy plan past w free)
+    (none_first NotParked (not (is_parked plan past b.0)) ((Waiting, not (may_wake plan past b.0)) ∷ []) (ap not parked)
+    (none_first Waiting (not (may_wake plan past b.0)) [] (ap not may) refl)))
 
 -- ## At rest
 
@@ -296,7 +347,7 @@ none_running plan past valid lawful quiet =
     (λ some.
     let r = open_any past (λ q. is_none (parked_by plan past q)) some in
     let own = own_event plan past valid lawful quiet.goes_on r.0 r.1 (none_is (parked_by plan past r.0) r.2) in
-    absurd (both_ways (permitted plan past own.0) (quiet.no_work own.0 own.1) (ap is_none own.2)))
+    absurd (both_ways (permitted plan past own.event) (quiet.no_work own.event own.work) (ap is_none own.permitted_now)))
     (λ none. none_counted (λ q. is_none (parked_by plan past q)) (open_runs past) none)
     (cases_Bool (list_any (λ q. is_none (parked_by plan past q)) (open_runs past)))
 

@@ -186,30 +186,34 @@ no_acts acts i act none at =
     omega arith
 
 -- a source's acts are handler acts
-source_handler : (plan : PlanView) (obj : ObjView) (b : ℕ) (i : ℕ) (act : Act) → (kind : Kind) → has_fields plan kind obj ≡ true → slice_get obj.handler i ≡ Some act → given b (Some act) ≡ 0
-source_handler plan obj b i act Serial fields at =
+source_handler : (plan : PlanView) (obj : ObjView) (i : ℕ) (act : Act) → (kind : Kind) → has_fields plan kind obj ≡ true → slice_get obj.handler i ≡ Some act → (is_handler_act act && is_act plan act) ≡ true
+source_handler plan obj i act Serial fields at =
     absurd (no_acts obj.handler i act (and_parts (length obj.handler == 0) (is_none obj.cancel) (and_parts (is_queue plan obj.target.0) _ fields).1).0 at)
-source_handler plan obj b i act Concurrent fields at =
+source_handler plan obj i act Concurrent fields at =
     absurd (no_acts obj.handler i act (and_parts (length obj.handler == 0) (is_none obj.cancel) (and_parts (is_queue plan obj.target.0) _ fields).1).0 at)
-source_handler plan obj b i act Group fields at =
+source_handler plan obj i act Group fields at =
     absurd (no_acts obj.handler i act (and_parts (length obj.handler == 0) (is_none obj.cancel) (and_parts obj.active _ (and_parts (obj.target.0 == 0) _ fields).1).1).0 at)
-source_handler plan obj b i act (Semaphore n) fields at =
+source_handler plan obj i act (Semaphore n) fields at =
     absurd (no_acts obj.handler i act (and_parts (length obj.handler == 0) (is_none obj.cancel) (and_parts obj.active _ (and_parts (obj.target.0 == 0) _ fields).1).1).0 at)
-source_handler plan obj b i act kind fields at =
+source_handler plan obj i act kind fields at =
     let all = (and_parts (list_all (λ a. is_handler_act a && is_act plan a) obj.handler) _ (and_parts (not obj.active) _ (and_parts (is_queue plan obj.target.0) _ fields).1).1).0 in
-    handler_act_gives_none b act (and_parts (is_handler_act act) (is_act plan act) (list_all_place (λ a. is_handler_act a && is_act plan a) obj.handler i act all at)).0
+    list_all_place (λ a. is_handler_act a && is_act plan a) obj.handler i act all at
 
 pub object_fields : (plan : PlanView) (k : ℕ) (obj : ObjView) → IsPlan plan → slice_get plan.objects k ≡ Some obj → has_fields plan obj.kind obj ≡ true
 object_fields plan k obj valid at =
     (and_parts (has_path obj.kind obj.path) (has_fields plan obj.kind obj) (and_parts (is_kind obj.kind) _ (list_all_place (is_object plan) plan.objects k obj valid.objects at)).1).1
 
--- an act of a handler submits nothing
-handler_gives_none : (plan : PlanView) (s : Obj) (i b : ℕ) (act : Act) → IsPlan plan → act_at plan (Source s) i ≡ Some act → given b (Some act) ≡ 0
-handler_gives_none plan s i b act valid at =
-    elim (slice_get plan.objects s.0) as (λ o. slice_get plan.objects s.0 ≡ o → slice_get (option_map_or (λ obj. obj.handler) o []) i ≡ Some act → given b (Some act) ≡ 0) [
+-- an act of a handler is one that a handler may have
+pub handler_act : (plan : PlanView) (s : Obj) (i : ℕ) (act : Act) → IsPlan plan → act_at plan (Source s) i ≡ Some act → (is_handler_act act ≡ true) × (is_act plan act ≡ true)
+handler_act plan s i act valid at =
+    and_parts (is_handler_act act) (is_act plan act) (elim (slice_get plan.objects s.0) as (λ o. slice_get plan.objects s.0 ≡ o → slice_get (option_map_or (λ obj. obj.handler) o []) i ≡ Some act → (is_handler_act act && is_act plan act) ≡ true) [
       | None ↦ λ none k. cc
-      | Some obj ↦ λ some k. source_handler plan obj b i act obj.kind (object_fields plan s.0 obj valid some) k
-    ] refl at
+      | Some obj ↦ λ some k. source_handler plan obj i act obj.kind (object_fields plan s.0 obj valid some) k
+    ] refl at)
+
+-- so it submits nothing
+handler_gives_none : (plan : PlanView) (s : Obj) (i b : ℕ) (act : Act) → IsPlan plan → act_at plan (Source s) i ≡ Some act → given b (Some act) ≡ 0
+handler_gives_none plan s i b act valid at = handler_act_gives_none b act (handler_act plan s i act valid at).0
 
 -- the block's next act is counted
 next_counted : (plan : PlanView) (past : List Event) (w : ℕ) (c : Blk) (i b : ℕ) → IsLawful plan (Acted w (Block c) i ∷ past) →
@@ -366,7 +370,7 @@ cancel_gives_no_main plan obj kind fields =
 object_gives_no_main : (plan : PlanView) → IsPlan plan → (k : ℕ) (obj : ObjView) → slice_get plan.objects k ≡ Some obj → count_by (names 0) (blocks_of obj.handler ++ option_to_list obj.cancel) ≡ 0
 object_gives_no_main plan valid k obj at =
     let fields = object_fields plan k obj valid at in
-    let one = acts_give_none 0 obj.handler (λ i act here. source_handler plan obj 0 i act obj.kind fields here) in
+    let one = acts_give_none 0 obj.handler (λ i act here. handler_act_gives_none 0 act (and_parts (is_handler_act act) (is_act plan act) (source_handler plan obj i act obj.kind fields here)).0) in
     let two = cancel_gives_no_main plan obj obj.kind fields in
     let split = count_by-append (names 0) (blocks_of obj.handler) (option_to_list obj.cancel) in
     omega arith

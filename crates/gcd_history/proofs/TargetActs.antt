@@ -56,15 +56,19 @@ no_misuse_at plan past r i act at h = ap (λ o. is_some (option_and_then (misuse
 pub at_target : (plan : PlanView) (past : List Event) (w : ℕ) (r : Run) (i : ℕ) (p t : Obj) → IsLawful plan (Acted w r i ∷ past) → act_at plan r i ≡ Some (Target p t) → TargetFacts plan past p.0 t.0
 at_target plan past w r i p t h at = no_misuse plan past p t (no_misuse_at plan past r i (Target p t) at (at_act plan past w r i h.1).proper)
 
--- what has no child and is active, where a target act on it is no misuse
-pub no_child : (plan : PlanView) (past : List Event) (o t : ℕ) → TargetFacts plan past o t → is_active plan past o ≡ true → has_child plan past o ≡ false
-no_child plan past o t facts active =
-    let made : starts_active plan o ≡ true = ⊎_elim
+-- where a target act on what is active is no misuse, that was created active
+pub made_active : (plan : PlanView) (past : List Event) (o t : ℕ) → TargetFacts plan past o t → is_active plan past o ≡ true → starts_active plan o ≡ true
+made_active plan past o t facts active =
+    ⊎_elim
     (λ idle. not-false (starts_active plan o) idle)
     (λ other. absurd (both_ways (is_active plan past o) other active))
-    (and_cases (not (starts_active plan o)) (is_active plan past o) facts.still) in
+    (and_cases (not (starts_active plan o)) (is_active plan past o) facts.still)
+
+-- and it has no child
+pub no_child : (plan : PlanView) (past : List Event) (o t : ℕ) → TargetFacts plan past o t → is_active plan past o ≡ true → has_child plan past o ≡ false
+no_child plan past o t facts active =
     ⊎_elim
-    (λ other. absurd (both_ways (starts_active plan o) other made))
+    (λ other. absurd (both_ways (starts_active plan o) other (made_active plan past o t facts active)))
     (λ none. none)
     (and_cases (starts_active plan o) (has_child plan past o) facts.childless)
 

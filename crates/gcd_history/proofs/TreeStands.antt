@@ -59,7 +59,7 @@ first_queues plan o valid =
       | Some obj ↦ λ some. by_kind plan obj obj.kind valid (object_fields plan o obj valid some)
     ] refl
 
-some_objects : (plan : PlanView) → IsPlan plan → 0 < length plan.objects
+pub some_objects : (plan : PlanView) → IsPlan plan → 0 < length plan.objects
 some_objects plan valid = slice_get_within plan.objects 0 _ valid.root
 
 first_rooted : (plan : PlanView) (n : ℕ) → IsPlan plan → n < length plan.objects → reaches (first_target plan) (length plan.objects - 1) n ≡ true
@@ -98,7 +98,7 @@ asked_facts o (Some (Target p u)) t h =
 asked_facts o act t h = cc
 
 -- an event that asks for a target is an act, which is no misuse and ends no run
-record TargetEvent (plan : PlanView) (e : Event) (past : List Event) (o t : ℕ) : Type 0 where
+pub record TargetEvent (plan : PlanView) (e : Event) (past : List Event) (o t : ℕ) : Type 0 where
   pub facts : TargetFacts plan past o t
   pub ends_none : (q : Run) → closes e q ≡ false
   pub queue : is_queue plan t ≡ true
@@ -112,7 +112,7 @@ by_act plan (Acted w r i) past p t valid h at =
     record { facts = at_target plan past w r i p t h at; ends_none = λ q. refl; queue = parts.1; low = low }
 by_act plan e past p t valid h at = cc
 
-asks : (plan : PlanView) (e : Event) (past : List Event) (o t : ℕ) → IsPlan plan → IsLawful plan (e ∷ past) → asked o (act_of plan e) ≡ Some t → TargetEvent plan e past o t
+pub asks : (plan : PlanView) (e : Event) (past : List Event) (o t : ℕ) → IsPlan plan → IsLawful plan (e ∷ past) → asked o (act_of plan e) ≡ Some t → TargetEvent plan e past o t
 asks plan e past o t valid h h_asked =
     let a = asked_facts o (act_of plan e) t h_asked in
     let one = by_act plan e past a.of a.to valid h a.by in
@@ -120,7 +120,7 @@ asks plan e past o t valid h h_asked =
 
 -- ## The aim of one object, after the event
 
-abbrev Step : PlanView → Event → List Event → Type 0
+abbrev pub Step : PlanView → Event → List Event → Type 0
 Step plan e past = IsPlan plan × IsLawful plan (e ∷ past) × Standing plan past
 
 abbrev after : PlanView → Event → List Event → ℕ → Option ℕ → (was now : Bool) → Aim
@@ -162,7 +162,7 @@ root_step plan e past step =
     refl (λ t k. let low = (asks plan e past 0 t step.0 step.1 k).low in absurd (omega arith)) step.2.unmoved_root
 
 -- a request that stands after the event stood before it, or is asked for now
-moving_before : (plan : PlanView) (e : Event) (past : List Event) (o : ℕ) → is_moving plan (e ∷ past) o ≡ true → (is_moving plan past o ≡ true) ⊎ ((t : ℕ) × (asked o (act_of plan e) ≡ Some t))
+pub moving_before : (plan : PlanView) (e : Event) (past : List Event) (o : ℕ) → is_moving plan (e ∷ past) o ≡ true → (is_moving plan past o ≡ true) ⊎ ((t : ℕ) × (asked o (act_of plan e) ≡ Some t))
 moving_before plan e past o =
     after_request (λ k. is_some k ≡ true → (is_moving plan past o ≡ true) ⊎ ((t : ℕ) × (asked o (act_of plan e) ≡ Some t)))
     (asked o (act_of plan e)) (is_open_on plan past o) (is_open_on plan (e ∷ past) o) (aim plan past o)
@@ -177,7 +177,7 @@ idle_request None now a = refl
 closed_request : (a : Aim) → (aim_after None true false a).request ≡ None
 closed_request a = elim a.request as (λ o. a.request ≡ o → (settled o a).request ≡ None) [ None ↦ λ k. k | Some t ↦ λ k. refl ] refl
 
-was_open : (plan : PlanView) (e : Event) (past : List Event) → Step plan e past → (o : ℕ) → is_moving plan (e ∷ past) o ≡ true → is_open_on plan past o ≡ true
+pub was_open : (plan : PlanView) (e : Event) (past : List Event) → Step plan e past → (o : ℕ) → is_moving plan (e ∷ past) o ≡ true → is_open_on plan past o ≡ true
 was_open plan e past step o moving =
     ⊎_elim
     (λ was. was)
@@ -222,7 +222,7 @@ on_asked plan e past step q o t k live inside =
     on_it plan past q o step.0 step.1.0 step.2.queues live inside none
 
 -- the target of an object above a run that stays open does not change
-kept_at : (plan : PlanView) (e : Event) (past : List Event) → Step plan e past → (q : Run) (o : ℕ) → is_open past q ≡ true → is_open (e ∷ past) q ≡ true → is_in o (chain_of_run plan past q) ≡ true → target plan (e ∷ past) o ≡ target plan past o
+pub kept_at : (plan : PlanView) (e : Event) (past : List Event) → Step plan e past → (q : Run) (o : ℕ) → is_open past q ≡ true → is_open (e ∷ past) q ≡ true → is_in o (chain_of_run plan past q) ≡ true → target plan (e ∷ past) o ≡ target plan past o
 kept_at plan e past step q o live on inside =
     after_target_why (λ m. m ≡ target plan past o) (asked o (act_of plan e)) (is_open_on plan past o) (is_open_on plan (e ∷ past) o) (aim plan past o)
     refl
@@ -251,7 +251,7 @@ begins_quietly plan (Start w b) q now = (refl, λ r. refl)
 begins_quietly plan (Deliver w s) q now = (refl, λ r. refl)
 begins_quietly plan e q now = cc
 
-begun_aim : (plan : PlanView) (e : Event) (past : List Event) → IsLawful plan past → (q : Run) (o : ℕ) → opens e q ≡ true → aim plan (e ∷ past) o ≡ aim plan past o
+pub begun_aim : (plan : PlanView) (e : Event) (past : List Event) → IsLawful plan past → (q : Run) (o : ℕ) → opens e q ≡ true → aim plan (e ∷ past) o ≡ aim plan past o
 begun_aim plan e past h q o now =
     let quiet = begins_quietly plan e q now in
     aim_unasked plan e past o (ap (asked o) quiet.0) (still_open plan e past o h (λ r live node. quiet.1 r))

@@ -3,6 +3,7 @@ use Rattle.std.specs.Prelude.{◌≡◌, ◌≤◌, ◌<◌, ◌+◌, length, �
 use Rattle.gcd_plan.specs.PlanView.{PlanView}
 use Rattle.gcd_plan.specs.Chains.{is_in}
 use Rattle.gcd_plan.specs.Kinds.{is_exclusive, has_barriers}
+use Rattle.gcd_plan.specs.declared.act.Act.TheVariants.{GroupWait}
 use Rattle.gcd_plan.specs.declared.names.Run.{Run}
 use Rattle.gcd_plan.specs.declared.names.Blk.{Blk}
 use Rattle.gcd_plan.specs.declared.names.Obj.{Obj}
@@ -11,9 +12,10 @@ use Rattle.gcd_plan.specs.declared.reason.Reason.{Reason}
 use Rattle.gcd_event.specs.declared.event.Event.{Event}
 use Rattle.gcd_event.specs.declared.event.Event.TheVariants.{Start, Wake, Deliver}
 use Rattle.gcd_history.specs.declared.submission.Submission.{Submission}
-use Rattle.gcd_history.specs.Runs.{starts, ends}
+use Rattle.gcd_history.specs.Runs.{starts, ends, act_of}
+use Rattle.gcd_history.specs.Semas.{wait_count}
 use Rattle.gcd_history.specs.Permitted.{is_on}
-use Rattle.gcd_history.specs.History.{is_started, is_submitted, submissions_of, nodes_of_run, is_free, reason_of, has_come, received_of, pending_of, merged_of, is_open, is_active, chain_of, node_of_run, is_barrier_of, why, choice_of, running_of, next_due_of, is_live_feed}
+use Rattle.gcd_history.specs.History.{is_started, is_submitted, submissions_of, nodes_of_run, is_free, reason_of, has_come, received_of, pending_of, merged_of, is_open, is_active, chain_of, node_of_run, is_barrier_of, group_wait_passes, semaphore_wait_passes, why, choice_of, running_of, next_due_of, is_live_feed}
 use Rattle.gcd_history.specs.Choice.{is_work, worker_of}
 use Rattle.gcd_history.specs.Ends.{is_halted}
 use Rattle.gcd_history.specs.Sources.{joined}
@@ -44,9 +46,9 @@ abbrev pub IsBehindOther : List Event → (earlier later : Submission) → Type 
 IsBehindOther h s t =
     (n : ℕ) → IsTrue (is_on n s) → IsTrue (is_on n t) → IsTrue (is_started h t.blk.0) → IsTrue (is_started h s.blk.0)
 
--- blocks start in the order of their submission on a node (dispatch_queue_create(3))
+-- at each position, of two submissions on one node the later has started only if the earlier has (dispatch_queue_create(3))
 abbrev pub StartsInOrder : PlanView → List Event → Type 0
-StartsInOrder plan h = AllPairs (IsBehindOther h) (submissions_of plan h)
+StartsInOrder plan h = (i : ℕ) → AllPairs (IsBehindOther (take i h)) (submissions_of plan (take i h))
 
 -- at a block's Start each object of its chain is free, and at a Deliver each object of the source's chain (dispatch_suspend(3),
 -- dispatch_activate(3), dispatch_set_target_queue(3))
@@ -54,15 +56,15 @@ pub record BeginsFree (plan : PlanView) (h : List Event) : Type 0 where
   pub starts : (i w : ℕ) (b : Blk) (o : ℕ) → slice_get h i ≡ Some (Start w b) → IsTrue (is_in o (nodes_of_run plan (take i h) (Block b))) → IsTrue (is_free plan (take i h) o)
   pub delivers : (i w : ℕ) (s : Obj) (o : ℕ) → slice_get h i ≡ Some (Deliver w s) → IsTrue (is_in o (nodes_of_run plan (take i h) (Source s))) → IsTrue (is_free plan (take i h) o)
 
--- at position i block b is parked, and what it waits for has come
-pub record IsDueAtWake (plan : PlanView) (h : List Event) (i : ℕ) (b : Blk) : Type 0 where
+-- block b may wake: it is parked, and what it waits for has come
+pub record MayWake (plan : PlanView) (h : List Event) (b : ℕ) : Type 0 where
   pub reason : Reason
-  pub parked : reason_of plan (take i h) b.0 ≡ Some reason
-  pub come : has_come plan (take i h) reason ≡ true
+  pub parked : reason_of plan h b ≡ Some reason
+  pub come : has_come plan h reason ≡ true
 
--- each Wake finds that what its block waits for has come (dispatch_sync(3), dispatch_group_wait(3), dispatch_semaphore_wait(3))
+-- each Wake finds that its block may wake (dispatch_sync(3), dispatch_group_wait(3), dispatch_semaphore_wait(3))
 abbrev pub WakesHaveCause : PlanView → List Event → Type 0
-WakesHaveCause plan h = (i w : ℕ) (b : Blk) → slice_get h i ≡ Some (Wake w b) → IsDueAtWake plan h i b
+WakesHaveCause plan h = (i w : ℕ) (b : Blk) → slice_get h i ≡ Some (Wake w b) → MayWake plan (take i h) b.0
 
 -- no block is parked
 abbrev pub NoneParked : PlanView → List Event → Type 0
@@ -71,6 +73,16 @@ NoneParked plan h = (b : ℕ) → reason_of plan h b ≡ None
 -- whatever a block has waited for at some position has come
 abbrev pub WaitsHavePassed : PlanView → List Event → Type 0
 WaitsHavePassed plan h = (i b : ℕ) (reason : Reason) → reason_of plan (take i h) b ≡ Some reason → has_come plan h reason ≡ true
+
+-- each wait on a group passes (dispatch_group_wait(3))
+abbrev pub GroupWaitsPass : PlanView → List Event → Type 0
+GroupWaitsPass plan h =
+    (i : ℕ) (e : Event) (g : Obj) → slice_get h i ≡ Some e → act_of plan e ≡ Some (GroupWait g)
+    → IsTrue (group_wait_passes plan h g.0 i)
+
+-- each wait on a semaphore passes, from the first to the last that stands (dispatch_semaphore_wait(3))
+abbrev pub SemaphoreWaitsPass : PlanView → List Event → Type 0
+SemaphoreWaitsPass plan h = (s k : ℕ) → k ≤ wait_count plan h s → IsTrue (semaphore_wait_passes plan h s k)
 
 -- what the Delivers of each source handed over, with what is pending, is all that it was given (dispatch_source_merge_data(3))
 abbrev pub IsConserved : PlanView → List Event → Type 0

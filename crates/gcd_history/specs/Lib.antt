@@ -20,3 +20,4 @@ pub mod Values
 pub mod Report
 pub mod JournalText
 pub mod Laws
+pub mod Facts

@@ -7,7 +7,7 @@ ghost use Rattle.gcd_event.specs.declared.event.Event.TheVariants.{Halt};
 ghost use Rattle.gcd_history.specs.History.{IsLawful, why, choice_of};
 ghost use Rattle.gcd_history.specs.Ends.{IsDrained, IsQuiescent, IsHalted, HasState};
 ghost use Rattle.gcd_history.specs.declared.state.State.{State};
-ghost use Rattle.gcd_history.specs.Laws.{RunsOnce, StartsAfterSubmission, AllEndOnce, IsSubmittedOnce, StartsInOrder, BeginsFree, WakesHaveCause, NoneParked, WaitsHavePassed, IsConserved, RunsExclude, BarriersExclude, TreeStands, IsChoiceOf, HasNoChoice, IsAtRest};
+ghost use Rattle.gcd_history.specs.Laws.{RunsOnce, StartsAfterSubmission, AllEndOnce, IsSubmittedOnce, StartsInOrder, BeginsFree, WakesHaveCause, NoneParked, WaitsHavePassed, GroupWaitsPass, SemaphoreWaitsPass, IsConserved, RunsExclude, BarriersExclude, TreeStands, IsChoiceOf, HasNoChoice, IsAtRest};
 
 /// Each block starts at most once, after its submission, and ends at most once; where the run is drained each submitted
 /// block has ended exactly once (dispatch_async(3)).
@@ -47,14 +47,18 @@ pub fn runs_begin_free()
 {}
 
 /// A Wake stands only where what its block waits for had come; where the run is drained no block is parked, and whatever a
-/// block has waited for has come, so every wait has passed (dispatch_sync(3), dispatch_group_wait(3),
-/// dispatch_semaphore_wait(3)).
+/// block has waited for has come, so every group wait and every semaphore wait has passed (dispatch_sync(3),
+/// dispatch_group_wait(3), dispatch_semaphore_wait(3)).
 pub fn wakes_have_causes()
     ensures cause { (plan : PlanView) (h : List Event) → IsLawful plan h → WakesHaveCause plan h }
     ensures none { (plan : PlanView) (h : List Event) → IsLawful plan h → IsDrained plan h
         → NoneParked plan h }
     ensures passed { (plan : PlanView) (h : List Event) → IsLawful plan h → IsDrained plan h
         → WaitsHavePassed plan h }
+    ensures groups { (plan : PlanView) (h : List Event) → IsPlan plan → IsLawful plan h → IsDrained plan h
+        → GroupWaitsPass plan h }
+    ensures semaphores { (plan : PlanView) (h : List Event) → IsPlan plan → IsLawful plan h → IsDrained plan h
+        → SemaphoreWaitsPass plan h }
 {}
 
 /// What the Delivers of a source handed over, with what is pending, is all that it was given (dispatch_source_merge_data(3)).
