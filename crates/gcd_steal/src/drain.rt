@@ -1,0 +1,29 @@
+// The right to drain a node.
+ghost use Rattle.std.specs.Prelude.{◌≡◌, false, [], ◌∷◌, map};
+ghost use Rattle.gcd_steal.specs.Names.{name};
+
+use crate::names::Name;
+use crate::places::Sight;
+use atomic_table::{Badge, Seat};
+use gcd_plan::Obj;
+
+/// The right to drain one node, a queue or a source.
+#[derive(Drop)]
+pub struct Drain {
+    // Its view names the node.
+    pub badge: Badge<Name>,
+    // It holds the slot in which the node's badge sleeps.
+    pub place: Seat<Badge<Name>, Sight>,
+    pub node: Obj,
+    ghost named: { badge.views ≡ name false node.0 ∷ [] },
+    ghost placed: { map (λ x. x.0) place.me.1 ≡ node.0 ∷ [] },
+}
+
+impl Drain {
+    /// The node that it may drain.
+    pub fn node(&self) -> Obj
+        ensures { result ≡ self.now.node }
+    {
+        self.node
+    }
+}
