@@ -1,3 +1,4 @@
 mod Lists
 mod Naming
 mod Placing
+mod Dealing

@@ -1,8 +1,10 @@
 //! Drain tokens and stealing deques.
 #![tactic(auto)]
 
+mod deque;
 mod drain;
 mod names;
 mod places;
+mod stealing;
 
 pub use drain::Drain;
