@@ -2,3 +2,4 @@ mod Lists
 mod Naming
 mod Placing
 mod Dealing
+mod Benching

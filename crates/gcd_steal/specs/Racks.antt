@@ -1,0 +1,86 @@
+-- What a rack, a bench and a Drain are to one another.
+use Rattle.std.specs.Prelude.{◌≡◌, ◌≢◌, ℕ, ◌<◌, false, List, length, slice_index_or}
+use Rattle.crossbeam_deque.specs.Handles.{view, worker_view, worker_deque, stealer_deque, stealer_flavor, IsPassOf}
+use Rattle.gcd_plan.specs.PlanView.{PlanView}
+use Rattle.gcd_steal.specs.declared.bench.Rack.{Rack}
+use Rattle.gcd_steal.specs.declared.bench.Bench.{Bench}
+use Rattle.gcd_steal.specs.declared.deque.RackId.{RackId}
+use Rattle.gcd_steal.specs.declared.deque.Account.{Account}
+use Rattle.gcd_steal.specs.declared.drain.Drain.{Drain}
+use Rattle.gcd_steal.specs.declared.places.Sight.{Sight}
+use Rattle.gcd_steal.specs.Deques.{IsDrainOf}
+
+-- the plan of the rack
+abbrev pub plan_of : Rack → PlanView
+plan_of r = r.names.shared.key
+
+-- how many benches it has
+abbrev pub benches_of : Rack → ℕ
+benches_of r = length r.thieves.items
+
+-- the node that the Drain may drain
+abbrev pub node_of : Drain → ℕ
+node_of d = d.node.0
+
+-- it is a Drain of this rack
+abbrev pub IsRackDrain : Rack → Drain → Type 0
+IsRackDrain r d = IsDrainOf r.names.shared.table_id r.places.shared.table_id d
+
+-- the bench's number; how many Drains it pushed, and how many it may push
+abbrev pub number_of : Bench → ℕ
+number_of b = b.number
+
+abbrev pub pushed_by : Bench → ℕ
+pushed_by b = b.deque.pushed
+
+abbrev pub most_of : Bench → ℕ
+most_of b = b.deque.most
+
+-- what the bench knows of the places, and what the seat that took the Drain knew then
+abbrev pub sight_of : Bench → Sight
+sight_of b = b.seat.me.0
+
+abbrev pub sight_with : Drain → Sight
+sight_with d = d.place.me.0
+
+-- the number of the bench's seat among the seats of the places
+abbrev pub seat_of : Bench → ℕ
+seat_of b = b.seat.id
+
+-- what the bench knows of its own deque: what it pushed and what it took
+abbrev pub own_account : Bench → Account
+own_account b = worker_view b.deque.worker
+
+-- what the bench knows of the deque of another: what it stole
+abbrev pub IsAccountAt : Bench → ℕ → Account → Type 0
+IsAccountAt b victim v = (p : _) × (victim < length b.passes.items) × (slice_index_or b.passes.items victim p ≡ p) × (view p ≡ v)
+
+-- it is the rack that is meant
+abbrev pub IsIdOf : Rack → RackId → Type 0
+IsIdOf r id = (id.names.table_id ≡ r.names.shared.table_id) × (id.places.table_id ≡ r.places.shared.table_id)
+
+-- it is a bench of this rack: its deque is the one from which others steal by its number, and each of its passes is of that bench's deque
+pub record IsBenchOf (r : Rack) (b : Bench) : Type 0 where
+  pub number : b.number < benches_of r
+  pub seat : b.seat.table_id ≡ r.places.shared.table_id
+  pub names : b.seat.me.0.names.table_id ≡ r.names.shared.table_id
+  pub rack : IsIdOf r (own_account b).rack
+  pub own : (t : _) → stealer_deque (slice_index_or r.thieves.items b.number t) ≡ worker_deque b.deque.worker
+  pub count : length b.passes.items ≡ benches_of r
+  pub table : (k : ℕ) (t : _) (p : _) → k < benches_of r → IsPassOf (stealer_deque (slice_index_or r.thieves.items k t)) (slice_index_or b.passes.items k p)
+  pub fifo : (k : ℕ) (t : _) → k < benches_of r → stealer_flavor (slice_index_or r.thieves.items k t) ≡ 0
+  pub known : (k : ℕ) (p : _) → k < benches_of r → ((view (slice_index_or b.passes.items k p)).fresh ≡ false) × IsIdOf r (view (slice_index_or b.passes.items k p)).rack
+
+-- what a call on the places leaves of a bench
+abbrev pub SameButSeat : Bench → Bench → Type 0
+SameButSeat b c = (c.number ≡ b.number) × (c.deque ≡ b.deque) × (c.passes ≡ b.passes)
+
+-- what a call on its own deque leaves of a bench
+abbrev pub SameButDeque : Bench → Bench → Type 0
+SameButDeque b c = (c.number ≡ b.number) × (c.seat ≡ b.seat) × (c.passes ≡ b.passes) × (most_of c ≡ most_of b)
+
+-- what a steal from one deque leaves of a bench
+abbrev pub SameButPass : ℕ → Bench → Bench → Type 0
+SameButPass victim b c =
+    (c.number ≡ b.number) × (c.deque ≡ b.deque) × (c.seat ≡ b.seat)
+    × ((k : ℕ) (p : _) → k ≢ victim → slice_index_or c.passes.items k p ≡ slice_index_or b.passes.items k p)

@@ -1,0 +1,87 @@
+// The calls of a rack.
+ghost use Rattle.std.specs.Prelude.{◌≡◌, ◌≢◌, ◌+◌, ◌<◌, [], ◌∷◌, IsTrue, MatchOption, MatchResult};
+ghost use Rattle.gcd_plan.specs.Kinds.{is_node};
+ghost use Rattle.gcd_steal.specs.Places.{newcomer, Takes, Misses, Gives};
+ghost use Rattle.gcd_steal.specs.Deques.{WasEmpty, Sends, Gets};
+ghost use Rattle.gcd_steal.specs.Racks.{plan_of, benches_of, node_of, IsRackDrain, number_of, pushed_by, most_of, sight_of, sight_with, seat_of, own_account, IsAccountAt, IsBenchOf, SameButSeat, SameButDeque, SameButPass};
+
+use crate::bench::{Bench, Rack};
+use crate::deque::{Account, FirstOut, Taking};
+use crate::drain::Drain;
+use crate::places::{lay_in_place, take_from_place};
+use crate::stealing::steal_until_told;
+use gcd_plan::Obj;
+use std::sync::Wait;
+
+impl Bench {
+    /// Its number: the benches have the numbers from 0 in the order of the list that [`Rack::new`] gives.
+    pub fn number(&self) -> u8
+        ensures { result ≡ number_of self.now }
+    {
+        self.number
+    }
+}
+
+impl Rack {
+    /// How many benches it has: 1 to 64.
+    pub fn benches(&self) -> u8
+        requires { benches_of self.now < 256 }
+        ensures { result ≡ benches_of self.now }
+    {
+        self.thieves.len() as u8
+    }
+
+    /// Takes the Drain of the node asked for from its sleeping place.
+    pub fn wake(&self, bench: &mut Bench, node: Obj) -> Option<Drain>
+        requires bench { IsBenchOf self.now bench.old }
+        requires node { IsTrue (is_node (plan_of self.now) node.0) }
+        ensures bench { IsBenchOf self.now bench.new × SameButSeat bench.old bench.new }
+        ensures drain { MatchOption result (Misses node.0 (sight_of bench.old) (sight_of bench.new) × (seat_of bench.new ≡ seat_of bench.old)) (λ d. (d.node ≡ node) × IsRackDrain self.now d × Takes node.0 (sight_of bench.old) (sight_with d) × (sight_of bench.new ≡ newcomer (sight_with d))) }
+    {
+        take_from_place(&self.places, &mut bench.seat, node)
+    }
+
+    /// Lays the Drain into its sleeping place.
+    pub fn sleep(&self, bench: &mut Bench, drain: Drain)
+        requires bench { IsBenchOf self.now bench.old }
+        requires drain { IsRackDrain self.now drain }
+        ensures bench { IsBenchOf self.now bench.new × SameButSeat bench.old bench.new }
+        ensures lies { Gives (node_of drain) (sight_with drain) (sight_of bench.new) }
+    {
+        bench.seat = lay_in_place(&self.places, drain);
+    }
+
+    /// Puts the Drain at the back of the bench's own deque.
+    pub fn push(&self, bench: &mut Bench, drain: Drain) -> Result<(), Drain>
+        requires bench { IsBenchOf self.now bench.old }
+        requires drain { IsRackDrain self.now drain }
+        ensures bench { IsBenchOf self.now bench.new × SameButDeque bench.old bench.new }
+        ensures rule { MatchResult result (λ _. (pushed_by bench.old < most_of bench.old) × (pushed_by bench.new ≡ pushed_by bench.old + 1) × Sends (own_account bench.old) (drain ∷ []) (own_account bench.new)) (λ d. (d ≡ drain) × (pushed_by bench.old ≡ most_of bench.old) × (bench.new ≡ bench.old)) }
+    {
+        bench.deque.push(drain)
+    }
+
+    /// Takes the Drain at the front of the bench's own deque.
+    pub fn pop(&self, bench: &mut Bench) -> Option<Drain>
+        requires { IsBenchOf self.now bench.old }
+        ensures bench { IsBenchOf self.now bench.new × SameButDeque bench.old bench.new × (pushed_by bench.new ≡ pushed_by bench.old) }
+        ensures rule { MatchOption result ((own_account bench.new ≡ own_account bench.old) × WasEmpty (own_account bench.old)) (λ d. IsRackDrain self.now d × Gets (own_account bench.old) (d ∷ []) (own_account bench.new)) }
+    {
+        bench.deque.pop()
+    }
+
+    /// Takes the Drain at the front of another bench's deque.
+    pub fn steal<R: Wait>(&self, rt: &R, bench: &mut Bench, victim: u8) -> Option<Drain>
+        requires bench { IsBenchOf self.now bench.old }
+        requires victim { (victim < benches_of self.now) × (victim ≢ number_of bench.old) }
+        ensures bench { IsBenchOf self.now bench.new × SameButPass victim bench.old bench.new }
+        ensures rule { (v : Account) × (w : Account) × IsAccountAt bench.old victim v × IsAccountAt bench.new victim w × MatchOption result ((w ≡ v) × WasEmpty v) (λ d. IsRackDrain self.now d × Gets v (d ∷ []) w) }
+    {
+        let victim = victim as usize;
+        steal_until_told::<Drain, Account, FirstOut, Taking, R>(
+            rt,
+            &self.thieves[victim],
+            &mut bench.passes[victim],
+        )
+    }
+}
