@@ -3,3 +3,5 @@ mod Naming
 mod Placing
 mod Dealing
 mod Benching
+mod Opening
+mod Assembling

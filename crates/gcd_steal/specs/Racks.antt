@@ -1,14 +1,28 @@
 -- What a rack, a bench and a Drain are to one another.
-use Rattle.std.specs.Prelude.{◌≡◌, ◌≢◌, ℕ, ◌<◌, false, List, length, slice_index_or}
-use Rattle.crossbeam_deque.specs.Handles.{view, worker_view, worker_deque, stealer_deque, stealer_flavor, IsPassOf}
+use Rattle.std.specs.Prelude.{◌≡◌, ◌≢◌, ℕ, ◌<◌, false, List, [], length, slice_index_or}
+use Rattle.std.specs.declared.alloc.Global.{Global}
+use Rattle.crossbeam_deque.specs.Handles.{Pass, view, worker_view, worker_deque, stealer_deque, stealer_flavor, IsPassOf}
+use Rattle.crossbeam_deque.specs.declared.handles.Stealer.{Stealer}
 use Rattle.gcd_plan.specs.PlanView.{PlanView}
 use Rattle.gcd_steal.specs.declared.bench.Rack.{Rack}
 use Rattle.gcd_steal.specs.declared.bench.Bench.{Bench}
+use Rattle.gcd_steal.specs.declared.deque.FirstOut.{FirstOut}
 use Rattle.gcd_steal.specs.declared.deque.RackId.{RackId}
 use Rattle.gcd_steal.specs.declared.deque.Account.{Account}
 use Rattle.gcd_steal.specs.declared.drain.Drain.{Drain}
 use Rattle.gcd_steal.specs.declared.places.Sight.{Sight}
 use Rattle.gcd_steal.specs.Deques.{IsDrainOf}
+
+-- a stealer of a bench's deque, and a pass of one
+abbrev pub Thief : Type 0
+Thief = Stealer Drain Global Account FirstOut
+
+abbrev pub DequePass : Type 0
+DequePass = Pass Drain Account Global
+
+-- what a pass knows
+abbrev pub known_by : DequePass → Account
+known_by p = view p
 
 -- the plan of the rack
 abbrev pub plan_of : Rack → PlanView
@@ -53,7 +67,7 @@ own_account b = worker_view b.deque.worker
 
 -- what the bench knows of the deque of another: what it stole
 abbrev pub IsAccountAt : Bench → ℕ → Account → Type 0
-IsAccountAt b victim v = (p : _) × (victim < length b.passes.items) × (slice_index_or b.passes.items victim p ≡ p) × (view p ≡ v)
+IsAccountAt b victim v = (p : DequePass) × (victim < length b.passes.items) × (slice_index_or b.passes.items victim p ≡ p) × (known_by p ≡ v)
 
 -- it is the rack that is meant
 abbrev pub IsIdOf : Rack → RackId → Type 0
@@ -65,11 +79,25 @@ pub record IsBenchOf (r : Rack) (b : Bench) : Type 0 where
   pub seat : b.seat.table_id ≡ r.places.shared.table_id
   pub names : b.seat.me.0.names.table_id ≡ r.names.shared.table_id
   pub rack : IsIdOf r (own_account b).rack
-  pub own : (t : _) → stealer_deque (slice_index_or r.thieves.items b.number t) ≡ worker_deque b.deque.worker
+  pub own : (t : Thief) → stealer_deque (slice_index_or r.thieves.items b.number t) ≡ worker_deque b.deque.worker
   pub count : length b.passes.items ≡ benches_of r
-  pub table : (k : ℕ) (t : _) (p : _) → k < benches_of r → IsPassOf (stealer_deque (slice_index_or r.thieves.items k t)) (slice_index_or b.passes.items k p)
-  pub fifo : (k : ℕ) (t : _) → k < benches_of r → stealer_flavor (slice_index_or r.thieves.items k t) ≡ 0
-  pub known : (k : ℕ) (p : _) → k < benches_of r → ((view (slice_index_or b.passes.items k p)).fresh ≡ false) × IsIdOf r (view (slice_index_or b.passes.items k p)).rack
+  pub table : (k : ℕ) (t : Thief) (p : DequePass) → k < benches_of r → IsPassOf (stealer_deque (slice_index_or r.thieves.items k t)) (slice_index_or b.passes.items k p)
+  pub fifo : (k : ℕ) (t : Thief) → k < benches_of r → stealer_flavor (slice_index_or r.thieves.items k t) ≡ 0
+  pub known : (k : ℕ) (p : DequePass) → k < benches_of r → ((known_by (slice_index_or b.passes.items k p)).fresh ≡ false) × IsIdOf r (known_by (slice_index_or b.passes.items k p)).rack
+
+-- the benches have the numbers from 0 in their order
+abbrev pub AreNumbered : List Bench → Type 0
+AreNumbered benches = (k : ℕ) (b : Bench) → k < length benches → number_of (slice_index_or benches k b) ≡ k
+
+-- the bench may push `most` Drains; it made no call yet, and has seen no more than that each Drain sleeps at the start
+pub record IsUnused (most : ℕ) (b : Bench) : Type 0 where
+  pub most_is : most_of b ≡ most
+  pub pushed : pushed_by b ≡ 0
+  pub sent : (own_account b).sent ≡ []
+  pub took : (own_account b).took ≡ []
+  pub stole : (k : ℕ) (p : DequePass) → k < length b.passes.items → (known_by (slice_index_or b.passes.items k p)).took ≡ []
+  pub seen : (sight_of b).seen ≡ []
+  pub did : (sight_of b).did ≡ 0
 
 -- what a call on the places leaves of a bench
 abbrev pub SameButSeat : Bench → Bench → Type 0
@@ -83,4 +111,4 @@ SameButDeque b c = (c.number ≡ b.number) × (c.seat ≡ b.seat) × (c.passes �
 abbrev pub SameButPass : ℕ → Bench → Bench → Type 0
 SameButPass victim b c =
     (c.number ≡ b.number) × (c.deque ≡ b.deque) × (c.seat ≡ b.seat)
-    × ((k : ℕ) (p : _) → k ≢ victim → slice_index_or c.passes.items k p ≡ slice_index_or b.passes.items k p)
+    × ((k : ℕ) (p : DequePass) → k ≢ victim → slice_index_or c.passes.items k p ≡ slice_index_or b.passes.items k p)

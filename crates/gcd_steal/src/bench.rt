@@ -1,5 +1,5 @@
 // What a rack and a bench are made of.
-ghost use Rattle.std.specs.Prelude.{◌≡◌, ◌+◌, [], length};
+ghost use Rattle.std.specs.Prelude.{◌≡◌, ◌+◌, ◌<◌, ◌≤◌, [], length};
 
 use crate::deque::{Deque, Pass, Thief};
 use crate::names::Names;
@@ -13,6 +13,7 @@ pub struct Rack {
     pub(crate) places: Places,
     // By the number of the bench.
     pub(crate) thieves: Vec<Thief>,
+    ghost few: { (0 < length thieves.items) × (length thieves.items ≤ 64) },
     ghost placed: { (places.shared.table_id.slots ≡ length names.shared.key.objects) × (places.shared.table_id.words ≡ places.shared.table_id.slots + 8) },
 }
 

@@ -4,6 +4,8 @@
 mod bench;
 mod deque;
 mod drain;
+mod lay;
+mod make;
 mod names;
 mod places;
 mod rack;

@@ -11,7 +11,7 @@ use std::collections::LinkedList;
 use std::mem;
 
 // The first words of the table, which no step writes: splitting a seat loads word 0, and so meets no writer's cache line.
-const SPARE_WORDS: usize = 8;
+pub const SPARE_WORDS: usize = 8;
 
 // The node's word where its Drain sleeps, and where it is out.
 pub const ASLEEP: u64 = 1;

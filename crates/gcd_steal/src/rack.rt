@@ -1,16 +1,19 @@
 // The calls of a rack.
-ghost use Rattle.std.specs.Prelude.{◌≡◌, ◌≢◌, ◌+◌, ◌<◌, [], ◌∷◌, IsTrue, MatchOption, MatchResult};
+ghost use Rattle.std.specs.Prelude.{◌≡◌, ◌≢◌, ◌+◌, ◌<◌, ◌≤◌, [], ◌∷◌, length, All, IsTrue, IfOk, MatchOption, MatchResult};
 ghost use Rattle.gcd_plan.specs.Kinds.{is_node};
 ghost use Rattle.gcd_steal.specs.Places.{newcomer, Takes, Misses, Gives};
 ghost use Rattle.gcd_steal.specs.Deques.{WasEmpty, Sends, Gets};
-ghost use Rattle.gcd_steal.specs.Racks.{plan_of, benches_of, node_of, IsRackDrain, number_of, pushed_by, most_of, sight_of, sight_with, seat_of, own_account, IsAccountAt, IsBenchOf, SameButSeat, SameButDeque, SameButPass};
+ghost use Rattle.gcd_steal.specs.Racks.{plan_of, benches_of, node_of, IsRackDrain, number_of, pushed_by, most_of, sight_of, sight_with, seat_of, own_account, IsAccountAt, IsBenchOf, AreNumbered, IsUnused, SameButSeat, SameButDeque, SameButPass};
 
 use crate::bench::{Bench, Rack};
 use crate::deque::{Account, FirstOut, Taking};
 use crate::drain::Drain;
+use crate::lay::{Laid, lay_all};
+use crate::make::{Opened, hand_out_passes, open_benches};
 use crate::places::{lay_in_place, take_from_place};
 use crate::stealing::steal_until_told;
-use gcd_plan::Obj;
+use gcd_plan::{Obj, Plan};
+use std::alloc::{AllocError, Global};
 use std::sync::Wait;
 
 impl Bench {
@@ -23,10 +26,44 @@ impl Bench {
 }
 
 impl Rack {
+    /// A rack of the plan with a bench for each worker.
+    pub fn new(
+        alloc: Global,
+        plan: &Plan,
+        workers: u8,
+        most: u32,
+    ) -> Result<(Rack, Vec<Bench>), AllocError>
+        requires workers { (0 < workers) × (workers ≤ 64) }
+        requires most { (0 < most) × (most ≤ 65536) }
+        ensures plan { IfOk result (λ r. plan_of r.0 ≡ plan.now) }
+        ensures count { IfOk result (λ r. (benches_of r.0 ≡ workers) × (length r.1.items ≡ workers)) }
+        ensures benches { IfOk result (λ r. All (λ b. IsBenchOf r.0 b) r.1.items) }
+        ensures numbers { IfOk result (λ r. AreNumbered r.1.items) }
+        ensures unused { IfOk result (λ r. All (λ b. IsUnused most b) r.1.items) }
+    {
+        let Laid {
+            names,
+            places,
+            rack,
+            mut seat,
+        } = lay_all(alloc, plan)?;
+        let Opened {
+            mut benches,
+            thieves,
+        } = open_benches(alloc, &places, &mut seat, &rack, workers, most)?;
+        hand_out_passes(alloc, &mut benches, &rack)?;
+        let made = Rack {
+            names,
+            places,
+            thieves,
+        };
+        Ok((made, benches))
+    }
+
     /// How many benches it has: 1 to 64.
     pub fn benches(&self) -> u8
-        requires { benches_of self.now < 256 }
-        ensures { result ≡ benches_of self.now }
+        ensures count { result ≡ benches_of self.now }
+        ensures few { (0 < result) × (result ≤ 64) }
     {
         self.thieves.len() as u8
     }

@@ -1,18 +1,16 @@
 use Rattle.std.proofs.Common.{◌≡◌, false, rules, arith, refl, sym, get_or-set_same, length-set}
-use Rattle.crossbeam_deque.specs.Handles.{view}
-use Rattle.gcd_steal.specs.declared.deque.Account.{Account}
 use Rattle.gcd_steal.specs.Deques.{WasEmpty}
-use Rattle.gcd_steal.specs.Racks.{IsIdOf}
+use Rattle.gcd_steal.specs.Racks.{IsIdOf, known_by}
 use Rattle.gcd_steal.proofs.Benching.{got_one, read_at}
 use Rattle.gcd_steal.proofs.Dealing.{gets}
 use Rattle.gcd_steal.proofs.bench.Rack.steal.Goals as goal
 
 pub steal_until_told-requires-clause-takes : goal.steal_until_told-requires-clause-takes
 steal_until_told-requires-clause-takes g c = let k = c.args.victim in let l = c.args.bench.now.passes.items in let p = c.index_mut.result.now in
-    gets p.id (view p) (read_at (λ q. (view {V = Account} q).fresh ≡ false) l k p c.index_mut.ensures.value (c.requires.bench.known k p c.requires.victim.0).0)
+    gets p.id (known_by p) (read_at (λ q. (known_by q).fresh ≡ false) l k p c.index_mut.ensures.value (c.requires.bench.known k p c.requires.victim.0).0)
 
 pub returns-clause-rule : goal.returns-clause-rule
 returns-clause-rule g c = let k = c.args.victim in let l = c.args.bench.now.passes.items in let old = c.index_mut.result.now in let new = c.steal_until_told.new.pass in
-    let v = view old in let w = view new in let b = c.requires.bench in let is = c.index_mut.ensures.value in
+    let v = known_by old in let w = known_by new in let b = c.requires.bench in let is = c.index_mut.ensures.value in
     (v, w, (old, omega arith, sym is, refl), (new, omega (arith, length-set l k new), get_or-set_same l k new new (omega arith), refl),
-      got_one c.steal_until_told.result ((w ≡ v) × WasEmpty v) v w _ _ (read_at (λ q. IsIdOf c.args.self.now (view {V = Account} q).rack) l k old is (b.known k old c.requires.victim.0).1) c.steal_until_told.ensures.rule)
+      got_one c.steal_until_told.result ((w ≡ v) × WasEmpty v) v w _ _ (read_at (λ q. IsIdOf c.args.self.now (known_by q).rack) l k old is (b.known k old c.requires.victim.0).1) c.steal_until_told.ensures.rule)
