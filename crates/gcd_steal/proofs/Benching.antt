@@ -1,6 +1,6 @@
 -- What the calls of a rack say of the Drain that they give.
-use Rattle.std.proofs.Common.{◌≡◌, ℕ, ◌<◌, List, [], ◌∷◌, Option, Some, None, get_or, sym, refl, ap, ◌∙◌, subst, arith}
-use Rattle.std.specs.Prelude.{MatchOption}
+use Rattle.std.proofs.Common.{◌≡◌, ℕ, List, [], ◌∷◌, Option, Some, None, get_or, sym, subst, refl}
+use Rattle.std.specs.Prelude.{MatchOption, IfSome, IfNone}
 use Rattle.atomic_table.specs.Seated.{TableId}
 use Rattle.gcd_steal.specs.declared.drain.Drain.{Drain}
 use Rattle.gcd_steal.specs.declared.deque.Account.{Account}
@@ -8,9 +8,14 @@ use Rattle.gcd_steal.specs.Deques.{IsDrainOf, Gets}
 
 -- a Drain that was taken is of the rack that the pass knows
 pub got_one : (o : Option Drain) (E : Type 0) (v w : Account) (n p : TableId) → (v.rack.names.table_id ≡ n) × (v.rack.places.table_id ≡ p)
-    → MatchOption o E (λ d. Gets v (d ∷ []) w) → MatchOption o E (λ d. IsDrainOf n p d × Gets v (d ∷ []) w)
-got_one None E v w n p is h = h
-got_one (Some d) E v w n p is h = (subst (λ (x : TableId × TableId). IsDrainOf x.0 x.1 d) (λ i. (is.0 i, is.1 i)) (h.1 0 d refl), h)
+    → MatchOption o E (λ d. Gets v (d ∷ []) w) → IfSome o (λ d. IsDrainOf n p d)
+got_one None E v w n p is h = tt
+got_one (Some d) E v w n p is h = subst (λ (x : TableId × TableId). IsDrainOf x.0 x.1 d) (λ i. (is.0 i, is.1 i)) (h.1 0 d refl)
+
+-- what None tells
+pub got_none : (o : Option Drain) (E Q : Type 0) (S : Drain → Type 0) → (E → Q) → MatchOption o E S → IfNone o Q
+got_none None E Q S tells h = tells h
+got_none (Some d) E Q S tells h = tt
 
 -- what holds of the element at k holds of what was read there
 pub read_at : {A : Type 0} (P : A → Type 0) (l : List A) (k : ℕ) (a : A) → a ≡ get_or l k a → P (get_or l k a) → P a

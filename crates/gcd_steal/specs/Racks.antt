@@ -69,6 +69,10 @@ own_account b = worker_view b.deque.worker
 abbrev pub IsAccountAt : Bench → ℕ → Account → Type 0
 IsAccountAt b victim v = (p : DequePass) × (victim < length b.passes.items) × (slice_index_or b.passes.items victim p ≡ p) × (known_by p ≡ v)
 
+-- what a steal tells of what the bench knew of the victim's deque before and knows after
+abbrev pub StealTells : ℕ → Bench → Bench → (Account → Account → Type 0) → Type 0
+StealTells victim b c tells = (v : Account) × (w : Account) × IsAccountAt b victim v × IsAccountAt c victim w × tells v w
+
 -- it is the rack that is meant
 abbrev pub IsIdOf : Rack → RackId → Type 0
 IsIdOf r id = (id.names.table_id ≡ r.names.shared.table_id) × (id.places.table_id ≡ r.places.shared.table_id)

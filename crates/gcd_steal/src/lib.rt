@@ -13,3 +13,6 @@ mod stealing;
 
 pub use bench::{Bench, Rack};
 pub use drain::Drain;
+
+#[cfg(test)]
+mod tests;

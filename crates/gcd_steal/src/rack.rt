@@ -1,9 +1,9 @@
 // The calls of a rack.
-ghost use Rattle.std.specs.Prelude.{◌≡◌, ◌≢◌, ◌+◌, ◌<◌, ◌≤◌, [], ◌∷◌, length, All, IsTrue, IfOk, MatchOption, MatchResult};
+ghost use Rattle.std.specs.Prelude.{◌≡◌, ◌≢◌, ◌↔◌, ◌+◌, ◌<◌, ◌≤◌, [], ◌∷◌, length, All, IsTrue, IfSome, IfNone, IsOk, IfOk, OnOk, IfErr};
 ghost use Rattle.gcd_plan.specs.Kinds.{is_node};
 ghost use Rattle.gcd_steal.specs.Places.{newcomer, Takes, Misses, Gives};
 ghost use Rattle.gcd_steal.specs.Deques.{WasEmpty, Sends, Gets};
-ghost use Rattle.gcd_steal.specs.Racks.{plan_of, benches_of, node_of, IsRackDrain, number_of, pushed_by, most_of, sight_of, sight_with, seat_of, own_account, IsAccountAt, IsBenchOf, AreNumbered, IsUnused, SameButSeat, SameButDeque, SameButPass};
+ghost use Rattle.gcd_steal.specs.Racks.{plan_of, benches_of, node_of, IsRackDrain, number_of, pushed_by, most_of, sight_of, sight_with, seat_of, own_account, StealTells, IsBenchOf, AreNumbered, IsUnused, SameButSeat, SameButDeque, SameButPass};
 
 use crate::bench::{Bench, Rack};
 use crate::deque::{Account, FirstOut, Taking};
@@ -72,8 +72,11 @@ impl Rack {
     pub fn wake(&self, bench: &mut Bench, node: Obj) -> Option<Drain>
         requires bench { IsBenchOf self.now bench.old }
         requires node { IsTrue (is_node (plan_of self.now) node.0) }
-        ensures bench { IsBenchOf self.now bench.new × SameButSeat bench.old bench.new }
-        ensures drain { MatchOption result (Misses node.0 (sight_of bench.old) (sight_of bench.new) × (seat_of bench.new ≡ seat_of bench.old)) (λ d. (d.node ≡ node) × IsRackDrain self.now d × Takes node.0 (sight_of bench.old) (sight_with d) × (sight_of bench.new ≡ newcomer (sight_with d))) }
+        ensures bench { IsBenchOf self.now bench.new }
+        ensures same { SameButSeat bench.old bench.new }
+        ensures drain { IfSome result (λ d. IsRackDrain self.now d × (d.node ≡ node)) }
+        ensures asleep { IfSome result (λ d. Takes node.0 (sight_of bench.old) (sight_with d) × (sight_of bench.new ≡ newcomer (sight_with d))) }
+        ensures awake { IfNone result (Misses node.0 (sight_of bench.old) (sight_of bench.new) × (seat_of bench.new ≡ seat_of bench.old)) }
     {
         take_from_place(&self.places, &mut bench.seat, node)
     }
@@ -82,7 +85,8 @@ impl Rack {
     pub fn sleep(&self, bench: &mut Bench, drain: Drain)
         requires bench { IsBenchOf self.now bench.old }
         requires drain { IsRackDrain self.now drain }
-        ensures bench { IsBenchOf self.now bench.new × SameButSeat bench.old bench.new }
+        ensures bench { IsBenchOf self.now bench.new }
+        ensures same { SameButSeat bench.old bench.new }
         ensures lies { Gives (node_of drain) (sight_with drain) (sight_of bench.new) }
     {
         bench.seat = lay_in_place(&self.places, drain);
@@ -92,8 +96,11 @@ impl Rack {
     pub fn push(&self, bench: &mut Bench, drain: Drain) -> Result<(), Drain>
         requires bench { IsBenchOf self.now bench.old }
         requires drain { IsRackDrain self.now drain }
-        ensures bench { IsBenchOf self.now bench.new × SameButDeque bench.old bench.new }
-        ensures rule { MatchResult result (λ _. (pushed_by bench.old < most_of bench.old) × (pushed_by bench.new ≡ pushed_by bench.old + 1) × Sends (own_account bench.old) (drain ∷ []) (own_account bench.new)) (λ d. (d ≡ drain) × (pushed_by bench.old ≡ most_of bench.old) × (bench.new ≡ bench.old)) }
+        ensures bench { IsBenchOf self.now bench.new }
+        ensures same { SameButDeque bench.old bench.new }
+        ensures room { IsOk result ↔ (pushed_by bench.old < most_of bench.old) }
+        ensures pushed { OnOk result ((pushed_by bench.new ≡ pushed_by bench.old + 1) × Sends (own_account bench.old) (drain ∷ []) (own_account bench.new)) }
+        ensures refused { IfErr result (λ d. (d ≡ drain) × (pushed_by bench.old ≡ most_of bench.old) × (bench.new ≡ bench.old)) }
     {
         bench.deque.push(drain)
     }
@@ -101,8 +108,11 @@ impl Rack {
     /// Takes the Drain at the front of the bench's own deque.
     pub fn pop(&self, bench: &mut Bench) -> Option<Drain>
         requires { IsBenchOf self.now bench.old }
-        ensures bench { IsBenchOf self.now bench.new × SameButDeque bench.old bench.new × (pushed_by bench.new ≡ pushed_by bench.old) }
-        ensures rule { MatchOption result ((own_account bench.new ≡ own_account bench.old) × WasEmpty (own_account bench.old)) (λ d. IsRackDrain self.now d × Gets (own_account bench.old) (d ∷ []) (own_account bench.new)) }
+        ensures bench { IsBenchOf self.now bench.new }
+        ensures same { SameButDeque bench.old bench.new × (pushed_by bench.new ≡ pushed_by bench.old) }
+        ensures drain { IfSome result (λ d. IsRackDrain self.now d) }
+        ensures taken { IfSome result (λ d. Gets (own_account bench.old) (d ∷ []) (own_account bench.new)) }
+        ensures empty { IfNone result ((own_account bench.new ≡ own_account bench.old) × WasEmpty (own_account bench.old)) }
     {
         bench.deque.pop()
     }
@@ -111,8 +121,11 @@ impl Rack {
     pub fn steal<R: Wait>(&self, rt: &R, bench: &mut Bench, victim: u8) -> Option<Drain>
         requires bench { IsBenchOf self.now bench.old }
         requires victim { (victim < benches_of self.now) × (victim ≢ number_of bench.old) }
-        ensures bench { IsBenchOf self.now bench.new × SameButPass victim bench.old bench.new }
-        ensures rule { (v : Account) × (w : Account) × IsAccountAt bench.old victim v × IsAccountAt bench.new victim w × MatchOption result ((w ≡ v) × WasEmpty v) (λ d. IsRackDrain self.now d × Gets v (d ∷ []) w) }
+        ensures bench { IsBenchOf self.now bench.new }
+        ensures same { SameButPass victim bench.old bench.new }
+        ensures drain { IfSome result (λ d. IsRackDrain self.now d) }
+        ensures taken { IfSome result (λ d. StealTells victim bench.old bench.new (λ v w. Gets v (d ∷ []) w)) }
+        ensures empty { IfNone result (StealTells victim bench.old bench.new (λ v w. (w ≡ v) × WasEmpty v)) }
     {
         let victim = victim as usize;
         steal_until_told::<Drain, Account, FirstOut, Taking, R>(

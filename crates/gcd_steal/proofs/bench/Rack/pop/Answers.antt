@@ -5,6 +5,6 @@ use Rattle.crossbeam_deque.specs.Handles.{worker_view}
 use Rattle.gcd_steal.proofs.Benching.{got_one}
 use Rattle.gcd_steal.proofs.bench.Rack.pop.Goals as goal
 
-pub returns-clause-rule : goal.returns-clause-rule
-returns-clause-rule c = let v = own_account c.args.bench.now in let w = worker_view c.pop.new.self.worker in
+pub returns-clause-drain : goal.returns-clause-drain
+returns-clause-drain c = let v = own_account c.args.bench.now in let w = worker_view c.pop.new.self.worker in
     got_one c.pop.result ((w ≡ v) × WasEmpty v) v w _ _ c.requires.rack c.pop.ensures.rule
