@@ -9,7 +9,7 @@ use Rattle.gcd_steal.specs.declared.deque.RackId.{RackId}
 use Rattle.gcd_steal.specs.declared.places.Sight.{Sight}
 use Rattle.gcd_steal.specs.Deques.{account}
 use Rattle.gcd_steal.specs.Places.{sight}
-use Rattle.gcd_steal.specs.Racks.{Thief, DequePass, known_by, benches_of, number_of, most_of, pushed_by, own_account, sight_of, IsIdOf, IsBenchOf, AreNumbered, IsUnused}
+use Rattle.gcd_steal.specs.Racks.{DequeStealer, DequePass, known_by, benches_of, number_of, most_of, pushed_by, own_account, sight_of, IsIdOf, IsBenchOf, AreNumbered, IsUnused}
 use Rattle.gcd_steal.specs.Making.{IsOpened, AreOpened, KnowRack, SameButPasses, AreSame, IsNewPass, AreNewPasses, HavePasses}
 
 one_of : {A : Type 0} (l : List A) → 0 < length l → A
@@ -17,17 +17,17 @@ one_of [] some_in = absurd (omega arith)
 one_of (x ∷ l) some_in = x
 
 -- a deque that was opened knows its rack
-pub know_opened : (places : TableId) (rack : RackId) (most : ℕ) (thieves : List Thief) (benches : List Bench) → 0 < length thieves → AreOpened places rack most thieves benches → KnowRack rack benches
+pub know_opened : (places : TableId) (rack : RackId) (most : ℕ) (thieves : List DequeStealer) (benches : List Bench) → 0 < length thieves → AreOpened places rack most thieves benches → KnowRack rack benches
 know_opened places rack most [] benches some_in opened k b near = absurd (omega arith)
 know_opened places rack most (t ∷ thieves) benches some_in opened k b near = ap (λ (v : Account). v.rack) (opened k t b near).account_is
 
 -- the benches after they were opened and given their passes
-module _ (places : TableId) (rack : RackId) (most : ℕ) (thieves : List Thief) (old new : List Bench) (opened : AreOpened places rack most thieves old) (some_in : 0 < length thieves)
+module _ (places : TableId) (rack : RackId) (most : ℕ) (thieves : List DequeStealer) (old new : List Bench) (opened : AreOpened places rack most thieves old) (some_in : 0 < length thieves)
     (same : AreSame SameButPasses old new) (have : HavePasses rack new (length new)) where
   kept : (k : ℕ) (d : Bench) → k < length new → SameButPasses (get_or old k d) (get_or new k d)
   kept k d near = same.each k d d (omega (arith, same.count))
 
-  open_at : (k : ℕ) (t : Thief) (d : Bench) → k < length new → IsOpened places rack most k (get_or thieves k t) (get_or old k d)
+  open_at : (k : ℕ) (t : DequeStealer) (d : Bench) → k < length new → IsOpened places rack most k (get_or thieves k t) (get_or old k d)
   open_at k t d near = opened k t d (omega (arith, same.count))
 
   pub numbered : AreNumbered new
@@ -44,10 +44,10 @@ module _ (places : TableId) (rack : RackId) (most : ℕ) (thieves : List Thief) 
     did = ap (λ (v : Sight). v.did) sees;
   }
 
-  stolen_from : (k : ℕ) (t : Thief) (d : Bench) → k < length new → stealer_deque (get_or thieves k t) ≡ worker_deque (get_or new k d).deque.worker
+  stolen_from : (k : ℕ) (t : DequeStealer) (d : Bench) → k < length new → stealer_deque (get_or thieves k t) ≡ worker_deque (get_or new k d).deque.worker
   stolen_from k t d near = (open_at k t d near).own ∙ sym (kept k d near).deque
 
-  pass_at : (k : ℕ) (d : Bench) (j : ℕ) (t : Thief) (p : DequePass) → k < length new → j < length new → IsPassOf (stealer_deque (get_or thieves j t)) (get_or (get_or new k d).passes.items j p)
+  pass_at : (k : ℕ) (d : Bench) (j : ℕ) (t : DequeStealer) (p : DequePass) → k < length new → j < length new → IsPassOf (stealer_deque (get_or thieves j t)) (get_or (get_or new k d).passes.items j p)
   pass_at k d j t p near within = subst (λ q. IsPassOf q (get_or (get_or new k d).passes.items j p)) (sym (stolen_from j t d within)) ((have k d near).each j d p within).0
 
 -- they are benches of the rack that has those thieves

@@ -9,7 +9,8 @@ use Rattle.atomic_table.proofs.Lists.{at_set}
 use Rattle.gcd_steal.specs.declared.drain.Drain.{Drain}
 use Rattle.gcd_steal.specs.declared.deque.RackId.{RackId}
 use Rattle.gcd_steal.specs.declared.deque.Account.{Account}
-use Rattle.gcd_steal.specs.Deques.{account, IsOf, taken_by, Takings, drains_of, AllOf, IsTrueOf, TakenInOrder, WasEmpty, Sends, Gets, no_rack}
+use Rattle.gcd_steal.specs.Drains.{IsOf}
+use Rattle.gcd_steal.specs.Deques.{account, taken_by, Takings, drains_of, AllOf, IsTrueOf, TakenInOrder, WasEmpty, Sends, Gets, no_rack}
 use Rattle.gcd_steal.proofs.Lists.{off, only_at, at_end, in_range, none_there, longer}
 
 drains_more : (got : Takings) (t : ℕ × Drain) → drains_of (got ++ t ∷ []) ≡ drains_of got ++ t.1 ∷ []
@@ -93,7 +94,7 @@ taken port v x items views old r at = let w = account v.fresh v.owns v.rack v.se
         (λ (h : (i ≡ length r.takings) × ((port, x) ≡ t)). let k = in_range views port v at in let s : port ≡ t.0 = ap (λ (y : ℕ × Drain). y.0) h.1 in omega (arith, wide))
         (at_end r.takings (port, x) t i e);
   },
-  (refl, λ i d e. ⊎_elim (λ (n : get_elem? {A = Drain} [] i ≡ some d). none_there i d n) (λ (t : (i ≡ 0) × (x ≡ d)). subst (λ (y : Drain). IsOf v.rack y) t.1 (subst (λ (o : RackId). IsOf o x) (sym (mine.rack old)) (r.right 0 x refl))) (at_end [] x d i e)),
+  (refl, (items, (views, port, r, at))),
 )
 
 pub gets : (port : ℕ) (v : Account) → v.fresh ≡ false → Takes TakenInOrder port v 1 (Gets v)

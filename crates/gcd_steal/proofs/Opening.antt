@@ -7,7 +7,7 @@ use Rattle.crossbeam_deque.specs.Handles.{worker_deque, IsPassOf}
 use Rattle.atomic_table.specs.Seated.{TableId}
 use Rattle.gcd_steal.specs.declared.bench.Bench.{Bench}
 use Rattle.gcd_steal.specs.declared.deque.RackId.{RackId}
-use Rattle.gcd_steal.specs.Racks.{Thief, DequePass, own_account}
+use Rattle.gcd_steal.specs.Racks.{DequeStealer, DequePass, own_account}
 use Rattle.gcd_steal.specs.Making.{IsOpened, AreOpened, KnowRack, SameButPasses, SameBench, AreSame, IsNewPass, AreNewPasses, HavePasses}
 
 module _ {A : Type 0} where
@@ -25,11 +25,11 @@ module _ {A : Type 0} where
 
 -- ---- opening
 
-pub opened_more : (places : TableId) (rack : RackId) (most : ℕ) (thieves : List Thief) (benches : List Bench) (t : Thief) (b : Bench) (n : ℕ) → length thieves ≡ n → length benches ≡ n
+pub opened_more : (places : TableId) (rack : RackId) (most : ℕ) (thieves : List DequeStealer) (benches : List Bench) (t : DequeStealer) (b : Bench) (n : ℕ) → length thieves ≡ n → length benches ≡ n
     → AreOpened places rack most thieves benches → IsOpened places rack most n t b → AreOpened places rack most (thieves ++ t ∷ []) (benches ++ b ∷ [])
 opened_more places rack most thieves benches t b n wide_t wide_b each last k x y near =
     each_more (λ j u. (z : Bench) → IsOpened places rack most j u (get_or (benches ++ b ∷ []) j z)) thieves t n wide_t
-      (λ j u below z. each_more (λ i c. (v : Thief) → i < n → IsOpened places rack most i (get_or thieves i v) c) benches b n wide_b (λ i c under v _. each i v c (omega (arith, wide_b))) (λ v bad. absurd (omega arith)) j z (omega arith) u below)
+      (λ j u below z. each_more (λ i c. (v : DequeStealer) → i < n → IsOpened places rack most i (get_or thieves i v) c) benches b n wide_b (λ i c under v _. each i v c (omega (arith, wide_b))) (λ v bad. absurd (omega arith)) j z (omega arith) u below)
       (λ z. subst (IsOpened places rack most n t) (sym (get_or_push benches b z n wide_b)) last)
       k x (omega (arith, length_push benches b)) y
 

@@ -12,7 +12,7 @@ use Rattle.gcd_steal.specs.declared.names.Name.{Name}
 use Rattle.gcd_steal.specs.declared.places.Change.{Change}
 use Rattle.gcd_steal.specs.declared.places.Sight.{Sight}
 use Rattle.gcd_steal.specs.Names.{IsName, AreNames}
-use Rattle.gcd_steal.specs.Places.{History, change, sleeps_after, Since, sight, newcomer, Log, changes_of, made_by, flag, HasBadge, HoldsSlot, Knows, Rests, Takes, Misses, Gives, Mine, Woke, Laid}
+use Rattle.gcd_steal.specs.Places.{History, change, sleeps_after, Since, sight, newcomer, Log, changes_of, made_by, flag, HasBadge, HoldsSlot, Knows, Rests, Takes, Misses, Gives, Mine, WakingTells, LayingTells}
 use Rattle.gcd_steal.proofs.Lists.{off, only_at, at_end, in_range, none_there}
 
 -- ---- histories
@@ -130,7 +130,7 @@ same_names key log id node v b k is = subst (λ (x : Badge Name). IsName x.table
 told_at : (P : ℕ → Type 0) (node : ℕ) → P node → (n : ℕ) → node + 8 ≡ n + 8 → P n
 told_at P node p n e = subst P (omega arith) p
 
-wakes_at : (key : Badge Name) (slots id node : ℕ) (me : Mine) → node < slots → me.1 ≡ [] → Allows (Rests key) slots id me (node + 8) (λ _. 0) (Woke (step slots (node + 8) 0 0 none) me)
+wakes_at : (key : Badge Name) (slots id node : ℕ) (me : Mine) → node < slots → me.1 ≡ [] → Allows (Rests key) slots id me (node + 8) (λ _. 0) (WakingTells (step slots (node + 8) 0 0 none) me)
 wakes_at key slots id node me near free s r wide at _ = let v = me.0 in let n = get_or s.words (node + 8) 0 in let in_range : node < length s.homes = omega (arith, wide) in let is = r.words node in_range in let k = r.knows id v at in
   dite (ℕ_discrete n 1)
     (λ full. let up = flag_one (sleeps_after (changes_of r.log) node) (sym is ∙ full) in let b = r.badges node in_range up in
@@ -145,11 +145,11 @@ wakes_at key slots id node me near free s r wide at _ = let v = me.0 in let n = 
           ((λ e. absurd (not_full e)), λ _. ((refl, k.seen, down.0), free))))
 
 -- a swap of the node's word takes its slot where the Drain sleeps
-pub wakes : (key : Badge Name) (slots id node i : ℕ) (me : Mine) → i ≡ node + 8 → node < slots → me.1 ≡ [] → Allows (Rests key) slots id me i (λ _. 0) (Woke (step slots i 0 0 none) me)
-wakes key slots id node i me e near free = subst (λ (j : ℕ). Allows (Rests key) slots id me j (λ _. 0) (Woke (step slots j 0 0 none) me)) (sym e) (wakes_at key slots id node me near free)
+pub wakes : (key : Badge Name) (slots id node i : ℕ) (me : Mine) → i ≡ node + 8 → node < slots → me.1 ≡ [] → Allows (Rests key) slots id me i (λ _. 0) (WakingTells (step slots i 0 0 none) me)
+wakes key slots id node i me e near free = subst (λ (j : ℕ). Allows (Rests key) slots id me j (λ _. 0) (WakingTells (step slots j 0 0 none) me)) (sym e) (wakes_at key slots id node me near free)
 
 lies_at : (key : Badge Name) (slots id node : ℕ) (me : Mine) → node < slots → HoldsSlot me.0.names node me.1
-    → Allows (Rests key) slots id me (node + 8) (λ _. 1) (λ _. Laid (step slots (node + 8) 1 0 none) me 1)
+    → Allows (Rests key) slots id me (node + 8) (λ _. 1) (λ _. LayingTells (step slots (node + 8) 1 0 none) me 1)
 lies_at key slots id node me near slot s r wide at _ = let v = me.0 in let k = r.knows id v at in let w = sight v.names (change node true ∷ changes_of r.log) (v.did + 1) in
   (w, gives, tt,
     subst (λ (c : List (ℕ × Badge Name)). Rests key (stepped s (node + 8) 1 id c w gives)) (sym slot.1)
@@ -158,8 +158,8 @@ lies_at key slots id node me near slot s r wide at _ = let v = me.0 in let k = r
 
 -- a store to the node's word gives its slot back
 pub lies : (key : Badge Name) (slots id node i : ℕ) (me : Mine) → i ≡ node + 8 → node < slots → HoldsSlot me.0.names node me.1
-    → Allows (Rests key) slots id me i (λ _. 1) (λ _. Laid (step slots i 1 0 none) me 1)
-lies key slots id node i me e near slot = subst (λ (j : ℕ). Allows (Rests key) slots id me j (λ _. 1) (λ _. Laid (step slots j 1 0 none) me 1)) (sym e) (lies_at key slots id node me near slot)
+    → Allows (Rests key) slots id me i (λ _. 1) (λ _. LayingTells (step slots i 1 0 none) me 1)
+lies key slots id node i me e near slot = subst (λ (j : ℕ). Allows (Rests key) slots id me j (λ _. 1) (λ _. LayingTells (step slots j 1 0 none) me 1)) (sym e) (lies_at key slots id node me near slot)
 
 -- what was found decides the test
 pub tested : (n m : ℕ) (P Q : Type 0) → (n ≡ m → P) × (n ≢ m → Q) → MatchBool (eqb n m) P Q

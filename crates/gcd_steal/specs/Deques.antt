@@ -6,19 +6,10 @@ use Rattle.atomic_table.specs.Seated.{TableId}
 use Rattle.gcd_steal.specs.declared.drain.Drain.{Drain}
 use Rattle.gcd_steal.specs.declared.deque.RackId.{RackId}
 use Rattle.gcd_steal.specs.declared.deque.Account.{Account}
+use Rattle.gcd_steal.specs.Drains.{IsOf}
 
 abbrev pub account : Bool → Bool → RackId → List Drain → List Drain → Account
 account fresh owns rack sent took = record { fresh = fresh; owns = owns; rack = rack; sent = sent; took = took }
-
--- d is a Drain of the rack with these tables of names and of places
-pub record IsDrainOf (names_id places_id : TableId) (d : Drain) : Type 0 where
-  pub badge : d.badge.table_id ≡ names_id
-  pub place : d.place.table_id ≡ places_id
-  pub told : d.badge.table_id ≡ d.place.me.0.names.table_id
-  pub node : d.node.0 < places_id.slots
-
-abbrev pub IsOf : RackId → Drain → Type 0
-IsOf rack d = IsDrainOf rack.names.table_id rack.places.table_id d
 
 abbrev pub AllOf : RackId → List Drain → Type 0
 AllOf rack drains = (i : ℕ) (d : Drain) → get_elem? drains i ≡ some d → IsOf rack d
@@ -52,17 +43,20 @@ pub record TakenInOrder (items : List Drain) (views : List Account) : Type 0 whe
   pub fresh : (pass : ℕ) (v : Account) → get_elem? views pass ≡ some v → v.fresh ≡ true → (items ≡ []) × (length views ≡ 1) × (takings ≡ [])
   pub passes : (i : ℕ) (t : ℕ × Drain) → get_elem? takings i ≡ some t → t.0 < length views
 
--- the deque was empty: it kept its rule, this pass knew what it knows, and nothing was left in it
+-- at one moment the deque held these Drains, the front first: it kept its rule, and this pass knew what it knows
+abbrev pub Held : Account → List Drain → Type 0
+Held v items = (views : List Account) × (pass : ℕ) × TakenInOrder items views × (get_elem? views pass ≡ some v)
+
 abbrev pub WasEmpty : Account → Type 0
-WasEmpty v = (views : List Account) × (pass : ℕ) × TakenInOrder [] views × (get_elem? views pass ≡ some v)
+WasEmpty v = Held v []
 
 -- the owner pushed these Drains
 abbrev pub Sends : Account → List Drain → Account → Type 0
 Sends v drains w = w ≡ account v.fresh v.owns v.rack (v.sent ++ drains) v.took
 
--- the pass took these Drains, which are of its rack
+-- the pass took these Drains, which were at the front
 abbrev pub Gets : Account → List Drain → Account → Type 0
-Gets v drains w = (w ≡ account v.fresh v.owns v.rack v.sent (v.took ++ drains)) × AllOf v.rack drains
+Gets v drains w = (w ≡ account v.fresh v.owns v.rack v.sent (v.took ++ drains)) × ((rest : List Drain) × Held v (drains ++ rest))
 
 -- no rack, for what is known before a rack is
 abbrev pub no_table : TableId

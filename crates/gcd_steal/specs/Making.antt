@@ -6,10 +6,10 @@ use Rattle.gcd_steal.specs.declared.bench.Bench.{Bench}
 use Rattle.gcd_steal.specs.declared.deque.RackId.{RackId}
 use Rattle.gcd_steal.specs.Places.{sight}
 use Rattle.gcd_steal.specs.Deques.{account}
-use Rattle.gcd_steal.specs.Racks.{Thief, DequePass, known_by, own_account, pushed_by, most_of}
+use Rattle.gcd_steal.specs.Racks.{DequeStealer, DequePass, known_by, own_account, pushed_by, most_of}
 
 -- b is the new bench of this number, with no pass yet, and t steals from its deque
-pub record IsOpened (places : TableId) (rack : RackId) (most number : ℕ) (t : Thief) (b : Bench) : Type 0 where
+pub record IsOpened (places : TableId) (rack : RackId) (most number : ℕ) (t : DequeStealer) (b : Bench) : Type 0 where
   pub number_is : b.number ≡ number
   pub seat : b.seat.table_id ≡ places
   pub sight_is : b.seat.me.0 ≡ sight rack.names [] 0
@@ -20,8 +20,8 @@ pub record IsOpened (places : TableId) (rack : RackId) (most number : ℕ) (t : 
   pub fifo : stealer_flavor t ≡ 0
 
 -- new benches by number, with the stealers of their deques
-abbrev pub AreOpened : TableId → RackId → ℕ → List Thief → List Bench → Type 0
-AreOpened places rack most thieves benches = (k : ℕ) (t : Thief) (b : Bench) → k < length benches → IsOpened places rack most k (slice_index_or thieves k t) (slice_index_or benches k b)
+abbrev pub AreOpened : TableId → RackId → ℕ → List DequeStealer → List Bench → Type 0
+AreOpened places rack most thieves benches = (k : ℕ) (t : DequeStealer) (b : Bench) → k < length benches → IsOpened places rack most k (slice_index_or thieves k t) (slice_index_or benches k b)
 
 -- each bench's deque knows the rack
 abbrev pub KnowRack : RackId → List Bench → Type 0

@@ -87,12 +87,12 @@ abbrev pub HoldsSlot : Badge Name → ℕ → List (ℕ × Badge Name) → Type 
 HoldsSlot names node slots = (b : Badge Name) × (slots ≡ (node, b) ∷ []) × IsName names.table_id node b
 
 -- what a swap of a node's word tells: where it found 1 the seat has the node's slot, with the badge that names the node
-abbrev pub Woke : Step (Badge Name) → Mine → ℕ → Mine → Type 0
-Woke st m found n =
+abbrev pub WakingTells : Step (Badge Name) → Mine → ℕ → Mine → Type 0
+WakingTells st m found n =
     (node : ℕ) → st.word ≡ node + 8
     → (found ≡ 1 → Takes node m.0 n.0 × HoldsSlot m.0.names node n.1)
     × (found ≢ 1 → Misses node m.0 n.0 × (n.1 ≡ []))
 
 -- what a store to a node's word tells
-abbrev pub Laid : Step (Badge Name) → Mine → ℕ → Mine → Type 0
-Laid st m stored n = (node : ℕ) → st.word ≡ node + 8 → Gives node m.0 n.0 × (n.1 ≡ [])
+abbrev pub LayingTells : Step (Badge Name) → Mine → ℕ → Mine → Type 0
+LayingTells st m stored n = (node : ℕ) → st.word ≡ node + 8 → Gives node m.0 n.0 × (n.1 ≡ [])

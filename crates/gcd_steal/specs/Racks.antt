@@ -11,11 +11,11 @@ use Rattle.gcd_steal.specs.declared.deque.RackId.{RackId}
 use Rattle.gcd_steal.specs.declared.deque.Account.{Account}
 use Rattle.gcd_steal.specs.declared.drain.Drain.{Drain}
 use Rattle.gcd_steal.specs.declared.places.Sight.{Sight}
-use Rattle.gcd_steal.specs.Deques.{IsDrainOf}
+use Rattle.gcd_steal.specs.Drains.{IsDrainOf}
 
 -- a stealer of a bench's deque, and a pass of one
-abbrev pub Thief : Type 0
-Thief = Stealer Drain Global Account FirstOut
+abbrev pub DequeStealer : Type 0
+DequeStealer = Stealer Drain Global Account FirstOut
 
 abbrev pub DequePass : Type 0
 DequePass = Pass Drain Account Global
@@ -32,10 +32,6 @@ plan_of r = r.names.shared.key
 abbrev pub benches_of : Rack → ℕ
 benches_of r = length r.thieves.items
 
--- the node that the Drain may drain
-abbrev pub node_of : Drain → ℕ
-node_of d = d.node.0
-
 -- it is a Drain of this rack
 abbrev pub IsRackDrain : Rack → Drain → Type 0
 IsRackDrain r d = IsDrainOf r.names.shared.table_id r.places.shared.table_id d
@@ -50,12 +46,9 @@ pushed_by b = b.deque.pushed
 abbrev pub most_of : Bench → ℕ
 most_of b = b.deque.most
 
--- what the bench knows of the places, and what the seat that took the Drain knew then
+-- what the bench knows of the places
 abbrev pub sight_of : Bench → Sight
 sight_of b = b.seat.me.0
-
-abbrev pub sight_with : Drain → Sight
-sight_with d = d.place.me.0
 
 -- the number of the bench's seat among the seats of the places
 abbrev pub seat_of : Bench → ℕ
@@ -83,10 +76,10 @@ pub record IsBenchOf (r : Rack) (b : Bench) : Type 0 where
   pub seat : b.seat.table_id ≡ r.places.shared.table_id
   pub names : b.seat.me.0.names.table_id ≡ r.names.shared.table_id
   pub rack : IsIdOf r (own_account b).rack
-  pub own : (t : Thief) → stealer_deque (slice_index_or r.thieves.items b.number t) ≡ worker_deque b.deque.worker
+  pub own : (t : DequeStealer) → stealer_deque (slice_index_or r.thieves.items b.number t) ≡ worker_deque b.deque.worker
   pub count : length b.passes.items ≡ benches_of r
-  pub table : (k : ℕ) (t : Thief) (p : DequePass) → k < benches_of r → IsPassOf (stealer_deque (slice_index_or r.thieves.items k t)) (slice_index_or b.passes.items k p)
-  pub fifo : (k : ℕ) (t : Thief) → k < benches_of r → stealer_flavor (slice_index_or r.thieves.items k t) ≡ 0
+  pub table : (k : ℕ) (t : DequeStealer) (p : DequePass) → k < benches_of r → IsPassOf (stealer_deque (slice_index_or r.thieves.items k t)) (slice_index_or b.passes.items k p)
+  pub fifo : (k : ℕ) (t : DequeStealer) → k < benches_of r → stealer_flavor (slice_index_or r.thieves.items k t) ≡ 0
   pub known : (k : ℕ) (p : DequePass) → k < benches_of r → ((known_by (slice_index_or b.passes.items k p)).fresh ≡ false) × IsIdOf r (known_by (slice_index_or b.passes.items k p)).rack
 
 -- the benches have the numbers from 0 in their order

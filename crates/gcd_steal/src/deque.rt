@@ -1,7 +1,8 @@
 // The deque of one bench: its owner pushes and pops, other benches steal.
 ghost use Rattle.std.specs.Prelude.{◌≡◌, ◌≤◌, ◌+◌, ◌<◌, true, false, [], ◌∷◌, length, MatchResult, MatchOption, IfOk};
 ghost use Rattle.crossbeam_deque.specs.Handles.{view, IsPassOf, worker_deque, worker_view, worker_flavor, worker_capacity, worker_index, stealer_deque, stealer_flavor};
-ghost use Rattle.gcd_steal.specs.Deques.{account, Sends, Gets, WasEmpty, IsDrainOf};
+ghost use Rattle.gcd_steal.specs.Drains.{IsOf};
+ghost use Rattle.gcd_steal.specs.Deques.{account, Sends, Gets, WasEmpty};
 
 use crate::drain::Drain;
 use crate::names::Name;
@@ -108,7 +109,7 @@ pub struct Deque {
 impl Deque {
     // Puts the Drain at the back. It comes back exactly where `most` were pushed.
     pub fn push(&mut self, drain: Drain) -> Result<(), Drain>
-        requires { IsDrainOf (worker_view self.old.worker).rack.names.table_id (worker_view self.old.worker).rack.places.table_id drain }
+        requires { IsOf (worker_view self.old.worker).rack drain }
         ensures same { (worker_deque self.new.worker ≡ worker_deque self.old.worker) × (self.new.most ≡ self.old.most) }
         ensures rule { MatchResult result (λ _. (self.old.pushed < self.old.most) × (self.new.pushed ≡ self.old.pushed + 1) × Sends (worker_view self.old.worker) (drain ∷ []) (worker_view self.new.worker)) (λ d. (d ≡ drain) × (self.old.pushed ≡ self.old.most) × (self.new ≡ self.old)) }
     {

@@ -11,18 +11,20 @@ use gcd_plan::Obj;
 #[derive(Drop)]
 pub struct Drain {
     // Its view names the node.
-    pub badge: Badge<Name>,
+    pub(crate) badge: Badge<Name>,
     // It holds the slot in which the node's badge sleeps.
-    pub place: Seat<Badge<Name>, Sight>,
-    pub node: Obj,
+    pub(crate) place: Seat<Badge<Name>, Sight>,
+    pub(crate) node: Obj,
     ghost named: { badge.views ≡ name false node.0 ∷ [] },
     ghost placed: { map (λ x. x.0) place.me.1 ≡ node.0 ∷ [] },
 }
 
 impl Drain {
+    ghost use Rattle.gcd_steal.specs.Drains.{node_of};
+
     /// The node that it may drain.
     pub fn node(&self) -> Obj
-        ensures { result ≡ self.now.node }
+        ensures { result ≡ node_of self.now }
     {
         self.node
     }

@@ -1,6 +1,6 @@
 // Where Drains sleep: a word and a slot for each node.
 ghost use Rattle.std.specs.Prelude.{◌≡◌, ◌+◌, ◌<◌, [], MatchBool, MatchOption};
-ghost use Rattle.gcd_steal.specs.Places.{newcomer, HoldsSlot, Takes, Misses, Gives, Woke, Laid};
+ghost use Rattle.gcd_steal.specs.Places.{newcomer, HoldsSlot, Takes, Misses, Gives, WakingTells, LayingTells};
 
 use crate::drain::Drain;
 use crate::names::Name;
@@ -47,14 +47,14 @@ impl TableRule<Badge<Name>, Sight, Badge<Name>> for Resting {
 pub struct Waking;
 
 impl Play<Badge<Name>, Sight> for Waking {
-    ghost then = { Woke };
+    ghost then = { WakingTells };
 }
 
 // What laying a Drain down tells.
 pub struct Laying;
 
 impl Play<Badge<Name>, Sight> for Laying {
-    ghost then = { Laid };
+    ghost then = { LayingTells };
 }
 
 // How a new seat is split off: it has seen what the old one has.

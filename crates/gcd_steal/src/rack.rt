@@ -2,8 +2,9 @@
 ghost use Rattle.std.specs.Prelude.{◌≡◌, ◌≢◌, ◌↔◌, ◌+◌, ◌<◌, ◌≤◌, [], ◌∷◌, length, All, IsTrue, IfSome, IfNone, IsOk, IfOk, OnOk, IfErr};
 ghost use Rattle.gcd_plan.specs.Kinds.{is_node};
 ghost use Rattle.gcd_steal.specs.Places.{newcomer, Takes, Misses, Gives};
+ghost use Rattle.gcd_steal.specs.Drains.{node_of, sight_with};
 ghost use Rattle.gcd_steal.specs.Deques.{WasEmpty, Sends, Gets};
-ghost use Rattle.gcd_steal.specs.Racks.{plan_of, benches_of, node_of, IsRackDrain, number_of, pushed_by, most_of, sight_of, sight_with, seat_of, own_account, StealTells, IsBenchOf, AreNumbered, IsUnused, SameButSeat, SameButDeque, SameButPass};
+ghost use Rattle.gcd_steal.specs.Racks.{plan_of, benches_of, IsRackDrain, number_of, pushed_by, most_of, sight_of, seat_of, own_account, StealTells, IsBenchOf, AreNumbered, IsUnused, SameButSeat, SameButDeque, SameButPass};
 
 use crate::bench::{Bench, Rack};
 use crate::deque::{Account, FirstOut, Taking};
@@ -74,7 +75,7 @@ impl Rack {
         requires node { IsTrue (is_node (plan_of self.now) node.0) }
         ensures bench { IsBenchOf self.now bench.new }
         ensures same { SameButSeat bench.old bench.new }
-        ensures drain { IfSome result (λ d. IsRackDrain self.now d × (d.node ≡ node)) }
+        ensures drain { IfSome result (λ d. IsRackDrain self.now d × (node_of d ≡ node)) }
         ensures asleep { IfSome result (λ d. Takes node.0 (sight_of bench.old) (sight_with d) × (sight_of bench.new ≡ newcomer (sight_with d))) }
         ensures awake { IfNone result (Misses node.0 (sight_of bench.old) (sight_of bench.new) × (seat_of bench.new ≡ seat_of bench.old)) }
     {
@@ -87,7 +88,7 @@ impl Rack {
         requires drain { IsRackDrain self.now drain }
         ensures bench { IsBenchOf self.now bench.new }
         ensures same { SameButSeat bench.old bench.new }
-        ensures lies { Gives (node_of drain) (sight_with drain) (sight_of bench.new) }
+        ensures lies { Gives (node_of drain).0 (sight_with drain) (sight_of bench.new) }
     {
         bench.seat = lay_in_place(&self.places, drain);
     }

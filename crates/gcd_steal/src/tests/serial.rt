@@ -1,5 +1,5 @@
 // One Drain between two benches.
-ghost use Rattle.std.specs.Prelude.{◌≡◌, ◌<◌, ◌≤◌, IfOk};
+ghost use Rattle.std.specs.Prelude.{◌≡◌, ◌<◌, ◌≤◌, All, IfSome, IfOk};
 ghost use Rattle.gcd_steal.specs.Racks.{plan_of, IsBenchOf};
 
 use super::plans::{node_at, plan_of_queues};
@@ -8,6 +8,16 @@ use gcd_plan::Plan;
 use std::alloc::Global;
 use std::test::Fail;
 
+// The last bench of the list.
+fn last_bench(rack: &Rack, benches: &mut Vec<Bench>) -> Option<Bench>
+    requires { All (λ b. IsBenchOf rack.now b) benches.old.items }
+    ensures others { All (λ b. IsBenchOf rack.now b) benches.new.items }
+    ensures last { IfSome result (λ b. IsBenchOf rack.now b) }
+{
+    let _ = rack;
+    benches.pop()
+}
+
 // A rack with its two benches.
 fn rack_of_two(alloc: Global, plan: &Plan, most: u32) -> Result<(Rack, Bench, Bench), Fail>
     requires { (0 < most) × (most ≤ 65536) }
@@ -15,8 +25,8 @@ fn rack_of_two(alloc: Global, plan: &Plan, most: u32) -> Result<(Rack, Bench, Be
     ensures benches { IfOk result (λ r. IsBenchOf r.0 r.1 × IsBenchOf r.0 r.2) }
 {
     let (rack, mut benches) = Rack::new(alloc, plan, 2, most)?;
-    let second = benches.pop().ok_or("two benches")?;
-    let first = benches.pop().ok_or("two benches")?;
+    let second = last_bench(&rack, &mut benches).ok_or("two benches")?;
+    let first = last_bench(&rack, &mut benches).ok_or("two benches")?;
     Ok((rack, first, second))
 }
 

@@ -11,7 +11,7 @@ steal_until_told-requires-clause-takes g c = let k = c.args.victim in let l = c.
 
 pub returns-clause-drain : goal.returns-clause-drain
 returns-clause-drain g c = let k = c.args.victim in let l = c.args.bench.now.passes.items in let old = c.index_mut.result.now in let new = c.steal_until_told.new.pass in let v = known_by old in let w = known_by new in
-    got_one c.steal_until_told.result ((w ≡ v) × WasEmpty v) v w _ _ (read_at (λ q. IsIdOf c.args.self.now (known_by q).rack) l k old c.index_mut.ensures.value (c.requires.bench.known k old c.requires.victim.0).1) c.steal_until_told.ensures.rule
+    got_one c.steal_until_told.result ((w ≡ v) × WasEmpty v) v w _ _ (read_at (λ q. (known_by q).fresh ≡ false) l k old c.index_mut.ensures.value (c.requires.bench.known k old c.requires.victim.0).0) (read_at (λ q. IsIdOf c.args.self.now (known_by q).rack) l k old c.index_mut.ensures.value (c.requires.bench.known k old c.requires.victim.0).1) c.steal_until_told.ensures.rule
 
 pub returns-clause-empty : goal.returns-clause-empty
 returns-clause-empty g c = let k = c.args.victim in let l = c.args.bench.now.passes.items in let old = c.index_mut.result.now in let new = c.steal_until_told.new.pass in let v = known_by old in let w = known_by new in let b = c.requires.bench in
