@@ -1,5 +1,5 @@
 -- The benches of a new rack.
-use Rattle.std.proofs.Common.{◌≡◌, ℕ, ◌<◌, true, false, List, [], ◌∷◌, length, get_or, sym, refl, ap, ◌∙◌, subst, arith}
+use Rattle.std.proofs.Common.{◌≡◌, ℕ, ◌<◌, List, [], ◌∷◌, length, get_or, sym, ap, ◌∙◌, subst, arith}
 use Rattle.crossbeam_deque.specs.Handles.{worker_deque, stealer_deque, IsPassOf}
 use Rattle.atomic_table.specs.Seated.{TableId}
 use Rattle.gcd_steal.specs.declared.bench.Rack.{Rack}
@@ -7,10 +7,8 @@ use Rattle.gcd_steal.specs.declared.bench.Bench.{Bench}
 use Rattle.gcd_steal.specs.declared.deque.Account.{Account}
 use Rattle.gcd_steal.specs.declared.deque.RackId.{RackId}
 use Rattle.gcd_steal.specs.declared.places.Sight.{Sight}
-use Rattle.gcd_steal.specs.Deques.{account}
-use Rattle.gcd_steal.specs.Places.{sight}
-use Rattle.gcd_steal.specs.Racks.{DequeStealer, DequePass, known_by, benches_of, number_of, most_of, pushed_by, own_account, sight_of, IsIdOf, IsBenchOf, AreNumbered, IsUnused}
-use Rattle.gcd_steal.specs.Making.{IsOpened, AreOpened, KnowRack, SameButPasses, AreSame, IsNewPass, AreNewPasses, HavePasses}
+use Rattle.gcd_steal.specs.Racks.{DequeStealer, DequePass, benches_of, IsIdOf, IsBenchOf, AreNumbered, IsUnused}
+use Rattle.gcd_steal.specs.Making.{IsOpened, AreOpened, KnowRack, SameButPasses, AreSame, HavePasses}
 
 one_of : {A : Type 0} (l : List A) → 0 < length l → A
 one_of [] some_in = absurd (omega arith)
@@ -54,15 +52,15 @@ module _ (places : TableId) (rack : RackId) (most : ℕ) (thieves : List DequeSt
 pub made : (r : Rack) (rack : RackId) (most : ℕ) (old new : List Bench) → IsIdOf r rack → AreOpened r.places.shared.table_id rack most r.thieves.items old → 0 < benches_of r
     → AreSame SameButPasses old new → HavePasses rack new (length new) → length old ≡ benches_of r → (k : ℕ) (d : Bench) → k < length new → IsBenchOf r (get_or new k d)
 made r rack most old new is opened some_in same have as_many k d near = let places = r.places.shared.table_id in let thieves = r.thieves.items in
-  let o = open_at places rack most thieves old new opened some_in same have k (one_of thieves some_in) d near in let s = kept places rack most thieves old new opened some_in same have k d near in
-  let number = s.number ∙ o.number_is in let size : length new ≡ benches_of r = same.count ∙ as_many in record {
-    number = omega (arith, number, size);
-    seat = ap (λ x. x.table_id) s.seat ∙ o.seat;
-    names = ap (λ x. x.me.0.names.table_id) s.seat ∙ ap (λ (v : Sight). v.names.table_id) o.sight_is ∙ is.0;
-    rack = subst (λ (v : Account). IsIdOf r v.rack) (sym (s.known ∙ o.account_is)) is;
-    own = λ u. subst (λ (i : ℕ). stealer_deque (get_or thieves i u) ≡ worker_deque (get_or new k d).deque.worker) (sym number) (stolen_from places rack most thieves old new opened some_in same have k u d near);
-    count = (have k d near).count ∙ size;
-    table = λ j u p within. pass_at places rack most thieves old new opened some_in same have k d j u p near (omega (arith, size));
-    fifo = λ j u within. (open_at places rack most thieves old new opened some_in same have j u d (omega (arith, size))).fifo;
-    known = λ j p within. let v = ((have k d near).each j d p (omega (arith, size))).1 in (ap (λ (a : Account). a.fresh) v, subst (λ (a : Account). IsIdOf r a.rack) (sym v) is);
-  }
+    let o = open_at places rack most thieves old new opened some_in same have k (one_of thieves some_in) d near in let s = kept places rack most thieves old new opened some_in same have k d near in
+    let number = s.number ∙ o.number_is in let size : length new ≡ benches_of r = same.count ∙ as_many in record {
+      number = omega (arith, number, size);
+      seat = ap (λ x. x.table_id) s.seat ∙ o.seat;
+      names = ap (λ x. x.me.0.names.table_id) s.seat ∙ ap (λ (v : Sight). v.names.table_id) o.sight_is ∙ is.0;
+      rack = subst (λ (v : Account). IsIdOf r v.rack) (sym (s.known ∙ o.account_is)) is;
+      own = λ u. subst (λ (i : ℕ). stealer_deque (get_or thieves i u) ≡ worker_deque (get_or new k d).deque.worker) (sym number) (stolen_from places rack most thieves old new opened some_in same have k u d near);
+      count = (have k d near).count ∙ size;
+      table = λ j u p within. pass_at places rack most thieves old new opened some_in same have k d j u p near (omega (arith, size));
+      fifo = λ j u within. (open_at places rack most thieves old new opened some_in same have j u d (omega (arith, size))).fifo;
+      known = λ j p within. let v = ((have k d near).each j d p (omega (arith, size))).1 in (ap (λ (a : Account). a.fresh) v, subst (λ (a : Account). IsIdOf r a.rack) (sym v) is);
+    }

@@ -1,5 +1,5 @@
 -- Each step on a deque keeps its rule.
-use Rattle.std.proofs.Common.{◌≡◌, ◌≢◌, ℕ, suc, ◌+◌, ◌<◌, ◌≤◌, ◌⊎◌, ⊎_elim, Bool, true, false, cond, eqb, eq-eqb, ne_eqb, List, [], ◌∷◌, ◌++◌, map, length, set, sym, refl, ap, ◌∙◌, subst, arith, length-set, append_assoc}
+use Rattle.std.proofs.Common.{◌≡◌, ◌≢◌, ℕ, suc, ◌<◌, ⊎_elim, Bool, true, false, cond, eqb, eq-eqb, ne_eqb, List, [], ◌∷◌, ◌++◌, length, set, sym, refl, ap, ◌∙◌, subst, arith, length-set, append_assoc}
 use mathlib.Core.Logic.{dite}
 use mathlib.Core.Option.{some}
 use native.Mathlib.Decide.{ℕ_discrete}
@@ -21,9 +21,9 @@ by_mine : (j : ℕ) (got : Takings) (x : Drain) → taken_by j (got ++ (j, x) �
 by_mine j [] x = ap (λ (b : Bool). cond b (x ∷ []) []) (eq-eqb j j refl)
 by_mine j (t ∷ got) x = dite (ℕ_discrete t.0 j)
     (λ same. ap (λ (b : Bool). cond b (t.1 ∷ taken_by j (got ++ (j, x) ∷ [])) (taken_by j (got ++ (j, x) ∷ []))) (eq-eqb t.0 j same) ∙ ap (λ (l : List Drain). t.1 ∷ l) (by_mine j got x)
-        ∙ ap (λ (b : Bool). cond b (t.1 ∷ taken_by j got) (taken_by j got) ++ x ∷ []) (sym (eq-eqb t.0 j same)))
+    ∙ ap (λ (b : Bool). cond b (t.1 ∷ taken_by j got) (taken_by j got) ++ x ∷ []) (sym (eq-eqb t.0 j same)))
     (λ ne. ap (λ (b : Bool). cond b (t.1 ∷ taken_by j (got ++ (j, x) ∷ [])) (taken_by j (got ++ (j, x) ∷ []))) (ne_eqb t.0 j ne) ∙ by_mine j got x
-        ∙ ap (λ (b : Bool). cond b (t.1 ∷ taken_by j got) (taken_by j got) ++ x ∷ []) (sym (ne_eqb t.0 j ne)))
+    ∙ ap (λ (b : Bool). cond b (t.1 ∷ taken_by j got) (taken_by j got) ++ x ∷ []) (sym (ne_eqb t.0 j ne)))
 
 by_other : (j k : ℕ) (got : Takings) (x : Drain) → k ≢ j → taken_by j (got ++ (k, x) ∷ []) ≡ taken_by j got
 by_other j k [] x ne = ap (λ (b : Bool). cond b (x ∷ []) []) (ne_eqb k j ne)
@@ -118,16 +118,16 @@ parts port v of owns same items views r at = let left = account false v.owns of 
   right = now.0;
   each = λ j u e. ⊎_elim
       (λ (was : get_elem? cut j ≡ some u). ⊎_elim
-          (λ (t : (j ≡ port) × (left ≡ u)). view_is (sym t.0) t.1 (record { rack = λ _. refl; took = mine.took; owner = mine.owner }))
-          (λ (t : (j ≢ port) × (get_elem? views j ≡ some u)). let f = r.each j u t.1 in record { rack = λ o. now.1 j u t.0 t.1 o; took = f.took; owner = f.owner })
-          (at_set views port j left u was))
+      (λ (t : (j ≡ port) × (left ≡ u)). view_is (sym t.0) t.1 (record { rack = λ _. refl; took = mine.took; owner = mine.owner }))
+      (λ (t : (j ≢ port) × (get_elem? views j ≡ some u)). let f = r.each j u t.1 in record { rack = λ o. now.1 j u t.0 t.1 o; took = f.took; owner = f.owner })
+      (at_set views port j left u was))
       (λ (t : (j ≡ length cut) × (right ≡ u)). view_is (sym t.0) t.1 (record { rack = λ _. refl; took = sym (by_none (length cut) r.takings (λ i x at_x. let h = r.passes i x at_x in omega (arith, length-set views port left))); owner = λ o. off o refl }))
       (at_end cut right u j e);
   fresh = λ j u e is. ⊎_elim
       (λ (was : get_elem? cut j ≡ some u). ⊎_elim
-          (λ (t : (j ≡ port) × (left ≡ u)). off (ap (λ (x : Account). x.fresh) t.1 ∙ is) refl)
-          (λ (t : (j ≢ port) × (get_elem? views j ≡ some u)). let f = r.fresh j u t.1 is in let a = in_range views j u t.1 in let b = in_range views port v at in absurd (t.0 (omega (arith, f.1))))
-          (at_set views port j left u was))
+      (λ (t : (j ≡ port) × (left ≡ u)). off (ap (λ (x : Account). x.fresh) t.1 ∙ is) refl)
+      (λ (t : (j ≢ port) × (get_elem? views j ≡ some u)). let f = r.fresh j u t.1 is in let a = in_range views j u t.1 in let b = in_range views port v at in absurd (t.0 (omega (arith, f.1))))
+      (at_set views port j left u was))
       (λ (t : (j ≡ length cut) × (right ≡ u)). off (ap (λ (x : Account). x.fresh) t.1 ∙ is) refl)
       (at_end cut right u j e);
   passes = λ i t e. let h = r.passes i t e in let n = longer cut right in omega (arith, length-set views port left);

@@ -1,5 +1,5 @@
 -- Each name that is cut keeps the names apart.
-use Rattle.std.proofs.Common.{◌≡◌, ◌≢◌, ℕ, ◌+◌, ◌<◌, ◌⊎◌, ⊎_elim, Bool, true, false, List, [], ◌∷◌, ◌++◌, length, set, sym, refl, ap, ◌∙◌, subst, arith}
+use Rattle.std.proofs.Common.{◌≡◌, ◌≢◌, ℕ, ◌+◌, ◌<◌, ⊎_elim, true, false, List, [], ◌∷◌, ◌++◌, length, set, sym, refl, ap, ◌∙◌, subst, arith}
 use mathlib.Core.Option.{some}
 use lib.ListN.{get_elem?}
 use Rattle.atomic_table.specs.Table.{State, Splits, opening}
@@ -64,13 +64,13 @@ module _ {S : Type 0} (id n : ℕ) (s : State S Name) (r : Apart s) (at : get_el
     apart = λ i j v u at_v at_u is_v is_u same. cases (i ≡ j) i v at_v
         (λ _ eq. off (sym (dealer_of left v eq)) is_v)
         (λ end eq. cases (i ≡ j) j u at_u
-            (λ _ eq'. off (sym (dealer_of left u eq')) is_u)
-            (λ end' _. end ∙ sym end')
-            (λ ne was. let x = r.named j u was is_u in let y : n ≡ r.next = mine.1 in let z : n ≡ v.node = node_of right v eq in absurd (omega (arith, same))))
+        (λ _ eq'. off (sym (dealer_of left u eq')) is_u)
+        (λ end' _. end ∙ sym end')
+        (λ ne was. let x = r.named j u was is_u in let y : n ≡ r.next = mine.1 in let z : n ≡ v.node = node_of right v eq in absurd (omega (arith, same))))
         (λ ne was. cases (i ≡ j) j u at_u
-            (λ _ eq'. off (sym (dealer_of left u eq')) is_u)
-            (λ _ eq'. let x = r.named i v was is_v in let y : n ≡ r.next = mine.1 in let z : n ≡ u.node = node_of right u eq' in absurd (omega (arith, same)))
-            (λ ne' was'. r.apart i j v u was was' is_v is_u same));
+        (λ _ eq'. off (sym (dealer_of left u eq')) is_u)
+        (λ _ eq'. let x = r.named i v was is_v in let y : n ≡ r.next = mine.1 in let z : n ≡ u.node = node_of right u eq' in absurd (omega (arith, same)))
+        (λ ne' was'. r.apart i j v u was was' is_v is_u same));
   }
 
 -- the dealer cuts the next name

@@ -29,9 +29,9 @@ pub opened_more : (places : TableId) (rack : RackId) (most : ℕ) (thieves : Lis
     → AreOpened places rack most thieves benches → IsOpened places rack most n t b → AreOpened places rack most (thieves ++ t ∷ []) (benches ++ b ∷ [])
 opened_more places rack most thieves benches t b n wide_t wide_b each last k x y near =
     each_more (λ j u. (z : Bench) → IsOpened places rack most j u (get_or (benches ++ b ∷ []) j z)) thieves t n wide_t
-      (λ j u below z. each_more (λ i c. (v : DequeStealer) → i < n → IsOpened places rack most i (get_or thieves i v) c) benches b n wide_b (λ i c under v _. each i v c (omega (arith, wide_b))) (λ v bad. absurd (omega arith)) j z (omega arith) u below)
-      (λ z. subst (IsOpened places rack most n t) (sym (get_or_push benches b z n wide_b)) last)
-      k x (omega (arith, length_push benches b)) y
+    (λ j u below z. each_more (λ i c. (v : DequeStealer) → i < n → IsOpened places rack most i (get_or thieves i v) c) benches b n wide_b (λ i c under v _. each i v c (omega (arith, wide_b))) (λ v bad. absurd (omega arith)) j z (omega arith) u below)
+    (λ z. subst (IsOpened places rack most n t) (sym (get_or_push benches b z n wide_b)) last)
+    k x (omega (arith, length_push benches b)) y
 
 -- ---- staying the same
 
@@ -101,5 +101,5 @@ pub have_more : (rack : RackId) (now next : List Bench) (passes : List DequePass
 have_more rack now next passes i x y asked have new within at step given = let last = set next i y in
     let still : AreSame SameButPasses now last = all_then SameButPasses but_then now next last (but_passes_of now next asked) (all_set SameButPasses but_self next i x y within at step) in
     each_set (λ j z. AreNewPasses rack last z.passes.items) next i y (i + 1) within
-      (λ j z below ne. let same = asked.each j z z (omega (arith, asked.count)) in subst (λ l. AreNewPasses rack last l) (sym (ap (λ v. v.items) same.passes)) (passes_still rack now last (get_or now j z).passes.items still (have j z (omega arith))))
-      (subst (λ l. AreNewPasses rack last l) (sym given) (passes_still rack now last passes still new))
+    (λ j z below ne. let same = asked.each j z z (omega (arith, asked.count)) in subst (λ l. AreNewPasses rack last l) (sym (ap (λ v. v.items) same.passes)) (passes_still rack now last (get_or now j z).passes.items still (have j z (omega arith))))
+    (subst (λ l. AreNewPasses rack last l) (sym given) (passes_still rack now last passes still new))

@@ -1,5 +1,5 @@
 -- Each step on the sleeping places keeps their rule.
-use Rattle.std.proofs.Common.{◌≡◌, ◌≢◌, ℕ, zero, suc, ◌+◌, ◌<◌, ◌≤◌, ◌⊎◌, ⊎_elim, Bool, true, false, true≢false, cond, eqb, eq-eqb, ne_eqb, List, [], ◌∷◌, ◌++◌, map, length, get_or, set, replicate, sym, refl, ap, ◌∙◌, subst, arith, length-set, get_or-set_same, get_or-set_other}
+use Rattle.std.proofs.Common.{◌≡◌, ◌≢◌, ℕ, zero, suc, ◌+◌, ◌<◌, ⊎_elim, Bool, true, false, cond, eqb, eq-eqb, ne_eqb, List, [], ◌∷◌, ◌++◌, map, length, get_or, set, replicate, sym, refl, ap, ◌∙◌, subst, arith, length-set, get_or-set_same, get_or-set_other}
 use Rattle.std.specs.Prelude.{MatchBool}
 use mathlib.Core.Logic.{dite}
 use mathlib.Core.Option.{Option, none, some, some-injective, some-ne-none}
@@ -12,8 +12,8 @@ use Rattle.gcd_steal.specs.declared.names.Name.{Name}
 use Rattle.gcd_steal.specs.declared.places.Change.{Change}
 use Rattle.gcd_steal.specs.declared.places.Sight.{Sight}
 use Rattle.gcd_steal.specs.Names.{IsName, AreNames}
-use Rattle.gcd_steal.specs.Places.{History, change, sleeps_after, Since, sight, newcomer, Log, changes_of, made_by, flag, HasBadge, HoldsSlot, Knows, Rests, Takes, Misses, Gives, Mine, WakingTells, LayingTells}
-use Rattle.gcd_steal.proofs.Lists.{off, only_at, at_end, in_range, none_there}
+use Rattle.gcd_steal.specs.Places.{History, change, sleeps_after, Since, sight, newcomer, Log, changes_of, made_by, flag, HoldsSlot, Knows, Rests, Takes, Misses, Gives, Mine, WakingTells, LayingTells}
+use Rattle.gcd_steal.proofs.Lists.{off, only_at, at_end, in_range}
 
 -- ---- histories
 
@@ -93,11 +93,11 @@ module _ (key : Badge Name) (slots id node : ℕ) (v : Sight) (near : node < slo
     size = length-set s.words (node + 8) (flag b) ∙ r.size ∙ ap (λ (n : ℕ). n + 8) (sym (length-set s.homes node h));
     words = λ j near_j. let in_old : j < length s.homes = omega (arith, length-set s.homes node h) in dite (ℕ_discrete node j)
         (λ same. subst (λ (i : ℕ). get_or (set s.words (node + 8) (flag b)) (i + 8) 0 ≡ flag (sleeps_after (changes_of (log_with b)) i)) same
-            (get_or-set_same s.words (node + 8) (flag b) 0 in_words ∙ ap flag (sym (sleeps_same (changes_of r.log) node node b refl))))
+        (get_or-set_same s.words (node + 8) (flag b) 0 in_words ∙ ap flag (sym (sleeps_same (changes_of r.log) node node b refl))))
         (λ ne. get_or-set_other s.words (node + 8) (j + 8) (flag b) 0 (λ e. ne (omega arith)) ∙ r.words j in_old ∙ ap flag (sym (sleeps_other (changes_of r.log) node j b ne)));
     badges = λ j near_j sleeps. let in_old : j < length s.homes = omega (arith, length-set s.homes node h) in dite (ℕ_discrete node j)
         (λ same. let x = fits (sym (sleeps_same (changes_of r.log) node j b same) ∙ sleeps) in
-            (x.0, subst (λ (i : ℕ). get_elem? (set s.homes node h) i ≡ some (some x.0)) same (set_here s.homes node h in_homes ∙ ap some x.1), subst (λ (i : ℕ). IsName key.table_id i x.0) same x.2))
+        (x.0, subst (λ (i : ℕ). get_elem? (set s.homes node h) i ≡ some (some x.0)) same (set_here s.homes node h in_homes ∙ ap some x.1), subst (λ (i : ℕ). IsName key.table_id i x.0) same x.2))
         (λ ne. let x = r.badges j in_old (sym (sleeps_other (changes_of r.log) node j b ne) ∙ sleeps) in (x.0, set_else s.homes node j h (λ e. ne (sym e)) ∙ x.1, x.2));
     knows = λ j u e. ⊎_elim
         (λ (t : (j ≡ id) × (grown b ≡ u)). knows_as (sym t.0) t.1 (record { names = mine.names; seen = since_self (changes_of (log_with b)); did = ap (λ (n : ℕ). n + 1) mine.did ∙ sym (made_here id (change node b) r.log) }))
@@ -132,17 +132,25 @@ told_at P node p n e = subst P (omega arith) p
 
 wakes_at : (key : Badge Name) (slots id node : ℕ) (me : Mine) → node < slots → me.1 ≡ [] → Allows (Rests key) slots id me (node + 8) (λ _. 0) (WakingTells (step slots (node + 8) 0 0 none) me)
 wakes_at key slots id node me near free s r wide at _ = let v = me.0 in let n = get_or s.words (node + 8) 0 in let in_range : node < length s.homes = omega (arith, wide) in let is = r.words node in_range in let k = r.knows id v at in
-  dite (ℕ_discrete n 1)
+    dite (ℕ_discrete n 1)
     (λ full. let up = flag_one (sleeps_after (changes_of r.log) node) (sym is ∙ full) in let b = r.badges node in_range up in
-      let w = sight v.names (change node false ∷ changes_of r.log) (v.did + 1) in let m : Mine = (w, (node, b.0) ∷ me.1) in
-      (w, takes node b.0, b.1, moved key slots id node v near s r wide at false none (λ e. off e refl),
-        told_at (λ (j : ℕ). (n ≡ 1 → Takes j me.0 w × HoldsSlot me.0.names j m.1) × (n ≢ 1 → Misses j me.0 w × (m.1 ≡ []))) node
-          ((λ _. ((changes_of r.log, refl, k.seen, up), (b.0, ap (λ (l : List (ℕ × Badge Name)). (node, b.0) ∷ l) free, same_names key r.log id node v b.0 k b.2))), λ ne. absurd (ne full))))
+    let w = sight v.names (change node false ∷ changes_of r.log) (v.did + 1) in let m : Mine = (w, (node, b.0) ∷ me.1) in (
+      w,
+      takes node b.0,
+      b.1,
+      moved key slots id node v near s r wide at false none (λ e. off e refl),
+      told_at (λ (j : ℕ). (n ≡ 1 → Takes j me.0 w × HoldsSlot me.0.names j m.1) × (n ≢ 1 → Misses j me.0 w × (m.1 ≡ []))) node
+          ((λ _. ((changes_of r.log, refl, k.seen, up), (b.0, ap (λ (l : List (ℕ × Badge Name)). (node, b.0) ∷ l) free, same_names key r.log id node v b.0 k b.2))), λ ne. absurd (ne full)),
+    ))
     (λ not_full. let down = flag_not (sleeps_after (changes_of r.log) node) (λ e. not_full (is ∙ e)) in
-      let w = sight v.names (changes_of r.log) v.did in let m : Mine = (w, me.1) in
-      (w, keeps, tt, looked key slots id node v near s r wide at 0 (sym (is ∙ down.1)),
-        told_at (λ (j : ℕ). (n ≡ 1 → Takes j me.0 w × HoldsSlot me.0.names j m.1) × (n ≢ 1 → Misses j me.0 w × (m.1 ≡ []))) node
-          ((λ e. absurd (not_full e)), λ _. ((refl, k.seen, down.0), free))))
+    let w = sight v.names (changes_of r.log) v.did in let m : Mine = (w, me.1) in (
+      w,
+      keeps,
+      tt,
+      looked key slots id node v near s r wide at 0 (sym (is ∙ down.1)),
+      told_at (λ (j : ℕ). (n ≡ 1 → Takes j me.0 w × HoldsSlot me.0.names j m.1) × (n ≢ 1 → Misses j me.0 w × (m.1 ≡ []))) node
+          ((λ e. absurd (not_full e)), λ _. ((refl, k.seen, down.0), free)),
+    ))
 
 -- a swap of the node's word takes its slot where the Drain sleeps
 pub wakes : (key : Badge Name) (slots id node i : ℕ) (me : Mine) → i ≡ node + 8 → node < slots → me.1 ≡ [] → Allows (Rests key) slots id me i (λ _. 0) (WakingTells (step slots i 0 0 none) me)
@@ -150,11 +158,14 @@ wakes key slots id node i me e near free = subst (λ (j : ℕ). Allows (Rests ke
 
 lies_at : (key : Badge Name) (slots id node : ℕ) (me : Mine) → node < slots → HoldsSlot me.0.names node me.1
     → Allows (Rests key) slots id me (node + 8) (λ _. 1) (λ _. LayingTells (step slots (node + 8) 1 0 none) me 1)
-lies_at key slots id node me near slot s r wide at _ = let v = me.0 in let k = r.knows id v at in let w = sight v.names (change node true ∷ changes_of r.log) (v.did + 1) in
-  (w, gives, tt,
-    subst (λ (c : List (ℕ × Badge Name)). Rests key (stepped s (node + 8) 1 id c w gives)) (sym slot.1)
+lies_at key slots id node me near slot s r wide at _ = let v = me.0 in let k = r.knows id v at in let w = sight v.names (change node true ∷ changes_of r.log) (v.did + 1) in (
+  w,
+  gives,
+  tt,
+  subst (λ (c : List (ℕ × Badge Name)). Rests key (stepped s (node + 8) 1 id c w gives)) (sym slot.1)
       (moved key slots id node v near s r wide at true (some slot.0) (λ _. (slot.0, refl, subst (λ (x : Badge Name). IsName x.table_id node slot.0) k.names slot.2))),
-    told_at (λ (j : ℕ). Gives j me.0 w × (rest me.1 ≡ [])) node ((changes_of r.log, refl, k.seen), ap rest slot.1))
+  told_at (λ (j : ℕ). Gives j me.0 w × (rest me.1 ≡ [])) node ((changes_of r.log, refl, k.seen), ap rest slot.1),
+)
 
 -- a store to the node's word gives its slot back
 pub lies : (key : Badge Name) (slots id node i : ℕ) (me : Mine) → i ≡ node + 8 → node < slots → HoldsSlot me.0.names node me.1

@@ -5,8 +5,8 @@ use crate::deque::{Deque, Pass, Thief};
 use crate::names::Names;
 use crate::places::{PlaceSeat, Places};
 
-/// What workers share: a sleeping place for each node of a plan, and a way to steal from each bench. It goes to threads by
-/// `&`, and none of its calls takes memory.
+/// What the workers of a run share: a sleeping place for each node of the plan, and a way to steal from each bench (this
+/// project's own rule). Threads share it by `&`.
 #[derive(Drop)]
 pub struct Rack {
     pub(crate) names: Names,
@@ -17,7 +17,8 @@ pub struct Rack {
     ghost placed: { (places.shared.table_id.slots ≡ length names.shared.key.objects) × (places.shared.table_id.words ≡ places.shared.table_id.slots + 8) },
 }
 
-/// What one worker has: its deque, and what it needs to wake and to steal. It may go to a thread of its own.
+/// What one worker has: its deque, and what it needs to wake, to sleep and to steal (this project's own rule). It may go to
+/// a thread of its own.
 #[derive(Drop)]
 pub struct Bench {
     pub(crate) deque: Deque,

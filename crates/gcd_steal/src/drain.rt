@@ -7,7 +7,9 @@ use crate::places::Sight;
 use atomic_table::{Badge, Seat};
 use gcd_plan::Obj;
 
-/// The right to drain one node, a queue or a source.
+/// The right to drain one node, a queue or a source. There is one for each node of the plan, so while it is held no other
+/// thread drains that node (dispatch_queue_create(3); the token is this project's own). It can't be copied. Dropping it is
+/// possible, and its node is then drained no more.
 #[derive(Drop)]
 pub struct Drain {
     // Its view names the node.
@@ -22,7 +24,7 @@ pub struct Drain {
 impl Drain {
     ghost use Rattle.gcd_steal.specs.Drains.{node_of};
 
-    /// The node that it may drain.
+    /// The node that it may drain (this project's own rule).
     pub fn node(&self) -> Obj
         ensures { result ≡ node_of self.now }
     {

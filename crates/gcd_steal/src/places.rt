@@ -15,6 +15,7 @@ pub const SPARE_WORDS: usize = 8;
 
 // The node's word where its Drain sleeps, and where it is out.
 pub const ASLEEP: u64 = 1;
+
 const AWAKE: u64 = 0;
 
 // A Drain was laid into its place, or taken from it. No value of it is made.
@@ -136,9 +137,7 @@ pub fn lay_in_place(places: &Places, drain: Drain) -> PlaceSeat
         mut place,
         node,
     } = drain;
-    places
-        .shared
-        .exchange(&mut place, node.0 as usize, badge);
+    places.shared.exchange(&mut place, node.0 as usize, badge);
     give_slot(places, &mut place, node);
     place
 }

@@ -18,7 +18,7 @@ use std::alloc::{AllocError, Global};
 use std::sync::Wait;
 
 impl Bench {
-    /// Its number: the benches have the numbers from 0 in the order of the list that [`Rack::new`] gives.
+    /// Its number, from 0: its place in the list that [`Rack::new`] gave (this project's own rule).
     pub fn number(&self) -> u8
         ensures { result ≡ number_of self.now }
     {
@@ -27,7 +27,10 @@ impl Bench {
 }
 
 impl Rack {
-    /// A rack of the plan with a bench for each worker.
+    /// A rack of the plan and a bench for each of its workers, in the order of their numbers (this project's own rule).
+    ///
+    /// Each node's one Drain sleeps in a place of its own. Each bench has a FIFO deque with room for `most` pushes in all.
+    /// There are 1 to 64 workers, and `most` is 1 to 65,536. The only refusal is want of memory, and then nothing is kept.
     pub fn new(
         alloc: Global,
         plan: &Plan,
@@ -61,7 +64,7 @@ impl Rack {
         Ok((made, benches))
     }
 
-    /// How many benches it has: 1 to 64.
+    /// How many benches it has, 1 to 64 (this project's own rule).
     pub fn benches(&self) -> u8
         ensures count { result ≡ benches_of self.now }
         ensures few { (0 < result) × (result ≤ 64) }
@@ -69,7 +72,11 @@ impl Rack {
         self.thieves.len() as u8
     }
 
-    /// Takes the Drain of the node asked for from its sleeping place.
+    /// Takes the Drain of the node asked for from its sleeping place (this project's own rule). The node is a queue or a
+    /// source of the rack's plan.
+    ///
+    /// None only where the Drain was not asleep at a moment of the call: at a moment when all had happened that the bench's
+    /// seat had seen, and the call itself had taken nothing. One swap, and where the Drain slept one load.
     pub fn wake(&self, bench: &mut Bench, node: Obj) -> Option<Drain>
         requires bench { IsBenchOf self.now bench.old }
         requires node { IsTrue (is_node (plan_of self.now) node.0) }
@@ -82,7 +89,8 @@ impl Rack {
         take_from_place(&self.places, &mut bench.seat, node)
     }
 
-    /// Lays the Drain into its sleeping place.
+    /// Lays the Drain into its sleeping place, where the next [`Rack::wake`] of its node finds it (this project's own rule).
+    /// The bench has then seen that it lies there. One store.
     pub fn sleep(&self, bench: &mut Bench, drain: Drain)
         requires bench { IsBenchOf self.now bench.old }
         requires drain { IsRackDrain self.now drain }
@@ -93,7 +101,10 @@ impl Rack {
         bench.seat = lay_in_place(&self.places, drain);
     }
 
-    /// Puts the Drain at the back of the bench's own deque.
+    /// Puts the Drain at the back of the bench's own deque (this project's own rule).
+    ///
+    /// Err exactly where the bench has pushed `most` times since [`Rack::new`], however many were taken since; the Drain
+    /// comes back then, and nothing has changed.
     pub fn push(&self, bench: &mut Bench, drain: Drain) -> Result<(), Drain>
         requires bench { IsBenchOf self.now bench.old }
         requires drain { IsRackDrain self.now drain }
@@ -106,7 +117,9 @@ impl Rack {
         bench.deque.push(drain)
     }
 
-    /// Takes the Drain at the front of the bench's own deque.
+    /// Takes the Drain at the front of the bench's own deque (this project's own rule).
+    ///
+    /// None only where that deque was empty at a moment of the call.
     pub fn pop(&self, bench: &mut Bench) -> Option<Drain>
         requires { IsBenchOf self.now bench.old }
         ensures bench { IsBenchOf self.now bench.new }
@@ -118,7 +131,10 @@ impl Rack {
         bench.deque.pop()
     }
 
-    /// Takes the Drain at the front of another bench's deque.
+    /// Takes the Drain at the front of the deque of another bench, by its number (this project's own rule).
+    ///
+    /// None only where that deque was empty at a moment of the call. Where another thread takes first it tries again, so it
+    /// may wait for others, and what it promises holds if it returns.
     pub fn steal<R: Wait>(&self, rt: &R, bench: &mut Bench, victim: u8) -> Option<Drain>
         requires bench { IsBenchOf self.now bench.old }
         requires victim { (victim < benches_of self.now) × (victim ≢ number_of bench.old) }

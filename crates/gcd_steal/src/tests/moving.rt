@@ -12,7 +12,9 @@ use std::test::Fail;
 use std::thread::{Threads, for_each_mut, yield_now};
 
 const NODES: u32 = 64;
+
 const BENCHES: u8 = 4;
+
 const ROUNDS: u32 = 25_000;
 
 // A flag for each node, set while a bench holds its Drain; how often one was found set; and how often each Drain was found
@@ -69,13 +71,7 @@ fn next(seed: u32) -> u32 {
 }
 
 // Takes a Drain in the way that the number says: from the bench's deque, from another's or from its place.
-fn take<R: Wait>(
-    rt: &R,
-    rack: &Rack,
-    plan: &Plan,
-    bench: &mut Bench,
-    number: u32,
-) -> Option<Drain>
+fn take<R: Wait>(rt: &R, rack: &Rack, plan: &Plan, bench: &mut Bench, number: u32) -> Option<Drain>
     requires { IsBenchOf rack.now bench.old × (plan_of rack.now ≡ plan.now) }
     ensures bench { IsBenchOf rack.now bench.new }
     ensures drain { IfSome result (λ d. IsRackDrain rack.now d) }
@@ -160,13 +156,7 @@ fn wake_all(rack: &Rack, plan: &Plan, bench: &mut Bench, watch: &Watch)
     }
 }
 
-fn find_all<R: Threads + Sync>(
-    rt: &R,
-    rack: &Rack,
-    plan: &Plan,
-    team: &mut [Bench],
-    watch: &Watch,
-)
+fn find_all<R: Threads + Sync>(rt: &R, rack: &Rack, plan: &Plan, team: &mut [Bench], watch: &Watch)
     requires { All (λ b. IsBenchOf rack.now b) team.old × (plan_of rack.now ≡ plan.now) }
 {
     let each = |_place: usize, bench: &mut Bench|

@@ -1,4 +1,4 @@
-use Rattle.std.proofs.Common.{◌≡◌, ℕ, ◌+◌, ◌<◌, get_or, length, replicate, rules, arith, ap, ◌∙◌, sym, subst}
+use Rattle.std.proofs.Common.{◌≡◌, ℕ, ◌+◌, get_or, length, replicate, rules, arith, ap, ◌∙◌, sym, subst}
 use Rattle.gcd_steal.specs.Names.{AreNames}
 use Rattle.gcd_steal.proofs.Placing.{all_sleep, twins, ones}
 use Rattle.gcd_steal.proofs.lay.lay_all.Goals as goal

@@ -1,4 +1,4 @@
-use Rattle.std.proofs.Common.{◌<◌, length, ap, rules, arith}
+use Rattle.std.proofs.Common.{◌<◌, length, ap, arith}
 use Rattle.gcd_steal.proofs.Opening.{know_still, given_none, given_more, have_more}
 use Rattle.gcd_steal.proofs.make.hand_out_passes.Goals as goal
 

@@ -12,5 +12,5 @@ loop-number-preserved c = let i = c.loop-number.invariant in let places = c.args
   benches = search rules;
   thieves = search rules;
   opened = subst (λ (l : List DequeStealer × List Bench). AreOpened places rack c.args.most l.0 l.1) (λ k. (sym c.in_ok-push-2.ensures.items k, sym c.in_ok-push.ensures.items k))
-    (opened_more places rack c.args.most c.loop-number.thieves.items c.loop-number.benches.items c.in_ok-bench.thief c.in_ok-bench.bench c.loop-number.number i.thieves i.benches i.opened c.in_ok-bench.ensures.opened);
+      (opened_more places rack c.args.most c.loop-number.thieves.items c.loop-number.benches.items c.in_ok-bench.thief c.in_ok-bench.bench c.loop-number.number i.thieves i.benches i.opened c.in_ok-bench.ensures.opened);
 }

@@ -14,7 +14,7 @@ loop-k-preserved c = let i = c.loop-k.invariant in let now = c.loop-k.benches.it
       same = same_more _ now c.loop-k.k x c.split_pass_of.new.bench i.same within c.index_mut.ensures.value c.split_pass_of.ensures.same;
       count = search rules;
       made = subst (λ passes. (j : ℕ) (b : Bench) (q : DequePass) → j < c.loop-k.k + 1 → IsNewPass c.args.rack.now (get_or c.args.benches.now.items j b) (get_or passes j q)) (sym c.in_ok-push.ensures.items)
-        (made_more c.args.rack.now c.args.benches.now.items c.loop-k.passes.items p c.loop-k.k i.count i.made (made_one c.args.rack.now c.args.benches.now.items now c.loop-k.k x p i.same within c.index_mut.ensures.value c.split_pass_of.ensures.pass));
+          (made_more c.args.rack.now c.args.benches.now.items c.loop-k.passes.items p c.loop-k.k i.count i.made (made_one c.args.rack.now c.args.benches.now.items now c.loop-k.k x p i.same within c.index_mut.ensures.value c.split_pass_of.ensures.pass));
     }
 
 pub returns-clause-passes : goal.returns-clause-passes

@@ -1,4 +1,4 @@
-use Rattle.std.proofs.Common.{rules, arith, ap, ◌∙◌, ◌∷◌}
+use Rattle.std.proofs.Common.{rules}
 use Rattle.gcd_steal.proofs.Placing.{first_of, none_else}
 use Rattle.gcd_steal.proofs.places.lay_in_place.Goals as goal
 

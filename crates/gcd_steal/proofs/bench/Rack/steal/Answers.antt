@@ -16,4 +16,4 @@ returns-clause-drain g c = let k = c.args.victim in let l = c.args.bench.now.pas
 pub returns-clause-empty : goal.returns-clause-empty
 returns-clause-empty g c = let k = c.args.victim in let l = c.args.bench.now.passes.items in let old = c.index_mut.result.now in let new = c.steal_until_told.new.pass in let v = known_by old in let w = known_by new in let b = c.requires.bench in
     got_none c.steal_until_told.result ((w ≡ v) × WasEmpty v) _ _
-      (λ empty. (v, w, (old, omega arith, sym c.index_mut.ensures.value, refl), (new, omega (arith, length-set l k new), get_or-set_same l k new new (omega arith), refl), empty)) c.steal_until_told.ensures.rule
+    (λ empty. (v, w, (old, omega arith, sym c.index_mut.ensures.value, refl), (new, omega (arith, length-set l k new), get_or-set_same l k new new (omega arith), refl), empty)) c.steal_until_told.ensures.rule
