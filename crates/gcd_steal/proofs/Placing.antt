@@ -1,5 +1,5 @@
 -- Each step on the sleeping places keeps their rule.
-use Rattle.std.proofs.Common.{◌≡◌, ◌≢◌, ℕ, zero, suc, ◌+◌, ◌<◌, ⊎_elim, Bool, true, false, cond, eqb, eq-eqb, ne_eqb, List, [], ◌∷◌, ◌++◌, map, length, get_or, set, replicate, sym, refl, ap, ◌∙◌, subst, arith, length-set, get_or-set_same, get_or-set_other}
+use Rattle.std.proofs.Common.{◌≡◌, ◌≢◌, ℕ, zero, suc, ◌+◌, ◌<◌, ⊎_elim, Bool, true, false, cond, eqb, eq-eqb, ne_eqb, List, [], ◌∷◌, map, length, get_or, set, replicate, sym, refl, ap, ◌∙◌, subst, arith, length-set, get_or-set_same, get_or-set_other}
 use Rattle.std.specs.Prelude.{MatchBool}
 use mathlib.Core.Logic.{dite}
 use mathlib.Core.Option.{Option, none, some, some-injective, some-ne-none}
@@ -13,7 +13,7 @@ use Rattle.gcd_steal.specs.declared.places.Change.{Change}
 use Rattle.gcd_steal.specs.declared.places.Sight.{Sight}
 use Rattle.gcd_steal.specs.Names.{IsName, AreNames}
 use Rattle.gcd_steal.specs.Places.{History, change, sleeps_after, Since, sight, newcomer, Log, changes_of, made_by, flag, HoldsSlot, Knows, Rests, Takes, Misses, Gives, Mine, WakingTells, LayingTells}
-use Rattle.gcd_steal.proofs.Lists.{off, only_at, at_end, in_range}
+use Rattle.gcd_steal.proofs.Lists.{off, only_at, at_end, in_range, longer}
 
 -- ---- histories
 
@@ -59,10 +59,7 @@ twins key id v s r at = let mine = r.knows id v at in let new = newcomer v in le
       (λ (t : (j ≡ length cut) × (new ≡ u)). knows_as (sym t.0) t.1 (record { names = mine.names; seen = mine.seen; did = sym (r.seated (length cut) (omega (arith, length-set s.views id v))) }))
       (at_end cut new u j e);
   seated = λ j above. r.seated j (omega (arith, above, length-set s.views id v, longer cut new));
-} where
-  longer : (l : List Sight) (x : Sight) → length (l ++ x ∷ []) ≡ suc (length l)
-  longer [] x = refl
-  longer (y ∷ l) x = ap suc (longer l x)
+}
 
 -- ---- a step on a node's word
 

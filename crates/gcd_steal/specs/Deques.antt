@@ -1,4 +1,5 @@
--- The rule of a bench's deque: what owner and thieves took, in the order of their steps, is a front of what was pushed, and the rest is left in it.
+-- The rule of a bench's deque: what owner and thieves took, in the order of their steps, is a front of what was pushed,
+-- and the rest is left in it.
 use Rattle.std.specs.Prelude.{◌≡◌, ℕ, ◌<◌, ◌==◌, ◌++◌, Bool, true, false, if◌then◌else◌, List, [], ◌∷◌, length, map}
 use mathlib.Core.Option.{some}
 use lib.ListN.{get_elem?}
@@ -40,7 +41,8 @@ pub record TakenInOrder (items : List Drain) (views : List Account) : Type 0 whe
   pub whole : pushed ≡ drains_of takings ++ items
   pub right : AllOf rack items
   pub each : (pass : ℕ) (v : Account) → get_elem? views pass ≡ some v → IsTrueOf rack pushed takings pass v
-  pub fresh : (pass : ℕ) (v : Account) → get_elem? views pass ≡ some v → v.fresh ≡ true → (items ≡ []) × (length views ≡ 1) × (takings ≡ [])
+  pub fresh : (pass : ℕ) (v : Account) → get_elem? views pass ≡ some v
+      → v.fresh ≡ true → (items ≡ []) × (length views ≡ 1) × (takings ≡ [])
   pub passes : (i : ℕ) (t : ℕ × Drain) → get_elem? takings i ≡ some t → t.0 < length views
 
 -- at one moment the deque held these Drains, the front first: it kept its rule, and this pass knew what it knows
@@ -56,11 +58,16 @@ Sends v drains w = w ≡ account v.fresh v.owns v.rack (v.sent ++ drains) v.took
 
 -- the pass took these Drains, which were at the front
 abbrev pub Gets : Account → List Drain → Account → Type 0
-Gets v drains w = (w ≡ account v.fresh v.owns v.rack v.sent (v.took ++ drains)) × ((rest : List Drain) × Held v (drains ++ rest))
+Gets v drains w =
+    (w ≡ account v.fresh v.owns v.rack v.sent (v.took ++ drains))
+    × ((rest : List Drain) × Held v (drains ++ rest))
 
 -- no rack, for what is known before a rack is
 abbrev pub no_table : TableId
 no_table = record { words = 0; slots = 0; views_name = 0; atom = 0; block = 0; offset = 0; slot_names = [] }
 
 abbrev pub no_rack : RackId
-no_rack = record { names = record { marker = record {}; table_id = no_table; id = 0; views = [] }; places = record { marker = record {}; table_id = no_table; id = 0; views = [] } }
+no_rack = record {
+  names = record { marker = record {}; table_id = no_table; id = 0; views = [] };
+  places = record { marker = record {}; table_id = no_table; id = 0; views = [] };
+}

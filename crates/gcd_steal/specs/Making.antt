@@ -21,11 +21,14 @@ pub record IsOpened (places : TableId) (rack : RackId) (most number : ℕ) (t : 
 
 -- new benches by number, with the stealers of their deques
 abbrev pub AreOpened : TableId → RackId → ℕ → List DequeStealer → List Bench → Type 0
-AreOpened places rack most thieves benches = (k : ℕ) (t : DequeStealer) (b : Bench) → k < length benches → IsOpened places rack most k (slice_index_or thieves k t) (slice_index_or benches k b)
+AreOpened places rack most thieves benches =
+    (k : ℕ) (t : DequeStealer) (b : Bench) → k < length benches
+    → IsOpened places rack most k (slice_index_or thieves k t) (slice_index_or benches k b)
 
 -- each bench's deque knows the rack
 abbrev pub KnowRack : RackId → List Bench → Type 0
-KnowRack rack benches = (k : ℕ) (b : Bench) → k < length benches → (own_account (slice_index_or benches k b)).rack ≡ rack
+KnowRack rack benches =
+    (k : ℕ) (b : Bench) → k < length benches → (own_account (slice_index_or benches k b)).rack ≡ rack
 
 -- c is the bench b but for its passes and what no clause reads
 pub record SameButPasses (b c : Bench) : Type 0 where
@@ -53,8 +56,10 @@ IsNewPass rack b p = IsPassOf (worker_deque b.deque.worker) p × (known_by p ≡
 -- a new pass of each bench's deque, by number
 pub record AreNewPasses (rack : RackId) (benches : List Bench) (passes : List DequePass) : Type 0 where
   pub count : length passes ≡ length benches
-  pub each : (k : ℕ) (b : Bench) (p : DequePass) → k < length benches → IsNewPass rack (slice_index_or benches k b) (slice_index_or passes k p)
+  pub each : (k : ℕ) (b : Bench) (p : DequePass) → k < length benches
+      → IsNewPass rack (slice_index_or benches k b) (slice_index_or passes k p)
 
 -- the first n benches have a new pass of each bench's deque
 abbrev pub HavePasses : RackId → List Bench → ℕ → Type 0
-HavePasses rack benches n = (k : ℕ) (b : Bench) → k < n → AreNewPasses rack benches (slice_index_or benches k b).passes.items
+HavePasses rack benches n =
+    (k : ℕ) (b : Bench) → k < n → AreNewPasses rack benches (slice_index_or benches k b).passes.items

@@ -15,9 +15,12 @@ name dealer node = record { dealer = dealer; node = node }
 pub record Apart {S : Type 0} (s : State S Name) : Type 0 where
   pub dealer : ℕ
   pub next : ℕ
-  pub deals : (j : ℕ) (v : Name) → get_elem? s.views j ≡ some v → v.dealer ≡ true → (j ≡ dealer) × (v.node ≡ next)
-  pub named : (j : ℕ) (v : Name) → get_elem? s.views j ≡ some v → v.dealer ≡ false → v.node < next
-  pub apart : (i j : ℕ) (v u : Name) → get_elem? s.views i ≡ some v → get_elem? s.views j ≡ some u → v.dealer ≡ false → u.dealer ≡ false → v.node ≡ u.node → i ≡ j
+  pub deals : (j : ℕ) (v : Name) → get_elem? s.views j ≡ some v
+      → v.dealer ≡ true → (j ≡ dealer) × (v.node ≡ next)
+  pub named : (j : ℕ) (v : Name) → get_elem? s.views j ≡ some v
+      → v.dealer ≡ false → v.node < next
+  pub apart : (i j : ℕ) (v u : Name) → get_elem? s.views i ≡ some v → get_elem? s.views j ≡ some u
+      → v.dealer ≡ false → u.dealer ≡ false → v.node ≡ u.node → i ≡ j
 
 -- the badge is of this table of names, and its view names the node
 abbrev pub IsName : TableId → ℕ → Badge Name → Type 0

@@ -3,7 +3,9 @@ use Rattle.std.specs.Prelude.{◌≡◌, ◌≢◌, ℕ, ◌+◌, ◌<◌, ◌�
 use mathlib.Core.Option.{Option, some}
 use lib.ListN.{get_elem?}
 use Rattle.atomic_table.specs.Table.{State, Me, Step}
+use Rattle.atomic_table.specs.Seated.{TableId}
 use Rattle.atomic_table.specs.declared.badge.Badge.{Badge}
+use Rattle.atomic_table.specs.declared.shared.Seat.{Seat}
 use Rattle.gcd_steal.specs.declared.names.Name.{Name}
 use Rattle.gcd_steal.specs.declared.places.Change.{Change}
 use Rattle.gcd_steal.specs.declared.places.Sight.{Sight}
@@ -58,33 +60,48 @@ pub record Knows (key : Badge Name) (log : Log) (seat : ℕ) (v : Sight) : Type 
   pub seen : Since (changes_of log) v.seen
   pub did : v.did ≡ made_by seat log
 
--- the rule of the places: the words say which Drains sleep, the badge of each of those lies in its slot, and what seats know is true
+-- the rule of the places: the words say which Drains sleep, the badge of each of those lies in its slot, and what seats
+-- know is true
 pub record Rests (key : Badge Name) (s : State (Badge Name) Sight) : Type 0 where
   pub log : Log
   pub size : length s.words ≡ length s.homes + 8
-  pub words : (node : ℕ) → node < length s.homes → slice_index s.words (node + 8) ≡ flag (sleeps_after (changes_of log) node)
-  pub badges : (node : ℕ) → node < length s.homes → sleeps_after (changes_of log) node ≡ true → HasBadge key s.homes node
+  pub words : (node : ℕ) → node < length s.homes
+      → slice_index s.words (node + 8) ≡ flag (sleeps_after (changes_of log) node)
+  pub badges : (node : ℕ) → node < length s.homes
+      → sleeps_after (changes_of log) node ≡ true → HasBadge key s.homes node
   pub knows : (seat : ℕ) (v : Sight) → get_elem? s.views seat ≡ some v → Knows key log seat v
   pub seated : (seat : ℕ) → length s.views ≤ seat → made_by seat log ≡ 0
 
--- the seat took the node's Drain, which slept: that is the newest change of the history, which began with all that the seat had seen
+-- the seat took the node's Drain, which slept: that is the newest change of the history, which began with all that the
+-- seat had seen
 abbrev pub Takes : ℕ → Sight → Sight → Type 0
-Takes node v w = (history : History) × (w ≡ sight v.names (change node false ∷ history) (v.did + 1)) × Since history v.seen × (sleeps_after history node ≡ true)
+Takes node v w =
+    (history : History) × (w ≡ sight v.names (change node false ∷ history) (v.did + 1))
+    × Since history v.seen × (sleeps_after history node ≡ true)
 
--- the seat saw the history at a moment when the node's Drain did not sleep, and made no change
+-- the seat saw the history, which began with all that it had seen, at a moment when the node's Drain did not sleep, and
+-- made no change
 abbrev pub Misses : ℕ → Sight → Sight → Type 0
-Misses node v w = (w ≡ sight v.names w.seen v.did) × Since w.seen v.seen × (sleeps_after w.seen node ≡ false)
+Misses node v w =
+    (w ≡ sight v.names w.seen v.did) × Since w.seen v.seen × (sleeps_after w.seen node ≡ false)
 
--- the seat laid the node's Drain down: that is the newest change of the history
+-- the seat laid the node's Drain down: that is the newest change of the history, which began with all that it had seen
 abbrev pub Gives : ℕ → Sight → Sight → Type 0
-Gives node v w = (history : History) × (w ≡ sight v.names (change node true ∷ history) (v.did + 1)) × Since history v.seen
+Gives node v w =
+    (history : History) × (w ≡ sight v.names (change node true ∷ history) (v.did + 1)) × Since history v.seen
 
 abbrev pub Mine : Type 0
 Mine = Me (Badge Name) Sight
 
+-- a seat of this table of places, which has 8 spare words and then a word for each slot
+pub record IsSeatOf (table : TableId) (seat : Seat (Badge Name) Sight) : Type 0 where
+  pub table_is : seat.table_id ≡ table
+  pub size : table.words ≡ table.slots + 8
+
 -- the slot of the node alone is out with the seat, and the badge that names the node lies in it
 abbrev pub HoldsSlot : Badge Name → ℕ → List (ℕ × Badge Name) → Type 0
-HoldsSlot names node slots = (b : Badge Name) × (slots ≡ (node, b) ∷ []) × IsName names.table_id node b
+HoldsSlot names node slots =
+    (b : Badge Name) × (slots ≡ (node, b) ∷ []) × IsName names.table_id node b
 
 -- what a swap of a node's word tells: where it found 1 the seat has the node's slot, with the badge that names the node
 abbrev pub WakingTells : Step (Badge Name) → Mine → ℕ → Mine → Type 0

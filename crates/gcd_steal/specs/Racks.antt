@@ -60,27 +60,36 @@ own_account b = worker_view b.deque.worker
 
 -- what the bench knows of the deque of another: what it stole
 abbrev pub IsAccountAt : Bench → ℕ → Account → Type 0
-IsAccountAt b victim v = (p : DequePass) × (victim < length b.passes.items) × (slice_index_or b.passes.items victim p ≡ p) × (known_by p ≡ v)
+IsAccountAt b victim v =
+    (p : DequePass) × (victim < length b.passes.items) × (slice_index_or b.passes.items victim p ≡ p)
+    × (known_by p ≡ v)
 
 -- what a steal tells of what the bench knew of the victim's deque before and knows after
 abbrev pub StealTells : ℕ → Bench → Bench → (Account → Account → Type 0) → Type 0
-StealTells victim b c tells = (v : Account) × (w : Account) × IsAccountAt b victim v × IsAccountAt c victim w × tells v w
+StealTells victim b c tells =
+    (v : Account) × (w : Account) × IsAccountAt b victim v × IsAccountAt c victim w × tells v w
 
 -- it is the rack that is meant
 abbrev pub IsIdOf : Rack → RackId → Type 0
 IsIdOf r id = (id.names.table_id ≡ r.names.shared.table_id) × (id.places.table_id ≡ r.places.shared.table_id)
 
--- it is a bench of this rack: its deque is the one from which others steal by its number, and each of its passes is of that bench's deque
+-- it is a bench of this rack: its deque is the one from which others steal by its number, and its pass of each number is
+-- one of that bench's deque
 pub record IsBenchOf (r : Rack) (b : Bench) : Type 0 where
   pub number : b.number < benches_of r
   pub seat : b.seat.table_id ≡ r.places.shared.table_id
   pub names : b.seat.me.0.names.table_id ≡ r.names.shared.table_id
   pub rack : IsIdOf r (own_account b).rack
-  pub own : (t : DequeStealer) → stealer_deque (slice_index_or r.thieves.items b.number t) ≡ worker_deque b.deque.worker
+  pub own : (t : DequeStealer)
+      → stealer_deque (slice_index_or r.thieves.items b.number t) ≡ worker_deque b.deque.worker
   pub count : length b.passes.items ≡ benches_of r
-  pub table : (k : ℕ) (t : DequeStealer) (p : DequePass) → k < benches_of r → IsPassOf (stealer_deque (slice_index_or r.thieves.items k t)) (slice_index_or b.passes.items k p)
-  pub fifo : (k : ℕ) (t : DequeStealer) → k < benches_of r → stealer_flavor (slice_index_or r.thieves.items k t) ≡ 0
-  pub known : (k : ℕ) (p : DequePass) → k < benches_of r → ((known_by (slice_index_or b.passes.items k p)).fresh ≡ false) × IsIdOf r (known_by (slice_index_or b.passes.items k p)).rack
+  pub table : (k : ℕ) (t : DequeStealer) (p : DequePass) → k < benches_of r
+      → IsPassOf (stealer_deque (slice_index_or r.thieves.items k t)) (slice_index_or b.passes.items k p)
+  pub fifo : (k : ℕ) (t : DequeStealer) → k < benches_of r
+      → stealer_flavor (slice_index_or r.thieves.items k t) ≡ 0
+  pub known : (k : ℕ) (p : DequePass) → k < benches_of r
+      → ((known_by (slice_index_or b.passes.items k p)).fresh ≡ false)
+      × IsIdOf r (known_by (slice_index_or b.passes.items k p)).rack
 
 -- the benches have the numbers from 0 in their order
 abbrev pub AreNumbered : List Bench → Type 0
@@ -92,7 +101,8 @@ pub record IsUnused (most : ℕ) (b : Bench) : Type 0 where
   pub pushed : pushed_by b ≡ 0
   pub sent : (own_account b).sent ≡ []
   pub took : (own_account b).took ≡ []
-  pub stole : (k : ℕ) (p : DequePass) → k < length b.passes.items → (known_by (slice_index_or b.passes.items k p)).took ≡ []
+  pub stole : (k : ℕ) (p : DequePass) → k < length b.passes.items
+      → (known_by (slice_index_or b.passes.items k p)).took ≡ []
   pub seen : (sight_of b).seen ≡ []
   pub did : (sight_of b).did ≡ 0
 
@@ -108,4 +118,5 @@ SameButDeque b c = (c.number ≡ b.number) × (c.seat ≡ b.seat) × (c.passes �
 abbrev pub SameButPass : ℕ → Bench → Bench → Type 0
 SameButPass victim b c =
     (c.number ≡ b.number) × (c.deque ≡ b.deque) × (c.seat ≡ b.seat)
-    × ((k : ℕ) (p : DequePass) → k ≢ victim → slice_index_or c.passes.items k p ≡ slice_index_or b.passes.items k p)
+    × ((k : ℕ) (p : DequePass) → k ≢ victim
+    → slice_index_or c.passes.items k p ≡ slice_index_or b.passes.items k p)

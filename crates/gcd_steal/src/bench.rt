@@ -14,7 +14,8 @@ pub struct Rack {
     // By the number of the bench.
     pub(crate) thieves: Vec<Thief>,
     ghost few: { (0 < length thieves.items) × (length thieves.items ≤ 64) },
-    ghost placed: { (places.shared.table_id.slots ≡ length names.shared.key.objects) × (places.shared.table_id.words ≡ places.shared.table_id.slots + 8) },
+    ghost placed: { places.shared.table_id.slots ≡ length names.shared.key.objects },
+    ghost sized: { places.shared.table_id.words ≡ places.shared.table_id.slots + 8 },
 }
 
 /// What one worker has: its deque, and what it needs to wake, to sleep and to steal (this project's own rule). It may go to

@@ -1,5 +1,5 @@
 // The deque of one bench: its owner pushes and pops, other benches steal.
-ghost use Rattle.std.specs.Prelude.{◌≡◌, ◌≤◌, ◌+◌, ◌<◌, true, false, [], ◌∷◌, length, MatchResult, MatchOption, IfOk};
+ghost use Rattle.std.specs.Prelude.{◌≡◌, ◌≤◌, ◌+◌, ◌<◌, true, false, [], ◌∷◌, ◌↔◌, length, MatchOption, IfOk, OnOk, IsErr, IfErr};
 ghost use Rattle.crossbeam_deque.specs.Handles.{view, IsPassOf, worker_deque, worker_view, worker_flavor, worker_capacity, worker_index, stealer_deque, stealer_flavor};
 ghost use Rattle.gcd_steal.specs.Drains.{IsOf};
 ghost use Rattle.gcd_steal.specs.Deques.{account, Sends, Gets, WasEmpty};
@@ -110,8 +110,12 @@ impl Deque {
     // Puts the Drain at the back. It comes back exactly where `most` were pushed.
     pub fn push(&mut self, drain: Drain) -> Result<(), Drain>
         requires { IsOf (worker_view self.old.worker).rack drain }
-        ensures same { (worker_deque self.new.worker ≡ worker_deque self.old.worker) × (self.new.most ≡ self.old.most) }
-        ensures rule { MatchResult result (λ _. (self.old.pushed < self.old.most) × (self.new.pushed ≡ self.old.pushed + 1) × Sends (worker_view self.old.worker) (drain ∷ []) (worker_view self.new.worker)) (λ d. (d ≡ drain) × (self.old.pushed ≡ self.old.most) × (self.new ≡ self.old)) }
+        ensures same { (worker_deque self.new.worker ≡ worker_deque self.old.worker)
+            × (self.new.most ≡ self.old.most) }
+        ensures room { IsErr result ↔ (self.old.pushed ≡ self.old.most) }
+        ensures pushed { OnOk result ((self.new.pushed ≡ self.old.pushed + 1)
+            × Sends (worker_view self.old.worker) (drain ∷ []) (worker_view self.new.worker)) }
+        ensures refused { IfErr result (λ d. (d ≡ drain) × (self.new ≡ self.old)) }
     {
         if self.pushed >= self.most {
             return Err(drain);
@@ -127,8 +131,11 @@ impl Deque {
 
     // Takes the Drain at the front.
     pub fn pop(&mut self) -> Option<Drain>
-        ensures same { (worker_deque self.new.worker ≡ worker_deque self.old.worker) × (self.new.most ≡ self.old.most) × (self.new.pushed ≡ self.old.pushed) }
-        ensures rule { MatchOption result ((worker_view self.new.worker ≡ worker_view self.old.worker) × WasEmpty (worker_view self.old.worker)) (λ d. Gets (worker_view self.old.worker) (d ∷ []) (worker_view self.new.worker)) }
+        ensures same { (worker_deque self.new.worker ≡ worker_deque self.old.worker)
+            × (self.new.most ≡ self.old.most) × (self.new.pushed ≡ self.old.pushed) }
+        ensures rule { MatchOption result
+            ((worker_view self.new.worker ≡ worker_view self.old.worker) × WasEmpty (worker_view self.old.worker))
+            (λ d. Gets (worker_view self.old.worker) (d ∷ []) (worker_view self.new.worker)) }
     {
         self.worker.pop_as::<Taking>()
     }
@@ -136,7 +143,9 @@ impl Deque {
     // A further pass of the deque.
     pub fn another(&mut self, rack: &RackId) -> Pass
         requires { (worker_view self.old.worker).rack ≡ rack.now }
-        ensures same { (worker_deque self.new.worker ≡ worker_deque self.old.worker) × (self.new.most ≡ self.old.most) × (self.new.pushed ≡ self.old.pushed) × (worker_view self.new.worker ≡ worker_view self.old.worker) }
+        ensures same { (worker_deque self.new.worker ≡ worker_deque self.old.worker)
+            × (self.new.most ≡ self.old.most) × (self.new.pushed ≡ self.old.pushed)
+            × (worker_view self.new.worker ≡ worker_view self.old.worker) }
         ensures pass { IsPassOf (worker_deque self.old.worker) result × (view result ≡ account false false rack.now [] []) }
     {
         split_pass::<Brand>(&mut self.worker, rack)
@@ -144,11 +153,17 @@ impl Deque {
 }
 
 fn split_pass<N: OfRack>(worker: &mut Owner, rack: &RackId) -> Pass
-    requires owner { ((worker_view worker.old).owns ≡ true) × ((worker_view worker.old).fresh ≡ false → (worker_view worker.old).rack ≡ rack.now) }
+    requires owner { (worker_view worker.old).owns ≡ true }
+    requires rack { (worker_view worker.old).fresh ≡ false → (worker_view worker.old).rack ≡ rack.now }
     requires picked { N.rack ≡ rack.now }
-    ensures worker { (worker_deque worker.new ≡ worker_deque worker.old) × (worker_flavor worker.new ≡ worker_flavor worker.old) × (worker_capacity worker.old ≤ worker_capacity worker.new) × (worker_index worker.new ≡ worker_index worker.old) }
+    ensures worker { (worker_deque worker.new ≡ worker_deque worker.old)
+        × (worker_flavor worker.new ≡ worker_flavor worker.old)
+        × (worker_capacity worker.old ≤ worker_capacity worker.new)
+        × (worker_index worker.new ≡ worker_index worker.old) }
     ensures pass { IsPassOf (worker_deque worker.old) result }
-    ensures views { (worker_view worker.new ≡ account false true rack.now (worker_view worker.old).sent (worker_view worker.old).took) × (view result ≡ account false false rack.now [] []) }
+    ensures old { worker_view worker.new
+        ≡ account false true rack.now (worker_view worker.old).sent (worker_view worker.old).took }
+    ensures new { view result ≡ account false false rack.now [] [] }
 {
     let _ = rack;
     worker.another::<NewPass<N>>()
@@ -157,8 +172,10 @@ fn split_pass<N: OfRack>(worker: &mut Owner, rack: &RackId) -> Pass
 // A deque with room for `most` pushes, and its stealer.
 pub fn open_deque(alloc: Global, rack: &RackId, most: u32) -> Result<(Deque, Thief), AllocError>
     requires { (0 < most) × (most ≤ 65536) }
-    ensures deque { IfOk result (λ r. (worker_view r.0.worker ≡ account false true rack.now [] []) × (r.0.most ≡ most) × (r.0.pushed ≡ 0)) }
-    ensures thief { IfOk result (λ r. (stealer_deque r.1 ≡ worker_deque r.0.worker) × (stealer_flavor r.1 ≡ 0)) }
+    ensures deque { IfOk result (λ r. (worker_view r.0.worker ≡ account false true rack.now [] [])
+        × (r.0.most ≡ most) × (r.0.pushed ≡ 0)) }
+    ensures thief { IfOk result (λ r. (stealer_deque r.1 ≡ worker_deque r.0.worker)
+        × (stealer_flavor r.1 ≡ 0)) }
 {
     let mut worker = Owner::fifo_as(alloc, most as usize)?;
     let thief = worker.stealer()?;

@@ -21,9 +21,12 @@ pub struct Laid {
 // Names each object of the plan and lays its badge into its place.
 pub fn lay_all(alloc: Global, plan: &Plan) -> Result<Laid, AllocError>
     ensures plan { IfOk result (λ l. l.names.shared.key ≡ plan.now) }
-    ensures size { IfOk result (λ l. (l.places.shared.table_id.slots ≡ length plan.now.objects) × (l.places.shared.table_id.words ≡ length plan.now.objects + 8)) }
-    ensures rack { IfOk result (λ l. (l.rack.names.table_id ≡ l.names.shared.table_id) × (l.rack.places.table_id ≡ l.places.shared.table_id)) }
-    ensures seat { IfOk result (λ l. (l.seat.table_id ≡ l.places.shared.table_id) × (l.seat.me ≡ (sight l.rack.names [] 0, []))) }
+    ensures size { IfOk result (λ l. (l.places.shared.table_id.slots ≡ length plan.now.objects)
+        × (l.places.shared.table_id.words ≡ length plan.now.objects + 8)) }
+    ensures rack { IfOk result (λ l. (l.rack.names.table_id ≡ l.names.shared.table_id)
+        × (l.rack.places.table_id ≡ l.places.shared.table_id)) }
+    ensures seat { IfOk result (λ l. (l.seat.table_id ≡ l.places.shared.table_id)
+        × (l.seat.me ≡ (sight l.rack.names [] 0, []))) }
 {
     let Cut {
         names,

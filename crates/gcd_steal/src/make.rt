@@ -25,7 +25,8 @@ fn open_bench(
     number: u8,
     most: u32,
 ) -> Result<(Bench, Thief), AllocError>
-    requires seat { (seat.old.table_id ≡ places.now.shared.table_id) × (seat.old.me ≡ (sight rack.now.names [] 0, [])) }
+    requires seat { (seat.old.table_id ≡ places.now.shared.table_id)
+        × (seat.old.me ≡ (sight rack.now.names [] 0, [])) }
     requires words { 0 < places.now.shared.table_id.words }
     requires most { (0 < most) × (most ≤ 65536) }
     ensures seat { (seat.new.table_id ≡ seat.old.table_id) × (seat.new.me ≡ seat.old.me) }
@@ -50,11 +51,14 @@ pub fn open_benches(
     workers: u8,
     most: u32,
 ) -> Result<Opened, AllocError>
-    requires seat { (seat.old.table_id ≡ places.now.shared.table_id) × (seat.old.me ≡ (sight rack.now.names [] 0, [])) }
+    requires seat { (seat.old.table_id ≡ places.now.shared.table_id)
+        × (seat.old.me ≡ (sight rack.now.names [] 0, [])) }
     requires words { 0 < places.now.shared.table_id.words }
     requires most { (0 < most) × (most ≤ 65536) }
-    ensures count { IfOk result (λ o. (length o.benches.items ≡ workers) × (length o.thieves.items ≡ workers)) }
-    ensures opened { IfOk result (λ o. AreOpened places.now.shared.table_id rack.now most o.thieves.items o.benches.items) }
+    ensures count { IfOk result (λ o. (length o.benches.items ≡ workers)
+        × (length o.thieves.items ≡ workers)) }
+    ensures opened { IfOk result (λ o. AreOpened places.now.shared.table_id rack.now most
+        o.thieves.items o.benches.items) }
 {
     let mut benches = Vec::with_capacity(alloc, workers as usize)?;
     let mut thieves = Vec::with_capacity(alloc, workers as usize)?;

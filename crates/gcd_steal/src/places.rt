@@ -1,6 +1,6 @@
 // Where Drains sleep: a word and a slot for each node.
-ghost use Rattle.std.specs.Prelude.{◌≡◌, ◌+◌, ◌<◌, [], MatchBool, MatchOption};
-ghost use Rattle.gcd_steal.specs.Places.{newcomer, HoldsSlot, Takes, Misses, Gives, WakingTells, LayingTells};
+ghost use Rattle.std.specs.Prelude.{◌≡◌, ◌+◌, ◌<◌, [], MatchBool, IfSome, IfNone};
+ghost use Rattle.gcd_steal.specs.Places.{newcomer, IsSeatOf, HoldsSlot, Takes, Misses, Gives, WakingTells, LayingTells};
 
 use crate::drain::Drain;
 use crate::names::Name;
@@ -80,11 +80,13 @@ fn word_of_node(node: Obj) -> usize
 
 // Takes the node's slot, with its badge, where its Drain sleeps, and says whether it did. One step.
 fn take_slot(places: &Places, seat: &mut PlaceSeat, node: Obj) -> bool
-    requires table { (seat.old.table_id ≡ places.now.shared.table_id) × (places.now.shared.table_id.words ≡ places.now.shared.table_id.slots + 8) }
+    requires table { IsSeatOf places.now.shared.table_id seat.old }
     requires idle { seat.old.me.1 ≡ [] }
     requires node { node.0 < places.now.shared.table_id.slots }
     ensures seat { (seat.new.table_id ≡ seat.old.table_id) × (seat.new.id ≡ seat.old.id) }
-    ensures told { MatchBool result (Takes node.0 seat.old.me.0 seat.new.me.0 × HoldsSlot seat.old.me.0.names node.0 seat.new.me.1) (Misses node.0 seat.old.me.0 seat.new.me.0 × (seat.new.me.1 ≡ [])) }
+    ensures told { MatchBool result
+        (Takes node.0 seat.old.me.0 seat.new.me.0 × HoldsSlot seat.old.me.0.names node.0 seat.new.me.1)
+        (Misses node.0 seat.old.me.0 seat.new.me.0 × (seat.new.me.1 ≡ [])) }
 {
     let found = places
         .shared
@@ -94,7 +96,7 @@ fn take_slot(places: &Places, seat: &mut PlaceSeat, node: Obj) -> bool
 
 // Gives the node's slot back, with the badge in it. One step.
 fn give_slot(places: &Places, seat: &mut PlaceSeat, node: Obj)
-    requires table { (seat.old.table_id ≡ places.now.shared.table_id) × (places.now.shared.table_id.words ≡ places.now.shared.table_id.slots + 8) }
+    requires table { IsSeatOf places.now.shared.table_id seat.old }
     requires slot { HoldsSlot seat.old.me.0.names node.0 seat.old.me.1 }
     requires node { node.0 < places.now.shared.table_id.slots }
     ensures seat { (seat.new.table_id ≡ seat.old.table_id) × (seat.new.me.1 ≡ []) }
@@ -107,11 +109,17 @@ fn give_slot(places: &Places, seat: &mut PlaceSeat, node: Obj)
 
 // Takes the node's Drain from its place. The seat that took it goes with the Drain, and the bench gets a new one.
 pub fn take_from_place(places: &Places, seat: &mut PlaceSeat, node: Obj) -> Option<Drain>
-    requires table { (seat.old.table_id ≡ places.now.shared.table_id) × (places.now.shared.table_id.words ≡ places.now.shared.table_id.slots + 8) }
+    requires table { IsSeatOf places.now.shared.table_id seat.old }
     requires idle { seat.old.me.1 ≡ [] }
     requires node { node.0 < places.now.shared.table_id.slots }
     ensures seat { (seat.new.table_id ≡ seat.old.table_id) × (seat.new.me.1 ≡ []) }
-    ensures drain { MatchOption result (Misses node.0 seat.old.me.0 seat.new.me.0 × (seat.new.id ≡ seat.old.id)) (λ d. Takes node.0 seat.old.me.0 d.place.me.0 × (seat.new.me.0 ≡ newcomer d.place.me.0) × (d.node ≡ node) × (d.badge.table_id ≡ seat.old.me.0.names.table_id) × (d.place.table_id ≡ places.now.shared.table_id)) }
+    ensures node { IfSome result (λ d. d.node ≡ node) }
+    ensures tables { IfSome result (λ d. (d.badge.table_id ≡ seat.old.me.0.names.table_id)
+        × (d.place.table_id ≡ places.now.shared.table_id)) }
+    ensures asleep { IfSome result (λ d. Takes node.0 seat.old.me.0 d.place.me.0
+        × (seat.new.me.0 ≡ newcomer d.place.me.0)) }
+    ensures awake { IfNone result (Misses node.0 seat.old.me.0 seat.new.me.0
+        × (seat.new.id ≡ seat.old.id)) }
 {
     if !take_slot(places, seat, node) {
         return None;
@@ -126,7 +134,7 @@ pub fn take_from_place(places: &Places, seat: &mut PlaceSeat, node: Obj) -> Opti
 
 // Lays the Drain into its place, and returns the seat that did so.
 pub fn lay_in_place(places: &Places, drain: Drain) -> PlaceSeat
-    requires table { (drain.place.table_id ≡ places.now.shared.table_id) × (places.now.shared.table_id.words ≡ places.now.shared.table_id.slots + 8) }
+    requires table { IsSeatOf places.now.shared.table_id drain.place }
     requires names { drain.badge.table_id ≡ drain.place.me.0.names.table_id }
     requires node { drain.node.0 < places.now.shared.table_id.slots }
     ensures seat { (result.table_id ≡ drain.place.table_id) × (result.me.1 ≡ []) }

@@ -1,5 +1,5 @@
 // The calls of a rack.
-ghost use Rattle.std.specs.Prelude.{◌≡◌, ◌≢◌, ◌↔◌, ◌+◌, ◌<◌, ◌≤◌, [], ◌∷◌, length, All, IsTrue, IfSome, IfNone, IsOk, IfOk, OnOk, IfErr};
+ghost use Rattle.std.specs.Prelude.{◌≡◌, ◌≢◌, ◌↔◌, ◌+◌, ◌<◌, ◌≤◌, [], ◌∷◌, length, All, IsTrue, IfSome, IfNone, IfOk, OnOk, IsErr, IfErr};
 ghost use Rattle.gcd_plan.specs.Kinds.{is_node};
 ghost use Rattle.gcd_steal.specs.Places.{newcomer, Takes, Misses, Gives};
 ghost use Rattle.gcd_steal.specs.Drains.{node_of, sight_with};
@@ -83,8 +83,10 @@ impl Rack {
         ensures bench { IsBenchOf self.now bench.new }
         ensures same { SameButSeat bench.old bench.new }
         ensures drain { IfSome result (λ d. IsRackDrain self.now d × (node_of d ≡ node)) }
-        ensures asleep { IfSome result (λ d. Takes node.0 (sight_of bench.old) (sight_with d) × (sight_of bench.new ≡ newcomer (sight_with d))) }
-        ensures awake { IfNone result (Misses node.0 (sight_of bench.old) (sight_of bench.new) × (seat_of bench.new ≡ seat_of bench.old)) }
+        ensures asleep { IfSome result (λ d. Takes node.0 (sight_of bench.old) (sight_with d)
+            × (sight_of bench.new ≡ newcomer (sight_with d))) }
+        ensures awake { IfNone result (Misses node.0 (sight_of bench.old) (sight_of bench.new)
+            × (seat_of bench.new ≡ seat_of bench.old)) }
     {
         take_from_place(&self.places, &mut bench.seat, node)
     }
@@ -110,9 +112,10 @@ impl Rack {
         requires drain { IsRackDrain self.now drain }
         ensures bench { IsBenchOf self.now bench.new }
         ensures same { SameButDeque bench.old bench.new }
-        ensures room { IsOk result ↔ (pushed_by bench.old < most_of bench.old) }
-        ensures pushed { OnOk result ((pushed_by bench.new ≡ pushed_by bench.old + 1) × Sends (own_account bench.old) (drain ∷ []) (own_account bench.new)) }
-        ensures refused { IfErr result (λ d. (d ≡ drain) × (pushed_by bench.old ≡ most_of bench.old) × (bench.new ≡ bench.old)) }
+        ensures room { IsErr result ↔ (pushed_by bench.old ≡ most_of bench.old) }
+        ensures pushed { OnOk result ((pushed_by bench.new ≡ pushed_by bench.old + 1)
+            × Sends (own_account bench.old) (drain ∷ []) (own_account bench.new)) }
+        ensures refused { IfErr result (λ d. (d ≡ drain) × (bench.new ≡ bench.old)) }
     {
         bench.deque.push(drain)
     }
@@ -125,8 +128,10 @@ impl Rack {
         ensures bench { IsBenchOf self.now bench.new }
         ensures same { SameButDeque bench.old bench.new × (pushed_by bench.new ≡ pushed_by bench.old) }
         ensures drain { IfSome result (λ d. IsRackDrain self.now d) }
-        ensures taken { IfSome result (λ d. Gets (own_account bench.old) (d ∷ []) (own_account bench.new)) }
-        ensures empty { IfNone result ((own_account bench.new ≡ own_account bench.old) × WasEmpty (own_account bench.old)) }
+        ensures taken { IfSome result (λ d. Gets (own_account bench.old) (d ∷ [])
+            (own_account bench.new)) }
+        ensures empty { IfNone result ((own_account bench.new ≡ own_account bench.old)
+            × WasEmpty (own_account bench.old)) }
     {
         bench.deque.pop()
     }
@@ -141,8 +146,10 @@ impl Rack {
         ensures bench { IsBenchOf self.now bench.new }
         ensures same { SameButPass victim bench.old bench.new }
         ensures drain { IfSome result (λ d. IsRackDrain self.now d) }
-        ensures taken { IfSome result (λ d. StealTells victim bench.old bench.new (λ v w. Gets v (d ∷ []) w)) }
-        ensures empty { IfNone result (StealTells victim bench.old bench.new (λ v w. (w ≡ v) × WasEmpty v)) }
+        ensures taken { IfSome result (λ d. StealTells victim bench.old bench.new
+            (λ v w. Gets v (d ∷ []) w)) }
+        ensures empty { IfNone result (StealTells victim bench.old bench.new
+            (λ v w. (w ≡ v) × WasEmpty v)) }
     {
         let victim = victim as usize;
         steal_until_told::<Drain, Account, FirstOut, Taking, R>(

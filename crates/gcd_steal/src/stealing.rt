@@ -19,7 +19,9 @@ pub fn steal_until_told<T, V, P: Protocol<T, V>, M: Outcome<T, V>, R: Wait>(
     requires takes { Takes P.holds pass.old.id (view pass.old) 1 (M.then (view pass.old)) }
     requires empty { FindsFew P.holds 0 pass.old.id (view pass.old) (M.empty (view pass.old)) }
     ensures same { SamePass pass.old pass.new }
-    ensures rule { MatchOption result ((view pass.new ≡ view pass.old) × M.empty (view pass.old)) (λ x. M.then (view pass.old) (x ∷ []) (view pass.new)) }
+    ensures rule { MatchOption result
+        ((view pass.new ≡ view pass.old) × M.empty (view pass.old))
+        (λ x. M.then (view pass.old) (x ∷ []) (view pass.new)) }
 {
     for _ in rt.forever() {
         match thief.steal_as::<M>(pass) {
