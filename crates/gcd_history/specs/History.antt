@@ -139,6 +139,14 @@ chain_of plan h o = tree.chain plan (reverse h) o
 unfoldable pub nodes_of_run : PlanView → List Event → Run → List ℕ
 nodes_of_run plan h run = tree.chain_of_run plan (reverse h) run
 
+-- the node of the run: a block's queue or source, a handler's source; main has none
+unfoldable pub node_of_run : PlanView → List Event → Run → Option ℕ
+node_of_run plan h run = tree.node_of plan (reverse h) run
+
+-- the run is a barrier of node n (dispatch_barrier_async(3))
+unfoldable pub is_barrier_of : PlanView → List Event → ℕ → Run → Bool
+is_barrier_of plan h n run = permitted.is_barrier_on plan (reverse h) n run
+
 -- how many runs are open beneath object o
 unfoldable pub open_beneath_of : PlanView → List Event → ℕ → ℕ
 open_beneath_of plan h o = tree.open_beneath plan (reverse h) o
