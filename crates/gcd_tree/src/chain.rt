@@ -33,6 +33,7 @@ impl<'a> Model for Chain<'a> {
 
 impl<'a> Chain<'a> {
     // The chain of the object under these targets.
+    #[tactic(auto, using(crate::proofs::Walks::All_chain_by))]
     pub(crate) fn along(targets: &'a [Obj], o: Obj) -> Chain<'a>
         requires fit { TargetsFit targets.now }
         requires object { o.0 < length targets.now }

@@ -106,6 +106,7 @@ impl Tree {
         }
     }
 
+    #[tactic(auto, using(crate::proofs::Walks::walk_on, crate::proofs::Walks::walk_stops))]
     /// Whether the object with the target `t` would be in a cycle: a walk from `t`, `t` itself included, reaches the
     /// object. The walk goes from a moving object to the target that it waits for, and from any other to its target
     /// (dispatch_set_target_queue(3)). It costs one walk.
