@@ -1,3 +1,5 @@
 pub mod Walks
 pub mod Sums
 pub mod Counts
+pub mod Kept
+pub mod Runs

@@ -21,7 +21,7 @@ pub record IsTree (view : TreeView) : Type 0 where
   pub chains_end : (o : ℕ) → o < length view.targets → is_in 0 (chain_at view o) ≡ true
   pub walks_end : (o : ℕ) → o < length view.targets → is_in 0 (chain_by (walk_next view) (length view.targets) o) ≡ true
   pub root_stays : request_at view 0 ≡ None
-  pub others_at_root : (o : ℕ) → o < length view.targets → is_node_at view o ≡ false → target_at view o ≡ 0
+  pub others_rest : (o : ℕ) → o < length view.targets → is_node_at view o ≡ false → (target_at view o ≡ 0) × (request_at view o ≡ None)
   pub movers_are_open : (o : ℕ) → o < length view.targets → is_moving_at view o ≡ true → 0 < open_on_at view o
   pub open_chains_stay : (o p : ℕ) → p < length view.targets → 0 < open_on_at view p → is_in o (chain_at view p) ≡ true
       → is_moving_at view o ≡ true → o ≡ p

@@ -85,6 +85,7 @@ impl Tree {
         self.open_on[o.0 as usize]
     }
 
+    #[tactic(auto, using(crate::proofs::Kept::beneath_root))]
     /// How many runs are open beneath an object: on it, and on each other object whose chain has it. Beneath `root` all
     /// are.
     pub fn open_beneath(&self, o: Obj) -> u32
