@@ -2,6 +2,7 @@
 use Rattle.std.proofs.Common.{◌≡◌, ◌≢◌, ℕ, zero, suc, ◌+◌, ◌-◌, ◌*◌, ◌^◌, ◌<◌, ◌≤◌, ◌==◌, Bool, true, false, cond, ◌||◌, inl, inr, List, [], ◌∷◌, length, get_or, set, Option, Some, None, is_some, option_map, unwrap_or, refl, ap, sym, ◌∙◌, subst, arith, length-set, get_or-set_other, get_or-set_same, slice_index, slice_index_or}
 use Rattle.std.specs.List.{list_any, sum, count_by}
 use Rattle.std.proofs.lemmas.Bool.{false≢true, true≢false, both_ways, eqb-true, cases_eq, cases_Bool, or_left, or_right, or_cases, true_from_ne_false, false_from_ne_true}
+use Rattle.std.proofs.lemmas.List.{get_or_read}
 use Rattle.gcd_plan.specs.declared.names.Obj.{Obj}
 use Rattle.gcd_plan.specs.Chains.{chain_by, is_in}
 use Rattle.gcd_tree.specs.TreeView.{TreeView, target_in, target_at, request_at, is_moving_at, open_on_at, is_node_at, chain_at, has_mover_at, walk_next, would_cycle_at, has_child_at, open_beneath_at, with_target, with_request, with_open}
@@ -31,6 +32,14 @@ any_of p q (x ∷ xs) on h = elim (or_cases (x == q) (is_in q xs) on) [
   | inl here ↦ or_left (p x) (list_any p xs) (ap p (eqb-true x q here) ∙ h)
   | inr later ↦ or_right (p x) (list_any p xs) (any_of p q xs later h)
 ]
+
+-- what is read where it was written
+pub read_back : (xs : List ℕ) (i v r : ℕ) → i < length xs → r ≡ get_or (set xs i v) i r → r ≡ v
+read_back xs i v r lt e = e ∙ get_or-set_same xs i v r lt
+
+-- one less than what is read, where that is not 0
+pub one_less : (xs : List ℕ) (i v : ℕ) → i < length xs → v ≡ get_or xs i v → 0 < get_or xs i 0 → get_or xs i 0 ≡ v - 1 + 1
+one_less xs i v lt e some = let read = get_or_read xs i v lt e 0 in omega (arith, read, some)
 
 -- ---- a run more
 

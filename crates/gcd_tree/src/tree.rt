@@ -192,12 +192,14 @@ impl Tree {
         ensures last { open_on_at self.old node.0 ≡ 1 → self.new ≡ settled (with_open self.old node.0 0) node.0 }
     {
         lower_along(&self.targets, &mut self.open_beneath, node);
-        self.open_on[node.0 as usize] -= 1;
-        if self.open_on[node.0 as usize] == 0 {
-            if let Some(t) = self.requests[node.0 as usize] {
-                self.targets[node.0 as usize] = t;
-                self.requests[node.0 as usize] = None;
-            }
+        let at = node.0 as usize;
+        self.open_on[at] -= 1;
+        if self.open_on[at] > 0 {
+            return;
+        }
+        if let Some(t) = self.requests[at] {
+            self.targets[at] = t;
+            self.requests[at] = None;
         }
     }
 }
