@@ -11,7 +11,7 @@ use Rattle.gcd_plan.specs.Chains.{chain_by, is_in}
 use Rattle.gcd_tree.specs.TreeView.{TreeView, target_in, target_at, request_at, is_moving_at, open_on_at, is_node_at, chain_at, has_mover_at, walk_next, would_cycle_at, aims_at, is_child_of, has_child_at, open_from, open_beneath_at, with_target, with_request, with_open}
 use Rattle.gcd_tree.specs.IsTree.{IsTree, TargetsFit}
 use Rattle.gcd_tree.proofs.Walks.{chain_by-same, is_in-start, not_again, ends_within, ends_redirected, parting, step_to, in_range}
-use Rattle.gcd_tree.proofs.Sums.{sum_by-same, sum_by-changed, term-le-sum_by, sum-by_place}
+use Rattle.gcd_tree.proofs.Ranges.{found_below, sum_by-same, sum_by-changed, term-le-sum_by, sum-by_place}
 
 -- ---- requests
 
@@ -98,10 +98,7 @@ has_child_below view tree o m away lt other on =
     let below = in_range (target_at view) n n m s.from tree.targets_fit lt s.on_it in
     let node : is_node_at view s.from ≡ true = true_from_ne_false _ (λ none.
         away (sym s.steps ∙ (tree.others_rest s.from below none).0)) in
-    let found : is_child_of view o (get_or (range_with_len 0 n) s.from 0) ≡ true =
-        subst (λ p. is_child_of view o p ≡ true) (sym (get_or-range_with_len 0 n s.from 0 below ∙ omega arith))
-        (child_at view o s.from s.away s.elsewhere node s.steps) in
-    list_any_at (is_child_of view o) (range_with_len 0 n) s.from 0 (omega (arith, below, length-range_with_len 0 n)) found
+    found_below (is_child_of view o) n s.from below (child_at view o s.from s.away s.elsewhere node s.steps)
 
 -- where o has no child, or nothing is open beneath it, no other object whose chain has it is open
 pub quiet_below : (view : TreeView) → IsTree view → (o : ℕ) → o ≢ 0 → (has_child_at view o ≡ true → open_beneath_at view o ≡ 0)
@@ -123,6 +120,7 @@ pub IsTree-with_open : (view : TreeView) → IsTree view → (o n : ℕ) → o <
     → IsTree (with_open view o n)
 IsTree-with_open view tree o n lt moves stays = record {
   root = tree.root;
+  few = tree.few;
   as_many_requests = tree.as_many_requests;
   as_many_open_on = length-set view.open_on o n ∙ tree.as_many_open_on;
   as_many_nodes = tree.as_many_nodes;
@@ -190,6 +188,7 @@ module _ (view : TreeView) (tree : IsTree view) (o : ℕ) (t : Obj) (object : o 
   pub IsTree-with_request : IsTree (with_request view o (Some t))
   IsTree-with_request = record {
     root = tree.root;
+    few = tree.few;
     as_many_requests = length-set view.requests o (Some t) ∙ tree.as_many_requests;
     as_many_open_on = tree.as_many_open_on;
     as_many_nodes = tree.as_many_nodes;
@@ -306,6 +305,7 @@ module _ (view next : TreeView) (o t : ℕ) (tree : IsTree view) (change : Retar
   pub IsTree-retargeted : IsTree next
   IsTree-retargeted = record {
     root = omega (arith, tree.root, change.as_many);
+    few = omega (arith, tree.few, change.as_many);
     as_many_requests = change.as_many_requests ∙ tree.as_many_requests ∙ sym change.as_many;
     as_many_open_on = change.as_many_open_on ∙ tree.as_many_open_on ∙ sym change.as_many;
     as_many_nodes = ap length change.nodes ∙ tree.as_many_nodes ∙ sym change.as_many;

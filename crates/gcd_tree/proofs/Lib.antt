@@ -1,5 +1,6 @@
 pub mod Walks
-pub mod Sums
+pub mod Ranges
 pub mod Counts
 pub mod Kept
 pub mod Runs
+pub mod PlanTree

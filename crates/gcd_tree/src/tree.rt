@@ -139,6 +139,7 @@ impl Tree {
             && (self.targets[at].0 == o.0 || self.requests[at] == Some(o))
     }
 
+    #[tactic(auto, using(crate::proofs::Ranges::none_below))]
     /// Whether another object than `root` has the object as its target, or waits for it as its target. It costs a look
     /// at each object.
     pub fn has_child(&self, o: Obj) -> bool
