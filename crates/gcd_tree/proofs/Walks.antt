@@ -65,6 +65,12 @@ at_root f (suc b) at x root other = ap (is_in x) (chain_by-root f b at root) ∙
 pub walk_stops : (f : ℕ → ℕ) (n i at x : ℕ) → at ≡ 0 → at ≢ x → is_in x (chain_by f (n - i) at) ≡ false
 walk_stops f n i at x root other = at_root f (n - i) at x root other
 
+-- a walk meets where it stands
+pub walk_meets : (f : ℕ → ℕ) (n i at x : ℕ) → i < n → at ≡ x → is_in x (chain_by f (n - i) at) ≡ true
+walk_meets f n i at x h there =
+    let more : n - i ≡ suc (n - (i + 1)) = omega arith in
+    ap (λ b. is_in x (chain_by f b at)) more ∙ is_in-start f (n - (i + 1)) at x there
+
 -- ---- walks that end at root
 
 -- a walk that ends is the same within a larger bound
