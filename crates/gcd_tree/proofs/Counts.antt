@@ -30,23 +30,6 @@ pub some_left : (counts before numbers rest : List ℕ) (o total : ℕ) → numb
 some_left counts before numbers rest o total e counted enough =
     let one = times-first o numbers rest e in omega (arith, one, counted, enough)
 
--- what holds of all numbers holds of all but the first
-pub All_rest : (o : ℕ) (numbers rest counts next : List ℕ) → numbers ≡ o ∷ rest → length next ≡ length counts
-    → All (λ x. x < length counts) numbers → All (λ x. x < length next) rest
-All_rest o numbers rest counts next e same all k d h =
-    let longer : length numbers ≡ suc (length rest) = ap length e in
-    let at : get_or numbers (suc k) d ≡ get_or rest k d = ap (λ xs. get_or xs (suc k) d) e in
-    let fits = all (suc k) d (omega (arith, longer, h)) in
-    omega (arith, at, fits, same)
-
--- and of the first
-pub All_first : (o : ℕ) (numbers rest counts : List ℕ) → numbers ≡ o ∷ rest → All (λ x. x < length counts) numbers → o < length counts
-All_first o numbers rest counts e all =
-    let some : length numbers ≡ suc (length rest) = ap length e in
-    let at : get_or numbers 0 0 ≡ o = ap (λ xs. get_or xs 0 0) e in
-    let fits = all 0 0 (omega (arith, some)) in
-    omega (arith, at, fits)
-
 -- one step of a loop that adds 1 at each of the numbers
 pub raise_step : (counts numbers rest : List ℕ) (o x : ℕ) → numbers ≡ o ∷ rest → o < length counts
     → get_or (set counts o (get_or counts o 0 + 1)) x 0 + times x rest ≡ get_or counts x 0 + times x numbers
