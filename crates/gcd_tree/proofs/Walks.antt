@@ -40,6 +40,14 @@ stands f b o x h = elim (cases_eq o x) [
   ]
 ]
 
+-- a walk is no longer than its bound
+pub length_chain_by : (f : ℕ → ℕ) (b o : ℕ) → length (chain_by f b o) ≤ b
+length_chain_by f zero o = omega arith
+length_chain_by f (suc b) o = elim (cases_eq o 0) [
+  | inl at ↦ let one = ap length (chain_by-root f b o at) in omega (arith, one)
+  | inr away ↦ let more = ap length (chain_by-away f b o away) in let rest = length_chain_by f b (f o) in omega (arith, more, rest)
+]
+
 -- what is on the rest of a walk is on the walk
 pub is_in-walk : (f : ℕ → ℕ) (b o x : ℕ) → o ≢ 0 → is_in x (chain_by f b (f o)) ≡ true → is_in x (chain_by f (suc b) o) ≡ true
 is_in-walk f b o x away h = ap (is_in x) (chain_by-away f b o away) ∙ is_in-rest x o _ h

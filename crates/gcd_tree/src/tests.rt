@@ -60,7 +60,7 @@ fn is_queue(plan: &Plan, tree: &Tree, o: Obj) -> bool
     requires nodes { tree.now.nodes ≡ (tree_of plan.now).nodes }
     ensures { result ≡ true → is_node_at tree.now o.0 ≡ true }
 {
-    plan.kind(o) == Kind::Serial
+    matches!(plan.kind(o), Kind::Serial)
 }
 
 fn has_mover(tree: &Tree, node: Obj) -> bool
@@ -265,29 +265,42 @@ const ROWS: [Row; 13] = [
 fn check_row(rt: &impl Abort, tree: &Tree, plan: &Plan, row: &Row)
     requires { length tree.now.targets ≡ length plan.now.objects }
 {
+    let what = row.what;
     for o in 0..4u32 {
         if o < plan.objects() {
             let at = o as usize;
-            assert_eq!(rt; tree.target(Obj(o)).0, row.targets[at], "{}", row.what);
-            assert_eq!(rt; tree.is_moving(Obj(o)), row.moving[at], "{}", row.what);
-            assert_eq!(rt; tree.open_on(Obj(o)), row.open_on[at], "{}", row.what);
-            assert_eq!(rt; tree.open_beneath(Obj(o)), row.open_beneath[at], "{}", row.what);
-            assert_eq!(rt; tree.has_child(Obj(o)), row.has_child[at], "{}", row.what);
+            let target = row.targets[at];
+            let moving = row.moving[at];
+            let open_on = row.open_on[at];
+            let open_beneath = row.open_beneath[at];
+            let has_child = row.has_child[at];
+            assert_eq!(rt; tree.target(Obj(o)).0, target, "{what}");
+            assert_eq!(rt; tree.is_moving(Obj(o)), moving, "{what}");
+            assert_eq!(rt; tree.open_on(Obj(o)), open_on, "{what}");
+            assert_eq!(rt; tree.open_beneath(Obj(o)), open_beneath, "{what}");
+            assert_eq!(rt; tree.has_child(Obj(o)), has_child, "{what}");
         }
     }
+}
+
+fn try_row(rt: &impl Abort, alloc: Global, plan: &Plan, row: &Row) -> Result<(), AllocError> {
+    let mut tree = Tree::new(alloc, plan)?;
+    let mut made = true;
+    for call in row.calls {
+        made = try_call(&mut tree, plan, *call);
+    }
+    let wanted = row.made;
+    let what = row.what;
+    assert_eq!(rt; made, wanted, "{what}");
+    check_row(rt, &tree, plan, row);
+    Ok(())
 }
 
 #[test]
 fn keeps_targets_and_counts_row_by_row(rt: HostRuntime) -> Result<(), Fail> {
     let plan = plan_of(rt.alloc(), &[0, 1, 0])?;
     for row in ROWS.iter() {
-        let mut tree = Tree::new(rt.alloc(), &plan)?;
-        let mut made = true;
-        for call in row.calls {
-            made = try_call(&mut tree, &plan, *call);
-        }
-        assert_eq!(rt; made, row.made, "{}", row.what);
-        check_row(&rt, &tree, &plan, row);
+        try_row(&rt, rt.alloc(), &plan, row)?;
     }
     Ok(())
 }
