@@ -166,7 +166,12 @@ const ROWS: [Row; 13] = [
     },
     Row {
         what: "runs on two queues and root, one closed",
-        calls: &[Call::Opened(2), Call::Opened(3), Call::Opened(0), Call::Closed(2)],
+        calls: &[
+            Call::Opened(2),
+            Call::Opened(3),
+            Call::Opened(0),
+            Call::Closed(2),
+        ],
         open_on: [1, 0, 0, 1],
         open_beneath: [2, 0, 0, 1],
         ..NEW
@@ -189,7 +194,12 @@ const ROWS: [Row; 13] = [
     },
     Row {
         what: "and while another one is open",
-        calls: &[Call::Opened(3), Call::Opened(3), Call::Set(3, 2), Call::Closed(3)],
+        calls: &[
+            Call::Opened(3),
+            Call::Opened(3),
+            Call::Set(3, 2),
+            Call::Closed(3),
+        ],
         moving: [false, false, false, true],
         open_on: [0, 0, 0, 1],
         open_beneath: [1, 0, 0, 1],
@@ -211,13 +221,23 @@ const ROWS: [Row; 13] = [
     },
     Row {
         what: "a second request replaces the first",
-        calls: &[Call::Opened(3), Call::Set(3, 2), Call::Set(3, 1), Call::Closed(3)],
+        calls: &[
+            Call::Opened(3),
+            Call::Set(3, 2),
+            Call::Set(3, 1),
+            Call::Closed(3),
+        ],
         targets: [0, 0, 1, 1],
         ..NEW
     },
     Row {
         what: "a run on the new chain",
-        calls: &[Call::Opened(3), Call::Set(3, 2), Call::Closed(3), Call::Opened(3)],
+        calls: &[
+            Call::Opened(3),
+            Call::Set(3, 2),
+            Call::Closed(3),
+            Call::Opened(3),
+        ],
         targets: [0, 0, 1, 2],
         open_on: [0, 0, 0, 1],
         open_beneath: [1, 1, 1, 1],
@@ -226,7 +246,12 @@ const ROWS: [Row; 13] = [
     },
     Row {
         what: "no run starts beneath an object that is about to move",
-        calls: &[Call::Opened(3), Call::Set(3, 1), Call::Set(2, 3), Call::Opened(2)],
+        calls: &[
+            Call::Opened(3),
+            Call::Set(3, 1),
+            Call::Set(2, 3),
+            Call::Opened(2),
+        ],
         made: false,
         targets: [0, 0, 3, 0],
         moving: [false, false, false, true],
@@ -359,11 +384,31 @@ fn check_slow(rt: &impl Abort, tree: &Tree, plan: &Plan, slow: &Slow, step: u32)
 {
     for o in 0..plan.objects() {
         let at = o as usize;
-        assert_eq!(rt; tree.target(Obj(o)).0 as usize, slow.target(at), "step {step} object {o}");
-        assert_eq!(rt; tree.is_moving(Obj(o)), slow.is_moving(at), "step {step} object {o}");
-        assert_eq!(rt; tree.open_on(Obj(o)), slow.open_on(at), "step {step} object {o}");
-        assert_eq!(rt; tree.open_beneath(Obj(o)), slow.open_beneath(at), "step {step} object {o}");
-        assert_eq!(rt; tree.has_child(Obj(o)), slow.has_child(at), "step {step} object {o}");
+        assert_eq!(rt;
+            tree.target(Obj(o)).0 as usize,
+            slow.target(at),
+            "step {step} object {o}"
+        );
+        assert_eq!(rt;
+            tree.is_moving(Obj(o)),
+            slow.is_moving(at),
+            "step {step} object {o}"
+        );
+        assert_eq!(rt;
+            tree.open_on(Obj(o)),
+            slow.open_on(at),
+            "step {step} object {o}"
+        );
+        assert_eq!(rt;
+            tree.open_beneath(Obj(o)),
+            slow.open_beneath(at),
+            "step {step} object {o}"
+        );
+        assert_eq!(rt;
+            tree.has_child(Obj(o)),
+            slow.has_child(at),
+            "step {step} object {o}"
+        );
     }
 }
 
@@ -380,7 +425,11 @@ fn agrees_with_a_tree_that_scans(rt: HostRuntime) -> Result<(), Fail> {
         seed = next;
         let call = call_of(number);
         let allowed = slow.allows(call);
-        assert_eq!(rt; try_call(&mut tree, &plan, call), allowed, "step {step} {call:?}");
+        assert_eq!(rt;
+            try_call(&mut tree, &plan, call),
+            allowed,
+            "step {step} {call:?}"
+        );
         if allowed {
             slow.make(call);
             let kind = kind_of_call(call);

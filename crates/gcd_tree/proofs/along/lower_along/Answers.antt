@@ -1,4 +1,4 @@
-use Rattle.std.proofs.Common.{◌≡◌, ◌≤◌, ◌-◌, ◌<◌, get_or, set, length, length-set, arith}
+use Rattle.std.proofs.Common.{◌-◌, ◌<◌, get_or, set, length, length-set, arith}
 use Rattle.gcd_tree.proofs.Ahead.{first_in_range, rest_in_range}
 use Rattle.gcd_tree.proofs.Counts.{some_left, lower_step}
 use Rattle.gcd_tree.proofs.along.lower_along.Goals as goal
@@ -26,7 +26,7 @@ loop-o-preserved c =
     record {
       in_range = rest_in_range n o ahead rest first c.loop-o.invariant.in_range;
       counted = λ x h. (let within : x < length (set counts o (get_or counts o 0 - 1)) = h in
-        let step = lower_step counts ahead rest o x first here some in
-        let before = c.loop-o.invariant.counted x (omega (arith, length-set counts o (get_or counts o 0 - 1), within)) in
-        omega (arith, step, before));
+          let step = lower_step counts ahead rest o x first here some in
+          let before = c.loop-o.invariant.counted x (omega (arith, length-set counts o (get_or counts o 0 - 1), within)) in
+          omega (arith, step, before));
     }

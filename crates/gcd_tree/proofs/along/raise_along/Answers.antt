@@ -16,6 +16,6 @@ loop-o-preserved c =
     record {
       in_range = rest_in_range n o ahead rest first c.loop-o.invariant.in_range;
       counted = λ x h. (let within : x < length (set counts o (get_or counts o 0 + 1)) = h in
-        raise_step counts ahead rest o x first here
-        ∙ c.loop-o.invariant.counted x (omega (arith, length-set counts o (get_or counts o 0 + 1), within)));
+          raise_step counts ahead rest o x first here
+          ∙ c.loop-o.invariant.counted x (omega (arith, length-set counts o (get_or counts o 0 + 1), within)));
     }

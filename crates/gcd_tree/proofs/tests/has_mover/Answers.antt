@@ -10,5 +10,5 @@ loop-o-preserved c =
     record {
       in_range = rest_in_range (length tree.targets) c.in-Some.o.0 c.loop-o.o-iterator c.next.new.self first c.loop-o.invariant.in_range;
       ahead = c.loop-o.invariant.ahead
-        ∙ none_first (is_moving_at tree) c.in-Some.o.0 c.loop-o.o-iterator c.next.new.self first (sym c.is_moving.ensures ∙ c.if-is_moving.false);
+          ∙ none_first (is_moving_at tree) c.in-Some.o.0 c.loop-o.o-iterator c.next.new.self first (sym c.is_moving.ensures ∙ c.if-is_moving.false);
     }
