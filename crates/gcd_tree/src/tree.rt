@@ -1,5 +1,5 @@
 // The tree of targets, with the runs that are open beneath each object.
-ghost use Rattle.std.specs.Prelude.{◌≡◌, ℕ, ◌+◌, ◌-◌, ◌<◌, ◌^◌, true, false, None, length, sum, All, IfOk};
+ghost use Rattle.std.specs.Prelude.{◌≡◌, ℕ, ◌+◌, ◌-◌, ◌<◌, ◌≤◌, ◌^◌, true, false, None, length, sum, All, IfOk};
 ghost use Rattle.gcd_tree.specs.TreeView.{tree_of, target_at, is_moving_at, open_on_at, is_node_at, chain_at, has_mover_at, walk_next, would_cycle_at, is_child_of, has_child_at, open_beneath_at, with_target, with_request, with_open, settled};
 ghost use Rattle.gcd_tree.specs.IsTree.{IsTree};
 
@@ -65,6 +65,7 @@ impl Tree {
         requires { o.0 < length self.now.targets }
         ensures chain { result ≡ chain_at self.now o.0 }
         ensures in_range { All (λ x. x < length self.now.targets) result }
+        ensures no_longer { length result ≤ length self.now.targets }
     {
         Chain::along(&self.targets, o)
     }
