@@ -1,0 +1,203 @@
+-- Lists: what the lemmas of std and of the crates below lack.
+use Rattle.std.proofs.Common.{◌≡◌, ℕ, zero, suc, ◌+◌, ◌-◌, ◌<◌, ◌≤◌, ◌==◌, Bool, true, false, not, ◌&&◌, ◌||◌, cond, List, [], ◌∷◌, ◌++◌, length, get_or, set, map, filter, replicate, Option, Some, None, find, is_some, refl, ap, sym, ◌∙◌, subst, arith, ⊎_elim, eq-eqb}
+use Rattle.std.specs.List.{slice_get, list_any, list_all, flat_map, sum_by, count_by, range_with_len}
+use Rattle.std.specs.Option.{option_map, option_map_or, option_or, option_to_list}
+use Rattle.std.proofs.lemmas.Bool.{cases_lt, cases_eq, and_parts, both_ways, false_from_ne_true, or_parts, or_from, or_cases}
+use Rattle.std.proofs.lemmas.Option.{same_Some}
+use Rattle.gcd_history.specs.declared.submission.Submission.{Submission}
+use Rattle.gcd_history.specs.Permitted.{before}
+use Rattle.std.proofs.lemmas.List.{append-nil, append_assoc, get_or-set_same, get_or-set_other}
+use Rattle.std.proofs.lemmas.List.Folds.{find-append}
+use Rattle.std.proofs.lemmas.List.Sums.{sum_by-cons, get_or-le-sum_by, sum_by-set, sum_by_push}
+
+-- ## Sums and counts
+
+-- two terms at different places are within the sum
+pub two_terms : {X : Type 0} (f : X → ℕ) (xs : List X) (i j : ℕ) (d : X) → i < j → j < length xs
+    → f (get_or xs i d) + f (get_or xs j d) ≤ sum_by f xs
+two_terms f [] i j d l m = absurd (omega arith)
+two_terms f (x ∷ xs) i zero d l m = absurd (omega arith)
+two_terms f (x ∷ xs) zero (suc j) d l m =
+    let k : j < length xs = omega arith in
+    omega (arith, sum_by-cons f x xs, get_or-le-sum_by f xs j d k)
+two_terms f (x ∷ xs) (suc i) (suc j) d l m =
+    let k : j < length xs = omega arith in
+    let n : i < j = omega arith in
+    omega (arith, sum_by-cons f x xs, two_terms f xs i j d n k)
+
+-- terms that agree at each element
+pub sum_by_same : {X : Type 0} (f g : X → ℕ) (xs : List X) → ((x : X) → f x ≡ g x) → sum_by f xs ≡ sum_by g xs
+sum_by_same f g [] same = refl
+sum_by_same f g (x ∷ xs) same = omega (arith, sum_by-cons f x xs, sum_by-cons g x xs, same x, sum_by_same f g xs same)
+
+-- where nothing is counted twice, two places that are counted are one
+pub one_place : {X : Type 0} (p : X → Bool) (xs : List X) (i j : ℕ) (d : X) → count_by p xs ≤ 1 → i < length xs → j < length xs
+    → p (get_or xs i d) ≡ true → p (get_or xs j d) ≡ true → i ≡ j
+one_place p xs i j d few within_i within_j pi pj =
+    let a : ◌≡◌ {A = ℕ} (cond (p (get_or xs i d)) 1 0) 1 = ap (λ b. cond b 1 0) pi in
+    let b : ◌≡◌ {A = ℕ} (cond (p (get_or xs j d)) 1 0) 1 = ap (λ b. cond b 1 0) pj in
+    ⊎_elim
+    (λ e. e)
+    (λ other. ⊎_elim
+    (λ l. let two = two_terms (λ x. cond (p x) 1 0) xs i j d l within_j in absurd (omega (arith, a, b, two)))
+    (λ l. let m : j < i = omega arith in let two = two_terms (λ x. cond (p x) 1 0) xs j i d m within_i in absurd (omega (arith, a, b, two)))
+    (cases_lt i j))
+    (cases_eq i j)
+
+-- ## Filters
+
+pub filter-append : {X : Type 0} (p : X → Bool) (xs ys : List X) → filter p (xs ++ ys) ≡ filter p xs ++ filter p ys
+filter-append p [] ys = refl
+filter-append p (x ∷ xs) ys =
+    elim (p x) as (λ v. cond v (x ∷ filter p (xs ++ ys)) (filter p (xs ++ ys)) ≡ cond v (x ∷ filter p xs) (filter p xs) ++ filter p ys) [
+      | true ↦ ap (λ zs. x ∷ zs) (filter-append p xs ys)
+      | false ↦ filter-append p xs ys
+    ]
+
+-- tests that agree at each element
+pub filter_alike : {X : Type 0} (p q : X → Bool) (xs : List X) → ((x : X) → p x ≡ q x) → filter p xs ≡ filter q xs
+filter_alike p q [] same = refl
+filter_alike p q (x ∷ xs) same =
+    ap (λ v. cond v (x ∷ filter p xs) (filter p xs)) (same x) ∙ ap (λ zs. cond (q x) (x ∷ zs) zs) (filter_alike p q xs same)
+
+pub filter_twice : {X : Type 0} (p q : X → Bool) (xs : List X) → filter p (filter q xs) ≡ filter q (filter p xs)
+filter_twice p q [] = refl
+filter_twice p q (x ∷ xs) =
+    let rest = filter_twice p q xs in
+    elim (p x) as (λ v. p x ≡ v → filter p (filter q (x ∷ xs)) ≡ filter q (filter p (x ∷ xs))) [
+      | true ↦ λ e. elim (q x) as (λ v. q x ≡ v → filter p (filter q (x ∷ xs)) ≡ filter q (filter p (x ∷ xs))) [
+        | true ↦ λ f. simp (e, f, rest)
+        | false ↦ λ f. simp (e, f, rest)
+      ] refl
+      | false ↦ λ e. elim (q x) as (λ v. q x ≡ v → filter p (filter q (x ∷ xs)) ≡ filter q (filter p (x ∷ xs))) [
+        | true ↦ λ f. simp (e, f, rest)
+        | false ↦ λ f. simp (e, f, rest)
+      ] refl
+    ] refl
+
+-- the first that passes is the first of those that pass
+pub find_first : {X : Type 0} (p : X → Bool) (xs : List X) → find p xs ≡ slice_get (filter p xs) 0
+find_first p [] = refl
+find_first p (x ∷ xs) =
+    elim (p x) as (λ v. cond v (Some x) (find p xs) ≡ slice_get (cond v (x ∷ filter p xs) (filter p xs)) 0) [
+      | true ↦ refl
+      | false ↦ find_first p xs
+    ]
+
+-- what is found passes
+pub find_passes : {X : Type 0} (p : X → Bool) (xs : List X) (x : X) → find p xs ≡ Some x → p x ≡ true
+find_passes p [] x found = cc
+find_passes p (y ∷ ys) x found =
+    elim (p y) as (λ v. p y ≡ v → cond v (Some y) (find p ys) ≡ Some x → p x ≡ true) [
+      | true ↦ λ e f. ap p (sym (same_Some y x f)) ∙ e
+      | false ↦ λ e f. find_passes p ys x f
+    ] refl found
+
+-- where nothing is found, nothing is counted
+pub count_unfound : {X : Type 0} (p : X → Bool) (xs : List X) → find p xs ≡ None → count_by p xs ≡ 0
+count_unfound p [] none = refl
+count_unfound p (x ∷ xs) none =
+    let split = sum_by-cons (λ y. cond (p y) 1 0) x xs in
+    elim (p x) as (λ v. p x ≡ v → cond v (Some x) (find p xs) ≡ None → count_by p (x ∷ xs) ≡ 0) [
+      | true ↦ λ e n. cc
+      | false ↦ λ e n.
+          let here : ◌≡◌ {A = ℕ} (cond (p x) 1 0) 0 = ap (λ b. cond b 1 0) e in
+          omega (arith, split, here, count_unfound p xs n)
+    ] refl none
+
+-- one more element, counted
+pub count_push : {X : Type 0} (p : X → Bool) (xs : List X) (y : X) → count_by p (xs ++ y ∷ []) ≡ count_by p xs + cond (p y) 1 0
+count_push p xs y = sum_by_push (λ x. cond (p x) 1 0) xs y
+
+-- a filter that keeps what is counted
+pub count_kept : {X : Type 0} (p q : X → Bool) (xs : List X) → ((x : X) → p x ≡ true → q x ≡ true) → count_by p (filter q xs) ≡ count_by p xs
+count_kept p q [] keeps = refl
+count_kept p q (x ∷ xs) keeps =
+    let split = sum_by-cons (λ y. cond (p y) 1 0) x xs in
+    let rest = count_kept p q xs keeps in
+    elim (q x) as (λ v. q x ≡ v → count_by p (cond v (x ∷ filter q xs) (filter q xs)) ≡ count_by p (x ∷ xs)) [
+      | true ↦ λ e. let more = sum_by-cons (λ y. cond (p y) 1 0) x (filter q xs) in omega (arith, split, rest, more)
+      | false ↦ λ e.
+          let here : p x ≡ false = false_from_ne_true (p x) (λ passes. both_ways (q x) e (keeps x passes)) in
+          let none : ◌≡◌ {A = ℕ} (cond (p x) 1 0) 0 = ap (λ b. cond b 1 0) here in
+          omega (arith, split, rest, none)
+    ] refl
+
+-- a filter that drops what is counted
+pub count_dropped : {X : Type 0} (p q : X → Bool) (xs : List X) → ((x : X) → p x ≡ true → q x ≡ false) → count_by p (filter q xs) ≡ 0
+count_dropped p q [] drops = refl
+count_dropped p q (x ∷ xs) drops =
+    let rest = count_dropped p q xs drops in
+    elim (q x) as (λ v. q x ≡ v → count_by p (cond v (x ∷ filter q xs) (filter q xs)) ≡ 0) [
+      | true ↦ λ e.
+          let more = sum_by-cons (λ y. cond (p y) 1 0) x (filter q xs) in
+          let here : p x ≡ false = false_from_ne_true (p x) (λ passes. both_ways (q x) (drops x passes) e) in
+          let none : ◌≡◌ {A = ℕ} (cond (p x) 1 0) 0 = ap (λ b. cond b 1 0) here in
+          omega (arith, rest, none, more)
+      | false ↦ λ e. rest
+    ] refl
+
+pub any_of_fewer : {X : Type 0} (p q : X → Bool) (xs : List X) → list_any p xs ≡ false → list_any p (filter q xs) ≡ false
+any_of_fewer p q [] none = refl
+any_of_fewer p q (x ∷ xs) none =
+    let parts = or_parts (p x) (list_any p xs) none in
+    let rest = any_of_fewer p q xs parts.1 in
+    elim (q x) as (λ v. list_any p (cond v (x ∷ filter q xs) (filter q xs)) ≡ false) [
+      | true ↦ or_from (p x) (list_any p (filter q xs)) parts.0 rest
+      | false ↦ rest
+    ]
+
+-- some element passes where some is counted
+pub any_counted : {X : Type 0} (p : X → Bool) (xs : List X) → list_any p xs ≡ true → 1 ≤ count_by p xs
+any_counted p [] some = cc
+any_counted p (x ∷ xs) some =
+    let split = sum_by-cons (λ y. cond (p y) 1 0) x xs in
+    ⊎_elim
+    (λ here. let one : ◌≡◌ {A = ℕ} (cond (p x) 1 0) 1 = ap (λ b. cond b 1 0) here in omega (arith, split, one))
+    (λ later. let rest = any_counted p xs later in omega (arith, split, rest))
+    (or_cases (p x) (list_any p xs) some)
+
+-- ## Submissions by number
+
+-- of what waits, block b is behind exactly where another is the first
+pub before_first_waiting : (p : Submission → Bool) (b : ℕ) (s : Submission) (xs : List Submission) → find (λ t. t.blk.0 == b) xs ≡ Some s → p s ≡ true
+    → list_any p (before b xs) ≡ option_map_or (λ t. not (t.blk.0 == b)) (find p xs) false
+before_first_waiting p b s [] found waits = cc
+before_first_waiting p b s (x ∷ xs) found waits =
+    elim (x.blk.0 == b) as (λ v. x.blk.0 == b ≡ v → list_any p (before b (x ∷ xs)) ≡ option_map_or (λ t. not (t.blk.0 == b)) (find p (x ∷ xs)) false) [
+      | true ↦ λ e. let same : Some x ≡ Some s = simp e at found in let px : p x ≡ true = cc in simp (e, px)
+      | false ↦ λ e. elim (p x) as (λ v. p x ≡ v → list_any p (before b (x ∷ xs)) ≡ option_map_or (λ t. not (t.blk.0 == b)) (find p (x ∷ xs)) false) [
+        | true ↦ λ px. simp (e, px)
+        | false ↦ λ px. simp (e, px) (before_first_waiting p b s xs (simp e at found) waits)
+      ] refl
+    ] refl
+
+-- what is found and passes another test is counted by that
+pub counted_found : {X : Type 0} (p q : X → Bool) (xs : List X) (x : X) → find p xs ≡ Some x → q x ≡ true → 1 ≤ count_by q xs
+counted_found p q [] x found passes = cc
+counted_found p q (y ∷ ys) x found passes =
+    let split = sum_by-cons (λ z. cond (q z) 1 0) y ys in
+    elim (p y) as (λ v. cond v (Some y) (find p ys) ≡ Some x → 1 ≤ count_by q (y ∷ ys)) [
+      | true ↦ λ f.
+          let one : ◌≡◌ {A = ℕ} (cond (q y) 1 0) 1 = ap (λ z. cond (q z) 1 0) (same_Some y x f) ∙ ap (λ b. cond b 1 0) passes in
+          omega (arith, split, one)
+      | false ↦ λ f. let rest = counted_found p q ys x f passes in omega (arith, split, rest)
+    ] found
+
+-- where one element at most passes q, one that passes it and is the first of p is the first of q
+pub found_alone : {X : Type 0} (p q : X → Bool) (xs : List X) (x : X) → count_by q xs ≤ 1 → find p xs ≡ Some x → q x ≡ true → find q xs ≡ Some x
+found_alone p q [] x few found passes = cc
+found_alone p q (y ∷ ys) x few found passes =
+    let split = sum_by-cons (λ z. cond (q z) 1 0) y ys in
+    elim (p y) as (λ v. cond v (Some y) (find p ys) ≡ Some x → find q (y ∷ ys) ≡ Some x) [
+      | true ↦ λ f.
+          let same = same_Some y x f in
+          ap (λ v. cond v (Some y) (find q ys)) (ap q same ∙ passes) ∙ ap Some same
+      | false ↦ λ f. elim (q y) as (λ v. q y ≡ v → cond v (Some y) (find q ys) ≡ Some x) [
+        | true ↦ λ e.
+            let here : ◌≡◌ {A = ℕ} (cond (q y) 1 0) 1 = ap (λ b. cond b 1 0) e in
+            let rest = counted_found p q ys x f passes in
+            absurd (omega (arith, split, few, here, rest))
+        | false ↦ λ e. let low : count_by q ys ≤ 1 = omega (arith, split, few) in found_alone p q ys x low f passes
+      ] refl
+    ] found
