@@ -1,0 +1,65 @@
+use Rattle.std.proofs.Common.{◌≡◌, ◌∙◌, List, map, refl, ap, sym, arith, rules}
+use Rattle.std.proofs.lemmas.List.{take_all}
+use Rattle.std.proofs.lemmas.Grind.{common_steps}
+use Rattle.gcd_plan.specs.PlanView.{FileView, file_view}
+use Rattle.gcd_outer.specs.Outside.{ShelfSeen, shelf_seen}
+use Rattle.gcd_run.specs.Loads.{IsLoaded, AreLoaded, file_limit}
+use Rattle.gcd_run.proofs.Loading.{SameShelf, loaded_same, are_loaded_same, loaded_more, next_file, unread_same, longer_same}
+use Rattle.gcd_run.proofs.load.load_files.Goals as goal
+
+pub loop-file-preserved : goal.loop-file-preserved
+loop-file-preserved g c =
+    let seen : g.row.S.Denot → g.row.S.Denot → ShelfSeen =
+    shelf_seen g.S.Shelf.tells g.S.Shelf.content g.S.Shelf.loads g.S.Shelf.faults in
+    let before = c.args.shelf.now in
+    let one = loaded_same (seen c.loop-file.shelf c.load_whole.new.shelf) (seen before before)
+    (record { tells = refl; content = c.loop-file.invariant.same }) c.as_str.result.now file_limit c.in-Ok.bytes.items c.in-Ok.ensures.loaded in
+    record {
+      same = search rules;
+      loaded = loaded_more (seen before before) c.args.files.now c.loop-file.file-index c.file-item.result c.loop-file.contents.items
+          c.push.new.self.items c.in-Ok.bytes (search rules) c.file-item.is (search rules) c.loop-file.invariant.loaded
+          (rw c.as_str.ensures.value at one);
+      faults = search rules;
+      loads = λ tells. omega (arith, c.loop-file.invariant.loads tells, c.load_whole.ensures.loads tells);
+    }
+
+pub returns-clause-loaded : goal.returns-clause-loaded
+returns-clause-loaded g c =
+    let seen : g.row.S.Denot → g.row.S.Denot → ShelfSeen =
+    shelf_seen g.S.Shelf.tells g.S.Shelf.content g.S.Shelf.loads g.S.Shelf.faults in
+    let before = c.args.shelf.now in
+    let all = rw (take_all c.loop-file.file-index c.args.files.now (omega arith)) at c.loop-file.invariant.loaded in
+    are_loaded_same (seen before before) (seen before c.loop-file.shelf) (record { tells = refl; content = refl }) _ _ all
+
+pub returns-in-Err-Unread-clause-loaded : goal.returns-in-Err-Unread-clause-loaded
+returns-in-Err-Unread-clause-loaded g c =
+    let seen : g.row.S.Denot → g.row.S.Denot → ShelfSeen =
+    shelf_seen g.S.Shelf.tells g.S.Shelf.content g.S.Shelf.loads g.S.Shelf.faults in
+    let before = c.args.shelf.now in
+    let one = seen c.loop-file.shelf c.load_whole.new.shelf in
+    let whole = seen before c.load_whole.new.shelf in
+    let same : SameShelf one whole = record { tells = refl; content = c.loop-file.invariant.same } in
+    let loaded = are_loaded_same (seen before before) whole (record { tells = refl; content = refl }) _ _ c.loop-file.invariant.loaded in
+    record {
+      f = c.loop-file.file-index;
+      file = file_view c.file-item.result;
+      next = next_file whole c.args.files.now c.loop-file.file-index c.file-item.result c.loop-file.contents.items (search rules) c.file-item.is loaded;
+      unread = unread_same one whole same (omega arith) (omega arith) _ (rw (c.in-Err-Unread.field-0-is, c.as_str.ensures.value) at c.in-Err-Unread.ensures.loaded);
+    }
+
+pub returns-in-Err-Longer-clause-loaded : goal.returns-in-Err-Longer-clause-loaded
+returns-in-Err-Longer-clause-loaded g c =
+    let seen : g.row.S.Denot → g.row.S.Denot → ShelfSeen =
+    shelf_seen g.S.Shelf.tells g.S.Shelf.content g.S.Shelf.loads g.S.Shelf.faults in
+    let before = c.args.shelf.now in
+    let one = seen c.loop-file.shelf c.load_whole.new.shelf in
+    let whole = seen before c.load_whole.new.shelf in
+    let same : SameShelf one whole = record { tells = refl; content = c.loop-file.invariant.same } in
+    let loaded = are_loaded_same (seen before before) whole (record { tells = refl; content = refl }) _ _ c.loop-file.invariant.loaded in
+    record {
+      f = c.loop-file.file-index;
+      file = file_view c.file-item.result;
+      next = next_file whole c.args.files.now c.loop-file.file-index c.file-item.result c.loop-file.contents.items (search rules) c.file-item.is loaded;
+      longer = longer_same one whole same _ file_limit (rw (c.in-Err-Longer.field-0-is, c.as_str.ensures.value) at c.in-Err-Longer.ensures.loaded);
+      line_is = refl;
+    }

@@ -1,0 +1,9 @@
+pub mod Asked
+pub mod End
+pub mod Loads
+pub mod Ends
+pub mod Outcome
+pub mod Stories
+pub mod Requests
+pub mod Shown
+pub mod Statuses

@@ -1,0 +1,117 @@
+-- The statuses of a call, one by one (this project's own rules).
+use Rattle.std.specs.Prelude.{◌≡◌, ◌≢◌, ◌<◌, ◌≤◌, ◌⊎◌, ℕ, true, List, [], ◌∷◌, Option, Some, None, length, take, slice_get}
+use Rattle.gcd_plan.specs.PlanView.{PlanView, FileView}
+use Rattle.gcd_event.specs.declared.event.Event.{Event}
+use Rattle.gcd_history.specs.declared.state.State.TheVariants.{Drained}
+use Rattle.gcd_history.specs.History.{IsLawful}
+use Rattle.gcd_history.specs.Ends.{IsDrained}
+use Rattle.gcd_history.specs.Report.{report_text}
+use Rattle.gcd_outer.specs.Outside.{Bytes, ShelfSeen, SinkSeen, Lacks, ShelfFailed, IsUnread, IsLonger, SinkFailed, Took, TookFront}
+use Rattle.gcd_script.specs.Faults.{IsScriptOf, fault_of}
+use Rattle.gcd_run.specs.Asked.{RunAsked, request_of, run}
+use Rattle.gcd_run.specs.End.{End, usage_text, refused_text}
+use Rattle.gcd_run.specs.Loads.{IsLoaded, AreLoaded, IsNextFile, StopsLonger, script_limit, file_limit}
+use Rattle.gcd_run.specs.Ends.{InputsSeen, IsScript, WordsEnd}
+use Rattle.gcd_run.specs.declared.story.Ended.{Ended}
+
+-- the words ask for this run
+abbrev pub Asks : List Bytes → RunAsked → Type 0
+Asks words asked = request_of words ≡ Some (run asked)
+
+-- a status that a run of the first forms never has: it is never stuck, ends in no misuse and is never full
+pub record IsFirstStatus (status : ℕ) : Type 0 where
+  pub not_stuck : status ≢ 1
+  pub not_misused : status ≢ 4
+  pub not_full : status ≢ 8
+
+-- Status 0: the words ask for a run of a script; the journal is a lawful run of its plan that drained; and the sink took the
+-- report of that journal, in which each result is its block's value over the bytes that were loaded.
+pub record Drains (seen : InputsSeen) (sink : SinkSeen) (words : List Bytes) (result : Ended) : Type 0 where
+  pub asked : RunAsked
+  pub plan : PlanView
+  pub contents : List Bytes
+  pub asks : Asks words asked
+  pub script : IsScript seen.shelf asked.script plan
+  pub loaded : AreLoaded seen.shelf plan.files contents
+  pub lawful : IsLawful plan result.journal.items
+  pub drained : IsDrained plan result.journal.items
+  pub written : Took sink (report_text plan contents Drained result.journal.items)
+
+-- Status 2: the words are none, and the sink took the usage line.
+pub record IsUsage (sink : SinkSeen) (words : List Bytes) : Type 0 where
+  pub words_are_none : request_of words ≡ None
+  pub written : Took sink usage_text
+
+-- why a script is refused, at which line and with which code: it is too long, or no script, or a file of it is too long
+pub data IsRefused (shelf : ShelfSeen) (asked : RunAsked) (line code : ℕ) : Type 0 where
+  long_script : IsLonger shelf asked.script script_limit → line ≡ 0 → code ≡ 8 → IsRefused shelf asked line code
+  no_script : (script : Bytes) → IsLoaded shelf asked.script script_limit script → fault_of script ≡ Some (line, code)
+      → IsRefused shelf asked line code
+  long_file : (plan : PlanView) → IsScript shelf asked.script plan → StopsLonger shelf plan.files line → code ≡ 8
+      → IsRefused shelf asked line code
+
+-- Status 3: the words ask for a run of a script that is refused; the answer and the text name the line and the code.
+pub record Refuses (seen : InputsSeen) (sink : SinkSeen) (words : List Bytes) (result : Ended) : Type 0 where
+  pub asked : RunAsked
+  pub line : ℕ
+  pub code : ℕ
+  pub asks : Asks words asked
+  pub refused : IsRefused seen.shelf asked line code
+  pub at_is : result.at ≡ Some (line, code)
+  pub written : Took sink (refused_text line code)
+
+-- a shelf that tells has a script that is to be refused
+pub data MustRefuse (shelf : ShelfSeen) (asked : RunAsked) : Type 0 where
+  longer : (script : Bytes) → shelf.content asked.script ≡ Some script → script_limit < length script → MustRefuse shelf asked
+  faulty : (script : Bytes) (at : ℕ × ℕ) → shelf.content asked.script ≡ Some script → length script ≤ script_limit
+      → fault_of script ≡ Some at → MustRefuse shelf asked
+
+-- the shelf tells, and lacks the script or a file of it whose earlier files were loaded
+pub data LacksName (shelf : ShelfSeen) (asked : RunAsked) : Type 0 where
+  no_script : Lacks shelf asked.script → LacksName shelf asked
+  no_file : (plan : PlanView) (f : ℕ) (file : FileView) → IsScript shelf asked.script plan → IsNextFile shelf plan.files f file
+      → Lacks shelf file.path → LacksName shelf asked
+
+-- Status 5: the words ask for a run, and the shelf failed in the call, or it tells and lacks the script or a file of it.
+pub record CantRead (seen : InputsSeen) (words : List Bytes) : Type 0 where
+  pub asked : RunAsked
+  pub asks : Asks words asked
+  pub unread : ShelfFailed seen.shelf ⊎ LacksName seen.shelf asked
+
+-- Status 6: the sink failed in the call; what it took is a proper front of the text that was to be written.
+pub record IsCutOff (seen : InputsSeen) (sink : SinkSeen) (words : List Bytes) (result : Ended) : Type 0 where
+  pub end : End
+  pub told : WordsEnd seen words end
+  pub failed : SinkFailed sink
+  pub front : TookFront sink end.text
+  pub journal_is : result.journal.items ≡ end.journal
+  pub at_is : result.at ≡ end.at
+
+-- Status 7: memory was wanting; nothing was written, and nothing is told.
+pub record IsWanting (sink : SinkSeen) (result : Ended) : Type 0 where
+  pub nothing : Took sink []
+  pub journal_is : result.journal.items ≡ []
+  pub at_is : result.at ≡ None
+
+-- the call answered this status, or the sink failed in it, or memory was wanting
+abbrev pub Gives : SinkSeen → Ended → ℕ → Type 0
+Gives sink result status = (result.status ≡ status) ⊎ (((result.status ≡ 6) × SinkFailed sink) ⊎ (result.status ≡ 7))
+
+-- each file is told, within its limit
+abbrev pub AreTold : ShelfSeen → List FileView → Type 0
+AreTold shelf files = (f : ℕ) (file : FileView) → slice_get files f ≡ Some file
+    → (bytes : Bytes) × (shelf.content file.path ≡ Some bytes) × (length bytes ≤ file_limit)
+
+-- nothing outside stands in the way: no count rose, and the shelf tells a script and its files within their limits
+pub record IsHonest (seen : InputsSeen) (sink : SinkSeen) (words : List Bytes) : Type 0 where
+  pub tells : seen.shelf.tells ≡ true
+  pub shelf_works : ShelfFailed seen.shelf → ⊥
+  pub sink_works : SinkFailed sink → ⊥
+  pub asked : RunAsked
+  pub script : Bytes
+  pub plan : PlanView
+  pub asks : Asks words asked
+  pub script_is : seen.shelf.content asked.script ≡ Some script
+  pub script_fits : length script ≤ script_limit
+  pub declares : IsScriptOf script plan
+  pub files : AreTold seen.shelf plan.files

@@ -1,0 +1,16 @@
+//! The top call.
+#![tactic(auto)]
+
+mod load;
+mod report;
+mod story;
+mod top;
+mod turn;
+mod words;
+mod work;
+
+pub use story::Ended;
+pub use top::gcd_main;
+
+#[cfg(test)]
+mod tests;

@@ -1,0 +1,87 @@
+// Contents from the shelf.
+ghost use Rattle.std.specs.Prelude.{◌≡◌, ◌≤◌, ◌+◌, ℕ, true, length, map, MatchResult};
+ghost use Rattle.gcd_plan.specs.PlanView.{file_view};
+ghost use Rattle.gcd_outer.specs.Outside.{shelf_seen};
+ghost use Rattle.gcd_run.specs.Loads.{IsLoaded, AreLoaded, IsStop, AreStopped, file_limit};
+
+use gcd_outer::{LoadFault, Shelf};
+use gcd_plan::FilePart;
+use std::alloc::{AllocError, Global};
+
+/// The most bytes that a script may have (this project's own rule).
+pub const SCRIPT_LIMIT: usize = 1_048_576;
+
+/// The most bytes that a file may have (this project's own rule).
+pub const FILE_LIMIT: usize = 16_777_216;
+
+/// Why a content was not loaded.
+#[derive(Clone, Copy, Debug, PartialEq, Eq)]
+pub enum Stop {
+    /// The shelf failed, or it tells and has no such name.
+    Unread,
+    /// The content is longer than its limit.
+    Longer,
+    /// There was not the memory to hold it.
+    Memory,
+}
+
+/// Loads what stands under the name, whole.
+pub fn load_whole<S: Shelf>(
+    alloc: Global,
+    shelf: &mut S,
+    name: &str,
+    most: usize,
+) -> Result<Vec<u8>, Stop>
+    ensures loaded { MatchResult result (λ bytes. IsLoaded (shelf_seen S.tells S.content S.loads S.faults shelf.old shelf.new) name.now most bytes.items)
+        (λ stop. IsStop (shelf_seen S.tells S.content S.loads S.faults shelf.old shelf.new) name.now most stop) }
+    ensures same { S.content shelf.new ≡ S.content shelf.old }
+    ensures faults { S.faults shelf.old ≤ S.faults shelf.new }
+    ensures loads { S.tells ≡ true → S.loads shelf.new ≤ S.loads shelf.old + 1 }
+{
+    let mut bytes = Vec::new(alloc);
+    match shelf.load(name, most, &mut bytes) {
+        Ok(()) => Ok(bytes),
+        Err(LoadFault::Failed) => Err(Stop::Unread),
+        Err(LoadFault::Missing) => Err(Stop::Unread),
+        Err(LoadFault::TooLong(_)) => Err(Stop::Longer),
+        Err(LoadFault::Memory) => Err(Stop::Memory),
+    }
+}
+
+/// Why the files were not loaded.
+#[derive(Clone, Copy, Debug, PartialEq, Eq)]
+pub enum FilesStop {
+    /// One of them can't be read.
+    Unread,
+    /// One of them, declared at this line, is longer than its limit.
+    Longer(u32),
+    /// There was not the memory to hold them.
+    Memory,
+}
+
+/// Loads the files, in their order, up to the first that can't be loaded.
+pub fn load_files<S: Shelf>(
+    alloc: Global,
+    shelf: &mut S,
+    files: &[FilePart],
+) -> Result<Vec<Vec<u8>>, FilesStop>
+    ensures loaded { MatchResult result (λ contents. AreLoaded (shelf_seen S.tells S.content S.loads S.faults shelf.old shelf.new) (map file_view files.now) (map (λ c. c.items) contents.items))
+        (λ stop. AreStopped (shelf_seen S.tells S.content S.loads S.faults shelf.old shelf.new) (map file_view files.now) stop) }
+    ensures faults { S.faults shelf.old ≤ S.faults shelf.new }
+    ensures loads { S.tells ≡ true → S.loads shelf.new ≤ S.loads shelf.old + length files.now }
+{
+    let mut contents = Vec::new(alloc);
+    for file in files {
+        match load_whole(alloc, shelf, file.path.as_str(), FILE_LIMIT) {
+            Ok(bytes) => {
+                if contents.push(bytes).is_err() {
+                    return Err(FilesStop::Memory);
+                }
+            }
+            Err(Stop::Unread) => return Err(FilesStop::Unread),
+            Err(Stop::Longer) => return Err(FilesStop::Longer(file.line)),
+            Err(Stop::Memory) => return Err(FilesStop::Memory),
+        }
+    }
+    Ok(contents)
+}
