@@ -1,0 +1,47 @@
+//! The program: the words of the command line, the real files and standard output, and the status with which it ends.
+//!
+//! `gcd run SCRIPT` runs a script; what it does and answers is `gcd_run::gcd_main`.
+#![tactic(auto)]
+
+mod script_shelf;
+
+use crate::script_shelf::ScriptShelf;
+use gcd_outer::StdoutSink;
+use gcd_run::gcd_main;
+use std::alloc::{AllocError, Global};
+use std::process::ExitCode;
+use std::rt::{Env, Files};
+use std::{env, io};
+
+// The words after the program's name.
+fn words_of<R: Env + AllocGlobal>(rt: &R) -> io::Result<Vec<String>> {
+    let mut words = Vec::new(rt.alloc());
+    for word in env::args(rt)?.skip(1) {
+        words.push(word)?;
+    }
+    Ok(words)
+}
+
+fn texts<'a>(alloc: Global, words: &'a [String]) -> Result<Vec<&'a str>, AllocError> {
+    words.iter().map(|word| word.as_str()).collect(alloc)
+}
+
+fn status<R: Files + Print + Env + AllocGlobal>(rt: &R) -> u8 {
+    // Words that are no text are none, as an unknown command is.
+    let words = match words_of(rt) {
+        Ok(words) => words,
+        Err(error) if error.kind() == io::ErrorKind::OutOfMemory => return 7,
+        Err(_) => Vec::new(rt.alloc()),
+    };
+    let Ok(texts) = texts(rt.alloc(), &words) else {
+        return 7;
+    };
+    let script = texts.get(1).copied().unwrap_or("");
+    let mut shelf = ScriptShelf::new(rt, rt.alloc(), script);
+    let mut out = StdoutSink::new(rt);
+    gcd_main(rt.alloc(), &texts, &mut shelf, &mut out).status
+}
+
+fn main(rt: HostRuntime) -> ExitCode {
+    ExitCode::from(status(&rt))
+}
