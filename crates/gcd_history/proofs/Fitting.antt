@@ -19,7 +19,7 @@ use Rattle.gcd_history.specs.History.{why}
 use Rattle.gcd_history.proofs.Reasons.{allowed}
 
 -- what has a kind is an object of the plan
-has_object : (test : Kind → Bool) (plan : PlanView) (s : ℕ) → has_kind test plan s ≡ true → s < length plan.objects
+pub has_object : (test : Kind → Bool) (plan : PlanView) (s : ℕ) → has_kind test plan s ≡ true → s < length plan.objects
 has_object test plan s h =
     elim (slice_get plan.objects s) as (λ o. slice_get plan.objects s ≡ o → option_map_or test (option_map (λ obj. obj.kind) o) false ≡ true → s < length plan.objects) [
       | None ↦ λ none k. cc

@@ -3,9 +3,32 @@ pub mod LawfulLemmas
 pub mod Reasons
 pub mod Fitting
 mod Samples
+mod SampleLaws
 mod RowsOrder
 mod RowsObjects
 mod RowsGroups
 mod RowsSources
 mod RowsForged
 mod RowsValues
+mod RowsOfLaws
+pub mod RunsOpen
+pub mod StartedOnce
+pub mod Sums
+pub mod SubmittedOnce
+pub mod InOrder
+pub mod PublicLaws
+pub mod PublicFacts
+pub mod Merged
+pub mod FreeAtStart
+pub mod Woken
+pub mod WaitsPass
+pub mod OneRun
+pub mod Walks
+pub mod OpenNodes
+pub mod TargetActs
+pub mod TreeStands
+pub mod MovesAlone
+pub mod RunsAlone
+pub mod Choices
+pub mod Quiet
+pub mod OneState

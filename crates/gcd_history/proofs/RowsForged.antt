@@ -14,10 +14,10 @@ abbrev one_block : PlanView
 one_block = plan_of (serial (codes "q") 0 ∷ []) (Async (o 1) (b 1) ∷ []) (counting (codes "b1") Lines 0 ∷ [])
 
 -- main's three events, and all five that one worker makes of it
-abbrev main_runs : List Event
+abbrev pub main_runs : List Event
 main_runs = Start 0 (b 0) ∷ Acted 0 (run 0) 0 ∷ End 0 (b 0) ∷ []
 
-abbrev whole : List Event
+abbrev pub whole : List Event
 whole = main_runs ++ Start 0 (b 1) ∷ End 0 (b 1) ∷ []
 
 without_the_first_event : refused one_block (Acted 0 (run 0) 0 ∷ End 0 (b 0) ∷ Start 0 (b 1) ∷ End 0 (b 1) ∷ []) ≡ Some (0, NotOwn)

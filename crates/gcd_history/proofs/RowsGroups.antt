@@ -45,12 +45,12 @@ unfolding words
 leave_without_an_enter = refl
 
 -- group g; queue q serial; block w; group_wait g; main; enter g; async q w; leave g; enter g
-abbrev emptied_once : PlanView
+abbrev pub emptied_once : PlanView
 emptied_once = plan_of (group (codes "g") ∷ serial (codes "q") 0 ∷ [])
     (Enter (o 1) ∷ Async (o 2) (b 1) ∷ Leave (o 1) ∷ Enter (o 1) ∷ [])
     (block (codes "w") (GroupWait (o 1) ∷ []) ∷ [])
 
-abbrev waits_from_the_start : List Event
+abbrev pub waits_from_the_start : List Event
 waits_from_the_start = Start 0 (b 0) ∷ Acted 0 (run 0) 0 ∷ Acted 0 (run 0) 1 ∷ Start 1 (b 1) ∷ Acted 1 (run 1) 0 ∷ []
 
 group_wait_passes_by_a_moment_that_has_gone : checked emptied_once

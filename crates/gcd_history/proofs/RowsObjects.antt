@@ -52,7 +52,7 @@ unfolding words
 resume_of_an_inactive_queue = refl
 
 -- queue t serial; queue q serial; block b1; target q t; block b2; block c; main; async q b1; async q b2; async t c
-abbrev moved : PlanView
+abbrev pub moved : PlanView
 moved = plan_of (serial (codes "t") 0 ∷ serial (codes "q") 0 ∷ [])
     (Async (o 2) (b 1) ∷ Async (o 2) (b 2) ∷ Async (o 1) (b 3) ∷ [])
     (block (codes "b1") (Target (o 2) (o 1) ∷ []) ∷ block (codes "b2") [] ∷ block (codes "c") [] ∷ [])

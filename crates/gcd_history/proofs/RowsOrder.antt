@@ -33,7 +33,7 @@ unfolding words
 empty_file_has_no_bytes = refl
 
 -- queue q serial; queue r serial; block b3; block b1; sync r b3; block b2; main; async q b1; async q b2
-abbrev sync_apart : PlanView
+abbrev pub sync_apart : PlanView
 sync_apart = plan_of (serial (codes "q") 0 ∷ serial (codes "r") 0 ∷ [])
     (Async (o 1) (b 2) ∷ Async (o 1) (b 3) ∷ [])
     (block (codes "b3") [] ∷ block (codes "b1") (Sync (o 2) (b 1) ∷ []) ∷ block (codes "b2") [] ∷ [])

@@ -63,6 +63,17 @@ is_work (FeedEnd s) = false
 is_work Halt = false
 is_work e = true
 
+-- the event's worker; those of the outside are worker 0's
+abbrev pub worker_of : Event → ℕ
+worker_of (Start w b) = w
+worker_of (Acted w r i) = w
+worker_of (Wake w b) = w
+worker_of (End w b) = w
+worker_of (Deliver w s) = w
+worker_of (DeliverEnd w s) = w
+worker_of (Misuse w r i c) = w
+worker_of e = 0
+
 -- not halted, no event of any worker is permitted, no due time is left, and no read source is live
 pub record IsQuiescent (plan : PlanView) (past : List Event) : Type 0 where
   pub goes_on : is_halted past ≡ false

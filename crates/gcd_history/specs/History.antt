@@ -1,6 +1,6 @@
 -- What a history says, the oldest event first: `h ++ e ∷ []` is h, followed by e, and position i is `take i h`. Each word
 -- is that of the files before, over the events in reverse.
-use Rattle.std.specs.Prelude.{◌≡◌, ◌≤◌, ℕ, Bool, List, length, take, Option, Some, None, slice_get, reverse, is_some, IsTrue, option_map, option_and_then}
+use Rattle.std.specs.Prelude.{◌≡◌, ◌≤◌, ℕ, Bool, ◌&&◌, List, length, take, Option, Some, None, slice_get, reverse, is_some, is_none, IsTrue, option_map, option_and_then}
 use Rattle.gcd_plan.specs.PlanView.{PlanView}
 use Rattle.gcd_plan.specs.declared.act.Act.{Act}
 use Rattle.gcd_plan.specs.declared.names.Blk.{Blk}
@@ -52,6 +52,10 @@ open_runs_of h = runs.open_runs (reverse h)
 -- the run is open
 unfoldable pub is_open : List Event → Run → Bool
 is_open h run = runs.is_open (reverse h) run
+
+-- the run is open and not parked
+unfoldable pub is_running : PlanView → List Event → Run → Bool
+is_running plan h run = runs.is_open (reverse h) run && is_none (parked.parked_by plan (reverse h) run)
 
 -- how many runs are open and not parked
 unfoldable pub running_of : PlanView → List Event → ℕ
@@ -138,6 +142,14 @@ chain_of plan h o = tree.chain plan (reverse h) o
 -- the nodes that the run is beneath, its own first; main is beneath none (dispatch_queue_create(3))
 unfoldable pub nodes_of_run : PlanView → List Event → Run → List ℕ
 nodes_of_run plan h run = tree.chain_of_run plan (reverse h) run
+
+-- the node of the run: a block's queue or source, a handler's source; main has none
+unfoldable pub node_of_run : PlanView → List Event → Run → Option ℕ
+node_of_run plan h run = tree.node_of plan (reverse h) run
+
+-- the run is a barrier of node n (dispatch_barrier_async(3))
+unfoldable pub is_barrier_of : PlanView → List Event → ℕ → Run → Bool
+is_barrier_of plan h n run = permitted.is_barrier_on plan (reverse h) n run
 
 -- how many runs are open beneath object o
 unfoldable pub open_beneath_of : PlanView → List Event → ℕ → ℕ

@@ -19,3 +19,5 @@ pub mod Ends
 pub mod Values
 pub mod Report
 pub mod JournalText
+pub mod Laws
+pub mod Facts

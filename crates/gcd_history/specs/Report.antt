@@ -29,18 +29,21 @@ name_of_run plan (Source s) = name_of_obj plan s.0
 abbrev pub result_line : PlanView → (value : ℕ → ℕ) → List Event → ℕ → List ℕ
 result_line plan value h b =
     if is_some (work_of plan b) && is_ended h b
-    then name_of_blk plan b ++ codes " = " ++ decimal (value b) ++ line_end
+    then name_of_blk plan b ++ (codes " = " ++ (decimal (value b) ++ line_end))
     else []
+
+-- what follows the name in a source's line
+abbrev pub source_counts : PlanView → List Event → ℕ → List ℕ
+source_counts plan h s =
+    codes " received " ++ (decimal (received_of plan h s)
+    ++ (codes " in " ++ (decimal (deliveries_of h s)
+    ++ (codes " pending " ++ (decimal (pending_of plan h s) ++ line_end)))))
 
 -- `NAME received R in K pending Q`, for a source: what its Delivers handed over in one, their number, and what is pending
 abbrev pub source_line : PlanView → List Event → ℕ → List ℕ
 source_line plan h s =
     if is_source plan s
-    then name_of_obj plan s
-    ++ codes " received " ++ decimal (received_of plan h s)
-    ++ codes " in " ++ decimal (deliveries_of h s)
-    ++ codes " pending " ++ decimal (pending_of plan h s)
-    ++ line_end
+    then name_of_obj plan s ++ source_counts plan h s
     else []
 
 -- the name of the block, group or semaphore that is waited for
@@ -52,12 +55,12 @@ awaited plan (Rank s k) = name_of_obj plan s.0
 -- `NAME waits for X`, for a parked block
 abbrev pub wait_line : PlanView → List Event → ℕ → List ℕ
 wait_line plan h b =
-    option_map_or (λ reason. name_of_blk plan b ++ codes " waits for " ++ awaited plan reason ++ line_end) (reason_of plan h b) []
+    option_map_or (λ reason. name_of_blk plan b ++ (codes " waits for " ++ (awaited plan reason ++ line_end))) (reason_of plan h b) []
 
 -- `NAME not started`, for a submitted block that has not started
 abbrev pub unstarted_line : PlanView → List Event → ℕ → List ℕ
 unstarted_line plan h b =
-    if is_submitted plan h b && not (is_started h b) then name_of_blk plan b ++ codes " not started" ++ line_end else []
+    if is_submitted plan h b && not (is_started h b) then name_of_blk plan b ++ (codes " not started" ++ line_end) else []
 
 -- where the run is stuck: the parked blocks, and then the blocks that have not started, by number
 abbrev pub stuck_lines : PlanView → State → List Event → List ℕ
@@ -69,7 +72,7 @@ stuck_lines plan _ h = []
 -- `misuse R I Mk`, for a Misuse: the run's name, the act's index and the code
 abbrev pub misuse_line : PlanView → Event → List ℕ
 misuse_line plan (Misuse w run i c) =
-    codes "misuse " ++ name_of_run plan run ++ codes " " ++ decimal i ++ codes " M" ++ decimal c ++ line_end
+    codes "misuse " ++ (name_of_run plan run ++ (codes " " ++ (decimal i ++ (codes " M" ++ (decimal c ++ line_end)))))
 misuse_line plan _ = []
 
 -- the last line: `drained`, `stuck`, the misuse, `read fault` after a Halt, and else `full`
@@ -85,9 +88,8 @@ last_line plan Live h = codes "full" ++ line_end
 unfoldable pub report_by : PlanView → (value : ℕ → ℕ) → State → List Event → List ℕ
 report_by plan value state h =
     flat_map (result_line plan value h) (range_with_len 0 (length plan.blocks))
-    ++ flat_map (source_line plan h) (range_with_len 0 (length plan.objects))
-    ++ stuck_lines plan state h
-    ++ last_line plan state h
+    ++ (flat_map (source_line plan h) (range_with_len 0 (length plan.objects))
+    ++ (stuck_lines plan state h ++ last_line plan state h))
 
 -- the report over the files, by number
 abbrev pub report_text : PlanView → (files : List (List ℕ)) → State → List Event → List ℕ

@@ -24,6 +24,10 @@ folded _ a b = a + b
 abbrev pub fold_of : Kind → List ℕ → ℕ
 fold_of kind values = fold (folded kind) 0 values
 
+-- two values of source s in one
+abbrev pub joined : PlanView → ℕ → ℕ → ℕ → ℕ
+joined plan s a b = option_map_or (λ kind. folded kind a b) (kind_of plan s) 0
+
 -- how the values of source s are made one
 abbrev pub fold_at : PlanView → ℕ → List ℕ → ℕ
 fold_at plan s values = option_map_or (λ kind. fold_of kind values) (kind_of plan s) 0

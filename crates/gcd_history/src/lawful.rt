@@ -13,7 +13,8 @@ pub fn lawful_begins()
 
 /// A lawful history with an event that is permitted next is lawful (this project's own rule).
 pub fn lawful_goes_on()
-    ensures { (plan : PlanView) (h : List Event) (e : Event) → IsLawful plan h → why plan h e ≡ None → IsLawful plan (h ++ e ∷ []) }
+    ensures { (plan : PlanView) (h : List Event) (e : Event) → IsLawful plan h → why plan h e ≡ None
+        → IsLawful plan (h ++ e ∷ []) }
 {}
 
 /// The front of a lawful history is lawful (this project's own rule).
@@ -24,10 +25,12 @@ pub fn fronts_are_lawful()
 
 /// The event after a front of a lawful history is permitted there (this project's own rule).
 pub fn next_is_permitted()
-    ensures { (plan : PlanView) (h : List Event) (e : Event) (rest : List Event) → IsLawful plan (h ++ e ∷ rest) → why plan h e ≡ None }
+    ensures { (plan : PlanView) (h : List Event) (e : Event) (rest : List Event)
+        → IsLawful plan (h ++ e ∷ rest) → why plan h e ≡ None }
 {}
 
 /// An event that is permitted fits: its fields are in their ranges (this project's own rule).
 pub fn permitted_events_fit()
-    ensures { (plan : PlanView) (h : List Event) (e : Event) → IsPlan plan → why plan h e ≡ None → IsFitting e }
+    ensures { (plan : PlanView) (h : List Event) (e : Event) → IsPlan plan → why plan h e ≡ None
+        → IsFitting e }
 {}

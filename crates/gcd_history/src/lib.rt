@@ -9,6 +9,7 @@
 //! | `Ends` | how a history ends: `IsHalted`, `IsQuiescent`, `IsDrained`, `IsStuck`, `IsFull`, `HasState` |
 //! | `Values` | what a block's work computes: `value_of` |
 //! | `Report`, `JournalText` | the texts of a run: `report_text`, `journal_text` |
+//! | `Laws`, `Facts` | what the laws and facts below say |
 //! | the others | the same words by recursion, over the events in reverse, the newest first: `e ∷ past` is past, followed by e |
 //!
 //! The words of `History`, `Ends` and the texts are `unfoldable`, and each is one line over a word of the other files at
@@ -20,11 +21,27 @@
 //! | [`lawful::lawful_begins`], [`lawful::lawful_goes_on`] | what makes a history lawful |
 //! | [`lawful::fronts_are_lawful`], [`lawful::next_is_permitted`] | what a lawful history is made of |
 //! | [`lawful::permitted_events_fit`] | a permitted event has its fields in their ranges |
+//! | [`laws::blocks_run_once`], [`laws::blocks_are_submitted_once`] | a block starts at most once, after its one submission, and where all is drained it has ended |
+//! | [`laws::blocks_start_in_order`] | of two submissions on one node the later starts only after the earlier has started |
+//! | [`laws::runs_exclude_each_other`], [`laws::barriers_exclude`] | beneath a serial queue or source, and beside a barrier, a run is alone |
+//! | [`laws::runs_begin_free`] | what begins, begins with its whole chain free |
+//! | [`laws::wakes_have_causes`] | a parked block wakes only when what it waits for has come |
+//! | [`laws::merged_data_is_conserved`] | what was merged was handed over, or is pending |
+//! | [`laws::tree_stands_under_open_runs`] | targets lead to root, and stand still under an open run |
+//! | [`laws::choices_are_complete`] | a worker has a choice exactly where an event of its own is permitted |
+//! | [`laws::quiescent_is_at_rest`], [`laws::ended_histories_stand`], [`laws::states_are_apart`] | how to see that nothing goes on, and what can still come then |
+//! | [`facts::workers_have_one_run`], [`facts::open_runs_go_on`] | a worker has at most one open and unparked run, and such a run has a permitted event of its own |
+//! | [`facts::free_workers_are_alike`] | what is permitted to one free worker is permitted to every other |
+//! | [`facts::wakes_stay_due`] | a block that may wake may wake until its Wake |
+//! | [`facts::lawful_events_fit`] | each event of a lawful history fits |
+//! | [`facts::targets_change_alone`] | only what was created active moves, and nothing is open beneath what has moved |
 //!
 //! Nothing here says that a run exists, that a worker does anything, or which of several lawful histories comes.
 #![tactic(auto)]
 
+pub mod facts;
 pub mod lawful;
+pub mod laws;
 mod state;
 mod submission;
 

@@ -1,2 +1,9 @@
+pub mod Answers
+pub mod Feeds
+pub mod InMemory
 pub mod Outside
 pub mod Pages
+pub mod Planned
+pub mod Slots
+pub mod Tells
+pub mod Texts

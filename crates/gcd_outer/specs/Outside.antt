@@ -83,3 +83,21 @@ Took sink bytes = sink.tells ≡ true → sink.taken_after ≡ sink.taken_before
 -- the sink took a proper front of the text and nothing else, if it tells
 abbrev pub TookFront : SinkSeen → Bytes → Type 0
 TookFront sink text = sink.tells ≡ true → (n : ℕ) × (n < length text) × (sink.taken_after ≡ sink.taken_before ++ take n text)
+
+-- What a call saw of a clock: whether it tells its present, and the present and the greatest moment waited for, before and after.
+pub record ClockSeen : Type 0 where
+  pub tells : Bool
+  pub present_before : ℕ
+  pub present_after : ℕ
+  pub waited_before : ℕ
+  pub waited_after : ℕ
+
+-- what a call saw of a clock, from the clock's ghost members and its state before and after the call
+abbrev pub clock_seen : {C : Type 0} → Bool → (C → ℕ) → (C → ℕ) → C → C → ClockSeen
+clock_seen tells present waited old new = record {
+  tells = tells;
+  present_before = present old;
+  present_after = present new;
+  waited_before = waited old;
+  waited_after = waited new;
+}

@@ -1,5 +1,5 @@
 // A shelf over the system's files.
-ghost use Rattle.std.specs.Prelude.{◌≤◌, ◌<◌, ℕ, false, None, length, OnOk, IsErrOf};
+ghost use Rattle.std.specs.Prelude.{◌≡◌, ◌≤◌, ◌<◌, ℕ, false, None, length, OnOk, IsErrOf};
 
 use crate::shelf::{LoadFault, Shelf};
 use std::fs;
@@ -17,7 +17,9 @@ pub struct FileShelf<'a, R: Files> {
 
 impl<'a, R: Files> FileShelf<'a, R> {
     /// A shelf that has not failed yet.
-    pub fn new(rt: &'a R) -> Self {
+    pub fn new(rt: &'a R) -> Self
+        ensures { ⟦<FileShelf<'a, R> as Shelf>⟧.faults result ≡ 0 }
+    {
         FileShelf { rt, faults: 0 }
     }
 }

@@ -1,15 +1,13 @@
 //! The outside of the program: what comes in and what goes out. (This project's own rules.)
 //!
-//! A `Shelf` is a map from names to bytes, from which contents are loaded whole. A `Sink` takes bytes
-//! one piece after another. Each has an implementation in memory, which tells what it holds or took,
-//! and one over the system, which tells nothing.
+//! | trait | what it is | model | in memory | over the system |
+//! |---|---|---|---|---|
+//! | `Shelf` | contents by name, loaded whole | the content under each name; the number of loads | `MapShelf` | `FileShelf` |
+//! | `Sink` | takes bytes, piece by piece | the bytes taken so far | `VecSink` | `StdoutSink` |
+//! | `Poller` | tells how many bytes came from feeds | the answers so far; for each watched feed the number of answers at its watch; the watches; the listens | `ListPoller` | `NetPoller` |
+//! | `Clock` | the time in milliseconds | the present; the greatest moment waited for | `JumpClock` | `SystemClock` |
 //!
-//! | trait | model | in memory | over the system |
-//! |---|---|---|---|
-//! | `Shelf` | the content under each name; the number of loads | `MapShelf` | `FileShelf` |
-//! | `Sink` | the bytes taken so far | `VecSink` | `StdoutSink` |
-//!
-//! Each also has a count of faults that never falls. What the traits promise:
+//! All but `Clock` also have a count of faults that never falls. What the traits promise:
 //!
 //! | call | answers | and then |
 //! |---|---|---|
@@ -23,26 +21,57 @@
 //! | | `Failed` | the count of faults rose, and nothing was taken |
 //! | `write_whole` | `Ok` | the whole text was taken |
 //! | | `Failed` | the count of faults rose, and a proper front of the text was taken |
+//! | `Poller::listen` | `Ok` | connections are accepted at the address |
+//! | `Poller::watch` | `Ok` | the feed is watched, and has not ended |
+//! | `Poller::poll` | `Ok` | `into` is the answer: at most 64 tells, each of a watched feed that has not ended, of less than 2^31 bytes |
+//! | any of these three | `Ok` | the count of faults is as it was |
+//! | | `Failed` | the count of faults rose, and all else is as it was, but for the number of listens |
+//! | `Clock::now` | the time | it is not below an earlier answer; where told, it is the present |
+//! | `Clock::wait_until` | | the present is at least the moment waited for |
 //!
-//! What is told is a ghost member of the trait (`content`, `loads`, `taken`), and the clauses on it hold
-//! where the member `tells` is true. A count rises by one at a fault; since it is a 64-bit number, it
-//! stops at 2^64 - 1, and "the count rose" (`Rises`) says: it rose, or it stands at that last number.
+//! What is told is a ghost member of the trait, as `content` or `answers`, and the clauses on it hold
+//! where the member `tells` is true: in memory it is, over the system it isn't. A count rises by one at a
+//! fault; since it is a 64-bit number, it stops at 2^64 - 1, and "the count rose" (`Rises`) says: it
+//! rose, or it stands at that last number.
 //!
-//! Nothing is said of what a file holds or of what a terminal shows.
+//! `Poller::poll` and `Clock::wait_until` alone wait for others; no proof says that they return.
+//! Nothing is said of what a file, a socket or a terminal gives or takes, nor of how long a wait is.
 #![tactic(auto)]
 
+mod answer_list;
+mod calls;
+mod clock;
+mod feed;
 mod file_shelf;
+mod jump_clock;
+mod list_poller;
 mod map_shelf;
+mod net_poller;
+mod poller;
 mod shelf;
 mod sink;
+mod slot;
+mod slots;
 mod stdout_sink;
+mod system_clock;
+mod tell;
+mod text_log;
+mod told;
 mod vec_sink;
 
+pub use clock::Clock;
 pub use file_shelf::FileShelf;
+pub use jump_clock::JumpClock;
+pub use list_poller::ListPoller;
 pub use map_shelf::MapShelf;
+pub use net_poller::NetPoller;
+pub use poller::{FEEDS, Poller};
 pub use shelf::{LoadFault, Shelf};
 pub use sink::{Failed, Sink, write_whole};
 pub use stdout_sink::StdoutSink;
+pub use system_clock::SystemClock;
+pub use tell::Tell;
+pub use told::Told;
 pub use vec_sink::VecSink;
 
 #[cfg(test)]

@@ -22,7 +22,8 @@ pub trait Sink {
     fn write(&mut self, piece: &[u8]) -> Result<usize, Failed>
         ensures some { 0 < length piece.now → IfOk result (λ n. 0 < n) }
         ensures within { IfOk result (λ n. n ≤ length piece.now) }
-        ensures taken { tells ≡ true → IfOk result (λ n. taken self.new ≡ taken self.old ++ take n piece.now) }
+        ensures taken { tells ≡ true
+            → IfOk result (λ n. taken self.new ≡ taken self.old ++ take n piece.now) }
         ensures nothing { tells ≡ true → OnErr result (taken self.new ≡ taken self.old) }
         ensures failed { OnErr result (Rises (faults self.old) (faults self.new)) }
         ensures faults { faults self.old ≤ faults self.new };
@@ -32,7 +33,8 @@ pub trait Sink {
 /// the sink took a proper front of the text. (This project's own rule.)
 pub fn write_whole<K: Sink>(out: &mut K, text: &[u8]) -> Result<(), Failed>
     ensures ok { K.tells ≡ true → OnOk result (K.taken out.new ≡ K.taken out.old ++ text.now) }
-    ensures front { K.tells ≡ true → OnErr result ((n : ℕ) × (n < length text.now) × (K.taken out.new ≡ K.taken out.old ++ take n text.now)) }
+    ensures front { K.tells ≡ true
+        → OnErr result ((n : ℕ) × (n < length text.now) × (K.taken out.new ≡ K.taken out.old ++ take n text.now)) }
     ensures failed { OnErr result (Rises (K.faults out.old) (K.faults out.new)) }
     ensures faults { K.faults out.old ≤ K.faults out.new }
 {

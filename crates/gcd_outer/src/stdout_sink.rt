@@ -1,5 +1,5 @@
 // Standard output as a sink.
-ghost use Rattle.std.specs.Prelude.{[], false};
+ghost use Rattle.std.specs.Prelude.{◌≡◌, [], false};
 
 use crate::sink::{Failed, Sink};
 
@@ -13,7 +13,9 @@ pub struct StdoutSink<'a, R: Print> {
 
 impl<'a, R: Print> StdoutSink<'a, R> {
     /// A sink that has not failed yet.
-    pub fn new(rt: &'a R) -> Self {
+    pub fn new(rt: &'a R) -> Self
+        ensures { ⟦<StdoutSink<'a, R> as Sink>⟧.faults result ≡ 0 }
+    {
         StdoutSink { rt, faults: 0 }
     }
 }

@@ -1,35 +1,41 @@
 // A sink in memory, which tells what it took.
-ghost use Rattle.std.specs.Prelude.{◌≡◌, ◌<◌, [], true, IfOk};
+ghost use Rattle.std.specs.Prelude.{◌≡◌, ◌≤◌, ◌<◌, ◌++◌, ◌∷◌, [], true, vec_capacity, IfOk, OnOk, OnErr};
 
+use crate::calls::Calls;
 use crate::sink::{Failed, Sink};
 use std::alloc::{AllocError, Global};
 
-/// A sink in memory with room for a stated number of bytes. It tells what it took. It fails in the
-/// writes that `fail` names and in one that would pass its room. (This project's own rule.)
+/// A sink in memory with room for a stated number of bytes. It tells what it took. It fails just in the
+/// writes that `fail` names and in one that would pass its room, and takes nothing then. (This project's
+/// own rule.)
 #[derive(Drop)]
 pub struct VecSink {
     bytes: Vec<u8>,
     room: usize,
     most: usize,
-    failing: Vec<u64>,
-    writes: u64,
+    writes: Calls,
     faults: u64,
     ghost takes_some: { 0 < most },
+    ghost reserved: { room ≤ vec_capacity bytes },
 }
 
 impl VecSink {
+    ghost use Rattle.gcd_outer.specs.InMemory.{failing_writes, room_of, most_of};
+
     /// A sink with room for `room` bytes, which takes at most `most` of them at a write.
     pub fn new(alloc: Global, room: usize, most: usize) -> Result<Self, AllocError>
         requires { 0 < most }
         ensures empty { IfOk result (λ s. ⟦<VecSink as Sink>⟧.taken s ≡ []) }
         ensures faults { IfOk result (λ s. ⟦<VecSink as Sink>⟧.faults s ≡ 0) }
+        ensures room { IfOk result (λ s. room_of s ≡ room) }
+        ensures most { IfOk result (λ s. most_of s ≡ most) }
+        ensures failing { IfOk result (λ s. failing_writes s ≡ []) }
     {
         Ok(VecSink {
             bytes: Vec::with_capacity(alloc, room)?,
             room,
             most,
-            failing: Vec::new(alloc),
-            writes: 0,
+            writes: Calls::new(alloc),
             faults: 0,
         })
     }
@@ -38,9 +44,12 @@ impl VecSink {
     pub fn fail(&mut self, write: u64) -> Result<(), AllocError>
         ensures taken { ⟦<VecSink as Sink>⟧.taken self.new ≡ ⟦<VecSink as Sink>⟧.taken self.old }
         ensures faults { ⟦<VecSink as Sink>⟧.faults self.new ≡ ⟦<VecSink as Sink>⟧.faults self.old }
+        ensures room { room_of self.new ≡ room_of self.old }
+        ensures most { most_of self.new ≡ most_of self.old }
+        ensures ok { OnOk result (failing_writes self.new ≡ failing_writes self.old ++ write ∷ []) }
+        ensures wanting { OnErr result (failing_writes self.new ≡ failing_writes self.old) }
     {
-        self.failing.push(write)?;
-        Ok(())
+        self.writes.fail(write)
     }
 
     /// All that it took, in order.
@@ -52,19 +61,42 @@ impl VecSink {
 }
 
 impl Sink for VecSink {
+    ghost use Rattle.std.specs.Prelude.{◌≡◌, ◌≤◌, ◌<◌, ◌+◌, ◌++◌, ◌⊎◌, true, length, take, min, Contains, IsErr, IfOk, OnOk, OnErr};
+    ghost use Rattle.gcd_outer.specs.InMemory.{failing_writes, writes_of, room_of, most_of};
+    ghost use Rattle.gcd_outer.specs.Outside.{Rises, next_count};
+
     ghost tells = { true };
 
     ghost taken = { λ s. s.bytes.items };
 
     ghost faults = { λ s. s.faults };
 
-    fn write(&mut self, piece: &[u8]) -> Result<usize, Failed> {
-        let number = self.writes;
-        self.writes = number.saturating_add(1);
+    // What each sink promises, and then: it takes as much as it may at once, and fails just where that
+    // is planned or would pass its room.
+    fn write(&mut self, piece: &[u8]) -> Result<usize, Failed>
+        ensures some { 0 < length piece.now → IfOk result (λ n. 0 < n) }
+        ensures within { IfOk result (λ n. n ≤ length piece.now) }
+        ensures taken { IfOk result (λ n.
+            ⟦<VecSink as Sink>⟧.taken self.new ≡ ⟦<VecSink as Sink>⟧.taken self.old ++ take n piece.now) }
+        ensures nothing { OnErr result (
+            ⟦<VecSink as Sink>⟧.taken self.new ≡ ⟦<VecSink as Sink>⟧.taken self.old) }
+        ensures failed { OnErr result (Rises (⟦<VecSink as Sink>⟧.faults self.old) (⟦<VecSink as Sink>⟧.faults self.new)) }
+        ensures faults { ⟦<VecSink as Sink>⟧.faults self.old ≤ ⟦<VecSink as Sink>⟧.faults self.new }
+
+        ensures count { IfOk result (λ n. n ≡ min (length piece.now) (most_of self.old)) }
+        ensures room { OnOk result (length (⟦<VecSink as Sink>⟧.taken self.new) ≤ room_of self.old) }
+        ensures planned { Contains (failing_writes self.old) (writes_of self.old) → IsErr result }
+        ensures only_so { OnErr result (Contains (failing_writes self.old) (writes_of self.old)
+            ⊎ (room_of self.old < length (⟦<VecSink as Sink>⟧.taken self.old) + min (length piece.now) (most_of self.old))) }
+        ensures writes { writes_of self.new ≡ next_count (writes_of self.old) }
+        ensures same_room { room_of self.new ≡ room_of self.old }
+        ensures same_most { most_of self.new ≡ most_of self.old }
+        ensures failing { failing_writes self.new ≡ failing_writes self.old }
+    {
         let count = piece.len().min(self.most);
-        let fails = self.failing.contains(&number)
-            || self.bytes.len().saturating_add(count) > self.room;
-        if fails || self.bytes.extend_from_slice(&piece[..count]).is_err() {
+        let planned = self.writes.next();
+        let past_room = self.bytes.len().saturating_add(count) > self.room;
+        if planned || past_room || self.bytes.extend_from_slice(&piece[..count]).is_err() {
             self.faults = self.faults.saturating_add(1);
             return Err(Failed);
         }

@@ -1,0 +1,5 @@
+use Rattle.gcd_history.proofs.PublicFacts.{all_fit}
+use Rattle.gcd_history.proofs.facts.lawful_events_fit.Goals as goal
+
+pub returns : goal.returns
+returns c = all_fit

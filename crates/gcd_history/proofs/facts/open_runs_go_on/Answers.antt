@@ -1,0 +1,5 @@
+use Rattle.gcd_history.proofs.PublicFacts.{runs_go_on}
+use Rattle.gcd_history.proofs.facts.open_runs_go_on.Goals as goal
+
+pub returns : goal.returns
+returns c = runs_go_on

@@ -1,0 +1,5 @@
+use Rattle.gcd_history.proofs.PublicLaws.{barriers_exclude}
+use Rattle.gcd_history.proofs.laws.barriers_exclude.Goals as goal
+
+pub returns : goal.returns
+returns c = barriers_exclude

@@ -1,0 +1,5 @@
+use Rattle.gcd_history.proofs.PublicLaws.{starts_in_order}
+use Rattle.gcd_history.proofs.laws.blocks_start_in_order.Goals as goal
+
+pub returns : goal.returns
+returns c = starts_in_order

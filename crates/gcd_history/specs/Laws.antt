@@ -1,0 +1,129 @@
+-- What holds of every lawful history, the oldest event first.
+use Rattle.std.specs.Prelude.{◌≡◌, ◌≤◌, ◌<◌, ◌+◌, length, ℕ, ◌==◌, true, false, List, take, Some, None, slice_get, count_by, IsTrue, AllPairs}
+use Rattle.gcd_plan.specs.PlanView.{PlanView}
+use Rattle.gcd_plan.specs.Chains.{is_in}
+use Rattle.gcd_plan.specs.Kinds.{is_exclusive, has_barriers}
+use Rattle.gcd_plan.specs.declared.act.Act.TheVariants.{GroupWait}
+use Rattle.gcd_plan.specs.declared.names.Run.{Run}
+use Rattle.gcd_plan.specs.declared.names.Blk.{Blk}
+use Rattle.gcd_plan.specs.declared.names.Obj.{Obj}
+use Rattle.gcd_plan.specs.declared.names.Run.TheVariants.{Block, Source}
+use Rattle.gcd_plan.specs.declared.reason.Reason.{Reason}
+use Rattle.gcd_event.specs.declared.event.Event.{Event}
+use Rattle.gcd_event.specs.declared.event.Event.TheVariants.{Start, Wake, Deliver}
+use Rattle.gcd_history.specs.declared.submission.Submission.{Submission}
+use Rattle.gcd_history.specs.Runs.{starts, ends, act_of}
+use Rattle.gcd_history.specs.Semas.{wait_count}
+use Rattle.gcd_history.specs.Permitted.{is_on}
+use Rattle.gcd_history.specs.History.{is_started, is_submitted, submissions_of, nodes_of_run, is_free, reason_of, has_come, received_of, pending_of, merged_of, is_open, is_active, chain_of, node_of_run, is_barrier_of, group_wait_passes, semaphore_wait_passes, why, choice_of, running_of, next_due_of, is_live_feed}
+use Rattle.gcd_history.specs.Choice.{is_work, worker_of}
+use Rattle.gcd_history.specs.Ends.{is_halted}
+use Rattle.gcd_history.specs.Sources.{joined}
+
+-- each block starts at most once, and ends at most once (dispatch_async(3))
+pub record RunsOnce (h : List Event) : Type 0 where
+  pub starts_once : (b : ℕ) → count_by (starts b) h ≤ 1
+  pub ends_once : (b : ℕ) → count_by (ends b) h ≤ 1
+
+-- at its Start a block is submitted, and has not started (dispatch_async(3))
+pub record IsDueAtStart (plan : PlanView) (h : List Event) (i : ℕ) (b : Blk) : Type 0 where
+  pub submitted : is_submitted plan (take i h) b.0 ≡ true
+  pub fresh : is_started (take i h) b.0 ≡ false
+
+abbrev pub StartsAfterSubmission : PlanView → List Event → Type 0
+StartsAfterSubmission plan h = (i w : ℕ) (b : Blk) → slice_get h i ≡ Some (Start w b) → IsDueAtStart plan h i b
+
+-- each submitted block has ended exactly once
+abbrev pub AllEndOnce : PlanView → List Event → Type 0
+AllEndOnce plan h = (b : ℕ) → IsTrue (is_submitted plan h b) → count_by (ends b) h ≡ 1
+
+-- each block is submitted at most once (dispatch_async(3); that a block is one act's alone is this project's own rule)
+abbrev pub IsSubmittedOnce : PlanView → List Event → Type 0
+IsSubmittedOnce plan h = (b : ℕ) → count_by (λ s. s.blk.0 == b) (submissions_of plan h) ≤ 1
+
+-- where both were submitted on one node, the later has started only if the earlier has
+abbrev pub IsBehindOther : List Event → (earlier later : Submission) → Type 0
+IsBehindOther h s t =
+    (n : ℕ) → IsTrue (is_on n s) → IsTrue (is_on n t) → IsTrue (is_started h t.blk.0) → IsTrue (is_started h s.blk.0)
+
+-- at each position, of two submissions on one node the later has started only if the earlier has (dispatch_queue_create(3))
+abbrev pub StartsInOrder : PlanView → List Event → Type 0
+StartsInOrder plan h = (i : ℕ) → AllPairs (IsBehindOther (take i h)) (submissions_of plan (take i h))
+
+-- at a block's Start each object of its chain is free, and at a Deliver each object of the source's chain (dispatch_suspend(3),
+-- dispatch_activate(3), dispatch_set_target_queue(3))
+pub record BeginsFree (plan : PlanView) (h : List Event) : Type 0 where
+  pub starts : (i w : ℕ) (b : Blk) (o : ℕ) → slice_get h i ≡ Some (Start w b) → IsTrue (is_in o (nodes_of_run plan (take i h) (Block b))) → IsTrue (is_free plan (take i h) o)
+  pub delivers : (i w : ℕ) (s : Obj) (o : ℕ) → slice_get h i ≡ Some (Deliver w s) → IsTrue (is_in o (nodes_of_run plan (take i h) (Source s))) → IsTrue (is_free plan (take i h) o)
+
+-- block b may wake: it is parked, and what it waits for has come
+pub record MayWake (plan : PlanView) (h : List Event) (b : ℕ) : Type 0 where
+  pub reason : Reason
+  pub parked : reason_of plan h b ≡ Some reason
+  pub come : has_come plan h reason ≡ true
+
+-- each Wake finds that its block may wake (dispatch_sync(3), dispatch_group_wait(3), dispatch_semaphore_wait(3))
+abbrev pub WakesHaveCause : PlanView → List Event → Type 0
+WakesHaveCause plan h = (i w : ℕ) (b : Blk) → slice_get h i ≡ Some (Wake w b) → MayWake plan (take i h) b.0
+
+-- no block is parked
+abbrev pub NoneParked : PlanView → List Event → Type 0
+NoneParked plan h = (b : ℕ) → reason_of plan h b ≡ None
+
+-- whatever a block has waited for at some position has come
+abbrev pub WaitsHavePassed : PlanView → List Event → Type 0
+WaitsHavePassed plan h = (i b : ℕ) (reason : Reason) → reason_of plan (take i h) b ≡ Some reason → has_come plan h reason ≡ true
+
+-- each wait on a group passes (dispatch_group_wait(3))
+abbrev pub GroupWaitsPass : PlanView → List Event → Type 0
+GroupWaitsPass plan h =
+    (i : ℕ) (e : Event) (g : Obj) → slice_get h i ≡ Some e → act_of plan e ≡ Some (GroupWait g)
+    → IsTrue (group_wait_passes plan h g.0 i)
+
+-- each wait on a semaphore passes, from the first to the last that stands (dispatch_semaphore_wait(3))
+abbrev pub SemaphoreWaitsPass : PlanView → List Event → Type 0
+SemaphoreWaitsPass plan h = (s k : ℕ) → k ≤ wait_count plan h s → IsTrue (semaphore_wait_passes plan h s k)
+
+-- what the Delivers of each source handed over, with what is pending, is all that it was given (dispatch_source_merge_data(3))
+abbrev pub IsConserved : PlanView → List Event → Type 0
+IsConserved plan h = (s : ℕ) → joined plan s (received_of plan h s) (pending_of plan h s) ≡ merged_of plan h s
+
+-- runs that are open at one position beneath one serial queue or source are one run (dispatch_queue_create(3),
+-- dispatch_set_target_queue(3))
+abbrev pub RunsExclude : PlanView → List Event → Type 0
+RunsExclude plan h =
+    (i o : ℕ) (r q : Run) → IsTrue (is_exclusive plan o) → IsTrue (is_open (take i h) r) → IsTrue (is_open (take i h) q)
+    → IsTrue (is_in o (nodes_of_run plan (take i h) r)) → IsTrue (is_in o (nodes_of_run plan (take i h) q)) → r ≡ q
+
+-- a barrier of a concurrent queue other than root and a run of that queue that are open at one position are one run
+-- (dispatch_barrier_async(3))
+abbrev pub BarriersExclude : PlanView → List Event → Type 0
+BarriersExclude plan h =
+    (i n : ℕ) (r q : Run) → IsTrue (has_barriers plan n) → IsTrue (is_open (take i h) r) → IsTrue (is_open (take i h) q)
+    → IsTrue (is_barrier_of plan (take i h) n r) → node_of_run plan (take i h) q ≡ Some n → r ≡ q
+
+-- while a run is open the chain of its node does not change, and each object of it is active; and following the targets from
+-- any object ends at root (dispatch_set_target_queue(3), dispatch_activate(3))
+pub record TreeStands (plan : PlanView) (h : List Event) : Type 0 where
+  pub kept : (i : ℕ) (run : Run) → IsTrue (is_open (take i h) run) → IsTrue (is_open (take (i + 1) h) run) → nodes_of_run plan (take (i + 1) h) run ≡ nodes_of_run plan (take i h) run
+  pub active : (i o : ℕ) (run : Run) → IsTrue (is_open (take i h) run) → IsTrue (is_in o (nodes_of_run plan (take i h) run)) → IsTrue (is_active plan (take i h) o)
+  pub rooted : (i o : ℕ) → o < length plan.objects → IsTrue (is_in 0 (chain_of plan (take i h) o))
+
+-- an event that worker w may record next: permitted, its own, and none of the outside's (this project's own rule)
+pub record IsChoiceOf (plan : PlanView) (h : List Event) (w : ℕ) (e : Event) : Type 0 where
+  pub permitted : why plan h e ≡ None
+  pub work : is_work e ≡ true
+  pub by : worker_of e ≡ w
+
+-- no event of worker w is permitted
+abbrev pub HasNoChoice : PlanView → List Event → ℕ → Type 0
+HasNoChoice plan h w = (e : Event) → IsChoiceOf plan h w e → ⊥
+
+-- nothing goes on: not halted, no run is open and unparked, worker 0 has no choice, no due time is left, and no read source is
+-- live (this project's own rule)
+pub record IsAtRest (plan : PlanView) (h : List Event) : Type 0 where
+  pub unhalted : is_halted h ≡ false
+  pub idle : running_of plan h ≡ 0
+  pub no_choice : choice_of plan h 0 0 ≡ None
+  pub no_time : next_due_of plan h ≡ None
+  pub no_feed : (s : ℕ) → is_live_feed plan h s ≡ false

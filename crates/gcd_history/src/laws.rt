@@ -1,0 +1,104 @@
+// What holds of every lawful history. Each function's contract is a law; its body is empty.
+ghost use Rattle.std.specs.Prelude.{◌≡◌, ◌≤◌, ℕ, List, length, Some, None};
+ghost use Rattle.gcd_plan.specs.PlanView.{PlanView};
+ghost use Rattle.gcd_plan.specs.Validity.{IsPlan};
+ghost use Rattle.gcd_event.specs.declared.event.Event.{Event};
+ghost use Rattle.gcd_event.specs.declared.event.Event.TheVariants.{Halt};
+ghost use Rattle.gcd_history.specs.History.{IsLawful, why, choice_of};
+ghost use Rattle.gcd_history.specs.Ends.{IsDrained, IsQuiescent, IsHalted, HasState};
+ghost use Rattle.gcd_history.specs.declared.state.State.{State};
+ghost use Rattle.gcd_history.specs.Laws.{RunsOnce, StartsAfterSubmission, AllEndOnce, IsSubmittedOnce, StartsInOrder, BeginsFree, WakesHaveCause, NoneParked, WaitsHavePassed, GroupWaitsPass, SemaphoreWaitsPass, IsConserved, RunsExclude, BarriersExclude, TreeStands, IsChoiceOf, HasNoChoice, IsAtRest};
+
+/// Each block starts at most once, after its submission, and ends at most once; where the run is drained each submitted
+/// block has ended exactly once (dispatch_async(3)).
+pub fn blocks_run_once()
+    ensures once { (plan : PlanView) (h : List Event) → IsLawful plan h → RunsOnce h }
+    ensures after { (plan : PlanView) (h : List Event) → IsLawful plan h → StartsAfterSubmission plan h }
+    ensures drained { (plan : PlanView) (h : List Event) → IsLawful plan h → IsDrained plan h
+        → AllEndOnce plan h }
+{}
+
+/// Each block is submitted at most once (this project's own rule).
+pub fn blocks_are_submitted_once()
+    ensures { (plan : PlanView) (h : List Event) → IsPlan plan → IsLawful plan h
+        → IsSubmittedOnce plan h }
+{}
+
+/// Of two submissions on one node the later starts only after the earlier has started (dispatch_queue_create(3)).
+pub fn blocks_start_in_order()
+    ensures { (plan : PlanView) (h : List Event) → IsPlan plan → IsLawful plan h → StartsInOrder plan h }
+{}
+
+/// No two different runs that are open at one position lie beneath one serial queue or source there (dispatch_queue_create(3),
+/// dispatch_set_target_queue(3)).
+pub fn runs_exclude_each_other()
+    ensures { (plan : PlanView) (h : List Event) → IsPlan plan → IsLawful plan h → RunsExclude plan h }
+{}
+
+/// No run of a concurrent queue other than root overlaps a barrier of that queue (dispatch_barrier_async(3)).
+pub fn barriers_exclude()
+    ensures { (plan : PlanView) (h : List Event) → IsLawful plan h → BarriersExclude plan h }
+{}
+
+/// At a block's Start and at a Deliver each object of the chain is active, with hold 0, and its target is not about to change
+/// (dispatch_suspend(3), dispatch_activate(3), dispatch_set_target_queue(3)).
+pub fn runs_begin_free()
+    ensures { (plan : PlanView) (h : List Event) → IsLawful plan h → BeginsFree plan h }
+{}
+
+/// A Wake stands only where what its block waits for had come; where the run is drained no block is parked, and whatever a
+/// block has waited for has come, so every group wait and every semaphore wait has passed (dispatch_sync(3),
+/// dispatch_group_wait(3), dispatch_semaphore_wait(3)).
+pub fn wakes_have_causes()
+    ensures cause { (plan : PlanView) (h : List Event) → IsLawful plan h → WakesHaveCause plan h }
+    ensures none { (plan : PlanView) (h : List Event) → IsLawful plan h → IsDrained plan h
+        → NoneParked plan h }
+    ensures passed { (plan : PlanView) (h : List Event) → IsLawful plan h → IsDrained plan h
+        → WaitsHavePassed plan h }
+    ensures groups { (plan : PlanView) (h : List Event) → IsPlan plan → IsLawful plan h → IsDrained plan h
+        → GroupWaitsPass plan h }
+    ensures semaphores { (plan : PlanView) (h : List Event) → IsPlan plan → IsLawful plan h → IsDrained plan h
+        → SemaphoreWaitsPass plan h }
+{}
+
+/// What the Delivers of a source handed over, with what is pending, is all that it was given (dispatch_source_merge_data(3)).
+pub fn merged_data_is_conserved()
+    ensures { (plan : PlanView) (h : List Event) → IsConserved plan h }
+{}
+
+/// While a run is open the chain of its node does not change and each object of it is active, and following targets from any
+/// object ends at root (dispatch_set_target_queue(3), dispatch_activate(3)).
+pub fn tree_stands_under_open_runs()
+    ensures { (plan : PlanView) (h : List Event) → IsPlan plan → IsLawful plan h → TreeStands plan h }
+{}
+
+/// What a worker chooses is an event of its own that is permitted; it chooses none exactly where no event of its own is
+/// permitted, from whatever node on it looks (this project's own rule).
+pub fn choices_are_complete()
+    ensures chosen { (plan : PlanView) (h : List Event) (w from : ℕ) (e : Event)
+        → choice_of plan h w from ≡ Some e → IsChoiceOf plan h w e }
+    ensures none { (plan : PlanView) (h : List Event) (w from : ℕ) → IsPlan plan → IsLawful plan h
+        → from ≤ length plan.objects → choice_of plan h w from ≡ None → HasNoChoice plan h w }
+{}
+
+/// A history is quiescent exactly where it is at rest: no run is open and unparked, worker 0 has no choice, no due time is
+/// left and no read source is live (this project's own rule).
+pub fn quiescent_is_at_rest()
+    ensures quiescent { (plan : PlanView) (h : List Event) → IsPlan plan → IsLawful plan h → IsAtRest plan h
+        → IsQuiescent plan h }
+    ensures rest { (plan : PlanView) (h : List Event) → IsPlan plan → IsLawful plan h → IsQuiescent plan h
+        → IsAtRest plan h }
+{}
+
+/// After a misuse or a halt nothing is permitted, and after a quiescent history a halt alone (this project's own rule).
+pub fn ended_histories_stand()
+    ensures halted { (plan : PlanView) (h : List Event) (e : Event) → IsHalted h → why plan h e ≡ None → ⊥ }
+    ensures quiescent { (plan : PlanView) (h : List Event) (e : Event) → IsQuiescent plan h → why plan h e ≡ None
+        → e ≡ Halt }
+{}
+
+/// A history has come to one state (this project's own rule).
+pub fn states_are_apart()
+    ensures { (plan : PlanView) (h : List Event) (s t : State) → HasState plan h s → HasState plan h t
+        → s ≡ t }
+{}

@@ -1,0 +1,10 @@
+use Rattle.std.specs.List.{slice_get}
+use Rattle.gcd_plan.specs.Kinds.{is_source_kind}
+use Rattle.gcd_hold.proofs.Found.{map_goes_on, test_found}
+use Rattle.gcd_hold.proofs.first.sources.Goals as goal
+
+pub loop-o-preserved : goal.loop-o-preserved
+loop-o-preserved c =
+    let objects = c.args.plan.now.objects in
+    let found = test_found (λ obj. obj.kind) is_source_kind c.kind.result c.is_source.result (slice_get objects c.loop-o.o) c.kind.ensures c.is_source.ensures in
+    map_goes_on (λ obj. is_source_kind obj.kind) c.is_source.result objects c.loop-o.o _ _ c.loop-o.invariant c.in_ok-push.ensures.items found

@@ -1,0 +1,5 @@
+mod AnswerLemmas
+mod FeedLemmas
+mod SlotLemmas
+mod TellLemmas
+mod TextLemmas

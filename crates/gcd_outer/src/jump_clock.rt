@@ -1,0 +1,71 @@
+// A clock in memory, which tells its present.
+ghost use Rattle.std.specs.Prelude.{◌≡◌, ◌≤◌, ◌+◌, true, min, max};
+
+use crate::clock::Clock;
+
+/// A clock in memory: each answer moves its present on by a step, and a wait moves it to its end. It
+/// starts at 0. Sums of times stop at 2^64 - 1. It tells its present and the greatest moment that was
+/// waited for. (This project's own rule.)
+#[derive(Drop)]
+pub struct JumpClock {
+    step: u64,
+    present: u64,
+    waited: u64,
+}
+
+impl JumpClock {
+    ghost use Rattle.gcd_outer.specs.InMemory.{step_of};
+
+    /// A clock at 0 with a step of so many milliseconds.
+    pub fn new(step: u64) -> Self
+        ensures present { ⟦<JumpClock as Clock>⟧.present result ≡ 0 }
+        ensures waited { ⟦<JumpClock as Clock>⟧.waited result ≡ 0 }
+        ensures step { step_of result ≡ step }
+    {
+        JumpClock {
+            step,
+            present: 0,
+            waited: 0,
+        }
+    }
+}
+
+impl Clock for JumpClock {
+    ghost use Rattle.std.specs.Prelude.{◌≡◌, ◌≤◌, ◌+◌, true, min, max};
+    ghost use Rattle.gcd_outer.specs.InMemory.{step_of};
+
+    ghost tells = { true };
+
+    ghost present = { λ c. c.present };
+
+    ghost waited = { λ c. c.waited };
+
+    // Besides what each clock promises, the present goes on by the step and no more.
+    fn now(&mut self) -> u64
+        ensures not_before { ⟦<JumpClock as Clock>⟧.present self.old ≤ result }
+        ensures goes_on { result ≤ ⟦<JumpClock as Clock>⟧.present self.new }
+        ensures told { result ≡ ⟦<JumpClock as Clock>⟧.present self.old }
+        ensures waited { ⟦<JumpClock as Clock>⟧.waited self.new ≡ ⟦<JumpClock as Clock>⟧.waited self.old }
+        ensures steps { ⟦<JumpClock as Clock>⟧.present self.new
+            ≡ min (⟦<JumpClock as Clock>⟧.present self.old + step_of self.old) 18446744073709551615 }
+        ensures step { step_of self.new ≡ step_of self.old }
+    {
+        let now = self.present;
+        self.present = now.saturating_add(self.step);
+        now
+    }
+
+    // Besides what each clock promises, the present goes on to the moment waited for and no more.
+    fn wait_until(&mut self, t: u64)
+        ensures reached { t ≤ ⟦<JumpClock as Clock>⟧.present self.new }
+        ensures goes_on { ⟦<JumpClock as Clock>⟧.present self.old ≤ ⟦<JumpClock as Clock>⟧.present self.new }
+        ensures waited { ⟦<JumpClock as Clock>⟧.waited self.new
+            ≡ max (⟦<JumpClock as Clock>⟧.waited self.old) t }
+        ensures jumps { ⟦<JumpClock as Clock>⟧.present self.new
+            ≡ max (⟦<JumpClock as Clock>⟧.present self.old) t }
+        ensures step { step_of self.new ≡ step_of self.old }
+    {
+        self.present = self.present.max(t);
+        self.waited = self.waited.max(t);
+    }
+}

@@ -1,0 +1,207 @@
+// A poller of regular files and of TCP connections.
+ghost use Rattle.std.specs.Prelude.{◌≡◌, [], ℕ, true, false, IfOk};
+ghost use Rattle.gcd_outer.specs.Slots.{is_there, watched_slot, ended_slot, ReadTells};
+
+use crate::poller::{FEEDS, Poller};
+use crate::sink::Failed;
+use crate::slot::Source;
+use crate::slots::Slots;
+use crate::told::Told;
+use mio::net::TcpListener;
+use mio::{Events, Interest, Poll, Token};
+use std::alloc::Global;
+use std::fs::File;
+use std::io::ErrorKind;
+use std::net::{Net, SocketAddr};
+use std::rt::Files;
+use std::time::Duration;
+use std::{fs, io};
+
+/// A poller over the system. It tells nothing. (This project's own rule.)
+///
+/// A feed with the path `tcp` takes the next connection that is accepted at the address of the last
+/// `listen`, in the order of the watches; without a listen its watch fails. Every other path names a
+/// regular file, which is read from its start to its end; a file of the name `tcp` is `./tcp`. The feed
+/// of a file ends at the end of the file, and the feed of a connection where the other side closes it.
+/// An address is an IP address and a port, such as `127.0.0.1:8080`; a host's name is not looked up,
+/// since that would wait for others.
+///
+/// Whatever fails in the system is counted as a fault: a missing file, an address that can't be bound,
+/// a connection that is reset. Where a poll fails after bytes were read, it answers these, and the next
+/// poll answers the failure, so that nothing that was read is lost.
+#[derive(Drop)]
+pub struct NetPoller<'a, R: Net + Files<File = File>> {
+    rt: &'a R,
+    poll: Poll,
+    events: Events<Global>,
+    listener: Option<TcpListener>,
+    slots: Slots,
+    // The place of the next feed that waits for a connection.
+    place: u64,
+    // Whether a poll failed after bytes were read, which the next poll answers.
+    owed: bool,
+    faults: u64,
+}
+
+impl<'a, R: Net + Files<File = File>> NetPoller<'a, R> {
+    /// A poller that watches no feed. An error is the system's, or want of memory.
+    pub fn new(rt: &'a R, alloc: Global) -> io::Result<Self>
+        ensures watched { IfOk result (λ p. (feed : ℕ)
+            → ⟦<NetPoller<'a, R> as Poller>⟧.watched p feed ≡ false) }
+        ensures ended { IfOk result (λ p. (feed : ℕ)
+            → ⟦<NetPoller<'a, R> as Poller>⟧.ended p feed ≡ false) }
+        ensures faults { IfOk result (λ p. ⟦<NetPoller<'a, R> as Poller>⟧.faults p ≡ 0) }
+    {
+        Ok(NetPoller {
+            rt,
+            poll: Poll::new(rt)?,
+            events: Events::with_capacity(alloc, 64)?,
+            listener: None,
+            slots: Slots::new(alloc)?,
+            place: 0,
+            owed: false,
+            faults: 0,
+        })
+    }
+
+    /// The address at which connections are accepted. An error is the system's, or that there was no
+    /// listen that succeeded.
+    pub fn local_addr(&self) -> io::Result<SocketAddr> {
+        match &self.listener {
+            Some(listener) => listener.local_addr(),
+            None => Err(io::Error::from(ErrorKind::NotConnected)),
+        }
+    }
+
+    fn bind(&self, addr: &str) -> io::Result<TcpListener> {
+        let Ok(addr) = addr.parse::<SocketAddr>() else {
+            return Err(io::Error::from(ErrorKind::InvalidInput));
+        };
+        let mut listener = TcpListener::bind(self.rt, addr)?;
+        self.poll
+            .registry()
+            .register(&mut listener, Token(FEEDS as usize), Interest::READABLE)?;
+        Ok(listener)
+    }
+
+    // What a feed with this path is read from.
+    fn source(&self, path: &str) -> io::Result<Source>
+        ensures { IfOk result (λ source. is_there source ≡ true) }
+    {
+        if path == "tcp" {
+            return match self.listener {
+                Some(_) => Ok(Source::Waiting(self.place)),
+                None => Err(io::Error::from(ErrorKind::NotConnected)),
+            };
+        }
+        if !fs::metadata(self.rt, path)?.is_file() {
+            return Err(io::Error::from(ErrorKind::InvalidInput));
+        }
+        Ok(Source::Regular(fs::open(self.rt, path)?))
+    }
+
+    // The feeds that wait for a connection take those that have come.
+    fn accept(&mut self) -> io::Result<()>
+        ensures told { ReadTells self.old.slots.slots.items self.new.slots.slots.items [] }
+        ensures faults { self.new.faults ≡ self.old.faults }
+    {
+        match &self.listener {
+            Some(listener) => self.slots.accept(listener, self.poll.registry()),
+            None => Ok(()),
+        }
+    }
+
+    // Accepts the connections that have come, and reads what has come, without waiting.
+    fn read(&mut self, told: &mut Told) -> io::Result<()>
+        requires { told.old ≡ [] }
+        ensures told { ReadTells self.old.slots.slots.items self.new.slots.slots.items told.new }
+        ensures faults { self.new.faults ≡ self.old.faults }
+    {
+        self.accept()?;
+        self.slots.read_all(told)
+    }
+
+    // Reads what has come, after a wait where nothing had.
+    fn gather(&mut self, wait_ms: u32, told: &mut Told) -> io::Result<()>
+        requires { told.old ≡ [] }
+        ensures told { ReadTells self.old.slots.slots.items self.new.slots.slots.items told.new }
+        ensures faults { self.new.faults ≡ self.old.faults }
+    {
+        self.read(told)?;
+        if told.is_empty() {
+            let wait = Duration::from_millis(u64::from(wait_ms));
+            self.poll.poll(&mut self.events, Some(wait))?;
+            self.read(told)?;
+        }
+        Ok(())
+    }
+}
+
+impl<'a, R: Net + Files<File = File>> Poller for NetPoller<'a, R> {
+    ghost tells = { false };
+
+    ghost answers = { λ _. [] };
+
+    ghost watched_at = { λ _ _. 0 };
+
+    ghost watches = { λ _. [] };
+
+    ghost listens = { λ _. 0 };
+
+    ghost addresses = { λ _. [] };
+
+    ghost watched = { λ p. watched_slot p.slots.slots.items };
+
+    ghost ended = { λ p. ended_slot p.slots.slots.items };
+
+    ghost faults = { λ p. p.faults };
+
+    fn listen(&mut self, addr: &str) -> Result<(), Failed> {
+        match self.bind(addr) {
+            Ok(listener) => {
+                self.listener = Some(listener);
+                Ok(())
+            }
+            Err(_) => {
+                self.faults = self.faults.saturating_add(1);
+                Err(Failed)
+            }
+        }
+    }
+
+    fn watch(&mut self, feed: u32, path: &str) -> Result<(), Failed> {
+        match self.source(path) {
+            Ok(source) => {
+                self.slots.begin(feed, source);
+                self.place = self.place.saturating_add(1);
+                Ok(())
+            }
+            Err(_) => {
+                self.faults = self.faults.saturating_add(1);
+                Err(Failed)
+            }
+        }
+    }
+
+    fn is_watched(&self, feed: u32) -> bool {
+        self.slots.is_watched(feed)
+    }
+
+    fn poll(&mut self, wait_ms: u32, into: &mut Told) -> Result<(), Failed> {
+        if !self.owed {
+            let mut told = Told::new();
+            let failed = self.gather(wait_ms, &mut told).is_err();
+            if !failed || !told.is_empty() {
+                self.owed = failed;
+                into.copy_from(&told);
+                return Ok(());
+            }
+        }
+        self.owed = false;
+        self.faults = self.faults.saturating_add(1);
+        Err(Failed)
+    }
+}
+
+#[cfg(test)]
+mod tests;

@@ -1,0 +1,33 @@
+-- What the parser keeps beside its plan: the meanings of names, which blocks are submitted, and how many acts there are.
+use Rattle.std.specs.Prelude.{◌≡◌, ℕ, ◌==◌, Bool, List, length, false, if◌then◌else◌, Option, Some}
+use Rattle.std.specs.BTreeMap.{BTreeMap, get_by}
+use Rattle.std.specs.Borrow.{Bor}
+use Rattle.std.specs.Cmp.Lexicographic.{slice_cmp}
+use Rattle.std.specs.List.{list_any, slice_index_or}
+use Rattle.std.specs.Ordering.{nat_cmp}
+use Rattle.std.specs.Str.{bytes_eq}
+use Rattle.gcd_plan.specs.PlanView.{PlanView, view_of}
+use Rattle.gcd_plan.specs.Validity.{submitted_blocks, act_count}
+use Rattle.gcd_script.specs.declared.draft.Draft.{Draft}
+use Rattle.gcd_script.specs.declared.meaning.Meaning.{Meaning}
+use Rattle.gcd_script.specs.Drafts.{meaning_of}
+
+-- what the code's map from names has at a name
+abbrev pub look_up : BTreeMap (Bor (List ℕ)) Meaning → List ℕ → Option Meaning
+look_up meanings name = get_by (λ key. slice_cmp nat_cmp name key.now) meanings
+
+-- the new look-up finds the meaning at the name, and what the old one finds at each other name
+abbrev pub Declares : (old new : List ℕ → Option Meaning) → List ℕ → Meaning → Type 0
+Declares old new name meaning = (q : List ℕ) → new q ≡ (if bytes_eq name q then Some meaning else old q)
+
+-- what is kept beside a plan agrees with it: what each name means, which blocks are submitted, and how many acts there
+-- are
+pub record Agrees (meanings : List ℕ → Option Meaning) (submitted : List Bool) (acts : ℕ) (plan : PlanView) : Type 0 where
+  pub names : (name : List ℕ) → meanings name ≡ meaning_of plan name
+  pub flags : length submitted ≡ length plan.blocks
+  pub blocks : (b : ℕ) → slice_index_or submitted b false ≡ list_any (λ c. c.0 == b) (submitted_blocks plan)
+  pub count : acts ≡ act_count plan
+
+-- what the parser keeps beside a draft's plan agrees with it
+abbrev pub IsKept : Draft → Type 0
+IsKept d = Agrees (look_up d.meanings) d.submitted.items d.acts (view_of d.parts)

@@ -1,0 +1,150 @@
+// What may be wrong with a line of a form.
+ghost use Rattle.std.specs.Prelude.{◌≡◌, not, false};
+ghost use Rattle.std.specs.Option.{option_map_or};
+ghost use Rattle.gcd_plan.specs.PlanView.{PlanView, view_of};
+ghost use Rattle.gcd_script.specs.Drafts.{is_reserved};
+ghost use Rattle.gcd_script.specs.Faults.{first_code, is_file_name, is_block_name};
+
+use crate::draft::Draft;
+use crate::form::Form;
+use crate::limits::{MOST_ACTS, MOST_BLOCKS, MOST_FILES, MOST_OBJECTS};
+use crate::meaning::Meaning;
+use crate::names::is_name;
+use gcd_plan::{Kind, Obj};
+
+// The first code whose test holds.
+fn first_code(rows: &[(u8, bool)]) -> Option<u8>
+    ensures { result ≡ first_code rows.now }
+{
+    for (code, holds) in rows {
+        if *holds {
+            return Some(*code);
+        }
+    }
+    None
+}
+
+// Whether a name is one that nothing else may have.
+fn is_reserved(name: &str) -> bool
+    ensures { result ≡ is_reserved name.now }
+{
+    name == "root" || name == "main"
+}
+
+// Whether a known name is none of a file's.
+fn is_no_file(meaning: Option<Meaning>) -> bool
+    ensures { (plan : PlanView) → result ≡ option_map_or (λ m. not (is_file_name plan m)) meaning false }
+{
+    matches!(meaning, Some(Meaning::Object(_) | Meaning::Block(_)))
+}
+
+// Whether a known name is none of a block's.
+fn is_no_block(meaning: Option<Meaning>) -> bool
+    ensures { (plan : PlanView) → result ≡ option_map_or (λ m. not (is_block_name plan m)) meaning false }
+{
+    matches!(meaning, Some(Meaning::File(_) | Meaning::Object(_)))
+}
+
+impl<'a> Draft<'a> {
+    ghost use Rattle.gcd_plan.specs.Kinds.{is_queue};
+    ghost use Rattle.gcd_script.specs.Forms.{BlockLine, AsyncLine};
+    ghost use Rattle.gcd_script.specs.Faults.{codes_of, is_unfit, is_queue_name, is_submitted_block};
+    ghost use Rattle.gcd_script.specs.Kept.{IsKept};
+    ghost use Rattle.gcd_script.specs.Views.{form_view, draft_view};
+
+    // Whether a name can't be declared: it is no name, reserved or taken.
+    fn is_unfit(&self, name: &str) -> bool
+        requires { IsKept self.now }
+        ensures { result ≡ is_unfit (view_of self.now.parts) name.now }
+    {
+        !is_name(name) || is_reserved(name) || self.meaning(name).is_some()
+    }
+
+    fn is_queue(&self, o: Obj) -> bool
+        ensures { result ≡ is_queue (view_of self.now.parts) o.0 }
+    {
+        match self.parts.objects.get(o.0 as usize) {
+            Some(object) => matches!(object.kind, Kind::Serial | Kind::Concurrent),
+            None => false,
+        }
+    }
+
+    // Whether a known name is none of a queue's.
+    fn is_no_queue(&self, meaning: Option<Meaning>) -> bool
+        ensures { result ≡ option_map_or (λ m. not (is_queue_name (view_of self.now.parts) m)) meaning false }
+    {
+        match meaning {
+            Some(Meaning::Object(o)) => !self.is_queue(o),
+            Some(Meaning::File(_) | Meaning::Block(_)) => true,
+            None => false,
+        }
+    }
+
+    // Whether an earlier line submits the block.
+    fn is_submitted(&self, meaning: Option<Meaning>) -> bool
+        requires { IsKept self.now }
+        ensures { result ≡ option_map_or (is_submitted_block (view_of self.now.parts)) meaning false }
+    {
+        match meaning {
+            Some(Meaning::Block(b)) => self.submitted.get(b.0 as usize).copied().unwrap_or(false),
+            _ => false,
+        }
+    }
+
+    /// The lowest code that applies to a line of the form; None exactly where the line is right.
+    pub fn code(&self, form: &Form) -> Option<u8>
+        requires { IsKept self.now }
+        ensures { result ≡ first_code (codes_of (draft_view self.now) (form_view form.now)) }
+    {
+        match *form {
+            Form::File { name, path: _ } => first_code(&[
+                (2, self.is_unfit(name)),
+                (8, self.parts.files.len() >= MOST_FILES),
+            ]),
+            Form::Queue { name } => first_code(&[
+                (2, self.is_unfit(name)),
+                (8, self.parts.objects.len() >= MOST_OBJECTS),
+            ]),
+            Form::Block { name, counts: None } => first_code(&[
+                (2, self.is_unfit(name)),
+                (8, self.parts.blocks.len() >= MOST_BLOCKS),
+            ]),
+            Form::Block {
+                name,
+                counts: Some(file),
+            } => self.code_of_work(name, file),
+            Form::Main => first_code(&[(9, self.has_main)]),
+            Form::Async { queue, block } => self.code_of_async(queue, block),
+        }
+    }
+
+    // The same of a block's line that names a file.
+    fn code_of_work(&self, name: &str, file: &str) -> Option<u8>
+        requires { IsKept self.now }
+        ensures { result ≡ first_code (codes_of (draft_view self.now) (BlockLine name.now (Some file.now))) }
+    {
+        let counted = self.meaning(file);
+        first_code(&[
+            (2, self.is_unfit(name)),
+            (3, counted.is_none()),
+            (4, is_no_file(counted)),
+            (8, self.parts.blocks.len() >= MOST_BLOCKS),
+        ])
+    }
+
+    // The same of an act's line.
+    fn code_of_async(&self, queue: &str, block: &str) -> Option<u8>
+        requires { IsKept self.now }
+        ensures { result ≡ first_code (codes_of (draft_view self.now) (AsyncLine queue.now block.now)) }
+    {
+        let to = self.meaning(queue);
+        let submitted = self.meaning(block);
+        first_code(&[
+            (1, self.body.is_none()),
+            (3, to.is_none() | submitted.is_none()),
+            (4, self.is_no_queue(to) | is_no_block(submitted)),
+            (6, self.is_submitted(submitted)),
+            (8, self.acts >= MOST_ACTS),
+        ])
+    }
+}

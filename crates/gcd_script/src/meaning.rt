@@ -1,0 +1,14 @@
+// What a name of a script stands for.
+
+use gcd_plan::{Blk, Obj};
+
+/// What a declared name stands for. All names share one space (this project's own rule).
+#[derive(Clone, Copy, Debug, PartialEq, Eq)]
+pub enum Meaning {
+    /// A file, by its number from 0.
+    File(u32),
+    /// A queue.
+    Object(Obj),
+    /// A block.
+    Block(Blk),
+}

@@ -1,0 +1,3 @@
+mod moving;
+mod plans;
+mod serial;

@@ -1,0 +1,59 @@
+// Plans of queues.
+ghost use Rattle.std.specs.Prelude.{◌≡◌, IsTrue, IfSome};
+ghost use Rattle.gcd_plan.specs.Kinds.{is_node};
+
+use gcd_plan::{BlkPart, Kind, Obj, ObjPart, Parts, Plan};
+use std::alloc::{AllocError, Global};
+use std::test::Fail;
+
+fn queue(alloc: Global, name: String, kind: Kind) -> ObjPart {
+    ObjPart {
+        name,
+        kind,
+        target: Obj(0),
+        active: true,
+        path: String::new(alloc),
+        handler: Vec::new(alloc),
+        cancel: None,
+    }
+}
+
+fn parts(alloc: Global, queues: u32) -> Result<Parts, AllocError> {
+    let root = String::from_str(alloc, "root")?;
+    let mut objects = vec![in alloc; queue(alloc, root, Kind::Concurrent)]?;
+    for number in 0..queues {
+        let name = format!(in alloc; "q{number}")?;
+        objects.push(queue(alloc, name, Kind::Serial))?;
+    }
+    let main = BlkPart {
+        name: String::from_str(alloc, "main")?,
+        acts: Vec::new(alloc),
+        work: None,
+    };
+    Ok(Parts {
+        objects,
+        blocks: vec![in alloc; main]?,
+        files: Vec::new(alloc),
+        until: 1000,
+    })
+}
+
+// A plan of root and that many serial queues.
+pub fn plan_of_queues(alloc: Global, queues: u32) -> Result<Plan, Fail> {
+    Ok(Plan::of_parts(parts(alloc, queues)?).ok_or("valid")?)
+}
+
+// The object of that number, if it is a node of the plan.
+pub fn node_at(plan: &Plan, number: u32) -> Option<Obj>
+    ensures { IfSome result (λ o. (o.0 ≡ number) × IsTrue (is_node plan.now o.0)) }
+{
+    let node = Obj(number);
+    if number >= plan.objects() {
+        return None;
+    }
+    match plan.kind(node) {
+        Kind::Serial => Some(node),
+        Kind::Concurrent => Some(node),
+        _ => None,
+    }
+}

@@ -1,0 +1,7 @@
+pub mod Ahead
+pub mod Walks
+pub mod Ranges
+pub mod Counts
+pub mod Kept
+pub mod Runs
+pub mod PlanTree

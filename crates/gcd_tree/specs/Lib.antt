@@ -1,0 +1,3 @@
+pub mod TreeView
+pub mod IsTree
+pub mod Inside
