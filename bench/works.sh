@@ -1,0 +1,19 @@
+#!/usr/bin/env bash
+# Times the works of crates/gcd_jobs beside plain C loops (gcc -O2) over the same 16 MiB text, best of seven each, and
+# fails where a value differs or where a work takes more than 1.25 times what its C loop takes.
+#
+# `rt test` proves the crate and leaves its tests as the program out/gcd_jobs_tests; the test that is named here prints
+# the times.
+set -eu -o pipefail
+cd "$(dirname "$0")/.."
+folder=$(mktemp -d)
+trap 'rm -rf "$folder"' EXIT
+"${CC:-gcc}" -O2 -o "$folder/works" bench/works.c
+(cd crates/gcd_jobs && rt test >"$folder/log" 2>&1) || { tail -20 "$folder/log"; exit 1; }
+crates/gcd_jobs/out/gcd_jobs_tests tests::works_over_sixteen_mebibytes | grep ' us$' >"$folder/ours"
+"$folder/works" >"$folder/loops"
+paste -d ' ' "$folder/ours" "$folder/loops" | awk '
+    BEGIN { print "work value us us_of_C ratio" }
+    { print $1, $2, $4, $9, sprintf("%.2f", $4 / $9) }
+    $1 != $6 || $2 != $7 || $4 > 1.25 * $9 { worse = 1 }
+    END { exit worse || NR != 4 }' | column -t

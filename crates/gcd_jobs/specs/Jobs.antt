@@ -1,0 +1,11 @@
+-- What the jobs of this crate give (this project's own rule).
+use Rattle.std.specs.Prelude.{ℕ}
+use Rattle.gcd_history.specs.Values.{work_value}
+use Rattle.gcd_jobs.specs.Contents.{contents}
+use Rattle.gcd_jobs.specs.declared.file_job.FileJob.{FileJob}
+use Rattle.gcd_jobs.specs.declared.file_job.FileJob.TheVariants.{Nothing, Counting}
+
+-- the value that the job gives, at each input
+abbrev pub job_value : FileJob → ℕ
+job_value Nothing = 0
+job_value (Counting files work) = work_value (contents files.now) work

@@ -1,0 +1,129 @@
+ghost use Rattle.std.specs.Prelude.{◌≡◌, ◌+◌, ◌<◌, ◌^◌};
+ghost use Rattle.gcd_history.specs.Sources.{folded};
+
+use crate::{FileJob, Handler, Job, Tally};
+use gcd_plan::{How, Kind, WHOLE_FILE, Work};
+use std::test::Fail;
+use std::time::Instant;
+
+// Three words; no byte; each byte between words, and each beside those.
+const FILES: [&[u8]; 3] = [b"one two\nthree\n", b"", b"\x08a\x0eb\t\x0b\x0c\r c!\x1f"];
+
+// How which range of which file is counted, and what that gives.
+const CASES: [(How, u32, u32, u32, u64, &str); 20] = [
+    (How::Bytes, 0, 0, WHOLE_FILE, 14, "the whole file"),
+    (How::Lines, 0, 0, WHOLE_FILE, 2, "the whole file"),
+    (How::Words, 0, 0, WHOLE_FILE, 3, "the whole file"),
+    (How::Sum, 0, 0, WHOLE_FILE, 1_256, "the whole file"),
+    (How::Count(b'e'), 0, 0, WHOLE_FILE, 3, "the whole file"),
+    (How::Bytes, 1, 0, WHOLE_FILE, 0, "no byte"),
+    (How::Words, 1, 0, WHOLE_FILE, 0, "no byte"),
+    (How::Sum, 1, 0, WHOLE_FILE, 0, "no byte"),
+    (How::Words, 2, 0, WHOLE_FILE, 2, "each space"),
+    (How::Lines, 2, 0, WHOLE_FILE, 0, "no line feed"),
+    (How::Words, 0, 1, 4, 2, "two words cut"),
+    (How::Sum, 0, 1, 4, 359, "two words cut"),
+    (How::Words, 0, 3, 1, 0, "one space"),
+    (How::Lines, 0, 7, 1, 1, "one line feed"),
+    (How::Count(b'e'), 0, 11, 1, 1, "one letter"),
+    (How::Bytes, 0, 10, 100, 4, "a range cut at the end"),
+    (How::Bytes, 0, 14, WHOLE_FILE, 0, "the file's end"),
+    (How::Words, 0, WHOLE_FILE, 5, 0, "past the file"),
+    (How::Lines, 0, 0, 0, 0, "a range of none"),
+    (How::Bytes, 3, 0, WHOLE_FILE, 0, "no such file"),
+];
+
+fn work(how: How, file: u32, start: u32, len: u32) -> Work {
+    Work {
+        how,
+        file,
+        start,
+        len,
+    }
+}
+
+// What a thread does with a job of any kind.
+fn run_block<J: Job + Drop + Send>(job: J) -> u64
+    ensures { J.gives job 0 result }
+{
+    job.run(0)
+}
+
+#[test]
+fn jobs_over_shared_files_give_the_values_of_their_works(rt: HostRuntime) -> Result<(), Fail> {
+    let alloc = rt.alloc();
+    let mut files = Vec::new(alloc);
+    for bytes in FILES {
+        files.push(Vec::from_slice(alloc, bytes)?)?;
+    }
+    let mut jobs = Vec::new(alloc);
+    for (how, file, start, len, _, _) in CASES {
+        jobs.push(FileJob::new(&files, Some(work(how, file, start, len))))?;
+    }
+    for (job, (how, _, _, _, value, what)) in jobs.into_iter().zip(CASES) {
+        assert_eq!(rt; run_block(job), value, "{how:?} of {what}");
+    }
+    assert_eq!(rt; run_block(FileJob::new(&files, None)), 0, "no work");
+    Ok(())
+}
+
+// What a worker does at a delivery, with a handler of any kind.
+fn deliver<H: Handler + Drop + Send>(handler: &mut H, value: u64)
+    requires times_fit { H.times handler.old + 1 < 2 ^ 32 }
+    requires total_fits { folded (H.kind handler.old) (H.total handler.old) value < 2 ^ 64 }
+    ensures same_kind { H.kind handler.new ≡ H.kind handler.old }
+    ensures once_more { H.times handler.new ≡ H.times handler.old + 1 }
+    ensures folded_in { H.total handler.new ≡ folded (H.kind handler.old) (H.total handler.old) value }
+{
+    handler.take(value);
+}
+
+#[test]
+fn a_tally_adds_or_joins_bit_by_bit(rt: HostRuntime) {
+    for (kind, total) in [(Kind::Add, 9), (Kind::Or, 7), (Kind::Read, 9)] {
+        let mut tally = Tally::new(kind);
+        deliver(&mut tally, 3);
+        deliver(&mut tally, 6);
+        let want = Tally {
+            kind,
+            times: 2,
+            total,
+        };
+        assert_eq!(rt; tally, want, "{kind:?}");
+    }
+}
+
+// The text and the values of bench/works.c, so that its times and these are of the same works.
+#[test]
+fn works_over_sixteen_mebibytes(rt: HostRuntime) -> Result<(), Fail> {
+    let table = b"etaoin shrdlu\ncmfwyp vbgkqjxz\t. ";
+    let mut text = Vec::with_capacity(rt.alloc(), 16_777_216)?;
+    let mut state: u32 = 1;
+    for _ in 0..16_777_216 {
+        state = state.wrapping_mul(1_664_525).wrapping_add(1_013_904_223);
+        text.push(table[(state >> 27) as usize])?;
+    }
+    let mut files = Vec::new(rt.alloc());
+    files.push(text)?;
+    for (name, how, want) in [
+        ("lines", How::Lines, 523_923),
+        ("words", How::Words, 2_210_088),
+        ("sum", How::Sum, 1_577_187_525),
+        ("count", How::Count(b'e'), 523_415),
+    ] {
+        let mut best = u128::MAX;
+        for _ in 0..7 {
+            let job = FileJob::new(&files, Some(work(how, 0, 0, WHOLE_FILE)));
+            let began = Instant::now(&rt)?;
+            let value = job.run(0);
+            best = best.min(began.elapsed(&rt)?.as_micros());
+            assert_eq!(rt; value, want, "{name}");
+            if best > 500_000 {
+                // Built with checks, as by `rt try`: not worth seven tries.
+                break;
+            }
+        }
+        println!(rt; "{name} {want} in {best} us")?;
+    }
+    Ok(())
+}
