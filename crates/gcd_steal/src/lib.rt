@@ -15,6 +15,9 @@
 //! | places | The word of a node is 1 exactly while its Drain sleeps, and then its badge lies in the node's slot (`specs/Places`). |
 //! | deques | What owner and thieves took, in the order of their steps, is a front of what was pushed, and the rest is left in it (`specs/Deques`). |
 //!
+//! What a bench knows of the places is a history of takings and layings down: after a wake the history up to that step,
+//! after a sleep the history up to that Drain's laying down. None of a later wake tells of a moment after all of it.
+//!
 //! The kinds of step are push, pop, steal, taking a sleeping Drain, laying one down, and splitting off a seat or a pass;
 //! the last also in [`Rack::wake`], since the seat that takes a node's slot goes with the Drain.
 //!

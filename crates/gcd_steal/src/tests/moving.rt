@@ -17,6 +17,9 @@ const BENCHES: u8 = 4;
 
 const ROUNDS: u32 = 25_000;
 
+// Few enough that pushes come to be refused.
+const MOST: u32 = 4_096;
+
 // A flag for each node, set while a bench holds its Drain; how often one was found set; and how often each Drain was found
 // at the end.
 #[derive(Drop)]
@@ -104,7 +107,7 @@ fn run<R: Wait>(rt: &R, rack: &Rack, plan: &Plan, bench: &mut Bench, watch: &Wat
             yield_now();
         }
         watch.unmark(&drain);
-        if seed % 2 == 0 {
+        if seed >> 20 & 1 == 0 {
             rack.sleep(bench, drain);
         } else if let Err(drain) = rack.push(bench, drain) {
             rack.sleep(bench, drain);
@@ -134,7 +137,7 @@ fn empty(rack: &Rack, bench: &mut Bench, watch: &Watch)
     requires { IsBenchOf rack.now bench.old }
     ensures { IsBenchOf rack.now bench.new }
 {
-    for _ in 0..ROUNDS {
+    for _ in 0..MOST {
         let Some(drain) = rack.pop(bench) else {
             return;
         };
@@ -171,7 +174,7 @@ fn find_all<R: Threads + Sync>(rt: &R, rack: &Rack, plan: &Plan, team: &mut [Ben
 #[test]
 fn no_drain_is_held_twice_at_once_or_lost(rt: HostRuntime) -> Result<(), Fail> {
     let plan = plan_of_queues(rt.alloc(), NODES - 1)?;
-    let (rack, mut team) = Rack::new(rt.alloc(), &plan, BENCHES, ROUNDS)?;
+    let (rack, mut team) = Rack::new(rt.alloc(), &plan, BENCHES, MOST)?;
     let watch = watch_all(rt.alloc())?;
     run_all(&rt, &rack, &plan, team.as_mut_slice(), &watch);
     assert_eq!(rt; watch.clashes.load(Ordering::SeqCst), 0);
