@@ -1,0 +1,4 @@
+pub mod Begins
+pub mod Ahead
+pub mod Placed
+pub mod Still
