@@ -1,8 +1,7 @@
 -- Counts that rise or fall along a list of numbers.
-use Rattle.std.proofs.Common.{◌≡◌, ℕ, zero, suc, ◌+◌, ◌-◌, ◌<◌, ◌≤◌, ◌==◌, Bool, true, false, cond, inl, inr, List, [], ◌∷◌, length, get_or, set, refl, ap, sym, ◌∙◌, subst, arith, get_or-set_other, get_or-set_same}
-use Rattle.std.specs.List.{count_by, All}
+use Rattle.std.proofs.Common.{◌≡◌, ℕ, ◌+◌, ◌-◌, ◌<◌, ◌≤◌, ◌==◌, cond, inl, inr, List, ◌∷◌, length, get_or, set, refl, ap, sym, ◌∙◌, subst, arith, get_or-set_other, get_or-set_same}
+use Rattle.std.specs.List.{count_by}
 use Rattle.std.proofs.lemmas.Bool.{cases_eq, eq-eqb, ne_eqb}
-use Rattle.std.proofs.lemmas.List.{length-set}
 use Rattle.std.proofs.lemmas.List.Sums.{sum_by-cons}
 
 -- how often x stands in the numbers
@@ -30,36 +29,19 @@ pub some_left : (counts before numbers rest : List ℕ) (o total : ℕ) → numb
 some_left counts before numbers rest o total e counted enough =
     let one = times-first o numbers rest e in omega (arith, one, counted, enough)
 
--- what holds of all numbers holds of all but the first
-pub All_rest : (o : ℕ) (numbers rest counts next : List ℕ) → numbers ≡ o ∷ rest → length next ≡ length counts
-    → All (λ x. x < length counts) numbers → All (λ x. x < length next) rest
-All_rest o numbers rest counts next e same all k d h =
-    let longer : length numbers ≡ suc (length rest) = ap length e in
-    let at : get_or numbers (suc k) d ≡ get_or rest k d = ap (λ xs. get_or xs (suc k) d) e in
-    let fits = all (suc k) d (omega (arith, longer, h)) in
-    omega (arith, at, fits, same)
-
--- and of the first
-pub All_first : (o : ℕ) (numbers rest counts : List ℕ) → numbers ≡ o ∷ rest → All (λ x. x < length counts) numbers → o < length counts
-All_first o numbers rest counts e all =
-    let some : length numbers ≡ suc (length rest) = ap length e in
-    let at : get_or numbers 0 0 ≡ o = ap (λ xs. get_or xs 0 0) e in
-    let fits = all 0 0 (omega (arith, some)) in
-    omega (arith, at, fits)
-
 -- one step of a loop that adds 1 at each of the numbers
 pub raise_step : (counts numbers rest : List ℕ) (o x : ℕ) → numbers ≡ o ∷ rest → o < length counts
     → get_or (set counts o (get_or counts o 0 + 1)) x 0 + times x rest ≡ get_or counts x 0 + times x numbers
 raise_step counts numbers rest o x e lt = elim (cases_eq o x) [
   | inl same ↦
-    let at : get_or (set counts o (get_or counts o 0 + 1)) x 0 ≡ get_or counts x 0 + 1 =
+      let at : get_or (set counts o (get_or counts o 0 + 1)) x 0 ≡ get_or counts x 0 + 1 =
       subst (λ y. get_or (set counts o (get_or counts o 0 + 1)) y 0 ≡ get_or counts y 0 + 1) same (get_or-set_same counts o _ 0 lt) in
-    let more = ap (times x) e ∙ times-same x o rest same in
-    omega (arith, at, more)
+      let more = ap (times x) e ∙ times-same x o rest same in
+      omega (arith, at, more)
   | inr other ↦
-    let at = get_or-set_other counts o x (get_or counts o 0 + 1) 0 (λ s. other (sym s)) in
-    let more = ap (times x) e ∙ times-other x o rest other in
-    omega (arith, at, more)
+      let at = get_or-set_other counts o x (get_or counts o 0 + 1) 0 (λ s. other (sym s)) in
+      let more = ap (times x) e ∙ times-other x o rest other in
+      omega (arith, at, more)
 ]
 
 -- one step of a loop that takes 1 off at each of the numbers
@@ -67,13 +49,13 @@ pub lower_step : (counts numbers rest : List ℕ) (o x : ℕ) → numbers ≡ o 
     → get_or (set counts o (get_or counts o 0 - 1)) x 0 + times x numbers ≡ get_or counts x 0 + times x rest
 lower_step counts numbers rest o x e lt some = elim (cases_eq o x) [
   | inl same ↦
-    let at : get_or (set counts o (get_or counts o 0 - 1)) x 0 + 1 ≡ get_or counts x 0 =
+      let at : get_or (set counts o (get_or counts o 0 - 1)) x 0 + 1 ≡ get_or counts x 0 =
       subst (λ y. get_or (set counts o (get_or counts o 0 - 1)) y 0 + 1 ≡ get_or counts y 0) same
       (let own = get_or-set_same counts o (get_or counts o 0 - 1) 0 lt in omega (arith, own)) in
-    let more = ap (times x) e ∙ times-same x o rest same in
-    omega (arith, at, more)
+      let more = ap (times x) e ∙ times-same x o rest same in
+      omega (arith, at, more)
   | inr other ↦
-    let at = get_or-set_other counts o x (get_or counts o 0 - 1) 0 (λ s. other (sym s)) in
-    let more = ap (times x) e ∙ times-other x o rest other in
-    omega (arith, at, more)
+      let at = get_or-set_other counts o x (get_or counts o 0 - 1) 0 (λ s. other (sym s)) in
+      let more = ap (times x) e ∙ times-other x o rest other in
+      omega (arith, at, more)
 ]

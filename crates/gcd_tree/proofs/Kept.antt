@@ -1,16 +1,13 @@
 -- What a tree keeps when a target, a request or a number of open runs changes.
-use Rattle.std.proofs.Common.{◌≡◌, ◌≢◌, ℕ, zero, suc, ◌+◌, ◌-◌, ◌<◌, ◌≤◌, ◌==◌, Bool, true, false, not, cond, ◌&&◌, ◌||◌, inl, inr, List, [], ◌∷◌, length, get_or, set, Option, Some, None, is_some, unwrap_or, option_map, refl, ap, sym, ◌∙◌, subst, arith, length-set, get_or-set_other, get_or-set_same, slice_index, slice_index_or}
-use Rattle.std.specs.List.{list_any, sum_by, sum, range_with_len}
-use Rattle.std.specs.Option.{option_map_or}
-use Rattle.std.proofs.lemmas.Bool.{false≢true, true≢false, both_ways, ne_eqb, eq-eqb, cases_eq, cases_Bool, false_from_ne_true, true_from_ne_false, or_left, not_from_false, and_from}
-use Rattle.std.proofs.lemmas.List.Folds.{list_any_at}
+use Rattle.std.proofs.Common.{◌≡◌, ◌≢◌, ℕ, suc, ◌+◌, ◌<◌, ◌≤◌, ◌==◌, Bool, true, false, cond, inl, inr, length, Option, Some, None, is_some, unwrap_or, option_map, refl, ap, sym, ◌∙◌, subst, arith, length-set, get_or-set_other, get_or-set_same, slice_index_or}
+use Rattle.std.specs.List.{sum_by, sum, range_with_len}
+use Rattle.std.proofs.lemmas.Bool.{true≢false, both_ways, ne_eqb, eq-eqb, cases_eq, false_from_ne_true, true_from_ne_false, or_left, not_from_false, and_from}
 use Rattle.std.proofs.lemmas.List.Sums.{sum_by-le-sum_by}
-use Rattle.std.proofs.lemmas.List.FromFn.{length-range_with_len, get_or-range_with_len}
 use Rattle.gcd_plan.specs.declared.names.Obj.{Obj}
 use Rattle.gcd_plan.specs.Chains.{chain_by, is_in}
-use Rattle.gcd_tree.specs.TreeView.{TreeView, target_in, target_at, request_at, is_moving_at, open_on_at, is_node_at, chain_at, has_mover_at, walk_next, would_cycle_at, aims_at, is_child_of, has_child_at, open_from, open_beneath_at, with_target, with_request, with_open}
-use Rattle.gcd_tree.specs.IsTree.{IsTree, TargetsFit}
-use Rattle.gcd_tree.proofs.Walks.{chain_by-same, is_in-start, not_again, ends_within, ends_redirected, parting, step_to, in_range}
+use Rattle.gcd_tree.specs.TreeView.{TreeView, target_at, request_at, is_moving_at, open_on_at, is_node_at, chain_at, walk_next, would_cycle_at, is_child_of, has_child_at, open_from, open_beneath_at, with_request, with_open}
+use Rattle.gcd_tree.specs.IsTree.{IsTree}
+use Rattle.gcd_tree.proofs.Walks.{chain_by-same, ends_within, ends_redirected, parting, step_to, in_range}
 use Rattle.gcd_tree.proofs.Ranges.{found_below, sum_by-same, sum_by-changed, term-le-sum_by, sum-by_place}
 
 -- ---- requests
@@ -56,9 +53,9 @@ from-le-beneath view o p lt on =
 pub beneath-le-all : (view : TreeView) (o : ℕ) → length view.open_on ≡ length view.targets → open_beneath_at view o ≤ sum view.open_on
 beneath-le-all view o e =
     let less = sum_by-le-sum_by (open_from view o) (open_on_at view) (range_with_len 0 (length view.targets))
-        (λ p. cond_le (is_in o (chain_at view p)) (open_on_at view p)) in
+    (λ p. cond_le (is_in o (chain_at view p)) (open_on_at view p)) in
     let all : sum_by (open_on_at view) (range_with_len 0 (length view.targets)) ≡ sum view.open_on =
-        ap (λ n. sum_by (open_on_at view) (range_with_len 0 n)) (sym e) ∙ sum-by_place view.open_on in
+    ap (λ n. sum_by (open_on_at view) (range_with_len 0 n)) (sym e) ∙ sum-by_place view.open_on in
     omega (arith, less, all)
 
 -- beneath root all open runs are
@@ -97,7 +94,7 @@ has_child_below view tree o m away lt other on =
     let s = step_to (target_at view) n m o other on in
     let below = in_range (target_at view) n n m s.from tree.targets_fit lt s.on_it in
     let node : is_node_at view s.from ≡ true = true_from_ne_false _ (λ none.
-        away (sym s.steps ∙ (tree.others_rest s.from below none).0)) in
+    away (sym s.steps ∙ (tree.others_rest s.from below none).0)) in
     found_below (is_child_of view o) n s.from below (child_at view o s.from s.away s.elsewhere node s.steps)
 
 -- where o has no child, or nothing is open beneath it, no other object whose chain has it is open
@@ -132,20 +129,20 @@ IsTree-with_open view tree o n lt moves stays = record {
   others_rest = tree.others_rest;
   movers_are_open = λ x within moving. elim (cases_eq x o) [
     | inl here ↦
-      let own = get_or-set_same view.open_on o n 0 (omega (arith, lt, tree.as_many_open_on)) in
-      let some = moves (subst (λ y. is_moving_at view y ≡ true) here moving) in
-      subst (λ y. 0 < open_on_at (with_open view o n) y) (sym here) (omega (arith, own, some))
+        let own = get_or-set_same view.open_on o n 0 (omega (arith, lt, tree.as_many_open_on)) in
+        let some = moves (subst (λ y. is_moving_at view y ≡ true) here moving) in
+        subst (λ y. 0 < open_on_at (with_open view o n) y) (sym here) (omega (arith, own, some))
     | inr elsewhere ↦
-      let same = get_or-set_other view.open_on o x n 0 elsewhere in omega (arith, same, tree.movers_are_open x within moving)
+        let same = get_or-set_other view.open_on o x n 0 elsewhere in omega (arith, same, tree.movers_are_open x within moving)
   ];
   open_chains_stay = λ q p within open' on moving. elim (cases_eq p o) [
     | inl here ↦
-      let own = get_or-set_same view.open_on o n 0 (omega (arith, lt, tree.as_many_open_on)) in
-      let now = subst (λ y. 0 < open_on_at (with_open view o n) y) here open' in
-      stays (omega (arith, own, now)) q (subst (λ y. is_in q (chain_at view y) ≡ true) here on) moving ∙ sym here
+        let own = get_or-set_same view.open_on o n 0 (omega (arith, lt, tree.as_many_open_on)) in
+        let now = subst (λ y. 0 < open_on_at (with_open view o n) y) here open' in
+        stays (omega (arith, own, now)) q (subst (λ y. is_in q (chain_at view y) ≡ true) here on) moving ∙ sym here
     | inr elsewhere ↦
-      let same = get_or-set_other view.open_on o p n 0 elsewhere in
-      tree.open_chains_stay q p within (omega (arith, same, open')) on moving
+        let same = get_or-set_other view.open_on o p n 0 elsewhere in
+        tree.open_chains_stay q p within (omega (arith, same, open')) on moving
   ];
 }
 
@@ -155,7 +152,6 @@ module _ (view : TreeView) (tree : IsTree view) (o : ℕ) (t : Obj) (object : o 
     (node : is_node_at view o ≡ true) (apart : would_cycle_at view o t.0 ≡ false)
     (quiet : (m : ℕ) → m < length view.targets → m ≢ o → is_in o (chain_at view m) ≡ true → open_on_at view m ≡ 0)
     (is_open : 0 < open_on_at view o) where
-
   asked_at : slice_index_or (with_request view o (Some t)).requests o None ≡ Some t
   asked_at = get_or-set_same view.requests o (Some t) None (omega (arith, object, tree.as_many_requests))
 
@@ -181,9 +177,9 @@ module _ (view : TreeView) (tree : IsTree view) (o : ℕ) (t : Obj) (object : o 
       let g = walk_next (with_request view o (Some t)) in
       ends_within g n (n + suc n) x walks_within within
       (ends_redirected f g o n n (n + suc n) x walks_as
-        (subst (λ y. is_in o (chain_by f n y) ≡ false) (sym walks_to) apart)
-        (subst (λ y. is_in 0 (chain_by f n y) ≡ true) (sym walks_to) (tree.walks_end t.0 fits))
-        (tree.walks_end x within) (omega arith))
+      (subst (λ y. is_in o (chain_by f n y) ≡ false) (sym walks_to) apart)
+      (subst (λ y. is_in 0 (chain_by f n y) ≡ true) (sym walks_to) (tree.walks_end t.0 fits))
+      (tree.walks_end x within) (omega arith))
 
   pub IsTree-with_request : IsTree (with_request view o (Some t))
   IsTree-with_request = record {
@@ -200,8 +196,8 @@ module _ (view : TreeView) (tree : IsTree view) (o : ℕ) (t : Obj) (object : o 
     others_rest = λ x within none. elim (cases_eq x o) [
       | inl here ↦ absurd (both_ways _ none (subst (λ y. is_node_at view y ≡ true) (sym here) node))
       | inr other ↦
-        let rests = tree.others_rest x within none in
-        (rests.0, ap (λ r. option_map (λ y. y.0) r) (asked_not x other) ∙ rests.1)
+          let rests = tree.others_rest x within none in
+          (rests.0, ap (λ r. option_map (λ y. y.0) r) (asked_not x other) ∙ rests.1)
     ];
     movers_are_open = λ x within moving. elim (cases_eq x o) [
       | inl here ↦ subst (λ y. 0 < open_on_at view y) (sym here) is_open
@@ -211,8 +207,8 @@ module _ (view : TreeView) (tree : IsTree view) (o : ℕ) (t : Obj) (object : o 
       | inl here ↦ elim (cases_eq p o) [
         | inl there ↦ here ∙ sym there
         | inr elsewhere ↦
-          let none = quiet p within elsewhere (subst (λ y. is_in y (chain_at view p) ≡ true) here on) in
-          absurd (omega (arith, none, open'))
+            let none = quiet p within elsewhere (subst (λ y. is_in y (chain_at view p) ≡ true) here on) in
+            absurd (omega (arith, none, open'))
       ]
       | inr other ↦ tree.open_chains_stay q p within open' on (ap is_some (sym (asked_not q other)) ∙ moving)
     ];
@@ -237,7 +233,6 @@ module _ (view next : TreeView) (o t : ℕ) (tree : IsTree view) (change : Retar
     (object : o < length view.targets) (fits : t < length view.targets) (away : o ≢ 0) (node : is_node_at view o ≡ true)
     (apart : is_in o (chain_by (walk_next view) (length view.targets) t) ≡ false)
     (quiet : (m : ℕ) → m < length view.targets → m ≢ o → is_in o (chain_at view m) ≡ true → open_on_at view m ≡ 0) where
-
   goes_to : walk_next next o ≡ t
   goes_to = ap (λ r. unwrap_or (option_map (λ y. y.0) r) (target_at next o)) change.request ∙ change.target
 
@@ -274,9 +269,9 @@ module _ (view next : TreeView) (o t : ℕ) (tree : IsTree view) (change : Retar
       let f = target_at view in
       ends_within (target_at next) n (n + suc n) x targets_within within
       (ends_redirected f (target_at next) o n n (n + suc n) x change.targets
-        (subst (λ y. is_in o (chain_by f n y) ≡ false) (sym change.target) target_apart)
-        (subst (λ y. is_in 0 (chain_by f n y) ≡ true) (sym change.target) (tree.chains_end t fits))
-        (tree.chains_end x within) (omega arith))
+      (subst (λ y. is_in o (chain_by f n y) ≡ false) (sym change.target) target_apart)
+      (subst (λ y. is_in 0 (chain_by f n y) ≡ true) (sym change.target) (tree.chains_end t fits))
+      (tree.chains_end x within) (omega arith))
 
   goings_still_end : (x : ℕ) → x < length view.targets → is_in 0 (chain_by (walk_next next) (length view.targets) x) ≡ true
   goings_still_end x within =
@@ -284,16 +279,16 @@ module _ (view next : TreeView) (o t : ℕ) (tree : IsTree view) (change : Retar
       let f = walk_next view in
       ends_within (walk_next next) n (n + suc n) x goes_within within
       (ends_redirected f (walk_next next) o n n (n + suc n) x goes_as
-        (subst (λ y. is_in o (chain_by f n y) ≡ false) (sym goes_to) apart)
-        (subst (λ y. is_in 0 (chain_by f n y) ≡ true) (sym goes_to) (tree.walks_end t fits))
-        (tree.walks_end x within) (omega arith))
+      (subst (λ y. is_in o (chain_by f n y) ≡ false) (sym goes_to) apart)
+      (subst (λ y. is_in 0 (chain_by f n y) ≡ true) (sym goes_to) (tree.walks_end t fits))
+      (tree.walks_end x within) (omega arith))
 
   -- a chain without o stays
   chain_stays : (m : ℕ) → is_in o (chain_at view m) ≡ false → chain_at next m ≡ chain_at view m
   chain_stays m without =
       ap (λ k. chain_by (target_at next) k m) change.as_many
       ∙ chain_by-same (target_at view) (target_at next) (length view.targets) m
-        (λ x on. change.targets x (λ e. both_ways _ without (subst (λ y. is_in y (chain_at view m) ≡ true) e on)))
+      (λ x on. change.targets x (λ e. both_ways _ without (subst (λ y. is_in y (chain_at view m) ≡ true) e on)))
 
   -- an open object's chain has not o
   open_without : (m : ℕ) → m < length view.targets → m ≢ o → 0 < open_on_at view m → is_in o (chain_at view m) ≡ false
@@ -312,42 +307,42 @@ module _ (view next : TreeView) (o t : ℕ) (tree : IsTree view) (change : Retar
     targets_fit = λ x within. omega (arith, targets_within x (omega (arith, within, change.as_many)), change.as_many);
     walks_fit = λ x within. omega (arith, goes_within x (omega (arith, within, change.as_many)), change.as_many);
     chains_end = λ x within. subst (λ k. is_in 0 (chain_by (target_at next) k x) ≡ true) (sym change.as_many)
-      (chains_still_end x (omega (arith, within, change.as_many)));
+        (chains_still_end x (omega (arith, within, change.as_many)));
     walks_end = λ x within. subst (λ k. is_in 0 (chain_by (walk_next next) k x) ≡ true) (sym change.as_many)
-      (goings_still_end x (omega (arith, within, change.as_many)));
+        (goings_still_end x (omega (arith, within, change.as_many)));
     root_stays = ap (λ r. option_map (λ y. y.0) r) (change.requests 0 (λ e. away (sym e))) ∙ tree.root_stays;
     others_rest = λ x within none. elim (cases_eq x o) [
       | inl here ↦ absurd (both_ways _ none (subst (λ y. is_node_at next y ≡ true) (sym here) (ap (λ ns. slice_index_or ns o false) change.nodes ∙ node)))
       | inr other ↦
-        let rests = tree.others_rest x (omega (arith, within, change.as_many)) (sym (ap (λ ns. slice_index_or ns x false) change.nodes) ∙ none) in
-        (change.targets x other ∙ rests.0, ap (λ r. option_map (λ y. y.0) r) (change.requests x other) ∙ rests.1)
+          let rests = tree.others_rest x (omega (arith, within, change.as_many)) (sym (ap (λ ns. slice_index_or ns x false) change.nodes) ∙ none) in
+          (change.targets x other ∙ rests.0, ap (λ r. option_map (λ y. y.0) r) (change.requests x other) ∙ rests.1)
     ];
     movers_are_open = λ x within moving. elim (cases_eq x o) [
       | inl here ↦ absurd (both_ways _ rests_there (subst (λ y. is_moving_at next y ≡ true) here moving))
       | inr other ↦
-        let busy = tree.movers_are_open x (omega (arith, within, change.as_many)) (ap is_some (sym (change.requests x other)) ∙ moving) in
-        omega (arith, busy, change.open_on x other)
+          let busy = tree.movers_are_open x (omega (arith, within, change.as_many)) (ap is_some (sym (change.requests x other)) ∙ moving) in
+          omega (arith, busy, change.open_on x other)
     ];
     open_chains_stay = λ q p within open' on moving. elim (cases_eq p o) [
       | inl here ↦ absurd (omega (arith, subst (λ y. 0 < open_on_at next y) here open', change.closed))
       | inr other ↦
-        let below : p < length view.targets = omega (arith, within, change.as_many) in
-        let busy : 0 < open_on_at view p = omega (arith, open', change.open_on p other) in
-        let kept = chain_stays p (open_without p below other busy) in
-        let elsewhere : q ≢ o = λ e. both_ways _ rests_there (subst (λ y. is_moving_at next y ≡ true) e moving) in
-        tree.open_chains_stay q p below busy (ap (is_in q) (sym kept) ∙ on) (ap is_some (sym (change.requests q elsewhere)) ∙ moving)
+          let below : p < length view.targets = omega (arith, within, change.as_many) in
+          let busy : 0 < open_on_at view p = omega (arith, open', change.open_on p other) in
+          let kept = chain_stays p (open_without p below other busy) in
+          let elsewhere : q ≢ o = λ e. both_ways _ rests_there (subst (λ y. is_moving_at next y ≡ true) e moving) in
+          tree.open_chains_stay q p below busy (ap (is_in q) (sym kept) ∙ on) (ap is_some (sym (change.requests q elsewhere)) ∙ moving)
     ];
   }
 
   from_stays : (x m : ℕ) → m < length view.targets → m ≢ o → open_from next x m ≡ open_from view x m
   from_stays x m within other = elim (cases_eq (open_on_at view m) 0) [
     | inl none ↦
-      ap (λ k. cond (is_in x (chain_at next m)) k 0) (change.open_on m other ∙ none)
-      ∙ cond_zero (is_in x (chain_at next m))
-      ∙ sym (ap (λ k. cond (is_in x (chain_at view m)) k 0) none ∙ cond_zero (is_in x (chain_at view m)))
+        ap (λ k. cond (is_in x (chain_at next m)) k 0) (change.open_on m other ∙ none)
+        ∙ cond_zero (is_in x (chain_at next m))
+        ∙ sym (ap (λ k. cond (is_in x (chain_at view m)) k 0) none ∙ cond_zero (is_in x (chain_at view m)))
     | inr some ↦
-      ap (λ k. cond (is_in x (chain_at next m)) k 0) (change.open_on m other)
-      ∙ ap (λ ms. cond (is_in x ms) (open_on_at view m) 0) (chain_stays m (open_without m within other (omega (arith, some))))
+        ap (λ k. cond (is_in x (chain_at next m)) k 0) (change.open_on m other)
+        ∙ ap (λ ms. cond (is_in x ms) (open_on_at view m) 0) (chain_stays m (open_without m within other (omega (arith, some))))
   ]
 
   -- beneath each object is what was, less the runs that o had
@@ -357,6 +352,6 @@ module _ (view next : TreeView) (o t : ℕ) (tree : IsTree view) (change : Retar
       let mine = cond (is_in x (chain_at view o)) (open_on_at view o) 0 in
       let none : ◌≡◌ {A = ℕ} (open_from next x o) 0 = ap (λ k. cond (is_in x (chain_at next o)) k 0) change.closed ∙ cond_zero (is_in x (chain_at next o)) in
       let changed = sum_by-changed (open_from view x) (open_from next x) 0 n o mine 0 (omega arith) (omega arith) (omega (arith, none))
-        (λ k lt other. from_stays x k (omega arith) other) in
+      (λ k lt other. from_stays x k (omega arith) other) in
       let whole = ap (λ k. sum_by (open_from next x) (range_with_len 0 k)) change.as_many in
       omega (arith, changed, whole)

@@ -1,7 +1,7 @@
 -- What a plan's tree has before the first event.
-use Rattle.std.proofs.Common.{◌≡◌, ◌≢◌, ℕ, zero, suc, ◌+◌, ◌*◌, ◌<◌, ◌≤◌, ◌==◌, Bool, true, false, not, cond, ◌&&◌, ◌⊎◌, inl, inr, List, [], ◌∷◌, ◌++◌, length, map, replicate, get_or, Option, Some, None, is_none, is_some, option_map, unwrap_or, refl, ap, sym, ◌∙◌, subst, arith, slice_get, slice_index, slice_index_or}
+use Rattle.std.proofs.Common.{◌≡◌, ℕ, zero, suc, ◌+◌, ◌*◌, ◌<◌, Bool, true, false, ◌⊎◌, inl, inr, List, [], ◌∷◌, ◌++◌, length, map, replicate, get_or, None, is_some, option_map, unwrap_or, refl, ap, sym, ◌∙◌, subst, arith, slice_get}
 use Rattle.std.specs.Option.{option_map_or}
-use Rattle.std.specs.List.{sum, sum_by, range_with_len, list_all}
+use Rattle.std.specs.List.{sum, range_with_len}
 use Rattle.std.proofs.lemmas.Bool.{false≢true, true≢false, both_ways, eqb-true, and_parts}
 use Rattle.std.proofs.lemmas.List.{length-map, length-replicate}
 use Rattle.std.proofs.lemmas.List.Folds.{sum_by-replicate}
@@ -11,12 +11,12 @@ use Rattle.std.proofs.lemmas.Option.{slice_get-get_or, slice_get_within}
 use Rattle.gcd_plan.specs.declared.names.Obj.{Obj}
 use Rattle.gcd_plan.specs.declared.kind.Kind.{Kind}
 use Rattle.gcd_plan.specs.declared.kind.Kind.TheVariants.{Serial, Concurrent, Group, Semaphore, Add, Or, Timer, Read}
-use Rattle.gcd_plan.specs.PlanView.{PlanView, ObjView, kind_of, first_target}
+use Rattle.gcd_plan.specs.PlanView.{PlanView, ObjView, first_target}
 use Rattle.gcd_plan.specs.Kinds.{is_node_kind, is_queue_kind, is_queue, is_node}
-use Rattle.gcd_plan.specs.Validity.{IsPlan, is_object, is_kind, has_path, has_fields, root_view, reaches_root}
+use Rattle.gcd_plan.specs.Validity.{IsPlan, is_object, has_fields, root_view}
 use Rattle.gcd_plan.specs.Chains.{chain_by, is_in}
-use Rattle.gcd_tree.specs.TreeView.{TreeView, tree_of, target_at, request_at, is_moving_at, open_on_at, is_node_at, chain_at, walk_next, open_beneath_at}
-use Rattle.gcd_tree.specs.IsTree.{IsTree, CountBeneath}
+use Rattle.gcd_tree.specs.TreeView.{TreeView, tree_of, target_at, request_at, is_moving_at, open_on_at, is_node_at, walk_next}
+use Rattle.gcd_tree.specs.IsTree.{IsTree}
 use Rattle.gcd_tree.proofs.Walks.{chain_by-same}
 use Rattle.gcd_tree.proofs.Kept.{beneath-le-all}
 use Rattle.gcd_tree.proofs.Runs.{Keeps}
@@ -72,16 +72,16 @@ pub filled_targets : (plan : PlanView) (o : ℕ) (items : List Obj) → items �
 filled_targets plan o items so_far whole =
     so_far ∙ ap (λ n. map (first_obj plan) (range_with_len 0 n)) whole
     ∙ sym (fill_by_all (first_obj plan) (tree_of plan).targets (length plan.objects) (record { 0 = 0 })
-      (length-map plan.objects (λ x. x.target))
-      (λ k _. ap (λ n. record { 0 = n }) (target_read plan.objects k)))
+    (length-map plan.objects (λ x. x.target))
+    (λ k _. ap (λ n. record { 0 = n }) (target_read plan.objects k)))
 
 pub filled_nodes : (plan : PlanView) (o : ℕ) (items : List Bool) → items ≡ map (is_node plan) (range_with_len 0 o)
     → o ≡ length plan.objects → items ≡ (tree_of plan).nodes
 filled_nodes plan o items so_far whole =
     so_far ∙ ap (λ n. map (is_node plan) (range_with_len 0 n)) whole
     ∙ sym (fill_by_all (is_node plan) (tree_of plan).nodes (length plan.objects) false
-      (length-map plan.objects (λ x. is_node_kind x.kind))
-      (λ k _. node_read plan.objects k))
+    (length-map plan.objects (λ x. is_node_kind x.kind))
+    (λ k _. node_read plan.objects k))
 
 -- ---- what is valid
 
@@ -134,7 +134,7 @@ first_target_fits plan valid o lt =
 first_target_plain : (plan : PlanView) → IsPlan plan → (o : ℕ) → o < length plan.objects → is_node plan o ≡ false → first_target plan o ≡ 0
 first_target_plain plan valid o lt none =
     let kind : is_node plan o ≡ is_node_kind (get_or plan.objects o root_view).kind =
-        ap (λ r. option_map_or is_node_kind (option_map (λ x. x.kind) r) false) (slice_get-get_or plan.objects o root_view lt) in
+    ap (λ r. option_map_or is_node_kind (option_map (λ x. x.kind) r) false) (slice_get-get_or plan.objects o root_view lt) in
     first_target_at plan o lt ∙ plain_at_root plan _ (get_or plan.objects o root_view) (fields_at plan valid o lt) (sym kind ∙ none)
 
 rests_all : (plan : PlanView) (o : ℕ) → is_moving_at (tree_of plan) o ≡ false
@@ -165,7 +165,7 @@ IsTree-tree_of plan valid =
       walks_end = λ o lt. chains_as plan valid (walk_next (tree_of plan)) _ o (walks_all plan) many lt;
       root_stays = request_at-tree_of plan 0;
       others_rest = λ o lt none.
-        (target_at-tree_of plan o ∙ first_target_plain plan valid o (omega (arith, lt, many)) (sym (is_node_at-tree_of plan o) ∙ none), request_at-tree_of plan o);
+          (target_at-tree_of plan o ∙ first_target_plain plan valid o (omega (arith, lt, many)) (sym (is_node_at-tree_of plan o) ∙ none), request_at-tree_of plan o);
       movers_are_open = λ o _ moving. absurd (both_ways _ (rests_all plan o) moving);
       open_chains_stay = λ o p _ busy. absurd (omega (arith, busy, open_on_at-tree_of plan p));
     }
@@ -173,13 +173,15 @@ IsTree-tree_of plan valid =
 -- the counts before the first event are 0
 tree_of_keeps : (plan : PlanView) → IsPlan plan → Keeps (tree_of plan) (replicate (length plan.objects) 0)
 tree_of_keeps plan valid =
-    let tree = IsTree-tree_of plan valid in
-    (tree, record {
-      as_many = tree.as_many_open_on;
-      exact = λ o _.
-        let none : sum (tree_of plan).open_on ≡ length plan.objects * 0 = sum_by-replicate (λ x. x) (length plan.objects) 0 in
-        omega (arith, all_same {A = ℕ} (length plan.objects) o 0, beneath-le-all (tree_of plan) o tree.as_many_open_on, none);
-    })
+    let tree = IsTree-tree_of plan valid in (
+      tree,
+      record {
+        as_many = tree.as_many_open_on;
+        exact = λ o _.
+            let none : sum (tree_of plan).open_on ≡ length plan.objects * 0 = sum_by-replicate (λ x. x) (length plan.objects) 0 in
+            omega (arith, all_same {A = ℕ} (length plan.objects) o 0, beneath-le-all (tree_of plan) o tree.as_many_open_on, none);
+      },
+    )
 
 pub kept_as : (plan : PlanView) → IsPlan plan → (view : TreeView) (counts : List ℕ)
     → view.targets ≡ (tree_of plan).targets → view.requests ≡ (tree_of plan).requests → view.open_on ≡ (tree_of plan).open_on

@@ -28,13 +28,13 @@ sum_by-changed f g a (suc n) p c d low high change same =
     let right = sum_by-cons f a (range_with_len (a + 1) n) in
     elim (cases_eq a p) [
       | inl here ↦
-        let rest = sum_by-same f g (a + 1) n (λ k low' high'. same k (omega arith) (omega arith)) in
-        let first = subst (λ q. g q + c ≡ f q + d) (sym here) change in
-        omega (arith, left, right, rest, first)
+          let rest = sum_by-same f g (a + 1) n (λ k low' high'. same k (omega arith) (omega arith)) in
+          let first = subst (λ q. g q + c ≡ f q + d) (sym here) change in
+          omega (arith, left, right, rest, first)
       | inr later ↦
-        let rest = sum_by-changed f g (a + 1) n p c d (omega arith) (omega arith) change (λ k high' ne. same k (omega arith) ne) in
-        let first = same a (omega arith) later in
-        omega (arith, left, right, rest, first)
+          let rest = sum_by-changed f g (a + 1) n p c d (omega arith) (omega arith) change (λ k high' ne. same k (omega arith) ne) in
+          let first = same a (omega arith) later in
+          omega (arith, left, right, rest, first)
     ]
 
 -- a term is no more than the sum

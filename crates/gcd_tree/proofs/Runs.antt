@@ -1,11 +1,11 @@
 -- What a tree and its counts keep at each call.
-use Rattle.std.proofs.Common.{◌≡◌, ◌≢◌, ℕ, zero, suc, ◌+◌, ◌-◌, ◌*◌, ◌^◌, ◌<◌, ◌≤◌, ◌==◌, Bool, true, false, cond, ◌||◌, inl, inr, List, [], ◌∷◌, length, get_or, set, Option, Some, None, is_some, option_map, unwrap_or, refl, ap, sym, ◌∙◌, subst, arith, length-set, get_or-set_other, get_or-set_same, slice_index, slice_index_or}
+use Rattle.std.proofs.Common.{◌≡◌, ◌≢◌, ℕ, ◌+◌, ◌-◌, ◌^◌, ◌<◌, ◌≤◌, ◌==◌, Bool, true, false, cond, inl, inr, List, [], ◌∷◌, length, get_or, set, Option, Some, None, is_some, option_map, unwrap_or, refl, ap, sym, ◌∙◌, subst, arith, length-set, get_or-set_other, get_or-set_same, slice_index, slice_index_or}
 use Rattle.std.specs.List.{list_any, sum, count_by}
 use Rattle.std.proofs.lemmas.Bool.{false≢true, true≢false, both_ways, eqb-true, cases_eq, cases_Bool, or_left, or_right, or_cases, true_from_ne_false, false_from_ne_true}
 use Rattle.std.proofs.lemmas.List.{get_or_read}
 use Rattle.gcd_plan.specs.declared.names.Obj.{Obj}
 use Rattle.gcd_plan.specs.Chains.{chain_by, is_in}
-use Rattle.gcd_tree.specs.TreeView.{TreeView, target_in, target_at, request_at, is_moving_at, open_on_at, is_node_at, chain_at, has_mover_at, walk_next, would_cycle_at, has_child_at, open_beneath_at, with_target, with_request, with_open}
+use Rattle.gcd_tree.specs.TreeView.{TreeView, target_at, is_moving_at, open_on_at, is_node_at, chain_at, has_mover_at, walk_next, would_cycle_at, has_child_at, open_beneath_at, with_target, with_request, with_open}
 use Rattle.gcd_tree.specs.IsTree.{IsTree, CountBeneath}
 use Rattle.gcd_tree.proofs.Walks.{count_by-chain_by, not_again}
 use Rattle.gcd_tree.proofs.Kept.{from-le-beneath, beneath-le-all, beneath-with_open, quiet_below, not_root, IsTree-with_open, IsTree-with_request, cond_zero, IsTree-retargeted, beneath-retargeted, Retargets}
@@ -47,25 +47,38 @@ pub opened_room : (view : TreeView) (counts : List ℕ) → Keeps view counts �
     → sum view.open_on + 1 < 2 ^ 32 → (x : ℕ) → x < length view.targets → slice_index counts x + passes view node x < 2 ^ 32
 opened_room view counts keeps node lt room x within =
     let once = count_by-chain_by (target_at view) (length view.targets) node x (keeps.0.chains_end node lt) in
-    omega (arith, once, cond_one (is_in x (chain_at view node)), keeps.1.exact x within,
-        beneath-le-all view x keeps.0.as_many_open_on, room)
+    omega (
+      arith,
+      once,
+      cond_one (is_in x (chain_at view node)),
+      keeps.1.exact x within,
+      beneath-le-all view x keeps.0.as_many_open_on,
+      room,
+    )
 
 pub opened_keeps : (view : TreeView) (counts next : List ℕ) → Keeps view counts → (node n : ℕ) → node < length view.targets
     → has_mover_at view node ≡ false → n ≡ open_on_at view node + 1 → length next ≡ length counts
     → ((x : ℕ) → x < length view.targets → slice_index next x ≡ slice_index counts x + passes view node x)
     → Keeps (with_open view node n) next
 opened_keeps view counts next keeps node n lt none more same raised =
-    let tree = keeps.0 in
-    (IsTree-with_open view tree node n lt (λ moving. omega (arith, more))
-        (λ _ q on moving. absurd (both_ways _ none (any_of (is_moving_at view) q (chain_at view node) on moving))),
-    record {
-      as_many = same ∙ keeps.1.as_many;
-      exact = λ x within.
-        let once = count_by-chain_by (target_at view) (length view.targets) node x (tree.chains_end node lt) in
-        let changed = beneath-with_open view node n x lt (omega (arith, lt, tree.as_many_open_on)) in
-        omega (arith, once, changed, cond_sum (is_in x (chain_at view node)) (open_on_at view node) n more,
-            raised x within, keeps.1.exact x within);
-    })
+    let tree = keeps.0 in (
+      IsTree-with_open view tree node n lt (λ moving. omega (arith, more))
+          (λ _ q on moving. absurd (both_ways _ none (any_of (is_moving_at view) q (chain_at view node) on moving))),
+      record {
+        as_many = same ∙ keeps.1.as_many;
+        exact = λ x within.
+            let once = count_by-chain_by (target_at view) (length view.targets) node x (tree.chains_end node lt) in
+            let changed = beneath-with_open view node n x lt (omega (arith, lt, tree.as_many_open_on)) in
+            omega (
+              arith,
+              once,
+              changed,
+              cond_sum (is_in x (chain_at view node)) (open_on_at view node) n more,
+              raised x within,
+              keeps.1.exact x within,
+            );
+      },
+    )
 
 -- ---- a run less
 
@@ -75,12 +88,12 @@ closed_enough view counts keeps node lt some x within =
     let once = count_by-chain_by (target_at view) (length view.targets) node x (keeps.0.chains_end node lt) in
     elim (cases_Bool (is_in x (chain_at view node))) [
       | inl on ↦
-        let own = from-le-beneath view x node lt on in
-        let one : ◌≡◌ {A = ℕ} (cond (is_in x (chain_at view node)) 1 0) 1 = ap (λ b. cond b 1 0) on in
-        omega (arith, own, one, once, keeps.1.exact x within, some)
+          let own = from-le-beneath view x node lt on in
+          let one : ◌≡◌ {A = ℕ} (cond (is_in x (chain_at view node)) 1 0) 1 = ap (λ b. cond b 1 0) on in
+          omega (arith, own, one, once, keeps.1.exact x within, some)
       | inr off ↦
-        let zero_times : ◌≡◌ {A = ℕ} (cond (is_in x (chain_at view node)) 1 0) 0 = ap (λ b. cond b 1 0) off in
-        omega (arith, zero_times, once)
+          let zero_times : ◌≡◌ {A = ℕ} (cond (is_in x (chain_at view node)) 1 0) 0 = ap (λ b. cond b 1 0) off in
+          omega (arith, zero_times, once)
     ]
 
 pub closed_keeps : (view : TreeView) (counts next : List ℕ) → Keeps view counts → (node n : ℕ) → node < length view.targets
@@ -88,16 +101,23 @@ pub closed_keeps : (view : TreeView) (counts next : List ℕ) → Keeps view cou
     → ((x : ℕ) → x < length view.targets → slice_index next x + passes view node x ≡ slice_index counts x)
     → Keeps (with_open view node n) next
 closed_keeps view counts next keeps node n lt less moves same lowered =
-    let tree = keeps.0 in
-    (IsTree-with_open view tree node n lt moves (λ _ q on moving. tree.open_chains_stay q node lt (omega (arith, less)) on moving),
-    record {
-      as_many = same ∙ keeps.1.as_many;
-      exact = λ x within.
-        let once = count_by-chain_by (target_at view) (length view.targets) node x (tree.chains_end node lt) in
-        let changed = beneath-with_open view node n x lt (omega (arith, lt, tree.as_many_open_on)) in
-        omega (arith, once, changed, cond_sum (is_in x (chain_at view node)) n (open_on_at view node) less,
-            lowered x within, keeps.1.exact x within);
-    })
+    let tree = keeps.0 in (
+      IsTree-with_open view tree node n lt moves (λ _ q on moving. tree.open_chains_stay q node lt (omega (arith, less)) on moving),
+      record {
+        as_many = same ∙ keeps.1.as_many;
+        exact = λ x within.
+            let once = count_by-chain_by (target_at view) (length view.targets) node x (tree.chains_end node lt) in
+            let changed = beneath-with_open view node n x lt (omega (arith, lt, tree.as_many_open_on)) in
+            omega (
+              arith,
+              once,
+              changed,
+              cond_sum (is_in x (chain_at view node)) n (open_on_at view node) less,
+              lowered x within,
+              keeps.1.exact x within,
+            );
+      },
+    )
 
 still_root : {t : ℕ} → Some t ≡ None → ⊥
 still_root e = cc
@@ -118,15 +138,15 @@ settled_keeps view counts next keeps node t lt one asked same lowered =
     let fits : t.0 < n = omega (arith, goes, tree.walks_fit node lt) in
     let away : node ≢ 0 = λ at. still_root (sym (ap (option_map (λ y. y.0)) (ap (λ o. slice_index_or view.requests o None) (sym at) ∙ asked)) ∙ tree.root_stays) in
     let is_node : is_node_at view node ≡ true = true_from_ne_false _ (λ none.
-        still_root (sym (ap (option_map (λ y. y.0)) asked) ∙ (tree.others_rest node lt none).1)) in
+    still_root (sym (ap (option_map (λ y. y.0)) asked) ∙ (tree.others_rest node lt none).1)) in
     let apart : is_in node (chain_by (walk_next view) n t.0) ≡ false =
-        subst (λ y. is_in node (chain_by (walk_next view) n y) ≡ false) goes
-        (not_again (walk_next view) n node away (tree.walks_end (walk_next view node) (tree.walks_fit node lt))) in
+    subst (λ y. is_in node (chain_by (walk_next view) n y) ≡ false) goes
+    (not_again (walk_next view) n node away (tree.walks_end (walk_next view node) (tree.walks_fit node lt))) in
     let quiet : (m : ℕ) → m < n → m ≢ node → is_in node (chain_at view m) ≡ true → open_on_at view m ≡ 0 =
-        λ m within other on. elim (cases_eq (open_on_at view m) 0) [
-          | inl none ↦ none
-          | inr some ↦ absurd (other (sym (tree.open_chains_stay node m within (omega (arith, some)) on moves)))
-        ] in
+    λ m within other on. elim (cases_eq (open_on_at view m) 0) [
+      | inl none ↦ none
+      | inr some ↦ absurd (other (sym (tree.open_chains_stay node m within (omega (arith, some)) on moves)))
+    ] in
     let change : Retargets view after node t.0 = record {
       as_many = length-set view.targets node t;
       as_many_requests = length-set view.requests node None;
@@ -138,17 +158,18 @@ settled_keeps view counts next keeps node t lt one asked same lowered =
       requests = λ x other. get_or-set_other view.requests node x None None other;
       closed = get_or-set_same view.open_on node 0 0 (omega (arith, lt, tree.as_many_open_on));
       open_on = λ x other. get_or-set_other view.open_on node x 0 0 other;
-    } in
-    (IsTree-retargeted view after node t.0 tree change lt fits away is_node apart quiet,
-    record {
-      as_many = same ∙ keeps.1.as_many ∙ sym change.as_many;
-      exact = λ x within'.
-        let within : x < n = omega (arith, within', change.as_many) in
-        let once = count_by-chain_by (target_at view) n node x (tree.chains_end node lt) in
-        let beneath = beneath-retargeted view after node t.0 tree change lt fits away is_node apart quiet x in
-        let single = ap (λ k. cond (is_in x (chain_at view node)) k 0) one in
-        omega (arith, once, beneath, single, lowered x within, keeps.1.exact x within);
-    })
+    } in (
+      IsTree-retargeted view after node t.0 tree change lt fits away is_node apart quiet,
+      record {
+        as_many = same ∙ keeps.1.as_many ∙ sym change.as_many;
+        exact = λ x within'.
+            let within : x < n = omega (arith, within', change.as_many) in
+            let once = count_by-chain_by (target_at view) n node x (tree.chains_end node lt) in
+            let beneath = beneath-retargeted view after node t.0 tree change lt fits away is_node apart quiet x in
+            let single = ap (λ k. cond (is_in x (chain_at view node)) k 0) one in
+            omega (arith, once, beneath, single, lowered x within, keeps.1.exact x within);
+      },
+    )
 
 -- ---- another target
 
@@ -165,7 +186,7 @@ retarget_keeps view counts keeps o t object fits node apart quiet none =
     let after = with_target view o t in
     let away = not_root view tree o t.0 fits apart in
     let rests : slice_index_or view.requests o None ≡ None =
-        not_some (slice_index_or view.requests o None) (false_from_ne_true _ (λ moves. let some = tree.movers_are_open o object moves in omega (arith, some, none))) in
+    not_some (slice_index_or view.requests o None) (false_from_ne_true _ (λ moves. let some = tree.movers_are_open o object moves in omega (arith, some, none))) in
     let change : Retargets view after o t.0 = record {
       as_many = length-set view.targets o t;
       as_many_requests = refl;
@@ -178,22 +199,24 @@ retarget_keeps view counts keeps o t object fits node apart quiet none =
       closed = none;
       open_on = λ x other. refl;
     } in
-    let below = quiet_below view tree o away quiet in
-    (IsTree-retargeted view after o t.0 tree change object fits away node apart below,
-    record {
-      as_many = keeps.1.as_many ∙ sym change.as_many;
-      exact = λ x within'.
-        let within : x < n = omega (arith, within', change.as_many) in
-        let beneath = beneath-retargeted view after o t.0 tree change object fits away node apart below x in
-        let zero_runs = ap (λ k. cond (is_in x (chain_at view o)) k 0) none ∙ cond_zero (is_in x (chain_at view o)) in
-        omega (arith, beneath, zero_runs, keeps.1.exact x within);
-    })
+    let below = quiet_below view tree o away quiet in (
+      IsTree-retargeted view after o t.0 tree change object fits away node apart below,
+      record {
+        as_many = keeps.1.as_many ∙ sym change.as_many;
+        exact = λ x within'.
+            let within : x < n = omega (arith, within', change.as_many) in
+            let beneath = beneath-retargeted view after o t.0 tree change object fits away node apart below x in
+            let zero_runs = ap (λ k. cond (is_in x (chain_at view o)) k 0) none ∙ cond_zero (is_in x (chain_at view o)) in
+            omega (arith, beneath, zero_runs, keeps.1.exact x within);
+      },
+    )
 
 pub ask_keeps : (view : TreeView) (counts : List ℕ) → Keeps view counts → (o : ℕ) (t : Obj)
     → o < length view.targets → t.0 < length view.targets → is_node_at view o ≡ true → would_cycle_at view o t.0 ≡ false
     → (has_child_at view o ≡ true → open_beneath_at view o ≡ 0) → 0 < open_on_at view o → Keeps (with_request view o (Some t)) counts
 ask_keeps view counts keeps o t object fits node apart quiet some =
     let tree = keeps.0 in
-    let away = not_root view tree o t.0 fits apart in
-    (IsTree-with_request view tree o t object fits node apart (quiet_below view tree o away quiet) some,
-    record { as_many = keeps.1.as_many; exact = keeps.1.exact })
+    let away = not_root view tree o t.0 fits apart in (
+      IsTree-with_request view tree o t object fits node apart (quiet_below view tree o away quiet) some,
+      record { as_many = keeps.1.as_many; exact = keeps.1.exact },
+    )

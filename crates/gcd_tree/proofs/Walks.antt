@@ -1,7 +1,7 @@
 -- Walks along a chain: that they end, what stands on them, and what stays where a step changes.
-use Rattle.std.proofs.Common.{◌≡◌, ◌≢◌, ℕ, zero, suc, ◌+◌, ◌-◌, ◌<◌, ◌≤◌, ◌==◌, Bool, true, false, cond, ◌||◌, ◌⊎◌, inl, inr, List, [], ◌∷◌, length, get_or, refl, ap, sym, ◌∙◌, subst, arith, eqb}
+use Rattle.std.proofs.Common.{◌≡◌, ◌≢◌, ℕ, zero, suc, ◌+◌, ◌-◌, ◌<◌, ◌≤◌, ◌==◌, Bool, true, false, cond, ◌||◌, inl, inr, List, [], ◌∷◌, length, get_or, refl, ap, sym, ◌∙◌, subst, arith, eqb}
 use Rattle.std.specs.List.{list_any, count_by, IsDistinct, AllByRecursion, All}
-use Rattle.std.proofs.lemmas.Bool.{false≢true, both_ways, ne_eqb, eq-eqb, eqb-true, cases_eq, cases_Bool, false_from_ne_true, or_right, or_parts}
+use Rattle.std.proofs.lemmas.Bool.{false≢true, both_ways, ne_eqb, eq-eqb, eqb-true, cases_eq, false_from_ne_true, or_right, or_parts}
 use Rattle.std.proofs.lemmas.List.Sums.{sum_by-cons}
 use Rattle.std.proofs.lemmas.Map.Steps.{length-le_from_distinct_below}
 use Rattle.gcd_plan.specs.Chains.{chain_by, is_in}
@@ -38,6 +38,14 @@ stands f b o x h = elim (cases_eq o x) [
     | inl at ↦ absurd (false≢true (sym (is_in-other x o [] other) ∙ sym (ap (is_in x) (chain_by-root f b o at)) ∙ h))
     | inr away ↦ later other away (sym (is_in-other x o (chain_by f b (f o)) other) ∙ sym (ap (is_in x) (chain_by-away f b o away)) ∙ h)
   ]
+]
+
+-- a walk is no longer than its bound
+pub length_chain_by : (f : ℕ → ℕ) (b o : ℕ) → length (chain_by f b o) ≤ b
+length_chain_by f zero o = omega arith
+length_chain_by f (suc b) o = elim (cases_eq o 0) [
+  | inl at ↦ let one = ap length (chain_by-root f b o at) in omega (arith, one)
+  | inr away ↦ let more = ap length (chain_by-away f b o away) in let rest = length_chain_by f b (f o) in omega (arith, more, rest)
 ]
 
 -- what is on the rest of a walk is on the walk
@@ -80,7 +88,7 @@ chain_by-more f (suc b) zero o h le = absurd (omega arith)
 chain_by-more f (suc b) (suc m) o h le = elim (stands f b o 0 h) [
   | here at ↦ chain_by-root f m o at ∙ sym (chain_by-root f b o at)
   | later away _ rest ↦
-    chain_by-away f m o away ∙ ap (λ xs. o ∷ xs) (chain_by-more f b m (f o) rest (omega arith)) ∙ sym (chain_by-away f b o away)
+      chain_by-away f m o away ∙ ap (λ xs. o ∷ xs) (chain_by-more f b m (f o) rest (omega arith)) ∙ sym (chain_by-away f b o away)
 ]
 
 -- what is on a walk is on it within a larger bound
@@ -98,14 +106,14 @@ pub on_walk : (f : ℕ → ℕ) (b o x : ℕ) → is_in x (chain_by f b o) ≡ t
 on_walk f zero o x h ends = absurd (false≢true h)
 on_walk f (suc b) o x h ends = elim (stands f b o x h) [
   | here same ↦
-    subst (λ y. (is_in 0 (chain_by f (suc b) y) ≡ true) × (length (chain_by f (suc b) y) ≤ length (chain_by f (suc b) o))) same
-    (ends, omega arith)
+      subst (λ y. (is_in 0 (chain_by f (suc b) y) ≡ true) × (length (chain_by f (suc b) y) ≤ length (chain_by f (suc b) o))) same
+      (ends, omega arith)
   | later _ away rest ↦
-    let goes_on : is_in 0 (chain_by f b (f o)) ≡ true = sym (is_in-other 0 o (chain_by f b (f o)) away) ∙ sym (ap (is_in 0) (chain_by-away f b o away)) ∙ ends in
-    let further = on_walk f b (f o) x rest goes_on in
-    let same : chain_by f (suc b) x ≡ chain_by f b x = chain_by-more f b (suc b) x further.0 (omega arith) in
-    let longer : length (chain_by f (suc b) o) ≡ suc (length (chain_by f b (f o))) = ap length (chain_by-away f b o away) in
-    (ap (is_in 0) same ∙ further.0, omega (arith, ap length same, longer, further.1))
+      let goes_on : is_in 0 (chain_by f b (f o)) ≡ true = sym (is_in-other 0 o (chain_by f b (f o)) away) ∙ sym (ap (is_in 0) (chain_by-away f b o away)) ∙ ends in
+      let further = on_walk f b (f o) x rest goes_on in
+      let same : chain_by f (suc b) x ≡ chain_by f b x = chain_by-more f b (suc b) x further.0 (omega arith) in
+      let longer : length (chain_by f (suc b) o) ≡ suc (length (chain_by f b (f o))) = ap length (chain_by-away f b o away) in
+      (ap (is_in 0) same ∙ further.0, omega (arith, ap length same, longer, further.1))
 ]
 
 -- a walk that ends does not come back
@@ -130,7 +138,7 @@ IsDistinct-chain_by f zero o h = absurd (false≢true h)
 IsDistinct-chain_by f (suc b) o h = elim (stands f b o 0 h) [
   | here at ↦ subst (IsDistinct eqb) (sym (chain_by-root f b o at)) (tt, tt)
   | later away _ rest ↦ subst (IsDistinct eqb) (sym (chain_by-away f b o away))
-    (others_differ o _ (not_again f b o away rest), IsDistinct-chain_by f b (f o) rest)
+      (others_differ o _ (not_again f b o away rest), IsDistinct-chain_by f b (f o) rest)
 ]
 
 none_counted : (o : ℕ) (xs : List ℕ) → AllByRecursion (λ y. eqb o y ≡ false) xs → count_by (λ x. x == o) xs ≡ 0
@@ -175,7 +183,7 @@ All_chain_by f n zero o fits lt k d h = absurd (omega arith)
 All_chain_by f n (suc b) o fits lt k d h = elim (cases_eq o 0) [
   | inl at ↦ subst (λ xs. k < length xs → get_or xs k d < n) (sym (chain_by-root f b o at)) (first k) h
   | inr away ↦ subst (λ xs. k < length xs → get_or xs k d < n) (sym (chain_by-away f b o away))
-    (rest k (All_chain_by f n b (f o) fits (fits o lt))) h
+      (rest k (All_chain_by f n b (f o) fits (fits o lt))) h
 ]
   where
     first : (i : ℕ) → i < length (o ∷ []) → get_or (o ∷ []) i d < n
@@ -193,8 +201,8 @@ ends_short f (suc b) zero o h le = absurd (omega arith)
 ends_short f (suc b) (suc m) o h le = elim (stands f b o 0 h) [
   | here at ↦ is_in-start f m o 0 at
   | later away _ rest ↦
-    let longer : length (chain_by f (suc b) o) ≡ suc (length (chain_by f b (f o))) = ap length (chain_by-away f b o away) in
-    is_in-walk f m o 0 away (ends_short f b m (f o) rest (omega (arith, longer, le)))
+      let longer : length (chain_by f (suc b) o) ≡ suc (length (chain_by f b (f o))) = ap length (chain_by-away f b o away) in
+      is_in-walk f m o 0 away (ends_short f b m (f o) rest (omega (arith, longer, le)))
 ]
 
 found_alike : (q : ℕ) (xs : List ℕ) → list_any (eqb q) xs ≡ true → is_in q xs ≡ true
@@ -202,8 +210,8 @@ found_alike q [] h = h
 found_alike q (x ∷ xs) h = elim (cases_eq x q) [
   | inl same ↦ is_in-first q x xs same
   | inr other ↦
-    let e : eqb q x ≡ false = ne_eqb q x (λ same. other (sym same)) in
-    is_in-rest q x xs (found_alike q xs (rw e at h))
+      let e : eqb q x ≡ false = ne_eqb q x (λ same. other (sym same)) in
+      is_in-rest q x xs (found_alike q xs (rw e at h))
 ]
 
 -- a walk that ends, ends within n steps
@@ -221,10 +229,10 @@ chain_by-same f g zero o h = refl
 chain_by-same f g (suc b) o h = elim (cases_eq o 0) [
   | inl at ↦ chain_by-root g b o at ∙ sym (chain_by-root f b o at)
   | inr away ↦
-    chain_by-away g b o away
-    ∙ ap (λ y. o ∷ chain_by g b y) (h o (is_in-start f b o o refl))
-    ∙ ap (λ xs. o ∷ xs) (chain_by-same f g b (f o) (λ x on. h x (is_in-walk f b o x away on)))
-    ∙ sym (chain_by-away f b o away)
+      chain_by-away g b o away
+      ∙ ap (λ y. o ∷ chain_by g b y) (h o (is_in-start f b o o refl))
+      ∙ ap (λ xs. o ∷ xs) (chain_by-same f g b (f o) (λ x on. h x (is_in-walk f b o x away on)))
+      ∙ sym (chain_by-away f b o away)
 ]
 
 -- with another step at p, from which the walk ends without meeting p, each walk that ended still ends
@@ -237,12 +245,12 @@ ends_redirected f g p b (suc c) (suc m) o same apart ends h le = elim (stands f 
   | here at ↦ is_in-start g m o 0 at
   | later away _ rest ↦ is_in-walk g m o 0 away (elim (cases_eq o p) [
     | inl there ↦
-      let kept : chain_by g b (g p) ≡ chain_by f b (g p) = chain_by-same f g b (g p)
+        let kept : chain_by g b (g p) ≡ chain_by f b (g p) = chain_by-same f g b (g p)
         (λ x on. same x (λ e. both_ways _ apart (subst (λ y. is_in y (chain_by f b (g p)) ≡ true) e on))) in
-      subst (λ y. is_in 0 (chain_by g m (g y)) ≡ true) (sym there) (is_in-more g b m (g p) 0 (ap (is_in 0) kept ∙ ends) (omega arith))
+        subst (λ y. is_in 0 (chain_by g m (g y)) ≡ true) (sym there) (is_in-more g b m (g p) 0 (ap (is_in 0) kept ∙ ends) (omega arith))
     | inr elsewhere ↦
-      subst (λ y. is_in 0 (chain_by g m y) ≡ true) (sym (same o elsewhere))
-      (ends_redirected f g p b c m (f o) same apart ends rest (omega arith))
+        subst (λ y. is_in 0 (chain_by g m y) ≡ true) (sym (same o elsewhere))
+        (ends_redirected f g p b c m (f o) same apart ends rest (omega arith))
   ])
 ]
 
@@ -260,16 +268,16 @@ parting f g (suc b) t o h none = elim (stands f b t o h) [
   | here same ↦ absurd (both_ways _ none (is_in-start g b t o same))
   | later other away rest ↦ elim (cases_eq (f t) (g t)) [
     | inl together ↦
-      let none_later : is_in o (chain_by g b (f t)) ≡ false =
+        let none_later : is_in o (chain_by g b (f t)) ≡ false =
         ap (λ y. is_in o (chain_by g b y)) together ∙ sym (is_in-other o t (chain_by g b (g t)) other) ∙ sym (ap (is_in o) (chain_by-away g b t away)) ∙ none in
-      let p = parting f g b (f t) o rest none_later in
-      record {
-        at = p.at;
-        elsewhere = p.elsewhere;
-        on_it = is_in-walk f b t p.at away p.on_it;
-        before = is_in-more f b (suc b) p.at o p.before (omega arith);
-        apart = p.apart;
-      }
+        let p = parting f g b (f t) o rest none_later in
+        record {
+          at = p.at;
+          elsewhere = p.elsewhere;
+          on_it = is_in-walk f b t p.at away p.on_it;
+          before = is_in-more f b (suc b) p.at o p.before (omega arith);
+          apart = p.apart;
+        }
     | inr here_apart ↦ record { at = t; elsewhere = other; on_it = is_in-start f b t t refl; before = h; apart = here_apart }
   ]
 ]
@@ -289,7 +297,7 @@ step_to f (suc b) m o ne h = elim (stands f b m o h) [
   | later _ away rest ↦ elim (cases_eq (f m) o) [
     | inl there ↦ record { from = m; elsewhere = ne; away = away; on_it = is_in-start f b m m refl; steps = there }
     | inr further ↦
-      let s = step_to f b (f m) o further rest in
-      record { from = s.from; elsewhere = s.elsewhere; away = s.away; on_it = is_in-walk f b m s.from away s.on_it; steps = s.steps }
+        let s = step_to f b (f m) o further rest in
+        record { from = s.from; elsewhere = s.elsewhere; away = s.away; on_it = is_in-walk f b m s.from away s.on_it; steps = s.steps }
   ]
 ]

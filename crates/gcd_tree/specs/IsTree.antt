@@ -8,9 +8,10 @@ use Rattle.gcd_tree.specs.TreeView.{TreeView, target_in, target_at, request_at, 
 abbrev pub TargetsFit : List Obj → Type 0
 TargetsFit targets = (o : ℕ) → o < length targets → target_in targets o < length targets
 
--- a tree: its lists are equally long, root first and at most 1,024 objects in all, its numbers are in range, and following targets, or where an object has a request that,
--- ends at root. An object with a request has an open run, and above an object with an open run none has a request, so
--- beneath an object with a request only its own runs are open.
+-- a tree: its lists are equally long, root first and at most 1,024 objects in all; its numbers are in range; following
+-- the targets, or where an object has a request that, ends at root; what is no queue or source rests at root. An object
+-- with a request has an open run, and above an object with an open run none has a request. So beneath an object with a
+-- request only its own runs are open.
 pub record IsTree (view : TreeView) : Type 0 where
   pub root : 0 < length view.targets
   pub few : length view.targets ≤ 1024

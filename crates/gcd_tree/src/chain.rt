@@ -1,5 +1,5 @@
 // The chain of an object.
-ghost use Rattle.std.specs.Prelude.{◌≡◌, ◌<◌, length, All};
+ghost use Rattle.std.specs.Prelude.{◌≡◌, ◌<◌, ◌≤◌, length, All};
 ghost use Rattle.std.specs.Iterator.{YieldsFirstBy, item_count};
 ghost use Rattle.gcd_plan.specs.Chains.{chain_by};
 ghost use Rattle.gcd_tree.specs.TreeView.{target_in};
@@ -9,7 +9,7 @@ use gcd_plan::Obj;
 use std::marker::Model;
 
 /// The chain of an object: the object, its target and so on to `root` (dispatch_queue_create(3)). Contracts see it as the
-/// list of the objects that are left, by number.
+/// list of the numbers of the objects that are left, and `next` gives the first of them.
 #[derive(Debug, Drop)]
 pub struct Chain<'a> {
     targets: &'a [Obj],
@@ -33,12 +33,13 @@ impl<'a> Model for Chain<'a> {
 
 impl<'a> Chain<'a> {
     // The chain of the object under these targets.
-    #[tactic(auto, using(crate::proofs::Walks::All_chain_by))]
+    #[tactic(auto, using(crate::proofs::Walks::All_chain_by, crate::proofs::Walks::length_chain_by))]
     pub(crate) fn along(targets: &'a [Obj], o: Obj) -> Chain<'a>
         requires fit { TargetsFit targets.now }
         requires object { o.0 < length targets.now }
         ensures chain { result ≡ chain_by (target_in targets.now) (length targets.now) o.0 }
         ensures in_range { All (λ x. x < length targets.now) result }
+        ensures no_longer { length result ≤ length targets.now }
     {
         Chain {
             targets,

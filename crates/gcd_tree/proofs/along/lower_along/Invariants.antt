@@ -6,8 +6,8 @@ use Rattle.gcd_tree.proofs.along.lower_along.Given as goal
 
 abbrev pub invariant-loop-o : goal.invariant-loop-o
 invariant-loop-o l = record {
-  in_range : All (λ x. x < length l.counts) l.o-iterator;
+  in_range : All (λ x. x < length l.targets) l.o-iterator;
   counted : (x : ℕ) → x < length l.counts
-    → slice_index l.counts x + count_by (λ y. y == x) (chain_by (target_in l.targets) (length l.targets) l.fn.node.0)
-    ≡ slice_index l.initial.counts x + count_by (λ y. y == x) l.o-iterator;
+      → slice_index l.counts x + count_by (λ y. y == x) (chain_by (target_in l.targets) (length l.targets) l.fn.node.0)
+      ≡ slice_index l.initial.counts x + count_by (λ y. y == x) l.o-iterator;
 }

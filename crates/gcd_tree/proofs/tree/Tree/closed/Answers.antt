@@ -1,8 +1,8 @@
-use Rattle.std.proofs.Common.{◌≡◌, ◌+◌, ◌-◌, ◌<◌, Some, None, is_some, length, sym, ap, ◌∙◌, subst, arith, slice_index_or}
+use Rattle.std.proofs.Common.{◌≡◌, ◌-◌, ◌<◌, None, is_some, length, sym, ap, ◌∙◌, subst, arith}
 use Rattle.std.proofs.lemmas.List.{with_items_is, get_or_read}
 use Rattle.std.proofs.lemmas.Bool.{true≢false}
 use Rattle.std.specs.Vec.{with_items}
-use Rattle.gcd_tree.specs.TreeView.{open_on_at, is_moving_at, with_open, with_target, with_request}
+use Rattle.gcd_tree.specs.TreeView.{with_open, with_target, with_request}
 use Rattle.gcd_tree.specs.Inside.{view_of}
 use Rattle.gcd_tree.proofs.Runs.{Keeps, read_back, one_less, closed_enough, closed_keeps, settled_keeps}
 use Rattle.gcd_tree.proofs.tree.Tree.closed.Goals as goal
@@ -12,7 +12,7 @@ lower_along-requires-clause-enough c =
     let view = view_of c.self.inside in
     rw (c.deref.ensures.value, c.deref_mut.ensures.value)
     (closed_enough view c.self.inside.open_beneath.items c.self.invariant c.args.node.0
-      (rw (← c.self.view_is) at c.requires.object) (rw (← c.self.view_is) at c.requires.open))
+    (rw (← c.self.view_is) at c.requires.object) (rw (← c.self.view_is) at c.requires.open))
 
 pub invariant_of-self : goal.invariant_of-self
 invariant_of-self c =
@@ -47,7 +47,7 @@ invariant_of-self-in-Some c =
     let asked = get_or_read view.requests node _ (omega (arith, object, c.self.invariant.0.as_many_requests)) c.index-2.ensures None in
     subst (λ k. Keeps (with_request (with_target (with_open view node k) node c.in-Some.t) node None) (with_items counts next).items) (sym none)
     (subst (λ xs. Keeps (with_request (with_target (with_open view node 0) node c.in-Some.t) node None) xs) (sym (with_items_is counts next (same ∙ sym counts.ok.0)))
-      (settled_keeps view counts.items next c.self.invariant node c.in-Some.t object (omega (arith, less, none)) (sym asked ∙ c.in-Some.is) same lowered))
+    (settled_keeps view counts.items next c.self.invariant node c.in-Some.t object (omega (arith, less, none)) (sym asked ∙ c.in-Some.is) same lowered))
 
 pub invariant_of-self-in_default : goal.invariant_of-self-in_default
 invariant_of-self-in_default c =

@@ -6,5 +6,5 @@ use Rattle.gcd_tree.proofs.tree.Tree.has_child.Goals as goal
 pub returns-then-is_child : goal.returns-then-is_child
 returns-then-is_child c =
     let within : c.loop-p.p < length c.args.self.now.targets =
-        omega (arith, c.self.inside.targets.ok.0, ap (λ v. length v.targets) c.self.view_is) in
+    omega (arith, c.self.inside.targets.ok.0, ap (λ v. length v.targets) c.self.view_is) in
     sym (found_below (is_child_of c.args.self.now c.args.o.0) (length c.args.self.now.targets) c.loop-p.p within (sym c.is_child.ensures ∙ c.if-is_child.true))

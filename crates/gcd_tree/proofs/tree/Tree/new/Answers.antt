@@ -1,4 +1,4 @@
-use Rattle.std.proofs.Common.{◌≡◌, None, replicate, length, ap, ◌∙◌, rules}
+use Rattle.std.proofs.Common.{◌≡◌, None, replicate, length, rules}
 use Rattle.gcd_tree.specs.Inside.{view_of}
 use Rattle.gcd_tree.proofs.PlanTree.{kept_as}
 use Rattle.gcd_tree.proofs.tree.Tree.new.Goals as goal
