@@ -1,4 +1,3 @@
 pub mod Begins
-pub mod Ahead
 pub mod Placed
 pub mod Still

@@ -38,6 +38,6 @@ has_barriers_at view o = not (o == 0) && has_kind_at is_concurrent_kind view o
 abbrev pub with_barriers : DrainsView → ℕ → ℕ → DrainsView
 with_barriers view o n = record view { barriers = slice_set view.barriers o n }
 
--- there is one of each for each object
+-- the lists are equally long
 pub record AreAsMany (view : DrainsView) : Type 0 where
   pub kinds : length view.kinds ≡ length view.barriers

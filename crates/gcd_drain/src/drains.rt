@@ -171,8 +171,8 @@ impl Drains {
         self.barriers[node.0 as usize]
     }
 
-    /// A block begins on the node, as a barrier or not (dispatch_barrier_async(3)); fewer than 2^32 - 1 barriers are open
-    /// there: [`Drains::barriers`] is the test.
+    /// A block begins on the node, as a barrier or not (dispatch_barrier_async(3)). Where it is one, fewer than 2^32 - 1
+    /// barriers are open there: [`Drains::barriers`] is the test.
     pub fn began(&mut self, node: Obj, barrier: bool)
         requires node { node.0 < length self.old.barriers }
         requires room { barrier ≡ true → barriers_at self.old node.0 + 1 < 2 ^ 32 }
@@ -184,8 +184,8 @@ impl Drains {
         }
     }
 
-    /// A block ends on the node, which began there as a barrier or not (dispatch_barrier_async(3)):
-    /// [`Drains::barriers`] tells whether a barrier is open.
+    /// A block ends on the node, where it began as a barrier or not (dispatch_barrier_async(3)). Where it was one, a
+    /// barrier is open there: [`Drains::barriers`] is the test.
     pub fn ended(&mut self, node: Obj, barrier: bool)
         requires node { node.0 < length self.old.barriers }
         requires begun { barrier ≡ true → 0 < barriers_at self.old node.0 }

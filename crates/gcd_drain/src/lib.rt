@@ -21,7 +21,7 @@
 //! | `Behind` | another block is first on its node |
 //! | `NotFree` | an object of its node's chain is inactive, has a hold above 0, or is about to change its target |
 //! | `Excluded` | a run is open beneath a serial queue or source of the chain |
-//! | `Fenced` | the node is a concurrent queue other than `root`, and a barrier is open on it, or the block is a barrier and a run is open on it |
+//! | `Fenced` | the node is a concurrent queue other than `root`; a barrier is open there, or it is one and a run is open there |
 //!
 //! `may_run` tells of `NotFree` and `Excluded`, over the chain of the source. Both walk the chain at most once for freedom
 //! and once for exclusion; nothing else costs more with a larger plan. `new` takes all memory; every other call takes none

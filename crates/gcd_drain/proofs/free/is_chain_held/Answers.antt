@@ -1,6 +1,6 @@
 use Rattle.std.proofs.Common.{◌≡◌, true, not, length, ap, sym, ◌∙◌}
 use Rattle.gcd_drain.specs.Rule.{is_free_by}
-use Rattle.gcd_drain.proofs.Ahead.{rest_in_range, none_first}
+use Rattle.gcd_tree.proofs.Ahead.{rest_in_range, none_first}
 use Rattle.gcd_drain.proofs.free.is_chain_held.Goals as goal
 
 pub loop-o-preserved : goal.loop-o-preserved

@@ -1,6 +1,6 @@
 use Rattle.std.proofs.Common.{length, sym, ◌∙◌}
 use Rattle.gcd_drain.specs.Rule.{excludes_at}
-use Rattle.gcd_drain.proofs.Ahead.{rest_in_range, none_first}
+use Rattle.gcd_tree.proofs.Ahead.{rest_in_range, none_first}
 use Rattle.gcd_drain.proofs.drains.Drains.is_excluded.Goals as goal
 
 pub loop-o-preserved : goal.loop-o-preserved
