@@ -45,7 +45,7 @@ with_hold view o n = record view { holds = slice_set view.holds o n }
 abbrev pub with_active : HoldsView → ℕ → HoldsView
 with_active view o = record view { active = slice_set view.active o true }
 
--- there is one of each for each object
+-- the lists are equally long
 pub record AreAsMany (view : HoldsView) : Type 0 where
   pub active : length view.active ≡ length view.holds
   pub sources : length view.sources ≡ length view.holds

@@ -9,7 +9,7 @@ use gcd_plan::Obj;
 use std::marker::Model;
 
 /// The chain of an object: the object, its target and so on to `root` (dispatch_queue_create(3)). Contracts see it as the
-/// list of the objects that are left, by number.
+/// list of the numbers of the objects that are left, and `next` gives the first of them.
 #[derive(Debug, Drop)]
 pub struct Chain<'a> {
     targets: &'a [Obj],

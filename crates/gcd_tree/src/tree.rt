@@ -60,7 +60,8 @@ impl Tree {
         self.targets[o.0 as usize]
     }
 
-    /// The chain of an object: the object, its target and so on to `root`, at most all objects (dispatch_queue_create(3)).
+    /// The chain of an object: the object, its target and so on to `root`, at most all objects
+    /// (dispatch_queue_create(3)). It takes no memory.
     pub fn chain(&self, o: Obj) -> Chain<'_>
         requires { o.0 < length self.now.targets }
         ensures chain { result ≡ chain_at self.now o.0 }
@@ -86,9 +87,9 @@ impl Tree {
         self.open_on[o.0 as usize]
     }
 
-    #[tactic(auto, using(crate::proofs::Kept::beneath_root))]
     /// How many runs are open beneath an object: on it, and on each other object whose chain has it. Beneath `root` all
     /// are.
+    #[tactic(auto, using(crate::proofs::Kept::beneath_root))]
     pub fn open_beneath(&self, o: Obj) -> u32
         requires { o.0 < length self.now.targets }
         ensures beneath { result ≡ open_beneath_at self.now o.0 }
@@ -108,10 +109,10 @@ impl Tree {
         }
     }
 
-    #[tactic(auto, using(crate::proofs::Walks::walk_on, crate::proofs::Walks::walk_stops))]
     /// Whether the object with the target `t` would be in a cycle: a walk from `t`, `t` itself included, reaches the
     /// object. The walk goes from a moving object to the target that it waits for, and from any other to its target
     /// (dispatch_set_target_queue(3)). It costs one walk.
+    #[tactic(auto, using(crate::proofs::Walks::walk_on, crate::proofs::Walks::walk_stops))]
     pub fn would_cycle(&self, o: Obj, t: Obj) -> bool
         requires { t.0 < length self.now.targets }
         ensures { result ≡ would_cycle_at self.now o.0 t.0 }
@@ -140,9 +141,9 @@ impl Tree {
             && (self.targets[at].0 == o.0 || self.requests[at] == Some(o))
     }
 
-    #[tactic(auto, using(crate::proofs::Ranges::none_below))]
     /// Whether another object than `root` has the object as its target, or waits for it as its target. It costs a look
     /// at each object.
+    #[tactic(auto, using(crate::proofs::Ranges::none_below))]
     pub fn has_child(&self, o: Obj) -> bool
         ensures { result ≡ has_child_at self.now o.0 }
     {
@@ -154,9 +155,10 @@ impl Tree {
         false
     }
 
-    /// Gives an object another target: at once where no run is open on it, and else as a request, in place of an earlier
-    /// one, until the last of these closes (dispatch_set_target_queue(3)). [`Tree::would_cycle`], [`Tree::has_child`] and
-    /// [`Tree::open_beneath`] are the tests of its conditions.
+    /// Gives a queue or a source another target: at once where no run is open on it, and else as a request, in place of
+    /// an earlier one, until the last of these runs closes (dispatch_set_target_queue(3)). [`Tree::would_cycle`],
+    /// [`Tree::has_child`] and [`Tree::open_beneath`] are the tests of its conditions, and `Plan::kind` of what the object
+    /// is.
     pub fn set_target(&mut self, o: Obj, t: Obj)
         requires object { o.0 < length self.old.targets }
         requires target { t.0 < length self.old.targets }
@@ -166,6 +168,8 @@ impl Tree {
         ensures at_once { open_on_at self.old o.0 ≡ 0 → self.new ≡ with_target self.old o.0 t }
         ensures later { 0 < open_on_at self.old o.0 → self.new ≡ with_request self.old o.0 (Some t) }
     {
+        // Where no run is open on the object, none is beneath it: it has no child, or nothing is open beneath. So no count
+        // changes.
         if self.open_on[o.0 as usize] == 0 {
             self.targets[o.0 as usize] = t;
         } else {
@@ -185,8 +189,8 @@ impl Tree {
         raise_along(&self.targets, &mut self.open_beneath, node);
     }
 
-    /// One run less is open on the node. Where it was the last, the target that the node waits for is its target from
-    /// here on (dispatch_set_target_queue(3)).
+    /// One run less is open on the node, on which one is. Where it was the last, the target that the node waits for is
+    /// its target from here on (dispatch_set_target_queue(3)).
     pub fn closed(&mut self, node: Obj)
         requires object { node.0 < length self.old.targets }
         requires open { 0 < open_on_at self.old node.0 }
@@ -199,6 +203,8 @@ impl Tree {
         if self.open_on[at] > 0 {
             return;
         }
+        // Beneath an object that is about to move only its own runs were open, and none is left. So no count moves to the
+        // new chain.
         if let Some(t) = self.requests[at] {
             self.targets[at] = t;
             self.requests[at] = None;

@@ -1,0 +1,2 @@
+pub mod DrainsView
+pub mod Rule

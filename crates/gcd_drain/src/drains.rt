@@ -1,0 +1,199 @@
+// What a waiting block's start and a handler's run ask, and the open barriers.
+ghost use Rattle.std.specs.Prelude.{◌≡◌, ◌+◌, ◌-◌, ◌<◌, ◌^◌, true, false, Some, IfOk, length};
+ghost use Rattle.std.specs.List.{list_any};
+ghost use Rattle.gcd_plan.specs.StartRule.{first_of};
+ghost use Rattle.gcd_tree.specs.TreeView.{chain_at};
+ghost use Rattle.gcd_drain.specs.DrainsView.{drains_of, barriers_at, with_barriers};
+ghost use Rattle.gcd_drain.specs.Rule.{excludes_at, is_behind_at, is_fenced_at, place_reasons, start_fault_of, run_fault_of};
+
+use crate::free::is_chain_held;
+use crate::kinds::{is_concurrent, is_exclusive, kinds_of};
+use gcd_hold::Holds;
+use gcd_lists::Lists;
+use gcd_plan::{Blk, Kind, Obj, Plan, Why};
+use gcd_tree::Tree;
+use std::alloc::{AllocError, Global};
+use std::marker::Model;
+
+/// How many barriers are open on each object of a plan, and the objects' kinds (dispatch_barrier_async(3)). Contracts see
+/// them as plain lists by object (`DrainsView`).
+#[derive(Debug, Drop)]
+pub struct Drains {
+    barriers: Vec<u32>,
+    kinds: Vec<Kind>,
+}
+
+impl Model for Drains {
+    ghost use Rattle.gcd_drain.specs.DrainsView.{DrainsView, AreAsMany};
+
+    ghost Value = { DrainsView };
+
+    ghost view = { λ d. record { barriers = d.barriers.items; kinds = d.kinds.items } };
+
+    ghost invariant = { λ d. AreAsMany (record { barriers = d.barriers.items; kinds = d.kinds.items }) };
+}
+
+// Whether another block than b is first on the node.
+fn is_behind(lists: &Lists, node: Obj, b: Blk) -> bool
+    requires { node.0 < length lists.now.lists }
+    ensures { result ≡ is_behind_at lists.now b.0 node.0 }
+{
+    match lists.first(node) {
+        Some((first, _)) => first.0 != b.0,
+        None => false,
+    }
+}
+
+impl Drains {
+    /// The plan's objects before the first event: no barrier is open. It takes all the memory that the numbers ever need:
+    /// an `Err` comes only of want of it. (This project's own rule.)
+    pub fn new(alloc: Global, plan: &Plan) -> Result<Drains, AllocError>
+        ensures { IfOk result (λ d. d ≡ drains_of plan.now) }
+    {
+        Ok(Drains {
+            barriers: vec![in alloc; 0; plan.objects() as usize]?,
+            kinds: kinds_of(alloc, plan)?,
+        })
+    }
+
+    // Whether the object is a serial queue or a source, and a run is open beneath it.
+    fn excludes(&self, tree: &Tree, o: Obj) -> bool
+        requires object { o.0 < length self.now.barriers }
+        requires tree { length tree.now.targets ≡ length self.now.barriers }
+        ensures { result ≡ excludes_at self.now tree.now o.0 }
+    {
+        is_exclusive(self.kinds[o.0 as usize]) && tree.open_beneath(o) > 0
+    }
+
+    // Whether an object of the node's chain excludes.
+    fn is_excluded(&self, tree: &Tree, node: Obj) -> bool
+        requires node { node.0 < length self.now.barriers }
+        requires tree { length tree.now.targets ≡ length self.now.barriers }
+        ensures { result ≡ list_any (excludes_at self.now tree.now) (chain_at tree.now node.0) }
+    {
+        for o in tree.chain(node) {
+            if self.excludes(tree, o) {
+                return true;
+            }
+        }
+        false
+    }
+
+    // Whether the barrier rule keeps a block of the node from starting.
+    fn is_fenced(&self, tree: &Tree, node: Obj, barrier: bool) -> bool
+        requires node { node.0 < length self.now.barriers }
+        requires tree { length tree.now.targets ≡ length self.now.barriers }
+        ensures { result ≡ is_fenced_at self.now tree.now barrier node.0 }
+    {
+        let at = node.0 as usize;
+        node.0 != 0
+            && is_concurrent(self.kinds[at])
+            && (self.barriers[at] > 0 || (barrier && tree.open_on(node) > 0))
+    }
+
+    // Why a block that waits at the place may not start.
+    fn place_fault(
+        &self,
+        lists: &Lists,
+        tree: &Tree,
+        holds: &Holds,
+        b: Blk,
+        place: (Obj, bool),
+    ) -> Option<Why>
+        requires node { place.0.0 < length self.now.barriers }
+        requires lists { length lists.now.lists ≡ length self.now.barriers }
+        requires tree { length tree.now.targets ≡ length self.now.barriers }
+        requires holds { length holds.now.holds ≡ length self.now.barriers }
+        ensures { result ≡ first_of (place_reasons self.now lists.now tree.now holds.now b.0 (Some place)) }
+    {
+        let (node, barrier) = place;
+        if is_behind(lists, node, b) {
+            Some(Why::Behind)
+        } else if is_chain_held(tree, holds, node) {
+            Some(Why::NotFree)
+        } else if self.is_excluded(tree, node) {
+            Some(Why::Excluded)
+        } else if self.is_fenced(tree, node, barrier) {
+            Some(Why::Fenced)
+        } else {
+            None
+        }
+    }
+
+    /// The first reason why the block may not start; None exactly where it may. `Unready`: it waits nowhere. `Behind`:
+    /// another block is first on its node. `NotFree`: an object of the node's chain is inactive, suspended or about to
+    /// move. `Excluded`: a run is open beneath a serial queue or source of the chain. `Fenced`: the node is a concurrent
+    /// queue other than `root`, and a barrier is open on it, or the block is a barrier and a run is open on it.
+    /// (dispatch_async(3), dispatch_barrier_async(3), dispatch_suspend(3), dispatch_set_target_queue(3))
+    ///
+    /// The block is not `main`, which waits on no node, and the parts are of one plan. It costs at most two walks along
+    /// the chain.
+    pub fn may_start(&self, lists: &Lists, tree: &Tree, holds: &Holds, b: Blk) -> Option<Why>
+        requires not_main { 0 < b.0 }
+        requires block { b.0 < lists.now.blocks }
+        requires lists { length lists.now.lists ≡ length self.now.barriers }
+        requires tree { length tree.now.targets ≡ length self.now.barriers }
+        requires holds { length holds.now.holds ≡ length self.now.barriers }
+        ensures { result ≡ start_fault_of self.now lists.now tree.now holds.now b.0 }
+    {
+        match lists.place(b) {
+            Some(place) => self.place_fault(lists, tree, holds, b, place),
+            None => Some(Why::Unready),
+        }
+    }
+
+    /// The first reason why the handler of a source, to which something is pending, may not run; None exactly where it
+    /// may. `NotFree`: an object of the source's chain is inactive, suspended or about to move. `Excluded`: a run is open
+    /// beneath a serial queue or source of the chain. (dispatch_source_create(3), dispatch_suspend(3))
+    ///
+    /// The parts are of one plan. It costs at most two walks along the chain.
+    pub fn may_run(&self, tree: &Tree, holds: &Holds, src: Obj) -> Option<Why>
+        requires source { src.0 < length self.now.barriers }
+        requires tree { length tree.now.targets ≡ length self.now.barriers }
+        requires holds { length holds.now.holds ≡ length self.now.barriers }
+        ensures { result ≡ run_fault_of self.now tree.now holds.now src.0 }
+    {
+        if is_chain_held(tree, holds, src) {
+            Some(Why::NotFree)
+        } else if self.is_excluded(tree, src) {
+            Some(Why::Excluded)
+        } else {
+            None
+        }
+    }
+
+    /// How many barriers are open on the node: as barriers submitted there, begun and not ended, whether or not the node
+    /// is a queue on which they count (dispatch_barrier_async(3)).
+    pub fn barriers(&self, node: Obj) -> u32
+        requires { node.0 < length self.now.barriers }
+        ensures { result ≡ barriers_at self.now node.0 }
+    {
+        self.barriers[node.0 as usize]
+    }
+
+    /// A block begins on the node, as a barrier or not (dispatch_barrier_async(3)). Where it is one, fewer than 2^32 - 1
+    /// barriers are open there: [`Drains::barriers`] is the test.
+    pub fn began(&mut self, node: Obj, barrier: bool)
+        requires node { node.0 < length self.old.barriers }
+        requires room { barrier ≡ true → barriers_at self.old node.0 + 1 < 2 ^ 32 }
+        ensures barrier { barrier ≡ true → self.new ≡ with_barriers self.old node.0 (barriers_at self.old node.0 + 1) }
+        ensures plain { barrier ≡ false → self.new ≡ self.old }
+    {
+        if barrier {
+            self.barriers[node.0 as usize] += 1;
+        }
+    }
+
+    /// A block ends on the node, where it began as a barrier or not (dispatch_barrier_async(3)). Where it was one, a
+    /// barrier is open there: [`Drains::barriers`] is the test.
+    pub fn ended(&mut self, node: Obj, barrier: bool)
+        requires node { node.0 < length self.old.barriers }
+        requires begun { barrier ≡ true → 0 < barriers_at self.old node.0 }
+        ensures barrier { barrier ≡ true → self.new ≡ with_barriers self.old node.0 (barriers_at self.old node.0 - 1) }
+        ensures plain { barrier ≡ false → self.new ≡ self.old }
+    {
+        if barrier {
+            self.barriers[node.0 as usize] -= 1;
+        }
+    }
+}
