@@ -1,0 +1,78 @@
+-- Lists: what the lemmas of std and of the crates below lack.
+use Rattle.std.proofs.Common.{◌≡◌, ℕ, zero, suc, ◌+◌, ◌-◌, ◌<◌, ◌≤◌, ◌==◌, Bool, true, false, not, ◌&&◌, ◌||◌, cond, List, [], ◌∷◌, ◌++◌, length, get_or, set, map, filter, replicate, Option, Some, None, find, is_some, refl, ap, sym, ◌∙◌, subst, arith, ⊎_elim, eq-eqb}
+use Rattle.std.specs.List.{slice_get, list_any, list_all, flat_map, sum_by, count_by, range_with_len}
+use Rattle.std.specs.Option.{option_map, option_map_or, option_or, option_to_list}
+use Rattle.std.proofs.lemmas.Bool.{cases_lt, cases_eq, and_parts, both_ways}
+use Rattle.std.proofs.lemmas.List.{append-nil, append_assoc, get_or-set_same, get_or-set_other}
+use Rattle.std.proofs.lemmas.List.Folds.{find-append}
+use Rattle.std.proofs.lemmas.List.Sums.{sum_by-cons, get_or-le-sum_by, sum_by-set, sum_by_push}
+
+-- ## Sums and counts
+
+-- two terms at different places are within the sum
+pub two_terms : {X : Type 0} (f : X → ℕ) (xs : List X) (i j : ℕ) (d : X) → i < j → j < length xs
+    → f (get_or xs i d) + f (get_or xs j d) ≤ sum_by f xs
+two_terms f [] i j d l m = absurd (omega arith)
+two_terms f (x ∷ xs) i zero d l m = absurd (omega arith)
+two_terms f (x ∷ xs) zero (suc j) d l m =
+    let k : j < length xs = omega arith in
+    omega (arith, sum_by-cons f x xs, get_or-le-sum_by f xs j d k)
+two_terms f (x ∷ xs) (suc i) (suc j) d l m =
+    let k : j < length xs = omega arith in
+    let n : i < j = omega arith in
+    omega (arith, sum_by-cons f x xs, two_terms f xs i j d n k)
+
+-- where nothing is counted twice, two places that are counted are one
+pub one_place : {X : Type 0} (p : X → Bool) (xs : List X) (i j : ℕ) (d : X) → count_by p xs ≤ 1 → i < length xs → j < length xs
+    → p (get_or xs i d) ≡ true → p (get_or xs j d) ≡ true → i ≡ j
+one_place p xs i j d few within_i within_j pi pj =
+    let a : ◌≡◌ {A = ℕ} (cond (p (get_or xs i d)) 1 0) 1 = ap (λ b. cond b 1 0) pi in
+    let b : ◌≡◌ {A = ℕ} (cond (p (get_or xs j d)) 1 0) 1 = ap (λ b. cond b 1 0) pj in
+    ⊎_elim
+    (λ e. e)
+    (λ other. ⊎_elim
+    (λ l. let two = two_terms (λ x. cond (p x) 1 0) xs i j d l within_j in absurd (omega (arith, a, b, two)))
+    (λ l. let m : j < i = omega arith in let two = two_terms (λ x. cond (p x) 1 0) xs j i d m within_i in absurd (omega (arith, a, b, two)))
+    (cases_lt i j))
+    (cases_eq i j)
+
+-- ## Filters
+
+pub filter-append : {X : Type 0} (p : X → Bool) (xs ys : List X) → filter p (xs ++ ys) ≡ filter p xs ++ filter p ys
+filter-append p [] ys = refl
+filter-append p (x ∷ xs) ys =
+    elim (p x) as (λ v. cond v (x ∷ filter p (xs ++ ys)) (filter p (xs ++ ys)) ≡ cond v (x ∷ filter p xs) (filter p xs) ++ filter p ys) [
+      | true ↦ ap (λ zs. x ∷ zs) (filter-append p xs ys)
+      | false ↦ filter-append p xs ys
+    ]
+
+-- tests that agree at each element
+pub filter_alike : {X : Type 0} (p q : X → Bool) (xs : List X) → ((x : X) → p x ≡ q x) → filter p xs ≡ filter q xs
+filter_alike p q [] same = refl
+filter_alike p q (x ∷ xs) same =
+    ap (λ v. cond v (x ∷ filter p xs) (filter p xs)) (same x) ∙ ap (λ zs. cond (q x) (x ∷ zs) zs) (filter_alike p q xs same)
+
+pub filter_twice : {X : Type 0} (p q : X → Bool) (xs : List X) → filter p (filter q xs) ≡ filter q (filter p xs)
+filter_twice p q [] = refl
+filter_twice p q (x ∷ xs) =
+    let rest = filter_twice p q xs in
+    elim (p x) as (λ v. p x ≡ v → filter p (filter q (x ∷ xs)) ≡ filter q (filter p (x ∷ xs))) [
+      | true ↦ λ e. elim (q x) as (λ v. q x ≡ v → filter p (filter q (x ∷ xs)) ≡ filter q (filter p (x ∷ xs))) [
+        | true ↦ λ f. simp (e, f, rest)
+        | false ↦ λ f. simp (e, f, rest)
+      ] refl
+      | false ↦ λ e. elim (q x) as (λ v. q x ≡ v → filter p (filter q (x ∷ xs)) ≡ filter q (filter p (x ∷ xs))) [
+        | true ↦ λ f. simp (e, f, rest)
+        | false ↦ λ f. simp (e, f, rest)
+      ] refl
+    ] refl
+
+-- the first that passes is the first of those that pass
+pub find_first : {X : Type 0} (p : X → Bool) (xs : List X) → find p xs ≡ slice_get (filter p xs) 0
+find_first p [] = refl
+find_first p (x ∷ xs) =
+    elim (p x) as (λ v. cond v (Some x) (find p xs) ≡ slice_get (cond v (x ∷ filter p xs) (filter p xs)) 0) [
+      | true ↦ refl
+      | false ↦ find_first p xs
+    ]
+

@@ -1,0 +1,1 @@
+pub use Rattle.gcd_history.specs.History

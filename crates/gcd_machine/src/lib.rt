@@ -1,0 +1,2 @@
+//! The queue machine.
+#![tactic(auto)]
