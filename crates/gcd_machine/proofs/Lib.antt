@@ -1,3 +1,5 @@
 pub mod Lists
 pub mod FirstForms
 pub mod Plain
+pub mod Positions
+pub mod Steps

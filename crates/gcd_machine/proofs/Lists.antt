@@ -22,6 +22,11 @@ two_terms f (x ∷ xs) (suc i) (suc j) d l m =
     let n : i < j = omega arith in
     omega (arith, sum_by-cons f x xs, two_terms f xs i j d n k)
 
+-- terms that agree at each element
+pub sum_by_same : {X : Type 0} (f g : X → ℕ) (xs : List X) → ((x : X) → f x ≡ g x) → sum_by f xs ≡ sum_by g xs
+sum_by_same f g [] same = refl
+sum_by_same f g (x ∷ xs) same = omega (arith, sum_by-cons f x xs, sum_by-cons g x xs, same x, sum_by_same f g xs same)
+
 -- where nothing is counted twice, two places that are counted are one
 pub one_place : {X : Type 0} (p : X → Bool) (xs : List X) (i j : ℕ) (d : X) → count_by p xs ≤ 1 → i < length xs → j < length xs
     → p (get_or xs i d) ≡ true → p (get_or xs j d) ≡ true → i ≡ j
