@@ -3,3 +3,4 @@ pub mod FirstForms
 pub mod Plain
 pub mod Positions
 pub mod Steps
+pub mod Facts

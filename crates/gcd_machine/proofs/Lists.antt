@@ -2,7 +2,8 @@
 use Rattle.std.proofs.Common.{◌≡◌, ℕ, zero, suc, ◌+◌, ◌-◌, ◌<◌, ◌≤◌, ◌==◌, Bool, true, false, not, ◌&&◌, ◌||◌, cond, List, [], ◌∷◌, ◌++◌, length, get_or, set, map, filter, replicate, Option, Some, None, find, is_some, refl, ap, sym, ◌∙◌, subst, arith, ⊎_elim, eq-eqb}
 use Rattle.std.specs.List.{slice_get, list_any, list_all, flat_map, sum_by, count_by, range_with_len}
 use Rattle.std.specs.Option.{option_map, option_map_or, option_or, option_to_list}
-use Rattle.std.proofs.lemmas.Bool.{cases_lt, cases_eq, and_parts, both_ways}
+use Rattle.std.proofs.lemmas.Bool.{cases_lt, cases_eq, and_parts, both_ways, false_from_ne_true, or_parts, or_from, or_cases}
+use Rattle.std.proofs.lemmas.Option.{same_Some}
 use Rattle.std.proofs.lemmas.List.{append-nil, append_assoc, get_or-set_same, get_or-set_other}
 use Rattle.std.proofs.lemmas.List.Folds.{find-append}
 use Rattle.std.proofs.lemmas.List.Sums.{sum_by-cons, get_or-le-sum_by, sum_by-set, sum_by_push}
@@ -81,3 +82,76 @@ find_first p (x ∷ xs) =
       | false ↦ find_first p xs
     ]
 
+
+-- what is found passes
+pub find_passes : {X : Type 0} (p : X → Bool) (xs : List X) (x : X) → find p xs ≡ Some x → p x ≡ true
+find_passes p [] x found = cc
+find_passes p (y ∷ ys) x found =
+    elim (p y) as (λ v. p y ≡ v → cond v (Some y) (find p ys) ≡ Some x → p x ≡ true) [
+      | true ↦ λ e f. ap p (sym (same_Some y x f)) ∙ e
+      | false ↦ λ e f. find_passes p ys x f
+    ] refl found
+
+-- where nothing is found, nothing is counted
+pub count_unfound : {X : Type 0} (p : X → Bool) (xs : List X) → find p xs ≡ None → count_by p xs ≡ 0
+count_unfound p [] none = refl
+count_unfound p (x ∷ xs) none =
+    let split = sum_by-cons (λ y. cond (p y) 1 0) x xs in
+    elim (p x) as (λ v. p x ≡ v → cond v (Some x) (find p xs) ≡ None → count_by p (x ∷ xs) ≡ 0) [
+      | true ↦ λ e n. cc
+      | false ↦ λ e n.
+        let here : ◌≡◌ {A = ℕ} (cond (p x) 1 0) 0 = ap (λ b. cond b 1 0) e in
+        omega (arith, split, here, count_unfound p xs n)
+    ] refl none
+
+-- one more element, counted
+pub count_push : {X : Type 0} (p : X → Bool) (xs : List X) (y : X) → count_by p (xs ++ y ∷ []) ≡ count_by p xs + cond (p y) 1 0
+count_push p xs y = sum_by_push (λ x. cond (p x) 1 0) xs y
+
+-- a filter that keeps what is counted
+pub count_kept : {X : Type 0} (p q : X → Bool) (xs : List X) → ((x : X) → p x ≡ true → q x ≡ true) → count_by p (filter q xs) ≡ count_by p xs
+count_kept p q [] keeps = refl
+count_kept p q (x ∷ xs) keeps =
+    let split = sum_by-cons (λ y. cond (p y) 1 0) x xs in
+    let rest = count_kept p q xs keeps in
+    elim (q x) as (λ v. q x ≡ v → count_by p (cond v (x ∷ filter q xs) (filter q xs)) ≡ count_by p (x ∷ xs)) [
+      | true ↦ λ e. let more = sum_by-cons (λ y. cond (p y) 1 0) x (filter q xs) in omega (arith, split, rest, more)
+      | false ↦ λ e.
+        let here : p x ≡ false = false_from_ne_true (p x) (λ passes. both_ways (q x) e (keeps x passes)) in
+        let none : ◌≡◌ {A = ℕ} (cond (p x) 1 0) 0 = ap (λ b. cond b 1 0) here in
+        omega (arith, split, rest, none)
+    ] refl
+
+-- a filter that drops what is counted
+pub count_dropped : {X : Type 0} (p q : X → Bool) (xs : List X) → ((x : X) → p x ≡ true → q x ≡ false) → count_by p (filter q xs) ≡ 0
+count_dropped p q [] drops = refl
+count_dropped p q (x ∷ xs) drops =
+    let rest = count_dropped p q xs drops in
+    elim (q x) as (λ v. q x ≡ v → count_by p (cond v (x ∷ filter q xs) (filter q xs)) ≡ 0) [
+      | true ↦ λ e.
+        let more = sum_by-cons (λ y. cond (p y) 1 0) x (filter q xs) in
+        let here : p x ≡ false = false_from_ne_true (p x) (λ passes. both_ways (q x) (drops x passes) e) in
+        let none : ◌≡◌ {A = ℕ} (cond (p x) 1 0) 0 = ap (λ b. cond b 1 0) here in
+        omega (arith, rest, none, more)
+      | false ↦ λ e. rest
+    ] refl
+
+pub any_of_fewer : {X : Type 0} (p q : X → Bool) (xs : List X) → list_any p xs ≡ false → list_any p (filter q xs) ≡ false
+any_of_fewer p q [] none = refl
+any_of_fewer p q (x ∷ xs) none =
+    let parts = or_parts (p x) (list_any p xs) none in
+    let rest = any_of_fewer p q xs parts.1 in
+    elim (q x) as (λ v. list_any p (cond v (x ∷ filter q xs) (filter q xs)) ≡ false) [
+      | true ↦ or_from (p x) (list_any p (filter q xs)) parts.0 rest
+      | false ↦ rest
+    ]
+
+-- some element passes where some is counted
+pub any_counted : {X : Type 0} (p : X → Bool) (xs : List X) → list_any p xs ≡ true → 1 ≤ count_by p xs
+any_counted p [] some = cc
+any_counted p (x ∷ xs) some =
+    let split = sum_by-cons (λ y. cond (p y) 1 0) x xs in
+    ⊎_elim
+    (λ here. let one : ◌≡◌ {A = ℕ} (cond (p x) 1 0) 1 = ap (λ b. cond b 1 0) here in omega (arith, split, one))
+    (λ later. let rest = any_counted p xs later in omega (arith, split, rest))
+    (or_cases (p x) (list_any p xs) some)
