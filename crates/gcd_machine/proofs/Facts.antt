@@ -361,3 +361,22 @@ facts_step plan past _ first facts (halts goes_on) = facts_halt plan past first 
 pub facts_of : (plan : PlanView) (past : List Event) → IsFirstPlan plan → IsLawful plan past → Facts plan past
 facts_of plan [] first lawful = facts_first plan
 facts_of plan (e ∷ past) first lawful = facts_step plan past e first (facts_of plan past first lawful.0) (step_of plan past e first lawful.1)
+
+-- ## Of one block
+
+-- main is submitted from the outset
+pub main_submitted : (plan : PlanView) (past : List Event) → IsFirstPlan plan → submission_of plan past 0 ≡ Some main_submission
+main_submitted plan [] first = refl
+main_submitted plan (e ∷ past) first = submission_kept plan past e 0 main_submission first (main_submitted plan past first)
+
+-- a submission is found by the block's number
+pub named : (plan : PlanView) (past : List Event) (b : ℕ) (s : Submission) → submission_of plan past b ≡ Some s → s.blk.0 ≡ b
+named plan past b s found = eqb-true s.blk.0 b (find_passes (λ t. t.blk.0 == b) (submitted plan past) s found)
+
+-- a submission of another block than main is on a queue
+pub queued_of : (plan : PlanView) (past : List Event) (b : ℕ) (s : Submission) → Facts plan past → submission_of plan past b ≡ Some s → (b ≡ 0 → ⊥) → IsQueued plan past s
+queued_of plan past b s facts found other =
+    ⊎_elim
+    (λ main. absurd (other (sym (named plan past b s found) ∙ ap (λ t. t.blk.0) main)))
+    (λ queued. queued)
+    (facts.origin b s found)

@@ -4,3 +4,5 @@ pub mod Plain
 pub mod Positions
 pub mod Steps
 pub mod Facts
+pub mod Runs
+pub mod Judged

@@ -4,6 +4,8 @@ use Rattle.std.specs.List.{slice_get, list_any, list_all, flat_map, sum_by, coun
 use Rattle.std.specs.Option.{option_map, option_map_or, option_or, option_to_list}
 use Rattle.std.proofs.lemmas.Bool.{cases_lt, cases_eq, and_parts, both_ways, false_from_ne_true, or_parts, or_from, or_cases}
 use Rattle.std.proofs.lemmas.Option.{same_Some}
+use Rattle.gcd_history.specs.declared.submission.Submission.{Submission}
+use Rattle.gcd_history.specs.Permitted.{before}
 use Rattle.std.proofs.lemmas.List.{append-nil, append_assoc, get_or-set_same, get_or-set_other}
 use Rattle.std.proofs.lemmas.List.Folds.{find-append}
 use Rattle.std.proofs.lemmas.List.Sums.{sum_by-cons, get_or-le-sum_by, sum_by-set, sum_by_push}
@@ -155,3 +157,48 @@ any_counted p (x ∷ xs) some =
     (λ here. let one : ◌≡◌ {A = ℕ} (cond (p x) 1 0) 1 = ap (λ b. cond b 1 0) here in omega (arith, split, one))
     (λ later. let rest = any_counted p xs later in omega (arith, split, rest))
     (or_cases (p x) (list_any p xs) some)
+
+-- ## Submissions by number
+
+-- of what waits, block b is behind exactly where another is the first
+pub before_first_waiting : (p : Submission → Bool) (b : ℕ) (s : Submission) (xs : List Submission) → find (λ t. t.blk.0 == b) xs ≡ Some s → p s ≡ true
+    → list_any p (before b xs) ≡ option_map_or (λ t. not (t.blk.0 == b)) (find p xs) false
+before_first_waiting p b s [] found waits = cc
+before_first_waiting p b s (x ∷ xs) found waits =
+    elim (x.blk.0 == b) as (λ v. x.blk.0 == b ≡ v → list_any p (before b (x ∷ xs)) ≡ option_map_or (λ t. not (t.blk.0 == b)) (find p (x ∷ xs)) false) [
+      | true ↦ λ e. let same : Some x ≡ Some s = simp e at found in let px : p x ≡ true = cc in simp (e, px)
+      | false ↦ λ e. elim (p x) as (λ v. p x ≡ v → list_any p (before b (x ∷ xs)) ≡ option_map_or (λ t. not (t.blk.0 == b)) (find p (x ∷ xs)) false) [
+        | true ↦ λ px. simp (e, px)
+        | false ↦ λ px. simp (e, px) (before_first_waiting p b s xs (simp e at found) waits)
+      ] refl
+    ] refl
+
+-- what is found and passes another test is counted by that
+pub counted_found : {X : Type 0} (p q : X → Bool) (xs : List X) (x : X) → find p xs ≡ Some x → q x ≡ true → 1 ≤ count_by q xs
+counted_found p q [] x found passes = cc
+counted_found p q (y ∷ ys) x found passes =
+    let split = sum_by-cons (λ z. cond (q z) 1 0) y ys in
+    elim (p y) as (λ v. cond v (Some y) (find p ys) ≡ Some x → 1 ≤ count_by q (y ∷ ys)) [
+      | true ↦ λ f.
+        let one : ◌≡◌ {A = ℕ} (cond (q y) 1 0) 1 = ap (λ z. cond (q z) 1 0) (same_Some y x f) ∙ ap (λ b. cond b 1 0) passes in
+        omega (arith, split, one)
+      | false ↦ λ f. let rest = counted_found p q ys x f passes in omega (arith, split, rest)
+    ] found
+
+-- where one element at most passes q, one that passes it and is the first of p is the first of q
+pub found_alone : {X : Type 0} (p q : X → Bool) (xs : List X) (x : X) → count_by q xs ≤ 1 → find p xs ≡ Some x → q x ≡ true → find q xs ≡ Some x
+found_alone p q [] x few found passes = cc
+found_alone p q (y ∷ ys) x few found passes =
+    let split = sum_by-cons (λ z. cond (q z) 1 0) y ys in
+    elim (p y) as (λ v. cond v (Some y) (find p ys) ≡ Some x → find q (y ∷ ys) ≡ Some x) [
+      | true ↦ λ f.
+        let same = same_Some y x f in
+        ap (λ v. cond v (Some y) (find q ys)) (ap q same ∙ passes) ∙ ap Some same
+      | false ↦ λ f. elim (q y) as (λ v. q y ≡ v → cond v (Some y) (find q ys) ≡ Some x) [
+        | true ↦ λ e.
+          let here : ◌≡◌ {A = ℕ} (cond (q y) 1 0) 1 = ap (λ b. cond b 1 0) e in
+          let rest = counted_found p q ys x f passes in
+          absurd (omega (arith, split, few, here, rest))
+        | false ↦ λ e. let low : count_by q ys ≤ 1 = omega (arith, split, few) in found_alone p q ys x low f passes
+      ] refl
+    ] found

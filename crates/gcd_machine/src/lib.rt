@@ -1,2 +1,4 @@
 //! The queue machine.
 #![tactic(auto)]
+
+pub mod progress;
