@@ -6,3 +6,6 @@ pub mod Steps
 pub mod Facts
 pub mod Runs
 pub mod Judged
+pub mod Waiting
+pub mod Changed
+pub mod StepStart
