@@ -9,3 +9,6 @@ pub mod Judged
 pub mod Waiting
 pub mod Changed
 pub mod StepStart
+pub mod StepAct
+pub mod StepEnd
+pub mod Chosen
