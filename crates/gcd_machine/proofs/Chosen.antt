@@ -226,7 +226,7 @@ pub record IsGoing (m : MachineView) (w : ℕ) : Type 0 where
 own_is : (m : MachineView) (w : ℕ) (b : Blk) → at_worker m w ≡ Some b → is_blk b.0 (at_worker m w) ≡ true
 own_is m w b at = ap (is_blk b.0) at ∙ eq-eqb b.0 b.0 refl
 
-act_permitted : (m : MachineView) (past : List Event) (w : ℕ) (b : Blk) → Keeps m past → IsGoing m w → at_worker m w ≡ Some b
+pub act_permitted : (m : MachineView) (past : List Event) (w : ℕ) (b : Blk) → Keeps m past → IsGoing m w → at_worker m w ≡ Some b
     → permitted m.plan past (Acted w (Block b) (progress m b.0).done) ≡ is_some (act_at m.plan (Block b) (progress m b.0).done)
 act_permitted m past w b keeps go at =
     let n = (progress m b.0).done in
@@ -254,7 +254,7 @@ act_permitted m past w b keeps go at =
     refused_last false true true false e = refl
     refused_last false true true true e = cc
 
-end_permitted : (m : MachineView) (past : List Event) (w : ℕ) (b : Blk) → Keeps m past → IsGoing m w → at_worker m w ≡ Some b
+pub end_permitted : (m : MachineView) (past : List Event) (w : ℕ) (b : Blk) → Keeps m past → IsGoing m w → at_worker m w ≡ Some b
     → permitted m.plan past (End w b) ≡ not (is_some (act_at m.plan (Block b) (progress m b.0).done))
 end_permitted m past w b keeps go at =
     let known : has_block m.plan b.0 ≡ true = lt-ltb b.0 (length m.plan.blocks) (keeps.shape.known w b at) in

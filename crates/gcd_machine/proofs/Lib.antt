@@ -12,3 +12,4 @@ pub mod StepStart
 pub mod StepAct
 pub mod StepEnd
 pub mod Chosen
+pub mod Ending
