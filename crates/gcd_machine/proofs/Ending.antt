@@ -4,7 +4,7 @@ use Rattle.std.proofs.Common.{◌≡◌, ℕ, zero, suc, ◌+◌, ◌-◌, ◌<�
 use Rattle.std.specs.List.{slice_get, list_any, list_all, count_by}
 use Rattle.std.specs.Option.{option_map, option_map_or, option_or, is_some, is_none}
 use Rattle.std.proofs.lemmas.Bool.{and_parts, and_from, both_ways, cases_eq, cases_lt, eqb-true, not-true, not-false, ltb-true, lt-ltb, or_left, or_cases, false_from_ne_true, cases_Bool}
-use Rattle.std.proofs.lemmas.Option.{same_Some}
+use Rattle.std.proofs.lemmas.Option.{same_Some, none-some}
 use Rattle.std.proofs.lemmas.List.Sums.{sum_by-cons}
 use Rattle.gcd_plan.specs.PlanView.{PlanView}
 use Rattle.gcd_plan.specs.declared.names.Blk.{Blk}
@@ -22,7 +22,7 @@ use Rattle.gcd_history.specs.Choice.{IsQuiescent, all_ended, is_work}
 use Rattle.gcd_machine.specs.Workers.{worker_of}
 use Rattle.gcd_machine.specs.MachineView.{MachineView, progress, at_worker, at_queue}
 use Rattle.gcd_machine.specs.Keeps.{Keeps, is_last, run_list, waiter}
-use Rattle.gcd_machine.specs.Kept.{node_choice, nodes_choice, idle_choice, kept_choice}
+use Rattle.gcd_machine.specs.Kept.{next_event, node_choice, nodes_choice, idle_choice, kept_choice}
 use Rattle.gcd_machine.specs.ListsView.{list_at}
 use Rattle.gcd_machine.proofs.Lists.{find_passes, found_alone, counted_found, count_unfound}
 use Rattle.gcd_machine.proofs.Runs.{among_one, same_run_self}
@@ -230,3 +230,112 @@ halt_is plan (Misuse w run i c ∷ past) first lawful halted = absurd (no_misuse
     no_misuse w run i c h = elim h [ ]
 halt_is plan (Halt ∷ past) first lawful halted = refl
 halt_is plan (e ∷ past) first lawful halted = cc
+
+-- ## One worker alone
+
+last_or : (t : Bool) (u w v : ℕ) (o : Option ℕ) → u ≡ w → (o ≡ Some v → v ≡ w) → cond t (Some u) o ≡ Some v → v ≡ w
+last_or true u w v o same rest h = sym (same_Some u v h) ∙ same
+last_or false u w v o same rest h = rest h
+
+-- where all events are worker w's, so are the runs
+alone_last : (past : List Event) (w v : ℕ) (run : Run) → list_all (λ e. worker_of e == w) past ≡ true → last_worker past run ≡ Some v → v ≡ w
+alone_last [] w v run all last = cc
+alone_last (Start u b ∷ past) w v run all last =
+    let parts = and_parts (u == w) (list_all (λ e. worker_of e == w) past) all in
+    last_or (same_run (Block b) run) u w v (last_worker past run) (eqb-true u w parts.0) (alone_last past w v run parts.1) last
+alone_last (Wake u b ∷ past) w v run all last =
+    let parts = and_parts (u == w) (list_all (λ e. worker_of e == w) past) all in
+    last_or (same_run (Block b) run) u w v (last_worker past run) (eqb-true u w parts.0) (alone_last past w v run parts.1) last
+alone_last (Deliver u s ∷ past) w v run all last =
+    let parts = and_parts (u == w) (list_all (λ e. worker_of e == w) past) all in
+    last_or (same_run (Source s) run) u w v (last_worker past run) (eqb-true u w parts.0) (alone_last past w v run parts.1) last
+alone_last (e ∷ past) w v run all last =
+    alone_last past w v run (and_parts (worker_of e == w) (list_all (λ d. worker_of d == w) past) all).1 last
+
+alone_open : (m : MachineView) (past : List Event) (w : ℕ) (b : Blk) → Keeps m past → list_all (λ e. worker_of e == w) past ≡ true
+    → is_started past b.0 ≡ true → is_ended past b.0 ≡ false → at_worker m w ≡ Some b
+alone_open m past w b keeps all started unended =
+    let at = open_worker m past b keeps started unended in
+    subst (λ v. at_worker m v ≡ Some b) (alone_last past w at.0 (Block b) all at.3) at.2
+
+-- nothing is open on a queue where the only worker is idle
+alone_free : (m : MachineView) (past : List Event) (w q : ℕ) → Keeps m past → list_all (λ e. worker_of e == w) past ≡ true → at_worker m w ≡ None → at_queue m q ≡ None
+alone_free m past w q keeps all at =
+    elim (at_queue m q) as (λ o. at_queue m q ≡ o → o ≡ None) [
+      | None ↦ λ e. refl
+      | Some k ↦ λ e.
+        let here = among_one (is_run_on m.plan past q) (open_runs past) (at_queue m q) k (keeps.queues q) in
+        let known : (is_open past (Block k) && is_run_on m.plan past q (Block k)) ≡ true = here ∙ (ap (λ o. option_map_or (λ c. c.0 == k.0) o false) e ∙ eq-eqb k.0 k.0 refl) in
+        let parts = open_parts m.plan past k (facts_at m past keeps) (and_parts (is_open past (Block k)) (is_run_on m.plan past q (Block k)) known).0 in
+        let busy = alone_open m past w k keeps all parts.0 parts.1 in
+        absurd (none-some k (sym at ∙ busy))
+    ] refl
+
+or_some_left : {X : Type 0} (a b : Option X) → is_some a ≡ true → is_some (option_or a b) ≡ true
+or_some_left None b h = cc
+or_some_left (Some x) b h = refl
+
+or_some_right : {X : Type 0} (a b : Option X) → is_some b ≡ true → is_some (option_or a b) ≡ true
+or_some_right None b h = h
+or_some_right (Some x) b h = refl
+
+nodes_some : (m : MachineView) (w n count q : ℕ) → n ≤ q → q < n + count → is_some (node_choice m w q) ≡ true → is_some (nodes_choice m w n count) ≡ true
+nodes_some m w n zero q low high some = absurd (omega arith)
+nodes_some m w n (suc count) q low high some =
+    ⊎_elim
+    (λ here. or_some_left (node_choice m w n) (nodes_choice m w (n + 1) count) (ap (λ k. is_some (node_choice m w k)) here ∙ some))
+    (λ later. or_some_right (node_choice m w n) (nodes_choice m w (n + 1) count) (nodes_some m w (n + 1) count q (omega arith) (omega arith) some))
+    (cases_eq n q)
+
+idle_some : (m : MachineView) (w from q : ℕ) → q < length m.plan.objects → (progress m 0).started ≡ true → is_some (node_choice m w q) ≡ true → is_some (idle_choice m w from) ≡ true
+idle_some m w from q within started some =
+    let front = nodes_choice m w from (length m.plan.objects - from) in
+    let back = nodes_choice m w 0 from in
+    ap (λ v. is_some (cond v (option_or front back) (Some (Start w (record { 0 = 0 }))))) started
+    ∙ ⊎_elim
+    (λ low. or_some_right front back (nodes_some m w 0 from q (omega arith) (omega arith) some))
+    (λ high. or_some_left front back (nodes_some m w from (length m.plan.objects - from) q high (omega arith) some))
+    (cases_lt q from)
+
+-- a block is left, and the only worker has one open or has one to start
+alone_goes : (m : MachineView) (past : List Event) (w from b : ℕ) (s : Submission) → Keeps m past → list_all (λ e. worker_of e == w) past ≡ true → IsLeft m.plan past b s
+    → at_worker m w ≡ None → is_some (idle_choice m w from) ≡ true
+alone_goes m past w from b s keeps all left at =
+    let fresh : is_started past b ≡ false = false_from_ne_true (is_started past b) (λ started. none-some (record { 0 = b }) (sym at ∙ alone_open m past w (record { 0 = b }) keeps all started left.unended)) in
+    elim (progress m 0).started as (λ v. (progress m 0).started ≡ v → is_some (idle_choice m w from) ≡ true) [
+      | false ↦ λ e. ap (λ v. is_some (cond v (option_or (nodes_choice m w from (length m.plan.objects - from)) (nodes_choice m w 0 from)) (Some (Start w (record { 0 = 0 }))))) e
+      | true ↦ λ e.
+        let main : is_started past 0 ≡ true = sym (ap (λ p. p.started) (keeps.blocks 0)) ∙ e in
+        let other : b ≡ 0 → ⊥ = λ zero. both_ways (is_started past b) fresh (ap (is_started past) zero ∙ main) in
+        let queued = queued_of m.plan past b s (facts_at m past keeps) left.found other in
+        let q = queued.queue in
+        let within = (serial_queue m.plan q.0 (first_plan m past keeps) queued.serial).within in
+        let named : s.blk.0 ≡ b = eqb-true s.blk.0 b (find_passes (λ t. t.blk.0 == b) (submitted m.plan past) s left.found) in
+        let waits : waits_on past q.0 s ≡ true =
+        and_from (is_on q.0 s) (not (is_started past s.blk.0)) (ap (λ o. option_map_or (λ n. n.0 == q.0) o false) queued.node ∙ eq-eqb q.0 q.0 refl) (ap not (ap (is_started past) named ∙ fresh)) in
+        let head = first_waits past q.0 s (λ t. t.blk.0 == b) (submitted m.plan past) left.found waits in
+        let free = alone_free m past w q.0 keeps all at in
+        let first : slice_get (list_at m.lists q.0) 0 ≡ Some (waiter head.0) = first_is m past q.0 keeps ∙ ap (option_map waiter) head.1 in
+        let some : is_some (node_choice m w q.0) ≡ true =
+        ap (λ o. is_some (cond (is_some o) None (option_map (λ x. Start w x.0) (slice_get (list_at m.lists q.0) 0)))) free ∙ ap (λ o. is_some (option_map (λ x. Start w x.0) o)) first in
+        idle_some m w from q.0 within e some
+    ] refl
+
+-- where the only worker has nothing to record, each submitted block has ended
+pub alone_drained : (m : MachineView) (past : List Event) (w from : ℕ) → Keeps m past → list_all (λ e. worker_of e == w) past ≡ true → w < 64 → m.halted ≡ false
+    → kept_choice m w from ≡ None → m.left ≡ 0
+alone_drained m past w from keeps all low going none =
+    ⊎_elim
+    (λ some.
+    let left = keeps.left in
+    let one = left_of m.plan past (facts_at m past keeps) (omega arith) in
+    let worker : is_worker w ≡ true = lt-ltb w 64 low in
+    let chosen : kept_choice m w from ≡ option_map_or (λ b. Some (next_event m w b)) (at_worker m w) (idle_choice m w from) =
+    ap (λ v. cond (v || not (is_worker w)) None (option_map_or (λ b. Some (next_event m w b)) (at_worker m w) (idle_choice m w from))) going
+    ∙ ap (λ v. cond (not v) None (option_map_or (λ b. Some (next_event m w b)) (at_worker m w) (idle_choice m w from))) worker in
+    absurd (elim (at_worker m w) as (λ o. at_worker m w ≡ o → option_map_or (λ b. Some (next_event m w b)) o (idle_choice m w from) ≡ None → ⊥) [
+      | Some b ↦ λ at h. none-some (next_event m w b) (sym h)
+      | None ↦ λ at h. both_ways (is_some (idle_choice m w from)) (ap is_some h) (alone_goes m past w from one.0.blk.0 one.0 keeps all one.1 at)
+    ] refl (sym chosen ∙ none)))
+    (λ zero. omega arith)
+    (cases_lt 0 m.left)
