@@ -1,0 +1,23 @@
+use Rattle.std.proofs.Common.{◌∙◌, arith}
+use Rattle.gcd_lists.proofs.Seen.{shown, head_read, place_read, first_within, first_waits, none_waits}
+use Rattle.gcd_lists.proofs.lists.Lists.first.Goals as goal
+
+pub returns-in_err-blk : goal.returns-in_err-blk
+returns-in_err-blk c =
+    let s = shown c.self.invariant c.self.view_is in
+    let head = head_read s c.args.node.0 c.index.result.now c.requires c.index.ensures ∙ c.in_err-blk.was in
+    c.from_residual.ensures ∙ none_waits s c.args.node.0 head
+
+pub index-requires-2 : goal.index-requires-2
+index-requires-2 c =
+    let s = shown c.self.invariant c.self.view_is in
+    let head = head_read s c.args.node.0 c.index.result.now c.requires c.index.ensures ∙ c.in_ok-blk.was in
+    omega (arith, first_within s c.args.node.0 c.in_ok-blk.blk head, c.self.inside.places.ok.0)
+
+pub returns : goal.returns
+returns c =
+    let s = shown c.self.invariant c.self.view_is in
+    let head = head_read s c.args.node.0 c.index.result.now c.requires c.index.ensures ∙ c.in_ok-blk.was in
+    let within = first_within s c.args.node.0 c.in_ok-blk.blk head in
+    let place = place_read s c.in_ok-blk.blk.0 c.index-2.result.now within c.index-2.ensures ∙ c.in_ok-barrier.was in
+    first_waits s c.args.node.0 c.in_ok-blk.blk _ c.in_ok-barrier.barrier head place

@@ -1,0 +1,38 @@
+use Rattle.std.proofs.Common.{◌∙◌, arith}
+use Rattle.gcd_lists.proofs.Seen.{shown, head_read, last_read, end_within, shows_first, shows_behind}
+use Rattle.gcd_lists.proofs.lists.Lists.push.Goals as goal
+
+pub index_mut-requires-in-Some : goal.index_mut-requires-in-Some
+index_mut-requires-in-Some c =
+    let s = shown c.self.invariant c.self.view_is in
+    let head = head_read s c.args.node.0 c.index.result.now c.requires.node c.index.ensures ∙ c.in-Some.is in
+    let last = last_read s c.args.node.0 c.index-last.result.now c.requires.node c.index-last.ensures in
+    omega (arith, end_within s c.args.node c.in-Some.field-0 c.index-last.result.now head last, c.self.inside.next.ok.0)
+
+pub invariant_of-self : goal.invariant_of-self
+invariant_of-self c =
+    let s = shown c.self.invariant c.self.view_is in
+    let head = head_read s c.args.node.0 c.index.result.now c.requires.node c.index.ensures ∙ c.in-Some.is in
+    let last = last_read s c.args.node.0 c.index-last.result.now c.requires.node c.index-last.ensures in
+    (shows_behind s c.args.node c.in-Some.field-0 c.index-last.result.now c.args.blk c.args.barrier c.requires.node c.requires.blk
+    c.requires.waits_nowhere head last).linked
+
+pub returns-in-Some : goal.returns-in-Some
+returns-in-Some c =
+    let s = shown c.self.invariant c.self.view_is in
+    let head = head_read s c.args.node.0 c.index.result.now c.requires.node c.index.ensures ∙ c.in-Some.is in
+    let last = last_read s c.args.node.0 c.index-last.result.now c.requires.node c.index-last.ensures in
+    (shows_behind s c.args.node c.in-Some.field-0 c.index-last.result.now c.args.blk c.args.barrier c.requires.node c.requires.blk
+    c.requires.waits_nowhere head last).seen
+
+pub invariant_of-self-in-None : goal.invariant_of-self-in-None
+invariant_of-self-in-None c =
+    let s = shown c.self.invariant c.self.view_is in
+    let head = head_read s c.args.node.0 c.index.result.now c.requires.node c.index.ensures ∙ c.in-None.is in
+    (shows_first s c.args.node c.args.blk c.args.barrier c.requires.node c.requires.blk c.requires.waits_nowhere head).linked
+
+pub returns-in-None : goal.returns-in-None
+returns-in-None c =
+    let s = shown c.self.invariant c.self.view_is in
+    let head = head_read s c.args.node.0 c.index.result.now c.requires.node c.index.ensures ∙ c.in-None.is in
+    (shows_first s c.args.node c.args.blk c.args.barrier c.requires.node c.requires.blk c.requires.waits_nowhere head).seen

@@ -1,0 +1,2 @@
+pub mod ListsView
+pub mod Links
