@@ -1,9 +1,9 @@
 -- Arrays after a write, and what follows from what they hold.
 use Rattle.std.proofs.Common.{◌≡◌, ℕ, zero, suc, ◌+◌, ◌-◌, ◌<◌, ◌≤◌, ◌==◌, Bool, true, false, not, ◌&&◌, ◌||◌, cond, List, [], ◌∷◌, ◌++◌, length, get_or, set, drop, Option, Some, None, refl, ap, sym, ◌∙◌, subst, arith, ⊎_elim, eq-eqb, ne_eqb}
 use Rattle.std.specs.List.{count_by, sum_by}
-use Rattle.std.specs.Option.{option_map, option_map_or, option_and_then, is_some}
+use Rattle.std.specs.Option.{option_map, option_map_or, option_and_then, is_some, IfSome}
 use Rattle.std.proofs.lemmas.Bool.{and_parts, both_ways, cases_eq, eqb-true, false_from_ne_true}
-use Rattle.std.proofs.lemmas.List.{length-set, get_or-set_same, get_or-set_other, get_or_past}
+use Rattle.std.proofs.lemmas.List.{length-set, get_or-set_same, get_or-set_other, get_or_read}
 use Rattle.std.proofs.lemmas.List.Sums.{sum_by-set}
 use Rattle.std.proofs.lemmas.Option.{same_Some}
 use Rattle.gcd_plan.specs.PlanView.{PlanView}
@@ -19,7 +19,7 @@ use Rattle.gcd_history.specs.Tree.{is_run_on, node_of}
 use Rattle.gcd_machine.specs.MachineView.{MachineView, idle, progress, at_worker, at_queue}
 use Rattle.gcd_machine.specs.Keeps.{Keeps, IsShaped, progress_of, events_of}
 use Rattle.gcd_machine.specs.Kept.{with_progress, with_open, without_first}
-use Rattle.gcd_machine.specs.ListsView.{ListsView, list_at}
+use Rattle.gcd_lists.specs.ListsView.{ListsView, list_at}
 use Rattle.gcd_machine.specs.declared.progress.Progress.{Progress}
 use Rattle.gcd_machine.proofs.Runs.{same_run_true}
 use Rattle.gcd_machine.proofs.FirstForms.{IsFirstPlan, serial_queue}
@@ -130,3 +130,23 @@ run_on_is m past q b keeps =
     over : (o : Option Obj) → option_map_or (λ n. n == q) (option_map (λ x. x.0) o) false ≡ option_map_or (λ x. x.0 == q) o false
     over None = refl
     over (Some x) = refl
+
+-- the queue that the array tells of is one of the plan's objects
+pub node_known : (m : MachineView) (b : ℕ) (p : Progress) → IsShaped m → b < length m.plan.blocks → p ≡ get_or m.blocks b p → IfSome p.node (λ q. q.0 < length m.plan.objects)
+node_known m b p shape low read =
+    let long = shape.blocks in
+    let here : p ≡ progress m b = get_or_read m.blocks b p (omega arith) read idle in
+    elim p.node as (λ o. p.node ≡ o → IfSome o (λ q. q.0 < length m.plan.objects)) [
+      | None ↦ λ e. tt
+      | Some q ↦ λ e. shape.nodes b q (ap (λ r. r.node) (sym here) ∙ e)
+    ] refl
+
+-- the block that the array tells of is one of the plan's
+pub worker_known : (m : MachineView) (w : ℕ) (o : Option Blk) → IsShaped m → w < 64 → o ≡ get_or m.workers w o → IfSome o (λ b. b.0 < length m.plan.blocks)
+worker_known m w o shape low read =
+    let long = shape.workers in
+    let here : o ≡ at_worker m w = get_or_read m.workers w o (omega arith) read None in
+    elim o as (λ p. o ≡ p → IfSome p (λ b. b.0 < length m.plan.blocks)) [
+      | None ↦ λ e. tt
+      | Some b ↦ λ e. shape.known w b (sym here ∙ e)
+    ] refl

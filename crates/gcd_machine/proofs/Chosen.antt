@@ -1,7 +1,7 @@
 -- What the arrays choose is what the history says.
 use Rattle.std.proofs.Common.{◌≡◌, ℕ, zero, suc, ◌+◌, ◌-◌, ◌<◌, ◌≤◌, ◌==◌, nat_lt, nat_le, Bool, true, false, not, ◌&&◌, ◌||◌, cond, List, [], ◌∷◌, ◌++◌, length, get_or, map, filter, Option, Some, None, find, refl, ap, sym, ◌∙◌, subst, arith, ⊎_elim, eq-eqb, ne_eqb}
 use Rattle.std.specs.List.{slice_get, list_any, list_all, flat_map, count_by, range_with_len}
-use Rattle.std.specs.Option.{option_map, option_map_or, option_and_then, option_or, option_to_list, is_some, is_none}
+use Rattle.std.specs.Option.{option_map, option_map_or, option_and_then, option_or, option_to_list, is_some, is_none, IfSome}
 use Rattle.std.proofs.lemmas.Bool.{and_parts, and_from, and_left, both_ways, cases_eq, cases_Bool, eqb-true, not-true, not-false, ltb-true, lt-ltb, le-leb, or_right, and_right}
 use Rattle.std.proofs.lemmas.Option.{same_Some, none-some, slice_get_within, get_or_from_slice_get}
 use Rattle.std.proofs.lemmas.List.{append-nil}
@@ -32,7 +32,7 @@ use Rattle.gcd_machine.specs.Workers.{worker_of}
 use Rattle.gcd_machine.specs.MachineView.{MachineView, progress, at_worker, at_queue}
 use Rattle.gcd_machine.specs.Keeps.{Keeps, run_list, waiter}
 use Rattle.gcd_machine.specs.Kept.{queue_reasons, is_waiting, is_blk, is_first, kept_why, next_event, node_choice, nodes_choice, idle_choice, kept_choice}
-use Rattle.gcd_machine.specs.ListsView.{list_at}
+use Rattle.gcd_lists.specs.ListsView.{list_at}
 use Rattle.gcd_machine.proofs.Lists.{find_passes, found_alone}
 use Rattle.gcd_machine.proofs.FirstForms.{IsFirstPlan}
 use Rattle.gcd_machine.proofs.Plain.{no_misuses, no_sources}
@@ -433,3 +433,49 @@ choice_is m past w from keeps =
         | false ↦ λ f. no_worker_choice m.plan past w from f
       ] refl
     ] refl
+
+-- ## By the arrays alone
+
+-- the objects from n on, one step on
+pub nodes_more : (m : MachineView) (w n end : ℕ) → n < end → nodes_choice m w n (end - n) ≡ option_or (node_choice m w n) (nodes_choice m w (n + 1) (end - (n + 1)))
+nodes_more m w n end h = let e : end - n ≡ suc (end - (n + 1)) = omega arith in ap (nodes_choice m w n) e
+
+-- an event is worker w's, if there is one
+abbrev pub IsOwn : ℕ → Option Event → Type 0
+IsOwn w o = IfSome o (λ e. worker_of e ≡ w)
+
+own_or : (w : ℕ) (a b : Option Event) → IsOwn w a → IsOwn w b → IsOwn w (option_or a b)
+own_or w None b h k = k
+own_or w (Some e) b h k = h
+
+node_own : (m : MachineView) (w n : ℕ) → IsOwn w (node_choice m w n)
+node_own m w n =
+    elim (is_some (at_queue m n)) as (λ v. IsOwn w (cond v None (option_map (λ x. Start w x.0) (slice_get (list_at m.lists n) 0)))) [
+      | true ↦ tt
+      | false ↦ elim (slice_get (list_at m.lists n) 0) as (λ o. IsOwn w (option_map (λ x. Start w x.0) o)) [ | None ↦ tt | Some x ↦ refl ]
+    ]
+
+nodes_own : (m : MachineView) (w n count : ℕ) → IsOwn w (nodes_choice m w n count)
+nodes_own m w n zero = tt
+nodes_own m w n (suc count) = own_or w (node_choice m w n) (nodes_choice m w (n + 1) count) (node_own m w n) (nodes_own m w (n + 1) count)
+
+next_own : (m : MachineView) (w : ℕ) (b : Blk) → worker_of (next_event m w b) ≡ w
+next_own m w b =
+    elim (is_some (act_at m.plan (Block b) (progress m b.0).done)) as (λ v. worker_of (cond v (Acted w (Block b) (progress m b.0).done) (End w b)) ≡ w) [
+      | true ↦ refl
+      | false ↦ refl
+    ]
+
+-- what is chosen is the worker's own event
+pub kept_own : (m : MachineView) (w from : ℕ) → IsOwn w (kept_choice m w from)
+kept_own m w from =
+    elim (m.halted || not (is_worker w)) as (λ v. IsOwn w (cond v None (option_map_or (λ b. Some (next_event m w b)) (at_worker m w) (idle_choice m w from)))) [
+      | true ↦ tt
+      | false ↦ elim (at_worker m w) as (λ o. IsOwn w (option_map_or (λ b. Some (next_event m w b)) o (idle_choice m w from))) [
+        | Some b ↦ next_own m w b
+        | None ↦ elim (progress m 0).started as (λ v. IsOwn w (cond v (option_or (nodes_choice m w from (length m.plan.objects - from)) (nodes_choice m w 0 from)) (Some (Start w (record { 0 = 0 }))))) [
+          | true ↦ own_or w (nodes_choice m w from (length m.plan.objects - from)) (nodes_choice m w 0 from) (nodes_own m w from (length m.plan.objects - from)) (nodes_own m w 0 from)
+          | false ↦ refl
+        ]
+      ]
+    ]

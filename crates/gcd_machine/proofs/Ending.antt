@@ -23,7 +23,7 @@ use Rattle.gcd_machine.specs.Workers.{worker_of}
 use Rattle.gcd_machine.specs.MachineView.{MachineView, progress, at_worker, at_queue}
 use Rattle.gcd_machine.specs.Keeps.{Keeps, is_last, run_list, waiter}
 use Rattle.gcd_machine.specs.Kept.{next_event, node_choice, nodes_choice, idle_choice, kept_choice}
-use Rattle.gcd_machine.specs.ListsView.{list_at}
+use Rattle.gcd_lists.specs.ListsView.{list_at}
 use Rattle.gcd_machine.proofs.Lists.{find_passes, found_alone, counted_found, count_unfound}
 use Rattle.gcd_machine.proofs.Runs.{among_one, same_run_self}
 use Rattle.gcd_machine.proofs.FirstForms.{IsFirstPlan, serial_queue}

@@ -7,7 +7,7 @@ use Rattle.std.proofs.lemmas.Option.{slice_get-map, same_Some}
 use Rattle.gcd_plan.specs.PlanView.{PlanView}
 use Rattle.gcd_plan.specs.Kinds.{is_source, has_kind}
 use Rattle.gcd_plan.specs.FirstForms.{is_serial_kind}
-use Rattle.gcd_machine.specs.ListsView.{list_at}
+use Rattle.gcd_lists.specs.ListsView.{list_at}
 use Rattle.gcd_plan.specs.StartRule.{first_of, start_reasons, is_held, is_excluded}
 use Rattle.gcd_plan.specs.declared.names.Blk.{Blk}
 use Rattle.gcd_plan.specs.declared.names.Obj.{Obj}

@@ -13,3 +13,4 @@ pub mod StepAct
 pub mod StepEnd
 pub mod Chosen
 pub mod Ending
+pub mod Shown

@@ -20,7 +20,7 @@ use Rattle.gcd_history.specs.Permitted.{is_on, waits_on, why}
 use Rattle.gcd_machine.specs.MachineView.{MachineView, idle, progress, at_worker, at_queue}
 use Rattle.gcd_machine.specs.Keeps.{Keeps, IsShaped, progress_of, is_last, run_list, waiter, events_of}
 use Rattle.gcd_machine.specs.Kept.{after_act, with_progress}
-use Rattle.gcd_machine.specs.ListsView.{ListsView, list_at, barrier_in, place_from, place_of}
+use Rattle.gcd_lists.specs.ListsView.{ListsView, list_at, barrier_in, place_from, place_of}
 use Rattle.gcd_machine.specs.declared.progress.Progress.{Progress}
 use Rattle.gcd_machine.proofs.Lists.{filter-append, count_push}
 use Rattle.gcd_machine.proofs.Runs.{filter_alike_in}

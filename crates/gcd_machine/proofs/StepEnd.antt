@@ -23,7 +23,7 @@ use Rattle.gcd_history.specs.Permitted.{waits_on, why, is_halted}
 use Rattle.gcd_machine.specs.MachineView.{MachineView, idle, progress, at_worker, at_queue}
 use Rattle.gcd_machine.specs.Keeps.{Keeps, IsShaped, progress_of, is_last, run_list, waiter, events_of}
 use Rattle.gcd_machine.specs.Kept.{after_end, after_halt, with_progress, with_open}
-use Rattle.gcd_machine.specs.ListsView.{list_at}
+use Rattle.gcd_lists.specs.ListsView.{list_at}
 use Rattle.gcd_machine.specs.declared.progress.Progress.{Progress}
 use Rattle.gcd_machine.proofs.Lists.{filter_alike, counted_found, sum_by_same}
 use Rattle.gcd_machine.proofs.Runs.{one_left}

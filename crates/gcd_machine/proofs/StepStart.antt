@@ -23,7 +23,7 @@ use Rattle.gcd_history.proofs.Reasons.{first_none}
 use Rattle.gcd_machine.specs.MachineView.{MachineView, idle, progress, at_worker, at_queue}
 use Rattle.gcd_machine.specs.Keeps.{Keeps, IsShaped, progress_of, is_last, run_list, waiter, events_of}
 use Rattle.gcd_machine.specs.Kept.{is_first, queue_reasons, after_start, with_progress, with_open, without_first}
-use Rattle.gcd_machine.specs.ListsView.{ListsView, list_at}
+use Rattle.gcd_lists.specs.ListsView.{ListsView, list_at}
 use Rattle.gcd_machine.specs.declared.progress.Progress.{Progress}
 use Rattle.gcd_machine.proofs.Lists.{filter-append, filter_alike, found_alone}
 use Rattle.gcd_machine.proofs.Runs.{filter_alike_in, same_run_self}

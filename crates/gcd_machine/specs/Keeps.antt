@@ -15,7 +15,7 @@ use Rattle.gcd_history.specs.Runs.{open_runs, acts_done, last_worker, is_started
 use Rattle.gcd_history.specs.Submitted.{submitted, submission_of}
 use Rattle.gcd_history.specs.Tree.{is_run_on}
 use Rattle.gcd_history.specs.Permitted.{waits_on, is_halted, IsLawful}
-use Rattle.gcd_machine.specs.ListsView.{list_at}
+use Rattle.gcd_lists.specs.ListsView.{list_at}
 use Rattle.gcd_machine.specs.MachineView.{MachineView, progress, at_worker, at_queue}
 use Rattle.gcd_machine.specs.declared.progress.Progress.{Progress}
 

@@ -11,7 +11,7 @@ use Rattle.gcd_event.specs.declared.event.Event.{Event}
 use Rattle.gcd_event.specs.declared.event.Event.TheVariants.{Start, Act as Acted, Wake, End, Tick, Misuse, Halt}
 use Rattle.gcd_history.specs.Runs.{act_at}
 use Rattle.gcd_history.specs.Permitted.{is_worker, has_block}
-use Rattle.gcd_machine.specs.ListsView.{ListsView, list_at}
+use Rattle.gcd_lists.specs.ListsView.{ListsView, list_at}
 use Rattle.gcd_machine.specs.MachineView.{MachineView, idle, progress, at_worker, at_queue}
 use Rattle.gcd_machine.specs.declared.progress.Progress.{Progress}
 

@@ -5,4 +5,4 @@ pub mod Workers
 pub mod Keeps
 pub mod Stands
 pub mod Kept
-pub mod ListsView
+pub mod Inside

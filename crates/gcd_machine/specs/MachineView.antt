@@ -2,7 +2,7 @@
 use Rattle.std.specs.Prelude.{ℕ, Bool, false, List, Option, None, slice_index_or}
 use Rattle.gcd_plan.specs.PlanView.{PlanView}
 use Rattle.gcd_plan.specs.declared.names.Blk.{Blk}
-use Rattle.gcd_machine.specs.ListsView.{ListsView}
+use Rattle.gcd_lists.specs.ListsView.{ListsView}
 use Rattle.gcd_machine.specs.declared.progress.Progress.{Progress}
 
 -- the plan; by block what it has come to; by worker and by object the block that is open there; what waits where; how many

@@ -1,4 +1,7 @@
 //! The queue machine.
 #![tactic(auto)]
 
-pub mod progress;
+mod machine;
+mod progress;
+
+pub use machine::Machine;
