@@ -14,3 +14,4 @@ pub mod StepEnd
 pub mod Chosen
 pub mod Ending
 pub mod Shown
+pub mod Applied

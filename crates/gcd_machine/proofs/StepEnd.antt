@@ -38,17 +38,17 @@ use Rattle.gcd_machine.proofs.Changed.{progress_by, progress_set, option_set, ev
 -- ## What an End finds
 
 -- block b is open, has started and not ended, and worker w began it
-record IsOwn (past : List Event) (w : ℕ) (b : Blk) : Type 0 where
-  among : is_open past (Block b) ≡ true
-  started : is_started past b.0 ≡ true
-  unended : is_ended past b.0 ≡ false
-  worker : (v : ℕ) → is_last past v (Block b) ≡ (w == v)
+pub record IsOwn (past : List Event) (w : ℕ) (b : Blk) : Type 0 where
+  pub among : is_open past (Block b) ≡ true
+  pub started : is_started past b.0 ≡ true
+  pub unended : is_ended past b.0 ≡ false
+  pub worker : (v : ℕ) → is_last past v (Block b) ≡ (w == v)
 
 last_as : (o : Option ℕ) (w v : ℕ) → option_map_or (λ n. n == w) o false ≡ true → option_map_or (λ n. n == v) o false ≡ (w == v)
 last_as None w v h = cc
 last_as (Some n) w v h = ap (λ k. k == v) (eqb-true n w h)
 
-own_at : (plan : PlanView) (past : List Event) (w : ℕ) (b : Blk) → IsFirstPlan plan → Facts plan past → has_run plan past w (Block b) ≡ true → IsOwn past w b
+pub own_at : (plan : PlanView) (past : List Event) (w : ℕ) (b : Blk) → IsFirstPlan plan → Facts plan past → has_run plan past w (Block b) ≡ true → IsOwn past w b
 own_at plan past w b first facts own =
     let among = own_is_open plan past w (Block b) first own in
     let parts = open_parts plan past b facts among in
@@ -129,7 +129,7 @@ end_queues m past w b keeps own q =
 -- ## Counts
 
 -- one run fewer is open
-end_runs : (plan : PlanView) (past : List Event) (w : ℕ) (b : Blk) → Facts plan past → IsOwn past w b
+pub end_runs : (plan : PlanView) (past : List Event) (w : ℕ) (b : Blk) → Facts plan past → IsOwn past w b
     → length (filter (λ run. not (same_run (Block b) run)) (open_runs past)) + 1 ≡ length (open_runs past)
 end_runs plan past w b facts own =
     let both = length-filter_both (same_run (Block b)) (λ run. not (same_run (Block b) run)) (λ run. refl) (open_runs past) in
@@ -142,7 +142,7 @@ found_at None h = cc
 found_at (Some x) h = (x, refl)
 
 -- one block fewer is left
-end_left : (plan : PlanView) (past : List Event) (w : ℕ) (b : Blk) → Facts plan past → IsOwn past w b
+pub end_left : (plan : PlanView) (past : List Event) (w : ℕ) (b : Blk) → Facts plan past → IsOwn past w b
     → count_by (λ s. not (b.0 == s.blk.0 || is_ended past s.blk.0)) (submitted plan past) + 1 ≡ count_by (λ s. not (is_ended past s.blk.0)) (submitted plan past)
 end_left plan past w b facts own =
     let xs = submitted plan past in

@@ -1,9 +1,12 @@
 -- What the arrays of a machine tell, and how they change: for the private contracts of this crate alone.
-use Rattle.std.specs.Prelude.{ℕ, zero, suc, ◌+◌, ◌-◌, ◌==◌, nat_lt, nat_le, Bool, true, false, not, ◌&&◌, ◌||◌, if◌then◌else◌, List, [], ◌∷◌, ◌++◌, length, drop, Option, Some, None, is_some, slice_get, slice_set, slice_index_or}
+use Rattle.std.specs.Prelude.{◌≡◌, ◌<◌, ℕ, zero, suc, ◌+◌, ◌-◌, ◌==◌, nat_lt, nat_le, Bool, true, false, not, ◌&&◌, ◌||◌, if◌then◌else◌, List, [], ◌∷◌, ◌++◌, length, drop, Option, Some, None, is_some, slice_get, slice_set, slice_index_or}
 use Rattle.std.specs.Option.{option_map, option_map_or, option_or}
 use Rattle.gcd_plan.specs.StartRule.{first_of}
+use Rattle.gcd_plan.specs.declared.act.Act.{Act}
+use Rattle.gcd_plan.specs.declared.act.Act.TheVariants.{Async}
 use Rattle.gcd_plan.specs.declared.names.Blk.{Blk}
 use Rattle.gcd_plan.specs.declared.names.Obj.{Obj}
+use Rattle.gcd_plan.specs.declared.names.Run.{Run}
 use Rattle.gcd_plan.specs.declared.names.Run.TheVariants.{Block, Source}
 use Rattle.gcd_plan.specs.declared.why.Why.{Why}
 use Rattle.gcd_plan.specs.declared.why.Why.TheVariants.{Over, NoSuch, Busy, Unready, Behind, Excluded, NotOwn, NotNext, NotParked, NotDue, NotMisuse}
@@ -11,8 +14,9 @@ use Rattle.gcd_event.specs.declared.event.Event.{Event}
 use Rattle.gcd_event.specs.declared.event.Event.TheVariants.{Start, Act as Acted, Wake, End, Tick, Misuse, Halt}
 use Rattle.gcd_history.specs.Runs.{act_at}
 use Rattle.gcd_history.specs.Permitted.{is_worker, has_block}
-use Rattle.gcd_lists.specs.ListsView.{ListsView, list_at}
+use Rattle.gcd_lists.specs.ListsView.{ListsView, list_at, place_of}
 use Rattle.gcd_machine.specs.MachineView.{MachineView, idle, progress, at_worker, at_queue}
+use Rattle.gcd_machine.specs.Keeps.{IsShaped}
 use Rattle.gcd_machine.specs.declared.progress.Progress.{Progress}
 
 -- ## What may come next
@@ -150,3 +154,49 @@ after_end m w b = record m {
 -- after a halt
 abbrev pub after_halt : MachineView → MachineView
 after_halt m = record m { halted = true; len = m.len + 1 }
+
+-- ## When they may
+
+-- worker w may start block b
+pub record CanStart (m : MachineView) (w : ℕ) (b : Blk) : Type 0 where
+  pub worker : w < 64
+  pub known : b.0 < length m.plan.blocks
+  pub queue : (q : Obj) → (progress m b.0).node ≡ Some q → q.0 < length m.plan.objects
+  pub few : m.runs < 65536
+  pub room : m.len < 65535
+  pub shape : IsShaped (after_start m w b)
+
+-- block b may submit block c to queue q
+pub record CanSubmit (m : MachineView) (b : Blk) (q : Obj) (c : Blk) : Type 0 where
+  pub by : b.0 < length m.plan.blocks
+  pub queue : q.0 < length m.plan.objects
+  pub known : c.0 < length m.plan.blocks
+  pub nowhere : place_of m.lists c.0 ≡ None
+  pub few : m.left < 65536
+  pub acts : (progress m b.0).done < 65535
+  pub room : m.len < 65535
+  pub shape : IsShaped (after_act m b q c)
+
+-- the queue and the block of an act that submits a plain block
+abbrev pub submission : Option Act → Option (Obj × Blk)
+submission (Some (Async q c)) = Some (q, c)
+submission _ = None
+
+-- the run is a block's, and may make its act of index i
+pub record CanAct (m : MachineView) (run : Run) (i : ℕ) : Type 0 where
+  pub by : Blk
+  pub queue : Obj
+  pub blk : Blk
+  pub own : run ≡ Block by
+  pub act : act_at m.plan run i ≡ Some (Async queue blk)
+  pub may : CanSubmit m by queue blk
+
+-- worker w may end block b
+pub record CanEnd (m : MachineView) (w : ℕ) (b : Blk) : Type 0 where
+  pub worker : w < 64
+  pub known : b.0 < length m.plan.blocks
+  pub queue : (q : Obj) → (progress m b.0).node ≡ Some q → q.0 < length m.plan.objects
+  pub runs : 0 < m.runs
+  pub left : 0 < m.left
+  pub room : m.len < 65535
+  pub shape : IsShaped (after_end m w b)

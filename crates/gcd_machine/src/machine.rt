@@ -13,6 +13,7 @@ ghost use Rattle.gcd_machine.specs.Stands.{StandsFor};
 
 mod choice;
 mod judge;
+mod step;
 
 use crate::progress::Progress;
 use gcd_event::Event;
