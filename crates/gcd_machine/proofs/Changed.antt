@@ -85,9 +85,9 @@ nodes_within plan past b q first facts node =
     (λ other. elim (submission_of plan past b) as (λ o. submission_of plan past b ≡ o → option_and_then (λ s. s.node) o ≡ Some q → q.0 < length plan.objects) [
       | None ↦ λ e n. cc
       | Some s ↦ λ e n.
-        let queued = queued_of plan past b s facts e other in
-        let same : queued.queue ≡ q = same_Some queued.queue q (sym queued.node ∙ n) in
-        subst (λ o. o.0 < length plan.objects) same (serial_queue plan queued.queue.0 first queued.serial).within
+          let queued = queued_of plan past b s facts e other in
+          let same : queued.queue ≡ q = same_Some queued.queue q (sym queued.node ∙ n) in
+          subst (λ o. o.0 < length plan.objects) same (serial_queue plan queued.queue.0 first queued.serial).within
     ] refl node)
     (cases_eq b 0)
 

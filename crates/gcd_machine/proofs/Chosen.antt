@@ -66,10 +66,10 @@ own_all plan past w run =
     let misuses = map (Misuse w run (acts_done past run)) (option_to_list (misuse_at plan past run (acts_done past run))) in
     elim (has_run plan past w run) as (λ v. list_all (is_by w) (cond v (next_events plan past w run) []) ≡ true) [
       | true ↦
-        all_append (is_by w) (Acted w run (acts_done past run) ∷ misuses) (end_of w run ∷ [])
-        (and_from (w == w) (list_all (is_by w) misuses) own
-        (all_map (is_by w) (Misuse w run (acts_done past run)) (option_to_list (misuse_at plan past run (acts_done past run))) (λ c. own)))
-        (and_from (is_by w (end_of w run)) true (ends_own w run) refl)
+          all_append (is_by w) (Acted w run (acts_done past run) ∷ misuses) (end_of w run ∷ [])
+          (and_from (w == w) (list_all (is_by w) misuses) own
+          (all_map (is_by w) (Misuse w run (acts_done past run)) (option_to_list (misuse_at plan past run (acts_done past run))) (λ c. own)))
+          (and_from (is_by w (end_of w run)) true (ends_own w run) refl)
       | false ↦ refl
     ]
 
@@ -77,8 +77,8 @@ nodes_all : (plan : PlanView) (past : List Event) (w n : ℕ) → list_all (is_b
 nodes_all plan past w n =
     let own = eq-eqb w w refl in
     all_append (is_by w) (option_map_or (λ s. Start w s.blk ∷ []) (first_waiting plan past n) []) (cond (is_source plan n) (Deliver w (record { 0 = n }) ∷ []) [])
-    (elim (first_waiting plan past n) as (λ o. list_all (is_by w) (option_map_or (λ s. Start w s.blk ∷ []) o []) ≡ true) [ | None ↦ refl | Some s ↦ and_from (w == w) true own refl ])
-    (elim (is_source plan n) as (λ v. list_all (is_by w) (cond v (Deliver w (record { 0 = n }) ∷ []) []) ≡ true) [ | true ↦ and_from (w == w) true own refl | false ↦ refl ])
+    (elim (first_waiting plan past n) as (λ o. list_all (is_by w) (option_map_or (λ s. Start w s.blk ∷ []) o []) ≡ true) [ None ↦ refl | Some s ↦ and_from (w == w) true own refl ])
+    (elim (is_source plan n) as (λ v. list_all (is_by w) (cond v (Deliver w (record { 0 = n }) ∷ []) []) ≡ true) [ true ↦ and_from (w == w) true own refl | false ↦ refl ])
 
 -- all that a worker may choose from are events of its own
 pub candidates_own : (plan : PlanView) (past : List Event) (w from : ℕ) → list_all (is_by w) (candidates plan past w from) ≡ true
@@ -198,12 +198,12 @@ few_acts plan b i valid some =
     elim (slice_get plan.blocks b.0) as (λ o. slice_get plan.blocks b.0 ≡ o → is_some (slice_get (option_map_or (λ blk. blk.acts) o []) i) ≡ true → i ≤ 65534) [
       | None ↦ λ e h. cc
       | Some blk ↦ λ e h.
-        let within : i < length blk.acts = some_within blk.acts i h in
-        let here : get_or plan.blocks b.0 blk ≡ blk = get_or_from_slice_get plan.blocks b.0 blk blk e in
-        let size : length (get_or plan.blocks b.0 blk).acts ≡ length blk.acts = ap (λ x. length x.acts) here in
-        let low = get_or-le-sum_by (λ x. length x.acts) plan.blocks b.0 blk (slice_get_within plan.blocks b.0 blk e) in
-        let few = valid.few_acts in
-        omega (arith, within, size, low, few)
+          let within : i < length blk.acts = some_within blk.acts i h in
+          let here : get_or plan.blocks b.0 blk ≡ blk = get_or_from_slice_get plan.blocks b.0 blk blk e in
+          let size : length (get_or plan.blocks b.0 blk).acts ≡ length blk.acts = ap (λ x. length x.acts) here in
+          let low = get_or-le-sum_by (λ x. length x.acts) plan.blocks b.0 blk (slice_get_within plan.blocks b.0 blk e) in
+          let few = valid.few_acts in
+          omega (arith, within, size, low, few)
     ] refl some
   where
     some_within : {X : Type 0} (xs : List X) (k : ℕ) → is_some (slice_get xs k) ≡ true → k < length xs
@@ -235,12 +235,12 @@ act_permitted m past w b keeps go at =
     told m past (Acted w (Block b) n) keeps
     ∙ (elim some as (λ v. some ≡ v → is_none (kept_why m (Acted w (Block b) n)) ≡ v) [
       | true ↦ λ e.
-        let low : nat_le n 65534 ≡ true = le-leb n 65534 (few_acts m.plan b n keeps.valid e) in
-        let named = and_from (is_worker w) (has_block m.plan b.0 && nat_le n 65534) go.worker (and_from (has_block m.plan b.0) (nat_le n 65534) known low) in
-        last_decides m.halted (is_worker w && (has_block m.plan b.0 && nat_le n 65534)) (is_blk b.0 (at_worker m w)) (not (n == n && some)) NotNext go.going named (own_is m w b at)
-        ∙ (not_not (n == n && some) ∙ and_from (n == n) some (eq-eqb n n refl) e)
+          let low : nat_le n 65534 ≡ true = le-leb n 65534 (few_acts m.plan b n keeps.valid e) in
+          let named = and_from (is_worker w) (has_block m.plan b.0 && nat_le n 65534) go.worker (and_from (has_block m.plan b.0) (nat_le n 65534) known low) in
+          last_decides m.halted (is_worker w && (has_block m.plan b.0 && nat_le n 65534)) (is_blk b.0 (at_worker m w)) (not (n == n && some)) NotNext go.going named (own_is m w b at)
+          ∙ (not_not (n == n && some) ∙ and_from (n == n) some (eq-eqb n n refl) e)
       | false ↦ λ e.
-        refused_last m.halted (is_worker w && (has_block m.plan b.0 && nat_le n 65534)) (is_blk b.0 (at_worker m w)) (n == n && some) (and_right (n == n) some e)
+          refused_last m.halted (is_worker w && (has_block m.plan b.0 && nat_le n 65534)) (is_blk b.0 (at_worker m w)) (n == n && some) (and_right (n == n) some e)
     ] refl)
   where
     not_not : (v : Bool) → not (not v) ≡ v
@@ -362,7 +362,7 @@ node_is_chosen m past w n keeps go at =
     ap (λ v. find p (option_map_or (λ s. Start w s.blk ∷ []) (first_waiting m.plan past n) [] ++ cond v (Deliver w (record { 0 = n }) ∷ []) [])) none
     ∙ (ap (find p) (append-nil (option_map_or (λ s. Start w s.blk ∷ []) (first_waiting m.plan past n) []))
     ∙ (elim (first_waiting m.plan past n) as (λ o. first_waiting m.plan past n ≡ o
-        → find p (option_map_or (λ s. Start w s.blk ∷ []) o []) ≡ cond (is_some (at_queue m n)) None (option_map (λ x. Start w x.0) (option_map waiter o))) [
+    → find p (option_map_or (λ s. Start w s.blk ∷ []) o []) ≡ cond (is_some (at_queue m n)) None (option_map (λ x. Start w x.0) (option_map waiter o))) [
       | None ↦ λ e. nothing (is_some (at_queue m n))
       | Some s ↦ λ e. ap (λ v. cond v (Some (Start w s.blk)) None) (start_first m past w n s keeps go at e) ∙ swapped (is_some (at_queue m n)) (Start w s.blk)
     ] refl
@@ -405,18 +405,18 @@ going_choice m past w from keeps go =
     let e = flat_map (node_events m.plan past w) (range_with_len 0 from) in
     find_parts p a b c d e
     ∙ elim (at_worker m w) as (λ o. at_worker m w ≡ o
-        → option_or (option_or (option_or (option_or (find p a) (find p b)) (find p c)) (find p d)) (find p e) ≡ option_map_or (λ k. Some (next_event m w k)) o (idle_choice m w from)) [
+    → option_or (option_or (option_or (option_or (find p a) (find p b)) (find p c)) (find p d)) (find p e) ≡ option_map_or (λ k. Some (next_event m w k)) o (idle_choice m w from)) [
       | Some k ↦ λ at. ap (λ o. option_or (option_or (option_or (option_or o (find p b)) (find p c)) (find p d)) (find p e)) (own_choice m past w k keeps go at)
       | None ↦ λ at.
-        let none : find p a ≡ None = ap (find p) (no_own m past w keeps at) in
-        let wakes : find p b ≡ None = no_wake m past w (range_with_len 0 (length m.plan.blocks)) keeps in
-        let main : find p c ≡ cond (not (progress m 0).started) (Some (Start w (record { 0 = 0 }))) None = ap (λ v. cond v (Some (Start w (record { 0 = 0 }))) None) (start_main m past w keeps go at) in
-        ap (λ o. option_or (option_or (option_or (option_or o (find p b)) (find p c)) (find p d)) (find p e)) none
-        ∙ (ap (λ o. option_or (option_or (option_or o (find p c)) (find p d)) (find p e)) wakes
-        ∙ (ap (λ o. option_or (option_or o (find p d)) (find p e)) main
-        ∙ (ap (λ o. option_or (option_or (cond (not (progress m 0).started) (Some (Start w (record { 0 = 0 }))) None) o) (find p e)) (nodes_are_chosen m past w from (length m.plan.objects - from) keeps go at)
-        ∙ (ap (λ o. option_or (option_or (cond (not (progress m 0).started) (Some (Start w (record { 0 = 0 }))) None) (nodes_choice m w from (length m.plan.objects - from))) o) (nodes_are_chosen m past w 0 from keeps go at)
-        ∙ begins (progress m 0).started (Start w (record { 0 = 0 })) (nodes_choice m w from (length m.plan.objects - from)) (nodes_choice m w 0 from)))))
+          let none : find p a ≡ None = ap (find p) (no_own m past w keeps at) in
+          let wakes : find p b ≡ None = no_wake m past w (range_with_len 0 (length m.plan.blocks)) keeps in
+          let main : find p c ≡ cond (not (progress m 0).started) (Some (Start w (record { 0 = 0 }))) None = ap (λ v. cond v (Some (Start w (record { 0 = 0 }))) None) (start_main m past w keeps go at) in
+          ap (λ o. option_or (option_or (option_or (option_or o (find p b)) (find p c)) (find p d)) (find p e)) none
+          ∙ (ap (λ o. option_or (option_or (option_or o (find p c)) (find p d)) (find p e)) wakes
+          ∙ (ap (λ o. option_or (option_or o (find p d)) (find p e)) main
+          ∙ (ap (λ o. option_or (option_or (cond (not (progress m 0).started) (Some (Start w (record { 0 = 0 }))) None) o) (find p e)) (nodes_are_chosen m past w from (length m.plan.objects - from) keeps go at)
+          ∙ (ap (λ o. option_or (option_or (cond (not (progress m 0).started) (Some (Start w (record { 0 = 0 }))) None) (nodes_choice m w from (length m.plan.objects - from))) o) (nodes_are_chosen m past w 0 from keeps go at)
+          ∙ begins (progress m 0).started (Start w (record { 0 = 0 })) (nodes_choice m w from (length m.plan.objects - from)) (nodes_choice m w 0 from)))))
     ] refl
   where
     begins : (v : Bool) (x : Event) (y z : Option Event) → option_or (option_or (cond (not v) (Some x) None) y) z ≡ cond v (option_or y z) (Some x)
@@ -452,7 +452,7 @@ node_own : (m : MachineView) (w n : ℕ) → IsOwn w (node_choice m w n)
 node_own m w n =
     elim (is_some (at_queue m n)) as (λ v. IsOwn w (cond v None (option_map (λ x. Start w x.0) (slice_get (list_at m.lists n) 0)))) [
       | true ↦ tt
-      | false ↦ elim (slice_get (list_at m.lists n) 0) as (λ o. IsOwn w (option_map (λ x. Start w x.0) o)) [ | None ↦ tt | Some x ↦ refl ]
+      | false ↦ elim (slice_get (list_at m.lists n) 0) as (λ o. IsOwn w (option_map (λ x. Start w x.0) o)) [ None ↦ tt | Some x ↦ refl ]
     ]
 
 nodes_own : (m : MachineView) (w n count : ℕ) → IsOwn w (nodes_choice m w n count)

@@ -41,8 +41,8 @@ ended_of plan past b all some =
     elim (submission_of plan past b) as (λ o. submission_of plan past b ≡ o → is_some o ≡ true → is_ended past b ≡ true) [
       | None ↦ λ e h. cc
       | Some s ↦ λ e h.
-        let named : s.blk.0 ≡ b = eqb-true s.blk.0 b (find_passes (λ t. t.blk.0 == b) (submitted plan past) s e) in
-        ap (is_ended past) (sym named) ∙ found_has (λ t. is_ended past t.blk.0) (λ t. t.blk.0 == b) (submitted plan past) s all e
+          let named : s.blk.0 ≡ b = eqb-true s.blk.0 b (find_passes (λ t. t.blk.0 == b) (submitted plan past) s e) in
+          ap (is_ended past) (sym named) ∙ found_has (λ t. is_ended past t.blk.0) (λ t. t.blk.0 == b) (submitted plan past) s all e
     ] refl some
 
 nothing_open : (plan : PlanView) (past : List Event) (run : Run) → Facts plan past → all_ended plan past ≡ true → is_open past run ≡ true → ⊥
@@ -93,8 +93,8 @@ some_counted p (x ∷ xs) h =
     elim (p x) as (λ v. p x ≡ v → (v || list_any p xs) ≡ true) [
       | true ↦ λ e. refl
       | false ↦ λ e.
-        let none : ◌≡◌ {A = ℕ} (cond (p x) 1 0) 0 = ap (λ v. cond v 1 0) e in
-        some_counted p xs (omega (arith, split, none, h))
+          let none : ◌≡◌ {A = ℕ} (cond (p x) 1 0) 0 = ap (λ v. cond v 1 0) e in
+          some_counted p xs (omega (arith, split, none, h))
     ] refl
 
 -- a block that has started and not ended is the open block of a worker
@@ -202,10 +202,13 @@ left_of plan past facts some =
     let p : Submission → Bool = λ s. not (is_ended past s.blk.0) in
     elim (find p xs) as (λ o. find p xs ≡ o → (s : Submission) × IsLeft plan past s.blk.0 s) [
       | None ↦ λ e. absurd (let none = count_unfound p xs e in omega arith)
-      | Some s ↦ λ e. (s, record {
-        found = found_alone p (λ t. t.blk.0 == s.blk.0) xs s (facts.once s.blk.0) e (eq-eqb s.blk.0 s.blk.0 refl);
-        unended = not-true (is_ended past s.blk.0) (find_passes p xs s e);
-      })
+      | Some s ↦ λ e. (
+        s,
+        record {
+          found = found_alone p (λ t. t.blk.0 == s.blk.0) xs s (facts.once s.blk.0) e (eq-eqb s.blk.0 s.blk.0 refl);
+          unended = not-true (is_ended past s.blk.0) (find_passes p xs s e);
+        },
+      )
     ] refl
 
 -- where none is left all have ended, and nothing can come
@@ -264,11 +267,11 @@ alone_free m past w q keeps all at =
     elim (at_queue m q) as (λ o. at_queue m q ≡ o → o ≡ None) [
       | None ↦ λ e. refl
       | Some k ↦ λ e.
-        let here = among_one (is_run_on m.plan past q) (open_runs past) (at_queue m q) k (keeps.queues q) in
-        let known : (is_open past (Block k) && is_run_on m.plan past q (Block k)) ≡ true = here ∙ (ap (λ o. option_map_or (λ c. c.0 == k.0) o false) e ∙ eq-eqb k.0 k.0 refl) in
-        let parts = open_parts m.plan past k (facts_at m past keeps) (and_parts (is_open past (Block k)) (is_run_on m.plan past q (Block k)) known).0 in
-        let busy = alone_open m past w k keeps all parts.0 parts.1 in
-        absurd (none-some k (sym at ∙ busy))
+          let here = among_one (is_run_on m.plan past q) (open_runs past) (at_queue m q) k (keeps.queues q) in
+          let known : (is_open past (Block k) && is_run_on m.plan past q (Block k)) ≡ true = here ∙ (ap (λ o. option_map_or (λ c. c.0 == k.0) o false) e ∙ eq-eqb k.0 k.0 refl) in
+          let parts = open_parts m.plan past k (facts_at m past keeps) (and_parts (is_open past (Block k)) (is_run_on m.plan past q (Block k)) known).0 in
+          let busy = alone_open m past w k keeps all parts.0 parts.1 in
+          absurd (none-some k (sym at ∙ busy))
     ] refl
 
 or_some_left : {X : Type 0} (a b : Option X) → is_some a ≡ true → is_some (option_or a b) ≡ true
@@ -305,20 +308,20 @@ alone_goes m past w from b s keeps all left at =
     elim (progress m 0).started as (λ v. (progress m 0).started ≡ v → is_some (idle_choice m w from) ≡ true) [
       | false ↦ λ e. ap (λ v. is_some (cond v (option_or (nodes_choice m w from (length m.plan.objects - from)) (nodes_choice m w 0 from)) (Some (Start w (record { 0 = 0 }))))) e
       | true ↦ λ e.
-        let main : is_started past 0 ≡ true = sym (ap (λ p. p.started) (keeps.blocks 0)) ∙ e in
-        let other : b ≡ 0 → ⊥ = λ zero. both_ways (is_started past b) fresh (ap (is_started past) zero ∙ main) in
-        let queued = queued_of m.plan past b s (facts_at m past keeps) left.found other in
-        let q = queued.queue in
-        let within = (serial_queue m.plan q.0 (first_plan m past keeps) queued.serial).within in
-        let named : s.blk.0 ≡ b = eqb-true s.blk.0 b (find_passes (λ t. t.blk.0 == b) (submitted m.plan past) s left.found) in
-        let waits : waits_on past q.0 s ≡ true =
-        and_from (is_on q.0 s) (not (is_started past s.blk.0)) (ap (λ o. option_map_or (λ n. n.0 == q.0) o false) queued.node ∙ eq-eqb q.0 q.0 refl) (ap not (ap (is_started past) named ∙ fresh)) in
-        let head = first_waits past q.0 s (λ t. t.blk.0 == b) (submitted m.plan past) left.found waits in
-        let free = alone_free m past w q.0 keeps all at in
-        let first : slice_get (list_at m.lists q.0) 0 ≡ Some (waiter head.0) = first_is m past q.0 keeps ∙ ap (option_map waiter) head.1 in
-        let some : is_some (node_choice m w q.0) ≡ true =
-        ap (λ o. is_some (cond (is_some o) None (option_map (λ x. Start w x.0) (slice_get (list_at m.lists q.0) 0)))) free ∙ ap (λ o. is_some (option_map (λ x. Start w x.0) o)) first in
-        idle_some m w from q.0 within e some
+          let main : is_started past 0 ≡ true = sym (ap (λ p. p.started) (keeps.blocks 0)) ∙ e in
+          let other : b ≡ 0 → ⊥ = λ zero. both_ways (is_started past b) fresh (ap (is_started past) zero ∙ main) in
+          let queued = queued_of m.plan past b s (facts_at m past keeps) left.found other in
+          let q = queued.queue in
+          let within = (serial_queue m.plan q.0 (first_plan m past keeps) queued.serial).within in
+          let named : s.blk.0 ≡ b = eqb-true s.blk.0 b (find_passes (λ t. t.blk.0 == b) (submitted m.plan past) s left.found) in
+          let waits : waits_on past q.0 s ≡ true =
+          and_from (is_on q.0 s) (not (is_started past s.blk.0)) (ap (λ o. option_map_or (λ n. n.0 == q.0) o false) queued.node ∙ eq-eqb q.0 q.0 refl) (ap not (ap (is_started past) named ∙ fresh)) in
+          let head = first_waits past q.0 s (λ t. t.blk.0 == b) (submitted m.plan past) left.found waits in
+          let free = alone_free m past w q.0 keeps all at in
+          let first : slice_get (list_at m.lists q.0) 0 ≡ Some (waiter head.0) = first_is m past q.0 keeps ∙ ap (option_map waiter) head.1 in
+          let some : is_some (node_choice m w q.0) ≡ true =
+          ap (λ o. is_some (cond (is_some o) None (option_map (λ x. Start w x.0) (slice_get (list_at m.lists q.0) 0)))) free ∙ ap (λ o. is_some (option_map (λ x. Start w x.0) o)) first in
+          idle_some m w from q.0 within e some
     ] refl
 
 -- where the only worker has nothing to record, each submitted block has ended

@@ -173,29 +173,29 @@ facts_start plan past w b first facts may =
     record {
       once = λ k. subst (λ l. count_by (λ s. s.blk.0 == k) l ≤ 1) (sym same) (facts.once k);
       origin = λ k s found.
-        origin_kept plan past e s (facts.origin k s (sym (submission_same plan past e k first refl) ∙ found))
-        (λ c i made.
-        elim (b.0 == c.0) as (λ v. b.0 == c.0 ≡ v → i < cond v 0 (acts_done past (Block c))) [
-          | true ↦ λ is.
-            let idle = facts.idle c (subst (λ n. is_started past n ≡ false) (eqb-true b.0 c.0 is) may.fresh) in
-            absurd (omega (arith, made, idle))
-          | false ↦ λ other. made
-        ] refl);
+          origin_kept plan past e s (facts.origin k s (sym (submission_same plan past e k first refl) ∙ found))
+          (λ c i made.
+          elim (b.0 == c.0) as (λ v. b.0 == c.0 ≡ v → i < cond v 0 (acts_done past (Block c))) [
+            | true ↦ λ is.
+                let idle = facts.idle c (subst (λ n. is_started past n ≡ false) (eqb-true b.0 c.0 is) may.fresh) in
+                absurd (omega (arith, made, idle))
+            | false ↦ λ other. made
+          ] refl);
       idle = λ k h.
-        let parts = or_parts (b.0 == k.0) (is_started past k.0) h in
-        ap (λ v. cond v 0 (acts_done past (Block k))) parts.0 ∙ facts.idle k parts.1;
+          let parts = or_parts (b.0 == k.0) (is_started past k.0) h in
+          ap (λ v. cond v 0 (acts_done past (Block k))) parts.0 ∙ facts.idle k parts.1;
       begun = λ k h.
-        still_submitted plan past e k first
-        (⊎_elim (λ now. subst (λ n. is_some (submission_of plan past n) ≡ true) (eqb-true b.0 k now) may.submitted) (facts.begun k)
-        (or_cases (b.0 == k) (is_started past k) h));
+          still_submitted plan past e k first
+          (⊎_elim (λ now. subst (λ n. is_some (submission_of plan past n) ≡ true) (eqb-true b.0 k now) may.submitted) (facts.begun k)
+          (or_cases (b.0 == k) (is_started past k) h));
       ended = λ k h. or_right (b.0 == k) (is_started past k) (facts.ended k h);
       opened = λ k. count_push (same_run (Block k)) (open_runs past) (Block b) ∙ start_opened plan past b k facts may.fresh;
       blocks = λ s. list_any-append (same_run (Source s)) (open_runs past) (Block b ∷ []) ∙ ap (λ v. v || false) (facts.blocks s);
       worked = λ k h.
-        elim (b.0 == k.0) as (λ v. (v || is_started past k.0) ≡ true → (n : ℕ) × (n < 64) × (cond v (Some w) (last_worker past (Block k)) ≡ Some n)) [
-          | true ↦ λ now. (w, may.worker, refl)
-          | false ↦ λ before. facts.worked k before
-        ] h;
+          elim (b.0 == k.0) as (λ v. (v || is_started past k.0) ≡ true → (n : ℕ) × (n < 64) × (cond v (Some w) (last_worker past (Block k)) ≡ Some n)) [
+            | true ↦ λ now. (w, may.worker, refl)
+            | false ↦ λ before. facts.worked k before
+          ] h;
     }
 
 -- ## After an act
@@ -209,27 +209,27 @@ fresh_act plan past w b i first facts may =
     elim (submission_of plan past c.0) as (λ o. submission_of plan past c.0 ≡ o → o ≡ None) [
       | None ↦ λ e. refl
       | Some s ↦ λ e. absurd (
-        let named : s.blk.0 ≡ c.0 = eqb-true s.blk.0 c.0 (find_passes (λ t. t.blk.0 == c.0) (submitted plan past) s e) in
-        ⊎_elim
-        (λ main.
-        let zero : s.blk.0 ≡ 0 = ap (λ t. t.blk.0) main in
-        let above : 0 < c.0 = ltb-true 0 c.0 (and_parts _ _ may.submittable).0 in
-        omega arith)
-        (λ queued.
-        let there : Place plan queued.by.0 queued.index c.0 = subst (Place plan queued.by.0 queued.index) named queued.place in
-        let one = one_submission plan b.0 queued.by.0 i queued.index c.0 first.valid place there in
-        let run : Block b ≡ Block queued.by = ap (λ n. Block (record { 0 = n })) one.0 in
-        let done : acts_done past (Block b) ≡ acts_done past (Block queued.by) = ap (acts_done past) run in
-        let made = queued.made in
-        let next = may.next in
-        let same = one.1 in
-        omega arith)
-        (facts.origin c.0 s e))
+          let named : s.blk.0 ≡ c.0 = eqb-true s.blk.0 c.0 (find_passes (λ t. t.blk.0 == c.0) (submitted plan past) s e) in
+          ⊎_elim
+          (λ main.
+          let zero : s.blk.0 ≡ 0 = ap (λ t. t.blk.0) main in
+          let above : 0 < c.0 = ltb-true 0 c.0 (and_parts _ _ may.submittable).0 in
+          omega arith)
+          (λ queued.
+          let there : Place plan queued.by.0 queued.index c.0 = subst (Place plan queued.by.0 queued.index) named queued.place in
+          let one = one_submission plan b.0 queued.by.0 i queued.index c.0 first.valid place there in
+          let run : Block b ≡ Block queued.by = ap (λ n. Block (record { 0 = n })) one.0 in
+          let done : acts_done past (Block b) ≡ acts_done past (Block queued.by) = ap (acts_done past) run in
+          let made = queued.made in
+          let next = may.next in
+          let same = one.1 in
+          omega arith)
+          (facts.origin c.0 s e))
     ] refl
 
 acted_more : (b c : Blk) (past : List Event) (w i j : ℕ) → j < acts_done past (Block c) → j < acts_done (Acted w (Block b) i ∷ past) (Block c)
 acted_more b c past w i j made =
-    elim (b.0 == c.0) as (λ v. j < cond v (acts_done past (Block c) + 1) (acts_done past (Block c))) [ | true ↦ omega arith | false ↦ made ]
+    elim (b.0 == c.0) as (λ v. j < cond v (acts_done past (Block c) + 1) (acts_done past (Block c))) [ true ↦ omega arith | false ↦ made ]
 
 act_origin : (plan : PlanView) (past : List Event) (w : ℕ) (b : Blk) (i k : ℕ) (s : Submission) → IsFirstPlan plan → Facts plan past → (may : ActFacts plan past w b i)
     → option_or (submission_of plan past k) (find (λ t. t.blk.0 == k) (on_node may.queue may.blk false)) ≡ Some s → Origin plan (Acted w (Block b) i ∷ past) s
@@ -245,9 +245,9 @@ act_origin plan past w b i k s first facts may found =
       index = i;
       place = place_of plan b i may.blk.0 (Async may.queue may.blk) may.act (eq-eqb may.blk.0 may.blk.0 refl);
       made =
-        let next = may.next in
-        let more : acts_done (Acted w (Block b) i ∷ past) (Block b) ≡ acts_done past (Block b) + 1 = ap (λ v. cond v (acts_done past (Block b) + 1) (acts_done past (Block b))) (eq-eqb b.0 b.0 refl) in
-        omega (arith, more);
+          let next = may.next in
+          let more : acts_done (Acted w (Block b) i ∷ past) (Block b) ≡ acts_done past (Block b) + 1 = ap (λ v. cond v (acts_done past (Block b) + 1) (acts_done past (Block b))) (eq-eqb b.0 b.0 refl) in
+          omega (arith, more);
     } in
     elim (submission_of plan past k) as (λ o. submission_of plan past k ≡ o → option_or o (find (λ t. t.blk.0 == k) (new ∷ [])) ≡ Some s → Origin plan (Acted w (Block b) i ∷ past) s) [
       | None ↦ λ e f. elim (new.blk.0 == k) as (λ v. cond v (Some new) None ≡ Some s → Origin plan (Acted w (Block b) i ∷ past) s) [
@@ -264,13 +264,13 @@ act_once plan past w b i k first facts may =
     let split = count_push (λ s. s.blk.0 == k) (submitted plan past) new in
     elim (may.blk.0 == k) as (λ v. may.blk.0 == k ≡ v → count_by (λ s. s.blk.0 == k) (submitted plan past ++ new ∷ []) ≤ 1) [
       | true ↦ λ e.
-        let unfound : submission_of plan past k ≡ None = subst (λ n. submission_of plan past n ≡ None) (eqb-true may.blk.0 k e) (fresh_act plan past w b i first facts may) in
-        let none = count_unfound (λ s. s.blk.0 == k) (submitted plan past) unfound in
-        let one : ◌≡◌ {A = ℕ} (cond (may.blk.0 == k) 1 0) 1 = ap (λ v. cond v 1 0) e in
-        omega (arith, split, none, one)
+          let unfound : submission_of plan past k ≡ None = subst (λ n. submission_of plan past n ≡ None) (eqb-true may.blk.0 k e) (fresh_act plan past w b i first facts may) in
+          let none = count_unfound (λ s. s.blk.0 == k) (submitted plan past) unfound in
+          let one : ◌≡◌ {A = ℕ} (cond (may.blk.0 == k) 1 0) 1 = ap (λ v. cond v 1 0) e in
+          omega (arith, split, none, one)
       | false ↦ λ e.
-        let none : ◌≡◌ {A = ℕ} (cond (may.blk.0 == k) 1 0) 0 = ap (λ v. cond v 1 0) e in
-        omega (arith, split, none, facts.once k)
+          let none : ◌≡◌ {A = ℕ} (cond (may.blk.0 == k) 1 0) 0 = ap (λ v. cond v 1 0) e in
+          omega (arith, split, none, facts.once k)
     ] refl
 
 facts_act : (plan : PlanView) (past : List Event) (w : ℕ) (b : Blk) (i : ℕ) → IsFirstPlan plan → Facts plan past → ActFacts plan past w b i → Facts plan (Acted w (Block b) i ∷ past)
@@ -282,13 +282,13 @@ facts_act plan past w b i first facts may =
     record {
       once = λ k. subst (λ l. count_by (λ s. s.blk.0 == k) l ≤ 1) (sym more) (act_once plan past w b i k first facts may);
       origin = λ k s found.
-        act_origin plan past w b i k s first facts may
-        (ap (λ a. option_or (submission_of plan past k) (find (λ t. t.blk.0 == k) (submitted_by a))) (sym may.act) ∙ (sym (submission_more plan past e k first) ∙ found));
+          act_origin plan past w b i k s first facts may
+          (ap (λ a. option_or (submission_of plan past k) (find (λ t. t.blk.0 == k) (submitted_by a))) (sym may.act) ∙ (sym (submission_more plan past e k first) ∙ found));
       idle = λ k h.
-        elim (b.0 == k.0) as (λ v. b.0 == k.0 ≡ v → cond v (acts_done past (Block k) + 1) (acts_done past (Block k)) ≡ 0) [
-          | true ↦ λ is. absurd (both_ways (is_started past k.0) h (subst (λ n. is_started past n ≡ true) (eqb-true b.0 k.0 is) started))
-          | false ↦ λ other. facts.idle k h
-        ] refl;
+          elim (b.0 == k.0) as (λ v. b.0 == k.0 ≡ v → cond v (acts_done past (Block k) + 1) (acts_done past (Block k)) ≡ 0) [
+            | true ↦ λ is. absurd (both_ways (is_started past k.0) h (subst (λ n. is_started past n ≡ true) (eqb-true b.0 k.0 is) started))
+            | false ↦ λ other. facts.idle k h
+          ] refl;
       begun = λ k h. still_submitted plan past e k first (facts.begun k h);
       ended = λ k h. facts.ended k h;
       opened = λ k. facts.opened k;
@@ -331,7 +331,7 @@ facts_end plan past w b first facts may =
       idle = λ k h. facts.idle k h;
       begun = λ k h. still_submitted plan past e k first (facts.begun k h);
       ended = λ k h.
-        ⊎_elim (λ now. subst (λ n. is_started past n ≡ true) (eqb-true b.0 k now) started) (facts.ended k) (or_cases (b.0 == k) (is_ended past k) h);
+          ⊎_elim (λ now. subst (λ n. is_started past n ≡ true) (eqb-true b.0 k now) started) (facts.ended k) (or_cases (b.0 == k) (is_ended past k) h);
       opened = λ k. end_opened plan past b k facts;
       blocks = λ s. any_of_fewer (same_run (Source s)) (λ run. not (same_run (Block b) run)) (open_runs past) (facts.blocks s);
       worked = λ k h. facts.worked k h;

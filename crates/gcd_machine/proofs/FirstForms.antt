@@ -85,9 +85,9 @@ object_cases plan (suc k) first =
     elim (slice_get plan.objects (suc k)) as (λ s. slice_get plan.objects (suc k) ≡ s → ObjectCases plan (suc k)) [
       | None ↦ λ e. inl e
       | Some v ↦ λ e.
-        let plain = passes_at is_plain_queue (after_root plan.objects) k v first.forms.queues (sym (after plan.objects k) ∙ e) in
-        let object = passes_at (is_object plan) plan.objects (suc k) v first.valid.objects e in
-        inr (inr (v, omega arith, slice_get_within plan.objects (suc k) v e, e, queue_view plan v plain object))
+          let plain = passes_at is_plain_queue (after_root plan.objects) k v first.forms.queues (sym (after plan.objects k) ∙ e) in
+          let object = passes_at (is_object plan) plan.objects (suc k) v first.valid.objects e in
+          inr (inr (v, omega arith, slice_get_within plan.objects (suc k) v e, e, queue_view plan v plain object))
     ] refl
 
 -- a kind that is neither that of root nor of the queues is nobody's
@@ -161,12 +161,12 @@ submits_at plan (Block b) i first =
     elim (slice_get plan.blocks b.0) as (λ v. slice_get plan.blocks b.0 ≡ v → Submits plan (slice_get (option_map_or (λ blk. blk.acts) v []) i)) [
       | None ↦ λ e. inl refl
       | Some blk ↦ λ e.
-        let forms = and_parts (list_all (is_first_act plan) blk.acts) (option_map_or is_first_work blk.work true) (passes_at (is_first_block plan) plan.blocks b.0 blk first.forms.blocks e) in
-        let valid = and_parts _ (list_all (is_act plan) blk.acts) (passes_at (is_block plan) plan.blocks b.0 blk first.valid.blocks e) in
-        elim (slice_get blk.acts i) as (λ a. slice_get blk.acts i ≡ a → Submits plan a) [
-          | None ↦ λ f. inl refl
-          | Some a ↦ λ f. submits_one plan a (passes_at (is_first_act plan) blk.acts i a forms.0 f) (passes_at (is_act plan) blk.acts i a valid.1 f)
-        ] refl
+          let forms = and_parts (list_all (is_first_act plan) blk.acts) (option_map_or is_first_work blk.work true) (passes_at (is_first_block plan) plan.blocks b.0 blk first.forms.blocks e) in
+          let valid = and_parts _ (list_all (is_act plan) blk.acts) (passes_at (is_block plan) plan.blocks b.0 blk first.valid.blocks e) in
+          elim (slice_get blk.acts i) as (λ a. slice_get blk.acts i ≡ a → Submits plan a) [
+            | None ↦ λ f. inl refl
+            | Some a ↦ λ f. submits_one plan a (passes_at (is_first_act plan) blk.acts i a forms.0 f) (passes_at (is_act plan) blk.acts i a valid.1 f)
+          ] refl
     ] refl
 
 pub submits_of : (plan : PlanView) (e : Event) → IsFirstPlan plan → Submits plan (act_of plan e)

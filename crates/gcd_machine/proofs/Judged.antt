@@ -168,11 +168,11 @@ node_reasons_are m past b keeps ready =
     elim (submission_of m.plan past b) as (λ o. submission_of m.plan past b ≡ o → is_some o ≡ true → first_of (node_reasons m.plan past o) ≡ first_of (queue_reasons m b (progress m b).node)) [
       | None ↦ λ e some. cc
       | Some s ↦ λ e some.
-        let queued = queued_of m.plan past b s facts e other in
-        let q = queued.queue in
-        let node : (progress m b).node ≡ Some q = node_is m past b s keeps e ∙ queued.node in
-        ap (λ o. first_of (option_map_or (λ n. waiting_reasons m.plan past s.blk.0 s.barrier n.0) o [])) queued.node
-        ∙ (waiting_is m past b q s keeps e queued.node queued.serial fresh ∙ ap (λ o. first_of (queue_reasons m b o)) (sym node))
+          let queued = queued_of m.plan past b s facts e other in
+          let q = queued.queue in
+          let node : (progress m b).node ≡ Some q = node_is m past b s keeps e ∙ queued.node in
+          ap (λ o. first_of (option_map_or (λ n. waiting_reasons m.plan past s.blk.0 s.barrier n.0) o [])) queued.node
+          ∙ (waiting_is m past b q s keeps e queued.node queued.serial fresh ∙ ap (λ o. first_of (queue_reasons m b o)) (sym node))
     ] refl parts.0)
     (cases_eq b 0)
 
@@ -186,11 +186,11 @@ record Alike (xs ys : List (Why × Bool)) : Type 0 where
 alike : (w : Why) (a b : Bool) {xs ys : List (Why × Bool)} → a ≡ b → (b ≡ false → Alike xs ys) → Alike ((w, a) ∷ xs) ((w, b) ∷ ys)
 alike w a b {xs} {ys} same rest = record {
   same =
-    ap (λ v. first_of ((w, v) ∷ xs)) same
-    ∙ elim b as (λ v. (v ≡ false → Alike xs ys) → cond v (Some w) (first_of xs) ≡ cond v (Some w) (first_of ys)) [
-      | true ↦ λ r. refl
-      | false ↦ λ r. (r refl).same
-    ] rest;
+      ap (λ v. first_of ((w, v) ∷ xs)) same
+      ∙ elim b as (λ v. (v ≡ false → Alike xs ys) → cond v (Some w) (first_of xs) ≡ cond v (Some w) (first_of ys)) [
+        | true ↦ λ r. refl
+        | false ↦ λ r. (r refl).same
+      ] rest;
 }
 
 itself : (xs : List (Why × Bool)) → Alike xs xs

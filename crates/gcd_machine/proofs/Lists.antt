@@ -84,7 +84,6 @@ find_first p (x ∷ xs) =
       | false ↦ find_first p xs
     ]
 
-
 -- what is found passes
 pub find_passes : {X : Type 0} (p : X → Bool) (xs : List X) (x : X) → find p xs ≡ Some x → p x ≡ true
 find_passes p [] x found = cc
@@ -102,8 +101,8 @@ count_unfound p (x ∷ xs) none =
     elim (p x) as (λ v. p x ≡ v → cond v (Some x) (find p xs) ≡ None → count_by p (x ∷ xs) ≡ 0) [
       | true ↦ λ e n. cc
       | false ↦ λ e n.
-        let here : ◌≡◌ {A = ℕ} (cond (p x) 1 0) 0 = ap (λ b. cond b 1 0) e in
-        omega (arith, split, here, count_unfound p xs n)
+          let here : ◌≡◌ {A = ℕ} (cond (p x) 1 0) 0 = ap (λ b. cond b 1 0) e in
+          omega (arith, split, here, count_unfound p xs n)
     ] refl none
 
 -- one more element, counted
@@ -119,9 +118,9 @@ count_kept p q (x ∷ xs) keeps =
     elim (q x) as (λ v. q x ≡ v → count_by p (cond v (x ∷ filter q xs) (filter q xs)) ≡ count_by p (x ∷ xs)) [
       | true ↦ λ e. let more = sum_by-cons (λ y. cond (p y) 1 0) x (filter q xs) in omega (arith, split, rest, more)
       | false ↦ λ e.
-        let here : p x ≡ false = false_from_ne_true (p x) (λ passes. both_ways (q x) e (keeps x passes)) in
-        let none : ◌≡◌ {A = ℕ} (cond (p x) 1 0) 0 = ap (λ b. cond b 1 0) here in
-        omega (arith, split, rest, none)
+          let here : p x ≡ false = false_from_ne_true (p x) (λ passes. both_ways (q x) e (keeps x passes)) in
+          let none : ◌≡◌ {A = ℕ} (cond (p x) 1 0) 0 = ap (λ b. cond b 1 0) here in
+          omega (arith, split, rest, none)
     ] refl
 
 -- a filter that drops what is counted
@@ -131,10 +130,10 @@ count_dropped p q (x ∷ xs) drops =
     let rest = count_dropped p q xs drops in
     elim (q x) as (λ v. q x ≡ v → count_by p (cond v (x ∷ filter q xs) (filter q xs)) ≡ 0) [
       | true ↦ λ e.
-        let more = sum_by-cons (λ y. cond (p y) 1 0) x (filter q xs) in
-        let here : p x ≡ false = false_from_ne_true (p x) (λ passes. both_ways (q x) (drops x passes) e) in
-        let none : ◌≡◌ {A = ℕ} (cond (p x) 1 0) 0 = ap (λ b. cond b 1 0) here in
-        omega (arith, rest, none, more)
+          let more = sum_by-cons (λ y. cond (p y) 1 0) x (filter q xs) in
+          let here : p x ≡ false = false_from_ne_true (p x) (λ passes. both_ways (q x) (drops x passes) e) in
+          let none : ◌≡◌ {A = ℕ} (cond (p x) 1 0) 0 = ap (λ b. cond b 1 0) here in
+          omega (arith, rest, none, more)
       | false ↦ λ e. rest
     ] refl
 
@@ -180,8 +179,8 @@ counted_found p q (y ∷ ys) x found passes =
     let split = sum_by-cons (λ z. cond (q z) 1 0) y ys in
     elim (p y) as (λ v. cond v (Some y) (find p ys) ≡ Some x → 1 ≤ count_by q (y ∷ ys)) [
       | true ↦ λ f.
-        let one : ◌≡◌ {A = ℕ} (cond (q y) 1 0) 1 = ap (λ z. cond (q z) 1 0) (same_Some y x f) ∙ ap (λ b. cond b 1 0) passes in
-        omega (arith, split, one)
+          let one : ◌≡◌ {A = ℕ} (cond (q y) 1 0) 1 = ap (λ z. cond (q z) 1 0) (same_Some y x f) ∙ ap (λ b. cond b 1 0) passes in
+          omega (arith, split, one)
       | false ↦ λ f. let rest = counted_found p q ys x f passes in omega (arith, split, rest)
     ] found
 
@@ -192,13 +191,13 @@ found_alone p q (y ∷ ys) x few found passes =
     let split = sum_by-cons (λ z. cond (q z) 1 0) y ys in
     elim (p y) as (λ v. cond v (Some y) (find p ys) ≡ Some x → find q (y ∷ ys) ≡ Some x) [
       | true ↦ λ f.
-        let same = same_Some y x f in
-        ap (λ v. cond v (Some y) (find q ys)) (ap q same ∙ passes) ∙ ap Some same
+          let same = same_Some y x f in
+          ap (λ v. cond v (Some y) (find q ys)) (ap q same ∙ passes) ∙ ap Some same
       | false ↦ λ f. elim (q y) as (λ v. q y ≡ v → cond v (Some y) (find q ys) ≡ Some x) [
         | true ↦ λ e.
-          let here : ◌≡◌ {A = ℕ} (cond (q y) 1 0) 1 = ap (λ b. cond b 1 0) e in
-          let rest = counted_found p q ys x f passes in
-          absurd (omega (arith, split, few, here, rest))
+            let here : ◌≡◌ {A = ℕ} (cond (q y) 1 0) 1 = ap (λ b. cond b 1 0) e in
+            let rest = counted_found p q ys x f passes in
+            absurd (omega (arith, split, few, here, rest))
         | false ↦ λ e. let low : count_by q ys ≤ 1 = omega (arith, split, few) in found_alone p q ys x low f passes
       ] refl
     ] found

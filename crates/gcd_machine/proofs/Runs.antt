@@ -41,8 +41,8 @@ among_filtered p run (x ∷ xs) =
       ] refl
       | false ↦ λ e. elim (same_run run x) as (λ s. same_run run x ≡ s → list_any (same_run run) (filter p xs) ≡ ((s || list_any (same_run run) xs) && p run)) [
         | true ↦ λ same.
-          let gone : p run ≡ false = ap p (same_run_true run x same) ∙ e in
-          rest ∙ (ap (λ v. list_any (same_run run) xs && v) gone ∙ (off (list_any (same_run run) xs) ∙ sym gone))
+            let gone : p run ≡ false = ap p (same_run_true run x same) ∙ e in
+            rest ∙ (ap (λ v. list_any (same_run run) xs && v) gone ∙ (off (list_any (same_run run) xs) ∙ sym gone))
         | false ↦ λ other. rest
       ] refl
     ] refl

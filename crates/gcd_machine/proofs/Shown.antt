@@ -3,7 +3,7 @@ use Rattle.std.proofs.Common.{◌≡◌, ℕ, zero, suc, ◌+◌, ◌*◌, ◌-�
 use Rattle.std.specs.List.{slice_get, list_any, list_all, count_by, sum_by, All}
 use Rattle.std.specs.Option.{option_map, option_map_or, option_and_then, is_some, is_none, IfSome}
 use Rattle.std.proofs.lemmas.Bool.{and_parts, and_from, cases_lt}
-use Rattle.std.proofs.lemmas.List.{length-reverse, length-replicate, get_or-replicate, get_or_past, reverse-append}
+use Rattle.std.proofs.lemmas.List.{length-reverse, length-replicate, get_or-replicate, get_or_past, reverse-append, reverse-reverse}
 use Rattle.std.proofs.lemmas.List.Sums.{sum_by-cons}
 use Rattle.std.proofs.lemmas.List.Folds.{sum_by-replicate, list_all-append}
 use Rattle.std.proofs.lemmas.Option.{none-some, slice_get_within}
@@ -21,7 +21,9 @@ use Rattle.gcd_history.specs.Parked as parked
 use Rattle.gcd_history.specs.Permitted as permitted
 use Rattle.gcd_history.specs.Choice as choice
 use Rattle.gcd_history.specs.History.{why, choice_of, running_of, first_waiting_of, node_of, parks, IsLawful}
-use Rattle.gcd_history.specs.Ends.{is_halted, IsDrained, IsGoingOn, IsQuiescent, all_ended, ends_in_halt}
+use Rattle.gcd_history.specs.Ends.{is_halted, IsDrained, IsQuiescent, all_ended, ends_in_halt, HasState}
+use Rattle.gcd_history.specs.declared.state.State.TheVariants.{Drained, Halted, Live}
+use Rattle.gcd_history.proofs.LawfulLemmas.{lawful_none, lawful_more}
 use Rattle.gcd_machine.specs.MachineView.{MachineView, idle, progress, at_worker, at_queue}
 use Rattle.gcd_machine.specs.Keeps.{Keeps, IsShaped, progress_of, run_list, waiter, events_of}
 use Rattle.gcd_machine.specs.Kept.{kept_why, kept_choice}
@@ -255,3 +257,45 @@ fresh_is m plan same valid forms = subst (λ n. StandsFor n plan []) (sym same) 
 
 pub fresh_shape : (m : MachineView) (plan : PlanView) → m ≡ fresh plan → IsPlan plan → IsOfFirstForms plan → IsShaped m
 fresh_shape m plan same valid forms = (keeps_of m plan [] (fresh_is m plan same valid forms)).shape
+
+-- ## Ends
+
+pub halted_state : (m : MachineView) (plan : PlanView) (h : List Event) → StandsFor m plan h → m.halted ≡ true → HasState plan h Halted
+unfolding ends_in_halt
+halted_state m plan h stands halted =
+    let keeps = keeps_of m plan h stands in
+    halt_is m.plan (reverse h) (first_plan m (reverse h) keeps) keeps.lawful (sym keeps.halted ∙ halted)
+
+pub drained_state : (m : MachineView) (plan : PlanView) (h : List Event) → StandsFor m plan h → m.halted ≡ false → m.left ≡ 0 → HasState plan h Drained
+unfolding IsQuiescent all_ended
+drained_state m plan h stands going none =
+    let past = reverse h in
+    let drained = drained_is m past (keeps_of m plan h stands) going none in
+    record {
+      quiescent = for_plan m plan h stands (λ p. choice.IsQuiescent p past) drained.0;
+      ended = for_plan m plan h stands (λ p. choice.all_ended p past ≡ true) drained.1;
+    }
+
+pub live_state : (m : MachineView) (plan : PlanView) (h : List Event) → StandsFor m plan h → m.halted ≡ false → (m.left ≡ 0 → ⊥) → HasState plan h Live
+unfolding IsQuiescent is_halted
+live_state m plan h stands going some =
+    let keeps = keeps_of m plan h stands in
+    let past = reverse h in
+    let above : 0 < m.left = omega arith in
+    record {
+      unhalted = sym keeps.halted ∙ going;
+      unquiet = for_plan m plan h stands (λ p. choice.IsQuiescent p past → ⊥) (live_is m past keeps going above);
+    }
+
+-- ## Laws
+
+from_after : (plan : PlanView) (past : List Event) → permitted.IsLawful plan past → IsLawful plan (reverse past)
+unfolding why
+from_after plan [] lawful = lawful_none plan
+from_after plan (e ∷ past) lawful =
+    let now : permitted.why plan (reverse (reverse past)) e ≡ None = ap (λ l. permitted.why plan l e) (reverse-reverse past) ∙ lawful.1 in
+    subst (IsLawful plan) (sym (reverse-append (e ∷ []) past)) (lawful_more plan (reverse past) e (from_after plan past lawful.0) now)
+
+pub lawful_stands : (m : MachineView) (plan : PlanView) (h : List Event) → StandsFor m plan h → IsLawful plan h
+lawful_stands m plan h stands =
+    for_plan m plan h stands (λ p. IsLawful p h) (subst (IsLawful m.plan) (reverse-reverse h) (from_after m.plan (reverse h) (keeps_of m plan h stands).lawful))

@@ -120,15 +120,15 @@ act_blocks m past w b i keeps may k =
     progress_set once c.0 k (queued may.queue (get_or once c.0 idle)) below
     ∙ (elim (c.0 == k) as (λ v. c.0 == k ≡ v → cond v (queued may.queue (get_or once c.0 idle)) (get_or once k idle) ≡ progress_of m.plan (Acted w (Block b) i ∷ past) k) [
       | true ↦ λ e.
-        let here : get_or once c.0 idle ≡ progress_of m.plan past c.0 = at c.0 ∙ (ap (λ v. cond v (acted (progress m b.0)) (progress m c.0)) (ne_eqb b.0 c.0 new.apart) ∙ keeps.blocks c.0) in
-        ap (queued may.queue) here ∙ (sym (act_new m.plan past w b i first may new) ∙ ap (progress_of m.plan (Acted w (Block b) i ∷ past)) (eqb-true c.0 k e))
+          let here : get_or once c.0 idle ≡ progress_of m.plan past c.0 = at c.0 ∙ (ap (λ v. cond v (acted (progress m b.0)) (progress m c.0)) (ne_eqb b.0 c.0 new.apart) ∙ keeps.blocks c.0) in
+          ap (queued may.queue) here ∙ (sym (act_new m.plan past w b i first may new) ∙ ap (progress_of m.plan (Acted w (Block b) i ∷ past)) (eqb-true c.0 k e))
       | false ↦ λ e.
-        at k
-        ∙ (elim (b.0 == k) as (λ v. b.0 == k ≡ v → cond v (acted (progress m b.0)) (progress m k) ≡ cond v (acted (progress_of m.plan past k)) (progress_of m.plan past k)) [
-          | true ↦ λ f. ap acted (keeps.blocks b.0 ∙ ap (progress_of m.plan past) (eqb-true b.0 k f))
-          | false ↦ λ f. keeps.blocks k
-        ] refl
-        ∙ sym (act_other m.plan past w b i k first may e))
+          at k
+          ∙ (elim (b.0 == k) as (λ v. b.0 == k ≡ v → cond v (acted (progress m b.0)) (progress m k) ≡ cond v (acted (progress_of m.plan past k)) (progress_of m.plan past k)) [
+            | true ↦ λ f. ap acted (keeps.blocks b.0 ∙ ap (progress_of m.plan past) (eqb-true b.0 k f))
+            | false ↦ λ f. keeps.blocks k
+          ] refl
+          ∙ sym (act_other m.plan past w b i k first may e))
     ] refl)
 
 -- ## Queues and lists
@@ -170,7 +170,7 @@ act_lists m past w b i keeps may q =
     list_set m.lists.lists n.0 q (list_at m.lists n.0 ++ (c, false) ∷ []) within
     ∙ (elim (n.0 == q) as (λ v. n.0 == q ≡ v → cond v (list_at m.lists n.0 ++ (c, false) ∷ []) (list_at m.lists q) ≡ map waiter (filter (waits_on past q) xs ++ cond v (s ∷ []) [])) [
       | true ↦ λ e.
-        ap (λ l. l ++ (c, false) ∷ []) (ap (list_at m.lists) (eqb-true n.0 q e) ∙ keeps.lists q) ∙ sym (map_push waiter (filter (waits_on past q) xs) s)
+          ap (λ l. l ++ (c, false) ∷ []) (ap (list_at m.lists) (eqb-true n.0 q e) ∙ keeps.lists q) ∙ sym (map_push waiter (filter (waits_on past q) xs) s)
       | false ↦ λ e. keeps.lists q ∙ ap (map waiter) (sym (append-nil (filter (waits_on past q) xs)))
     ] refl
     ∙ ap (map waiter) (sym split))
@@ -218,7 +218,7 @@ act_shape m past w b i keeps may after =
       lists = length-set m.lists.lists may.queue.0 (list_at m.lists may.queue.0 ++ (may.blk, false) ∷ []) ∙ shape.lists;
       listed = shape.listed;
       nodes = λ k q node.
-        nodes_within m.plan (Acted w (Block b) i ∷ past) k q (first_plan m past keeps) after (ap (λ p. p.node) (sym (act_blocks m past w b i keeps may k)) ∙ node);
+          nodes_within m.plan (Acted w (Block b) i ∷ past) k q (first_plan m past keeps) after (ap (λ p. p.node) (sym (act_blocks m past w b i keeps may k)) ∙ node);
       known = shape.known;
     }
 

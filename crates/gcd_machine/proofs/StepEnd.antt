@@ -163,8 +163,8 @@ end_left plan past w b facts own =
     its_own : (t : Submission) → (b.0 == t.blk.0 && not (is_ended past t.blk.0)) ≡ is_of b.0 t
     its_own t = elim (b.0 == t.blk.0) as (λ v. b.0 == t.blk.0 ≡ v → (v && not (is_ended past t.blk.0)) ≡ is_of b.0 t) [
       | true ↦ λ e.
-        let same = eqb-true b.0 t.blk.0 e in
-        ap not (ap (is_ended past) (sym same) ∙ own.unended) ∙ sym (sym (turned b.0 t.blk.0) ∙ e)
+          let same = eqb-true b.0 t.blk.0 e in
+          ap not (ap (is_ended past) (sym same) ∙ own.unended) ∙ sym (sym (turned b.0 t.blk.0) ∙ e)
       | false ↦ λ e. sym (sym (turned b.0 t.blk.0) ∙ e)
     ] refl
 
@@ -187,7 +187,7 @@ end_shape m past w b keeps low known after =
       lists = shape.lists;
       listed = shape.listed;
       nodes = λ k q node.
-        nodes_within m.plan (End w b ∷ past) k q (first_plan m past keeps) after (ap (λ p. p.node) (sym (end_blocks m past w b keeps known k)) ∙ node);
+          nodes_within m.plan (End w b ∷ past) k q (first_plan m past keeps) after (ap (λ p. p.node) (sym (end_blocks m past w b keeps known k)) ∙ node);
       known = known_set m.workers w (length m.plan.blocks) None (omega arith) shape.known (λ c e. cc);
     }
 
@@ -261,7 +261,7 @@ keeps_halt m past keeps permitted goes_on =
       blocks = λ k. keeps.blocks k ∙ halt_same m.plan past k first;
       workers = λ v. keeps.workers v;
       queues = λ q.
-        filter_alike (is_run_on m.plan (Halt ∷ past) q) (is_run_on m.plan past q) (open_runs past) (λ run. on_still m.plan past q run first) ∙ keeps.queues q;
+          filter_alike (is_run_on m.plan (Halt ∷ past) q) (is_run_on m.plan past q) (open_runs past) (λ run. on_still m.plan past q run first) ∙ keeps.queues q;
       lists = λ q. keeps.lists q ∙ ap (λ l. map waiter (filter (waits_on past q) l)) (sym same);
       runs = keeps.runs;
       left = keeps.left ∙ ap (count_by (λ s. not (is_ended past s.blk.0))) (sym same);

@@ -94,8 +94,8 @@ start_blocks m past w b keeps may k =
     progress_set m.blocks b.0 k (record (progress m b.0) { started = true }) within
     ∙ (elim (b.0 == k) as (λ v. b.0 == k ≡ v → cond v (record (progress m b.0) { started = true }) (progress m k) ≡ progress_of m.plan (Start w b ∷ past) k) [
       | true ↦ λ e.
-        ap begun (keeps.blocks b.0)
-        ∙ (sym (progress_here m.plan past w b first (facts_at m past keeps) may.fresh) ∙ ap (progress_of m.plan (Start w b ∷ past)) (eqb-true b.0 k e))
+          ap begun (keeps.blocks b.0)
+          ∙ (sym (progress_here m.plan past w b first (facts_at m past keeps) may.fresh) ∙ ap (progress_of m.plan (Start w b ∷ past)) (eqb-true b.0 k e))
       | false ↦ λ e. keeps.blocks k ∙ sym (progress_other m.plan past w b k first e)
     ] refl)
 
@@ -168,16 +168,16 @@ waits_less past w q b [] = refl
 waits_less past w q b (x ∷ xs) =
     let rest = waits_less past w q b xs in
     elim (is_on q x) as (λ o. filter (waits_on (Start w b ∷ past) q) xs ≡ filter (is_other b.0) (filter (waits_on past q) xs)
-        → cond (o && not (b.0 == x.blk.0 || is_started past x.blk.0)) (x ∷ filter (waits_on (Start w b ∷ past) q) xs) (filter (waits_on (Start w b ∷ past) q) xs)
-        ≡ filter (is_other b.0) (cond (o && not (is_started past x.blk.0)) (x ∷ filter (waits_on past q) xs) (filter (waits_on past q) xs))) [
+    → cond (o && not (b.0 == x.blk.0 || is_started past x.blk.0)) (x ∷ filter (waits_on (Start w b ∷ past) q) xs) (filter (waits_on (Start w b ∷ past) q) xs)
+    ≡ filter (is_other b.0) (cond (o && not (is_started past x.blk.0)) (x ∷ filter (waits_on past q) xs) (filter (waits_on past q) xs))) [
       | false ↦ λ r. r
       | true ↦ λ r. elim (is_started past x.blk.0) as (λ s. cond (not (b.0 == x.blk.0 || s)) (x ∷ filter (waits_on (Start w b ∷ past) q) xs) (filter (waits_on (Start w b ∷ past) q) xs)
           ≡ filter (is_other b.0) (cond (not s) (x ∷ filter (waits_on past q) xs) (filter (waits_on past q) xs))) [
-        | true ↦ ap (λ v. cond (not v) (x ∷ filter (waits_on (Start w b ∷ past) q) xs) (filter (waits_on (Start w b ∷ past) q) xs)) (or_true (b.0 == x.blk.0)) ∙ r
-        | false ↦
-          ap (λ v. cond (not v) (x ∷ filter (waits_on (Start w b ∷ past) q) xs) (filter (waits_on (Start w b ∷ past) q) xs)) (or_false (b.0 == x.blk.0))
-          ∙ ap (λ l. cond (not (b.0 == x.blk.0)) (x ∷ l) l) r
-      ]
+            | true ↦ ap (λ v. cond (not v) (x ∷ filter (waits_on (Start w b ∷ past) q) xs) (filter (waits_on (Start w b ∷ past) q) xs)) (or_true (b.0 == x.blk.0)) ∙ r
+            | false ↦
+                ap (λ v. cond (not v) (x ∷ filter (waits_on (Start w b ∷ past) q) xs) (filter (waits_on (Start w b ∷ past) q) xs)) (or_false (b.0 == x.blk.0))
+                ∙ ap (λ l. cond (not (b.0 == x.blk.0)) (x ∷ l) l) r
+          ]
     ] rest
   where
     or_true : (v : Bool) → (v || true) ≡ true
@@ -197,8 +197,8 @@ first_found m past b q s keeps first found =
     elim (find (waits_on past q.0) xs) as (λ o. find (waits_on past q.0) xs ≡ o → option_map_or (λ x. x.0.0 == b.0) (option_map waiter o) false ≡ true → o ≡ Some s) [
       | None ↦ λ e h. cc
       | Some t ↦ λ e h.
-        let here : find (is_of b.0) xs ≡ Some t = found_alone (waits_on past q.0) (is_of b.0) xs t ((facts_at m past keeps).once b.0) e h in
-        sym here ∙ found
+          let here : find (is_of b.0) xs ≡ Some t = found_alone (waits_on past q.0) (is_of b.0) xs t ((facts_at m past keeps).once b.0) e h in
+          sym here ∙ found
     ] refl told
 
 start_lists : (m : MachineView) (past : List Event) (w : ℕ) (b : Blk) → Keeps m past → StartFacts m.plan past w b → (q : ℕ)
@@ -215,22 +215,22 @@ start_lists m past w b keeps may q =
     elim (progress m b.0).node as (λ n. (progress m b.0).node ≡ n → list_at (without_first m.lists n) q ≡ map waiter (filter (waits_on (Start w b ∷ past) q) xs)) [
       | None ↦ λ e. kept (ap (λ o. option_map_or (λ x. x.0 == q) o false && not (is_started past s.0.blk.0)) (sym node ∙ e))
       | Some n ↦ λ e.
-        let long = keeps.shape.lists in
-        let low = keeps.shape.nodes b.0 n e in
-        let within : n.0 < length m.lists.lists = omega arith in
-        let next = is_next_at m past w b n keeps may e in
-        list_set m.lists.lists n.0 q (drop 1 (list_at m.lists n.0)) within
-        ∙ elim (n.0 == q) as (λ t. n.0 == q ≡ t → cond t (drop 1 (list_at m.lists n.0)) (list_at m.lists q) ≡ map waiter (filter (waits_on (Start w b ∷ past) q) xs)) [
-          | true ↦ λ same.
-            let at = eqb-true n.0 q same in
-            let found : find (waits_on past q) xs ≡ Some s.0 = subst (λ k. find (waits_on past k) xs ≡ Some s.0) at (first_found m past b n s.0 keeps next.first s.1) in
-            ap (λ k. drop 1 (list_at m.lists k)) at
-            ∙ (ap (drop 1) (keeps.lists q)
-            ∙ (drop-map waiter 1 (filter (waits_on past q) xs)
-            ∙ ap (map waiter) (sym (less ∙ first_dropped (waits_on past q) b.0 s.0 xs (facts.once b.0) (named m.plan past b.0 s.0 s.1) found))))
-          | false ↦ λ other.
-            kept (ap (λ o. option_map_or (λ x. x.0 == q) o false && not (is_started past s.0.blk.0)) (sym node ∙ e) ∙ and_left (n.0 == q) (not (is_started past s.0.blk.0)) other)
-        ] refl
+          let long = keeps.shape.lists in
+          let low = keeps.shape.nodes b.0 n e in
+          let within : n.0 < length m.lists.lists = omega arith in
+          let next = is_next_at m past w b n keeps may e in
+          list_set m.lists.lists n.0 q (drop 1 (list_at m.lists n.0)) within
+          ∙ elim (n.0 == q) as (λ t. n.0 == q ≡ t → cond t (drop 1 (list_at m.lists n.0)) (list_at m.lists q) ≡ map waiter (filter (waits_on (Start w b ∷ past) q) xs)) [
+            | true ↦ λ same.
+                let at = eqb-true n.0 q same in
+                let found : find (waits_on past q) xs ≡ Some s.0 = subst (λ k. find (waits_on past k) xs ≡ Some s.0) at (first_found m past b n s.0 keeps next.first s.1) in
+                ap (λ k. drop 1 (list_at m.lists k)) at
+                ∙ (ap (drop 1) (keeps.lists q)
+                ∙ (drop-map waiter 1 (filter (waits_on past q) xs)
+                ∙ ap (map waiter) (sym (less ∙ first_dropped (waits_on past q) b.0 s.0 xs (facts.once b.0) (named m.plan past b.0 s.0 s.1) found))))
+            | false ↦ λ other.
+                kept (ap (λ o. option_map_or (λ x. x.0 == q) o false && not (is_started past s.0.blk.0)) (sym node ∙ e) ∙ and_left (n.0 == q) (not (is_started past s.0.blk.0)) other)
+          ] refl
     ] refl
 
 -- ## All of it
@@ -248,7 +248,7 @@ start_shape m past w b keeps may after =
       lists = length_without m.lists (progress m b.0).node ∙ shape.lists;
       listed = blocks_without m.lists (progress m b.0).node ∙ shape.listed;
       nodes = λ k q node.
-        nodes_within m.plan (Start w b ∷ past) k q (first_plan m past keeps) after (ap (λ p. p.node) (sym (start_blocks m past w b keeps may k)) ∙ node);
+          nodes_within m.plan (Start w b ∷ past) k q (first_plan m past keeps) after (ap (λ p. p.node) (sym (start_blocks m past w b keeps may k)) ∙ node);
       known = known_set m.workers w (length m.plan.blocks) (Some b) (omega arith) shape.known (λ c e. subst (λ k. k.0 < length m.plan.blocks) (same_Some b c e) may.known);
     }
 

@@ -22,10 +22,12 @@ OnlyOne b s (x ∷ xs) = (is_of b x ≡ true → x ≡ s) × OnlyOne b s xs
 none_of : (b : ℕ) (s : Submission) (xs : List Submission) → count_by (is_of b) xs ≤ 0 → OnlyOne b s xs
 none_of b s [] few = tt
 none_of b s (x ∷ xs) few =
-    let split = sum_by-cons (λ y. cond (is_of b y) 1 0) x xs in
-    ((λ e.
-    let one : ◌≡◌ {A = ℕ} (cond (is_of b x) 1 0) 1 = ap (λ v. cond v 1 0) e in
-    absurd (omega (arith, split, one, few))), none_of b s xs (omega (arith, split, few)))
+    let split = sum_by-cons (λ y. cond (is_of b y) 1 0) x xs in (
+      (λ e.
+          let one : ◌≡◌ {A = ℕ} (cond (is_of b x) 1 0) 1 = ap (λ v. cond v 1 0) e in
+          absurd (omega (arith, split, one, few))),
+      none_of b s xs (omega (arith, split, few)),
+    )
 
 -- what is found of a block that stands once at most is the only one
 pub only_one : (b : ℕ) (s : Submission) (xs : List Submission) → count_by (is_of b) xs ≤ 1 → find (is_of b) xs ≡ Some s → OnlyOne b s xs
@@ -34,10 +36,10 @@ only_one b s (x ∷ xs) few found =
     let split = sum_by-cons (λ y. cond (is_of b y) 1 0) x xs in
     elim (is_of b x) as (λ v. is_of b x ≡ v → cond v (Some x) (find (is_of b) xs) ≡ Some s → OnlyOne b s (x ∷ xs)) [
       | true ↦ λ e f.
-        let one : ◌≡◌ {A = ℕ} (cond (is_of b x) 1 0) 1 = ap (λ v. cond v 1 0) e in
-        ((λ _. same_Some x s f), none_of b s xs (omega (arith, split, one, few)))
+          let one : ◌≡◌ {A = ℕ} (cond (is_of b x) 1 0) 1 = ap (λ v. cond v 1 0) e in
+          ((λ _. same_Some x s f), none_of b s xs (omega (arith, split, one, few)))
       | false ↦ λ e f.
-        ((λ passes. absurd (both_ways (is_of b x) e passes)), only_one b s xs (omega (arith, split, few)) f)
+          ((λ passes. absurd (both_ways (is_of b x) e passes)), only_one b s xs (omega (arith, split, few)) f)
     ] refl found
 
 -- no submission of block b, by the number first
@@ -55,8 +57,8 @@ others_kept p b s (x ∷ xs) only fails =
     let rest = others_kept p b s xs only.1 fails in
     elim (p x) as (λ v. p x ≡ v → filter (is_other b) (cond v (x ∷ filter p xs) (filter p xs)) ≡ cond v (x ∷ filter p xs) (filter p xs)) [
       | true ↦ λ e.
-        let other = other_from b x (λ h. both_ways (p s) fails (ap p (sym (only.0 h)) ∙ e)) in
-        ap (λ v. cond v (x ∷ filter (is_other b) (filter p xs)) (filter (is_other b) (filter p xs))) other ∙ ap (λ l. x ∷ l) rest
+          let other = other_from b x (λ h. both_ways (p s) fails (ap p (sym (only.0 h)) ∙ e)) in
+          ap (λ v. cond v (x ∷ filter (is_other b) (filter p xs)) (filter (is_other b) (filter p xs))) other ∙ ap (λ l. x ∷ l) rest
       | false ↦ λ e. rest
     ] refl
 
@@ -67,8 +69,8 @@ none_dropped p b (x ∷ xs) few =
     let rest = none_dropped p b xs (omega (arith, split, few)) in
     elim (p x) as (λ v. filter (is_other b) (cond v (x ∷ filter p xs) (filter p xs)) ≡ cond v (x ∷ filter p xs) (filter p xs)) [
       | true ↦
-        let other = other_from b x (λ h. let one : ◌≡◌ {A = ℕ} (cond (is_of b x) 1 0) 1 = ap (λ v. cond v 1 0) h in omega (arith, split, one, few)) in
-        ap (λ v. cond v (x ∷ filter (is_other b) (filter p xs)) (filter (is_other b) (filter p xs))) other ∙ ap (λ l. x ∷ l) rest
+          let other = other_from b x (λ h. let one : ◌≡◌ {A = ℕ} (cond (is_of b x) 1 0) 1 = ap (λ v. cond v 1 0) h in omega (arith, split, one, few)) in
+          ap (λ v. cond v (x ∷ filter (is_other b) (filter p xs)) (filter (is_other b) (filter p xs))) other ∙ ap (λ l. x ∷ l) rest
       | false ↦ rest
     ]
 
@@ -80,11 +82,11 @@ first_dropped p b s (x ∷ xs) few named found =
     let split = sum_by-cons (λ y. cond (is_of b y) 1 0) x xs in
     elim (p x) as (λ v. cond v (Some x) (find p xs) ≡ Some s → filter (is_other b) (cond v (x ∷ filter p xs) (filter p xs)) ≡ drop 1 (cond v (x ∷ filter p xs) (filter p xs))) [
       | true ↦ λ f.
-        let same = same_Some x s f in
-        let of : is_of b x ≡ true = ap (is_of b) same ∙ eq-eqb s.blk.0 b named in
-        let one : ◌≡◌ {A = ℕ} (cond (is_of b x) 1 0) 1 = ap (λ v. cond v 1 0) of in
-        let gone : is_other b x ≡ false = ap not (turned b x.blk.0 ∙ of) in
-        ap (λ v. cond v (x ∷ filter (is_other b) (filter p xs)) (filter (is_other b) (filter p xs))) gone ∙ none_dropped p b xs (omega (arith, split, one, few))
+          let same = same_Some x s f in
+          let of : is_of b x ≡ true = ap (is_of b) same ∙ eq-eqb s.blk.0 b named in
+          let one : ◌≡◌ {A = ℕ} (cond (is_of b x) 1 0) 1 = ap (λ v. cond v 1 0) of in
+          let gone : is_other b x ≡ false = ap not (turned b x.blk.0 ∙ of) in
+          ap (λ v. cond v (x ∷ filter (is_other b) (filter p xs)) (filter (is_other b) (filter p xs))) gone ∙ none_dropped p b xs (omega (arith, split, one, few))
       | false ↦ λ f. first_dropped p b s xs (omega (arith, split, few)) named f
     ] found
 

@@ -1,6 +1,7 @@
 //! The queue machine.
 #![tactic(auto)]
 
+pub mod laws;
 mod machine;
 mod progress;
 

@@ -12,6 +12,7 @@ ghost use Rattle.gcd_machine.specs.MachineView.{at_worker, idle, progress};
 ghost use Rattle.gcd_machine.specs.Stands.{StandsFor};
 
 mod choice;
+mod end;
 mod judge;
 mod step;
 

@@ -31,12 +31,19 @@ impl Machine {
         }
         match e {
             Event::Start { worker, blk } => self.why_start(worker, blk),
-            Event::Act { worker, run: Run::Block(blk), index } => self.why_act(worker, blk, index),
+            Event::Act {
+                worker,
+                run: Run::Block(blk),
+                index,
+            } => self.why_act(worker, blk, index),
             Event::Wake { worker, blk } => self.why_wake(worker, blk),
             Event::End { worker, blk } => self.why_end(worker, blk),
-            Event::Misuse { worker, run: Run::Block(blk), index, code } => {
-                self.why_misuse(worker, blk, index, code)
-            }
+            Event::Misuse {
+                worker,
+                run: Run::Block(blk),
+                index,
+                code,
+            } => { self.why_misuse(worker, blk, index, code) }
             Event::Tick { at } => {
                 if 1 <= at && at <= 86_400_000 {
                     Some(Why::NotDue)

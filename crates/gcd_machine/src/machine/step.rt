@@ -37,7 +37,9 @@ impl Machine {
         ensures plan { self.new.plan ≡ self.old.plan }
         ensures acted { (by : Blk) (q : Obj) (c : Blk) → run ≡ Run.Block by → act_at self.old.plan run index ≡ Some (Act.Async q c) → self.new ≡ after_act self.old by q c }
     {
-        if let Run::Block(by) = run && let Some((queue, blk)) = submission(self.act_at(run, index)) {
+        if let Run::Block(by) = run
+            && let Some((queue, blk)) = submission(self.act_at(run, index))
+        {
             self.submit(by, queue, blk);
         }
     }

@@ -1,0 +1,18 @@
+// What holds of each history that a machine stands for. Each function's contract is a law; its body is empty.
+ghost use Rattle.std.specs.Prelude.{◌≤◌, ◌+◌, ◌*◌, List, length};
+ghost use Rattle.gcd_plan.specs.PlanView.{PlanView};
+ghost use Rattle.gcd_event.specs.declared.event.Event.{Event};
+ghost use Rattle.gcd_history.specs.History.{IsLawful};
+ghost use Rattle.gcd_machine.specs.MachineView.{MachineView};
+ghost use Rattle.gcd_machine.specs.Stands.{StandsFor};
+
+/// The histories that a machine stands for are lawful (this project's own rule).
+pub fn histories_are_lawful()
+    ensures { (m : MachineView) (plan : PlanView) (h : List Event) → StandsFor m plan h → IsLawful plan h }
+{}
+
+/// The histories that a machine stands for are short: each block starts and ends once, and is submitted once. So a run of
+/// a plan of the first forms is never full (this project's own rule).
+pub fn histories_are_short()
+    ensures { (m : MachineView) (plan : PlanView) (h : List Event) → StandsFor m plan h → length h ≤ 3 * length plan.blocks + 1 }
+{}
