@@ -322,36 +322,54 @@ queue_decides false true false true true true a b c d e = refl
 queue_decides false true false true true false a b c d e = refl
 queue_decides _ _ _ _ _ x a b c d e = cc
 
+-- what is known of a block that is the first on queue q
+record IsHead (m : MachineView) (b : Blk) (q : Obj) : Type 0 where
+  node : (progress m b.0).node ≡ Some q
+  known : has_block m.plan b.0 ≡ true
+  ready : is_waiting b.0 (progress m b.0) ≡ true
+  head : is_first m q.0 b.0 ≡ true
+
+head_starts : (m : MachineView) (past : List Event) (w : ℕ) (b : Blk) (q : Obj) → Keeps m past → IsGoing m w → at_worker m w ≡ None → IsHead m b q
+    → permitted m.plan past (Start w b) ≡ not (is_some (at_queue m q.0))
+head_starts m past w b q keeps go at is =
+    told m past (Start w b) keeps
+    ∙ (ap (λ o. is_none (first_of ((Over, m.halted) ∷ (NoSuch, not (is_worker w && has_block m.plan b.0)) ∷ (Busy, is_some (at_worker m w)) ∷ (Unready, not (is_waiting b.0 (progress m b.0))) ∷ queue_reasons m b.0 o))) is.node
+    ∙ queue_decides m.halted (is_worker w && has_block m.plan b.0) (is_some (at_worker m w)) (is_waiting b.0 (progress m b.0)) (is_first m q.0 b.0) (is_some (at_queue m q.0))
+    go.going (and_from (is_worker w) (has_block m.plan b.0) go.worker is.known) (ap is_some at) is.ready is.head)
+
+on_is : (n : ℕ) (o : Option Obj) → option_map_or (λ q. q.0 == n) o false ≡ true → (q : Obj) × (o ≡ Some q) × (q.0 ≡ n)
+on_is n None h = cc
+on_is n (Some q) h = (q, refl, eqb-true q.0 n h)
+
+main_waits : (m : MachineView) (k : ℕ) (q : Obj) → (progress m 0).node ≡ None → (progress m k).node ≡ Some q → k ≡ 0 → ⊥
+main_waits m k q none some e = none-some q (sym (subst (λ j. (progress m j).node ≡ None) (sym e) none) ∙ some)
+
+-- the first that waits on an object is so known
+head_is : (m : MachineView) (past : List Event) (n : ℕ) (s : Submission) (q : Obj) → Keeps m past → find (waits_on past n) (submitted m.plan past) ≡ Some s
+    → submission_of m.plan past s.blk.0 ≡ Some s → s.node ≡ Some q → q.0 ≡ n → is_started past s.blk.0 ≡ false → IsHead m s.blk q
+head_is m past n s q keeps found here on same unstarted =
+    let b = s.blk.0 in
+    let node : (progress m b).node ≡ Some q = node_is m past b s keeps here ∙ on in
+    let none = node_is m past 0 main_submission keeps (main_submitted m.plan past (first_plan m past keeps)) in
+    let queued = queued_of m.plan past b s (facts_at m past keeps) here (main_waits m b q none node) in
+    let fresh : (progress m b).started ≡ false = ap (λ p. p.started) (keeps.blocks b) ∙ unstarted in
+    record {
+      node = node;
+      known = (and_parts (nat_lt 0 b) (nat_lt b (length m.plan.blocks)) queued.submittable).1;
+      ready = and_from (b == 0 || is_some (progress m b).node) (not (progress m b).started) (or_right (b == 0) (is_some (progress m b).node) (ap is_some node)) (ap not fresh);
+      head = ap (λ k. is_first m k b) same ∙ (ap (λ o. option_map_or (λ x. x.0.0 == b) o false) (first_is m past n keeps ∙ ap (option_map waiter) found) ∙ eq-eqb b b refl);
+    }
+
 -- the first that waits on an object may start where nothing is open there
 pub start_first : (m : MachineView) (past : List Event) (w n : ℕ) (s : Submission) → Keeps m past → IsGoing m w → at_worker m w ≡ None
     → find (waits_on past n) (submitted m.plan past) ≡ Some s → permitted m.plan past (Start w s.blk) ≡ not (is_some (at_queue m n))
 start_first m past w n s keeps go at found =
-    let b = s.blk in
-    let xs = submitted m.plan past in
-    let facts = facts_at m past keeps in
-    let waits = and_parts (is_on n s) (not (is_started past b.0)) (find_passes (waits_on past n) xs s found) in
-    let here : submission_of m.plan past b.0 ≡ Some s = found_alone (waits_on past n) (λ t. t.blk.0 == b.0) xs s (facts.once b.0) found (eq-eqb b.0 b.0 refl) in
+    let waits = and_parts (is_on n s) (not (is_started past s.blk.0)) (find_passes (waits_on past n) (submitted m.plan past) s found) in
+    let here : submission_of m.plan past s.blk.0 ≡ Some s =
+    found_alone (waits_on past n) (λ t. t.blk.0 == s.blk.0) (submitted m.plan past) s ((facts_at m past keeps).once s.blk.0) found (eq-eqb s.blk.0 s.blk.0 refl) in
     let on = on_is n s.node waits.0 in
-    let node : (progress m b.0).node ≡ Some on.0 = node_is m past b.0 s keeps here ∙ on.1 in
-    let fresh : (progress m b.0).started ≡ false = ap (λ p. p.started) (keeps.blocks b.0) ∙ not-true (is_started past b.0) waits.1 in
-    let apart : b.0 ≡ 0 → ⊥ = λ e. main_waits b.0 e (node_is m past 0 main_submission keeps (main_submitted m.plan past (first_plan m past keeps))) on.0 node in
-    let queued = queued_of m.plan past b.0 s facts here apart in
-    let known : has_block m.plan b.0 ≡ true = (and_parts (nat_lt 0 b.0) (nat_lt b.0 (length m.plan.blocks)) queued.submittable).1 in
-    let ready : is_waiting b.0 (progress m b.0) ≡ true = and_from (b.0 == 0 || is_some (progress m b.0).node) (not (progress m b.0).started) (or_right (b.0 == 0) (is_some (progress m b.0).node) (ap is_some node)) (ap not fresh) in
-    let head : is_first m on.0.0 b.0 ≡ true =
-    ap (λ k. is_first m k b.0) on.2 ∙ (ap (λ o. option_map_or (λ x. x.0.0 == b.0) o false) (first_is m past n keeps ∙ ap (option_map waiter) found) ∙ eq-eqb b.0 b.0 refl) in
-    told m past (Start w b) keeps
-    ∙ (ap (λ o. is_none (first_of ((Over, m.halted) ∷ (NoSuch, not (is_worker w && has_block m.plan b.0)) ∷ (Busy, is_some (at_worker m w)) ∷ (Unready, not (is_waiting b.0 (progress m b.0))) ∷ queue_reasons m b.0 o))) node
-    ∙ (queue_decides m.halted (is_worker w && has_block m.plan b.0) (is_some (at_worker m w)) (is_waiting b.0 (progress m b.0)) (is_first m on.0.0 b.0) (is_some (at_queue m on.0.0))
-    go.going (and_from (is_worker w) (has_block m.plan b.0) go.worker known) (ap is_some at) ready head
-    ∙ ap (λ k. not (is_some (at_queue m k))) on.2))
-  where
-    on_is : (n : ℕ) (o : Option Obj) → option_map_or (λ q. q.0 == n) o false ≡ true → (q : Obj) × (o ≡ Some q) × (q.0 ≡ n)
-    on_is n None h = cc
-    on_is n (Some q) h = (q, refl, eqb-true q.0 n h)
-
-    main_waits : (k : ℕ) → k ≡ 0 → (progress m 0).node ≡ None → (q : Obj) → (progress m k).node ≡ Some q → ⊥
-    main_waits k e none q some = none-some q (sym (subst (λ j. (progress m j).node ≡ None) (sym e) none) ∙ some)
+    let head = head_is m past n s on.0 keeps found here on.1 on.2 (not-true (is_started past s.blk.0) waits.1) in
+    head_starts m past w s.blk on.0 keeps go at head ∙ ap (λ k. not (is_some (at_queue m k))) on.2
 
 node_is_chosen : (m : MachineView) (past : List Event) (w n : ℕ) → Keeps m past → IsGoing m w → at_worker m w ≡ None
     → find (permitted m.plan past) (node_events m.plan past w n) ≡ node_choice m w n

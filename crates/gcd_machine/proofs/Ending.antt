@@ -300,6 +300,15 @@ idle_some m w from q within started some =
     (λ high. or_some_left front back (nodes_some m w from (length m.plan.objects - from) q high (omega arith) some))
     (cases_lt q from)
 
+node_some : (m : MachineView) (w q : ℕ) (x : Blk × Bool) → at_queue m q ≡ None → slice_get (list_at m.lists q) 0 ≡ Some x → is_some (node_choice m w q) ≡ true
+node_some m w q x free first =
+    ap (λ o. is_some (cond (is_some o) None (option_map (λ y. Start w y.0) (slice_get (list_at m.lists q) 0)))) free
+    ∙ ap (λ o. is_some (option_map (λ y. Start w y.0) o)) first
+
+first_at : (m : MachineView) (past : List Event) (q : ℕ) (t : Submission) → Keeps m past → find (waits_on past q) (submitted m.plan past) ≡ Some t
+    → slice_get (list_at m.lists q) 0 ≡ Some (waiter t)
+first_at m past q t keeps found = first_is m past q keeps ∙ ap (option_map waiter) found
+
 -- a block is left, and the only worker has one open or has one to start
 alone_goes : (m : MachineView) (past : List Event) (w from b : ℕ) (s : Submission) → Keeps m past → list_all (λ e. worker_of e == w) past ≡ true → IsLeft m.plan past b s
     → at_worker m w ≡ None → is_some (idle_choice m w from) ≡ true
@@ -317,10 +326,7 @@ alone_goes m past w from b s keeps all left at =
           let waits : waits_on past q.0 s ≡ true =
           and_from (is_on q.0 s) (not (is_started past s.blk.0)) (ap (λ o. option_map_or (λ n. n.0 == q.0) o false) queued.node ∙ eq-eqb q.0 q.0 refl) (ap not (ap (is_started past) named ∙ fresh)) in
           let head = first_waits past q.0 s (λ t. t.blk.0 == b) (submitted m.plan past) left.found waits in
-          let free = alone_free m past w q.0 keeps all at in
-          let first : slice_get (list_at m.lists q.0) 0 ≡ Some (waiter head.0) = first_is m past q.0 keeps ∙ ap (option_map waiter) head.1 in
-          let some : is_some (node_choice m w q.0) ≡ true =
-          ap (λ o. is_some (cond (is_some o) None (option_map (λ x. Start w x.0) (slice_get (list_at m.lists q.0) 0)))) free ∙ ap (λ o. is_some (option_map (λ x. Start w x.0) o)) first in
+              let some = node_some m w q.0 (waiter head.0) (alone_free m past w q.0 keeps all at) (first_at m past q.0 head.0 keeps head.1) in
           idle_some m w from q.0 within e some
     ] refl
 
