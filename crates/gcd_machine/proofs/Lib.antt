@@ -16,3 +16,4 @@ pub mod Ending
 pub mod Shown
 pub mod Applied
 pub mod Complete
+pub mod Walks

@@ -1,5 +1,5 @@
 // What holds of each history that a machine stands for. Each function's contract is a law; its body is empty.
-ghost use Rattle.std.specs.Prelude.{◌≡◌, ◌≢◌, ◌≤◌, ◌+◌, ◌*◌, ℕ, List, None, IsTrue, length};
+ghost use Rattle.std.specs.Prelude.{◌≡◌, ◌≢◌, ◌≤◌, ◌<◌, ◌+◌, ◌*◌, ℕ, List, None, IsTrue, length};
 ghost use Rattle.gcd_plan.specs.PlanView.{PlanView};
 ghost use Rattle.gcd_plan.specs.Validity.{IsPlan};
 ghost use Rattle.gcd_event.specs.declared.event.Event.{Event};
@@ -14,10 +14,11 @@ pub fn histories_are_lawful()
     ensures { (m : MachineView) (plan : PlanView) (h : List Event) → StandsFor m plan h → IsLawful plan h }
 {}
 
-/// The histories that a machine stands for are short: each block starts and ends once, and is submitted once. So a run of
-/// a plan of the first forms is never full (this project's own rule).
+/// The histories that a machine stands for are short, since each block is submitted, starts and ends once. So there is
+/// always room for one event more (this project's own rule).
 pub fn histories_are_short()
-    ensures { (m : MachineView) (plan : PlanView) (h : List Event) → StandsFor m plan h → length h ≤ 3 * length plan.blocks + 1 }
+    ensures short { (m : MachineView) (plan : PlanView) (h : List Event) → StandsFor m plan h → length h ≤ 3 * length plan.blocks + 1 }
+    ensures room { (m : MachineView) (plan : PlanView) (h : List Event) → StandsFor m plan h → length h < 65535 }
 {}
 
 /// Where the choice gives a worker nothing, no start, act, wake, end, delivery, delivery's end or misuse of that worker is

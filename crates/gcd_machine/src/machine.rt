@@ -87,6 +87,13 @@ impl Machine {
         self.plan.objects()
     }
 
+    /// How many blocks the plan has, `main` among them.
+    pub fn blocks(&self) -> u32
+        ensures { result ≡ length self.now.plan.blocks }
+    {
+        self.plan.blocks()
+    }
+
     /// How many events have come.
     pub fn len(&self) -> u32
         ensures len { (plan : PlanView) (h : List Event) → StandsFor self.now plan h → result ≡ length h }

@@ -1,5 +1,5 @@
-use Rattle.gcd_machine.proofs.Shown.{few_stands}
+use Rattle.gcd_machine.proofs.Shown.{few_stands, room_stands}
 use Rattle.gcd_machine.proofs.laws.histories_are_short.Goals as goal
 
 pub returns : goal.returns
-returns c = few_stands
+returns c = record { short = few_stands; room = room_stands }
