@@ -1,6 +1,5 @@
 -- One event on: what the arrays hold stands for the history with the event.
-use Rattle.std.proofs.Common.{◌≡◌, ℕ, suc, ◌+◌, ◌-◌, ◌<◌, ◌≤◌, Bool, true, false, not, nat_lt, cond, List, [], ◌∷◌, ◌++◌, length, reverse, filter, Option, Some, None, refl, ap, sym, ◌∙◌, subst, arith, ⊎_elim}
-use Rattle.std.specs.List.{count_by}
+use Rattle.std.proofs.Common.{◌≡◌, ℕ, ◌+◌, ◌<◌, ◌≤◌, Bool, false, not, nat_lt, List, [], ◌∷◌, ◌++◌, length, reverse, filter, Option, Some, None, refl, ap, sym, ◌∙◌, subst, arith, ⊎_elim}
 use Rattle.std.proofs.lemmas.Bool.{and_parts, ltb-true}
 use Rattle.std.proofs.lemmas.List.{length-reverse, length_push, length-append}
 use Rattle.std.proofs.lemmas.List.Sums.{count_by-le-length, length-filter}
@@ -12,13 +11,13 @@ use Rattle.gcd_plan.specs.declared.names.Obj.{Obj}
 use Rattle.gcd_plan.specs.declared.names.Run.{Run}
 use Rattle.gcd_plan.specs.declared.names.Run.TheVariants.{Block, Source}
 use Rattle.gcd_event.specs.declared.event.Event.{Event}
-use Rattle.gcd_event.specs.declared.event.Event.TheVariants.{Start, Act as Acted, Wake, End, Deliver, DeliverEnd, Tick, Ready, FeedEnd, Misuse, Halt}
-use Rattle.gcd_history.specs.Runs.{open_runs, runs_after, same_run, act_at, act_of, is_ended}
+use Rattle.gcd_event.specs.declared.event.Event.TheVariants.{Start, Act as Acted, End, Deliver, DeliverEnd, Halt}
+use Rattle.gcd_history.specs.Runs.{open_runs, same_run, act_at, act_of, is_ended}
 use Rattle.gcd_history.specs.Submitted.{submitted, submitted_by}
 use Rattle.gcd_history.specs.Permitted.{is_halted, why as why_after}
 use Rattle.gcd_history.specs.History.{why}
 use Rattle.gcd_history.proofs.Lists.{reverse_push}
-use Rattle.gcd_machine.specs.MachineView.{MachineView, progress}
+use Rattle.gcd_machine.specs.MachineView.{MachineView}
 use Rattle.gcd_machine.specs.Keeps.{Keeps}
 use Rattle.gcd_machine.specs.Kept.{after_start, after_act, after_end, after_halt, CanStart, CanSubmit, CanAct, CanEnd}
 use Rattle.gcd_machine.specs.Stands.{StandsFor, MayApply}

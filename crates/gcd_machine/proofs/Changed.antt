@@ -1,8 +1,8 @@
 -- Arrays after a write, and what follows from what they hold.
-use Rattle.std.proofs.Common.{◌≡◌, ℕ, zero, suc, ◌+◌, ◌-◌, ◌<◌, ◌≤◌, ◌==◌, Bool, true, false, not, ◌&&◌, ◌||◌, cond, List, [], ◌∷◌, ◌++◌, length, get_or, set, drop, Option, Some, None, refl, ap, sym, ◌∙◌, subst, arith, ⊎_elim, eq-eqb, ne_eqb}
-use Rattle.std.specs.List.{count_by, sum_by}
-use Rattle.std.specs.Option.{option_map, option_map_or, option_and_then, is_some, IfSome}
-use Rattle.std.proofs.lemmas.Bool.{and_parts, both_ways, cases_eq, eqb-true, false_from_ne_true}
+use Rattle.std.proofs.Common.{◌≡◌, ℕ, ◌+◌, ◌<◌, ◌==◌, true, false, cond, List, [], length, get_or, set, drop, Option, Some, None, refl, ap, sym, ◌∙◌, subst, arith, ⊎_elim, eq-eqb, ne_eqb}
+use Rattle.std.specs.List.{sum_by}
+use Rattle.std.specs.Option.{option_map, option_map_or, option_and_then, IfSome}
+use Rattle.std.proofs.lemmas.Bool.{both_ways, cases_eq, false_from_ne_true}
 use Rattle.std.proofs.lemmas.List.{length-set, get_or-set_same, get_or-set_other, get_or_read}
 use Rattle.std.proofs.lemmas.List.Sums.{sum_by-set}
 use Rattle.std.proofs.lemmas.Option.{same_Some}
@@ -10,21 +10,19 @@ use Rattle.gcd_plan.specs.PlanView.{PlanView}
 use Rattle.gcd_plan.specs.declared.names.Blk.{Blk}
 use Rattle.gcd_plan.specs.declared.names.Obj.{Obj}
 use Rattle.gcd_plan.specs.declared.names.Run.{Run}
-use Rattle.gcd_plan.specs.declared.names.Run.TheVariants.{Block, Source}
+use Rattle.gcd_plan.specs.declared.names.Run.TheVariants.{Block}
 use Rattle.gcd_event.specs.declared.event.Event.{Event}
-use Rattle.gcd_history.specs.declared.submission.Submission.{Submission}
-use Rattle.gcd_history.specs.Runs.{same_run, is_open, is_started, is_ended}
+use Rattle.gcd_history.specs.Runs.{same_run, is_open, is_started}
 use Rattle.gcd_history.specs.Submitted.{submission_of}
-use Rattle.gcd_history.specs.Tree.{is_run_on, node_of}
-use Rattle.gcd_machine.specs.MachineView.{MachineView, idle, progress, at_worker, at_queue}
+use Rattle.gcd_history.specs.Tree.{is_run_on}
+use Rattle.gcd_machine.specs.MachineView.{MachineView, idle, progress, at_worker}
 use Rattle.gcd_machine.specs.Keeps.{Keeps, IsShaped, progress_of, events_of}
-use Rattle.gcd_machine.specs.Kept.{with_progress, with_open, without_first}
+use Rattle.gcd_machine.specs.Kept.{with_open, without_first}
 use Rattle.gcd_lists.specs.ListsView.{ListsView, list_at}
 use Rattle.gcd_machine.specs.declared.progress.Progress.{Progress}
 use Rattle.gcd_machine.proofs.Runs.{same_run_true}
 use Rattle.gcd_machine.proofs.FirstForms.{IsFirstPlan, serial_queue}
 use Rattle.gcd_machine.proofs.Facts.{Facts, queued_of, main_submitted, open_parts}
-use Rattle.gcd_machine.proofs.Judged.{first_plan, facts_at}
 
 -- ## Progress
 

@@ -1,24 +1,22 @@
 -- What the arrays choose is what the history says.
-use Rattle.std.proofs.Common.{◌≡◌, ℕ, zero, suc, ◌+◌, ◌-◌, ◌<◌, ◌≤◌, ◌==◌, nat_lt, nat_le, Bool, true, false, not, ◌&&◌, ◌||◌, cond, List, [], ◌∷◌, ◌++◌, length, get_or, map, filter, Option, Some, None, find, refl, ap, sym, ◌∙◌, subst, arith, ⊎_elim, eq-eqb, ne_eqb}
-use Rattle.std.specs.List.{slice_get, list_any, list_all, flat_map, count_by, range_with_len}
-use Rattle.std.specs.Option.{option_map, option_map_or, option_and_then, option_or, option_to_list, is_some, is_none, IfSome}
-use Rattle.std.proofs.lemmas.Bool.{and_parts, and_from, and_left, both_ways, cases_eq, cases_Bool, eqb-true, not-true, not-false, ltb-true, lt-ltb, le-leb, or_right, and_right}
+use Rattle.std.proofs.Common.{◌≡◌, ℕ, zero, suc, ◌+◌, ◌-◌, ◌<◌, ◌≤◌, ◌==◌, nat_lt, nat_le, Bool, true, false, not, ◌&&◌, ◌||◌, cond, List, [], ◌∷◌, ◌++◌, length, get_or, map, filter, Option, Some, None, find, refl, ap, sym, ◌∙◌, subst, arith, eq-eqb}
+use Rattle.std.specs.List.{slice_get, list_all, flat_map, range_with_len}
+use Rattle.std.specs.Option.{option_map, option_map_or, option_or, option_to_list, is_some, is_none, IfSome}
+use Rattle.std.proofs.lemmas.Bool.{and_parts, and_from, both_ways, eqb-true, not-true, lt-ltb, le-leb, or_right, and_right}
 use Rattle.std.proofs.lemmas.Option.{same_Some, none-some, slice_get_within, get_or_from_slice_get}
 use Rattle.std.proofs.lemmas.List.{append-nil}
 use Rattle.std.proofs.lemmas.List.Sums.{get_or-le-sum_by}
-use Rattle.std.proofs.lemmas.List.Folds.{find-append, list_all-append, list_all-map}
+use Rattle.std.proofs.lemmas.List.Folds.{find-append, list_all-append}
 use Rattle.gcd_plan.specs.PlanView.{PlanView}
 use Rattle.gcd_plan.specs.Kinds.{is_source}
 use Rattle.gcd_plan.specs.StartRule.{first_of}
-use Rattle.gcd_plan.proofs.Lists.{list_all-flat_map}
 use Rattle.gcd_plan.specs.declared.names.Blk.{Blk}
 use Rattle.gcd_plan.specs.declared.names.Obj.{Obj}
 use Rattle.gcd_plan.specs.declared.names.Run.{Run}
 use Rattle.gcd_plan.specs.declared.names.Run.TheVariants.{Block, Source}
 use Rattle.gcd_plan.specs.declared.why.Why.{Why}
 use Rattle.gcd_plan.specs.declared.why.Why.TheVariants.{Over, NoSuch, Busy, Unready, Behind, Excluded, NotOwn, NotNext, NotParked}
-use Rattle.gcd_plan.specs.Validity.{IsPlan, act_count}
-use Rattle.gcd_plan.specs.PlanView.{BlkView}
+use Rattle.gcd_plan.specs.Validity.{IsPlan}
 use Rattle.gcd_event.specs.declared.event.Event.{Event}
 use Rattle.gcd_event.specs.declared.event.Event.TheVariants.{Start, Act as Acted, Wake, End, Deliver, DeliverEnd, Tick, Ready, FeedEnd, Misuse, Halt}
 use Rattle.gcd_history.specs.declared.submission.Submission.{Submission}
@@ -26,17 +24,15 @@ use Rattle.gcd_history.specs.Runs.{open_runs, acts_done, act_at, is_started}
 use Rattle.gcd_history.specs.Submitted.{submitted, submission_of, main_submission}
 use Rattle.gcd_history.specs.Parked.{has_run}
 use Rattle.gcd_history.specs.Permitted.{is_halted, is_known, is_worker, has_block, is_run_of, reasons, is_on, waits_on, misuse_at, first_waiting, why, permitted}
-use Rattle.gcd_history.specs.Choice.{end_of, next_events, own_events, wake_event, node_events, candidates, choice}
-use Rattle.gcd_history.proofs.Reasons.{allowed}
+use Rattle.gcd_history.specs.Choice.{end_of, next_events, own_events, wake_event, node_events, candidates, choice, is_work}
 use Rattle.gcd_machine.specs.Workers.{worker_of}
 use Rattle.gcd_machine.specs.MachineView.{MachineView, progress, at_worker, at_queue}
 use Rattle.gcd_machine.specs.Keeps.{Keeps, run_list, waiter}
 use Rattle.gcd_machine.specs.Kept.{queue_reasons, is_waiting, is_blk, is_first, kept_why, next_event, node_choice, nodes_choice, idle_choice, kept_choice}
 use Rattle.gcd_lists.specs.ListsView.{list_at}
 use Rattle.gcd_machine.proofs.Lists.{find_passes, found_alone}
-use Rattle.gcd_machine.proofs.FirstForms.{IsFirstPlan}
 use Rattle.gcd_machine.proofs.Plain.{no_misuses, no_sources}
-use Rattle.gcd_machine.proofs.Facts.{Facts, queued_of, main_submitted}
+use Rattle.gcd_machine.proofs.Facts.{queued_of, main_submitted}
 use Rattle.gcd_machine.proofs.Judged.{first_plan, facts_at, own_runs, done_is, node_is, first_is, why_is}
 
 -- ## Candidates
@@ -493,6 +489,46 @@ kept_own m w from =
         | Some b ↦ next_own m w b
         | None ↦ elim (progress m 0).started as (λ v. IsOwn w (cond v (option_or (nodes_choice m w from (length m.plan.objects - from)) (nodes_choice m w 0 from)) (Some (Start w (record { 0 = 0 }))))) [
           | true ↦ own_or w (nodes_choice m w from (length m.plan.objects - from)) (nodes_choice m w 0 from) (nodes_own m w from (length m.plan.objects - from)) (nodes_own m w 0 from)
+          | false ↦ refl
+        ]
+      ]
+    ]
+
+-- an event is one of a worker, if there is one
+abbrev pub IsWork : Option Event → Type 0
+IsWork o = IfSome o (λ e. is_work e ≡ true)
+
+work_or : (a b : Option Event) → IsWork a → IsWork b → IsWork (option_or a b)
+work_or None b h k = k
+work_or (Some e) b h k = h
+
+node_work : (m : MachineView) (w n : ℕ) → IsWork (node_choice m w n)
+node_work m w n =
+    elim (is_some (at_queue m n)) as (λ v. IsWork (cond v None (option_map (λ x. Start w x.0) (slice_get (list_at m.lists n) 0)))) [
+      | true ↦ tt
+      | false ↦ elim (slice_get (list_at m.lists n) 0) as (λ o. IsWork (option_map (λ x. Start w x.0) o)) [ None ↦ tt | Some x ↦ refl ]
+    ]
+
+nodes_work : (m : MachineView) (w n count : ℕ) → IsWork (nodes_choice m w n count)
+nodes_work m w n zero = tt
+nodes_work m w n (suc count) = work_or (node_choice m w n) (nodes_choice m w (n + 1) count) (node_work m w n) (nodes_work m w (n + 1) count)
+
+next_work : (m : MachineView) (w : ℕ) (b : Blk) → is_work (next_event m w b) ≡ true
+next_work m w b =
+    elim (is_some (act_at m.plan (Block b) (progress m b.0).done)) as (λ v. is_work (cond v (Acted w (Block b) (progress m b.0).done) (End w b)) ≡ true) [
+      | true ↦ refl
+      | false ↦ refl
+    ]
+
+-- what is chosen is no event of the outside
+pub kept_work : (m : MachineView) (w from : ℕ) → IsWork (kept_choice m w from)
+kept_work m w from =
+    elim (m.halted || not (is_worker w)) as (λ v. IsWork (cond v None (option_map_or (λ b. Some (next_event m w b)) (at_worker m w) (idle_choice m w from)))) [
+      | true ↦ tt
+      | false ↦ elim (at_worker m w) as (λ o. IsWork (option_map_or (λ b. Some (next_event m w b)) o (idle_choice m w from))) [
+        | Some b ↦ next_work m w b
+        | None ↦ elim (progress m 0).started as (λ v. IsWork (cond v (option_or (nodes_choice m w from (length m.plan.objects - from)) (nodes_choice m w 0 from)) (Some (Start w (record { 0 = 0 }))))) [
+          | true ↦ work_or (nodes_choice m w from (length m.plan.objects - from)) (nodes_choice m w 0 from) (nodes_work m w from (length m.plan.objects - from)) (nodes_work m w 0 from)
           | false ↦ refl
         ]
       ]

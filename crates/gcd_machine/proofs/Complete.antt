@@ -1,11 +1,11 @@
 -- Of any plan: where the choice gives a worker nothing, no event of that worker is permitted.
-use Rattle.std.proofs.Common.{◌≡◌, ◌≢◌, ℕ, reverse, zero, suc, ◌+◌, ◌-◌, ◌<◌, ◌≤◌, ◌==◌, nat_lt, nat_le, Bool, true, false, not, ◌&&◌, ◌||◌, cond, List, [], ◌∷◌, ◌++◌, length, map, Option, Some, None, find, refl, ap, sym, ◌∙◌, subst, arith, ⊎_elim, eq-eqb}
+use Rattle.std.proofs.Common.{◌≡◌, ◌≢◌, ℕ, reverse, zero, suc, ◌+◌, ◌-◌, ◌<◌, ◌≤◌, ◌==◌, nat_lt, Bool, true, false, not, ◌&&◌, ◌||◌, cond, List, [], ◌∷◌, ◌++◌, length, map, Option, Some, None, find, refl, ap, sym, ◌∙◌, arith, ⊎_elim, eq-eqb}
 use Rattle.std.specs.List.{slice_get, list_any, list_all, flat_map, range_with_len}
 use Rattle.std.specs.Option.{option_map, option_map_or, option_and_then, option_to_list, is_some, is_none}
-use Rattle.std.proofs.lemmas.Bool.{and_parts, and_from, both_ways, eqb-true, ltb-true, lt-ltb, not-true, not-false, or_left, or_right, or_from, cases_eq, cases_lt, or_cases, false_from_ne_true}
+use Rattle.std.proofs.lemmas.Bool.{and_parts, and_from, both_ways, eqb-true, ltb-true, lt-ltb, not-true, not-false, or_left, or_right, cases_eq, cases_lt, or_cases}
 use Rattle.std.proofs.lemmas.Option.{slice_get_within}
 use Rattle.std.proofs.lemmas.List.Folds.{list_any-append}
-use Rattle.gcd_plan.specs.PlanView.{PlanView, ObjView, kind_of, cancel_block, acts_of}
+use Rattle.gcd_plan.specs.PlanView.{PlanView, ObjView, cancel_block}
 use Rattle.gcd_plan.specs.Kinds.{has_kind, is_source, is_queue, is_source_kind, is_queue_kind, is_group_kind}
 use Rattle.gcd_plan.specs.StartRule.{first_of, is_held, is_excluded}
 use Rattle.gcd_plan.specs.Validity.{IsPlan, is_act, is_block, is_object, is_kind, has_path, has_fields, is_handler_act, is_submittable, is_work}
@@ -19,17 +19,17 @@ use Rattle.gcd_plan.specs.declared.names.Run.{Run}
 use Rattle.gcd_plan.specs.declared.names.Run.TheVariants.{Block, Source}
 use Rattle.gcd_plan.specs.declared.why.Why.TheVariants.{Busy, Unready, Behind, NotFree, Excluded, Fenced, NotOwn, NotNext, IsMisuse, NotMisuse}
 use Rattle.gcd_event.specs.declared.event.Event.{Event}
-use Rattle.gcd_event.specs.declared.event.Event.TheVariants.{Start, Act as Acted, Wake, End, Deliver, DeliverEnd, Tick, Ready, FeedEnd, Misuse, Halt}
+use Rattle.gcd_event.specs.declared.event.Event.TheVariants.{Start, Act as Acted, Wake, End, Deliver, DeliverEnd, Misuse}
 use Rattle.gcd_history.specs.declared.submission.Submission.{Submission}
 use Rattle.gcd_history.specs.Runs.{same_run, open_runs, is_open, acts_done, act_at, act_of, is_started}
 use Rattle.gcd_history.specs.Groups.{count}
-use Rattle.gcd_history.specs.Submitted.{submitted, submission_of, submissions, submitted_by, at_cancel, at_empty, registered, notify_blocks, cancels, is_cancelled, on_node, main_submission}
+use Rattle.gcd_history.specs.Submitted.{submitted, submission_of, submitted_by, at_cancel, at_empty, registered, notify_blocks, cancels, is_cancelled, on_node}
 use Rattle.gcd_history.specs.Tree.{chain}
 use Rattle.gcd_history.specs.Parked.{has_run, is_busy}
 use Rattle.gcd_history.specs.Permitted.{is_worker, has_block, is_ready, is_on, waits_on, is_behind, is_fenced, knowledge, before, waiting_reasons, node_reasons, is_next, has_act_left, misuse_at, first_waiting, why, permitted}
 use Rattle.gcd_history.specs.Choice.{end_of, next_events, own_events, wake_event, node_events, candidates, choice, is_work as is_work_event}
 use Rattle.gcd_history.specs.History.{choice_of, why as why_of}
-use Rattle.gcd_history.proofs.Reasons.{first_none, allowed, Allowed}
+use Rattle.gcd_history.proofs.Reasons.{first_none, allowed}
 use Rattle.gcd_machine.specs.Workers.{worker_of}
 use Rattle.gcd_machine.proofs.Lists.{find_passes, before_first_waiting, counted_found, count_unfound}
 use Rattle.gcd_machine.proofs.Runs.{same_run_true}

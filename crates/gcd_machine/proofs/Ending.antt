@@ -1,21 +1,20 @@
 -- How a run of a plan of the first forms stands: nothing can come exactly where it is halted or each submitted block has
 -- ended.
-use Rattle.std.proofs.Common.{◌≡◌, ℕ, zero, suc, ◌+◌, ◌-◌, ◌<◌, ◌≤◌, ◌==◌, ◌⊎◌, inl, inr, nat_lt, Bool, true, false, not, ◌&&◌, ◌||◌, cond, List, [], ◌∷◌, ◌++◌, length, map, filter, Option, Some, None, find, refl, ap, sym, ◌∙◌, subst, arith, ⊎_elim, eq-eqb, ne_eqb}
+use Rattle.std.proofs.Common.{◌≡◌, ℕ, zero, suc, ◌+◌, ◌-◌, ◌<◌, ◌≤◌, ◌==◌, Bool, true, false, not, ◌&&◌, ◌||◌, cond, List, [], ◌∷◌, length, filter, Option, Some, None, find, refl, ap, sym, ◌∙◌, subst, arith, ⊎_elim, eq-eqb}
 use Rattle.std.specs.List.{slice_get, list_any, list_all, count_by}
 use Rattle.std.specs.Option.{option_map, option_map_or, option_or, is_some, is_none}
-use Rattle.std.proofs.lemmas.Bool.{and_parts, and_from, both_ways, cases_eq, cases_lt, eqb-true, not-true, not-false, ltb-true, lt-ltb, or_left, or_cases, false_from_ne_true, cases_Bool}
+use Rattle.std.proofs.lemmas.Bool.{and_parts, and_from, both_ways, cases_eq, cases_lt, eqb-true, not-true, lt-ltb, or_left, false_from_ne_true}
 use Rattle.std.proofs.lemmas.Option.{same_Some, none-some}
 use Rattle.std.proofs.lemmas.List.Sums.{sum_by-cons}
 use Rattle.gcd_plan.specs.PlanView.{PlanView}
 use Rattle.gcd_plan.specs.declared.names.Blk.{Blk}
-use Rattle.gcd_plan.specs.declared.names.Obj.{Obj}
 use Rattle.gcd_plan.specs.declared.names.Run.{Run}
 use Rattle.gcd_plan.specs.declared.names.Run.TheVariants.{Block, Source}
 use Rattle.gcd_event.specs.declared.event.Event.{Event}
-use Rattle.gcd_event.specs.declared.event.Event.TheVariants.{Start, Act as Acted, Wake, End, Deliver, DeliverEnd, Tick, Ready, FeedEnd, Misuse, Halt}
+use Rattle.gcd_event.specs.declared.event.Event.TheVariants.{Start, Act as Acted, Wake, End, Deliver, Misuse, Halt}
 use Rattle.gcd_history.specs.declared.submission.Submission.{Submission}
 use Rattle.gcd_history.specs.Runs.{same_run, open_runs, is_open, act_at, last_worker, is_started, is_ended}
-use Rattle.gcd_history.specs.Submitted.{submitted, submission_of, main_submission}
+use Rattle.gcd_history.specs.Submitted.{submitted, submission_of}
 use Rattle.gcd_history.specs.Tree.{is_run_on}
 use Rattle.gcd_history.specs.Permitted.{is_halted, ends_in_halt, is_worker, is_on, waits_on, why, permitted, IsLawful}
 use Rattle.gcd_history.specs.Choice.{IsQuiescent, all_ended, is_work}
@@ -28,8 +27,8 @@ use Rattle.gcd_machine.proofs.Lists.{find_passes, found_alone, counted_found, co
 use Rattle.gcd_machine.proofs.Runs.{among_one, same_run_self}
 use Rattle.gcd_machine.proofs.FirstForms.{IsFirstPlan, serial_queue}
 use Rattle.gcd_machine.proofs.Plain.{nothing_due, nothing_live}
-use Rattle.gcd_machine.proofs.Steps.{Step, StartFacts, ActFacts, EndFacts, starts, acts, ends, halts, step_of}
-use Rattle.gcd_machine.proofs.Facts.{Facts, facts_of, queued_of, main_submitted, open_parts, own_is_open}
+use Rattle.gcd_machine.proofs.Steps.{Step, starts, acts, ends, halts, step_of}
+use Rattle.gcd_machine.proofs.Facts.{Facts, queued_of, open_parts, own_is_open}
 use Rattle.gcd_machine.proofs.Judged.{first_plan, facts_at, first_is}
 use Rattle.gcd_machine.proofs.Chosen.{IsGoing, found_has, act_permitted, end_permitted, start_main, start_first}
 

@@ -1,9 +1,9 @@
 -- What a lawful history of a plan of the first forms keeps: each block is submitted once, begins after its submission, is
 -- open from its start to its end, and has acted only since it began.
-use Rattle.std.proofs.Common.{◌≡◌, ℕ, suc, ◌+◌, ◌<◌, ◌≤◌, ◌==◌, ◌⊎◌, inl, inr, Bool, true, false, not, ◌&&◌, ◌||◌, cond, List, [], ◌∷◌, ◌++◌, length, filter, Option, Some, None, find, is_some, refl, ap, sym, ◌∙◌, subst, arith, ⊎_elim, eq-eqb, ne_eqb}
-use Rattle.std.specs.List.{slice_get, list_any, count_by}
+use Rattle.std.proofs.Common.{◌≡◌, ℕ, ◌+◌, ◌<◌, ◌≤◌, ◌==◌, ◌⊎◌, inl, inr, Bool, true, false, not, ◌&&◌, ◌||◌, cond, List, [], ◌∷◌, ◌++◌, filter, Option, Some, None, find, is_some, refl, ap, sym, ◌∙◌, subst, arith, ⊎_elim, eq-eqb, ne_eqb}
+use Rattle.std.specs.List.{count_by}
 use Rattle.std.specs.Option.{option_map_or, option_or}
-use Rattle.std.proofs.lemmas.Bool.{and_parts, and_from, or_cases, or_parts, or_left, or_right, both_ways, eqb-true, cases_eq, ltb-true, false_from_ne_true, not_from_true}
+use Rattle.std.proofs.lemmas.Bool.{and_parts, or_cases, or_parts, or_right, both_ways, eqb-true, cases_eq, ltb-true, false_from_ne_true, not_from_true}
 use Rattle.std.proofs.lemmas.List.{append-nil}
 use Rattle.std.proofs.lemmas.List.Folds.{find-append, list_any-append}
 use Rattle.std.proofs.lemmas.Option.{same_Some}
@@ -19,10 +19,10 @@ use Rattle.gcd_plan.specs.declared.names.Run.TheVariants.{Block, Source}
 use Rattle.gcd_event.specs.declared.event.Event.{Event}
 use Rattle.gcd_event.specs.declared.event.Event.TheVariants.{Start, Act as Acted, End, Halt}
 use Rattle.gcd_history.specs.declared.submission.Submission.{Submission}
-use Rattle.gcd_history.specs.Runs.{act_of, act_at, same_run, open_runs, is_open, acts_done, last_worker, is_started, is_ended}
+use Rattle.gcd_history.specs.Runs.{act_of, same_run, open_runs, is_open, acts_done, last_worker, is_started, is_ended}
 use Rattle.gcd_history.specs.Submitted.{submitted, submission_of, submitted_by, main_submission, on_node}
 use Rattle.gcd_history.specs.Parked.{has_run}
-use Rattle.gcd_history.specs.Permitted.{why, IsLawful}
+use Rattle.gcd_history.specs.Permitted.{IsLawful}
 use Rattle.gcd_machine.proofs.Lists.{find_passes, count_unfound, count_push, count_kept, count_dropped, any_of_fewer, any_counted}
 use Rattle.gcd_machine.proofs.FirstForms.{IsFirstPlan}
 use Rattle.gcd_machine.proofs.Plain.{submitted_more, has_run_is}

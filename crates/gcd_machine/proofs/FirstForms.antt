@@ -1,11 +1,11 @@
 -- What a plan of the first forms has: root, serial queues on it, and acts that submit blocks to them.
-use Rattle.std.proofs.Common.{◌≡◌, ℕ, zero, suc, ◌+◌, ◌<◌, ◌≤◌, ◌==◌, ◌⊎◌, inl, inr, Bool, true, false, not, ◌&&◌, List, [], ◌∷◌, length, get_or, Option, Some, None, refl, ap, sym, ◌∙◌, subst, arith, ⊎_elim}
+use Rattle.std.proofs.Common.{◌≡◌, ℕ, zero, suc, ◌<◌, ◌≤◌, ◌==◌, ◌⊎◌, inl, inr, Bool, true, false, ◌&&◌, List, [], ◌∷◌, length, Option, Some, None, refl, ap, sym, ◌∙◌, subst, arith, ⊎_elim}
 use Rattle.std.specs.List.{slice_get, list_all}
 use Rattle.std.specs.Option.{option_map, option_map_or, option_and_then, is_none}
-use Rattle.std.proofs.lemmas.Bool.{and_parts, eqb-true, ltb-true, both_ways, not-true}
+use Rattle.std.proofs.lemmas.Bool.{and_parts, eqb-true, both_ways}
 use Rattle.std.proofs.lemmas.Option.{slice_get_within, same_Some}
 use Rattle.std.proofs.lemmas.List.{nil_from_length}
-use Rattle.gcd_plan.specs.PlanView.{PlanView, ObjView, BlkView, kind_of, first_target, starts_active, cancel_block, acts_of}
+use Rattle.gcd_plan.specs.PlanView.{PlanView, ObjView, kind_of, first_target, starts_active, cancel_block, acts_of}
 use Rattle.gcd_plan.specs.Kinds.{has_kind, is_queue}
 use Rattle.gcd_plan.specs.Validity.{IsPlan, root_view, is_object, is_block, is_act, has_fields, has_path, is_kind, is_submittable}
 use Rattle.gcd_plan.specs.FirstForms.{IsOfFirstForms, is_plain_queue, is_serial_kind, is_first_act, is_first_block, after_root, is_first_work}
@@ -18,7 +18,7 @@ use Rattle.gcd_plan.specs.declared.names.Obj.{Obj}
 use Rattle.gcd_plan.specs.declared.names.Run.{Run}
 use Rattle.gcd_plan.specs.declared.names.Run.TheVariants.{Block, Source}
 use Rattle.gcd_event.specs.declared.event.Event.{Event}
-use Rattle.gcd_event.specs.declared.event.Event.TheVariants.{Start, Act as Acted, Wake, End, Deliver, DeliverEnd, Tick, Ready, FeedEnd, Misuse, Halt}
+use Rattle.gcd_event.specs.declared.event.Event.TheVariants.{Act as Acted}
 use Rattle.gcd_history.specs.Runs.{act_at, act_of}
 
 -- a plan that is valid and of the first forms

@@ -1,38 +1,35 @@
 -- What the arrays tell is what the history says.
-use Rattle.std.proofs.Common.{◌≡◌, ℕ, zero, suc, ◌+◌, ◌<◌, ◌≤◌, ◌==◌, nat_lt, nat_le, Bool, true, false, not, ◌&&◌, ◌||◌, cond, List, [], ◌∷◌, ◌++◌, length, map, filter, Option, Some, None, find, refl, ap, sym, ◌∙◌, subst, arith, ⊎_elim, eq-eqb, ne_eqb}
-use Rattle.std.specs.List.{slice_get, list_any, count_by}
-use Rattle.std.specs.Option.{option_map, option_map_or, option_and_then, is_some, is_none}
-use Rattle.std.proofs.lemmas.Bool.{and_parts, and_from, both_ways, cases_Bool, not-true, not-false, eqb-true, cases_eq}
-use Rattle.std.proofs.lemmas.Option.{slice_get-map, same_Some}
-use Rattle.gcd_plan.specs.PlanView.{PlanView}
+use Rattle.std.proofs.Common.{◌≡◌, ℕ, ◌==◌, nat_lt, nat_le, Bool, true, false, not, ◌&&◌, ◌||◌, cond, List, [], ◌∷◌, filter, Some, None, find, refl, ap, sym, ◌∙◌, subst, arith, ⊎_elim, eq-eqb, ne_eqb}
+use Rattle.std.specs.List.{slice_get}
+use Rattle.std.specs.Option.{option_map, option_map_or, option_and_then, is_some}
+use Rattle.std.proofs.lemmas.Bool.{and_parts, and_from, not-true, not-false, cases_eq}
+use Rattle.std.proofs.lemmas.Option.{slice_get-map}
 use Rattle.gcd_plan.specs.Kinds.{is_source, has_kind}
 use Rattle.gcd_plan.specs.FirstForms.{is_serial_kind}
 use Rattle.gcd_lists.specs.ListsView.{list_at}
-use Rattle.gcd_plan.specs.StartRule.{first_of, start_reasons, is_held, is_excluded}
+use Rattle.gcd_plan.specs.StartRule.{first_of, is_held, is_excluded}
 use Rattle.gcd_plan.specs.declared.names.Blk.{Blk}
 use Rattle.gcd_plan.specs.declared.names.Obj.{Obj}
-use Rattle.gcd_plan.specs.declared.names.Run.{Run}
 use Rattle.gcd_plan.specs.declared.names.Run.TheVariants.{Block, Source}
 use Rattle.gcd_plan.specs.declared.why.Why.{Why}
-use Rattle.gcd_plan.specs.declared.why.Why.TheVariants.{Over, NoSuch, Busy, Unready, Behind, NotFree, Excluded, Fenced, NotOwn, NotNext, IsMisuse, NotParked, Waiting, NotDue, NotLive, NotMisuse}
+use Rattle.gcd_plan.specs.declared.why.Why.TheVariants.{Over, NoSuch, Busy, Unready, Behind, NotFree, Excluded, Fenced, NotOwn, NotNext, IsMisuse, NotParked, NotDue, NotMisuse}
 use Rattle.gcd_event.specs.declared.event.Event.{Event}
 use Rattle.gcd_event.specs.declared.event.Event.TheVariants.{Start, Act as Acted, Wake, End, Deliver, DeliverEnd, Tick, Ready, FeedEnd, Misuse, Halt}
 use Rattle.gcd_history.specs.declared.submission.Submission.{Submission}
-use Rattle.gcd_history.specs.Runs.{same_run, open_runs, is_open, acts_done, act_at, last_worker, is_started, is_ended}
+use Rattle.gcd_history.specs.Runs.{open_runs, acts_done, act_at, is_started}
 use Rattle.gcd_history.specs.Submitted.{submitted, submission_of, main_submission}
 use Rattle.gcd_history.specs.Tree.{is_run_on, is_open_on, chain}
-use Rattle.gcd_history.specs.Parked.{has_run, is_busy, is_parked, may_wake}
+use Rattle.gcd_history.specs.Parked.{has_run, is_busy, is_parked}
 use Rattle.gcd_history.specs.Timers.{may_tick}
-use Rattle.gcd_history.specs.Permitted.{is_halted, is_known, is_worker, has_block, is_run_of, is_feed, is_ready, is_on, waits_on, is_behind, is_fenced, knowledge, waiting_reasons, node_reasons, is_next, has_act_left, misuse_at, reasons, why}
+use Rattle.gcd_history.specs.Permitted.{is_halted, is_known, is_worker, has_block, is_ready, is_on, waits_on, is_behind, is_fenced, knowledge, waiting_reasons, node_reasons, is_next, has_act_left, misuse_at, reasons, why}
 use Rattle.gcd_machine.specs.MachineView.{MachineView, progress, at_worker, at_queue}
-use Rattle.gcd_machine.specs.Keeps.{Keeps, progress_of, is_last, run_list, waiter}
+use Rattle.gcd_machine.specs.Keeps.{Keeps, is_last, run_list, waiter}
 use Rattle.gcd_machine.specs.Kept.{is_waiting, is_blk, is_first, queue_reasons, is_next_act, kept_reasons, kept_why}
-use Rattle.gcd_machine.specs.declared.progress.Progress.{Progress}
-use Rattle.gcd_machine.proofs.Lists.{find_first, find_passes, before_first_waiting, counted_found, count_unfound}
+use Rattle.gcd_machine.proofs.Lists.{find_first, before_first_waiting, counted_found, count_unfound}
 use Rattle.gcd_machine.proofs.Runs.{filter_alike_in, any_filtered, among_one}
 use Rattle.gcd_machine.proofs.FirstForms.{IsFirstPlan, serial_queue}
 use Rattle.gcd_machine.proofs.Plain.{has_run_is, held_none, excluded_is_on, fenced_none, no_parked, no_sources, no_feeds, no_ticks, no_misuses}
-use Rattle.gcd_machine.proofs.Facts.{Facts, facts_of, main_submitted, named, queued_of, IsQueued}
+use Rattle.gcd_machine.proofs.Facts.{Facts, facts_of, main_submitted, named, queued_of}
 
 pub first_plan : (m : MachineView) (past : List Event) → Keeps m past → IsFirstPlan m.plan
 first_plan m past keeps = record { valid = keeps.valid; forms = keeps.forms }

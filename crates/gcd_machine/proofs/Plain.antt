@@ -1,7 +1,7 @@
 -- What the definitions say of histories of a plan of the first forms, whatever events they are of: nothing is held, moved,
 -- parked, cancelled, due or a misuse.
-use Rattle.std.proofs.Common.{◌≡◌, ℕ, zero, suc, ◌+◌, ◌-◌, ◌<◌, ◌≤◌, ◌==◌, nat_lt, nat_le, Bool, true, false, not, ◌&&◌, ◌||◌, cond, eqb, List, [], ◌∷◌, ◌++◌, length, map, filter, Option, Some, None, find, refl, ap, sym, ◌∙◌, subst, arith, ⊎_elim, eq-eqb, ne_eqb}
-use Rattle.std.specs.List.{slice_get, list_any, list_all, flat_map, count_by, range_with_len}
+use Rattle.std.proofs.Common.{◌≡◌, ℕ, zero, suc, ◌+◌, ◌-◌, ◌<◌, ◌≤◌, ◌==◌, nat_lt, nat_le, Bool, true, false, not, ◌&&◌, ◌||◌, cond, List, [], ◌∷◌, ◌++◌, length, Option, Some, None, find, refl, ap, sym, ◌∙◌, arith, ⊎_elim, ne_eqb}
+use Rattle.std.specs.List.{list_any, flat_map, count_by, range_with_len}
 use Rattle.std.specs.Option.{option_map, option_map_or, option_and_then, is_none, is_some}
 use Rattle.std.proofs.lemmas.List.{append-nil}
 use Rattle.std.proofs.lemmas.List.Sums.{sum_by-cons}
@@ -10,19 +10,18 @@ use Rattle.gcd_plan.specs.PlanView.{PlanView, first_target, starts_active, cance
 use Rattle.gcd_plan.specs.Kinds.{has_kind, is_source, is_exclusive, has_barriers, is_exclusive_kind, is_source_kind, is_concurrent_kind, is_read_kind}
 use Rattle.gcd_plan.specs.Chains.{chain_by, is_in}
 use Rattle.gcd_plan.specs.StartRule.{is_held, is_excluded}
-use Rattle.gcd_plan.specs.FirstForms.{is_serial_kind}
 use Rattle.gcd_plan.specs.declared.act.Act.{Act}
 use Rattle.gcd_plan.specs.declared.act.Act.TheVariants.{Async}
 use Rattle.gcd_plan.specs.declared.names.Blk.{Blk}
 use Rattle.gcd_plan.specs.declared.names.Obj.{Obj}
 use Rattle.gcd_plan.specs.declared.names.Run.{Run}
-use Rattle.gcd_plan.specs.declared.names.Run.TheVariants.{Block, Source}
+use Rattle.gcd_plan.specs.declared.names.Run.TheVariants.{Block}
 use Rattle.gcd_event.specs.declared.event.Event.{Event}
-use Rattle.gcd_event.specs.declared.event.Event.TheVariants.{Start, Act as Acted, Wake, End, Deliver, DeliverEnd, Tick, Ready, FeedEnd, Misuse, Halt}
+use Rattle.gcd_event.specs.declared.event.Event.TheVariants.{Act as Acted, Wake}
 use Rattle.gcd_history.specs.Runs.{act_at, act_of, opens, same_run, open_runs, is_open, last_worker}
 use Rattle.gcd_history.specs.Groups.{count}
 use Rattle.gcd_history.specs.Submitted.{submitted, submitted_by, submissions, cancels, at_cancel, is_cancelled, registered, notify_blocks, at_empty, on_node}
-use Rattle.gcd_history.specs.Tree.{Aim, aim, aim_after, asked, settled, target, is_moving, chain, chain_of_run, node_of, is_run_on, is_open_on, is_open_beneath}
+use Rattle.gcd_history.specs.Tree.{aim, aim_after, asked, target, is_moving, chain, chain_of_run, node_of, is_run_on, is_open_on, is_open_beneath}
 use Rattle.gcd_history.specs.Holds.{hold, hold_after, activates, is_active, is_free}
 use Rattle.gcd_history.specs.Parked.{reason_of, parked_by, reason, is_parked, has_run}
 use Rattle.gcd_history.specs.Timers.{activated_at, is_due, is_any_due, next_due, may_tick, now}
@@ -30,7 +29,7 @@ use Rattle.gcd_history.specs.Sources.{is_live}
 use Rattle.gcd_history.specs.Misuses.{retains, releases, refs, is_released, misuse}
 use Rattle.gcd_history.specs.Permitted.{misuse_at, is_fenced, knowledge}
 use Rattle.gcd_history.proofs.Lists.{list_any_same}
-use Rattle.gcd_machine.proofs.FirstForms.{IsFirstPlan, Submits, submits_at, submits_of, no_such_kind, all_on_root, all_active, no_cancel_blocks, serial_queue, IsQueueAt}
+use Rattle.gcd_machine.proofs.FirstForms.{IsFirstPlan, Submits, submits_at, submits_of, no_such_kind, all_on_root, all_active, no_cancel_blocks, IsQueueAt}
 
 -- what a function of an act gives where it gives the same for no act and for a plain submission
 pub of_act : {X : Type 0} (plan : PlanView) (f : Option Act → X) (x : X) (act : Option Act) → Submits plan act → f None ≡ x

@@ -1,15 +1,14 @@
 -- Two acts of blocks at different places submit different blocks.
-use Rattle.std.proofs.Common.{◌≡◌, ℕ, zero, suc, ◌+◌, ◌<◌, ◌≤◌, ◌==◌, Bool, true, false, cond, List, [], ◌∷◌, ◌++◌, length, get_or, Option, Some, None, refl, ap, sym, ◌∙◌, subst, arith, ⊎_elim, eq-eqb}
+use Rattle.std.proofs.Common.{◌≡◌, ℕ, ◌<◌, ◌≤◌, ◌==◌, Bool, true, false, cond, List, [], ◌++◌, get_or, Some, None, refl, ap, sym, ◌∙◌, subst, arith, ⊎_elim}
 use Rattle.std.specs.List.{slice_get, flat_map, sum_by, count_by}
 use Rattle.std.specs.Option.{option_map_or, option_to_list}
 use Rattle.std.proofs.lemmas.Bool.{cases_lt, cases_eq}
 use Rattle.std.proofs.lemmas.List.Sums.{sum_by-append, get_or-le-sum_by}
 use Rattle.std.proofs.lemmas.Option.{slice_get_within, get_or_from_slice_get, same_Some}
-use Rattle.gcd_plan.specs.PlanView.{PlanView, BlkView, acts_of}
-use Rattle.gcd_plan.specs.Validity.{IsPlan, block_of, blocks_of, submitted_blocks}
+use Rattle.gcd_plan.specs.PlanView.{PlanView, BlkView}
+use Rattle.gcd_plan.specs.Validity.{IsPlan, block_of, blocks_of}
 use Rattle.gcd_plan.specs.declared.act.Act.{Act}
 use Rattle.gcd_plan.specs.declared.names.Blk.{Blk}
-use Rattle.gcd_plan.specs.declared.names.Obj.{Obj}
 use Rattle.gcd_plan.specs.declared.names.Run.TheVariants.{Block}
 use Rattle.gcd_plan.proofs.Lists.{count_by-flat_map}
 use Rattle.gcd_plan.proofs.Once.{count_found}

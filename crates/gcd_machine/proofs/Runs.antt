@@ -1,8 +1,8 @@
 -- Lists of runs.
-use Rattle.std.proofs.Common.{◌≡◌, ℕ, zero, suc, ◌+◌, ◌<◌, ◌≤◌, ◌==◌, Bool, true, false, not, ◌&&◌, ◌||◌, cond, List, [], ◌∷◌, ◌++◌, length, filter, Option, Some, None, refl, ap, sym, ◌∙◌, subst, arith, ⊎_elim, eq-eqb, ne_eqb}
-use Rattle.std.specs.List.{slice_get, list_any, count_by}
-use Rattle.std.specs.Option.{option_map, option_map_or, option_to_list, is_some}
-use Rattle.std.proofs.lemmas.Bool.{and_parts, and_from, and_left, or_cases, or_left, or_right, both_ways, eqb-true, cases_eq, cases_Bool, false_from_ne_true}
+use Rattle.std.proofs.Common.{◌≡◌, ℕ, ◌==◌, Bool, true, false, not, ◌&&◌, ◌||◌, cond, List, [], ◌∷◌, filter, Option, Some, None, refl, ap, sym, ◌∙◌, ⊎_elim, eq-eqb, ne_eqb}
+use Rattle.std.specs.List.{slice_get, list_any}
+use Rattle.std.specs.Option.{option_map_or, is_some}
+use Rattle.std.proofs.lemmas.Bool.{or_left, or_right, eqb-true, cases_eq}
 use Rattle.gcd_plan.specs.declared.names.Blk.{Blk}
 use Rattle.gcd_plan.specs.declared.names.Run.{Run}
 use Rattle.gcd_plan.specs.declared.names.Run.TheVariants.{Block, Source}

@@ -1,7 +1,7 @@
 -- What a machine shows of each history that it stands for.
-use Rattle.std.proofs.Common.{◌≡◌, ℕ, zero, suc, ◌+◌, ◌*◌, ◌-◌, ◌<◌, ◌≤◌, ◌==◌, Bool, true, false, not, ◌&&◌, ◌||◌, cond, List, [], ◌∷◌, ◌++◌, length, get_or, codes, map, filter, replicate, reverse, Option, Some, None, find, refl, ap, sym, ◌∙◌, subst, arith, ⊎_elim, IsTrue}
-use Rattle.std.specs.List.{slice_get, list_any, list_all, count_by, sum_by, All}
-use Rattle.std.specs.Option.{option_map, option_map_or, option_and_then, is_some, is_none, IfSome}
+use Rattle.std.proofs.Common.{◌≡◌, ℕ, ◌+◌, ◌*◌, ◌<◌, ◌≤◌, ◌==◌, Bool, true, false, ◌&&◌, cond, List, [], ◌∷◌, length, get_or, codes, replicate, reverse, Option, Some, None, refl, ap, sym, ◌∙◌, subst, arith, ⊎_elim}
+use Rattle.std.specs.List.{slice_get, list_all, count_by, sum_by}
+use Rattle.std.specs.Option.{option_map, option_and_then, is_some, is_none, IfSome}
 use Rattle.std.proofs.lemmas.Bool.{and_parts, and_from, cases_lt}
 use Rattle.std.proofs.lemmas.List.{length-reverse, length-replicate, get_or-replicate, get_or_past, reverse-append, reverse-reverse}
 use Rattle.std.proofs.lemmas.List.Sums.{sum_by-cons}
@@ -12,11 +12,10 @@ use Rattle.gcd_plan.specs.Validity.{IsPlan}
 use Rattle.gcd_plan.specs.FirstForms.{IsOfFirstForms}
 use Rattle.gcd_plan.specs.declared.names.Blk.{Blk}
 use Rattle.gcd_plan.specs.declared.names.Obj.{Obj}
-use Rattle.gcd_plan.specs.declared.names.Run.{Run}
 use Rattle.gcd_event.specs.declared.event.Event.{Event}
 use Rattle.gcd_history.specs.declared.submission.Submission.{Submission}
 use Rattle.gcd_history.specs.Runs.{open_runs, act_of}
-use Rattle.gcd_history.specs.Submitted.{submitted, submission_of, main_submission}
+use Rattle.gcd_history.specs.Submitted.{submission_of, main_submission}
 use Rattle.gcd_history.specs.Parked as parked
 use Rattle.gcd_history.specs.Permitted as permitted
 use Rattle.gcd_history.specs.Choice as choice
@@ -24,7 +23,7 @@ use Rattle.gcd_history.specs.History.{why, choice_of, running_of, first_waiting_
 use Rattle.gcd_history.specs.Ends.{is_halted, IsDrained, IsQuiescent, all_ended, ends_in_halt, HasState}
 use Rattle.gcd_history.specs.declared.state.State.TheVariants.{Drained, Halted, Live}
 use Rattle.gcd_history.proofs.LawfulLemmas.{lawful_none, lawful_more}
-use Rattle.gcd_machine.specs.MachineView.{MachineView, idle, progress, at_worker, at_queue}
+use Rattle.gcd_machine.specs.MachineView.{MachineView, idle, progress}
 use Rattle.gcd_machine.specs.Keeps.{Keeps, IsShaped, progress_of, run_list, waiter, events_of}
 use Rattle.gcd_machine.specs.Kept.{kept_why, kept_choice}
 use Rattle.gcd_machine.specs.Stands.{StandsFor}
@@ -34,7 +33,7 @@ use Rattle.gcd_machine.specs.declared.progress.Progress.{Progress}
 use Rattle.gcd_machine.proofs.Plain.{parked_none}
 use Rattle.gcd_machine.proofs.Changed.{progress_by}
 use Rattle.gcd_machine.proofs.Judged.{first_plan, why_is, first_is}
-use Rattle.gcd_machine.proofs.Chosen.{choice_is, choice_own, choice_permitted}
+use Rattle.gcd_machine.proofs.Chosen.{choice_is, choice_permitted}
 use Rattle.gcd_machine.proofs.Ending.{drained_is, live_is, halt_is, alone_drained}
 
 -- what is true of the machine's own plan is true of the plan that it stands for

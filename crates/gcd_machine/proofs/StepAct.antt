@@ -1,10 +1,9 @@
 -- The arrays after an act hold the history with the act.
-use Rattle.std.proofs.Common.{◌≡◌, ℕ, zero, suc, ◌+◌, ◌-◌, ◌<◌, ◌≤◌, ◌==◌, nat_lt, Bool, true, false, not, ◌&&◌, ◌||◌, cond, List, [], ◌∷◌, ◌++◌, length, get_or, set, map, filter, Option, Some, None, find, refl, ap, sym, ◌∙◌, subst, arith, ⊎_elim, eq-eqb, ne_eqb}
-use Rattle.std.specs.List.{slice_get, list_any, count_by, sum_by}
+use Rattle.std.proofs.Common.{◌≡◌, ℕ, suc, ◌+◌, ◌<◌, ◌==◌, nat_lt, Bool, true, false, not, ◌&&◌, cond, List, [], ◌∷◌, ◌++◌, length, get_or, set, map, filter, Option, Some, None, find, refl, ap, sym, ◌∙◌, subst, arith, eq-eqb, ne_eqb}
+use Rattle.std.specs.List.{count_by, sum_by}
 use Rattle.std.specs.Option.{option_map, option_map_or, option_and_then, option_or, is_some}
-use Rattle.std.proofs.lemmas.Bool.{and_parts, and_from, and_left, both_ways, cases_eq, eqb-true, not-true, ltb-true, false_from_ne_true}
+use Rattle.std.proofs.lemmas.Bool.{and_parts, both_ways, eqb-true, ltb-true, false_from_ne_true}
 use Rattle.std.proofs.lemmas.List.{length-set, append-nil, map_push}
-use Rattle.std.proofs.lemmas.Option.{same_Some}
 use Rattle.gcd_plan.specs.PlanView.{PlanView}
 use Rattle.gcd_plan.specs.declared.names.Blk.{Blk}
 use Rattle.gcd_plan.specs.declared.names.Obj.{Obj}
@@ -13,14 +12,14 @@ use Rattle.gcd_plan.specs.declared.names.Run.TheVariants.{Block, Source}
 use Rattle.gcd_event.specs.declared.event.Event.{Event}
 use Rattle.gcd_event.specs.declared.event.Event.TheVariants.{Act as Acted}
 use Rattle.gcd_history.specs.declared.submission.Submission.{Submission}
-use Rattle.gcd_history.specs.Runs.{same_run, open_runs, is_open, acts_done, last_worker, is_started, is_ended}
+use Rattle.gcd_history.specs.Runs.{open_runs, is_open, acts_done, is_started, is_ended}
 use Rattle.gcd_history.specs.Submitted.{submitted, submission_of, submitted_by, on_node}
-use Rattle.gcd_history.specs.Tree.{is_run_on, node_of}
-use Rattle.gcd_history.specs.Permitted.{is_on, waits_on, why}
-use Rattle.gcd_machine.specs.MachineView.{MachineView, idle, progress, at_worker, at_queue}
-use Rattle.gcd_machine.specs.Keeps.{Keeps, IsShaped, progress_of, is_last, run_list, waiter, events_of}
-use Rattle.gcd_machine.specs.Kept.{after_act, with_progress}
-use Rattle.gcd_lists.specs.ListsView.{ListsView, list_at, barrier_in, place_from, place_of}
+use Rattle.gcd_history.specs.Tree.{is_run_on}
+use Rattle.gcd_history.specs.Permitted.{waits_on, why}
+use Rattle.gcd_machine.specs.MachineView.{MachineView, idle, progress, at_queue}
+use Rattle.gcd_machine.specs.Keeps.{Keeps, IsShaped, progress_of, run_list, waiter, events_of}
+use Rattle.gcd_machine.specs.Kept.{after_act}
+use Rattle.gcd_lists.specs.ListsView.{list_at, barrier_in, place_from, place_of}
 use Rattle.gcd_machine.specs.declared.progress.Progress.{Progress}
 use Rattle.gcd_machine.proofs.Lists.{filter-append, count_push}
 use Rattle.gcd_machine.proofs.Runs.{filter_alike_in}

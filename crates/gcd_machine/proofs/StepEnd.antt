@@ -1,12 +1,11 @@
 -- The arrays after an End, and after a Halt, hold the history with it.
-use Rattle.std.proofs.Common.{◌≡◌, ℕ, zero, suc, ◌+◌, ◌-◌, ◌<◌, ◌≤◌, ◌==◌, Bool, true, false, not, ◌&&◌, ◌||◌, cond, List, [], ◌∷◌, ◌++◌, length, get_or, set, map, filter, Option, Some, None, find, refl, ap, sym, ◌∙◌, subst, arith, ⊎_elim, eq-eqb, ne_eqb}
-use Rattle.std.specs.List.{slice_get, list_any, count_by, sum_by}
+use Rattle.std.proofs.Common.{◌≡◌, ℕ, ◌+◌, ◌-◌, ◌<◌, ◌==◌, Bool, true, false, not, ◌&&◌, ◌||◌, cond, List, [], ◌∷◌, length, get_or, map, filter, Option, Some, None, refl, ap, sym, ◌∙◌, arith, eq-eqb}
+use Rattle.std.specs.List.{count_by}
 use Rattle.std.specs.Option.{option_map, option_map_or, option_and_then, is_some}
-use Rattle.std.proofs.lemmas.Bool.{and_parts, both_ways, cases_eq, eqb-true, eqb-false}
+use Rattle.std.proofs.lemmas.Bool.{and_parts, eqb-true}
 use Rattle.std.proofs.lemmas.List.{length-set}
 use Rattle.std.proofs.lemmas.List.Sums.{length-filter}
 use Rattle.std.proofs.lemmas.List.Filters.{length-filter_both}
-use Rattle.std.proofs.lemmas.Option.{same_Some}
 use Rattle.gcd_plan.specs.PlanView.{PlanView}
 use Rattle.gcd_plan.specs.declared.names.Blk.{Blk}
 use Rattle.gcd_plan.specs.declared.names.Obj.{Obj}
@@ -15,15 +14,14 @@ use Rattle.gcd_plan.specs.declared.names.Run.TheVariants.{Block, Source}
 use Rattle.gcd_event.specs.declared.event.Event.{Event}
 use Rattle.gcd_event.specs.declared.event.Event.TheVariants.{End, Halt}
 use Rattle.gcd_history.specs.declared.submission.Submission.{Submission}
-use Rattle.gcd_history.specs.Runs.{same_run, open_runs, is_open, acts_done, last_worker, is_started, is_ended}
+use Rattle.gcd_history.specs.Runs.{same_run, open_runs, is_open, last_worker, is_started, is_ended}
 use Rattle.gcd_history.specs.Submitted.{submitted, submission_of}
 use Rattle.gcd_history.specs.Tree.{is_run_on}
 use Rattle.gcd_history.specs.Parked.{has_run}
 use Rattle.gcd_history.specs.Permitted.{waits_on, why, is_halted}
-use Rattle.gcd_machine.specs.MachineView.{MachineView, idle, progress, at_worker, at_queue}
+use Rattle.gcd_machine.specs.MachineView.{MachineView, progress, at_worker, at_queue}
 use Rattle.gcd_machine.specs.Keeps.{Keeps, IsShaped, progress_of, is_last, run_list, waiter, events_of}
-use Rattle.gcd_machine.specs.Kept.{after_end, after_halt, with_progress, with_open}
-use Rattle.gcd_lists.specs.ListsView.{list_at}
+use Rattle.gcd_machine.specs.Kept.{after_end, after_halt, with_open}
 use Rattle.gcd_machine.specs.declared.progress.Progress.{Progress}
 use Rattle.gcd_machine.proofs.Lists.{filter_alike, counted_found, sum_by_same}
 use Rattle.gcd_machine.proofs.Runs.{one_left}

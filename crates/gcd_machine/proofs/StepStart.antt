@@ -1,8 +1,8 @@
 -- The arrays after a Start hold the history with the Start.
-use Rattle.std.proofs.Common.{◌≡◌, ℕ, zero, suc, ◌+◌, ◌-◌, ◌<◌, ◌≤◌, ◌==◌, Bool, true, false, not, ◌&&◌, ◌||◌, cond, List, [], ◌∷◌, ◌++◌, length, get_or, set, drop, map, filter, Option, Some, None, find, refl, ap, sym, ◌∙◌, subst, arith, ⊎_elim, eq-eqb, ne_eqb}
-use Rattle.std.specs.List.{slice_get, list_any, count_by, sum_by}
+use Rattle.std.proofs.Common.{◌≡◌, ℕ, ◌+◌, ◌<◌, ◌==◌, Bool, true, false, not, ◌&&◌, ◌||◌, cond, List, [], ◌∷◌, ◌++◌, length, get_or, drop, map, filter, Option, Some, None, find, refl, ap, sym, ◌∙◌, subst, arith, eq-eqb}
+use Rattle.std.specs.List.{count_by}
 use Rattle.std.specs.Option.{option_map, option_map_or, option_and_then, is_some}
-use Rattle.std.proofs.lemmas.Bool.{and_parts, and_from, and_left, both_ways, cases_eq, eqb-true, not-true, not-false}
+use Rattle.std.proofs.lemmas.Bool.{and_from, and_left, eqb-true, not-false}
 use Rattle.std.proofs.lemmas.List.{length-set, length_push, append-nil, drop-map}
 use Rattle.std.proofs.lemmas.Option.{same_Some}
 use Rattle.gcd_plan.specs.PlanView.{PlanView}
@@ -15,23 +15,23 @@ use Rattle.gcd_plan.specs.declared.why.Why.TheVariants.{Behind, Excluded}
 use Rattle.gcd_event.specs.declared.event.Event.{Event}
 use Rattle.gcd_event.specs.declared.event.Event.TheVariants.{Start}
 use Rattle.gcd_history.specs.declared.submission.Submission.{Submission}
-use Rattle.gcd_history.specs.Runs.{same_run, open_runs, is_open, acts_done, last_worker, is_started, is_ended}
-use Rattle.gcd_history.specs.Submitted.{submitted, submission_of, main_submission}
-use Rattle.gcd_history.specs.Tree.{is_run_on, node_of}
-use Rattle.gcd_history.specs.Permitted.{is_on, is_ready, waits_on, why, is_halted}
+use Rattle.gcd_history.specs.Runs.{same_run, open_runs, acts_done, last_worker, is_started, is_ended}
+use Rattle.gcd_history.specs.Submitted.{submitted, submission_of}
+use Rattle.gcd_history.specs.Tree.{is_run_on}
+use Rattle.gcd_history.specs.Permitted.{is_on, is_ready, waits_on, why}
 use Rattle.gcd_history.proofs.Reasons.{first_none}
-use Rattle.gcd_machine.specs.MachineView.{MachineView, idle, progress, at_worker, at_queue}
+use Rattle.gcd_machine.specs.MachineView.{MachineView, progress, at_worker, at_queue}
 use Rattle.gcd_machine.specs.Keeps.{Keeps, IsShaped, progress_of, is_last, run_list, waiter, events_of}
-use Rattle.gcd_machine.specs.Kept.{is_first, queue_reasons, after_start, with_progress, with_open, without_first}
-use Rattle.gcd_lists.specs.ListsView.{ListsView, list_at}
+use Rattle.gcd_machine.specs.Kept.{is_first, queue_reasons, after_start, with_open, without_first}
+use Rattle.gcd_lists.specs.ListsView.{list_at}
 use Rattle.gcd_machine.specs.declared.progress.Progress.{Progress}
 use Rattle.gcd_machine.proofs.Lists.{filter-append, filter_alike, found_alone}
 use Rattle.gcd_machine.proofs.Runs.{filter_alike_in, same_run_self}
-use Rattle.gcd_machine.proofs.Waiting.{turned, is_of, is_other, only_one, others_kept, first_dropped}
+use Rattle.gcd_machine.proofs.Waiting.{is_of, is_other, only_one, others_kept, first_dropped}
 use Rattle.gcd_machine.proofs.FirstForms.{IsFirstPlan}
 use Rattle.gcd_machine.proofs.Steps.{StartFacts}
-use Rattle.gcd_machine.proofs.Facts.{Facts, facts_of, submitted_same, submission_same, main_submitted, named}
-use Rattle.gcd_machine.proofs.Judged.{first_plan, facts_at, busy_is, ready_is, node_is, first_is, node_reasons_are}
+use Rattle.gcd_machine.proofs.Facts.{Facts, facts_of, submitted_same, submission_same, named}
+use Rattle.gcd_machine.proofs.Judged.{first_plan, facts_at, busy_is, node_is, first_is, node_reasons_are}
 use Rattle.gcd_machine.proofs.Changed.{progress_by, progress_set, option_set, list_set, events_more, nodes_within, length_open, length_without, blocks_without, known_set, never_open, run_on_is}
 
 -- ## What a Start finds

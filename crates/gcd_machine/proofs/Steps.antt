@@ -1,8 +1,7 @@
 -- Which events may come next in a history of a plan of the first forms: a Start, an act, an End or a Halt, and what is known
 -- at each.
-use Rattle.std.proofs.Common.{◌≡◌, ℕ, ◌+◌, ◌<◌, ◌≤◌, ◌==◌, nat_lt, nat_le, Bool, true, false, not, ◌&&◌, ◌||◌, cond, List, [], ◌∷◌, Option, Some, None, refl, ap, sym, ◌∙◌, subst, arith, ⊎_elim, length}
-use Rattle.std.specs.List.{slice_get}
-use Rattle.std.specs.Option.{option_map_or, is_some, is_none}
+use Rattle.std.proofs.Common.{◌≡◌, ℕ, ◌<◌, ◌≤◌, ◌==◌, nat_lt, nat_le, Bool, true, false, not, ◌&&◌, List, [], ◌∷◌, Option, Some, None, refl, ap, ⊎_elim, length}
+use Rattle.std.specs.Option.{option_map_or, is_some}
 use Rattle.std.proofs.lemmas.Bool.{and_parts, ltb-true, leb-true, not-true, not-false, both_ways, eqb-true}
 use Rattle.gcd_plan.specs.PlanView.{PlanView}
 use Rattle.gcd_plan.specs.Kinds.{has_kind, is_source}
@@ -13,17 +12,15 @@ use Rattle.gcd_plan.specs.declared.act.Act.{Act}
 use Rattle.gcd_plan.specs.declared.act.Act.TheVariants.{Async}
 use Rattle.gcd_plan.specs.declared.names.Blk.{Blk}
 use Rattle.gcd_plan.specs.declared.names.Obj.{Obj}
-use Rattle.gcd_plan.specs.declared.names.Run.{Run}
 use Rattle.gcd_plan.specs.declared.names.Run.TheVariants.{Block, Source}
-use Rattle.gcd_plan.specs.declared.why.Why.TheVariants.{Busy, Unready, NotOwn, NotNext, IsMisuse, NotParked, Waiting, NotDue, NotLive, NotMisuse}
+use Rattle.gcd_plan.specs.declared.why.Why.TheVariants.{Busy, Unready, NotOwn, NotNext, IsMisuse, NotParked, Waiting, NotDue, NotMisuse}
 use Rattle.gcd_event.specs.declared.event.Event.{Event}
 use Rattle.gcd_event.specs.declared.event.Event.TheVariants.{Start, Act as Acted, Wake, End, Deliver, DeliverEnd, Tick, Ready, FeedEnd, Misuse, Halt}
 use Rattle.gcd_history.specs.Runs.{acts_done, act_at, is_started}
 use Rattle.gcd_history.specs.Submitted.{submission_of}
 use Rattle.gcd_history.specs.Parked.{has_run, is_busy, is_parked, may_wake}
 use Rattle.gcd_history.specs.Timers.{may_tick}
-use Rattle.gcd_history.specs.Sources.{is_live}
-use Rattle.gcd_history.specs.Permitted.{is_halted, is_known, is_worker, has_block, is_run_of, is_feed, is_ready, node_reasons, is_next, has_act_left, misuse_at, reasons, why}
+use Rattle.gcd_history.specs.Permitted.{is_halted, is_worker, has_block, is_feed, is_ready, node_reasons, is_next, has_act_left, misuse_at, why}
 use Rattle.gcd_history.proofs.Reasons.{first_none, allowed, Allowed}
 use Rattle.gcd_machine.proofs.FirstForms.{IsFirstPlan, Submits, submits_at}
 use Rattle.gcd_machine.proofs.Plain.{no_parked, no_sources, no_feeds, no_ticks, no_misuses}

@@ -1,11 +1,10 @@
 -- Lists of submissions in which a block stands once.
-use Rattle.std.proofs.Common.{◌≡◌, ℕ, zero, suc, ◌+◌, ◌-◌, ◌<◌, ◌≤◌, ◌==◌, Bool, true, false, not, ◌&&◌, ◌||◌, cond, List, [], ◌∷◌, ◌++◌, length, drop, filter, Option, Some, None, find, refl, ap, sym, ◌∙◌, subst, arith, ⊎_elim, eq-eqb, ne_eqb}
-use Rattle.std.specs.List.{list_any, count_by}
-use Rattle.std.proofs.lemmas.Bool.{and_parts, both_ways, eqb-true, cases_eq, false_from_ne_true}
+use Rattle.std.proofs.Common.{◌≡◌, ℕ, ◌+◌, ◌≤◌, ◌==◌, Bool, true, false, not, ◌&&◌, cond, List, [], ◌∷◌, drop, filter, Some, find, refl, ap, sym, ◌∙◌, arith, ⊎_elim, eq-eqb, ne_eqb}
+use Rattle.std.specs.List.{count_by}
+use Rattle.std.proofs.lemmas.Bool.{both_ways, cases_eq, false_from_ne_true}
 use Rattle.std.proofs.lemmas.Option.{same_Some}
 use Rattle.std.proofs.lemmas.List.Sums.{sum_by-cons}
 use Rattle.gcd_history.specs.declared.submission.Submission.{Submission}
-use Rattle.gcd_machine.proofs.Lists.{count_unfound, sum_by_same}
 
 pub turned : (m n : ℕ) → (m == n) ≡ (n == m)
 turned m n = ⊎_elim (λ same. eq-eqb m n same ∙ sym (eq-eqb n m (sym same))) (λ other. ne_eqb m n other ∙ sym (ne_eqb n m (λ e. other (sym e)))) (cases_eq m n)

@@ -1,6 +1,6 @@
 -- What the arrays of a machine hold of a history, the newest event first: one clause for each, `kept ≡ definition`. No
 -- contract cites this but through `StandsFor`.
-use Rattle.std.specs.Prelude.{◌≡◌, ℕ, ◌+◌, ◌<◌, ◌==◌, Bool, not, false, if◌then◌else◌, List, [], length, map, filter, Option, Some, option_map, option_and_then, is_some, sum_by, count_by}
+use Rattle.std.specs.Prelude.{◌≡◌, ℕ, ◌+◌, ◌<◌, ◌==◌, Bool, not, false, if◌then◌else◌, List, length, map, filter, Option, Some, option_map, option_and_then, is_some, sum_by, count_by}
 use Rattle.std.specs.Option.{option_map_or, option_to_list}
 use Rattle.gcd_plan.specs.PlanView.{PlanView}
 use Rattle.gcd_plan.specs.Validity.{IsPlan}

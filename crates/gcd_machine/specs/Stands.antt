@@ -1,5 +1,5 @@
 -- The histories that a machine stands for, and what may be applied to it.
-use Rattle.std.specs.Prelude.{◌≡◌, ◌<◌, ℕ, List, length, None, reverse}
+use Rattle.std.specs.Prelude.{◌≡◌, ◌<◌, List, length, None, reverse}
 use Rattle.gcd_plan.specs.PlanView.{PlanView}
 use Rattle.gcd_event.specs.declared.event.Event.{Event}
 use Rattle.gcd_history.specs.History.{why}

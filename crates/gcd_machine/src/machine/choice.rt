@@ -2,6 +2,7 @@
 ghost use Rattle.std.specs.Prelude.{◌≡◌, ◌-◌, ◌<◌, ◌≤◌, false, IfSome, IsTrue, List, Option, None, length};
 ghost use Rattle.gcd_plan.specs.PlanView.{PlanView};
 ghost use Rattle.gcd_event.specs.declared.event.Event.{Event};
+ghost use Rattle.gcd_history.specs.Choice.{is_work};
 ghost use Rattle.gcd_history.specs.Ends.{is_halted, IsDrained};
 ghost use Rattle.gcd_history.specs.History.{choice_of, why};
 ghost use Rattle.gcd_machine.specs.MachineView.{progress};
@@ -22,6 +23,7 @@ impl Machine {
         ensures choice { (plan : PlanView) (h : List Event) → StandsFor self.now plan h → result ≡ choice_of plan h worker from }
         ensures permitted { (plan : PlanView) (h : List Event) → StandsFor self.now plan h → IfSome result (λ e. why plan h e ≡ None) }
         ensures own { IfSome result (λ e. worker_of e ≡ worker) }
+        ensures work { IfSome result (λ e. IsTrue (is_work e)) }
 
         // where one worker is alone, it has nothing to record only where all is done
         ensures last { (plan : PlanView) (h : List Event) → StandsFor self.now plan h → worker < 64 → IsTrue (is_all_by worker h)

@@ -1,4 +1,4 @@
-use Rattle.std.proofs.Common.{◌≡◌, ◌<◌, Bool, false, Option, Some, None, is_some, length, take, refl, sym, ◌∙◌, arith}
+use Rattle.std.proofs.Common.{◌≡◌, false, Option, Some, None, is_some, take, refl, sym, ◌∙◌, arith}
 use Rattle.std.proofs.lemmas.List.{length-take-le}
 use Rattle.gcd_machine.proofs.tests.after.Goals as goal
 

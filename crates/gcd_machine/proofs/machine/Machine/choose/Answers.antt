@@ -1,8 +1,9 @@
-use Rattle.std.proofs.Common.{◌≡◌, Option, None, sym, subst, ◌∙◌, IfSome}
+use Rattle.gcd_history.specs.Choice.{is_work}
+use Rattle.std.proofs.Common.{true, ◌≡◌, Option, None, sym, subst, ◌∙◌, IfSome}
 use Rattle.gcd_event.specs.declared.event.Event.{Event}
 use Rattle.gcd_history.specs.History.{why}
 use Rattle.gcd_machine.specs.Workers.{worker_of}
-use Rattle.gcd_machine.proofs.Chosen.{kept_own}
+use Rattle.gcd_machine.proofs.Chosen.{kept_own, kept_work}
 use Rattle.gcd_machine.proofs.Shown.{choice_stands, permitted_stands, last_stands}
 use Rattle.gcd_machine.proofs.machine.Machine.choose.Goals as goal
 
@@ -16,6 +17,9 @@ returns-clause-permitted c = λ plan h stands.
 pub returns-clause-own : goal.returns-clause-own
 returns-clause-own c =
     subst (λ (o : Option Event). IfSome o (λ e. worker_of e ≡ c.args.worker)) (sym c.chosen.ensures) (kept_own c.args.self.now c.args.worker c.args.from)
+
+pub returns-clause-work : goal.returns-clause-work
+returns-clause-work c = subst (λ (o : Option Event). IfSome o (λ e. is_work e ≡ true)) (sym c.chosen.ensures) (kept_work c.args.self.now c.args.worker c.args.from)
 
 pub returns-clause-last : goal.returns-clause-last
 returns-clause-last c = λ plan h stands low all going none.

@@ -1,4 +1,4 @@
-use Rattle.std.proofs.Common.{sym, subst, ◌<◌, length, get_or, arith, IfSome}
+use Rattle.std.proofs.Common.{sym, subst, ◌<◌, length, IfSome}
 use Rattle.gcd_machine.specs.MachineView.{MachineView}
 use Rattle.gcd_machine.specs.Inside.{view_of}
 use Rattle.gcd_machine.proofs.Changed.{node_known}
