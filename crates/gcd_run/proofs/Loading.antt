@@ -1,11 +1,11 @@
 -- What one load saw of a shelf, said of all loads of a call.
-use Rattle.std.proofs.Common.{◌≡◌, ◌≤◌, ◌<◌, ◌⊎◌, ◌∙◌, ℕ, zero, suc, true, List, [], ◌∷◌, ◌++◌, ◌+◌, length, map, take, get_or, Vec, Global, Option, Some, None, option_map, slice_get, refl, ap, sym, subst, inl, inr, arith}
+use Rattle.std.proofs.Common.{◌≡◌, ◌≤◌, ◌<◌, ◌∙◌, ℕ, zero, suc, List, [], ◌∷◌, ◌++◌, ◌+◌, length, map, take, get_or, Vec, Global, Option, Some, option_map, slice_get, refl, ap, sym, subst, inl, inr, arith}
 use Rattle.std.specs.String.{string_bytes}
 use Rattle.std.proofs.lemmas.List.{take_more, take-map, map-append}
 use Rattle.std.proofs.lemmas.Option.{slice_get-map, slice_get-get_or}
 use Rattle.gcd_plan.specs.declared.parts.FilePart.{FilePart}
 use Rattle.gcd_plan.specs.PlanView.{PlanView, FileView, file_view}
-use Rattle.gcd_outer.specs.Outside.{Bytes, ShelfSeen, Lacks, ShelfFailed, IsUnread, IsLonger}
+use Rattle.gcd_outer.specs.Outside.{Bytes, ShelfSeen, IsUnread, IsLonger}
 use Rattle.gcd_run.specs.Loads.{IsLoaded, AreLoaded, IsNextFile, StopsUnread, StopsLonger, file_limit}
 use Rattle.gcd_run.specs.End.{End}
 use Rattle.gcd_run.specs.Ends.{PlanEnds}

@@ -1,21 +1,20 @@
 -- The statuses, from the ways in which the call can end.
-use Rattle.std.proofs.Common.{◌≡◌, ◌≢◌, ◌⊎◌, ◌∙◌, ◌<◌, ◌≤◌, ℕ, true, List, [], ◌∷◌, Option, Some, None, length, reverse, slice_get, ⊎_elim, ap, subst, arith, refl, sym, inl, inr}
+use Rattle.std.proofs.Common.{◌≡◌, ◌≢◌, ◌⊎◌, ◌∙◌, ◌≤◌, ℕ, true, List, Option, Some, None, length, reverse, slice_get, ⊎_elim, ap, subst, arith, refl, sym, inl, inr}
 use Rattle.gcd_plan.specs.PlanView.{PlanView, FileView}
-use Rattle.gcd_event.specs.declared.event.Event.{Event}
 use Rattle.gcd_history.specs.declared.state.State.{State}
 use Rattle.gcd_history.specs.declared.state.State.TheVariants.{Drained, Stuck, Misused, Halted, Live}
 use Rattle.gcd_history.specs.History.{IsLawful}
 use Rattle.gcd_history.specs.Ends.{IsDrained, HasState}
 use Rattle.gcd_history.specs.Report.{report_text}
-use Rattle.gcd_outer.specs.Outside.{Bytes, ShelfSeen, SinkSeen, Lacks, ShelfFailed, SinkFailed, IsUnread, IsLonger, Took}
-use Rattle.gcd_script.specs.Faults.{IsScriptOf, fault_of}
+use Rattle.gcd_outer.specs.Outside.{Bytes, ShelfSeen, SinkSeen, Lacks, ShelfFailed, IsLonger, Took}
+use Rattle.gcd_script.specs.Faults.{fault_of}
 use Rattle.gcd_script.specs.Drafts.{draft_of}
 use Rattle.gcd_script.specs.Lines.{lines_of}
 use Rattle.gcd_run.specs.declared.story.Ended.{Ended}
 use Rattle.gcd_run.specs.Asked.{Asked, RunAsked, request_of, run}
-use Rattle.gcd_run.specs.End.{End, status_of, usage_end, usage_text, read_fault, refused_end, refused_text, ran_end}
+use Rattle.gcd_run.specs.End.{End, status_of, usage_end, usage_text, refused_end}
 use Rattle.gcd_run.specs.Loads.{IsLoaded, AreLoaded, IsNextFile, script_limit, file_limit}
-use Rattle.gcd_run.specs.Ends.{RunEnds, AskedEnds, WordsEnd, IsWritten, CallEnds, InputsSeen, IsScript, IsOver}
+use Rattle.gcd_run.specs.Ends.{RunEnds, AskedEnds, IsWritten, CallEnds, InputsSeen, IsScript}
 use Rattle.gcd_run.specs.Ends.RunEnds.{script_unread, script_longer, script_refused, planned}
 use Rattle.gcd_run.specs.Ends.PlanEnds.{file_unread, file_longer, ran}
 use Rattle.gcd_run.specs.Ends.IsWritten.{whole, cut_off}

@@ -1,5 +1,5 @@
 -- What a turn keeps: the results, and that the run goes on.
-use Rattle.std.proofs.Common.{◌≡◌, ◌≢◌, ◌<◌, ◌≤◌, ◌∙◌, ◌==◌, ◌||◌, ◌⊎◌, ℕ, Bool, true, false, not, if◌then◌else◌, List, [], ◌∷◌, ◌++◌, length, Option, Some, None, refl, ap, sym, subst, arith, ⊎_elim, eqb-true, eq-eqb}
+use Rattle.std.proofs.Common.{◌≡◌, ◌≢◌, ◌<◌, ◌≤◌, ◌∙◌, ◌==◌, ◌||◌, ◌⊎◌, ℕ, Bool, true, false, if◌then◌else◌, List, [], ◌∷◌, ◌++◌, length, Option, Some, None, refl, ap, sym, subst, arith, ⊎_elim, eq-eqb}
 use Rattle.std.specs.Prelude.{slice_get, slice_set, replicate, reverse}
 use Rattle.std.proofs.lemmas.Bool.{ne_eqb, ltb-true, cases_eq, and_parts, false≢true}
 use Rattle.std.proofs.lemmas.List.{length-set, get_or-set_same, get_or-set_other, length-replicate, get_or-replicate}
@@ -10,7 +10,7 @@ use Rattle.gcd_history.proofs.Reasons.{allowed}
 use Rattle.gcd_plan.specs.PlanView.{PlanView}
 use Rattle.gcd_plan.specs.declared.names.Blk.{Blk}
 use Rattle.gcd_event.specs.declared.event.Event.{Event}
-use Rattle.gcd_event.specs.declared.event.Event.TheVariants.{Start, Act as Acted, Wake, End, Deliver, DeliverEnd, Tick, Ready, FeedEnd, Misuse, Halt}
+use Rattle.gcd_event.specs.declared.event.Event.TheVariants.{End, Halt}
 use Rattle.gcd_history.specs.Runs.{ends}
 use Rattle.gcd_history.specs.History.{why, is_ended}
 use Rattle.gcd_history.specs.Values.{value_of}

@@ -7,7 +7,7 @@ use Rattle.gcd_history.specs.declared.state.State.TheVariants.{Halted, Live}
 use Rattle.gcd_history.specs.History.{IsLawful}
 use Rattle.gcd_history.specs.Ends.{HasState}
 use Rattle.gcd_history.specs.Report.{report_text}
-use Rattle.gcd_outer.specs.Outside.{Bytes, ShelfSeen, SinkSeen, Holds, IsUnread, IsLonger, SinkFailed, Took, TookFront}
+use Rattle.gcd_outer.specs.Outside.{Bytes, ShelfSeen, SinkSeen, IsUnread, IsLonger, SinkFailed, Took, TookFront}
 use Rattle.gcd_script.specs.Faults.{IsScriptOf, fault_of}
 use Rattle.gcd_run.specs.Asked.{Asked, RunAsked, request_of, run}
 use Rattle.gcd_run.specs.Loads.{IsLoaded, AreLoaded, StopsUnread, StopsLonger, script_limit}

@@ -1,5 +1,5 @@
 -- The lines of results that are kept block by block.
-use Rattle.std.specs.Prelude.{ℕ, List, [], ◌∷◌, ◌++◌, Option, Some, None, slice_get, codes}
+use Rattle.std.specs.Prelude.{ℕ, List, [], ◌∷◌, ◌++◌, Option, Some, slice_get, codes}
 use Rattle.std.specs.Fmt.{decimal}
 use Rattle.gcd_plan.specs.PlanView.{PlanView, work_of, name_of_blk}
 use Rattle.gcd_plan.specs.declared.work.Work.{Work}

@@ -1,12 +1,11 @@
 -- The statuses of a call, one by one (this project's own rules).
-use Rattle.std.specs.Prelude.{◌≡◌, ◌≢◌, ◌<◌, ◌≤◌, ◌⊎◌, ℕ, true, List, [], ◌∷◌, Option, Some, None, length, take, slice_get}
+use Rattle.std.specs.Prelude.{◌≡◌, ◌≢◌, ◌<◌, ◌≤◌, ◌⊎◌, ℕ, true, List, [], Some, None, length, slice_get}
 use Rattle.gcd_plan.specs.PlanView.{PlanView, FileView}
-use Rattle.gcd_event.specs.declared.event.Event.{Event}
 use Rattle.gcd_history.specs.declared.state.State.TheVariants.{Drained}
 use Rattle.gcd_history.specs.History.{IsLawful}
 use Rattle.gcd_history.specs.Ends.{IsDrained}
 use Rattle.gcd_history.specs.Report.{report_text}
-use Rattle.gcd_outer.specs.Outside.{Bytes, ShelfSeen, SinkSeen, Lacks, ShelfFailed, IsUnread, IsLonger, SinkFailed, Took, TookFront}
+use Rattle.gcd_outer.specs.Outside.{Bytes, ShelfSeen, SinkSeen, Lacks, ShelfFailed, IsLonger, SinkFailed, Took, TookFront}
 use Rattle.gcd_script.specs.Faults.{IsScriptOf, fault_of}
 use Rattle.gcd_run.specs.Asked.{RunAsked, request_of, run}
 use Rattle.gcd_run.specs.End.{End, usage_text, refused_text}

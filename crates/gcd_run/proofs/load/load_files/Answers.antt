@@ -1,9 +1,8 @@
-use Rattle.std.proofs.Common.{◌≡◌, ◌∙◌, List, map, refl, ap, sym, arith, rules}
+use Rattle.std.proofs.Common.{refl, arith, rules}
 use Rattle.std.proofs.lemmas.List.{take_all}
-use Rattle.std.proofs.lemmas.Grind.{common_steps}
-use Rattle.gcd_plan.specs.PlanView.{FileView, file_view}
+use Rattle.gcd_plan.specs.PlanView.{file_view}
 use Rattle.gcd_outer.specs.Outside.{ShelfSeen, shelf_seen}
-use Rattle.gcd_run.specs.Loads.{IsLoaded, AreLoaded, file_limit}
+use Rattle.gcd_run.specs.Loads.{file_limit}
 use Rattle.gcd_run.proofs.Loading.{SameShelf, loaded_same, are_loaded_same, loaded_more, next_file, unread_same, longer_same}
 use Rattle.gcd_run.proofs.load.load_files.Goals as goal
 

@@ -1,4 +1,4 @@
-use Rattle.std.proofs.Common.{◌≡◌, ◌∙◌, ap, sym, subst, refl, arith, rules}
+use Rattle.std.proofs.Common.{refl, arith}
 use Rattle.std.proofs.lemmas.Result.{IfOk-weaker}
 use Rattle.gcd_outer.specs.Outside.{ShelfSeen, shelf_seen}
 use Rattle.gcd_run.specs.Loads.{script_limit}

@@ -1,9 +1,9 @@
-use Rattle.std.proofs.Common.{◌≡◌, ◌∙◌, map, length, List, ap, sym, subst, arith}
+use Rattle.std.proofs.Common.{◌∙◌, map, length, List, ap, sym, subst}
 use Rattle.std.proofs.lemmas.List.{length-map}
 use Rattle.std.proofs.lemmas.Result.{IfOk-weaker}
 use Rattle.gcd_plan.specs.PlanView.{FileView, file_view}
 use Rattle.gcd_outer.specs.Outside.{ShelfSeen, Bytes, shelf_seen}
-use Rattle.gcd_run.specs.Loads.{AreLoaded, AreStopped, StopsLonger}
+use Rattle.gcd_run.specs.Loads.{AreLoaded, StopsLonger}
 use Rattle.gcd_run.specs.Ends.PlanEnds.{file_longer, ran}
 use Rattle.gcd_run.proofs.Loading.{loaded_count}
 use Rattle.gcd_run.proofs.top.run_script.Goals as goal

@@ -1,8 +1,5 @@
-use Rattle.std.proofs.Common.{◌≡◌, ◌∙◌, false, map, length, ap, sym, subst, arith, refl}
-use Rattle.gcd_history.specs.Ends.{is_halted}
-use Rattle.gcd_machine.specs.Stands.{StandsFor}
+use Rattle.std.proofs.Common.{◌∙◌, map, arith, refl}
 use Rattle.gcd_machine.proofs.Shown.{lawful_stands, few_stands}
-use Rattle.gcd_run.specs.Outcome.{IsNextEvent}
 use Rattle.gcd_run.proofs.Turns.{all_by_none, all_by_push, no_halt_yet, no_results, halts_not, end_fits, drained_at_end, over_of_drained}
 use Rattle.gcd_run.proofs.turn.run_plan.Goals as goal
 

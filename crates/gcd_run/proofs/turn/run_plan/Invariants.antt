@@ -1,5 +1,5 @@
 use Rattle.std.proofs.Common.{◌≡◌, ◌-◌, true, false, length, map}
-use Rattle.gcd_history.specs.Ends.{is_halted, ends_in_halt}
+use Rattle.gcd_history.specs.Ends.{ends_in_halt}
 use Rattle.gcd_machine.specs.Stands.{StandsFor}
 use Rattle.gcd_machine.specs.Workers.{is_all_by}
 use Rattle.gcd_run.specs.Outcome.{AreResults}
