@@ -9,9 +9,10 @@ use Rattle.std.proofs.lemmas.List.Sums.{fold-append, fold_push}
 use Rattle.gcd_plan.specs.PlanView.{PlanView, kind_of}
 use Rattle.gcd_plan.specs.declared.kind.Kind.{Kind}
 use Rattle.gcd_plan.specs.declared.kind.Kind.TheVariants.{Or}
+use Rattle.gcd_plan.specs.KindValues.{folded}
 use Rattle.gcd_event.specs.declared.event.Event.{Event}
 use Rattle.gcd_event.specs.declared.event.Event.TheVariants.{Deliver}
-use Rattle.gcd_history.specs.Sources.{folded, fold_of, input, delivers, inputs, new_inputs, pending, handed, received, merged, joined}
+use Rattle.gcd_history.specs.Sources.{fold_of, input, delivers, inputs, new_inputs, pending, handed, received, merged, joined}
 
 or_associates : (a b c : ℕ) → bit_or (bit_or a b) c ≡ bit_or a (bit_or b c)
 or_associates a b c = same_from_bits (bit_or (bit_or a b) c) (bit_or a (bit_or b c)) (λ i.

@@ -2,10 +2,9 @@
 use Rattle.std.specs.Prelude.{ℕ, ◌+◌, ◌==◌, nat_le, Bool, false, List, Option, Some, count_by}
 use Rattle.std.specs.Option.{option_map_or}
 use Rattle.gcd_plan.specs.PlanView.{PlanView, kind_of}
+use Rattle.gcd_plan.specs.KindValues.{first_value_of}
 use Rattle.gcd_plan.specs.declared.act.Act.{Act}
 use Rattle.gcd_plan.specs.declared.act.Act.TheVariants.{Signal, Wait}
-use Rattle.gcd_plan.specs.declared.kind.Kind.{Kind}
-use Rattle.gcd_plan.specs.declared.kind.Kind.TheVariants.{Semaphore}
 use Rattle.gcd_event.specs.declared.event.Event.{Event}
 use Rattle.gcd_history.specs.Runs.{act_of}
 
@@ -18,11 +17,6 @@ signals s _ = false
 abbrev pub waits : ℕ → Option Act → Bool
 waits s (Some (Wait t)) = t.0 == s
 waits s _ = false
-
--- the first value that the kind carries
-abbrev pub first_value_of : Kind → ℕ
-first_value_of (Semaphore n) = n
-first_value_of _ = 0
 
 -- the value that semaphore s is created with (dispatch_semaphore_create(3))
 abbrev pub first_value : PlanView → ℕ → ℕ

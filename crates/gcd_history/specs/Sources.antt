@@ -1,24 +1,19 @@
 -- What is pending at a source (dispatch_source_create(3), dispatch_source_merge_data(3)).
-use Rattle.std.specs.Prelude.{ℕ, ◌+◌, ◌-◌, ◌==◌, bit_or, Bool, false, not, ◌&&◌, if◌then◌else◌, List, [], ◌∷◌, ◌++◌, filter, map, fold, Option, Some, None, count_by}
+use Rattle.std.specs.Prelude.{ℕ, ◌+◌, ◌-◌, ◌==◌, Bool, false, not, ◌&&◌, if◌then◌else◌, List, [], ◌∷◌, ◌++◌, filter, map, fold, Option, Some, None, count_by}
 use Rattle.std.specs.Option.{option_map_or}
 use Rattle.std.specs.List.{range_with_len}
 use Rattle.gcd_plan.specs.PlanView.{PlanView, kind_of}
 use Rattle.gcd_plan.specs.Kinds.{has_kind, is_read_kind}
+use Rattle.gcd_plan.specs.KindValues.{folded}
 use Rattle.gcd_plan.specs.declared.act.Act.{Act}
 use Rattle.gcd_plan.specs.declared.act.Act.TheVariants.{Merge}
 use Rattle.gcd_plan.specs.declared.kind.Kind.{Kind}
-use Rattle.gcd_plan.specs.declared.kind.Kind.TheVariants.{Or}
 use Rattle.gcd_event.specs.declared.event.Event.{Event}
 use Rattle.gcd_event.specs.declared.event.Event.TheVariants.{Deliver, Ready, Tick}
 use Rattle.gcd_history.specs.Runs.{act_of}
 use Rattle.gcd_history.specs.Holds.{is_active}
 use Rattle.gcd_history.specs.Submitted.{is_cancelled}
 use Rattle.gcd_history.specs.Timers.{now, is_due}
-
--- two values in one: joined bit by bit, and else added (dispatch_source_create(3))
-abbrev pub folded : Kind → ℕ → ℕ → ℕ
-folded Or a b = bit_or a b
-folded _ a b = a + b
 
 -- the values in one
 abbrev pub fold_of : Kind → List ℕ → ℕ

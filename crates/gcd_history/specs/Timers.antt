@@ -1,11 +1,10 @@
 -- Journal time, and when timers are due (dispatch_source_create(3), dispatch_source_set_timer(3); whole milliseconds and
 -- `until` are this project's own rule).
-use Rattle.std.specs.Prelude.{ℕ, ◌+◌, ◌-◌, ◌%◌, ◌==◌, nat_le, nat_lt, Bool, true, false, not, ◌&&◌, if◌then◌else◌, List, [], ◌∷◌, length, Option, Some, None, find}
+use Rattle.std.specs.Prelude.{ℕ, ◌+◌, ◌-◌, nat_le, nat_lt, Bool, true, false, not, ◌&&◌, if◌then◌else◌, List, [], ◌∷◌, length, Option, Some, None, find}
 use Rattle.std.specs.Option.{option_map_or}
 use Rattle.std.specs.List.{list_any, range_with_len}
 use Rattle.gcd_plan.specs.PlanView.{PlanView, kind_of}
-use Rattle.gcd_plan.specs.declared.kind.Kind.{Kind}
-use Rattle.gcd_plan.specs.declared.kind.Kind.TheVariants.{Timer}
+use Rattle.gcd_plan.specs.KindValues.{is_on_beat}
 use Rattle.gcd_event.specs.declared.event.Event.{Event}
 use Rattle.gcd_event.specs.declared.event.Event.TheVariants.{Tick}
 use Rattle.gcd_history.specs.Submitted.{is_cancelled}
@@ -28,11 +27,6 @@ abbrev pub cancelled_at : PlanView → List Event → ℕ → Option ℕ
 cancelled_at plan [] s = None
 cancelled_at plan (e ∷ past) s =
     if is_cancelled plan (e ∷ past) s && not (is_cancelled plan past s) then Some (now past) else cancelled_at plan past s
-
--- t is from + start + k * every for some k, at a timer
-abbrev pub is_on_beat : Kind → (from t : ℕ) → Bool
-is_on_beat (Timer start every) from t = nat_le (from + start) t && (t - (from + start)) % every == 0
-is_on_beat _ from t = false
 
 -- t is a due time of timer s: none lies past `until`, and none past its cancellation (dispatch_source_set_timer(3))
 abbrev pub is_due : PlanView → List Event → ℕ → ℕ → Bool

@@ -4,7 +4,7 @@ use Rattle.std.specs.List.{slice_get}
 use Rattle.gcd_plan.specs.PlanView.{PlanView, starts_active}
 use Rattle.gcd_plan.specs.Kinds.{is_source, is_source_kind}
 use Rattle.gcd_hold.specs.HoldsView.{holds_of, is_active_at, is_source_at}
-use Rattle.gcd_hold.proofs.Found.{get_or-mapped, map_or-map}
+use Rattle.gcd_plan.proofs.Mapped.{get_or-mapped, map_or-map}
 
 -- active is what is created active
 pub begins_active : (plan : PlanView) (o : ℕ) → is_active_at (holds_of plan) o ≡ starts_active plan o

@@ -1,7 +1,7 @@
 // What a source runs.
 ghost use Rattle.std.specs.Prelude.{◌≡◌, ◌+◌, ◌^◌, ◌<◌, ℕ};
 ghost use Rattle.gcd_plan.specs.declared.kind.Kind.{Kind};
-ghost use Rattle.gcd_history.specs.Sources.{folded};
+ghost use Rattle.gcd_plan.specs.KindValues.{folded};
 
 /// What a source runs at each delivery (dispatch_source_set_event_handler(3)). A handler is of the kind of its source; it
 /// keeps how many values it took, and all of them in one.

@@ -1,5 +1,5 @@
 ghost use Rattle.std.specs.Prelude.{◌≡◌, ◌+◌, ◌<◌, ◌^◌};
-ghost use Rattle.gcd_history.specs.Sources.{folded};
+ghost use Rattle.gcd_plan.specs.KindValues.{folded};
 
 use crate::{FileJob, Handler, Job, Tally};
 use gcd_plan::{How, Kind, WHOLE_FILE, Work};

@@ -3,3 +3,4 @@ pub mod Apart
 pub mod Once
 pub mod Walks
 pub mod Valid
+pub mod Mapped

@@ -5,3 +5,4 @@ pub mod Names
 pub mod Validity
 pub mod FirstForms
 pub mod StartRule
+pub mod KindValues

@@ -1,4 +1,4 @@
-use Rattle.gcd_hold.proofs.Found.{map_goes_on}
+use Rattle.gcd_plan.proofs.Mapped.{map_goes_on}
 use Rattle.gcd_drain.proofs.kinds.kinds_of.Goals as goal
 
 pub loop-o-preserved : goal.loop-o-preserved

@@ -1,5 +1,5 @@
 use Rattle.std.proofs.Common.{◌<◌, false, length, arith}
-use Rattle.gcd_hold.proofs.Found.{map_goes_on, found_within}
+use Rattle.gcd_plan.proofs.Mapped.{map_goes_on, found_within}
 use Rattle.gcd_hold.proofs.first.created_active.Goals as goal
 
 pub loop-o-preserved : goal.loop-o-preserved

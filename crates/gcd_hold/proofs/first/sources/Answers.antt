@@ -1,6 +1,6 @@
 use Rattle.std.specs.List.{slice_get}
 use Rattle.gcd_plan.specs.Kinds.{is_source_kind}
-use Rattle.gcd_hold.proofs.Found.{map_goes_on, test_found}
+use Rattle.gcd_plan.proofs.Mapped.{map_goes_on, test_found}
 use Rattle.gcd_hold.proofs.first.sources.Goals as goal
 
 pub loop-o-preserved : goal.loop-o-preserved
