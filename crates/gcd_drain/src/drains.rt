@@ -7,7 +7,7 @@ ghost use Rattle.gcd_drain.specs.DrainsView.{drains_of, barriers_at, with_barrie
 ghost use Rattle.gcd_drain.specs.Rule.{excludes_at, is_behind_at, is_fenced_at, place_reasons, start_fault_of, run_fault_of};
 
 use crate::free::is_chain_held;
-use crate::kinds::{is_concurrent, is_exclusive, kinds_of};
+use crate::kinds::{is_concurrent, is_exclusive};
 use gcd_hold::Holds;
 use gcd_lists::Lists;
 use gcd_plan::{Blk, Kind, Obj, Plan, Why};
@@ -52,7 +52,7 @@ impl Drains {
     {
         Ok(Drains {
             barriers: vec![in alloc; 0; plan.objects() as usize]?,
-            kinds: kinds_of(alloc, plan)?,
+            kinds: plan.kinds(alloc)?,
         })
     }
 

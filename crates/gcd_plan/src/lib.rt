@@ -7,11 +7,13 @@
 //! | `Plan::of_parts` | the plan of the parts; None exactly where they are no valid plan (`IsPlan`) |
 //! | `Plan::of_valid_parts` | the same of parts that the caller knows to be valid |
 //! | `Plan::copied` | the same plan once more, or want of memory |
+//! | `Plan::kinds` | the kinds of all objects, or want of memory |
 //! | `objects`, `blocks`, `kind`, `first_target`, .. | what the plan holds, exactly |
 //! | `is_name`, `is_path`, `block_of` | the tests of names and paths, the block that an act submits |
 //!
 //! `specs/StartRule` has the rule by which a block starts over plain data, since the parts of the machine and the
-//! definitions over histories both cite it. `proofs/Lists` has the lemmas on lists that std lacks.
+//! definitions over histories both cite it, and `specs/KindValues` what a kind says of values and times. `proofs/Lists` and
+//! `proofs/Mapped` have the lemmas on lists that std lacks.
 //!
 //! The crate says nothing of a run: when a block may start is said over histories (`gcd_history`).
 #![tactic(auto)]

@@ -173,6 +173,17 @@ impl Plan {
 }
 
 impl Plan {
+    /// The kind of each object, by number; an `Err` comes only of want of memory.
+    pub fn kinds(&self, alloc: Global) -> Result<Vec<Kind>, AllocError>
+        ensures { IfOk result (λ v. v.items ≡ map (λ o. o.kind) self.now.objects) }
+    {
+        let mut kinds = Vec::with_capacity(alloc, self.objects() as usize)?;
+        for o in 0..self.objects() {
+            kinds.push(self.kind(Obj(o)))?;
+        }
+        Ok(kinds)
+    }
+
     /// The same plan once more.
     pub fn copied(&self, alloc: Global) -> Result<Plan, AllocError>
         ensures { IfOk result (λ p. p ≡ self.now) }

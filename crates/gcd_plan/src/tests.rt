@@ -245,6 +245,11 @@ fn tells_what_a_plan_holds(rt: HostRuntime) -> Result<(), Fail> {
     assert_eq!(rt; plan.blocks(), 2);
     assert_eq!(rt; plan.until(), 1000);
     assert_eq!(rt; plan.files().len(), 1);
+    let kinds = plan.kinds(rt.alloc())?;
+    assert_eq!(rt;
+        kinds.as_slice(),
+        [Kind::Concurrent, Kind::Serial, Kind::Group].as_slice()
+    );
     if plan.objects() > 2 && plan.blocks() > 1 && plan.files().len() > 0 {
         assert_eq!(rt; plan.kind(Obj(2)), Kind::Group);
         assert_eq!(rt; plan.first_target(Obj(1)), Obj(0));

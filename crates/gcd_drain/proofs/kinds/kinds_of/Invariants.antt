@@ -1,5 +1,0 @@
-use Rattle.std.proofs.Common.{◌≡◌, map, take}
-use Rattle.gcd_drain.proofs.kinds.kinds_of.Given as goal
-
-abbrev pub invariant-loop-o : goal.invariant-loop-o
-invariant-loop-o l = l.kinds.items ≡ map (λ o. o.kind) (take l.o l.plan.objects)
