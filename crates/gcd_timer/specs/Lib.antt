@@ -1,0 +1,3 @@
+pub mod TimersView
+pub mod Beats
+pub mod Kept
