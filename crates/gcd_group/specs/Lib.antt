@@ -1,0 +1,3 @@
+pub mod GroupsView
+pub mod Tied
+pub mod Inside
