@@ -1,6 +1,7 @@
 -- What the constructors and setters of the things in memory determine.
-use Rattle.std.specs.Prelude.{◌≡◌, ℕ, Bool, List, map}
+use Rattle.std.specs.Prelude.{◌≡◌, ◌+◌, ℕ, Bool, List, map}
 use Rattle.gcd_outer.specs.Feeds.{watched_in, ended_in, watched_at_in}
+use Rattle.gcd_outer.specs.Texts.{bytes_of}
 use Rattle.gcd_outer.specs.declared.jump_clock.JumpClock.{JumpClock}
 use Rattle.gcd_outer.specs.declared.list_poller.ListPoller.{ListPoller}
 use Rattle.gcd_outer.specs.declared.map_shelf.MapShelf.{MapShelf}
@@ -37,11 +38,11 @@ left_of poller = poller.answers.left
 
 -- how many watches a poller has room for
 abbrev pub watch_room_of : ListPoller → ℕ
-watch_room_of poller = poller.watch_room
+watch_room_of poller = poller.paths.text_room
 
 -- how many bytes of addresses and paths a poller has room for
 abbrev pub byte_room_of : ListPoller → ℕ
-byte_room_of poller = poller.byte_room
+byte_room_of poller = poller.paths.byte_room
 
 -- the listens, counted from 0, that are to fail
 abbrev pub failing_listens : ListPoller → List ℕ
@@ -65,7 +66,7 @@ watched_at_of poller = watched_at_in poller.feeds.items
 
 -- the feed and the path of each watch that succeeded
 abbrev pub watches_of : ListPoller → List (ℕ × List ℕ)
-watches_of poller = poller.paths
+watches_of poller = poller.paths.texts
 
 -- how many listens there were
 abbrev pub listens_of : ListPoller → ℕ
@@ -73,7 +74,7 @@ listens_of poller = poller.listens.made
 
 -- the address of each listen that succeeded
 abbrev pub addresses_of : ListPoller → List (List ℕ)
-addresses_of poller = map (λ address. address.1) poller.addresses
+addresses_of poller = map (λ address. address.1) poller.addresses.texts
 
 -- whether a feed is watched
 abbrev pub watched_of : ListPoller → ℕ → Bool
@@ -87,9 +88,24 @@ ended_of poller = ended_in poller.feeds.items
 abbrev pub faults_of : ListPoller → ℕ
 faults_of poller = poller.faults
 
--- how many polls of a poller there were
+-- how many polls of a poller there were, and how many watches, those that failed among them
 abbrev pub polls_of : ListPoller → ℕ
 polls_of poller = poller.polls.made
+
+abbrev pub watch_calls_of : ListPoller → ℕ
+watch_calls_of poller = poller.watches.made
+
+-- how many bytes of a poller's room its addresses and paths take
+abbrev pub used_of : ListPoller → ℕ
+used_of poller = bytes_of poller.paths.texts + bytes_of poller.addresses.texts
+
+-- a poller before and after a call: what is to fail, and the room, are the same
+pub record IsSamePlan (old new : ListPoller) : Type 0 where
+  pub listens : failing_listens new ≡ failing_listens old
+  pub watches : failing_watches new ≡ failing_watches old
+  pub polls : failing_polls new ≡ failing_polls old
+  pub watch_room : watch_room_of new ≡ watch_room_of old
+  pub byte_room : byte_room_of new ≡ byte_room_of old
 
 -- a poller before and after a change of what is to fail alone
 pub record IsSamePoller (old new : ListPoller) : Type 0 where
@@ -97,8 +113,6 @@ pub record IsSamePoller (old new : ListPoller) : Type 0 where
   pub feeds : new.feeds.items ≡ old.feeds.items
   pub paths : new.paths ≡ old.paths
   pub addresses : new.addresses ≡ old.addresses
-  pub watch_room : new.watch_room ≡ old.watch_room
-  pub byte_room : new.byte_room ≡ old.byte_room
   pub listens : new.listens.made ≡ old.listens.made
   pub watches : new.watches.made ≡ old.watches.made
   pub polls : new.polls.made ≡ old.polls.made

@@ -1,6 +1,7 @@
 pub mod Answers
 pub mod Feeds
 pub mod InMemory
+pub mod Listening
 pub mod Outside
 pub mod Pages
 pub mod Planned

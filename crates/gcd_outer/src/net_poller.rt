@@ -1,5 +1,6 @@
 // A poller of regular files and of TCP connections.
-ghost use Rattle.std.specs.Prelude.{◌≡◌, [], ℕ, true, false, IfOk};
+ghost use Rattle.std.specs.Prelude.{◌≡◌, [], ℕ, true, false, codes, IfOk, IsErr};
+ghost use Rattle.gcd_outer.specs.Listening.{is_listening};
 ghost use Rattle.gcd_outer.specs.Slots.{is_there, watched_slot, ended_slot, ReadTells};
 
 use crate::poller::{FEEDS, Poller};
@@ -51,6 +52,7 @@ impl<'a, R: Net + Files<File = File>> NetPoller<'a, R> {
         ensures ended { IfOk result (λ p. (feed : ℕ)
             → ⟦<NetPoller<'a, R> as Poller>⟧.ended p feed ≡ false) }
         ensures faults { IfOk result (λ p. ⟦<NetPoller<'a, R> as Poller>⟧.faults p ≡ 0) }
+        ensures listening { IfOk result (λ p. is_listening p ≡ false) }
     {
         Ok(NetPoller {
             rt,
@@ -66,7 +68,9 @@ impl<'a, R: Net + Files<File = File>> NetPoller<'a, R> {
 
     /// The address at which connections are accepted. An error is the system's, or that there was no
     /// listen that succeeded.
-    pub fn local_addr(&self) -> io::Result<SocketAddr> {
+    pub fn local_addr(&self) -> io::Result<SocketAddr>
+        ensures { is_listening self.now ≡ false → IsErr result }
+    {
         match &self.listener {
             Some(listener) => listener.local_addr(),
             None => Err(io::Error::from(ErrorKind::NotConnected)),
@@ -86,7 +90,8 @@ impl<'a, R: Net + Files<File = File>> NetPoller<'a, R> {
 
     // What a feed with this path is read from.
     fn source(&self, path: &str) -> io::Result<Source>
-        ensures { IfOk result (λ source. is_there source ≡ true) }
+        ensures there { IfOk result (λ source. is_there source ≡ true) }
+        ensures unheard { path.now ≡ codes "tcp" → is_listening self.now ≡ false → IsErr result }
     {
         if path == "tcp" {
             return match self.listener {
@@ -138,6 +143,10 @@ impl<'a, R: Net + Files<File = File>> NetPoller<'a, R> {
 }
 
 impl<'a, R: Net + Files<File = File>> Poller for NetPoller<'a, R> {
+    ghost use Rattle.std.specs.Prelude.{◌≢◌, ◌≤◌, ◌<◌, IsErr, OnOk, OnErr};
+    ghost use Rattle.gcd_outer.specs.declared.poller.TheConstants.{FEEDS};
+    ghost use Rattle.gcd_outer.specs.Outside.{Rises};
+
     ghost tells = { false };
 
     ghost answers = { λ _. [] };
@@ -156,7 +165,17 @@ impl<'a, R: Net + Files<File = File>> Poller for NetPoller<'a, R> {
 
     ghost faults = { λ p. p.faults };
 
-    fn listen(&mut self, addr: &str) -> Result<(), Failed> {
+    // What each poller promises, and then: it accepts connections just where a listen has succeeded.
+    fn listen(&mut self, addr: &str) -> Result<(), Failed>
+        ensures watched { (feed : ℕ) → watched_slot self.new.slots.slots.items feed ≡ watched_slot self.old.slots.slots.items feed }
+        ensures ended { (feed : ℕ) → ended_slot self.new.slots.slots.items feed ≡ ended_slot self.old.slots.slots.items feed }
+        ensures ok { OnOk result (self.new.faults ≡ self.old.faults) }
+        ensures failed { OnErr result (Rises self.old.faults self.new.faults) }
+        ensures faults { self.old.faults ≤ self.new.faults }
+
+        ensures listening { OnOk result (is_listening self.new ≡ true) }
+        ensures as_before { OnErr result (is_listening self.new ≡ is_listening self.old) }
+    {
         match self.bind(addr) {
             Ok(listener) => {
                 self.listener = Some(listener);
@@ -169,7 +188,26 @@ impl<'a, R: Net + Files<File = File>> Poller for NetPoller<'a, R> {
         }
     }
 
-    fn watch(&mut self, feed: u32, path: &str) -> Result<(), Failed> {
+    // What each poller promises, and then: a feed with the path `tcp` is refused before a listen.
+    fn watch(&mut self, feed: u32, path: &str) -> Result<(), Failed>
+        requires { feed < FEEDS }
+        ensures watches_it { OnOk result (watched_slot self.new.slots.slots.items feed ≡ true) }
+        ensures begins { OnOk result (ended_slot self.new.slots.slots.items feed ≡ false) }
+        ensures others { (other : ℕ) → other ≢ feed
+            → watched_slot self.new.slots.slots.items other ≡ watched_slot self.old.slots.slots.items other }
+        ensures others_ended { (other : ℕ) → other ≢ feed
+            → ended_slot self.new.slots.slots.items other ≡ ended_slot self.old.slots.slots.items other }
+        ensures unwatched { OnErr result ((other : ℕ)
+            → watched_slot self.new.slots.slots.items other ≡ watched_slot self.old.slots.slots.items other) }
+        ensures unended { OnErr result ((other : ℕ)
+            → ended_slot self.new.slots.slots.items other ≡ ended_slot self.old.slots.slots.items other) }
+        ensures ok { OnOk result (self.new.faults ≡ self.old.faults) }
+        ensures failed { OnErr result (Rises self.old.faults self.new.faults) }
+        ensures faults { self.old.faults ≤ self.new.faults }
+
+        ensures unheard { path.now ≡ codes "tcp" → is_listening self.old ≡ false → IsErr result }
+        ensures listening { is_listening self.new ≡ is_listening self.old }
+    {
         match self.source(path) {
             Ok(source) => {
                 self.slots.begin(feed, source);

@@ -1,5 +1,5 @@
 // Numbered texts, one after another, in one buffer of bytes.
-ghost use Rattle.std.specs.Prelude.{◌≡◌, ◌++◌, ◌∷◌, [], length, IfOk, OnOk, OnErr};
+ghost use Rattle.std.specs.Prelude.{◌≡◌, ◌+◌, ◌<◌, ◌≤◌, ◌++◌, ◌∷◌, [], length, IfOk, IsOk, OnOk, OnErr};
 ghost use Rattle.gcd_outer.specs.Texts.{bytes_of};
 
 use std::alloc::{AllocError, Global};
@@ -9,6 +9,8 @@ use std::marker::Model;
 pub(crate) struct TextLog {
     bytes: Vec<u8>,
     notes: Vec<Note>,
+    text_room: usize,
+    byte_room: usize,
 }
 
 // The number of a text, and how many bytes it has.
@@ -19,14 +21,14 @@ pub(crate) struct Note {
 }
 
 impl Model for TextLog {
-    ghost use Rattle.std.specs.Prelude.{◌≡◌, ℕ, List, length};
-    ghost use Rattle.gcd_outer.specs.Texts.{texts_of, lengths_of};
+    ghost use Rattle.std.specs.Prelude.{vec_capacity};
+    ghost use Rattle.gcd_outer.specs.Texts.{texts_of, TextsView, AreTexts};
 
-    ghost Value = { List (ℕ × List ℕ) };
+    ghost Value = { TextsView };
 
-    ghost view = { λ t. texts_of t.notes.items t.bytes.items };
+    ghost view = { λ t. record { texts = texts_of t.notes.items t.bytes.items; text_room = t.text_room; byte_room = t.byte_room } };
 
-    ghost invariant = { λ t. lengths_of t.notes.items ≡ length t.bytes.items };
+    ghost invariant = { λ t. AreTexts t.notes.items t.bytes.items t.text_room t.byte_room (vec_capacity t.notes) (vec_capacity t.bytes) };
 }
 
 impl TextLog {
@@ -36,31 +38,50 @@ impl TextLog {
         texts: usize,
         bytes: usize,
     ) -> Result<Self, AllocError>
-        ensures empty { IfOk result (λ log. log ≡ []) }
+        ensures { IfOk result (λ log. log ≡ record { texts = []; text_room = texts; byte_room = bytes }) }
     {
         Ok(TextLog {
             bytes: Vec::with_capacity(alloc, bytes)?,
             notes: Vec::with_capacity(alloc, texts)?,
+            text_room: texts,
+            byte_room: bytes,
         })
     }
 
     // How many texts there are.
     pub(crate) fn len(&self) -> usize
-        ensures { result ≡ length self.now }
+        ensures { result ≡ length self.now.texts }
     {
         self.notes.len()
     }
 
     // How many bytes the texts have together.
     pub(crate) fn byte_count(&self) -> usize
-        ensures { result ≡ bytes_of self.now }
+        ensures { result ≡ bytes_of self.now.texts }
     {
         self.bytes.len()
     }
 
+    // For how many texts there is room.
+    pub(crate) fn text_room(&self) -> usize
+        ensures { result ≡ self.now.text_room }
+    {
+        self.text_room
+    }
+
+    // For how many bytes there is room.
+    pub(crate) fn byte_room(&self) -> usize
+        ensures { result ≡ self.now.byte_room }
+    {
+        self.byte_room
+    }
+
+    // One text more. Within the room it takes no memory.
     pub(crate) fn push(&mut self, number: u32, text: &str) -> Result<(), AllocError>
-        ensures ok { OnOk result (self.new ≡ self.old ++ (number, text.now) ∷ []) }
+        ensures ok { OnOk result (self.new ≡ record self.old { texts = self.old.texts ++ (number, text.now) ∷ [] }) }
         ensures err { OnErr result (self.new ≡ self.old) }
+        ensures within_room { length self.old.texts < self.old.text_room
+            → bytes_of self.old.texts + length text.now ≤ self.old.byte_room → IsOk result }
     {
         self.notes.reserve(1)?;
         self.bytes.extend_from_slice(text.as_bytes())?;

@@ -65,6 +65,7 @@ fn hear<P: Poller>(
 fn connections_are_read_as_they_come(rt: HostRuntime) -> Result<(), Fail> {
     let mut poller = NetPoller::new(&rt, rt.alloc())?;
     assert_eq!(rt; poller.watch(7, "tcp"), Err(Failed), "no listen");
+    assert!(rt; poller.local_addr().is_err(), "no listen");
     assert_eq!(rt; poller.listen("127.0.0.1:0"), Ok(()));
     for feed in [7, 2, 5, 3] {
         assert_eq!(rt; poller.watch(feed, "tcp"), Ok(()), "{feed}");
