@@ -1,0 +1,122 @@
+ghost use Rattle.std.specs.Prelude.{◌≡◌, length};
+
+use crate::Semas;
+use gcd_plan::{BlkPart, Kind, Obj, ObjPart, Parts, Plan};
+use std::alloc::{AllocError, Global};
+use std::process::Abort;
+use std::test::Fail;
+
+fn object(alloc: Global, name: &str, kind: Kind) -> Result<ObjPart, AllocError> {
+    Ok(ObjPart {
+        name: String::from_str(alloc, name)?,
+        kind,
+        target: Obj(0),
+        active: true,
+        path: String::new(alloc),
+        handler: Vec::new(alloc),
+        cancel: None,
+    })
+}
+
+// `root`, semaphores of first value 1, 5 and 2^31 - 1, and `main`.
+fn parts(alloc: Global) -> Result<Parts, AllocError> {
+    let main = BlkPart {
+        name: String::from_str(alloc, "main")?,
+        acts: Vec::new(alloc),
+        work: None,
+    };
+    let root = object(alloc, "root", Kind::Concurrent)?;
+    let one = object(alloc, "s", Kind::Semaphore(1))?;
+    let five = object(alloc, "t", Kind::Semaphore(5))?;
+    let most = object(alloc, "u", Kind::Semaphore(2_147_483_647))?;
+    Ok(Parts {
+        objects: vec![in alloc; root, one, five, most]?,
+        blocks: vec![in alloc; main]?,
+        files: Vec::new(alloc),
+        until: 1,
+    })
+}
+
+// A call, with what it answers.
+enum Call {
+    Wait(Obj, u32),
+    Signal(Obj),
+    Passed(Obj, u32, bool),
+    Value(Obj, i64),
+}
+
+const CALLS: [Call; 32] = [
+    Call::Value(Obj(1), 1),
+    Call::Wait(Obj(1), 1),
+    Call::Value(Obj(1), 0),
+    Call::Passed(Obj(1), 1, true),
+    Call::Wait(Obj(1), 2),
+    Call::Value(Obj(1), -1),
+    Call::Passed(Obj(1), 2, false),
+    Call::Wait(Obj(1), 3),
+    Call::Value(Obj(1), -2),
+    Call::Passed(Obj(1), 3, false),
+    // A signal lets the next rank pass, and no other.
+    Call::Signal(Obj(1)),
+    Call::Value(Obj(1), -1),
+    Call::Passed(Obj(1), 1, true),
+    Call::Passed(Obj(1), 2, true),
+    Call::Passed(Obj(1), 3, false),
+    Call::Signal(Obj(1)),
+    Call::Value(Obj(1), 0),
+    Call::Passed(Obj(1), 3, true),
+    // A signal that none waits for yet is kept for the next wait.
+    Call::Signal(Obj(1)),
+    Call::Value(Obj(1), 1),
+    Call::Wait(Obj(1), 4),
+    Call::Passed(Obj(1), 4, true),
+    Call::Value(Obj(1), 0),
+    // The others stay as they are, and what is no semaphore has no value.
+    Call::Value(Obj(2), 5),
+    Call::Passed(Obj(2), 5, true),
+    Call::Passed(Obj(2), 6, false),
+    Call::Wait(Obj(2), 1),
+    Call::Value(Obj(2), 4),
+    Call::Value(Obj(0), 0),
+    // A value passes 2^31 - 1.
+    Call::Signal(Obj(3)),
+    Call::Value(Obj(3), 2_147_483_648),
+    Call::Passed(Obj(3), 2_147_483_648, true),
+];
+
+fn object_of(call: &Call) -> Obj {
+    match call {
+        Call::Wait(s, _) => *s,
+        Call::Signal(s) => *s,
+        Call::Passed(s, _, _) => *s,
+        Call::Value(s, _) => *s,
+    }
+}
+
+fn play(rt: &impl Abort, plan: &Plan, semas: &mut Semas, call: &Call)
+    requires { length semas.old.waits ≡ length plan.now.objects }
+    ensures { length semas.new.waits ≡ length plan.now.objects }
+{
+    let s = object_of(call);
+    assert!(rt; s.0 < plan.objects());
+    // The counts are far from the most that they can be.
+    assert!(rt; !semas.passed(s, 3_000_000_000));
+    assert!(rt; semas.value(s) > -1000);
+    match call {
+        Call::Wait(_, answer) => assert_eq!(rt; semas.wait(s), *answer),
+        Call::Signal(_) => semas.signal(s),
+        Call::Passed(_, rank, answer) => assert_eq!(rt; semas.passed(s, *rank), *answer),
+        Call::Value(_, answer) => assert_eq!(rt; semas.value(s), *answer),
+    }
+}
+
+#[test]
+fn waits_and_signals(rt: HostRuntime) -> Result<(), Fail> {
+    let made = Plan::of_parts(parts(rt.alloc())?).ok_or("a valid plan")?;
+    let plan = &made;
+    let mut semas = Semas::new(rt.alloc(), plan)?;
+    for call in CALLS.iter() {
+        play(&rt, plan, &mut semas, call);
+    }
+    Ok(())
+}
