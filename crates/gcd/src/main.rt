@@ -3,6 +3,8 @@
 //! `gcd run SCRIPT` runs a script; what it does and answers is `gcd_run::gcd_main`.
 #![tactic(auto)]
 
+ghost use Rattle.std.specs.Prelude.{◌≡◌, map, string_bytes, IfOk};
+
 mod script_shelf;
 
 use crate::script_shelf::ScriptShelf;
@@ -22,8 +24,15 @@ fn words_of<R: Env + AllocGlobal>(rt: &R) -> io::Result<Vec<String>> {
     Ok(words)
 }
 
-fn texts<'a>(alloc: Global, words: &'a [String]) -> Result<Vec<&'a str>, AllocError> {
-    words.iter().map(|word| word.as_str()).collect(alloc)
+// The words as texts, each in its place.
+fn texts<'a>(alloc: Global, words: &'a [String]) -> Result<Vec<&'a str>, AllocError>
+    ensures { IfOk result (λ v. map (λ text. text.now) v.items ≡ map string_bytes words.entry.now) }
+{
+    let mut texts = Vec::with_capacity(alloc, words.len())?;
+    for word in words {
+        texts.push(word.as_str())?;
+    }
+    Ok(texts)
 }
 
 fn status<R: Files + Print + Env + AllocGlobal>(rt: &R) -> u8 {

@@ -17,8 +17,10 @@ pub struct ScriptShelf<'a, R: Files> {
 }
 
 impl<'a, R: Files> ScriptShelf<'a, R> {
-    /// The files of a script under this path.
-    pub fn new(rt: &'a R, alloc: Global, script: &'a str) -> Self {
+    /// The files of a script under this path; no fault is counted yet.
+    pub fn new(rt: &'a R, alloc: Global, script: &'a str) -> Self
+        ensures { ⟦<ScriptShelf<'a, R> as Shelf>⟧.faults result ≡ 0 }
+    {
         ScriptShelf {
             alloc,
             files: FileShelf::new(rt),
