@@ -7,7 +7,6 @@ mod story;
 mod top;
 mod turn;
 mod words;
-mod work;
 
 pub use story::Ended;
 pub use top::gcd_main;

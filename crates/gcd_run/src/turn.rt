@@ -1,6 +1,5 @@
 // The turns of worker 0, by which a plan is run.
 ghost use Rattle.std.specs.Prelude.{◌≡◌, ◌<◌, ◌≤◌, ◌⊎◌, ◌++◌, ◌∷◌, [], List, None, true, false, length, map, replicate, IfOk, IfSome};
-ghost use Rattle.gcd_plan.specs.Validity.{IsPlan};
 ghost use Rattle.gcd_plan.specs.FirstForms.{IsOfFirstForms};
 ghost use Rattle.gcd_event.specs.declared.event.Event.{Event};
 ghost use Rattle.gcd_plan.specs.PlanView.{PlanView};
@@ -13,9 +12,9 @@ ghost use Rattle.gcd_history.specs.Values.{value_of};
 ghost use Rattle.gcd_run.specs.Ends.{IsOver};
 ghost use Rattle.gcd_run.specs.Outcome.{AreResults, EndFits, IsNextEvent};
 
-use crate::work::line_value;
 use gcd_event::Event;
 use gcd_history::State;
+use gcd_jobs::{FileJob, Job};
 use gcd_machine::Machine;
 use gcd_plan::{Blk, Plan};
 use std::alloc::{AllocError, Global};
@@ -32,25 +31,16 @@ pub struct Outcome {
 }
 
 // The value of a block: that of its work, and 0 without work.
-#[tactic(auto, using(crate::proofs::Works::work_facts), unfolding(gcd_history::specs::Values::value_of))]
+#[tactic(auto, unfolding(gcd_history::specs::Values::value_of))]
 fn block_value(plan: &Plan, files: &[Vec<u8>], b: Blk) -> u64
-    requires valid { IsPlan plan.now }
-    requires forms { IsOfFirstForms plan.now }
-    requires files { length files.now ≡ length plan.now.files }
-    requires block { b.0 < length plan.now.blocks }
+    requires { b.0 < length plan.now.blocks }
     ensures { result ≡ value_of plan.now (map (λ f. f.items) files.now) b.0 }
 {
-    match plan.work(b) {
-        Some(work) => line_value(work, files),
-        None => 0,
-    }
+    FileJob::new(files, plan.work(b)).run(0)
 }
 
 // The results after one more event: an End gives its block a result.
 fn note_end(plan: &Plan, files: &[Vec<u8>], e: Event, results: &mut Vec<Option<u64>>)
-    requires valid { IsPlan plan.now }
-    requires forms { IsOfFirstForms plan.now }
-    requires files { length files.now ≡ length plan.now.files }
     requires count { length results.old.items ≡ length plan.now.blocks }
     requires ends { EndFits plan.now e }
     ensures results { (h : List Event) → AreResults plan.now (map (λ f. f.items) files.now) h results.old.items
