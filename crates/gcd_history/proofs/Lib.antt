@@ -24,6 +24,7 @@ pub mod Woken
 pub mod WaitsPass
 pub mod OneRun
 pub mod Walks
+pub mod SubmittedOnNodes
 pub mod OpenNodes
 pub mod TargetActs
 pub mod TreeStands
