@@ -24,8 +24,7 @@ use Rattle.gcd_history.specs.Runs.{open_runs, acts_done, act_at, is_started}
 use Rattle.gcd_history.specs.Submitted.{submitted, submission_of, main_submission}
 use Rattle.gcd_history.specs.Parked.{has_run}
 use Rattle.gcd_history.specs.Permitted.{is_halted, is_known, is_worker, has_block, is_run_of, reasons, is_on, waits_on, misuse_at, first_waiting, why, permitted}
-use Rattle.gcd_history.specs.Choice.{end_of, next_events, own_events, wake_event, node_events, candidates, choice, is_work}
-use Rattle.gcd_machine.specs.Workers.{worker_of}
+use Rattle.gcd_history.specs.Choice.{end_of, next_events, own_events, wake_event, node_events, candidates, choice, is_work, worker_of}
 use Rattle.gcd_machine.specs.MachineView.{MachineView, progress, at_worker, at_queue}
 use Rattle.gcd_machine.specs.Keeps.{Keeps, run_list, waiter}
 use Rattle.gcd_machine.specs.Kept.{queue_reasons, is_waiting, is_blk, is_first, kept_why, next_event, node_choice, nodes_choice, idle_choice, kept_choice}

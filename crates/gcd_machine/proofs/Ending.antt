@@ -17,8 +17,7 @@ use Rattle.gcd_history.specs.Runs.{same_run, open_runs, is_open, act_at, last_wo
 use Rattle.gcd_history.specs.Submitted.{submitted, submission_of}
 use Rattle.gcd_history.specs.Tree.{is_run_on}
 use Rattle.gcd_history.specs.Permitted.{is_halted, ends_in_halt, is_worker, is_on, waits_on, why, permitted, IsLawful}
-use Rattle.gcd_history.specs.Choice.{IsQuiescent, all_ended, is_work}
-use Rattle.gcd_machine.specs.Workers.{worker_of}
+use Rattle.gcd_history.specs.Choice.{IsQuiescent, all_ended, is_work, worker_of}
 use Rattle.gcd_machine.specs.MachineView.{MachineView, progress, at_worker, at_queue}
 use Rattle.gcd_machine.specs.Keeps.{Keeps, is_last, run_list, waiter}
 use Rattle.gcd_machine.specs.Kept.{next_event, node_choice, nodes_choice, idle_choice, kept_choice}

@@ -15,5 +15,4 @@ pub mod Chosen
 pub mod Ending
 pub mod Shown
 pub mod Applied
-pub mod Complete
 pub mod Walks

@@ -27,7 +27,8 @@ use Rattle.gcd_machine.specs.MachineView.{MachineView, idle, progress}
 use Rattle.gcd_machine.specs.Keeps.{Keeps, IsShaped, progress_of, run_list, waiter, events_of}
 use Rattle.gcd_machine.specs.Kept.{kept_why, kept_choice}
 use Rattle.gcd_machine.specs.Stands.{StandsFor}
-use Rattle.gcd_machine.specs.Workers.{worker_of, is_all_by}
+use Rattle.gcd_history.specs.Choice.{worker_of}
+use Rattle.gcd_machine.specs.Workers.{is_all_by}
 use Rattle.gcd_lists.specs.ListsView.{ListsView, list_at}
 use Rattle.gcd_machine.specs.declared.progress.Progress.{Progress}
 use Rattle.gcd_machine.proofs.Plain.{parked_none}
