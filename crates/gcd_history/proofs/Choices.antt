@@ -214,7 +214,7 @@ chosen_where_permitted plan past from e valid work h = find_from_any (permitted 
 -- ## What is chosen is the worker's
 
 -- a worker's event
-abbrev is_by : ℕ → Event → Bool
+abbrev pub is_by : ℕ → Event → Bool
 is_by w e = is_work e && worker_of e == w
 
 end_by : (w : ℕ) (r : Run) → list_all (is_by w) (end_of w r ∷ []) ≡ true
@@ -244,7 +244,8 @@ node_by plan past w n =
     (elim (first_waiting plan past n) as (λ o. list_all (is_by w) (option_map_or (λ t. Start w t.blk ∷ []) o []) ≡ true) [ None ↦ refl | Some t ↦ one ])
     (elim (is_source plan n) as (λ v. list_all (is_by w) (cond v (Deliver w (record { 0 = n }) ∷ []) []) ≡ true) [ true ↦ one | false ↦ refl ])
 
-candidates_by : (plan : PlanView) (past : List Event) (w from : ℕ) → list_all (is_by w) (candidates plan past w from) ≡ true
+-- all that a worker may choose from are events of its own
+pub candidates_by : (plan : PlanView) (past : List Event) (w from : ℕ) → list_all (is_by w) (candidates plan past w from) ≡ true
 candidates_by plan past w from =
     let q = is_by w in
     let one = all_flat q (own_events plan past w) (open_runs past) (own_by plan past w) in

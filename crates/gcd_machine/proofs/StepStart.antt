@@ -20,13 +20,14 @@ use Rattle.gcd_history.specs.Submitted.{submitted, submission_of}
 use Rattle.gcd_history.specs.Tree.{is_run_on}
 use Rattle.gcd_history.specs.Permitted.{is_on, is_ready, waits_on, why}
 use Rattle.gcd_history.proofs.Reasons.{first_none}
+use Rattle.gcd_history.proofs.RunsOpen.{same_run-refl}
 use Rattle.gcd_machine.specs.MachineView.{MachineView, progress, at_worker, at_queue}
 use Rattle.gcd_machine.specs.Keeps.{Keeps, IsShaped, progress_of, is_last, run_list, waiter, events_of}
 use Rattle.gcd_machine.specs.Kept.{is_first, queue_reasons, after_start, with_open, without_first}
 use Rattle.gcd_lists.specs.ListsView.{list_at}
 use Rattle.gcd_machine.specs.declared.progress.Progress.{Progress}
 use Rattle.gcd_machine.proofs.Lists.{filter-append, filter_alike, found_alone}
-use Rattle.gcd_machine.proofs.Runs.{filter_alike_in, same_run_self}
+use Rattle.gcd_machine.proofs.Runs.{filter_alike_in}
 use Rattle.gcd_machine.proofs.Waiting.{is_of, is_other, only_one, others_kept, first_dropped}
 use Rattle.gcd_machine.proofs.FirstForms.{IsFirstPlan}
 use Rattle.gcd_machine.proofs.Steps.{StartFacts}
@@ -105,7 +106,7 @@ last_same : (past : List Event) (w v : ℕ) (b : Blk) (run : Run) → same_run (
 last_same past w v b run other = ap (λ t. option_map_or (λ n. n == v) (cond t (Some w) (last_worker past run)) false) other
 
 last_own : (past : List Event) (w v : ℕ) (b : Blk) → is_last (Start w b ∷ past) v (Block b) ≡ (w == v)
-last_own past w v b = ap (λ t. option_map_or (λ n. n == v) (cond t (Some w) (last_worker past (Block b))) false) (same_run_self (Block b))
+last_own past w v b = ap (λ t. option_map_or (λ n. n == v) (cond t (Some w) (last_worker past (Block b))) false) (same_run-refl (Block b))
 
 start_workers : (m : MachineView) (past : List Event) (w : ℕ) (b : Blk) → Keeps m past → StartFacts m.plan past w b → (v : ℕ)
     → filter (is_last (Start w b ∷ past) v) (open_runs past ++ Block b ∷ []) ≡ run_list (at_worker (after_start m w b) v)
