@@ -26,13 +26,13 @@ use Rattle.gcd_history.specs.Permitted.{is_halted, is_known, is_worker, has_bloc
 use Rattle.gcd_history.specs.Choice.{next_events, own_events, wake_event, node_events, candidates, choice, is_work, worker_of}
 use Rattle.gcd_history.proofs.Lists.{found_is}
 use Rattle.gcd_history.proofs.Choices.{is_by, candidates_by}
+use Rattle.gcd_history.proofs.Counts.{found_alone}
+use Rattle.gcd_history.proofs.NothingHeld.{no_misuses, no_sources}
+use Rattle.gcd_history.proofs.BlocksRunOnce.{queued_of, main_submitted}
 use Rattle.gcd_machine.specs.MachineView.{MachineView, progress, at_worker, at_queue}
 use Rattle.gcd_machine.specs.Keeps.{Keeps, run_list, waiter}
 use Rattle.gcd_machine.specs.Kept.{queue_reasons, is_waiting, is_blk, is_first, kept_why, next_event, node_choice, nodes_choice, idle_choice, kept_choice}
 use Rattle.gcd_lists.specs.ListsView.{list_at}
-use Rattle.gcd_machine.proofs.Lists.{found_alone}
-use Rattle.gcd_machine.proofs.Plain.{no_misuses, no_sources}
-use Rattle.gcd_machine.proofs.Facts.{queued_of, main_submitted}
 use Rattle.gcd_machine.proofs.Judged.{first_plan, facts_at, own_runs, done_is, node_is, first_is, why_is}
 
 -- ## Where nothing is permitted

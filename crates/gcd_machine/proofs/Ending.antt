@@ -21,16 +21,16 @@ use Rattle.gcd_history.specs.Choice.{IsQuiescent, all_ended, is_work, worker_of}
 use Rattle.gcd_history.proofs.Lists.{found_is, found_passes}
 use Rattle.gcd_history.proofs.RunsOpen.{same_run-refl}
 use Rattle.gcd_history.proofs.Choices.{none_is}
+use Rattle.gcd_history.proofs.Counts.{found_alone, counted_found, count_unfound}
+use Rattle.gcd_history.proofs.QueuesOnRoot.{IsFirstPlan, serial_queue}
+use Rattle.gcd_history.proofs.NothingHeld.{nothing_due, nothing_live}
+use Rattle.gcd_history.proofs.OnlyBlocksRun.{Step, starts, acts, ends, halts, step_of}
+use Rattle.gcd_history.proofs.BlocksRunOnce.{Facts, queued_of, open_parts, own_is_open}
 use Rattle.gcd_machine.specs.MachineView.{MachineView, progress, at_worker, at_queue}
 use Rattle.gcd_machine.specs.Keeps.{Keeps, is_last, run_list, waiter}
 use Rattle.gcd_machine.specs.Kept.{next_event, node_choice, nodes_choice, idle_choice, kept_choice}
 use Rattle.gcd_lists.specs.ListsView.{list_at}
-use Rattle.gcd_machine.proofs.Lists.{found_alone, counted_found, count_unfound}
 use Rattle.gcd_machine.proofs.Runs.{among_one}
-use Rattle.gcd_machine.proofs.FirstForms.{IsFirstPlan, serial_queue}
-use Rattle.gcd_machine.proofs.Plain.{nothing_due, nothing_live}
-use Rattle.gcd_machine.proofs.Steps.{Step, starts, acts, ends, halts, step_of}
-use Rattle.gcd_machine.proofs.Facts.{Facts, queued_of, open_parts, own_is_open}
 use Rattle.gcd_machine.proofs.Judged.{first_plan, facts_at, first_is}
 use Rattle.gcd_machine.proofs.Chosen.{IsGoing, act_permitted, end_permitted, start_main, start_first}
 

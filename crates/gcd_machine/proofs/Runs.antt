@@ -8,8 +8,8 @@ use Rattle.gcd_plan.specs.declared.names.Run.{Run}
 use Rattle.gcd_plan.specs.declared.names.Run.TheVariants.{Block}
 use Rattle.gcd_history.specs.Runs.{same_run}
 use Rattle.gcd_history.proofs.RunsOpen.{same_run-true, same_run-refl}
+use Rattle.gcd_history.proofs.Counts.{filter_twice}
 use Rattle.gcd_machine.specs.Keeps.{run_list}
-use Rattle.gcd_machine.proofs.Lists.{filter_twice}
 
 -- tests that agree at each run of the list
 pub filter_alike_in : (p q : Run → Bool) (xs : List Run) → ((run : Run) → list_any (same_run run) xs ≡ true → p run ≡ q run) → filter p xs ≡ filter q xs

@@ -21,17 +21,17 @@ use Rattle.gcd_history.specs.Tree.{is_run_on}
 use Rattle.gcd_history.specs.Permitted.{is_on, is_ready, waits_on, why}
 use Rattle.gcd_history.proofs.Reasons.{first_none}
 use Rattle.gcd_history.proofs.RunsOpen.{same_run-refl}
+use Rattle.gcd_history.proofs.Counts.{filter-append, filter_alike, found_alone}
+use Rattle.gcd_history.proofs.QueuesOnRoot.{IsFirstPlan}
+use Rattle.gcd_history.proofs.OnlyBlocksRun.{StartFacts}
+use Rattle.gcd_history.proofs.BlocksRunOnce.{Facts, facts_of, submitted_same, submission_same, named}
 use Rattle.gcd_machine.specs.MachineView.{MachineView, progress, at_worker, at_queue}
 use Rattle.gcd_machine.specs.Keeps.{Keeps, IsShaped, progress_of, is_last, run_list, waiter, events_of}
 use Rattle.gcd_machine.specs.Kept.{is_first, queue_reasons, after_start, with_open, without_first}
 use Rattle.gcd_lists.specs.ListsView.{list_at}
 use Rattle.gcd_machine.specs.declared.progress.Progress.{Progress}
-use Rattle.gcd_machine.proofs.Lists.{filter-append, filter_alike, found_alone}
 use Rattle.gcd_machine.proofs.Runs.{filter_alike_in}
 use Rattle.gcd_machine.proofs.Waiting.{is_of, is_other, only_one, others_kept, first_dropped}
-use Rattle.gcd_machine.proofs.FirstForms.{IsFirstPlan}
-use Rattle.gcd_machine.proofs.Steps.{StartFacts}
-use Rattle.gcd_machine.proofs.Facts.{Facts, facts_of, submitted_same, submission_same, named}
 use Rattle.gcd_machine.proofs.Judged.{first_plan, facts_at, busy_is, node_is, first_is, node_reasons_are}
 use Rattle.gcd_machine.proofs.Changed.{progress_by, progress_set, option_set, list_set, events_more, nodes_within, length_open, length_without, blocks_without, known_set, never_open, run_on_is}
 
