@@ -5,6 +5,7 @@ use Rattle.std.specs.Option.{option_map, option_map_or, option_and_then, is_some
 use Rattle.std.proofs.lemmas.Bool.{and_from, and_left, eqb-true, not-false}
 use Rattle.std.proofs.lemmas.List.{length-set, length_push, append-nil, drop-map}
 use Rattle.std.proofs.lemmas.Option.{same_Some}
+use Rattle.std.proofs.lemmas.List.Elements.{filter-append}
 use Rattle.gcd_plan.specs.PlanView.{PlanView}
 use Rattle.gcd_plan.specs.StartRule.{first_of}
 use Rattle.gcd_plan.specs.declared.names.Blk.{Blk}
@@ -21,7 +22,7 @@ use Rattle.gcd_history.specs.Tree.{is_run_on}
 use Rattle.gcd_history.specs.Permitted.{is_on, is_ready, waits_on, why}
 use Rattle.gcd_history.proofs.Reasons.{first_none}
 use Rattle.gcd_history.proofs.RunsOpen.{same_run-refl}
-use Rattle.gcd_history.proofs.Counts.{filter-append, filter_alike, found_alone}
+use Rattle.gcd_history.proofs.Counts.{filter_alike, found_alone}
 use Rattle.gcd_history.proofs.QueuesOnRoot.{IsFirstPlan}
 use Rattle.gcd_history.proofs.OnlyBlocksRun.{StartFacts}
 use Rattle.gcd_history.proofs.BlocksRunOnce.{Facts, facts_of, submitted_same, submission_same, named}
