@@ -1,5 +1,5 @@
--- The choice of a worker is complete: where an event of the worker is permitted, one is chosen.
-use Rattle.std.proofs.Common.{◌≡◌, ⊎_elim, ℕ, ◌-◌, ◌<◌, ◌≤◌, Bool, true, false, not, ◌&&◌, cond, ◌==◌, List, [], ◌∷◌, ◌++◌, length, map, Option, Some, None, is_some, is_none, find, refl, ap, sym, ◌∙◌, subst, arith}
+-- The choice of a worker: where an event of the worker is permitted one is chosen, and what is chosen is permitted and the worker's.
+use Rattle.std.proofs.Common.{◌≡◌, ⊎_elim, ℕ, ◌-◌, ◌<◌, Bool, true, false, not, ◌&&◌, cond, ◌==◌, List, [], ◌∷◌, ◌++◌, length, map, Option, Some, None, is_some, is_none, find, refl, ap, sym, ◌∙◌, subst, arith}
 use Rattle.std.specs.List.{list_any, list_all, flat_map, range_with_len}
 use Rattle.std.specs.Option.{option_map_or, option_to_list}
 use Rattle.std.proofs.lemmas.Bool.{eqb-true, eq-eqb, or_left, or_right, and_parts, and_from, not-false, both_ways, ltb-true, cases_lt}
@@ -17,12 +17,13 @@ use Rattle.gcd_history.specs.declared.submission.Submission.{Submission}
 use Rattle.gcd_history.specs.Runs.{open_runs, is_started, acts_done}
 use Rattle.gcd_history.specs.Submitted.{submitted, submission_of}
 use Rattle.gcd_history.specs.Parked.{has_run}
-use Rattle.gcd_history.specs.Permitted.{why, permitted, IsLawful, is_worker, has_block, is_on, is_behind, before, waits_on, first_waiting, misuse_at, node_reasons, waiting_reasons}
+use Rattle.gcd_history.specs.Permitted.{why, permitted, is_worker, has_block, is_on, is_behind, before, waits_on, first_waiting, misuse_at, node_reasons, waiting_reasons}
 use Rattle.gcd_history.specs.Choice.{end_of, next_events, own_events, wake_event, node_events, candidates, choice, is_work, worker_of}
 use Rattle.gcd_history.proofs.Lists.{any_left, any_right, any_flat, any_map, any_in_range, any_in_range_from, find_from_any, found_is, found_any, found_passes, all_flat, all_map, all_both}
 use Rattle.gcd_history.proofs.Reasons.{allowed, at_start, at_act, at_end, at_deliver_end, at_misuse, waiting_facts}
 use Rattle.gcd_history.proofs.StartedOnce.{open_from_has_run, some_kept}
-use Rattle.gcd_history.proofs.OpenNodes.{any_open, on_a_node, submitted_fit}
+use Rattle.gcd_history.proofs.SubmittedOnNodes.{on_a_node, submitted_fit}
+use Rattle.gcd_history.proofs.OpenNodes.{any_open}
 use Rattle.gcd_history.proofs.Fitting.{has_object}
 
 -- what is permitted passes
@@ -73,8 +74,8 @@ in_main plan past w from h =
     any_left p (own_part plan past w ++ wake_part plan w ++ main_part w ++ high_part plan past w from) (low_part plan past w from) three
 
 -- an event of a node is offered, from whatever number on
-in_nodes : (plan : PlanView) (past : List Event) (w from n : ℕ) → n < length plan.objects → from ≤ length plan.objects → list_any (permitted plan past) (node_events plan past w n) ≡ true → Offered plan past w from
-in_nodes plan past w from n within le h =
+in_nodes : (plan : PlanView) (past : List Event) (w from n : ℕ) → n < length plan.objects → list_any (permitted plan past) (node_events plan past w n) ≡ true → Offered plan past w from
+in_nodes plan past w from n within h =
     let p = permitted plan past in
     let front = own_part plan past w ++ wake_part plan w ++ main_part w in
     ⊎_elim
@@ -126,12 +127,12 @@ offered_wake plan past from w b h =
     in_wakes plan past w from (any_map (permitted plan past) (wake_event w) (range_with_len 0 (length plan.blocks))
     (any_in_range (λ n. permitted plan past (wake_event w n)) (length plan.blocks) b.0 within (may plan past (Wake w b) h)))
 
-offered_deliver : (plan : PlanView) (past : List Event) (from w : ℕ) (s : Obj) → from ≤ length plan.objects → why plan past (Deliver w s) ≡ None → Offered plan past w from
-offered_deliver plan past from w s le h =
+offered_deliver : (plan : PlanView) (past : List Event) (from w : ℕ) (s : Obj) → why plan past (Deliver w s) ≡ None → Offered plan past w from
+offered_deliver plan past from w s h =
     let p = permitted plan past in
     let source : is_source plan s.0 ≡ true = (and_parts (is_worker w) (is_source plan s.0) (allowed plan past (Deliver w s) h).known).1 in
     let here : list_any p (cond (is_source plan s.0) (Deliver w s ∷ []) []) ≡ true = ap (λ v. list_any p (cond v (Deliver w s ∷ []) [])) source ∙ or_left (p (Deliver w s)) false (may plan past (Deliver w s) h) in
-    in_nodes plan past w from s.0 (has_object is_source_kind plan s.0 source) le
+    in_nodes plan past w from s.0 (has_object is_source_kind plan s.0 source)
     (any_right p (option_map_or (λ t. Start w t.blk ∷ []) (first_waiting plan past s.0) []) (cond (is_source plan s.0) (Deliver w s ∷ []) []) here)
 
 -- of what waits, b is behind exactly where another is the first
@@ -163,9 +164,9 @@ first_of_node plan past b n s found front on fresh =
     (t.0, t.1, eqb-true t.0.blk.0 b (not-false (t.0.blk.0 == b) it))
 
 -- of a block that waits on a node
-started_there : (plan : PlanView) (past : List Event) (from w : ℕ) (b : Blk) (q : Obj) (s : Submission) → from ≤ length plan.objects → is_node plan q.0 ≡ true → s.node ≡ Some q → submission_of plan past b.0 ≡ Some s →
+started_there : (plan : PlanView) (past : List Event) (from w : ℕ) (b : Blk) (q : Obj) (s : Submission) → is_node plan q.0 ≡ true → s.node ≡ Some q → submission_of plan past b.0 ≡ Some s →
     first_of (waiting_reasons plan past s.blk.0 s.barrier q.0) ≡ None → is_started past b.0 ≡ false → why plan past (Start w b) ≡ None → Offered plan past w from
-started_there plan past from w b q s le node at found waits fresh h =
+started_there plan past from w b q s node at found waits fresh h =
     let p = permitted plan past in
     let same : s.blk.0 ≡ b.0 = eqb-true s.blk.0 b.0 (found_is (λ t. t.blk.0 == b.0) (submitted plan past) s found) in
     let front : is_behind plan past b.0 q.0 ≡ false = subst (λ k. is_behind plan past k q.0 ≡ false) same (waiting_facts plan past s.blk.0 s.barrier q.0 waits).behind in
@@ -174,46 +175,46 @@ started_there plan past from w b q s le node at found waits fresh h =
     let starts : p (Start w first.0.blk) ≡ true = subst (λ k. p (Start w (record { 0 = k })) ≡ true) (sym first.2) (may plan past (Start w b) h) in
     let here : list_any p (option_map_or (λ t. Start w t.blk ∷ []) (first_waiting plan past q.0) []) ≡ true =
     ap (λ o. list_any p (option_map_or (λ t. Start w t.blk ∷ []) o [])) first.1 ∙ or_left (p (Start w first.0.blk)) false starts in
-    in_nodes plan past w from q.0 (has_object is_node_kind plan q.0 node) le
+    in_nodes plan past w from q.0 (has_object is_node_kind plan q.0 node)
     (any_left p (option_map_or (λ t. Start w t.blk ∷ []) (first_waiting plan past q.0) []) (cond (is_source plan q.0) (Deliver w (record { 0 = q.0 }) ∷ []) []) here)
 
-offered_start : (plan : PlanView) (past : List Event) (from w : ℕ) (b : Blk) → IsPlan plan → IsLawful plan past → from ≤ length plan.objects → why plan past (Start w b) ≡ None → Offered plan past w from
-offered_start plan past from w b valid lawful le h =
+offered_start : (plan : PlanView) (past : List Event) (from w : ℕ) (b : Blk) → IsPlan plan → why plan past (Start w b) ≡ None → Offered plan past w from
+offered_start plan past from w b valid h =
     let p = permitted plan past in
     let facts = at_start plan past w b h in
     let s = some_kept (submission_of plan past b.0) facts.submitted_one in
     let same : s.0.blk.0 ≡ b.0 = eqb-true s.0.blk.0 b.0 (found_is (λ t. t.blk.0 == b.0) (submitted plan past) s.0 s.1) in
-    let fits : on_a_node plan s.0 ≡ true = (found_passes (λ t. t.blk.0 == b.0) (on_a_node plan) (submitted plan past) s.0 s.1 (submitted_fit plan past valid lawful)).1 in
+    let fits : on_a_node plan s.0 ≡ true = (found_passes (λ t. t.blk.0 == b.0) (on_a_node plan) (submitted plan past) s.0 s.1 (submitted_fit plan past valid)).1 in
     let waits : first_of (node_reasons plan past (Some s.0)) ≡ None = subst (λ o. first_of (node_reasons plan past o) ≡ None) s.1 facts.waits in
     elim s.0.node as (λ o. s.0.node ≡ o → option_map_or (λ k. is_node plan k.0) o (s.0.blk.0 == 0) ≡ true → first_of (option_map_or (λ k. waiting_reasons plan past s.0.blk.0 s.0.barrier k.0) o []) ≡ None → Offered plan past w from) [
       | None ↦ λ at main none.
           let zero : b.0 ≡ 0 = sym same ∙ eqb-true s.0.blk.0 0 main in
           in_main plan past w from (or_left (p (Start w (record { 0 = 0 }))) false (subst (λ k. p (Start w (record { 0 = k })) ≡ true) zero (may plan past (Start w b) h)))
-      | Some q ↦ λ at node facts_there. started_there plan past from w b q s.0 le node at s.1 facts_there facts.fresh h
+      | Some q ↦ λ at node facts_there. started_there plan past from w b q s.0 node at s.1 facts_there facts.fresh h
     ] refl fits waits
 
 -- where an event of worker w is permitted, it has one on offer
-offered : (plan : PlanView) (past : List Event) (from : ℕ) (e : Event) → IsPlan plan → IsLawful plan past → from ≤ length plan.objects → is_work e ≡ true → why plan past e ≡ None → Offered plan past (worker_of e) from
-offered plan past from (Start w b) valid lawful le work h = offered_start plan past from w b valid lawful le h
-offered plan past from (Acted w r i) valid lawful le work h = offered_act plan past from w r i h
-offered plan past from (Wake w b) valid lawful le work h = offered_wake plan past from w b h
-offered plan past from (End w b) valid lawful le work h = offered_end plan past from w (Block b) (at_end plan past w b h).own h
-offered plan past from (Deliver w s) valid lawful le work h = offered_deliver plan past from w s le h
-offered plan past from (DeliverEnd w s) valid lawful le work h = offered_end plan past from w (Source s) (at_deliver_end plan past w s h).own h
-offered plan past from (Misuse w r i c) valid lawful le work h = offered_misuse plan past from w r i c h
-offered plan past from (Tick t) valid lawful le work h = absurd (both_ways false refl work)
-offered plan past from (Ready s n) valid lawful le work h = absurd (both_ways false refl work)
-offered plan past from (FeedEnd s) valid lawful le work h = absurd (both_ways false refl work)
-offered plan past from Halt valid lawful le work h = absurd (both_ways false refl work)
+offered : (plan : PlanView) (past : List Event) (from : ℕ) (e : Event) → IsPlan plan → is_work e ≡ true → why plan past e ≡ None → Offered plan past (worker_of e) from
+offered plan past from (Start w b) valid work h = offered_start plan past from w b valid h
+offered plan past from (Acted w r i) valid work h = offered_act plan past from w r i h
+offered plan past from (Wake w b) valid work h = offered_wake plan past from w b h
+offered plan past from (End w b) valid work h = offered_end plan past from w (Block b) (at_end plan past w b h).own h
+offered plan past from (Deliver w s) valid work h = offered_deliver plan past from w s h
+offered plan past from (DeliverEnd w s) valid work h = offered_end plan past from w (Source s) (at_deliver_end plan past w s h).own h
+offered plan past from (Misuse w r i c) valid work h = offered_misuse plan past from w r i c h
+offered plan past from (Tick t) valid work h = absurd (both_ways false refl work)
+offered plan past from (Ready s n) valid work h = absurd (both_ways false refl work)
+offered plan past from (FeedEnd s) valid work h = absurd (both_ways false refl work)
+offered plan past from Halt valid work h = absurd (both_ways false refl work)
 
 -- so it chooses one
-pub chosen_where_permitted : (plan : PlanView) (past : List Event) (from : ℕ) (e : Event) → IsPlan plan → IsLawful plan past → from ≤ length plan.objects → is_work e ≡ true → why plan past e ≡ None → is_some (choice plan past (worker_of e) from) ≡ true
-chosen_where_permitted plan past from e valid lawful le work h = find_from_any (permitted plan past) (candidates plan past (worker_of e) from) (offered plan past from e valid lawful le work h)
+pub chosen_where_permitted : (plan : PlanView) (past : List Event) (from : ℕ) (e : Event) → IsPlan plan → is_work e ≡ true → why plan past e ≡ None → is_some (choice plan past (worker_of e) from) ≡ true
+chosen_where_permitted plan past from e valid work h = find_from_any (permitted plan past) (candidates plan past (worker_of e) from) (offered plan past from e valid work h)
 
 -- ## What is chosen is the worker's
 
 -- a worker's event
-abbrev is_by : ℕ → Event → Bool
+abbrev pub is_by : ℕ → Event → Bool
 is_by w e = is_work e && worker_of e == w
 
 end_by : (w : ℕ) (r : Run) → list_all (is_by w) (end_of w r ∷ []) ≡ true
@@ -243,7 +244,8 @@ node_by plan past w n =
     (elim (first_waiting plan past n) as (λ o. list_all (is_by w) (option_map_or (λ t. Start w t.blk ∷ []) o []) ≡ true) [ None ↦ refl | Some t ↦ one ])
     (elim (is_source plan n) as (λ v. list_all (is_by w) (cond v (Deliver w (record { 0 = n }) ∷ []) []) ≡ true) [ true ↦ one | false ↦ refl ])
 
-candidates_by : (plan : PlanView) (past : List Event) (w from : ℕ) → list_all (is_by w) (candidates plan past w from) ≡ true
+-- all that a worker may choose from are events of its own
+pub candidates_by : (plan : PlanView) (past : List Event) (w from : ℕ) → list_all (is_by w) (candidates plan past w from) ≡ true
 candidates_by plan past w from =
     let q = is_by w in
     let one = all_flat q (own_events plan past w) (open_runs past) (own_by plan past w) in

@@ -24,6 +24,7 @@ pub mod Woken
 pub mod WaitsPass
 pub mod OneRun
 pub mod Walks
+pub mod SubmittedOnNodes
 pub mod OpenNodes
 pub mod TargetActs
 pub mod TreeStands
@@ -32,3 +33,9 @@ pub mod RunsAlone
 pub mod Choices
 pub mod Quiet
 pub mod OneState
+pub mod Counts
+pub mod QueuesOnRoot
+pub mod ActsSubmitApart
+pub mod NothingHeld
+pub mod OnlyBlocksRun
+pub mod BlocksRunOnce

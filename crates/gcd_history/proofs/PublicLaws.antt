@@ -192,10 +192,10 @@ choice_is_permitted plan h w from e at =
     let chosen = chosen_is plan (reverse h) w from e at in
     record { permitted = chosen.permitted_now; work = chosen.work; by = chosen.by }
 
-pub no_choice_is_none : (plan : PlanView) (h : List Event) (w from : ℕ) → IsPlan plan → IsLawful plan h → from ≤ length plan.objects → choice_of plan h w from ≡ None → HasNoChoice plan h w
+pub no_choice_is_none : (plan : PlanView) (h : List Event) (w from : ℕ) → IsPlan plan → choice_of plan h w from ≡ None → HasNoChoice plan h w
 unfolding choice_of why
-no_choice_is_none plan h w from valid lawful le none e one =
-    let some = chosen_where_permitted plan (reverse h) from e valid (lawful_after plan h lawful) le one.work one.permitted in
+no_choice_is_none plan h w from valid none e one =
+    let some = chosen_where_permitted plan (reverse h) from e valid one.work one.permitted in
     let here : is_some (choice plan (reverse h) w from) ≡ true = subst (λ v. is_some (choice plan (reverse h) v from) ≡ true) one.by some in
     both_ways (is_some (choice plan (reverse h) w from)) (ap is_some none) here
 

@@ -118,10 +118,10 @@ its_worker Halt v work = absurd (both_ways false refl work)
 its_worker e v work = refl
 
 -- so worker 0 has a choice, where any worker has
-zero_chooses : (plan : PlanView) (past : List Event) (e : Event) → IsPlan plan → IsLawful plan past → running plan past ≡ 0 → is_work e ≡ true → why plan past e ≡ None → is_some (choice plan past 0 0) ≡ true
-zero_chooses plan past e valid lawful quiet work h =
+zero_chooses : (plan : PlanView) (past : List Event) (e : Event) → IsPlan plan → running plan past ≡ 0 → is_work e ≡ true → why plan past e ≡ None → is_some (choice plan past 0 0) ≡ true
+zero_chooses plan past e valid quiet work h =
     let may = alike plan past e 0 refl (all_free plan past (worker_of e) quiet) (all_free plan past 0 quiet) h in
-    let some = chosen_where_permitted plan past 0 (by_worker 0 e) valid lawful (omega arith) (work_kept e 0 work) may in
+    let some = chosen_where_permitted plan past 0 (by_worker 0 e) valid (work_kept e 0 work) may in
     subst (λ w. is_some (choice plan past w 0) ≡ true) (its_worker e 0 work) some
 
 -- ## A run that is open and unparked has a permitted event
@@ -334,7 +334,7 @@ pub quiescent_from_rest : (plan : PlanView) (past : List Event) → IsPlan plan 
 quiescent_from_rest plan past valid lawful rest = record {
   goes_on = rest.goes_on;
   no_work = λ e work. ⊎_elim
-      (λ may. absurd (both_ways (is_some (choice plan past 0 0)) (ap is_some rest.no_choice) (zero_chooses plan past e valid lawful rest.idle work (none_is (why plan past e) may))))
+      (λ may. absurd (both_ways (is_some (choice plan past 0 0)) (ap is_some rest.no_choice) (zero_chooses plan past e valid rest.idle work (none_is (why plan past e) may))))
       (λ none. none)
       (cases_Bool (permitted plan past e));
   no_time = rest.no_time;

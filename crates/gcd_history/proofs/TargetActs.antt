@@ -24,7 +24,8 @@ use Rattle.gcd_history.proofs.Reasons.{at_act}
 use Rattle.gcd_history.proofs.Woken.{open_kept}
 use Rattle.gcd_history.proofs.Fitting.{has_object}
 use Rattle.gcd_history.proofs.Walks.{child_in, all_in}
-use Rattle.gcd_history.proofs.OpenNodes.{open_on_from, open_on_to, node_kept_open, open_node, queue_is_node}
+use Rattle.gcd_history.proofs.SubmittedOnNodes.{queue_is_node}
+use Rattle.gcd_history.proofs.OpenNodes.{open_on_from, open_on_to, node_kept_open, open_node}
 
 -- ## No misuse
 

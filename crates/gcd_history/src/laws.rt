@@ -1,5 +1,5 @@
-// What holds of every lawful history. Each function's contract is a law; its body is empty.
-ghost use Rattle.std.specs.Prelude.{◌≡◌, ◌≤◌, ℕ, List, length, Some, None};
+// What holds of every lawful history, and some of every history. Each function's contract is a law; its body is empty.
+ghost use Rattle.std.specs.Prelude.{◌≡◌, ℕ, List, Some, None};
 ghost use Rattle.gcd_plan.specs.PlanView.{PlanView};
 ghost use Rattle.gcd_plan.specs.Validity.{IsPlan};
 ghost use Rattle.gcd_event.specs.declared.event.Event.{Event};
@@ -72,13 +72,13 @@ pub fn tree_stands_under_open_runs()
     ensures { (plan : PlanView) (h : List Event) → IsPlan plan → IsLawful plan h → TreeStands plan h }
 {}
 
-/// What a worker chooses is an event of its own that is permitted; it chooses none exactly where no event of its own is
-/// permitted, from whatever node on it looks (this project's own rule).
+/// What a worker chooses is an event of its own that is permitted; of a valid plan it chooses none exactly where no event of
+/// its own is permitted, whatever the history is and from whatever node on it looks (this project's own rule).
 pub fn choices_are_complete()
     ensures chosen { (plan : PlanView) (h : List Event) (w from : ℕ) (e : Event)
         → choice_of plan h w from ≡ Some e → IsChoiceOf plan h w e }
-    ensures none { (plan : PlanView) (h : List Event) (w from : ℕ) → IsPlan plan → IsLawful plan h
-        → from ≤ length plan.objects → choice_of plan h w from ≡ None → HasNoChoice plan h w }
+    ensures none { (plan : PlanView) (h : List Event) (w from : ℕ) → IsPlan plan → choice_of plan h w from ≡ None
+        → HasNoChoice plan h w }
 {}
 
 /// A history is quiescent exactly where it is at rest: no run is open and unparked, worker 0 has no choice, no due time is

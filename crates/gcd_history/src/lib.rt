@@ -28,7 +28,7 @@
 //! | [`laws::wakes_have_causes`] | a parked block wakes only when what it waits for has come |
 //! | [`laws::merged_data_is_conserved`] | what was merged was handed over, or is pending |
 //! | [`laws::tree_stands_under_open_runs`] | targets lead to root, and stand still under an open run |
-//! | [`laws::choices_are_complete`] | a worker has a choice exactly where an event of its own is permitted |
+//! | [`laws::choices_are_complete`] | in any history of a valid plan a worker has a choice exactly where an event of its own is permitted |
 //! | [`laws::quiescent_is_at_rest`], [`laws::ended_histories_stand`], [`laws::states_are_apart`] | how to see that nothing goes on, and what can still come then |
 //! | [`facts::workers_have_one_run`], [`facts::open_runs_go_on`] | a worker has at most one open and unparked run, and such a run has a permitted event of its own |
 //! | [`facts::free_workers_are_alike`] | what is permitted to one free worker is permitted to every other |

@@ -15,14 +15,14 @@ use Rattle.gcd_event.specs.declared.event.Event.{Event}
 use Rattle.gcd_history.specs.Runs.{same_run, is_open, is_started}
 use Rattle.gcd_history.specs.Submitted.{submission_of}
 use Rattle.gcd_history.specs.Tree.{is_run_on}
+use Rattle.gcd_history.proofs.RunsOpen.{same_run-true}
+use Rattle.gcd_history.proofs.QueuesOnRoot.{IsFirstPlan, serial_queue}
+use Rattle.gcd_history.proofs.BlocksRunOnce.{Facts, queued_of, main_submitted, open_parts}
 use Rattle.gcd_machine.specs.MachineView.{MachineView, idle, progress, at_worker}
 use Rattle.gcd_machine.specs.Keeps.{Keeps, IsShaped, progress_of, events_of}
 use Rattle.gcd_machine.specs.Kept.{with_open, without_first}
 use Rattle.gcd_lists.specs.ListsView.{ListsView, list_at}
 use Rattle.gcd_machine.specs.declared.progress.Progress.{Progress}
-use Rattle.gcd_machine.proofs.Runs.{same_run_true}
-use Rattle.gcd_machine.proofs.FirstForms.{IsFirstPlan, serial_queue}
-use Rattle.gcd_machine.proofs.Facts.{Facts, queued_of, main_submitted, open_parts}
 
 -- ## Progress
 
@@ -117,7 +117,7 @@ pub never_open : (plan : PlanView) (past : List Event) (b : Blk) (run : Run) →
     → same_run (Block b) run ≡ false
 never_open plan past b run facts fresh among =
     false_from_ne_true (same_run (Block b) run) (λ same.
-    let here : is_open past (Block b) ≡ true = ap (is_open past) (same_run_true (Block b) run same) ∙ among in
+    let here : is_open past (Block b) ≡ true = ap (is_open past) (same_run-true (Block b) run same) ∙ among in
     both_ways (is_started past b.0) fresh (open_parts plan past b facts here).0)
 
 -- where a block is on, as the array tells it

@@ -3,17 +3,16 @@ use Rattle.std.proofs.Common.{◌≡◌, ℕ, zero, suc, ◌+◌, ◌-◌, ◌<�
 use Rattle.std.specs.List.{slice_get, list_all, flat_map, range_with_len}
 use Rattle.std.specs.Option.{option_map, option_map_or, option_or, option_to_list, is_some, is_none, IfSome}
 use Rattle.std.proofs.lemmas.Bool.{and_parts, and_from, both_ways, eqb-true, not-true, lt-ltb, le-leb, or_right, and_right}
-use Rattle.std.proofs.lemmas.Option.{same_Some, none-some, slice_get_within, get_or_from_slice_get}
+use Rattle.std.proofs.lemmas.Option.{none-some, slice_get_within, get_or_from_slice_get}
 use Rattle.std.proofs.lemmas.List.{append-nil}
 use Rattle.std.proofs.lemmas.List.Sums.{get_or-le-sum_by}
-use Rattle.std.proofs.lemmas.List.Folds.{find-append, list_all-append}
+use Rattle.std.proofs.lemmas.List.Folds.{find-append}
 use Rattle.gcd_plan.specs.PlanView.{PlanView}
 use Rattle.gcd_plan.specs.Kinds.{is_source}
 use Rattle.gcd_plan.specs.StartRule.{first_of}
 use Rattle.gcd_plan.specs.declared.names.Blk.{Blk}
 use Rattle.gcd_plan.specs.declared.names.Obj.{Obj}
-use Rattle.gcd_plan.specs.declared.names.Run.{Run}
-use Rattle.gcd_plan.specs.declared.names.Run.TheVariants.{Block, Source}
+use Rattle.gcd_plan.specs.declared.names.Run.TheVariants.{Block}
 use Rattle.gcd_plan.specs.declared.why.Why.{Why}
 use Rattle.gcd_plan.specs.declared.why.Why.TheVariants.{Over, NoSuch, Busy, Unready, Behind, Excluded, NotOwn, NotNext, NotParked}
 use Rattle.gcd_plan.specs.Validity.{IsPlan}
@@ -23,86 +22,20 @@ use Rattle.gcd_history.specs.declared.submission.Submission.{Submission}
 use Rattle.gcd_history.specs.Runs.{open_runs, acts_done, act_at, is_started}
 use Rattle.gcd_history.specs.Submitted.{submitted, submission_of, main_submission}
 use Rattle.gcd_history.specs.Parked.{has_run}
-use Rattle.gcd_history.specs.Permitted.{is_halted, is_known, is_worker, has_block, is_run_of, reasons, is_on, waits_on, misuse_at, first_waiting, why, permitted}
-use Rattle.gcd_history.specs.Choice.{end_of, next_events, own_events, wake_event, node_events, candidates, choice, is_work}
-use Rattle.gcd_machine.specs.Workers.{worker_of}
+use Rattle.gcd_history.specs.Permitted.{is_halted, is_known, is_worker, has_block, is_run_of, reasons, is_on, waits_on, first_waiting, permitted}
+use Rattle.gcd_history.specs.Choice.{next_events, own_events, wake_event, node_events, candidates, choice, is_work, worker_of}
+use Rattle.gcd_history.proofs.Lists.{found_is}
+use Rattle.gcd_history.proofs.Choices.{is_by, candidates_by}
+use Rattle.gcd_history.proofs.Counts.{found_alone}
+use Rattle.gcd_history.proofs.NothingHeld.{no_misuses, no_sources}
+use Rattle.gcd_history.proofs.BlocksRunOnce.{queued_of, main_submitted}
 use Rattle.gcd_machine.specs.MachineView.{MachineView, progress, at_worker, at_queue}
 use Rattle.gcd_machine.specs.Keeps.{Keeps, run_list, waiter}
 use Rattle.gcd_machine.specs.Kept.{queue_reasons, is_waiting, is_blk, is_first, kept_why, next_event, node_choice, nodes_choice, idle_choice, kept_choice}
 use Rattle.gcd_lists.specs.ListsView.{list_at}
-use Rattle.gcd_machine.proofs.Lists.{find_passes, found_alone}
-use Rattle.gcd_machine.proofs.Plain.{no_misuses, no_sources}
-use Rattle.gcd_machine.proofs.Facts.{queued_of, main_submitted}
 use Rattle.gcd_machine.proofs.Judged.{first_plan, facts_at, own_runs, done_is, node_is, first_is, why_is}
 
--- ## Candidates
-
-all_append : {X : Type 0} (q : X → Bool) (xs ys : List X) → list_all q xs ≡ true → list_all q ys ≡ true → list_all q (xs ++ ys) ≡ true
-all_append q xs ys a b = list_all-append q xs ys ∙ and_from (list_all q xs) (list_all q ys) a b
-
-all_flat : {X Y : Type 0} (q : Y → Bool) (f : X → List Y) (xs : List X) → ((x : X) → list_all q (f x) ≡ true) → list_all q (flat_map f xs) ≡ true
-all_flat q f [] each = refl
-all_flat q f (x ∷ xs) each = all_append q (f x) (flat_map f xs) (each x) (all_flat q f xs each)
-
-all_map : {X Y : Type 0} (q : Y → Bool) (f : X → Y) (xs : List X) → ((x : X) → q (f x) ≡ true) → list_all q (map f xs) ≡ true
-all_map q f [] each = refl
-all_map q f (x ∷ xs) each = and_from (q (f x)) (list_all q (map f xs)) (each x) (all_map q f xs each)
-
--- the event is worker w's
-abbrev pub is_by : ℕ → Event → Bool
-is_by w e = worker_of e == w
-
-ends_own : (w : ℕ) (run : Run) → is_by w (end_of w run) ≡ true
-ends_own w (Block b) = eq-eqb w w refl
-ends_own w (Source s) = eq-eqb w w refl
-
-own_all : (plan : PlanView) (past : List Event) (w : ℕ) (run : Run) → list_all (is_by w) (own_events plan past w run) ≡ true
-own_all plan past w run =
-    let own = eq-eqb w w refl in
-    let misuses = map (Misuse w run (acts_done past run)) (option_to_list (misuse_at plan past run (acts_done past run))) in
-    elim (has_run plan past w run) as (λ v. list_all (is_by w) (cond v (next_events plan past w run) []) ≡ true) [
-      | true ↦
-          all_append (is_by w) (Acted w run (acts_done past run) ∷ misuses) (end_of w run ∷ [])
-          (and_from (w == w) (list_all (is_by w) misuses) own
-          (all_map (is_by w) (Misuse w run (acts_done past run)) (option_to_list (misuse_at plan past run (acts_done past run))) (λ c. own)))
-          (and_from (is_by w (end_of w run)) true (ends_own w run) refl)
-      | false ↦ refl
-    ]
-
-nodes_all : (plan : PlanView) (past : List Event) (w n : ℕ) → list_all (is_by w) (node_events plan past w n) ≡ true
-nodes_all plan past w n =
-    let own = eq-eqb w w refl in
-    all_append (is_by w) (option_map_or (λ s. Start w s.blk ∷ []) (first_waiting plan past n) []) (cond (is_source plan n) (Deliver w (record { 0 = n }) ∷ []) [])
-    (elim (first_waiting plan past n) as (λ o. list_all (is_by w) (option_map_or (λ s. Start w s.blk ∷ []) o []) ≡ true) [ None ↦ refl | Some s ↦ and_from (w == w) true own refl ])
-    (elim (is_source plan n) as (λ v. list_all (is_by w) (cond v (Deliver w (record { 0 = n }) ∷ []) []) ≡ true) [ true ↦ and_from (w == w) true own refl | false ↦ refl ])
-
--- all that a worker may choose from are events of its own
-pub candidates_own : (plan : PlanView) (past : List Event) (w from : ℕ) → list_all (is_by w) (candidates plan past w from) ≡ true
-candidates_own plan past w from =
-    let own = eq-eqb w w refl in
-    let a = flat_map (own_events plan past w) (open_runs past) in
-    let b = map (wake_event w) (range_with_len 0 (length plan.blocks)) in
-    let c = Start w (record { 0 = 0 }) ∷ [] in
-    let d = flat_map (node_events plan past w) (range_with_len from (length plan.objects - from)) in
-    let e = flat_map (node_events plan past w) (range_with_len 0 from) in
-    all_append (is_by w) (a ++ b ++ c ++ d) e
-    (all_append (is_by w) (a ++ b ++ c) d
-    (all_append (is_by w) (a ++ b) c
-    (all_append (is_by w) a b (all_flat (is_by w) (own_events plan past w) (open_runs past) (own_all plan past w))
-    (all_map (is_by w) (wake_event w) (range_with_len 0 (length plan.blocks)) (λ k. own)))
-    (and_from (w == w) true own refl))
-    (all_flat (is_by w) (node_events plan past w) (range_with_len from (length plan.objects - from)) (nodes_all plan past w)))
-    (all_flat (is_by w) (node_events plan past w) (range_with_len 0 from) (nodes_all plan past w))
-
--- where all elements have a property, what is found has it
-pub found_has : {X : Type 0} (q p : X → Bool) (xs : List X) (x : X) → list_all q xs ≡ true → find p xs ≡ Some x → q x ≡ true
-found_has q p [] x all found = cc
-found_has q p (y ∷ ys) x all found =
-    let parts = and_parts (q y) (list_all q ys) all in
-    elim (p y) as (λ v. cond v (Some y) (find p ys) ≡ Some x → q x ≡ true) [
-      | true ↦ λ f. ap q (sym (same_Some y x f)) ∙ parts.0
-      | false ↦ λ f. found_has q p ys x parts.1 f
-    ] found
+-- ## Where nothing is permitted
 
 -- where what has the property fails, nothing is found
 pub found_none : {X : Type 0} (q p : X → Bool) (xs : List X) → list_all q xs ≡ true → ((x : X) → q x ≡ true → p x ≡ false) → find p xs ≡ None
@@ -110,20 +43,6 @@ found_none q p [] all fails = refl
 found_none q p (y ∷ ys) all fails =
     let parts = and_parts (q y) (list_all q ys) all in
     ap (λ v. cond v (Some y) (find p ys)) (fails y parts.0) ∙ found_none q p ys parts.1 fails
-
--- what a worker records next is its own event, and permitted
-pub choice_own : (plan : PlanView) (past : List Event) (w from : ℕ) (e : Event) → choice plan past w from ≡ Some e → worker_of e ≡ w
-choice_own plan past w from e found =
-    eqb-true (worker_of e) w (found_has (is_by w) (permitted plan past) (candidates plan past w from) e (candidates_own plan past w from) found)
-
-none_is : {X : Type 0} (o : Option X) → is_none o ≡ true → o ≡ None
-none_is None h = refl
-none_is (Some x) h = cc
-
-pub choice_permitted : (plan : PlanView) (past : List Event) (w from : ℕ) (e : Event) → choice plan past w from ≡ Some e → why plan past e ≡ None
-choice_permitted plan past w from e found = none_is (why plan past e) (find_passes (permitted plan past) (candidates plan past w from) e found)
-
--- ## Where nothing is permitted
 
 -- an event against which a reason stands is not permitted
 refused : (o : Option Why) (w : Why) → o ≡ Some w → is_none o ≡ false
@@ -156,12 +75,12 @@ unknown_worker plan w Halt none by = absurd (both_ways (is_worker 0) (ap is_work
 
 halted_choice : (plan : PlanView) (past : List Event) (w from : ℕ) → is_halted past ≡ true → choice plan past w from ≡ None
 halted_choice plan past w from halted =
-    found_none (is_by w) (permitted plan past) (candidates plan past w from) (candidates_own plan past w from) (λ e _. halted_fails plan past e halted)
+    found_none (is_by w) (permitted plan past) (candidates plan past w from) (candidates_by plan past w from) (λ e _. halted_fails plan past e halted)
 
 no_worker_choice : (plan : PlanView) (past : List Event) (w from : ℕ) → is_worker w ≡ false → choice plan past w from ≡ None
 no_worker_choice plan past w from none =
-    found_none (is_by w) (permitted plan past) (candidates plan past w from) (candidates_own plan past w from)
-    (λ e by. unknown_fails plan past e (unknown_worker plan w e none (eqb-true (worker_of e) w by)))
+    found_none (is_by w) (permitted plan past) (candidates plan past w from) (candidates_by plan past w from)
+    (λ e by. unknown_fails plan past e (unknown_worker plan w e none (eqb-true (worker_of e) w (and_parts (is_work e) (worker_of e == w) by).1)))
 
 -- ## The worker's own block
 
@@ -360,7 +279,7 @@ head_is m past n s q keeps found here on same unstarted =
 pub start_first : (m : MachineView) (past : List Event) (w n : ℕ) (s : Submission) → Keeps m past → IsGoing m w → at_worker m w ≡ None
     → find (waits_on past n) (submitted m.plan past) ≡ Some s → permitted m.plan past (Start w s.blk) ≡ not (is_some (at_queue m n))
 start_first m past w n s keeps go at found =
-    let waits = and_parts (is_on n s) (not (is_started past s.blk.0)) (find_passes (waits_on past n) (submitted m.plan past) s found) in
+    let waits = and_parts (is_on n s) (not (is_started past s.blk.0)) (found_is (waits_on past n) (submitted m.plan past) s found) in
     let here : submission_of m.plan past s.blk.0 ≡ Some s =
     found_alone (waits_on past n) (λ t. t.blk.0 == s.blk.0) (submitted m.plan past) s ((facts_at m past keeps).once s.blk.0) found (eq-eqb s.blk.0 s.blk.0 refl) in
     let on = on_is n s.node waits.0 in

@@ -2,7 +2,7 @@
 -- ended.
 use Rattle.std.proofs.Common.{◌≡◌, ℕ, zero, suc, ◌+◌, ◌-◌, ◌<◌, ◌≤◌, ◌==◌, Bool, true, false, not, ◌&&◌, ◌||◌, cond, List, [], ◌∷◌, length, filter, Option, Some, None, find, refl, ap, sym, ◌∙◌, subst, arith, ⊎_elim, eq-eqb}
 use Rattle.std.specs.List.{slice_get, list_any, list_all, count_by}
-use Rattle.std.specs.Option.{option_map, option_map_or, option_or, is_some, is_none}
+use Rattle.std.specs.Option.{option_map, option_map_or, option_or, is_some}
 use Rattle.std.proofs.lemmas.Bool.{and_parts, and_from, both_ways, cases_eq, cases_lt, eqb-true, not-true, lt-ltb, or_left, false_from_ne_true}
 use Rattle.std.proofs.lemmas.Option.{same_Some, none-some}
 use Rattle.std.proofs.lemmas.List.Sums.{sum_by-cons}
@@ -17,20 +17,22 @@ use Rattle.gcd_history.specs.Runs.{same_run, open_runs, is_open, act_at, last_wo
 use Rattle.gcd_history.specs.Submitted.{submitted, submission_of}
 use Rattle.gcd_history.specs.Tree.{is_run_on}
 use Rattle.gcd_history.specs.Permitted.{is_halted, ends_in_halt, is_worker, is_on, waits_on, why, permitted, IsLawful}
-use Rattle.gcd_history.specs.Choice.{IsQuiescent, all_ended, is_work}
-use Rattle.gcd_machine.specs.Workers.{worker_of}
+use Rattle.gcd_history.specs.Choice.{IsQuiescent, all_ended, is_work, worker_of}
+use Rattle.gcd_history.proofs.Lists.{found_is, found_passes}
+use Rattle.gcd_history.proofs.RunsOpen.{same_run-refl}
+use Rattle.gcd_history.proofs.Choices.{none_is}
+use Rattle.gcd_history.proofs.Counts.{found_alone, counted_found, count_unfound}
+use Rattle.gcd_history.proofs.QueuesOnRoot.{IsFirstPlan, serial_queue}
+use Rattle.gcd_history.proofs.NothingHeld.{nothing_due, nothing_live}
+use Rattle.gcd_history.proofs.OnlyBlocksRun.{Step, starts, acts, ends, halts, step_of}
+use Rattle.gcd_history.proofs.BlocksRunOnce.{Facts, queued_of, open_parts, own_is_open}
 use Rattle.gcd_machine.specs.MachineView.{MachineView, progress, at_worker, at_queue}
 use Rattle.gcd_machine.specs.Keeps.{Keeps, is_last, run_list, waiter}
 use Rattle.gcd_machine.specs.Kept.{next_event, node_choice, nodes_choice, idle_choice, kept_choice}
 use Rattle.gcd_lists.specs.ListsView.{list_at}
-use Rattle.gcd_machine.proofs.Lists.{find_passes, found_alone, counted_found, count_unfound}
-use Rattle.gcd_machine.proofs.Runs.{among_one, same_run_self}
-use Rattle.gcd_machine.proofs.FirstForms.{IsFirstPlan, serial_queue}
-use Rattle.gcd_machine.proofs.Plain.{nothing_due, nothing_live}
-use Rattle.gcd_machine.proofs.Steps.{Step, starts, acts, ends, halts, step_of}
-use Rattle.gcd_machine.proofs.Facts.{Facts, queued_of, open_parts, own_is_open}
+use Rattle.gcd_machine.proofs.Runs.{among_one}
 use Rattle.gcd_machine.proofs.Judged.{first_plan, facts_at, first_is}
-use Rattle.gcd_machine.proofs.Chosen.{IsGoing, found_has, act_permitted, end_permitted, start_main, start_first}
+use Rattle.gcd_machine.proofs.Chosen.{IsGoing, act_permitted, end_permitted, start_main, start_first}
 
 -- ## Where all have ended
 
@@ -40,8 +42,8 @@ ended_of plan past b all some =
     elim (submission_of plan past b) as (λ o. submission_of plan past b ≡ o → is_some o ≡ true → is_ended past b ≡ true) [
       | None ↦ λ e h. cc
       | Some s ↦ λ e h.
-          let named : s.blk.0 ≡ b = eqb-true s.blk.0 b (find_passes (λ t. t.blk.0 == b) (submitted plan past) s e) in
-          ap (is_ended past) (sym named) ∙ found_has (λ t. is_ended past t.blk.0) (λ t. t.blk.0 == b) (submitted plan past) s all e
+          let named : s.blk.0 ≡ b = eqb-true s.blk.0 b (found_is (λ t. t.blk.0 == b) (submitted plan past) s e) in
+          ap (is_ended past) (sym named) ∙ (found_passes (λ t. t.blk.0 == b) (λ t. is_ended past t.blk.0) (submitted plan past) s e all).1
     ] refl some
 
 nothing_open : (plan : PlanView) (past : List Event) (run : Run) → Facts plan past → all_ended plan past ≡ true → is_open past run ≡ true → ⊥
@@ -56,10 +58,6 @@ no_step plan past _ first facts all work (starts w b may) =
 no_step plan past _ first facts all work (acts w b i may) = nothing_open plan past (Block b) facts all (own_is_open plan past w (Block b) first may.own)
 no_step plan past _ first facts all work (ends w b may) = nothing_open plan past (Block b) facts all (own_is_open plan past w (Block b) first may.own)
 no_step plan past _ first facts all work (halts goes_on) = cc
-
-none_is : {X : Type 0} (o : Option X) → is_none o ≡ true → o ≡ None
-none_is None h = refl
-none_is (Some x) h = cc
 
 -- then nothing can come
 pub quiet_at_end : (plan : PlanView) (past : List Event) → IsFirstPlan plan → Facts plan past → is_halted past ≡ false → all_ended plan past ≡ true → IsQuiescent plan past
@@ -154,7 +152,7 @@ idle_goes m past b s keeps going empty found fresh =
     (λ other.
     let queued = queued_of m.plan past b s (facts_at m past keeps) found other in
     let q = queued.queue in
-    let named : s.blk.0 ≡ b = eqb-true s.blk.0 b (find_passes (λ t. t.blk.0 == b) (submitted m.plan past) s found) in
+    let named : s.blk.0 ≡ b = eqb-true s.blk.0 b (found_is (λ t. t.blk.0 == b) (submitted m.plan past) s found) in
     let waits : waits_on past q.0 s ≡ true =
     and_from (is_on q.0 s) (not (is_started past s.blk.0)) (ap (λ o. option_map_or (λ n. n.0 == q.0) o false) queued.node ∙ eq-eqb q.0 q.0 refl) (ap not (ap (is_started past) named ∙ fresh)) in
     let head = first_waits past q.0 s (λ t. t.blk.0 == b) (submitted m.plan past) found waits in
@@ -174,7 +172,7 @@ left_goes m past b s keeps going left =
       | true ↦ λ started. open_goes m past (record { 0 = b }) keeps going started left.unended
       | false ↦ λ fresh. elim (open_runs past) as (λ l. open_runs past ≡ l → MayGoOn m.plan past) [
         | [] ↦ λ empty. idle_goes m past b s keeps going empty left.found fresh
-        | x ∷ xs ↦ λ e. others_go x (ap (list_any (same_run x)) e ∙ or_left (same_run x x) (list_any (same_run x) xs) (same_run_self x))
+        | x ∷ xs ↦ λ e. others_go x (ap (list_any (same_run x)) e ∙ or_left (same_run x x) (list_any (same_run x) xs) (same_run-refl x))
       ] refl
     ] refl
   where
@@ -205,7 +203,7 @@ left_of plan past facts some =
         s,
         record {
           found = found_alone p (λ t. t.blk.0 == s.blk.0) xs s (facts.once s.blk.0) e (eq-eqb s.blk.0 s.blk.0 refl);
-          unended = not-true (is_ended past s.blk.0) (find_passes p xs s e);
+          unended = not-true (is_ended past s.blk.0) (found_is p xs s e);
         },
       )
     ] refl
@@ -321,7 +319,7 @@ alone_goes m past w from b s keeps all left at =
           let queued = queued_of m.plan past b s (facts_at m past keeps) left.found other in
           let q = queued.queue in
           let within = (serial_queue m.plan q.0 (first_plan m past keeps) queued.serial).within in
-          let named : s.blk.0 ≡ b = eqb-true s.blk.0 b (find_passes (λ t. t.blk.0 == b) (submitted m.plan past) s left.found) in
+          let named : s.blk.0 ≡ b = eqb-true s.blk.0 b (found_is (λ t. t.blk.0 == b) (submitted m.plan past) s left.found) in
           let waits : waits_on past q.0 s ≡ true =
           and_from (is_on q.0 s) (not (is_started past s.blk.0)) (ap (λ o. option_map_or (λ n. n.0 == q.0) o false) queued.node ∙ eq-eqb q.0 q.0 refl) (ap not (ap (is_started past) named ∙ fresh)) in
           let head = first_waits past q.0 s (λ t. t.blk.0 == b) (submitted m.plan past) left.found waits in

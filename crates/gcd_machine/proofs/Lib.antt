@@ -1,9 +1,3 @@
-pub mod Lists
-pub mod FirstForms
-pub mod Plain
-pub mod Positions
-pub mod Steps
-pub mod Facts
 pub mod Runs
 pub mod Judged
 pub mod Waiting
@@ -15,5 +9,4 @@ pub mod Chosen
 pub mod Ending
 pub mod Shown
 pub mod Applied
-pub mod Complete
 pub mod Walks

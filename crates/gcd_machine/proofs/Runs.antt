@@ -2,30 +2,20 @@
 use Rattle.std.proofs.Common.{◌≡◌, ℕ, ◌==◌, Bool, true, false, not, ◌&&◌, ◌||◌, cond, List, [], ◌∷◌, filter, Option, Some, None, refl, ap, sym, ◌∙◌, ⊎_elim, eq-eqb, ne_eqb}
 use Rattle.std.specs.List.{slice_get, list_any}
 use Rattle.std.specs.Option.{option_map_or, is_some}
-use Rattle.std.proofs.lemmas.Bool.{or_left, or_right, eqb-true, cases_eq}
+use Rattle.std.proofs.lemmas.Bool.{or_left, or_right, cases_eq}
 use Rattle.gcd_plan.specs.declared.names.Blk.{Blk}
 use Rattle.gcd_plan.specs.declared.names.Run.{Run}
-use Rattle.gcd_plan.specs.declared.names.Run.TheVariants.{Block, Source}
+use Rattle.gcd_plan.specs.declared.names.Run.TheVariants.{Block}
 use Rattle.gcd_history.specs.Runs.{same_run}
+use Rattle.gcd_history.proofs.RunsOpen.{same_run-true, same_run-refl}
+use Rattle.gcd_history.proofs.Counts.{filter_twice}
 use Rattle.gcd_machine.specs.Keeps.{run_list}
-use Rattle.gcd_machine.proofs.Lists.{filter_twice}
-
--- runs that pass the test are one
-pub same_run_true : (r q : Run) → same_run r q ≡ true → r ≡ q
-same_run_true (Block b) (Block c) h = ap (λ n. Block (record { 0 = n })) (eqb-true b.0 c.0 h)
-same_run_true (Source s) (Source t) h = ap (λ n. Source (record { 0 = n })) (eqb-true s.0 t.0 h)
-same_run_true (Block b) (Source t) h = cc
-same_run_true (Source s) (Block c) h = cc
-
-pub same_run_self : (r : Run) → same_run r r ≡ true
-same_run_self (Block b) = eq-eqb b.0 b.0 refl
-same_run_self (Source s) = eq-eqb s.0 s.0 refl
 
 -- tests that agree at each run of the list
 pub filter_alike_in : (p q : Run → Bool) (xs : List Run) → ((run : Run) → list_any (same_run run) xs ≡ true → p run ≡ q run) → filter p xs ≡ filter q xs
 filter_alike_in p q [] same = refl
 filter_alike_in p q (x ∷ xs) same =
-    let here = same x (or_left (same_run x x) (list_any (same_run x) xs) (same_run_self x)) in
+    let here = same x (or_left (same_run x x) (list_any (same_run x) xs) (same_run-refl x)) in
     let rest = filter_alike_in p q xs (λ run among. same run (or_right (same_run run x) (list_any (same_run run) xs) among)) in
     ap (λ v. cond v (x ∷ filter p xs) (filter p xs)) here ∙ ap (λ l. cond (q x) (x ∷ l) l) rest
 
@@ -36,12 +26,12 @@ among_filtered p run (x ∷ xs) =
     let rest = among_filtered p run xs in
     elim (p x) as (λ v. p x ≡ v → list_any (same_run run) (cond v (x ∷ filter p xs) (filter p xs)) ≡ ((same_run run x || list_any (same_run run) xs) && p run)) [
       | true ↦ λ e. elim (same_run run x) as (λ s. same_run run x ≡ s → (s || list_any (same_run run) (filter p xs)) ≡ ((s || list_any (same_run run) xs) && p run)) [
-        | true ↦ λ same. sym (ap p (same_run_true run x same) ∙ e)
+        | true ↦ λ same. sym (ap p (same_run-true run x same) ∙ e)
         | false ↦ λ other. rest
       ] refl
       | false ↦ λ e. elim (same_run run x) as (λ s. same_run run x ≡ s → list_any (same_run run) (filter p xs) ≡ ((s || list_any (same_run run) xs) && p run)) [
         | true ↦ λ same.
-            let gone : p run ≡ false = ap p (same_run_true run x same) ∙ e in
+            let gone : p run ≡ false = ap p (same_run-true run x same) ∙ e in
             rest ∙ (ap (λ v. list_any (same_run run) xs && v) gone ∙ (off (list_any (same_run run) xs) ∙ sym gone))
         | false ↦ λ other. rest
       ] refl

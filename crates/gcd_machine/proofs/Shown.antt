@@ -23,17 +23,19 @@ use Rattle.gcd_history.specs.History.{why, choice_of, running_of, first_waiting_
 use Rattle.gcd_history.specs.Ends.{is_halted, IsDrained, IsQuiescent, all_ended, ends_in_halt, HasState}
 use Rattle.gcd_history.specs.declared.state.State.TheVariants.{Drained, Halted, Live}
 use Rattle.gcd_history.proofs.LawfulLemmas.{lawful_none, lawful_more}
+use Rattle.gcd_history.proofs.Choices.{chosen_is}
 use Rattle.gcd_machine.specs.MachineView.{MachineView, idle, progress}
 use Rattle.gcd_machine.specs.Keeps.{Keeps, IsShaped, progress_of, run_list, waiter, events_of}
 use Rattle.gcd_machine.specs.Kept.{kept_why, kept_choice}
 use Rattle.gcd_machine.specs.Stands.{StandsFor}
-use Rattle.gcd_machine.specs.Workers.{worker_of, is_all_by}
+use Rattle.gcd_history.specs.Choice.{worker_of}
+use Rattle.gcd_history.proofs.NothingHeld.{parked_none}
+use Rattle.gcd_machine.specs.Workers.{is_all_by}
 use Rattle.gcd_lists.specs.ListsView.{ListsView, list_at}
 use Rattle.gcd_machine.specs.declared.progress.Progress.{Progress}
-use Rattle.gcd_machine.proofs.Plain.{parked_none}
 use Rattle.gcd_machine.proofs.Changed.{progress_by}
 use Rattle.gcd_machine.proofs.Judged.{first_plan, why_is, first_is}
-use Rattle.gcd_machine.proofs.Chosen.{choice_is, choice_permitted}
+use Rattle.gcd_machine.proofs.Chosen.{choice_is}
 use Rattle.gcd_machine.proofs.Ending.{drained_is, live_is, halt_is, alone_drained}
 
 -- what is true of the machine's own plan is true of the plan that it stands for
@@ -139,7 +141,7 @@ choice_stands m plan h w from stands =
 -- what is chosen is permitted
 pub chosen_permitted : (plan : PlanView) (h : List Event) (w from : ℕ) (e : Event) → choice_of plan h w from ≡ Some e → why plan h e ≡ None
 unfolding choice_of why
-chosen_permitted plan h w from e found = choice_permitted plan (reverse h) w from e found
+chosen_permitted plan h w from e found = (chosen_is plan (reverse h) w from e found).permitted_now
 
 pub parks_stands : (m : MachineView) (plan : PlanView) (h : List Event) (e : Event) → StandsFor m plan h → parked.parks (act_of m.plan e) ≡ parks plan e
 unfolding parks

@@ -4,6 +4,7 @@ use Rattle.std.specs.List.{count_by, sum_by}
 use Rattle.std.specs.Option.{option_map, option_map_or, option_and_then, option_or, is_some}
 use Rattle.std.proofs.lemmas.Bool.{and_parts, both_ways, eqb-true, ltb-true, false_from_ne_true}
 use Rattle.std.proofs.lemmas.List.{length-set, append-nil, map_push}
+use Rattle.std.proofs.lemmas.List.Elements.{filter-append}
 use Rattle.gcd_plan.specs.PlanView.{PlanView}
 use Rattle.gcd_plan.specs.declared.names.Blk.{Blk}
 use Rattle.gcd_plan.specs.declared.names.Obj.{Obj}
@@ -16,17 +17,17 @@ use Rattle.gcd_history.specs.Runs.{open_runs, is_open, acts_done, is_started, is
 use Rattle.gcd_history.specs.Submitted.{submitted, submission_of, submitted_by, on_node}
 use Rattle.gcd_history.specs.Tree.{is_run_on}
 use Rattle.gcd_history.specs.Permitted.{waits_on, why}
+use Rattle.gcd_history.proofs.Counts.{count_push}
+use Rattle.gcd_history.proofs.QueuesOnRoot.{IsFirstPlan, serial_queue}
+use Rattle.gcd_history.proofs.NothingHeld.{submitted_more}
+use Rattle.gcd_history.proofs.OnlyBlocksRun.{ActFacts}
+use Rattle.gcd_history.proofs.BlocksRunOnce.{Facts, facts_of, submission_more, submission_kept, fresh_act, own_is_open, open_parts}
 use Rattle.gcd_machine.specs.MachineView.{MachineView, idle, progress, at_queue}
 use Rattle.gcd_machine.specs.Keeps.{Keeps, IsShaped, progress_of, run_list, waiter, events_of}
 use Rattle.gcd_machine.specs.Kept.{after_act}
 use Rattle.gcd_lists.specs.ListsView.{list_at, barrier_in, place_from, place_of}
 use Rattle.gcd_machine.specs.declared.progress.Progress.{Progress}
-use Rattle.gcd_machine.proofs.Lists.{filter-append, count_push}
 use Rattle.gcd_machine.proofs.Runs.{filter_alike_in}
-use Rattle.gcd_machine.proofs.FirstForms.{IsFirstPlan, serial_queue}
-use Rattle.gcd_machine.proofs.Plain.{submitted_more}
-use Rattle.gcd_machine.proofs.Steps.{ActFacts}
-use Rattle.gcd_machine.proofs.Facts.{Facts, facts_of, submission_more, submission_kept, fresh_act, own_is_open, open_parts}
 use Rattle.gcd_machine.proofs.Judged.{first_plan, facts_at}
 use Rattle.gcd_machine.proofs.Changed.{progress_by, progress_set, list_set, events_more, events_same, nodes_within}
 

@@ -19,17 +19,17 @@ use Rattle.gcd_history.specs.Submitted.{submitted, submission_of}
 use Rattle.gcd_history.specs.Tree.{is_run_on}
 use Rattle.gcd_history.specs.Parked.{has_run}
 use Rattle.gcd_history.specs.Permitted.{waits_on, why, is_halted}
+use Rattle.gcd_history.proofs.Counts.{filter_alike, counted_found, sum_by_same}
+use Rattle.gcd_history.proofs.QueuesOnRoot.{IsFirstPlan}
+use Rattle.gcd_history.proofs.NothingHeld.{has_run_is}
+use Rattle.gcd_history.proofs.OnlyBlocksRun.{EndFacts}
+use Rattle.gcd_history.proofs.BlocksRunOnce.{Facts, facts_of, submitted_same, submission_same, named, own_is_open, open_parts}
 use Rattle.gcd_machine.specs.MachineView.{MachineView, progress, at_worker, at_queue}
 use Rattle.gcd_machine.specs.Keeps.{Keeps, IsShaped, progress_of, is_last, run_list, waiter, events_of}
 use Rattle.gcd_machine.specs.Kept.{after_end, after_halt, with_open}
 use Rattle.gcd_machine.specs.declared.progress.Progress.{Progress}
-use Rattle.gcd_machine.proofs.Lists.{filter_alike, counted_found, sum_by_same}
 use Rattle.gcd_machine.proofs.Runs.{one_left}
 use Rattle.gcd_machine.proofs.Waiting.{turned, is_of, count_parts}
-use Rattle.gcd_machine.proofs.FirstForms.{IsFirstPlan}
-use Rattle.gcd_machine.proofs.Plain.{has_run_is}
-use Rattle.gcd_machine.proofs.Steps.{EndFacts}
-use Rattle.gcd_machine.proofs.Facts.{Facts, facts_of, submitted_same, submission_same, named, own_is_open, open_parts}
 use Rattle.gcd_machine.proofs.Judged.{first_plan, facts_at}
 use Rattle.gcd_machine.proofs.Changed.{progress_by, progress_set, option_set, events_more, nodes_within, length_open, known_set, run_on_is}
 

@@ -5,6 +5,7 @@ use Rattle.std.specs.Option.{option_map, option_map_or, option_and_then, is_some
 use Rattle.std.proofs.lemmas.Bool.{and_from, and_left, eqb-true, not-false}
 use Rattle.std.proofs.lemmas.List.{length-set, length_push, append-nil, drop-map}
 use Rattle.std.proofs.lemmas.Option.{same_Some}
+use Rattle.std.proofs.lemmas.List.Elements.{filter-append}
 use Rattle.gcd_plan.specs.PlanView.{PlanView}
 use Rattle.gcd_plan.specs.StartRule.{first_of}
 use Rattle.gcd_plan.specs.declared.names.Blk.{Blk}
@@ -20,17 +21,18 @@ use Rattle.gcd_history.specs.Submitted.{submitted, submission_of}
 use Rattle.gcd_history.specs.Tree.{is_run_on}
 use Rattle.gcd_history.specs.Permitted.{is_on, is_ready, waits_on, why}
 use Rattle.gcd_history.proofs.Reasons.{first_none}
+use Rattle.gcd_history.proofs.RunsOpen.{same_run-refl}
+use Rattle.gcd_history.proofs.Counts.{filter_alike, found_alone}
+use Rattle.gcd_history.proofs.QueuesOnRoot.{IsFirstPlan}
+use Rattle.gcd_history.proofs.OnlyBlocksRun.{StartFacts}
+use Rattle.gcd_history.proofs.BlocksRunOnce.{Facts, facts_of, submitted_same, submission_same, named}
 use Rattle.gcd_machine.specs.MachineView.{MachineView, progress, at_worker, at_queue}
 use Rattle.gcd_machine.specs.Keeps.{Keeps, IsShaped, progress_of, is_last, run_list, waiter, events_of}
 use Rattle.gcd_machine.specs.Kept.{is_first, queue_reasons, after_start, with_open, without_first}
 use Rattle.gcd_lists.specs.ListsView.{list_at}
 use Rattle.gcd_machine.specs.declared.progress.Progress.{Progress}
-use Rattle.gcd_machine.proofs.Lists.{filter-append, filter_alike, found_alone}
-use Rattle.gcd_machine.proofs.Runs.{filter_alike_in, same_run_self}
+use Rattle.gcd_machine.proofs.Runs.{filter_alike_in}
 use Rattle.gcd_machine.proofs.Waiting.{is_of, is_other, only_one, others_kept, first_dropped}
-use Rattle.gcd_machine.proofs.FirstForms.{IsFirstPlan}
-use Rattle.gcd_machine.proofs.Steps.{StartFacts}
-use Rattle.gcd_machine.proofs.Facts.{Facts, facts_of, submitted_same, submission_same, named}
 use Rattle.gcd_machine.proofs.Judged.{first_plan, facts_at, busy_is, node_is, first_is, node_reasons_are}
 use Rattle.gcd_machine.proofs.Changed.{progress_by, progress_set, option_set, list_set, events_more, nodes_within, length_open, length_without, blocks_without, known_set, never_open, run_on_is}
 
@@ -105,7 +107,7 @@ last_same : (past : List Event) (w v : ℕ) (b : Blk) (run : Run) → same_run (
 last_same past w v b run other = ap (λ t. option_map_or (λ n. n == v) (cond t (Some w) (last_worker past run)) false) other
 
 last_own : (past : List Event) (w v : ℕ) (b : Blk) → is_last (Start w b ∷ past) v (Block b) ≡ (w == v)
-last_own past w v b = ap (λ t. option_map_or (λ n. n == v) (cond t (Some w) (last_worker past (Block b))) false) (same_run_self (Block b))
+last_own past w v b = ap (λ t. option_map_or (λ n. n == v) (cond t (Some w) (last_worker past (Block b))) false) (same_run-refl (Block b))
 
 start_workers : (m : MachineView) (past : List Event) (w : ℕ) (b : Blk) → Keeps m past → StartFacts m.plan past w b → (v : ℕ)
     → filter (is_last (Start w b ∷ past) v) (open_runs past ++ Block b ∷ []) ≡ run_list (at_worker (after_start m w b) v)

@@ -16,7 +16,6 @@
 //! | `first_waiting`, `node_of`, `parks` | what waits on an object, where a block was submitted, whether an act parks its block |
 //! | `objects`, `blocks` | the plan's numbers, for the conditions of the calls |
 //! | [`laws::histories_are_lawful`], [`laws::histories_are_short`] | what the histories are that a machine stands for |
-//! | [`laws::choice_is_complete`] | where the choice is None no event of that worker is permitted, of any valid plan |
 //!
 //! Every array is made by `new` with its final length. No other call takes memory. `choose` looks at each object at most
 //! once; every other call takes constant time.

@@ -4,7 +4,7 @@ use Rattle.std.specs.Prelude.{slice_get, slice_set, replicate, reverse}
 use Rattle.std.proofs.lemmas.Bool.{ne_eqb, ltb-true, cases_eq, and_parts, false≢true}
 use Rattle.std.proofs.lemmas.List.{length-set, get_or-set_same, get_or-set_other, length-replicate, get_or-replicate}
 use Rattle.std.proofs.lemmas.Option.{slice_get-get_or}
-use Rattle.gcd_history.specs.Choice.{is_work}
+use Rattle.gcd_history.specs.Choice.{is_work, worker_of}
 use Rattle.gcd_history.specs.Ends.{ends_in_halt}
 use Rattle.gcd_history.proofs.Reasons.{allowed}
 use Rattle.gcd_plan.specs.PlanView.{PlanView}
@@ -26,7 +26,7 @@ use Rattle.gcd_history.specs.declared.state.State.TheVariants.{Drained, Stuck, M
 use Rattle.gcd_history.specs.History.{choice_of}
 use Rattle.gcd_history.specs.Ends.{IsDrained, HasState, is_halted}
 use Rattle.gcd_history.proofs.Choices.{chosen_is}
-use Rattle.gcd_machine.specs.Workers.{worker_of, is_all_by}
+use Rattle.gcd_machine.specs.Workers.{is_all_by}
 use Rattle.gcd_run.specs.Ends.{IsOver}
 use Rattle.gcd_run.specs.Outcome.{AreResults, EndFits, IsNextEvent}
 

@@ -3,9 +3,8 @@ use Rattle.std.specs.Prelude.{◌≡◌, ◌<◌, ℕ, true, List, length, Optio
 use Rattle.gcd_plan.specs.PlanView.{PlanView}
 use Rattle.gcd_event.specs.declared.event.Event.{Event}
 use Rattle.gcd_event.specs.declared.event.Event.TheVariants.{End}
-use Rattle.gcd_history.specs.Choice.{is_work}
+use Rattle.gcd_history.specs.Choice.{is_work, worker_of}
 use Rattle.gcd_history.specs.History.{why, is_ended}
-use Rattle.gcd_machine.specs.Workers.{worker_of}
 use Rattle.gcd_history.specs.Values.{value_of}
 use Rattle.gcd_outer.specs.Outside.{Bytes}
 

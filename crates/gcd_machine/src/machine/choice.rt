@@ -2,13 +2,13 @@
 ghost use Rattle.std.specs.Prelude.{◌≡◌, ◌-◌, ◌<◌, ◌≤◌, false, IfSome, IsTrue, List, Option, None, length};
 ghost use Rattle.gcd_plan.specs.PlanView.{PlanView};
 ghost use Rattle.gcd_event.specs.declared.event.Event.{Event};
-ghost use Rattle.gcd_history.specs.Choice.{is_work};
+ghost use Rattle.gcd_history.specs.Choice.{is_work, worker_of};
 ghost use Rattle.gcd_history.specs.Ends.{is_halted, IsDrained};
 ghost use Rattle.gcd_history.specs.History.{choice_of, why};
 ghost use Rattle.gcd_machine.specs.MachineView.{progress};
 ghost use Rattle.gcd_machine.specs.Kept.{idle_choice, kept_choice, next_event, node_choice, nodes_choice};
 ghost use Rattle.gcd_machine.specs.Stands.{StandsFor};
-ghost use Rattle.gcd_machine.specs.Workers.{is_all_by, worker_of};
+ghost use Rattle.gcd_machine.specs.Workers.{is_all_by};
 
 use super::{Machine, WORKERS};
 use gcd_event::Event;

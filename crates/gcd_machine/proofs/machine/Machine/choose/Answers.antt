@@ -1,8 +1,7 @@
-use Rattle.gcd_history.specs.Choice.{is_work}
+use Rattle.gcd_history.specs.Choice.{is_work, worker_of}
 use Rattle.std.proofs.Common.{true, ◌≡◌, Option, None, sym, subst, ◌∙◌, IfSome}
 use Rattle.gcd_event.specs.declared.event.Event.{Event}
 use Rattle.gcd_history.specs.History.{why}
-use Rattle.gcd_machine.specs.Workers.{worker_of}
 use Rattle.gcd_machine.proofs.Chosen.{kept_own, kept_work}
 use Rattle.gcd_machine.proofs.Shown.{choice_stands, permitted_stands, last_stands}
 use Rattle.gcd_machine.proofs.machine.Machine.choose.Goals as goal

@@ -23,11 +23,12 @@ use Rattle.gcd_history.specs.Runs.{act_of, same_run, open_runs, is_open, acts_do
 use Rattle.gcd_history.specs.Submitted.{submitted, submission_of, submitted_by, main_submission, on_node}
 use Rattle.gcd_history.specs.Parked.{has_run}
 use Rattle.gcd_history.specs.Permitted.{IsLawful}
-use Rattle.gcd_machine.proofs.Lists.{find_passes, count_unfound, count_push, count_kept, count_dropped, any_of_fewer, any_counted}
-use Rattle.gcd_machine.proofs.FirstForms.{IsFirstPlan}
-use Rattle.gcd_machine.proofs.Plain.{submitted_more, has_run_is}
-use Rattle.gcd_machine.proofs.Positions.{Place, place_of, one_submission}
-use Rattle.gcd_machine.proofs.Steps.{StartFacts, ActFacts, EndFacts, Step, starts, acts, ends, halts, step_of}
+use Rattle.gcd_history.proofs.Lists.{found_is, some_counted}
+use Rattle.gcd_history.proofs.Counts.{count_unfound, count_push, count_kept, count_dropped, any_of_fewer}
+use Rattle.gcd_history.proofs.QueuesOnRoot.{IsFirstPlan}
+use Rattle.gcd_history.proofs.NothingHeld.{submitted_more, has_run_is}
+use Rattle.gcd_history.proofs.ActsSubmitApart.{Place, place_of, one_submission}
+use Rattle.gcd_history.proofs.OnlyBlocksRun.{StartFacts, ActFacts, EndFacts, Step, starts, acts, ends, halts, step_of}
 
 -- a submission by an act that stands, to a serial queue
 pub record IsQueued (plan : PlanView) (past : List Event) (s : Submission) : Type 0 where
@@ -111,7 +112,7 @@ started_from_count false e h = absurd (omega arith)
 -- an open block has started and not ended
 pub open_parts : (plan : PlanView) (past : List Event) (b : Blk) → Facts plan past → is_open past (Block b) ≡ true → (is_started past b.0 ≡ true) × (is_ended past b.0 ≡ false)
 open_parts plan past b facts open_now =
-    let some = any_counted (same_run (Block b)) (open_runs past) open_now in
+    let some = some_counted (same_run (Block b)) (open_runs past) open_now in
     started_from_count (is_started past b.0) (is_ended past b.0) (omega (arith, facts.opened b, some))
 
 pub own_is_open : (plan : PlanView) (past : List Event) (w : ℕ) (run : Run) → IsFirstPlan plan → has_run plan past w run ≡ true → is_open past run ≡ true
@@ -209,7 +210,7 @@ fresh_act plan past w b i first facts may =
     elim (submission_of plan past c.0) as (λ o. submission_of plan past c.0 ≡ o → o ≡ None) [
       | None ↦ λ e. refl
       | Some s ↦ λ e. absurd (
-          let named : s.blk.0 ≡ c.0 = eqb-true s.blk.0 c.0 (find_passes (λ t. t.blk.0 == c.0) (submitted plan past) s e) in
+          let named : s.blk.0 ≡ c.0 = eqb-true s.blk.0 c.0 (found_is (λ t. t.blk.0 == c.0) (submitted plan past) s e) in
           ⊎_elim
           (λ main.
           let zero : s.blk.0 ≡ 0 = ap (λ t. t.blk.0) main in
@@ -371,7 +372,7 @@ main_submitted plan (e ∷ past) first = submission_kept plan past e 0 main_subm
 
 -- a submission is found by the block's number
 pub named : (plan : PlanView) (past : List Event) (b : ℕ) (s : Submission) → submission_of plan past b ≡ Some s → s.blk.0 ≡ b
-named plan past b s found = eqb-true s.blk.0 b (find_passes (λ t. t.blk.0 == b) (submitted plan past) s found)
+named plan past b s found = eqb-true s.blk.0 b (found_is (λ t. t.blk.0 == b) (submitted plan past) s found)
 
 -- a submission of another block than main is on a queue
 pub queued_of : (plan : PlanView) (past : List Event) (b : ℕ) (s : Submission) → Facts plan past → submission_of plan past b ≡ Some s → (b ≡ 0 → ⊥) → IsQueued plan past s

@@ -1,11 +1,8 @@
--- Lists: what the lemmas of std and of the crates below lack.
-use Rattle.std.proofs.Common.{◌≡◌, ℕ, zero, suc, ◌+◌, ◌<◌, ◌≤◌, ◌==◌, Bool, true, false, not, cond, List, [], ◌∷◌, ◌++◌, length, get_or, filter, Some, None, find, refl, ap, sym, ◌∙◌, arith, ⊎_elim}
+-- What is counted, kept and found in lists: what the lemmas of std and of the crates below lack.
+use Rattle.std.proofs.Common.{◌≡◌, ℕ, zero, suc, ◌+◌, ◌<◌, ◌≤◌, Bool, true, false, cond, List, [], ◌∷◌, ◌++◌, length, get_or, filter, Some, None, find, refl, ap, ◌∙◌, arith, ⊎_elim}
 use Rattle.std.specs.List.{slice_get, list_any, sum_by, count_by}
-use Rattle.std.specs.Option.{option_map_or}
-use Rattle.std.proofs.lemmas.Bool.{cases_lt, cases_eq, both_ways, false_from_ne_true, or_parts, or_from, or_cases}
+use Rattle.std.proofs.lemmas.Bool.{cases_lt, cases_eq, both_ways, false_from_ne_true, or_parts, or_from}
 use Rattle.std.proofs.lemmas.Option.{same_Some}
-use Rattle.gcd_history.specs.declared.submission.Submission.{Submission}
-use Rattle.gcd_history.specs.Permitted.{before}
 use Rattle.std.proofs.lemmas.List.Sums.{sum_by-cons, get_or-le-sum_by, sum_by_push}
 
 -- ## Sums and counts
@@ -44,14 +41,6 @@ one_place p xs i j d few within_i within_j pi pj =
 
 -- ## Filters
 
-pub filter-append : {X : Type 0} (p : X → Bool) (xs ys : List X) → filter p (xs ++ ys) ≡ filter p xs ++ filter p ys
-filter-append p [] ys = refl
-filter-append p (x ∷ xs) ys =
-    elim (p x) as (λ v. cond v (x ∷ filter p (xs ++ ys)) (filter p (xs ++ ys)) ≡ cond v (x ∷ filter p xs) (filter p xs) ++ filter p ys) [
-      | true ↦ ap (λ zs. x ∷ zs) (filter-append p xs ys)
-      | false ↦ filter-append p xs ys
-    ]
-
 -- tests that agree at each element
 pub filter_alike : {X : Type 0} (p q : X → Bool) (xs : List X) → ((x : X) → p x ≡ q x) → filter p xs ≡ filter q xs
 filter_alike p q [] same = refl
@@ -81,15 +70,6 @@ find_first p (x ∷ xs) =
       | true ↦ refl
       | false ↦ find_first p xs
     ]
-
--- what is found passes
-pub find_passes : {X : Type 0} (p : X → Bool) (xs : List X) (x : X) → find p xs ≡ Some x → p x ≡ true
-find_passes p [] x found = cc
-find_passes p (y ∷ ys) x found =
-    elim (p y) as (λ v. p y ≡ v → cond v (Some y) (find p ys) ≡ Some x → p x ≡ true) [
-      | true ↦ λ e f. ap p (sym (same_Some y x f)) ∙ e
-      | false ↦ λ e f. find_passes p ys x f
-    ] refl found
 
 -- where nothing is found, nothing is counted
 pub count_unfound : {X : Type 0} (p : X → Bool) (xs : List X) → find p xs ≡ None → count_by p xs ≡ 0
@@ -144,31 +124,6 @@ any_of_fewer p q (x ∷ xs) none =
       | true ↦ or_from (p x) (list_any p (filter q xs)) parts.0 rest
       | false ↦ rest
     ]
-
--- some element passes where some is counted
-pub any_counted : {X : Type 0} (p : X → Bool) (xs : List X) → list_any p xs ≡ true → 1 ≤ count_by p xs
-any_counted p [] some = cc
-any_counted p (x ∷ xs) some =
-    let split = sum_by-cons (λ y. cond (p y) 1 0) x xs in
-    ⊎_elim
-    (λ here. let one : ◌≡◌ {A = ℕ} (cond (p x) 1 0) 1 = ap (λ b. cond b 1 0) here in omega (arith, split, one))
-    (λ later. let rest = any_counted p xs later in omega (arith, split, rest))
-    (or_cases (p x) (list_any p xs) some)
-
--- ## Submissions by number
-
--- of what waits, block b is behind exactly where another is the first
-pub before_first_waiting : (p : Submission → Bool) (b : ℕ) (s : Submission) (xs : List Submission) → find (λ t. t.blk.0 == b) xs ≡ Some s → p s ≡ true
-    → list_any p (before b xs) ≡ option_map_or (λ t. not (t.blk.0 == b)) (find p xs) false
-before_first_waiting p b s [] found waits = cc
-before_first_waiting p b s (x ∷ xs) found waits =
-    elim (x.blk.0 == b) as (λ v. x.blk.0 == b ≡ v → list_any p (before b (x ∷ xs)) ≡ option_map_or (λ t. not (t.blk.0 == b)) (find p (x ∷ xs)) false) [
-      | true ↦ λ e. let same : Some x ≡ Some s = simp e at found in let px : p x ≡ true = cc in simp (e, px)
-      | false ↦ λ e. elim (p x) as (λ v. p x ≡ v → list_any p (before b (x ∷ xs)) ≡ option_map_or (λ t. not (t.blk.0 == b)) (find p (x ∷ xs)) false) [
-        | true ↦ λ px. simp (e, px)
-        | false ↦ λ px. simp (e, px) (before_first_waiting p b s xs (simp e at found) waits)
-      ] refl
-    ] refl
 
 -- what is found and passes another test is counted by that
 pub counted_found : {X : Type 0} (p q : X → Bool) (xs : List X) (x : X) → find p xs ≡ Some x → q x ≡ true → 1 ≤ count_by q xs

@@ -3,7 +3,7 @@ use Rattle.std.proofs.Common.{◌≡◌, ℕ, zero, suc, ◌<◌, ◌≤◌, ◌
 use Rattle.std.specs.List.{slice_get, list_all}
 use Rattle.std.specs.Option.{option_map, option_map_or, option_and_then, is_none}
 use Rattle.std.proofs.lemmas.Bool.{and_parts, eqb-true, both_ways}
-use Rattle.std.proofs.lemmas.Option.{slice_get_within, same_Some}
+use Rattle.std.proofs.lemmas.Option.{slice_get_within}
 use Rattle.std.proofs.lemmas.List.{nil_from_length}
 use Rattle.gcd_plan.specs.PlanView.{PlanView, ObjView, kind_of, first_target, starts_active, cancel_block, acts_of}
 use Rattle.gcd_plan.specs.Kinds.{has_kind, is_queue}
@@ -20,17 +20,13 @@ use Rattle.gcd_plan.specs.declared.names.Run.TheVariants.{Block, Source}
 use Rattle.gcd_event.specs.declared.event.Event.{Event}
 use Rattle.gcd_event.specs.declared.event.Event.TheVariants.{Act as Acted}
 use Rattle.gcd_history.specs.Runs.{act_at, act_of}
+use Rattle.gcd_history.proofs.Choices.{none_is}
+use Rattle.gcd_history.proofs.Lists.{list_all_place}
 
 -- a plan that is valid and of the first forms
 pub record IsFirstPlan (plan : PlanView) : Type 0 where
   pub valid : IsPlan plan
   pub forms : IsOfFirstForms plan
-
--- what passes for each element passes for one
-pub passes_at : {X : Type 0} (p : X → Bool) (xs : List X) (k : ℕ) (x : X) → list_all p xs ≡ true → slice_get xs k ≡ Some x → p x ≡ true
-passes_at p [] k x all at = cc
-passes_at p (y ∷ ys) zero x all at = ap p (sym (same_Some y x at)) ∙ (and_parts (p y) (list_all p ys) all).0
-passes_at p (y ∷ ys) (suc k) x all at = passes_at p ys k x (and_parts (p y) (list_all p ys) all).1 at
 
 -- ## Objects
 
@@ -57,10 +53,6 @@ after : (objects : List ObjView) (k : ℕ) → slice_get objects (suc k) ≡ sli
 after [] k = refl
 after (r ∷ others) k = refl
 
-none_is : {X : Type 0} (o : Option X) → is_none o ≡ true → o ≡ None
-none_is None h = refl
-none_is (Some x) h = cc
-
 queue_view : (plan : PlanView) (v : ObjView) → is_plain_queue v ≡ true → is_object plan v ≡ true → IsQueueView v
 queue_view plan v plain object =
     let a = and_parts (is_serial_kind v.kind) (v.target.0 == 0 && v.active) plain in
@@ -85,8 +77,8 @@ object_cases plan (suc k) first =
     elim (slice_get plan.objects (suc k)) as (λ s. slice_get plan.objects (suc k) ≡ s → ObjectCases plan (suc k)) [
       | None ↦ λ e. inl e
       | Some v ↦ λ e.
-          let plain = passes_at is_plain_queue (after_root plan.objects) k v first.forms.queues (sym (after plan.objects k) ∙ e) in
-          let object = passes_at (is_object plan) plan.objects (suc k) v first.valid.objects e in
+          let plain = list_all_place is_plain_queue (after_root plan.objects) k v first.forms.queues (sym (after plan.objects k) ∙ e) in
+          let object = list_all_place (is_object plan) plan.objects (suc k) v first.valid.objects e in
           inr (inr (v, omega arith, slice_get_within plan.objects (suc k) v e, e, queue_view plan v plain object))
     ] refl
 
@@ -161,11 +153,11 @@ submits_at plan (Block b) i first =
     elim (slice_get plan.blocks b.0) as (λ v. slice_get plan.blocks b.0 ≡ v → Submits plan (slice_get (option_map_or (λ blk. blk.acts) v []) i)) [
       | None ↦ λ e. inl refl
       | Some blk ↦ λ e.
-          let forms = and_parts (list_all (is_first_act plan) blk.acts) (option_map_or is_first_work blk.work true) (passes_at (is_first_block plan) plan.blocks b.0 blk first.forms.blocks e) in
-          let valid = and_parts _ (list_all (is_act plan) blk.acts) (passes_at (is_block plan) plan.blocks b.0 blk first.valid.blocks e) in
+          let forms = and_parts (list_all (is_first_act plan) blk.acts) (option_map_or is_first_work blk.work true) (list_all_place (is_first_block plan) plan.blocks b.0 blk first.forms.blocks e) in
+          let valid = and_parts _ (list_all (is_act plan) blk.acts) (list_all_place (is_block plan) plan.blocks b.0 blk first.valid.blocks e) in
           elim (slice_get blk.acts i) as (λ a. slice_get blk.acts i ≡ a → Submits plan a) [
             | None ↦ λ f. inl refl
-            | Some a ↦ λ f. submits_one plan a (passes_at (is_first_act plan) blk.acts i a forms.0 f) (passes_at (is_act plan) blk.acts i a valid.1 f)
+            | Some a ↦ λ f. submits_one plan a (list_all_place (is_first_act plan) blk.acts i a forms.0 f) (list_all_place (is_act plan) blk.acts i a valid.1 f)
           ] refl
     ] refl
 

@@ -13,7 +13,7 @@ use Rattle.gcd_plan.specs.declared.names.Run.TheVariants.{Block}
 use Rattle.gcd_plan.proofs.Lists.{count_by-flat_map}
 use Rattle.gcd_plan.proofs.Once.{count_found}
 use Rattle.gcd_history.specs.Runs.{act_at}
-use Rattle.gcd_machine.proofs.Lists.{two_terms, one_place, sum_by_same}
+use Rattle.gcd_history.proofs.Counts.{two_terms, one_place, sum_by_same}
 
 -- the act submits block c
 abbrev pub submits : ℕ → Act → Bool
