@@ -1,4 +1,5 @@
-ghost use Rattle.std.specs.Prelude.{◌≡◌, length};
+ghost use Rattle.std.specs.Prelude.{◌≡◌, ◌<◌, true, length};
+ghost use Rattle.gcd_tree.specs.TreeView.{tree_of, is_node_at};
 
 use crate::Drains;
 use crate::free::is_chain_held;
@@ -70,15 +71,18 @@ fn new_plan(alloc: Global) -> Result<Plan, Fail> {
     Ok(Plan::of_parts(parts).ok_or("a valid plan")?)
 }
 
-// The parts of one plan.
+// The parts of one plan, with it.
 #[derive(Drop)]
 struct World {
+    plan: Plan,
     objects: u32,
     blocks: u32,
     lists: Lists,
     tree: Tree,
     holds: Holds,
     drains: Drains,
+    ghost plan_fits: { length plan.objects ≡ objects },
+    ghost nodes_fit: { tree.nodes ≡ (tree_of plan).nodes },
     ghost lists_fit: { length lists.lists ≡ objects },
     ghost blocks_fit: { lists.blocks ≡ blocks },
     ghost tree_fits: { length tree.targets ≡ objects },
@@ -86,14 +90,15 @@ struct World {
     ghost drains_fit: { length drains.barriers ≡ objects },
 }
 
-fn new_world(alloc: Global, plan: &Plan) -> Result<World, AllocError> {
+fn new_world(alloc: Global, plan: Plan) -> Result<World, AllocError> {
     Ok(World {
         objects: plan.objects(),
         blocks: plan.blocks(),
-        lists: Lists::new(alloc, plan)?,
-        tree: Tree::new(alloc, plan)?,
-        holds: Holds::new(alloc, plan)?,
-        drains: Drains::new(alloc, plan)?,
+        lists: Lists::new(alloc, &plan)?,
+        tree: Tree::new(alloc, &plan)?,
+        holds: Holds::new(alloc, &plan)?,
+        drains: Drains::new(alloc, &plan)?,
+        plan,
     })
 }
 
@@ -105,12 +110,13 @@ enum Call {
     Suspend(Obj),
     Resume(Obj),
     Activate(Obj),
+    Target(Obj, Obj),
     MayStart(Blk, Option<Why>),
     MayRun(Obj, Option<Why>),
     Barriers(Obj, u32),
 }
 
-const CALLS: [Call; 51] = [
+const CALLS: [Call; 58] = [
     Call::MayStart(Blk(1), Some(Why::Unready)),
     Call::Submit(SERIAL, Blk(1), false),
     Call::Submit(SERIAL, Blk(2), false),
@@ -134,7 +140,16 @@ const CALLS: [Call; 51] = [
     Call::Begin(SERIAL),
     Call::MayStart(Blk(1), Some(Why::Unready)),
     Call::MayStart(Blk(2), Some(Why::Excluded)),
+    // The queue is about to change its target, until that block ends; then blocks of the old target are beside it.
+    Call::Target(SERIAL, ROOT),
+    Call::MayStart(Blk(2), Some(Why::NotFree)),
     Call::End(SERIAL, false),
+    Call::MayStart(Blk(2), None),
+    Call::Begin(TARGET),
+    Call::MayStart(Blk(2), None),
+    Call::End(TARGET, false),
+    // With nothing open it changes at once.
+    Call::Target(SERIAL, CONCURRENT),
     Call::MayStart(Blk(2), None),
     // A barrier waits for a block, and a block for a barrier.
     Call::Submit(CONCURRENT, Blk(4), false),
@@ -219,6 +234,21 @@ fn activate(rt: &impl Abort, world: &mut World, o: Obj) {
     world.holds.activate(o);
 }
 
+fn is_serial(world: &World, o: Obj) -> bool
+    requires { o.0 < world.now.objects }
+    ensures { result ≡ true → is_node_at world.now.tree o.0 ≡ true }
+{
+    matches!(world.plan.kind(o), Kind::Serial)
+}
+
+fn target(rt: &impl Abort, world: &mut World, o: Obj, t: Obj) {
+    assert!(rt; o.0 < world.objects && t.0 < world.objects);
+    assert!(rt; is_serial(world, o));
+    assert!(rt; !world.tree.would_cycle(o, t));
+    assert!(rt; !world.tree.has_child(o));
+    world.tree.set_target(o, t);
+}
+
 fn may_start(rt: &impl Abort, world: &World, b: Blk) -> Option<Why> {
     assert!(rt; 0 < b.0 && b.0 < world.blocks);
     world
@@ -244,6 +274,7 @@ fn play(rt: &impl Abort, world: &mut World, call: &Call) {
         Call::Suspend(o) => suspend(rt, world, *o),
         Call::Resume(o) => resume(rt, world, *o),
         Call::Activate(o) => activate(rt, world, *o),
+        Call::Target(o, t) => target(rt, world, *o, *t),
         Call::MayStart(b, answer) => assert_eq!(rt; may_start(rt, world, *b), *answer, "{b:?}"),
         Call::MayRun(src, answer) => assert_eq!(rt; may_run(rt, world, *src), *answer, "{src:?}"),
         Call::Barriers(node, answer) => assert_eq!(rt; barriers(rt, world, *node), *answer),
@@ -253,7 +284,7 @@ fn play(rt: &impl Abort, world: &mut World, call: &Call) {
 #[test]
 fn starts_and_runs_by_the_rule(rt: HostRuntime) -> Result<(), Fail> {
     let plan = new_plan(rt.alloc())?;
-    let mut world = new_world(rt.alloc(), &plan)?;
+    let mut world = new_world(rt.alloc(), plan)?;
     for call in CALLS.iter() {
         play(&rt, &mut world, call);
     }
