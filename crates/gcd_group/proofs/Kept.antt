@@ -1,14 +1,12 @@
 -- What changes of the groups keep.
-use Rattle.std.proofs.Common.{◌≡◌, ◌≢◌, ℕ, ◌+◌, ◌-◌, ◌≤◌, ◌<◌, ◌^◌, false, List, [], ◌∷◌, ◌++◌, length, get_or, set, drop, None, inl, inr, ap, sym, ◌∙◌, subst, arith}
+use Rattle.std.proofs.Common.{◌≡◌, ◌≢◌, ℕ, ◌+◌, ◌-◌, ◌≤◌, ◌<◌, ◌^◌, false, List, [], ◌∷◌, ◌++◌, length, get_or, set, drop, inl, inr, ap, sym, ◌∙◌, subst, arith}
 use Rattle.std.specs.Prelude.{slice_index, slice_set}
 use Rattle.std.proofs.lemmas.Bool.{cases_eq}
 use Rattle.std.proofs.lemmas.List.{length-set, get_or-set_same, get_or-set_other, length_push, length-drop}
 use Rattle.gcd_plan.specs.declared.names.Blk.{Blk}
-use Rattle.gcd_lists.specs.ListsView.{list_at, place_of}
-use Rattle.gcd_lists.proofs.Places.{in_no_list}
+use Rattle.gcd_lists.specs.ListsView.{ListsView, list_at}
 use Rattle.gcd_group.specs.GroupsView.{GroupsView, due_at}
-use Rattle.gcd_group.specs.Tied.{AreTied, blocks_in}
-use Rattle.gcd_group.proofs.Counts.{blocks_in-le, blocks_in_pushed, once_popped}
+use Rattle.gcd_group.specs.Tied.{AreTied}
 
 -- what holds at each number of a list holds of it with another element, where it holds of that
 everywhere : {X : Type 0} (P : ℕ → X → Type 0) (xs : List X) (i : ℕ) (y d : X) → i < length xs → P i y
@@ -19,26 +17,32 @@ everywhere P xs i y d lt here others j =
       | inr ne ↦ subst (P j) (sym (get_or-set_other xs i j y d ne)) (others j ne)
     ]
 
--- there is room for one more in a group's list, where a block is in no list
-pub room_for_one : (view : GroupsView) (registered : List ℕ) (g : ℕ) (b : Blk) → AreTied view registered → b.0 < view.notify.blocks
-    → place_of view.notify b.0 ≡ None → slice_index registered g + 1 < 2 ^ 32
-room_for_one view registered g b t below nowhere =
-    let list = list_at view.notify g in
-    let more = blocks_in_pushed view.notify.blocks b false list below (in_no_list view.notify b.0 g nowhere) in
-    omega (arith, more, blocks_in-le view.notify.blocks (list ++ (b, false) ∷ []), t.once g, t.many g, t.few_blocks)
+-- one more of a group's notify blocks can be counted, where it waits behind them in lists that are no longer than there are
+-- blocks
+pub room_for_one : (view : GroupsView) (registered : List ℕ) (g : ℕ) (b : Blk) (pushed : ListsView) → AreTied view registered
+    → g < length view.counts
+    → pushed ≡ record view.notify { lists = slice_set view.notify.lists g (list_at view.notify g ++ (b, false) ∷ []) }
+    → length (list_at pushed g) ≤ pushed.blocks → slice_index registered g + 1 < 2 ^ 32
+room_for_one view registered g b pushed t lt is few =
+    let lists = view.notify.lists in
+    let list = list_at view.notify g ++ (b, false) ∷ [] in
+    let longer : length list ≡ length (list_at view.notify g) + 1 = length_push (list_at view.notify g) (b, false) in
+    let there : length (list_at pushed g) ≡ length list =
+    ap (λ v. length (list_at v g)) is ∙ ap length (get_or-set_same lists g list [] (omega (arith, lt, t.notify_long))) in
+    let blocks : pushed.blocks ≡ view.notify.blocks = ap (λ v. v.blocks) is in
+    omega (arith, longer, there, blocks, few, t.many g, t.few_blocks)
 
 -- a block behind the notify blocks of a group
 pub notified : (view : GroupsView) (registered : List ℕ) (g n : ℕ) (b : Blk) → AreTied view registered → g < length view.counts
-    → b.0 < view.notify.blocks → place_of view.notify b.0 ≡ None → n ≡ slice_index registered g
+    → n ≡ slice_index registered g
     → AreTied
     (record view { notify = record view.notify { lists = slice_set view.notify.lists g (list_at view.notify g ++ (b, false) ∷ []) } })
     (slice_set registered g (n + 1))
-notified view registered g n b t lt below nowhere now =
+notified view registered g n b t lt now =
     let lists = view.notify.lists in
     let list = list_at view.notify g ++ (b, false) ∷ [] in
     let longer : length list ≡ length (list_at view.notify g) + 1 = length_push (list_at view.notify g) (b, false) in
     let within : g < length lists = omega (arith, lt, t.notify_long) in
-    let more = blocks_in_pushed view.notify.blocks b false (list_at view.notify g) below (in_no_list view.notify b.0 g nowhere) in
     record {
       entered_long = t.entered_long;
       emptied_long = t.emptied_long;
@@ -51,9 +55,6 @@ notified view registered g n b t lt below nowhere now =
           everywhere (λ k n. n ≡ length (get_or (set lists g list) k [])) registered g _ 0 (omega (arith, lt, t.registered_long))
           (ap (λ m. m + 1) (now ∙ t.many g) ∙ sym longer ∙ ap length (sym (get_or-set_same lists g list [] within)))
           (λ k ne. t.many k ∙ ap length (sym (get_or-set_other lists g k list [] ne)));
-      once =
-          everywhere (λ k ws. length ws ≤ blocks_in view.notify.blocks ws) lists g list [] within
-          (omega (arith, longer, more, t.once g)) (λ k ne. t.once k);
       ready =
           everywhere (λ k ws. due_at view k ≤ length ws) lists g list [] within
           (omega (arith, longer, t.ready g)) (λ k ne. t.ready k);
@@ -71,7 +72,6 @@ all_due view registered g n t lt all = record {
   few_blocks = t.few_blocks;
   counted = t.counted;
   many = t.many;
-  once = t.once;
   ready =
       everywhere (λ k m. m ≤ length (list_at view.notify k)) view.due g n 0 (omega (arith, lt, t.due_long))
       (omega (arith, all, t.many g)) (λ k ne. t.ready k);
@@ -103,9 +103,6 @@ fired view registered g n m t lt due now due_now =
           everywhere (λ k n. n ≡ length (get_or (set lists g list) k [])) registered g _ 0 (omega (arith, lt, t.registered_long))
           (ap (λ k. k - 1) (now ∙ t.many g) ∙ sym shorter ∙ ap length (sym (get_or-set_same lists g list [] within)))
           (λ k ne. t.many k ∙ ap length (sym (get_or-set_other lists g k list [] ne)));
-      once =
-          everywhere (λ k ws. length ws ≤ blocks_in view.notify.blocks ws) lists g list [] within
-          (once_popped view.notify.blocks (list_at view.notify g) (t.once g)) (λ k ne. t.once k);
       ready =
           everywhere (λ k n. n ≤ length (get_or (set lists g list) k [])) view.due g _ 0 (omega (arith, lt, t.due_long))
           (let same = ap length (get_or-set_same lists g list [] within) in omega (arith, same, shorter, due_now, t.ready g))

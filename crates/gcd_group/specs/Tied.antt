@@ -1,16 +1,10 @@
 -- How the arrays of `Groups` are tied to each other. No contract cites this: it is for the proofs of this crate alone.
-use Rattle.std.specs.Prelude.{◌≡◌, ℕ, ◌≤◌, ◌<◌, ◌^◌, Bool, List, length, slice_index, is_some, count_by}
-use Rattle.std.specs.List.{range_with_len}
-use Rattle.gcd_plan.specs.declared.names.Blk.{Blk}
-use Rattle.gcd_lists.specs.ListsView.{list_at, barrier_in}
+use Rattle.std.specs.Prelude.{◌≡◌, ℕ, ◌≤◌, ◌<◌, ◌^◌, List, length, slice_index}
+use Rattle.gcd_lists.specs.ListsView.{list_at}
 use Rattle.gcd_group.specs.GroupsView.{GroupsView, count_at, entered_at, due_at}
 
--- how many of the first so many blocks are in the list
-abbrev pub blocks_in : ℕ → List (Blk × Bool) → ℕ
-blocks_in blocks list = count_by (λ b. is_some (barrier_in b list)) (range_with_len 0 blocks)
-
 -- the lists are equally long, and a block's number has 32 bits; each group counts its enters at least; its notify blocks are
--- as many as are registered, none of them twice, and those that are due are among them
+-- as many as are registered, and those that are due are among them
 pub record AreTied (view : GroupsView) (registered : List ℕ) : Type 0 where
   pub entered_long : length view.entered ≡ length view.counts
   pub emptied_long : length view.emptied ≡ length view.counts
@@ -20,5 +14,4 @@ pub record AreTied (view : GroupsView) (registered : List ℕ) : Type 0 where
   pub few_blocks : view.notify.blocks < 2 ^ 32
   pub counted : (g : ℕ) → entered_at view g ≤ count_at view g
   pub many : (g : ℕ) → slice_index registered g ≡ length (list_at view.notify g)
-  pub once : (g : ℕ) → length (list_at view.notify g) ≤ blocks_in view.notify.blocks (list_at view.notify g)
   pub ready : (g : ℕ) → due_at view g ≤ length (list_at view.notify g)

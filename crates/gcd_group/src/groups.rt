@@ -142,8 +142,8 @@ impl Groups {
         ensures { self.new ≡ with_notify self.old g.0 blk }
     {
         let empty = self.counts[g.0 as usize] == 0;
-        let registered = self.registered[g.0 as usize] + 1;
         self.notify.push(g, blk, false);
+        let registered = self.registered[g.0 as usize] + 1;
         self.registered[g.0 as usize] = registered;
         if empty {
             self.due[g.0 as usize] = registered;

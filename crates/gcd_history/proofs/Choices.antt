@@ -1,5 +1,5 @@
 -- The choice of a worker: where an event of the worker is permitted one is chosen, and what is chosen is permitted and the worker's.
-use Rattle.std.proofs.Common.{◌≡◌, ⊎_elim, ℕ, ◌-◌, ◌<◌, Bool, true, false, not, ◌&&◌, cond, ◌==◌, List, [], ◌∷◌, ◌++◌, length, map, Option, Some, None, is_some, is_none, find, refl, ap, sym, ◌∙◌, subst, arith}
+use Rattle.std.proofs.Common.{◌≡◌, ⊎_elim, ℕ, ◌-◌, ◌<◌, Bool, true, false, not, ◌&&◌, cond, ◌==◌, List, [], ◌∷◌, ◌++◌, length, map, Some, None, is_some, is_none, find, refl, ap, sym, ◌∙◌, subst, arith}
 use Rattle.std.specs.List.{list_any, list_all, flat_map, range_with_len}
 use Rattle.std.specs.Option.{option_map_or, option_to_list}
 use Rattle.std.proofs.lemmas.Bool.{eqb-true, eq-eqb, or_left, or_right, and_parts, and_from, not-false, both_ways, ltb-true, cases_lt}
@@ -20,8 +20,9 @@ use Rattle.gcd_history.specs.Parked.{has_run}
 use Rattle.gcd_history.specs.Permitted.{why, permitted, is_worker, has_block, is_on, is_behind, before, waits_on, first_waiting, misuse_at, node_reasons, waiting_reasons}
 use Rattle.gcd_history.specs.Choice.{end_of, next_events, own_events, wake_event, node_events, candidates, choice, is_work, worker_of}
 use Rattle.gcd_history.proofs.Lists.{any_left, any_right, any_flat, any_map, any_in_range, any_in_range_from, find_from_any, found_is, found_any, found_passes, all_flat, all_map, all_both}
+use Rattle.gcd_history.proofs.Options.{some_kept, none_is}
 use Rattle.gcd_history.proofs.Reasons.{allowed, at_start, at_act, at_end, at_deliver_end, at_misuse, waiting_facts}
-use Rattle.gcd_history.proofs.StartedOnce.{open_from_has_run, some_kept}
+use Rattle.gcd_history.proofs.StartedOnce.{open_from_has_run}
 use Rattle.gcd_history.proofs.SubmittedOnNodes.{on_a_node, submitted_fit}
 use Rattle.gcd_history.proofs.OpenNodes.{any_open}
 use Rattle.gcd_history.proofs.Fitting.{has_object}
@@ -220,10 +221,6 @@ is_by w e = is_work e && worker_of e == w
 end_by : (w : ℕ) (r : Run) → list_all (is_by w) (end_of w r ∷ []) ≡ true
 end_by w (Block b) = and_from (w == w) true (eq-eqb w w refl) refl
 end_by w (Source s) = and_from (w == w) true (eq-eqb w w refl) refl
-
-pub none_is : {X : Type 0} → (o : Option X) → is_none o ≡ true → o ≡ None
-none_is None h = refl
-none_is (Some x) h = cc
 
 next_by : (plan : PlanView) (past : List Event) (w : ℕ) (r : Run) → list_all (is_by w) (next_events plan past w r) ≡ true
 next_by plan past w r =

@@ -1,4 +1,5 @@
 pub mod Lists
+pub mod Options
 pub mod LawfulLemmas
 pub mod Reasons
 pub mod Fitting

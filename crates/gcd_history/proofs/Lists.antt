@@ -4,6 +4,7 @@ use Rattle.std.specs.List.{slice_get, list_any, list_all, AllPairs, flat_map, ra
 use Rattle.std.specs.Option.{option_or}
 use Rattle.std.proofs.lemmas.List.{take_more, drop_more, reverse-append, get_or_append_left, get_or-append_right}
 use Rattle.std.proofs.lemmas.Bool.{or_parts, or_cases, or_left, or_right, and_parts, and_from, cases_lt, cases_eq}
+use Rattle.std.proofs.Math.Bool.{or_comm, or-false}
 use Rattle.std.proofs.lemmas.Option.{same_Some}
 use Rattle.std.proofs.lemmas.List.Folds.{find-append, list_any_at, list_any-append, list_all-append}
 use Rattle.std.proofs.lemmas.List.FromFn.{length-range_with_len, get_or-range_with_len}
@@ -53,16 +54,6 @@ pub list_any_same : {X : Type 0} → (p q : X → Bool) (xs : List X) → ((x : 
 list_any_same p q [] same = refl
 list_any_same p q (x ∷ xs) same = ap (λ v. v || list_any p xs) (same x) ∙ ap (λ v. q x || v) (list_any_same p q xs same)
 
-or-comm : (x y : Bool) → (x || y) ≡ (y || x)
-or-comm true true = refl
-or-comm true false = refl
-or-comm false true = refl
-or-comm false false = refl
-
-or-false : (x : Bool) → (x || false) ≡ x
-or-false true = refl
-or-false false = refl
-
 -- in whatever order they stand
 pub list_any-reverse : {X : Type 0} → (p : X → Bool) (xs : List X) → list_any p (reverse xs) ≡ list_any p xs
 list_any-reverse p [] = refl
@@ -70,7 +61,7 @@ list_any-reverse p (x ∷ xs) =
     ap (list_any p) (reverse-append (x ∷ []) xs)
     ∙ list_any-append p (reverse xs) (x ∷ [])
     ∙ ap (λ v. v || (p x || false)) (list_any-reverse p xs)
-    ∙ or-comm (list_any p xs) (p x || false)
+    ∙ or_comm (list_any p xs) (p x || false)
     ∙ ap (λ v. v || list_any p xs) (or-false (p x))
 
 pub none_passes : {X : Type 0} → (xs : List X) → list_any (λ x. false) xs ≡ false

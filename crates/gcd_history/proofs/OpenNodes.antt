@@ -18,9 +18,10 @@ use Rattle.gcd_history.specs.Runs.{same_run, opens, open_runs, is_open}
 use Rattle.gcd_history.specs.Submitted.{submitted, submission_of}
 use Rattle.gcd_history.specs.Tree.{node_of, is_run_on, is_open_on}
 use Rattle.gcd_history.specs.Permitted.{IsLawful, is_worker}
+use Rattle.gcd_history.proofs.Options.{some_kept}
 use Rattle.gcd_history.proofs.RunsOpen.{closes, same_run-true, same_run-refl, is_open-step}
 use Rattle.gcd_history.proofs.Reasons.{allowed, at_start}
-use Rattle.gcd_history.proofs.StartedOnce.{started_from_open, submitted_from_started, submission_of-kept, some_kept}
+use Rattle.gcd_history.proofs.StartedOnce.{started_from_open, submitted_from_started, submission_of-kept}
 use Rattle.gcd_history.proofs.SubmittedOnNodes.{on_a_node, submitted_fit, source_is_node}
 
 -- ## Open runs

@@ -16,11 +16,11 @@ use Rattle.gcd_history.specs.History.{why, IsLawful, has_run, is_running, runnin
 use Rattle.gcd_history.specs.Ends.{is_halted}
 use Rattle.gcd_history.specs.Facts.{HasOneRun, RunsGoOn, IsFreeWorker, FreeWorkersAreAlike, wakes, MayWakeUntilWoken, WakesArePermitted, AllFit, OnlyActiveMove, TargetsChangeAlone}
 use Rattle.gcd_history.proofs.Lists.{reverse_push, list_any-reverse}
+use Rattle.gcd_history.proofs.Options.{none_is}
 use Rattle.gcd_history.proofs.LawfulLemmas.{lawful_after}
 use Rattle.gcd_history.proofs.Fitting.{permitted_fits}
 use Rattle.gcd_history.proofs.OneRun.{one_run}
 use Rattle.gcd_history.proofs.Woken.{parked_facts, due_on}
-use Rattle.gcd_history.proofs.Choices.{none_is}
 use Rattle.gcd_history.proofs.Quiet.{all_free, alike, own_event, wake_permitted}
 use Rattle.gcd_history.proofs.MovesAlone.{moving_made_active, changes_alone}
 

@@ -24,9 +24,10 @@ use Rattle.gcd_history.specs.History.{why, IsLawful, is_started, is_submitted, s
 use Rattle.gcd_history.specs.Ends.{IsDrained, all_ended, IsQuiescent, IsHalted, is_halted}
 use Rattle.gcd_history.specs.Laws.{RunsOnce, StartsAfterSubmission, AllEndOnce, IsSubmittedOnce, StartsInOrder, BeginsFree, WakesHaveCause, NoneParked, WaitsHavePassed, GroupWaitsPass, SemaphoreWaitsPass, IsConserved, RunsExclude, BarriersExclude, TreeStands, IsChoiceOf, HasNoChoice, IsAtRest}
 use Rattle.gcd_history.proofs.Lists.{count_by-reverse, some_counted, found_passes, past_more}
+use Rattle.gcd_history.proofs.Options.{some_kept}
 use Rattle.gcd_history.proofs.LawfulLemmas.{lawful_after, lawful_take}
 use Rattle.gcd_history.proofs.Reasons.{allowed, at_start, at_wake}
-use Rattle.gcd_history.proofs.StartedOnce.{started_once, ended_once, some_kept}
+use Rattle.gcd_history.proofs.StartedOnce.{started_once, ended_once}
 use Rattle.gcd_history.proofs.SubmittedOnce.{submitted_once}
 use Rattle.gcd_history.proofs.InOrder.{starts_in_order as starts_in_order_after}
 use Rattle.gcd_history.proofs.FreeAtStart.{start_begins_alone, deliver_begins_alone}

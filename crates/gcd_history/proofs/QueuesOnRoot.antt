@@ -20,8 +20,8 @@ use Rattle.gcd_plan.specs.declared.names.Run.TheVariants.{Block, Source}
 use Rattle.gcd_event.specs.declared.event.Event.{Event}
 use Rattle.gcd_event.specs.declared.event.Event.TheVariants.{Act as Acted}
 use Rattle.gcd_history.specs.Runs.{act_at, act_of}
-use Rattle.gcd_history.proofs.Choices.{none_is}
 use Rattle.gcd_history.proofs.Lists.{list_all_place}
+use Rattle.gcd_history.proofs.Options.{none_is}
 
 -- a plan that is valid and of the first forms
 pub record IsFirstPlan (plan : PlanView) : Type 0 where

@@ -31,10 +31,11 @@ use Rattle.gcd_history.specs.Permitted.{why, permitted, IsLawful, is_halted, is_
 use Rattle.gcd_history.specs.Choice.{choice, is_work, worker_of, IsQuiescent}
 use Rattle.gcd_history.specs.Facts.{is_of_run, by_worker}
 use Rattle.gcd_history.proofs.Lists.{some_counted, none_counted}
+use Rattle.gcd_history.proofs.Options.{none_is}
 use Rattle.gcd_history.proofs.RunsOpen.{same_run-refl}
 use Rattle.gcd_history.proofs.Reasons.{first_none, allowed, at_act, at_end, at_deliver_end, at_misuse, at_tick, at_ready, at_feed_end}
 use Rattle.gcd_history.proofs.OpenNodes.{open_cases, any_open, open_any}
-use Rattle.gcd_history.proofs.Choices.{chosen_where_permitted, chosen_is, none_is}
+use Rattle.gcd_history.proofs.Choices.{chosen_where_permitted, chosen_is}
 
 -- no reason applies, where the first does not, nor do the others
 none_first : (w : Why) (t : Bool) (rest : List (Why × Bool)) → t ≡ false → first_of rest ≡ None → first_of ((w, t) ∷ rest) ≡ None

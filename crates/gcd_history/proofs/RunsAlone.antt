@@ -21,9 +21,10 @@ use Rattle.gcd_history.specs.Runs.{opens, is_open}
 use Rattle.gcd_history.specs.Submitted.{submission_of}
 use Rattle.gcd_history.specs.Tree.{node_of, chain_of_run, is_open_on, is_open_beneath}
 use Rattle.gcd_history.specs.Permitted.{IsLawful, why, is_on, is_barrier_on, is_barrier_open, is_fenced, node_reasons, waiting_reasons}
+use Rattle.gcd_history.proofs.Options.{some_kept}
 use Rattle.gcd_history.proofs.RunsOpen.{same_run-true}
 use Rattle.gcd_history.proofs.Reasons.{at_start, waiting_facts}
-use Rattle.gcd_history.proofs.StartedOnce.{started_from_open, submitted_from_started, submission_of-kept, some_kept}
+use Rattle.gcd_history.proofs.StartedOnce.{started_from_open, submitted_from_started, submission_of-kept}
 use Rattle.gcd_history.proofs.OpenNodes.{open_cases, any_open, open_on_from, node_kept_open, node_kept_begun, begun_source}
 use Rattle.gcd_history.proofs.TreeStands.{stands, chain_step, chain_begun, begun_alone}
 

@@ -1,5 +1,5 @@
 -- Each block starts at most once, after its submission, and ends at most once.
-use Rattle.std.proofs.Common.{◌≡◌, ⊎_elim, ℕ, ◌≤◌, Bool, true, false, not, ◌&&◌, ◌||◌, ◌==◌, List, [], ◌∷◌, Option, Some, None, is_some, find, refl, ap, sym, ◌∙◌, subst, arith, count_by}
+use Rattle.std.proofs.Common.{◌≡◌, ⊎_elim, ℕ, ◌≤◌, Bool, true, false, not, ◌&&◌, ◌||◌, ◌==◌, List, [], ◌∷◌, Some, None, is_some, find, refl, ap, sym, ◌∙◌, subst, arith, count_by}
 use Rattle.std.specs.Option.{option_or}
 use Rattle.std.proofs.lemmas.Bool.{eqb-true, or_cases, or_right, and_parts, both_ways, cases_Bool, not-true}
 use Rattle.std.proofs.lemmas.List.Folds.{find-append}
@@ -15,6 +15,7 @@ use Rattle.gcd_history.specs.Submitted.{submitted, submissions, submission_of}
 use Rattle.gcd_history.specs.Parked.{has_run}
 use Rattle.gcd_history.specs.Permitted.{why, IsLawful}
 use Rattle.gcd_history.proofs.Lists.{count_more}
+use Rattle.gcd_history.proofs.Options.{some_kept}
 use Rattle.gcd_history.proofs.RunsOpen.{closes, is_open-step}
 use Rattle.gcd_history.proofs.Reasons.{at_start, at_end}
 
@@ -51,10 +52,6 @@ pub submission_of-kept : (plan : PlanView) (e : Event) (past : List Event) (b : 
 submission_of-kept plan e past b s h =
     find-append (λ t. t.blk.0 == b) (submitted plan past) (submissions plan past e)
     ∙ ap (λ o. option_or o (find (λ t. t.blk.0 == b) (submissions plan past e))) h
-
-pub some_kept : {X : Type 0} → (o : Option X) → is_some o ≡ true → (x : X) × (o ≡ Some x)
-some_kept None h = cc
-some_kept (Some x) h = (x, refl)
 
 -- the event that starts the block finds it submitted, and not started
 pub at_its_start : (plan : PlanView) (past : List Event) (b : ℕ) (e : Event) → why plan past e ≡ None → starts b e ≡ true → (is_some (submission_of plan past b) ≡ true) × (is_started past b ≡ false)

@@ -19,16 +19,19 @@ use Rattle.gcd_plan.specs.declared.names.Run.{Run}
 use Rattle.gcd_plan.specs.declared.names.Run.TheVariants.{Block, Source}
 use Rattle.gcd_event.specs.declared.event.Event.{Event}
 use Rattle.gcd_event.specs.declared.event.Event.TheVariants.{Start, Act as Acted}
+use Rattle.gcd_plan.proofs.Lists.{count_by-flat_map}
 use Rattle.gcd_history.specs.declared.submission.Submission.{Submission}
 use Rattle.gcd_history.specs.Runs.{same_run, acts_done, act_at, act_of, is_open, is_started}
 use Rattle.gcd_history.specs.Groups.{count}
 use Rattle.gcd_history.specs.Submitted.{on_node, submitted_by, cancels, is_cancelled, at_cancel, registered, notify_blocks, at_empty, submissions, main_submission, submitted}
 use Rattle.gcd_history.specs.Permitted.{IsLawful, is_worker, has_block, is_run_of}
 use Rattle.gcd_history.proofs.Lists.{list_all_place, count_by-append}
-use Rattle.gcd_history.proofs.Sums.{sum_range_le, sum_range_less, sum_range-add, sum_range_same, sum_range_one, sum_all_places_le, sum_by-take-more, count_by-flat_map, sum_by_none}
+use Rattle.gcd_history.proofs.Options.{some_kept, none_is}
+use Rattle.gcd_history.proofs.Sums.{sum_range_le, sum_range_less, sum_range-add, sum_range_one, sum_all_places_le, sum_by-take-more, sum_by_none}
+use Rattle.gcd_history.proofs.Counts.{sum_by_same}
 use Rattle.gcd_history.proofs.RunsOpen.{same_run-true, same_run-refl}
 use Rattle.gcd_history.proofs.Reasons.{allowed, at_act, at_start}
-use Rattle.gcd_history.proofs.StartedOnce.{started_from_open, open_from_has_run, some_kept}
+use Rattle.gcd_history.proofs.StartedOnce.{started_from_open, open_from_has_run}
 
 -- ## What is counted
 
@@ -104,10 +107,10 @@ at_groups plan past e b =
     let fired = count_by-flat_map (is_of b) (at_empty plan past e) (range_with_len 0 n) in
     let left = sum_range-add (λ g. count_by (is_of b) (at_empty plan past e g)) (λ g. count_by (is_of b) (notify_blocks plan (e ∷ past) g)) 0 n in
     let right = sum_range-add (λ g. count_by (is_of b) (notify_blocks plan past g)) (λ g. count_by (is_of b) (registered g (act_of plan e))) 0 n in
-    let same = sum_range_same
+    let same = sum_by_same
     (λ g. count_by (is_of b) (at_empty plan past e g) + count_by (is_of b) (notify_blocks plan (e ∷ past) g))
     (λ g. count_by (is_of b) (notify_blocks plan past g) + count_by (is_of b) (registered g (act_of plan e)))
-    0 n (at_group plan past e b) in
+    (range_with_len 0 n) (at_group plan past e b) in
     omega arith
 
 -- of the event
@@ -346,20 +349,16 @@ block_gives_no_main plan valid k blk at =
     let fine = (and_parts (option_map_or (is_work plan) blk.work true) (list_all (is_act plan) blk.acts) (list_all_place (is_block plan) plan.blocks k blk valid.blocks at)).1 in
     acts_give_none 0 blk.acts (λ i act here. act_gives_no_main plan act (list_all_place (is_act plan) blk.acts i act fine here))
 
-none_kept : {X : Type 0} → (o : Option X) → is_none o ≡ true → o ≡ None
-none_kept None h = refl
-none_kept (Some x) h = cc
-
 -- a cancellation block is not main
 cancel_gives_no_main : (plan : PlanView) (obj : ObjView) (kind : Kind) → has_fields plan kind obj ≡ true → count_by (names 0) (option_to_list obj.cancel) ≡ 0
 cancel_gives_no_main plan obj Serial fields =
-    ap (λ o. count_by (names 0) (option_to_list o)) (none_kept obj.cancel (and_parts (length obj.handler == 0) (is_none obj.cancel) (and_parts (is_queue plan obj.target.0) _ fields).1).1)
+    ap (λ o. count_by (names 0) (option_to_list o)) (none_is obj.cancel (and_parts (length obj.handler == 0) (is_none obj.cancel) (and_parts (is_queue plan obj.target.0) _ fields).1).1)
 cancel_gives_no_main plan obj Concurrent fields =
-    ap (λ o. count_by (names 0) (option_to_list o)) (none_kept obj.cancel (and_parts (length obj.handler == 0) (is_none obj.cancel) (and_parts (is_queue plan obj.target.0) _ fields).1).1)
+    ap (λ o. count_by (names 0) (option_to_list o)) (none_is obj.cancel (and_parts (length obj.handler == 0) (is_none obj.cancel) (and_parts (is_queue plan obj.target.0) _ fields).1).1)
 cancel_gives_no_main plan obj Group fields =
-    ap (λ o. count_by (names 0) (option_to_list o)) (none_kept obj.cancel (and_parts (length obj.handler == 0) (is_none obj.cancel) (and_parts obj.active _ (and_parts (obj.target.0 == 0) _ fields).1).1).1)
+    ap (λ o. count_by (names 0) (option_to_list o)) (none_is obj.cancel (and_parts (length obj.handler == 0) (is_none obj.cancel) (and_parts obj.active _ (and_parts (obj.target.0 == 0) _ fields).1).1).1)
 cancel_gives_no_main plan obj (Semaphore n) fields =
-    ap (λ o. count_by (names 0) (option_to_list o)) (none_kept obj.cancel (and_parts (length obj.handler == 0) (is_none obj.cancel) (and_parts obj.active _ (and_parts (obj.target.0 == 0) _ fields).1).1).1)
+    ap (λ o. count_by (names 0) (option_to_list o)) (none_is obj.cancel (and_parts (length obj.handler == 0) (is_none obj.cancel) (and_parts obj.active _ (and_parts (obj.target.0 == 0) _ fields).1).1).1)
 cancel_gives_no_main plan obj kind fields =
     let fine = (and_parts (list_all (λ a. is_handler_act a && is_act plan a) obj.handler) _ (and_parts (not obj.active) _ (and_parts (is_queue plan obj.target.0) _ fields).1).1).1 in
     elim obj.cancel as (λ o. option_map_or (is_submittable plan) o true ≡ true → count_by (names 0) (option_to_list o) ≡ 0) [

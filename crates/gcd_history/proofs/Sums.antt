@@ -1,10 +1,9 @@
 -- Sums over numbers, over lists and over what each element of a list gives.
-use Rattle.std.proofs.Common.{◌≡◌, ℕ, zero, suc, ◌+◌, ◌<◌, ◌≤◌, Bool, List, [], ◌∷◌, length, take, Some, count_by, refl, ap, sym, ◌∙◌, subst, arith, ⊎_elim}
-use Rattle.std.specs.List.{sum_by, slice_get, flat_map, range_with_len}
+use Rattle.std.proofs.Common.{◌≡◌, ℕ, zero, suc, ◌+◌, ◌<◌, ◌≤◌, List, [], ◌∷◌, length, take, Some, refl, sym, subst, arith, ⊎_elim}
+use Rattle.std.specs.List.{sum_by, slice_get, range_with_len}
 use Rattle.std.proofs.lemmas.List.{take-take}
 use Rattle.std.proofs.lemmas.List.Sums.{sum_by-cons, sum_by-take-le}
 use Rattle.std.proofs.lemmas.Bool.{cases_eq}
-use Rattle.gcd_history.proofs.Lists.{count_by-append}
 
 -- each term is at most as large
 pub sum_range_le : (f g : ℕ → ℕ) (a n : ℕ) → ((k : ℕ) → f k ≤ g k) → sum_by f (range_with_len a n) ≤ sum_by g (range_with_len a n)
@@ -43,15 +42,6 @@ sum_range-add f g a (suc n) =
     let left = sum_by-cons f a (range_with_len (a + 1) n) in
     let right = sum_by-cons g a (range_with_len (a + 1) n) in
     omega arith
-
--- terms that agree
-pub sum_range_same : (f g : ℕ → ℕ) (a n : ℕ) → ((k : ℕ) → f k ≡ g k) → sum_by f (range_with_len a n) ≡ sum_by g (range_with_len a n)
-sum_range_same f g a zero same = refl
-sum_range_same f g a (suc n) same =
-    sum_by-cons f a (range_with_len (a + 1) n)
-    ∙ ap (λ v. v + sum_by f (range_with_len (a + 1) n)) (same a)
-    ∙ ap (λ v. g a + v) (sum_range_same f g (a + 1) n same)
-    ∙ sym (sum_by-cons g a (range_with_len (a + 1) n))
 
 later : (f : ℕ → ℕ) (a n c : ℕ) → ((k : ℕ) → (k ≡ c → ⊥) → f k ≡ 0) → c < a → sum_by f (range_with_len a n) ≤ 0
 later f a zero c none below = omega arith
@@ -94,14 +84,6 @@ sum_all_places_le f g xs low = sum_places_le f g xs 0 (λ k x at. subst (λ j. f
 -- a longer front adds up to more
 pub sum_by-take-more : {X : Type 0} → (f : X → ℕ) (xs : List X) (m n : ℕ) → m ≤ n → sum_by f (take m xs) ≤ sum_by f (take n xs)
 sum_by-take-more f xs m n h = subst (λ l. sum_by f l ≤ sum_by f (take n xs)) (take-take m n xs h) (sum_by-take-le f (take n xs) m)
-
--- a count over what each element gives
-pub count_by-flat_map : {X Y : Type 0} → (p : Y → Bool) (f : X → List Y) (xs : List X) → count_by p (flat_map f xs) ≡ sum_by (λ x. count_by p (f x)) xs
-count_by-flat_map p f [] = refl
-count_by-flat_map p f (x ∷ xs) =
-    count_by-append p (f x) (flat_map f xs)
-    ∙ ap (λ v. count_by p (f x) + v) (count_by-flat_map p f xs)
-    ∙ sym (sum_by-cons (λ y. count_by p (f y)) x xs)
 
 -- where each element gives nothing, there is no sum
 pub sum_by_none : {X : Type 0} → (f : X → ℕ) (xs : List X) → ((k : ℕ) (x : X) → slice_get xs k ≡ Some x → f x ≡ 0) → sum_by f xs ≡ 0

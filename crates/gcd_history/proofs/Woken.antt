@@ -20,9 +20,10 @@ use Rattle.gcd_history.specs.Facts.{wakes}
 use Rattle.gcd_history.specs.Choice.{all_ended}
 use Rattle.gcd_history.specs.Submitted.{submitted, submission_of}
 use Rattle.gcd_history.proofs.Lists.{count_by-cons, found_passes}
+use Rattle.gcd_history.proofs.Options.{some_kept}
 use Rattle.gcd_history.proofs.RunsOpen.{closes, same_run-true, is_open-step}
 use Rattle.gcd_history.proofs.Reasons.{at_wake, at_act, at_end, at_start}
-use Rattle.gcd_history.proofs.StartedOnce.{started_from_open, submitted_from_started, open_not_ended, some_kept}
+use Rattle.gcd_history.proofs.StartedOnce.{started_from_open, submitted_from_started, open_not_ended}
 
 -- what has come stays so
 pub come_kept : (plan : PlanView) (e : Event) (past : List Event) (r : Reason) → has_come plan past r ≡ true → has_come plan (e ∷ past) r ≡ true

@@ -112,20 +112,3 @@ pub in_list_of_place : (view : ListsView) (b : ℕ) (o : Obj) (barrier : Bool) �
 in_list_of_place view b o barrier there =
     let found = in_place_from view.lists 0 b o barrier there in
     subst (λ n. barrier_in b (list_at view n) ≡ Some barrier) (let e : found.0 ≡ o.0 = omega (arith, found.1) in e) found.2
-
--- where a block is not found, no list has it
-in_no_list_from : (lists : List (List (Blk × Bool))) (from b i : ℕ) → place_from from lists b ≡ None → barrier_in b (get_or lists i []) ≡ None
-in_no_list_from [] from b i none = refl
-in_no_list_from (ws ∷ lists) from b i none = here (barrier_in b ws) refl none i (λ k later. in_no_list_from lists (suc from) b k later)
-  where
-    here : (found : Option Bool) → barrier_in b ws ≡ found
-        → option_or (option_map (λ flag. (record { 0 = from }, flag)) found) (place_from (suc from) lists b) ≡ None → (k : ℕ)
-        → ((j : ℕ) → place_from (suc from) lists b ≡ None → barrier_in b (get_or lists j []) ≡ None)
-        → barrier_in b (get_or (ws ∷ lists) k []) ≡ None
-    here None e is zero later = e
-    here None e is (suc k) later = later k is
-    here (Some flag) e is k later = absurd (none-some _ (sym is))
-
--- a block that waits nowhere is in no list
-pub in_no_list : (view : ListsView) (b n : ℕ) → place_of view b ≡ None → barrier_in b (list_at view n) ≡ None
-in_no_list view b n none = in_no_list_from view.lists 0 b n none

@@ -1,5 +1,5 @@
 -- The arrays and the view of them: what each call reads and leaves.
-use Rattle.std.proofs.Common.{◌≡◌, ℕ, ◌<◌, Bool, List, [], ◌∷◌, ◌++◌, length, get_or, set, drop, replicate, Option, Some, None, refl, ap, sym, ◌∙◌, subst, arith}
+use Rattle.std.proofs.Common.{◌≡◌, ℕ, ◌≤◌, ◌<◌, Bool, List, [], ◌∷◌, ◌++◌, length, get_or, set, drop, replicate, Option, Some, None, refl, ap, sym, ◌∙◌, subst, arith}
 use Rattle.std.specs.List.{slice_get}
 use Rattle.std.proofs.lemmas.List.{get_or_read, get_or-set_same, length-replicate}
 use Rattle.std.proofs.lemmas.Option.{none-some, same_Some}
@@ -7,7 +7,7 @@ use Rattle.gcd_plan.specs.declared.names.Blk.{Blk}
 use Rattle.gcd_plan.specs.declared.names.Obj.{Obj}
 use Rattle.gcd_lists.specs.ListsView.{ListsView, list_at, place_of}
 use Rattle.gcd_lists.specs.Links.{Hold, AreLinked, entry, lists_of, view_of, last_at}
-use Rattle.gcd_lists.proofs.Held.{First, place_seen, none_first, some_first, some_last, entry_within, view_is, linked}
+use Rattle.gcd_lists.proofs.Held.{First, list_short, place_seen, none_first, some_first, some_last, entry_within, view_is, linked}
 use Rattle.gcd_lists.proofs.Changes.{nothing_waits, hold_longer, hold_rest, comes_first, comes_behind}
 
 -- arrays that hold the lists of a view
@@ -43,6 +43,10 @@ module _ {links : List (Option Blk)} {places : List (Option (Obj × Bool))} {hea
 
   pub blocks_long : length links ≡ v.blocks
   blocks_long = ap (λ u. u.blocks) s.seen
+
+  -- no more blocks wait on a node than there are
+  pub few_wait : (n : ℕ) → length (list_at v n) ≤ v.blocks
+  few_wait n = omega (arith, list_short links places heads lasts v.lists hold n, blocks_long)
 
   -- what the code reads at a block and at a node
   pub place_read : (b : ℕ) (x : Option (Obj × Bool)) → b < length places → x ≡ get_or places b x → entry places b ≡ x

@@ -1,5 +1,5 @@
 // The lists of waiting blocks.
-ghost use Rattle.std.specs.Prelude.{◌≡◌, ◌<◌, ◌++◌, ◌∷◌, [], IfOk, IfSome, None, length, drop, replicate, slice_get, slice_set};
+ghost use Rattle.std.specs.Prelude.{◌≡◌, ◌≤◌, ◌<◌, ◌++◌, ◌∷◌, [], IfOk, IfSome, None, length, drop, replicate, slice_get, slice_set};
 ghost use Rattle.gcd_lists.specs.ListsView.{list_at, place_of};
 
 use gcd_plan::{Blk, Obj, Plan};
@@ -49,12 +49,14 @@ impl Lists {
     }
 
     /// The block waits on the object from now on, behind all that wait there, as a barrier or not (dispatch_async(3),
-    /// dispatch_barrier_async(3)). It waits nowhere before: [`Lists::place`] is the test.
+    /// dispatch_barrier_async(3)). It waits nowhere before: [`Lists::place`] is the test. So no more wait there than there
+    /// are blocks.
     pub fn push(&mut self, node: Obj, blk: Blk, barrier: bool)
         requires node { node.0 < length self.old.lists }
         requires blk { blk.0 < self.old.blocks }
         requires waits_nowhere { place_of self.old blk.0 ≡ None }
-        ensures { self.new ≡ record self.old { lists = slice_set self.old.lists node.0 (list_at self.old node.0 ++ (blk, barrier) ∷ []) } }
+        ensures behind { self.new ≡ record self.old { lists = slice_set self.old.lists node.0 (list_at self.old node.0 ++ (blk, barrier) ∷ []) } }
+        ensures few { length (list_at self.new node.0) ≤ self.new.blocks }
     {
         let last = self.lasts[node.0 as usize];
         self.lasts[node.0 as usize] = blk;
@@ -66,11 +68,12 @@ impl Lists {
         }
     }
 
-    /// The block that waits first on the object, and whether it is a barrier; None exactly where nothing waits there.
-    /// (This project's own rule.)
+    /// The block that waits first on the object, and whether it is a barrier; None exactly where nothing waits there. No
+    /// more wait there than there are blocks. (This project's own rule.)
     pub fn first(&self, node: Obj) -> Option<(Blk, bool)>
         requires { node.0 < length self.now.lists }
-        ensures { result ≡ slice_get (list_at self.now node.0) 0 }
+        ensures value { result ≡ slice_get (list_at self.now node.0) 0 }
+        ensures few { length (list_at self.now node.0) ≤ self.now.blocks }
     {
         let blk = self.heads[node.0 as usize]?;
         let (_, barrier) = self.places[blk.0 as usize]?;

@@ -19,8 +19,8 @@ use Rattle.gcd_history.specs.Tree.{is_run_on}
 use Rattle.gcd_history.specs.Permitted.{is_halted, ends_in_halt, is_worker, is_on, waits_on, why, permitted, IsLawful}
 use Rattle.gcd_history.specs.Choice.{IsQuiescent, all_ended, is_work, worker_of}
 use Rattle.gcd_history.proofs.Lists.{found_is, found_passes}
+use Rattle.gcd_history.proofs.Options.{none_is}
 use Rattle.gcd_history.proofs.RunsOpen.{same_run-refl}
-use Rattle.gcd_history.proofs.Choices.{none_is}
 use Rattle.gcd_history.proofs.Counts.{found_alone, counted_found, count_unfound}
 use Rattle.gcd_history.proofs.QueuesOnRoot.{IsFirstPlan, serial_queue}
 use Rattle.gcd_history.proofs.NothingHeld.{nothing_due, nothing_live}

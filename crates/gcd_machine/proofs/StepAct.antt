@@ -17,6 +17,7 @@ use Rattle.gcd_history.specs.Runs.{open_runs, is_open, acts_done, is_started, is
 use Rattle.gcd_history.specs.Submitted.{submitted, submission_of, submitted_by, on_node}
 use Rattle.gcd_history.specs.Tree.{is_run_on}
 use Rattle.gcd_history.specs.Permitted.{waits_on, why}
+use Rattle.gcd_history.proofs.Options.{some_kept}
 use Rattle.gcd_history.proofs.Counts.{count_push}
 use Rattle.gcd_history.proofs.QueuesOnRoot.{IsFirstPlan, serial_queue}
 use Rattle.gcd_history.proofs.NothingHeld.{submitted_more}
@@ -137,13 +138,9 @@ on_kept : (plan : PlanView) (past : List Event) (w : ℕ) (b : Blk) (i q : ℕ) 
     → is_run_on plan (Acted w (Block b) i ∷ past) q run ≡ is_run_on plan past q run
 on_kept plan past w b i q (Source s) first facts among = refl
 on_kept plan past w b i q (Block k) first facts among =
-    let s = found_at (submission_of plan past k.0) (facts.begun k.0 (open_parts plan past k facts among).0) in
+    let s = some_kept (submission_of plan past k.0) (facts.begun k.0 (open_parts plan past k facts among).0) in
     ap (λ o. option_map_or (λ n. n == q) (option_map (λ x. x.0) (option_and_then (λ t. t.node) o)) false)
     (submission_kept plan past (Acted w (Block b) i) k.0 s.0 first s.1 ∙ sym s.1)
-  where
-    found_at : {X : Type 0} (o : Option X) → is_some o ≡ true → (x : X) × (o ≡ Some x)
-    found_at None h = cc
-    found_at (Some x) h = (x, refl)
 
 act_queues : (m : MachineView) (past : List Event) (w : ℕ) (b : Blk) (i : ℕ) → Keeps m past → (q : ℕ)
     → filter (is_run_on m.plan (Acted w (Block b) i ∷ past) q) (open_runs past) ≡ run_list (at_queue m q)

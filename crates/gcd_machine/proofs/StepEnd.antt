@@ -1,7 +1,7 @@
 -- The arrays after an End, and after a Halt, hold the history with it.
 use Rattle.std.proofs.Common.{◌≡◌, ℕ, ◌+◌, ◌-◌, ◌<◌, ◌==◌, Bool, true, false, not, ◌&&◌, ◌||◌, cond, List, [], ◌∷◌, length, get_or, map, filter, Option, Some, None, refl, ap, sym, ◌∙◌, arith, eq-eqb}
 use Rattle.std.specs.List.{count_by}
-use Rattle.std.specs.Option.{option_map, option_map_or, option_and_then, is_some}
+use Rattle.std.specs.Option.{option_map, option_map_or, option_and_then}
 use Rattle.std.proofs.lemmas.Bool.{and_parts, eqb-true}
 use Rattle.std.proofs.lemmas.List.{length-set}
 use Rattle.std.proofs.lemmas.List.Sums.{length-filter}
@@ -19,6 +19,7 @@ use Rattle.gcd_history.specs.Submitted.{submitted, submission_of}
 use Rattle.gcd_history.specs.Tree.{is_run_on}
 use Rattle.gcd_history.specs.Parked.{has_run}
 use Rattle.gcd_history.specs.Permitted.{waits_on, why, is_halted}
+use Rattle.gcd_history.proofs.Options.{some_kept}
 use Rattle.gcd_history.proofs.Counts.{filter_alike, counted_found, sum_by_same}
 use Rattle.gcd_history.proofs.QueuesOnRoot.{IsFirstPlan}
 use Rattle.gcd_history.proofs.NothingHeld.{has_run_is}
@@ -135,16 +136,12 @@ end_runs plan past w b facts own =
     let one : count_by (same_run (Block b)) (open_runs past) ≡ 1 = facts.opened b ∙ (ap (λ v. cond (v && not (is_ended past b.0)) 1 0) own.started ∙ ap (λ v. cond (not v) 1 0) own.unended) in
     omega (arith, both, counted, one)
 
-found_at : {X : Type 0} (o : Option X) → is_some o ≡ true → (x : X) × (o ≡ Some x)
-found_at None h = cc
-found_at (Some x) h = (x, refl)
-
 -- one block fewer is left
 pub end_left : (plan : PlanView) (past : List Event) (w : ℕ) (b : Blk) → Facts plan past → IsOwn past w b
     → count_by (λ s. not (b.0 == s.blk.0 || is_ended past s.blk.0)) (submitted plan past) + 1 ≡ count_by (λ s. not (is_ended past s.blk.0)) (submitted plan past)
 end_left plan past w b facts own =
     let xs = submitted plan past in
-    let s = found_at (submission_of plan past b.0) (facts.begun b.0 own.started) in
+    let s = some_kept (submission_of plan past b.0) (facts.begun b.0 own.started) in
     let f : Submission → Bool = λ t. not (is_ended past t.blk.0) in
     let g : Submission → Bool = λ t. b.0 == t.blk.0 in
     let parts = count_parts f g xs in

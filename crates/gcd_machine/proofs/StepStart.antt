@@ -20,6 +20,7 @@ use Rattle.gcd_history.specs.Runs.{same_run, open_runs, acts_done, last_worker, 
 use Rattle.gcd_history.specs.Submitted.{submitted, submission_of}
 use Rattle.gcd_history.specs.Tree.{is_run_on}
 use Rattle.gcd_history.specs.Permitted.{is_on, is_ready, waits_on, why}
+use Rattle.gcd_history.proofs.Options.{some_kept, none_of}
 use Rattle.gcd_history.proofs.Reasons.{first_none}
 use Rattle.gcd_history.proofs.RunsOpen.{same_run-refl}
 use Rattle.gcd_history.proofs.Counts.{filter_alike, found_alone}
@@ -42,10 +43,6 @@ use Rattle.gcd_machine.proofs.Changed.{progress_by, progress_set, option_set, li
 record IsNext (m : MachineView) (b : Blk) (q : Obj) : Type 0 where
   first : is_first m q.0 b.0 ≡ true
   free : at_queue m q.0 ≡ None
-
-none_of : {X : Type 0} (o : Option X) → is_some o ≡ false → o ≡ None
-none_of None h = refl
-none_of (Some x) h = cc
 
 next_from : (m : MachineView) (b : Blk) (q : Obj) → first_of (queue_reasons m b.0 (Some q)) ≡ None → IsNext m b q
 next_from m b q none =
@@ -160,10 +157,6 @@ start_queues m past w b keeps may q =
 
 -- ## Waiting lists
 
-found_at : {X : Type 0} (o : Option X) → is_some o ≡ true → (x : X) × (o ≡ Some x)
-found_at None h = cc
-found_at (Some x) h = (x, refl)
-
 -- the submissions that wait after the Start are the others
 waits_less : (past : List Event) (w q : ℕ) (b : Blk) (xs : List Submission) → filter (waits_on (Start w b ∷ past) q) xs ≡ filter (is_other b.0) (filter (waits_on past q) xs)
 waits_less past w q b [] = refl
@@ -208,7 +201,7 @@ start_lists : (m : MachineView) (past : List Event) (w : ℕ) (b : Blk) → Keep
 start_lists m past w b keeps may q =
     let xs = submitted m.plan past in
     let facts = facts_at m past keeps in
-    let s = found_at (submission_of m.plan past b.0) may.submitted in
+    let s = some_kept (submission_of m.plan past b.0) may.submitted in
     let alone = only_one b.0 s.0 xs (facts.once b.0) s.1 in
     let node = node_is m past b.0 s.0 keeps s.1 in
     let less = waits_less past w q b xs in

@@ -1,12 +1,12 @@
 use Rattle.std.proofs.Common.{◌∙◌, arith}
-use Rattle.gcd_lists.proofs.Seen.{shown, head_read, place_read, first_within, first_waits, none_waits}
+use Rattle.gcd_lists.proofs.Seen.{shown, few_wait, head_read, place_read, first_within, first_waits, none_waits}
 use Rattle.gcd_lists.proofs.lists.Lists.first.Goals as goal
 
 pub returns-in_err-blk : goal.returns-in_err-blk
 returns-in_err-blk c =
     let s = shown c.self.invariant c.self.view_is in
     let head = head_read s c.args.node.0 c.index.result.now c.requires c.index.ensures ∙ c.in_err-blk.was in
-    c.from_residual.ensures ∙ none_waits s c.args.node.0 head
+    record { value = c.from_residual.ensures ∙ none_waits s c.args.node.0 head; few = few_wait s c.args.node.0 }
 
 pub index-requires-2 : goal.index-requires-2
 index-requires-2 c =
@@ -20,4 +20,7 @@ returns c =
     let head = head_read s c.args.node.0 c.index.result.now c.requires c.index.ensures ∙ c.in_ok-blk.was in
     let within = first_within s c.args.node.0 c.in_ok-blk.blk head in
     let place = place_read s c.in_ok-blk.blk.0 c.index-2.result.now within c.index-2.ensures ∙ c.in_ok-barrier.was in
-    first_waits s c.args.node.0 c.in_ok-blk.blk _ c.in_ok-barrier.barrier head place
+    record {
+      value = first_waits s c.args.node.0 c.in_ok-blk.blk _ c.in_ok-barrier.barrier head place;
+      few = few_wait s c.args.node.0;
+    }

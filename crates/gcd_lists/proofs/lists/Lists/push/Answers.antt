@@ -1,5 +1,5 @@
-use Rattle.std.proofs.Common.{◌∙◌, arith}
-use Rattle.gcd_lists.proofs.Seen.{shown, head_read, last_read, end_within, shows_first, shows_behind}
+use Rattle.std.proofs.Common.{refl, ◌∙◌, arith}
+use Rattle.gcd_lists.proofs.Seen.{shown, few_wait, head_read, last_read, end_within, shows_first, shows_behind}
 use Rattle.gcd_lists.proofs.lists.Lists.push.Goals as goal
 
 pub index_mut-requires-in-Some : goal.index_mut-requires-in-Some
@@ -22,8 +22,9 @@ returns-in-Some c =
     let s = shown c.self.invariant c.self.view_is in
     let head = head_read s c.args.node.0 c.index.result.now c.requires.node c.index.ensures ∙ c.in-Some.is in
     let last = last_read s c.args.node.0 c.index-last.result.now c.requires.node c.index-last.ensures in
-    (shows_behind s c.args.node c.in-Some.field-0 c.index-last.result.now c.args.blk c.args.barrier c.requires.node c.requires.blk
-    c.requires.waits_nowhere head last).seen
+    let shows = shows_behind s c.args.node c.in-Some.field-0 c.index-last.result.now c.args.blk c.args.barrier c.requires.node c.requires.blk
+    c.requires.waits_nowhere head last in
+    record { behind = shows.seen; few = few_wait (shown shows.linked refl) c.args.node.0 }
 
 pub invariant_of-self-in-None : goal.invariant_of-self-in-None
 invariant_of-self-in-None c =
@@ -35,4 +36,5 @@ pub returns-in-None : goal.returns-in-None
 returns-in-None c =
     let s = shown c.self.invariant c.self.view_is in
     let head = head_read s c.args.node.0 c.index.result.now c.requires.node c.index.ensures ∙ c.in-None.is in
-    (shows_first s c.args.node c.args.blk c.args.barrier c.requires.node c.requires.blk c.requires.waits_nowhere head).seen
+    let shows = shows_first s c.args.node c.args.blk c.args.barrier c.requires.node c.requires.blk c.requires.waits_nowhere head in
+    record { behind = shows.seen; few = few_wait (shown shows.linked refl) c.args.node.0 }
