@@ -25,38 +25,24 @@ const CONCURRENT: Obj = Obj(4);
 
 const SOURCE: Obj = Obj(5);
 
-fn object(alloc: Global, name: &str, kind: Kind, target: Obj) -> Result<ObjPart, AllocError> {
-    Ok(ObjPart {
-        name: String::from_str(alloc, name)?,
-        kind,
-        target,
-        active: kind != Kind::Add,
-        path: String::new(alloc),
-        handler: Vec::new(alloc),
-        cancel: None,
-    })
-}
-
 fn objects(alloc: Global) -> Result<Vec<ObjPart>, AllocError> {
-    let mut objects = Vec::new(alloc);
-    objects.push(object(alloc, "root", Kind::Concurrent, ROOT)?)?;
-    objects.push(object(alloc, "t", Kind::Serial, ROOT)?)?;
-    objects.push(object(alloc, "q", Kind::Serial, TARGET)?)?;
-    objects.push(object(alloc, "d", Kind::Concurrent, TARGET)?)?;
-    objects.push(object(alloc, "c", Kind::Concurrent, ROOT)?)?;
-    objects.push(object(alloc, "s", Kind::Add, CONCURRENT)?)?;
-    Ok(objects)
+    let root = ObjPart::new(alloc, "root", Kind::Concurrent)?;
+    let target = ObjPart::new(alloc, "t", Kind::Serial)?;
+    let mut serial = ObjPart::new(alloc, "q", Kind::Serial)?;
+    serial.target = TARGET;
+    let mut sharing = ObjPart::new(alloc, "d", Kind::Concurrent)?;
+    sharing.target = TARGET;
+    let concurrent = ObjPart::new(alloc, "c", Kind::Concurrent)?;
+    let mut source = ObjPart::new(alloc, "s", Kind::Add)?;
+    source.target = CONCURRENT;
+    Ok(vec![in alloc; root, target, serial, sharing, concurrent, source]?)
 }
 
 // `main` and eight blocks that do nothing.
 fn idle_blocks(alloc: Global) -> Result<Vec<BlkPart>, AllocError> {
     let mut blocks = Vec::new(alloc);
     for name in ["main", "b1", "b2", "b3", "b4", "b5", "b6", "b7", "b8"] {
-        blocks.push(BlkPart {
-            name: String::from_str(alloc, name)?,
-            acts: Vec::new(alloc),
-            work: None,
-        })?;
+        blocks.push(BlkPart::new(alloc, name)?)?;
     }
     Ok(blocks)
 }

@@ -10,36 +10,20 @@ const G: Obj = Obj(1);
 
 const H: Obj = Obj(2);
 
-fn object(alloc: Global, name: &str, kind: Kind) -> Result<ObjPart, AllocError> {
-    Ok(ObjPart {
-        name: String::from_str(alloc, name)?,
-        kind,
-        target: Obj(0),
-        active: true,
-        path: String::new(alloc),
-        handler: Vec::new(alloc),
-        cancel: None,
-    })
-}
-
 // `main` and four blocks that do nothing.
 fn idle_blocks(alloc: Global) -> Result<Vec<BlkPart>, AllocError> {
     let mut blocks = Vec::new(alloc);
     for name in ["main", "b1", "b2", "b3", "b4"] {
-        blocks.push(BlkPart {
-            name: String::from_str(alloc, name)?,
-            acts: Vec::new(alloc),
-            work: None,
-        })?;
+        blocks.push(BlkPart::new(alloc, name)?)?;
     }
     Ok(blocks)
 }
 
 // `root` and two groups.
 fn new_plan(alloc: Global) -> Result<Plan, Fail> {
-    let root = object(alloc, "root", Kind::Concurrent)?;
-    let g = object(alloc, "g", Kind::Group)?;
-    let h = object(alloc, "h", Kind::Group)?;
+    let root = ObjPart::new(alloc, "root", Kind::Concurrent)?;
+    let g = ObjPart::new(alloc, "g", Kind::Group)?;
+    let h = ObjPart::new(alloc, "h", Kind::Group)?;
     let parts = Parts {
         objects: vec![in alloc; root, g, h]?,
         blocks: idle_blocks(alloc)?,

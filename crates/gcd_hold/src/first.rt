@@ -2,14 +2,8 @@
 ghost use Rattle.std.specs.Prelude.{◌≡◌, IfOk, map};
 ghost use Rattle.gcd_plan.specs.Kinds.{is_source_kind};
 
-use gcd_plan::{Kind, Obj, Plan};
+use gcd_plan::{Obj, Plan};
 use std::alloc::{AllocError, Global};
-
-fn is_source(kind: Kind) -> bool
-    ensures { result ≡ is_source_kind kind }
-{
-    matches!(kind, Kind::Add | Kind::Or | Kind::Timer { .. } | Kind::Read)
-}
 
 /// Which objects of the plan are created active.
 pub fn created_active(alloc: Global, plan: &Plan) -> Result<Vec<bool>, AllocError>
@@ -28,7 +22,7 @@ pub fn sources(alloc: Global, plan: &Plan) -> Result<Vec<bool>, AllocError>
 {
     let mut sources = Vec::with_capacity(alloc, plan.objects() as usize)?;
     for o in 0..plan.objects() {
-        sources.push(is_source(plan.kind(Obj(o))))?;
+        sources.push(plan.kind(Obj(o)).is_source())?;
     }
     Ok(sources)
 }

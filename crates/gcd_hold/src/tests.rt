@@ -6,29 +6,14 @@ use std::alloc::{AllocError, Global};
 use std::process::Abort;
 use std::test::Fail;
 
-fn object(alloc: Global, name: &str, kind: Kind, active: bool) -> Result<ObjPart, AllocError> {
-    Ok(ObjPart {
-        name: String::from_str(alloc, name)?,
-        kind,
-        target: Obj(0),
-        active,
-        path: String::new(alloc),
-        handler: Vec::new(alloc),
-        cancel: None,
-    })
-}
-
 // `root`, a queue, an inactive queue and a source, and `main`.
 fn parts(alloc: Global) -> Result<Parts, AllocError> {
-    let main = BlkPart {
-        name: String::from_str(alloc, "main")?,
-        acts: Vec::new(alloc),
-        work: None,
-    };
-    let root = object(alloc, "root", Kind::Concurrent, true)?;
-    let queue = object(alloc, "q", Kind::Serial, true)?;
-    let inactive = object(alloc, "r", Kind::Serial, false)?;
-    let source = object(alloc, "s", Kind::Add, false)?;
+    let main = BlkPart::new(alloc, "main")?;
+    let root = ObjPart::new(alloc, "root", Kind::Concurrent)?;
+    let queue = ObjPart::new(alloc, "q", Kind::Serial)?;
+    let mut inactive = ObjPart::new(alloc, "r", Kind::Serial)?;
+    inactive.active = false;
+    let source = ObjPart::new(alloc, "s", Kind::Add)?;
     Ok(Parts {
         objects: vec![in alloc; root, queue, inactive, source]?,
         blocks: vec![in alloc; main]?,

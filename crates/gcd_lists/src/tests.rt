@@ -13,24 +13,10 @@ const BLOCKS: u32 = 40;
 // `root` and four serial queues on it.
 fn queues(alloc: Global) -> Result<Vec<ObjPart>, AllocError> {
     let mut objects = Vec::with_capacity(alloc, OBJECTS as usize)?;
-    for i in 0..OBJECTS {
-        objects.push(ObjPart {
-            name: if i == 0 {
-                String::from_str(alloc, "root")?
-            } else {
-                format!(in alloc; "q{i}")?
-            },
-            kind: if i == 0 {
-                Kind::Concurrent
-            } else {
-                Kind::Serial
-            },
-            target: Obj(0),
-            active: true,
-            path: String::new(alloc),
-            handler: Vec::new(alloc),
-            cancel: None,
-        })?;
+    objects.push(ObjPart::new(alloc, "root", Kind::Concurrent)?)?;
+    for i in 1..OBJECTS {
+        let name = format!(in alloc; "q{i}")?;
+        objects.push(ObjPart::new(alloc, name.as_str(), Kind::Serial)?)?;
     }
     Ok(objects)
 }
@@ -38,16 +24,10 @@ fn queues(alloc: Global) -> Result<Vec<ObjPart>, AllocError> {
 // `main` and 39 blocks that do nothing.
 fn idle_blocks(alloc: Global) -> Result<Vec<BlkPart>, AllocError> {
     let mut blocks = Vec::with_capacity(alloc, BLOCKS as usize)?;
-    for i in 0..BLOCKS {
-        blocks.push(BlkPart {
-            name: if i == 0 {
-                String::from_str(alloc, "main")?
-            } else {
-                format!(in alloc; "b{i}")?
-            },
-            acts: Vec::new(alloc),
-            work: None,
-        })?;
+    blocks.push(BlkPart::new(alloc, "main")?)?;
+    for i in 1..BLOCKS {
+        let name = format!(in alloc; "b{i}")?;
+        blocks.push(BlkPart::new(alloc, name.as_str())?)?;
     }
     Ok(blocks)
 }

@@ -39,36 +39,22 @@ fn end(worker: u8, blk: Blk) -> Event {
 
 // `root`, the serial queues q and r, and blocks with these bodies, `main` first.
 fn parts(alloc: Global, bodies: &[&[Act]]) -> Result<Parts, AllocError> {
-    let mut objects = Vec::new(alloc);
-    for name in ["root", "q", "r"] {
-        objects.push(ObjPart {
-            name: String::from_str(alloc, name)?,
-            kind: if objects.is_empty() {
-                Kind::Concurrent
-            } else {
-                Kind::Serial
-            },
-            target: Obj(0),
-            active: true,
-            path: String::new(alloc),
-            handler: Vec::new(alloc),
-            cancel: None,
-        })?;
-    }
+    let root = ObjPart::new(alloc, "root", Kind::Concurrent)?;
+    let q = ObjPart::new(alloc, "q", Kind::Serial)?;
+    let r = ObjPart::new(alloc, "r", Kind::Serial)?;
     let mut blocks = Vec::new(alloc);
     for (i, acts) in bodies.iter().enumerate() {
-        blocks.push(BlkPart {
-            name: if i == 0 {
-                String::from_str(alloc, "main")?
-            } else {
-                format!(in alloc; "b{i}")?
-            },
-            acts: Vec::from_slice(alloc, acts)?,
-            work: None,
-        })?;
+        let name = if i == 0 {
+            String::from_str(alloc, "main")?
+        } else {
+            format!(in alloc; "b{i}")?
+        };
+        let mut block = BlkPart::new(alloc, name.as_str())?;
+        block.acts = Vec::from_slice(alloc, acts)?;
+        blocks.push(block)?;
     }
     Ok(Parts {
-        objects,
+        objects: vec![in alloc; root, q, r]?,
         blocks,
         files: Vec::new(alloc),
         until: 1000,

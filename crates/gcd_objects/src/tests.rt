@@ -6,28 +6,12 @@ use std::alloc::{AllocError, Global};
 use std::process::Abort;
 use std::test::Fail;
 
-fn object(alloc: Global, name: &str, kind: Kind) -> Result<ObjPart, AllocError> {
-    Ok(ObjPart {
-        name: String::from_str(alloc, name)?,
-        kind,
-        target: Obj(0),
-        active: true,
-        path: String::new(alloc),
-        handler: Vec::new(alloc),
-        cancel: None,
-    })
-}
-
 // `root`, a queue and a group, and `main`.
 fn parts(alloc: Global) -> Result<Parts, AllocError> {
-    let main = BlkPart {
-        name: String::from_str(alloc, "main")?,
-        acts: Vec::new(alloc),
-        work: None,
-    };
-    let root = object(alloc, "root", Kind::Concurrent)?;
-    let queue = object(alloc, "q", Kind::Serial)?;
-    let group = object(alloc, "g", Kind::Group)?;
+    let main = BlkPart::new(alloc, "main")?;
+    let root = ObjPart::new(alloc, "root", Kind::Concurrent)?;
+    let queue = ObjPart::new(alloc, "q", Kind::Serial)?;
+    let group = ObjPart::new(alloc, "g", Kind::Group)?;
     Ok(Parts {
         objects: vec![in alloc; root, queue, group]?,
         blocks: vec![in alloc; main]?,

@@ -1,4 +1,6 @@
 // What kinds of object there are.
+ghost use Rattle.std.specs.Prelude.{◌≡◌};
+ghost use Rattle.gcd_plan.specs.Kinds.{is_source_kind};
 
 /// The kind of an object, with what its declaration fixes.
 #[derive(Clone, Copy, Debug, PartialEq, Eq)]
@@ -20,4 +22,13 @@ pub enum Kind {
     Timer { start: u32, every: u32 },
     /// A read source over a feed of bytes (`DISPATCH_SOURCE_TYPE_READ` of dispatch_source_create(3)).
     Read,
+}
+
+impl Kind {
+    /// Whether it is a source (dispatch_source_create(3)).
+    pub fn is_source(self) -> bool
+        ensures { result ≡ is_source_kind self }
+    {
+        matches!(self, Kind::Add | Kind::Or | Kind::Timer { .. } | Kind::Read)
+    }
 }

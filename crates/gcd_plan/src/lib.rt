@@ -4,6 +4,8 @@
 //!
 //! | call | answer |
 //! |---|---|
+//! | `ObjPart::new`, `BlkPart::new` | an object or block of a name with nothing else declared, or want of memory |
+//! | `Kind::is_source` | whether a kind is a source |
 //! | `Plan::of_parts` | the plan of the parts; None exactly where they are no valid plan (`IsPlan`) |
 //! | `Plan::of_valid_parts` | the same of parts that the caller knows to be valid |
 //! | `Plan::copied` | the same plan once more, or want of memory |

@@ -1,9 +1,13 @@
 // The lists that a plan is made of.
+ghost use Rattle.std.specs.Prelude.{◌≡◌, not, IfOk, [], None};
+ghost use Rattle.gcd_plan.specs.PlanView.{obj_view, blk_view};
+ghost use Rattle.gcd_plan.specs.Kinds.{is_source_kind};
 
 use crate::act::Act;
 use crate::kind::Kind;
 use crate::names::{Blk, Obj};
 use crate::work::Work;
+use std::alloc::{AllocError, Global};
 
 /// What is declared of an object. Where its kind has no such thing, `target` is `Obj(0)`, `active` is true, `path` and
 /// `handler` are empty and `cancel` is None.
@@ -25,6 +29,32 @@ pub struct ObjPart {
     pub cancel: Option<Blk>,
 }
 
+impl ObjPart {
+    /// An object of this name and kind on target `root`, with no path, no handler and no cancellation block, and active
+    /// exactly where its kind is no source (dispatch_activate(3)). An `Err` comes only of want of memory.
+    pub fn new(alloc: Global, name: &str, kind: Kind) -> Result<ObjPart, AllocError>
+        ensures { IfOk result (λ o. obj_view o ≡ record {
+          name = name.now;
+          kind = kind;
+          target = record { 0 = 0 };
+          active = not (is_source_kind kind);
+          path = [];
+          handler = [];
+          cancel = None;
+        }) }
+    {
+        Ok(ObjPart {
+            name: String::from_str(alloc, name)?,
+            kind,
+            target: Obj(0),
+            active: !kind.is_source(),
+            path: String::new(alloc),
+            handler: Vec::new(alloc),
+            cancel: None,
+        })
+    }
+}
+
 /// What is declared of a block.
 #[derive(Debug, Drop)]
 pub struct BlkPart {
@@ -34,6 +64,19 @@ pub struct BlkPart {
     pub acts: Vec<Act>,
     /// What it computes, if anything.
     pub work: Option<Work>,
+}
+
+impl BlkPart {
+    /// A block of this name that does nothing and computes nothing. An `Err` comes only of want of memory.
+    pub fn new(alloc: Global, name: &str) -> Result<BlkPart, AllocError>
+        ensures { IfOk result (λ b. blk_view b ≡ record { name = name.now; acts = []; work = None }) }
+    {
+        Ok(BlkPart {
+            name: String::from_str(alloc, name)?,
+            acts: Vec::new(alloc),
+            work: None,
+        })
+    }
 }
 
 /// What is declared of a file.

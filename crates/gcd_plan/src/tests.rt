@@ -178,43 +178,21 @@ const CASES: [Case; 24] = [
     },
 ];
 
-fn object(
-    alloc: Global,
-    name: &str,
-    kind: Kind,
-    target: u32,
-    active: bool,
-) -> Result<ObjPart, AllocError> {
-    Ok(ObjPart {
-        name: String::from_str(alloc, name)?,
-        kind,
-        target: Obj(target),
-        active,
-        path: String::new(alloc),
-        handler: Vec::new(alloc),
-        cancel: None,
-    })
-}
-
 fn parts(alloc: Global, case: &Case) -> Result<Parts, AllocError> {
-    let root = object(alloc, "root", Kind::Concurrent, 0, true)?;
-    let tried = object(alloc, case.name, case.kind, case.target, case.active)?;
-    let group = object(alloc, "g", Kind::Group, 0, true)?;
-    let main = BlkPart {
-        name: String::from_str(alloc, "main")?,
-        acts: Vec::from_slice(alloc, case.acts)?,
-        work: None,
-    };
-    let counts = BlkPart {
-        name: String::from_str(alloc, "b1")?,
-        acts: Vec::new(alloc),
-        work: Some(Work {
-            how: How::Lines,
-            file: case.file,
-            start: 0,
-            len: WHOLE_FILE,
-        }),
-    };
+    let root = ObjPart::new(alloc, "root", Kind::Concurrent)?;
+    let mut tried = ObjPart::new(alloc, case.name, case.kind)?;
+    tried.target = Obj(case.target);
+    tried.active = case.active;
+    let group = ObjPart::new(alloc, "g", Kind::Group)?;
+    let mut main = BlkPart::new(alloc, "main")?;
+    main.acts = Vec::from_slice(alloc, case.acts)?;
+    let mut counts = BlkPart::new(alloc, "b1")?;
+    counts.work = Some(Work {
+        how: How::Lines,
+        file: case.file,
+        start: 0,
+        len: WHOLE_FILE,
+    });
     let log = FilePart {
         name: String::from_str(alloc, "log")?,
         path: String::from_str(alloc, "log.txt")?,

@@ -6,29 +6,13 @@ use std::alloc::{AllocError, Global};
 use std::process::Abort;
 use std::test::Fail;
 
-fn object(alloc: Global, name: &str, kind: Kind) -> Result<ObjPart, AllocError> {
-    Ok(ObjPart {
-        name: String::from_str(alloc, name)?,
-        kind,
-        target: Obj(0),
-        active: true,
-        path: String::new(alloc),
-        handler: Vec::new(alloc),
-        cancel: None,
-    })
-}
-
 // `root`, semaphores of first value 1, 5 and 2^31 - 1, and `main`.
 fn parts(alloc: Global) -> Result<Parts, AllocError> {
-    let main = BlkPart {
-        name: String::from_str(alloc, "main")?,
-        acts: Vec::new(alloc),
-        work: None,
-    };
-    let root = object(alloc, "root", Kind::Concurrent)?;
-    let one = object(alloc, "s", Kind::Semaphore(1))?;
-    let five = object(alloc, "t", Kind::Semaphore(5))?;
-    let most = object(alloc, "u", Kind::Semaphore(2_147_483_647))?;
+    let main = BlkPart::new(alloc, "main")?;
+    let root = ObjPart::new(alloc, "root", Kind::Concurrent)?;
+    let one = ObjPart::new(alloc, "s", Kind::Semaphore(1))?;
+    let five = ObjPart::new(alloc, "t", Kind::Semaphore(5))?;
+    let most = ObjPart::new(alloc, "u", Kind::Semaphore(2_147_483_647))?;
     Ok(Parts {
         objects: vec![in alloc; root, one, five, most]?,
         blocks: vec![in alloc; main]?,

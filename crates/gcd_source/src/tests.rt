@@ -6,36 +6,15 @@ use std::alloc::{AllocError, Global};
 use std::process::Abort;
 use std::test::Fail;
 
-fn object(
-    alloc: Global,
-    name: &str,
-    kind: Kind,
-    path: &str,
-    active: bool,
-) -> Result<ObjPart, AllocError> {
-    Ok(ObjPart {
-        name: String::from_str(alloc, name)?,
-        kind,
-        target: Obj(0),
-        active,
-        path: String::from_str(alloc, path)?,
-        handler: Vec::new(alloc),
-        cancel: None,
-    })
-}
-
 // `root`, an add source, an or source, a read source and another add source, and `main`.
 fn parts(alloc: Global) -> Result<Parts, AllocError> {
-    let main = BlkPart {
-        name: String::from_str(alloc, "main")?,
-        acts: Vec::new(alloc),
-        work: None,
-    };
-    let root = object(alloc, "root", Kind::Concurrent, "", true)?;
-    let add = object(alloc, "a", Kind::Add, "", false)?;
-    let or = object(alloc, "o", Kind::Or, "", false)?;
-    let read = object(alloc, "r", Kind::Read, "feed", false)?;
-    let other = object(alloc, "b", Kind::Add, "", false)?;
+    let main = BlkPart::new(alloc, "main")?;
+    let root = ObjPart::new(alloc, "root", Kind::Concurrent)?;
+    let add = ObjPart::new(alloc, "a", Kind::Add)?;
+    let or = ObjPart::new(alloc, "o", Kind::Or)?;
+    let mut read = ObjPart::new(alloc, "r", Kind::Read)?;
+    read.path = String::from_str(alloc, "feed")?;
+    let other = ObjPart::new(alloc, "b", Kind::Add)?;
     Ok(Parts {
         objects: vec![in alloc; root, add, or, read, other]?,
         blocks: vec![in alloc; main]?,

@@ -8,36 +8,16 @@ use std::alloc::{AllocError, Global};
 use std::process::Abort;
 use std::test::Fail;
 
-fn object(alloc: Global, name: &str, kind: Kind) -> Result<ObjPart, AllocError> {
-    Ok(ObjPart {
-        name: String::from_str(alloc, name)?,
-        kind,
-        target: Obj(0),
-        active: true,
-        path: String::new(alloc),
-        handler: Vec::new(alloc),
-        cancel: None,
-    })
-}
-
-fn block(alloc: Global, name: &str) -> Result<BlkPart, AllocError> {
-    Ok(BlkPart {
-        name: String::from_str(alloc, name)?,
-        acts: Vec::new(alloc),
-        work: None,
-    })
-}
-
 // `root`, a group, a semaphore of first value 1 and another group, and `main` with three blocks.
 fn parts(alloc: Global) -> Result<Parts, AllocError> {
-    let root = object(alloc, "root", Kind::Concurrent)?;
-    let group = object(alloc, "g", Kind::Group)?;
-    let sema = object(alloc, "s", Kind::Semaphore(1))?;
-    let other = object(alloc, "h", Kind::Group)?;
-    let main = block(alloc, "main")?;
-    let a = block(alloc, "a")?;
-    let b = block(alloc, "b")?;
-    let c = block(alloc, "c")?;
+    let root = ObjPart::new(alloc, "root", Kind::Concurrent)?;
+    let group = ObjPart::new(alloc, "g", Kind::Group)?;
+    let sema = ObjPart::new(alloc, "s", Kind::Semaphore(1))?;
+    let other = ObjPart::new(alloc, "h", Kind::Group)?;
+    let main = BlkPart::new(alloc, "main")?;
+    let a = BlkPart::new(alloc, "a")?;
+    let b = BlkPart::new(alloc, "b")?;
+    let c = BlkPart::new(alloc, "c")?;
     Ok(Parts {
         objects: vec![in alloc; root, group, sema, other]?,
         blocks: vec![in alloc; main, a, b, c]?,

@@ -6,33 +6,17 @@ use std::alloc::{AllocError, Global};
 use std::process::Abort;
 use std::test::Fail;
 
-fn object(alloc: Global, name: &str, kind: Kind, active: bool) -> Result<ObjPart, AllocError> {
-    Ok(ObjPart {
-        name: String::from_str(alloc, name)?,
-        kind,
-        target: Obj(0),
-        active,
-        path: String::new(alloc),
-        handler: Vec::new(alloc),
-        cancel: None,
-    })
-}
-
 fn timer(alloc: Global, name: &str, start: u32, every: u32) -> Result<ObjPart, AllocError> {
-    object(alloc, name, Kind::Timer { start, every }, false)
+    ObjPart::new(alloc, name, Kind::Timer { start, every })
 }
 
 // `root`, three timers and a queue, and `main`.
 fn parts(alloc: Global, until: u32) -> Result<Parts, AllocError> {
-    let main = BlkPart {
-        name: String::from_str(alloc, "main")?,
-        acts: Vec::new(alloc),
-        work: None,
-    };
-    let root = object(alloc, "root", Kind::Concurrent, true)?;
+    let main = BlkPart::new(alloc, "main")?;
+    let root = ObjPart::new(alloc, "root", Kind::Concurrent)?;
     let fives = timer(alloc, "fives", 10, 5)?;
     let nines = timer(alloc, "nines", 3, 9)?;
-    let queue = object(alloc, "q", Kind::Serial, true)?;
+    let queue = ObjPart::new(alloc, "q", Kind::Serial)?;
     let ones = timer(alloc, "ones", 1, 1)?;
     Ok(Parts {
         objects: vec![in alloc; root, fives, nines, queue, ones]?,

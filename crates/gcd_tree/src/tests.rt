@@ -12,33 +12,19 @@ mod slow;
 
 use slow::Slow;
 
-fn object(alloc: Global, name: &str, kind: Kind, target: u32) -> Result<ObjPart, AllocError> {
-    Ok(ObjPart {
-        name: String::from_str(alloc, name)?,
-        kind,
-        target: Obj(target),
-        active: true,
-        path: String::new(alloc),
-        handler: Vec::new(alloc),
-        cancel: None,
-    })
-}
-
 // A plan of root, a serial queue on each of these targets, and, where there is room, a group.
 fn plan_of(alloc: Global, targets: &[u32]) -> Result<Plan, Fail> {
-    let mut objects = vec![in alloc; object(alloc, "root", Kind::Concurrent, 0)?]?;
+    let mut objects = vec![in alloc; ObjPart::new(alloc, "root", Kind::Concurrent)?]?;
     for (i, target) in targets.iter().enumerate() {
         let name = format!(in alloc; "q{i}")?;
-        objects.push(object(alloc, name.as_str(), Kind::Serial, *target)?)?;
+        let mut queue = ObjPart::new(alloc, name.as_str(), Kind::Serial)?;
+        queue.target = Obj(*target);
+        objects.push(queue)?;
     }
     if objects.len() < 1024 {
-        objects.push(object(alloc, "g", Kind::Group, 0)?)?;
+        objects.push(ObjPart::new(alloc, "g", Kind::Group)?)?;
     }
-    let main = BlkPart {
-        name: String::from_str(alloc, "main")?,
-        acts: Vec::new(alloc),
-        work: None,
-    };
+    let main = BlkPart::new(alloc, "main")?;
     let parts = Parts {
         objects,
         blocks: vec![in alloc; main]?,

@@ -6,30 +6,13 @@ use gcd_plan::{BlkPart, Kind, Obj, ObjPart, Parts, Plan};
 use std::alloc::{AllocError, Global};
 use std::test::Fail;
 
-fn queue(alloc: Global, name: String, kind: Kind) -> ObjPart {
-    ObjPart {
-        name,
-        kind,
-        target: Obj(0),
-        active: true,
-        path: String::new(alloc),
-        handler: Vec::new(alloc),
-        cancel: None,
-    }
-}
-
 fn parts(alloc: Global, queues: u32) -> Result<Parts, AllocError> {
-    let root = String::from_str(alloc, "root")?;
-    let mut objects = vec![in alloc; queue(alloc, root, Kind::Concurrent)]?;
+    let mut objects = vec![in alloc; ObjPart::new(alloc, "root", Kind::Concurrent)?]?;
     for number in 0..queues {
         let name = format!(in alloc; "q{number}")?;
-        objects.push(queue(alloc, name, Kind::Serial))?;
+        objects.push(ObjPart::new(alloc, name.as_str(), Kind::Serial)?)?;
     }
-    let main = BlkPart {
-        name: String::from_str(alloc, "main")?,
-        acts: Vec::new(alloc),
-        work: None,
-    };
+    let main = BlkPart::new(alloc, "main")?;
     Ok(Parts {
         objects,
         blocks: vec![in alloc; main]?,
