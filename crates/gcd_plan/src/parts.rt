@@ -67,7 +67,8 @@ pub struct BlkPart {
 }
 
 impl BlkPart {
-    /// A block of this name that does nothing and computes nothing. An `Err` comes only of want of memory.
+    /// A block of this name that does nothing and computes nothing (this project's own rule). An `Err` comes only of want of
+    /// memory.
     pub fn new(alloc: Global, name: &str) -> Result<BlkPart, AllocError>
         ensures { IfOk result (λ b. blk_view b ≡ record { name = name.now; acts = []; work = None }) }
     {
