@@ -1,4 +1,22 @@
-//! The top call.
+//! The top call: from the words of a command line to a report and a status.
+//!
+//! | part | what it does |
+//! |---|---|
+//! | [`gcd_main`] | does what the words ask for, and answers [`Ended`]: the status, the journal of the run, and for a refused script the line and the code |
+//!
+//! One call goes through these steps, and ends at the first that cannot go on: the words are read; the script is loaded from
+//! the shelf and read as a plan (`gcd_script`); its files are loaded, in their order; the plan is run by worker 0, turn by
+//! turn, over the machine (`gcd_machine`), and each block's value is computed by its job (`gcd_jobs`) before its End is
+//! recorded; the report is made whole and written to the sink.
+//!
+//! The contract of `gcd_main` speaks of what the call saw of the shelf and the sink (`gcd_outer`), before and after. Its first
+//! clause, `ended`, is one relation (`CallEnds`) with a rule for each way in which a call ends; what each status says, and
+//! when each must come, is derived from it. Status 0 says that the journal is a lawful run that drained, that the sink took
+//! the report of that journal and nothing else, and that each result in it is the value of its block's work over the bytes
+//! that were loaded.
+//!
+//! Nothing is said of a shelf or sink that tells nothing, but that a fault comes only where it failed, and nothing of time.
+//! Runs have one worker so far, and scripts the first forms.
 #![tactic(auto)]
 
 mod load;
