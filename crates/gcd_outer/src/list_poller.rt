@@ -20,8 +20,9 @@ use std::alloc::{AllocError, Global};
 /// ended, and those of more than 2^31 - 1 bytes. After the last it gives empty answers.
 ///
 /// It fails in the listens, watches and polls that `fail_listen`, `fail_watch` and `fail_poll` name, in
-/// a listen or a watch that would pass its room, and in a poll after 2^64 - 1 answers. A poll that fails
-/// uses up no answer, and a listen or a watch that fails uses no room. (This project's own rule.)
+/// a listen or a watch that would pass its room, and in a poll after 2^64 - 1 answers; a listen after one
+/// that succeeded may also fail for want of memory. A poll that fails uses up no answer, and a listen or a
+/// watch that fails uses no room. (This project's own rule.)
 #[derive(Drop)]
 pub struct ListPoller {
     answers: AnswerList,
