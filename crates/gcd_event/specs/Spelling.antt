@@ -1,9 +1,9 @@
 -- The event that four fields spell, whether it fits or not: what the functions inside this crate say of one another.
 use Rattle.std.specs.Prelude.{ℕ, ◌-◌, ◌/◌, ◌%◌, ◌==◌, nat_lt, ◌&&◌, if◌then◌else◌, Option, Some, None}
-use Rattle.gcd_plan.specs.declared.names.Blk.{Blk}
-use Rattle.gcd_plan.specs.declared.names.Obj.{Obj}
-use Rattle.gcd_plan.specs.declared.names.Run.{Run}
-use Rattle.gcd_plan.specs.declared.names.Run.TheVariants.{Block, Source}
+use Rattle.gcd_plan.specs.declared.numbers.Blk.{Blk}
+use Rattle.gcd_plan.specs.declared.numbers.Obj.{Obj}
+use Rattle.gcd_plan.specs.declared.numbers.Run.{Run}
+use Rattle.gcd_plan.specs.declared.numbers.Run.TheVariants.{Block, Source}
 use Rattle.gcd_event.specs.declared.event.Event.{Event}
 use Rattle.gcd_event.specs.declared.event.Event.TheVariants.{Start, Act as Acted, Wake, End, Deliver, DeliverEnd, Tick, Ready, FeedEnd, Misuse, Halt}
 

@@ -3,7 +3,7 @@ use Rattle.std.proofs.Common.{◌≡◌, ◌≢◌, ℕ, ◌+◌, ◌-◌, ◌�
 use Rattle.std.specs.Prelude.{slice_index, slice_set}
 use Rattle.std.proofs.lemmas.Bool.{cases_eq}
 use Rattle.std.proofs.lemmas.List.{length-set, get_or-set_same, get_or-set_other, length_push, length-drop}
-use Rattle.gcd_plan.specs.declared.names.Blk.{Blk}
+use Rattle.gcd_plan.specs.declared.numbers.Blk.{Blk}
 use Rattle.gcd_lists.specs.ListsView.{ListsView, list_at}
 use Rattle.gcd_group.specs.GroupsView.{GroupsView, due_at}
 use Rattle.gcd_group.specs.Tied.{AreTied}

@@ -12,10 +12,10 @@ use Rattle.gcd_plan.specs.Kinds.{has_kind}
 use Rattle.gcd_plan.specs.FirstForms.{is_serial_kind}
 use Rattle.gcd_plan.specs.Validity.{is_submittable}
 use Rattle.gcd_plan.specs.declared.act.Act.TheVariants.{Async}
-use Rattle.gcd_plan.specs.declared.names.Blk.{Blk}
-use Rattle.gcd_plan.specs.declared.names.Obj.{Obj}
-use Rattle.gcd_plan.specs.declared.names.Run.{Run}
-use Rattle.gcd_plan.specs.declared.names.Run.TheVariants.{Block, Source}
+use Rattle.gcd_plan.specs.declared.numbers.Blk.{Blk}
+use Rattle.gcd_plan.specs.declared.numbers.Obj.{Obj}
+use Rattle.gcd_plan.specs.declared.numbers.Run.{Run}
+use Rattle.gcd_plan.specs.declared.numbers.Run.TheVariants.{Block, Source}
 use Rattle.gcd_event.specs.declared.event.Event.{Event}
 use Rattle.gcd_event.specs.declared.event.Event.TheVariants.{Start, Act as Acted, End, Halt}
 use Rattle.gcd_history.specs.declared.submission.Submission.{Submission}

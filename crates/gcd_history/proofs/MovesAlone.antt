@@ -4,7 +4,7 @@ use Rattle.std.proofs.lemmas.Bool.{eq-eqb, or_left, cases_Bool}
 use Rattle.gcd_plan.specs.PlanView.{PlanView, starts_active}
 use Rattle.gcd_plan.specs.Chains.{chain_by, is_in}
 use Rattle.gcd_plan.specs.Validity.{IsPlan}
-use Rattle.gcd_plan.specs.declared.names.Run.{Run}
+use Rattle.gcd_plan.specs.declared.numbers.Run.{Run}
 use Rattle.gcd_event.specs.declared.event.Event.{Event}
 use Rattle.gcd_history.specs.Runs.{open_runs, is_open}
 use Rattle.gcd_history.specs.Tree.{target, is_moving, node_of, chain_of_run, open_beneath}

@@ -12,10 +12,10 @@ use Rattle.gcd_plan.specs.StartRule.{first_of, run_reasons}
 use Rattle.gcd_plan.specs.Validity.{IsPlan}
 use Rattle.gcd_plan.specs.declared.act.Act.{Act}
 use Rattle.gcd_plan.specs.declared.act.Act.TheVariants.{Resume, Leave, Target, Release}
-use Rattle.gcd_plan.specs.declared.names.Blk.{Blk}
-use Rattle.gcd_plan.specs.declared.names.Obj.{Obj}
-use Rattle.gcd_plan.specs.declared.names.Run.{Run}
-use Rattle.gcd_plan.specs.declared.names.Run.TheVariants.{Block, Source}
+use Rattle.gcd_plan.specs.declared.numbers.Blk.{Blk}
+use Rattle.gcd_plan.specs.declared.numbers.Obj.{Obj}
+use Rattle.gcd_plan.specs.declared.numbers.Run.{Run}
+use Rattle.gcd_plan.specs.declared.numbers.Run.TheVariants.{Block, Source}
 use Rattle.gcd_plan.specs.declared.why.Why.{Why}
 use Rattle.gcd_plan.specs.declared.why.Why.TheVariants.{Over, NoSuch, Busy, Unready, NotOwn, NotNext, IsMisuse, NotParked, Waiting, NotMisuse}
 use Rattle.gcd_event.specs.declared.event.Event.{Event}

@@ -4,8 +4,8 @@ use Rattle.std.specs.Option.{option_map_or}
 use Rattle.std.specs.List.{list_all, flat_map, range_with_len}
 use Rattle.gcd_plan.specs.PlanView.{PlanView}
 use Rattle.gcd_plan.specs.Kinds.{is_source}
-use Rattle.gcd_plan.specs.declared.names.Run.{Run}
-use Rattle.gcd_plan.specs.declared.names.Run.TheVariants.{Block, Source}
+use Rattle.gcd_plan.specs.declared.numbers.Run.{Run}
+use Rattle.gcd_plan.specs.declared.numbers.Run.TheVariants.{Block, Source}
 use Rattle.gcd_event.specs.declared.event.Event.{Event}
 use Rattle.gcd_event.specs.declared.event.Event.TheVariants.{Start, Act as Acted, Wake, End, Deliver, DeliverEnd, Tick, Ready, FeedEnd, Misuse, Halt}
 use Rattle.gcd_history.specs.Runs.{open_runs, acts_done, is_ended}

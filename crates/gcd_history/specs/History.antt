@@ -3,10 +3,10 @@
 use Rattle.std.specs.Prelude.{◌≡◌, ◌≤◌, ℕ, Bool, ◌&&◌, List, length, take, Option, Some, None, slice_get, reverse, is_some, is_none, IsTrue, option_map, option_and_then}
 use Rattle.gcd_plan.specs.PlanView.{PlanView}
 use Rattle.gcd_plan.specs.declared.act.Act.{Act}
-use Rattle.gcd_plan.specs.declared.names.Blk.{Blk}
-use Rattle.gcd_plan.specs.declared.names.Obj.{Obj}
-use Rattle.gcd_plan.specs.declared.names.Run.{Run}
-use Rattle.gcd_plan.specs.declared.names.Run.TheVariants.{Block}
+use Rattle.gcd_plan.specs.declared.numbers.Blk.{Blk}
+use Rattle.gcd_plan.specs.declared.numbers.Obj.{Obj}
+use Rattle.gcd_plan.specs.declared.numbers.Run.{Run}
+use Rattle.gcd_plan.specs.declared.numbers.Run.TheVariants.{Block}
 use Rattle.gcd_plan.specs.declared.reason.Reason.{Reason}
 use Rattle.gcd_plan.specs.declared.why.Why.{Why}
 use Rattle.gcd_event.specs.declared.event.Event.{Event}

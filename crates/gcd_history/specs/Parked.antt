@@ -6,8 +6,8 @@ use Rattle.std.specs.List.{list_any}
 use Rattle.gcd_plan.specs.PlanView.{PlanView}
 use Rattle.gcd_plan.specs.declared.act.Act.{Act}
 use Rattle.gcd_plan.specs.declared.act.Act.TheVariants.{Sync, BarrierSync, GroupWait, Wait}
-use Rattle.gcd_plan.specs.declared.names.Run.{Run}
-use Rattle.gcd_plan.specs.declared.names.Run.TheVariants.{Block}
+use Rattle.gcd_plan.specs.declared.numbers.Run.{Run}
+use Rattle.gcd_plan.specs.declared.numbers.Run.TheVariants.{Block}
 use Rattle.gcd_plan.specs.declared.reason.Reason.{Reason}
 use Rattle.gcd_plan.specs.declared.reason.Reason.TheVariants.{Block as EndOf, Group, Rank}
 use Rattle.gcd_event.specs.declared.event.Event.{Event}

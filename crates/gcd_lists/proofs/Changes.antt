@@ -4,8 +4,8 @@ use Rattle.std.proofs.lemmas.Bool.{cases_eq, cases_lt, eq-eqb, ne_eqb}
 use Rattle.std.proofs.lemmas.List.{length-set, get_or-set_same, get_or-set_other, get_or-replicate, get_or_past, length-replicate, length_push}
 use Rattle.std.proofs.lemmas.List.Sums.{sum_by-set}
 use Rattle.std.proofs.lemmas.Option.{none-some, same_Some}
-use Rattle.gcd_plan.specs.declared.names.Blk.{Blk}
-use Rattle.gcd_plan.specs.declared.names.Obj.{Obj}
+use Rattle.gcd_plan.specs.declared.numbers.Blk.{Blk}
+use Rattle.gcd_plan.specs.declared.numbers.Obj.{Obj}
 use Rattle.gcd_lists.specs.ListsView.{barrier_in}
 use Rattle.gcd_lists.specs.Links.{Hold, IsQueue, IsChain, IsLast, entry, is_on, last_at, on}
 use Rattle.gcd_lists.proofs.Places.{barrier_in_here, barrier_in_later, barrier_in_front, barrier_in_back}

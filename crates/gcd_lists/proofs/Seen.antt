@@ -3,8 +3,8 @@ use Rattle.std.proofs.Common.{◌≡◌, ℕ, ◌≤◌, ◌<◌, Bool, List, []
 use Rattle.std.specs.List.{slice_get}
 use Rattle.std.proofs.lemmas.List.{get_or_read, get_or-set_same, length-replicate}
 use Rattle.std.proofs.lemmas.Option.{none-some, same_Some}
-use Rattle.gcd_plan.specs.declared.names.Blk.{Blk}
-use Rattle.gcd_plan.specs.declared.names.Obj.{Obj}
+use Rattle.gcd_plan.specs.declared.numbers.Blk.{Blk}
+use Rattle.gcd_plan.specs.declared.numbers.Obj.{Obj}
 use Rattle.gcd_lists.specs.ListsView.{ListsView, list_at, place_of}
 use Rattle.gcd_lists.specs.Links.{Hold, AreLinked, entry, lists_of, view_of, last_at}
 use Rattle.gcd_lists.proofs.Held.{First, list_short, place_seen, none_first, some_first, some_last, entry_within, view_is, linked}

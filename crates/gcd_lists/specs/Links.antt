@@ -1,8 +1,8 @@
 -- How the arrays of `Lists` hold its lists. No contract cites this: it is for the proofs of this crate alone.
 use Rattle.std.specs.Prelude.{◌≡◌, ℕ, zero, suc, ◌≤◌, ◌==◌, Bool, false, List, [], ◌∷◌, length, map, Option, Some, None, slice_index_or, count_by}
 use Rattle.std.specs.Option.{option_map_or}
-use Rattle.gcd_plan.specs.declared.names.Blk.{Blk}
-use Rattle.gcd_plan.specs.declared.names.Obj.{Obj}
+use Rattle.gcd_plan.specs.declared.numbers.Blk.{Blk}
+use Rattle.gcd_plan.specs.declared.numbers.Obj.{Obj}
 use Rattle.gcd_lists.specs.ListsView.{ListsView, barrier_in}
 
 -- what stands in an array at a number; past the end that is nothing

@@ -2,8 +2,8 @@
 -- (dispatch_async(3), dispatch_barrier_async(3)).
 use Rattle.std.specs.Prelude.{ℕ, suc, ◌==◌, Bool, if◌then◌else◌, List, [], ◌∷◌, Option, Some, None, option_map, slice_index_or}
 use Rattle.std.specs.Option.{option_or}
-use Rattle.gcd_plan.specs.declared.names.Blk.{Blk}
-use Rattle.gcd_plan.specs.declared.names.Obj.{Obj}
+use Rattle.gcd_plan.specs.declared.numbers.Blk.{Blk}
+use Rattle.gcd_plan.specs.declared.numbers.Obj.{Obj}
 
 -- for each object by number the blocks that wait there, first first, each with whether it is a barrier; and how many
 -- blocks there are

@@ -10,9 +10,9 @@ use Rattle.std.proofs.lemmas.List.Folds.{find-append}
 use Rattle.gcd_plan.specs.PlanView.{PlanView}
 use Rattle.gcd_plan.specs.Kinds.{is_source}
 use Rattle.gcd_plan.specs.StartRule.{first_of}
-use Rattle.gcd_plan.specs.declared.names.Blk.{Blk}
-use Rattle.gcd_plan.specs.declared.names.Obj.{Obj}
-use Rattle.gcd_plan.specs.declared.names.Run.TheVariants.{Block}
+use Rattle.gcd_plan.specs.declared.numbers.Blk.{Blk}
+use Rattle.gcd_plan.specs.declared.numbers.Obj.{Obj}
+use Rattle.gcd_plan.specs.declared.numbers.Run.TheVariants.{Block}
 use Rattle.gcd_plan.specs.declared.why.Why.{Why}
 use Rattle.gcd_plan.specs.declared.why.Why.TheVariants.{Over, NoSuch, Busy, Unready, Behind, Excluded, NotOwn, NotNext, NotParked}
 use Rattle.gcd_plan.specs.Validity.{IsPlan}

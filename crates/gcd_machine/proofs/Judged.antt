@@ -8,9 +8,9 @@ use Rattle.gcd_plan.specs.Kinds.{is_source, has_kind}
 use Rattle.gcd_plan.specs.FirstForms.{is_serial_kind}
 use Rattle.gcd_lists.specs.ListsView.{list_at}
 use Rattle.gcd_plan.specs.StartRule.{first_of, is_held, is_excluded}
-use Rattle.gcd_plan.specs.declared.names.Blk.{Blk}
-use Rattle.gcd_plan.specs.declared.names.Obj.{Obj}
-use Rattle.gcd_plan.specs.declared.names.Run.TheVariants.{Block, Source}
+use Rattle.gcd_plan.specs.declared.numbers.Blk.{Blk}
+use Rattle.gcd_plan.specs.declared.numbers.Obj.{Obj}
+use Rattle.gcd_plan.specs.declared.numbers.Run.TheVariants.{Block, Source}
 use Rattle.gcd_plan.specs.declared.why.Why.{Why}
 use Rattle.gcd_plan.specs.declared.why.Why.TheVariants.{Over, NoSuch, Busy, Unready, Behind, NotFree, Excluded, Fenced, NotOwn, NotNext, IsMisuse, NotParked, NotDue, NotMisuse}
 use Rattle.gcd_event.specs.declared.event.Event.{Event}

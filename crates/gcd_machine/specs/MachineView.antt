@@ -1,7 +1,7 @@
 -- What a machine shows. The layers above read `plan` alone; the rest is for the proofs of this crate.
 use Rattle.std.specs.Prelude.{ℕ, Bool, false, List, Option, None, slice_index_or}
 use Rattle.gcd_plan.specs.PlanView.{PlanView}
-use Rattle.gcd_plan.specs.declared.names.Blk.{Blk}
+use Rattle.gcd_plan.specs.declared.numbers.Blk.{Blk}
 use Rattle.gcd_lists.specs.ListsView.{ListsView}
 use Rattle.gcd_machine.specs.declared.progress.Progress.{Progress}
 

@@ -6,7 +6,7 @@ use Rattle.std.specs.Str.{bytes_eq}
 use Rattle.std.proofs.lemmas.List.Sums.{sum_by-append}
 use Rattle.std.proofs.lemmas.List.Folds.{list_all-append, list_all-map}
 use Rattle.gcd_plan.specs.declared.parts.Parts.{Parts}
-use Rattle.gcd_plan.specs.declared.names.Blk.{Blk}
+use Rattle.gcd_plan.specs.declared.numbers.Blk.{Blk}
 use Rattle.gcd_plan.specs.PlanView.{BlkView, ObjView, view_of, obj_view, blk_view, file_view}
 use Rattle.gcd_plan.specs.Validity.{act_count, names_of, submitted_blocks, blocks_of, is_object, is_block, is_file}
 use Rattle.gcd_plan.specs.Names.{is_name}

@@ -1,6 +1,6 @@
 // What a block or a handler does, step by step.
 
-use crate::names::{Blk, Obj};
+use crate::numbers::{Blk, Obj};
 
 /// One act of a block or of a source's handler.
 #[derive(Clone, Copy, Debug, PartialEq, Eq)]

@@ -6,7 +6,7 @@ ghost use Rattle.gcd_plan.specs.Validity.{is_submittable, is_held_object, is_act
 
 use crate::act::Act;
 use crate::kind::Kind;
-use crate::names::{Blk, Obj};
+use crate::numbers::{Blk, Obj};
 use crate::parts::Parts;
 
 fn kind_at(parts: &Parts, o: Obj) -> Option<Kind>

@@ -8,7 +8,7 @@ ghost use Rattle.gcd_plan.specs.Chains.{chain_by, is_in};
 ghost use Rattle.gcd_plan.specs.Validity.{block_of, blocks_of, reaches_root};
 
 use crate::act::Act;
-use crate::names::Blk;
+use crate::numbers::Blk;
 use crate::parts::{BlkPart, FilePart, ObjPart, Parts};
 
 /// How many files have the name.

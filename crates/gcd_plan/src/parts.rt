@@ -5,7 +5,7 @@ ghost use Rattle.gcd_plan.specs.Kinds.{is_source_kind};
 
 use crate::act::Act;
 use crate::kind::Kind;
-use crate::names::{Blk, Obj};
+use crate::numbers::{Blk, Obj};
 use crate::work::Work;
 use std::alloc::{AllocError, Global};
 

@@ -6,7 +6,7 @@ ghost use Rattle.gcd_plan.specs.Validity.{IsPlan};
 use crate::act::Act;
 use crate::copy::copied_parts;
 use crate::kind::Kind;
-use crate::names::{Blk, Obj, Run};
+use crate::numbers::{Blk, Obj, Run};
 use crate::parts::{FilePart, Parts};
 use crate::validity::is_valid;
 use crate::work::Work;

@@ -1,6 +1,6 @@
 // What a parked block waits for.
 
-use crate::names::{Blk, Obj};
+use crate::numbers::{Blk, Obj};
 
 /// What a parked block waits for.
 #[derive(Clone, Copy, Debug, PartialEq, Eq)]

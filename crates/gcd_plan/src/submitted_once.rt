@@ -6,7 +6,7 @@ ghost use Rattle.gcd_plan.specs.PlanView.{view_of};
 ghost use Rattle.gcd_plan.specs.Validity.{submitted_blocks, act_count, block_of, blocks_of};
 
 use crate::act::Act;
-use crate::names::Blk;
+use crate::numbers::Blk;
 use crate::once_valid::{block_of, block_submissions, object_submissions};
 use crate::parts::{ObjPart, Parts};
 

@@ -14,7 +14,7 @@ use Rattle.gcd_plan.specs.Names.{is_name}
 use Rattle.gcd_plan.specs.PlanView.{PlanView, ObjView, BlkView}
 use Rattle.gcd_plan.specs.Validity.{IsPlan, names_of, block_of, blocks_of, submitted_blocks, act_count, is_act, is_object, is_block, is_work}
 use Rattle.gcd_plan.specs.declared.act.Act.{Act}
-use Rattle.gcd_plan.specs.declared.names.Blk.{Blk}
+use Rattle.gcd_plan.specs.declared.numbers.Blk.{Blk}
 use Rattle.gcd_script.specs.Drafts.{with_act}
 use Rattle.gcd_script.proofs.Growth.{Grows, list_all_map, object_grows, block_grows}
 use Rattle.gcd_script.proofs.Inserts.{count-append, count-cons}

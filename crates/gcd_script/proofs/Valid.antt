@@ -15,7 +15,7 @@ use Rattle.gcd_plan.specs.Validity.{IsPlan, root_view, names_of, blocks_of, subm
 use Rattle.gcd_plan.specs.declared.act.Act.{Act}
 use Rattle.gcd_plan.specs.declared.act.Act.TheVariants.{Async}
 use Rattle.gcd_plan.specs.declared.kind.Kind.{Kind}
-use Rattle.gcd_plan.specs.declared.names.Blk.{Blk}
+use Rattle.gcd_plan.specs.declared.numbers.Blk.{Blk}
 use Rattle.gcd_plan.specs.declared.work.Work.{Work}
 use Rattle.gcd_script.specs.Drafts.{new_file, serial_queue, new_block, with_file, with_object, with_block}
 use Rattle.gcd_script.proofs.Growth.{Grows, and_map, list_all_map, object_grows, block_grows, has_kind_grows}

@@ -8,7 +8,7 @@ use Rattle.gcd_plan.specs.Validity.{root_view}
 use Rattle.gcd_plan.specs.declared.act.Act.{Act}
 use Rattle.gcd_plan.specs.declared.act.Act.TheVariants.{Async}
 use Rattle.gcd_plan.specs.declared.kind.Kind.TheVariants.{Serial}
-use Rattle.gcd_plan.specs.declared.names.Blk.{Blk}
+use Rattle.gcd_plan.specs.declared.numbers.Blk.{Blk}
 use Rattle.gcd_plan.specs.declared.work.Work.{Work}
 use Rattle.gcd_plan.specs.declared.work.How.TheVariants.{Lines}
 use Rattle.gcd_script.specs.declared.meaning.Meaning.{Meaning}

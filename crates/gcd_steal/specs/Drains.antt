@@ -1,7 +1,7 @@
 -- What a Drain is to its rack.
 use Rattle.std.specs.Prelude.{◌≡◌, ◌<◌}
 use Rattle.atomic_table.specs.Seated.{TableId}
-use Rattle.gcd_plan.specs.declared.names.Obj.{Obj}
+use Rattle.gcd_plan.specs.declared.numbers.Obj.{Obj}
 use Rattle.gcd_steal.specs.declared.deque.RackId.{RackId}
 use Rattle.gcd_steal.specs.declared.drain.Drain.{Drain}
 use Rattle.gcd_steal.specs.declared.places.Sight.{Sight}

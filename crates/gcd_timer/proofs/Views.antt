@@ -16,7 +16,7 @@ use Rattle.gcd_plan.specs.Validity.{IsPlan, is_kind, is_object}
 use Rattle.gcd_plan.specs.KindValues.{is_on_beat}
 use Rattle.gcd_plan.specs.declared.kind.Kind.{Kind}
 use Rattle.gcd_plan.specs.declared.kind.Kind.TheVariants.{Timer}
-use Rattle.gcd_plan.specs.declared.names.Obj.{Obj}
+use Rattle.gcd_plan.specs.declared.numbers.Obj.{Obj}
 use Rattle.gcd_timer.specs.TimersView.{TimersView, is_due_at, is_any_due_at, activated_at, cancelled_at, next_due_at, due_count_at}
 use Rattle.gcd_timer.specs.Beats.{is_in, last_due, beat_of, earlier}
 use Rattle.gcd_timer.specs.Kept.{AreKept, is_timer_kind, is_timer_in, obj_of, timers_below, beat_at, next_due_of, next_due_among}

@@ -5,7 +5,7 @@ use Rattle.std.specs.List.{list_all, filter, fold, range_with_len}
 use Rattle.gcd_plan.specs.Validity.{is_kind}
 use Rattle.gcd_plan.specs.declared.kind.Kind.{Kind}
 use Rattle.gcd_plan.specs.declared.kind.Kind.TheVariants.{Timer}
-use Rattle.gcd_plan.specs.declared.names.Obj.{Obj}
+use Rattle.gcd_plan.specs.declared.numbers.Obj.{Obj}
 use Rattle.gcd_timer.specs.TimersView.{TimersView, activated_at, cancelled_at, is_due_at}
 use Rattle.gcd_timer.specs.Beats.{last_due, beat_of, earlier}
 use Rattle.gcd_timer.specs.declared.beat.Beat.{Beat}

@@ -3,7 +3,7 @@ use Rattle.std.proofs.Common.{◌≡◌, ◌≢◌, ℕ, suc, ◌+◌, ◌<◌, 
 use Rattle.std.specs.List.{sum_by, sum, range_with_len}
 use Rattle.std.proofs.lemmas.Bool.{true≢false, both_ways, ne_eqb, eq-eqb, cases_eq, false_from_ne_true, true_from_ne_false, or_left, not_from_false, and_from}
 use Rattle.std.proofs.lemmas.List.Sums.{sum_by-le-sum_by}
-use Rattle.gcd_plan.specs.declared.names.Obj.{Obj}
+use Rattle.gcd_plan.specs.declared.numbers.Obj.{Obj}
 use Rattle.gcd_plan.specs.Chains.{chain_by, is_in}
 use Rattle.gcd_tree.specs.TreeView.{TreeView, target_at, request_at, is_moving_at, open_on_at, is_node_at, chain_at, walk_next, would_cycle_at, is_child_of, has_child_at, open_from, open_beneath_at, with_request, with_open}
 use Rattle.gcd_tree.specs.IsTree.{IsTree}

@@ -3,7 +3,7 @@ use Rattle.std.proofs.Common.{◌≡◌, ◌≢◌, ℕ, ◌+◌, ◌-◌, ◌^�
 use Rattle.std.specs.List.{list_any, sum, count_by}
 use Rattle.std.proofs.lemmas.Bool.{false≢true, true≢false, both_ways, eqb-true, cases_eq, cases_Bool, or_left, or_right, or_cases, true_from_ne_false, false_from_ne_true}
 use Rattle.std.proofs.lemmas.List.{get_or_read}
-use Rattle.gcd_plan.specs.declared.names.Obj.{Obj}
+use Rattle.gcd_plan.specs.declared.numbers.Obj.{Obj}
 use Rattle.gcd_plan.specs.Chains.{chain_by, is_in}
 use Rattle.gcd_tree.specs.TreeView.{TreeView, target_at, is_moving_at, open_on_at, is_node_at, chain_at, has_mover_at, walk_next, would_cycle_at, has_child_at, open_beneath_at, with_target, with_request, with_open}
 use Rattle.gcd_tree.specs.IsTree.{IsTree, CountBeneath}

@@ -1,6 +1,6 @@
 -- What holds of every tree of targets.
 use Rattle.std.specs.Prelude.{◌≡◌, ℕ, ◌<◌, ◌≤◌, true, false, None, List, length, slice_index}
-use Rattle.gcd_plan.specs.declared.names.Obj.{Obj}
+use Rattle.gcd_plan.specs.declared.numbers.Obj.{Obj}
 use Rattle.gcd_plan.specs.Chains.{chain_by, is_in}
 use Rattle.gcd_tree.specs.TreeView.{TreeView, target_in, target_at, request_at, is_moving_at, open_on_at, is_node_at, chain_at, walk_next, open_beneath_at}
 

@@ -2,7 +2,7 @@
 use Rattle.std.specs.Prelude.{ℕ, ◌==◌, Bool, not, false, ◌&&◌, ◌||◌, if◌then◌else◌, List, length, map, replicate, Option, Some, None, is_some, option_map, unwrap_or, slice_index, slice_index_or, slice_set, sum_by}
 use Rattle.std.specs.Option.{option_map_or}
 use Rattle.std.specs.List.{list_any, range_with_len}
-use Rattle.gcd_plan.specs.declared.names.Obj.{Obj}
+use Rattle.gcd_plan.specs.declared.numbers.Obj.{Obj}
 use Rattle.gcd_plan.specs.PlanView.{PlanView}
 use Rattle.gcd_plan.specs.Kinds.{is_node_kind}
 use Rattle.gcd_plan.specs.Chains.{chain_by, is_in}

@@ -2,7 +2,7 @@
 ghost use Rattle.std.specs.Prelude.{◌≡◌, ◌<◌, ◌&&◌, List, Option, length};
 ghost use Rattle.gcd_plan.specs.PlanView.{PlanView};
 ghost use Rattle.gcd_plan.specs.StartRule.{first_of};
-ghost use Rattle.gcd_plan.specs.declared.names.Run.{Run};
+ghost use Rattle.gcd_plan.specs.declared.numbers.Run.{Run};
 ghost use Rattle.gcd_event.specs.declared.event.Event.{Event};
 ghost use Rattle.gcd_history.specs.History.{why};
 ghost use Rattle.gcd_history.specs.Permitted.{is_worker, has_block};

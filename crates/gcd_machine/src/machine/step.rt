@@ -4,8 +4,8 @@ ghost use Rattle.gcd_plan.specs.PlanView.{PlanView};
 ghost use Rattle.gcd_event.specs.declared.event.Event.{Event};
 ghost use Rattle.gcd_history.specs.History.{why};
 ghost use Rattle.gcd_history.specs.Runs.{act_at};
-ghost use Rattle.gcd_plan.specs.declared.names.Blk.{Blk};
-ghost use Rattle.gcd_plan.specs.declared.names.Obj.{Obj};
+ghost use Rattle.gcd_plan.specs.declared.numbers.Blk.{Blk};
+ghost use Rattle.gcd_plan.specs.declared.numbers.Obj.{Obj};
 ghost use Rattle.gcd_machine.specs.Kept.{after_act, after_end, after_halt, after_start, submission, CanAct, CanEnd, CanStart, CanSubmit};
 ghost use Rattle.gcd_machine.specs.Stands.{MayApply, StandsFor};
 

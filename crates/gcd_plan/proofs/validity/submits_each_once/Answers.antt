@@ -1,5 +1,5 @@
 use Rattle.std.proofs.Common.{◌≡◌, ◌==◌, ◌∙◌, ℕ, true, sym, refl, eq-eqb, eqb-true}
-use Rattle.gcd_plan.specs.declared.names.Blk.{Blk}
+use Rattle.gcd_plan.specs.declared.numbers.Blk.{Blk}
 use Rattle.gcd_plan.specs.PlanView.{view_of}
 use Rattle.gcd_plan.specs.Validity.{submitted_blocks}
 use Rattle.gcd_plan.proofs.Apart.{apart_from_once, once_from_apart}

@@ -1,5 +1,5 @@
 use Rattle.std.proofs.Common.{◌<◌, ◌+◌, IfSome, length, set, true, refl, sym, ◌∙◌, subst}
-use Rattle.gcd_plan.specs.declared.names.Blk.{Blk}
+use Rattle.gcd_plan.specs.declared.numbers.Blk.{Blk}
 use Rattle.gcd_plan.specs.declared.act.Act.{Act}
 use Rattle.gcd_plan.specs.declared.act.Act.TheVariants.{Async}
 use Rattle.gcd_plan.specs.PlanView.{view_of}
