@@ -7,7 +7,7 @@ use Rattle.gcd_plan.specs.Validity.{IsPlan}
 use Rattle.gcd_plan.specs.declared.numbers.Run.{Run}
 use Rattle.gcd_event.specs.declared.event.Event.{Event}
 use Rattle.gcd_history.specs.Runs.{open_runs, is_open}
-use Rattle.gcd_history.specs.Tree.{target, is_moving, node_of, chain_of_run, open_beneath}
+use Rattle.gcd_history.specs.Tree.{target, is_moving, node_of_run, chain_of_run, open_beneath}
 use Rattle.gcd_history.specs.Permitted.{IsLawful}
 use Rattle.gcd_history.proofs.Lists.{none_counted}
 use Rattle.gcd_history.proofs.OpenNodes.{open_cases, open_any, open_on_to}
@@ -20,7 +20,7 @@ begins_with next (suc bound) n h = or_left (n == n) _ (eq-eqb n n refl)
 begins_with next bound n h = absurd (omega arith)
 
 -- a run is beneath its own node
-beneath_own : (plan : PlanView) (past : List Event) (q : Run) (o : ℕ) → IsPlan plan → node_of plan past q ≡ Some o → is_in o (chain_of_run plan past q) ≡ true
+beneath_own : (plan : PlanView) (past : List Event) (q : Run) (o : ℕ) → IsPlan plan → node_of_run plan past q ≡ Some o → is_in o (chain_of_run plan past q) ≡ true
 beneath_own plan past q o valid node = subst (λ l. is_in o l ≡ true) (sym (nodes_at plan past q o node)) (begins_with (target plan past) (length plan.objects) o (some_objects plan valid))
 
 pub moving_made_active : (plan : PlanView) (past : List Event) → IsPlan plan → IsLawful plan past → (o : ℕ) → is_moving plan past o ≡ true → starts_active plan o ≡ true

@@ -20,7 +20,7 @@ use Rattle.gcd_history.specs.Submitted.{submitted, submission_of}
 use Rattle.gcd_history.specs.Parked.{reason, is_parked, has_come as has_come_after}
 use Rattle.gcd_history.specs.Permitted.{IsLawful as IsLawfulAfter, is_halted as is_halted_after}
 use Rattle.gcd_history.specs.Choice.{choice, all_ended as all_ended_after}
-use Rattle.gcd_history.specs.History.{why, IsLawful, is_started, is_submitted, submissions_of, is_free, nodes_of_run, reason_of, has_come, group_wait_passes, semaphore_wait_passes, received_of, pending_of, merged_of, is_open, is_active, chain_of, node_of_run, is_barrier_of, choice_of, running_of, next_due_of, is_live_feed}
+use Rattle.gcd_history.specs.History.{why, IsLawful, is_started, is_submitted, submitted_of, is_free, chain_of_run as outer_chain, reason_of, has_come, group_wait_passes, semaphore_wait_passes, received_of, pending_of, merged_of, is_open, is_active, chain_of, node_of_run, is_barrier_on, choice_of, running_of, next_due_of, is_live_feed}
 use Rattle.gcd_history.specs.Ends.{IsDrained, all_ended, IsQuiescent, IsHalted, is_halted}
 use Rattle.gcd_history.specs.Laws.{RunsOnce, StartsAfterSubmission, AllEndOnce, IsSubmittedOnce, StartsInOrder, BeginsFree, WakesHaveCause, NoneParked, WaitsHavePassed, GroupWaitsPass, SemaphoreWaitsPass, IsConserved, RunsExclude, BarriersExclude, TreeStands, IsChoiceOf, HasNoChoice, IsAtRest}
 use Rattle.gcd_history.proofs.Lists.{count_by-reverse, some_counted, found_passes, past_more}
@@ -73,15 +73,15 @@ all_end_once plan h lawful drained b submitted_one =
     omega arith
 
 pub is_submitted_once : (plan : PlanView) (h : List Event) → IsPlan plan → IsLawful plan h → IsSubmittedOnce plan h
-unfolding submissions_of
+unfolding submitted_of
 is_submitted_once plan h valid lawful b = submitted_once plan (reverse h) valid (lawful_after plan h lawful) b
 
 pub starts_in_order : (plan : PlanView) (h : List Event) → IsPlan plan → IsLawful plan h → StartsInOrder plan h
-unfolding submissions_of is_started
+unfolding submitted_of is_started
 starts_in_order plan h valid lawful i = starts_in_order_after plan (reverse (take i h)) valid (lawful_after plan (take i h) (lawful_take plan h i lawful))
 
 pub begins_free : (plan : PlanView) (h : List Event) → IsLawful plan h → BeginsFree plan h
-unfolding IsLawful why is_free nodes_of_run
+unfolding IsLawful why is_free outer_chain
 begins_free plan h lawful = record {
   starts = λ i w b o at inside. (start_begins_alone plan (reverse (take i h)) w b (lawful i (Start w b) at)).free o inside;
   delivers = λ i w s o at inside. (deliver_begins_alone plan (reverse (take i h)) w s (lawful i (Deliver w s) at)).free o inside;
@@ -145,12 +145,12 @@ unfolding received_of pending_of merged_of
 is_conserved plan h s = conserved plan (reverse h) s
 
 pub runs_exclude : (plan : PlanView) (h : List Event) → IsPlan plan → IsLawful plan h → RunsExclude plan h
-unfolding is_open nodes_of_run
+unfolding is_open outer_chain
 runs_exclude plan h valid lawful i o r q exclusive r_on q_on r_in q_in =
     runs_alone plan (reverse (take i h)) valid (lawful_after plan (take i h) (lawful_take plan h i lawful)) o r q exclusive r_on q_on r_in q_in
 
 pub barriers_exclude : (plan : PlanView) (h : List Event) → IsLawful plan h → BarriersExclude plan h
-unfolding is_open is_barrier_of node_of_run
+unfolding is_open is_barrier_on node_of_run
 barriers_exclude plan h lawful i n r q has r_on q_on barrier node =
     barriers_alone plan (reverse (take i h)) (lawful_after plan (take i h) (lawful_take plan h i lawful)) n r q has r_on q_on barrier node
 
@@ -158,8 +158,8 @@ barriers_exclude plan h lawful i n r q has r_on q_on barrier node =
 no_more : (h : List Event) (i : ℕ) → length h ≤ i → take (i + 1) h ≡ take i h
 no_more h i past = take_all (i + 1) h (omega arith) ∙ sym (take_all i h past)
 
-chain_at : (plan : PlanView) (h : List Event) → IsPlan plan → IsLawful plan h → (i : ℕ) (run : Run) → IsTrue (is_open (take i h) run) → IsTrue (is_open (take (i + 1) h) run) → nodes_of_run plan (take (i + 1) h) run ≡ nodes_of_run plan (take i h) run
-unfolding is_open nodes_of_run
+chain_at : (plan : PlanView) (h : List Event) → IsPlan plan → IsLawful plan h → (i : ℕ) (run : Run) → IsTrue (is_open (take i h) run) → IsTrue (is_open (take (i + 1) h) run) → outer_chain plan (take (i + 1) h) run ≡ outer_chain plan (take i h) run
+unfolding is_open outer_chain
 chain_at plan h valid lawful i run before now =
     elim (slice_get h i) as (λ o. slice_get h i ≡ o → chain_of_run plan (reverse (take (i + 1) h)) run ≡ chain_of_run plan (reverse (take i h)) run) [
       | None ↦ λ none. ap (λ l. chain_of_run plan (reverse l) run) (no_more h i (none_past h i none))
@@ -171,8 +171,8 @@ chain_at plan h valid lawful i run before now =
           ap (λ l. chain_of_run plan l run) turned ∙ chain_step plan e (reverse (take i h)) (valid, whole, stands plan (reverse (take i h)) valid whole.0) run before on
     ] refl
 
-active_at : (plan : PlanView) (h : List Event) → IsPlan plan → IsLawful plan h → (i o : ℕ) (run : Run) → IsTrue (is_open (take i h) run) → IsTrue (is_in o (nodes_of_run plan (take i h) run)) → IsTrue (is_active plan (take i h) o)
-unfolding is_open nodes_of_run is_active
+active_at : (plan : PlanView) (h : List Event) → IsPlan plan → IsLawful plan h → (i o : ℕ) (run : Run) → IsTrue (is_open (take i h) run) → IsTrue (is_in o (outer_chain plan (take i h) run)) → IsTrue (is_active plan (take i h) o)
+unfolding is_open outer_chain is_active
 active_at plan h valid lawful i o run live inside =
     (stands plan (reverse (take i h)) valid (lawful_after plan (take i h) (lawful_take plan h i lawful))).active o run live inside
 

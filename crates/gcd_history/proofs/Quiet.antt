@@ -25,7 +25,7 @@ use Rattle.gcd_history.specs.Submitted.{submission_of}
 use Rattle.gcd_history.specs.Tree.{chain}
 use Rattle.gcd_history.specs.Parked.{parked_by, running, has_run, is_busy, is_parked, may_wake}
 use Rattle.gcd_history.specs.Timers.{now, next_due, may_tick}
-use Rattle.gcd_history.specs.Sources.{is_pending, is_live}
+use Rattle.gcd_history.specs.Sources.{is_pending, is_live_feed}
 use Rattle.gcd_history.specs.Misuses.{first_code, act_misuses, is_released, named, misuse}
 use Rattle.gcd_history.specs.Permitted.{why, permitted, IsLawful, is_halted, is_known, is_worker, has_block, is_run_of, is_ready, knowledge, node_reasons, is_next, has_act_left, misuse_at, reasons}
 use Rattle.gcd_history.specs.Choice.{choice, is_work, worker_of, IsQuiescent}
@@ -329,7 +329,7 @@ pub record AtRest (plan : PlanView) (past : List Event) : Type 0 where
   pub idle : running plan past ≡ 0
   pub no_choice : choice plan past 0 0 ≡ None
   pub no_time : next_due plan past ≡ None
-  pub no_feed : (s : ℕ) → is_live plan past s ≡ false
+  pub no_feed : (s : ℕ) → is_live_feed plan past s ≡ false
 
 pub quiescent_from_rest : (plan : PlanView) (past : List Event) → IsPlan plan → IsLawful plan past → AtRest plan past → IsQuiescent plan past
 quiescent_from_rest plan past valid lawful rest = record {
@@ -376,7 +376,7 @@ no_tick plan past t none =
 -- after a quiescent history a halt alone may come
 pub only_halt : (plan : PlanView) (past : List Event) (e : Event) → IsQuiescent plan past → why plan past e ≡ None → e ≡ Halt
 only_halt plan past (Tick t) quiet may = absurd (both_ways (may_tick plan past t) (no_tick plan past t quiet.no_time) (at_tick plan past t may))
-only_halt plan past (Ready s n) quiet may = absurd (both_ways (is_live plan past s.0) (quiet.no_feed s.0) (at_ready plan past s n may))
-only_halt plan past (FeedEnd s) quiet may = absurd (both_ways (is_live plan past s.0) (quiet.no_feed s.0) (at_feed_end plan past s may))
+only_halt plan past (Ready s n) quiet may = absurd (both_ways (is_live_feed plan past s.0) (quiet.no_feed s.0) (at_ready plan past s n may))
+only_halt plan past (FeedEnd s) quiet may = absurd (both_ways (is_live_feed plan past s.0) (quiet.no_feed s.0) (at_feed_end plan past s may))
 only_halt plan past Halt quiet may = refl
 only_halt plan past e quiet may = absurd (both_ways (permitted plan past e) (quiet.no_work e refl) (ap is_none may))

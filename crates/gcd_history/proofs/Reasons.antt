@@ -17,7 +17,7 @@ use Rattle.gcd_history.specs.Submitted.{submission_of}
 use Rattle.gcd_history.specs.Tree.{chain}
 use Rattle.gcd_history.specs.Parked.{has_run, is_busy, is_parked, may_wake}
 use Rattle.gcd_history.specs.Timers.{may_tick}
-use Rattle.gcd_history.specs.Sources.{is_pending, is_live}
+use Rattle.gcd_history.specs.Sources.{is_pending, is_live_feed}
 use Rattle.gcd_history.specs.Permitted.{is_halted, is_known, is_ready, is_behind, is_fenced, knowledge, is_next, has_act_left, misuse_at, waiting_reasons, node_reasons, reasons, why}
 
 -- where no reason applies, the first does not, nor do the others
@@ -164,8 +164,8 @@ pub at_tick : (plan : PlanView) (past : List Event) (t : ℕ) → why plan past 
 at_tick plan past t h = not-false (may_tick plan past t) (first_none NotDue (not (may_tick plan past t)) [] (allowed plan past (Tick t) h).kind).0
 
 -- of a Ready, and of a FeedEnd
-pub at_ready : (plan : PlanView) (past : List Event) (s : Obj) (n : ℕ) → why plan past (Ready s n) ≡ None → is_live plan past s.0 ≡ true
-at_ready plan past s n h = not-false (is_live plan past s.0) (first_none NotLive (not (is_live plan past s.0)) [] (allowed plan past (Ready s n) h).kind).0
+pub at_ready : (plan : PlanView) (past : List Event) (s : Obj) (n : ℕ) → why plan past (Ready s n) ≡ None → is_live_feed plan past s.0 ≡ true
+at_ready plan past s n h = not-false (is_live_feed plan past s.0) (first_none NotLive (not (is_live_feed plan past s.0)) [] (allowed plan past (Ready s n) h).kind).0
 
-pub at_feed_end : (plan : PlanView) (past : List Event) (s : Obj) → why plan past (FeedEnd s) ≡ None → is_live plan past s.0 ≡ true
-at_feed_end plan past s h = not-false (is_live plan past s.0) (first_none NotLive (not (is_live plan past s.0)) [] (allowed plan past (FeedEnd s) h).kind).0
+pub at_feed_end : (plan : PlanView) (past : List Event) (s : Obj) → why plan past (FeedEnd s) ≡ None → is_live_feed plan past s.0 ≡ true
+at_feed_end plan past s h = not-false (is_live_feed plan past s.0) (first_none NotLive (not (is_live_feed plan past s.0)) [] (allowed plan past (FeedEnd s) h).kind).0

@@ -16,9 +16,9 @@ use Rattle.gcd_plan.proofs.Apart.{stand_once, apart_from_once}
 use Rattle.gcd_event.specs.declared.event.Event.{Event}
 use Rattle.gcd_history.specs.Holds.{is_active as is_active_after}
 use Rattle.gcd_history.specs.Submitted.{is_cancelled}
-use Rattle.gcd_history.specs.Sources.{is_live}
+use Rattle.gcd_history.specs.Sources.{is_live_feed}
 use Rattle.gcd_history.specs.Permitted.{why as why_after}
-use Rattle.gcd_history.specs.History.{why, IsLawful, is_open, is_running, is_free, nodes_of_run, node_of_run, is_barrier_of, has_come, submissions_of, node_of, target_of, request_of, chain_of, open_beneath_of, is_active, hold_of, merged_of, running_of, choice_of, next_due_of, is_live_feed, has_run, group_wait_passes, semaphore_wait_passes}
+use Rattle.gcd_history.specs.History.{why, IsLawful, is_open, is_running, is_free, chain_of_run, node_of_run, is_barrier_on, has_come, submitted_of, node_of, target_of, request_of, chain_of, open_beneath_of, is_active, hold_of, merged_of, running_of, choice_of, next_due_of, is_live_feed as outer_feed, has_run, group_wait_passes, semaphore_wait_passes}
 use Rattle.gcd_history.specs.Ends.{IsDrained, is_halted, all_ended}
 use Rattle.gcd_history.proofs.Lists.{list_all_place}
 use Rattle.gcd_history.proofs.LawfulLemmas.{lawful_none, lawful_more}
@@ -101,12 +101,12 @@ lawful_row plan h none = lawful_on plan [] h (lawful_none plan) none
 
 -- opens the words of a history that rows speak of
 unfoldable pub words_of_history : Unit {0}
-unfolding is_open is_running is_free nodes_of_run node_of_run is_barrier_of has_come submissions_of node_of target_of request_of chain_of open_beneath_of is_active hold_of merged_of running_of choice_of next_due_of is_live_feed all_ended is_halted has_run why group_wait_passes semaphore_wait_passes
+unfolding is_open is_running is_free chain_of_run node_of_run is_barrier_on has_come submitted_of node_of target_of request_of chain_of open_beneath_of is_active hold_of merged_of running_of choice_of next_due_of outer_feed all_ended is_halted has_run why group_wait_passes semaphore_wait_passes
 words_of_history = tt
 
 -- a plan without read sources has no live feed
-no_feed : (plan : PlanView) (h : List Event) → list_all (λ obj. not (is_read_kind obj.kind)) plan.objects ≡ true → (s : ℕ) → is_live_feed plan h s ≡ false
-unfolding is_live_feed is_live
+no_feed : (plan : PlanView) (h : List Event) → list_all (λ obj. not (is_read_kind obj.kind)) plan.objects ≡ true → (s : ℕ) → outer_feed plan h s ≡ false
+unfolding outer_feed is_live_feed
 no_feed plan h none s =
     elim (slice_get plan.objects s) as (λ k. slice_get plan.objects s ≡ k → (option_map_or is_read_kind (option_map (λ obj. obj.kind) k) false && (is_active_after plan (reverse h) s && not (is_cancelled plan (reverse h) s))) ≡ false) [
       | None ↦ λ at. refl

@@ -20,7 +20,7 @@ use Rattle.gcd_event.specs.declared.event.Event.TheVariants.{Act as Acted}
 use Rattle.gcd_history.specs.declared.submission.Submission.{Submission}
 use Rattle.gcd_history.specs.Runs.{act_at, act_of}
 use Rattle.gcd_history.specs.Groups.{count}
-use Rattle.gcd_history.specs.Submitted.{on_node, submitted_by, cancels, is_cancelled, at_cancel, registered, notify_blocks, at_empty, submissions, submitted}
+use Rattle.gcd_history.specs.Submitted.{on_node, submitted_by, cancels, is_cancelled, at_cancel, registered, notify_blocks, at_empty, new_submissions, submitted}
 use Rattle.gcd_history.proofs.Lists.{list_all_place}
 use Rattle.gcd_history.proofs.SubmittedOnce.{handler_act, object_fields}
 
@@ -160,7 +160,7 @@ submitted_fit plan [] valid = refl
 submitted_fit plan (e ∷ past) valid =
     let fired = flat_map (at_empty plan past e) (range_with_len 0 (length plan.objects)) in
     let own = of_recorded (λ o. list_all (on_a_node plan) (submitted_by o)) plan e valid refl (own_fit plan) in
-    both_fit plan (submitted plan past) (submissions plan past e) (submitted_fit plan past valid)
+    both_fit plan (submitted plan past) (new_submissions plan past e) (submitted_fit plan past valid)
     (both_fit plan (submitted_by (act_of plan e) ++ at_cancel plan past (cancels plan e)) fired
     (both_fit plan (submitted_by (act_of plan e)) (at_cancel plan past (cancels plan e)) own (cancel_fit plan past (cancels plan e) valid))
     (all_fired_fit plan past e (range_with_len 0 (length plan.objects)) valid))

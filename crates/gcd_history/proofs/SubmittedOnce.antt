@@ -23,7 +23,7 @@ use Rattle.gcd_plan.proofs.Lists.{count_by-flat_map}
 use Rattle.gcd_history.specs.declared.submission.Submission.{Submission}
 use Rattle.gcd_history.specs.Runs.{same_run, acts_done, act_at, act_of, is_open, is_started}
 use Rattle.gcd_history.specs.Groups.{count}
-use Rattle.gcd_history.specs.Submitted.{on_node, submitted_by, cancels, is_cancelled, at_cancel, registered, notify_blocks, at_empty, submissions, main_submission, submitted}
+use Rattle.gcd_history.specs.Submitted.{on_node, submitted_by, cancels, is_cancelled, at_cancel, registered, notify_blocks, at_empty, new_submissions, main_submission, submitted}
 use Rattle.gcd_history.specs.Permitted.{IsLawful, is_worker, has_block, is_run_of}
 use Rattle.gcd_history.proofs.Lists.{list_all_place, count_by-append}
 use Rattle.gcd_history.proofs.Options.{some_kept, none_is}
@@ -39,13 +39,13 @@ use Rattle.gcd_history.proofs.StartedOnce.{started_from_open, open_from_has_run}
 abbrev pub is_of : ℕ → Submission → Bool
 is_of b s = s.blk.0 == b
 
-abbrev names : ℕ → Blk → Bool
-names b c = c.0 == b
+abbrev has_number : ℕ → Blk → Bool
+has_number b c = c.0 == b
 
 -- how often the act submits block b, at once or as a notify block
 abbrev given : ℕ → Option Act → ℕ
 given b None = 0
-given b (Some act) = count_by (names b) (option_to_list (block_of act))
+given b (Some act) = count_by (has_number b) (option_to_list (block_of act))
 
 abbrev block_run : ℕ → Run
 block_run c = Block (record { 0 = c })
@@ -59,7 +59,7 @@ made plan past b = sum_by (made_by plan past b) (range_with_len 0 (length plan.b
 
 -- what the cancellations of a source, and of all, give
 abbrev cancelled_by_one : PlanView → List Event → ℕ → ℕ → ℕ
-cancelled_by_one plan past b s = cond (is_cancelled plan past s) (count_by (names b) (option_to_list (cancel_block plan s))) 0
+cancelled_by_one plan past b s = cond (is_cancelled plan past s) (count_by (has_number b) (option_to_list (cancel_block plan s))) 0
 
 abbrev cancelled : PlanView → List Event → ℕ → ℕ
 cancelled plan past b = sum_by (cancelled_by_one plan past b) (range_with_len 0 (length plan.objects))
@@ -115,12 +115,12 @@ at_groups plan past e b =
 
 -- of the event
 new_le : (plan : PlanView) (past : List Event) (e : Event) (b : ℕ) →
-    count_by (is_of b) (submissions plan past e) + waiting plan (e ∷ past) b
+    count_by (is_of b) (new_submissions plan past e) + waiting plan (e ∷ past) b
     ≤ waiting plan past b + given b (act_of plan e) + count_by (is_of b) (at_cancel plan past (cancels plan e))
 new_le plan past e b =
     let fired = flat_map (at_empty plan past e) (range_with_len 0 (length plan.objects)) in
     let own = submitted_by (act_of plan e) ++ at_cancel plan past (cancels plan e) in
-    let one : count_by (is_of b) (submissions plan past e) ≡ count_by (is_of b) own + count_by (is_of b) fired = count_by-append (is_of b) own fired in
+    let one : count_by (is_of b) (new_submissions plan past e) ≡ count_by (is_of b) own + count_by (is_of b) fired = count_by-append (is_of b) own fired in
     let two = count_by-append (is_of b) (submitted_by (act_of plan e)) (at_cancel plan past (cancels plan e)) in
     let three = at_groups plan past e b in
     let four = own_le b (act_of plan e) (length plan.objects) in
@@ -251,7 +251,7 @@ made_more plan e past valid h b =
 -- what a source's cancellation has given stays
 cancelled_kept : (plan : PlanView) (e : Event) (past : List Event) (b s : ℕ) → cancelled_by_one plan past b s ≤ cancelled_by_one plan (e ∷ past) b s
 cancelled_kept plan e past b s =
-    let n = count_by (names b) (option_to_list (cancel_block plan s)) in
+    let n = count_by (has_number b) (option_to_list (cancel_block plan s)) in
     elim (is_cancelled plan past s) as (λ v. cond v n 0 ≤ cond (option_map_or (λ t. t.0 == s) (cancels plan e) false || v) n 0) [
       | true ↦ elim (option_map_or (λ t. t.0 == s) (cancels plan e) false) as (λ u. n ≤ cond (u || true) n 0) [ true ↦ omega arith | false ↦ omega arith ]
       | false ↦ omega arith
@@ -259,9 +259,9 @@ cancelled_kept plan e past b s =
 
 -- of the source that the event cancels first
 first_cancel : (plan : PlanView) (e : Event) (past : List Event) (b : ℕ) (s : Obj) → cancels plan e ≡ Some s → is_cancelled plan past s.0 ≡ false →
-    cancelled_by_one plan past b s.0 + count_by (names b) (option_to_list (cancel_block plan s.0)) ≤ cancelled_by_one plan (e ∷ past) b s.0
+    cancelled_by_one plan past b s.0 + count_by (has_number b) (option_to_list (cancel_block plan s.0)) ≤ cancelled_by_one plan (e ∷ past) b s.0
 first_cancel plan e past b s now first =
-    let n = count_by (names b) (option_to_list (cancel_block plan s.0)) in
+    let n = count_by (has_number b) (option_to_list (cancel_block plan s.0)) in
     let before : cancelled_by_one plan past b s.0 ≡ 0 = ap (λ v. cond v n 0) first in
     let here : option_map_or (λ t. t.0 == s.0) (cancels plan e) false ≡ true = ap (λ o. option_map_or (λ t. t.0 == s.0) o false) now ∙ eq-eqb s.0 s.0 refl in
     let after : cancelled_by_one plan (e ∷ past) b s.0 ≡ n = ap (λ v. cond (v || is_cancelled plan past s.0) n 0) here in
@@ -270,7 +270,7 @@ first_cancel plan e past b s now first =
 cancel_within : (plan : PlanView) (s : ℕ) (c : Blk) → cancel_block plan s ≡ Some c → s < length plan.objects
 cancel_within plan s c at = option_and_then_some (λ obj. obj.cancel) (slice_get plan.objects s) c at (λ obj some it. slice_get_within plan.objects s obj some)
 
-cancel_blocks : (b : ℕ) (s : Obj) (o : Option Blk) → count_by (is_of b) (option_map_or (λ c. on_node s c false) o []) ≡ count_by (names b) (option_to_list o)
+cancel_blocks : (b : ℕ) (s : Obj) (o : Option Blk) → count_by (is_of b) (option_map_or (λ c. on_node s c false) o []) ≡ count_by (has_number b) (option_to_list o)
 cancel_blocks b s None = refl
 cancel_blocks b s (Some c) = refl
 
@@ -286,8 +286,8 @@ cancelled_more plan e past b =
           | None ↦ λ none. omega arith
           | Some c ↦ λ some.
               let within : s.0 < length plan.objects = cancel_within plan s.0 c some in
-              let same : count_by (is_of b) (on_node s c false) ≡ count_by (names b) (option_to_list (cancel_block plan s.0)) = ap (λ o. count_by (names b) (option_to_list o)) (sym some) in
-              let more = sum_range_less (cancelled_by_one plan past b) (cancelled_by_one plan (e ∷ past) b) 0 (length plan.objects) s.0 (count_by (names b) (option_to_list (cancel_block plan s.0)))
+              let same : count_by (is_of b) (on_node s c false) ≡ count_by (has_number b) (option_to_list (cancel_block plan s.0)) = ap (λ o. count_by (has_number b) (option_to_list o)) (sym some) in
+              let more = sum_range_less (cancelled_by_one plan past b) (cancelled_by_one plan (e ∷ past) b) 0 (length plan.objects) s.0 (count_by (has_number b) (option_to_list (cancel_block plan s.0)))
               (cancelled_kept plan e past b) (first_cancel plan e past b s now first) (omega arith) (omega arith) in
               omega arith
         ] refl
@@ -295,39 +295,39 @@ cancelled_more plan e past b =
     ] refl
 
 -- what a block of the plan gives, and an object
-block_gives : (plan : PlanView) (past : List Event) (b k : ℕ) (blk : BlkView) → slice_get plan.blocks k ≡ Some blk → made_by plan past b k ≤ count_by (names b) (blocks_of blk.acts)
+block_gives : (plan : PlanView) (past : List Event) (b k : ℕ) (blk : BlkView) → slice_get plan.blocks k ≡ Some blk → made_by plan past b k ≤ count_by (has_number b) (blocks_of blk.acts)
 block_gives plan past b k blk at =
     let acts : acts_of plan (block_run k) ≡ blk.acts = ap (λ o. option_map_or (λ c. c.acts) o []) at in
-    let all : sum_by (λ act. given b (Some act)) blk.acts ≡ count_by (names b) (blocks_of blk.acts) = sym (count_by-flat_map (names b) (λ act. option_to_list (block_of act)) blk.acts) in
+    let all : sum_by (λ act. given b (Some act)) blk.acts ≡ count_by (has_number b) (blocks_of blk.acts) = sym (count_by-flat_map (has_number b) (λ act. option_to_list (block_of act)) blk.acts) in
     let n = acts_done past (block_run k) in
     let front : sum_by (λ act. given b (Some act)) (take n (acts_of plan (block_run k))) ≤ sum_by (λ act. given b (Some act)) blk.acts =
     subst (λ l. sum_by (λ act. given b (Some act)) (take n l) ≤ sum_by (λ act. given b (Some act)) blk.acts) (sym acts) (sum_by-take-le (λ act. given b (Some act)) blk.acts n) in
     omega arith
 
-object_gives : (plan : PlanView) (past : List Event) (b k : ℕ) (obj : ObjView) → slice_get plan.objects k ≡ Some obj → cancelled_by_one plan past b k ≤ count_by (names b) (blocks_of obj.handler ++ option_to_list obj.cancel)
+object_gives : (plan : PlanView) (past : List Event) (b k : ℕ) (obj : ObjView) → slice_get plan.objects k ≡ Some obj → cancelled_by_one plan past b k ≤ count_by (has_number b) (blocks_of obj.handler ++ option_to_list obj.cancel)
 object_gives plan past b k obj at =
     let cancel : cancel_block plan k ≡ obj.cancel = ap (λ o. option_and_then (λ c. c.cancel) o) at in
-    let split = count_by-append (names b) (blocks_of obj.handler) (option_to_list obj.cancel) in
-    let same : count_by (names b) (option_to_list (cancel_block plan k)) ≡ count_by (names b) (option_to_list obj.cancel) = ap (λ o. count_by (names b) (option_to_list o)) cancel in
-    elim (is_cancelled plan past k) as (λ v. cond v (count_by (names b) (option_to_list (cancel_block plan k))) 0 ≤ count_by (names b) (blocks_of obj.handler ++ option_to_list obj.cancel)) [
+    let split = count_by-append (has_number b) (blocks_of obj.handler) (option_to_list obj.cancel) in
+    let same : count_by (has_number b) (option_to_list (cancel_block plan k)) ≡ count_by (has_number b) (option_to_list obj.cancel) = ap (λ o. count_by (has_number b) (option_to_list o)) cancel in
+    elim (is_cancelled plan past k) as (λ v. cond v (count_by (has_number b) (option_to_list (cancel_block plan k))) 0 ≤ count_by (has_number b) (blocks_of obj.handler ++ option_to_list obj.cancel)) [
       | true ↦ omega arith
       | false ↦ omega arith
     ]
 
 -- all that is made and cancelled is of the plan
-all_of_plan : (plan : PlanView) (past : List Event) (b : ℕ) → made plan past b + cancelled plan past b ≤ count_by (names b) (submitted_blocks plan)
+all_of_plan : (plan : PlanView) (past : List Event) (b : ℕ) → made plan past b + cancelled plan past b ≤ count_by (has_number b) (submitted_blocks plan)
 all_of_plan plan past b =
     let of_blocks = flat_map (λ blk. blocks_of blk.acts) plan.blocks in
     let of_objects = flat_map (λ obj. blocks_of obj.handler ++ option_to_list obj.cancel) plan.objects in
-    let split : count_by (names b) (submitted_blocks plan) ≡ count_by (names b) of_blocks + count_by (names b) of_objects = count_by-append (names b) of_blocks of_objects in
-    let one = count_by-flat_map (names b) (λ blk. blocks_of blk.acts) plan.blocks in
-    let two = count_by-flat_map (names b) (λ obj. blocks_of obj.handler ++ option_to_list obj.cancel) plan.objects in
-    let left : made plan past b ≤ sum_by (λ blk. count_by (names b) (blocks_of blk.acts)) plan.blocks = sum_all_places_le (made_by plan past b) (λ blk. count_by (names b) (blocks_of blk.acts)) plan.blocks (block_gives plan past b) in
-    let right : cancelled plan past b ≤ sum_by (λ obj. count_by (names b) (blocks_of obj.handler ++ option_to_list obj.cancel)) plan.objects = sum_all_places_le (cancelled_by_one plan past b) (λ obj. count_by (names b) (blocks_of obj.handler ++ option_to_list obj.cancel)) plan.objects (object_gives plan past b) in
+    let split : count_by (has_number b) (submitted_blocks plan) ≡ count_by (has_number b) of_blocks + count_by (has_number b) of_objects = count_by-append (has_number b) of_blocks of_objects in
+    let one = count_by-flat_map (has_number b) (λ blk. blocks_of blk.acts) plan.blocks in
+    let two = count_by-flat_map (has_number b) (λ obj. blocks_of obj.handler ++ option_to_list obj.cancel) plan.objects in
+    let left : made plan past b ≤ sum_by (λ blk. count_by (has_number b) (blocks_of blk.acts)) plan.blocks = sum_all_places_le (made_by plan past b) (λ blk. count_by (has_number b) (blocks_of blk.acts)) plan.blocks (block_gives plan past b) in
+    let right : cancelled plan past b ≤ sum_by (λ obj. count_by (has_number b) (blocks_of obj.handler ++ option_to_list obj.cancel)) plan.objects = sum_all_places_le (cancelled_by_one plan past b) (λ obj. count_by (has_number b) (blocks_of obj.handler ++ option_to_list obj.cancel)) plan.objects (object_gives plan past b) in
     omega arith
 
 -- an act of a block submits no main
-not_main : (plan : PlanView) (c : Blk) → is_submittable plan c ≡ true → count_by (names 0) (c ∷ []) ≡ 0
+not_main : (plan : PlanView) (c : Blk) → is_submittable plan c ≡ true → count_by (has_number 0) (c ∷ []) ≡ 0
 not_main plan c fine =
     let above : 0 < c.0 = ltb-true 0 c.0 (and_parts (ltb 0 c.0) _ fine).0 in
     ap (λ v. 0 + cond v 1 0) (ne_eqb c.0 0 (λ same. omega arith))
@@ -341,47 +341,47 @@ act_gives_no_main plan (GroupAsync g q c) fine = not_main plan c (and_parts (is_
 act_gives_no_main plan (Notify g q c) fine = not_main plan c (and_parts (is_queue plan q.0) _ (and_parts (has_kind is_group_kind plan g.0) _ fine).1).1
 act_gives_no_main plan act fine = refl
 
-acts_give_none : (b : ℕ) (acts : List Act) → ((k : ℕ) (act : Act) → slice_get acts k ≡ Some act → given b (Some act) ≡ 0) → count_by (names b) (blocks_of acts) ≡ 0
-acts_give_none b acts none = count_by-flat_map (names b) (λ act. option_to_list (block_of act)) acts ∙ sum_by_none (λ act. given b (Some act)) acts none
+acts_give_none : (b : ℕ) (acts : List Act) → ((k : ℕ) (act : Act) → slice_get acts k ≡ Some act → given b (Some act) ≡ 0) → count_by (has_number b) (blocks_of acts) ≡ 0
+acts_give_none b acts none = count_by-flat_map (has_number b) (λ act. option_to_list (block_of act)) acts ∙ sum_by_none (λ act. given b (Some act)) acts none
 
-block_gives_no_main : (plan : PlanView) → IsPlan plan → (k : ℕ) (blk : BlkView) → slice_get plan.blocks k ≡ Some blk → count_by (names 0) (blocks_of blk.acts) ≡ 0
+block_gives_no_main : (plan : PlanView) → IsPlan plan → (k : ℕ) (blk : BlkView) → slice_get plan.blocks k ≡ Some blk → count_by (has_number 0) (blocks_of blk.acts) ≡ 0
 block_gives_no_main plan valid k blk at =
     let fine = (and_parts (option_map_or (is_work plan) blk.work true) (list_all (is_act plan) blk.acts) (list_all_place (is_block plan) plan.blocks k blk valid.blocks at)).1 in
     acts_give_none 0 blk.acts (λ i act here. act_gives_no_main plan act (list_all_place (is_act plan) blk.acts i act fine here))
 
 -- a cancellation block is not main
-cancel_gives_no_main : (plan : PlanView) (obj : ObjView) (kind : Kind) → has_fields plan kind obj ≡ true → count_by (names 0) (option_to_list obj.cancel) ≡ 0
+cancel_gives_no_main : (plan : PlanView) (obj : ObjView) (kind : Kind) → has_fields plan kind obj ≡ true → count_by (has_number 0) (option_to_list obj.cancel) ≡ 0
 cancel_gives_no_main plan obj Serial fields =
-    ap (λ o. count_by (names 0) (option_to_list o)) (none_is obj.cancel (and_parts (length obj.handler == 0) (is_none obj.cancel) (and_parts (is_queue plan obj.target.0) _ fields).1).1)
+    ap (λ o. count_by (has_number 0) (option_to_list o)) (none_is obj.cancel (and_parts (length obj.handler == 0) (is_none obj.cancel) (and_parts (is_queue plan obj.target.0) _ fields).1).1)
 cancel_gives_no_main plan obj Concurrent fields =
-    ap (λ o. count_by (names 0) (option_to_list o)) (none_is obj.cancel (and_parts (length obj.handler == 0) (is_none obj.cancel) (and_parts (is_queue plan obj.target.0) _ fields).1).1)
+    ap (λ o. count_by (has_number 0) (option_to_list o)) (none_is obj.cancel (and_parts (length obj.handler == 0) (is_none obj.cancel) (and_parts (is_queue plan obj.target.0) _ fields).1).1)
 cancel_gives_no_main plan obj Group fields =
-    ap (λ o. count_by (names 0) (option_to_list o)) (none_is obj.cancel (and_parts (length obj.handler == 0) (is_none obj.cancel) (and_parts obj.active _ (and_parts (obj.target.0 == 0) _ fields).1).1).1)
+    ap (λ o. count_by (has_number 0) (option_to_list o)) (none_is obj.cancel (and_parts (length obj.handler == 0) (is_none obj.cancel) (and_parts obj.active _ (and_parts (obj.target.0 == 0) _ fields).1).1).1)
 cancel_gives_no_main plan obj (Semaphore n) fields =
-    ap (λ o. count_by (names 0) (option_to_list o)) (none_is obj.cancel (and_parts (length obj.handler == 0) (is_none obj.cancel) (and_parts obj.active _ (and_parts (obj.target.0 == 0) _ fields).1).1).1)
+    ap (λ o. count_by (has_number 0) (option_to_list o)) (none_is obj.cancel (and_parts (length obj.handler == 0) (is_none obj.cancel) (and_parts obj.active _ (and_parts (obj.target.0 == 0) _ fields).1).1).1)
 cancel_gives_no_main plan obj kind fields =
     let fine = (and_parts (list_all (λ a. is_handler_act a && is_act plan a) obj.handler) _ (and_parts (not obj.active) _ (and_parts (is_queue plan obj.target.0) _ fields).1).1).1 in
-    elim obj.cancel as (λ o. option_map_or (is_submittable plan) o true ≡ true → count_by (names 0) (option_to_list o) ≡ 0) [
+    elim obj.cancel as (λ o. option_map_or (is_submittable plan) o true ≡ true → count_by (has_number 0) (option_to_list o) ≡ 0) [
       | None ↦ λ k. refl
       | Some c ↦ λ k. not_main plan c k
     ] fine
 
-object_gives_no_main : (plan : PlanView) → IsPlan plan → (k : ℕ) (obj : ObjView) → slice_get plan.objects k ≡ Some obj → count_by (names 0) (blocks_of obj.handler ++ option_to_list obj.cancel) ≡ 0
+object_gives_no_main : (plan : PlanView) → IsPlan plan → (k : ℕ) (obj : ObjView) → slice_get plan.objects k ≡ Some obj → count_by (has_number 0) (blocks_of obj.handler ++ option_to_list obj.cancel) ≡ 0
 object_gives_no_main plan valid k obj at =
     let fields = object_fields plan k obj valid at in
     let one = acts_give_none 0 obj.handler (λ i act here. handler_act_gives_none 0 act (and_parts (is_handler_act act) (is_act plan act) (source_handler plan obj i act obj.kind fields here)).0) in
     let two = cancel_gives_no_main plan obj obj.kind fields in
-    let split = count_by-append (names 0) (blocks_of obj.handler) (option_to_list obj.cancel) in
+    let split = count_by-append (has_number 0) (blocks_of obj.handler) (option_to_list obj.cancel) in
     omega arith
 
 -- the plan submits main nowhere
-main_nowhere : (plan : PlanView) → IsPlan plan → count_by (names 0) (submitted_blocks plan) ≡ 0
+main_nowhere : (plan : PlanView) → IsPlan plan → count_by (has_number 0) (submitted_blocks plan) ≡ 0
 main_nowhere plan valid =
     let of_blocks = flat_map (λ blk. blocks_of blk.acts) plan.blocks in
     let of_objects = flat_map (λ obj. blocks_of obj.handler ++ option_to_list obj.cancel) plan.objects in
-    let split : count_by (names 0) (submitted_blocks plan) ≡ count_by (names 0) of_blocks + count_by (names 0) of_objects = count_by-append (names 0) of_blocks of_objects in
-    let one : count_by (names 0) of_blocks ≡ 0 = count_by-flat_map (names 0) (λ blk. blocks_of blk.acts) plan.blocks ∙ sum_by_none (λ blk. count_by (names 0) (blocks_of blk.acts)) plan.blocks (block_gives_no_main plan valid) in
-    let two : count_by (names 0) of_objects ≡ 0 = count_by-flat_map (names 0) (λ obj. blocks_of obj.handler ++ option_to_list obj.cancel) plan.objects ∙ sum_by_none (λ obj. count_by (names 0) (blocks_of obj.handler ++ option_to_list obj.cancel)) plan.objects (object_gives_no_main plan valid) in
+    let split : count_by (has_number 0) (submitted_blocks plan) ≡ count_by (has_number 0) of_blocks + count_by (has_number 0) of_objects = count_by-append (has_number 0) of_blocks of_objects in
+    let one : count_by (has_number 0) of_blocks ≡ 0 = count_by-flat_map (has_number 0) (λ blk. blocks_of blk.acts) plan.blocks ∙ sum_by_none (λ blk. count_by (has_number 0) (blocks_of blk.acts)) plan.blocks (block_gives_no_main plan valid) in
+    let two : count_by (has_number 0) of_objects ≡ 0 = count_by-flat_map (has_number 0) (λ obj. blocks_of obj.handler ++ option_to_list obj.cancel) plan.objects ∙ sum_by_none (λ obj. count_by (has_number 0) (blocks_of obj.handler ++ option_to_list obj.cancel)) plan.objects (object_gives_no_main plan valid) in
     omega arith
 
 -- ## Once
@@ -396,7 +396,7 @@ kept_within plan [] valid h b = let none = no_sum (length plan.objects) in let o
 kept_within plan (e ∷ past) valid h b =
     let old = kept_within plan past valid h.0 b in
     let new = new_le plan past e b in
-    let split : count_by (is_of b) (submitted plan (e ∷ past)) ≡ count_by (is_of b) (submitted plan past) + count_by (is_of b) (submissions plan past e) = count_by-append (is_of b) (submitted plan past) (submissions plan past e) in
+    let split : count_by (is_of b) (submitted plan (e ∷ past)) ≡ count_by (is_of b) (submitted plan past) + count_by (is_of b) (new_submissions plan past e) = count_by-append (is_of b) (submitted plan past) (new_submissions plan past e) in
     let acts = made_more plan e past valid h b in
     let cancels = cancelled_more plan e past b in
     omega arith
@@ -407,11 +407,11 @@ submitted_once plan past valid h b =
     let all = all_of_plan plan past b in
     ⊎_elim
     (λ main.
-    let none : count_by (names b) (submitted_blocks plan) ≡ 0 = subst (λ n. count_by (names n) (submitted_blocks plan) ≡ 0) main (main_nowhere plan valid) in
+    let none : count_by (has_number b) (submitted_blocks plan) ≡ 0 = subst (λ n. count_by (has_number n) (submitted_blocks plan) ≡ 0) main (main_nowhere plan valid) in
     let one : cond (0 == b) 1 0 ≤ 1 = at_most_one (0 == b) in
     omega arith)
     (λ other.
-    let once : count_by (names b) (submitted_blocks plan) ≤ 1 = valid.once b in
+    let once : count_by (has_number b) (submitted_blocks plan) ≤ 1 = valid.once b in
     let zero : cond {A = ℕ} (0 == b) 1 0 ≡ 0 = ap (λ v. cond v 1 0) (ne_eqb 0 b other) in
     omega arith)
     (cases_eq 0 b)

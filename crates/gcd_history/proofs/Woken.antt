@@ -14,7 +14,7 @@ use Rattle.gcd_event.specs.declared.event.Event.TheVariants.{Start, Act as Acted
 use Rattle.gcd_history.specs.Runs.{same_run, opens, act_at, act_of, is_open, is_started, is_ended, ends}
 use Rattle.gcd_history.specs.Groups.{is_empty_above}
 use Rattle.gcd_history.specs.Semas.{signals, signal_count, first_value}
-use Rattle.gcd_history.specs.Parked.{reason_of, parked_by, reason, has_run, has_come, may_wake}
+use Rattle.gcd_history.specs.Parked.{reason_by, parked_by, reason, has_run, has_come, may_wake}
 use Rattle.gcd_history.specs.Permitted.{IsLawful}
 use Rattle.gcd_history.specs.Facts.{wakes}
 use Rattle.gcd_history.specs.Choice.{all_ended}
@@ -77,7 +77,7 @@ parked_kept plan (Acted w q i) past h b r is none =
           let own : has_run plan past w (Block b) ≡ true = subst (λ k. has_run plan past w k ≡ true) (same_run-true q (Block b) same) (at_act plan past w q i h.1).own in
           absurd (nobodys plan past w (Block b) r facts.by own)
       | false ↦ λ other. parked_from plan (Acted w q i ∷ past) b r (open_kept (Acted w q i) past (Block b) facts.live refl)
-          (ap (λ v. cond v (reason_of plan past (act_at plan q i)) (parked_by plan past (Block b))) other ∙ facts.by)
+          (ap (λ v. cond v (reason_by plan past (act_at plan q i)) (parked_by plan past (Block b))) other ∙ facts.by)
     ] refl
 parked_kept plan (Wake w c) past h b r is none =
     let facts = parked_facts plan past b r is in

@@ -12,7 +12,7 @@ use Rattle.gcd_history.specs.Runs.{open_runs, acts_done, is_ended}
 use Rattle.gcd_history.specs.Submitted.{submitted}
 use Rattle.gcd_history.specs.Parked.{has_run}
 use Rattle.gcd_history.specs.Timers.{next_due}
-use Rattle.gcd_history.specs.Sources.{is_live}
+use Rattle.gcd_history.specs.Sources.{is_live_feed}
 use Rattle.gcd_history.specs.Permitted.{permitted, misuse_at, first_waiting, is_halted}
 
 -- the end of the run
@@ -79,7 +79,7 @@ pub record IsQuiescent (plan : PlanView) (past : List Event) : Type 0 where
   pub goes_on : is_halted past ≡ false
   pub no_work : (e : Event) → is_work e ≡ true → permitted plan past e ≡ false
   pub no_time : next_due plan past ≡ None
-  pub no_feed : (s : ℕ) → is_live plan past s ≡ false
+  pub no_feed : (s : ℕ) → is_live_feed plan past s ≡ false
 
 -- each block that was submitted has ended
 abbrev pub all_ended : PlanView → List Event → Bool

@@ -84,7 +84,7 @@ pub record Overlap (h : List Event) (r q : Run) : Type 0 where
 
 -- the event is an act that parks its block (dispatch_sync(3), dispatch_group_wait(3), dispatch_semaphore_wait(3))
 unfoldable pub parks : PlanView → Event → Bool
-parks plan e = parked.parks (runs.act_of plan e)
+parks plan e = parked.is_parking (runs.act_of plan e)
 
 -- what block b waits for, where it is parked (this project's own rule)
 unfoldable pub reason_of : PlanView → List Event → ℕ → Option Reason
@@ -110,8 +110,8 @@ semaphore_wait_passes plan h s k = semas.passes plan (reverse h) s k
 -- ## Submissions
 
 -- the submissions, the first first (dispatch_async(3))
-unfoldable pub submissions_of : PlanView → List Event → List Submission
-submissions_of plan h = submitted.submitted plan (reverse h)
+unfoldable pub submitted_of : PlanView → List Event → List Submission
+submitted_of plan h = submitted.submitted plan (reverse h)
 
 -- block b is submitted
 unfoldable pub is_submitted : PlanView → List Event → ℕ → Bool
@@ -140,16 +140,16 @@ unfoldable pub chain_of : PlanView → List Event → ℕ → List ℕ
 chain_of plan h o = tree.chain plan (reverse h) o
 
 -- the nodes that the run is beneath, its own first; main is beneath none (dispatch_queue_create(3))
-unfoldable pub nodes_of_run : PlanView → List Event → Run → List ℕ
-nodes_of_run plan h run = tree.chain_of_run plan (reverse h) run
+unfoldable pub chain_of_run : PlanView → List Event → Run → List ℕ
+chain_of_run plan h run = tree.chain_of_run plan (reverse h) run
 
 -- the node of the run: a block's queue or source, a handler's source; main has none
 unfoldable pub node_of_run : PlanView → List Event → Run → Option ℕ
-node_of_run plan h run = tree.node_of plan (reverse h) run
+node_of_run plan h run = tree.node_of_run plan (reverse h) run
 
 -- the run is a barrier of node n (dispatch_barrier_async(3))
-unfoldable pub is_barrier_of : PlanView → List Event → ℕ → Run → Bool
-is_barrier_of plan h n run = permitted.is_barrier_on plan (reverse h) n run
+unfoldable pub is_barrier_on : PlanView → List Event → ℕ → Run → Bool
+is_barrier_on plan h n run = permitted.is_barrier_on plan (reverse h) n run
 
 -- how many runs are open beneath object o
 unfoldable pub open_beneath_of : PlanView → List Event → ℕ → ℕ
@@ -169,8 +169,8 @@ unfoldable pub is_free : PlanView → List Event → ℕ → Bool
 is_free plan h o = holds.is_free plan (reverse h) o
 
 -- the references on object o (dispatch_object(3))
-unfoldable pub references_of : PlanView → List Event → ℕ → ℕ
-references_of plan h o = misuses.refs plan (reverse h) o
+unfoldable pub refs_of : PlanView → List Event → ℕ → ℕ
+refs_of plan h o = misuses.refs plan (reverse h) o
 
 -- the code of the misuse, if the act is one now (dispatch_object(3))
 unfoldable pub misuse_of : PlanView → List Event → Act → Option ℕ
@@ -179,8 +179,8 @@ misuse_of plan h act = misuses.misuse plan (reverse h) act
 -- ## Time
 
 -- journal time: the last Tick's, or 0, in milliseconds (this project's own rule)
-unfoldable pub time_of : List Event → ℕ
-time_of h = timers.now (reverse h)
+unfoldable pub now_of : List Event → ℕ
+now_of h = timers.now (reverse h)
 
 -- the least due time above journal time (dispatch_source_set_timer(3))
 unfoldable pub next_due_of : PlanView → List Event → Option ℕ
@@ -194,7 +194,7 @@ is_cancelled plan h s = submitted.is_cancelled plan (reverse h) s
 
 -- s is a read source that is active and not cancelled (dispatch_source_create(3))
 unfoldable pub is_live_feed : PlanView → List Event → ℕ → Bool
-is_live_feed plan h s = sources.is_live plan (reverse h) s
+is_live_feed plan h s = sources.is_live_feed plan (reverse h) s
 
 -- the inputs of source s: its merges above 0, the bytes of its Readys, or 1 for each due time (dispatch_source_create(3))
 unfoldable pub inputs_of : PlanView → List Event → ℕ → List ℕ
@@ -205,16 +205,16 @@ unfoldable pub pending_of : PlanView → List Event → ℕ → ℕ
 pending_of plan h s = sources.pending plan (reverse h) s
 
 -- what the last Deliver of source s handed over, 0 before one (dispatch_source_get_data(3))
-unfoldable pub data_of : PlanView → List Event → ℕ → ℕ
-data_of plan h s = sources.last_data plan (reverse h) s
+unfoldable pub last_data_of : PlanView → List Event → ℕ → ℕ
+last_data_of plan h s = sources.last_data plan (reverse h) s
 
 -- what event i handed over, if it is a Deliver (dispatch_source_get_data(3))
-unfoldable pub data_at : PlanView → List Event → (i : ℕ) → Option ℕ
-data_at plan h i = option_and_then (sources.handed_by plan (reverse (take i h))) (slice_get h i)
+unfoldable pub handed_at : PlanView → List Event → (i : ℕ) → Option ℕ
+handed_at plan h i = option_and_then (sources.handed_by plan (reverse (take i h))) (slice_get h i)
 
 -- how many Delivers of source s stand
-unfoldable pub deliveries_of : List Event → ℕ → ℕ
-deliveries_of h s = sources.delivery_count (reverse h) s
+unfoldable pub delivery_count_of : List Event → ℕ → ℕ
+delivery_count_of h s = sources.delivery_count (reverse h) s
 
 -- what the Delivers of source s handed over, in one (dispatch_source_get_data(3))
 unfoldable pub received_of : PlanView → List Event → ℕ → ℕ

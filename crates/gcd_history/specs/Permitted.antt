@@ -18,7 +18,7 @@ use Rattle.gcd_history.specs.Tree.{chain, is_open_on, is_open_beneath}
 use Rattle.gcd_history.specs.Holds.{is_free}
 use Rattle.gcd_history.specs.Parked.{is_parked, may_wake, has_run, is_busy}
 use Rattle.gcd_history.specs.Timers.{may_tick}
-use Rattle.gcd_history.specs.Sources.{is_pending, is_live}
+use Rattle.gcd_history.specs.Sources.{is_pending, is_live_feed}
 use Rattle.gcd_history.specs.Misuses.{misuse}
 
 -- the last event is Misuse
@@ -166,8 +166,8 @@ reasons plan past (DeliverEnd w s) =
     ∷ (NotNext, has_act_left plan past (Source s))
     ∷ []
 reasons plan past (Tick t) = (NotDue, not (may_tick plan past t)) ∷ []
-reasons plan past (Ready s n) = (NotLive, not (is_live plan past s.0)) ∷ []
-reasons plan past (FeedEnd s) = (NotLive, not (is_live plan past s.0)) ∷ []
+reasons plan past (Ready s n) = (NotLive, not (is_live_feed plan past s.0)) ∷ []
+reasons plan past (FeedEnd s) = (NotLive, not (is_live_feed plan past s.0)) ∷ []
 reasons plan past (Misuse w run i c) =
     (NotOwn, not (has_run plan past w run))
     ∷ (NotNext, not (is_next plan past run i))

@@ -13,7 +13,7 @@ use Rattle.gcd_event.specs.declared.event.Event.{Event}
 use Rattle.gcd_event.specs.declared.event.Event.TheVariants.{Misuse}
 use Rattle.gcd_history.specs.declared.state.State.{State}
 use Rattle.gcd_history.specs.declared.state.State.TheVariants.{Drained, Stuck, Misused, Halted, Live}
-use Rattle.gcd_history.specs.History.{is_submitted, is_started, is_ended, reason_of, received_of, deliveries_of, pending_of}
+use Rattle.gcd_history.specs.History.{is_submitted, is_started, is_ended, reason_of, received_of, delivery_count_of, pending_of}
 use Rattle.gcd_history.specs.Values.{value_of}
 
 -- the byte at the end of a line
@@ -36,7 +36,7 @@ result_line plan value h b =
 abbrev pub source_counts : PlanView → List Event → ℕ → List ℕ
 source_counts plan h s =
     codes " received " ++ (decimal (received_of plan h s)
-    ++ (codes " in " ++ (decimal (deliveries_of h s)
+    ++ (codes " in " ++ (decimal (delivery_count_of h s)
     ++ (codes " pending " ++ (decimal (pending_of plan h s) ++ line_end)))))
 
 -- `NAME received R in K pending Q`, for a source: what its Delivers handed over in one, their number, and what is pending

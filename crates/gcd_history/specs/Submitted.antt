@@ -63,8 +63,8 @@ at_empty plan past e g =
     if count plan (e ∷ past) g == 0 then notify_blocks plan past g ++ registered g (act_of plan e) else []
 
 -- what the event submits after past, in order
-abbrev pub submissions : PlanView → List Event → Event → List Submission
-submissions plan past e =
+abbrev pub new_submissions : PlanView → List Event → Event → List Submission
+new_submissions plan past e =
     submitted_by (act_of plan e)
     ++ at_cancel plan past (cancels plan e)
     ++ flat_map (at_empty plan past e) (range_with_len 0 (length plan.objects))
@@ -76,7 +76,7 @@ main_submission = record { blk = record { 0 = 0 }; node = None; barrier = false 
 -- every submission, the first first
 abbrev pub submitted : PlanView → List Event → List Submission
 submitted plan [] = main_submission ∷ []
-submitted plan (e ∷ past) = submitted plan past ++ submissions plan past e
+submitted plan (e ∷ past) = submitted plan past ++ new_submissions plan past e
 
 -- the submission of block b
 abbrev pub submission_of : PlanView → List Event → ℕ → Option Submission

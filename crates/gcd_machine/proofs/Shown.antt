@@ -143,9 +143,9 @@ pub chosen_permitted : (plan : PlanView) (h : List Event) (w from : ℕ) (e : Ev
 unfolding choice_of why
 chosen_permitted plan h w from e found = (chosen_is plan (reverse h) w from e found).permitted_now
 
-pub parks_stands : (m : MachineView) (plan : PlanView) (h : List Event) (e : Event) → StandsFor m plan h → parked.parks (act_of m.plan e) ≡ parks plan e
+pub parks_stands : (m : MachineView) (plan : PlanView) (h : List Event) (e : Event) → StandsFor m plan h → parked.is_parking (act_of m.plan e) ≡ parks plan e
 unfolding parks
-parks_stands m plan h e stands = for_plan m plan h stands (λ p. parked.parks (act_of m.plan e) ≡ parked.parks (act_of p e)) refl
+parks_stands m plan h e stands = for_plan m plan h stands (λ p. parked.is_parking (act_of m.plan e) ≡ parked.is_parking (act_of p e)) refl
 
 chosen_if : (plan : PlanView) (h : List Event) (w from : ℕ) (o : Option Event) → o ≡ choice_of plan h w from → IfSome o (λ e. why plan h e ≡ None)
 chosen_if plan h w from None same = tt
