@@ -16,16 +16,16 @@ use Rattle.gcd_history.proofs.Reasons.{at_start, at_act, at_wake, at_deliver}
 use Rattle.gcd_history.proofs.OpenNodes.{open_cases, any_open}
 
 -- the last worker of the run is w
-abbrev is_last : List Event → Run → ℕ → Bool
+abbrev pub is_last : List Event → Run → ℕ → Bool
 is_last past r w = option_map_or (λ v. v == w) (last_worker past r) false
 
 -- what makes a run the worker's
-record RunFacts (plan : PlanView) (past : List Event) (w : ℕ) (r : Run) : Type 0 where
+pub record RunFacts (plan : PlanView) (past : List Event) (w : ℕ) (r : Run) : Type 0 where
   pub live : is_open past r ≡ true
   pub unparked : is_none (parked_by plan past r) ≡ true
   pub last : is_last past r w ≡ true
 
-run_facts : (plan : PlanView) (past : List Event) (w : ℕ) (r : Run) → has_run plan past w r ≡ true → RunFacts plan past w r
+pub run_facts : (plan : PlanView) (past : List Event) (w : ℕ) (r : Run) → has_run plan past w r ≡ true → RunFacts plan past w r
 unfolding has_run
 run_facts plan past w r h =
     let one = and_parts (is_open past r) _ h in
@@ -58,7 +58,7 @@ takes_one (Deliver v s) w r q h k = sym (same_run-true (Source s) r (and_parts (
 takes_one e w r q h k = cc
 
 -- an idle worker has no run
-idle_has_none : (plan : PlanView) (past : List Event) (w : ℕ) (r : Run) → is_busy plan past w ≡ false → has_run plan past w r ≡ true → ⊥
+pub idle_has_none : (plan : PlanView) (past : List Event) (w : ℕ) (r : Run) → is_busy plan past w ≡ false → has_run plan past w r ≡ true → ⊥
 unfolding is_busy
 idle_has_none plan past w r idle own = both_ways (list_any (has_run plan past w) (open_runs past)) idle (any_open past (has_run plan past w) r (run_facts plan past w r own).live own)
 

@@ -65,7 +65,7 @@ abbrev cancelled : PlanView → List Event → ℕ → ℕ
 cancelled plan past b = sum_by (cancelled_by_one plan past b) (range_with_len 0 (length plan.objects))
 
 -- how often block b waits as a notify block
-abbrev waiting : PlanView → List Event → ℕ → ℕ
+abbrev pub waiting : PlanView → List Event → ℕ → ℕ
 waiting plan past b = sum_by (λ g. count_by (is_of b) (notify_blocks plan past g)) (range_with_len 0 (length plan.objects))
 
 -- ## What an event submits
@@ -99,7 +99,7 @@ at_group plan past e b g =
     ]
 
 -- of all groups
-at_groups : (plan : PlanView) (past : List Event) (e : Event) (b : ℕ) →
+pub at_groups : (plan : PlanView) (past : List Event) (e : Event) (b : ℕ) →
     count_by (is_of b) (flat_map (at_empty plan past e) (range_with_len 0 (length plan.objects))) + waiting plan (e ∷ past) b
     ≡ waiting plan past b + sum_by (λ g. count_by (is_of b) (registered g (act_of plan e))) (range_with_len 0 (length plan.objects))
 at_groups plan past e b =
@@ -129,7 +129,7 @@ new_le plan past e b =
 -- ## What the plan gives
 
 -- a block that has not started has made no act
-unstarted_step : (plan : PlanView) (past : List Event) → IsLawful plan past → (b : Blk) → is_started past b.0 ≡ false → acts_done past (Block b) ≡ 0
+pub unstarted_step : (plan : PlanView) (past : List Event) → IsLawful plan past → (b : Blk) → is_started past b.0 ≡ false → acts_done past (Block b) ≡ 0
 unstarted_step plan [] h b fresh = refl
 unstarted_step plan (Acted w r i ∷ past) h b fresh =
     elim (same_run r (Block b)) as (λ v. same_run r (Block b) ≡ v → cond v (acts_done past (Block b) + 1) (acts_done past (Block b)) ≡ 0) [
@@ -332,57 +332,70 @@ not_main plan c fine =
     let above : 0 < c.0 = ltb-true 0 c.0 (and_parts (ltb 0 c.0) _ fine).0 in
     ap (λ v. 0 + cond v 1 0) (ne_eqb c.0 0 (λ same. omega arith))
 
-act_gives_no_main : (plan : PlanView) (act : Act) → is_act plan act ≡ true → given 0 (Some act) ≡ 0
-act_gives_no_main plan (Async q c) fine = not_main plan c (and_parts (is_queue plan q.0) _ fine).1
-act_gives_no_main plan (Barrier q c) fine = not_main plan c (and_parts (is_queue plan q.0) _ fine).1
-act_gives_no_main plan (Sync q c) fine = not_main plan c (and_parts (is_queue plan q.0) _ fine).1
-act_gives_no_main plan (BarrierSync q c) fine = not_main plan c (and_parts (is_queue plan q.0) _ fine).1
-act_gives_no_main plan (GroupAsync g q c) fine = not_main plan c (and_parts (is_queue plan q.0) _ (and_parts (has_kind is_group_kind plan g.0) _ fine).1).1
-act_gives_no_main plan (Notify g q c) fine = not_main plan c (and_parts (is_queue plan q.0) _ (and_parts (has_kind is_group_kind plan g.0) _ fine).1).1
-act_gives_no_main plan act fine = refl
+-- the block is none that an act may submit
+abbrev Apart : PlanView → ℕ → Type 0
+Apart plan b = (c : Blk) → is_submittable plan c ≡ true → count_by (has_number b) (c ∷ []) ≡ 0
+
+act_gives_no : (plan : PlanView) (b : ℕ) → Apart plan b → (act : Act) → is_act plan act ≡ true → given b (Some act) ≡ 0
+act_gives_no plan b apart (Async q c) fine = apart c (and_parts (is_queue plan q.0) _ fine).1
+act_gives_no plan b apart (Barrier q c) fine = apart c (and_parts (is_queue plan q.0) _ fine).1
+act_gives_no plan b apart (Sync q c) fine = apart c (and_parts (is_queue plan q.0) _ fine).1
+act_gives_no plan b apart (BarrierSync q c) fine = apart c (and_parts (is_queue plan q.0) _ fine).1
+act_gives_no plan b apart (GroupAsync g q c) fine = apart c (and_parts (is_queue plan q.0) _ (and_parts (has_kind is_group_kind plan g.0) _ fine).1).1
+act_gives_no plan b apart (Notify g q c) fine = apart c (and_parts (is_queue plan q.0) _ (and_parts (has_kind is_group_kind plan g.0) _ fine).1).1
+act_gives_no plan b apart act fine = refl
 
 acts_give_none : (b : ℕ) (acts : List Act) → ((k : ℕ) (act : Act) → slice_get acts k ≡ Some act → given b (Some act) ≡ 0) → count_by (has_number b) (blocks_of acts) ≡ 0
 acts_give_none b acts none = count_by-flat_map (has_number b) (λ act. option_to_list (block_of act)) acts ∙ sum_by_none (λ act. given b (Some act)) acts none
 
-block_gives_no_main : (plan : PlanView) → IsPlan plan → (k : ℕ) (blk : BlkView) → slice_get plan.blocks k ≡ Some blk → count_by (has_number 0) (blocks_of blk.acts) ≡ 0
-block_gives_no_main plan valid k blk at =
+block_gives_no : (plan : PlanView) (b : ℕ) → Apart plan b → IsPlan plan → (k : ℕ) (blk : BlkView) → slice_get plan.blocks k ≡ Some blk → count_by (has_number b) (blocks_of blk.acts) ≡ 0
+block_gives_no plan b apart valid k blk at =
     let fine = (and_parts (option_map_or (is_work plan) blk.work true) (list_all (is_act plan) blk.acts) (list_all_place (is_block plan) plan.blocks k blk valid.blocks at)).1 in
-    acts_give_none 0 blk.acts (λ i act here. act_gives_no_main plan act (list_all_place (is_act plan) blk.acts i act fine here))
+    acts_give_none b blk.acts (λ i act here. act_gives_no plan b apart act (list_all_place (is_act plan) blk.acts i act fine here))
 
 -- a cancellation block is not main
-cancel_gives_no_main : (plan : PlanView) (obj : ObjView) (kind : Kind) → has_fields plan kind obj ≡ true → count_by (has_number 0) (option_to_list obj.cancel) ≡ 0
-cancel_gives_no_main plan obj Serial fields =
-    ap (λ o. count_by (has_number 0) (option_to_list o)) (none_is obj.cancel (and_parts (length obj.handler == 0) (is_none obj.cancel) (and_parts (is_queue plan obj.target.0) _ fields).1).1)
-cancel_gives_no_main plan obj Concurrent fields =
-    ap (λ o. count_by (has_number 0) (option_to_list o)) (none_is obj.cancel (and_parts (length obj.handler == 0) (is_none obj.cancel) (and_parts (is_queue plan obj.target.0) _ fields).1).1)
-cancel_gives_no_main plan obj Group fields =
-    ap (λ o. count_by (has_number 0) (option_to_list o)) (none_is obj.cancel (and_parts (length obj.handler == 0) (is_none obj.cancel) (and_parts obj.active _ (and_parts (obj.target.0 == 0) _ fields).1).1).1)
-cancel_gives_no_main plan obj (Semaphore n) fields =
-    ap (λ o. count_by (has_number 0) (option_to_list o)) (none_is obj.cancel (and_parts (length obj.handler == 0) (is_none obj.cancel) (and_parts obj.active _ (and_parts (obj.target.0 == 0) _ fields).1).1).1)
-cancel_gives_no_main plan obj kind fields =
+cancel_gives_no : (plan : PlanView) (b : ℕ) → Apart plan b → (obj : ObjView) (kind : Kind) → has_fields plan kind obj ≡ true → count_by (has_number b) (option_to_list obj.cancel) ≡ 0
+cancel_gives_no plan b apart obj Serial fields =
+    ap (λ o. count_by (has_number b) (option_to_list o)) (none_is obj.cancel (and_parts (length obj.handler == 0) (is_none obj.cancel) (and_parts (is_queue plan obj.target.0) _ fields).1).1)
+cancel_gives_no plan b apart obj Concurrent fields =
+    ap (λ o. count_by (has_number b) (option_to_list o)) (none_is obj.cancel (and_parts (length obj.handler == 0) (is_none obj.cancel) (and_parts (is_queue plan obj.target.0) _ fields).1).1)
+cancel_gives_no plan b apart obj Group fields =
+    ap (λ o. count_by (has_number b) (option_to_list o)) (none_is obj.cancel (and_parts (length obj.handler == 0) (is_none obj.cancel) (and_parts obj.active _ (and_parts (obj.target.0 == 0) _ fields).1).1).1)
+cancel_gives_no plan b apart obj (Semaphore n) fields =
+    ap (λ o. count_by (has_number b) (option_to_list o)) (none_is obj.cancel (and_parts (length obj.handler == 0) (is_none obj.cancel) (and_parts obj.active _ (and_parts (obj.target.0 == 0) _ fields).1).1).1)
+cancel_gives_no plan b apart obj kind fields =
     let fine = (and_parts (list_all (λ a. is_handler_act a && is_act plan a) obj.handler) _ (and_parts (not obj.active) _ (and_parts (is_queue plan obj.target.0) _ fields).1).1).1 in
-    elim obj.cancel as (λ o. option_map_or (is_submittable plan) o true ≡ true → count_by (has_number 0) (option_to_list o) ≡ 0) [
+    elim obj.cancel as (λ o. option_map_or (is_submittable plan) o true ≡ true → count_by (has_number b) (option_to_list o) ≡ 0) [
       | None ↦ λ k. refl
-      | Some c ↦ λ k. not_main plan c k
+      | Some c ↦ λ k. apart c k
     ] fine
 
-object_gives_no_main : (plan : PlanView) → IsPlan plan → (k : ℕ) (obj : ObjView) → slice_get plan.objects k ≡ Some obj → count_by (has_number 0) (blocks_of obj.handler ++ option_to_list obj.cancel) ≡ 0
-object_gives_no_main plan valid k obj at =
+object_gives_no : (plan : PlanView) (b : ℕ) → Apart plan b → IsPlan plan → (k : ℕ) (obj : ObjView) → slice_get plan.objects k ≡ Some obj → count_by (has_number b) (blocks_of obj.handler ++ option_to_list obj.cancel) ≡ 0
+object_gives_no plan b apart valid k obj at =
     let fields = object_fields plan k obj valid at in
-    let one = acts_give_none 0 obj.handler (λ i act here. handler_act_gives_none 0 act (and_parts (is_handler_act act) (is_act plan act) (source_handler plan obj i act obj.kind fields here)).0) in
-    let two = cancel_gives_no_main plan obj obj.kind fields in
-    let split = count_by-append (has_number 0) (blocks_of obj.handler) (option_to_list obj.cancel) in
+    let one = acts_give_none b obj.handler (λ i act here. handler_act_gives_none b act (and_parts (is_handler_act act) (is_act plan act) (source_handler plan obj i act obj.kind fields here)).0) in
+    let two = cancel_gives_no plan b apart obj obj.kind fields in
+    let split = count_by-append (has_number b) (blocks_of obj.handler) (option_to_list obj.cancel) in
     omega arith
 
--- the plan submits main nowhere
-main_nowhere : (plan : PlanView) → IsPlan plan → count_by (has_number 0) (submitted_blocks plan) ≡ 0
-main_nowhere plan valid =
+-- the plan submits the block nowhere
+nowhere : (plan : PlanView) (b : ℕ) → Apart plan b → IsPlan plan → count_by (has_number b) (submitted_blocks plan) ≡ 0
+nowhere plan b apart valid =
     let of_blocks = flat_map (λ blk. blocks_of blk.acts) plan.blocks in
     let of_objects = flat_map (λ obj. blocks_of obj.handler ++ option_to_list obj.cancel) plan.objects in
-    let split : count_by (has_number 0) (submitted_blocks plan) ≡ count_by (has_number 0) of_blocks + count_by (has_number 0) of_objects = count_by-append (has_number 0) of_blocks of_objects in
-    let one : count_by (has_number 0) of_blocks ≡ 0 = count_by-flat_map (has_number 0) (λ blk. blocks_of blk.acts) plan.blocks ∙ sum_by_none (λ blk. count_by (has_number 0) (blocks_of blk.acts)) plan.blocks (block_gives_no_main plan valid) in
-    let two : count_by (has_number 0) of_objects ≡ 0 = count_by-flat_map (has_number 0) (λ obj. blocks_of obj.handler ++ option_to_list obj.cancel) plan.objects ∙ sum_by_none (λ obj. count_by (has_number 0) (blocks_of obj.handler ++ option_to_list obj.cancel)) plan.objects (object_gives_no_main plan valid) in
+    let split : count_by (has_number b) (submitted_blocks plan) ≡ count_by (has_number b) of_blocks + count_by (has_number b) of_objects = count_by-append (has_number b) of_blocks of_objects in
+    let one : count_by (has_number b) of_blocks ≡ 0 = count_by-flat_map (has_number b) (λ blk. blocks_of blk.acts) plan.blocks ∙ sum_by_none (λ blk. count_by (has_number b) (blocks_of blk.acts)) plan.blocks (block_gives_no plan b apart valid) in
+    let two : count_by (has_number b) of_objects ≡ 0 = count_by-flat_map (has_number b) (λ obj. blocks_of obj.handler ++ option_to_list obj.cancel) plan.objects ∙ sum_by_none (λ obj. count_by (has_number b) (blocks_of obj.handler ++ option_to_list obj.cancel)) plan.objects (object_gives_no plan b apart valid) in
     omega arith
+
+main_nowhere : (plan : PlanView) → IsPlan plan → count_by (has_number 0) (submitted_blocks plan) ≡ 0
+main_nowhere plan valid = nowhere plan 0 (λ c fine. not_main plan c fine) valid
+
+-- an act submits what the plan has
+not_beyond : (plan : PlanView) (b : ℕ) → length plan.blocks ≤ b → Apart plan b
+not_beyond plan b high c fine =
+    let low : c.0 < length plan.blocks = ltb-true c.0 (length plan.blocks) (and_parts (ltb 0 c.0) _ fine).1 in
+    ap (λ v. 0 + cond v 1 0) (ne_eqb c.0 b (λ same. omega (arith, low, high, same)))
 
 -- ## Once
 
@@ -401,8 +414,9 @@ kept_within plan (e ∷ past) valid h b =
     let cancels = cancelled_more plan e past b in
     omega arith
 
-pub submitted_once : (plan : PlanView) (past : List Event) → IsPlan plan → IsLawful plan past → (b : ℕ) → count_by (λ s. s.blk.0 == b) (submitted plan past) ≤ 1
-submitted_once plan past valid h b =
+-- a block is submitted or waits as a notify block once at most
+pub kept_once : (plan : PlanView) (past : List Event) → IsPlan plan → IsLawful plan past → (b : ℕ) → count_by (is_of b) (submitted plan past) + waiting plan past b ≤ 1
+kept_once plan past valid h b =
     let kept = kept_within plan past valid h b in
     let all = all_of_plan plan past b in
     ⊎_elim
@@ -415,3 +429,14 @@ submitted_once plan past valid h b =
     let zero : cond {A = ℕ} (0 == b) 1 0 ≡ 0 = ap (λ v. cond v 1 0) (ne_eqb 0 b other) in
     omega arith)
     (cases_eq 0 b)
+
+pub submitted_once : (plan : PlanView) (past : List Event) → IsPlan plan → IsLawful plan past → (b : ℕ) → count_by (λ s. s.blk.0 == b) (submitted plan past) ≤ 1
+submitted_once plan past valid h b = let once = kept_once plan past valid h b in omega (arith, once)
+
+-- what is submitted is main, or is of the plan
+pub submitted_within : (plan : PlanView) (past : List Event) → IsPlan plan → IsLawful plan past → (b : ℕ) → length plan.blocks ≤ b → count_by (is_of b) (submitted plan past) ≤ cond {A = ℕ} (0 == b) 1 0
+submitted_within plan past valid h b high =
+    let kept = kept_within plan past valid h b in
+    let all = all_of_plan plan past b in
+    let none = nowhere plan b (not_beyond plan b high) valid in
+    omega (arith, kept, all, none)

@@ -57,11 +57,17 @@ choice plan past w from = find (permitted plan past) (candidates plan past w fro
 
 -- an event of a worker, and not of the outside
 abbrev pub is_work : Event → Bool
+is_work (Start w b) = true
+is_work (Acted w r i) = true
+is_work (Wake w b) = true
+is_work (End w b) = true
+is_work (Deliver w s) = true
+is_work (DeliverEnd w s) = true
 is_work (Tick t) = false
 is_work (Ready s n) = false
 is_work (FeedEnd s) = false
+is_work (Misuse w r i c) = true
 is_work Halt = false
-is_work e = true
 
 -- the event's worker; those of the outside are worker 0's
 abbrev pub worker_of : Event → ℕ
@@ -71,8 +77,11 @@ worker_of (Wake w b) = w
 worker_of (End w b) = w
 worker_of (Deliver w s) = w
 worker_of (DeliverEnd w s) = w
+worker_of (Tick t) = 0
+worker_of (Ready s n) = 0
+worker_of (FeedEnd s) = 0
 worker_of (Misuse w r i c) = w
-worker_of e = 0
+worker_of Halt = 0
 
 -- not halted, no event of any worker is permitted, no due time is left, and no read source is live
 pub record IsQuiescent (plan : PlanView) (past : List Event) : Type 0 where

@@ -6,7 +6,7 @@ use Rattle.gcd_plan.specs.PlanView.{PlanView, starts_active}
 use Rattle.gcd_plan.specs.declared.numbers.Run.{Run}
 use Rattle.gcd_plan.specs.declared.numbers.Run.TheVariants.{Block, Source}
 use Rattle.gcd_event.specs.declared.event.Event.{Event}
-use Rattle.gcd_event.specs.declared.event.Event.TheVariants.{Start, Act as Acted, Wake, End, Deliver, DeliverEnd, Misuse}
+use Rattle.gcd_event.specs.declared.event.Event.TheVariants.{Start, Act as Acted, Wake, End, Deliver, DeliverEnd, Tick, Ready, FeedEnd, Misuse, Halt}
 use Rattle.gcd_event.specs.Fits.{IsFitting}
 use Rattle.gcd_history.specs.Runs.{same_run}
 use Rattle.gcd_history.specs.Choice.{worker_of}
@@ -21,11 +21,17 @@ HasOneRun plan h = (w : ℕ) (r q : Run) → IsTrue (has_run plan h w r) → IsT
 
 -- the event is the run's own: an act of it, a misuse or its end
 abbrev pub is_of_run : Run → Event → Bool
+is_of_run run (Start w b) = false
 is_of_run run (Acted w r i) = same_run r run
-is_of_run run (Misuse w r i c) = same_run r run
+is_of_run run (Wake w b) = false
 is_of_run run (End w b) = same_run (Block b) run
+is_of_run run (Deliver w s) = false
 is_of_run run (DeliverEnd w s) = same_run (Source s) run
-is_of_run run _ = false
+is_of_run run (Tick t) = false
+is_of_run run (Ready s n) = false
+is_of_run run (FeedEnd s) = false
+is_of_run run (Misuse w r i c) = same_run r run
+is_of_run run Halt = false
 
 -- an event of the run's own is permitted, by the worker who has the run
 pub record MayGoOn (plan : PlanView) (h : List Event) (run : Run) : Type 0 where
@@ -50,8 +56,11 @@ by_worker w (Wake v b) = Wake w b
 by_worker w (End v b) = End w b
 by_worker w (Deliver v s) = Deliver w s
 by_worker w (DeliverEnd v s) = DeliverEnd w s
+by_worker w (Tick t) = Tick t
+by_worker w (Ready s n) = Ready s n
+by_worker w (FeedEnd s) = FeedEnd s
 by_worker w (Misuse v r i c) = Misuse w r i c
-by_worker w e = e
+by_worker w Halt = Halt
 
 -- what is permitted to one free worker is permitted to every other
 abbrev pub FreeWorkersAreAlike : PlanView → List Event → Type 0

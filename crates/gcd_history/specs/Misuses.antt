@@ -70,18 +70,32 @@ is_below_first plan past s = has_kind is_semaphore_kind plan s && nat_lt (signal
 -- semaphore below its first value (dispatch_resume(3), dispatch_group_leave(3), dispatch_set_target_queue(3),
 -- dispatch_object(3), dispatch_semaphore_create(3); 4 and 5 are this project's own rule)
 abbrev pub act_misuses : PlanView → List Event → Act → List (ℕ × Bool)
-act_misuses plan past (Resume o) = (1, is_over_resumed plan past o.0) ∷ []
+act_misuses plan past (Async q b) = []
+act_misuses plan past (Barrier q b) = []
+act_misuses plan past (Sync q b) = []
+act_misuses plan past (BarrierSync q b) = []
+act_misuses plan past (GroupAsync g q b) = []
+act_misuses plan past (Notify g q b) = []
+act_misuses plan past (Enter g) = []
 act_misuses plan past (Leave g) = (2, entered plan past g.0 == 0) ∷ []
+act_misuses plan past (GroupWait g) = []
+act_misuses plan past (Signal s) = []
+act_misuses plan past (Wait s) = []
+act_misuses plan past (Suspend o) = []
+act_misuses plan past (Resume o) = (1, is_over_resumed plan past o.0) ∷ []
+act_misuses plan past (Activate o) = []
 act_misuses plan past (Target o t) =
     (3, would_cycle plan past o.0 t.0)
     ∷ (4, not (starts_active plan o.0) && is_active plan past o.0)
     ∷ (5, starts_active plan o.0 && has_child plan past o.0)
     ∷ []
+act_misuses plan past (Merge s n) = []
+act_misuses plan past (Cancel s) = []
+act_misuses plan past (Retain o) = []
 act_misuses plan past (Release o) =
     (7, refs plan past o.0 == 1 && is_held_node plan past o.0)
     ∷ (8, refs plan past o.0 == 1 && is_below_first plan past o.0)
     ∷ []
-act_misuses plan past _ = []
 
 -- the first code whose test is true
 abbrev pub first_code : List (ℕ × Bool) → Option ℕ

@@ -1,5 +1,5 @@
 -- Which event may come next, and the first reason why not.
-use Rattle.std.specs.Prelude.{◌≡◌, ⊤, ℕ, ◌==◌, nat_lt, nat_le, Bool, true, false, not, ◌&&◌, List, [], ◌∷◌, length, Option, Some, None, is_none, is_some, option_and_then, find, if◌then◌else◌}
+use Rattle.std.specs.Prelude.{◌≡◌, ⊤, ℕ, ◌==◌, nat_lt, nat_le, Bool, true, false, not, ◌&&◌, ◌||◌, List, [], ◌∷◌, length, Option, Some, None, is_none, is_some, option_and_then, find, if◌then◌else◌}
 use Rattle.std.specs.Option.{option_map_or}
 use Rattle.std.specs.List.{list_any}
 use Rattle.gcd_plan.specs.PlanView.{PlanView}
@@ -21,24 +21,47 @@ use Rattle.gcd_history.specs.Timers.{may_tick}
 use Rattle.gcd_history.specs.Sources.{is_pending, is_live_feed}
 use Rattle.gcd_history.specs.Misuses.{misuse}
 
+-- the event is a misuse
+abbrev pub is_misuse : Event → Bool
+is_misuse (Start w b) = false
+is_misuse (Acted w r i) = false
+is_misuse (Wake w b) = false
+is_misuse (End w b) = false
+is_misuse (Deliver w s) = false
+is_misuse (DeliverEnd w s) = false
+is_misuse (Tick t) = false
+is_misuse (Ready s n) = false
+is_misuse (FeedEnd s) = false
+is_misuse (Misuse w r i c) = true
+is_misuse Halt = false
+
+-- the event is a halt
+abbrev pub is_halt : Event → Bool
+is_halt (Start w b) = false
+is_halt (Acted w r i) = false
+is_halt (Wake w b) = false
+is_halt (End w b) = false
+is_halt (Deliver w s) = false
+is_halt (DeliverEnd w s) = false
+is_halt (Tick t) = false
+is_halt (Ready s n) = false
+is_halt (FeedEnd s) = false
+is_halt (Misuse w r i c) = false
+is_halt Halt = true
+
 -- the last event is Misuse
 abbrev pub ends_in_misuse : List Event → Bool
 ends_in_misuse [] = false
-ends_in_misuse (Misuse w r i c ∷ past) = true
-ends_in_misuse (e ∷ past) = false
+ends_in_misuse (e ∷ past) = is_misuse e
 
 -- the last event is Halt
 abbrev pub ends_in_halt : List Event → Bool
 ends_in_halt [] = false
-ends_in_halt (Halt ∷ past) = true
-ends_in_halt (e ∷ past) = false
+ends_in_halt (e ∷ past) = is_halt e
 
 -- the last event is Misuse or Halt (this project's own rule)
 abbrev pub is_halted : List Event → Bool
-is_halted [] = false
-is_halted (Misuse w r i c ∷ past) = true
-is_halted (Halt ∷ past) = true
-is_halted (e ∷ past) = false
+is_halted past = ends_in_misuse past || ends_in_halt past
 
 -- a worker's number
 abbrev pub is_worker : ℕ → Bool

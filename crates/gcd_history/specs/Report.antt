@@ -64,10 +64,13 @@ unstarted_line plan h b =
 
 -- where the run is stuck: the parked blocks, and then the blocks that have not started, by number
 abbrev pub stuck_lines : PlanView → State → List Event → List ℕ
+stuck_lines plan Drained h = []
 stuck_lines plan Stuck h =
     flat_map (wait_line plan h) (range_with_len 0 (length plan.blocks))
     ++ flat_map (unstarted_line plan h) (range_with_len 0 (length plan.blocks))
-stuck_lines plan _ h = []
+stuck_lines plan Misused h = []
+stuck_lines plan Halted h = []
+stuck_lines plan Live h = []
 
 -- `misuse R I Mk`, for a Misuse: the run's name, the act's index and the code
 abbrev pub misuse_line : PlanView → Event → List ℕ
