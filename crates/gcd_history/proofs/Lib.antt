@@ -31,6 +31,8 @@ pub mod TargetActs
 pub mod TreeStands
 pub mod MovesAlone
 pub mod RunsAlone
+pub mod OpenOnce
+pub mod WordsBegin
 pub mod Choices
 pub mod Quiet
 pub mod OneState

@@ -10,7 +10,9 @@ use Rattle.gcd_event.specs.declared.event.Event.{Event}
 use Rattle.gcd_event.specs.declared.event.Event.TheVariants.{Start, Act as Acted, Wake, End, Deliver, DeliverEnd}
 use Rattle.gcd_history.specs.Runs.{same_run, open_runs, is_open, act_at, last_worker}
 use Rattle.gcd_history.specs.Parked.{reason_by, parked_by, has_run, is_busy}
-use Rattle.gcd_history.specs.Permitted.{IsLawful}
+use Rattle.gcd_history.specs.Permitted.{IsLawful, why}
+use Rattle.gcd_history.specs.Choice.{worker_of}
+use Rattle.gcd_history.specs.Facts.{gives_run}
 use Rattle.gcd_history.proofs.RunsOpen.{same_run-true}
 use Rattle.gcd_history.proofs.Reasons.{at_start, at_act, at_wake, at_deliver}
 use Rattle.gcd_history.proofs.OpenNodes.{open_cases, any_open}
@@ -49,6 +51,13 @@ took plan (Start v b) past h w r now = subst (λ u. is_busy plan past u ≡ fals
 took plan (Wake v b) past h w r now = subst (λ u. is_busy plan past u ≡ false) (eqb-true v w (and_parts (v == w) _ now).0) (at_wake plan past v b h.1).idle
 took plan (Deliver v s) past h w r now = subst (λ u. is_busy plan past u ≡ false) (eqb-true v w (and_parts (v == w) _ now).0) (at_deliver plan past v s h.1).idle
 took plan e past h w r now = cc
+
+-- an event that gives its worker a run finds the worker idle
+pub gives_to_idle : (plan : PlanView) (past : List Event) (e : Event) → why plan past e ≡ None → gives_run e ≡ true → is_busy plan past (worker_of e) ≡ false
+gives_to_idle plan past (Start v b) may gives = (at_start plan past v b may).idle
+gives_to_idle plan past (Wake v b) may gives = (at_wake plan past v b may).idle
+gives_to_idle plan past (Deliver v s) may gives = (at_deliver plan past v s may).idle
+gives_to_idle plan past e may gives = cc
 
 -- an event takes one run
 takes_one : (e : Event) (w : ℕ) (r q : Run) → takes w e r ≡ true → takes w e q ≡ true → r ≡ q

@@ -22,7 +22,7 @@ use Rattle.gcd_history.specs.Permitted.{IsLawful as IsLawfulAfter, is_halted as 
 use Rattle.gcd_history.specs.Choice.{choice, all_ended as all_ended_after}
 use Rattle.gcd_history.specs.History.{why, IsLawful, is_started, is_submitted, submitted_of, is_free, chain_of_run as outer_chain, reason_of, has_come, group_wait_passes, semaphore_wait_passes, received_of, pending_of, merged_of, is_open, is_active, chain_of, node_of_run, is_barrier_on, choice_of, running_of, next_due_of, is_live_feed}
 use Rattle.gcd_history.specs.Ends.{IsDrained, all_ended, IsQuiescent, IsHalted, is_halted}
-use Rattle.gcd_history.specs.Laws.{RunsOnce, StartsAfterSubmission, AllEndOnce, IsSubmittedOnce, StartsInOrder, BeginsFree, WakesHaveCause, NoneParked, WaitsHavePassed, GroupWaitsPass, SemaphoreWaitsPass, IsConserved, RunsExclude, BarriersExclude, TreeStands, IsChoiceOf, HasNoChoice, IsAtRest}
+use Rattle.gcd_history.specs.Laws.{RunsOnce, StartsAfterSubmission, AllEndOnce, IsSubmittedOnce, StartsInOrder, BeginsFree, WakesHaveCause, NoneParked, WaitsHavePassed, GroupWaitsPass, SemaphoreWaitsPass, IsConserved, RunsExclude, BarriersExclude, DeliversAlone, TreeStands, IsChoiceOf, HasNoChoice, IsAtRest}
 use Rattle.gcd_history.proofs.Lists.{count_by-reverse, some_counted, found_passes, past_more}
 use Rattle.gcd_history.proofs.Options.{some_kept}
 use Rattle.gcd_history.proofs.LawfulLemmas.{lawful_after, lawful_take}
@@ -34,6 +34,7 @@ use Rattle.gcd_history.proofs.FreeAtStart.{start_begins_alone, deliver_begins_al
 use Rattle.gcd_history.proofs.Woken.{came, none_parked}
 use Rattle.gcd_history.proofs.WaitsPass.{passed, group_wait_passed, semaphore_wait_passed}
 use Rattle.gcd_history.proofs.Merged.{conserved}
+use Rattle.gcd_history.proofs.OpenOnce.{shut_at_deliver}
 use Rattle.gcd_history.proofs.RunsAlone.{runs_alone, barriers_alone}
 use Rattle.gcd_history.proofs.TreeStands.{stands, chain_step}
 use Rattle.gcd_history.proofs.Walks.{reaches-in}
@@ -146,13 +147,18 @@ is_conserved plan h s = conserved plan (reverse h) s
 
 pub runs_exclude : (plan : PlanView) (h : List Event) → IsPlan plan → IsLawful plan h → RunsExclude plan h
 unfolding is_open outer_chain
-runs_exclude plan h valid lawful i o r q exclusive r_on q_on r_in q_in =
-    runs_alone plan (reverse (take i h)) valid (lawful_after plan (take i h) (lawful_take plan h i lawful)) o r q exclusive r_on q_on r_in q_in
+runs_exclude plan h valid lawful i o r q exclusive on r_in q_in =
+    runs_alone plan (reverse (take i h)) valid (lawful_after plan (take i h) (lawful_take plan h i lawful)) o r q exclusive on.one on.other r_in q_in
 
 pub barriers_exclude : (plan : PlanView) (h : List Event) → IsLawful plan h → BarriersExclude plan h
 unfolding is_open is_barrier_on node_of_run
-barriers_exclude plan h lawful i n r q has r_on q_on barrier node =
-    barriers_alone plan (reverse (take i h)) (lawful_after plan (take i h) (lawful_take plan h i lawful)) n r q has r_on q_on barrier node
+barriers_exclude plan h lawful i n r q has on barrier node =
+    barriers_alone plan (reverse (take i h)) (lawful_after plan (take i h) (lawful_take plan h i lawful)) n r q has on.one on.other barrier node
+
+pub delivers_alone : (plan : PlanView) (h : List Event) → IsLawful plan h → DeliversAlone h
+unfolding IsLawful why is_open
+delivers_alone plan h lawful i w s at =
+    shut_at_deliver plan (reverse (take i h)) w s (lawful_after plan (take i h) (lawful_take plan h i lawful), lawful i (Deliver w s) at)
 
 -- where place i has no event, one event more is none more
 no_more : (h : List Event) (i : ℕ) → length h ≤ i → take (i + 1) h ≡ take i h

@@ -1,13 +1,13 @@
 -- Free workers are alike, a run that is open and unparked goes on, and so when nothing more can come: no run is open and
 -- unparked, and worker 0 has no choice.
-use Rattle.std.proofs.Common.{◌≡◌, ⊎_elim, ℕ, ◌+◌, ◌<◌, ◌≤◌, Bool, true, false, not, ◌&&◌, cond, ◌==◌, ltb, leb, List, [], ◌∷◌, length, get_or, Some, None, is_some, is_none, option_and_then, refl, ap, sym, ◌∙◌, subst, arith}
-use Rattle.std.specs.List.{list_any, list_all, sum_by, slice_get}
+use Rattle.std.proofs.Common.{◌≡◌, ◌⊎◌, inl, inr, ⊎_elim, ℕ, ◌+◌, ◌<◌, ◌≤◌, Bool, true, false, not, ◌&&◌, cond, ◌==◌, ltb, leb, List, [], ◌∷◌, length, get_or, Some, None, is_some, is_none, option_and_then, refl, ap, sym, ◌∙◌, subst, arith}
+use Rattle.std.specs.List.{list_any, list_all, sum_by, slice_get, range_with_len}
 use Rattle.std.specs.Option.{option_map_or}
-use Rattle.std.proofs.lemmas.Bool.{eqb-true, eq-eqb, and_parts, and_from, and_right, both_ways, le-leb, cases_Bool}
+use Rattle.std.proofs.lemmas.Bool.{eqb-true, eq-eqb, and_parts, and_from, and_right, both_ways, le-leb, cases_Bool, not-true, false_from_ne_true}
 use Rattle.std.proofs.lemmas.Option.{same_Some, none-some, slice_get_within, get_or_from_slice_get}
 use Rattle.std.proofs.lemmas.List.Sums.{get_or-le-sum_by}
 use Rattle.gcd_plan.specs.PlanView.{PlanView}
-use Rattle.gcd_plan.specs.Kinds.{is_source}
+use Rattle.gcd_plan.specs.Kinds.{is_source, has_kind, is_read_kind}
 use Rattle.gcd_plan.specs.StartRule.{first_of, run_reasons}
 use Rattle.gcd_plan.specs.Validity.{IsPlan}
 use Rattle.gcd_plan.specs.declared.act.Act.{Act}
@@ -30,7 +30,8 @@ use Rattle.gcd_history.specs.Misuses.{first_code, act_misuses, is_released, name
 use Rattle.gcd_history.specs.Permitted.{why, permitted, IsLawful, is_halted, is_known, is_worker, has_block, is_run_of, is_ready, knowledge, node_reasons, is_next, has_act_left, misuse_at, reasons}
 use Rattle.gcd_history.specs.Choice.{choice, is_work, worker_of, IsQuiescent}
 use Rattle.gcd_history.specs.Facts.{is_of_run, by_worker}
-use Rattle.gcd_history.proofs.Lists.{some_counted, none_counted}
+use Rattle.gcd_history.proofs.Lists.{some_counted, none_counted, any_in_range, list_any_same, none_passes}
+use Rattle.gcd_history.proofs.Fitting.{has_object}
 use Rattle.gcd_history.proofs.Options.{none_is}
 use Rattle.gcd_history.proofs.RunsOpen.{same_run-refl}
 use Rattle.gcd_history.proofs.Reasons.{first_none, allowed, at_act, at_end, at_deliver_end, at_misuse, at_tick, at_ready, at_feed_end}
@@ -365,6 +366,48 @@ rest_from_quiescent plan past valid lawful quiet = record {
   no_time = quiet.no_time;
   no_feed = quiet.no_feed;
 }
+
+-- nothing goes on, as a test: of the sources those of the plan are looked at
+abbrev rests : PlanView → List Event → Bool
+rests plan past =
+    running plan past == 0
+    && (is_none (choice plan past 0 0)
+    && (is_none (next_due plan past)
+    && not (list_any (is_live_feed plan past) (range_with_len 0 (length plan.objects)))))
+
+none_live : (plan : PlanView) (past : List Event) → list_any (is_live_feed plan past) (range_with_len 0 (length plan.objects)) ≡ false → (s : ℕ) → is_live_feed plan past s ≡ false
+unfolding is_live_feed
+none_live plan past none s = false_from_ne_true (is_live_feed plan past s) (λ live.
+    let low = has_object is_read_kind plan s (and_parts (has_kind is_read_kind plan s) _ live).0 in
+    both_ways (list_any (is_live_feed plan past) (range_with_len 0 (length plan.objects))) none (any_in_range (is_live_feed plan past) (length plan.objects) s low live))
+
+rest_from_test : (plan : PlanView) (past : List Event) → is_halted past ≡ false → rests plan past ≡ true → AtRest plan past
+rest_from_test plan past on test =
+    let one = and_parts (running plan past == 0) _ test in
+    let two = and_parts (is_none (choice plan past 0 0)) _ one.1 in
+    let three = and_parts (is_none (next_due plan past)) _ two.1 in
+    record {
+      goes_on = on;
+      idle = eqb-true (running plan past) 0 one.0;
+      no_choice = none_is (choice plan past 0 0) two.0;
+      no_time = none_is (next_due plan past) three.0;
+      no_feed = λ s. none_live plan past (not-true (list_any (is_live_feed plan past) (range_with_len 0 (length plan.objects))) three.1) s;
+    }
+
+test_from_rest : (plan : PlanView) (past : List Event) → AtRest plan past → rests plan past ≡ true
+test_from_rest plan past rest =
+    and_from (running plan past == 0) _ (eq-eqb (running plan past) 0 rest.idle)
+    (and_from (is_none (choice plan past 0 0)) _ (ap is_none rest.no_choice)
+    (and_from (is_none (next_due plan past)) _ (ap is_none rest.no_time)
+    (ap not (list_any_same (is_live_feed plan past) (λ s. false) (range_with_len 0 (length plan.objects)) rest.no_feed ∙ none_passes (range_with_len 0 (length plan.objects))))))
+
+-- a lawful history of a valid plan that is not halted is quiescent, or it is not
+pub quiet_or_not : (plan : PlanView) (past : List Event) → IsPlan plan → IsLawful plan past → is_halted past ≡ false → IsQuiescent plan past ⊎ (IsQuiescent plan past → ⊥)
+quiet_or_not plan past valid lawful on =
+    ⊎_elim
+    (λ test. inl (quiescent_from_rest plan past valid lawful (rest_from_test plan past on test)))
+    (λ none. inr (λ quiet. both_ways (rests plan past) none (test_from_rest plan past (rest_from_quiescent plan past valid lawful quiet))))
+    (cases_Bool (rests plan past))
 
 -- ## After the end
 

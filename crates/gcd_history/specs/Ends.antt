@@ -50,7 +50,7 @@ pub record IsFull (plan : PlanView) (h : List Event) : Type 0 where
   pub whole : length h ≡ 65535
   pub going_on : IsGoingOn plan h
 
--- how far the history has come
+-- how far the history has come; it is Live from its beginning on, so that a run is over where it is full is said by IsFull
 abbrev pub HasState : PlanView → List Event → State → Type 0
 HasState plan h Drained = IsDrained plan h
 HasState plan h Stuck = IsStuck plan h

@@ -1,6 +1,6 @@
 -- What else holds of every lawful history, for those who keep or record one. What is said of a history holds at each of its
 -- positions, since a front of a lawful history is lawful (this project's own rules).
-use Rattle.std.specs.Prelude.{◌≡◌, ◌<◌, ◌++◌, ℕ, ◌==◌, Bool, false, List, [], ◌∷◌, Some, None, slice_get, IsTrue}
+use Rattle.std.specs.Prelude.{◌≡◌, ◌<◌, ◌≤◌, ◌++◌, ℕ, ◌==◌, Bool, true, false, List, [], ◌∷◌, take, Some, None, slice_get, count_by, IsTrue}
 use Rattle.std.specs.List.{list_any}
 use Rattle.gcd_plan.specs.PlanView.{PlanView, starts_active}
 use Rattle.gcd_plan.specs.declared.numbers.Run.{Run}
@@ -10,7 +10,7 @@ use Rattle.gcd_event.specs.declared.event.Event.TheVariants.{Start, Act as Acted
 use Rattle.gcd_event.specs.Fits.{IsFitting}
 use Rattle.gcd_history.specs.Runs.{same_run}
 use Rattle.gcd_history.specs.Choice.{worker_of}
-use Rattle.gcd_history.specs.History.{why, has_run, is_running, request_of, target_of, open_beneath_of}
+use Rattle.gcd_history.specs.History.{why, open_runs_of, has_run, is_running, request_of, target_of, open_beneath_of}
 use Rattle.gcd_history.specs.Laws.{MayWake}
 
 -- ## Workers and their runs
@@ -18,6 +18,10 @@ use Rattle.gcd_history.specs.Laws.{MayWake}
 -- the runs that a worker has, open and not parked, are one run
 abbrev pub HasOneRun : PlanView → List Event → Type 0
 HasOneRun plan h = (w : ℕ) (r q : Run) → IsTrue (has_run plan h w r) → IsTrue (has_run plan h w q) → r ≡ q
+
+-- each run stands at most once among the open runs
+abbrev pub OpenOnce : List Event → Type 0
+OpenOnce h = (run : Run) → count_by (same_run run) (open_runs_of h) ≤ 1
 
 -- the event is the run's own: an act of it, a misuse or its end
 abbrev pub is_of_run : Run → Event → Bool
@@ -47,6 +51,25 @@ RunsGoOn plan h = (run : Run) → IsTrue (is_running plan h run) → MayGoOn pla
 -- worker w is free: it has no open and unparked run
 abbrev pub IsFreeWorker : PlanView → List Event → ℕ → Type 0
 IsFreeWorker plan h w = (run : Run) → has_run plan h w run ≡ false
+
+-- the event gives its worker a run
+abbrev pub gives_run : Event → Bool
+gives_run (Start w b) = true
+gives_run (Acted w r i) = false
+gives_run (Wake w b) = true
+gives_run (End w b) = false
+gives_run (Deliver w s) = true
+gives_run (DeliverEnd w s) = false
+gives_run (Tick t) = false
+gives_run (Ready s n) = false
+gives_run (FeedEnd s) = false
+gives_run (Misuse w r i c) = false
+gives_run Halt = false
+
+-- each event that gives its worker a run finds the worker free
+abbrev pub GivesToFree : PlanView → List Event → Type 0
+GivesToFree plan h =
+    (i : ℕ) (e : Event) → slice_get h i ≡ Some e → IsTrue (gives_run e) → IsFreeWorker plan (take i h) (worker_of e)
 
 -- the same event, by worker w
 abbrev pub by_worker : ℕ → Event → Event
