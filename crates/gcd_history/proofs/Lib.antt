@@ -10,6 +10,7 @@ mod RowsObjects
 mod RowsGroups
 mod RowsSources
 mod RowsForged
+mod RowsReasons
 mod RowsValues
 mod RowsOfLaws
 pub mod RunsOpen

@@ -278,6 +278,19 @@ tree_moved : (map (λ i. target_of moved (take i (journal moved)) 2) (9 ∷ 10 �
 unfolding words words_of_history
 tree_moved = (refl, refl, refl)
 
+-- ## 9 A Deliver finds no run of its source open
+
+-- the plan and the history are those of 7: events 6 and 11 are the Delivers of s, whose handler is open between them
+delivers_premise : (map (slice_get delivered_twice) (6 ∷ 11 ∷ []) ≡ Some (Deliver 0 (o 1)) ∷ Some (Deliver 0 (o 1)) ∷ [])
+    × (map (λ i. is_open (take i delivered_twice) (handler 1)) (6 ∷ 7 ∷ 10 ∷ 11 ∷ []) ≡ false ∷ true ∷ true ∷ false ∷ [])
+unfolding words words_of_history
+delivers_premise = (refl, refl)
+
+-- while it is open no other worker delivers what b1 merged
+delivers_refused : why (merged_twice Add) (take 9 delivered_twice) (Deliver 2 (o 1)) ≡ Some Excluded
+unfolding words words_of_history
+delivers_refused = refl
+
 -- ## The facts beside the laws
 
 -- main is open, worker 1 has started w and waits for g, which is empty for a moment at event 5
