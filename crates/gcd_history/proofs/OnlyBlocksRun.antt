@@ -5,7 +5,7 @@ use Rattle.std.specs.Option.{option_map_or, is_some}
 use Rattle.std.proofs.lemmas.Bool.{and_parts, ltb-true, leb-true, not-true, not-false, both_ways, eqb-true}
 use Rattle.gcd_plan.specs.PlanView.{PlanView}
 use Rattle.gcd_plan.specs.Kinds.{has_kind, is_source}
-use Rattle.gcd_plan.specs.FirstForms.{is_serial_kind}
+use Rattle.gcd_forms.specs.FirstForms.{is_serial_kind}
 use Rattle.gcd_plan.specs.StartRule.{first_of}
 use Rattle.gcd_plan.specs.Validity.{is_submittable}
 use Rattle.gcd_plan.specs.declared.act.Act.{Act}

@@ -8,7 +8,7 @@ use Rattle.std.proofs.lemmas.List.{nil_from_length}
 use Rattle.gcd_plan.specs.PlanView.{PlanView, ObjView, kind_of, first_target, starts_active, cancel_block, acts_of}
 use Rattle.gcd_plan.specs.Kinds.{has_kind, is_queue}
 use Rattle.gcd_plan.specs.Validity.{IsPlan, root_view, is_object, is_block, is_act, has_fields, has_path, is_kind, is_submittable}
-use Rattle.gcd_plan.specs.FirstForms.{IsOfFirstForms, is_plain_queue, is_serial_kind, is_first_act, is_first_block, after_root, is_first_work}
+use Rattle.gcd_forms.specs.FirstForms.{IsOfFirstForms, is_plain_queue, is_serial_kind, is_first_act, is_first_block, after_root, is_first_work}
 use Rattle.gcd_plan.specs.declared.act.Act.{Act}
 use Rattle.gcd_plan.specs.declared.act.Act.TheVariants.{Async}
 use Rattle.gcd_plan.specs.declared.kind.Kind.{Kind}

@@ -5,7 +5,7 @@ use Rattle.std.specs.Option.{option_map, option_map_or, option_and_then, is_some
 use Rattle.std.proofs.lemmas.Bool.{and_parts, and_from, not-true, not-false, cases_eq}
 use Rattle.std.proofs.lemmas.Option.{slice_get-map}
 use Rattle.gcd_plan.specs.Kinds.{is_source, has_kind}
-use Rattle.gcd_plan.specs.FirstForms.{is_serial_kind}
+use Rattle.gcd_forms.specs.FirstForms.{is_serial_kind}
 use Rattle.gcd_lists.specs.ListsView.{list_at}
 use Rattle.gcd_plan.specs.StartRule.{first_of, is_held, is_excluded}
 use Rattle.gcd_plan.specs.declared.numbers.Blk.{Blk}

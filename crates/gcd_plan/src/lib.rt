@@ -24,7 +24,9 @@ mod act;
 mod copy;
 mod kind;
 mod kinds_valid;
+mod limits;
 mod limits_valid;
+mod misuse_code;
 mod names_once;
 mod names_valid;
 mod numbers;
@@ -40,6 +42,11 @@ mod work;
 
 pub use act::Act;
 pub use kind::Kind;
+pub use limits::{
+    MAX_ACTS, MAX_BLOCKS, MAX_EVENTS, MAX_FILE_BYTES, MAX_FILES, MAX_NAME_BYTES, MAX_OBJECTS, MAX_PATH_BYTES,
+    MAX_SCRIPT_BYTES, MAX_TIME, MAX_VALUE, MAX_WORKERS,
+};
+pub use misuse_code::MisuseCode;
 pub use names_valid::{is_name, is_path};
 pub use numbers::{Blk, Obj, Run};
 pub use once_valid::block_of;

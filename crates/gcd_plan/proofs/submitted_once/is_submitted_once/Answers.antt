@@ -7,7 +7,7 @@ pub object_submissions-requires : goal.object_submissions-requires
 object_submissions-requires c =
     let more = sum_by_one_more (λ o. length o.handler.items) c.args.parts.now.objects.items in
     let seen = acts_seen c.args.parts.now in
-    rw c.deref-2.ensures.value (omega (arith, more, seen, c.requires.acts, c.requires.objects))
+    rw c.deref-2.ensures.value (omega (arith, more, seen, c.requires))
 
 pub returns : goal.returns
 returns c =
