@@ -3,6 +3,7 @@ use Rattle.std.proofs.Common.{◌≡◌, ℕ, true, false, List, [], ◌∷◌, 
 use Rattle.std.specs.Option.{option_map_or}
 use Rattle.std.proofs.lemmas.Bool.{and_parts, lt-ltb, false_from_ne_true}
 use Rattle.std.proofs.lemmas.List.{reverse-append}
+use Rattle.gcd_plan.specs.Limits.{max_workers}
 use Rattle.gcd_plan.specs.PlanView.{PlanView}
 use Rattle.gcd_plan.specs.Validity.{IsPlan}
 use Rattle.gcd_plan.specs.declared.numbers.Blk.{Blk}
@@ -50,7 +51,7 @@ runs_go_on plan h valid lawful on run running =
 
 pub free_alike : (plan : PlanView) (h : List Event) → FreeWorkersAreAlike plan h
 unfolding has_run why
-free_alike plan h e w none free fits may = alike plan (reverse h) e w (lt-ltb w 64 fits) none free may
+free_alike plan h e w none free fits may = alike plan (reverse h) e w (lt-ltb w max_workers fits) none free may
 
 pub all_workers_free : (plan : PlanView) (h : List Event) (w : ℕ) → running_of plan h ≡ 0 → IsFreeWorker plan h w
 unfolding has_run running_of
@@ -73,7 +74,7 @@ unfolding is_halted reason_of has_come has_run why is_parked may_wake
 wakes_permitted plan h lawful on b w may free fits =
     let past = reverse h in
     let blk : Blk = record { 0 = b } in
-    wake_permitted plan past blk w (lawful_after plan h lawful) on (lt-ltb w 64 fits) free
+    wake_permitted plan past blk w (lawful_after plan h lawful) on (lt-ltb w max_workers fits) free
     (parked_facts plan past blk may.reason may.parked).live
     (ap is_some may.parked)
     (ap (λ o. option_map_or (has_come_after plan past) o false) may.parked ∙ may.come)

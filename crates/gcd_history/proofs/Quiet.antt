@@ -1,13 +1,16 @@
 -- Free workers are alike, a run that is open and unparked goes on, and so when nothing more can come: no run is open and
 -- unparked, and worker 0 has no choice.
-use Rattle.std.proofs.Common.{◌≡◌, ◌⊎◌, inl, inr, ⊎_elim, ℕ, ◌+◌, ◌<◌, ◌≤◌, Bool, true, false, not, ◌&&◌, cond, ◌==◌, ltb, leb, List, [], ◌∷◌, length, get_or, Some, None, is_some, is_none, option_and_then, refl, ap, sym, ◌∙◌, subst, arith}
+use Rattle.std.proofs.Common.{◌≡◌, ◌⊎◌, inl, inr, ⊎_elim, ℕ, ◌+◌, ◌-◌, ◌<◌, ◌≤◌, Bool, true, false, not, ◌&&◌, cond, ◌==◌, ltb, leb, List, [], ◌∷◌, length, get_or, Some, None, is_some, is_none, option_and_then, refl, ap, sym, ◌∙◌, subst, arith}
 use Rattle.std.specs.List.{list_any, list_all, sum_by, slice_get, range_with_len}
 use Rattle.std.specs.Option.{option_map_or}
 use Rattle.std.proofs.lemmas.Bool.{eqb-true, eq-eqb, and_parts, and_from, and_right, both_ways, le-leb, cases_Bool, not-true, false_from_ne_true}
 use Rattle.std.proofs.lemmas.Option.{same_Some, none-some, slice_get_within, get_or_from_slice_get}
 use Rattle.std.proofs.lemmas.List.Sums.{get_or-le-sum_by}
+use Rattle.gcd_plan.specs.Limits.{max_acts}
 use Rattle.gcd_plan.specs.PlanView.{PlanView}
 use Rattle.gcd_plan.specs.Kinds.{is_source, has_kind, is_read_kind}
+use Rattle.gcd_plan.specs.MisuseCodes.{code_of}
+use Rattle.gcd_plan.specs.declared.misuse_code.MisuseCode.TheVariants.{UseAfterRelease}
 use Rattle.gcd_plan.specs.StartRule.{first_of, run_reasons}
 use Rattle.gcd_plan.specs.Validity.{IsPlan}
 use Rattle.gcd_plan.specs.declared.act.Act.{Act}
@@ -27,7 +30,7 @@ use Rattle.gcd_history.specs.Parked.{parked_by, running, has_run, is_busy, is_pa
 use Rattle.gcd_history.specs.Timers.{now, next_due, may_tick}
 use Rattle.gcd_history.specs.Sources.{is_pending, is_live_feed}
 use Rattle.gcd_history.specs.Misuses.{first_code, act_misuses, is_released, named, misuse}
-use Rattle.gcd_history.specs.Permitted.{why, permitted, IsLawful, is_halted, is_known, is_worker, has_block, is_run_of, is_ready, knowledge, node_reasons, is_next, has_act_left, misuse_at, reasons}
+use Rattle.gcd_history.specs.Permitted.{why, permitted, IsLawful, is_halted, is_known, is_worker, is_index, is_code, has_block, is_run_of, is_ready, knowledge, node_reasons, is_next, has_act_left, misuse_at, reasons}
 use Rattle.gcd_history.specs.Choice.{choice, is_work, worker_of, IsQuiescent}
 use Rattle.gcd_history.specs.Facts.{is_of_run, by_worker}
 use Rattle.gcd_history.proofs.Lists.{some_counted, none_counted, any_in_range, list_any_same, none_passes}
@@ -170,29 +173,29 @@ owned plan [] h r live = absurd (both_ways false refl live)
 owned plan (e ∷ past) h r live =
     ⊎_elim (λ now. begun_owned plan e past h r now) (λ old. still_owned plan e past h r (owned plan past h.0 r old)) (open_cases e past r live)
 
--- the code of a misuse is from 1 to 8
-abbrev is_code : ℕ × Bool → Bool
-is_code p = ltb 0 p.0 && leb p.0 8
+-- the code of a misuse is one of the codes
+abbrev has_code : ℕ × Bool → Bool
+has_code p = is_code p.0
 
-first_fits : (codes : List (ℕ × Bool)) (c : ℕ) → list_all is_code codes ≡ true → first_code codes ≡ Some c → (ltb 0 c && leb c 8) ≡ true
+first_fits : (codes : List (ℕ × Bool)) (c : ℕ) → list_all has_code codes ≡ true → first_code codes ≡ Some c → is_code c ≡ true
 first_fits [] c all h = cc
 first_fits (p ∷ codes) c all h =
-    let parts = and_parts (is_code p) (list_all is_code codes) all in
-    elim p.1 as (λ v. cond v (Some p.0) (first_code codes) ≡ Some c → (ltb 0 c && leb c 8) ≡ true) [
-      | true ↦ λ k. subst (λ n. (ltb 0 n && leb n 8) ≡ true) (same_Some p.0 c k) parts.0
+    let parts = and_parts (has_code p) (list_all has_code codes) all in
+    elim p.1 as (λ v. cond v (Some p.0) (first_code codes) ≡ Some c → is_code c ≡ true) [
+      | true ↦ λ k. subst (λ n. is_code n ≡ true) (same_Some p.0 c k) parts.0
       | false ↦ λ k. first_fits codes c parts.1 k
     ] h
 
-codes_fit : (plan : PlanView) (past : List Event) (act : Act) → list_all is_code (act_misuses plan past act) ≡ true
+codes_fit : (plan : PlanView) (past : List Event) (act : Act) → list_all has_code (act_misuses plan past act) ≡ true
 codes_fit plan past (Resume o) = refl
 codes_fit plan past (Leave g) = refl
 codes_fit plan past (Target o t) = refl
 codes_fit plan past (Release o) = refl
 codes_fit plan past act = refl
 
-code_fits : (plan : PlanView) (past : List Event) (act : Act) (c : ℕ) → misuse plan past act ≡ Some c → (ltb 0 c && leb c 8) ≡ true
+code_fits : (plan : PlanView) (past : List Event) (act : Act) (c : ℕ) → misuse plan past act ≡ Some c → is_code c ≡ true
 unfolding misuse
-code_fits plan past act c h = first_fits ((6, list_any (is_released plan past) (named act)) ∷ act_misuses plan past act) c (codes_fit plan past act) h
+code_fits plan past act c h = first_fits ((code_of UseAfterRelease, list_any (is_released plan past) (named act)) ∷ act_misuses plan past act) c (codes_fit plan past act) h
 
 -- a run has no more acts than the plan has
 block_length : (plan : PlanView) (b : Blk) (i : ℕ) (act : Act) → act_at plan (Block b) i ≡ Some act → i < sum_by (λ blk. length blk.acts) plan.blocks
@@ -217,14 +220,14 @@ source_length plan s i act at =
           omega arith
     ] refl at
 
-index_fits : (plan : PlanView) (r : Run) (i : ℕ) (act : Act) → IsPlan plan → act_at plan r i ≡ Some act → i ≤ 65534
+index_fits : (plan : PlanView) (r : Run) (i : ℕ) (act : Act) → IsPlan plan → act_at plan r i ≡ Some act → i ≤ max_acts - 1
 index_fits plan (Block b) i act valid at =
     let within = block_length plan b i act at in
-    let few : sum_by (λ blk. length blk.acts) plan.blocks + sum_by (λ obj. length obj.handler) plan.objects ≤ 65535 = valid.few_acts in
+    let few : sum_by (λ blk. length blk.acts) plan.blocks + sum_by (λ obj. length obj.handler) plan.objects ≤ max_acts = valid.few_acts in
     omega arith
 index_fits plan (Source s) i act valid at =
     let within = source_length plan s i act at in
-    let few : sum_by (λ blk. length blk.acts) plan.blocks + sum_by (λ obj. length obj.handler) plan.objects ≤ 65535 = valid.few_acts in
+    let few : sum_by (λ blk. length blk.acts) plan.blocks + sum_by (λ obj. length obj.handler) plan.objects ≤ max_acts = valid.few_acts in
     omega arith
 
 has_own : (plan : PlanView) (past : List Event) (r : Run) (w : ℕ) → is_open past r ≡ true → parked_by plan past r ≡ None → last_worker past r ≡ Some w → has_run plan past w r ≡ true
@@ -266,20 +269,20 @@ next_is : (plan : PlanView) (past : List Event) (r : Run) (act : Act) → act_at
 unfolding is_next
 next_is plan past r act at = and_from (acts_done past r == acts_done past r) (is_some (act_at plan r (acts_done past r))) (eq-eqb (acts_done past r) (acts_done past r) refl) (ap is_some at)
 
-code_of : (plan : PlanView) (past : List Event) (r : Run) (i c : ℕ) (act : Act) → act_at plan r i ≡ Some act → misuse_at plan past r i ≡ Some c → misuse plan past act ≡ Some c
+act_code : (plan : PlanView) (past : List Event) (r : Run) (i c : ℕ) (act : Act) → act_at plan r i ≡ Some act → misuse_at plan past r i ≡ Some c → misuse plan past act ≡ Some c
 unfolding misuse_at
-code_of plan past r i c act at h = sym (ap (option_and_then (misuse plan past)) at) ∙ h
+act_code plan past r i c act at h = sym (ap (option_and_then (misuse plan past)) at) ∙ h
 
 act_event : (plan : PlanView) (past : List Event) (w : ℕ) → IsPlan plan → is_halted past ≡ false → is_worker w ≡ true → (r : Run) → is_run_of plan r ≡ true → has_run plan past w r ≡ true → (act : Act) → act_at plan r (acts_done past r) ≡ Some act → OwnEvent plan past r
 act_event plan past w valid on fits r known own act at =
     let i = acts_done past r in
-    let low : leb i 65534 ≡ true = le-leb i 65534 (index_fits plan r i act valid at) in
+    let low : is_index i ≡ true = le-leb i (max_acts - 1) (index_fits plan r i act valid at) in
     let next = next_is plan past r act at in
     elim (misuse_at plan past r i) as (λ o. misuse_at plan past r i ≡ o → OwnEvent plan past r) [
       | None ↦ λ fine. record {
         event = Acted w r i;
         work = refl;
-        permitted_now = none_why plan past (Acted w r i) on (and_from (is_worker w) _ fits (and_from (is_run_of plan r) (leb i 65534) known low))
+        permitted_now = none_why plan past (Acted w r i) on (and_from (is_worker w) _ fits (and_from (is_run_of plan r) (is_index i) known low))
             (none_first NotOwn (not (has_run plan past w r)) ((NotNext, not (is_next plan past r i)) ∷ (IsMisuse, is_some (misuse_at plan past r i)) ∷ []) (ap not own)
             (none_first NotNext (not (is_next plan past r i)) ((IsMisuse, is_some (misuse_at plan past r i)) ∷ []) (ap not next)
             (none_first IsMisuse (is_some (misuse_at plan past r i)) [] (ap is_some fine) refl)));
@@ -287,13 +290,13 @@ act_event plan past w valid on fits r known own act at =
         by = own;
       }
       | Some c ↦ λ wrong.
-          let coded = code_fits plan past act c (code_of plan past r i c act at wrong) in
+          let coded = code_fits plan past act c (act_code plan past r i c act at wrong) in
           let same : option_map_or (λ code. code == c) (misuse_at plan past r i) false ≡ true = ap (λ o. option_map_or (λ code. code == c) o false) wrong ∙ eq-eqb c c refl in
           let it = not (option_map_or (λ code. code == c) (misuse_at plan past r i) false) in
           record {
             event = Misuse w r i c;
             work = refl;
-            permitted_now = none_why plan past (Misuse w r i c) on (and_from (is_worker w) _ fits (and_from (is_run_of plan r) _ known (and_from (leb i 65534) _ low coded)))
+            permitted_now = none_why plan past (Misuse w r i c) on (and_from (is_worker w) _ fits (and_from (is_run_of plan r) _ known (and_from (is_index i) _ low coded)))
                 (none_first NotOwn (not (has_run plan past w r)) ((NotNext, not (is_next plan past r i)) ∷ (NotMisuse, it) ∷ []) (ap not own)
                 (none_first NotNext (not (is_next plan past r i)) ((NotMisuse, it) ∷ []) (ap not next)
                 (none_first NotMisuse it [] (ap not same) refl)));

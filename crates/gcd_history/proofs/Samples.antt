@@ -2,6 +2,7 @@
 use Rattle.std.specs.Prelude.{ℕ, zero, suc, ◌==◌, ◌&&◌, not, true, false, if◌then◌else◌, List, [], ◌∷◌, ◌++◌, length, map, reverse, Option, Some, None, codes, is_none}
 use Rattle.std.specs.List.{list_any, range_with_len}
 use Rattle.std.specs.Fmt.{digits}
+use Rattle.gcd_plan.specs.Limits.{max_file_bytes}
 use Rattle.gcd_plan.specs.PlanView.{PlanView, ObjView, BlkView}
 use Rattle.gcd_plan.specs.Validity.{root_view}
 use Rattle.gcd_plan.specs.declared.act.Act.{Act}
@@ -79,7 +80,7 @@ block name acts = record { name = name; acts = acts; work = None }
 -- a block that counts the whole of a file
 abbrev pub counting : List ℕ → How → (file : ℕ) → BlkView
 counting name how file =
-    record { name = name; acts = []; work = Some (record { how = how; file = file; start = 0; len = 16777216 }) }
+    record { name = name; acts = []; work = Some (record { how = how; file = file; start = 0; len = max_file_bytes }) }
 
 -- a plan of these objects after root, with the acts of main and these blocks after it
 abbrev pub plan_of : List ObjView → List Act → List BlkView → PlanView

@@ -24,7 +24,7 @@ use Rattle.gcd_history.specs.declared.submission.Submission.{Submission}
 use Rattle.gcd_history.specs.Runs.{same_run, acts_done, act_at, act_of, is_open, is_started}
 use Rattle.gcd_history.specs.Groups.{count}
 use Rattle.gcd_history.specs.Submitted.{on_node, submitted_by, cancels, is_cancelled, at_cancel, registered, notify_blocks, at_empty, new_submissions, main_submission, submitted}
-use Rattle.gcd_history.specs.Permitted.{IsLawful, is_worker, has_block, is_run_of}
+use Rattle.gcd_history.specs.Permitted.{IsLawful, is_worker, is_index, has_block, is_run_of}
 use Rattle.gcd_history.proofs.Lists.{list_all_place, count_by-append}
 use Rattle.gcd_history.proofs.Options.{some_kept, none_is}
 use Rattle.gcd_history.proofs.Sums.{sum_range_le, sum_range_less, sum_range-add, sum_range_one, sum_all_places_le, sum_by-take-more, sum_by_none}
@@ -234,8 +234,8 @@ next_counted plan past w c i b h =
 -- what the blocks have made grows by what the event's act gives
 made_more : (plan : PlanView) (e : Event) (past : List Event) → IsPlan plan → IsLawful plan (e ∷ past) → (b : ℕ) → made plan past b + given b (act_of plan e) ≤ made plan (e ∷ past) b
 made_more plan (Acted w (Block c) i) past valid h b =
-    let known = and_parts (is_worker w) (is_run_of plan (Block c) && leb i 65534) (allowed plan past (Acted w (Block c) i) h.1).known in
-    let within : c.0 < length plan.blocks = ltb-true c.0 (length plan.blocks) (and_parts (has_block plan c.0) (leb i 65534) known.1).0 in
+    let known = and_parts (is_worker w) (is_run_of plan (Block c) && is_index i) (allowed plan past (Acted w (Block c) i) h.1).known in
+    let within : c.0 < length plan.blocks = ltb-true c.0 (length plan.blocks) (and_parts (has_block plan c.0) (is_index i) known.1).0 in
     sum_range_less (made_by plan past b) (made_by plan (Acted w (Block c) i ∷ past) b) 0 (length plan.blocks) c.0 (given b (act_at plan (Block c) i))
     (made_kept plan (Acted w (Block c) i) past h b) (next_counted plan past w c i b h) (omega arith) (omega arith)
 made_more plan (Acted w (Source s) i) past valid h b =

@@ -3,6 +3,7 @@
 use Rattle.std.specs.Prelude.{◌≡◌, ◌<◌, ◌≤◌, ◌++◌, ℕ, ◌==◌, Bool, true, false, List, [], ◌∷◌, take, Some, None, slice_get, count_by, IsTrue}
 use Rattle.std.specs.List.{list_any}
 use Rattle.gcd_plan.specs.PlanView.{PlanView, starts_active}
+use Rattle.gcd_plan.specs.Limits.{max_workers}
 use Rattle.gcd_plan.specs.declared.numbers.Run.{Run}
 use Rattle.gcd_plan.specs.declared.numbers.Run.TheVariants.{Block, Source}
 use Rattle.gcd_event.specs.declared.event.Event.{Event}
@@ -88,7 +89,7 @@ by_worker w Halt = Halt
 -- what is permitted to one free worker is permitted to every other
 abbrev pub FreeWorkersAreAlike : PlanView → List Event → Type 0
 FreeWorkersAreAlike plan h =
-    (e : Event) (w : ℕ) → IsFreeWorker plan h (worker_of e) → IsFreeWorker plan h w → w < 64
+    (e : Event) (w : ℕ) → IsFreeWorker plan h (worker_of e) → IsFreeWorker plan h w → w < max_workers
     → why plan h e ≡ None → why plan h (by_worker w e) ≡ None
 
 -- ## Wakes
@@ -106,7 +107,7 @@ MayWakeUntilWoken plan h later =
 -- where a block may wake its Wake is permitted to every free worker
 abbrev pub WakesArePermitted : PlanView → List Event → Type 0
 WakesArePermitted plan h =
-    (b w : ℕ) → MayWake plan h b → IsFreeWorker plan h w → w < 64 → why plan h (Wake w (record { 0 = b })) ≡ None
+    (b w : ℕ) → MayWake plan h b → IsFreeWorker plan h w → w < max_workers → why plan h (Wake w (record { 0 = b })) ≡ None
 
 -- ## Fields
 

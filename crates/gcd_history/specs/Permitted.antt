@@ -1,10 +1,13 @@
 -- Which event may come next, and the first reason why not (this project's own rule, where a definition names no page).
-use Rattle.std.specs.Prelude.{◌≡◌, ⊤, ℕ, ◌==◌, nat_lt, nat_le, Bool, true, false, not, ◌&&◌, ◌||◌, List, [], ◌∷◌, length, Option, Some, None, is_none, is_some, option_and_then, find, if◌then◌else◌}
+use Rattle.std.specs.Prelude.{◌≡◌, ⊤, ℕ, ◌-◌, ◌==◌, nat_lt, nat_le, Bool, true, false, not, ◌&&◌, ◌||◌, List, [], ◌∷◌, length, Option, Some, None, is_none, is_some, option_and_then, find, if◌then◌else◌}
 use Rattle.std.specs.Option.{option_map_or}
 use Rattle.std.specs.List.{list_any}
 use Rattle.gcd_plan.specs.PlanView.{PlanView}
 use Rattle.gcd_plan.specs.Kinds.{is_source, is_exclusive, has_barriers, has_kind, is_read_kind}
+use Rattle.gcd_plan.specs.Limits.{max_workers, max_acts, max_time, max_value}
+use Rattle.gcd_plan.specs.MisuseCodes.{code_of}
 use Rattle.gcd_plan.specs.StartRule.{Knowledge, first_of, start_reasons, run_reasons, is_fenced as is_fenced_by}
+use Rattle.gcd_plan.specs.declared.misuse_code.MisuseCode.TheVariants.{ReleaseBelowFirstValue}
 use Rattle.gcd_plan.specs.declared.numbers.Run.{Run}
 use Rattle.gcd_plan.specs.declared.numbers.Run.TheVariants.{Block, Source}
 use Rattle.gcd_plan.specs.declared.why.Why.{Why}
@@ -65,7 +68,15 @@ is_halted past = ends_in_misuse past || ends_in_halt past
 
 -- a worker's number
 abbrev pub is_worker : ℕ → Bool
-is_worker w = nat_lt w 64
+is_worker w = nat_lt w max_workers
+
+-- the place of an act in a body
+abbrev pub is_index : ℕ → Bool
+is_index i = nat_le i (max_acts - 1)
+
+-- the number of a code of misuse: they are numbered from 1 on, without a gap
+abbrev pub is_code : ℕ → Bool
+is_code c = nat_lt 0 c && nat_le c (code_of ReleaseBelowFirstValue)
 
 -- the plan has block b
 abbrev pub has_block : PlanView → ℕ → Bool
@@ -83,15 +94,15 @@ is_feed plan s = has_kind is_read_kind plan s
 -- the event fits, and names what the plan has (this project's own rule)
 abbrev pub is_known : PlanView → Event → Bool
 is_known plan (Start w b) = is_worker w && has_block plan b.0
-is_known plan (Acted w run i) = is_worker w && (is_run_of plan run && nat_le i 65534)
+is_known plan (Acted w run i) = is_worker w && (is_run_of plan run && is_index i)
 is_known plan (Wake w b) = is_worker w && has_block plan b.0
 is_known plan (End w b) = is_worker w && has_block plan b.0
 is_known plan (Deliver w s) = is_worker w && is_source plan s.0
 is_known plan (DeliverEnd w s) = is_worker w && is_source plan s.0
-is_known plan (Tick t) = nat_lt 0 t && nat_le t 86400000
-is_known plan (Ready s n) = is_feed plan s.0 && (nat_lt 0 n && nat_le n 2147483647)
+is_known plan (Tick t) = nat_lt 0 t && nat_le t max_time
+is_known plan (Ready s n) = is_feed plan s.0 && (nat_lt 0 n && nat_le n max_value)
 is_known plan (FeedEnd s) = is_feed plan s.0
-is_known plan (Misuse w run i c) = is_worker w && (is_run_of plan run && (nat_le i 65534 && (nat_lt 0 c && nat_le c 8)))
+is_known plan (Misuse w run i c) = is_worker w && (is_run_of plan run && (is_index i && is_code c))
 is_known plan Halt = true
 
 -- submitted, and not started
