@@ -38,8 +38,3 @@ pub mod Choices
 pub mod Quiet
 pub mod OneState
 pub mod Counts
-pub mod QueuesOnRoot
-pub mod ActsSubmitApart
-pub mod NothingHeld
-pub mod OnlyBlocksRun
-pub mod BlocksRunOnce

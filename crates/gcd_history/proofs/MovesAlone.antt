@@ -12,16 +12,12 @@ use Rattle.gcd_history.specs.Permitted.{IsLawful}
 use Rattle.gcd_history.proofs.Lists.{none_counted}
 use Rattle.gcd_history.proofs.OpenNodes.{open_cases, open_any, open_on_to}
 use Rattle.gcd_history.proofs.TargetActs.{made_active, nodes_at}
+use Rattle.gcd_history.proofs.Walks.{in_own}
 use Rattle.gcd_history.proofs.TreeStands.{Step, stands, some_objects, asks, moving_before, was_open, kept_at, chain_step, begun_aim}
-
--- a chain begins with its object
-begins_with : (next : ℕ → ℕ) (bound n : ℕ) → 0 < bound → is_in n (chain_by next bound n) ≡ true
-begins_with next (suc bound) n h = or_left (n == n) _ (eq-eqb n n refl)
-begins_with next bound n h = absurd (omega arith)
 
 -- a run is beneath its own node
 beneath_own : (plan : PlanView) (past : List Event) (q : Run) (o : ℕ) → IsPlan plan → node_of_run plan past q ≡ Some o → is_in o (chain_of_run plan past q) ≡ true
-beneath_own plan past q o valid node = subst (λ l. is_in o l ≡ true) (sym (nodes_at plan past q o node)) (begins_with (target plan past) (length plan.objects) o (some_objects plan valid))
+beneath_own plan past q o valid node = subst (λ l. is_in o l ≡ true) (sym (nodes_at plan past q o node)) (in_own (target plan past) (length plan.objects) o (some_objects plan valid))
 
 pub moving_made_active : (plan : PlanView) (past : List Event) → IsPlan plan → IsLawful plan past → (o : ℕ) → is_moving plan past o ≡ true → starts_active plan o ≡ true
 moving_made_active plan [] valid h o moving = cc

@@ -18,7 +18,7 @@ use Rattle.gcd_history.specs.Runs.{same_run, opens, open_runs, is_open}
 use Rattle.gcd_history.specs.Submitted.{submitted, submission_of}
 use Rattle.gcd_history.specs.Tree.{node_of_run, is_run_on, is_open_on}
 use Rattle.gcd_history.specs.Permitted.{IsLawful, is_worker}
-use Rattle.gcd_history.proofs.Options.{some_kept}
+use Rattle.gcd_history.proofs.Options.{some_kept, some_from_eqb}
 use Rattle.gcd_history.proofs.RunsOpen.{closes, same_run-true, same_run-refl, is_open-step}
 use Rattle.gcd_history.proofs.Reasons.{allowed, at_start}
 use Rattle.gcd_history.proofs.StartedOnce.{started_from_open, submitted_from_started, submission_of-kept}
@@ -61,14 +61,10 @@ pub open_on_from : (plan : PlanView) (past : List Event) (q : Run) (o : ℕ) →
 open_on_from plan past q o live node =
     any_open past (is_run_on plan past o) q live (ap (λ k. option_map_or (λ n. n == o) k false) node ∙ eq-eqb o o refl)
 
-node_is : (node : Option ℕ) (o : ℕ) → option_map_or (λ n. n == o) node false ≡ true → node ≡ Some o
-node_is None o h = cc
-node_is (Some n) o h = ap Some (eqb-true n o h)
-
 pub open_on_to : (plan : PlanView) (past : List Event) (o : ℕ) → is_open_on plan past o ≡ true → (q : Run) × (is_open past q ≡ true) × (node_of_run plan past q ≡ Some o)
 open_on_to plan past o h =
     let found = open_any past (is_run_on plan past o) h in
-    (found.0, found.1, node_is (node_of_run plan past found.0) o found.2)
+    (found.0, found.1, some_from_eqb (node_of_run plan past found.0) o found.2)
 
 -- ## Nodes stay
 

@@ -19,6 +19,7 @@ use Rattle.gcd_history.proofs.Counts.{count_push}
 use Rattle.gcd_history.proofs.Lists.{count_by-cons, none_counted}
 use Rattle.gcd_history.proofs.Reasons.{allowed, at_start}
 use Rattle.gcd_history.proofs.Fitting.{has_object}
+use Rattle.gcd_history.proofs.Walks.{in_own}
 use Rattle.gcd_history.proofs.FreeAtStart.{deliver_begins_alone}
 use Rattle.gcd_history.proofs.OpenNodes.{any_open}
 use Rattle.gcd_history.proofs.SubmittedOnNodes.{kind_implies}
@@ -63,16 +64,12 @@ open_once plan (DeliverEnd w s ∷ past) lawful shut run =
     let few = open_once plan past lawful.0 shut run in let less = fewer (same_run run) (λ r. not (same_run (Source s) r)) (open_runs past) in omega (arith, few, less)
 open_once plan (e ∷ past) lawful shut run = open_once plan past lawful.0 shut run
 
-own_in : (f : ℕ → ℕ) (n s : ℕ) → 0 < n → is_in s (chain_by f n s) ≡ true
-own_in f zero s h = absurd (omega arith)
-own_in f (suc n) s h = or_left (s == s) _ (eq-eqb s s refl)
-
 -- a Deliver finds its handler shut, since a source lets one run at a time be open beneath it
 pub shut_at_deliver : (plan : PlanView) (past : List Event) (w : ℕ) (s : Obj) → IsLawful plan (Deliver w s ∷ past) → is_open past (Source s) ≡ false
 shut_at_deliver plan past w s lawful =
     let source : is_source plan s.0 ≡ true = (and_parts (is_worker w) (is_source plan s.0) (allowed plan past (Deliver w s) lawful.1).known).1 in
     let low = has_object is_source_kind plan s.0 source in
-    let inside : is_in s.0 (chain plan past s.0) ≡ true = own_in (target plan past) (length plan.objects) s.0 (omega (arith, low)) in
+    let inside : is_in s.0 (chain plan past s.0) ≡ true = in_own (target plan past) (length plan.objects) s.0 (omega (arith, low)) in
     let apart = (deliver_begins_alone plan past w s lawful.1).apart s.0 inside in
     let alone : is_exclusive plan s.0 ≡ true = kind_implies is_source_kind is_exclusive_kind plan s.0 excludes source in
     false_from_ne_true (is_open past (Source s)) (λ live.

@@ -15,6 +15,11 @@ pub in_first : (next : ℕ → ℕ) (bound n : ℕ) → is_in n (chain_by next (
 in_first next bound n = or_left (n == n) _ (eq-eqb n n refl)
 
 -- what stands in the rest of the chain stands in the chain
+-- a number stands in its own chain
+pub in_own : (next : ℕ → ℕ) (bound n : ℕ) → 0 < bound → is_in n (chain_by next bound n) ≡ true
+in_own next zero n h = absurd (omega arith)
+in_own next (suc bound) n h = in_first next bound n
+
 pub in_rest : (next : ℕ → ℕ) (bound n o : ℕ) → (n ≡ 0 → ⊥) → is_in o (chain_by next bound (next n)) ≡ true → is_in o (chain_by next (suc bound) n) ≡ true
 in_rest next bound n o other inside =
     let on : (n == 0) ≡ false = ne_eqb n 0 other in

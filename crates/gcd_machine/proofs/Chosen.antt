@@ -27,8 +27,8 @@ use Rattle.gcd_history.specs.Choice.{next_events, own_events, wake_event, node_e
 use Rattle.gcd_history.proofs.Lists.{found_is}
 use Rattle.gcd_history.proofs.Choices.{is_by, candidates_by}
 use Rattle.gcd_history.proofs.Counts.{found_alone}
-use Rattle.gcd_history.proofs.NothingHeld.{no_misuses, no_sources}
-use Rattle.gcd_history.proofs.BlocksRunOnce.{queued_of, main_submitted}
+use Rattle.gcd_machine.proofs.NothingHeld.{no_misuses, no_sources}
+use Rattle.gcd_machine.proofs.BlocksRunOnce.{queued_of, main_submitted}
 use Rattle.gcd_machine.specs.MachineView.{MachineView, progress, at_worker, at_queue}
 use Rattle.gcd_machine.specs.Keeps.{Keeps, run_list, waiter}
 use Rattle.gcd_machine.specs.Kept.{queue_reasons, is_waiting, is_blk, is_first, kept_why, next_event, node_choice, nodes_choice, idle_choice, kept_choice}

@@ -22,10 +22,10 @@ use Rattle.gcd_history.proofs.Lists.{found_is, found_passes}
 use Rattle.gcd_history.proofs.Options.{none_is}
 use Rattle.gcd_history.proofs.RunsOpen.{same_run-refl}
 use Rattle.gcd_history.proofs.Counts.{found_alone, counted_found, count_unfound}
-use Rattle.gcd_history.proofs.QueuesOnRoot.{IsFirstPlan, serial_queue}
-use Rattle.gcd_history.proofs.NothingHeld.{nothing_due, nothing_live}
-use Rattle.gcd_history.proofs.OnlyBlocksRun.{Step, starts, acts, ends, halts, step_of}
-use Rattle.gcd_history.proofs.BlocksRunOnce.{Facts, queued_of, open_parts, own_is_open}
+use Rattle.gcd_machine.proofs.QueuesOnRoot.{IsFirstPlan, serial_queue}
+use Rattle.gcd_machine.proofs.NothingHeld.{nothing_due, nothing_live}
+use Rattle.gcd_machine.proofs.OnlyBlocksRun.{Step, starts, acts, ends, halts, step_of}
+use Rattle.gcd_machine.proofs.BlocksRunOnce.{Facts, queued_of, open_parts, own_is_open}
 use Rattle.gcd_machine.specs.MachineView.{MachineView, progress, at_worker, at_queue}
 use Rattle.gcd_machine.specs.Keeps.{Keeps, is_last, run_list, waiter}
 use Rattle.gcd_machine.specs.Kept.{next_event, node_choice, nodes_choice, idle_choice, kept_choice}

@@ -24,9 +24,9 @@ use Rattle.gcd_history.specs.Timers.{may_tick}
 use Rattle.gcd_history.specs.Permitted.{is_halted, is_known, is_worker, has_block, is_ready, is_on, waits_on, is_behind, is_fenced, knowledge, waiting_reasons, node_reasons, is_next, has_act_left, misuse_at, reasons, why}
 use Rattle.gcd_history.proofs.Choices.{before_first_waiting}
 use Rattle.gcd_history.proofs.Counts.{find_first, counted_found, count_unfound}
-use Rattle.gcd_history.proofs.QueuesOnRoot.{IsFirstPlan, serial_queue}
-use Rattle.gcd_history.proofs.NothingHeld.{has_run_is, held_none, excluded_is_on, fenced_none, no_parked, no_sources, no_feeds, no_ticks, no_misuses}
-use Rattle.gcd_history.proofs.BlocksRunOnce.{Facts, facts_of, main_submitted, named, queued_of}
+use Rattle.gcd_machine.proofs.QueuesOnRoot.{IsFirstPlan, serial_queue}
+use Rattle.gcd_machine.proofs.NothingHeld.{has_run_is, held_none, excluded_is_on, fenced_none, no_parked, no_sources, no_feeds, no_ticks, no_misuses}
+use Rattle.gcd_machine.proofs.BlocksRunOnce.{Facts, facts_of, main_submitted, named, queued_of}
 use Rattle.gcd_machine.specs.MachineView.{MachineView, progress, at_worker, at_queue}
 use Rattle.gcd_machine.specs.Keeps.{Keeps, is_last, run_list, waiter}
 use Rattle.gcd_machine.specs.Kept.{is_waiting, is_blk, is_first, queue_reasons, is_next_act, kept_reasons, kept_why}

@@ -29,7 +29,7 @@ use Rattle.gcd_machine.specs.Keeps.{Keeps, IsShaped, progress_of, run_list, wait
 use Rattle.gcd_machine.specs.Kept.{kept_why, kept_choice}
 use Rattle.gcd_machine.specs.Stands.{StandsFor}
 use Rattle.gcd_history.specs.Choice.{worker_of}
-use Rattle.gcd_history.proofs.NothingHeld.{parked_none}
+use Rattle.gcd_machine.proofs.NothingHeld.{parked_none}
 use Rattle.gcd_machine.specs.Workers.{is_all_by}
 use Rattle.gcd_lists.specs.ListsView.{ListsView, list_at}
 use Rattle.gcd_machine.specs.declared.progress.Progress.{Progress}

@@ -19,10 +19,10 @@ use Rattle.gcd_history.specs.Tree.{is_run_on}
 use Rattle.gcd_history.specs.Permitted.{waits_on, why}
 use Rattle.gcd_history.proofs.Options.{some_kept}
 use Rattle.gcd_history.proofs.Counts.{count_push}
-use Rattle.gcd_history.proofs.QueuesOnRoot.{IsFirstPlan, serial_queue}
-use Rattle.gcd_history.proofs.NothingHeld.{submitted_more}
-use Rattle.gcd_history.proofs.OnlyBlocksRun.{ActFacts}
-use Rattle.gcd_history.proofs.BlocksRunOnce.{Facts, facts_of, submission_more, submission_kept, fresh_act, own_is_open, open_parts}
+use Rattle.gcd_machine.proofs.QueuesOnRoot.{IsFirstPlan, serial_queue}
+use Rattle.gcd_machine.proofs.NothingHeld.{submitted_more}
+use Rattle.gcd_machine.proofs.OnlyBlocksRun.{ActFacts}
+use Rattle.gcd_machine.proofs.BlocksRunOnce.{Facts, facts_of, submission_more, submission_kept, fresh_act, own_is_open, open_parts}
 use Rattle.gcd_machine.specs.MachineView.{MachineView, idle, progress, at_queue}
 use Rattle.gcd_machine.specs.Keeps.{Keeps, IsShaped, progress_of, run_list, waiter, events_of}
 use Rattle.gcd_machine.specs.Kept.{after_act}

@@ -21,10 +21,10 @@ use Rattle.gcd_history.specs.Parked.{has_run}
 use Rattle.gcd_history.specs.Permitted.{waits_on, why, is_halted}
 use Rattle.gcd_history.proofs.Options.{some_kept}
 use Rattle.gcd_history.proofs.Counts.{filter_alike, counted_found, sum_by_same}
-use Rattle.gcd_history.proofs.QueuesOnRoot.{IsFirstPlan}
-use Rattle.gcd_history.proofs.NothingHeld.{has_run_is}
-use Rattle.gcd_history.proofs.OnlyBlocksRun.{EndFacts}
-use Rattle.gcd_history.proofs.BlocksRunOnce.{Facts, facts_of, submitted_same, submission_same, named, own_is_open, open_parts}
+use Rattle.gcd_machine.proofs.QueuesOnRoot.{IsFirstPlan}
+use Rattle.gcd_machine.proofs.NothingHeld.{has_run_is}
+use Rattle.gcd_machine.proofs.OnlyBlocksRun.{EndFacts}
+use Rattle.gcd_machine.proofs.BlocksRunOnce.{Facts, facts_of, submitted_same, submission_same, named, own_is_open, open_parts}
 use Rattle.gcd_machine.specs.MachineView.{MachineView, progress, at_worker, at_queue}
 use Rattle.gcd_machine.specs.Keeps.{Keeps, IsShaped, progress_of, is_last, run_list, waiter, events_of}
 use Rattle.gcd_machine.specs.Kept.{after_end, after_halt, with_open}

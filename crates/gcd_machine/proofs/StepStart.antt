@@ -24,9 +24,9 @@ use Rattle.gcd_history.proofs.Options.{some_kept, none_of}
 use Rattle.gcd_history.proofs.Reasons.{first_none}
 use Rattle.gcd_history.proofs.RunsOpen.{same_run-refl}
 use Rattle.gcd_history.proofs.Counts.{filter_alike, found_alone}
-use Rattle.gcd_history.proofs.QueuesOnRoot.{IsFirstPlan}
-use Rattle.gcd_history.proofs.OnlyBlocksRun.{StartFacts}
-use Rattle.gcd_history.proofs.BlocksRunOnce.{Facts, facts_of, submitted_same, submission_same, named}
+use Rattle.gcd_machine.proofs.QueuesOnRoot.{IsFirstPlan}
+use Rattle.gcd_machine.proofs.OnlyBlocksRun.{StartFacts}
+use Rattle.gcd_machine.proofs.BlocksRunOnce.{Facts, facts_of, submitted_same, submission_same, named}
 use Rattle.gcd_machine.specs.MachineView.{MachineView, progress, at_worker, at_queue}
 use Rattle.gcd_machine.specs.Keeps.{Keeps, IsShaped, progress_of, is_last, run_list, waiter, events_of}
 use Rattle.gcd_machine.specs.Kept.{is_first, queue_reasons, after_start, with_open, without_first}

@@ -22,8 +22,8 @@ use Rattle.gcd_history.specs.Parked.{has_run, is_busy, is_parked, may_wake}
 use Rattle.gcd_history.specs.Timers.{may_tick}
 use Rattle.gcd_history.specs.Permitted.{is_halted, is_worker, has_block, is_feed, is_ready, node_reasons, is_next, has_act_left, misuse_at, why}
 use Rattle.gcd_history.proofs.Reasons.{first_none, allowed, Allowed}
-use Rattle.gcd_history.proofs.QueuesOnRoot.{IsFirstPlan, Submits, submits_at}
-use Rattle.gcd_history.proofs.NothingHeld.{no_parked, no_sources, no_feeds, no_ticks, no_misuses}
+use Rattle.gcd_machine.proofs.QueuesOnRoot.{IsFirstPlan, Submits, submits_at}
+use Rattle.gcd_machine.proofs.NothingHeld.{no_parked, no_sources, no_feeds, no_ticks, no_misuses}
 
 -- what is known where a Start may come
 pub record StartFacts (plan : PlanView) (past : List Event) (w : ℕ) (b : Blk) : Type 0 where

@@ -29,7 +29,7 @@ use Rattle.gcd_history.specs.Sources.{is_live_feed}
 use Rattle.gcd_history.specs.Misuses.{retains, releases, refs, is_released, misuse}
 use Rattle.gcd_history.specs.Permitted.{misuse_at, is_fenced, knowledge}
 use Rattle.gcd_history.proofs.Lists.{list_any_same}
-use Rattle.gcd_history.proofs.QueuesOnRoot.{IsFirstPlan, Submits, submits_at, submits_of, no_such_kind, all_on_root, all_active, no_cancel_blocks, IsQueueAt}
+use Rattle.gcd_machine.proofs.QueuesOnRoot.{IsFirstPlan, Submits, submits_at, submits_of, no_such_kind, all_on_root, all_active, no_cancel_blocks, IsQueueAt}
 
 -- what a function of an act gives where it gives the same for no act and for a plain submission
 pub of_act : {X : Type 0} (plan : PlanView) (f : Option Act → X) (x : X) (act : Option Act) → Submits plan act → f None ≡ x

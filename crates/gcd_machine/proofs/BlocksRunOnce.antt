@@ -25,10 +25,10 @@ use Rattle.gcd_history.specs.Parked.{has_run}
 use Rattle.gcd_history.specs.Permitted.{IsLawful}
 use Rattle.gcd_history.proofs.Lists.{found_is, some_counted}
 use Rattle.gcd_history.proofs.Counts.{count_unfound, count_push, count_kept, count_dropped, any_of_fewer}
-use Rattle.gcd_history.proofs.QueuesOnRoot.{IsFirstPlan}
-use Rattle.gcd_history.proofs.NothingHeld.{submitted_more, has_run_is}
-use Rattle.gcd_history.proofs.ActsSubmitApart.{Place, place_of, one_submission}
-use Rattle.gcd_history.proofs.OnlyBlocksRun.{StartFacts, ActFacts, EndFacts, Step, starts, acts, ends, halts, step_of}
+use Rattle.gcd_machine.proofs.QueuesOnRoot.{IsFirstPlan}
+use Rattle.gcd_machine.proofs.NothingHeld.{submitted_more, has_run_is}
+use Rattle.gcd_machine.proofs.ActsSubmitApart.{Place, place_of, one_submission}
+use Rattle.gcd_machine.proofs.OnlyBlocksRun.{StartFacts, ActFacts, EndFacts, Step, starts, acts, ends, halts, step_of}
 
 -- a submission by an act that stands, to a serial queue
 pub record IsQueued (plan : PlanView) (past : List Event) (s : Submission) : Type 0 where
