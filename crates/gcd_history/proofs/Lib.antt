@@ -33,6 +33,7 @@ pub mod TreeStands
 pub mod MovesAlone
 pub mod RunsAlone
 pub mod OpenOnce
+pub mod BlocksApart
 pub mod WordsBegin
 pub mod Choices
 pub mod Quiet

@@ -16,7 +16,7 @@ use Rattle.gcd_history.proofs.Walks.{in_own}
 use Rattle.gcd_history.proofs.TreeStands.{Step, stands, some_objects, asks, moving_before, was_open, kept_at, chain_step, begun_aim}
 
 -- a run is beneath its own node
-beneath_own : (plan : PlanView) (past : List Event) (q : Run) (o : ℕ) → IsPlan plan → node_of_run plan past q ≡ Some o → is_in o (chain_of_run plan past q) ≡ true
+pub beneath_own : (plan : PlanView) (past : List Event) (q : Run) (o : ℕ) → IsPlan plan → node_of_run plan past q ≡ Some o → is_in o (chain_of_run plan past q) ≡ true
 beneath_own plan past q o valid node = subst (λ l. is_in o l ≡ true) (sym (nodes_at plan past q o node)) (in_own (target plan past) (length plan.objects) o (some_objects plan valid))
 
 pub moving_made_active : (plan : PlanView) (past : List Event) → IsPlan plan → IsLawful plan past → (o : ℕ) → is_moving plan past o ≡ true → starts_active plan o ≡ true

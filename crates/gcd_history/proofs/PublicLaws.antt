@@ -1,5 +1,5 @@
 -- The laws over histories in order, from those by recursion.
-use Rattle.std.proofs.Common.{◌≡◌, ℕ, zero, suc, ◌+◌, ◌-◌, ◌<◌, ◌≤◌, ◌==◌, true, List, [], ◌∷◌, length, take, drop, ◌++◌, reverse, Some, None, is_some, refl, count_by, ap, sym, ◌∙◌, subst, arith}
+use Rattle.std.proofs.Common.{◌≡◌, ℕ, zero, suc, ◌+◌, ◌-◌, ◌<◌, ◌≤◌, ◌==◌, true, List, [], ◌∷◌, length, take, drop, ◌++◌, reverse, Some, None, is_some, option_and_then, refl, count_by, ap, sym, ◌∙◌, subst, arith}
 use Rattle.std.proofs.lemmas.Bool.{eqb-true, both_ways}
 use Rattle.std.proofs.lemmas.List.{take-append-drop, reverse-append, take_all, length-reverse, length-take-le}
 use Rattle.std.specs.Bool.{IsTrue}
@@ -20,9 +20,9 @@ use Rattle.gcd_history.specs.Submitted.{submitted, submission_of}
 use Rattle.gcd_history.specs.Parked.{reason, is_parked, has_come as has_come_after}
 use Rattle.gcd_history.specs.Permitted.{IsLawful as IsLawfulAfter, is_halted as is_halted_after}
 use Rattle.gcd_history.specs.Choice.{choice, all_ended as all_ended_after}
-use Rattle.gcd_history.specs.History.{why, IsLawful, is_started, is_submitted, submitted_of, is_free, chain_of_run as outer_chain, reason_of, has_come, group_wait_passes, semaphore_wait_passes, received_of, pending_of, merged_of, is_open, is_active, chain_of, node_of_run, is_barrier_on, choice_of, running_of, next_due_of, is_live_feed}
+use Rattle.gcd_history.specs.History.{why, IsLawful, node_of, is_started, is_submitted, submitted_of, is_free, chain_of_run as outer_chain, reason_of, has_come, group_wait_passes, semaphore_wait_passes, received_of, pending_of, merged_of, is_open, is_active, chain_of, node_of_run, is_barrier_on, choice_of, running_of, next_due_of, is_live_feed}
 use Rattle.gcd_history.specs.Ends.{IsDrained, all_ended, IsQuiescent, IsHalted, is_halted}
-use Rattle.gcd_history.specs.Laws.{RunsOnce, StartsAfterSubmission, AllEndOnce, IsSubmittedOnce, StartsInOrder, BeginsFree, WakesHaveCause, NoneParked, WaitsHavePassed, GroupWaitsPass, SemaphoreWaitsPass, IsConserved, RunsExclude, BarriersExclude, DeliversAlone, TreeStands, IsChoiceOf, HasNoChoice, IsAtRest}
+use Rattle.gcd_history.specs.Laws.{RunsOnce, StartsAfterSubmission, AllEndOnce, IsSubmittedOnce, StartsInOrder, BeginsFree, WakesHaveCause, NoneParked, WaitsHavePassed, GroupWaitsPass, SemaphoreWaitsPass, IsConserved, RunsExclude, BlocksOfOneNodeApart, BarriersExclude, DeliversAlone, TreeStands, IsChoiceOf, HasNoChoice, IsAtRest}
 use Rattle.gcd_history.proofs.Lists.{count_by-reverse, some_counted, found_passes, past_more}
 use Rattle.gcd_history.proofs.Options.{some_kept}
 use Rattle.gcd_history.proofs.LawfulLemmas.{lawful_after, lawful_take}
@@ -35,6 +35,7 @@ use Rattle.gcd_history.proofs.Woken.{came, none_parked}
 use Rattle.gcd_history.proofs.WaitsPass.{passed, group_wait_passed, semaphore_wait_passed}
 use Rattle.gcd_history.proofs.Merged.{conserved}
 use Rattle.gcd_history.proofs.OpenOnce.{shut_at_deliver}
+use Rattle.gcd_history.proofs.BlocksApart.{blocks_apart}
 use Rattle.gcd_history.proofs.RunsAlone.{runs_alone, barriers_alone}
 use Rattle.gcd_history.proofs.TreeStands.{stands, chain_step}
 use Rattle.gcd_history.proofs.Walks.{reaches-in}
@@ -149,6 +150,16 @@ pub runs_exclude : (plan : PlanView) (h : List Event) → IsPlan plan → IsLawf
 unfolding is_open outer_chain
 runs_exclude plan h valid lawful i o r q exclusive on r_in q_in =
     runs_alone plan (reverse (take i h)) valid (lawful_after plan (take i h) (lawful_take plan h i lawful)) o r q exclusive on.one on.other r_in q_in
+
+pub blocks_of_one_node_apart : (plan : PlanView) (h : List Event) → IsPlan plan → IsLawful plan h → BlocksOfOneNodeApart plan h
+unfolding node_of is_open
+blocks_of_one_node_apart plan h valid lawful q a b alone a_node b_node both =
+    let i = both.position in
+    let split = turned_at h i in
+    blocks_apart plan (reverse (drop i h)) (reverse (take i h)) q a b valid (lawful_after plan (take i h) (lawful_take plan h i lawful)) alone
+    (sym (ap (λ k. option_and_then (λ s. s.node) (submission_of plan k a.0)) split) ∙ a_node)
+    (sym (ap (λ k. option_and_then (λ s. s.node) (submission_of plan k b.0)) split) ∙ b_node)
+    both.there.one both.there.other
 
 pub barriers_exclude : (plan : PlanView) (h : List Event) → IsLawful plan h → BarriersExclude plan h
 unfolding is_open is_barrier_on node_of_run

@@ -11,7 +11,7 @@ use Rattle.gcd_plan.specs.declared.why.Why.TheVariants.{Busy, Unready, Behind, N
 use Rattle.gcd_event.specs.declared.event.Event.{Event}
 use Rattle.gcd_event.specs.declared.event.Event.TheVariants.{Start, Act as Acted, Wake, End, Deliver, DeliverEnd}
 use Rattle.gcd_history.specs.Runs.{starts, ends}
-use Rattle.gcd_history.specs.History.{why, IsLawful, is_submitted, is_started, submitted_of, is_open, chain_of_run, node_of_run, is_barrier_on, is_free, reason_of, has_come, received_of, pending_of, merged_of, request_of, target_of, open_beneath_of, is_active, has_run, is_running, running_of}
+use Rattle.gcd_history.specs.History.{why, IsLawful, is_submitted, is_started, submitted_of, is_open, node_of, chain_of_run, node_of_run, is_barrier_on, is_free, reason_of, has_come, received_of, pending_of, merged_of, request_of, target_of, open_beneath_of, is_active, has_run, is_running, running_of}
 use Rattle.gcd_history.specs.Ends.{IsDrained}
 use Rattle.gcd_history.proofs.Samples.{words, o, b, run, handler, serial, concurrent, group, semaphore, source, block, plan_of, journal}
 use Rattle.gcd_history.proofs.SampleLaws.{words_of_history, plan_from, lawful_row, drained_row}
@@ -110,6 +110,13 @@ exclusion_premise = (refl, refl)
 exclusion_refused : why beneath_and_beside two_open (Start 2 (b 2)) ≡ Some Excluded
 unfolding words words_of_history
 exclusion_refused = refl
+
+-- the plan and the history are those of 2: b1 and b2 were submitted on q, and are open one after the other
+one_queue_premise : (map (node_of sync_apart (journal sync_apart)) (2 ∷ 3 ∷ []) ≡ Some (o 1) ∷ Some (o 1) ∷ [])
+    × (map (λ i. is_open (take i (journal sync_apart)) (run 2)) (5 ∷ 10 ∷ 11 ∷ []) ≡ true ∷ false ∷ false ∷ [])
+    × (map (λ i. is_open (take i (journal sync_apart)) (run 3)) (5 ∷ 10 ∷ 11 ∷ []) ≡ false ∷ false ∷ true ∷ [])
+unfolding words words_of_history
+one_queue_premise = (refl, refl, refl)
 
 -- ## 4 No run of a concurrent queue overlaps a barrier of it
 

@@ -44,9 +44,9 @@ begun_from inside [] = refl
 begun_from inside (c ∷ bytes) =
     by_first inside (is_space c) (λ v. words_begun v bytes)
     ∙ ap (λ n. cond {A = ℕ} (not (is_space c) && not inside) 1 0 + n)
-      (begun_from (not (is_space c)) bytes
-      ∙ (ap (λ p. count_by p (range_with_len 0 (length bytes))) (sym (fun_ext (λ i. further inside c bytes i)))
-      ∙ sym (count_further (begins_from inside (c ∷ bytes)) 0 (length bytes))))
+    (begun_from (not (is_space c)) bytes
+    ∙ (ap (λ p. count_by p (range_with_len 0 (length bytes))) (sym (fun_ext (λ i. further inside c bytes i)))
+    ∙ sym (count_further (begins_from inside (c ∷ bytes)) 0 (length bytes))))
     ∙ sym (count_by-cons (begins_from inside (c ∷ bytes)) 0 (range_with_len 1 (length bytes)))
 
 begins_same : (bytes : List ℕ) (i : ℕ) → begins_from false bytes i ≡ begins_word bytes i

@@ -16,7 +16,7 @@ use Rattle.gcd_history.specs.declared.submission.Submission.{Submission}
 use Rattle.gcd_history.specs.Runs.{starts, ends, act_of}
 use Rattle.gcd_history.specs.Semas.{wait_count}
 use Rattle.gcd_history.specs.Permitted.{is_on}
-use Rattle.gcd_history.specs.History.{is_started, is_submitted, submitted_of, chain_of_run, is_free, reason_of, has_come, received_of, pending_of, merged_of, is_open, OverlapAt, is_active, chain_of, node_of_run, is_barrier_on, group_wait_passes, semaphore_wait_passes, why, choice_of, running_of, next_due_of, is_live_feed}
+use Rattle.gcd_history.specs.History.{is_started, is_submitted, submitted_of, chain_of_run, is_free, reason_of, has_come, received_of, pending_of, merged_of, is_open, OverlapAt, Overlap, node_of, is_active, chain_of, node_of_run, is_barrier_on, group_wait_passes, semaphore_wait_passes, why, choice_of, running_of, next_due_of, is_live_feed}
 use Rattle.gcd_history.specs.Choice.{is_work, worker_of}
 use Rattle.gcd_history.specs.Ends.{is_halted, HasState}
 use Rattle.gcd_history.specs.Sources.{joined}
@@ -96,6 +96,12 @@ abbrev pub RunsExclude : PlanView → List Event → Type 0
 RunsExclude plan h =
     (i o : ℕ) (r q : Run) → IsTrue (is_exclusive plan o) → OverlapAt h i r q
     → IsTrue (is_in o (chain_of_run plan (take i h) r)) → IsTrue (is_in o (chain_of_run plan (take i h) q)) → r ≡ q
+
+-- blocks that were submitted on one serial queue or source, and overlap, are one block (dispatch_queue_create(3))
+abbrev pub BlocksOfOneNodeApart : PlanView → List Event → Type 0
+BlocksOfOneNodeApart plan h =
+    (q : Obj) (a b : Blk) → IsTrue (is_exclusive plan q.0) → node_of plan h a.0 ≡ Some q → node_of plan h b.0 ≡ Some q
+    → Overlap h (Block a) (Block b) → a ≡ b
 
 -- a barrier of a concurrent queue other than root and a run of that queue that overlap are one run
 -- (dispatch_barrier_async(3))

@@ -9,7 +9,7 @@ ghost use Rattle.gcd_history.specs.History.{IsLawful, why, choice_of};
 ghost use Rattle.gcd_history.specs.Ends.{IsDrained, IsQuiescent, IsHalted, HasState};
 ghost use Rattle.gcd_history.specs.declared.state.State.{State};
 ghost use Rattle.gcd_history.specs.Values.{words_begun, begins_word};
-ghost use Rattle.gcd_history.specs.Laws.{RunsOnce, StartsAfterSubmission, AllEndOnce, IsSubmittedOnce, StartsInOrder, BeginsFree, WakesHaveCause, NoneParked, WaitsHavePassed, GroupWaitsPass, SemaphoreWaitsPass, IsConserved, RunsExclude, BarriersExclude, DeliversAlone, TreeStands, IsChoiceOf, HasNoChoice, HasSomeState, IsAtRest};
+ghost use Rattle.gcd_history.specs.Laws.{RunsOnce, StartsAfterSubmission, AllEndOnce, IsSubmittedOnce, StartsInOrder, BeginsFree, WakesHaveCause, NoneParked, WaitsHavePassed, GroupWaitsPass, SemaphoreWaitsPass, IsConserved, RunsExclude, BlocksOfOneNodeApart, BarriersExclude, DeliversAlone, TreeStands, IsChoiceOf, HasNoChoice, HasSomeState, IsAtRest};
 
 /// Each block starts at most once, after its submission, and ends at most once; where the run is drained each submitted
 /// block has ended exactly once (dispatch_async(3)).
@@ -36,6 +36,12 @@ pub fn blocks_start_in_order()
 /// [`deliveries_exclude_each_other`] speaks.
 pub fn runs_exclude_each_other()
     ensures { (plan : PlanView) (h : List Event) → IsPlan plan → IsLawful plan h → RunsExclude plan h }
+{}
+
+/// No two different blocks that were submitted on one serial queue overlap (dispatch_queue_create(3)). It follows from
+/// [`runs_exclude_each_other`].
+pub fn blocks_of_one_queue_exclude_each_other()
+    ensures { (plan : PlanView) (h : List Event) → IsPlan plan → IsLawful plan h → BlocksOfOneNodeApart plan h }
 {}
 
 /// No run of a concurrent queue other than root overlaps a barrier of that queue (dispatch_barrier_async(3)).

@@ -34,6 +34,7 @@
 //! | [`laws::blocks_run_once`], [`laws::blocks_are_submitted_once`] | a block starts at most once, after its one submission, and where all is drained it has ended |
 //! | [`laws::blocks_start_in_order`] | of two submissions on one node the later starts only after the earlier has started |
 //! | [`laws::runs_exclude_each_other`], [`laws::barriers_exclude`] | beneath a serial queue or source, and beside a barrier, a run is alone |
+//! | [`laws::blocks_of_one_queue_exclude_each_other`] | so blocks of one serial queue never overlap |
 //! | [`laws::deliveries_exclude_each_other`] | a delivery begins where no run of its source is open |
 //! | [`laws::runs_begin_free`] | what begins, begins with its whole chain free |
 //! | [`laws::wakes_have_causes`] | a parked block wakes only when what it waits for has come |
