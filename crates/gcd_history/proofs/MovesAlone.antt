@@ -12,7 +12,7 @@ use Rattle.gcd_history.specs.Permitted.{IsLawful}
 use Rattle.gcd_history.proofs.Lists.{none_counted}
 use Rattle.gcd_history.proofs.OpenNodes.{open_cases, open_any, open_on_to}
 use Rattle.gcd_history.proofs.TargetActs.{made_active, nodes_at}
-use Rattle.gcd_history.proofs.Walks.{in_own}
+use Rattle.gcd_plan.proofs.Walks.{in_own}
 use Rattle.gcd_history.proofs.TreeStands.{Step, stands, some_objects, asks, moving_before, was_open, kept_at, chain_step, begun_aim}
 
 -- a run is beneath its own node

@@ -19,7 +19,7 @@ use Rattle.gcd_history.proofs.Counts.{count_push}
 use Rattle.gcd_history.proofs.Lists.{count_by-cons, none_counted}
 use Rattle.gcd_history.proofs.Reasons.{allowed, at_start}
 use Rattle.gcd_history.proofs.Fitting.{has_object}
-use Rattle.gcd_history.proofs.Walks.{in_own}
+use Rattle.gcd_plan.proofs.Walks.{in_own}
 use Rattle.gcd_history.proofs.FreeAtStart.{deliver_begins_alone}
 use Rattle.gcd_history.proofs.OpenNodes.{any_open}
 use Rattle.gcd_history.proofs.SubmittedOnNodes.{kind_implies}

@@ -25,7 +25,8 @@ use Rattle.gcd_history.proofs.RunsOpen.{closes, same_run-true}
 use Rattle.gcd_history.proofs.Fitting.{has_object}
 use Rattle.gcd_history.proofs.FreeAtStart.{BeginsAlone, start_begins_alone, deliver_begins_alone}
 use Rattle.gcd_history.proofs.SubmittedOnce.{object_fields}
-use Rattle.gcd_history.proofs.Walks.{reaches, reaches-in, reaches_agree, Rerouted, rerouted_reaches, no_way_back, same_or_leaves, chain_agree}
+use Rattle.gcd_plan.proofs.Walks.{chain_agree}
+use Rattle.gcd_history.proofs.Walks.{reaches, reaches-in, reaches_agree, Rerouted, rerouted_reaches, no_way_back, same_or_leaves}
 use Rattle.gcd_history.proofs.SubmittedOnNodes.{recorded_fits}
 use Rattle.gcd_history.proofs.OpenNodes.{open_cases, open_on_from, open_on_to, node_kept_open, node_kept_begun, open_node}
 use Rattle.gcd_history.proofs.TargetActs.{TargetFacts, at_target, no_child, nodes_at, on_it, still_open, aim_unasked, walk_unasked}

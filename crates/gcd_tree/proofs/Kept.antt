@@ -7,7 +7,8 @@ use Rattle.gcd_plan.specs.declared.numbers.Obj.{Obj}
 use Rattle.gcd_plan.specs.Chains.{chain_by, is_in}
 use Rattle.gcd_tree.specs.TreeView.{TreeView, target_at, request_at, is_moving_at, open_on_at, is_node_at, chain_at, walk_next, would_cycle_at, is_child_of, has_child_at, open_from, open_beneath_at, with_request, with_open}
 use Rattle.gcd_tree.specs.IsTree.{IsTree}
-use Rattle.gcd_tree.proofs.Walks.{chain_by-same, ends_within, ends_redirected, parting, step_to, in_range}
+use Rattle.gcd_plan.proofs.Walks.{chain_agree}
+use Rattle.gcd_tree.proofs.Walks.{ends_within, ends_redirected, parting, step_to, in_range}
 use Rattle.gcd_tree.proofs.Ranges.{found_below, sum_by-same, sum_by-changed, term-le-sum_by, sum-by_place}
 
 -- ---- requests
@@ -287,7 +288,7 @@ module _ (view next : TreeView) (o t : ℕ) (tree : IsTree view) (change : Retar
   chain_stays : (m : ℕ) → is_in o (chain_at view m) ≡ false → chain_at next m ≡ chain_at view m
   chain_stays m without =
       ap (λ k. chain_by (target_at next) k m) change.as_many
-      ∙ chain_by-same (target_at view) (target_at next) (length view.targets) m
+      ∙ chain_agree (target_at view) (target_at next) (length view.targets) m
       (λ x on. change.targets x (λ e. both_ways _ without (subst (λ y. is_in y (chain_at view m) ≡ true) e on)))
 
   -- an open object's chain has not o
