@@ -1,8 +1,8 @@
 -- Only what was created active moves, and nothing is open beneath an object when its target has changed.
-use Rattle.std.proofs.Common.{◌≡◌, ⊎_elim, ℕ, suc, ◌<◌, true, ◌==◌, List, [], ◌∷◌, length, Some, refl, ap, sym, ◌∙◌, subst, arith}
-use Rattle.std.proofs.lemmas.Bool.{eq-eqb, or_left, cases_Bool}
+use Rattle.std.proofs.Common.{◌≡◌, ⊎_elim, ℕ, true, List, [], ◌∷◌, length, Some, ap, sym, ◌∙◌, subst}
+use Rattle.std.proofs.lemmas.Bool.{cases_Bool}
 use Rattle.gcd_plan.specs.PlanView.{PlanView, starts_active}
-use Rattle.gcd_plan.specs.Chains.{chain_by, is_in}
+use Rattle.gcd_plan.specs.Chains.{is_in}
 use Rattle.gcd_plan.specs.Validity.{IsPlan}
 use Rattle.gcd_plan.specs.declared.numbers.Run.{Run}
 use Rattle.gcd_event.specs.declared.event.Event.{Event}

@@ -3,7 +3,7 @@ use Rattle.std.proofs.Common.{◌≡◌, ◌⊎◌, ⊎_elim, true, false, List,
 use Rattle.std.proofs.lemmas.Bool.{both_ways, or_left, or_right, or_cases, cases_Bool}
 use Rattle.gcd_plan.specs.PlanView.{PlanView}
 use Rattle.gcd_event.specs.declared.event.Event.{Event}
-use Rattle.gcd_event.specs.declared.event.Event.TheVariants.{Misuse, Halt}
+use Rattle.gcd_event.specs.declared.event.Event.TheVariants.{Misuse}
 use Rattle.gcd_history.specs.declared.state.State.{State}
 use Rattle.gcd_history.specs.declared.state.State.TheVariants.{Drained, Stuck, Misused, Halted, Live}
 use Rattle.gcd_history.specs.Permitted.{ends_in_misuse as misuse_last, ends_in_halt as halt_last, is_halted as halted_after}

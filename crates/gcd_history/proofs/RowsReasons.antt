@@ -4,7 +4,7 @@ use Rattle.gcd_plan.specs.PlanView.{PlanView}
 use Rattle.gcd_plan.specs.declared.act.Act.TheVariants.{Async, Barrier, Suspend, Resume, Activate, Merge, Retain}
 use Rattle.gcd_plan.specs.declared.kind.Kind.TheVariants.{Add, Read}
 use Rattle.gcd_plan.specs.declared.why.Why.{Why}
-use Rattle.gcd_plan.specs.declared.why.Why.TheVariants.{Over, NoSuch, Busy, Unready, Behind, NotFree, Excluded, Fenced, NotOwn, NotNext, IsMisuse, NotParked, NotDue, NotLive, NotMisuse}
+use Rattle.gcd_plan.specs.declared.why.Why.TheVariants.{Over, NoSuch, Busy, Unready, Behind, NotFree, Excluded, NotOwn, NotNext, IsMisuse, NotParked, NotLive, NotMisuse}
 use Rattle.gcd_event.specs.declared.event.Event.{Event}
 use Rattle.gcd_event.specs.declared.event.Event.TheVariants.{Start, Act as Acted, Wake, End, Deliver, DeliverEnd, Tick, Ready, FeedEnd, Misuse, Halt}
 use Rattle.gcd_history.specs.History.{why}

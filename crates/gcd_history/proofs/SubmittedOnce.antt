@@ -1,6 +1,6 @@
 -- Each block is submitted at most once: a count of what the events so far have submitted, with the notify blocks that wait,
 -- against what the plan's acts and cancellation blocks give in all.
-use Rattle.std.proofs.Common.{◌≡◌, ⊎_elim, ℕ, ◌+◌, ◌<◌, ◌≤◌, Bool, true, false, not, ◌&&◌, ◌||◌, cond, ◌==◌, leb, ltb, List, [], ◌∷◌, ◌++◌, length, take, Option, Some, None, count_by, refl, ap, sym, ◌∙◌, subst, arith}
+use Rattle.std.proofs.Common.{◌≡◌, ⊎_elim, ℕ, ◌+◌, ◌<◌, ◌≤◌, Bool, true, false, not, ◌&&◌, ◌||◌, cond, ◌==◌, ltb, List, [], ◌∷◌, ◌++◌, length, take, Option, Some, None, count_by, refl, ap, sym, ◌∙◌, subst, arith}
 use Rattle.std.specs.List.{sum_by, slice_get, flat_map, range_with_len, list_all}
 use Rattle.std.specs.Option.{option_to_list, option_map_or, option_and_then, is_none}
 use Rattle.std.proofs.lemmas.Bool.{eqb-true, eq-eqb, and_parts, both_ways, cases_eq, or_parts, ltb-true, ne_eqb}

@@ -1,5 +1,5 @@
 -- The words of a text are as many as the places where one begins.
-use Rattle.std.proofs.Common.{◌≡◌, ℕ, zero, suc, ◌+◌, ◌-◌, Bool, true, false, not, ◌&&◌, ◌||◌, ◌==◌, cond, List, [], ◌∷◌, length, refl, ap, sym, ◌∙◌, arith}
+use Rattle.std.proofs.Common.{◌≡◌, ℕ, zero, suc, ◌+◌, ◌-◌, Bool, true, false, not, ◌&&◌, ◌||◌, cond, List, [], ◌∷◌, length, refl, ap, sym, ◌∙◌, arith}
 use Rattle.std.specs.List.{count_by, range_with_len, slice_get}
 use Rattle.std.specs.Option.{option_map_or}
 use Rattle.std.proofs.Math.Path.{fun_ext}

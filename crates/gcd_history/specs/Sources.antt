@@ -10,7 +10,7 @@ use Rattle.gcd_plan.specs.declared.act.Act.TheVariants.{Merge}
 use Rattle.gcd_plan.specs.declared.kind.Kind.{Kind}
 use Rattle.gcd_event.specs.declared.event.Event.{Event}
 use Rattle.gcd_event.specs.declared.event.Event.TheVariants.{Start, Act as Acted, Wake, End, Deliver, DeliverEnd, Tick, Ready, FeedEnd, Misuse, Halt}
-use Rattle.gcd_history.specs.Runs.{act_of, act_at}
+use Rattle.gcd_history.specs.Runs.{act_at}
 use Rattle.gcd_history.specs.Holds.{is_active}
 use Rattle.gcd_history.specs.Submitted.{is_cancelled}
 use Rattle.gcd_history.specs.Timers.{now, is_due}
