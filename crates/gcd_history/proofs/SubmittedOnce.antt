@@ -19,7 +19,7 @@ use Rattle.gcd_plan.specs.declared.numbers.Run.{Run}
 use Rattle.gcd_plan.specs.declared.numbers.Run.TheVariants.{Block, Source}
 use Rattle.gcd_event.specs.declared.event.Event.{Event}
 use Rattle.gcd_event.specs.declared.event.Event.TheVariants.{Start, Act as Acted}
-use Rattle.gcd_plan.proofs.Lists.{count_by-flat_map}
+use Rattle.gcd_plan.proofs.Sums.{count_by-flat_map}
 use Rattle.gcd_history.specs.declared.submission.Submission.{Submission}
 use Rattle.gcd_history.specs.Runs.{same_run, acts_done, act_at, act_of, is_open, is_started}
 use Rattle.gcd_history.specs.Groups.{count}

@@ -1,5 +1,5 @@
 // Whether names are well formed and apart.
-ghost use Rattle.std.specs.Prelude.{◌≡◌, ◌≤◌, ◌==◌, ℕ, List, string_bytes, count_by, length};
+ghost use Rattle.std.specs.Prelude.{◌≡◌, ◌==◌, ℕ, List, string_bytes, count_by};
 ghost use Rattle.std.specs.List.{list_all};
 ghost use Rattle.std.specs.Str.{bytes_eq};
 ghost use Rattle.gcd_plan.specs.WithinLimits.{IsWithinLimits};

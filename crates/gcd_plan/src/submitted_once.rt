@@ -1,17 +1,17 @@
 // Whether each block is submitted at most once.
-ghost use Rattle.std.specs.Prelude.{◌≡◌, ◌≤◌, ◌==◌, ◌++◌, count_by, length, true};
+ghost use Rattle.std.specs.Prelude.{◌≡◌, ◌==◌, ◌++◌, count_by, true};
 ghost use Rattle.std.specs.List.{list_all};
 ghost use Rattle.std.specs.Option.{option_map_or, option_to_list};
 ghost use Rattle.gcd_plan.specs.WithinLimits.{IsWithinLimits};
 ghost use Rattle.gcd_plan.specs.PlanView.{view_of};
-ghost use Rattle.gcd_plan.specs.Validity.{submitted_blocks, act_count, block_of, blocks_of};
+ghost use Rattle.gcd_plan.specs.Validity.{submitted_blocks, block_of, blocks_of};
 
 use crate::act::Act;
 use crate::numbers::Blk;
 use crate::once_valid::{block_of, block_submissions, object_submissions};
 use crate::parts::{ObjPart, Parts};
 
-#[tactic(auto, using(crate::proofs::Valid::submissions_counted, crate::proofs::Valid::acts_seen, crate::proofs::Lists::sum_by_one_more))]
+#[tactic(auto, using(crate::proofs::Valid::submissions_counted, crate::proofs::Valid::acts_seen, crate::proofs::Sums::sum_by_one_more))]
 fn is_submitted_once(parts: &Parts, b: Blk) -> bool
     requires { IsWithinLimits parts.now }
     ensures { result ≡ (count_by (λ c. c.0 == b.0) (submitted_blocks (view_of parts.now)) == 1) }

@@ -7,7 +7,7 @@ ghost use Rattle.gcd_plan.specs.Limits.{max_time};
 ghost use Rattle.gcd_plan.specs.WithinLimits.{IsWithinLimits};
 ghost use Rattle.gcd_plan.specs.PlanView.{view_of, obj_view, blk_view, file_view};
 ghost use Rattle.gcd_plan.specs.Names.{is_name};
-ghost use Rattle.gcd_plan.specs.Validity.{IsPlan, root_view, reaches_root, act_count, names_of, submitted_blocks, is_object, is_block, is_file};
+ghost use Rattle.gcd_plan.specs.Validity.{IsPlan, root_view, reaches_root, names_of, submitted_blocks, is_object, is_block, is_file};
 
 use crate::kind::Kind;
 use crate::limits::{MAX_BLOCKS, MAX_FILES, MAX_OBJECTS, MAX_TIME};

@@ -1,5 +1,5 @@
 use Rattle.std.proofs.Common.{◌==◌, length, ap, sym, arith}
-use Rattle.gcd_plan.proofs.Lists.{sum_by_one_more}
+use Rattle.gcd_plan.proofs.Sums.{sum_by_one_more}
 use Rattle.gcd_plan.proofs.Valid.{acts_seen, submissions_counted}
 use Rattle.gcd_plan.proofs.submitted_once.is_submitted_once.Goals as goal
 
