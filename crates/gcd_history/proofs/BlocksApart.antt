@@ -12,7 +12,7 @@ use Rattle.gcd_history.specs.Runs.{is_open}
 use Rattle.gcd_history.specs.Submitted.{submission_of}
 use Rattle.gcd_history.specs.Tree.{node_of_run}
 use Rattle.gcd_history.specs.Permitted.{IsLawful}
-use Rattle.gcd_history.proofs.Options.{some_kept}
+use Rattle.gcd_plan.proofs.Options.{some_from_is_some}
 use Rattle.gcd_history.proofs.StartedOnce.{started_from_open, submitted_from_started, submission_of-kept}
 use Rattle.gcd_history.proofs.MovesAlone.{beneath_own}
 use Rattle.gcd_history.proofs.RunsAlone.{runs_alone}
@@ -26,7 +26,7 @@ kept_later plan (e ∷ later) past b s is = submission_of-kept plan e (later ++ 
 node_already : (plan : PlanView) (later past : List Event) (b : Blk) (q : Obj) → IsLawful plan past → is_open past (Block b) ≡ true
     → option_and_then (λ s. s.node) (submission_of plan (later ++ past) b.0) ≡ Some q → node_of_run plan past (Block b) ≡ Some q.0
 node_already plan later past b q lawful live node =
-    let s = some_kept (submission_of plan past b.0) (submitted_from_started plan past lawful b.0 (started_from_open past b live)) in
+    let s = some_from_is_some (submission_of plan past b.0) (submitted_from_started plan past lawful b.0 (started_from_open past b live)) in
     let same = s.1 ∙ sym (kept_later plan later past b.0 s.0 s.1) in
     ap (option_map (λ o. o.0)) (ap (option_and_then (λ t. t.node)) same ∙ node)
 

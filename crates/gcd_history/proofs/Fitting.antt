@@ -36,22 +36,22 @@ not_root test plan zero valid other h =
     absurd (both_ways (has_kind test plan 0) root h)
 not_root test plan (suc s) valid other h = omega arith
 
-numbered : (test : Kind → Bool) (plan : PlanView) (s : ℕ) → IsPlan plan → test Concurrent ≡ false → has_kind test plan s ≡ true → (1 ≤ s) × (s ≤ max_objects - 1)
+numbered : (test : Kind → Bool) (plan : PlanView) (s : ℕ) → IsPlan plan → test Concurrent ≡ false → has_kind test plan s ≡ true → (1 ≤ s) × (s < max_objects)
 numbered test plan s valid other h =
     let within : s < length plan.objects = has_object test plan s h in
     let few : length plan.objects ≤ max_objects = valid.few_objects in
     (not_root test plan s valid other h, omega arith)
 
-block_fits : (plan : PlanView) (b : ℕ) → IsPlan plan → has_block plan b ≡ true → b ≤ max_blocks - 1
+block_fits : (plan : PlanView) (b : ℕ) → IsPlan plan → has_block plan b ≡ true → b < max_blocks
 block_fits plan b valid h =
     let within : b < length plan.blocks = ltb-true b (length plan.blocks) h in
     let few : length plan.blocks ≤ max_blocks = valid.few_blocks in
     omega arith
 
-source_fits : (plan : PlanView) (s : ℕ) → IsPlan plan → is_source plan s ≡ true → (1 ≤ s) × (s ≤ max_objects - 1)
+source_fits : (plan : PlanView) (s : ℕ) → IsPlan plan → is_source plan s ≡ true → (1 ≤ s) × (s < max_objects)
 source_fits plan s valid h = numbered is_source_kind plan s valid refl h
 
-feed_fits : (plan : PlanView) (s : ℕ) → IsPlan plan → is_feed plan s ≡ true → (1 ≤ s) × (s ≤ max_objects - 1)
+feed_fits : (plan : PlanView) (s : ℕ) → IsPlan plan → is_feed plan s ≡ true → (1 ≤ s) × (s < max_objects)
 feed_fits plan s valid h = numbered is_read_kind plan s valid refl h
 
 run_fits : (plan : PlanView) (run : Run) → IsPlan plan → is_run_of plan run ≡ true → IsRun run
@@ -69,7 +69,7 @@ known_fits plan (Start w b) valid h =
 known_fits plan (Acted w run i) valid h =
     let parts = and_parts (is_worker w) (is_run_of plan run && is_index i) h in
     let rest = and_parts (is_run_of plan run) (is_index i) parts.1 in
-    (worker_fits w parts.0, run_fits plan run valid rest.0, leb-true i (max_acts - 1) rest.1)
+    (worker_fits w parts.0, run_fits plan run valid rest.0, ltb-true i max_acts rest.1)
 known_fits plan (Wake w b) valid h =
     let parts = and_parts (is_worker w) (has_block plan b.0) h in
     (worker_fits w parts.0, block_fits plan b.0 valid parts.1)
@@ -98,7 +98,7 @@ known_fits plan (Misuse w run i c) valid h =
     let placed = and_parts (is_index i) (is_code c) named.1 in
     let coded = and_parts (ltb 0 c) (leb c (code_of ReleaseBelowFirstValue)) placed.1 in
     let above : 0 < c = ltb-true 0 c coded.0 in
-    (worker_fits w parts.0, run_fits plan run valid named.0, leb-true i (max_acts - 1) placed.0, omega arith, leb-true c (code_of ReleaseBelowFirstValue) coded.1)
+    (worker_fits w parts.0, run_fits plan run valid named.0, ltb-true i max_acts placed.0, omega arith, leb-true c (code_of ReleaseBelowFirstValue) coded.1)
 known_fits plan Halt valid h = tt
 
 pub permitted_fits : (plan : PlanView) (h : List Event) (e : Event) → IsPlan plan → why plan h e ≡ None → IsFitting e

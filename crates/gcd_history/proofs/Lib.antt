@@ -1,5 +1,4 @@
 pub mod Lists
-pub mod Options
 pub mod LawfulLemmas
 pub mod Reasons
 pub mod Fitting

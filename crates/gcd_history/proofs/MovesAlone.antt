@@ -9,7 +9,7 @@ use Rattle.gcd_event.specs.declared.event.Event.{Event}
 use Rattle.gcd_history.specs.Runs.{open_runs, is_open}
 use Rattle.gcd_history.specs.Tree.{target, is_moving, node_of_run, chain_of_run, open_beneath}
 use Rattle.gcd_history.specs.Permitted.{IsLawful}
-use Rattle.gcd_history.proofs.Lists.{none_counted}
+use Rattle.gcd_plan.proofs.Sums.{count_by_none}
 use Rattle.gcd_history.proofs.OpenNodes.{open_cases, open_any, open_on_to}
 use Rattle.gcd_history.proofs.TargetActs.{made_active, nodes_at}
 use Rattle.gcd_plan.proofs.Walks.{in_own}
@@ -43,7 +43,7 @@ kept_beneath plan e past valid h o q on inside =
 
 pub changes_alone : (plan : PlanView) (e : Event) (past : List Event) → IsPlan plan → IsLawful plan (e ∷ past) → (o : ℕ) → (target plan (e ∷ past) o ≡ target plan past o → ⊥) → open_beneath plan (e ∷ past) o ≡ 0
 changes_alone plan e past valid h o changed =
-    none_counted (λ run. is_in o (chain_of_run plan (e ∷ past) run)) (open_runs (e ∷ past))
+    count_by_none (λ run. is_in o (chain_of_run plan (e ∷ past) run)) (open_runs (e ∷ past))
     (⊎_elim
     (λ some.
     let q = open_any (e ∷ past) (λ run. is_in o (chain_of_run plan (e ∷ past) run)) some in

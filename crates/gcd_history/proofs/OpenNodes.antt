@@ -18,7 +18,7 @@ use Rattle.gcd_history.specs.Runs.{same_run, opens, open_runs, is_open}
 use Rattle.gcd_history.specs.Submitted.{submitted, submission_of}
 use Rattle.gcd_history.specs.Tree.{node_of_run, is_run_on, is_open_on}
 use Rattle.gcd_history.specs.Permitted.{IsLawful, is_worker}
-use Rattle.gcd_history.proofs.Options.{some_kept, some_from_eqb}
+use Rattle.gcd_plan.proofs.Options.{some_from_is_some, some_from_eqb}
 use Rattle.gcd_history.proofs.RunsOpen.{closes, same_run-true, same_run-refl, is_open-step}
 use Rattle.gcd_history.proofs.Reasons.{allowed, at_start}
 use Rattle.gcd_history.proofs.StartedOnce.{started_from_open, submitted_from_started, submission_of-kept}
@@ -70,7 +70,7 @@ open_on_to plan past o h =
 
 node_kept : (plan : PlanView) (e : Event) (past : List Event) (b : Blk) → is_some (submission_of plan past b.0) ≡ true → node_of_run plan (e ∷ past) (Block b) ≡ node_of_run plan past (Block b)
 node_kept plan e past b some =
-    let s = some_kept (submission_of plan past b.0) some in
+    let s = some_from_is_some (submission_of plan past b.0) some in
     let stays : submission_of plan (e ∷ past) b.0 ≡ submission_of plan past b.0 = submission_of-kept plan e past b.0 s.0 s.1 ∙ sym s.1 in
     ap (λ o. option_map (λ q. q.0) (option_and_then (λ t. t.node) o)) stays
 

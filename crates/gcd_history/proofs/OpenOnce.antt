@@ -15,8 +15,8 @@ use Rattle.gcd_event.specs.declared.event.Event.TheVariants.{Start, End, Deliver
 use Rattle.gcd_history.specs.Runs.{same_run, open_runs, is_open, is_started}
 use Rattle.gcd_history.specs.Tree.{target, chain, chain_of_run, is_open_beneath}
 use Rattle.gcd_history.specs.Permitted.{IsLawful, is_worker}
-use Rattle.gcd_history.proofs.Counts.{count_push}
-use Rattle.gcd_history.proofs.Lists.{count_by-cons, none_counted}
+use Rattle.gcd_plan.proofs.Sums.{count_by_push}
+use Rattle.gcd_plan.proofs.Sums.{count_by-cons, count_by_none}
 use Rattle.gcd_history.proofs.Reasons.{allowed, at_start}
 use Rattle.gcd_history.proofs.Fitting.{has_object}
 use Rattle.gcd_plan.proofs.Walks.{in_own}
@@ -40,10 +40,10 @@ fewer p q (x ∷ xs) =
 -- one that is not open yet is one afterwards
 one_begins : (past : List Event) (new run : Run) → is_open past new ≡ false → count_by (same_run run) (open_runs past) ≤ 1 → count_by (same_run run) (open_runs past ++ new ∷ []) ≤ 1
 one_begins past new run shut few =
-    let push = count_push (same_run run) (open_runs past) new in
+    let push = count_by_push (same_run run) (open_runs past) new in
     elim (same_run run new) as (λ v. same_run run new ≡ v → count_by (same_run run) (open_runs past ++ new ∷ []) ≤ 1) [
       | true ↦ λ e.
-          let none = none_counted (same_run run) (open_runs past) (subst (λ r. list_any (same_run r) (open_runs past) ≡ false) (sym (same_run-true run new e)) shut) in
+          let none = count_by_none (same_run run) (open_runs past) (subst (λ r. list_any (same_run r) (open_runs past) ≡ false) (sym (same_run-true run new e)) shut) in
           let c = ap (λ v. cond {A = ℕ} v 1 0) e in
           omega (arith, push, none, c)
       | false ↦ λ e. let c = ap (λ v. cond {A = ℕ} v 1 0) e in omega (arith, push, few, c)

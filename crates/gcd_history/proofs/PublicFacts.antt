@@ -18,7 +18,7 @@ use Rattle.gcd_history.specs.Ends.{is_halted}
 use Rattle.gcd_history.specs.Choice.{worker_of}
 use Rattle.gcd_history.specs.Facts.{HasOneRun, OpenOnce, GivesToFree, RunsGoOn, IsFreeWorker, FreeWorkersAreAlike, wakes, MayWakeUntilWoken, WakesArePermitted, AllFit, OnlyActiveMove, TargetsChangeAlone}
 use Rattle.gcd_history.proofs.Lists.{reverse_push, list_any-reverse}
-use Rattle.gcd_history.proofs.Options.{none_is}
+use Rattle.gcd_plan.proofs.Options.{none_from_is_none}
 use Rattle.gcd_history.proofs.LawfulLemmas.{lawful_after}
 use Rattle.gcd_history.proofs.Fitting.{permitted_fits}
 use Rattle.gcd_history.proofs.OneRun.{one_run, gives_to_idle, idle_has_none}
@@ -46,7 +46,7 @@ pub runs_go_on : (plan : PlanView) (h : List Event) → IsPlan plan → IsLawful
 unfolding is_halted is_running has_run why
 runs_go_on plan h valid lawful on run running =
     let parts = and_parts (is_open (reverse h) run) (is_none (parked_by plan (reverse h) run)) running in
-    let own = own_event plan (reverse h) valid (lawful_after plan h lawful) on run parts.0 (none_is (parked_by plan (reverse h) run) parts.1) in
+    let own = own_event plan (reverse h) valid (lawful_after plan h lawful) on run parts.0 (none_from_is_none (parked_by plan (reverse h) run) parts.1) in
     record { event = own.event; permitted = own.permitted_now; own = own.of_run; by = own.by }
 
 pub free_alike : (plan : PlanView) (h : List Event) → FreeWorkersAreAlike plan h

@@ -23,8 +23,10 @@ use Rattle.gcd_history.specs.Choice.{choice, all_ended as all_ended_after}
 use Rattle.gcd_history.specs.History.{why, IsLawful, node_of, is_started, is_submitted, submitted_of, is_free, chain_of_run as outer_chain, reason_of, has_come, group_wait_passes, semaphore_wait_passes, received_of, pending_of, merged_of, is_open, is_active, chain_of, node_of_run, is_barrier_on, choice_of, running_of, next_due_of, is_live_feed}
 use Rattle.gcd_history.specs.Ends.{IsDrained, all_ended, IsQuiescent, IsHalted, is_halted}
 use Rattle.gcd_history.specs.Laws.{RunsOnce, StartsAfterSubmission, AllEndOnce, IsSubmittedOnce, StartsInOrder, BeginsFree, WakesHaveCause, NoneParked, WaitsHavePassed, GroupWaitsPass, SemaphoreWaitsPass, IsConserved, RunsExclude, BlocksOfOneNodeApart, BarriersExclude, DeliversAlone, TreeStands, IsChoiceOf, HasNoChoice, IsAtRest}
-use Rattle.gcd_history.proofs.Lists.{count_by-reverse, some_counted, found_passes, past_more}
-use Rattle.gcd_history.proofs.Options.{some_kept}
+use Rattle.gcd_plan.proofs.Places.{past_from_slice_get}
+use Rattle.gcd_history.proofs.Lists.{count_by-reverse, found_passes, past_more}
+use Rattle.gcd_plan.proofs.Sums.{count_by_some}
+use Rattle.gcd_plan.proofs.Options.{some_from_is_some}
 use Rattle.gcd_history.proofs.LawfulLemmas.{lawful_after, lawful_take}
 use Rattle.gcd_history.proofs.Reasons.{allowed, at_start, at_wake}
 use Rattle.gcd_history.proofs.StartedOnce.{started_once, ended_once}
@@ -41,11 +43,6 @@ use Rattle.gcd_history.proofs.TreeStands.{stands, chain_step}
 use Rattle.gcd_history.proofs.Walks.{reaches-in}
 use Rattle.gcd_history.proofs.Choices.{chosen_is, chosen_where_permitted}
 use Rattle.gcd_history.proofs.Quiet.{quiescent_from_rest, rest_from_quiescent, only_halt}
-
-none_past : {X : Type 0} → (xs : List X) (i : ℕ) → slice_get xs i ≡ None → length xs ≤ i
-none_past [] i h = omega arith
-none_past (x ∷ xs) zero h = cc
-none_past (x ∷ xs) (suc i) h = let rest = none_past xs i h in omega arith
 
 pub runs_once : (plan : PlanView) (h : List Event) → IsLawful plan h → RunsOnce h
 runs_once plan h lawful =
@@ -65,11 +62,11 @@ pub all_end_once : (plan : PlanView) (h : List Event) → IsLawful plan h → Is
 unfolding is_submitted all_ended
 all_end_once plan h lawful drained b submitted_one =
     let past = lawful_after plan h lawful in
-    let s = some_kept (submission_of plan (reverse h) b) submitted_one in
+    let s = some_from_is_some (submission_of plan (reverse h) b) submitted_one in
     let found = found_passes (λ t. t.blk.0 == b) (λ t. is_ended_after (reverse h) t.blk.0) (submitted plan (reverse h)) s.0 s.1 drained.ended in
     let same : s.0.blk.0 ≡ b = eqb-true s.0.blk.0 b found.0 in
     let ended : is_ended_after (reverse h) b ≡ true = subst (λ n. is_ended_after (reverse h) n ≡ true) same found.1 in
-    let some : 1 ≤ count_by (ends b) (reverse h) = some_counted (ends b) (reverse h) ended in
+    let some : 1 ≤ count_by (ends b) (reverse h) = count_by_some (ends b) (reverse h) ended in
     let once = ended_once plan (reverse h) past b in
     let turned = count_by-reverse (ends b) h in
     omega arith
@@ -98,7 +95,7 @@ unfolding IsLawful why reason_of has_come
 wakes_have_cause plan h lawful i w b at =
     let past = reverse (take i h) in
     let facts = at_wake plan past w b (lawful i (Wake w b) at) in
-    let r = some_kept (reason plan past (Block b)) (parked_reason plan past b.0 facts.parked) in
+    let r = some_from_is_some (reason plan past (Block b)) (parked_reason plan past b.0 facts.parked) in
     record { reason = r.0; parked = r.1; come = came plan past b.0 r.0 r.1 facts.came }
 
 pub none_is_parked : (plan : PlanView) (h : List Event) → IsLawful plan h → IsDrained plan h → NoneParked plan h
@@ -179,7 +176,7 @@ chain_at : (plan : PlanView) (h : List Event) → IsPlan plan → IsLawful plan 
 unfolding is_open outer_chain
 chain_at plan h valid lawful i run before now =
     elim (slice_get h i) as (λ o. slice_get h i ≡ o → chain_of_run plan (reverse (take (i + 1) h)) run ≡ chain_of_run plan (reverse (take i h)) run) [
-      | None ↦ λ none. ap (λ l. chain_of_run plan (reverse l) run) (no_more h i (none_past h i none))
+      | None ↦ λ none. ap (λ l. chain_of_run plan (reverse l) run) (no_more h i (past_from_slice_get h i none))
       | Some e ↦ λ some.
           let within : i < length h = slice_get_within h i e some in
           let turned : reverse (take (i + 1) h) ≡ e ∷ reverse (take i h) = past_more h i e within ∙ ap (λ d. d ∷ reverse (take i h)) (get_or_from_slice_get h i e e some) in

@@ -3,7 +3,7 @@
 use Rattle.std.proofs.Common.{◌≡◌, ◌⊎◌, inl, inr, ⊎_elim, ℕ, ◌+◌, ◌-◌, ◌<◌, ◌≤◌, Bool, true, false, not, ◌&&◌, cond, ◌==◌, ltb, leb, List, [], ◌∷◌, length, get_or, Some, None, is_some, is_none, option_and_then, refl, ap, sym, ◌∙◌, subst, arith}
 use Rattle.std.specs.List.{list_any, list_all, sum_by, slice_get, range_with_len}
 use Rattle.std.specs.Option.{option_map_or}
-use Rattle.std.proofs.lemmas.Bool.{eqb-true, eq-eqb, and_parts, and_from, and_right, both_ways, le-leb, cases_Bool, not-true, false_from_ne_true}
+use Rattle.std.proofs.lemmas.Bool.{eqb-true, eq-eqb, and_parts, and_from, and_right, both_ways, lt-ltb, cases_Bool, not-true, false_from_ne_true}
 use Rattle.std.proofs.lemmas.Option.{same_Some, none-some, slice_get_within, get_or_from_slice_get}
 use Rattle.std.proofs.lemmas.List.Sums.{get_or-le-sum_by}
 use Rattle.gcd_plan.specs.Limits.{max_acts}
@@ -33,9 +33,11 @@ use Rattle.gcd_history.specs.Misuses.{first_code, act_misuses, is_released, name
 use Rattle.gcd_history.specs.Permitted.{why, permitted, IsLawful, is_halted, is_known, is_worker, is_index, is_code, has_block, is_run_of, is_ready, knowledge, node_reasons, is_next, has_act_left, misuse_at, reasons}
 use Rattle.gcd_history.specs.Choice.{choice, is_work, worker_of, IsQuiescent}
 use Rattle.gcd_history.specs.Facts.{is_of_run, by_worker}
-use Rattle.gcd_history.proofs.Lists.{some_counted, none_counted, any_in_range, list_any_same, none_passes}
+use Rattle.gcd_history.proofs.Lists.{none_passes}
+use Rattle.gcd_plan.proofs.Quantifiers.{list_any_in_range, list_any_agree}
+use Rattle.gcd_plan.proofs.Sums.{count_by_some, count_by_none}
 use Rattle.gcd_history.proofs.Fitting.{has_object}
-use Rattle.gcd_history.proofs.Options.{none_is}
+use Rattle.gcd_plan.proofs.Options.{none_from_is_none}
 use Rattle.gcd_history.proofs.RunsOpen.{same_run-refl}
 use Rattle.gcd_history.proofs.Reasons.{first_none, allowed, at_act, at_end, at_deliver_end, at_misuse, at_tick, at_ready, at_feed_end}
 use Rattle.gcd_history.proofs.OpenNodes.{open_cases, any_open, open_any}
@@ -62,7 +64,7 @@ unfolding has_run
 none_has plan past w r quiet own =
     let parts = and_parts (is_open past r) _ own in
     let unparked = (and_parts (is_none (parked_by plan past r)) _ parts.1).0 in
-    let some : 1 ≤ running plan past = some_counted (λ q. is_none (parked_by plan past q)) (open_runs past) (any_open past (λ q. is_none (parked_by plan past q)) r parts.0 unparked) in
+    let some : 1 ≤ running plan past = count_by_some (λ q. is_none (parked_by plan past q)) (open_runs past) (any_open past (λ q. is_none (parked_by plan past q)) r parts.0 unparked) in
     omega arith
 
 pub all_free : (plan : PlanView) (past : List Event) (w : ℕ) → running plan past ≡ 0 → HasNone plan past w
@@ -220,7 +222,7 @@ source_length plan s i act at =
           omega arith
     ] refl at
 
-index_fits : (plan : PlanView) (r : Run) (i : ℕ) (act : Act) → IsPlan plan → act_at plan r i ≡ Some act → i ≤ max_acts - 1
+index_fits : (plan : PlanView) (r : Run) (i : ℕ) (act : Act) → IsPlan plan → act_at plan r i ≡ Some act → i < max_acts
 index_fits plan (Block b) i act valid at =
     let within = block_length plan b i act at in
     let few : sum_by (λ blk. length blk.acts) plan.blocks + sum_by (λ obj. length obj.handler) plan.objects ≤ max_acts = valid.few_acts in
@@ -276,7 +278,7 @@ act_code plan past r i c act at h = sym (ap (option_and_then (misuse plan past))
 act_event : (plan : PlanView) (past : List Event) (w : ℕ) → IsPlan plan → is_halted past ≡ false → is_worker w ≡ true → (r : Run) → is_run_of plan r ≡ true → has_run plan past w r ≡ true → (act : Act) → act_at plan r (acts_done past r) ≡ Some act → OwnEvent plan past r
 act_event plan past w valid on fits r known own act at =
     let i = acts_done past r in
-    let low : is_index i ≡ true = le-leb i (max_acts - 1) (index_fits plan r i act valid at) in
+    let low : is_index i ≡ true = lt-ltb i max_acts (index_fits plan r i act valid at) in
     let next = next_is plan past r act at in
     elim (misuse_at plan past r i) as (λ o. misuse_at plan past r i ≡ o → OwnEvent plan past r) [
       | None ↦ λ fine. record {
@@ -339,7 +341,7 @@ pub quiescent_from_rest : (plan : PlanView) (past : List Event) → IsPlan plan 
 quiescent_from_rest plan past valid lawful rest = record {
   goes_on = rest.goes_on;
   no_work = λ e work. ⊎_elim
-      (λ may. absurd (both_ways (is_some (choice plan past 0 0)) (ap is_some rest.no_choice) (zero_chooses plan past e valid rest.idle work (none_is (why plan past e) may))))
+      (λ may. absurd (both_ways (is_some (choice plan past 0 0)) (ap is_some rest.no_choice) (zero_chooses plan past e valid rest.idle work (none_from_is_none (why plan past e) may))))
       (λ none. none)
       (cases_Bool (permitted plan past e));
   no_time = rest.no_time;
@@ -351,9 +353,9 @@ none_running plan past valid lawful quiet =
     ⊎_elim
     (λ some.
     let r = open_any past (λ q. is_none (parked_by plan past q)) some in
-    let own = own_event plan past valid lawful quiet.goes_on r.0 r.1 (none_is (parked_by plan past r.0) r.2) in
+    let own = own_event plan past valid lawful quiet.goes_on r.0 r.1 (none_from_is_none (parked_by plan past r.0) r.2) in
     absurd (both_ways (permitted plan past own.event) (quiet.no_work own.event own.work) (ap is_none own.permitted_now)))
-    (λ none. none_counted (λ q. is_none (parked_by plan past q)) (open_runs past) none)
+    (λ none. count_by_none (λ q. is_none (parked_by plan past q)) (open_runs past) none)
     (cases_Bool (list_any (λ q. is_none (parked_by plan past q)) (open_runs past)))
 
 pub rest_from_quiescent : (plan : PlanView) (past : List Event) → IsPlan plan → IsLawful plan past → IsQuiescent plan past → AtRest plan past
@@ -382,7 +384,7 @@ none_live : (plan : PlanView) (past : List Event) → list_any (is_live_feed pla
 unfolding is_live_feed
 none_live plan past none s = false_from_ne_true (is_live_feed plan past s) (λ live.
     let low = has_object is_read_kind plan s (and_parts (has_kind is_read_kind plan s) _ live).0 in
-    both_ways (list_any (is_live_feed plan past) (range_with_len 0 (length plan.objects))) none (any_in_range (is_live_feed plan past) (length plan.objects) s low live))
+    both_ways (list_any (is_live_feed plan past) (range_with_len 0 (length plan.objects))) none (list_any_in_range (is_live_feed plan past) (length plan.objects) s low live))
 
 rest_from_test : (plan : PlanView) (past : List Event) → is_halted past ≡ false → rests plan past ≡ true → AtRest plan past
 rest_from_test plan past on test =
@@ -392,8 +394,8 @@ rest_from_test plan past on test =
     record {
       goes_on = on;
       idle = eqb-true (running plan past) 0 one.0;
-      no_choice = none_is (choice plan past 0 0) two.0;
-      no_time = none_is (next_due plan past) three.0;
+      no_choice = none_from_is_none (choice plan past 0 0) two.0;
+      no_time = none_from_is_none (next_due plan past) three.0;
       no_feed = λ s. none_live plan past (not-true (list_any (is_live_feed plan past) (range_with_len 0 (length plan.objects))) three.1) s;
     }
 
@@ -402,7 +404,7 @@ test_from_rest plan past rest =
     and_from (running plan past == 0) _ (eq-eqb (running plan past) 0 rest.idle)
     (and_from (is_none (choice plan past 0 0)) _ (ap is_none rest.no_choice)
     (and_from (is_none (next_due plan past)) _ (ap is_none rest.no_time)
-    (ap not (list_any_same (is_live_feed plan past) (λ s. false) (range_with_len 0 (length plan.objects)) rest.no_feed ∙ none_passes (range_with_len 0 (length plan.objects))))))
+    (ap not (list_any_agree (is_live_feed plan past) (λ s. false) (range_with_len 0 (length plan.objects)) rest.no_feed ∙ none_passes (range_with_len 0 (length plan.objects))))))
 
 -- a lawful history of a valid plan that is not halted is quiescent, or it is not
 pub quiet_or_not : (plan : PlanView) (past : List Event) → IsPlan plan → IsLawful plan past → is_halted past ≡ false → IsQuiescent plan past ⊎ (IsQuiescent plan past → ⊥)

@@ -19,7 +19,7 @@ use Rattle.gcd_history.specs.Parked.{has_run, is_busy, is_parked, may_wake}
 use Rattle.gcd_history.specs.Timers.{may_tick}
 use Rattle.gcd_history.specs.Sources.{is_pending, is_live_feed}
 use Rattle.gcd_history.specs.Permitted.{is_halted, is_known, is_ready, is_behind, is_fenced, knowledge, is_next, has_act_left, misuse_at, waiting_reasons, node_reasons, reasons, why}
-use Rattle.gcd_history.proofs.Options.{some_from_eqb}
+use Rattle.gcd_plan.proofs.Options.{some_from_eqb}
 
 -- where no reason applies, the first does not, nor do the others
 pub first_none : (w : Why) (t : Bool) (rest : List (Why × Bool)) → first_of ((w, t) ∷ rest) ≡ None → (t ≡ false) × (first_of rest ≡ None)

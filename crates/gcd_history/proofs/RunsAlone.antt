@@ -21,7 +21,7 @@ use Rattle.gcd_history.specs.Runs.{opens, is_open}
 use Rattle.gcd_history.specs.Submitted.{submission_of}
 use Rattle.gcd_history.specs.Tree.{node_of_run, chain_of_run, is_open_on, is_open_beneath}
 use Rattle.gcd_history.specs.Permitted.{IsLawful, why, is_on, is_barrier_on, is_barrier_open, is_fenced, node_reasons, waiting_reasons}
-use Rattle.gcd_history.proofs.Options.{some_kept}
+use Rattle.gcd_plan.proofs.Options.{some_from_is_some}
 use Rattle.gcd_history.proofs.RunsOpen.{same_run-true}
 use Rattle.gcd_history.proofs.Reasons.{at_start, waiting_facts}
 use Rattle.gcd_history.proofs.StartedOnce.{started_from_open, submitted_from_started, submission_of-kept}
@@ -69,7 +69,7 @@ runs_alone plan (e ∷ past) valid h o r q exclusive r_on q_on r_in q_in =
 -- a barrier of a node is so as long as its block is submitted
 barrier_kept : (plan : PlanView) (e : Event) (past : List Event) (n : ℕ) (b : Blk) → is_some (submission_of plan past b.0) ≡ true → is_barrier_on plan (e ∷ past) n (Block b) ≡ is_barrier_on plan past n (Block b)
 barrier_kept plan e past n b some =
-    let s = some_kept (submission_of plan past b.0) some in
+    let s = some_from_is_some (submission_of plan past b.0) some in
     ap (λ o. option_map_or (λ t. t.barrier && is_on n t) o false) (submission_of-kept plan e past b.0 s.0 s.1 ∙ sym s.1)
 
 barrier_kept_open : (plan : PlanView) (e : Event) (past : List Event) → IsLawful plan past → (n : ℕ) (r : Run) → is_open past r ≡ true → is_barrier_on plan (e ∷ past) n r ≡ is_barrier_on plan past n r
@@ -147,7 +147,7 @@ new_barrier : (plan : PlanView) (e : Event) (past : List Event) → IsLawful pla
 new_barrier plan (Start w c) past h n (Block b) q has now barrier live node =
     let same : c.0 ≡ b.0 = eqb-true c.0 b.0 now in
     let begun : why plan past (Start w b) ≡ None = subst (λ k. why plan past (Start w (record { 0 = k })) ≡ None) same h.1 in
-    let s = some_kept (submission_of plan past b.0) (at_start plan past w b begun).submitted_one in
+    let s = some_from_is_some (submission_of plan past b.0) (at_start plan past w b begun).submitted_one in
     let parts = barrier_of plan past n b s.0 s.1 barrier in
     let its_node : node_of_run plan past (Block b) ≡ Some n = ap (λ o. option_map (λ k. k.0) (option_and_then (λ t. t.node) o)) s.1 ∙ node_on s.0 n parts.1 in
     let free = unfenced plan past w b n begun its_node in

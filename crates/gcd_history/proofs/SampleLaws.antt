@@ -21,7 +21,7 @@ use Rattle.gcd_history.specs.Sources.{is_live_feed}
 use Rattle.gcd_history.specs.Permitted.{why as why_after}
 use Rattle.gcd_history.specs.History.{why, IsLawful, is_open, is_running, is_free, chain_of_run, node_of_run, is_barrier_on, has_come, submitted_of, node_of, target_of, request_of, chain_of, open_beneath_of, is_active, hold_of, merged_of, running_of, choice_of, next_due_of, is_live_feed as outer_feed, has_run, group_wait_passes, semaphore_wait_passes}
 use Rattle.gcd_history.specs.Ends.{IsDrained, is_halted, all_ended}
-use Rattle.gcd_history.proofs.Lists.{list_all_place}
+use Rattle.gcd_plan.proofs.Quantifiers.{list_all_get}
 use Rattle.gcd_history.proofs.LawfulLemmas.{lawful_none, lawful_more}
 use Rattle.gcd_history.proofs.PublicLaws.{rest_is_quiescent}
 use Rattle.gcd_history.proofs.Samples.{refused, refused_after}
@@ -111,7 +111,7 @@ unfolding outer_feed is_live_feed
 no_feed plan h none s =
     elim (slice_get plan.objects s) as (λ k. slice_get plan.objects s ≡ k → (option_map_or is_read_kind (option_map (λ obj. obj.kind) k) false && (is_active_after plan (reverse h) s && not (is_cancelled plan (reverse h) s))) ≡ false) [
       | None ↦ λ at. refl
-      | Some obj ↦ λ at. ap (λ v. v && (is_active_after plan (reverse h) s && not (is_cancelled plan (reverse h) s))) (not-true (is_read_kind obj.kind) (list_all_place (λ k. not (is_read_kind k.kind)) plan.objects s obj none at))
+      | Some obj ↦ λ at. ap (λ v. v && (is_active_after plan (reverse h) s && not (is_cancelled plan (reverse h) s))) (not-true (is_read_kind obj.kind) (list_all_get (λ k. not (is_read_kind k.kind)) plan.objects s obj none at))
     ] refl
 
 -- where nothing goes on in a valid plan's lawful history, and each submitted block has ended, it is drained

@@ -15,7 +15,7 @@ use Rattle.gcd_history.specs.Submitted.{submitted, new_submissions, submission_o
 use Rattle.gcd_history.specs.Parked.{has_run}
 use Rattle.gcd_history.specs.Permitted.{why, IsLawful}
 use Rattle.gcd_history.proofs.Lists.{count_more}
-use Rattle.gcd_history.proofs.Options.{some_kept}
+use Rattle.gcd_plan.proofs.Options.{some_from_is_some}
 use Rattle.gcd_history.proofs.RunsOpen.{closes, is_open-step}
 use Rattle.gcd_history.proofs.Reasons.{at_start, at_end}
 
@@ -66,7 +66,7 @@ pub submitted_from_started : (plan : PlanView) (past : List Event) → IsLawful 
 submitted_from_started plan [] h b started = cc
 submitted_from_started plan (e ∷ past) h b started =
     let before : is_some (submission_of plan past b) ≡ true = ⊎_elim (λ now. (at_its_start plan past b e h.1 now).0) (submitted_from_started plan past h.0 b) (or_cases (starts b e) (is_started past b) started) in
-    let s = some_kept (submission_of plan past b) before in
+    let s = some_from_is_some (submission_of plan past b) before in
     ap is_some (submission_of-kept plan e past b s.0 s.1)
 
 -- a block starts at most once

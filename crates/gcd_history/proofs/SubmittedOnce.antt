@@ -25,10 +25,11 @@ use Rattle.gcd_history.specs.Runs.{same_run, acts_done, act_at, act_of, is_open,
 use Rattle.gcd_history.specs.Groups.{count}
 use Rattle.gcd_history.specs.Submitted.{on_node, submitted_by, cancels, is_cancelled, at_cancel, registered, notify_blocks, at_empty, new_submissions, main_submission, submitted}
 use Rattle.gcd_history.specs.Permitted.{IsLawful, is_worker, is_index, has_block, is_run_of}
-use Rattle.gcd_history.proofs.Lists.{list_all_place, count_by-append}
-use Rattle.gcd_history.proofs.Options.{some_kept, none_is}
+use Rattle.gcd_plan.proofs.Quantifiers.{list_all_get}
+use Rattle.gcd_plan.proofs.Sums.{count_by-append}
+use Rattle.gcd_plan.proofs.Options.{some_from_is_some, none_from_is_none}
 use Rattle.gcd_history.proofs.Sums.{sum_range_le, sum_range_less, sum_range-add, sum_range_one, sum_all_places_le, sum_by-take-more, sum_by_none}
-use Rattle.gcd_history.proofs.Counts.{sum_by_same}
+use Rattle.gcd_plan.proofs.Sums.{sum_by_agree}
 use Rattle.gcd_history.proofs.RunsOpen.{same_run-true, same_run-refl}
 use Rattle.gcd_history.proofs.Reasons.{allowed, at_act, at_start}
 use Rattle.gcd_history.proofs.StartedOnce.{started_from_open, open_from_has_run}
@@ -107,7 +108,7 @@ at_groups plan past e b =
     let fired = count_by-flat_map (is_of b) (at_empty plan past e) (range_with_len 0 n) in
     let left = sum_range-add (λ g. count_by (is_of b) (at_empty plan past e g)) (λ g. count_by (is_of b) (notify_blocks plan (e ∷ past) g)) 0 n in
     let right = sum_range-add (λ g. count_by (is_of b) (notify_blocks plan past g)) (λ g. count_by (is_of b) (registered g (act_of plan e))) 0 n in
-    let same = sum_by_same
+    let same = sum_by_agree
     (λ g. count_by (is_of b) (at_empty plan past e g) + count_by (is_of b) (notify_blocks plan (e ∷ past) g))
     (λ g. count_by (is_of b) (notify_blocks plan past g) + count_by (is_of b) (registered g (act_of plan e)))
     (range_with_len 0 n) (at_group plan past e b) in
@@ -200,11 +201,11 @@ source_handler plan obj i act (Semaphore n) fields at =
     absurd (no_acts obj.handler i act (and_parts (length obj.handler == 0) (is_none obj.cancel) (and_parts obj.active _ (and_parts (obj.target.0 == 0) _ fields).1).1).0 at)
 source_handler plan obj i act kind fields at =
     let all = (and_parts (list_all (λ a. is_handler_act a && is_act plan a) obj.handler) _ (and_parts (not obj.active) _ (and_parts (is_queue plan obj.target.0) _ fields).1).1).0 in
-    list_all_place (λ a. is_handler_act a && is_act plan a) obj.handler i act all at
+    list_all_get (λ a. is_handler_act a && is_act plan a) obj.handler i act all at
 
 pub object_fields : (plan : PlanView) (k : ℕ) (obj : ObjView) → IsPlan plan → slice_get plan.objects k ≡ Some obj → has_fields plan obj.kind obj ≡ true
 object_fields plan k obj valid at =
-    (and_parts (has_path obj.kind obj.path) (has_fields plan obj.kind obj) (and_parts (is_kind obj.kind) _ (list_all_place (is_object plan) plan.objects k obj valid.objects at)).1).1
+    (and_parts (has_path obj.kind obj.path) (has_fields plan obj.kind obj) (and_parts (is_kind obj.kind) _ (list_all_get (is_object plan) plan.objects k obj valid.objects at)).1).1
 
 -- an act of a handler is one that a handler may have
 pub handler_act : (plan : PlanView) (s : Obj) (i : ℕ) (act : Act) → IsPlan plan → act_at plan (Source s) i ≡ Some act → (is_handler_act act ≡ true) × (is_act plan act ≡ true)
@@ -223,7 +224,7 @@ next_counted : (plan : PlanView) (past : List Event) (w : ℕ) (c : Blk) (i b : 
     made_by plan past b c.0 + given b (act_at plan (Block c) i) ≤ made_by plan (Acted w (Block c) i ∷ past) b c.0
 next_counted plan past w c i b h =
     let facts = at_act plan past w (Block c) i h.1 in
-    let act = some_kept (act_at plan (Block c) i) facts.there in
+    let act = some_from_is_some (act_at plan (Block c) i) facts.there in
     let step = act_more plan past b i (Block c) act.0 act.1 in
     let before : sum_by (λ a. given b (Some a)) (take i (acts_of plan (Block c))) ≡ made_by plan past b c.0 = ap (λ n. sum_by (λ a. given b (Some a)) (take n (acts_of plan (Block c)))) facts.next in
     let more : i + 1 ≡ acts_done (Acted w (Block c) i ∷ past) (Block c) = ap (λ n. n + 1) facts.next ∙ ap (λ v. cond v (acts_done past (Block c) + 1) (acts_done past (Block c))) (sym (same_run-refl (Block c))) in
@@ -240,7 +241,7 @@ made_more plan (Acted w (Block c) i) past valid h b =
     (made_kept plan (Acted w (Block c) i) past h b) (next_counted plan past w c i b h) (omega arith) (omega arith)
 made_more plan (Acted w (Source s) i) past valid h b =
     let facts = at_act plan past w (Source s) i h.1 in
-    let act = some_kept (act_at plan (Source s) i) facts.there in
+    let act = some_from_is_some (act_at plan (Source s) i) facts.there in
     let low = sum_range_le (made_by plan past b) (made_by plan (Acted w (Source s) i ∷ past) b) 0 (length plan.blocks) (made_kept plan (Acted w (Source s) i) past h b) in
     let none : given b (act_at plan (Source s) i) ≡ 0 = ap (given b) act.1 ∙ handler_gives_none plan s i b act.0 valid act.1 in
     omega arith
@@ -350,19 +351,19 @@ acts_give_none b acts none = count_by-flat_map (has_number b) (λ act. option_to
 
 block_gives_no : (plan : PlanView) (b : ℕ) → Apart plan b → IsPlan plan → (k : ℕ) (blk : BlkView) → slice_get plan.blocks k ≡ Some blk → count_by (has_number b) (blocks_of blk.acts) ≡ 0
 block_gives_no plan b apart valid k blk at =
-    let fine = (and_parts (option_map_or (is_work plan) blk.work true) (list_all (is_act plan) blk.acts) (list_all_place (is_block plan) plan.blocks k blk valid.blocks at)).1 in
-    acts_give_none b blk.acts (λ i act here. act_gives_no plan b apart act (list_all_place (is_act plan) blk.acts i act fine here))
+    let fine = (and_parts (option_map_or (is_work plan) blk.work true) (list_all (is_act plan) blk.acts) (list_all_get (is_block plan) plan.blocks k blk valid.blocks at)).1 in
+    acts_give_none b blk.acts (λ i act here. act_gives_no plan b apart act (list_all_get (is_act plan) blk.acts i act fine here))
 
 -- a cancellation block is not main
 cancel_gives_no : (plan : PlanView) (b : ℕ) → Apart plan b → (obj : ObjView) (kind : Kind) → has_fields plan kind obj ≡ true → count_by (has_number b) (option_to_list obj.cancel) ≡ 0
 cancel_gives_no plan b apart obj Serial fields =
-    ap (λ o. count_by (has_number b) (option_to_list o)) (none_is obj.cancel (and_parts (length obj.handler == 0) (is_none obj.cancel) (and_parts (is_queue plan obj.target.0) _ fields).1).1)
+    ap (λ o. count_by (has_number b) (option_to_list o)) (none_from_is_none obj.cancel (and_parts (length obj.handler == 0) (is_none obj.cancel) (and_parts (is_queue plan obj.target.0) _ fields).1).1)
 cancel_gives_no plan b apart obj Concurrent fields =
-    ap (λ o. count_by (has_number b) (option_to_list o)) (none_is obj.cancel (and_parts (length obj.handler == 0) (is_none obj.cancel) (and_parts (is_queue plan obj.target.0) _ fields).1).1)
+    ap (λ o. count_by (has_number b) (option_to_list o)) (none_from_is_none obj.cancel (and_parts (length obj.handler == 0) (is_none obj.cancel) (and_parts (is_queue plan obj.target.0) _ fields).1).1)
 cancel_gives_no plan b apart obj Group fields =
-    ap (λ o. count_by (has_number b) (option_to_list o)) (none_is obj.cancel (and_parts (length obj.handler == 0) (is_none obj.cancel) (and_parts obj.active _ (and_parts (obj.target.0 == 0) _ fields).1).1).1)
+    ap (λ o. count_by (has_number b) (option_to_list o)) (none_from_is_none obj.cancel (and_parts (length obj.handler == 0) (is_none obj.cancel) (and_parts obj.active _ (and_parts (obj.target.0 == 0) _ fields).1).1).1)
 cancel_gives_no plan b apart obj (Semaphore n) fields =
-    ap (λ o. count_by (has_number b) (option_to_list o)) (none_is obj.cancel (and_parts (length obj.handler == 0) (is_none obj.cancel) (and_parts obj.active _ (and_parts (obj.target.0 == 0) _ fields).1).1).1)
+    ap (λ o. count_by (has_number b) (option_to_list o)) (none_from_is_none obj.cancel (and_parts (length obj.handler == 0) (is_none obj.cancel) (and_parts obj.active _ (and_parts (obj.target.0 == 0) _ fields).1).1).1)
 cancel_gives_no plan b apart obj kind fields =
     let fine = (and_parts (list_all (λ a. is_handler_act a && is_act plan a) obj.handler) _ (and_parts (not obj.active) _ (and_parts (is_queue plan obj.target.0) _ fields).1).1).1 in
     elim obj.cancel as (λ o. option_map_or (is_submittable plan) o true ≡ true → count_by (has_number b) (option_to_list o) ≡ 0) [

@@ -18,7 +18,7 @@ use Rattle.gcd_history.specs.Tree.{Aim, aim, aim_after, asked, target, is_moving
 use Rattle.gcd_history.specs.Holds.{is_active}
 use Rattle.gcd_history.specs.Misuses.{first_code, is_released, named, misuse}
 use Rattle.gcd_history.specs.Permitted.{IsLawful, misuse_at}
-use Rattle.gcd_history.proofs.Lists.{any_in_range}
+use Rattle.gcd_plan.proofs.Quantifiers.{list_any_in_range}
 use Rattle.gcd_history.proofs.RunsOpen.{closes}
 use Rattle.gcd_history.proofs.Reasons.{at_act}
 use Rattle.gcd_history.proofs.Woken.{open_kept}
@@ -81,7 +81,7 @@ child_found plan past p o low other node at =
     let aims : aims_at plan past p o ≡ true = or_left (target plan past p == o) _ (eq-eqb (target plan past p) o at) in
     let one : not (p == 0) ≡ true = ap not (ne_eqb p 0 low) in
     let two : not (p == o) ≡ true = ap not (ne_eqb p o other) in
-    any_in_range (λ q. not (q == 0) && (is_node plan q && (not (q == o) && aims_at plan past q o))) (length plan.objects) p (has_object is_node_kind plan p node)
+    list_any_in_range (λ q. not (q == 0) && (is_node plan q && (not (q == o) && aims_at plan past q o))) (length plan.objects) p (has_object is_node_kind plan p node)
     (and_from (not (p == 0)) _ one (and_from (is_node plan p) _ node (and_from (not (p == o)) (aims_at plan past p o) two aims)))
 
 -- the nodes of a run whose node is n are the chain of n

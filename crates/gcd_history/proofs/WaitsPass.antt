@@ -19,7 +19,7 @@ use Rattle.gcd_history.specs.Semas.{waits, wait_count, signal_count, first_value
 use Rattle.gcd_history.specs.Parked.{reason_by, parked_by, reason, has_come}
 use Rattle.gcd_history.specs.Permitted.{IsLawful}
 use Rattle.gcd_history.specs.Choice.{all_ended}
-use Rattle.gcd_history.proofs.Lists.{count_by-cons}
+use Rattle.gcd_plan.proofs.Sums.{count_by-cons}
 use Rattle.gcd_history.proofs.RunsOpen.{same_run-refl}
 use Rattle.gcd_history.proofs.Reasons.{at_act}
 use Rattle.gcd_history.proofs.StartedOnce.{open_from_has_run}

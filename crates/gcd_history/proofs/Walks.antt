@@ -7,7 +7,8 @@ use Rattle.std.proofs.lemmas.List.Sums.{count_by-le-length}
 use Rattle.gcd_plan.specs.Chains.{chain_by, is_in}
 use Rattle.gcd_plan.proofs.Walks.{in_first, in_rest, in_cases, in_longer, chain_agree}
 use Rattle.gcd_history.proofs.Sums.{sum_range_less}
-use Rattle.gcd_history.proofs.Lists.{some_counted, any_in_range}
+use Rattle.gcd_plan.proofs.Quantifiers.{list_any_in_range}
+use Rattle.gcd_plan.proofs.Sums.{count_by_some}
 
 -- ## What stands above in a chain
 
@@ -87,7 +88,7 @@ one_at_least false w h = elim w as (λ u. 0 ≤ cond {A = ℕ} u 1 0) [ true ↦
 -- where n needs k steps, at each count of steps up to k there is a number more
 levels : (next : ℕ → ℕ) (size k n : ℕ) → n < size → ((m : ℕ) → next m < size) → reaches next k n ≡ true → ((j : ℕ) → j < k → reaches next j n ≡ false) → k + 1 ≤ reaching next size k
 levels next size zero n within below h least =
-    let some : 1 ≤ reaching next size 0 = some_counted (reaches next 0) (range_with_len 0 size) (any_in_range (reaches next 0) size n within h) in
+    let some : 1 ≤ reaching next size 0 = count_by_some (reaches next 0) (range_with_len 0 size) (list_any_in_range (reaches next 0) size n within h) in
     omega arith
 levels next size (suc k) n within below h least =
     let on : (n == 0) ≡ false = least 0 (omega arith) in

@@ -19,8 +19,9 @@ use Rattle.gcd_history.specs.Permitted.{IsLawful}
 use Rattle.gcd_history.specs.Facts.{wakes}
 use Rattle.gcd_history.specs.Choice.{all_ended}
 use Rattle.gcd_history.specs.Submitted.{submitted, submission_of}
-use Rattle.gcd_history.proofs.Lists.{count_by-cons, found_passes}
-use Rattle.gcd_history.proofs.Options.{some_kept}
+use Rattle.gcd_history.proofs.Lists.{found_passes}
+use Rattle.gcd_plan.proofs.Sums.{count_by-cons}
+use Rattle.gcd_plan.proofs.Options.{some_from_is_some}
 use Rattle.gcd_history.proofs.RunsOpen.{closes, same_run-true, is_open-step}
 use Rattle.gcd_history.proofs.Reasons.{at_wake, at_act, at_end, at_start}
 use Rattle.gcd_history.proofs.StartedOnce.{started_from_open, submitted_from_started, open_not_ended}
@@ -142,7 +143,7 @@ unfolding reason
 none_parked plan past h ended b =
     elim (is_open past (Block b)) as (λ v. is_open past (Block b) ≡ v → cond v (parked_by plan past (Block b)) None ≡ None) [
       | true ↦ λ live.
-          let s = some_kept (submission_of plan past b.0) (submitted_from_started plan past h b.0 (started_from_open past b live)) in
+          let s = some_from_is_some (submission_of plan past b.0) (submitted_from_started plan past h b.0 (started_from_open past b live)) in
           let found = found_passes (λ t. t.blk.0 == b.0) (λ t. is_ended past t.blk.0) (submitted plan past) s.0 s.1 ended in
           let done : is_ended past b.0 ≡ true = subst (λ n. is_ended past n ≡ true) (eqb-true s.0.blk.0 b.0 found.0) found.1 in
           absurd (both_ways (is_ended past b.0) (open_not_ended plan past h b live) done)

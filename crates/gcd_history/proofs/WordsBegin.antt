@@ -5,7 +5,7 @@ use Rattle.std.specs.Option.{option_map_or}
 use Rattle.std.proofs.Math.Path.{fun_ext}
 use Rattle.std.proofs.lemmas.Bool.{ne_eqb}
 use Rattle.gcd_history.specs.Values.{is_space, words_begun, begins_word}
-use Rattle.gcd_history.proofs.Lists.{count_by-cons}
+use Rattle.gcd_plan.proofs.Sums.{count_by-cons}
 
 -- the byte at place i is no space
 abbrev is_letter : List ℕ → ℕ → Bool

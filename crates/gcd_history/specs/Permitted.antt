@@ -1,5 +1,5 @@
 -- Which event may come next, and the first reason why not (this project's own rule, where a definition names no page).
-use Rattle.std.specs.Prelude.{◌≡◌, ⊤, ℕ, ◌-◌, ◌==◌, nat_lt, nat_le, Bool, true, false, not, ◌&&◌, ◌||◌, List, [], ◌∷◌, length, Option, Some, None, is_none, is_some, option_and_then, find, if◌then◌else◌}
+use Rattle.std.specs.Prelude.{◌≡◌, ⊤, ℕ, ◌==◌, nat_lt, nat_le, Bool, true, false, not, ◌&&◌, ◌||◌, List, [], ◌∷◌, length, Option, Some, None, is_none, is_some, option_and_then, find, if◌then◌else◌}
 use Rattle.std.specs.Option.{option_map_or}
 use Rattle.std.specs.List.{list_any}
 use Rattle.gcd_plan.specs.PlanView.{PlanView}
@@ -72,7 +72,7 @@ is_worker w = nat_lt w max_workers
 
 -- the place of an act in a body
 abbrev pub is_index : ℕ → Bool
-is_index i = nat_le i (max_acts - 1)
+is_index i = nat_lt i max_acts
 
 -- the number of a code of misuse: they are numbered from 1 on, without a gap
 abbrev pub is_code : ℕ → Bool

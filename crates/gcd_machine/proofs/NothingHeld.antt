@@ -28,7 +28,7 @@ use Rattle.gcd_history.specs.Timers.{activated_at, is_due, is_any_due, next_due,
 use Rattle.gcd_history.specs.Sources.{is_live_feed}
 use Rattle.gcd_history.specs.Misuses.{retains, releases, refs, is_released, misuse}
 use Rattle.gcd_history.specs.Permitted.{misuse_at, is_fenced, knowledge}
-use Rattle.gcd_history.proofs.Lists.{list_any_same}
+use Rattle.gcd_plan.proofs.Quantifiers.{list_any_agree}
 use Rattle.gcd_machine.proofs.QueuesOnRoot.{IsFirstPlan, Submits, submits_at, submits_of, no_such_kind, all_on_root, all_active, no_cancel_blocks, IsQueueAt}
 
 -- what a function of an act gives where it gives the same for no act and for a plain submission
@@ -135,7 +135,7 @@ beneath_is_on plan past q run first at =
 -- what is open beneath a queue is open on it
 pub open_beneath_is_on : (plan : PlanView) (past : List Event) (q : ℕ) → IsFirstPlan plan → IsQueueAt plan q → is_open_beneath plan past q ≡ is_open_on plan past q
 open_beneath_is_on plan past q first at =
-    list_any_same (λ run. is_in q (chain_of_run plan past run)) (is_run_on plan past q) (open_runs past) (λ run. beneath_is_on plan past q run first at)
+    list_any_agree (λ run. is_in q (chain_of_run plan past run)) (is_run_on plan past q) (open_runs past) (λ run. beneath_is_on plan past q run first at)
 
 -- ## The start rule
 
