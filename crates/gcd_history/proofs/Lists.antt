@@ -1,14 +1,12 @@
 -- Lists: what std's lemmas lack.
 use Rattle.std.proofs.Common.{◌≡◌, ℕ, zero, suc, ◌+◌, ◌-◌, ◌<◌, Bool, true, false, ◌&&◌, ◌||◌, cond, List, [], ◌∷◌, ◌++◌, length, get_or, drop, take, filter, map, Some, None, is_some, ⊎_elim, subst, length-append, find, reverse, count_by, ◌≤◌, refl, ap, ◌∙◌, sym, arith}
-use Rattle.std.specs.List.{slice_get, list_any, list_all, AllPairs, flat_map, range_with_len}
+use Rattle.std.specs.List.{list_any, list_all, AllPairs, flat_map, range_with_len}
 use Rattle.std.specs.Option.{option_or}
 use Rattle.std.proofs.lemmas.List.{take_more, drop_more, reverse-append, get_or_append_left, get_or-append_right}
-use Rattle.std.proofs.lemmas.Bool.{or_parts, or_cases, or_left, or_right, and_parts, and_from, cases_lt, cases_eq}
+use Rattle.std.proofs.lemmas.Bool.{or_cases, or_left, or_right, and_parts, and_from, cases_lt}
 use Rattle.std.proofs.Math.Bool.{or_comm, or-false}
 use Rattle.std.proofs.lemmas.Option.{same_Some}
 use Rattle.std.proofs.lemmas.List.Folds.{find-append, list_any_at, list_any-append, list_all-append}
-use Rattle.std.proofs.lemmas.List.FromFn.{length-range_with_len, get_or-range_with_len}
-use Rattle.std.proofs.lemmas.List.Sums.{sum_by-cons, sum_by-append}
 use Rattle.gcd_plan.proofs.Sums.{count_by_none, count_by-cons, count_by-append}
 
 -- ## Reading at an index

@@ -1,5 +1,5 @@
 -- The laws over histories in order, from those by recursion.
-use Rattle.std.proofs.Common.{◌≡◌, ℕ, zero, suc, ◌+◌, ◌-◌, ◌<◌, ◌≤◌, ◌==◌, true, List, [], ◌∷◌, length, take, drop, ◌++◌, reverse, Some, None, is_some, option_and_then, refl, count_by, ap, sym, ◌∙◌, subst, arith}
+use Rattle.std.proofs.Common.{◌≡◌, ℕ, suc, ◌+◌, ◌-◌, ◌<◌, ◌≤◌, ◌==◌, true, List, ◌∷◌, length, take, drop, ◌++◌, reverse, Some, None, is_some, option_and_then, refl, count_by, ap, sym, ◌∙◌, subst, arith}
 use Rattle.std.proofs.lemmas.Bool.{eqb-true, both_ways}
 use Rattle.std.proofs.lemmas.List.{take-append-drop, reverse-append, take_all, length-reverse, length-take-le}
 use Rattle.std.specs.Bool.{IsTrue}
