@@ -12,6 +12,7 @@ use Rattle.gcd_history.specs.Choice as choice
 unfoldable pub is_halted : List Event → Bool
 is_halted h = permitted.is_halted (reverse h)
 
+-- it is so, as a claim
 abbrev pub IsHalted : List Event → Type 0
 IsHalted h = IsTrue (is_halted h)
 
