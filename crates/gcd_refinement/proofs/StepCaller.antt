@@ -1,0 +1,105 @@
+-- Who waits for the end of each block after an event.
+use Rattle.std.proofs.Common.{◌≡◌, ⊎_elim, ℕ, ◌+◌, ◌<◌, ◌≤◌, ◌==◌, nat_lt, Bool, true, false, cond, List, [], ◌∷◌, length, set, get_or, Option, Some, None, refl, ap, sym, ◌∙◌, subst, arith, eq-eqb, ne_eqb}
+use Rattle.std.specs.List.{fold, slice_index_or}
+use Rattle.std.specs.Option.{option_or}
+use Rattle.std.proofs.Math.ListN.{get_or-eq_default}
+use Rattle.std.proofs.lemmas.Bool.{cases_eq, cases_lt, and_parts, ltb-true}
+use Rattle.std.proofs.lemmas.List.{length-set, get_or-set_same, get_or-set_other}
+use Rattle.gcd_plan.specs.PlanView.{PlanView}
+use Rattle.gcd_plan.specs.Kinds.{is_queue}
+use Rattle.gcd_plan.specs.Validity.{IsPlan, is_act, is_submittable}
+use Rattle.gcd_plan.specs.declared.act.Act.{Act}
+use Rattle.gcd_plan.specs.declared.act.Act.TheVariants.{Sync, BarrierSync, GroupAsync, Notify}
+use Rattle.gcd_plan.specs.declared.numbers.Blk.{Blk}
+use Rattle.gcd_plan.specs.declared.numbers.Run.TheVariants.{Block, Source}
+use Rattle.gcd_event.specs.declared.event.Event.{Event}
+use Rattle.gcd_event.specs.declared.event.Event.TheVariants.{Start, Act as Acted}
+use Rattle.gcd_history.specs.declared.submission.Submission.{Submission}
+use Rattle.gcd_history.specs.Runs.{act_at}
+use Rattle.gcd_history.proofs.SubmittedOnNodes.{act_fits}
+use Rattle.gcd_refinement.specs.MachineView.{MachineView, idle, block_at}
+use Rattle.gcd_refinement.specs.declared.progress.BlockProgress.{BlockProgress}
+use Rattle.gcd_refinement.specs.Shape.{OwnFit}
+use Rattle.gcd_refinement.specs.Sleepers.{called_by, calls, caller_of}
+use Rattle.gcd_refinement.specs.Ties.{BlocksAre}
+use Rattle.gcd_refinement.specs.Submits.{submits}
+use Rattle.gcd_refinement.specs.After.{with_block, noted, arranged, called, blocks_by, after}
+
+-- ## Writes
+
+-- where the change leaves a word as it is, so does the write
+pub write_keeps : {X : Type 0} (word : BlockProgress → X) (blocks : List BlockProgress) (i b : ℕ) (change : BlockProgress → BlockProgress) → ((x : BlockProgress) → word (change x) ≡ word x)
+    → word (slice_index_or (with_block blocks i change) b idle) ≡ word (slice_index_or blocks b idle)
+write_keeps word blocks i b change same =
+    ⊎_elim
+    (λ (here : i ≡ b).
+    ⊎_elim
+    (λ (low : i < length blocks).
+    subst (λ k. word (get_or (set blocks i (change (get_or blocks i idle))) k idle) ≡ word (get_or blocks k idle)) here
+    (ap word (get_or-set_same blocks i (change (get_or blocks i idle)) idle low) ∙ same (get_or blocks i idle)))
+    (λ (high : length blocks ≤ i).
+    let long = length-set blocks i (change (get_or blocks i idle)) in
+    ap word (get_or-eq_default (set blocks i (change (get_or blocks i idle))) idle (omega (arith, high, long, here)) ∙ sym (get_or-eq_default blocks idle (omega (arith, high, here)))))
+    (cases_lt i (length blocks)))
+    (λ (other : i ≡ b → ⊥). ap word (get_or-set_other blocks i b (change (get_or blocks i idle)) idle (λ e. other (sym e))))
+    (cases_eq i b)
+
+-- and where it makes it x, that is what stands there
+pub write_sets : {X : Type 0} (word : BlockProgress → X) (blocks : List BlockProgress) (i b : ℕ) (change : BlockProgress → BlockProgress) (x : X) → i < length blocks → ((y : BlockProgress) → word (change y) ≡ x)
+    → word (slice_index_or (with_block blocks i change) b idle) ≡ cond (i == b) x (word (slice_index_or blocks b idle))
+write_sets word blocks i b change x low sets =
+    ⊎_elim
+    (λ (here : i ≡ b).
+    subst (λ k. word (get_or (set blocks i (change (get_or blocks i idle))) k idle) ≡ cond (i == k) x (word (get_or blocks k idle))) here
+    (ap word (get_or-set_same blocks i (change (get_or blocks i idle)) idle low) ∙ (sets (get_or blocks i idle) ∙ ap (λ u. cond u x (word (get_or blocks i idle))) (sym (eq-eqb i i refl)))))
+    (λ (other : i ≡ b → ⊥).
+    ap word (get_or-set_other blocks i b (change (get_or blocks i idle)) idle (λ e. other (sym e))) ∙ ap (λ u. cond u x (word (get_or blocks b idle))) (sym (ne_eqb i b other)))
+    (cases_eq i b)
+
+-- ## The caller
+
+abbrev caller_at : List BlockProgress → ℕ → Option Blk
+caller_at blocks b = (slice_index_or blocks b idle).caller
+
+noted_keep : (blocks : List BlockProgress) (subs : List Submission) (b : ℕ) → caller_at (fold noted blocks subs) b ≡ caller_at blocks b
+noted_keep blocks [] b = refl
+noted_keep blocks (s ∷ subs) b =
+    noted_keep (noted blocks s) subs b ∙ write_keeps (λ x. x.caller) blocks s.blk.0 b (λ x. record x { node = s.node; barrier = s.barrier }) (λ x. refl)
+
+arranged_keep : (blocks : List BlockProgress) (act : Option Act) (b : ℕ) → caller_at (arranged blocks act) b ≡ caller_at blocks b
+arranged_keep blocks (Some (GroupAsync g q c)) b = write_keeps (λ x. x.caller) blocks c.0 b (λ x. record x { group = Some g }) (λ x. refl)
+arranged_keep blocks (Some (Notify g q c)) b = write_keeps (λ x. x.caller) blocks c.0 b (λ x. record x { home = q }) (λ x. refl)
+arranged_keep blocks _ b = refl
+
+-- the block that is called is of the plan
+submittable_within : (plan : PlanView) (c : Blk) → is_submittable plan c ≡ true → c.0 < length plan.blocks
+submittable_within plan c h = ltb-true c.0 (length plan.blocks) (and_parts (nat_lt 0 c.0) (nat_lt c.0 (length plan.blocks)) h).1
+
+or_cond : (t : Bool) (d : Blk) (o : Option Blk) → cond t (Some d) o ≡ option_or (cond t (Some d) None) o
+or_cond true d o = refl
+or_cond false d o = refl
+
+called_at : (plan : PlanView) (blocks : List BlockProgress) (d : Blk) (act : Option Act) (c : ℕ) → length blocks ≡ length plan.blocks → ((a : Act) → act ≡ Some a → is_act plan a ≡ true)
+    → caller_at (called blocks d act) c ≡ option_or (called_by c d act) (caller_at blocks c)
+called_at plan blocks d (Some (Sync q k)) c long fits =
+    let low = submittable_within plan k (and_parts (is_queue plan q.0) (is_submittable plan k) (fits (Sync q k) refl)).1 in
+    write_sets (λ x. x.caller) blocks k.0 c (λ x. record x { caller = Some d }) (Some d) (omega (arith, low, long)) (λ x. refl) ∙ or_cond (k.0 == c) d (caller_at blocks c)
+called_at plan blocks d (Some (BarrierSync q k)) c long fits =
+    let low = submittable_within plan k (and_parts (is_queue plan q.0) (is_submittable plan k) (fits (BarrierSync q k) refl)).1 in
+    write_sets (λ x. x.caller) blocks k.0 c (λ x. record x { caller = Some d }) (Some d) (omega (arith, low, long)) (λ x. refl) ∙ or_cond (k.0 == c) d (caller_at blocks c)
+called_at plan blocks d _ c long fits = refl
+
+caller_by : (plan : PlanView) (past : List Event) (e : Event) (v : MachineView) (c : ℕ) → IsPlan plan → OwnFit plan v → BlocksAre plan past v → caller_at (blocks_by plan v e) c ≡ option_or (calls plan c e) (caller_of plan past c)
+caller_by plan past (Start w b) v c valid own blocks =
+    write_keeps (λ x. x.caller) v.blocks b.0 c (λ x. record x { started = true }) (λ x. refl) ∙ blocks.caller c
+caller_by plan past (Acted w (Block b) i) v c valid own blocks =
+    let act = act_at plan (Block b) i in
+    let made = with_block v.blocks b.0 (λ x. record x { done = x.done + 1 }) in
+    arranged_keep (called made b act) act c
+    ∙ (called_at plan made b act c (length-set v.blocks b.0 _ ∙ own.blocks) (λ a at. act_fits plan (Block b) i a valid at)
+    ∙ ap (option_or (called_by c b act)) (write_keeps (λ x. x.caller) v.blocks b.0 c (λ x. record x { done = x.done + 1 }) (λ x. refl) ∙ blocks.caller c))
+caller_by plan past (Acted w (Source s) i) v c valid own blocks = arranged_keep v.blocks (act_at plan (Source s) i) c ∙ blocks.caller c
+caller_by plan past e v c valid own blocks = blocks.caller c
+
+pub caller_step : (plan : PlanView) (past : List Event) (e : Event) (v : MachineView) (c : ℕ) → IsPlan plan → OwnFit plan v → BlocksAre plan past v → (block_at (after plan v e) c).caller ≡ caller_of plan (e ∷ past) c
+caller_step plan past e v c valid own blocks = noted_keep (blocks_by plan v e) (submits plan v e) c ∙ caller_by plan past e v c valid own blocks

@@ -1,0 +1,215 @@
+-- The machine's own arrays after an event: their lengths, and that what they name is of the plan.
+use Rattle.std.proofs.Common.{◌≡◌, ℕ, ◌+◌, ◌<◌, ◌==◌, ltb, Bool, true, false, not, ◌&&◌, cond, List, [], ◌∷◌, ◌++◌, length, drop, get_or, set, Option, Some, None, refl, ap, sym, ◌∙◌, subst, arith, ⊎_elim}
+use Rattle.std.specs.List.{fold}
+use Rattle.std.specs.Option.{option_and_then, option_or}
+use Rattle.std.proofs.lemmas.Bool.{and_parts, or_cases, ltb-true}
+use Rattle.std.proofs.lemmas.List.{length-set}
+use Rattle.std.proofs.lemmas.Option.{same_Some}
+use Rattle.gcd_plan.specs.PlanView.{PlanView}
+use Rattle.gcd_plan.specs.Kinds.{has_kind, is_group_kind, is_queue, is_queue_kind, is_source}
+use Rattle.gcd_plan.specs.Validity.{IsPlan, is_act, is_submittable}
+use Rattle.gcd_plan.specs.declared.act.Act.{Act}
+use Rattle.gcd_plan.specs.declared.act.Act.TheVariants.{Sync, BarrierSync, GroupAsync, Notify, GroupWait, Signal, Wait}
+use Rattle.gcd_plan.specs.declared.numbers.Blk.{Blk}
+use Rattle.gcd_plan.specs.declared.numbers.Obj.{Obj}
+use Rattle.gcd_plan.specs.declared.numbers.Run.{Run}
+use Rattle.gcd_plan.specs.declared.numbers.Run.TheVariants.{Block, Source}
+use Rattle.gcd_event.specs.declared.event.Event.{Event}
+use Rattle.gcd_event.specs.declared.event.Event.TheVariants.{Start, Act as Acted, Wake, End, Deliver, DeliverEnd}
+use Rattle.gcd_history.specs.declared.submission.Submission.{Submission}
+use Rattle.gcd_history.specs.Runs.{opens, is_open, act_at, act_of}
+use Rattle.gcd_history.specs.Submitted.{submitted, submission_of}
+use Rattle.gcd_history.specs.Parked.{is_parking, has_run}
+use Rattle.gcd_history.specs.Permitted.{IsLawful, is_worker, has_block, is_run_of}
+use Rattle.gcd_history.proofs.Fitting.{has_object}
+use Rattle.gcd_history.proofs.Lists.{found_passes}
+use Rattle.gcd_history.proofs.Reasons.{allowed}
+use Rattle.gcd_history.proofs.RunsOpen.{same_run-true, same_run-refl, closes, is_open-step}
+use Rattle.gcd_history.proofs.StartedOnce.{open_from_has_run}
+use Rattle.gcd_history.proofs.SubmittedOnNodes.{on_a_node, submitted_fit, recorded_fits}
+use Rattle.gcd_lists.specs.ListsView.{ListsView, list_at}
+use Rattle.gcd_group.specs.GroupsView.{count_at}
+use Rattle.gcd_sema.specs.SemasView.{waits_at, is_passed_at}
+use Rattle.gcd_refinement.specs.MachineView.{MachineView, handler_at, idle}
+use Rattle.gcd_refinement.specs.declared.progress.BlockProgress.{BlockProgress}
+use Rattle.gcd_refinement.specs.Shape.{OwnFit}
+use Rattle.gcd_refinement.specs.Sleepers.{grouped, group_of, called_by, calls, caller_of}
+use Rattle.gcd_refinement.specs.Ties.{BlocksAre, WorkersAre, is_run}
+use Rattle.gcd_refinement.specs.Submits.{submits, emptied_by, come_by}
+use Rattle.gcd_refinement.specs.After.{popped, pushed_on, asleep, asleep_by_handler, asleep_after, all_woken, with_due, woken, noted, blocks_by, delivered, handlers_after, marked, busy_at_event, workers_after, ended_after, after}
+use Rattle.gcd_refinement.proofs.Homes.{home_of, homed, homes_after}
+use Rattle.gcd_refinement.proofs.StepBlocks.{by_long}
+use Rattle.gcd_refinement.proofs.StepLists.{node_within}
+use Rattle.gcd_refinement.proofs.StepMarks.{event_long, marked_long}
+use Rattle.gcd_refinement.proofs.StepWaits.{known_block}
+
+-- ## What the history names is of the plan
+
+node_known : (plan : PlanView) (past : List Event) (b : ℕ) (q : Obj) → IsPlan plan → option_and_then (λ (s : Submission). s.node) (submission_of plan past b) ≡ Some q → q.0 < length plan.objects
+node_known plan past b q valid at =
+    elim (submission_of plan past b) as (λ o. submission_of plan past b ≡ o → option_and_then (λ (s : Submission). s.node) o ≡ Some q → q.0 < length plan.objects) [
+      | None ↦ λ none k. cc
+      | Some s ↦ λ some k. node_within plan s (found_passes (λ t. t.blk.0 == b) (on_a_node plan) (submitted plan past) s some (submitted_fit plan past valid)).1 q k
+    ] refl at
+
+grouped_known : (plan : PlanView) (act : Act) (b : ℕ) (g : Obj) → is_act plan act ≡ true → grouped b (Some act) ≡ Some g → g.0 < length plan.objects
+grouped_known plan (GroupAsync h q c) b g fits at =
+    let low = has_object is_group_kind plan h.0 (and_parts (has_kind is_group_kind plan h.0) (is_queue plan q.0 && is_submittable plan c) fits).0 in
+    elim (c.0 == b) as (λ t. cond t (Some h) None ≡ Some g → g.0 < length plan.objects) [ true ↦ λ k. subst (λ o. o.0 < length plan.objects) (same_Some h g k) low | false ↦ λ k. cc ] at
+grouped_known plan act b g fits at = cc
+
+either : {X : Type 0} (P : X → Type 0) (o p : Option X) (x : X) → ((y : X) → o ≡ Some y → P y) → ((y : X) → p ≡ Some y → P y) → option_or o p ≡ Some x → P x
+either P None p x first second at = second x at
+either P (Some y) p x first second at = subst P (same_Some y x at) (first y refl)
+
+group_known : (plan : PlanView) (past : List Event) (b : ℕ) (g : Obj) → IsPlan plan → group_of plan past b ≡ Some g → g.0 < length plan.objects
+group_known plan [] b g valid at = cc
+group_known plan (e ∷ past) b g valid at =
+    either (λ (o : Obj). o.0 < length plan.objects) (grouped b (act_of plan e)) (group_of plan past b) g
+    (λ h now. by (act_of plan e) refl h now)
+    (λ h was. group_known plan past b h valid was) at
+  where
+    by : (act : Option Act) → act_of plan e ≡ act → (h : Obj) → grouped b act ≡ Some h → h.0 < length plan.objects
+    by None is h now = cc
+    by (Some act) is h now = grouped_known plan act b h (recorded_fits plan e act valid is) now
+
+called_is_own : (c : ℕ) (b d : Blk) (act : Option Act) → called_by c b act ≡ Some d → b ≡ d
+called_is_own c b d (Some (Sync q k)) at = elim (k.0 == c) as (λ t. cond t (Some b) None ≡ Some d → b ≡ d) [ true ↦ λ h. same_Some b d h | false ↦ λ h. cc ] at
+called_is_own c b d (Some (BarrierSync q k)) at = elim (k.0 == c) as (λ t. cond t (Some b) None ≡ Some d → b ≡ d) [ true ↦ λ h. same_Some b d h | false ↦ λ h. cc ] at
+called_is_own c b d act at = cc
+
+call_known : (plan : PlanView) (past : List Event) (e : Event) (c : ℕ) (d : Blk) → IsLawful plan (e ∷ past) → calls plan c e ≡ Some d → d.0 < length plan.blocks
+call_known plan past (Acted w (Block b) i) c d lawful at = subst (λ k. k.0 < length plan.blocks) (called_is_own c b d (act_at plan (Block b) i) at) (known_block plan past w b i lawful)
+call_known plan past (Acted w (Source s) i) c d lawful at = cc
+call_known plan past e c d lawful at = cc
+
+caller_known : (plan : PlanView) (past : List Event) (c : ℕ) (d : Blk) → IsLawful plan past → caller_of plan past c ≡ Some d → d.0 < length plan.blocks
+caller_known plan [] c d lawful at = cc
+caller_known plan (e ∷ past) c d lawful at =
+    either (λ (k : Blk). k.0 < length plan.blocks) (calls plan c e) (caller_of plan past c) d (λ k now. call_known plan past e c k lawful now) (λ k was. caller_known plan past c k lawful.0 was) at
+
+-- an open run is of the plan
+opens_known : (plan : PlanView) (past : List Event) (e : Event) (run : Run) → IsLawful plan (e ∷ past) → opens e run ≡ true → is_run_of plan run ≡ true
+opens_known plan past (Start w b) run lawful now =
+    subst (λ r. is_run_of plan r ≡ true) (same_run-true (Block b) run now) (and_parts (is_worker w) (has_block plan b.0) (allowed plan past (Start w b) lawful.1).known).1
+opens_known plan past (Deliver w s) run lawful now =
+    subst (λ r. is_run_of plan r ≡ true) (same_run-true (Source s) run now) (and_parts (is_worker w) (is_source plan s.0) (allowed plan past (Deliver w s) lawful.1).known).1
+opens_known plan past e run lawful now = cc
+
+open_known : (plan : PlanView) (past : List Event) (run : Run) → IsLawful plan past → is_open past run ≡ true → is_run_of plan run ≡ true
+open_known plan [] run lawful live = cc
+open_known plan (e ∷ past) run lawful live =
+    ⊎_elim
+    (λ now. opens_known plan past e run lawful now)
+    (λ was. open_known plan past run lawful.0 (and_parts (not (closes e run)) (is_open past run) was).1)
+    (or_cases (opens e run) (not (closes e run) && is_open past run) (sym (is_open-step e past run) ∙ live))
+
+-- ## Lengths
+
+record Alike (a b : ListsView) : Type 0 where
+  lists : length b.lists ≡ length a.lists
+  blocks : b.blocks ≡ a.blocks
+
+same_lists : (a : ListsView) → Alike a a
+same_lists a = record { lists = refl; blocks = refl }
+
+pushed_alike : (a : ListsView) (n : Obj) (b : Blk) (barrier : Bool) → Alike a (pushed_on a n b barrier)
+pushed_alike a n b barrier = record { lists = length-set a.lists n.0 (list_at a n.0 ++ (b, barrier) ∷ []); blocks = refl }
+
+popped_alike : (a : ListsView) (n : Obj) → Alike a (popped a (Some n))
+popped_alike a n = record { lists = length-set a.lists n.0 (drop 1 (list_at a n.0)); blocks = refl }
+
+asleep_alike : (v : MachineView) (b : Blk) (act : Option Act) → Alike v.sleepers (asleep v b act)
+asleep_alike v b (Some (Wait s)) =
+    elim (is_passed_at v.semas s.0 (waits_at v.semas s.0 + 1)) as (λ t. Alike v.sleepers (cond t v.sleepers (pushed_on v.sleepers s b false))) [ true ↦ same_lists v.sleepers | false ↦ pushed_alike v.sleepers s b false ]
+asleep_alike v b (Some (GroupWait g)) =
+    elim (count_at v.groups g.0 == 0) as (λ t. Alike v.sleepers (cond t v.sleepers (pushed_on v.sleepers g b false))) [ true ↦ same_lists v.sleepers | false ↦ pushed_alike v.sleepers g b false ]
+asleep_alike v b (Some (Signal s)) = popped_alike v.sleepers s
+asleep_alike v b act = same_lists v.sleepers
+
+handler_alike : (v : MachineView) (act : Option Act) → Alike v.sleepers (asleep_by_handler v act)
+handler_alike v (Some (Signal s)) = popped_alike v.sleepers s
+handler_alike v act = same_lists v.sleepers
+
+event_alike : (plan : PlanView) (v : MachineView) (e : Event) → Alike v.sleepers (asleep_after plan v e)
+event_alike plan v (Acted w (Block b) i) = asleep_alike v b (act_at plan (Block b) i)
+event_alike plan v (Acted w (Source s) i) = handler_alike v (act_at plan (Source s) i)
+event_alike plan v e = same_lists v.sleepers
+
+woken_alike : (a b : ListsView) (o : Option Obj) → Alike a b → Alike a (all_woken b o)
+woken_alike a b None alike = alike
+woken_alike a b (Some g) alike = record { lists = length-set b.lists g.0 [] ∙ alike.lists; blocks = alike.blocks }
+
+noted_long : (subs : List Submission) (blocks : List BlockProgress) → length (fold noted blocks subs) ≡ length blocks
+noted_long [] blocks = refl
+noted_long (s ∷ subs) blocks = noted_long subs (noted blocks s) ∙ length-set blocks s.blk.0 (record (get_or blocks s.blk.0 idle) { node = s.node; barrier = s.barrier })
+
+due_long : (bs : List Blk) (due : List Bool) → length (fold with_due due bs) ≡ length due
+due_long [] due = refl
+due_long (b ∷ bs) due = due_long bs (with_due due b) ∙ length-set due b.0 true
+
+woken_long : (due : List Bool) (e : Event) → length (woken due e) ≡ length due
+woken_long due (Wake w b) = length-set due b.0 false
+woken_long due e = refl
+
+all_marked_long : (subs : List Submission) (busy : List Bool) → length (fold marked busy subs) ≡ length busy
+all_marked_long [] busy = refl
+all_marked_long (s ∷ subs) busy = all_marked_long subs (marked busy s) ∙ marked_long busy s
+
+ended_long : (v : MachineView) (e : Event) → length (ended_after v e) ≡ length v.ended
+ended_long v (End w b) = length-set v.ended b.0 true
+ended_long v e = refl
+
+handlers_long : (v : MachineView) (e : Event) → length (handlers_after v e) ≡ length v.handlers
+handlers_long v (Deliver w s) = length-set v.handlers s.0 (delivered v s.0)
+handlers_long v (Acted w (Block b) i) = refl
+handlers_long v (Acted w (Source s) i) = length-set v.handlers s.0 (record (handler_at v s.0) { done = (handler_at v s.0).done + 1 })
+handlers_long v e = refl
+
+workers_long : (plan : PlanView) (v : MachineView) (e : Event) → length (workers_after plan v e) ≡ length v.workers
+workers_long plan v (Start w b) = length-set v.workers w (Some (Block b))
+workers_long plan v (Wake w b) = length-set v.workers w (Some (Block b))
+workers_long plan v (Deliver w s) = length-set v.workers w (Some (Source s))
+workers_long plan v (End w b) = length-set v.workers w None
+workers_long plan v (DeliverEnd w s) = length-set v.workers w None
+workers_long plan v (Acted w r i) = elim (is_parking (act_at plan r i)) as (λ t. length (cond t (set v.workers w None) v.workers) ≡ length v.workers) [ true ↦ length-set v.workers w None | false ↦ refl ]
+workers_long plan v e = refl
+
+-- ## The step
+
+home_known : (plan : PlanView) (e : Event) (b : ℕ) (h : Obj) (act : Option Act) → IsPlan plan → act_of plan e ≡ act → h.0 < length plan.objects → (homed b act h).0 < length plan.objects
+home_known plan e b h (Some (Notify g q c)) valid at low =
+    let queue = has_object is_queue_kind plan q.0 (and_parts (is_queue plan q.0) (is_submittable plan c) (and_parts (has_kind is_group_kind plan g.0) (is_queue plan q.0 && is_submittable plan c) (recorded_fits plan e (Notify g q c) valid at)).1).0 in
+    elim (c.0 == b) as (λ t. (cond t q h).0 < length plan.objects) [ true ↦ queue | false ↦ low ]
+home_known plan e b h act valid at low = low
+
+-- what the arrays name follows from the ties after the event
+pub own_step : (plan : PlanView) (past : List Event) (e : Event) (v : MachineView) → IsPlan plan → IsLawful plan (e ∷ past) → OwnFit plan v → BlocksAre plan (e ∷ past) (after plan v e) → WorkersAre plan (e ∷ past) (after plan v e) → OwnFit plan (after plan v e)
+own_step plan past e v valid lawful own blocks workers =
+    let sleepers = woken_alike v.sleepers (asleep_after plan v e) (emptied_by plan v e) (event_alike plan v e) in
+    let wide = own.blocks in
+    record {
+      sleepers = sleepers.lists ∙ own.sleepers;
+      sleeper_blocks = sleepers.blocks ∙ own.sleeper_blocks;
+      blocks = noted_long (submits plan v e) (blocks_by plan v e) ∙ (by_long plan v e ∙ own.blocks);
+      ended = ended_long v e ∙ own.ended;
+      due = due_long (come_by plan v e) (woken v.due e) ∙ (woken_long v.due e ∙ own.due);
+      handlers = handlers_long v e ∙ own.handlers;
+      busy = all_marked_long (submits plan v e) (busy_at_event plan v e) ∙ (event_long plan v e ∙ own.busy);
+      workers = workers_long plan v e ∙ own.workers;
+      nodes = λ b q at. node_known plan (e ∷ past) b q valid (sym (blocks.node b) ∙ at);
+      groups = λ b g at. group_known plan (e ∷ past) b g valid (sym (blocks.group b) ∙ at);
+      homes = λ b.
+          subst (λ (o : Obj). o.0 < length plan.objects)
+          (sym (homes_after plan v e b (λ g q c at. let l = notified plan e g q c valid at in omega (arith, l, wide))))
+          (home_known plan e b (home_of v.blocks b) (act_of plan e) valid refl (own.homes b));
+      callers = λ b c at. caller_known plan (e ∷ past) b c lawful (sym (blocks.caller b) ∙ at);
+      runs = λ w run at.
+          let has : has_run plan (e ∷ past) w run ≡ true = workers.runs w run ∙ (ap (is_run run) at ∙ same_run-refl run) in
+          open_known plan (e ∷ past) run lawful (open_from_has_run plan (e ∷ past) w run has);
+    }
+  where
+    notified : (plan : PlanView) (e : Event) (g q : Obj) (c : Blk) → IsPlan plan → act_of plan e ≡ Some (Notify g q c) → c.0 < length plan.blocks
+    notified plan e g q c valid at =
+        let fits = (and_parts (is_queue plan q.0) (is_submittable plan c) (and_parts (has_kind is_group_kind plan g.0) (is_queue plan q.0 && is_submittable plan c) (recorded_fits plan e (Notify g q c) valid at)).1).1 in
+        ltb-true c.0 (length plan.blocks) (and_parts (ltb 0 c.0) (ltb c.0 (length plan.blocks)) fits).1

@@ -1,0 +1,120 @@
+-- The whole view of a machine: the views of its parts, and the arrays that it keeps itself.
+use Rattle.std.specs.Prelude.{ℕ, Bool, true, false, List, [], length, map, replicate, Option, None, slice_index, slice_index_or}
+use Rattle.gcd_plan.specs.PlanView.{PlanView}
+use Rattle.gcd_plan.specs.declared.kind.Kind.{Kind}
+use Rattle.gcd_plan.specs.declared.kind.Kind.TheVariants.{Timer}
+use Rattle.gcd_plan.specs.declared.numbers.Obj.{Obj}
+use Rattle.gcd_plan.specs.declared.numbers.Run.{Run}
+use Rattle.gcd_refinement.specs.declared.progress.BlockProgress.{BlockProgress}
+use Rattle.gcd_refinement.specs.declared.progress.HandlerProgress.{HandlerProgress}
+use Rattle.gcd_lists.specs.ListsView.{ListsView}
+use Rattle.gcd_tree.specs.TreeView.{TreeView, tree_of}
+use Rattle.gcd_hold.specs.HoldsView.{HoldsView, holds_of}
+use Rattle.gcd_drain.specs.DrainsView.{DrainsView, drains_of}
+use Rattle.gcd_group.specs.GroupsView.{GroupsView, groups_of}
+use Rattle.gcd_sema.specs.SemasView.{SemasView, semas_of}
+use Rattle.gcd_sync.specs.WaitsView.{WaitsView, waits_of}
+use Rattle.gcd_source.specs.SourcesView.{SourcesView, sources_of}
+use Rattle.gcd_timer.specs.TimersView.{TimersView, timers_of}
+
+-- the plan; the parts: references, what waits on nodes, targets, holds, barriers, groups, semaphores, parked blocks, sources, timers;
+-- by semaphore and group the blocks that sleep there; by block what it has come to, whether it has ended, and whether what it
+-- is parked for has come; by object what is kept of a source, and whether it has to be looked at; by worker the run that it
+-- has; how many runs are open and not parked, how many blocks are submitted and not ended, and how many read sources are
+-- live; whether the last event is a misuse, or a halt; how many events have come
+pub record MachineView : Type 0 where
+  pub plan : PlanView
+  pub refs : List ℕ
+  pub lists : ListsView
+  pub tree : TreeView
+  pub holds : HoldsView
+  pub drains : DrainsView
+  pub groups : GroupsView
+  pub semas : SemasView
+  pub waits : WaitsView
+  pub sources : SourcesView
+  pub timers : TimersView
+  pub sleepers : ListsView
+  pub blocks : List BlockProgress
+  pub ended : List Bool
+  pub due : List Bool
+  pub handlers : List HandlerProgress
+  pub busy : List Bool
+  pub workers : List (Option Run)
+  pub running : ℕ
+  pub left : ℕ
+  pub feeds : ℕ
+  pub misused : Bool
+  pub halted : Bool
+  pub len : ℕ
+
+-- a block that nobody has submitted
+abbrev pub idle : BlockProgress
+idle = record { node = None; barrier = false; started = false; done = 0; group = None; home = record { 0 = 0 }; caller = None }
+
+-- a source that nothing was delivered to
+abbrev pub undelivered : HandlerProgress
+undelivered = record { done = 0; taken = 0; given = 0 }
+
+-- what block b has come to, whether it has ended, and whether what it is parked for has come
+abbrev pub block_at : MachineView → ℕ → BlockProgress
+block_at v b = slice_index_or v.blocks b idle
+
+abbrev pub ended_at : MachineView → ℕ → Bool
+ended_at v b = slice_index_or v.ended b false
+
+abbrev pub due_at : MachineView → ℕ → Bool
+due_at v b = slice_index_or v.due b false
+
+-- what is kept of source s, and whether object o has to be looked at for a Start or a Deliver
+abbrev pub handler_at : MachineView → ℕ → HandlerProgress
+handler_at v s = slice_index_or v.handlers s undelivered
+
+abbrev pub busy_at : MachineView → ℕ → Bool
+busy_at v o = slice_index_or v.busy o false
+
+-- the run that worker w has
+abbrev pub at_worker : MachineView → ℕ → Option Run
+at_worker v w = slice_index_or v.workers w None
+
+-- the references on object o
+abbrev pub refs_at : MachineView → ℕ → ℕ
+refs_at v o = slice_index v.refs o
+
+-- a timer
+abbrev pub is_timer_kind : Kind → Bool
+is_timer_kind (Timer start every) = true
+is_timer_kind _ = false
+
+-- nothing waits on any object of the plan
+abbrev pub lists_of : PlanView → ListsView
+lists_of plan = record { lists = replicate (length plan.objects) []; blocks = length plan.blocks }
+
+-- the view that a new machine has: nothing has happened, and main is submitted
+abbrev pub machine_of : PlanView → MachineView
+machine_of plan = record {
+  plan = plan;
+  refs = replicate (length plan.objects) 1;
+  lists = lists_of plan;
+  tree = tree_of plan;
+  holds = holds_of plan;
+  drains = drains_of plan;
+  groups = groups_of plan;
+  semas = semas_of plan;
+  waits = waits_of plan;
+  sources = sources_of plan;
+  timers = timers_of plan;
+  sleepers = lists_of plan;
+  blocks = replicate (length plan.blocks) idle;
+  ended = replicate (length plan.blocks) false;
+  due = replicate (length plan.blocks) false;
+  handlers = replicate (length plan.objects) undelivered;
+  busy = map (λ o. is_timer_kind o.kind) plan.objects;
+  workers = replicate 64 None;
+  running = 0;
+  left = 1;
+  feeds = 0;
+  misused = false;
+  halted = false;
+  len = 0;
+}

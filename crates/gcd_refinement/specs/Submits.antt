@@ -1,0 +1,117 @@
+-- What an event submits, empties and wakes, told by the view that stands before it.
+use Rattle.std.specs.Prelude.{◌+◌, ◌==◌, false, if◌then◌else◌, List, [], ◌∷◌, ◌++◌, map, take, Option, Some, None, option_to_list}
+use Rattle.std.specs.Option.{option_map_or}
+use Rattle.gcd_plan.specs.PlanView.{PlanView, cancel_block}
+use Rattle.gcd_plan.specs.declared.act.Act.{Act}
+use Rattle.gcd_plan.specs.declared.act.Act.TheVariants.{Notify, Leave, GroupWait, Signal, Wait, Resume, Activate}
+use Rattle.gcd_plan.specs.declared.numbers.Blk.{Blk}
+use Rattle.gcd_plan.specs.declared.numbers.Obj.{Obj}
+use Rattle.gcd_plan.specs.declared.numbers.Run.{Run}
+use Rattle.gcd_plan.specs.declared.numbers.Run.TheVariants.{Block, Source}
+use Rattle.gcd_event.specs.declared.event.Event.{Event}
+use Rattle.gcd_event.specs.declared.event.Event.TheVariants.{Act as Acted, End}
+use Rattle.gcd_history.specs.declared.submission.Submission.{Submission}
+use Rattle.gcd_history.specs.Runs.{act_at, act_of}
+use Rattle.gcd_history.specs.Submitted.{on_node, submitted_by, cancels}
+use Rattle.gcd_lists.specs.ListsView.{list_at}
+use Rattle.gcd_hold.specs.HoldsView.{hold_at, is_active_at}
+use Rattle.gcd_group.specs.GroupsView.{count_at}
+use Rattle.gcd_sema.specs.SemasView.{waits_at, is_passed_at}
+use Rattle.gcd_source.specs.SourcesView.{is_cancelled_at}
+use Rattle.gcd_refinement.specs.MachineView.{MachineView, block_at}
+use Rattle.gcd_refinement.specs.Ties.{told}
+
+-- ## Groups
+
+-- the group that the act leaves
+abbrev pub left_by : Option Act → Option Obj
+left_by (Some (Leave g)) = Some g
+left_by _ = None
+
+-- the group that counts one less after the event: that of a block which ends, or the one that an act leaves
+abbrev pub lessened : PlanView → MachineView → Event → Option Obj
+lessened plan v (End w b) = (block_at v b.0).group
+lessened plan v e = left_by (act_of plan e)
+
+-- the group, where it counts just one
+abbrev pub last_of : MachineView → Option Obj → Option Obj
+last_of v None = None
+last_of v (Some g) = if count_at v.groups g.0 == 1 then Some g else None
+
+-- the group that the event empties
+abbrev pub emptied_by : PlanView → MachineView → Event → Option Obj
+emptied_by plan v e = last_of v (lessened plan v e)
+
+-- ## What the event submits
+
+-- what a cancellation submits: the source's cancellation block, at the first
+abbrev pub at_cancel : PlanView → MachineView → Option Obj → List Submission
+at_cancel plan v None = []
+at_cancel plan v (Some s) =
+    if is_cancelled_at v.sources s.0 then [] else option_map_or (λ b. on_node s b false) (cancel_block plan s.0) []
+
+-- the notify blocks of a group that is emptied, in the order of registration
+abbrev pub at_empty : MachineView → Option Obj → List Submission
+at_empty v None = []
+at_empty v (Some g) = map (told v) (list_at v.groups.notify g.0)
+
+-- the notify block that the act registers at an empty group
+abbrev pub at_notify : MachineView → Option Act → List Submission
+at_notify v (Some (Notify g q b)) = if count_at v.groups g.0 == 0 then on_node q b false else []
+at_notify v _ = []
+
+-- what the event submits, in order; at most one of the four is not empty
+abbrev pub submits : PlanView → MachineView → Event → List Submission
+submits plan v e =
+    submitted_by (act_of plan e)
+    ++ at_cancel plan v (cancels plan e)
+    ++ at_empty v (emptied_by plan v e)
+    ++ at_notify v (act_of plan e)
+
+-- ## What the event activates and cancels
+
+-- the object, where it is inactive
+abbrev pub if_inactive : MachineView → Obj → Option Obj
+if_inactive v o = if is_active_at v.holds o.0 then None else Some o
+
+-- the object that the act makes active, where it was not: of an Activate, or of a Resume at hold 0
+abbrev pub activated_by : MachineView → Option Act → Option Obj
+activated_by v (Some (Activate o)) = if_inactive v o
+activated_by v (Some (Resume o)) = if hold_at v.holds o.0 == 0 then if_inactive v o else None
+activated_by v _ = None
+
+-- the source that the event cancels, where it was not cancelled before
+abbrev pub newly_cancelled : MachineView → Option Obj → Option Obj
+newly_cancelled v None = None
+newly_cancelled v (Some s) = if is_cancelled_at v.sources s.0 then None else Some s
+
+-- ## Whose wait is over
+
+-- the blocks that sleep at an object
+abbrev pub sleepers_at : MachineView → Option Obj → List Blk
+sleepers_at v None = []
+sleepers_at v (Some o) = map (λ w. w.0) (list_at v.sleepers o.0)
+
+-- block b, where its act waits for what has come already: a semaphore with a value above 0, or an empty group
+abbrev pub come_at_once : MachineView → Blk → Option Act → List Blk
+come_at_once v b (Some (Wait s)) = if is_passed_at v.semas s.0 (waits_at v.semas s.0 + 1) then b ∷ [] else []
+come_at_once v b (Some (GroupWait g)) = if count_at v.groups g.0 == 0 then b ∷ [] else []
+come_at_once v b _ = []
+
+abbrev pub come_to_run : MachineView → Run → Option Act → List Blk
+come_to_run v (Block b) act = come_at_once v b act
+come_to_run v (Source s) act = []
+
+-- the block that a signal lets go on: the first that sleeps there
+abbrev pub signalled : MachineView → Option Act → List Blk
+signalled v (Some (Signal s)) = take 1 (sleepers_at v (Some s))
+signalled v _ = []
+
+-- the blocks that may wake after the event, and might not before
+abbrev pub come_by : PlanView → MachineView → Event → List Blk
+come_by plan v (End w b) = option_to_list (block_at v b.0).caller ++ sleepers_at v (emptied_by plan v (End w b))
+come_by plan v (Acted w run i) =
+    come_to_run v run (act_at plan run i)
+    ++ signalled v (act_at plan run i)
+    ++ sleepers_at v (emptied_by plan v (Acted w run i))
+come_by plan v e = []

@@ -1,0 +1,55 @@
+// What a machine keeps of each block and of each source.
+
+use gcd_plan::{Blk, Obj};
+
+/// What a block has come to.
+#[derive(Clone, Copy, Debug, PartialEq, Eq)]
+pub struct BlockProgress {
+    /// The queue or source on which it was submitted; None for `main`, and before the submission (dispatch_async(3)).
+    pub node: Option<Obj>,
+    /// Whether it was submitted as a barrier (dispatch_barrier_async(3)).
+    pub barrier: bool,
+    /// Whether it has started.
+    pub started: bool,
+    /// How many acts it has made, at most 65,535.
+    pub done: u32,
+    /// The group that counts it until its end (dispatch_group_async(3)).
+    pub group: Option<Obj>,
+    /// The queue to which it goes once the group at which it waits is empty (dispatch_group_notify(3)).
+    pub home: Obj,
+    /// The block that waits for its end (dispatch_sync(3), dispatch_barrier_sync(3)).
+    pub caller: Option<Blk>,
+}
+
+impl BlockProgress {
+    /// A block that nobody has submitted.
+    pub const IDLE: BlockProgress = BlockProgress {
+        node: None,
+        barrier: false,
+        started: false,
+        done: 0,
+        group: None,
+        home: Obj(0),
+        caller: None,
+    };
+}
+
+/// What a source's handler has come to.
+#[derive(Clone, Copy, Debug, PartialEq, Eq)]
+pub struct HandlerProgress {
+    /// How many acts it has made since the last delivery, at most 65,535.
+    pub done: u32,
+    /// How many due times of a timer the deliveries have handed over (dispatch_source_set_timer(3)).
+    pub taken: u64,
+    /// What the last delivery handed over, 0 before one (dispatch_source_get_data(3)).
+    pub given: u64,
+}
+
+impl HandlerProgress {
+    /// A source at which nothing was delivered.
+    pub const UNDELIVERED: HandlerProgress = HandlerProgress {
+        done: 0,
+        taken: 0,
+        given: 0,
+    };
+}
