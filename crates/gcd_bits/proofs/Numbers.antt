@@ -16,82 +16,109 @@ length_bits words len = length-map-range_with_len (is_in_words words) 0 len
 pub at_number : (words : List ℕ) (len i : ℕ) → i < len → get_or (bits_of words len) i false ≡ is_in_words words i
 at_number words len i lt = get_or-map-range_with_len (is_in_words words) 0 len i i false lt (omega arith)
 
+-- a number has a word
+pub word_within : (words : List ℕ) (n i : ℕ) → length words ≡ n → i < 64 * n → i / 64 < length words
+word_within words n i long lt = let parts = div-add-mod' i 64 in omega (arith, parts)
+
 -- words of zeros hold nothing
-pub bits_of-zeros : (n len : ℕ) → len ≤ 64 * n → bits_of (replicate n 0) len ≡ replicate len false
-bits_of-zeros n len room =
-    ext_get_or false _ _ (length_bits (replicate n 0) len ∙ sym (length-replicate len false))
-    (λ i lt.
-    let within : i < len = omega (arith, lt, length_bits (replicate n 0) len) in
-    let word : i / 64 < n = (let parts = div-add-mod' i 64 in omega (arith, parts)) in
-    let zero = ap (λ w. is_set w (i % 64)) (get_or-replicate n (i / 64) 0 0 word) in
-    at_number (replicate n 0) len i within ∙ zero ∙ none (i % 64) ∙ sym (get_or-replicate len i false false within))
+pub in_words-zeros : (n i : ℕ) → is_in_words (replicate n 0) i ≡ false
+in_words-zeros n i =
+    elim (cases_lt (i / 64) n) [
+      | inl lt ↦ ap (λ w. is_set w (i % 64)) (get_or-replicate n (i / 64) 0 0 lt) ∙ none (i % 64)
+      | inr past ↦ ap (λ w. is_set w (i % 64)) (get_or_past (replicate n 0) (i / 64) 0 (rw length-replicate past)) ∙ none (i % 64)
+    ]
   where
     none : (k : ℕ) → is_set 0 k ≡ false
     none k = let e = bit_at-zero k in ne_eqb (bit_at 0 k) 1 (λ (one : bit_at 0 k ≡ 1). omega (arith, e, one))
 
--- another word in place of one changes what its bits change
-pub bits_of-set : (words : List ℕ) (len i word : ℕ) (b : Bool) → i < len → len ≤ 64 * length words
-    → is_set word (i % 64) ≡ b → ((k : ℕ) → k < 64 → k ≢ i % 64 → is_set word k ≡ is_set (get_or words (i / 64) 0) k)
-    → bits_of (set words (i / 64) word) len ≡ set (bits_of words len) i b
-bits_of-set words len i word b lt room here others =
-    ext_get_or false _ _
-    (length_bits (set words (i / 64) word) len ∙ sym (length-set (bits_of words len) i b ∙ length_bits words len))
-    (λ k lt'.
-    let within : k < len = omega (arith, lt', length_bits (set words (i / 64) word) len) in
-    at_number (set words (i / 64) word) len k within ∙ same k within)
-  where
-    long : i < length (bits_of words len)
-    long = omega (arith, lt, length_bits words len)
+pub bits_of-zeros : (n len : ℕ) → bits_of (replicate n 0) len ≡ replicate len false
+bits_of-zeros n len =
+    ext_get_or false _ _ (length_bits (replicate n 0) len ∙ sym (length-replicate len false))
+    (λ i lt.
+    let within : i < len = omega (arith, lt, length_bits (replicate n 0) len) in
+    at_number (replicate n 0) len i within ∙ in_words-zeros n i ∙ sym (get_or-replicate len i false false within))
 
-    inside : i / 64 < length words
-    inside = let parts = div-add-mod' i 64 in omega (arith, parts, lt, room)
+-- ---- another word in place of one, which differs at the bit of number i alone
 
-    same : (k : ℕ) → k < len → is_in_words (set words (i / 64) word) k ≡ get_or (set (bits_of words len) i b) k false
-    same k within =
-        elim (cases_eq k i) [
-          | inl e ↦
-              let new = get_or-set_same words (i / 64) word 0 inside in
-              ap (is_in_words (set words (i / 64) word)) e ∙ ap (λ w. is_set w (i % 64)) new ∙ here
-              ∙ sym (ap (λ j. get_or (set (bits_of words len) i b) j false) e ∙ get_or-set_same (bits_of words len) i b false long)
-          | inr ne ↦
-              other k ne ∙ sym (get_or-set_other (bits_of words len) i k b false ne ∙ at_number words len k within)
-        ]
-      where
-        other : (j : ℕ) → j ≢ i → is_in_words (set words (i / 64) word) j ≡ is_in_words words j
-        other j ne =
-            elim (cases_eq (j / 64) (i / 64)) [
-              | inl e ↦
-                  let new = ap (λ n. get_or (set words (i / 64) word) n 0) e ∙ get_or-set_same words (i / 64) word 0 inside in
-                  let apart : j % 64 ≢ i % 64 = λ e'. ne (let one = div-add-mod' j 64 in let two = div-add-mod' i 64 in omega (arith, one, two, e, e')) in
-                  ap (λ w. is_set w (j % 64)) new
-                  ∙ others (j % 64) (mod_below j 64 (omega arith)) apart
-                  ∙ ap (λ n. is_set (get_or words n 0) (j % 64)) (sym e)
-              | inr ne' ↦ ap (λ w. is_set w (j % 64)) (get_or-set_other words (i / 64) (j / 64) word 0 ne')
-            ]
+in_words-here : (words : List ℕ) (i word : ℕ) (b : Bool) → i / 64 < length words → is_set word (i % 64) ≡ b
+    → is_in_words (set words (i / 64) word) i ≡ b
+in_words-here words i word b lt here = ap (λ w. is_set w (i % 64)) (get_or-set_same words (i / 64) word 0 lt) ∙ here
 
--- ---- a number comes or goes
+in_words-other : (words : List ℕ) (i word j : ℕ) → i / 64 < length words
+    → ((k : ℕ) → k < 64 → k ≢ i % 64 → is_set word k ≡ is_set (get_or words (i / 64) 0) k)
+    → j ≢ i → is_in_words (set words (i / 64) word) j ≡ is_in_words words j
+in_words-other words i word j lt others ne =
+    elim (cases_eq (j / 64) (i / 64)) [
+      | inl e ↦
+          let new = ap (λ n. get_or (set words (i / 64) word) n 0) e ∙ get_or-set_same words (i / 64) word 0 lt in
+          let apart : j % 64 ≢ i % 64 = λ e'. ne (let one = div-add-mod' j 64 in let two = div-add-mod' i 64 in omega (arith, one, two, e, e')) in
+          ap (λ w. is_set w (j % 64)) new
+          ∙ others (j % 64) (mod_below j 64 (omega arith)) apart
+          ∙ ap (λ n. is_set (get_or words n 0) (j % 64)) (sym e)
+      | inr ne' ↦ ap (λ w. is_set w (j % 64)) (get_or-set_other words (i / 64) (j / 64) word 0 ne')
+    ]
 
 bit_is : (n m : ℕ) → n ≡ m → (n == 1) ≡ (m == 1)
 bit_is n m e = ap (λ k. k == 1) e
 
-pub bits_of-with : (words : List ℕ) (len i : ℕ) → i < len → len ≤ 64 * length words
-    → bits_of (set words (i / 64) (bit_or (get_or words (i / 64) 0) (1 * 2 ^ (i % 64) % 2 ^ 64))) len ≡ set (bits_of words len) i true
-bits_of-with words len i lt room =
-    let k = i % 64 in
-    let within : k < 64 = mod_below i 64 (omega arith) in
-    bits_of-set words len i _ true lt room
-    (eq-eqb _ 1 (bit_at_set_same w64 (get_or words (i / 64) 0) k within))
-    (λ j lt' ne. bit_is _ _ (bit_at_set_other w64 (get_or words (i / 64) 0) k within j ne))
+-- the word with the bit of number i set, and with it cleared
+abbrev pub word_with : ℕ → ℕ → ℕ
+word_with word i = bit_or word (1 * 2 ^ (i % 64) % 2 ^ 64)
 
-pub bits_of-without : (words : List ℕ) (len i : ℕ) → i < len → len ≤ 64 * length words
-    → bits_of (set words (i / 64) (bit_and (get_or words (i / 64) 0) (bit_not w64 (1 * 2 ^ (i % 64) % 2 ^ 64)))) len ≡ set (bits_of words len) i false
-bits_of-without words len i lt room =
-    let k = i % 64 in
-    let within : k < 64 = mod_below i 64 (omega arith) in
-    let zero = bit_at_clear_same w64 (get_or words (i / 64) 0) k within in
-    bits_of-set words len i _ false lt room
-    (ne_eqb _ 1 (λ (one : bit_at (bit_and (get_or words (i / 64) 0) (bit_not w64 (1 * 2 ^ k % 2 ^ 64))) k ≡ 1). omega (arith, zero, one)))
-    (λ j lt' ne. bit_is _ _ (bit_at_clear_other w64 (get_or words (i / 64) 0) k within j lt' ne))
+abbrev pub word_without : ℕ → ℕ → ℕ
+word_without word i = bit_and word (bit_not w64 (1 * 2 ^ (i % 64) % 2 ^ 64))
+
+module _ (words : List ℕ) (i : ℕ) (lt : i / 64 < length words) where
+  place : i % 64 < 64
+  place = mod_below i 64 (omega arith)
+
+  pub with_here : is_in_words (set words (i / 64) (word_with (get_or words (i / 64) 0) i)) i ≡ true
+  with_here = in_words-here words i _ true lt (eq-eqb _ 1 (bit_at_set_same w64 (get_or words (i / 64) 0) (i % 64) place))
+
+  pub with_other : (j : ℕ) → j ≢ i → is_in_words (set words (i / 64) (word_with (get_or words (i / 64) 0) i)) j ≡ is_in_words words j
+  with_other j ne =
+      in_words-other words i _ j lt (λ k lt' ne'. bit_is _ _ (bit_at_set_other w64 (get_or words (i / 64) 0) (i % 64) place k ne')) ne
+
+  pub without_here : is_in_words (set words (i / 64) (word_without (get_or words (i / 64) 0) i)) i ≡ false
+  without_here =
+      let zero = bit_at_clear_same w64 (get_or words (i / 64) 0) (i % 64) place in
+      in_words-here words i _ false lt
+      (ne_eqb _ 1 (λ (one : bit_at (word_without (get_or words (i / 64) 0) i) (i % 64) ≡ 1). omega (arith, zero, one)))
+
+  pub without_other : (j : ℕ) → j ≢ i → is_in_words (set words (i / 64) (word_without (get_or words (i / 64) 0) i)) j ≡ is_in_words words j
+  without_other j ne =
+      in_words-other words i _ j lt
+      (λ k lt' ne'. bit_is _ _ (bit_at_clear_other w64 (get_or words (i / 64) 0) (i % 64) place k lt' ne')) ne
+
+-- what is so at number i, and elsewhere as before, is the list with another element
+bits_changed : (words words' : List ℕ) (len i : ℕ) (b : Bool) → i < len → is_in_words words' i ≡ b
+    → ((j : ℕ) → j ≢ i → is_in_words words' j ≡ is_in_words words j) → bits_of words' len ≡ set (bits_of words len) i b
+bits_changed words words' len i b lt here others =
+    ext_get_or false _ _
+    (length_bits words' len ∙ sym (length-set (bits_of words len) i b ∙ length_bits words len))
+    (λ k lt'.
+    let within : k < len = omega (arith, lt', length_bits words' len) in
+    at_number words' len k within ∙ same k within)
+  where
+    long : i < length (bits_of words len)
+    long = omega (arith, lt, length_bits words len)
+
+    same : (k : ℕ) → k < len → is_in_words words' k ≡ get_or (set (bits_of words len) i b) k false
+    same k within =
+        elim (cases_eq k i) [
+          | inl e ↦
+              ap (is_in_words words') e ∙ here
+              ∙ sym (ap (λ j. get_or (set (bits_of words len) i b) j false) e ∙ get_or-set_same (bits_of words len) i b false long)
+          | inr ne ↦ others k ne ∙ sym (get_or-set_other (bits_of words len) i k b false ne ∙ at_number words len k within)
+        ]
+
+pub bits_of-with : (words : List ℕ) (len i : ℕ) → i < len → i / 64 < length words
+    → bits_of (set words (i / 64) (word_with (get_or words (i / 64) 0) i)) len ≡ set (bits_of words len) i true
+bits_of-with words len i lt word = bits_changed words _ len i true lt (with_here words i word) (with_other words i word)
+
+pub bits_of-without : (words : List ℕ) (len i : ℕ) → i < len → i / 64 < length words
+    → bits_of (set words (i / 64) (word_without (get_or words (i / 64) 0) i)) len ≡ set (bits_of words len) i false
+bits_of-without words len i lt word = bits_changed words _ len i false lt (without_here words i word) (without_other words i word)
 
 -- ---- how many there are
 

@@ -24,9 +24,9 @@ shows_nothing n len room short is = rw is (record {
   counted = record {
     enough = rw length-replicate room;
     no_more = rw length-replicate short;
-    counted = sym (ap (count_by (λ b. b)) (bits_of-zeros n len room) ∙ none);
+    counted = sym (ap (count_by (λ b. b)) (bits_of-zeros n len) ∙ none);
   };
-  seen = bits_of-zeros n len room;
+  seen = bits_of-zeros n len;
 })
   where
     none : count_by (λ b. b) (replicate len false) ≡ 0
@@ -61,7 +61,7 @@ module _ {words : List ℕ} {len total : ℕ} {bits : List Bool} (s : Shows word
       let old = get_or_read words (i / 64) w (word_within i lt) read 0 in
       let within : i < len = omega (arith, lt, long) in
       let same = ap (λ v. bits_of (set words (i / 64) (bit_or v (1 * 2 ^ (i % 64) % 2 ^ 64))) len) old
-      ∙ bits_of-with words len i within s.counted.enough ∙ ap (λ xs. set xs i true) s.seen in
+      ∙ bits_of-with words len i within (word_within i lt) ∙ ap (λ xs. set xs i true) s.seen in
       let more = (one_more bits i lt out).0 in
       record {
         counted = record {
@@ -82,7 +82,7 @@ module _ {words : List ℕ} {len total : ℕ} {bits : List Bool} (s : Shows word
       let old = get_or_read words (i / 64) w (word_within i lt) read 0 in
       let within : i < len = omega (arith, lt, long) in
       let same = ap (λ v. bits_of (set words (i / 64) (bit_and v (bit_not w64 (1 * 2 ^ (i % 64) % 2 ^ 64)))) len) old
-      ∙ bits_of-without words len i within s.counted.enough ∙ ap (λ xs. set xs i false) s.seen in
+      ∙ bits_of-without words len i within (word_within i lt) ∙ ap (λ xs. set xs i false) s.seen in
       let less = one_less bits i lt there in
       let left : total - 1 ≡ count_by (λ b. b) (set bits i false) = omega (arith, less, total_is) in
       record {

@@ -13,13 +13,16 @@
 //! | `next` | the least number in the set from one on; None exactly where there is none | | a step for each word that it passes, and constant where the set is empty |
 //! | `set`, `clear` | | the number in the set, or not, as it may have been before | constant |
 //!
-//! `new` and `copied` take all memory; every other call takes none and cannot fail.
+//! `new` and `copied` take all memory; every other call takes none and cannot fail. A [`SmallSet`] has numbers below 1,024
+//! and takes no memory at all: it serves within one call. Contracts see its words.
 #![tactic(auto)]
 
 mod set;
+mod small;
 mod word;
 
 pub use set::BitSet;
+pub use small::SmallSet;
 
 #[cfg(test)]
 mod tests;

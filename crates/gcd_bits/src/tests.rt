@@ -1,4 +1,4 @@
-use crate::BitSet;
+use crate::{BitSet, SmallSet};
 use std::alloc::Global;
 use std::process::Abort;
 use std::test::Fail;
@@ -95,4 +95,26 @@ fn numbers_come_and_go(rt: HostRuntime) -> Result<(), Fail> {
         check_row(&rt, rt.alloc(), row)?;
     }
     Ok(())
+}
+
+#[test]
+fn a_small_set_keeps_apart_what_is_set(rt: HostRuntime) {
+    let mut set = SmallSet::new();
+    for i in [0, 63, 64, 700, 1023, 64] {
+        assert!(rt; i < 1024);
+        set.set(i);
+    }
+    set.clear(63);
+    for (i, answer) in [
+        (0, true),
+        (1, false),
+        (63, false),
+        (64, true),
+        (127, false),
+        (700, true),
+        (1023, true),
+    ] {
+        assert!(rt; i < 1024);
+        assert_eq!(rt; set.has(i), answer, "{i}");
+    }
 }
