@@ -56,6 +56,16 @@ impl Drains {
         })
     }
 
+    /// The same numbers once more. It takes all the memory that the numbers ever need: an `Err` comes only of want of it.
+    pub fn copied(&self, alloc: Global) -> Result<Drains, AllocError>
+        ensures { IfOk result (λ d. d ≡ self.now) }
+    {
+        Ok(Drains {
+            barriers: Vec::from_slice(alloc, &self.barriers)?,
+            kinds: Vec::from_slice(alloc, &self.kinds)?,
+        })
+    }
+
     // Whether the object is a serial queue or a source, and a run is open beneath it.
     fn excludes(&self, tree: &Tree, o: Obj) -> bool
         requires object { o.0 < length self.now.barriers }

@@ -1,12 +1,14 @@
 //! Whether a block that waits may start, and whether the handler of a source may run (dispatch_async(3),
 //! dispatch_barrier_async(3), dispatch_suspend(3), dispatch_set_target_queue(3)).
 //!
-//! Contracts see [`Drains`] as plain lists by object (`DrainsView`): how many barriers are open on it, and its kind. The
-//! rest the calls read of what the other parts hold: the lists of waiting blocks, the tree of targets and the holds.
+//! Contracts see [`Drains`] as plain lists by object (`DrainsView`): how many barriers are open on it, and its kind.
+//! The rest the calls read of what the other parts hold: the lists of waiting blocks, the tree of targets and the
+//! holds.
 //!
 //! | call | answer | what it leaves |
 //! |---|---|---|
 //! | `Drains::new` | no barrier open, and the plan's kinds; or want of memory | |
+//! | `copied` | the same numbers once more; or want of memory | |
 //! | `may_start` | the first reason why the block may not start, None exactly where it may | |
 //! | `may_run` | the first reason why the source's handler may not run, None exactly where it may | |
 //! | `barriers` | how many barriers are open on the node | |
@@ -23,9 +25,9 @@
 //! | `Excluded` | a run is open beneath a serial queue or source of the chain |
 //! | `Fenced` | the node is a concurrent queue other than `root`; a barrier is open there, or it is one and a run is open there |
 //!
-//! `may_run` tells of `NotFree` and `Excluded`, over the chain of the source. Both walk the chain at most once for freedom
-//! and once for exclusion; nothing else costs more with a larger plan. `new` takes all memory; every other call takes none
-//! and cannot fail.
+//! `may_run` tells of `NotFree` and `Excluded`, over the chain of the source. Both walk the chain at most once for
+//! freedom and once for exclusion; nothing else costs more with a larger plan. `new` and `copied` take all memory, each
+//! array at once; every other call takes none and cannot fail.
 //!
 //! The rule is the plan's (`StartRule` of `gcd_plan`), and `specs/Rule` says what the parts tell it. The crate knows no
 //! history: that the parts hold what a history says is for its callers. Whether something is pending at a source is not

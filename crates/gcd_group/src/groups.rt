@@ -51,6 +51,20 @@ impl Groups {
         })
     }
 
+    /// The same groups once more. It takes all the memory that the groups ever need: an `Err` comes only of want of it.
+    pub fn copied(&self, alloc: Global) -> Result<Groups, AllocError>
+        ensures { IfOk result (λ g. g ≡ self.now) }
+    {
+        Ok(Groups {
+            counts: Vec::from_slice(alloc, &self.counts)?,
+            entered: Vec::from_slice(alloc, &self.entered)?,
+            emptied: Vec::from_slice(alloc, &self.emptied)?,
+            notify: self.notify.copied(alloc)?,
+            registered: Vec::from_slice(alloc, &self.registered)?,
+            due: Vec::from_slice(alloc, &self.due)?,
+        })
+    }
+
     /// How many the group counts: its blocks that are submitted and not ended, and its enters less its leaves
     /// (dispatch_group_create(3), dispatch_group_async(3)).
     pub fn count(&self, g: Obj) -> u32

@@ -48,6 +48,18 @@ impl Lists {
         })
     }
 
+    /// The same lists once more. It takes all the memory that the lists ever need: an `Err` comes only of want of it.
+    pub fn copied(&self, alloc: Global) -> Result<Lists, AllocError>
+        ensures { IfOk result (λ l. l ≡ self.now) }
+    {
+        Ok(Lists {
+            next: Vec::from_slice(alloc, &self.next)?,
+            places: Vec::from_slice(alloc, &self.places)?,
+            heads: Vec::from_slice(alloc, &self.heads)?,
+            lasts: Vec::from_slice(alloc, &self.lasts)?,
+        })
+    }
+
     /// The block waits on the object from now on, behind all that wait there, as a barrier or not (dispatch_async(3),
     /// dispatch_barrier_async(3)). It waits nowhere before: [`Lists::place`] is the test. So no more wait there than there
     /// are blocks.

@@ -79,6 +79,20 @@ impl Timers {
         })
     }
 
+    /// The same timers at the same time once more. It takes all the memory that the timers ever need: an `Err` comes only of want of it.
+    pub fn copied(&self, alloc: Global) -> Result<Timers, AllocError>
+        ensures { IfOk result (λ t. t ≡ self.now) }
+    {
+        Ok(Timers {
+            kinds: Vec::from_slice(alloc, &self.kinds)?,
+            timers: Vec::from_slice(alloc, &self.timers)?,
+            until: self.until,
+            moment: self.moment,
+            activated: Vec::from_slice(alloc, &self.activated)?,
+            cancelled: Vec::from_slice(alloc, &self.cancelled)?,
+        })
+    }
+
     /// The present time, in milliseconds: that of the last tick, or 0 (this project's own rule).
     pub fn moment(&self) -> u32
         ensures { result ≡ self.now.moment }

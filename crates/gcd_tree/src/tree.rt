@@ -50,6 +50,19 @@ impl Tree {
         })
     }
 
+    /// The same tree once more. It takes all the memory that the tree ever need: an `Err` comes only of want of it.
+    pub fn copied(&self, alloc: Global) -> Result<Tree, AllocError>
+        ensures { IfOk result (λ tree. tree ≡ self.now) }
+    {
+        Ok(Tree {
+            targets: Vec::from_slice(alloc, &self.targets)?,
+            requests: Vec::from_slice(alloc, &self.requests)?,
+            open_on: Vec::from_slice(alloc, &self.open_on)?,
+            open_beneath: Vec::from_slice(alloc, &self.open_beneath)?,
+            nodes: Vec::from_slice(alloc, &self.nodes)?,
+        })
+    }
+
     /// The target of an object. A moving object keeps its old one until no run is open on it.
     pub fn target(&self, o: Obj) -> Obj
         requires { o.0 < length self.now.targets }
