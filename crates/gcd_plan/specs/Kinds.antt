@@ -93,6 +93,17 @@ is_semaphore_kind Or = false
 is_semaphore_kind (Timer start every) = false
 is_semaphore_kind Read = false
 
+-- a timer source (dispatch_source_create(3))
+abbrev pub is_timer_kind : Kind → Bool
+is_timer_kind Serial = false
+is_timer_kind Concurrent = false
+is_timer_kind Group = false
+is_timer_kind (Semaphore n) = false
+is_timer_kind Add = false
+is_timer_kind Or = false
+is_timer_kind (Timer start every) = true
+is_timer_kind Read = false
+
 -- a read source, which has a feed (dispatch_source_create(3))
 abbrev pub is_read_kind : Kind → Bool
 is_read_kind Serial = false

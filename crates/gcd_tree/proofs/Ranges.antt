@@ -53,12 +53,6 @@ sum-by_place xs =
     let e : xs ≡ map (λ k. get_or xs k 0) (range_with_len 0 (length xs)) = fill_by_all _ xs (length xs) 0 refl (λ k h. refl) in
     sym (sum_by-map (λ x. x) (λ k. get_or xs k 0) (range_with_len 0 (length xs))) ∙ sym (ap sum e)
 
--- a number that passes is found
-pub found_below : (p : ℕ → Bool) (n k : ℕ) → k < n → p k ≡ true → list_any p (range_with_len 0 n) ≡ true
-found_below p n k lt h =
-    let at : get_or (range_with_len 0 n) k 0 ≡ k = get_or-range_with_len 0 n k 0 lt ∙ omega arith in
-    list_any_at p (range_with_len 0 n) k 0 (omega (arith, lt, length-range_with_len 0 n)) (ap p at ∙ h)
-
 none_from : (p : ℕ → Bool) (a n : ℕ) → ((k : ℕ) → k < a + n → p k ≡ false) → list_any p (range_with_len a n) ≡ false
 none_from p a zero h = refl
 none_from p a (suc n) h = or_from (p a) _ (h a (omega arith)) (none_from p (a + 1) n (λ k lt. h k (omega arith)))
