@@ -8,7 +8,7 @@ use Rattle.std.proofs.lemmas.Bool.{and_parts, false≢true}
 use Rattle.gcd_plan.specs.PlanView.{PlanView, ObjView, work_of, name_of_blk}
 use Rattle.gcd_plan.specs.Kinds.{is_source, is_source_kind}
 use Rattle.gcd_plan.specs.Validity.{IsPlan, root_view}
-use Rattle.gcd_plan.specs.FirstForms.{IsOfFirstForms, is_plain_queue, is_serial_kind, after_root}
+use Rattle.gcd_forms.specs.FirstForms.{IsOfFirstForms, is_plain_queue, is_serial_kind, after_root}
 use Rattle.gcd_plan.specs.declared.kind.Kind.{Kind}
 use Rattle.gcd_plan.specs.declared.kind.Kind.TheVariants.{Serial, Concurrent, Group, Semaphore, Add, Or, Timer, Read}
 use Rattle.gcd_plan.specs.declared.work.Work.{Work}

@@ -1,11 +1,11 @@
 -- The ways in which a call can end, one rule for each (this project's own rules).
-use Rattle.std.specs.Prelude.{◌≡◌, ◌≢◌, ℕ, List, [], Option, Some, None, length}
+use Rattle.std.specs.Prelude.{◌≡◌, ◌≢◌, ℕ, List, [], Option, Some, None}
 use Rattle.gcd_plan.specs.PlanView.{PlanView}
 use Rattle.gcd_event.specs.declared.event.Event.{Event}
 use Rattle.gcd_history.specs.declared.state.State.{State}
 use Rattle.gcd_history.specs.declared.state.State.TheVariants.{Halted, Live}
 use Rattle.gcd_history.specs.History.{IsLawful}
-use Rattle.gcd_history.specs.Ends.{HasState}
+use Rattle.gcd_history.specs.Ends.{HasState, IsFull}
 use Rattle.gcd_history.specs.Report.{report_text}
 use Rattle.gcd_outer.specs.Outside.{Bytes, ShelfSeen, SinkSeen, IsUnread, IsLonger, SinkFailed, Took, TookFront}
 use Rattle.gcd_script.specs.Faults.{IsScriptOf, fault_of}
@@ -23,7 +23,7 @@ pub record IsScript (shelf : ShelfSeen) (name : Bytes) (plan : PlanView) : Type 
 -- the run is over: it is halted, full or quiescent, as its state says; nothing halts a run where there is no poller
 pub record IsOver (plan : PlanView) (journal : List Event) (state : State) : Type 0 where
   pub state_is : HasState plan journal state
-  pub full : state ≡ Live → length journal ≡ 65535
+  pub full : state ≡ Live → IsFull plan journal
   pub unhalted : state ≢ Halted
 
 -- what all inputs were seen to be: the shelf alone, in this stage

@@ -1,7 +1,7 @@
 // The top call.
 ghost use Rattle.std.specs.Prelude.{◌≡◌, ◌≢◌, ◌≤◌, ◌+◌, ◌⊎◌, IfOk, map, true, None, [], length};
 ghost use Rattle.gcd_plan.specs.PlanView.{file_view};
-ghost use Rattle.gcd_plan.specs.FirstForms.{IsOfFirstForms};
+ghost use Rattle.gcd_forms.specs.FirstForms.{IsOfFirstForms};
 ghost use Rattle.gcd_plan.specs.Validity.{IsPlan};
 ghost use Rattle.gcd_outer.specs.Outside.{ShelfFailed, shelf_seen, sink_seen};
 ghost use Rattle.gcd_run.specs.Asked.{RunAsked, request_of};

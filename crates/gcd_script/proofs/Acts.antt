@@ -9,7 +9,7 @@ use Rattle.std.proofs.lemmas.List.Concat.{flat_map-append}
 use Rattle.std.proofs.lemmas.List.Sums.{sum_by-cons, sum_by-set}
 use Rattle.std.proofs.lemmas.Option.{slice_get_within, slice_get-map, get_or_from_slice_get}
 use Rattle.std.proofs.Math.Seq.{map-set_same}
-use Rattle.gcd_plan.specs.FirstForms.{IsOfFirstForms, is_first_block, is_first_act, is_first_work}
+use Rattle.gcd_forms.specs.FirstForms.{IsOfFirstForms, is_first_block, is_first_act, is_first_work}
 use Rattle.gcd_plan.specs.Names.{is_name}
 use Rattle.gcd_plan.specs.PlanView.{PlanView, ObjView, BlkView}
 use Rattle.gcd_plan.specs.Validity.{IsPlan, names_of, block_of, blocks_of, submitted_blocks, act_count, is_act, is_object, is_block, is_work}

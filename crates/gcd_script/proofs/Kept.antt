@@ -5,7 +5,7 @@ use Rattle.std.specs.Option.{option_map_or, option_or}
 use Rattle.std.specs.Str.{bytes_eq}
 use Rattle.std.proofs.lemmas.Bool.{and_from, or_parts, not-false, leb-false, lt-ltb}
 use Rattle.std.proofs.lemmas.List.{length_push, length-map}
-use Rattle.gcd_plan.specs.FirstForms.{is_first_work}
+use Rattle.gcd_forms.specs.FirstForms.{is_first_work}
 use Rattle.gcd_plan.specs.Kinds.{is_queue}
 use Rattle.gcd_plan.specs.PlanView.{PlanView, ObjView, BlkView, FileView}
 use Rattle.gcd_plan.specs.Validity.{IsPlan, submitted_blocks, act_count, is_submittable, is_act, is_work}

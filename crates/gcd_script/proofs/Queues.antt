@@ -7,7 +7,7 @@ use Rattle.std.proofs.lemmas.List.Folds.{list_all-append}
 use Rattle.gcd_plan.specs.PlanView.{PlanView, ObjView, first_target}
 use Rattle.gcd_plan.specs.Kinds.{has_kind, is_queue_kind}
 use Rattle.gcd_plan.specs.Chains.{chain_by, is_in}
-use Rattle.gcd_plan.specs.FirstForms.{is_plain_queue, is_serial_kind, after_root}
+use Rattle.gcd_forms.specs.FirstForms.{is_plain_queue, is_serial_kind, after_root}
 use Rattle.gcd_plan.specs.Validity.{root_view, reaches_root}
 
 -- the first element stays where more follow

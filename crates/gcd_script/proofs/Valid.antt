@@ -7,7 +7,7 @@ use Rattle.std.proofs.lemmas.List.{append-nil, length_push}
 use Rattle.std.proofs.lemmas.List.Concat.{flat_map-append}
 use Rattle.std.proofs.lemmas.List.Folds.{list_all-append}
 use Rattle.std.proofs.lemmas.List.Sums.{sum_by_push}
-use Rattle.gcd_plan.specs.FirstForms.{IsOfFirstForms, is_first_block, is_first_act, is_first_work, is_serial_kind}
+use Rattle.gcd_forms.specs.FirstForms.{IsOfFirstForms, is_first_block, is_first_act, is_first_work, is_serial_kind}
 use Rattle.gcd_plan.specs.Kinds.{has_kind, is_queue_kind}
 use Rattle.gcd_plan.specs.Names.{is_name, is_path}
 use Rattle.gcd_plan.specs.PlanView.{PlanView, ObjView, BlkView, FileView}
