@@ -174,6 +174,7 @@ impl Groups {
         ensures rest { IfSome result (λ blk. self.new ≡ with_fired self.old g.0) }
         ensures none { result ≡ None → self.new ≡ self.old }
         ensures gone { IfSome result (λ blk. place_of self.new.notify blk.0 ≡ None) }
+        ensures within { IfSome result (λ blk. blk.0 < self.old.notify.blocks) }
     {
         if self.due[g.0 as usize] == 0 {
             return None;
