@@ -67,7 +67,7 @@ impl Drains {
     }
 
     // Whether the object is a serial queue or a source, and a run is open beneath it.
-    fn excludes(&self, tree: &Tree, o: Obj) -> bool
+    pub(crate) fn excludes(&self, tree: &Tree, o: Obj) -> bool
         requires object { o.0 < length self.now.barriers }
         requires tree { length tree.now.targets ≡ length self.now.barriers }
         ensures { result ≡ excludes_at self.now tree.now o.0 }
@@ -89,8 +89,10 @@ impl Drains {
         false
     }
 
-    // Whether the barrier rule keeps a block of the node from starting.
-    fn is_fenced(&self, tree: &Tree, node: Obj, barrier: bool) -> bool
+    /// Whether the barrier rule keeps a block of the node from starting: the node is a concurrent queue other than `root`,
+    /// and a barrier is open on it, or the block is a barrier and a run is open on it (dispatch_barrier_async(3)). A block
+    /// that is first on its node may start exactly where it does not, and the node's chain is not shut.
+    pub fn is_fenced(&self, tree: &Tree, node: Obj, barrier: bool) -> bool
         requires node { node.0 < length self.now.barriers }
         requires tree { length tree.now.targets ≡ length self.now.barriers }
         ensures { result ≡ is_fenced_at self.now tree.now barrier node.0 }

@@ -37,8 +37,11 @@
 mod drains;
 mod free;
 mod kinds;
+mod marks;
+mod shut;
 
 pub use drains::Drains;
+pub use marks::Marks;
 
 #[cfg(test)]
 mod tests;

@@ -5,3 +5,4 @@ pub mod Counts
 pub mod Kept
 pub mod Runs
 pub mod PlanTree
+pub mod Chains

@@ -10,11 +10,11 @@ use Rattle.gcd_plan.proofs.Walks.{in_rest, chain_agree}
 -- ---- one step
 
 -- at root a walk is root alone
-chain_by-root : (f : ℕ → ℕ) (b o : ℕ) → o ≡ 0 → chain_by f (suc b) o ≡ o ∷ []
+pub chain_by-root : (f : ℕ → ℕ) (b o : ℕ) → o ≡ 0 → chain_by f (suc b) o ≡ o ∷ []
 chain_by-root f b o at = let e : (o == 0) ≡ true = eq-eqb _ _ at in rw e refl
 
 -- elsewhere it goes on
-chain_by-away : (f : ℕ → ℕ) (b o : ℕ) → o ≢ 0 → chain_by f (suc b) o ≡ o ∷ chain_by f b (f o)
+pub chain_by-away : (f : ℕ → ℕ) (b o : ℕ) → o ≢ 0 → chain_by f (suc b) o ≡ o ∷ chain_by f b (f o)
 chain_by-away f b o away = let e : (o == 0) ≡ false = ne_eqb _ _ away in rw e refl
 
 -- what is first in a list, and what is in its rest
@@ -24,7 +24,7 @@ is_in-first o x xs e = let t : (x == o) ≡ true = eq-eqb _ _ e in rw t refl
 is_in-rest : (o x : ℕ) (xs : List ℕ) → is_in o xs ≡ true → is_in o (x ∷ xs) ≡ true
 is_in-rest o x xs h = or_right (x == o) (is_in o xs) h
 
-is_in-other : (o x : ℕ) (xs : List ℕ) → x ≢ o → is_in o (x ∷ xs) ≡ is_in o xs
+pub is_in-other : (o x : ℕ) (xs : List ℕ) → x ≢ o → is_in o (x ∷ xs) ≡ is_in o xs
 is_in-other o x xs ne = let t : (x == o) ≡ false = ne_eqb _ _ ne in rw t refl
 
 -- what is on a walk, by where the walk stands
