@@ -6,7 +6,7 @@ use Rattle.std.specs.Str.{bytes_eq}
 use Rattle.std.proofs.lemmas.Bool.{and_parts, and_from, or_parts, eqb-true}
 use Rattle.std.proofs.lemmas.List.{append-nil, length_push, length-set}
 use Rattle.std.proofs.lemmas.List.Concat.{flat_map-append}
-use Rattle.std.proofs.lemmas.List.Sums.{sum_by-cons, sum_by-set}
+use Rattle.std.proofs.lemmas.List.Sums.{sum_by-set}
 use Rattle.std.proofs.lemmas.Option.{slice_get_within, slice_get-map, get_or_from_slice_get}
 use Rattle.std.proofs.Math.Seq.{map-set_same}
 use Rattle.gcd_plan.specs.FirstForms.{IsOfFirstForms, is_first_block, is_first_act, is_first_work}
@@ -15,6 +15,7 @@ use Rattle.gcd_plan.specs.PlanView.{PlanView, ObjView, BlkView}
 use Rattle.gcd_plan.specs.Validity.{IsPlan, names_of, block_of, blocks_of, submitted_blocks, act_count, is_act, is_object, is_block, is_work}
 use Rattle.gcd_plan.specs.declared.act.Act.{Act}
 use Rattle.gcd_plan.specs.declared.numbers.Blk.{Blk}
+use Rattle.gcd_plan.proofs.Lists.{count_by-flat_map}
 use Rattle.gcd_script.specs.Drafts.{with_act}
 use Rattle.gcd_script.proofs.Growth.{Grows, list_all_map, object_grows, block_grows}
 use Rattle.gcd_script.proofs.Inserts.{count-append, count-cons}
@@ -31,12 +32,6 @@ set_all : {X : Type 0} (p : X → Bool) (xs : List X) (i : ℕ) (x : X) → list
 set_all p [] i x all h = refl
 set_all p (z ∷ zs) zero x all h = and_from (p x) (list_all p zs) h (and_parts (p z) (list_all p zs) all).1
 set_all p (z ∷ zs) (suc i) x all h = let parts = and_parts (p z) (list_all p zs) all in and_from (p z) (list_all p (set zs i x)) parts.0 (set_all p zs i x parts.1 h)
-
--- a count over joined lists is the sum of the counts
-pub count-flat_map : {X A : Type 0} (p : A → Bool) (f : X → List A) (xs : List X) → count_by p (flat_map f xs) ≡ sum_by (λ x. count_by p (f x)) xs
-count-flat_map p f [] = refl
-count-flat_map {X} p f (x ∷ xs) =
-    count-append p (f x) (flat_map f xs) ∙ ap (λ n. count_by p (f x) + n) (count-flat_map p f xs) ∙ sym (sum_by-cons (λ (y : X). count_by p (f y)) x xs)
 
 pub count_if_any : {X : Type 0} (p : X → Bool) (xs : List X) → list_any p xs ≡ false → count_by p xs ≡ 0
 count_if_any p [] h = refl
@@ -95,8 +90,8 @@ module _ (plan : PlanView) (valid : IsPlan plan) (forms : IsOfFirstForms plan) (
       let counted = λ (blk : BlkView). count_by p (own blk) in
       let old_split = count-append p (flat_map own plan.blocks) of_objects in
       let new_split = count-append p (flat_map own new.blocks) of_objects in
-      let old_sum = count-flat_map p own plan.blocks in
-      let new_sum = count-flat_map p own new.blocks in
+      let old_sum = count_by-flat_map p own plan.blocks in
+      let new_sum = count_by-flat_map p own new.blocks in
       let changed = sum_by-set counted plan.blocks b.0 fuller block within in
       let before : counted (get_or plan.blocks b.0 block) ≡ counted block = ap counted old_block in
       let joined : counted fuller ≡ counted block + count_by p (submits_of act) =

@@ -1,4 +1,4 @@
--- How what is kept beside a plan changes with it.
+-- How the meanings of names, and the submitted blocks, change with a plan.
 use Rattle.std.proofs.Common.{ℕ, ◌≡◌, ◌+◌, Bool, true, false, ◌||◌, cond, ltb, List, [], ◌∷◌, ◌++◌, length, map, Option, Some, None, option_map, count_by, refl, sym, ap, ◌∙◌, arith}
 use Rattle.std.specs.List.{list_any}
 use Rattle.std.specs.Option.{option_or}
@@ -9,7 +9,7 @@ use Rattle.gcd_plan.specs.PlanView.{PlanView, ObjView, BlkView, FileView}
 use Rattle.gcd_script.specs.declared.meaning.Meaning.{Meaning}
 use Rattle.gcd_script.specs.declared.meaning.Meaning.TheVariants.{File, Object, Block}
 use Rattle.gcd_script.specs.Drafts.{place_of, meaning_of, is_reserved, with_file, with_object, with_block}
-use Rattle.gcd_script.specs.Kept.{Declares}
+use Rattle.gcd_script.specs.Agreement.{Declares}
 use Rattle.gcd_script.proofs.Places.{same_bytes, bytes_same, place_push}
 use Rattle.gcd_script.proofs.Inserts.{IsFit, file_names, object_names, block_names, no_part, no_map, count-cons}
 

@@ -3,22 +3,22 @@ ghost use Rattle.std.specs.Prelude.{◌≡◌, not, false};
 ghost use Rattle.std.specs.Option.{option_map_or};
 ghost use Rattle.gcd_plan.specs.PlanView.{PlanView, view_of};
 ghost use Rattle.gcd_script.specs.Drafts.{is_reserved};
-ghost use Rattle.gcd_script.specs.Faults.{first_code, is_file_name, is_block_name};
+ghost use Rattle.gcd_script.specs.Faults.{first_refusal, is_file_name, is_block_name};
 
 use crate::draft::Draft;
 use crate::form::Form;
 use crate::limits::{MOST_ACTS, MOST_BLOCKS, MOST_FILES, MOST_OBJECTS};
 use crate::meaning::Meaning;
-use crate::names::is_name;
-use gcd_plan::{Kind, Obj};
+use crate::refusal::Refusal;
+use gcd_plan::{Kind, Obj, is_name};
 
-// The first code whose test holds.
-fn first_code(rows: &[(u8, bool)]) -> Option<u8>
-    ensures { result ≡ first_code rows.now }
+// The first refusal whose test holds.
+fn first_refusal(rows: &[(Refusal, bool)]) -> Option<Refusal>
+    ensures { result ≡ first_refusal rows.now }
 {
-    for (code, holds) in rows {
+    for (why, holds) in rows {
         if *holds {
-            return Some(*code);
+            return Some(*why);
         }
     }
     None
@@ -48,16 +48,16 @@ fn is_no_block(meaning: Option<Meaning>) -> bool
 impl<'a> Draft<'a> {
     ghost use Rattle.gcd_plan.specs.Kinds.{is_queue};
     ghost use Rattle.gcd_script.specs.Forms.{BlockLine, AsyncLine};
-    ghost use Rattle.gcd_script.specs.Faults.{codes_of, is_unfit, is_queue_name, is_submitted_block};
-    ghost use Rattle.gcd_script.specs.Kept.{IsKept};
+    ghost use Rattle.gcd_script.specs.Faults.{refusals_of, is_unfit, is_queue_name, is_submitted_block};
+    ghost use Rattle.gcd_script.specs.Agreement.{DraftAgrees};
     ghost use Rattle.gcd_script.specs.Views.{form_view, draft_view};
 
     // Whether a name can't be declared: it is no name, reserved or taken.
     fn is_unfit(&self, name: &str) -> bool
-        requires { IsKept self.now }
+        requires { DraftAgrees self.now }
         ensures { result ≡ is_unfit (view_of self.now.parts) name.now }
     {
-        !is_name(name) || is_reserved(name) || self.meaning(name).is_some()
+        !is_name(name.as_bytes()) || is_reserved(name) || self.meaning(name).is_some()
     }
 
     fn is_queue(&self, o: Obj) -> bool
@@ -82,7 +82,7 @@ impl<'a> Draft<'a> {
 
     // Whether an earlier line submits the block.
     fn is_submitted(&self, meaning: Option<Meaning>) -> bool
-        requires { IsKept self.now }
+        requires { DraftAgrees self.now }
         ensures { result ≡ option_map_or (is_submitted_block (view_of self.now.parts)) meaning false }
     {
         match meaning {
@@ -91,60 +91,63 @@ impl<'a> Draft<'a> {
         }
     }
 
-    /// The lowest code that applies to a line of the form; None exactly where the line is right.
-    pub fn code(&self, form: &Form) -> Option<u8>
-        requires { IsKept self.now }
-        ensures { result ≡ first_code (codes_of (draft_view self.now) (form_view form.now)) }
+    /// The refusal of the lowest code that applies to a line of the form; None exactly where the line is right.
+    pub fn refusal(&self, form: &Form) -> Option<Refusal>
+        requires { DraftAgrees self.now }
+        ensures { result ≡ first_refusal (refusals_of (draft_view self.now) (form_view form.now)) }
     {
         match *form {
-            Form::File { name, path: _ } => first_code(&[
-                (2, self.is_unfit(name)),
-                (8, self.parts.files.len() >= MOST_FILES),
+            Form::File { name, path: _ } => first_refusal(&[
+                (Refusal::BadName, self.is_unfit(name)),
+                (Refusal::PastLimit, self.parts.files.len() >= MOST_FILES),
             ]),
-            Form::Queue { name } => first_code(&[
-                (2, self.is_unfit(name)),
-                (8, self.parts.objects.len() >= MOST_OBJECTS),
+            Form::Queue { name } => first_refusal(&[
+                (Refusal::BadName, self.is_unfit(name)),
+                (Refusal::PastLimit, self.parts.objects.len() >= MOST_OBJECTS),
             ]),
-            Form::Block { name, counts: None } => first_code(&[
-                (2, self.is_unfit(name)),
-                (8, self.parts.blocks.len() >= MOST_BLOCKS),
+            Form::Block { name, counts: None } => first_refusal(&[
+                (Refusal::BadName, self.is_unfit(name)),
+                (Refusal::PastLimit, self.parts.blocks.len() >= MOST_BLOCKS),
             ]),
             Form::Block {
                 name,
                 counts: Some(file),
-            } => self.code_of_work(name, file),
-            Form::Main => first_code(&[(9, self.has_main)]),
-            Form::Async { queue, block } => self.code_of_async(queue, block),
+            } => self.refusal_of_work(name, file),
+            Form::Main => first_refusal(&[(Refusal::NotOneMain, self.has_main)]),
+            Form::Async { queue, block } => self.refusal_of_async(queue, block),
         }
     }
 
     // The same of a block's line that names a file.
-    fn code_of_work(&self, name: &str, file: &str) -> Option<u8>
-        requires { IsKept self.now }
-        ensures { result ≡ first_code (codes_of (draft_view self.now) (BlockLine name.now (Some file.now))) }
+    fn refusal_of_work(&self, name: &str, file: &str) -> Option<Refusal>
+        requires { DraftAgrees self.now }
+        ensures { result ≡ first_refusal (refusals_of (draft_view self.now) (BlockLine name.now (Some file.now))) }
     {
         let counted = self.meaning(file);
-        first_code(&[
-            (2, self.is_unfit(name)),
-            (3, counted.is_none()),
-            (4, is_no_file(counted)),
-            (8, self.parts.blocks.len() >= MOST_BLOCKS),
+        first_refusal(&[
+            (Refusal::BadName, self.is_unfit(name)),
+            (Refusal::UnknownName, counted.is_none()),
+            (Refusal::OtherKind, is_no_file(counted)),
+            (Refusal::PastLimit, self.parts.blocks.len() >= MOST_BLOCKS),
         ])
     }
 
     // The same of an act's line.
-    fn code_of_async(&self, queue: &str, block: &str) -> Option<u8>
-        requires { IsKept self.now }
-        ensures { result ≡ first_code (codes_of (draft_view self.now) (AsyncLine queue.now block.now)) }
+    fn refusal_of_async(&self, queue: &str, block: &str) -> Option<Refusal>
+        requires { DraftAgrees self.now }
+        ensures { result ≡ first_refusal (refusals_of (draft_view self.now) (AsyncLine queue.now block.now)) }
     {
         let to = self.meaning(queue);
         let submitted = self.meaning(block);
-        first_code(&[
-            (1, self.body.is_none()),
-            (3, to.is_none() | submitted.is_none()),
-            (4, self.is_no_queue(to) | is_no_block(submitted)),
-            (6, self.is_submitted(submitted)),
-            (8, self.acts >= MOST_ACTS),
+        first_refusal(&[
+            (Refusal::NoForm, self.body.is_none()),
+            (Refusal::UnknownName, to.is_none() | submitted.is_none()),
+            (
+                Refusal::OtherKind,
+                self.is_no_queue(to) | is_no_block(submitted),
+            ),
+            (Refusal::Repeated, self.is_submitted(submitted)),
+            (Refusal::PastLimit, self.acts >= MOST_ACTS),
         ])
     }
 }

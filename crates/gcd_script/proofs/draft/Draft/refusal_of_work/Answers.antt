@@ -3,7 +3,7 @@ use Rattle.std.specs.Option.{option_map_or}
 use Rattle.gcd_plan.specs.PlanView.{view_of, blk_view}
 use Rattle.gcd_script.specs.Faults.{is_unknown, is_other, is_file_name, is_full_of_blocks}
 use Rattle.gcd_script.proofs.Seen.{none_answer, seen_length}
-use Rattle.gcd_script.proofs.draft.Draft.code_of_work.Goals as goal
+use Rattle.gcd_script.proofs.draft.Draft.refusal_of_work.Goals as goal
 
 pub returns : goal.returns
 returns c =

@@ -3,7 +3,7 @@ use Rattle.std.specs.Option.{option_map_or}
 use Rattle.gcd_plan.specs.PlanView.{view_of}
 use Rattle.gcd_script.specs.Faults.{is_unknown, is_other, is_queue_name, is_block_name, is_submitted, is_submitted_block, is_full_of_acts}
 use Rattle.gcd_script.proofs.Seen.{none_answer}
-use Rattle.gcd_script.proofs.draft.Draft.code_of_async.Goals as goal
+use Rattle.gcd_script.proofs.draft.Draft.refusal_of_async.Goals as goal
 
 pub returns : goal.returns
 returns c =
