@@ -1,8 +1,8 @@
 -- What a turn keeps: the results, and that the run goes on.
 use Rattle.std.proofs.Common.{◌≡◌, ◌≢◌, ◌<◌, ◌≤◌, ◌∙◌, ◌==◌, ◌||◌, ◌⊎◌, ℕ, Bool, true, false, if◌then◌else◌, List, [], ◌∷◌, ◌++◌, length, Option, Some, None, refl, ap, sym, subst, arith, ⊎_elim, eq-eqb}
-use Rattle.std.specs.Prelude.{slice_get, slice_set, replicate, reverse}
-use Rattle.std.proofs.lemmas.Bool.{ne_eqb, ltb-true, cases_eq, and_parts, false≢true}
-use Rattle.std.proofs.lemmas.List.{length-set, get_or-set_same, get_or-set_other, length-replicate, get_or-replicate}
+use Rattle.std.specs.Prelude.{slice_get, slice_set, replicate, reverse, take}
+use Rattle.std.proofs.lemmas.Bool.{ne_eqb, ltb-true, cases_eq, cases_lt, and_parts, false≢true}
+use Rattle.std.proofs.lemmas.List.{length-set, get_or-set_same, get_or-set_other, length-replicate, get_or-replicate, length_push, take-append-le, take_at}
 use Rattle.std.proofs.lemmas.Option.{slice_get-get_or}
 use Rattle.gcd_history.specs.Choice.{is_work, worker_of}
 use Rattle.gcd_history.specs.Ends.{ends_in_halt}
@@ -14,7 +14,7 @@ use Rattle.gcd_event.specs.declared.event.Event.TheVariants.{End, Halt}
 use Rattle.gcd_history.specs.Runs.{ends}
 use Rattle.gcd_history.specs.History.{why, is_ended}
 use Rattle.gcd_history.specs.Values.{value_of}
-use Rattle.gcd_history.proofs.Lists.{reverse_push}
+use Rattle.gcd_history.proofs.Lists.{reverse_push, slice_get_front, slice_get_end}
 use Rattle.gcd_outer.specs.Outside.{Bytes}
 use Rattle.std.proofs.lemmas.Bool.{and_from}
 use Rattle.std.proofs.lemmas.List.Folds.{list_all-append}
@@ -28,7 +28,7 @@ use Rattle.gcd_history.specs.Ends.{IsDrained, HasState, is_halted}
 use Rattle.gcd_history.proofs.Choices.{chosen_is}
 use Rattle.gcd_machine.specs.Workers.{is_all_by}
 use Rattle.gcd_run.specs.Ends.{IsOver}
-use Rattle.gcd_run.specs.Outcome.{AreResults, EndFits, IsNextEvent}
+use Rattle.gcd_run.specs.Outcome.{AreResults, EndFits, FollowsChoice, IsNextEvent}
 
 -- a block has ended after one more event where this ends it, or it had
 ended_push : (h : List Event) (e : Event) (b : ℕ) → is_ended (h ++ e ∷ []) b ≡ (ends b e || is_ended h b)
@@ -116,11 +116,34 @@ pub next_of : (plan : PlanView) (h : List Event) (o : Option Event) → o ≡ ch
 unfolding choice_of
 next_of plan h None chosen permitted own room = tt
 next_of plan h (Some e) chosen permitted own room = record {
+  chosen = sym chosen;
   permitted = permitted;
   by = own;
   work = (chosen_is plan (reverse h) 0 0 e (sym chosen)).work;
   room = room;
 }
+
+-- before the first event
+pub follows_none : (plan : PlanView) → FollowsChoice plan []
+follows_none plan i e at = cc
+
+-- one event more, that worker 0 chooses
+pub follows_more : (plan : PlanView) (h : List Event) (e : Event) → FollowsChoice plan h → choice_of plan h 0 0 ≡ Some e
+    → FollowsChoice plan (h ++ e ∷ [])
+follows_more plan h e before now i x at =
+    let within : i < length (h ++ e ∷ []) = slice_get_within (h ++ e ∷ []) i x at in
+    let long = length_push h e in
+    ⊎_elim
+    (λ early.
+    let there : slice_get h i ≡ Some x = sym (slice_get_front h (e ∷ []) i early) ∙ at in
+    let prefix : take i (h ++ e ∷ []) ≡ take i h = take-append-le i h (e ∷ []) (omega arith) in
+    ap (λ k. choice_of plan k 0 0) prefix ∙ before i x there)
+    (λ late.
+    let same : length h ≡ i = omega (arith, long) in
+    let it : Some e ≡ Some x = sym (slice_get_end h e []) ∙ ap (slice_get (h ++ e ∷ [])) same ∙ at in
+    let prefix : take i (h ++ e ∷ []) ≡ h = take_at h (e ∷ []) i same in
+    ap (λ k. choice_of plan k 0 0) prefix ∙ now ∙ it)
+    (cases_lt i (length h))
 
 pub all_by_none : is_all_by 0 [] ≡ true
 unfolding is_all_by

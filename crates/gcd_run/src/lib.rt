@@ -21,11 +21,13 @@
 
 mod load;
 mod report;
+mod status;
 mod story;
 mod top;
 mod turn;
 mod words;
 
+pub use status::Status;
 pub use story::Ended;
 pub use top::gcd_main;
 

@@ -10,7 +10,7 @@ ghost use Rattle.gcd_machine.specs.Workers.{is_all_by};
 ghost use Rattle.gcd_history.specs.declared.state.State.TheVariants.{Drained};
 ghost use Rattle.gcd_history.specs.Values.{value_of};
 ghost use Rattle.gcd_run.specs.Ends.{IsOver};
-ghost use Rattle.gcd_run.specs.Outcome.{AreResults, EndFits, IsNextEvent};
+ghost use Rattle.gcd_run.specs.Outcome.{AreResults, EndFits, FollowsChoice, IsNextEvent};
 
 use gcd_event::Event;
 use gcd_history::State;
@@ -82,6 +82,7 @@ pub fn run_plan(alloc: Global, plan: &Plan, files: &[Vec<u8>]) -> Result<Outcome
     requires forms { IsOfFirstForms plan.now }
     requires files { length files.now ≡ length plan.now.files }
     ensures lawful { IfOk result (λ o. IsLawful plan.now o.journal.items) }
+    ensures chosen { IfOk result (λ o. FollowsChoice plan.now o.journal.items) }
     ensures over { IfOk result (λ o. IsOver plan.now o.journal.items o.state) }
     ensures drained { IfOk result (λ o. o.state ≡ Drained) }
     ensures count { IfOk result (λ o. length o.results.items ≡ length plan.now.blocks) }
