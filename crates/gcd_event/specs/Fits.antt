@@ -1,5 +1,6 @@
 -- Which events fit: their fields are in the ranges of their kind (this project's own rule).
 use Rattle.std.specs.Prelude.{ℕ, ◌<◌, ◌≤◌}
+use Rattle.gcd_plan.specs.Limits.{max_workers, max_blocks, max_objects, max_acts, max_time, max_value}
 use Rattle.gcd_plan.specs.declared.numbers.Blk.{Blk}
 use Rattle.gcd_plan.specs.declared.numbers.Obj.{Obj}
 use Rattle.gcd_plan.specs.declared.numbers.Run.{Run}
@@ -9,15 +10,15 @@ use Rattle.gcd_event.specs.declared.event.Event.TheVariants.{Start, Act as Acted
 
 -- a worker's number
 abbrev pub IsWorker : ℕ → Type 0
-IsWorker w = w < 64
+IsWorker w = w < max_workers
 
 -- a block's number, main among them
 abbrev pub IsBlock : Blk → Type 0
-IsBlock b = b.0 ≤ 16384
+IsBlock b = b.0 < max_blocks
 
 -- a source's number
 abbrev pub IsSource : Obj → Type 0
-IsSource s = (1 ≤ s.0) × (s.0 ≤ 1023)
+IsSource s = (1 ≤ s.0) × (s.0 < max_objects)
 
 abbrev pub IsRun : Run → Type 0
 IsRun (Block b) = IsBlock b
@@ -25,7 +26,7 @@ IsRun (Source s) = IsSource s
 
 -- an act's place in its body
 abbrev pub IsIndex : ℕ → Type 0
-IsIndex i = i ≤ 65534
+IsIndex i = i < max_acts
 
 -- the event fits
 abbrev pub IsFitting : Event → Type 0
@@ -35,8 +36,8 @@ IsFitting (Wake w b) = IsWorker w × IsBlock b
 IsFitting (End w b) = IsWorker w × IsBlock b
 IsFitting (Deliver w s) = IsWorker w × IsSource s
 IsFitting (DeliverEnd w s) = IsWorker w × IsSource s
-IsFitting (Tick t) = (1 ≤ t) × (t ≤ 86400000)
-IsFitting (Ready s n) = IsSource s × (1 ≤ n) × (n ≤ 2147483647)
+IsFitting (Tick t) = (1 ≤ t) × (t ≤ max_time)
+IsFitting (Ready s n) = IsSource s × (1 ≤ n) × (n ≤ max_value)
 IsFitting (FeedEnd s) = IsSource s
 IsFitting (Misuse w run i c) = IsWorker w × IsRun run × IsIndex i × (1 ≤ c) × (c ≤ 8)
 IsFitting Halt = Unit {0}

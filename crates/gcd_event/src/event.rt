@@ -1,7 +1,9 @@
 // What happens in a run.
 ghost use Rattle.std.specs.Prelude.{IsTrue, ◌↔◌};
 
-use gcd_plan::{Blk, Obj, Run};
+use gcd_plan::{
+    Blk, MAX_ACTS, MAX_BLOCKS, MAX_OBJECTS, MAX_TIME, MAX_VALUE, MAX_WORKERS, Obj, Run,
+};
 
 /// What happened, in one atomic step. Tick, Ready, FeedEnd and Halt are worker 0's (this project's own rule: libdispatch
 /// keeps no journal).
@@ -65,24 +67,23 @@ pub enum Event {
 impl Event {
     ghost use Rattle.gcd_event.specs.Fits.{IsFitting};
 
-    /// Whether the event's fields are in their ranges: a worker below 64, a block of at most 16,384, a source from 1 to
-    /// 1,023, an index of at most 65,534, a time from 1 to 86,400,000, bytes from 1 to 2^31 - 1, a code from 1 to 8.
+    /// Whether the event's fields are in their ranges: a worker below [`MAX_WORKERS`], a block below [`MAX_BLOCKS`], a
+    /// source from 1 to below [`MAX_OBJECTS`], an index below [`MAX_ACTS`], a time from 1 to [`MAX_TIME`], bytes from 1 to
+    /// [`MAX_VALUE`], a code from 1 to 8.
     pub fn fits(&self) -> bool
         ensures { IsTrue result ↔ IsFitting self.now }
     {
         match self {
             Event::Start { worker, blk } => is_worker(*worker) && is_block(*blk),
-            Event::Act { worker, run, index } => is_worker(*worker)
-                && is_run(*run)
-                && *index <= 65_534,
+            Event::Act { worker, run, index } => {
+                is_worker(*worker) && is_run(*run) && is_index(*index)
+            }
             Event::Wake { worker, blk } => is_worker(*worker) && is_block(*blk),
             Event::End { worker, blk } => is_worker(*worker) && is_block(*blk),
             Event::Deliver { worker, src } => is_worker(*worker) && is_source(*src),
             Event::DeliverEnd { worker, src } => is_worker(*worker) && is_source(*src),
-            Event::Tick { at } => 1 <= *at && *at <= 86_400_000,
-            Event::Ready { src, bytes } => is_source(*src)
-                && 1 <= *bytes
-                && *bytes <= 2_147_483_647,
+            Event::Tick { at } => 1 <= *at && *at <= MAX_TIME,
+            Event::Ready { src, bytes } => is_source(*src) && 1 <= *bytes && *bytes <= MAX_VALUE,
             Event::FeedEnd { src } => is_source(*src),
             Event::Misuse {
                 worker,
@@ -90,31 +91,31 @@ impl Event {
                 index,
                 code,
             } => {
-                is_worker(*worker) && is_run(*run) && *index <= 65_534 && 1 <= *code && *code <= 8
+                is_worker(*worker) && is_run(*run) && is_index(*index) && 1 <= *code && *code <= 8
             }
             Event::Halt => true,
         }
     }
 }
 
-ghost use Rattle.gcd_event.specs.Fits.{IsWorker, IsBlock, IsSource, IsRun};
+ghost use Rattle.gcd_event.specs.Fits.{IsWorker, IsBlock, IsSource, IsRun, IsIndex};
 
 fn is_worker(worker: u8) -> bool
     ensures { IsTrue result ↔ IsWorker worker }
 {
-    worker < 64
+    u32::from(worker) < MAX_WORKERS
 }
 
 fn is_block(b: Blk) -> bool
     ensures { IsTrue result ↔ IsBlock b }
 {
-    b.0 <= 16_384
+    b.0 < MAX_BLOCKS
 }
 
 fn is_source(s: Obj) -> bool
     ensures { IsTrue result ↔ IsSource s }
 {
-    1 <= s.0 && s.0 <= 1_023
+    1 <= s.0 && s.0 < MAX_OBJECTS
 }
 
 fn is_run(run: Run) -> bool
@@ -124,4 +125,10 @@ fn is_run(run: Run) -> bool
         Run::Block(b) => is_block(b),
         Run::Source(s) => is_source(s),
     }
+}
+
+fn is_index(index: u32) -> bool
+    ensures { IsTrue result ↔ IsIndex index }
+{
+    index < MAX_ACTS
 }

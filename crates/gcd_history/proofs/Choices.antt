@@ -19,8 +19,9 @@ use Rattle.gcd_history.specs.Submitted.{submitted, submission_of}
 use Rattle.gcd_history.specs.Parked.{has_run}
 use Rattle.gcd_history.specs.Permitted.{why, permitted, is_worker, has_block, is_on, is_behind, before, waits_on, first_waiting, misuse_at, node_reasons, waiting_reasons}
 use Rattle.gcd_history.specs.Choice.{end_of, next_events, own_events, wake_event, node_events, candidates, choice, is_work, worker_of}
-use Rattle.gcd_history.proofs.Lists.{any_left, any_right, any_flat, any_map, any_in_range, any_in_range_from, find_from_any, found_is, found_any, found_passes, all_flat, all_map, all_both}
-use Rattle.gcd_history.proofs.Options.{some_kept, none_is}
+use Rattle.gcd_history.proofs.Lists.{any_left, any_right, any_flat, any_map, find_from_any, found_is, found_any, found_passes, all_flat, all_map, all_both}
+use Rattle.gcd_plan.proofs.Quantifiers.{list_any_in_range, list_any_in_range_from}
+use Rattle.gcd_plan.proofs.Options.{some_from_is_some, none_from_is_none}
 use Rattle.gcd_history.proofs.Reasons.{allowed, at_start, at_act, at_end, at_deliver_end, at_misuse, waiting_facts}
 use Rattle.gcd_history.proofs.StartedOnce.{open_from_has_run}
 use Rattle.gcd_history.proofs.SubmittedOnNodes.{on_a_node, submitted_fit}
@@ -81,10 +82,10 @@ in_nodes plan past w from n within h =
     let front = own_part plan past w ++ wake_part plan w ++ main_part w in
     ⊎_elim
     (λ low.
-    let here = any_flat p (node_events plan past w) (range_with_len 0 from) (any_in_range (λ m. list_any p (node_events plan past w m)) from n low h) in
+    let here = any_flat p (node_events plan past w) (range_with_len 0 from) (list_any_in_range (λ m. list_any p (node_events plan past w m)) from n low h) in
     any_right p (front ++ high_part plan past w from) (low_part plan past w from) here)
     (λ high.
-    let here = any_flat p (node_events plan past w) (range_with_len from (length plan.objects - from)) (any_in_range_from (λ m. list_any p (node_events plan past w m)) from (length plan.objects - from) n high (omega arith) h) in
+    let here = any_flat p (node_events plan past w) (range_with_len from (length plan.objects - from)) (list_any_in_range_from (λ m. list_any p (node_events plan past w m)) from (length plan.objects - from) n high (omega arith) h) in
     any_left p (front ++ high_part plan past w from) (low_part plan past w from) (any_right p front (high_part plan past w from) here))
     (cases_lt n from)
 
@@ -126,7 +127,7 @@ offered_wake plan past from w b h =
     let known = and_parts (is_worker w) (has_block plan b.0) (allowed plan past (Wake w b) h).known in
     let within : b.0 < length plan.blocks = ltb-true b.0 (length plan.blocks) known.1 in
     in_wakes plan past w from (any_map (permitted plan past) (wake_event w) (range_with_len 0 (length plan.blocks))
-    (any_in_range (λ n. permitted plan past (wake_event w n)) (length plan.blocks) b.0 within (may plan past (Wake w b) h)))
+    (list_any_in_range (λ n. permitted plan past (wake_event w n)) (length plan.blocks) b.0 within (may plan past (Wake w b) h)))
 
 offered_deliver : (plan : PlanView) (past : List Event) (from w : ℕ) (s : Obj) → why plan past (Deliver w s) ≡ None → Offered plan past w from
 offered_deliver plan past from w s h =
@@ -159,7 +160,7 @@ first_of_node plan past b n s found front on fresh =
     let xs = submitted plan past in
     let same : s.blk.0 ≡ b = eqb-true s.blk.0 b (found_is (λ t. t.blk.0 == b) xs s found) in
     let waits : waits_on past n s ≡ true = and_from (is_on n s) (not (is_started past s.blk.0)) on (ap not (ap (is_started past) same ∙ fresh)) in
-    let t = some_kept (find (waits_on past n) xs) (find_from_any (waits_on past n) xs (found_any (λ u. u.blk.0 == b) (waits_on past n) xs s found waits)) in
+    let t = some_from_is_some (find (waits_on past n) xs) (find_from_any (waits_on past n) xs (found_any (λ u. u.blk.0 == b) (waits_on past n) xs s found waits)) in
     let other : option_map_or (λ u. not (u.blk.0 == b)) (find (waits_on past n) xs) false ≡ false = sym (before_first_waiting (waits_on past n) b s xs found waits) ∙ front in
     let it : not (t.0.blk.0 == b) ≡ false = sym (ap (λ o. option_map_or (λ u. not (u.blk.0 == b)) o false) t.1) ∙ other in
     (t.0, t.1, eqb-true t.0.blk.0 b (not-false (t.0.blk.0 == b) it))
@@ -183,7 +184,7 @@ offered_start : (plan : PlanView) (past : List Event) (from w : ℕ) (b : Blk) �
 offered_start plan past from w b valid h =
     let p = permitted plan past in
     let facts = at_start plan past w b h in
-    let s = some_kept (submission_of plan past b.0) facts.submitted_one in
+    let s = some_from_is_some (submission_of plan past b.0) facts.submitted_one in
     let same : s.0.blk.0 ≡ b.0 = eqb-true s.0.blk.0 b.0 (found_is (λ t. t.blk.0 == b.0) (submitted plan past) s.0 s.1) in
     let fits : on_a_node plan s.0 ≡ true = (found_passes (λ t. t.blk.0 == b.0) (on_a_node plan) (submitted plan past) s.0 s.1 (submitted_fit plan past valid)).1 in
     let waits : first_of (node_reasons plan past (Some s.0)) ≡ None = subst (λ o. first_of (node_reasons plan past o) ≡ None) s.1 facts.waits in
@@ -264,4 +265,4 @@ pub chosen_is : (plan : PlanView) (past : List Event) (w from : ℕ) (e : Event)
 chosen_is plan past w from e h =
     let found = found_passes (permitted plan past) (is_by w) (candidates plan past w from) e h (candidates_by plan past w from) in
     let parts = and_parts (is_work e) (worker_of e == w) found.1 in
-    record { permitted_now = none_is (why plan past e) found.0; work = parts.0; by = eqb-true (worker_of e) w parts.1 }
+    record { permitted_now = none_from_is_none (why plan past e) found.0; work = parts.0; by = eqb-true (worker_of e) w parts.1 }

@@ -1,9 +1,9 @@
 -- What is counted, kept and found in lists: what the lemmas of std and of the crates below lack.
-use Rattle.std.proofs.Common.{◌≡◌, ℕ, zero, suc, ◌+◌, ◌<◌, ◌≤◌, Bool, true, false, cond, List, [], ◌∷◌, ◌++◌, length, get_or, filter, Some, None, find, refl, ap, ◌∙◌, arith, ⊎_elim}
+use Rattle.std.proofs.Common.{◌≡◌, ℕ, zero, suc, ◌+◌, ◌<◌, ◌≤◌, Bool, true, false, cond, List, [], ◌∷◌, length, get_or, filter, Some, None, find, refl, ap, ◌∙◌, arith, ⊎_elim}
 use Rattle.std.specs.List.{slice_get, list_any, sum_by, count_by}
 use Rattle.std.proofs.lemmas.Bool.{cases_lt, cases_eq, both_ways, false_from_ne_true, or_parts, or_from}
 use Rattle.std.proofs.lemmas.Option.{same_Some}
-use Rattle.std.proofs.lemmas.List.Sums.{sum_by-cons, get_or-le-sum_by, sum_by_push}
+use Rattle.std.proofs.lemmas.List.Sums.{sum_by-cons, get_or-le-sum_by}
 
 -- ## Sums and counts
 
@@ -19,11 +19,6 @@ two_terms f (x ∷ xs) (suc i) (suc j) d l m =
     let k : j < length xs = omega arith in
     let n : i < j = omega arith in
     omega (arith, sum_by-cons f x xs, two_terms f xs i j d n k)
-
--- terms that agree at each element
-pub sum_by_same : {X : Type 0} (f g : X → ℕ) (xs : List X) → ((x : X) → f x ≡ g x) → sum_by f xs ≡ sum_by g xs
-sum_by_same f g [] same = refl
-sum_by_same f g (x ∷ xs) same = omega (arith, sum_by-cons f x xs, sum_by-cons g x xs, same x, sum_by_same f g xs same)
 
 -- where nothing is counted twice, two places that are counted are one
 pub one_place : {X : Type 0} (p : X → Bool) (xs : List X) (i j : ℕ) (d : X) → count_by p xs ≤ 1 → i < length xs → j < length xs
@@ -82,10 +77,6 @@ count_unfound p (x ∷ xs) none =
           let here : ◌≡◌ {A = ℕ} (cond (p x) 1 0) 0 = ap (λ b. cond b 1 0) e in
           omega (arith, split, here, count_unfound p xs n)
     ] refl none
-
--- one more element, counted
-pub count_push : {X : Type 0} (p : X → Bool) (xs : List X) (y : X) → count_by p (xs ++ y ∷ []) ≡ count_by p xs + cond (p y) 1 0
-count_push p xs y = sum_by_push (λ x. cond (p x) 1 0) xs y
 
 -- a filter that keeps what is counted
 pub count_kept : {X : Type 0} (p q : X → Bool) (xs : List X) → ((x : X) → p x ≡ true → q x ≡ true) → count_by p (filter q xs) ≡ count_by p xs

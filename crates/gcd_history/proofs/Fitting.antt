@@ -4,6 +4,9 @@ use Rattle.std.specs.List.{slice_get}
 use Rattle.std.specs.Option.{option_map, option_map_or}
 use Rattle.std.proofs.lemmas.Bool.{and_parts, ltb-true, leb-true, both_ways}
 use Rattle.std.proofs.lemmas.Option.{slice_get_within}
+use Rattle.gcd_plan.specs.MisuseCodes.{code_of}
+use Rattle.gcd_plan.specs.declared.misuse_code.MisuseCode.TheVariants.{ReleaseBelowFirstValue}
+use Rattle.gcd_plan.specs.Limits.{max_objects, max_blocks, max_acts, max_time, max_value, max_workers}
 use Rattle.gcd_plan.specs.PlanView.{PlanView}
 use Rattle.gcd_plan.specs.Kinds.{is_source, is_source_kind, has_kind, is_read_kind}
 use Rattle.gcd_plan.specs.Validity.{IsPlan}
@@ -14,7 +17,7 @@ use Rattle.gcd_plan.specs.declared.numbers.Run.TheVariants.{Block, Source}
 use Rattle.gcd_event.specs.declared.event.Event.{Event}
 use Rattle.gcd_event.specs.declared.event.Event.TheVariants.{Start, Act as Acted, Wake, End, Deliver, DeliverEnd, Tick, Ready, FeedEnd, Misuse, Halt}
 use Rattle.gcd_event.specs.Fits.{IsFitting, IsRun}
-use Rattle.gcd_history.specs.Permitted.{is_known, is_worker, has_block, is_run_of, is_feed}
+use Rattle.gcd_history.specs.Permitted.{is_known, is_worker, is_index, is_code, has_block, is_run_of, is_feed}
 use Rattle.gcd_history.specs.History.{why}
 use Rattle.gcd_history.proofs.Reasons.{allowed}
 
@@ -33,30 +36,30 @@ not_root test plan zero valid other h =
     absurd (both_ways (has_kind test plan 0) root h)
 not_root test plan (suc s) valid other h = omega arith
 
-numbered : (test : Kind → Bool) (plan : PlanView) (s : ℕ) → IsPlan plan → test Concurrent ≡ false → has_kind test plan s ≡ true → (1 ≤ s) × (s ≤ 1023)
+numbered : (test : Kind → Bool) (plan : PlanView) (s : ℕ) → IsPlan plan → test Concurrent ≡ false → has_kind test plan s ≡ true → (1 ≤ s) × (s < max_objects)
 numbered test plan s valid other h =
     let within : s < length plan.objects = has_object test plan s h in
-    let few : length plan.objects ≤ 1024 = valid.few_objects in
+    let few : length plan.objects ≤ max_objects = valid.few_objects in
     (not_root test plan s valid other h, omega arith)
 
-block_fits : (plan : PlanView) (b : ℕ) → IsPlan plan → has_block plan b ≡ true → b ≤ 16384
+block_fits : (plan : PlanView) (b : ℕ) → IsPlan plan → has_block plan b ≡ true → b < max_blocks
 block_fits plan b valid h =
     let within : b < length plan.blocks = ltb-true b (length plan.blocks) h in
-    let few : length plan.blocks ≤ 16385 = valid.few_blocks in
+    let few : length plan.blocks ≤ max_blocks = valid.few_blocks in
     omega arith
 
-source_fits : (plan : PlanView) (s : ℕ) → IsPlan plan → is_source plan s ≡ true → (1 ≤ s) × (s ≤ 1023)
+source_fits : (plan : PlanView) (s : ℕ) → IsPlan plan → is_source plan s ≡ true → (1 ≤ s) × (s < max_objects)
 source_fits plan s valid h = numbered is_source_kind plan s valid refl h
 
-feed_fits : (plan : PlanView) (s : ℕ) → IsPlan plan → is_feed plan s ≡ true → (1 ≤ s) × (s ≤ 1023)
+feed_fits : (plan : PlanView) (s : ℕ) → IsPlan plan → is_feed plan s ≡ true → (1 ≤ s) × (s < max_objects)
 feed_fits plan s valid h = numbered is_read_kind plan s valid refl h
 
 run_fits : (plan : PlanView) (run : Run) → IsPlan plan → is_run_of plan run ≡ true → IsRun run
 run_fits plan (Block b) valid h = block_fits plan b.0 valid h
 run_fits plan (Source s) valid h = source_fits plan s.0 valid h
 
-worker_fits : (w : ℕ) → is_worker w ≡ true → w < 64
-worker_fits w h = ltb-true w 64 h
+worker_fits : (w : ℕ) → is_worker w ≡ true → w < max_workers
+worker_fits w h = ltb-true w max_workers h
 
 -- what is known fits
 known_fits : (plan : PlanView) (e : Event) → IsPlan plan → is_known plan e ≡ true → IsFitting e
@@ -64,9 +67,9 @@ known_fits plan (Start w b) valid h =
     let parts = and_parts (is_worker w) (has_block plan b.0) h in
     (worker_fits w parts.0, block_fits plan b.0 valid parts.1)
 known_fits plan (Acted w run i) valid h =
-    let parts = and_parts (is_worker w) (is_run_of plan run && leb i 65534) h in
-    let rest = and_parts (is_run_of plan run) (leb i 65534) parts.1 in
-    (worker_fits w parts.0, run_fits plan run valid rest.0, leb-true i 65534 rest.1)
+    let parts = and_parts (is_worker w) (is_run_of plan run && is_index i) h in
+    let rest = and_parts (is_run_of plan run) (is_index i) parts.1 in
+    (worker_fits w parts.0, run_fits plan run valid rest.0, ltb-true i max_acts rest.1)
 known_fits plan (Wake w b) valid h =
     let parts = and_parts (is_worker w) (has_block plan b.0) h in
     (worker_fits w parts.0, block_fits plan b.0 valid parts.1)
@@ -80,22 +83,22 @@ known_fits plan (DeliverEnd w s) valid h =
     let parts = and_parts (is_worker w) (is_source plan s.0) h in
     (worker_fits w parts.0, source_fits plan s.0 valid parts.1)
 known_fits plan (Tick t) valid h =
-    let parts = and_parts (ltb 0 t) (leb t 86400000) h in
+    let parts = and_parts (ltb 0 t) (leb t max_time) h in
     let above : 0 < t = ltb-true 0 t parts.0 in
-    (omega arith, leb-true t 86400000 parts.1)
+    (omega arith, leb-true t max_time parts.1)
 known_fits plan (Ready s n) valid h =
-    let parts = and_parts (is_feed plan s.0) (ltb 0 n && leb n 2147483647) h in
-    let rest = and_parts (ltb 0 n) (leb n 2147483647) parts.1 in
+    let parts = and_parts (is_feed plan s.0) (ltb 0 n && leb n max_value) h in
+    let rest = and_parts (ltb 0 n) (leb n max_value) parts.1 in
     let above : 0 < n = ltb-true 0 n rest.0 in
-    (feed_fits plan s.0 valid parts.0, omega arith, leb-true n 2147483647 rest.1)
+    (feed_fits plan s.0 valid parts.0, omega arith, leb-true n max_value rest.1)
 known_fits plan (FeedEnd s) valid h = feed_fits plan s.0 valid h
 known_fits plan (Misuse w run i c) valid h =
-    let parts = and_parts (is_worker w) (is_run_of plan run && (leb i 65534 && (ltb 0 c && leb c 8))) h in
-    let named = and_parts (is_run_of plan run) (leb i 65534 && (ltb 0 c && leb c 8)) parts.1 in
-    let placed = and_parts (leb i 65534) (ltb 0 c && leb c 8) named.1 in
-    let coded = and_parts (ltb 0 c) (leb c 8) placed.1 in
+    let parts = and_parts (is_worker w) (is_run_of plan run && (is_index i && is_code c)) h in
+    let named = and_parts (is_run_of plan run) (is_index i && is_code c) parts.1 in
+    let placed = and_parts (is_index i) (is_code c) named.1 in
+    let coded = and_parts (ltb 0 c) (leb c (code_of ReleaseBelowFirstValue)) placed.1 in
     let above : 0 < c = ltb-true 0 c coded.0 in
-    (worker_fits w parts.0, run_fits plan run valid named.0, leb-true i 65534 placed.0, omega arith, leb-true c 8 coded.1)
+    (worker_fits w parts.0, run_fits plan run valid named.0, ltb-true i max_acts placed.0, omega arith, leb-true c (code_of ReleaseBelowFirstValue) coded.1)
 known_fits plan Halt valid h = tt
 
 pub permitted_fits : (plan : PlanView) (h : List Event) (e : Event) → IsPlan plan → why plan h e ≡ None → IsFitting e

@@ -11,9 +11,10 @@ use Rattle.gcd_event.specs.declared.event.Event.{Event}
 use Rattle.gcd_event.specs.declared.event.Event.TheVariants.{Start}
 use Rattle.gcd_history.specs.declared.submission.Submission.{Submission}
 use Rattle.gcd_history.specs.Runs.{starts, is_started}
-use Rattle.gcd_history.specs.Submitted.{submitted, submissions, submission_of}
+use Rattle.gcd_history.specs.Submitted.{submitted, new_submissions, submission_of}
 use Rattle.gcd_history.specs.Permitted.{why, IsLawful, is_on, is_behind, before, waits_on, node_reasons, waiting_reasons}
-use Rattle.gcd_history.proofs.Lists.{count_by-cons, count_by-append, some_counted, any_from_find, all_pairs_append}
+use Rattle.gcd_history.proofs.Lists.{any_from_find, all_pairs_append}
+use Rattle.gcd_plan.proofs.Sums.{count_by-cons, count_by-append, count_by_some}
 use Rattle.gcd_history.proofs.Reasons.{at_start, NodeFacts, waiting_facts}
 use Rattle.gcd_history.proofs.StartedOnce.{submitted_from_started, at_its_start}
 use Rattle.gcd_history.proofs.SubmittedOnce.{submitted_once}
@@ -27,7 +28,7 @@ of b s = s.blk.0 == b
 
 -- one element that passes is counted
 counted_at : (p : Submission → Bool) (xs : List Submission) (k : ℕ) (d : Submission) → k < length xs → p (get_or xs k d) ≡ true → 1 ≤ count_by p xs
-counted_at p xs k d l h = some_counted p xs (list_any_at p xs k d l h)
+counted_at p xs k d l h = count_by_some p xs (list_any_at p xs k d l h)
 
 pub apart_from_counts : (xs : List Submission) → ((b : ℕ) → count_by (of b) xs ≤ 1) → AllPairs AreApart xs
 apart_from_counts [] few i j d l m = absurd (omega arith)
@@ -113,18 +114,18 @@ found_before plan e past h b started =
     ⊎_elim (λ now. (at_its_start plan past b e h.1 now).0) (submitted_from_started plan past h.0 b) (or_cases (starts b e) (is_started past b) started)
 
 -- a new submission has not started
-new_not_started : (plan : PlanView) (e : Event) (past : List Event) → IsPlan plan → IsLawful plan (e ∷ past) → (k : ℕ) (d : Submission) → k < length (submissions plan past e) → is_started (e ∷ past) (get_or (submissions plan past e) k d).blk.0 ≡ true → ⊥
+new_not_started : (plan : PlanView) (e : Event) (past : List Event) → IsPlan plan → IsLawful plan (e ∷ past) → (k : ℕ) (d : Submission) → k < length (new_submissions plan past e) → is_started (e ∷ past) (get_or (new_submissions plan past e) k d).blk.0 ≡ true → ⊥
 new_not_started plan e past valid h k d l started =
-    let b = (get_or (submissions plan past e) k d).blk.0 in
-    let old : 1 ≤ count_by (of b) (submitted plan past) = some_counted (of b) (submitted plan past) (any_from_find (of b) (submitted plan past) (found_before plan e past h b started)) in
-    let new : 1 ≤ count_by (of b) (submissions plan past e) = counted_at (of b) (submissions plan past e) k d l (eq-eqb b b refl) in
-    let split : count_by (of b) (submitted plan (e ∷ past)) ≡ count_by (of b) (submitted plan past) + count_by (of b) (submissions plan past e) = count_by-append (of b) (submitted plan past) (submissions plan past e) in
+    let b = (get_or (new_submissions plan past e) k d).blk.0 in
+    let old : 1 ≤ count_by (of b) (submitted plan past) = count_by_some (of b) (submitted plan past) (any_from_find (of b) (submitted plan past) (found_before plan e past h b started)) in
+    let new : 1 ≤ count_by (of b) (new_submissions plan past e) = counted_at (of b) (new_submissions plan past e) k d l (eq-eqb b b refl) in
+    let split : count_by (of b) (submitted plan (e ∷ past)) ≡ count_by (of b) (submitted plan past) + count_by (of b) (new_submissions plan past e) = count_by-append (of b) (submitted plan past) (new_submissions plan past e) in
     let once : count_by (of b) (submitted plan (e ∷ past)) ≤ 1 = submitted_once plan (e ∷ past) valid h b in
     omega arith
 
 pub starts_in_order : (plan : PlanView) (past : List Event) → IsPlan plan → IsLawful plan past → AllPairs (IsBehindAfter past) (submitted plan past)
 starts_in_order plan [] valid h = λ i j d l m. absurd (omega arith)
 starts_in_order plan (e ∷ past) valid h =
-    all_pairs_append (IsBehindAfter (e ∷ past)) (submitted plan past) (submissions plan past e)
+    all_pairs_append (IsBehindAfter (e ∷ past)) (submitted plan past) (new_submissions plan past e)
     (old_in_order plan e past valid h (starts_in_order plan past valid h.0))
     (λ k d s l n s_on t_on started. absurd (new_not_started plan e past valid h k d l started))

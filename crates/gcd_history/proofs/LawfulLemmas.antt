@@ -8,7 +8,7 @@ use Rattle.gcd_plan.specs.PlanView.{PlanView}
 use Rattle.gcd_event.specs.declared.event.Event.{Event}
 use Rattle.gcd_history.specs.Permitted.{why as why_after, IsLawful as IsLawfulAfter}
 use Rattle.gcd_history.specs.History.{why, IsLawful}
-use Rattle.gcd_history.proofs.Lists.{slice_get_front, slice_get_end}
+use Rattle.gcd_plan.proofs.Places.{slice_get-append_left, slice_get-append_seam}
 
 pub lawful_none : (plan : PlanView) → IsLawful plan []
 unfolding IsLawful
@@ -21,12 +21,12 @@ lawful_more plan h e before now i x at =
     let long = length_push h e in
     ⊎_elim
     (λ early.
-    let there : slice_get h i ≡ Some x = sym (slice_get_front h (e ∷ []) i early) ∙ at in
+    let there : slice_get h i ≡ Some x = sym (slice_get-append_left h (e ∷ []) i early) ∙ at in
     let front : take i (h ++ e ∷ []) ≡ take i h = take-append-le i h (e ∷ []) (omega arith) in
     subst (λ k. why plan k x ≡ None) (sym front) (before i x there))
     (λ late.
     let same : length h ≡ i = omega (arith, long) in
-    let it : e ≡ x = same_Some e x (sym (slice_get_end h e []) ∙ ap (slice_get (h ++ e ∷ [])) same ∙ at) in
+    let it : e ≡ x = same_Some e x (sym (slice_get-append_seam h e []) ∙ ap (slice_get (h ++ e ∷ [])) same ∙ at) in
     let front : take i (h ++ e ∷ []) ≡ h = take_at h (e ∷ []) i same in
     subst (λ k. why plan k x ≡ None) (sym front) (subst (λ y. why plan h y ≡ None) it now))
     (cases_lt i (length h))
@@ -36,12 +36,12 @@ unfolding IsLawful
 lawful_front plan h rest whole i x at =
     let within : i < length h = slice_get_within h i x at in
     let front : take i (h ++ rest) ≡ take i h = take-append-le i h rest (omega arith) in
-    subst (λ k. why plan k x ≡ None) front (whole i x (slice_get_front h rest i within ∙ at))
+    subst (λ k. why plan k x ≡ None) front (whole i x (slice_get-append_left h rest i within ∙ at))
 
 pub lawful_next : (plan : PlanView) (h : List Event) (e : Event) (rest : List Event) → IsLawful plan (h ++ e ∷ rest) → why plan h e ≡ None
 unfolding IsLawful
 lawful_next plan h e rest whole =
-    subst (λ k. why plan k e ≡ None) (take_at h (e ∷ rest) (length h) refl) (whole (length h) e (slice_get_end h e rest))
+    subst (λ k. why plan k e ≡ None) (take_at h (e ∷ rest) (length h) refl) (whole (length h) e (slice_get-append_seam h e rest))
 
 pub lawful_take : (plan : PlanView) (h : List Event) (i : ℕ) → IsLawful plan h → IsLawful plan (take i h)
 lawful_take plan h i whole = lawful_front plan (take i h) (drop i h) (subst (IsLawful plan) (sym (take-append-drop i h)) whole)

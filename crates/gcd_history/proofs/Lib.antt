@@ -1,5 +1,4 @@
 pub mod Lists
-pub mod Options
 pub mod LawfulLemmas
 pub mod Reasons
 pub mod Fitting
@@ -10,6 +9,7 @@ mod RowsObjects
 mod RowsGroups
 mod RowsSources
 mod RowsForged
+mod RowsReasons
 mod RowsValues
 mod RowsOfLaws
 pub mod RunsOpen
@@ -31,12 +31,10 @@ pub mod TargetActs
 pub mod TreeStands
 pub mod MovesAlone
 pub mod RunsAlone
+pub mod OpenOnce
+pub mod BlocksApart
+pub mod WordsBegin
 pub mod Choices
 pub mod Quiet
 pub mod OneState
 pub mod Counts
-pub mod QueuesOnRoot
-pub mod ActsSubmitApart
-pub mod NothingHeld
-pub mod OnlyBlocksRun
-pub mod BlocksRunOnce

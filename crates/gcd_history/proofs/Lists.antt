@@ -1,31 +1,15 @@
 -- Lists: what std's lemmas lack.
 use Rattle.std.proofs.Common.{◌≡◌, ℕ, zero, suc, ◌+◌, ◌-◌, ◌<◌, Bool, true, false, ◌&&◌, ◌||◌, cond, List, [], ◌∷◌, ◌++◌, length, get_or, drop, take, filter, map, Some, None, is_some, ⊎_elim, subst, length-append, find, reverse, count_by, ◌≤◌, refl, ap, ◌∙◌, sym, arith}
-use Rattle.std.specs.List.{slice_get, list_any, list_all, AllPairs, flat_map, range_with_len}
+use Rattle.std.specs.List.{list_any, list_all, AllPairs, flat_map, range_with_len}
 use Rattle.std.specs.Option.{option_or}
 use Rattle.std.proofs.lemmas.List.{take_more, drop_more, reverse-append, get_or_append_left, get_or-append_right}
-use Rattle.std.proofs.lemmas.Bool.{or_parts, or_cases, or_left, or_right, and_parts, and_from, cases_lt, cases_eq}
+use Rattle.std.proofs.lemmas.Bool.{or_cases, or_left, or_right, and_parts, and_from, cases_lt}
 use Rattle.std.proofs.Math.Bool.{or_comm, or-false}
 use Rattle.std.proofs.lemmas.Option.{same_Some}
 use Rattle.std.proofs.lemmas.List.Folds.{find-append, list_any_at, list_any-append, list_all-append}
-use Rattle.std.proofs.lemmas.List.FromFn.{length-range_with_len, get_or-range_with_len}
-use Rattle.std.proofs.lemmas.List.Sums.{sum_by-cons, sum_by-append}
+use Rattle.gcd_plan.proofs.Sums.{count_by_none, count_by-cons, count_by-append}
 
 -- ## Reading at an index
-
-pub slice_get_front : {X : Type 0} → (xs ys : List X) (i : ℕ) → i < length xs → slice_get (xs ++ ys) i ≡ slice_get xs i
-slice_get_front [] ys i h = absurd (omega arith)
-slice_get_front (x ∷ xs) ys zero h = refl
-slice_get_front (x ∷ xs) ys (suc i) h = let l : i < length xs = omega arith in slice_get_front xs ys i l
-
-pub slice_get_end : {X : Type 0} → (xs : List X) (y : X) (ys : List X) → slice_get (xs ++ y ∷ ys) (length xs) ≡ Some y
-slice_get_end [] y ys = refl
-slice_get_end (x ∷ xs) y ys = slice_get_end xs y ys
-
--- what all pass, the one at a place passes
-pub list_all_place : {X : Type 0} → (p : X → Bool) (xs : List X) (k : ℕ) (x : X) → list_all p xs ≡ true → slice_get xs k ≡ Some x → p x ≡ true
-list_all_place p [] k x all at = cc
-list_all_place p (y ∷ xs) zero x all at = ap p (sym (same_Some y x at)) ∙ (and_parts (p y) (list_all p xs) all).0
-list_all_place p (y ∷ xs) (suc k) x all at = list_all_place p xs k x (and_parts (p y) (list_all p xs) all).1 at
 
 -- ## One element more
 
@@ -48,11 +32,6 @@ list_any-filter test p (x ∷ xs) =
       | true ↦ ap (λ b. test x || b) (list_any-filter test p xs)
       | false ↦ list_any-filter test p xs
     ]
-
--- tests that agree at each element
-pub list_any_same : {X : Type 0} → (p q : X → Bool) (xs : List X) → ((x : X) → p x ≡ q x) → list_any p xs ≡ list_any q xs
-list_any_same p q [] same = refl
-list_any_same p q (x ∷ xs) same = ap (λ v. v || list_any p xs) (same x) ∙ ap (λ v. q x || v) (list_any_same p q xs same)
 
 -- in whatever order they stand
 pub list_any-reverse : {X : Type 0} → (p : X → Bool) (xs : List X) → list_any p (reverse xs) ≡ list_any p xs
@@ -129,12 +108,6 @@ all_pairs_append R xs ys pairs new i j d l m =
 
 -- ## Counts
 
-pub count_by-cons : {X : Type 0} → (p : X → Bool) (x : X) (xs : List X) → count_by p (x ∷ xs) ≡ cond (p x) 1 0 + count_by p xs
-count_by-cons p x xs = sum_by-cons (λ y. cond (p y) 1 0) x xs
-
-pub count_by-append : {X : Type 0} → (p : X → Bool) (xs ys : List X) → count_by p (xs ++ ys) ≡ count_by p xs + count_by p ys
-count_by-append p xs ys = sum_by-append (λ y. cond (p y) 1 0) xs ys
-
 pub count_by-reverse : {X : Type 0} → (p : X → Bool) (xs : List X) → count_by p (reverse xs) ≡ count_by p xs
 count_by-reverse p [] = refl
 count_by-reverse p (x ∷ xs) =
@@ -145,49 +118,14 @@ count_by-reverse p (x ∷ xs) =
     let none : count_by p [] ≡ 0 = refl in
     omega arith
 
--- where none passes, none is counted
-pub none_counted : {X : Type 0} → (p : X → Bool) (xs : List X) → list_any p xs ≡ false → count_by p xs ≡ 0
-none_counted p [] none = refl
-none_counted p (x ∷ xs) none =
-    let parts = or_parts (p x) (list_any p xs) none in
-    let step : count_by p (x ∷ xs) ≡ 0 + count_by p xs = count_by-cons p x xs ∙ ap (λ v. cond v 1 0 + count_by p xs) parts.0 in
-    let rest : count_by p xs ≡ 0 = none_counted p xs parts.1 in
-    omega arith
-
-pub some_counted : {X : Type 0} → (p : X → Bool) (xs : List X) → list_any p xs ≡ true → 1 ≤ count_by p xs
-some_counted p [] some = cc
-some_counted p (x ∷ xs) some =
-    let step = count_by-cons p x xs in
-    elim (p x) as (λ v. count_by p (x ∷ xs) ≡ cond v 1 0 + count_by p xs → (v || list_any p xs) ≡ true → 1 ≤ count_by p (x ∷ xs)) [
-      | true ↦ λ e k. omega arith
-      | false ↦ λ e k. let more : 1 ≤ count_by p xs = some_counted p xs k in omega arith
-    ] step some
-
 -- one more is counted once, where it passes and none before it does
 pub count_more : {X : Type 0} → (p : X → Bool) (x : X) (xs : List X) → (p x ≡ true → list_any p xs ≡ false) → count_by p xs ≤ 1 → count_by p (x ∷ xs) ≤ 1
 count_more p x xs none few =
     let step = count_by-cons p x xs in
     elim (p x) as (λ v. p x ≡ v → count_by p (x ∷ xs) ≡ cond v 1 0 + count_by p xs → count_by p (x ∷ xs) ≤ 1) [
-      | true ↦ λ e k. let zero : count_by p xs ≡ 0 = none_counted p xs (none e) in omega arith
+      | true ↦ λ e k. let zero : count_by p xs ≡ 0 = count_by_none p xs (none e) in omega arith
       | false ↦ λ e k. omega arith
     ] refl step
-
--- a number below the bound that passes
-pub any_in_range : (p : ℕ → Bool) (size n : ℕ) → n < size → p n ≡ true → list_any p (range_with_len 0 size) ≡ true
-any_in_range p size n within h =
-    let long : n < length (range_with_len 0 size) = omega (arith, length-range_with_len 0 size) in
-    let at : get_or (range_with_len 0 size) n 0 ≡ n = get_or-range_with_len 0 size n 0 within ∙ omega arith in
-    list_any_at p (range_with_len 0 size) n 0 long (ap p at ∙ h)
-
-pub any_in_range_from : (p : ℕ → Bool) (a size n : ℕ) → a ≤ n → n < a + size → p n ≡ true → list_any p (range_with_len a size) ≡ true
-any_in_range_from p a zero n above below h = absurd (omega arith)
-any_in_range_from p a (suc size) n above below h =
-    ⊎_elim
-    (λ here. or_left (p a) (list_any p (range_with_len (a + 1) size)) (ap p here ∙ h))
-    (λ other.
-    let next : a + 1 ≤ n = grind arith in
-    or_right (p a) (list_any p (range_with_len (a + 1) size)) (any_in_range_from p (a + 1) size n next (omega arith) h))
-    (cases_eq a n)
 
 pub any_left : {X : Type 0} → (p : X → Bool) (xs ys : List X) → list_any p xs ≡ true → list_any p (xs ++ ys) ≡ true
 any_left p xs ys h = list_any-append p xs ys ∙ or_left (list_any p xs) (list_any p ys) h

@@ -23,15 +23,15 @@ or_associates a b c = same_from_bits (bit_or (bit_or a b) c) (bit_or a (bit_or b
     omega arith)
 
 -- folding is associative, and 0 adds nothing
-folded-assoc : (kind : Kind) (a b c : ℕ) → folded kind (folded kind a b) c ≡ folded kind a (folded kind b c)
+pub folded-assoc : (kind : Kind) (a b c : ℕ) → folded kind (folded kind a b) c ≡ folded kind a (folded kind b c)
 folded-assoc Or a b c = or_associates a b c
 folded-assoc kind a b c = omega arith
 
-folded-zero : (kind : Kind) (a : ℕ) → folded kind a 0 ≡ a
+pub folded-zero : (kind : Kind) (a : ℕ) → folded kind a 0 ≡ a
 folded-zero Or a = or_zero_r a
 folded-zero kind a = omega arith
 
-zero-folded : (kind : Kind) (a : ℕ) → folded kind 0 a ≡ a
+pub zero-folded : (kind : Kind) (a : ℕ) → folded kind 0 a ≡ a
 zero-folded Or a = or_zero_l a
 zero-folded kind a = omega arith
 
@@ -44,7 +44,7 @@ fold_from kind a (x ∷ xs) =
     ∙ ap (λ v. folded kind a (folded kind v (fold (folded kind) 0 xs))) (sym (zero-folded kind x))
     ∙ ap (folded kind a) (sym (fold_from kind (folded kind 0 x) xs))
 
-fold_of-append : (kind : Kind) (xs ys : List ℕ) → fold_of kind (xs ++ ys) ≡ folded kind (fold_of kind xs) (fold_of kind ys)
+pub fold_of-append : (kind : Kind) (xs ys : List ℕ) → fold_of kind (xs ++ ys) ≡ folded kind (fold_of kind xs) (fold_of kind ys)
 fold_of-append kind xs ys = fold-append (folded kind) 0 xs ys ∙ fold_from kind (fold_of kind xs) ys
 
 -- over any kind, the inputs are what was handed over, with the new ones

@@ -1,27 +1,23 @@
 -- Only what was created active moves, and nothing is open beneath an object when its target has changed.
-use Rattle.std.proofs.Common.{◌≡◌, ⊎_elim, ℕ, suc, ◌<◌, true, ◌==◌, List, [], ◌∷◌, length, Some, refl, ap, sym, ◌∙◌, subst, arith}
-use Rattle.std.proofs.lemmas.Bool.{eq-eqb, or_left, cases_Bool}
+use Rattle.std.proofs.Common.{◌≡◌, ⊎_elim, ℕ, true, List, [], ◌∷◌, length, Some, ap, sym, ◌∙◌, subst}
+use Rattle.std.proofs.lemmas.Bool.{cases_Bool}
 use Rattle.gcd_plan.specs.PlanView.{PlanView, starts_active}
-use Rattle.gcd_plan.specs.Chains.{chain_by, is_in}
+use Rattle.gcd_plan.specs.Chains.{is_in}
 use Rattle.gcd_plan.specs.Validity.{IsPlan}
 use Rattle.gcd_plan.specs.declared.numbers.Run.{Run}
 use Rattle.gcd_event.specs.declared.event.Event.{Event}
 use Rattle.gcd_history.specs.Runs.{open_runs, is_open}
-use Rattle.gcd_history.specs.Tree.{target, is_moving, node_of, chain_of_run, open_beneath}
+use Rattle.gcd_history.specs.Tree.{target, is_moving, node_of_run, chain_of_run, open_beneath}
 use Rattle.gcd_history.specs.Permitted.{IsLawful}
-use Rattle.gcd_history.proofs.Lists.{none_counted}
+use Rattle.gcd_plan.proofs.Sums.{count_by_none}
 use Rattle.gcd_history.proofs.OpenNodes.{open_cases, open_any, open_on_to}
 use Rattle.gcd_history.proofs.TargetActs.{made_active, nodes_at}
+use Rattle.gcd_plan.proofs.Walks.{in_own}
 use Rattle.gcd_history.proofs.TreeStands.{Step, stands, some_objects, asks, moving_before, was_open, kept_at, chain_step, begun_aim}
 
--- a chain begins with its object
-begins_with : (next : ℕ → ℕ) (bound n : ℕ) → 0 < bound → is_in n (chain_by next bound n) ≡ true
-begins_with next (suc bound) n h = or_left (n == n) _ (eq-eqb n n refl)
-begins_with next bound n h = absurd (omega arith)
-
 -- a run is beneath its own node
-beneath_own : (plan : PlanView) (past : List Event) (q : Run) (o : ℕ) → IsPlan plan → node_of plan past q ≡ Some o → is_in o (chain_of_run plan past q) ≡ true
-beneath_own plan past q o valid node = subst (λ l. is_in o l ≡ true) (sym (nodes_at plan past q o node)) (begins_with (target plan past) (length plan.objects) o (some_objects plan valid))
+pub beneath_own : (plan : PlanView) (past : List Event) (q : Run) (o : ℕ) → IsPlan plan → node_of_run plan past q ≡ Some o → is_in o (chain_of_run plan past q) ≡ true
+beneath_own plan past q o valid node = subst (λ l. is_in o l ≡ true) (sym (nodes_at plan past q o node)) (in_own (target plan past) (length plan.objects) o (some_objects plan valid))
 
 pub moving_made_active : (plan : PlanView) (past : List Event) → IsPlan plan → IsLawful plan past → (o : ℕ) → is_moving plan past o ≡ true → starts_active plan o ≡ true
 moving_made_active plan [] valid h o moving = cc
@@ -47,7 +43,7 @@ kept_beneath plan e past valid h o q on inside =
 
 pub changes_alone : (plan : PlanView) (e : Event) (past : List Event) → IsPlan plan → IsLawful plan (e ∷ past) → (o : ℕ) → (target plan (e ∷ past) o ≡ target plan past o → ⊥) → open_beneath plan (e ∷ past) o ≡ 0
 changes_alone plan e past valid h o changed =
-    none_counted (λ run. is_in o (chain_of_run plan (e ∷ past) run)) (open_runs (e ∷ past))
+    count_by_none (λ run. is_in o (chain_of_run plan (e ∷ past) run)) (open_runs (e ∷ past))
     (⊎_elim
     (λ some.
     let q = open_any (e ∷ past) (λ run. is_in o (chain_of_run plan (e ∷ past) run)) some in

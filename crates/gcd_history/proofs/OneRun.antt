@@ -9,23 +9,25 @@ use Rattle.gcd_plan.specs.declared.numbers.Run.TheVariants.{Block, Source}
 use Rattle.gcd_event.specs.declared.event.Event.{Event}
 use Rattle.gcd_event.specs.declared.event.Event.TheVariants.{Start, Act as Acted, Wake, End, Deliver, DeliverEnd}
 use Rattle.gcd_history.specs.Runs.{same_run, open_runs, is_open, act_at, last_worker}
-use Rattle.gcd_history.specs.Parked.{reason_of, parked_by, has_run, is_busy}
-use Rattle.gcd_history.specs.Permitted.{IsLawful}
+use Rattle.gcd_history.specs.Parked.{reason_by, parked_by, has_run, is_busy}
+use Rattle.gcd_history.specs.Permitted.{IsLawful, why}
+use Rattle.gcd_history.specs.Choice.{worker_of}
+use Rattle.gcd_history.specs.Facts.{gives_run}
 use Rattle.gcd_history.proofs.RunsOpen.{same_run-true}
 use Rattle.gcd_history.proofs.Reasons.{at_start, at_act, at_wake, at_deliver}
 use Rattle.gcd_history.proofs.OpenNodes.{open_cases, any_open}
 
 -- the last worker of the run is w
-abbrev is_last : List Event → Run → ℕ → Bool
+abbrev pub is_last : List Event → Run → ℕ → Bool
 is_last past r w = option_map_or (λ v. v == w) (last_worker past r) false
 
 -- what makes a run the worker's
-record RunFacts (plan : PlanView) (past : List Event) (w : ℕ) (r : Run) : Type 0 where
+pub record RunFacts (plan : PlanView) (past : List Event) (w : ℕ) (r : Run) : Type 0 where
   pub live : is_open past r ≡ true
   pub unparked : is_none (parked_by plan past r) ≡ true
   pub last : is_last past r w ≡ true
 
-run_facts : (plan : PlanView) (past : List Event) (w : ℕ) (r : Run) → has_run plan past w r ≡ true → RunFacts plan past w r
+pub run_facts : (plan : PlanView) (past : List Event) (w : ℕ) (r : Run) → has_run plan past w r ≡ true → RunFacts plan past w r
 unfolding has_run
 run_facts plan past w r h =
     let one = and_parts (is_open past r) _ h in
@@ -50,6 +52,13 @@ took plan (Wake v b) past h w r now = subst (λ u. is_busy plan past u ≡ false
 took plan (Deliver v s) past h w r now = subst (λ u. is_busy plan past u ≡ false) (eqb-true v w (and_parts (v == w) _ now).0) (at_deliver plan past v s h.1).idle
 took plan e past h w r now = cc
 
+-- an event that gives its worker a run finds the worker idle
+pub gives_to_idle : (plan : PlanView) (past : List Event) (e : Event) → why plan past e ≡ None → gives_run e ≡ true → is_busy plan past (worker_of e) ≡ false
+gives_to_idle plan past (Start v b) may gives = (at_start plan past v b may).idle
+gives_to_idle plan past (Wake v b) may gives = (at_wake plan past v b may).idle
+gives_to_idle plan past (Deliver v s) may gives = (at_deliver plan past v s may).idle
+gives_to_idle plan past e may gives = cc
+
 -- an event takes one run
 takes_one : (e : Event) (w : ℕ) (r q : Run) → takes w e r ≡ true → takes w e q ≡ true → r ≡ q
 takes_one (Start v b) w r q h k = sym (same_run-true (Block b) r (and_parts (v == w) _ h).1) ∙ same_run-true (Block b) q (and_parts (v == w) _ k).1
@@ -58,7 +67,7 @@ takes_one (Deliver v s) w r q h k = sym (same_run-true (Source s) r (and_parts (
 takes_one e w r q h k = cc
 
 -- an idle worker has no run
-idle_has_none : (plan : PlanView) (past : List Event) (w : ℕ) (r : Run) → is_busy plan past w ≡ false → has_run plan past w r ≡ true → ⊥
+pub idle_has_none : (plan : PlanView) (past : List Event) (w : ℕ) (r : Run) → is_busy plan past w ≡ false → has_run plan past w r ≡ true → ⊥
 unfolding is_busy
 idle_has_none plan past w r idle own = both_ways (list_any (has_run plan past w) (open_runs past)) idle (any_open past (has_run plan past w) r (run_facts plan past w r own).live own)
 
@@ -112,7 +121,7 @@ took_or_had plan (Acted v q i) past h w r own =
           inr (has_from plan past w r facts.live (run_facts plan past v r mine).unparked facts.last)
       | false ↦ λ other. inr (has_from plan past w r
           facts.live
-          (sym (ap (λ k. is_none (cond k (reason_of plan past (act_at plan q i)) (parked_by plan past r))) other) ∙ facts.unparked)
+          (sym (ap (λ k. is_none (cond k (reason_by plan past (act_at plan q i)) (parked_by plan past r))) other) ∙ facts.unparked)
           facts.last)
     ] refl
 took_or_had plan (End v c) past h w r own =

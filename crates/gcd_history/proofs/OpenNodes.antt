@@ -1,5 +1,5 @@
 -- The nodes of runs: they are queues or sources, and stay as they are.
-use Rattle.std.proofs.Common.{◌≡◌, ◌⊎◌, inl, inr, ⊎_elim, ℕ, Bool, true, false, not, ◌&&◌, cond, ◌==◌, List, [], ◌∷◌, Option, Some, None, is_some, find, option_and_then, option_map, refl, ap, sym, ◌∙◌, subst}
+use Rattle.std.proofs.Common.{◌≡◌, ◌⊎◌, inl, inr, ⊎_elim, ℕ, Bool, true, false, not, ◌&&◌, cond, ◌==◌, List, [], ◌∷◌, Some, None, is_some, find, option_and_then, option_map, refl, ap, sym, ◌∙◌, subst}
 use Rattle.std.specs.List.{list_any, list_all}
 use Rattle.std.specs.Option.{option_map_or}
 use Rattle.std.proofs.lemmas.Bool.{eqb-true, eq-eqb, or_cases, or_left, or_right, and_parts}
@@ -16,9 +16,9 @@ use Rattle.gcd_event.specs.declared.event.Event.TheVariants.{Start, Deliver}
 use Rattle.gcd_history.specs.declared.submission.Submission.{Submission}
 use Rattle.gcd_history.specs.Runs.{same_run, opens, open_runs, is_open}
 use Rattle.gcd_history.specs.Submitted.{submitted, submission_of}
-use Rattle.gcd_history.specs.Tree.{node_of, is_run_on, is_open_on}
+use Rattle.gcd_history.specs.Tree.{node_of_run, is_run_on, is_open_on}
 use Rattle.gcd_history.specs.Permitted.{IsLawful, is_worker}
-use Rattle.gcd_history.proofs.Options.{some_kept}
+use Rattle.gcd_plan.proofs.Options.{some_from_is_some, some_from_eqb}
 use Rattle.gcd_history.proofs.RunsOpen.{closes, same_run-true, same_run-refl, is_open-step}
 use Rattle.gcd_history.proofs.Reasons.{allowed, at_start}
 use Rattle.gcd_history.proofs.StartedOnce.{started_from_open, submitted_from_started, submission_of-kept}
@@ -57,33 +57,29 @@ pub open_any : (past : List Event) (test : Run → Bool) → list_any test (open
 open_any past test h = same_any test (open_runs past) h
 
 -- a run on o is open
-pub open_on_from : (plan : PlanView) (past : List Event) (q : Run) (o : ℕ) → is_open past q ≡ true → node_of plan past q ≡ Some o → is_open_on plan past o ≡ true
+pub open_on_from : (plan : PlanView) (past : List Event) (q : Run) (o : ℕ) → is_open past q ≡ true → node_of_run plan past q ≡ Some o → is_open_on plan past o ≡ true
 open_on_from plan past q o live node =
     any_open past (is_run_on plan past o) q live (ap (λ k. option_map_or (λ n. n == o) k false) node ∙ eq-eqb o o refl)
 
-node_is : (node : Option ℕ) (o : ℕ) → option_map_or (λ n. n == o) node false ≡ true → node ≡ Some o
-node_is None o h = cc
-node_is (Some n) o h = ap Some (eqb-true n o h)
-
-pub open_on_to : (plan : PlanView) (past : List Event) (o : ℕ) → is_open_on plan past o ≡ true → (q : Run) × (is_open past q ≡ true) × (node_of plan past q ≡ Some o)
+pub open_on_to : (plan : PlanView) (past : List Event) (o : ℕ) → is_open_on plan past o ≡ true → (q : Run) × (is_open past q ≡ true) × (node_of_run plan past q ≡ Some o)
 open_on_to plan past o h =
     let found = open_any past (is_run_on plan past o) h in
-    (found.0, found.1, node_is (node_of plan past found.0) o found.2)
+    (found.0, found.1, some_from_eqb (node_of_run plan past found.0) o found.2)
 
 -- ## Nodes stay
 
-node_kept : (plan : PlanView) (e : Event) (past : List Event) (b : Blk) → is_some (submission_of plan past b.0) ≡ true → node_of plan (e ∷ past) (Block b) ≡ node_of plan past (Block b)
+node_kept : (plan : PlanView) (e : Event) (past : List Event) (b : Blk) → is_some (submission_of plan past b.0) ≡ true → node_of_run plan (e ∷ past) (Block b) ≡ node_of_run plan past (Block b)
 node_kept plan e past b some =
-    let s = some_kept (submission_of plan past b.0) some in
+    let s = some_from_is_some (submission_of plan past b.0) some in
     let stays : submission_of plan (e ∷ past) b.0 ≡ submission_of plan past b.0 = submission_of-kept plan e past b.0 s.0 s.1 ∙ sym s.1 in
     ap (λ o. option_map (λ q. q.0) (option_and_then (λ t. t.node) o)) stays
 
-pub node_kept_open : (plan : PlanView) (e : Event) (past : List Event) → IsLawful plan past → (q : Run) → is_open past q ≡ true → node_of plan (e ∷ past) q ≡ node_of plan past q
+pub node_kept_open : (plan : PlanView) (e : Event) (past : List Event) → IsLawful plan past → (q : Run) → is_open past q ≡ true → node_of_run plan (e ∷ past) q ≡ node_of_run plan past q
 node_kept_open plan e past h (Block b) live = node_kept plan e past b (submitted_from_started plan past h b.0 (started_from_open past b live))
 node_kept_open plan e past h (Source s) live = refl
 
 -- the run that the event begins has its node already
-pub node_kept_begun : (plan : PlanView) (e : Event) (past : List Event) → IsLawful plan (e ∷ past) → (q : Run) → opens e q ≡ true → node_of plan (e ∷ past) q ≡ node_of plan past q
+pub node_kept_begun : (plan : PlanView) (e : Event) (past : List Event) → IsLawful plan (e ∷ past) → (q : Run) → opens e q ≡ true → node_of_run plan (e ∷ past) q ≡ node_of_run plan past q
 node_kept_begun plan (Start w c) past h (Block b) now =
     node_kept plan (Start w c) past b (subst (λ n. is_some (submission_of plan past n) ≡ true) (eqb-true c.0 b.0 now) (at_start plan past w c h.1).submitted_one)
 node_kept_begun plan e past h (Source s) now = refl
@@ -115,6 +111,6 @@ open_source plan (e ∷ past) s h live =
     ⊎_elim (λ now. begun_source plan past e s h now) (λ old. open_source plan past s h.0 old) (open_cases e past (Source s) live)
 
 -- the node of an open run is a queue or source
-pub open_node : (plan : PlanView) (past : List Event) (q : Run) (n : ℕ) → IsPlan plan → IsLawful plan past → is_open past q ≡ true → node_of plan past q ≡ Some n → is_node plan n ≡ true
+pub open_node : (plan : PlanView) (past : List Event) (q : Run) (n : ℕ) → IsPlan plan → IsLawful plan past → is_open past q ≡ true → node_of_run plan past q ≡ Some n → is_node plan n ≡ true
 open_node plan past (Block b) n valid h live node = found_fits plan (λ s. s.blk.0 == b.0) (submitted plan past) n (submitted_fit plan past valid) node
 open_node plan past (Source s) n valid h live node = subst (λ m. is_node plan m ≡ true) (same_Some s.0 n node) (source_is_node plan s.0 (open_source plan past s h live))

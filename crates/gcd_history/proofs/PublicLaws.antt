@@ -1,5 +1,5 @@
 -- The laws over histories in order, from those by recursion.
-use Rattle.std.proofs.Common.{◌≡◌, ℕ, zero, suc, ◌+◌, ◌-◌, ◌<◌, ◌≤◌, ◌==◌, true, List, [], ◌∷◌, length, take, drop, ◌++◌, reverse, Some, None, is_some, refl, count_by, ap, sym, ◌∙◌, subst, arith}
+use Rattle.std.proofs.Common.{◌≡◌, ℕ, suc, ◌+◌, ◌-◌, ◌<◌, ◌≤◌, ◌==◌, true, List, ◌∷◌, length, take, drop, ◌++◌, reverse, Some, None, is_some, option_and_then, refl, count_by, ap, sym, ◌∙◌, subst, arith}
 use Rattle.std.proofs.lemmas.Bool.{eqb-true, both_ways}
 use Rattle.std.proofs.lemmas.List.{take-append-drop, reverse-append, take_all, length-reverse, length-take-le}
 use Rattle.std.specs.Bool.{IsTrue}
@@ -20,11 +20,13 @@ use Rattle.gcd_history.specs.Submitted.{submitted, submission_of}
 use Rattle.gcd_history.specs.Parked.{reason, is_parked, has_come as has_come_after}
 use Rattle.gcd_history.specs.Permitted.{IsLawful as IsLawfulAfter, is_halted as is_halted_after}
 use Rattle.gcd_history.specs.Choice.{choice, all_ended as all_ended_after}
-use Rattle.gcd_history.specs.History.{why, IsLawful, is_started, is_submitted, submissions_of, is_free, nodes_of_run, reason_of, has_come, group_wait_passes, semaphore_wait_passes, received_of, pending_of, merged_of, is_open, is_active, chain_of, node_of_run, is_barrier_of, choice_of, running_of, next_due_of, is_live_feed}
+use Rattle.gcd_history.specs.History.{why, IsLawful, node_of, is_started, is_submitted, submitted_of, is_free, chain_of_run as outer_chain, reason_of, has_come, group_wait_passes, semaphore_wait_passes, received_of, pending_of, merged_of, is_open, is_active, chain_of, node_of_run, is_barrier_on, choice_of, running_of, next_due_of, is_live_feed}
 use Rattle.gcd_history.specs.Ends.{IsDrained, all_ended, IsQuiescent, IsHalted, is_halted}
-use Rattle.gcd_history.specs.Laws.{RunsOnce, StartsAfterSubmission, AllEndOnce, IsSubmittedOnce, StartsInOrder, BeginsFree, WakesHaveCause, NoneParked, WaitsHavePassed, GroupWaitsPass, SemaphoreWaitsPass, IsConserved, RunsExclude, BarriersExclude, TreeStands, IsChoiceOf, HasNoChoice, IsAtRest}
-use Rattle.gcd_history.proofs.Lists.{count_by-reverse, some_counted, found_passes, past_more}
-use Rattle.gcd_history.proofs.Options.{some_kept}
+use Rattle.gcd_history.specs.Laws.{RunsOnce, StartsAfterSubmission, AllEndOnce, IsSubmittedOnce, StartsInOrder, BeginsFree, WakesHaveCause, NoneParked, WaitsHavePassed, GroupWaitsPass, SemaphoreWaitsPass, IsConserved, RunsExclude, BlocksOfOneNodeApart, BarriersExclude, DeliversAlone, TreeStands, IsChoiceOf, HasNoChoice, IsAtRest}
+use Rattle.gcd_plan.proofs.Places.{past_from_slice_get}
+use Rattle.gcd_history.proofs.Lists.{count_by-reverse, found_passes, past_more}
+use Rattle.gcd_plan.proofs.Sums.{count_by_some}
+use Rattle.gcd_plan.proofs.Options.{some_from_is_some}
 use Rattle.gcd_history.proofs.LawfulLemmas.{lawful_after, lawful_take}
 use Rattle.gcd_history.proofs.Reasons.{allowed, at_start, at_wake}
 use Rattle.gcd_history.proofs.StartedOnce.{started_once, ended_once}
@@ -34,16 +36,13 @@ use Rattle.gcd_history.proofs.FreeAtStart.{start_begins_alone, deliver_begins_al
 use Rattle.gcd_history.proofs.Woken.{came, none_parked}
 use Rattle.gcd_history.proofs.WaitsPass.{passed, group_wait_passed, semaphore_wait_passed}
 use Rattle.gcd_history.proofs.Merged.{conserved}
+use Rattle.gcd_history.proofs.OpenOnce.{shut_at_deliver}
+use Rattle.gcd_history.proofs.BlocksApart.{blocks_apart}
 use Rattle.gcd_history.proofs.RunsAlone.{runs_alone, barriers_alone}
 use Rattle.gcd_history.proofs.TreeStands.{stands, chain_step}
 use Rattle.gcd_history.proofs.Walks.{reaches-in}
 use Rattle.gcd_history.proofs.Choices.{chosen_is, chosen_where_permitted}
 use Rattle.gcd_history.proofs.Quiet.{quiescent_from_rest, rest_from_quiescent, only_halt}
-
-none_past : {X : Type 0} → (xs : List X) (i : ℕ) → slice_get xs i ≡ None → length xs ≤ i
-none_past [] i h = omega arith
-none_past (x ∷ xs) zero h = cc
-none_past (x ∷ xs) (suc i) h = let rest = none_past xs i h in omega arith
 
 pub runs_once : (plan : PlanView) (h : List Event) → IsLawful plan h → RunsOnce h
 runs_once plan h lawful =
@@ -63,25 +62,25 @@ pub all_end_once : (plan : PlanView) (h : List Event) → IsLawful plan h → Is
 unfolding is_submitted all_ended
 all_end_once plan h lawful drained b submitted_one =
     let past = lawful_after plan h lawful in
-    let s = some_kept (submission_of plan (reverse h) b) submitted_one in
+    let s = some_from_is_some (submission_of plan (reverse h) b) submitted_one in
     let found = found_passes (λ t. t.blk.0 == b) (λ t. is_ended_after (reverse h) t.blk.0) (submitted plan (reverse h)) s.0 s.1 drained.ended in
     let same : s.0.blk.0 ≡ b = eqb-true s.0.blk.0 b found.0 in
     let ended : is_ended_after (reverse h) b ≡ true = subst (λ n. is_ended_after (reverse h) n ≡ true) same found.1 in
-    let some : 1 ≤ count_by (ends b) (reverse h) = some_counted (ends b) (reverse h) ended in
+    let some : 1 ≤ count_by (ends b) (reverse h) = count_by_some (ends b) (reverse h) ended in
     let once = ended_once plan (reverse h) past b in
     let turned = count_by-reverse (ends b) h in
     omega arith
 
 pub is_submitted_once : (plan : PlanView) (h : List Event) → IsPlan plan → IsLawful plan h → IsSubmittedOnce plan h
-unfolding submissions_of
+unfolding submitted_of
 is_submitted_once plan h valid lawful b = submitted_once plan (reverse h) valid (lawful_after plan h lawful) b
 
 pub starts_in_order : (plan : PlanView) (h : List Event) → IsPlan plan → IsLawful plan h → StartsInOrder plan h
-unfolding submissions_of is_started
+unfolding submitted_of is_started
 starts_in_order plan h valid lawful i = starts_in_order_after plan (reverse (take i h)) valid (lawful_after plan (take i h) (lawful_take plan h i lawful))
 
 pub begins_free : (plan : PlanView) (h : List Event) → IsLawful plan h → BeginsFree plan h
-unfolding IsLawful why is_free nodes_of_run
+unfolding IsLawful why is_free outer_chain
 begins_free plan h lawful = record {
   starts = λ i w b o at inside. (start_begins_alone plan (reverse (take i h)) w b (lawful i (Start w b) at)).free o inside;
   delivers = λ i w s o at inside. (deliver_begins_alone plan (reverse (take i h)) w s (lawful i (Deliver w s) at)).free o inside;
@@ -96,7 +95,7 @@ unfolding IsLawful why reason_of has_come
 wakes_have_cause plan h lawful i w b at =
     let past = reverse (take i h) in
     let facts = at_wake plan past w b (lawful i (Wake w b) at) in
-    let r = some_kept (reason plan past (Block b)) (parked_reason plan past b.0 facts.parked) in
+    let r = some_from_is_some (reason plan past (Block b)) (parked_reason plan past b.0 facts.parked) in
     record { reason = r.0; parked = r.1; come = came plan past b.0 r.0 r.1 facts.came }
 
 pub none_is_parked : (plan : PlanView) (h : List Event) → IsLawful plan h → IsDrained plan h → NoneParked plan h
@@ -145,24 +144,39 @@ unfolding received_of pending_of merged_of
 is_conserved plan h s = conserved plan (reverse h) s
 
 pub runs_exclude : (plan : PlanView) (h : List Event) → IsPlan plan → IsLawful plan h → RunsExclude plan h
-unfolding is_open nodes_of_run
-runs_exclude plan h valid lawful i o r q exclusive r_on q_on r_in q_in =
-    runs_alone plan (reverse (take i h)) valid (lawful_after plan (take i h) (lawful_take plan h i lawful)) o r q exclusive r_on q_on r_in q_in
+unfolding is_open outer_chain
+runs_exclude plan h valid lawful i o r q exclusive on r_in q_in =
+    runs_alone plan (reverse (take i h)) valid (lawful_after plan (take i h) (lawful_take plan h i lawful)) o r q exclusive on.one on.other r_in q_in
+
+pub blocks_of_one_node_apart : (plan : PlanView) (h : List Event) → IsPlan plan → IsLawful plan h → BlocksOfOneNodeApart plan h
+unfolding node_of is_open
+blocks_of_one_node_apart plan h valid lawful q a b alone a_node b_node both =
+    let i = both.position in
+    let split = turned_at h i in
+    blocks_apart plan (reverse (drop i h)) (reverse (take i h)) q a b valid (lawful_after plan (take i h) (lawful_take plan h i lawful)) alone
+    (sym (ap (λ k. option_and_then (λ s. s.node) (submission_of plan k a.0)) split) ∙ a_node)
+    (sym (ap (λ k. option_and_then (λ s. s.node) (submission_of plan k b.0)) split) ∙ b_node)
+    both.there.one both.there.other
 
 pub barriers_exclude : (plan : PlanView) (h : List Event) → IsLawful plan h → BarriersExclude plan h
-unfolding is_open is_barrier_of node_of_run
-barriers_exclude plan h lawful i n r q has r_on q_on barrier node =
-    barriers_alone plan (reverse (take i h)) (lawful_after plan (take i h) (lawful_take plan h i lawful)) n r q has r_on q_on barrier node
+unfolding is_open is_barrier_on node_of_run
+barriers_exclude plan h lawful i n r q has on barrier node =
+    barriers_alone plan (reverse (take i h)) (lawful_after plan (take i h) (lawful_take plan h i lawful)) n r q has on.one on.other barrier node
+
+pub delivers_alone : (plan : PlanView) (h : List Event) → IsLawful plan h → DeliversAlone h
+unfolding IsLawful why is_open
+delivers_alone plan h lawful i w s at =
+    shut_at_deliver plan (reverse (take i h)) w s (lawful_after plan (take i h) (lawful_take plan h i lawful), lawful i (Deliver w s) at)
 
 -- where place i has no event, one event more is none more
 no_more : (h : List Event) (i : ℕ) → length h ≤ i → take (i + 1) h ≡ take i h
 no_more h i past = take_all (i + 1) h (omega arith) ∙ sym (take_all i h past)
 
-chain_at : (plan : PlanView) (h : List Event) → IsPlan plan → IsLawful plan h → (i : ℕ) (run : Run) → IsTrue (is_open (take i h) run) → IsTrue (is_open (take (i + 1) h) run) → nodes_of_run plan (take (i + 1) h) run ≡ nodes_of_run plan (take i h) run
-unfolding is_open nodes_of_run
+chain_at : (plan : PlanView) (h : List Event) → IsPlan plan → IsLawful plan h → (i : ℕ) (run : Run) → IsTrue (is_open (take i h) run) → IsTrue (is_open (take (i + 1) h) run) → outer_chain plan (take (i + 1) h) run ≡ outer_chain plan (take i h) run
+unfolding is_open outer_chain
 chain_at plan h valid lawful i run before now =
     elim (slice_get h i) as (λ o. slice_get h i ≡ o → chain_of_run plan (reverse (take (i + 1) h)) run ≡ chain_of_run plan (reverse (take i h)) run) [
-      | None ↦ λ none. ap (λ l. chain_of_run plan (reverse l) run) (no_more h i (none_past h i none))
+      | None ↦ λ none. ap (λ l. chain_of_run plan (reverse l) run) (no_more h i (past_from_slice_get h i none))
       | Some e ↦ λ some.
           let within : i < length h = slice_get_within h i e some in
           let turned : reverse (take (i + 1) h) ≡ e ∷ reverse (take i h) = past_more h i e within ∙ ap (λ d. d ∷ reverse (take i h)) (get_or_from_slice_get h i e e some) in
@@ -171,8 +185,8 @@ chain_at plan h valid lawful i run before now =
           ap (λ l. chain_of_run plan l run) turned ∙ chain_step plan e (reverse (take i h)) (valid, whole, stands plan (reverse (take i h)) valid whole.0) run before on
     ] refl
 
-active_at : (plan : PlanView) (h : List Event) → IsPlan plan → IsLawful plan h → (i o : ℕ) (run : Run) → IsTrue (is_open (take i h) run) → IsTrue (is_in o (nodes_of_run plan (take i h) run)) → IsTrue (is_active plan (take i h) o)
-unfolding is_open nodes_of_run is_active
+active_at : (plan : PlanView) (h : List Event) → IsPlan plan → IsLawful plan h → (i o : ℕ) (run : Run) → IsTrue (is_open (take i h) run) → IsTrue (is_in o (outer_chain plan (take i h) run)) → IsTrue (is_active plan (take i h) o)
+unfolding is_open outer_chain is_active
 active_at plan h valid lawful i o run live inside =
     (stands plan (reverse (take i h)) valid (lawful_after plan (take i h) (lawful_take plan h i lawful))).active o run live inside
 

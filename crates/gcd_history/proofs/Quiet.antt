@@ -1,13 +1,16 @@
 -- Free workers are alike, a run that is open and unparked goes on, and so when nothing more can come: no run is open and
 -- unparked, and worker 0 has no choice.
-use Rattle.std.proofs.Common.{◌≡◌, ⊎_elim, ℕ, ◌+◌, ◌<◌, ◌≤◌, Bool, true, false, not, ◌&&◌, cond, ◌==◌, ltb, leb, List, [], ◌∷◌, length, get_or, Some, None, is_some, is_none, option_and_then, refl, ap, sym, ◌∙◌, subst, arith}
-use Rattle.std.specs.List.{list_any, list_all, sum_by, slice_get}
+use Rattle.std.proofs.Common.{◌≡◌, ◌⊎◌, inl, inr, ⊎_elim, ℕ, ◌+◌, ◌<◌, ◌≤◌, Bool, true, false, not, ◌&&◌, cond, ◌==◌, ltb, leb, List, [], ◌∷◌, length, get_or, Some, None, is_some, is_none, option_and_then, refl, ap, sym, ◌∙◌, subst, arith}
+use Rattle.std.specs.List.{list_any, list_all, sum_by, slice_get, range_with_len}
 use Rattle.std.specs.Option.{option_map_or}
-use Rattle.std.proofs.lemmas.Bool.{eqb-true, eq-eqb, and_parts, and_from, and_right, both_ways, le-leb, cases_Bool}
+use Rattle.std.proofs.lemmas.Bool.{eqb-true, eq-eqb, and_parts, and_from, and_right, both_ways, lt-ltb, cases_Bool, not-true, false_from_ne_true}
 use Rattle.std.proofs.lemmas.Option.{same_Some, none-some, slice_get_within, get_or_from_slice_get}
 use Rattle.std.proofs.lemmas.List.Sums.{get_or-le-sum_by}
+use Rattle.gcd_plan.specs.Limits.{max_acts}
 use Rattle.gcd_plan.specs.PlanView.{PlanView}
-use Rattle.gcd_plan.specs.Kinds.{is_source}
+use Rattle.gcd_plan.specs.Kinds.{is_source, has_kind, is_read_kind}
+use Rattle.gcd_plan.specs.MisuseCodes.{code_of}
+use Rattle.gcd_plan.specs.declared.misuse_code.MisuseCode.TheVariants.{UseAfterRelease}
 use Rattle.gcd_plan.specs.StartRule.{first_of, run_reasons}
 use Rattle.gcd_plan.specs.Validity.{IsPlan}
 use Rattle.gcd_plan.specs.declared.act.Act.{Act}
@@ -25,13 +28,16 @@ use Rattle.gcd_history.specs.Submitted.{submission_of}
 use Rattle.gcd_history.specs.Tree.{chain}
 use Rattle.gcd_history.specs.Parked.{parked_by, running, has_run, is_busy, is_parked, may_wake}
 use Rattle.gcd_history.specs.Timers.{now, next_due, may_tick}
-use Rattle.gcd_history.specs.Sources.{is_pending, is_live}
+use Rattle.gcd_history.specs.Sources.{is_pending, is_live_feed}
 use Rattle.gcd_history.specs.Misuses.{first_code, act_misuses, is_released, named, misuse}
-use Rattle.gcd_history.specs.Permitted.{why, permitted, IsLawful, is_halted, is_known, is_worker, has_block, is_run_of, is_ready, knowledge, node_reasons, is_next, has_act_left, misuse_at, reasons}
+use Rattle.gcd_history.specs.Permitted.{why, permitted, IsLawful, is_halted, is_known, is_worker, is_index, is_code, has_block, is_run_of, is_ready, knowledge, node_reasons, is_next, has_act_left, misuse_at, reasons}
 use Rattle.gcd_history.specs.Choice.{choice, is_work, worker_of, IsQuiescent}
 use Rattle.gcd_history.specs.Facts.{is_of_run, by_worker}
-use Rattle.gcd_history.proofs.Lists.{some_counted, none_counted}
-use Rattle.gcd_history.proofs.Options.{none_is}
+use Rattle.gcd_history.proofs.Lists.{none_passes}
+use Rattle.gcd_plan.proofs.Quantifiers.{list_any_in_range, list_any_agree}
+use Rattle.gcd_plan.proofs.Sums.{count_by_some, count_by_none}
+use Rattle.gcd_history.proofs.Fitting.{has_object}
+use Rattle.gcd_plan.proofs.Options.{none_from_is_none}
 use Rattle.gcd_history.proofs.RunsOpen.{same_run-refl}
 use Rattle.gcd_history.proofs.Reasons.{first_none, allowed, at_act, at_end, at_deliver_end, at_misuse, at_tick, at_ready, at_feed_end}
 use Rattle.gcd_history.proofs.OpenNodes.{open_cases, any_open, open_any}
@@ -58,7 +64,7 @@ unfolding has_run
 none_has plan past w r quiet own =
     let parts = and_parts (is_open past r) _ own in
     let unparked = (and_parts (is_none (parked_by plan past r)) _ parts.1).0 in
-    let some : 1 ≤ running plan past = some_counted (λ q. is_none (parked_by plan past q)) (open_runs past) (any_open past (λ q. is_none (parked_by plan past q)) r parts.0 unparked) in
+    let some : 1 ≤ running plan past = count_by_some (λ q. is_none (parked_by plan past q)) (open_runs past) (any_open past (λ q. is_none (parked_by plan past q)) r parts.0 unparked) in
     omega arith
 
 pub all_free : (plan : PlanView) (past : List Event) (w : ℕ) → running plan past ≡ 0 → HasNone plan past w
@@ -169,29 +175,29 @@ owned plan [] h r live = absurd (both_ways false refl live)
 owned plan (e ∷ past) h r live =
     ⊎_elim (λ now. begun_owned plan e past h r now) (λ old. still_owned plan e past h r (owned plan past h.0 r old)) (open_cases e past r live)
 
--- the code of a misuse is from 1 to 8
-abbrev is_code : ℕ × Bool → Bool
-is_code p = ltb 0 p.0 && leb p.0 8
+-- the code of a misuse is one of the codes
+abbrev has_code : ℕ × Bool → Bool
+has_code p = is_code p.0
 
-first_fits : (codes : List (ℕ × Bool)) (c : ℕ) → list_all is_code codes ≡ true → first_code codes ≡ Some c → (ltb 0 c && leb c 8) ≡ true
+first_fits : (codes : List (ℕ × Bool)) (c : ℕ) → list_all has_code codes ≡ true → first_code codes ≡ Some c → is_code c ≡ true
 first_fits [] c all h = cc
 first_fits (p ∷ codes) c all h =
-    let parts = and_parts (is_code p) (list_all is_code codes) all in
-    elim p.1 as (λ v. cond v (Some p.0) (first_code codes) ≡ Some c → (ltb 0 c && leb c 8) ≡ true) [
-      | true ↦ λ k. subst (λ n. (ltb 0 n && leb n 8) ≡ true) (same_Some p.0 c k) parts.0
+    let parts = and_parts (has_code p) (list_all has_code codes) all in
+    elim p.1 as (λ v. cond v (Some p.0) (first_code codes) ≡ Some c → is_code c ≡ true) [
+      | true ↦ λ k. subst (λ n. is_code n ≡ true) (same_Some p.0 c k) parts.0
       | false ↦ λ k. first_fits codes c parts.1 k
     ] h
 
-codes_fit : (plan : PlanView) (past : List Event) (act : Act) → list_all is_code (act_misuses plan past act) ≡ true
+codes_fit : (plan : PlanView) (past : List Event) (act : Act) → list_all has_code (act_misuses plan past act) ≡ true
 codes_fit plan past (Resume o) = refl
 codes_fit plan past (Leave g) = refl
 codes_fit plan past (Target o t) = refl
 codes_fit plan past (Release o) = refl
 codes_fit plan past act = refl
 
-code_fits : (plan : PlanView) (past : List Event) (act : Act) (c : ℕ) → misuse plan past act ≡ Some c → (ltb 0 c && leb c 8) ≡ true
+code_fits : (plan : PlanView) (past : List Event) (act : Act) (c : ℕ) → misuse plan past act ≡ Some c → is_code c ≡ true
 unfolding misuse
-code_fits plan past act c h = first_fits ((6, list_any (is_released plan past) (named act)) ∷ act_misuses plan past act) c (codes_fit plan past act) h
+code_fits plan past act c h = first_fits ((code_of UseAfterRelease, list_any (is_released plan past) (named act)) ∷ act_misuses plan past act) c (codes_fit plan past act) h
 
 -- a run has no more acts than the plan has
 block_length : (plan : PlanView) (b : Blk) (i : ℕ) (act : Act) → act_at plan (Block b) i ≡ Some act → i < sum_by (λ blk. length blk.acts) plan.blocks
@@ -216,14 +222,14 @@ source_length plan s i act at =
           omega arith
     ] refl at
 
-index_fits : (plan : PlanView) (r : Run) (i : ℕ) (act : Act) → IsPlan plan → act_at plan r i ≡ Some act → i ≤ 65534
+index_fits : (plan : PlanView) (r : Run) (i : ℕ) (act : Act) → IsPlan plan → act_at plan r i ≡ Some act → i < max_acts
 index_fits plan (Block b) i act valid at =
     let within = block_length plan b i act at in
-    let few : sum_by (λ blk. length blk.acts) plan.blocks + sum_by (λ obj. length obj.handler) plan.objects ≤ 65535 = valid.few_acts in
+    let few : sum_by (λ blk. length blk.acts) plan.blocks + sum_by (λ obj. length obj.handler) plan.objects ≤ max_acts = valid.few_acts in
     omega arith
 index_fits plan (Source s) i act valid at =
     let within = source_length plan s i act at in
-    let few : sum_by (λ blk. length blk.acts) plan.blocks + sum_by (λ obj. length obj.handler) plan.objects ≤ 65535 = valid.few_acts in
+    let few : sum_by (λ blk. length blk.acts) plan.blocks + sum_by (λ obj. length obj.handler) plan.objects ≤ max_acts = valid.few_acts in
     omega arith
 
 has_own : (plan : PlanView) (past : List Event) (r : Run) (w : ℕ) → is_open past r ≡ true → parked_by plan past r ≡ None → last_worker past r ≡ Some w → has_run plan past w r ≡ true
@@ -265,20 +271,20 @@ next_is : (plan : PlanView) (past : List Event) (r : Run) (act : Act) → act_at
 unfolding is_next
 next_is plan past r act at = and_from (acts_done past r == acts_done past r) (is_some (act_at plan r (acts_done past r))) (eq-eqb (acts_done past r) (acts_done past r) refl) (ap is_some at)
 
-code_of : (plan : PlanView) (past : List Event) (r : Run) (i c : ℕ) (act : Act) → act_at plan r i ≡ Some act → misuse_at plan past r i ≡ Some c → misuse plan past act ≡ Some c
+act_code : (plan : PlanView) (past : List Event) (r : Run) (i c : ℕ) (act : Act) → act_at plan r i ≡ Some act → misuse_at plan past r i ≡ Some c → misuse plan past act ≡ Some c
 unfolding misuse_at
-code_of plan past r i c act at h = sym (ap (option_and_then (misuse plan past)) at) ∙ h
+act_code plan past r i c act at h = sym (ap (option_and_then (misuse plan past)) at) ∙ h
 
 act_event : (plan : PlanView) (past : List Event) (w : ℕ) → IsPlan plan → is_halted past ≡ false → is_worker w ≡ true → (r : Run) → is_run_of plan r ≡ true → has_run plan past w r ≡ true → (act : Act) → act_at plan r (acts_done past r) ≡ Some act → OwnEvent plan past r
 act_event plan past w valid on fits r known own act at =
     let i = acts_done past r in
-    let low : leb i 65534 ≡ true = le-leb i 65534 (index_fits plan r i act valid at) in
+    let low : is_index i ≡ true = lt-ltb i max_acts (index_fits plan r i act valid at) in
     let next = next_is plan past r act at in
     elim (misuse_at plan past r i) as (λ o. misuse_at plan past r i ≡ o → OwnEvent plan past r) [
       | None ↦ λ fine. record {
         event = Acted w r i;
         work = refl;
-        permitted_now = none_why plan past (Acted w r i) on (and_from (is_worker w) _ fits (and_from (is_run_of plan r) (leb i 65534) known low))
+        permitted_now = none_why plan past (Acted w r i) on (and_from (is_worker w) _ fits (and_from (is_run_of plan r) (is_index i) known low))
             (none_first NotOwn (not (has_run plan past w r)) ((NotNext, not (is_next plan past r i)) ∷ (IsMisuse, is_some (misuse_at plan past r i)) ∷ []) (ap not own)
             (none_first NotNext (not (is_next plan past r i)) ((IsMisuse, is_some (misuse_at plan past r i)) ∷ []) (ap not next)
             (none_first IsMisuse (is_some (misuse_at plan past r i)) [] (ap is_some fine) refl)));
@@ -286,13 +292,13 @@ act_event plan past w valid on fits r known own act at =
         by = own;
       }
       | Some c ↦ λ wrong.
-          let coded = code_fits plan past act c (code_of plan past r i c act at wrong) in
+          let coded = code_fits plan past act c (act_code plan past r i c act at wrong) in
           let same : option_map_or (λ code. code == c) (misuse_at plan past r i) false ≡ true = ap (λ o. option_map_or (λ code. code == c) o false) wrong ∙ eq-eqb c c refl in
           let it = not (option_map_or (λ code. code == c) (misuse_at plan past r i) false) in
           record {
             event = Misuse w r i c;
             work = refl;
-            permitted_now = none_why plan past (Misuse w r i c) on (and_from (is_worker w) _ fits (and_from (is_run_of plan r) _ known (and_from (leb i 65534) _ low coded)))
+            permitted_now = none_why plan past (Misuse w r i c) on (and_from (is_worker w) _ fits (and_from (is_run_of plan r) _ known (and_from (is_index i) _ low coded)))
                 (none_first NotOwn (not (has_run plan past w r)) ((NotNext, not (is_next plan past r i)) ∷ (NotMisuse, it) ∷ []) (ap not own)
                 (none_first NotNext (not (is_next plan past r i)) ((NotMisuse, it) ∷ []) (ap not next)
                 (none_first NotMisuse it [] (ap not same) refl)));
@@ -329,13 +335,13 @@ pub record AtRest (plan : PlanView) (past : List Event) : Type 0 where
   pub idle : running plan past ≡ 0
   pub no_choice : choice plan past 0 0 ≡ None
   pub no_time : next_due plan past ≡ None
-  pub no_feed : (s : ℕ) → is_live plan past s ≡ false
+  pub no_feed : (s : ℕ) → is_live_feed plan past s ≡ false
 
 pub quiescent_from_rest : (plan : PlanView) (past : List Event) → IsPlan plan → IsLawful plan past → AtRest plan past → IsQuiescent plan past
 quiescent_from_rest plan past valid lawful rest = record {
   goes_on = rest.goes_on;
   no_work = λ e work. ⊎_elim
-      (λ may. absurd (both_ways (is_some (choice plan past 0 0)) (ap is_some rest.no_choice) (zero_chooses plan past e valid rest.idle work (none_is (why plan past e) may))))
+      (λ may. absurd (both_ways (is_some (choice plan past 0 0)) (ap is_some rest.no_choice) (zero_chooses plan past e valid rest.idle work (none_from_is_none (why plan past e) may))))
       (λ none. none)
       (cases_Bool (permitted plan past e));
   no_time = rest.no_time;
@@ -347,9 +353,9 @@ none_running plan past valid lawful quiet =
     ⊎_elim
     (λ some.
     let r = open_any past (λ q. is_none (parked_by plan past q)) some in
-    let own = own_event plan past valid lawful quiet.goes_on r.0 r.1 (none_is (parked_by plan past r.0) r.2) in
+    let own = own_event plan past valid lawful quiet.goes_on r.0 r.1 (none_from_is_none (parked_by plan past r.0) r.2) in
     absurd (both_ways (permitted plan past own.event) (quiet.no_work own.event own.work) (ap is_none own.permitted_now)))
-    (λ none. none_counted (λ q. is_none (parked_by plan past q)) (open_runs past) none)
+    (λ none. count_by_none (λ q. is_none (parked_by plan past q)) (open_runs past) none)
     (cases_Bool (list_any (λ q. is_none (parked_by plan past q)) (open_runs past)))
 
 pub rest_from_quiescent : (plan : PlanView) (past : List Event) → IsPlan plan → IsLawful plan past → IsQuiescent plan past → AtRest plan past
@@ -366,6 +372,48 @@ rest_from_quiescent plan past valid lawful quiet = record {
   no_feed = quiet.no_feed;
 }
 
+-- nothing goes on, as a test: of the sources those of the plan are looked at
+abbrev rests : PlanView → List Event → Bool
+rests plan past =
+    running plan past == 0
+    && (is_none (choice plan past 0 0)
+    && (is_none (next_due plan past)
+    && not (list_any (is_live_feed plan past) (range_with_len 0 (length plan.objects)))))
+
+none_live : (plan : PlanView) (past : List Event) → list_any (is_live_feed plan past) (range_with_len 0 (length plan.objects)) ≡ false → (s : ℕ) → is_live_feed plan past s ≡ false
+unfolding is_live_feed
+none_live plan past none s = false_from_ne_true (is_live_feed plan past s) (λ live.
+    let low = has_object is_read_kind plan s (and_parts (has_kind is_read_kind plan s) _ live).0 in
+    both_ways (list_any (is_live_feed plan past) (range_with_len 0 (length plan.objects))) none (list_any_in_range (is_live_feed plan past) (length plan.objects) s low live))
+
+rest_from_test : (plan : PlanView) (past : List Event) → is_halted past ≡ false → rests plan past ≡ true → AtRest plan past
+rest_from_test plan past on test =
+    let one = and_parts (running plan past == 0) _ test in
+    let two = and_parts (is_none (choice plan past 0 0)) _ one.1 in
+    let three = and_parts (is_none (next_due plan past)) _ two.1 in
+    record {
+      goes_on = on;
+      idle = eqb-true (running plan past) 0 one.0;
+      no_choice = none_from_is_none (choice plan past 0 0) two.0;
+      no_time = none_from_is_none (next_due plan past) three.0;
+      no_feed = λ s. none_live plan past (not-true (list_any (is_live_feed plan past) (range_with_len 0 (length plan.objects))) three.1) s;
+    }
+
+test_from_rest : (plan : PlanView) (past : List Event) → AtRest plan past → rests plan past ≡ true
+test_from_rest plan past rest =
+    and_from (running plan past == 0) _ (eq-eqb (running plan past) 0 rest.idle)
+    (and_from (is_none (choice plan past 0 0)) _ (ap is_none rest.no_choice)
+    (and_from (is_none (next_due plan past)) _ (ap is_none rest.no_time)
+    (ap not (list_any_agree (is_live_feed plan past) (λ s. false) (range_with_len 0 (length plan.objects)) rest.no_feed ∙ none_passes (range_with_len 0 (length plan.objects))))))
+
+-- a lawful history of a valid plan that is not halted is quiescent, or it is not
+pub quiet_or_not : (plan : PlanView) (past : List Event) → IsPlan plan → IsLawful plan past → is_halted past ≡ false → IsQuiescent plan past ⊎ (IsQuiescent plan past → ⊥)
+quiet_or_not plan past valid lawful on =
+    ⊎_elim
+    (λ test. inl (quiescent_from_rest plan past valid lawful (rest_from_test plan past on test)))
+    (λ none. inr (λ quiet. both_ways (rests plan past) none (test_from_rest plan past (rest_from_quiescent plan past valid lawful quiet))))
+    (cases_Bool (rests plan past))
+
 -- ## After the end
 
 no_tick : (plan : PlanView) (past : List Event) (t : ℕ) → next_due plan past ≡ None → may_tick plan past t ≡ false
@@ -376,7 +424,7 @@ no_tick plan past t none =
 -- after a quiescent history a halt alone may come
 pub only_halt : (plan : PlanView) (past : List Event) (e : Event) → IsQuiescent plan past → why plan past e ≡ None → e ≡ Halt
 only_halt plan past (Tick t) quiet may = absurd (both_ways (may_tick plan past t) (no_tick plan past t quiet.no_time) (at_tick plan past t may))
-only_halt plan past (Ready s n) quiet may = absurd (both_ways (is_live plan past s.0) (quiet.no_feed s.0) (at_ready plan past s n may))
-only_halt plan past (FeedEnd s) quiet may = absurd (both_ways (is_live plan past s.0) (quiet.no_feed s.0) (at_feed_end plan past s may))
+only_halt plan past (Ready s n) quiet may = absurd (both_ways (is_live_feed plan past s.0) (quiet.no_feed s.0) (at_ready plan past s n may))
+only_halt plan past (FeedEnd s) quiet may = absurd (both_ways (is_live_feed plan past s.0) (quiet.no_feed s.0) (at_feed_end plan past s may))
 only_halt plan past Halt quiet may = refl
 only_halt plan past e quiet may = absurd (both_ways (permitted plan past e) (quiet.no_work e refl) (ap is_none may))

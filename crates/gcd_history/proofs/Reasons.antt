@@ -1,5 +1,5 @@
 -- What is known where an event is permitted: no reason applies.
-use Rattle.std.proofs.Common.{◌≡◌, ℕ, Bool, true, false, not, ◌==◌, List, [], ◌∷◌, Option, Some, None, is_some, refl, ap}
+use Rattle.std.proofs.Common.{◌≡◌, ℕ, Bool, true, false, not, ◌==◌, List, [], ◌∷◌, Some, None, is_some, refl}
 use Rattle.std.specs.Option.{option_map_or}
 use Rattle.std.proofs.lemmas.Bool.{not-true, not-false, and_parts, eqb-true}
 use Rattle.gcd_plan.specs.PlanView.{PlanView}
@@ -17,8 +17,9 @@ use Rattle.gcd_history.specs.Submitted.{submission_of}
 use Rattle.gcd_history.specs.Tree.{chain}
 use Rattle.gcd_history.specs.Parked.{has_run, is_busy, is_parked, may_wake}
 use Rattle.gcd_history.specs.Timers.{may_tick}
-use Rattle.gcd_history.specs.Sources.{is_pending, is_live}
+use Rattle.gcd_history.specs.Sources.{is_pending, is_live_feed}
 use Rattle.gcd_history.specs.Permitted.{is_halted, is_known, is_ready, is_behind, is_fenced, knowledge, is_next, has_act_left, misuse_at, waiting_reasons, node_reasons, reasons, why}
+use Rattle.gcd_plan.proofs.Options.{some_from_eqb}
 
 -- where no reason applies, the first does not, nor do the others
 pub first_none : (w : Why) (t : Bool) (rest : List (Why × Bool)) → first_of ((w, t) ∷ rest) ≡ None → (t ≡ false) × (first_of rest ≡ None)
@@ -145,10 +146,6 @@ pub record MisuseFacts (plan : PlanView) (past : List Event) (w : ℕ) (r : Run)
   pub next : i ≡ acts_done past r
   pub code : misuse_at plan past r i ≡ Some c
 
-code_is : (o : Option ℕ) (c : ℕ) → option_map_or (λ code. code == c) o false ≡ true → o ≡ Some c
-code_is None c h = cc
-code_is (Some code) c h = ap Some (eqb-true code c h)
-
 pub at_misuse : (plan : PlanView) (past : List Event) (w : ℕ) (r : Run) (i c : ℕ) → why plan past (Misuse w r i c) ≡ None → MisuseFacts plan past w r i c
 unfolding is_next
 at_misuse plan past w r i c h =
@@ -157,15 +154,15 @@ at_misuse plan past w r i c h =
     let following = first_none NotNext (not (is_next plan past r i)) ((NotMisuse, not same) ∷ []) own.1 in
     let fine = first_none NotMisuse (not same) [] following.1 in
     let parts = and_parts (i == acts_done past r) (is_some (act_at plan r i)) (not-false (is_next plan past r i) following.0) in
-    record { own = not-false (has_run plan past w r) own.0; next = eqb-true i (acts_done past r) parts.0; code = code_is (misuse_at plan past r i) c (not-false same fine.0) }
+    record { own = not-false (has_run plan past w r) own.0; next = eqb-true i (acts_done past r) parts.0; code = some_from_eqb (misuse_at plan past r i) c (not-false same fine.0) }
 
 -- of a Tick
 pub at_tick : (plan : PlanView) (past : List Event) (t : ℕ) → why plan past (Tick t) ≡ None → may_tick plan past t ≡ true
 at_tick plan past t h = not-false (may_tick plan past t) (first_none NotDue (not (may_tick plan past t)) [] (allowed plan past (Tick t) h).kind).0
 
 -- of a Ready, and of a FeedEnd
-pub at_ready : (plan : PlanView) (past : List Event) (s : Obj) (n : ℕ) → why plan past (Ready s n) ≡ None → is_live plan past s.0 ≡ true
-at_ready plan past s n h = not-false (is_live plan past s.0) (first_none NotLive (not (is_live plan past s.0)) [] (allowed plan past (Ready s n) h).kind).0
+pub at_ready : (plan : PlanView) (past : List Event) (s : Obj) (n : ℕ) → why plan past (Ready s n) ≡ None → is_live_feed plan past s.0 ≡ true
+at_ready plan past s n h = not-false (is_live_feed plan past s.0) (first_none NotLive (not (is_live_feed plan past s.0)) [] (allowed plan past (Ready s n) h).kind).0
 
-pub at_feed_end : (plan : PlanView) (past : List Event) (s : Obj) → why plan past (FeedEnd s) ≡ None → is_live plan past s.0 ≡ true
-at_feed_end plan past s h = not-false (is_live plan past s.0) (first_none NotLive (not (is_live plan past s.0)) [] (allowed plan past (FeedEnd s) h).kind).0
+pub at_feed_end : (plan : PlanView) (past : List Event) (s : Obj) → why plan past (FeedEnd s) ≡ None → is_live_feed plan past s.0 ≡ true
+at_feed_end plan past s h = not-false (is_live_feed plan past s.0) (first_none NotLive (not (is_live_feed plan past s.0)) [] (allowed plan past (FeedEnd s) h).kind).0

@@ -11,7 +11,7 @@ use Rattle.gcd_plan.specs.declared.why.Why.TheVariants.{Busy, Unready, Behind, N
 use Rattle.gcd_event.specs.declared.event.Event.{Event}
 use Rattle.gcd_event.specs.declared.event.Event.TheVariants.{Start, Act as Acted, Wake, End, Deliver, DeliverEnd}
 use Rattle.gcd_history.specs.Runs.{starts, ends}
-use Rattle.gcd_history.specs.History.{why, IsLawful, is_submitted, is_started, submissions_of, is_open, nodes_of_run, node_of_run, is_barrier_of, is_free, reason_of, has_come, received_of, pending_of, merged_of, request_of, target_of, open_beneath_of, is_active, has_run, is_running, running_of}
+use Rattle.gcd_history.specs.History.{why, IsLawful, is_submitted, is_started, submitted_of, is_open, node_of, chain_of_run, node_of_run, is_barrier_on, is_free, reason_of, has_come, received_of, pending_of, merged_of, request_of, target_of, open_beneath_of, is_active, has_run, is_running, running_of}
 use Rattle.gcd_history.specs.Ends.{IsDrained}
 use Rattle.gcd_history.proofs.Samples.{words, o, b, run, handler, serial, concurrent, group, semaphore, source, block, plan_of, journal}
 use Rattle.gcd_history.proofs.SampleLaws.{words_of_history, plan_from, lawful_row, drained_row}
@@ -62,7 +62,7 @@ unfolding words
 order_lawful = lawful_row sync_apart (journal sync_apart) refl
 
 -- main; b1 and b2 on q; b3 on r
-order_submissions : submissions_of sync_apart (journal sync_apart)
+order_submissions : submitted_of sync_apart (journal sync_apart)
     ≡ record { blk = b 0; node = None; barrier = false }
     ∷ record { blk = b 2; node = Some (o 1); barrier = false }
     ∷ record { blk = b 3; node = Some (o 1); barrier = false }
@@ -102,7 +102,7 @@ exclusion_lawful = lawful_row beneath_and_beside two_open refl
 
 -- b1 is open beneath t, and b3 beside it on root
 exclusion_premise : (map (λ n. is_open two_open (run n)) (1 ∷ 2 ∷ 3 ∷ []) ≡ true ∷ false ∷ true ∷ [])
-    × (map (λ n. nodes_of_run beneath_and_beside two_open (run n)) (1 ∷ 2 ∷ 3 ∷ []) ≡ (2 ∷ 1 ∷ 0 ∷ []) ∷ (3 ∷ 1 ∷ 0 ∷ []) ∷ (0 ∷ []) ∷ [])
+    × (map (λ n. chain_of_run beneath_and_beside two_open (run n)) (1 ∷ 2 ∷ 3 ∷ []) ≡ (2 ∷ 1 ∷ 0 ∷ []) ∷ (3 ∷ 1 ∷ 0 ∷ []) ∷ (0 ∷ []) ∷ [])
 unfolding words words_of_history
 exclusion_premise = (refl, refl)
 
@@ -110,6 +110,13 @@ exclusion_premise = (refl, refl)
 exclusion_refused : why beneath_and_beside two_open (Start 2 (b 2)) ≡ Some Excluded
 unfolding words words_of_history
 exclusion_refused = refl
+
+-- the plan and the history are those of 2: b1 and b2 were submitted on q, and are open one after the other
+one_queue_premise : (map (node_of sync_apart (journal sync_apart)) (2 ∷ 3 ∷ []) ≡ Some (o 1) ∷ Some (o 1) ∷ [])
+    × (map (λ i. is_open (take i (journal sync_apart)) (run 2)) (5 ∷ 10 ∷ 11 ∷ []) ≡ true ∷ false ∷ false ∷ [])
+    × (map (λ i. is_open (take i (journal sync_apart)) (run 3)) (5 ∷ 10 ∷ 11 ∷ []) ≡ false ∷ false ∷ true ∷ [])
+unfolding words words_of_history
+one_queue_premise = (refl, refl, refl)
 
 -- ## 4 No run of a concurrent queue overlaps a barrier of it
 
@@ -133,7 +140,7 @@ barrier_lawful = lawful_row with_barrier barrier_open refl
 
 -- the barrier b2 is open on q, and beside it b4 on r
 barrier_premise : (map (λ n. is_open barrier_open (run n)) (2 ∷ 3 ∷ 4 ∷ []) ≡ true ∷ false ∷ true ∷ [])
-    × (map (λ n. is_barrier_of with_barrier barrier_open 1 (run n)) (2 ∷ 3 ∷ 4 ∷ []) ≡ true ∷ false ∷ false ∷ [])
+    × (map (λ n. is_barrier_on with_barrier barrier_open 1 (run n)) (2 ∷ 3 ∷ 4 ∷ []) ≡ true ∷ false ∷ false ∷ [])
     × (map (λ n. node_of_run with_barrier barrier_open (run n)) (2 ∷ 3 ∷ 4 ∷ []) ≡ Some 1 ∷ Some 1 ∷ Some 2 ∷ [])
 unfolding words words_of_history
 barrier_premise = (refl, refl, refl)
@@ -161,13 +168,13 @@ free_lawful = lawful_row far_above (journal far_above) refl
 
 -- event 7 is the Start of b1, and event 9 the Deliver of s, each with a chain of four free objects
 free_premise : (slice_get (journal far_above) 7 ≡ Some (Start 0 (b 1)))
-    × (nodes_of_run far_above (take 7 (journal far_above)) (run 1) ≡ 3 ∷ 2 ∷ 1 ∷ 0 ∷ [])
+    × (chain_of_run far_above (take 7 (journal far_above)) (run 1) ≡ 3 ∷ 2 ∷ 1 ∷ 0 ∷ [])
     × (map (is_free far_above (take 7 (journal far_above))) (3 ∷ 2 ∷ 1 ∷ 0 ∷ []) ≡ true ∷ true ∷ true ∷ true ∷ [])
 unfolding words words_of_history
 free_premise = (refl, refl, refl)
 
 free_at_the_deliver : (slice_get (journal far_above) 9 ≡ Some (Deliver 0 (o 4)))
-    × (nodes_of_run far_above (take 9 (journal far_above)) (handler 4) ≡ 4 ∷ 2 ∷ 1 ∷ 0 ∷ [])
+    × (chain_of_run far_above (take 9 (journal far_above)) (handler 4) ≡ 4 ∷ 2 ∷ 1 ∷ 0 ∷ [])
     × (map (is_free far_above (take 9 (journal far_above))) (4 ∷ 2 ∷ 1 ∷ 0 ∷ []) ≡ true ∷ true ∷ true ∷ true ∷ [])
 unfolding words words_of_history
 free_at_the_deliver = (refl, refl, refl)
@@ -266,7 +273,7 @@ tree_lawful = lawful_row moved (journal moved) refl
 tree_premise : (slice_get (journal moved) 8 ≡ Some (Acted 0 (run 1) 0))
     × (map (λ i. is_open (take i (journal moved)) (run 1)) (8 ∷ 9 ∷ []) ≡ true ∷ true ∷ [])
     × (map (λ i. request_of moved (take i (journal moved)) 2) (8 ∷ 9 ∷ []) ≡ None ∷ Some 1 ∷ [])
-    × (map (λ i. nodes_of_run moved (take i (journal moved)) (run 1)) (8 ∷ 9 ∷ []) ≡ (2 ∷ 0 ∷ []) ∷ (2 ∷ 0 ∷ []) ∷ [])
+    × (map (λ i. chain_of_run moved (take i (journal moved)) (run 1)) (8 ∷ 9 ∷ []) ≡ (2 ∷ 0 ∷ []) ∷ (2 ∷ 0 ∷ []) ∷ [])
     × (map (is_active moved (take 9 (journal moved))) (2 ∷ 0 ∷ []) ≡ true ∷ true ∷ [])
 unfolding words words_of_history
 tree_premise = (refl, refl, refl, refl, refl)
@@ -274,9 +281,22 @@ tree_premise = (refl, refl, refl, refl, refl)
 -- when it has ended q is on t, with nothing open beneath q; and b2 starts beneath t
 tree_moved : (map (λ i. target_of moved (take i (journal moved)) 2) (9 ∷ 10 ∷ 11 ∷ []) ≡ 0 ∷ 1 ∷ 1 ∷ [])
     × (map (λ i. open_beneath_of moved (take i (journal moved)) 2) (9 ∷ 10 ∷ 11 ∷ []) ≡ 1 ∷ 0 ∷ 1 ∷ [])
-    × (nodes_of_run moved (take 11 (journal moved)) (run 2) ≡ 2 ∷ 1 ∷ 0 ∷ [])
+    × (chain_of_run moved (take 11 (journal moved)) (run 2) ≡ 2 ∷ 1 ∷ 0 ∷ [])
 unfolding words words_of_history
 tree_moved = (refl, refl, refl)
+
+-- ## 9 A Deliver finds no run of its source open
+
+-- the plan and the history are those of 7: events 6 and 11 are the Delivers of s, whose handler is open between them
+delivers_premise : (map (slice_get delivered_twice) (6 ∷ 11 ∷ []) ≡ Some (Deliver 0 (o 1)) ∷ Some (Deliver 0 (o 1)) ∷ [])
+    × (map (λ i. is_open (take i delivered_twice) (handler 1)) (6 ∷ 7 ∷ 10 ∷ 11 ∷ []) ≡ false ∷ true ∷ true ∷ false ∷ [])
+unfolding words words_of_history
+delivers_premise = (refl, refl)
+
+-- while it is open no other worker delivers what b1 merged
+delivers_refused : why (merged_twice Add) (take 9 delivered_twice) (Deliver 2 (o 1)) ≡ Some Excluded
+unfolding words words_of_history
+delivers_refused = refl
 
 -- ## The facts beside the laws
 

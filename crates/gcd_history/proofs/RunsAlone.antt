@@ -19,9 +19,9 @@ use Rattle.gcd_event.specs.declared.event.Event.TheVariants.{Start, Deliver}
 use Rattle.gcd_history.specs.declared.submission.Submission.{Submission}
 use Rattle.gcd_history.specs.Runs.{opens, is_open}
 use Rattle.gcd_history.specs.Submitted.{submission_of}
-use Rattle.gcd_history.specs.Tree.{node_of, chain_of_run, is_open_on, is_open_beneath}
+use Rattle.gcd_history.specs.Tree.{node_of_run, chain_of_run, is_open_on, is_open_beneath}
 use Rattle.gcd_history.specs.Permitted.{IsLawful, why, is_on, is_barrier_on, is_barrier_open, is_fenced, node_reasons, waiting_reasons}
-use Rattle.gcd_history.proofs.Options.{some_kept}
+use Rattle.gcd_plan.proofs.Options.{some_from_is_some}
 use Rattle.gcd_history.proofs.RunsOpen.{same_run-true}
 use Rattle.gcd_history.proofs.Reasons.{at_start, waiting_facts}
 use Rattle.gcd_history.proofs.StartedOnce.{started_from_open, submitted_from_started, submission_of-kept}
@@ -69,7 +69,7 @@ runs_alone plan (e ∷ past) valid h o r q exclusive r_on q_on r_in q_in =
 -- a barrier of a node is so as long as its block is submitted
 barrier_kept : (plan : PlanView) (e : Event) (past : List Event) (n : ℕ) (b : Blk) → is_some (submission_of plan past b.0) ≡ true → is_barrier_on plan (e ∷ past) n (Block b) ≡ is_barrier_on plan past n (Block b)
 barrier_kept plan e past n b some =
-    let s = some_kept (submission_of plan past b.0) some in
+    let s = some_from_is_some (submission_of plan past b.0) some in
     ap (λ o. option_map_or (λ t. t.barrier && is_on n t) o false) (submission_of-kept plan e past b.0 s.0 s.1 ∙ sym s.1)
 
 barrier_kept_open : (plan : PlanView) (e : Event) (past : List Event) → IsLawful plan past → (n : ℕ) (r : Run) → is_open past r ≡ true → is_barrier_on plan (e ∷ past) n r ≡ is_barrier_on plan past n r
@@ -93,7 +93,7 @@ by_its_node plan past b n s is None h at = cc
 by_its_node plan past b n s is (Some q) h at =
     record { found = s; is = is; free = subst (λ m. is_fenced plan past s.barrier m ≡ false) (same_Some q.0 n at) (waiting_facts plan past s.blk.0 s.barrier q.0 h).fenced }
 
-unfenced : (plan : PlanView) (past : List Event) (w : ℕ) (b : Blk) (n : ℕ) → why plan past (Start w b) ≡ None → node_of plan past (Block b) ≡ Some n → Unfenced plan past b.0 n
+unfenced : (plan : PlanView) (past : List Event) (w : ℕ) (b : Blk) (n : ℕ) → why plan past (Start w b) ≡ None → node_of_run plan past (Block b) ≡ Some n → Unfenced plan past b.0 n
 unfenced plan past w b n h node =
     elim (submission_of plan past b.0) as (λ o. submission_of plan past b.0 ≡ o → first_of (node_reasons plan past o) ≡ None → option_map (λ k. k.0) (option_and_then (λ s. s.node) o) ≡ Some n → Unfenced plan past b.0 n) [
       | None ↦ λ is waits at. cc
@@ -143,13 +143,13 @@ node_on s n h =
     ] h
 
 -- a barrier that begins finds no run open on its node
-new_barrier : (plan : PlanView) (e : Event) (past : List Event) → IsLawful plan (e ∷ past) → (n : ℕ) (r q : Run) → has_barriers plan n ≡ true → opens e r ≡ true → is_barrier_on plan past n r ≡ true → is_open past q ≡ true → node_of plan past q ≡ Some n → ⊥
+new_barrier : (plan : PlanView) (e : Event) (past : List Event) → IsLawful plan (e ∷ past) → (n : ℕ) (r q : Run) → has_barriers plan n ≡ true → opens e r ≡ true → is_barrier_on plan past n r ≡ true → is_open past q ≡ true → node_of_run plan past q ≡ Some n → ⊥
 new_barrier plan (Start w c) past h n (Block b) q has now barrier live node =
     let same : c.0 ≡ b.0 = eqb-true c.0 b.0 now in
     let begun : why plan past (Start w b) ≡ None = subst (λ k. why plan past (Start w (record { 0 = k })) ≡ None) same h.1 in
-    let s = some_kept (submission_of plan past b.0) (at_start plan past w b begun).submitted_one in
+    let s = some_from_is_some (submission_of plan past b.0) (at_start plan past w b begun).submitted_one in
     let parts = barrier_of plan past n b s.0 s.1 barrier in
-    let its_node : node_of plan past (Block b) ≡ Some n = ap (λ o. option_map (λ k. k.0) (option_and_then (λ t. t.node) o)) s.1 ∙ node_on s.0 n parts.1 in
+    let its_node : node_of_run plan past (Block b) ≡ Some n = ap (λ o. option_map (λ k. k.0) (option_and_then (λ t. t.node) o)) s.1 ∙ node_on s.0 n parts.1 in
     let free = unfenced plan past w b n begun its_node in
     let it : free.found.barrier ≡ true = ap (λ t. t.barrier) (same_Some free.found s.0 (sym free.is ∙ s.1)) ∙ parts.0 in
     let fenced : is_fenced plan past true n ≡ false = subst (λ v. is_fenced plan past v n ≡ false) it free.free in
@@ -158,7 +158,7 @@ new_barrier plan e past h n (Source s) q has now barrier live node = both_ways f
 new_barrier plan e past h n (Block b) q has now barrier live node = both_ways false refl now
 
 -- a run that begins finds no barrier open on its node
-new_beside_barrier : (plan : PlanView) (e : Event) (past : List Event) → IsLawful plan (e ∷ past) → (n : ℕ) (r q : Run) → has_barriers plan n ≡ true → opens e q ≡ true → node_of plan past q ≡ Some n → is_open past r ≡ true → is_barrier_on plan past n r ≡ true → ⊥
+new_beside_barrier : (plan : PlanView) (e : Event) (past : List Event) → IsLawful plan (e ∷ past) → (n : ℕ) (r q : Run) → has_barriers plan n ≡ true → opens e q ≡ true → node_of_run plan past q ≡ Some n → is_open past r ≡ true → is_barrier_on plan past n r ≡ true → ⊥
 new_beside_barrier plan (Start w c) past h n r (Block b) has now node live barrier =
     let same : c.0 ≡ b.0 = eqb-true c.0 b.0 now in
     let begun : why plan past (Start w b) ≡ None = subst (λ k. why plan past (Start w (record { 0 = k })) ≡ None) same h.1 in
@@ -170,7 +170,7 @@ new_beside_barrier plan e past h n r (Block b) has now node live barrier = both_
 
 -- a barrier of a node and a run on it that are open at one moment are one
 pub barriers_alone : (plan : PlanView) (past : List Event) → IsLawful plan past → (n : ℕ) (r q : Run) → has_barriers plan n ≡ true → is_open past r ≡ true → is_open past q ≡ true →
-    is_barrier_on plan past n r ≡ true → node_of plan past q ≡ Some n → r ≡ q
+    is_barrier_on plan past n r ≡ true → node_of_run plan past q ≡ Some n → r ≡ q
 barriers_alone plan [] h n r q has r_on q_on barrier node = cc
 barriers_alone plan (e ∷ past) h n r q has r_on q_on barrier node =
     ⊎_elim

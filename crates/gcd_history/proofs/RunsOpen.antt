@@ -8,7 +8,8 @@ use Rattle.gcd_plan.specs.declared.numbers.Run.TheVariants.{Block, Source}
 use Rattle.gcd_event.specs.declared.event.Event.{Event}
 use Rattle.gcd_event.specs.declared.event.Event.TheVariants.{Start, Act as Acted, Wake, End, Deliver, DeliverEnd, Tick, Ready, FeedEnd, Misuse, Halt}
 use Rattle.gcd_history.specs.Runs.{same_run, opens, open_runs, is_open}
-use Rattle.gcd_history.proofs.Lists.{list_any-filter, list_any_same, none_passes}
+use Rattle.gcd_history.proofs.Lists.{list_any-filter, none_passes}
+use Rattle.gcd_plan.proofs.Quantifiers.{list_any_agree}
 
 -- runs that pass the test are one
 pub same_run-true : (r q : Run) → same_run r q ≡ true → r ≡ q
@@ -72,8 +73,8 @@ taken : (runs : List Run) (gone run : Run) → list_any (same_run run) (filter (
 taken runs gone run =
     list_any-filter (same_run run) (λ r. not (same_run gone r)) runs
     ∙ elim (same_run gone run) as (λ v. same_run gone run ≡ v → list_any (λ r. not (same_run gone r) && same_run run r) runs ≡ (not v && list_any (same_run run) runs)) [
-      | true ↦ λ e. list_any_same (λ r. not (same_run gone r) && same_run run r) (λ r. false) runs (λ r. other_than_itself gone run r (same_run-true gone run e)) ∙ none_passes runs
-      | false ↦ λ e. list_any_same (λ r. not (same_run gone r) && same_run run r) (same_run run) runs (λ r. still_one gone run r e)
+      | true ↦ λ e. list_any_agree (λ r. not (same_run gone r) && same_run run r) (λ r. false) runs (λ r. other_than_itself gone run r (same_run-true gone run e)) ∙ none_passes runs
+      | false ↦ λ e. list_any_agree (λ r. not (same_run gone r) && same_run run r) (same_run run) runs (λ r. still_one gone run r e)
     ] refl
 
 -- open: begun now, or open before and not ended now

@@ -7,6 +7,7 @@ use Rattle.std.specs.Str.{bytes_eq}
 use Rattle.std.proofs.lemmas.Bool.{and_parts, leb-true, eqb-true, eq-eqb, not-true}
 use Rattle.std.proofs.lemmas.List.{reverse-append, reverse-reverse}
 use Rattle.std.proofs.lemmas.Slice.Eq.{bytes_eq-Decides}
+use Rattle.gcd_plan.specs.Limits.{max_objects, max_blocks, max_files, max_acts, max_time}
 use Rattle.gcd_plan.specs.PlanView.{PlanView}
 use Rattle.gcd_plan.specs.Kinds.{is_read_kind}
 use Rattle.gcd_plan.specs.Names.{is_name}
@@ -16,11 +17,11 @@ use Rattle.gcd_plan.proofs.Apart.{stand_once, apart_from_once}
 use Rattle.gcd_event.specs.declared.event.Event.{Event}
 use Rattle.gcd_history.specs.Holds.{is_active as is_active_after}
 use Rattle.gcd_history.specs.Submitted.{is_cancelled}
-use Rattle.gcd_history.specs.Sources.{is_live}
+use Rattle.gcd_history.specs.Sources.{is_live_feed}
 use Rattle.gcd_history.specs.Permitted.{why as why_after}
-use Rattle.gcd_history.specs.History.{why, IsLawful, is_open, is_running, is_free, nodes_of_run, node_of_run, is_barrier_of, has_come, submissions_of, node_of, target_of, request_of, chain_of, open_beneath_of, is_active, hold_of, merged_of, running_of, choice_of, next_due_of, is_live_feed, has_run, group_wait_passes, semaphore_wait_passes}
+use Rattle.gcd_history.specs.History.{why, IsLawful, is_open, is_running, is_free, chain_of_run, node_of_run, is_barrier_on, has_come, submitted_of, node_of, target_of, request_of, chain_of, open_beneath_of, is_active, hold_of, merged_of, running_of, choice_of, next_due_of, is_live_feed as outer_feed, has_run, group_wait_passes, semaphore_wait_passes}
 use Rattle.gcd_history.specs.Ends.{IsDrained, is_halted, all_ended}
-use Rattle.gcd_history.proofs.Lists.{list_all_place}
+use Rattle.gcd_plan.proofs.Quantifiers.{list_all_get}
 use Rattle.gcd_history.proofs.LawfulLemmas.{lawful_none, lawful_more}
 use Rattle.gcd_history.proofs.PublicLaws.{rest_is_quiescent}
 use Rattle.gcd_history.proofs.Samples.{refused, refused_after}
@@ -39,8 +40,8 @@ range_passes p a (suc n) (suc k) all h =
 -- the plan is valid, as a test
 abbrev pub is_plan : PlanView → Bool
 is_plan plan =
-    (leb (length plan.objects) 1024 && (leb (length plan.blocks) 16385 && (leb (length plan.files) 64 && leb (act_count plan) 65535)))
-    && ((leb 1 plan.until && leb plan.until 86400000)
+    (leb (length plan.objects) max_objects && (leb (length plan.blocks) max_blocks && (leb (length plan.files) max_files && leb (act_count plan) max_acts)))
+    && ((leb 1 plan.until && leb plan.until max_time)
     && ((list_all is_name (names_of plan) && stand_once bytes_eq (λ n. n) (names_of plan))
     && ((list_all (is_object plan) plan.objects && (list_all (is_block plan) plan.blocks && list_all is_file plan.files))
     && (stand_once (λ n c. c.0 == n) (λ c. c.0) (submitted_blocks plan) && list_all (reaches_root plan) (range_with_len 0 (length plan.objects))))))
@@ -48,11 +49,11 @@ is_plan plan =
 pub plan_from : (plan : PlanView) → slice_get plan.objects 0 ≡ Some root_view → option_map (λ b. b.name) (slice_get plan.blocks 0) ≡ Some (codes "main") → option_map_or (λ b. is_none b.work) (slice_get plan.blocks 0) false ≡ true → is_plan plan ≡ true → IsPlan plan
 plan_from plan root main idle test =
     let limits = and_parts _ _ test in
-    let few_objects = and_parts (leb (length plan.objects) 1024) _ limits.0 in
-    let few_blocks = and_parts (leb (length plan.blocks) 16385) _ few_objects.1 in
-    let few_rest = and_parts (leb (length plan.files) 64) (leb (act_count plan) 65535) few_blocks.1 in
-    let until = and_parts (leb 1 plan.until && leb plan.until 86400000) _ limits.1 in
-    let until_parts = and_parts (leb 1 plan.until) (leb plan.until 86400000) until.0 in
+    let few_objects = and_parts (leb (length plan.objects) max_objects) _ limits.0 in
+    let few_blocks = and_parts (leb (length plan.blocks) max_blocks) _ few_objects.1 in
+    let few_rest = and_parts (leb (length plan.files) max_files) (leb (act_count plan) max_acts) few_blocks.1 in
+    let until = and_parts (leb 1 plan.until && leb plan.until max_time) _ limits.1 in
+    let until_parts = and_parts (leb 1 plan.until) (leb plan.until max_time) until.0 in
     let names = and_parts (list_all is_name (names_of plan) && stand_once bytes_eq (λ n. n) (names_of plan)) _ until.1 in
     let name_parts = and_parts (list_all is_name (names_of plan)) (stand_once bytes_eq (λ n. n) (names_of plan)) names.0 in
     let kinds = and_parts (list_all (is_object plan) plan.objects && (list_all (is_block plan) plan.blocks && list_all is_file plan.files)) _ names.1 in
@@ -63,12 +64,12 @@ plan_from plan root main idle test =
       root = root;
       main = main;
       main_idle = idle;
-      few_objects = leb-true (length plan.objects) 1024 few_objects.0;
-      few_blocks = leb-true (length plan.blocks) 16385 few_blocks.0;
-      few_files = leb-true (length plan.files) 64 few_rest.0;
-      few_acts = leb-true (act_count plan) 65535 few_rest.1;
+      few_objects = leb-true (length plan.objects) max_objects few_objects.0;
+      few_blocks = leb-true (length plan.blocks) max_blocks few_blocks.0;
+      few_files = leb-true (length plan.files) max_files few_rest.0;
+      few_acts = leb-true (act_count plan) max_acts few_rest.1;
       until_low = leb-true 1 plan.until until_parts.0;
-      until_high = leb-true plan.until 86400000 until_parts.1;
+      until_high = leb-true plan.until max_time until_parts.1;
       names = name_parts.0;
       names_apart = apart_from_once bytes_eq (λ n. n) (names_of plan) (λ k n e. (bytes_eq-Decides k n).0 e) (λ n. (bytes_eq-Decides n n).1 refl) name_parts.1;
       objects = objects.0;
@@ -101,16 +102,16 @@ lawful_row plan h none = lawful_on plan [] h (lawful_none plan) none
 
 -- opens the words of a history that rows speak of
 unfoldable pub words_of_history : Unit {0}
-unfolding is_open is_running is_free nodes_of_run node_of_run is_barrier_of has_come submissions_of node_of target_of request_of chain_of open_beneath_of is_active hold_of merged_of running_of choice_of next_due_of is_live_feed all_ended is_halted has_run why group_wait_passes semaphore_wait_passes
+unfolding is_open is_running is_free chain_of_run node_of_run is_barrier_on has_come submitted_of node_of target_of request_of chain_of open_beneath_of is_active hold_of merged_of running_of choice_of next_due_of outer_feed all_ended is_halted has_run why group_wait_passes semaphore_wait_passes
 words_of_history = tt
 
 -- a plan without read sources has no live feed
-no_feed : (plan : PlanView) (h : List Event) → list_all (λ obj. not (is_read_kind obj.kind)) plan.objects ≡ true → (s : ℕ) → is_live_feed plan h s ≡ false
-unfolding is_live_feed is_live
+no_feed : (plan : PlanView) (h : List Event) → list_all (λ obj. not (is_read_kind obj.kind)) plan.objects ≡ true → (s : ℕ) → outer_feed plan h s ≡ false
+unfolding outer_feed is_live_feed
 no_feed plan h none s =
     elim (slice_get plan.objects s) as (λ k. slice_get plan.objects s ≡ k → (option_map_or is_read_kind (option_map (λ obj. obj.kind) k) false && (is_active_after plan (reverse h) s && not (is_cancelled plan (reverse h) s))) ≡ false) [
       | None ↦ λ at. refl
-      | Some obj ↦ λ at. ap (λ v. v && (is_active_after plan (reverse h) s && not (is_cancelled plan (reverse h) s))) (not-true (is_read_kind obj.kind) (list_all_place (λ k. not (is_read_kind k.kind)) plan.objects s obj none at))
+      | Some obj ↦ λ at. ap (λ v. v && (is_active_after plan (reverse h) s && not (is_cancelled plan (reverse h) s))) (not-true (is_read_kind obj.kind) (list_all_get (λ k. not (is_read_kind k.kind)) plan.objects s obj none at))
     ] refl
 
 -- where nothing goes on in a valid plan's lawful history, and each submitted block has ended, it is drained

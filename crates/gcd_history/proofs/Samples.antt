@@ -2,6 +2,7 @@
 use Rattle.std.specs.Prelude.{ℕ, zero, suc, ◌==◌, ◌&&◌, not, true, false, if◌then◌else◌, List, [], ◌∷◌, ◌++◌, length, map, reverse, Option, Some, None, codes, is_none}
 use Rattle.std.specs.List.{list_any, range_with_len}
 use Rattle.std.specs.Fmt.{digits}
+use Rattle.gcd_plan.specs.Limits.{max_file_bytes}
 use Rattle.gcd_plan.specs.PlanView.{PlanView, ObjView, BlkView}
 use Rattle.gcd_plan.specs.Validity.{root_view}
 use Rattle.gcd_plan.specs.declared.act.Act.{Act}
@@ -19,18 +20,18 @@ use Rattle.gcd_history.specs.declared.state.State.TheVariants.{Drained, Stuck, M
 use Rattle.gcd_history.specs.Holds.{is_free}
 use Rattle.gcd_history.specs.Parked.{reason, is_parked, has_run, is_busy, has_come, may_wake}
 use Rattle.gcd_history.specs.Timers.{next_due, may_tick}
-use Rattle.gcd_history.specs.Sources.{is_pending, is_live}
+use Rattle.gcd_history.specs.Sources.{is_pending, is_live_feed}
 use Rattle.gcd_history.specs.Misuses.{misuse}
 use Rattle.gcd_history.specs.Permitted.{why, permitted, is_ready, is_behind, knowledge, is_barrier_open, is_fenced, has_act_left, is_next, misuse_at, ends_in_misuse, ends_in_halt}
 use Rattle.gcd_history.specs.Choice.{choice, all_ended}
-use Rattle.gcd_history.specs.History.{is_submitted, is_started, is_ended, reason_of, received_of, deliveries_of, pending_of}
+use Rattle.gcd_history.specs.History.{is_submitted, is_started, is_ended, reason_of, received_of, delivery_count_of, pending_of}
 use Rattle.gcd_history.specs.Values.{value_of}
 use Rattle.gcd_history.specs.Report.{report_by, report_text}
 use Rattle.gcd_history.specs.JournalText.{journal_text}
 
 -- opens every word that stays shut elsewhere
 unfoldable pub words : Unit {0}
-unfolding is_free reason is_parked has_run is_busy has_come may_wake next_due may_tick is_pending is_live misuse is_ready is_behind knowledge is_barrier_open is_fenced has_act_left is_next misuse_at is_submitted is_started is_ended reason_of received_of deliveries_of pending_of value_of report_by journal_text digits
+unfolding is_free reason is_parked has_run is_busy has_come may_wake next_due may_tick is_pending is_live_feed misuse is_ready is_behind knowledge is_barrier_open is_fenced has_act_left is_next misuse_at is_submitted is_started is_ended reason_of received_of delivery_count_of pending_of value_of report_by journal_text digits
 words = tt
 
 -- ## Plans
@@ -79,7 +80,7 @@ block name acts = record { name = name; acts = acts; work = None }
 -- a block that counts the whole of a file
 abbrev pub counting : List ℕ → How → (file : ℕ) → BlkView
 counting name how file =
-    record { name = name; acts = []; work = Some (record { how = how; file = file; start = 0; len = 16777216 }) }
+    record { name = name; acts = []; work = Some (record { how = how; file = file; start = 0; len = max_file_bytes }) }
 
 -- a plan of these objects after root, with the acts of main and these blocks after it
 abbrev pub plan_of : List ObjView → List Act → List BlkView → PlanView
@@ -118,7 +119,7 @@ abbrev pub state_after : PlanView → List Event → State
 state_after plan past =
     if ends_in_misuse past then Misused
     else if ends_in_halt past then Halted
-    else if is_none (choice plan past 0 0) && (is_none (next_due plan past) && not (list_any (is_live plan past) (range_with_len 0 (length plan.objects))))
+    else if is_none (choice plan past 0 0) && (is_none (next_due plan past) && not (list_any (is_live_feed plan past) (range_with_len 0 (length plan.objects))))
     then (if all_ended plan past then Drained else Stuck)
     else Live
 

@@ -11,11 +11,11 @@ use Rattle.gcd_event.specs.declared.event.Event.{Event}
 use Rattle.gcd_event.specs.declared.event.Event.TheVariants.{Start, End, Deliver, DeliverEnd}
 use Rattle.gcd_history.specs.declared.submission.Submission.{Submission}
 use Rattle.gcd_history.specs.Runs.{opens, is_open, starts, is_started, ends, is_ended}
-use Rattle.gcd_history.specs.Submitted.{submitted, submissions, submission_of}
+use Rattle.gcd_history.specs.Submitted.{submitted, new_submissions, submission_of}
 use Rattle.gcd_history.specs.Parked.{has_run}
 use Rattle.gcd_history.specs.Permitted.{why, IsLawful}
 use Rattle.gcd_history.proofs.Lists.{count_more}
-use Rattle.gcd_history.proofs.Options.{some_kept}
+use Rattle.gcd_plan.proofs.Options.{some_from_is_some}
 use Rattle.gcd_history.proofs.RunsOpen.{closes, is_open-step}
 use Rattle.gcd_history.proofs.Reasons.{at_start, at_end}
 
@@ -50,8 +50,8 @@ open_from_has_run plan past w r h = (and_parts (is_open past r) _ h).0
 -- what was submitted stays so
 pub submission_of-kept : (plan : PlanView) (e : Event) (past : List Event) (b : ℕ) (s : Submission) → submission_of plan past b ≡ Some s → submission_of plan (e ∷ past) b ≡ Some s
 submission_of-kept plan e past b s h =
-    find-append (λ t. t.blk.0 == b) (submitted plan past) (submissions plan past e)
-    ∙ ap (λ o. option_or o (find (λ t. t.blk.0 == b) (submissions plan past e))) h
+    find-append (λ t. t.blk.0 == b) (submitted plan past) (new_submissions plan past e)
+    ∙ ap (λ o. option_or o (find (λ t. t.blk.0 == b) (new_submissions plan past e))) h
 
 -- the event that starts the block finds it submitted, and not started
 pub at_its_start : (plan : PlanView) (past : List Event) (b : ℕ) (e : Event) → why plan past e ≡ None → starts b e ≡ true → (is_some (submission_of plan past b) ≡ true) × (is_started past b ≡ false)
@@ -66,7 +66,7 @@ pub submitted_from_started : (plan : PlanView) (past : List Event) → IsLawful 
 submitted_from_started plan [] h b started = cc
 submitted_from_started plan (e ∷ past) h b started =
     let before : is_some (submission_of plan past b) ≡ true = ⊎_elim (λ now. (at_its_start plan past b e h.1 now).0) (submitted_from_started plan past h.0 b) (or_cases (starts b e) (is_started past b) started) in
-    let s = some_kept (submission_of plan past b) before in
+    let s = some_from_is_some (submission_of plan past b) before in
     ap is_some (submission_of-kept plan e past b s.0 s.1)
 
 -- a block starts at most once

@@ -20,8 +20,8 @@ use Rattle.gcd_event.specs.declared.event.Event.TheVariants.{Act as Acted}
 use Rattle.gcd_history.specs.declared.submission.Submission.{Submission}
 use Rattle.gcd_history.specs.Runs.{act_at, act_of}
 use Rattle.gcd_history.specs.Groups.{count}
-use Rattle.gcd_history.specs.Submitted.{on_node, submitted_by, cancels, is_cancelled, at_cancel, registered, notify_blocks, at_empty, submissions, submitted}
-use Rattle.gcd_history.proofs.Lists.{list_all_place}
+use Rattle.gcd_history.specs.Submitted.{on_node, submitted_by, cancels, is_cancelled, at_cancel, registered, notify_blocks, at_empty, new_submissions, submitted}
+use Rattle.gcd_plan.proofs.Quantifiers.{list_all_get}
 use Rattle.gcd_history.proofs.SubmittedOnce.{handler_act, object_fields}
 
 -- ## Queues and sources
@@ -58,8 +58,8 @@ block_act plan b i act valid at =
     elim (slice_get plan.blocks b.0) as (λ o. slice_get plan.blocks b.0 ≡ o → slice_get (option_map_or (λ blk. blk.acts) o []) i ≡ Some act → is_act plan act ≡ true) [
       | None ↦ λ none k. cc
       | Some blk ↦ λ some k.
-          let fine = (and_parts (option_map_or (is_work plan) blk.work true) (list_all (is_act plan) blk.acts) (list_all_place (is_block plan) plan.blocks b.0 blk valid.blocks some)).1 in
-          list_all_place (is_act plan) blk.acts i act fine k
+          let fine = (and_parts (option_map_or (is_work plan) blk.work true) (list_all (is_act plan) blk.acts) (list_all_get (is_block plan) plan.blocks b.0 blk valid.blocks some)).1 in
+          list_all_get (is_act plan) blk.acts i act fine k
     ] refl at
 
 pub act_fits : (plan : PlanView) (run : Run) (i : ℕ) (act : Act) → IsPlan plan → act_at plan run i ≡ Some act → is_act plan act ≡ true
@@ -160,7 +160,7 @@ submitted_fit plan [] valid = refl
 submitted_fit plan (e ∷ past) valid =
     let fired = flat_map (at_empty plan past e) (range_with_len 0 (length plan.objects)) in
     let own = of_recorded (λ o. list_all (on_a_node plan) (submitted_by o)) plan e valid refl (own_fit plan) in
-    both_fit plan (submitted plan past) (submissions plan past e) (submitted_fit plan past valid)
+    both_fit plan (submitted plan past) (new_submissions plan past e) (submitted_fit plan past valid)
     (both_fit plan (submitted_by (act_of plan e) ++ at_cancel plan past (cancels plan e)) fired
     (both_fit plan (submitted_by (act_of plan e)) (at_cancel plan past (cancels plan e)) own (cancel_fit plan past (cancels plan e) valid))
     (all_fired_fit plan past e (range_with_len 0 (length plan.objects)) valid))

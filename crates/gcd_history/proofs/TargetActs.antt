@@ -14,11 +14,11 @@ use Rattle.gcd_plan.specs.declared.numbers.Run.{Run}
 use Rattle.gcd_event.specs.declared.event.Event.{Event}
 use Rattle.gcd_event.specs.declared.event.Event.TheVariants.{Act as Acted}
 use Rattle.gcd_history.specs.Runs.{act_at, act_of, is_open}
-use Rattle.gcd_history.specs.Tree.{Aim, aim, aim_after, asked, target, is_moving, next_on_walk, node_of, chain, chain_of_run, is_open_on, would_cycle, aims_at, has_child}
+use Rattle.gcd_history.specs.Tree.{Aim, aim, aim_after, asked, target, is_moving, next_on_walk, node_of_run, chain, chain_of_run, is_open_on, would_cycle, aims_at, has_child}
 use Rattle.gcd_history.specs.Holds.{is_active}
 use Rattle.gcd_history.specs.Misuses.{first_code, is_released, named, misuse}
 use Rattle.gcd_history.specs.Permitted.{IsLawful, misuse_at}
-use Rattle.gcd_history.proofs.Lists.{any_in_range}
+use Rattle.gcd_plan.proofs.Quantifiers.{list_any_in_range}
 use Rattle.gcd_history.proofs.RunsOpen.{closes}
 use Rattle.gcd_history.proofs.Reasons.{at_act}
 use Rattle.gcd_history.proofs.Woken.{open_kept}
@@ -81,29 +81,29 @@ child_found plan past p o low other node at =
     let aims : aims_at plan past p o ≡ true = or_left (target plan past p == o) _ (eq-eqb (target plan past p) o at) in
     let one : not (p == 0) ≡ true = ap not (ne_eqb p 0 low) in
     let two : not (p == o) ≡ true = ap not (ne_eqb p o other) in
-    any_in_range (λ q. not (q == 0) && (is_node plan q && (not (q == o) && aims_at plan past q o))) (length plan.objects) p (has_object is_node_kind plan p node)
+    list_any_in_range (λ q. not (q == 0) && (is_node plan q && (not (q == o) && aims_at plan past q o))) (length plan.objects) p (has_object is_node_kind plan p node)
     (and_from (not (p == 0)) _ one (and_from (is_node plan p) _ node (and_from (not (p == o)) (aims_at plan past p o) two aims)))
 
 -- the nodes of a run whose node is n are the chain of n
-pub nodes_at : (plan : PlanView) (past : List Event) (q : Run) (n : ℕ) → node_of plan past q ≡ Some n → chain_of_run plan past q ≡ chain plan past n
+pub nodes_at : (plan : PlanView) (past : List Event) (q : Run) (n : ℕ) → node_of_run plan past q ≡ Some n → chain_of_run plan past q ≡ chain plan past n
 nodes_at plan past q n node = ap (λ o. option_map_or (chain plan past) o []) node
 
 -- a run that is beneath o has a node
-pub node_beneath : (plan : PlanView) (past : List Event) (q : Run) (o : ℕ) → is_in o (chain_of_run plan past q) ≡ true → (n : ℕ) × (node_of plan past q ≡ Some n) × (is_in o (chain plan past n) ≡ true)
+pub node_beneath : (plan : PlanView) (past : List Event) (q : Run) (o : ℕ) → is_in o (chain_of_run plan past q) ≡ true → (n : ℕ) × (node_of_run plan past q ≡ Some n) × (is_in o (chain plan past n) ≡ true)
 node_beneath plan past q o inside =
-    elim (node_of plan past q) as (λ k. node_of plan past q ≡ k → is_in o (option_map_or (chain plan past) k []) ≡ true → (n : ℕ) × (node_of plan past q ≡ Some n) × (is_in o (chain plan past n) ≡ true)) [
+    elim (node_of_run plan past q) as (λ k. node_of_run plan past q ≡ k → is_in o (option_map_or (chain plan past) k []) ≡ true → (n : ℕ) × (node_of_run plan past q ≡ Some n) × (is_in o (chain plan past n) ≡ true)) [
       | None ↦ λ none h. cc
       | Some n ↦ λ some h. (n, some, h)
     ] refl inside
 
 -- a run that is beneath a childless object is on it
 pub on_it : (plan : PlanView) (past : List Event) (q : Run) (o : ℕ) → IsPlan plan → IsLawful plan past → ((m : ℕ) → is_queue plan (target plan past m) ≡ true) →
-    is_open past q ≡ true → is_in o (chain_of_run plan past q) ≡ true → has_child plan past o ≡ false → node_of plan past q ≡ Some o
+    is_open past q ≡ true → is_in o (chain_of_run plan past q) ≡ true → has_child plan past o ≡ false → node_of_run plan past q ≡ Some o
 on_it plan past q o valid h queues live inside none =
     let at = node_beneath plan past q o inside in
     let node : is_node plan at.0 ≡ true = open_node plan past q at.0 valid h live at.1 in
     ⊎_elim
-    (λ same. subst (λ m. node_of plan past q ≡ Some m) same at.1)
+    (λ same. subst (λ m. node_of_run plan past q ≡ Some m) same at.1)
     (λ other.
     let c = child_in (target plan past) (length plan.objects) at.0 o at.2 other in
     let child_node : is_node plan c.child ≡ true = all_in (is_node plan) (target plan past) (length plan.objects) at.0 c.child node (λ m. queue_is_node plan (target plan past m) (queues m)) c.inside in
@@ -113,7 +113,7 @@ on_it plan past q o valid h queues live inside none =
 -- ## What an event leaves
 
 -- a run on o that the event does not end keeps o open
-pub still_open : (plan : PlanView) (e : Event) (past : List Event) (o : ℕ) → IsLawful plan past → ((q : Run) → is_open past q ≡ true → node_of plan past q ≡ Some o → closes e q ≡ false) → is_open_on plan past o ≡ true → is_open_on plan (e ∷ past) o ≡ true
+pub still_open : (plan : PlanView) (e : Event) (past : List Event) (o : ℕ) → IsLawful plan past → ((q : Run) → is_open past q ≡ true → node_of_run plan past q ≡ Some o → closes e q ≡ false) → is_open_on plan past o ≡ true → is_open_on plan (e ∷ past) o ≡ true
 still_open plan e past o h on was =
     let q = open_on_to plan past o was in
     open_on_from plan (e ∷ past) q.0 o (open_kept e past q.0 q.1 (on q.0 q.1 q.2)) (node_kept_open plan e past h q.0 q.1 ∙ q.2)

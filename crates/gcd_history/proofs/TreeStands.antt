@@ -18,14 +18,15 @@ use Rattle.gcd_plan.specs.declared.numbers.Run.TheVariants.{Block, Source}
 use Rattle.gcd_event.specs.declared.event.Event.{Event}
 use Rattle.gcd_event.specs.declared.event.Event.TheVariants.{Start, Act as Acted, End, Deliver, DeliverEnd}
 use Rattle.gcd_history.specs.Runs.{same_run, opens, act_of, is_open}
-use Rattle.gcd_history.specs.Tree.{Aim, aim, aim_after, asked, settled, target, is_moving, next_on_walk, node_of, chain, chain_of_run, is_open_on}
+use Rattle.gcd_history.specs.Tree.{Aim, aim, aim_after, asked, settled, target, is_moving, next_on_walk, node_of_run, chain, chain_of_run, is_open_on}
 use Rattle.gcd_history.specs.Holds.{is_active, is_free, hold}
 use Rattle.gcd_history.specs.Permitted.{IsLawful}
 use Rattle.gcd_history.proofs.RunsOpen.{closes, same_run-true}
 use Rattle.gcd_history.proofs.Fitting.{has_object}
 use Rattle.gcd_history.proofs.FreeAtStart.{BeginsAlone, start_begins_alone, deliver_begins_alone}
 use Rattle.gcd_history.proofs.SubmittedOnce.{object_fields}
-use Rattle.gcd_history.proofs.Walks.{reaches, reaches-in, reaches_agree, Rerouted, rerouted_reaches, no_way_back, same_or_leaves, chain_agree}
+use Rattle.gcd_plan.proofs.Walks.{chain_agree}
+use Rattle.gcd_history.proofs.Walks.{reaches, reaches-in, reaches_agree, Rerouted, rerouted_reaches, no_way_back, same_or_leaves}
 use Rattle.gcd_history.proofs.SubmittedOnNodes.{recorded_fits}
 use Rattle.gcd_history.proofs.OpenNodes.{open_cases, open_on_from, open_on_to, node_kept_open, node_kept_begun, open_node}
 use Rattle.gcd_history.proofs.TargetActs.{TargetFacts, at_target, no_child, nodes_at, on_it, still_open, aim_unasked, walk_unasked}
@@ -36,7 +37,7 @@ pub record Standing (plan : PlanView) (past : List Event) : Type 0 where
   pub requests : (o t : ℕ) → (aim plan past o).request ≡ Some t → is_queue plan t ≡ true
   pub unmoved_root : (aim plan past 0).request ≡ None
   pub moving_open : (o : ℕ) → is_moving plan past o ≡ true → is_open_on plan past o ≡ true
-  pub moving_alone : (o : ℕ) (q : Run) → is_moving plan past o ≡ true → is_open past q ≡ true → is_in o (chain_of_run plan past q) ≡ true → node_of plan past q ≡ Some o
+  pub moving_alone : (o : ℕ) (q : Run) → is_moving plan past o ≡ true → is_open past q ≡ true → is_in o (chain_of_run plan past q) ≡ true → node_of_run plan past q ≡ Some o
   pub active : (o : ℕ) (q : Run) → is_open past q ≡ true → is_in o (chain_of_run plan past q) ≡ true → is_active plan past o ≡ true
   pub rooted : (n : ℕ) → n < length plan.objects → reaches (target plan past) (length plan.objects - 1) n ≡ true
   pub walks_rooted : (n : ℕ) → n < length plan.objects → reaches (next_on_walk plan past) (length plan.objects - 1) n ≡ true
@@ -217,7 +218,7 @@ after_target_why P None true false a old new waiting =
 after_target_why P None false now a old new waiting = old
 
 -- a run beneath an object that a target act names is on it
-on_asked : (plan : PlanView) (e : Event) (past : List Event) → Step plan e past → (q : Run) (o t : ℕ) → asked o (act_of plan e) ≡ Some t → is_open past q ≡ true → is_in o (chain_of_run plan past q) ≡ true → node_of plan past q ≡ Some o
+on_asked : (plan : PlanView) (e : Event) (past : List Event) → Step plan e past → (q : Run) (o t : ℕ) → asked o (act_of plan e) ≡ Some t → is_open past q ≡ true → is_in o (chain_of_run plan past q) ≡ true → node_of_run plan past q ≡ Some o
 on_asked plan e past step q o t k live inside =
     let none = no_child plan past o t (asks plan e past o t step.0 step.1 k).facts (step.2.active o q live inside) in
     on_it plan past q o step.0 step.1.0 step.2.queues live inside none
@@ -234,10 +235,10 @@ kept_at plan e past step q o live on inside =
     absurd (both_ways (is_open_on plan (e ∷ past) o) shut now))
 
 -- chains of runs whose node stays, and whose chain's targets stay
-nodes_agree : (plan : PlanView) (e : Event) (past : List Event) (q : Run) → node_of plan (e ∷ past) q ≡ node_of plan past q → ((o : ℕ) → is_in o (chain_of_run plan past q) ≡ true → target plan (e ∷ past) o ≡ target plan past o) → chain_of_run plan (e ∷ past) q ≡ chain_of_run plan past q
+nodes_agree : (plan : PlanView) (e : Event) (past : List Event) (q : Run) → node_of_run plan (e ∷ past) q ≡ node_of_run plan past q → ((o : ℕ) → is_in o (chain_of_run plan past q) ≡ true → target plan (e ∷ past) o ≡ target plan past o) → chain_of_run plan (e ∷ past) q ≡ chain_of_run plan past q
 nodes_agree plan e past q node same =
     ap (λ k. option_map_or (chain plan (e ∷ past)) k []) node
-    ∙ elim (node_of plan past q) as (λ k. node_of plan past q ≡ k → option_map_or (chain plan (e ∷ past)) k [] ≡ option_map_or (chain plan past) k []) [
+    ∙ elim (node_of_run plan past q) as (λ k. node_of_run plan past q ≡ k → option_map_or (chain plan (e ∷ past)) k [] ≡ option_map_or (chain plan past) k []) [
       | None ↦ λ none. refl
       | Some n ↦ λ at. chain_agree (target plan past) (target plan (e ∷ past)) (length plan.objects) n
           (λ o inside. same o (subst (λ l. is_in o l ≡ true) (sym (nodes_at plan past q n at)) inside))
@@ -284,7 +285,7 @@ active_step plan e past step o q on inside =
     step.2.active o q live there)
     (open_cases e past q on))
 
-alone_step : (plan : PlanView) (e : Event) (past : List Event) → Step plan e past → (o : ℕ) (q : Run) → is_moving plan (e ∷ past) o ≡ true → is_open (e ∷ past) q ≡ true → is_in o (chain_of_run plan (e ∷ past) q) ≡ true → node_of plan (e ∷ past) q ≡ Some o
+alone_step : (plan : PlanView) (e : Event) (past : List Event) → Step plan e past → (o : ℕ) (q : Run) → is_moving plan (e ∷ past) o ≡ true → is_open (e ∷ past) q ≡ true → is_in o (chain_of_run plan (e ∷ past) q) ≡ true → node_of_run plan (e ∷ past) q ≡ Some o
 alone_step plan e past step o q moving on inside =
     ⊎_elim
     (λ now.
@@ -317,7 +318,7 @@ record Beneath (plan : PlanView) (past : List Event) (o : ℕ) : Type 0 where
   pub run : Run
   pub live : is_open past run ≡ true
   pub inside : is_in o (chain_of_run plan past run) ≡ true
-  pub apart : node_of plan past run ≡ Some o → ⊥
+  pub apart : node_of_run plan past run ≡ Some o → ⊥
 
 -- a chain from t to o is a walk, or a run is open beneath o, on another
 walk_or_run : (plan : PlanView) (past : List Event) → Standing plan past → (t o : ℕ) → is_in o (chain plan past t) ≡ true → (is_in o (chain_by (next_on_walk plan past) (length plan.objects) t) ≡ true) ⊎ Beneath plan past o
@@ -455,11 +456,11 @@ ended_run (DeliverEnd w s) = inr (Source s, λ q. refl)
 ended_run e = inl (λ q. refl)
 
 -- away from the node of the run that ends, targets stay
-away_from : (plan : PlanView) (e : Event) (past : List Event) → Step plan e past → ((o : ℕ) → asked o (act_of plan e) ≡ None) → (x : Run) → ((q : Run) → closes e q ≡ same_run x q) → (m : ℕ) → (node_of plan past x ≡ Some m → ⊥) → target plan (e ∷ past) m ≡ target plan past m
+away_from : (plan : PlanView) (e : Event) (past : List Event) → Step plan e past → ((o : ℕ) → asked o (act_of plan e) ≡ None) → (x : Run) → ((q : Run) → closes e q ≡ same_run x q) → (m : ℕ) → (node_of_run plan past x ≡ Some m → ⊥) → target plan (e ∷ past) m ≡ target plan past m
 away_from plan e past step none x ends m apart =
     ap (λ a. a.target) (aim_unasked plan e past m (none m) (still_open plan e past m step.1.0 (λ q live node.
     ends q ∙ ⊎_elim
-    (λ same. absurd (apart (subst (λ k. node_of plan past k ≡ Some m) (sym (same_run-true x q same)) node)))
+    (λ same. absurd (apart (subst (λ k. node_of_run plan past k ≡ Some m) (sym (same_run-true x q same)) node)))
     (λ other. other)
     (cases_Bool (same_run x q)))))
 
@@ -499,7 +500,7 @@ settles_away plan e past step n one =
 -- an event that asks for nothing leads at most the node of the run that it ends elsewhere
 end_leads : (plan : PlanView) (e : Event) (past : List Event) → Step plan e past → ((o : ℕ) → asked o (act_of plan e) ≡ None) → (x : Run) → ((q : Run) → closes e q ≡ same_run x q) → Leads plan (target plan past) (target plan (e ∷ past))
 end_leads plan e past step none x ends =
-    elim (node_of plan past x) as (λ k. node_of plan past x ≡ k → Leads plan (target plan past) (target plan (e ∷ past))) [
+    elim (node_of_run plan past x) as (λ k. node_of_run plan past x ≡ k → Leads plan (target plan past) (target plan (e ∷ past))) [
       | None ↦ λ at. inl (λ m. away_from plan e past step none x ends m (λ node. none-some m (sym at ∙ node)))
       | Some n ↦ λ at.
           let others : (m : ℕ) → (m ≡ n → ⊥) → target plan (e ∷ past) m ≡ target plan past m = λ m other. away_from plan e past step none x ends m (λ node. other (same_Some m n (sym node ∙ at))) in

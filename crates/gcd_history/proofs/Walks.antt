@@ -1,58 +1,16 @@
 -- Walks along a function on numbers, up to 0.
-use Rattle.std.proofs.Common.{◌≡◌, ◌⊎◌, inl, inr, ⊎_elim, ℕ, zero, suc, ◌+◌, ◌-◌, ◌<◌, ◌≤◌, Bool, true, false, ◌||◌, cond, ◌==◌, [], ◌∷◌, length, count_by, refl, ap, sym, ◌∙◌, subst, arith}
+use Rattle.std.proofs.Common.{◌≡◌, ◌⊎◌, inl, inr, ⊎_elim, ℕ, zero, suc, ◌+◌, ◌-◌, ◌<◌, ◌≤◌, Bool, true, false, ◌||◌, cond, ◌==◌, [], length, count_by, refl, ap, sym, ◌∙◌, subst, arith}
 use Rattle.std.specs.List.{range_with_len}
-use Rattle.std.proofs.lemmas.Bool.{eqb-true, eq-eqb, ne_eqb, eqb-false, or_cases, or_parts, or_left, or_right, both_ways, cases_eq, cases_Bool}
+use Rattle.std.proofs.lemmas.Bool.{eqb-true, or_cases, or_parts, or_left, or_right, both_ways, cases_eq, cases_Bool}
 use Rattle.std.proofs.lemmas.List.FromFn.{length-range_with_len}
 use Rattle.std.proofs.lemmas.List.Sums.{count_by-le-length}
 use Rattle.gcd_plan.specs.Chains.{chain_by, is_in}
+use Rattle.gcd_plan.proofs.Walks.{in_first, in_rest, in_cases, in_longer, chain_agree}
 use Rattle.gcd_history.proofs.Sums.{sum_range_less}
-use Rattle.gcd_history.proofs.Lists.{some_counted, any_in_range}
+use Rattle.gcd_plan.proofs.Quantifiers.{list_any_in_range}
+use Rattle.gcd_plan.proofs.Sums.{count_by_some}
 
--- ## What stands in a chain
-
--- n itself, where there is a step
-pub in_first : (next : ℕ → ℕ) (bound n : ℕ) → is_in n (chain_by next (suc bound) n) ≡ true
-in_first next bound n = or_left (n == n) _ (eq-eqb n n refl)
-
--- what stands in the rest of the chain stands in the chain
-pub in_rest : (next : ℕ → ℕ) (bound n o : ℕ) → (n ≡ 0 → ⊥) → is_in o (chain_by next bound (next n)) ≡ true → is_in o (chain_by next (suc bound) n) ≡ true
-in_rest next bound n o other inside =
-    let on : (n == 0) ≡ false = ne_eqb n 0 other in
-    or_right (n == o) _ (ap (λ v. is_in o (cond v [] (chain_by next bound (next n)))) on ∙ inside)
-
--- what stands in the chain is n, or in the rest, and then n is not 0
-pub in_cases : (next : ℕ → ℕ) (bound n o : ℕ) → is_in o (chain_by next (suc bound) n) ≡ true → (n ≡ o) ⊎ ((n ≡ 0 → ⊥) × (is_in o (chain_by next bound (next n)) ≡ true))
-in_cases next bound n o inside =
-    ⊎_elim
-    (λ here. inl (eqb-true n o here))
-    (λ there. elim (n == 0) as (λ v. n == 0 ≡ v → is_in o (cond v [] (chain_by next bound (next n))) ≡ true → (n ≡ o) ⊎ ((n ≡ 0 → ⊥) × (is_in o (chain_by next bound (next n)) ≡ true))) [
-      | true ↦ λ e k. cc
-      | false ↦ λ e k. inr (eqb-false n 0 e, k)
-    ] refl there)
-    (or_cases (n == o) _ inside)
-
--- a longer chain has more
-pub in_longer : (next : ℕ → ℕ) (short long n o : ℕ) → short ≤ long → is_in o (chain_by next short n) ≡ true → is_in o (chain_by next long n) ≡ true
-in_longer next zero long n o le inside = cc
-in_longer next (suc short) zero n o le inside = absurd (omega arith)
-in_longer next (suc short) (suc long) n o le inside =
-    ⊎_elim
-    (λ here. subst (λ m. is_in m (chain_by next (suc long) n) ≡ true) here (in_first next long n))
-    (λ later. in_rest next long n o later.0 (in_longer next short long (next n) o (omega arith) later.1))
-    (in_cases next short n o inside)
-
--- chains along functions that agree on the nodes of one of them
-pub chain_agree : (next other : ℕ → ℕ) (bound n : ℕ) → ((o : ℕ) → is_in o (chain_by next bound n) ≡ true → other o ≡ next o) → chain_by other bound n ≡ chain_by next bound n
-chain_agree next other zero n same = refl
-chain_agree next other (suc bound) n same =
-    elim (n == 0) as (λ v. n == 0 ≡ v → n ∷ cond v [] (chain_by other bound (other n)) ≡ n ∷ cond v [] (chain_by next bound (next n))) [
-      | true ↦ λ e. refl
-      | false ↦ λ e.
-          let step : other n ≡ next n = same n (in_first next bound n) in
-          let rest : chain_by other bound (next n) ≡ chain_by next bound (next n) =
-          chain_agree next other bound (next n) (λ o inside. same o (in_rest next bound n o (eqb-false n 0 e) inside)) in
-          ap (λ l. n ∷ l) (ap (chain_by other bound) step ∙ rest)
-    ] refl
+-- ## What stands above in a chain
 
 -- what stands in the chain above n has a child there
 pub record Child (next : ℕ → ℕ) (bound n o : ℕ) : Type 0 where
@@ -130,7 +88,7 @@ one_at_least false w h = elim w as (λ u. 0 ≤ cond {A = ℕ} u 1 0) [ true ↦
 -- where n needs k steps, at each count of steps up to k there is a number more
 levels : (next : ℕ → ℕ) (size k n : ℕ) → n < size → ((m : ℕ) → next m < size) → reaches next k n ≡ true → ((j : ℕ) → j < k → reaches next j n ≡ false) → k + 1 ≤ reaching next size k
 levels next size zero n within below h least =
-    let some : 1 ≤ reaching next size 0 = some_counted (reaches next 0) (range_with_len 0 size) (any_in_range (reaches next 0) size n within h) in
+    let some : 1 ≤ reaching next size 0 = count_by_some (reaches next 0) (range_with_len 0 size) (list_any_in_range (reaches next 0) size n within h) in
     omega arith
 levels next size (suc k) n within below h least =
     let on : (n == 0) ≡ false = least 0 (omega arith) in

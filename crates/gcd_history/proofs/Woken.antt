@@ -14,13 +14,14 @@ use Rattle.gcd_event.specs.declared.event.Event.TheVariants.{Start, Act as Acted
 use Rattle.gcd_history.specs.Runs.{same_run, opens, act_at, act_of, is_open, is_started, is_ended, ends}
 use Rattle.gcd_history.specs.Groups.{is_empty_above}
 use Rattle.gcd_history.specs.Semas.{signals, signal_count, first_value}
-use Rattle.gcd_history.specs.Parked.{reason_of, parked_by, reason, has_run, has_come, may_wake}
+use Rattle.gcd_history.specs.Parked.{reason_by, parked_by, reason, has_run, has_come, may_wake}
 use Rattle.gcd_history.specs.Permitted.{IsLawful}
 use Rattle.gcd_history.specs.Facts.{wakes}
 use Rattle.gcd_history.specs.Choice.{all_ended}
 use Rattle.gcd_history.specs.Submitted.{submitted, submission_of}
-use Rattle.gcd_history.proofs.Lists.{count_by-cons, found_passes}
-use Rattle.gcd_history.proofs.Options.{some_kept}
+use Rattle.gcd_history.proofs.Lists.{found_passes}
+use Rattle.gcd_plan.proofs.Sums.{count_by-cons}
+use Rattle.gcd_plan.proofs.Options.{some_from_is_some}
 use Rattle.gcd_history.proofs.RunsOpen.{closes, same_run-true, is_open-step}
 use Rattle.gcd_history.proofs.Reasons.{at_wake, at_act, at_end, at_start}
 use Rattle.gcd_history.proofs.StartedOnce.{started_from_open, submitted_from_started, open_not_ended}
@@ -77,7 +78,7 @@ parked_kept plan (Acted w q i) past h b r is none =
           let own : has_run plan past w (Block b) ≡ true = subst (λ k. has_run plan past w k ≡ true) (same_run-true q (Block b) same) (at_act plan past w q i h.1).own in
           absurd (nobodys plan past w (Block b) r facts.by own)
       | false ↦ λ other. parked_from plan (Acted w q i ∷ past) b r (open_kept (Acted w q i) past (Block b) facts.live refl)
-          (ap (λ v. cond v (reason_of plan past (act_at plan q i)) (parked_by plan past (Block b))) other ∙ facts.by)
+          (ap (λ v. cond v (reason_by plan past (act_at plan q i)) (parked_by plan past (Block b))) other ∙ facts.by)
     ] refl
 parked_kept plan (Wake w c) past h b r is none =
     let facts = parked_facts plan past b r is in
@@ -142,7 +143,7 @@ unfolding reason
 none_parked plan past h ended b =
     elim (is_open past (Block b)) as (λ v. is_open past (Block b) ≡ v → cond v (parked_by plan past (Block b)) None ≡ None) [
       | true ↦ λ live.
-          let s = some_kept (submission_of plan past b.0) (submitted_from_started plan past h b.0 (started_from_open past b live)) in
+          let s = some_from_is_some (submission_of plan past b.0) (submitted_from_started plan past h b.0 (started_from_open past b live)) in
           let found = found_passes (λ t. t.blk.0 == b.0) (λ t. is_ended past t.blk.0) (submitted plan past) s.0 s.1 ended in
           let done : is_ended past b.0 ≡ true = subst (λ n. is_ended past n ≡ true) (eqb-true s.0.blk.0 b.0 found.0) found.1 in
           absurd (both_ways (is_ended past b.0) (open_not_ended plan past h b live) done)

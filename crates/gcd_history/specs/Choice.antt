@@ -12,7 +12,7 @@ use Rattle.gcd_history.specs.Runs.{open_runs, acts_done, is_ended}
 use Rattle.gcd_history.specs.Submitted.{submitted}
 use Rattle.gcd_history.specs.Parked.{has_run}
 use Rattle.gcd_history.specs.Timers.{next_due}
-use Rattle.gcd_history.specs.Sources.{is_live}
+use Rattle.gcd_history.specs.Sources.{is_live_feed}
 use Rattle.gcd_history.specs.Permitted.{permitted, misuse_at, first_waiting, is_halted}
 
 -- the end of the run
@@ -57,11 +57,17 @@ choice plan past w from = find (permitted plan past) (candidates plan past w fro
 
 -- an event of a worker, and not of the outside
 abbrev pub is_work : Event → Bool
+is_work (Start w b) = true
+is_work (Acted w r i) = true
+is_work (Wake w b) = true
+is_work (End w b) = true
+is_work (Deliver w s) = true
+is_work (DeliverEnd w s) = true
 is_work (Tick t) = false
 is_work (Ready s n) = false
 is_work (FeedEnd s) = false
+is_work (Misuse w r i c) = true
 is_work Halt = false
-is_work e = true
 
 -- the event's worker; those of the outside are worker 0's
 abbrev pub worker_of : Event → ℕ
@@ -71,15 +77,18 @@ worker_of (Wake w b) = w
 worker_of (End w b) = w
 worker_of (Deliver w s) = w
 worker_of (DeliverEnd w s) = w
+worker_of (Tick t) = 0
+worker_of (Ready s n) = 0
+worker_of (FeedEnd s) = 0
 worker_of (Misuse w r i c) = w
-worker_of e = 0
+worker_of Halt = 0
 
 -- not halted, no event of any worker is permitted, no due time is left, and no read source is live
 pub record IsQuiescent (plan : PlanView) (past : List Event) : Type 0 where
   pub goes_on : is_halted past ≡ false
   pub no_work : (e : Event) → is_work e ≡ true → permitted plan past e ≡ false
   pub no_time : next_due plan past ≡ None
-  pub no_feed : (s : ℕ) → is_live plan past s ≡ false
+  pub no_feed : (s : ℕ) → is_live_feed plan past s ≡ false
 
 -- each block that was submitted has ended
 abbrev pub all_ended : PlanView → List Event → Bool

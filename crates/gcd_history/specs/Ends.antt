@@ -1,6 +1,7 @@
 -- How a history ends, the oldest event first (this project's own rule).
 use Rattle.std.specs.Prelude.{◌≡◌, Bool, true, false, List, length, reverse, IsTrue}
 use Rattle.gcd_plan.specs.PlanView.{PlanView}
+use Rattle.gcd_plan.specs.Limits.{max_events}
 use Rattle.gcd_event.specs.declared.event.Event.{Event}
 use Rattle.gcd_history.specs.declared.state.State.{State}
 use Rattle.gcd_history.specs.declared.state.State.TheVariants.{Drained, Stuck, Misused, Halted, Live}
@@ -11,6 +12,7 @@ use Rattle.gcd_history.specs.Choice as choice
 unfoldable pub is_halted : List Event → Bool
 is_halted h = permitted.is_halted (reverse h)
 
+-- it is so, as a claim
 abbrev pub IsHalted : List Event → Type 0
 IsHalted h = IsTrue (is_halted h)
 
@@ -47,10 +49,10 @@ pub record IsGoingOn (plan : PlanView) (h : List Event) : Type 0 where
 
 -- as long as a history may be, and neither halted nor quiescent
 pub record IsFull (plan : PlanView) (h : List Event) : Type 0 where
-  pub whole : length h ≡ 65535
+  pub whole : length h ≡ max_events
   pub going_on : IsGoingOn plan h
 
--- how far the history has come
+-- how far the history has come; it is Live from its beginning on, so that a run is over where it is full is said by IsFull
 abbrev pub HasState : PlanView → List Event → State → Type 0
 HasState plan h Drained = IsDrained plan h
 HasState plan h Stuck = IsStuck plan h

@@ -1,16 +1,17 @@
 -- What else holds of every lawful history, for those who keep or record one. What is said of a history holds at each of its
 -- positions, since a front of a lawful history is lawful (this project's own rules).
-use Rattle.std.specs.Prelude.{◌≡◌, ◌<◌, ◌++◌, ℕ, ◌==◌, Bool, false, List, [], ◌∷◌, Some, None, slice_get, IsTrue}
+use Rattle.std.specs.Prelude.{◌≡◌, ◌<◌, ◌≤◌, ◌++◌, ℕ, ◌==◌, Bool, true, false, List, [], ◌∷◌, take, Some, None, slice_get, count_by, IsTrue}
 use Rattle.std.specs.List.{list_any}
 use Rattle.gcd_plan.specs.PlanView.{PlanView, starts_active}
+use Rattle.gcd_plan.specs.Limits.{max_workers}
 use Rattle.gcd_plan.specs.declared.numbers.Run.{Run}
 use Rattle.gcd_plan.specs.declared.numbers.Run.TheVariants.{Block, Source}
 use Rattle.gcd_event.specs.declared.event.Event.{Event}
-use Rattle.gcd_event.specs.declared.event.Event.TheVariants.{Start, Act as Acted, Wake, End, Deliver, DeliverEnd, Misuse}
+use Rattle.gcd_event.specs.declared.event.Event.TheVariants.{Start, Act as Acted, Wake, End, Deliver, DeliverEnd, Tick, Ready, FeedEnd, Misuse, Halt}
 use Rattle.gcd_event.specs.Fits.{IsFitting}
 use Rattle.gcd_history.specs.Runs.{same_run}
 use Rattle.gcd_history.specs.Choice.{worker_of}
-use Rattle.gcd_history.specs.History.{why, has_run, is_running, request_of, target_of, open_beneath_of}
+use Rattle.gcd_history.specs.History.{why, open_runs_of, has_run, is_running, request_of, target_of, open_beneath_of}
 use Rattle.gcd_history.specs.Laws.{MayWake}
 
 -- ## Workers and their runs
@@ -19,13 +20,23 @@ use Rattle.gcd_history.specs.Laws.{MayWake}
 abbrev pub HasOneRun : PlanView → List Event → Type 0
 HasOneRun plan h = (w : ℕ) (r q : Run) → IsTrue (has_run plan h w r) → IsTrue (has_run plan h w q) → r ≡ q
 
+-- each run stands at most once among the open runs
+abbrev pub OpenOnce : List Event → Type 0
+OpenOnce h = (run : Run) → count_by (same_run run) (open_runs_of h) ≤ 1
+
 -- the event is the run's own: an act of it, a misuse or its end
 abbrev pub is_of_run : Run → Event → Bool
+is_of_run run (Start w b) = false
 is_of_run run (Acted w r i) = same_run r run
-is_of_run run (Misuse w r i c) = same_run r run
+is_of_run run (Wake w b) = false
 is_of_run run (End w b) = same_run (Block b) run
+is_of_run run (Deliver w s) = false
 is_of_run run (DeliverEnd w s) = same_run (Source s) run
-is_of_run run _ = false
+is_of_run run (Tick t) = false
+is_of_run run (Ready s n) = false
+is_of_run run (FeedEnd s) = false
+is_of_run run (Misuse w r i c) = same_run r run
+is_of_run run Halt = false
 
 -- an event of the run's own is permitted, by the worker who has the run
 pub record MayGoOn (plan : PlanView) (h : List Event) (run : Run) : Type 0 where
@@ -42,6 +53,25 @@ RunsGoOn plan h = (run : Run) → IsTrue (is_running plan h run) → MayGoOn pla
 abbrev pub IsFreeWorker : PlanView → List Event → ℕ → Type 0
 IsFreeWorker plan h w = (run : Run) → has_run plan h w run ≡ false
 
+-- the event gives its worker a run
+abbrev pub gives_run : Event → Bool
+gives_run (Start w b) = true
+gives_run (Acted w r i) = false
+gives_run (Wake w b) = true
+gives_run (End w b) = false
+gives_run (Deliver w s) = true
+gives_run (DeliverEnd w s) = false
+gives_run (Tick t) = false
+gives_run (Ready s n) = false
+gives_run (FeedEnd s) = false
+gives_run (Misuse w r i c) = false
+gives_run Halt = false
+
+-- each event that gives its worker a run finds the worker free
+abbrev pub GivesToFree : PlanView → List Event → Type 0
+GivesToFree plan h =
+    (i : ℕ) (e : Event) → slice_get h i ≡ Some e → IsTrue (gives_run e) → IsFreeWorker plan (take i h) (worker_of e)
+
 -- the same event, by worker w
 abbrev pub by_worker : ℕ → Event → Event
 by_worker w (Start v b) = Start w b
@@ -50,13 +80,16 @@ by_worker w (Wake v b) = Wake w b
 by_worker w (End v b) = End w b
 by_worker w (Deliver v s) = Deliver w s
 by_worker w (DeliverEnd v s) = DeliverEnd w s
+by_worker w (Tick t) = Tick t
+by_worker w (Ready s n) = Ready s n
+by_worker w (FeedEnd s) = FeedEnd s
 by_worker w (Misuse v r i c) = Misuse w r i c
-by_worker w e = e
+by_worker w Halt = Halt
 
 -- what is permitted to one free worker is permitted to every other
 abbrev pub FreeWorkersAreAlike : PlanView → List Event → Type 0
 FreeWorkersAreAlike plan h =
-    (e : Event) (w : ℕ) → IsFreeWorker plan h (worker_of e) → IsFreeWorker plan h w → w < 64
+    (e : Event) (w : ℕ) → IsFreeWorker plan h (worker_of e) → IsFreeWorker plan h w → w < max_workers
     → why plan h e ≡ None → why plan h (by_worker w e) ≡ None
 
 -- ## Wakes
@@ -74,7 +107,7 @@ MayWakeUntilWoken plan h later =
 -- where a block may wake its Wake is permitted to every free worker
 abbrev pub WakesArePermitted : PlanView → List Event → Type 0
 WakesArePermitted plan h =
-    (b w : ℕ) → MayWake plan h b → IsFreeWorker plan h w → w < 64 → why plan h (Wake w (record { 0 = b })) ≡ None
+    (b w : ℕ) → MayWake plan h b → IsFreeWorker plan h w → w < max_workers → why plan h (Wake w (record { 0 = b })) ≡ None
 
 -- ## Fields
 

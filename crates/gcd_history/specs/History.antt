@@ -30,11 +30,11 @@ use Rattle.gcd_history.specs.Choice as choice
 unfoldable pub why : PlanView → List Event → Event → Option Why
 why plan h e = permitted.why plan (reverse h) e
 
--- the event may come next
+-- the event may come next (this project's own rule)
 abbrev pub IsPermitted : PlanView → List Event → Event → Type 0
 IsPermitted plan h e = why plan h e ≡ None
 
--- each event is permitted at its position
+-- each event is permitted at its position (this project's own rule)
 unfoldable pub IsLawful : PlanView → List Event → Type 0
 IsLawful plan h = (i : ℕ) (e : Event) → slice_get h i ≡ Some e → IsPermitted plan (take i h) e
 
@@ -49,15 +49,15 @@ choice_of plan h w from = choice.choice plan (reverse h) w from
 unfoldable pub open_runs_of : List Event → List Run
 open_runs_of h = runs.open_runs (reverse h)
 
--- the run is open
+-- the run is open (dispatch_async(3), dispatch_source_create(3))
 unfoldable pub is_open : List Event → Run → Bool
 is_open h run = runs.is_open (reverse h) run
 
--- the run is open and not parked
+-- the run is open and not parked (this project's own rule)
 unfoldable pub is_running : PlanView → List Event → Run → Bool
 is_running plan h run = runs.is_open (reverse h) run && is_none (parked.parked_by plan (reverse h) run)
 
--- how many runs are open and not parked
+-- how many runs are open and not parked (this project's own rule)
 unfoldable pub running_of : PlanView → List Event → ℕ
 running_of plan h = parked.running plan (reverse h)
 
@@ -65,32 +65,36 @@ running_of plan h = parked.running plan (reverse h)
 unfoldable pub has_run : PlanView → List Event → ℕ → Run → Bool
 has_run plan h w run = parked.has_run plan (reverse h) w run
 
--- the Start of block b stands
+-- the Start of block b stands (dispatch_async(3))
 unfoldable pub is_started : List Event → ℕ → Bool
 is_started h b = runs.is_started (reverse h) b
 
--- the End of block b stands
+-- the End of block b stands (dispatch_async(3))
 unfoldable pub is_ended : List Event → ℕ → Bool
 is_ended h b = runs.is_ended (reverse h) b
 
--- two runs overlap: both are open at one position
+-- two runs overlap at position i: both are open there (this project's own word)
+pub record OverlapAt (h : List Event) (i : ℕ) (r q : Run) : Type 0 where
+  pub one : IsTrue (is_open (take i h) r)
+  pub other : IsTrue (is_open (take i h) q)
+
+-- two runs overlap: they do so at some position (this project's own word)
 pub record Overlap (h : List Event) (r q : Run) : Type 0 where
   pub position : ℕ
   pub within : position ≤ length h
-  pub one : IsTrue (is_open (take position h) r)
-  pub other : IsTrue (is_open (take position h) q)
+  pub there : OverlapAt h position r q
 
 -- ## Waits
 
 -- the event is an act that parks its block (dispatch_sync(3), dispatch_group_wait(3), dispatch_semaphore_wait(3))
 unfoldable pub parks : PlanView → Event → Bool
-parks plan e = parked.parks (runs.act_of plan e)
+parks plan e = parked.is_parking (runs.act_of plan e)
 
 -- what block b waits for, where it is parked (this project's own rule)
 unfoldable pub reason_of : PlanView → List Event → ℕ → Option Reason
 reason_of plan h b = parked.reason plan (reverse h) (Block (record { 0 = b }))
 
--- what a parked block waits for has come
+-- what a parked block waits for has come (dispatch_sync(3), dispatch_group_wait(3), dispatch_semaphore_wait(3))
 unfoldable pub has_come : PlanView → List Event → Reason → Bool
 has_come plan h reason = parked.has_come plan (reverse h) reason
 
@@ -110,18 +114,18 @@ semaphore_wait_passes plan h s k = semas.passes plan (reverse h) s k
 -- ## Submissions
 
 -- the submissions, the first first (dispatch_async(3))
-unfoldable pub submissions_of : PlanView → List Event → List Submission
-submissions_of plan h = submitted.submitted plan (reverse h)
+unfoldable pub submitted_of : PlanView → List Event → List Submission
+submitted_of plan h = submitted.submitted plan (reverse h)
 
--- block b is submitted
+-- block b is submitted (dispatch_async(3))
 unfoldable pub is_submitted : PlanView → List Event → ℕ → Bool
 is_submitted plan h b = is_some (submitted.submission_of plan (reverse h) b)
 
--- the node on which block b was submitted; none for main, and for a block that is not submitted
+-- the node on which block b was submitted; none for main, and for a block that is not submitted (dispatch_async(3))
 unfoldable pub node_of : PlanView → List Event → ℕ → Option Obj
 node_of plan h b = option_and_then (λ s. s.node) (submitted.submission_of plan (reverse h) b)
 
--- the first block that waits on node n
+-- the first block that waits on node n (dispatch_queue_create(3))
 unfoldable pub first_waiting_of : PlanView → List Event → ℕ → Option Blk
 first_waiting_of plan h n = option_map (λ s. s.blk) (permitted.first_waiting plan (reverse h) n)
 
@@ -140,18 +144,19 @@ unfoldable pub chain_of : PlanView → List Event → ℕ → List ℕ
 chain_of plan h o = tree.chain plan (reverse h) o
 
 -- the nodes that the run is beneath, its own first; main is beneath none (dispatch_queue_create(3))
-unfoldable pub nodes_of_run : PlanView → List Event → Run → List ℕ
-nodes_of_run plan h run = tree.chain_of_run plan (reverse h) run
+unfoldable pub chain_of_run : PlanView → List Event → Run → List ℕ
+chain_of_run plan h run = tree.chain_of_run plan (reverse h) run
 
--- the node of the run: a block's queue or source, a handler's source; main has none
+-- the node of the run: a block's queue or source, a handler's source; main has none (dispatch_async(3),
+-- dispatch_source_create(3))
 unfoldable pub node_of_run : PlanView → List Event → Run → Option ℕ
-node_of_run plan h run = tree.node_of plan (reverse h) run
+node_of_run plan h run = tree.node_of_run plan (reverse h) run
 
 -- the run is a barrier of node n (dispatch_barrier_async(3))
-unfoldable pub is_barrier_of : PlanView → List Event → ℕ → Run → Bool
-is_barrier_of plan h n run = permitted.is_barrier_on plan (reverse h) n run
+unfoldable pub is_barrier_on : PlanView → List Event → ℕ → Run → Bool
+is_barrier_on plan h n run = permitted.is_barrier_on plan (reverse h) n run
 
--- how many runs are open beneath object o
+-- how many runs are open beneath object o (dispatch_set_target_queue(3))
 unfoldable pub open_beneath_of : PlanView → List Event → ℕ → ℕ
 open_beneath_of plan h o = tree.open_beneath plan (reverse h) o
 
@@ -169,8 +174,8 @@ unfoldable pub is_free : PlanView → List Event → ℕ → Bool
 is_free plan h o = holds.is_free plan (reverse h) o
 
 -- the references on object o (dispatch_object(3))
-unfoldable pub references_of : PlanView → List Event → ℕ → ℕ
-references_of plan h o = misuses.refs plan (reverse h) o
+unfoldable pub refs_of : PlanView → List Event → ℕ → ℕ
+refs_of plan h o = misuses.refs plan (reverse h) o
 
 -- the code of the misuse, if the act is one now (dispatch_object(3))
 unfoldable pub misuse_of : PlanView → List Event → Act → Option ℕ
@@ -179,8 +184,8 @@ misuse_of plan h act = misuses.misuse plan (reverse h) act
 -- ## Time
 
 -- journal time: the last Tick's, or 0, in milliseconds (this project's own rule)
-unfoldable pub time_of : List Event → ℕ
-time_of h = timers.now (reverse h)
+unfoldable pub now_of : List Event → ℕ
+now_of h = timers.now (reverse h)
 
 -- the least due time above journal time (dispatch_source_set_timer(3))
 unfoldable pub next_due_of : PlanView → List Event → Option ℕ
@@ -194,7 +199,7 @@ is_cancelled plan h s = submitted.is_cancelled plan (reverse h) s
 
 -- s is a read source that is active and not cancelled (dispatch_source_create(3))
 unfoldable pub is_live_feed : PlanView → List Event → ℕ → Bool
-is_live_feed plan h s = sources.is_live plan (reverse h) s
+is_live_feed plan h s = sources.is_live_feed plan (reverse h) s
 
 -- the inputs of source s: its merges above 0, the bytes of its Readys, or 1 for each due time (dispatch_source_create(3))
 unfoldable pub inputs_of : PlanView → List Event → ℕ → List ℕ
@@ -205,16 +210,16 @@ unfoldable pub pending_of : PlanView → List Event → ℕ → ℕ
 pending_of plan h s = sources.pending plan (reverse h) s
 
 -- what the last Deliver of source s handed over, 0 before one (dispatch_source_get_data(3))
-unfoldable pub data_of : PlanView → List Event → ℕ → ℕ
-data_of plan h s = sources.last_data plan (reverse h) s
+unfoldable pub last_data_of : PlanView → List Event → ℕ → ℕ
+last_data_of plan h s = sources.last_data plan (reverse h) s
 
 -- what event i handed over, if it is a Deliver (dispatch_source_get_data(3))
-unfoldable pub data_at : PlanView → List Event → (i : ℕ) → Option ℕ
-data_at plan h i = option_and_then (sources.handed_by plan (reverse (take i h))) (slice_get h i)
+unfoldable pub handed_at : PlanView → List Event → (i : ℕ) → Option ℕ
+handed_at plan h i = option_and_then (sources.handed_by plan (reverse (take i h))) (slice_get h i)
 
--- how many Delivers of source s stand
-unfoldable pub deliveries_of : List Event → ℕ → ℕ
-deliveries_of h s = sources.delivery_count (reverse h) s
+-- how many Delivers of source s stand (dispatch_source_create(3))
+unfoldable pub delivery_count_of : List Event → ℕ → ℕ
+delivery_count_of h s = sources.delivery_count (reverse h) s
 
 -- what the Delivers of source s handed over, in one (dispatch_source_get_data(3))
 unfoldable pub received_of : PlanView → List Event → ℕ → ℕ

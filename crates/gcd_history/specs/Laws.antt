@@ -1,4 +1,4 @@
--- What holds of every lawful history, the oldest event first.
+-- What holds of every lawful history, the oldest event first (this project's own rule, where a definition names no page).
 use Rattle.std.specs.Prelude.{◌≡◌, ◌≤◌, ◌<◌, ◌+◌, length, ℕ, ◌==◌, true, false, List, take, Some, None, slice_get, count_by, IsTrue, AllPairs}
 use Rattle.gcd_plan.specs.PlanView.{PlanView}
 use Rattle.gcd_plan.specs.Chains.{is_in}
@@ -11,13 +11,14 @@ use Rattle.gcd_plan.specs.declared.numbers.Run.TheVariants.{Block, Source}
 use Rattle.gcd_plan.specs.declared.reason.Reason.{Reason}
 use Rattle.gcd_event.specs.declared.event.Event.{Event}
 use Rattle.gcd_event.specs.declared.event.Event.TheVariants.{Start, Wake, Deliver}
+use Rattle.gcd_history.specs.declared.state.State.{State}
 use Rattle.gcd_history.specs.declared.submission.Submission.{Submission}
 use Rattle.gcd_history.specs.Runs.{starts, ends, act_of}
 use Rattle.gcd_history.specs.Semas.{wait_count}
 use Rattle.gcd_history.specs.Permitted.{is_on}
-use Rattle.gcd_history.specs.History.{is_started, is_submitted, submissions_of, nodes_of_run, is_free, reason_of, has_come, received_of, pending_of, merged_of, is_open, is_active, chain_of, node_of_run, is_barrier_of, group_wait_passes, semaphore_wait_passes, why, choice_of, running_of, next_due_of, is_live_feed}
+use Rattle.gcd_history.specs.History.{is_started, is_submitted, submitted_of, chain_of_run, is_free, reason_of, has_come, received_of, pending_of, merged_of, is_open, OverlapAt, Overlap, node_of, is_active, chain_of, node_of_run, is_barrier_on, group_wait_passes, semaphore_wait_passes, why, choice_of, running_of, next_due_of, is_live_feed}
 use Rattle.gcd_history.specs.Choice.{is_work, worker_of}
-use Rattle.gcd_history.specs.Ends.{is_halted}
+use Rattle.gcd_history.specs.Ends.{is_halted, HasState}
 use Rattle.gcd_history.specs.Sources.{joined}
 
 -- each block starts at most once, and ends at most once (dispatch_async(3))
@@ -26,20 +27,21 @@ pub record RunsOnce (h : List Event) : Type 0 where
   pub ends_once : (b : ℕ) → count_by (ends b) h ≤ 1
 
 -- at its Start a block is submitted, and has not started (dispatch_async(3))
-pub record IsDueAtStart (plan : PlanView) (h : List Event) (i : ℕ) (b : Blk) : Type 0 where
+pub record IsReadyAtStart (plan : PlanView) (h : List Event) (i : ℕ) (b : Blk) : Type 0 where
   pub submitted : is_submitted plan (take i h) b.0 ≡ true
   pub fresh : is_started (take i h) b.0 ≡ false
 
+-- each block is so at its Start (dispatch_async(3))
 abbrev pub StartsAfterSubmission : PlanView → List Event → Type 0
-StartsAfterSubmission plan h = (i w : ℕ) (b : Blk) → slice_get h i ≡ Some (Start w b) → IsDueAtStart plan h i b
+StartsAfterSubmission plan h = (i w : ℕ) (b : Blk) → slice_get h i ≡ Some (Start w b) → IsReadyAtStart plan h i b
 
--- each submitted block has ended exactly once
+-- each submitted block has ended exactly once (dispatch_async(3))
 abbrev pub AllEndOnce : PlanView → List Event → Type 0
 AllEndOnce plan h = (b : ℕ) → IsTrue (is_submitted plan h b) → count_by (ends b) h ≡ 1
 
 -- each block is submitted at most once (dispatch_async(3); that a block is one act's alone is this project's own rule)
 abbrev pub IsSubmittedOnce : PlanView → List Event → Type 0
-IsSubmittedOnce plan h = (b : ℕ) → count_by (λ s. s.blk.0 == b) (submissions_of plan h) ≤ 1
+IsSubmittedOnce plan h = (b : ℕ) → count_by (λ s. s.blk.0 == b) (submitted_of plan h) ≤ 1
 
 -- where both were submitted on one node, the later has started only if the earlier has
 abbrev pub IsBehindOther : List Event → (earlier later : Submission) → Type 0
@@ -48,13 +50,13 @@ IsBehindOther h s t =
 
 -- at each position, of two submissions on one node the later has started only if the earlier has (dispatch_queue_create(3))
 abbrev pub StartsInOrder : PlanView → List Event → Type 0
-StartsInOrder plan h = (i : ℕ) → AllPairs (IsBehindOther (take i h)) (submissions_of plan (take i h))
+StartsInOrder plan h = (i : ℕ) → AllPairs (IsBehindOther (take i h)) (submitted_of plan (take i h))
 
 -- at a block's Start each object of its chain is free, and at a Deliver each object of the source's chain (dispatch_suspend(3),
 -- dispatch_activate(3), dispatch_set_target_queue(3))
 pub record BeginsFree (plan : PlanView) (h : List Event) : Type 0 where
-  pub starts : (i w : ℕ) (b : Blk) (o : ℕ) → slice_get h i ≡ Some (Start w b) → IsTrue (is_in o (nodes_of_run plan (take i h) (Block b))) → IsTrue (is_free plan (take i h) o)
-  pub delivers : (i w : ℕ) (s : Obj) (o : ℕ) → slice_get h i ≡ Some (Deliver w s) → IsTrue (is_in o (nodes_of_run plan (take i h) (Source s))) → IsTrue (is_free plan (take i h) o)
+  pub starts : (i w : ℕ) (b : Blk) (o : ℕ) → slice_get h i ≡ Some (Start w b) → IsTrue (is_in o (chain_of_run plan (take i h) (Block b))) → IsTrue (is_free plan (take i h) o)
+  pub delivers : (i w : ℕ) (s : Obj) (o : ℕ) → slice_get h i ≡ Some (Deliver w s) → IsTrue (is_in o (chain_of_run plan (take i h) (Source s))) → IsTrue (is_free plan (take i h) o)
 
 -- block b may wake: it is parked, and what it waits for has come
 pub record MayWake (plan : PlanView) (h : List Event) (b : ℕ) : Type 0 where
@@ -88,25 +90,36 @@ SemaphoreWaitsPass plan h = (s k : ℕ) → k ≤ wait_count plan h s → IsTrue
 abbrev pub IsConserved : PlanView → List Event → Type 0
 IsConserved plan h = (s : ℕ) → joined plan s (received_of plan h s) (pending_of plan h s) ≡ merged_of plan h s
 
--- runs that are open at one position beneath one serial queue or source are one run (dispatch_queue_create(3),
+-- runs that overlap where both are beneath one serial queue or source are one run (dispatch_queue_create(3),
 -- dispatch_set_target_queue(3))
 abbrev pub RunsExclude : PlanView → List Event → Type 0
 RunsExclude plan h =
-    (i o : ℕ) (r q : Run) → IsTrue (is_exclusive plan o) → IsTrue (is_open (take i h) r) → IsTrue (is_open (take i h) q)
-    → IsTrue (is_in o (nodes_of_run plan (take i h) r)) → IsTrue (is_in o (nodes_of_run plan (take i h) q)) → r ≡ q
+    (i o : ℕ) (r q : Run) → IsTrue (is_exclusive plan o) → OverlapAt h i r q
+    → IsTrue (is_in o (chain_of_run plan (take i h) r)) → IsTrue (is_in o (chain_of_run plan (take i h) q)) → r ≡ q
 
--- a barrier of a concurrent queue other than root and a run of that queue that are open at one position are one run
+-- blocks that were submitted on one serial queue or source, and overlap, are one block (dispatch_queue_create(3))
+abbrev pub BlocksOfOneNodeApart : PlanView → List Event → Type 0
+BlocksOfOneNodeApart plan h =
+    (q : Obj) (a b : Blk) → IsTrue (is_exclusive plan q.0) → node_of plan h a.0 ≡ Some q → node_of plan h b.0 ≡ Some q
+    → Overlap h (Block a) (Block b) → a ≡ b
+
+-- a barrier of a concurrent queue other than root and a run of that queue that overlap are one run
 -- (dispatch_barrier_async(3))
 abbrev pub BarriersExclude : PlanView → List Event → Type 0
 BarriersExclude plan h =
-    (i n : ℕ) (r q : Run) → IsTrue (has_barriers plan n) → IsTrue (is_open (take i h) r) → IsTrue (is_open (take i h) q)
-    → IsTrue (is_barrier_of plan (take i h) n r) → node_of_run plan (take i h) q ≡ Some n → r ≡ q
+    (i n : ℕ) (r q : Run) → IsTrue (has_barriers plan n) → OverlapAt h i r q
+    → IsTrue (is_barrier_on plan (take i h) n r) → node_of_run plan (take i h) q ≡ Some n → r ≡ q
+
+-- each Deliver finds no run of its source open: a run of a source is named by the source alone, so that runs of one source
+-- exclude each other is said here (dispatch_source_create(3))
+abbrev pub DeliversAlone : List Event → Type 0
+DeliversAlone h = (i w : ℕ) (s : Obj) → slice_get h i ≡ Some (Deliver w s) → is_open (take i h) (Source s) ≡ false
 
 -- while a run is open the chain of its node does not change, and each object of it is active; and following the targets from
 -- any object ends at root (dispatch_set_target_queue(3), dispatch_activate(3))
 pub record TreeStands (plan : PlanView) (h : List Event) : Type 0 where
-  pub kept : (i : ℕ) (run : Run) → IsTrue (is_open (take i h) run) → IsTrue (is_open (take (i + 1) h) run) → nodes_of_run plan (take (i + 1) h) run ≡ nodes_of_run plan (take i h) run
-  pub active : (i o : ℕ) (run : Run) → IsTrue (is_open (take i h) run) → IsTrue (is_in o (nodes_of_run plan (take i h) run)) → IsTrue (is_active plan (take i h) o)
+  pub kept : (i : ℕ) (run : Run) → IsTrue (is_open (take i h) run) → IsTrue (is_open (take (i + 1) h) run) → chain_of_run plan (take (i + 1) h) run ≡ chain_of_run plan (take i h) run
+  pub active : (i o : ℕ) (run : Run) → IsTrue (is_open (take i h) run) → IsTrue (is_in o (chain_of_run plan (take i h) run)) → IsTrue (is_active plan (take i h) o)
   pub rooted : (i o : ℕ) → o < length plan.objects → IsTrue (is_in 0 (chain_of plan (take i h) o))
 
 -- an event that worker w may record next: permitted, its own, and none of the outside's (this project's own rule)
@@ -118,6 +131,11 @@ pub record IsChoiceOf (plan : PlanView) (h : List Event) (w : ℕ) (e : Event) :
 -- no event of worker w is permitted
 abbrev pub HasNoChoice : PlanView → List Event → ℕ → Type 0
 HasNoChoice plan h w = (e : Event) → IsChoiceOf plan h w e → ⊥
+
+-- the history has come to a state (this project's own rule)
+pub record HasSomeState (plan : PlanView) (h : List Event) : Type 0 where
+  pub state : State
+  pub come_to : HasState plan h state
 
 -- nothing goes on: not halted, no run is open and unparked, worker 0 has no choice, no due time is left, and no read source is
 -- live (this project's own rule)

@@ -5,6 +5,8 @@ use Rattle.gcd_plan.specs.PlanView.{PlanView, starts_active}
 use Rattle.gcd_plan.specs.Kinds.{is_source, is_node, has_kind, is_semaphore_kind}
 use Rattle.gcd_plan.specs.declared.act.Act.{Act}
 use Rattle.gcd_plan.specs.declared.act.Act.TheVariants.{Async, Barrier, Sync, BarrierSync, GroupAsync, Notify, Enter, Leave, GroupWait, Signal, Wait, Suspend, Resume, Activate, Target, Merge, Cancel, Retain, Release}
+use Rattle.gcd_plan.specs.MisuseCodes.{code_of}
+use Rattle.gcd_plan.specs.declared.misuse_code.MisuseCode.TheVariants.{OverResume, UnbalancedLeave, TargetCycle, TargetAfterActivation, TargetWhileTargeted, UseAfterRelease, ReleaseWhileSuspended, ReleaseBelowFirstValue}
 use Rattle.gcd_event.specs.declared.event.Event.{Event}
 use Rattle.gcd_history.specs.Runs.{act_of}
 use Rattle.gcd_history.specs.Groups.{entered}
@@ -64,31 +66,44 @@ is_held_node plan past o = is_node plan o && (nat_lt 0 (hold plan past o) || not
 abbrev pub is_below_first : PlanView → List Event → ℕ → Bool
 is_below_first plan past s = has_kind is_semaphore_kind plan s && nat_lt (signal_count plan past s) (wait_count plan past s)
 
--- what may be wrong with the act, beside a name that is released: each code with its test, the lowest first. 1 is a resume
--- too many, 2 a leave without an enter, 3 a cycle of targets, 4 a target for an object that was created inactive and is
--- active, 5 one for an object that others have as target, 7 the last release of a held or inactive node, 8 that of a
--- semaphore below its first value (dispatch_resume(3), dispatch_group_leave(3), dispatch_set_target_queue(3),
--- dispatch_object(3), dispatch_semaphore_create(3); 4 and 5 are this project's own rule)
+-- what may be wrong with the act, beside a name that is released: each code with its test, the lowest first. A target may not
+-- be set for an object that was created inactive and is active, nor for one that was created active and that others have as
+-- target (dispatch_resume(3), dispatch_group_leave(3), dispatch_set_target_queue(3), dispatch_object(3),
+-- dispatch_semaphore_create(3); these two of targets are this project's own rule)
 abbrev pub act_misuses : PlanView → List Event → Act → List (ℕ × Bool)
-act_misuses plan past (Resume o) = (1, is_over_resumed plan past o.0) ∷ []
-act_misuses plan past (Leave g) = (2, entered plan past g.0 == 0) ∷ []
+act_misuses plan past (Async q b) = []
+act_misuses plan past (Barrier q b) = []
+act_misuses plan past (Sync q b) = []
+act_misuses plan past (BarrierSync q b) = []
+act_misuses plan past (GroupAsync g q b) = []
+act_misuses plan past (Notify g q b) = []
+act_misuses plan past (Enter g) = []
+act_misuses plan past (Leave g) = (code_of UnbalancedLeave, entered plan past g.0 == 0) ∷ []
+act_misuses plan past (GroupWait g) = []
+act_misuses plan past (Signal s) = []
+act_misuses plan past (Wait s) = []
+act_misuses plan past (Suspend o) = []
+act_misuses plan past (Resume o) = (code_of OverResume, is_over_resumed plan past o.0) ∷ []
+act_misuses plan past (Activate o) = []
 act_misuses plan past (Target o t) =
-    (3, would_cycle plan past o.0 t.0)
-    ∷ (4, not (starts_active plan o.0) && is_active plan past o.0)
-    ∷ (5, starts_active plan o.0 && has_child plan past o.0)
+    (code_of TargetCycle, would_cycle plan past o.0 t.0)
+    ∷ (code_of TargetAfterActivation, not (starts_active plan o.0) && is_active plan past o.0)
+    ∷ (code_of TargetWhileTargeted, starts_active plan o.0 && has_child plan past o.0)
     ∷ []
+act_misuses plan past (Merge s n) = []
+act_misuses plan past (Cancel s) = []
+act_misuses plan past (Retain o) = []
 act_misuses plan past (Release o) =
-    (7, refs plan past o.0 == 1 && is_held_node plan past o.0)
-    ∷ (8, refs plan past o.0 == 1 && is_below_first plan past o.0)
+    (code_of ReleaseWhileSuspended, refs plan past o.0 == 1 && is_held_node plan past o.0)
+    ∷ (code_of ReleaseBelowFirstValue, refs plan past o.0 == 1 && is_below_first plan past o.0)
     ∷ []
-act_misuses plan past _ = []
 
 -- the first code whose test is true
 abbrev pub first_code : List (ℕ × Bool) → Option ℕ
 first_code [] = None
 first_code (code ∷ codes) = if code.1 then Some code.0 else first_code codes
 
--- the code of the misuse, if the act is one now; 6, that an object which it names is released, comes before all others
+-- the code of the misuse, if the act is one now; that an object which it names is released comes before all others
 -- (dispatch_object(3))
 unfoldable pub misuse : PlanView → List Event → Act → Option ℕ
-misuse plan past act = first_code ((6, list_any (is_released plan past) (named act)) ∷ act_misuses plan past act)
+misuse plan past act = first_code ((code_of UseAfterRelease, list_any (is_released plan past) (named act)) ∷ act_misuses plan past act)

@@ -5,7 +5,7 @@ use Rattle.std.specs.Option.{option_map_or}
 use Rattle.std.specs.List.{list_any}
 use Rattle.gcd_plan.specs.PlanView.{PlanView}
 use Rattle.gcd_plan.specs.declared.act.Act.{Act}
-use Rattle.gcd_plan.specs.declared.act.Act.TheVariants.{Sync, BarrierSync, GroupWait, Wait}
+use Rattle.gcd_plan.specs.declared.act.Act.TheVariants.{Async, Barrier, Sync, BarrierSync, GroupAsync, Notify, Enter, Leave, GroupWait, Signal, Wait, Suspend, Resume, Activate, Target, Merge, Cancel, Retain, Release}
 use Rattle.gcd_plan.specs.declared.numbers.Run.{Run}
 use Rattle.gcd_plan.specs.declared.numbers.Run.TheVariants.{Block}
 use Rattle.gcd_plan.specs.declared.reason.Reason.{Reason}
@@ -18,25 +18,55 @@ use Rattle.gcd_history.specs.Semas.{wait_count, passes}
 
 -- what the act, recorded after past, makes its block wait for (dispatch_sync(3), dispatch_barrier_sync(3),
 -- dispatch_group_wait(3), dispatch_semaphore_wait(3))
-abbrev pub reason_of : PlanView → List Event → Option Act → Option Reason
-reason_of plan past (Some (Sync q b)) = Some (EndOf b)
-reason_of plan past (Some (BarrierSync q b)) = Some (EndOf b)
-reason_of plan past (Some (GroupWait g)) = Some (Group g (length past))
-reason_of plan past (Some (Wait s)) = Some (Rank s (wait_count plan past s.0 + 1))
-reason_of plan past _ = None
+abbrev pub reason_by : PlanView → List Event → Option Act → Option Reason
+reason_by plan past None = None
+reason_by plan past (Some (Async q b)) = None
+reason_by plan past (Some (Barrier q b)) = None
+reason_by plan past (Some (Sync q b)) = Some (EndOf b)
+reason_by plan past (Some (BarrierSync q b)) = Some (EndOf b)
+reason_by plan past (Some (GroupAsync g q b)) = None
+reason_by plan past (Some (Notify g q b)) = None
+reason_by plan past (Some (Enter g)) = None
+reason_by plan past (Some (Leave g)) = None
+reason_by plan past (Some (GroupWait g)) = Some (Group g (length past))
+reason_by plan past (Some (Signal s)) = None
+reason_by plan past (Some (Wait s)) = Some (Rank s (wait_count plan past s.0 + 1))
+reason_by plan past (Some (Suspend o)) = None
+reason_by plan past (Some (Resume o)) = None
+reason_by plan past (Some (Activate o)) = None
+reason_by plan past (Some (Target o t)) = None
+reason_by plan past (Some (Merge s n)) = None
+reason_by plan past (Some (Cancel s)) = None
+reason_by plan past (Some (Retain o)) = None
+reason_by plan past (Some (Release o)) = None
 
 -- the act parks its block until a Wake
-abbrev pub parks : Option Act → Bool
-parks (Some (Sync q b)) = true
-parks (Some (BarrierSync q b)) = true
-parks (Some (GroupWait g)) = true
-parks (Some (Wait s)) = true
-parks _ = false
+abbrev pub is_parking : Option Act → Bool
+is_parking None = false
+is_parking (Some (Async q b)) = false
+is_parking (Some (Barrier q b)) = false
+is_parking (Some (Sync q b)) = true
+is_parking (Some (BarrierSync q b)) = true
+is_parking (Some (GroupAsync g q b)) = false
+is_parking (Some (Notify g q b)) = false
+is_parking (Some (Enter g)) = false
+is_parking (Some (Leave g)) = false
+is_parking (Some (GroupWait g)) = true
+is_parking (Some (Signal s)) = false
+is_parking (Some (Wait s)) = true
+is_parking (Some (Suspend o)) = false
+is_parking (Some (Resume o)) = false
+is_parking (Some (Activate o)) = false
+is_parking (Some (Target o t)) = false
+is_parking (Some (Merge s n)) = false
+is_parking (Some (Cancel s)) = false
+is_parking (Some (Retain o)) = false
+is_parking (Some (Release o)) = false
 
 -- what the run's last act makes it wait for, where no Wake stands since
 abbrev pub parked_by : PlanView → List Event → Run → Option Reason
 parked_by plan [] run = None
-parked_by plan (Acted w r i ∷ past) run = if same_run r run then reason_of plan past (act_at plan r i) else parked_by plan past run
+parked_by plan (Acted w r i ∷ past) run = if same_run r run then reason_by plan past (act_at plan r i) else parked_by plan past run
 parked_by plan (Wake w b ∷ past) run = if same_run (Block b) run then None else parked_by plan past run
 parked_by plan (e ∷ past) run = if opens e run then None else parked_by plan past run
 

@@ -1,10 +1,13 @@
--- Which event may come next, and the first reason why not.
-use Rattle.std.specs.Prelude.{◌≡◌, ⊤, ℕ, ◌==◌, nat_lt, nat_le, Bool, true, false, not, ◌&&◌, List, [], ◌∷◌, length, Option, Some, None, is_none, is_some, option_and_then, find, if◌then◌else◌}
+-- Which event may come next, and the first reason why not (this project's own rule, where a definition names no page).
+use Rattle.std.specs.Prelude.{◌≡◌, ⊤, ℕ, ◌==◌, nat_lt, nat_le, Bool, true, false, not, ◌&&◌, ◌||◌, List, [], ◌∷◌, length, Option, Some, None, is_none, is_some, option_and_then, find, if◌then◌else◌}
 use Rattle.std.specs.Option.{option_map_or}
 use Rattle.std.specs.List.{list_any}
 use Rattle.gcd_plan.specs.PlanView.{PlanView}
 use Rattle.gcd_plan.specs.Kinds.{is_source, is_exclusive, has_barriers, has_kind, is_read_kind}
+use Rattle.gcd_plan.specs.Limits.{max_workers, max_acts, max_time, max_value}
+use Rattle.gcd_plan.specs.MisuseCodes.{code_of}
 use Rattle.gcd_plan.specs.StartRule.{Knowledge, first_of, start_reasons, run_reasons, is_fenced as is_fenced_by}
+use Rattle.gcd_plan.specs.declared.misuse_code.MisuseCode.TheVariants.{ReleaseBelowFirstValue}
 use Rattle.gcd_plan.specs.declared.numbers.Run.{Run}
 use Rattle.gcd_plan.specs.declared.numbers.Run.TheVariants.{Block, Source}
 use Rattle.gcd_plan.specs.declared.why.Why.{Why}
@@ -18,31 +21,62 @@ use Rattle.gcd_history.specs.Tree.{chain, is_open_on, is_open_beneath}
 use Rattle.gcd_history.specs.Holds.{is_free}
 use Rattle.gcd_history.specs.Parked.{is_parked, may_wake, has_run, is_busy}
 use Rattle.gcd_history.specs.Timers.{may_tick}
-use Rattle.gcd_history.specs.Sources.{is_pending, is_live}
+use Rattle.gcd_history.specs.Sources.{is_pending, is_live_feed}
 use Rattle.gcd_history.specs.Misuses.{misuse}
+
+-- the event is a misuse
+abbrev pub is_misuse : Event → Bool
+is_misuse (Start w b) = false
+is_misuse (Acted w r i) = false
+is_misuse (Wake w b) = false
+is_misuse (End w b) = false
+is_misuse (Deliver w s) = false
+is_misuse (DeliverEnd w s) = false
+is_misuse (Tick t) = false
+is_misuse (Ready s n) = false
+is_misuse (FeedEnd s) = false
+is_misuse (Misuse w r i c) = true
+is_misuse Halt = false
+
+-- the event is a halt
+abbrev pub is_halt : Event → Bool
+is_halt (Start w b) = false
+is_halt (Acted w r i) = false
+is_halt (Wake w b) = false
+is_halt (End w b) = false
+is_halt (Deliver w s) = false
+is_halt (DeliverEnd w s) = false
+is_halt (Tick t) = false
+is_halt (Ready s n) = false
+is_halt (FeedEnd s) = false
+is_halt (Misuse w r i c) = false
+is_halt Halt = true
 
 -- the last event is Misuse
 abbrev pub ends_in_misuse : List Event → Bool
 ends_in_misuse [] = false
-ends_in_misuse (Misuse w r i c ∷ past) = true
-ends_in_misuse (e ∷ past) = false
+ends_in_misuse (e ∷ past) = is_misuse e
 
 -- the last event is Halt
 abbrev pub ends_in_halt : List Event → Bool
 ends_in_halt [] = false
-ends_in_halt (Halt ∷ past) = true
-ends_in_halt (e ∷ past) = false
+ends_in_halt (e ∷ past) = is_halt e
 
 -- the last event is Misuse or Halt (this project's own rule)
 abbrev pub is_halted : List Event → Bool
-is_halted [] = false
-is_halted (Misuse w r i c ∷ past) = true
-is_halted (Halt ∷ past) = true
-is_halted (e ∷ past) = false
+is_halted past = ends_in_misuse past || ends_in_halt past
 
 -- a worker's number
 abbrev pub is_worker : ℕ → Bool
-is_worker w = nat_lt w 64
+is_worker w = nat_lt w max_workers
+
+-- the place of an act in a body
+abbrev pub is_index : ℕ → Bool
+is_index i = nat_lt i max_acts
+
+-- the number of a code of misuse: they are numbered from 1 on, without a gap
+abbrev pub is_code : ℕ → Bool
+is_code c = nat_lt 0 c && nat_le c (code_of ReleaseBelowFirstValue)
 
 -- the plan has block b
 abbrev pub has_block : PlanView → ℕ → Bool
@@ -60,15 +94,15 @@ is_feed plan s = has_kind is_read_kind plan s
 -- the event fits, and names what the plan has (this project's own rule)
 abbrev pub is_known : PlanView → Event → Bool
 is_known plan (Start w b) = is_worker w && has_block plan b.0
-is_known plan (Acted w run i) = is_worker w && (is_run_of plan run && nat_le i 65534)
+is_known plan (Acted w run i) = is_worker w && (is_run_of plan run && is_index i)
 is_known plan (Wake w b) = is_worker w && has_block plan b.0
 is_known plan (End w b) = is_worker w && has_block plan b.0
 is_known plan (Deliver w s) = is_worker w && is_source plan s.0
 is_known plan (DeliverEnd w s) = is_worker w && is_source plan s.0
-is_known plan (Tick t) = nat_lt 0 t && nat_le t 86400000
-is_known plan (Ready s n) = is_feed plan s.0 && (nat_lt 0 n && nat_le n 2147483647)
+is_known plan (Tick t) = nat_lt 0 t && nat_le t max_time
+is_known plan (Ready s n) = is_feed plan s.0 && (nat_lt 0 n && nat_le n max_value)
 is_known plan (FeedEnd s) = is_feed plan s.0
-is_known plan (Misuse w run i c) = is_worker w && (is_run_of plan run && (nat_le i 65534 && (nat_lt 0 c && nat_le c 8)))
+is_known plan (Misuse w run i c) = is_worker w && (is_run_of plan run && (is_index i && is_code c))
 is_known plan Halt = true
 
 -- submitted, and not started
@@ -166,8 +200,8 @@ reasons plan past (DeliverEnd w s) =
     ∷ (NotNext, has_act_left plan past (Source s))
     ∷ []
 reasons plan past (Tick t) = (NotDue, not (may_tick plan past t)) ∷ []
-reasons plan past (Ready s n) = (NotLive, not (is_live plan past s.0)) ∷ []
-reasons plan past (FeedEnd s) = (NotLive, not (is_live plan past s.0)) ∷ []
+reasons plan past (Ready s n) = (NotLive, not (is_live_feed plan past s.0)) ∷ []
+reasons plan past (FeedEnd s) = (NotLive, not (is_live_feed plan past s.0)) ∷ []
 reasons plan past (Misuse w run i c) =
     (NotOwn, not (has_run plan past w run))
     ∷ (NotNext, not (is_next plan past run i))

@@ -13,7 +13,7 @@ use Rattle.gcd_event.specs.declared.event.Event.{Event}
 use Rattle.gcd_event.specs.declared.event.Event.TheVariants.{Misuse}
 use Rattle.gcd_history.specs.declared.state.State.{State}
 use Rattle.gcd_history.specs.declared.state.State.TheVariants.{Drained, Stuck, Misused, Halted, Live}
-use Rattle.gcd_history.specs.History.{is_submitted, is_started, is_ended, reason_of, received_of, deliveries_of, pending_of}
+use Rattle.gcd_history.specs.History.{is_submitted, is_started, is_ended, reason_of, received_of, delivery_count_of, pending_of}
 use Rattle.gcd_history.specs.Values.{value_of}
 
 -- the byte at the end of a line
@@ -36,7 +36,7 @@ result_line plan value h b =
 abbrev pub source_counts : PlanView → List Event → ℕ → List ℕ
 source_counts plan h s =
     codes " received " ++ (decimal (received_of plan h s)
-    ++ (codes " in " ++ (decimal (deliveries_of h s)
+    ++ (codes " in " ++ (decimal (delivery_count_of h s)
     ++ (codes " pending " ++ (decimal (pending_of plan h s) ++ line_end)))))
 
 -- `NAME received R in K pending Q`, for a source: what its Delivers handed over in one, their number, and what is pending
@@ -64,10 +64,13 @@ unstarted_line plan h b =
 
 -- where the run is stuck: the parked blocks, and then the blocks that have not started, by number
 abbrev pub stuck_lines : PlanView → State → List Event → List ℕ
+stuck_lines plan Drained h = []
 stuck_lines plan Stuck h =
     flat_map (wait_line plan h) (range_with_len 0 (length plan.blocks))
     ++ flat_map (unstarted_line plan h) (range_with_len 0 (length plan.blocks))
-stuck_lines plan _ h = []
+stuck_lines plan Misused h = []
+stuck_lines plan Halted h = []
+stuck_lines plan Live h = []
 
 -- `misuse R I Mk`, for a Misuse: the run's name, the act's index and the code
 abbrev pub misuse_line : PlanView → Event → List ℕ

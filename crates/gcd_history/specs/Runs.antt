@@ -7,21 +7,28 @@ use Rattle.gcd_plan.specs.declared.act.Act.{Act}
 use Rattle.gcd_plan.specs.declared.numbers.Run.{Run}
 use Rattle.gcd_plan.specs.declared.numbers.Run.TheVariants.{Block, Source}
 use Rattle.gcd_event.specs.declared.event.Event.{Event}
-use Rattle.gcd_event.specs.declared.event.Event.TheVariants.{Start, Act as Acted, Wake, End, Deliver, DeliverEnd}
+use Rattle.gcd_event.specs.declared.event.Event.TheVariants.{Start, Act as Acted, Wake, End, Deliver, DeliverEnd, Tick, Ready, FeedEnd, Misuse, Halt}
 
 -- the two are one run
 abbrev pub same_run : Run → Run → Bool
 same_run (Block b) (Block c) = b.0 == c.0
 same_run (Source s) (Source t) = s.0 == t.0
-same_run _ _ = false
+same_run (Block b) (Source s) = false
+same_run (Source s) (Block b) = false
 
 -- the open runs after the event, from those before it
 abbrev pub runs_after : Event → List Run → List Run
 runs_after (Start w b) runs = runs ++ Block b ∷ []
-runs_after (Deliver w s) runs = runs ++ Source s ∷ []
+runs_after (Acted w r i) runs = runs
+runs_after (Wake w b) runs = runs
 runs_after (End w b) runs = filter (λ run. not (same_run (Block b) run)) runs
+runs_after (Deliver w s) runs = runs ++ Source s ∷ []
 runs_after (DeliverEnd w s) runs = filter (λ run. not (same_run (Source s) run)) runs
-runs_after _ runs = runs
+runs_after (Tick t) runs = runs
+runs_after (Ready s n) runs = runs
+runs_after (FeedEnd s) runs = runs
+runs_after (Misuse w r i c) runs = runs
+runs_after Halt runs = runs
 
 -- the open runs, in the order in which they began: a block's run is open from its Start to its End, a handler's from
 -- Deliver to DeliverEnd (dispatch_async(3), dispatch_source_create(3))
@@ -45,8 +52,16 @@ act_of plan _ = None
 -- the event begins the run
 abbrev pub opens : Event → Run → Bool
 opens (Start w b) run = same_run (Block b) run
+opens (Acted w r i) run = false
+opens (Wake w b) run = false
+opens (End w b) run = false
 opens (Deliver w s) run = same_run (Source s) run
-opens _ run = false
+opens (DeliverEnd w s) run = false
+opens (Tick t) run = false
+opens (Ready s n) run = false
+opens (FeedEnd s) run = false
+opens (Misuse w r i c) run = false
+opens Halt run = false
 
 -- how many acts the run has made since it began
 abbrev pub acts_done : List Event → Run → ℕ

@@ -9,8 +9,8 @@ use Rattle.gcd_plan.specs.declared.act.Act.{Act}
 use Rattle.gcd_plan.specs.declared.act.Act.TheVariants.{Merge}
 use Rattle.gcd_plan.specs.declared.kind.Kind.{Kind}
 use Rattle.gcd_event.specs.declared.event.Event.{Event}
-use Rattle.gcd_event.specs.declared.event.Event.TheVariants.{Deliver, Ready, Tick}
-use Rattle.gcd_history.specs.Runs.{act_of}
+use Rattle.gcd_event.specs.declared.event.Event.TheVariants.{Start, Act as Acted, Wake, End, Deliver, DeliverEnd, Tick, Ready, FeedEnd, Misuse, Halt}
+use Rattle.gcd_history.specs.Runs.{act_at}
 use Rattle.gcd_history.specs.Holds.{is_active}
 use Rattle.gcd_history.specs.Submitted.{is_cancelled}
 use Rattle.gcd_history.specs.Timers.{now, is_due}
@@ -33,15 +33,23 @@ merged_by s (Some (Merge t n)) = if t.0 == s then (if n == 0 then [] else n ∷ 
 merged_by s _ = []
 
 -- 1 for each due time of timer s after from, up to the tick
-abbrev pub beats : PlanView → List Event → ℕ → (from to : ℕ) → List ℕ
-beats plan past s from to = map (λ t. 1) (filter (is_due plan past s) (range_with_len (from + 1) (to - from)))
+abbrev pub due_inputs : PlanView → List Event → ℕ → (from to : ℕ) → List ℕ
+due_inputs plan past s from to = map (λ t. 1) (filter (is_due plan past s) (range_with_len (from + 1) (to - from)))
 
 -- what the event after past adds to the inputs of source s: a merge above 0, the bytes of a Ready, or 1 for each due time
 -- up to a Tick (dispatch_source_create(3))
 abbrev pub input : PlanView → List Event → Event → ℕ → List ℕ
+input plan past (Start w b) s = []
+input plan past (Acted w r i) s = merged_by s (act_at plan r i)
+input plan past (Wake w b) s = []
+input plan past (End w b) s = []
+input plan past (Deliver w t) s = []
+input plan past (DeliverEnd w t) s = []
+input plan past (Tick t) s = due_inputs plan past s (now past) t
 input plan past (Ready t n) s = if t.0 == s then n ∷ [] else []
-input plan past (Tick t) s = beats plan past s (now past) t
-input plan past e s = merged_by s (act_of plan e)
+input plan past (FeedEnd t) s = []
+input plan past (Misuse w r i c) s = []
+input plan past Halt s = []
 
 -- the event is a Deliver of source s
 abbrev pub delivers : ℕ → Event → Bool
@@ -95,5 +103,5 @@ unfoldable pub is_pending : PlanView → List Event → ℕ → Bool
 is_pending plan past s = not (pending plan past s == 0) && not (is_cancelled plan past s)
 
 -- s is a read source that is active and not cancelled (dispatch_source_create(3))
-unfoldable pub is_live : PlanView → List Event → ℕ → Bool
-is_live plan past s = has_kind is_read_kind plan s && (is_active plan past s && not (is_cancelled plan past s))
+unfoldable pub is_live_feed : PlanView → List Event → ℕ → Bool
+is_live_feed plan past s = has_kind is_read_kind plan s && (is_active plan past s && not (is_cancelled plan past s))

@@ -4,13 +4,13 @@ use Rattle.std.specs.List.{list_any, flat_map, range_with_len}
 use Rattle.std.specs.Option.{option_map_or}
 use Rattle.gcd_plan.specs.PlanView.{PlanView, cancel_block}
 use Rattle.gcd_plan.specs.declared.act.Act.{Act}
-use Rattle.gcd_plan.specs.declared.act.Act.TheVariants.{Async, Barrier, Sync, BarrierSync, GroupAsync, Notify, Cancel}
+use Rattle.gcd_plan.specs.declared.act.Act.TheVariants.{Async, Barrier, Sync, BarrierSync, GroupAsync, Notify, Enter, Leave, GroupWait, Signal, Wait, Suspend, Resume, Activate, Target, Merge, Cancel, Retain, Release}
 use Rattle.gcd_plan.specs.declared.numbers.Blk.{Blk}
 use Rattle.gcd_plan.specs.declared.numbers.Obj.{Obj}
 use Rattle.gcd_event.specs.declared.event.Event.{Event}
-use Rattle.gcd_event.specs.declared.event.Event.TheVariants.{FeedEnd}
+use Rattle.gcd_event.specs.declared.event.Event.TheVariants.{Start, Act as Acted, Wake, End, Deliver, DeliverEnd, Tick, Ready, FeedEnd, Misuse, Halt}
 use Rattle.gcd_history.specs.declared.submission.Submission.{Submission}
-use Rattle.gcd_history.specs.Runs.{act_of}
+use Rattle.gcd_history.specs.Runs.{act_of, act_at}
 use Rattle.gcd_history.specs.Groups.{count}
 
 -- one submission
@@ -19,12 +19,26 @@ on_node node blk barrier = record { blk = blk; node = Some node; barrier = barri
 
 -- what the act itself submits (dispatch_async(3), dispatch_barrier_async(3), dispatch_sync(3), dispatch_group_async(3))
 abbrev pub submitted_by : Option Act → List Submission
+submitted_by None = []
 submitted_by (Some (Async q b)) = on_node q b false
 submitted_by (Some (Barrier q b)) = on_node q b true
 submitted_by (Some (Sync q b)) = on_node q b false
 submitted_by (Some (BarrierSync q b)) = on_node q b true
 submitted_by (Some (GroupAsync g q b)) = on_node q b false
-submitted_by _ = []
+submitted_by (Some (Notify g q b)) = []
+submitted_by (Some (Enter g)) = []
+submitted_by (Some (Leave g)) = []
+submitted_by (Some (GroupWait g)) = []
+submitted_by (Some (Signal s)) = []
+submitted_by (Some (Wait s)) = []
+submitted_by (Some (Suspend o)) = []
+submitted_by (Some (Resume o)) = []
+submitted_by (Some (Activate o)) = []
+submitted_by (Some (Target o t)) = []
+submitted_by (Some (Merge s n)) = []
+submitted_by (Some (Cancel s)) = []
+submitted_by (Some (Retain o)) = []
+submitted_by (Some (Release o)) = []
 
 -- the source that the act cancels (dispatch_source_cancel(3))
 abbrev pub cancelled_by : Option Act → Option Obj
@@ -33,8 +47,17 @@ cancelled_by _ = None
 
 -- the source that the event cancels; the end of its feed does so too (this project's own rule)
 abbrev pub cancels : PlanView → Event → Option Obj
+cancels plan (Start w b) = None
+cancels plan (Acted w r i) = cancelled_by (act_at plan r i)
+cancels plan (Wake w b) = None
+cancels plan (End w b) = None
+cancels plan (Deliver w s) = None
+cancels plan (DeliverEnd w s) = None
+cancels plan (Tick t) = None
+cancels plan (Ready s n) = None
 cancels plan (FeedEnd s) = Some s
-cancels plan e = cancelled_by (act_of plan e)
+cancels plan (Misuse w r i c) = None
+cancels plan Halt = None
 
 -- source s is cancelled (dispatch_source_testcancel(3))
 abbrev pub is_cancelled : PlanView → List Event → ℕ → Bool
@@ -63,8 +86,8 @@ at_empty plan past e g =
     if count plan (e ∷ past) g == 0 then notify_blocks plan past g ++ registered g (act_of plan e) else []
 
 -- what the event submits after past, in order
-abbrev pub submissions : PlanView → List Event → Event → List Submission
-submissions plan past e =
+abbrev pub new_submissions : PlanView → List Event → Event → List Submission
+new_submissions plan past e =
     submitted_by (act_of plan e)
     ++ at_cancel plan past (cancels plan e)
     ++ flat_map (at_empty plan past e) (range_with_len 0 (length plan.objects))
@@ -76,7 +99,7 @@ main_submission = record { blk = record { 0 = 0 }; node = None; barrier = false 
 -- every submission, the first first
 abbrev pub submitted : PlanView → List Event → List Submission
 submitted plan [] = main_submission ∷ []
-submitted plan (e ∷ past) = submitted plan past ++ submissions plan past e
+submitted plan (e ∷ past) = submitted plan past ++ new_submissions plan past e
 
 -- the submission of block b
 abbrev pub submission_of : PlanView → List Event → ℕ → Option Submission

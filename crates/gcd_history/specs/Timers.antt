@@ -4,7 +4,7 @@ use Rattle.std.specs.Prelude.{ℕ, ◌+◌, ◌-◌, nat_le, nat_lt, Bool, true,
 use Rattle.std.specs.Option.{option_map_or}
 use Rattle.std.specs.List.{list_any, range_with_len}
 use Rattle.gcd_plan.specs.PlanView.{PlanView, kind_of}
-use Rattle.gcd_plan.specs.KindValues.{is_on_beat}
+use Rattle.gcd_plan.specs.KindValues.{is_on_interval}
 use Rattle.gcd_event.specs.declared.event.Event.{Event}
 use Rattle.gcd_event.specs.declared.event.Event.TheVariants.{Tick}
 use Rattle.gcd_history.specs.Submitted.{is_cancelled}
@@ -31,7 +31,7 @@ cancelled_at plan (e ∷ past) s =
 -- t is a due time of timer s: none lies past `until`, and none past its cancellation (dispatch_source_set_timer(3))
 abbrev pub is_due : PlanView → List Event → ℕ → ℕ → Bool
 is_due plan past s t =
-    option_map_or (λ from. option_map_or (λ kind. is_on_beat kind from t) (kind_of plan s) false) (activated_at plan past s) false
+    option_map_or (λ from. option_map_or (λ kind. is_on_interval kind from t) (kind_of plan s) false) (activated_at plan past s) false
     && (nat_le t plan.until && option_map_or (λ end. nat_le t end) (cancelled_at plan past s) true)
 
 -- t is a due time of some timer

@@ -14,13 +14,13 @@ use Rattle.gcd_history.specs.Runs.{act_of, open_runs}
 use Rattle.gcd_history.specs.Submitted.{submission_of}
 
 -- the node of a run: a block's queue or source, a handler's source; main has none
-abbrev pub node_of : PlanView → List Event → Run → Option ℕ
-node_of plan past (Block b) = option_map (λ o. o.0) (option_and_then (λ s. s.node) (submission_of plan past b.0))
-node_of plan past (Source s) = Some s.0
+abbrev pub node_of_run : PlanView → List Event → Run → Option ℕ
+node_of_run plan past (Block b) = option_map (λ o. o.0) (option_and_then (λ s. s.node) (submission_of plan past b.0))
+node_of_run plan past (Source s) = Some s.0
 
 -- the run's node is o
 abbrev pub is_run_on : PlanView → List Event → ℕ → Run → Bool
-is_run_on plan past o run = option_map_or (λ n. n == o) (node_of plan past run) false
+is_run_on plan past o run = option_map_or (λ n. n == o) (node_of_run plan past run) false
 
 -- how many runs are open on node o itself
 abbrev pub open_on : PlanView → List Event → ℕ → ℕ
@@ -71,7 +71,7 @@ chain plan past o = chain_by (target plan past) (length plan.objects) o
 
 -- the nodes that the run is beneath; main is beneath none
 abbrev pub chain_of_run : PlanView → List Event → Run → List ℕ
-chain_of_run plan past run = option_map_or (chain plan past) (node_of plan past run) []
+chain_of_run plan past run = option_map_or (chain plan past) (node_of_run plan past run) []
 
 -- how many runs are open beneath object o
 abbrev pub open_beneath : PlanView → List Event → ℕ → ℕ

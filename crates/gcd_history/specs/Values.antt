@@ -1,5 +1,5 @@
 -- What a block's work computes (this project's own rule: libdispatch leaves it to the block's code).
-use Rattle.std.specs.Prelude.{ℕ, ◌+◌, ◌==◌, ◌||◌, nat_le, ◌&&◌, Bool, false, true, if◌then◌else◌, List, [], ◌∷◌, length, take, drop, sum, count_by, slice_get, unwrap_or}
+use Rattle.std.specs.Prelude.{ℕ, ◌+◌, ◌-◌, ◌==◌, not, ◌||◌, nat_le, ◌&&◌, Bool, false, true, if◌then◌else◌, List, [], ◌∷◌, length, take, drop, sum, count_by, slice_get, unwrap_or}
 use Rattle.std.specs.Option.{option_map_or}
 use Rattle.gcd_plan.specs.PlanView.{PlanView, work_of}
 use Rattle.gcd_plan.specs.declared.work.How.{How}
@@ -20,8 +20,14 @@ words_begun inside [] = 0
 words_begun inside (c ∷ bytes) =
     if is_space c then words_begun false bytes else (if inside then words_begun true bytes else words_begun true bytes + 1)
 
--- the bytes, counted as the work says: their number, the number of bytes 10, the number of maximal runs of bytes other than
--- 9 to 13 and 32, their sum, or the number of bytes of one value
+-- a word begins at place i: the byte there is no space, and it is the first or the byte before it is a space
+abbrev pub begins_word : List ℕ → ℕ → Bool
+begins_word bytes i =
+    option_map_or (λ c. not (is_space c)) (slice_get bytes i) false
+    && (i == 0 || option_map_or is_space (slice_get bytes (i - 1)) false)
+
+-- the bytes, counted as the work says: their number, the number of bytes 10, the number of places where a word begins, their
+-- sum, or the number of bytes of one value
 abbrev pub counted : How → List ℕ → ℕ
 counted Bytes bytes = length bytes
 counted Lines bytes = count_by (λ c. c == 10) bytes

@@ -5,11 +5,18 @@ ghost use Rattle.gcd_plan.specs.Validity.{IsPlan};
 ghost use Rattle.gcd_event.specs.declared.event.Event.{Event};
 ghost use Rattle.gcd_history.specs.History.{IsLawful, running_of};
 ghost use Rattle.gcd_history.specs.Ends.{is_halted};
-ghost use Rattle.gcd_history.specs.Facts.{HasOneRun, RunsGoOn, IsFreeWorker, FreeWorkersAreAlike, MayWakeUntilWoken, WakesArePermitted, AllFit, OnlyActiveMove, TargetsChangeAlone};
+ghost use Rattle.gcd_history.specs.Facts.{HasOneRun, GivesToFree, OpenOnce, RunsGoOn, IsFreeWorker, FreeWorkersAreAlike, MayWakeUntilWoken, WakesArePermitted, AllFit, OnlyActiveMove, TargetsChangeAlone};
 
-/// A worker has at most one run that is open and not parked (this project's own rule).
+/// A worker has at most one run that is open and not parked, and each Start, Wake and Deliver finds its worker without one
+/// (this project's own rule).
 pub fn workers_have_one_run()
-    ensures { (plan : PlanView) (h : List Event) → IsLawful plan h → HasOneRun plan h }
+    ensures one { (plan : PlanView) (h : List Event) → IsLawful plan h → HasOneRun plan h }
+    ensures given { (plan : PlanView) (h : List Event) → IsLawful plan h → GivesToFree plan h }
+{}
+
+/// A run of a block or of a source stands at most once among the open runs (this project's own rule).
+pub fn open_runs_stand_once()
+    ensures { (plan : PlanView) (h : List Event) → IsLawful plan h → OpenOnce h }
 {}
 
 /// A run that is open and not parked has a permitted event of its own, as long as the history is not halted: its next act,

@@ -1,5 +1,6 @@
 // What holds of every lawful history, and some of every history. Each function's contract is a law; its body is empty.
-ghost use Rattle.std.specs.Prelude.{◌≡◌, ℕ, List, Some, None};
+ghost use Rattle.std.specs.Prelude.{◌≡◌, ℕ, List, Some, None, false, length, count_by};
+ghost use Rattle.std.specs.List.{range_with_len};
 ghost use Rattle.gcd_plan.specs.PlanView.{PlanView};
 ghost use Rattle.gcd_plan.specs.Validity.{IsPlan};
 ghost use Rattle.gcd_event.specs.declared.event.Event.{Event};
@@ -7,7 +8,8 @@ ghost use Rattle.gcd_event.specs.declared.event.Event.TheVariants.{Halt};
 ghost use Rattle.gcd_history.specs.History.{IsLawful, why, choice_of};
 ghost use Rattle.gcd_history.specs.Ends.{IsDrained, IsQuiescent, IsHalted, HasState};
 ghost use Rattle.gcd_history.specs.declared.state.State.{State};
-ghost use Rattle.gcd_history.specs.Laws.{RunsOnce, StartsAfterSubmission, AllEndOnce, IsSubmittedOnce, StartsInOrder, BeginsFree, WakesHaveCause, NoneParked, WaitsHavePassed, GroupWaitsPass, SemaphoreWaitsPass, IsConserved, RunsExclude, BarriersExclude, TreeStands, IsChoiceOf, HasNoChoice, IsAtRest};
+ghost use Rattle.gcd_history.specs.Values.{words_begun, begins_word};
+ghost use Rattle.gcd_history.specs.Laws.{RunsOnce, StartsAfterSubmission, AllEndOnce, IsSubmittedOnce, StartsInOrder, BeginsFree, WakesHaveCause, NoneParked, WaitsHavePassed, GroupWaitsPass, SemaphoreWaitsPass, IsConserved, RunsExclude, BlocksOfOneNodeApart, BarriersExclude, DeliversAlone, TreeStands, IsChoiceOf, HasNoChoice, HasSomeState, IsAtRest};
 
 /// Each block starts at most once, after its submission, and ends at most once; where the run is drained each submitted
 /// block has ended exactly once (dispatch_async(3)).
@@ -29,15 +31,28 @@ pub fn blocks_start_in_order()
     ensures { (plan : PlanView) (h : List Event) → IsPlan plan → IsLawful plan h → StartsInOrder plan h }
 {}
 
-/// No two different runs that are open at one position lie beneath one serial queue or source there (dispatch_queue_create(3),
-/// dispatch_set_target_queue(3)).
+/// No two different runs overlap where both are beneath one serial queue or source (dispatch_queue_create(3),
+/// dispatch_set_target_queue(3)). A run of a source is named by the source: of two deliveries of one source
+/// [`deliveries_exclude_each_other`] speaks.
 pub fn runs_exclude_each_other()
     ensures { (plan : PlanView) (h : List Event) → IsPlan plan → IsLawful plan h → RunsExclude plan h }
+{}
+
+/// No two different blocks that were submitted on one serial queue overlap (dispatch_queue_create(3)). It follows from
+/// [`runs_exclude_each_other`].
+pub fn blocks_of_one_queue_exclude_each_other()
+    ensures { (plan : PlanView) (h : List Event) → IsPlan plan → IsLawful plan h → BlocksOfOneNodeApart plan h }
 {}
 
 /// No run of a concurrent queue other than root overlaps a barrier of that queue (dispatch_barrier_async(3)).
 pub fn barriers_exclude()
     ensures { (plan : PlanView) (h : List Event) → IsLawful plan h → BarriersExclude plan h }
+{}
+
+/// A Deliver stands only where no run of its source is open, so no two deliveries of one source overlap
+/// (dispatch_source_create(3)).
+pub fn deliveries_exclude_each_other()
+    ensures { (plan : PlanView) (h : List Event) → IsLawful plan h → DeliversAlone h }
 {}
 
 /// At a block's Start and at a Deliver each object of the chain is active, with hold 0, and its target is not about to change
@@ -97,8 +112,19 @@ pub fn ended_histories_stand()
         → e ≡ Halt }
 {}
 
-/// A history has come to one state (this project's own rule).
+/// A history has come to at most one state (this project's own rule).
 pub fn states_are_apart()
     ensures { (plan : PlanView) (h : List Event) (s t : State) → HasState plan h s → HasState plan h t
         → s ≡ t }
+{}
+
+/// A lawful history of a valid plan has come to a state (this project's own rule).
+pub fn each_history_has_a_state()
+    ensures { (plan : PlanView) (h : List Event) → IsPlan plan → IsLawful plan h → HasSomeState plan h }
+{}
+
+/// The words of a text are as many as the places where a word begins: the byte there is no space, and it is the first byte or
+/// the byte before it is a space (this project's own rule).
+pub fn words_are_places_where_one_begins()
+    ensures { (bytes : List ℕ) → words_begun false bytes ≡ count_by (begins_word bytes) (range_with_len 0 (length bytes)) }
 {}

@@ -16,6 +16,16 @@
 //! `reverse h`. So a crate above cites them shut, and where it proves something of one event more it opens them, and computes
 //! by `reverse (h ++ e ∷ []) ≡ e ∷ reverse h` (`proofs/Lists`, `reverse_push`).
 //!
+//! Each definition says where its rule comes from: the section 3 manual page that it names, or else that of its file's first
+//! lines; where these name none it is this project's own rule.
+//!
+//! A definition that sorts acts, events, kinds or states names each variant, so that the compiler refuses a new one until
+//! someone decides what it is. A test for one or two variants (`starts`, `retains`, `hold_after`) passes over all others: that
+//! is its meaning. So do the three walks `acts_done`, `last_worker` and `parked_by`, which ask `opens` of each other event.
+//!
+//! Worked rows (`proofs/Rows*`) are computed with each check: `proofs/Lib.antt` names their files, so a row that does not hold
+//! fails the crate, though no law cites it.
+//!
 //! | law, a function with an empty body | says |
 //! |---|---|
 //! | [`lawful::lawful_begins`], [`lawful::lawful_goes_on`] | what makes a history lawful |
@@ -24,13 +34,18 @@
 //! | [`laws::blocks_run_once`], [`laws::blocks_are_submitted_once`] | a block starts at most once, after its one submission, and where all is drained it has ended |
 //! | [`laws::blocks_start_in_order`] | of two submissions on one node the later starts only after the earlier has started |
 //! | [`laws::runs_exclude_each_other`], [`laws::barriers_exclude`] | beneath a serial queue or source, and beside a barrier, a run is alone |
+//! | [`laws::blocks_of_one_queue_exclude_each_other`] | so blocks of one serial queue never overlap |
+//! | [`laws::deliveries_exclude_each_other`] | a delivery begins where no run of its source is open |
 //! | [`laws::runs_begin_free`] | what begins, begins with its whole chain free |
 //! | [`laws::wakes_have_causes`] | a parked block wakes only when what it waits for has come |
 //! | [`laws::merged_data_is_conserved`] | what was merged was handed over, or is pending |
 //! | [`laws::tree_stands_under_open_runs`] | targets lead to root, and stand still under an open run |
 //! | [`laws::choices_are_complete`] | in any history of a valid plan a worker has a choice exactly where an event of its own is permitted |
-//! | [`laws::quiescent_is_at_rest`], [`laws::ended_histories_stand`], [`laws::states_are_apart`] | how to see that nothing goes on, and what can still come then |
-//! | [`facts::workers_have_one_run`], [`facts::open_runs_go_on`] | a worker has at most one open and unparked run, and such a run has a permitted event of its own |
+//! | [`laws::quiescent_is_at_rest`], [`laws::ended_histories_stand`] | how to see that nothing goes on, and what can still come then |
+//! | [`laws::states_are_apart`], [`laws::each_history_has_a_state`] | a history has at most one state, and a lawful one of a valid plan has one |
+//! | [`laws::words_are_places_where_one_begins`] | what the work `words` counts, said without recursion |
+//! | [`facts::workers_have_one_run`], [`facts::open_runs_go_on`] | a worker has at most one open and unparked run, and none where it gets one; and such a run has a permitted event of its own |
+//! | [`facts::open_runs_stand_once`] | a run stands at most once among the open runs |
 //! | [`facts::free_workers_are_alike`] | what is permitted to one free worker is permitted to every other |
 //! | [`facts::wakes_stay_due`] | a block that may wake may wake until its Wake |
 //! | [`facts::lawful_events_fit`] | each event of a lawful history fits |

@@ -17,9 +17,9 @@ use Rattle.gcd_history.specs.Submitted.{submitted, submitted_by}
 use Rattle.gcd_history.specs.Permitted.{is_halted, why as why_after}
 use Rattle.gcd_history.specs.History.{why}
 use Rattle.gcd_history.proofs.Lists.{reverse_push}
-use Rattle.gcd_history.proofs.QueuesOnRoot.{IsFirstPlan, serial_queue, submits_of}
-use Rattle.gcd_history.proofs.NothingHeld.{submitted_more}
-use Rattle.gcd_history.proofs.OnlyBlocksRun.{Step, StartFacts, ActFacts, EndFacts, starts, acts, ends, halts, step_of}
+use Rattle.gcd_machine.proofs.QueuesOnRoot.{IsFirstPlan, serial_queue, submits_of}
+use Rattle.gcd_machine.proofs.NothingHeld.{submitted_more}
+use Rattle.gcd_machine.proofs.OnlyBlocksRun.{Step, StartFacts, ActFacts, EndFacts, starts, acts, ends, halts, step_of}
 use Rattle.gcd_machine.specs.MachineView.{MachineView}
 use Rattle.gcd_machine.specs.Keeps.{Keeps}
 use Rattle.gcd_machine.specs.Kept.{after_start, after_act, after_end, after_halt, CanStart, CanSubmit, CanAct, CanEnd}

@@ -16,8 +16,8 @@ use Rattle.gcd_history.specs.Runs.{same_run, is_open, is_started}
 use Rattle.gcd_history.specs.Submitted.{submission_of}
 use Rattle.gcd_history.specs.Tree.{is_run_on}
 use Rattle.gcd_history.proofs.RunsOpen.{same_run-true}
-use Rattle.gcd_history.proofs.QueuesOnRoot.{IsFirstPlan, serial_queue}
-use Rattle.gcd_history.proofs.BlocksRunOnce.{Facts, queued_of, main_submitted, open_parts}
+use Rattle.gcd_machine.proofs.QueuesOnRoot.{IsFirstPlan, serial_queue}
+use Rattle.gcd_machine.proofs.BlocksRunOnce.{Facts, queued_of, main_submitted, open_parts}
 use Rattle.gcd_machine.specs.MachineView.{MachineView, idle, progress, at_worker}
 use Rattle.gcd_machine.specs.Keeps.{Keeps, IsShaped, progress_of, events_of}
 use Rattle.gcd_machine.specs.Kept.{with_open, without_first}

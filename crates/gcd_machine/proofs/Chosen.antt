@@ -7,6 +7,7 @@ use Rattle.std.proofs.lemmas.Option.{none-some, slice_get_within, get_or_from_sl
 use Rattle.std.proofs.lemmas.List.{append-nil}
 use Rattle.std.proofs.lemmas.List.Sums.{get_or-le-sum_by}
 use Rattle.std.proofs.lemmas.List.Folds.{find-append}
+use Rattle.gcd_plan.specs.Limits.{max_acts}
 use Rattle.gcd_plan.specs.PlanView.{PlanView}
 use Rattle.gcd_plan.specs.Kinds.{is_source}
 use Rattle.gcd_plan.specs.StartRule.{first_of}
@@ -22,13 +23,13 @@ use Rattle.gcd_history.specs.declared.submission.Submission.{Submission}
 use Rattle.gcd_history.specs.Runs.{open_runs, acts_done, act_at, is_started}
 use Rattle.gcd_history.specs.Submitted.{submitted, submission_of, main_submission}
 use Rattle.gcd_history.specs.Parked.{has_run}
-use Rattle.gcd_history.specs.Permitted.{is_halted, is_known, is_worker, has_block, is_run_of, reasons, is_on, waits_on, first_waiting, permitted}
+use Rattle.gcd_history.specs.Permitted.{is_halted, is_known, is_worker, is_index, has_block, is_run_of, reasons, is_on, waits_on, first_waiting, permitted}
 use Rattle.gcd_history.specs.Choice.{next_events, own_events, wake_event, node_events, candidates, choice, is_work, worker_of}
 use Rattle.gcd_history.proofs.Lists.{found_is}
 use Rattle.gcd_history.proofs.Choices.{is_by, candidates_by}
 use Rattle.gcd_history.proofs.Counts.{found_alone}
-use Rattle.gcd_history.proofs.NothingHeld.{no_misuses, no_sources}
-use Rattle.gcd_history.proofs.BlocksRunOnce.{queued_of, main_submitted}
+use Rattle.gcd_machine.proofs.NothingHeld.{no_misuses, no_sources}
+use Rattle.gcd_machine.proofs.BlocksRunOnce.{queued_of, main_submitted}
 use Rattle.gcd_machine.specs.MachineView.{MachineView, progress, at_worker, at_queue}
 use Rattle.gcd_machine.specs.Keeps.{Keeps, run_list, waiter}
 use Rattle.gcd_machine.specs.Kept.{queue_reasons, is_waiting, is_blk, is_first, kept_why, next_event, node_choice, nodes_choice, idle_choice, kept_choice}
@@ -62,12 +63,12 @@ unknown_fails plan past e unknown =
 -- an event of a worker whose number is past the last is not known
 unknown_worker : (plan : PlanView) (w : ℕ) (e : Event) → is_worker w ≡ false → worker_of e ≡ w → is_known plan e ≡ false
 unknown_worker plan w (Start v b) none by = ap (λ t. t && has_block plan b.0) (ap is_worker by ∙ none)
-unknown_worker plan w (Acted v run i) none by = ap (λ t. t && (is_run_of plan run && nat_le i 65534)) (ap is_worker by ∙ none)
+unknown_worker plan w (Acted v run i) none by = ap (λ t. t && (is_run_of plan run && is_index i)) (ap is_worker by ∙ none)
 unknown_worker plan w (Wake v b) none by = ap (λ t. t && has_block plan b.0) (ap is_worker by ∙ none)
 unknown_worker plan w (End v b) none by = ap (λ t. t && has_block plan b.0) (ap is_worker by ∙ none)
 unknown_worker plan w (Deliver v s) none by = ap (λ t. t && is_source plan s.0) (ap is_worker by ∙ none)
 unknown_worker plan w (DeliverEnd v s) none by = ap (λ t. t && is_source plan s.0) (ap is_worker by ∙ none)
-unknown_worker plan w (Misuse v run i c) none by = ap (λ t. t && (is_run_of plan run && (nat_le i 65534 && (nat_lt 0 c && nat_le c 8)))) (ap is_worker by ∙ none)
+unknown_worker plan w (Misuse v run i c) none by = ap (λ t. t && (is_run_of plan run && (is_index i && (nat_lt 0 c && nat_le c 8)))) (ap is_worker by ∙ none)
 unknown_worker plan w (Tick t) none by = absurd (both_ways (is_worker 0) (ap is_worker by ∙ none) refl)
 unknown_worker plan w (Ready s n) none by = absurd (both_ways (is_worker 0) (ap is_worker by ∙ none) refl)
 unknown_worker plan w (FeedEnd s) none by = absurd (both_ways (is_worker 0) (ap is_worker by ∙ none) refl)
@@ -108,9 +109,9 @@ own_candidates m past w b keeps at =
     ∙ ap (λ o. Acted w (Block b) n ∷ map (Misuse w (Block b) n) (option_to_list o) ++ End w b ∷ [] ++ []) none)
 
 -- an act that stands has a low index
-pub few_acts : (plan : PlanView) (b : Blk) (i : ℕ) → IsPlan plan → is_some (act_at plan (Block b) i) ≡ true → i ≤ 65534
+pub few_acts : (plan : PlanView) (b : Blk) (i : ℕ) → IsPlan plan → is_some (act_at plan (Block b) i) ≡ true → i < max_acts
 few_acts plan b i valid some =
-    elim (slice_get plan.blocks b.0) as (λ o. slice_get plan.blocks b.0 ≡ o → is_some (slice_get (option_map_or (λ blk. blk.acts) o []) i) ≡ true → i ≤ 65534) [
+    elim (slice_get plan.blocks b.0) as (λ o. slice_get plan.blocks b.0 ≡ o → is_some (slice_get (option_map_or (λ blk. blk.acts) o []) i) ≡ true → i < max_acts) [
       | None ↦ λ e h. cc
       | Some blk ↦ λ e h.
           let within : i < length blk.acts = some_within blk.acts i h in
@@ -150,12 +151,12 @@ act_permitted m past w b keeps go at =
     told m past (Acted w (Block b) n) keeps
     ∙ (elim some as (λ v. some ≡ v → is_none (kept_why m (Acted w (Block b) n)) ≡ v) [
       | true ↦ λ e.
-          let low : nat_le n 65534 ≡ true = le-leb n 65534 (few_acts m.plan b n keeps.valid e) in
-          let named = and_from (is_worker w) (has_block m.plan b.0 && nat_le n 65534) go.worker (and_from (has_block m.plan b.0) (nat_le n 65534) known low) in
-          last_decides m.halted (is_worker w && (has_block m.plan b.0 && nat_le n 65534)) (is_blk b.0 (at_worker m w)) (not (n == n && some)) NotNext go.going named (own_is m w b at)
+          let low : is_index n ≡ true = lt-ltb n max_acts (few_acts m.plan b n keeps.valid e) in
+          let named = and_from (is_worker w) (has_block m.plan b.0 && is_index n) go.worker (and_from (has_block m.plan b.0) (is_index n) known low) in
+          last_decides m.halted (is_worker w && (has_block m.plan b.0 && is_index n)) (is_blk b.0 (at_worker m w)) (not (n == n && some)) NotNext go.going named (own_is m w b at)
           ∙ (not_not (n == n && some) ∙ and_from (n == n) some (eq-eqb n n refl) e)
       | false ↦ λ e.
-          refused_last m.halted (is_worker w && (has_block m.plan b.0 && nat_le n 65534)) (is_blk b.0 (at_worker m w)) (n == n && some) (and_right (n == n) some e)
+          refused_last m.halted (is_worker w && (has_block m.plan b.0 && is_index n)) (is_blk b.0 (at_worker m w)) (n == n && some) (and_right (n == n) some e)
     ] refl)
   where
     not_not : (v : Bool) → not (not v) ≡ v

@@ -19,13 +19,13 @@ use Rattle.gcd_history.specs.Tree.{is_run_on}
 use Rattle.gcd_history.specs.Permitted.{is_halted, ends_in_halt, is_worker, is_on, waits_on, why, permitted, IsLawful}
 use Rattle.gcd_history.specs.Choice.{IsQuiescent, all_ended, is_work, worker_of}
 use Rattle.gcd_history.proofs.Lists.{found_is, found_passes}
-use Rattle.gcd_history.proofs.Options.{none_is}
+use Rattle.gcd_plan.proofs.Options.{none_from_is_none}
 use Rattle.gcd_history.proofs.RunsOpen.{same_run-refl}
 use Rattle.gcd_history.proofs.Counts.{found_alone, counted_found, count_unfound}
-use Rattle.gcd_history.proofs.QueuesOnRoot.{IsFirstPlan, serial_queue}
-use Rattle.gcd_history.proofs.NothingHeld.{nothing_due, nothing_live}
-use Rattle.gcd_history.proofs.OnlyBlocksRun.{Step, starts, acts, ends, halts, step_of}
-use Rattle.gcd_history.proofs.BlocksRunOnce.{Facts, queued_of, open_parts, own_is_open}
+use Rattle.gcd_machine.proofs.QueuesOnRoot.{IsFirstPlan, serial_queue}
+use Rattle.gcd_machine.proofs.NothingHeld.{nothing_due, nothing_live}
+use Rattle.gcd_machine.proofs.OnlyBlocksRun.{Step, starts, acts, ends, halts, step_of}
+use Rattle.gcd_machine.proofs.BlocksRunOnce.{Facts, queued_of, open_parts, own_is_open}
 use Rattle.gcd_machine.specs.MachineView.{MachineView, progress, at_worker, at_queue}
 use Rattle.gcd_machine.specs.Keeps.{Keeps, is_last, run_list, waiter}
 use Rattle.gcd_machine.specs.Kept.{next_event, node_choice, nodes_choice, idle_choice, kept_choice}
@@ -63,7 +63,7 @@ no_step plan past _ first facts all work (halts goes_on) = cc
 pub quiet_at_end : (plan : PlanView) (past : List Event) → IsFirstPlan plan → Facts plan past → is_halted past ≡ false → all_ended plan past ≡ true → IsQuiescent plan past
 quiet_at_end plan past first facts going all = record {
   goes_on = going;
-  no_work = λ e work. false_from_ne_true (permitted plan past e) (λ may. no_step plan past e first facts all work (step_of plan past e first (none_is (why plan past e) may)));
+  no_work = λ e work. false_from_ne_true (permitted plan past e) (λ may. no_step plan past e first facts all work (step_of plan past e first (none_from_is_none (why plan past e) may)));
   no_time = nothing_due plan past first;
   no_feed = λ s. nothing_live plan past s first;
 }

@@ -5,7 +5,7 @@ use Rattle.std.specs.Option.{option_map, option_map_or, option_and_then, is_some
 use Rattle.std.proofs.lemmas.Bool.{and_parts, and_from, not-true, not-false, cases_eq}
 use Rattle.std.proofs.lemmas.Option.{slice_get-map}
 use Rattle.gcd_plan.specs.Kinds.{is_source, has_kind}
-use Rattle.gcd_plan.specs.FirstForms.{is_serial_kind}
+use Rattle.gcd_forms.specs.FirstForms.{is_serial_kind}
 use Rattle.gcd_lists.specs.ListsView.{list_at}
 use Rattle.gcd_plan.specs.StartRule.{first_of, is_held, is_excluded}
 use Rattle.gcd_plan.specs.declared.numbers.Blk.{Blk}
@@ -21,12 +21,12 @@ use Rattle.gcd_history.specs.Submitted.{submitted, submission_of, main_submissio
 use Rattle.gcd_history.specs.Tree.{is_run_on, is_open_on, chain}
 use Rattle.gcd_history.specs.Parked.{has_run, is_busy, is_parked}
 use Rattle.gcd_history.specs.Timers.{may_tick}
-use Rattle.gcd_history.specs.Permitted.{is_halted, is_known, is_worker, has_block, is_ready, is_on, waits_on, is_behind, is_fenced, knowledge, waiting_reasons, node_reasons, is_next, has_act_left, misuse_at, reasons, why}
+use Rattle.gcd_history.specs.Permitted.{is_halted, is_known, is_worker, is_index, has_block, is_ready, is_on, waits_on, is_behind, is_fenced, knowledge, waiting_reasons, node_reasons, is_next, has_act_left, misuse_at, reasons, why}
 use Rattle.gcd_history.proofs.Choices.{before_first_waiting}
 use Rattle.gcd_history.proofs.Counts.{find_first, counted_found, count_unfound}
-use Rattle.gcd_history.proofs.QueuesOnRoot.{IsFirstPlan, serial_queue}
-use Rattle.gcd_history.proofs.NothingHeld.{has_run_is, held_none, excluded_is_on, fenced_none, no_parked, no_sources, no_feeds, no_ticks, no_misuses}
-use Rattle.gcd_history.proofs.BlocksRunOnce.{Facts, facts_of, main_submitted, named, queued_of}
+use Rattle.gcd_machine.proofs.QueuesOnRoot.{IsFirstPlan, serial_queue}
+use Rattle.gcd_machine.proofs.NothingHeld.{has_run_is, held_none, excluded_is_on, fenced_none, no_parked, no_sources, no_feeds, no_ticks, no_misuses}
+use Rattle.gcd_machine.proofs.BlocksRunOnce.{Facts, facts_of, main_submitted, named, queued_of}
 use Rattle.gcd_machine.specs.MachineView.{MachineView, progress, at_worker, at_queue}
 use Rattle.gcd_machine.specs.Keeps.{Keeps, is_last, run_list, waiter}
 use Rattle.gcd_machine.specs.Kept.{is_waiting, is_blk, is_first, queue_reasons, is_next_act, kept_reasons, kept_why}
@@ -211,7 +211,7 @@ start_is m past w b keeps =
 
 act_is : (m : MachineView) (past : List Event) (w : ℕ) (b : Blk) (i : ℕ) → Keeps m past → Judges m past (Acted w (Block b) i)
 act_is m past w b i keeps =
-    let known = not (is_worker w && (has_block m.plan b.0 && nat_le i 65534)) in
+    let known = not (is_worker w && (has_block m.plan b.0 && is_index i)) in
     alike Over (is_halted past) m.halted (over_is m past keeps)
     (λ _. alike NoSuch known known refl
     (λ _. alike NotOwn (not (has_run m.plan past w (Block b))) (not (is_blk b.0 (at_worker m w))) (ap not (held_is m past w b keeps))
@@ -236,7 +236,7 @@ end_is m past w b keeps =
 
 misuse_is : (m : MachineView) (past : List Event) (w : ℕ) (b : Blk) (i c : ℕ) → Keeps m past → Judges m past (Misuse w (Block b) i c)
 misuse_is m past w b i c keeps =
-    let known = not (is_worker w && (has_block m.plan b.0 && (nat_le i 65534 && (nat_lt 0 c && nat_le c 8)))) in
+    let known = not (is_worker w && (has_block m.plan b.0 && (is_index i && (nat_lt 0 c && nat_le c 8)))) in
     let right = not (option_map_or (λ code. code == c) (misuse_at m.plan past (Block b) i) false) in
     alike Over (is_halted past) m.halted (over_is m past keeps)
     (λ _. alike NoSuch known known refl
@@ -274,7 +274,7 @@ judged m past (Start w b) keeps = start_is m past w b keeps
 judged m past (Acted w (Block b) i) keeps = act_is m past w b i keeps
 judged m past (Acted w (Source s) i) keeps =
     unknown_is m past (Acted w (Source s) i) keeps
-    (source_unknown (is_worker w) (is_source m.plan s.0) (nat_le i 65534) (no_sources m.plan s.0 (first_plan m past keeps)))
+    (source_unknown (is_worker w) (is_source m.plan s.0) (is_index i) (no_sources m.plan s.0 (first_plan m past keeps)))
 judged m past (Wake w b) keeps = wake_is m past w b keeps
 judged m past (End w b) keeps = end_is m past w b keeps
 judged m past (Deliver w s) keeps =
@@ -288,7 +288,7 @@ judged m past (FeedEnd s) keeps = unknown_is m past (FeedEnd s) keeps (no_feeds 
 judged m past (Misuse w (Block b) i c) keeps = misuse_is m past w b i c keeps
 judged m past (Misuse w (Source s) i c) keeps =
     unknown_is m past (Misuse w (Source s) i c) keeps
-    (source_unknown (is_worker w) (is_source m.plan s.0) (nat_le i 65534 && (nat_lt 0 c && nat_le c 8)) (no_sources m.plan s.0 (first_plan m past keeps)))
+    (source_unknown (is_worker w) (is_source m.plan s.0) (is_index i && (nat_lt 0 c && nat_le c 8)) (no_sources m.plan s.0 (first_plan m past keeps)))
 judged m past Halt keeps = alike Over (is_halted past) m.halted (over_is m past keeps) (λ _. record { same = refl })
 
 -- the first reason against an event, as the arrays tell it

@@ -1,3 +1,8 @@
+pub mod QueuesOnRoot
+pub mod ActsSubmitApart
+pub mod NothingHeld
+pub mod OnlyBlocksRun
+pub mod BlocksRunOnce
 pub mod Runs
 pub mod Judged
 pub mod Waiting

@@ -9,7 +9,7 @@ use Rattle.std.proofs.lemmas.List.Folds.{sum_by-replicate, list_all-append}
 use Rattle.std.proofs.lemmas.Option.{none-some, slice_get_within}
 use Rattle.gcd_plan.specs.PlanView.{PlanView}
 use Rattle.gcd_plan.specs.Validity.{IsPlan}
-use Rattle.gcd_plan.specs.FirstForms.{IsOfFirstForms}
+use Rattle.gcd_forms.specs.FirstForms.{IsOfFirstForms}
 use Rattle.gcd_plan.specs.declared.numbers.Blk.{Blk}
 use Rattle.gcd_plan.specs.declared.numbers.Obj.{Obj}
 use Rattle.gcd_event.specs.declared.event.Event.{Event}
@@ -29,7 +29,7 @@ use Rattle.gcd_machine.specs.Keeps.{Keeps, IsShaped, progress_of, run_list, wait
 use Rattle.gcd_machine.specs.Kept.{kept_why, kept_choice}
 use Rattle.gcd_machine.specs.Stands.{StandsFor}
 use Rattle.gcd_history.specs.Choice.{worker_of}
-use Rattle.gcd_history.proofs.NothingHeld.{parked_none}
+use Rattle.gcd_machine.proofs.NothingHeld.{parked_none}
 use Rattle.gcd_machine.specs.Workers.{is_all_by}
 use Rattle.gcd_lists.specs.ListsView.{ListsView, list_at}
 use Rattle.gcd_machine.specs.declared.progress.Progress.{Progress}
@@ -143,9 +143,9 @@ pub chosen_permitted : (plan : PlanView) (h : List Event) (w from : ℕ) (e : Ev
 unfolding choice_of why
 chosen_permitted plan h w from e found = (chosen_is plan (reverse h) w from e found).permitted_now
 
-pub parks_stands : (m : MachineView) (plan : PlanView) (h : List Event) (e : Event) → StandsFor m plan h → parked.parks (act_of m.plan e) ≡ parks plan e
+pub parks_stands : (m : MachineView) (plan : PlanView) (h : List Event) (e : Event) → StandsFor m plan h → parked.is_parking (act_of m.plan e) ≡ parks plan e
 unfolding parks
-parks_stands m plan h e stands = for_plan m plan h stands (λ p. parked.parks (act_of m.plan e) ≡ parked.parks (act_of p e)) refl
+parks_stands m plan h e stands = for_plan m plan h stands (λ p. parked.is_parking (act_of m.plan e) ≡ parked.is_parking (act_of p e)) refl
 
 chosen_if : (plan : PlanView) (h : List Event) (w from : ℕ) (o : Option Event) → o ≡ choice_of plan h w from → IfSome o (λ e. why plan h e ≡ None)
 chosen_if plan h w from None same = tt

@@ -17,12 +17,12 @@ use Rattle.gcd_history.specs.Runs.{open_runs, is_open, acts_done, is_started, is
 use Rattle.gcd_history.specs.Submitted.{submitted, submission_of, submitted_by, on_node}
 use Rattle.gcd_history.specs.Tree.{is_run_on}
 use Rattle.gcd_history.specs.Permitted.{waits_on, why}
-use Rattle.gcd_history.proofs.Options.{some_kept}
-use Rattle.gcd_history.proofs.Counts.{count_push}
-use Rattle.gcd_history.proofs.QueuesOnRoot.{IsFirstPlan, serial_queue}
-use Rattle.gcd_history.proofs.NothingHeld.{submitted_more}
-use Rattle.gcd_history.proofs.OnlyBlocksRun.{ActFacts}
-use Rattle.gcd_history.proofs.BlocksRunOnce.{Facts, facts_of, submission_more, submission_kept, fresh_act, own_is_open, open_parts}
+use Rattle.gcd_plan.proofs.Options.{some_from_is_some}
+use Rattle.gcd_plan.proofs.Sums.{count_by_push}
+use Rattle.gcd_machine.proofs.QueuesOnRoot.{IsFirstPlan, serial_queue}
+use Rattle.gcd_machine.proofs.NothingHeld.{submitted_more}
+use Rattle.gcd_machine.proofs.OnlyBlocksRun.{ActFacts}
+use Rattle.gcd_machine.proofs.BlocksRunOnce.{Facts, facts_of, submission_more, submission_kept, fresh_act, own_is_open, open_parts}
 use Rattle.gcd_machine.specs.MachineView.{MachineView, idle, progress, at_queue}
 use Rattle.gcd_machine.specs.Keeps.{Keeps, IsShaped, progress_of, run_list, waiter, events_of}
 use Rattle.gcd_machine.specs.Kept.{after_act}
@@ -138,7 +138,7 @@ on_kept : (plan : PlanView) (past : List Event) (w : ℕ) (b : Blk) (i q : ℕ) 
     → is_run_on plan (Acted w (Block b) i ∷ past) q run ≡ is_run_on plan past q run
 on_kept plan past w b i q (Source s) first facts among = refl
 on_kept plan past w b i q (Block k) first facts among =
-    let s = some_kept (submission_of plan past k.0) (facts.begun k.0 (open_parts plan past k facts among).0) in
+    let s = some_from_is_some (submission_of plan past k.0) (facts.begun k.0 (open_parts plan past k facts among).0) in
     ap (λ o. option_map_or (λ n. n == q) (option_map (λ x. x.0) (option_and_then (λ t. t.node) o)) false)
     (submission_kept plan past (Acted w (Block b) i) k.0 s.0 first s.1 ∙ sym s.1)
 
@@ -258,7 +258,7 @@ keeps_act m past w b i keeps permitted may =
     let count = keeps.len in
     let left = keeps.left in
     let unended : Submission → Bool = λ t. not (is_ended past t.blk.0) in
-    let pushed = count_push unended (submitted m.plan past) s in
+    let pushed = count_by_push unended (submitted m.plan past) s in
     let one : ◌≡◌ {A = ℕ} (cond (unended s) 1 0) 1 = ap (λ v. cond (not v) 1 0) new.unended in
     let now_left : m.left + 1 ≡ count_by unended (submitted m.plan past ++ s ∷ []) = omega (arith, left, pushed, one) in
     record {

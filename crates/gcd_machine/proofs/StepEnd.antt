@@ -19,12 +19,13 @@ use Rattle.gcd_history.specs.Submitted.{submitted, submission_of}
 use Rattle.gcd_history.specs.Tree.{is_run_on}
 use Rattle.gcd_history.specs.Parked.{has_run}
 use Rattle.gcd_history.specs.Permitted.{waits_on, why, is_halted}
-use Rattle.gcd_history.proofs.Options.{some_kept}
-use Rattle.gcd_history.proofs.Counts.{filter_alike, counted_found, sum_by_same}
-use Rattle.gcd_history.proofs.QueuesOnRoot.{IsFirstPlan}
-use Rattle.gcd_history.proofs.NothingHeld.{has_run_is}
-use Rattle.gcd_history.proofs.OnlyBlocksRun.{EndFacts}
-use Rattle.gcd_history.proofs.BlocksRunOnce.{Facts, facts_of, submitted_same, submission_same, named, own_is_open, open_parts}
+use Rattle.gcd_plan.proofs.Options.{some_from_is_some}
+use Rattle.gcd_history.proofs.Counts.{filter_alike, counted_found}
+use Rattle.gcd_plan.proofs.Sums.{sum_by_agree}
+use Rattle.gcd_machine.proofs.QueuesOnRoot.{IsFirstPlan}
+use Rattle.gcd_machine.proofs.NothingHeld.{has_run_is}
+use Rattle.gcd_machine.proofs.OnlyBlocksRun.{EndFacts}
+use Rattle.gcd_machine.proofs.BlocksRunOnce.{Facts, facts_of, submitted_same, submission_same, named, own_is_open, open_parts}
 use Rattle.gcd_machine.specs.MachineView.{MachineView, progress, at_worker, at_queue}
 use Rattle.gcd_machine.specs.Keeps.{Keeps, IsShaped, progress_of, is_last, run_list, waiter, events_of}
 use Rattle.gcd_machine.specs.Kept.{after_end, after_halt, with_open}
@@ -141,12 +142,12 @@ pub end_left : (plan : PlanView) (past : List Event) (w : ℕ) (b : Blk) → Fac
     → count_by (λ s. not (b.0 == s.blk.0 || is_ended past s.blk.0)) (submitted plan past) + 1 ≡ count_by (λ s. not (is_ended past s.blk.0)) (submitted plan past)
 end_left plan past w b facts own =
     let xs = submitted plan past in
-    let s = some_kept (submission_of plan past b.0) (facts.begun b.0 own.started) in
+    let s = some_from_is_some (submission_of plan past b.0) (facts.begun b.0 own.started) in
     let f : Submission → Bool = λ t. not (is_ended past t.blk.0) in
     let g : Submission → Bool = λ t. b.0 == t.blk.0 in
     let parts = count_parts f g xs in
-    let now = sum_by_same (λ t. cond (not (g t || is_ended past t.blk.0)) 1 0) (λ t. cond (not (g t) && f t) 1 0) xs (λ t. ap (λ v. cond v 1 0) (neither (g t) (is_ended past t.blk.0))) in
-    let only = sum_by_same (λ t. cond (g t && f t) 1 0) (λ t. cond (is_of b.0 t) 1 0) xs (λ t. ap (λ v. cond v 1 0) (its_own t)) in
+    let now = sum_by_agree (λ t. cond (not (g t || is_ended past t.blk.0)) 1 0) (λ t. cond (not (g t) && f t) 1 0) xs (λ t. ap (λ v. cond v 1 0) (neither (g t) (is_ended past t.blk.0))) in
+    let only = sum_by_agree (λ t. cond (g t && f t) 1 0) (λ t. cond (is_of b.0 t) 1 0) xs (λ t. ap (λ v. cond v 1 0) (its_own t)) in
     let few = facts.once b.0 in
     let some = counted_found (is_of b.0) (is_of b.0) xs s.0 s.1 (eq-eqb s.0.blk.0 b.0 (named plan past b.0 s.0 s.1)) in
     omega (arith, parts, now, only, few, some)

@@ -20,13 +20,13 @@ use Rattle.gcd_history.specs.Runs.{same_run, open_runs, acts_done, last_worker, 
 use Rattle.gcd_history.specs.Submitted.{submitted, submission_of}
 use Rattle.gcd_history.specs.Tree.{is_run_on}
 use Rattle.gcd_history.specs.Permitted.{is_on, is_ready, waits_on, why}
-use Rattle.gcd_history.proofs.Options.{some_kept, none_of}
+use Rattle.gcd_plan.proofs.Options.{some_from_is_some, none_from_is_some}
 use Rattle.gcd_history.proofs.Reasons.{first_none}
 use Rattle.gcd_history.proofs.RunsOpen.{same_run-refl}
 use Rattle.gcd_history.proofs.Counts.{filter_alike, found_alone}
-use Rattle.gcd_history.proofs.QueuesOnRoot.{IsFirstPlan}
-use Rattle.gcd_history.proofs.OnlyBlocksRun.{StartFacts}
-use Rattle.gcd_history.proofs.BlocksRunOnce.{Facts, facts_of, submitted_same, submission_same, named}
+use Rattle.gcd_machine.proofs.QueuesOnRoot.{IsFirstPlan}
+use Rattle.gcd_machine.proofs.OnlyBlocksRun.{StartFacts}
+use Rattle.gcd_machine.proofs.BlocksRunOnce.{Facts, facts_of, submitted_same, submission_same, named}
 use Rattle.gcd_machine.specs.MachineView.{MachineView, progress, at_worker, at_queue}
 use Rattle.gcd_machine.specs.Keeps.{Keeps, IsShaped, progress_of, is_last, run_list, waiter, events_of}
 use Rattle.gcd_machine.specs.Kept.{is_first, queue_reasons, after_start, with_open, without_first}
@@ -48,7 +48,7 @@ next_from : (m : MachineView) (b : Blk) (q : Obj) → first_of (queue_reasons m 
 next_from m b q none =
     let behind = first_none Behind (not (is_first m q.0 b.0)) ((Excluded, is_some (at_queue m q.0)) ∷ []) none in
     let excluded = first_none Excluded (is_some (at_queue m q.0)) [] behind.1 in
-    record { first = not-false (is_first m q.0 b.0) behind.0; free = none_of (at_queue m q.0) excluded.0 }
+    record { first = not-false (is_first m q.0 b.0) behind.0; free = none_from_is_some (at_queue m q.0) excluded.0 }
 
 is_next_at : (m : MachineView) (past : List Event) (w : ℕ) (b : Blk) (q : Obj) → Keeps m past → StartFacts m.plan past w b → (progress m b.0).node ≡ Some q → IsNext m b q
 unfolding is_ready
@@ -58,7 +58,7 @@ is_next_at m past w b q keeps may node =
     next_from m b q (ap (λ o. first_of (queue_reasons m b.0 o)) (sym node) ∙ (sym same ∙ may.free))
 
 worker_idle : (m : MachineView) (past : List Event) (w : ℕ) (b : Blk) → Keeps m past → StartFacts m.plan past w b → at_worker m w ≡ None
-worker_idle m past w b keeps may = none_of (at_worker m w) (sym (busy_is m past w keeps) ∙ may.idle)
+worker_idle m past w b keeps may = none_from_is_some (at_worker m w) (sym (busy_is m past w keeps) ∙ may.idle)
 
 -- ## Blocks
 
@@ -201,7 +201,7 @@ start_lists : (m : MachineView) (past : List Event) (w : ℕ) (b : Blk) → Keep
 start_lists m past w b keeps may q =
     let xs = submitted m.plan past in
     let facts = facts_at m past keeps in
-    let s = some_kept (submission_of m.plan past b.0) may.submitted in
+    let s = some_from_is_some (submission_of m.plan past b.0) may.submitted in
     let alone = only_one b.0 s.0 xs (facts.once b.0) s.1 in
     let node = node_is m past b.0 s.0 keeps s.1 in
     let less = waits_less past w q b xs in

@@ -3,7 +3,7 @@ use Rattle.std.proofs.Common.{◌≡◌, ℕ, zero, suc, ◌+◌, ◌<◌, Bool,
 use Rattle.std.specs.List.{slice_get, list_all}
 use Rattle.std.specs.Option.{option_map_or}
 use Rattle.gcd_plan.specs.PlanView.{ObjView}
-use Rattle.gcd_plan.specs.FirstForms.{after_root}
+use Rattle.gcd_forms.specs.FirstForms.{after_root}
 
 pub all_more : {X : Type 0} (p : X → Bool) (xs : List X) (i : ℕ) → i < length xs → list_all p (drop i xs) ≡ (option_map_or p (slice_get xs i) true && list_all p (drop (i + 1) xs))
 all_more p [] i within = absurd (omega arith)

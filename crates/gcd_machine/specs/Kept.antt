@@ -13,7 +13,7 @@ use Rattle.gcd_plan.specs.declared.why.Why.TheVariants.{Over, NoSuch, Busy, Unre
 use Rattle.gcd_event.specs.declared.event.Event.{Event}
 use Rattle.gcd_event.specs.declared.event.Event.TheVariants.{Start, Act as Acted, Wake, End, Tick, Misuse, Halt}
 use Rattle.gcd_history.specs.Runs.{act_at}
-use Rattle.gcd_history.specs.Permitted.{is_worker, has_block}
+use Rattle.gcd_history.specs.Permitted.{is_worker, is_index, has_block}
 use Rattle.gcd_lists.specs.ListsView.{ListsView, list_at, place_of}
 use Rattle.gcd_machine.specs.MachineView.{MachineView, idle, progress, at_worker, at_queue}
 use Rattle.gcd_machine.specs.Keeps.{IsShaped}
@@ -50,7 +50,7 @@ kept_reasons m (Start w b) =
     ∷ (Unready, not (is_waiting b.0 (progress m b.0)))
     ∷ queue_reasons m b.0 (progress m b.0).node
 kept_reasons m (Acted w (Block b) i) =
-    (NoSuch, not (is_worker w && (has_block m.plan b.0 && nat_le i 65534)))
+    (NoSuch, not (is_worker w && (has_block m.plan b.0 && is_index i)))
     ∷ (NotOwn, not (is_blk b.0 (at_worker m w)))
     ∷ (NotNext, not (is_next_act m b i))
     ∷ []
@@ -63,7 +63,7 @@ kept_reasons m (End w b) =
     ∷ []
 kept_reasons m (Tick t) = (NoSuch, not (nat_lt 0 t && nat_le t 86400000)) ∷ (NotDue, true) ∷ []
 kept_reasons m (Misuse w (Block b) i c) =
-    (NoSuch, not (is_worker w && (has_block m.plan b.0 && (nat_le i 65534 && (nat_lt 0 c && nat_le c 8)))))
+    (NoSuch, not (is_worker w && (has_block m.plan b.0 && (is_index i && (nat_lt 0 c && nat_le c 8)))))
     ∷ (NotOwn, not (is_blk b.0 (at_worker m w)))
     ∷ (NotNext, not (is_next_act m b i))
     ∷ (NotMisuse, true)

@@ -1,10 +1,10 @@
 // A machine that stands for a plan and what has happened so far.
 ghost use Rattle.std.specs.Prelude.{◌≡◌, ◌≤◌, ◌<◌, ◌+◌, ◌*◌, ◌^◌, List, [], IfOk, IfSome, length, Option, option_map, replicate, slice_get};
 ghost use Rattle.gcd_plan.specs.PlanView.{PlanView};
-ghost use Rattle.gcd_plan.specs.FirstForms.{IsOfFirstForms};
+ghost use Rattle.gcd_forms.specs.FirstForms.{IsOfFirstForms};
 ghost use Rattle.gcd_event.specs.declared.event.Event.{Event};
 ghost use Rattle.gcd_history.specs.History.{running_of, first_waiting_of, node_of, parks};
-ghost use Rattle.gcd_history.specs.Parked.{parks as does_park};
+ghost use Rattle.gcd_history.specs.Parked.{is_parking as does_park};
 ghost use Rattle.gcd_history.specs.Runs.{act_at, act_of};
 ghost use Rattle.gcd_lists.specs.ListsView.{list_at};
 ghost use Rattle.gcd_history.specs.Ends.{is_halted};

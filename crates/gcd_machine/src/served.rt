@@ -2,7 +2,7 @@
 ghost use Rattle.std.specs.Prelude.{◌≡◌, ◌<◌, ◌≤◌, ◌↔◌, ◌&&◌, true, IsTrue, length, slice_get, drop};
 ghost use Rattle.std.specs.List.{list_all};
 ghost use Rattle.std.specs.Option.{option_map_or};
-ghost use Rattle.gcd_plan.specs.FirstForms.{IsOfFirstForms, after_root, is_first_act, is_first_block, is_first_work, is_plain_queue};
+ghost use Rattle.gcd_forms.specs.FirstForms.{IsOfFirstForms, after_root, is_first_act, is_first_block, is_first_work, is_plain_queue};
 
 use gcd_plan::{Act, Blk, How, Kind, Obj, Plan, Run, WHOLE_FILE, Work};
 

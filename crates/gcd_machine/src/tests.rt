@@ -1,5 +1,5 @@
 ghost use Rattle.std.specs.Prelude.{◌≡◌, ◌<◌, IfOk, length};
-ghost use Rattle.gcd_plan.specs.FirstForms.{IsOfFirstForms};
+ghost use Rattle.gcd_forms.specs.FirstForms.{IsOfFirstForms};
 
 use crate::{Machine, is_of_first_forms};
 use gcd_event::Event;

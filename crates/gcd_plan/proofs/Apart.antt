@@ -3,7 +3,7 @@ use Rattle.std.proofs.Common.{◌≡◌, ℕ, ◌<◌, ◌≤◌, ◌==◌, Bool
 use Rattle.std.specs.List.{count_by, list_all}
 use Rattle.std.proofs.lemmas.Bool.{cases_lt}
 use Rattle.std.proofs.lemmas.List.Sums.{AllPass-from_list_all, list_all-from_AllPass, get_or-le-sum_by}
-use Rattle.gcd_plan.proofs.Lists.{Found, find_counted}
+use Rattle.gcd_plan.proofs.Places.{Found, find_counted}
 
 -- each element stands once by its key, as a test
 abbrev pub stand_once : {K A : Type 0} → (K → A → Bool) → (A → K) → List A → Bool

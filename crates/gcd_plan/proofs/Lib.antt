@@ -1,6 +1,8 @@
-pub mod Lists
+pub mod Sums
+pub mod Quantifiers
+pub mod Places
+pub mod Options
+pub mod Mapped
 pub mod Apart
-pub mod Once
 pub mod Walks
 pub mod Valid
-pub mod Mapped

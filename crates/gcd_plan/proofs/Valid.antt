@@ -11,7 +11,8 @@ use Rattle.gcd_plan.specs.PlanView.{BlkView, ObjView, view_of, obj_view, blk_vie
 use Rattle.gcd_plan.specs.Validity.{act_count, names_of, submitted_blocks, blocks_of, is_object, is_block, is_file}
 use Rattle.gcd_plan.specs.Names.{is_name}
 use Rattle.std.proofs.lemmas.Bool.{and_parts, and_from}
-use Rattle.gcd_plan.proofs.Lists.{sum_by-map, count_by-map, count_by-flat_map, list_all-flat_map}
+use Rattle.gcd_plan.proofs.Sums.{sum_by-map, count_by-map, count_by-flat_map}
+use Rattle.gcd_plan.proofs.Quantifiers.{list_all-flat_map}
 
 -- the acts of the plan are those of the parts
 pub acts_seen : (p : Parts) → act_count (view_of p)

@@ -1,8 +1,10 @@
+pub mod Limits
 pub mod PlanView
 pub mod Kinds
 pub mod Chains
 pub mod Names
 pub mod Validity
-pub mod FirstForms
+pub mod WithinLimits
 pub mod StartRule
 pub mod KindValues
+pub mod MisuseCodes

@@ -1,6 +1,7 @@
 -- What a name and a path may be.
 use Rattle.std.specs.Prelude.{ℕ, ◌==◌, ◌&&◌, ◌||◌, nat_le, Bool, false, List, [], ◌∷◌, length}
 use Rattle.std.specs.List.{list_all}
+use Rattle.gcd_plan.specs.Limits.{max_name_bytes, max_path_bytes}
 
 -- a small letter: `a` to `z`
 abbrev pub is_letter : ℕ → Bool
@@ -16,7 +17,7 @@ begins_with_letter (c ∷ rest) = is_letter c
 
 -- a name: 1 to 32 small letters, digits and `_`, the first a letter
 abbrev pub is_name : List ℕ → Bool
-is_name name = begins_with_letter name && (nat_le (length name) 32 && list_all is_name_byte name)
+is_name name = begins_with_letter name && (nat_le (length name) max_name_bytes && list_all is_name_byte name)
 
 -- a byte of a word: no space and no control
 abbrev pub is_word_byte : ℕ → Bool
@@ -24,4 +25,4 @@ is_word_byte c = nat_le 33 c && nat_le c 126
 
 -- a path: a word of 1 to 255 bytes
 abbrev pub is_path : List ℕ → Bool
-is_path path = nat_le 1 (length path) && (nat_le (length path) 255 && list_all is_word_byte path)
+is_path path = nat_le 1 (length path) && (nat_le (length path) max_path_bytes && list_all is_word_byte path)

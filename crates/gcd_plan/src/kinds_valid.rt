@@ -6,6 +6,7 @@ ghost use Rattle.gcd_plan.specs.Validity.{is_submittable, is_held_object, is_act
 
 use crate::act::Act;
 use crate::kind::Kind;
+use crate::limits::MAX_VALUE;
 use crate::numbers::{Blk, Obj};
 use crate::parts::Parts;
 
@@ -19,40 +20,43 @@ fn kind_at(parts: &Parts, o: Obj) -> Option<Kind>
 pub fn is_queue(parts: &Parts, o: Obj) -> bool
     ensures { result ≡ is_queue (view_of parts.now) o.0 }
 {
-    matches!(kind_at(parts, o), Some(Kind::Serial | Kind::Concurrent))
+    kind_at(parts, o).map_or(false, |kind| kind.is_queue())
 }
 
 fn is_group(parts: &Parts, o: Obj) -> bool
     ensures { result ≡ has_kind is_group_kind (view_of parts.now) o.0 }
 {
-    matches!(kind_at(parts, o), Some(Kind::Group))
+    kind_at(parts, o).map_or(false, |kind| kind.is_group())
 }
 
 fn is_semaphore(parts: &Parts, o: Obj) -> bool
     ensures { result ≡ has_kind is_semaphore_kind (view_of parts.now) o.0 }
 {
-    matches!(kind_at(parts, o), Some(Kind::Semaphore(_)))
+    kind_at(parts, o).map_or(false, |kind| kind.is_semaphore())
 }
 
 fn is_merge_source(parts: &Parts, o: Obj) -> bool
     ensures { result ≡ has_kind is_merge_kind (view_of parts.now) o.0 }
 {
-    matches!(kind_at(parts, o), Some(Kind::Add | Kind::Or))
+    kind_at(parts, o).map_or(false, |kind| kind.is_merge_source())
 }
 
 fn is_source(parts: &Parts, o: Obj) -> bool
     ensures { result ≡ has_kind is_source_kind (view_of parts.now) o.0 }
 {
-    matches!(
-        kind_at(parts, o),
-        Some(Kind::Add | Kind::Or | Kind::Timer { .. } | Kind::Read)
-    )
+    kind_at(parts, o).map_or(false, |kind| kind.is_source())
+}
+
+fn is_node(parts: &Parts, o: Obj) -> bool
+    ensures { result ≡ has_kind is_node_kind (view_of parts.now) o.0 }
+{
+    kind_at(parts, o).map_or(false, |kind| kind.is_node())
 }
 
 fn is_held_object(parts: &Parts, o: Obj) -> bool
     ensures { result ≡ is_held_object (view_of parts.now) o }
 {
-    o.0 > 0 && (is_queue(parts, o) || is_source(parts, o))
+    o.0 > 0 && is_node(parts, o)
 }
 
 /// Whether the block is one of the plan's, and not main.
@@ -89,7 +93,7 @@ pub fn is_act(parts: &Parts, act: Act) -> bool
         Act::Signal(s) | Act::Wait(s) => is_semaphore(parts, s),
         Act::Suspend(o) | Act::Resume(o) | Act::Activate(o) => is_held_object(parts, o),
         Act::Target(o, t) => is_held_object(parts, o) && is_queue(parts, t),
-        Act::Merge(s, n) => is_merge_source(parts, s) && n <= 2_147_483_647,
+        Act::Merge(s, n) => is_merge_source(parts, s) && n <= MAX_VALUE,
         Act::Cancel(s) => is_source(parts, s),
         Act::Retain(o) | Act::Release(o) => is_counted(parts, o),
     }
@@ -99,15 +103,13 @@ pub fn is_act(parts: &Parts, act: Act) -> bool
 pub fn is_handler_act(act: Act) -> bool
     ensures { result ≡ is_handler_act act }
 {
-    !matches!(
-        act,
-        Act::Async(..)
-            | Act::Barrier(..)
-            | Act::Sync(..)
-            | Act::BarrierSync(..)
-            | Act::GroupAsync(..)
-            | Act::Notify(..)
-            | Act::GroupWait(_)
-            | Act::Wait(_)
-    )
+    match act {
+        Act::Async(..) | Act::Barrier(..) | Act::Sync(..) | Act::BarrierSync(..) => false,
+        Act::GroupAsync(..) | Act::Notify(..) => false,
+        Act::GroupWait(_) | Act::Wait(_) => false,
+        Act::Enter(_) | Act::Leave(_) | Act::Signal(_) => true,
+        Act::Suspend(_) | Act::Resume(_) | Act::Activate(_) | Act::Target(..) => true,
+        Act::Merge(..) | Act::Cancel(_) => true,
+        Act::Retain(_) | Act::Release(_) => true,
+    }
 }

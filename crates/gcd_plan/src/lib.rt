@@ -5,17 +5,22 @@
 //! | call | answer |
 //! |---|---|
 //! | `ObjPart::new`, `BlkPart::new` | an object or block of a name with nothing else declared, or want of memory |
-//! | `Kind::is_source` | whether a kind is a source |
+//! | `Kind::is_queue`, `is_source`, `is_node`, `is_exclusive`, .. | what kind of object it is |
+//! | `MisuseCode::code` | the number of a code of misuse, 1 to 8 |
 //! | `Plan::of_parts` | the plan of the parts; None exactly where they are no valid plan (`IsPlan`) |
 //! | `Plan::of_valid_parts` | the same of parts that the caller knows to be valid |
 //! | `Plan::copied` | the same plan once more, or want of memory |
 //! | `Plan::kinds` | the kinds of all objects, or want of memory |
 //! | `objects`, `blocks`, `kind`, `first_target`, .. | what the plan holds, exactly |
 //! | `is_name`, `is_path`, `block_of` | the tests of names and paths, the block that an act submits |
+//! | `MAX_OBJECTS`, `MAX_BLOCKS`, .. | how much plans, scripts and runs may hold |
 //!
 //! `specs/StartRule` has the rule by which a block starts over plain data, since the parts of the machine and the
-//! definitions over histories both cite it, and `specs/KindValues` what a kind says of values and times. `proofs/Lists` and
-//! `proofs/Mapped` have the lemmas on lists that std lacks.
+//! definitions over histories both cite it, and `specs/KindValues` what a kind says of values and times. `specs/Limits` has
+//! each limit once, for all crates. Lemmas that std lacks stand here, for all crates: `proofs/Sums` on sums and counts,
+//! `proofs/Quantifiers` on tests of all or some elements, `proofs/Places` on elements by place, `proofs/Mapped` on what is
+//! read through a function, `proofs/Options`, `proofs/Apart` on lists in which nothing stands twice, and `proofs/Walks` on
+//! chains.
 //!
 //! The crate says nothing of a run: when a block may start is said over histories (`gcd_history`).
 #![tactic(auto)]
@@ -24,7 +29,9 @@ mod act;
 mod copy;
 mod kind;
 mod kinds_valid;
+mod limits;
 mod limits_valid;
+mod misuse_code;
 mod names_once;
 mod names_valid;
 mod numbers;
@@ -40,6 +47,11 @@ mod work;
 
 pub use act::Act;
 pub use kind::Kind;
+pub use limits::{
+    MAX_ACTS, MAX_BLOCKS, MAX_EVENTS, MAX_FILE_BYTES, MAX_FILES, MAX_NAME_BYTES, MAX_OBJECTS,
+    MAX_PATH_BYTES, MAX_SCRIPT_BYTES, MAX_TIME, MAX_VALUE, MAX_WORKERS,
+};
+pub use misuse_code::MisuseCode;
 pub use names_valid::{is_name, is_path};
 pub use numbers::{Blk, Obj, Run};
 pub use once_valid::block_of;

@@ -1,8 +1,10 @@
 // Whether the lists keep the limits.
 ghost use Rattle.std.specs.Prelude.{◌≡◌, ◌≤◌, ◌<◌, ◌+◌, sum_by, length, MatchOption, IsTrue, ◌↔◌};
+ghost use Rattle.gcd_plan.specs.Limits.{max_acts};
 ghost use Rattle.gcd_plan.specs.PlanView.{view_of};
 ghost use Rattle.gcd_plan.specs.Validity.{act_count};
 
+use crate::limits::MAX_ACTS;
 use crate::parts::{BlkPart, ObjPart, Parts};
 
 /// How many acts the blocks have together; None exactly where that is above `most`.
@@ -37,13 +39,13 @@ pub fn handler_acts(objects: &[ObjPart], most: usize) -> Option<usize>
     Some(total)
 }
 
-/// Whether all bodies together have at most 65,535 acts.
+/// Whether all bodies together have at most [`MAX_ACTS`] acts.
 #[tactic(auto, using(crate::proofs::Valid::acts_seen))]
 pub fn has_few_acts(parts: &Parts) -> bool
-    ensures { IsTrue result ↔ (act_count (view_of parts.now) ≤ 65535) }
+    ensures { IsTrue result ↔ (act_count (view_of parts.now) ≤ max_acts) }
 {
-    match block_acts(&parts.blocks, 65_535) {
+    match block_acts(&parts.blocks, MAX_ACTS as usize) {
         None => false,
-        Some(n) => handler_acts(&parts.objects, 65_535 - n).is_some(),
+        Some(n) => handler_acts(&parts.objects, MAX_ACTS as usize - n).is_some(),
     }
 }

@@ -1,7 +1,8 @@
 // Whether names are well formed and apart.
-ghost use Rattle.std.specs.Prelude.{◌≡◌, ◌≤◌, ◌==◌, ℕ, List, string_bytes, count_by, length};
+ghost use Rattle.std.specs.Prelude.{◌≡◌, ◌==◌, ℕ, List, string_bytes, count_by};
 ghost use Rattle.std.specs.List.{list_all};
 ghost use Rattle.std.specs.Str.{bytes_eq};
+ghost use Rattle.gcd_plan.specs.WithinLimits.{IsWithinLimits};
 ghost use Rattle.gcd_plan.specs.PlanView.{view_of};
 ghost use Rattle.gcd_plan.specs.Names.{is_name};
 ghost use Rattle.gcd_plan.specs.Validity.{names_of};
@@ -38,9 +39,7 @@ fn are_block_names(parts: &Parts) -> bool
 
 #[tactic(auto, using(crate::proofs::Valid::names_counted))]
 fn is_named_once(parts: &Parts, name: &str) -> bool
-    requires objects { length parts.now.objects.items ≤ 1024 }
-    requires blocks { length parts.now.blocks.items ≤ 16385 }
-    requires files { length parts.now.files.items ≤ 64 }
+    requires { IsWithinLimits parts.now }
     ensures { result ≡ (count_by (bytes_eq name.now) (names_of (view_of parts.now)) == 1) }
 {
     let rest = objects_named(&parts.objects, name) + blocks_named(&parts.blocks, name);
@@ -48,9 +47,7 @@ fn is_named_once(parts: &Parts, name: &str) -> bool
 }
 
 fn files_named_once(parts: &Parts) -> bool
-    requires objects { length parts.now.objects.items ≤ 1024 }
-    requires blocks { length parts.now.blocks.items ≤ 16385 }
-    requires files { length parts.now.files.items ≤ 64 }
+    requires { IsWithinLimits parts.now }
     ensures { result ≡ list_all (λ f. count_by (bytes_eq (string_bytes f.name)) (names_of (view_of parts.now)) == 1) parts.now.files.items }
 {
     parts
@@ -60,9 +57,7 @@ fn files_named_once(parts: &Parts) -> bool
 }
 
 fn objects_named_once(parts: &Parts) -> bool
-    requires objects { length parts.now.objects.items ≤ 1024 }
-    requires blocks { length parts.now.blocks.items ≤ 16385 }
-    requires files { length parts.now.files.items ≤ 64 }
+    requires { IsWithinLimits parts.now }
     ensures { result ≡ list_all (λ o. count_by (bytes_eq (string_bytes o.name)) (names_of (view_of parts.now)) == 1) parts.now.objects.items }
 {
     parts
@@ -72,9 +67,7 @@ fn objects_named_once(parts: &Parts) -> bool
 }
 
 fn blocks_named_once(parts: &Parts) -> bool
-    requires objects { length parts.now.objects.items ≤ 1024 }
-    requires blocks { length parts.now.blocks.items ≤ 16385 }
-    requires files { length parts.now.files.items ≤ 64 }
+    requires { IsWithinLimits parts.now }
     ensures { result ≡ list_all (λ b. count_by (bytes_eq (string_bytes b.name)) (names_of (view_of parts.now)) == 1) parts.now.blocks.items }
 {
     parts
@@ -86,9 +79,7 @@ fn blocks_named_once(parts: &Parts) -> bool
 /// Whether each name stands once.
 #[tactic(auto, using(crate::proofs::Valid::names_tested))]
 pub fn are_names_apart(parts: &Parts) -> bool
-    requires objects { length parts.now.objects.items ≤ 1024 }
-    requires blocks { length parts.now.blocks.items ≤ 16385 }
-    requires files { length parts.now.files.items ≤ 64 }
+    requires { IsWithinLimits parts.now }
     ensures { result ≡ list_all (λ n. count_by (bytes_eq n) (names_of (view_of parts.now)) == 1) (names_of (view_of parts.now)) }
 {
     files_named_once(parts) && objects_named_once(parts) && blocks_named_once(parts)

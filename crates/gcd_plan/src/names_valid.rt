@@ -3,6 +3,8 @@ ghost use Rattle.std.specs.Prelude.{◌≡◌};
 ghost use Rattle.std.specs.List.{list_all};
 ghost use Rattle.gcd_plan.specs.Names.{is_letter, is_name_byte, begins_with_letter, is_name, is_word_byte, is_path};
 
+use crate::limits::{MAX_NAME_BYTES, MAX_PATH_BYTES};
+
 fn is_letter(c: u8) -> bool
     ensures { result ≡ is_letter c }
 {
@@ -30,11 +32,11 @@ fn all_name_bytes(name: &[u8]) -> bool
     name.iter().all(|c| is_name_byte(*c))
 }
 
-/// Whether it is a name: 1 to 32 small letters, digits and `_`, the first a letter (this project's own rule).
+/// Whether it is a name: 1 to [`MAX_NAME_BYTES`] small letters, digits and `_`, the first a letter (this project's own rule).
 pub fn is_name(name: &[u8]) -> bool
     ensures { result ≡ is_name name.now }
 {
-    begins_with_letter(name) && name.len() <= 32 && all_name_bytes(name)
+    begins_with_letter(name) && name.len() <= MAX_NAME_BYTES as usize && all_name_bytes(name)
 }
 
 fn is_word_byte(c: u8) -> bool
@@ -49,9 +51,9 @@ fn all_word_bytes(path: &[u8]) -> bool
     path.iter().all(|c| is_word_byte(*c))
 }
 
-/// Whether it is a path: a word of 1 to 255 bytes (this project's own rule).
+/// Whether it is a path: a word of 1 to [`MAX_PATH_BYTES`] bytes (this project's own rule).
 pub fn is_path(path: &[u8]) -> bool
     ensures { result ≡ is_path path.now }
 {
-    !path.is_empty() && path.len() <= 255 && all_word_bytes(path)
+    !path.is_empty() && path.len() <= MAX_PATH_BYTES as usize && all_word_bytes(path)
 }

@@ -3,6 +3,7 @@ ghost use Rattle.std.specs.Prelude.{◌≡◌, ◌≤◌, ◌<◌, ◌+◌, ◌=
 ghost use Rattle.std.specs.List.{list_all};
 ghost use Rattle.std.specs.Option.{option_map_or, option_to_list};
 ghost use Rattle.std.specs.Str.{bytes_eq};
+ghost use Rattle.gcd_plan.specs.Limits.{max_acts, max_objects};
 ghost use Rattle.gcd_plan.specs.PlanView.{view_of, first_target};
 ghost use Rattle.gcd_plan.specs.Chains.{chain_by, is_in};
 ghost use Rattle.gcd_plan.specs.Validity.{block_of, blocks_of, reaches_root};
@@ -42,7 +43,9 @@ pub fn block_of(act: Act) -> Option<Blk>
     match act {
         Act::Async(_, b) | Act::Barrier(_, b) | Act::Sync(_, b) | Act::BarrierSync(_, b) => Some(b),
         Act::GroupAsync(_, _, b) | Act::Notify(_, _, b) => Some(b),
-        _ => None,
+        Act::Enter(_) | Act::Leave(_) | Act::GroupWait(_) | Act::Signal(_) | Act::Wait(_) => None,
+        Act::Suspend(_) | Act::Resume(_) | Act::Activate(_) | Act::Target(..) => None,
+        Act::Merge(..) | Act::Cancel(_) | Act::Retain(_) | Act::Release(_) => None,
     }
 }
 
@@ -73,9 +76,9 @@ fn acts_submitting(acts: &[Act], b: Blk) -> usize
 /// How many acts of the blocks submit the block.
 #[tactic(auto, using(std::proofs::lemmas::List::Sums::sum_by_more_le))]
 pub fn block_submissions(blocks: &[BlkPart], b: Blk) -> usize
-    requires { sum_by (λ p. length p.acts.items) blocks.now ≤ 65535 }
+    requires { sum_by (λ p. length p.acts.items) blocks.now ≤ max_acts }
     ensures count { result ≡ sum_by (λ p. count_by (λ c. c.0 == b.0) (blocks_of p.acts.items)) blocks.now }
-    ensures few { result ≤ 65535 }
+    ensures few { result ≤ max_acts }
 {
     let mut total = 0;
     for p in blocks {
@@ -89,14 +92,14 @@ fn cancels(cancel: Option<Blk>, b: Blk) -> usize
     ensures few { result ≤ 1 }
 {
     match cancel {
-        Some(c) if c.0 == b.0 => 1,
-        _ => 0,
+        Some(c) => usize::from(c.0 == b.0),
+        None => 0,
     }
 }
 
 /// How often the object submits the block: by its handler's acts, and as its cancellation block.
 pub fn submissions_of(o: &ObjPart, b: Blk) -> usize
-    requires { length o.now.handler.items < 66559 }
+    requires { length o.now.handler.items < max_acts + max_objects }
     ensures count { result ≡ count_by (λ c. c.0 == b.0) (blocks_of o.now.handler.items ++ option_to_list o.now.cancel) }
     ensures few { result ≤ length o.now.handler.items + 1 }
 {
@@ -106,9 +109,9 @@ pub fn submissions_of(o: &ObjPart, b: Blk) -> usize
 /// How often the objects submit the block.
 #[tactic(auto, using(std::proofs::lemmas::List::Sums::sum_by_more_le))]
 pub fn object_submissions(objects: &[ObjPart], b: Blk) -> usize
-    requires { sum_by (λ o. length o.handler.items + 1) objects.now ≤ 66559 }
+    requires { sum_by (λ o. length o.handler.items + 1) objects.now ≤ max_acts + max_objects }
     ensures count { result ≡ sum_by (λ o. count_by (λ c. c.0 == b.0) (blocks_of o.handler.items ++ option_to_list o.cancel)) objects.now }
-    ensures few { result ≤ 66559 }
+    ensures few { result ≤ max_acts + max_objects }
 {
     let mut total = 0;
     for o in objects {

@@ -7,6 +7,7 @@ ghost use Rattle.gcd_plan.specs.Validity.{is_kind, has_path, has_fields, is_obje
 use crate::act::Act;
 use crate::kind::Kind;
 use crate::kinds_valid::{is_act, is_handler_act, is_queue, is_submittable};
+use crate::limits::{MAX_FILE_BYTES, MAX_TIME, MAX_VALUE};
 use crate::names_valid::is_path;
 use crate::parts::{BlkPart, FilePart, ObjPart, Parts};
 use crate::work::Work;
@@ -15,11 +16,12 @@ fn is_kind(kind: Kind) -> bool
     ensures { result ≡ is_kind kind }
 {
     match kind {
-        Kind::Semaphore(n) => n <= 2_147_483_647,
+        Kind::Semaphore(n) => n <= MAX_VALUE,
         Kind::Timer { start, every } => {
-            1 <= start && start <= 86_400_000 && 1 <= every && every <= 86_400_000
+            1 <= start && start <= MAX_TIME && 1 <= every && every <= MAX_TIME
         }
-        _ => true,
+        Kind::Serial | Kind::Concurrent | Kind::Group => true,
+        Kind::Add | Kind::Or | Kind::Read => true,
     }
 }
 
@@ -28,7 +30,8 @@ fn has_path(kind: Kind, path: &str) -> bool
 {
     match kind {
         Kind::Read => is_path(path.as_bytes()),
-        _ => path.is_empty(),
+        Kind::Serial | Kind::Concurrent | Kind::Group | Kind::Semaphore(_) => path.is_empty(),
+        Kind::Add | Kind::Or | Kind::Timer { .. } => path.is_empty(),
     }
 }
 
@@ -67,7 +70,7 @@ fn is_object(parts: &Parts, o: &ObjPart) -> bool
 fn is_work(parts: &Parts, w: Work) -> bool
     ensures { result ≡ is_work (view_of parts.now) w }
 {
-    (w.file as usize) < parts.files.len() && w.start <= 16_777_216 && w.len <= 16_777_216
+    (w.file as usize) < parts.files.len() && w.start <= MAX_FILE_BYTES && w.len <= MAX_FILE_BYTES
 }
 
 fn all_acts(parts: &Parts, acts: &[Act]) -> bool

@@ -1,5 +1,6 @@
 // A valid plan.
 ghost use Rattle.std.specs.Prelude.{◌≡◌, ◌<◌, ◌≤◌, ◌^◌, ◌↔◌, IfOk, IfSome, IsSome, length, map, option_map, slice_get, Some};
+ghost use Rattle.gcd_plan.specs.Limits.{max_files};
 ghost use Rattle.gcd_plan.specs.PlanView.{kind_of, first_target, starts_active, acts_of, work_of, cancel_block, path_of, name_of_obj, name_of_blk, IsRun, file_view, view_of};
 ghost use Rattle.gcd_plan.specs.Validity.{IsPlan};
 
@@ -41,10 +42,10 @@ impl Plan {
     }
 
     /// The plan of these parts. None, with the parts dropped, exactly where they are no valid plan: `root` is not object
-    /// 0 or `main` not block 0, another name is ill-formed or taken, a number is out of range, what stands somewhere is
-    /// not of the kind that is asked there, an act is barred in a handler, a block is submitted twice, a cycle of targets
-    /// stands, or a limit is passed. It takes no memory, and so compares each name with each other and each submission
-    /// with each other.
+    /// 0 or `main` not block 0, `main` has a work, another name is ill-formed or taken, a number is out of range, what
+    /// stands somewhere is not of the kind that is asked there, an act is barred in a handler, a block is submitted twice,
+    /// a cycle of targets stands, or a limit is passed. It takes no memory, and so compares each name with each other and
+    /// each submission with each other.
     pub fn of_parts(parts: Parts) -> Option<Plan>
         ensures plan { IfSome result (λ plan. plan ≡ view_of parts) }
         ensures valid { IsSome result ↔ IsPlan (view_of parts) }
@@ -56,7 +57,7 @@ impl Plan {
         }
     }
 
-    /// How many objects there are, `root` among them: 1 to 1,024.
+    /// How many objects there are, `root` among them: 1 to [`crate::MAX_OBJECTS`].
     pub fn objects(&self) -> u32
         ensures count { result ≡ length self.now.objects }
         ensures valid { IsPlan self.now }
@@ -64,7 +65,7 @@ impl Plan {
         self.parts.objects.len() as u32
     }
 
-    /// How many blocks there are, `main` among them: 1 to 16,385.
+    /// How many blocks there are, `main` among them: 1 to [`crate::MAX_BLOCKS`].
     pub fn blocks(&self) -> u32
         ensures count { result ≡ length self.now.blocks }
         ensures valid { IsPlan self.now }
@@ -124,10 +125,10 @@ impl Plan {
         self.parts.objects[s.0 as usize].cancel
     }
 
-    /// The files, by number, at most 64.
+    /// The files, by number, at most [`crate::MAX_FILES`].
     pub fn files(&self) -> &[FilePart]
         ensures files { map file_view result.now ≡ self.now.files }
-        ensures few { length result.now ≤ 64 }
+        ensures few { length result.now ≤ max_files }
     {
         &self.parts.files
     }
@@ -164,7 +165,7 @@ impl Plan {
         self.parts.files[f as usize].line
     }
 
-    /// The last due time of timers, in milliseconds: 1 to 86,400,000 (this project's own rule).
+    /// The last due time of timers, in milliseconds: 1 to [`crate::MAX_TIME`] (this project's own rule).
     pub fn until(&self) -> u32
         ensures { result ≡ self.now.until }
     {

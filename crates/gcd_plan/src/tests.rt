@@ -1,5 +1,6 @@
 use crate::{
-    Act, Blk, BlkPart, FilePart, How, Kind, Obj, ObjPart, Parts, Plan, Run, WHOLE_FILE, Work,
+    Act, Blk, BlkPart, FilePart, How, Kind, MAX_TIME, MAX_VALUE, MisuseCode, Obj, ObjPart, Parts,
+    Plan, Run, WHOLE_FILE, Work,
 };
 use std::alloc::{AllocError, Global};
 use std::test::Fail;
@@ -29,7 +30,7 @@ const PLAIN: Case = Case {
     valid: true,
 };
 
-const CASES: [Case; 24] = [
+const CASES: [Case; 28] = [
     PLAIN,
     Case {
         what: "a barrier",
@@ -52,7 +53,7 @@ const CASES: [Case; 24] = [
         what: "a timer",
         kind: Kind::Timer {
             start: 1,
-            every: 86_400_000,
+            every: MAX_TIME,
         },
         active: false,
         acts: &[Act::Cancel(Obj(1))],
@@ -60,13 +61,23 @@ const CASES: [Case; 24] = [
     },
     Case {
         what: "a semaphore",
-        kind: Kind::Semaphore(2_147_483_647),
+        kind: Kind::Semaphore(MAX_VALUE),
         acts: &[Act::Signal(Obj(1))],
         ..PLAIN
     },
     Case {
         what: "no acts",
         acts: &[],
+        ..PLAIN
+    },
+    Case {
+        what: "32 letters",
+        name: "abcdefghijklmnopqrstuvwxyzabcdef",
+        ..PLAIN
+    },
+    Case {
+        what: "the last moment",
+        until: MAX_TIME,
         ..PLAIN
     },
     Case {
@@ -96,6 +107,19 @@ const CASES: [Case; 24] = [
     Case {
         what: "33 letters",
         name: "abcdefghijklmnopqrstuvwxyzabcdefg",
+        valid: false,
+        ..PLAIN
+    },
+    Case {
+        what: "a semaphore that begins above the greatest value",
+        kind: Kind::Semaphore(MAX_VALUE + 1),
+        acts: &[],
+        valid: false,
+        ..PLAIN
+    },
+    Case {
+        what: "a moment too late",
+        until: MAX_TIME + 1,
         valid: false,
         ..PLAIN
     },
@@ -215,33 +239,53 @@ fn accepts_exactly_valid_parts(rt: HostRuntime) -> Result<(), Fail> {
     Ok(())
 }
 
+// Whether the plan of PLAIN holds what its parts say of the objects.
+fn holds_its_objects(plan: &Plan) -> bool {
+    if plan.objects() != 3 {
+        return false;
+    }
+    plan.kind(Obj(2)) == Kind::Group
+        && plan.first_target(Obj(1)) == Obj(0)
+        && plan.starts_active(Obj(1))
+        && plan.cancel_block(Obj(1)).is_none()
+        && plan.path_of(Obj(1)).is_empty()
+        && plan.name_of_obj(Obj(1)) == "q"
+}
+
+// And of the blocks and files.
+fn holds_its_blocks(plan: &Plan) -> bool {
+    if plan.blocks() != 2 || plan.files().len() != 1 {
+        return false;
+    }
+    plan.name_of_blk(Blk(1)) == "b1"
+        && plan.work(Blk(0)).is_none()
+        && plan.acts(Run::Block(Blk(0))) == PLAIN.acts
+        && plan.line_of_file(0) == 1
+        && plan.until() == 1000
+}
+
 #[test]
 fn tells_what_a_plan_holds(rt: HostRuntime) -> Result<(), Fail> {
     let made = Plan::of_parts(parts(rt.alloc(), &PLAIN)?).ok_or("valid")?;
     let plan = made.copied(rt.alloc())?;
-    assert_eq!(rt; plan.objects(), 3);
-    assert_eq!(rt; plan.blocks(), 2);
-    assert_eq!(rt; plan.until(), 1000);
-    assert_eq!(rt; plan.files().len(), 1);
-    let kinds = plan.kinds(rt.alloc())?;
-    assert_eq!(rt;
-        kinds.as_slice(),
-        [Kind::Concurrent, Kind::Serial, Kind::Group].as_slice()
-    );
-    if plan.objects() > 2 && plan.blocks() > 1 && plan.files().len() > 0 {
-        assert_eq!(rt; plan.kind(Obj(2)), Kind::Group);
-        assert_eq!(rt; plan.first_target(Obj(1)), Obj(0));
-        assert_eq!(rt; plan.starts_active(Obj(1)), true);
-        assert_eq!(rt; plan.cancel_block(Obj(1)), None);
-        assert_eq!(rt; plan.path_of(Obj(1)), "");
-        assert_eq!(rt; plan.name_of_obj(Obj(1)), "q");
-        assert_eq!(rt; plan.name_of_blk(Blk(1)), "b1");
-        assert_eq!(rt; plan.line_of_file(0), 1);
-        assert_eq!(rt;
-            plan.acts(Run::Block(Blk(0))),
-            [Act::Async(Obj(1), Blk(1))].as_slice()
-        );
-        assert_eq!(rt; plan.work(Blk(0)), None);
-    }
+    assert!(rt; holds_its_objects(&plan));
+    assert!(rt; holds_its_blocks(&plan));
+    assert_eq!(rt; plan.kinds(rt.alloc())?.len(), 3);
     Ok(())
+}
+
+#[test]
+fn misuses_have_their_codes(rt: HostRuntime) {
+    for (misuse, code) in [
+        (MisuseCode::OverResume, 1),
+        (MisuseCode::UnbalancedLeave, 2),
+        (MisuseCode::TargetCycle, 3),
+        (MisuseCode::TargetAfterActivation, 4),
+        (MisuseCode::TargetWhileTargeted, 5),
+        (MisuseCode::UseAfterRelease, 6),
+        (MisuseCode::ReleaseWhileSuspended, 7),
+        (MisuseCode::ReleaseBelowFirstValue, 8),
+    ] {
+        assert_eq!(rt; misuse.code(), code);
+    }
 }

@@ -3,11 +3,14 @@ ghost use Rattle.std.specs.Prelude.{◌≡◌, ◌≤◌, ◌<◌, ◌==◌, ◌
 ghost use Rattle.std.specs.List.{list_all};
 ghost use Rattle.std.specs.Option.{option_map_or};
 ghost use Rattle.std.specs.Str.{bytes_eq};
+ghost use Rattle.gcd_plan.specs.Limits.{max_time};
+ghost use Rattle.gcd_plan.specs.WithinLimits.{IsWithinLimits};
 ghost use Rattle.gcd_plan.specs.PlanView.{view_of, obj_view, blk_view, file_view};
 ghost use Rattle.gcd_plan.specs.Names.{is_name};
-ghost use Rattle.gcd_plan.specs.Validity.{IsPlan, root_view, reaches_root, act_count, names_of, submitted_blocks, is_object, is_block, is_file};
+ghost use Rattle.gcd_plan.specs.Validity.{IsPlan, root_view, reaches_root, names_of, submitted_blocks, is_object, is_block, is_file};
 
 use crate::kind::Kind;
+use crate::limits::{MAX_BLOCKS, MAX_FILES, MAX_OBJECTS, MAX_TIME};
 use crate::limits_valid::has_few_acts;
 use crate::names_once::{are_names, are_names_apart};
 use crate::once_valid::reaches_root;
@@ -56,19 +59,23 @@ fn begins_with_main(parts: &Parts) -> bool
     }
 }
 
-fn keeps_limits(parts: &Parts) -> bool
-    ensures { IsTrue result ↔ ((length parts.now.objects.items ≤ 1024) × (length parts.now.blocks.items ≤ 16385) × (length parts.now.files.items ≤ 64)
-        × (1 ≤ parts.now.until) × (parts.now.until ≤ 86400000)) }
+fn is_within_limits(parts: &Parts) -> bool
+    ensures { IsTrue result ↔ IsWithinLimits parts.now }
 {
-    parts.objects.len() <= 1_024
-        && parts.blocks.len() <= 16_385
-        && parts.files.len() <= 64
-        && 1 <= parts.until
-        && parts.until <= 86_400_000
+    parts.objects.len() <= MAX_OBJECTS as usize
+        && parts.blocks.len() <= MAX_BLOCKS as usize
+        && parts.files.len() <= MAX_FILES as usize
+        && has_few_acts(parts)
+}
+
+fn is_time(t: u32) -> bool
+    ensures { IsTrue result ↔ ((1 ≤ t) × (t ≤ max_time)) }
+{
+    1 <= t && t <= MAX_TIME
 }
 
 fn all_reach_root(parts: &Parts) -> bool
-    requires { length parts.now.objects.items ≤ 1024 }
+    requires { IsWithinLimits parts.now }
     ensures { IsTrue result ↔ ((o : ℕ) → o < length parts.now.objects.items → reaches_root (view_of parts.now) o ≡ true) }
 {
     for o in 0..parts.objects.len() as u32 {
@@ -89,17 +96,14 @@ fn fits_kinds(parts: &Parts) -> bool
 }
 
 fn stand_apart(parts: &Parts) -> bool
-    requires objects { length parts.now.objects.items ≤ 1024 }
-    requires blocks { length parts.now.blocks.items ≤ 16385 }
-    requires files { length parts.now.files.items ≤ 64 }
+    requires { IsWithinLimits parts.now }
     ensures { IsTrue result ↔ ((name : List ℕ) → count_by (bytes_eq name) (names_of (view_of parts.now)) ≤ 1) }
 {
     are_names_apart(parts)
 }
 
 fn submits_each_once(parts: &Parts) -> bool
-    requires acts { act_count (view_of parts.now) ≤ 65535 }
-    requires objects { length parts.now.objects.items ≤ 1024 }
+    requires { IsWithinLimits parts.now }
     ensures { IsTrue result ↔ ((b : ℕ) → count_by (λ c. c.0 == b) (submitted_blocks (view_of parts.now)) ≤ 1) }
 {
     are_submitted_once(parts)
@@ -109,7 +113,7 @@ fn submits_each_once(parts: &Parts) -> bool
 pub fn is_valid(parts: &Parts) -> bool
     ensures { IsTrue result ↔ IsPlan (view_of parts.now) }
 {
-    if !keeps_limits(parts) || !has_few_acts(parts) {
+    if !is_within_limits(parts) || !is_time(parts.until) {
         return false;
     }
     if !begins_with_root(parts) || !begins_with_main(parts) {

@@ -1,5 +1,6 @@
 -- What the call answers, by the way in which it ends.
 use Rattle.std.proofs.Common.{◌≡◌, ◌≢◌, ◌⊎◌, ◌∙◌, ◌≤◌, ◌+◌, ℕ, true, List, Option, Some, None, ⊎_elim, ap, subst, arith, refl, sym, inl, inr}
+use Rattle.gcd_plan.specs.Limits.{max_files}
 use Rattle.gcd_history.specs.declared.state.State.TheVariants.{Drained as RunDrained}
 use Rattle.gcd_history.specs.History.{IsLawful}
 use Rattle.gcd_history.specs.Ends.{IsDrained}
@@ -146,12 +147,12 @@ module _ (seen : InputsSeen) (sink : SinkSeen) (words : List Bytes) (result : En
   call_loads (wanting loads made count took status journal at) = record { loads = loads; made = made; is = count }
 
 -- a call makes few loads
-few_loads_of : (shelf : ShelfSeen) (o : Option Asked) (loads : ℕ) → AskedLoads shelf o loads → loads ≤ 65
+few_loads_of : (shelf : ShelfSeen) (o : Option Asked) (loads : ℕ) → AskedLoads shelf o loads → loads ≤ max_files + 1
 few_loads_of shelf None loads none = omega (arith, none)
 few_loads_of shelf (Some (run asked)) loads (of_script one) = omega (arith, one)
 few_loads_of shelf (Some (run asked)) loads (of_files plan valid script some most) = omega (arith, most, valid.few_files)
 
 pub few_loads : (shelf : ShelfSeen) (words : List Bytes) → Counted shelf (CallLoads shelf words) → shelf.tells ≡ true
-    → shelf.loads_after ≤ shelf.loads_before + 65
+    → shelf.loads_after ≤ shelf.loads_before + (max_files + 1)
 few_loads shelf words counted tells =
     omega (arith, counted.made tells, count_few counted.loads shelf.loads_before, few_loads_of shelf (request_of words) counted.loads counted.is)

@@ -4,10 +4,11 @@ use Rattle.std.specs.Prelude.{Result, Ok, Err, OnErr}
 use Rattle.std.specs.String.{string_bytes}
 use Rattle.std.proofs.lemmas.List.{take_more, take-map, map-append, length-map}
 use Rattle.std.proofs.lemmas.Option.{slice_get-map, slice_get-get_or, slice_get_within}
+use Rattle.gcd_plan.specs.Limits.{max_file_bytes}
 use Rattle.gcd_plan.specs.declared.parts.FilePart.{FilePart}
 use Rattle.gcd_plan.specs.PlanView.{PlanView, FileView, file_view}
 use Rattle.gcd_outer.specs.Outside.{Bytes, ShelfSeen, IsUnread, IsLonger, next_count}
-use Rattle.gcd_run.specs.Loads.{IsLoaded, AreLoaded, IsNextFile, StopsUnread, StopsLonger, MadeLoads, count_after, file_limit}
+use Rattle.gcd_run.specs.Loads.{IsLoaded, AreLoaded, IsNextFile, StopsUnread, StopsLonger, MadeLoads, count_after}
 use Rattle.gcd_run.specs.End.{End}
 use Rattle.gcd_run.specs.Ends.{PlanEnds}
 use Rattle.gcd_run.specs.Ends.PlanEnds.{file_unread, file_longer, ran}
@@ -31,12 +32,12 @@ pub are_loaded_same : (s t : ShelfSeen) → SameShelf s t → (files : List File
     → AreLoaded s files contents → AreLoaded t files contents
 are_loaded_same s t same [] [] loaded = tt
 are_loaded_same s t same (file ∷ files) (bytes ∷ contents) loaded =
-    (loaded_same s t same file.path file_limit bytes loaded.0, are_loaded_same s t same files contents loaded.1)
+    (loaded_same s t same file.path max_file_bytes bytes loaded.0, are_loaded_same s t same files contents loaded.1)
 are_loaded_same s t same [] (bytes ∷ contents) loaded = loaded
 are_loaded_same s t same (file ∷ files) [] loaded = loaded
 
 pub are_loaded_push : (s : ShelfSeen) (files : List FileView) (contents : List Bytes) (file : FileView) (bytes : Bytes)
-    → AreLoaded s files contents → IsLoaded s file.path file_limit bytes
+    → AreLoaded s files contents → IsLoaded s file.path max_file_bytes bytes
     → AreLoaded s (files ++ file ∷ []) (contents ++ bytes ∷ [])
 are_loaded_push s [] [] file bytes loaded one = (one, tt)
 are_loaded_push s (f ∷ files) (c ∷ contents) file bytes loaded one =
@@ -62,7 +63,7 @@ longer_same s t same name most longer tells =
 pub loaded_more : (s : ShelfSeen) (files : List FilePart) (i : ℕ) (item : FilePart) (contents after : List (Vec ℕ Global)) (bytes : Vec ℕ Global)
     → i < length files → item ≡ get_or files i item → after ≡ contents ++ bytes ∷ []
     → AreLoaded s (map file_view (take i files)) (map (λ c. c.items) contents)
-    → IsLoaded s (string_bytes item.path) file_limit bytes.items
+    → IsLoaded s (string_bytes item.path) max_file_bytes bytes.items
     → AreLoaded s (map file_view (take (i + 1) files)) (map (λ c. c.items) after)
 loaded_more s files i item contents after bytes within is more loaded one =
     let front : take (i + 1) files ≡ take i files ++ item ∷ [] =
@@ -83,11 +84,11 @@ next_file s files i item contents within is loaded = record {
 
 -- a file among those that were loaded was loaded
 pub loaded_at : (s : ShelfSeen) (files : List FileView) (contents : List Bytes) (f : ℕ) (file : FileView) → AreLoaded s files contents
-    → slice_get files f ≡ Some file → (bytes : Bytes) × IsLoaded s file.path file_limit bytes
+    → slice_get files f ≡ Some file → (bytes : Bytes) × IsLoaded s file.path max_file_bytes bytes
 loaded_at s [] [] f file loaded at = absurd cc
 loaded_at s (one ∷ files) (bytes ∷ contents) zero file loaded at =
     let same : one ≡ file = cc in
-    (bytes, subst (λ (x : FileView). IsLoaded s x.path file_limit bytes) same loaded.0)
+    (bytes, subst (λ (x : FileView). IsLoaded s x.path max_file_bytes bytes) same loaded.0)
 loaded_at s (one ∷ files) (bytes ∷ contents) (suc f) file loaded at = loaded_at s files contents f file loaded.1 at
 loaded_at s [] (bytes ∷ contents) f file loaded at = absurd loaded
 loaded_at s (one ∷ files) [] f file loaded at = absurd loaded
@@ -100,7 +101,7 @@ slice_get_before (file ∷ files) (suc f) (suc g) before = slice_get_before file
 
 -- a file before the next was loaded
 pub loaded_before : (s : ShelfSeen) (files : List FileView) (g : ℕ) (next : FileView) → IsNextFile s files g next → (f : ℕ) (file : FileView)
-    → f < g → slice_get files f ≡ Some file → (bytes : Bytes) × IsLoaded s file.path file_limit bytes
+    → f < g → slice_get files f ≡ Some file → (bytes : Bytes) × IsLoaded s file.path max_file_bytes bytes
 loaded_before s files g next is f file before at =
     loaded_at s (take g files) is.contents f file is.before (slice_get_before files f g before ∙ at)
 
@@ -131,7 +132,7 @@ module _ (s t : ShelfSeen) (same : SameShelf s t) (before : t.faults_before ≤ 
   longer_since files f line stops = record {
     file = stops.file;
     next = next_since files f stops.file stops.next;
-    longer = longer_same s t same stops.file.path file_limit stops.longer;
+    longer = longer_same s t same stops.file.path max_file_bytes stops.longer;
     line_is = stops.line_is;
   }
 

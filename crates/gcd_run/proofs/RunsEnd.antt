@@ -1,6 +1,7 @@
 -- What is told of a run, by the status with which it ends.
 use Rattle.std.proofs.Common.{◌≡◌, ◌≢◌, ◌⊎◌, ◌∙◌, ◌≤◌, ◌+◌, ◌<◌, ℕ, true, false, List, Option, Some, None, length, reverse, slice_get, ⊎_elim, ap, subst, arith, refl, sym, inl, inr}
 use Rattle.std.proofs.lemmas.Bool.{cases_lt}
+use Rattle.gcd_plan.specs.Limits.{max_script_bytes, max_file_bytes}
 use Rattle.gcd_plan.specs.PlanView.{PlanView, FileView}
 use Rattle.gcd_plan.specs.Validity.{IsPlan}
 use Rattle.gcd_history.specs.declared.state.State.TheVariants.{Drained as RunDrained}
@@ -15,7 +16,7 @@ use Rattle.gcd_script.specs.Drafts.{draft_of}
 use Rattle.gcd_script.specs.Lines.{lines_of}
 use Rattle.gcd_run.specs.Asked.{Asked, RunAsked, request_of, run}
 use Rattle.gcd_run.specs.End.{End, usage_text, refused_end}
-use Rattle.gcd_run.specs.Loads.{IsLoaded, AreLoaded, IsNextFile, MadeLoads, script_limit, file_limit}
+use Rattle.gcd_run.specs.Loads.{IsLoaded, AreLoaded, IsNextFile, MadeLoads}
 use Rattle.gcd_run.specs.Outcome.{FollowsChoice}
 use Rattle.gcd_run.specs.StatusCodes.{status_code, status_of}
 use Rattle.gcd_run.specs.declared.status.Status.{Status}
@@ -198,8 +199,8 @@ module _ (seen : InputsSeen) (words : List Bytes) (loads : ℕ) (end : End) wher
     asked_unread None none ends st = other end NoCommand Unread (status_is ends.1) st (λ e. cc)
     asked_unread (Some (run asked)) asks ends st = record { asked = asked; asks = asks; unread = run_unread asked ends st }
 
-same_content : (o : Option Bytes) (a b : Bytes) → o ≡ Some a → o ≡ Some b → a ≡ b
-same_content o a b e f = cc
+one_content : (o : Option Bytes) (a b : Bytes) → o ≡ Some a → o ≡ Some b → a ≡ b
+one_content o a b e f = cc
 
 -- a shelf that tells, in a call whose words ask for a run of this script
 module _ (shelf : ShelfSeen) (asked : RunAsked) (tells : shelf.tells ≡ true) where
@@ -210,19 +211,19 @@ module _ (shelf : ShelfSeen) (asked : RunAsked) (tells : shelf.tells ≡ true) w
   not_longer : (name : Bytes) (most : ℕ) (bytes : Bytes) → shelf.content name ≡ Some bytes → length bytes ≤ most → IsLonger shelf name most → ⊥
   not_longer name most bytes held fits long =
       let found = long tells in
-      let same : found.0 ≡ bytes = same_content (shelf.content name) _ _ found.1 held in
+      let same : found.0 ≡ bytes = one_content (shelf.content name) _ _ found.1 held in
       omega (arith, ap length same, found.2, fits)
 
   not_both : (name : Bytes) (most : ℕ) (bytes loaded : Bytes) → shelf.content name ≡ Some bytes → most < length bytes
       → IsLoaded shelf name most loaded → ⊥
   not_both name most bytes loaded held long is =
-      let same : loaded ≡ bytes = same_content (shelf.content name) _ _ (is.holds tells) held in
+      let same : loaded ≡ bytes = one_content (shelf.content name) _ _ (is.holds tells) held in
       omega (arith, ap length same, is.fits, long)
 
   -- the plan of a script is one
   same_plan : (plan other : PlanView) → IsScript shelf asked.script plan → IsScript shelf asked.script other → plan ≡ other
   same_plan plan other one two =
-      let same : one.script ≡ two.script = same_content (shelf.content asked.script) _ _ (one.loaded.holds tells) (two.loaded.holds tells) in
+      let same : one.script ≡ two.script = one_content (shelf.content asked.script) _ _ (one.loaded.holds tells) (two.loaded.holds tells) in
       one.declares.declared ∙ ap (λ (bytes : Bytes). (draft_of (reverse (lines_of bytes))).plan) same ∙ sym two.declares.declared
 
   -- the script of a call that loads files was read
@@ -231,20 +232,20 @@ module _ (shelf : ShelfSeen) (asked : RunAsked) (tells : shelf.tells ≡ true) w
 
   -- a script within its limit and without a fault
   not_long_script : (plan : PlanView) → IsScript shelf asked.script plan → (bytes : Bytes) → shelf.content asked.script ≡ Some bytes
-      → script_limit < length bytes → ⊥
-  not_long_script plan script bytes held long = not_both asked.script script_limit bytes script.script held long script.loaded
+      → max_script_bytes < length bytes → ⊥
+  not_long_script plan script bytes held long = not_both asked.script max_script_bytes bytes script.script held long script.loaded
 
   not_faulty : (plan : PlanView) → IsScript shelf asked.script plan → (bytes : Bytes) (at : ℕ × ℕ) → shelf.content asked.script ≡ Some bytes
       → fault_of bytes ≡ Some at → ⊥
   not_faulty plan script bytes at held fault =
-      let same : bytes ≡ script.script = same_content (shelf.content asked.script) _ _ held (script.loaded.holds tells) in
+      let same : bytes ≡ script.script = one_content (shelf.content asked.script) _ _ held (script.loaded.holds tells) in
       let right : fault_of bytes ≡ None = ap fault_of same ∙ script.declares.right in
       absurd (cc)
 
 -- two files that are next among the same files: the one before the other was loaded, or they are one
 data Meet (shelf : ShelfSeen) (file later : FileView) : Type 0 where
-  before : (bytes : Bytes) → IsLoaded shelf file.path file_limit bytes → Meet shelf file later
-  after : (bytes : Bytes) → IsLoaded shelf later.path file_limit bytes → Meet shelf file later
+  before : (bytes : Bytes) → IsLoaded shelf file.path max_file_bytes bytes → Meet shelf file later
+  after : (bytes : Bytes) → IsLoaded shelf later.path max_file_bytes bytes → Meet shelf file later
   one : file ≡ later → Meet shelf file later
 
 meet : (shelf : ShelfSeen) (files : List FileView) (f g : ℕ) (file later : FileView) → IsNextFile shelf files f file
@@ -266,19 +267,19 @@ meet shelf files f g file later this that = ⊎_elim
 module _ (seen : InputsSeen) (asked : RunAsked) (tells : seen.shelf.tells ≡ true) (loads : ℕ) (end : End) where
   -- the file at f is longer than a file may be, and all before it were loaded: none that is next is lacking
   module _ (files : List FileView) (f : ℕ) (file : FileView) (bytes : Bytes) (next : IsNextFile seen.shelf files f file)
-      (held : seen.shelf.content file.path ≡ Some bytes) (long : file_limit < length bytes) where
+      (held : seen.shelf.content file.path ≡ Some bytes) (long : max_file_bytes < length bytes) where
     no_lack : (g : ℕ) (other_file : FileView) → IsNextFile seen.shelf files g other_file → Lacks seen.shelf other_file.path → ⊥
     no_lack g other_file that lacking = at (meet seen.shelf files f g file other_file next that)
       where
         at : Meet seen.shelf file other_file → ⊥
-        at (before loaded is) = not_both seen.shelf asked tells file.path file_limit bytes loaded held long is
+        at (before loaded is) = not_both seen.shelf asked tells file.path max_file_bytes bytes loaded held long is
         at (after loaded is) = none_held seen.shelf asked tells other_file.path lacking loaded (is.holds tells)
         at (one same) = none_held seen.shelf asked tells other_file.path lacking bytes (rw (sym same) held)
 
     not_all : (contents : List Bytes) → AreLoaded seen.shelf files contents → ⊥
     not_all contents loaded =
         let own = loaded_at seen.shelf files contents f file loaded next.next in
-        not_both seen.shelf asked tells file.path file_limit bytes own.0 held long own.1
+        not_both seen.shelf asked tells file.path max_file_bytes bytes own.0 held long own.1
 
   pub must_refuse : MustRefuse seen.shelf asked → RunEnds seen asked loads end → (end.status ≡ ScriptRefused) ⊎ ShelfFailed seen.shelf
   must_refuse must (script_unread (inl failed) count is) = inr failed
@@ -323,17 +324,17 @@ module _ (seen : InputsSeen) (asked : RunAsked) (tells : seen.shelf.tells ≡ tr
   -- the file at f is lacking, and all before it were loaded
   module _ (plan : PlanView) (f : ℕ) (file : FileView) (script : IsScript seen.shelf asked.script plan)
       (next : IsNextFile seen.shelf plan.files f file) (lacking : Lacks seen.shelf file.path) where
-    unloaded : (bytes : Bytes) → IsLoaded seen.shelf file.path file_limit bytes → ⊥
+    unloaded : (bytes : Bytes) → IsLoaded seen.shelf file.path max_file_bytes bytes → ⊥
     unloaded bytes loaded = none_held seen.shelf asked tells file.path lacking bytes (loaded.holds tells)
 
     not_long_at : (g : ℕ) (other_file : FileView) → IsNextFile seen.shelf plan.files g other_file
-        → IsLonger seen.shelf other_file.path file_limit → ⊥
+        → IsLonger seen.shelf other_file.path max_file_bytes → ⊥
     not_long_at g other_file that long = at (meet seen.shelf plan.files f g file other_file next that)
       where
         at : Meet seen.shelf file other_file → ⊥
         at (before loaded is) = unloaded loaded is
         at (after loaded is) =
-            not_longer seen.shelf asked tells other_file.path file_limit loaded (is.holds tells) is.fits long
+            not_longer seen.shelf asked tells other_file.path max_file_bytes loaded (is.holds tells) is.fits long
         at (one same) =
             let found = long tells in
             none_held seen.shelf asked tells file.path lacking found.0 (rw same found.1)
@@ -341,7 +342,7 @@ module _ (seen : InputsSeen) (asked : RunAsked) (tells : seen.shelf.tells ≡ tr
     lacks_file_at : RunEnds seen asked loads end → end.status ≡ Unread
     lacks_file_at (script_unread why count is) = status_is is
     lacks_file_at (script_longer long count is) =
-        absurd (not_longer seen.shelf asked tells asked.script script_limit script.script (script.loaded.holds tells) script.loaded.fits long)
+        absurd (not_longer seen.shelf asked tells asked.script max_script_bytes script.script (script.loaded.holds tells) script.loaded.fits long)
     lacks_file_at (script_refused bytes line code loaded fault count is) =
         absurd (not_faulty seen.shelf asked tells plan script bytes (line, code) (loaded.holds tells) fault)
     lacks_file_at (planned other_plan more valid other_script (file_unread g stops own is) count) = status_is is
@@ -364,10 +365,10 @@ module _ (seen : InputsSeen) (sink : SinkSeen) (words : List Bytes) (honest : Is
   honest_asked : (asked : RunAsked) → Asks words asked → asked ≡ honest.asked
   honest_asked asked asks = let own = honest.asks in cc
 
-  honest_script : (asked : RunAsked) (bytes : Bytes) → asked ≡ honest.asked → IsLoaded seen.shelf asked.script script_limit bytes
+  honest_script : (asked : RunAsked) (bytes : Bytes) → asked ≡ honest.asked → IsLoaded seen.shelf asked.script max_script_bytes bytes
       → bytes ≡ honest.script
   honest_script asked bytes is loaded =
-      same_content (seen.shelf.content asked.script) _ _ (loaded.holds honest.tells) (rw is honest.script_is)
+      one_content (seen.shelf.content asked.script) _ _ (loaded.holds honest.tells) (rw is honest.script_is)
 
   honest_plan : (asked : RunAsked) (plan : PlanView) → asked ≡ honest.asked → IsScript seen.shelf asked.script plan → plan ≡ honest.plan
   honest_plan asked plan is script =
@@ -383,7 +384,7 @@ module _ (seen : InputsSeen) (sink : SinkSeen) (words : List Bytes) (honest : Is
   run_honest end asked asks (script_unread (inr lacking) count is) first =
       absurd (none_held seen.shelf asked honest.tells asked.script lacking honest.script (rw (honest_asked asked asks) honest.script_is))
   run_honest end asked asks (script_longer long count is) first =
-      absurd (not_longer seen.shelf asked honest.tells asked.script script_limit honest.script (rw (honest_asked asked asks) honest.script_is) honest.script_fits long)
+      absurd (not_longer seen.shelf asked honest.tells asked.script max_script_bytes honest.script (rw (honest_asked asked asks) honest.script_is) honest.script_fits long)
   run_honest end asked asks (script_refused script line code loaded fault count is) first =
       let same : script ≡ honest.script = honest_script asked script (honest_asked asked asks) loaded in
       let right : fault_of script ≡ None = ap fault_of same ∙ honest.declares.right in
@@ -396,7 +397,7 @@ module _ (seen : InputsSeen) (sink : SinkSeen) (words : List Bytes) (honest : Is
       stops.unread
   run_honest end asked asks (planned plan more valid script (file_longer f line stops own is) count) first =
       let held = honest_files asked plan (honest_asked asked asks) script f stops.file stops.next.next in
-      absurd (not_longer seen.shelf asked honest.tells stops.file.path file_limit held.0 held.1 held.2 stops.longer)
+      absurd (not_longer seen.shelf asked honest.tells stops.file.path max_file_bytes held.0 held.1 held.2 stops.longer)
   run_honest end asked asks (planned plan more valid script (ran contents loaded own has) count) first =
       let known : has.state ≡ RunDrained =
       drained_by has.state has.over.unhalted (subst (λ (s : Status). IsFirstStatus (status_code s)) (status_is has.end_is) first) in

@@ -1,19 +1,20 @@
 -- The ways in which a call can end, one rule for each (this project's own rules).
 use Rattle.std.specs.Prelude.{◌≡◌, ◌≢◌, ◌≤◌, ◌+◌, ℕ, List, [], Option, Some, None, length}
+use Rattle.gcd_plan.specs.Limits.{max_script_bytes}
 use Rattle.gcd_plan.specs.PlanView.{PlanView}
 use Rattle.gcd_plan.specs.Validity.{IsPlan}
 use Rattle.gcd_event.specs.declared.event.Event.{Event}
 use Rattle.gcd_history.specs.declared.state.State.{State}
 use Rattle.gcd_history.specs.declared.state.State.TheVariants.{Halted, Live}
 use Rattle.gcd_history.specs.History.{IsLawful}
-use Rattle.gcd_history.specs.Ends.{HasState}
+use Rattle.gcd_history.specs.Ends.{HasState, IsFull}
 use Rattle.gcd_history.specs.Report.{report_text}
 use Rattle.gcd_outer.specs.Outside.{Bytes, ShelfSeen, SinkSeen, IsUnread, IsLonger, SinkFailed, Took, TookFront}
 use Rattle.gcd_script.specs.declared.refusal.Refusal.TheVariants.{PastLimit}
 use Rattle.gcd_script.specs.Codes.{refusal_code}
 use Rattle.gcd_script.specs.Faults.{IsScriptOf, fault_of}
 use Rattle.gcd_run.specs.Asked.{Asked, RunAsked, request_of, run}
-use Rattle.gcd_run.specs.Loads.{IsLoaded, AreLoaded, StopsUnread, StopsLonger, MadeLoads, script_limit}
+use Rattle.gcd_run.specs.Loads.{IsLoaded, AreLoaded, StopsUnread, StopsLonger, MadeLoads}
 use Rattle.gcd_run.specs.Outcome.{FollowsChoice}
 use Rattle.gcd_run.specs.End.{End, usage_end, read_fault, refused_end, ran_end}
 use Rattle.gcd_run.specs.StatusCodes.{status_code}
@@ -24,13 +25,13 @@ use Rattle.gcd_run.specs.declared.story.Ended.{Ended}
 -- the script of this name is a script, and declares the plan
 pub record IsScript (shelf : ShelfSeen) (name : Bytes) (plan : PlanView) : Type 0 where
   pub script : Bytes
-  pub loaded : IsLoaded shelf name script_limit script
+  pub loaded : IsLoaded shelf name max_script_bytes script
   pub declares : IsScriptOf script plan
 
 -- the run is over: it is halted, full or quiescent, as its state says; nothing halts a run where there is no poller
 pub record IsOver (plan : PlanView) (journal : List Event) (state : State) : Type 0 where
   pub state_is : HasState plan journal state
-  pub full : state ≡ Live → length journal ≡ 65535
+  pub full : state ≡ Live → IsFull plan journal
   pub unhalted : state ≢ Halted
 
 -- what all inputs were seen to be: the shelf alone, in this stage
@@ -58,9 +59,9 @@ pub data PlanEnds (shelf : ShelfSeen) (plan : PlanView) (loads : ℕ) (end : End
 -- `run`, by its steps, with so many loads: the script is loaded, it is read, and its plan, which is valid, goes on
 pub data RunEnds (seen : InputsSeen) (asked : RunAsked) (loads : ℕ) (end : End) : Type 0 where
   script_unread : IsUnread seen.shelf asked.script → loads ≡ 1 → end ≡ read_fault → RunEnds seen asked loads end
-  script_longer : IsLonger seen.shelf asked.script script_limit → loads ≡ 1 → end ≡ refused_end 0 (refusal_code PastLimit)
+  script_longer : IsLonger seen.shelf asked.script max_script_bytes → loads ≡ 1 → end ≡ refused_end 0 (refusal_code PastLimit)
       → RunEnds seen asked loads end
-  script_refused : (script : Bytes) (line code : ℕ) → IsLoaded seen.shelf asked.script script_limit script
+  script_refused : (script : Bytes) (line code : ℕ) → IsLoaded seen.shelf asked.script max_script_bytes script
       → fault_of script ≡ Some (line, code) → loads ≡ 1 → end ≡ refused_end line code → RunEnds seen asked loads end
   planned : (plan : PlanView) (more : ℕ) → IsPlan plan → IsScript seen.shelf asked.script plan → PlanEnds seen.shelf plan more end
       → loads ≡ more + 1 → RunEnds seen asked loads end

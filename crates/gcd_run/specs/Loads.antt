@@ -1,18 +1,12 @@
 -- Contents that are loaded from a shelf, in order, and how many loads were made (this project's own rules).
 use Rattle.std.specs.Prelude.{◌≡◌, ◌≤◌, ◌+◌, ℕ, zero, suc, true, List, [], ◌∷◌, Some, length, take, slice_get}
+use Rattle.gcd_plan.specs.Limits.{max_file_bytes}
 use Rattle.gcd_plan.specs.PlanView.{FileView}
 use Rattle.gcd_outer.specs.Outside.{Bytes, ShelfSeen, Holds, IsUnread, IsLonger, next_count}
 use Rattle.gcd_run.specs.declared.load.Stop.{Stop}
 use Rattle.gcd_run.specs.declared.load.Stop.TheVariants.{Unread, Longer, Memory}
 use Rattle.gcd_run.specs.declared.load.FilesStop.{FilesStop}
 use Rattle.gcd_run.specs.declared.load.FilesStop.TheVariants.{Unread as FileUnread, Longer as FileLonger, Memory as NoMemory}
-
--- the limits of a script and of a file, in bytes
-abbrev pub script_limit : ℕ
-script_limit = 1048576
-
-abbrev pub file_limit : ℕ
-file_limit = 16777216
 
 -- a count that has gone up n times; it stops at its last number
 abbrev pub count_after : ℕ → ℕ → ℕ
@@ -37,7 +31,7 @@ pub record IsLoaded (shelf : ShelfSeen) (name : Bytes) (most : ℕ) (bytes : Byt
 -- each file was loaded: these are their contents, in order
 abbrev pub AreLoaded : ShelfSeen → List FileView → List Bytes → Type 0
 AreLoaded shelf [] [] = Unit {0}
-AreLoaded shelf (file ∷ files) (bytes ∷ contents) = IsLoaded shelf file.path file_limit bytes × AreLoaded shelf files contents
+AreLoaded shelf (file ∷ files) (bytes ∷ contents) = IsLoaded shelf file.path max_file_bytes bytes × AreLoaded shelf files contents
 AreLoaded shelf _ _ = ⊥
 
 -- file f of the files is next: all before it were loaded
@@ -62,7 +56,7 @@ pub record StopsUnread (shelf : ShelfSeen) (files : List FileView) (f : ℕ) : T
 pub record StopsLonger (shelf : ShelfSeen) (files : List FileView) (f line : ℕ) : Type 0 where
   pub file : FileView
   pub next : IsNextFile shelf files f file
-  pub longer : IsLonger shelf file.path file_limit
+  pub longer : IsLonger shelf file.path max_file_bytes
   pub line_is : file.line ≡ line
 
 -- why the files were not loaded, and after how many loads: one for each file before the one at which it stopped, and one

@@ -1,5 +1,6 @@
 -- What turns leave of a run: the journal, the value of each block that has ended, and how far it has come.
 use Rattle.std.specs.Prelude.{◌≡◌, ◌<◌, ℕ, true, List, length, Option, Some, None, if◌then◌else◌, slice_get, take}
+use Rattle.gcd_plan.specs.Limits.{max_events}
 use Rattle.gcd_plan.specs.PlanView.{PlanView}
 use Rattle.gcd_event.specs.declared.event.Event.{Event}
 use Rattle.gcd_event.specs.declared.event.Event.TheVariants.{End}
@@ -29,4 +30,4 @@ pub record IsNextEvent (plan : PlanView) (h : List Event) (e : Event) : Type 0 w
   pub permitted : why plan h e ≡ None
   pub by : worker_of e ≡ 0
   pub work : is_work e ≡ true
-  pub room : length h < 65535
+  pub room : length h < max_events

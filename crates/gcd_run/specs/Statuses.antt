@@ -1,5 +1,6 @@
 -- The statuses of a call, one by one (this project's own rules).
 use Rattle.std.specs.Prelude.{◌≡◌, ◌≢◌, ◌<◌, ◌≤◌, ◌+◌, ◌⊎◌, ℕ, true, List, [], Some, None, length, slice_get}
+use Rattle.gcd_plan.specs.Limits.{max_script_bytes, max_file_bytes}
 use Rattle.gcd_plan.specs.PlanView.{PlanView, FileView}
 use Rattle.gcd_plan.specs.Validity.{IsPlan}
 use Rattle.gcd_history.specs.declared.state.State.TheVariants.{Drained as RunDrained}
@@ -12,7 +13,7 @@ use Rattle.gcd_script.specs.Codes.{refusal_code}
 use Rattle.gcd_script.specs.Faults.{IsScriptOf, fault_of}
 use Rattle.gcd_run.specs.Asked.{RunAsked, request_of, run}
 use Rattle.gcd_run.specs.End.{End, usage_text, refused_text}
-use Rattle.gcd_run.specs.Loads.{IsLoaded, AreLoaded, IsNextFile, StopsUnread, StopsLonger, MadeLoads, script_limit, file_limit}
+use Rattle.gcd_run.specs.Loads.{IsLoaded, AreLoaded, IsNextFile, StopsUnread, StopsLonger, MadeLoads}
 use Rattle.gcd_run.specs.Outcome.{FollowsChoice}
 use Rattle.gcd_run.specs.Ends.{InputsSeen, IsScript, WordsEnd, HasStatus}
 use Rattle.gcd_run.specs.StatusCodes.{status_code}
@@ -56,9 +57,9 @@ pub record IsUsage (seen : InputsSeen) (sink : SinkSeen) (words : List Bytes) : 
 -- why a script is refused, at which line, with which code and after how many loads: it is too long, or no script, or a file
 -- of its plan is too long
 pub data IsRefused (shelf : ShelfSeen) (asked : RunAsked) (line code : ℕ) : Type 0 where
-  long_script : IsLonger shelf asked.script script_limit → line ≡ 0 → code ≡ refusal_code PastLimit → MadeLoads shelf 1
+  long_script : IsLonger shelf asked.script max_script_bytes → line ≡ 0 → code ≡ refusal_code PastLimit → MadeLoads shelf 1
       → IsRefused shelf asked line code
-  no_script : (script : Bytes) → IsLoaded shelf asked.script script_limit script → fault_of script ≡ Some (line, code)
+  no_script : (script : Bytes) → IsLoaded shelf asked.script max_script_bytes script → fault_of script ≡ Some (line, code)
       → MadeLoads shelf 1 → IsRefused shelf asked line code
   long_file : (plan : PlanView) (f : ℕ) → IsPlan plan → IsScript shelf asked.script plan → StopsLonger shelf plan.files f line
       → code ≡ refusal_code PastLimit → MadeLoads shelf (f + 2) → IsRefused shelf asked line code
@@ -75,11 +76,11 @@ pub record Refuses (seen : InputsSeen) (sink : SinkSeen) (words : List Bytes) (r
 
 -- a shelf that tells has a script that is to be refused, or one with a file that is too long, all files before it loaded
 pub data MustRefuse (shelf : ShelfSeen) (asked : RunAsked) : Type 0 where
-  longer : (script : Bytes) → shelf.content asked.script ≡ Some script → script_limit < length script → MustRefuse shelf asked
-  faulty : (script : Bytes) (at : ℕ × ℕ) → shelf.content asked.script ≡ Some script → length script ≤ script_limit
+  longer : (script : Bytes) → shelf.content asked.script ≡ Some script → max_script_bytes < length script → MustRefuse shelf asked
+  faulty : (script : Bytes) (at : ℕ × ℕ) → shelf.content asked.script ≡ Some script → length script ≤ max_script_bytes
       → fault_of script ≡ Some at → MustRefuse shelf asked
   long_file : (plan : PlanView) (f : ℕ) (file : FileView) (bytes : Bytes) → IsScript shelf asked.script plan
-      → IsNextFile shelf plan.files f file → shelf.content file.path ≡ Some bytes → file_limit < length bytes
+      → IsNextFile shelf plan.files f file → shelf.content file.path ≡ Some bytes → max_file_bytes < length bytes
       → MustRefuse shelf asked
 
 -- the shelf tells, and lacks the script or a file of it whose earlier files were loaded
@@ -125,7 +126,7 @@ Gives sink result status =
 -- each file is told, within its limit
 abbrev pub AreTold : ShelfSeen → List FileView → Type 0
 AreTold shelf files = (f : ℕ) (file : FileView) → slice_get files f ≡ Some file
-    → (bytes : Bytes) × (shelf.content file.path ≡ Some bytes) × (length bytes ≤ file_limit)
+    → (bytes : Bytes) × (shelf.content file.path ≡ Some bytes) × (length bytes ≤ max_file_bytes)
 
 -- nothing outside stands in the way: no count rose, and the shelf tells a script and its files within their limits
 pub record IsHonest (seen : InputsSeen) (sink : SinkSeen) (words : List Bytes) : Type 0 where
@@ -137,6 +138,6 @@ pub record IsHonest (seen : InputsSeen) (sink : SinkSeen) (words : List Bytes) :
   pub plan : PlanView
   pub asks : Asks words asked
   pub script_is : seen.shelf.content asked.script ≡ Some script
-  pub script_fits : length script ≤ script_limit
+  pub script_fits : length script ≤ max_script_bytes
   pub declares : IsScriptOf script plan
   pub files : AreTold seen.shelf plan.files

@@ -5,14 +5,8 @@ ghost use Rattle.gcd_outer.specs.Outside.{shelf_seen};
 ghost use Rattle.gcd_run.specs.Loads.{IsLoaded, AreLoaded, IsStop, AreStopped, MadeLoads};
 
 use gcd_outer::{LoadFault, Shelf};
-use gcd_plan::FilePart;
+use gcd_plan::{FilePart, MAX_FILE_BYTES};
 use std::alloc::{AllocError, Global};
-
-/// The most bytes that a script may have (this project's own rule).
-pub const SCRIPT_LIMIT: usize = 1_048_576;
-
-/// The most bytes that a file may have (this project's own rule).
-pub const FILE_LIMIT: usize = 16_777_216;
 
 /// Why a content was not loaded.
 #[derive(Clone, Copy, Debug, PartialEq, Eq)]
@@ -72,7 +66,7 @@ pub fn load_files<S: Shelf>(
 {
     let mut contents = Vec::new(alloc);
     for file in files {
-        match load_whole(alloc, shelf, file.path.as_str(), FILE_LIMIT) {
+        match load_whole(alloc, shelf, file.path.as_str(), MAX_FILE_BYTES as usize) {
             Ok(bytes) => {
                 if contents.push(bytes).is_err() {
                     return Err(FilesStop::Memory);

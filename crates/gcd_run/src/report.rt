@@ -2,7 +2,7 @@
 ghost use Rattle.std.specs.Prelude.{◌≡◌, ◌<◌, ◌++◌, ◌∷◌, [], ℕ, List, length, IfOk, OnOk, string_bytes, codes};
 ghost use Rattle.std.specs.List.{flat_map, range_with_len};
 ghost use Rattle.std.specs.Fmt.{decimal};
-ghost use Rattle.gcd_plan.specs.FirstForms.{IsOfFirstForms};
+ghost use Rattle.gcd_forms.specs.FirstForms.{IsOfFirstForms};
 ghost use Rattle.gcd_event.specs.declared.event.Event.{Event};
 ghost use Rattle.gcd_history.specs.declared.state.State.TheVariants.{Drained};
 ghost use Rattle.gcd_history.specs.Report.{report_text};

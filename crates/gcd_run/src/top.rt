@@ -1,7 +1,8 @@
 // The top call.
 ghost use Rattle.std.specs.Prelude.{◌≡◌, ◌≤◌, ◌+◌, ◌⊎◌, IfOk, OnErr, map, true, None, length};
+ghost use Rattle.gcd_plan.specs.Limits.{max_files};
 ghost use Rattle.gcd_plan.specs.PlanView.{file_view};
-ghost use Rattle.gcd_plan.specs.FirstForms.{IsOfFirstForms};
+ghost use Rattle.gcd_forms.specs.FirstForms.{IsOfFirstForms};
 ghost use Rattle.gcd_plan.specs.Validity.{IsPlan};
 ghost use Rattle.gcd_outer.specs.Outside.{ShelfFailed, shelf_seen, sink_seen};
 ghost use Rattle.gcd_run.specs.Asked.{RunAsked, request_of};
@@ -12,14 +13,14 @@ ghost use Rattle.gcd_run.specs.Loads.{Counted};
 ghost use Rattle.gcd_run.specs.Ends.{HasStatus, Ran, PlanEnds, RunEnds, WordsEnd, RunLoads, CallLoads, IsWritten, CallEnds};
 ghost use Rattle.gcd_run.specs.Statuses.{IsFirstStatus, Drains, IsUsage, Refuses, MustRefuse, LacksName, CantRead, IsCutOff, IsWanting, Gives, IsHonest, Asks};
 
-use crate::load::{FilesStop, SCRIPT_LIMIT, Stop, load_files, load_whole};
+use crate::load::{FilesStop, Stop, load_files, load_whole};
 use crate::report::report;
 use crate::status::Status;
 use crate::story::{Ended, Story};
 use crate::turn::run_plan;
 use crate::words::{RunRequest, read_words};
 use gcd_outer::{Shelf, Sink, write_whole};
-use gcd_plan::Plan;
+use gcd_plan::{MAX_SCRIPT_BYTES, Plan};
 use gcd_script::{ParseFault, Refusal, parse};
 use std::alloc::{AllocError, Global};
 
@@ -66,7 +67,7 @@ fn run_asked<S: Shelf>(
     ensures wanting { OnErr result (Counted (shelf_seen S.tells S.content S.loads S.faults shelf.old shelf.new) (RunLoads (shelf_seen S.tells S.content S.loads S.faults shelf.old shelf.new) (run_asked request.entry))) }
     ensures statuses { IfOk result (λ s. IsFirstStatus (status_code s.status)) }
 {
-    let script = match load_whole(alloc, shelf, request.script, SCRIPT_LIMIT) {
+    let script = match load_whole(alloc, shelf, request.script, MAX_SCRIPT_BYTES as usize) {
         Ok(script) => script,
         Err(Stop::Unread) => return Story::read_fault(alloc),
         Err(Stop::Longer) => return Story::refused(alloc, 0, Refusal::PastLimit.code()),
@@ -180,9 +181,9 @@ pub fn gcd_main<S: Shelf, K: Sink>(
         (sink_seen K.tells K.taken K.faults out.old out.new) (map (λ w. w.now) words.now) → HasStatus result Status.Drained ⊎ HasStatus result Status.NoMemory }
 
     // Loads: none where the words name no command; else one for the script, and at most one for each file of its plan, of
-    // which there are at most 64.
+    // which there are few.
     ensures loads { Counted (shelf_seen S.tells S.content S.loads S.faults shelf.old shelf.new) (CallLoads (shelf_seen S.tells S.content S.loads S.faults shelf.old shelf.new) (map (λ w. w.now) words.now)) }
-    ensures few_loads { S.tells ≡ true → S.loads shelf.new ≤ S.loads shelf.old + 65 }
+    ensures few_loads { S.tells ≡ true → S.loads shelf.new ≤ S.loads shelf.old + (max_files + 1) }
 {
     call(alloc, words, shelf, out)
 }

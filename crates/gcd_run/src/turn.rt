@@ -1,7 +1,8 @@
 // The turns of worker 0, by which a plan is run.
 ghost use Rattle.std.specs.Prelude.{◌≡◌, ◌<◌, ◌≤◌, ◌⊎◌, ◌++◌, ◌∷◌, [], List, None, true, false, length, map, replicate, IfOk, IfSome};
-ghost use Rattle.gcd_plan.specs.FirstForms.{IsOfFirstForms};
+ghost use Rattle.gcd_forms.specs.FirstForms.{IsOfFirstForms};
 ghost use Rattle.gcd_event.specs.declared.event.Event.{Event};
+ghost use Rattle.gcd_plan.specs.Limits.{max_events};
 ghost use Rattle.gcd_plan.specs.PlanView.{PlanView};
 ghost use Rattle.gcd_history.specs.History.{IsLawful};
 ghost use Rattle.gcd_history.specs.Ends.{IsDrained, is_halted};
@@ -16,7 +17,7 @@ use gcd_event::Event;
 use gcd_history::State;
 use gcd_jobs::{FileJob, Job};
 use gcd_machine::Machine;
-use gcd_plan::{Blk, Plan};
+use gcd_plan::{Blk, MAX_EVENTS, Plan};
 use std::alloc::{AllocError, Global};
 
 /// What turns leave of a run.
@@ -68,9 +69,9 @@ fn next_event(machine: &Machine) -> Option<Event>
     requires { 0 < length machine.now.plan.objects }
     ensures some { (plan : PlanView) (h : List Event) → StandsFor machine.now plan h → IfSome result (IsNextEvent plan h) }
     ensures none { (plan : PlanView) (h : List Event) → StandsFor machine.now plan h → is_all_by 0 h ≡ true → is_halted h ≡ false
-        → result ≡ None → IsDrained plan h ⊎ (65535 ≤ length h) }
+        → result ≡ None → IsDrained plan h ⊎ (max_events ≤ length h) }
 {
-    if machine.is_halted() || machine.len() >= 65_535 {
+    if machine.is_halted() || machine.len() >= MAX_EVENTS {
         return None;
     }
     machine.choose(0, 0)

@@ -5,7 +5,7 @@ use Rattle.std.specs.Str.{bytes_eq}
 use Rattle.std.proofs.lemmas.Bool.{lt-ltb, eqb-true, eqb-false}
 use Rattle.std.proofs.lemmas.List.{length_push, length-set, get_or-set_same, get_or-set_other}
 use Rattle.std.proofs.lemmas.List.Sums.{sum_by_push}
-use Rattle.gcd_plan.specs.FirstForms.{IsOfFirstForms}
+use Rattle.gcd_forms.specs.FirstForms.{IsOfFirstForms}
 use Rattle.gcd_plan.specs.PlanView.{PlanView, ObjView, BlkView}
 use Rattle.gcd_plan.specs.Validity.{IsPlan, submitted_blocks, block_of}
 use Rattle.gcd_plan.specs.declared.act.Act.{Act}

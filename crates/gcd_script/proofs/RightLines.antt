@@ -5,13 +5,15 @@ use Rattle.std.specs.Option.{option_map_or, option_or}
 use Rattle.std.specs.Str.{bytes_eq}
 use Rattle.std.proofs.lemmas.Bool.{and_from, or_parts, not-false, leb-false, lt-ltb}
 use Rattle.std.proofs.lemmas.List.{length_push, length-map}
-use Rattle.gcd_plan.specs.FirstForms.{is_first_work}
+use Rattle.gcd_forms.specs.FirstForms.{is_first_work}
+use Rattle.gcd_plan.specs.Limits.{max_objects, max_blocks, max_files, max_acts}
 use Rattle.gcd_plan.specs.Kinds.{is_queue}
 use Rattle.gcd_plan.specs.PlanView.{PlanView, ObjView, BlkView, FileView}
 use Rattle.gcd_plan.specs.Validity.{IsPlan, submitted_blocks, act_count, is_submittable, is_act, is_work}
 use Rattle.gcd_plan.specs.declared.numbers.Blk.{Blk}
 use Rattle.gcd_plan.specs.declared.numbers.Obj.{Obj}
 use Rattle.gcd_plan.specs.declared.work.Work.{Work}
+use Rattle.gcd_plan.proofs.Places.{slice_get_some}
 use Rattle.gcd_script.specs.declared.meaning.Meaning.{Meaning}
 use Rattle.gcd_script.specs.declared.meaning.Meaning.TheVariants.{File, Object, Block}
 use Rattle.gcd_script.specs.Lines.{words_of, is_printable}
@@ -158,7 +160,7 @@ block_sound : (name : List ℕ) (work : Option Work) (draft : DraftView) → IsD
 block_sound name work draft sound unfit full readable is_first =
     let more = length_push draft.plan.blocks (new_block name work) in
     record {
-      valid = block_valid draft.plan sound.valid sound.forms name work (fit_from draft.plan name unfit) (below (length draft.plan.blocks) 16385 full) readable;
+      valid = block_valid draft.plan sound.valid sound.forms name work (fit_from draft.plan name unfit) (below (length draft.plan.blocks) max_blocks full) readable;
       forms = block_first draft.plan sound.valid sound.forms name work is_first;
       body = omega arith;
     }
@@ -176,9 +178,9 @@ act_sound queue block draft sound b opened known_queue known_block is_a_queue is
     (and_from (ltb 0 c.0) (ltb c.0 (length plan.blocks)) (lt-ltb 0 c.0 n.above) (lt-ltb c.0 (length plan.blocks) n.within))
     in
     let fresh_block : list_any (λ (d : Blk). d.0 == c.0) (submitted_blocks plan) ≡ false = ap (λ o. option_map_or (is_submitted_block plan) o false) (sym n.means) ∙ fresh in
-    let room = below (act_count plan) 65535 full in
+    let room = below (act_count plan) max_acts full in
     let inside : b.0 < length plan.blocks = subst (λ o. IfSome o (λ x. x.0 < length plan.blocks)) opened sound.body in
-    let at = acts.at_place plan.blocks b.0 inside in
+    let at = slice_get_some plan.blocks b.0 inside in
     let same = acts.is_new plan sound.valid sound.forms b at.0 at.1 act in
     let full_plan = acts.new plan sound.valid sound.forms b at.0 at.1 act in
     let sound_now : IsDraft (record draft { plan = full_plan }) = record {
@@ -204,14 +206,14 @@ pub form_sound : (number : ℕ) (form : LineForm) (draft : DraftView) → IsDraf
 form_sound number (FileLine name path) draft sound fits right =
     let (unfit, full) = all_fail (refusals_of draft (FileLine name path)) right in
     record {
-      valid = file_valid draft.plan sound.valid sound.forms number name path (fit_from draft.plan name unfit) (below (length draft.plan.files) 64 full.0) fits;
+      valid = file_valid draft.plan sound.valid sound.forms number name path (fit_from draft.plan name unfit) (below (length draft.plan.files) max_files full.0) fits;
       forms = file_first draft.plan sound.valid sound.forms (new_file number name path);
       body = tt;
     }
 form_sound number (QueueLine name) draft sound fits right =
     let (unfit, full) = all_fail (refusals_of draft (QueueLine name)) right in
     record {
-      valid = queue_valid draft.plan sound.valid sound.forms name (fit_from draft.plan name unfit) (below (length draft.plan.objects) 1024 full.0);
+      valid = queue_valid draft.plan sound.valid sound.forms name (fit_from draft.plan name unfit) (below (length draft.plan.objects) max_objects full.0);
       forms = queue_first draft.plan sound.valid sound.forms name;
       body = tt;
     }

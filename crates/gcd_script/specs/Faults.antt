@@ -2,6 +2,7 @@
 use Rattle.std.specs.Prelude.{◌≡◌, ℕ, ◌+◌, ◌==◌, nat_le, Bool, true, false, not, ◌||◌, if◌then◌else◌, List, [], ◌∷◌, length, Option, Some, None, option_map, is_none, is_some, reverse}
 use Rattle.std.specs.Option.{option_map_or, option_or}
 use Rattle.std.specs.List.{list_any}
+use Rattle.gcd_plan.specs.Limits.{max_objects, max_blocks, max_files, max_acts}
 use Rattle.gcd_plan.specs.PlanView.{PlanView}
 use Rattle.gcd_plan.specs.Kinds.{is_queue}
 use Rattle.gcd_plan.specs.Names.{is_name}
@@ -51,21 +52,21 @@ is_submitted_block plan _ = false
 abbrev pub is_submitted : PlanView → List ℕ → Bool
 is_submitted plan name = option_map_or (is_submitted_block plan) (meaning_of plan name) false
 
--- there are 64 files
+-- there are as many files as a plan may have
 abbrev pub is_full_of_files : PlanView → Bool
-is_full_of_files plan = nat_le 64 (length plan.files)
+is_full_of_files plan = nat_le max_files (length plan.files)
 
--- there are 1,023 objects beside root
+-- there are as many objects, with root
 abbrev pub is_full_of_objects : PlanView → Bool
-is_full_of_objects plan = nat_le 1024 (length plan.objects)
+is_full_of_objects plan = nat_le max_objects (length plan.objects)
 
--- there are 16,384 blocks beside main
+-- there are as many blocks, with main
 abbrev pub is_full_of_blocks : PlanView → Bool
-is_full_of_blocks plan = nat_le 16385 (length plan.blocks)
+is_full_of_blocks plan = nat_le max_blocks (length plan.blocks)
 
--- there are 65,535 acts in all bodies together
+-- there are as many acts, in all bodies together
 abbrev pub is_full_of_acts : PlanView → Bool
-is_full_of_acts plan = nat_le 65535 (act_count plan)
+is_full_of_acts plan = nat_le max_acts (act_count plan)
 
 -- what may be wrong with a line of the form: each refusal with its test, the lowest code first
 abbrev pub refusals_of : DraftView → LineForm → List (Refusal × Bool)

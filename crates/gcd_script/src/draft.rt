@@ -1,10 +1,10 @@
 // What the lines so far declare.
 ghost use Rattle.std.specs.Prelude.{◌≡◌, ◌<◌, Ok, Some, None, false, length, IfOk, OnOk};
+ghost use Rattle.gcd_plan.specs.Limits.{max_blocks, max_files, max_objects};
 ghost use Rattle.gcd_plan.specs.PlanView.{view_of};
 
 use crate::additions::{declare, push_act, push_block, push_file, push_queue};
 use crate::form::Form;
-use crate::limits::{MOST_BLOCKS, MOST_FILES, MOST_OBJECTS};
 use crate::meaning::Meaning;
 use gcd_plan::{Act, Blk, BlkPart, How, Kind, Obj, ObjPart, Parts, WHOLE_FILE, Work};
 use std::alloc::{AllocError, Global};
@@ -106,7 +106,7 @@ impl<'a> Draft<'a> {
     ) -> Result<(), AllocError>
         requires agrees { DraftAgrees self.old }
         requires unfit { is_unfit (view_of self.old.parts) name.now ≡ false }
-        requires room { length (view_of self.old.parts).files < MOST_FILES }
+        requires room { length (view_of self.old.parts).files < max_files }
         ensures view { OnOk result (draft_view self.new ≡ closed (with_file (new_file number name.now path.now) (view_of self.old.parts)) (draft_view self.old)) }
         ensures agrees { OnOk result (DraftAgrees self.new) }
     {
@@ -120,7 +120,7 @@ impl<'a> Draft<'a> {
     fn add_queue(&mut self, alloc: Global, name: &'a str) -> Result<(), AllocError>
         requires agrees { DraftAgrees self.old }
         requires unfit { is_unfit (view_of self.old.parts) name.now ≡ false }
-        requires room { length (view_of self.old.parts).objects < MOST_OBJECTS }
+        requires room { length (view_of self.old.parts).objects < max_objects }
         ensures view { OnOk result (draft_view self.new ≡ closed (with_object (serial_queue name.now) (view_of self.old.parts)) (draft_view self.old)) }
         ensures agrees { OnOk result (DraftAgrees self.new) }
     {
@@ -139,7 +139,7 @@ impl<'a> Draft<'a> {
     ) -> Result<(), AllocError>
         requires agrees { DraftAgrees self.old }
         requires unfit { is_unfit (view_of self.old.parts) name.now ≡ false }
-        requires room { length (view_of self.old.parts).blocks < MOST_BLOCKS }
+        requires room { length (view_of self.old.parts).blocks < max_blocks }
         ensures view { OnOk result (draft_view self.new ≡ with_body (new_block name.now work) (draft_view self.old)) }
         ensures agrees { OnOk result (DraftAgrees self.new) }
     {

@@ -7,10 +7,9 @@ ghost use Rattle.gcd_script.specs.Faults.{first_refusal, is_file_name, is_block_
 
 use crate::draft::Draft;
 use crate::form::Form;
-use crate::limits::{MOST_ACTS, MOST_BLOCKS, MOST_FILES, MOST_OBJECTS};
 use crate::meaning::Meaning;
 use crate::refusal::Refusal;
-use gcd_plan::{Kind, Obj, is_name};
+use gcd_plan::{MAX_ACTS, MAX_BLOCKS, MAX_FILES, MAX_OBJECTS, Obj, is_name};
 
 // The first refusal whose test holds.
 fn first_refusal(rows: &[(Refusal, bool)]) -> Option<Refusal>
@@ -64,7 +63,7 @@ impl<'a> Draft<'a> {
         ensures { result ≡ is_queue (view_of self.now.parts) o.0 }
     {
         match self.parts.objects.get(o.0 as usize) {
-            Some(object) => matches!(object.kind, Kind::Serial | Kind::Concurrent),
+            Some(object) => object.kind.is_queue(),
             None => false,
         }
     }
@@ -99,15 +98,24 @@ impl<'a> Draft<'a> {
         match *form {
             Form::File { name, path: _ } => first_refusal(&[
                 (Refusal::BadName, self.is_unfit(name)),
-                (Refusal::PastLimit, self.parts.files.len() >= MOST_FILES),
+                (
+                    Refusal::PastLimit,
+                    self.parts.files.len() >= MAX_FILES as usize,
+                ),
             ]),
             Form::Queue { name } => first_refusal(&[
                 (Refusal::BadName, self.is_unfit(name)),
-                (Refusal::PastLimit, self.parts.objects.len() >= MOST_OBJECTS),
+                (
+                    Refusal::PastLimit,
+                    self.parts.objects.len() >= MAX_OBJECTS as usize,
+                ),
             ]),
             Form::Block { name, counts: None } => first_refusal(&[
                 (Refusal::BadName, self.is_unfit(name)),
-                (Refusal::PastLimit, self.parts.blocks.len() >= MOST_BLOCKS),
+                (
+                    Refusal::PastLimit,
+                    self.parts.blocks.len() >= MAX_BLOCKS as usize,
+                ),
             ]),
             Form::Block {
                 name,
@@ -128,7 +136,10 @@ impl<'a> Draft<'a> {
             (Refusal::BadName, self.is_unfit(name)),
             (Refusal::UnknownName, counted.is_none()),
             (Refusal::OtherKind, is_no_file(counted)),
-            (Refusal::PastLimit, self.parts.blocks.len() >= MOST_BLOCKS),
+            (
+                Refusal::PastLimit,
+                self.parts.blocks.len() >= MAX_BLOCKS as usize,
+            ),
         ])
     }
 
@@ -147,7 +158,7 @@ impl<'a> Draft<'a> {
                 self.is_no_queue(to) | is_no_block(submitted),
             ),
             (Refusal::Repeated, self.is_submitted(submitted)),
-            (Refusal::PastLimit, self.acts >= MOST_ACTS),
+            (Refusal::PastLimit, self.acts >= MAX_ACTS as usize),
         ])
     }
 }

@@ -45,14 +45,12 @@ mod fault;
 mod form;
 mod judge;
 pub mod laws;
-mod limits;
 mod lines;
 mod meaning;
 mod parser;
 mod refusal;
 
 pub use fault::ParseFault;
-pub use limits::{MOST_ACTS, MOST_BLOCKS, MOST_FILES, MOST_OBJECTS};
 pub use parser::parse;
 pub use refusal::Refusal;
 

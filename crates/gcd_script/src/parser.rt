@@ -1,6 +1,6 @@
 // The plan of a script.
 ghost use Rattle.std.specs.Prelude.{◌≡◌, ◌<◌, None, length, IfOk, IfErr, OnOk};
-ghost use Rattle.gcd_plan.specs.FirstForms.{IsOfFirstForms};
+ghost use Rattle.gcd_forms.specs.FirstForms.{IsOfFirstForms};
 ghost use Rattle.gcd_plan.specs.Validity.{IsPlan};
 ghost use Rattle.gcd_script.specs.Drafts.{after_line};
 ghost use Rattle.gcd_script.specs.Faults.{refusal_of, IsScriptOf};

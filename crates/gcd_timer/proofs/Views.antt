@@ -13,7 +13,7 @@ use Rattle.std.proofs.lemmas.List.FromFn.{filter_of_map_range_with_len_more, get
 use Rattle.std.proofs.lemmas.Map.Views.{any-filter_same}
 use Rattle.gcd_plan.specs.PlanView.{PlanView, ObjView}
 use Rattle.gcd_plan.specs.Validity.{IsPlan, is_kind, is_object}
-use Rattle.gcd_plan.specs.KindValues.{is_on_beat}
+use Rattle.gcd_plan.specs.KindValues.{is_on_interval}
 use Rattle.gcd_plan.specs.declared.kind.Kind.{Kind}
 use Rattle.gcd_plan.specs.declared.kind.Kind.TheVariants.{Timer}
 use Rattle.gcd_plan.specs.declared.numbers.Obj.{Obj}
@@ -32,13 +32,13 @@ within until t (Some end) = both until t end
     both until t end = grind (arith, nat_tests)
 
 due_of_kind : (kind : Kind) (from until t : ℕ) (c : Option ℕ)
-    → (is_on_beat kind from t && (nat_le t until && option_map_or (λ end. nat_le t end) c true))
+    → (is_on_interval kind from t && (nat_le t until && option_map_or (λ end. nat_le t end) c true))
     ≡ option_map_or (λ beat. is_in beat t) (beat_of kind from (last_due until c)) false
-due_of_kind (Timer start every) from until t c = ap (λ b. is_on_beat (Timer start every) from t && b) (within until t c)
+due_of_kind (Timer start every) from until t c = ap (λ b. is_on_interval (Timer start every) from t && b) (within until t c)
 due_of_kind _ from until t c = refl
 
 due_of_found : (a : Option ℕ) (k : Option Kind) (until t : ℕ) (c : Option ℕ)
-    → (option_map_or (λ from. option_map_or (λ kind. is_on_beat kind from t) k false) a false && (nat_le t until && option_map_or (λ end. nat_le t end) c true))
+    → (option_map_or (λ from. option_map_or (λ kind. is_on_interval kind from t) k false) a false && (nat_le t until && option_map_or (λ end. nat_le t end) c true))
     ≡ option_map_or (λ beat. is_in beat t) (option_and_then (λ from. option_and_then (λ kind. beat_of kind from (last_due until c)) k) a) false
 due_of_found None k until t c = refl
 due_of_found (Some from) None until t c = refl
@@ -86,7 +86,7 @@ joined view p a n (s ∷ timers) =
 
 -- what has a due time is a timer
 timer_of_found : (a : Option ℕ) (k : Option Kind) (b : Bool) (t : ℕ)
-    → (option_map_or (λ from. option_map_or (λ kind. is_on_beat kind from t) k false) a false && b) ≡ true → option_map_or is_timer_kind k false ≡ true
+    → (option_map_or (λ from. option_map_or (λ kind. is_on_interval kind from t) k false) a false && b) ≡ true → option_map_or is_timer_kind k false ≡ true
 timer_of_found None k b t due = absurd (false≢true due)
 timer_of_found (Some from) None b t due = absurd (false≢true due)
 timer_of_found (Some from) (Some (Timer start every)) b t due = refl

@@ -5,7 +5,7 @@ use Rattle.std.specs.Prelude.{ℕ, ◌+◌, ◌-◌, nat_le, Bool, true, false, 
 use Rattle.std.specs.Option.{option_map_or}
 use Rattle.std.specs.List.{list_any, range_with_len}
 use Rattle.gcd_plan.specs.PlanView.{PlanView}
-use Rattle.gcd_plan.specs.KindValues.{is_on_beat}
+use Rattle.gcd_plan.specs.KindValues.{is_on_interval}
 use Rattle.gcd_plan.specs.declared.kind.Kind.{Kind}
 
 -- the kinds of the objects, by number; the last due time; the time; and for each object by number the time at which it was
@@ -37,7 +37,7 @@ cancelled_at view s = slice_index_or view.cancelled s None
 -- t is a due time of timer s: none lies past `until`, and none past its cancellation (dispatch_source_set_timer(3))
 abbrev pub is_due_at : TimersView → ℕ → ℕ → Bool
 is_due_at view s t =
-    option_map_or (λ from. option_map_or (λ kind. is_on_beat kind from t) (slice_get view.kinds s) false) (activated_at view s) false
+    option_map_or (λ from. option_map_or (λ kind. is_on_interval kind from t) (slice_get view.kinds s) false) (activated_at view s) false
     && (nat_le t view.until && option_map_or (λ end. nat_le t end) (cancelled_at view s) true)
 
 -- t is a due time of some timer

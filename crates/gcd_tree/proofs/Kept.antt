@@ -7,8 +7,10 @@ use Rattle.gcd_plan.specs.declared.numbers.Obj.{Obj}
 use Rattle.gcd_plan.specs.Chains.{chain_by, is_in}
 use Rattle.gcd_tree.specs.TreeView.{TreeView, target_at, request_at, is_moving_at, open_on_at, is_node_at, chain_at, walk_next, would_cycle_at, is_child_of, has_child_at, open_from, open_beneath_at, with_request, with_open}
 use Rattle.gcd_tree.specs.IsTree.{IsTree}
-use Rattle.gcd_tree.proofs.Walks.{chain_by-same, ends_within, ends_redirected, parting, step_to, in_range}
-use Rattle.gcd_tree.proofs.Ranges.{found_below, sum_by-same, sum_by-changed, term-le-sum_by, sum-by_place}
+use Rattle.gcd_plan.proofs.Quantifiers.{list_any_in_range}
+use Rattle.gcd_plan.proofs.Walks.{chain_agree}
+use Rattle.gcd_tree.proofs.Walks.{ends_within, ends_redirected, parting, step_to, in_range}
+use Rattle.gcd_tree.proofs.Ranges.{sum_by-same, sum_by-changed, term-le-sum_by, sum-by_place}
 
 -- ---- requests
 
@@ -95,7 +97,7 @@ has_child_below view tree o m away lt other on =
     let below = in_range (target_at view) n n m s.from tree.targets_fit lt s.on_it in
     let node : is_node_at view s.from ≡ true = true_from_ne_false _ (λ none.
     away (sym s.steps ∙ (tree.others_rest s.from below none).0)) in
-    found_below (is_child_of view o) n s.from below (child_at view o s.from s.away s.elsewhere node s.steps)
+    list_any_in_range (is_child_of view o) n s.from below (child_at view o s.from s.away s.elsewhere node s.steps)
 
 -- where o has no child, or nothing is open beneath it, no other object whose chain has it is open
 pub quiet_below : (view : TreeView) → IsTree view → (o : ℕ) → o ≢ 0 → (has_child_at view o ≡ true → open_beneath_at view o ≡ 0)
@@ -287,7 +289,7 @@ module _ (view next : TreeView) (o t : ℕ) (tree : IsTree view) (change : Retar
   chain_stays : (m : ℕ) → is_in o (chain_at view m) ≡ false → chain_at next m ≡ chain_at view m
   chain_stays m without =
       ap (λ k. chain_by (target_at next) k m) change.as_many
-      ∙ chain_by-same (target_at view) (target_at next) (length view.targets) m
+      ∙ chain_agree (target_at view) (target_at next) (length view.targets) m
       (λ x on. change.targets x (λ e. both_ways _ without (subst (λ y. is_in y (chain_at view m) ≡ true) e on)))
 
   -- an open object's chain has not o

@@ -17,7 +17,7 @@ use Rattle.gcd_plan.specs.Validity.{IsPlan, is_object, has_fields, root_view}
 use Rattle.gcd_plan.specs.Chains.{chain_by, is_in}
 use Rattle.gcd_tree.specs.TreeView.{TreeView, tree_of, target_at, request_at, is_moving_at, open_on_at, is_node_at, walk_next}
 use Rattle.gcd_tree.specs.IsTree.{IsTree}
-use Rattle.gcd_tree.proofs.Walks.{chain_by-same}
+use Rattle.gcd_plan.proofs.Walks.{chain_agree}
 use Rattle.gcd_tree.proofs.Kept.{beneath-le-all}
 use Rattle.gcd_tree.proofs.Runs.{Keeps}
 
@@ -147,7 +147,7 @@ chains_as : (plan : PlanView) → IsPlan plan → (f : ℕ → ℕ) (n o : ℕ) 
     → o < n → is_in 0 (chain_by f n o) ≡ true
 chains_as plan valid f n o same e lt =
     ap (λ k. is_in 0 (chain_by f k o)) e
-    ∙ ap (is_in 0) (chain_by-same (first_target plan) f (length plan.objects) o (λ x _. same x))
+    ∙ ap (is_in 0) (chain_agree (first_target plan) f (length plan.objects) o (λ x _. same x))
     ∙ valid.targets o (omega (arith, e, lt))
 
 pub IsTree-tree_of : (plan : PlanView) → IsPlan plan → IsTree (tree_of plan)

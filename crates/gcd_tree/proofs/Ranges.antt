@@ -5,7 +5,7 @@ use Rattle.std.proofs.lemmas.Bool.{cases_eq, or_from}
 use Rattle.std.proofs.lemmas.List.Sums.{sum_by-cons}
 use Rattle.std.proofs.lemmas.List.Folds.{list_any_at}
 use Rattle.std.proofs.lemmas.List.FromFn.{fill_by_all, length-range_with_len, get_or-range_with_len}
-use Rattle.gcd_plan.proofs.Lists.{sum_by-map}
+use Rattle.gcd_plan.proofs.Sums.{sum_by-map}
 
 -- equal terms give equal sums
 pub sum_by-same : (f g : ℕ → ℕ) (a n : ℕ) → ((k : ℕ) → a ≤ k → k < a + n → g k ≡ f k)
@@ -52,12 +52,6 @@ pub sum-by_place : (xs : List ℕ) → sum_by (λ k. get_or xs k 0) (range_with_
 sum-by_place xs =
     let e : xs ≡ map (λ k. get_or xs k 0) (range_with_len 0 (length xs)) = fill_by_all _ xs (length xs) 0 refl (λ k h. refl) in
     sym (sum_by-map (λ x. x) (λ k. get_or xs k 0) (range_with_len 0 (length xs))) ∙ sym (ap sum e)
-
--- a number that passes is found
-pub found_below : (p : ℕ → Bool) (n k : ℕ) → k < n → p k ≡ true → list_any p (range_with_len 0 n) ≡ true
-found_below p n k lt h =
-    let at : get_or (range_with_len 0 n) k 0 ≡ k = get_or-range_with_len 0 n k 0 lt ∙ omega arith in
-    list_any_at p (range_with_len 0 n) k 0 (omega (arith, lt, length-range_with_len 0 n)) (ap p at ∙ h)
 
 none_from : (p : ℕ → Bool) (a n : ℕ) → ((k : ℕ) → k < a + n → p k ≡ false) → list_any p (range_with_len a n) ≡ false
 none_from p a zero h = refl

@@ -5,6 +5,7 @@ use Rattle.std.proofs.lemmas.Bool.{false≢true, both_ways, ne_eqb, eq-eqb, eqb-
 use Rattle.std.proofs.lemmas.List.Sums.{sum_by-cons}
 use Rattle.std.proofs.lemmas.Map.Steps.{length-le_from_distinct_below}
 use Rattle.gcd_plan.specs.Chains.{chain_by, is_in}
+use Rattle.gcd_plan.proofs.Walks.{in_rest, chain_agree}
 
 -- ---- one step
 
@@ -47,10 +48,6 @@ length_chain_by f (suc b) o = elim (cases_eq o 0) [
   | inl at ↦ let one = ap length (chain_by-root f b o at) in omega (arith, one)
   | inr away ↦ let more = ap length (chain_by-away f b o away) in let rest = length_chain_by f b (f o) in omega (arith, more, rest)
 ]
-
--- what is on the rest of a walk is on the walk
-pub is_in-walk : (f : ℕ → ℕ) (b o x : ℕ) → o ≢ 0 → is_in x (chain_by f b (f o)) ≡ true → is_in x (chain_by f (suc b) o) ≡ true
-is_in-walk f b o x away h = ap (is_in x) (chain_by-away f b o away) ∙ is_in-rest x o _ h
 
 -- a walk has its start
 pub is_in-start : (f : ℕ → ℕ) (b o x : ℕ) → o ≡ x → is_in x (chain_by f (suc b) o) ≡ true
@@ -97,7 +94,7 @@ is_in-more f zero m o x h le = absurd (false≢true h)
 is_in-more f (suc b) zero o x h le = absurd (omega arith)
 is_in-more f (suc b) (suc m) o x h le = elim (stands f b o x h) [
   | here same ↦ is_in-start f m o x same
-  | later _ away rest ↦ is_in-walk f m o x away (is_in-more f b m (f o) x rest (omega arith))
+  | later _ away rest ↦ in_rest f m o x away (is_in-more f b m (f o) x rest (omega arith))
 ]
 
 -- from each object of a walk that ends the walk ends too, and is no longer
@@ -202,7 +199,7 @@ ends_short f (suc b) (suc m) o h le = elim (stands f b o 0 h) [
   | here at ↦ is_in-start f m o 0 at
   | later away _ rest ↦
       let longer : length (chain_by f (suc b) o) ≡ suc (length (chain_by f b (f o))) = ap length (chain_by-away f b o away) in
-      is_in-walk f m o 0 away (ends_short f b m (f o) rest (omega (arith, longer, le)))
+      in_rest f m o 0 away (ends_short f b m (f o) rest (omega (arith, longer, le)))
 ]
 
 found_alike : (q : ℕ) (xs : List ℕ) → list_any (eqb q) xs ≡ true → is_in q xs ≡ true
@@ -223,18 +220,6 @@ ends_within f n b o fits lt ends =
 
 -- ---- where a step changes
 
--- a walk is the same by steps that agree on it
-pub chain_by-same : (f g : ℕ → ℕ) (b o : ℕ) → ((x : ℕ) → is_in x (chain_by f b o) ≡ true → g x ≡ f x) → chain_by g b o ≡ chain_by f b o
-chain_by-same f g zero o h = refl
-chain_by-same f g (suc b) o h = elim (cases_eq o 0) [
-  | inl at ↦ chain_by-root g b o at ∙ sym (chain_by-root f b o at)
-  | inr away ↦
-      chain_by-away g b o away
-      ∙ ap (λ y. o ∷ chain_by g b y) (h o (is_in-start f b o o refl))
-      ∙ ap (λ xs. o ∷ xs) (chain_by-same f g b (f o) (λ x on. h x (is_in-walk f b o x away on)))
-      ∙ sym (chain_by-away f b o away)
-]
-
 -- with another step at p, from which the walk ends without meeting p, each walk that ended still ends
 pub ends_redirected : (f g : ℕ → ℕ) (p b c m o : ℕ) → ((x : ℕ) → x ≢ p → g x ≡ f x)
     → is_in p (chain_by f b (g p)) ≡ false → is_in 0 (chain_by f b (g p)) ≡ true
@@ -243,9 +228,9 @@ ends_redirected f g p b zero m o same apart ends h le = absurd (false≢true h)
 ends_redirected f g p b (suc c) zero o same apart ends h le = absurd (omega arith)
 ends_redirected f g p b (suc c) (suc m) o same apart ends h le = elim (stands f c o 0 h) [
   | here at ↦ is_in-start g m o 0 at
-  | later away _ rest ↦ is_in-walk g m o 0 away (elim (cases_eq o p) [
+  | later away _ rest ↦ in_rest g m o 0 away (elim (cases_eq o p) [
     | inl there ↦
-        let kept : chain_by g b (g p) ≡ chain_by f b (g p) = chain_by-same f g b (g p)
+        let kept : chain_by g b (g p) ≡ chain_by f b (g p) = chain_agree f g b (g p)
         (λ x on. same x (λ e. both_ways _ apart (subst (λ y. is_in y (chain_by f b (g p)) ≡ true) e on))) in
         subst (λ y. is_in 0 (chain_by g m (g y)) ≡ true) (sym there) (is_in-more g b m (g p) 0 (ap (is_in 0) kept ∙ ends) (omega arith))
     | inr elsewhere ↦
@@ -274,7 +259,7 @@ parting f g (suc b) t o h none = elim (stands f b t o h) [
         record {
           at = p.at;
           elsewhere = p.elsewhere;
-          on_it = is_in-walk f b t p.at away p.on_it;
+          on_it = in_rest f b t p.at away p.on_it;
           before = is_in-more f b (suc b) p.at o p.before (omega arith);
           apart = p.apart;
         }
@@ -298,6 +283,6 @@ step_to f (suc b) m o ne h = elim (stands f b m o h) [
     | inl there ↦ record { from = m; elsewhere = ne; away = away; on_it = is_in-start f b m m refl; steps = there }
     | inr further ↦
         let s = step_to f b (f m) o further rest in
-        record { from = s.from; elsewhere = s.elsewhere; away = s.away; on_it = is_in-walk f b m s.from away s.on_it; steps = s.steps }
+        record { from = s.from; elsewhere = s.elsewhere; away = s.away; on_it = in_rest f b m s.from away s.on_it; steps = s.steps }
   ]
 ]

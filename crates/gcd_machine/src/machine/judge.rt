@@ -12,7 +12,7 @@ ghost use Rattle.gcd_machine.specs.Kept.{kept_why, kept_reasons, queue_reasons, 
 
 use super::{Machine, WORKERS};
 use gcd_event::Event;
-use gcd_plan::{Blk, Obj, Run, Why};
+use gcd_plan::{Blk, MAX_ACTS, Obj, Run, Why};
 
 impl Machine {
     /// The first reason why the event may not come next, or None: then it may.
@@ -129,7 +129,7 @@ impl Machine {
     fn why_act(&self, worker: u8, blk: Blk, index: u32) -> Option<Why>
         ensures { result ≡ first_of (kept_reasons self.now (Event.Act worker (Run.Block blk) index)) }
     {
-        if !self.has(worker, blk) || index > 65_534 {
+        if !self.has(worker, blk) || index >= MAX_ACTS {
             Some(Why::NoSuch)
         } else if !self.holds(worker, blk) {
             Some(Why::NotOwn)
@@ -144,7 +144,7 @@ impl Machine {
     fn why_misuse(&self, worker: u8, blk: Blk, index: u32, code: u8) -> Option<Why>
         ensures { result ≡ first_of (kept_reasons self.now (Event.Misuse worker (Run.Block blk) index code)) }
     {
-        if !self.has(worker, blk) || index > 65_534 || code < 1 || code > 8 {
+        if !self.has(worker, blk) || index >= MAX_ACTS || code < 1 || code > 8 {
             Some(Why::NoSuch)
         } else if !self.holds(worker, blk) {
             Some(Why::NotOwn)

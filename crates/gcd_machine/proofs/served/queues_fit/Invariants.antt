@@ -1,6 +1,6 @@
 use Rattle.std.proofs.Common.{◌≡◌, drop}
 use Rattle.std.specs.List.{list_all}
-use Rattle.gcd_plan.specs.FirstForms.{after_root, is_plain_queue}
+use Rattle.gcd_forms.specs.FirstForms.{after_root, is_plain_queue}
 use Rattle.gcd_machine.proofs.served.queues_fit.Given as goal
 
 abbrev pub invariant-loop-n : goal.invariant-loop-n

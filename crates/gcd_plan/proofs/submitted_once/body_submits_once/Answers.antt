@@ -2,7 +2,7 @@ use Rattle.std.proofs.Common.{◌==◌, ◌∙◌, sym}
 use Rattle.std.specs.List.{count_by}
 use Rattle.gcd_plan.specs.PlanView.{view_of}
 use Rattle.gcd_plan.specs.Validity.{block_of, submitted_blocks}
-use Rattle.gcd_plan.proofs.Lists.{list_all-found}
+use Rattle.gcd_plan.proofs.Quantifiers.{list_all-found}
 use Rattle.gcd_plan.proofs.submitted_once.body_submits_once.Goals as goal
 
 pub returns : goal.returns

@@ -1,5 +1,5 @@
 use Rattle.std.proofs.Common.{◌==◌, length, ap, sym, arith}
-use Rattle.gcd_plan.proofs.Lists.{sum_by_one_more}
+use Rattle.gcd_plan.proofs.Sums.{sum_by_one_more}
 use Rattle.gcd_plan.proofs.Valid.{acts_seen, submissions_counted}
 use Rattle.gcd_plan.proofs.submitted_once.is_submitted_once.Goals as goal
 
@@ -7,7 +7,7 @@ pub object_submissions-requires : goal.object_submissions-requires
 object_submissions-requires c =
     let more = sum_by_one_more (λ o. length o.handler.items) c.args.parts.now.objects.items in
     let seen = acts_seen c.args.parts.now in
-    rw c.deref-2.ensures.value (omega (arith, more, seen, c.requires.acts, c.requires.objects))
+    rw c.deref-2.ensures.value (omega (arith, more, seen, c.requires))
 
 pub returns : goal.returns
 returns c =

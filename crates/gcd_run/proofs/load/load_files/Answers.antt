@@ -1,8 +1,9 @@
 use Rattle.std.proofs.Common.{◌∙◌, ◌+◌, map, refl, ap, arith, rules}
 use Rattle.std.proofs.lemmas.List.{take_all}
+use Rattle.gcd_plan.specs.Limits.{max_file_bytes}
 use Rattle.gcd_plan.specs.PlanView.{file_view}
 use Rattle.gcd_outer.specs.Outside.{ShelfSeen, shelf_seen, next_count}
-use Rattle.gcd_run.specs.Loads.{StopsUnread, StopsLonger, file_limit}
+use Rattle.gcd_run.specs.Loads.{StopsUnread, StopsLonger}
 use Rattle.gcd_run.proofs.Loading.{SameShelf, loaded_same, are_loaded_same, loaded_more, next_file, unread_same, longer_same, count_more, at_most}
 use Rattle.gcd_run.proofs.load.load_files.Goals as goal
 
@@ -12,7 +13,7 @@ loop-file-preserved g c =
     shelf_seen g.S.Shelf.tells g.S.Shelf.content g.S.Shelf.loads g.S.Shelf.faults in
     let before = c.args.shelf.now in
     let one = loaded_same (seen c.loop-file.shelf c.load_whole.new.shelf) (seen before before)
-    (record { tells = refl; content = c.loop-file.invariant.same }) c.as_str.result.now file_limit c.in-Ok.bytes.items c.in-Ok.ensures.loaded in
+    (record { tells = refl; content = c.loop-file.invariant.same }) c.as_str.result.now max_file_bytes c.in-Ok.bytes.items c.in-Ok.ensures.loaded in
     record {
       same = search rules;
       loaded = loaded_more (seen before before) c.args.files.now c.loop-file.file-index c.file-item.result c.loop-file.contents.items
@@ -80,7 +81,7 @@ returns-in-Err-Longer-clause-stopped g c =
     let stops : StopsLonger whole (map file_view c.args.files.now) c.loop-file.file-index c.file-item.result.line = record {
       file = file_view c.file-item.result;
       next = next_file whole c.args.files.now c.loop-file.file-index c.file-item.result c.loop-file.contents.items (search rules) c.file-item.is loaded;
-      longer = longer_same one whole same _ file_limit (rw (c.in-Err-Longer.field-0-is, c.as_str.ensures.value) at c.in-Err-Longer.ensures.loaded);
+      longer = longer_same one whole same _ max_file_bytes (rw (c.in-Err-Longer.field-0-is, c.as_str.ensures.value) at c.in-Err-Longer.ensures.loaded);
       line_is = refl;
     } in (
       c.loop-file.file-index,

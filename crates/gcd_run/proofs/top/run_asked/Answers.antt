@@ -1,7 +1,7 @@
 use Rattle.std.proofs.Common.{◌+◌, refl, arith}
 use Rattle.std.proofs.lemmas.Result.{IfOk-weaker, on_err_weaker}
+use Rattle.gcd_plan.specs.Limits.{max_script_bytes}
 use Rattle.gcd_outer.specs.Outside.{ShelfSeen, shelf_seen}
-use Rattle.gcd_run.specs.Loads.{script_limit}
 use Rattle.gcd_run.specs.Ends.{IsScript}
 use Rattle.gcd_run.specs.Ends.RunEnds.{script_unread, script_longer, script_refused, planned}
 use Rattle.gcd_run.specs.Ends.RunLoads.{of_script, of_files}
@@ -15,7 +15,7 @@ returns-in-Ok-parse-clause-ends g c =
     let first = seen c.args.shelf.now c.load_whole.new.shelf in
     let later = seen c.load_whole.new.shelf c.run_script.new.shelf in
     let whole = seen c.args.shelf.now c.run_script.new.shelf in
-    let loaded = loaded_same first whole (record { tells = refl; content = refl }) c.args.request.script.now script_limit c.in-Ok.script.items
+    let loaded = loaded_same first whole (record { tells = refl; content = refl }) c.args.request.script.now max_script_bytes c.in-Ok.script.items
     c.in-Ok.ensures.loaded in
     let script : IsScript whole c.args.request.script.now c.in-Ok-parse.plan = record {
       script = c.in-Ok.script.items;
@@ -39,7 +39,7 @@ returns-in-Ok-parse-clause-wanting g c =
     let first = seen c.args.shelf.now c.load_whole.new.shelf in
     let later = seen c.load_whole.new.shelf c.run_script.new.shelf in
     let whole = seen c.args.shelf.now c.run_script.new.shelf in
-    let loaded = loaded_same first whole (record { tells = refl; content = refl }) c.args.request.script.now script_limit c.in-Ok.script.items
+    let loaded = loaded_same first whole (record { tells = refl; content = refl }) c.args.request.script.now max_script_bytes c.in-Ok.script.items
     c.in-Ok.ensures.loaded in
     let script : IsScript whole c.args.request.script.now c.in-Ok-parse.plan = record {
       script = c.in-Ok.script.items;

@@ -1,4 +1,5 @@
 use Rattle.std.proofs.Common.{◌≡◌, ◌-◌, true, false, length, map}
+use Rattle.gcd_plan.specs.Limits.{max_events}
 use Rattle.gcd_history.specs.Ends.{ends_in_halt}
 use Rattle.gcd_machine.specs.Stands.{StandsFor}
 use Rattle.gcd_machine.specs.Workers.{is_all_by}
@@ -17,4 +18,4 @@ invariant-loop-e l = record {
 }
 
 abbrev pub decreases-loop-e : goal.decreases-loop-e
-decreases-loop-e l = 65535 - length l.journal.items
+decreases-loop-e l = max_events - length l.journal.items

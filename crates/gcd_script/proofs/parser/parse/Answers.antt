@@ -1,6 +1,6 @@
 use Rattle.std.proofs.Common.{◌∙◌, sym, ap, subst}
 use Rattle.std.proofs.lemmas.Result.{err_from_is_err_and}
-use Rattle.gcd_plan.specs.FirstForms.{IsOfFirstForms}
+use Rattle.gcd_forms.specs.FirstForms.{IsOfFirstForms}
 use Rattle.gcd_plan.specs.PlanView.{view_of}
 use Rattle.gcd_plan.specs.Validity.{IsPlan}
 use Rattle.gcd_script.specs.Faults.{IsScriptOf}

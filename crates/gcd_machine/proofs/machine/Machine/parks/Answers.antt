@@ -1,5 +1,5 @@
 use Rattle.std.proofs.Common.{ap, ◌∙◌}
-use Rattle.gcd_history.specs.Parked.{parks as does_park}
+use Rattle.gcd_history.specs.Parked.{is_parking as does_park}
 use Rattle.gcd_machine.proofs.Shown.{parks_stands}
 use Rattle.gcd_machine.proofs.machine.Machine.parks.Goals as goal
 

@@ -3,9 +3,10 @@ use Rattle.gcd_plan.specs.declared.numbers.Blk.{Blk}
 use Rattle.gcd_plan.specs.declared.act.Act.{Act}
 use Rattle.gcd_plan.specs.declared.act.Act.TheVariants.{Async}
 use Rattle.gcd_plan.specs.PlanView.{view_of}
+use Rattle.gcd_plan.proofs.Places.{slice_get_some}
 use Rattle.gcd_script.specs.Agreement.{AgreeWithPlan, look_up}
 use Rattle.gcd_script.specs.Views.{draft_view}
-use Rattle.gcd_script.proofs.Acts.{at_place, is_new}
+use Rattle.gcd_script.proofs.Acts.{is_new}
 use Rattle.gcd_script.proofs.Agreement.{act_agrees}
 use Rattle.gcd_script.proofs.RightLines.{block_named}
 use Rattle.gcd_script.proofs.draft.Draft.add_async.Goals as goal
@@ -29,7 +30,7 @@ returns-in_ok-push_act-clause-agrees c =
     let numbered : block.0 < length plan.blocks = subst (λ n. n < length plan.blocks) (sym c.number-2.ensures) named.within in
     let within = subst (λ n. block.0 < n) (sym c.requires.agrees.flags) numbered in
     let inside : body.0 < length plan.blocks = subst (λ o. IfSome o (λ b. b.0 < length plan.blocks)) c.in-Some.is sound.body in
-    let at = at_place plan.blocks body.0 inside in
+    let at = slice_get_some plan.blocks body.0 inside in
     subst (AgreeWithPlan (look_up old.meanings) (set old.submitted.items block.0 true) (old.acts + 1))
     (sym (c.in_ok-push_act.ensures ∙ is_new plan sound.valid sound.forms body at.0 at.1 act))
     (act_agrees (look_up old.meanings) (look_up old.meanings) old.submitted.items old.acts plan c.requires.agrees sound.valid sound.forms body at.0 at.1 act block refl within)

@@ -10,10 +10,11 @@ use Rattle.gcd_plan.specs.Validity.{IsPlan, block_of, blocks_of}
 use Rattle.gcd_plan.specs.declared.act.Act.{Act}
 use Rattle.gcd_plan.specs.declared.numbers.Blk.{Blk}
 use Rattle.gcd_plan.specs.declared.numbers.Run.TheVariants.{Block}
-use Rattle.gcd_plan.proofs.Lists.{count_by-flat_map}
-use Rattle.gcd_plan.proofs.Once.{count_found}
+use Rattle.gcd_plan.proofs.Sums.{count_by-flat_map}
+use Rattle.gcd_plan.proofs.Sums.{count_by-found}
 use Rattle.gcd_history.specs.Runs.{act_at}
-use Rattle.gcd_history.proofs.Counts.{two_terms, one_place, sum_by_same}
+use Rattle.gcd_history.proofs.Counts.{two_terms, one_place}
+use Rattle.gcd_plan.proofs.Sums.{sum_by_agree}
 
 -- the act submits block c
 abbrev pub submits : ℕ → Act → Bool
@@ -29,7 +30,7 @@ blocks_within plan c valid =
     let own : BlkView → List Blk = λ b. blocks_of b.acts in
     let split = sum_by-append (λ x. cond (is_c x) 1 0) (flat_map own plan.blocks) (flat_map (λ o. blocks_of o.handler ++ option_to_list o.cancel) plan.objects) in
     let counted = count_by-flat_map is_c own plan.blocks in
-    let same = sum_by_same (λ b. count_by is_c (own b)) (count_in c) plan.blocks (λ b. count_found is_c block_of b.acts) in
+    let same = sum_by_agree (λ b. count_by is_c (own b)) (count_in c) plan.blocks (λ b. count_by-found is_c block_of b.acts) in
     omega (arith, split, counted, same, valid.once c)
 
 -- an act that submits block c, by its block's number and its index

@@ -8,7 +8,7 @@ use Rattle.std.proofs.lemmas.List.{nil_from_length}
 use Rattle.gcd_plan.specs.PlanView.{PlanView, ObjView, kind_of, first_target, starts_active, cancel_block, acts_of}
 use Rattle.gcd_plan.specs.Kinds.{has_kind, is_queue}
 use Rattle.gcd_plan.specs.Validity.{IsPlan, root_view, is_object, is_block, is_act, has_fields, has_path, is_kind, is_submittable}
-use Rattle.gcd_plan.specs.FirstForms.{IsOfFirstForms, is_plain_queue, is_serial_kind, is_first_act, is_first_block, after_root, is_first_work}
+use Rattle.gcd_forms.specs.FirstForms.{IsOfFirstForms, is_plain_queue, is_serial_kind, is_first_act, is_first_block, after_root, is_first_work}
 use Rattle.gcd_plan.specs.declared.act.Act.{Act}
 use Rattle.gcd_plan.specs.declared.act.Act.TheVariants.{Async}
 use Rattle.gcd_plan.specs.declared.kind.Kind.{Kind}
@@ -20,8 +20,8 @@ use Rattle.gcd_plan.specs.declared.numbers.Run.TheVariants.{Block, Source}
 use Rattle.gcd_event.specs.declared.event.Event.{Event}
 use Rattle.gcd_event.specs.declared.event.Event.TheVariants.{Act as Acted}
 use Rattle.gcd_history.specs.Runs.{act_at, act_of}
-use Rattle.gcd_history.proofs.Lists.{list_all_place}
-use Rattle.gcd_history.proofs.Options.{none_is}
+use Rattle.gcd_plan.proofs.Quantifiers.{list_all_get}
+use Rattle.gcd_plan.proofs.Options.{none_from_is_none}
 
 -- a plan that is valid and of the first forms
 pub record IsFirstPlan (plan : PlanView) : Type 0 where
@@ -68,7 +68,7 @@ queue_view plan v plain object =
       target = eqb-true v.target.0 0 b.0;
       active = b.1;
       handler = nil_from_length v.handler (eqb-true (length v.handler) 0 f.0);
-      cancel = none_is v.cancel f.1;
+      cancel = none_from_is_none v.cancel f.1;
     }
 
 pub object_cases : (plan : PlanView) (o : ℕ) → IsFirstPlan plan → ObjectCases plan o
@@ -77,8 +77,8 @@ object_cases plan (suc k) first =
     elim (slice_get plan.objects (suc k)) as (λ s. slice_get plan.objects (suc k) ≡ s → ObjectCases plan (suc k)) [
       | None ↦ λ e. inl e
       | Some v ↦ λ e.
-          let plain = list_all_place is_plain_queue (after_root plan.objects) k v first.forms.queues (sym (after plan.objects k) ∙ e) in
-          let object = list_all_place (is_object plan) plan.objects (suc k) v first.valid.objects e in
+          let plain = list_all_get is_plain_queue (after_root plan.objects) k v first.forms.queues (sym (after plan.objects k) ∙ e) in
+          let object = list_all_get (is_object plan) plan.objects (suc k) v first.valid.objects e in
           inr (inr (v, omega arith, slice_get_within plan.objects (suc k) v e, e, queue_view plan v plain object))
     ] refl
 
@@ -153,11 +153,11 @@ submits_at plan (Block b) i first =
     elim (slice_get plan.blocks b.0) as (λ v. slice_get plan.blocks b.0 ≡ v → Submits plan (slice_get (option_map_or (λ blk. blk.acts) v []) i)) [
       | None ↦ λ e. inl refl
       | Some blk ↦ λ e.
-          let forms = and_parts (list_all (is_first_act plan) blk.acts) (option_map_or is_first_work blk.work true) (list_all_place (is_first_block plan) plan.blocks b.0 blk first.forms.blocks e) in
-          let valid = and_parts _ (list_all (is_act plan) blk.acts) (list_all_place (is_block plan) plan.blocks b.0 blk first.valid.blocks e) in
+          let forms = and_parts (list_all (is_first_act plan) blk.acts) (option_map_or is_first_work blk.work true) (list_all_get (is_first_block plan) plan.blocks b.0 blk first.forms.blocks e) in
+          let valid = and_parts _ (list_all (is_act plan) blk.acts) (list_all_get (is_block plan) plan.blocks b.0 blk first.valid.blocks e) in
           elim (slice_get blk.acts i) as (λ a. slice_get blk.acts i ≡ a → Submits plan a) [
             | None ↦ λ f. inl refl
-            | Some a ↦ λ f. submits_one plan a (list_all_place (is_first_act plan) blk.acts i a forms.0 f) (list_all_place (is_act plan) blk.acts i a valid.1 f)
+            | Some a ↦ λ f. submits_one plan a (list_all_get (is_first_act plan) blk.acts i a forms.0 f) (list_all_get (is_act plan) blk.acts i a valid.1 f)
           ] refl
     ] refl
 

@@ -20,16 +20,16 @@ use Rattle.gcd_event.specs.declared.event.Event.{Event}
 use Rattle.gcd_event.specs.declared.event.Event.TheVariants.{Act as Acted, Wake}
 use Rattle.gcd_history.specs.Runs.{act_at, act_of, opens, same_run, open_runs, is_open, last_worker}
 use Rattle.gcd_history.specs.Groups.{count}
-use Rattle.gcd_history.specs.Submitted.{submitted, submitted_by, submissions, cancels, at_cancel, is_cancelled, registered, notify_blocks, at_empty, on_node}
-use Rattle.gcd_history.specs.Tree.{aim, aim_after, asked, target, is_moving, chain, chain_of_run, node_of, is_run_on, is_open_on, is_open_beneath}
+use Rattle.gcd_history.specs.Submitted.{submitted, submitted_by, new_submissions, cancels, at_cancel, is_cancelled, registered, notify_blocks, at_empty, on_node}
+use Rattle.gcd_history.specs.Tree.{aim, aim_after, asked, target, is_moving, chain, chain_of_run, node_of_run, is_run_on, is_open_on, is_open_beneath}
 use Rattle.gcd_history.specs.Holds.{hold, hold_after, activates, is_active, is_free}
-use Rattle.gcd_history.specs.Parked.{reason_of, parked_by, reason, is_parked, has_run}
+use Rattle.gcd_history.specs.Parked.{reason_by, parked_by, reason, is_parked, has_run}
 use Rattle.gcd_history.specs.Timers.{activated_at, is_due, is_any_due, next_due, may_tick, now}
-use Rattle.gcd_history.specs.Sources.{is_live}
+use Rattle.gcd_history.specs.Sources.{is_live_feed}
 use Rattle.gcd_history.specs.Misuses.{retains, releases, refs, is_released, misuse}
 use Rattle.gcd_history.specs.Permitted.{misuse_at, is_fenced, knowledge}
-use Rattle.gcd_history.proofs.Lists.{list_any_same}
-use Rattle.gcd_history.proofs.QueuesOnRoot.{IsFirstPlan, Submits, submits_at, submits_of, no_such_kind, all_on_root, all_active, no_cancel_blocks, IsQueueAt}
+use Rattle.gcd_plan.proofs.Quantifiers.{list_any_agree}
+use Rattle.gcd_machine.proofs.QueuesOnRoot.{IsFirstPlan, Submits, submits_at, submits_of, no_such_kind, all_on_root, all_active, no_cancel_blocks, IsQueueAt}
 
 -- what a function of an act gives where it gives the same for no act and for a plain submission
 pub of_act : {X : Type 0} (plan : PlanView) (f : Option Act → X) (x : X) (act : Option Act) → Submits plan act → f None ≡ x
@@ -127,7 +127,7 @@ pub beneath_is_on : (plan : PlanView) (past : List Event) (q : ℕ) (run : Run) 
 beneath_is_on plan past q run first at =
     let above = at.above in
     let within = at.within in
-    elim (node_of plan past run) as (λ n. is_in q (option_map_or (chain plan past) n []) ≡ option_map_or (λ m. m == q) n false) [
+    elim (node_of_run plan past run) as (λ n. is_in q (option_map_or (chain plan past) n []) ≡ option_map_or (λ m. m == q) n false) [
       | None ↦ refl
       | Some n ↦ chain_in (target plan past) (length plan.objects) n q (λ k. on_root plan past k first) above (omega arith)
     ]
@@ -135,7 +135,7 @@ beneath_is_on plan past q run first at =
 -- what is open beneath a queue is open on it
 pub open_beneath_is_on : (plan : PlanView) (past : List Event) (q : ℕ) → IsFirstPlan plan → IsQueueAt plan q → is_open_beneath plan past q ≡ is_open_on plan past q
 open_beneath_is_on plan past q first at =
-    list_any_same (λ run. is_in q (chain_of_run plan past run)) (is_run_on plan past q) (open_runs past) (λ run. beneath_is_on plan past q run first at)
+    list_any_agree (λ run. is_in q (chain_of_run plan past run)) (is_run_on plan past q) (open_runs past) (λ run. beneath_is_on plan past q run first at)
 
 -- ## The start rule
 
@@ -183,8 +183,8 @@ none_if false p o e f = f
 pub parked_none : (plan : PlanView) (past : List Event) (run : Run) → IsFirstPlan plan → parked_by plan past run ≡ None
 parked_none plan [] run first = refl
 parked_none plan (Acted w r i ∷ past) run first =
-    let one = of_act plan (reason_of plan past) None (act_at plan r i) (submits_at plan r i first) refl (λ q c. refl) in
-    none_if (same_run r run) (reason_of plan past (act_at plan r i)) (parked_by plan past run) one (parked_none plan past run first)
+    let one = of_act plan (reason_by plan past) None (act_at plan r i) (submits_at plan r i first) refl (λ q c. refl) in
+    none_if (same_run r run) (reason_by plan past (act_at plan r i)) (parked_by plan past run) one (parked_none plan past run first)
 parked_none plan (Wake w b ∷ past) run first = none_if (same_run (Block b) run) None (parked_by plan past run) refl (parked_none plan past run first)
 parked_none plan (e ∷ past) run first = none_if (opens e run) None (parked_by plan past run) refl (parked_none plan past run first)
 
@@ -252,8 +252,8 @@ no_sources plan s first = no_such_kind is_source_kind plan s first refl refl
 pub no_feeds : (plan : PlanView) (s : ℕ) → IsFirstPlan plan → has_kind is_read_kind plan s ≡ false
 no_feeds plan s first = no_such_kind is_read_kind plan s first refl refl
 
-pub nothing_live : (plan : PlanView) (past : List Event) (s : ℕ) → IsFirstPlan plan → is_live plan past s ≡ false
-unfolding is_live
+pub nothing_live : (plan : PlanView) (past : List Event) (s : ℕ) → IsFirstPlan plan → is_live_feed plan past s ≡ false
+unfolding is_live_feed
 nothing_live plan past s first = ap (λ b. b && (is_active plan past s && not (is_cancelled plan past s))) (no_feeds plan s first)
 
 pub nothing_released : (plan : PlanView) (past : List Event) (o : ℕ) → IsFirstPlan plan → is_released plan past o ≡ false
@@ -304,7 +304,7 @@ cancels_none plan past (Some s) first =
     (ap (λ o. option_map_or (λ b. on_node s b false) o []) none)
 
 -- an event submits what its act submits
-pub submissions_are : (plan : PlanView) (past : List Event) (e : Event) → IsFirstPlan plan → submissions plan past e ≡ submitted_by (act_of plan e)
+pub submissions_are : (plan : PlanView) (past : List Event) (e : Event) → IsFirstPlan plan → new_submissions plan past e ≡ submitted_by (act_of plan e)
 submissions_are plan past e first =
     let own = submitted_by (act_of plan e) in
     let emptied = flat_map_none (at_empty plan past e) (range_with_len 0 (length plan.objects)) (λ g. empties_none plan past e g first) in

@@ -9,7 +9,7 @@ use Rattle.std.proofs.lemmas.List.Folds.{find-append, list_any-append}
 use Rattle.std.proofs.lemmas.Option.{same_Some}
 use Rattle.gcd_plan.specs.PlanView.{PlanView}
 use Rattle.gcd_plan.specs.Kinds.{has_kind}
-use Rattle.gcd_plan.specs.FirstForms.{is_serial_kind}
+use Rattle.gcd_forms.specs.FirstForms.{is_serial_kind}
 use Rattle.gcd_plan.specs.Validity.{is_submittable}
 use Rattle.gcd_plan.specs.declared.act.Act.TheVariants.{Async}
 use Rattle.gcd_plan.specs.declared.numbers.Blk.{Blk}
@@ -23,12 +23,14 @@ use Rattle.gcd_history.specs.Runs.{act_of, same_run, open_runs, is_open, acts_do
 use Rattle.gcd_history.specs.Submitted.{submitted, submission_of, submitted_by, main_submission, on_node}
 use Rattle.gcd_history.specs.Parked.{has_run}
 use Rattle.gcd_history.specs.Permitted.{IsLawful}
-use Rattle.gcd_history.proofs.Lists.{found_is, some_counted}
-use Rattle.gcd_history.proofs.Counts.{count_unfound, count_push, count_kept, count_dropped, any_of_fewer}
-use Rattle.gcd_history.proofs.QueuesOnRoot.{IsFirstPlan}
-use Rattle.gcd_history.proofs.NothingHeld.{submitted_more, has_run_is}
-use Rattle.gcd_history.proofs.ActsSubmitApart.{Place, place_of, one_submission}
-use Rattle.gcd_history.proofs.OnlyBlocksRun.{StartFacts, ActFacts, EndFacts, Step, starts, acts, ends, halts, step_of}
+use Rattle.gcd_history.proofs.Lists.{found_is}
+use Rattle.gcd_plan.proofs.Sums.{count_by_some}
+use Rattle.gcd_history.proofs.Counts.{count_unfound, count_kept, count_dropped, any_of_fewer}
+use Rattle.gcd_plan.proofs.Sums.{count_by_push}
+use Rattle.gcd_machine.proofs.QueuesOnRoot.{IsFirstPlan}
+use Rattle.gcd_machine.proofs.NothingHeld.{submitted_more, has_run_is}
+use Rattle.gcd_machine.proofs.ActsSubmitApart.{Place, place_of, one_submission}
+use Rattle.gcd_machine.proofs.OnlyBlocksRun.{StartFacts, ActFacts, EndFacts, Step, starts, acts, ends, halts, step_of}
 
 -- a submission by an act that stands, to a serial queue
 pub record IsQueued (plan : PlanView) (past : List Event) (s : Submission) : Type 0 where
@@ -112,7 +114,7 @@ started_from_count false e h = absurd (omega arith)
 -- an open block has started and not ended
 pub open_parts : (plan : PlanView) (past : List Event) (b : Blk) → Facts plan past → is_open past (Block b) ≡ true → (is_started past b.0 ≡ true) × (is_ended past b.0 ≡ false)
 open_parts plan past b facts open_now =
-    let some = some_counted (same_run (Block b)) (open_runs past) open_now in
+    let some = count_by_some (same_run (Block b)) (open_runs past) open_now in
     started_from_count (is_started past b.0) (is_ended past b.0) (omega (arith, facts.opened b, some))
 
 pub own_is_open : (plan : PlanView) (past : List Event) (w : ℕ) (run : Run) → IsFirstPlan plan → has_run plan past w run ≡ true → is_open past run ≡ true
@@ -190,7 +192,7 @@ facts_start plan past w b first facts may =
           (⊎_elim (λ now. subst (λ n. is_some (submission_of plan past n) ≡ true) (eqb-true b.0 k now) may.submitted) (facts.begun k)
           (or_cases (b.0 == k) (is_started past k) h));
       ended = λ k h. or_right (b.0 == k) (is_started past k) (facts.ended k h);
-      opened = λ k. count_push (same_run (Block k)) (open_runs past) (Block b) ∙ start_opened plan past b k facts may.fresh;
+      opened = λ k. count_by_push (same_run (Block k)) (open_runs past) (Block b) ∙ start_opened plan past b k facts may.fresh;
       blocks = λ s. list_any-append (same_run (Source s)) (open_runs past) (Block b ∷ []) ∙ ap (λ v. v || false) (facts.blocks s);
       worked = λ k h.
           elim (b.0 == k.0) as (λ v. (v || is_started past k.0) ≡ true → (n : ℕ) × (n < 64) × (cond v (Some w) (last_worker past (Block k)) ≡ Some n)) [
@@ -262,7 +264,7 @@ act_once : (plan : PlanView) (past : List Event) (w : ℕ) (b : Blk) (i k : ℕ)
     → count_by (λ s. s.blk.0 == k) (submitted plan past ++ on_node may.queue may.blk false) ≤ 1
 act_once plan past w b i k first facts may =
     let new : Submission = record { blk = may.blk; node = Some may.queue; barrier = false } in
-    let split = count_push (λ s. s.blk.0 == k) (submitted plan past) new in
+    let split = count_by_push (λ s. s.blk.0 == k) (submitted plan past) new in
     elim (may.blk.0 == k) as (λ v. may.blk.0 == k ≡ v → count_by (λ s. s.blk.0 == k) (submitted plan past ++ new ∷ []) ≤ 1) [
       | true ↦ λ e.
           let unfound : submission_of plan past k ≡ None = subst (λ n. submission_of plan past n ≡ None) (eqb-true may.blk.0 k e) (fresh_act plan past w b i first facts may) in

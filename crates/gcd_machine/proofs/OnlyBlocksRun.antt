@@ -2,10 +2,11 @@
 -- at each.
 use Rattle.std.proofs.Common.{◌≡◌, ℕ, ◌<◌, ◌≤◌, ◌==◌, nat_lt, nat_le, Bool, true, false, not, ◌&&◌, List, [], ◌∷◌, Option, Some, None, refl, ap, ⊎_elim, length}
 use Rattle.std.specs.Option.{option_map_or, is_some}
-use Rattle.std.proofs.lemmas.Bool.{and_parts, ltb-true, leb-true, not-true, not-false, both_ways, eqb-true}
+use Rattle.std.proofs.lemmas.Bool.{and_parts, ltb-true, not-true, not-false, both_ways, eqb-true}
+use Rattle.gcd_plan.specs.Limits.{max_acts}
 use Rattle.gcd_plan.specs.PlanView.{PlanView}
 use Rattle.gcd_plan.specs.Kinds.{has_kind, is_source}
-use Rattle.gcd_plan.specs.FirstForms.{is_serial_kind}
+use Rattle.gcd_forms.specs.FirstForms.{is_serial_kind}
 use Rattle.gcd_plan.specs.StartRule.{first_of}
 use Rattle.gcd_plan.specs.Validity.{is_submittable}
 use Rattle.gcd_plan.specs.declared.act.Act.{Act}
@@ -20,10 +21,10 @@ use Rattle.gcd_history.specs.Runs.{acts_done, act_at, is_started}
 use Rattle.gcd_history.specs.Submitted.{submission_of}
 use Rattle.gcd_history.specs.Parked.{has_run, is_busy, is_parked, may_wake}
 use Rattle.gcd_history.specs.Timers.{may_tick}
-use Rattle.gcd_history.specs.Permitted.{is_halted, is_worker, has_block, is_feed, is_ready, node_reasons, is_next, has_act_left, misuse_at, why}
+use Rattle.gcd_history.specs.Permitted.{is_halted, is_worker, is_index, has_block, is_feed, is_ready, node_reasons, is_next, has_act_left, misuse_at, why}
 use Rattle.gcd_history.proofs.Reasons.{first_none, allowed, Allowed}
-use Rattle.gcd_history.proofs.QueuesOnRoot.{IsFirstPlan, Submits, submits_at}
-use Rattle.gcd_history.proofs.NothingHeld.{no_parked, no_sources, no_feeds, no_ticks, no_misuses}
+use Rattle.gcd_machine.proofs.QueuesOnRoot.{IsFirstPlan, Submits, submits_at}
+use Rattle.gcd_machine.proofs.NothingHeld.{no_parked, no_sources, no_feeds, no_ticks, no_misuses}
 
 -- what is known where a Start may come
 pub record StartFacts (plan : PlanView) (past : List Event) (w : ℕ) (b : Blk) : Type 0 where
@@ -40,7 +41,7 @@ pub record ActFacts (plan : PlanView) (past : List Event) (w : ℕ) (b : Blk) (i
   pub goes_on : is_halted past ≡ false
   pub worker : w < 64
   pub known : b.0 < length plan.blocks
-  pub low : i ≤ 65534
+  pub low : i < max_acts
   pub own : has_run plan past w (Block b) ≡ true
   pub next : i ≡ acts_done past (Block b)
   pub queue : Obj
@@ -93,8 +94,8 @@ some_act plan act by some = ⊎_elim (λ none. absurd (both_ways (is_some act) (
 act_facts : (plan : PlanView) (past : List Event) (w : ℕ) (b : Blk) (i : ℕ) → IsFirstPlan plan → Allowed plan past (Acted w (Block b) i) → ActFacts plan past w b i
 unfolding is_next
 act_facts plan past w b i first may =
-    let names = and_parts (is_worker w) (has_block plan b.0 && nat_le i 65534) may.known in
-    let more = and_parts (has_block plan b.0) (nat_le i 65534) names.1 in
+    let names = and_parts (is_worker w) (has_block plan b.0 && is_index i) may.known in
+    let more = and_parts (has_block plan b.0) (is_index i) names.1 in
     let misused = (IsMisuse, is_some (misuse_at plan past (Block b) i)) ∷ [] in
     let next = is_next plan past (Block b) i in
     let own = first_none NotOwn (not (has_run plan past w (Block b))) ((NotNext, not next) ∷ misused) may.kind in
@@ -105,7 +106,7 @@ act_facts plan past w b i first may =
       goes_on = may.goes_on;
       worker = worker_low w names.0;
       known = ltb-true b.0 (length plan.blocks) more.0;
-      low = leb-true i 65534 more.1;
+      low = ltb-true i max_acts more.1;
       own = not-false (has_run plan past w (Block b)) own.0;
       next = eqb-true i (acts_done past (Block b)) parts.0;
       queue = act.0;
@@ -149,8 +150,8 @@ step_of plan past (Start w b) first may = starts w b (start_facts plan past w b 
 step_of plan past (Acted w (Block b) i) first may = acts w b i (act_facts plan past w b i first (allowed plan past (Acted w (Block b) i) may))
 step_of plan past (Acted w (Source s) i) first may =
     let known = (allowed plan past (Acted w (Source s) i) may).known in
-    let more = and_parts (is_worker w) (is_source plan s.0 && nat_le i 65534) known in
-    unknown_first (is_source plan s.0) (nat_le i 65534) more.1 (no_sources plan s.0 first)
+    let more = and_parts (is_worker w) (is_source plan s.0 && is_index i) known in
+    unknown_first (is_source plan s.0) (is_index i) more.1 (no_sources plan s.0 first)
 step_of plan past (Wake w b) first may =
     let waits = (Waiting, not (may_wake plan past b.0)) ∷ [] in
     let kind = (allowed plan past (Wake w b) may).kind in

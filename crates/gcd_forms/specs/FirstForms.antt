@@ -3,6 +3,7 @@
 use Rattle.std.specs.Prelude.{◌≡◌, ◌==◌, Bool, true, false, ◌&&◌, List, [], ◌∷◌}
 use Rattle.std.specs.Option.{option_map_or}
 use Rattle.std.specs.List.{list_all}
+use Rattle.gcd_plan.specs.Limits.{max_file_bytes}
 use Rattle.gcd_plan.specs.PlanView.{PlanView, ObjView, BlkView}
 use Rattle.gcd_plan.specs.Kinds.{has_kind}
 use Rattle.gcd_plan.specs.declared.act.Act.{Act}
@@ -32,7 +33,7 @@ counts_lines _ = false
 
 -- the work counts the lines of a whole file
 abbrev pub is_first_work : Work → Bool
-is_first_work w = counts_lines w.how && (w.start == 0 && w.len == 16777216)
+is_first_work w = counts_lines w.how && (w.start == 0 && w.len == max_file_bytes)
 
 abbrev pub is_first_block : PlanView → BlkView → Bool
 is_first_block plan b = list_all (is_first_act plan) b.acts && option_map_or is_first_work b.work true

@@ -1,0 +1,2 @@
+pub use Rattle.gcd_plan.specs.PlanView
+pub mod FirstForms

@@ -1,0 +1,5 @@
+use Rattle.gcd_history.proofs.PublicLaws.{blocks_of_one_node_apart}
+use Rattle.gcd_history.proofs.laws.blocks_of_one_queue_exclude_each_other.Goals as goal
+
+pub returns : goal.returns
+returns c = blocks_of_one_node_apart

@@ -1,0 +1,5 @@
+use Rattle.gcd_history.proofs.PublicLaws.{delivers_alone}
+use Rattle.gcd_history.proofs.laws.deliveries_exclude_each_other.Goals as goal
+
+pub returns : goal.returns
+returns c = delivers_alone
