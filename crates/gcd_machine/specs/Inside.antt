@@ -1,20 +1,32 @@
--- How a machine is seen.
-use Rattle.gcd_machine.specs.MachineView.{MachineView}
-use Rattle.gcd_machine.specs.Keeps.{IsShaped}
-use Rattle.gcd_machine.specs.declared.machine.Machine.TheInside.{Inside}
+-- How what a machine keeps is seen.
+use Rattle.std.specs.Arc.{arc_value}
+use Rattle.gcd_refinement.specs.MachineView.{MachineView}
+use Rattle.gcd_machine.specs.declared.registers.Registers.TheInside.{Inside}
 
 abbrev pub view_of : Inside → MachineView
 view_of m = record {
-  plan = m.plan;
-  blocks = m.blocks.items;
-  workers = m.workers.items;
-  queues = m.queues.items;
+  plan = arc_value m.plan;
+  refs = m.refs;
   lists = m.lists;
-  runs = m.runs;
+  tree = m.tree;
+  holds = m.holds;
+  drains = m.drains;
+  groups = m.groups;
+  semas = m.semas;
+  waits = m.waits;
+  sources = m.sources;
+  timers = m.timers;
+  sleepers = m.sleepers;
+  blocks = m.blocks.items;
+  ended = m.ended.items;
+  due = m.due.items;
+  handlers = m.handlers.items;
+  busy = m.busy.items;
+  workers = m.workers.items;
+  running = m.running;
   left = m.left;
+  feeds = m.feeds;
+  misused = m.misused;
   halted = m.halted;
   len = m.len;
 }
-
-abbrev pub IsKept : Inside → Type 0
-IsKept m = IsShaped (view_of m)

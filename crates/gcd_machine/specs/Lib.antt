@@ -1,8 +1,7 @@
-pub use Rattle.gcd_history.specs.History
-pub use Rattle.gcd_history.specs.Ends
-pub mod MachineView
-pub mod Workers
-pub mod Keeps
-pub mod Stands
-pub mod Kept
+pub use Rattle.gcd_plan.specs.PlanView
+pub use Rattle.gcd_refinement.specs.MachineView
 pub mod Inside
+pub mod Stands
+pub mod Steps
+pub mod Conditions
+pub mod Judged

@@ -27,7 +27,7 @@ use Rattle.gcd_history.specs.declared.state.State.TheVariants.{Drained, Stuck, M
 use Rattle.gcd_history.specs.History.{choice_of}
 use Rattle.gcd_history.specs.Ends.{IsDrained, HasState, is_halted}
 use Rattle.gcd_history.proofs.Choices.{chosen_is}
-use Rattle.gcd_machine.specs.Workers.{is_all_by}
+use Rattle.gcd_serial.specs.Workers.{is_all_by}
 use Rattle.gcd_run.specs.Ends.{IsOver}
 use Rattle.gcd_run.specs.Outcome.{AreResults, EndFits, FollowsChoice, IsNextEvent}
 

@@ -6,8 +6,8 @@ ghost use Rattle.gcd_plan.specs.Limits.{max_events};
 ghost use Rattle.gcd_plan.specs.PlanView.{PlanView};
 ghost use Rattle.gcd_history.specs.History.{IsLawful};
 ghost use Rattle.gcd_history.specs.Ends.{IsDrained, is_halted};
-ghost use Rattle.gcd_machine.specs.Stands.{StandsFor};
-ghost use Rattle.gcd_machine.specs.Workers.{is_all_by};
+ghost use Rattle.gcd_serial.specs.Stands.{StandsFor};
+ghost use Rattle.gcd_serial.specs.Workers.{is_all_by};
 ghost use Rattle.gcd_history.specs.declared.state.State.TheVariants.{Drained};
 ghost use Rattle.gcd_history.specs.Values.{value_of};
 ghost use Rattle.gcd_run.specs.Ends.{IsOver};
@@ -16,7 +16,7 @@ ghost use Rattle.gcd_run.specs.Outcome.{AreResults, EndFits, FollowsChoice, IsNe
 use gcd_event::Event;
 use gcd_history::State;
 use gcd_jobs::{FileJob, Job};
-use gcd_machine::Machine;
+use gcd_serial::Machine;
 use gcd_plan::{Blk, MAX_EVENTS, Plan};
 use std::alloc::{AllocError, Global};
 

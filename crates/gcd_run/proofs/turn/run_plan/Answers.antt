@@ -1,5 +1,5 @@
 use Rattle.std.proofs.Common.{◌∙◌, map, arith, refl}
-use Rattle.gcd_machine.proofs.Shown.{lawful_stands, few_stands}
+use Rattle.gcd_serial.proofs.Shown.{lawful_stands, few_stands}
 use Rattle.gcd_run.proofs.Turns.{follows_none, follows_more, all_by_none, all_by_push, no_halt_yet, no_results, halts_not, end_fits, drained_at_end, over_of_drained}
 use Rattle.gcd_run.proofs.turn.run_plan.Goals as goal
 

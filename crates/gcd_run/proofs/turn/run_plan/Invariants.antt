@@ -1,8 +1,8 @@
 use Rattle.std.proofs.Common.{◌≡◌, ◌-◌, true, false, length, map}
 use Rattle.gcd_plan.specs.Limits.{max_events}
 use Rattle.gcd_history.specs.Ends.{ends_in_halt}
-use Rattle.gcd_machine.specs.Stands.{StandsFor}
-use Rattle.gcd_machine.specs.Workers.{is_all_by}
+use Rattle.gcd_serial.specs.Stands.{StandsFor}
+use Rattle.gcd_serial.specs.Workers.{is_all_by}
 use Rattle.gcd_run.specs.Outcome.{AreResults, FollowsChoice}
 use Rattle.gcd_run.proofs.turn.run_plan.Given as goal
 

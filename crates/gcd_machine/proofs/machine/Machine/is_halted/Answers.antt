@@ -1,7 +1,8 @@
 use Rattle.std.proofs.Common.{ap, ◌∙◌}
-use Rattle.gcd_machine.specs.MachineView.{MachineView}
-use Rattle.gcd_machine.proofs.Shown.{halted_stands}
+use Rattle.gcd_refinement.specs.MachineView.{MachineView}
+use Rattle.std.specs.Prelude.{◌||◌}
+use Rattle.gcd_machine.proofs.Shown.{over_stands}
 use Rattle.gcd_machine.proofs.machine.Machine.is_halted.Goals as goal
 
 pub returns : goal.returns
-returns c = λ plan h stands. ap (λ (m : MachineView). m.halted) c.self.view_is ∙ halted_stands c.args.self.now plan h stands
+returns c = λ plan h stands. c.is_over.ensures ∙ (ap (λ (m : MachineView). m.misused || m.halted) c.self.view_is ∙ over_stands c.args.self.now plan h stands)

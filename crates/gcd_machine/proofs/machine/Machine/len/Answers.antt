@@ -1,10 +1,7 @@
 use Rattle.std.proofs.Common.{ap, ◌∙◌}
-use Rattle.gcd_machine.specs.MachineView.{MachineView}
-use Rattle.gcd_machine.proofs.Shown.{len_stands, few_stands}
+use Rattle.gcd_refinement.specs.MachineView.{MachineView}
+use Rattle.gcd_machine.proofs.Shown.{len_stands}
 use Rattle.gcd_machine.proofs.machine.Machine.len.Goals as goal
 
-pub returns-clause-len : goal.returns-clause-len
-returns-clause-len c = λ plan h stands. ap (λ (m : MachineView). m.len) c.self.view_is ∙ len_stands c.args.self.now plan h stands
-
-pub returns-clause-few : goal.returns-clause-few
-returns-clause-few c = λ plan h stands. few_stands c.args.self.now plan h stands
+pub returns : goal.returns
+returns c = λ plan h stands. c.len.ensures ∙ (ap (λ (m : MachineView). m.len) c.self.view_is ∙ len_stands c.args.self.now plan h stands)

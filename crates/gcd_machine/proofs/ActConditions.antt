@@ -1,0 +1,233 @@
+-- What an act asks: its effect may be had, its block may be parked, and its run may count it.
+use Rattle.std.proofs.Common.{◌≡◌, ℕ, ◌+◌, ◌^◌, ◌<◌, ◌==◌, ltb, Bool, true, false, not, ◌&&◌, cond, List, [], ◌∷◌, length, Some, None, is_none, refl, ap, sym, ◌∙◌, arith, eq-eqb, ne_eqb}
+use Rattle.std.specs.List.{list_any}
+use Rattle.std.proofs.lemmas.Bool.{and_parts, ltb-true, leb-true, or_parts, both_ways}
+use Rattle.gcd_plan.specs.PlanView.{PlanView}
+use Rattle.gcd_plan.specs.Kinds.{has_kind, is_queue, is_queue_kind, is_node_kind, is_source_kind, is_merge_kind, is_group_kind, is_semaphore_kind}
+use Rattle.gcd_plan.specs.Validity.{is_act, is_submittable, is_held_object}
+use Rattle.gcd_plan.specs.declared.act.Act.{Act}
+use Rattle.gcd_plan.specs.declared.act.Act.TheVariants.{Async, Barrier, Sync, BarrierSync, GroupAsync, Notify, Enter, Leave, GroupWait, Signal, Wait, Suspend, Resume, Activate, Target, Merge, Cancel, Retain, Release}
+use Rattle.gcd_plan.specs.declared.numbers.Blk.{Blk}
+use Rattle.gcd_plan.specs.declared.numbers.Obj.{Obj}
+use Rattle.gcd_plan.specs.declared.numbers.Run.{Run}
+use Rattle.gcd_plan.specs.declared.numbers.Run.TheVariants.{Block, Source}
+use Rattle.gcd_plan.specs.declared.reason.Reason.{Reason}
+use Rattle.gcd_plan.specs.declared.reason.Reason.TheVariants.{Block as EndOf, Group as Empty, Rank}
+use Rattle.gcd_event.specs.declared.event.Event.{Event}
+use Rattle.gcd_event.specs.declared.event.Event.TheVariants.{Act as Acted}
+use Rattle.gcd_history.specs.Runs.{open_runs, is_open, act_at, act_of}
+use Rattle.gcd_history.specs.Submitted.{on_node, submitted_by, cancelled_by}
+use Rattle.gcd_history.specs.Parked.{parked_by, reason, has_run}
+use Rattle.gcd_history.specs.Misuses.{refs, is_released, named}
+use Rattle.gcd_history.specs.Permitted.{IsLawful, is_worker, is_run_of}
+use Rattle.gcd_history.proofs.Fitting.{has_object}
+use Rattle.gcd_plan.proofs.Sums.{count_by_some}
+use Rattle.gcd_history.proofs.OpenNodes.{any_open}
+use Rattle.gcd_history.proofs.Reasons.{allowed, at_act}
+use Rattle.gcd_history.proofs.StartedOnce.{open_from_has_run}
+use Rattle.gcd_history.proofs.SubmittedOnNodes.{recorded_fits}
+use Rattle.gcd_sema.specs.SemasView.{waits_at}
+use Rattle.gcd_sync.specs.WaitsView.{Fits}
+use Rattle.gcd_refinement.specs.MachineView.{MachineView, refs_at}
+use Rattle.gcd_refinement.specs.Stands.{IsTied}
+use Rattle.gcd_refinement.proofs.Proper.{proper, proper_parts}
+use Rattle.gcd_refinement.proofs.StepWaits.{unparked}
+use Rattle.gcd_machine.specs.Conditions.{CanSetFree, CanPark, CanLayDown, CanSubmit, CanSignal, CanRetain, CanRelease, CanHaveEffect, CanCall, CanWaitForGroup, CanWaitForSemaphore, CanParkBy, CanParkIn, CanCount, CanAct}
+use Rattle.gcd_machine.proofs.NewBlocks.{unsubmitted, by_act, by_notify, nowhere}
+use Rattle.gcd_machine.proofs.GroupConditions.{can_submit, can_wake_at, position_low, can_enter, can_submit_member, can_leave_by_act, can_register}
+use Rattle.gcd_machine.proofs.ActivityConditions.{can_activate, can_resume, can_suspend, can_cancel, can_merge}
+use Rattle.gcd_machine.proofs.TargetConditions.{can_target}
+
+-- a block whose run goes on waits for nothing
+awake_now : (plan : PlanView) (past : List Event) (run : Run) → parked_by plan past run ≡ None → reason plan past run ≡ None
+unfolding reason
+awake_now plan past run none =
+    elim (is_open past run) as (λ t. cond t (parked_by plan past run) None ≡ None) [ true ↦ none | false ↦ refl ]
+
+-- an object that is named is not released
+unreleased : (plan : PlanView) (past : List Event) (o : ℕ) → 0 < o → is_released plan past o ≡ false → refs plan past o ≡ 0 → ⊥
+unreleased plan past o some live none =
+    both_ways (is_released plan past o) live
+    (ap (λ t. not t && refs plan past o == 0) (ne_eqb o 0 (λ zero. omega (arith, some, zero))) ∙ eq-eqb (refs plan past o) 0 none)
+
+above : (n : ℕ) → (n ≡ 0 → ⊥) → 0 < n
+above n h = omega (arith, h)
+
+-- the block that an act names
+block_low : (plan : PlanView) (b : Blk) → is_submittable plan b ≡ true → b.0 < length plan.blocks
+block_low plan b fits = ltb-true b.0 (length plan.blocks) (and_parts (ltb 0 b.0) _ fits).1
+
+module _ (past : List Event) (m : MachineView) (t : IsTied m.plan past m) (room : length past + 2 < 2 ^ 32) where
+  -- ## The run
+
+  pub can_set_free : (w : ℕ) (run : Run) → is_worker w ≡ true → has_run m.plan past w run ≡ true → CanSetFree m w
+  can_set_free w run worker own =
+      let low = ltb-true w 64 worker in
+      let workers = t.own.workers in
+      let live = open_from_has_run m.plan past w run own in
+      let goes = ap is_none (unparked m.plan past w run own) in
+      let some = count_by_some (λ r. is_none (parked_by m.plan past r)) (open_runs past) (any_open past (λ r. is_none (parked_by m.plan past r)) run live goes) in
+      let is = t.totals.running in
+      record { worker = omega (arith, low, workers); running = omega (arith, some, is) }
+
+  can_count : (run : Run) → is_run_of m.plan run ≡ true → CanCount m run
+  can_count (Block b) of =
+      let low = ltb-true b.0 (length m.plan.blocks) of in
+      let long = t.own.blocks in
+      let few = t.small.block_acts b.0 in
+      record { blk = omega (arith, low, long); room = omega (arith, few, room) }
+  can_count (Source s) of =
+      let low = has_object is_source_kind m.plan s.0 of in
+      let long = t.own.handlers in
+      let few = t.small.handler_acts s.0 in
+      record { source = omega (arith, low, long); room = omega (arith, few, room) }
+
+  -- ## Waits
+
+  can_park : (w : ℕ) (b : Blk) (why : Reason) → CanSetFree m w → b.0 < length m.plan.blocks → Fits m.waits why → CanPark m w b why
+  can_park w b why worker low fits = let long = t.parts.reasons in record { worker = worker; blk = omega (arith, low, long); fits = fits }
+
+  can_lay_down : (o : Obj) (b : Blk) (w : ℕ) → has_run m.plan past w (Block b) ≡ true → o.0 < length m.plan.objects → b.0 < length m.plan.blocks → CanLayDown m o b
+  can_lay_down o b w own object block =
+      let long = t.own.sleepers in
+      let blocks = t.own.sleeper_blocks in
+      record {
+        object = omega (arith, object, long);
+        blk = omega (arith, block, blocks);
+        awake = t.places.awake b.0 (t.waits.reasons b.0 ∙ awake_now m.plan past (Block b) (unparked m.plan past w (Block b) own));
+      }
+
+  can_call : (w : ℕ) (b c : Blk) → CanSetFree m w → b.0 < length m.plan.blocks → c.0 < length m.plan.blocks → CanCall m w b c
+  can_call w b c worker block called =
+      let long = t.own.blocks in
+      let reasons = t.parts.reasons in
+      record { called = omega (arith, called, long); parks = can_park w b (EndOf c) worker block (omega (arith, called, reasons)) }
+
+  can_wait_for_group : (w : ℕ) (b : Blk) (g : Obj) → has_run m.plan past w (Block b) ≡ true → CanSetFree m w → b.0 < length m.plan.blocks → g.0 < length m.plan.objects → CanWaitForGroup m w b g
+  can_wait_for_group w b g own worker block group =
+      let counts = t.parts.counts in
+      let due = t.own.due in
+      let objects = t.parts.wait_objects in
+      record {
+        group = omega (arith, group, counts);
+        due = omega (arith, block, due);
+        sleeps = can_lay_down g b w own group block;
+        parks = can_park w b (Empty g m.len) worker block (omega (arith, group, objects), position_low past m t room);
+      }
+
+  can_wait_for_semaphore : (w : ℕ) (b : Blk) (s : Obj) → has_run m.plan past w (Block b) ≡ true → CanSetFree m w → b.0 < length m.plan.blocks → s.0 < length m.plan.objects → CanWaitForSemaphore m w b s
+  can_wait_for_semaphore w b s own worker block semaphore =
+      let waits = t.parts.waits in
+      let few = t.small.waits s.0 in
+      let due = t.own.due in
+      let objects = t.parts.wait_objects in
+      record {
+        semaphore = omega (arith, semaphore, waits);
+        room = omega (arith, few, room);
+        due = omega (arith, block, due);
+        sleeps = can_lay_down s b w own semaphore block;
+        parks = can_park w b (Rank s (waits_at m.semas s.0 + 1)) worker block (omega (arith, semaphore, objects));
+      }
+
+  can_park_by : (w : ℕ) (b : Blk) (act : Act) → has_run m.plan past w (Block b) ≡ true → CanSetFree m w → b.0 < length m.plan.blocks → is_act m.plan act ≡ true → CanParkBy m w b act
+  can_park_by w b (Sync q c) own worker block fits = can_call w b c worker block (block_low m.plan c (and_parts (is_queue m.plan q.0) _ fits).1)
+  can_park_by w b (BarrierSync q c) own worker block fits = can_call w b c worker block (block_low m.plan c (and_parts (is_queue m.plan q.0) _ fits).1)
+  can_park_by w b (GroupWait g) own worker block fits = can_wait_for_group w b g own worker block (has_object is_group_kind m.plan g.0 fits)
+  can_park_by w b (Wait s) own worker block fits = can_wait_for_semaphore w b s own worker block (has_object is_semaphore_kind m.plan s.0 fits)
+  can_park_by w b act own worker block fits = tt
+
+  can_park_in : (w : ℕ) (run : Run) (act : Act) → has_run m.plan past w run ≡ true → CanSetFree m w → is_run_of m.plan run ≡ true → is_act m.plan act ≡ true → CanParkIn m w run act
+  can_park_in w (Block b) act own worker of fits = can_park_by w b act own worker (ltb-true b.0 (length m.plan.blocks) of) fits
+  can_park_in w (Source s) act own worker of fits = tt
+
+  -- ## References and semaphores
+
+  some_refs : (e : Event) (act : Act) (o : Obj) → IsLawful m.plan (e ∷ past) → act_of m.plan e ≡ Some act → named act ≡ o.0 ∷ [] → 0 < o.0 → o.0 < length m.plan.objects → 0 < refs_at m o.0
+  some_refs e act o lawful at names some low =
+      let parts = proper_parts m.plan past act (proper m.plan past e act lawful at) in
+      let live = (or_parts (is_released m.plan past o.0) false (ap (list_any (is_released m.plan past)) (sym names) ∙ parts.0)).0 in
+      let is = t.references.counted o.0 low in
+      let more = above (refs m.plan past o.0) (unreleased m.plan past o.0 some live) in
+      omega (arith, is, more)
+
+  can_retain : (e : Event) (o : Obj) → IsLawful m.plan (e ∷ past) → act_of m.plan e ≡ Some (Retain o) → 0 < o.0 → o.0 < length m.plan.objects → CanRetain m o
+  can_retain e o lawful at some low =
+      let long = t.parts.refs in
+      let few = t.small.refs o.0 in
+      record { object = omega (arith, low, long); live = some_refs e (Retain o) o lawful at refl some low; room = omega (arith, few, room) }
+
+  can_release : (e : Event) (o : Obj) → IsLawful m.plan (e ∷ past) → act_of m.plan e ≡ Some (Release o) → 0 < o.0 → o.0 < length m.plan.objects → CanRelease m o
+  can_release e o lawful at some low = let long = t.parts.refs in record { object = omega (arith, low, long); live = some_refs e (Release o) o lawful at refl some low }
+
+  can_signal : (s : Obj) → s.0 < length m.plan.objects → CanSignal m s
+  can_signal s low =
+      let waits = t.parts.waits in
+      let few = t.small.signals s.0 in
+      record { semaphore = omega (arith, low, waits); room = omega (arith, few, room); wakes = can_wake_at past m t room s low }
+
+  -- ## Effects
+
+  can_submit_by_act : (e : Event) (n : Obj) (b : Blk) (barrier : Bool) → IsLawful m.plan (e ∷ past) → submitted_by (act_of m.plan e) ≡ on_node n b barrier → is_queue m.plan n.0 ≡ true → is_submittable m.plan b ≡ true → CanSubmit m n b
+  can_submit_by_act e n b barrier lawful is node block =
+      can_submit past m t room n b (has_object is_queue_kind m.plan n.0 node) (block_low m.plan b block)
+      (nowhere past m t b.0 (unsubmitted m.plan past e b.0 t.valid lawful (by_act m.plan past e n b barrier is)))
+
+  held_low : (o : Obj) → is_held_object m.plan o ≡ true → o.0 < length m.plan.objects
+  held_low o fits = has_object is_node_kind m.plan o.0 (and_parts (ltb 0 o.0) _ fits).1
+
+  counted_low : (o : Obj) → (ltb 0 o.0 && ltb o.0 (length m.plan.objects)) ≡ true → (0 < o.0) × (o.0 < length m.plan.objects)
+  counted_low o fits = let parts = and_parts (ltb 0 o.0) _ fits in (ltb-true 0 o.0 parts.0, ltb-true o.0 (length m.plan.objects) parts.1)
+
+  have_effect : (w : ℕ) (run : Run) (i : ℕ) (act : Act) → IsLawful m.plan (Acted w run i ∷ past) → act_at m.plan run i ≡ Some act → is_act m.plan act ≡ true → CanHaveEffect m act
+  have_effect w run i (Async q b) lawful at fits =
+      let parts = and_parts (is_queue m.plan q.0) _ fits in
+      can_submit_by_act (Acted w run i) q b false lawful (ap submitted_by at) parts.0 parts.1
+  have_effect w run i (Barrier q b) lawful at fits =
+      let parts = and_parts (is_queue m.plan q.0) _ fits in
+      can_submit_by_act (Acted w run i) q b true lawful (ap submitted_by at) parts.0 parts.1
+  have_effect w run i (Sync q b) lawful at fits =
+      let parts = and_parts (is_queue m.plan q.0) _ fits in
+      can_submit_by_act (Acted w run i) q b false lawful (ap submitted_by at) parts.0 parts.1
+  have_effect w run i (BarrierSync q b) lawful at fits =
+      let parts = and_parts (is_queue m.plan q.0) _ fits in
+      can_submit_by_act (Acted w run i) q b true lawful (ap submitted_by at) parts.0 parts.1
+  have_effect w run i (GroupAsync g q b) lawful at fits =
+      let group = and_parts (has_kind is_group_kind m.plan g.0) _ fits in
+      let parts = and_parts (is_queue m.plan q.0) _ group.1 in
+      can_submit_member past m t room g q b (has_object is_group_kind m.plan g.0 group.0) (can_submit_by_act (Acted w run i) q b false lawful (ap submitted_by at) parts.0 parts.1)
+  have_effect w run i (Notify g q b) lawful at fits =
+      let group = and_parts (has_kind is_group_kind m.plan g.0) _ fits in
+      let parts = and_parts (is_queue m.plan q.0) _ group.1 in
+      can_register past m t room g q b (by_notify m.plan past (Acted w run i) g q b t.valid lawful at) (has_object is_group_kind m.plan g.0 group.0) (has_object is_queue_kind m.plan q.0 parts.0) (block_low m.plan b parts.1)
+  have_effect w run i (Enter g) lawful at fits = can_enter past m t room g (has_object is_group_kind m.plan g.0 fits)
+  have_effect w run i (Leave g) lawful at fits = can_leave_by_act past m t room (Acted w run i) g lawful at (has_object is_group_kind m.plan g.0 fits)
+  have_effect w run i (GroupWait g) lawful at fits = tt
+  have_effect w run i (Signal s) lawful at fits = can_signal s (has_object is_semaphore_kind m.plan s.0 fits)
+  have_effect w run i (Wait s) lawful at fits = tt
+  have_effect w run i (Suspend o) lawful at fits = can_suspend past m t room o (held_low o fits)
+  have_effect w run i (Resume o) lawful at fits = can_resume past m t room (Acted w run i) o lawful at (held_low o fits)
+  have_effect w run i (Activate o) lawful at fits = can_activate past m t room o (held_low o fits)
+  have_effect w run i (Target o q) lawful at fits = can_target past m t (Acted w run i) o q lawful at
+  have_effect w run i (Merge s n) lawful at fits =
+      let parts = and_parts (has_kind is_merge_kind m.plan s.0) _ fits in
+      can_merge past m t room s n (has_object is_merge_kind m.plan s.0 parts.0) (leb-true n 2147483647 parts.1)
+  have_effect w run i (Cancel s) lawful at fits = can_cancel past m t room (Acted w run i) s lawful (ap cancelled_by at) (has_object is_source_kind m.plan s.0 fits)
+  have_effect w run i (Retain o) lawful at fits = let low = counted_low o fits in can_retain (Acted w run i) o lawful at low.0 low.1
+  have_effect w run i (Release o) lawful at fits = let low = counted_low o fits in can_release (Acted w run i) o lawful at low.0 low.1
+
+  -- ## The act
+
+  pub can_act : (w : ℕ) (run : Run) (i : ℕ) → IsLawful m.plan (Acted w run i ∷ past) → CanAct m w run i
+  can_act w run i lawful =
+      let known = and_parts (is_worker w) _ (allowed m.plan past (Acted w run i) lawful.1).known in
+      let of = (and_parts (is_run_of m.plan run) _ known.1).0 in
+      let own = (at_act m.plan past w run i lawful.1).own in
+      record {
+        acts = λ act at.
+            let fits = recorded_fits m.plan (Acted w run i) act t.valid at in
+            record {
+              counts = can_count run of;
+              parks = can_park_in w run act own (can_set_free w run known.0 own) of fits;
+              effect = have_effect w run i act lawful at fits;
+            };
+      }

@@ -1,0 +1,101 @@
+-- What an act changes: the private steps together make what its event changes. Those that end or tell a group are in
+-- `GroupSteps`.
+use Rattle.std.proofs.Common.{◌≡◌, ℕ, ◌+◌, ◌<◌, ◌==◌, true, false, List, Some, length, refl, ap, ◌∙◌}
+use Rattle.gcd_plan.specs.PlanView.{PlanView}
+use Rattle.gcd_plan.specs.Validity.{is_handler_act}
+use Rattle.gcd_plan.specs.declared.act.Act.{Act}
+use Rattle.gcd_plan.specs.declared.act.Act.TheVariants.{Async, Barrier, Sync, BarrierSync, GroupAsync, Notify, Enter, Leave, GroupWait, Signal, Wait, Suspend, Resume, Activate, Target, Merge, Cancel, Retain, Release}
+use Rattle.gcd_plan.specs.declared.numbers.Blk.{Blk}
+use Rattle.gcd_plan.specs.declared.numbers.Obj.{Obj}
+use Rattle.gcd_plan.specs.declared.numbers.Run.{Run}
+use Rattle.gcd_plan.specs.declared.numbers.Run.TheVariants.{Block, Source}
+use Rattle.gcd_event.specs.declared.event.Event.{Event}
+use Rattle.gcd_event.specs.declared.event.Event.TheVariants.{Act as Acted}
+use Rattle.gcd_history.specs.Runs.{act_at}
+use Rattle.gcd_group.specs.GroupsView.{count_at}
+use Rattle.gcd_sema.specs.SemasView.{waits_at, is_passed_at}
+use Rattle.gcd_refinement.specs.MachineView.{MachineView}
+use Rattle.gcd_refinement.specs.Ties.{GroupsAre}
+use Rattle.gcd_refinement.specs.After.{after}
+use Rattle.gcd_machine.specs.Steps.{acted, act_taken, stepped}
+use Rattle.gcd_machine.proofs.Activations.{units, counted, activated_is, resumed_is, cancelled_is}
+use Rattle.gcd_machine.proofs.GroupSteps.{leave_stepped, notify_stepped}
+
+-- the event's steps make what it changes
+abbrev pub IsStepped : MachineView → ℕ → Run → ℕ → Type 0
+IsStepped m w run i = stepped m (Acted w run i) ≡ after m.plan m (Acted w run i)
+
+resume_stepped : (m : MachineView) (w : ℕ) (run : Run) (i : ℕ) (o : Obj) → act_at m.plan run i ≡ Some (Resume o) → IsStepped m w run i
+resume_stepped m w (Block b) i o at =
+    ap (λ a. counted m (act_taken m w (Block b) a)) at ∙ (ap (counted m) (resumed_is (acted m (Block b)) o) ∙ rw at (simp units))
+resume_stepped m w (Source s) i o at =
+    ap (λ a. counted m (act_taken m w (Source s) a)) at ∙ (ap (counted m) (resumed_is (acted m (Source s)) o) ∙ rw at (simp units))
+
+activate_stepped : (m : MachineView) (w : ℕ) (run : Run) (i : ℕ) (o : Obj) → act_at m.plan run i ≡ Some (Activate o) → IsStepped m w run i
+activate_stepped m w (Block b) i o at =
+    ap (λ a. counted m (act_taken m w (Block b) a)) at ∙ (ap (counted m) (activated_is (acted m (Block b)) o) ∙ rw at (simp units))
+activate_stepped m w (Source s) i o at =
+    ap (λ a. counted m (act_taken m w (Source s) a)) at ∙ (ap (counted m) (activated_is (acted m (Source s)) o) ∙ rw at (simp units))
+
+cancel_stepped : (m : MachineView) (w : ℕ) (run : Run) (i : ℕ) (s : Obj) → act_at m.plan run i ≡ Some (Cancel s) → IsStepped m w run i
+cancel_stepped m w (Block b) i s at =
+    ap (λ a. counted m (act_taken m w (Block b) a)) at ∙ (ap (counted m) (cancelled_is (acted m (Block b)) s) ∙ rw at (simp units))
+cancel_stepped m w (Source t) i s at =
+    ap (λ a. counted m (act_taken m w (Source t) a)) at ∙ (ap (counted m) (cancelled_is (acted m (Source t)) s) ∙ rw at (simp units))
+
+wait_stepped : (m : MachineView) (w : ℕ) (b : Blk) (i : ℕ) (s : Obj) → act_at m.plan (Block b) i ≡ Some (Wait s) → IsStepped m w (Block b) i
+wait_stepped m w b i s at =
+    elim (is_passed_at m.semas s.0 (waits_at m.semas s.0 + 1)) as (λ t. is_passed_at m.semas s.0 (waits_at m.semas s.0 + 1) ≡ t → IsStepped m w (Block b) i) [
+      | true ↦ λ e. rw (at, e) (simp units)
+      | false ↦ λ e. rw (at, e) (simp units)
+    ] refl
+
+group_wait_stepped : (m : MachineView) (w : ℕ) (b : Blk) (i : ℕ) (g : Obj) → act_at m.plan (Block b) i ≡ Some (GroupWait g) → IsStepped m w (Block b) i
+group_wait_stepped m w b i g at =
+    elim (count_at m.groups g.0 == 0) as (λ t. (count_at m.groups g.0 == 0) ≡ t → IsStepped m w (Block b) i) [
+      | true ↦ λ e. rw (at, e) (simp units)
+      | false ↦ λ e. rw (at, e) (simp units)
+    ] refl
+
+-- the places that the act writes
+pub record HasPlaces (m : MachineView) (act : Act) : Type 0 where
+  pub leave : (g : Obj) → act ≡ Leave g → g.0 < length m.groups.due
+  pub notify : (g q : Obj) (c : Blk) → act ≡ Notify g q c → (g.0 < length m.groups.notify.lists) × (g.0 < length m.groups.due) × (c.0 < length m.blocks)
+
+pub block_stepped : (plan : PlanView) (past : List Event) (m : MachineView) (w : ℕ) (b : Blk) (i : ℕ) (act : Act) → GroupsAre plan past m → HasPlaces m act → act_at m.plan (Block b) i ≡ Some act → IsStepped m w (Block b) i
+block_stepped plan past m w b i (Async q c) groups low at = rw at (simp units)
+block_stepped plan past m w b i (Barrier q c) groups low at = rw at (simp units)
+block_stepped plan past m w b i (Sync q c) groups low at = rw at (simp units)
+block_stepped plan past m w b i (BarrierSync q c) groups low at = rw at (simp units)
+block_stepped plan past m w b i (GroupAsync g q c) groups low at = rw at (simp units)
+block_stepped plan past m w b i (Notify g q c) groups low at =
+    let places = low.notify g q c refl in
+    notify_stepped plan past m w b i g q c groups places.0 places.1 places.2 at
+block_stepped plan past m w b i (Enter g) groups low at = rw at (simp units)
+block_stepped plan past m w b i (Leave g) groups low at = leave_stepped plan past m w (Block b) i g groups (low.leave g refl) at
+block_stepped plan past m w b i (GroupWait g) groups low at = group_wait_stepped m w b i g at
+block_stepped plan past m w b i (Wait s) groups low at = wait_stepped m w b i s at
+block_stepped plan past m w b i (Signal s) groups low at = rw at (simp units)
+block_stepped plan past m w b i (Suspend o) groups low at = rw at (simp units)
+block_stepped plan past m w b i (Resume o) groups low at = resume_stepped m w (Block b) i o at
+block_stepped plan past m w b i (Activate o) groups low at = activate_stepped m w (Block b) i o at
+block_stepped plan past m w b i (Target o t) groups low at = rw at (simp units)
+block_stepped plan past m w b i (Merge s n) groups low at = rw at (simp units)
+block_stepped plan past m w b i (Cancel s) groups low at = cancel_stepped m w (Block b) i s at
+block_stepped plan past m w b i (Retain o) groups low at = rw at (simp units)
+block_stepped plan past m w b i (Release o) groups low at = rw at (simp units)
+
+-- a handler submits no block, and waits for nothing
+pub handler_stepped : (plan : PlanView) (past : List Event) (m : MachineView) (w : ℕ) (t : Obj) (i : ℕ) (act : Act) → GroupsAre plan past m → HasPlaces m act → is_handler_act act ≡ true → act_at m.plan (Source t) i ≡ Some act → IsStepped m w (Source t) i
+handler_stepped plan past m w t i (Enter g) groups low may at = rw at (simp units)
+handler_stepped plan past m w t i (Leave g) groups low may at = leave_stepped plan past m w (Source t) i g groups (low.leave g refl) at
+handler_stepped plan past m w t i (Signal s) groups low may at = rw at (simp units)
+handler_stepped plan past m w t i (Suspend o) groups low may at = rw at (simp units)
+handler_stepped plan past m w t i (Resume o) groups low may at = resume_stepped m w (Source t) i o at
+handler_stepped plan past m w t i (Activate o) groups low may at = activate_stepped m w (Source t) i o at
+handler_stepped plan past m w t i (Target o n) groups low may at = rw at (simp units)
+handler_stepped plan past m w t i (Merge s n) groups low may at = rw at (simp units)
+handler_stepped plan past m w t i (Cancel s) groups low may at = cancel_stepped m w (Source t) i s at
+handler_stepped plan past m w t i (Retain o) groups low may at = rw at (simp units)
+handler_stepped plan past m w t i (Release o) groups low may at = rw at (simp units)
+handler_stepped plan past m w t i act groups low may at = cc

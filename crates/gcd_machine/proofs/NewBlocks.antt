@@ -1,0 +1,212 @@
+-- What an event submits or registers waits nowhere before it; and how many blocks wait at a group.
+use Rattle.std.proofs.Common.{◌≡◌, ⊎_elim, ℕ, zero, suc, ◌+◌, ◌<◌, ◌≤◌, ◌==◌, ltb, Bool, true, false, cond, List, [], ◌∷◌, ◌++◌, length, map, Option, Some, None, is_some, option_and_then, refl, ap, ◌∙◌, arith, eq-eqb, ne_eqb}
+use Rattle.std.specs.List.{count_by, find, list_all, flat_map, range_with_len, sum_by}
+use Rattle.std.specs.Option.{option_map_or}
+use Rattle.std.proofs.Math.ListN.{get_or-eq_default}
+use Rattle.std.proofs.lemmas.Bool.{cases_lt, cases_Bool, and_parts, and_from, ltb-true, lt-ltb, both_ways}
+use Rattle.std.proofs.lemmas.List.{length-map}
+use Rattle.std.proofs.lemmas.List.Folds.{list_all-append}
+use Rattle.std.proofs.lemmas.List.Sums.{sum_by-cons}
+use Rattle.gcd_plan.specs.PlanView.{PlanView, cancel_block}
+use Rattle.gcd_plan.specs.Kinds.{has_kind, is_group_kind, is_queue}
+use Rattle.gcd_plan.specs.Validity.{IsPlan}
+use Rattle.gcd_plan.specs.declared.act.Act.{Act}
+use Rattle.gcd_plan.specs.declared.act.Act.TheVariants.{Notify}
+use Rattle.gcd_plan.specs.declared.numbers.Blk.{Blk}
+use Rattle.gcd_plan.specs.declared.numbers.Obj.{Obj}
+use Rattle.gcd_event.specs.declared.event.Event.{Event}
+use Rattle.gcd_history.specs.declared.submission.Submission.{Submission}
+use Rattle.gcd_history.specs.Runs.{act_of}
+use Rattle.gcd_history.specs.Groups.{count}
+use Rattle.gcd_history.specs.Submitted.{on_node, submitted_by, cancels, at_cancel, is_cancelled, registered, notify_blocks, at_empty, new_submissions, submitted, submission_of}
+use Rattle.gcd_history.specs.Permitted.{IsLawful}
+use Rattle.gcd_history.proofs.Fitting.{has_object}
+use Rattle.gcd_history.proofs.Lists.{any_from_find}
+use Rattle.gcd_plan.proofs.Sums.{count_by-cons, count_by-append, count_by_some}
+use Rattle.gcd_history.proofs.Sums.{sum_range_le, sum_range_less}
+use Rattle.gcd_history.proofs.SubmittedOnce.{is_of, waiting, at_groups, kept_once}
+use Rattle.gcd_history.proofs.SubmittedOnNodes.{recorded_fits}
+use Rattle.gcd_lists.specs.ListsView.{list_at, barrier_in, place_of}
+use Rattle.gcd_lists.proofs.Places.{place_of_none}
+use Rattle.gcd_refinement.specs.MachineView.{MachineView}
+use Rattle.gcd_refinement.specs.Bounds.{place_in}
+use Rattle.gcd_refinement.specs.Ties.{told}
+use Rattle.gcd_refinement.specs.Stands.{IsTied}
+
+-- ## What is submitted once
+
+none_found : {X : Type 0} (p : X → Bool) (xs : List X) → count_by p xs ≡ 0 → find p xs ≡ None
+none_found p xs none =
+    elim (find p xs) as (λ o. find p xs ≡ o → o ≡ None) [
+      | None ↦ λ k. refl
+      | Some x ↦ λ k. let some = count_by_some p xs (any_from_find p xs (ap is_some k)) in absurd (omega (arith, some, none))
+    ] refl
+
+-- a block that the event submits was not submitted before
+pub unsubmitted : (plan : PlanView) (past : List Event) (e : Event) (b : ℕ) → IsPlan plan → IsLawful plan (e ∷ past) → 1 ≤ count_by (is_of b) (new_submissions plan past e) → submission_of plan past b ≡ None
+unsubmitted plan past e b valid lawful now =
+    let once = kept_once plan (e ∷ past) valid lawful b in
+    let split = count_by-append (is_of b) (submitted plan past) (new_submissions plan past e) in
+    none_found (is_of b) (submitted plan past) (omega (arith, once, split, now))
+
+one_of : (n : Obj) (b : Blk) (barrier : Bool) → count_by (is_of b.0) (on_node n b barrier) ≡ 1
+one_of n b barrier = ap (λ t. 0 + cond {A = ℕ} t 1 0) (eq-eqb b.0 b.0 refl)
+
+-- what its act submits itself, and what a first cancellation does
+pub by_act : (plan : PlanView) (past : List Event) (e : Event) (n : Obj) (b : Blk) (barrier : Bool) → submitted_by (act_of plan e) ≡ on_node n b barrier → 1 ≤ count_by (is_of b.0) (new_submissions plan past e)
+by_act plan past e n b barrier is =
+    let one = ap (count_by (is_of b.0)) is ∙ one_of n b barrier in
+    let own = count_by-append (is_of b.0) (submitted_by (act_of plan e)) (at_cancel plan past (cancels plan e)) in
+    let all = count_by-append (is_of b.0) (submitted_by (act_of plan e) ++ at_cancel plan past (cancels plan e)) (flat_map (at_empty plan past e) (range_with_len 0 (length plan.objects))) in
+    omega (arith, one, own, all)
+
+pub by_cancel : (plan : PlanView) (past : List Event) (e : Event) (s : Obj) (b : Blk) → cancels plan e ≡ Some s → is_cancelled plan past s.0 ≡ false → cancel_block plan s.0 ≡ Some b → 1 ≤ count_by (is_of b.0) (new_submissions plan past e)
+by_cancel plan past e s b now first block =
+    let is : at_cancel plan past (cancels plan e) ≡ on_node s b false =
+    ap (at_cancel plan past) now
+    ∙ (ap (λ t. cond t [] (option_map_or (λ c. on_node s c false) (cancel_block plan s.0) [])) first ∙ ap (λ o. option_map_or (λ c. on_node s c false) o []) block) in
+    let one = ap (count_by (is_of b.0)) is ∙ one_of s b false in
+    let own = count_by-append (is_of b.0) (submitted_by (act_of plan e)) (at_cancel plan past (cancels plan e)) in
+    let all = count_by-append (is_of b.0) (submitted_by (act_of plan e) ++ at_cancel plan past (cancels plan e)) (flat_map (at_empty plan past e) (range_with_len 0 (length plan.objects))) in
+    omega (arith, one, own, all)
+
+-- a block that the event registers was neither submitted nor registered before
+pub record IsNew (plan : PlanView) (past : List Event) (b : ℕ) : Type 0 where
+  pub submitted_none : count_by (is_of b) (submitted plan past) ≡ 0
+  pub waiting_none : waiting plan past b ≡ 0
+
+pub by_notify : (plan : PlanView) (past : List Event) (e : Event) (g q : Obj) (b : Blk) → IsPlan plan → IsLawful plan (e ∷ past) → act_of plan e ≡ Some (Notify g q b) → IsNew plan past b.0
+by_notify plan past e g q b valid lawful at =
+    let n = length plan.objects in
+    let low = has_object is_group_kind plan g.0 (and_parts (has_kind is_group_kind plan g.0) _ (recorded_fits plan e (Notify g q b) valid at)).0 in
+    let here : count_by (is_of b.0) (registered g.0 (act_of plan e)) ≡ 1 =
+    ap (λ o. count_by (is_of b.0) (registered g.0 o)) at ∙ (ap (λ t. count_by (is_of b.0) (cond t (on_node q b false) [])) (eq-eqb g.0 g.0 refl) ∙ one_of q b false) in
+    let some = sum_range_less (λ k. 0) (λ k. count_by (is_of b.0) (registered k (act_of plan e))) 0 n g.0 1 (λ k. omega arith) (omega (arith, here)) (omega arith) (omega (arith, low)) in
+    let groups = at_groups plan past e b.0 in
+    let fired = flat_map (at_empty plan past e) (range_with_len 0 n) in
+    let new = count_by-append (is_of b.0) (submitted_by (act_of plan e) ++ at_cancel plan past (cancels plan e)) fired in
+    let split = count_by-append (is_of b.0) (submitted plan past) (new_submissions plan past e) in
+    let once = kept_once plan (e ∷ past) valid lawful b.0 in
+    record {
+      submitted_none = omega (arith, some, groups, new, split, once);
+      waiting_none = omega (arith, some, groups, new, split, once);
+    }
+
+-- ## How many wait at a group
+
+-- the block is one of the plan
+abbrev of_plan : PlanView → Submission → Bool
+of_plan plan s = ltb s.blk.0 (length plan.blocks)
+
+registered_of_plan : (plan : PlanView) (g : ℕ) (act : Option Act) → ((h q : Obj) (b : Blk) → act ≡ Some (Notify h q b) → b.0 < length plan.blocks) → list_all (of_plan plan) (registered g act) ≡ true
+registered_of_plan plan g (Some (Notify h q b)) low =
+    let one = and_from (of_plan plan (record { blk = b; node = Some q; barrier = false })) true (lt-ltb b.0 (length plan.blocks) (low h q b refl)) refl in
+    elim (h.0 == g) as (λ t. list_all (of_plan plan) (cond t (on_node q b false) []) ≡ true) [ true ↦ one | false ↦ refl ]
+registered_of_plan plan g _ low = refl
+
+notify_of_plan : (plan : PlanView) (past : List Event) (g : ℕ) → IsPlan plan → list_all (of_plan plan) (notify_blocks plan past g) ≡ true
+notify_of_plan plan [] g valid = refl
+notify_of_plan plan (e ∷ past) g valid =
+    let new = registered_of_plan plan g (act_of plan e) (λ h q b at.
+    let fits = (and_parts (has_kind is_group_kind plan h.0) _ (recorded_fits plan e (Notify h q b) valid at)).1 in
+    ltb-true b.0 (length plan.blocks) (and_parts (ltb 0 b.0) _ (and_parts (is_queue plan q.0) _ fits).1).1) in
+    elim (count plan (e ∷ past) g == 0) as (λ t. list_all (of_plan plan) (cond t [] (notify_blocks plan past g ++ registered g (act_of plan e))) ≡ true) [
+      | true ↦ refl
+      | false ↦ rw (list_all-append, notify_of_plan plan past g valid, new) refl
+    ]
+
+-- a block beyond the plan's is not counted
+beyond : (plan : PlanView) (xs : List Submission) (k : ℕ) → list_all (of_plan plan) xs ≡ true → length plan.blocks ≤ k → count_by (is_of k) xs ≡ 0
+beyond plan [] k all high = refl
+beyond plan (x ∷ xs) k all high =
+    let parts = and_parts (of_plan plan x) (list_all (of_plan plan) xs) all in
+    let low = ltb-true x.blk.0 (length plan.blocks) parts.0 in
+    let c = count_by-cons (is_of k) x xs in
+    let rest = beyond plan xs k parts.1 high in
+    let other = ap (λ t. cond {A = ℕ} t 1 0) (ne_eqb x.blk.0 k (λ same. omega (arith, same, low, high))) in
+    omega (arith, c, rest, other)
+
+-- where each of these blocks is one of the plan, and is counted once, they are no more than its blocks
+all_counted : (xs : List Submission) (n : ℕ) → ((k : ℕ) → n ≤ k → count_by (is_of k) xs ≡ 0) → length xs ≤ sum_by (λ k. count_by (is_of k) xs) (range_with_len 0 n)
+all_counted [] n none = omega arith
+all_counted (x ∷ xs) n none =
+    let b = x.blk.0 in
+    let rest = all_counted xs n (λ k high. let c = count_by-cons (is_of k) x xs in let z = none k high in omega (arith, c, z)) in
+    let here : count_by (is_of b) (x ∷ xs) ≡ 1 + count_by (is_of b) xs = count_by-cons (is_of b) x xs ∙ ap (λ v. cond {A = ℕ} v 1 0 + count_by (is_of b) xs) (eq-eqb b b refl) in
+    let low : b < n = ⊎_elim (λ (l : b < n). l) (λ (high : n ≤ b). let z = none b high in absurd (omega (arith, here, z))) (cases_lt b n) in
+    let more = sum_range_less (λ k. count_by (is_of k) xs) (λ k. count_by (is_of k) (x ∷ xs)) 0 n b 1
+    (λ k. let c = count_by-cons (is_of k) x xs in omega (arith, c)) (omega (arith, here)) (omega arith) (omega (arith, low)) in
+    omega (arith, rest, more)
+
+ones : (a n : ℕ) → sum_by (λ k. 1) (range_with_len a n) ≡ n
+ones a zero = refl
+ones a (suc n) = let step = sum_by-cons (λ k. 1) a (range_with_len (a + 1) n) in let rest = ones (a + 1) n in omega (arith, step, rest)
+
+-- a term is within the sum
+term_within : (f : ℕ → ℕ) (n c : ℕ) → c < n → f c ≤ sum_by f (range_with_len 0 n)
+term_within f n c low =
+    let less = sum_range_less (λ k. 0) f 0 n c (f c) (λ k. omega arith) (omega arith) (omega arith) (omega (arith, low)) in
+    omega (arith, less)
+
+few_notified : (plan : PlanView) (past : List Event) (g : ℕ) → IsPlan plan → IsLawful plan past → g < length plan.objects → length (notify_blocks plan past g) ≤ length plan.blocks
+few_notified plan past g valid lawful low =
+    let n = length plan.blocks in
+    let all = all_counted (notify_blocks plan past g) n (λ k high. beyond plan (notify_blocks plan past g) k (notify_of_plan plan past g valid) high) in
+    let once = sum_range_le (λ k. count_by (is_of k) (notify_blocks plan past g)) (λ k. 1) 0 n (λ k.
+    let kept = kept_once plan past valid lawful k in
+    let term = term_within (λ h. count_by (is_of k) (notify_blocks plan past h)) (length plan.objects) g low in
+    omega (arith, kept, term)) in
+    let long = ones 0 n in
+    omega (arith, all, once, long)
+
+-- ## In the machine
+
+uncounted : (v : MachineView) (b : ℕ) (xs : List (Blk × Bool)) → count_by (is_of b) (map (told v) xs) ≡ 0 → barrier_in b xs ≡ None
+uncounted v b [] none = refl
+uncounted v b (x ∷ xs) none =
+    let c = count_by-cons (is_of b) (told v x) (map (told v) xs) in
+    ⊎_elim
+    (λ (here : (x.0.0 == b) ≡ true). let one = ap (λ u. cond {A = ℕ} u 1 0) here in absurd (omega (arith, c, one, none)))
+    (λ (other : (x.0.0 == b) ≡ false).
+    let zero = ap (λ u. cond {A = ℕ} u 1 0) other in
+    ap (λ u. cond u (Some x.1) (barrier_in b xs)) other ∙ uncounted v b xs (omega (arith, c, zero, none)))
+    (cases_Bool (x.0.0 == b))
+
+module _ (past : List Event) (m : MachineView) (t : IsTied m.plan past m) where
+  -- what is not submitted waits on no node
+  pub nowhere : (b : ℕ) → submission_of m.plan past b ≡ None → place_of m.lists b ≡ None
+  nowhere b none = t.places.waiting b ∙ ap (option_and_then (place_in past)) none
+
+  -- what waits at a group is not submitted, and so waits on no node
+  pub notified_nowhere : (b : ℕ) → is_some (place_of m.groups.notify b) ≡ true → place_of m.lists b ≡ None
+  notified_nowhere b waits =
+      elim (submission_of m.plan past b) as (λ o. submission_of m.plan past b ≡ o → place_of m.lists b ≡ None) [
+        | None ↦ λ none. nowhere b none
+        | Some s ↦ λ some. absurd (both_ways (is_some (place_of m.groups.notify b)) (ap is_some (t.places.unregistered b (ap is_some some))) waits)
+      ] refl
+
+  -- a new block waits at no group
+  pub of_no_group : (b : ℕ) → IsNew m.plan past b → place_of m.groups.notify b ≡ None
+  of_no_group b new =
+      let none = new.waiting_none in
+      place_of_none m.groups.notify b (λ k.
+      ⊎_elim
+      (λ (low : k < length m.plan.objects).
+      let term = term_within (λ g. count_by (is_of b) (notify_blocks m.plan past g)) (length m.plan.objects) k low in
+      let same = ap (count_by (is_of b)) (t.groups.notify k) in
+      uncounted m b (list_at m.groups.notify k) (omega (arith, none, term, same)))
+      (λ (high : length m.plan.objects ≤ k).
+      let long = t.parts.notify in
+      ap (barrier_in b) (get_or-eq_default m.groups.notify.lists [] (omega (arith, high, long))))
+      (cases_lt k (length m.plan.objects)))
+
+  pub new_nowhere : (b : ℕ) → IsNew m.plan past b → place_of m.lists b ≡ None
+  new_nowhere b new = nowhere b (none_found (is_of b) (submitted m.plan past) new.submitted_none)
+
+  -- at a group wait no more blocks than the plan has
+  pub few_waiting : (g : ℕ) → g < length m.plan.objects → length (list_at m.groups.notify g) ≤ length m.plan.blocks
+  few_waiting g low =
+      let few = few_notified m.plan past g t.valid t.lawful low in
+      let same = ap length (t.groups.notify g) in
+      let long = length-map (list_at m.groups.notify g) (told m) in
+      omega (arith, few, same, long)

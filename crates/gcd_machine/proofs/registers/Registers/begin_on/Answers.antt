@@ -1,0 +1,10 @@
+use Rattle.std.proofs.Common.{◌∙◌, ap}
+use Rattle.gcd_machine.specs.Inside.{view_of}
+use Rattle.gcd_machine.specs.Steps.{begun_on}
+use Rattle.gcd_machine.proofs.Opened.{begun_is}
+use Rattle.gcd_machine.proofs.registers.Registers.begin_on.Goals as goal
+
+pub returns : goal.returns
+returns c =
+    begun_is (view_of c.self.inside) c.args.node c.pop.ensures.rest c.opened.ensures c.began.ensures.barrier c.began.ensures.plain c.pending-pending.ensures c.stays_busy.ensures
+    ∙ ap (λ m. begun_on m c.args.node c.args.barrier) c.self.view_is

@@ -1,0 +1,10 @@
+use Rattle.std.proofs.Common.{sym, subst}
+use Rattle.gcd_machine.specs.Inside.{view_of}
+use Rattle.gcd_machine.specs.Conditions.{CanCloseBlock}
+use Rattle.gcd_machine.proofs.Kept.{may_close}
+use Rattle.gcd_machine.proofs.registers.Registers.close_block.Goals as goal
+
+pub close_run-requires : goal.close_run-requires
+close_run-requires c =
+    may_close (view_of c.self.inside) _ _ c.index-progress.ensures
+    (subst (λ m. CanCloseBlock m c.args.worker c.args.blk) (sym c.self.view_is) c.requires)

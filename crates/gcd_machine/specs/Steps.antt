@@ -1,0 +1,317 @@
+-- What each private step of a machine changes. The steps of one event together make `after` of gcd_refinement.
+use Rattle.std.specs.Prelude.{ℕ, ◌+◌, ◌-◌, ◌==◌, Bool, true, false, not, ◌&&◌, if◌then◌else◌, List, [], ◌∷◌, length, take, map, fold, Option, Some, None, slice_set}
+use Rattle.std.specs.Option.{option_map_or}
+use Rattle.gcd_plan.specs.PlanView.{cancel_block}
+use Rattle.gcd_plan.specs.Kinds.{has_kind, is_read_kind}
+use Rattle.gcd_plan.specs.declared.act.Act.{Act}
+use Rattle.gcd_plan.specs.declared.act.Act.TheVariants.{Async, Barrier, Sync, BarrierSync, GroupAsync, Notify, Enter, Leave, GroupWait, Signal, Wait, Suspend, Resume, Activate, Target, Merge, Cancel, Retain, Release}
+use Rattle.gcd_plan.specs.declared.numbers.Blk.{Blk}
+use Rattle.gcd_plan.specs.declared.numbers.Obj.{Obj}
+use Rattle.gcd_plan.specs.declared.numbers.Run.{Run}
+use Rattle.gcd_plan.specs.declared.numbers.Run.TheVariants.{Block, Source}
+use Rattle.gcd_plan.specs.declared.reason.Reason.{Reason}
+use Rattle.gcd_plan.specs.declared.reason.Reason.TheVariants.{Block as EndOf, Group as Empty, Rank}
+use Rattle.gcd_event.specs.declared.event.Event.{Event}
+use Rattle.gcd_event.specs.declared.event.Event.TheVariants.{Start, Act as Acted, Wake, End, Deliver, DeliverEnd, Tick, Ready, FeedEnd, Misuse, Halt}
+use Rattle.gcd_history.specs.Runs.{act_at}
+use Rattle.gcd_lists.specs.ListsView.{list_at}
+use Rattle.gcd_group.specs.GroupsView.{count_at, entered_at, due_at, with_one_more, with_one_less, with_entered, with_notify}
+use Rattle.gcd_sema.specs.SemasView.{waits_at, signals_at, is_passed_at, with_waits, with_signals}
+use Rattle.gcd_sync.specs.WaitsView.{with_reason}
+use Rattle.gcd_hold.specs.HoldsView.{hold_at, is_active_at, with_hold, with_active}
+use Rattle.gcd_source.specs.SourcesView.{is_cancelled_at, merged_at, with_pending, with_cancelled as with_cancelled_source}
+use Rattle.gcd_timer.specs.TimersView.{with_activated, with_cancelled as with_cancelled_timer}
+use Rattle.gcd_refinement.specs.MachineView.{MachineView, block_at, refs_at}
+use Rattle.gcd_refinement.specs.Submits.{sleepers_at}
+use Rattle.gcd_refinement.specs.After.{popped, pushed_on, opened, closed, targeted, barrier_began, barrier_ended, with_block, with_due, handled, delivered as delivery, stays_busy, unmarked, all_fired}
+
+-- ## Workers
+
+-- worker w has the run
+abbrev pub taken_up : MachineView → ℕ → Run → MachineView
+taken_up m w run = record m { workers = slice_set m.workers w (Some run); running = m.running + 1 }
+
+-- worker w is free
+abbrev pub set_free : MachineView → ℕ → MachineView
+set_free m w = record m { workers = slice_set m.workers w None; running = m.running - 1 }
+
+-- ## Runs on a node
+
+-- the first block on the node has left its list, and its run is open there
+abbrev pub begun_on : MachineView → Obj → (barrier : Bool) → MachineView
+begun_on m n barrier = record m {
+  lists = popped m.lists (Some n);
+  tree = opened m.tree (Some n);
+  drains = barrier_began m.drains (Some n) barrier;
+  busy = unmarked m.plan m (Some n);
+}
+
+-- a run that was open on the node has closed
+abbrev pub closed_on : MachineView → Obj → (barrier : Bool) → MachineView
+closed_on m n barrier = record m { tree = closed m.tree (Some n); drains = barrier_ended m.drains (Some n) barrier }
+
+-- the run of a block is open on its node, if it has one, or has closed there
+abbrev pub run_begun : MachineView → Option Obj → (barrier : Bool) → MachineView
+run_begun m node barrier = option_map_or (λ n. begun_on m n barrier) node m
+
+abbrev pub run_closed : MachineView → Option Obj → (barrier : Bool) → MachineView
+run_closed m node barrier = option_map_or (λ n. closed_on m n barrier) node m
+
+-- ## Submissions
+
+-- the block waits behind all others on the node
+abbrev pub submitted : MachineView → Obj → Blk → (barrier : Bool) → MachineView
+submitted m n b barrier = record m {
+  lists = pushed_on m.lists n b barrier;
+  blocks = with_block m.blocks b.0 (λ x. record x { node = Some n; barrier = barrier });
+  busy = slice_set m.busy n.0 true;
+  left = m.left + 1;
+}
+
+-- ## Wakes
+
+-- what block b is parked for has come
+abbrev pub let_go : MachineView → Blk → MachineView
+let_go m b = record m { due = with_due m.due b }
+
+-- block b sleeps at the object behind all others there
+abbrev pub laid_down : MachineView → Obj → Blk → MachineView
+laid_down m o b = record m { sleepers = pushed_on m.sleepers o b false }
+
+-- the first block that sleeps at the object may wake
+abbrev pub first_let_go : MachineView → Obj → MachineView
+first_let_go m o = record m {
+  sleepers = popped m.sleepers (Some o);
+  due = fold with_due m.due (take 1 (sleepers_at m (Some o)));
+}
+
+-- each block that sleeps at the object may wake
+abbrev pub all_let_go : MachineView → Obj → MachineView
+all_let_go m o = record m {
+  sleepers = record m.sleepers { lists = slice_set m.sleepers.lists o.0 [] };
+  due = fold with_due m.due (sleepers_at m (Some o));
+}
+
+-- ## Acts
+
+-- the run has made one act more
+abbrev pub acted : MachineView → Run → MachineView
+acted m (Block b) = record m { blocks = with_block m.blocks b.0 (λ x. record x { done = x.done + 1 }) }
+acted m (Source s) = record m { handlers = handled m (Source s) }
+
+-- block b is parked for the reason, and its worker w is free
+abbrev pub parked : MachineView → ℕ → Blk → Reason → MachineView
+parked m w b why = set_free (record m { waits = with_reason m.waits b.0 (Some why) }) w
+
+-- block b waits for the end of block c
+abbrev pub called_by : MachineView → ℕ → Blk → Blk → MachineView
+called_by m w b c =
+    parked (record m { blocks = with_block m.blocks c.0 (λ x. record x { caller = Some b }) }) w b (EndOf c)
+
+-- block b waits for group g, or may wake at once where the group is empty
+abbrev pub waited_for_group : MachineView → ℕ → Blk → Obj → MachineView
+waited_for_group m w b g =
+    parked (if count_at m.groups g.0 == 0 then let_go m b else laid_down m g b) w b (Empty g m.len)
+
+-- block b waits for semaphore s, or may wake at once where its wait passes
+abbrev pub waited_for_semaphore : MachineView → ℕ → Blk → Obj → MachineView
+waited_for_semaphore m w b s =
+    parked (record (if is_passed_at m.semas s.0 (waits_at m.semas s.0 + 1) then let_go m b else laid_down m s b) {
+      semas = with_waits m.semas s.0 (waits_at m.semas s.0 + 1);
+    }) w b (Rank s (waits_at m.semas s.0 + 1))
+
+-- ## Activation and cancellation
+
+-- object o, which was inactive, is active: its timer begins, and its feed is live
+abbrev pub made_active : MachineView → Obj → MachineView
+made_active m o = record m {
+  timers = with_activated m.timers o.0;
+  feeds = if has_kind is_read_kind m.plan o.0 && not (is_cancelled_at m.sources o.0) then m.feeds + 1 else m.feeds;
+}
+
+-- source s, which was not cancelled, is cancelled: its timer ends, and its feed is live no more
+abbrev pub made_cancelled : MachineView → Obj → MachineView
+made_cancelled m s = record m {
+  sources = with_cancelled_source m.sources s.0;
+  timers = with_cancelled_timer m.timers s.0;
+  feeds = if has_kind is_read_kind m.plan s.0 && is_active_at m.holds s.0 then m.feeds - 1 else m.feeds;
+}
+
+-- object o is active
+abbrev pub activated : MachineView → Obj → MachineView
+activated m o = record (if is_active_at m.holds o.0 then m else made_active m o) { holds = with_active m.holds o.0 }
+
+-- a suspend of object o less, or an inactive source is active
+abbrev pub resumed : MachineView → Obj → MachineView
+resumed m o = if hold_at m.holds o.0 == 0 then activated m o else record m { holds = with_hold m.holds o.0 (hold_at m.holds o.0 - 1) }
+
+-- the block that the source submits at its cancellation waits on the source, if there is one
+abbrev pub cancel_submitted : MachineView → Obj → MachineView
+cancel_submitted m s = option_map_or (λ b. submitted m s b false) (cancel_block m.plan s.0) m
+
+-- source s is cancelled
+abbrev pub cancelled : MachineView → Obj → MachineView
+cancelled m s = if is_cancelled_at m.sources s.0 then m else cancel_submitted (made_cancelled m s) s
+
+-- the value is pending at source s
+abbrev pub merged : MachineView → Obj → ℕ → MachineView
+merged m s n = record m {
+  sources = with_pending m.sources s.0 (merged_at m.sources s.0 n);
+  busy = if n == 0 then m.busy else slice_set m.busy s.0 true;
+}
+
+-- ## Groups
+
+-- the notify blocks of group g that are due are submitted
+abbrev pub fired_at : MachineView → Blk → MachineView
+fired_at m b = submitted m (block_at m b.0).home b false
+
+abbrev pub all_fired_at : MachineView → Obj → MachineView
+all_fired_at m g = record (fold fired_at m (map (λ w. w.0) (take (due_at m.groups g.0) (list_at m.groups.notify g.0)))) {
+  groups = all_fired m.groups g.0;
+}
+
+-- group g is empty: who sleeps there may wake, and its notify blocks are submitted
+abbrev pub emptied : MachineView → Obj → MachineView
+emptied m g = all_fired_at (all_let_go m g) g
+
+-- group g has one member less
+abbrev pub left_group : MachineView → Obj → MachineView
+left_group m g =
+    if count_at m.groups g.0 == 1
+    then emptied (record m { groups = with_one_less m.groups g.0 (m.len + 1) }) g
+    else record m { groups = with_one_less m.groups g.0 (m.len + 1) }
+
+-- ## Events
+
+-- worker w has started block b
+abbrev pub started : MachineView → ℕ → Blk → MachineView
+started m w b =
+    let noted : MachineView = record m { blocks = with_block m.blocks b.0 (λ x. record x { started = true }) } in
+    taken_up (run_begun noted (block_at m b.0).node (block_at m b.0).barrier) w (Block b)
+
+-- worker w goes on with block b
+abbrev pub woken : MachineView → ℕ → Blk → MachineView
+woken m w b = taken_up (record m { waits = with_reason m.waits b.0 None; due = slice_set m.due b.0 false }) w (Block b)
+
+-- block b is over: its run has closed on its node, if it has one, and worker w is free
+abbrev pub closed_block : MachineView → ℕ → Blk → MachineView
+closed_block m w b =
+    let over : MachineView = record m { ended = slice_set m.ended b.0 true; left = m.left - 1 } in
+    set_free (run_closed over (block_at m b.0).node (block_at m b.0).barrier) w
+
+-- whoever waits for the end of block b may wake
+abbrev pub caller_let_go : MachineView → Option Blk → MachineView
+caller_let_go m caller = option_map_or (let_go m) caller m
+
+-- the group that counted the block has one member less, if there is one
+abbrev pub member_left : MachineView → Option Obj → MachineView
+member_left m group = option_map_or (left_group m) group m
+
+abbrev pub ended : MachineView → ℕ → Blk → MachineView
+ended m w b = member_left (caller_let_go (closed_block m w b) (block_at m b.0).caller) (block_at m b.0).group
+
+-- worker w has handed what is pending at source s to its handler
+abbrev pub delivered : MachineView → ℕ → Obj → MachineView
+delivered m w s =
+    taken_up (record m {
+      handlers = slice_set m.handlers s.0 (delivery m s.0);
+      sources = with_pending m.sources s.0 0;
+      tree = opened m.tree (Some s);
+      busy = slice_set m.busy s.0 (stays_busy m.plan (length (list_at m.lists s.0)) 0 s.0);
+    }) w (Source s)
+
+-- worker w has ended the run of the handler of source s
+abbrev pub delivery_ended : MachineView → ℕ → Obj → MachineView
+delivery_ended m w s = set_free (record m { tree = closed m.tree (Some s) }) w
+
+-- ## Acts of a block and of a handler
+
+-- the block submits a member of group g
+abbrev pub member_submitted : MachineView → Obj → Obj → Blk → MachineView
+member_submitted m g q b =
+    submitted (record m {
+      groups = with_one_more m.groups g.0 (m.len + 1);
+      blocks = with_block m.blocks b.0 (λ x. record x { group = Some g });
+    }) q b false
+
+-- block b goes to q once group g is empty, at once where it is so
+abbrev pub registered : MachineView → Obj → Obj → Blk → MachineView
+registered m g q b =
+    all_fired_at (record m {
+      blocks = with_block m.blocks b.0 (λ x. record x { home = q });
+      groups = with_notify m.groups g.0 b;
+    }) g
+
+-- group g is left once more
+abbrev pub left_by_act : MachineView → Obj → MachineView
+left_by_act m g =
+    let left : MachineView =
+    record m { groups = with_entered (with_one_less m.groups g.0 (m.len + 1)) g.0 (entered_at m.groups g.0 - 1) } in
+    if count_at m.groups g.0 == 1 then emptied left g else left
+
+-- semaphore s is signalled
+abbrev pub signalled_at : MachineView → Obj → MachineView
+signalled_at m s = first_let_go (record m { semas = with_signals m.semas s.0 (signals_at m.semas s.0 + 1) }) s
+
+-- what the act does, whoever makes it
+abbrev pub effect_of : MachineView → Act → MachineView
+effect_of m (Async q b) = submitted m q b false
+effect_of m (Barrier q b) = submitted m q b true
+effect_of m (Sync q b) = submitted m q b false
+effect_of m (BarrierSync q b) = submitted m q b true
+effect_of m (GroupAsync g q b) = member_submitted m g q b
+effect_of m (Notify g q b) = registered m g q b
+effect_of m (Enter g) =
+    record m { groups = with_entered (with_one_more m.groups g.0 (m.len + 1)) g.0 (entered_at m.groups g.0 + 1) }
+effect_of m (Leave g) = left_by_act m g
+effect_of m (GroupWait g) = m
+effect_of m (Signal s) = signalled_at m s
+effect_of m (Wait s) = m
+effect_of m (Suspend o) = record m { holds = with_hold m.holds o.0 (hold_at m.holds o.0 + 1) }
+effect_of m (Resume o) = resumed m o
+effect_of m (Activate o) = activated m o
+effect_of m (Target o t) = record m { tree = targeted m.tree (Some (Target o t)) }
+effect_of m (Merge s n) = merged m s n
+effect_of m (Cancel s) = cancelled m s
+effect_of m (Retain o) = record m { refs = slice_set m.refs o.0 (refs_at m o.0 + 1) }
+effect_of m (Release o) = record m { refs = slice_set m.refs o.0 (refs_at m o.0 - 1) }
+
+-- block b is parked where the act, which it makes, waits for something
+abbrev pub parked_by_act : MachineView → ℕ → Blk → Act → MachineView
+parked_by_act m w b (Sync q c) = called_by m w b c
+parked_by_act m w b (BarrierSync q c) = called_by m w b c
+parked_by_act m w b (GroupWait g) = waited_for_group m w b g
+parked_by_act m w b (Wait s) = waited_for_semaphore m w b s
+parked_by_act m w b act = m
+
+abbrev pub parked_in : MachineView → ℕ → Run → Act → MachineView
+parked_in m w (Block b) act = parked_by_act m w b act
+parked_in m w (Source s) act = m
+
+-- the run has made the act
+abbrev pub act_made : MachineView → ℕ → Run → Act → MachineView
+act_made m w run act = effect_of (parked_in (acted m run) w run act) act
+
+-- the same, if there is one
+abbrev pub act_taken : MachineView → ℕ → Run → Option Act → MachineView
+act_taken m w run act = option_map_or (act_made m w run) act m
+
+-- ## The whole
+
+-- what the event changes beside the number of events
+abbrev pub changed : MachineView → Event → MachineView
+changed m (Start w b) = started m w b
+changed m (Acted w run i) = act_taken m w run (act_at m.plan run i)
+changed m (Wake w b) = woken m w b
+changed m (End w b) = ended m w b
+changed m (Deliver w s) = delivered m w s
+changed m (DeliverEnd w s) = delivery_ended m w s
+changed m (Tick t) = record m { timers = record m.timers { moment = t } }
+changed m (Ready s n) = merged m s n
+changed m (FeedEnd s) = cancelled m s
+changed m (Misuse w run i c) = record m { misused = true }
+changed m Halt = record m { halted = true }
+
+abbrev pub stepped : MachineView → Event → MachineView
+stepped m e = record (changed m e) { len = m.len + 1 }

@@ -1,0 +1,81 @@
+// All that a machine keeps.
+ghost use Rattle.std.specs.Prelude.{◌≡◌, IfOk};
+ghost use Rattle.gcd_refinement.specs.MachineView.{machine_of};
+
+mod activity;
+mod acts;
+mod answers;
+mod events;
+mod groups;
+mod judge;
+mod kinds;
+mod misuse;
+mod new;
+mod nodes;
+mod plan;
+mod runs;
+mod work;
+
+use gcd_drain::Drains;
+use gcd_group::Groups;
+use gcd_hold::Holds;
+use gcd_lists::Lists;
+use gcd_objects::Objects;
+use gcd_plan::{Plan, Run};
+use gcd_refinement::{BlockProgress, HandlerProgress};
+use gcd_sema::Semas;
+use gcd_source::Sources;
+use gcd_sync::Waits;
+use gcd_timer::Timers;
+use gcd_tree::Tree;
+use std::marker::Model;
+use std::sync::Arc;
+
+/// All that a machine keeps: the plan, which its copies share, the ten parts and its own arrays. No array grows.
+#[derive(Debug, Drop)]
+pub struct Registers {
+    pub plan: Arc<Plan>,
+    pub refs: Objects,
+    pub lists: Lists,
+    pub tree: Tree,
+    pub holds: Holds,
+    pub drains: Drains,
+    pub groups: Groups,
+    pub semas: Semas,
+    pub waits: Waits,
+    pub sources: Sources,
+    pub timers: Timers,
+    // the blocks that sleep at each semaphore and group
+    pub sleepers: Lists,
+    // by block
+    pub blocks: Vec<BlockProgress>,
+    pub ended: Vec<bool>,
+    // the parked blocks that may wake
+    pub due: Vec<bool>,
+    // by object
+    pub handlers: Vec<HandlerProgress>,
+    // the nodes that have to be looked at for a Start or a Deliver
+    pub busy: Vec<bool>,
+    // the run that each worker has
+    pub workers: Vec<Option<Run>>,
+    // how many runs are open and not parked
+    pub running: u32,
+    // how many blocks are submitted and have not ended
+    pub left: u32,
+    // how many read sources are live
+    pub feeds: u32,
+    pub misused: bool,
+    pub halted: bool,
+    // how many events have come
+    pub len: u32,
+}
+
+impl Model for Registers {
+    ghost use Rattle.gcd_refinement.specs.MachineView.{MachineView};
+
+    ghost Value = { MachineView };
+
+    ghost use Rattle.gcd_machine.specs.Inside.{view_of};
+
+    ghost view = { view_of };
+}

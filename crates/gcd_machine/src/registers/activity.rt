@@ -1,0 +1,80 @@
+// What becomes active, and what is cancelled.
+ghost use Rattle.std.specs.Prelude.{◌≡◌};
+ghost use Rattle.gcd_machine.specs.Steps.{activated, cancelled, made_active, made_cancelled, resumed, merged};
+ghost use Rattle.gcd_machine.specs.Conditions.{CanActivate, CanCancel, CanMakeActive, CanMakeCancelled, CanResume, CanMerge};
+
+use super::Registers;
+use gcd_plan::{Kind, Obj};
+
+impl Registers {
+    // The object is active from now on (dispatch_activate(3)).
+    pub fn activate(&mut self, o: Obj)
+        requires { CanActivate self.old o }
+        ensures { self.new ≡ activated self.old o }
+    {
+        if !self.holds.is_active(o) {
+            self.make_active(o);
+        }
+        self.holds.activate(o);
+    }
+
+    // One suspend less is outstanding, or an inactive source becomes active (dispatch_resume(3)).
+    pub fn resume(&mut self, o: Obj)
+        requires { CanResume self.old o }
+        ensures { self.new ≡ resumed self.old o }
+    {
+        if self.holds.hold(o) == 0 && !self.holds.is_active(o) {
+            self.make_active(o);
+        }
+        self.holds.resume(o);
+    }
+
+    // An object that was inactive begins to be active.
+    fn make_active(&mut self, o: Obj)
+        requires { CanMakeActive self.old o }
+        ensures { self.new ≡ made_active self.old o }
+    {
+        self.timers.activate(o);
+        if self.plan.kind(o) == Kind::Read && !self.sources.is_cancelled(o) {
+            self.feeds += 1;
+        }
+    }
+
+    // The source is cancelled from now on; the first time its cancellation block is submitted
+    // (dispatch_source_cancel(3), dispatch_source_set_cancel_handler(3)).
+    pub fn cancel(&mut self, src: Obj)
+        requires { CanCancel self.old src }
+        ensures { self.new ≡ cancelled self.old src }
+    {
+        if self.sources.is_cancelled(src) {
+            return;
+        }
+        self.make_cancelled(src);
+        if let Some(blk) = self.plan.cancel_block(src) {
+            self.submit(src, blk, false);
+        }
+    }
+
+    // A source that was not cancelled is so now.
+    fn make_cancelled(&mut self, src: Obj)
+        requires { CanMakeCancelled self.old src }
+        ensures { self.new ≡ made_cancelled self.old src }
+    {
+        self.sources.cancel(src);
+        self.timers.cancel(src);
+        if self.plan.kind(src) == Kind::Read && self.holds.is_active(src) {
+            self.feeds -= 1;
+        }
+    }
+
+    // The value is pending at the source (dispatch_source_merge_data(3)).
+    pub fn merge(&mut self, src: Obj, value: u32)
+        requires { CanMerge self.old src value }
+        ensures { self.new ≡ merged self.old src value }
+    {
+        self.sources.merge(src, u64::from(value));
+        if value > 0 {
+            self.busy[src.0 as usize] = true;
+        }
+    }
+}

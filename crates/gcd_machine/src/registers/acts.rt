@@ -1,0 +1,127 @@
+// One act more.
+ghost use Rattle.std.specs.Prelude.{◌≡◌};
+ghost use Rattle.gcd_history.specs.Runs.{act_at};
+ghost use Rattle.gcd_machine.specs.Steps.{acted, act_made, act_taken, parked_in, parked_by_act, effect_of, called_by, waited_for_group, waited_for_semaphore};
+ghost use Rattle.gcd_machine.specs.Conditions.{CanAct, CanDo, CanCount, CanParkIn, CanParkBy, CanHaveEffect, CanCall, CanWaitForGroup, CanWaitForSemaphore};
+
+use super::Registers;
+use gcd_plan::{Act, Blk, Obj, Reason, Run};
+
+impl Registers {
+    // The run makes its act of this index.
+    pub fn act(&mut self, worker: u8, run: Run, index: u32)
+        requires { CanAct self.old worker run index }
+        ensures { self.new ≡ act_taken self.old worker run (act_at self.old.plan run index) }
+    {
+        match self.act_at(run, index) {
+            Some(act) => self.make(worker, run, act),
+            None => {}
+        }
+    }
+
+    // The run makes the act.
+    fn make(&mut self, worker: u8, run: Run, act: Act)
+        requires { CanDo self.old worker run act }
+        ensures { self.new ≡ act_made self.old worker run act }
+    {
+        self.count_act(run);
+        self.park_in(worker, run, act);
+        self.have_effect(act);
+    }
+
+    // Parks the run where the act waits for something; a handler waits for nothing.
+    fn park_in(&mut self, worker: u8, run: Run, act: Act)
+        requires { CanParkIn self.old worker run act }
+        ensures { self.new ≡ parked_in self.old worker run act }
+    {
+        match run {
+            Run::Block(blk) => self.park_by(worker, blk, act),
+            Run::Source(_) => {}
+        }
+    }
+
+    // The run has made one act more.
+    fn count_act(&mut self, run: Run)
+        requires { CanCount self.old run }
+        ensures { self.new ≡ acted self.old run }
+    {
+        match run {
+            Run::Block(blk) => self.blocks[blk.0 as usize].done += 1,
+            Run::Source(src) => self.handlers[src.0 as usize].done += 1,
+        }
+    }
+
+    // Parks the block where the act waits for something.
+    fn park_by(&mut self, worker: u8, blk: Blk, act: Act)
+        requires { CanParkBy self.old worker blk act }
+        ensures { self.new ≡ parked_by_act self.old worker blk act }
+    {
+        match act {
+            Act::Sync(_, called) | Act::BarrierSync(_, called) => self.call(worker, blk, called),
+            Act::GroupWait(g) => self.wait_for_group(worker, blk, g),
+            Act::Wait(s) => self.wait_for_semaphore(worker, blk, s),
+            _ => {}
+        }
+    }
+
+    // The block waits for the end of the block that it submits (dispatch_sync(3)).
+    fn call(&mut self, worker: u8, blk: Blk, called: Blk)
+        requires { CanCall self.old worker blk called }
+        ensures { self.new ≡ called_by self.old worker blk called }
+    {
+        self.blocks[called.0 as usize].caller = Some(blk);
+        self.park(worker, blk, Reason::Block(called));
+    }
+
+    // The block waits until the group is empty (dispatch_group_wait(3)).
+    fn wait_for_group(&mut self, worker: u8, blk: Blk, g: Obj)
+        requires { CanWaitForGroup self.old worker blk g }
+        ensures { self.new ≡ waited_for_group self.old worker blk g }
+    {
+        if self.groups.count(g) == 0 {
+            self.let_go(blk);
+        } else {
+            self.lay_down(g, blk);
+        }
+        self.park(worker, blk, Reason::Group(g, self.len));
+    }
+
+    // The block waits for its turn at the semaphore (dispatch_semaphore_wait(3)).
+    fn wait_for_semaphore(&mut self, worker: u8, blk: Blk, s: Obj)
+        requires { CanWaitForSemaphore self.old worker blk s }
+        ensures { self.new ≡ waited_for_semaphore self.old worker blk s }
+    {
+        let rank = self.semas.wait(s);
+        if self.semas.passed(s, rank) {
+            self.let_go(blk);
+        } else {
+            self.lay_down(s, blk);
+        }
+        self.park(worker, blk, Reason::Rank(s, rank));
+    }
+
+    // What the act does, whoever makes it.
+    fn have_effect(&mut self, act: Act)
+        requires { CanHaveEffect self.old act }
+        ensures { self.new ≡ effect_of self.old act }
+    {
+        match act {
+            Act::Async(q, b) | Act::Sync(q, b) => self.submit(q, b, false),
+            Act::Barrier(q, b) | Act::BarrierSync(q, b) => self.submit(q, b, true),
+            Act::GroupAsync(g, q, b) => self.submit_member(g, q, b),
+            Act::Notify(g, q, b) => self.register(g, q, b),
+            Act::Enter(g) => self.groups.enter(g, self.len + 1),
+            Act::Leave(g) => self.leave_by_act(g),
+            Act::GroupWait(_) | Act::Wait(_) => {}
+            Act::Signal(s) => self.signal(s),
+            Act::Suspend(o) => self.holds.suspend(o),
+            Act::Resume(o) => self.resume(o),
+            Act::Activate(o) => self.activate(o),
+            Act::Target(o, t) => self.tree.set_target(o, t),
+            Act::Merge(s, n) => self.merge(s, n),
+            Act::Cancel(s) => self.cancel(s),
+            Act::Retain(o) => self.refs.retain(o),
+            Act::Release(o) => self.refs.release(o),
+        }
+    }
+}

@@ -1,0 +1,109 @@
+// What a machine tells of what it keeps.
+ghost use Rattle.std.specs.Prelude.{◌≡◌, ◌<◌, ◌^◌, Some, length};
+ghost use Rattle.gcd_history.specs.Runs.{act_of};
+ghost use Rattle.gcd_history.specs.Parked.{is_parking};
+ghost use Rattle.gcd_timer.specs.TimersView.{next_due_at};
+ghost use Rattle.gcd_refinement.specs.MachineView.{block_at, handler_at};
+ghost use Rattle.gcd_refinement.specs.After.{pending_in};
+ghost use Rattle.gcd_machine.specs.Conditions.{HasPending};
+ghost use Rattle.gcd_machine.specs.Judged.{first_waiting_at};
+ghost use Rattle.gcd_machine.specs.Stands.{IsShaped};
+
+use super::Registers;
+use gcd_event::Event;
+use gcd_plan::{Act, Blk, Obj};
+
+// Whether the act parks its block.
+fn is_parking(act: Act) -> bool
+    ensures { result ≡ is_parking (Some act) }
+{
+    match act {
+        Act::Sync(_, _) => true,
+        Act::BarrierSync(_, _) => true,
+        Act::GroupWait(_) => true,
+        Act::Wait(_) => true,
+        _ => false,
+    }
+}
+
+impl Registers {
+    /// How many events have come.
+    pub fn len(&self) -> u32
+        ensures { result ≡ self.now.len }
+    {
+        self.len
+    }
+
+    /// How many runs are open and not parked.
+    pub fn running(&self) -> u32
+        ensures { result ≡ self.now.running }
+    {
+        self.running
+    }
+
+    /// The least due time above journal time, in milliseconds.
+    pub fn next_due(&self) -> Option<u32>
+        ensures { result ≡ next_due_at self.now.timers }
+    {
+        self.timers.next_due()
+    }
+
+    /// The first block that waits on the object.
+    pub fn first_waiting(&self, node: Obj) -> Option<Blk>
+        requires shape { IsShaped self.now }
+        requires node { node.0 < length self.now.plan.objects }
+        ensures { result ≡ first_waiting_at self.now node.0 }
+    {
+        match self.lists.first(node) {
+            Some((blk, _)) => Some(blk),
+            None => None,
+        }
+    }
+
+    /// The queue or source on which the block was submitted.
+    pub fn node_of(&self, blk: Blk) -> Option<Obj>
+        requires shape { IsShaped self.now }
+        requires blk { blk.0 < length self.now.plan.blocks }
+        ensures { result ≡ (block_at self.now blk.0).node }
+    {
+        self.blocks[blk.0 as usize].node
+    }
+
+    /// What the last delivery of the source handed over.
+    pub fn given(&self, src: Obj) -> u64
+        requires shape { IsShaped self.now }
+        requires source { src.0 < length self.now.plan.objects }
+        ensures { result ≡ (handler_at self.now src.0).given }
+    {
+        self.handlers[src.0 as usize].given
+    }
+
+    /// What is pending at the source, with the due times that no delivery took, where that is a number of 64 bits.
+    pub fn pending_of(&self, src: Obj) -> u64
+        requires shape { IsShaped self.now }
+        requires source { src.0 < length self.now.plan.objects }
+        ensures pending { HasPending self.now src → result ≡ pending_in self.now src.0 }
+        ensures few { self.now.len < 2 ^ 32 }
+    {
+        // what has come is bounded by the number of events
+        prove!(self.len <= u32::MAX);
+        let due = self
+            .timers
+            .due_count(src)
+            .saturating_sub(self.handlers[src.0 as usize].taken);
+        self.sources.pending(src).saturating_add(due)
+    }
+
+    /// Whether the event is an act that parks its block.
+    pub fn is_parking(&self, e: Event) -> bool
+        ensures { result ≡ is_parking (act_of self.now.plan e) }
+    {
+        match e {
+            Event::Act { run, index, .. } => match self.act_at(run, index) {
+                Some(act) => is_parking(act),
+                None => false,
+            },
+            _ => false,
+        }
+    }
+}

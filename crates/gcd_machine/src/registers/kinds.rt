@@ -1,0 +1,62 @@
+// What the plan has: its blocks, runs and sources, and the kinds of its objects.
+ghost use Rattle.std.specs.Prelude.{◌≡◌, ◌<◌, length};
+ghost use Rattle.gcd_plan.specs.Kinds.{is_node, is_node_kind, is_read_kind, is_source};
+ghost use Rattle.gcd_history.specs.Permitted.{has_block, is_feed, is_run_of};
+
+use super::Registers;
+use gcd_plan::{Blk, Kind, Obj, Run};
+
+// Whether it is a queue or a source.
+fn is_node_of(kind: Kind) -> bool
+    ensures { result ≡ is_node_kind kind }
+{
+    matches!(kind, Kind::Serial | Kind::Concurrent) || kind.is_source()
+}
+
+// Whether it is a read source.
+fn is_read_of(kind: Kind) -> bool
+    ensures { result ≡ is_read_kind kind }
+{
+    matches!(kind, Kind::Read)
+}
+
+impl Registers {
+    /// Whether the plan has the block.
+    pub fn has_block(&self, blk: Blk) -> bool
+        ensures { result ≡ has_block self.now.plan blk.0 }
+    {
+        blk.0 < self.plan.blocks()
+    }
+
+    /// Whether it is a source of the plan.
+    pub fn has_source(&self, src: Obj) -> bool
+        ensures { result ≡ is_source self.now.plan src.0 }
+    {
+        src.0 < self.plan.objects() && self.plan.kind(src).is_source()
+    }
+
+    /// Whether it is a read source of the plan.
+    pub fn has_feed(&self, src: Obj) -> bool
+        ensures { result ≡ is_feed self.now.plan src.0 }
+    {
+        src.0 < self.plan.objects() && is_read_of(self.plan.kind(src))
+    }
+
+    /// Whether the run is of a block or of a source of the plan.
+    pub fn has_run(&self, run: Run) -> bool
+        ensures { result ≡ is_run_of self.now.plan run }
+    {
+        match run {
+            Run::Block(blk) => self.has_block(blk),
+            Run::Source(src) => self.has_source(src),
+        }
+    }
+
+    /// Whether the object is a queue or a source.
+    pub fn is_node(&self, o: Obj) -> bool
+        requires { o.0 < length self.now.plan.objects }
+        ensures { result ≡ is_node self.now.plan o.0 }
+    {
+        is_node_of(self.plan.kind(o))
+    }
+}

@@ -1,0 +1,86 @@
+// What waits and runs on the nodes.
+ghost use Rattle.std.specs.Prelude.{◌≡◌, Some, length};
+ghost use Rattle.gcd_plan.specs.declared.numbers.Obj.{Obj};
+ghost use Rattle.gcd_lists.specs.ListsView.{list_at};
+ghost use Rattle.gcd_refinement.specs.After.{pending_in, stays_busy};
+ghost use Rattle.gcd_machine.specs.Steps.{begun_on, closed_on, run_begun, run_closed, submitted};
+ghost use Rattle.gcd_machine.specs.Conditions.{CanBegin, CanCloseOn, CanSubmit, HasList, HasPending};
+
+use super::Registers;
+use gcd_plan::{Blk, Kind, Obj};
+
+impl Registers {
+    // The run of a block opens on its node, if it has one.
+    pub fn begin_run(&mut self, node: Option<Obj>, barrier: bool)
+        requires { (n : Obj) → node ≡ Some n → CanBegin self.old n barrier }
+        ensures { self.new ≡ run_begun self.old node barrier }
+    {
+        match node {
+            Some(n) => self.begin_on(n, barrier),
+            None => {}
+        }
+    }
+
+    // The run of a block closes on its node, if it has one.
+    pub fn close_run(&mut self, node: Option<Obj>, barrier: bool)
+        requires { (n : Obj) → node ≡ Some n → CanCloseOn self.old n barrier }
+        ensures { self.new ≡ run_closed self.old node barrier }
+    {
+        match node {
+            Some(n) => self.close_on(n, barrier),
+            None => {}
+        }
+    }
+
+    // The run of the first block that waits on the node opens there.
+    fn begin_on(&mut self, node: Obj, barrier: bool)
+        requires { CanBegin self.old node barrier }
+        ensures { self.new ≡ begun_on self.old node barrier }
+    {
+        self.lists.pop(node);
+        self.tree.opened(node);
+        self.drains.began(node, barrier);
+        let pending = self.pending(node);
+        self.busy[node.0 as usize] = self.stays_busy(node, pending);
+    }
+
+    // A run of the node closes there.
+    fn close_on(&mut self, node: Obj, barrier: bool)
+        requires { CanCloseOn self.old node barrier }
+        ensures { self.new ≡ closed_on self.old node barrier }
+    {
+        self.tree.closed(node);
+        self.drains.ended(node, barrier);
+    }
+
+    // The block waits on the node behind all others.
+    pub fn submit(&mut self, node: Obj, blk: Blk, barrier: bool)
+        requires { CanSubmit self.old node blk }
+        ensures { self.new ≡ submitted self.old node blk barrier }
+    {
+        self.lists.push(node, blk, barrier);
+        let progress = &mut self.blocks[blk.0 as usize];
+        progress.node = Some(node);
+        progress.barrier = barrier;
+        self.busy[node.0 as usize] = true;
+        self.left += 1;
+    }
+
+    // Whether the node has to be looked at still: a block waits there, something is pending, or it is a timer.
+    pub fn stays_busy(&self, node: Obj, pending: u64) -> bool
+        requires { HasList self.now node }
+        ensures { result ≡ stays_busy self.now.plan (length (list_at self.now.lists node.0)) pending node.0 }
+    {
+        self.lists.first(node).is_some()
+            || (pending > 0 || matches!(self.plan.kind(node), Kind::Timer { .. }))
+    }
+
+    // What is pending at the source, with the due times that no delivery took.
+    pub fn pending(&self, src: Obj) -> u64
+        requires { HasPending self.now src }
+        ensures { result ≡ pending_in self.now src.0 }
+    {
+        let due = self.timers.due_count(src) - self.handlers[src.0 as usize].taken;
+        self.sources.pending(src) + due
+    }
+}

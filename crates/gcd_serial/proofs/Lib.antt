@@ -1,0 +1,17 @@
+pub mod QueuesOnRoot
+pub mod ActsSubmitApart
+pub mod NothingHeld
+pub mod OnlyBlocksRun
+pub mod BlocksRunOnce
+pub mod Runs
+pub mod Judged
+pub mod Waiting
+pub mod Changed
+pub mod StepStart
+pub mod StepAct
+pub mod StepEnd
+pub mod Chosen
+pub mod Ending
+pub mod Shown
+pub mod Applied
+pub mod Walks
