@@ -166,7 +166,7 @@ impl Machine {
     }
 
     /// What the last delivery of the source handed over, 0 before one (dispatch_source_get_data(3)).
-    pub fn last_data_of(&self, src: Obj) -> u64
+    pub fn data_of(&self, src: Obj) -> u64
         requires { src.0 < length self.now.plan.objects }
         ensures { (plan : PlanView) (h : List Event) → StandsFor self.now plan h → result ≡ last_data_of plan h src.0 }
     {

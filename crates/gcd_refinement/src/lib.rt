@@ -1,5 +1,5 @@
 //! What a queue machine keeps of a history, and how each event changes it: the state of the machine, and the proof that
-//! it stands for the history. `gcd_serial` has the code.
+//! it stands for the history. `gcd_machine` has the code.
 //!
 //! | file of specs/ | words |
 //! |---|---|
