@@ -5,3 +5,7 @@ pub mod RunsEnd
 pub mod CallsEnd
 pub mod Reports
 pub mod Turns
+pub mod QueuesOnRoot
+pub mod NothingHeld
+pub mod RunsAreShort
+pub mod RunsDrain

@@ -5,13 +5,12 @@ use Rattle.std.proofs.lemmas.Bool.{ne_eqb, ltb-true, cases_eq, cases_lt, and_par
 use Rattle.std.proofs.lemmas.List.{length-set, get_or-set_same, get_or-set_other, length-replicate, get_or-replicate, length_push, take-append-le, take_at}
 use Rattle.std.proofs.lemmas.Option.{slice_get-get_or}
 use Rattle.gcd_history.specs.Choice.{is_work, worker_of}
-use Rattle.gcd_history.specs.Ends.{ends_in_halt}
 use Rattle.gcd_history.proofs.Reasons.{allowed}
 use Rattle.gcd_plan.specs.Limits.{max_events}
 use Rattle.gcd_plan.specs.PlanView.{PlanView}
 use Rattle.gcd_plan.specs.declared.numbers.Blk.{Blk}
 use Rattle.gcd_event.specs.declared.event.Event.{Event}
-use Rattle.gcd_event.specs.declared.event.Event.TheVariants.{End, Halt}
+use Rattle.gcd_event.specs.declared.event.Event.TheVariants.{End, Halt, Misuse}
 use Rattle.gcd_history.specs.Runs.{ends}
 use Rattle.gcd_history.specs.History.{why, is_ended}
 use Rattle.gcd_history.specs.Values.{value_of}
@@ -23,11 +22,17 @@ use Rattle.std.proofs.lemmas.List.Folds.{list_all-append}
 use Rattle.std.proofs.lemmas.Option.{slice_get_within}
 use Rattle.std.specs.Prelude.{IfSome}
 use Rattle.gcd_history.specs.declared.state.State.{State}
-use Rattle.gcd_history.specs.declared.state.State.TheVariants.{Drained, Stuck, Misused, Halted, Live}
-use Rattle.gcd_history.specs.History.{choice_of}
-use Rattle.gcd_history.specs.Ends.{IsDrained, HasState, is_halted}
+use Rattle.gcd_history.specs.declared.state.State.TheVariants.{Drained, Halted, Live}
+use Rattle.gcd_history.specs.History.{choice_of, IsLawful}
+use Rattle.gcd_history.specs.Ends.{HasState, is_halted}
 use Rattle.gcd_history.proofs.Choices.{chosen_is}
-use Rattle.gcd_serial.specs.Workers.{is_all_by}
+use Rattle.gcd_run.specs.Workers.{is_all_by}
+use Rattle.gcd_run.proofs.QueuesOnRoot.{IsFirstPlan}
+use Rattle.gcd_run.proofs.NothingHeld.{is_first_event, only_first}
+use Rattle.gcd_run.proofs.RunsAreShort.{first_runs_are_short}
+use Rattle.gcd_run.proofs.RunsDrain.{first_runs_drain}
+use Rattle.gcd_history.specs.Permitted.{is_misuse, is_halt, is_halted as is_halted_after}
+use Rattle.gcd_history.proofs.OneState.{one_state}
 use Rattle.gcd_run.specs.Ends.{IsOver}
 use Rattle.gcd_run.specs.Outcome.{AreResults, EndFits, FollowsChoice, IsNextEvent}
 
@@ -100,11 +105,15 @@ end_fits plan h (End w b) permitted =
     ltb-true _ _ (and_parts _ _ (allowed plan (reverse h) (End w b) permitted).known).1
 end_fits plan h _ permitted = tt
 
--- an event of the plan's work is no Halt
-pub halts_not : (h : List Event) (e : Event) → is_work e ≡ true → ends_in_halt (h ++ e ∷ []) ≡ false
-unfolding ends_in_halt
-halts_not h Halt work = absurd (false≢true work)
-halts_not h _ work = rw reverse_push refl
+-- after an event of the plan's work the run is not halted
+pub goes_on : (plan : PlanView) (h : List Event) (e : Event) → IsFirstPlan plan → why plan h e ≡ None → is_work e ≡ true → is_halted (h ++ e ∷ []) ≡ false
+unfolding why is_halted
+goes_on plan h e first permitted work = ap is_halted_after (reverse_push h e) ∙ no_stop e work (only_first plan (reverse h) e first permitted)
+  where
+    no_stop : (e : Event) → is_work e ≡ true → is_first_event e ≡ true → (is_misuse e || is_halt e) ≡ false
+    no_stop (Misuse w r i c) work kind = cc
+    no_stop Halt work kind = cc
+    no_stop _ work kind = refl
 
 -- an event that is no End ends no block
 pub ends_none : (e : Event) → ((w : ℕ) (c : Blk) → e ≡ End w c → ⊥) → (b : ℕ) → ends b e ≡ false
@@ -156,21 +165,17 @@ all_by_push h e all own =
     list_all-append (λ d. worker_of d == 0) h (e ∷ [])
     ∙ and_from _ _ all (and_from _ _ (eq-eqb _ _ own) refl)
 
-pub no_halt_yet : ends_in_halt [] ≡ false
-unfolding ends_in_halt
-no_halt_yet = refl
+pub not_halted_yet : is_halted [] ≡ false
+unfolding is_halted
+not_halted_yet = refl
 
 -- where nothing more is recorded the run has drained
-pub drained_at_end : (plan : PlanView) (h : List Event) (state : State) → length h < max_events → HasState plan h state → state ≢ Stuck → state ≢ Misused
-    → ends_in_halt h ≡ false → (is_halted h ≡ false → IsDrained plan h ⊎ (max_events ≤ length h)) → state ≡ Drained
-drained_at_end plan h Drained short has unstuck unmisused going last = refl
-drained_at_end plan h Stuck short has unstuck unmisused going last = absurd (unstuck refl)
-drained_at_end plan h Misused short has unstuck unmisused going last = absurd (unmisused refl)
-drained_at_end plan h Halted short has unstuck unmisused going last = absurd (false≢true (sym going ∙ has))
-drained_at_end plan h Live short has unstuck unmisused going last = ⊎_elim
-    (λ drained. absurd (has.unquiet drained.quiescent))
-    (λ full. absurd (omega arith))
-    (last has.unhalted)
+pub drained_at_end : (plan : PlanView) (h : List Event) (state : State) → IsFirstPlan plan → IsLawful plan h → is_all_by 0 h ≡ true → is_halted h ≡ false
+    → (choice_of plan h 0 0 ≡ None) ⊎ (max_events ≤ length h) → HasState plan h state → state ≡ Drained
+drained_at_end plan h state first lawful by going last has = ⊎_elim
+    (λ none. one_state plan h state Drained has (first_runs_drain plan h first lawful by going none))
+    (λ full. absurd (let short = first_runs_are_short plan h first lawful in let few = first.valid.few_blocks in omega (arith, full, short, few)))
+    last
 
 pub over_of_drained : (plan : PlanView) (h : List Event) (state : State) → state ≡ Drained → HasState plan h state → IsOver plan h state
 over_of_drained plan h state is has = record {

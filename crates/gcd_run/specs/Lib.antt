@@ -8,3 +8,4 @@ pub mod Stories
 pub mod Requests
 pub mod Shown
 pub mod Statuses
+pub mod Workers

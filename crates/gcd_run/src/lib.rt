@@ -7,7 +7,7 @@
 //!
 //! One call goes through these steps, and ends at the first that cannot go on: the words are read; the script is loaded from
 //! the shelf and read as a plan (`gcd_script`); its files are loaded, in their order; the plan is run by worker 0, turn by
-//! turn, over the machine (`gcd_serial`), and each block's value is computed by its job (`gcd_jobs`) before its End is
+//! turn, over the machine (`gcd_machine`), and each block's value is computed by its job (`gcd_jobs`) before its End is
 //! recorded; the report is made whole and written to the sink.
 //!
 //! The contract of `gcd_main` speaks of what the call saw of the shelf and the sink (`gcd_outer`), before and after. Its first

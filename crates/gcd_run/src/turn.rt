@@ -4,10 +4,9 @@ ghost use Rattle.gcd_forms.specs.FirstForms.{IsOfFirstForms};
 ghost use Rattle.gcd_event.specs.declared.event.Event.{Event};
 ghost use Rattle.gcd_plan.specs.Limits.{max_events};
 ghost use Rattle.gcd_plan.specs.PlanView.{PlanView};
-ghost use Rattle.gcd_history.specs.History.{IsLawful};
-ghost use Rattle.gcd_history.specs.Ends.{IsDrained, is_halted};
-ghost use Rattle.gcd_serial.specs.Stands.{StandsFor};
-ghost use Rattle.gcd_serial.specs.Workers.{is_all_by};
+ghost use Rattle.gcd_history.specs.History.{IsLawful, choice_of};
+ghost use Rattle.gcd_history.specs.Ends.{is_halted};
+ghost use Rattle.gcd_machine.specs.Stands.{StandsFor};
 ghost use Rattle.gcd_history.specs.declared.state.State.TheVariants.{Drained};
 ghost use Rattle.gcd_history.specs.Values.{value_of};
 ghost use Rattle.gcd_run.specs.Ends.{IsOver};
@@ -16,7 +15,7 @@ ghost use Rattle.gcd_run.specs.Outcome.{AreResults, EndFits, FollowsChoice, IsNe
 use gcd_event::Event;
 use gcd_history::State;
 use gcd_jobs::{FileJob, Job};
-use gcd_serial::Machine;
+use gcd_machine::Machine;
 use gcd_plan::{Blk, MAX_EVENTS, Plan};
 use std::alloc::{AllocError, Global};
 
@@ -64,12 +63,11 @@ fn no_results(alloc: Global, blocks: u32) -> Result<Vec<Option<u64>>, AllocError
     Ok(results)
 }
 
-// What worker 0 records next; none where the run is halted, full, or at rest.
+// What worker 0 records next; none where the run is halted or full, or it has no choice.
 fn next_event(machine: &Machine) -> Option<Event>
-    requires { 0 < length machine.now.plan.objects }
     ensures some { (plan : PlanView) (h : List Event) → StandsFor machine.now plan h → IfSome result (IsNextEvent plan h) }
-    ensures none { (plan : PlanView) (h : List Event) → StandsFor machine.now plan h → is_all_by 0 h ≡ true → is_halted h ≡ false
-        → result ≡ None → IsDrained plan h ⊎ (max_events ≤ length h) }
+    ensures none { (plan : PlanView) (h : List Event) → StandsFor machine.now plan h → is_halted h ≡ false → result ≡ None
+        → (choice_of plan h 0 0 ≡ None) ⊎ (max_events ≤ length h) }
 {
     if machine.is_halted() || machine.len() >= MAX_EVENTS {
         return None;

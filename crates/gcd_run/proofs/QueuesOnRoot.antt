@@ -1,13 +1,13 @@
 -- What a plan of the first forms has: root, serial queues on it, and acts that submit blocks to them.
-use Rattle.std.proofs.Common.{◌≡◌, ℕ, zero, suc, ◌<◌, ◌≤◌, ◌==◌, ◌⊎◌, inl, inr, Bool, true, false, ◌&&◌, List, [], ◌∷◌, length, Option, Some, None, refl, ap, sym, ◌∙◌, subst, arith, ⊎_elim}
+use Rattle.std.proofs.Common.{◌≡◌, ℕ, zero, suc, ◌<◌, ◌≤◌, ◌==◌, ◌⊎◌, inl, inr, Bool, true, false, ◌&&◌, List, [], ◌∷◌, length, Option, Some, None, refl, ap, sym, ◌∙◌, subst, arith, codes, ⊎_elim}
 use Rattle.std.specs.List.{slice_get, list_all}
 use Rattle.std.specs.Option.{option_map, option_map_or, option_and_then, is_none}
-use Rattle.std.proofs.lemmas.Bool.{and_parts, eqb-true, both_ways}
+use Rattle.std.proofs.lemmas.Bool.{and_parts, eqb-true}
 use Rattle.std.proofs.lemmas.Option.{slice_get_within}
 use Rattle.std.proofs.lemmas.List.{nil_from_length}
-use Rattle.gcd_plan.specs.PlanView.{PlanView, ObjView, kind_of, first_target, starts_active, cancel_block, acts_of}
+use Rattle.gcd_plan.specs.PlanView.{PlanView, ObjView, first_target, starts_active, cancel_block, acts_of}
 use Rattle.gcd_plan.specs.Kinds.{has_kind, is_queue}
-use Rattle.gcd_plan.specs.Validity.{IsPlan, root_view, is_object, is_block, is_act, has_fields, has_path, is_kind, is_submittable}
+use Rattle.gcd_plan.specs.Validity.{IsPlan, root_view, is_object, has_fields, has_path, is_kind}
 use Rattle.gcd_forms.specs.FirstForms.{IsOfFirstForms, is_plain_queue, is_serial_kind, is_first_act, is_first_block, after_root, is_first_work}
 use Rattle.gcd_plan.specs.declared.act.Act.{Act}
 use Rattle.gcd_plan.specs.declared.act.Act.TheVariants.{Async}
@@ -27,6 +27,14 @@ use Rattle.gcd_plan.proofs.Options.{none_from_is_none}
 pub record IsFirstPlan (plan : PlanView) : Type 0 where
   pub valid : IsPlan plan
   pub forms : IsOfFirstForms plan
+
+-- main is a block of it
+pub some_blocks : (plan : PlanView) → IsFirstPlan plan → 1 ≤ length plan.blocks
+some_blocks plan first =
+    elim plan.blocks as (λ l. option_map (λ b. b.name) (slice_get l 0) ≡ Some (codes "main") → 1 ≤ length l) [
+      | [] ↦ λ k. cc
+      | b ∷ bs ↦ λ k. omega arith
+    ] first.valid.main
 
 -- ## Objects
 
@@ -119,48 +127,29 @@ no_cancel_blocks plan s first =
     let over : Option ObjView → Option Blk = λ v. option_and_then (λ obj. obj.cancel) v in
     ⊎_elim (λ none. ap over none) (⊎_elim (λ root. ap over root.1) (λ queue. ap over queue.3 ∙ queue.4.cancel)) (object_cases plan s first)
 
--- where object q is a serial queue
-pub record IsQueueAt (plan : PlanView) (q : ℕ) : Type 0 where
-  pub above : 1 ≤ q
-  pub within : q < length plan.objects
-  pub kind : kind_of plan q ≡ Some Serial
-
-pub serial_queue : (plan : PlanView) (q : ℕ) → IsFirstPlan plan → has_kind is_serial_kind plan q ≡ true → IsQueueAt plan q
-serial_queue plan q first serial =
-    let over : Option ObjView → Bool = λ v. option_map_or is_serial_kind (option_map (λ obj. obj.kind) v) false in
-    ⊎_elim
-    (λ none. absurd (both_ways _ (ap over none) serial))
-    (⊎_elim
-    (λ root. absurd (both_ways _ (ap over root.1) serial))
-    (λ queue. record { above = queue.1; within = queue.2; kind = ap (option_map (λ obj. obj.kind)) queue.3 ∙ ap Some queue.4.kind }))
-    (object_cases plan q first)
-
 -- ## Acts
 
--- the act, if there is one, submits a block to a serial queue
-abbrev pub Submits : PlanView → Option Act → Type 0
-Submits plan act =
-    (act ≡ None)
-    ⊎ ((q : Obj) × (c : Blk) × (act ≡ Some (Async q c)) × (has_kind is_serial_kind plan q.0 ≡ true) × (is_submittable plan c ≡ true))
+-- the act, if there is one, submits a plain block
+abbrev pub Submits : Option Act → Type 0
+Submits act = (act ≡ None) ⊎ ((q : Obj) × (c : Blk) × (act ≡ Some (Async q c)))
 
-submits_one : (plan : PlanView) (a : Act) → is_first_act plan a ≡ true → is_act plan a ≡ true → Submits plan (Some a)
-submits_one plan (Async q c) serial act = inr (q, c, refl, serial, (and_parts (is_queue plan q.0) (is_submittable plan c) act).1)
-submits_one plan _ serial act = cc
+submits_one : (plan : PlanView) (a : Act) → is_first_act plan a ≡ true → Submits (Some a)
+submits_one plan (Async q c) first = inr (q, c, refl)
+submits_one plan _ first = cc
 
-pub submits_at : (plan : PlanView) (run : Run) (i : ℕ) → IsFirstPlan plan → Submits plan (act_at plan run i)
+pub submits_at : (plan : PlanView) (run : Run) (i : ℕ) → IsFirstPlan plan → Submits (act_at plan run i)
 submits_at plan (Source s) i first = inl (ap (λ acts. slice_get acts i) (no_handlers plan s first))
 submits_at plan (Block b) i first =
-    elim (slice_get plan.blocks b.0) as (λ v. slice_get plan.blocks b.0 ≡ v → Submits plan (slice_get (option_map_or (λ blk. blk.acts) v []) i)) [
+    elim (slice_get plan.blocks b.0) as (λ v. slice_get plan.blocks b.0 ≡ v → Submits (slice_get (option_map_or (λ blk. blk.acts) v []) i)) [
       | None ↦ λ e. inl refl
       | Some blk ↦ λ e.
           let forms = and_parts (list_all (is_first_act plan) blk.acts) (option_map_or is_first_work blk.work true) (list_all_get (is_first_block plan) plan.blocks b.0 blk first.forms.blocks e) in
-          let valid = and_parts _ (list_all (is_act plan) blk.acts) (list_all_get (is_block plan) plan.blocks b.0 blk first.valid.blocks e) in
-          elim (slice_get blk.acts i) as (λ a. slice_get blk.acts i ≡ a → Submits plan a) [
+          elim (slice_get blk.acts i) as (λ a. slice_get blk.acts i ≡ a → Submits a) [
             | None ↦ λ f. inl refl
-            | Some a ↦ λ f. submits_one plan a (list_all_get (is_first_act plan) blk.acts i a forms.0 f) (list_all_get (is_act plan) blk.acts i a valid.1 f)
+            | Some a ↦ λ f. submits_one plan a (list_all_get (is_first_act plan) blk.acts i a forms.0 f)
           ] refl
     ] refl
 
-pub submits_of : (plan : PlanView) (e : Event) → IsFirstPlan plan → Submits plan (act_of plan e)
+pub submits_of : (plan : PlanView) (e : Event) → IsFirstPlan plan → Submits (act_of plan e)
 submits_of plan (Acted w run i) first = submits_at plan run i first
 submits_of plan _ first = inl refl

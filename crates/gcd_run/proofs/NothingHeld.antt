@@ -1,15 +1,16 @@
 -- What the definitions say of histories of a plan of the first forms, whatever events they are of: nothing is held, moved,
 -- parked, cancelled, due or a misuse.
-use Rattle.std.proofs.Common.{◌≡◌, ℕ, zero, suc, ◌+◌, ◌-◌, ◌<◌, ◌≤◌, ◌==◌, nat_lt, nat_le, Bool, true, false, not, ◌&&◌, ◌||◌, cond, List, [], ◌∷◌, ◌++◌, length, Option, Some, None, find, refl, ap, sym, ◌∙◌, arith, ⊎_elim, ne_eqb}
+use Rattle.std.proofs.Common.{◌≡◌, ℕ, zero, suc, ◌+◌, ◌-◌, ◌<◌, ◌==◌, nat_lt, nat_le, Bool, true, false, not, ◌&&◌, ◌||◌, cond, List, [], ◌∷◌, ◌++◌, length, Option, Some, None, find, refl, ap, sym, ◌∙◌, arith, ⊎_elim}
 use Rattle.std.specs.List.{list_any, flat_map, count_by, range_with_len}
-use Rattle.std.specs.Option.{option_map, option_map_or, option_and_then, is_none, is_some}
+use Rattle.std.specs.Option.{option_map_or, option_and_then, is_some}
 use Rattle.std.proofs.lemmas.List.{append-nil}
 use Rattle.std.proofs.lemmas.List.Sums.{sum_by-cons}
-use Rattle.std.proofs.lemmas.Bool.{and_right}
+use Rattle.std.proofs.lemmas.Bool.{and_parts, both_ways}
+use Rattle.std.proofs.lemmas.Option.{none-some}
 use Rattle.gcd_plan.specs.PlanView.{PlanView, first_target, starts_active, cancel_block}
-use Rattle.gcd_plan.specs.Kinds.{has_kind, is_source, is_exclusive, has_barriers, is_exclusive_kind, is_source_kind, is_concurrent_kind, is_read_kind}
-use Rattle.gcd_plan.specs.Chains.{chain_by, is_in}
-use Rattle.gcd_plan.specs.StartRule.{is_held, is_excluded}
+use Rattle.gcd_plan.specs.Kinds.{has_kind, is_source, is_source_kind, is_read_kind}
+use Rattle.gcd_plan.specs.Chains.{chain_by}
+use Rattle.gcd_plan.specs.StartRule.{is_held}
 use Rattle.gcd_plan.specs.declared.act.Act.{Act}
 use Rattle.gcd_plan.specs.declared.act.Act.TheVariants.{Async}
 use Rattle.gcd_plan.specs.declared.numbers.Blk.{Blk}
@@ -17,22 +18,22 @@ use Rattle.gcd_plan.specs.declared.numbers.Obj.{Obj}
 use Rattle.gcd_plan.specs.declared.numbers.Run.{Run}
 use Rattle.gcd_plan.specs.declared.numbers.Run.TheVariants.{Block}
 use Rattle.gcd_event.specs.declared.event.Event.{Event}
-use Rattle.gcd_event.specs.declared.event.Event.TheVariants.{Act as Acted, Wake}
-use Rattle.gcd_history.specs.Runs.{act_at, act_of, opens, same_run, open_runs, is_open, last_worker}
+use Rattle.gcd_event.specs.declared.event.Event.TheVariants.{Start, Act as Acted, Wake, End, Deliver, DeliverEnd, Tick, Ready, FeedEnd, Misuse, Halt}
+use Rattle.gcd_history.specs.Runs.{act_at, act_of, opens, same_run, is_open}
 use Rattle.gcd_history.specs.Groups.{count}
 use Rattle.gcd_history.specs.Submitted.{submitted, submitted_by, new_submissions, cancels, at_cancel, is_cancelled, registered, notify_blocks, at_empty, on_node}
-use Rattle.gcd_history.specs.Tree.{aim, aim_after, asked, target, is_moving, chain, chain_of_run, node_of_run, is_run_on, is_open_on, is_open_beneath}
+use Rattle.gcd_history.specs.Tree.{aim, aim_after, asked, target, is_moving, chain, is_open_on}
 use Rattle.gcd_history.specs.Holds.{hold, hold_after, activates, is_active, is_free}
-use Rattle.gcd_history.specs.Parked.{reason_by, parked_by, reason, is_parked, has_run}
+use Rattle.gcd_history.specs.Parked.{reason_by, parked_by, reason, is_parked}
 use Rattle.gcd_history.specs.Timers.{activated_at, is_due, is_any_due, next_due, may_tick, now}
 use Rattle.gcd_history.specs.Sources.{is_live_feed}
 use Rattle.gcd_history.specs.Misuses.{retains, releases, refs, is_released, misuse}
-use Rattle.gcd_history.specs.Permitted.{misuse_at, is_fenced, knowledge}
-use Rattle.gcd_plan.proofs.Quantifiers.{list_any_agree}
-use Rattle.gcd_serial.proofs.QueuesOnRoot.{IsFirstPlan, Submits, submits_at, submits_of, no_such_kind, all_on_root, all_active, no_cancel_blocks, IsQueueAt}
+use Rattle.gcd_history.specs.Permitted.{misuse_at, knowledge, is_worker, why}
+use Rattle.gcd_history.proofs.Reasons.{allowed, at_wake, at_tick, at_ready, at_feed_end, at_misuse}
+use Rattle.gcd_run.proofs.QueuesOnRoot.{IsFirstPlan, Submits, submits_at, submits_of, no_such_kind, all_on_root, all_active, no_cancel_blocks}
 
 -- what a function of an act gives where it gives the same for no act and for a plain submission
-pub of_act : {X : Type 0} (plan : PlanView) (f : Option Act → X) (x : X) (act : Option Act) → Submits plan act → f None ≡ x
+pub of_act : {X : Type 0} (plan : PlanView) (f : Option Act → X) (x : X) (act : Option Act) → Submits act → f None ≡ x
     → ((q : Obj) (c : Blk) → f (Some (Async q c)) ≡ x) → f act ≡ x
 of_act plan f x act by none some = ⊎_elim (λ e. ap f e ∙ none) (λ s. ap f s.2 ∙ some s.0 s.1) by
 
@@ -96,83 +97,23 @@ all_free plan past o first within =
 
 -- ## Chains
 
-to_root : (next : ℕ → ℕ) (bound : ℕ) (q : ℕ) → 1 ≤ q → is_in q (chain_by next bound 0) ≡ false
-to_root next zero q above = refl
-to_root next (suc bound) q above = simp (ne_eqb 0 q (λ e. omega arith))
-
-pub chain_in : (next : ℕ → ℕ) (bound n q : ℕ) → ((k : ℕ) → next k ≡ 0) → 1 ≤ q → 1 ≤ bound → is_in q (chain_by next bound n) ≡ (n == q)
-chain_in next zero n q root above some = absurd (omega arith)
-chain_in next (suc bound) n q root above some =
-    elim (n == 0) as (λ v. (n == q || is_in q (cond v [] (chain_by next bound (next n)))) ≡ (n == q)) [
-      | true ↦ or_false (n == q)
-      | false ↦ ap (λ m. n == q || is_in q (chain_by next bound m)) (root n) ∙ (ap (λ b. n == q || b) (to_root next bound q above) ∙ or_false (n == q))
-    ]
-  where
-    or_false : (b : Bool) → (b || false) ≡ b
-    or_false true = refl
-    or_false false = refl
-
-pub chain_two : (next : ℕ → ℕ) (bound q : ℕ) → ((k : ℕ) → next k ≡ 0) → 1 ≤ q → 2 ≤ bound → chain_by next bound q ≡ q ∷ 0 ∷ []
-chain_two next zero q root above some = absurd (omega arith)
-chain_two next (suc zero) q root above some = absurd (omega arith)
-chain_two next (suc (suc bound)) q root above some = simp (ne_eqb q 0 (λ e. omega arith), root q)
-
-pub chain_is : (plan : PlanView) (past : List Event) (q : ℕ) → IsFirstPlan plan → IsQueueAt plan q → chain plan past q ≡ q ∷ 0 ∷ []
-chain_is plan past q first at =
-    let above = at.above in
-    let within = at.within in
-    chain_two (target plan past) (length plan.objects) q (λ k. on_root plan past k first) above (omega arith)
-
-pub beneath_is_on : (plan : PlanView) (past : List Event) (q : ℕ) (run : Run) → IsFirstPlan plan → IsQueueAt plan q → is_in q (chain_of_run plan past run) ≡ is_run_on plan past q run
-beneath_is_on plan past q run first at =
-    let above = at.above in
-    let within = at.within in
-    elim (node_of_run plan past run) as (λ n. is_in q (option_map_or (chain plan past) n []) ≡ option_map_or (λ m. m == q) n false) [
-      | None ↦ refl
-      | Some n ↦ chain_in (target plan past) (length plan.objects) n q (λ k. on_root plan past k first) above (omega arith)
+-- where all targets are root, the nodes from n on are n and root
+none_on_way : (p : ℕ → Bool) (next : ℕ → ℕ) (bound n : ℕ) → ((k : ℕ) → next k ≡ 0) → p 0 ≡ false → p n ≡ false → list_any p (chain_by next bound n) ≡ false
+none_on_way p next zero n root off here = refl
+none_on_way p next (suc bound) n root off here =
+    ap (λ v. v || list_any p (cond (n == 0) [] (chain_by next bound (next n)))) here
+    ∙ elim (n == 0) as (λ v. list_any p (cond v [] (chain_by next bound (next n))) ≡ false) [
+      | true ↦ refl
+      | false ↦ none_on_way p next bound (next n) root off (ap p (root n) ∙ off)
     ]
 
--- what is open beneath a queue is open on it
-pub open_beneath_is_on : (plan : PlanView) (past : List Event) (q : ℕ) → IsFirstPlan plan → IsQueueAt plan q → is_open_beneath plan past q ≡ is_open_on plan past q
-open_beneath_is_on plan past q first at =
-    list_any_agree (λ run. is_in q (chain_of_run plan past run)) (is_run_on plan past q) (open_runs past) (λ run. beneath_is_on plan past q run first at)
-
--- ## The start rule
-
-pub root_not_exclusive : (plan : PlanView) → IsFirstPlan plan → is_exclusive plan 0 ≡ false
-root_not_exclusive plan first = ap (λ o. option_map_or is_exclusive_kind (option_map (λ obj. obj.kind) o) false) first.valid.root
-
-pub queue_exclusive : (plan : PlanView) (q : ℕ) → IsQueueAt plan q → is_exclusive plan q ≡ true
-queue_exclusive plan q at = ap (λ k. option_map_or is_exclusive_kind k false) at.kind
-
-pub held_none : (plan : PlanView) (past : List Event) (q : ℕ) → IsFirstPlan plan → IsQueueAt plan q → is_held (knowledge plan past) (chain plan past q) ≡ false
+-- what is about an object of the plan, and root, is free
+pub held_none : (plan : PlanView) (past : List Event) (q : ℕ) → IsFirstPlan plan → q < length plan.objects → is_held (knowledge plan past) (chain plan past q) ≡ false
 unfolding knowledge
-held_none plan past q first at =
-    let above = at.above in
-    let within = at.within in
-    let here = all_free plan past q first within in
-    let root = all_free plan past 0 first (omega arith) in
-    let nodes = chain_is plan past q first at in
-    simp (nodes, here, root)
-
-pub excluded_is_on : (plan : PlanView) (past : List Event) (q : ℕ) → IsFirstPlan plan → IsQueueAt plan q → is_excluded (knowledge plan past) (chain plan past q) ≡ is_open_on plan past q
-unfolding knowledge
-excluded_is_on plan past q first at =
-    let nodes = chain_is plan past q first at in
-    let here = queue_exclusive plan q at in
-    let root = root_not_exclusive plan first in
-    let beneath = open_beneath_is_on plan past q first at in
-    ap (λ l. list_any (λ o. is_exclusive plan o && is_open_beneath plan past o) l) nodes ∙ simp (here, root, beneath) (or_false (is_open_on plan past q))
-  where
-    or_false : (b : Bool) → (b || false) ≡ b
-    or_false true = refl
-    or_false false = refl
-
-pub fenced_none : (plan : PlanView) (past : List Event) (barrier : Bool) (q : ℕ) → IsQueueAt plan q → is_fenced plan past barrier q ≡ false
-unfolding is_fenced
-fenced_none plan past barrier q at =
-    let plain : has_barriers plan q ≡ false = and_right (not (q == 0)) (has_kind is_concurrent_kind plan q) (ap (λ k. option_map_or is_concurrent_kind k false) at.kind) in
-    simp plain
+held_none plan past q first within =
+    none_on_way (λ o. not (is_free plan past o)) (target plan past) (length plan.objects) q (λ k. on_root plan past k first)
+    (ap not (all_free plan past 0 first (omega arith)))
+    (ap not (all_free plan past q first within))
 
 -- ## Waits, times and misuses
 
@@ -199,13 +140,6 @@ reason_none plan past run first = ifs (is_open past run) (parked_by plan past ru
 pub no_parked : (plan : PlanView) (past : List Event) (b : ℕ) → IsFirstPlan plan → is_parked plan past b ≡ false
 unfolding is_parked
 no_parked plan past b first = ap is_some (reason_none plan past (Block (record { 0 = b })) first)
-
--- a run is a worker's where it is open and the worker began it
-pub has_run_is : (plan : PlanView) (past : List Event) (w : ℕ) (run : Run) → IsFirstPlan plan
-    → has_run plan past w run ≡ (is_open past run && option_map_or (λ v. v == w) (last_worker past run) false)
-unfolding has_run
-has_run_is plan past w run first =
-    ap (λ o. is_open past run && (is_none o && option_map_or (λ v. v == w) (last_worker past run) false)) (parked_none plan past run first)
 
 never_activated : (plan : PlanView) (past : List Event) (s : ℕ) → IsFirstPlan plan → activated_at plan past s ≡ None
 never_activated plan [] s first = refl
@@ -314,3 +248,35 @@ submissions_are plan past e first =
 
 pub submitted_more : (plan : PlanView) (past : List Event) (e : Event) → IsFirstPlan plan → submitted plan (e ∷ past) ≡ submitted plan past ++ submitted_by (act_of plan e)
 submitted_more plan past e first = ap (λ l. submitted plan past ++ l) (submissions_are plan past e first)
+
+-- ## Events
+
+-- the event begins or ends a block's run, or is an act or a halt
+abbrev pub is_first_event : Event → Bool
+is_first_event (Start w b) = true
+is_first_event (Acted w r i) = true
+is_first_event (Wake w b) = false
+is_first_event (End w b) = true
+is_first_event (Deliver w s) = false
+is_first_event (DeliverEnd w s) = false
+is_first_event (Tick t) = false
+is_first_event (Ready s n) = false
+is_first_event (FeedEnd s) = false
+is_first_event (Misuse w r i c) = false
+is_first_event Halt = true
+
+-- no other may come next
+pub only_first : (plan : PlanView) (past : List Event) (e : Event) → IsFirstPlan plan → why plan past e ≡ None → is_first_event e ≡ true
+only_first plan past (Start w b) first may = refl
+only_first plan past (Acted w r i) first may = refl
+only_first plan past (Wake w b) first may = absurd (both_ways (is_parked plan past b.0) (no_parked plan past b.0 first) (at_wake plan past w b may).parked)
+only_first plan past (End w b) first may = refl
+only_first plan past (Deliver w s) first may =
+    absurd (both_ways (is_source plan s.0) (no_sources plan s.0 first) (and_parts (is_worker w) (is_source plan s.0) (allowed plan past (Deliver w s) may).known).1)
+only_first plan past (DeliverEnd w s) first may =
+    absurd (both_ways (is_source plan s.0) (no_sources plan s.0 first) (and_parts (is_worker w) (is_source plan s.0) (allowed plan past (DeliverEnd w s) may).known).1)
+only_first plan past (Tick t) first may = absurd (both_ways (may_tick plan past t) (no_ticks plan past t first) (at_tick plan past t may))
+only_first plan past (Ready s n) first may = absurd (both_ways (is_live_feed plan past s.0) (nothing_live plan past s.0 first) (at_ready plan past s n may))
+only_first plan past (FeedEnd s) first may = absurd (both_ways (is_live_feed plan past s.0) (nothing_live plan past s.0 first) (at_feed_end plan past s may))
+only_first plan past (Misuse w r i c) first may = absurd (none-some c (sym (no_misuses plan past r i first) ∙ (at_misuse plan past w r i c may).code))
+only_first plan past Halt first may = refl
