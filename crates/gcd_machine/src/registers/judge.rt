@@ -11,7 +11,7 @@ use gcd_event::Event;
 use gcd_plan::{Blk, MAX_ACTS, MAX_TIME, MAX_VALUE, MAX_WORKERS, Obj, Run, Why};
 
 // Whether it is a worker's number.
-fn is_worker(worker: u8) -> bool
+pub fn is_worker(worker: u8) -> bool
     ensures { result ≡ is_worker worker }
 {
     u32::from(worker) < MAX_WORKERS
