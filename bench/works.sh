@@ -3,7 +3,7 @@
 # fails where a value differs or where a work takes more than 1.25 times what its C loop takes.
 #
 # `rt test` proves the crate and leaves its tests as the program out/gcd_jobs_tests; the test that is named here prints
-# the times.
+# the time of one run of each work, and is called seven times.
 set -eu -o pipefail
 cd "$(dirname "$0")/.."
 folder=$(mktemp -d)

@@ -50,13 +50,18 @@ fn run_block<J: Job + Drop + Send>(job: J) -> u64
     job.run(0)
 }
 
-#[test]
-fn jobs_over_shared_files_give_the_values_of_their_works(rt: HostRuntime) -> Result<(), Fail> {
-    let alloc = rt.alloc();
+// The files of the rows.
+fn shared_files(alloc: Global) -> Result<Vec<Vec<u8>>, AllocError> {
     let mut files = Vec::new(alloc);
     for bytes in FILES {
         files.push(Vec::from_slice(alloc, bytes)?)?;
     }
+    Ok(files)
+}
+
+#[test]
+fn jobs_over_shared_files_give_the_values_of_their_works(rt: HostRuntime) -> Result<(), Fail> {
+    let files = shared_files(rt.alloc())?;
     let nothing = FileJob::new(&files, None);
     for (how, file, start, len, value, what) in CASES {
         let job = FileJob::new(&files, Some(work(how, file, start, len)));

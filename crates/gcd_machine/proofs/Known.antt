@@ -124,7 +124,7 @@ counted_beneath plan past v o valid lawful fit tree beneath =
         omega (arith, less, some, runs)
 
 -- and where none is open beneath it, nothing is counted
-nothing_beneath : (plan : PlanView) (past : List Event) (v : MachineView) (o : ℕ) → PartsFit plan v → TreeIs plan past v
+pub nothing_beneath : (plan : PlanView) (past : List Event) (v : MachineView) (o : ℕ) → PartsFit plan v → TreeIs plan past v
     → is_open_beneath plan past o ≡ false → open_beneath_at v.tree o ≡ 0
 nothing_beneath plan past v o fit tree none = no_terms (open_from v.tree o) 0 (length v.tree.targets) no_term
   where

@@ -27,3 +27,4 @@ pub mod Misused
 pub mod Workers
 pub mod Judges
 pub mod Shown
+pub mod Nodes

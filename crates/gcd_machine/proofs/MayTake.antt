@@ -82,11 +82,13 @@ module _ (past : List Event) (m : MachineView) (t : IsTied m.plan past m) (room 
       let ended = t.own.ended in
       let due = t.own.due in
       record {
-        worker = can_set_free past m t room w (Block b) known.0 own;
-        blk = omega (arith, low, blocks);
-        ended = omega (arith, low, ended);
-        left = left_at_end past m t w b may;
-        node = λ n on. can_close_on past m t room n b live on;
+        closes = record {
+          worker = can_set_free past m t room w (Block b) known.0 own;
+          blk = omega (arith, low, blocks);
+          ended = omega (arith, low, ended);
+          left = left_at_end past m t w b may;
+          node = λ n on. can_close_on past m t room n b live on;
+        };
         caller = λ c of. let l = t.own.callers b.0 c of in omega (arith, l, due);
         group = λ g of. can_leave past m t room w b g (t.lawful, may) of;
       }

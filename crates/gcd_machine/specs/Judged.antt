@@ -6,8 +6,10 @@ use Rattle.std.specs.List.{list_any}
 use Rattle.gcd_plan.specs.PlanView.{starts_active}
 use Rattle.gcd_plan.specs.Kinds.{has_kind, is_semaphore_kind, is_read_kind, is_node}
 use Rattle.gcd_plan.specs.StartRule.{first_of}
+use Rattle.gcd_plan.specs.MisuseCodes.{code_of}
 use Rattle.gcd_plan.specs.declared.act.Act.{Act}
 use Rattle.gcd_plan.specs.declared.act.Act.TheVariants.{Leave, Resume, Target, Release}
+use Rattle.gcd_plan.specs.declared.misuse_code.MisuseCode.TheVariants.{OverResume, UnbalancedLeave, TargetCycle, TargetAfterActivation, TargetWhileTargeted, UseAfterRelease, ReleaseWhileSuspended, ReleaseBelowFirstValue}
 use Rattle.gcd_plan.specs.declared.numbers.Blk.{Blk}
 use Rattle.gcd_plan.specs.declared.numbers.Obj.{Obj}
 use Rattle.gcd_plan.specs.declared.numbers.Run.{Run}
@@ -75,22 +77,22 @@ second_of (Some o) = o.0 ∷ []
 
 -- what may be wrong with the act beside a name that is released: each code with its test, the lowest first
 abbrev pub act_misuses_at : MachineView → Act → List (ℕ × Bool)
-act_misuses_at m (Resume o) = (1, is_over_resumed_at m.holds o.0) ∷ []
-act_misuses_at m (Leave g) = (2, entered_at m.groups g.0 == 0) ∷ []
+act_misuses_at m (Resume o) = (code_of OverResume, is_over_resumed_at m.holds o.0) ∷ []
+act_misuses_at m (Leave g) = (code_of UnbalancedLeave, entered_at m.groups g.0 == 0) ∷ []
 act_misuses_at m (Target o t) =
-    (3, would_cycle_at m.tree o.0 t.0)
-    ∷ (4, not (starts_active m.plan o.0) && is_active_at m.holds o.0)
-    ∷ (5, starts_active m.plan o.0 && has_child_at m.tree o.0)
+    (code_of TargetCycle, would_cycle_at m.tree o.0 t.0)
+    ∷ (code_of TargetAfterActivation, not (starts_active m.plan o.0) && is_active_at m.holds o.0)
+    ∷ (code_of TargetWhileTargeted, starts_active m.plan o.0 && has_child_at m.tree o.0)
     ∷ []
 act_misuses_at m (Release o) =
-    (7, refs_at m o.0 == 1 && is_held_node_at m o.0)
-    ∷ (8, refs_at m o.0 == 1 && is_below_first_at m o.0)
+    (code_of ReleaseWhileSuspended, refs_at m o.0 == 1 && is_held_node_at m o.0)
+    ∷ (code_of ReleaseBelowFirstValue, refs_at m o.0 == 1 && is_below_first_at m o.0)
     ∷ []
 act_misuses_at m _ = []
 
 -- the code of the misuse, if the act is one now
 abbrev pub misuse_by : MachineView → Act → Option ℕ
-misuse_by m act = first_code ((6, list_any (is_released_at m) (named act)) ∷ act_misuses_at m act)
+misuse_by m act = first_code ((code_of UseAfterRelease, list_any (is_released_at m) (named act)) ∷ act_misuses_at m act)
 
 -- the code of the misuse that the run's act at i is now
 abbrev pub misuse_of_run : MachineView → Run → ℕ → Option ℕ

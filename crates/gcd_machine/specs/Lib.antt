@@ -5,3 +5,4 @@ pub mod Stands
 pub mod Steps
 pub mod Conditions
 pub mod Judged
+pub mod Chosen

@@ -5,6 +5,7 @@ ghost use Rattle.gcd_refinement.specs.MachineView.{machine_of};
 mod activity;
 mod acts;
 mod answers;
+mod choose;
 mod events;
 mod groups;
 mod judge;
@@ -13,6 +14,7 @@ mod misuse;
 mod new;
 mod nodes;
 mod plan;
+mod progress;
 mod runs;
 mod work;
 

@@ -8,13 +8,13 @@ ghost use Rattle.gcd_machine.specs.Stands.{IsShaped};
 
 use super::Registers;
 use gcd_event::Event;
-use gcd_plan::{Blk, Obj, Run, Why};
+use gcd_plan::{Blk, MAX_ACTS, MAX_TIME, MAX_VALUE, MAX_WORKERS, Obj, Run, Why};
 
 // Whether it is a worker's number.
-fn is_worker(worker: u8) -> bool
+pub fn is_worker(worker: u8) -> bool
     ensures { result ≡ is_worker worker }
 {
-    worker < 64
+    u32::from(worker) < MAX_WORKERS
 }
 
 impl Registers {
@@ -47,15 +47,15 @@ impl Registers {
             Event::Start { worker, blk } => is_worker(worker) && self.has_block(blk),
             Event::Act { worker, run, index } => is_worker(worker)
                 && self.has_run(run)
-                && index <= 65_534,
+                && index < MAX_ACTS,
             Event::Wake { worker, blk } => is_worker(worker) && self.has_block(blk),
             Event::End { worker, blk } => is_worker(worker) && self.has_block(blk),
             Event::Deliver { worker, src } => is_worker(worker) && self.has_source(src),
             Event::DeliverEnd { worker, src } => is_worker(worker) && self.has_source(src),
-            Event::Tick { at } => 1 <= at && at <= 86_400_000,
+            Event::Tick { at } => 1 <= at && at <= MAX_TIME,
             Event::Ready { src, bytes } => self.has_feed(src)
                 && 1 <= bytes
-                && bytes <= 2_147_483_647,
+                && bytes <= MAX_VALUE,
             Event::FeedEnd { src } => self.has_feed(src),
             Event::Misuse {
                 worker,
@@ -64,7 +64,7 @@ impl Registers {
                 code,
             } => is_worker(worker)
                 && self.has_run(run)
-                && index <= 65_534
+                && index < MAX_ACTS
                 && 1 <= code
                 && code <= 8,
             Event::Halt => true,

@@ -1,24 +1,10 @@
 // What the plan has: its blocks, runs and sources, and the kinds of its objects.
 ghost use Rattle.std.specs.Prelude.{◌≡◌, ◌<◌, length};
-ghost use Rattle.gcd_plan.specs.Kinds.{is_node, is_node_kind, is_read_kind, is_source};
+ghost use Rattle.gcd_plan.specs.Kinds.{is_node, is_source};
 ghost use Rattle.gcd_history.specs.Permitted.{has_block, is_feed, is_run_of};
 
 use super::Registers;
-use gcd_plan::{Blk, Kind, Obj, Run};
-
-// Whether it is a queue or a source.
-fn is_node_of(kind: Kind) -> bool
-    ensures { result ≡ is_node_kind kind }
-{
-    matches!(kind, Kind::Serial | Kind::Concurrent) || kind.is_source()
-}
-
-// Whether it is a read source.
-fn is_read_of(kind: Kind) -> bool
-    ensures { result ≡ is_read_kind kind }
-{
-    matches!(kind, Kind::Read)
-}
+use gcd_plan::{Blk, Obj, Run};
 
 impl Registers {
     /// Whether the plan has the block.
@@ -39,7 +25,7 @@ impl Registers {
     pub fn has_feed(&self, src: Obj) -> bool
         ensures { result ≡ is_feed self.now.plan src.0 }
     {
-        src.0 < self.plan.objects() && is_read_of(self.plan.kind(src))
+        src.0 < self.plan.objects() && self.plan.kind(src).is_read()
     }
 
     /// Whether the run is of a block or of a source of the plan.
@@ -57,6 +43,6 @@ impl Registers {
         requires { o.0 < length self.now.plan.objects }
         ensures { result ≡ is_node self.now.plan o.0 }
     {
-        is_node_of(self.plan.kind(o))
+        self.plan.kind(o).is_node()
     }
 }

@@ -9,7 +9,7 @@ ghost use Rattle.gcd_machine.specs.Judged.{act_misuses_at, is_below_first_at, is
 ghost use Rattle.gcd_machine.specs.Stands.{IsShaped};
 
 use super::Registers;
-use gcd_plan::{Act, Kind, Obj, Run};
+use gcd_plan::{Act, MisuseCode, Obj, Run};
 
 // The objects that the act names: one, and of some acts another.
 fn named(act: Act) -> (Obj, Option<Obj>)
@@ -47,7 +47,7 @@ impl Registers {
         ensures { result ≡ misuse_by self.now act }
     {
         if self.names_released(act) {
-            Some(6)
+            Some(MisuseCode::UseAfterRelease.code())
         } else {
             self.act_misuse(act)
         }
@@ -110,7 +110,7 @@ impl Registers {
         if self.holds.may_resume(o) {
             None
         } else {
-            Some(1)
+            Some(MisuseCode::OverResume.code())
         }
     }
 
@@ -121,7 +121,7 @@ impl Registers {
         ensures { result ≡ first_code (act_misuses_at self.now (Act.Leave g)) }
     {
         if self.groups.entered(g) == 0 {
-            Some(2)
+            Some(MisuseCode::UnbalancedLeave.code())
         } else {
             None
         }
@@ -135,15 +135,15 @@ impl Registers {
         ensures { result ≡ first_code (act_misuses_at self.now (Act.Target o t)) }
     {
         if self.tree.would_cycle(o, t) {
-            Some(3)
+            Some(MisuseCode::TargetCycle.code())
         } else if self.plan.starts_active(o) {
             if self.tree.has_child(o) {
-                Some(5)
+                Some(MisuseCode::TargetWhileTargeted.code())
             } else {
                 None
             }
         } else if self.holds.is_active(o) {
-            Some(4)
+            Some(MisuseCode::TargetAfterActivation.code())
         } else {
             None
         }
@@ -159,9 +159,9 @@ impl Registers {
         if self.refs.refs(o) != 1 {
             None
         } else if self.is_held_node(o) {
-            Some(7)
+            Some(MisuseCode::ReleaseWhileSuspended.code())
         } else if self.is_below_first(o) {
-            Some(8)
+            Some(MisuseCode::ReleaseBelowFirstValue.code())
         } else {
             None
         }
@@ -188,9 +188,6 @@ impl Registers {
         requires object { o.0 < length self.now.plan.objects }
         ensures { result ≡ is_below_first_at self.now o.0 }
     {
-        match self.plan.kind(o) {
-            Kind::Semaphore(first) => self.semas.value(o) < i64::from(first),
-            _ => false,
-        }
+        self.plan.kind(o).is_semaphore() && self.semas.is_below_first(o)
     }
 }

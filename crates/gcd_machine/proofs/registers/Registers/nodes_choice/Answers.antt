@@ -1,0 +1,30 @@
+use Rattle.std.proofs.Common.{◌≡◌, ◌+◌, ◌-◌, ◌<◌, ◌≤◌, None, ap, sym, ◌∙◌, arith}
+use Rattle.std.specs.Option.{option_or}
+use Rattle.gcd_refinement.specs.MachineView.{busy_at}
+use Rattle.gcd_machine.specs.Chosen.{nodes_at}
+use Rattle.gcd_machine.proofs.Nodes.{found_within, nodes_step}
+use Rattle.gcd_machine.proofs.registers.Registers.nodes_choice.Goals as goal
+
+pub returns-in-Some-node_choice : goal.returns-in-Some-node_choice
+returns-in-Some-node_choice c =
+    let m = c.args.self.now in
+    let w = c.args.worker in
+    let o = c.in-Some.o in
+    let rest = nodes_at m w (o + 1) (c.args.end - (o + 1)) in
+    let found = sym c.next_busy_below.ensures ∙ c.in-Some.is in
+    let here = sym c.node_choice.ensures ∙ c.in-Some-node_choice.is in
+    sym (sym c.loop-o.invariant.same ∙ (nodes_step m w c.loop-o.n c.args.end o c.loop-o.invariant.order found ∙ ap (λ v. option_or v rest) here))
+
+pub loop-o-preserved : goal.loop-o-preserved
+loop-o-preserved c =
+    let m = c.args.self.now in
+    let w = c.args.worker in
+    let o = c.in-Some.o in
+    let rest = nodes_at m w (o + 1) (c.args.end - (o + 1)) in
+    let found = sym c.next_busy_below.ensures ∙ c.in-Some.is in
+    let here = sym c.node_choice.ensures ∙ c.in_default-node_choice.is in
+    let within = found_within (busy_at m) c.loop-o.n (c.args.end - c.loop-o.n) o found in
+    record {
+      order = omega (arith, within.to);
+      same = sym (nodes_step m w c.loop-o.n c.args.end o c.loop-o.invariant.order found ∙ ap (λ v. option_or v rest) here) ∙ c.loop-o.invariant.same;
+    }

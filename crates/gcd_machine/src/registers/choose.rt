@@ -1,0 +1,224 @@
+// What a worker records next.
+ghost use Rattle.std.specs.Prelude.{◌≡◌, ◌+◌, ◌-◌, ◌<◌, ◌≤◌, ◌^◌, None, find, length, true};
+ghost use Rattle.std.specs.List.{range_with_len};
+ghost use Rattle.std.specs.Option.{option_map_or};
+ghost use Rattle.gcd_plan.specs.Validity.{is_act};
+ghost use Rattle.gcd_history.specs.Permitted.{is_run_of};
+ghost use Rattle.gcd_refinement.specs.MachineView.{busy_at};
+ghost use Rattle.gcd_machine.specs.Chosen.{act_event_at, all_nodes_at, choice_by, deliver_at, idle_choice_at, main_at, next_set, node_at, nodes_at, own_event_at, start_at, wake_at};
+ghost use Rattle.gcd_machine.specs.Judged.{first_waiting_at};
+ghost use Rattle.gcd_machine.specs.Stands.{IsShaped};
+
+use super::Registers;
+use super::judge::is_worker;
+use gcd_event::Event;
+use gcd_plan::{Act, Blk, Obj, Run};
+
+// The least number from this one on whose flag is set.
+#[tactic(auto, using(crate::proofs::Nodes::next_here, crate::proofs::Nodes::next_later, crate::proofs::Nodes::next_past))]
+fn next_set(flags: &[bool], from: u32) -> Option<u32>
+    requires { length flags.now < 2 ^ 32 }
+    ensures { result ≡ next_set flags.now from }
+{
+    for i in from as usize..flags.len() {
+        if flags[i] {
+            return Some(i as u32);
+        }
+    }
+    None
+}
+
+impl Registers {
+    /// What the worker records next: of its own run, or a wake, the start of `main`, or of the objects from this number on,
+    /// wrapping round, a start or a delivery.
+    pub fn choice(&self, worker: u8, from: u32) -> Option<Event>
+        requires { IsShaped self.now }
+        ensures { result ≡ choice_by self.now worker from }
+    {
+        if self.is_over() || !is_worker(worker) {
+            return None;
+        }
+        match self.own(worker) {
+            Some(run) => Some(self.own_event(worker, run)),
+            None => self.idle_choice(worker, from),
+        }
+    }
+
+    // The next event of the run, which the worker has.
+    fn own_event(&self, worker: u8, run: Run) -> Event
+        requires shape { IsShaped self.now }
+        requires run { is_run_of self.now.plan run ≡ true }
+        ensures { result ≡ own_event_at self.now worker run }
+    {
+        match self.next_act(run) {
+            Some(act) => self.act_event(worker, run, act),
+            None => match run {
+                Run::Block(blk) => Event::End { worker, blk },
+                Run::Source(src) => Event::DeliverEnd { worker, src },
+            },
+        }
+    }
+
+    // The run's next act, as an act or as a misuse.
+    fn act_event(&self, worker: u8, run: Run, act: Act) -> Event
+        requires shape { IsShaped self.now }
+        requires run { is_run_of self.now.plan run ≡ true }
+        requires act { is_act self.now.plan act ≡ true }
+        ensures { result ≡ act_event_at self.now worker run act }
+    {
+        let index = self.done(run);
+        match self.misuse(act) {
+            Some(code) => Event::Misuse {
+                worker,
+                run,
+                index,
+                code,
+            },
+            None => Event::Act { worker, run, index },
+        }
+    }
+
+    // What a worker without a run records next.
+    fn idle_choice(&self, worker: u8, from: u32) -> Option<Event>
+        requires { IsShaped self.now }
+        ensures { result ≡ idle_choice_at self.now worker from }
+    {
+        if let Some(e) = self.wake_choice(worker) {
+            return Some(e);
+        }
+        if let Some(e) = self.main_choice(worker) {
+            return Some(e);
+        }
+        self.all_nodes_choice(worker, from.min(self.plan.objects()))
+    }
+
+    // The parked block with the least number that may wake.
+    fn next_due_block(&self) -> Option<u32>
+        requires { IsShaped self.now }
+        ensures { result ≡ next_set self.now.due 0 }
+    {
+        next_set(&self.due, 0)
+    }
+
+    // The wake of that block.
+    fn wake_choice(&self, worker: u8) -> Option<Event>
+        requires { IsShaped self.now }
+        ensures { result ≡ wake_at self.now worker }
+    {
+        match self.next_due_block() {
+            Some(b) => Some(Event::Wake {
+                worker,
+                blk: Blk(b),
+            }),
+            None => None,
+        }
+    }
+
+    // The start of `main`, until it has come.
+    fn main_choice(&self, worker: u8) -> Option<Event>
+        requires { IsShaped self.now }
+        ensures { result ≡ main_at self.now worker }
+    {
+        if self.blocks[0].started {
+            None
+        } else {
+            Some(Event::Start {
+                worker,
+                blk: Blk(0),
+            })
+        }
+    }
+
+    // The first start or delivery of the objects from this number on, wrapping round.
+    fn all_nodes_choice(&self, worker: u8, first: u32) -> Option<Event>
+        requires shape { IsShaped self.now }
+        requires first { first ≤ length self.now.plan.objects }
+        ensures { result ≡ all_nodes_at self.now worker first }
+    {
+        match self.nodes_choice(worker, first, self.plan.objects()) {
+            Some(e) => Some(e),
+            None => self.nodes_choice(worker, 0, first),
+        }
+    }
+
+    // The next object from this number on that has to be looked at.
+    fn next_busy(&self, from: u32) -> Option<u32>
+        requires { IsShaped self.now }
+        ensures { result ≡ next_set self.now.busy from }
+    {
+        next_set(&self.busy, from)
+    }
+
+    // The same below `end`.
+    fn next_busy_below(&self, from: u32, end: u32) -> Option<u32>
+        requires shape { IsShaped self.now }
+        requires order { from ≤ end }
+        requires within { end ≤ length self.now.plan.objects }
+        ensures { result ≡ find (busy_at self.now) (range_with_len from (end - from)) }
+    {
+        match self.next_busy(from) {
+            Some(n) if n < end => Some(n),
+            Some(_) => None,
+            None => None,
+        }
+    }
+
+    // The first start or delivery of the objects from `from` on, below `end`.
+    #[tactic(auto, using(crate::proofs::Nodes::found_within, crate::proofs::Nodes::nodes_none))]
+    fn nodes_choice(&self, worker: u8, from: u32, end: u32) -> Option<Event>
+        requires shape { IsShaped self.now }
+        requires order { from ≤ end }
+        requires within { end ≤ length self.now.plan.objects }
+        ensures { result ≡ nodes_at self.now worker from (end - from) }
+    {
+        let mut n = from;
+        while let Some(o) = self.next_busy_below(n, end) {
+            if let Some(e) = self.node_choice(worker, Obj(o)) {
+                return Some(e);
+            }
+            n = o + 1;
+        }
+        None
+    }
+
+    // The start of the first block that waits on the object, or the source's delivery, if it may come next.
+    fn node_choice(&self, worker: u8, node: Obj) -> Option<Event>
+        requires shape { IsShaped self.now }
+        requires node { node.0 < length self.now.plan.objects }
+        ensures { result ≡ node_at self.now worker node.0 }
+    {
+        match self.start_choice(worker, node) {
+            Some(e) => Some(e),
+            None => self.deliver_choice(worker, node),
+        }
+    }
+
+    fn start_choice(&self, worker: u8, node: Obj) -> Option<Event>
+        requires shape { IsShaped self.now }
+        requires node { node.0 < length self.now.plan.objects }
+        ensures { result ≡ option_map_or (start_at self.now worker) (first_waiting_at self.now node.0) None }
+    {
+        match self.lists.first(node) {
+            Some((blk, _)) => {
+                if self.block_fault(blk).is_none() {
+                    Some(Event::Start { worker, blk })
+                } else {
+                    None
+                }
+            }
+            None => None,
+        }
+    }
+
+    fn deliver_choice(&self, worker: u8, node: Obj) -> Option<Event>
+        requires shape { IsShaped self.now }
+        requires node { node.0 < length self.now.plan.objects }
+        ensures { result ≡ deliver_at self.now worker node.0 }
+    {
+        if self.has_source(node) && self.source_fault(node).is_none() {
+            Some(Event::Deliver { worker, src: node })
+        } else {
+            None
+        }
+    }
+}

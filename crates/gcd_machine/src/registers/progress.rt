@@ -1,0 +1,47 @@
+// How far the run has come.
+ghost use Rattle.std.specs.Prelude.{◌≡◌};
+ghost use Rattle.gcd_machine.specs.Chosen.{is_quiescent_at, state_by};
+ghost use Rattle.gcd_machine.specs.Stands.{IsShaped};
+
+use super::Registers;
+use gcd_history::State;
+
+impl Registers {
+    /// Whether nothing but a halt can come any more, and the run is not over.
+    pub fn is_quiescent(&self) -> bool
+        requires { IsShaped self.now }
+        ensures { result ≡ is_quiescent_at self.now }
+    {
+        if self.is_over() {
+            return false;
+        }
+        if self.running > 0 {
+            return false;
+        }
+        if self.feeds > 0 {
+            return false;
+        }
+        if self.timers.next_due().is_some() {
+            return false;
+        }
+        self.choice(0, 0).is_none()
+    }
+
+    /// How far the run has come; where nothing can come any more, and no block is left, it is drained, and else stuck.
+    pub fn state(&self) -> State
+        requires { IsShaped self.now }
+        ensures { result ≡ state_by self.now }
+    {
+        if self.misused {
+            State::Misused
+        } else if self.halted {
+            State::Halted
+        } else if !self.is_quiescent() {
+            State::Live
+        } else if self.left == 0 {
+            State::Drained
+        } else {
+            State::Stuck
+        }
+    }
+}
