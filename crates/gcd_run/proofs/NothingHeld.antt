@@ -45,7 +45,7 @@ hold_none plan (e ∷ past) o first =
     of_act plan (λ act. hold_after o act (hold plan past o)) (hold plan past o) (act_of plan e) (submits_of plan e first) refl (λ q c. refl)
     ∙ hold_none plan past o first
 
-none_counted : {X : Type 0} (p : X → Bool) (xs : List X) → ((x : X) → p x ≡ false) → count_by p xs ≡ 0
+pub none_counted : {X : Type 0} (p : X → Bool) (xs : List X) → ((x : X) → p x ≡ false) → count_by p xs ≡ 0
 none_counted p [] fails = refl
 none_counted p (x ∷ xs) fails =
     let here : ◌≡◌ {A = ℕ} (cond (p x) 1 0) 0 = ap (λ b. cond b 1 0) (fails x) in
@@ -97,7 +97,7 @@ all_free plan past o first within =
 
 -- ## Chains
 
--- where all targets are root, the nodes from n on are n and root
+-- where each target is root, what fails at n and at root fails at each node from n on
 none_on_way : (p : ℕ → Bool) (next : ℕ → ℕ) (bound n : ℕ) → ((k : ℕ) → next k ≡ 0) → p 0 ≡ false → p n ≡ false → list_any p (chain_by next bound n) ≡ false
 none_on_way p next zero n root off here = refl
 none_on_way p next (suc bound) n root off here =
@@ -107,7 +107,7 @@ none_on_way p next (suc bound) n root off here =
       | false ↦ none_on_way p next bound (next n) root off (ap p (root n) ∙ off)
     ]
 
--- what is about an object of the plan, and root, is free
+-- nothing is held from an object to root
 pub held_none : (plan : PlanView) (past : List Event) (q : ℕ) → IsFirstPlan plan → q < length plan.objects → is_held (knowledge plan past) (chain plan past q) ≡ false
 unfolding knowledge
 held_none plan past q first within =

@@ -1,9 +1,8 @@
--- What a plan of the first forms has: root, serial queues on it, and acts that submit blocks to them.
+-- What a plan of the first forms has: root, serial queues on it, and acts that submit plain blocks.
 use Rattle.std.proofs.Common.{◌≡◌, ℕ, zero, suc, ◌<◌, ◌≤◌, ◌==◌, ◌⊎◌, inl, inr, Bool, true, false, ◌&&◌, List, [], ◌∷◌, length, Option, Some, None, refl, ap, sym, ◌∙◌, subst, arith, codes, ⊎_elim}
 use Rattle.std.specs.List.{slice_get, list_all}
 use Rattle.std.specs.Option.{option_map, option_map_or, option_and_then, is_none}
 use Rattle.std.proofs.lemmas.Bool.{and_parts, eqb-true}
-use Rattle.std.proofs.lemmas.Option.{slice_get_within}
 use Rattle.std.proofs.lemmas.List.{nil_from_length}
 use Rattle.gcd_plan.specs.PlanView.{PlanView, ObjView, first_target, starts_active, cancel_block, acts_of}
 use Rattle.gcd_plan.specs.Kinds.{has_kind, is_queue}
@@ -50,8 +49,8 @@ pub record IsQueueView (v : ObjView) : Type 0 where
 abbrev pub ObjectCases : PlanView → ℕ → Type 0
 ObjectCases plan o =
     (slice_get plan.objects o ≡ None)
-    ⊎ (((o ≡ 0) × (slice_get plan.objects o ≡ Some root_view))
-    ⊎ ((v : ObjView) × (1 ≤ o) × (o < length plan.objects) × (slice_get plan.objects o ≡ Some v) × IsQueueView v))
+    ⊎ ((slice_get plan.objects o ≡ Some root_view)
+    ⊎ ((v : ObjView) × (slice_get plan.objects o ≡ Some v) × IsQueueView v))
 
 serial_kind : (k : Kind) → is_serial_kind k ≡ true → k ≡ Serial
 serial_kind Serial h = refl
@@ -80,14 +79,14 @@ queue_view plan v plain object =
     }
 
 pub object_cases : (plan : PlanView) (o : ℕ) → IsFirstPlan plan → ObjectCases plan o
-object_cases plan zero first = inr (inl (refl, first.valid.root))
+object_cases plan zero first = inr (inl first.valid.root)
 object_cases plan (suc k) first =
     elim (slice_get plan.objects (suc k)) as (λ s. slice_get plan.objects (suc k) ≡ s → ObjectCases plan (suc k)) [
       | None ↦ λ e. inl e
       | Some v ↦ λ e.
           let plain = list_all_get is_plain_queue (after_root plan.objects) k v first.forms.queues (sym (after plan.objects k) ∙ e) in
           let object = list_all_get (is_object plan) plan.objects (suc k) v first.valid.objects e in
-          inr (inr (v, omega arith, slice_get_within plan.objects (suc k) v e, e, queue_view plan v plain object))
+          inr (inr (v, e, queue_view plan v plain object))
     ] refl
 
 -- a kind that is neither that of root nor of the queues is nobody's
@@ -96,20 +95,20 @@ no_such_kind test plan o first c s =
     let over : Option ObjView → Bool = λ v. option_map_or test (option_map (λ obj. obj.kind) v) false in
     ⊎_elim
     (λ none. ap over none)
-    (⊎_elim (λ root. ap over root.1 ∙ c) (λ queue. ap over queue.3 ∙ (ap test queue.4.kind ∙ s)))
+    (⊎_elim (λ root. ap over root ∙ c) (λ queue. ap over queue.1 ∙ (ap test queue.2.kind ∙ s)))
     (object_cases plan o first)
 
 pub all_on_root : (plan : PlanView) (o : ℕ) → IsFirstPlan plan → first_target plan o ≡ 0
 all_on_root plan o first =
     let over : Option ObjView → ℕ = λ v. option_map_or (λ obj. obj.target.0) v 0 in
-    ⊎_elim (λ none. ap over none) (⊎_elim (λ root. ap over root.1) (λ queue. ap over queue.3 ∙ queue.4.target)) (object_cases plan o first)
+    ⊎_elim (λ none. ap over none) (⊎_elim (λ root. ap over root) (λ queue. ap over queue.1 ∙ queue.2.target)) (object_cases plan o first)
 
 pub all_active : (plan : PlanView) (o : ℕ) → IsFirstPlan plan → o < length plan.objects → starts_active plan o ≡ true
 all_active plan o first within =
     let over : Option ObjView → Bool = λ v. option_map_or (λ obj. obj.active) v false in
     ⊎_elim
     (λ none. absurd (let n = slice_get_past_none plan.objects o none in omega arith))
-    (⊎_elim (λ root. ap over root.1) (λ queue. ap over queue.3 ∙ queue.4.active))
+    (⊎_elim (λ root. ap over root) (λ queue. ap over queue.1 ∙ queue.2.active))
     (object_cases plan o first)
   where
     slice_get_past_none : {X : Type 0} (xs : List X) (k : ℕ) → slice_get xs k ≡ None → length xs ≤ k
@@ -120,12 +119,12 @@ all_active plan o first within =
 pub no_handlers : (plan : PlanView) (s : Obj) → IsFirstPlan plan → acts_of plan (Source s) ≡ []
 no_handlers plan s first =
     let over : Option ObjView → List Act = λ v. option_map_or (λ obj. obj.handler) v [] in
-    ⊎_elim (λ none. ap over none) (⊎_elim (λ root. ap over root.1) (λ queue. ap over queue.3 ∙ queue.4.handler)) (object_cases plan s.0 first)
+    ⊎_elim (λ none. ap over none) (⊎_elim (λ root. ap over root) (λ queue. ap over queue.1 ∙ queue.2.handler)) (object_cases plan s.0 first)
 
 pub no_cancel_blocks : (plan : PlanView) (s : ℕ) → IsFirstPlan plan → cancel_block plan s ≡ None
 no_cancel_blocks plan s first =
     let over : Option ObjView → Option Blk = λ v. option_and_then (λ obj. obj.cancel) v in
-    ⊎_elim (λ none. ap over none) (⊎_elim (λ root. ap over root.1) (λ queue. ap over queue.3 ∙ queue.4.cancel)) (object_cases plan s first)
+    ⊎_elim (λ none. ap over none) (⊎_elim (λ root. ap over root) (λ queue. ap over queue.1 ∙ queue.2.cancel)) (object_cases plan s first)
 
 -- ## Acts
 

@@ -27,7 +27,7 @@ use Rattle.gcd_history.proofs.StartedOnce.{started_once, ended_once}
 use Rattle.gcd_history.proofs.SubmittedOnce.{submitted_once}
 use Rattle.gcd_history.proofs.SubmittedOnNodes.{act_fits}
 use Rattle.gcd_run.proofs.QueuesOnRoot.{IsFirstPlan, submits_at, some_blocks}
-use Rattle.gcd_run.proofs.NothingHeld.{submitted_more, is_first_event, only_first}
+use Rattle.gcd_run.proofs.NothingHeld.{none_counted, submitted_more, is_first_event, only_first}
 
 -- ## Counts by number
 
@@ -44,16 +44,10 @@ count_either r p q (x ∷ xs) is =
     let one = one_of (r x) (p x) (q x) (is x) in
     omega (arith, count_by-cons r x xs, count_by-cons p x xs, count_by-cons q x xs, one, count_either r p q xs is)
 
-none_below : {X : Type 0} (p : X → Bool) (xs : List X) → ((x : X) → p x ≡ false) → count_by p xs ≤ 0
-none_below p [] fails = omega arith
-none_below p (x ∷ xs) fails =
-    let here = ap (λ v. cond {A = ℕ} v 1 0) (fails x) in
-    omega (arith, count_by-cons p x xs, here, none_below p xs fails)
-
 -- where each number is met at most once, there are at most n below n
 few_below : {X : Type 0} (at below : ℕ → X → Bool) (xs : List X) (n : ℕ) → ((x : X) → below 0 x ≡ false)
     → ((k : ℕ) (x : X) → below (suc k) x ≡ (below k x || at k x)) → ((k : ℕ) → count_by (at k) xs ≤ 1) → count_by (below n) xs ≤ n
-few_below at below xs zero none more once = none_below (below 0) xs none
+few_below at below xs zero none more once = let nothing = none_counted (below 0) xs none in omega (arith, nothing)
 few_below at below xs (suc n) none more once =
     let step = count_either (below (suc n)) (below n) (at n) xs (more n) in
     omega (arith, step, once n, few_below at below xs n none more once)

@@ -1,5 +1,5 @@
 -- A run of a plan of the first forms by worker 0 alone: where it has no choice, the run has drained.
-use Rattle.std.proofs.Common.{◌≡◌, ℕ, ◌+◌, ◌<◌, ◌≤◌, ◌==◌, nat_lt, Bool, true, false, not, ◌&&◌, ◌||◌, cond, List, [], ◌∷◌, ◌++◌, length, reverse, Option, None, Some, is_some, is_none, find, refl, ap, sym, ◌∙◌, subst, arith, ⊎_elim, eq-eqb, ne_eqb}
+use Rattle.std.proofs.Common.{◌≡◌, ℕ, ◌==◌, Bool, true, false, not, ◌&&◌, ◌||◌, cond, List, [], ◌∷◌, length, reverse, Option, None, Some, is_some, is_none, find, refl, ap, sym, ◌∙◌, subst, arith, ⊎_elim, eq-eqb, ne_eqb}
 use Rattle.std.specs.List.{list_any, list_all, count_by}
 use Rattle.std.specs.Option.{option_map_or}
 use Rattle.std.proofs.lemmas.Bool.{and_parts, and_from, both_ways, cases_lt, cases_Bool, lt-ltb, eqb-true, not-true, or_left, or_parts}
@@ -17,11 +17,11 @@ use Rattle.gcd_plan.specs.declared.why.Why.TheVariants.{Over, NoSuch, Busy, Unre
 use Rattle.gcd_event.specs.declared.event.Event.{Event}
 use Rattle.gcd_event.specs.declared.event.Event.TheVariants.{Start, Wake, End, Deliver, DeliverEnd}
 use Rattle.gcd_history.specs.declared.submission.Submission.{Submission}
-use Rattle.gcd_history.specs.Runs.{same_run, opens, open_runs, is_open, last_worker, starts, ends, is_started, is_ended}
+use Rattle.gcd_history.specs.Runs.{same_run, opens, open_runs, is_open, last_worker, is_started, is_ended}
 use Rattle.gcd_history.specs.Submitted.{submitted, submission_of}
 use Rattle.gcd_history.specs.Tree.{chain, is_open_on, is_open_beneath, chain_of_run, is_run_on}
 use Rattle.gcd_plan.specs.Chains.{is_in}
-use Rattle.gcd_history.specs.Parked.{running, is_busy, has_run, parked_by}
+use Rattle.gcd_history.specs.Parked.{is_busy, has_run, parked_by}
 use Rattle.gcd_history.specs.Permitted.{is_halted as is_halted_after, is_worker, has_block, is_ready, is_known, is_on, waits_on, first_waiting, is_behind, is_fenced, is_barrier_open, is_barrier_on, knowledge, node_reasons, waiting_reasons, reasons, why, IsLawful as IsLawfulAfter}
 use Rattle.gcd_history.specs.Choice.{choice, is_work, worker_of, all_ended as all_ended_after, IsQuiescent as IsQuiescentAfter}
 use Rattle.gcd_history.specs.History.{IsLawful, choice_of}

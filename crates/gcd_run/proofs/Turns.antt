@@ -1,7 +1,7 @@
 -- What a turn keeps: the results, and that the run goes on.
 use Rattle.std.proofs.Common.{◌≡◌, ◌≢◌, ◌<◌, ◌≤◌, ◌∙◌, ◌==◌, ◌||◌, ◌⊎◌, ℕ, Bool, true, false, if◌then◌else◌, List, [], ◌∷◌, ◌++◌, length, Option, Some, None, refl, ap, sym, subst, arith, ⊎_elim, eq-eqb}
 use Rattle.std.specs.Prelude.{slice_get, slice_set, replicate, reverse, take}
-use Rattle.std.proofs.lemmas.Bool.{ne_eqb, ltb-true, cases_eq, cases_lt, and_parts, false≢true}
+use Rattle.std.proofs.lemmas.Bool.{ne_eqb, ltb-true, cases_eq, cases_lt, and_parts}
 use Rattle.std.proofs.lemmas.List.{length-set, get_or-set_same, get_or-set_other, length-replicate, get_or-replicate, length_push, take-append-le, take_at}
 use Rattle.std.proofs.lemmas.Option.{slice_get-get_or}
 use Rattle.gcd_history.specs.Choice.{is_work, worker_of}

@@ -1,4 +1,4 @@
-use Rattle.std.proofs.Common.{◌∙◌, map, arith, refl}
+use Rattle.std.proofs.Common.{◌∙◌, map, refl}
 use Rattle.gcd_machine.proofs.Shown.{lawful_stands}
 use Rattle.gcd_run.proofs.Turns.{follows_none, follows_more, all_by_none, all_by_push, not_halted_yet, no_results, goes_on, end_fits, drained_at_end, over_of_drained}
 use Rattle.gcd_run.proofs.turn.run_plan.Goals as goal
