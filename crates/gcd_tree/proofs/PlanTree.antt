@@ -18,8 +18,8 @@ use Rattle.gcd_plan.specs.Chains.{chain_by, is_in}
 use Rattle.gcd_tree.specs.TreeView.{TreeView, tree_of, target_at, request_at, is_moving_at, open_on_at, is_node_at, walk_next}
 use Rattle.gcd_tree.specs.IsTree.{IsTree}
 use Rattle.gcd_plan.proofs.Walks.{chain_agree}
-use Rattle.gcd_tree.proofs.Kept.{beneath-le-all}
-use Rattle.gcd_tree.proofs.Runs.{Keeps}
+use Rattle.gcd_tree.proofs.TreeChanges.{beneath-le-all}
+use Rattle.gcd_tree.proofs.Runs.{IsCountedTree}
 
 -- ---- the lists by object
 
@@ -171,8 +171,8 @@ IsTree-tree_of plan valid =
     }
 
 -- the counts before the first event are 0
-tree_of_keeps : (plan : PlanView) → IsPlan plan → Keeps (tree_of plan) (replicate (length plan.objects) 0)
-tree_of_keeps plan valid =
+counted_first : (plan : PlanView) → IsPlan plan → IsCountedTree (tree_of plan) (replicate (length plan.objects) 0)
+counted_first plan valid =
     let tree = IsTree-tree_of plan valid in (
       tree,
       record {
@@ -183,9 +183,9 @@ tree_of_keeps plan valid =
       },
     )
 
-pub kept_as : (plan : PlanView) → IsPlan plan → (view : TreeView) (counts : List ℕ)
+pub counted_as : (plan : PlanView) → IsPlan plan → (view : TreeView) (counts : List ℕ)
     → view.targets ≡ (tree_of plan).targets → view.requests ≡ (tree_of plan).requests → view.open_on ≡ (tree_of plan).open_on
-    → view.nodes ≡ (tree_of plan).nodes → counts ≡ replicate (length plan.objects) 0 → Keeps view counts
-kept_as plan valid view counts targets requests open_on nodes zero_counts =
+    → view.nodes ≡ (tree_of plan).nodes → counts ≡ replicate (length plan.objects) 0 → IsCountedTree view counts
+counted_as plan valid view counts targets requests open_on nodes zero_counts =
     let same : view ≡ tree_of plan = λ i. record { targets = targets i; requests = requests i; open_on = open_on i; nodes = nodes i } in
-    subst (λ v. Keeps v counts) (sym same) (subst (Keeps (tree_of plan)) (sym zero_counts) (tree_of_keeps plan valid))
+    subst (λ v. IsCountedTree v counts) (sym same) (subst (IsCountedTree (tree_of plan)) (sym zero_counts) (counted_first plan valid))
