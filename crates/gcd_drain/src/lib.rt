@@ -36,7 +36,6 @@
 
 mod drains;
 mod free;
-mod kinds;
 mod marks;
 mod shut;
 
