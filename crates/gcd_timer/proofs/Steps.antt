@@ -7,7 +7,8 @@ use Rattle.std.proofs.Math.Nat.{zero-div, zero-mod}
 use Rattle.std.proofs.lemmas.Nat.{div-add-mod', div-mul-add, mod-mul-add, mod_below}
 use Rattle.gcd_timer.specs.Intervals.{IsSpaced, falls_on, is_due_in, due_after, due_up_to}
 use Rattle.gcd_timer.specs.declared.due_times.DueTimes.{DueTimes}
-use Rattle.gcd_timer.proofs.Numbers.{find_none, find_first, counted}
+use Rattle.gcd_bits.proofs.Ranges.{find_none, find_first}
+use Rattle.gcd_timer.proofs.Numbers.{counted}
 
 -- one number more: the quotient goes up where nothing is left over
 quotient_more : (d e : ℕ) → 0 < e → (d + 1) / e ≡ d / e + cond ((d + 1) % e == 0) 1 0
@@ -92,7 +93,7 @@ pub none_found : (times : DueTimes) (moment next n : ℕ) → next ≡ due_after
 none_found times moment next n is ok past =
     let found = next_at times moment next is ok in
     find_none (is_due_in times) (moment + 1) n
-    (λ t low.
+    (λ t low high.
     elim (cases_lt t next) [
       | inl before ↦ and_left _ _ (found.least t (omega arith) before)
       | inr from ↦ and_right _ _ (lt-leb t times.last (omega arith))

@@ -22,7 +22,8 @@ use Rattle.gcd_timer.specs.Intervals.{is_due_in, last_due, due_times_of, earlier
 use Rattle.gcd_plan.specs.Kinds.{is_timer_kind}
 use Rattle.gcd_timer.specs.Listed.{AreListed, is_timer_in, obj_of, timers_below, due_times_at, next_due_of, next_due_among}
 use Rattle.gcd_timer.specs.declared.due_times.DueTimes.{DueTimes}
-use Rattle.gcd_timer.proofs.Numbers.{find_none, find_either}
+use Rattle.gcd_bits.proofs.Ranges.{find_none}
+use Rattle.gcd_timer.proofs.Numbers.{find_either}
 
 -- no later than `until` and the cancellation
 within : (until t : ℕ) (c : Option ℕ) → (nat_le t until && option_map_or (λ end. nat_le t end) c true) ≡ nat_le t (last_due until c)
@@ -56,7 +57,7 @@ due_some : (view : TimersView) (s : ℕ) (times : DueTimes) → due_times_at vie
 due_some view s times some = fun_ext (λ t. due_by_times view s t ∙ ap (λ o. option_map_or (λ b. is_due_in b t) o false) some)
 
 pub next_none : (view : TimersView) (s : ℕ) → due_times_at view s ≡ None → next_due_of view s ≡ None
-next_none view s none = find_none (is_due_at view s) (view.moment + 1) (view.until - view.moment) (λ t low. due_none view s t none)
+next_none view s none = find_none (is_due_at view s) (view.moment + 1) (view.until - view.moment) (λ t low high. due_none view s t none)
 
 pub next_some : (view : TimersView) (s : ℕ) (times : DueTimes) → due_times_at view s ≡ Some times
     → next_due_of view s ≡ find (is_due_in times) (range_with_len (view.moment + 1) (view.until - view.moment))
@@ -112,7 +113,7 @@ next_of_all view =
     let from = view.moment + 1 in
     let n = view.until - view.moment in
     let timers = timers_below view.kinds (length view.kinds) in
-    let none = find_none (λ t. false) from n (λ t low. refl) in
+    let none = find_none (λ t. false) from n (λ t low high. refl) in
     ap (λ next. fold (λ next s. earlier next (next_due_of view s.0)) next timers) (sym none)
     ∙ joined view (λ t. false) from n timers
     ∙ ap (λ f. find f (range_with_len from n)) (fun_ext (λ t. any_timer view t))
