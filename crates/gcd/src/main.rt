@@ -1,6 +1,11 @@
 //! The program: the words of the command line, the real files and standard output, and the status with which it ends.
 //!
 //! `gcd run SCRIPT` runs a script; what it does and answers is `gcd_run::gcd_main`.
+//!
+//! The helpers that touch the system promise nothing: no contract says what the words of a command line are, what its files
+//! hold, or with which status a program ends. So `words_of` and `status` have no clauses, and of the look-up beside the
+//! script only the counts and lengths are promised. What is proved is that the texts handed to `gcd_main` are the words that
+//! were read (`texts`); the rest is tried by the stored run.
 #![tactic(auto)]
 
 ghost use Rattle.std.specs.Prelude.{◌≡◌, map, string_bytes, IfOk};
@@ -9,7 +14,7 @@ mod script_shelf;
 
 use crate::script_shelf::ScriptShelf;
 use gcd_outer::StdoutSink;
-use gcd_run::gcd_main;
+use gcd_run::{Status, gcd_main};
 use std::alloc::{AllocError, Global};
 use std::process::ExitCode;
 use std::rt::{Env, Files};
@@ -36,14 +41,14 @@ fn texts<'a>(alloc: Global, words: &'a [String]) -> Result<Vec<&'a str>, AllocEr
 }
 
 fn status<R: Files + Print + Env + AllocGlobal>(rt: &R) -> u8 {
-    // Words that are no text are none, as an unknown command is.
+    // Words that are no text name no command.
     let words = match words_of(rt) {
         Ok(words) => words,
-        Err(error) if error.kind() == io::ErrorKind::OutOfMemory => return 7,
+        Err(error) if error.kind() == io::ErrorKind::OutOfMemory => return Status::NoMemory.code(),
         Err(_) => Vec::new(rt.alloc()),
     };
     let Ok(texts) = texts(rt.alloc(), &words) else {
-        return 7;
+        return Status::NoMemory.code();
     };
     let script = texts.get(1).copied().unwrap_or("");
     let mut shelf = ScriptShelf::new(rt, rt.alloc(), script);

@@ -1,5 +1,7 @@
 pub mod Texts
 pub mod Loading
-pub mod StatusLemmas
+pub mod Statuses
+pub mod RunsEnd
+pub mod CallsEnd
 pub mod Reports
 pub mod Turns

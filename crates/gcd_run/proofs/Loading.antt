@@ -1,12 +1,14 @@
--- What one load saw of a shelf, said of all loads of a call.
-use Rattle.std.proofs.Common.{◌≡◌, ◌≤◌, ◌<◌, ◌∙◌, ℕ, zero, suc, List, [], ◌∷◌, ◌++◌, ◌+◌, length, map, take, get_or, Vec, Global, Option, Some, option_map, slice_get, refl, ap, sym, subst, inl, inr, arith}
+-- What one load saw of a shelf, said of all loads of a call; and how many loads were made.
+use Rattle.std.proofs.Common.{◌≡◌, ◌≤◌, ◌<◌, ◌∙◌, ℕ, zero, suc, List, [], ◌∷◌, ◌++◌, ◌+◌, length, map, take, get_or, Vec, Global, Option, Some, option_map, slice_get, refl, ap, sym, subst, inl, inr, arith, zero-add}
+use Rattle.std.specs.Prelude.{Result, Ok, Err, OnErr}
 use Rattle.std.specs.String.{string_bytes}
-use Rattle.std.proofs.lemmas.List.{take_more, take-map, map-append}
-use Rattle.std.proofs.lemmas.Option.{slice_get-map, slice_get-get_or}
+use Rattle.std.proofs.lemmas.List.{take_more, take-map, map-append, length-map}
+use Rattle.std.proofs.lemmas.Option.{slice_get-map, slice_get-get_or, slice_get_within}
+use Rattle.gcd_plan.specs.Limits.{max_file_bytes}
 use Rattle.gcd_plan.specs.declared.parts.FilePart.{FilePart}
 use Rattle.gcd_plan.specs.PlanView.{PlanView, FileView, file_view}
-use Rattle.gcd_outer.specs.Outside.{Bytes, ShelfSeen, IsUnread, IsLonger}
-use Rattle.gcd_run.specs.Loads.{IsLoaded, AreLoaded, IsNextFile, StopsUnread, StopsLonger, file_limit}
+use Rattle.gcd_outer.specs.Outside.{Bytes, ShelfSeen, IsUnread, IsLonger, next_count}
+use Rattle.gcd_run.specs.Loads.{IsLoaded, AreLoaded, IsNextFile, StopsUnread, StopsLonger, MadeLoads, count_after}
 use Rattle.gcd_run.specs.End.{End}
 use Rattle.gcd_run.specs.Ends.{PlanEnds}
 use Rattle.gcd_run.specs.Ends.PlanEnds.{file_unread, file_longer, ran}
@@ -30,12 +32,12 @@ pub are_loaded_same : (s t : ShelfSeen) → SameShelf s t → (files : List File
     → AreLoaded s files contents → AreLoaded t files contents
 are_loaded_same s t same [] [] loaded = tt
 are_loaded_same s t same (file ∷ files) (bytes ∷ contents) loaded =
-    (loaded_same s t same file.path file_limit bytes loaded.0, are_loaded_same s t same files contents loaded.1)
+    (loaded_same s t same file.path max_file_bytes bytes loaded.0, are_loaded_same s t same files contents loaded.1)
 are_loaded_same s t same [] (bytes ∷ contents) loaded = loaded
 are_loaded_same s t same (file ∷ files) [] loaded = loaded
 
 pub are_loaded_push : (s : ShelfSeen) (files : List FileView) (contents : List Bytes) (file : FileView) (bytes : Bytes)
-    → AreLoaded s files contents → IsLoaded s file.path file_limit bytes
+    → AreLoaded s files contents → IsLoaded s file.path max_file_bytes bytes
     → AreLoaded s (files ++ file ∷ []) (contents ++ bytes ∷ [])
 are_loaded_push s [] [] file bytes loaded one = (one, tt)
 are_loaded_push s (f ∷ files) (c ∷ contents) file bytes loaded one =
@@ -61,7 +63,7 @@ longer_same s t same name most longer tells =
 pub loaded_more : (s : ShelfSeen) (files : List FilePart) (i : ℕ) (item : FilePart) (contents after : List (Vec ℕ Global)) (bytes : Vec ℕ Global)
     → i < length files → item ≡ get_or files i item → after ≡ contents ++ bytes ∷ []
     → AreLoaded s (map file_view (take i files)) (map (λ c. c.items) contents)
-    → IsLoaded s (string_bytes item.path) file_limit bytes.items
+    → IsLoaded s (string_bytes item.path) max_file_bytes bytes.items
     → AreLoaded s (map file_view (take (i + 1) files)) (map (λ c. c.items) after)
 loaded_more s files i item contents after bytes within is more loaded one =
     let front : take (i + 1) files ≡ take i files ++ item ∷ [] =
@@ -82,11 +84,11 @@ next_file s files i item contents within is loaded = record {
 
 -- a file among those that were loaded was loaded
 pub loaded_at : (s : ShelfSeen) (files : List FileView) (contents : List Bytes) (f : ℕ) (file : FileView) → AreLoaded s files contents
-    → slice_get files f ≡ Some file → (bytes : Bytes) × IsLoaded s file.path file_limit bytes
+    → slice_get files f ≡ Some file → (bytes : Bytes) × IsLoaded s file.path max_file_bytes bytes
 loaded_at s [] [] f file loaded at = absurd cc
 loaded_at s (one ∷ files) (bytes ∷ contents) zero file loaded at =
     let same : one ≡ file = cc in
-    (bytes, subst (λ (x : FileView). IsLoaded s x.path file_limit bytes) same loaded.0)
+    (bytes, subst (λ (x : FileView). IsLoaded s x.path max_file_bytes bytes) same loaded.0)
 loaded_at s (one ∷ files) (bytes ∷ contents) (suc f) file loaded at = loaded_at s files contents f file loaded.1 at
 loaded_at s [] (bytes ∷ contents) f file loaded at = absurd loaded
 loaded_at s (one ∷ files) [] f file loaded at = absurd loaded
@@ -99,7 +101,7 @@ slice_get_before (file ∷ files) (suc f) (suc g) before = slice_get_before file
 
 -- a file before the next was loaded
 pub loaded_before : (s : ShelfSeen) (files : List FileView) (g : ℕ) (next : FileView) → IsNextFile s files g next → (f : ℕ) (file : FileView)
-    → f < g → slice_get files f ≡ Some file → (bytes : Bytes) × IsLoaded s file.path file_limit bytes
+    → f < g → slice_get files f ≡ Some file → (bytes : Bytes) × IsLoaded s file.path max_file_bytes bytes
 loaded_before s files g next is f file before at =
     loaded_at s (take g files) is.contents f file is.before (slice_get_before files f g before ∙ at)
 
@@ -119,24 +121,71 @@ module _ (s t : ShelfSeen) (same : SameShelf s t) (before : t.faults_before ≤ 
     next = next.next;
   }
 
-  unread_since : (files : List FileView) → StopsUnread s files → StopsUnread t files
-  unread_since files stops = record {
-    f = stops.f;
+  unread_since : (files : List FileView) (f : ℕ) → StopsUnread s files f → StopsUnread t files f
+  unread_since files f stops = record {
     file = stops.file;
-    next = next_since files stops.f stops.file stops.next;
+    next = next_since files f stops.file stops.next;
     unread = unread_same s t same before after stops.file.path stops.unread;
   }
 
-  longer_since : (files : List FileView) (line : ℕ) → StopsLonger s files line → StopsLonger t files line
-  longer_since files line stops = record {
-    f = stops.f;
+  longer_since : (files : List FileView) (f line : ℕ) → StopsLonger s files f line → StopsLonger t files f line
+  longer_since files f line stops = record {
     file = stops.file;
-    next = next_since files stops.f stops.file stops.next;
-    longer = longer_same s t same stops.file.path file_limit stops.longer;
+    next = next_since files f stops.file stops.next;
+    longer = longer_same s t same stops.file.path max_file_bytes stops.longer;
     line_is = stops.line_is;
   }
 
-  pub plan_ends_since : (plan : PlanView) (end : End) → PlanEnds s plan end → PlanEnds t plan end
-  plan_ends_since plan end (file_unread stops is) = file_unread (unread_since plan.files stops) is
-  plan_ends_since plan end (file_longer line stops is) = file_longer line (longer_since plan.files line stops) is
-  plan_ends_since plan end (ran contents loaded has) = ran contents (are_loaded_same s t same plan.files contents loaded) has
+  pub plan_ends_since : (plan : PlanView) (loads : ℕ) (end : End) → PlanEnds s plan loads end → PlanEnds t plan loads end
+  plan_ends_since plan loads end (file_unread f stops count is) = file_unread f (unread_since plan.files f stops) count is
+  plan_ends_since plan loads end (file_longer f line stops count is) =
+      file_longer f line (longer_since plan.files f line stops) count is
+  plan_ends_since plan loads end (ran contents loaded count has) =
+      ran contents (are_loaded_same s t same plan.files contents loaded) count has
+
+-- ## Counts of loads
+
+-- one load more
+pub count_more : (n count : ℕ) → next_count (count_after n count) ≡ count_after (n + 1) count
+count_more n count = let e : suc n ≡ n + 1 = omega arith in ap (λ k. count_after k count) e
+
+-- loads after loads
+pub count_sum : (m n count : ℕ) → count_after m (count_after n count) ≡ count_after (m + n) count
+count_sum zero n count = ap (λ k. count_after k count) (sym (zero-add n))
+count_sum (suc m) n count =
+    let e : suc (m + n) ≡ suc m + n = omega arith in
+    ap next_count (count_sum m n count) ∙ ap (λ k. count_after k count) e
+
+next_few : (count : ℕ) → next_count count ≤ count + 1
+next_few count = omega arith
+
+-- a count goes up by no more than the loads
+pub count_few : (n count : ℕ) → count_after n count ≤ count + n
+count_few zero count = omega arith
+count_few (suc n) count = let few = count_few n count in let one = next_few (count_after n count) in omega arith
+
+-- the first load of a call, and the loads after it
+pub made_later : (first later whole : ShelfSeen) → whole.tells ≡ first.tells → whole.tells ≡ later.tells
+    → whole.loads_before ≡ first.loads_before → first.loads_after ≡ later.loads_before → later.loads_after ≡ whole.loads_after
+    → (n : ℕ) → MadeLoads first 1 → MadeLoads later n → MadeLoads whole (n + 1)
+made_later first later whole own same before between after n one more tells =
+    sym after
+    ∙ more (sym same ∙ tells)
+    ∙ ap (count_after n) (sym between ∙ one (sym own ∙ tells) ∙ ap (count_after 1) (sym before))
+    ∙ count_sum n 1 whole.loads_before
+
+-- one load for each file so far, and one more
+pub at_most : (i : ℕ) (files : List FilePart) → i < length files → i + 1 ≤ length (map file_view files)
+at_most i files within = omega (arith, length-map files file_view, within)
+
+-- a file that is next is among the files
+pub unread_within : (shelf : ShelfSeen) (files : List FileView) (f : ℕ) → StopsUnread shelf files f → f + 1 ≤ length files
+unread_within shelf files f stops = omega (arith, slice_get_within files f stops.file stops.next.next)
+
+pub longer_within : (shelf : ShelfSeen) (files : List FileView) (f line : ℕ) → StopsLonger shelf files f line → f + 1 ≤ length files
+longer_within shelf files f line stops = omega (arith, slice_get_within files f stops.file stops.next.next)
+
+-- where something holds anyway, it holds at each error
+pub on_any_err : {T E Q : Type 0} (r : Result T E) → Q → OnErr r Q
+on_any_err (Ok x) holds = tt
+on_any_err (Err e) holds = holds

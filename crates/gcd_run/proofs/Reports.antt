@@ -12,6 +12,7 @@ use Rattle.gcd_forms.specs.FirstForms.{IsOfFirstForms, is_plain_queue, is_serial
 use Rattle.gcd_plan.specs.declared.kind.Kind.{Kind}
 use Rattle.gcd_plan.specs.declared.kind.Kind.TheVariants.{Serial, Concurrent, Group, Semaphore, Add, Or, Timer, Read}
 use Rattle.gcd_plan.specs.declared.work.Work.{Work}
+use Rattle.gcd_plan.proofs.Mapped.{flat_map_none}
 use Rattle.gcd_event.specs.declared.event.Event.{Event}
 use Rattle.gcd_history.specs.declared.state.State.TheVariants.{Drained}
 use Rattle.gcd_history.specs.History.{is_ended}
@@ -28,10 +29,6 @@ flat_range_agree f g a zero same = refl
 flat_range_agree f g a (suc n) same =
     ap (λ line. line ++ flat_map f (range_with_len (a + 1) n)) (same a (omega arith) (omega arith))
     ∙ ap (λ lines. g a ++ lines) (flat_range_agree f g (a + 1) n (λ b low high. same b (omega arith) (omega arith)))
-
-flat_map_none : {A : Type 0} (f : A → List ℕ) (xs : List A) → ((x : A) → f x ≡ []) → flat_map f xs ≡ []
-flat_map_none f [] none = refl
-flat_map_none f (x ∷ xs) none = ap (λ line. line ++ flat_map f xs) (none x) ∙ flat_map_none f xs none
 
 -- no object is a source
 serial_no_source : (kind : Kind) → is_serial_kind kind ≡ true → is_source_kind kind ≡ false
@@ -63,13 +60,13 @@ objects_no_source (o ∷ objects) (suc s) root all = plain_no_source objects s a
 pub no_source : (plan : PlanView) → IsPlan plan → IsOfFirstForms plan → (s : ℕ) → is_source plan s ≡ false
 no_source plan valid forms s = objects_no_source plan.objects s valid.root forms.queues
 
--- the line of a block, by what is kept of it
-line_kept : (name : List ℕ) (work : Option Work) (ended : Bool) (value : ℕ)
+-- the line of a block, by its result
+line_agrees : (name : List ℕ) (work : Option Work) (ended : Bool) (value : ℕ)
     → (if is_some work && ended then name ++ (codes " = " ++ (decimal value ++ line_end)) else [])
     ≡ line_by name work (Some (if ended then Some value else None))
-line_kept name None ended value = refl
-line_kept name (Some work) true value = refl
-line_kept name (Some work) false value = refl
+line_agrees name None ended value = refl
+line_agrees name (Some work) true value = refl
+line_agrees name (Some work) false value = refl
 
 pub report_drained : (plan : PlanView) (files : List Bytes) (h : List Event) (results : List (Option ℕ)) → IsPlan plan → IsOfFirstForms plan
     → AreResults plan files h results
@@ -83,7 +80,7 @@ report_drained plan files h results valid forms are =
     flat_range_agree (shown_line plan results) (result_line plan value h) 0 (length plan.blocks)
     (λ b low high.
     ap (line_by (name_of_blk plan b) (work_of plan b)) (are.values b (omega arith))
-    ∙ sym (line_kept (name_of_blk plan b) (work_of plan b) (is_ended h b) (value b))) in
+    ∙ sym (line_agrees (name_of_blk plan b) (work_of plan b) (is_ended h b) (value b))) in
     let sources : flat_map (source_line plan h) objects ≡ [] =
     flat_map_none (source_line plan h) objects (λ s. rw (no_source plan valid forms s) refl) in
     rw sources (ap (λ text. text ++ codes "drained\n") lines)

@@ -1,12 +1,13 @@
 -- What a turn keeps: the results, and that the run goes on.
 use Rattle.std.proofs.Common.{◌≡◌, ◌≢◌, ◌<◌, ◌≤◌, ◌∙◌, ◌==◌, ◌||◌, ◌⊎◌, ℕ, Bool, true, false, if◌then◌else◌, List, [], ◌∷◌, ◌++◌, length, Option, Some, None, refl, ap, sym, subst, arith, ⊎_elim, eq-eqb}
-use Rattle.std.specs.Prelude.{slice_get, slice_set, replicate, reverse}
-use Rattle.std.proofs.lemmas.Bool.{ne_eqb, ltb-true, cases_eq, and_parts, false≢true}
-use Rattle.std.proofs.lemmas.List.{length-set, get_or-set_same, get_or-set_other, length-replicate, get_or-replicate}
+use Rattle.std.specs.Prelude.{slice_get, slice_set, replicate, reverse, take}
+use Rattle.std.proofs.lemmas.Bool.{ne_eqb, ltb-true, cases_eq, cases_lt, and_parts, false≢true}
+use Rattle.std.proofs.lemmas.List.{length-set, get_or-set_same, get_or-set_other, length-replicate, get_or-replicate, length_push, take-append-le, take_at}
 use Rattle.std.proofs.lemmas.Option.{slice_get-get_or}
 use Rattle.gcd_history.specs.Choice.{is_work, worker_of}
 use Rattle.gcd_history.specs.Ends.{ends_in_halt}
 use Rattle.gcd_history.proofs.Reasons.{allowed}
+use Rattle.gcd_plan.specs.Limits.{max_events}
 use Rattle.gcd_plan.specs.PlanView.{PlanView}
 use Rattle.gcd_plan.specs.declared.numbers.Blk.{Blk}
 use Rattle.gcd_event.specs.declared.event.Event.{Event}
@@ -15,12 +16,12 @@ use Rattle.gcd_history.specs.Runs.{ends}
 use Rattle.gcd_history.specs.History.{why, is_ended}
 use Rattle.gcd_history.specs.Values.{value_of}
 use Rattle.gcd_history.proofs.Lists.{reverse_push}
+use Rattle.gcd_plan.proofs.Places.{slice_get-append_left, slice_get-append_seam}
 use Rattle.gcd_outer.specs.Outside.{Bytes}
 use Rattle.std.proofs.lemmas.Bool.{and_from}
 use Rattle.std.proofs.lemmas.List.Folds.{list_all-append}
 use Rattle.std.proofs.lemmas.Option.{slice_get_within}
 use Rattle.std.specs.Prelude.{IfSome}
-use Rattle.gcd_plan.specs.Validity.{IsPlan, root_view}
 use Rattle.gcd_history.specs.declared.state.State.{State}
 use Rattle.gcd_history.specs.declared.state.State.TheVariants.{Drained, Stuck, Misused, Halted, Live}
 use Rattle.gcd_history.specs.History.{choice_of}
@@ -28,7 +29,7 @@ use Rattle.gcd_history.specs.Ends.{IsDrained, HasState, is_halted}
 use Rattle.gcd_history.proofs.Choices.{chosen_is}
 use Rattle.gcd_machine.specs.Workers.{is_all_by}
 use Rattle.gcd_run.specs.Ends.{IsOver}
-use Rattle.gcd_run.specs.Outcome.{AreResults, EndFits, IsNextEvent}
+use Rattle.gcd_run.specs.Outcome.{AreResults, EndFits, FollowsChoice, IsNextEvent}
 
 -- a block has ended after one more event where this ends it, or it had
 ended_push : (h : List Event) (e : Event) (b : ℕ) → is_ended (h ++ e ∷ []) b ≡ (ends b e || is_ended h b)
@@ -40,9 +41,9 @@ abbrev result_of : PlanView → List Bytes → ℕ → Bool → Option ℕ
 result_of plan files b ended = if ended then Some (value_of plan files b) else None
 
 -- an event that ends no block keeps the results
-pub results_kept : (plan : PlanView) (files : List Bytes) (h : List Event) (e : Event) (results : List (Option ℕ))
+pub results_same : (plan : PlanView) (files : List Bytes) (h : List Event) (e : Event) (results : List (Option ℕ))
     → ((b : ℕ) → ends b e ≡ false) → AreResults plan files h results → AreResults plan files (h ++ e ∷ []) results
-results_kept plan files h e results none are = record {
+results_same plan files h e results none are = record {
   count = are.count;
   values = λ b low.
       let same : is_ended (h ++ e ∷ []) b ≡ is_ended h b = ended_push h e b ∙ ap (λ v. v || is_ended h b) (none b) in
@@ -112,15 +113,38 @@ ends_none _ other b = refl
 
 -- what worker 0 chooses is next, where there is room
 pub next_of : (plan : PlanView) (h : List Event) (o : Option Event) → o ≡ choice_of plan h 0 0 → IfSome o (λ e. why plan h e ≡ None)
-    → IfSome o (λ e. worker_of e ≡ 0) → length h < 65535 → IfSome o (IsNextEvent plan h)
+    → IfSome o (λ e. worker_of e ≡ 0) → length h < max_events → IfSome o (IsNextEvent plan h)
 unfolding choice_of
 next_of plan h None chosen permitted own room = tt
 next_of plan h (Some e) chosen permitted own room = record {
+  chosen = sym chosen;
   permitted = permitted;
   by = own;
   work = (chosen_is plan (reverse h) 0 0 e (sym chosen)).work;
   room = room;
 }
+
+-- before the first event
+pub follows_none : (plan : PlanView) → FollowsChoice plan []
+follows_none plan i e at = cc
+
+-- one event more, that worker 0 chooses
+pub follows_more : (plan : PlanView) (h : List Event) (e : Event) → FollowsChoice plan h → choice_of plan h 0 0 ≡ Some e
+    → FollowsChoice plan (h ++ e ∷ [])
+follows_more plan h e before now i x at =
+    let within : i < length (h ++ e ∷ []) = slice_get_within (h ++ e ∷ []) i x at in
+    let long = length_push h e in
+    ⊎_elim
+    (λ early.
+    let there : slice_get h i ≡ Some x = sym (slice_get-append_left h (e ∷ []) i early) ∙ at in
+    let prefix : take i (h ++ e ∷ []) ≡ take i h = take-append-le i h (e ∷ []) (omega arith) in
+    ap (λ k. choice_of plan k 0 0) prefix ∙ before i x there)
+    (λ late.
+    let same : length h ≡ i = omega (arith, long) in
+    let it : Some e ≡ Some x = sym (slice_get-append_seam h e []) ∙ ap (slice_get (h ++ e ∷ [])) same ∙ at in
+    let prefix : take i (h ++ e ∷ []) ≡ h = take_at h (e ∷ []) i same in
+    ap (λ k. choice_of plan k 0 0) prefix ∙ now ∙ it)
+    (cases_lt i (length h))
 
 pub all_by_none : is_all_by 0 [] ≡ true
 unfolding is_all_by
@@ -136,13 +160,9 @@ pub no_halt_yet : ends_in_halt [] ≡ false
 unfolding ends_in_halt
 no_halt_yet = refl
 
--- a plan has an object, root
-pub has_objects : (plan : PlanView) → IsPlan plan → 0 < length plan.objects
-has_objects plan valid = slice_get_within plan.objects 0 root_view valid.root
-
 -- where nothing more is recorded the run has drained
-pub drained_at_end : (plan : PlanView) (h : List Event) (state : State) → length h < 65535 → HasState plan h state → state ≢ Stuck → state ≢ Misused
-    → ends_in_halt h ≡ false → (is_halted h ≡ false → IsDrained plan h ⊎ (65535 ≤ length h)) → state ≡ Drained
+pub drained_at_end : (plan : PlanView) (h : List Event) (state : State) → length h < max_events → HasState plan h state → state ≢ Stuck → state ≢ Misused
+    → ends_in_halt h ≡ false → (is_halted h ≡ false → IsDrained plan h ⊎ (max_events ≤ length h)) → state ≡ Drained
 drained_at_end plan h Drained short has unstuck unmisused going last = refl
 drained_at_end plan h Stuck short has unstuck unmisused going last = absurd (unstuck refl)
 drained_at_end plan h Misused short has unstuck unmisused going last = absurd (unmisused refl)

@@ -1,4 +1,5 @@
 pub mod Asked
+pub mod StatusCodes
 pub mod End
 pub mod Loads
 pub mod Ends

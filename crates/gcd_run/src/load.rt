@@ -1,18 +1,12 @@
 // Contents from the shelf.
-ghost use Rattle.std.specs.Prelude.{◌≡◌, ◌≤◌, ◌+◌, ℕ, true, length, map, MatchResult};
+ghost use Rattle.std.specs.Prelude.{◌≡◌, ◌≤◌, length, map, MatchResult, IfOk, IfErr};
 ghost use Rattle.gcd_plan.specs.PlanView.{file_view};
 ghost use Rattle.gcd_outer.specs.Outside.{shelf_seen};
-ghost use Rattle.gcd_run.specs.Loads.{IsLoaded, AreLoaded, IsStop, AreStopped, file_limit};
+ghost use Rattle.gcd_run.specs.Loads.{IsLoaded, AreLoaded, IsStop, AreStopped, MadeLoads};
 
 use gcd_outer::{LoadFault, Shelf};
-use gcd_plan::FilePart;
+use gcd_plan::{FilePart, MAX_FILE_BYTES};
 use std::alloc::{AllocError, Global};
-
-/// The most bytes that a script may have (this project's own rule).
-pub const SCRIPT_LIMIT: usize = 1_048_576;
-
-/// The most bytes that a file may have (this project's own rule).
-pub const FILE_LIMIT: usize = 16_777_216;
 
 /// Why a content was not loaded.
 #[derive(Clone, Copy, Debug, PartialEq, Eq)]
@@ -25,7 +19,7 @@ pub enum Stop {
     Memory,
 }
 
-/// Loads what stands under the name, whole.
+/// Loads what stands under the name, whole, by one load.
 pub fn load_whole<S: Shelf>(
     alloc: Global,
     shelf: &mut S,
@@ -36,7 +30,7 @@ pub fn load_whole<S: Shelf>(
         (λ stop. IsStop (shelf_seen S.tells S.content S.loads S.faults shelf.old shelf.new) name.now most stop) }
     ensures same { S.content shelf.new ≡ S.content shelf.old }
     ensures faults { S.faults shelf.old ≤ S.faults shelf.new }
-    ensures loads { S.tells ≡ true → S.loads shelf.new ≤ S.loads shelf.old + 1 }
+    ensures loads { MadeLoads (shelf_seen S.tells S.content S.loads S.faults shelf.old shelf.new) 1 }
 {
     let mut bytes = Vec::new(alloc);
     match shelf.load(name, most, &mut bytes) {
@@ -59,20 +53,20 @@ pub enum FilesStop {
     Memory,
 }
 
-/// Loads the files, in their order, up to the first that can't be loaded.
+/// Loads the files, in their order, each by one load, up to the first that can't be loaded.
 pub fn load_files<S: Shelf>(
     alloc: Global,
     shelf: &mut S,
     files: &[FilePart],
 ) -> Result<Vec<Vec<u8>>, FilesStop>
-    ensures loaded { MatchResult result (λ contents. AreLoaded (shelf_seen S.tells S.content S.loads S.faults shelf.old shelf.new) (map file_view files.now) (map (λ c. c.items) contents.items))
-        (λ stop. AreStopped (shelf_seen S.tells S.content S.loads S.faults shelf.old shelf.new) (map file_view files.now) stop) }
+    ensures loaded { IfOk result (λ contents. AreLoaded (shelf_seen S.tells S.content S.loads S.faults shelf.old shelf.new) (map file_view files.now) (map (λ c. c.items) contents.items)) }
+    ensures loads { IfOk result (λ _. MadeLoads (shelf_seen S.tells S.content S.loads S.faults shelf.old shelf.new) (length files.now)) }
+    ensures stopped { IfErr result (AreStopped (shelf_seen S.tells S.content S.loads S.faults shelf.old shelf.new) (map file_view files.now)) }
     ensures faults { S.faults shelf.old ≤ S.faults shelf.new }
-    ensures loads { S.tells ≡ true → S.loads shelf.new ≤ S.loads shelf.old + length files.now }
 {
     let mut contents = Vec::new(alloc);
     for file in files {
-        match load_whole(alloc, shelf, file.path.as_str(), FILE_LIMIT) {
+        match load_whole(alloc, shelf, file.path.as_str(), MAX_FILE_BYTES as usize) {
             Ok(bytes) => {
                 if contents.push(bytes).is_err() {
                     return Err(FilesStop::Memory);

@@ -2,6 +2,7 @@
 ghost use Rattle.std.specs.Prelude.{◌≡◌, ◌<◌, ◌≤◌, ◌⊎◌, ◌++◌, ◌∷◌, [], List, None, true, false, length, map, replicate, IfOk, IfSome};
 ghost use Rattle.gcd_forms.specs.FirstForms.{IsOfFirstForms};
 ghost use Rattle.gcd_event.specs.declared.event.Event.{Event};
+ghost use Rattle.gcd_plan.specs.Limits.{max_events};
 ghost use Rattle.gcd_plan.specs.PlanView.{PlanView};
 ghost use Rattle.gcd_history.specs.History.{IsLawful};
 ghost use Rattle.gcd_history.specs.Ends.{IsDrained, is_halted};
@@ -10,13 +11,13 @@ ghost use Rattle.gcd_machine.specs.Workers.{is_all_by};
 ghost use Rattle.gcd_history.specs.declared.state.State.TheVariants.{Drained};
 ghost use Rattle.gcd_history.specs.Values.{value_of};
 ghost use Rattle.gcd_run.specs.Ends.{IsOver};
-ghost use Rattle.gcd_run.specs.Outcome.{AreResults, EndFits, IsNextEvent};
+ghost use Rattle.gcd_run.specs.Outcome.{AreResults, EndFits, FollowsChoice, IsNextEvent};
 
 use gcd_event::Event;
 use gcd_history::State;
 use gcd_jobs::{FileJob, Job};
 use gcd_machine::Machine;
-use gcd_plan::{Blk, Plan};
+use gcd_plan::{Blk, MAX_EVENTS, Plan};
 use std::alloc::{AllocError, Global};
 
 /// What turns leave of a run.
@@ -68,9 +69,9 @@ fn next_event(machine: &Machine) -> Option<Event>
     requires { 0 < length machine.now.plan.objects }
     ensures some { (plan : PlanView) (h : List Event) → StandsFor machine.now plan h → IfSome result (IsNextEvent plan h) }
     ensures none { (plan : PlanView) (h : List Event) → StandsFor machine.now plan h → is_all_by 0 h ≡ true → is_halted h ≡ false
-        → result ≡ None → IsDrained plan h ⊎ (65535 ≤ length h) }
+        → result ≡ None → IsDrained plan h ⊎ (max_events ≤ length h) }
 {
-    if machine.is_halted() || machine.len() >= 65_535 {
+    if machine.is_halted() || machine.len() >= MAX_EVENTS {
         return None;
     }
     machine.choose(0, 0)
@@ -82,6 +83,7 @@ pub fn run_plan(alloc: Global, plan: &Plan, files: &[Vec<u8>]) -> Result<Outcome
     requires forms { IsOfFirstForms plan.now }
     requires files { length files.now ≡ length plan.now.files }
     ensures lawful { IfOk result (λ o. IsLawful plan.now o.journal.items) }
+    ensures chosen { IfOk result (λ o. FollowsChoice plan.now o.journal.items) }
     ensures over { IfOk result (λ o. IsOver plan.now o.journal.items o.state) }
     ensures drained { IfOk result (λ o. o.state ≡ Drained) }
     ensures count { IfOk result (λ o. length o.results.items ≡ length plan.now.blocks) }

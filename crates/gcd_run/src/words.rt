@@ -10,7 +10,7 @@ pub struct RunRequest<'a> {
 
 ghost use Rattle.gcd_run.specs.Requests.{asked_of};
 
-/// What the words ask for; None exactly where they are none (this project's own rule).
+/// What the words ask for; None exactly where they name no command (this project's own rule).
 #[tactic(auto, unfolding(crate::specs::Asked::request_of))]
 pub fn read_words<'a>(words: &[&'a str]) -> Option<RunRequest<'a>>
     ensures { option_map asked_of result ≡ request_of (map (λ w. w.now) words.now) }

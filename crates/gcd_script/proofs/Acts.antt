@@ -3,46 +3,29 @@ use Rattle.std.proofs.Common.{ℕ, zero, suc, ◌≡◌, ◌<◌, ◌≤◌, ◌
 use Rattle.std.specs.List.{list_all, list_any, flat_map}
 use Rattle.std.specs.Option.{option_map_or}
 use Rattle.std.specs.Str.{bytes_eq}
-use Rattle.std.proofs.lemmas.Bool.{and_parts, and_from, or_parts, eqb-true}
+use Rattle.std.proofs.lemmas.Bool.{and_parts, and_from, eqb-true}
 use Rattle.std.proofs.lemmas.List.{append-nil, length_push, length-set}
 use Rattle.std.proofs.lemmas.List.Concat.{flat_map-append}
-use Rattle.std.proofs.lemmas.List.Sums.{sum_by-cons, sum_by-set}
+use Rattle.std.proofs.lemmas.List.Sums.{sum_by-set}
 use Rattle.std.proofs.lemmas.Option.{slice_get_within, slice_get-map, get_or_from_slice_get}
 use Rattle.std.proofs.Math.Seq.{map-set_same}
 use Rattle.gcd_forms.specs.FirstForms.{IsOfFirstForms, is_first_block, is_first_act, is_first_work}
+use Rattle.gcd_plan.specs.Limits.{max_acts}
 use Rattle.gcd_plan.specs.Names.{is_name}
 use Rattle.gcd_plan.specs.PlanView.{PlanView, ObjView, BlkView}
 use Rattle.gcd_plan.specs.Validity.{IsPlan, names_of, block_of, blocks_of, submitted_blocks, act_count, is_act, is_object, is_block, is_work}
 use Rattle.gcd_plan.specs.declared.act.Act.{Act}
 use Rattle.gcd_plan.specs.declared.numbers.Blk.{Blk}
+use Rattle.gcd_plan.proofs.Sums.{count_by-flat_map, count_by-append, count_by_none}
+use Rattle.gcd_plan.proofs.Quantifiers.{list_all_get, list_all_push}
 use Rattle.gcd_script.specs.Drafts.{with_act}
 use Rattle.gcd_script.proofs.Growth.{Grows, list_all_map, object_grows, block_grows}
-use Rattle.gcd_script.proofs.Inserts.{count-append, count-cons}
-use Rattle.gcd_script.proofs.Queues.{element_passes}
-use Rattle.gcd_script.proofs.Valid.{first_block_grows, push_all}
-
--- a place of a list has an element
-pub at_place : {X : Type 0} (xs : List X) (i : ℕ) → i < length xs → (x : X) × (slice_get xs i ≡ Some x)
-at_place [] i h = absurd (omega arith)
-at_place (x ∷ xs) zero h = (x, refl)
-at_place (x ∷ xs) (suc i) h = at_place xs i (omega arith)
+use Rattle.gcd_script.proofs.Valid.{first_block_grows}
 
 set_all : {X : Type 0} (p : X → Bool) (xs : List X) (i : ℕ) (x : X) → list_all p xs ≡ true → p x ≡ true → list_all p (set xs i x) ≡ true
 set_all p [] i x all h = refl
 set_all p (z ∷ zs) zero x all h = and_from (p x) (list_all p zs) h (and_parts (p z) (list_all p zs) all).1
 set_all p (z ∷ zs) (suc i) x all h = let parts = and_parts (p z) (list_all p zs) all in and_from (p z) (list_all p (set zs i x)) parts.0 (set_all p zs i x parts.1 h)
-
--- a count over joined lists is the sum of the counts
-pub count-flat_map : {X A : Type 0} (p : A → Bool) (f : X → List A) (xs : List X) → count_by p (flat_map f xs) ≡ sum_by (λ x. count_by p (f x)) xs
-count-flat_map p f [] = refl
-count-flat_map {X} p f (x ∷ xs) =
-    count-append p (f x) (flat_map f xs) ∙ ap (λ n. count_by p (f x) + n) (count-flat_map p f xs) ∙ sym (sum_by-cons (λ (y : X). count_by p (f y)) x xs)
-
-pub count_if_any : {X : Type 0} (p : X → Bool) (xs : List X) → list_any p xs ≡ false → count_by p xs ≡ 0
-count_if_any p [] h = refl
-count_if_any p (x ∷ xs) h =
-    let parts = or_parts (p x) (list_any p xs) h in
-    count-cons p x xs ∙ ap (λ v. cond v 1 0 + count_by p xs) parts.0 ∙ omega (arith, count_if_any p xs parts.1)
 
 module _ (plan : PlanView) (valid : IsPlan plan) (forms : IsOfFirstForms plan) (b : Blk) (block : BlkView) (stands : slice_get plan.blocks b.0 ≡ Some block) (act : Act) where
   abbrev fuller : BlkView
@@ -93,15 +76,15 @@ module _ (plan : PlanView) (valid : IsPlan plan) (forms : IsOfFirstForms plan) (
       let p = λ (c : Blk). c.0 == q in
       let of_objects = flat_map (λ (o : ObjView). blocks_of o.handler ++ option_to_list o.cancel) plan.objects in
       let counted = λ (blk : BlkView). count_by p (own blk) in
-      let old_split = count-append p (flat_map own plan.blocks) of_objects in
-      let new_split = count-append p (flat_map own new.blocks) of_objects in
-      let old_sum = count-flat_map p own plan.blocks in
-      let new_sum = count-flat_map p own new.blocks in
+      let old_split = count_by-append p (flat_map own plan.blocks) of_objects in
+      let new_split = count_by-append p (flat_map own new.blocks) of_objects in
+      let old_sum = count_by-flat_map p own plan.blocks in
+      let new_sum = count_by-flat_map p own new.blocks in
       let changed = sum_by-set counted plan.blocks b.0 fuller block within in
       let before : counted (get_or plan.blocks b.0 block) ≡ counted block = ap counted old_block in
       let joined : counted fuller ≡ counted block + count_by p (submits_of act) =
       ap (count_by p) (flat_map-append submits_of block.acts (act ∷ []) ∙ ap (λ xs. flat_map submits_of block.acts ++ xs) (append-nil (submits_of act)))
-      ∙ count-append p (flat_map submits_of block.acts) (submits_of act)
+      ∙ count_by-append p (flat_map submits_of block.acts) (submits_of act)
       in
       omega arith
 
@@ -118,12 +101,12 @@ module _ (plan : PlanView) (valid : IsPlan plan) (forms : IsOfFirstForms plan) (
   own_count c submits q = ap (λ o. count_by (λ (d : Blk). d.0 == q) (option_to_list o)) submits ∙ zero-add (cond (c.0 == q) 1 0)
 
   -- where the act fits, there is room, and its block is not submitted yet
-  module _ (c : Blk) (submits : block_of act ≡ Some c) (fits : is_act plan act ≡ true) (fresh : list_any (λ (d : Blk). d.0 == c.0) (submitted_blocks plan) ≡ false) (room : act_count plan < 65535) where
+  module _ (c : Blk) (submits : block_of act ≡ Some c) (fits : is_act plan act ≡ true) (fresh : list_any (λ (d : Blk). d.0 == c.0) (submitted_blocks plan) ≡ false) (room : act_count plan < max_acts) where
     full_block : is_block new fuller ≡ true
     full_block =
-        let was = element_passes (is_block plan) plan.blocks b.0 block valid.blocks stands in
+        let was = list_all_get (is_block plan) plan.blocks b.0 block valid.blocks stands in
         let parts = and_parts (option_map_or (is_work plan) block.work true) (list_all (is_act plan) block.acts) was in
-        let acts : list_all (is_act plan) (block.acts ++ act ∷ []) ≡ true = push_all (is_act plan) block.acts act parts.1 fits in
+        let acts : list_all (is_act plan) (block.acts ++ act ∷ []) ≡ true = list_all_push (is_act plan) block.acts act parts.1 fits in
         block_grows plan new grows fuller (and_from (option_map_or (is_work plan) block.work true) (list_all (is_act plan) (block.acts ++ act ∷ [])) parts.0 acts)
 
     submitted_once : (q : ℕ) → count_by (λ (d : Blk). d.0 == q) (submitted_blocks new) ≤ 1
@@ -134,7 +117,7 @@ module _ (plan : PlanView) (valid : IsPlan plan) (forms : IsOfFirstForms plan) (
         elim (c.0 == q) as (λ v. c.0 == q ≡ v → count_by (λ (d : Blk). d.0 == q) (submits_of act) ≡ cond v 1 0 → count_by (λ (d : Blk). d.0 == q) (submitted_blocks new) ≤ 1) [
           | true ↦ λ e one.
               let same : c.0 ≡ q = eqb-true c.0 q e in
-              let none : count_by (λ (d : Blk). d.0 == q) (submitted_blocks plan) ≡ 0 = subst (λ n. count_by (λ (d : Blk). d.0 == n) (submitted_blocks plan) ≡ 0) same (count_if_any (λ (d : Blk). d.0 == c.0) (submitted_blocks plan) fresh) in
+              let none : count_by (λ (d : Blk). d.0 == q) (submitted_blocks plan) ≡ 0 = subst (λ n. count_by (λ (d : Blk). d.0 == n) (submitted_blocks plan) ≡ 0) same (count_by_none (λ (d : Blk). d.0 == c.0) (submitted_blocks plan) fresh) in
               omega arith
           | false ↦ λ e one. omega arith
         ] refl one
@@ -161,9 +144,9 @@ module _ (plan : PlanView) (valid : IsPlan plan) (forms : IsOfFirstForms plan) (
 
     pub act_first : is_first_act plan act ≡ true → IsOfFirstForms new
     act_first is_first =
-        let was = element_passes (is_first_block plan) plan.blocks b.0 block forms.blocks stands in
+        let was = list_all_get (is_first_block plan) plan.blocks b.0 block forms.blocks stands in
         let parts = and_parts (list_all (is_first_act plan) block.acts) (option_map_or is_first_work block.work true) was in
-        let full = first_block_grows plan new grows fuller (and_from (list_all (is_first_act plan) (block.acts ++ act ∷ [])) (option_map_or is_first_work block.work true) (push_all (is_first_act plan) block.acts act parts.0 is_first) parts.1) in
+        let full = first_block_grows plan new grows fuller (and_from (list_all (is_first_act plan) (block.acts ++ act ∷ [])) (option_map_or is_first_work block.work true) (list_all_push (is_first_act plan) block.acts act parts.0 is_first) parts.1) in
         record {
           queues = forms.queues;
           blocks = set_all (is_first_block new) plan.blocks b.0 fuller (list_all_map (is_first_block plan) (is_first_block new) (first_block_grows plan new grows) plan.blocks forms.blocks) full;

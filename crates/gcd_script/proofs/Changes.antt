@@ -1,4 +1,4 @@
--- How what is kept beside a plan changes with it.
+-- How the meanings of names, and the submitted blocks, change with a plan.
 use Rattle.std.proofs.Common.{ℕ, ◌≡◌, ◌+◌, Bool, true, false, ◌||◌, cond, ltb, List, [], ◌∷◌, ◌++◌, length, map, Option, Some, None, option_map, count_by, refl, sym, ap, ◌∙◌, arith}
 use Rattle.std.specs.List.{list_any}
 use Rattle.std.specs.Option.{option_or}
@@ -6,12 +6,14 @@ use Rattle.std.specs.Str.{bytes_eq}
 use Rattle.std.proofs.lemmas.Bool.{lt-ltb}
 use Rattle.std.proofs.lemmas.List.{map_push, length-map}
 use Rattle.gcd_plan.specs.PlanView.{PlanView, ObjView, BlkView, FileView}
+use Rattle.gcd_plan.proofs.Options.{option_or-none}
+use Rattle.gcd_plan.proofs.Sums.{count_by-cons}
 use Rattle.gcd_script.specs.declared.meaning.Meaning.{Meaning}
 use Rattle.gcd_script.specs.declared.meaning.Meaning.TheVariants.{File, Object, Block}
 use Rattle.gcd_script.specs.Drafts.{place_of, meaning_of, is_reserved, with_file, with_object, with_block}
-use Rattle.gcd_script.specs.Kept.{Declares}
+use Rattle.gcd_script.specs.Agreement.{Declares}
 use Rattle.gcd_script.proofs.Places.{same_bytes, bytes_same, place_push}
-use Rattle.gcd_script.proofs.Inserts.{IsFit, file_names, object_names, block_names, no_part, no_map, count-cons}
+use Rattle.gcd_script.proofs.Inserts.{IsFit, file_names, object_names, block_names, no_part, no_map}
 
 other_way : (xs ys : List ℕ) → bytes_eq xs ys ≡ false → bytes_eq ys xs ≡ false
 other_way xs ys h =
@@ -27,15 +29,11 @@ own_place name names none =
     ∙ ap (λ o. option_or o (cond (bytes_eq name name) (Some (length names)) None)) none
     ∙ ap (λ t. cond t (Some (length names)) None) (bytes_same name)
 
-or_none : {X : Type 0} (o : Option X) → option_or o None ≡ o
-or_none None = refl
-or_none (Some x) = refl
-
 other_place : (q name : List ℕ) (names : List (List ℕ)) → bytes_eq name q ≡ false → place_of q (names ++ name ∷ []) ≡ place_of q names
 other_place q name names other =
     place_push q names name
     ∙ ap (λ t. option_or (place_of q names) (cond t (Some (length names)) None)) (other_way name q other)
-    ∙ or_none (place_of q names)
+    ∙ option_or-none (place_of q names)
 
 -- what a name means among these names of files, objects and blocks
 abbrev among : (q : List ℕ) → (files objects blocks : List (List ℕ)) → Option Meaning
@@ -122,7 +120,7 @@ pub any_counts : {X : Type 0} (p : X → Bool) (xs : List X) → list_any p xs �
 any_counts p [] = refl
 any_counts p (x ∷ xs) =
     let rest = any_counts p xs in
-    let cons = count-cons p x xs in
+    let cons = count_by-cons p x xs in
     elim (p x) as (λ v. count_by p (x ∷ xs) ≡ cond v 1 0 + count_by p xs → v || list_any p xs ≡ ltb 0 (count_by p (x ∷ xs))) [
       | true ↦ λ e. sym (lt-ltb 0 (count_by p (x ∷ xs)) (omega arith))
       | false ↦ λ e. rest ∙ ap (ltb 0) (omega arith)

@@ -3,6 +3,7 @@ use Rattle.std.proofs.Common.{ℕ, ◌≡◌, ◌≤◌, ◌==◌, Bool, true, f
 use Rattle.std.specs.List.{list_all}
 use Rattle.std.specs.Option.{option_map_or}
 use Rattle.std.proofs.lemmas.Bool.{and_parts, and_from, ltb-true, lt-ltb}
+use Rattle.gcd_plan.specs.Limits.{max_value, max_file_bytes}
 use Rattle.gcd_plan.specs.PlanView.{PlanView, ObjView, BlkView, kind_of}
 use Rattle.gcd_plan.specs.Kinds.{has_kind, is_queue, is_queue_kind, is_group_kind, is_semaphore_kind, is_merge_kind, is_source_kind, is_node_kind}
 use Rattle.gcd_plan.specs.Validity.{is_submittable, is_held_object, is_act, is_handler_act, is_object, is_work, is_block, has_fields, is_kind, has_path}
@@ -75,13 +76,13 @@ module _ (old new : PlanView) (grows : Grows old new) where
   act_grows (Resume o) h = held_grows o h
   act_grows (Activate o) h = held_grows o h
   act_grows (Target o t) h = and_map (is_held_object old o) (is_queue old t.0) (is_held_object new o) (is_queue new t.0) (held_grows o) (has_kind_grows is_queue_kind t.0) h
-  act_grows (Merge s n) h = and_map (has_kind is_merge_kind old s.0) (leb n 2147483647) (has_kind is_merge_kind new s.0) (leb n 2147483647) (has_kind_grows is_merge_kind s.0) (λ k. k) h
+  act_grows (Merge s n) h = and_map (has_kind is_merge_kind old s.0) (leb n max_value) (has_kind is_merge_kind new s.0) (leb n max_value) (has_kind_grows is_merge_kind s.0) (λ k. k) h
   act_grows (Cancel s) h = has_kind_grows is_source_kind s.0 h
   act_grows (Retain o) h = referred_grows o h
   act_grows (Release o) h = referred_grows o h
 
   work_grows : (w : Work) → is_work old w ≡ true → is_work new w ≡ true
-  work_grows w = and_map (ltb w.file (length old.files)) (leb w.start 16777216 && leb w.len 16777216) (ltb w.file (length new.files)) (leb w.start 16777216 && leb w.len 16777216) (below_more w.file (length old.files) (length new.files) grows.files) (λ k. k)
+  work_grows w = and_map (ltb w.file (length old.files)) (leb w.start max_file_bytes && leb w.len max_file_bytes) (ltb w.file (length new.files)) (leb w.start max_file_bytes && leb w.len max_file_bytes) (below_more w.file (length old.files) (length new.files) grows.files) (λ k. k)
 
   target_and_rest : (t : Obj) (rest : Bool) → (is_queue old t.0 && rest) ≡ true → (is_queue new t.0 && rest) ≡ true
   target_and_rest t rest = and_map (is_queue old t.0) rest (is_queue new t.0) rest (has_kind_grows is_queue_kind t.0) (λ k. k)

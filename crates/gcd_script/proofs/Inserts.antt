@@ -5,22 +5,16 @@ use Rattle.std.specs.Option.{option_or}
 use Rattle.std.specs.Str.{bytes_eq}
 use Rattle.std.proofs.lemmas.Bool.{and_from, or_parts, not-false}
 use Rattle.std.proofs.lemmas.List.{append_assoc, append-nil, map_push}
-use Rattle.std.proofs.lemmas.List.Sums.{sum_by-cons, sum_by-append}
 use Rattle.gcd_plan.specs.Names.{is_name}
 use Rattle.gcd_plan.specs.PlanView.{PlanView, ObjView, BlkView, FileView}
 use Rattle.gcd_plan.specs.Validity.{names_of}
+use Rattle.gcd_plan.proofs.Options.{none_from_is_some}
+use Rattle.gcd_plan.proofs.Sums.{count_by-append, count_by-cons}
 use Rattle.gcd_script.specs.declared.meaning.Meaning.TheVariants.{File, Object, Block}
 use Rattle.gcd_script.specs.Drafts.{place_of, meaning_among, meaning_of, is_reserved, with_file, with_object, with_block}
 use Rattle.gcd_script.specs.Faults.{is_unfit}
 use Rattle.gcd_script.proofs.Growth.{and_map}
 use Rattle.gcd_script.proofs.Places.{same_bytes, count_none}
-
--- what an element adds to a count
-pub count-append : {X : Type 0} (p : X → Bool) (xs ys : List X) → count_by p (xs ++ ys) ≡ count_by p xs + count_by p ys
-count-append p xs ys = sum_by-append (λ x. cond (p x) 1 0) xs ys
-
-pub count-cons : {X : Type 0} (p : X → Bool) (x : X) (xs : List X) → count_by p (x ∷ xs) ≡ cond (p x) 1 0 + count_by p xs
-count-cons p x xs = sum_by-cons (λ x. cond (p x) 1 0) x xs
 
 -- the new list is the old one with y somewhere in it
 pub record Inserts {X : Type 0} (y : X) (old new : List X) : Type 0 where
@@ -39,9 +33,9 @@ list_all_insert p {y} i passes h =
 
 pub count_insert : {X : Type 0} (p : X → Bool) {y : X} {old new : List X} → Inserts y old new → count_by p new ≡ count_by p old + cond (p y) 1 0
 count_insert p {y} i =
-    let split = count-append p i.front (y ∷ i.back) in
-    let cons = count-cons p y i.back in
-    let old_split = count-append p i.front i.back in
+    let split = count_by-append p i.front (y ∷ i.back) in
+    let cons = count_by-cons p y i.back in
+    let old_split = count_by-append p i.front i.back in
     let before = ap (count_by p) i.before in
     let after = ap (count_by p) i.after in
     omega arith
@@ -100,15 +94,11 @@ pub no_map : {X Y : Type 0} (f : X → Y) (o : Option X) → option_map f o ≡ 
 no_map f None h = refl
 no_map f (Some x) h = cc
 
-none_if : {X : Type 0} (o : Option X) → is_some o ≡ false → o ≡ None
-none_if None h = refl
-none_if (Some x) h = cc
-
 pub fit_from : (plan : PlanView) (name : List ℕ) → is_unfit plan name ≡ false → IsFit plan name
 fit_from plan name h =
     let parts = or_parts (not (is_name name)) (is_reserved name || is_some (meaning_of plan name)) h in
     let others = or_parts (is_reserved name) (is_some (meaning_of plan name)) parts.1 in
-    let none = none_if (meaning_of plan name) others.1 in
+    let none = none_from_is_some (meaning_of plan name) others.1 in
     record {
       formed = not-false (is_name name) parts.0;
       free = others.0;
@@ -121,8 +111,8 @@ fit_is_new plan name fit =
     let in_files = no_part File (place_of name (file_names plan)) _ fit.unknown in
     let in_objects = no_part (λ o. Object (record { 0 = o })) (place_of name (object_names plan)) _ in_files.1 in
     let in_blocks = no_map (λ b. Block (record { 0 = b })) (place_of name (block_names plan)) in_objects.1 in
-    let outer = count-append (bytes_eq name) (file_names plan) (object_names plan ++ block_names plan) in
-    let inner = count-append (bytes_eq name) (object_names plan) (block_names plan) in
+    let outer = count_by-append (bytes_eq name) (file_names plan) (object_names plan ++ block_names plan) in
+    let inner = count_by-append (bytes_eq name) (object_names plan) (block_names plan) in
     let a = count_none name (file_names plan) in_files.0 in
     let b = count_none name (object_names plan) in_objects.0 in
     let c = count_none name (block_names plan) in_blocks in

@@ -1,5 +1,5 @@
 -- Plans of serial queues on root: their first targets lead to root.
-use Rattle.std.proofs.Common.{ℕ, zero, suc, ◌≡◌, ◌<◌, Bool, true, false, ◌&&◌, ◌||◌, cond, eqb, List, [], ◌∷◌, ◌++◌, length, Some, None, option_map, refl, ap, ◌∙◌, subst, arith}
+use Rattle.std.proofs.Common.{ℕ, zero, suc, ◌≡◌, ◌<◌, true, false, ◌&&◌, ◌||◌, cond, eqb, List, [], ◌∷◌, ◌++◌, length, Some, None, option_map, refl, ap, ◌∙◌, arith}
 use Rattle.std.specs.List.{list_all, slice_get}
 use Rattle.std.specs.Option.{option_map_or}
 use Rattle.std.proofs.lemmas.Bool.{and_parts, and_from, eqb-true, eq-eqb, ne_eqb, or_left}
@@ -9,23 +9,12 @@ use Rattle.gcd_plan.specs.Kinds.{has_kind, is_queue_kind}
 use Rattle.gcd_plan.specs.Chains.{chain_by, is_in}
 use Rattle.gcd_forms.specs.FirstForms.{is_plain_queue, is_serial_kind, after_root}
 use Rattle.gcd_plan.specs.Validity.{root_view, reaches_root}
+use Rattle.gcd_plan.proofs.Quantifiers.{list_all_get}
 
 -- the first element stays where more follow
 pub first_kept : {X : Type 0} (xs ys : List X) (x : X) → slice_get xs 0 ≡ Some x → slice_get (xs ++ ys) 0 ≡ Some x
 first_kept [] ys x h = cc
 first_kept (z ∷ zs) ys x h = h
-
--- an element that stands stays where more follow
-pub element_kept : {X : Type 0} (xs ys : List X) (i : ℕ) (x : X) → slice_get xs i ≡ Some x → slice_get (xs ++ ys) i ≡ Some x
-element_kept [] ys i x h = cc
-element_kept (z ∷ zs) ys zero x h = h
-element_kept (z ∷ zs) ys (suc i) x h = element_kept zs ys i x h
-
--- an element of a list whose elements all pass the test passes it
-pub element_passes : {X : Type 0} (p : X → Bool) (xs : List X) (i : ℕ) (x : X) → list_all p xs ≡ true → slice_get xs i ≡ Some x → p x ≡ true
-element_passes p [] i x all h = cc
-element_passes p (z ∷ zs) zero x all h = let same : z ≡ x = cc in subst (λ y. p y ≡ true) same (and_parts (p z) (list_all p zs) all).0
-element_passes p (z ∷ zs) (suc i) x all h = element_passes p zs i x (and_parts (p z) (list_all p zs) all).1 h
 
 -- one queue more
 pub queues_push : (objects : List ObjView) (object : ObjView) (root : ObjView) → slice_get objects 0 ≡ Some root → is_plain_queue object ≡ true → list_all is_plain_queue (after_root objects) ≡ true → list_all is_plain_queue (after_root (objects ++ object ∷ [])) ≡ true
@@ -39,7 +28,7 @@ none_or others o h =
     elim (slice_get others o) as (λ v. slice_get others o ≡ v → option_map_or (λ obj. obj.target.0) v 0 ≡ 0) [
       | None ↦ λ e. refl
       | Some object ↦ λ e.
-          let plain = element_passes is_plain_queue others o object h e in
+          let plain = list_all_get is_plain_queue others o object h e in
           let rest = and_parts (is_serial_kind object.kind) (eqb object.target.0 0 && object.active) plain in
           eqb-true object.target.0 0 (and_parts (eqb object.target.0 0) object.active rest.1).0
     ] refl
@@ -71,7 +60,7 @@ serial_from_plain : (others : List ObjView) (o : ℕ) → list_all is_plain_queu
 serial_from_plain others o h =
     elim (slice_get others o) as (λ v. slice_get others o ≡ v → option_map_or is_queue_kind (option_map (λ (obj : ObjView). obj.kind) v) false ≡ true → option_map_or is_serial_kind (option_map (λ (obj : ObjView). obj.kind) v) false ≡ true) [
       | None ↦ λ e k. cc
-      | Some object ↦ λ e k. (and_parts (is_serial_kind object.kind) (eqb object.target.0 0 && object.active) (element_passes is_plain_queue others o object h e)).0
+      | Some object ↦ λ e k. (and_parts (is_serial_kind object.kind) (eqb object.target.0 0 && object.active) (list_all_get is_plain_queue others o object h e)).0
     ] refl
 
 serial_in : (objects : List ObjView) (o : ℕ) → list_all is_plain_queue (after_root objects) ≡ true → 0 < o → option_map_or is_queue_kind (option_map (λ (obj : ObjView). obj.kind) (slice_get objects o)) false ≡ true → option_map_or is_serial_kind (option_map (λ (obj : ObjView). obj.kind) (slice_get objects o)) false ≡ true

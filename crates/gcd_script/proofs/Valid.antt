@@ -1,13 +1,13 @@
 -- What is declared keeps a plan valid and of the first forms.
-use Rattle.std.proofs.Common.{ℕ, ◌≡◌, ◌<◌, ◌≤◌, ◌==◌, Bool, true, false, ◌&&◌, List, [], ◌∷◌, ◌++◌, length, Option, Some, None, is_none, option_map, option_to_list, slice_get, count_by, codes, refl, sym, ap, ◌∙◌, subst, arith}
+use Rattle.std.proofs.Common.{ℕ, ◌≡◌, ◌<◌, ◌≤◌, ◌==◌, true, false, List, [], ◌∷◌, ◌++◌, length, Option, Some, None, is_none, option_map, option_to_list, slice_get, count_by, codes, refl, sym, ap, ◌∙◌, subst, arith}
 use Rattle.std.specs.List.{list_all, flat_map}
 use Rattle.std.specs.Option.{option_map_or}
 use Rattle.std.proofs.lemmas.Bool.{and_from}
 use Rattle.std.proofs.lemmas.List.{append-nil, length_push}
 use Rattle.std.proofs.lemmas.List.Concat.{flat_map-append}
-use Rattle.std.proofs.lemmas.List.Folds.{list_all-append}
 use Rattle.std.proofs.lemmas.List.Sums.{sum_by_push}
 use Rattle.gcd_forms.specs.FirstForms.{IsOfFirstForms, is_first_block, is_first_act, is_first_work, is_serial_kind}
+use Rattle.gcd_plan.specs.Limits.{max_objects, max_blocks, max_files}
 use Rattle.gcd_plan.specs.Kinds.{has_kind, is_queue_kind}
 use Rattle.gcd_plan.specs.Names.{is_name, is_path}
 use Rattle.gcd_plan.specs.PlanView.{PlanView, ObjView, BlkView, FileView}
@@ -17,21 +17,20 @@ use Rattle.gcd_plan.specs.declared.act.Act.TheVariants.{Async}
 use Rattle.gcd_plan.specs.declared.kind.Kind.{Kind}
 use Rattle.gcd_plan.specs.declared.numbers.Blk.{Blk}
 use Rattle.gcd_plan.specs.declared.work.Work.{Work}
+use Rattle.gcd_plan.proofs.Places.{slice_get_kept}
+use Rattle.gcd_plan.proofs.Quantifiers.{list_all_push}
 use Rattle.gcd_script.specs.Drafts.{new_file, serial_queue, new_block, with_file, with_object, with_block}
 use Rattle.gcd_script.proofs.Growth.{Grows, and_map, list_all_map, object_grows, block_grows, has_kind_grows}
 use Rattle.gcd_script.proofs.Inserts.{IsFit, list_all_insert, apart_insert, fit_is_new, file_inserts, object_inserts, block_inserts}
-use Rattle.gcd_script.proofs.Queues.{first_kept, element_kept, queues_push, all_reach_root, root_is_queue}
+use Rattle.gcd_script.proofs.Queues.{first_kept, queues_push, all_reach_root, root_is_queue}
 
 -- kinds stay where objects are added
 kinds_kept : (objects more : List ObjView) (o : ℕ) (kind : Kind) → option_map (λ (obj : ObjView). obj.kind) (slice_get objects o) ≡ Some kind → option_map (λ (obj : ObjView). obj.kind) (slice_get (objects ++ more) o) ≡ Some kind
 kinds_kept objects more o kind h =
     elim (slice_get objects o) as (λ v. slice_get objects o ≡ v → option_map (λ (obj : ObjView). obj.kind) v ≡ Some kind → option_map (λ (obj : ObjView). obj.kind) (slice_get (objects ++ more) o) ≡ Some kind) [
       | None ↦ λ e k. cc
-      | Some object ↦ λ e k. ap (option_map (λ (obj : ObjView). obj.kind)) (element_kept objects more o object e) ∙ k
+      | Some object ↦ λ e k. ap (option_map (λ (obj : ObjView). obj.kind)) (slice_get_kept objects more o object e) ∙ k
     ] refl h
-
-pub push_all : {X : Type 0} (p : X → Bool) (xs : List X) (x : X) → list_all p xs ≡ true → p x ≡ true → list_all p (xs ++ x ∷ []) ≡ true
-push_all p xs x all h = list_all-append p xs (x ∷ []) ∙ and_from (list_all p xs) (p x && true) all (and_from (p x) true h refl)
 
 -- first acts stay such
 first_act_grows : (old new : PlanView) → Grows old new → (act : Act) → is_first_act old act ≡ true → is_first_act new act ≡ true
@@ -72,7 +71,7 @@ module _ (plan : PlanView) (valid : IsPlan plan) (forms : IsOfFirstForms plan) w
   file_grows : (file : FileView) → Grows plan (with_file file plan)
   file_grows file = record { kinds = λ o kind h. h; objects = omega arith; blocks = omega arith; files = let more = length_push plan.files file in omega arith }
 
-  pub file_valid : (number : ℕ) (name path : List ℕ) → IsFit plan name → length plan.files < 64 → is_path path ≡ true → IsPlan (with_file (new_file number name path) plan)
+  pub file_valid : (number : ℕ) (name path : List ℕ) → IsFit plan name → length plan.files < max_files → is_path path ≡ true → IsPlan (with_file (new_file number name path) plan)
   file_valid number name path fit few is_it =
       let file = new_file number name path in
       let new = with_file file plan in
@@ -92,7 +91,7 @@ module _ (plan : PlanView) (valid : IsPlan plan) (forms : IsOfFirstForms plan) w
         names_apart = apart_insert name (names_of plan) (names_of new) inserts (fit_is_new plan name fit) valid.names_apart;
         objects = list_all_map (is_object plan) (is_object new) (object_grows plan new (file_grows file)) plan.objects valid.objects;
         blocks = list_all_map (is_block plan) (is_block new) (block_grows plan new (file_grows file)) plan.blocks valid.blocks;
-        files = push_all is_file plan.files file valid.files is_it;
+        files = list_all_push is_file plan.files file valid.files is_it;
         once = valid.once;
         targets = valid.targets;
       }
@@ -113,7 +112,7 @@ module _ (plan : PlanView) (valid : IsPlan plan) (forms : IsOfFirstForms plan) w
     files = omega arith;
   }
 
-  pub queue_valid : (name : List ℕ) → IsFit plan name → length plan.objects < 1024 → IsPlan (with_object (serial_queue name) plan)
+  pub queue_valid : (name : List ℕ) → IsFit plan name → length plan.objects < max_objects → IsPlan (with_object (serial_queue name) plan)
   queue_valid name fit few =
       let queue = serial_queue name in
       let new = with_object queue plan in
@@ -135,7 +134,7 @@ module _ (plan : PlanView) (valid : IsPlan plan) (forms : IsOfFirstForms plan) w
         until_high = valid.until_high;
         names = list_all_insert is_name inserts fit.formed valid.names;
         names_apart = apart_insert name (names_of plan) (names_of new) inserts (fit_is_new plan name fit) valid.names_apart;
-        objects = push_all (is_object new) plan.objects queue (list_all_map (is_object plan) (is_object new) (object_grows plan new grows) plan.objects valid.objects) (and_from (has_kind is_queue_kind new 0) true (root_is_queue new first) refl);
+        objects = list_all_push (is_object new) plan.objects queue (list_all_map (is_object plan) (is_object new) (object_grows plan new grows) plan.objects valid.objects) (and_from (has_kind is_queue_kind new 0) true (root_is_queue new first) refl);
         blocks = list_all_map (is_block plan) (is_block new) (block_grows plan new grows) plan.blocks valid.blocks;
         files = valid.files;
         once = λ b. subst (λ xs. count_by (λ (c : Blk). c.0 == b) xs ≤ 1) (sym (queue_submits plan name)) (valid.once b);
@@ -158,7 +157,7 @@ module _ (plan : PlanView) (valid : IsPlan plan) (forms : IsOfFirstForms plan) w
     files = omega arith;
   }
 
-  pub block_valid : (name : List ℕ) (work : Option Work) → IsFit plan name → length plan.blocks < 16385 → option_map_or (is_work plan) work true ≡ true → IsPlan (with_block (new_block name work) plan)
+  pub block_valid : (name : List ℕ) (work : Option Work) → IsFit plan name → length plan.blocks < max_blocks → option_map_or (is_work plan) work true ≡ true → IsPlan (with_block (new_block name work) plan)
   block_valid name work fit few readable =
       let block = new_block name work in
       let new = with_block block plan in
@@ -179,7 +178,7 @@ module _ (plan : PlanView) (valid : IsPlan plan) (forms : IsOfFirstForms plan) w
         names = list_all_insert is_name inserts fit.formed valid.names;
         names_apart = apart_insert name (names_of plan) (names_of new) inserts (fit_is_new plan name fit) valid.names_apart;
         objects = list_all_map (is_object plan) (is_object new) (object_grows plan new grows) plan.objects valid.objects;
-        blocks = push_all (is_block new) plan.blocks block (list_all_map (is_block plan) (is_block new) (block_grows plan new grows) plan.blocks valid.blocks) (and_from (option_map_or (is_work new) work true) true readable refl);
+        blocks = list_all_push (is_block new) plan.blocks block (list_all_map (is_block plan) (is_block new) (block_grows plan new grows) plan.blocks valid.blocks) (and_from (option_map_or (is_work new) work true) true readable refl);
         files = valid.files;
         once = λ b. subst (λ xs. count_by (λ (c : Blk). c.0 == b) xs ≤ 1) (sym (block_submits plan name work)) (valid.once b);
         targets = valid.targets;
@@ -190,6 +189,6 @@ module _ (plan : PlanView) (valid : IsPlan plan) (forms : IsOfFirstForms plan) w
       let new = with_block (new_block name work) plan in
       record {
         queues = forms.queues;
-        blocks = push_all (is_first_block new) plan.blocks (new_block name work) (list_all_map (is_first_block plan) (is_first_block new) (first_block_grows plan new (block_is_more name work)) plan.blocks forms.blocks) is_first;
+        blocks = list_all_push (is_first_block new) plan.blocks (new_block name work) (list_all_map (is_first_block plan) (is_first_block new) (first_block_grows plan new (block_is_more name work)) plan.blocks forms.blocks) is_first;
         until = forms.until;
       }

@@ -3,6 +3,7 @@ use Rattle.std.specs.Prelude.{ℕ, ◌+◌, ◌||◌, Bool, true, false, if◌th
 use Rattle.std.specs.List.{position_from}
 use Rattle.std.specs.Option.{option_map_or, option_or}
 use Rattle.std.specs.Str.{bytes_eq}
+use Rattle.gcd_plan.specs.Limits.{max_file_bytes}
 use Rattle.gcd_plan.specs.PlanView.{PlanView, ObjView, BlkView, FileView}
 use Rattle.gcd_plan.specs.Validity.{root_view}
 use Rattle.gcd_plan.specs.declared.act.Act.{Act}
@@ -64,7 +65,7 @@ new_block name work = record { name = name; acts = []; work = work }
 
 -- the work that counts the lines of a whole file
 abbrev pub line_count : ℕ → Work
-line_count file = record { how = Lines; file = file; start = 0; len = 16777216 }
+line_count file = record { how = Lines; file = file; start = 0; len = max_file_bytes }
 
 -- a file as it is declared on a line
 abbrev pub new_file : (number : ℕ) → (name path : List ℕ) → FileView

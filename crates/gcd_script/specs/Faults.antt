@@ -1,13 +1,17 @@
--- Where a script is refused, and with which code (this project's own rules).
+-- Where a script is refused, and why (this project's own rules).
 use Rattle.std.specs.Prelude.{◌≡◌, ℕ, ◌+◌, ◌==◌, nat_le, Bool, true, false, not, ◌||◌, if◌then◌else◌, List, [], ◌∷◌, length, Option, Some, None, option_map, is_none, is_some, reverse}
 use Rattle.std.specs.Option.{option_map_or, option_or}
 use Rattle.std.specs.List.{list_any}
+use Rattle.gcd_plan.specs.Limits.{max_objects, max_blocks, max_files, max_acts}
 use Rattle.gcd_plan.specs.PlanView.{PlanView}
 use Rattle.gcd_plan.specs.Kinds.{is_queue}
 use Rattle.gcd_plan.specs.Names.{is_name}
 use Rattle.gcd_plan.specs.Validity.{submitted_blocks, act_count}
 use Rattle.gcd_script.specs.declared.meaning.Meaning.{Meaning}
 use Rattle.gcd_script.specs.declared.meaning.Meaning.TheVariants.{File, Object, Block}
+use Rattle.gcd_script.specs.declared.refusal.Refusal.{Refusal}
+use Rattle.gcd_script.specs.declared.refusal.Refusal.TheVariants.{NoForm, BadName, UnknownName, OtherKind, Repeated, PastLimit, NotOneMain}
+use Rattle.gcd_script.specs.Codes.{refusal_code}
 use Rattle.gcd_script.specs.Lines.{lines_of, words_of, is_printable}
 use Rattle.gcd_script.specs.Forms.{LineForm, FileLine, QueueLine, BlockLine, MainLine, AsyncLine, form_of}
 use Rattle.gcd_script.specs.Drafts.{DraftView, meaning_of, is_reserved, draft_of}
@@ -48,74 +52,74 @@ is_submitted_block plan _ = false
 abbrev pub is_submitted : PlanView → List ℕ → Bool
 is_submitted plan name = option_map_or (is_submitted_block plan) (meaning_of plan name) false
 
--- there are 64 files
+-- there are as many files as a plan may have
 abbrev pub is_full_of_files : PlanView → Bool
-is_full_of_files plan = nat_le 64 (length plan.files)
+is_full_of_files plan = nat_le max_files (length plan.files)
 
--- there are 1,023 objects beside root
+-- there are as many objects, with root
 abbrev pub is_full_of_objects : PlanView → Bool
-is_full_of_objects plan = nat_le 1024 (length plan.objects)
+is_full_of_objects plan = nat_le max_objects (length plan.objects)
 
--- there are 16,384 blocks beside main
+-- there are as many blocks, with main
 abbrev pub is_full_of_blocks : PlanView → Bool
-is_full_of_blocks plan = nat_le 16385 (length plan.blocks)
+is_full_of_blocks plan = nat_le max_blocks (length plan.blocks)
 
--- there are 65,535 acts in all bodies together
+-- there are as many acts, in all bodies together
 abbrev pub is_full_of_acts : PlanView → Bool
-is_full_of_acts plan = nat_le 65535 (act_count plan)
+is_full_of_acts plan = nat_le max_acts (act_count plan)
 
--- what may be wrong with a line of the form: each code with its test, the lowest first
-abbrev pub codes_of : DraftView → LineForm → List (ℕ × Bool)
-codes_of draft (FileLine name path) =
-    (2, is_unfit draft.plan name)
-    ∷ (8, is_full_of_files draft.plan)
+-- what may be wrong with a line of the form: each refusal with its test, the lowest code first
+abbrev pub refusals_of : DraftView → LineForm → List (Refusal × Bool)
+refusals_of draft (FileLine name path) =
+    (BadName, is_unfit draft.plan name)
+    ∷ (PastLimit, is_full_of_files draft.plan)
     ∷ []
-codes_of draft (QueueLine name) =
-    (2, is_unfit draft.plan name)
-    ∷ (8, is_full_of_objects draft.plan)
+refusals_of draft (QueueLine name) =
+    (BadName, is_unfit draft.plan name)
+    ∷ (PastLimit, is_full_of_objects draft.plan)
     ∷ []
-codes_of draft (BlockLine name None) =
-    (2, is_unfit draft.plan name)
-    ∷ (8, is_full_of_blocks draft.plan)
+refusals_of draft (BlockLine name None) =
+    (BadName, is_unfit draft.plan name)
+    ∷ (PastLimit, is_full_of_blocks draft.plan)
     ∷ []
-codes_of draft (BlockLine name (Some file)) =
-    (2, is_unfit draft.plan name)
-    ∷ (3, is_unknown draft.plan file)
-    ∷ (4, is_other is_file_name draft.plan file)
-    ∷ (8, is_full_of_blocks draft.plan)
+refusals_of draft (BlockLine name (Some file)) =
+    (BadName, is_unfit draft.plan name)
+    ∷ (UnknownName, is_unknown draft.plan file)
+    ∷ (OtherKind, is_other is_file_name draft.plan file)
+    ∷ (PastLimit, is_full_of_blocks draft.plan)
     ∷ []
-codes_of draft MainLine =
-    (9, draft.has_main)
+refusals_of draft MainLine =
+    (NotOneMain, draft.has_main)
     ∷ []
-codes_of draft (AsyncLine queue block) =
-    (1, is_none draft.body)
-    ∷ (3, is_unknown draft.plan queue || is_unknown draft.plan block)
-    ∷ (4, is_other is_queue_name draft.plan queue || is_other is_block_name draft.plan block)
-    ∷ (6, is_submitted draft.plan block)
-    ∷ (8, is_full_of_acts draft.plan)
+refusals_of draft (AsyncLine queue block) =
+    (NoForm, is_none draft.body)
+    ∷ (UnknownName, is_unknown draft.plan queue || is_unknown draft.plan block)
+    ∷ (OtherKind, is_other is_queue_name draft.plan queue || is_other is_block_name draft.plan block)
+    ∷ (Repeated, is_submitted draft.plan block)
+    ∷ (PastLimit, is_full_of_acts draft.plan)
     ∷ []
 
--- the first code whose test holds
-abbrev pub first_code : List (ℕ × Bool) → Option ℕ
-first_code [] = None
-first_code (row ∷ rows) = if row.1 then Some row.0 else first_code rows
+-- the first refusal whose test holds
+abbrev pub first_refusal : List (Refusal × Bool) → Option Refusal
+first_refusal [] = None
+first_refusal (row ∷ rows) = if row.1 then Some row.0 else first_refusal rows
 
 -- what is wrong with a line after the lines that made the draft
-abbrev pub code_of : DraftView → List ℕ → Option ℕ
-code_of draft line =
+abbrev pub refusal_of : DraftView → List ℕ → Option Refusal
+refusal_of draft line =
     if is_printable line
-    then option_map_or (λ form. first_code (codes_of draft form)) (form_of (words_of line)) (Some 1)
-    else Some 1
+    then option_map_or (λ form. first_refusal (refusals_of draft form)) (form_of (words_of line)) (Some NoForm)
+    else Some NoForm
 
 -- the first line at fault of these lines, the newest first: its number, from 1, and its code
 abbrev pub first_fault : List (List ℕ) → Option (ℕ × ℕ)
 first_fault [] = None
 first_fault (line ∷ past) =
-    option_or (first_fault past) (option_map (λ code. (length past + 1, code)) (code_of (draft_of past) line))
+    option_or (first_fault past) (option_map (λ why. (length past + 1, refusal_code why)) (refusal_of (draft_of past) line))
 
 -- where all lines are right and none is `main`, the line after the last is at fault
 abbrev pub missing_main : List (List ℕ) → Option (ℕ × ℕ)
-missing_main past = if (draft_of past).has_main then None else Some (length past + 1, 9)
+missing_main past = if (draft_of past).has_main then None else Some (length past + 1, refusal_code NotOneMain)
 
 -- the first fault of a text as a script
 abbrev pub fault_of : List ℕ → Option (ℕ × ℕ)

@@ -2,8 +2,9 @@ pub use Rattle.gcd_plan.specs.PlanView
 pub mod Lines
 pub mod Forms
 pub mod Drafts
+pub mod Codes
 pub mod Faults
 pub mod Refusals
 pub mod Sound
 pub mod Views
-pub mod Kept
+pub mod Agreement

@@ -1,38 +1,12 @@
 // One thing more in the parts of a plan, and one name more that is known.
-ghost use Rattle.std.specs.Prelude.{◌≡◌, ◌<◌, length, IfOk, OnOk};
-ghost use Rattle.gcd_plan.specs.PlanView.{obj_view, blk_view, view_of};
+ghost use Rattle.std.specs.Prelude.{◌≡◌, ◌<◌, length, OnOk};
+ghost use Rattle.gcd_plan.specs.PlanView.{view_of};
 ghost use Rattle.gcd_script.specs.Drafts.{new_file, serial_queue, new_block, with_file, with_object, with_block, with_act};
 
 use crate::meaning::Meaning;
-use gcd_plan::{Act, Blk, BlkPart, FilePart, Kind, Obj, ObjPart, Parts, Work};
+use gcd_plan::{Act, Blk, BlkPart, FilePart, Kind, ObjPart, Parts, Work};
 use std::alloc::{AllocError, Global};
 use std::collections::BTreeMap;
-
-/// What is declared of a queue on `root` that is created active.
-pub fn queue_part(alloc: Global, name: &str, kind: Kind) -> Result<ObjPart, AllocError>
-    ensures { IfOk result (λ o. obj_view o ≡ record (serial_queue name.now) { kind = kind }) }
-{
-    Ok(ObjPart {
-        name: String::from_str(alloc, name)?,
-        kind,
-        target: Obj(0),
-        active: true,
-        path: String::new(alloc),
-        handler: Vec::new(alloc),
-        cancel: None,
-    })
-}
-
-/// What is declared of a block that has no act yet.
-pub fn block_part(alloc: Global, name: &str, work: Option<Work>) -> Result<BlkPart, AllocError>
-    ensures { IfOk result (λ b. blk_view b ≡ new_block name.now work) }
-{
-    Ok(BlkPart {
-        name: String::from_str(alloc, name)?,
-        acts: Vec::new(alloc),
-        work,
-    })
-}
 
 /// Adds a file.
 pub fn push_file(
@@ -56,7 +30,9 @@ pub fn push_file(
 pub fn push_queue(alloc: Global, parts: &mut Parts, name: &str) -> Result<(), AllocError>
     ensures { OnOk result (view_of parts.new ≡ with_object (serial_queue name.now) (view_of parts.old)) }
 {
-    parts.objects.push(queue_part(alloc, name, Kind::Serial)?)?;
+    parts
+        .objects
+        .push(ObjPart::new(alloc, name, Kind::Serial)?)?;
     Ok(())
 }
 
@@ -69,7 +45,9 @@ pub fn push_block(
 ) -> Result<(), AllocError>
     ensures { OnOk result (view_of parts.new ≡ with_block (new_block name.now work) (view_of parts.old)) }
 {
-    parts.blocks.push(block_part(alloc, name, work)?)?;
+    let mut block = BlkPart::new(alloc, name)?;
+    block.work = work;
+    parts.blocks.push(block)?;
     Ok(())
 }
 
@@ -82,7 +60,7 @@ pub fn push_act(parts: &mut Parts, b: Blk, act: Act) -> Result<(), AllocError>
     Ok(())
 }
 
-ghost use Rattle.gcd_script.specs.Kept.{look_up, Declares};
+ghost use Rattle.gcd_script.specs.Agreement.{look_up, Declares};
 
 /// Makes a name known.
 pub fn declare<'a>(

@@ -1,14 +1,12 @@
 // What the lines so far declare.
 ghost use Rattle.std.specs.Prelude.{◌≡◌, ◌<◌, Ok, Some, None, false, length, IfOk, OnOk};
+ghost use Rattle.gcd_plan.specs.Limits.{max_blocks, max_files, max_objects};
 ghost use Rattle.gcd_plan.specs.PlanView.{view_of};
 
-use crate::additions::{
-    block_part, declare, push_act, push_block, push_file, push_queue, queue_part,
-};
+use crate::additions::{declare, push_act, push_block, push_file, push_queue};
 use crate::form::Form;
-use crate::limits::{MOST_BLOCKS, MOST_FILES, MOST_OBJECTS};
 use crate::meaning::Meaning;
-use gcd_plan::{Act, Blk, How, Kind, Obj, Parts, WHOLE_FILE, Work};
+use gcd_plan::{Act, Blk, BlkPart, How, Kind, Obj, ObjPart, Parts, WHOLE_FILE, Work};
 use std::alloc::{AllocError, Global};
 use std::collections::BTreeMap;
 
@@ -27,20 +25,20 @@ pub struct Draft<'a> {
 impl<'a> Draft<'a> {
     ghost use Rattle.gcd_script.specs.Forms.{AsyncLine};
     ghost use Rattle.gcd_script.specs.Drafts.{empty_draft, meaning_of, number_of, new_file, serial_queue, new_block, with_file, with_object, async_of, closed, with_body, with_own_act, after};
-    ghost use Rattle.gcd_script.specs.Faults.{codes_of, first_code, is_unfit};
+    ghost use Rattle.gcd_script.specs.Faults.{refusals_of, first_refusal, is_unfit};
     ghost use Rattle.gcd_script.specs.Sound.{IsDraft};
-    ghost use Rattle.gcd_script.specs.Kept.{IsKept};
+    ghost use Rattle.gcd_script.specs.Agreement.{DraftAgrees};
     ghost use Rattle.gcd_script.specs.Views.{form_view, draft_view};
 
     /// The draft before the first line: `root` and `main` alone.
     pub fn new(alloc: Global) -> Result<Draft<'a>, AllocError>
         ensures view { IfOk result (λ d. draft_view d ≡ empty_draft) }
-        ensures kept { IfOk result IsKept }
+        ensures agrees { IfOk result DraftAgrees }
     {
         let mut objects = Vec::new(alloc);
-        objects.push(queue_part(alloc, "root", Kind::Concurrent)?)?;
+        objects.push(ObjPart::new(alloc, "root", Kind::Concurrent)?)?;
         let mut blocks = Vec::new(alloc);
-        blocks.push(block_part(alloc, "main", None)?)?;
+        blocks.push(BlkPart::new(alloc, "main")?)?;
         let mut submitted = Vec::new(alloc);
         submitted.push(false)?;
         Ok(Draft {
@@ -60,7 +58,7 @@ impl<'a> Draft<'a> {
 
     /// What a used name means; None exactly where no line declares it.
     pub fn meaning(&self, name: &str) -> Option<Meaning>
-        requires { IsKept self.now }
+        requires { DraftAgrees self.now }
         ensures { result ≡ meaning_of (view_of self.now.parts) name.now }
     {
         self.meanings.get(name).copied()
@@ -68,11 +66,11 @@ impl<'a> Draft<'a> {
 
     /// Declares what a right line of the form declares; `number` is the line's. After an error the draft is of no use.
     pub fn add(&mut self, alloc: Global, number: u32, form: &Form<'a>) -> Result<(), AllocError>
-        requires kept { IsKept self.old }
+        requires agrees { DraftAgrees self.old }
         requires sound { IsDraft (draft_view self.old) }
-        requires right { first_code (codes_of (draft_view self.old) (form_view form.now)) ≡ None }
+        requires right { first_refusal (refusals_of (draft_view self.old) (form_view form.now)) ≡ None }
         ensures view { OnOk result (draft_view self.new ≡ after number (form_view form.now) (draft_view self.old)) }
-        ensures kept { OnOk result (IsKept self.new) }
+        ensures agrees { OnOk result (DraftAgrees self.new) }
     {
         match *form {
             Form::File { name, path } => self.add_file(alloc, number, name, path),
@@ -106,11 +104,11 @@ impl<'a> Draft<'a> {
         name: &'a str,
         path: &str,
     ) -> Result<(), AllocError>
-        requires kept { IsKept self.old }
+        requires agrees { DraftAgrees self.old }
         requires unfit { is_unfit (view_of self.old.parts) name.now ≡ false }
-        requires room { length (view_of self.old.parts).files < MOST_FILES }
+        requires room { length (view_of self.old.parts).files < max_files }
         ensures view { OnOk result (draft_view self.new ≡ closed (with_file (new_file number name.now path.now) (view_of self.old.parts)) (draft_view self.old)) }
-        ensures kept { OnOk result (IsKept self.new) }
+        ensures agrees { OnOk result (DraftAgrees self.new) }
     {
         let file = self.parts.files.len() as u32;
         push_file(alloc, &mut self.parts, number, name, path)?;
@@ -120,11 +118,11 @@ impl<'a> Draft<'a> {
     }
 
     fn add_queue(&mut self, alloc: Global, name: &'a str) -> Result<(), AllocError>
-        requires kept { IsKept self.old }
+        requires agrees { DraftAgrees self.old }
         requires unfit { is_unfit (view_of self.old.parts) name.now ≡ false }
-        requires room { length (view_of self.old.parts).objects < MOST_OBJECTS }
+        requires room { length (view_of self.old.parts).objects < max_objects }
         ensures view { OnOk result (draft_view self.new ≡ closed (with_object (serial_queue name.now) (view_of self.old.parts)) (draft_view self.old)) }
-        ensures kept { OnOk result (IsKept self.new) }
+        ensures agrees { OnOk result (DraftAgrees self.new) }
     {
         let object = Obj(self.parts.objects.len() as u32);
         push_queue(alloc, &mut self.parts, name)?;
@@ -139,11 +137,11 @@ impl<'a> Draft<'a> {
         name: &'a str,
         work: Option<Work>,
     ) -> Result<(), AllocError>
-        requires kept { IsKept self.old }
+        requires agrees { DraftAgrees self.old }
         requires unfit { is_unfit (view_of self.old.parts) name.now ≡ false }
-        requires room { length (view_of self.old.parts).blocks < MOST_BLOCKS }
+        requires room { length (view_of self.old.parts).blocks < max_blocks }
         ensures view { OnOk result (draft_view self.new ≡ with_body (new_block name.now work) (draft_view self.old)) }
-        ensures kept { OnOk result (IsKept self.new) }
+        ensures agrees { OnOk result (DraftAgrees self.new) }
     {
         let block = Blk(self.parts.blocks.len() as u32);
         push_block(alloc, &mut self.parts, name, work)?;
@@ -154,11 +152,11 @@ impl<'a> Draft<'a> {
     }
 
     fn add_async(&mut self, queue: &str, block: &str) -> Result<(), AllocError>
-        requires kept { IsKept self.old }
+        requires agrees { DraftAgrees self.old }
         requires sound { IsDraft (draft_view self.old) }
-        requires right { first_code (codes_of (draft_view self.old) (AsyncLine queue.now block.now)) ≡ None }
+        requires right { first_refusal (refusals_of (draft_view self.old) (AsyncLine queue.now block.now)) ≡ None }
         ensures view { OnOk result (draft_view self.new ≡ with_own_act (async_of (view_of self.old.parts) queue.now block.now) (draft_view self.old)) }
-        ensures kept { OnOk result (IsKept self.new) }
+        ensures agrees { OnOk result (DraftAgrees self.new) }
     {
         let queue = Obj(self.number(queue));
         let block = Blk(self.number(block));
@@ -172,7 +170,7 @@ impl<'a> Draft<'a> {
 
     // The number that a used name stands for; 0 where no line declares it.
     fn number(&self, name: &str) -> u32
-        requires { IsKept self.now }
+        requires { DraftAgrees self.now }
         ensures { result ≡ number_of (view_of self.now.parts) name.now }
     {
         match self.meaning(name) {

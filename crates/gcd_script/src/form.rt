@@ -1,7 +1,7 @@
 // The forms of lines.
 ghost use Rattle.std.specs.Prelude.{◌≡◌, [], ◌∷◌, map, option_map};
 
-use crate::names::is_path;
+use gcd_plan::is_path;
 
 /// A line of one of the forms, with the words in its places.
 #[derive(Clone, Copy, Debug, PartialEq, Eq)]
@@ -72,7 +72,7 @@ impl<'a> Form<'a> {
     fn of_three(key: &'a str, a: &'a str, b: &'a str) -> Option<Form<'a>>
         ensures { option_map form_view result ≡ form_of (key.now ∷ a.now ∷ b.now ∷ []) }
     {
-        if key == "file" && is_path(b) {
+        if key == "file" && is_path(b.as_bytes()) {
             Some(Form::File { name: a, path: b })
         } else if key == "queue" && b == "serial" {
             Some(Form::Queue { name: a })

@@ -1,9 +1,10 @@
 // The plan of a script.
 ghost use Rattle.std.specs.Prelude.{◌≡◌, ◌<◌, None, length, IfOk, IfErr, OnOk};
 ghost use Rattle.gcd_forms.specs.FirstForms.{IsOfFirstForms};
+ghost use Rattle.gcd_plan.specs.Validity.{IsPlan};
 ghost use Rattle.gcd_script.specs.Drafts.{after_line};
-ghost use Rattle.gcd_script.specs.Faults.{code_of, IsScriptOf};
-ghost use Rattle.gcd_script.specs.Kept.{IsKept};
+ghost use Rattle.gcd_script.specs.Faults.{refusal_of, IsScriptOf};
+ghost use Rattle.gcd_script.specs.Agreement.{DraftAgrees};
 ghost use Rattle.gcd_script.specs.Views.{draft_view};
 ghost use Rattle.gcd_script.specs.Refusals.{IsRefusal, IsLineRefusal};
 ghost use Rattle.gcd_script.specs.Sound.{IsDraft};
@@ -12,6 +13,7 @@ use crate::draft::Draft;
 use crate::fault::ParseFault;
 use crate::form::Form;
 use crate::lines::{next_line, printable, words_of};
+use crate::refusal::Refusal;
 use gcd_plan::Plan;
 use std::alloc::Global;
 
@@ -22,28 +24,22 @@ fn take_line<'a>(
     number: u32,
     line: &'a [u8],
 ) -> Result<(), ParseFault>
-    requires kept { IsKept draft.old }
+    requires agrees { DraftAgrees draft.old }
     requires sound { IsDraft (draft_view draft.old) }
-    ensures right { OnOk result (code_of (draft_view draft.old) line.now ≡ None) }
+    ensures right { OnOk result (refusal_of (draft_view draft.old) line.now ≡ None) }
     ensures view { OnOk result (draft_view draft.new ≡ after_line number line.now (draft_view draft.old)) }
-    ensures kept { OnOk result (IsKept draft.new) }
+    ensures agrees { OnOk result (DraftAgrees draft.new) }
     ensures refused { IfErr result (IsLineRefusal (draft_view draft.old) number line.now) }
 {
     let Some(text) = printable(line) else {
-        return Err(ParseFault::Refused {
-            line: number,
-            code: 1,
-        });
+        return Err(ParseFault::refused(number, Refusal::NoForm));
     };
     let words = words_of(alloc, text)?;
     let Some(form) = Form::of_words(&words) else {
-        return Err(ParseFault::Refused {
-            line: number,
-            code: 1,
-        });
+        return Err(ParseFault::refused(number, Refusal::NoForm));
     };
-    if let Some(code) = draft.code(&form) {
-        return Err(ParseFault::Refused { line: number, code });
+    if let Some(why) = draft.refusal(&form) {
+        return Err(ParseFault::refused(number, why));
     }
     draft.add(alloc, number, &form)?;
     Ok(())
@@ -59,6 +55,7 @@ fn take_line<'a>(
 pub fn parse(alloc: Global, bytes: &[u8]) -> Result<Plan, ParseFault>
     requires { length bytes.now < u32.MAX }
     ensures script { IfOk result (IsScriptOf bytes.now) }
+    ensures valid { IfOk result IsPlan }
     ensures forms { IfOk result IsOfFirstForms }
     ensures refused { IfErr result (IsRefusal bytes.now) }
 {
@@ -71,10 +68,7 @@ pub fn parse(alloc: Global, bytes: &[u8]) -> Result<Plan, ParseFault>
         rest = more;
     }
     if !draft.has_main {
-        return Err(ParseFault::Refused {
-            line: number + 1,
-            code: 9,
-        });
+        return Err(ParseFault::refused(number + 1, Refusal::NotOneMain));
     }
     Ok(Plan::of_valid_parts(draft.into_parts()))
 }

@@ -1,9 +1,10 @@
-use Rattle.std.proofs.Common.{refl, arith, rules}
+use Rattle.std.proofs.Common.{◌∙◌, ◌+◌, map, refl, ap, arith, rules}
 use Rattle.std.proofs.lemmas.List.{take_all}
+use Rattle.gcd_plan.specs.Limits.{max_file_bytes}
 use Rattle.gcd_plan.specs.PlanView.{file_view}
-use Rattle.gcd_outer.specs.Outside.{ShelfSeen, shelf_seen}
-use Rattle.gcd_run.specs.Loads.{file_limit}
-use Rattle.gcd_run.proofs.Loading.{SameShelf, loaded_same, are_loaded_same, loaded_more, next_file, unread_same, longer_same}
+use Rattle.gcd_outer.specs.Outside.{ShelfSeen, shelf_seen, next_count}
+use Rattle.gcd_run.specs.Loads.{StopsUnread, StopsLonger}
+use Rattle.gcd_run.proofs.Loading.{SameShelf, loaded_same, are_loaded_same, loaded_more, next_file, unread_same, longer_same, count_more, at_most}
 use Rattle.gcd_run.proofs.load.load_files.Goals as goal
 
 pub loop-file-preserved : goal.loop-file-preserved
@@ -12,14 +13,15 @@ loop-file-preserved g c =
     shelf_seen g.S.Shelf.tells g.S.Shelf.content g.S.Shelf.loads g.S.Shelf.faults in
     let before = c.args.shelf.now in
     let one = loaded_same (seen c.loop-file.shelf c.load_whole.new.shelf) (seen before before)
-    (record { tells = refl; content = c.loop-file.invariant.same }) c.as_str.result.now file_limit c.in-Ok.bytes.items c.in-Ok.ensures.loaded in
+    (record { tells = refl; content = c.loop-file.invariant.same }) c.as_str.result.now max_file_bytes c.in-Ok.bytes.items c.in-Ok.ensures.loaded in
     record {
       same = search rules;
       loaded = loaded_more (seen before before) c.args.files.now c.loop-file.file-index c.file-item.result c.loop-file.contents.items
           c.push.new.self.items c.in-Ok.bytes (search rules) c.file-item.is (search rules) c.loop-file.invariant.loaded
           (rw c.as_str.ensures.value at one);
       faults = search rules;
-      loads = λ tells. omega (arith, c.loop-file.invariant.loads tells, c.load_whole.ensures.loads tells);
+      loads = λ tells. c.load_whole.ensures.loads tells ∙ ap next_count (c.loop-file.invariant.loads tells)
+          ∙ count_more c.loop-file.file-index (g.S.Shelf.loads before);
     }
 
 pub returns-clause-loaded : goal.returns-clause-loaded
@@ -30,8 +32,25 @@ returns-clause-loaded g c =
     let all = rw (take_all c.loop-file.file-index c.args.files.now (omega arith)) at c.loop-file.invariant.loaded in
     are_loaded_same (seen before before) (seen before c.loop-file.shelf) (record { tells = refl; content = refl }) _ _ all
 
-pub returns-in-Err-Unread-clause-loaded : goal.returns-in-Err-Unread-clause-loaded
-returns-in-Err-Unread-clause-loaded g c =
+pub returns-then-is_err-clause-stopped : goal.returns-then-is_err-clause-stopped
+returns-then-is_err-clause-stopped g c = record {
+  loads = c.loop-file.file-index + 1;
+  made = λ tells. c.load_whole.ensures.loads tells ∙ ap next_count (c.loop-file.invariant.loads tells)
+      ∙ count_more c.loop-file.file-index (g.S.Shelf.loads c.args.shelf.now);
+  is = at_most c.loop-file.file-index c.args.files.now (search rules);
+}
+
+pub returns-in-Err-Memory-clause-stopped : goal.returns-in-Err-Memory-clause-stopped
+returns-in-Err-Memory-clause-stopped g c =
+    record {
+      loads = c.loop-file.file-index + 1;
+      made = λ tells. c.load_whole.ensures.loads tells ∙ ap next_count (c.loop-file.invariant.loads tells)
+          ∙ count_more c.loop-file.file-index (g.S.Shelf.loads c.args.shelf.now);
+      is = at_most c.loop-file.file-index c.args.files.now (search rules);
+    }
+
+pub returns-in-Err-Unread-clause-stopped : goal.returns-in-Err-Unread-clause-stopped
+returns-in-Err-Unread-clause-stopped g c =
     let seen : g.row.S.Denot → g.row.S.Denot → ShelfSeen =
     shelf_seen g.S.Shelf.tells g.S.Shelf.content g.S.Shelf.loads g.S.Shelf.faults in
     let before = c.args.shelf.now in
@@ -39,15 +58,19 @@ returns-in-Err-Unread-clause-loaded g c =
     let whole = seen before c.load_whole.new.shelf in
     let same : SameShelf one whole = record { tells = refl; content = c.loop-file.invariant.same } in
     let loaded = are_loaded_same (seen before before) whole (record { tells = refl; content = refl }) _ _ c.loop-file.invariant.loaded in
-    record {
-      f = c.loop-file.file-index;
+    let stops : StopsUnread whole (map file_view c.args.files.now) c.loop-file.file-index = record {
       file = file_view c.file-item.result;
       next = next_file whole c.args.files.now c.loop-file.file-index c.file-item.result c.loop-file.contents.items (search rules) c.file-item.is loaded;
       unread = unread_same one whole same (omega arith) (omega arith) _ (rw (c.in-Err-Unread.field-0-is, c.as_str.ensures.value) at c.in-Err-Unread.ensures.loaded);
-    }
+    } in (
+      c.loop-file.file-index,
+      stops,
+      λ tells. c.load_whole.ensures.loads tells ∙ ap next_count (c.loop-file.invariant.loads tells)
+          ∙ count_more c.loop-file.file-index (g.S.Shelf.loads before),
+    )
 
-pub returns-in-Err-Longer-clause-loaded : goal.returns-in-Err-Longer-clause-loaded
-returns-in-Err-Longer-clause-loaded g c =
+pub returns-in-Err-Longer-clause-stopped : goal.returns-in-Err-Longer-clause-stopped
+returns-in-Err-Longer-clause-stopped g c =
     let seen : g.row.S.Denot → g.row.S.Denot → ShelfSeen =
     shelf_seen g.S.Shelf.tells g.S.Shelf.content g.S.Shelf.loads g.S.Shelf.faults in
     let before = c.args.shelf.now in
@@ -55,10 +78,14 @@ returns-in-Err-Longer-clause-loaded g c =
     let whole = seen before c.load_whole.new.shelf in
     let same : SameShelf one whole = record { tells = refl; content = c.loop-file.invariant.same } in
     let loaded = are_loaded_same (seen before before) whole (record { tells = refl; content = refl }) _ _ c.loop-file.invariant.loaded in
-    record {
-      f = c.loop-file.file-index;
+    let stops : StopsLonger whole (map file_view c.args.files.now) c.loop-file.file-index c.file-item.result.line = record {
       file = file_view c.file-item.result;
       next = next_file whole c.args.files.now c.loop-file.file-index c.file-item.result c.loop-file.contents.items (search rules) c.file-item.is loaded;
-      longer = longer_same one whole same _ file_limit (rw (c.in-Err-Longer.field-0-is, c.as_str.ensures.value) at c.in-Err-Longer.ensures.loaded);
+      longer = longer_same one whole same _ max_file_bytes (rw (c.in-Err-Longer.field-0-is, c.as_str.ensures.value) at c.in-Err-Longer.ensures.loaded);
       line_is = refl;
-    }
+    } in (
+      c.loop-file.file-index,
+      stops,
+      λ tells. c.load_whole.ensures.loads tells ∙ ap next_count (c.loop-file.invariant.loads tells)
+          ∙ count_more c.loop-file.file-index (g.S.Shelf.loads before),
+    )

@@ -1,7 +1,7 @@
-use Rattle.std.proofs.Common.{◌≡◌, ◌≤◌, ◌+◌, true, map, take}
+use Rattle.std.proofs.Common.{◌≡◌, ◌≤◌, true, map, take}
 use Rattle.gcd_plan.specs.PlanView.{file_view}
 use Rattle.gcd_outer.specs.Outside.{shelf_seen}
-use Rattle.gcd_run.specs.Loads.{AreLoaded}
+use Rattle.gcd_run.specs.Loads.{AreLoaded, count_after}
 use Rattle.gcd_run.proofs.load.load_files.Given as goal
 
 abbrev pub invariant-loop-file : goal.invariant-loop-file
@@ -12,5 +12,5 @@ invariant-loop-file g l = record {
       (map file_view (take l.file-index l.files))
       (map (λ c. c.items) l.contents.items);
   faults : g.S.Shelf.faults l.initial.shelf ≤ g.S.Shelf.faults l.shelf;
-  loads : g.S.Shelf.tells ≡ true → g.S.Shelf.loads l.shelf ≤ g.S.Shelf.loads l.initial.shelf + l.file-index;
+  loads : g.S.Shelf.tells ≡ true → g.S.Shelf.loads l.shelf ≡ count_after l.file-index (g.S.Shelf.loads l.initial.shelf);
 }

@@ -1,4 +1,4 @@
-use Rattle.gcd_run.proofs.StatusLemmas.{drains, usage_only, refuses, cant_read, is_cut_off, is_wanting, usage_always, refuses_always, lacks_always, complete}
+use Rattle.gcd_run.proofs.CallsEnd.{drains, usage_only, refuses, cant_read, is_cut_off, is_wanting, usage_always, refuses_always, lacks_always, complete, call_loads, few_loads}
 use Rattle.gcd_run.proofs.top.gcd_main.Goals as goal
 
 pub returns-clause-drained : goal.returns-clause-drained
@@ -30,3 +30,9 @@ returns-clause-unread_always g c = lacks_always _ _ _ _ c.call.ensures.ended
 
 pub returns-clause-complete : goal.returns-clause-complete
 returns-clause-complete g c = complete _ _ _ _ c.call.ensures.ended c.call.ensures.statuses
+
+pub returns-clause-loads : goal.returns-clause-loads
+returns-clause-loads g c = call_loads _ _ _ _ c.call.ensures.ended
+
+pub returns-clause-few_loads : goal.returns-clause-few_loads
+returns-clause-few_loads g c = few_loads _ _ (call_loads _ _ _ _ c.call.ensures.ended)

@@ -1,5 +1,5 @@
 use Rattle.std.proofs.Common.{map}
-use Rattle.gcd_run.proofs.Turns.{results_ended, results_kept, ends_none}
+use Rattle.gcd_run.proofs.Turns.{results_ended, results_same, ends_none}
 use Rattle.gcd_run.proofs.turn.note_end.Goals as goal
 
 pub returns-in-End-clause-results : goal.returns-in-End-clause-results
@@ -10,5 +10,5 @@ returns-in-End-clause-results c = λ h are.
 
 pub returns-in_default-clause-results : goal.returns-in_default-clause-results
 returns-in_default-clause-results c = λ h are.
-    results_kept c.args.plan.now (map (λ f. f.items) c.args.files.now) h c.args.e c.args.results.now.items
+    results_same c.args.plan.now (map (λ f. f.items) c.args.files.now) h c.args.e c.args.results.now.items
     (ends_none c.args.e c.in_default.not-End) are

@@ -1,6 +1,6 @@
 use Rattle.std.proofs.Common.{◌∙◌, map, arith, refl}
 use Rattle.gcd_machine.proofs.Shown.{lawful_stands, few_stands}
-use Rattle.gcd_run.proofs.Turns.{all_by_none, all_by_push, no_halt_yet, no_results, halts_not, end_fits, drained_at_end, over_of_drained}
+use Rattle.gcd_run.proofs.Turns.{follows_none, follows_more, all_by_none, all_by_push, no_halt_yet, no_results, halts_not, end_fits, drained_at_end, over_of_drained}
 use Rattle.gcd_run.proofs.turn.run_plan.Goals as goal
 
 pub loop-e-init : goal.loop-e-init
@@ -11,6 +11,7 @@ loop-e-init c =
     record {
       plan = c.in_ok-machine.ensures.plan;
       stands = rw empty c.in_ok-machine.ensures.stands;
+      chosen = rw empty (follows_none plan);
       by = rw empty all_by_none;
       unhalted = rw empty no_halt_yet;
       count = rw (c.in_ok-results.ensures, c.blocks-2.ensures.count) (no_results plan files).count;
@@ -31,6 +32,7 @@ loop-e-preserved c =
     record {
       plan = c.apply.ensures.plan ∙ c.loop-e.invariant.plan;
       stands = rw more (c.apply.ensures.stands plan h c.loop-e.invariant.stands next.permitted);
+      chosen = rw more (follows_more plan h c.in-Some.e c.loop-e.invariant.chosen next.chosen);
       by = rw more (all_by_push h c.in-Some.e c.loop-e.invariant.by next.by);
       unhalted = rw more (halts_not h c.in-Some.e next.work);
       count = c.note_end.ensures.same_count ∙ c.loop-e.invariant.count;

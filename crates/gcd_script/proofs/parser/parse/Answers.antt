@@ -24,12 +24,13 @@ loop-line-preserved c = record {
   read = reads_on c.args.bytes.now c.loop-line.number c.loop-line.rest.now (draft_view c.loop-line.draft) c.loop-line.invariant.read
       c.in-Some.line.now c.in-Some.more.now c.in-Some.ensures.0 (draft_view c.take_line.new.draft) c.in-Some.ensures.1
       c.in_ok-take_line.ensures.right c.in_ok-take_line.ensures.view;
-  kept = c.in_ok-take_line.ensures.kept;
+  agrees = c.in_ok-take_line.ensures.agrees;
 }
 
 pub returns-then-not-draft-clause-refused : goal.returns-then-not-draft-clause-refused
 returns-then-not-draft-clause-refused c =
-    lacks_main c.args.bytes.now c.loop-line.number c.loop-line.rest.now (draft_view c.loop-line.draft) c.loop-line.invariant.read c.in_default.ensures c.if-not-draft.true
+    rw c.refused.ensures
+    (lacks_main c.args.bytes.now c.loop-line.number c.loop-line.rest.now (draft_view c.loop-line.draft) c.loop-line.invariant.read c.in_default.ensures c.if-not-draft.true)
 
 pub of_valid_parts-requires : goal.of_valid_parts-requires
 of_valid_parts-requires c =
@@ -40,6 +41,11 @@ pub returns-clause-script : goal.returns-clause-script
 returns-clause-script c =
     subst (IsScriptOf c.args.bytes.now) (sym (c.of_valid_parts.ensures ∙ ap view_of c.into_parts.ensures))
     (is_script c.args.bytes.now c.loop-line.number c.loop-line.rest.now (draft_view c.loop-line.draft) c.loop-line.invariant.read c.in_default.ensures c.if-not-draft.false)
+
+pub returns-clause-valid : goal.returns-clause-valid
+returns-clause-valid c =
+    let sound = read_sound c.args.bytes.now c.loop-line.number c.loop-line.rest.now (draft_view c.loop-line.draft) c.loop-line.invariant.read in
+    subst IsPlan (sym (c.of_valid_parts.ensures ∙ ap view_of c.into_parts.ensures)) sound.valid
 
 pub returns-clause-forms : goal.returns-clause-forms
 returns-clause-forms c =

@@ -1,14 +1,14 @@
 use Rattle.std.proofs.Common.{◌∙◌, sym, subst}
 use Rattle.gcd_plan.specs.PlanView.{view_of, obj_view}
-use Rattle.gcd_script.specs.Kept.{Agrees, look_up}
+use Rattle.gcd_script.specs.Agreement.{AgreeWithPlan, look_up}
 use Rattle.gcd_script.proofs.Agreement.{queue_agrees}
 use Rattle.gcd_script.proofs.Seen.{seen_length}
 use Rattle.gcd_script.proofs.draft.Draft.add_queue.Goals as goal
 
-pub returns-clause-kept : goal.returns-clause-kept
-returns-clause-kept c =
+pub returns-clause-agrees : goal.returns-clause-agrees
+returns-clause-agrees c =
     let old = c.args.self.now in
     let same = c.len.ensures ∙ seen_length obj_view old.parts.objects in
-    subst (Agrees (look_up c.declare.new.meanings) old.submitted.items old.acts) (sym c.in_ok-push_queue.ensures)
-    (queue_agrees (look_up old.meanings) (look_up c.declare.new.meanings) old.submitted.items old.acts (view_of old.parts) c.requires.kept
+    subst (AgreeWithPlan (look_up c.declare.new.meanings) old.submitted.items old.acts) (sym c.in_ok-push_queue.ensures)
+    (queue_agrees (look_up old.meanings) (look_up c.declare.new.meanings) old.submitted.items old.acts (view_of old.parts) c.requires.agrees
     c.args.name.now c.requires.unfit c.len.result same c.in_ok-declare.ensures)

@@ -1,4 +1,5 @@
--- What the parser keeps beside its plan: the meanings of names, which blocks are submitted, and how many acts there are.
+-- When what a draft holds beside its plan agrees with it: the meanings of names, which blocks are submitted, and how many
+-- acts there are.
 use Rattle.std.specs.Prelude.{◌≡◌, ℕ, ◌==◌, Bool, List, length, false, if◌then◌else◌, Option, Some}
 use Rattle.std.specs.BTreeMap.{BTreeMap, get_by}
 use Rattle.std.specs.Borrow.{Bor}
@@ -20,14 +21,13 @@ look_up meanings name = get_by (λ key. slice_cmp nat_cmp name key.now) meanings
 abbrev pub Declares : (old new : List ℕ → Option Meaning) → List ℕ → Meaning → Type 0
 Declares old new name meaning = (q : List ℕ) → new q ≡ (if bytes_eq name q then Some meaning else old q)
 
--- what is kept beside a plan agrees with it: what each name means, which blocks are submitted, and how many acts there
--- are
-pub record Agrees (meanings : List ℕ → Option Meaning) (submitted : List Bool) (acts : ℕ) (plan : PlanView) : Type 0 where
-  pub names : (name : List ℕ) → meanings name ≡ meaning_of plan name
+-- meanings of names, flags of submitted blocks and a number of acts agree with a plan
+pub record AgreeWithPlan (meanings : List ℕ → Option Meaning) (submitted : List Bool) (acts : ℕ) (plan : PlanView) : Type 0 where
+  pub means : (name : List ℕ) → meanings name ≡ meaning_of plan name
   pub flags : length submitted ≡ length plan.blocks
   pub blocks : (b : ℕ) → slice_index_or submitted b false ≡ list_any (λ c. c.0 == b) (submitted_blocks plan)
   pub count : acts ≡ act_count plan
 
--- what the parser keeps beside a draft's plan agrees with it
-abbrev pub IsKept : Draft → Type 0
-IsKept d = Agrees (look_up d.meanings) d.submitted.items d.acts (view_of d.parts)
+-- what a draft holds beside its plan agrees with the plan
+abbrev pub DraftAgrees : Draft → Type 0
+DraftAgrees d = AgreeWithPlan (look_up d.meanings) d.submitted.items d.acts (view_of d.parts)

@@ -6,18 +6,23 @@ use Rattle.std.specs.Str.{bytes_eq}
 use Rattle.std.proofs.lemmas.Bool.{and_from, or_parts, not-false, leb-false, lt-ltb}
 use Rattle.std.proofs.lemmas.List.{length_push, length-map}
 use Rattle.gcd_forms.specs.FirstForms.{is_first_work}
+use Rattle.gcd_plan.specs.Limits.{max_objects, max_blocks, max_files, max_acts}
 use Rattle.gcd_plan.specs.Kinds.{is_queue}
 use Rattle.gcd_plan.specs.PlanView.{PlanView, ObjView, BlkView, FileView}
 use Rattle.gcd_plan.specs.Validity.{IsPlan, submitted_blocks, act_count, is_submittable, is_act, is_work}
 use Rattle.gcd_plan.specs.declared.numbers.Blk.{Blk}
 use Rattle.gcd_plan.specs.declared.numbers.Obj.{Obj}
 use Rattle.gcd_plan.specs.declared.work.Work.{Work}
+use Rattle.gcd_plan.proofs.Places.{slice_get_some}
 use Rattle.gcd_script.specs.declared.meaning.Meaning.{Meaning}
 use Rattle.gcd_script.specs.declared.meaning.Meaning.TheVariants.{File, Object, Block}
 use Rattle.gcd_script.specs.Lines.{words_of, is_printable}
 use Rattle.gcd_script.specs.Forms.{LineForm, FileLine, QueueLine, BlockLine, MainLine, AsyncLine, form_of, fits_form}
 use Rattle.gcd_script.specs.Drafts.{DraftView, place_of, meaning_among, meaning_of, number_of, number_in, is_reserved, new_file, new_block, line_count, with_block, with_act, async_of, empty_draft, after, draft_of}
-use Rattle.gcd_script.specs.Faults.{codes_of, first_code, code_of, first_fault, is_unfit, is_unknown, is_other, is_file_name, is_queue_name, is_block_name, is_submitted, is_submitted_block, is_full_of_blocks, is_full_of_acts}
+use Rattle.gcd_script.specs.Faults.{refusals_of, first_refusal, refusal_of, first_fault, is_unfit, is_unknown, is_other, is_file_name, is_queue_name, is_block_name, is_submitted, is_submitted_block, is_full_of_blocks, is_full_of_acts}
+use Rattle.gcd_script.specs.declared.refusal.Refusal.{Refusal}
+use Rattle.gcd_script.specs.declared.refusal.Refusal.TheVariants.{NoForm}
+use Rattle.gcd_script.specs.Codes.{refusal_code}
 use Rattle.gcd_script.specs.Sound.{IsDraft}
 use Rattle.gcd_script.proofs.Places.{same_bytes, place_within, place_above}
 use Rattle.gcd_script.proofs.Inserts.{fit_from}
@@ -26,16 +31,16 @@ use Rattle.gcd_script.proofs.Queues.{serial_above_root, all_reach_root}
 use Rattle.gcd_script.proofs.Valid.{file_valid, file_first, queue_valid, queue_first, block_valid, block_first}
 use Rattle.gcd_script.proofs.Acts as acts
 
--- where no code applies, each test fails
-abbrev pub AllFail : List (ℕ × Bool) → Type 0
+-- where no refusal applies, each test fails
+abbrev pub AllFail : List (Refusal × Bool) → Type 0
 AllFail [] = Unit {0}
 AllFail (row ∷ rows) = (row.1 ≡ false) × AllFail rows
 
-no_row_holds : (code : ℕ) (test : Bool) (rows : List (ℕ × Bool)) → (first_code rows ≡ None → AllFail rows) → first_code ((code, test) ∷ rows) ≡ None → (test ≡ false) × AllFail rows
-no_row_holds code true rows rest h = cc
-no_row_holds code false rows rest h = (refl, rest h)
+no_row_holds : (why : Refusal) (test : Bool) (rows : List (Refusal × Bool)) → (first_refusal rows ≡ None → AllFail rows) → first_refusal ((why, test) ∷ rows) ≡ None → (test ≡ false) × AllFail rows
+no_row_holds why true rows rest h = cc
+no_row_holds why false rows rest h = (refl, rest h)
 
-pub all_fail : (rows : List (ℕ × Bool)) → first_code rows ≡ None → AllFail rows
+pub all_fail : (rows : List (Refusal × Bool)) → first_refusal rows ≡ None → AllFail rows
 all_fail [] h = tt
 all_fail (row ∷ rows) h = no_row_holds row.0 row.1 rows (all_fail rows) h
 
@@ -151,18 +156,18 @@ below : (m n : ℕ) → leb n m ≡ false → m < n
 below m n h = leb-false n m h
 
 -- a block's line
-block_kept : (name : List ℕ) (work : Option Work) (draft : DraftView) → IsDraft draft → is_unfit draft.plan name ≡ false → is_full_of_blocks draft.plan ≡ false → option_map_or (is_work draft.plan) work true ≡ true → option_map_or is_first_work work true ≡ true → IsDraft (record draft { plan = with_block (new_block name work) draft.plan; body = Some (record { 0 = length draft.plan.blocks }) })
-block_kept name work draft sound unfit full readable is_first =
+block_sound : (name : List ℕ) (work : Option Work) (draft : DraftView) → IsDraft draft → is_unfit draft.plan name ≡ false → is_full_of_blocks draft.plan ≡ false → option_map_or (is_work draft.plan) work true ≡ true → option_map_or is_first_work work true ≡ true → IsDraft (record draft { plan = with_block (new_block name work) draft.plan; body = Some (record { 0 = length draft.plan.blocks }) })
+block_sound name work draft sound unfit full readable is_first =
     let more = length_push draft.plan.blocks (new_block name work) in
     record {
-      valid = block_valid draft.plan sound.valid sound.forms name work (fit_from draft.plan name unfit) (below (length draft.plan.blocks) 16385 full) readable;
+      valid = block_valid draft.plan sound.valid sound.forms name work (fit_from draft.plan name unfit) (below (length draft.plan.blocks) max_blocks full) readable;
       forms = block_first draft.plan sound.valid sound.forms name work is_first;
       body = omega arith;
     }
 
 -- an act's line, in the body of block b
-act_kept : (queue block : List ℕ) (draft : DraftView) → IsDraft draft → (b : Blk) → draft.body ≡ Some b → is_unknown draft.plan queue ≡ false → is_unknown draft.plan block ≡ false → is_other is_queue_name draft.plan queue ≡ false → is_other is_block_name draft.plan block ≡ false → is_submitted draft.plan block ≡ false → is_full_of_acts draft.plan ≡ false → IsDraft (record draft { plan = with_act (async_of draft.plan queue block) draft.plan b })
-act_kept queue block draft sound b opened known_queue known_block is_a_queue is_a_block fresh full =
+act_sound : (queue block : List ℕ) (draft : DraftView) → IsDraft draft → (b : Blk) → draft.body ≡ Some b → is_unknown draft.plan queue ≡ false → is_unknown draft.plan block ≡ false → is_other is_queue_name draft.plan queue ≡ false → is_other is_block_name draft.plan block ≡ false → is_submitted draft.plan block ≡ false → is_full_of_acts draft.plan ≡ false → IsDraft (record draft { plan = with_act (async_of draft.plan queue block) draft.plan b })
+act_sound queue block draft sound b opened known_queue known_block is_a_queue is_a_block fresh full =
     let plan = draft.plan in
     let q = queue_known plan sound.valid queue known_queue is_a_queue in
     let n = block_known plan sound.valid block known_block is_a_block in
@@ -173,22 +178,22 @@ act_kept queue block draft sound b opened known_queue known_block is_a_queue is_
     (and_from (ltb 0 c.0) (ltb c.0 (length plan.blocks)) (lt-ltb 0 c.0 n.above) (lt-ltb c.0 (length plan.blocks) n.within))
     in
     let fresh_block : list_any (λ (d : Blk). d.0 == c.0) (submitted_blocks plan) ≡ false = ap (λ o. option_map_or (is_submitted_block plan) o false) (sym n.means) ∙ fresh in
-    let room = below (act_count plan) 65535 full in
+    let room = below (act_count plan) max_acts full in
     let inside : b.0 < length plan.blocks = subst (λ o. IfSome o (λ x. x.0 < length plan.blocks)) opened sound.body in
-    let at = acts.at_place plan.blocks b.0 inside in
+    let at = slice_get_some plan.blocks b.0 inside in
     let same = acts.is_new plan sound.valid sound.forms b at.0 at.1 act in
     let full_plan = acts.new plan sound.valid sound.forms b at.0 at.1 act in
-    let kept : IsDraft (record draft { plan = full_plan }) = record {
+    let sound_now : IsDraft (record draft { plan = full_plan }) = record {
       valid = acts.act_valid plan sound.valid sound.forms b at.0 at.1 act c refl fits fresh_block room;
       forms = acts.act_first plan sound.valid sound.forms b at.0 at.1 act c refl fits fresh_block room (serial_above_root plan (number_of plan queue) sound.forms.queues q.0 q.1);
       body = subst (λ n. IfSome draft.body (λ x. x.0 < n)) (sym (acts.same_length plan sound.valid sound.forms b at.0 at.1 act)) sound.body;
     } in
-    subst (λ p. IsDraft (record draft { plan = p })) (sym same) kept
+    subst (λ p. IsDraft (record draft { plan = p })) (sym same) sound_now
 
 -- the block that a right act's line names
-pub block_named : (queue block : List ℕ) (draft : DraftView) → IsDraft draft → first_code (codes_of draft (AsyncLine queue block)) ≡ None → IsBlockName draft.plan block (number_of draft.plan block)
+pub block_named : (queue block : List ℕ) (draft : DraftView) → IsDraft draft → first_refusal (refusals_of draft (AsyncLine queue block)) ≡ None → IsBlockName draft.plan block (number_of draft.plan block)
 block_named queue block draft sound right =
-    let (outside, (unknown, (other, rest))) = all_fail (codes_of draft (AsyncLine queue block)) right in
+    let (outside, (unknown, (other, rest))) = all_fail (refusals_of draft (AsyncLine queue block)) right in
     block_known draft.plan sound.valid block
     (or_parts (is_unknown draft.plan queue) (is_unknown draft.plan block) unknown).1
     (or_parts (is_other is_queue_name draft.plan queue) (is_other is_block_name draft.plan block) other).1
@@ -197,43 +202,43 @@ has_first : (blocks : List BlkView) (name : List ℕ) → option_map (λ (x : Bl
 has_first [] name h = cc
 has_first (b ∷ blocks) name h = omega arith
 
-pub form_kept : (number : ℕ) (form : LineForm) (draft : DraftView) → IsDraft draft → fits_form form ≡ true → first_code (codes_of draft form) ≡ None → IsDraft (after number form draft)
-form_kept number (FileLine name path) draft sound fits right =
-    let (unfit, full) = all_fail (codes_of draft (FileLine name path)) right in
+pub form_sound : (number : ℕ) (form : LineForm) (draft : DraftView) → IsDraft draft → fits_form form ≡ true → first_refusal (refusals_of draft form) ≡ None → IsDraft (after number form draft)
+form_sound number (FileLine name path) draft sound fits right =
+    let (unfit, full) = all_fail (refusals_of draft (FileLine name path)) right in
     record {
-      valid = file_valid draft.plan sound.valid sound.forms number name path (fit_from draft.plan name unfit) (below (length draft.plan.files) 64 full.0) fits;
+      valid = file_valid draft.plan sound.valid sound.forms number name path (fit_from draft.plan name unfit) (below (length draft.plan.files) max_files full.0) fits;
       forms = file_first draft.plan sound.valid sound.forms (new_file number name path);
       body = tt;
     }
-form_kept number (QueueLine name) draft sound fits right =
-    let (unfit, full) = all_fail (codes_of draft (QueueLine name)) right in
+form_sound number (QueueLine name) draft sound fits right =
+    let (unfit, full) = all_fail (refusals_of draft (QueueLine name)) right in
     record {
-      valid = queue_valid draft.plan sound.valid sound.forms name (fit_from draft.plan name unfit) (below (length draft.plan.objects) 1024 full.0);
+      valid = queue_valid draft.plan sound.valid sound.forms name (fit_from draft.plan name unfit) (below (length draft.plan.objects) max_objects full.0);
       forms = queue_first draft.plan sound.valid sound.forms name;
       body = tt;
     }
-form_kept number (BlockLine name None) draft sound fits right =
-    let (unfit, full) = all_fail (codes_of draft (BlockLine name None)) right in
-    block_kept name None draft sound unfit full.0 refl refl
-form_kept number (BlockLine name (Some file)) draft sound fits right =
-    let (unfit, (unknown, (other, (full, end)))) = all_fail (codes_of draft (BlockLine name (Some file))) right in
+form_sound number (BlockLine name None) draft sound fits right =
+    let (unfit, full) = all_fail (refusals_of draft (BlockLine name None)) right in
+    block_sound name None draft sound unfit full.0 refl refl
+form_sound number (BlockLine name (Some file)) draft sound fits right =
+    let (unfit, (unknown, (other, (full, end)))) = all_fail (refusals_of draft (BlockLine name (Some file))) right in
     let within = file_within draft.plan file unknown other in
-    block_kept name (Some (line_count (number_of draft.plan file))) draft sound unfit full
+    block_sound name (Some (line_count (number_of draft.plan file))) draft sound unfit full
     (and_from (ltb (number_of draft.plan file) (length draft.plan.files)) true (lt-ltb (number_of draft.plan file) (length draft.plan.files) within) refl)
     refl
-form_kept number MainLine draft sound fits right = record {
+form_sound number MainLine draft sound fits right = record {
   valid = sound.valid;
   forms = sound.forms;
   body = has_first draft.plan.blocks (codes "main") sound.valid.main;
 }
-form_kept number (AsyncLine queue block) draft sound fits right =
+form_sound number (AsyncLine queue block) draft sound fits right =
     let plan = draft.plan in
-    let (outside, (unknown, (other, (submitted, (full, end))))) = all_fail (codes_of draft (AsyncLine queue block)) right in
+    let (outside, (unknown, (other, (submitted, (full, end))))) = all_fail (refusals_of draft (AsyncLine queue block)) right in
     let known = or_parts (is_unknown plan queue) (is_unknown plan block) unknown in
     let fitting = or_parts (is_other is_queue_name plan queue) (is_other is_block_name plan block) other in
     elim draft.body as (λ v. draft.body ≡ v → is_none v ≡ false → IsDraft (record draft { plan = option_map_or (with_act (async_of plan queue block) plan) v plan })) [
       | None ↦ λ e some. cc
-      | Some b ↦ λ e some. act_kept queue block draft sound b e known.0 known.1 fitting.0 fitting.1 submitted full
+      | Some b ↦ λ e some. act_sound queue block draft sound b e known.0 known.1 fitting.0 fitting.1 submitted full
     ] refl outside
 
 -- the draft before the first line
@@ -268,22 +273,22 @@ empty_sound = record {
   body = tt;
 }
 
--- what a right line is: of bytes that a line may have, of a form, with no code that applies
+-- what a right line is: of bytes that a line may have, of a form, with no refusal that applies
 pub record IsRight (draft : DraftView) (line : List ℕ) (form : LineForm) : Type 0 where
   pub printable : is_printable line ≡ true
   pub form_is : form_of (words_of line) ≡ Some form
-  pub no_fault : first_code (codes_of draft form) ≡ None
+  pub no_fault : first_refusal (refusals_of draft form) ≡ None
 
-right_form : (draft : DraftView) (line : List ℕ) → is_printable line ≡ true → option_map_or (λ form. first_code (codes_of draft form)) (form_of (words_of line)) (Some 1) ≡ None → (form : LineForm) × IsRight draft line form
+right_form : (draft : DraftView) (line : List ℕ) → is_printable line ≡ true → option_map_or (λ form. first_refusal (refusals_of draft form)) (form_of (words_of line)) (Some NoForm) ≡ None → (form : LineForm) × IsRight draft line form
 right_form draft line printed h =
-    elim (form_of (words_of line)) as (λ v. form_of (words_of line) ≡ v → option_map_or (λ form. first_code (codes_of draft form)) v (Some 1) ≡ None → (form : LineForm) × IsRight draft line form) [
+    elim (form_of (words_of line)) as (λ v. form_of (words_of line) ≡ v → option_map_or (λ form. first_refusal (refusals_of draft form)) v (Some NoForm) ≡ None → (form : LineForm) × IsRight draft line form) [
       | None ↦ λ e k. cc
       | Some form ↦ λ e k. (form, record { printable = printed; form_is = e; no_fault = k })
     ] refl h
 
-pub right_line : (draft : DraftView) (line : List ℕ) → code_of draft line ≡ None → (form : LineForm) × IsRight draft line form
+pub right_line : (draft : DraftView) (line : List ℕ) → refusal_of draft line ≡ None → (form : LineForm) × IsRight draft line form
 right_line draft line h =
-    elim (is_printable line) as (λ v. is_printable line ≡ v → cond v (option_map_or (λ form. first_code (codes_of draft form)) (form_of (words_of line)) (Some 1)) (Some 1) ≡ None → (form : LineForm) × IsRight draft line form) [
+    elim (is_printable line) as (λ v. is_printable line ≡ v → cond v (option_map_or (λ form. first_refusal (refusals_of draft form)) (form_of (words_of line)) (Some NoForm)) (Some NoForm) ≡ None → (form : LineForm) × IsRight draft line form) [
       | true ↦ λ e k. right_form draft line e k
       | false ↦ λ e k. cc
     ] refl h
@@ -298,7 +303,7 @@ no_fault_parts (Some y) f later h = cc
 pub draft_sound : (past : List (List ℕ)) → first_fault past ≡ None → IsDraft (draft_of past)
 draft_sound [] h = empty_sound
 draft_sound (line ∷ past) h =
-    let parts = no_fault_parts (first_fault past) (λ code. (length past + 1, code)) (code_of (draft_of past) line) h in
+    let parts = no_fault_parts (first_fault past) (λ why. (length past + 1, refusal_code why)) (refusal_of (draft_of past) line) h in
     let right = right_line (draft_of past) line parts.1 in
-    let kept = form_kept (length past + 1) right.0 (draft_of past) (draft_sound past parts.0) (written (words_of line) right.0 right.1.form_is).fits right.1.no_fault in
-    subst (λ o. IsDraft (option_map_or (λ form. after (length past + 1) form (draft_of past)) o (draft_of past))) (sym right.1.form_is) kept
+    let sound_now = form_sound (length past + 1) right.0 (draft_of past) (draft_sound past parts.0) (written (words_of line) right.0 right.1.form_is).fits right.1.no_fault in
+    subst (λ o. IsDraft (option_map_or (λ form. after (length past + 1) form (draft_of past)) o (draft_of past))) (sym right.1.form_is) sound_now
