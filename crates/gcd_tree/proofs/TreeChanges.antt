@@ -1,4 +1,4 @@
--- What a tree keeps when a target, a request or a number of open runs changes.
+-- That a tree stays one when a target, a request or a number of open runs changes, and how what is open beneath changes.
 use Rattle.std.proofs.Common.{◌≡◌, ◌≢◌, ℕ, suc, ◌+◌, ◌<◌, ◌≤◌, ◌==◌, Bool, true, false, cond, inl, inr, length, Option, Some, None, is_some, unwrap_or, option_map, refl, ap, sym, ◌∙◌, subst, arith, length-set, get_or-set_other, get_or-set_same, slice_index_or}
 use Rattle.std.specs.List.{sum_by, sum, range_with_len}
 use Rattle.std.proofs.lemmas.Bool.{true≢false, both_ways, ne_eqb, eq-eqb, cases_eq, false_from_ne_true, true_from_ne_false, or_left, not_from_false, and_from}

@@ -1,13 +1,13 @@
 // The due times of one timer, as numbers.
 ghost use Rattle.std.specs.Prelude.{◌≡◌, ◌≤◌, ℕ, ◌+◌, find, count_by};
 ghost use Rattle.std.specs.List.{range_with_len};
-ghost use Rattle.gcd_timer.specs.Beats.{IsBeat, beat_of, last_due, is_in, beat_after, beats_to, earlier};
+ghost use Rattle.gcd_timer.specs.Intervals.{IsSpaced, due_times_of, last_due, is_due_in, due_after, due_up_to, earlier};
 
 use gcd_plan::Kind;
 
 /// The due times of a timer, in milliseconds: `first`, and one each `every` from there on, none past `last`.
 #[derive(Clone, Copy, Debug)]
-pub struct Beat {
+pub struct DueTimes {
     /// The first due time, where it is not past the last; above 0.
     pub first: u64,
     /// How far apart they are; above 0.
@@ -27,11 +27,11 @@ pub fn last_due(until: u32, cancelled: Option<u32>) -> u32
 }
 
 /// The due times of an object of this kind that is activated at `from`; None where it is no timer.
-pub fn beat_of(kind: Kind, from: u32, last: u32) -> Option<Beat>
-    ensures { result ≡ beat_of kind from last }
+pub fn due_times_of(kind: Kind, from: u32, last: u32) -> Option<DueTimes>
+    ensures { result ≡ due_times_of kind from last }
 {
     match kind {
-        Kind::Timer { start, every } => Some(Beat {
+        Kind::Timer { start, every } => Some(DueTimes {
             first: u64::from(from) + u64::from(start),
             every,
             last,
@@ -41,26 +41,26 @@ pub fn beat_of(kind: Kind, from: u32, last: u32) -> Option<Beat>
 }
 
 // The least of `first`, `first + every`, .. that is above the moment; it may be past `last`.
-fn beat_after(beat: Beat, moment: u32) -> u64
-    requires { IsBeat beat }
-    ensures { result ≡ beat_after beat moment }
+fn due_after(times: DueTimes, moment: u32) -> u64
+    requires { IsSpaced times }
+    ensures { result ≡ due_after times moment }
 {
     let moment = u64::from(moment);
-    if moment < beat.first {
-        return beat.first;
+    if moment < times.first {
+        return times.first;
     }
-    let every = u64::from(beat.every);
-    moment + (every - (moment - beat.first) % every)
+    let every = u64::from(times.every);
+    moment + (every - (moment - times.first) % every)
 }
 
 /// The least due time after the moment; None exactly where none is left.
 #[tactic(auto, using(crate::proofs::Steps::next_found, crate::proofs::Steps::none_found))]
-pub fn next_of(beat: Beat, moment: u32) -> Option<u32>
-    requires { IsBeat beat }
-    ensures { (n : ℕ) → beat.last ≤ moment + n → result ≡ find (is_in beat) (range_with_len (moment + 1) n) }
+pub fn next_of(times: DueTimes, moment: u32) -> Option<u32>
+    requires { IsSpaced times }
+    ensures { (n : ℕ) → times.last ≤ moment + n → result ≡ find (is_due_in times) (range_with_len (moment + 1) n) }
 {
-    let next = beat_after(beat, moment);
-    if next <= u64::from(beat.last) {
+    let next = due_after(times, moment);
+    if next <= u64::from(times.last) {
         Some(next as u32)
     } else {
         None
@@ -68,24 +68,24 @@ pub fn next_of(beat: Beat, moment: u32) -> Option<u32>
 }
 
 // How many of `first`, `first + every`, .. are at most `end`.
-fn beats_to(beat: Beat, end: u32) -> u64
-    requires { IsBeat beat }
-    ensures { result ≡ beats_to beat.first beat.every end }
+fn due_up_to(times: DueTimes, end: u32) -> u64
+    requires { IsSpaced times }
+    ensures { result ≡ due_up_to times.first times.every end }
 {
     let end = u64::from(end);
-    if end < beat.first {
+    if end < times.first {
         return 0;
     }
-    (end - beat.first) / u64::from(beat.every) + 1
+    (end - times.first) / u64::from(times.every) + 1
 }
 
 /// How many due times there are up to the moment.
 #[tactic(auto, using(crate::proofs::Steps::count_found))]
-pub fn count_of(beat: Beat, moment: u32) -> u64
-    requires { IsBeat beat }
-    ensures { result ≡ count_by (is_in beat) (range_with_len 1 moment) }
+pub fn count_of(times: DueTimes, moment: u32) -> u64
+    requires { IsSpaced times }
+    ensures { result ≡ count_by (is_due_in times) (range_with_len 1 moment) }
 {
-    beats_to(beat, moment.min(beat.last))
+    due_up_to(times, moment.min(times.last))
 }
 
 /// The earlier of two times, where there are two.

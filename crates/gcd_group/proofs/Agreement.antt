@@ -1,4 +1,4 @@
--- What changes of the groups keep.
+-- That the counts of notify blocks agree with the lists after each change.
 use Rattle.std.proofs.Common.{◌≡◌, ◌≢◌, ℕ, ◌+◌, ◌-◌, ◌≤◌, ◌<◌, ◌^◌, false, List, [], ◌∷◌, ◌++◌, length, get_or, set, drop, inl, inr, ap, sym, ◌∙◌, subst, arith}
 use Rattle.std.specs.Prelude.{slice_index, slice_set}
 use Rattle.std.proofs.lemmas.Bool.{cases_eq}
@@ -6,7 +6,7 @@ use Rattle.std.proofs.lemmas.List.{length-set, get_or-set_same, get_or-set_other
 use Rattle.gcd_plan.specs.declared.numbers.Blk.{Blk}
 use Rattle.gcd_lists.specs.ListsView.{ListsView, list_at}
 use Rattle.gcd_group.specs.GroupsView.{GroupsView, due_at}
-use Rattle.gcd_group.specs.Tied.{AreTied}
+use Rattle.gcd_group.specs.CountsAgree.{CountsAgree}
 
 -- what holds at each number of a list holds of it with another element, where it holds of that
 everywhere : {X : Type 0} (P : ℕ → X → Type 0) (xs : List X) (i : ℕ) (y d : X) → i < length xs → P i y
@@ -19,7 +19,7 @@ everywhere P xs i y d lt here others j =
 
 -- one more of a group's notify blocks can be counted, where it waits behind them in lists that are no longer than there are
 -- blocks
-pub room_for_one : (view : GroupsView) (registered : List ℕ) (g : ℕ) (b : Blk) (pushed : ListsView) → AreTied view registered
+pub room_for_one : (view : GroupsView) (registered : List ℕ) (g : ℕ) (b : Blk) (pushed : ListsView) → CountsAgree view registered
     → g < length view.counts
     → pushed ≡ record view.notify { lists = slice_set view.notify.lists g (list_at view.notify g ++ (b, false) ∷ []) }
     → length (list_at pushed g) ≤ pushed.blocks → slice_index registered g + 1 < 2 ^ 32
@@ -33,9 +33,9 @@ room_for_one view registered g b pushed t lt is few =
     omega (arith, longer, there, blocks, few, t.many g, t.few_blocks)
 
 -- a block behind the notify blocks of a group
-pub notified : (view : GroupsView) (registered : List ℕ) (g n : ℕ) (b : Blk) → AreTied view registered → g < length view.counts
+pub notified : (view : GroupsView) (registered : List ℕ) (g n : ℕ) (b : Blk) → CountsAgree view registered → g < length view.counts
     → n ≡ slice_index registered g
-    → AreTied
+    → CountsAgree
     (record view { notify = record view.notify { lists = slice_set view.notify.lists g (list_at view.notify g ++ (b, false) ∷ []) } })
     (slice_set registered g (n + 1))
 notified view registered g n b t lt now =
@@ -61,8 +61,8 @@ notified view registered g n b t lt now =
     }
 
 -- all of a group's notify blocks are due
-pub all_due : (view : GroupsView) (registered : List ℕ) (g n : ℕ) → AreTied view registered → g < length view.counts
-    → n ≡ slice_index registered g → AreTied (record view { due = slice_set view.due g n }) registered
+pub all_due : (view : GroupsView) (registered : List ℕ) (g n : ℕ) → CountsAgree view registered → g < length view.counts
+    → n ≡ slice_index registered g → CountsAgree (record view { due = slice_set view.due g n }) registered
 all_due view registered g n t lt all = record {
   entered_long = t.entered_long;
   emptied_long = t.emptied_long;
@@ -78,9 +78,9 @@ all_due view registered g n t lt all = record {
 }
 
 -- the first of the notify blocks of a group is gone, and was due
-pub fired : (view : GroupsView) (registered : List ℕ) (g n m : ℕ) → AreTied view registered → g < length view.counts
+pub fired : (view : GroupsView) (registered : List ℕ) (g n m : ℕ) → CountsAgree view registered → g < length view.counts
     → 0 < due_at view g → n ≡ slice_index registered g → m ≡ due_at view g
-    → AreTied
+    → CountsAgree
     (record view {
       notify = record view.notify { lists = slice_set view.notify.lists g (drop 1 (list_at view.notify g)) };
       due = slice_set view.due g (m - 1);

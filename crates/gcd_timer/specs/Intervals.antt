@@ -4,38 +4,38 @@ use Rattle.std.specs.Prelude.{ℕ, ◌+◌, ◌-◌, ◌/◌, ◌%◌, ◌<◌, 
 use Rattle.std.specs.Option.{option_map_or}
 use Rattle.gcd_plan.specs.declared.kind.Kind.{Kind}
 use Rattle.gcd_plan.specs.declared.kind.Kind.TheVariants.{Timer}
-use Rattle.gcd_timer.specs.declared.beat.Beat.{Beat}
+use Rattle.gcd_timer.specs.declared.due_times.DueTimes.{DueTimes}
 
 -- the first due time is above 0, and no two are one
-pub record IsBeat (beat : Beat) : Type 0 where
-  pub first : 0 < beat.first
-  pub every : 0 < beat.every
+pub record IsSpaced (times : DueTimes) : Type 0 where
+  pub first : 0 < times.first
+  pub every : 0 < times.every
 
 -- t is first, or an `every` after another
-abbrev pub is_beat : (first every t : ℕ) → Bool
-is_beat first every t = nat_le first t && (t - first) % every == 0
+abbrev pub falls_on : (first every t : ℕ) → Bool
+falls_on first every t = nat_le first t && (t - first) % every == 0
 
 -- t is one of the due times
-abbrev pub is_in : Beat → ℕ → Bool
-is_in beat t = is_beat beat.first beat.every t && nat_le t beat.last
+abbrev pub is_due_in : DueTimes → ℕ → Bool
+is_due_in times t = falls_on times.first times.every t && nat_le t times.last
 
 -- the last time at which a timer may be due: none is past `until`, and none past its cancellation
 abbrev pub last_due : ℕ → Option ℕ → ℕ
 last_due until cancelled = option_map_or (λ end. min end until) cancelled until
 
 -- the due times of an object of this kind that is activated at `from`, if it is a timer
-abbrev pub beat_of : Kind → (from last : ℕ) → Option Beat
-beat_of (Timer start every) from last = Some (record { first = from + start; every = every; last = last })
-beat_of _ from last = None
+abbrev pub due_times_of : Kind → (from last : ℕ) → Option DueTimes
+due_times_of (Timer start every) from last = Some (record { first = from + start; every = every; last = last })
+due_times_of _ from last = None
 
 -- the least of first, first + every, .. that is above the moment, though it may be past the last
-abbrev pub beat_after : Beat → ℕ → ℕ
-beat_after beat moment =
-    if nat_lt moment beat.first then beat.first else moment + (beat.every - (moment - beat.first) % beat.every)
+abbrev pub due_after : DueTimes → ℕ → ℕ
+due_after times moment =
+    if nat_lt moment times.first then times.first else moment + (times.every - (moment - times.first) % times.every)
 
 -- how many of first, first + every, .. there are up to `end`
-abbrev pub beats_to : (first every end : ℕ) → ℕ
-beats_to first every end = if nat_lt end first then 0 else (end - first) / every + 1
+abbrev pub due_up_to : (first every end : ℕ) → ℕ
+due_up_to first every end = if nat_lt end first then 0 else (end - first) / every + 1
 
 -- the earlier of two times, where there are two
 abbrev pub earlier : Option ℕ → Option ℕ → Option ℕ
