@@ -1,5 +1,6 @@
 // What a machine keeps before anything has happened, and once more.
 ghost use Rattle.std.specs.Prelude.{◌≡◌, false, IfOk, map, replicate, None};
+ghost use Rattle.gcd_plan.specs.Validity.{IsPlan};
 ghost use Rattle.gcd_refinement.specs.MachineView.{idle, undelivered, is_timer_kind, machine_of};
 
 use super::Registers;
@@ -24,7 +25,8 @@ pub const WORKERS: usize = 64;
 impl Registers {
     /// What is kept before anything has happened, with a copy of the plan. An `Err` comes only of want of memory.
     pub fn new(alloc: Global, plan: &Plan) -> Result<Registers, AllocError>
-        ensures { IfOk result (λ r. r ≡ machine_of plan.now) }
+        ensures kept { IfOk result (λ r. r ≡ machine_of plan.now) }
+        ensures valid { IsPlan plan.now }
     {
         let objects = plan.objects() as usize;
         let blocks = plan.blocks() as usize;
@@ -53,6 +55,38 @@ impl Registers {
             misused: false,
             halted: false,
             len: 0,
+        })
+    }
+
+    /// The same once more, with the same plan. An `Err` comes only of want of memory.
+    pub fn copied(&self, alloc: Global) -> Result<Registers, AllocError>
+        ensures { IfOk result (λ r. r ≡ self.now) }
+    {
+        Ok(Registers {
+            plan: Arc::try_clone(&self.plan)?,
+            refs: self.refs.copied(alloc)?,
+            lists: self.lists.copied(alloc)?,
+            tree: self.tree.copied(alloc)?,
+            holds: self.holds.copied(alloc)?,
+            drains: self.drains.copied(alloc)?,
+            groups: self.groups.copied(alloc)?,
+            semas: self.semas.copied(alloc)?,
+            waits: self.waits.copied(alloc)?,
+            sources: self.sources.copied(alloc)?,
+            timers: self.timers.copied(alloc)?,
+            sleepers: self.sleepers.copied(alloc)?,
+            blocks: Vec::from_slice(alloc, &self.blocks)?,
+            ended: Vec::from_slice(alloc, &self.ended)?,
+            due: Vec::from_slice(alloc, &self.due)?,
+            handlers: Vec::from_slice(alloc, &self.handlers)?,
+            busy: Vec::from_slice(alloc, &self.busy)?,
+            workers: Vec::from_slice(alloc, &self.workers)?,
+            running: self.running,
+            left: self.left,
+            feeds: self.feeds,
+            misused: self.misused,
+            halted: self.halted,
+            len: self.len,
         })
     }
 }
