@@ -15,6 +15,8 @@
 //!
 //! `new` and `copied` take all memory; every other call takes none and cannot fail. A [`SmallSet`] has numbers below 1,024
 //! and takes no memory at all: it serves within one call. Contracts see its words.
+//!
+//! `proofs/Ranges` has, for proofs above, what it says that a number is the first of a range that passes a test.
 #![tactic(auto)]
 
 mod set;

@@ -7,7 +7,6 @@ ghost use Rattle.gcd_drain.specs.DrainsView.{drains_of, barriers_at, with_barrie
 ghost use Rattle.gcd_drain.specs.Rule.{excludes_at, is_behind_at, is_fenced_at, place_reasons, start_fault_of, run_fault_of};
 
 use crate::free::is_chain_held;
-use crate::kinds::{is_concurrent, is_exclusive};
 use gcd_hold::Holds;
 use gcd_lists::Lists;
 use gcd_plan::{Blk, Kind, Obj, Plan, Why};
@@ -72,7 +71,7 @@ impl Drains {
         requires tree { length tree.now.targets ≡ length self.now.barriers }
         ensures { result ≡ excludes_at self.now tree.now o.0 }
     {
-        is_exclusive(self.kinds[o.0 as usize]) && tree.open_beneath(o) > 0
+        self.kinds[o.0 as usize].is_exclusive() && tree.open_beneath(o) > 0
     }
 
     // Whether an object of the node's chain excludes.
@@ -99,7 +98,7 @@ impl Drains {
     {
         let at = node.0 as usize;
         node.0 != 0
-            && is_concurrent(self.kinds[at])
+            && self.kinds[at].is_concurrent()
             && (self.barriers[at] > 0 || (barrier && tree.open_on(node) > 0))
     }
 

@@ -1,5 +1,6 @@
 // What is known of chains.
 ghost use Rattle.std.specs.Prelude.{◌≡◌, ◌≢◌, ◌<◌, ℕ, None, Some};
+ghost use Rattle.gcd_plan.specs.Limits.{max_objects};
 ghost use Rattle.gcd_tree.specs.TreeView.{TreeView};
 ghost use Rattle.gcd_hold.specs.HoldsView.{HoldsView};
 ghost use Rattle.gcd_drain.specs.DrainsView.{DrainsView};
@@ -40,7 +41,7 @@ impl Marks {
 
     /// Whether the chain of the object is known to be shut, or to be open; None where nothing is known.
     pub fn answer(&self, o: Obj) -> Option<bool>
-        requires { o.0 < 1024 }
+        requires { o.0 < max_objects }
         ensures { result ≡ answer_of self.now o.0 }
     {
         if self.known.has(o.0) {
@@ -52,7 +53,7 @@ impl Marks {
 
     /// The chain of the object is known to be shut, or to be open, from now on.
     pub fn mark(&mut self, o: Obj, shut: bool)
-        requires { o.0 < 1024 }
+        requires { o.0 < max_objects }
         ensures there { answer_of self.new o.0 ≡ Some shut }
         ensures others { (k : ℕ) → k ≢ o.0 → answer_of self.new k ≡ answer_of self.old k }
     {

@@ -27,11 +27,11 @@ impl Model for Groups {
 
     ghost Value = { GroupsView };
 
-    ghost use Rattle.gcd_group.specs.Inside.{view_of, IsKept};
+    ghost use Rattle.gcd_group.specs.Inside.{view_of, InsideAgrees};
 
     ghost view = { view_of };
 
-    ghost invariant = { IsKept };
+    ghost invariant = { InsideAgrees };
 }
 
 impl Groups {

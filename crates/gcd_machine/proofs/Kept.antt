@@ -213,7 +213,7 @@ may_fire {m} {k} {g} is can = subst (λ n. CanFire n g) (sym is) (fire_kept can)
 notify_few : (groups : GroupsView) (g : ℕ) (b : Blk) → due_at groups g ≡ 0 → due_at (with_notify groups g b) g ≤ length (list_at groups.notify g) + 1
 notify_few groups g b none =
     elim (count_at groups g == 0)
-      as (λ v. get_or (cond v (set groups.due g (length (list_at groups.notify g) + 1)) groups.due) g 0 ≤ length (list_at groups.notify g) + 1) [
+    as (λ v. get_or (cond v (set groups.due g (length (list_at groups.notify g) + 1)) groups.due) g 0 ≤ length (list_at groups.notify g) + 1) [
       | true ↦ written_few groups.due g (length (list_at groups.notify g) + 1)
       | false ↦ omega (arith, none)
     ]
@@ -230,7 +230,7 @@ fire_registered {m} {g} {q} {b} can =
             ⊎_elim
             (λ (same : b.0 ≡ c).
             let here : get_or (set m.blocks b.0 changed) c idle ≡ changed =
-                subst (λ k. get_or (set m.blocks b.0 changed) k idle ≡ changed) same (get_or-set_same m.blocks b.0 changed idle can.blk) in
+            subst (λ k. get_or (set m.blocks b.0 changed) k idle ≡ changed) same (get_or-set_same m.blocks b.0 changed idle can.blk) in
             rw here can.home)
             (λ other. rw (get_or-set_other m.blocks b.0 c changed idle (λ e. other (sym e))) (can.homes.homes c))
             (cases_eq b.0 c);

@@ -28,3 +28,6 @@ pub mod Workers
 pub mod Judges
 pub mod Shown
 pub mod Nodes
+pub mod OwnChoice
+pub mod IdleChoice
+pub mod Choosing

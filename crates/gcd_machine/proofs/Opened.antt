@@ -33,8 +33,8 @@ begun_is m n {barrier} {busy} {lists} {tree} {drains} {pending} lists_is tree_is
     let drains_is = in_either_case drains (with_barriers m.drains n.0 (barriers_at m.drains n.0 + 1)) m.drains barrier is_barrier is_plain in
     let waiting = ap (λ (l : ListsView). length (list_at l n.0)) lists_is ∙ one_less_waits m.lists n in
     let stays = busy_is
-      ∙ (ap (λ k. stays_busy m.plan k pending n.0) waiting
-      ∙ ap (λ k. stays_busy m.plan (length (list_at m.lists n.0) - 1) k n.0) pending_is) in
+    ∙ (ap (λ k. stays_busy m.plan k pending n.0) waiting
+    ∙ ap (λ k. stays_busy m.plan (length (list_at m.lists n.0) - 1) k n.0) pending_is) in
     ap (λ l. with_run m n l tree drains busy) lists_is
     ∙ (ap (λ t. with_run m n rest t drains busy) tree_is
     ∙ (ap (λ d. with_run m n rest more d busy) drains_is

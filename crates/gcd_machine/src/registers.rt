@@ -6,6 +6,7 @@ mod activity;
 mod acts;
 mod answers;
 mod choose;
+mod copy;
 mod events;
 mod groups;
 mod judge;

@@ -8,6 +8,7 @@
 //! |---|---|---|
 //! | `Semas::new` | the first values, and no signal or wait; or want of memory | |
 //! | `copied` | the same semaphores once more; or want of memory | |
+//! | `waits`, `signals` | how often the semaphore was waited for, and signalled | |
 //! | `wait` | the rank of this wait | a wait more |
 //! | `signal` | | a signal more |
 //! | `passed` | whether the wait of this rank passes | |

@@ -50,8 +50,24 @@ impl Semas {
         })
     }
 
+    /// How often the semaphore was waited for (dispatch_semaphore_wait(3)).
+    pub fn waits(&self, s: Obj) -> u32
+        requires { s.0 < length self.now.waits }
+        ensures { result ≡ waits_at self.now s.0 }
+    {
+        self.waits[s.0 as usize]
+    }
+
+    /// How often the semaphore was signalled (dispatch_semaphore_signal(3)).
+    pub fn signals(&self, s: Obj) -> u32
+        requires { s.0 < length self.now.waits }
+        ensures { result ≡ signals_at self.now s.0 }
+    {
+        self.signals[s.0 as usize]
+    }
+
     /// A wait on the semaphore begins; the answer is its rank, 1 for the first (dispatch_semaphore_wait(3)). There are fewer
-    /// than 2^32 - 1 waits on it before.
+    /// than 2^32 - 1 waits on it before: [`Semas::waits`] is the test.
     pub fn wait(&mut self, s: Obj) -> u32
         requires semaphore { s.0 < length self.old.waits }
         requires room { waits_at self.old s.0 + 1 < 2 ^ 32 }
@@ -63,7 +79,8 @@ impl Semas {
         rank
     }
 
-    /// The semaphore is signalled (dispatch_semaphore_signal(3)). It was signalled fewer than 2^32 - 1 times before.
+    /// The semaphore is signalled (dispatch_semaphore_signal(3)). It was signalled fewer than 2^32 - 1 times before:
+    /// [`Semas::signals`] is the test.
     pub fn signal(&mut self, s: Obj)
         requires semaphore { s.0 < length self.old.waits }
         requires room { signals_at self.old s.0 + 1 < 2 ^ 32 }

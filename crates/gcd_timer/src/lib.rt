@@ -24,7 +24,7 @@
 //! say: the difference of two counts.
 #![tactic(auto)]
 
-mod beat;
+mod due_times;
 mod first;
 mod timers;
 

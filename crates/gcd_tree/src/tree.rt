@@ -102,7 +102,7 @@ impl Tree {
 
     /// How many runs are open beneath an object: on it, and on each other object whose chain has it. Beneath `root` all
     /// are.
-    #[tactic(auto, using(crate::proofs::Kept::beneath_root))]
+    #[tactic(auto, using(crate::proofs::TreeChanges::beneath_root))]
     pub fn open_beneath(&self, o: Obj) -> u32
         requires { o.0 < length self.now.targets }
         ensures beneath { result ≡ open_beneath_at self.now o.0 }

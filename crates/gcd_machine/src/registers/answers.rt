@@ -95,7 +95,7 @@ impl Registers {
     }
 
     /// Whether the event is an act that parks its block.
-    pub fn is_parking(&self, e: Event) -> bool
+    pub fn parks(&self, e: Event) -> bool
         ensures { result ≡ is_parking (act_of self.now.plan e) }
     {
         match e {

@@ -14,8 +14,9 @@ impl Registers {
         requires { CanTake self.old e }
         ensures { self.new ≡ stepped self.old e }
     {
+        let len = self.len + 1;
         self.change(e);
-        self.len += 1;
+        self.len = len;
     }
 
     // Changes what the event changes beside the number of events.

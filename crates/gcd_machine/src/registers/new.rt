@@ -1,6 +1,15 @@
 // What a machine keeps before anything has happened, and once more.
-ghost use Rattle.std.specs.Prelude.{◌≡◌, false, IfOk, map, replicate, None};
-ghost use Rattle.gcd_refinement.specs.MachineView.{idle, undelivered, is_timer_kind, machine_of};
+ghost use Rattle.std.specs.Prelude.{◌≡◌, false, IfOk, length, map, replicate, None};
+ghost use Rattle.gcd_tree.specs.TreeView.{tree_of};
+ghost use Rattle.gcd_hold.specs.HoldsView.{holds_of};
+ghost use Rattle.gcd_drain.specs.DrainsView.{drains_of};
+ghost use Rattle.gcd_group.specs.GroupsView.{groups_of};
+ghost use Rattle.gcd_sema.specs.SemasView.{semas_of};
+ghost use Rattle.gcd_sync.specs.WaitsView.{waits_of};
+ghost use Rattle.gcd_source.specs.SourcesView.{sources_of};
+ghost use Rattle.gcd_timer.specs.TimersView.{timers_of};
+ghost use Rattle.gcd_plan.specs.Validity.{IsPlan};
+ghost use Rattle.gcd_refinement.specs.MachineView.{idle, undelivered, is_timer_kind, lists_of, machine_of};
 
 use super::Registers;
 use gcd_drain::Drains;
@@ -24,29 +33,33 @@ pub const WORKERS: usize = 64;
 impl Registers {
     /// What is kept before anything has happened, with a copy of the plan. An `Err` comes only of want of memory.
     pub fn new(alloc: Global, plan: &Plan) -> Result<Registers, AllocError>
-        ensures { IfOk result (λ r. r ≡ machine_of plan.now) }
+        ensures kept { IfOk result (λ r. r ≡ machine_of plan.now) }
+        ensures valid { IsPlan plan.now }
     {
-        let objects = plan.objects() as usize;
         let blocks = plan.blocks() as usize;
+        let (refs, lists, tree, holds, drains) = node_parts(alloc, plan)?;
+        let (groups, semas, waits, sources, timers) = event_parts(alloc, plan)?;
+        let (blocks, ended, due) = block_arrays(alloc, blocks)?;
+        let (handlers, busy, workers) = run_arrays(alloc, plan)?;
         Ok(Registers {
             plan: Arc::new(alloc, plan.copied(alloc)?)?,
-            refs: Objects::new(alloc, plan)?,
-            lists: Lists::new(alloc, plan)?,
-            tree: Tree::new(alloc, plan)?,
-            holds: Holds::new(alloc, plan)?,
-            drains: Drains::new(alloc, plan)?,
-            groups: Groups::new(alloc, plan)?,
-            semas: Semas::new(alloc, plan)?,
-            waits: Waits::new(alloc, plan)?,
-            sources: Sources::new(alloc, plan)?,
-            timers: Timers::new(alloc, plan)?,
+            refs,
+            lists,
+            tree,
+            holds,
+            drains,
+            groups,
+            semas,
+            waits,
+            sources,
+            timers,
             sleepers: Lists::new(alloc, plan)?,
-            blocks: all_idle(alloc, blocks)?,
-            ended: none_of(alloc, blocks)?,
-            due: none_of(alloc, blocks)?,
-            handlers: all_undelivered(alloc, objects)?,
-            busy: timers(alloc, plan)?,
-            workers: all_free(alloc, WORKERS)?,
+            blocks,
+            ended,
+            due,
+            handlers,
+            busy,
+            workers,
             running: 0,
             left: 1,
             feeds: 0,
@@ -55,6 +68,78 @@ impl Registers {
             len: 0,
         })
     }
+}
+
+// The parts that say what waits and runs on the nodes.
+fn node_parts(
+    alloc: Global,
+    plan: &Plan,
+) -> Result<(Objects, Lists, Tree, Holds, Drains), AllocError>
+    ensures refs { IfOk result (λ parts. parts.0 ≡ replicate (length plan.now.objects) 1) }
+    ensures lists { IfOk result (λ parts. parts.1 ≡ lists_of plan.now) }
+    ensures tree { IfOk result (λ parts. parts.2 ≡ tree_of plan.now) }
+    ensures holds { IfOk result (λ parts. parts.3 ≡ holds_of plan.now) }
+    ensures drains { IfOk result (λ parts. parts.4 ≡ drains_of plan.now) }
+{
+    Ok((
+        Objects::new(alloc, plan)?,
+        Lists::new(alloc, plan)?,
+        Tree::new(alloc, plan)?,
+        Holds::new(alloc, plan)?,
+        Drains::new(alloc, plan)?,
+    ))
+}
+
+// The parts that say what is waited for, and what comes.
+fn event_parts(
+    alloc: Global,
+    plan: &Plan,
+) -> Result<(Groups, Semas, Waits, Sources, Timers), AllocError>
+    ensures groups { IfOk result (λ parts. parts.0 ≡ groups_of plan.now) }
+    ensures semas { IfOk result (λ parts. parts.1 ≡ semas_of plan.now) }
+    ensures waits { IfOk result (λ parts. parts.2 ≡ waits_of plan.now) }
+    ensures sources { IfOk result (λ parts. parts.3 ≡ sources_of plan.now) }
+    ensures timers { IfOk result (λ parts. parts.4 ≡ timers_of plan.now) }
+{
+    Ok((
+        Groups::new(alloc, plan)?,
+        Semas::new(alloc, plan)?,
+        Waits::new(alloc, plan)?,
+        Sources::new(alloc, plan)?,
+        Timers::new(alloc, plan)?,
+    ))
+}
+
+// What is kept of the blocks: what they have come to, which have ended, and which may wake.
+fn block_arrays(
+    alloc: Global,
+    blocks: usize,
+) -> Result<(Vec<BlockProgress>, Vec<bool>, Vec<bool>), AllocError>
+    ensures blocks { IfOk result (λ arrays. arrays.0.items ≡ replicate blocks idle) }
+    ensures ended { IfOk result (λ arrays. arrays.1.items ≡ replicate blocks false) }
+    ensures due { IfOk result (λ arrays. arrays.2.items ≡ replicate blocks false) }
+{
+    Ok((
+        all_idle(alloc, blocks)?,
+        none_of(alloc, blocks)?,
+        none_of(alloc, blocks)?,
+    ))
+}
+
+// What is kept of the handlers, which objects have to be looked at, and what each worker has.
+fn run_arrays(
+    alloc: Global,
+    plan: &Plan,
+) -> Result<(Vec<HandlerProgress>, Vec<bool>, Vec<Option<Run>>), AllocError>
+    ensures handlers { IfOk result (λ arrays. arrays.0.items ≡ replicate (length plan.now.objects) undelivered) }
+    ensures busy { IfOk result (λ arrays. arrays.1.items ≡ map (λ o. is_timer_kind o.kind) plan.now.objects) }
+    ensures workers { IfOk result (λ arrays. arrays.2.items ≡ replicate 64 None) }
+{
+    Ok((
+        all_undelivered(alloc, plan.objects() as usize)?,
+        timers(alloc, plan)?,
+        all_free(alloc, WORKERS)?,
+    ))
 }
 
 // So many blocks that nobody has submitted.
