@@ -1,15 +1,15 @@
 -- What a worker records next, as what a machine keeps tells it, is the definition's choice.
-use Rattle.std.proofs.Common.{◌≡◌, ⊎_elim, ℕ, zero, suc, ◌+◌, ◌-◌, ◌==◌, min, Bool, true, false, not, ◌&&◌, ◌||◌, cond, List, Option, Some, None, is_none, option_map, length, refl, ap, sym, ◌∙◌, subst}
+use Rattle.std.proofs.Common.{◌≡◌, ℕ, zero, suc, ◌+◌, ◌-◌, ◌==◌, min, Bool, true, false, not, ◌&&◌, ◌||◌, cond, List, Option, Some, None, is_none, option_map, length, refl, ap, sym, ◌∙◌, subst}
 use Rattle.std.specs.Option.{option_map_or, option_or, IfSome}
-use Rattle.std.proofs.lemmas.Bool.{and_from, and_parts, both_ways, eq-eqb, eqb-true}
+use Rattle.std.proofs.lemmas.Bool.{and_parts, both_ways, eq-eqb, eqb-true}
 use Rattle.gcd_plan.specs.PlanView.{PlanView}
 use Rattle.gcd_plan.specs.Kinds.{is_source}
 use Rattle.gcd_plan.specs.declared.act.Act.{Act}
 use Rattle.gcd_plan.specs.declared.numbers.Run.{Run}
 use Rattle.gcd_plan.specs.declared.numbers.Run.TheVariants.{Block, Source}
 use Rattle.gcd_event.specs.declared.event.Event.{Event}
-use Rattle.gcd_event.specs.declared.event.Event.TheVariants.{Start, Act as Acted, Wake, End, Deliver, DeliverEnd, Tick, Ready, FeedEnd, Misuse, Halt}
-use Rattle.gcd_history.specs.Permitted.{is_halted, is_known, is_worker, has_block}
+use Rattle.gcd_event.specs.declared.event.Event.TheVariants.{Start, Act as Acted, Wake, End, Deliver, DeliverEnd, Misuse}
+use Rattle.gcd_history.specs.Permitted.{is_halted, is_known, is_worker}
 use Rattle.gcd_history.specs.Choice.{end_of, wake_event, choice, is_work, worker_of}
 use Rattle.gcd_history.proofs.Reasons.{allowed}
 use Rattle.gcd_history.proofs.Choices.{is_by, chosen_is}

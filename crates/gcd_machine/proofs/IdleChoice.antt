@@ -1,11 +1,11 @@
 -- What a worker without a run records next is the first permitted event of the definition's order.
-use Rattle.std.proofs.Common.{◌≡◌, ⊎_elim, ℕ, zero, suc, ◌+◌, ◌-◌, ◌<◌, ◌≤◌, ◌==◌, min, Bool, true, false, not, ◌&&◌, ◌||◌, cond, List, [], ◌∷◌, ◌++◌, length, map, Option, Some, None, is_some, is_none, find, option_map, refl, ap, sym, ◌∙◌, subst, arith}
+use Rattle.std.proofs.Common.{◌≡◌, ⊎_elim, ℕ, zero, suc, ◌+◌, ◌-◌, ◌<◌, ◌≤◌, ◌==◌, min, Bool, true, false, not, ◌&&◌, ◌||◌, cond, List, [], ◌∷◌, ◌++◌, length, map, Option, Some, None, is_some, is_none, find, option_map, refl, ap, sym, ◌∙◌, arith}
 use Rattle.std.specs.List.{slice_get, slice_index_or, flat_map, range_with_len, count_by}
 use Rattle.std.specs.Option.{option_map_or, option_or}
 use Rattle.std.proofs.Math.Path.{fun_ext}
 use Rattle.std.proofs.Math.Nat.{min-eq_left, min-eq_right}
-use Rattle.std.proofs.lemmas.Bool.{and_from, both_ways, cases_Bool, cases_lt, eq-eqb, false_from_ne_true, lt-ltb, ne_eqb}
-use Rattle.std.proofs.lemmas.Option.{none-some, slice_get_within}
+use Rattle.std.proofs.lemmas.Bool.{and_from, both_ways, cases_lt, eq-eqb, false_from_ne_true, lt-ltb, ne_eqb}
+use Rattle.std.proofs.lemmas.Option.{slice_get_within}
 use Rattle.std.proofs.lemmas.List.Folds.{find-append}
 use Rattle.gcd_plan.specs.PlanView.{PlanView}
 use Rattle.gcd_plan.specs.Kinds.{is_source}
@@ -14,11 +14,10 @@ use Rattle.gcd_plan.specs.declared.numbers.Blk.{Blk}
 use Rattle.gcd_plan.specs.declared.numbers.Obj.{Obj}
 use Rattle.gcd_plan.specs.declared.numbers.Run.{Run}
 use Rattle.gcd_plan.specs.declared.numbers.Run.TheVariants.{Block}
-use Rattle.gcd_plan.specs.declared.reason.Reason.{Reason}
 use Rattle.gcd_plan.specs.declared.why.Why.{Why}
 use Rattle.gcd_plan.specs.declared.why.Why.TheVariants.{Over, NoSuch, Busy, Unready}
 use Rattle.gcd_event.specs.declared.event.Event.{Event}
-use Rattle.gcd_event.specs.declared.event.Event.TheVariants.{Start, Wake, Deliver}
+use Rattle.gcd_event.specs.declared.event.Event.TheVariants.{Start, Deliver}
 use Rattle.gcd_history.specs.declared.submission.Submission.{Submission}
 use Rattle.gcd_history.specs.Runs.{open_runs}
 use Rattle.gcd_history.specs.Submitted.{submitted}
@@ -32,12 +31,11 @@ use Rattle.gcd_history.proofs.Quiet.{wake_permitted}
 use Rattle.gcd_history.proofs.Reasons.{at_wake, at_deliver}
 use Rattle.gcd_history.proofs.SubmittedOnce.{submitted_within}
 use Rattle.gcd_history.proofs.Woken.{parked_facts}
-use Rattle.gcd_lists.specs.ListsView.{list_at}
 use Rattle.gcd_refinement.specs.MachineView.{MachineView, block_at, due_at, busy_at, at_worker}
 use Rattle.gcd_refinement.specs.Stands.{IsTied}
 use Rattle.gcd_refinement.specs.Ties.{ListsAre, is_run, waiter}
-use Rattle.gcd_machine.specs.Judged.{block_fault_at, source_fault_at, is_busy_at, fault_at, first_waiting_at}
-use Rattle.gcd_machine.specs.Chosen.{next_set, wake_at, main_at, start_at, deliver_at, node_at, nodes_at, all_nodes_at, idle_choice_at}
+use Rattle.gcd_machine.specs.Judged.{block_fault_at, source_fault_at, fault_at, first_waiting_at}
+use Rattle.gcd_machine.specs.Chosen.{wake_at, main_at, start_at, deliver_at, node_at, nodes_at, all_nodes_at, idle_choice_at}
 use Rattle.gcd_machine.proofs.Judges.{why_is}
 use Rattle.gcd_machine.proofs.Starts.{first_is}
 use Rattle.gcd_machine.proofs.Workers.{over_is}

@@ -31,3 +31,5 @@ pub mod Nodes
 pub mod OwnChoice
 pub mod IdleChoice
 pub mod Choosing
+pub mod Ending
+pub mod Chosen

@@ -1,10 +1,9 @@
 -- The first node of a range that has an event, by the marks.
-use Rattle.std.proofs.Common.{◌≡◌, ℕ, zero, suc, ◌+◌, ◌-◌, ◌<◌, ◌≤◌, Bool, true, false, cond, List, length, inl, inr, Option, Some, None, refl, ap, sym, ◌∙◌, subst, arith}
+use Rattle.std.proofs.Common.{◌≡◌, ℕ, zero, suc, ◌+◌, ◌-◌, ◌<◌, ◌≤◌, Bool, true, false, cond, List, length, inl, inr, Some, None, refl, ap, sym, ◌∙◌, arith}
 use Rattle.std.specs.List.{find, range_with_len, slice_index_or}
 use Rattle.std.specs.Option.{option_or}
 use Rattle.std.proofs.lemmas.Bool.{cases_Bool, cond-true, cond-false}
 use Rattle.std.proofs.lemmas.Option.{none-some, same_Some}
-use Rattle.gcd_event.specs.declared.event.Event.{Event}
 use Rattle.gcd_refinement.specs.MachineView.{MachineView, busy_at}
 use Rattle.gcd_machine.specs.Chosen.{next_set, node_at, nodes_at}
 

@@ -1,5 +1,5 @@
 -- A worker with a run has one event that is permitted, the run's next, and records that.
-use Rattle.std.proofs.Common.{◌≡◌, ℕ, ◌==◌, Bool, true, false, not, List, Option, Some, None, is_some, refl, ap, sym, ◌∙◌, subst}
+use Rattle.std.proofs.Common.{◌≡◌, ℕ, ◌==◌, true, false, List, Option, Some, None, is_some, refl, ap, sym, ◌∙◌, subst}
 use Rattle.std.specs.Option.{option_map_or, option_and_then}
 use Rattle.std.proofs.lemmas.Bool.{eqb-true, both_ways}
 use Rattle.gcd_plan.specs.PlanView.{PlanView}
@@ -8,14 +8,14 @@ use Rattle.gcd_plan.specs.declared.numbers.Run.{Run}
 use Rattle.gcd_plan.specs.declared.numbers.Run.TheVariants.{Block, Source}
 use Rattle.gcd_event.specs.declared.event.Event.{Event}
 use Rattle.gcd_event.specs.declared.event.Event.TheVariants.{Start, Act as Acted, Wake, End, Deliver, DeliverEnd, Tick, Ready, FeedEnd, Misuse, Halt}
-use Rattle.gcd_history.specs.Runs.{acts_done, act_at, last_worker}
+use Rattle.gcd_history.specs.Runs.{act_at, last_worker}
 use Rattle.gcd_history.specs.Parked.{parked_by, has_run, is_busy}
-use Rattle.gcd_history.specs.Permitted.{why, is_halted, misuse_at, has_act_left}
+use Rattle.gcd_history.specs.Permitted.{why, is_halted, misuse_at}
 use Rattle.gcd_history.specs.Choice.{end_of, choice, is_work, worker_of}
 use Rattle.gcd_plan.proofs.Options.{some_from_is_some, none_from_is_some, none_from_is_none}
 use Rattle.gcd_history.proofs.Reasons.{at_start, at_act, at_wake, at_end, at_deliver, at_deliver_end, at_misuse}
 use Rattle.gcd_history.proofs.RunsOpen.{same_run-true, same_run-refl}
-use Rattle.gcd_history.proofs.OneRun.{is_last, run_facts}
+use Rattle.gcd_history.proofs.OneRun.{run_facts}
 use Rattle.gcd_history.proofs.Choices.{chosen_where_permitted, chosen_is}
 use Rattle.gcd_history.proofs.Quiet.{own_event}
 use Rattle.gcd_refinement.specs.MachineView.{MachineView, at_worker}

@@ -1,4 +1,4 @@
-use Rattle.std.proofs.Common.{◌≡◌, ◌+◌, ◌-◌, ◌<◌, ◌≤◌, None, ap, sym, ◌∙◌, arith}
+use Rattle.std.proofs.Common.{◌+◌, ◌-◌, ap, sym, ◌∙◌, arith}
 use Rattle.std.specs.Option.{option_or}
 use Rattle.gcd_refinement.specs.MachineView.{busy_at}
 use Rattle.gcd_machine.specs.Chosen.{nodes_at}
