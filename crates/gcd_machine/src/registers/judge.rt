@@ -53,9 +53,7 @@ impl Registers {
             Event::Deliver { worker, src } => is_worker(worker) && self.has_source(src),
             Event::DeliverEnd { worker, src } => is_worker(worker) && self.has_source(src),
             Event::Tick { at } => 1 <= at && at <= MAX_TIME,
-            Event::Ready { src, bytes } => self.has_feed(src)
-                && 1 <= bytes
-                && bytes <= MAX_VALUE,
+            Event::Ready { src, bytes } => self.has_feed(src) && 1 <= bytes && bytes <= MAX_VALUE,
             Event::FeedEnd { src } => self.has_feed(src),
             Event::Misuse {
                 worker,
