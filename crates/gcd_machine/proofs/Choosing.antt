@@ -1,5 +1,6 @@
 -- What a worker records next, as what a machine keeps tells it, is the definition's choice.
-use Rattle.std.proofs.Common.{◌≡◌, ℕ, zero, suc, ◌+◌, ◌-◌, ◌==◌, min, Bool, true, false, not, ◌&&◌, ◌||◌, cond, List, Option, Some, None, is_none, option_map, length, refl, ap, sym, ◌∙◌, subst}
+use Rattle.std.proofs.Common.{◌≡◌, ℕ, zero, suc, ◌+◌, ◌-◌, ◌==◌, min, Bool, true, false, not, ◌&&◌, ◌||◌, cond, List, Option, Some, None, option_map, length, refl, ap, sym, ◌∙◌, subst}
+use Rattle.std.specs.List.{slice_get}
 use Rattle.std.specs.Option.{option_map_or, option_or, IfSome}
 use Rattle.std.proofs.lemmas.Bool.{and_parts, both_ways, eq-eqb, eqb-true}
 use Rattle.gcd_plan.specs.PlanView.{PlanView}
@@ -13,9 +14,12 @@ use Rattle.gcd_history.specs.Permitted.{is_halted, is_known, is_worker}
 use Rattle.gcd_history.specs.Choice.{end_of, wake_event, choice, is_work, worker_of}
 use Rattle.gcd_history.proofs.Reasons.{allowed}
 use Rattle.gcd_history.proofs.Choices.{is_by, chosen_is}
+use Rattle.gcd_lists.specs.ListsView.{list_at}
+use Rattle.gcd_drain.specs.Rule.{is_fenced_at}
+use Rattle.gcd_drain.specs.Shut.{is_shut_by}
 use Rattle.gcd_refinement.specs.MachineView.{MachineView, block_at, at_worker, busy_at}
 use Rattle.gcd_refinement.specs.Stands.{IsTied}
-use Rattle.gcd_machine.specs.Judged.{done_at, next_act_at, misuse_by, block_fault_at, source_fault_at, first_waiting_at}
+use Rattle.gcd_machine.specs.Judged.{done_at, next_act_at, misuse_by, is_pending_at}
 use Rattle.gcd_machine.specs.Chosen.{next_set, act_event_at, own_event_at, wake_at, main_at, start_at, deliver_at, node_at, nodes_at, all_nodes_at, idle_choice_at, choice_by}
 use Rattle.gcd_machine.proofs.IdleChoice.{idle_choice_is}
 use Rattle.gcd_machine.proofs.Judges.{of_plan}
@@ -127,12 +131,14 @@ main_of m w = if_of w (block_at m 0).started None (Some (Start w (record { 0 = 0
 
 node_of : (m : MachineView) (w n : ℕ) → IsOf w (node_at m w n)
 node_of m w n =
-    either_of w (option_map_or (start_at m w) (first_waiting_at m n) None) (deliver_at m w n)
-    (elim (first_waiting_at m n) as (λ o. IsOf w (option_map_or (start_at m w) o None)) [
+    let starts = option_map_or (start_at m w n) (slice_get (list_at m.lists n) 0) None in
+    if_of w (is_shut_by m.drains m.tree m.holds n) None (option_or starts (deliver_at m w n)) tt
+    (either_of w starts (deliver_at m w n)
+    (elim (slice_get (list_at m.lists n) 0) as (λ o. IsOf w (option_map_or (start_at m w n) o None)) [
       | None ↦ tt
-      | Some b ↦ if_of w (is_none (block_fault_at m b.0)) (Some (Start w b)) None (by_itself w) tt
+      | Some x ↦ if_of w (is_fenced_at m.drains m.tree x.1 n) None (Some (Start w x.0)) tt (by_itself w)
     ])
-    (if_of w (is_source m.plan n && is_none (source_fault_at m n)) (Some (Deliver w (record { 0 = n }))) None (by_itself w) tt)
+    (if_of w (is_source m.plan n && is_pending_at m n) (Some (Deliver w (record { 0 = n }))) None (by_itself w) tt))
 
 nodes_of : (m : MachineView) (w n count : ℕ) → IsOf w (nodes_at m w n count)
 nodes_of m w n zero = tt

@@ -23,7 +23,7 @@ use Rattle.gcd_history.proofs.Fitting.{has_object}
 use Rattle.gcd_history.proofs.OpenNodes.{any_open, open_any, open_node, open_on_from, open_on_to}
 use Rattle.gcd_tree.specs.TreeView.{target_at, request_at, is_moving_at, open_on_at, is_node_at, chain_at, walk_next, would_cycle_at, is_child_of, has_child_at, open_from, open_beneath_at}
 use Rattle.gcd_tree.proofs.PlanTree.{is_node_at-tree_of}
-use Rattle.gcd_tree.proofs.Kept.{from-le-beneath}
+use Rattle.gcd_tree.proofs.TreeChanges.{from-le-beneath}
 use Rattle.gcd_drain.specs.DrainsView.{barriers_at, has_kind_at, is_exclusive_at}
 use Rattle.gcd_drain.specs.Rule.{is_free_by, is_open_beneath_at, knowledge_of, is_fenced_at}
 use Rattle.gcd_refinement.specs.MachineView.{MachineView}

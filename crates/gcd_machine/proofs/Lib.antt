@@ -29,6 +29,8 @@ pub mod Judges
 pub mod Shown
 pub mod Nodes
 pub mod OwnChoice
+pub mod IdleWorker
+pub mod NodeChoice
 pub mod IdleChoice
 pub mod Choosing
 pub mod Ending

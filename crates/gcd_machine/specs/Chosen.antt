@@ -1,6 +1,6 @@
 -- What a worker records next, and how far the run has come, as what a machine keeps tells it: each word as near to the code as its
 -- case split. That it is the definition's answer is proved of every machine that stands for a history.
-use Rattle.std.specs.Prelude.{ℕ, zero, suc, ◌+◌, ◌-◌, ◌==◌, min, Bool, false, not, ◌&&◌, ◌||◌, if◌then◌else◌, List, length, Option, Some, None, is_none, find, slice_index_or}
+use Rattle.std.specs.Prelude.{ℕ, zero, suc, ◌+◌, ◌-◌, ◌==◌, min, Bool, false, not, ◌&&◌, ◌||◌, if◌then◌else◌, List, length, Option, Some, None, is_none, find, slice_get, slice_index_or}
 use Rattle.std.specs.Option.{option_map, option_map_or, option_or}
 use Rattle.std.specs.List.{range_with_len}
 use Rattle.gcd_plan.specs.Kinds.{is_source}
@@ -13,9 +13,12 @@ use Rattle.gcd_history.specs.Choice.{end_of, wake_event}
 use Rattle.gcd_history.specs.Permitted.{is_worker}
 use Rattle.gcd_history.specs.declared.state.State.{State}
 use Rattle.gcd_history.specs.declared.state.State.TheVariants.{Drained, Stuck, Misused, Halted, Live}
+use Rattle.gcd_lists.specs.ListsView.{list_at}
 use Rattle.gcd_timer.specs.TimersView.{next_due_at}
+use Rattle.gcd_drain.specs.Rule.{is_fenced_at}
+use Rattle.gcd_drain.specs.Shut.{is_shut_by}
 use Rattle.gcd_refinement.specs.MachineView.{MachineView, block_at, at_worker, busy_at}
-use Rattle.gcd_machine.specs.Judged.{done_at, next_act_at, misuse_by, block_fault_at, source_fault_at, first_waiting_at}
+use Rattle.gcd_machine.specs.Judged.{done_at, next_act_at, misuse_by, is_pending_at}
 
 -- ## Of its own run
 
@@ -42,18 +45,20 @@ wake_at m w = option_map (wake_event w) (next_set m.due 0)
 abbrev pub main_at : MachineView → ℕ → Option Event
 main_at m w = if (block_at m 0).started then None else Some (Start w (record { 0 = 0 }))
 
--- the Start of the block, if it may start
-abbrev pub start_at : MachineView → ℕ → Blk → Option Event
-start_at m w b = if is_none (block_fault_at m b.0) then Some (Start w b) else None
+-- the Start of the block that waits on node n, as a barrier or not, if the barrier rule lets it
+abbrev pub start_at : MachineView → ℕ → ℕ → Blk × Bool → Option Event
+start_at m w n waiting = if is_fenced_at m.drains m.tree waiting.1 n then None else Some (Start w waiting.0)
 
--- the Deliver of source n, if it is one and may deliver
+-- the Deliver of source n, if it is one and something is pending there
 abbrev pub deliver_at : MachineView → ℕ → ℕ → Option Event
-deliver_at m w n =
-    if is_source m.plan n && is_none (source_fault_at m n) then Some (Deliver w (record { 0 = n })) else None
+deliver_at m w n = if is_source m.plan n && is_pending_at m n then Some (Deliver w (record { 0 = n })) else None
 
--- the Start of the first block that waits on node n, or its Deliver
+-- the Start of the first block that waits on node n, or its Deliver; where the node's chain is shut it has neither
 abbrev pub node_at : MachineView → ℕ → ℕ → Option Event
-node_at m w n = option_or (option_map_or (start_at m w) (first_waiting_at m n) None) (deliver_at m w n)
+node_at m w n =
+    if is_shut_by m.drains m.tree m.holds n
+    then None
+    else option_or (option_map_or (start_at m w n) (slice_get (list_at m.lists n) 0) None) (deliver_at m w n)
 
 -- the first of these from object n on, among so many objects; one that is not marked has none
 abbrev pub nodes_at : MachineView → ℕ → ℕ → ℕ → Option Event

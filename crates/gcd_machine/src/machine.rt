@@ -88,7 +88,8 @@ impl Machine {
     /// What the worker records next: the first event that is permitted in the order of choice, which is the next event of its
     /// own run; the wake of the parked block with the least number that may wake; the start of `main`; and of the objects
     /// from number `from` on, wrapping round, the start of the first block that waits there, or the source's delivery. None
-    /// exactly where no event of the worker is permitted (this project's own rule).
+    /// exactly where no event of the worker is permitted (this project's own rule). It looks once at each object that may
+    /// have one of these, and once in all at each object of their chains.
     pub fn choose(&self, worker: u8, from: u32) -> Option<Event>
         ensures choice { (plan : PlanView) (h : List Event) → StandsFor self.now plan h → result ≡ choice_of plan h worker from }
         ensures permitted { (plan : PlanView) (h : List Event) → StandsFor self.now plan h → IfSome result (λ e. why plan h e ≡ None) }
@@ -98,14 +99,15 @@ impl Machine {
         self.registers.choice(worker, from)
     }
 
-    /// How far the run has come.
+    /// How far the run has come. It costs as much as [`Machine::is_quiescent`].
     pub fn state(&self) -> State
         ensures { (plan : PlanView) (h : List Event) → StandsFor self.now plan h → HasState plan h result }
     {
         self.registers.state()
     }
 
-    /// Whether nothing but a halt can come any more, and the run is not halted.
+    /// Whether nothing but a halt can come any more, and the run is not halted. It costs a constant number of steps where a run
+    /// is open and not parked, or a read source is live, and else a look at each timer and one [`Machine::choose`].
     pub fn is_quiescent(&self) -> bool
         ensures { (plan : PlanView) (h : List Event) → StandsFor self.now plan h → IsTrue result ↔ IsQuiescent plan h }
     {

@@ -19,6 +19,7 @@ mod progress;
 mod runs;
 mod work;
 
+use gcd_bits::BitSet;
 use gcd_drain::Drains;
 use gcd_group::Groups;
 use gcd_hold::Holds;
@@ -54,7 +55,7 @@ pub struct Registers {
     pub blocks: Vec<BlockProgress>,
     pub ended: Vec<bool>,
     // the parked blocks that may wake
-    pub due: Vec<bool>,
+    pub due: BitSet,
     // by object
     pub handlers: Vec<HandlerProgress>,
     // the nodes that have to be looked at for a Start or a Deliver

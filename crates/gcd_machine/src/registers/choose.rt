@@ -1,16 +1,18 @@
 // What a worker records next.
-ghost use Rattle.std.specs.Prelude.{◌≡◌, ◌+◌, ◌-◌, ◌<◌, ◌≤◌, ◌^◌, None, find, length, true};
+ghost use Rattle.std.specs.Prelude.{◌≡◌, ◌+◌, ◌-◌, ◌<◌, ◌≤◌, ◌^◌, None, find, length, slice_get, true};
 ghost use Rattle.std.specs.List.{range_with_len};
 ghost use Rattle.std.specs.Option.{option_map_or};
 ghost use Rattle.gcd_plan.specs.Validity.{is_act};
 ghost use Rattle.gcd_history.specs.Permitted.{is_run_of};
+ghost use Rattle.gcd_lists.specs.ListsView.{list_at};
+ghost use Rattle.gcd_drain.specs.Shut.{AreSound};
 ghost use Rattle.gcd_refinement.specs.MachineView.{busy_at};
 ghost use Rattle.gcd_machine.specs.Chosen.{act_event_at, all_nodes_at, choice_by, deliver_at, idle_choice_at, main_at, next_set, node_at, nodes_at, own_event_at, start_at, wake_at};
-ghost use Rattle.gcd_machine.specs.Judged.{first_waiting_at};
 ghost use Rattle.gcd_machine.specs.Stands.{IsShaped};
 
 use super::Registers;
 use super::judge::is_worker;
+use gcd_drain::Marks;
 use gcd_event::Event;
 use gcd_plan::{Act, Blk, Obj, Run};
 
@@ -97,7 +99,7 @@ impl Registers {
         requires { IsShaped self.now }
         ensures { result ≡ next_set self.now.due 0 }
     {
-        next_set(&self.due, 0)
+        self.due.next(0)
     }
 
     // The wake of that block.
@@ -135,9 +137,10 @@ impl Registers {
         requires first { first ≤ length self.now.plan.objects }
         ensures { result ≡ all_nodes_at self.now worker first }
     {
-        match self.nodes_choice(worker, first, self.plan.objects()) {
+        let mut marks = Marks::new();
+        match self.nodes_choice(worker, first, self.plan.objects(), &mut marks) {
             Some(e) => Some(e),
-            None => self.nodes_choice(worker, 0, first),
+            None => self.nodes_choice(worker, 0, first, &mut marks),
         }
     }
 
@@ -163,17 +166,19 @@ impl Registers {
         }
     }
 
-    // The first start or delivery of the objects from `from` on, below `end`.
+    // The first start or delivery of the objects from `from` on, below `end`. The marks say which chains are known.
     #[tactic(auto, using(crate::proofs::Nodes::found_within, crate::proofs::Nodes::nodes_none))]
-    fn nodes_choice(&self, worker: u8, from: u32, end: u32) -> Option<Event>
+    fn nodes_choice(&self, worker: u8, from: u32, end: u32, marks: &mut Marks) -> Option<Event>
         requires shape { IsShaped self.now }
         requires order { from ≤ end }
         requires within { end ≤ length self.now.plan.objects }
-        ensures { result ≡ nodes_at self.now worker from (end - from) }
+        requires sound { AreSound self.now.drains self.now.tree self.now.holds marks.old }
+        ensures event { result ≡ nodes_at self.now worker from (end - from) }
+        ensures sound { AreSound self.now.drains self.now.tree self.now.holds marks.new }
     {
         let mut n = from;
         while let Some(o) = self.next_busy_below(n, end) {
-            if let Some(e) = self.node_choice(worker, Obj(o)) {
+            if let Some(e) = self.node_choice(worker, Obj(o), marks) {
                 return Some(e);
             }
             n = o + 1;
@@ -182,40 +187,47 @@ impl Registers {
     }
 
     // The start of the first block that waits on the object, or the source's delivery, if it may come next.
-    fn node_choice(&self, worker: u8, node: Obj) -> Option<Event>
+    fn node_choice(&self, worker: u8, node: Obj, marks: &mut Marks) -> Option<Event>
         requires shape { IsShaped self.now }
         requires node { node.0 < length self.now.plan.objects }
-        ensures { result ≡ node_at self.now worker node.0 }
+        requires sound { AreSound self.now.drains self.now.tree self.now.holds marks.old }
+        ensures event { result ≡ node_at self.now worker node.0 }
+        ensures sound { AreSound self.now.drains self.now.tree self.now.holds marks.new }
     {
+        if self.drains.is_shut(&self.tree, &self.holds, node, marks) {
+            return None;
+        }
         match self.start_choice(worker, node) {
             Some(e) => Some(e),
             None => self.deliver_choice(worker, node),
         }
     }
 
+    // The start of the first block that waits on the object, whose chain is not shut.
     fn start_choice(&self, worker: u8, node: Obj) -> Option<Event>
         requires shape { IsShaped self.now }
         requires node { node.0 < length self.now.plan.objects }
-        ensures { result ≡ option_map_or (start_at self.now worker) (first_waiting_at self.now node.0) None }
+        ensures { result ≡ option_map_or (start_at self.now worker node.0) (slice_get (list_at self.now.lists node.0) 0) None }
     {
         match self.lists.first(node) {
-            Some((blk, _)) => {
-                if self.block_fault(blk).is_none() {
-                    Some(Event::Start { worker, blk })
-                } else {
+            Some((blk, barrier)) => {
+                if self.drains.is_fenced(&self.tree, node, barrier) {
                     None
+                } else {
+                    Some(Event::Start { worker, blk })
                 }
             }
             None => None,
         }
     }
 
+    // The delivery of the source, whose chain is not shut.
     fn deliver_choice(&self, worker: u8, node: Obj) -> Option<Event>
         requires shape { IsShaped self.now }
         requires node { node.0 < length self.now.plan.objects }
         ensures { result ≡ deliver_at self.now worker node.0 }
     {
-        if self.has_source(node) && self.source_fault(node).is_none() {
+        if self.has_source(node) && self.is_pending(node) {
             Some(Event::Deliver { worker, src: node })
         } else {
             None

@@ -2,6 +2,7 @@
 ghost use Rattle.std.specs.Prelude.{◌≡◌, IfOk};
 
 use super::Registers;
+use gcd_bits::BitSet;
 use gcd_drain::Drains;
 use gcd_group::Groups;
 use gcd_hold::Holds;
@@ -98,15 +99,15 @@ impl Registers {
     fn copied_block_arrays(
         &self,
         alloc: Global,
-    ) -> Result<(Vec<BlockProgress>, Vec<bool>, Vec<bool>), AllocError>
+    ) -> Result<(Vec<BlockProgress>, Vec<bool>, BitSet), AllocError>
         ensures blocks { IfOk result (λ arrays. arrays.0.items ≡ self.now.blocks) }
         ensures ended { IfOk result (λ arrays. arrays.1.items ≡ self.now.ended) }
-        ensures due { IfOk result (λ arrays. arrays.2.items ≡ self.now.due) }
+        ensures due { IfOk result (λ arrays. arrays.2 ≡ self.now.due) }
     {
         Ok((
             Vec::from_slice(alloc, &self.blocks)?,
             Vec::from_slice(alloc, &self.ended)?,
-            Vec::from_slice(alloc, &self.due)?,
+            self.due.copied(alloc)?,
         ))
     }
 

@@ -56,7 +56,7 @@ impl Registers {
         ensures { self.new ≡ woken self.old worker blk }
     {
         self.waits.woken(blk);
-        self.due[blk.0 as usize] = false;
+        self.due.clear(blk.0);
         self.take_up(worker, Run::Block(blk));
     }
 

@@ -202,8 +202,8 @@ impl Registers {
         }
     }
 
-    // Whether something is pending at the source, which is not cancelled.
-    fn is_pending(&self, src: Obj) -> bool
+    /// Whether something is pending at the source, which is not cancelled.
+    pub fn is_pending(&self, src: Obj) -> bool
         requires shape { IsShaped self.now }
         requires source { src.0 < length self.now.plan.objects }
         ensures { result ≡ is_pending_at self.now src.0 }

@@ -12,6 +12,7 @@ ghost use Rattle.gcd_plan.specs.Validity.{IsPlan};
 ghost use Rattle.gcd_refinement.specs.MachineView.{idle, undelivered, is_timer_kind, lists_of, machine_of};
 
 use super::Registers;
+use gcd_bits::BitSet;
 use gcd_drain::Drains;
 use gcd_group::Groups;
 use gcd_hold::Holds;
@@ -36,7 +37,7 @@ impl Registers {
         ensures kept { IfOk result (λ r. r ≡ machine_of plan.now) }
         ensures valid { IsPlan plan.now }
     {
-        let blocks = plan.blocks() as usize;
+        let blocks = plan.blocks();
         let (refs, lists, tree, holds, drains) = node_parts(alloc, plan)?;
         let (groups, semas, waits, sources, timers) = event_parts(alloc, plan)?;
         let (blocks, ended, due) = block_arrays(alloc, blocks)?;
@@ -113,16 +114,16 @@ fn event_parts(
 // What is kept of the blocks: what they have come to, which have ended, and which may wake.
 fn block_arrays(
     alloc: Global,
-    blocks: usize,
-) -> Result<(Vec<BlockProgress>, Vec<bool>, Vec<bool>), AllocError>
+    blocks: u32,
+) -> Result<(Vec<BlockProgress>, Vec<bool>, BitSet), AllocError>
     ensures blocks { IfOk result (λ arrays. arrays.0.items ≡ replicate blocks idle) }
     ensures ended { IfOk result (λ arrays. arrays.1.items ≡ replicate blocks false) }
-    ensures due { IfOk result (λ arrays. arrays.2.items ≡ replicate blocks false) }
+    ensures due { IfOk result (λ arrays. arrays.2 ≡ replicate blocks false) }
 {
     Ok((
-        all_idle(alloc, blocks)?,
-        none_of(alloc, blocks)?,
-        none_of(alloc, blocks)?,
+        all_idle(alloc, blocks as usize)?,
+        none_of(alloc, blocks as usize)?,
+        BitSet::new(alloc, blocks)?,
     ))
 }
 

@@ -40,7 +40,7 @@ impl Registers {
         requires { blk.0 < length self.old.due }
         ensures { self.new ≡ let_go self.old blk }
     {
-        self.due[blk.0 as usize] = true;
+        self.due.set(blk.0);
     }
 
     // Whoever waits for the end of a block may wake, if somebody does.
