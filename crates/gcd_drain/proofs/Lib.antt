@@ -1,3 +1,5 @@
 pub mod Begins
 pub mod Placed
 pub mod Still
+pub mod ShutChains
+pub mod Starts

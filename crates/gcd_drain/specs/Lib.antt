@@ -1,2 +1,3 @@
 pub mod DrainsView
 pub mod Rule
+pub mod Shut

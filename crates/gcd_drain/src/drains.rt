@@ -7,7 +7,6 @@ ghost use Rattle.gcd_drain.specs.DrainsView.{drains_of, barriers_at, with_barrie
 ghost use Rattle.gcd_drain.specs.Rule.{excludes_at, is_behind_at, is_fenced_at, place_reasons, start_fault_of, run_fault_of};
 
 use crate::free::is_chain_held;
-use crate::kinds::{is_concurrent, is_exclusive};
 use gcd_hold::Holds;
 use gcd_lists::Lists;
 use gcd_plan::{Blk, Kind, Obj, Plan, Why};
@@ -56,13 +55,23 @@ impl Drains {
         })
     }
 
+    /// The same numbers once more. It takes all the memory that the numbers ever need: an `Err` comes only of want of it.
+    pub fn copied(&self, alloc: Global) -> Result<Drains, AllocError>
+        ensures { IfOk result (λ d. d ≡ self.now) }
+    {
+        Ok(Drains {
+            barriers: Vec::from_slice(alloc, &self.barriers)?,
+            kinds: Vec::from_slice(alloc, &self.kinds)?,
+        })
+    }
+
     // Whether the object is a serial queue or a source, and a run is open beneath it.
-    fn excludes(&self, tree: &Tree, o: Obj) -> bool
+    pub(crate) fn excludes(&self, tree: &Tree, o: Obj) -> bool
         requires object { o.0 < length self.now.barriers }
         requires tree { length tree.now.targets ≡ length self.now.barriers }
         ensures { result ≡ excludes_at self.now tree.now o.0 }
     {
-        is_exclusive(self.kinds[o.0 as usize]) && tree.open_beneath(o) > 0
+        self.kinds[o.0 as usize].is_exclusive() && tree.open_beneath(o) > 0
     }
 
     // Whether an object of the node's chain excludes.
@@ -79,15 +88,17 @@ impl Drains {
         false
     }
 
-    // Whether the barrier rule keeps a block of the node from starting.
-    fn is_fenced(&self, tree: &Tree, node: Obj, barrier: bool) -> bool
+    /// Whether the barrier rule keeps a block of the node from starting: the node is a concurrent queue other than `root`,
+    /// and a barrier is open on it, or the block is a barrier and a run is open on it (dispatch_barrier_async(3)). A block
+    /// that is first on its node may start exactly where it does not, and the node's chain is not shut.
+    pub fn is_fenced(&self, tree: &Tree, node: Obj, barrier: bool) -> bool
         requires node { node.0 < length self.now.barriers }
         requires tree { length tree.now.targets ≡ length self.now.barriers }
         ensures { result ≡ is_fenced_at self.now tree.now barrier node.0 }
     {
         let at = node.0 as usize;
         node.0 != 0
-            && is_concurrent(self.kinds[at])
+            && self.kinds[at].is_concurrent()
             && (self.barriers[at] > 0 || (barrier && tree.open_on(node) > 0))
     }
 

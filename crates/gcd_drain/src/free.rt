@@ -8,8 +8,8 @@ use gcd_hold::Holds;
 use gcd_plan::Obj;
 use gcd_tree::Tree;
 
-// Whether the object is active, with hold 0, and not about to move.
-fn is_free(tree: &Tree, holds: &Holds, o: Obj) -> bool
+/// Whether the object is active, with hold 0, and not about to move.
+pub fn is_free(tree: &Tree, holds: &Holds, o: Obj) -> bool
     requires object { o.0 < length tree.now.targets }
     requires holds { length holds.now.holds ≡ length tree.now.targets }
     ensures { result ≡ is_free_by tree.now holds.now o.0 }

@@ -1,14 +1,18 @@
 //! Whether a block that waits may start, and whether the handler of a source may run (dispatch_async(3),
 //! dispatch_barrier_async(3), dispatch_suspend(3), dispatch_set_target_queue(3)).
 //!
-//! Contracts see [`Drains`] as plain lists by object (`DrainsView`): how many barriers are open on it, and its kind. The
-//! rest the calls read of what the other parts hold: the lists of waiting blocks, the tree of targets and the holds.
+//! Contracts see [`Drains`] as plain lists by object (`DrainsView`): how many barriers are open on it, and its kind.
+//! The rest the calls read of what the other parts hold: the lists of waiting blocks, the tree of targets and the
+//! holds.
 //!
 //! | call | answer | what it leaves |
 //! |---|---|---|
 //! | `Drains::new` | no barrier open, and the plan's kinds; or want of memory | |
+//! | `copied` | the same numbers once more; or want of memory | |
 //! | `may_start` | the first reason why the block may not start, None exactly where it may | |
 //! | `may_run` | the first reason why the source's handler may not run, None exactly where it may | |
+//! | `is_shut` | whether the node's chain is shut: `NotFree` or `Excluded` applies to it | marks that say so |
+//! | `is_fenced` | whether the barrier rule keeps a block of the node from starting | |
 //! | `barriers` | how many barriers are open on the node | |
 //! | `began` | | one barrier more on the node, if the block is one |
 //! | `ended` | | one barrier less on the node, if the block was one |
@@ -23,9 +27,11 @@
 //! | `Excluded` | a run is open beneath a serial queue or source of the chain |
 //! | `Fenced` | the node is a concurrent queue other than `root`; a barrier is open there, or it is one and a run is open there |
 //!
-//! `may_run` tells of `NotFree` and `Excluded`, over the chain of the source. Both walk the chain at most once for freedom
-//! and once for exclusion; nothing else costs more with a larger plan. `new` takes all memory; every other call takes none
-//! and cannot fail.
+//! `may_run` tells of `NotFree` and `Excluded`, over the chain of the source. Both walk the chain at most once for
+//! freedom and once for exclusion. A caller that asks of many nodes asks `is_shut` with one [`Marks`]: each object is then
+//! looked at once in all, and a block that is first on its node may start exactly where the chain is not shut and the block
+//! not fenced (`proofs/Starts`). Nothing else costs more with a larger plan. `new` and `copied` take all memory, each array at
+//! once; every other call takes none and cannot fail.
 //!
 //! The rule is the plan's (`StartRule` of `gcd_plan`), and `specs/Rule` says what the parts tell it. The crate knows no
 //! history: that the parts hold what a history says is for its callers. Whether something is pending at a source is not
@@ -34,9 +40,11 @@
 
 mod drains;
 mod free;
-mod kinds;
+mod marks;
+mod shut;
 
 pub use drains::Drains;
+pub use marks::Marks;
 
 #[cfg(test)]
 mod tests;

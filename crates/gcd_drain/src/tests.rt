@@ -1,8 +1,8 @@
 ghost use Rattle.std.specs.Prelude.{◌≡◌, ◌<◌, true, length};
 ghost use Rattle.gcd_tree.specs.TreeView.{tree_of, is_node_at};
 
-use crate::Drains;
 use crate::free::is_chain_held;
+use crate::{Drains, Marks};
 use gcd_hold::Holds;
 use gcd_lists::Lists;
 use gcd_plan::{Blk, BlkPart, Kind, Obj, ObjPart, Parts, Plan, Why};
@@ -83,7 +83,7 @@ fn new_world(alloc: Global, plan: Plan) -> Result<World, AllocError> {
         lists: Lists::new(alloc, &plan)?,
         tree: Tree::new(alloc, &plan)?,
         holds: Holds::new(alloc, &plan)?,
-        drains: Drains::new(alloc, &plan)?,
+        drains: Drains::new(alloc, &plan)?.copied(alloc)?,
         plan,
     })
 }
@@ -100,22 +100,27 @@ enum Call {
     MayStart(Blk, Option<Why>),
     MayRun(Obj, Option<Why>),
     Barriers(Obj, u32),
+    IsShut(Obj, bool),
 }
 
-const CALLS: [Call; 58] = [
+const CALLS: [Call; 62] = [
     Call::MayStart(Blk(1), Some(Why::Unready)),
     Call::Submit(SERIAL, Blk(1), false),
     Call::Submit(SERIAL, Blk(2), false),
     Call::MayStart(Blk(1), None),
     Call::MayStart(Blk(2), Some(Why::Behind)),
     // The target is held.
+    Call::IsShut(SERIAL, false),
     Call::Suspend(TARGET),
+    Call::IsShut(SERIAL, true),
     Call::MayStart(Blk(1), Some(Why::NotFree)),
     Call::MayStart(Blk(2), Some(Why::Behind)),
     Call::Resume(TARGET),
     // A block of another queue is open beneath the serial target.
     Call::Submit(SHARING, Blk(3), false),
     Call::Begin(SHARING),
+    Call::IsShut(SERIAL, true),
+    Call::IsShut(CONCURRENT, false),
     Call::MayStart(Blk(1), Some(Why::Excluded)),
     Call::Suspend(SERIAL),
     Call::MayStart(Blk(1), Some(Why::NotFree)),
@@ -220,16 +225,16 @@ fn activate(rt: &impl Abort, world: &mut World, o: Obj) {
     world.holds.activate(o);
 }
 
-fn is_serial(world: &World, o: Obj) -> bool
+fn is_node(world: &World, o: Obj) -> bool
     requires { o.0 < world.now.objects }
     ensures { result ≡ true → is_node_at world.now.tree o.0 ≡ true }
 {
-    matches!(world.plan.kind(o), Kind::Serial)
+    world.plan.kind(o).is_node()
 }
 
 fn target(rt: &impl Abort, world: &mut World, o: Obj, t: Obj) {
     assert!(rt; o.0 < world.objects && t.0 < world.objects);
-    assert!(rt; is_serial(world, o));
+    assert!(rt; is_node(world, o));
     assert!(rt; !world.tree.would_cycle(o, t));
     assert!(rt; !world.tree.has_child(o));
     world.tree.set_target(o, t);
@@ -245,6 +250,20 @@ fn may_start(rt: &impl Abort, world: &World, b: Blk) -> Option<Why> {
 fn may_run(rt: &impl Abort, world: &World, src: Obj) -> Option<Why> {
     assert!(rt; src.0 < world.objects);
     world.drains.may_run(&world.tree, &world.holds, src)
+}
+
+// Whether the node's chain is shut, asked of the chain, and then of what is known.
+fn is_shut(rt: &impl Abort, world: &World, node: Obj) -> bool {
+    assert!(rt; node.0 < world.objects);
+    let mut marks = Marks::new();
+    let shut = world
+        .drains
+        .is_shut(&world.tree, &world.holds, node, &mut marks);
+    let again = world
+        .drains
+        .is_shut(&world.tree, &world.holds, node, &mut marks);
+    assert_eq!(rt; shut, again, "{node:?}");
+    shut
 }
 
 fn barriers(rt: &impl Abort, world: &World, node: Obj) -> u32 {
@@ -264,6 +283,11 @@ fn play(rt: &impl Abort, world: &mut World, call: &Call) {
         Call::MayStart(b, answer) => assert_eq!(rt; may_start(rt, world, *b), *answer, "{b:?}"),
         Call::MayRun(src, answer) => assert_eq!(rt; may_run(rt, world, *src), *answer, "{src:?}"),
         Call::Barriers(node, answer) => assert_eq!(rt; barriers(rt, world, *node), *answer),
+        Call::IsShut(node, answer) => assert_eq!(rt;
+            is_shut(rt, world, *node),
+            *answer,
+            "{node:?}"
+        ),
     }
 }
 

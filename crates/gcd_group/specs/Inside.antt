@@ -1,6 +1,6 @@
 -- What the fields of the groups are seen as.
 use Rattle.gcd_group.specs.GroupsView.{GroupsView}
-use Rattle.gcd_group.specs.Tied.{AreTied}
+use Rattle.gcd_group.specs.CountsAgree.{CountsAgree}
 use Rattle.gcd_group.specs.declared.groups.Groups.TheInside.{Inside}
 
 -- the lists that the groups keep
@@ -13,6 +13,6 @@ view_of g = record {
   due = g.due.items;
 }
 
--- they are tied to each other, and to the numbers of notify blocks
-abbrev pub IsKept : Inside → Type 0
-IsKept g = AreTied (view_of g) g.registered.items
+-- their counts agree with the lists of notify blocks
+abbrev pub InsideAgrees : Inside → Type 0
+InsideAgrees g = CountsAgree (view_of g) g.registered.items

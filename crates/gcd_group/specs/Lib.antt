@@ -1,3 +1,3 @@
 pub mod GroupsView
-pub mod Tied
+pub mod CountsAgree
 pub mod Inside

@@ -27,11 +27,11 @@ impl Model for Groups {
 
     ghost Value = { GroupsView };
 
-    ghost use Rattle.gcd_group.specs.Inside.{view_of, IsKept};
+    ghost use Rattle.gcd_group.specs.Inside.{view_of, InsideAgrees};
 
     ghost view = { view_of };
 
-    ghost invariant = { IsKept };
+    ghost invariant = { InsideAgrees };
 }
 
 impl Groups {
@@ -48,6 +48,20 @@ impl Groups {
             notify: Lists::new(alloc, plan)?,
             registered: vec![in alloc; 0; objects]?,
             due: vec![in alloc; 0; objects]?,
+        })
+    }
+
+    /// The same groups once more. It takes all the memory that the groups ever need: an `Err` comes only of want of it.
+    pub fn copied(&self, alloc: Global) -> Result<Groups, AllocError>
+        ensures { IfOk result (λ g. g ≡ self.now) }
+    {
+        Ok(Groups {
+            counts: Vec::from_slice(alloc, &self.counts)?,
+            entered: Vec::from_slice(alloc, &self.entered)?,
+            emptied: Vec::from_slice(alloc, &self.emptied)?,
+            notify: self.notify.copied(alloc)?,
+            registered: Vec::from_slice(alloc, &self.registered)?,
+            due: Vec::from_slice(alloc, &self.due)?,
         })
     }
 
@@ -160,6 +174,7 @@ impl Groups {
         ensures rest { IfSome result (λ blk. self.new ≡ with_fired self.old g.0) }
         ensures none { result ≡ None → self.new ≡ self.old }
         ensures gone { IfSome result (λ blk. place_of self.new.notify blk.0 ≡ None) }
+        ensures within { IfSome result (λ blk. blk.0 < self.old.notify.blocks) }
     {
         if self.due[g.0 as usize] == 0 {
             return None;

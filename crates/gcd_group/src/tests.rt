@@ -47,7 +47,7 @@ fn new_world(alloc: Global, plan: &Plan) -> Result<World, AllocError> {
     Ok(World {
         objects: plan.objects(),
         blocks: plan.blocks(),
-        groups: Groups::new(alloc, plan)?,
+        groups: Groups::new(alloc, plan)?.copied(alloc)?,
     })
 }
 

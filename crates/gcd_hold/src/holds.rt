@@ -39,6 +39,17 @@ impl Holds {
         })
     }
 
+    /// The same lists once more. It takes all the memory that the lists ever need: an `Err` comes only of want of it.
+    pub fn copied(&self, alloc: Global) -> Result<Holds, AllocError>
+        ensures { IfOk result (λ h. h ≡ self.now) }
+    {
+        Ok(Holds {
+            holds: Vec::from_slice(alloc, &self.holds)?,
+            active: Vec::from_slice(alloc, &self.active)?,
+            sources: Vec::from_slice(alloc, &self.sources)?,
+        })
+    }
+
     /// How many suspends of the object no resume has answered (dispatch_suspend(3)). A resume that activates a source
     /// answers none.
     pub fn hold(&self, o: Obj) -> u32

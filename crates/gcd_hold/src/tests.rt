@@ -111,7 +111,7 @@ fn play(rt: &impl Abort, plan: &Plan, holds: &mut Holds, call: &Call)
 fn holds_and_activation(rt: HostRuntime) -> Result<(), Fail> {
     let made = Plan::of_parts(parts(rt.alloc())?).ok_or("a valid plan")?;
     let plan = &made;
-    let mut holds = Holds::new(rt.alloc(), plan)?;
+    let mut holds = Holds::new(rt.alloc(), plan)?.copied(rt.alloc())?;
     for call in CALLS.iter() {
         play(&rt, plan, &mut holds, call);
     }

@@ -40,7 +40,10 @@ impl Handler for Tally {
         self.times += 1;
         self.total = match self.kind {
             Kind::Or => self.total | value,
-            _ => self.total + value,
+            Kind::Add | Kind::Timer { .. } | Kind::Read => self.total + value,
+            Kind::Serial | Kind::Concurrent | Kind::Group | Kind::Semaphore(_) => {
+                self.total + value
+            }
         };
     }
 }

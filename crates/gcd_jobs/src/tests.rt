@@ -2,7 +2,8 @@ ghost use Rattle.std.specs.Prelude.{◌≡◌, ◌+◌, ◌<◌, ◌^◌};
 ghost use Rattle.gcd_plan.specs.KindValues.{folded};
 
 use crate::{FileJob, Handler, Job, Tally};
-use gcd_plan::{How, Kind, WHOLE_FILE, Work};
+use gcd_plan::{How, Kind, MAX_FILE_BYTES, WHOLE_FILE, Work};
+use std::alloc::{AllocError, Global};
 use std::test::Fail;
 use std::time::Instant;
 
@@ -49,21 +50,24 @@ fn run_block<J: Job + Drop + Send>(job: J) -> u64
     job.run(0)
 }
 
-#[test]
-fn jobs_over_shared_files_give_the_values_of_their_works(rt: HostRuntime) -> Result<(), Fail> {
-    let alloc = rt.alloc();
+// The files of the rows.
+fn shared_files(alloc: Global) -> Result<Vec<Vec<u8>>, AllocError> {
     let mut files = Vec::new(alloc);
     for bytes in FILES {
         files.push(Vec::from_slice(alloc, bytes)?)?;
     }
-    let mut jobs = Vec::new(alloc);
-    for (how, file, start, len, _, _) in CASES {
-        jobs.push(FileJob::new(&files, Some(work(how, file, start, len))))?;
-    }
-    for (job, (how, _, _, _, value, what)) in jobs.into_iter().zip(CASES) {
+    Ok(files)
+}
+
+#[test]
+fn jobs_over_shared_files_give_the_values_of_their_works(rt: HostRuntime) -> Result<(), Fail> {
+    let files = shared_files(rt.alloc())?;
+    let nothing = FileJob::new(&files, None);
+    for (how, file, start, len, value, what) in CASES {
+        let job = FileJob::new(&files, Some(work(how, file, start, len)));
         assert_eq!(rt; run_block(job), value, "{how:?} of {what}");
     }
-    assert_eq!(rt; run_block(FileJob::new(&files, None)), 0, "no work");
+    assert_eq!(rt; run_block(nothing), 0, "no work");
     Ok(())
 }
 
@@ -93,37 +97,35 @@ fn a_tally_adds_or_joins_bit_by_bit(rt: HostRuntime) {
     }
 }
 
-// The text and the values of bench/works.c, so that its times and these are of the same works.
-#[test]
-fn works_over_sixteen_mebibytes(rt: HostRuntime) -> Result<(), Fail> {
+// The text of bench/works.c.
+fn long_text(alloc: Global) -> Result<Vec<u8>, AllocError> {
     let table = b"etaoin shrdlu\ncmfwyp vbgkqjxz\t. ";
-    let mut text = Vec::with_capacity(rt.alloc(), 16_777_216)?;
+    let mut text = Vec::with_capacity(alloc, MAX_FILE_BYTES as usize)?;
     let mut state: u32 = 1;
-    for _ in 0..16_777_216 {
+    for _ in 0..MAX_FILE_BYTES {
         state = state.wrapping_mul(1_664_525).wrapping_add(1_013_904_223);
         text.push(table[(state >> 27) as usize])?;
     }
+    Ok(text)
+}
+
+// The values are those of bench/works.c, so that its times and these are of the same works.
+#[test]
+fn works_over_sixteen_mebibytes(rt: HostRuntime) -> Result<(), Fail> {
     let mut files = Vec::new(rt.alloc());
-    files.push(text)?;
+    files.push(long_text(rt.alloc())?)?;
     for (name, how, want) in [
         ("lines", How::Lines, 523_923),
         ("words", How::Words, 2_210_088),
         ("sum", How::Sum, 1_577_187_525),
         ("count", How::Count(b'e'), 523_415),
     ] {
-        let mut best = u128::MAX;
-        for _ in 0..7 {
-            let job = FileJob::new(&files, Some(work(how, 0, 0, WHOLE_FILE)));
-            let began = Instant::now(&rt)?;
-            let value = job.run(0);
-            best = best.min(began.elapsed(&rt)?.as_micros());
-            assert_eq!(rt; value, want, "{name}");
-            if best > 500_000 {
-                // Built with checks, as by `rt try`: not worth seven tries.
-                break;
-            }
-        }
-        println!(rt; "{name} {want} in {best} us")?;
+        let job = FileJob::new(&files, Some(work(how, 0, 0, WHOLE_FILE)));
+        let began = Instant::now(&rt)?;
+        let value = job.run(0);
+        let time = began.elapsed(&rt)?.as_micros();
+        assert_eq!(rt; value, want, "{name}");
+        println!(rt; "{name} {want} in {time} us")?;
     }
     Ok(())
 }

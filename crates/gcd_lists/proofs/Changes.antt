@@ -6,6 +6,7 @@ use Rattle.std.proofs.lemmas.List.Sums.{sum_by-set}
 use Rattle.std.proofs.lemmas.Option.{none-some, same_Some}
 use Rattle.gcd_plan.specs.declared.numbers.Blk.{Blk}
 use Rattle.gcd_plan.specs.declared.numbers.Obj.{Obj}
+use Rattle.gcd_plan.proofs.Places.{get_or-replicate_same}
 use Rattle.gcd_lists.specs.ListsView.{barrier_in}
 use Rattle.gcd_lists.specs.Links.{Hold, IsQueue, IsChain, IsLast, entry, is_on, last_at, on}
 use Rattle.gcd_lists.proofs.Places.{barrier_in_here, barrier_in_later, barrier_in_front, barrier_in_back}
@@ -14,11 +15,7 @@ use Rattle.gcd_lists.proofs.Chains.{place_in_chain, once_in_chain, chain_same, c
 
 -- in an array of nothing, nothing stands
 pub entry_nothing : {X : Type 0} → (n i : ℕ) → entry (replicate {A = Option X} n None) i ≡ None
-entry_nothing n i =
-    elim (cases_lt i n) [
-      | inl lt ↦ get_or-replicate n i None None lt
-      | inr past ↦ get_or_past (replicate n None) i None (rw length-replicate past)
-    ]
+entry_nothing n i = get_or-replicate_same n i None
 
 -- at the beginning nothing waits
 pub nothing_waits : (objects blocks : ℕ) → Hold (replicate blocks None) (replicate blocks None) (replicate objects None)
@@ -32,11 +29,7 @@ nothing_waits objects blocks = record {
 }
   where
     nothing_at : (n : ℕ) → ◌≡◌ {A = List (Blk × Bool)} (get_or (replicate objects []) n []) []
-    nothing_at n =
-        elim (cases_lt n objects) [
-          | inl lt ↦ get_or-replicate objects n [] [] lt
-          | inr past ↦ get_or_past (replicate objects []) n [] (rw length-replicate past)
-        ]
+    nothing_at n = get_or-replicate_same objects n []
 
 -- how many places are on a node, where one is given to a block that waited nowhere, and where one is taken away
 placed_here : (places : List (Option (Obj × Bool))) (b n : ℕ) (barrier : Bool) → b < length places → entry places b ≡ None

@@ -75,6 +75,10 @@ module _ {links : List (Option Blk)} {places : List (Option (Obj × Bool))} {hea
   pub first_within : (n : ℕ) (b : Blk) → entry heads n ≡ Some b → b.0 < length places
   first_within n b some = entry_within places b.0 _ (first_placed n b some).placed
 
+  -- and is a block of the plan
+  pub first_listed : (n : ℕ) (b : Blk) → entry heads n ≡ Some b → b.0 < v.blocks
+  first_listed n b some = let within = first_within n b some in omega (arith, within, hold.places_long, blocks_long)
+
   pub first_waits : (n : ℕ) (b : Blk) (o : Obj) (barrier : Bool) → entry heads n ≡ Some b → entry places b.0 ≡ Some (o, barrier)
       → ◌≡◌ {A = Option (Blk × Bool)} (Some (b, barrier)) (slice_get (list_at v n) 0)
   first_waits n b o barrier some there =

@@ -8,16 +8,18 @@
 //! | call | answer | what it leaves |
 //! |---|---|---|
 //! | `Lists::new` | lists of the plan's objects and blocks, all empty; or want of memory | |
+//! | `copied` | the same lists once more; or want of memory | |
 //! | `push` | | the block behind all that wait on the object, nothing else changed |
 //! | `first` | the first of the object's list; None exactly where it is empty | |
 //! | `pop` | the same | the object's list without its first, which waits nowhere then; nothing else changed |
 //! | `place` | where the block waits, and whether as a barrier; None exactly where it waits nowhere | |
 //!
-//! What a call names is of the plan (its number is below the number of lists, or of blocks), and a block that is pushed
-//! waits nowhere: it waits at one place at a time. So no more blocks wait on an object than there are: `push` says it
-//! of the list that it leaves, `first` of the list that it looks at. `new` takes all memory; every other call takes
-//! none, cannot fail, and takes the same time however much waits. Which blocks wait where is for the caller to say: the
-//! crate knows no history, and any object may have a list, a group or a semaphore too.
+//! What a call names is of the plan (its number is below the number of lists, or of blocks), and a block that is
+//! pushed waits nowhere: it waits at one place at a time. So no more blocks wait on an object than there are: `push`
+//! says it of the list that it leaves, `first` of the list that it looks at. `new` and `copied` take all memory, each
+//! array at once; every other call takes none, cannot fail, and takes the same time however much waits. Which blocks
+//! wait where is for the caller to say: the crate knows no history, and any object may have a list, a group or a
+//! semaphore too.
 //!
 //! `proofs/Places` has, for proofs above, what `place_of` says of the lists.
 #![tactic(auto)]

@@ -48,6 +48,18 @@ impl Lists {
         })
     }
 
+    /// The same lists once more. It takes all the memory that the lists ever need: an `Err` comes only of want of it.
+    pub fn copied(&self, alloc: Global) -> Result<Lists, AllocError>
+        ensures { IfOk result (λ l. l ≡ self.now) }
+    {
+        Ok(Lists {
+            next: Vec::from_slice(alloc, &self.next)?,
+            places: Vec::from_slice(alloc, &self.places)?,
+            heads: Vec::from_slice(alloc, &self.heads)?,
+            lasts: Vec::from_slice(alloc, &self.lasts)?,
+        })
+    }
+
     /// The block waits on the object from now on, behind all that wait there, as a barrier or not (dispatch_async(3),
     /// dispatch_barrier_async(3)). It waits nowhere before: [`Lists::place`] is the test. So no more wait there than there
     /// are blocks.
@@ -74,6 +86,7 @@ impl Lists {
         requires { node.0 < length self.now.lists }
         ensures value { result ≡ slice_get (list_at self.now node.0) 0 }
         ensures few { length (list_at self.now node.0) ≤ self.now.blocks }
+        ensures within { IfSome result (λ waiting. waiting.0.0 < self.now.blocks) }
     {
         let blk = self.heads[node.0 as usize]?;
         let (_, barrier) = self.places[blk.0 as usize]?;
@@ -87,6 +100,7 @@ impl Lists {
         ensures value { result ≡ slice_get (list_at self.old node.0) 0 }
         ensures rest { self.new ≡ record self.old { lists = slice_set self.old.lists node.0 (drop 1 (list_at self.old node.0)) } }
         ensures gone { IfSome result (λ waiting. place_of self.new waiting.0.0 ≡ None) }
+        ensures within { IfSome result (λ waiting. waiting.0.0 < self.old.blocks) }
     {
         let (blk, barrier) = self.first(node)?;
         self.heads[node.0 as usize] = self.next[blk.0 as usize];

@@ -31,6 +31,15 @@ impl Objects {
         })
     }
 
+    /// The same counts once more. It takes all the memory that the counts ever need: an `Err` comes only of want of it.
+    pub fn copied(&self, alloc: Global) -> Result<Objects, AllocError>
+        ensures { IfOk result (λ o. o ≡ self.now) }
+    {
+        Ok(Objects {
+            refs: Vec::from_slice(alloc, &self.refs)?,
+        })
+    }
+
     /// How many references the object has: 1, and one for each retain, less one for each release (dispatch_object(3)).
     pub fn refs(&self, o: Obj) -> u32
         requires { o.0 < length self.now }

@@ -74,7 +74,7 @@ fn play(rt: &impl Abort, plan: &Plan, objects: &mut Objects, call: &Call)
 fn references_are_counted(rt: HostRuntime) -> Result<(), Fail> {
     let made = Plan::of_parts(parts(rt.alloc())?).ok_or("a valid plan")?;
     let plan = &made;
-    let mut objects = Objects::new(rt.alloc(), plan)?;
+    let mut objects = Objects::new(rt.alloc(), plan)?.copied(rt.alloc())?;
     for call in CALLS.iter() {
         play(&rt, plan, &mut objects, call);
     }

@@ -1,5 +1,5 @@
 -- Semaphores, as their readers see them: plain lists by object (dispatch_semaphore_create(3)).
-use Rattle.std.specs.Prelude.{◌≡◌, ℕ, ◌+◌, nat_le, ℤ, pos, ◌-ℤ◌, Bool, List, length, map, replicate, slice_index, slice_set}
+use Rattle.std.specs.Prelude.{◌≡◌, ℕ, ◌+◌, nat_le, nat_lt, ℤ, pos, ◌-ℤ◌, Bool, List, length, map, replicate, slice_index, slice_set}
 use Rattle.gcd_plan.specs.PlanView.{PlanView}
 use Rattle.gcd_plan.specs.KindValues.{first_value_of}
 
@@ -31,6 +31,11 @@ waits_at view s = slice_index view.waits s
 -- (dispatch_semaphore_wait(3); that waits are served in their order is this project's own rule)
 abbrev pub is_passed_at : SemasView → ℕ → (rank : ℕ) → Bool
 is_passed_at view s rank = nat_le rank (first_at view s + signals_at view s)
+
+-- the value of semaphore s is below its first value: it was waited for more often than signalled
+-- (dispatch_semaphore_create(3))
+abbrev pub is_below_first_at : SemasView → ℕ → Bool
+is_below_first_at view s = nat_lt (signals_at view s) (waits_at view s)
 
 -- the value of semaphore s: its first value and the signals, less the waits; it is negative where more waits have begun than
 -- can pass (dispatch_semaphore_create(3))

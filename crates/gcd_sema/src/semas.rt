@@ -1,6 +1,6 @@
 // The semaphores.
 ghost use Rattle.std.specs.Prelude.{◌≡◌, ◌+◌, ◌<◌, ◌^◌, IfOk, length};
-ghost use Rattle.gcd_sema.specs.SemasView.{semas_of, first_at, signals_at, waits_at, is_passed_at, value_at, with_signals, with_waits};
+ghost use Rattle.gcd_sema.specs.SemasView.{semas_of, first_at, signals_at, waits_at, is_passed_at, is_below_first_at, value_at, with_signals, with_waits};
 
 use crate::first::first_values;
 use gcd_plan::{Obj, Plan};
@@ -39,8 +39,35 @@ impl Semas {
         })
     }
 
+    /// The same semaphores once more. It takes all the memory that the semaphores ever need: an `Err` comes only of want of it.
+    pub fn copied(&self, alloc: Global) -> Result<Semas, AllocError>
+        ensures { IfOk result (λ s. s ≡ self.now) }
+    {
+        Ok(Semas {
+            firsts: Vec::from_slice(alloc, &self.firsts)?,
+            signals: Vec::from_slice(alloc, &self.signals)?,
+            waits: Vec::from_slice(alloc, &self.waits)?,
+        })
+    }
+
+    /// How often the semaphore was waited for (dispatch_semaphore_wait(3)).
+    pub fn waits(&self, s: Obj) -> u32
+        requires { s.0 < length self.now.waits }
+        ensures { result ≡ waits_at self.now s.0 }
+    {
+        self.waits[s.0 as usize]
+    }
+
+    /// How often the semaphore was signalled (dispatch_semaphore_signal(3)).
+    pub fn signals(&self, s: Obj) -> u32
+        requires { s.0 < length self.now.waits }
+        ensures { result ≡ signals_at self.now s.0 }
+    {
+        self.signals[s.0 as usize]
+    }
+
     /// A wait on the semaphore begins; the answer is its rank, 1 for the first (dispatch_semaphore_wait(3)). There are fewer
-    /// than 2^32 - 1 waits on it before.
+    /// than 2^32 - 1 waits on it before: [`Semas::waits`] is the test.
     pub fn wait(&mut self, s: Obj) -> u32
         requires semaphore { s.0 < length self.old.waits }
         requires room { waits_at self.old s.0 + 1 < 2 ^ 32 }
@@ -52,7 +79,8 @@ impl Semas {
         rank
     }
 
-    /// The semaphore is signalled (dispatch_semaphore_signal(3)). It was signalled fewer than 2^32 - 1 times before.
+    /// The semaphore is signalled (dispatch_semaphore_signal(3)). It was signalled fewer than 2^32 - 1 times before:
+    /// [`Semas::signals`] is the test.
     pub fn signal(&mut self, s: Obj)
         requires semaphore { s.0 < length self.old.waits }
         requires room { signals_at self.old s.0 + 1 < 2 ^ 32 }
@@ -69,6 +97,15 @@ impl Semas {
     {
         let at = s.0 as usize;
         u64::from(rank) <= u64::from(self.firsts[at]) + u64::from(self.signals[at])
+    }
+
+    /// Whether the semaphore's value is below its first value: it was waited for more often than signalled
+    /// (dispatch_semaphore_create(3)). Of an object for which none waited it is false.
+    pub fn is_below_first(&self, s: Obj) -> bool
+        requires { s.0 < length self.now.waits }
+        ensures { result ≡ is_below_first_at self.now s.0 }
+    {
+        self.signals[s.0 as usize] < self.waits[s.0 as usize]
     }
 
     /// The semaphore's value: its first value, and the signals less the waits; it is negative where more waits have begun

@@ -52,6 +52,17 @@ impl Sources {
         })
     }
 
+    /// The same sources once more. It takes all the memory that the sources ever need: an `Err` comes only of want of it.
+    pub fn copied(&self, alloc: Global) -> Result<Sources, AllocError>
+        ensures { IfOk result (λ s. s ≡ self.now) }
+    {
+        Ok(Sources {
+            kinds: Vec::from_slice(alloc, &self.kinds)?,
+            pending: Vec::from_slice(alloc, &self.pending)?,
+            cancelled: Vec::from_slice(alloc, &self.cancelled)?,
+        })
+    }
+
     /// What is pending at the source: all that was merged since the last taking (dispatch_source_get_data(3)).
     pub fn pending(&self, s: Obj) -> u64
         requires { s.0 < length self.now.kinds }

@@ -112,7 +112,7 @@ fn play(rt: &impl Abort, plan: &Plan, sources: &mut Sources, call: &Call)
 fn merges_and_takings(rt: HostRuntime) -> Result<(), Fail> {
     let made = Plan::of_parts(parts(rt.alloc())?).ok_or("a valid plan")?;
     let plan = &made;
-    let mut sources = Sources::new(rt.alloc(), plan)?;
+    let mut sources = Sources::new(rt.alloc(), plan)?.copied(rt.alloc())?;
     for call in CALLS.iter() {
         play(&rt, plan, &mut sources, call);
     }

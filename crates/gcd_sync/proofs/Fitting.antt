@@ -5,6 +5,7 @@ use Rattle.std.proofs.lemmas.List.{length-set, get_or-set_same, get_or-set_other
 use Rattle.std.proofs.lemmas.Option.{none-some}
 use Rattle.gcd_plan.specs.declared.reason.Reason.{Reason}
 use Rattle.gcd_plan.specs.declared.reason.Reason.TheVariants.{Block, Group, Rank}
+use Rattle.gcd_plan.proofs.Places.{get_or-replicate_same}
 use Rattle.gcd_sync.specs.WaitsView.{WaitsView, reason_at, Fits, AllFit}
 
 abbrev seen : List (Option Reason) → ℕ → WaitsView
@@ -12,9 +13,7 @@ seen reasons objects = record { reasons = reasons; objects = objects }
 
 -- before the first event none is parked
 none_parked : (n objects b : ℕ) → reason_at (seen (replicate n None) objects) b ≡ None
-none_parked zero objects b = refl
-none_parked (suc n) objects zero = refl
-none_parked (suc n) objects (suc b) = none_parked n objects b
+none_parked n objects b = get_or-replicate_same n b None
 
 pub none_fit : (n objects : ℕ) → AllFit (seen (replicate n None) objects)
 none_fit n objects = record { fits = λ b why found. absurd (none-some why (sym (none_parked n objects b) ∙ found)) }

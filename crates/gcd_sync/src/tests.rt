@@ -1,4 +1,4 @@
-ghost use Rattle.std.specs.Prelude.{◌≡◌, ◌<◌, length};
+ghost use Rattle.std.specs.Prelude.{◌≡◌, length};
 
 use crate::Waits;
 use gcd_group::Groups;
@@ -23,6 +23,33 @@ fn parts(alloc: Global) -> Result<Parts, AllocError> {
         blocks: vec![in alloc; main, a, b, c]?,
         files: Vec::new(alloc),
         until: 1,
+    })
+}
+
+// The parts of one plan, and which of its blocks have ended.
+#[derive(Drop)]
+struct World {
+    objects: u32,
+    blocks: u32,
+    waits: Waits,
+    groups: Groups,
+    semas: Semas,
+    ended: Vec<bool>,
+    ghost blocks_fit: { length waits.reasons ≡ blocks },
+    ghost objects_fit: { waits.objects ≡ objects },
+    ghost groups_fit: { length groups.counts ≡ objects },
+    ghost semas_fit: { length semas.waits ≡ objects },
+    ghost ended_fit: { length ended.items ≡ blocks },
+}
+
+fn new_world(alloc: Global, plan: &Plan) -> Result<World, AllocError> {
+    Ok(World {
+        objects: plan.objects(),
+        blocks: plan.blocks(),
+        waits: Waits::new(alloc, plan)?.copied(alloc)?,
+        groups: Groups::new(alloc, plan)?,
+        semas: Semas::new(alloc, plan)?,
+        ended: vec![in alloc; false; plan.blocks() as usize]?,
     })
 }
 
@@ -97,132 +124,84 @@ const CALLS: [Call; 50] = [
     Call::Reason(Blk(3), Some(Reason::Rank(Obj(2), 3))),
 ];
 
-// The block and the object that a call names; number 0 where it names none.
-fn named(call: &Call) -> (Blk, Obj) {
-    match call {
-        Call::Park(b, _) => (*b, Obj(0)),
-        Call::Reason(b, _) => (*b, Obj(0)),
-        Call::MayWake(b, _) => (*b, Obj(0)),
-        Call::Woken(b) => (*b, Obj(0)),
-        Call::Ends(b) => (*b, Obj(0)),
-        Call::Enter(g, _) => (Blk(0), *g),
-        Call::Leave(g, _) => (Blk(0), *g),
-        Call::Wait(s, _) => (Blk(0), *s),
-        Call::Signal(s) => (Blk(0), *s),
-    }
-}
-
 // Parks a block for what is of the plan, at a position that has one after it.
-fn park(rt: &impl Abort, plan: &Plan, waits: &mut Waits, blk: Blk, why: Reason)
-    requires blocks { length waits.old.reasons ≡ length plan.now.blocks }
-    requires objects { waits.old.objects ≡ length plan.now.objects }
-    ensures blocks { length waits.new.reasons ≡ length plan.now.blocks }
-    ensures objects { waits.new.objects ≡ length plan.now.objects }
-{
-    assert!(rt; blk.0 < plan.blocks());
+fn park(rt: &impl Abort, world: &mut World, blk: Blk, why: Reason) {
+    assert!(rt; blk.0 < world.blocks);
     match why {
-        Reason::Block(b) => assert!(rt; b.0 < plan.blocks()),
-        Reason::Group(g, position) => {
-            assert!(rt; g.0 < plan.objects());
-            assert!(rt; position < 1000);
-        }
-        Reason::Rank(s, _) => assert!(rt; s.0 < plan.objects()),
+        Reason::Block(b) => assert!(rt; b.0 < world.blocks),
+        Reason::Group(g, position) => assert!(rt; g.0 < world.objects && position < 1000),
+        Reason::Rank(s, _) => assert!(rt; s.0 < world.objects),
     }
-    waits.park(blk, why);
+    world.waits.park(blk, why);
 }
 
-fn enter(rt: &impl Abort, groups: &mut Groups, g: Obj, at: u32)
-    requires { g.0 < length groups.old.counts }
-    ensures { length groups.new.counts ≡ length groups.old.counts }
-{
-    assert!(rt; groups.count(g) < 1000);
-    assert!(rt; at > 0);
-    groups.enter(g, at);
+fn reason(rt: &impl Abort, world: &World, blk: Blk) -> Option<Reason> {
+    assert!(rt; blk.0 < world.blocks);
+    world.waits.reason(blk)
 }
 
-fn leave(rt: &impl Abort, groups: &mut Groups, g: Obj, at: u32)
-    requires { g.0 < length groups.old.counts }
-    ensures { length groups.new.counts ≡ length groups.old.counts }
-{
-    assert!(rt; groups.entered(g) > 0);
-    groups.leave(g, at);
+fn may_wake(rt: &impl Abort, world: &World, blk: Blk) -> bool {
+    assert!(rt; blk.0 < world.blocks);
+    assert!(rt; world.waits.reason(blk).is_some());
+    world
+        .waits
+        .may_wake(&world.groups, &world.semas, &world.ended, blk)
 }
 
-fn wait(rt: &impl Abort, semas: &mut Semas, s: Obj) -> u32
-    requires { s.0 < length semas.old.waits }
-    ensures { length semas.new.waits ≡ length semas.old.waits }
-{
-    // The counts are far from the most that they can be.
-    assert!(rt; !semas.passed(s, 1000));
-    assert!(rt; semas.value(s) > -1000);
-    semas.wait(s)
+fn woken(rt: &impl Abort, world: &mut World, blk: Blk) {
+    assert!(rt; blk.0 < world.blocks);
+    world.waits.woken(blk);
 }
 
-fn signal(rt: &impl Abort, semas: &mut Semas, s: Obj)
-    requires { s.0 < length semas.old.waits }
-    ensures { length semas.new.waits ≡ length semas.old.waits }
-{
-    assert!(rt; !semas.passed(s, 1000));
-    semas.signal(s);
+fn ends(rt: &impl Abort, world: &mut World, blk: Blk) {
+    assert!(rt; blk.0 < world.blocks);
+    world.ended[blk.0 as usize] = true;
 }
 
-fn play(
-    rt: &impl Abort,
-    plan: &Plan,
-    waits: &mut Waits,
-    groups: &mut Groups,
-    semas: &mut Semas,
-    ended: &mut Vec<bool>,
-    call: &Call,
-)
-    requires blocks { length waits.old.reasons ≡ length plan.now.blocks }
-    requires objects { waits.old.objects ≡ length plan.now.objects }
-    requires groups { length groups.old.counts ≡ length plan.now.objects }
-    requires semas { length semas.old.waits ≡ length plan.now.objects }
-    requires ended { length ended.old.items ≡ length plan.now.blocks }
-    ensures blocks { length waits.new.reasons ≡ length plan.now.blocks }
-    ensures objects { waits.new.objects ≡ length plan.now.objects }
-    ensures groups { length groups.new.counts ≡ length plan.now.objects }
-    ensures semas { length semas.new.waits ≡ length plan.now.objects }
-    ensures ended { length ended.new.items ≡ length plan.now.blocks }
-{
-    let (blk, object) = named(call);
-    assert!(rt; blk.0 < plan.blocks());
-    assert!(rt; object.0 < plan.objects());
+fn enter(rt: &impl Abort, world: &mut World, g: Obj, at: u32) {
+    assert!(rt; g.0 < world.objects && 0 < at);
+    assert!(rt; world.groups.count(g) < 1000);
+    world.groups.enter(g, at);
+}
+
+fn leave(rt: &impl Abort, world: &mut World, g: Obj, at: u32) {
+    assert!(rt; g.0 < world.objects);
+    assert!(rt; world.groups.entered(g) > 0);
+    world.groups.leave(g, at);
+}
+
+fn wait(rt: &impl Abort, world: &mut World, s: Obj) -> u32 {
+    assert!(rt; s.0 < world.objects);
+    assert!(rt; world.semas.waits(s) < 1000);
+    world.semas.wait(s)
+}
+
+fn signal(rt: &impl Abort, world: &mut World, s: Obj) {
+    assert!(rt; s.0 < world.objects);
+    assert!(rt; world.semas.signals(s) < 1000);
+    world.semas.signal(s);
+}
+
+fn play(rt: &impl Abort, world: &mut World, call: &Call) {
     match call {
-        Call::Park(_, why) => park(rt, plan, waits, blk, *why),
-        Call::Reason(_, answer) => assert_eq!(rt; waits.reason(blk), *answer),
-        Call::MayWake(_, answer) => {
-            assert!(rt; waits.reason(blk).is_some());
-            assert_eq!(rt; waits.may_wake(groups, semas, ended, blk), *answer);
-        }
-        Call::Woken(_) => waits.woken(blk),
-        Call::Ends(_) => ended[blk.0 as usize] = true,
-        Call::Enter(_, at) => enter(rt, groups, object, *at),
-        Call::Leave(_, at) => leave(rt, groups, object, *at),
-        Call::Wait(_, rank) => assert_eq!(rt; wait(rt, semas, object), *rank),
-        Call::Signal(_) => signal(rt, semas, object),
+        Call::Park(blk, why) => park(rt, world, *blk, *why),
+        Call::Reason(blk, answer) => assert_eq!(rt; reason(rt, world, *blk), *answer, "{blk:?}"),
+        Call::MayWake(blk, answer) => assert_eq!(rt; may_wake(rt, world, *blk), *answer, "{blk:?}"),
+        Call::Woken(blk) => woken(rt, world, *blk),
+        Call::Ends(blk) => ends(rt, world, *blk),
+        Call::Enter(g, at) => enter(rt, world, *g, *at),
+        Call::Leave(g, at) => leave(rt, world, *g, *at),
+        Call::Wait(s, rank) => assert_eq!(rt; wait(rt, world, *s), *rank, "{s:?}"),
+        Call::Signal(s) => signal(rt, world, *s),
     }
 }
 
 #[test]
 fn parked_blocks_wake(rt: HostRuntime) -> Result<(), Fail> {
-    let made = Plan::of_parts(parts(rt.alloc())?).ok_or("a valid plan")?;
-    let plan = &made;
-    let mut waits = Waits::new(rt.alloc(), plan)?;
-    let mut groups = Groups::new(rt.alloc(), plan)?;
-    let mut semas = Semas::new(rt.alloc(), plan)?;
-    let mut ended = vec![in rt.alloc(); false; plan.blocks() as usize]?;
+    let plan = Plan::of_parts(parts(rt.alloc())?).ok_or("a valid plan")?;
+    let mut world = new_world(rt.alloc(), &plan)?;
     for call in CALLS.iter() {
-        play(
-            &rt,
-            plan,
-            &mut waits,
-            &mut groups,
-            &mut semas,
-            &mut ended,
-            call,
-        );
+        play(&rt, &mut world, call);
     }
     Ok(())
 }

@@ -38,6 +38,16 @@ impl Waits {
         })
     }
 
+    /// The same parked blocks once more. It takes all the memory that they ever need: an `Err` comes only of want of it.
+    pub fn copied(&self, alloc: Global) -> Result<Waits, AllocError>
+        ensures { IfOk result (λ w. w ≡ self.now) }
+    {
+        Ok(Waits {
+            reasons: Vec::from_slice(alloc, &self.reasons)?,
+            objects: self.objects,
+        })
+    }
+
     /// The block is parked from now on, until [`Waits::woken`], and waits for this (dispatch_sync(3),
     /// dispatch_group_wait(3), dispatch_semaphore_wait(3)). What it waits for is of the plan, and the position of a group's
     /// wait is below 2^32 - 1.

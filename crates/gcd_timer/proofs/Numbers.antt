@@ -3,25 +3,7 @@ use Rattle.std.proofs.Common.{◌≡◌, ℕ, zero, suc, ◌+◌, ◌<◌, ◌�
 use Rattle.std.specs.List.{count_by, find, range_with_len}
 use Rattle.std.proofs.lemmas.Bool.{cases_eq, cases_Bool, cond-true, cond-false}
 use Rattle.std.proofs.lemmas.List.Sums.{sum_by-cons}
-use Rattle.gcd_timer.specs.Beats.{earlier}
-
--- none passes
-pub find_none : (p : ℕ → Bool) (a n : ℕ) → ((t : ℕ) → a ≤ t → p t ≡ false) → find p (range_with_len a n) ≡ None
-find_none p a zero fails = refl
-find_none p a (suc n) fails =
-    cond-false (p a) _ _ (fails a (omega arith)) ∙ find_none p (a + 1) n (λ t low. fails t (omega arith))
-
--- x passes, and none before it
-pub find_first : (p : ℕ → Bool) (a n x : ℕ) → a ≤ x → x < a + n → p x ≡ true → ((t : ℕ) → a ≤ t → t < x → p t ≡ false)
-    → find p (range_with_len a n) ≡ Some x
-find_first p a zero x low high passes before = absurd (omega arith)
-find_first p a (suc n) x low high passes before =
-    elim (cases_eq a x) [
-      | inl here ↦ cond-true (p a) _ _ (ap p here ∙ passes) ∙ ap Some here
-      | inr later ↦
-          cond-false (p a) _ _ (before a (omega arith) (omega arith))
-          ∙ find_first p (a + 1) n x (omega arith) (omega arith) passes (λ t low' high'. before t (omega arith) high')
-    ]
+use Rattle.gcd_timer.specs.Intervals.{earlier}
 
 -- what is found is in the range
 found_from : (p : ℕ → Bool) (a n : ℕ) → (find p (range_with_len a n) ≡ None) ⊎ ((x : ℕ) × (a ≤ x) × (find p (range_with_len a n) ≡ Some x))

@@ -18,10 +18,12 @@ use Rattle.gcd_plan.specs.declared.kind.Kind.{Kind}
 use Rattle.gcd_plan.specs.declared.kind.Kind.TheVariants.{Timer}
 use Rattle.gcd_plan.specs.declared.numbers.Obj.{Obj}
 use Rattle.gcd_timer.specs.TimersView.{TimersView, is_due_at, is_any_due_at, activated_at, cancelled_at, next_due_at, due_count_at}
-use Rattle.gcd_timer.specs.Beats.{is_in, last_due, beat_of, earlier}
-use Rattle.gcd_timer.specs.Kept.{AreKept, is_timer_kind, is_timer_in, obj_of, timers_below, beat_at, next_due_of, next_due_among}
-use Rattle.gcd_timer.specs.declared.beat.Beat.{Beat}
-use Rattle.gcd_timer.proofs.Numbers.{find_none, find_either}
+use Rattle.gcd_timer.specs.Intervals.{is_due_in, last_due, due_times_of, earlier}
+use Rattle.gcd_plan.specs.Kinds.{is_timer_kind}
+use Rattle.gcd_timer.specs.Listed.{AreListed, is_timer_in, obj_of, timers_below, due_times_at, next_due_of, next_due_among}
+use Rattle.gcd_timer.specs.declared.due_times.DueTimes.{DueTimes}
+use Rattle.gcd_bits.proofs.Ranges.{find_none}
+use Rattle.gcd_timer.proofs.Numbers.{find_either}
 
 -- no later than `until` and the cancellation
 within : (until t : ℕ) (c : Option ℕ) → (nat_le t until && option_map_or (λ end. nat_le t end) c true) ≡ nat_le t (last_due until c)
@@ -33,44 +35,44 @@ within until t (Some end) = both until t end
 
 due_of_kind : (kind : Kind) (from until t : ℕ) (c : Option ℕ)
     → (is_on_interval kind from t && (nat_le t until && option_map_or (λ end. nat_le t end) c true))
-    ≡ option_map_or (λ beat. is_in beat t) (beat_of kind from (last_due until c)) false
+    ≡ option_map_or (λ times. is_due_in times t) (due_times_of kind from (last_due until c)) false
 due_of_kind (Timer start every) from until t c = ap (λ b. is_on_interval (Timer start every) from t && b) (within until t c)
 due_of_kind _ from until t c = refl
 
 due_of_found : (a : Option ℕ) (k : Option Kind) (until t : ℕ) (c : Option ℕ)
     → (option_map_or (λ from. option_map_or (λ kind. is_on_interval kind from t) k false) a false && (nat_le t until && option_map_or (λ end. nat_le t end) c true))
-    ≡ option_map_or (λ beat. is_in beat t) (option_and_then (λ from. option_and_then (λ kind. beat_of kind from (last_due until c)) k) a) false
+    ≡ option_map_or (λ times. is_due_in times t) (option_and_then (λ from. option_and_then (λ kind. due_times_of kind from (last_due until c)) k) a) false
 due_of_found None k until t c = refl
 due_of_found (Some from) None until t c = refl
 due_of_found (Some from) (Some kind) until t c = due_of_kind kind from until t c
 
 -- t is a due time where the numbers of the timer say so
-due_by_beat : (view : TimersView) (s t : ℕ) → is_due_at view s t ≡ option_map_or (λ beat. is_in beat t) (beat_at view s) false
-due_by_beat view s t = due_of_found (activated_at view s) (slice_get view.kinds s) view.until t (cancelled_at view s)
+due_by_times : (view : TimersView) (s t : ℕ) → is_due_at view s t ≡ option_map_or (λ times. is_due_in times t) (due_times_at view s) false
+due_by_times view s t = due_of_found (activated_at view s) (slice_get view.kinds s) view.until t (cancelled_at view s)
 
-due_none : (view : TimersView) (s t : ℕ) → beat_at view s ≡ None → is_due_at view s t ≡ false
-due_none view s t none = due_by_beat view s t ∙ ap (λ o. option_map_or (λ beat. is_in beat t) o false) none
+due_none : (view : TimersView) (s t : ℕ) → due_times_at view s ≡ None → is_due_at view s t ≡ false
+due_none view s t none = due_by_times view s t ∙ ap (λ o. option_map_or (λ times. is_due_in times t) o false) none
 
-due_some : (view : TimersView) (s : ℕ) (beat : Beat) → beat_at view s ≡ Some beat → is_due_at view s ≡ is_in beat
-due_some view s beat some = fun_ext (λ t. due_by_beat view s t ∙ ap (λ o. option_map_or (λ b. is_in b t) o false) some)
+due_some : (view : TimersView) (s : ℕ) (times : DueTimes) → due_times_at view s ≡ Some times → is_due_at view s ≡ is_due_in times
+due_some view s times some = fun_ext (λ t. due_by_times view s t ∙ ap (λ o. option_map_or (λ b. is_due_in b t) o false) some)
 
-pub next_none : (view : TimersView) (s : ℕ) → beat_at view s ≡ None → next_due_of view s ≡ None
-next_none view s none = find_none (is_due_at view s) (view.moment + 1) (view.until - view.moment) (λ t low. due_none view s t none)
+pub next_none : (view : TimersView) (s : ℕ) → due_times_at view s ≡ None → next_due_of view s ≡ None
+next_none view s none = find_none (is_due_at view s) (view.moment + 1) (view.until - view.moment) (λ t low high. due_none view s t none)
 
-pub next_some : (view : TimersView) (s : ℕ) (beat : Beat) → beat_at view s ≡ Some beat
-    → next_due_of view s ≡ find (is_in beat) (range_with_len (view.moment + 1) (view.until - view.moment))
-next_some view s beat some = ap (λ p. find p (range_with_len (view.moment + 1) (view.until - view.moment))) (due_some view s beat some)
+pub next_some : (view : TimersView) (s : ℕ) (times : DueTimes) → due_times_at view s ≡ Some times
+    → next_due_of view s ≡ find (is_due_in times) (range_with_len (view.moment + 1) (view.until - view.moment))
+next_some view s times some = ap (λ p. find p (range_with_len (view.moment + 1) (view.until - view.moment))) (due_some view s times some)
 
-pub count_some : (view : TimersView) (s : ℕ) (beat : Beat) → beat_at view s ≡ Some beat
-    → due_count_at view s ≡ count_by (is_in beat) (range_with_len 1 view.moment)
-count_some view s beat some = ap (λ p. count_by p (range_with_len 1 view.moment)) (due_some view s beat some)
+pub count_some : (view : TimersView) (s : ℕ) (times : DueTimes) → due_times_at view s ≡ Some times
+    → due_count_at view s ≡ count_by (is_due_in times) (range_with_len 1 view.moment)
+count_some view s times some = ap (λ p. count_by p (range_with_len 1 view.moment)) (due_some view s times some)
 
 count_fails : (p : ℕ → Bool) (xs : List ℕ) → ((t : ℕ) → p t ≡ false) → count_by p xs ≡ 0
 count_fails p [] fails = refl
 count_fails p (x ∷ xs) fails =
     sum_by-cons (λ t. cond {A = ℕ} (p t) 1 0) x xs ∙ ap (λ b. cond b 1 0 + count_by p xs) (fails x) ∙ (let rest = count_fails p xs fails in omega (arith, rest))
 
-pub count_none : (view : TimersView) (s : ℕ) → beat_at view s ≡ None → due_count_at view s ≡ 0
+pub count_none : (view : TimersView) (s : ℕ) → due_times_at view s ≡ None → due_count_at view s ≡ 0
 count_none view s none = count_fails (is_due_at view s) (range_with_len 1 view.moment) (λ t. due_none view s t none)
 
 -- the least due time among some timers, joined to what was found before
@@ -111,7 +113,7 @@ next_of_all view =
     let from = view.moment + 1 in
     let n = view.until - view.moment in
     let timers = timers_below view.kinds (length view.kinds) in
-    let none = find_none (λ t. false) from n (λ t low. refl) in
+    let none = find_none (λ t. false) from n (λ t low high. refl) in
     ap (λ next. fold (λ next s. earlier next (next_due_of view s.0)) next timers) (sym none)
     ∙ joined view (λ t. false) from n timers
     ∙ ap (λ f. find f (range_with_len from n)) (fun_ext (λ t. any_timer view t))
@@ -125,9 +127,9 @@ next_more view timers i d next found after low so_far here is =
     is ∙ ap (λ n. earlier n found) so_far ∙ ap (earlier (next_due_among view (take i timers))) here ∙ sym (fold_more step None timers i d low)
 
 -- the least among the timers is the least of all
-pub next_all : (kept view : TimersView) (timers listed : List Obj) (i : ℕ) (next : Option ℕ) → AreKept kept listed → kept ≡ view → timers ≡ listed
+pub next_all : (inner view : TimersView) (timers listed : List Obj) (i : ℕ) (next : Option ℕ) → AreListed inner listed → inner ≡ view → timers ≡ listed
     → length timers ≤ i → next ≡ next_due_among view (take i timers) → next ≡ next_due_at view
-next_all kept view timers listed i next ok is same end found =
+next_all inner view timers listed i next ok is same end found =
     found ∙ ap (next_due_among view) (take_all i timers end ∙ same ∙ ok.listed)
     ∙ ap (λ v. next_due_among view (timers_below v.kinds (length v.kinds))) is ∙ next_of_all view
 
@@ -139,12 +141,12 @@ below_all n = All-map (λ s. s.0 < n) obj_of (range_with_len 0 n) (λ k d low. (
     omega arith
     ))
 
-pub timers_within : (kept view : TimersView) (timers listed : List Obj) (i : ℕ) (d : Obj) → AreKept kept listed → kept ≡ view → timers ≡ listed
+pub timers_within : (inner view : TimersView) (timers listed : List Obj) (i : ℕ) (d : Obj) → AreListed inner listed → inner ≡ view → timers ≡ listed
     → i < length timers → (get_or timers i d).0 < length view.kinds
-timers_within kept view timers listed i d ok is same low =
-    let n = length kept.kinds in
+timers_within inner view timers listed i d ok is same low =
+    let n = length inner.kinds in
     let all : All (λ s. s.0 < n) timers =
-    All-same (λ s. s.0 < n) timers _ (same ∙ ok.listed) (All-filter (is_timer_in kept.kinds) (λ s. s.0 < n) _ (below_all n)) in
+    All-same (λ s. s.0 < n) timers _ (same ∙ ok.listed) (All-filter (is_timer_in inner.kinds) (λ s. s.0 < n) _ (below_all n)) in
     let here = all i d low in
     let e = ap (λ v. length v.kinds) is in
     omega arith
@@ -169,10 +171,10 @@ pub kinds_valid : (plan : PlanView) (kinds : List Kind) → IsPlan plan → kind
 kinds_valid plan kinds valid is = ap (list_all is_kind) is ∙ objects_kinds plan plan.objects valid.objects
 
 -- what a plan's timers keep before the first event
-pub kept_first : (plan : PlanView) (view : TimersView) (timers : List Obj) (n : ℕ) → IsPlan plan → n ≡ length plan.objects
+pub listed_first : (plan : PlanView) (view : TimersView) (timers : List Obj) (n : ℕ) → IsPlan plan → n ≡ length plan.objects
     → view.kinds ≡ map (λ o. o.kind) plan.objects → view.activated ≡ replicate n None → view.cancelled ≡ replicate n None
-    → timers ≡ timers_below view.kinds (length view.kinds) → AreKept view timers
-kept_first plan view timers n valid objects kinds activated cancelled listed =
+    → timers ≡ timers_below view.kinds (length view.kinds) → AreListed view timers
+listed_first plan view timers n valid objects kinds activated cancelled listed =
     let same : length view.kinds ≡ n = ap length kinds ∙ length-map plan.objects (λ o. o.kind) ∙ sym objects in
     record {
       activated = ap length activated ∙ length-replicate n None ∙ sym same;

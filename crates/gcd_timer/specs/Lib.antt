@@ -1,3 +1,3 @@
 pub mod TimersView
-pub mod Beats
-pub mod Kept
+pub mod Intervals
+pub mod Listed

@@ -1,20 +1,16 @@
 // Which objects of a plan are timers.
 ghost use Rattle.std.specs.Prelude.{◌≡◌, ◌≤◌, ◌++◌, ◌∷◌, [], cond, IfOk, length};
-ghost use Rattle.gcd_timer.specs.Kept.{is_timer_kind, timers_below};
+ghost use Rattle.gcd_plan.specs.Kinds.{is_timer_kind};
+ghost use Rattle.gcd_plan.specs.Limits.{max_objects};
+ghost use Rattle.gcd_timer.specs.Listed.{timers_below};
 
 use gcd_plan::{Kind, Obj};
 use std::alloc::{AllocError, Global};
 
-fn is_timer(kind: Kind) -> bool
-    ensures { result ≡ is_timer_kind kind }
-{
-    matches!(kind, Kind::Timer { .. })
-}
-
 fn push_timer(timers: &mut Vec<Obj>, kind: Kind, s: Obj) -> Result<(), AllocError>
     ensures { IfOk result (λ _. timers.new.items ≡ timers.old.items ++ cond (is_timer_kind kind) (s ∷ []) []) }
 {
-    if !is_timer(kind) {
+    if !kind.is_timer() {
         return Ok(());
     }
     timers.push(s)?;
@@ -23,7 +19,7 @@ fn push_timer(timers: &mut Vec<Obj>, kind: Kind, s: Obj) -> Result<(), AllocErro
 
 /// The objects that are timers, in order.
 pub fn timers_among(alloc: Global, kinds: &[Kind]) -> Result<Vec<Obj>, AllocError>
-    requires { length kinds.now ≤ 1024 }
+    requires { length kinds.now ≤ max_objects }
     ensures { IfOk result (λ v. v.items ≡ timers_below kinds.now (length kinds.now)) }
 {
     let mut timers = Vec::new(alloc);

@@ -1,13 +1,14 @@
 //! The timers of a plan, and the time (dispatch_source_create(3), dispatch_source_set_timer(3)).
 //!
-//! Contracts see [`Timers`] as plain data (`TimersView`): the kinds of the objects, the last due time, the present time, and
-//! for each object the time at which it was activated and at which it was cancelled. A timer that is activated at time A
-//! has the due times `A + start + k * every` for k from 0; none lies past the plan's `until`, and none past the timer's
-//! cancellation (`is_due_at`). Times are whole milliseconds (this project's own rule).
+//! Contracts see [`Timers`] as plain data (`TimersView`): the kinds of the objects, the last due time, the present
+//! time, and for each object the time at which it was activated and at which it was cancelled. A timer that is
+//! activated at time A has the due times `A + start + k * every` for k from 0; none lies past the plan's `until`, and
+//! none past the timer's cancellation (`is_due_at`). Times are whole milliseconds (this project's own rule).
 //!
 //! | call | answer | what it leaves |
 //! |---|---|---|
 //! | `Timers::new` | time 0, and nothing activated or cancelled; or want of memory | |
+//! | `copied` | the same timers once more; or want of memory | |
 //! | `moment` | the present time | |
 //! | `next_due` | the least due time after the present; None exactly where no due time is left | |
 //! | `due_count` | how many due times the timer has had, up to the present | |
@@ -15,15 +16,15 @@
 //! | `cancel` | | the timer cancelled now, where it was not before |
 //! | `tick` | | the present moved on, over any number of due times |
 //!
-//! No due time is kept in a list: they are counted by division, so a timer with an interval of 1 ms costs what one with two
-//! due times costs. `next_due` costs as much as the plan has timers; every other call costs the same whatever the plan.
-//! `new` takes all memory; every other call takes none and cannot fail.
+//! No due time is kept in a list: they are counted by division, so a timer with an interval of 1 ms costs what one with
+//! two due times costs. `next_due` costs as much as the plan has timers; every other call costs the same whatever the
+//! plan. `new` and `copied` take all memory, each array at once; every other call takes none and cannot fail.
 //!
-//! The crate knows no history, and not whether a timer's source is held. What a timer has pending is the caller's to say:
-//! the difference of two counts.
+//! The crate knows no history, and not whether a timer's source is held. What a timer has pending is the caller's to
+//! say: the difference of two counts.
 #![tactic(auto)]
 
-mod beat;
+mod due_times;
 mod first;
 mod timers;
 

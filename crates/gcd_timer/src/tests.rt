@@ -1,7 +1,7 @@
 ghost use Rattle.std.specs.Prelude.{◌≡◌, length};
 
 use crate::Timers;
-use gcd_plan::{BlkPart, Kind, Obj, ObjPart, Parts, Plan};
+use gcd_plan::{BlkPart, Kind, MAX_TIME, Obj, ObjPart, Parts, Plan};
 use std::alloc::{AllocError, Global};
 use std::process::Abort;
 use std::test::Fail;
@@ -193,11 +193,11 @@ const ROWS: [Row; 9] = [
     },
     // As many due times as there can be, at one tick.
     Row {
-        until: 86_400_000,
+        until: MAX_TIME,
         calls: &[
             Call::Activate(ONES),
-            Call::Tick(86_400_000),
-            Call::DueCount(ONES, 86_400_000),
+            Call::Tick(MAX_TIME),
+            Call::DueCount(ONES, MAX_TIME as u64),
             Call::DueCount(FIVES, 0),
             Call::NextDue(None),
         ],
@@ -236,7 +236,7 @@ fn play(rt: &impl Abort, plan: &Plan, timers: &mut Timers, call: &Call)
 fn play_row(rt: &impl Abort, alloc: Global, row: &Row) -> Result<(), Fail> {
     let made = Plan::of_parts(parts(alloc, row.until)?).ok_or("a valid plan")?;
     let plan = &made;
-    let mut timers = Timers::new(alloc, plan)?;
+    let mut timers = Timers::new(alloc, plan)?.copied(alloc)?;
     for call in row.calls {
         play(rt, plan, &mut timers, call);
     }

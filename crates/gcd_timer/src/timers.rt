@@ -1,10 +1,10 @@
 // The timers, and the time.
 ghost use Rattle.std.specs.Prelude.{◌≡◌, ◌<◌, ◌≤◌, IfOk, IfSome, None, is_some, true, length};
 ghost use Rattle.gcd_timer.specs.TimersView.{timers_of, activated_at, cancelled_at, next_due_at, due_count_at, with_activated, with_cancelled};
-ghost use Rattle.gcd_timer.specs.Beats.{IsBeat};
-ghost use Rattle.gcd_timer.specs.Kept.{beat_at, next_due_of};
+ghost use Rattle.gcd_timer.specs.Intervals.{IsSpaced};
+ghost use Rattle.gcd_timer.specs.Listed.{due_times_at, next_due_of};
 
-use crate::beat::{Beat, beat_of, count_of, earlier, last_due, next_of};
+use crate::due_times::{DueTimes, count_of, due_times_of, earlier, last_due, next_of};
 use crate::first::timers_among;
 use gcd_plan::{Kind, Obj, Plan};
 use std::alloc::{AllocError, Global};
@@ -25,26 +25,26 @@ pub struct Timers {
 
 impl Model for Timers {
     ghost use Rattle.gcd_timer.specs.TimersView.{TimersView};
-    ghost use Rattle.gcd_timer.specs.Kept.{AreKept};
+    ghost use Rattle.gcd_timer.specs.Listed.{AreListed};
 
     ghost Value = { TimersView };
 
     ghost view = { λ t. record { kinds = t.kinds.items; until = t.until; moment = t.moment; activated = t.activated.items; cancelled = t.cancelled.items } };
 
-    ghost invariant = { λ t. AreKept (record { kinds = t.kinds.items; until = t.until; moment = t.moment; activated = t.activated.items; cancelled = t.cancelled.items }) t.timers.items };
+    ghost invariant = { λ t. AreListed (record { kinds = t.kinds.items; until = t.until; moment = t.moment; activated = t.activated.items; cancelled = t.cancelled.items }) t.timers.items };
 }
 
 impl Timers {
     // The due times of the object; None where it is no timer, or is not activated.
-    fn beat(&self, s: Obj) -> Option<Beat>
+    fn due_times(&self, s: Obj) -> Option<DueTimes>
         requires { s.0 < length self.now.kinds }
-        ensures is { result ≡ beat_at self.now s.0 }
-        ensures sound { IfSome result (λ beat. IsBeat beat) }
-        ensures within { IfSome result (λ beat. beat.last ≤ self.now.until) }
+        ensures is { result ≡ due_times_at self.now s.0 }
+        ensures sound { IfSome result (λ times. IsSpaced times) }
+        ensures within { IfSome result (λ times. times.last ≤ self.now.until) }
     {
         let at = s.0 as usize;
         let from = self.activated[at]?;
-        beat_of(
+        due_times_of(
             self.kinds[at],
             from,
             last_due(self.until, self.cancelled[at]),
@@ -57,7 +57,7 @@ impl Timers {
         requires { s.0 < length self.now.kinds }
         ensures { result ≡ next_due_of self.now s.0 }
     {
-        next_of(self.beat(s)?, self.moment)
+        next_of(self.due_times(s)?, self.moment)
     }
 }
 
@@ -76,6 +76,20 @@ impl Timers {
             moment: 0,
             activated: vec![in alloc; None; objects]?,
             cancelled: vec![in alloc; None; objects]?,
+        })
+    }
+
+    /// The same timers at the same time once more. It takes all the memory that the timers ever need: an `Err` comes only of want of it.
+    pub fn copied(&self, alloc: Global) -> Result<Timers, AllocError>
+        ensures { IfOk result (λ t. t ≡ self.now) }
+    {
+        Ok(Timers {
+            kinds: Vec::from_slice(alloc, &self.kinds)?,
+            timers: Vec::from_slice(alloc, &self.timers)?,
+            until: self.until,
+            moment: self.moment,
+            activated: Vec::from_slice(alloc, &self.activated)?,
+            cancelled: Vec::from_slice(alloc, &self.cancelled)?,
         })
     }
 
@@ -106,9 +120,9 @@ impl Timers {
         requires { s.0 < length self.now.kinds }
         ensures { result ≡ due_count_at self.now s.0 }
     {
-        match self.beat(s) {
+        match self.due_times(s) {
             None => 0,
-            Some(beat) => count_of(beat, self.moment),
+            Some(times) => count_of(times, self.moment),
         }
     }
 

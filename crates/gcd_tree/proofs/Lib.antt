@@ -2,6 +2,7 @@ pub mod Ahead
 pub mod Walks
 pub mod Ranges
 pub mod Counts
-pub mod Kept
+pub mod TreeChanges
 pub mod Runs
 pub mod PlanTree
+pub mod Chains

@@ -17,9 +17,10 @@ use Rattle.gcd_plan.specs.Validity.{IsPlan, is_object, has_fields, root_view}
 use Rattle.gcd_plan.specs.Chains.{chain_by, is_in}
 use Rattle.gcd_tree.specs.TreeView.{TreeView, tree_of, target_at, request_at, is_moving_at, open_on_at, is_node_at, walk_next}
 use Rattle.gcd_tree.specs.IsTree.{IsTree}
+use Rattle.gcd_plan.proofs.Places.{get_or-replicate_same}
 use Rattle.gcd_plan.proofs.Walks.{chain_agree}
-use Rattle.gcd_tree.proofs.Kept.{beneath-le-all}
-use Rattle.gcd_tree.proofs.Runs.{Keeps}
+use Rattle.gcd_tree.proofs.TreeChanges.{beneath-le-all}
+use Rattle.gcd_tree.proofs.Runs.{IsCountedTree}
 
 -- ---- the lists by object
 
@@ -35,22 +36,17 @@ node_read [] o = refl
 node_read (x ∷ xs) zero = refl
 node_read (x ∷ xs) (suc o) = node_read xs o
 
-all_same : {A : Type 0} (n o : ℕ) (x : A) → get_or (replicate n x) o x ≡ x
-all_same zero o x = refl
-all_same (suc n) zero x = refl
-all_same (suc n) (suc o) x = all_same n o x
-
 -- the target of an object in a plan's tree is its first target
 pub target_at-tree_of : (plan : PlanView) (o : ℕ) → target_at (tree_of plan) o ≡ first_target plan o
 target_at-tree_of plan o = target_read plan.objects o
 
 -- none has a request
 pub request_at-tree_of : (plan : PlanView) (o : ℕ) → request_at (tree_of plan) o ≡ None
-request_at-tree_of plan o = ap (option_map (λ t. t.0)) (all_same (length plan.objects) o None)
+request_at-tree_of plan o = ap (option_map (λ t. t.0)) (get_or-replicate_same (length plan.objects) o None)
 
 -- nothing is open
 pub open_on_at-tree_of : (plan : PlanView) (o : ℕ) → open_on_at (tree_of plan) o ≡ 0
-open_on_at-tree_of plan o = all_same (length plan.objects) o 0
+open_on_at-tree_of plan o = get_or-replicate_same (length plan.objects) o 0
 
 -- its nodes are the plan's queues and sources
 pub is_node_at-tree_of : (plan : PlanView) (o : ℕ) → is_node_at (tree_of plan) o ≡ is_node plan o
@@ -138,10 +134,10 @@ first_target_plain plan valid o lt none =
     first_target_at plan o lt ∙ plain_at_root plan _ (get_or plan.objects o root_view) (fields_at plan valid o lt) (sym kind ∙ none)
 
 rests_all : (plan : PlanView) (o : ℕ) → is_moving_at (tree_of plan) o ≡ false
-rests_all plan o = ap is_some (all_same (length plan.objects) o None)
+rests_all plan o = ap is_some (get_or-replicate_same (length plan.objects) o None)
 
 walks_all : (plan : PlanView) (o : ℕ) → walk_next (tree_of plan) o ≡ first_target plan o
-walks_all plan o = ap (λ r. unwrap_or (option_map (λ t. t.0) r) (target_at (tree_of plan) o)) (all_same (length plan.objects) o None) ∙ target_at-tree_of plan o
+walks_all plan o = ap (λ r. unwrap_or (option_map (λ t. t.0) r) (target_at (tree_of plan) o)) (get_or-replicate_same (length plan.objects) o None) ∙ target_at-tree_of plan o
 
 chains_as : (plan : PlanView) → IsPlan plan → (f : ℕ → ℕ) (n o : ℕ) → ((x : ℕ) → f x ≡ first_target plan x) → n ≡ length plan.objects
     → o < n → is_in 0 (chain_by f n o) ≡ true
@@ -171,21 +167,21 @@ IsTree-tree_of plan valid =
     }
 
 -- the counts before the first event are 0
-tree_of_keeps : (plan : PlanView) → IsPlan plan → Keeps (tree_of plan) (replicate (length plan.objects) 0)
-tree_of_keeps plan valid =
+counted_first : (plan : PlanView) → IsPlan plan → IsCountedTree (tree_of plan) (replicate (length plan.objects) 0)
+counted_first plan valid =
     let tree = IsTree-tree_of plan valid in (
       tree,
       record {
         as_many = tree.as_many_open_on;
         exact = λ o _.
             let none : sum (tree_of plan).open_on ≡ length plan.objects * 0 = sum_by-replicate (λ x. x) (length plan.objects) 0 in
-            omega (arith, all_same {A = ℕ} (length plan.objects) o 0, beneath-le-all (tree_of plan) o tree.as_many_open_on, none);
+            omega (arith, get_or-replicate_same {A = ℕ} (length plan.objects) o 0, beneath-le-all (tree_of plan) o tree.as_many_open_on, none);
       },
     )
 
-pub kept_as : (plan : PlanView) → IsPlan plan → (view : TreeView) (counts : List ℕ)
+pub counted_as : (plan : PlanView) → IsPlan plan → (view : TreeView) (counts : List ℕ)
     → view.targets ≡ (tree_of plan).targets → view.requests ≡ (tree_of plan).requests → view.open_on ≡ (tree_of plan).open_on
-    → view.nodes ≡ (tree_of plan).nodes → counts ≡ replicate (length plan.objects) 0 → Keeps view counts
-kept_as plan valid view counts targets requests open_on nodes zero_counts =
+    → view.nodes ≡ (tree_of plan).nodes → counts ≡ replicate (length plan.objects) 0 → IsCountedTree view counts
+counted_as plan valid view counts targets requests open_on nodes zero_counts =
     let same : view ≡ tree_of plan = λ i. record { targets = targets i; requests = requests i; open_on = open_on i; nodes = nodes i } in
-    subst (λ v. Keeps v counts) (sym same) (subst (Keeps (tree_of plan)) (sym zero_counts) (tree_of_keeps plan valid))
+    subst (λ v. IsCountedTree v counts) (sym same) (subst (IsCountedTree (tree_of plan)) (sym zero_counts) (counted_first plan valid))

@@ -1,4 +1,4 @@
--- What a tree and its counts keep at each call.
+-- That a tree stays one, and its counts those of what is open beneath, at each call.
 use Rattle.std.proofs.Common.{◌≡◌, ◌≢◌, ℕ, ◌+◌, ◌-◌, ◌^◌, ◌<◌, ◌≤◌, ◌==◌, Bool, true, false, cond, inl, inr, List, [], ◌∷◌, length, get_or, set, Option, Some, None, is_some, option_map, unwrap_or, refl, ap, sym, ◌∙◌, subst, arith, length-set, get_or-set_other, get_or-set_same, slice_index, slice_index_or}
 use Rattle.std.specs.List.{list_any, sum, count_by}
 use Rattle.std.proofs.lemmas.Bool.{false≢true, true≢false, both_ways, eqb-true, cases_eq, cases_Bool, or_left, or_right, or_cases, true_from_ne_false, false_from_ne_true}
@@ -7,20 +7,17 @@ use Rattle.gcd_plan.specs.declared.numbers.Obj.{Obj}
 use Rattle.gcd_plan.specs.Chains.{chain_by, is_in}
 use Rattle.gcd_tree.specs.TreeView.{TreeView, target_at, is_moving_at, open_on_at, is_node_at, chain_at, has_mover_at, walk_next, would_cycle_at, has_child_at, open_beneath_at, with_target, with_request, with_open}
 use Rattle.gcd_tree.specs.IsTree.{IsTree, CountBeneath}
+use Rattle.gcd_plan.proofs.Sums.{cond-le-one}
 use Rattle.gcd_tree.proofs.Walks.{count_by-chain_by, not_again}
-use Rattle.gcd_tree.proofs.Kept.{from-le-beneath, beneath-le-all, beneath-with_open, quiet_below, not_root, IsTree-with_open, IsTree-with_request, cond_zero, IsTree-retargeted, beneath-retargeted, Retargets}
+use Rattle.gcd_tree.proofs.TreeChanges.{from-le-beneath, beneath-le-all, beneath-with_open, quiet_below, not_root, IsTree-with_open, IsTree-with_request, cond_zero, IsTree-retargeted, beneath-retargeted, Retargets}
 
--- the invariant of a tree
-abbrev pub Keeps : TreeView → List ℕ → Type 0
-Keeps view counts = IsTree view × CountBeneath view counts
+-- a tree, and counts that say how many runs are open beneath each object
+abbrev pub IsCountedTree : TreeView → List ℕ → Type 0
+IsCountedTree view counts = IsTree view × CountBeneath view counts
 
 -- how often x stands on the chain of the node
 abbrev pub passes : TreeView → ℕ → ℕ → ℕ
 passes view node x = count_by (λ y. y == x) (chain_at view node)
-
-cond_one : (b : Bool) → cond b 1 0 ≤ 1
-cond_one true = omega arith
-cond_one false = omega arith
 
 cond_sum : (b : Bool) (k n : ℕ) → n ≡ k + 1 → cond b n 0 ≡ cond b k 0 + cond b 1 0
 cond_sum true k n e = e
@@ -43,29 +40,29 @@ one_less xs i v lt e some = let read = get_or_read xs i v lt e 0 in omega (arith
 
 -- ---- a run more
 
-pub opened_room : (view : TreeView) (counts : List ℕ) → Keeps view counts → (node : ℕ) → node < length view.targets
+pub opened_room : (view : TreeView) (counts : List ℕ) → IsCountedTree view counts → (node : ℕ) → node < length view.targets
     → sum view.open_on + 1 < 2 ^ 32 → (x : ℕ) → x < length view.targets → slice_index counts x + passes view node x < 2 ^ 32
-opened_room view counts keeps node lt room x within =
-    let once = count_by-chain_by (target_at view) (length view.targets) node x (keeps.0.chains_end node lt) in
+opened_room view counts counted node lt room x within =
+    let once = count_by-chain_by (target_at view) (length view.targets) node x (counted.0.chains_end node lt) in
     omega (
       arith,
       once,
-      cond_one (is_in x (chain_at view node)),
-      keeps.1.exact x within,
-      beneath-le-all view x keeps.0.as_many_open_on,
+      cond-le-one (is_in x (chain_at view node)),
+      counted.1.exact x within,
+      beneath-le-all view x counted.0.as_many_open_on,
       room,
     )
 
-pub opened_keeps : (view : TreeView) (counts next : List ℕ) → Keeps view counts → (node n : ℕ) → node < length view.targets
+pub counted_opened : (view : TreeView) (counts next : List ℕ) → IsCountedTree view counts → (node n : ℕ) → node < length view.targets
     → has_mover_at view node ≡ false → n ≡ open_on_at view node + 1 → length next ≡ length counts
     → ((x : ℕ) → x < length view.targets → slice_index next x ≡ slice_index counts x + passes view node x)
-    → Keeps (with_open view node n) next
-opened_keeps view counts next keeps node n lt none more same raised =
-    let tree = keeps.0 in (
+    → IsCountedTree (with_open view node n) next
+counted_opened view counts next counted node n lt none more same raised =
+    let tree = counted.0 in (
       IsTree-with_open view tree node n lt (λ moving. omega (arith, more))
           (λ _ q on moving. absurd (both_ways _ none (any_of (is_moving_at view) q (chain_at view node) on moving))),
       record {
-        as_many = same ∙ keeps.1.as_many;
+        as_many = same ∙ counted.1.as_many;
         exact = λ x within.
             let once = count_by-chain_by (target_at view) (length view.targets) node x (tree.chains_end node lt) in
             let changed = beneath-with_open view node n x lt (omega (arith, lt, tree.as_many_open_on)) in
@@ -75,36 +72,36 @@ opened_keeps view counts next keeps node n lt none more same raised =
               changed,
               cond_sum (is_in x (chain_at view node)) (open_on_at view node) n more,
               raised x within,
-              keeps.1.exact x within,
+              counted.1.exact x within,
             );
       },
     )
 
 -- ---- a run less
 
-pub closed_enough : (view : TreeView) (counts : List ℕ) → Keeps view counts → (node : ℕ) → node < length view.targets
+pub closed_enough : (view : TreeView) (counts : List ℕ) → IsCountedTree view counts → (node : ℕ) → node < length view.targets
     → 0 < open_on_at view node → (x : ℕ) → x < length view.targets → passes view node x ≤ slice_index counts x
-closed_enough view counts keeps node lt some x within =
-    let once = count_by-chain_by (target_at view) (length view.targets) node x (keeps.0.chains_end node lt) in
+closed_enough view counts counted node lt some x within =
+    let once = count_by-chain_by (target_at view) (length view.targets) node x (counted.0.chains_end node lt) in
     elim (cases_Bool (is_in x (chain_at view node))) [
       | inl on ↦
           let own = from-le-beneath view x node lt on in
           let one : ◌≡◌ {A = ℕ} (cond (is_in x (chain_at view node)) 1 0) 1 = ap (λ b. cond b 1 0) on in
-          omega (arith, own, one, once, keeps.1.exact x within, some)
+          omega (arith, own, one, once, counted.1.exact x within, some)
       | inr off ↦
           let zero_times : ◌≡◌ {A = ℕ} (cond (is_in x (chain_at view node)) 1 0) 0 = ap (λ b. cond b 1 0) off in
           omega (arith, zero_times, once)
     ]
 
-pub closed_keeps : (view : TreeView) (counts next : List ℕ) → Keeps view counts → (node n : ℕ) → node < length view.targets
+pub counted_closed : (view : TreeView) (counts next : List ℕ) → IsCountedTree view counts → (node n : ℕ) → node < length view.targets
     → open_on_at view node ≡ n + 1 → (is_moving_at view node ≡ true → 0 < n) → length next ≡ length counts
     → ((x : ℕ) → x < length view.targets → slice_index next x + passes view node x ≡ slice_index counts x)
-    → Keeps (with_open view node n) next
-closed_keeps view counts next keeps node n lt less moves same lowered =
-    let tree = keeps.0 in (
+    → IsCountedTree (with_open view node n) next
+counted_closed view counts next counted node n lt less moves same lowered =
+    let tree = counted.0 in (
       IsTree-with_open view tree node n lt moves (λ _ q on moving. tree.open_chains_stay q node lt (omega (arith, less)) on moving),
       record {
-        as_many = same ∙ keeps.1.as_many;
+        as_many = same ∙ counted.1.as_many;
         exact = λ x within.
             let once = count_by-chain_by (target_at view) (length view.targets) node x (tree.chains_end node lt) in
             let changed = beneath-with_open view node n x lt (omega (arith, lt, tree.as_many_open_on)) in
@@ -114,7 +111,7 @@ closed_keeps view counts next keeps node n lt less moves same lowered =
               changed,
               cond_sum (is_in x (chain_at view node)) n (open_on_at view node) less,
               lowered x within,
-              keeps.1.exact x within,
+              counted.1.exact x within,
             );
       },
     )
@@ -125,12 +122,12 @@ still_root e = cc
 moving_to : (view : TreeView) (o : ℕ) (t : Obj) → slice_index_or view.requests o None ≡ Some t → walk_next view o ≡ t.0
 moving_to view o t e = ap (λ r. unwrap_or (option_map (λ y. y.0) r) (target_at view o)) e
 
-pub settled_keeps : (view : TreeView) (counts next : List ℕ) → Keeps view counts → (node : ℕ) (t : Obj) → node < length view.targets
+pub counted_settled : (view : TreeView) (counts next : List ℕ) → IsCountedTree view counts → (node : ℕ) (t : Obj) → node < length view.targets
     → open_on_at view node ≡ 1 → slice_index_or view.requests node None ≡ Some t → length next ≡ length counts
     → ((x : ℕ) → x < length view.targets → slice_index next x + passes view node x ≡ slice_index counts x)
-    → Keeps (with_request (with_target (with_open view node 0) node t) node None) next
-settled_keeps view counts next keeps node t lt one asked same lowered =
-    let tree = keeps.0 in
+    → IsCountedTree (with_request (with_target (with_open view node 0) node t) node None) next
+counted_settled view counts next counted node t lt one asked same lowered =
+    let tree = counted.0 in
     let n = length view.targets in
     let after = with_request (with_target (with_open view node 0) node t) node None in
     let moves : is_moving_at view node ≡ true = ap is_some asked in
@@ -161,13 +158,13 @@ settled_keeps view counts next keeps node t lt one asked same lowered =
     } in (
       IsTree-retargeted view after node t.0 tree change lt fits away is_node apart quiet,
       record {
-        as_many = same ∙ keeps.1.as_many ∙ sym change.as_many;
+        as_many = same ∙ counted.1.as_many ∙ sym change.as_many;
         exact = λ x within'.
             let within : x < n = omega (arith, within', change.as_many) in
             let once = count_by-chain_by (target_at view) n node x (tree.chains_end node lt) in
             let beneath = beneath-retargeted view after node t.0 tree change lt fits away is_node apart quiet x in
             let single = ap (λ k. cond (is_in x (chain_at view node)) k 0) one in
-            omega (arith, once, beneath, single, lowered x within, keeps.1.exact x within);
+            omega (arith, once, beneath, single, lowered x within, counted.1.exact x within);
       },
     )
 
@@ -177,11 +174,11 @@ not_some : (r : Option Obj) → is_some r ≡ false → r ≡ None
 not_some None e = refl
 not_some (Some t) e = absurd (true≢false e)
 
-pub retarget_keeps : (view : TreeView) (counts : List ℕ) → Keeps view counts → (o : ℕ) (t : Obj)
+pub counted_retargeted : (view : TreeView) (counts : List ℕ) → IsCountedTree view counts → (o : ℕ) (t : Obj)
     → o < length view.targets → t.0 < length view.targets → is_node_at view o ≡ true → would_cycle_at view o t.0 ≡ false
-    → (has_child_at view o ≡ true → open_beneath_at view o ≡ 0) → open_on_at view o ≡ 0 → Keeps (with_target view o t) counts
-retarget_keeps view counts keeps o t object fits node apart quiet none =
-    let tree = keeps.0 in
+    → (has_child_at view o ≡ true → open_beneath_at view o ≡ 0) → open_on_at view o ≡ 0 → IsCountedTree (with_target view o t) counts
+counted_retargeted view counts counted o t object fits node apart quiet none =
+    let tree = counted.0 in
     let n = length view.targets in
     let after = with_target view o t in
     let away = not_root view tree o t.0 fits apart in
@@ -202,21 +199,21 @@ retarget_keeps view counts keeps o t object fits node apart quiet none =
     let below = quiet_below view tree o away quiet in (
       IsTree-retargeted view after o t.0 tree change object fits away node apart below,
       record {
-        as_many = keeps.1.as_many ∙ sym change.as_many;
+        as_many = counted.1.as_many ∙ sym change.as_many;
         exact = λ x within'.
             let within : x < n = omega (arith, within', change.as_many) in
             let beneath = beneath-retargeted view after o t.0 tree change object fits away node apart below x in
             let zero_runs = ap (λ k. cond (is_in x (chain_at view o)) k 0) none ∙ cond_zero (is_in x (chain_at view o)) in
-            omega (arith, beneath, zero_runs, keeps.1.exact x within);
+            omega (arith, beneath, zero_runs, counted.1.exact x within);
       },
     )
 
-pub ask_keeps : (view : TreeView) (counts : List ℕ) → Keeps view counts → (o : ℕ) (t : Obj)
+pub counted_asked : (view : TreeView) (counts : List ℕ) → IsCountedTree view counts → (o : ℕ) (t : Obj)
     → o < length view.targets → t.0 < length view.targets → is_node_at view o ≡ true → would_cycle_at view o t.0 ≡ false
-    → (has_child_at view o ≡ true → open_beneath_at view o ≡ 0) → 0 < open_on_at view o → Keeps (with_request view o (Some t)) counts
-ask_keeps view counts keeps o t object fits node apart quiet some =
-    let tree = keeps.0 in
+    → (has_child_at view o ≡ true → open_beneath_at view o ≡ 0) → 0 < open_on_at view o → IsCountedTree (with_request view o (Some t)) counts
+counted_asked view counts counted o t object fits node apart quiet some =
+    let tree = counted.0 in
     let away = not_root view tree o t.0 fits apart in (
       IsTree-with_request view tree o t object fits node apart (quiet_below view tree o away quiet) some,
-      record { as_many = keeps.1.as_many; exact = keeps.1.exact },
+      record { as_many = counted.1.as_many; exact = counted.1.exact },
     )

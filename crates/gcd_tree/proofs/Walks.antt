@@ -5,16 +5,16 @@ use Rattle.std.proofs.lemmas.Bool.{false≢true, both_ways, ne_eqb, eq-eqb, eqb-
 use Rattle.std.proofs.lemmas.List.Sums.{sum_by-cons}
 use Rattle.std.proofs.lemmas.Map.Steps.{length-le_from_distinct_below}
 use Rattle.gcd_plan.specs.Chains.{chain_by, is_in}
-use Rattle.gcd_plan.proofs.Walks.{in_rest, chain_agree}
+use Rattle.gcd_plan.proofs.Walks.{in_rest, in_longer, chain_agree}
 
 -- ---- one step
 
 -- at root a walk is root alone
-chain_by-root : (f : ℕ → ℕ) (b o : ℕ) → o ≡ 0 → chain_by f (suc b) o ≡ o ∷ []
+pub chain_by-root : (f : ℕ → ℕ) (b o : ℕ) → o ≡ 0 → chain_by f (suc b) o ≡ o ∷ []
 chain_by-root f b o at = let e : (o == 0) ≡ true = eq-eqb _ _ at in rw e refl
 
 -- elsewhere it goes on
-chain_by-away : (f : ℕ → ℕ) (b o : ℕ) → o ≢ 0 → chain_by f (suc b) o ≡ o ∷ chain_by f b (f o)
+pub chain_by-away : (f : ℕ → ℕ) (b o : ℕ) → o ≢ 0 → chain_by f (suc b) o ≡ o ∷ chain_by f b (f o)
 chain_by-away f b o away = let e : (o == 0) ≡ false = ne_eqb _ _ away in rw e refl
 
 -- what is first in a list, and what is in its rest
@@ -24,7 +24,7 @@ is_in-first o x xs e = let t : (x == o) ≡ true = eq-eqb _ _ e in rw t refl
 is_in-rest : (o x : ℕ) (xs : List ℕ) → is_in o xs ≡ true → is_in o (x ∷ xs) ≡ true
 is_in-rest o x xs h = or_right (x == o) (is_in o xs) h
 
-is_in-other : (o x : ℕ) (xs : List ℕ) → x ≢ o → is_in o (x ∷ xs) ≡ is_in o xs
+pub is_in-other : (o x : ℕ) (xs : List ℕ) → x ≢ o → is_in o (x ∷ xs) ≡ is_in o xs
 is_in-other o x xs ne = let t : (x == o) ≡ false = ne_eqb _ _ ne in rw t refl
 
 -- what is on a walk, by where the walk stands
@@ -86,15 +86,6 @@ chain_by-more f (suc b) (suc m) o h le = elim (stands f b o 0 h) [
   | here at ↦ chain_by-root f m o at ∙ sym (chain_by-root f b o at)
   | later away _ rest ↦
       chain_by-away f m o away ∙ ap (λ xs. o ∷ xs) (chain_by-more f b m (f o) rest (omega arith)) ∙ sym (chain_by-away f b o away)
-]
-
--- what is on a walk is on it within a larger bound
-pub is_in-more : (f : ℕ → ℕ) (b m o x : ℕ) → is_in x (chain_by f b o) ≡ true → b ≤ m → is_in x (chain_by f m o) ≡ true
-is_in-more f zero m o x h le = absurd (false≢true h)
-is_in-more f (suc b) zero o x h le = absurd (omega arith)
-is_in-more f (suc b) (suc m) o x h le = elim (stands f b o x h) [
-  | here same ↦ is_in-start f m o x same
-  | later _ away rest ↦ in_rest f m o x away (is_in-more f b m (f o) x rest (omega arith))
 ]
 
 -- from each object of a walk that ends the walk ends too, and is no longer
@@ -232,7 +223,7 @@ ends_redirected f g p b (suc c) (suc m) o same apart ends h le = elim (stands f 
     | inl there ↦
         let kept : chain_by g b (g p) ≡ chain_by f b (g p) = chain_agree f g b (g p)
         (λ x on. same x (λ e. both_ways _ apart (subst (λ y. is_in y (chain_by f b (g p)) ≡ true) e on))) in
-        subst (λ y. is_in 0 (chain_by g m (g y)) ≡ true) (sym there) (is_in-more g b m (g p) 0 (ap (is_in 0) kept ∙ ends) (omega arith))
+        subst (λ y. is_in 0 (chain_by g m (g y)) ≡ true) (sym there) (in_longer g b m (g p) 0 (omega arith) (ap (is_in 0) kept ∙ ends))
     | inr elsewhere ↦
         subst (λ y. is_in 0 (chain_by g m y) ≡ true) (sym (same o elsewhere))
         (ends_redirected f g p b c m (f o) same apart ends rest (omega arith))
@@ -260,7 +251,7 @@ parting f g (suc b) t o h none = elim (stands f b t o h) [
           at = p.at;
           elsewhere = p.elsewhere;
           on_it = in_rest f b t p.at away p.on_it;
-          before = is_in-more f b (suc b) p.at o p.before (omega arith);
+          before = in_longer f b (suc b) p.at o (omega arith) p.before;
           apart = p.apart;
         }
     | inr here_apart ↦ record { at = t; elsewhere = other; on_it = is_in-start f b t t refl; before = h; apart = here_apart }

@@ -2,19 +2,20 @@
 use Rattle.std.specs.Prelude.{◌≡◌, ℕ, ◌<◌, ◌≤◌, true, false, None, List, length, slice_index}
 use Rattle.gcd_plan.specs.declared.numbers.Obj.{Obj}
 use Rattle.gcd_plan.specs.Chains.{chain_by, is_in}
+use Rattle.gcd_plan.specs.Limits.{max_objects}
 use Rattle.gcd_tree.specs.TreeView.{TreeView, target_in, target_at, request_at, is_moving_at, open_on_at, is_node_at, chain_at, walk_next, open_beneath_at}
 
 -- each target is an object
 abbrev pub TargetsFit : List Obj → Type 0
 TargetsFit targets = (o : ℕ) → o < length targets → target_in targets o < length targets
 
--- a tree: its lists are equally long, root first and at most 1,024 objects in all; its numbers are in range; following
+-- a tree: its lists are equally long, root first and no more objects than a plan may have; its numbers are in range; following
 -- the targets, or where an object has a request that, ends at root; what is no queue or source rests at root. An object
 -- with a request has an open run, and above an object with an open run none has a request. So beneath an object with a
 -- request only its own runs are open.
 pub record IsTree (view : TreeView) : Type 0 where
   pub root : 0 < length view.targets
-  pub few : length view.targets ≤ 1024
+  pub few : length view.targets ≤ max_objects
   pub as_many_requests : length view.requests ≡ length view.targets
   pub as_many_open_on : length view.open_on ≡ length view.targets
   pub as_many_nodes : length view.nodes ≡ length view.targets

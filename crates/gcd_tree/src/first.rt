@@ -2,14 +2,8 @@
 ghost use Rattle.std.specs.Prelude.{◌≡◌, IfOk, map};
 ghost use Rattle.gcd_plan.specs.Kinds.{is_node_kind};
 
-use gcd_plan::{Kind, Obj, Plan};
+use gcd_plan::{Obj, Plan};
 use std::alloc::{AllocError, Global};
-
-fn is_node(kind: Kind) -> bool
-    ensures { result ≡ is_node_kind kind }
-{
-    !matches!(kind, Kind::Group | Kind::Semaphore(_))
-}
 
 /// The first target of each object of the plan.
 pub fn first_targets(alloc: Global, plan: &Plan) -> Result<Vec<Obj>, AllocError>
@@ -28,7 +22,7 @@ pub fn nodes(alloc: Global, plan: &Plan) -> Result<Vec<bool>, AllocError>
 {
     let mut nodes = Vec::new(alloc);
     for o in 0..plan.objects() {
-        nodes.push(is_node(plan.kind(Obj(o))))?;
+        nodes.push(plan.kind(Obj(o)).is_node())?;
     }
     Ok(nodes)
 }

@@ -1,12 +1,13 @@
 //! The targets of queues and sources, and how many runs are open beneath each (dispatch_set_target_queue(3)).
 //!
-//! Contracts see a [`Tree`] as plain lists by object (`TreeView`): its target, its request, how many runs are open on it,
-//! and whether it is a queue or a source. An object's chain is the object, its target and so on to `root`; a run is open
-//! beneath each object of its node's chain.
+//! Contracts see a [`Tree`] as plain lists by object (`TreeView`): its target, its request, how many runs are open on
+//! it, and whether it is a queue or a source. An object's chain is the object, its target and so on to `root`; a run
+//! is open beneath each object of its node's chain.
 //!
 //! | call | answer, exactly | cost |
 //! |---|---|---|
 //! | `Tree::new` | the first targets, no request, nothing open; or want of memory | the objects |
+//! | `copied` | the same tree once more; or want of memory | the objects |
 //! | `target`, `is_moving`, `open_on` | what the lists hold | constant |
 //! | `open_beneath` | the runs open on all objects whose chain has the object | constant |
 //! | `chain` | the chain, an iterator | its length |
@@ -15,10 +16,11 @@
 //! | `set_target` | a new target at once, or as a request where a run is open on the object | constant |
 //! | `opened`, `closed` | one run more or less; the last close turns a request into the target | the chain's length |
 //!
-//! No call but `new` takes memory, and none is refused: what a call needs is its condition, and another call tests it.
+//! No call but `new` and `copied` takes memory, and none is refused: what a call needs is its condition, and another
+//! call tests it.
 //!
-//! That every chain ends at `root`, and that above an open run nothing is about to move, holds of every tree (`IsTree`).
-//! The crate says nothing of histories: which acts come, and in what order, is for its callers.
+//! That every chain ends at `root`, and that above an open run nothing is about to move, holds of every tree
+//! (`IsTree`). The crate says nothing of histories: which acts come, and in what order, is for its callers.
 #![tactic(auto)]
 
 mod along;

@@ -1,18 +1,13 @@
 ghost use Rattle.std.specs.Prelude.{◌≡◌, ◌<◌, true, length};
-ghost use Rattle.gcd_plan.specs.Kinds.{is_node};
 ghost use Rattle.gcd_tree.specs.TreeView.{tree_of, is_node_at, has_mover_at};
 
 use crate::Tree;
-use gcd_plan::{BlkPart, Kind, Obj, ObjPart, Parts, Plan};
+use gcd_plan::{BlkPart, Kind, MAX_OBJECTS, Obj, ObjPart, Parts, Plan};
 use std::alloc::{AllocError, Global};
 use std::process::Abort;
 use std::test::Fail;
 
-mod slow;
-
-use slow::Slow;
-
-// A plan of root, a serial queue on each of these targets, and, where there is room, a group.
+// A plan of root and a serial queue on each of these targets.
 fn plan_of(alloc: Global, targets: &[u32]) -> Result<Plan, Fail> {
     let mut objects = vec![in alloc; ObjPart::new(alloc, "root", Kind::Concurrent)?]?;
     for (i, target) in targets.iter().enumerate() {
@@ -20,9 +15,6 @@ fn plan_of(alloc: Global, targets: &[u32]) -> Result<Plan, Fail> {
         let mut queue = ObjPart::new(alloc, name.as_str(), Kind::Serial)?;
         queue.target = Obj(*target);
         objects.push(queue)?;
-    }
-    if objects.len() < 1024 {
-        objects.push(ObjPart::new(alloc, "g", Kind::Group)?)?;
     }
     let main = BlkPart::new(alloc, "main")?;
     let parts = Parts {
@@ -34,6 +26,26 @@ fn plan_of(alloc: Global, targets: &[u32]) -> Result<Plan, Fail> {
     Ok(Plan::of_parts(parts).ok_or("a valid plan")?)
 }
 
+// The tree of a plan, with it.
+#[derive(Drop)]
+struct World {
+    plan: Plan,
+    objects: u32,
+    tree: Tree,
+    ghost plan_fits: { length plan.objects ≡ objects },
+    ghost nodes_fit: { tree.nodes ≡ (tree_of plan).nodes },
+    ghost tree_fits: { length tree.targets ≡ objects },
+}
+
+fn new_world(alloc: Global, targets: &[u32]) -> Result<World, Fail> {
+    let plan = plan_of(alloc, targets)?;
+    Ok(World {
+        objects: plan.objects(),
+        tree: Tree::new(alloc, &plan)?.copied(alloc)?,
+        plan,
+    })
+}
+
 #[derive(Clone, Copy, Debug, PartialEq, Eq)]
 enum Call {
     Set(u32, u32),
@@ -41,12 +53,11 @@ enum Call {
     Closed(u32),
 }
 
-fn is_queue(plan: &Plan, tree: &Tree, o: Obj) -> bool
-    requires plan { o.0 < length plan.now.objects }
-    requires nodes { tree.now.nodes ≡ (tree_of plan.now).nodes }
-    ensures { result ≡ true → is_node_at tree.now o.0 ≡ true }
+fn is_node(world: &World, o: Obj) -> bool
+    requires { o.0 < world.now.objects }
+    ensures { result ≡ true → is_node_at world.now.tree o.0 ≡ true }
 {
-    matches!(plan.kind(o), Kind::Serial)
+    world.plan.kind(o).is_node()
 }
 
 fn has_mover(tree: &Tree, node: Obj) -> bool
@@ -62,58 +73,44 @@ fn has_mover(tree: &Tree, node: Obj) -> bool
 }
 
 // Makes the call where its conditions hold, and tells whether they did.
-fn try_call(tree: &mut Tree, plan: &Plan, call: Call) -> bool
-    requires many { length tree.old.targets ≡ length plan.now.objects }
-    requires nodes { tree.old.nodes ≡ (tree_of plan.now).nodes }
-    ensures many { length tree.new.targets ≡ length plan.now.objects }
-    ensures nodes { tree.new.nodes ≡ (tree_of plan.now).nodes }
-{
+fn try_call(world: &mut World, call: Call) -> bool {
     match call {
-        Call::Set(o, t) => try_set(tree, plan, Obj(o), Obj(t)),
-        Call::Opened(node) => try_opened(tree, plan, Obj(node)),
-        Call::Closed(node) => try_closed(tree, plan, Obj(node)),
+        Call::Set(o, t) => try_set(world, Obj(o), Obj(t)),
+        Call::Opened(node) => try_opened(world, Obj(node)),
+        Call::Closed(node) => try_closed(world, Obj(node)),
     }
 }
 
-fn try_set(tree: &mut Tree, plan: &Plan, o: Obj, t: Obj) -> bool
-    requires many { length tree.old.targets ≡ length plan.now.objects }
-    requires nodes { tree.old.nodes ≡ (tree_of plan.now).nodes }
-    ensures many { length tree.new.targets ≡ length plan.now.objects }
-    ensures nodes { tree.new.nodes ≡ (tree_of plan.now).nodes }
-{
-    if o.0 >= plan.objects() || t.0 >= plan.objects() || !is_queue(plan, tree, o) {
+fn try_set(world: &mut World, o: Obj, t: Obj) -> bool {
+    if o.0 >= world.objects || t.0 >= world.objects || !is_node(world, o) {
         return false;
     }
-    if tree.would_cycle(o, t) || (tree.has_child(o) && tree.open_beneath(o) > 0) {
+    if world.tree.would_cycle(o, t) {
         return false;
     }
-    tree.set_target(o, t);
+    if world.tree.has_child(o) && world.tree.open_beneath(o) > 0 {
+        return false;
+    }
+    world.tree.set_target(o, t);
     true
 }
 
-fn try_opened(tree: &mut Tree, plan: &Plan, node: Obj) -> bool
-    requires many { length tree.old.targets ≡ length plan.now.objects }
-    requires nodes { tree.old.nodes ≡ (tree_of plan.now).nodes }
-    ensures many { length tree.new.targets ≡ length plan.now.objects }
-    ensures nodes { tree.new.nodes ≡ (tree_of plan.now).nodes }
-{
-    if node.0 >= plan.objects() || has_mover(tree, node) || tree.open_beneath(Obj(0)) == u32::MAX {
+fn try_opened(world: &mut World, node: Obj) -> bool {
+    if node.0 >= world.objects || has_mover(&world.tree, node) {
         return false;
     }
-    tree.opened(node);
+    if world.tree.open_beneath(Obj(0)) == u32::MAX {
+        return false;
+    }
+    world.tree.opened(node);
     true
 }
 
-fn try_closed(tree: &mut Tree, plan: &Plan, node: Obj) -> bool
-    requires many { length tree.old.targets ≡ length plan.now.objects }
-    requires nodes { tree.old.nodes ≡ (tree_of plan.now).nodes }
-    ensures many { length tree.new.targets ≡ length plan.now.objects }
-    ensures nodes { tree.new.nodes ≡ (tree_of plan.now).nodes }
-{
-    if node.0 >= plan.objects() || tree.open_on(node) == 0 {
+fn try_closed(world: &mut World, node: Obj) -> bool {
+    if node.0 >= world.objects || world.tree.open_on(node) == 0 {
         return false;
     }
-    tree.closed(node);
+    world.tree.closed(node);
     true
 }
 
@@ -273,159 +270,62 @@ const ROWS: [Row; 13] = [
     },
 ];
 
-fn check_row(rt: &impl Abort, tree: &Tree, plan: &Plan, row: &Row)
-    requires { length tree.now.targets ≡ length plan.now.objects }
+fn check_object(rt: &impl Abort, world: &World, o: u32, row: &Row)
+    requires { o < 4 }
 {
+    assert!(rt; o < world.objects);
+    let at = o as usize;
+    let tree = &world.tree;
     let what = row.what;
-    for o in 0..4u32 {
-        if o < plan.objects() {
-            let at = o as usize;
-            let target = row.targets[at];
-            let moving = row.moving[at];
-            let open_on = row.open_on[at];
-            let open_beneath = row.open_beneath[at];
-            let has_child = row.has_child[at];
-            assert_eq!(rt; tree.target(Obj(o)).0, target, "{what}");
-            assert_eq!(rt; tree.is_moving(Obj(o)), moving, "{what}");
-            assert_eq!(rt; tree.open_on(Obj(o)), open_on, "{what}");
-            assert_eq!(rt; tree.open_beneath(Obj(o)), open_beneath, "{what}");
-            assert_eq!(rt; tree.has_child(Obj(o)), has_child, "{what}");
-        }
-    }
+    let targets = (tree.target(Obj(o)).0, tree.is_moving(Obj(o)));
+    assert_eq!(rt; targets, (row.targets[at], row.moving[at]), "{what}");
+    let open = (tree.open_on(Obj(o)), tree.open_beneath(Obj(o)));
+    assert_eq!(rt; open, (row.open_on[at], row.open_beneath[at]), "{what}");
+    assert_eq!(rt; tree.has_child(Obj(o)), row.has_child[at], "{what}");
 }
 
-fn try_row(rt: &impl Abort, alloc: Global, plan: &Plan, row: &Row) -> Result<(), AllocError> {
-    let mut tree = Tree::new(alloc, plan)?;
+fn check_row(rt: &impl Abort, alloc: Global, row: &Row) -> Result<(), Fail> {
+    let mut world = new_world(alloc, &[0, 1, 0])?;
     let mut made = true;
     for call in row.calls {
-        made = try_call(&mut tree, plan, *call);
+        made = try_call(&mut world, *call);
     }
-    let wanted = row.made;
     let what = row.what;
-    assert_eq!(rt; made, wanted, "{what}");
-    check_row(rt, &tree, plan, row);
-    Ok(())
-}
-
-#[test]
-fn keeps_targets_and_counts_row_by_row(rt: HostRuntime) -> Result<(), Fail> {
-    let plan = plan_of(rt.alloc(), &[0, 1, 0])?;
-    for row in ROWS.iter() {
-        try_row(&rt, rt.alloc(), &plan, row)?;
+    assert_eq!(rt; made, row.made, "{what}");
+    for o in 0..4 {
+        check_object(rt, &world, o, row);
     }
     Ok(())
 }
 
 #[test]
-fn counts_along_a_chain_of_1023_queues(rt: HostRuntime) -> Result<(), Fail> {
+fn targets_and_counts_row_by_row(rt: HostRuntime) -> Result<(), Fail> {
+    for row in ROWS.iter() {
+        check_row(&rt, rt.alloc(), row)?;
+    }
+    Ok(())
+}
+
+fn open_beneath(rt: &impl Abort, world: &World, o: u32) -> u32 {
+    assert!(rt; o < world.objects);
+    world.tree.open_beneath(Obj(o))
+}
+
+#[test]
+fn counts_along_the_longest_chain(rt: HostRuntime) -> Result<(), Fail> {
     let mut targets = Vec::new(rt.alloc());
-    for target in 0..1023 {
+    for target in 0..MAX_OBJECTS - 1 {
         targets.push(target)?;
     }
-    let plan = plan_of(rt.alloc(), &targets)?;
-    let mut tree = Tree::new(rt.alloc(), &plan)?;
-    assert_eq!(rt; plan.objects(), 1024);
-    let last = Obj(1023);
-    assert_eq!(rt; tree.chain(last).count(), 1024);
-    assert_eq!(rt; try_call(&mut tree, &plan, Call::Opened(1023)), true);
-    assert_eq!(rt; tree.open_beneath(Obj(0)), 1);
-    assert_eq!(rt; tree.open_beneath(Obj(512)), 1);
-    assert_eq!(rt; tree.open_on(Obj(0)), 0);
-    assert_eq!(rt; try_call(&mut tree, &plan, Call::Closed(1023)), true);
-    assert_eq!(rt; tree.open_beneath(Obj(0)), 0);
-    Ok(())
-}
-
-// A number that a small linear congruential generator makes of a seed, and the next seed.
-fn number_of(seed: u64) -> (u64, u64) {
-    let next = seed
-        .wrapping_mul(6_364_136_223_846_793_005)
-        .wrapping_add(1_442_695_040_888_963_407);
-    (next >> 33, next)
-}
-
-fn call_of(number: u64) -> Call {
-    let o = (number % 8) as u32;
-    let t = (number / 8 % 8) as u32;
-    match number / 64 % 5 {
-        0 => Call::Set(o, t),
-        1 | 2 => Call::Opened(o),
-        _ => Call::Closed(o),
-    }
-}
-
-fn kind_of_call(call: Call) -> usize
-    ensures { result < 3 }
-{
-    match call {
-        Call::Set(..) => 0,
-        Call::Opened(_) => 1,
-        Call::Closed(_) => 2,
-    }
-}
-
-// What the tree and the slow one answer of each object.
-fn check_slow(rt: &impl Abort, tree: &Tree, plan: &Plan, slow: &Slow, step: u32)
-    requires { length tree.now.targets ≡ length plan.now.objects }
-{
-    for o in 0..plan.objects() {
-        let at = o as usize;
-        assert_eq!(rt;
-            tree.target(Obj(o)).0 as usize,
-            slow.target(at),
-            "step {step} object {o}"
-        );
-        assert_eq!(rt;
-            tree.is_moving(Obj(o)),
-            slow.is_moving(at),
-            "step {step} object {o}"
-        );
-        assert_eq!(rt;
-            tree.open_on(Obj(o)),
-            slow.open_on(at),
-            "step {step} object {o}"
-        );
-        assert_eq!(rt;
-            tree.open_beneath(Obj(o)),
-            slow.open_beneath(at),
-            "step {step} object {o}"
-        );
-        assert_eq!(rt;
-            tree.has_child(Obj(o)),
-            slow.has_child(at),
-            "step {step} object {o}"
-        );
-    }
-}
-
-#[test]
-fn agrees_with_a_tree_that_scans(rt: HostRuntime) -> Result<(), Fail> {
-    let targets = [0, 1, 2, 0, 4, 4];
-    let plan = plan_of(rt.alloc(), &targets)?;
-    let mut tree = Tree::new(rt.alloc(), &plan)?;
-    let mut slow = Slow::new(rt.alloc(), &targets)?;
-    let mut seed = 2009;
-    let mut made = [0u32; 3];
-    for step in 0..4000u32 {
-        let (number, next) = number_of(seed);
-        seed = next;
-        let call = call_of(number);
-        let allowed = slow.allows(call);
-        assert_eq!(rt;
-            try_call(&mut tree, &plan, call),
-            allowed,
-            "step {step} {call:?}"
-        );
-        if allowed {
-            slow.make(call);
-            let kind = kind_of_call(call);
-            made[kind] = made[kind].saturating_add(1);
+    let mut world = new_world(rt.alloc(), &targets)?;
+    let last = MAX_OBJECTS - 1;
+    assert_eq!(rt; world.objects, MAX_OBJECTS);
+    assert_eq!(rt; world.tree.chain(Obj(last)).count(), MAX_OBJECTS as usize);
+    for (call, count) in [(Call::Opened(last), 1), (Call::Closed(last), 0)] {
+        assert!(rt; try_call(&mut world, call));
+        for o in [0, 512, last] {
+            assert_eq!(rt; open_beneath(&rt, &world, o), count);
         }
-        check_slow(&rt, &tree, &plan, &slow, step);
-    }
-    // Each kind of call was made often.
-    for count in made {
-        assert!(rt; count > 200, "{count}");
     }
     Ok(())
 }

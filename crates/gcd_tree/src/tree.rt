@@ -50,6 +50,19 @@ impl Tree {
         })
     }
 
+    /// The same tree once more. It takes all the memory that the tree ever need: an `Err` comes only of want of it.
+    pub fn copied(&self, alloc: Global) -> Result<Tree, AllocError>
+        ensures { IfOk result (λ tree. tree ≡ self.now) }
+    {
+        Ok(Tree {
+            targets: Vec::from_slice(alloc, &self.targets)?,
+            requests: Vec::from_slice(alloc, &self.requests)?,
+            open_on: Vec::from_slice(alloc, &self.open_on)?,
+            open_beneath: Vec::from_slice(alloc, &self.open_beneath)?,
+            nodes: Vec::from_slice(alloc, &self.nodes)?,
+        })
+    }
+
     /// The target of an object. A moving object keeps its old one until no run is open on it.
     pub fn target(&self, o: Obj) -> Obj
         requires { o.0 < length self.now.targets }
@@ -89,7 +102,7 @@ impl Tree {
 
     /// How many runs are open beneath an object: on it, and on each other object whose chain has it. Beneath `root` all
     /// are.
-    #[tactic(auto, using(crate::proofs::Kept::beneath_root))]
+    #[tactic(auto, using(crate::proofs::TreeChanges::beneath_root))]
     pub fn open_beneath(&self, o: Obj) -> u32
         requires { o.0 < length self.now.targets }
         ensures beneath { result ≡ open_beneath_at self.now o.0 }

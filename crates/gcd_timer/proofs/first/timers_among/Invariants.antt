@@ -1,5 +1,5 @@
 use Rattle.std.proofs.Common.{◌≡◌}
-use Rattle.gcd_timer.specs.Kept.{timers_below}
+use Rattle.gcd_timer.specs.Listed.{timers_below}
 use Rattle.gcd_timer.proofs.first.timers_among.Given as goal
 
 abbrev pub invariant-loop-s : goal.invariant-loop-s

@@ -1,7 +1,7 @@
 use Rattle.std.proofs.Common.{arith}
 use Rattle.std.proofs.lemmas.Grind.{common_steps}
 use Rattle.gcd_group.specs.Inside.{view_of}
-use Rattle.gcd_group.proofs.Kept.{fired}
+use Rattle.gcd_group.proofs.Agreement.{fired}
 use Rattle.gcd_group.proofs.groups.Groups.fired.Goals as goal
 
 pub invariant_of-self-2 : goal.invariant_of-self-2

@@ -1,12 +1,15 @@
 use Rattle.std.proofs.Common.{◌∙◌, arith}
-use Rattle.gcd_lists.proofs.Seen.{shown, few_wait, head_read, place_read, first_within, first_waits, none_waits}
+use Rattle.gcd_lists.proofs.Seen.{shown, few_wait, head_read, place_read, first_within, first_waits, none_waits, first_listed}
 use Rattle.gcd_lists.proofs.lists.Lists.first.Goals as goal
 
-pub returns-in_err-blk : goal.returns-in_err-blk
-returns-in_err-blk c =
+pub returns-in_err-blk-clause-value : goal.returns-in_err-blk-clause-value
+returns-in_err-blk-clause-value c =
     let s = shown c.self.invariant c.self.view_is in
     let head = head_read s c.args.node.0 c.index.result.now c.requires c.index.ensures ∙ c.in_err-blk.was in
-    record { value = c.from_residual.ensures ∙ none_waits s c.args.node.0 head; few = few_wait s c.args.node.0 }
+    c.from_residual.ensures ∙ none_waits s c.args.node.0 head
+
+pub returns-in_err-blk-clause-few : goal.returns-in_err-blk-clause-few
+returns-in_err-blk-clause-few c = few_wait (shown c.self.invariant c.self.view_is) c.args.node.0
 
 pub index-requires-2 : goal.index-requires-2
 index-requires-2 c =
@@ -23,4 +26,5 @@ returns c =
     record {
       value = first_waits s c.args.node.0 c.in_ok-blk.blk _ c.in_ok-barrier.barrier head place;
       few = few_wait s c.args.node.0;
+      within = first_listed s c.args.node.0 c.in_ok-blk.blk head;
     }

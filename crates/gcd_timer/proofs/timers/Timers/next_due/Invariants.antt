@@ -1,5 +1,5 @@
 use Rattle.std.proofs.Common.{◌≡◌, take}
-use Rattle.gcd_timer.specs.Kept.{next_due_among}
+use Rattle.gcd_timer.specs.Listed.{next_due_among}
 use Rattle.gcd_timer.proofs.timers.Timers.next_due.Given as goal
 
 abbrev pub invariant-loop-s : goal.invariant-loop-s

@@ -2,7 +2,7 @@ use Rattle.std.proofs.Common.{◌≡◌, ◌+◌, length, sym, ap, ◌∙◌, su
 use Rattle.std.proofs.lemmas.List.{with_items_is, get_or_read}
 use Rattle.gcd_tree.specs.TreeView.{open_on_at, with_open}
 use Rattle.gcd_tree.specs.Inside.{view_of}
-use Rattle.gcd_tree.proofs.Runs.{Keeps, opened_room, opened_keeps}
+use Rattle.gcd_tree.proofs.Runs.{IsCountedTree, opened_room, counted_opened}
 use Rattle.gcd_tree.proofs.tree.Tree.opened.Goals as goal
 
 pub raise_along-requires-clause-room : goal.raise_along-requires-clause-room
@@ -24,5 +24,5 @@ invariant_of-self c =
     let more : n ≡ open_on_at view node + 1 =
     ap (λ k. k + 1) (get_or_read view.open_on node _ (omega (arith, object, c.self.invariant.0.as_many_open_on)) c.index_mut.ensures.value 0) in
     let raised = rw (c.deref.ensures.value, c.deref_mut.ensures.value) at c.raise_along.ensures in
-    subst (λ xs. Keeps (with_open view node n) xs) (sym (with_items_is counts next (same ∙ sym counts.ok.0)))
-    (opened_keeps view counts.items next c.self.invariant node n object (rw (← c.self.view_is) at c.requires.still) more same raised)
+    subst (λ xs. IsCountedTree (with_open view node n) xs) (sym (with_items_is counts next (same ∙ sym counts.ok.0)))
+    (counted_opened view counts.items next c.self.invariant node n object (rw (← c.self.view_is) at c.requires.still) more same raised)

@@ -2,7 +2,7 @@ use Rattle.std.proofs.Common.{◌≡◌, ◌<◌, sym, ◌∙◌, arith}
 use Rattle.std.proofs.lemmas.List.{get_or_read}
 use Rattle.gcd_tree.specs.TreeView.{open_on_at}
 use Rattle.gcd_tree.specs.Inside.{view_of}
-use Rattle.gcd_tree.proofs.Runs.{retarget_keeps, ask_keeps}
+use Rattle.gcd_tree.proofs.Runs.{counted_retargeted, counted_asked}
 use Rattle.gcd_tree.proofs.tree.Tree.set_target.Goals as goal
 
 pub invariant_of-self : goal.invariant_of-self
@@ -11,7 +11,7 @@ invariant_of-self c =
     let object = rw (← c.self.view_is) at c.requires.object in
     let read = get_or_read view.open_on c.args.o.0 _ (omega (arith, object, c.self.invariant.0.as_many_open_on)) c.index.ensures 0 in
     let none : open_on_at view c.args.o.0 ≡ 0 = sym read ∙ c.if-index-eq0.true in
-    retarget_keeps view c.self.inside.open_beneath.items c.self.invariant c.args.o.0 c.args.t object
+    counted_retargeted view c.self.inside.open_beneath.items c.self.invariant c.args.o.0 c.args.t object
     (rw (← c.self.view_is) at c.requires.target) (rw (← c.self.view_is) at c.requires.node)
     (rw (← c.self.view_is) at c.requires.no_cycle) (rw (← c.self.view_is) at c.requires.quiet) none
 
@@ -21,6 +21,6 @@ invariant_of-self-else-index-eq0 c =
     let object = rw (← c.self.view_is) at c.requires.object in
     let read = get_or_read view.open_on c.args.o.0 _ (omega (arith, object, c.self.invariant.0.as_many_open_on)) c.index.ensures 0 in
     let some : 0 < open_on_at view c.args.o.0 = omega (arith, read, c.if-index-eq0.false) in
-    ask_keeps view c.self.inside.open_beneath.items c.self.invariant c.args.o.0 c.args.t object
+    counted_asked view c.self.inside.open_beneath.items c.self.invariant c.args.o.0 c.args.t object
     (rw (← c.self.view_is) at c.requires.target) (rw (← c.self.view_is) at c.requires.node)
     (rw (← c.self.view_is) at c.requires.no_cycle) (rw (← c.self.view_is) at c.requires.quiet) some

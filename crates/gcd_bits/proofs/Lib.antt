@@ -1,0 +1,4 @@
+pub mod Ranges
+pub mod OneWord
+pub mod Numbers
+pub mod Shown
