@@ -4,6 +4,7 @@ use Rattle.std.proofs.Math.Bool.{and-true, and-false, or-false}
 use Rattle.std.proofs.lemmas.Bool.Decides.{eqb_tells}
 use Rattle.std.specs.List.{slice_get}
 use Rattle.std.specs.Option.{option_map_or, option_to_list}
+use Rattle.gcd_outer.specs.declared.limits.TheConstants.{MAX_TELLS}
 use Rattle.gcd_outer.specs.declared.slot.Slot.{Slot}
 use Rattle.gcd_outer.specs.declared.tell.Tell.{Tell}
 use Rattle.gcd_outer.specs.Tells.{AreTells, ended_after, ended_by}
@@ -96,7 +97,7 @@ are_tells-same watched ended watched' ended' same same_end (t ∷ ts) told = (
 
 -- two readings, one after the other
 pub read-append : (first second third : List Slot) (ts us : List Tell) → ReadTells first second ts → ReadTells second third us
-    → length (ts ++ us) ≤ 64 → ReadTells first third (ts ++ us)
+    → length (ts ++ us) ≤ MAX_TELLS → ReadTells first third (ts ++ us)
 read-append first second third ts us before after few = record {
   few = few;
   tells =

@@ -1,7 +1,8 @@
 -- The feeds of the poller over the system, by number.
-use Rattle.std.specs.Prelude.{◌≡◌, ◌≤◌, ◌<◌, ℕ, Bool, true, false, List, Option, Some, None, length}
+use Rattle.std.specs.Prelude.{◌≡◌, ◌≤◌, ℕ, Bool, true, false, List, Option, Some, None, length}
 use Rattle.std.specs.List.{slice_get}
 use Rattle.std.specs.Option.{option_map_or}
+use Rattle.gcd_outer.specs.declared.limits.TheConstants.{MAX_TELLS, MAX_TELL_BYTES}
 use Rattle.gcd_outer.specs.declared.slot.Source.{Source}
 use Rattle.gcd_outer.specs.declared.slot.Source.TheVariants.{Absent, Waiting, Stream, Regular}
 use Rattle.gcd_outer.specs.declared.slot.Slot.{Slot}
@@ -27,11 +28,11 @@ ended_slot slots feed = option_map_or (λ s. s.ended) (slice_get slots feed) fal
 abbrev pub SlotTells : ℕ → Slot → Slot → Option Tell → Type 0
 SlotTells feed old new None = new.ended ≡ old.ended
 SlotTells feed old new (Some t) =
-    (t.feed ≡ feed) × (is_there old.source ≡ true) × (old.ended ≡ false) × (t.bytes < 2147483648) × (new.ended ≡ t.ended)
+    (t.feed ≡ feed) × (is_there old.source ≡ true) × (old.ended ≡ false) × (t.bytes ≤ MAX_TELL_BYTES) × (new.ended ≡ t.ended)
 
 -- what a reading of the feeds told: watched feeds that had not ended, and those that have ended since
 pub record ReadTells (old new : List Slot) (told : List Tell) : Type 0 where
-  pub few : length told ≤ 64
+  pub few : length told ≤ MAX_TELLS
   pub tells : AreTells (watched_slot old) (ended_slot old) told
   pub watched : (feed : ℕ) → watched_slot new feed ≡ watched_slot old feed
   pub ended : (feed : ℕ) → ended_slot new feed ≡ ended_by (ended_slot old) told feed

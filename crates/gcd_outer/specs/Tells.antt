@@ -1,6 +1,7 @@
 -- What a poller tells of its feeds. (This project's own rules.)
-use Rattle.std.specs.Prelude.{◌≡◌, ◌<◌, ◌++◌, ◌∷◌, [], ◌==◌, ◌||◌, ◌&&◌, ℕ, Bool, true, false, List, if◌then◌else◌, nat_lt}
+use Rattle.std.specs.Prelude.{◌≡◌, ◌≤◌, ◌++◌, ◌∷◌, [], ◌==◌, ◌||◌, ◌&&◌, ℕ, Bool, true, false, List, if◌then◌else◌, nat_le}
 use Rattle.std.specs.List.{list_all, list_any, flat_map}
+use Rattle.gcd_outer.specs.declared.limits.TheConstants.{MAX_TELL_BYTES}
 use Rattle.gcd_outer.specs.declared.tell.Tell.{Tell}
 
 -- no tell of the answer has bytes or an end
@@ -17,11 +18,11 @@ ended_by ended [] = ended
 ended_by ended (t ∷ ts) = ended_by (ended_after ended t) ts
 
 -- Each tell is of a watched feed that has not ended, neither before nor by an earlier tell of the list,
--- and has less than 2 ^ 31 bytes.
+-- and has at most `MAX_TELL_BYTES` bytes.
 abbrev pub AreTells : (ℕ → Bool) → (ℕ → Bool) → List Tell → Type 0
 AreTells watched ended [] = Unit {0}
 AreTells watched ended (t ∷ ts) =
-    (watched t.feed ≡ true) × (ended t.feed ≡ false) × (t.bytes < 2147483648) × AreTells watched (ended_after ended t) ts
+    (watched t.feed ≡ true) × (ended t.feed ≡ false) × (t.bytes ≤ MAX_TELL_BYTES) × AreTells watched (ended_after ended t) ts
 
 -- The answers so far, after one more to a wait of so many milliseconds: an empty answer to a wait of 0
 -- is not kept.
@@ -83,9 +84,9 @@ poller_seen tells answers watched_at watches listens addresses watched faults ol
   faults_after = faults new;
 }
 
--- whether a tell may be given: it is of a watched feed that has not ended, and has less than 2 ^ 31 bytes
+-- whether a tell may be given: it is of a watched feed that has not ended, and has at most `MAX_TELL_BYTES` bytes
 abbrev pub is_allowed : (ℕ → Bool) → (ℕ → Bool) → Tell → Bool
-is_allowed watched ended t = watched t.feed && (if ended t.feed then false else nat_lt t.bytes 2147483648)
+is_allowed watched ended t = watched t.feed && (if ended t.feed then false else nat_le t.bytes MAX_TELL_BYTES)
 
 -- the tell, if it may be given
 abbrev pub given_of : (ℕ → Bool) → (ℕ → Bool) → Tell → List Tell

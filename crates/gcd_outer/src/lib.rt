@@ -23,16 +23,16 @@
 //! | | `Failed` | the count of faults rose, and a proper front of the text was taken |
 //! | `Poller::listen` | `Ok` | connections are accepted at the address |
 //! | `Poller::watch` | `Ok` | the feed is watched, and has not ended |
-//! | `Poller::poll` | `Ok` | `into` is the answer: at most 64 tells, each of a watched feed that has not ended, of less than 2^31 bytes |
+//! | `Poller::poll` | `Ok` | `into` is the answer: at most `MAX_TELLS` tells, each of a watched feed that has not ended, of at most `MAX_TELL_BYTES` bytes |
 //! | any of these three | `Ok` | the count of faults is as it was |
 //! | | `Failed` | the count of faults rose, and all else is as it was, but for the number of listens |
 //! | `Clock::now` | the time | it is not below an earlier answer; where told, it is the present |
 //! | `Clock::wait_until` | | the present is at least the moment waited for |
 //!
 //! What is told is a ghost member of the trait, as `content` or `answers`, and the clauses on it hold
-//! where the member `tells` is true: in memory it is, over the system it isn't. A count rises by one at a
-//! fault; since it is a 64-bit number, it stops at 2^64 - 1, and "the count rose" (`Rises`) says: it
-//! rose, or it stands at that last number.
+//! where the member `tells` is true: in memory it is, over the system it isn't. A count rises at a
+//! fault, in memory by one and at nothing else; since it is a 64-bit number, it stops at 2^64 - 1, and
+//! "the count rose" (`Rises`) says: it rose, or it stands at that last number.
 //!
 //! `Poller::poll` and `Clock::wait_until` alone wait for others; no proof says that they return.
 //! Nothing is said of what a file, a socket or a terminal gives or takes, nor of how long a wait is.
@@ -44,6 +44,7 @@ mod clock;
 mod feed;
 mod file_shelf;
 mod jump_clock;
+mod limits;
 mod list_poller;
 mod map_shelf;
 mod net_poller;
@@ -62,10 +63,11 @@ mod vec_sink;
 pub use clock::Clock;
 pub use file_shelf::FileShelf;
 pub use jump_clock::JumpClock;
+pub use limits::{MAX_FEEDS, MAX_TELL_BYTES, MAX_TELLS};
 pub use list_poller::ListPoller;
 pub use map_shelf::MapShelf;
 pub use net_poller::NetPoller;
-pub use poller::{FEEDS, Poller};
+pub use poller::Poller;
 pub use shelf::{LoadFault, Shelf};
 pub use sink::{Failed, Sink, write_whole};
 pub use stdout_sink::StdoutSink;

@@ -1,6 +1,6 @@
 // A poller in memory, which tells its answers, watches and listens.
 ghost use Rattle.std.specs.Prelude.{◌≡◌, ◌+◌, ◌<◌, ◌≤◌, ◌++◌, ◌∷◌, [], ℕ, nat_le, true, false, length, IfOk, OnOk, OnErr};
-ghost use Rattle.gcd_outer.specs.declared.poller.TheConstants.{FEEDS};
+ghost use Rattle.gcd_outer.specs.declared.limits.TheConstants.{MAX_FEEDS, MAX_TELLS};
 ghost use Rattle.gcd_outer.specs.Answers.{first_of};
 ghost use Rattle.gcd_outer.specs.Feeds.{watched_in, ended_in, watched_at_in};
 ghost use Rattle.gcd_outer.specs.Tells.{allowed_of, ended_by};
@@ -9,7 +9,8 @@ ghost use Rattle.gcd_outer.specs.Texts.{bytes_of};
 use crate::answer_list::AnswerList;
 use crate::calls::Calls;
 use crate::feed::{Feed, allow, begin, is_watched, unwatched};
-use crate::poller::{FEEDS, Poller};
+use crate::limits::MAX_FEEDS;
+use crate::poller::Poller;
 use crate::sink::Failed;
 use crate::text_log::TextLog;
 use crate::told::Told;
@@ -17,7 +18,7 @@ use std::alloc::{AllocError, Global};
 
 /// A poller in memory. It tells its answers, watches and listens. It gives the answers of a list in
 /// order, without the tells that a poller may not give: those of a feed that is not watched or has
-/// ended, and those of more than 2^31 - 1 bytes. After the last it gives empty answers.
+/// ended, and those of more than `MAX_TELL_BYTES` bytes. After the last it gives empty answers.
 ///
 /// It fails in the listens, watches and polls that `fail_listen`, `fail_watch` and `fail_poll` name, in
 /// a listen or a watch that would pass its room, and in a poll after 2^64 - 1 answers; a listen after one
@@ -33,7 +34,7 @@ pub struct ListPoller {
     watches: Calls,
     polls: Calls,
     faults: u64,
-    ghost all: { length feeds.items ≡ FEEDS },
+    ghost all: { length feeds.items ≡ MAX_FEEDS },
     ghost one_room: { addresses.byte_room ≡ paths.byte_room },
     ghost first_address: { addresses.text_room ≡ 1 },
 }
@@ -54,6 +55,7 @@ impl ListPoller {
         ensures answers { IfOk result (λ p. ⟦<ListPoller as Poller>⟧.answers p ≡ []) }
         ensures watched { IfOk result (λ p. (feed : ℕ) → ⟦<ListPoller as Poller>⟧.watched p feed ≡ false) }
         ensures ended { IfOk result (λ p. (feed : ℕ) → ⟦<ListPoller as Poller>⟧.ended p feed ≡ false) }
+        ensures watched_at { IfOk result (λ p. (feed : ℕ) → ⟦<ListPoller as Poller>⟧.watched_at p feed ≡ 0) }
         ensures watches { IfOk result (λ p. ⟦<ListPoller as Poller>⟧.watches p ≡ []) }
         ensures listens { IfOk result (λ p. ⟦<ListPoller as Poller>⟧.listens p ≡ 0) }
         ensures addresses { IfOk result (λ p. ⟦<ListPoller as Poller>⟧.addresses p ≡ []) }
@@ -124,9 +126,9 @@ fn has_room(paths: &TextLog, addresses: &TextLog, more: usize) -> bool
 
 // The next answer is given, without the tells that may not be given; after the last an empty one.
 fn give_next(answers: &AnswerList, feeds: &mut [Feed], into: &mut Told)
-    requires { length feeds.old ≡ FEEDS }
+    requires { length feeds.old ≡ MAX_FEEDS }
     ensures told { into.new ≡ allowed_of (watched_in feeds.old) (ended_in feeds.old) (first_of answers.now.left) }
-    ensures few { length into.new ≤ 64 }
+    ensures few { length into.new ≤ MAX_TELLS }
     ensures ended { (feed : ℕ) → ended_in feeds.new feed ≡ ended_by (ended_in feeds.old) into.new feed }
     ensures watched { (feed : ℕ) → watched_in feeds.new feed ≡ watched_in feeds.old feed }
     ensures watched_at { (feed : ℕ) → watched_at_in feeds.new feed ≡ watched_at_in feeds.old feed }
@@ -180,6 +182,7 @@ impl Poller for ListPoller {
         ensures failed { OnErr result (Rises (faults_of self.old) (faults_of self.new)) }
         ensures faults { faults_of self.old ≤ faults_of self.new }
 
+        ensures one_fault { OnErr result (faults_of self.new ≡ next_count (faults_of self.old)) }
         ensures planned { Contains (failing_listens self.old) (listens_of self.old) → IsErr result }
         ensures past_room { byte_room_of self.old < used_of self.old + length addr.now → IsErr result }
         ensures else_only { OnErr result (Contains (failing_listens self.old) (listens_of self.old)
@@ -203,7 +206,7 @@ impl Poller for ListPoller {
 
     // What each poller promises, and then: it fails just where that is planned, or past the room.
     fn watch(&mut self, feed: u32, path: &str) -> Result<(), Failed>
-        requires { feed < FEEDS }
+        requires { feed < MAX_FEEDS }
         ensures watches_it { OnOk result (watched_of self.new feed ≡ true) }
         ensures begins { OnOk result (ended_of self.new feed ≡ false) }
         ensures others { (other : ℕ) → other ≢ feed → watched_of self.new other ≡ watched_of self.old other }
@@ -223,6 +226,7 @@ impl Poller for ListPoller {
         ensures failed { OnErr result (Rises (faults_of self.old) (faults_of self.new)) }
         ensures faults { faults_of self.old ≤ faults_of self.new }
 
+        ensures one_fault { OnErr result (faults_of self.new ≡ next_count (faults_of self.old)) }
         ensures planned { Contains (failing_watches self.old) (watch_calls_of self.old) → IsErr result }
         ensures past_room { watch_room_of self.old ≤ length (watches_of self.old) → IsErr result }
         ensures past_bytes { byte_room_of self.old < used_of self.old + length path.now → IsErr result }
@@ -256,7 +260,7 @@ impl Poller for ListPoller {
     fn poll(&mut self, wait_ms: u32, into: &mut Told) -> Result<(), Failed>
         requires { (feed : ℕ) × (watched_of self.old feed ≡ true) }
         ensures told { OnOk result (AreTells (watched_of self.old) (ended_of self.old) into.new) }
-        ensures few { OnOk result (length into.new ≤ 64) }
+        ensures few { OnOk result (length into.new ≤ MAX_TELLS) }
         ensures ended { OnOk result ((feed : ℕ)
             → ended_of self.new feed ≡ ended_by (ended_of self.old) into.new feed) }
         ensures unended { OnErr result ((feed : ℕ) → ended_of self.new feed ≡ ended_of self.old feed) }
@@ -273,6 +277,7 @@ impl Poller for ListPoller {
         ensures failed { OnErr result (Rises (faults_of self.old) (faults_of self.new)) }
         ensures faults { faults_of self.old ≤ faults_of self.new }
 
+        ensures one_fault { OnErr result (faults_of self.new ≡ next_count (faults_of self.old)) }
         ensures planned { Contains (failing_polls self.old) (polls_of self.old) → IsErr result }
         ensures only_planned { OnErr result (Contains (failing_polls self.old) (polls_of self.old)
             ⊎ (length (answers_of self.old) ≡ 2 ^ 64 - 1)) }

@@ -53,7 +53,8 @@ impl MapShelf {
         Ok(())
     }
 
-    /// The load of this number, counted from 0, is to fail. Want of memory leaves the shelf as it was.
+    /// The load of this number, counted from 0, is to fail; nothing else changes. Want of memory leaves
+    /// the shelf as it was.
     pub fn fail(&mut self, load: u64) -> Result<(), AllocError>
         ensures content { ⟦<MapShelf as Shelf>⟧.content self.new ≡ ⟦<MapShelf as Shelf>⟧.content self.old }
         ensures loads { ⟦<MapShelf as Shelf>⟧.loads self.new ≡ ⟦<MapShelf as Shelf>⟧.loads self.old }
@@ -87,7 +88,7 @@ impl Shelf for MapShelf {
 
     ghost faults = { λ s. s.faults };
 
-    // What each shelf promises, and then: it fails just where that is planned.
+    // What each shelf promises, and then: it fails just where that is planned, and counts just that.
     fn load(&mut self, name: &str, most: usize, into: &mut Vec<u8>) -> Result<(), LoadFault>
         ensures fits { OnOk result (length into.new.items ≤ most) }
         ensures content { OnOk result (
@@ -109,6 +110,10 @@ impl Shelf for MapShelf {
             → IsErrOf result LoadFault.Failed }
         ensures only_planned { IsErrOf result LoadFault.Failed
             → Contains (failing_loads self.old) (⟦<MapShelf as Shelf>⟧.loads self.old) }
+        ensures one_fault { IsErrOf result LoadFault.Failed → ⟦<MapShelf as Shelf>⟧.faults self.new
+            ≡ next_count (⟦<MapShelf as Shelf>⟧.faults self.old) }
+        ensures no_fault { (IsErrOf result LoadFault.Failed → ⊥)
+            → ⟦<MapShelf as Shelf>⟧.faults self.new ≡ ⟦<MapShelf as Shelf>⟧.faults self.old }
         ensures failing { failing_loads self.new ≡ failing_loads self.old }
     {
         into.clear();

@@ -3,7 +3,8 @@ ghost use Rattle.std.specs.Prelude.{◌≡◌, [], ℕ, true, false, codes, IfOk
 ghost use Rattle.gcd_outer.specs.Listening.{is_listening};
 ghost use Rattle.gcd_outer.specs.Slots.{is_there, watched_slot, ended_slot, ReadTells};
 
-use crate::poller::{FEEDS, Poller};
+use crate::limits::MAX_FEEDS;
+use crate::poller::Poller;
 use crate::sink::Failed;
 use crate::slot::Source;
 use crate::slots::Slots;
@@ -82,9 +83,11 @@ impl<'a, R: Net + Files<File = File>> NetPoller<'a, R> {
             return Err(io::Error::from(ErrorKind::InvalidInput));
         };
         let mut listener = TcpListener::bind(self.rt, addr)?;
-        self.poll
-            .registry()
-            .register(&mut listener, Token(FEEDS as usize), Interest::READABLE)?;
+        self.poll.registry().register(
+            &mut listener,
+            Token(MAX_FEEDS as usize),
+            Interest::READABLE,
+        )?;
         Ok(listener)
     }
 
@@ -144,7 +147,7 @@ impl<'a, R: Net + Files<File = File>> NetPoller<'a, R> {
 
 impl<'a, R: Net + Files<File = File>> Poller for NetPoller<'a, R> {
     ghost use Rattle.std.specs.Prelude.{◌≢◌, ◌≤◌, ◌<◌, IsErr, OnOk, OnErr};
-    ghost use Rattle.gcd_outer.specs.declared.poller.TheConstants.{FEEDS};
+    ghost use Rattle.gcd_outer.specs.declared.limits.TheConstants.{MAX_FEEDS};
     ghost use Rattle.gcd_outer.specs.Outside.{Rises};
 
     ghost tells = { false };
@@ -190,7 +193,7 @@ impl<'a, R: Net + Files<File = File>> Poller for NetPoller<'a, R> {
 
     // What each poller promises, and then: a feed with the path `tcp` is refused before a listen.
     fn watch(&mut self, feed: u32, path: &str) -> Result<(), Failed>
-        requires { feed < FEEDS }
+        requires { feed < MAX_FEEDS }
         ensures watches_it { OnOk result (watched_slot self.new.slots.slots.items feed ≡ true) }
         ensures begins { OnOk result (ended_slot self.new.slots.slots.items feed ≡ false) }
         ensures others { (other : ℕ) → other ≢ feed

@@ -1,5 +1,6 @@
 // Who tells how many bytes have come.
 ghost use Rattle.std.specs.Prelude.{◌≡◌, ◌≢◌, ◌≤◌, ◌<◌, ◌++◌, ◌∷◌, [], List, ℕ, Bool, true, false, length, OnOk, OnErr};
+ghost use Rattle.gcd_outer.specs.declared.limits.TheConstants.{MAX_FEEDS, MAX_TELLS};
 ghost use Rattle.gcd_outer.specs.Outside.{Rises, next_count};
 ghost use Rattle.gcd_outer.specs.Tells.{AreTells, ended_by, answers_after};
 ghost use Rattle.gcd_outer.specs.declared.tell.Tell.{Tell};
@@ -7,11 +8,8 @@ ghost use Rattle.gcd_outer.specs.declared.tell.Tell.{Tell};
 use crate::sink::Failed;
 use crate::told::Told;
 
-/// Feeds are numbered below this.
-pub const FEEDS: u32 = 1024;
-
 /// Reads feeds and tells how many bytes came from each. A feed is the number of its source, below
-/// 1,024. (This project's own rule; a read source of dispatch_source_create(3) is its feed.)
+/// `MAX_FEEDS`. (This project's own rule; a read source of dispatch_source_create(3) is its feed.)
 ///
 /// A feed is watched exactly where a watch of it succeeded. A watch of a feed that is watched already
 /// begins it anew with the new path. `Failed` is answered only where the count of faults rose in the
@@ -64,7 +62,7 @@ pub trait Poller {
 
     /// From now on the feed is watched, and it has not ended. It doesn't wait for others.
     fn watch(&mut self, feed: u32, path: &str) -> Result<(), Failed>
-        requires { feed < FEEDS }
+        requires { feed < MAX_FEEDS }
         ensures watches_it { OnOk result (watched self.new feed ≡ true) }
         ensures begins { OnOk result (ended self.new feed ≡ false) }
         ensures others { (other : ℕ) → other ≢ feed → watched self.new other ≡ watched self.old other }
@@ -90,13 +88,13 @@ pub trait Poller {
     fn is_watched(&self, feed: u32) -> bool
         ensures { result ≡ watched self.now feed };
 
-    /// What came from the watched feeds since they were last told of, in at most 64 tells, after a wait
-    /// of at most about `wait_ms` milliseconds where nothing had come. It is one of the calls that wait
+    /// What came from the watched feeds since they were last told of, in at most `MAX_TELLS` tells,
+    /// after a wait of at most about `wait_ms` milliseconds where nothing had come. It is one of the calls that wait
     /// for others. After `Ok`, `into` is this answer and nothing else; after `Failed` it is as it was.
     fn poll(&mut self, wait_ms: u32, into: &mut Told) -> Result<(), Failed>
         requires { (feed : ℕ) × (watched self.old feed ≡ true) }
         ensures told { OnOk result (AreTells (watched self.old) (ended self.old) into.new) }
-        ensures few { OnOk result (length into.new ≤ 64) }
+        ensures few { OnOk result (length into.new ≤ MAX_TELLS) }
         ensures ended { OnOk result (
             (feed : ℕ) → ended self.new feed ≡ ended_by (ended self.old) into.new feed) }
         ensures unended { OnErr result ((feed : ℕ) → ended self.new feed ≡ ended self.old feed) }

@@ -1,5 +1,6 @@
 // One feed of the poller over the system.
-ghost use Rattle.std.specs.Prelude.{◌≡◌, ◌<◌, true, false, length, OnSome, IfOk, OnErr};
+ghost use Rattle.std.specs.Prelude.{◌≡◌, ◌<◌, ◌≤◌, true, false, length, OnSome, IfOk, OnErr};
+ghost use Rattle.gcd_outer.specs.declared.limits.TheConstants.{MAX_TELL_BYTES};
 ghost use Rattle.gcd_outer.specs.Slots.{is_there, SlotTells};
 
 use crate::tell::Tell;
@@ -56,7 +57,7 @@ impl Slot {
     // Reads once, without waiting. Nothing is told where nothing has come.
     pub(crate) fn read(&mut self, feed: u32, buffer: &mut [u8]) -> io::Result<Option<Tell>>
         requires some { 0 < length buffer.old }
-        requires small { length buffer.old < 0x8000_0000 }
+        requires small { length buffer.old ≤ MAX_TELL_BYTES }
         ensures source { is_there self.new.source ≡ is_there self.old.source }
         ensures tells { IfOk result (SlotTells feed self.old self.new) }
         ensures err { OnErr result (self.new.ended ≡ self.old.ended) }

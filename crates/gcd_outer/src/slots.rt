@@ -1,10 +1,11 @@
 // The feeds of the poller over the system, by number.
 ghost use Rattle.std.specs.Prelude.{◌≡◌, ◌≢◌, ◌<◌, [], ℕ, Bool, false, true, List, length, IfSome, IfOk, OnErr};
 ghost use Rattle.std.specs.Option.{option_to_list};
-ghost use Rattle.gcd_outer.specs.declared.poller.TheConstants.{FEEDS};
+ghost use Rattle.gcd_outer.specs.declared.limits.TheConstants.{MAX_FEEDS};
+ghost use Rattle.gcd_outer.specs.declared.slots.TheConstants.{BUFFER};
 ghost use Rattle.gcd_outer.specs.Slots.{is_there, watched_slot, ended_slot, ReadTells};
 
-use crate::poller::FEEDS;
+use crate::limits::{MAX_FEEDS, MAX_TELLS};
 use crate::slot::{Slot, Source, is_nothing_yet};
 use crate::tell::Tell;
 use crate::told::Told;
@@ -22,18 +23,18 @@ pub(crate) struct Slots {
     buffer: Vec<u8>,
     // The feed that the next reading begins with, so that no feed is always behind the others.
     first: u32,
-    ghost all: { length slots.items ≡ FEEDS },
-    ghost room: { length buffer.items ≡ 16384 },
-    ghost within: { first < FEEDS },
+    ghost all: { length slots.items ≡ MAX_FEEDS },
+    ghost room: { length buffer.items ≡ BUFFER },
+    ghost within: { first < MAX_FEEDS },
 }
 
 fn absent_slots(alloc: Global) -> io::Result<Vec<Slot>>
-    ensures all { IfOk result (λ slots. length slots.items ≡ FEEDS) }
+    ensures all { IfOk result (λ slots. length slots.items ≡ MAX_FEEDS) }
     ensures watched { IfOk result (λ slots. (feed : ℕ) → watched_slot slots.items feed ≡ false) }
     ensures ended { IfOk result (λ slots. (feed : ℕ) → ended_slot slots.items feed ≡ false) }
 {
-    let mut slots = Vec::with_capacity(alloc, FEEDS as usize)?;
-    for _ in 0..FEEDS {
+    let mut slots = Vec::with_capacity(alloc, MAX_FEEDS as usize)?;
+    for _ in 0..MAX_FEEDS {
         slots.push(Slot::absent())?;
     }
     Ok(slots)
@@ -63,7 +64,7 @@ impl Slots {
 
     // The feed is read from this source from now on, and has not ended.
     pub(crate) fn begin(&mut self, feed: u32, source: Source)
-        requires { feed < FEEDS }
+        requires { feed < MAX_FEEDS }
         ensures watched { watched_slot self.new.slots.items feed ≡ is_there source }
         ensures ended { ended_slot self.new.slots.items feed ≡ false }
         ensures others { (other : ℕ) → other ≢ feed
@@ -83,18 +84,18 @@ impl Slots {
         ensures err { OnErr result (ReadTells self.old.slots.items self.new.slots.items []) }
     {
         let feed = self.first;
-        self.first = if feed + 1 < FEEDS { feed + 1 } else { 0 };
+        self.first = if feed + 1 < MAX_FEEDS { feed + 1 } else { 0 };
         self.slots[feed as usize].read(feed, &mut self.buffer)
     }
 
-    // Reads each live feed once, until 64 tells are there or a read fails. What came before a read that
+    // Reads each live feed once, until `MAX_TELLS` tells are there or a read fails. What came before a read that
     // failed is told all the same.
     pub(crate) fn read_all(&mut self, told: &mut Told) -> io::Result<()>
         requires { told.old ≡ [] }
         ensures { ReadTells self.old.slots.items self.new.slots.items told.new }
     {
-        for _ in 0..FEEDS {
-            if told.len() >= 64 {
+        for _ in 0..MAX_FEEDS {
+            if told.len() >= MAX_TELLS {
                 break;
             }
             if let Some(tell) = self.read_next()? {
@@ -106,7 +107,7 @@ impl Slots {
 
     // The feed that has waited longest for a connection.
     fn next_waiting(&self) -> Option<u32>
-        ensures within { IfSome result (λ feed. feed < FEEDS) }
+        ensures within { IfSome result (λ feed. feed < MAX_FEEDS) }
         ensures watched { IfSome result (λ feed. watched_slot self.now.slots.items feed ≡ true) }
     {
         let mut found = None;
@@ -126,7 +127,7 @@ impl Slots {
     pub(crate) fn accept(&mut self, listener: &TcpListener, registry: &Registry) -> io::Result<()>
         ensures { ReadTells self.old.slots.items self.new.slots.items [] }
     {
-        for _ in 0..FEEDS {
+        for _ in 0..MAX_FEEDS {
             let Some(feed) = self.next_waiting() else {
                 break;
             };

@@ -3,9 +3,9 @@
 /// What came from one feed since it was last told of. (This project's own rule.)
 #[derive(Clone, Copy, Debug, Default, PartialEq, Eq)]
 pub struct Tell {
-    /// The feed: the number of its source, below 1,024.
+    /// The feed: the number of its source, below [`MAX_FEEDS`](crate::MAX_FEEDS).
     pub feed: u32,
-    /// How many bytes came, at most 2^31 - 1.
+    /// How many bytes came, at most [`MAX_TELL_BYTES`](crate::MAX_TELL_BYTES).
     pub bytes: u32,
     /// Whether the feed has ended: nothing more comes from it.
     pub ended: bool,

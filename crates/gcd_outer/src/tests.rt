@@ -1,72 +1,100 @@
 use crate::{
-    Clock, Failed, FileShelf, JumpClock, ListPoller, LoadFault, MapShelf, NetPoller, Poller, Shelf,
-    Sink, StdoutSink, SystemClock, Tell, Told, VecSink, write_whole,
+    Clock, Failed, FileShelf, JumpClock, ListPoller, LoadFault, MAX_FEEDS, MAX_TELL_BYTES,
+    MapShelf, NetPoller, Poller, Shelf, Sink, StdoutSink, SystemClock, Tell, Told, VecSink,
+    write_whole,
 };
 use std::alloc::{AllocError, Global};
 use std::fs;
+use std::process::Abort;
 use std::test::Fail;
 
-#[test]
-fn a_shelf_in_memory_answers_each_load(rt: HostRuntime) -> Result<(), Fail> {
-    let alloc = rt.alloc();
-    let mut shelf = MapShelf::new(alloc);
-    shelf.put("log", b"old")?;
-    shelf.put("log", b"a\nbb\n")?;
-    shelf.put("none", b"")?;
-    shelf.fail(3)?;
+// The row of a table is as it should be.
+pub(crate) fn hold(rt: &impl Abort, row: usize, right: bool) {
+    assert!(rt; right, "row {row}");
+}
+
+// A name, how many bytes are asked for, the answer, and what is loaded.
+type Load<'a> = (&'a str, usize, Result<(), LoadFault>, &'a str);
+
+fn load_each<S: Shelf>(rt: &impl Abort, alloc: Global, shelf: &mut S, loads: &[Load]) {
     let mut into = Vec::new(alloc);
-    for (name, most, want, bytes) in [
+    for (row, (name, most, want, bytes)) in loads.iter().enumerate() {
+        let got = shelf.load(name, *most, &mut into);
+        hold(rt, row, got == *want && into.as_slice() == bytes.as_bytes());
+    }
+}
+
+fn full_shelf(alloc: Global) -> Result<MapShelf, AllocError> {
+    let mut shelf = MapShelf::new(alloc);
+    for (name, bytes) in [("log", "old"), ("log", "a\nbb\n"), ("none", "")] {
+        shelf.put(name, bytes.as_bytes())?;
+    }
+    shelf.fail(3)?;
+    Ok(shelf)
+}
+
+#[test]
+fn shelves_answer_each_load(rt: HostRuntime) -> Result<(), Fail> {
+    let loads = [
         ("log", 5, Ok(()), "a\nbb\n"),
         ("log", 4, Err(LoadFault::TooLong(5)), ""),
         ("none", 0, Ok(()), ""),
         ("log", 5, Err(LoadFault::Failed), ""),
         ("lo", 5, Err(LoadFault::Missing), ""),
         ("log", 1000, Ok(()), "a\nbb\n"),
-    ] {
-        assert_eq!(rt; shelf.load(name, most, &mut into), want, "{name} {most}");
-        assert_eq!(rt; into.as_slice(), bytes.as_bytes(), "{name} {most}");
-    }
-    Ok(())
-}
-
-#[test]
-fn a_sink_in_memory_takes_fronts_until_its_room_is_full(rt: HostRuntime) -> Result<(), Fail> {
-    let mut sink = VecSink::new(rt.alloc(), 10, 3)?;
-    sink.fail(4)?;
-    for (text, want, taken) in [
-        ("seven\n.", Ok(()), "seven\n."),
-        ("more", Err(Failed), "seven\n.mor"),
-        ("", Ok(()), "seven\n.mor"),
-        ("x", Err(Failed), "seven\n.mor"),
-    ] {
-        assert_eq!(rt; write_whole(&mut sink, text.as_bytes()), want, "{text}");
-        assert_eq!(rt; sink.bytes(), taken.as_bytes(), "{text}");
-    }
-    Ok(())
-}
-
-#[test]
-fn a_file_is_loaded_whole(rt: HostRuntime) -> Result<(), Fail> {
+    ];
+    load_each(&rt, rt.alloc(), &mut full_shelf(rt.alloc())?, &loads);
     fs::write(&rt, "loaded.txt", "a\nbb\n")?;
-    let mut shelf = FileShelf::new(&rt);
-    let mut into = Vec::new(rt.alloc());
-    for (name, most, want, bytes) in [
+    let loads = [
         ("loaded.txt", 5, Ok(()), "a\nbb\n"),
         ("loaded.txt", 4, Err(LoadFault::TooLong(5)), ""),
         ("absent.txt", 5, Err(LoadFault::Failed), ""),
-    ] {
-        assert_eq!(rt; shelf.load(name, most, &mut into), want, "{name} {most}");
-        assert_eq!(rt; into.as_slice(), bytes.as_bytes(), "{name} {most}");
-    }
+    ];
+    load_each(&rt, rt.alloc(), &mut FileShelf::new(&rt), &loads);
     fs::remove_file(&rt, "loaded.txt")?;
     Ok(())
 }
 
 #[test]
-fn a_piece_is_written_to_standard_output(rt: HostRuntime) {
-    let mut sink = StdoutSink::new(&rt);
-    assert_eq!(rt; sink.write(b"out\n"), Ok(4));
-    assert_eq!(rt; sink.write(b""), Ok(0));
+fn sinks_take_what_fits(rt: HostRuntime) -> Result<(), Fail> {
+    let mut sink = VecSink::new(rt.alloc(), 10, 3)?;
+    sink.fail(4)?;
+    for (row, text, want, taken) in [
+        (0, "seven\n.", Ok(()), "seven\n."),
+        (1, "more", Err(Failed), "seven\n.mor"),
+        (2, "", Ok(()), "seven\n.mor"),
+        (3, "x", Err(Failed), "seven\n.mor"),
+    ] {
+        let got = write_whole(&mut sink, text.as_bytes());
+        hold(&rt, row, got == want && sink.bytes() == taken.as_bytes());
+    }
+    let mut out = StdoutSink::new(&rt);
+    hold(&rt, 4, out.write(b"out\n") == Ok(4));
+    hold(&rt, 5, out.write(b"") == Ok(0));
+    Ok(())
+}
+
+// A call of a poller.
+#[derive(Drop)]
+pub(crate) enum Call<'a> {
+    Listen(&'a str),
+    Watch(u32, &'a str),
+    // A poll for 10 ms, where the feed is watched.
+    Poll(u32),
+}
+
+// Makes the call. A poll of a feed that is not watched fails.
+pub(crate) fn make<P: Poller>(poller: &mut P, call: &Call, told: &mut Told) -> Result<(), Failed> {
+    match call {
+        Call::Listen(addr) => poller.listen(addr),
+        Call::Watch(feed, path) if *feed < MAX_FEEDS => poller.watch(*feed, path),
+        Call::Poll(feed) if poller.is_watched(*feed) => poller.poll(10, told),
+        _ => Err(Failed),
+    }
+}
+
+pub(crate) fn tell(feed: u32, bytes: u32, ended: bool) -> Tell {
+    Tell { feed, bytes, ended }
 }
 
 // Answers of one tell each.
@@ -80,90 +108,94 @@ fn answers(alloc: Global, tells: &[Tell]) -> Result<Vec<Told>, AllocError> {
     Ok(answers)
 }
 
-#[test]
-fn a_poller_in_memory_gives_what_may_be_told(rt: HostRuntime) -> Result<(), Fail> {
-    let tell = |feed: u32, bytes: u32, ended: bool| Tell { feed, bytes, ended };
-    let list = answers(
-        rt.alloc(),
-        &[
-            tell(3, 4, false),
-            tell(5, 9, false),
-            tell(3, 0, false),
-            tell(3, 0x8000_0000, true),
-            tell(3, 6, true),
-            tell(3, 7, false),
-        ],
-    )?;
-    let mut poller = ListPoller::new(rt.alloc(), list, 2, 9)?;
+// A poller with room for two watches and nine bytes, whose poll 1, watch 0 and listen 1 fail.
+fn failing_poller(alloc: Global) -> Result<ListPoller, AllocError> {
+    let tells = [
+        tell(3, 4, false),
+        tell(5, 9, false),
+        tell(3, 0, false),
+        tell(3, MAX_TELL_BYTES + 1, true),
+        tell(3, MAX_TELL_BYTES, true),
+        tell(3, 7, false),
+    ];
+    let mut poller = ListPoller::new(alloc, answers(alloc, &tells)?, 2, 9)?;
     poller.fail_poll(1)?;
     poller.fail_watch(0)?;
     poller.fail_listen(1)?;
-    assert_eq!(rt; poller.listen("host"), Ok(()));
-    assert_eq!(rt; poller.listen("host"), Err(Failed));
-    assert_eq!(rt; poller.watch(3, "d"), Err(Failed));
-    assert!(rt; !poller.is_watched(3));
-    assert_eq!(rt; poller.watch(3, "d"), Ok(()));
-    assert_eq!(rt; poller.watch(4, "abcdef"), Err(Failed));
-    assert_eq!(rt; poller.watch(4, "abcd"), Ok(()));
-    assert_eq!(rt; poller.watch(6, ""), Err(Failed));
-    assert!(rt; poller.is_watched(3));
+    Ok(poller)
+}
+
+#[test]
+fn a_poller_in_memory_gives_what_may_be_told(rt: HostRuntime) -> Result<(), Fail> {
+    let mut poller = failing_poller(rt.alloc())?;
     let mut told = Told::new();
-    for (poll, want, tells) in [
-        (0, Ok(()), Some(tell(3, 4, false))),
-        (1, Err(Failed), Some(tell(3, 4, false))),
-        (2, Ok(()), None),
-        (3, Ok(()), Some(tell(3, 0, false))),
-        (4, Ok(()), None),
-        (5, Ok(()), Some(tell(3, 6, true))),
-        (6, Ok(()), None),
-        (7, Ok(()), None),
+    for (row, call, fits) in [
+        (0, Call::Listen("host"), true),
+        (1, Call::Listen("host"), false),
+        (2, Call::Watch(3, "d"), false),
+        (3, Call::Poll(3), false),
+        (4, Call::Watch(3, "d"), true),
+        (5, Call::Watch(4, "abcdef"), false),
+        (6, Call::Watch(4, "abcd"), true),
+        (7, Call::Watch(6, ""), false),
     ] {
-        if poller.is_watched(3) {
-            assert_eq!(rt; poller.poll(10, &mut told), want, "poll {poll}");
-        }
-        assert_eq!(rt; told.as_slice().first().copied(), tells, "poll {poll}");
+        hold(
+            &rt,
+            row,
+            make(&mut poller, &call, &mut told).is_ok() == fits,
+        );
+    }
+    for (row, fits, first) in [
+        (8, true, Some(tell(3, 4, false))),
+        (9, false, Some(tell(3, 4, false))),
+        (10, true, None),
+        (11, true, Some(tell(3, 0, false))),
+        (12, true, None),
+        (13, true, Some(tell(3, MAX_TELL_BYTES, true))),
+        (14, true, None),
+        (15, true, None),
+    ] {
+        let got = make(&mut poller, &Call::Poll(3), &mut told).is_ok();
+        hold(
+            &rt,
+            row,
+            got == fits && told.as_slice().first().copied() == first,
+        );
     }
     Ok(())
 }
 
 #[test]
-fn a_clock_in_memory_steps_and_jumps(rt: HostRuntime) {
-    let mut clock = JumpClock::new(6);
-    assert_eq!(rt; clock.now(), 0);
-    assert_eq!(rt; clock.now(), 6);
-    clock.wait_until(20);
-    clock.wait_until(3);
-    assert_eq!(rt; clock.now(), 20);
-    clock.wait_until(u64::MAX);
-    assert_eq!(rt; clock.now(), u64::MAX);
-    assert_eq!(rt; clock.now(), u64::MAX);
-}
-
-#[test]
-fn the_system_clock_waits(rt: HostRuntime) -> Result<(), Fail> {
+fn clocks_wait(rt: HostRuntime) -> Result<(), Fail> {
     let mut clock = SystemClock::new(&rt)?;
-    let before = clock.now();
-    clock.wait_until(before.saturating_add(20));
-    let after = clock.now();
-    assert!(rt; after >= before.saturating_add(20), "{before} {after}");
+    let end = clock.now().saturating_add(20);
+    clock.wait_until(end);
+    hold(&rt, 0, clock.now() >= end);
+    let mut clock = JumpClock::new(6);
+    for (row, wait, time) in [
+        (1, 0, 0),
+        (2, 0, 6),
+        (3, 20, 20),
+        (4, 3, 26),
+        (5, u64::MAX, u64::MAX),
+    ] {
+        clock.wait_until(wait);
+        hold(&rt, row, clock.now() == time);
+    }
     Ok(())
 }
 
-// A value that may go to another thread.
-fn sent<T: Send>(value: T) -> T {
-    value
-}
+// Values of this type may go to another thread.
+fn sent<T: Send>() {}
 
 #[test]
-fn each_may_go_to_another_thread(rt: HostRuntime) -> Result<(), Fail> {
-    let alloc = rt.alloc();
-    sent(MapShelf::new(alloc));
-    sent(FileShelf::new(&rt));
-    sent(VecSink::new(alloc, 1, 1)?);
-    sent(StdoutSink::new(&rt));
-    sent(ListPoller::new(alloc, Vec::new(alloc), 0, 0)?);
-    sent(NetPoller::new(&rt, alloc)?);
-    sent(JumpClock::new(1));
-    sent(SystemClock::new(&rt)?);
-    Ok(())
+fn each_may_go_to_another_thread() {
+    sent::<MapShelf>();
+    sent::<FileShelf<HostRuntime>>();
+    sent::<VecSink>();
+    sent::<StdoutSink<HostRuntime>>();
+    sent::<ListPoller>();
+    sent::<NetPoller<HostRuntime>>();
+    sent::<JumpClock>();
+    sent::<SystemClock<HostRuntime>>();
 }

@@ -1,16 +1,18 @@
 // One answer of a poller.
 ghost use Rattle.std.specs.Prelude.{◌≡◌, ◌<◌, ◌≤◌, ◌++◌, ◌∷◌, [], ◌==◌, length};
+ghost use Rattle.gcd_outer.specs.declared.limits.TheConstants.{MAX_TELLS};
 ghost use Rattle.gcd_outer.specs.Tells.{is_empty_answer};
 
+use crate::limits::MAX_TELLS;
 use crate::tell::Tell;
 use arrayvec::ArrayVec;
 use std::marker::Model;
 
-/// One answer of a poller: at most 64 tells, in order. It takes no memory but its own. Contracts see
+/// One answer of a poller: at most `MAX_TELLS` tells, in order. It takes no memory but its own. Contracts see
 /// the list of its tells. (This project's own rule.)
 #[derive(Drop)]
 pub struct Told {
-    tells: ArrayVec<Tell, 64>,
+    tells: ArrayVec<Tell, MAX_TELLS>,
 }
 
 impl Model for Told {
@@ -35,7 +37,7 @@ impl Told {
     /// How many tells it has.
     pub fn len(&self) -> usize
         ensures count { result ≡ length self.now }
-        ensures few { result ≤ 64 }
+        ensures few { result ≤ MAX_TELLS }
     {
         self.tells.len()
     }
@@ -60,7 +62,7 @@ impl Told {
     /// Its tells, in order.
     pub fn as_slice(&self) -> &[Tell]
         ensures tells { result.now ≡ self.now }
-        ensures few { length result.now ≤ 64 }
+        ensures few { length result.now ≤ MAX_TELLS }
     {
         self.tells.as_slice()
     }
@@ -74,11 +76,12 @@ impl Told {
 
     /// Adds a tell at the end.
     pub fn push(&mut self, tell: Tell)
-        requires { length self.old < 64 }
+        requires { length self.old < MAX_TELLS }
         ensures { self.new ≡ self.old ++ tell ∷ [] }
     {
         self.tells.push(tell);
     }
+
     /// Takes over the tells of another answer in place of its own.
     pub fn copy_from(&mut self, other: &Told)
         ensures { self.new ≡ other.now }

@@ -20,13 +20,14 @@ pub struct VecSink {
 }
 
 impl VecSink {
-    ghost use Rattle.gcd_outer.specs.InMemory.{failing_writes, room_of, most_of};
+    ghost use Rattle.gcd_outer.specs.InMemory.{failing_writes, writes_of, room_of, most_of};
 
-    /// A sink with room for `room` bytes, which takes at most `most` of them at a write.
+    /// An empty sink, which was not written to yet, with room for `room` bytes, which takes at most `most` of them at a write.
     pub fn new(alloc: Global, room: usize, most: usize) -> Result<Self, AllocError>
         requires { 0 < most }
         ensures empty { IfOk result (λ s. ⟦<VecSink as Sink>⟧.taken s ≡ []) }
         ensures faults { IfOk result (λ s. ⟦<VecSink as Sink>⟧.faults s ≡ 0) }
+        ensures writes { IfOk result (λ s. writes_of s ≡ 0) }
         ensures room { IfOk result (λ s. room_of s ≡ room) }
         ensures most { IfOk result (λ s. most_of s ≡ most) }
         ensures failing { IfOk result (λ s. failing_writes s ≡ []) }
@@ -40,10 +41,12 @@ impl VecSink {
         })
     }
 
-    /// The write of this number, counted from 0, is to fail. Want of memory leaves the sink as it was.
+    /// The write of this number, counted from 0, is to fail; nothing else changes. Want of memory leaves
+    /// the sink as it was.
     pub fn fail(&mut self, write: u64) -> Result<(), AllocError>
         ensures taken { ⟦<VecSink as Sink>⟧.taken self.new ≡ ⟦<VecSink as Sink>⟧.taken self.old }
         ensures faults { ⟦<VecSink as Sink>⟧.faults self.new ≡ ⟦<VecSink as Sink>⟧.faults self.old }
+        ensures writes { writes_of self.new ≡ writes_of self.old }
         ensures room { room_of self.new ≡ room_of self.old }
         ensures most { most_of self.new ≡ most_of self.old }
         ensures ok { OnOk result (failing_writes self.new ≡ failing_writes self.old ++ write ∷ []) }
@@ -84,6 +87,10 @@ impl Sink for VecSink {
         ensures faults { ⟦<VecSink as Sink>⟧.faults self.old ≤ ⟦<VecSink as Sink>⟧.faults self.new }
 
         ensures count { IfOk result (λ n. n ≡ min (length piece.now) (most_of self.old)) }
+        ensures no_fault { OnOk result (
+            ⟦<VecSink as Sink>⟧.faults self.new ≡ ⟦<VecSink as Sink>⟧.faults self.old) }
+        ensures one_fault { OnErr result (
+            ⟦<VecSink as Sink>⟧.faults self.new ≡ next_count (⟦<VecSink as Sink>⟧.faults self.old)) }
         ensures room { OnOk result (length (⟦<VecSink as Sink>⟧.taken self.new) ≤ room_of self.old) }
         ensures planned { Contains (failing_writes self.old) (writes_of self.old) → IsErr result }
         ensures only_so { OnErr result (Contains (failing_writes self.old) (writes_of self.old)

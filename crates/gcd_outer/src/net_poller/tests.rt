@@ -1,10 +1,15 @@
 use super::NetPoller;
 use crate::slot::Source;
-use crate::{Failed, Poller, Tell, Told};
-use std::fs;
+use crate::tests::{Call, hold, make, tell};
+use crate::{Failed, Tell, Told};
+use std::alloc::Global;
+use std::fs::File;
 use std::io::Write;
-use std::net::TcpStream;
+use std::net::{Net, SocketAddr, TcpStream};
+use std::process::Abort;
+use std::rt::Files;
 use std::test::Fail;
+use std::{fs, io};
 
 // What came from the feeds below 8.
 #[derive(Drop)]
@@ -30,137 +35,185 @@ impl Heard {
             }
         }
     }
-}
 
-// One poll, where this feed is watched.
-fn poll<P: Poller>(poller: &mut P, feed: u32, told: &mut Told) -> Result<(), Failed> {
-    if poller.is_watched(feed) {
-        poller.poll(10, told)
-    } else {
-        Err(Failed)
+    // Whether a feed has given so many bytes, and its end, if one is asked for.
+    fn has(&self, feed: usize, bytes: u64, ended: bool) -> bool {
+        feed >= 8 || (self.bytes[feed] >= bytes && (self.ended[feed] || !ended))
+    }
+
+    fn is(&self, bytes: [u64; 8], ended: [bool; 8]) -> bool {
+        self.bytes == bytes && self.ended == ended
     }
 }
 
-// Polls until a feed has given so many bytes and its end, if one is asked for; at most 1,000 times.
-fn hear<P: Poller>(
-    poller: &mut P,
+// Polls until each feed in turn has given so many bytes, and its end, if one is asked for; at most 1,000 times. Whether no
+// poll failed.
+fn hear<R: Net + Files<File = File>>(
+    poller: &mut NetPoller<R>,
     heard: &mut Heard,
-    feed: u32,
-    bytes: u64,
-    ended: bool,
-) -> Result<(), Failed> {
+    wants: &[(u32, u64, bool)],
+) -> bool {
     let mut told = Told::new();
-    for _ in 0..1000 {
-        let at = feed as usize;
-        if at >= 8 || (heard.bytes[at] >= bytes && (heard.ended[at] || !ended)) {
-            break;
+    for (feed, bytes, ended) in wants {
+        for _ in 0..1000 {
+            if heard.has(*feed as usize, *bytes, *ended) {
+                break;
+            }
+            if make(poller, &Call::Poll(*feed), &mut told).is_err() {
+                return false;
+            }
+            heard.note(&told);
         }
-        poll(poller, feed, &mut told)?;
-        heard.note(&told);
+    }
+    true
+}
+
+// Feeds 7, 2, 5 and 3 wait for connections from now on, after a watch that came before the listen.
+fn listen<R: Net + Files<File = File>>(poller: &mut NetPoller<R>) -> Result<(), Failed> {
+    let mut told = Told::new();
+    if make(poller, &Call::Watch(7, "tcp"), &mut told).is_ok() {
+        return Err(Failed);
+    }
+    make(poller, &Call::Listen("127.0.0.1:0"), &mut told)?;
+    for feed in [7, 2, 5, 3] {
+        make(poller, &Call::Watch(feed, "tcp"), &mut told)?;
+    }
+    Ok(())
+}
+
+// A poller on which feeds wait for connections, and its address.
+fn listening<R: Net + Files<File = File>>(
+    rt: &R,
+    alloc: Global,
+) -> Result<(NetPoller<R>, SocketAddr), Fail> {
+    let mut poller = NetPoller::new(rt, alloc)?;
+    listen(&mut poller)?;
+    let addr = poller.local_addr()?;
+    Ok((poller, addr))
+}
+
+// A connection over which bytes were sent.
+fn connect<R: Net<Stream = TcpStream>>(
+    rt: &R,
+    addr: SocketAddr,
+    bytes: &[u8],
+) -> io::Result<TcpStream> {
+    let mut stream = TcpStream::connect(rt, addr)?;
+    stream.write_all(bytes)?;
+    Ok(stream)
+}
+
+// A connection that sent four bytes and was closed, one that sent many, and a silent one.
+fn connect_three<R: Net<Stream = TcpStream>>(
+    rt: &R,
+    addr: SocketAddr,
+) -> io::Result<(TcpStream, TcpStream)> {
+    drop(connect(rt, addr, b"four")?);
+    let long = connect(rt, addr, &[7; 50_000])?;
+    let silent = connect(rt, addr, b"")?;
+    Ok((long, silent))
+}
+
+// Sends bytes to the other side of the connection of feed 3.
+fn send_back<R: Net + Files<File = File>>(poller: &NetPoller<R>, bytes: &[u8]) -> io::Result<()> {
+    if let Source::Stream(near) = &poller.slots.slots[3].source {
+        let mut near = near;
+        near.write_all(bytes)?;
     }
     Ok(())
 }
 
 #[test]
-fn connections_are_read_as_they_come(rt: HostRuntime) -> Result<(), Fail> {
-    let mut poller = NetPoller::new(&rt, rt.alloc())?;
-    assert_eq!(rt; poller.watch(7, "tcp"), Err(Failed), "no listen");
-    assert!(rt; poller.local_addr().is_err(), "no listen");
-    assert_eq!(rt; poller.listen("127.0.0.1:0"), Ok(()));
-    for feed in [7, 2, 5, 3] {
-        assert_eq!(rt; poller.watch(feed, "tcp"), Ok(()), "{feed}");
-    }
-    let addr = poller.local_addr()?;
-    let mut closed = TcpStream::connect(&rt, addr)?;
-    let mut long = TcpStream::connect(&rt, addr)?;
-    let silent = TcpStream::connect(&rt, addr)?;
-    closed.write_all(b"four")?;
-    drop(closed);
-    long.write_all(&[7; 50_000])?;
+fn connections_are_read_and_a_reset_is_a_fault_once(rt: HostRuntime) -> Result<(), Fail> {
+    let (mut poller, addr) = listening(&rt, rt.alloc())?;
+    let open = connect_three(&rt, addr)?;
     let mut heard = Heard::nothing();
-    assert_eq!(rt; hear(&mut poller, &mut heard, 7, 4, true), Ok(()));
-    assert_eq!(rt; hear(&mut poller, &mut heard, 2, 50_000, false), Ok(()));
-    assert_eq!(rt; heard.bytes, [0, 0, 50_000, 0, 0, 0, 0, 4]);
-    assert_eq!(rt;
-        heard.ended,
-        [false, false, false, false, false, false, false, true]
+    let (yes, no) = (true, false);
+    let all = hear(&mut poller, &mut heard, &[(7, 4, true), (2, 50_000, false)]);
+    let bytes = [0, 0, 50_000, 0, 0, 0, 0, 4];
+    hold(
+        &rt,
+        0,
+        all && heard.is(bytes, [no, no, no, no, no, no, no, yes]),
     );
-    drop(long);
-    assert_eq!(rt; hear(&mut poller, &mut heard, 2, 50_000, true), Ok(()));
-    let mut late = TcpStream::connect(&rt, addr)?;
-    late.write_all(b"x")?;
-    assert_eq!(rt; hear(&mut poller, &mut heard, 3, 1, false), Ok(()));
-    assert_eq!(rt; heard.bytes, [0, 0, 50_000, 1, 0, 0, 0, 4]);
-    assert_eq!(rt;
-        heard.ended,
-        [false, false, true, false, false, false, false, true]
+    drop(open);
+    let late = connect(&rt, addr, b"x")?;
+    let all = hear(
+        &mut poller,
+        &mut heard,
+        &[(2, 50_000, true), (3, 1, false), (5, 0, true)],
     );
-    drop(silent);
-    assert_eq!(rt; hear(&mut poller, &mut heard, 5, 0, true), Ok(()));
-    assert!(rt; heard.ended[5]);
-    assert_eq!(rt; poller.faults, 1);
+    let bytes = [0, 0, 50_000, 1, 0, 0, 0, 4];
+    hold(
+        &rt,
+        1,
+        all && heard.is(bytes, [no, no, yes, no, no, yes, no, yes]),
+    );
+    hold(&rt, 2, poller.faults == 1);
+    // A socket that is closed with bytes that were not read resets its connection.
+    send_back(&poller, b"unread")?;
+    drop(late);
+    hold(&rt, 3, !hear(&mut poller, &mut heard, &[(3, 2, false)]));
+    hold(&rt, 4, hear(&mut poller, &mut heard, &[(3, 1, true)]));
+    hold(&rt, 5, heard.bytes == bytes && poller.faults == 2);
     Ok(())
+}
+
+// What the system refuses to listen at and to open, each once, and then the watches of two regular files and of one whose
+// start can't be read.
+fn watch_files<R: Net + Files<File = File>>(rt: &impl Abort, poller: &mut NetPoller<R>) {
+    let mut told = Told::new();
+    for (row, call, fits, faults) in [
+        (0, Call::Listen("nowhere"), false, 1),
+        (1, Call::Listen("localhost:0"), false, 2),
+        (2, Call::Listen("203.0.113.1:0"), false, 3),
+        (3, Call::Watch(1, "absent.txt"), false, 4),
+        (4, Call::Watch(1, "."), false, 5),
+        (5, Call::Watch(1, ""), false, 6),
+        (6, Call::Watch(1, "fed.txt"), true, 6),
+        (7, Call::Watch(2, "/proc/self/mem"), true, 6),
+        (8, Call::Watch(3, "fed.txt"), true, 6),
+    ] {
+        let got = make(poller, &call, &mut told).is_ok();
+        hold(rt, row, got == fits && poller.faults == faults);
+    }
+}
+
+// Whether a poll answers, what was told last, and how many faults there were by then.
+type Row<'a> = (bool, &'a [Tell], u64);
+
+// Polls for each row, where feed 1 is watched.
+fn poll_each<R: Net + Files<File = File>>(
+    rt: &impl Abort,
+    poller: &mut NetPoller<R>,
+    rows: &[Row],
+) {
+    let mut told = Told::new();
+    for (row, (fits, tells, faults)) in rows.iter().enumerate() {
+        let got = make(poller, &Call::Poll(1), &mut told).is_ok();
+        let right = got == *fits && told.as_slice() == *tells && poller.faults == *faults;
+        hold(rt, row, right);
+    }
 }
 
 #[test]
 fn what_the_system_refuses_is_a_fault_once(rt: HostRuntime) -> Result<(), Fail> {
     fs::write(&rt, "fed.txt", "a\nbb\n")?;
     let mut poller = NetPoller::new(&rt, rt.alloc())?;
-    for (addr, count) in [("nowhere", 1), ("localhost:0", 2), ("203.0.113.1:0", 3)] {
-        assert_eq!(rt; poller.listen(addr), Err(Failed), "{addr}");
-        assert_eq!(rt; poller.faults, count, "{addr}");
-    }
-    for (path, count) in [("absent.txt", 4), (".", 5), ("", 6)] {
-        assert_eq!(rt; poller.watch(1, path), Err(Failed), "{path}");
-        assert_eq!(rt; poller.faults, count, "{path}");
-    }
-    assert!(rt; !poller.is_watched(1));
-    // A regular file whose start can't be read.
-    assert_eq!(rt; poller.watch(1, "fed.txt"), Ok(()));
-    assert_eq!(rt; poller.watch(2, "/proc/self/mem"), Ok(()));
-    assert_eq!(rt; poller.watch(3, "fed.txt"), Ok(()));
+    watch_files(&rt, &mut poller);
     fs::remove_file(&rt, "fed.txt")?;
-    let tell = |feed: u32, bytes: u32, ended: bool| Tell { feed, bytes, ended };
-    let mut told = Told::new();
     let first = [tell(1, 5, false)];
     let second = [tell(3, 5, false), tell(1, 0, true)];
     let third = [tell(3, 0, true)];
-    for (number, want, tells, count) in [
-        (0, Ok(()), first.as_slice(), 6),
-        (1, Err(Failed), first.as_slice(), 7),
-        (2, Ok(()), second.as_slice(), 7),
-        (3, Err(Failed), second.as_slice(), 8),
-        (4, Ok(()), third.as_slice(), 8),
-        (5, Err(Failed), third.as_slice(), 9),
-        (6, Err(Failed), third.as_slice(), 10),
-    ] {
-        assert_eq!(rt; poll(&mut poller, 1, &mut told), want, "poll {number}");
-        assert_eq!(rt; told.as_slice(), tells, "poll {number}");
-        assert_eq!(rt; poller.faults, count, "poll {number}");
-    }
-    Ok(())
-}
-
-#[test]
-fn a_reset_is_a_fault_once(rt: HostRuntime) -> Result<(), Fail> {
-    let mut poller = NetPoller::new(&rt, rt.alloc())?;
-    assert_eq!(rt; poller.listen("127.0.0.1:0"), Ok(()));
-    assert_eq!(rt; poller.watch(0, "tcp"), Ok(()));
-    let mut far = TcpStream::connect(&rt, poller.local_addr()?)?;
-    far.write_all(b"four")?;
-    let mut heard = Heard::nothing();
-    assert_eq!(rt; hear(&mut poller, &mut heard, 0, 4, false), Ok(()));
-    // A socket that is closed with bytes that were not read resets its connection.
-    let slot = poller.slots.slots.first();
-    if let Some(Source::Stream(near)) = slot.map(|slot| &slot.source) {
-        let mut near = near;
-        near.write_all(b"unread")?;
-    }
-    drop(far);
-    assert_eq!(rt; hear(&mut poller, &mut heard, 0, 5, false), Err(Failed));
-    assert_eq!(rt; poller.faults, 1);
-    assert_eq!(rt; hear(&mut poller, &mut heard, 0, 4, true), Ok(()));
-    assert_eq!(rt; heard.bytes[0], 4);
-    assert_eq!(rt; poller.faults, 1);
+    let rows = [
+        (true, first.as_slice(), 6),
+        (false, first.as_slice(), 7),
+        (true, second.as_slice(), 7),
+        (false, second.as_slice(), 8),
+        (true, third.as_slice(), 8),
+        (false, third.as_slice(), 9),
+        (false, third.as_slice(), 10),
+    ];
+    poll_each(&rt, &mut poller, &rows);
     Ok(())
 }

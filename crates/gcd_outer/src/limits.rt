@@ -1,0 +1,10 @@
+// The limits of what a poller watches and tells. (This project's own rules.)
+
+/// Feeds are numbered below this.
+pub const MAX_FEEDS: u32 = 1024;
+
+/// The most tells in one answer.
+pub const MAX_TELLS: usize = 64;
+
+/// The most bytes in one tell: 2^31 - 1.
+pub const MAX_TELL_BYTES: u32 = 2_147_483_647;
