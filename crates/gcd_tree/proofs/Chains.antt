@@ -1,5 +1,5 @@
 -- The chain of an object, by that of its target.
-use Rattle.std.proofs.Common.{◌≡◌, ◌≢◌, ℕ, suc, ◌+◌, ◌-◌, ◌<◌, true, [], ◌∷◌, length, ap, sym, ◌∙◌, arith}
+use Rattle.std.proofs.Common.{◌≡◌, ◌≢◌, ℕ, suc, ◌-◌, ◌<◌, true, [], ◌∷◌, length, ap, sym, ◌∙◌, arith}
 use Rattle.gcd_plan.specs.Chains.{chain_by, is_in}
 use Rattle.gcd_tree.specs.TreeView.{TreeView, target_at, chain_at}
 use Rattle.gcd_tree.specs.IsTree.{IsTree}

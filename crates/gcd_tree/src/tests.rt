@@ -277,11 +277,16 @@ fn check_object(rt: &impl Abort, world: &World, o: u32, row: &Row)
     let at = o as usize;
     let tree = &world.tree;
     let what = row.what;
-    let targets = (tree.target(Obj(o)).0, tree.is_moving(Obj(o)));
-    assert_eq!(rt; targets, (row.targets[at], row.moving[at]), "{what}");
+    let wanted = (row.targets[at], row.moving[at], row.has_child[at]);
+    let targets = (
+        tree.target(Obj(o)).0,
+        tree.is_moving(Obj(o)),
+        tree.has_child(Obj(o)),
+    );
+    assert_eq!(rt; targets, wanted, "{what}");
+    let wanted = (row.open_on[at], row.open_beneath[at]);
     let open = (tree.open_on(Obj(o)), tree.open_beneath(Obj(o)));
-    assert_eq!(rt; open, (row.open_on[at], row.open_beneath[at]), "{what}");
-    assert_eq!(rt; tree.has_child(Obj(o)), row.has_child[at], "{what}");
+    assert_eq!(rt; open, wanted, "{what}");
 }
 
 fn check_row(rt: &impl Abort, alloc: Global, row: &Row) -> Result<(), Fail> {
@@ -291,7 +296,8 @@ fn check_row(rt: &impl Abort, alloc: Global, row: &Row) -> Result<(), Fail> {
         made = try_call(&mut world, *call);
     }
     let what = row.what;
-    assert_eq!(rt; made, row.made, "{what}");
+    let wanted = row.made;
+    assert_eq!(rt; made, wanted, "{what}");
     for o in 0..4 {
         check_object(rt, &world, o, row);
     }

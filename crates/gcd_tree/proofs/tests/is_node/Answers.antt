@@ -8,5 +8,5 @@ pub returns : goal.returns
 returns c = λ yes'.
     ap (λ nodes. slice_index_or nodes c.args.o.0 false) c.args.world.now.nodes_fit
     ∙ is_node_at-tree_of c.args.world.now.plan c.args.o.0
-    ∙ ap (λ kind. option_map_or is_node_kind kind false) (sym c.kind.ensures)
+    ∙ ap (λ kind. option_map_or is_node_kind kind false) c.kind.ensures
     ∙ sym c.is_node.ensures ∙ yes'
