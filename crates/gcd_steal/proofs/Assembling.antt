@@ -56,7 +56,7 @@ made r rack most old new is opened some_in same have as_many k d near = let plac
     let number = s.number ∙ o.number_is in let size : length new ≡ benches_of r = same.count ∙ as_many in record {
       number = omega (arith, number, size);
       seat = ap (λ x. x.table_id) s.seat ∙ o.seat;
-      names = ap (λ x. x.me.0.names.table_id) s.seat ∙ ap (λ (v : Sight). v.names.table_id) o.sight_is ∙ is.0;
+      tokens = ap (λ x. x.me.0.tokens.table_id) s.seat ∙ ap (λ (v : Sight). v.tokens.table_id) o.sight_is ∙ is.0;
       rack = subst (λ (v : Account). IsIdOf r v.rack) (sym (s.known ∙ o.account_is)) is;
       own = λ u. subst (λ (i : ℕ). stealer_deque (get_or thieves i u) ≡ worker_deque (get_or new k d).deque.worker) (sym number) (stolen_from places rack most thieves old new opened some_in same have k u d near);
       count = (have k d near).count ∙ size;

@@ -9,7 +9,7 @@ use Rattle.gcd_steal.specs.Drains.{IsDrainOf, IsOf}
 use Rattle.gcd_steal.specs.Deques.{Gets}
 
 -- a Drain that was taken is of the rack that the pass knows
-pub got_one : (o : Option Drain) (E : Type 0) (v w : Account) (n p : TableId) → v.fresh ≡ false → (v.rack.names.table_id ≡ n) × (v.rack.places.table_id ≡ p)
+pub got_one : (o : Option Drain) (E : Type 0) (v w : Account) (n p : TableId) → v.fresh ≡ false → (v.rack.tokens.table_id ≡ n) × (v.rack.places.table_id ≡ p)
     → MatchOption o E (λ d. Gets v (d ∷ []) w) → IfSome o (λ d. IsDrainOf n p d)
 got_one None E v w n p old is h = tt
 got_one (Some d) E v w n p old is h = let held = h.1.1 in let r = held.2 in let same : v.rack ≡ r.rack = (r.each held.1 v held.3).rack old in

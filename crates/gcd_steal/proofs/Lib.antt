@@ -1,5 +1,5 @@
 mod Lists
-mod Naming
+mod Issuing
 mod Placing
 mod Dealing
 mod Benching

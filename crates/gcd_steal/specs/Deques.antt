@@ -68,6 +68,6 @@ no_table = record { words = 0; slots = 0; views_name = 0; atom = 0; block = 0; o
 
 abbrev pub no_rack : RackId
 no_rack = record {
-  names = record { marker = record {}; table_id = no_table; id = 0; views = [] };
+  tokens = record { marker = record {}; table_id = no_table; id = 0; views = [] };
   places = record { marker = record {}; table_id = no_table; id = 0; views = [] };
 }

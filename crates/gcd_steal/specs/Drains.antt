@@ -14,12 +14,12 @@ node_of d = d.node
 abbrev pub sight_with : Drain → Sight
 sight_with d = d.place.me.0
 
--- d is a Drain of the rack with these tables of names and of places
-pub record IsDrainOf (names_id places_id : TableId) (d : Drain) : Type 0 where
-  pub badge : d.badge.table_id ≡ names_id
+-- d is a Drain of the rack with these tables of tokens and of places
+pub record IsDrainOf (tokens_id places_id : TableId) (d : Drain) : Type 0 where
+  pub token : d.token.table_id ≡ tokens_id
   pub place : d.place.table_id ≡ places_id
-  pub told : d.badge.table_id ≡ (sight_with d).names.table_id
+  pub told : d.token.table_id ≡ (sight_with d).tokens.table_id
   pub node : (node_of d).0 < places_id.slots
 
 abbrev pub IsOf : RackId → Drain → Type 0
-IsOf rack d = IsDrainOf rack.names.table_id rack.places.table_id d
+IsOf rack d = IsDrainOf rack.tokens.table_id rack.places.table_id d

@@ -1,4 +1,5 @@
-pub mod Names
+pub mod Limits
+pub mod Tokens
 pub mod Places
 pub mod Drains
 pub mod Deques

@@ -12,7 +12,7 @@ use Rattle.gcd_steal.specs.Racks.{DequeStealer, DequePass, known_by, own_account
 pub record IsOpened (places : TableId) (rack : RackId) (most number : ℕ) (t : DequeStealer) (b : Bench) : Type 0 where
   pub number_is : b.number ≡ number
   pub seat : b.seat.table_id ≡ places
-  pub sight_is : b.seat.me.0 ≡ sight rack.names [] 0
+  pub sight_is : b.seat.me.0 ≡ sight rack.tokens [] 0
   pub account_is : own_account b ≡ account false true rack [] []
   pub pushed : pushed_by b ≡ 0
   pub most_is : most_of b ≡ most

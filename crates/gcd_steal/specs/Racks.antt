@@ -26,7 +26,7 @@ known_by p = view p
 
 -- the plan of the rack
 abbrev pub plan_of : Rack → PlanView
-plan_of r = r.names.shared.key
+plan_of r = r.tokens.shared.key
 
 -- how many benches it has
 abbrev pub benches_of : Rack → ℕ
@@ -34,7 +34,7 @@ benches_of r = length r.thieves.items
 
 -- it is a Drain of this rack
 abbrev pub IsRackDrain : Rack → Drain → Type 0
-IsRackDrain r d = IsDrainOf r.names.shared.table_id r.places.shared.table_id d
+IsRackDrain r d = IsDrainOf r.tokens.shared.table_id r.places.shared.table_id d
 
 -- the bench's number; how many Drains it pushed, and how many it may push
 abbrev pub number_of : Bench → ℕ
@@ -71,14 +71,14 @@ StealTells victim b c tells =
 
 -- it is the rack that is meant
 abbrev pub IsIdOf : Rack → RackId → Type 0
-IsIdOf r id = (id.names.table_id ≡ r.names.shared.table_id) × (id.places.table_id ≡ r.places.shared.table_id)
+IsIdOf r id = (id.tokens.table_id ≡ r.tokens.shared.table_id) × (id.places.table_id ≡ r.places.shared.table_id)
 
 -- it is a bench of this rack: its deque is the one from which others steal by its number, and its pass of each number is
 -- one of that bench's deque
 pub record IsBenchOf (r : Rack) (b : Bench) : Type 0 where
   pub number : b.number < benches_of r
   pub seat : b.seat.table_id ≡ r.places.shared.table_id
-  pub names : b.seat.me.0.names.table_id ≡ r.names.shared.table_id
+  pub tokens : b.seat.me.0.tokens.table_id ≡ r.tokens.shared.table_id
   pub rack : IsIdOf r (own_account b).rack
   pub own : (t : DequeStealer)
       → stealer_deque (slice_index_or r.thieves.items b.number t) ≡ worker_deque b.deque.worker

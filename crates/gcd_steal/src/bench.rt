@@ -1,20 +1,22 @@
 // What a rack and a bench are made of.
 ghost use Rattle.std.specs.Prelude.{◌≡◌, ◌+◌, ◌<◌, ◌≤◌, [], length};
+ghost use Rattle.gcd_plan.specs.Limits.{max_workers};
 
 use crate::deque::{Deque, Pass, Thief};
-use crate::names::Names;
 use crate::places::{PlaceSeat, Places};
+use crate::tokens::Tokens;
 
 /// What the workers of a run share: a sleeping place for each node of the plan, and a way to steal from each bench (this
 /// project's own rule). Threads share it by `&`.
 #[derive(Drop)]
 pub struct Rack {
-    pub(crate) names: Names,
+    pub(crate) tokens: Tokens,
     pub(crate) places: Places,
     // By the number of the bench.
     pub(crate) thieves: Vec<Thief>,
-    ghost few: { (0 < length thieves.items) × (length thieves.items ≤ 64) },
-    ghost placed: { places.shared.table_id.slots ≡ length names.shared.key.objects },
+    ghost few: { (0 < length thieves.items) × (length thieves.items ≤ max_workers) },
+    ghost placed: { places.shared.table_id.slots ≡ length tokens.shared.key.objects },
+    ghost word: { tokens.shared.table_id.words ≡ 1 },
     ghost sized: { places.shared.table_id.words ≡ places.shared.table_id.slots + 8 },
 }
 

@@ -1,12 +1,14 @@
 // The deque of one bench: its owner pushes and pops, other benches steal.
 ghost use Rattle.std.specs.Prelude.{◌≡◌, ◌≤◌, ◌+◌, ◌<◌, true, false, [], ◌∷◌, ◌↔◌, length, MatchOption, IfOk, OnOk, IsErr, IfErr};
 ghost use Rattle.crossbeam_deque.specs.Handles.{view, IsPassOf, worker_deque, worker_view, worker_flavor, worker_capacity, worker_index, stealer_deque, stealer_flavor};
+ghost use Rattle.gcd_steal.specs.Limits.{max_pushes};
 ghost use Rattle.gcd_steal.specs.Drains.{IsOf};
 ghost use Rattle.gcd_steal.specs.Deques.{account, Sends, Gets, WasEmpty};
 
 use crate::drain::Drain;
-use crate::names::Name;
 use crate::places::Sight;
+use crate::taking::pop_front;
+use crate::tokens::Token;
 use atomic_table::Badge;
 use crossbeam_deque::protocol::{Outcome, Protocol, Split};
 use crossbeam_deque::{Stealer, Worker};
@@ -14,10 +16,10 @@ use std::alloc::{AllocError, Global};
 use std::collections::LinkedList;
 use std::marker::{Brand, PhantomData};
 
-// Which rack it is: a badge of its names, and one of its places.
+// Which rack it is: a token of its table of tokens, and a badge of its places.
 #[derive(Drop)]
 pub struct RackId {
-    pub names: Badge<Name>,
+    pub tokens: Token,
     pub places: Badge<Sight>,
 }
 
@@ -137,7 +139,7 @@ impl Deque {
             ((worker_view self.new.worker ≡ worker_view self.old.worker) × WasEmpty (worker_view self.old.worker))
             (λ d. Gets (worker_view self.old.worker) (d ∷ []) (worker_view self.new.worker)) }
     {
-        self.worker.pop_as::<Taking>()
+        pop_front::<Drain, Account, FirstOut, Taking>(&mut self.worker)
     }
 
     // A further pass of the deque.
@@ -171,7 +173,7 @@ fn split_pass<N: OfRack>(worker: &mut Owner, rack: &RackId) -> Pass
 
 // A deque with room for `most` pushes, and its stealer.
 pub fn open_deque(alloc: Global, rack: &RackId, most: u32) -> Result<(Deque, Thief), AllocError>
-    requires { (0 < most) × (most ≤ 65536) }
+    requires { (0 < most) × (most ≤ max_pushes) }
     ensures deque { IfOk result (λ r. (worker_view r.0.worker ≡ account false true rack.now [] [])
         × (r.0.most ≡ most) × (r.0.pushed ≡ 0)) }
     ensures thief { IfOk result (λ r. (stealer_deque r.1 ≡ worker_deque r.0.worker)

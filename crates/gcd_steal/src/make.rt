@@ -1,5 +1,6 @@
 // Making a rack with its benches.
 ghost use Rattle.std.specs.Prelude.{◌≡◌, ◌<◌, ◌≤◌, [], length, IfOk};
+ghost use Rattle.gcd_steal.specs.Limits.{max_pushes};
 ghost use Rattle.gcd_steal.specs.Places.{sight};
 ghost use Rattle.gcd_steal.specs.Racks.{own_account};
 ghost use Rattle.gcd_steal.specs.Making.{IsOpened, AreOpened, KnowRack, IsNewPass, SameBench, SameButPasses, AreSame, AreNewPasses, HavePasses};
@@ -26,9 +27,9 @@ fn open_bench(
     most: u32,
 ) -> Result<(Bench, Thief), AllocError>
     requires seat { (seat.old.table_id ≡ places.now.shared.table_id)
-        × (seat.old.me ≡ (sight rack.now.names [] 0, [])) }
+        × (seat.old.me ≡ (sight rack.now.tokens [] 0, [])) }
     requires words { 0 < places.now.shared.table_id.words }
-    requires most { (0 < most) × (most ≤ 65536) }
+    requires most { (0 < most) × (most ≤ max_pushes) }
     ensures seat { (seat.new.table_id ≡ seat.old.table_id) × (seat.new.me ≡ seat.old.me) }
     ensures opened { IfOk result (λ o. IsOpened places.now.shared.table_id rack.now most number o.1 o.0) }
 {
@@ -52,9 +53,9 @@ pub fn open_benches(
     most: u32,
 ) -> Result<Opened, AllocError>
     requires seat { (seat.old.table_id ≡ places.now.shared.table_id)
-        × (seat.old.me ≡ (sight rack.now.names [] 0, [])) }
+        × (seat.old.me ≡ (sight rack.now.tokens [] 0, [])) }
     requires words { 0 < places.now.shared.table_id.words }
-    requires most { (0 < most) × (most ≤ 65536) }
+    requires most { (0 < most) × (most ≤ max_pushes) }
     ensures count { IfOk result (λ o. (length o.benches.items ≡ workers)
         × (length o.thieves.items ≡ workers)) }
     ensures opened { IfOk result (λ o. AreOpened places.now.shared.table_id rack.now most

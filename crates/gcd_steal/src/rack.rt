@@ -1,6 +1,8 @@
 // The calls of a rack.
 ghost use Rattle.std.specs.Prelude.{◌≡◌, ◌≢◌, ◌↔◌, ◌+◌, ◌<◌, ◌≤◌, [], ◌∷◌, length, All, IsTrue, IfSome, IfNone, IfOk, OnOk, IsErr, IfErr};
 ghost use Rattle.gcd_plan.specs.Kinds.{is_node};
+ghost use Rattle.gcd_plan.specs.Limits.{max_workers};
+ghost use Rattle.gcd_steal.specs.Limits.{max_pushes};
 ghost use Rattle.gcd_steal.specs.Places.{newcomer, Takes, Misses, Gives};
 ghost use Rattle.gcd_steal.specs.Drains.{node_of, sight_with};
 ghost use Rattle.gcd_steal.specs.Deques.{WasEmpty, Sends, Gets};
@@ -12,7 +14,7 @@ use crate::drain::Drain;
 use crate::lay::{Laid, lay_all};
 use crate::make::{Opened, hand_out_passes, open_benches};
 use crate::places::{lay_in_place, take_from_place};
-use crate::stealing::steal_until_told;
+use crate::taking::steal_front;
 use gcd_plan::{Obj, Plan};
 use std::alloc::{AllocError, Global};
 use std::sync::Wait;
@@ -37,8 +39,8 @@ impl Rack {
         workers: u8,
         most: u32,
     ) -> Result<(Rack, Vec<Bench>), AllocError>
-        requires workers { (0 < workers) × (workers ≤ 64) }
-        requires most { (0 < most) × (most ≤ 65536) }
+        requires workers { (0 < workers) × (workers ≤ max_workers) }
+        requires most { (0 < most) × (most ≤ max_pushes) }
         ensures plan { IfOk result (λ r. plan_of r.0 ≡ plan.now) }
         ensures count { IfOk result (λ r. (benches_of r.0 ≡ workers) × (length r.1.items ≡ workers)) }
         ensures benches { IfOk result (λ r. All (λ b. IsBenchOf r.0 b) r.1.items) }
@@ -46,7 +48,7 @@ impl Rack {
         ensures unused { IfOk result (λ r. All (λ b. IsUnused most b) r.1.items) }
     {
         let Laid {
-            names,
+            tokens,
             places,
             rack,
             mut seat,
@@ -57,7 +59,7 @@ impl Rack {
         } = open_benches(alloc, &places, &mut seat, &rack, workers, most)?;
         hand_out_passes(alloc, &mut benches, &rack)?;
         let made = Rack {
-            names,
+            tokens,
             places,
             thieves,
         };
@@ -67,7 +69,7 @@ impl Rack {
     /// How many benches it has, 1 to 64 (this project's own rule).
     pub fn benches(&self) -> u8
         ensures count { result ≡ benches_of self.now }
-        ensures few { (0 < result) × (result ≤ 64) }
+        ensures few { (0 < result) × (result ≤ max_workers) }
     {
         self.thieves.len() as u8
     }
@@ -75,8 +77,8 @@ impl Rack {
     /// Takes the Drain of the node asked for from its sleeping place (this project's own rule). The node is a queue or a
     /// source of the rack's plan.
     ///
-    /// None only where the Drain was not asleep at a moment of the call: at a moment when all had happened that the bench's
-    /// seat had seen, and the call itself had taken nothing. One swap, and where the Drain slept one load.
+    /// None only where the Drain was not asleep at a moment of the call: at its one write to the node's word, which the
+    /// bench's seat counts, and which came after all that it had seen. One swap, and where the Drain slept one load.
     pub fn wake(&self, bench: &mut Bench, node: Obj) -> Option<Drain>
         requires bench { IsBenchOf self.now bench.old }
         requires node { IsTrue (is_node (plan_of self.now) node.0) }
@@ -122,7 +124,8 @@ impl Rack {
 
     /// Takes the Drain at the front of the bench's own deque (this project's own rule).
     ///
-    /// None only where that deque was empty at a moment of the call.
+    /// None only where that deque was found empty: by the clause it can have held nothing while the bench knew what it knows of
+    /// it, and that it held nothing at a moment of the call rests on the form of a private function (the crate's page).
     pub fn pop(&self, bench: &mut Bench) -> Option<Drain>
         requires { IsBenchOf self.now bench.old }
         ensures bench { IsBenchOf self.now bench.new }
@@ -138,8 +141,8 @@ impl Rack {
 
     /// Takes the Drain at the front of the deque of another bench, by its number (this project's own rule).
     ///
-    /// None only where that deque was empty at a moment of the call. Where another thread takes first it tries again, so it
-    /// may wait for others, and what it promises holds if it returns.
+    /// None only where that deque was found empty, as [`Rack::pop`] says it. Where another thread takes first it tries again,
+    /// so it may wait for others, and what it promises holds if it returns.
     pub fn steal<R: Wait>(&self, rt: &R, bench: &mut Bench, victim: u8) -> Option<Drain>
         requires bench { IsBenchOf self.now bench.old }
         requires victim { (victim < benches_of self.now) × (victim ≢ number_of bench.old) }
@@ -152,7 +155,7 @@ impl Rack {
             (λ v w. (w ≡ v) × WasEmpty v)) }
     {
         let victim = victim as usize;
-        steal_until_told::<Drain, Account, FirstOut, Taking, R>(
+        steal_front::<Drain, Account, FirstOut, Taking, R>(
             rt,
             &self.thieves[victim],
             &mut bench.passes[victim],

@@ -31,12 +31,8 @@ pub fn node_at(plan: &Plan, number: u32) -> Option<Obj>
     ensures { IfSome result (λ o. (o.0 ≡ number) × IsTrue (is_node plan.now o.0)) }
 {
     let node = Obj(number);
-    if number >= plan.objects() {
+    if number >= plan.objects() || !plan.kind(node).is_node() {
         return None;
     }
-    match plan.kind(node) {
-        Kind::Serial => Some(node),
-        Kind::Concurrent => Some(node),
-        _ => None,
-    }
+    Some(node)
 }

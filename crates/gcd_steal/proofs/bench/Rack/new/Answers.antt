@@ -7,7 +7,7 @@ hand_out_passes-requires c = let o = c.in_ok-benches.ensures in know_opened _ _ 
 
 pub returns-clause-benches : goal.returns-clause-benches
 returns-clause-benches c = let o = c.in_ok-benches.ensures in let h = c.in_ok-hand_out_passes.ensures in
-    made _ c.in_ok-names.field-0.rack c.args.most c.in_ok-benches.field-0.benches.items c.hand_out_passes.new.benches.items c.in_ok-names.ensures.rack o.opened (omega (arith, o.count)) h.same h.passes (omega (arith, o.count))
+    made _ c.in_ok-tokens.field-0.rack c.args.most c.in_ok-benches.field-0.benches.items c.hand_out_passes.new.benches.items c.in_ok-tokens.ensures.rack o.opened (omega (arith, o.count)) h.same h.passes (omega (arith, o.count))
 
 pub returns-clause-numbers : goal.returns-clause-numbers
 returns-clause-numbers c = let o = c.in_ok-benches.ensures in let h = c.in_ok-hand_out_passes.ensures in

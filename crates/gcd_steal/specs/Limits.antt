@@ -1,0 +1,6 @@
+-- How much a bench may do. (This project's own rule.)
+use Rattle.std.specs.Prelude.{ℕ}
+
+-- pushes of one bench in all, for which its deque has room from the start
+abbrev pub max_pushes : ℕ
+max_pushes = 65536
