@@ -1,4 +1,30 @@
 //! The queue machine: it stands for a plan and for what has happened so far, and tells what may come next.
+//!
+//! A [`Machine`] keeps no list of events. Its contracts speak of each history h that it stands for, `StandsFor m plan h`,
+//! by the words of `gcd_history`; no layer above looks into that relation. It serves every valid plan.
+//!
+//! | call | answer |
+//! |---|---|
+//! | `Machine::new` | a machine that stands for the plan and the empty history, or want of memory |
+//! | `copy` | the same machine once more, which shares the plan, or want of memory |
+//! | `permits` | the first reason why the event may not come next (`why`), or None |
+//! | `apply` | takes a permitted event: what the machine stood for, with the event |
+//! | `choose` | what a worker records next (`choice_of`), permitted and the worker's own |
+//! | `state`, `is_quiescent`, `is_halted` | how far the run has come (`HasState`), whether nothing but a halt can come, whether it is over |
+//! | `len`, `running` | how many events came, how many runs are open and not parked |
+//! | `next_due`, `is_live_feed`, `data_of`, `pending_of` | due times, live feeds, what sources handed over and have pending |
+//! | `first_waiting`, `node_of`, `parks` | what waits on an object, where a block was submitted, whether an act parks its block |
+//! | `objects`, `blocks` | the plan's numbers, for the conditions of the calls |
+//! | [`laws::histories_are_lawful`] | the histories that a machine stands for are lawful, of its own plan, which is valid |
+//!
+//! How it is proved: `Registers` is all that a machine keeps; `specs/Steps` says what each private step of it changes,
+//! `specs/Conditions` what each asks, `specs/Judged` and `specs/Chosen` what it tells. `gcd_refinement` says what the whole
+//! is of a history, and that a permitted event keeps the tie between them; `proofs/` shows that the steps of an event are
+//! that change, that what they ask holds, and that what is told is the definition's answer.
+//!
+//! Every array is made by `new` with its final length. No other call but `copy` takes memory.
+//!
+//! Nothing here says that a worker does anything, or when.
 #![tactic(auto)]
 
 pub mod laws;
