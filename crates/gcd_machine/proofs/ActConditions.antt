@@ -17,7 +17,7 @@ use Rattle.gcd_event.specs.declared.event.Event.{Event}
 use Rattle.gcd_event.specs.declared.event.Event.TheVariants.{Act as Acted}
 use Rattle.gcd_history.specs.Runs.{open_runs, is_open, act_at, act_of}
 use Rattle.gcd_history.specs.Submitted.{on_node, submitted_by, cancelled_by}
-use Rattle.gcd_history.specs.Parked.{parked_by, reason, has_run}
+use Rattle.gcd_history.specs.Parked.{parked_by, awaited, has_run}
 use Rattle.gcd_history.specs.Misuses.{refs, is_released, named}
 use Rattle.gcd_history.specs.Permitted.{IsLawful, is_worker, is_run_of}
 use Rattle.gcd_history.proofs.Fitting.{has_object}
@@ -39,8 +39,8 @@ use Rattle.gcd_machine.proofs.ActivityConditions.{can_activate, can_resume, can_
 use Rattle.gcd_machine.proofs.TargetConditions.{can_target}
 
 -- a block whose run goes on waits for nothing
-awake_now : (plan : PlanView) (past : List Event) (run : Run) → parked_by plan past run ≡ None → reason plan past run ≡ None
-unfolding reason
+awake_now : (plan : PlanView) (past : List Event) (run : Run) → parked_by plan past run ≡ None → awaited plan past run ≡ None
+unfolding awaited
 awake_now plan past run none =
     elim (is_open past run) as (λ t. cond t (parked_by plan past run) None ≡ None) [ true ↦ none | false ↦ refl ]
 

@@ -99,7 +99,7 @@ abbrev pub acted : MachineView → Run → MachineView
 acted m (Block b) = record m { blocks = with_block m.blocks b.0 (λ x. record x { done = x.done + 1 }) }
 acted m (Source s) = record m { handlers = handled m (Source s) }
 
--- block b is parked for the reason, and its worker w is free
+-- block b waits for this, and its worker w is free
 abbrev pub parked : MachineView → ℕ → Blk → Reason → MachineView
 parked m w b why = set_free (record m { waits = with_reason m.waits b.0 (Some why) }) w
 

@@ -18,7 +18,7 @@ use Rattle.gcd_plan.specs.declared.numbers.Blk.{Blk}
 use Rattle.gcd_plan.specs.declared.numbers.Run.{Run}
 use Rattle.gcd_plan.specs.declared.numbers.Run.TheVariants.{Block}
 use Rattle.gcd_history.specs.declared.submission.Submission.{Submission}
-use Rattle.gcd_history.specs.Parked.{reason, has_run, may_wake, has_come}
+use Rattle.gcd_history.specs.Parked.{awaited, has_run, may_wake, has_come}
 use Rattle.gcd_history.specs.Semas.{first_value}
 use Rattle.gcd_history.specs.Sources.{is_live_feed}
 use Rattle.gcd_history.specs.Tree.{Aim}
@@ -152,12 +152,12 @@ groups_begin plan =
 pub semas_begin : (plan : PlanView) → SemasAre plan [] (machine_of plan)
 semas_begin plan = record { signals = λ s. all_default (length plan.objects) s 0; waits = λ s. all_default (length plan.objects) s 0 }
 
-no_reason : (plan : PlanView) (b : ℕ) → reason plan [] (Block (record { 0 = b })) ≡ None
-unfolding reason
-no_reason plan b = refl
+no_awaited : (plan : PlanView) (b : ℕ) → awaited plan [] (Block (record { 0 = b })) ≡ None
+unfolding awaited
+no_awaited plan b = refl
 
 pub waits_begin : (plan : PlanView) → WaitsAre plan [] (machine_of plan)
-waits_begin plan = record { reasons = λ b. all_default (length plan.blocks) b None ∙ sym (no_reason plan b) }
+waits_begin plan = record { reasons = λ b. all_default (length plan.blocks) b None ∙ sym (no_awaited plan b) }
 
 pub sources_begin : (plan : PlanView) → SourcesAre plan [] (machine_of plan)
 sources_begin plan =
@@ -209,7 +209,7 @@ handlers_begin plan =
 
 none_wakes : (plan : PlanView) (b : ℕ) → may_wake plan [] b ≡ false
 unfolding may_wake
-none_wakes plan b = ap (λ o. option_map_or (has_come plan []) o false) (no_reason plan b)
+none_wakes plan b = ap (λ o. option_map_or (has_come plan []) o false) (no_awaited plan b)
 
 pub wakes_begin : (plan : PlanView) → WakesAre plan [] (machine_of plan)
 wakes_begin plan = record {

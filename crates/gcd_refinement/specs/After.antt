@@ -158,19 +158,19 @@ semas_after plan v e = semas_by v.semas (act_of plan e)
 -- ## Parked blocks
 
 -- what the act parks its block for
-abbrev pub reason_in_view : MachineView → Option Act → Option Reason
-reason_in_view v (Some (Sync q c)) = Some (EndOf c)
-reason_in_view v (Some (BarrierSync q c)) = Some (EndOf c)
-reason_in_view v (Some (GroupWait g)) = Some (Empty g v.len)
-reason_in_view v (Some (Wait s)) = Some (Rank s (waits_at v.semas s.0 + 1))
-reason_in_view v _ = None
+abbrev pub awaited_in_view : MachineView → Option Act → Option Reason
+awaited_in_view v (Some (Sync q c)) = Some (EndOf c)
+awaited_in_view v (Some (BarrierSync q c)) = Some (EndOf c)
+awaited_in_view v (Some (GroupWait g)) = Some (Empty g v.len)
+awaited_in_view v (Some (Wait s)) = Some (Rank s (waits_at v.semas s.0 + 1))
+awaited_in_view v _ = None
 
 abbrev pub parked_for : WaitsView → Run → Option Reason → WaitsView
 parked_for waits (Block b) (Some why) = with_reason waits b.0 (Some why)
 parked_for waits run _ = waits
 
 abbrev pub waits_after : PlanView → MachineView → Event → WaitsView
-waits_after plan v (Acted w run i) = parked_for v.waits run (reason_in_view v (act_at plan run i))
+waits_after plan v (Acted w run i) = parked_for v.waits run (awaited_in_view v (act_at plan run i))
 waits_after plan v (Wake w b) = with_reason v.waits b.0 None
 waits_after plan v e = v.waits
 

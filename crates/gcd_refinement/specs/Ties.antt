@@ -16,7 +16,7 @@ use Rattle.gcd_history.specs.Submitted.{submitted, submission_of, is_cancelled, 
 use Rattle.gcd_history.specs.Tree.{Aim, aim, open_on}
 use Rattle.gcd_history.specs.Holds.{hold, is_active}
 use Rattle.gcd_history.specs.Semas.{signal_count, wait_count}
-use Rattle.gcd_history.specs.Parked.{reason, running, has_run, may_wake}
+use Rattle.gcd_history.specs.Parked.{awaited, running, has_run, may_wake}
 use Rattle.gcd_history.specs.Timers as timers
 use Rattle.gcd_history.specs.Sources.{pending, last_data, is_live_feed}
 use Rattle.gcd_history.specs.Misuses.{retains, releases}
@@ -87,7 +87,7 @@ pub record SemasAre (plan : PlanView) (past : List Event) (v : MachineView) : Ty
 
 -- what each block is parked for
 pub record WaitsAre (plan : PlanView) (past : List Event) (v : MachineView) : Type 0 where
-  pub reasons : (b : ℕ) → reason_at v.waits b ≡ reason plan past (Block (record { 0 = b }))
+  pub reasons : (b : ℕ) → reason_at v.waits b ≡ awaited plan past (Block (record { 0 = b }))
 
 -- cancelled sources, and what is pending: of a timer the due times that no delivery took; of the others none are due, so that
 -- none are taken
