@@ -23,6 +23,7 @@ use Rattle.gcd_refinement.specs.Stands.{IsTied}
 use Rattle.gcd_machine.specs.Chosen.{wake_at, main_at, nodes_at, idle_choice_at}
 use Rattle.gcd_machine.proofs.IdleWorker.{IsIdle, has_none, start_is, has_main}
 use Rattle.gcd_machine.proofs.NodeChoice.{nodes_are, all_nodes_are}
+use Rattle.gcd_refinement.proofs.StepDue.{same_truth}
 
 -- ## It has no own run
 
@@ -45,11 +46,6 @@ found_map p f (x ∷ xs) =
       | false ↦ found_map p f xs
     ]
 
--- two tests of which each follows from the other
-alike : (a b : Bool) → (a ≡ true → b ≡ true) → (b ≡ true → a ≡ true) → a ≡ b
-alike true b f g = sym (f refl)
-alike false b f g = sym (false_from_ne_true b (λ h. both_ways false refl (g h)))
-
 wakes : (m : MachineView) (past : List Event) (w b : ℕ) → IsTied m.plan past m → IsIdle m past w → may_wake m.plan past b ≡ true → permitted m.plan past (wake_event w b) ≡ true
 unfolding may_wake is_parked
 wakes m past w b tied idle may =
@@ -62,7 +58,7 @@ wakes m past w b tied idle may =
 
 wake_is_due : (m : MachineView) (past : List Event) (w b : ℕ) → IsTied m.plan past m → IsIdle m past w → permitted m.plan past (wake_event w b) ≡ due_at m b
 wake_is_due m past w b tied idle =
-    alike (permitted m.plan past (wake_event w b)) (may_wake m.plan past b)
+    same_truth (permitted m.plan past (wake_event w b)) (may_wake m.plan past b)
     (λ may. (at_wake m.plan past w (record { 0 = b }) (none_from_is_none (why m.plan past (wake_event w b)) may)).came)
     (wakes m past w b tied idle)
     ∙ sym (tied.wakes.due b)

@@ -89,7 +89,7 @@ choice_by m w from =
 abbrev pub is_quiescent_at : MachineView → Bool
 is_quiescent_at m =
     not (m.misused || m.halted)
-    && (m.running == 0 && (m.feeds == 0 && (is_none (next_due_at m.timers) && is_none (choice_by m 0 0))))
+    && (m.running == 0 && (count_by (λ b. b) m.live == 0 && (is_none (next_due_at m.timers) && is_none (choice_by m 0 0))))
 
 -- how far the run has come; where nothing can come and no block is left it is drained, and else stuck
 abbrev pub state_by : MachineView → State

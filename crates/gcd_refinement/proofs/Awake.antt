@@ -24,6 +24,7 @@ use Rattle.gcd_refinement.proofs.GroupSleepers.{sleeper_parked}
 use Rattle.gcd_refinement.proofs.StepSleepers.{blocks_at}
 use Rattle.gcd_refinement.proofs.StepAsleep.{drop_nil}
 use Rattle.gcd_refinement.proofs.StepDue.{among, alone, either, split}
+use Rattle.gcd_plan.proofs.Places.{get_or-replicate_same}
 
 -- ## Places
 
@@ -83,16 +84,11 @@ awake_from plan past v b valid lawful waits ties none =
 
 -- ## The outset
 
-same_everywhere : {X : Type 0} (n b : ℕ) (x : X) → get_or (replicate n x) b x ≡ x
-same_everywhere zero b x = refl
-same_everywhere (suc n) zero x = refl
-same_everywhere (suc n) (suc b) x = same_everywhere n b x
-
 pub wakes_begin : (plan : PlanView) → WakesAre plan [] (machine_of plan)
 unfolding may_wake awaited
 wakes_begin plan = record {
-  due = λ b. same_everywhere (length plan.blocks) b false;
+  due = λ b. get_or-replicate_same (length plan.blocks) b false;
   of_sema = λ s.
-      ap (map (λ w. w.0)) (same_everywhere (length plan.objects) s [])
+      ap (map (λ w. w.0)) (get_or-replicate_same (length plan.objects) s [])
       ∙ ap (λ l. l ++ []) (sym (drop_nil (first_value plan s + signal_count plan [] s)));
 }

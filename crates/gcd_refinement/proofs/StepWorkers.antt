@@ -25,6 +25,7 @@ use Rattle.gcd_refinement.specs.After.{workers_after, after}
 use Rattle.gcd_refinement.proofs.Writes.{entry_set}
 use Rattle.gcd_history.proofs.OpenOnce.{shut_at_deliver}
 use Rattle.gcd_refinement.proofs.StepWaits.{unopened, unparked}
+use Rattle.gcd_plan.specs.Limits.{max_workers}
 
 -- ## What makes a run the worker's
 
@@ -189,7 +190,7 @@ run_of_cond run false x y = refl
 wrote : (plan : PlanView) (past : List Event) (v : MachineView) (u w : ℕ) (o : Option Run) (run : Run) → OwnFit plan v → is_worker u ≡ true → WorkersAre plan past v → (x : Bool) → x ≡ cond (u == w) (is_run run o) (has_run plan past w run)
     → x ≡ is_run run (get_or (set v.workers u o) w None)
 wrote plan past v u w o run own known ties x is =
-    let low = ltb-true u 64 known in
+    let low = ltb-true u max_workers known in
     let long = own.workers in
     is ∙ (ap (λ t. cond (u == w) (is_run run o) t) (ties.runs w run)
     ∙ (sym (run_of_cond run (u == w) o (at_worker v w)) ∙ ap (is_run run) (sym (entry_set v.workers u w o None (omega (arith, low, long))))))

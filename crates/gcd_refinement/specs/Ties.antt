@@ -4,7 +4,7 @@ use Rattle.std.specs.Prelude.{◌≡◌, ◌≤◌, ◌<◌, ℕ, ◌+◌, Bool,
 use Rattle.std.specs.Option.{option_map_or}
 use Rattle.std.specs.List.{range_with_len}
 use Rattle.gcd_plan.specs.PlanView.{PlanView}
-use Rattle.gcd_plan.specs.Kinds.{has_kind}
+use Rattle.gcd_plan.specs.Kinds.{has_kind, is_timer_kind}
 use Rattle.gcd_plan.specs.declared.numbers.Blk.{Blk}
 use Rattle.gcd_plan.specs.declared.numbers.Run.{Run}
 use Rattle.gcd_plan.specs.declared.numbers.Run.TheVariants.{Block, Source}
@@ -30,7 +30,7 @@ use Rattle.gcd_sema.specs.SemasView.{signals_at, waits_at}
 use Rattle.gcd_sync.specs.WaitsView.{reason_at}
 use Rattle.gcd_source.specs.SourcesView.{pending_at, is_cancelled_at}
 use Rattle.gcd_timer.specs.TimersView.{activated_at, cancelled_at, due_count_at}
-use Rattle.gcd_refinement.specs.MachineView.{MachineView, block_at, ended_at, due_at, handler_at, busy_at, at_worker, refs_at, is_timer_kind}
+use Rattle.gcd_refinement.specs.MachineView.{MachineView, block_at, ended_at, due_at, handler_at, busy_at, at_worker, refs_at, live_at}
 use Rattle.gcd_refinement.specs.Sleepers.{group_of, caller_of, sema_sleepers, group_sleepers}
 
 -- ## The parts
@@ -148,7 +148,7 @@ pub record MarksAre (plan : PlanView) (past : List Event) (v : MachineView) : Ty
 pub record TotalsAre (plan : PlanView) (past : List Event) (v : MachineView) : Type 0 where
   pub running : v.running ≡ running plan past
   pub left : v.left ≡ count_by (λ s. not (is_ended past s.blk.0)) (submitted plan past)
-  pub feeds : v.feeds ≡ count_by (is_live_feed plan past) (range_with_len 0 (length plan.objects))
+  pub live : (s : ℕ) → live_at v s ≡ is_live_feed plan past s
   pub misused : v.misused ≡ ends_in_misuse past
   pub halted : v.halted ≡ ends_in_halt past
   pub len : v.len ≡ length past
