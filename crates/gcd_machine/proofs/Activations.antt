@@ -43,7 +43,7 @@ pub activated_is : (m : MachineView) (o : Obj)
     }
 activated_is m o =
     elim (is_active_at m.holds o.0) as (λ a. is_active_at m.holds o.0 ≡ a → activated m o ≡ record m { holds = with_active m.holds o.0; timers = timer_activated m.timers (if_inactive m o); live = live_begun m.plan m (if_inactive m o) }) [
-      | true ↦ λ e. rw e (simp units)
+      | true ↦ λ e. rw e
       | false ↦ λ e. rw e
     ] refl
 
@@ -59,7 +59,7 @@ pub resumed_is : (m : MachineView) (o : Obj) → resumed m o ≡ with_resumed m 
 resumed_is m o =
     elim (hold_at m.holds o.0 == 0) as (λ t. (hold_at m.holds o.0 == 0) ≡ t → resumed m o ≡ with_resumed m o) [
       | true ↦ λ e. rw e (activated_is m o)
-      | false ↦ λ e. rw e (simp units)
+      | false ↦ λ e. rw e
     ] refl
 
 -- ## Cancellation

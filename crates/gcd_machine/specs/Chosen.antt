@@ -1,6 +1,6 @@
 -- What a worker records next, and how far the run has come, as what a machine keeps tells it: each word as near to the code as its
 -- case split. That it is the definition's answer is proved of every machine that stands for a history.
-use Rattle.std.specs.Prelude.{ℕ, zero, suc, ◌+◌, ◌-◌, ◌==◌, min, Bool, false, not, ◌&&◌, ◌||◌, if◌then◌else◌, List, length, Option, Some, None, is_none, find, slice_get, slice_index_or}
+use Rattle.std.specs.Prelude.{ℕ, zero, suc, ◌+◌, ◌-◌, ◌==◌, min, Bool, false, not, ◌&&◌, ◌||◌, if◌then◌else◌, List, length, Option, Some, None, is_none, find, slice_get, slice_index_or, count_by}
 use Rattle.std.specs.Option.{option_map, option_map_or, option_or}
 use Rattle.std.specs.List.{range_with_len}
 use Rattle.gcd_plan.specs.Kinds.{is_source}

@@ -2,8 +2,8 @@ mod rows;
 
 use crate::Machine;
 use gcd_event::Event;
-use gcd_plan::{Act, Blk, BlkPart, Kind, Obj, ObjPart, Parts, Plan, Run, Why};
-use rows::{B1, B2, CHAIN, MAIN, MIDST, O1, O2, O3, ROWS, Row};
+use gcd_plan::{Act, Blk, BlkPart, Kind, MAX_OBJECTS, Obj, ObjPart, Parts, Plan, Reason, Run, Why};
+use rows::{B1, B2, CHAIN, MAIN, MIDST, O1, O2, O3, OWN_CALL, ROWS, Row};
 use std::alloc::{AllocError, Global};
 use std::process::Abort;
 use std::test::Fail;
@@ -197,7 +197,7 @@ fn chain(alloc: Global, count: u32) -> Result<Vec<ObjPart>, AllocError> {
 
 #[test]
 fn a_chain_of_all_queues_drains(rt: HostRuntime) -> Result<(), Fail> {
-    let plan = plan_of(rt.alloc(), &CHAIN, chain(rt.alloc(), 1023)?)?;
+    let plan = plan_of(rt.alloc(), &CHAIN, chain(rt.alloc(), MAX_OBJECTS - 1)?)?;
     is_as_told(&rt, rt.alloc(), &plan, &CHAIN)
 }
 
@@ -211,6 +211,8 @@ struct Told {
     halted: bool,
     next_due: Option<u32>,
     feeds: (bool, bool),
+    next_feeds: (Option<Obj>, Option<Obj>),
+    started: (bool, bool),
     waiting: (Option<Blk>, Option<Blk>),
     nodes: (Option<Obj>, Option<Obj>),
     pending: (u64, u64),
@@ -240,6 +242,8 @@ fn summary(m: &Machine) -> Option<Told> {
         halted: m.is_halted(),
         next_due: m.next_due(),
         feeds: (m.is_live_feed(O1), m.is_live_feed(O3)),
+        next_feeds: (m.next_live_feed(0), m.next_live_feed(4)),
+        started: (m.is_started(Blk(0)), m.is_started(B1)),
         waiting: (m.first_waiting(O2), m.first_waiting(O3)),
         nodes: (m.node_of(B1), m.node_of(B2)),
         pending: (m.pending_of(O1), m.pending_of(O3)),
@@ -260,11 +264,23 @@ fn tells_what_it_stands_for(rt: HostRuntime) -> Result<(), Fail> {
         halted: false,
         next_due: Some(15),
         feeds: (false, true),
+        next_feeds: (Some(O3), None),
+        started: (true, false),
         waiting: (Some(B1), None),
         nodes: (Some(O2), None),
         pending: (1, 4),
         parks: (false, true),
     };
     assert_eq!(rt; summary(&m), Some(want));
+    Ok(())
+}
+
+#[test]
+fn tells_what_a_parked_block_waits_for(rt: HostRuntime) -> Result<(), Fail> {
+    let plan = plan_of(rt.alloc(), &OWN_CALL, objects(rt.alloc(), &OWN_CALL)?)?;
+    let (_, _, m) = recorded(rt.alloc(), &plan, &OWN_CALL)?;
+    assert!(rt; m.blocks() == 3);
+    assert_eq!(rt; m.awaited(B2), Some(Reason::Block(B1)));
+    assert!(rt; m.awaited(B1).is_none() && m.is_ended(Blk(0)));
     Ok(())
 }

@@ -23,12 +23,14 @@ impl Registers {
     pub fn copied(&self, alloc: Global) -> Result<Registers, AllocError>
         ensures { IfOk result (λ r. r ≡ self.now) }
     {
+        let plan = Arc::try_clone(&self.plan)?;
+        let sleepers = self.sleepers.copied(alloc)?;
         let (refs, lists, tree, holds, drains) = self.copied_node_parts(alloc)?;
         let (groups, semas, waits, sources, timers) = self.copied_event_parts(alloc)?;
         let (blocks, ended, due) = self.copied_block_arrays(alloc)?;
         let (handlers, busy, live, workers) = self.copied_run_arrays(alloc)?;
         Ok(Registers {
-            plan: Arc::try_clone(&self.plan)?,
+            plan,
             refs,
             lists,
             tree,
@@ -39,7 +41,7 @@ impl Registers {
             waits,
             sources,
             timers,
-            sleepers: self.sleepers.copied(alloc)?,
+            sleepers,
             blocks,
             ended,
             due,

@@ -37,12 +37,14 @@ impl Registers {
         ensures valid { IsPlan plan.now }
     {
         let blocks = plan.blocks();
+        let shared = Arc::new(alloc, plan.copied(alloc)?)?;
+        let sleepers = Lists::new(alloc, plan)?;
         let (refs, lists, tree, holds, drains) = node_parts(alloc, plan)?;
         let (groups, semas, waits, sources, timers) = event_parts(alloc, plan)?;
         let (blocks, ended, due) = block_arrays(alloc, blocks)?;
         let (handlers, busy, live, workers) = run_arrays(alloc, plan)?;
         Ok(Registers {
-            plan: Arc::new(alloc, plan.copied(alloc)?)?,
+            plan: shared,
             refs,
             lists,
             tree,
@@ -53,7 +55,7 @@ impl Registers {
             waits,
             sources,
             timers,
-            sleepers: Lists::new(alloc, plan)?,
+            sleepers,
             blocks,
             ended,
             due,

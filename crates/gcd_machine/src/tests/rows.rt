@@ -2,7 +2,7 @@
 
 use gcd_event::Event;
 use gcd_history::State;
-use gcd_plan::{Act, Blk, Kind, Obj, Run, Why};
+use gcd_plan::{Act, Blk, DEFAULT_UNTIL, Kind, MAX_OBJECTS, Obj, Run, Why};
 
 pub const ROOT: Obj = Obj(0);
 
@@ -65,7 +65,7 @@ pub const PLAIN: Row = Row {
     blocks: 0,
     acts: &[],
     cancel: None,
-    until: 1000,
+    until: DEFAULT_UNTIL,
     from: 0,
     most: 100,
     by_hand: &[],
@@ -73,6 +73,16 @@ pub const PLAIN: Row = Row {
     refused: None,
     state: State::Drained,
     data: 0,
+};
+
+// A block that waits for another on its own queue.
+pub const OWN_CALL: Row = Row {
+    what: "a synchronous call on the own queue",
+    blocks: 2,
+    acts: &[(R2, Act::Sync(O1, B1)), (MAIN, Act::Async(O1, B2))],
+    journal: "start 0 b0; act 0 b0 0; end 0 b0; start 0 b2; act 0 b2 0; ",
+    state: State::Stuck,
+    ..PLAIN
 };
 
 pub const ROWS: [Row; 34] = [
@@ -109,14 +119,7 @@ pub const ROWS: [Row; 34] = [
         state: State::Stuck,
         ..PLAIN
     },
-    Row {
-        what: "a synchronous call on the own queue",
-        blocks: 2,
-        acts: &[(R2, Act::Sync(O1, B1)), (MAIN, Act::Async(O1, B2))],
-        journal: "start 0 b0; act 0 b0 0; end 0 b0; start 0 b2; act 0 b2 0; ",
-        state: State::Stuck,
-        ..PLAIN
-    },
+    OWN_CALL,
     Row {
         what: "a barrier on root is a plain block",
         blocks: 2,
@@ -493,7 +496,7 @@ pub const ROWS: [Row; 34] = [
 pub const CHAIN: Row = Row {
     what: "a block on the last queue of a long chain",
     blocks: 1,
-    acts: &[(MAIN, Act::Async(Obj(1023), B1))],
+    acts: &[(MAIN, Act::Async(Obj(MAX_OBJECTS - 1), B1))],
     journal: "start 0 b0; act 0 b0 0; end 0 b0; start 0 b1; end 0 b1; ",
     ..PLAIN
 };
