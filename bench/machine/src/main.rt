@@ -47,7 +47,7 @@ fn print_times<R: Clock + Print + AllocGlobal>(rt: &R) -> anyhow::Result<()> {
 fn main(rt: HostRuntime) -> anyhow::Result<()> {
     match env::args(&rt)?.nth(1) {
         Some(word) => {
-            let count = word?.parse::<u32>().context("a number of copies")?;
+            let count = word.parse::<u32>().context("a number of copies")?;
             keep_copies(&rt, count)
         }
         None => print_times(&rt),
