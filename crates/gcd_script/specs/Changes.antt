@@ -1,6 +1,6 @@
 -- What a right line adds to a draft (this project's own rules). Every declaration closes the body that was open; a block,
 -- a handler and `main` open one.
-use Rattle.std.specs.Prelude.{ℕ, Bool, true, false, List, [], ◌∷◌, ◌++◌, length, Option, Some, None, slice_get, slice_set}
+use Rattle.std.specs.Prelude.{ℕ, ◌+◌, Bool, true, false, List, [], ◌∷◌, ◌++◌, length, Option, Some, None, slice_get, slice_set}
 use Rattle.std.specs.Option.{option_map_or}
 use Rattle.gcd_plan.specs.PlanView.{PlanView, ObjView, BlkView, FileView}
 use Rattle.gcd_plan.specs.declared.act.Act.{Act}
@@ -63,9 +63,9 @@ with_cancel s b plan = with_object_at s.0 (λ object. record object { cancel = S
 abbrev pub closed : PlanView → DraftView → DraftView
 closed plan draft = record draft { plan = plan; body = None }
 
--- what the line adds, where it is counted already
+-- what the line adds
 abbrev pub change : Line (List ℕ) → DraftView → DraftView
-change (DeclareFile name path) d = closed (with_file (new_file d.lines name path) d.plan) d
+change (DeclareFile name path) d = closed (with_file (new_file (d.lines + 1) name path) d.plan) d
 change (DeclareObject name kind target active path) d =
     record d {
       plan = with_object (new_object name kind target active path) d.plan;
@@ -80,6 +80,6 @@ change (OpenHandler s) d = record d { body = Some (Source s); handlers = slice_s
 change OpenMain d = record d { body = Some (Block (record { 0 = 0 })); has_main = true }
 change (AddAct run act) d = record d { plan = with_act act run d.plan }
 
--- the draft after a right line
+-- the draft after a right line, which is counted
 abbrev pub after : Line (List ℕ) → DraftView → DraftView
-after line d = change line (counted d)
+after line d = counted (change line d)

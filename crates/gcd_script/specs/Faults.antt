@@ -1,5 +1,5 @@
 -- Which texts are scripts, and where and why another is refused (this project's own rules).
-use Rattle.std.specs.Prelude.{◌≡◌, ℕ, ◌+◌, ◌==◌, Bool, true, if◌then◌else◌, List, [], ◌∷◌, Option, Some, None, Result, Ok, Err, option_map, codes}
+use Rattle.std.specs.Prelude.{◌≡◌, ℕ, ◌+◌, ◌==◌, Bool, true, false, if◌then◌else◌, List, [], ◌∷◌, Option, Some, None, Result, Ok, Err, option_map, slice_get}
 use Rattle.std.specs.Option.{option_map_or}
 use Rattle.std.specs.Result.{result_err}
 use Rattle.gcd_plan.specs.PlanView.{PlanView}
@@ -15,8 +15,7 @@ use Rattle.gcd_script.specs.Meant.{Meant, meant, given}
 
 -- the word begins with `#`
 abbrev pub is_mark : List ℕ → Bool
-is_mark [] = false
-is_mark (c ∷ rest) = c == 35
+is_mark word = option_map_or (λ c. c == 35) (slice_get word 0) false
 
 -- the words are those of a line that is skipped: none, or the first begins with `#`
 abbrev pub is_skipped : List (List ℕ) → Bool

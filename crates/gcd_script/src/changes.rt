@@ -18,11 +18,26 @@ impl<'a> Draft<'a> {
     ghost use Rattle.gcd_script.specs.Views.{draft_view, line_view};
     ghost use Rattle.gcd_script.specs.declared.line.Line.TheVariants.{DeclareFile, DeclareObject, DeclareBlock, SetCancel, OpenHandler, AddAct};
 
-    /// Adds what a right line declares. After an error the draft is of no use.
+    /// Adds what a right line declares, and counts the line. After an error the draft is of no use.
     pub fn add(&mut self, alloc: Global, line: &Line<&'a str>) -> Result<(), AllocError>
         requires agrees { DraftAgrees self.old }
         requires sound { IsDraft (draft_view self.old) }
         requires right { IsRight (draft_view self.old) (line_view line.now) }
+        requires room { self.old.lines < u32.MAX }
+        ensures view { OnOk result (draft_view self.new ≡ after (line_view line.now) (draft_view self.old)) }
+        ensures agrees { OnOk result (DraftAgrees self.new) }
+    {
+        self.change(alloc, line)?;
+        self.lines += 1;
+        Ok(())
+    }
+
+    // The same without the count.
+    fn change(&mut self, alloc: Global, line: &Line<&'a str>) -> Result<(), AllocError>
+        requires agrees { DraftAgrees self.old }
+        requires sound { IsDraft (draft_view self.old) }
+        requires right { IsRight (draft_view self.old) (line_view line.now) }
+        requires room { self.old.lines < u32.MAX }
         ensures view { OnOk result (draft_view self.new ≡ change (line_view line.now) (draft_view self.old)) }
         ensures agrees { OnOk result (DraftAgrees self.new) }
     {
@@ -57,11 +72,12 @@ impl<'a> Draft<'a> {
         requires agrees { DraftAgrees self.old }
         requires unused { is_unused (view_of self.old.parts) name.now ≡ true }
         requires room { length (view_of self.old.parts).files < max_files }
+        requires lines { self.old.lines < u32.MAX }
         ensures view { OnOk result (draft_view self.new ≡ change (DeclareFile name.now path.now) (draft_view self.old)) }
         ensures agrees { OnOk result (DraftAgrees self.new) }
     {
         let file = self.parts.files.len() as u32;
-        push_file(alloc, &mut self.parts, self.lines, name, path)?;
+        push_file(alloc, &mut self.parts, self.lines + 1, name, path)?;
         declare(&mut self.meanings, name, Meaning::File(file))?;
         self.body = None;
         Ok(())

@@ -54,7 +54,7 @@ fn is_allowed(line: &Line<&str>) -> bool
 }
 
 impl<'a> Draft<'a> {
-    ghost use Rattle.std.specs.Prelude.{is_none};
+    ghost use Rattle.std.specs.Prelude.{is_none, true};
     ghost use Rattle.std.specs.Option.{option_map_or};
     ghost use Rattle.gcd_plan.specs.PlanView.{cancel_block};
     ghost use Rattle.gcd_plan.specs.Validity.{block_of};

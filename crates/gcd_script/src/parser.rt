@@ -61,7 +61,6 @@ fn take_line<'a>(draft: &mut Draft<'a>, alloc: Global, line: &'a [u8]) -> Result
 {
     match line_meant(draft, line) {
         Ok(Some(line)) => {
-            draft.lines += 1;
             draft.add(alloc, &line)?;
             Ok(())
         }
