@@ -47,7 +47,7 @@ module _ (plan : PlanView) (valid : IsPlan plan) (b : Blk) (block : BlkView) (st
   pub same_length : length new.blocks ≡ length plan.blocks
   same_length = length-set plan.blocks b.0 fuller
 
-  grows : Grows plan new
+  pub grows : Grows plan new
   grows = record { kinds = λ o kind h. h; objects = omega arith; blocks = let same = same_length in omega arith; files = omega arith }
 
   -- what the act does not change of the blocks

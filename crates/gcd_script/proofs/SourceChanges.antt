@@ -16,6 +16,7 @@ use Rattle.gcd_plan.proofs.Sums.{count_by-append}
 use Rattle.gcd_plan.proofs.Quantifiers.{list_all_get, list_all_push}
 use Rattle.gcd_script.specs.Changes.{with_object_at, object_with_act, with_cancel}
 use Rattle.gcd_script.specs.Judged.{is_free}
+use Rattle.gcd_script.proofs.Growth.{Grows}
 use Rattle.gcd_script.proofs.ObjectChanges as change
 use Rattle.gcd_script.proofs.ObjectChanges.{StandsAsSource, Keeps, own_of, own_fields, still_object}
 use Rattle.gcd_script.proofs.Submitted.{once_more}
@@ -57,6 +58,12 @@ module _ (plan : PlanView) (valid : IsPlan plan) (s : Obj) (at : StandsAsSource 
     pub act_is_new : with_object_at s.0 (object_with_act act) plan ≡ act_new
     act_is_new = change.is_new plan valid s.0 at.above at.object at.stands fuller keeps_act (object_with_act act) refl
 
+    pub act_grows : Grows plan act_new
+    act_grows = change.grows plan valid s.0 at.above at.object at.stands fuller keeps_act
+
+    pub act_length : length act_new.objects ≡ length plan.objects
+    act_length = change.same_length plan valid s.0 at.above at.object at.stands fuller keeps_act
+
     pub act_submitted : (q : ℕ) → count_by (λ (c : Blk). c.0 == q) (submitted_blocks act_new) ≡ count_by (λ (c : Blk). c.0 == q) (submitted_blocks plan) + count_by (λ (c : Blk). c.0 == q) (option_to_list (block_of act))
     act_submitted q =
         let more = change.more_submitted plan valid s.0 at.above at.object at.stands fuller keeps_act q in
@@ -90,6 +97,9 @@ module _ (plan : PlanView) (valid : IsPlan plan) (s : Obj) (at : StandsAsSource 
 
     pub cancel_is_new : with_cancel s b plan ≡ cancel_new
     cancel_is_new = change.is_new plan valid s.0 at.above at.object at.stands cancelled keeps_cancel (λ (obj : ObjView). record obj { cancel = Some b }) refl
+
+    pub cancel_length : length cancel_new.objects ≡ length plan.objects
+    cancel_length = change.same_length plan valid s.0 at.above at.object at.stands cancelled keeps_cancel
 
     no_cancel : at.object.cancel ≡ None
     no_cancel = none_is at.object.cancel (ap (λ o. is_none (option_and_then (λ (obj : ObjView). obj.cancel) o)) (sym at.stands) ∙ lacks)
