@@ -89,6 +89,11 @@ module _ (plan : PlanView) (valid : IsPlan plan) (b : Blk) (block : BlkView) (st
       in
       omega arith
 
+  -- the same, in words of other modules
+  pub submitted : (q : ℕ) → count_by (λ (c : Blk). c.0 == q) (submitted_blocks new) ≡ count_by (λ (c : Blk). c.0 == q) (submitted_blocks plan) + count_by (λ (c : Blk). c.0 == q) (option_to_list (block_of act))
+  unfolding submits_of
+  submitted q = more_submitted q
+
   pub more_acts : sum_by (λ (blk : BlkView). length blk.acts) new.blocks ≡ sum_by (λ (blk : BlkView). length blk.acts) plan.blocks + 1
   more_acts =
       let size = λ (blk : BlkView). length blk.acts in

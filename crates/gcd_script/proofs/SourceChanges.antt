@@ -1,5 +1,5 @@
 -- One act more in a source's handler, and a source's cancellation block.
-use Rattle.std.proofs.Common.{ℕ, ◌≡◌, ◌<◌, ◌≤◌, ◌+◌, ◌==◌, Bool, true, false, ◌&&◌, List, [], ◌∷◌, ◌++◌, length, Option, Some, None, is_none, option_to_list, slice_get, count_by, refl, sym, ap, ◌∙◌, subst, arith}
+use Rattle.std.proofs.Common.{ℕ, ◌≡◌, ◌<◌, ◌≤◌, ◌+◌, ◌==◌, Bool, true, false, ◌&&◌, List, [], ◌∷◌, ◌++◌, length, map, Option, Some, None, is_none, option_to_list, slice_get, count_by, refl, sym, ap, ◌∙◌, subst, arith}
 use Rattle.std.specs.List.{list_all, flat_map}
 use Rattle.std.specs.Option.{option_map_or, option_and_then}
 use Rattle.std.proofs.lemmas.Bool.{and_parts, and_from}
@@ -64,6 +64,9 @@ module _ (plan : PlanView) (valid : IsPlan plan) (s : Obj) (at : StandsAsSource 
     pub act_length : length act_new.objects ≡ length plan.objects
     act_length = change.same_length plan valid s.0 at.above at.object at.stands fuller keeps_act
 
+    pub act_names : map (λ (o : ObjView). o.name) act_new.objects ≡ map (λ (o : ObjView). o.name) plan.objects
+    act_names = change.same_map plan valid s.0 at.above at.object at.stands fuller keeps_act (λ obj. obj.name) refl
+
     pub act_submitted : (q : ℕ) → count_by (λ (c : Blk). c.0 == q) (submitted_blocks act_new) ≡ count_by (λ (c : Blk). c.0 == q) (submitted_blocks plan) + count_by (λ (c : Blk). c.0 == q) (option_to_list (block_of act))
     act_submitted q =
         let more = change.more_submitted plan valid s.0 at.above at.object at.stands fuller keeps_act q in
@@ -100,6 +103,9 @@ module _ (plan : PlanView) (valid : IsPlan plan) (s : Obj) (at : StandsAsSource 
 
     pub cancel_length : length cancel_new.objects ≡ length plan.objects
     cancel_length = change.same_length plan valid s.0 at.above at.object at.stands cancelled keeps_cancel
+
+    pub cancel_names : map (λ (o : ObjView). o.name) cancel_new.objects ≡ map (λ (o : ObjView). o.name) plan.objects
+    cancel_names = change.same_map plan valid s.0 at.above at.object at.stands cancelled keeps_cancel (λ obj. obj.name) refl
 
     no_cancel : at.object.cancel ≡ None
     no_cancel = none_is at.object.cancel (ap (λ o. is_none (option_and_then (λ (obj : ObjView). obj.cancel) o)) (sym at.stands) ∙ lacks)
