@@ -22,11 +22,13 @@ pub fn number(low: u32, high: u32, word: &str) -> Meant<u32>
 {
     match gcd_text::number(word.as_bytes()) {
         Some(n) => {
-            if u64::from(low) <= n && n <= u64::from(high) {
-                Ok(n as u32)
-            } else {
-                Err(Refusal::BadNumber)
+            if n < u64::from(low) {
+                return Err(Refusal::BadNumber);
             }
+            if u64::from(high) < n {
+                return Err(Refusal::BadNumber);
+            }
+            Ok(n as u32)
         }
         None => Err(Refusal::BadNumber),
     }
