@@ -1,12 +1,12 @@
 -- What a draft holds beside its plan agrees with it after each change.
-use Rattle.std.proofs.Common.{ℕ, zero, suc, ◌≡◌, ◌<◌, ◌+◌, ◌==◌, Bool, true, false, ◌&&◌, cond, ltb, List, [], ◌∷◌, ◌++◌, length, map, set, Option, Some, None, is_none, option_to_list, slice_get, get_or, count_by, refl, sym, ap, ◌∙◌, subst, arith}
+use Rattle.std.proofs.Common.{ℕ, zero, suc, ◌≡◌, ◌<◌, ◌+◌, ◌==◌, Bool, true, false, ◌&&◌, cond, ltb, List, [], ◌∷◌, ◌++◌, length, map, set, Option, Some, None, IfSome, is_none, option_to_list, slice_get, get_or, count_by, refl, sym, ap, ◌∙◌, subst, arith}
 use Rattle.std.specs.List.{list_any}
 use Rattle.std.specs.Option.{option_map_or}
 use Rattle.std.specs.Str.{bytes_eq}
 use Rattle.std.proofs.lemmas.Bool.{and_parts, ltb-true}
 use Rattle.std.proofs.lemmas.List.{length_push, length-set}
 use Rattle.std.proofs.lemmas.List.Sums.{sum_by_push}
-use Rattle.gcd_plan.specs.Kinds.{has_kind, is_group_kind, is_queue}
+use Rattle.gcd_plan.specs.Kinds.{has_kind, is_group_kind, is_queue, is_source}
 use Rattle.gcd_plan.specs.PlanView.{PlanView, ObjView, BlkView, FileView, cancel_block}
 use Rattle.gcd_plan.specs.Validity.{IsPlan, submitted_blocks, act_count, block_of, is_act, is_submittable}
 use Rattle.gcd_plan.specs.declared.act.Act.{Act}
@@ -14,17 +14,21 @@ use Rattle.gcd_plan.specs.declared.act.Act.TheVariants as act
 use Rattle.gcd_plan.specs.declared.kind.Kind.{Kind}
 use Rattle.gcd_plan.specs.declared.numbers.Blk.{Blk}
 use Rattle.gcd_plan.specs.declared.numbers.Obj.{Obj}
+use Rattle.gcd_plan.specs.declared.numbers.Run.{Run}
+use Rattle.gcd_plan.specs.declared.numbers.Run.TheVariants as run
+use Rattle.gcd_plan.proofs.Places.{slice_get_some}
 use Rattle.gcd_plan.specs.declared.work.Work.{Work}
 use Rattle.gcd_script.specs.declared.meaning.Meaning.{Meaning}
 use Rattle.gcd_script.specs.declared.meaning.Meaning.TheVariants.{File, Object, Block}
-use Rattle.gcd_script.specs.Agreement.{AgreeWithPlan, Declares}
-use Rattle.gcd_script.specs.Changes.{new_file, new_object, with_file, with_object, with_block}
+use Rattle.gcd_script.specs.Agreement.{AgreeWithPlan, Declares, flags_with}
+use Rattle.gcd_script.specs.Changes.{new_file, new_object, with_file, with_object, with_block, with_act, with_cancel}
 use Rattle.gcd_script.specs.Drafts.{new_block}
+use Rattle.gcd_script.specs.Sound.{IsBody}
 use Rattle.gcd_script.specs.Names.{meaning_of, is_unused}
 use Rattle.gcd_script.proofs.BlockActs as block_acts
 use Rattle.gcd_script.proofs.Declares.{file_declares, object_declares, block_declares, same_meanings}
 use Rattle.gcd_script.proofs.Inserts.{fit_from, block_names, object_names}
-use Rattle.gcd_script.proofs.ObjectChanges.{StandsAsSource}
+use Rattle.gcd_script.proofs.ObjectChanges.{StandsAsSource, source_stands}
 use Rattle.gcd_script.proofs.SourceChanges as source_changes
 use Rattle.gcd_script.proofs.Submitted.{flag_after, flag_same}
 use Rattle.gcd_script.proofs.Valid.{object_submits, block_submits}
@@ -74,11 +78,7 @@ module _ (old new : List ℕ → Option Meaning) (flags : List Bool) (count : �
         count = omega (arith, agrees.count);
       }
 
--- flags after what an act submits
-abbrev pub flags_with : List Bool → Option Blk → List Bool
-flags_with flags None = flags
-flags_with flags (Some c) = set flags c.0 true
-
+-- they are as many
 length_flags : (flags : List Bool) (o : Option Blk) → length (flags_with flags o) ≡ length flags
 length_flags flags None = refl
 length_flags flags (Some c) = length-set flags c.0 true
@@ -153,3 +153,29 @@ module _ (meanings : List ℕ → Option Meaning) (flags : List Bool) (count : �
         blocks = flag_after flags (submitted_blocks plan) (submitted_blocks new) b agrees.blocks (subst (λ n. b.0 < n) (sym agrees.flags) within) (source_changes.cancel_submitted plan valid s at b lacks);
         count = agrees.count ∙ sym (source_changes.cancel_acts plan valid s at b lacks);
       }
+
+  -- an act of a body
+  pub act_agrees : (r : Run) (a : Act) → IsBody plan r → is_act plan a ≡ true → AgreeWithPlan meanings (flags_with flags (block_of a)) (count + 1) (with_act a r plan)
+  act_agrees (run.Block b) a body fits =
+      let at = slice_get_some plan.blocks b.0 body in
+      subst (AgreeWithPlan meanings (flags_with flags (block_of a)) (count + 1)) (sym (block_acts.is_new plan valid b at.0 at.1 a))
+      (block_act_agrees b at.0 at.1 a fits)
+  act_agrees (run.Source s) a body fits =
+      let at = source_stands plan valid s.0 body in
+      subst (AgreeWithPlan meanings (flags_with flags (block_of a)) (count + 1)) (sym (source_changes.act_is_new plan valid s at a))
+      (handler_act_agrees s at a fits)
+
+  -- a source's cancellation block
+  pub cancelled_agrees : (s : Obj) (b : Blk) → is_source plan s.0 ≡ true → is_none (cancel_block plan s.0) ≡ true → is_submittable plan b ≡ true → AgreeWithPlan meanings (set flags b.0 true) count (with_cancel s b plan)
+  cancelled_agrees s b source lacks fits =
+      let at = source_stands plan valid s.0 source in
+      subst (AgreeWithPlan meanings (set flags b.0 true) count) (sym (source_changes.cancel_is_new plan valid s at b lacks))
+      (cancel_agrees s at b lacks fits)
+
+  -- where the flag of an act's block stands
+  pub flag_stands : (a : Act) → is_act plan a ≡ true → IfSome (block_of a) (λ c. c.0 < length flags)
+  flag_stands a fits = flag_cases (block_of a) (flag_within a fits)
+    where
+      flag_cases : (o : Option Blk) → ((c : Blk) → o ≡ Some c → c.0 < length flags) → IfSome o (λ c. c.0 < length flags)
+      flag_cases None h = tt
+      flag_cases (Some c) h = h c refl

@@ -1,5 +1,6 @@
 // What a right line adds to a draft.
-ghost use Rattle.std.specs.Prelude.{◌≡◌, ◌<◌, ◌+◌, OnOk, true, false, [], ◌∷◌, ◌++◌, Some, None, length, slice_set};
+ghost use Rattle.std.specs.Prelude.{◌≡◌, ◌<◌, ◌+◌, OnOk, true, false, [], ◌∷◌, ◌++◌, Some, None, length, slice_set, IfSome, vec_len};
+ghost use Rattle.gcd_script.specs.Agreement.{flags_with};
 ghost use Rattle.gcd_plan.specs.Limits.{max_blocks, max_files, max_objects};
 ghost use Rattle.gcd_plan.specs.PlanView.{view_of};
 
@@ -9,6 +10,16 @@ use crate::line::Line;
 use crate::meaning::Meaning;
 use gcd_plan::{Act, Blk, Kind, Obj, Parts, Run, Work, block_of};
 use std::alloc::{AllocError, Global};
+
+// Marks a block as submitted.
+fn mark(submitted: &mut Vec<bool>, block: Option<Blk>)
+    requires { IfSome block (λ b. b.0 < vec_len submitted.old) }
+    ensures { submitted.new.items ≡ flags_with submitted.old.items block }
+{
+    if let Some(b) = block {
+        submitted[b.0 as usize] = true;
+    }
+}
 
 impl<'a> Draft<'a> {
     ghost use Rattle.gcd_script.specs.Agreement.{DraftAgrees};
@@ -158,9 +169,7 @@ impl<'a> Draft<'a> {
         ensures agrees { OnOk result (DraftAgrees self.new) }
     {
         push_act(&mut self.parts, run, act)?;
-        if let Some(block) = block_of(act) {
-            self.submitted[block.0 as usize] = true;
-        }
+        mark(&mut self.submitted, block_of(act));
         self.acts += 1;
         Ok(())
     }

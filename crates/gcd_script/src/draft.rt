@@ -3,6 +3,7 @@ ghost use Rattle.std.specs.Prelude.{◌≡◌, ◌<◌, IfOk};
 ghost use Rattle.gcd_plan.specs.PlanView.{view_of};
 ghost use Rattle.gcd_script.specs.Drafts.{empty_draft};
 
+use crate::additions::declare;
 use crate::meaning::Meaning;
 use gcd_plan::{BlkPart, Kind, Obj, ObjPart, Parts, Run};
 use std::alloc::{AllocError, Global};
@@ -37,7 +38,7 @@ impl<'a> Draft<'a> {
         ensures agrees { IfOk result DraftAgrees }
     {
         let mut meanings = HashMap::new(alloc);
-        meanings.insert("root", Meaning::Object(Obj(0)))?;
+        declare(&mut meanings, "root", Meaning::Object(Obj(0)))?;
         Ok(Draft {
             lines: 0,
             parts: first_parts(alloc)?,
