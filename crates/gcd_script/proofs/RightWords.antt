@@ -20,7 +20,7 @@ use Rattle.gcd_script.specs.declared.line.Line.{Line}
 use Rattle.gcd_script.specs.declared.line.Line.TheVariants.{DeclareFile, DeclareObject, DeclareBlock, SetUntil, SetCancel, OpenHandler, OpenMain, AddAct}
 use Rattle.gcd_script.specs.declared.refusal.Refusal.TheVariants.{NoForm, BadName}
 use Rattle.gcd_script.specs.Changes.{new_object}
-use Rattle.gcd_script.specs.Declarations.{root, one_of, file_line, object_line, queue_line, group_line, semaphore_line, source_line, cancelled_line, until_line, work_line, range, whole, counting, block_line, handler_line, main_line}
+use Rattle.gcd_script.specs.Declarations.{root, one_of, file_line, object_line, queue_line, group_line, semaphore_line, source_line, cancelled_line, until_line, work, work_line, range, whole, counting, block_line, handler_line, main_line}
 use Rattle.gcd_script.specs.Drafts.{DraftView}
 use Rattle.gcd_script.specs.Keywords.{queue_kinds, merge_kinds, counts}
 use Rattle.gcd_script.specs.Meant.{Meant, meant, both, must, given}
@@ -184,18 +184,19 @@ module _ (d : DraftView) (sound : IsDraft d) where
   until_fits _ line h = cc
 
   -- a work over a part of a file
-  work_fits : (name : List ℕ) (how : Meant How) (f : List ℕ) (part : Meant (ℕ × ℕ)) (line : Line (List ℕ)) → ((from len : ℕ) → part ≡ Ok (from, len) → (leb from max_file_bytes && leb len max_file_bytes) ≡ true) → work_line d.plan name how (file d.plan f) part ≡ Ok line → Fits d line
+  work_fits : (name : List ℕ) (how : Meant How) (f : List ℕ) (part : Meant (ℕ × ℕ)) (line : Line (List ℕ)) → ((from len : ℕ) → part ≡ Ok (from, len) → (leb from max_file_bytes && leb len max_file_bytes) ≡ true) → work_line d.plan name (work how (file d.plan f) part) ≡ Ok line → Fits d line
   work_fits name how f part line fits h =
-      let m = made_of (λ (u, (h, (f, (from, len)))). DeclareBlock name (Some (record { how = h; file = f; start = from; len = len }))) (both (new_name d.plan name) (both how (both (file d.plan f) part))) line h in
-      let outer = both_are (new_name d.plan name) (both how (both (file d.plan f) part)) m.0.0 m.0.1 m.1 in
-      let inner = both_are how (both (file d.plan f) part) m.0.1.0 m.0.1.1 outer.1 in
-      let last = both_are (file d.plan f) part m.0.1.1.0 m.0.1.1.1 inner.1 in
-      let w : Work = record { how = m.0.1.0; file = m.0.1.1.0; start = m.0.1.1.1.0; len = m.0.1.1.1.1 } in
-      let readable : is_work d.plan w ≡ true =
-      and_from (ltb w.file (length d.plan.files)) (leb w.start max_file_bytes && leb w.len max_file_bytes)
-      (lt-ltb w.file (length d.plan.files) (file_within d.plan f w.file last.0)) (fits w.start w.len last.1)
+      let m = made_of (λ (u, w). DeclareBlock name (Some w)) (both (new_name d.plan name) (work how (file d.plan f) part)) line h in
+      let outer = both_are (new_name d.plan name) (work how (file d.plan f) part) m.0.0 m.0.1 m.1 in
+      let w = made_of {B = Work} (λ (h, (f, (from, len))). record { how = h; file = f; start = from; len = len }) (both how (both (file d.plan f) part)) m.0.1 outer.1 in
+      let inner = both_are how (both (file d.plan f) part) w.0.0 w.0.1 w.1 in
+      let last = both_are (file d.plan f) part w.0.1.0 w.0.1.1 inner.1 in
+      let made : Work = record { how = w.0.0; file = w.0.1.0; start = w.0.1.1.0; len = w.0.1.1.1 } in
+      let readable : is_work d.plan made ≡ true =
+      and_from (ltb made.file (length d.plan.files)) (leb made.start max_file_bytes && leb made.len max_file_bytes)
+      (lt-ltb made.file (length d.plan.files) (file_within d.plan f made.file last.0)) (fits made.start made.len last.1)
       in
-      subst (Fits d) m.2 (held (is_unused d.plan name) BadName m.0.0 outer.0, readable)
+      subst (Fits d) m.2 (held (is_unused d.plan name) BadName m.0.0 outer.0, subst (λ v. is_work d.plan v ≡ true) w.2 readable)
 
   whole_fits : (from len : ℕ) → ◌≡◌ {A = Meant (ℕ × ℕ)} (Ok whole) (Ok (from, len)) → (leb from max_file_bytes && leb len max_file_bytes) ≡ true
   whole_fits from len h =
@@ -216,11 +217,11 @@ module _ (d : DraftView) (sound : IsDraft d) where
   block_fits (b ∷ w ∷ f ∷ []) line h = work_fits b (one_of counts w) f (Ok whole) line whole_fits h
   block_fits (b ∷ count ∷ v ∷ f ∷ []) line h =
       work_fits b (counting v) f (Ok whole) line whole_fits
-      (passed (bytes_eq count (codes "count")) (work_line d.plan b (counting v) (file d.plan f) (Ok whole)) line h)
+      (passed (bytes_eq count (codes "count")) (work_line d.plan b (work (counting v) (file d.plan f) (Ok whole))) line h)
   block_fits (b ∷ w ∷ f ∷ from ∷ len ∷ []) line h = work_fits b (one_of counts w) f (range from len) line (range_fits from len) h
   block_fits (b ∷ count ∷ v ∷ f ∷ from ∷ len ∷ []) line h =
       work_fits b (counting v) f (range from len) line (range_fits from len)
-      (passed (bytes_eq count (codes "count")) (work_line d.plan b (counting v) (file d.plan f) (range from len)) line h)
+      (passed (bytes_eq count (codes "count")) (work_line d.plan b (work (counting v) (file d.plan f) (range from len))) line h)
   block_fits _ line h = cc
 
   pub handler_fits : (words : List (List ℕ)) (line : Line (List ℕ)) → handler_line d.plan words ≡ Ok line → Fits d line

@@ -10,6 +10,7 @@ use Rattle.gcd_plan.specs.declared.kind.Kind.TheVariants.{Group, Semaphore, Time
 use Rattle.gcd_plan.specs.declared.numbers.Obj.{Obj}
 use Rattle.gcd_plan.specs.declared.work.How.{How}
 use Rattle.gcd_plan.specs.declared.work.How.TheVariants.{Count}
+use Rattle.gcd_plan.specs.declared.work.Work.{Work}
 use Rattle.gcd_script.specs.declared.line.Line.{Line}
 use Rattle.gcd_script.specs.declared.line.Line.TheVariants.{DeclareFile, DeclareObject, DeclareBlock, SetUntil, SetCancel, OpenHandler, OpenMain}
 use Rattle.gcd_script.specs.declared.refusal.Refusal.TheVariants.{NoForm, BadName, NotOneMain}
@@ -90,11 +91,14 @@ range from len = both (number 0 max_file_bytes from) (number 0 max_file_bytes le
 abbrev pub whole : ℕ × ℕ
 whole = (0, max_file_bytes)
 
+-- a work: what it counts, and over which part of a file
+abbrev pub work : Meant How → (file : Meant ℕ) → (part : Meant (ℕ × ℕ)) → Meant Work
+work how file part =
+    meant (λ (h, (f, (from, len))). record { how = h; file = f; start = from; len = len }) (both how (both file part))
+
 -- a block with a new name and a work
-abbrev pub work_line : PlanView → (name : List ℕ) → Meant How → Meant ℕ → Meant (ℕ × ℕ) → Meant (Line (List ℕ))
-work_line plan name how what part =
-    meant (λ (fits, (h, (f, (from, len)))). DeclareBlock name (Some (record { how = h; file = f; start = from; len = len })))
-    (both (new_name plan name) (both how (both what part)))
+abbrev pub work_line : PlanView → (name : List ℕ) → Meant Work → Meant (Line (List ℕ))
+work_line plan name what = meant (λ (fits, w). DeclareBlock name (Some w)) (both (new_name plan name) what)
 
 -- the work that counts the bytes of a value
 abbrev pub counting : List ℕ → Meant How
@@ -103,12 +107,12 @@ counting value = meant Count (number 0 255 value)
 -- `block B`, `block B W F`, `block B count V F`, `block B W F FROM LEN`, `block B count V F FROM LEN`
 abbrev pub block_line : PlanView → List (List ℕ) → Meant (Line (List ℕ))
 block_line plan (b ∷ []) = meant (λ fits. DeclareBlock b None) (new_name plan b)
-block_line plan (b ∷ w ∷ f ∷ []) = work_line plan b (one_of counts w) (file plan f) (Ok whole)
+block_line plan (b ∷ w ∷ f ∷ []) = work_line plan b (work (one_of counts w) (file plan f) (Ok whole))
 block_line plan (b ∷ count ∷ v ∷ f ∷ []) =
-    given (bytes_eq count (codes "count")) (work_line plan b (counting v) (file plan f) (Ok whole))
-block_line plan (b ∷ w ∷ f ∷ from ∷ len ∷ []) = work_line plan b (one_of counts w) (file plan f) (range from len)
+    given (bytes_eq count (codes "count")) (work_line plan b (work (counting v) (file plan f) (Ok whole)))
+block_line plan (b ∷ w ∷ f ∷ from ∷ len ∷ []) = work_line plan b (work (one_of counts w) (file plan f) (range from len))
 block_line plan (b ∷ count ∷ v ∷ f ∷ from ∷ len ∷ []) =
-    given (bytes_eq count (codes "count")) (work_line plan b (counting v) (file plan f) (range from len))
+    given (bytes_eq count (codes "count")) (work_line plan b (work (counting v) (file plan f) (range from len)))
 block_line plan _ = Err NoForm
 
 -- `handler S`

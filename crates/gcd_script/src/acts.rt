@@ -1,5 +1,5 @@
 // What the lines of acts mean, by the words after the first.
-ghost use Rattle.std.specs.Prelude.{◌≡◌, map};
+ghost use Rattle.std.specs.Prelude.{◌≡◌, [], ◌∷◌, map};
 ghost use Rattle.gcd_plan.specs.PlanView.{view_of};
 ghost use Rattle.gcd_script.specs.Acts.{submitting, group_submitting, asked_of, acting};
 
@@ -112,13 +112,24 @@ impl<'a> Draft<'a> {
         ensures { result ≡ group_submit_act (view_of self.now.parts) how (map (λ w. w.now) words.now) }
     {
         match *words {
-            [group, queue, block] => {
-                let submitted = both(self.object(Asked::Queue, queue), self.block(block));
-                let (group, (queue, block)) = both(self.object(Asked::Group, group), submitted)?;
-                Ok(how.act(group, queue, block))
-            }
+            [group, queue, block] => self.submitted_for(how, group, queue, block),
             _ => Err(Refusal::NoForm),
         }
+    }
+
+    fn submitted_for(
+        &self,
+        how: GroupSubmission,
+        group: &str,
+        queue: &str,
+        block: &str,
+    ) -> Meant<Act>
+        requires { DraftAgrees self.now }
+        ensures { result ≡ group_submit_act (view_of self.now.parts) how (group.now ∷ queue.now ∷ block.now ∷ []) }
+    {
+        let submitted = both(self.object(Asked::Queue, queue), self.block(block));
+        let (group, (queue, block)) = both(self.object(Asked::Group, group), submitted)?;
+        Ok(how.act(group, queue, block))
     }
 
     /// The acts on one object, which is not `root`.
@@ -127,12 +138,17 @@ impl<'a> Draft<'a> {
         ensures { result ≡ object_act (view_of self.now.parts) what (map (λ w. w.now) words.now) }
     {
         match *words {
-            [object] => {
-                let object = self.object_but_root(what.asked(), object)?;
-                Ok(what.act(object))
-            }
+            [object] => self.acted(what, object),
             _ => Err(Refusal::NoForm),
         }
+    }
+
+    fn acted(&self, what: ObjectAct, object: &str) -> Meant<Act>
+        requires { DraftAgrees self.now }
+        ensures { result ≡ object_act (view_of self.now.parts) what (object.now ∷ []) }
+    {
+        let object = self.object_but_root(what.asked(), object)?;
+        Ok(what.act(object))
     }
 
     /// `target O T` (dispatch_set_target_queue(3)).

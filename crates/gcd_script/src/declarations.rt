@@ -12,8 +12,8 @@ use crate::line::Line;
 use crate::meant::{Meant, both, must};
 use crate::names::Asked;
 use crate::refusal::Refusal;
-use crate::words::{count, counting, merge_kind, number, path, queue_kind, range};
-use gcd_plan::{How, Kind, MAX_TIME, MAX_VALUE, Obj, WHOLE_FILE, Work};
+use crate::words::{count, counting, merge_kind, number, path, queue_kind, range, work};
+use gcd_plan::{Kind, MAX_TIME, MAX_VALUE, Obj, WHOLE_FILE, Work};
 
 const ROOT: Obj = Obj(0);
 
@@ -194,25 +194,15 @@ impl<'a> Draft<'a> {
     }
 
     // A block with a new name and a work.
-    fn work_line(
-        &self,
-        name: &'a str,
-        how: Meant<How>,
-        file: Meant<u32>,
-        range: Meant<(u32, u32)>,
-    ) -> Meant<Line<&'a str>>
+    fn work_line(&self, name: &'a str, work: Meant<Work>) -> Meant<Line<&'a str>>
         requires { DraftAgrees self.now }
-        ensures { meant line_view result ≡ work_line (view_of self.now.parts) name.now how file range }
+        ensures { meant line_view result ≡ work_line (view_of self.now.parts) name.now work }
     {
-        let work = both(how, both(file, range));
-        let ((), (how, (file, (start, len)))) = both(self.new_name(name), work)?;
-        let work = Some(Work {
-            how,
-            file,
-            start,
-            len,
-        });
-        Ok(Line::DeclareBlock { name, work })
+        let ((), work) = both(self.new_name(name), work)?;
+        Ok(Line::DeclareBlock {
+            name,
+            work: Some(work),
+        })
     }
 
     /// `block B`, `block B W F`, `block B count V F`, `block B W F FROM LEN`, `block B count V F FROM LEN`.
@@ -226,22 +216,28 @@ impl<'a> Draft<'a> {
                 Ok(Line::DeclareBlock { name, work: None })
             }
             [name, how, file] => {
-                self.work_line(name, count(how), self.file(file), Ok((0, WHOLE_FILE)))
+                self.work_line(name, work(count(how), self.file(file), Ok((0, WHOLE_FILE))))
             }
             [name, count, value, file] => {
                 if count != "count" {
                     return Err(Refusal::NoForm);
                 }
-                self.work_line(name, counting(value), self.file(file), Ok((0, WHOLE_FILE)))
+                self.work_line(
+                    name,
+                    work(counting(value), self.file(file), Ok((0, WHOLE_FILE))),
+                )
             }
             [name, how, file, from, len] => {
-                self.work_line(name, count(how), self.file(file), range(from, len))
+                self.work_line(name, work(count(how), self.file(file), range(from, len)))
             }
             [name, count, value, file, from, len] => {
                 if count != "count" {
                     return Err(Refusal::NoForm);
                 }
-                self.work_line(name, counting(value), self.file(file), range(from, len))
+                self.work_line(
+                    name,
+                    work(counting(value), self.file(file), range(from, len)),
+                )
             }
             _ => Err(Refusal::NoForm),
         }

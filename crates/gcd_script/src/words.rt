@@ -1,12 +1,12 @@
 // What a form asks of one word, where nothing that is declared counts.
 ghost use Rattle.std.specs.Prelude.{◌≡◌, ◌≤◌, IfOk};
-ghost use Rattle.gcd_script.specs.Declarations.{one_of, range, counting};
+ghost use Rattle.gcd_script.specs.Declarations.{one_of, range, counting, work};
 ghost use Rattle.gcd_script.specs.Keywords.{queue_kinds, merge_kinds, counts};
 ghost use Rattle.gcd_script.specs.Words.{path, number};
 
 use crate::meant::{Meant, both, must};
 use crate::refusal::Refusal;
-use gcd_plan::{How, Kind, MAX_FILE_BYTES, is_path};
+use gcd_plan::{How, Kind, MAX_FILE_BYTES, Work, is_path};
 
 /// That it is a path.
 pub fn path(word: &str) -> Meant<()>
@@ -93,4 +93,17 @@ pub fn counting(word: &str) -> Meant<How>
 {
     let value = number(0, 255, word)?;
     Ok(How::Count(value as u8))
+}
+
+/// A work: what it counts, and over which part of a file.
+pub fn work(how: Meant<How>, file: Meant<u32>, part: Meant<(u32, u32)>) -> Meant<Work>
+    ensures { result ≡ work how file part }
+{
+    let (how, (file, (start, len))) = both(how, both(file, part))?;
+    Ok(Work {
+        how,
+        file,
+        start,
+        len,
+    })
 }
