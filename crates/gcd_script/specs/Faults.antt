@@ -31,10 +31,15 @@ line_meant d line =
 abbrev pub after_line : DraftView → List ℕ → Meant DraftView
 after_line d line = meant (λ right. option_map_or (λ l. after l d) right (counted d)) (line_meant d line)
 
+-- what follows a line of this number: the next draft goes on, and a refusal is told with the number
+abbrev pub going_on : (number : ℕ) → (DraftView → Result DraftView (ℕ × Refusal)) → Meant DraftView → Result DraftView (ℕ × Refusal)
+going_on number next (Ok d) = next d
+going_on number next (Err why) = Err (number, why)
+
 -- the draft after these lines; where one is at fault, the number of the first and why
 abbrev pub draft_after : DraftView → List (List ℕ) → Result DraftView (ℕ × Refusal)
 draft_after d [] = Ok d
-draft_after d (line ∷ lines) = elim (after_line d line) [ Ok next ↦ draft_after next lines | Err why ↦ Err (d.lines + 1, why) ]
+draft_after d (line ∷ lines) = going_on (d.lines + 1) (λ next. draft_after next lines) (after_line d line)
 
 -- the plan at the end; where no line is `main`, the line after the last is at fault
 abbrev pub ended : Result DraftView (ℕ × Refusal) → Result PlanView (ℕ × Refusal)

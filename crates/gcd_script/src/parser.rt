@@ -1,5 +1,5 @@
 // The plan of a script.
-ghost use Rattle.std.specs.Prelude.{◌≡◌, ◌<◌, Ok, IfOk, IfErr, OnOk, length, option_map};
+ghost use Rattle.std.specs.Prelude.{◌≡◌, ◌<◌, ◌+◌, Ok, IfOk, IfErr, OnOk, length, option_map};
 ghost use Rattle.std.specs.Option.{option_map_or};
 ghost use Rattle.gcd_plan.specs.Validity.{IsPlan};
 ghost use Rattle.gcd_script.specs.Agreement.{DraftAgrees};
@@ -57,6 +57,7 @@ fn take_line<'a>(draft: &mut Draft<'a>, alloc: Global, line: &'a [u8]) -> Result
     ensures view { OnOk result (after_line (draft_view draft.old) line.now ≡ Ok (draft_view draft.new)) }
     ensures agrees { OnOk result (DraftAgrees draft.new) }
     ensures sound { OnOk result (IsDraft (draft_view draft.new)) }
+    ensures counted { OnOk result (draft.new.lines ≡ draft.old.lines + 1) }
     ensures refused { IfErr result (IsLineRefusal (draft_view draft.old) line.now) }
 {
     match line_meant(draft, line) {
