@@ -1,18 +1,17 @@
 -- One name more among the names of a plan.
-use Rattle.std.proofs.Common.{ℕ, ◌≡◌, ◌≤◌, ◌+◌, Bool, true, false, not, ◌||◌, cond, List, [], ◌∷◌, ◌++◌, map, Option, Some, None, is_some, option_map, count_by, refl, sym, ap, ◌∙◌, subst, arith}
+use Rattle.std.proofs.Common.{ℕ, ◌≡◌, ◌≤◌, ◌+◌, Bool, true, false, not, ◌&&◌, cond, codes, List, [], ◌∷◌, ◌++◌, map, Option, Some, None, is_none, option_map, count_by, refl, sym, ap, ◌∙◌, subst, arith}
 use Rattle.std.specs.List.{list_all}
 use Rattle.std.specs.Option.{option_or}
 use Rattle.std.specs.Str.{bytes_eq}
-use Rattle.std.proofs.lemmas.Bool.{and_from, or_parts, not-false}
+use Rattle.std.proofs.lemmas.Bool.{and_from, and_parts}
 use Rattle.std.proofs.lemmas.List.{append_assoc, append-nil, map_push}
 use Rattle.gcd_plan.specs.Names.{is_name}
 use Rattle.gcd_plan.specs.PlanView.{PlanView, ObjView, BlkView, FileView}
 use Rattle.gcd_plan.specs.Validity.{names_of}
-use Rattle.gcd_plan.proofs.Options.{none_from_is_some}
 use Rattle.gcd_plan.proofs.Sums.{count_by-append, count_by-cons}
 use Rattle.gcd_script.specs.declared.meaning.Meaning.TheVariants.{File, Object, Block}
-use Rattle.gcd_script.specs.Drafts.{place_of, meaning_among, meaning_of, is_reserved, with_file, with_object, with_block}
-use Rattle.gcd_script.specs.Faults.{is_unfit}
+use Rattle.gcd_script.specs.Names.{place_of, meaning_among, meaning_of, is_unused}
+use Rattle.gcd_script.specs.Changes.{with_file, with_object, with_block}
 use Rattle.gcd_script.proofs.Growth.{and_map}
 use Rattle.gcd_script.proofs.Places.{same_bytes, count_none}
 
@@ -83,7 +82,7 @@ module _ (plan : PlanView) where
   -- a name that may be declared
   pub record IsFit (name : List ℕ) : Type 0 where
     pub formed : is_name name ≡ true
-    pub free : is_reserved name ≡ false
+    pub free : bytes_eq name (codes "main") ≡ false
     pub unknown : meaning_among plan name ≡ None
 
 pub no_part : {X Y : Type 0} (f : X → Y) (o : Option X) (p : Option Y) → option_or (option_map f o) p ≡ None → (o ≡ None) × (p ≡ None)
@@ -94,15 +93,24 @@ pub no_map : {X Y : Type 0} (f : X → Y) (o : Option X) → option_map f o ≡ 
 no_map f None h = refl
 no_map f (Some x) h = cc
 
-pub fit_from : (plan : PlanView) (name : List ℕ) → is_unfit plan name ≡ false → IsFit plan name
+none_from : {X : Type 0} (o : Option X) → is_none o ≡ true → o ≡ None
+none_from None h = refl
+none_from (Some x) h = cc
+
+false_from_not : (b : Bool) → not b ≡ true → b ≡ false
+false_from_not true h = cc
+false_from_not false h = refl
+
+pub fit_from : (plan : PlanView) (name : List ℕ) → is_unused plan name ≡ true → IsFit plan name
 fit_from plan name h =
-    let parts = or_parts (not (is_name name)) (is_reserved name || is_some (meaning_of plan name)) h in
-    let others = or_parts (is_reserved name) (is_some (meaning_of plan name)) parts.1 in
-    let none = none_from_is_some (meaning_of plan name) others.1 in
+    let parts = and_parts (is_name name) (not (bytes_eq name (codes "main")) && is_none (meaning_of plan name)) h in
+    let others = and_parts (not (bytes_eq name (codes "main"))) (is_none (meaning_of plan name)) parts.1 in
+    let free = false_from_not (bytes_eq name (codes "main")) others.0 in
+    let none = none_from (meaning_of plan name) others.1 in
     record {
-      formed = not-false (is_name name) parts.0;
-      free = others.0;
-      unknown = ap (λ r. cond r None (meaning_among plan name)) (sym others.0) ∙ none;
+      formed = parts.0;
+      free = free;
+      unknown = ap (λ r. cond r None (meaning_among plan name)) (sym free) ∙ none;
     }
 
 -- it is none of the plan's names

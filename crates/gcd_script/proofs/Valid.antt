@@ -1,28 +1,27 @@
--- What is declared keeps a plan valid and of the first forms.
-use Rattle.std.proofs.Common.{ℕ, ◌≡◌, ◌<◌, ◌≤◌, ◌==◌, true, false, List, [], ◌∷◌, ◌++◌, length, Option, Some, None, is_none, option_map, option_to_list, slice_get, count_by, codes, refl, sym, ap, ◌∙◌, subst, arith}
+-- What is declared keeps a plan valid.
+use Rattle.std.proofs.Common.{ℕ, ◌≡◌, ◌<◌, ◌≤◌, ◌==◌, Bool, true, false, List, [], ◌∷◌, ◌++◌, length, Option, Some, None, is_none, option_map, option_to_list, slice_get, count_by, codes, refl, sym, ap, ◌∙◌, subst, arith}
 use Rattle.std.specs.List.{list_all, flat_map}
 use Rattle.std.specs.Option.{option_map_or}
 use Rattle.std.proofs.lemmas.Bool.{and_from}
 use Rattle.std.proofs.lemmas.List.{append-nil, length_push}
 use Rattle.std.proofs.lemmas.List.Concat.{flat_map-append}
 use Rattle.std.proofs.lemmas.List.Sums.{sum_by_push}
-use Rattle.gcd_forms.specs.FirstForms.{IsOfFirstForms, is_first_block, is_first_act, is_first_work, is_serial_kind}
-use Rattle.gcd_plan.specs.Limits.{max_objects, max_blocks, max_files}
-use Rattle.gcd_plan.specs.Kinds.{has_kind, is_queue_kind}
+use Rattle.gcd_plan.specs.Limits.{max_objects, max_blocks, max_files, max_time}
+use Rattle.gcd_plan.specs.Kinds.{is_queue_kind}
 use Rattle.gcd_plan.specs.Names.{is_name, is_path}
 use Rattle.gcd_plan.specs.PlanView.{PlanView, ObjView, BlkView, FileView}
 use Rattle.gcd_plan.specs.Validity.{IsPlan, root_view, names_of, blocks_of, submitted_blocks, is_object, is_block, is_work, is_file}
-use Rattle.gcd_plan.specs.declared.act.Act.{Act}
-use Rattle.gcd_plan.specs.declared.act.Act.TheVariants.{Async}
 use Rattle.gcd_plan.specs.declared.kind.Kind.{Kind}
 use Rattle.gcd_plan.specs.declared.numbers.Blk.{Blk}
+use Rattle.gcd_plan.specs.declared.numbers.Obj.{Obj}
 use Rattle.gcd_plan.specs.declared.work.Work.{Work}
 use Rattle.gcd_plan.proofs.Places.{slice_get_kept}
 use Rattle.gcd_plan.proofs.Quantifiers.{list_all_push}
-use Rattle.gcd_script.specs.Drafts.{new_file, serial_queue, new_block, with_file, with_object, with_block}
-use Rattle.gcd_script.proofs.Growth.{Grows, and_map, list_all_map, object_grows, block_grows, has_kind_grows}
+use Rattle.gcd_script.specs.Changes.{new_file, new_object, with_file, with_object, with_block}
+use Rattle.gcd_script.specs.Drafts.{new_block}
+use Rattle.gcd_script.proofs.Growth.{Grows, list_all_map, object_grows, block_grows}
 use Rattle.gcd_script.proofs.Inserts.{IsFit, list_all_insert, apart_insert, fit_is_new, file_inserts, object_inserts, block_inserts}
-use Rattle.gcd_script.proofs.Queues.{first_kept, queues_push, all_reach_root, root_is_queue}
+use Rattle.gcd_script.proofs.Targets.{first_kept, one_more_reaches, target_is_queue, has_kind_within}
 
 -- kinds stay where objects are added
 kinds_kept : (objects more : List ObjView) (o : ℕ) (kind : Kind) → option_map (λ (obj : ObjView). obj.kind) (slice_get objects o) ≡ Some kind → option_map (λ (obj : ObjView). obj.kind) (slice_get (objects ++ more) o) ≡ Some kind
@@ -31,17 +30,6 @@ kinds_kept objects more o kind h =
       | None ↦ λ e k. cc
       | Some object ↦ λ e k. ap (option_map (λ (obj : ObjView). obj.kind)) (slice_get_kept objects more o object e) ∙ k
     ] refl h
-
--- first acts stay such
-first_act_grows : (old new : PlanView) → Grows old new → (act : Act) → is_first_act old act ≡ true → is_first_act new act ≡ true
-first_act_grows old new grows (Async q b) h = has_kind_grows old new grows is_serial_kind q.0 h
-first_act_grows old new grows _ h = cc
-
-pub first_block_grows : (old new : PlanView) → Grows old new → (b : BlkView) → is_first_block old b ≡ true → is_first_block new b ≡ true
-first_block_grows old new grows b =
-    and_map (list_all (is_first_act old) b.acts) (option_map_or is_first_work b.work true) (list_all (is_first_act new) b.acts) (option_map_or is_first_work b.work true)
-    (list_all_map (is_first_act old) (is_first_act new) (first_act_grows old new grows) b.acts)
-    (λ k. k)
 
 -- the first of a list stays where more follow
 first_name : (blocks more : List BlkView) (name : List ℕ) → option_map (λ (b : BlkView). b.name) (slice_get blocks 0) ≡ Some name → option_map (λ (b : BlkView). b.name) (slice_get (blocks ++ more) 0) ≡ Some name
@@ -53,12 +41,12 @@ first_idle [] more h = cc
 first_idle (b ∷ blocks) more h = h
 
 module _ (plan : PlanView) where
-  -- a queue or a block with no act submits nothing
-  pub queue_submits : (name : List ℕ) → submitted_blocks (with_object (serial_queue name) plan) ≡ submitted_blocks plan
-  queue_submits name =
+  -- an object or a block with no act submits nothing
+  pub object_submits : (name : List ℕ) (kind : Kind) (target : Obj) (active : Bool) (path : List ℕ) → submitted_blocks (with_object (new_object name kind target active path) plan) ≡ submitted_blocks plan
+  object_submits name kind target active path =
       let own = λ (o : ObjView). blocks_of o.handler ++ option_to_list o.cancel in
       ap (λ xs. flat_map (λ (b : BlkView). blocks_of b.acts) plan.blocks ++ xs)
-      (flat_map-append own plan.objects (serial_queue name ∷ []) ∙ append-nil (flat_map own plan.objects))
+      (flat_map-append own plan.objects (new_object name kind target active path ∷ []) ∙ append-nil (flat_map own plan.objects))
 
   pub block_submits : (name : List ℕ) (work : Option Work) → submitted_blocks (with_block (new_block name work) plan) ≡ submitted_blocks plan
   block_submits name work =
@@ -66,7 +54,7 @@ module _ (plan : PlanView) where
       ap (λ xs. xs ++ flat_map (λ (o : ObjView). blocks_of o.handler ++ option_to_list o.cancel) plan.objects)
       (flat_map-append own plan.blocks (new_block name work ∷ []) ∙ append-nil (flat_map own plan.blocks))
 
-module _ (plan : PlanView) (valid : IsPlan plan) (forms : IsOfFirstForms plan) where
+module _ (plan : PlanView) (valid : IsPlan plan) where
   -- one file more
   file_grows : (file : FileView) → Grows plan (with_file file plan)
   file_grows file = record { kinds = λ o kind h. h; objects = omega arith; blocks = omega arith; files = let more = length_push plan.files file in omega arith }
@@ -96,34 +84,26 @@ module _ (plan : PlanView) (valid : IsPlan plan) (forms : IsOfFirstForms plan) w
         targets = valid.targets;
       }
 
-  pub file_first : (file : FileView) → IsOfFirstForms (with_file file plan)
-  file_first file = record {
-    queues = forms.queues;
-    blocks = list_all_map (is_first_block plan) (is_first_block (with_file file plan)) (first_block_grows plan (with_file file plan) (file_grows file)) plan.blocks forms.blocks;
-    until = forms.until;
-  }
-
-  -- one queue more
-  queue_grows : (name : List ℕ) → Grows plan (with_object (serial_queue name) plan)
-  queue_grows name = record {
-    kinds = kinds_kept plan.objects (serial_queue name ∷ []);
-    objects = let more = length_push plan.objects (serial_queue name) in omega arith;
+  -- one object more
+  object_is_more : (object : ObjView) → Grows plan (with_object object plan)
+  object_is_more object = record {
+    kinds = kinds_kept plan.objects (object ∷ []);
+    objects = let more = length_push plan.objects object in omega arith;
     blocks = omega arith;
     files = omega arith;
   }
 
-  pub queue_valid : (name : List ℕ) → IsFit plan name → length plan.objects < max_objects → IsPlan (with_object (serial_queue name) plan)
-  queue_valid name fit few =
-      let queue = serial_queue name in
-      let new = with_object queue plan in
-      let inserts = object_inserts plan queue in
-      let more = length_push plan.objects queue in
-      let acts = sum_by_push (λ (o : ObjView). length o.handler) plan.objects queue in
-      let first : slice_get new.objects 0 ≡ Some root_view = first_kept plan.objects (queue ∷ []) root_view valid.root in
-      let grows = queue_grows name in
-      let queues = queues_push plan.objects queue root_view valid.root refl forms.queues in
+  pub object_valid : (name : List ℕ) (kind : Kind) (target : Obj) (active : Bool) (path : List ℕ) → IsFit plan name → length plan.objects < max_objects → is_object plan (new_object name kind target active path) ≡ true → IsPlan (with_object (new_object name kind target active path) plan)
+  object_valid name kind target active path fit few is_it =
+      let object = new_object name kind target active path in
+      let new = with_object object plan in
+      let inserts = object_inserts plan object in
+      let more = length_push plan.objects object in
+      let acts = sum_by_push (λ (o : ObjView). length o.handler) plan.objects object in
+      let grows = object_is_more object in
+      let queue = target_is_queue plan valid.root object is_it in
       record {
-        root = first;
+        root = first_kept plan.objects (object ∷ []) root_view valid.root;
         main = valid.main;
         main_idle = valid.main_idle;
         few_objects = omega arith;
@@ -134,19 +114,12 @@ module _ (plan : PlanView) (valid : IsPlan plan) (forms : IsOfFirstForms plan) w
         until_high = valid.until_high;
         names = list_all_insert is_name inserts fit.formed valid.names;
         names_apart = apart_insert name (names_of plan) (names_of new) inserts (fit_is_new plan name fit) valid.names_apart;
-        objects = list_all_push (is_object new) plan.objects queue (list_all_map (is_object plan) (is_object new) (object_grows plan new grows) plan.objects valid.objects) (and_from (has_kind is_queue_kind new 0) true (root_is_queue new first) refl);
+        objects = list_all_push (is_object new) plan.objects object (list_all_map (is_object plan) (is_object new) (object_grows plan new grows) plan.objects valid.objects) (object_grows plan new grows object is_it);
         blocks = list_all_map (is_block plan) (is_block new) (block_grows plan new grows) plan.blocks valid.blocks;
         files = valid.files;
-        once = λ b. subst (λ xs. count_by (λ (c : Blk). c.0 == b) xs ≤ 1) (sym (queue_submits plan name)) (valid.once b);
-        targets = all_reach_root new first queues;
+        once = λ b. subst (λ xs. count_by (λ (c : Blk). c.0 == b) xs ≤ 1) (sym (object_submits plan name kind target active path)) (valid.once b);
+        targets = one_more_reaches plan new object valid refl (has_kind_within plan target.0 is_queue_kind queue);
       }
-
-  pub queue_first : (name : List ℕ) → IsOfFirstForms (with_object (serial_queue name) plan)
-  queue_first name = record {
-    queues = queues_push plan.objects (serial_queue name) root_view valid.root refl forms.queues;
-    blocks = list_all_map (is_first_block plan) (is_first_block (with_object (serial_queue name) plan)) (first_block_grows plan (with_object (serial_queue name) plan) (queue_grows name)) plan.blocks forms.blocks;
-    until = forms.until;
-  }
 
   -- one block more
   block_is_more : (name : List ℕ) (work : Option Work) → Grows plan (with_block (new_block name work) plan)
@@ -184,11 +157,28 @@ module _ (plan : PlanView) (valid : IsPlan plan) (forms : IsOfFirstForms plan) w
         targets = valid.targets;
       }
 
-  pub block_first : (name : List ℕ) (work : Option Work) → option_map_or is_first_work work true ≡ true → IsOfFirstForms (with_block (new_block name work) plan)
-  block_first name work is_first =
-      let new = with_block (new_block name work) plan in
+  -- another last due time
+  until_grows : (ms : ℕ) → Grows plan (record plan { until = ms })
+  until_grows ms = record { kinds = λ o kind h. h; objects = omega arith; blocks = omega arith; files = omega arith }
+
+  pub until_valid : (ms : ℕ) → 1 ≤ ms → ms ≤ max_time → IsPlan (record plan { until = ms })
+  until_valid ms low high =
+      let new = record plan { until = ms } in
       record {
-        queues = forms.queues;
-        blocks = list_all_push (is_first_block new) plan.blocks (new_block name work) (list_all_map (is_first_block plan) (is_first_block new) (first_block_grows plan new (block_is_more name work)) plan.blocks forms.blocks) is_first;
-        until = forms.until;
+        root = valid.root;
+        main = valid.main;
+        main_idle = valid.main_idle;
+        few_objects = valid.few_objects;
+        few_blocks = valid.few_blocks;
+        few_files = valid.few_files;
+        few_acts = valid.few_acts;
+        until_low = low;
+        until_high = high;
+        names = valid.names;
+        names_apart = valid.names_apart;
+        objects = list_all_map (is_object plan) (is_object new) (object_grows plan new (until_grows ms)) plan.objects valid.objects;
+        blocks = list_all_map (is_block plan) (is_block new) (block_grows plan new (until_grows ms)) plan.blocks valid.blocks;
+        files = valid.files;
+        once = valid.once;
+        targets = valid.targets;
       }

@@ -1,21 +1,20 @@
 -- When what a draft holds beside its plan agrees with it: the meanings of names, which blocks are submitted, and how many
 -- acts there are.
-use Rattle.std.specs.Prelude.{◌≡◌, ℕ, ◌==◌, Bool, List, length, false, if◌then◌else◌, Option, Some}
-use Rattle.std.specs.BTreeMap.{BTreeMap, get_by}
+use Rattle.std.specs.Prelude.{◌≡◌, ℕ, ◌==◌, Bool, List, length, true, false, slice_set, if◌then◌else◌, Option, Some, None}
+use Rattle.std.specs.HashMap.{HashMap, get_by}
 use Rattle.std.specs.Borrow.{Bor}
-use Rattle.std.specs.Cmp.Lexicographic.{slice_cmp}
 use Rattle.std.specs.List.{list_any, slice_index_or}
-use Rattle.std.specs.Ordering.{nat_cmp}
 use Rattle.std.specs.Str.{bytes_eq}
+use Rattle.gcd_plan.specs.declared.numbers.Blk.{Blk}
 use Rattle.gcd_plan.specs.PlanView.{PlanView, view_of}
 use Rattle.gcd_plan.specs.Validity.{submitted_blocks, act_count}
 use Rattle.gcd_script.specs.declared.draft.Draft.{Draft}
 use Rattle.gcd_script.specs.declared.meaning.Meaning.{Meaning}
-use Rattle.gcd_script.specs.Drafts.{meaning_of}
+use Rattle.gcd_script.specs.Names.{meaning_of}
 
 -- what the code's map from names has at a name
-abbrev pub look_up : BTreeMap (Bor (List ℕ)) Meaning → List ℕ → Option Meaning
-look_up meanings name = get_by (λ key. slice_cmp nat_cmp name key.now) meanings
+abbrev pub look_up : {S : Type 0} → HashMap (Bor (List ℕ)) Meaning S → List ℕ → Option Meaning
+look_up meanings name = get_by (λ key. bytes_eq name key.now) meanings
 
 -- the new look-up finds the meaning at the name, and what the old one finds at each other name
 abbrev pub Declares : (old new : List ℕ → Option Meaning) → List ℕ → Meaning → Type 0
@@ -27,6 +26,11 @@ pub record AgreeWithPlan (meanings : List ℕ → Option Meaning) (submitted : L
   pub flags : length submitted ≡ length plan.blocks
   pub blocks : (b : ℕ) → slice_index_or submitted b false ≡ list_any (λ c. c.0 == b) (submitted_blocks plan)
   pub count : acts ≡ act_count plan
+
+-- flags of submitted blocks after one submission more, or none
+abbrev pub flags_with : List Bool → Option Blk → List Bool
+flags_with flags None = flags
+flags_with flags (Some b) = slice_set flags b.0 true
 
 -- what a draft holds beside its plan agrees with the plan
 abbrev pub DraftAgrees : Draft → Type 0

@@ -1,131 +1,59 @@
--- Where a script is refused, and why (this project's own rules).
-use Rattle.std.specs.Prelude.{◌≡◌, ℕ, ◌+◌, ◌==◌, nat_le, Bool, true, false, not, ◌||◌, if◌then◌else◌, List, [], ◌∷◌, length, Option, Some, None, option_map, is_none, is_some, reverse}
-use Rattle.std.specs.Option.{option_map_or, option_or}
-use Rattle.std.specs.List.{list_any}
-use Rattle.gcd_plan.specs.Limits.{max_objects, max_blocks, max_files, max_acts}
+-- Which texts are scripts, and where and why another is refused (this project's own rules).
+use Rattle.std.specs.Prelude.{◌≡◌, ℕ, ◌+◌, ◌==◌, Bool, true, false, if◌then◌else◌, List, [], ◌∷◌, Option, Some, None, Result, Ok, Err, option_map, slice_get}
+use Rattle.std.specs.Option.{option_map_or}
+use Rattle.std.specs.Result.{result_err}
 use Rattle.gcd_plan.specs.PlanView.{PlanView}
-use Rattle.gcd_plan.specs.Kinds.{is_queue}
-use Rattle.gcd_plan.specs.Names.{is_name}
-use Rattle.gcd_plan.specs.Validity.{submitted_blocks, act_count}
-use Rattle.gcd_script.specs.declared.meaning.Meaning.{Meaning}
-use Rattle.gcd_script.specs.declared.meaning.Meaning.TheVariants.{File, Object, Block}
+use Rattle.gcd_script.specs.declared.line.Line.{Line}
 use Rattle.gcd_script.specs.declared.refusal.Refusal.{Refusal}
-use Rattle.gcd_script.specs.declared.refusal.Refusal.TheVariants.{NoForm, BadName, UnknownName, OtherKind, Repeated, PastLimit, NotOneMain}
+use Rattle.gcd_script.specs.declared.refusal.Refusal.TheVariants.{NoForm, NotOneMain}
+use Rattle.gcd_script.specs.Changes.{after}
 use Rattle.gcd_script.specs.Codes.{refusal_code}
+use Rattle.gcd_script.specs.Drafts.{DraftView, empty_draft, counted}
+use Rattle.gcd_script.specs.Judged.{line_of}
 use Rattle.gcd_script.specs.Lines.{lines_of, words_of, is_printable}
-use Rattle.gcd_script.specs.Forms.{LineForm, FileLine, QueueLine, BlockLine, MainLine, AsyncLine, form_of}
-use Rattle.gcd_script.specs.Drafts.{DraftView, meaning_of, is_reserved, draft_of}
+use Rattle.gcd_script.specs.Meant.{Meant, meant, given}
 
--- the name can't be declared: it is no name, or reserved, or taken
-abbrev pub is_unfit : PlanView → List ℕ → Bool
-is_unfit plan name = not (is_name name) || (is_reserved name || is_some (meaning_of plan name))
+-- the word begins with `#`
+abbrev pub is_mark : List ℕ → Bool
+is_mark word = option_map_or (λ c. c == 35) (slice_get word 0) false
 
--- the used name is not declared on an earlier line
-abbrev pub is_unknown : PlanView → List ℕ → Bool
-is_unknown plan name = is_none (meaning_of plan name)
+-- the words are those of a line that is skipped: none, or the first begins with `#`
+abbrev pub is_skipped : List (List ℕ) → Bool
+is_skipped [] = true
+is_skipped (first ∷ words) = is_mark first
 
--- what a form may ask of a used name: that it is a file's
-abbrev pub is_file_name : PlanView → Meaning → Bool
-is_file_name plan (File f) = true
-is_file_name plan _ = false
+-- what a line means; None where it is skipped
+abbrev pub line_meant : DraftView → List ℕ → Meant (Option (Line (List ℕ)))
+line_meant d line =
+    given (is_printable line) (if is_skipped (words_of line) then Ok None else meant Some (line_of d (words_of line)))
 
--- or a queue's
-abbrev pub is_queue_name : PlanView → Meaning → Bool
-is_queue_name plan (Object o) = is_queue plan o.0
-is_queue_name plan _ = false
+-- the draft after one line more
+abbrev pub after_line : DraftView → List ℕ → Meant DraftView
+after_line d line = meant (λ right. option_map_or (λ l. after l d) right (counted d)) (line_meant d line)
 
--- or a block's
-abbrev pub is_block_name : PlanView → Meaning → Bool
-is_block_name plan (Block b) = true
-is_block_name plan _ = false
+-- what follows a line of this number: the next draft goes on, and a refusal is told with the number
+abbrev pub going_on : (number : ℕ) → (DraftView → Result DraftView (ℕ × Refusal)) → Meant DraftView → Result DraftView (ℕ × Refusal)
+going_on number next (Ok d) = next d
+going_on number next (Err why) = Err (number, why)
 
--- the used name is declared, and of another kind than the form asks
-abbrev pub is_other : (PlanView → Meaning → Bool) → PlanView → List ℕ → Bool
-is_other asked plan name = option_map_or (λ meaning. not (asked plan meaning)) (meaning_of plan name) false
+-- the draft after these lines; where one is at fault, the number of the first and why
+abbrev pub draft_after : DraftView → List (List ℕ) → Result DraftView (ℕ × Refusal)
+draft_after d [] = Ok d
+draft_after d (line ∷ lines) = going_on (d.lines + 1) (λ next. draft_after next lines) (after_line d line)
 
--- it is a block that an earlier line submits
-abbrev pub is_submitted_block : PlanView → Meaning → Bool
-is_submitted_block plan (Block b) = list_any (λ c. c.0 == b.0) (submitted_blocks plan)
-is_submitted_block plan _ = false
+-- the plan at the end; where no line is `main`, the line after the last is at fault
+abbrev pub ended : Result DraftView (ℕ × Refusal) → Result PlanView (ℕ × Refusal)
+ended (Ok d) = if d.has_main then Ok d.plan else Err (d.lines + 1, NotOneMain)
+ended (Err fault) = Err fault
 
--- the used name is that of a block that an earlier line submits
-abbrev pub is_submitted : PlanView → List ℕ → Bool
-is_submitted plan name = option_map_or (is_submitted_block plan) (meaning_of plan name) false
-
--- there are as many files as a plan may have
-abbrev pub is_full_of_files : PlanView → Bool
-is_full_of_files plan = nat_le max_files (length plan.files)
-
--- there are as many objects, with root
-abbrev pub is_full_of_objects : PlanView → Bool
-is_full_of_objects plan = nat_le max_objects (length plan.objects)
-
--- there are as many blocks, with main
-abbrev pub is_full_of_blocks : PlanView → Bool
-is_full_of_blocks plan = nat_le max_blocks (length plan.blocks)
-
--- there are as many acts, in all bodies together
-abbrev pub is_full_of_acts : PlanView → Bool
-is_full_of_acts plan = nat_le max_acts (act_count plan)
-
--- what may be wrong with a line of the form: each refusal with its test, the lowest code first
-abbrev pub refusals_of : DraftView → LineForm → List (Refusal × Bool)
-refusals_of draft (FileLine name path) =
-    (BadName, is_unfit draft.plan name)
-    ∷ (PastLimit, is_full_of_files draft.plan)
-    ∷ []
-refusals_of draft (QueueLine name) =
-    (BadName, is_unfit draft.plan name)
-    ∷ (PastLimit, is_full_of_objects draft.plan)
-    ∷ []
-refusals_of draft (BlockLine name None) =
-    (BadName, is_unfit draft.plan name)
-    ∷ (PastLimit, is_full_of_blocks draft.plan)
-    ∷ []
-refusals_of draft (BlockLine name (Some file)) =
-    (BadName, is_unfit draft.plan name)
-    ∷ (UnknownName, is_unknown draft.plan file)
-    ∷ (OtherKind, is_other is_file_name draft.plan file)
-    ∷ (PastLimit, is_full_of_blocks draft.plan)
-    ∷ []
-refusals_of draft MainLine =
-    (NotOneMain, draft.has_main)
-    ∷ []
-refusals_of draft (AsyncLine queue block) =
-    (NoForm, is_none draft.body)
-    ∷ (UnknownName, is_unknown draft.plan queue || is_unknown draft.plan block)
-    ∷ (OtherKind, is_other is_queue_name draft.plan queue || is_other is_block_name draft.plan block)
-    ∷ (Repeated, is_submitted draft.plan block)
-    ∷ (PastLimit, is_full_of_acts draft.plan)
-    ∷ []
-
--- the first refusal whose test holds
-abbrev pub first_refusal : List (Refusal × Bool) → Option Refusal
-first_refusal [] = None
-first_refusal (row ∷ rows) = if row.1 then Some row.0 else first_refusal rows
-
--- what is wrong with a line after the lines that made the draft
-abbrev pub refusal_of : DraftView → List ℕ → Option Refusal
-refusal_of draft line =
-    if is_printable line
-    then option_map_or (λ form. first_refusal (refusals_of draft form)) (form_of (words_of line)) (Some NoForm)
-    else Some NoForm
-
--- the first line at fault of these lines, the newest first: its number, from 1, and its code
-abbrev pub first_fault : List (List ℕ) → Option (ℕ × ℕ)
-first_fault [] = None
-first_fault (line ∷ past) =
-    option_or (first_fault past) (option_map (λ why. (length past + 1, refusal_code why)) (refusal_of (draft_of past) line))
-
--- where all lines are right and none is `main`, the line after the last is at fault
-abbrev pub missing_main : List (List ℕ) → Option (ℕ × ℕ)
-missing_main past = if (draft_of past).has_main then None else Some (length past + 1, refusal_code NotOneMain)
-
--- the first fault of a text as a script
-abbrev pub fault_of : List ℕ → Option (ℕ × ℕ)
-fault_of bytes = let past = reverse (lines_of bytes) in option_or (first_fault past) (missing_main past)
+-- the plan of a text, or its first line at fault and why
+abbrev pub script_of : List ℕ → Result PlanView (ℕ × Refusal)
+script_of bytes = ended (draft_after empty_draft (lines_of bytes))
 
 -- the text is a script, and declares the plan
-pub record IsScriptOf (bytes : List ℕ) (plan : PlanView) : Type 0 where
-  pub right : fault_of bytes ≡ None
-  pub declared : plan ≡ (draft_of (reverse (lines_of bytes))).plan
+abbrev pub IsScriptOf : List ℕ → PlanView → Type 0
+IsScriptOf bytes plan = script_of bytes ≡ Ok plan
+
+-- the first line at fault of a text, and its code; None where it is a script
+abbrev pub fault_of : List ℕ → Option (ℕ × ℕ)
+fault_of bytes = option_map (λ fault. (fault.0, refusal_code fault.1)) (result_err (script_of bytes))

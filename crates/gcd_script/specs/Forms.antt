@@ -1,63 +1,35 @@
--- The forms of a script's lines (this project's own rules).
-use Rattle.std.specs.Prelude.{◌≡◌, ◌↔◌, ℕ, ◌&&◌, Bool, true, if◌then◌else◌, List, [], ◌∷◌, Option, Some, None, codes}
-use Rattle.std.specs.Str.{bytes_eq}
-use Rattle.gcd_plan.specs.Names.{is_path}
+-- What the words of a line mean, by its first word (this project's own rules).
+use Rattle.std.specs.Prelude.{ℕ, List, [], ◌∷◌, Err}
+use Rattle.std.specs.Option.{option_map_or}
+use Rattle.gcd_script.specs.declared.keyword.Keyword.{Keyword}
+use Rattle.gcd_script.specs.declared.keyword.Keyword.TheVariants.{File, Queue, Group, Semaphore, Source, Cancelled, Until, Block, Handler, Main, Submit, GroupSubmit, OneObject, Target, Merge}
+use Rattle.gcd_script.specs.declared.line.Line.{Line}
+use Rattle.gcd_script.specs.declared.refusal.Refusal.TheVariants.{NoForm}
+use Rattle.gcd_script.specs.Acts.{act_line, submit_act, group_submit_act, object_act, target_act, merge_act}
+use Rattle.gcd_script.specs.Declarations.{file_line, queue_line, group_line, semaphore_line, source_line, cancelled_line, until_line, block_line, handler_line, main_line}
+use Rattle.gcd_script.specs.Drafts.{DraftView}
+use Rattle.gcd_script.specs.Keywords.{keyword_of}
+use Rattle.gcd_script.specs.Meant.{Meant}
 
--- a line of one of the forms, with the words in its places
-pub data LineForm : Type 0 where
-  -- `file F PATH`
-  FileLine : (name path : List ℕ) → LineForm
-  -- `queue Q serial`
-  QueueLine : (name : List ℕ) → LineForm
-  -- `block B`, `block B lines F`
-  BlockLine : (name : List ℕ) → (counts : Option (List ℕ)) → LineForm
-  -- `main`
-  MainLine : LineForm
-  -- `async Q B`
-  AsyncLine : (queue block : List ℕ) → LineForm
+-- by the words after a known first one
+abbrev pub line_by : DraftView → List (List ℕ) → Keyword → Meant (Line (List ℕ))
+line_by d words File = file_line d.plan words
+line_by d words Queue = queue_line d.plan words
+line_by d words Group = group_line d.plan words
+line_by d words Semaphore = semaphore_line d.plan words
+line_by d words Source = source_line d.plan words
+line_by d words Cancelled = cancelled_line d.plan words
+line_by d words Until = until_line d.has_until words
+line_by d words Block = block_line d.plan words
+line_by d words Handler = handler_line d.plan words
+line_by d words Main = main_line d.has_main words
+line_by d words (Submit how) = act_line d.body (submit_act d.plan how words)
+line_by d words (GroupSubmit how) = act_line d.body (group_submit_act d.plan how words)
+line_by d words (OneObject what) = act_line d.body (object_act d.plan what words)
+line_by d words Target = act_line d.body (target_act d.plan words)
+line_by d words Merge = act_line d.body (merge_act d.plan words)
 
--- the first form whose test holds
-abbrev pub first_form : List (Bool × LineForm) → Option LineForm
-first_form [] = None
-first_form (row ∷ rows) = if row.0 then Some row.1 else first_form rows
-
--- the form of a line with these words; none where it is of no form
-abbrev pub form_of : List (List ℕ) → Option LineForm
-form_of (k ∷ []) = first_form (
-    (bytes_eq k (codes "main"), MainLine)
-    ∷ [])
-form_of (k ∷ a ∷ []) = first_form (
-    (bytes_eq k (codes "block"), BlockLine a None)
-    ∷ [])
-form_of (k ∷ a ∷ b ∷ []) = first_form (
-    (bytes_eq k (codes "file") && is_path b, FileLine a b)
-    ∷ (bytes_eq k (codes "queue") && bytes_eq b (codes "serial"), QueueLine a)
-    ∷ (bytes_eq k (codes "async"), AsyncLine a b)
-    ∷ [])
-form_of (k ∷ a ∷ b ∷ c ∷ []) = first_form (
-    (bytes_eq k (codes "block") && bytes_eq b (codes "lines"), BlockLine a (Some c))
-    ∷ [])
-form_of _ = None
-
--- the words of a line of the form, as the table of forms writes them
-abbrev pub words_of_form : LineForm → List (List ℕ)
-words_of_form (FileLine name path) = codes "file" ∷ name ∷ path ∷ []
-words_of_form (QueueLine name) = codes "queue" ∷ name ∷ codes "serial" ∷ []
-words_of_form (BlockLine name None) = codes "block" ∷ name ∷ []
-words_of_form (BlockLine name (Some file)) = codes "block" ∷ name ∷ codes "lines" ∷ file ∷ []
-words_of_form MainLine = codes "main" ∷ []
-words_of_form (AsyncLine queue block) = codes "async" ∷ queue ∷ block ∷ []
-
--- what the table asks of a word beside its place: a path is no longer than one may be
-abbrev pub fits_form : LineForm → Bool
-fits_form (FileLine name path) = is_path path
-fits_form _ = true
-
--- a line of these words is written in the form
-pub record IsWrittenAs (words : List (List ℕ)) (form : LineForm) : Type 0 where
-  pub words_are : words ≡ words_of_form form
-  pub fits : fits_form form ≡ true
-
--- a line is of a form exactly where it is written in it
-abbrev pub FormsAreTheirWords : Type 0
-FormsAreTheirWords = (words : List (List ℕ)) (form : LineForm) → (form_of words ≡ Some form) ↔ IsWrittenAs words form
+-- what all words together mean
+abbrev pub form_of : DraftView → List (List ℕ) → Meant (Line (List ℕ))
+form_of d [] = Err NoForm
+form_of d (first ∷ words) = option_map_or (line_by d words) (keyword_of first) (Err NoForm)

@@ -1,11 +1,46 @@
--- What holds of a draft that right lines make.
-use Rattle.std.specs.Prelude.{◌<◌, length, IfSome}
-use Rattle.gcd_plan.specs.Validity.{IsPlan}
-use Rattle.gcd_forms.specs.FirstForms.{IsOfFirstForms}
+-- What holds of a draft that right lines make, and which lines are right.
+use Rattle.std.specs.Prelude.{◌≡◌, ℕ, ◌<◌, ◌&&◌, nat_le, not, Bool, true, List, length, Some, IfSome}
+use Rattle.std.specs.Option.{option_map_or}
+use Rattle.gcd_plan.specs.Kinds.{is_source}
+use Rattle.gcd_plan.specs.Limits.{max_time}
+use Rattle.gcd_plan.specs.Names.{is_path}
+use Rattle.gcd_plan.specs.PlanView.{PlanView}
+use Rattle.gcd_plan.specs.Validity.{IsPlan, is_object, is_work, is_submittable, is_act}
+use Rattle.gcd_plan.specs.declared.numbers.Run.{Run}
+use Rattle.gcd_plan.specs.declared.numbers.Run.TheVariants.{Block, Source}
+use Rattle.gcd_script.specs.declared.line.Line.{Line}
+use Rattle.gcd_script.specs.declared.line.Line.TheVariants.{DeclareFile, DeclareObject, DeclareBlock, SetUntil, SetCancel, OpenHandler, OpenMain, AddAct}
+use Rattle.gcd_script.specs.Changes.{new_object}
 use Rattle.gcd_script.specs.Drafts.{DraftView}
+use Rattle.gcd_script.specs.Judged.{is_untaken, is_allowed, has_room}
+use Rattle.gcd_script.specs.Names.{is_unused}
 
--- the plan so far is valid and of the first forms, and the open body is that of one of its blocks
-pub record IsDraft (draft : DraftView) : Type 0 where
-  pub valid : IsPlan draft.plan
-  pub forms : IsOfFirstForms draft.plan
-  pub body : IfSome draft.body (λ b. b.0 < length draft.plan.blocks)
+-- the plan has such a body: a block's, or a source's
+abbrev pub IsBody : PlanView → Run → Type 0
+IsBody plan (Block b) = b.0 < length plan.blocks
+IsBody plan (Source s) = is_source plan s.0 ≡ true
+
+-- the plan so far is valid, the open body is one of its bodies, and each object has its mark
+pub record IsDraft (d : DraftView) : Type 0 where
+  pub valid : IsPlan d.plan
+  pub body : IfSome d.body (IsBody d.plan)
+  pub marks : length d.handlers ≡ length d.plan.objects
+
+-- what a right line's words name is there, and of the kind that is asked
+abbrev pub Fits : DraftView → Line (List ℕ) → Type 0
+Fits d (DeclareFile name path) = (is_unused d.plan name ≡ true) × (is_path path ≡ true)
+Fits d (DeclareObject name kind target active path) =
+    (is_unused d.plan name ≡ true) × (is_object d.plan (new_object name kind target active path) ≡ true)
+Fits d (DeclareBlock name work) = (is_unused d.plan name ≡ true) × (option_map_or (is_work d.plan) work true ≡ true)
+Fits d (SetUntil ms) = (nat_le 1 ms && nat_le ms max_time) ≡ true
+Fits d (SetCancel s b) = (is_source d.plan s.0 ≡ true) × (is_submittable d.plan b ≡ true)
+Fits d (OpenHandler s) = is_source d.plan s.0 ≡ true
+Fits d OpenMain = Unit {0}
+Fits d (AddAct run act) = (d.body ≡ Some run) × (is_act d.plan act ≡ true)
+
+-- the line may follow the draft
+pub record IsRight (d : DraftView) (line : Line (List ℕ)) : Type 0 where
+  pub fits : Fits d line
+  pub untaken : is_untaken d line ≡ true
+  pub allowed : is_allowed line ≡ true
+  pub room : has_room d.plan line ≡ true

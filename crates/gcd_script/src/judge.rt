@@ -1,164 +1,182 @@
-// What may be wrong with a line of a form.
-ghost use Rattle.std.specs.Prelude.{◌≡◌, not, false};
-ghost use Rattle.std.specs.Option.{option_map_or};
-ghost use Rattle.gcd_plan.specs.PlanView.{PlanView, view_of};
-ghost use Rattle.gcd_script.specs.Drafts.{is_reserved};
-ghost use Rattle.gcd_script.specs.Faults.{first_refusal, is_file_name, is_block_name};
+// What all words of a line mean, and what is judged of the whole line.
+ghost use Rattle.std.specs.Prelude.{◌≡◌, ◌∷◌, map};
+ghost use Rattle.gcd_plan.specs.PlanView.{view_of};
+ghost use Rattle.gcd_plan.specs.Validity.{is_handler_act};
+ghost use Rattle.gcd_script.specs.Judged.{may_have, is_allowed};
+ghost use Rattle.gcd_script.specs.Views.{line_view};
 
 use crate::draft::Draft;
-use crate::form::Form;
-use crate::meaning::Meaning;
+use crate::keyword::Keyword;
+use crate::line::Line;
+use crate::meant::Meant;
 use crate::refusal::Refusal;
-use gcd_plan::{MAX_ACTS, MAX_BLOCKS, MAX_FILES, MAX_OBJECTS, Obj, is_name};
+use gcd_plan::{Act, Blk, MAX_ACTS, MAX_BLOCKS, MAX_FILES, MAX_OBJECTS, Obj, Run, block_of};
 
-// The first refusal whose test holds.
-fn first_refusal(rows: &[(Refusal, bool)]) -> Option<Refusal>
-    ensures { result ≡ first_refusal rows.now }
+// Whether a handler may have the act: it submits no block and waits for nothing.
+fn is_handler_act(act: Act) -> bool
+    ensures { result ≡ is_handler_act act }
 {
-    for (why, holds) in rows {
-        if *holds {
-            return Some(*why);
-        }
+    match act {
+        Act::Async(..) | Act::Barrier(..) | Act::Sync(..) | Act::BarrierSync(..) => false,
+        Act::GroupAsync(..) | Act::Notify(..) => false,
+        Act::GroupWait(_) | Act::Wait(_) => false,
+        Act::Enter(_) | Act::Leave(_) | Act::Signal(_) => true,
+        Act::Suspend(_) | Act::Resume(_) | Act::Activate(_) | Act::Target(..) => true,
+        Act::Merge(..) | Act::Cancel(_) => true,
+        Act::Retain(_) | Act::Release(_) => true,
     }
-    None
 }
 
-// Whether a name is one that nothing else may have.
-fn is_reserved(name: &str) -> bool
-    ensures { result ≡ is_reserved name.now }
+// Whether the body may have the act.
+fn may_have(run: Run, act: Act) -> bool
+    ensures { result ≡ may_have run act }
 {
-    name == "root" || name == "main"
+    match run {
+        Run::Block(_) => true,
+        Run::Source(_) => is_handler_act(act),
+    }
 }
 
-// Whether a known name is none of a file's.
-fn is_no_file(meaning: Option<Meaning>) -> bool
-    ensures { (plan : PlanView) → result ≡ option_map_or (λ m. not (is_file_name plan m)) meaning false }
+// Whether no act stands in a handler that may not have it.
+fn is_allowed(line: &Line<&str>) -> bool
+    ensures { result ≡ is_allowed (line_view line.now) }
 {
-    matches!(meaning, Some(Meaning::Object(_) | Meaning::Block(_)))
-}
-
-// Whether a known name is none of a block's.
-fn is_no_block(meaning: Option<Meaning>) -> bool
-    ensures { (plan : PlanView) → result ≡ option_map_or (λ m. not (is_block_name plan m)) meaning false }
-{
-    matches!(meaning, Some(Meaning::File(_) | Meaning::Object(_)))
+    match *line {
+        Line::DeclareFile { .. } => true,
+        Line::DeclareObject { .. } => true,
+        Line::DeclareBlock { .. } => true,
+        Line::SetUntil(_) => true,
+        Line::SetCancel { .. } => true,
+        Line::OpenHandler(_) => true,
+        Line::OpenMain => true,
+        Line::AddAct(run, act) => may_have(run, act),
+    }
 }
 
 impl<'a> Draft<'a> {
-    ghost use Rattle.gcd_plan.specs.Kinds.{is_queue};
-    ghost use Rattle.gcd_script.specs.Forms.{BlockLine, AsyncLine};
-    ghost use Rattle.gcd_script.specs.Faults.{refusals_of, is_unfit, is_queue_name, is_submitted_block};
+    ghost use Rattle.std.specs.Prelude.{is_none, true};
+    ghost use Rattle.std.specs.Option.{option_map_or};
+    ghost use Rattle.gcd_plan.specs.PlanView.{cancel_block};
+    ghost use Rattle.gcd_plan.specs.Validity.{block_of};
     ghost use Rattle.gcd_script.specs.Agreement.{DraftAgrees};
-    ghost use Rattle.gcd_script.specs.Views.{form_view, draft_view};
+    ghost use Rattle.gcd_script.specs.Forms.{line_by, form_of};
+    ghost use Rattle.gcd_script.specs.Judged.{is_free, is_untaken, has_room, line_of};
+    ghost use Rattle.gcd_script.specs.Meant.{meant};
+    ghost use Rattle.gcd_script.specs.Views.{draft_view};
 
-    // Whether a name can't be declared: it is no name, reserved or taken.
-    fn is_unfit(&self, name: &str) -> bool
+    // What the words after a known first one mean.
+    fn line_by(&self, keyword: Keyword, words: &[&'a str]) -> Meant<Line<&'a str>>
         requires { DraftAgrees self.now }
-        ensures { result ≡ is_unfit (view_of self.now.parts) name.now }
+        ensures { meant line_view result ≡ line_by (draft_view self.now) (map (λ w. w.now) words.now) keyword }
     {
-        !is_name(name.as_bytes()) || is_reserved(name) || self.meaning(name).is_some()
-    }
-
-    fn is_queue(&self, o: Obj) -> bool
-        ensures { result ≡ is_queue (view_of self.now.parts) o.0 }
-    {
-        match self.parts.objects.get(o.0 as usize) {
-            Some(object) => object.kind.is_queue(),
-            None => false,
+        match keyword {
+            Keyword::File => self.file_line(words),
+            Keyword::Queue => self.queue_line(words),
+            Keyword::Group => self.group_line(words),
+            Keyword::Semaphore => self.semaphore_line(words),
+            Keyword::Source => self.source_line(words),
+            Keyword::Cancelled => self.cancelled_line(words),
+            Keyword::Until => self.until_line(words),
+            Keyword::Block => self.block_line(words),
+            Keyword::Handler => self.handler_line(words),
+            Keyword::Main => self.main_line(words),
+            Keyword::Submit(how) => self.act_line(self.submit_act(how, words)),
+            Keyword::GroupSubmit(how) => self.act_line(self.group_submit_act(how, words)),
+            Keyword::OneObject(what) => self.act_line(self.object_act(what, words)),
+            Keyword::Target => self.act_line(self.target_act(words)),
+            Keyword::Merge => self.act_line(self.merge_act(words)),
         }
     }
 
-    // Whether a known name is none of a queue's.
-    fn is_no_queue(&self, meaning: Option<Meaning>) -> bool
-        ensures { result ≡ option_map_or (λ m. not (is_queue_name (view_of self.now.parts) m)) meaning false }
+    // What all words together mean.
+    fn form_of(&self, first: &str, words: &[&'a str]) -> Meant<Line<&'a str>>
+        requires { DraftAgrees self.now }
+        ensures { meant line_view result ≡ form_of (draft_view self.now) (first.now ∷ map (λ w. w.now) words.now) }
     {
-        match meaning {
-            Some(Meaning::Object(o)) => !self.is_queue(o),
-            Some(Meaning::File(_) | Meaning::Block(_)) => true,
-            None => false,
+        match Keyword::of_word(first) {
+            Some(keyword) => self.line_by(keyword, words),
+            None => Err(Refusal::NoForm),
         }
     }
 
-    // Whether an earlier line submits the block.
-    fn is_submitted(&self, meaning: Option<Meaning>) -> bool
+    // Whether no earlier line submits the block.
+    fn is_free(&self, b: Blk) -> bool
         requires { DraftAgrees self.now }
-        ensures { result ≡ option_map_or (is_submitted_block (view_of self.now.parts)) meaning false }
+        ensures { result ≡ is_free (view_of self.now.parts) b }
     {
-        match meaning {
-            Some(Meaning::Block(b)) => self.submitted.get(b.0 as usize).copied().unwrap_or(false),
-            _ => false,
+        !self.submitted.get(b.0 as usize).copied().unwrap_or(false)
+    }
+
+    // The same of the block that an act submits, if it submits one.
+    fn submits_free(&self, act: Act) -> bool
+        requires { DraftAgrees self.now }
+        ensures { result ≡ option_map_or (is_free (view_of self.now.parts)) (block_of act) true }
+    {
+        match block_of(act) {
+            Some(b) => self.is_free(b),
+            None => true,
         }
     }
 
-    /// The refusal of the lowest code that applies to a line of the form; None exactly where the line is right.
-    pub fn refusal(&self, form: &Form) -> Option<Refusal>
-        requires { DraftAgrees self.now }
-        ensures { result ≡ first_refusal (refusals_of (draft_view self.now) (form_view form.now)) }
+    // Whether the source has no cancellation block yet.
+    fn lacks_cancel(&self, s: Obj) -> bool
+        ensures { result ≡ is_none (cancel_block (view_of self.now.parts) s.0) }
     {
-        match *form {
-            Form::File { name, path: _ } => first_refusal(&[
-                (Refusal::BadName, self.is_unfit(name)),
-                (
-                    Refusal::PastLimit,
-                    self.parts.files.len() >= MAX_FILES as usize,
-                ),
-            ]),
-            Form::Queue { name } => first_refusal(&[
-                (Refusal::BadName, self.is_unfit(name)),
-                (
-                    Refusal::PastLimit,
-                    self.parts.objects.len() >= MAX_OBJECTS as usize,
-                ),
-            ]),
-            Form::Block { name, counts: None } => first_refusal(&[
-                (Refusal::BadName, self.is_unfit(name)),
-                (
-                    Refusal::PastLimit,
-                    self.parts.blocks.len() >= MAX_BLOCKS as usize,
-                ),
-            ]),
-            Form::Block {
-                name,
-                counts: Some(file),
-            } => self.refusal_of_work(name, file),
-            Form::Main => first_refusal(&[(Refusal::NotOneMain, self.has_main)]),
-            Form::Async { queue, block } => self.refusal_of_async(queue, block),
+        match self.parts.objects.get(s.0 as usize) {
+            Some(object) => object.cancel.is_none(),
+            None => true,
         }
     }
 
-    // The same of a block's line that names a file.
-    fn refusal_of_work(&self, name: &str, file: &str) -> Option<Refusal>
+    // Whether what the line takes is not taken.
+    fn is_untaken(&self, line: &Line<&str>) -> bool
         requires { DraftAgrees self.now }
-        ensures { result ≡ first_refusal (refusals_of (draft_view self.now) (BlockLine name.now (Some file.now))) }
+        ensures { result ≡ is_untaken (draft_view self.now) (line_view line.now) }
     {
-        let counted = self.meaning(file);
-        first_refusal(&[
-            (Refusal::BadName, self.is_unfit(name)),
-            (Refusal::UnknownName, counted.is_none()),
-            (Refusal::OtherKind, is_no_file(counted)),
-            (
-                Refusal::PastLimit,
-                self.parts.blocks.len() >= MAX_BLOCKS as usize,
-            ),
-        ])
+        match *line {
+            Line::DeclareFile { .. } => true,
+            Line::DeclareObject { .. } => true,
+            Line::DeclareBlock { .. } => true,
+            Line::SetUntil(_) => true,
+            Line::SetCancel { source, block } => self.is_free(block) && self.lacks_cancel(source),
+            Line::OpenHandler(s) => !self.handlers.get(s.0 as usize).copied().unwrap_or(false),
+            Line::OpenMain => true,
+            Line::AddAct(_, act) => self.submits_free(act),
+        }
     }
 
-    // The same of an act's line.
-    fn refusal_of_async(&self, queue: &str, block: &str) -> Option<Refusal>
+    // Whether there is room for what the line adds.
+    fn has_room(&self, line: &Line<&str>) -> bool
         requires { DraftAgrees self.now }
-        ensures { result ≡ first_refusal (refusals_of (draft_view self.now) (AsyncLine queue.now block.now)) }
+        ensures { result ≡ has_room (view_of self.now.parts) (line_view line.now) }
     {
-        let to = self.meaning(queue);
-        let submitted = self.meaning(block);
-        first_refusal(&[
-            (Refusal::NoForm, self.body.is_none()),
-            (Refusal::UnknownName, to.is_none() | submitted.is_none()),
-            (
-                Refusal::OtherKind,
-                self.is_no_queue(to) | is_no_block(submitted),
-            ),
-            (Refusal::Repeated, self.is_submitted(submitted)),
-            (Refusal::PastLimit, self.acts >= MAX_ACTS as usize),
-        ])
+        match *line {
+            Line::DeclareFile { .. } => self.parts.files.len() < MAX_FILES as usize,
+            Line::DeclareObject { .. } => self.parts.objects.len() < MAX_OBJECTS as usize,
+            Line::DeclareBlock { .. } => self.parts.blocks.len() < MAX_BLOCKS as usize,
+            Line::SetUntil(_) => true,
+            Line::SetCancel { .. } => true,
+            Line::OpenHandler(_) => true,
+            Line::OpenMain => true,
+            Line::AddAct(..) => self.acts < MAX_ACTS as usize,
+        }
+    }
+
+    /// What the words of a line mean; `words` are those after the first.
+    pub fn line_of(&self, first: &str, words: &[&'a str]) -> Meant<Line<&'a str>>
+        requires { DraftAgrees self.now }
+        ensures { meant line_view result ≡ line_of (draft_view self.now) (first.now ∷ map (λ w. w.now) words.now) }
+    {
+        let line = self.form_of(first, words)?;
+        if !self.is_untaken(&line) {
+            return Err(Refusal::Repeated);
+        }
+        if !is_allowed(&line) {
+            return Err(Refusal::InHandler);
+        }
+        if !self.has_room(&line) {
+            return Err(Refusal::PastLimit);
+        }
+        Ok(line)
     }
 }

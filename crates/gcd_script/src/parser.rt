@@ -1,48 +1,76 @@
 // The plan of a script.
-ghost use Rattle.std.specs.Prelude.{◌≡◌, ◌<◌, None, length, IfOk, IfErr, OnOk};
-ghost use Rattle.gcd_forms.specs.FirstForms.{IsOfFirstForms};
+ghost use Rattle.std.specs.Prelude.{◌≡◌, ◌<◌, ◌+◌, Ok, IfOk, IfErr, OnOk, length, option_map};
+ghost use Rattle.std.specs.Option.{option_map_or};
 ghost use Rattle.gcd_plan.specs.Validity.{IsPlan};
-ghost use Rattle.gcd_script.specs.Drafts.{after_line};
-ghost use Rattle.gcd_script.specs.Faults.{refusal_of, IsScriptOf};
 ghost use Rattle.gcd_script.specs.Agreement.{DraftAgrees};
-ghost use Rattle.gcd_script.specs.Views.{draft_view};
+ghost use Rattle.gcd_script.specs.Faults.{is_mark, line_meant, after_line, IsScriptOf};
+ghost use Rattle.gcd_script.specs.Meant.{meant};
 ghost use Rattle.gcd_script.specs.Refusals.{IsRefusal, IsLineRefusal};
 ghost use Rattle.gcd_script.specs.Sound.{IsDraft};
+ghost use Rattle.gcd_script.specs.Views.{draft_view, line_view};
 
 use crate::draft::Draft;
 use crate::fault::ParseFault;
-use crate::form::Form;
-use crate::lines::{next_line, printable, words_of};
+use crate::line::Line;
+use crate::meant::Meant;
 use crate::refusal::Refusal;
 use gcd_plan::Plan;
+use gcd_text::{first_word, next_line, printable, words};
 use std::alloc::Global;
 
-// Takes one line more, the line of that number. After an error the draft is of no use.
-fn take_line<'a>(
-    draft: &mut Draft<'a>,
-    alloc: Global,
-    number: u32,
-    line: &'a [u8],
-) -> Result<(), ParseFault>
-    requires agrees { DraftAgrees draft.old }
-    requires sound { IsDraft (draft_view draft.old) }
-    ensures right { OnOk result (refusal_of (draft_view draft.old) line.now ≡ None) }
-    ensures view { OnOk result (draft_view draft.new ≡ after_line number line.now (draft_view draft.old)) }
-    ensures agrees { OnOk result (DraftAgrees draft.new) }
-    ensures refused { IfErr result (IsLineRefusal (draft_view draft.old) number line.now) }
+// Whether the word begins with `#`.
+fn is_mark(word: &str) -> bool
+    ensures { result ≡ is_mark word.now }
+{
+    match word.as_bytes().first() {
+        Some(c) => *c == b'#',
+        None => false,
+    }
+}
+
+// What a line means; None where it is skipped.
+fn line_meant<'a>(draft: &Draft<'a>, line: &'a [u8]) -> Meant<Option<Line<&'a str>>>
+    requires { DraftAgrees draft.now }
+    ensures { meant (option_map line_view) result ≡ line_meant (draft_view draft.now) line.now }
 {
     let Some(text) = printable(line) else {
-        return Err(ParseFault::refused(number, Refusal::NoForm));
+        return Err(Refusal::NoForm);
     };
-    let words = words_of(alloc, text)?;
-    let Some(form) = Form::of_words(&words) else {
-        return Err(ParseFault::refused(number, Refusal::NoForm));
+    let Some((first, rest)) = first_word(text) else {
+        return Ok(None);
     };
-    if let Some(why) = draft.refusal(&form) {
-        return Err(ParseFault::refused(number, why));
+    if is_mark(first) {
+        return Ok(None);
     }
-    draft.add(alloc, number, &form)?;
-    Ok(())
+    let Some(words) = words(rest) else {
+        return Err(Refusal::NoForm);
+    };
+    let line = draft.line_of(first, words.as_slice())?;
+    Ok(Some(line))
+}
+
+// Takes one line more. After an error the draft is of no use.
+fn take_line<'a>(draft: &mut Draft<'a>, alloc: Global, line: &'a [u8]) -> Result<(), ParseFault>
+    requires agrees { DraftAgrees draft.old }
+    requires sound { IsDraft (draft_view draft.old) }
+    requires room { draft.old.lines < u32.MAX }
+    ensures view { OnOk result (after_line (draft_view draft.old) line.now ≡ Ok (draft_view draft.new)) }
+    ensures agrees { OnOk result (DraftAgrees draft.new) }
+    ensures sound { OnOk result (IsDraft (draft_view draft.new)) }
+    ensures counted { OnOk result (draft.new.lines ≡ draft.old.lines + 1) }
+    ensures refused { IfErr result (IsLineRefusal (draft_view draft.old) line.now) }
+{
+    match line_meant(draft, line) {
+        Ok(Some(line)) => {
+            draft.add(alloc, &line)?;
+            Ok(())
+        }
+        Ok(None) => {
+            draft.lines += 1;
+            Ok(())
+        }
+        Err(why) => Err(ParseFault::refused(draft.lines + 1, why)),
+    }
 }
 
 /// The plan that a script declares (this project's own rule).
@@ -56,19 +84,16 @@ pub fn parse(alloc: Global, bytes: &[u8]) -> Result<Plan, ParseFault>
     requires { length bytes.now < u32.MAX }
     ensures script { IfOk result (IsScriptOf bytes.now) }
     ensures valid { IfOk result IsPlan }
-    ensures forms { IfOk result IsOfFirstForms }
     ensures refused { IfErr result (IsRefusal bytes.now) }
 {
     let mut draft = Draft::new(alloc)?;
-    let mut number = 0;
     let mut rest = bytes;
     while let Some((line, more)) = next_line(rest) {
-        number += 1;
-        take_line(&mut draft, alloc, number, line)?;
+        take_line(&mut draft, alloc, line)?;
         rest = more;
     }
     if !draft.has_main {
-        return Err(ParseFault::refused(number + 1, Refusal::NotOneMain));
+        return Err(ParseFault::refused(draft.lines + 1, Refusal::NotOneMain));
     }
     Ok(Plan::of_valid_parts(draft.into_parts()))
 }

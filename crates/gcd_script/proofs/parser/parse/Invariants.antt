@@ -1,13 +1,16 @@
-use Rattle.std.proofs.Common.{length}
+use Rattle.std.proofs.Common.{◌+◌, ◌≤◌, length}
 use Rattle.gcd_script.specs.Agreement.{DraftAgrees}
+use Rattle.gcd_script.specs.Sound.{IsDraft}
 use Rattle.gcd_script.specs.Views.{draft_view}
-use Rattle.gcd_script.proofs.Reading.{HasRead}
+use Rattle.gcd_script.proofs.Reading.{Leads}
 use Rattle.gcd_script.proofs.parser.parse.Given as goal
 
 abbrev pub invariant-loop-line : goal.invariant-loop-line
 invariant-loop-line l = record {
-  read : HasRead l.bytes l.number l.rest (draft_view l.draft);
+  leads : Leads l.bytes (draft_view l.draft) l.rest;
   agrees : DraftAgrees l.draft;
+  sound : IsDraft (draft_view l.draft);
+  short : l.draft.lines + length l.rest ≤ length l.bytes;
 }
 
 abbrev pub decreases-loop-line : goal.decreases-loop-line

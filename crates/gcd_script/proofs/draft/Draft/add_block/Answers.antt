@@ -9,8 +9,6 @@ pub returns-clause-agrees : goal.returns-clause-agrees
 returns-clause-agrees c =
     let old = c.args.self.now in
     let same = c.len.ensures ∙ seen_length blk_view old.parts.blocks in
-    let look = look_up c.declare.new.meanings in
-    let plan = view_of old.parts in
     rw (c.in_ok-push.ensures.items, c.in_ok-push_block.ensures)
-    (block_agrees (look_up old.meanings) look old.submitted.items old.acts plan c.requires.agrees
-    c.args.name.now c.args.work c.requires.unfit c.len.result same c.in_ok-declare.ensures)
+    (block_agrees (look_up old.meanings) (look_up c.declare.new.meanings) old.submitted.items old.acts (view_of old.parts) c.requires.agrees
+    c.args.name.now c.args.work c.requires.unused c.len.result same c.in_ok-declare.ensures)

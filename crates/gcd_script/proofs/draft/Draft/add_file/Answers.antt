@@ -1,4 +1,4 @@
-use Rattle.std.proofs.Common.{◌∙◌, sym, subst}
+use Rattle.std.proofs.Common.{◌+◌, ◌∙◌, sym, subst}
 use Rattle.gcd_plan.specs.PlanView.{view_of, file_view}
 use Rattle.gcd_script.specs.Agreement.{AgreeWithPlan, look_up}
 use Rattle.gcd_script.proofs.Agreement.{file_agrees}
@@ -11,4 +11,4 @@ returns-clause-agrees c =
     let same = c.len-file.ensures ∙ seen_length file_view old.parts.files in
     subst (AgreeWithPlan (look_up c.declare.new.meanings) old.submitted.items old.acts) (sym c.in_ok-push_file.ensures)
     (file_agrees (look_up old.meanings) (look_up c.declare.new.meanings) old.submitted.items old.acts (view_of old.parts) c.requires.agrees
-    c.args.number c.args.name.now c.args.path.now c.requires.unfit c.len-file.result same c.in_ok-declare.ensures)
+    (old.lines + 1) c.args.name.now c.args.path.now c.requires.unused c.len-file.result same c.in_ok-declare.ensures)

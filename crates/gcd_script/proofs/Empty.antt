@@ -1,0 +1,36 @@
+-- What stands beside the plan before the first line.
+use Rattle.std.proofs.Common.{ℕ, zero, suc, ◌≡◌, ◌==◌, Bool, true, false, cond, List, [], ◌∷◌, Option, Some, None, option_map, codes, get_or, refl, sym, ap, ◌∙◌}
+use Rattle.std.specs.List.{list_any}
+use Rattle.std.specs.Option.{option_or}
+use Rattle.std.specs.Str.{bytes_eq}
+use Rattle.gcd_plan.specs.Validity.{submitted_blocks}
+use Rattle.gcd_script.specs.declared.meaning.Meaning.{Meaning}
+use Rattle.gcd_script.specs.declared.meaning.Meaning.TheVariants.{File, Object, Block}
+use Rattle.gcd_script.specs.Agreement.{AgreeWithPlan, Declares}
+use Rattle.gcd_script.specs.Drafts.{empty_draft}
+use Rattle.gcd_script.specs.Names.{meaning_of}
+use Rattle.gcd_script.proofs.Places.{same_bytes, bytes_same}
+
+-- `root` alone has a meaning
+only_root : (q : List ℕ) → meaning_of empty_draft.plan q ≡ cond (bytes_eq (codes "root") q) (Some (Object (record { 0 = 0 }))) None
+only_root q =
+    elim (bytes_eq (codes "root") q) as (λ v. bytes_eq (codes "root") q ≡ v → meaning_of empty_draft.plan q ≡ cond v (Some (Object (record { 0 = 0 }))) None) [
+      | true ↦ λ e. ap (meaning_of empty_draft.plan) (sym (same_bytes (codes "root") q e))
+      | false ↦ λ e.
+          elim (bytes_eq q (codes "root")) as (λ w. bytes_eq q (codes "root") ≡ w → cond (bytes_eq q (codes "main")) None (option_or (option_map (λ o. Object (record { 0 = o })) (cond w (Some 0) None)) (option_map (λ b. Block (record { 0 = b })) (cond (bytes_eq q (codes "main")) (Some 0) None))) ≡ None) [
+            | true ↦ λ r. let same = same_bytes q (codes "root") r in let no : true ≡ false = sym (bytes_same (codes "root")) ∙ ap (bytes_eq (codes "root")) (sym same) ∙ e in cc
+            | false ↦ λ r. elim (bytes_eq q (codes "main")) as (λ m. cond m None (option_map (λ b. Block (record { 0 = b })) (cond m (Some 0) None)) ≡ None) [ true ↦ refl | false ↦ refl ]
+          ] refl
+    ] refl
+
+one_flag : (b : ℕ) → get_or (false ∷ []) b false ≡ false
+one_flag zero = refl
+one_flag (suc b) = refl
+
+pub empty_agrees : (old new : List ℕ → Option Meaning) → ((q : List ℕ) → old q ≡ None) → Declares old new (codes "root") (Object (record { 0 = 0 })) → AgreeWithPlan new (false ∷ []) 0 empty_draft.plan
+empty_agrees old new none adds = record {
+  means = λ q. adds q ∙ ap (cond (bytes_eq (codes "root") q) (Some (Object (record { 0 = 0 })))) (none q) ∙ sym (only_root q);
+  flags = refl;
+  blocks = one_flag;
+  count = refl;
+}

@@ -1,0 +1,72 @@
+-- What is judged of a whole line: codes above those of words, so that they count only where all its words have a meaning
+-- (this project's own rules).
+use Rattle.std.specs.Prelude.{ℕ, ◌==◌, nat_lt, not, ◌&&◌, Bool, true, false, if◌then◌else◌, List, length, is_none, Ok, Err}
+use Rattle.std.specs.List.{list_any, slice_index_or}
+use Rattle.std.specs.Option.{option_map_or}
+use Rattle.gcd_plan.specs.Limits.{max_files, max_objects, max_blocks, max_acts}
+use Rattle.gcd_plan.specs.PlanView.{PlanView, cancel_block}
+use Rattle.gcd_plan.specs.Validity.{submitted_blocks, act_count, block_of, is_handler_act}
+use Rattle.gcd_plan.specs.declared.act.Act.{Act}
+use Rattle.gcd_plan.specs.declared.numbers.Blk.{Blk}
+use Rattle.gcd_plan.specs.declared.numbers.Run.{Run}
+use Rattle.gcd_plan.specs.declared.numbers.Run.TheVariants.{Block, Source}
+use Rattle.gcd_script.specs.declared.line.Line.{Line}
+use Rattle.gcd_script.specs.declared.line.Line.TheVariants.{DeclareFile, DeclareObject, DeclareBlock, SetUntil, SetCancel, OpenHandler, OpenMain, AddAct}
+use Rattle.gcd_script.specs.declared.refusal.Refusal.TheVariants.{Repeated, InHandler, PastLimit}
+use Rattle.gcd_script.specs.Drafts.{DraftView}
+use Rattle.gcd_script.specs.Forms.{form_of}
+use Rattle.gcd_script.specs.Meant.{Meant, then_meant}
+
+-- no earlier line submits the block
+abbrev pub is_free : PlanView → Blk → Bool
+is_free plan b = not (list_any (λ c. c.0 == b.0) (submitted_blocks plan))
+
+-- what the line takes is not taken: its block, or the handler or the cancellation block of its source
+abbrev pub is_untaken : DraftView → Line (List ℕ) → Bool
+is_untaken d (DeclareFile name path) = true
+is_untaken d (DeclareObject name kind target active path) = true
+is_untaken d (DeclareBlock name work) = true
+is_untaken d (SetUntil ms) = true
+is_untaken d (SetCancel s b) = is_free d.plan b && is_none (cancel_block d.plan s.0)
+is_untaken d (OpenHandler s) = not (slice_index_or d.handlers s.0 false)
+is_untaken d OpenMain = true
+is_untaken d (AddAct run act) = option_map_or (is_free d.plan) (block_of act) true
+
+-- the body may have the act
+abbrev pub may_have : Run → Act → Bool
+may_have (Block b) act = true
+may_have (Source s) act = is_handler_act act
+
+-- no act stands in a handler that may not have it
+abbrev pub is_allowed : Line (List ℕ) → Bool
+is_allowed (DeclareFile name path) = true
+is_allowed (DeclareObject name kind target active path) = true
+is_allowed (DeclareBlock name work) = true
+is_allowed (SetUntil ms) = true
+is_allowed (SetCancel s b) = true
+is_allowed (OpenHandler s) = true
+is_allowed OpenMain = true
+is_allowed (AddAct run act) = may_have run act
+
+-- there is room for what the line adds
+abbrev pub has_room : PlanView → Line (List ℕ) → Bool
+has_room plan (DeclareFile name path) = nat_lt (length plan.files) max_files
+has_room plan (DeclareObject name kind target active path) = nat_lt (length plan.objects) max_objects
+has_room plan (DeclareBlock name work) = nat_lt (length plan.blocks) max_blocks
+has_room plan (SetUntil ms) = true
+has_room plan (SetCancel s b) = true
+has_room plan (OpenHandler s) = true
+has_room plan OpenMain = true
+has_room plan (AddAct run act) = nat_lt (act_count plan) max_acts
+
+-- the line, or the lowest of these refusals
+abbrev pub judged : DraftView → Line (List ℕ) → Meant (Line (List ℕ))
+judged d line =
+    if not (is_untaken d line) then Err Repeated
+    else if not (is_allowed line) then Err InHandler
+    else if not (has_room d.plan line) then Err PastLimit
+    else Ok line
+
+-- what the words of a line mean
+abbrev pub line_of : DraftView → List (List ℕ) → Meant (Line (List ℕ))
+line_of d words = then_meant (judged d) (form_of d words)

@@ -1,0 +1,183 @@
+// What the lines of acts mean, by the words after the first.
+ghost use Rattle.std.specs.Prelude.{◌≡◌, [], ◌∷◌, map};
+ghost use Rattle.gcd_plan.specs.PlanView.{view_of};
+ghost use Rattle.gcd_script.specs.Acts.{submitting, group_submitting, asked_of, acting};
+
+use crate::draft::Draft;
+use crate::keyword::{GroupSubmission, ObjectAct, Submission};
+use crate::line::Line;
+use crate::meant::{Meant, both};
+use crate::names::Asked;
+use crate::refusal::Refusal;
+use crate::words::number;
+use gcd_plan::{Act, Blk, MAX_VALUE, Obj};
+
+impl Submission {
+    // The act that submits a block to a queue.
+    fn act(self, queue: Obj, block: Blk) -> Act
+        ensures { result ≡ submitting self queue block }
+    {
+        match self {
+            Submission::Async => Act::Async(queue, block),
+            Submission::Barrier => Act::Barrier(queue, block),
+            Submission::Sync => Act::Sync(queue, block),
+            Submission::BarrierSync => Act::BarrierSync(queue, block),
+        }
+    }
+}
+
+impl GroupSubmission {
+    // The act that submits a block to a queue for a group.
+    fn act(self, group: Obj, queue: Obj, block: Blk) -> Act
+        ensures { result ≡ group_submitting self group queue block }
+    {
+        match self {
+            GroupSubmission::GroupAsync => Act::GroupAsync(group, queue, block),
+            GroupSubmission::Notify => Act::Notify(group, queue, block),
+        }
+    }
+}
+
+impl ObjectAct {
+    // What the act asks of its object's kind.
+    fn asked(self) -> Asked
+        ensures { result ≡ asked_of self }
+    {
+        match self {
+            ObjectAct::Enter => Asked::Group,
+            ObjectAct::Leave => Asked::Group,
+            ObjectAct::GroupWait => Asked::Group,
+            ObjectAct::Signal => Asked::Semaphore,
+            ObjectAct::Wait => Asked::Semaphore,
+            ObjectAct::Suspend => Asked::Node,
+            ObjectAct::Resume => Asked::Node,
+            ObjectAct::Activate => Asked::Node,
+            ObjectAct::Cancel => Asked::Source,
+            ObjectAct::Retain => Asked::Any,
+            ObjectAct::Release => Asked::Any,
+        }
+    }
+
+    // The act on its object.
+    fn act(self, o: Obj) -> Act
+        ensures { result ≡ acting self o }
+    {
+        match self {
+            ObjectAct::Enter => Act::Enter(o),
+            ObjectAct::Leave => Act::Leave(o),
+            ObjectAct::GroupWait => Act::GroupWait(o),
+            ObjectAct::Signal => Act::Signal(o),
+            ObjectAct::Wait => Act::Wait(o),
+            ObjectAct::Suspend => Act::Suspend(o),
+            ObjectAct::Resume => Act::Resume(o),
+            ObjectAct::Activate => Act::Activate(o),
+            ObjectAct::Cancel => Act::Cancel(o),
+            ObjectAct::Retain => Act::Retain(o),
+            ObjectAct::Release => Act::Release(o),
+        }
+    }
+}
+
+impl<'a> Draft<'a> {
+    ghost use Rattle.gcd_script.specs.Acts.{act_line, submit_act, group_submit_act, object_act, target_act, merge_act};
+    ghost use Rattle.gcd_script.specs.Agreement.{DraftAgrees};
+    ghost use Rattle.gcd_script.specs.Meant.{meant};
+    ghost use Rattle.gcd_script.specs.Views.{line_view};
+
+    /// An act of the open body; no form where none is open.
+    pub fn act_line(&self, act: Meant<Act>) -> Meant<Line<&'a str>>
+        ensures { meant line_view result ≡ act_line self.now.body act }
+    {
+        let (run, act) = both(self.body.ok_or(Refusal::NoForm), act)?;
+        Ok(Line::AddAct(run, act))
+    }
+
+    /// `async Q B`, `barrier Q B`, `sync Q B`, `barrier_sync Q B`.
+    pub fn submit_act(&self, how: Submission, words: &[&str]) -> Meant<Act>
+        requires { DraftAgrees self.now }
+        ensures { result ≡ submit_act (view_of self.now.parts) how (map (λ w. w.now) words.now) }
+    {
+        match *words {
+            [queue, block] => {
+                let (queue, block) = both(self.object(Asked::Queue, queue), self.block(block))?;
+                Ok(how.act(queue, block))
+            }
+            _ => Err(Refusal::NoForm),
+        }
+    }
+
+    /// `group_async G Q B`, `notify G Q B`.
+    pub fn group_submit_act(&self, how: GroupSubmission, words: &[&str]) -> Meant<Act>
+        requires { DraftAgrees self.now }
+        ensures { result ≡ group_submit_act (view_of self.now.parts) how (map (λ w. w.now) words.now) }
+    {
+        match *words {
+            [group, queue, block] => self.submitted_for(how, group, queue, block),
+            _ => Err(Refusal::NoForm),
+        }
+    }
+
+    fn submitted_for(
+        &self,
+        how: GroupSubmission,
+        group: &str,
+        queue: &str,
+        block: &str,
+    ) -> Meant<Act>
+        requires { DraftAgrees self.now }
+        ensures { result ≡ group_submit_act (view_of self.now.parts) how (group.now ∷ queue.now ∷ block.now ∷ []) }
+    {
+        let submitted = both(self.object(Asked::Queue, queue), self.block(block));
+        let (group, (queue, block)) = both(self.object(Asked::Group, group), submitted)?;
+        Ok(how.act(group, queue, block))
+    }
+
+    /// The acts on one object, which is not `root`.
+    pub fn object_act(&self, what: ObjectAct, words: &[&str]) -> Meant<Act>
+        requires { DraftAgrees self.now }
+        ensures { result ≡ object_act (view_of self.now.parts) what (map (λ w. w.now) words.now) }
+    {
+        match *words {
+            [object] => self.acted(what, object),
+            _ => Err(Refusal::NoForm),
+        }
+    }
+
+    fn acted(&self, what: ObjectAct, object: &str) -> Meant<Act>
+        requires { DraftAgrees self.now }
+        ensures { result ≡ object_act (view_of self.now.parts) what (object.now ∷ []) }
+    {
+        let object = self.object_but_root(what.asked(), object)?;
+        Ok(what.act(object))
+    }
+
+    /// `target O T` (dispatch_set_target_queue(3)).
+    pub fn target_act(&self, words: &[&str]) -> Meant<Act>
+        requires { DraftAgrees self.now }
+        ensures { result ≡ target_act (view_of self.now.parts) (map (λ w. w.now) words.now) }
+    {
+        match *words {
+            [object, target] => {
+                let object = self.object_but_root(Asked::Node, object);
+                let (object, target) = both(object, self.object(Asked::Queue, target))?;
+                Ok(Act::Target(object, target))
+            }
+            _ => Err(Refusal::NoForm),
+        }
+    }
+
+    /// `merge S N` (dispatch_source_merge_data(3)).
+    pub fn merge_act(&self, words: &[&str]) -> Meant<Act>
+        requires { DraftAgrees self.now }
+        ensures { result ≡ merge_act (view_of self.now.parts) (map (λ w. w.now) words.now) }
+    {
+        match *words {
+            [source, value] => {
+                let source = self.object(Asked::MergeSource, source);
+                let (source, value) = both(source, number(0, MAX_VALUE, value))?;
+                Ok(Act::Merge(source, value))
+            }
+            _ => Err(Refusal::NoForm),
+        }
+    }
+}

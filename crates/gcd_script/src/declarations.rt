@@ -1,0 +1,290 @@
+// What the lines that declare something mean, by the words after the first.
+ghost use Rattle.std.specs.Prelude.{◌≡◌, [], ◌∷◌, map};
+ghost use Rattle.gcd_plan.specs.Limits.{max_time, max_value};
+ghost use Rattle.gcd_plan.specs.PlanView.{view_of};
+ghost use Rattle.gcd_plan.specs.declared.kind.Kind.TheVariants.{Semaphore, Timer, Read};
+ghost use Rattle.gcd_script.specs.Declarations.{root};
+ghost use Rattle.gcd_script.specs.Meant.{meant, both};
+ghost use Rattle.gcd_script.specs.Words.{path, number, queue};
+
+use crate::draft::Draft;
+use crate::line::Line;
+use crate::meant::{Meant, both, must};
+use crate::names::Asked;
+use crate::refusal::Refusal;
+use crate::words::{count, counting, merge_kind, number, path, queue_kind, range, work};
+use gcd_plan::{Kind, MAX_TIME, MAX_VALUE, Obj, WHOLE_FILE, Work};
+
+const ROOT: Obj = Obj(0);
+
+impl<'a> Draft<'a> {
+    ghost use Rattle.gcd_script.specs.Agreement.{DraftAgrees};
+    ghost use Rattle.gcd_script.specs.Declarations.{file_line, object_line, queue_line, group_line, semaphore_line, source_line, cancelled_line, until_line, work_line, block_line, handler_line, main_line};
+    ghost use Rattle.gcd_script.specs.Views.{line_view};
+
+    /// `file F PATH`.
+    pub fn file_line(&self, words: &[&'a str]) -> Meant<Line<&'a str>>
+        requires { DraftAgrees self.now }
+        ensures { meant line_view result ≡ file_line (view_of self.now.parts) (map (λ w. w.now) words.now) }
+    {
+        match *words {
+            [name, feed] => self.named_file(name, feed),
+            _ => Err(Refusal::NoForm),
+        }
+    }
+
+    fn named_file(&self, name: &'a str, place: &'a str) -> Meant<Line<&'a str>>
+        requires { DraftAgrees self.now }
+        ensures { meant line_view result ≡ file_line (view_of self.now.parts) (name.now ∷ place.now ∷ []) }
+    {
+        both(self.new_name(name), path(place))?;
+        Ok(Line::DeclareFile { name, path: place })
+    }
+
+    // An object with a new name.
+    fn object_line(
+        &self,
+        name: &'a str,
+        what: Meant<(Kind, Obj)>,
+        active: bool,
+        path: &'a str,
+    ) -> Meant<Line<&'a str>>
+        requires { DraftAgrees self.now }
+        ensures { meant line_view result ≡ object_line (view_of self.now.parts) name.now what active path.now }
+    {
+        let ((), (kind, target)) = both(self.new_name(name), what)?;
+        Ok(Line::DeclareObject {
+            name,
+            kind,
+            target,
+            active,
+            path,
+        })
+    }
+
+    /// `queue Q K`, `queue Q K inactive`, `queue Q K on T`, `queue Q K on T inactive` (dispatch_queue_create(3)).
+    pub fn queue_line(&self, words: &[&'a str]) -> Meant<Line<&'a str>>
+        requires { DraftAgrees self.now }
+        ensures { meant line_view result ≡ queue_line (view_of self.now.parts) (map (λ w. w.now) words.now) }
+    {
+        match *words {
+            [name, kind] => self.object_line(name, both(queue_kind(kind), Ok(ROOT)), true, ""),
+            [name, kind, inactive] => {
+                if inactive != "inactive" {
+                    return Err(Refusal::NoForm);
+                }
+                self.object_line(name, both(queue_kind(kind), Ok(ROOT)), false, "")
+            }
+            [name, kind, on, target] => {
+                if on != "on" {
+                    return Err(Refusal::NoForm);
+                }
+                let target = self.object(Asked::Queue, target);
+                self.object_line(name, both(queue_kind(kind), target), true, "")
+            }
+            [name, kind, on, target, inactive] => {
+                if on != "on" {
+                    return Err(Refusal::NoForm);
+                }
+                if inactive != "inactive" {
+                    return Err(Refusal::NoForm);
+                }
+                let target = self.object(Asked::Queue, target);
+                self.object_line(name, both(queue_kind(kind), target), false, "")
+            }
+            _ => Err(Refusal::NoForm),
+        }
+    }
+
+    /// `group G` (dispatch_group_create(3)).
+    pub fn group_line(&self, words: &[&'a str]) -> Meant<Line<&'a str>>
+        requires { DraftAgrees self.now }
+        ensures { meant line_view result ≡ group_line (view_of self.now.parts) (map (λ w. w.now) words.now) }
+    {
+        match *words {
+            [name] => self.object_line(name, Ok((Kind::Group, ROOT)), true, ""),
+            _ => Err(Refusal::NoForm),
+        }
+    }
+
+    /// `semaphore S N` (dispatch_semaphore_create(3)).
+    pub fn semaphore_line(&self, words: &[&'a str]) -> Meant<Line<&'a str>>
+        requires { DraftAgrees self.now }
+        ensures { meant line_view result ≡ semaphore_line (view_of self.now.parts) (map (λ w. w.now) words.now) }
+    {
+        match *words {
+            [name, value] => self.object_line(name, semaphore_kind(value), true, ""),
+            _ => Err(Refusal::NoForm),
+        }
+    }
+
+    /// `source S add on T`, `source S or on T`, `source S read PATH on T`, `source S timer START EVERY on T`
+    /// (dispatch_source_create(3)).
+    pub fn source_line(&self, words: &[&'a str]) -> Meant<Line<&'a str>>
+        requires { DraftAgrees self.now }
+        ensures { meant line_view result ≡ source_line (view_of self.now.parts) (map (λ w. w.now) words.now) }
+    {
+        match *words {
+            [name, kind, on, target] => {
+                if on != "on" {
+                    return Err(Refusal::NoForm);
+                }
+                let target = self.object(Asked::Queue, target);
+                self.object_line(name, both(merge_kind(kind), target), false, "")
+            }
+            [name, read, feed, on, target] => {
+                if read != "read" {
+                    return Err(Refusal::NoForm);
+                }
+                if on != "on" {
+                    return Err(Refusal::NoForm);
+                }
+                self.object_line(name, self.read_kind(feed, target), false, feed)
+            }
+            [name, timer, start, every, on, target] => {
+                if timer != "timer" {
+                    return Err(Refusal::NoForm);
+                }
+                if on != "on" {
+                    return Err(Refusal::NoForm);
+                }
+                let target = self.object(Asked::Queue, target);
+                self.object_line(name, both(timer_kind(start, every), target), false, "")
+            }
+            _ => Err(Refusal::NoForm),
+        }
+    }
+
+    // A read source of this feed on this target.
+    fn read_kind(&self, feed: &str, target: &str) -> Meant<(Kind, Obj)>
+        requires { DraftAgrees self.now }
+        ensures { result ≡ meant (λ (fits, queue). (Read, queue)) (both (path feed.now) (queue (view_of self.now.parts) target.now)) }
+    {
+        let ((), queue) = both(path(feed), self.object(Asked::Queue, target))?;
+        Ok((Kind::Read, queue))
+    }
+
+    /// `cancelled S B` (dispatch_source_set_cancel_handler(3)).
+    pub fn cancelled_line(&self, words: &[&'a str]) -> Meant<Line<&'a str>>
+        requires { DraftAgrees self.now }
+        ensures { meant line_view result ≡ cancelled_line (view_of self.now.parts) (map (λ w. w.now) words.now) }
+    {
+        match *words {
+            [source, block] => {
+                let source = self.object(Asked::Source, source);
+                let (source, block) = both(source, self.block(block))?;
+                Ok(Line::SetCancel { source, block })
+            }
+            _ => Err(Refusal::NoForm),
+        }
+    }
+
+    /// `until MS`.
+    pub fn until_line(&self, words: &[&'a str]) -> Meant<Line<&'a str>>
+        ensures { meant line_view result ≡ until_line self.now.has_until (map (λ w. w.now) words.now) }
+    {
+        match *words {
+            [ms] => {
+                let first = must(!self.has_until, Refusal::BadName);
+                let ((), ms) = both(first, number(1, MAX_TIME, ms))?;
+                Ok(Line::SetUntil(ms))
+            }
+            _ => Err(Refusal::NoForm),
+        }
+    }
+
+    // A block with a new name and a work.
+    fn work_line(&self, name: &'a str, work: Meant<Work>) -> Meant<Line<&'a str>>
+        requires { DraftAgrees self.now }
+        ensures { meant line_view result ≡ work_line (view_of self.now.parts) name.now work }
+    {
+        let ((), work) = both(self.new_name(name), work)?;
+        Ok(Line::DeclareBlock {
+            name,
+            work: Some(work),
+        })
+    }
+
+    /// `block B`, `block B W F`, `block B count V F`, `block B W F FROM LEN`, `block B count V F FROM LEN`.
+    pub fn block_line(&self, words: &[&'a str]) -> Meant<Line<&'a str>>
+        requires { DraftAgrees self.now }
+        ensures { meant line_view result ≡ block_line (view_of self.now.parts) (map (λ w. w.now) words.now) }
+    {
+        match *words {
+            [name] => {
+                self.new_name(name)?;
+                Ok(Line::DeclareBlock { name, work: None })
+            }
+            [name, how, file] => {
+                self.work_line(name, work(count(how), self.file(file), Ok((0, WHOLE_FILE))))
+            }
+            [name, count, value, file] => {
+                if count != "count" {
+                    return Err(Refusal::NoForm);
+                }
+                self.work_line(
+                    name,
+                    work(counting(value), self.file(file), Ok((0, WHOLE_FILE))),
+                )
+            }
+            [name, how, file, from, len] => {
+                self.work_line(name, work(count(how), self.file(file), range(from, len)))
+            }
+            [name, count, value, file, from, len] => {
+                if count != "count" {
+                    return Err(Refusal::NoForm);
+                }
+                self.work_line(
+                    name,
+                    work(counting(value), self.file(file), range(from, len)),
+                )
+            }
+            _ => Err(Refusal::NoForm),
+        }
+    }
+
+    /// `handler S` (dispatch_source_set_event_handler(3)).
+    pub fn handler_line(&self, words: &[&'a str]) -> Meant<Line<&'a str>>
+        requires { DraftAgrees self.now }
+        ensures { meant line_view result ≡ handler_line (view_of self.now.parts) (map (λ w. w.now) words.now) }
+    {
+        match *words {
+            [source] => {
+                let source = self.object(Asked::Source, source)?;
+                Ok(Line::OpenHandler(source))
+            }
+            _ => Err(Refusal::NoForm),
+        }
+    }
+
+    /// `main`.
+    pub fn main_line(&self, words: &[&'a str]) -> Meant<Line<&'a str>>
+        ensures { meant line_view result ≡ main_line self.now.has_main (map (λ w. w.now) words.now) }
+    {
+        match *words {
+            [] => {
+                if self.has_main {
+                    return Err(Refusal::NotOneMain);
+                }
+                Ok(Line::OpenMain)
+            }
+            _ => Err(Refusal::NoForm),
+        }
+    }
+}
+
+// A semaphore with this first value.
+fn semaphore_kind(value: &str) -> Meant<(Kind, Obj)>
+    ensures { result ≡ meant (λ value. (Semaphore value, root)) (number 0 max_value value.now) }
+{
+    let value = number(0, MAX_VALUE, value)?;
+    Ok((Kind::Semaphore(value), ROOT))
+}
+
+// A timer with these times.
+fn timer_kind(start: &str, every: &str) -> Meant<Kind>
+    ensures { result ≡ meant (λ (m, n). Timer m n) (both (number 1 max_time start.now) (number 1 max_time every.now)) }
+{
+    let (start, every) = both(number(1, MAX_TIME, start), number(1, MAX_TIME, every))?;
+    Ok(Kind::Timer { start, every })
+}

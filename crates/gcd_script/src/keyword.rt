@@ -1,0 +1,190 @@
+// The first words of lines.
+ghost use Rattle.std.specs.Prelude.{◌≡◌};
+ghost use Rattle.gcd_script.specs.Keywords.{pick, declarations, acts, object_acts, keyword_of};
+
+/// What kind of line a first word begins.
+#[derive(Clone, Copy, Debug, PartialEq, Eq)]
+pub enum Keyword {
+    /// `file`: a file that is loaded whole.
+    File,
+    /// `queue` (dispatch_queue_create(3)).
+    Queue,
+    /// `group` (dispatch_group_create(3)).
+    Group,
+    /// `semaphore` (dispatch_semaphore_create(3)).
+    Semaphore,
+    /// `source` (dispatch_source_create(3)).
+    Source,
+    /// `cancelled`: the cancellation block of a source (dispatch_source_set_cancel_handler(3)).
+    Cancelled,
+    /// `until`: the last due time of timers.
+    Until,
+    /// `block`: a block, whose acts follow.
+    Block,
+    /// `handler`: the acts of a source's handler follow (dispatch_source_set_event_handler(3)).
+    Handler,
+    /// `main`: the acts of `main` follow.
+    Main,
+    /// An act that submits a block to a queue.
+    Submit(Submission),
+    /// An act that submits a block to a queue for a group.
+    GroupSubmit(GroupSubmission),
+    /// An act on one object.
+    OneObject(ObjectAct),
+    /// `target` (dispatch_set_target_queue(3)).
+    Target,
+    /// `merge` (dispatch_source_merge_data(3)).
+    Merge,
+}
+
+/// How an act submits a block to a queue.
+#[derive(Clone, Copy, Debug, PartialEq, Eq)]
+pub enum Submission {
+    /// `async` (dispatch_async(3)).
+    Async,
+    /// `barrier` (dispatch_barrier_async(3)).
+    Barrier,
+    /// `sync` (dispatch_sync(3)).
+    Sync,
+    /// `barrier_sync` (dispatch_barrier_sync(3)).
+    BarrierSync,
+}
+
+/// How an act submits a block to a queue for a group.
+#[derive(Clone, Copy, Debug, PartialEq, Eq)]
+pub enum GroupSubmission {
+    /// `group_async` (dispatch_group_async(3)).
+    GroupAsync,
+    /// `notify` (dispatch_group_notify(3)).
+    Notify,
+}
+
+/// What an act does with one object.
+#[derive(Clone, Copy, Debug, PartialEq, Eq)]
+pub enum ObjectAct {
+    /// `enter` (dispatch_group_enter(3)).
+    Enter,
+    /// `leave` (dispatch_group_leave(3)).
+    Leave,
+    /// `group_wait` (dispatch_group_wait(3)).
+    GroupWait,
+    /// `signal` (dispatch_semaphore_signal(3)).
+    Signal,
+    /// `wait` (dispatch_semaphore_wait(3)).
+    Wait,
+    /// `suspend` (dispatch_suspend(3)).
+    Suspend,
+    /// `resume` (dispatch_resume(3)).
+    Resume,
+    /// `activate` (dispatch_activate(3)).
+    Activate,
+    /// `cancel` (dispatch_source_cancel(3)).
+    Cancel,
+    /// `retain` (dispatch_retain(3)).
+    Retain,
+    /// `release` (dispatch_release(3)).
+    Release,
+}
+
+impl Keyword {
+    /// What kind of line the word begins; None exactly where no form begins with it.
+    pub fn of_word(word: &str) -> Option<Keyword>
+        ensures { result ≡ keyword_of word.now }
+    {
+        if let Some(keyword) = declaration(word) {
+            return Some(keyword);
+        }
+        if let Some(keyword) = act(word) {
+            return Some(keyword);
+        }
+        match object_act(word) {
+            Some(what) => Some(Keyword::OneObject(what)),
+            None => None,
+        }
+    }
+}
+
+// The same of declarations.
+fn declaration(word: &str) -> Option<Keyword>
+    ensures { result ≡ pick declarations word.now }
+{
+    if word == "file" {
+        Some(Keyword::File)
+    } else if word == "queue" {
+        Some(Keyword::Queue)
+    } else if word == "group" {
+        Some(Keyword::Group)
+    } else if word == "semaphore" {
+        Some(Keyword::Semaphore)
+    } else if word == "source" {
+        Some(Keyword::Source)
+    } else if word == "cancelled" {
+        Some(Keyword::Cancelled)
+    } else if word == "until" {
+        Some(Keyword::Until)
+    } else if word == "block" {
+        Some(Keyword::Block)
+    } else if word == "handler" {
+        Some(Keyword::Handler)
+    } else if word == "main" {
+        Some(Keyword::Main)
+    } else {
+        None
+    }
+}
+
+// The same of acts on more than one thing.
+fn act(word: &str) -> Option<Keyword>
+    ensures { result ≡ pick acts word.now }
+{
+    if word == "async" {
+        Some(Keyword::Submit(Submission::Async))
+    } else if word == "barrier" {
+        Some(Keyword::Submit(Submission::Barrier))
+    } else if word == "sync" {
+        Some(Keyword::Submit(Submission::Sync))
+    } else if word == "barrier_sync" {
+        Some(Keyword::Submit(Submission::BarrierSync))
+    } else if word == "group_async" {
+        Some(Keyword::GroupSubmit(GroupSubmission::GroupAsync))
+    } else if word == "notify" {
+        Some(Keyword::GroupSubmit(GroupSubmission::Notify))
+    } else if word == "target" {
+        Some(Keyword::Target)
+    } else if word == "merge" {
+        Some(Keyword::Merge)
+    } else {
+        None
+    }
+}
+
+// The same of acts on one object.
+fn object_act(word: &str) -> Option<ObjectAct>
+    ensures { result ≡ pick object_acts word.now }
+{
+    if word == "enter" {
+        Some(ObjectAct::Enter)
+    } else if word == "leave" {
+        Some(ObjectAct::Leave)
+    } else if word == "group_wait" {
+        Some(ObjectAct::GroupWait)
+    } else if word == "signal" {
+        Some(ObjectAct::Signal)
+    } else if word == "wait" {
+        Some(ObjectAct::Wait)
+    } else if word == "suspend" {
+        Some(ObjectAct::Suspend)
+    } else if word == "resume" {
+        Some(ObjectAct::Resume)
+    } else if word == "activate" {
+        Some(ObjectAct::Activate)
+    } else if word == "cancel" {
+        Some(ObjectAct::Cancel)
+    } else if word == "retain" {
+        Some(ObjectAct::Retain)
+    } else if word == "release" {
+        Some(ObjectAct::Release)
+    } else {
+        None
+    }
+}

@@ -1,0 +1,40 @@
+// What a line does.
+
+use gcd_plan::{Act, Blk, Kind, Obj, Run, Work};
+
+/// What a line of one of the forms does, with what its words mean. New names and paths are texts `N`.
+#[derive(Clone, Copy, Debug, PartialEq, Eq)]
+pub enum Line<N> {
+    /// `file F PATH`: the file is loaded whole under the path.
+    DeclareFile {
+        name: N,
+        path: N,
+    },
+    /// A queue, a group, a semaphore or a source. Where its kind has no such thing, the target is `root`, `active` is true
+    /// and the path is empty; a source is not active (dispatch_activate(3)).
+    DeclareObject {
+        name: N,
+        kind: Kind,
+        target: Obj,
+        active: bool,
+        path: N,
+    },
+    /// A block, whose acts follow, with its work, if it has one.
+    DeclareBlock {
+        name: N,
+        work: Option<Work>,
+    },
+    /// `until MS`: the last due time of timers, in milliseconds.
+    SetUntil(u32),
+    /// `cancelled S B`: the source's cancellation block (dispatch_source_set_cancel_handler(3)).
+    SetCancel {
+        source: Obj,
+        block: Blk,
+    },
+    /// `handler S`: the acts of the source's handler follow (dispatch_source_set_event_handler(3)).
+    OpenHandler(Obj),
+    /// `main`: the acts of `main` follow.
+    OpenMain,
+    /// An act of that body.
+    AddAct(Run, Act),
+}

@@ -1,0 +1,133 @@
+// What a form asks of one word that names something.
+ghost use Rattle.std.specs.Prelude.{◌≡◌};
+ghost use Rattle.gcd_plan.specs.PlanView.{view_of};
+
+use crate::draft::Draft;
+use crate::keyword::ObjectAct;
+use crate::meaning::Meaning;
+use crate::meant::{Meant, must};
+use crate::refusal::Refusal;
+use gcd_plan::{Blk, Kind, Obj, is_name};
+
+/// What a form asks of an object's kind.
+#[derive(Clone, Copy, Debug, PartialEq, Eq)]
+pub enum Asked {
+    Queue,
+    Source,
+    Node,
+    Group,
+    Semaphore,
+    MergeSource,
+    Any,
+}
+
+impl Asked {
+    ghost use Rattle.gcd_script.specs.Asked.{asks};
+
+    // Whether the kind is of this sort.
+    fn has(self, kind: Kind) -> bool
+        ensures { result ≡ asks self kind }
+    {
+        match self {
+            Asked::Queue => kind.is_queue(),
+            Asked::Source => kind.is_source(),
+            Asked::Node => kind.is_node(),
+            Asked::Group => kind.is_group(),
+            Asked::Semaphore => kind.is_semaphore(),
+            Asked::MergeSource => kind.is_merge_source(),
+            Asked::Any => true,
+        }
+    }
+}
+
+impl<'a> Draft<'a> {
+    ghost use Rattle.gcd_plan.specs.Kinds.{has_kind};
+    ghost use Rattle.gcd_script.specs.Agreement.{DraftAgrees};
+    ghost use Rattle.gcd_script.specs.Asked.{asks};
+    ghost use Rattle.gcd_script.specs.Names.{is_unused};
+    ghost use Rattle.gcd_script.specs.Words.{new_name, known, as_object, file, block, object, object_but_root};
+
+    // Whether a line may declare the name.
+    fn is_unused(&self, name: &str) -> bool
+        requires { DraftAgrees self.now }
+        ensures { result ≡ is_unused (view_of self.now.parts) name.now }
+    {
+        is_name(name.as_bytes()) && name != "main" && self.meaning(name).is_none()
+    }
+
+    /// That it is a new name.
+    pub fn new_name(&self, name: &str) -> Meant<()>
+        requires { DraftAgrees self.now }
+        ensures { result ≡ new_name (view_of self.now.parts) name.now }
+    {
+        must(self.is_unused(name), Refusal::BadName)
+    }
+
+    /// A file's number, by its name.
+    pub fn file(&self, name: &str) -> Meant<u32>
+        requires { DraftAgrees self.now }
+        ensures { result ≡ file (view_of self.now.parts) name.now }
+    {
+        match self.meaning(name) {
+            Some(Meaning::File(file)) => Ok(file),
+            Some(Meaning::Object(_)) => Err(Refusal::OtherKind),
+            Some(Meaning::Block(_)) => Err(Refusal::OtherKind),
+            None => Err(Refusal::UnknownName),
+        }
+    }
+
+    /// A block, by its name.
+    pub fn block(&self, name: &str) -> Meant<Blk>
+        requires { DraftAgrees self.now }
+        ensures { result ≡ block (view_of self.now.parts) name.now }
+    {
+        match self.meaning(name) {
+            Some(Meaning::File(_)) => Err(Refusal::OtherKind),
+            Some(Meaning::Object(_)) => Err(Refusal::OtherKind),
+            Some(Meaning::Block(block)) => Ok(block),
+            None => Err(Refusal::UnknownName),
+        }
+    }
+
+    // Whether the object is of such a kind.
+    fn has_kind(&self, asked: Asked, o: Obj) -> bool
+        ensures { result ≡ has_kind (asks asked) (view_of self.now.parts) o.0 }
+    {
+        match self.parts.objects.get(o.0 as usize) {
+            Some(object) => asked.has(object.kind),
+            None => false,
+        }
+    }
+
+    /// An object of such a kind, by its name.
+    pub fn object(&self, asked: Asked, name: &str) -> Meant<Obj>
+        requires { DraftAgrees self.now }
+        ensures { result ≡ object (view_of self.now.parts) (asks asked) name.now }
+    {
+        match self.meaning(name) {
+            Some(Meaning::File(_)) => Err(Refusal::OtherKind),
+            Some(Meaning::Object(o)) => {
+                if self.has_kind(asked, o) {
+                    Ok(o)
+                } else {
+                    Err(Refusal::OtherKind)
+                }
+            }
+            Some(Meaning::Block(_)) => Err(Refusal::OtherKind),
+            None => Err(Refusal::UnknownName),
+        }
+    }
+
+    /// The same of an object other than `root`.
+    pub fn object_but_root(&self, asked: Asked, name: &str) -> Meant<Obj>
+        requires { DraftAgrees self.now }
+        ensures { result ≡ object_but_root (view_of self.now.parts) (asks asked) name.now }
+    {
+        let o = self.object(asked, name)?;
+        if 0 < o.0 {
+            Ok(o)
+        } else {
+            Err(Refusal::OtherKind)
+        }
+    }
+}
