@@ -1,0 +1,67 @@
+-- What worker 0 is asked to do next.
+use Rattle.std.specs.Prelude.{◌≡◌, ◌≤◌, ◌<◌, ◌+◌, ◌-◌, ℕ, true, List, [], Option, Some, None, IfSome, IsSome, min}
+use Rattle.gcd_plan.specs.PlanView.{PlanView}
+use Rattle.gcd_event.specs.declared.event.Event.{Event}
+use Rattle.gcd_event.specs.declared.event.Event.TheVariants.{Start, Act as Acted, Wake, End, Deliver, DeliverEnd, Tick, Ready, FeedEnd, Misuse, Halt}
+use Rattle.gcd_history.specs.History.{is_live_feed, next_due_of}
+use Rattle.gcd_outer.specs.Outside.{Rises}
+use Rattle.gcd_outer.specs.Tells.{PollerState}
+use Rattle.gcd_outer.specs.declared.tell.Tell.{Tell}
+use Rattle.gcd_turn.specs.Promises.{HasEnded}
+use Rattle.gcd_turn.specs.Turns.{HasRoom, OutlookView, first_event}
+use Rattle.gcd_turn.specs.declared.ask.Ask.{Ask}
+use Rattle.gcd_turn.specs.declared.ask.Ask.TheVariants.{Leave, Told, Put, Work}
+
+-- each live feed is watched
+abbrev pub AllWatched : PlanView → List Event → PollerState → Type 0
+AllWatched plan h poller = (s : ℕ) → is_live_feed plan h s ≡ true → poller.watched s ≡ true
+
+-- so much time has passed since the start that a due time has come: the Tick is at the time that has passed, or at the last
+-- due time of timers
+pub record IsDueTick (plan : PlanView) (h : List Event) (start present t : ℕ) : Type 0 where
+  pub passed : ℕ
+  pub due : ℕ
+  pub is_due : next_due_of plan h ≡ Some due
+  pub has_come : due ≤ passed
+  pub not_ahead : start + passed ≤ present
+  pub at : t ≡ min passed plan.until
+
+-- how long the next due time is ahead, if there is one: at least a millisecond
+abbrev pub IsLeft : PlanView → List Event → Option ℕ → Type 0
+IsLeft plan h None = next_due_of plan h ≡ None
+IsLeft plan h (Some ms) = IsSome (next_due_of plan h) × (0 < ms)
+
+-- the poller failed in the call, or its count of faults is as it was
+abbrev pub Failed : PollerState → PollerState → Type 0
+Failed old new = Rises old.faults new.faults
+
+abbrev pub FailedNot : PollerState → PollerState → Type 0
+FailedNot old new = new.faults ≡ old.faults
+
+-- what is put of itself: a Halt where the poller failed, or a Tick that is due
+abbrev pub IsPut : PlanView → List Event → (start present : ℕ) → (old new : PollerState) → Event → Type 0
+IsPut plan h start present old new (Start w b) = ⊥
+IsPut plan h start present old new (Acted w r i) = ⊥
+IsPut plan h start present old new (Wake w b) = ⊥
+IsPut plan h start present old new (End w b) = ⊥
+IsPut plan h start present old new (Deliver w s) = ⊥
+IsPut plan h start present old new (DeliverEnd w s) = ⊥
+IsPut plan h start present old new (Tick t) = IsDueTick plan h start present t × FailedNot old new
+IsPut plan h start present old new (Ready s n) = ⊥
+IsPut plan h start present old new (FeedEnd s) = ⊥
+IsPut plan h start present old new (Misuse w r i c) = ⊥
+IsPut plan h start present old new Halt = Failed old new
+
+-- there is no news, each live feed is watched, and so long is the next due time ahead
+pub record IsFree (plan : PlanView) (h : List Event) (news : List Tell) (poller : PollerState) (left : Option ℕ) : Type 0 where
+  pub no_news : news ≡ []
+  pub watched : AllWatched plan h poller
+  pub left_is : IsLeft plan h left
+
+-- what is asked at a history: to leave where it has ended, and only there; else to put a Halt, the first of the news or a
+-- Tick; or to work
+abbrev pub IsAsked : PlanView → List Event → OutlookView → (present : ℕ) → (old new : PollerState) → Ask → Type 0
+IsAsked plan h o present old new Leave = HasEnded plan h × FailedNot old new
+IsAsked plan h o present old new (Told e) = HasRoom plan h × (first_event o.news ≡ Some e) × FailedNot old new
+IsAsked plan h o present old new (Put e) = HasRoom plan h × IsPut plan h o.start present old new e
+IsAsked plan h o present old new (Work left) = HasRoom plan h × IsFree plan h o.news new left × FailedNot old new

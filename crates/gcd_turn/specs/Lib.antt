@@ -1,0 +1,4 @@
+pub mod Asked
+pub mod Hearing
+pub mod Promises
+pub mod Turns

@@ -1,0 +1,11 @@
+//! What worker 0 does with the outside.
+#![tactic(auto)]
+
+mod ask;
+mod limits;
+mod news;
+mod outlook;
+
+pub use ask::Ask;
+pub use limits::{EMPTY_ANSWERS, POLL_WAIT};
+pub use outlook::Outlook;
