@@ -43,9 +43,17 @@ told_in feed (t ∷ ts) =
 abbrev pub told_of : ℕ → List (List Tell) → List ℕ
 told_of feed answers = told_in feed (flat_map (λ answer. answer) answers)
 
+-- whether a tell of the list is of a feed
+abbrev pub is_named : ℕ → List Tell → Bool
+is_named feed = list_any (λ t. t.feed == feed)
+
+-- whether a tell of the list has the end of a feed
+abbrev pub has_end : ℕ → List Tell → Bool
+has_end feed = list_any (λ t. t.feed == feed && t.ended)
+
 -- whether a tell of the answers has the end of a feed
 abbrev pub is_end_told : ℕ → List (List Tell) → Bool
-is_end_told feed = list_any (list_any (λ t. t.feed == feed && t.ended))
+is_end_told feed = list_any (has_end feed)
 
 -- What a poller has told so far, what it watches, and how often it has failed.
 pub record PollerState : Type 0 where

@@ -1,4 +1,5 @@
 pub mod Asked
 pub mod Hearing
 pub mod Promises
+pub mod Times
 pub mod Turns

@@ -5,6 +5,7 @@ mod ask;
 mod limits;
 mod news;
 mod outlook;
+mod steps;
 
 pub use ask::Ask;
 pub use limits::{EMPTY_ANSWERS, POLL_WAIT};

@@ -1,12 +1,25 @@
 // What worker 0 keeps of the outside between its turns.
+ghost use Rattle.std.specs.Prelude.{◌≡◌, ◌≤◌, ◌<◌, ◌++◌, [], ℕ, true, List, drop, length, IfSome, OnSome, IfNone, OnOk, OnErr};
+ghost use Rattle.gcd_plan.specs.Limits.{max_events};
+ghost use Rattle.gcd_plan.specs.PlanView.{PlanView};
+ghost use Rattle.gcd_event.specs.declared.event.Event.{Event};
+ghost use Rattle.gcd_event.specs.declared.event.Event.TheVariants.{Halt};
+ghost use Rattle.gcd_machine.specs.Stands.{StandsFor};
+ghost use Rattle.gcd_outer.specs.Tells.{PollerState};
+ghost use Rattle.gcd_turn.specs.Asked.{AllWatched, HasFailed, HasNotFailed, HasWatched, IsAsked, WaitedFor};
+ghost use Rattle.gcd_turn.specs.Hearing.{Heard};
+ghost use Rattle.gcd_turn.specs.Turns.{counted};
 
 use crate::ask::Ask;
-use crate::limits::{EMPTY_ANSWERS, POLL_WAIT};
+use crate::limits::EMPTY_ANSWERS;
 use crate::news::News;
+use crate::steps::{
+    Time, event_of, is_over, next_live_feed, next_time, poll_wait, wait, watch_new,
+};
 use gcd_event::Event;
 use gcd_machine::Machine;
-use gcd_outer::{Clock, Failed, Poller, Tell, Told};
-use gcd_plan::{MAX_EVENTS, Obj, Plan};
+use gcd_outer::{Clock, Failed, Poller, Told};
+use gcd_plan::Plan;
 use std::marker::Model;
 
 /// What worker 0, which alone has poller and clock, keeps of them between its turns. (This project's own rule.)
@@ -21,73 +34,29 @@ pub struct Outlook {
     len: u32,
 }
 
-// The event that records a piece of news.
-fn event_of(tell: Tell) -> Event {
-    let src = Obj(tell.feed);
-    if tell.ended {
-        Event::FeedEnd { src }
-    } else {
-        Event::Ready {
-            src,
-            bytes: tell.bytes,
-        }
-    }
-}
+impl Model for Outlook {
+    ghost use Rattle.std.specs.Prelude.{◌<◌};
+    ghost use Rattle.gcd_turn.specs.Turns.{OutlookView};
+    ghost use Rattle.gcd_turn.specs.declared.limits.TheConstants.{EMPTY_ANSWERS};
 
-// Whether nothing more is recorded: the run is halted, full or quiescent.
-fn is_over(machine: &Machine) -> bool {
-    machine.is_halted() || machine.len() >= MAX_EVENTS || machine.is_quiescent()
-}
+    ghost Value = { OutlookView };
 
-// The first live feed from a number on.
-fn next_live_feed(machine: &Machine, from: u32) -> Option<Obj> {
-    for o in from..machine.objects() {
-        if machine.is_live_feed(Obj(o)) {
-            return Some(Obj(o));
-        }
-    }
-    None
-}
+    ghost view = { λ o. record { start = o.start; news = o.news; empties = o.empties; len = o.len } };
 
-// Each live feed is watched from now on, by number.
-fn watch_new<P: Poller>(plan: &Plan, machine: &Machine, poller: &mut P) -> Result<(), Failed> {
-    for o in 0..machine.objects() {
-        if machine.is_live_feed(Obj(o)) && !poller.is_watched(o) {
-            poller.watch(o, plan.path_of(Obj(o)))?;
-        }
-    }
-    Ok(())
-}
-
-// A Tick that is due, or work while the next due time is ahead. The clock is asked only where a due time is left.
-fn next_tick<C: Clock>(start: u64, plan: &Plan, machine: &Machine, clock: &mut C) -> Ask {
-    let Some(due) = machine.next_due() else {
-        return Ask::Work { left: None };
-    };
-    let passed = clock.now().saturating_sub(start);
-    if passed < u64::from(due) {
-        return Ask::Work {
-            left: Some((u64::from(due) - passed) as u32),
-        };
-    }
-    let at = passed.min(u64::from(plan.until())) as u32;
-    Ask::Put(Event::Tick { at })
-}
-
-// How long a poll waits, in milliseconds.
-fn poll_wait(machine: &Machine, left: Option<u32>) -> u32 {
-    if machine.running() > 0 {
-        return 0;
-    }
-    match left {
-        Some(ms) => ms.min(POLL_WAIT),
-        None => POLL_WAIT,
-    }
+    ghost invariant = { λ o. o.empties < EMPTY_ANSWERS };
 }
 
 impl Outlook {
     /// The outlook before the first turn. It asks the clock once.
-    pub fn new<C: Clock>(clock: &mut C) -> Outlook {
+    pub fn new<C: Clock>(clock: &mut C) -> Outlook
+        ensures news { result.news ≡ [] }
+        ensures empties { result.empties ≡ 0 }
+        ensures len { result.len ≡ 0 }
+        ensures not_before { (C.state clock.old).present ≤ result.start }
+        ensures reached { result.start ≤ (C.state clock.new).present }
+        ensures told { C.tells ≡ true → result.start ≡ (C.state clock.old).present }
+        ensures waited { C.tells ≡ true → (C.state clock.new).waited ≡ (C.state clock.old).waited }
+    {
         Outlook {
             start: clock.now(),
             news: News::new(),
@@ -103,52 +72,82 @@ impl Outlook {
         machine: &Machine,
         poller: &mut P,
         clock: &mut C,
-    ) -> Ask {
+    ) -> Ask
+        requires { machine.now.plan ≡ plan.now }
+        ensures asked { (h : List Event) → StandsFor machine.now plan.now h → length h ≤ max_events
+            → IsAsked plan.now h self.now (C.state clock.new).present (P.state poller.old) (P.state poller.new) result }
+        ensures heard { (stood placed : List Event) (before : PollerState) → StandsFor machine.now plan.now (stood ++ placed)
+            → P.tells ≡ true → Heard plan.now stood placed before (P.state poller.old) self.now
+            → Heard plan.now stood placed before (P.state poller.new) self.now }
+        ensures goes_on { (C.state clock.old).present ≤ (C.state clock.new).present }
+        ensures waited { C.tells ≡ true → (C.state clock.new).waited ≡ (C.state clock.old).waited }
+    {
         if is_over(machine) {
             return Ask::Leave;
         }
         if watch_new(plan, machine, poller).is_err() {
             return Ask::Put(Event::Halt);
         }
-        match self.news.first() {
-            Some(tell) => Ask::Told(event_of(tell)),
-            None => next_tick(self.start, plan, machine, clock),
+        if let Some(tell) = self.news.first() {
+            return Ask::Told(event_of(tell));
+        }
+        match next_time(self.start, plan, machine, clock) {
+            Time::Tick(at) => Ask::Put(Event::Tick { at }),
+            Time::Left(left) => Ask::Work { left },
         }
     }
 
     /// The first of the news was recorded, or is not permitted and is dropped.
-    pub fn settle(&mut self) {
+    pub fn settle(&mut self)
+        ensures { self.new ≡ record self.old { news = drop 1 self.old.news } }
+    {
         self.news.settle();
     }
 
-    // An empty answer to a wait: it is counted where no run is open and unparked; at the last of the count each live feed is
-    // taken to have ended.
-    fn count_empty(&mut self, machine: &Machine) {
+    // An empty answer to a wait: it is counted where the history has not grown since the last; at the last of the count each
+    // live feed is taken to have ended.
+    fn count_empty(&mut self, plan: &Plan, machine: &Machine)
+        requires { machine.now.plan ≡ plan.now }
+        ensures { (h : List Event) → StandsFor machine.now plan.now h → self.new ≡ counted plan.now h self.old }
+    {
         let row = if self.len == machine.len() {
             self.empties
         } else {
             0
         };
         self.len = machine.len();
-        self.empties = row + 1;
-        if self.empties >= EMPTY_ANSWERS {
+        if row + 1 < EMPTY_ANSWERS {
+            self.empties = row + 1;
+        } else {
             self.empties = 0;
-            self.news.take_ends(machine);
+            self.news.take_ends(plan, machine);
         }
     }
 
     // One poll.
     fn listen<P: Poller>(
         &mut self,
+        plan: &Plan,
         machine: &Machine,
         poller: &mut P,
         left: Option<u32>,
-    ) -> Result<(), Failed> {
+    ) -> Result<(), Failed>
+        requires own { machine.now.plan ≡ plan.now }
+        requires no_news { self.old.news ≡ [] }
+        requires some { (feed : ℕ) × ((P.state poller.old).watched feed ≡ true) }
+        ensures heard { (stood placed : List Event) (before : PollerState) → StandsFor machine.now plan.now (stood ++ placed)
+            → AllWatched plan.now (stood ++ placed) (P.state poller.old)
+            → P.tells ≡ true → Heard plan.now stood placed before (P.state poller.old) self.old
+            → Heard plan.now stood placed before (P.state poller.new) self.new }
+        ensures start { self.new.start ≡ self.old.start }
+        ensures ok { OnOk result (HasNotFailed (P.state poller.old) (P.state poller.new)) }
+        ensures failed { OnErr result (HasFailed (P.state poller.old) (P.state poller.new)) }
+    {
         let wait = poll_wait(machine, left);
         let mut told = Told::new();
         poller.poll(wait, &mut told)?;
         if wait > 0 && told.is_empty_answer() {
-            self.count_empty(machine);
+            self.count_empty(plan, machine);
         } else {
             self.empties = 0;
             self.news.take(&told);
@@ -156,30 +155,37 @@ impl Outlook {
         Ok(())
     }
 
-    // Waits for the next due time, where there is one and nothing runs.
-    fn wait<C: Clock>(&self, machine: &Machine, clock: &mut C) {
-        if let Some(due) = machine.next_due() {
-            if machine.running() == 0 {
-                clock.wait_until(self.start.saturating_add(u64::from(due)));
-            }
-        }
-    }
-
     /// The last steps of a turn, where worker 0 has no choice: it polls where a feed is live, and else waits.
     pub fn idle<P: Poller, C: Clock>(
         &mut self,
+        plan: &Plan,
         machine: &Machine,
         poller: &mut P,
         clock: &mut C,
         left: Option<u32>,
-    ) -> Option<Event> {
-        if next_live_feed(machine, 0).is_some() {
-            return match self.listen(machine, poller, left) {
+    ) -> Option<Event>
+        requires own { machine.now.plan ≡ plan.now }
+        requires no_news { self.old.news ≡ [] }
+        requires watched { HasWatched machine.now plan.now (P.state poller.old) }
+        ensures heard { (stood placed : List Event) (before : PollerState) → StandsFor machine.now plan.now (stood ++ placed)
+            → AllWatched plan.now (stood ++ placed) (P.state poller.old)
+            → P.tells ≡ true → Heard plan.now stood placed before (P.state poller.old) self.old
+            → Heard plan.now stood placed before (P.state poller.new) self.new }
+        ensures start { self.new.start ≡ self.old.start }
+        ensures halt { IfSome result (λ e. e ≡ Halt) }
+        ensures failed { OnSome result (HasFailed (P.state poller.old) (P.state poller.new)) }
+        ensures unfailed { IfNone result (HasNotFailed (P.state poller.old) (P.state poller.new)) }
+        ensures goes_on { (C.state clock.old).present ≤ (C.state clock.new).present }
+        ensures waited { (h : List Event) → StandsFor machine.now plan.now h → C.tells ≡ true
+            → WaitedFor plan.now h self.old.start (C.state clock.old) (C.state clock.new) }
+    {
+        if next_live_feed(machine).is_some() {
+            return match self.listen(plan, machine, poller, left) {
                 Ok(()) => None,
                 Err(Failed) => Some(Event::Halt),
             };
         }
-        self.wait(machine, clock);
+        wait(self.start, machine, clock);
         None
     }
 }
