@@ -114,7 +114,7 @@ unfolding is_cancelled
 ended_may_not_end plan h s may =
     let facts = live_facts plan (h ++ FeedEnd s ∷ []) s.0 may.live in
     let ended : is_cancelled plan (h ++ FeedEnd s ∷ []) s.0 ≡ true = rw reverse_push (or_left _ _ (eq-eqb s.0 s.0 refl)) in
-    both_ways _ ended facts.uncancelled
+    both_ways _ facts.uncancelled ended
 
 pub halted_by_halt : (h : List Event) → is_halted (h ++ Halt ∷ []) ≡ true
 unfolding is_halted

@@ -1,1 +1,2 @@
+pub mod FeedSteps
 pub mod HistoryMore

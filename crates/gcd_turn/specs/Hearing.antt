@@ -6,7 +6,7 @@ use Rattle.gcd_event.specs.declared.event.Event.{Event}
 use Rattle.gcd_event.specs.declared.event.Event.TheVariants.{FeedEnd}
 use Rattle.gcd_history.specs.Ends.{is_halted}
 use Rattle.gcd_history.specs.History.{is_active, is_live_feed}
-use Rattle.gcd_outer.specs.Tells.{PollerState, is_empty_answer, is_end_told, told_in, told_of}
+use Rattle.gcd_outer.specs.Tells.{PollerState, has_end, is_empty_answer, is_end_told, is_named, told_in, told_of}
 use Rattle.gcd_outer.specs.declared.limits.TheConstants.{MAX_TELL_BYTES}
 use Rattle.gcd_outer.specs.declared.tell.Tell.{Tell}
 use Rattle.gcd_turn.specs.Promises.{Begins, FeedEnds, WasLive, WasSilent, WatchedBefore, readies_of}
@@ -16,14 +16,6 @@ use Rattle.gcd_turn.specs.Turns.{OutlookView}
 pub record MayEnd (plan : PlanView) (h : List Event) (s : ℕ) : Type 0 where
   pub unhalted : is_halted h ≡ false
   pub live : is_live_feed plan h s ≡ true
-
--- a tell of the list is of feed s
-abbrev pub is_named : ℕ → List Tell → Bool
-is_named s = list_any (λ t. t.feed == s)
-
--- a tell of the list has the end of feed s
-abbrev pub has_end : ℕ → List Tell → Bool
-has_end s = list_any (λ t. t.feed == s && t.ended)
 
 -- a piece of news: an end, or bytes
 abbrev pub is_news : Tell → Bool
