@@ -1,2 +1,3 @@
 pub mod FeedSteps
 pub mod HistoryMore
+pub mod PollSteps
