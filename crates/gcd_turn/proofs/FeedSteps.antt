@@ -69,7 +69,7 @@ same_for_others s t rest other = record {
 
 -- ## An event that says nothing of the feed
 
-more_at : (stood placed : List Event) (e : Event) → stood ++ (placed ++ e ∷ []) ≡ (stood ++ placed) ++ e ∷ []
+pub more_at : (stood placed : List Event) (e : Event) → stood ++ (placed ++ e ∷ []) ≡ (stood ++ placed) ++ e ∷ []
 more_at stood placed e = sym (append_assoc stood placed (e ∷ []))
 
 unnamed_later : (news later : List Tell) (A : List (List Tell)) (s : ℕ) → (is_named s news ≡ false → is_named s later ≡ false)

@@ -1,3 +1,4 @@
 pub mod FeedSteps
+pub mod HeardSteps
 pub mod HistoryMore
 pub mod PollSteps

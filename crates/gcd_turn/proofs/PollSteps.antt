@@ -29,7 +29,7 @@ pub record SameFeed (now next : PollerState) (s : ℕ) : Type 0 where
   pub watched : next.watched s ≡ now.watched s
   pub at : next.watched_at s ≡ now.watched_at s
 
-before_same : (before now next : PollerState) (n s : ℕ) → SameFeed now next s → WatchedBefore before now n s → WatchedBefore before next n s
+pub before_same : (before now next : PollerState) (n s : ℕ) → SameFeed now next s → WatchedBefore before now n s → WatchedBefore before next n s
 before_same before now next n s same was = record {
   watched = same.watched ∙ was.watched;
   since = ⊎_elim (λ (old : before.watched s ≡ true). inl old)
@@ -216,7 +216,7 @@ silent_longer before now A t had s was = record {
   had_all = was.had_all;
 }
 
-before_later : (before now : PollerState) (m n s : ℕ) → m ≤ n → WatchedBefore before now m s → WatchedBefore before now n s
+pub before_later : (before now : PollerState) (m n s : ℕ) → m ≤ n → WatchedBefore before now m s → WatchedBefore before now n s
 before_later before now m n s more was = record {
   watched = was.watched;
   since = ⊎_elim (λ (old : before.watched s ≡ true). inl old)
