@@ -1,4 +1,5 @@
 pub mod FeedSteps
+pub mod HeardPolls
 pub mod HeardSteps
 pub mod HistoryMore
 pub mod PollSteps
