@@ -118,7 +118,7 @@ feed_other plan stood placed e before now A news later s quiet other permitted s
     let had : List ℕ = readies_of s placed in
     let readies : readies_of s (placed ++ e ∷ []) ≡ had = readies_more s placed e ∙ ap (λ (ns : List ℕ). had ++ ns) quiet ∙ append-nil had in
     let back : MayEnd plan (stood ++ (placed ++ e ∷ [])) s → is_active plan h s ≡ true → MayEnd plan h s =
-        λ may active. may_end_before plan h e s permitted active (subst (λ (k : List Event). MayEnd plan k s) more may) in
+    λ may active. may_end_before plan h e s permitted active (subst (λ (k : List Event). MayEnd plan k s) more may) in
     record {
       active = λ w. subst (λ (k : List Event). is_active plan k s ≡ true) (sym more) (active_more plan h e s (f.active w));
       since = f.since;
@@ -175,10 +175,10 @@ feed_ready plan stood placed before now A t rest s named unended some permitted 
     let readies : readies_of s (placed ++ e ∷ []) ≡ had ++ t.bytes ∷ [] = readies_more s placed e ∙ ap (λ (ns : List ℕ). had ++ ns) own in
     let may : MayEnd plan h s = may_end_at_ready plan h (record { 0 = s }) t.bytes permitted in
     let all : told_of s A ≡ readies_of s (placed ++ e ∷ []) ++ told_in s rest =
-        f.whole may
-        ∙ ap (λ (ns : List ℕ). had ++ ns) (bytes_told s t rest named unended some)
-        ∙ sym (append_assoc had (t.bytes ∷ []) (told_in s rest))
-        ∙ ap (λ (ns : List ℕ). ns ++ told_in s rest) (sym readies) in
+    f.whole may
+    ∙ ap (λ (ns : List ℕ). had ++ ns) (bytes_told s t rest named unended some)
+    ∙ sym (append_assoc had (t.bytes ∷ []) (told_in s rest))
+    ∙ ap (λ (ns : List ℕ). ns ++ told_in s rest) (sym readies) in
     let same : has_end s (t ∷ rest) ≡ has_end s rest = bytes_end_nothing s t rest named unended in
     record {
       active = λ w. subst (λ (k : List Event). is_active plan k s ≡ true) (sym more) (active_more plan h e s (f.active w));
@@ -211,7 +211,7 @@ feed_ended plan stood placed before now A t rest s named ended none permitted f 
     let readies : readies_of s (placed ++ e ∷ []) ≡ had = readies_more s placed e ∙ append-nil had in
     let may : MayEnd plan h s = may_end_at_feed_end plan h (record { 0 = s }) permitted in
     let over : MayEnd plan (stood ++ (placed ++ e ∷ [])) s → ⊥ =
-        λ later. ended_may_not_end plan h (record { 0 = s }) (subst (λ (k : List Event). MayEnd plan k s) more later) in
+    λ later. ended_may_not_end plan h (record { 0 = s }) (subst (λ (k : List Event). MayEnd plan k s) more later) in
     let cause : (is_end_told s A ≡ true) ⊎ WasSilent before now A had s = f.due (end_has_end s t rest named ended) in
     record {
       active = λ w. subst (λ (k : List Event). is_active plan k s ≡ true) (sym more) (active_more plan h e s (f.active w));

@@ -1,22 +1,23 @@
 -- What a poll keeps of what was heard.
-use Rattle.std.proofs.Common.{◌≡◌, ◌≤◌, ◌<◌, ◌+◌, ◌∙◌, ◌++◌, ◌||◌, ◌&&◌, ◌==◌, ◌⊎◌, ℕ, Bool, true, false, List, [], ◌∷◌, if◌then◌else◌, length, map, filter, ap, sym, subst, refl, arith, lit<, append-nil, append_assoc, ⊎_elim}
+use Rattle.std.proofs.Common.{◌≡◌, ◌≤◌, ◌<◌, ◌+◌, ◌∙◌, ◌++◌, ◌||◌, ◌&&◌, ◌==◌, ◌⊎◌, ℕ, Bool, true, false, List, [], ◌∷◌, if◌then◌else◌, length, map, filter, ap, sym, subst, refl, arith, eq-eqb, lit<, append-nil, append_assoc, ⊎_elim}
 use Rattle.std.specs.Prelude.{nat_lt}
 use Rattle.std.specs.List.{list_all, range_with_len}
-use Rattle.std.proofs.lemmas.Bool.{and_from, and_parts, both_ways, cases_lt, eqb-true, ltb-false, or_cases, or_left, or_right}
+use Rattle.std.proofs.lemmas.Bool.{and_from, and_parts, both_ways, cases_lt, eqb-true, ltb-false, ne_eqb, or_cases, or_left, or_right}
 use Rattle.std.proofs.lemmas.List.{length-append, length_push}
 use Rattle.std.proofs.lemmas.List.Folds.{list_all-append}
 use Rattle.gcd_plan.specs.PlanView.{PlanView}
 use Rattle.gcd_event.specs.declared.event.Event.{Event}
 use Rattle.gcd_history.specs.Ends.{is_halted}
 use Rattle.gcd_history.specs.History.{is_live_feed}
-use Rattle.gcd_outer.specs.Tells.{PollerState, has_end, is_empty_answer, is_named, told_in}
+use Rattle.gcd_outer.specs.Tells.{AreTells, PollerState, answers_after, has_end, is_empty_answer, is_named, told_in}
+use Rattle.gcd_outer.proofs.ToldLemmas.{named_are_watched}
 use Rattle.gcd_outer.specs.declared.tell.Tell.{Tell}
 use Rattle.gcd_turn.specs.Asked.{AllWatched}
 use Rattle.gcd_turn.specs.Hearing.{FeedHeard, Heard, is_news}
 use Rattle.gcd_turn.specs.Promises.{WatchedBefore}
 use Rattle.gcd_turn.specs.Turns.{OutlookView, counted, end_of, ends_of, news_of, row_with}
 use Rattle.gcd_turn.specs.declared.limits.TheConstants.{EMPTY_ANSWERS}
-use Rattle.gcd_turn.proofs.PollSteps.{SameFeed, before_same, feed_answered, feed_same, feed_silenced, news-empty}
+use Rattle.gcd_turn.proofs.PollSteps.{SameFeed, before_same, feed_answered, feed_same, feed_silenced, news-empty, pieces-news}
 
 -- the poller gave an answer, which is kept
 pub record IsAnswer (now next : PollerState) (t : List Tell) : Type 0 where
@@ -154,7 +155,7 @@ row_more : (plan : PlanView) (stood placed : List Event) (before now next : Poll
     → is_empty_answer t ≡ true → AllWatched plan (stood ++ placed) now
     → IsAnswer now next t → Heard plan stood placed before now (plain o)
     → Heard plan stood placed before next
-      (record o { news = []; empties = row_with o (length (stood ++ placed)); len = length (stood ++ placed) })
+    (record o { news = []; empties = row_with o (length (stood ++ placed)); len = length (stood ++ placed) })
 row_more plan stood placed before now next o t empty all is hd =
     let h : List Event = stood ++ placed in
     let none : news_of t ≡ [] = news-empty t empty in
@@ -259,10 +260,74 @@ heard_counted plan stood placed before now next o t few unhalted empty all is hd
     let more = row_more plan stood placed before now next o t empty all is hd in
     let watched : AllWatched plan h next = λ s live. (is.feeds s).watched ∙ all s live in
     elim (nat_lt row EMPTY_ANSWERS) as (λ v. nat_lt row EMPTY_ANSWERS ≡ v → Heard plan stood placed before next
-        (if v then record o { news = []; empties = row; len = length h } else record o { news = ends_of plan h; empties = 0; len = length h })) [
+    (if v then record o { news = []; empties = row; len = length h } else record o { news = ends_of plan h; empties = 0; len = length h })) [
       | true ↦ λ short. more
       | false ↦ λ long.
           let full : row ≡ EMPTY_ANSWERS = row_is_full o (length h) few (ltb-false row EMPTY_ANSWERS long) in
           silenced plan stood placed before next o unhalted watched
           (subst (λ (n : ℕ). Heard plan stood placed before next (record o { news = []; empties = n; len = length h })) full more)
     ] refl
+
+-- ## A poll
+
+-- the poller answered to a wait of so many milliseconds
+pub record IsPoll (now next : PollerState) (wait : ℕ) (t : List Tell) : Type 0 where
+  pub tells : AreTells now.watched now.ended t
+  pub answers : next.answers ≡ answers_after now.answers wait t
+  pub watched : (s : ℕ) → next.watched s ≡ now.watched s
+  pub at : (s : ℕ) → next.watched_at s ≡ now.watched_at s
+  pub watches : next.watches ≡ now.watches
+
+-- the answer is kept
+kept_answer : (now next : PollerState) (wait : ℕ) (t : List Tell) → (wait == 0 && is_empty_answer t) ≡ false → IsPoll now next wait t → IsAnswer now next t
+kept_answer now next wait t kept is = record {
+  feeds = λ s. record { watched = is.watched s; at = is.at s };
+  answers = is.answers ∙ ap (λ (b : Bool). if b then now.answers else now.answers ++ t ∷ []) kept;
+  watches = is.watches;
+  named = λ s unwatched.
+      elim (is_named s t) as (λ v. is_named s t ≡ v → v ≡ false) [
+        | true ↦ λ named. absurd (both_ways _ unwatched (named_are_watched now.watched now.ended t s is.tells named))
+        | false ↦ λ unnamed. refl
+      ] refl;
+  pieces = pieces-news now.watched now.ended t is.tells;
+}
+
+-- an outlook without news is so
+pub is_plain : (o : OutlookView) → o.news ≡ [] → o ≡ plain o
+is_plain o none = ap (λ (ns : List Tell). record o { news = ns }) none
+
+-- an answer that is not empty
+pub heard_poll : (plan : PlanView) (stood placed : List Event) (before now next : PollerState) (o : OutlookView) (wait : ℕ) (t : List Tell)
+    → o.news ≡ [] → is_empty_answer t ≡ false → IsPoll now next wait t → Heard plan stood placed before now o
+    → Heard plan stood placed before next (record o { news = news_of t; empties = 0 })
+heard_poll plan stood placed before now next o wait t none some is hd =
+    let kept : (wait == 0 && is_empty_answer t) ≡ false = elim (wait == 0) as (λ v. (v && is_empty_answer t) ≡ false) [ true ↦ some | false ↦ refl ] in
+    heard_answer plan stood placed before now next o t (kept_answer now next wait t kept is)
+    (subst (λ (x : OutlookView). Heard plan stood placed before now x) (is_plain o none) hd)
+
+-- an answer to a wait of 0
+pub heard_at_once : (plan : PlanView) (stood placed : List Event) (before now next : PollerState) (o : OutlookView) (wait : ℕ) (t : List Tell)
+    → o.news ≡ [] → wait ≡ 0 → IsPoll now next wait t → Heard plan stood placed before now o
+    → Heard plan stood placed before next (record o { news = news_of t; empties = 0 })
+heard_at_once plan stood placed before now next o wait t none zero is hd =
+    elim (is_empty_answer t) as (λ v. is_empty_answer t ≡ v → Heard plan stood placed before next (record o { news = news_of t; empties = 0 })) [
+      | true ↦ λ empty.
+          let dropped : (wait == 0 && is_empty_answer t) ≡ true = and_from _ _ (eq-eqb wait 0 zero) empty in
+          subst (λ (ns : List Tell). Heard plan stood placed before next (record o { news = ns; empties = 0 })) (sym (news-empty t empty))
+          (heard_nothing plan stood placed before now next o (λ s. record { watched = is.watched s; at = is.at s })
+          (is.answers ∙ ap (λ (b : Bool). if b then now.answers else now.answers ++ t ∷ []) dropped) is.watches
+          (subst (λ (x : OutlookView). Heard plan stood placed before now x) (is_plain o none) hd))
+      | false ↦ λ some. heard_poll plan stood placed before now next o wait t none some is hd
+    ] refl
+
+-- an empty answer to a wait
+pub heard_empty : (plan : PlanView) (stood placed : List Event) (before now next : PollerState) (o later : OutlookView) (wait : ℕ) (t : List Tell)
+    → o.news ≡ [] → o.empties < EMPTY_ANSWERS → (wait ≡ 0 → ⊥) → is_halted (stood ++ placed) ≡ false → is_empty_answer t ≡ true
+    → AllWatched plan (stood ++ placed) now → later ≡ counted plan (stood ++ placed) o → IsPoll now next wait t
+    → Heard plan stood placed before now o → Heard plan stood placed before next later
+heard_empty plan stood placed before now next o later wait t none few waits unhalted empty all later_is is hd =
+    let kept : (wait == 0 && is_empty_answer t) ≡ false = ap (λ (b : Bool). b && is_empty_answer t) (ne_eqb wait 0 waits) in
+    subst (λ (x : OutlookView). Heard plan stood placed before next x)
+    (sym (later_is ∙ ap (counted plan (stood ++ placed)) (is_plain o none)))
+    (heard_counted plan stood placed before now next o t few unhalted empty all (kept_answer now next wait t kept is)
+    (subst (λ (x : OutlookView). Heard plan stood placed before now x) (is_plain o none) hd))

@@ -174,7 +174,7 @@ heard_told plan stood placed e before now o (t ∷ rest) first permitted hd =
     subst (λ (x : Event). Heard plan stood (placed ++ x ∷ []) before now (record o { news = rest })) is
     (heard_placed plan stood placed (event_of t) before now (record o { news = t ∷ rest }) rest hd
     (λ s. first_of_news plan stood placed before now (hd.spoken ++ hd.quiet) t rest s pieces.0
-        (subst (λ (x : Event). why plan (stood ++ placed) x ≡ None) (sym is) permitted) (hd.feeds s))
+    (subst (λ (x : Event). why plan (stood ++ placed) x ≡ None) (sym is) permitted) (hd.feeds s))
     pieces.1)
 
 -- ## Other news
@@ -223,7 +223,7 @@ heard_barred plan stood placed e before now o (t ∷ rest) first barred hd =
     let is : event_of t ≡ e = same_Some (event_of t) e first in
     let pieces = and_parts (is_news t) (list_all is_news rest) hd.pieces in
     let never : MayEnd plan (stood ++ placed) t.feed → ⊥ =
-        barred_ends plan (stood ++ placed) t pieces.0 (λ (p : why plan (stood ++ placed) (event_of t) ≡ None). barred (subst (λ (x : Event). why plan (stood ++ placed) x ≡ None) is p)) in
+    barred_ends plan (stood ++ placed) t pieces.0 (λ (p : why plan (stood ++ placed) (event_of t) ≡ None). barred (subst (λ (x : Event). why plan (stood ++ placed) x ≡ None) is p)) in
     heard_news plan stood placed before now (record o { news = t ∷ rest }) rest hd
     (λ s. feed_dropped plan stood placed before now (hd.spoken ++ hd.quiet) t rest s never (hd.feeds s)) pieces.1
 

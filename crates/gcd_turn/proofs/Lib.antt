@@ -2,4 +2,6 @@ pub mod FeedSteps
 pub mod HeardPolls
 pub mod HeardSteps
 pub mod HistoryMore
+pub mod NewsLemmas
 pub mod PollSteps
+pub mod TimeLemmas

@@ -101,13 +101,13 @@ told_by : (s : ℕ) (t : Tell) (rest : List Tell) → SaysTold s t rest
 told_by s t rest =
     elim (t.bytes == 0) as (λ v. (t.bytes == 0) ≡ v → SaysTold s t rest) [
       | true ↦ λ z. elim t.ended as (λ v. t.ended ≡ v → SaysTold s t rest) [
-          | true ↦ λ e. elim (t.feed == s) as (λ v. (t.feed == s) ≡ v → SaysTold s t rest) [ true ↦ λ n. rw (z, e, n) refl | false ↦ λ n. rw (z, e, n) refl ] refl
-          | false ↦ λ e. elim (t.feed == s) as (λ v. (t.feed == s) ≡ v → SaysTold s t rest) [ true ↦ λ n. rw (z, e, n) refl | false ↦ λ n. rw (z, e, n) refl ] refl
-        ] refl
+        | true ↦ λ e. elim (t.feed == s) as (λ v. (t.feed == s) ≡ v → SaysTold s t rest) [ true ↦ λ n. rw (z, e, n) refl | false ↦ λ n. rw (z, e, n) refl ] refl
+        | false ↦ λ e. elim (t.feed == s) as (λ v. (t.feed == s) ≡ v → SaysTold s t rest) [ true ↦ λ n. rw (z, e, n) refl | false ↦ λ n. rw (z, e, n) refl ] refl
+      ] refl
       | false ↦ λ z. let b : tell_bytes (record { feed = t.feed; bytes = t.bytes; ended = false }) ≡ t.bytes ∷ [] = ap (λ (v : Bool). if v then [] else t.bytes ∷ []) z in elim t.ended as (λ v. t.ended ≡ v → SaysTold s t rest) [
-          | true ↦ λ e. elim (t.feed == s) as (λ v. (t.feed == s) ≡ v → SaysTold s t rest) [ true ↦ λ n. rw (z, e, n, b) refl | false ↦ λ n. rw (z, e, n) refl ] refl
-          | false ↦ λ e. elim (t.feed == s) as (λ v. (t.feed == s) ≡ v → SaysTold s t rest) [ true ↦ λ n. rw (z, e, n, b) refl | false ↦ λ n. rw (z, e, n) refl ] refl
-        ] refl
+        | true ↦ λ e. elim (t.feed == s) as (λ v. (t.feed == s) ≡ v → SaysTold s t rest) [ true ↦ λ n. rw (z, e, n, b) refl | false ↦ λ n. rw (z, e, n) refl ] refl
+        | false ↦ λ e. elim (t.feed == s) as (λ v. (t.feed == s) ≡ v → SaysTold s t rest) [ true ↦ λ n. rw (z, e, n, b) refl | false ↦ λ n. rw (z, e, n) refl ] refl
+      ] refl
     ] refl
 
 abbrev SaysEnd : ℕ → Tell → List Tell → Type 0
@@ -117,13 +117,13 @@ end_by : (s : ℕ) (t : Tell) (rest : List Tell) → SaysEnd s t rest
 end_by s t rest =
     elim (t.bytes == 0) as (λ v. (t.bytes == 0) ≡ v → SaysEnd s t rest) [
       | true ↦ λ z. elim t.ended as (λ v. t.ended ≡ v → SaysEnd s t rest) [
-          | true ↦ λ e. elim (t.feed == s) as (λ v. (t.feed == s) ≡ v → SaysEnd s t rest) [ true ↦ λ n. rw (z, e, n) refl | false ↦ λ n. rw (z, e, n) refl ] refl
-          | false ↦ λ e. elim (t.feed == s) as (λ v. (t.feed == s) ≡ v → SaysEnd s t rest) [ true ↦ λ n. rw (z, e, n) refl | false ↦ λ n. rw (z, e, n) refl ] refl
-        ] refl
+        | true ↦ λ e. elim (t.feed == s) as (λ v. (t.feed == s) ≡ v → SaysEnd s t rest) [ true ↦ λ n. rw (z, e, n) refl | false ↦ λ n. rw (z, e, n) refl ] refl
+        | false ↦ λ e. elim (t.feed == s) as (λ v. (t.feed == s) ≡ v → SaysEnd s t rest) [ true ↦ λ n. rw (z, e, n) refl | false ↦ λ n. rw (z, e, n) refl ] refl
+      ] refl
       | false ↦ λ z. elim t.ended as (λ v. t.ended ≡ v → SaysEnd s t rest) [
-          | true ↦ λ e. elim (t.feed == s) as (λ v. (t.feed == s) ≡ v → SaysEnd s t rest) [ true ↦ λ n. rw (z, e, n) refl | false ↦ λ n. rw (z, e, n) refl ] refl
-          | false ↦ λ e. elim (t.feed == s) as (λ v. (t.feed == s) ≡ v → SaysEnd s t rest) [ true ↦ λ n. rw (z, e, n) refl | false ↦ λ n. rw (z, e, n) refl ] refl
-        ] refl
+        | true ↦ λ e. elim (t.feed == s) as (λ v. (t.feed == s) ≡ v → SaysEnd s t rest) [ true ↦ λ n. rw (z, e, n) refl | false ↦ λ n. rw (z, e, n) refl ] refl
+        | false ↦ λ e. elim (t.feed == s) as (λ v. (t.feed == s) ≡ v → SaysEnd s t rest) [ true ↦ λ n. rw (z, e, n) refl | false ↦ λ n. rw (z, e, n) refl ] refl
+      ] refl
     ] refl
 
 abbrev SaysNoName : ℕ → Tell → List Tell → Type 0
@@ -133,13 +133,13 @@ name_by : (s : ℕ) (t : Tell) (rest : List Tell) → SaysNoName s t rest
 name_by s t rest =
     elim (t.bytes == 0) as (λ v. (t.bytes == 0) ≡ v → SaysNoName s t rest) [
       | true ↦ λ z. elim t.ended as (λ v. t.ended ≡ v → SaysNoName s t rest) [
-          | true ↦ λ e. λ other none. rw (z, e, other) none
-          | false ↦ λ e. λ other none. rw (z, e) none
-        ] refl
+        | true ↦ λ e. λ other none. rw (z, e, other) none
+        | false ↦ λ e. λ other none. rw (z, e) none
+      ] refl
       | false ↦ λ z. elim t.ended as (λ v. t.ended ≡ v → SaysNoName s t rest) [
-          | true ↦ λ e. λ other none. rw (z, e, other) none
-          | false ↦ λ e. λ other none. rw (z, e, other) none
-        ] refl
+        | true ↦ λ e. λ other none. rw (z, e, other) none
+        | false ↦ λ e. λ other none. rw (z, e, other) none
+      ] refl
     ] refl
 
 abbrev SaysPieces : Tell → List Tell → Type 0
@@ -152,13 +152,13 @@ pieces_by : (t : Tell) (rest : List Tell) → SaysPieces t rest
 pieces_by t rest =
     elim (t.bytes == 0) as (λ v. (t.bytes == 0) ≡ v → SaysPieces t rest) [
       | true ↦ λ z. elim t.ended as (λ v. t.ended ≡ v → SaysPieces t rest) [
-          | true ↦ λ e. λ few all. rw (z, e) all
-          | false ↦ λ e. λ few all. rw (z, e) all
-        ] refl
+        | true ↦ λ e. λ few all. rw (z, e) all
+        | false ↦ λ e. λ few all. rw (z, e) all
+      ] refl
       | false ↦ λ z. elim t.ended as (λ v. t.ended ≡ v → SaysPieces t rest) [
-          | true ↦ λ e. λ few all. let some : nat_lt 0 t.bytes ≡ true = some_bytes t.bytes z in rw (z, e, some, few) all
-          | false ↦ λ e. λ few all. let some : nat_lt 0 t.bytes ≡ true = some_bytes t.bytes z in rw (z, e, some, few) all
-        ] refl
+        | true ↦ λ e. λ few all. let some : nat_lt 0 t.bytes ≡ true = some_bytes t.bytes z in rw (z, e, some, few) all
+        | false ↦ λ e. λ few all. let some : nat_lt 0 t.bytes ≡ true = some_bytes t.bytes z in rw (z, e, some, few) all
+      ] refl
     ] refl
 
 pub told_in-news : (s : ℕ) (ts : List Tell) → told_in s (news_of ts) ≡ told_in s ts
@@ -186,10 +186,10 @@ empty_by : (t : Tell) (rest : List Tell) → (t.bytes == 0 && (if t.ended then f
 empty_by t rest h =
     elim (t.bytes == 0) as (λ v. (t.bytes == 0) ≡ v → news_by t ++ rest ≡ rest) [
       | true ↦ λ z. elim t.ended as (λ v. t.ended ≡ v → news_by t ++ rest ≡ rest) [
-          | true ↦ λ e. let bad : (if t.ended then false else true) ≡ true = (and_parts (t.bytes == 0) (if t.ended then false else true) h).1 in
-              absurd (both_ways _ (rw e refl) bad)
-          | false ↦ λ e. rw (z, e) refl
-        ] refl
+        | true ↦ λ e. let bad : (if t.ended then false else true) ≡ true = (and_parts (t.bytes == 0) (if t.ended then false else true) h).1 in
+            absurd (both_ways _ (rw e refl) bad)
+        | false ↦ λ e. rw (z, e) refl
+      ] refl
       | false ↦ λ z. absurd (both_ways _ z (and_parts (t.bytes == 0) (if t.ended then false else true) h).0)
     ] refl
 
@@ -251,7 +251,7 @@ feed_answered plan stood placed before now A t s named f =
           let parts = or_parts (is_named s []) (list_any (is_named s) A) (f.unnamed w) in
           let none : is_named s t ≡ false = named w in
           let more : list_any (is_named s) (A ++ t ∷ []) ≡ false =
-              list_any-append (is_named s) A (t ∷ []) ∙ ap (λ (b : Bool). b || (is_named s t || false)) parts.1 ∙ ap (λ (b : Bool). b || false) none in
+          list_any-append (is_named s) A (t ∷ []) ∙ ap (λ (b : Bool). b || (is_named s t || false)) parts.1 ∙ ap (λ (b : Bool). b || false) none in
           ap (λ (b : Bool). b || list_any (is_named s) (A ++ t ∷ [])) (unnamed-news s t none) ∙ more;
       unread = f.unread;
       front = begins_through (told_of s (A ++ t ∷ [])) (told_of s A) had (record { rest = _; split = told_all }) f.front;

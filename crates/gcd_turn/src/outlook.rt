@@ -1,14 +1,16 @@
 // What worker 0 keeps of the outside between its turns.
-ghost use Rattle.std.specs.Prelude.{◌≡◌, ◌≤◌, ◌<◌, ◌++◌, [], ℕ, true, List, drop, length, IfSome, OnSome, IfNone, OnOk, OnErr};
+ghost use Rattle.std.specs.Prelude.{◌≡◌, ◌≤◌, ◌<◌, ◌++◌, [], ℕ, true, false, List, drop, length, IfSome, OnSome, IfNone, OnOk, OnErr};
 ghost use Rattle.gcd_plan.specs.Limits.{max_events};
 ghost use Rattle.gcd_plan.specs.PlanView.{PlanView};
 ghost use Rattle.gcd_event.specs.declared.event.Event.{Event};
 ghost use Rattle.gcd_event.specs.declared.event.Event.TheVariants.{Halt};
+ghost use Rattle.gcd_history.specs.Ends.{is_halted};
 ghost use Rattle.gcd_machine.specs.Stands.{StandsFor};
 ghost use Rattle.gcd_outer.specs.Tells.{PollerState};
 ghost use Rattle.gcd_turn.specs.Asked.{AllWatched, HasFailed, HasNotFailed, HasWatched, IsAsked, WaitedFor};
 ghost use Rattle.gcd_turn.specs.Hearing.{Heard};
-ghost use Rattle.gcd_turn.specs.Turns.{counted};
+ghost use Rattle.gcd_turn.specs.declared.limits.TheConstants.{EMPTY_ANSWERS};
+ghost use Rattle.gcd_turn.specs.Turns.{counted, news_of, row_with};
 
 use crate::ask::Ask;
 use crate::limits::EMPTY_ANSWERS;
@@ -104,24 +106,40 @@ impl Outlook {
         self.news.settle();
     }
 
+    // How many empty answers came in a row with one more, where there are now so many events.
+    fn row_with(&self, len: u32) -> u32
+        ensures { result ≡ row_with self.now len }
+    {
+        if self.len == len {
+            return self.empties + 1;
+        }
+        1
+    }
+
     // An empty answer to a wait: it is counted where the history has not grown since the last; at the last of the count each
     // live feed is taken to have ended.
     fn count_empty(&mut self, plan: &Plan, machine: &Machine)
         requires { machine.now.plan ≡ plan.now }
-        ensures { (h : List Event) → StandsFor machine.now plan.now h → self.new ≡ counted plan.now h self.old }
+        ensures counted { (h : List Event) → StandsFor machine.now plan.now h → self.new ≡ counted plan.now h self.old }
+        ensures start { self.new.start ≡ self.old.start }
+        ensures few { self.old.empties < EMPTY_ANSWERS }
     {
-        let row = if self.len == machine.len() {
-            self.empties
-        } else {
-            0
-        };
+        let row = self.row_with(machine.len());
         self.len = machine.len();
-        if row + 1 < EMPTY_ANSWERS {
-            self.empties = row + 1;
-        } else {
-            self.empties = 0;
-            self.news.take_ends(plan, machine);
+        if row < EMPTY_ANSWERS {
+            self.empties = row;
+            return;
         }
+        self.empties = 0;
+        self.news.take_ends(plan, machine);
+    }
+
+    // What was told is news, and the row of empty answers ends.
+    fn hear(&mut self, told: &Told)
+        ensures { self.new ≡ record self.old { news = news_of told.now; empties = 0 } }
+    {
+        self.empties = 0;
+        self.news.take(told);
     }
 
     // One poll.
@@ -136,7 +154,7 @@ impl Outlook {
         requires no_news { self.old.news ≡ [] }
         requires some { (feed : ℕ) × ((P.state poller.old).watched feed ≡ true) }
         ensures heard { (stood placed : List Event) (before : PollerState) → StandsFor machine.now plan.now (stood ++ placed)
-            → AllWatched plan.now (stood ++ placed) (P.state poller.old)
+            → is_halted (stood ++ placed) ≡ false → AllWatched plan.now (stood ++ placed) (P.state poller.old)
             → P.tells ≡ true → Heard plan.now stood placed before (P.state poller.old) self.old
             → Heard plan.now stood placed before (P.state poller.new) self.new }
         ensures start { self.new.start ≡ self.old.start }
@@ -146,12 +164,15 @@ impl Outlook {
         let wait = poll_wait(machine, left);
         let mut told = Told::new();
         poller.poll(wait, &mut told)?;
-        if wait > 0 && told.is_empty_answer() {
-            self.count_empty(plan, machine);
-        } else {
-            self.empties = 0;
-            self.news.take(&told);
+        if wait == 0 {
+            self.hear(&told);
+            return Ok(());
         }
+        if told.is_empty_answer() {
+            self.count_empty(plan, machine);
+            return Ok(());
+        }
+        self.hear(&told);
         Ok(())
     }
 
@@ -168,7 +189,7 @@ impl Outlook {
         requires no_news { self.old.news ≡ [] }
         requires watched { HasWatched machine.now plan.now (P.state poller.old) }
         ensures heard { (stood placed : List Event) (before : PollerState) → StandsFor machine.now plan.now (stood ++ placed)
-            → AllWatched plan.now (stood ++ placed) (P.state poller.old)
+            → is_halted (stood ++ placed) ≡ false → AllWatched plan.now (stood ++ placed) (P.state poller.old)
             → P.tells ≡ true → Heard plan.now stood placed before (P.state poller.old) self.old
             → Heard plan.now stood placed before (P.state poller.new) self.new }
         ensures start { self.new.start ≡ self.old.start }

@@ -5,6 +5,7 @@ ghost use Rattle.gcd_plan.specs.PlanView.{PlanView};
 ghost use Rattle.gcd_event.specs.declared.event.Event.{Event};
 ghost use Rattle.gcd_history.specs.History.{is_live_feed, running_of};
 ghost use Rattle.gcd_machine.specs.Stands.{StandsFor};
+ghost use Rattle.gcd_outer.specs.declared.limits.TheConstants.{MAX_FEEDS};
 ghost use Rattle.gcd_outer.specs.Tells.{PollerState};
 ghost use Rattle.gcd_turn.specs.Asked.{AllWatched, HasFailed, HasNotFailed, WaitedFor};
 ghost use Rattle.gcd_turn.specs.Hearing.{Heard};
@@ -76,6 +77,7 @@ fn watch_one<P: Poller>(
 ) -> Result<(), Failed>
     requires own { machine.now.plan ≡ plan.now }
     requires within { src.0 < length plan.now.objects }
+    requires low { src.0 < MAX_FEEDS }
     ensures watched { (h : List Event) → StandsFor machine.now plan.now h → is_live_feed plan.now h src.0 ≡ true
         → OnOk result ((P.state poller.new).watched src.0 ≡ true) }
     ensures kept { (s : ℕ) → (P.state poller.old).watched s ≡ true → (P.state poller.new).watched s ≡ true }
@@ -92,7 +94,8 @@ fn watch_one<P: Poller>(
     if poller.is_watched(src.0) {
         return Ok(());
     }
-    poller.watch(src.0, plan.path_of(src))
+    poller.watch(src.0, plan.path_of(src))?;
+    Ok(())
 }
 
 // Each live feed is watched from now on, by number.

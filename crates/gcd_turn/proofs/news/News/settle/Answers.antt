@@ -1,4 +1,3 @@
-use Rattle.gcd_turn.proofs.HeardPolls.{heard_counted}
 use Rattle.std.proofs.Common.{◌∙◌, ap, sym, drop}
 use Rattle.std.proofs.lemmas.List.{drop-drop}
 use Rattle.gcd_turn.proofs.news.News.settle.Goals as goal
