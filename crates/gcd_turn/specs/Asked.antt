@@ -1,5 +1,5 @@
 -- What worker 0 is asked to do next.
-use Rattle.std.specs.Prelude.{◌≡◌, ◌≤◌, ◌<◌, ◌+◌, ◌⊎◌, ℕ, true, List, [], Option, Some, None, IsSome, max, min}
+use Rattle.std.specs.Prelude.{◌≡◌, ◌≤◌, ◌<◌, ◌+◌, ◌⊎◌, ℕ, Bool, true, List, [], Option, Some, None, IsSome, max, min}
 use Rattle.gcd_plan.specs.PlanView.{PlanView}
 use Rattle.gcd_event.specs.declared.event.Event.{Event}
 use Rattle.gcd_event.specs.declared.event.Event.TheVariants.{Start, Act as Acted, Wake, End, Deliver, DeliverEnd, Tick, Ready, FeedEnd, Misuse, Halt}
@@ -17,6 +17,12 @@ use Rattle.gcd_turn.specs.declared.ask.Ask.TheVariants.{Leave, Told, Put, Work}
 -- each live feed is watched
 abbrev pub AllWatched : PlanView → List Event → PollerState → Type 0
 AllWatched plan h poller = (s : ℕ) → is_live_feed plan h s ≡ true → poller.watched s ≡ true
+
+-- what no turn changes: no listen is made, and the count of faults does not fall
+pub record KeepsListens (tells : Bool) (old new : PollerState) : Type 0 where
+  pub faults : old.faults ≤ new.faults
+  pub listens : tells ≡ true → new.listens ≡ old.listens
+  pub addresses : tells ≡ true → new.addresses ≡ old.addresses
 
 -- the machine stands for a history at which each live feed is watched
 pub record HasWatched (m : MachineView) (plan : PlanView) (poller : PollerState) : Type 0 where

@@ -7,7 +7,7 @@ ghost use Rattle.gcd_event.specs.declared.event.Event.TheVariants.{Halt};
 ghost use Rattle.gcd_history.specs.Ends.{is_halted};
 ghost use Rattle.gcd_machine.specs.Stands.{StandsFor};
 ghost use Rattle.gcd_outer.specs.Tells.{PollerState};
-ghost use Rattle.gcd_turn.specs.Asked.{AllWatched, HasFailed, HasNotFailed, HasWatched, IsAsked, WaitedFor};
+ghost use Rattle.gcd_turn.specs.Asked.{AllWatched, HasFailed, HasNotFailed, KeepsListens, HasWatched, IsAsked, WaitedFor};
 ghost use Rattle.gcd_turn.specs.Hearing.{Heard};
 ghost use Rattle.gcd_turn.specs.declared.limits.TheConstants.{EMPTY_ANSWERS};
 ghost use Rattle.gcd_turn.specs.Turns.{counted, news_of, row_with};
@@ -81,6 +81,7 @@ impl Outlook {
         ensures heard { (stood placed : List Event) (before : PollerState) → StandsFor machine.now plan.now (stood ++ placed)
             → P.tells ≡ true → Heard plan.now stood placed before (P.state poller.old) self.now
             → Heard plan.now stood placed before (P.state poller.new) self.now }
+        ensures kept { KeepsListens P.tells (P.state poller.old) (P.state poller.new) }
         ensures goes_on { (C.state clock.old).present ≤ (C.state clock.new).present }
         ensures waited { C.tells ≡ true → (C.state clock.new).waited ≡ (C.state clock.old).waited }
     {
@@ -158,6 +159,7 @@ impl Outlook {
             → P.tells ≡ true → Heard plan.now stood placed before (P.state poller.old) self.old
             → Heard plan.now stood placed before (P.state poller.new) self.new }
         ensures start { self.new.start ≡ self.old.start }
+        ensures kept { KeepsListens P.tells (P.state poller.old) (P.state poller.new) }
         ensures ok { OnOk result (HasNotFailed (P.state poller.old) (P.state poller.new)) }
         ensures failed { OnErr result (HasFailed (P.state poller.old) (P.state poller.new)) }
     {
@@ -193,6 +195,7 @@ impl Outlook {
             → P.tells ≡ true → Heard plan.now stood placed before (P.state poller.old) self.old
             → Heard plan.now stood placed before (P.state poller.new) self.new }
         ensures start { self.new.start ≡ self.old.start }
+        ensures kept { KeepsListens P.tells (P.state poller.old) (P.state poller.new) }
         ensures halt { IfSome result (λ e. e ≡ Halt) }
         ensures failed { OnSome result (HasFailed (P.state poller.old) (P.state poller.new)) }
         ensures unfailed { IfNone result (HasNotFailed (P.state poller.old) (P.state poller.new)) }

@@ -7,7 +7,7 @@ ghost use Rattle.gcd_history.specs.History.{is_live_feed, running_of};
 ghost use Rattle.gcd_machine.specs.Stands.{StandsFor};
 ghost use Rattle.gcd_outer.specs.declared.limits.TheConstants.{MAX_FEEDS};
 ghost use Rattle.gcd_outer.specs.Tells.{PollerState};
-ghost use Rattle.gcd_turn.specs.Asked.{AllWatched, HasFailed, HasNotFailed, WaitedFor};
+ghost use Rattle.gcd_turn.specs.Asked.{AllWatched, HasFailed, HasNotFailed, KeepsListens, WaitedFor};
 ghost use Rattle.gcd_turn.specs.Hearing.{Heard};
 ghost use Rattle.gcd_turn.specs.Promises.{HasEnded};
 ghost use Rattle.gcd_turn.specs.Times.{IsTime, IsPollWait};
@@ -80,11 +80,12 @@ fn watch_one<P: Poller>(
     requires low { src.0 < MAX_FEEDS }
     ensures watched { (h : List Event) → StandsFor machine.now plan.now h → is_live_feed plan.now h src.0 ≡ true
         → OnOk result ((P.state poller.new).watched src.0 ≡ true) }
-    ensures kept { (s : ℕ) → (P.state poller.old).watched s ≡ true → (P.state poller.new).watched s ≡ true }
+    ensures still { (s : ℕ) → (P.state poller.old).watched s ≡ true → (P.state poller.new).watched s ≡ true }
     ensures heard { (stood placed : List Event) (before : PollerState) (o : OutlookView)
         → StandsFor machine.now plan.now (stood ++ placed)
         → P.tells ≡ true → Heard plan.now stood placed before (P.state poller.old) o
         → Heard plan.now stood placed before (P.state poller.new) o }
+    ensures kept { KeepsListens P.tells (P.state poller.old) (P.state poller.new) }
     ensures ok { OnOk result (HasNotFailed (P.state poller.old) (P.state poller.new)) }
     ensures failed { OnErr result (HasFailed (P.state poller.old) (P.state poller.new)) }
 {
@@ -111,6 +112,7 @@ pub(crate) fn watch_new<P: Poller>(
         → StandsFor machine.now plan.now (stood ++ placed)
         → P.tells ≡ true → Heard plan.now stood placed before (P.state poller.old) o
         → Heard plan.now stood placed before (P.state poller.new) o }
+    ensures kept { KeepsListens P.tells (P.state poller.old) (P.state poller.new) }
     ensures ok { OnOk result (HasNotFailed (P.state poller.old) (P.state poller.new)) }
     ensures failed { OnErr result (HasFailed (P.state poller.old) (P.state poller.new)) }
 {
