@@ -4,4 +4,6 @@ pub mod HeardSteps
 pub mod HistoryMore
 pub mod NewsLemmas
 pub mod PollSteps
+pub mod Promised
 pub mod TimeLemmas
+pub mod TimeSteps

@@ -2,4 +2,5 @@ pub mod Asked
 pub mod Hearing
 pub mod Promises
 pub mod Times
+pub mod Timing
 pub mod Turns
