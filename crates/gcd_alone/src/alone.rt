@@ -1,78 +1,103 @@
-// A run by worker 0 alone, as far as it has come.
+// The turns of worker 0 alone.
+ghost use Rattle.std.specs.Prelude.{◌≡◌, ◌≤◌, ◌++◌, ◌∷◌, [], ℕ, true, false, List, length, IfOk};
+ghost use Rattle.gcd_event.specs.declared.event.Event.{Event};
+ghost use Rattle.gcd_jobs.specs.Contents.{contents};
+ghost use Rattle.gcd_machine.specs.Stands.{StandsFor};
+ghost use Rattle.gcd_outer.specs.Outside.{ClockState};
+ghost use Rattle.gcd_outer.specs.Tells.{PollerState};
+ghost use Rattle.gcd_turn.specs.Promises.{HasEnded};
+ghost use Rattle.gcd_alone.specs.Going.{IsGoing, IsRun};
+ghost use Rattle.gcd_alone.specs.Ran.{RanAlone};
 
+use crate::running::Running;
 use gcd_event::Event;
-use gcd_jobs::{FileJob, Handler, Job, Tally};
+use gcd_history::State;
 use gcd_machine::Machine;
-use gcd_plan::{Blk, MAX_EVENTS, Obj, Plan};
+use gcd_outer::{Clock, Poller};
+use gcd_plan::Plan;
+use gcd_turn::{Ask, Outlook};
 use std::alloc::{AllocError, Global};
+use std::sync::Wait;
 
-/// A run by worker 0 alone, as far as it has come.
+/// What a run by worker 0 alone leaves.
 #[derive(Debug, Drop)]
 pub struct Alone {
     /// All events, in order.
     pub journal: Vec<Event>,
     /// For each block the value of its work where it has ended, and else 0.
     pub values: Vec<u64>,
-    /// For each object how often it was delivered, and what.
-    pub tallies: Vec<Tally>,
+    /// How far the run has come.
+    pub state: State,
     /// The machine that stands for the journal.
     pub machine: Machine,
 }
 
-// A tally for each object.
-fn tallies(alloc: Global, plan: &Plan) -> Result<Vec<Tally>, AllocError> {
-    let mut tallies = Vec::new(alloc);
-    for o in 0..plan.objects() {
-        tallies.push(Tally::new(plan.kind(Obj(o))))?;
+// What worker 0 chooses is recorded; where it has no choice it listens or waits.
+fn work<P: Poller, C: Clock>(
+    run: &mut Running,
+    outlook: &mut Outlook,
+    plan: &Plan,
+    files: &[Vec<u8>],
+    poller: &mut P,
+    clock: &mut C,
+    left: Option<u32>,
+) -> Result<(), AllocError> {
+    if let Some(e) = run.machine.choose(0, 0) {
+        return run.record(plan, files, e);
     }
-    Ok(tallies)
+    match outlook.idle(plan, &run.machine, poller, clock, left) {
+        Some(e) => run.put(plan, files, e),
+        None => Ok(()),
+    }
 }
 
-// The value of a block: that of its work, and 0 without work.
-fn block_value(plan: &Plan, files: &[Vec<u8>], b: Blk) -> u64 {
-    FileJob::new(files, plan.work(b)).run(0)
+// A turn, up to its first recorded event. Whether the run goes on.
+fn turn<P: Poller, C: Clock>(
+    run: &mut Running,
+    outlook: &mut Outlook,
+    plan: &Plan,
+    files: &[Vec<u8>],
+    poller: &mut P,
+    clock: &mut C,
+) -> Result<bool, AllocError> {
+    match outlook.ask(plan, &run.machine, poller, clock) {
+        Ask::Leave => Ok(false),
+        Ask::Told(e) => {
+            run.put(plan, files, e)?;
+            outlook.settle();
+            Ok(true)
+        }
+        Ask::Put(e) => {
+            run.put(plan, files, e)?;
+            Ok(true)
+        }
+        Ask::Work { left } => {
+            work(run, outlook, plan, files, poller, clock, left)?;
+            Ok(true)
+        }
+    }
 }
 
-impl Alone {
-    // A run before its first event.
-    pub(crate) fn new(alloc: Global, plan: &Plan) -> Result<Alone, AllocError> {
-        Ok(Alone {
-            journal: Vec::with_capacity(alloc, MAX_EVENTS as usize)?,
-            values: Vec::from_elem(alloc, 0, plan.blocks() as usize)?,
-            tallies: tallies(alloc, plan)?,
-            machine: Machine::new(alloc, plan)?,
-        })
-    }
-
-    // Records an event that is permitted.
-    pub(crate) fn record(
-        &mut self,
-        plan: &Plan,
-        files: &[Vec<u8>],
-        e: Event,
-    ) -> Result<(), AllocError> {
-        if let Event::End { blk, .. } = e {
-            self.values[blk.0 as usize] = block_value(plan, files, blk);
+/// Runs the plan by worker 0 alone.
+pub fn run_alone<R: Wait, P: Poller, C: Clock>(
+    rt: &R,
+    alloc: Global,
+    plan: &Plan,
+    files: &[Vec<u8>],
+    poller: &mut P,
+    clock: &mut C,
+) -> Result<Alone, AllocError> {
+    let mut run = Running::new(alloc, plan, files)?;
+    let mut outlook = Outlook::new(clock);
+    for _ in rt.forever() {
+        if !turn(&mut run, &mut outlook, plan, files, poller, clock)? {
+            break;
         }
-        self.journal.push(e)?;
-        self.machine.apply(e);
-        if let Event::Deliver { src, .. } = e {
-            let value = self.machine.data_of(src);
-            self.tallies[src.0 as usize].take(value);
-        }
-        Ok(())
     }
-
-    // Records an event of the outside, or drops it where it is not permitted.
-    pub(crate) fn put(
-        &mut self,
-        plan: &Plan,
-        files: &[Vec<u8>],
-        e: Event,
-    ) -> Result<(), AllocError> {
-        if self.machine.permits(e).is_some() {
-            return Ok(());
-        }
-        self.record(plan, files, e)
-    }
+    Ok(Alone {
+        state: run.machine.state(),
+        journal: run.journal,
+        values: run.values,
+        machine: run.machine,
+    })
 }

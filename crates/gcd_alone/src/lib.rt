@@ -2,10 +2,9 @@
 #![tactic(auto)]
 
 mod alone;
-mod run;
+mod running;
 
-pub use alone::Alone;
-pub use run::run_alone;
+pub use alone::{Alone, run_alone};
 
 #[cfg(test)]
 mod tests;

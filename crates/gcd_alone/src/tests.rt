@@ -138,11 +138,12 @@ fn poller_of(alloc: Global, row: &Row) -> Result<ListPoller, AllocError> {
     Ok(poller)
 }
 
-// Object 1's tally.
-fn received(run: &Alone) -> (u32, u64) {
-    match run.tallies.get(1) {
-        Some(tally) => (tally.times, tally.total),
-        None => (0, 0),
+// What the last delivery of object 1 handed over.
+fn data(run: &Alone) -> u64 {
+    if run.machine.objects() > 1 {
+        run.machine.data_of(Obj(1))
+    } else {
+        0
     }
 }
 
@@ -154,7 +155,8 @@ fn is_as_told(rt: &(impl Abort + Wait), alloc: Global, row: &Row) -> Result<(), 
     let what = row.what;
     let journal = journal(alloc, run.journal.as_slice())?;
     assert_eq!(rt; journal.as_str(), row.journal, "{what}");
-    assert_eq!(rt; received(&run), row.received, "{what}");
+    assert!(rt; run.state == row.state, "{what}");
+    assert_eq!(rt; data(&run), row.data, "{what}");
     Ok(())
 }
 

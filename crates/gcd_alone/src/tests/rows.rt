@@ -1,5 +1,6 @@
 // The plans of the tests, what poller and clock say, and what a run of each records.
 
+use gcd_history::State;
 use gcd_plan::{Act, Blk, Kind, Obj, Run};
 
 const ROOT: Obj = Obj(0);
@@ -41,8 +42,9 @@ pub struct Row {
     pub failing_watch: bool,
     // what is recorded
     pub journal: &'static str,
-    // how often object 1 was delivered, and what
-    pub received: (u32, u64),
+    pub state: State,
+    // what the last delivery of object 1 handed over
+    pub data: u64,
 }
 
 // A serial queue, no block beside `main`, which does nothing.
@@ -59,7 +61,8 @@ const PLAIN: Row = Row {
     failing_poll: None,
     failing_watch: false,
     journal: "start 0 b0; end 0 b0; ",
-    received: (0, 0),
+    state: State::Drained,
+    data: 0,
 };
 
 // A timer, due at 10 and then each 5 milliseconds up to 21.
@@ -76,7 +79,7 @@ const TIMER: Row = Row {
     until: 21,
     journal: "start 0 b0; act 0 b0 0; end 0 b0; tick 10; deliver 0 s1; deliver_end 0 s1; tick 15; deliver 0 s1; \
               deliver_end 0 s1; tick 20; deliver 0 s1; deliver_end 0 s1; ",
-    received: (3, 3),
+    data: 1,
     ..PLAIN
 };
 
@@ -88,7 +91,7 @@ const FEED: Row = Row {
     tells: &[(1, 4, false), (1, 0, false), (1, 6, false), (1, 0, true)],
     journal: "start 0 b0; act 0 b0 0; end 0 b0; ready s1 4; deliver 0 s1; deliver_end 0 s1; ready s1 6; deliver 0 s1; \
               deliver_end 0 s1; feed_end s1; ",
-    received: (2, 10),
+    data: 6,
     ..PLAIN
 };
 
@@ -103,6 +106,7 @@ pub const ROWS: [Row; 13] = [
     },
     Row {
         what: "a misuse",
+        state: State::Misused,
         acts: &[(MAIN, Act::Resume(O1))],
         journal: "start 0 b0; misuse 0 b0 0 M1; ",
         ..PLAIN
@@ -120,7 +124,7 @@ pub const ROWS: [Row; 13] = [
         ],
         journal: "start 0 b0; act 0 b0 0; act 0 b0 1; act 0 b0 2; act 0 b0 3; act 0 b0 4; act 0 b0 5; end 0 b0; \
                   deliver 0 s1; deliver_end 0 s1; ",
-        received: (1, 12),
+        data: 12,
         ..PLAIN
     },
     TIMER,
@@ -128,7 +132,7 @@ pub const ROWS: [Row; 13] = [
         what: "a clock of large steps",
         step: 6,
         journal: "start 0 b0; act 0 b0 0; end 0 b0; tick 12; tick 18; tick 21; deliver 0 s1; deliver_end 0 s1; ",
-        received: (1, 3),
+        data: 3,
         ..TIMER
     },
     Row {
@@ -138,7 +142,7 @@ pub const ROWS: [Row; 13] = [
         cancel: Some(B1),
         journal: "start 0 b0; act 0 b0 0; end 0 b0; tick 10; deliver 0 s1; act 0 s1 0; deliver_end 0 s1; start 0 b1; \
                   end 0 b1; ",
-        received: (1, 1),
+        data: 1,
         ..TIMER
     },
     FEED,
@@ -146,14 +150,16 @@ pub const ROWS: [Row; 13] = [
         what: "a poll that fails",
         failing_poll: Some(1),
         journal: "start 0 b0; act 0 b0 0; end 0 b0; ready s1 4; deliver 0 s1; deliver_end 0 s1; halt; ",
-        received: (1, 4),
+        state: State::Halted,
+        data: 4,
         ..FEED
     },
     Row {
         what: "a watch that fails",
+        state: State::Halted,
         failing_watch: true,
         journal: "start 0 b0; act 0 b0 0; halt; ",
-        received: (0, 0),
+        data: 0,
         ..FEED
     },
     Row {
@@ -165,7 +171,7 @@ pub const ROWS: [Row; 13] = [
         what: "a feed that stays silent",
         empties: 1000,
         journal: "start 0 b0; act 0 b0 0; end 0 b0; feed_end s1; ",
-        received: (0, 0),
+        data: 0,
         ..FEED
     },
     Row {
@@ -192,7 +198,7 @@ pub const ROWS: [Row; 13] = [
         tells: &[(2, 5, true)],
         journal: "start 0 b0; act 0 b0 0; act 0 b0 1; end 0 b0; tick 500; deliver 0 s3; act 0 s3 0; deliver_end 0 s3; \
                   ready s2 5; feed_end s2; feed_end s1; ",
-        received: (0, 0),
+        data: 0,
         ..FEED
     },
 ];
