@@ -3,3 +3,4 @@ mod FeedLemmas
 mod SlotLemmas
 mod TellLemmas
 mod TextLemmas
+pub mod ToldLemmas

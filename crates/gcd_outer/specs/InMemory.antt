@@ -1,6 +1,8 @@
 -- What the constructors and setters of the things in memory determine.
 use Rattle.std.specs.Prelude.{◌≡◌, ◌+◌, ℕ, Bool, List, map}
 use Rattle.gcd_outer.specs.Feeds.{watched_in, ended_in, watched_at_in}
+use Rattle.gcd_outer.specs.Outside.{ClockState}
+use Rattle.gcd_outer.specs.Tells.{PollerState}
 use Rattle.gcd_outer.specs.Texts.{bytes_of}
 use Rattle.gcd_outer.specs.declared.jump_clock.JumpClock.{JumpClock}
 use Rattle.gcd_outer.specs.declared.list_poller.ListPoller.{ListPoller}
@@ -31,6 +33,10 @@ most_of sink = sink.most
 -- by how many milliseconds an answer moves a clock on
 abbrev pub step_of : JumpClock → ℕ
 step_of clock = clock.step
+
+-- the present of a clock, and the greatest moment that was waited for
+abbrev pub clock_state : JumpClock → ClockState
+clock_state clock = record { present = clock.present; waited = clock.waited }
 
 -- the answers that a poller has still to give
 abbrev pub left_of : ListPoller → List (List Tell)
@@ -87,6 +93,19 @@ ended_of poller = ended_in poller.feeds.items
 -- how often a poller has failed
 abbrev pub faults_of : ListPoller → ℕ
 faults_of poller = poller.faults
+
+-- what a poller in memory has told, what it watches, and how often it has failed
+abbrev pub state_of : ListPoller → PollerState
+state_of poller = record {
+  answers = answers_of poller;
+  watched_at = watched_at_of poller;
+  watches = watches_of poller;
+  listens = listens_of poller;
+  addresses = addresses_of poller;
+  watched = watched_of poller;
+  ended = ended_of poller;
+  faults = faults_of poller;
+}
 
 -- how many polls of a poller there were, and how many watches, those that failed among them
 abbrev pub polls_of : ListPoller → ℕ

@@ -84,20 +84,14 @@ Took sink bytes = sink.tells ≡ true → sink.taken_after ≡ sink.taken_before
 abbrev pub TookFront : SinkSeen → Bytes → Type 0
 TookFront sink text = sink.tells ≡ true → (n : ℕ) × (n < length text) × (sink.taken_after ≡ sink.taken_before ++ take n text)
 
--- What a call saw of a clock: whether it tells its present, and the present and the greatest moment waited for, before and after.
-pub record ClockSeen : Type 0 where
-  pub tells : Bool
-  pub present_before : ℕ
-  pub present_after : ℕ
-  pub waited_before : ℕ
-  pub waited_after : ℕ
+-- The present of a clock, which never falls and which no answer so far exceeds, and the greatest moment that was waited
+-- for, 0 before the first wait; in milliseconds.
+pub record ClockState : Type 0 where
+  pub present : ℕ
+  pub waited : ℕ
 
--- what a call saw of a clock, from the clock's ghost members and its state before and after the call
-abbrev pub clock_seen : {C : Type 0} → Bool → (C → ℕ) → (C → ℕ) → C → C → ClockSeen
-clock_seen tells present waited old new = record {
-  tells = tells;
-  present_before = present old;
-  present_after = present new;
-  waited_before = waited old;
-  waited_after = waited new;
-}
+-- what calls saw of something: whether it tells, and its state before and after them
+pub record Seen (State : Type 0) : Type 0 where
+  pub tells : Bool
+  pub before : State
+  pub after : State

@@ -1,5 +1,5 @@
 -- The feeds of the poller over the system, by number.
-use Rattle.std.specs.Prelude.{◌≡◌, ◌≤◌, ℕ, Bool, true, false, List, Option, Some, None, length}
+use Rattle.std.specs.Prelude.{◌≡◌, ◌≤◌, ℕ, Bool, true, false, List, [], Option, Some, None, length}
 use Rattle.std.specs.List.{slice_get}
 use Rattle.std.specs.Option.{option_map_or}
 use Rattle.gcd_outer.specs.declared.limits.TheConstants.{MAX_TELLS, MAX_TELL_BYTES}
@@ -7,7 +7,7 @@ use Rattle.gcd_outer.specs.declared.slot.Source.{Source}
 use Rattle.gcd_outer.specs.declared.slot.Source.TheVariants.{Absent, Waiting, Stream, Regular}
 use Rattle.gcd_outer.specs.declared.slot.Slot.{Slot}
 use Rattle.gcd_outer.specs.declared.tell.Tell.{Tell}
-use Rattle.gcd_outer.specs.Tells.{AreTells, ended_by}
+use Rattle.gcd_outer.specs.Tells.{AreTells, PollerState, ended_by}
 
 -- whether something stands there
 abbrev pub is_there : Source → Bool
@@ -36,3 +36,16 @@ pub record ReadTells (old new : List Slot) (told : List Tell) : Type 0 where
   pub tells : AreTells (watched_slot old) (ended_slot old) told
   pub watched : (feed : ℕ) → watched_slot new feed ≡ watched_slot old feed
   pub ended : (feed : ℕ) → ended_slot new feed ≡ ended_by (ended_slot old) told feed
+
+-- the state of a poller that tells nothing
+abbrev pub silent_state : List Slot → (faults : ℕ) → PollerState
+silent_state slots faults = record {
+  answers = [];
+  watched_at = λ _. 0;
+  watches = [];
+  listens = 0;
+  addresses = [];
+  watched = watched_slot slots;
+  ended = ended_slot slots;
+  faults = faults;
+}

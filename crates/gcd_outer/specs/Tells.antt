@@ -43,46 +43,36 @@ told_in feed (t ∷ ts) =
 abbrev pub told_of : ℕ → List (List Tell) → List ℕ
 told_of feed answers = told_in feed (flat_map (λ answer. answer) answers)
 
+-- whether a tell of the list is of a feed
+abbrev pub is_named : ℕ → List Tell → Bool
+is_named feed = list_any (λ t. t.feed == feed)
+
+-- whether a tell of the list has the end of a feed
+abbrev pub has_end : ℕ → List Tell → Bool
+has_end feed = list_any (λ t. t.feed == feed && t.ended)
+
 -- whether a tell of the answers has the end of a feed
 abbrev pub is_end_told : ℕ → List (List Tell) → Bool
-is_end_told feed = list_any (list_any (λ t. t.feed == feed && t.ended))
+is_end_told feed = list_any (has_end feed)
 
--- What a call saw of a poller: what it tells, before and after, and the counts.
-pub record PollerSeen : Type 0 where
-  pub tells : Bool
-  pub answers_before : List (List Tell)
-  pub answers_after : List (List Tell)
+-- What a poller has told so far, what it watches, and how often it has failed.
+pub record PollerState : Type 0 where
+  -- the answers, in order; an empty answer to a wait of 0 is not among them
+  pub answers : List (List Tell)
+  -- for a watched feed, the number of answers that there were at its watch
   pub watched_at : ℕ → ℕ
-  pub watches_before : List (ℕ × List ℕ)
-  pub watches_after : List (ℕ × List ℕ)
-  pub listens_before : ℕ
-  pub listens_after : ℕ
-  pub addresses_before : List (List ℕ)
-  pub addresses_after : List (List ℕ)
-  pub watched_before : ℕ → Bool
-  pub watched_after : ℕ → Bool
-  pub faults_before : ℕ
-  pub faults_after : ℕ
-
--- what a call saw of a poller, from the poller's ghost members and its state before and after the call
-abbrev pub poller_seen : {P : Type 0} → Bool → (P → List (List Tell)) → (P → ℕ → ℕ) → (P → List (ℕ × List ℕ)) → (P → ℕ)
-    → (P → List (List ℕ)) → (P → ℕ → Bool) → (P → ℕ) → P → P → PollerSeen
-poller_seen tells answers watched_at watches listens addresses watched faults old new = record {
-  tells = tells;
-  answers_before = answers old;
-  answers_after = answers new;
-  watched_at = watched_at new;
-  watches_before = watches old;
-  watches_after = watches new;
-  listens_before = listens old;
-  listens_after = listens new;
-  addresses_before = addresses old;
-  addresses_after = addresses new;
-  watched_before = watched old;
-  watched_after = watched new;
-  faults_before = faults old;
-  faults_after = faults new;
-}
+  -- the feed and the path of each watch that succeeded, in order
+  pub watches : List (ℕ × List ℕ)
+  -- the number of listens, those that failed among them; it stops at 2^64 - 1
+  pub listens : ℕ
+  -- the address of each listen that succeeded, in order
+  pub addresses : List (List ℕ)
+  -- whether a feed is watched
+  pub watched : ℕ → Bool
+  -- whether a feed has ended: a tell since its watch said so
+  pub ended : ℕ → Bool
+  -- how often it has failed; it never falls, and stops at 2^64 - 1
+  pub faults : ℕ
 
 -- whether a tell may be given: it is of a watched feed that has not ended, and has at most `MAX_TELL_BYTES` bytes
 abbrev pub is_allowed : (ℕ → Bool) → (ℕ → Bool) → Tell → Bool

@@ -18,8 +18,8 @@ impl JumpClock {
 
     /// A clock at 0 with a step of so many milliseconds.
     pub fn new(step: u64) -> Self
-        ensures present { ⟦<JumpClock as Clock>⟧.present result ≡ 0 }
-        ensures waited { ⟦<JumpClock as Clock>⟧.waited result ≡ 0 }
+        ensures present { (⟦<JumpClock as Clock>⟧.state result).present ≡ 0 }
+        ensures waited { (⟦<JumpClock as Clock>⟧.state result).waited ≡ 0 }
         ensures step { step_of result ≡ step }
     {
         JumpClock {
@@ -32,22 +32,20 @@ impl JumpClock {
 
 impl Clock for JumpClock {
     ghost use Rattle.std.specs.Prelude.{◌≡◌, ◌≤◌, ◌+◌, true, min, max};
-    ghost use Rattle.gcd_outer.specs.InMemory.{step_of};
+    ghost use Rattle.gcd_outer.specs.InMemory.{clock_state, step_of};
 
     ghost tells = { true };
 
-    ghost present = { λ c. c.present };
-
-    ghost waited = { λ c. c.waited };
+    ghost state = { clock_state };
 
     // Besides what each clock promises, the present goes on by the step and no more.
     fn now(&mut self) -> u64
-        ensures not_before { ⟦<JumpClock as Clock>⟧.present self.old ≤ result }
-        ensures goes_on { result ≤ ⟦<JumpClock as Clock>⟧.present self.new }
-        ensures told { result ≡ ⟦<JumpClock as Clock>⟧.present self.old }
-        ensures waited { ⟦<JumpClock as Clock>⟧.waited self.new ≡ ⟦<JumpClock as Clock>⟧.waited self.old }
-        ensures steps { ⟦<JumpClock as Clock>⟧.present self.new
-            ≡ min (⟦<JumpClock as Clock>⟧.present self.old + step_of self.old) 18446744073709551615 }
+        ensures not_before { (⟦<JumpClock as Clock>⟧.state self.old).present ≤ result }
+        ensures goes_on { result ≤ (⟦<JumpClock as Clock>⟧.state self.new).present }
+        ensures told { result ≡ (⟦<JumpClock as Clock>⟧.state self.old).present }
+        ensures waited { (⟦<JumpClock as Clock>⟧.state self.new).waited ≡ (⟦<JumpClock as Clock>⟧.state self.old).waited }
+        ensures steps { (⟦<JumpClock as Clock>⟧.state self.new).present
+            ≡ min ((⟦<JumpClock as Clock>⟧.state self.old).present + step_of self.old) 18446744073709551615 }
         ensures step { step_of self.new ≡ step_of self.old }
     {
         let now = self.present;
@@ -57,12 +55,12 @@ impl Clock for JumpClock {
 
     // Besides what each clock promises, the present goes on to the moment waited for and no more.
     fn wait_until(&mut self, t: u64)
-        ensures reached { t ≤ ⟦<JumpClock as Clock>⟧.present self.new }
-        ensures goes_on { ⟦<JumpClock as Clock>⟧.present self.old ≤ ⟦<JumpClock as Clock>⟧.present self.new }
-        ensures waited { ⟦<JumpClock as Clock>⟧.waited self.new
-            ≡ max (⟦<JumpClock as Clock>⟧.waited self.old) t }
-        ensures jumps { ⟦<JumpClock as Clock>⟧.present self.new
-            ≡ max (⟦<JumpClock as Clock>⟧.present self.old) t }
+        ensures reached { t ≤ (⟦<JumpClock as Clock>⟧.state self.new).present }
+        ensures goes_on { (⟦<JumpClock as Clock>⟧.state self.old).present ≤ (⟦<JumpClock as Clock>⟧.state self.new).present }
+        ensures waited { (⟦<JumpClock as Clock>⟧.state self.new).waited
+            ≡ max ((⟦<JumpClock as Clock>⟧.state self.old).waited) t }
+        ensures jumps { (⟦<JumpClock as Clock>⟧.state self.new).present
+            ≡ max ((⟦<JumpClock as Clock>⟧.state self.old).present) t }
         ensures step { step_of self.new ≡ step_of self.old }
     {
         self.present = self.present.max(t);

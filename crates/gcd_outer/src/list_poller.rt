@@ -52,14 +52,14 @@ impl ListPoller {
         watches: usize,
         bytes: usize,
     ) -> Result<Self, AllocError>
-        ensures answers { IfOk result (λ p. ⟦<ListPoller as Poller>⟧.answers p ≡ []) }
-        ensures watched { IfOk result (λ p. (feed : ℕ) → ⟦<ListPoller as Poller>⟧.watched p feed ≡ false) }
-        ensures ended { IfOk result (λ p. (feed : ℕ) → ⟦<ListPoller as Poller>⟧.ended p feed ≡ false) }
-        ensures watched_at { IfOk result (λ p. (feed : ℕ) → ⟦<ListPoller as Poller>⟧.watched_at p feed ≡ 0) }
-        ensures watches { IfOk result (λ p. ⟦<ListPoller as Poller>⟧.watches p ≡ []) }
-        ensures listens { IfOk result (λ p. ⟦<ListPoller as Poller>⟧.listens p ≡ 0) }
-        ensures addresses { IfOk result (λ p. ⟦<ListPoller as Poller>⟧.addresses p ≡ []) }
-        ensures faults { IfOk result (λ p. ⟦<ListPoller as Poller>⟧.faults p ≡ 0) }
+        ensures answers { IfOk result (λ p. (⟦<ListPoller as Poller>⟧.state p).answers ≡ []) }
+        ensures watched { IfOk result (λ p. (feed : ℕ) → (⟦<ListPoller as Poller>⟧.state p).watched feed ≡ false) }
+        ensures ended { IfOk result (λ p. (feed : ℕ) → (⟦<ListPoller as Poller>⟧.state p).ended feed ≡ false) }
+        ensures watched_at { IfOk result (λ p. (feed : ℕ) → (⟦<ListPoller as Poller>⟧.state p).watched_at feed ≡ 0) }
+        ensures watches { IfOk result (λ p. (⟦<ListPoller as Poller>⟧.state p).watches ≡ []) }
+        ensures listens { IfOk result (λ p. (⟦<ListPoller as Poller>⟧.state p).listens ≡ 0) }
+        ensures addresses { IfOk result (λ p. (⟦<ListPoller as Poller>⟧.state p).addresses ≡ []) }
+        ensures faults { IfOk result (λ p. (⟦<ListPoller as Poller>⟧.state p).faults ≡ 0) }
         ensures left { IfOk result (λ p. left_of p ≡ answers.items) }
         ensures watch_room { IfOk result (λ p. watch_room_of p ≡ watches) }
         ensures byte_room { IfOk result (λ p. byte_room_of p ≡ bytes) }
@@ -144,28 +144,14 @@ impl Poller for ListPoller {
     ghost use Rattle.gcd_outer.specs.Outside.{Rises, next_count};
     ghost use Rattle.gcd_outer.specs.Answers.{first_of};
     ghost use Rattle.gcd_outer.specs.InMemory.{answers_of, watched_at_of, watches_of, listens_of};
-    ghost use Rattle.gcd_outer.specs.InMemory.{addresses_of, watched_of, ended_of, faults_of};
+    ghost use Rattle.gcd_outer.specs.InMemory.{addresses_of, watched_of, ended_of, faults_of, state_of};
     ghost use Rattle.gcd_outer.specs.InMemory.{left_of, failing_listens, failing_watches, failing_polls, polls_of, watch_calls_of};
     ghost use Rattle.gcd_outer.specs.InMemory.{used_of, watch_room_of, byte_room_of, IsSamePlan};
     ghost use Rattle.gcd_outer.specs.Tells.{AreTells, allowed_of, ended_by, answers_after};
 
     ghost tells = { true };
 
-    ghost answers = { answers_of };
-
-    ghost watched_at = { watched_at_of };
-
-    ghost watches = { watches_of };
-
-    ghost listens = { listens_of };
-
-    ghost addresses = { addresses_of };
-
-    ghost watched = { watched_of };
-
-    ghost ended = { ended_of };
-
-    ghost faults = { faults_of };
+    ghost state = { state_of };
 
     // What each poller promises, and then: it fails just where that is planned, past the room, or, where
     // an address is held already, for want of memory.

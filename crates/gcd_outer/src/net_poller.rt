@@ -11,7 +11,7 @@ use crate::slots::Slots;
 use crate::told::Told;
 use mio::net::TcpListener;
 use mio::{Events, Interest, Poll, Token};
-use std::alloc::Global;
+use std::alloc::{AllocError, Global};
 use std::fs::File;
 use std::io::ErrorKind;
 use std::net::{Net, SocketAddr};
@@ -34,7 +34,8 @@ use std::{fs, io};
 #[derive(Drop)]
 pub struct NetPoller<'a, R: Net + Files<File = File>> {
     rt: &'a R,
-    poll: Poll,
+    // What waits for the system: opened at the first listen or watch.
+    poll: Option<Poll>,
     events: Events<Global>,
     listener: Option<TcpListener>,
     slots: Slots,
@@ -46,18 +47,18 @@ pub struct NetPoller<'a, R: Net + Files<File = File>> {
 }
 
 impl<'a, R: Net + Files<File = File>> NetPoller<'a, R> {
-    /// A poller that watches no feed. An error is the system's, or want of memory.
-    pub fn new(rt: &'a R, alloc: Global) -> io::Result<Self>
+    /// A poller that watches no feed. It asks the system for nothing yet: an error is want of memory.
+    pub fn new(rt: &'a R, alloc: Global) -> Result<Self, AllocError>
         ensures watched { IfOk result (λ p. (feed : ℕ)
-            → ⟦<NetPoller<'a, R> as Poller>⟧.watched p feed ≡ false) }
+            → (⟦<NetPoller<'a, R> as Poller>⟧.state p).watched feed ≡ false) }
         ensures ended { IfOk result (λ p. (feed : ℕ)
-            → ⟦<NetPoller<'a, R> as Poller>⟧.ended p feed ≡ false) }
-        ensures faults { IfOk result (λ p. ⟦<NetPoller<'a, R> as Poller>⟧.faults p ≡ 0) }
+            → (⟦<NetPoller<'a, R> as Poller>⟧.state p).ended feed ≡ false) }
+        ensures faults { IfOk result (λ p. (⟦<NetPoller<'a, R> as Poller>⟧.state p).faults ≡ 0) }
         ensures listening { IfOk result (λ p. is_listening p ≡ false) }
     {
         Ok(NetPoller {
             rt,
-            poll: Poll::new(rt)?,
+            poll: None,
             events: Events::with_capacity(alloc, 64)?,
             listener: None,
             slots: Slots::new(alloc)?,
@@ -78,16 +79,34 @@ impl<'a, R: Net + Files<File = File>> NetPoller<'a, R> {
         }
     }
 
-    fn bind(&self, addr: &str) -> io::Result<TcpListener> {
+    // Opens what waits for the system, where it is not open.
+    fn open(&mut self) -> io::Result<()>
+        ensures slots { self.new.slots ≡ self.old.slots }
+        ensures listener { self.new.listener ≡ self.old.listener }
+        ensures faults { self.new.faults ≡ self.old.faults }
+    {
+        if self.poll.is_none() {
+            self.poll = Some(Poll::new(self.rt)?);
+        }
+        Ok(())
+    }
+
+    // A listener at the address.
+    fn bind(&mut self, addr: &str) -> io::Result<TcpListener>
+        ensures slots { self.new.slots ≡ self.old.slots }
+        ensures listener { self.new.listener ≡ self.old.listener }
+        ensures faults { self.new.faults ≡ self.old.faults }
+    {
         let Ok(addr) = addr.parse::<SocketAddr>() else {
             return Err(io::Error::from(ErrorKind::InvalidInput));
         };
+        self.open()?;
         let mut listener = TcpListener::bind(self.rt, addr)?;
-        self.poll.registry().register(
-            &mut listener,
-            Token(MAX_FEEDS as usize),
-            Interest::READABLE,
-        )?;
+        if let Some(poll) = &self.poll {
+            let token = Token(MAX_FEEDS as usize);
+            poll.registry()
+                .register(&mut listener, token, Interest::READABLE)?;
+        }
         Ok(listener)
     }
 
@@ -113,8 +132,11 @@ impl<'a, R: Net + Files<File = File>> NetPoller<'a, R> {
         ensures told { ReadTells self.old.slots.slots.items self.new.slots.slots.items [] }
         ensures faults { self.new.faults ≡ self.old.faults }
     {
+        let Some(poll) = &self.poll else {
+            return Ok(());
+        };
         match &self.listener {
-            Some(listener) => self.slots.accept(listener, self.poll.registry()),
+            Some(listener) => self.slots.accept(listener, poll.registry()),
             None => Ok(()),
         }
     }
@@ -129,6 +151,18 @@ impl<'a, R: Net + Files<File = File>> NetPoller<'a, R> {
         self.slots.read_all(told)
     }
 
+    // Waits until something has come, or for so many milliseconds.
+    fn wait(&mut self, wait_ms: u32) -> io::Result<()>
+        ensures slots { self.new.slots ≡ self.old.slots }
+        ensures faults { self.new.faults ≡ self.old.faults }
+    {
+        let wait = Duration::from_millis(u64::from(wait_ms));
+        match &mut self.poll {
+            Some(poll) => poll.poll(&mut self.events, Some(wait)),
+            None => Ok(()),
+        }
+    }
+
     // Reads what has come, after a wait where nothing had.
     fn gather(&mut self, wait_ms: u32, told: &mut Told) -> io::Result<()>
         requires { told.old ≡ [] }
@@ -137,8 +171,7 @@ impl<'a, R: Net + Files<File = File>> NetPoller<'a, R> {
     {
         self.read(told)?;
         if told.is_empty() {
-            let wait = Duration::from_millis(u64::from(wait_ms));
-            self.poll.poll(&mut self.events, Some(wait))?;
+            self.wait(wait_ms)?;
             self.read(told)?;
         }
         Ok(())
@@ -149,24 +182,11 @@ impl<'a, R: Net + Files<File = File>> Poller for NetPoller<'a, R> {
     ghost use Rattle.std.specs.Prelude.{◌≢◌, ◌≤◌, ◌<◌, IsErr, OnOk, OnErr};
     ghost use Rattle.gcd_outer.specs.declared.limits.TheConstants.{MAX_FEEDS};
     ghost use Rattle.gcd_outer.specs.Outside.{Rises};
+    ghost use Rattle.gcd_outer.specs.Slots.{silent_state};
 
     ghost tells = { false };
 
-    ghost answers = { λ _. [] };
-
-    ghost watched_at = { λ _ _. 0 };
-
-    ghost watches = { λ _. [] };
-
-    ghost listens = { λ _. 0 };
-
-    ghost addresses = { λ _. [] };
-
-    ghost watched = { λ p. watched_slot p.slots.slots.items };
-
-    ghost ended = { λ p. ended_slot p.slots.slots.items };
-
-    ghost faults = { λ p. p.faults };
+    ghost state = { λ p. silent_state p.slots.slots.items p.faults };
 
     // What each poller promises, and then: it accepts connections just where a listen has succeeded.
     fn listen(&mut self, addr: &str) -> Result<(), Failed>
@@ -211,7 +231,11 @@ impl<'a, R: Net + Files<File = File>> Poller for NetPoller<'a, R> {
         ensures unheard { path.now ≡ codes "tcp" → is_listening self.old ≡ false → IsErr result }
         ensures listening { is_listening self.new ≡ is_listening self.old }
     {
-        match self.source(path) {
+        let source = match self.open() {
+            Ok(()) => self.source(path),
+            Err(error) => Err(error),
+        };
+        match source {
             Ok(source) => {
                 self.slots.begin(feed, source);
                 self.place = self.place.saturating_add(1);

@@ -11,7 +11,7 @@ use crate::tell::Tell;
 use crate::told::Told;
 use mio::net::TcpListener;
 use mio::{Interest, Registry, Token};
-use std::alloc::Global;
+use std::alloc::{AllocError, Global};
 use std::io;
 
 // How many bytes one read takes at most.
@@ -28,7 +28,7 @@ pub(crate) struct Slots {
     ghost within: { first < MAX_FEEDS },
 }
 
-fn absent_slots(alloc: Global) -> io::Result<Vec<Slot>>
+fn absent_slots(alloc: Global) -> Result<Vec<Slot>, AllocError>
     ensures all { IfOk result (λ slots. length slots.items ≡ MAX_FEEDS) }
     ensures watched { IfOk result (λ slots. (feed : ℕ) → watched_slot slots.items feed ≡ false) }
     ensures ended { IfOk result (λ slots. (feed : ℕ) → ended_slot slots.items feed ≡ false) }
@@ -42,7 +42,7 @@ fn absent_slots(alloc: Global) -> io::Result<Vec<Slot>>
 
 impl Slots {
     // No feed is watched.
-    pub(crate) fn new(alloc: Global) -> io::Result<Self>
+    pub(crate) fn new(alloc: Global) -> Result<Self, AllocError>
         ensures watched { IfOk result (λ s. (feed : ℕ) → watched_slot s.slots.items feed ≡ false) }
         ensures ended { IfOk result (λ s. (feed : ℕ) → ended_slot s.slots.items feed ≡ false) }
     {

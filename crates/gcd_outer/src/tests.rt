@@ -167,7 +167,7 @@ fn a_poller_in_memory_gives_what_may_be_told(rt: HostRuntime) -> Result<(), Fail
 
 #[test]
 fn clocks_wait(rt: HostRuntime) -> Result<(), Fail> {
-    let mut clock = SystemClock::new(&rt)?;
+    let mut clock = SystemClock::new(&rt);
     let end = clock.now().saturating_add(20);
     clock.wait_until(end);
     hold(&rt, 0, clock.now() >= end);

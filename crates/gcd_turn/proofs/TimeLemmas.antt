@@ -1,0 +1,32 @@
+-- Due times, and what was answered.
+use Rattle.std.proofs.Common.{◌≡◌, ◌≤◌, ◌<◌, ◌+◌, ℕ, Bool, true, false, List, [], ◌∷◌, zero, suc, Option, Some, None, Result, Ok, Err, if◌then◌else◌, find, subst, refl, arith, reverse}
+use Rattle.std.specs.Prelude.{OnErr, OnOk, is_err}
+use Rattle.std.specs.List.{range_with_len}
+use Rattle.std.proofs.lemmas.Option.{same_Some}
+use Rattle.gcd_plan.specs.PlanView.{PlanView}
+use Rattle.gcd_event.specs.declared.event.Event.{Event}
+use Rattle.gcd_history.specs.History.{next_due_of}
+use Rattle.gcd_history.specs.Timers.{is_any_due, next_due, now}
+
+found_low : (p : ℕ → Bool) (a n d : ℕ) → find p (range_with_len a n) ≡ Some d → a ≤ d
+found_low p a zero d found = cc
+found_low p a (suc n) d found =
+    elim (p a) as (λ v. (if v then Some a else find p (range_with_len (a + 1) n)) ≡ Some d → a ≤ d) [
+      | true ↦ λ own. let same : a ≡ d = same_Some a d own in omega arith
+      | false ↦ λ later. let low : a + 1 ≤ d = found_low p (a + 1) n d later in omega arith
+    ] found
+
+-- the next due time is above 0
+pub due_is_ahead : (plan : PlanView) (h : List Event) (due : ℕ) → next_due_of plan h ≡ Some due → 0 < due
+unfolding next_due_of next_due
+due_is_ahead plan h due is =
+    let low : now (reverse h) + 1 ≤ due = found_low (is_any_due plan (reverse h)) (now (reverse h) + 1) _ due is in omega arith
+
+-- what holds where the answer is no error
+pub on_ok : {A E : Type 0} → (P : Type 0) (r : Result A E) → is_err r ≡ false → OnOk r P → P
+on_ok P (Ok a) h p = p
+on_ok P (Err e) h p = cc
+
+pub on_err : {A E : Type 0} → (P : Type 0) (r : Result A E) → is_err r ≡ true → OnErr r P → P
+on_err P (Ok a) h p = cc
+on_err P (Err e) h p = p

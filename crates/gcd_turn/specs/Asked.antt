@@ -1,0 +1,86 @@
+-- What worker 0 is asked to do next.
+use Rattle.std.specs.Prelude.{◌≡◌, ◌≤◌, ◌<◌, ◌+◌, ◌⊎◌, ℕ, Bool, true, List, [], Option, Some, None, IsSome, max, min}
+use Rattle.gcd_plan.specs.PlanView.{PlanView}
+use Rattle.gcd_event.specs.declared.event.Event.{Event}
+use Rattle.gcd_event.specs.declared.event.Event.TheVariants.{Start, Act as Acted, Wake, End, Deliver, DeliverEnd, Tick, Ready, FeedEnd, Misuse, Halt}
+use Rattle.gcd_history.specs.History.{is_live_feed, next_due_of}
+use Rattle.gcd_machine.specs.Stands.{StandsFor}
+use Rattle.gcd_refinement.specs.MachineView.{MachineView}
+use Rattle.gcd_outer.specs.Outside.{ClockState, Rises}
+use Rattle.gcd_outer.specs.Tells.{PollerState}
+use Rattle.gcd_outer.specs.declared.tell.Tell.{Tell}
+use Rattle.gcd_turn.specs.Promises.{HasEnded, later_by}
+use Rattle.gcd_turn.specs.Turns.{HasRoom, OutlookView, first_event}
+use Rattle.gcd_turn.specs.declared.ask.Ask.{Ask}
+use Rattle.gcd_turn.specs.declared.ask.Ask.TheVariants.{Leave, Told, Put, Work}
+
+-- each live feed is watched
+abbrev pub AllWatched : PlanView → List Event → PollerState → Type 0
+AllWatched plan h poller = (s : ℕ) → is_live_feed plan h s ≡ true → poller.watched s ≡ true
+
+-- what no turn changes: no listen is made, and the count of faults does not fall
+pub record KeepsListens (tells : Bool) (old new : PollerState) : Type 0 where
+  pub faults : old.faults ≤ new.faults
+  pub listens : tells ≡ true → new.listens ≡ old.listens
+  pub addresses : tells ≡ true → new.addresses ≡ old.addresses
+
+-- the machine stands for a history at which each live feed is watched
+pub record HasWatched (m : MachineView) (plan : PlanView) (poller : PollerState) : Type 0 where
+  pub history : List Event
+  pub stands : StandsFor m plan history
+  pub watched : AllWatched plan history poller
+
+-- so much time has passed since the start that a due time has come: the Tick is at the time that has passed, or at the last
+-- due time of timers
+pub record IsDueTick (plan : PlanView) (h : List Event) (start present t : ℕ) : Type 0 where
+  pub passed : ℕ
+  pub due : ℕ
+  pub is_due : next_due_of plan h ≡ Some due
+  pub has_come : due ≤ passed
+  pub not_ahead : start + passed ≤ present
+  pub at : t ≡ min passed plan.until
+
+-- how long the next due time is ahead, if there is one: at least a millisecond
+abbrev pub IsLeft : PlanView → List Event → Option ℕ → Type 0
+IsLeft plan h None = next_due_of plan h ≡ None
+IsLeft plan h (Some ms) = IsSome (next_due_of plan h) × (0 < ms)
+
+-- the poller failed in the call, or its count of faults is as it was
+abbrev pub HasFailed : PollerState → PollerState → Type 0
+HasFailed old new = Rises old.faults new.faults
+
+abbrev pub HasNotFailed : PollerState → PollerState → Type 0
+HasNotFailed old new = new.faults ≡ old.faults
+
+-- what is put of itself: a Halt where the poller failed, or a Tick that is due
+abbrev pub IsPut : PlanView → List Event → (start present : ℕ) → (old new : PollerState) → Event → Type 0
+IsPut plan h start present old new (Start w b) = ⊥
+IsPut plan h start present old new (Acted w r i) = ⊥
+IsPut plan h start present old new (Wake w b) = ⊥
+IsPut plan h start present old new (End w b) = ⊥
+IsPut plan h start present old new (Deliver w s) = ⊥
+IsPut plan h start present old new (DeliverEnd w s) = ⊥
+IsPut plan h start present old new (Tick t) = IsDueTick plan h start present t × HasNotFailed old new
+IsPut plan h start present old new (Ready s n) = ⊥
+IsPut plan h start present old new (FeedEnd s) = ⊥
+IsPut plan h start present old new (Misuse w r i c) = ⊥
+IsPut plan h start present old new Halt = HasFailed old new
+
+-- there is no news, each live feed is watched, and so long is the next due time ahead
+pub record IsFree (plan : PlanView) (h : List Event) (news : List Tell) (poller : PollerState) (left : Option ℕ) : Type 0 where
+  pub no_news : news ≡ []
+  pub watched : AllWatched plan h poller
+  pub left_is : IsLeft plan h left
+
+-- what is asked at a history: to leave where it has ended, and only there; else to put a Halt, the first of the news or a
+-- Tick; or to work
+abbrev pub IsAsked : PlanView → List Event → OutlookView → (present : ℕ) → (old new : PollerState) → Ask → Type 0
+IsAsked plan h o present old new Leave = HasEnded plan h × HasNotFailed old new
+IsAsked plan h o present old new (Told e) = HasRoom plan h × (first_event o.news ≡ Some e) × HasNotFailed old new
+IsAsked plan h o present old new (Put e) = HasRoom plan h × IsPut plan h o.start present old new e
+IsAsked plan h o present old new (Work left) = HasRoom plan h × IsFree plan h o.news new left × HasNotFailed old new
+
+-- the clock was waited on for the next due time at the history, or not at all
+abbrev pub WaitedFor : PlanView → List Event → (start : ℕ) → ClockState → ClockState → Type 0
+WaitedFor plan h start old new =
+    (new.waited ≡ old.waited) ⊎ ((due : ℕ) × (next_due_of plan h ≡ Some due) × (new.waited ≡ max old.waited (later_by start due)))

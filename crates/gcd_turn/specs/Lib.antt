@@ -1,0 +1,6 @@
+pub mod Asked
+pub mod Hearing
+pub mod Promises
+pub mod Times
+pub mod Timing
+pub mod Turns

@@ -1,0 +1,19 @@
+// What worker 0 does next.
+
+use gcd_event::Event;
+
+/// What a turn asks of the engine, after its first steps. (This project's own rule.)
+#[derive(Clone, Copy, Debug, PartialEq, Eq)]
+pub enum Ask {
+    /// The run has ended: it is quiescent, halted or full.
+    Leave,
+    /// To record this, which a poller told; then, or where it is not permitted, [`Outlook::settle`](crate::Outlook::settle).
+    Told(Event),
+    /// To record this: a Halt, or a Tick.
+    Put(Event),
+    /// To record what worker 0 chooses; where it has no choice, [`Outlook::idle`](crate::Outlook::idle).
+    Work {
+        /// How many milliseconds the next due time is ahead, at least 1; None where there is none.
+        left: Option<u32>,
+    },
+}

@@ -1,0 +1,168 @@
+// The steps of a turn.
+ghost use Rattle.std.specs.Prelude.{◌≡◌, ◌≤◌, ◌<◌, ◌++◌, [], ℕ, true, false, List, length, IfSome, IfNone, OnOk, OnErr};
+ghost use Rattle.gcd_plan.specs.Limits.{max_events};
+ghost use Rattle.gcd_plan.specs.PlanView.{PlanView};
+ghost use Rattle.gcd_event.specs.declared.event.Event.{Event};
+ghost use Rattle.gcd_history.specs.History.{is_live_feed, running_of};
+ghost use Rattle.gcd_machine.specs.Stands.{StandsFor};
+ghost use Rattle.gcd_outer.specs.declared.limits.TheConstants.{MAX_FEEDS};
+ghost use Rattle.gcd_outer.specs.Tells.{PollerState};
+ghost use Rattle.gcd_turn.specs.Asked.{AllWatched, HasFailed, HasNotFailed, KeepsListens, WaitedFor};
+ghost use Rattle.gcd_turn.specs.Hearing.{Heard};
+ghost use Rattle.gcd_turn.specs.Promises.{HasEnded};
+ghost use Rattle.gcd_turn.specs.Times.{IsTime, IsPollWait};
+ghost use Rattle.gcd_turn.specs.Turns.{HasRoom, OutlookView, event_of};
+ghost use Rattle.gcd_turn.specs.declared.limits.TheConstants.{POLL_WAIT};
+
+use crate::limits::POLL_WAIT;
+use gcd_event::Event;
+use gcd_machine::Machine;
+use gcd_outer::{Clock, Failed, Poller, Tell};
+use gcd_plan::{MAX_EVENTS, Obj, Plan};
+
+// What the clock asks for.
+#[derive(Clone, Copy)]
+pub(crate) enum Time {
+    // A Tick at this time.
+    Tick(u32),
+    // Nothing yet: so many milliseconds are left to the next due time, if there is one.
+    Left(Option<u32>),
+}
+
+// The event that records a piece of news.
+pub(crate) fn event_of(tell: Tell) -> Event
+    ensures { result ≡ event_of tell }
+{
+    let src = Obj(tell.feed);
+    if tell.ended {
+        Event::FeedEnd { src }
+    } else {
+        Event::Ready {
+            src,
+            bytes: tell.bytes,
+        }
+    }
+}
+
+// Whether nothing more is recorded: the run is halted, full or quiescent.
+pub(crate) fn is_over(machine: &Machine) -> bool
+    ensures over { (plan : PlanView) (h : List Event) → StandsFor machine.now plan h → length h ≤ max_events
+        → result ≡ true → HasEnded plan h }
+    ensures goes_on { (plan : PlanView) (h : List Event) → StandsFor machine.now plan h → result ≡ false → HasRoom plan h }
+{
+    machine.is_halted() || machine.len() >= MAX_EVENTS || machine.is_quiescent()
+}
+
+// The first live feed.
+pub(crate) fn next_live_feed(machine: &Machine) -> Option<Obj>
+    ensures some { (plan : PlanView) (h : List Event) → StandsFor machine.now plan h
+        → IfSome result (λ s. is_live_feed plan h s.0 ≡ true) }
+    ensures none { (plan : PlanView) (h : List Event) → StandsFor machine.now plan h
+        → IfNone result ((s : ℕ) → s < length machine.now.plan.objects → is_live_feed plan h s ≡ false) }
+{
+    for o in 0..machine.objects() {
+        if machine.is_live_feed(Obj(o)) {
+            return Some(Obj(o));
+        }
+    }
+    None
+}
+
+// The feed is watched from now on, if it is live.
+fn watch_one<P: Poller>(
+    plan: &Plan,
+    machine: &Machine,
+    poller: &mut P,
+    src: Obj,
+) -> Result<(), Failed>
+    requires own { machine.now.plan ≡ plan.now }
+    requires within { src.0 < length plan.now.objects }
+    requires low { src.0 < MAX_FEEDS }
+    ensures watched { (h : List Event) → StandsFor machine.now plan.now h → is_live_feed plan.now h src.0 ≡ true
+        → OnOk result ((P.state poller.new).watched src.0 ≡ true) }
+    ensures still { (s : ℕ) → (P.state poller.old).watched s ≡ true → (P.state poller.new).watched s ≡ true }
+    ensures heard { (stood placed : List Event) (before : PollerState) (o : OutlookView)
+        → StandsFor machine.now plan.now (stood ++ placed)
+        → P.tells ≡ true → Heard plan.now stood placed before (P.state poller.old) o
+        → Heard plan.now stood placed before (P.state poller.new) o }
+    ensures kept { KeepsListens P.tells (P.state poller.old) (P.state poller.new) }
+    ensures ok { OnOk result (HasNotFailed (P.state poller.old) (P.state poller.new)) }
+    ensures failed { OnErr result (HasFailed (P.state poller.old) (P.state poller.new)) }
+{
+    if !machine.is_live_feed(src) {
+        return Ok(());
+    }
+    if poller.is_watched(src.0) {
+        return Ok(());
+    }
+    poller.watch(src.0, plan.path_of(src))?;
+    Ok(())
+}
+
+// Each live feed is watched from now on, by number.
+pub(crate) fn watch_new<P: Poller>(
+    plan: &Plan,
+    machine: &Machine,
+    poller: &mut P,
+) -> Result<(), Failed>
+    requires { machine.now.plan ≡ plan.now }
+    ensures watched { (h : List Event) → StandsFor machine.now plan.now h
+        → OnOk result (AllWatched plan.now h (P.state poller.new)) }
+    ensures heard { (stood placed : List Event) (before : PollerState) (o : OutlookView)
+        → StandsFor machine.now plan.now (stood ++ placed)
+        → P.tells ≡ true → Heard plan.now stood placed before (P.state poller.old) o
+        → Heard plan.now stood placed before (P.state poller.new) o }
+    ensures kept { KeepsListens P.tells (P.state poller.old) (P.state poller.new) }
+    ensures ok { OnOk result (HasNotFailed (P.state poller.old) (P.state poller.new)) }
+    ensures failed { OnErr result (HasFailed (P.state poller.old) (P.state poller.new)) }
+{
+    for o in 0..plan.objects() {
+        watch_one(plan, machine, poller, Obj(o))?;
+    }
+    Ok(())
+}
+
+// A Tick that is due, or how long the next due time is ahead. The clock is asked only where a due time is left.
+pub(crate) fn next_time<C: Clock>(start: u64, plan: &Plan, machine: &Machine, clock: &mut C) -> Time
+    ensures time { (h : List Event) → StandsFor machine.now plan.now h
+        → IsTime plan.now h start (C.state clock.new).present result }
+    ensures goes_on { (C.state clock.old).present ≤ (C.state clock.new).present }
+    ensures waited { C.tells ≡ true → (C.state clock.new).waited ≡ (C.state clock.old).waited }
+{
+    let Some(due) = machine.next_due() else {
+        return Time::Left(None);
+    };
+    let due = u64::from(due);
+    let passed = clock.now().saturating_sub(start);
+    if passed < due {
+        return Time::Left(Some((due - passed) as u32));
+    }
+    Time::Tick(passed.min(u64::from(plan.until())) as u32)
+}
+
+// How long a poll waits, in milliseconds: not at all where something runs, and else not past the next due time.
+pub(crate) fn poll_wait(machine: &Machine, left: Option<u32>) -> u32
+    ensures { (plan : PlanView) (h : List Event) → StandsFor machine.now plan h → IsPollWait plan h left result }
+{
+    if machine.running() > 0 {
+        return 0;
+    }
+    match left {
+        Some(ms) => ms.min(POLL_WAIT),
+        None => POLL_WAIT,
+    }
+}
+
+// Waits for the next due time, where there is one and nothing runs.
+pub(crate) fn wait<C: Clock>(start: u64, machine: &Machine, clock: &mut C)
+    ensures goes_on { (C.state clock.old).present ≤ (C.state clock.new).present }
+    ensures waited { (plan : PlanView) (h : List Event) → StandsFor machine.now plan h → C.tells ≡ true
+        → WaitedFor plan h start (C.state clock.old) (C.state clock.new) }
+{
+    if machine.running() > 0 {
+        return;
+    }
+    if let Some(due) = machine.next_due() {
+        clock.wait_until(start.saturating_add(u64::from(due)));
+    }
+}
