@@ -1,0 +1,104 @@
+-- Which event the fields of a line spell: what the functions inside this crate say of one another. A name is looked up by
+-- `look`, which gives the run of the block or source that has it.
+use Rattle.std.specs.Prelude.{ℕ, ◌-◌, ◌==◌, nat_le, ◌&&◌, if◌then◌else◌, List, [], ◌∷◌, Option, Some, None, option_and_then, codes}
+use Rattle.std.specs.Str.{bytes_eq}
+use Rattle.std.specs.Str.Parse.{digits_value}
+use Rattle.std.specs.Fmt.{decimal}
+use Rattle.gcd_plan.specs.Limits.{max_workers, max_acts, max_time, max_value}
+use Rattle.gcd_plan.specs.declared.numbers.Blk.{Blk}
+use Rattle.gcd_plan.specs.declared.numbers.Obj.{Obj}
+use Rattle.gcd_plan.specs.declared.numbers.Run.{Run}
+use Rattle.gcd_plan.specs.declared.numbers.Run.TheVariants.{Block, Source}
+use Rattle.gcd_event.specs.declared.event.Event.{Event}
+use Rattle.gcd_event.specs.declared.event.Event.TheVariants.{Start, Act as Acted, Wake, End, Deliver, DeliverEnd, Tick, Ready, FeedEnd, Misuse, Halt}
+
+-- the run of a name
+abbrev pub Look : Type 0
+Look = List ℕ → Option Run
+
+-- the number that the field writes in decimal, where it is in this range
+unfoldable pub number_in : (low high : ℕ) → List ℕ → Option ℕ
+number_in low high field =
+    if bytes_eq field (decimal (digits_value 10 field)) && (nat_le low (digits_value 10 field) && nat_le (digits_value 10 field) high)
+    then Some (digits_value 10 field) else None
+
+-- a worker, an act's place in its body, a time, a number of bytes
+abbrev pub worker_in : List ℕ → Option ℕ
+worker_in field = number_in 0 (max_workers - 1) field
+
+abbrev pub index_in : List ℕ → Option ℕ
+index_in field = number_in 0 (max_acts - 1) field
+
+abbrev pub time_in : List ℕ → Option ℕ
+time_in field = number_in 1 max_time field
+
+abbrev pub bytes_in : List ℕ → Option ℕ
+bytes_in field = number_in 1 max_value field
+
+-- `Mk`, with the code k of a misuse
+abbrev pub code_in : List ℕ → Option ℕ
+code_in [] = None
+code_in (c ∷ digits) = if c == 77 then number_in 1 8 digits else None
+
+-- the block of a block's run, and the source of a source's
+abbrev pub block_of_run : Run → Option Blk
+block_of_run (Block b) = Some b
+block_of_run (Source s) = None
+
+abbrev pub source_of_run : Run → Option Obj
+source_of_run (Block b) = None
+source_of_run (Source s) = Some s
+
+-- the block, and the source, of a name
+abbrev pub block_in : Look → List ℕ → Option Blk
+block_in look field = option_and_then block_of_run (look field)
+
+abbrev pub source_in : Look → List ℕ → Option Obj
+source_in look field = option_and_then source_of_run (look field)
+
+-- what f makes of two values, where both are there
+abbrev pub of_both : {A B C : Type 0} → (A → B → C) → Option A → Option B → Option C
+of_both f None b = None
+of_both f (Some a) None = None
+of_both f (Some a) (Some b) = Some (f a b)
+
+-- a worker and a run
+abbrev pub turn_in : Look → List ℕ → List ℕ → Option (ℕ × Run)
+turn_in look a b = of_both (λ w r. (w, r)) (worker_in a) (look b)
+
+-- the event of a line of one, two, three, four and five fields
+abbrev pub by_one : List ℕ → Option Event
+by_one kind = if bytes_eq kind (codes "halt") then Some Halt else None
+
+abbrev pub by_two : Look → List ℕ → List ℕ → Option Event
+by_two look kind a =
+    if bytes_eq kind (codes "tick") then option_and_then (λ t. Some (Tick t)) (time_in a) else
+    if bytes_eq kind (codes "feed_end") then option_and_then (λ s. Some (FeedEnd s)) (source_in look a) else None
+
+abbrev pub by_three : Look → List ℕ → List ℕ → List ℕ → Option Event
+by_three look kind a b =
+    if bytes_eq kind (codes "start") then of_both (λ w c. Start w c) (worker_in a) (block_in look b) else
+    if bytes_eq kind (codes "end") then of_both (λ w c. End w c) (worker_in a) (block_in look b) else
+    if bytes_eq kind (codes "wake") then of_both (λ w c. Wake w c) (worker_in a) (block_in look b) else
+    if bytes_eq kind (codes "deliver") then of_both (λ w s. Deliver w s) (worker_in a) (source_in look b) else
+    if bytes_eq kind (codes "deliver_end") then of_both (λ w s. DeliverEnd w s) (worker_in a) (source_in look b) else
+    if bytes_eq kind (codes "ready") then of_both (λ s n. Ready s n) (source_in look a) (bytes_in b) else None
+
+abbrev pub by_four : Look → List ℕ → List ℕ → List ℕ → List ℕ → Option Event
+by_four look kind a b c =
+    if bytes_eq kind (codes "act") then of_both (λ turn i. Acted turn.0 turn.1 i) (turn_in look a b) (index_in c) else None
+
+abbrev pub by_five : Look → List ℕ → List ℕ → List ℕ → List ℕ → List ℕ → Option Event
+by_five look kind a b c d =
+    if bytes_eq kind (codes "misuse")
+    then of_both (λ turn what. Misuse turn.0 turn.1 what.0 what.1) (turn_in look a b) (of_both (λ i k. (i, k)) (index_in c) (code_in d))
+    else None
+
+-- the event that the fields of a line spell
+abbrev pub event_in : Look → List (List ℕ) → Option Event
+event_in look (kind ∷ []) = by_one kind
+event_in look (kind ∷ a ∷ []) = by_two look kind a
+event_in look (kind ∷ a ∷ b ∷ []) = by_three look kind a b
+event_in look (kind ∷ a ∷ b ∷ c ∷ []) = by_four look kind a b c
+event_in look (kind ∷ a ∷ b ∷ c ∷ d ∷ []) = by_five look kind a b c d
+event_in look _ = None
