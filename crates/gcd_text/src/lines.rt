@@ -1,0 +1,107 @@
+// Lines of a text, and words of a line.
+ghost use Rattle.std.specs.Prelude.{◌≡◌, ◌==◌, ◌<◌, [], ◌∷◌, ◌++◌, true, false, length, map, position, IfSome, IfNone, MatchOption};
+ghost use Rattle.gcd_text.specs.Limits.{max_words};
+ghost use Rattle.gcd_text.specs.Lines.{lines_of, is_line_byte, is_printable, unless_empty, words_of};
+
+use crate::limits::MAX_WORDS;
+use arrayvec::ArrayVec;
+
+// The place of the first byte 10.
+fn end_of_line(text: &[u8]) -> Option<usize>
+    ensures { result ≡ position (λ c. c == 10) text.now }
+{
+    text.iter().position(|c| *c == b'\n')
+}
+
+/// The first line of a text, without the byte 10 at its end, and what follows; None exactly where the text is empty.
+pub fn next_line(text: &[u8]) -> Option<(&[u8], &[u8])>
+    ensures { MatchOption result
+        (lines_of text.now ≡ [])
+        (λ cut. (lines_of text.now ≡ cut.0.now ∷ lines_of cut.1.now) × (length cut.1.now < length text.now)) }
+{
+    if text.is_empty() {
+        return None;
+    }
+    match end_of_line(text) {
+        Some(end) => Some((&text[..end], &text[end + 1..])),
+        None => Some((text, &[])),
+    }
+}
+
+fn is_line_byte(c: u8) -> bool
+    ensures { result ≡ is_line_byte c }
+{
+    b' ' <= c && c <= b'~'
+}
+
+fn is_printable(line: &[u8]) -> bool
+    ensures { result ≡ is_printable line.now }
+{
+    line.iter().all(|c| is_line_byte(*c))
+}
+
+/// The line as text; None exactly where it has a byte other than 32 to 126.
+pub fn printable(line: &[u8]) -> Option<&str>
+    ensures { MatchOption result
+        (is_printable line.now ≡ false)
+        (λ text. (is_printable line.now ≡ true) × (text.now ≡ line.now)) }
+{
+    if is_printable(line) {
+        str::from_utf8(line).ok()
+    } else {
+        None
+    }
+}
+
+// Adds a word that is not empty; false exactly where there is no room for it.
+fn push_word<'a>(words: &mut ArrayVec<&'a str, MAX_WORDS>, word: &'a str) -> bool
+    ensures pushed { result ≡ true → map (λ w. w.now) words.new.items ≡ map (λ w. w.now) words.old.items ++ unless_empty word.now }
+    ensures full { result ≡ false → max_words < length (map (λ w. w.now) words.old.items ++ unless_empty word.now) }
+{
+    if word.is_empty() {
+        return true;
+    }
+    if words.is_full() {
+        return false;
+    }
+    words.push(word);
+    true
+}
+
+/// The first word of a line, and what follows the space after it; None exactly where the line has no word.
+pub fn first_word(line: &str) -> Option<(&str, &str)>
+    ensures { MatchOption result
+        (words_of line.now ≡ [])
+        (λ cut. words_of line.now ≡ cut.0.now ∷ words_of cut.1.now) }
+{
+    let mut rest = line;
+    while let Some((word, more)) = rest.split_once(' ') {
+        if !word.is_empty() {
+            return Some((word, more));
+        }
+        rest = more;
+    }
+    if rest.is_empty() {
+        return None;
+    }
+    Some((rest, ""))
+}
+
+/// The words of a line, which one or more spaces separate; None exactly where there are more than [`MAX_WORDS`].
+pub fn words(line: &str) -> Option<ArrayVec<&str, MAX_WORDS>>
+    ensures all { IfSome result (λ words. map (λ word. word.now) words.items ≡ words_of line.now) }
+    ensures many { IfNone result (max_words < length (words_of line.now)) }
+{
+    let mut words = ArrayVec::new();
+    let mut rest = line;
+    while let Some((word, more)) = rest.split_once(' ') {
+        if !push_word(&mut words, word) {
+            return None;
+        }
+        rest = more;
+    }
+    if !push_word(&mut words, rest) {
+        return None;
+    }
+    Some(words)
+}
