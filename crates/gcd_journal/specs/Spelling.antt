@@ -86,12 +86,12 @@ by_three look kind a b =
 
 abbrev pub by_four : Look → List ℕ → List ℕ → List ℕ → List ℕ → Option Event
 by_four look kind a b c =
-    if bytes_eq kind (codes "act") then of_both (λ turn i. Acted turn.0 turn.1 i) (turn_in look a b) (index_in c) else None
+    if bytes_eq kind (codes "act") then of_both (λ (turn : ℕ × Run) (i : ℕ). Acted turn.0 turn.1 i) (turn_in look a b) (index_in c) else None
 
 abbrev pub by_five : Look → List ℕ → List ℕ → List ℕ → List ℕ → List ℕ → Option Event
 by_five look kind a b c d =
     if bytes_eq kind (codes "misuse")
-    then of_both (λ turn what. Misuse turn.0 turn.1 what.0 what.1) (turn_in look a b) (of_both (λ i k. (i, k)) (index_in c) (code_in d))
+    then of_both (λ (turn : ℕ × Run) (what : ℕ × ℕ). Misuse turn.0 turn.1 what.0 what.1) (turn_in look a b) (of_both (λ i k. (i, k)) (index_in c) (code_in d))
     else None
 
 -- the event that the fields of a line spell

@@ -1,6 +1,6 @@
 // The names of a plan's blocks and sources.
-ghost use Rattle.std.specs.Prelude.{◌≡◌, ◌∷◌, IfOk, OnOk, length};
-ghost use Rattle.gcd_plan.specs.PlanView.{name_of_blk, name_of_obj};
+ghost use Rattle.std.specs.Prelude.{◌≡◌, List, ℕ, Some, IfOk, OnOk, if◌then◌else◌};
+ghost use Rattle.std.specs.Str.{bytes_eq};
 ghost use Rattle.gcd_journal.specs.Named.{IsLookUp, look_of};
 
 use gcd_plan::{Blk, Obj, Plan, Run};
@@ -15,17 +15,17 @@ pub struct Names<'a> {
 }
 
 impl<'a> Names<'a> {
-    /// The names of the plan.
+    /// The names of the plan; an `Err` comes only of want of memory.
     pub fn new(alloc: Global, plan: &'a Plan) -> Result<Names<'a>, AllocError>
         ensures { IfOk result (λ names. IsLookUp plan.now (look_of names.runs)) }
     {
         let mut runs = HashMap::with_capacity(alloc, plan.blocks() as usize)?;
         for b in 0..plan.blocks() {
-            runs.insert(plan.name_of_blk(Blk(b)).as_bytes(), Run::Block(Blk(b)))?;
+            learn(&mut runs, plan.name_of_blk(Blk(b)), Run::Block(Blk(b)))?;
         }
         for o in 0..plan.objects() {
             if plan.kind(Obj(o)).is_source() {
-                runs.insert(plan.name_of_obj(Obj(o)).as_bytes(), Run::Source(Obj(o)))?;
+                learn(&mut runs, plan.name_of_obj(Obj(o)), Run::Source(Obj(o)))?;
             }
         }
         Ok(Names { runs })
@@ -37,4 +37,12 @@ impl<'a> Names<'a> {
     {
         self.runs.get(name).copied()
     }
+}
+
+// From now on the name is the run's.
+fn learn<'a>(runs: &mut HashMap<&'a [u8], Run>, name: &'a str, run: Run) -> Result<(), AllocError>
+    ensures { OnOk result ((other : List ℕ) → look_of runs.new other ≡ (if bytes_eq name.now other then Some run else look_of runs.old other)) }
+{
+    runs.insert(name.as_bytes(), run)?;
+    Ok(())
 }

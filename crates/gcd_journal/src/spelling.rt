@@ -13,11 +13,18 @@ fn number_in(field: &[u8], low: u32, high: u32) -> Option<u32>
     ensures value { result ≡ number_in low high field.now }
     ensures few { IfSome result (λ n. n ≤ high) }
 {
-    let n = number(field)?;
-    if n < u64::from(low) || n > u64::from(high) {
-        return None;
+    match number(field) {
+        None => None,
+        Some(n) => {
+            if n < u64::from(low) {
+                return None;
+            }
+            if u64::from(high) < n {
+                return None;
+            }
+            Some(n as u32)
+        }
     }
-    Some(n as u32)
 }
 
 fn worker_in(field: &[u8]) -> Option<u8>
@@ -68,4 +75,14 @@ fn turn_in(names: &Names, a: &[u8], b: &[u8]) -> Option<(u8, Run)>
     let worker = worker_in(a)?;
     let run = names.run(b)?;
     Some((worker, run))
+}
+
+fn by_one(kind: &[u8]) -> Option<Event>
+    ensures { result ≡ by_one kind.now }
+{
+    if kind == b"halt".as_slice() {
+        Some(Event::Halt)
+    } else {
+        None
+    }
 }

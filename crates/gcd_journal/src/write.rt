@@ -1,6 +1,6 @@
 // Writes a journal.
 ghost use Rattle.std.specs.Prelude.{◌≡◌, ◌++◌, take, length, OnErr, OnOk};
-ghost use Rattle.gcd_history.specs.JournalText.{event_line, journal_text};
+ghost use Rattle.gcd_history.specs.JournalText.{event_line, count_line, journal_text};
 ghost use Rattle.gcd_journal.specs.Spoken.{AreSpoken, IsNamed};
 
 use crate::lines::{push_count, push_event};
@@ -16,6 +16,16 @@ fn add_event(line: &mut Vec<u8>, plan: &Plan, e: Event, into: &mut Vec<u8>) -> R
 {
     line.clear();
     push_event(line, plan, e)?;
+    into.extend_from_slice(line)
+}
+
+// Adds the line `events N`, in the same way.
+fn add_count(line: &mut Vec<u8>, count: usize, into: &mut Vec<u8>) -> Result<(), AllocError>
+    ensures ok { OnOk result (into.new.items ≡ into.old.items ++ count_line count) }
+    ensures err { OnErr result (into.new.items ≡ into.old.items) }
+{
+    line.clear();
+    push_count(line, count)?;
     into.extend_from_slice(line)
 }
 
@@ -55,7 +65,5 @@ fn add_journal(
     for e in events {
         add_event(&mut line, plan, *e, into)?;
     }
-    line.clear();
-    push_count(&mut line, events.len())?;
-    into.extend_from_slice(&line)
+    add_count(&mut line, events.len(), into)
 }
