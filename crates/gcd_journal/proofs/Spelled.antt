@@ -19,7 +19,7 @@ use Rattle.gcd_history.specs.Report.{name_of_run, line_end}
 use Rattle.gcd_history.specs.JournalText.{event_line, count_line}
 use Rattle.gcd_journal.specs.Spoken.{IsSpoken}
 use Rattle.gcd_journal.specs.Named.{IsLookUp}
-use Rattle.gcd_journal.specs.Spelling.{Look, number_in, worker_in, index_in, time_in, bytes_in, code_in, block_of_run, source_of_run, block_in, source_in, of_both, turn_in, by_one, by_two, by_three, by_four, by_five, event_in}
+use Rattle.gcd_journal.specs.Spelling.{Look, number_in, worker_in, index_in, time_in, bytes_in, code_in, source_of_run, source_in, of_both, block_event, source_event, turn_event, turn_in, by_one, by_two, by_three, by_four, by_five, event_in}
 use Rattle.gcd_journal.proofs.Cuts.{is_plain}
 use Rattle.gcd_journal.proofs.NamesApart.{plain_name}
 use Rattle.gcd_journal.proofs.Numbers.{read_back, reads, plain_decimal}

@@ -16,7 +16,7 @@ use Rattle.gcd_event.specs.declared.event.Event.TheVariants.{Start, Act as Acted
 use Rattle.gcd_history.specs.Permitted.{is_run_of}
 use Rattle.gcd_history.specs.Report.{name_of_run}
 use Rattle.gcd_journal.specs.Spoken.{IsSpoken}
-use Rattle.gcd_journal.specs.Spelling.{Look, number_in, worker_in, index_in, time_in, bytes_in, code_in, block_of_run, source_of_run, block_in, source_in, of_both, turn_in, by_one, by_two, by_three, by_four, by_five, event_in}
+use Rattle.gcd_journal.specs.Spelling.{Look, number_in, worker_in, index_in, time_in, bytes_in, code_in, source_of_run, source_in, of_both, block_event, source_event, turn_event, turn_in, by_one, by_two, by_three, by_four, by_five, event_in}
 use Rattle.gcd_journal.proofs.NamesApart.{run_fits}
 use Rattle.gcd_journal.proofs.Numbers.{read_back}
 use Rattle.gcd_journal.proofs.Spelled.{fields_of_event}
@@ -33,11 +33,6 @@ then_there f (Some x) c h = (x, refl, h)
 guarded : (t : Bool) (x y : Option Event) (e : Event) → (if t then x else y) ≡ Some e → ((t ≡ true) × (x ≡ Some e)) ⊎ ((t ≡ false) × (y ≡ Some e))
 guarded true x y e h = inl (refl, h)
 guarded false x y e h = inr (refl, h)
-
-is_block : (o : Option Run) (b : Blk) → option_and_then block_of_run o ≡ Some b → o ≡ Some (Block b)
-is_block None b h = cc
-is_block (Some (Block c)) b h = let same : c ≡ b = cc in ap (λ d. Some (Block d)) same
-is_block (Some (Source s)) b h = cc
 
 is_source_name : (o : Option Run) (s : Obj) → option_and_then source_of_run o ≡ Some s → o ≡ Some (Source s)
 is_source_name None s h = cc
@@ -67,30 +62,6 @@ module _ (plan : PlanView) (look : Look) (valid : IsPlan plan) (sound : (name : 
 
   is_index : (field : List ℕ) (i : ℕ) → index_in field ≡ Some i → (field ≡ decimal i) × (i < max_acts)
   is_index field i h = let back = read_back 0 (max_acts - 1) field i h in (back.0, omega (arith, back.2))
-
-  -- a worker and a block
-  abbrev BlockTurn : (a b : List ℕ) → (ℕ → Blk → Event) → Event → Type 0
-  BlockTurn a b make e =
-      (w : ℕ) × (c : Blk) × (a ≡ decimal w) × (w < max_workers) × (is_run_of plan (Block c) ≡ true) × (name_of_blk plan c.0 ≡ b) × (make w c ≡ e)
-
-  block_turn : (a b : List ℕ) (make : ℕ → Blk → Event) (e : Event) → of_both make (worker_in a) (block_in look b) ≡ Some e → BlockTurn a b make e
-  block_turn a b make e h =
-      let parts = both_there make (worker_in a) (block_in look b) e h in
-      let worker = is_worker a parts.0 parts.2 in
-      let named = sound b (Block parts.1) (is_block (look b) parts.1 parts.3) in
-      (parts.0, parts.1, worker.0, worker.1, named.0, named.1, parts.4)
-
-  -- a worker and a source
-  abbrev SourceTurn : (a b : List ℕ) → (ℕ → Obj → Event) → Event → Type 0
-  SourceTurn a b make e =
-      (w : ℕ) × (s : Obj) × (a ≡ decimal w) × (w < max_workers) × (is_run_of plan (Source s) ≡ true) × (name_of_obj plan s.0 ≡ b) × (make w s ≡ e)
-
-  source_turn : (a b : List ℕ) (make : ℕ → Obj → Event) (e : Event) → of_both make (worker_in a) (source_in look b) ≡ Some e → SourceTurn a b make e
-  source_turn a b make e h =
-      let parts = both_there make (worker_in a) (source_in look b) e h in
-      let worker = is_worker a parts.0 parts.2 in
-      let named = sound b (Source parts.1) (is_source_name (look b) parts.1 parts.3) in
-      (parts.0, parts.1, worker.0, worker.1, named.0, named.1, parts.4)
 
   -- a worker and a run
   run_turn : (a b : List ℕ) (turn : ℕ × Run) → turn_in look a b ≡ Some turn → (a ≡ decimal turn.0) × (turn.0 < max_workers) × (is_run_of plan turn.1 ≡ true) × (name_of_run plan turn.1 ≡ b)
@@ -133,45 +104,62 @@ module _ (plan : PlanView) (look : Look) (valid : IsPlan plan) (sound : (name : 
   three_fields : (k1 k2 a1 a2 b1 b2 : List ℕ) → k1 ≡ k2 → a1 ≡ a2 → b1 ≡ b2 → (k1 ∷ a1 ∷ b1 ∷ []) ≡ (k2 ∷ a2 ∷ b2 ∷ [])
   three_fields k1 k2 a1 a2 b1 b2 k a b = cc
 
-  three_back : (kind a b : List ℕ) (e : Event) → by_three look kind a b ≡ Some e → Spells plan e (kind ∷ a ∷ b ∷ [])
-  three_back kind a b e h = elim (guarded (bytes_eq kind (codes "start")) _ _ e h) [
+  -- what a turn of a worker and a run spells
+  abbrev TurnSpells : (kind a b : List ℕ) (w : ℕ) (run : Run) → Event → Type 0
+  TurnSpells kind a b w run e = a ≡ decimal w → w < max_workers → is_run_of plan run ≡ true → name_of_run plan run ≡ b → Spells plan e (kind ∷ a ∷ b ∷ [])
+
+  block_back : (kind a b : List ℕ) (w : ℕ) (c : Blk) (e : Event) → block_event kind w c ≡ Some e → TurnSpells kind a b w (Block c) e
+  block_back kind a b w c e h at few has named = elim (guarded (bytes_eq kind (codes "start")) _ _ e h) [
     | inl is ↦
-        let t = block_turn a b (λ w c. Start w c) e is.1 in
-        subst (λ f. Spells plan f (kind ∷ a ∷ b ∷ [])) t.6
-        (record { fits = (t.3, run_fits plan (Block t.1) valid t.4); named = t.4 }, three_fields _ _ _ _ _ _ (same_text kind (codes "start") is.0) (sym t.2) t.5)
+        let same : Start w c ≡ e = let made = is.1 in cc in
+        subst (λ f. Spells plan f (kind ∷ a ∷ b ∷ [])) same
+        (record { fits = (few, run_fits plan (Block c) valid has); named = has }, three_fields _ _ _ _ _ _ (same_text kind (codes "start") is.0) (sym at) named)
     | inr other ↦ elim (guarded (bytes_eq kind (codes "end")) _ _ e other.1) [
         | inl is ↦
-            let t = block_turn a b (λ w c. End w c) e is.1 in
-            subst (λ f. Spells plan f (kind ∷ a ∷ b ∷ [])) t.6
-            (record { fits = (t.3, run_fits plan (Block t.1) valid t.4); named = t.4 }, three_fields _ _ _ _ _ _ (same_text kind (codes "end") is.0) (sym t.2) t.5)
-        | inr other ↦ elim (guarded (bytes_eq kind (codes "wake")) _ _ e other.1) [
+            let same : End w c ≡ e = let made = is.1 in cc in
+            subst (λ f. Spells plan f (kind ∷ a ∷ b ∷ [])) same
+            (record { fits = (few, run_fits plan (Block c) valid has); named = has }, three_fields _ _ _ _ _ _ (same_text kind (codes "end") is.0) (sym at) named)
+        | inr more ↦ elim (guarded (bytes_eq kind (codes "wake")) _ None e more.1) [
             | inl is ↦
-                let t = block_turn a b (λ w c. Wake w c) e is.1 in
-                subst (λ f. Spells plan f (kind ∷ a ∷ b ∷ [])) t.6
-                (record { fits = (t.3, run_fits plan (Block t.1) valid t.4); named = t.4 }, three_fields _ _ _ _ _ _ (same_text kind (codes "wake") is.0) (sym t.2) t.5)
-            | inr other ↦ elim (guarded (bytes_eq kind (codes "deliver")) _ _ e other.1) [
-                | inl is ↦
-                    let t = source_turn a b (λ w s. Deliver w s) e is.1 in
-                    subst (λ f. Spells plan f (kind ∷ a ∷ b ∷ [])) t.6
-                    (record { fits = (t.3, run_fits plan (Source t.1) valid t.4); named = t.4 }, three_fields _ _ _ _ _ _ (same_text kind (codes "deliver") is.0) (sym t.2) t.5)
-                | inr other ↦ elim (guarded (bytes_eq kind (codes "deliver_end")) _ _ e other.1) [
-                    | inl is ↦
-                        let t = source_turn a b (λ w s. DeliverEnd w s) e is.1 in
-                        subst (λ f. Spells plan f (kind ∷ a ∷ b ∷ [])) t.6
-                        (record { fits = (t.3, run_fits plan (Source t.1) valid t.4); named = t.4 }, three_fields _ _ _ _ _ _ (same_text kind (codes "deliver_end") is.0) (sym t.2) t.5)
-                    | inr other ↦ elim (guarded (bytes_eq kind (codes "ready")) _ None e other.1) [
-                        | inl is ↦
-                            let parts = both_there (λ s n. Ready s n) (source_in look a) (bytes_in b) e is.1 in
-                            let named = sound a (Source parts.0) (is_source_name (look a) parts.0 parts.2) in
-                            let back = read_back 1 max_value b parts.1 parts.3 in
-                            subst (λ f. Spells plan f (kind ∷ a ∷ b ∷ [])) parts.4
-                            (record { fits = (run_fits plan (Source parts.0) valid named.0, back.1, back.2); named = named.0 }, three_fields _ _ _ _ _ _ (same_text kind (codes "ready") is.0) named.1 (sym back.0))
-                        | inr none ↦ cc
-                      ]
-                  ]
-              ]
+                let same : Wake w c ≡ e = let made = is.1 in cc in
+                subst (λ f. Spells plan f (kind ∷ a ∷ b ∷ [])) same
+                (record { fits = (few, run_fits plan (Block c) valid has); named = has }, three_fields _ _ _ _ _ _ (same_text kind (codes "wake") is.0) (sym at) named)
+            | inr none ↦ let never = none.1 in cc
           ]
       ]
+  ]
+
+  source_back : (kind a b : List ℕ) (w : ℕ) (s : Obj) (e : Event) → source_event kind w s ≡ Some e → TurnSpells kind a b w (Source s) e
+  source_back kind a b w s e h at few has named = elim (guarded (bytes_eq kind (codes "deliver")) _ _ e h) [
+    | inl is ↦
+        let same : Deliver w s ≡ e = let made = is.1 in cc in
+        subst (λ f. Spells plan f (kind ∷ a ∷ b ∷ [])) same
+        (record { fits = (few, run_fits plan (Source s) valid has); named = has }, three_fields _ _ _ _ _ _ (same_text kind (codes "deliver") is.0) (sym at) named)
+    | inr other ↦ elim (guarded (bytes_eq kind (codes "deliver_end")) _ None e other.1) [
+        | inl is ↦
+            let same : DeliverEnd w s ≡ e = let made = is.1 in cc in
+            subst (λ f. Spells plan f (kind ∷ a ∷ b ∷ [])) same
+            (record { fits = (few, run_fits plan (Source s) valid has); named = has }, three_fields _ _ _ _ _ _ (same_text kind (codes "deliver_end") is.0) (sym at) named)
+        | inr none ↦ let never = none.1 in cc
+      ]
+  ]
+
+  turn_back : (kind a b : List ℕ) (w : ℕ) (run : Run) (e : Event) → turn_event kind w run ≡ Some e → TurnSpells kind a b w run e
+  turn_back kind a b w (Block c) e h = block_back kind a b w c e h
+  turn_back kind a b w (Source s) e h = source_back kind a b w s e h
+
+  three_back : (kind a b : List ℕ) (e : Event) → by_three look kind a b ≡ Some e → Spells plan e (kind ∷ a ∷ b ∷ [])
+  three_back kind a b e h = elim (guarded (bytes_eq kind (codes "ready")) _ _ e h) [
+    | inl is ↦
+        let parts = both_there (λ s n. Ready s n) (source_in look a) (bytes_in b) e is.1 in
+        let named = sound a (Source parts.0) (is_source_name (look a) parts.0 parts.2) in
+        let back = read_back 1 max_value b parts.1 parts.3 in
+        subst (λ f. Spells plan f (kind ∷ a ∷ b ∷ [])) parts.4
+        (record { fits = (run_fits plan (Source parts.0) valid named.0, back.1, back.2); named = named.0 }, three_fields _ _ _ _ _ _ (same_text kind (codes "ready") is.0) named.1 (sym back.0))
+    | inr other ↦
+        let parts = then_there (λ (turn : ℕ × Run). turn_event kind turn.0 turn.1) (turn_in look a b) e other.1 in
+        let turn = run_turn a b parts.0 parts.1 in
+        turn_back kind a b parts.0.0 parts.0.1 e parts.2 turn.0 turn.1 turn.2 turn.3
   ]
 
   four_back : (kind a b c : List ℕ) (e : Event) → by_four look kind a b c ≡ Some e → Spells plan e (kind ∷ a ∷ b ∷ c ∷ [])

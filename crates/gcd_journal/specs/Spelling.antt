@@ -40,19 +40,12 @@ abbrev pub code_in : List ℕ → Option ℕ
 code_in [] = None
 code_in (c ∷ digits) = if c == 77 then number_in 1 8 digits else None
 
--- the block of a block's run, and the source of a source's
-abbrev pub block_of_run : Run → Option Blk
-block_of_run (Block b) = Some b
-block_of_run (Source s) = None
-
+-- the source of a source's run
 abbrev pub source_of_run : Run → Option Obj
 source_of_run (Block b) = None
 source_of_run (Source s) = Some s
 
--- the block, and the source, of a name
-abbrev pub block_in : Look → List ℕ → Option Blk
-block_in look field = option_and_then block_of_run (look field)
-
+-- the source of a name
 abbrev pub source_in : Look → List ℕ → Option Obj
 source_in look field = option_and_then source_of_run (look field)
 
@@ -66,7 +59,7 @@ of_both f (Some a) (Some b) = Some (f a b)
 abbrev pub turn_in : Look → List ℕ → List ℕ → Option (ℕ × Run)
 turn_in look a b = of_both (λ w r. (w, r)) (worker_in a) (look b)
 
--- the event of a line of one, two, three, four and five fields
+-- the event of a line of one field, and of two
 abbrev pub by_one : List ℕ → Option Event
 by_one kind = if bytes_eq kind (codes "halt") then Some Halt else None
 
@@ -75,15 +68,29 @@ by_two look kind a =
     if bytes_eq kind (codes "tick") then option_and_then (λ t. Some (Tick t)) (time_in a) else
     if bytes_eq kind (codes "feed_end") then option_and_then (λ s. Some (FeedEnd s)) (source_in look a) else None
 
+-- of three: by the kind, a worker's event of a block or of a source
+abbrev pub block_event : List ℕ → ℕ → Blk → Option Event
+block_event kind w b =
+    if bytes_eq kind (codes "start") then Some (Start w b) else
+    if bytes_eq kind (codes "end") then Some (End w b) else
+    if bytes_eq kind (codes "wake") then Some (Wake w b) else None
+
+abbrev pub source_event : List ℕ → ℕ → Obj → Option Event
+source_event kind w s =
+    if bytes_eq kind (codes "deliver") then Some (Deliver w s) else
+    if bytes_eq kind (codes "deliver_end") then Some (DeliverEnd w s) else None
+
+abbrev pub turn_event : List ℕ → ℕ → Run → Option Event
+turn_event kind w (Block b) = block_event kind w b
+turn_event kind w (Source s) = source_event kind w s
+
 abbrev pub by_three : Look → List ℕ → List ℕ → List ℕ → Option Event
 by_three look kind a b =
-    if bytes_eq kind (codes "start") then of_both (λ w c. Start w c) (worker_in a) (block_in look b) else
-    if bytes_eq kind (codes "end") then of_both (λ w c. End w c) (worker_in a) (block_in look b) else
-    if bytes_eq kind (codes "wake") then of_both (λ w c. Wake w c) (worker_in a) (block_in look b) else
-    if bytes_eq kind (codes "deliver") then of_both (λ w s. Deliver w s) (worker_in a) (source_in look b) else
-    if bytes_eq kind (codes "deliver_end") then of_both (λ w s. DeliverEnd w s) (worker_in a) (source_in look b) else
-    if bytes_eq kind (codes "ready") then of_both (λ s n. Ready s n) (source_in look a) (bytes_in b) else None
+    if bytes_eq kind (codes "ready")
+    then of_both (λ s n. Ready s n) (source_in look a) (bytes_in b)
+    else option_and_then (λ (turn : ℕ × Run). turn_event kind turn.0 turn.1) (turn_in look a b)
 
+-- of four and of five
 abbrev pub by_four : Look → List ℕ → List ℕ → List ℕ → List ℕ → Option Event
 by_four look kind a b c =
     if bytes_eq kind (codes "act") then of_both (λ (turn : ℕ × Run) (i : ℕ). Acted turn.0 turn.1 i) (turn_in look a b) (index_in c) else None
