@@ -11,7 +11,7 @@
 //! | `has` | whether the number is in the set | | constant |
 //! | `count`, `is_empty` | how many numbers are in the set, whether there are none | | constant |
 //! | `next` | the least number in the set from one on; None exactly where there is none | | a step for each word that it passes, and constant where the set is empty |
-//! | `set`, `clear` | | the number in the set, or not, as it may have been before | constant |
+//! | `set`, `clear`, `put` | | the number in the set, or not, as it may have been before | constant |
 //!
 //! `new` and `copied` take all memory; every other call takes none and cannot fail. A [`SmallSet`] has numbers below 1,024
 //! and takes no memory at all: it serves within one call. Contracts see its words.

@@ -133,4 +133,16 @@ impl BitSet {
             self.count -= 1;
         }
     }
+
+    /// The number is in the set from now on exactly where `present` says so.
+    pub fn put(&mut self, i: u32, present: bool)
+        requires { i < length self.old }
+        ensures { self.new ≡ slice_set self.old i present }
+    {
+        if present {
+            self.set(i);
+        } else {
+            self.clear(i);
+        }
+    }
 }

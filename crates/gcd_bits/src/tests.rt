@@ -98,6 +98,17 @@ fn numbers_come_and_go(rt: HostRuntime) -> Result<(), Fail> {
 }
 
 #[test]
+fn a_number_is_put_in_or_out(rt: HostRuntime) -> Result<(), Fail> {
+    let mut set = BitSet::new(rt.alloc(), 100)?;
+    assert!(rt; set.len() == 100);
+    set.put(70, true);
+    set.put(3, true);
+    set.put(3, false);
+    assert_eq!(rt; (set.next(0), set.count()), (Some(70), 1));
+    Ok(())
+}
+
+#[test]
 fn a_small_set_keeps_apart_what_is_set(rt: HostRuntime) {
     let mut set = SmallSet::new();
     for i in [0, 63, 64, 700, 1023, 64] {

@@ -1,6 +1,7 @@
 -- Which events fit: their fields are in the ranges of their kind (this project's own rule).
 use Rattle.std.specs.Prelude.{ℕ, ◌<◌, ◌≤◌}
 use Rattle.gcd_plan.specs.Limits.{max_workers, max_blocks, max_objects, max_acts, max_time, max_value}
+use Rattle.gcd_plan.specs.MisuseCodes.{last_code}
 use Rattle.gcd_plan.specs.declared.numbers.Blk.{Blk}
 use Rattle.gcd_plan.specs.declared.numbers.Obj.{Obj}
 use Rattle.gcd_plan.specs.declared.numbers.Run.{Run}
@@ -39,5 +40,5 @@ IsFitting (DeliverEnd w s) = IsWorker w × IsSource s
 IsFitting (Tick t) = (1 ≤ t) × (t ≤ max_time)
 IsFitting (Ready s n) = IsSource s × (1 ≤ n) × (n ≤ max_value)
 IsFitting (FeedEnd s) = IsSource s
-IsFitting (Misuse w run i c) = IsWorker w × IsRun run × IsIndex i × (1 ≤ c) × (c ≤ 8)
+IsFitting (Misuse w run i c) = IsWorker w × IsRun run × IsIndex i × (1 ≤ c) × (c ≤ last_code)
 IsFitting Halt = Unit {0}

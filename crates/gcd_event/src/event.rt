@@ -2,7 +2,7 @@
 ghost use Rattle.std.specs.Prelude.{IsTrue, ◌↔◌};
 
 use gcd_plan::{
-    Blk, MAX_ACTS, MAX_BLOCKS, MAX_OBJECTS, MAX_TIME, MAX_VALUE, MAX_WORKERS, Obj, Run,
+    Blk, MAX_ACTS, MAX_BLOCKS, MAX_OBJECTS, MAX_TIME, MAX_VALUE, MAX_WORKERS, MisuseCode, Obj, Run,
 };
 
 /// What happened, in one atomic step. Tick, Ready, FeedEnd and Halt are worker 0's (this project's own rule: libdispatch
@@ -69,7 +69,7 @@ impl Event {
 
     /// Whether the event's fields are in their ranges: a worker below [`MAX_WORKERS`], a block below [`MAX_BLOCKS`], a
     /// source from 1 to below [`MAX_OBJECTS`], an index below [`MAX_ACTS`], a time from 1 to [`MAX_TIME`], bytes from 1 to
-    /// [`MAX_VALUE`], a code from 1 to 8.
+    /// [`MAX_VALUE`], a code from 1 to [`MisuseCode::LAST`].
     pub fn fits(&self) -> bool
         ensures { IsTrue result ↔ IsFitting self.now }
     {
@@ -91,7 +91,11 @@ impl Event {
                 index,
                 code,
             } => {
-                is_worker(*worker) && is_run(*run) && is_index(*index) && 1 <= *code && *code <= 8
+                is_worker(*worker)
+                    && is_run(*run)
+                    && is_index(*index)
+                    && 1 <= *code
+                    && *code <= MisuseCode::LAST
             }
             Event::Halt => true,
         }

@@ -67,7 +67,7 @@ pub fn of_word(w: u64) -> Option<Event>
 // One word of four fields.
 fn joined(kind: u8, worker: u8, subject: u32, rest: u32) -> u64
     requires kind { kind ≤ 11 }
-    requires subject { subject < 65536 }
+    requires subject { subject < 2 ^ 16 }
     ensures { result ≡ joined kind worker subject rest }
 {
     u64::from(kind) * KIND
@@ -80,7 +80,7 @@ fn joined(kind: u8, worker: u8, subject: u32, rest: u32) -> u64
 fn subject_of(run: Run) -> u32
     requires { IsRun run }
     ensures exact { result ≡ subject_of run }
-    ensures below { result < 65536 }
+    ensures below { result < 2 ^ 16 }
 {
     match run {
         Run::Block(b) => b.0,

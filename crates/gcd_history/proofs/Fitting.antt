@@ -4,8 +4,7 @@ use Rattle.std.specs.List.{slice_get}
 use Rattle.std.specs.Option.{option_map, option_map_or}
 use Rattle.std.proofs.lemmas.Bool.{and_parts, ltb-true, leb-true, both_ways}
 use Rattle.std.proofs.lemmas.Option.{slice_get_within}
-use Rattle.gcd_plan.specs.MisuseCodes.{code_of}
-use Rattle.gcd_plan.specs.declared.misuse_code.MisuseCode.TheVariants.{ReleaseBelowFirstValue}
+use Rattle.gcd_plan.specs.MisuseCodes.{last_code}
 use Rattle.gcd_plan.specs.Limits.{max_objects, max_blocks, max_acts, max_time, max_value, max_workers}
 use Rattle.gcd_plan.specs.PlanView.{PlanView}
 use Rattle.gcd_plan.specs.Kinds.{is_source, is_source_kind, has_kind, is_read_kind}
@@ -96,9 +95,9 @@ known_fits plan (Misuse w run i c) valid h =
     let parts = and_parts (is_worker w) (is_run_of plan run && (is_index i && is_code c)) h in
     let named = and_parts (is_run_of plan run) (is_index i && is_code c) parts.1 in
     let placed = and_parts (is_index i) (is_code c) named.1 in
-    let coded = and_parts (ltb 0 c) (leb c (code_of ReleaseBelowFirstValue)) placed.1 in
+    let coded = and_parts (ltb 0 c) (leb c (last_code)) placed.1 in
     let above : 0 < c = ltb-true 0 c coded.0 in
-    (worker_fits w parts.0, run_fits plan run valid named.0, ltb-true i max_acts placed.0, omega arith, leb-true c (code_of ReleaseBelowFirstValue) coded.1)
+    (worker_fits w parts.0, run_fits plan run valid named.0, ltb-true i max_acts placed.0, omega arith, leb-true c (last_code) coded.1)
 known_fits plan Halt valid h = tt
 
 pub permitted_fits : (plan : PlanView) (h : List Event) (e : Event) → IsPlan plan → why plan h e ≡ None → IsFitting e

@@ -38,3 +38,4 @@ pub mod Choices
 pub mod Quiet
 pub mod OneState
 pub mod Counts
+pub mod FeedsDie

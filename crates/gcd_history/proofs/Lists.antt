@@ -7,7 +7,7 @@ use Rattle.std.proofs.lemmas.Bool.{or_cases, or_left, or_right, and_parts, and_f
 use Rattle.std.proofs.Math.Bool.{or_comm, or-false}
 use Rattle.std.proofs.lemmas.Option.{same_Some}
 use Rattle.std.proofs.lemmas.List.Folds.{find-append, list_any_at, list_any-append, list_all-append}
-use Rattle.gcd_plan.proofs.Sums.{count_by_none, count_by-cons, count_by-append}
+use Rattle.gcd_plan.proofs.Sums.{count_by_none, count_by-cons, count_by-append, count_by_some}
 
 -- ## Reading at an index
 
@@ -55,6 +55,14 @@ any_from_find p (x ∷ xs) h =
       | true ↦ λ k. refl
       | false ↦ λ k. any_from_find p xs k
     ] h
+
+-- where none is counted none is found
+pub none_found : {X : Type 0} (p : X → Bool) (xs : List X) → count_by p xs ≡ 0 → find p xs ≡ None
+none_found p xs none =
+    elim (find p xs) as (λ o. find p xs ≡ o → o ≡ None) [
+      | None ↦ λ k. refl
+      | Some x ↦ λ k. let some = count_by_some p xs (any_from_find p xs (ap is_some k)) in absurd (omega (arith, some, none))
+    ] refl
 
 -- what is found passes its test, and any that all pass
 pub found_passes : {X : Type 0} → (p q : X → Bool) (xs : List X) (x : X) → find p xs ≡ Some x → list_all q xs ≡ true → (p x ≡ true) × (q x ≡ true)

@@ -9,7 +9,7 @@ use Rattle.gcd_plan.specs.declared.numbers.Run.TheVariants.{Block, Source}
 use Rattle.gcd_event.specs.declared.event.Event.{Event}
 use Rattle.gcd_event.specs.declared.event.Event.TheVariants.{Start, Act as Acted, Wake, End, Deliver, DeliverEnd}
 use Rattle.gcd_history.specs.Runs.{same_run, open_runs, is_open, act_at, last_worker}
-use Rattle.gcd_history.specs.Parked.{reason_by, parked_by, has_run, is_busy}
+use Rattle.gcd_history.specs.Parked.{awaited_by, parked_by, has_run, is_busy}
 use Rattle.gcd_history.specs.Permitted.{IsLawful, why}
 use Rattle.gcd_history.specs.Choice.{worker_of}
 use Rattle.gcd_history.specs.Facts.{gives_run}
@@ -121,7 +121,7 @@ took_or_had plan (Acted v q i) past h w r own =
           inr (has_from plan past w r facts.live (run_facts plan past v r mine).unparked facts.last)
       | false ↦ λ other. inr (has_from plan past w r
           facts.live
-          (sym (ap (λ k. is_none (cond k (reason_by plan past (act_at plan q i)) (parked_by plan past r))) other) ∙ facts.unparked)
+          (sym (ap (λ k. is_none (cond k (awaited_by plan past (act_at plan q i)) (parked_by plan past r))) other) ∙ facts.unparked)
           facts.last)
     ] refl
 took_or_had plan (End v c) past h w r own =

@@ -1,8 +1,8 @@
 -- The facts over histories in order, from those by recursion.
-use Rattle.std.proofs.Common.{◌≡◌, ℕ, true, false, List, [], ◌∷◌, ◌++◌, reverse, take, Some, is_some, is_none, ap, sym, ◌∙◌, subst}
+use Rattle.std.proofs.Common.{◌≡◌, ℕ, true, false, List, [], ◌∷◌, ◌++◌, reverse, take, Some, is_some, is_none, ap, sym, ◌∙◌, subst, ◌||◌, ⊎_elim, Bool}
 use Rattle.std.specs.Option.{option_map_or}
-use Rattle.std.proofs.lemmas.Bool.{and_parts, lt-ltb, false_from_ne_true}
-use Rattle.std.proofs.lemmas.List.{reverse-append}
+use Rattle.std.proofs.lemmas.Bool.{and_parts, lt-ltb, false_from_ne_true, or_left, or_cases}
+use Rattle.std.proofs.lemmas.List.{reverse-append, append-nil, reverse-reverse}
 use Rattle.gcd_plan.specs.Limits.{max_workers}
 use Rattle.gcd_plan.specs.PlanView.{PlanView}
 use Rattle.gcd_plan.specs.Validity.{IsPlan}
@@ -11,12 +11,15 @@ use Rattle.gcd_plan.specs.declared.numbers.Run.TheVariants.{Block}
 use Rattle.gcd_event.specs.declared.event.Event.{Event}
 use Rattle.gcd_history.specs.Runs.{is_open}
 use Rattle.gcd_history.specs.Tree.{target, open_beneath}
-use Rattle.gcd_history.specs.Parked.{has_run as has_run_after, parked_by, reason, is_parked, may_wake, has_come as has_come_after}
+use Rattle.gcd_history.specs.Holds.{is_active as is_active_after}
+use Rattle.gcd_history.specs.Submitted.{is_cancelled as is_cancelled_after}
+use Rattle.gcd_history.specs.Sources.{is_live_feed as is_live_feed_after}
+use Rattle.gcd_history.specs.Parked.{has_run as has_run_after, parked_by, awaited, is_parked, may_wake, has_come as has_come_after}
 use Rattle.gcd_history.specs.Permitted.{IsLawful as IsLawfulAfter}
-use Rattle.gcd_history.specs.History.{why, IsLawful, open_runs_of, has_run, is_running, running_of, reason_of, has_come, request_of, target_of, open_beneath_of}
+use Rattle.gcd_history.specs.History.{why, IsLawful, open_runs_of, has_run, is_running, running_of, awaited_of, has_come, request_of, target_of, open_beneath_of, is_active, is_cancelled, is_live_feed}
 use Rattle.gcd_history.specs.Ends.{is_halted}
 use Rattle.gcd_history.specs.Choice.{worker_of}
-use Rattle.gcd_history.specs.Facts.{HasOneRun, OpenOnce, GivesToFree, RunsGoOn, IsFreeWorker, FreeWorkersAreAlike, wakes, MayWakeUntilWoken, WakesArePermitted, AllFit, OnlyActiveMove, TargetsChangeAlone}
+use Rattle.gcd_history.specs.Facts.{HasOneRun, OpenOnce, GivesToFree, RunsGoOn, IsFreeWorker, FreeWorkersAreAlike, wakes, MayWakeUntilWoken, WakesArePermitted, AllFit, OnlyActiveMove, TargetsChangeAlone, StaysActive, StaysCancelled, is_dead_feed, is_of_feed, FeedsDie, DeadFeedsStay, DeadFeedsAreSilent}
 use Rattle.gcd_history.proofs.Lists.{reverse_push, list_any-reverse}
 use Rattle.gcd_plan.proofs.Options.{none_from_is_none}
 use Rattle.gcd_history.proofs.LawfulLemmas.{lawful_after}
@@ -25,7 +28,9 @@ use Rattle.gcd_history.proofs.OneRun.{one_run, gives_to_idle, idle_has_none}
 use Rattle.gcd_history.proofs.OpenOnce.{stands_once}
 use Rattle.gcd_history.proofs.Woken.{parked_facts, due_on}
 use Rattle.gcd_history.proofs.Quiet.{all_free, alike, own_event, wake_permitted}
+use Rattle.gcd_history.proofs.FeedsDie.{active_on, cancelled_on, dies, cancelled_silent, halted_ends}
 use Rattle.gcd_history.proofs.MovesAlone.{moving_made_active, changes_alone}
+use Rattle.std.specs.List.{list_any}
 
 pub has_one_run : (plan : PlanView) (h : List Event) → IsLawful plan h → HasOneRun plan h
 unfolding has_run
@@ -58,24 +63,24 @@ unfolding has_run running_of
 all_workers_free plan h w quiet = all_free plan (reverse h) w quiet
 
 pub wakes_due : (plan : PlanView) (h later : List Event) → IsLawful plan (h ++ later) → MayWakeUntilWoken plan h later
-unfolding reason_of has_come
+unfolding awaited_of has_come
 wakes_due plan h later lawful b may none =
     let split = reverse-append h later in
     let whole : IsLawfulAfter plan (reverse later ++ reverse h) = subst (IsLawfulAfter plan) split (lawful_after plan (h ++ later) lawful) in
-    let on = due_on plan (reverse later) (reverse h) whole (record { 0 = b }) may.reason may.parked may.come (list_any-reverse (wakes b) later ∙ none) in
+    let on = due_on plan (reverse later) (reverse h) whole (record { 0 = b }) may.awaited may.parked may.come (list_any-reverse (wakes b) later ∙ none) in
     record {
-      reason = may.reason;
-      parked = subst (λ k. reason plan k (Block (record { 0 = b })) ≡ Some may.reason) (sym split) on.0;
-      come = subst (λ k. has_come_after plan k may.reason ≡ true) (sym split) on.1;
+      awaited = may.awaited;
+      parked = subst (λ k. awaited plan k (Block (record { 0 = b })) ≡ Some may.awaited) (sym split) on.0;
+      come = subst (λ k. has_come_after plan k may.awaited ≡ true) (sym split) on.1;
     }
 
 pub wakes_permitted : (plan : PlanView) (h : List Event) → IsLawful plan h → is_halted h ≡ false → WakesArePermitted plan h
-unfolding is_halted reason_of has_come has_run why is_parked may_wake
+unfolding is_halted awaited_of has_come has_run why is_parked may_wake
 wakes_permitted plan h lawful on b w may free fits =
     let past = reverse h in
     let blk : Blk = record { 0 = b } in
     wake_permitted plan past blk w (lawful_after plan h lawful) on (lt-ltb w max_workers fits) free
-    (parked_facts plan past blk may.reason may.parked).live
+    (parked_facts plan past blk may.awaited may.parked).live
     (ap is_some may.parked)
     (ap (λ o. option_map_or (has_come_after plan past) o false) may.parked ∙ may.come)
 
@@ -94,3 +99,44 @@ targets_change_alone plan h e valid lawful o changed =
     let whole : IsLawfulAfter plan (e ∷ reverse h) = subst (IsLawfulAfter plan) turned (lawful_after plan (h ++ e ∷ []) lawful) in
     ap (λ k. open_beneath plan k o) turned
     ∙ changes_alone plan e (reverse h) valid whole o (λ same. changed (ap (λ k. target plan k o) turned ∙ same))
+
+pub stays_active : (plan : PlanView) (h later : List Event) → StaysActive plan h later
+unfolding is_active
+stays_active plan h later o on = ap (λ l. is_active_after plan l o) (reverse-append h later) ∙ active_on plan (reverse later) (reverse h) o on
+
+pub stays_cancelled : (plan : PlanView) (h later : List Event) → StaysCancelled plan h later
+unfolding is_cancelled
+stays_cancelled plan h later s over = ap (λ l. is_cancelled_after plan l s) (reverse-append h later) ∙ cancelled_on plan (reverse later) (reverse h) s over
+
+pub feeds_die : (plan : PlanView) (h later : List Event) → FeedsDie plan h later
+unfolding is_live_feed is_cancelled is_dead_feed
+feeds_die plan h later s live gone =
+    let split = reverse-append h later in
+    or_left (is_cancelled plan (h ++ later) s) (is_halted (h ++ later))
+    (ap (λ l. is_cancelled_after plan l s) split ∙ dies plan (reverse later) (reverse h) s live (sym (ap (λ l. is_live_feed_after plan l s) split) ∙ gone))
+
+-- after a halt nothing has come
+nothing_later : (plan : PlanView) (h later : List Event) → IsLawful plan (h ++ later) → is_halted h ≡ true → later ≡ []
+unfolding is_halted
+nothing_later plan h later lawful halted =
+    let whole : IsLawfulAfter plan (reverse later ++ reverse h) = subst (IsLawfulAfter plan) (reverse-append h later) (lawful_after plan (h ++ later) lawful) in
+    let none = halted_ends plan (reverse later) (reverse h) whole halted in
+    sym (reverse-reverse later) ∙ ap reverse none
+
+pub dead_feeds_stay : (plan : PlanView) (h later : List Event) → IsLawful plan (h ++ later) → DeadFeedsStay plan h later
+unfolding is_dead_feed
+dead_feeds_stay plan h later lawful s dead =
+    ⊎_elim
+    (λ over. or_left (is_cancelled plan (h ++ later) s) (is_halted (h ++ later)) (stays_cancelled plan h later s over))
+    (λ halted. subst (λ l. (is_cancelled plan (h ++ l) s || is_halted (h ++ l)) ≡ true) (sym (nothing_later plan h later lawful halted))
+    (subst (λ l. (is_cancelled plan l s || is_halted l) ≡ true) (sym (append-nil h)) dead))
+    (or_cases (is_cancelled plan h s) (is_halted h) dead)
+
+pub dead_feeds_are_silent : (plan : PlanView) (h later : List Event) → IsLawful plan (h ++ later) → DeadFeedsAreSilent plan h later
+unfolding is_dead_feed is_cancelled
+dead_feeds_are_silent plan h later lawful s dead =
+    let whole : IsLawfulAfter plan (reverse later ++ reverse h) = subst (IsLawfulAfter plan) (reverse-append h later) (lawful_after plan (h ++ later) lawful) in
+    ⊎_elim
+    (λ over. sym (list_any-reverse (is_of_feed s) later) ∙ cancelled_silent plan (reverse later) (reverse h) s whole over)
+    (λ halted. ap (list_any (is_of_feed s)) (nothing_later plan h later lawful halted))
+    (or_cases (is_cancelled plan h s) (is_halted h) dead)

@@ -17,10 +17,10 @@ use Rattle.gcd_history.specs.Semas.{waits}
 use Rattle.gcd_history.specs.Runs.{act_of, starts, ends, is_ended as is_ended_after, is_open as is_open_after}
 use Rattle.gcd_history.specs.Tree.{target, chain_of_run}
 use Rattle.gcd_history.specs.Submitted.{submitted, submission_of}
-use Rattle.gcd_history.specs.Parked.{reason, is_parked, has_come as has_come_after}
+use Rattle.gcd_history.specs.Parked.{awaited, is_parked, has_come as has_come_after}
 use Rattle.gcd_history.specs.Permitted.{IsLawful as IsLawfulAfter, is_halted as is_halted_after}
 use Rattle.gcd_history.specs.Choice.{choice, all_ended as all_ended_after}
-use Rattle.gcd_history.specs.History.{why, IsLawful, node_of, is_started, is_submitted, submitted_of, is_free, chain_of_run as outer_chain, reason_of, has_come, group_wait_passes, semaphore_wait_passes, received_of, pending_of, merged_of, is_open, is_active, chain_of, node_of_run, is_barrier_on, choice_of, running_of, next_due_of, is_live_feed}
+use Rattle.gcd_history.specs.History.{why, IsLawful, node_of, is_started, is_submitted, submitted_of, is_free, chain_of_run as outer_chain, awaited_of, has_come, group_wait_passes, semaphore_wait_passes, received_of, pending_of, merged_of, is_open, is_active, chain_of, node_of_run, is_barrier_on, choice_of, running_of, next_due_of, is_live_feed}
 use Rattle.gcd_history.specs.Ends.{IsDrained, all_ended, IsQuiescent, IsHalted, is_halted}
 use Rattle.gcd_history.specs.Laws.{RunsOnce, StartsAfterSubmission, AllEndOnce, IsSubmittedOnce, StartsInOrder, BeginsFree, WakesHaveCause, NoneParked, WaitsHavePassed, GroupWaitsPass, SemaphoreWaitsPass, IsConserved, RunsExclude, BlocksOfOneNodeApart, BarriersExclude, DeliversAlone, TreeStands, IsChoiceOf, HasNoChoice, IsAtRest}
 use Rattle.gcd_plan.proofs.Places.{past_from_slice_get}
@@ -86,20 +86,20 @@ begins_free plan h lawful = record {
   delivers = λ i w s o at inside. (deliver_begins_alone plan (reverse (take i h)) w s (lawful i (Deliver w s) at)).free o inside;
 }
 
-parked_reason : (plan : PlanView) (past : List Event) (b : ℕ) → is_parked plan past b ≡ true → is_some (reason plan past (Block (record { 0 = b }))) ≡ true
+parked_awaited : (plan : PlanView) (past : List Event) (b : ℕ) → is_parked plan past b ≡ true → is_some (awaited plan past (Block (record { 0 = b }))) ≡ true
 unfolding is_parked
-parked_reason plan past b parked = parked
+parked_awaited plan past b parked = parked
 
 pub wakes_have_cause : (plan : PlanView) (h : List Event) → IsLawful plan h → WakesHaveCause plan h
-unfolding IsLawful why reason_of has_come
+unfolding IsLawful why awaited_of has_come
 wakes_have_cause plan h lawful i w b at =
     let past = reverse (take i h) in
     let facts = at_wake plan past w b (lawful i (Wake w b) at) in
-    let r = some_from_is_some (reason plan past (Block b)) (parked_reason plan past b.0 facts.parked) in
-    record { reason = r.0; parked = r.1; come = came plan past b.0 r.0 r.1 facts.came }
+    let r = some_from_is_some (awaited plan past (Block b)) (parked_awaited plan past b.0 facts.parked) in
+    record { awaited = r.0; parked = r.1; come = came plan past b.0 r.0 r.1 facts.came }
 
 pub none_is_parked : (plan : PlanView) (h : List Event) → IsLawful plan h → IsDrained plan h → NoneParked plan h
-unfolding reason_of all_ended
+unfolding awaited_of all_ended
 none_is_parked plan h lawful drained b = none_parked plan (reverse h) (lawful_after plan h lawful) drained.ended (record { 0 = b })
 
 -- the events from a position on, in reverse
@@ -107,7 +107,7 @@ turned_at : (h : List Event) (i : ℕ) → reverse h ≡ reverse (drop i h) ++ r
 turned_at h i = ap reverse (sym (take-append-drop i h)) ∙ reverse-append (take i h) (drop i h)
 
 pub waits_have_passed : (plan : PlanView) (h : List Event) → IsLawful plan h → IsDrained plan h → WaitsHavePassed plan h
-unfolding reason_of has_come all_ended
+unfolding awaited_of has_come all_ended
 waits_have_passed plan h lawful drained i b r is =
     let split = turned_at h i in
     let whole : IsLawfulAfter plan (reverse (drop i h) ++ reverse (take i h)) = subst (IsLawfulAfter plan) split (lawful_after plan h lawful) in

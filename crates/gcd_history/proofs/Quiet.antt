@@ -44,7 +44,7 @@ use Rattle.gcd_history.proofs.OpenNodes.{open_cases, any_open, open_any}
 use Rattle.gcd_history.proofs.Choices.{chosen_where_permitted, chosen_is}
 
 -- no reason applies, where the first does not, nor do the others
-none_first : (w : Why) (t : Bool) (rest : List (Why × Bool)) → t ≡ false → first_of rest ≡ None → first_of ((w, t) ∷ rest) ≡ None
+pub none_first : (w : Why) (t : Bool) (rest : List (Why × Bool)) → t ≡ false → first_of rest ≡ None → first_of ((w, t) ∷ rest) ≡ None
 none_first w t rest off none = ap (λ v. cond v (Some w) (first_of rest)) off ∙ none
 
 none_why : (plan : PlanView) (past : List Event) (e : Event) → is_halted past ≡ false → is_known plan e ≡ true → first_of (reasons plan past e) ≡ None → why plan past e ≡ None

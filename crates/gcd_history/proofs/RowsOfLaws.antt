@@ -3,15 +3,15 @@ use Rattle.std.specs.Prelude.{◌≡◌, true, false, List, [], ◌∷◌, ◌++
 use Rattle.std.specs.List.{range_with_len}
 use Rattle.gcd_plan.specs.PlanView.{PlanView}
 use Rattle.gcd_plan.specs.Validity.{IsPlan}
-use Rattle.gcd_plan.specs.declared.act.Act.TheVariants.{Async, Barrier, Sync, GroupAsync, GroupWait, Signal, Wait, Suspend, Resume, Activate, Merge}
+use Rattle.gcd_plan.specs.declared.act.Act.TheVariants.{Async, Barrier, Sync, GroupAsync, GroupWait, Signal, Wait, Suspend, Resume, Activate, Merge, Cancel}
 use Rattle.gcd_plan.specs.declared.kind.Kind.{Kind}
-use Rattle.gcd_plan.specs.declared.kind.Kind.TheVariants.{Add, Or}
+use Rattle.gcd_plan.specs.declared.kind.Kind.TheVariants.{Add, Or, Read}
 use Rattle.gcd_plan.specs.declared.reason.Reason.TheVariants.{Block as EndOf, Group, Rank}
-use Rattle.gcd_plan.specs.declared.why.Why.TheVariants.{Busy, Unready, Behind, NotFree, Excluded, Fenced, Waiting}
+use Rattle.gcd_plan.specs.declared.why.Why.TheVariants.{Busy, Unready, Behind, NotFree, Excluded, Fenced, Waiting, NotLive, Over}
 use Rattle.gcd_event.specs.declared.event.Event.{Event}
-use Rattle.gcd_event.specs.declared.event.Event.TheVariants.{Start, Act as Acted, Wake, End, Deliver, DeliverEnd}
+use Rattle.gcd_event.specs.declared.event.Event.TheVariants.{Start, Act as Acted, Wake, End, Deliver, DeliverEnd, Ready, FeedEnd, Halt}
 use Rattle.gcd_history.specs.Runs.{starts, ends}
-use Rattle.gcd_history.specs.History.{why, IsLawful, is_submitted, is_started, submitted_of, is_open, node_of, chain_of_run, node_of_run, is_barrier_on, is_free, reason_of, has_come, received_of, pending_of, merged_of, request_of, target_of, open_beneath_of, is_active, has_run, is_running, running_of}
+use Rattle.gcd_history.specs.History.{why, IsLawful, is_submitted, is_started, submitted_of, is_open, node_of, chain_of_run, node_of_run, is_barrier_on, is_free, awaited_of, has_come, received_of, pending_of, merged_of, request_of, target_of, open_beneath_of, is_active, has_run, is_running, running_of, is_cancelled, is_live_feed}
 use Rattle.gcd_history.specs.Ends.{IsDrained}
 use Rattle.gcd_history.proofs.Samples.{words, o, b, run, handler, serial, concurrent, group, semaphore, source, block, plan_of, journal}
 use Rattle.gcd_history.proofs.SampleLaws.{words_of_history, plan_from, lawful_row, drained_row}
@@ -19,6 +19,7 @@ use Rattle.gcd_history.proofs.RowsForged.{main_runs, whole}
 use Rattle.gcd_history.proofs.RowsOrder.{sync_apart}
 use Rattle.gcd_history.proofs.RowsObjects.{moved}
 use Rattle.gcd_history.proofs.RowsGroups.{emptied_once, waits_from_the_start}
+use Rattle.gcd_history.specs.Facts.{is_dead_feed}
 
 -- ## 1 A block starts at most once, after its submission, and where all is drained it has ended once
 
@@ -206,7 +207,7 @@ waits_drained = drained_row waits_thrice (journal waits_thrice) waits_plan waits
 
 -- events 4, 9 and 15 are Wakes of main, for the end of x, for group g and for the first wait on s
 waits_premise : (map (slice_get (journal waits_thrice)) (4 ∷ 9 ∷ 15 ∷ []) ≡ Some (Wake 0 (b 0)) ∷ Some (Wake 0 (b 0)) ∷ Some (Wake 0 (b 0)) ∷ [])
-    × (map (λ i. reason_of waits_thrice (take i (journal waits_thrice)) 0) (4 ∷ 9 ∷ 15 ∷ []) ≡ Some (EndOf (b 1)) ∷ Some (Group (o 2) 6) ∷ Some (Rank (o 1) 1) ∷ [])
+    × (map (λ i. awaited_of waits_thrice (take i (journal waits_thrice)) 0) (4 ∷ 9 ∷ 15 ∷ []) ≡ Some (EndOf (b 1)) ∷ Some (Group (o 2) 6) ∷ Some (Rank (o 1) 1) ∷ [])
 unfolding words words_of_history
 waits_premise = (refl, refl)
 
@@ -321,7 +322,7 @@ unfolding words words_of_history
 one_run_premise = (refl, refl, refl, refl, refl)
 
 -- w may wake from event 5 on, though g is entered again, and its Wake is permitted to each worker that is free
-wake_premise : (reason_of emptied_once (take 6 emptied) 1 ≡ Some (Group (o 1) 4))
+wake_premise : (awaited_of emptied_once (take 6 emptied) 1 ≡ Some (Group (o 1) 4))
     × (map (λ i. has_come emptied_once (take i emptied) (Group (o 1) 4)) (5 ∷ 6 ∷ 7 ∷ []) ≡ false ∷ true ∷ true ∷ [])
     × (map (λ w. why emptied_once emptied (Wake w (b 1))) (0 ∷ 1 ∷ 2 ∷ []) ≡ Some Busy ∷ None ∷ None ∷ [])
 unfolding words words_of_history
@@ -331,3 +332,31 @@ wake_premise = (refl, refl, refl)
 free_workers : (running_of one_async main_runs ≡ 0) × (map (λ w. why one_async main_runs (Start w (b 1))) (0 ∷ 1 ∷ 63 ∷ []) ≡ None ∷ None ∷ None ∷ [])
 unfolding words words_of_history
 free_workers = (refl, refl)
+
+-- source r read d on root; main; activate r; cancel r: bytes come between the two acts
+abbrev reads_once : PlanView
+reads_once = plan_of (record (source (codes "r") Read []) { path = codes "d" } ∷ []) (Activate (o 1) ∷ Cancel (o 1) ∷ []) []
+
+abbrev fed : List Event
+fed = Start 0 (b 0) ∷ Acted 0 (run 0) 0 ∷ Ready (o 1) 4 ∷ Acted 0 (run 0) 1 ∷ End 0 (b 0) ∷ []
+
+fed_plan : IsPlan reads_once
+fed_plan = plan_from reads_once refl refl refl refl
+
+fed_lawful : IsLawful reads_once fed
+unfolding words
+fed_lawful = lawful_row reads_once fed refl
+
+-- r is active from its activation on, and cancelled from its cancellation on; its feed is live between the two, and then dead
+feed_premise : (map (λ i. is_active reads_once (take i fed) 1) (1 ∷ 2 ∷ 4 ∷ 5 ∷ []) ≡ false ∷ true ∷ true ∷ true ∷ [])
+    × (map (λ i. is_cancelled reads_once (take i fed) 1) (2 ∷ 3 ∷ 4 ∷ 5 ∷ []) ≡ false ∷ false ∷ true ∷ true ∷ [])
+    × (map (λ i. is_live_feed reads_once (take i fed) 1) (1 ∷ 2 ∷ 3 ∷ 4 ∷ []) ≡ false ∷ true ∷ true ∷ false ∷ [])
+    × (map (λ i. is_dead_feed reads_once (take i fed) 1) (1 ∷ 2 ∷ 3 ∷ 4 ∷ 5 ∷ []) ≡ false ∷ false ∷ false ∷ true ∷ true ∷ [])
+unfolding words words_of_history is_cancelled is_dead_feed
+feed_premise = (refl, refl, refl, refl)
+
+-- of a dead feed nothing is told any more, and after a halt of no feed
+feed_refused : (map (why reads_once (take 4 fed)) (Ready (o 1) 4 ∷ FeedEnd (o 1) ∷ []) ≡ Some NotLive ∷ Some NotLive ∷ [])
+    × (map (why reads_once (take 2 fed ++ Halt ∷ [])) (Ready (o 1) 4 ∷ FeedEnd (o 1) ∷ []) ≡ Some Over ∷ Some Over ∷ [])
+unfolding words words_of_history
+feed_refused = (refl, refl)

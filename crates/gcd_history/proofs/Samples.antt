@@ -18,20 +18,20 @@ use Rattle.gcd_event.specs.declared.event.Event.{Event}
 use Rattle.gcd_history.specs.declared.state.State.{State}
 use Rattle.gcd_history.specs.declared.state.State.TheVariants.{Drained, Stuck, Misused, Halted, Live}
 use Rattle.gcd_history.specs.Holds.{is_free}
-use Rattle.gcd_history.specs.Parked.{reason, is_parked, has_run, is_busy, has_come, may_wake}
+use Rattle.gcd_history.specs.Parked.{awaited, is_parked, has_run, is_busy, has_come, may_wake}
 use Rattle.gcd_history.specs.Timers.{next_due, may_tick}
 use Rattle.gcd_history.specs.Sources.{is_pending, is_live_feed}
 use Rattle.gcd_history.specs.Misuses.{misuse}
 use Rattle.gcd_history.specs.Permitted.{why, permitted, is_ready, is_behind, knowledge, is_barrier_open, is_fenced, has_act_left, is_next, misuse_at, ends_in_misuse, ends_in_halt}
 use Rattle.gcd_history.specs.Choice.{choice, all_ended}
-use Rattle.gcd_history.specs.History.{is_submitted, is_started, is_ended, reason_of, received_of, delivery_count_of, pending_of}
+use Rattle.gcd_history.specs.History.{is_submitted, is_started, is_ended, awaited_of, received_of, delivery_count_of, pending_of}
 use Rattle.gcd_history.specs.Values.{value_of}
 use Rattle.gcd_history.specs.Report.{report_by, report_text}
 use Rattle.gcd_history.specs.JournalText.{journal_text}
 
 -- opens every word that stays shut elsewhere
 unfoldable pub words : Unit {0}
-unfolding is_free reason is_parked has_run is_busy has_come may_wake next_due may_tick is_pending is_live_feed misuse is_ready is_behind knowledge is_barrier_open is_fenced has_act_left is_next misuse_at is_submitted is_started is_ended reason_of received_of delivery_count_of pending_of value_of report_by journal_text digits
+unfolding is_free awaited is_parked has_run is_busy has_come may_wake next_due may_tick is_pending is_live_feed misuse is_ready is_behind knowledge is_barrier_open is_fenced has_act_left is_next misuse_at is_submitted is_started is_ended awaited_of received_of delivery_count_of pending_of value_of report_by journal_text digits
 words = tt
 
 -- ## Plans

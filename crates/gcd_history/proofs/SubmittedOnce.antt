@@ -3,7 +3,7 @@
 use Rattle.std.proofs.Common.{◌≡◌, ⊎_elim, ℕ, ◌+◌, ◌<◌, ◌≤◌, Bool, true, false, not, ◌&&◌, ◌||◌, cond, ◌==◌, ltb, List, [], ◌∷◌, ◌++◌, length, take, Option, Some, None, count_by, refl, ap, sym, ◌∙◌, subst, arith}
 use Rattle.std.specs.List.{sum_by, slice_get, flat_map, range_with_len, list_all}
 use Rattle.std.specs.Option.{option_to_list, option_map_or, option_and_then, is_none}
-use Rattle.std.proofs.lemmas.Bool.{eqb-true, eq-eqb, and_parts, both_ways, cases_eq, or_parts, ltb-true, ne_eqb}
+use Rattle.std.proofs.lemmas.Bool.{eqb-true, eq-eqb, and_parts, both_ways, cases_eq, or_parts, ltb-true, ne_eqb, cases_lt}
 use Rattle.std.proofs.lemmas.List.Sums.{sum_by-take-le, sum_by_more}
 use Rattle.std.proofs.lemmas.Option.{slice_get_within, get_or_from_slice_get, option_and_then_some}
 use Rattle.gcd_plan.specs.PlanView.{PlanView, ObjView, BlkView, acts_of, cancel_block}
@@ -19,7 +19,7 @@ use Rattle.gcd_plan.specs.declared.numbers.Run.{Run}
 use Rattle.gcd_plan.specs.declared.numbers.Run.TheVariants.{Block, Source}
 use Rattle.gcd_event.specs.declared.event.Event.{Event}
 use Rattle.gcd_event.specs.declared.event.Event.TheVariants.{Start, Act as Acted}
-use Rattle.gcd_plan.proofs.Sums.{count_by-flat_map}
+use Rattle.gcd_plan.proofs.Sums.{count_by-flat_map, cond-le-one, count_by-cons}
 use Rattle.gcd_history.specs.declared.submission.Submission.{Submission}
 use Rattle.gcd_history.specs.Runs.{same_run, acts_done, act_at, act_of, is_open, is_started}
 use Rattle.gcd_history.specs.Groups.{count}
@@ -39,6 +39,18 @@ use Rattle.gcd_history.proofs.StartedOnce.{started_from_open, open_from_has_run}
 -- the submission, or the block, is of block b
 abbrev pub is_of : ℕ → Submission → Bool
 is_of b s = s.blk.0 == b
+
+-- where each of these is of a block below n, they are no more than what is counted of these blocks
+pub all_counted : (xs : List Submission) (n : ℕ) → ((k : ℕ) → n ≤ k → count_by (is_of k) xs ≡ 0) → length xs ≤ sum_by (λ k. count_by (is_of k) xs) (range_with_len 0 n)
+all_counted [] n none = omega arith
+all_counted (x ∷ xs) n none =
+    let b = x.blk.0 in
+    let rest = all_counted xs n (λ k high. let c = count_by-cons (is_of k) x xs in let z = none k high in omega (arith, c, z)) in
+    let here : count_by (is_of b) (x ∷ xs) ≡ 1 + count_by (is_of b) xs = count_by-cons (is_of b) x xs ∙ ap (λ v. cond {A = ℕ} v 1 0 + count_by (is_of b) xs) (eq-eqb b b refl) in
+    let low : b < n = ⊎_elim (λ (l : b < n). l) (λ (high : n ≤ b). let z = none b high in absurd (omega (arith, here, z))) (cases_lt b n) in
+    let more = sum_range_less (λ k. count_by (is_of k) xs) (λ k. count_by (is_of k) (x ∷ xs)) 0 n b 1
+    (λ k. let c = count_by-cons (is_of k) x xs in omega (arith, c)) (omega (arith, here)) (omega arith) (omega (arith, low)) in
+    omega (arith, rest, more)
 
 abbrev has_number : ℕ → Blk → Bool
 has_number b c = c.0 == b
@@ -400,10 +412,6 @@ not_beyond plan b high c fine =
 
 -- ## Once
 
-at_most_one : (v : Bool) → cond v 1 0 ≤ 1
-at_most_one true = omega arith
-at_most_one false = omega arith
-
 kept_within : (plan : PlanView) (past : List Event) → IsPlan plan → IsLawful plan past → (b : ℕ) →
     count_by (is_of b) (submitted plan past) + waiting plan past b ≤ cond (0 == b) 1 0 + (made plan past b + cancelled plan past b)
 kept_within plan [] valid h b = let none = no_sum (length plan.objects) in let one : count_by (is_of b) (main_submission ∷ []) ≡ cond (0 == b) 1 0 = omega arith in omega arith
@@ -423,7 +431,7 @@ kept_once plan past valid h b =
     ⊎_elim
     (λ main.
     let none : count_by (has_number b) (submitted_blocks plan) ≡ 0 = subst (λ n. count_by (has_number n) (submitted_blocks plan) ≡ 0) main (main_nowhere plan valid) in
-    let one : cond (0 == b) 1 0 ≤ 1 = at_most_one (0 == b) in
+    let one : cond (0 == b) 1 0 ≤ 1 = cond-le-one (0 == b) in
     omega arith)
     (λ other.
     let once : count_by (has_number b) (submitted_blocks plan) ≤ 1 = valid.once b in

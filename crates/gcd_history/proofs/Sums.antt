@@ -1,9 +1,10 @@
 -- Sums over numbers, over lists and over what each element of a list gives.
-use Rattle.std.proofs.Common.{◌≡◌, ℕ, zero, suc, ◌+◌, ◌<◌, ◌≤◌, List, [], ◌∷◌, length, take, Some, refl, sym, subst, arith, ⊎_elim}
-use Rattle.std.specs.List.{sum_by, slice_get, range_with_len}
+use Rattle.std.proofs.Common.{◌≡◌, ℕ, zero, suc, ◌+◌, ◌<◌, ◌≤◌, List, [], ◌∷◌, length, take, Some, refl, sym, subst, arith, ⊎_elim, Bool, false, cond, ap}
+use Rattle.std.specs.List.{sum_by, slice_get, range_with_len, count_by}
 use Rattle.std.proofs.lemmas.List.{take-take}
 use Rattle.std.proofs.lemmas.List.Sums.{sum_by-cons, sum_by-take-le}
 use Rattle.std.proofs.lemmas.Bool.{cases_eq}
+use Rattle.gcd_plan.proofs.Sums.{count_by-cons}
 
 -- each term is at most as large
 pub sum_range_le : (f g : ℕ → ℕ) (a n : ℕ) → ((k : ℕ) → f k ≤ g k) → sum_by f (range_with_len a n) ≤ sum_by g (range_with_len a n)
@@ -93,3 +94,23 @@ sum_by_none f (x ∷ xs) none =
     let here : f x ≡ 0 = none 0 x refl in
     let rest : sum_by f xs ≡ 0 = sum_by_none f xs (λ k y at. none (suc k) y at) in
     omega arith
+
+-- a sum of ones
+pub ones : (a n : ℕ) → sum_by (λ k. 1) (range_with_len a n) ≡ n
+ones a zero = refl
+ones a (suc n) = let step = sum_by-cons (λ k. 1) a (range_with_len (a + 1) n) in let rest = ones (a + 1) n in omega (arith, step, rest)
+
+-- a term is within the sum
+pub term_within : (f : ℕ → ℕ) (n c : ℕ) → c < n → f c ≤ sum_by f (range_with_len 0 n)
+term_within f n c low =
+    let less = sum_range_less (λ k. 0) f 0 n c (f c) (λ k. omega arith) (omega arith) (omega arith) (omega (arith, low)) in
+    omega (arith, less)
+
+-- what no number passes counts none
+pub none_in : (p : ℕ → Bool) (a n : ℕ) → ((t : ℕ) → p t ≡ false) → count_by p (range_with_len a n) ≡ 0
+none_in p a zero none = refl
+none_in p a (suc n) none =
+    let here = ap (λ v. cond {A = ℕ} v 1 0) (none a) in
+    let rest = none_in p (a + 1) n none in
+    let c = count_by-cons p a (range_with_len (a + 1) n) in
+    omega (arith, here, rest, c)

@@ -29,7 +29,7 @@ use Rattle.gcd_history.proofs.OpenNodes.{open_on_from, open_on_to, node_kept_ope
 
 -- ## No misuse
 
-code_none : (code : ℕ) (t : Bool) (rest : List (ℕ × Bool)) → is_some (first_code ((code, t) ∷ rest)) ≡ false → (t ≡ false) × (is_some (first_code rest) ≡ false)
+pub code_none : (code : ℕ) (t : Bool) (rest : List (ℕ × Bool)) → is_some (first_code ((code, t) ∷ rest)) ≡ false → (t ≡ false) × (is_some (first_code rest) ≡ false)
 code_none code true rest h = cc
 code_none code false rest h = (refl, h)
 
@@ -50,7 +50,7 @@ no_misuse plan past p t h =
     let last = code_none 5 (starts_active plan p.0 && has_child plan past p.0) [] next.1 in
     record { away = two.0; still = next.0; childless = last.0 }
 
-no_misuse_at : (plan : PlanView) (past : List Event) (r : Run) (i : ℕ) (act : Act) → act_at plan r i ≡ Some act → is_some (misuse_at plan past r i) ≡ false → is_some (misuse plan past act) ≡ false
+pub no_misuse_at : (plan : PlanView) (past : List Event) (r : Run) (i : ℕ) (act : Act) → act_at plan r i ≡ Some act → is_some (misuse_at plan past r i) ≡ false → is_some (misuse plan past act) ≡ false
 unfolding misuse_at
 no_misuse_at plan past r i act at h = ap (λ o. is_some (option_and_then (misuse plan past) o)) (sym at) ∙ h
 

@@ -208,7 +208,7 @@ open_step plan e past step o moving =
 
 -- ## Chains of open runs
 
--- the same as above, with the reason of each change
+-- the same as above, with what led to each change
 after_target_why : (P : ℕ → Type 0) (k : Option ℕ) (was now : Bool) (a : Aim) → P a.target → ((t : ℕ) → k ≡ Some t → was ≡ false → P t) → ((t : ℕ) → k ≡ None → was ≡ true → now ≡ false → a.request ≡ Some t → P t) → P (aim_after k was now a).target
 after_target_why P (Some t) true now a old new waiting = old
 after_target_why P (Some t) false now a old new waiting = new t refl refl

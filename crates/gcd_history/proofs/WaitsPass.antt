@@ -16,7 +16,7 @@ use Rattle.gcd_event.specs.declared.event.Event.TheVariants.{Act as Acted}
 use Rattle.gcd_history.specs.Runs.{act_at, act_of, is_open}
 use Rattle.gcd_history.specs.Groups.{is_empty_above}
 use Rattle.gcd_history.specs.Semas.{waits, wait_count, signal_count, first_value, passes}
-use Rattle.gcd_history.specs.Parked.{reason_by, parked_by, reason, has_come}
+use Rattle.gcd_history.specs.Parked.{awaited_by, parked_by, awaited, has_come}
 use Rattle.gcd_history.specs.Permitted.{IsLawful}
 use Rattle.gcd_history.specs.Choice.{all_ended}
 use Rattle.gcd_plan.proofs.Sums.{count_by-cons}
@@ -27,7 +27,7 @@ use Rattle.gcd_history.proofs.SubmittedOnce.{handler_act}
 use Rattle.gcd_history.proofs.Woken.{parked_from, parked_on, none_parked}
 
 -- where all have ended, what a parked block waited for has come
-pub passed : (plan : PlanView) (later past : List Event) → IsLawful plan (later ++ past) → all_ended plan (later ++ past) ≡ true → (b : Blk) (r : Reason) → reason plan past (Block b) ≡ Some r → has_come plan (later ++ past) r ≡ true
+pub passed : (plan : PlanView) (later past : List Event) → IsLawful plan (later ++ past) → all_ended plan (later ++ past) ≡ true → (b : Blk) (r : Reason) → awaited plan past (Block b) ≡ Some r → has_come plan (later ++ past) r ≡ true
 passed plan later past h ended b r is =
     ⊎_elim
     (λ still. absurd (none-some r (sym (none_parked plan (later ++ past) h ended b) ∙ still)))
@@ -40,12 +40,12 @@ front plan (e ∷ later) past h = front plan later past h.0
 
 -- an act that no handler has, and that parks its block: what it waits for comes
 act_passes : (plan : PlanView) (later past : List Event) (e : Event) (act : Act) (r : Reason) → IsPlan plan → IsLawful plan (later ++ e ∷ past) → all_ended plan (later ++ e ∷ past) ≡ true →
-    act_of plan e ≡ Some act → is_handler_act act ≡ false → reason_by plan past (Some act) ≡ Some r → has_come plan (later ++ e ∷ past) r ≡ true
+    act_of plan e ≡ Some act → is_handler_act act ≡ false → awaited_by plan past (Some act) ≡ Some r → has_come plan (later ++ e ∷ past) r ≡ true
 act_passes plan later past (Acted w (Block b) i) act r valid h ended at waits parks =
     let one = front plan later (Acted w (Block b) i ∷ past) h in
     let live : is_open past (Block b) ≡ true = open_from_has_run plan past w (Block b) (at_act plan past w (Block b) i one.1).own in
     let by : parked_by plan (Acted w (Block b) i ∷ past) (Block b) ≡ Some r =
-    ap (λ v. cond v (reason_by plan past (act_at plan (Block b) i)) (parked_by plan past (Block b))) (same_run-refl (Block b)) ∙ (ap (reason_by plan past) at ∙ parks) in
+    ap (λ v. cond v (awaited_by plan past (act_at plan (Block b) i)) (parked_by plan past (Block b))) (same_run-refl (Block b)) ∙ (ap (awaited_by plan past) at ∙ parks) in
     passed plan later (Acted w (Block b) i ∷ past) h ended b r (parked_from plan (Acted w (Block b) i ∷ past) b r live by)
 act_passes plan later past (Acted w (Source s) i) act r valid h ended at waits parks = absurd (both_ways (is_handler_act act) waits (handler_act plan s i act valid at).0)
 act_passes plan later past e act r valid h ended at waits parks = cc

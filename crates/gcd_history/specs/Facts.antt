@@ -1,6 +1,6 @@
 -- What else holds of every lawful history, for those who keep or record one. What is said of a history holds at each of its
 -- positions, since a front of a lawful history is lawful (this project's own rules).
-use Rattle.std.specs.Prelude.{◌≡◌, ◌<◌, ◌≤◌, ◌++◌, ℕ, ◌==◌, Bool, true, false, List, [], ◌∷◌, take, Some, None, slice_get, count_by, IsTrue}
+use Rattle.std.specs.Prelude.{◌≡◌, ◌<◌, ◌≤◌, ◌++◌, ℕ, ◌==◌, Bool, true, false, List, [], ◌∷◌, take, Some, None, slice_get, count_by, IsTrue, ◌||◌}
 use Rattle.std.specs.List.{list_any}
 use Rattle.gcd_plan.specs.PlanView.{PlanView, starts_active}
 use Rattle.gcd_plan.specs.Limits.{max_workers}
@@ -11,8 +11,9 @@ use Rattle.gcd_event.specs.declared.event.Event.TheVariants.{Start, Act as Acted
 use Rattle.gcd_event.specs.Fits.{IsFitting}
 use Rattle.gcd_history.specs.Runs.{same_run}
 use Rattle.gcd_history.specs.Choice.{worker_of}
-use Rattle.gcd_history.specs.History.{why, open_runs_of, has_run, is_running, request_of, target_of, open_beneath_of}
+use Rattle.gcd_history.specs.History.{why, open_runs_of, has_run, is_running, request_of, target_of, open_beneath_of, is_active, is_cancelled, is_live_feed}
 use Rattle.gcd_history.specs.Laws.{MayWake}
+use Rattle.gcd_history.specs.Ends.{is_halted}
 
 -- ## Workers and their runs
 
@@ -125,3 +126,44 @@ OnlyActiveMove plan h = (o t : ℕ) → request_of plan h o ≡ Some t → IsTru
 abbrev pub TargetsChangeAlone : PlanView → List Event → Event → Type 0
 TargetsChangeAlone plan h e =
     (o : ℕ) → (target_of plan (h ++ e ∷ []) o ≡ target_of plan h o → ⊥) → open_beneath_of plan (h ++ e ∷ []) o ≡ 0
+
+-- ## Objects and feeds
+
+-- an object that is active stays active
+abbrev pub StaysActive : PlanView → (h later : List Event) → Type 0
+StaysActive plan h later = (o : ℕ) → IsTrue (is_active plan h o) → IsTrue (is_active plan (h ++ later) o)
+
+-- a source that is cancelled stays cancelled
+abbrev pub StaysCancelled : PlanView → (h later : List Event) → Type 0
+StaysCancelled plan h later = (s : ℕ) → IsTrue (is_cancelled plan h s) → IsTrue (is_cancelled plan (h ++ later) s)
+
+-- nothing more is told of the feed of source s: the source is cancelled, or the run is halted
+unfoldable pub is_dead_feed : PlanView → List Event → ℕ → Bool
+is_dead_feed plan h s = is_cancelled plan h s || is_halted h
+
+-- the event is told of the feed of source s: bytes have come, or it has ended
+abbrev pub is_of_feed : ℕ → Event → Bool
+is_of_feed s (Start w b) = false
+is_of_feed s (Acted w r i) = false
+is_of_feed s (Wake w b) = false
+is_of_feed s (End w b) = false
+is_of_feed s (Deliver w t) = false
+is_of_feed s (DeliverEnd w t) = false
+is_of_feed s (Tick t) = false
+is_of_feed s (Ready t n) = t.0 == s
+is_of_feed s (FeedEnd t) = t.0 == s
+is_of_feed s (Misuse w r i c) = false
+is_of_feed s Halt = false
+
+-- a feed that was live and is so no more is dead
+abbrev pub FeedsDie : PlanView → (h later : List Event) → Type 0
+FeedsDie plan h later =
+    (s : ℕ) → IsTrue (is_live_feed plan h s) → is_live_feed plan (h ++ later) s ≡ false → IsTrue (is_dead_feed plan (h ++ later) s)
+
+-- a dead feed stays dead
+abbrev pub DeadFeedsStay : PlanView → (h later : List Event) → Type 0
+DeadFeedsStay plan h later = (s : ℕ) → IsTrue (is_dead_feed plan h s) → IsTrue (is_dead_feed plan (h ++ later) s)
+
+-- no event is told of a dead feed
+abbrev pub DeadFeedsAreSilent : PlanView → (h later : List Event) → Type 0
+DeadFeedsAreSilent plan h later = (s : ℕ) → IsTrue (is_dead_feed plan h s) → list_any (is_of_feed s) later ≡ false

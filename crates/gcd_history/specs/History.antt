@@ -91,12 +91,12 @@ unfoldable pub parks : PlanView → Event → Bool
 parks plan e = parked.is_parking (runs.act_of plan e)
 
 -- what block b waits for, where it is parked (this project's own rule)
-unfoldable pub reason_of : PlanView → List Event → ℕ → Option Reason
-reason_of plan h b = parked.reason plan (reverse h) (Block (record { 0 = b }))
+unfoldable pub awaited_of : PlanView → List Event → ℕ → Option Reason
+awaited_of plan h b = parked.awaited plan (reverse h) (Block (record { 0 = b }))
 
 -- what a parked block waits for has come (dispatch_sync(3), dispatch_group_wait(3), dispatch_semaphore_wait(3))
 unfoldable pub has_come : PlanView → List Event → Reason → Bool
-has_come plan h reason = parked.has_come plan (reverse h) reason
+has_come plan h awaited = parked.has_come plan (reverse h) awaited
 
 -- how many group g counts: its blocks that are submitted and not ended, plus enters, less leaves
 -- (dispatch_group_create(3))

@@ -16,7 +16,7 @@ use Rattle.gcd_history.specs.declared.submission.Submission.{Submission}
 use Rattle.gcd_history.specs.Runs.{starts, ends, act_of}
 use Rattle.gcd_history.specs.Semas.{wait_count}
 use Rattle.gcd_history.specs.Permitted.{is_on}
-use Rattle.gcd_history.specs.History.{is_started, is_submitted, submitted_of, chain_of_run, is_free, reason_of, has_come, received_of, pending_of, merged_of, is_open, OverlapAt, Overlap, node_of, is_active, chain_of, node_of_run, is_barrier_on, group_wait_passes, semaphore_wait_passes, why, choice_of, running_of, next_due_of, is_live_feed}
+use Rattle.gcd_history.specs.History.{is_started, is_submitted, submitted_of, chain_of_run, is_free, awaited_of, has_come, received_of, pending_of, merged_of, is_open, OverlapAt, Overlap, node_of, is_active, chain_of, node_of_run, is_barrier_on, group_wait_passes, semaphore_wait_passes, why, choice_of, running_of, next_due_of, is_live_feed}
 use Rattle.gcd_history.specs.Choice.{is_work, worker_of}
 use Rattle.gcd_history.specs.Ends.{is_halted, HasState}
 use Rattle.gcd_history.specs.Sources.{joined}
@@ -60,9 +60,9 @@ pub record BeginsFree (plan : PlanView) (h : List Event) : Type 0 where
 
 -- block b may wake: it is parked, and what it waits for has come
 pub record MayWake (plan : PlanView) (h : List Event) (b : ℕ) : Type 0 where
-  pub reason : Reason
-  pub parked : reason_of plan h b ≡ Some reason
-  pub come : has_come plan h reason ≡ true
+  pub awaited : Reason
+  pub parked : awaited_of plan h b ≡ Some awaited
+  pub come : has_come plan h awaited ≡ true
 
 -- each Wake finds that its block may wake (dispatch_sync(3), dispatch_group_wait(3), dispatch_semaphore_wait(3))
 abbrev pub WakesHaveCause : PlanView → List Event → Type 0
@@ -70,11 +70,11 @@ WakesHaveCause plan h = (i w : ℕ) (b : Blk) → slice_get h i ≡ Some (Wake w
 
 -- no block is parked
 abbrev pub NoneParked : PlanView → List Event → Type 0
-NoneParked plan h = (b : ℕ) → reason_of plan h b ≡ None
+NoneParked plan h = (b : ℕ) → awaited_of plan h b ≡ None
 
 -- whatever a block has waited for at some position has come
 abbrev pub WaitsHavePassed : PlanView → List Event → Type 0
-WaitsHavePassed plan h = (i b : ℕ) (reason : Reason) → reason_of plan (take i h) b ≡ Some reason → has_come plan h reason ≡ true
+WaitsHavePassed plan h = (i b : ℕ) (awaited : Reason) → awaited_of plan (take i h) b ≡ Some awaited → has_come plan h awaited ≡ true
 
 -- each wait on a group passes (dispatch_group_wait(3))
 abbrev pub GroupWaitsPass : PlanView → List Event → Type 0

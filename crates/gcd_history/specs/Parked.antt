@@ -18,27 +18,27 @@ use Rattle.gcd_history.specs.Semas.{wait_count, passes}
 
 -- what the act, recorded after past, makes its block wait for (dispatch_sync(3), dispatch_barrier_sync(3),
 -- dispatch_group_wait(3), dispatch_semaphore_wait(3))
-abbrev pub reason_by : PlanView → List Event → Option Act → Option Reason
-reason_by plan past None = None
-reason_by plan past (Some (Async q b)) = None
-reason_by plan past (Some (Barrier q b)) = None
-reason_by plan past (Some (Sync q b)) = Some (EndOf b)
-reason_by plan past (Some (BarrierSync q b)) = Some (EndOf b)
-reason_by plan past (Some (GroupAsync g q b)) = None
-reason_by plan past (Some (Notify g q b)) = None
-reason_by plan past (Some (Enter g)) = None
-reason_by plan past (Some (Leave g)) = None
-reason_by plan past (Some (GroupWait g)) = Some (Group g (length past))
-reason_by plan past (Some (Signal s)) = None
-reason_by plan past (Some (Wait s)) = Some (Rank s (wait_count plan past s.0 + 1))
-reason_by plan past (Some (Suspend o)) = None
-reason_by plan past (Some (Resume o)) = None
-reason_by plan past (Some (Activate o)) = None
-reason_by plan past (Some (Target o t)) = None
-reason_by plan past (Some (Merge s n)) = None
-reason_by plan past (Some (Cancel s)) = None
-reason_by plan past (Some (Retain o)) = None
-reason_by plan past (Some (Release o)) = None
+abbrev pub awaited_by : PlanView → List Event → Option Act → Option Reason
+awaited_by plan past None = None
+awaited_by plan past (Some (Async q b)) = None
+awaited_by plan past (Some (Barrier q b)) = None
+awaited_by plan past (Some (Sync q b)) = Some (EndOf b)
+awaited_by plan past (Some (BarrierSync q b)) = Some (EndOf b)
+awaited_by plan past (Some (GroupAsync g q b)) = None
+awaited_by plan past (Some (Notify g q b)) = None
+awaited_by plan past (Some (Enter g)) = None
+awaited_by plan past (Some (Leave g)) = None
+awaited_by plan past (Some (GroupWait g)) = Some (Group g (length past))
+awaited_by plan past (Some (Signal s)) = None
+awaited_by plan past (Some (Wait s)) = Some (Rank s (wait_count plan past s.0 + 1))
+awaited_by plan past (Some (Suspend o)) = None
+awaited_by plan past (Some (Resume o)) = None
+awaited_by plan past (Some (Activate o)) = None
+awaited_by plan past (Some (Target o t)) = None
+awaited_by plan past (Some (Merge s n)) = None
+awaited_by plan past (Some (Cancel s)) = None
+awaited_by plan past (Some (Retain o)) = None
+awaited_by plan past (Some (Release o)) = None
 
 -- the act parks its block until a Wake
 abbrev pub is_parking : Option Act → Bool
@@ -66,17 +66,17 @@ is_parking (Some (Release o)) = false
 -- what the run's last act makes it wait for, where no Wake stands since
 abbrev pub parked_by : PlanView → List Event → Run → Option Reason
 parked_by plan [] run = None
-parked_by plan (Acted w r i ∷ past) run = if same_run r run then reason_by plan past (act_at plan r i) else parked_by plan past run
+parked_by plan (Acted w r i ∷ past) run = if same_run r run then awaited_by plan past (act_at plan r i) else parked_by plan past run
 parked_by plan (Wake w b ∷ past) run = if same_run (Block b) run then None else parked_by plan past run
 parked_by plan (e ∷ past) run = if opens e run then None else parked_by plan past run
 
 -- what the run waits for, where it is parked: open, and its last act has parked it (this project's own rule)
-unfoldable pub reason : PlanView → List Event → Run → Option Reason
-reason plan past run = if is_open past run then parked_by plan past run else None
+unfoldable pub awaited : PlanView → List Event → Run → Option Reason
+awaited plan past run = if is_open past run then parked_by plan past run else None
 
 -- block b is parked
 unfoldable pub is_parked : PlanView → List Event → ℕ → Bool
-is_parked plan past b = is_some (reason plan past (Block (record { 0 = b })))
+is_parked plan past b = is_some (awaited plan past (Block (record { 0 = b })))
 
 -- how many runs are open and not parked
 abbrev pub running : PlanView → List Event → ℕ
@@ -99,4 +99,4 @@ has_come plan past (Rank s k) = passes plan past s.0 k
 
 -- what block b waits for has come
 unfoldable pub may_wake : PlanView → List Event → ℕ → Bool
-may_wake plan past b = option_map_or (has_come plan past) (reason plan past (Block (record { 0 = b }))) false
+may_wake plan past b = option_map_or (has_come plan past) (awaited plan past (Block (record { 0 = b }))) false

@@ -5,9 +5,8 @@ use Rattle.std.specs.List.{list_any}
 use Rattle.gcd_plan.specs.PlanView.{PlanView}
 use Rattle.gcd_plan.specs.Kinds.{is_source, is_exclusive, has_barriers, has_kind, is_read_kind}
 use Rattle.gcd_plan.specs.Limits.{max_workers, max_acts, max_time, max_value}
-use Rattle.gcd_plan.specs.MisuseCodes.{code_of}
+use Rattle.gcd_plan.specs.MisuseCodes.{last_code}
 use Rattle.gcd_plan.specs.StartRule.{Knowledge, first_of, start_reasons, run_reasons, is_fenced as is_fenced_by}
-use Rattle.gcd_plan.specs.declared.misuse_code.MisuseCode.TheVariants.{ReleaseBelowFirstValue}
 use Rattle.gcd_plan.specs.declared.numbers.Run.{Run}
 use Rattle.gcd_plan.specs.declared.numbers.Run.TheVariants.{Block, Source}
 use Rattle.gcd_plan.specs.declared.why.Why.{Why}
@@ -74,9 +73,9 @@ is_worker w = nat_lt w max_workers
 abbrev pub is_index : ℕ → Bool
 is_index i = nat_lt i max_acts
 
--- the number of a code of misuse: they are numbered from 1 on, without a gap
+-- the number of a code of misuse
 abbrev pub is_code : ℕ → Bool
-is_code c = nat_lt 0 c && nat_le c (code_of ReleaseBelowFirstValue)
+is_code c = nat_lt 0 c && nat_le c last_code
 
 -- the plan has block b
 abbrev pub has_block : PlanView → ℕ → Bool

@@ -13,7 +13,7 @@ use Rattle.gcd_event.specs.declared.event.Event.{Event}
 use Rattle.gcd_event.specs.declared.event.Event.TheVariants.{Misuse}
 use Rattle.gcd_history.specs.declared.state.State.{State}
 use Rattle.gcd_history.specs.declared.state.State.TheVariants.{Drained, Stuck, Misused, Halted, Live}
-use Rattle.gcd_history.specs.History.{is_submitted, is_started, is_ended, reason_of, received_of, delivery_count_of, pending_of}
+use Rattle.gcd_history.specs.History.{is_submitted, is_started, is_ended, awaited_of, received_of, delivery_count_of, pending_of}
 use Rattle.gcd_history.specs.Values.{value_of}
 
 -- the byte at the end of a line
@@ -47,15 +47,15 @@ source_line plan h s =
     else []
 
 -- the name of the block, group or semaphore that is waited for
-abbrev pub awaited : PlanView → Reason → List ℕ
-awaited plan (EndOf b) = name_of_blk plan b.0
-awaited plan (Group g position) = name_of_obj plan g.0
-awaited plan (Rank s k) = name_of_obj plan s.0
+abbrev pub awaited_name : PlanView → Reason → List ℕ
+awaited_name plan (EndOf b) = name_of_blk plan b.0
+awaited_name plan (Group g position) = name_of_obj plan g.0
+awaited_name plan (Rank s k) = name_of_obj plan s.0
 
 -- `NAME waits for X`, for a parked block
 abbrev pub wait_line : PlanView → List Event → ℕ → List ℕ
 wait_line plan h b =
-    option_map_or (λ reason. name_of_blk plan b ++ (codes " waits for " ++ (awaited plan reason ++ line_end))) (reason_of plan h b) []
+    option_map_or (λ awaited. name_of_blk plan b ++ (codes " waits for " ++ (awaited_name plan awaited ++ line_end))) (awaited_of plan h b) []
 
 -- `NAME not started`, for a submitted block that has not started
 abbrev pub unstarted_line : PlanView → List Event → ℕ → List ℕ

@@ -5,7 +5,7 @@ ghost use Rattle.gcd_plan.specs.Validity.{IsPlan};
 ghost use Rattle.gcd_event.specs.declared.event.Event.{Event};
 ghost use Rattle.gcd_history.specs.History.{IsLawful, running_of};
 ghost use Rattle.gcd_history.specs.Ends.{is_halted};
-ghost use Rattle.gcd_history.specs.Facts.{HasOneRun, GivesToFree, OpenOnce, RunsGoOn, IsFreeWorker, FreeWorkersAreAlike, MayWakeUntilWoken, WakesArePermitted, AllFit, OnlyActiveMove, TargetsChangeAlone};
+ghost use Rattle.gcd_history.specs.Facts.{HasOneRun, GivesToFree, OpenOnce, RunsGoOn, IsFreeWorker, FreeWorkersAreAlike, MayWakeUntilWoken, WakesArePermitted, AllFit, OnlyActiveMove, TargetsChangeAlone, StaysActive, StaysCancelled, FeedsDie, DeadFeedsStay, DeadFeedsAreSilent};
 
 /// A worker has at most one run that is open and not parked, and each Start, Wake and Deliver finds its worker without one
 /// (this project's own rule).
@@ -52,4 +52,24 @@ pub fn targets_change_alone()
     ensures moving { (plan : PlanView) (h : List Event) → IsPlan plan → IsLawful plan h → OnlyActiveMove plan h }
     ensures alone { (plan : PlanView) (h : List Event) (e : Event) → IsPlan plan → IsLawful plan (h ++ e ∷ [])
         → TargetsChangeAlone plan h e }
+{}
+
+/// An object that is active stays active (dispatch_activate(3)).
+pub fn active_objects_stay_active()
+    ensures { (plan : PlanView) (h later : List Event) → StaysActive plan h later }
+{}
+
+/// A source that is cancelled stays cancelled (dispatch_source_cancel(3)).
+pub fn cancelled_sources_stay_cancelled()
+    ensures { (plan : PlanView) (h later : List Event) → StaysCancelled plan h later }
+{}
+
+/// The feed of a read source is dead once the source is cancelled or the run is halted. A feed that was live and is so no
+/// more is dead; a dead feed stays dead, and neither a Ready nor a FeedEnd of it comes any more
+/// (dispatch_source_cancel(3)).
+pub fn dead_feeds_stay_dead()
+    ensures die { (plan : PlanView) (h later : List Event) → FeedsDie plan h later }
+    ensures stay { (plan : PlanView) (h later : List Event) → IsLawful plan (h ++ later) → DeadFeedsStay plan h later }
+    ensures silent { (plan : PlanView) (h later : List Event) → IsLawful plan (h ++ later)
+        → DeadFeedsAreSilent plan h later }
 {}

@@ -17,7 +17,7 @@ use Rattle.gcd_event.specs.declared.event.Event.{Event}
 use Rattle.gcd_event.specs.declared.event.Event.TheVariants.{Act as Acted}
 use Rattle.gcd_history.specs.Runs.{open_runs, is_open, act_at, act_of}
 use Rattle.gcd_history.specs.Submitted.{on_node, submitted_by, cancelled_by}
-use Rattle.gcd_history.specs.Parked.{parked_by, reason, has_run}
+use Rattle.gcd_history.specs.Parked.{parked_by, awaited, has_run}
 use Rattle.gcd_history.specs.Misuses.{refs, is_released, named}
 use Rattle.gcd_history.specs.Permitted.{IsLawful, is_worker, is_run_of}
 use Rattle.gcd_history.proofs.Fitting.{has_object}
@@ -37,10 +37,12 @@ use Rattle.gcd_machine.proofs.NewBlocks.{unsubmitted, by_act, by_notify, nowhere
 use Rattle.gcd_machine.proofs.GroupConditions.{can_submit, can_wake_at, position_low, can_enter, can_submit_member, can_leave_by_act, can_register}
 use Rattle.gcd_machine.proofs.ActivityConditions.{can_activate, can_resume, can_suspend, can_cancel, can_merge}
 use Rattle.gcd_machine.proofs.TargetConditions.{can_target}
+use Rattle.gcd_plan.specs.Limits.{max_workers, max_value}
+use Rattle.gcd_refinement.proofs.StepCaller.{submittable_within}
 
 -- a block whose run goes on waits for nothing
-awake_now : (plan : PlanView) (past : List Event) (run : Run) → parked_by plan past run ≡ None → reason plan past run ≡ None
-unfolding reason
+awake_now : (plan : PlanView) (past : List Event) (run : Run) → parked_by plan past run ≡ None → awaited plan past run ≡ None
+unfolding awaited
 awake_now plan past run none =
     elim (is_open past run) as (λ t. cond t (parked_by plan past run) None ≡ None) [ true ↦ none | false ↦ refl ]
 
@@ -53,16 +55,12 @@ unreleased plan past o some live none =
 above : (n : ℕ) → (n ≡ 0 → ⊥) → 0 < n
 above n h = omega (arith, h)
 
--- the block that an act names
-block_low : (plan : PlanView) (b : Blk) → is_submittable plan b ≡ true → b.0 < length plan.blocks
-block_low plan b fits = ltb-true b.0 (length plan.blocks) (and_parts (ltb 0 b.0) _ fits).1
-
 module _ (past : List Event) (m : MachineView) (t : IsTied m.plan past m) (room : length past + 2 < 2 ^ 32) where
   -- ## The run
 
   pub can_set_free : (w : ℕ) (run : Run) → is_worker w ≡ true → has_run m.plan past w run ≡ true → CanSetFree m w
   can_set_free w run worker own =
-      let low = ltb-true w 64 worker in
+      let low = ltb-true w max_workers worker in
       let workers = t.own.workers in
       let live = open_from_has_run m.plan past w run own in
       let goes = ap is_none (unparked m.plan past w run own) in
@@ -130,8 +128,8 @@ module _ (past : List Event) (m : MachineView) (t : IsTied m.plan past m) (room 
       }
 
   can_park_by : (w : ℕ) (b : Blk) (act : Act) → has_run m.plan past w (Block b) ≡ true → CanSetFree m w → b.0 < length m.plan.blocks → is_act m.plan act ≡ true → CanParkBy m w b act
-  can_park_by w b (Sync q c) own worker block fits = can_call w b c worker block (block_low m.plan c (and_parts (is_queue m.plan q.0) _ fits).1)
-  can_park_by w b (BarrierSync q c) own worker block fits = can_call w b c worker block (block_low m.plan c (and_parts (is_queue m.plan q.0) _ fits).1)
+  can_park_by w b (Sync q c) own worker block fits = can_call w b c worker block (submittable_within m.plan c (and_parts (is_queue m.plan q.0) _ fits).1)
+  can_park_by w b (BarrierSync q c) own worker block fits = can_call w b c worker block (submittable_within m.plan c (and_parts (is_queue m.plan q.0) _ fits).1)
   can_park_by w b (GroupWait g) own worker block fits = can_wait_for_group w b g own worker block (has_object is_group_kind m.plan g.0 fits)
   can_park_by w b (Wait s) own worker block fits = can_wait_for_semaphore w b s own worker block (has_object is_semaphore_kind m.plan s.0 fits)
   can_park_by w b act own worker block fits = tt
@@ -169,7 +167,7 @@ module _ (past : List Event) (m : MachineView) (t : IsTied m.plan past m) (room 
 
   can_submit_by_act : (e : Event) (n : Obj) (b : Blk) (barrier : Bool) → IsLawful m.plan (e ∷ past) → submitted_by (act_of m.plan e) ≡ on_node n b barrier → is_queue m.plan n.0 ≡ true → is_submittable m.plan b ≡ true → CanSubmit m n b
   can_submit_by_act e n b barrier lawful is node block =
-      can_submit past m t room n b (has_object is_queue_kind m.plan n.0 node) (block_low m.plan b block)
+      can_submit past m t room n b (has_object is_queue_kind m.plan n.0 node) (submittable_within m.plan b block)
       (nowhere past m t b.0 (unsubmitted m.plan past e b.0 t.valid lawful (by_act m.plan past e n b barrier is)))
 
   held_low : (o : Obj) → is_held_object m.plan o ≡ true → o.0 < length m.plan.objects
@@ -198,7 +196,7 @@ module _ (past : List Event) (m : MachineView) (t : IsTied m.plan past m) (room 
   have_effect w run i (Notify g q b) lawful at fits =
       let group = and_parts (has_kind is_group_kind m.plan g.0) _ fits in
       let parts = and_parts (is_queue m.plan q.0) _ group.1 in
-      can_register past m t room g q b (by_notify m.plan past (Acted w run i) g q b t.valid lawful at) (has_object is_group_kind m.plan g.0 group.0) (has_object is_queue_kind m.plan q.0 parts.0) (block_low m.plan b parts.1)
+      can_register past m t room g q b (by_notify m.plan past (Acted w run i) g q b t.valid lawful at) (has_object is_group_kind m.plan g.0 group.0) (has_object is_queue_kind m.plan q.0 parts.0) (submittable_within m.plan b parts.1)
   have_effect w run i (Enter g) lawful at fits = can_enter past m t room g (has_object is_group_kind m.plan g.0 fits)
   have_effect w run i (Leave g) lawful at fits = can_leave_by_act past m t room (Acted w run i) g lawful at (has_object is_group_kind m.plan g.0 fits)
   have_effect w run i (GroupWait g) lawful at fits = tt
@@ -210,7 +208,7 @@ module _ (past : List Event) (m : MachineView) (t : IsTied m.plan past m) (room 
   have_effect w run i (Target o q) lawful at fits = can_target past m t (Acted w run i) o q lawful at
   have_effect w run i (Merge s n) lawful at fits =
       let parts = and_parts (has_kind is_merge_kind m.plan s.0) _ fits in
-      can_merge past m t room s n (has_object is_merge_kind m.plan s.0 parts.0) (leb-true n 2147483647 parts.1)
+      can_merge past m t room s n (has_object is_merge_kind m.plan s.0 parts.0) (leb-true n max_value parts.1)
   have_effect w run i (Cancel s) lawful at fits = can_cancel past m t room (Acted w run i) s lawful (ap cancelled_by at) (has_object is_source_kind m.plan s.0 fits)
   have_effect w run i (Retain o) lawful at fits = let low = counted_low o fits in can_retain (Acted w run i) o lawful at low.0 low.1
   have_effect w run i (Release o) lawful at fits = let low = counted_low o fits in can_release (Acted w run i) o lawful at low.0 low.1

@@ -14,7 +14,7 @@ use Rattle.gcd_hold.specs.HoldsView.{hold_at, is_active_at, with_active}
 use Rattle.gcd_source.specs.SourcesView.{SourcesView, is_cancelled_at}
 use Rattle.gcd_refinement.specs.MachineView.{MachineView}
 use Rattle.gcd_refinement.specs.Submits.{at_cancel, if_inactive, activated_by, newly_cancelled}
-use Rattle.gcd_refinement.specs.After.{pushed, noted, marked, source_cancelled, timer_cancelled, holds_by, activated as timer_activated, feeds_begun, feeds_ended}
+use Rattle.gcd_refinement.specs.After.{pushed, noted, marked, source_cancelled, timer_cancelled, holds_by, activated as timer_activated, live_begun, live_ended}
 use Rattle.gcd_machine.specs.Steps.{activated, resumed, cancelled, cancel_submitted}
 
 -- what does not compute at a variable
@@ -29,14 +29,6 @@ all_submitted m subs = record m {
   left = m.left + length subs;
 }
 
-one_more_if : (b : Bool) (n : ℕ) → cond b (n + 1) n ≡ n + cond b 1 0
-one_more_if true n = refl
-one_more_if false n = sym (add-zero n)
-
-one_less_if : (b : Bool) (n : ℕ) → cond b (n - 1) n ≡ n - cond b 1 0
-one_less_if true n = refl
-one_less_if false n = sym (sub-zero n)
-
 -- one event more has come
 abbrev pub counted : MachineView → MachineView → MachineView
 counted m x = record x { len = m.len + 1 }
@@ -47,12 +39,12 @@ pub activated_is : (m : MachineView) (o : Obj)
     → activated m o ≡ record m {
       holds = with_active m.holds o.0;
       timers = timer_activated m.timers (if_inactive m o);
-      feeds = m.feeds + feeds_begun m.plan m (if_inactive m o);
+      live = live_begun m.plan m (if_inactive m o);
     }
 activated_is m o =
-    elim (is_active_at m.holds o.0) as (λ a. is_active_at m.holds o.0 ≡ a → activated m o ≡ record m { holds = with_active m.holds o.0; timers = timer_activated m.timers (if_inactive m o); feeds = m.feeds + feeds_begun m.plan m (if_inactive m o) }) [
-      | true ↦ λ e. rw e (simp units)
-      | false ↦ λ e. rw (e, one_more_if)
+    elim (is_active_at m.holds o.0) as (λ a. is_active_at m.holds o.0 ≡ a → activated m o ≡ record m { holds = with_active m.holds o.0; timers = timer_activated m.timers (if_inactive m o); live = live_begun m.plan m (if_inactive m o) }) [
+      | true ↦ λ e. rw e
+      | false ↦ λ e. rw e
     ] refl
 
 -- a resume
@@ -60,14 +52,14 @@ abbrev pub with_resumed : MachineView → Obj → MachineView
 with_resumed m o = record m {
   holds = holds_by m.holds (Some (Resume o));
   timers = timer_activated m.timers (activated_by m (Some (Resume o)));
-  feeds = m.feeds + feeds_begun m.plan m (activated_by m (Some (Resume o)));
+  live = live_begun m.plan m (activated_by m (Some (Resume o)));
 }
 
 pub resumed_is : (m : MachineView) (o : Obj) → resumed m o ≡ with_resumed m o
 resumed_is m o =
     elim (hold_at m.holds o.0 == 0) as (λ t. (hold_at m.holds o.0 == 0) ≡ t → resumed m o ≡ with_resumed m o) [
       | true ↦ λ e. rw e (activated_is m o)
-      | false ↦ λ e. rw e (simp units)
+      | false ↦ λ e. rw e
     ] refl
 
 -- ## Cancellation
@@ -81,7 +73,7 @@ abbrev pub with_cancelled : MachineView → Obj → MachineView
 with_cancelled m s = record m {
   sources = source_cancelled m.sources (Some s);
   timers = timer_cancelled m.timers (newly_cancelled m (Some s));
-  feeds = m.feeds - feeds_ended m.plan m (newly_cancelled m (Some s));
+  live = live_ended m.live (newly_cancelled m (Some s));
 }
 
 cancel_submitted_is : (m : MachineView) (s : Obj) → cancel_submitted m s ≡ all_submitted m (option_map_or (λ b. on_node s b false) (cancel_block m.plan s.0) [])
@@ -95,5 +87,5 @@ pub cancelled_is : (m : MachineView) (s : Obj) → cancelled m s ≡ all_submitt
 cancelled_is m s =
     elim (is_cancelled_at m.sources s.0) as (λ a. is_cancelled_at m.sources s.0 ≡ a → cancelled m s ≡ all_submitted (with_cancelled m s) (at_cancel m.plan m (Some s))) [
       | true ↦ λ e. rw (e, still_cancelled m.sources s e) (simp units)
-      | false ↦ λ e. rw (e, cancel_submitted_is, one_less_if)
+      | false ↦ λ e. rw (e, cancel_submitted_is)
     ] refl

@@ -28,39 +28,18 @@ use Rattle.gcd_hold.specs.HoldsView.{is_active_at, is_source_at, is_over_resumed
 use Rattle.gcd_source.specs.SourcesView.{is_cancelled_at, merged_at, pending_at}
 use Rattle.gcd_refinement.specs.MachineView.{MachineView}
 use Rattle.gcd_refinement.specs.Stands.{IsTied}
-use Rattle.gcd_refinement.proofs.Proper.{proper, proper_parts, code_none}
+use Rattle.gcd_refinement.proofs.Proper.{proper, proper_parts}
 use Rattle.gcd_machine.specs.Conditions.{CanMakeActive, CanActivate, CanResume, CanSuspend, CanMakeCancelled, CanCancel, CanMerge}
 use Rattle.gcd_machine.proofs.KindsTold.{kind_told}
 use Rattle.gcd_machine.proofs.NewBlocks.{by_cancel, unsubmitted, nowhere}
 use Rattle.gcd_machine.proofs.GroupConditions.{can_submit}
+use Rattle.gcd_history.proofs.TargetActs.{code_none}
+use Rattle.gcd_plan.specs.Limits.{max_value}
+use Rattle.gcd_refinement.proofs.DueTimes.{inactive_never, uncancelled_never}
+use Rattle.gcd_refinement.proofs.Bounded.{some_blocks}
+use Rattle.gcd_source.proofs.Merges.{folded_below}
 
 -- ## Over histories
-
--- what is inactive was never activated, and what is not cancelled never was
-never_activated : (plan : PlanView) (past : List Event) (o : ℕ) → is_active plan past o ≡ false → activated_at plan past o ≡ None
-never_activated plan [] o h = refl
-never_activated plan (e ∷ past) o h =
-    let parts = or_parts (is_active plan past o) (activates o (is_source plan o && hold plan past o == 0) (act_of plan e)) h in
-    ap (λ a. cond (a && not (is_active plan past o)) (Some (now past)) (activated_at plan past o)) h ∙ never_activated plan past o parts.0
-
-never_cancelled : (plan : PlanView) (past : List Event) (s : ℕ) → is_cancelled plan past s ≡ false → cancelled_at plan past s ≡ None
-never_cancelled plan [] s h = refl
-never_cancelled plan (e ∷ past) s h =
-    let parts = or_parts (option_map_or (λ (t : Obj). t.0 == s) (cancels plan e) false) (is_cancelled plan past s) h in
-    ap (λ a. cond (a && not (is_cancelled plan past s)) (Some (now past)) (cancelled_at plan past s)) h ∙ never_cancelled plan past s parts.1
-
--- an active read source that is not cancelled is live
-live_of : (plan : PlanView) (past : List Event) (s : ℕ) → has_kind is_read_kind plan s ≡ true → is_active plan past s ≡ true → is_cancelled plan past s ≡ false → is_live_feed plan past s ≡ true
-unfolding is_live_feed
-live_of plan past s kind active on = and_from (has_kind is_read_kind plan s) (is_active plan past s && not (is_cancelled plan past s)) kind (and_from (is_active plan past s) (not (is_cancelled plan past s)) active (ap not on))
-
--- a plan has main
-some_blocks : (plan : PlanView) → IsPlan plan → 1 ≤ length plan.blocks
-some_blocks plan valid =
-    elim plan.blocks as (λ l. option_map (λ b. b.name) (slice_get l 0) ≡ Some (codes "main") → 1 ≤ length l) [
-      | [] ↦ λ k. cc
-      | b ∷ bs ↦ λ k. omega arith
-    ] valid.main
 
 -- what an event submits is a block of the plan
 pub new_of_plan : (plan : PlanView) (past : List Event) (e : Event) (b : ℕ) → IsPlan plan → IsLawful plan (e ∷ past) → 1 ≤ count_by (is_of b) (new_submissions plan past e) → b < length plan.blocks
@@ -75,10 +54,6 @@ new_of_plan plan past e b valid lawful new =
     absurd (omega (arith, new, within, split, other)))
     (cases_lt b (length plan.blocks))
 
-low_folded : (kind : Kind) (a b : ℕ) → folded kind a b ≤ a + b
-low_folded Or a b = let both = or_add_and a b in omega (arith, both)
-low_folded kind a b = omega arith
-
 -- ## In the machine
 
 module _ (past : List Event) (m : MachineView) (t : IsTied m.plan past m) (room : length past + 2 < 2 ^ 32) where
@@ -92,14 +67,13 @@ module _ (past : List Event) (m : MachineView) (t : IsTied m.plan past m) (room 
   can_make_active o low inactive =
       let sources = kinds_long in
       let timers = timers_long in
-      let feeds = t.small.feeds in
-      let few = t.valid.few_objects in
+      let live = t.own.live in
       record {
         timer = omega (arith, low, timers);
-        never = t.timers.activated o.0 ∙ never_activated m.plan past o.0 (sym (t.holds.active o.0) ∙ inactive);
+        never = t.timers.activated o.0 ∙ inactive_never m.plan past o.0 (sym (t.holds.active o.0) ∙ inactive);
         known = low;
         source = omega (arith, low, sources);
-        room = omega (arith, feeds, few);
+        live = omega (arith, low, live);
       }
 
   pub can_activate : (o : Obj) → o.0 < length m.plan.objects → CanActivate m o
@@ -127,25 +101,17 @@ module _ (past : List Event) (m : MachineView) (t : IsTied m.plan past m) (room 
   pub can_suspend : (o : Obj) → o.0 < length m.plan.objects → CanSuspend m o
   can_suspend o low = let holds = t.parts.holds in let few = t.small.holds o.0 in record { object = omega (arith, low, holds); room = omega (arith, few, room) }
 
-  feed_counted : (s : ℕ) → s < length m.plan.objects → is_cancelled_at m.sources s ≡ false → has_kind is_read_kind m.plan s ≡ true → is_active_at m.holds s ≡ true → 0 < m.feeds
-  feed_counted s low on kind active =
-      let live = live_of m.plan past s kind (sym (t.holds.active s) ∙ active) (sym (t.sources.cancelled s) ∙ on) in
-      let some = count_by_some (is_live_feed m.plan past) (range_with_len 0 (length m.plan.objects)) (list_any_in_range (is_live_feed m.plan past) (length m.plan.objects) s low live) in
-      let feeds = t.totals.feeds in
-      omega (arith, some, feeds)
-
   pub can_make_cancelled : (s : Obj) → s.0 < length m.plan.objects → is_cancelled_at m.sources s.0 ≡ false → CanMakeCancelled m s
   can_make_cancelled s low on =
       let sources = kinds_long in
       let timers = timers_long in
-      let holds = t.parts.holds in
+      let live = t.own.live in
       record {
         source = omega (arith, low, sources);
         timer = omega (arith, low, timers);
-        never = t.timers.cancelled s.0 ∙ never_cancelled m.plan past s.0 (sym (t.sources.cancelled s.0) ∙ on);
+        never = t.timers.cancelled s.0 ∙ uncancelled_never m.plan past s.0 (sym (t.sources.cancelled s.0) ∙ on);
         known = low;
-        object = omega (arith, low, holds);
-        live = feed_counted s.0 low on;
+        live = omega (arith, low, live);
       }
 
   pub can_cancel : (e : Event) (s : Obj) → IsLawful m.plan (e ∷ past) → cancels m.plan e ≡ Some s → s.0 < length m.plan.objects → CanCancel m s
@@ -163,10 +129,10 @@ module _ (past : List Event) (m : MachineView) (t : IsTied m.plan past m) (room 
   merged_low s n =
       elim (slice_get m.sources.kinds s) as (λ o. option_map_or (λ kind. folded kind (pending_at m.sources s) n) o 0 ≤ pending_at m.sources s + n) [
         | None ↦ omega arith
-        | Some kind ↦ low_folded kind (pending_at m.sources s) n
+        | Some kind ↦ folded_below kind (pending_at m.sources s) n
       ]
 
-  pub can_merge : (s : Obj) (n : ℕ) → s.0 < length m.plan.objects → n ≤ 2147483647 → CanMerge m s n
+  pub can_merge : (s : Obj) (n : ℕ) → s.0 < length m.plan.objects → n ≤ max_value → CanMerge m s n
   can_merge s n low small =
       let sources = kinds_long in
       let busy = t.own.busy in

@@ -32,10 +32,10 @@ module _ (m : MachineView) (blocks : List BlockProgress) (handlers : List Handle
   enter_noted can = record { group = can.group; room = can.room; position = can.position }
 
   active_noted : {o : Obj} → CanMakeActive m o → CanMakeActive (with_noted m blocks handlers) o
-  active_noted can = record { timer = can.timer; never = can.never; known = can.known; source = can.source; room = can.room }
+  active_noted can = record { timer = can.timer; never = can.never; known = can.known; source = can.source; live = can.live }
 
   cancelled_noted : {s : Obj} → CanMakeCancelled m s → CanMakeCancelled (with_noted m blocks handlers) s
-  cancelled_noted can = record { source = can.source; timer = can.timer; never = can.never; known = can.known; object = can.object; live = can.live }
+  cancelled_noted can = record { source = can.source; timer = can.timer; never = can.never; known = can.known; live = can.live }
 
   park_noted : {w : ℕ} {b : Blk} {why : Reason} → CanPark m w b why → CanPark (with_noted m blocks handlers) w b why
   park_noted can = record { worker = record { worker = can.worker.worker; running = can.worker.running }; blk = can.blk; fits = can.fits }

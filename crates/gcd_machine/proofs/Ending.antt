@@ -1,5 +1,5 @@
 -- Whether anything can come any more, and whether a block is left, as what a machine keeps tells it.
-use Rattle.std.proofs.Common.{◌≡◌, ℕ, ◌==◌, ◌<◌, Bool, true, false, not, ◌&&◌, ◌||◌, ◌↔◌, cond, List, [], ◌∷◌, length, None, is_none, count_by, refl, ap, sym, ◌∙◌, arith}
+use Rattle.std.proofs.Common.{◌≡◌, ℕ, ◌==◌, ◌<◌, Bool, true, false, not, ◌&&◌, ◌||◌, ◌↔◌, cond, List, [], ◌∷◌, length, None, is_none, count_by, refl, ap, sym, ◌∙◌, arith, get_or, zero, suc}
 use Rattle.std.specs.List.{list_all, range_with_len}
 use Rattle.std.proofs.lemmas.Bool.{and_from, and_parts, eqb-true, eq-eqb, false_from_ne_true, ne_eqb, not-true}
 use Rattle.gcd_plan.specs.PlanView.{PlanView}
@@ -25,26 +25,20 @@ use Rattle.gcd_machine.proofs.Workers.{over_is}
 
 -- ## Live feeds
 
-live_within : (plan : PlanView) (past : List Event) (s : ℕ) → is_live_feed plan past s ≡ true → s < length plan.objects
-unfolding is_live_feed
-live_within plan past s live = has_object is_read_kind plan s (and_parts (has_kind is_read_kind plan s) _ live).0
+-- where no flag is counted none is set
+none_set : (flags : List Bool) → count_by (λ b. b) flags ≡ 0 → (i : ℕ) → get_or flags i false ≡ false
+none_set [] none i = refl
+none_set (true ∷ flags) none i = let c = count_by-cons (λ (b : Bool). b) true flags in absurd (omega (arith, c, none))
+none_set (false ∷ flags) none zero = refl
+none_set (false ∷ flags) none (suc i) = let c = count_by-cons (λ (b : Bool). b) false flags in none_set flags (omega (arith, c, none)) i
 
-abbrev FeedsAre : PlanView → List Event → ℕ → Type 0
-FeedsAre plan past feeds = feeds ≡ count_by (is_live_feed plan past) (range_with_len 0 (length plan.objects))
-
--- none is live where none is counted
-none_live : (plan : PlanView) (past : List Event) (feeds : ℕ) → FeedsAre plan past feeds → feeds ≡ 0 → (s : ℕ) → is_live_feed plan past s ≡ false
-none_live plan past feeds count none s =
-    false_from_ne_true (is_live_feed plan past s)
-    (λ live.
-    let within = live_within plan past s live in
-    let some = count_by_some (is_live_feed plan past) (range_with_len 0 (length plan.objects)) (list_any_in_range (is_live_feed plan past) (length plan.objects) s within live) in
-    omega (arith, count, none, some))
-
-none_are : (plan : PlanView) (past : List Event) (feeds : ℕ) → FeedsAre plan past feeds → ((s : ℕ) → is_live_feed plan past s ≡ false) → feeds ≡ 0
-none_are plan past feeds count none =
-    let range = range_with_len 0 (length plan.objects) in
-    count ∙ count_by_none (is_live_feed plan past) range (list_any_agree (is_live_feed plan past) (λ s. false) range none ∙ none_passes range)
+none_counted : (flags : List Bool) → ((i : ℕ) → get_or flags i false ≡ false) → count_by (λ b. b) flags ≡ 0
+none_counted [] none = refl
+none_counted (flag ∷ flags) none =
+    let c = count_by-cons (λ (b : Bool). b) flag flags in
+    let here : ◌≡◌ {A = ℕ} (cond flag 1 0) 0 = ap (λ v. cond v 1 0) (none zero) in
+    let rest = none_counted flags (λ i. none (suc i)) in
+    omega (arith, c, here, rest)
 
 -- ## At rest
 
@@ -52,7 +46,7 @@ none_are plan past feeds count none =
 record Tests (m : MachineView) : Type 0 where
   going : (m.misused || m.halted) ≡ false
   idle : m.running ≡ 0
-  no_feed : m.feeds ≡ 0
+  no_feed : count_by (λ b. b) m.live ≡ 0
   no_time : next_due_at m.timers ≡ None
   no_choice : choice_by m 0 0 ≡ None
 
@@ -60,12 +54,12 @@ tests_from : (m : MachineView) → is_quiescent_at m ≡ true → Tests m
 tests_from m quiet =
     let one = and_parts (not (m.misused || m.halted)) _ quiet in
     let two = and_parts (m.running == 0) _ one.1 in
-    let three = and_parts (m.feeds == 0) _ two.1 in
+    let three = and_parts (count_by (λ b. b) m.live == 0) _ two.1 in
     let four = and_parts (is_none (next_due_at m.timers)) (is_none (choice_by m 0 0)) three.1 in
     record {
       going = not-true (m.misused || m.halted) one.0;
       idle = eqb-true m.running 0 two.0;
-      no_feed = eqb-true m.feeds 0 three.0;
+      no_feed = eqb-true (count_by (λ b. b) m.live) 0 three.0;
       no_time = none_from_is_none (next_due_at m.timers) four.0;
       no_choice = none_from_is_none (choice_by m 0 0) four.1;
     }
@@ -73,7 +67,7 @@ tests_from m quiet =
 tests_to : (m : MachineView) → Tests m → is_quiescent_at m ≡ true
 tests_to m tests =
     let none = and_from (is_none (next_due_at m.timers)) (is_none (choice_by m 0 0)) (ap is_none tests.no_time) (ap is_none tests.no_choice) in
-    let still = and_from (m.feeds == 0) _ (eq-eqb m.feeds 0 tests.no_feed) none in
+    let still = and_from (count_by (λ b. b) m.live == 0) _ (eq-eqb (count_by (λ b. b) m.live) 0 tests.no_feed) none in
     and_from (not (m.misused || m.halted)) _ (ap not tests.going) (and_from (m.running == 0) _ (eq-eqb m.running 0 tests.idle) still)
 
 rests : (plan : PlanView) (past : List Event) (m : MachineView) → IsTied plan past m → Tests m → AtRest plan past
@@ -82,14 +76,14 @@ rests plan past m tied tests = record {
   idle = sym tied.totals.running ∙ tests.idle;
   no_choice = sym (choice_is plan past m 0 0 tied) ∙ tests.no_choice;
   no_time = sym (next_due_is plan past m tied.parts tied.timers) ∙ tests.no_time;
-  no_feed = none_live plan past m.feeds tied.totals.feeds tests.no_feed;
+  no_feed = λ s. sym (tied.totals.live s) ∙ none_set m.live tests.no_feed s;
 }
 
 tests_at_rest : (plan : PlanView) (past : List Event) (m : MachineView) → IsTied plan past m → AtRest plan past → Tests m
 tests_at_rest plan past m tied rest = record {
   going = over_is plan past m tied.totals ∙ rest.goes_on;
   idle = tied.totals.running ∙ rest.idle;
-  no_feed = none_are plan past m.feeds tied.totals.feeds rest.no_feed;
+  no_feed = none_counted m.live (λ s. tied.totals.live s ∙ rest.no_feed s);
   no_time = next_due_is plan past m tied.parts tied.timers ∙ rest.no_time;
   no_choice = choice_is plan past m 0 0 tied ∙ rest.no_choice;
 }

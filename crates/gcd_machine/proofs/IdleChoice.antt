@@ -11,7 +11,7 @@ use Rattle.gcd_plan.specs.declared.why.Why.TheVariants.{Unready}
 use Rattle.gcd_event.specs.declared.event.Event.{Event}
 use Rattle.gcd_event.specs.declared.event.Event.TheVariants.{Start}
 use Rattle.gcd_history.specs.Runs.{open_runs}
-use Rattle.gcd_history.specs.Parked.{reason, is_parked, has_come, may_wake}
+use Rattle.gcd_history.specs.Parked.{awaited, is_parked, has_come, may_wake}
 use Rattle.gcd_history.specs.Permitted.{permitted, why}
 use Rattle.gcd_history.specs.Choice.{next_events, own_events, wake_event, node_events, choice}
 use Rattle.gcd_plan.proofs.Options.{none_from_is_none}
@@ -23,6 +23,7 @@ use Rattle.gcd_refinement.specs.Stands.{IsTied}
 use Rattle.gcd_machine.specs.Chosen.{wake_at, main_at, nodes_at, idle_choice_at}
 use Rattle.gcd_machine.proofs.IdleWorker.{IsIdle, has_none, start_is, has_main}
 use Rattle.gcd_machine.proofs.NodeChoice.{nodes_are, all_nodes_are}
+use Rattle.gcd_refinement.proofs.StepDue.{same_truth}
 
 -- ## It has no own run
 
@@ -45,15 +46,10 @@ found_map p f (x ∷ xs) =
       | false ↦ found_map p f xs
     ]
 
--- two tests of which each follows from the other
-alike : (a b : Bool) → (a ≡ true → b ≡ true) → (b ≡ true → a ≡ true) → a ≡ b
-alike true b f g = sym (f refl)
-alike false b f g = sym (false_from_ne_true b (λ h. both_ways false refl (g h)))
-
 wakes : (m : MachineView) (past : List Event) (w b : ℕ) → IsTied m.plan past m → IsIdle m past w → may_wake m.plan past b ≡ true → permitted m.plan past (wake_event w b) ≡ true
 unfolding may_wake is_parked
 wakes m past w b tied idle may =
-    elim (reason m.plan past (Block (record { 0 = b }))) as (λ o. reason m.plan past (Block (record { 0 = b })) ≡ o → option_map_or (has_come m.plan past) o false ≡ true → permitted m.plan past (wake_event w b) ≡ true) [
+    elim (awaited m.plan past (Block (record { 0 = b }))) as (λ o. awaited m.plan past (Block (record { 0 = b })) ≡ o → option_map_or (has_come m.plan past) o false ≡ true → permitted m.plan past (wake_event w b) ≡ true) [
       | None ↦ λ none no. cc
       | Some r ↦ λ some come.
           let live = (parked_facts m.plan past (record { 0 = b }) r some).live in
@@ -62,7 +58,7 @@ wakes m past w b tied idle may =
 
 wake_is_due : (m : MachineView) (past : List Event) (w b : ℕ) → IsTied m.plan past m → IsIdle m past w → permitted m.plan past (wake_event w b) ≡ due_at m b
 wake_is_due m past w b tied idle =
-    alike (permitted m.plan past (wake_event w b)) (may_wake m.plan past b)
+    same_truth (permitted m.plan past (wake_event w b)) (may_wake m.plan past b)
     (λ may. (at_wake m.plan past w (record { 0 = b }) (none_from_is_none (why m.plan past (wake_event w b)) may)).came)
     (wakes m past w b tied idle)
     ∙ sym (tied.wakes.due b)

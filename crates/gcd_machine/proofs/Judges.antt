@@ -18,7 +18,7 @@ use Rattle.gcd_tree.specs.TreeView.{chain_at}
 use Rattle.gcd_drain.specs.Rule.{run_fault_of}
 use Rattle.gcd_refinement.specs.MachineView.{MachineView}
 use Rattle.gcd_refinement.specs.Stands.{IsTied}
-use Rattle.gcd_machine.specs.Judged.{is_next_at, next_act_at, misuse_of_run, block_fault_at, source_fault_at, is_live_at, may_wake_at, fault_at, why_by}
+use Rattle.gcd_machine.specs.Judged.{is_next_at, next_act_at, misuse_of_run, block_fault_at, source_fault_at, may_wake_at, fault_at, why_by}
 use Rattle.gcd_machine.proofs.Known.{chain_is, knowledge_is}
 use Rattle.gcd_machine.proofs.Starts.{block_fault_is}
 use Rattle.gcd_machine.proofs.Waits.{parked_is, wake_is, tick_is, is_pending_is}
@@ -26,13 +26,6 @@ use Rattle.gcd_machine.proofs.Misused.{misuse_at_is}
 use Rattle.gcd_machine.proofs.Workers.{own_is, busy_is, next_is, left_is, over_is}
 
 -- ## Sources
-
-pub live_is : (m : MachineView) (past : List Event) (s : ℕ) → IsTied m.plan past m → is_live_at m s ≡ is_live_feed m.plan past s
-unfolding is_live_feed
-live_is m past s tied =
-    let active = tied.holds.active s in
-    let cancelled = tied.sources.cancelled s in
-    rw (active, cancelled) refl
 
 run_fault_is : (plan : PlanView) (past : List Event) (v : MachineView) (s : ℕ) → IsTied plan past v
     → run_fault_of v.drains v.tree v.holds s ≡ first_of (run_reasons (knowledge plan past) (chain plan past s))
@@ -85,8 +78,8 @@ fault_is m past (DeliverEnd w s) tied =
     ap (λ u. first_of ((NotOwn, not u) ∷ (NotNext, is_some (next_act_at m (Source s))) ∷ [])) (own_is m.plan past m w (Source s) tied.workers)
     ∙ ap (λ u. first_of ((NotOwn, not (has_run m.plan past w (Source s))) ∷ (NotNext, u) ∷ [])) (left_is m past (Source s) tied)
 fault_is m past (Tick t) tied = ap (λ u. cond u None (Some NotDue)) (tick_is m.plan past m t tied refl) ∙ turned NotDue (may_tick m.plan past t)
-fault_is m past (Ready s n) tied = ap (λ u. cond u None (Some NotLive)) (live_is m past s.0 tied) ∙ turned NotLive (is_live_feed m.plan past s.0)
-fault_is m past (FeedEnd s) tied = ap (λ u. cond u None (Some NotLive)) (live_is m past s.0 tied) ∙ turned NotLive (is_live_feed m.plan past s.0)
+fault_is m past (Ready s n) tied = ap (λ u. cond u None (Some NotLive)) (tied.totals.live s.0) ∙ turned NotLive (is_live_feed m.plan past s.0)
+fault_is m past (FeedEnd s) tied = ap (λ u. cond u None (Some NotLive)) (tied.totals.live s.0) ∙ turned NotLive (is_live_feed m.plan past s.0)
 fault_is m past (Misuse w run i c) tied =
     let own = own_is m.plan past m w run tied.workers in
     let next = next_is m past run i tied in

@@ -35,3 +35,4 @@ pub mod IdleChoice
 pub mod Choosing
 pub mod Ending
 pub mod Chosen
+mod Marked

@@ -29,6 +29,7 @@ use Rattle.gcd_machine.proofs.NodeConditions.{has_list, has_pending, can_open, c
 use Rattle.gcd_machine.proofs.GroupConditions.{position_low, can_leave}
 use Rattle.gcd_machine.proofs.ActivityConditions.{can_cancel, can_merge}
 use Rattle.gcd_machine.proofs.ActConditions.{can_set_free, can_act}
+use Rattle.gcd_plan.specs.Limits.{max_workers, max_value}
 
 -- nothing on the chain of a block that may start is held
 chain_free : (plan : PlanView) (past : List Event) (o : Option Submission) (n : Obj) → option_and_then (λ s. s.node) o ≡ Some n → first_of (node_reasons plan past o) ≡ None → is_held (knowledge plan past) (chain plan past n.0) ≡ false
@@ -46,7 +47,7 @@ tick_within plan past u may =
 module _ (past : List Event) (m : MachineView) (t : IsTied m.plan past m) (room : length past + 2 < 2 ^ 32) where
   can_take_up : (w : ℕ) → is_worker w ≡ true → CanTakeUp m w
   can_take_up w worker =
-      let low = ltb-true w 64 worker in
+      let low = ltb-true w max_workers worker in
       let workers = t.own.workers in
       let few = t.small.running in
       record { worker = omega (arith, low, workers); room = omega (arith, few, room) }
@@ -133,7 +134,7 @@ module _ (past : List Event) (m : MachineView) (t : IsTied m.plan past m) (room 
   can_change (Tick u) may = can_tick u may
   can_change (Ready s n) may =
       let known = and_parts (is_feed m.plan s.0) _ (allowed m.plan past (Ready s n) may).known in
-      can_merge past m t room s n (has_object is_read_kind m.plan s.0 known.0) (leb-true n 2147483647 (and_parts (ltb 0 n) _ known.1).1)
+      can_merge past m t room s n (has_object is_read_kind m.plan s.0 known.0) (leb-true n max_value (and_parts (ltb 0 n) _ known.1).1)
   can_change (FeedEnd s) may = can_cancel past m t room (FeedEnd s) s (t.lawful, may) refl (has_object is_read_kind m.plan s.0 (allowed m.plan past (FeedEnd s) may).known)
   can_change (Misuse w run i c) may = tt
   can_change Halt may = tt

@@ -21,10 +21,10 @@ use Rattle.gcd_history.specs.Groups.{count}
 use Rattle.gcd_history.specs.Submitted.{on_node, submitted_by, cancels, at_cancel, is_cancelled, registered, notify_blocks, at_empty, new_submissions, submitted, submission_of}
 use Rattle.gcd_history.specs.Permitted.{IsLawful}
 use Rattle.gcd_history.proofs.Fitting.{has_object}
-use Rattle.gcd_history.proofs.Lists.{any_from_find}
+use Rattle.gcd_history.proofs.Lists.{any_from_find, none_found}
 use Rattle.gcd_plan.proofs.Sums.{count_by-cons, count_by-append, count_by_some}
-use Rattle.gcd_history.proofs.Sums.{sum_range_le, sum_range_less}
-use Rattle.gcd_history.proofs.SubmittedOnce.{is_of, waiting, at_groups, kept_once}
+use Rattle.gcd_history.proofs.Sums.{sum_range_le, sum_range_less, ones, term_within}
+use Rattle.gcd_history.proofs.SubmittedOnce.{is_of, waiting, at_groups, kept_once, all_counted}
 use Rattle.gcd_history.proofs.SubmittedOnNodes.{recorded_fits}
 use Rattle.gcd_lists.specs.ListsView.{list_at, barrier_in, place_of}
 use Rattle.gcd_lists.proofs.Places.{place_of_none}
@@ -32,15 +32,9 @@ use Rattle.gcd_refinement.specs.MachineView.{MachineView}
 use Rattle.gcd_refinement.specs.Bounds.{place_in}
 use Rattle.gcd_refinement.specs.Ties.{told}
 use Rattle.gcd_refinement.specs.Stands.{IsTied}
+use Rattle.gcd_refinement.proofs.PlacesAre.{uncounted}
 
 -- ## What is submitted once
-
-none_found : {X : Type 0} (p : X → Bool) (xs : List X) → count_by p xs ≡ 0 → find p xs ≡ None
-none_found p xs none =
-    elim (find p xs) as (λ o. find p xs ≡ o → o ≡ None) [
-      | None ↦ λ k. refl
-      | Some x ↦ λ k. let some = count_by_some p xs (any_from_find p xs (ap is_some k)) in absurd (omega (arith, some, none))
-    ] refl
 
 -- a block that the event submits was not submitted before
 pub unsubmitted : (plan : PlanView) (past : List Event) (e : Event) (b : ℕ) → IsPlan plan → IsLawful plan (e ∷ past) → 1 ≤ count_by (is_of b) (new_submissions plan past e) → submission_of plan past b ≡ None
@@ -126,28 +120,6 @@ beyond plan (x ∷ xs) k all high =
     let other = ap (λ t. cond {A = ℕ} t 1 0) (ne_eqb x.blk.0 k (λ same. omega (arith, same, low, high))) in
     omega (arith, c, rest, other)
 
--- where each of these blocks is one of the plan, and is counted once, they are no more than its blocks
-all_counted : (xs : List Submission) (n : ℕ) → ((k : ℕ) → n ≤ k → count_by (is_of k) xs ≡ 0) → length xs ≤ sum_by (λ k. count_by (is_of k) xs) (range_with_len 0 n)
-all_counted [] n none = omega arith
-all_counted (x ∷ xs) n none =
-    let b = x.blk.0 in
-    let rest = all_counted xs n (λ k high. let c = count_by-cons (is_of k) x xs in let z = none k high in omega (arith, c, z)) in
-    let here : count_by (is_of b) (x ∷ xs) ≡ 1 + count_by (is_of b) xs = count_by-cons (is_of b) x xs ∙ ap (λ v. cond {A = ℕ} v 1 0 + count_by (is_of b) xs) (eq-eqb b b refl) in
-    let low : b < n = ⊎_elim (λ (l : b < n). l) (λ (high : n ≤ b). let z = none b high in absurd (omega (arith, here, z))) (cases_lt b n) in
-    let more = sum_range_less (λ k. count_by (is_of k) xs) (λ k. count_by (is_of k) (x ∷ xs)) 0 n b 1
-    (λ k. let c = count_by-cons (is_of k) x xs in omega (arith, c)) (omega (arith, here)) (omega arith) (omega (arith, low)) in
-    omega (arith, rest, more)
-
-ones : (a n : ℕ) → sum_by (λ k. 1) (range_with_len a n) ≡ n
-ones a zero = refl
-ones a (suc n) = let step = sum_by-cons (λ k. 1) a (range_with_len (a + 1) n) in let rest = ones (a + 1) n in omega (arith, step, rest)
-
--- a term is within the sum
-term_within : (f : ℕ → ℕ) (n c : ℕ) → c < n → f c ≤ sum_by f (range_with_len 0 n)
-term_within f n c low =
-    let less = sum_range_less (λ k. 0) f 0 n c (f c) (λ k. omega arith) (omega arith) (omega arith) (omega (arith, low)) in
-    omega (arith, less)
-
 few_notified : (plan : PlanView) (past : List Event) (g : ℕ) → IsPlan plan → IsLawful plan past → g < length plan.objects → length (notify_blocks plan past g) ≤ length plan.blocks
 few_notified plan past g valid lawful low =
     let n = length plan.blocks in
@@ -160,17 +132,6 @@ few_notified plan past g valid lawful low =
     omega (arith, all, once, long)
 
 -- ## In the machine
-
-uncounted : (v : MachineView) (b : ℕ) (xs : List (Blk × Bool)) → count_by (is_of b) (map (told v) xs) ≡ 0 → barrier_in b xs ≡ None
-uncounted v b [] none = refl
-uncounted v b (x ∷ xs) none =
-    let c = count_by-cons (is_of b) (told v x) (map (told v) xs) in
-    ⊎_elim
-    (λ (here : (x.0.0 == b) ≡ true). let one = ap (λ u. cond {A = ℕ} u 1 0) here in absurd (omega (arith, c, one, none)))
-    (λ (other : (x.0.0 == b) ≡ false).
-    let zero = ap (λ u. cond {A = ℕ} u 1 0) other in
-    ap (λ u. cond u (Some x.1) (barrier_in b xs)) other ∙ uncounted v b xs (omega (arith, c, zero, none)))
-    (cases_Bool (x.0.0 == b))
 
 module _ (past : List Event) (m : MachineView) (t : IsTied m.plan past m) where
   -- what is not submitted waits on no node

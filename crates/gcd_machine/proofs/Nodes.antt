@@ -5,7 +5,7 @@ use Rattle.std.specs.Option.{option_or}
 use Rattle.std.proofs.lemmas.Bool.{cases_Bool, cond-true, cond-false}
 use Rattle.std.proofs.lemmas.Option.{none-some, same_Some}
 use Rattle.gcd_refinement.specs.MachineView.{MachineView, busy_at}
-use Rattle.gcd_machine.specs.Chosen.{next_set, node_at, nodes_at}
+use Rattle.gcd_machine.specs.Chosen.{node_at, nodes_at}
 
 -- ## The first number of a range that passes a test
 
@@ -57,23 +57,6 @@ below_past p a (suc n) (suc more) x order found high =
       | inr fails ↦
           cond-false (p a) _ _ fails ∙ below_past p (a + 1) n more x (omega arith) (sym (cond-false (p a) _ _ fails) ∙ found) (omega arith)
     ]
-
--- ## The next flag that is set
-
-pub next_here : (flags : List Bool) (i : ℕ) → i < length flags → slice_index_or flags i false ≡ true → next_set flags i ≡ Some i
-next_here flags i within set =
-    let long : length flags - i ≡ suc (length flags - (i + 1)) = omega arith in
-    ap (λ n. find (λ k. slice_index_or flags k false) (range_with_len i n)) long ∙ cond-true (slice_index_or flags i false) _ _ set
-
-pub next_later : (flags : List Bool) (i : ℕ) → i < length flags → slice_index_or flags i false ≡ false → next_set flags (i + 1) ≡ next_set flags i
-next_later flags i within unset =
-    let long : length flags - i ≡ suc (length flags - (i + 1)) = omega arith in
-    sym (ap (λ n. find (λ k. slice_index_or flags k false) (range_with_len i n)) long ∙ cond-false (slice_index_or flags i false) _ _ unset)
-
-pub next_past : (flags : List Bool) (i : ℕ) → length flags ≤ i → next_set flags i ≡ None
-next_past flags i past =
-    let long : length flags - i ≡ 0 = omega arith in
-    ap (λ n. find (λ k. slice_index_or flags k false) (range_with_len i n)) long
 
 -- ## The first event
 

@@ -19,15 +19,15 @@ in_either_case x y z false is_y is_z = is_z refl
 one_less_waits : (lists : ListsView) (n : Obj) → length (list_at (popped lists (Some n)) n.0) ≡ length (list_at lists n.0) - 1
 one_less_waits lists n = ap length (rest_back lists.lists n.0) ∙ length-drop 1 (list_at lists n.0)
 
-abbrev with_run : MachineView → Obj → ListsView → TreeView → DrainsView → Bool → MachineView
-with_run m n lists tree drains busy = record m { lists = lists; tree = tree; drains = drains; busy = set m.busy n.0 busy }
+abbrev with_run : MachineView → ListsView → TreeView → DrainsView → List Bool → MachineView
+with_run m lists tree drains busy = record m { lists = lists; tree = tree; drains = drains; busy = busy }
 
-pub begun_is : (m : MachineView) (n : Obj) {barrier busy : Bool} {lists : ListsView} {tree : TreeView} {drains : DrainsView} {pending : ℕ}
+pub begun_is : (m : MachineView) (n : Obj) {barrier busy : Bool} {marks : List Bool} {lists : ListsView} {tree : TreeView} {drains : DrainsView} {pending : ℕ}
     → lists ≡ popped m.lists (Some n) → tree ≡ opened m.tree (Some n)
     → (barrier ≡ true → drains ≡ with_barriers m.drains n.0 (barriers_at m.drains n.0 + 1)) → (barrier ≡ false → drains ≡ m.drains)
     → pending ≡ pending_in m n.0 → busy ≡ stays_busy m.plan (length (list_at lists n.0)) pending n.0
-    → with_run m n lists tree drains busy ≡ begun_on m n barrier
-begun_is m n {barrier} {busy} {lists} {tree} {drains} {pending} lists_is tree_is is_barrier is_plain pending_is busy_is =
+    → marks ≡ set m.busy n.0 busy → with_run m lists tree drains marks ≡ begun_on m n barrier
+begun_is m n {barrier} {busy} {marks} {lists} {tree} {drains} {pending} lists_is tree_is is_barrier is_plain pending_is busy_is marks_is =
     let rest = popped m.lists (Some n) in
     let more = opened m.tree (Some n) in
     let drains_is = in_either_case drains (with_barriers m.drains n.0 (barriers_at m.drains n.0 + 1)) m.drains barrier is_barrier is_plain in
@@ -35,7 +35,7 @@ begun_is m n {barrier} {busy} {lists} {tree} {drains} {pending} lists_is tree_is
     let stays = busy_is
     ∙ (ap (λ k. stays_busy m.plan k pending n.0) waiting
     ∙ ap (λ k. stays_busy m.plan (length (list_at m.lists n.0) - 1) k n.0) pending_is) in
-    ap (λ l. with_run m n l tree drains busy) lists_is
-    ∙ (ap (λ t. with_run m n rest t drains busy) tree_is
-    ∙ (ap (λ d. with_run m n rest more d busy) drains_is
-    ∙ ap (with_run m n rest more (barrier_began m.drains (Some n) barrier)) stays))
+    ap (λ l. with_run m l tree drains marks) lists_is
+    ∙ (ap (λ t. with_run m rest t drains marks) tree_is
+    ∙ (ap (λ d. with_run m rest more d marks) drains_is
+    ∙ ap (with_run m rest more (barrier_began m.drains (Some n) barrier)) (marks_is ∙ ap (set m.busy n.0) stays)))

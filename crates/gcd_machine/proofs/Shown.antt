@@ -1,6 +1,6 @@
 -- What a machine tells of each history that it stands for.
-use Rattle.std.proofs.Common.{◌≡◌, ℕ, ◌^◌, ◌<◌, ◌≤◌, ◌||◌, List, [], ◌∷◌, length, reverse, Option, Some, None, refl, ap, sym, ◌∙◌, subst, arith}
-use Rattle.std.specs.List.{range_with_len}
+use Rattle.std.proofs.Common.{◌≡◌, ℕ, ◌^◌, ◌<◌, ◌≤◌, ◌||◌, List, [], ◌∷◌, length, reverse, Option, Some, None, refl, ap, sym, ◌∙◌, subst, arith, Bool, cond, ◌-◌}
+use Rattle.std.specs.List.{range_with_len, find}
 use Rattle.std.specs.Option.{option_map}
 use Rattle.std.proofs.lemmas.List.{length-map, length-reverse, reverse-append, reverse-reverse}
 use Rattle.std.proofs.lemmas.List.FromFn.{length-range_with_len}
@@ -13,22 +13,22 @@ use Rattle.gcd_history.specs.declared.submission.Submission.{Submission}
 use Rattle.gcd_history.specs.Runs.{act_of}
 use Rattle.gcd_history.specs.Parked as parked
 use Rattle.gcd_history.specs.Permitted as permitted
-use Rattle.gcd_history.specs.Sources as sources
-use Rattle.gcd_history.specs.History.{why, IsLawful, running_of, next_due_of, is_live_feed, first_waiting_of, node_of, last_data_of, pending_of, parks}
+use Rattle.gcd_history.specs.History.{why, IsLawful, running_of, next_due_of, is_live_feed, first_waiting_of, node_of, is_started, is_ended, awaited_of, last_data_of, pending_of, parks}
 use Rattle.gcd_history.specs.Ends.{is_halted}
 use Rattle.gcd_history.proofs.LawfulLemmas.{lawful_none, lawful_more}
 use Rattle.gcd_timer.specs.TimersView.{is_due_at, next_due_at, due_count_at}
-use Rattle.gcd_refinement.specs.MachineView.{MachineView, block_at, handler_at}
+use Rattle.gcd_refinement.specs.MachineView.{MachineView, block_at, ended_at, handler_at, live_at}
 use Rattle.gcd_refinement.specs.After.{pending_in}
 use Rattle.gcd_refinement.specs.Stands.{IsTied}
 use Rattle.gcd_refinement.specs.Ties.{waiter}
 use Rattle.gcd_machine.specs.Conditions.{HasPending}
-use Rattle.gcd_machine.specs.Judged.{first_waiting_at, is_live_at, why_by}
+use Rattle.gcd_machine.specs.Judged.{first_waiting_at, why_by}
 use Rattle.gcd_machine.specs.Stands.{StandsFor}
 use Rattle.gcd_machine.proofs.Starts.{first_is}
 use Rattle.gcd_machine.proofs.Waits.{next_due_is, pending_is}
 use Rattle.gcd_machine.proofs.Workers.{over_is}
-use Rattle.gcd_machine.proofs.Judges.{live_is, of_plan, why_is}
+use Rattle.gcd_machine.proofs.Judges.{why_is}
+use Rattle.gcd_sync.specs.WaitsView.{reason_at}
 
 -- what a machine keeps is of the history in reverse
 pub tied_by : (m : MachineView) (plan : PlanView) (h : List Event) → StandsFor m plan h → IsTied plan (reverse h) m
@@ -73,17 +73,38 @@ pub node_stands : (m : MachineView) (plan : PlanView) (h : List Event) (b : ℕ)
 unfolding node_of
 node_stands m plan h b stands = (tied_by m plan h stands).blocks.node b
 
+pub awaited_stands : (m : MachineView) (plan : PlanView) (h : List Event) (b : ℕ) → StandsFor m plan h → reason_at m.waits b ≡ awaited_of plan h b
+unfolding awaited_of
+awaited_stands m plan h b stands = (tied_by m plan h stands).waits.reasons b
+
+pub started_stands : (m : MachineView) (plan : PlanView) (h : List Event) (b : ℕ) → StandsFor m plan h → (block_at m b).started ≡ is_started h b
+unfolding is_started
+started_stands m plan h b stands = (tied_by m plan h stands).blocks.started b
+
+pub ended_stands : (m : MachineView) (plan : PlanView) (h : List Event) (b : ℕ) → StandsFor m plan h → ended_at m b ≡ is_ended h b
+unfolding is_ended
+ended_stands m plan h b stands = (tied_by m plan h stands).blocks.ended b
+
 pub parks_stands : (m : MachineView) (plan : PlanView) (h : List Event) (e : Event) → StandsFor m plan h → parked.is_parking (act_of m.plan e) ≡ parks plan e
 unfolding parks
 parks_stands m plan h e stands = ap (λ p. parked.is_parking (act_of p e)) (tied_by m plan h stands).same_plan
 
 -- ## Sources
 
-pub live_stands : (m : MachineView) (plan : PlanView) (h : List Event) (s : ℕ) → StandsFor m plan h → is_live_at m s ≡ is_live_feed plan h s
+pub live_stands : (m : MachineView) (plan : PlanView) (h : List Event) (s : ℕ) → StandsFor m plan h → live_at m s ≡ is_live_feed plan h s
 unfolding is_live_feed
-live_stands m plan h s stands =
-    let tied = tied_by m plan h stands in
-    live_is m (reverse h) s (of_plan plan (reverse h) m tied) ∙ ap (λ p. sources.is_live_feed p (reverse h) s) tied.same_plan
+live_stands m plan h s stands = (tied_by m plan h stands).totals.live s
+
+-- the first that passes one of two tests that agree
+first_alike : (p q : ℕ → Bool) (xs : List ℕ) → ((x : ℕ) → p x ≡ q x) → find p xs ≡ find q xs
+first_alike p q [] same = refl
+first_alike p q (x ∷ xs) same = ap (λ t. cond t (Some x) (find p xs)) (same x) ∙ ap (cond (q x) (Some x)) (first_alike p q xs same)
+
+pub next_live_stands : (m : MachineView) (plan : PlanView) (h : List Event) (from : ℕ) → StandsFor m plan h
+    → find (live_at m) (range_with_len from (length m.live - from)) ≡ find (is_live_feed plan h) (range_with_len from (length plan.objects - from))
+next_live_stands m plan h from stands =
+    ap (λ n. find (live_at m) (range_with_len from (n - from))) (tied_by m plan h stands).own.live
+    ∙ first_alike (live_at m) (is_live_feed plan h) (range_with_len from (length plan.objects - from)) (λ s. live_stands m plan h s stands)
 
 pub data_stands : (m : MachineView) (plan : PlanView) (h : List Event) (s : ℕ) → StandsFor m plan h → (handler_at m s).given ≡ last_data_of plan h s
 unfolding last_data_of

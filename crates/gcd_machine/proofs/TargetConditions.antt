@@ -25,10 +25,11 @@ use Rattle.gcd_history.proofs.TreeStands.{stands}
 use Rattle.gcd_tree.specs.TreeView.{open_on_at, is_node_at, chain_at, aims_at as aims_in, has_child_at, open_from, open_beneath_at}
 use Rattle.gcd_refinement.specs.MachineView.{MachineView}
 use Rattle.gcd_refinement.specs.Stands.{IsTied}
-use Rattle.gcd_refinement.proofs.Proper.{proper, proper_parts, code_none}
+use Rattle.gcd_refinement.proofs.Proper.{proper, proper_parts}
 use Rattle.gcd_machine.specs.Conditions.{CanTarget}
 use Rattle.gcd_machine.proofs.KindsTold.{kind_told}
 use Rattle.gcd_machine.proofs.TreeTold.{chain_told, cycle_told}
+use Rattle.gcd_history.proofs.TargetActs.{code_none}
 
 module _ (past : List Event) (m : MachineView) (t : IsTied m.plan past m) where
   node_told : (o : ℕ) → is_node_at m.tree o ≡ is_node m.plan o

@@ -14,6 +14,8 @@ use Rattle.gcd_refinement.specs.After.{popped, pushed_on, with_due, with_block, 
 use Rattle.gcd_machine.specs.Steps.{let_go, all_let_go, submitted, fired_at, all_fired_at}
 use Rattle.gcd_machine.specs.Conditions.{CanWakeAt, CanSubmit, HaveHomes, CanFire}
 use Rattle.gcd_machine.proofs.Places.{waits_as_before, waited_before, first_waits}
+use Rattle.gcd_machine.proofs.Firing.{none_fired_is}
+use Rattle.gcd_refinement.proofs.StepMarks.{none_first}
 
 -- ## Lists
 
@@ -33,11 +35,6 @@ rest_back lists i = read_back lists i (drop 1 (get_or lists i [])) [] (λ high. 
 pub first_and_rest : {X : Type 0} (xs : List X) (x : X) → slice_get xs 0 ≡ Some x → xs ≡ x ∷ drop 1 xs
 first_and_rest [] x first = cc
 first_and_rest (y ∷ xs) x first = ap (λ v. v ∷ xs) (same_Some y x first)
-
--- a list without a first is empty
-pub no_first : {X : Type 0} (xs : List X) → slice_get xs 0 ≡ None → xs ≡ []
-no_first [] none = refl
-no_first (x ∷ xs) none = cc
 
 -- ## Wakes
 
@@ -85,7 +82,7 @@ wake_turn {m} {first} {next} {o} {w} {rest} head popped_is next_is waking =
 pub wake_end : (m : MachineView) (o : Obj) → slice_get (list_at m.sleepers o.0) 0 ≡ None → all_let_go m o ≡ m
 wake_end m o none =
     let lists = m.sleepers.lists in
-    let empty = no_first (list_at m.sleepers o.0) none in
+    let empty = none_first (list_at m.sleepers o.0) none in
     ap (λ ws. with_sleepers m (set lists o.0 []) (fold with_due m.due (map (λ v. v.0) ws))) empty
     ∙ (ap (λ ws. with_sleepers m (set lists o.0 ws) m.due) (sym empty)
     ∙ ap (λ l. with_sleepers m l m.due) (set-get_or lists o.0 []))
@@ -232,12 +229,7 @@ fire_turn {m} {first} {next} {g} {b} {read} {rest} some rest_is gone within read
       same = fire_same m g b f ∙ firing.same;
     })
 
--- none is due any more
-fire_none : (m : MachineView) (g : Obj) → due_at m.groups g.0 ≡ 0 → all_fired_at m g ≡ m
-fire_none m g none =
-    ap (λ n. record (fold fired_at m (map (λ w. w.0) (take n (list_at m.groups.notify g.0)))) { groups = fired_times n m.groups g.0 }) none
-
 pub fire_end : {m first : MachineView} {g : Obj} {rest : GroupsView} → rest ≡ m.groups → due_at m.groups g.0 ≡ 0 → Firing m first g
     → ◌≡◌ {A = MachineView} (record m { groups = rest }) (all_fired_at first g)
 fire_end {m} {first} {g} {rest} rest_is none firing =
-    ap (λ (r : GroupsView). record m { groups = r }) rest_is ∙ (sym (fire_none m g none) ∙ firing.same)
+    ap (λ (r : GroupsView). record m { groups = r }) rest_is ∙ (sym (none_fired_is m g none) ∙ firing.same)

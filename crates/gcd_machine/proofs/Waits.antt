@@ -12,7 +12,7 @@ use Rattle.gcd_plan.specs.declared.numbers.Run.TheVariants.{Block}
 use Rattle.gcd_plan.specs.declared.reason.Reason.{Reason}
 use Rattle.gcd_plan.specs.declared.reason.Reason.TheVariants.{Block as EndOf, Group as Empty, Rank}
 use Rattle.gcd_event.specs.declared.event.Event.{Event}
-use Rattle.gcd_history.specs.Parked.{reason, has_come, is_parked, may_wake}
+use Rattle.gcd_history.specs.Parked.{awaited, has_come, is_parked, may_wake}
 use Rattle.gcd_history.specs.Timers.{now, is_due, is_any_due, next_due, may_tick}
 use Rattle.gcd_history.specs.Sources.{pending, is_pending}
 use Rattle.gcd_sync.specs.WaitsView.{reason_at, has_come_in}
@@ -30,7 +30,7 @@ use Rattle.gcd_machine.specs.Judged.{has_pending_at, is_pending_at, may_tick_at,
 -- ## Parked blocks
 
 -- what a block is parked for has come
-come_is : (plan : PlanView) (past : List Event) (v : MachineView) (b : Blk) (why : Reason) → IsTied plan past v → reason plan past (Block b) ≡ Some why
+come_is : (plan : PlanView) (past : List Event) (v : MachineView) (b : Blk) (why : Reason) → IsTied plan past v → awaited plan past (Block b) ≡ Some why
     → has_come_in v.groups v.semas v.ended why ≡ has_come plan past why
 unfolding has_come
 come_is plan past v b (EndOf c) tied is = tied.blocks.ended c.0
@@ -43,9 +43,9 @@ come_is plan past v b (Rank s k) tied is =
 pub wake_is : (plan : PlanView) (past : List Event) (v : MachineView) (b : ℕ) → IsTied plan past v → may_wake_at v b ≡ may_wake plan past b
 unfolding may_wake
 wake_is plan past v b tied =
-    let same : reason_at v.waits b ≡ reason plan past (Block (record { 0 = b })) = tied.waits.reasons b in
+    let same : reason_at v.waits b ≡ awaited plan past (Block (record { 0 = b })) = tied.waits.reasons b in
     ap (λ o. option_map_or (has_come_in v.groups v.semas v.ended) o false) same
-    ∙ elim (reason plan past (Block (record { 0 = b }))) as (λ o. reason plan past (Block (record { 0 = b })) ≡ o
+    ∙ elim (awaited plan past (Block (record { 0 = b }))) as (λ o. awaited plan past (Block (record { 0 = b })) ≡ o
     → option_map_or (has_come_in v.groups v.semas v.ended) o false ≡ option_map_or (has_come plan past) o false) [
       | None ↦ λ is. refl
       | Some why ↦ λ is. come_is plan past v (record { 0 = b }) why tied is
@@ -53,7 +53,7 @@ wake_is plan past v b tied =
 
 pub parked_is : (plan : PlanView) (past : List Event) (v : MachineView) (b : ℕ) → IsTied plan past v → is_none (reason_at v.waits b) ≡ not (is_parked plan past b)
 unfolding is_parked
-parked_is plan past v b tied = ap is_none (tied.waits.reasons b) ∙ turned (reason plan past (Block (record { 0 = b })))
+parked_is plan past v b tied = ap is_none (tied.waits.reasons b) ∙ turned (awaited plan past (Block (record { 0 = b })))
   where
     turned : (o : Option Reason) → is_none o ≡ not (is_some o)
     turned None = refl

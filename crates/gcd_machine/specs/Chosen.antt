@@ -1,6 +1,6 @@
 -- What a worker records next, and how far the run has come, as what a machine keeps tells it: each word as near to the code as its
 -- case split. That it is the definition's answer is proved of every machine that stands for a history.
-use Rattle.std.specs.Prelude.{ℕ, zero, suc, ◌+◌, ◌-◌, ◌==◌, min, Bool, false, not, ◌&&◌, ◌||◌, if◌then◌else◌, List, length, Option, Some, None, is_none, find, slice_get, slice_index_or}
+use Rattle.std.specs.Prelude.{ℕ, zero, suc, ◌+◌, ◌-◌, ◌==◌, min, Bool, false, not, ◌&&◌, ◌||◌, if◌then◌else◌, List, length, Option, Some, None, is_none, find, slice_get, slice_index_or, count_by}
 use Rattle.std.specs.Option.{option_map, option_map_or, option_or}
 use Rattle.std.specs.List.{range_with_len}
 use Rattle.gcd_plan.specs.Kinds.{is_source}
@@ -89,7 +89,7 @@ choice_by m w from =
 abbrev pub is_quiescent_at : MachineView → Bool
 is_quiescent_at m =
     not (m.misused || m.halted)
-    && (m.running == 0 && (m.feeds == 0 && (is_none (next_due_at m.timers) && is_none (choice_by m 0 0))))
+    && (m.running == 0 && (count_by (λ b. b) m.live == 0 && (is_none (next_due_at m.timers) && is_none (choice_by m 0 0))))
 
 -- how far the run has come; where nothing can come and no block is left it is drained, and else stuck
 abbrev pub state_by : MachineView → State

@@ -180,7 +180,7 @@ pub record CanMakeActive (m : MachineView) (o : Obj) : Type 0 where
   pub never : activated_at m.timers o.0 ≡ None
   pub known : o.0 < length m.plan.objects
   pub source : o.0 < length m.sources.kinds
-  pub room : m.feeds + 1 < 2 ^ 32
+  pub live : o.0 < length m.live
 
 -- object o is active, or was never activated
 pub record CanActivate (m : MachineView) (o : Obj) : Type 0 where
@@ -198,14 +198,13 @@ pub record CanSuspend (m : MachineView) (o : Obj) : Type 0 where
   pub object : o.0 < length m.holds.holds
   pub room : hold_at m.holds o.0 + 1 < 2 ^ 32
 
--- source s was never cancelled; where it is an active read source, its feed is live
+-- source s was never cancelled
 pub record CanMakeCancelled (m : MachineView) (s : Obj) : Type 0 where
   pub source : s.0 < length m.sources.kinds
   pub timer : s.0 < length m.timers.kinds
   pub never : cancelled_at m.timers s.0 ≡ None
   pub known : s.0 < length m.plan.objects
-  pub object : s.0 < length m.holds.holds
-  pub live : has_kind is_read_kind m.plan s.0 ≡ true → is_active_at m.holds s.0 ≡ true → 0 < m.feeds
+  pub live : s.0 < length m.live
 
 -- source s is cancelled, or may be, and its cancellation block may be submitted
 pub record CanCancel (m : MachineView) (s : Obj) : Type 0 where

@@ -30,7 +30,7 @@ use Rattle.gcd_sync.specs.WaitsView.{reason_at, may_wake_in}
 use Rattle.gcd_source.specs.SourcesView.{pending_at, is_cancelled_at}
 use Rattle.gcd_timer.specs.TimersView.{next_due_at, due_count_at}
 use Rattle.gcd_drain.specs.Rule.{start_fault_of, run_fault_of}
-use Rattle.gcd_refinement.specs.MachineView.{MachineView, block_at, handler_at, at_worker, refs_at}
+use Rattle.gcd_refinement.specs.MachineView.{MachineView, block_at, handler_at, at_worker, refs_at, live_at}
 use Rattle.gcd_refinement.specs.Ties.{is_run}
 
 -- ## Runs
@@ -124,10 +124,6 @@ abbrev pub may_tick_at : MachineView → ℕ → Bool
 may_tick_at m t =
     nat_lt m.timers.moment t && (nat_le t m.plan.until && option_map_or (λ due. nat_le due t) (next_due_at m.timers) false)
 
--- s is a read source that is active and not cancelled
-abbrev pub is_live_at : MachineView → ℕ → Bool
-is_live_at m s = has_kind is_read_kind m.plan s && (is_active_at m.holds s && not (is_cancelled_at m.sources s))
-
 -- block b is parked, and what it waits for has come
 abbrev pub may_wake_at : MachineView → ℕ → Bool
 may_wake_at m b = may_wake_in m.waits m.groups m.semas m.ended b
@@ -145,8 +141,8 @@ fault_at m (Deliver w s) = if is_busy_at m w then Some Busy else source_fault_at
 fault_at m (DeliverEnd w s) =
     first_of ((NotOwn, not (is_own_at m w (Source s))) ∷ (NotNext, is_some (next_act_at m (Source s))) ∷ [])
 fault_at m (Tick t) = if may_tick_at m t then None else Some NotDue
-fault_at m (Ready s n) = if is_live_at m s.0 then None else Some NotLive
-fault_at m (FeedEnd s) = if is_live_at m s.0 then None else Some NotLive
+fault_at m (Ready s n) = if live_at m s.0 then None else Some NotLive
+fault_at m (FeedEnd s) = if live_at m s.0 then None else Some NotLive
 fault_at m (Misuse w run i c) =
     first_of ((NotOwn, not (is_own_at m w run)) ∷ (NotNext, not (is_next_at m run i))
     ∷ (NotMisuse, not (option_map_or (λ code. code == c) (misuse_of_run m run i) false)) ∷ [])

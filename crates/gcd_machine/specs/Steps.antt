@@ -99,7 +99,7 @@ abbrev pub acted : MachineView → Run → MachineView
 acted m (Block b) = record m { blocks = with_block m.blocks b.0 (λ x. record x { done = x.done + 1 }) }
 acted m (Source s) = record m { handlers = handled m (Source s) }
 
--- block b is parked for the reason, and its worker w is free
+-- block b waits for this, and its worker w is free
 abbrev pub parked : MachineView → ℕ → Blk → Reason → MachineView
 parked m w b why = set_free (record m { waits = with_reason m.waits b.0 (Some why) }) w
 
@@ -126,7 +126,7 @@ waited_for_semaphore m w b s =
 abbrev pub made_active : MachineView → Obj → MachineView
 made_active m o = record m {
   timers = with_activated m.timers o.0;
-  feeds = if has_kind is_read_kind m.plan o.0 && not (is_cancelled_at m.sources o.0) then m.feeds + 1 else m.feeds;
+  live = if has_kind is_read_kind m.plan o.0 && not (is_cancelled_at m.sources o.0) then slice_set m.live o.0 true else m.live;
 }
 
 -- source s, which was not cancelled, is cancelled: its timer ends, and its feed is live no more
@@ -134,7 +134,7 @@ abbrev pub made_cancelled : MachineView → Obj → MachineView
 made_cancelled m s = record m {
   sources = with_cancelled_source m.sources s.0;
   timers = with_cancelled_timer m.timers s.0;
-  feeds = if has_kind is_read_kind m.plan s.0 && is_active_at m.holds s.0 then m.feeds - 1 else m.feeds;
+  live = slice_set m.live s.0 false;
 }
 
 -- object o is active

@@ -12,8 +12,8 @@
 //! | `choose` | what a worker records next (`choice_of`), permitted and the worker's own |
 //! | `state`, `is_quiescent`, `is_halted` | how far the run has come (`HasState`), whether nothing but a halt can come, whether it is over |
 //! | `len`, `running` | how many events came, how many runs are open and not parked |
-//! | `next_due`, `is_live_feed`, `data_of`, `pending_of` | due times, live feeds, what sources handed over and have pending |
-//! | `first_waiting`, `node_of`, `parks` | what waits on an object, where a block was submitted, whether an act parks its block |
+//! | `next_due`, `is_live_feed`, `next_live_feed`, `data_of`, `pending_of` | due times, live feeds, what sources handed over and have pending |
+//! | `first_waiting`, `node_of`, `is_started`, `is_ended`, `awaited`, `parks` | what waits on an object; of a block where it was submitted, whether it has started and ended, what it waits for; whether an act parks its block |
 //! | `objects`, `blocks` | the plan's numbers, for the conditions of the calls |
 //! | [`laws::histories_are_lawful`] | the histories that a machine stands for are lawful, of its own plan, which is valid |
 //!
@@ -32,3 +32,6 @@ mod machine;
 mod registers;
 
 pub use machine::Machine;
+
+#[cfg(test)]
+mod tests;

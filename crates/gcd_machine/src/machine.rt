@@ -1,16 +1,17 @@
 // A machine that stands for a plan and what has happened so far.
-ghost use Rattle.std.specs.Prelude.{◌≡◌, ◌<◌, ◌++◌, ◌∷◌, ◌↔◌, [], List, None, Option, IfOk, IfSome, IsTrue, length};
+ghost use Rattle.std.specs.Prelude.{◌≡◌, ◌<◌, ◌-◌, ◌++◌, ◌∷◌, ◌↔◌, [], List, None, Option, IfOk, IfSome, IsTrue, find, length, option_map};
+ghost use Rattle.std.specs.List.{range_with_len};
 ghost use Rattle.gcd_plan.specs.PlanView.{PlanView};
 ghost use Rattle.gcd_event.specs.declared.event.Event.{Event};
 ghost use Rattle.gcd_history.specs.Choice.{is_work, worker_of};
 ghost use Rattle.gcd_history.specs.Ends.{HasState, IsQuiescent, is_halted};
-ghost use Rattle.gcd_history.specs.History.{choice_of, last_data_of, first_waiting_of, is_live_feed, next_due_of, node_of, parks, pending_of, running_of, why};
+ghost use Rattle.gcd_history.specs.History.{awaited_of, choice_of, last_data_of, first_waiting_of, is_ended, is_live_feed, is_started, next_due_of, node_of, parks, pending_of, running_of, why};
 ghost use Rattle.gcd_machine.specs.Stands.{MayApply, StandsFor};
 
 use crate::registers::Registers;
 use gcd_event::Event;
 use gcd_history::State;
-use gcd_plan::{Blk, Obj, Plan, Why};
+use gcd_plan::{Blk, Obj, Plan, Reason, Why};
 use std::alloc::{AllocError, Global};
 use std::marker::Model;
 
@@ -151,6 +152,14 @@ impl Machine {
         self.registers.is_live_feed(src)
     }
 
+    /// The live read source with the least number from this one on; None exactly where there is none. It costs a step for each
+    /// word of 64 objects that it passes, and none where no read source is live (dispatch_source_create(3)).
+    pub fn next_live_feed(&self, from: u32) -> Option<Obj>
+        ensures { (plan : PlanView) (h : List Event) → StandsFor self.now plan h → option_map (λ o. o.0) result ≡ find (is_live_feed plan h) (range_with_len from (length plan.objects - from)) }
+    {
+        self.registers.next_live_feed(from)
+    }
+
     /// The first block that waits on an object. None exactly where nothing waits there.
     pub fn first_waiting(&self, node: Obj) -> Option<Blk>
         requires { node.0 < length self.now.plan.objects }
@@ -165,6 +174,31 @@ impl Machine {
         ensures { (plan : PlanView) (h : List Event) → StandsFor self.now plan h → result ≡ node_of plan h b.0 }
     {
         self.registers.node_of(b)
+    }
+
+    /// Whether the block has started (dispatch_async(3)).
+    pub fn is_started(&self, b: Blk) -> bool
+        requires { b.0 < length self.now.plan.blocks }
+        ensures { (plan : PlanView) (h : List Event) → StandsFor self.now plan h → result ≡ is_started h b.0 }
+    {
+        self.registers.is_started(b)
+    }
+
+    /// Whether the block has ended (dispatch_async(3)).
+    pub fn is_ended(&self, b: Blk) -> bool
+        requires { b.0 < length self.now.plan.blocks }
+        ensures { (plan : PlanView) (h : List Event) → StandsFor self.now plan h → result ≡ is_ended h b.0 }
+    {
+        self.registers.is_ended(b)
+    }
+
+    /// What the block waits for: the end of a block, a moment at which a group is empty, or its turn at a semaphore. None
+    /// exactly where it is not parked (dispatch_sync(3), dispatch_group_wait(3), dispatch_semaphore_wait(3)).
+    pub fn awaited(&self, b: Blk) -> Option<Reason>
+        requires { b.0 < length self.now.plan.blocks }
+        ensures { (plan : PlanView) (h : List Event) → StandsFor self.now plan h → result ≡ awaited_of plan h b.0 }
+    {
+        self.registers.awaited(b)
     }
 
     /// What the last delivery of the source handed over, 0 before one (dispatch_source_get_data(3)).

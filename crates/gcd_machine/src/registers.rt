@@ -59,15 +59,15 @@ pub struct Registers {
     // by object
     pub handlers: Vec<HandlerProgress>,
     // the nodes that have to be looked at for a Start or a Deliver
-    pub busy: Vec<bool>,
+    pub busy: BitSet,
+    // the read sources that are live
+    pub live: BitSet,
     // the run that each worker has
     pub workers: Vec<Option<Run>>,
     // how many runs are open and not parked
     pub running: u32,
     // how many blocks are submitted and have not ended
     pub left: u32,
-    // how many read sources are live
-    pub feeds: u32,
     pub misused: bool,
     pub halted: bool,
     // how many events have come

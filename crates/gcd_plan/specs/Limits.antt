@@ -48,3 +48,7 @@ max_path_bytes = 255
 -- bytes in a name
 abbrev pub max_name_bytes : ℕ
 max_name_bytes = 32
+
+-- the time, in milliseconds, until which timers count where a script does not say
+abbrev pub default_until : ℕ
+default_until = 1000

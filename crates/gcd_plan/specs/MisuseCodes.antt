@@ -13,3 +13,7 @@ code_of TargetWhileTargeted = 5
 code_of UseAfterRelease = 6
 code_of ReleaseWhileSuspended = 7
 code_of ReleaseBelowFirstValue = 8
+
+-- the last code: they are numbered from 1 on, without a gap
+abbrev pub last_code : ℕ
+last_code = code_of ReleaseBelowFirstValue

@@ -48,8 +48,8 @@ mod work;
 pub use act::Act;
 pub use kind::Kind;
 pub use limits::{
-    MAX_ACTS, MAX_BLOCKS, MAX_EVENTS, MAX_FILE_BYTES, MAX_FILES, MAX_NAME_BYTES, MAX_OBJECTS,
-    MAX_PATH_BYTES, MAX_SCRIPT_BYTES, MAX_TIME, MAX_VALUE, MAX_WORKERS,
+    DEFAULT_UNTIL, MAX_ACTS, MAX_BLOCKS, MAX_EVENTS, MAX_FILE_BYTES, MAX_FILES, MAX_NAME_BYTES,
+    MAX_OBJECTS, MAX_PATH_BYTES, MAX_SCRIPT_BYTES, MAX_TIME, MAX_VALUE, MAX_WORKERS,
 };
 pub use misuse_code::MisuseCode;
 pub use names_valid::{is_name, is_path};

@@ -1,6 +1,6 @@
 use crate::{
-    Act, Blk, BlkPart, FilePart, How, Kind, MAX_TIME, MAX_VALUE, MisuseCode, Obj, ObjPart, Parts,
-    Plan, Run, WHOLE_FILE, Work,
+    Act, Blk, BlkPart, DEFAULT_UNTIL, FilePart, How, Kind, MAX_TIME, MAX_VALUE, MisuseCode, Obj,
+    ObjPart, Parts, Plan, Run, WHOLE_FILE, Work,
 };
 use std::alloc::{AllocError, Global};
 use std::test::Fail;
@@ -26,7 +26,7 @@ const PLAIN: Case = Case {
     active: true,
     acts: &[Act::Async(Obj(1), Blk(1))],
     file: 0,
-    until: 1000,
+    until: DEFAULT_UNTIL,
     valid: true,
 };
 
@@ -261,7 +261,7 @@ fn holds_its_blocks(plan: &Plan) -> bool {
         && plan.work(Blk(0)).is_none()
         && plan.acts(Run::Block(Blk(0))) == PLAIN.acts
         && plan.line_of_file(0) == 1
-        && plan.until() == 1000
+        && plan.until() == DEFAULT_UNTIL
 }
 
 #[test]

@@ -1,28 +1,108 @@
--- All ties, with those of the wakes: they hold of a new machine, and go on with each lawful event.
-use Rattle.std.proofs.Common.{List, [], ◌∷◌}
+-- All ties but the bounds, which follow from them: they hold of a new machine, and go on with each lawful event.
+use Rattle.std.proofs.Common.{◌≡◌, refl, List, [], ◌∷◌}
 use Rattle.gcd_plan.specs.PlanView.{PlanView}
 use Rattle.gcd_plan.specs.Validity.{IsPlan}
 use Rattle.gcd_event.specs.declared.event.Event.{Event}
 use Rattle.gcd_history.specs.Permitted.{IsLawful}
 use Rattle.gcd_refinement.specs.MachineView.{MachineView, machine_of}
-use Rattle.gcd_refinement.specs.Ties.{WakesAre}
+use Rattle.gcd_refinement.specs.Shape.{PartsFit, OwnFit}
+use Rattle.gcd_refinement.specs.Ties.{ReferencesAre, ListsAre, TreeIs, HoldsAre, DrainsAre, GroupsAre, SemasAre, WaitsAre, SourcesAre, TimersAre, WorkersAre, BlocksAre, HandlersAre, WakesAre, MarksAre, TotalsAre}
 use Rattle.gcd_refinement.specs.After.{after}
-use Rattle.gcd_refinement.proofs.MostTies.{MostTies, most_begin, most_step, view_of}
+use Rattle.gcd_refinement.proofs.Beginning.{parts_begin, own_begin, references_begin, lists_begin, tree_begin, holds_begin, drains_begin, groups_begin, semas_begin, waits_begin, sources_begin, timers_begin, workers_begin, blocks_begin, handlers_begin, marks_begin, totals_begin}
+use Rattle.gcd_refinement.proofs.StepReferences.{references_step}
+use Rattle.gcd_refinement.proofs.StepLists.{lists_step}
+use Rattle.gcd_refinement.proofs.StepTargets.{tree_step}
+use Rattle.gcd_refinement.proofs.StepHolds.{holds_step}
+use Rattle.gcd_refinement.proofs.StepDrains.{drains_step}
+use Rattle.gcd_refinement.proofs.StepTold.{groups_step}
+use Rattle.gcd_refinement.proofs.StepSemas.{semas_step}
+use Rattle.gcd_refinement.proofs.StepWaits.{waits_step}
+use Rattle.gcd_refinement.proofs.StepSources.{sources_step}
+use Rattle.gcd_refinement.proofs.StepTimers.{timers_step}
+use Rattle.gcd_refinement.proofs.StepWorkers.{workers_step}
+use Rattle.gcd_refinement.proofs.StepBlocks.{blocks_step}
+use Rattle.gcd_refinement.proofs.StepHandlers.{handlers_step}
 use Rattle.gcd_refinement.proofs.Awake.{wakes_begin}
 use Rattle.gcd_refinement.proofs.StepWakes.{wakes_step}
+use Rattle.gcd_refinement.proofs.StepMarks.{marks_step}
+use Rattle.gcd_refinement.proofs.StepFeeds.{totals_step}
+use Rattle.gcd_refinement.proofs.StepParts.{parts_step}
+use Rattle.gcd_refinement.proofs.StepOwn.{own_step}
 
 pub record AllTies (plan : PlanView) (past : List Event) (v : MachineView) : Type 0 where
-  pub most : MostTies plan past v
+  pub same_plan : v.plan ≡ plan
+  pub parts : PartsFit plan v
+  pub own : OwnFit plan v
+  pub references : ReferencesAre plan past v
+  pub lists : ListsAre plan past v
+  pub tree : TreeIs plan past v
+  pub holds : HoldsAre plan past v
+  pub drains : DrainsAre plan past v
+  pub groups : GroupsAre plan past v
+  pub semas : SemasAre plan past v
+  pub waits : WaitsAre plan past v
+  pub sources : SourcesAre plan past v
+  pub timers : TimersAre plan past v
+  pub workers : WorkersAre plan past v
+  pub blocks : BlocksAre plan past v
+  pub handlers : HandlersAre plan past v
   pub wakes : WakesAre plan past v
+  pub marks : MarksAre plan past v
+  pub totals : TotalsAre plan past v
 
 pub ties_begin : (plan : PlanView) → IsPlan plan → AllTies plan [] (machine_of plan)
-ties_begin plan valid = record { most = most_begin plan valid; wakes = wakes_begin plan }
+ties_begin plan valid = record {
+  same_plan = refl;
+  parts = parts_begin plan;
+  own = own_begin plan valid;
+  references = references_begin plan;
+  lists = lists_begin plan;
+  tree = tree_begin plan;
+  holds = holds_begin plan;
+  drains = drains_begin plan;
+  groups = groups_begin plan;
+  semas = semas_begin plan;
+  waits = waits_begin plan;
+  sources = sources_begin plan;
+  timers = timers_begin plan;
+  workers = workers_begin plan;
+  blocks = blocks_begin plan;
+  handlers = handlers_begin plan;
+  wakes = wakes_begin plan;
+  marks = marks_begin plan;
+  totals = totals_begin plan valid;
+}
 
 pub ties_step : (plan : PlanView) (past : List Event) (e : Event) (v : MachineView) → IsPlan plan → IsLawful plan (e ∷ past) → AllTies plan past v → AllTies plan (e ∷ past) (after plan v e)
-ties_step plan past e v valid lawful t = record {
-  most = most_step plan past e v valid lawful t.most;
-  wakes = wakes_step plan past e v valid lawful t.most.parts t.most.own t.most.semas t.most.groups t.most.blocks t.wakes;
-}
+ties_step plan past e v valid lawful t =
+    let blocks = blocks_step plan past e v valid lawful t.parts t.own t.groups t.sources t.blocks in
+    let workers = workers_step plan past e v lawful t.own t.workers in
+    record {
+      same_plan = t.same_plan;
+      parts = parts_step plan v e t.parts;
+      own = own_step plan past e v valid lawful t.own blocks workers;
+      references = references_step plan past e v valid lawful t.parts.refs t.references;
+      lists = lists_step plan past e v valid lawful t.parts t.own t.groups t.blocks t.sources t.lists;
+      tree = tree_step plan past e v valid lawful t.parts t.own t.blocks t.tree;
+      holds = holds_step plan past e v valid lawful t.parts t.holds;
+      drains = drains_step plan past e v lawful t.parts t.own t.blocks t.drains;
+      groups = groups_step plan past e v valid lawful t.parts t.own t.groups t.blocks t.totals.len;
+      semas = semas_step plan past e v valid t.parts t.semas;
+      waits = waits_step plan past e v lawful t.parts t.totals.len t.semas t.waits;
+      sources = sources_step plan past e v valid lawful t.parts t.own t.holds t.sources t.timers;
+      timers = timers_step plan past e v valid lawful t.parts t.holds t.sources t.timers;
+      workers = workers;
+      blocks = blocks;
+      handlers = handlers_step plan past e v lawful t.own t.sources t.handlers;
+      wakes = wakes_step plan past e v valid lawful t.parts t.own t.semas t.groups t.blocks t.wakes;
+      marks = marks_step plan past e v valid lawful t.parts t.own t.groups t.blocks t.sources t.lists t.marks;
+      totals = totals_step plan past e v valid lawful t.parts t.own t.holds t.groups t.blocks t.sources t.totals;
+    }
+
+-- the view after a history
+abbrev pub view_of : PlanView → List Event → MachineView
+view_of plan [] = machine_of plan
+view_of plan (e ∷ past) = after plan (view_of plan past) e
 
 pub ties_stand : (plan : PlanView) (past : List Event) → IsPlan plan → IsLawful plan past → AllTies plan past (view_of plan past)
 ties_stand plan [] valid lawful = ties_begin plan valid

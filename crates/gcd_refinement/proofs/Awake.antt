@@ -12,7 +12,7 @@ use Rattle.gcd_plan.specs.declared.reason.Reason.{Reason}
 use Rattle.gcd_plan.specs.declared.reason.Reason.TheVariants.{Group as Empty, Rank}
 use Rattle.gcd_event.specs.declared.event.Event.{Event}
 use Rattle.gcd_history.specs.Semas.{first_value, signal_count}
-use Rattle.gcd_history.specs.Parked.{reason, may_wake}
+use Rattle.gcd_history.specs.Parked.{awaited, may_wake}
 use Rattle.gcd_history.specs.Permitted.{IsLawful}
 use Rattle.gcd_lists.specs.ListsView.{list_at, barrier_in, place_from, place_of}
 use Rattle.gcd_sync.specs.WaitsView.{reason_at}
@@ -24,6 +24,7 @@ use Rattle.gcd_refinement.proofs.GroupSleepers.{sleeper_parked}
 use Rattle.gcd_refinement.proofs.StepSleepers.{blocks_at}
 use Rattle.gcd_refinement.proofs.StepAsleep.{drop_nil}
 use Rattle.gcd_refinement.proofs.StepDue.{among, alone, either, split}
+use Rattle.gcd_plan.proofs.Places.{get_or-replicate_same}
 
 -- ## Places
 
@@ -57,11 +58,11 @@ place_in zero (x ∷ xs) b h =
 place_in (suc n) [] b h = cc
 place_in (suc n) (x ∷ xs) b h = let p = place_in n xs b h in let high = p.high in record { place = suc p.place; high = omega (arith, high); there = p.there }
 
-no_reason : (o : Option Reason) (r : Reason) → o ≡ None → o ≡ Some r → ⊥
-no_reason o r none some = let never : None ≡ Some r = sym none ∙ some in cc
+no_awaited : (o : Option Reason) (r : Reason) → o ≡ None → o ≡ Some r → ⊥
+no_awaited o r none some = let never : None ≡ Some r = sym none ∙ some in cc
 
 -- a block that is not parked sleeps at no object
-pub not_asleep : (plan : PlanView) (past : List Event) (v : MachineView) (b : Blk) (s : ℕ) → IsPlan plan → IsLawful plan past → WakesAre plan past v → reason plan past (Block b) ≡ None → among b (blocks_at v.sleepers s) ≡ false
+pub not_asleep : (plan : PlanView) (past : List Event) (v : MachineView) (b : Blk) (s : ℕ) → IsPlan plan → IsLawful plan past → WakesAre plan past v → awaited plan past (Block b) ≡ None → among b (blocks_at v.sleepers s) ≡ false
 not_asleep plan past v b s valid lawful ties awake =
     let n = first_value plan s + signal_count plan past s in
     let o : Obj = record { 0 = s } in
@@ -69,10 +70,10 @@ not_asleep plan past v b s valid lawful ties awake =
     ⊎_elim
     (λ at_sema.
     let p = place_in n (waiters plan past s) b at_sema in
-    no_reason (reason plan past (Block b)) (Rank o (p.place + 1)) awake (rank_from plan past b o p.place valid lawful p.there p.high))
+    no_awaited (awaited plan past (Block b)) (Rank o (p.place + 1)) awake (rank_from plan past b o p.place valid lawful p.there p.high))
     (λ at_group.
     let sleeps = sleeper_parked plan past b o lawful at_group in
-    no_reason (reason plan past (Block b)) (Empty o sleeps.position) awake sleeps.is)
+    no_awaited (awaited plan past (Block b)) (Empty o sleeps.position) awake sleeps.is)
     (split b (sema_sleepers plan past s) (group_sleepers plan past s) (ap (among b) (sym (ties.of_sema s)) ∙ h)))
 
 -- the clause `awake` of PlacesAre
@@ -83,16 +84,11 @@ awake_from plan past v b valid lawful waits ties none =
 
 -- ## The outset
 
-same_everywhere : {X : Type 0} (n b : ℕ) (x : X) → get_or (replicate n x) b x ≡ x
-same_everywhere zero b x = refl
-same_everywhere (suc n) zero x = refl
-same_everywhere (suc n) (suc b) x = same_everywhere n b x
-
 pub wakes_begin : (plan : PlanView) → WakesAre plan [] (machine_of plan)
-unfolding may_wake reason
+unfolding may_wake awaited
 wakes_begin plan = record {
-  due = λ b. same_everywhere (length plan.blocks) b false;
+  due = λ b. get_or-replicate_same (length plan.blocks) b false;
   of_sema = λ s.
-      ap (map (λ w. w.0)) (same_everywhere (length plan.objects) s [])
+      ap (map (λ w. w.0)) (get_or-replicate_same (length plan.objects) s [])
       ∙ ap (λ l. l ++ []) (sym (drop_nil (first_value plan s + signal_count plan [] s)));
 }

@@ -9,7 +9,7 @@ use Rattle.std.proofs.lemmas.Option.{slice_get_within}
 use Rattle.gcd_plan.proofs.Mapped.{get_or-mapped}
 use Rattle.gcd_plan.proofs.Options.{option_map_or-map}
 use Rattle.gcd_plan.specs.PlanView.{PlanView, ObjView, first_target}
-use Rattle.gcd_plan.specs.Kinds.{is_read_kind, is_queue}
+use Rattle.gcd_plan.specs.Kinds.{is_read_kind, is_queue, is_timer_kind}
 use Rattle.gcd_plan.specs.Validity.{IsPlan, has_fields}
 use Rattle.gcd_plan.specs.declared.kind.Kind.{Kind}
 use Rattle.gcd_plan.specs.declared.kind.Kind.TheVariants.{Read}
@@ -18,26 +18,22 @@ use Rattle.gcd_plan.specs.declared.numbers.Blk.{Blk}
 use Rattle.gcd_plan.specs.declared.numbers.Run.{Run}
 use Rattle.gcd_plan.specs.declared.numbers.Run.TheVariants.{Block}
 use Rattle.gcd_history.specs.declared.submission.Submission.{Submission}
-use Rattle.gcd_history.specs.Parked.{reason, has_run, may_wake, has_come}
+use Rattle.gcd_history.specs.Parked.{awaited, has_run, may_wake, has_come}
 use Rattle.gcd_history.specs.Semas.{first_value}
 use Rattle.gcd_history.specs.Sources.{is_live_feed}
 use Rattle.gcd_history.specs.Tree.{Aim}
 use Rattle.gcd_plan.proofs.Sums.{count_by-cons}
 use Rattle.gcd_history.proofs.SubmittedOnce.{object_fields}
-use Rattle.gcd_refinement.specs.MachineView.{idle, undelivered, machine_of, block_at, handler_at, at_worker, is_timer_kind}
+use Rattle.gcd_refinement.specs.MachineView.{idle, undelivered, machine_of, block_at, handler_at, at_worker}
 use Rattle.gcd_refinement.specs.declared.progress.BlockProgress.{BlockProgress}
 use Rattle.gcd_refinement.specs.declared.progress.HandlerProgress.{HandlerProgress}
 use Rattle.gcd_refinement.specs.Shape.{PartsFit, OwnFit}
 use Rattle.gcd_refinement.specs.Ties.{ReferencesAre, ListsAre, TreeIs, HoldsAre, DrainsAre, GroupsAre, SemasAre, WaitsAre, SourcesAre, TimersAre, WorkersAre, BlocksAre, HandlersAre, WakesAre, MarksAre, TotalsAre, told, is_run}
 use Rattle.gcd_refinement.proofs.StepMarks.{no_value}
-
--- each element is the default
-all_default : {X : Type 0} (n i : ℕ) (d : X) → get_or (replicate n d) i d ≡ d
-all_default n i d =
-    ⊎_elim
-    (λ (low : i < n). get_or-replicate n i d d low)
-    (λ (high : n ≤ i). get_or_past (replicate n d) i d (subst (λ k. k ≤ i) (sym (length-replicate n d)) high))
-    (cases_lt i n)
+use Rattle.gcd_plan.specs.Limits.{max_workers}
+use Rattle.gcd_history.proofs.Sums.{none_in}
+use Rattle.gcd_plan.proofs.Places.{get_or-replicate_same}
+use Rattle.gcd_history.proofs.TreeStands.{some_objects}
 
 -- ## The shape
 
@@ -77,14 +73,11 @@ parts_begin plan =
       cancellations = length-replicate n None;
     }
 
-some_object : (plan : PlanView) → IsPlan plan → 0 < length plan.objects
-some_object plan valid = slice_get_within plan.objects 0 _ valid.root
-
 idle_at : (plan : PlanView) (b : ℕ) → block_at (machine_of plan) b ≡ idle
-idle_at plan b = all_default (length plan.blocks) b idle
+idle_at plan b = get_or-replicate_same (length plan.blocks) b idle
 
 free_at : (plan : PlanView) (w : ℕ) → at_worker (machine_of plan) w ≡ None
-free_at plan w = all_default {X = Option Run} 64 w None
+free_at plan w = get_or-replicate_same {A = Option Run} max_workers w None
 
 pub own_begin : (plan : PlanView) → IsPlan plan → OwnFit plan (machine_of plan)
 own_begin plan valid =
@@ -98,10 +91,11 @@ own_begin plan valid =
       due = length-replicate m false;
       handlers = length-replicate n undelivered;
       busy = length-map plan.objects (λ o. is_timer_kind o.kind);
-      workers = length-replicate {A = Option Run} 64 None;
+      live = length-replicate n false;
+      workers = length-replicate {A = Option Run} max_workers None;
       nodes = λ b q at. absurd (some_none q (sym at ∙ ap (λ (x : BlockProgress). x.node) (idle_at plan b)));
       groups = λ b g at. absurd (some_none g (sym at ∙ ap (λ (x : BlockProgress). x.group) (idle_at plan b)));
-      homes = λ b. subst (λ (x : BlockProgress). x.home.0 < n) (sym (idle_at plan b)) (some_object plan valid);
+      homes = λ b. subst (λ (x : BlockProgress). x.home.0 < n) (sym (idle_at plan b)) (some_objects plan valid);
       callers = λ b c at. absurd (some_none c (sym at ∙ ap (λ (x : BlockProgress). x.caller) (idle_at plan b)));
       runs = λ w run at. absurd (some_none run (sym at ∙ free_at plan w));
     }
@@ -115,10 +109,10 @@ pub references_begin : (plan : PlanView) → ReferencesAre plan [] (machine_of p
 references_begin plan = record { counted = λ o low. let r = get_or-replicate {A = ℕ} (length plan.objects) o 1 0 low in omega (arith, r) }
 
 pub lists_begin : (plan : PlanView) → ListsAre plan [] (machine_of plan)
-lists_begin plan = record { waiting = λ n. all_default (length plan.objects) n [] }
+lists_begin plan = record { waiting = λ n. get_or-replicate_same (length plan.objects) n [] }
 
 pub tree_begin : (plan : PlanView) → TreeIs plan [] (machine_of plan)
-tree_begin plan = record { aims = λ o. aims_are o; runs = λ o. all_default (length plan.objects) o 0 }
+tree_begin plan = record { aims = λ o. aims_are o; runs = λ o. get_or-replicate_same (length plan.objects) o 0 }
   where
     abbrev_aim : ℕ → Option ℕ → Aim
     abbrev_aim t r = record { target = t; request = r }
@@ -129,48 +123,48 @@ tree_begin plan = record { aims = λ o. aims_are o; runs = λ o. all_default (le
         ∙ elim (slice_get plan.objects o) as (λ k. (option_map_or (λ (x : ObjView). x.target) k (record { 0 = 0 })).0 ≡ option_map_or (λ (x : ObjView). x.target.0) k 0) [ None ↦ refl | Some x ↦ refl ]
 
     aims_are : (o : ℕ) → ◌≡◌ {A = Aim} (record { target = (get_or (map (λ (x : ObjView). x.target) plan.objects) o (record { 0 = 0 })).0; request = option_map (λ (t : Obj). t.0) (get_or (replicate (length plan.objects) None) o None) }) (record { target = first_target plan o; request = None })
-    aims_are o = rw (target_is o, all_default {X = Option Obj} (length plan.objects) o None) refl
+    aims_are o = rw (target_is o, get_or-replicate_same {A = Option Obj} (length plan.objects) o None) refl
 
 pub holds_begin : (plan : PlanView) → HoldsAre plan [] (machine_of plan)
-holds_begin plan = record { holds = λ o. all_default (length plan.objects) o 0; active = λ o. get_or-mapped (λ (x : ObjView). x.active) plan.objects o false }
+holds_begin plan = record { holds = λ o. get_or-replicate_same (length plan.objects) o 0; active = λ o. get_or-mapped (λ (x : ObjView). x.active) plan.objects o false }
 
 pub drains_begin : (plan : PlanView) → DrainsAre plan [] (machine_of plan)
-drains_begin plan = record { barriers = λ n. all_default (length plan.objects) n 0 }
+drains_begin plan = record { barriers = λ n. get_or-replicate_same (length plan.objects) n 0 }
 
 pub groups_begin : (plan : PlanView) → GroupsAre plan [] (machine_of plan)
 groups_begin plan =
     let n = length plan.objects in
     record {
-      counts = λ g. all_default n g 0;
-      entered = λ g. let r = all_default {X = ℕ} n g 0 in omega (arith, r);
+      counts = λ g. get_or-replicate_same n g 0;
+      entered = λ g. let r = get_or-replicate_same {A = ℕ} n g 0 in omega (arith, r);
       empty = λ g p low. absurd (omega (arith, low));
-      emptied = λ g. let r = all_default {X = ℕ} n g 0 in omega (arith, r);
-      notify = λ g. ap (map (told (machine_of plan))) (all_default n g []);
-      fired = λ g. all_default n g 0;
+      emptied = λ g. let r = get_or-replicate_same {A = ℕ} n g 0 in omega (arith, r);
+      notify = λ g. ap (map (told (machine_of plan))) (get_or-replicate_same n g []);
+      fired = λ g. get_or-replicate_same n g 0;
     }
 
 pub semas_begin : (plan : PlanView) → SemasAre plan [] (machine_of plan)
-semas_begin plan = record { signals = λ s. all_default (length plan.objects) s 0; waits = λ s. all_default (length plan.objects) s 0 }
+semas_begin plan = record { signals = λ s. get_or-replicate_same (length plan.objects) s 0; waits = λ s. get_or-replicate_same (length plan.objects) s 0 }
 
-no_reason : (plan : PlanView) (b : ℕ) → reason plan [] (Block (record { 0 = b })) ≡ None
-unfolding reason
-no_reason plan b = refl
+no_awaited : (plan : PlanView) (b : ℕ) → awaited plan [] (Block (record { 0 = b })) ≡ None
+unfolding awaited
+no_awaited plan b = refl
 
 pub waits_begin : (plan : PlanView) → WaitsAre plan [] (machine_of plan)
-waits_begin plan = record { reasons = λ b. all_default (length plan.blocks) b None ∙ sym (no_reason plan b) }
+waits_begin plan = record { reasons = λ b. get_or-replicate_same (length plan.blocks) b None ∙ sym (no_awaited plan b) }
 
 pub sources_begin : (plan : PlanView) → SourcesAre plan [] (machine_of plan)
 sources_begin plan =
     let n = length plan.objects in
-    let taken : (s : ℕ) → (handler_at (machine_of plan) s).taken ≡ 0 = λ s. ap (λ (x : HandlerProgress). x.taken) (all_default n s undelivered) in
+    let taken : (s : ℕ) → (handler_at (machine_of plan) s).taken ≡ 0 = λ s. ap (λ (x : HandlerProgress). x.taken) (get_or-replicate_same n s undelivered) in
     record {
-      cancelled = λ s. all_default n s false;
-      pending = λ s. let r = all_default {X = ℕ} n s 0 in let t = taken s in let v = no_value plan s in omega (arith, r, t, v);
+      cancelled = λ s. get_or-replicate_same n s false;
+      pending = λ s. let r = get_or-replicate_same {A = ℕ} n s 0 in let t = taken s in let v = no_value plan s in omega (arith, r, t, v);
       taken = λ s. let t = taken s in omega (arith, t);
     }
 
 pub timers_begin : (plan : PlanView) → TimersAre plan [] (machine_of plan)
-timers_begin plan = record { moment = refl; activated = λ s. all_default (length plan.objects) s None; cancelled = λ s. all_default (length plan.objects) s None }
+timers_begin plan = record { moment = refl; activated = λ s. get_or-replicate_same (length plan.objects) s None; cancelled = λ s. get_or-replicate_same (length plan.objects) s None }
 
 no_run : (plan : PlanView) (w : ℕ) (run : Run) → has_run plan [] w run ≡ false
 unfolding has_run
@@ -189,7 +183,7 @@ blocks_begin plan =
       done = λ b. ap (λ (x : BlockProgress). x.done) (at b);
       group = λ b. ap (λ (x : BlockProgress). x.group) (at b);
       caller = λ b. ap (λ (x : BlockProgress). x.caller) (at b);
-      ended = λ b. all_default (length plan.blocks) b false;
+      ended = λ b. get_or-replicate_same (length plan.blocks) b false;
     }
   where
     main : Submission
@@ -205,17 +199,7 @@ blocks_begin plan =
 
 pub handlers_begin : (plan : PlanView) → HandlersAre plan [] (machine_of plan)
 handlers_begin plan =
-    record { done = λ s. ap (λ (x : HandlerProgress). x.done) (all_default (length plan.objects) s undelivered); given = λ s. ap (λ (x : HandlerProgress). x.given) (all_default (length plan.objects) s undelivered) }
-
-none_wakes : (plan : PlanView) (b : ℕ) → may_wake plan [] b ≡ false
-unfolding may_wake
-none_wakes plan b = ap (λ o. option_map_or (has_come plan []) o false) (no_reason plan b)
-
-pub wakes_begin : (plan : PlanView) → WakesAre plan [] (machine_of plan)
-wakes_begin plan = record {
-  due = λ b. all_default (length plan.blocks) b false ∙ sym (none_wakes plan b);
-  of_sema = λ s. ap (map (λ (w : Blk × Bool). w.0)) (all_default (length plan.objects) s []) ∙ sym (ap (λ (l : List Blk). l ++ []) (drop-nil {A = Blk} (first_value plan s + 0)));
-}
+    record { done = λ s. ap (λ (x : HandlerProgress). x.done) (get_or-replicate_same (length plan.objects) s undelivered); given = λ s. ap (λ (x : HandlerProgress). x.given) (get_or-replicate_same (length plan.objects) s undelivered) }
 
 pub marks_begin : (plan : PlanView) → MarksAre plan [] (machine_of plan)
 marks_begin plan = record {
@@ -244,19 +228,11 @@ not_live plan s valid =
     and_true true false h = refl
     and_true false a h = refl
 
-none_live : (p : ℕ → Bool) (a n : ℕ) → ((s : ℕ) → p s ≡ false) → count_by p (range_with_len a n) ≡ 0
-none_live p a zero none = refl
-none_live p a (suc n) none =
-    let here = ap (λ t. cond {A = ℕ} t 1 0) (none a) in
-    let rest = none_live p (a + 1) n none in
-    let c = count_by-cons p a (range_with_len (a + 1) n) in
-    omega (arith, here, rest, c)
-
 pub totals_begin : (plan : PlanView) → IsPlan plan → TotalsAre plan [] (machine_of plan)
 totals_begin plan valid = record {
   running = refl;
   left = refl;
-  feeds = sym (none_live (is_live_feed plan []) 0 (length plan.objects) (λ s. not_live plan s valid));
+  live = λ s. get_or-replicate_same (length plan.objects) s false ∙ sym (not_live plan s valid);
   misused = refl;
   halted = refl;
   len = refl;

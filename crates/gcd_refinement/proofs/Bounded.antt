@@ -24,26 +24,24 @@ use Rattle.gcd_history.specs.Permitted.{IsLawful, is_feed}
 use Rattle.gcd_history.specs.Sources.{fold_of, merged_by, input, delivers, new_inputs, pending}
 use Rattle.gcd_history.specs.Timers.{now, is_due}
 use Rattle.gcd_plan.proofs.Sums.{count_by-cons}
-use Rattle.gcd_history.proofs.Sums.{sum_range_le, sum_range_less, sum_range-add, sum_range_one}
-use Rattle.gcd_history.proofs.SubmittedOnce.{is_of, submitted_once, submitted_within}
+use Rattle.gcd_history.proofs.Sums.{sum_range_le, sum_range_less, sum_range-add, sum_range_one, ones}
+use Rattle.gcd_history.proofs.SubmittedOnce.{is_of, submitted_once, submitted_within, all_counted}
 use Rattle.gcd_history.proofs.Reasons.{allowed}
 use Rattle.gcd_history.proofs.SubmittedOnNodes.{recorded_fits}
 use Rattle.gcd_source.specs.SourcesView.{pending_at}
 use Rattle.gcd_tree.specs.TreeView.{open_on_at}
 use Rattle.gcd_refinement.specs.MachineView.{MachineView}
 use Rattle.gcd_refinement.specs.Bounds.{NumbersAreSmall}
-use Rattle.gcd_refinement.proofs.MostTies.{MostTies}
+use Rattle.gcd_refinement.proofs.AllTies.{AllTies}
 use Rattle.gcd_refinement.proofs.Small.{few_open, most_small, fewer}
+use Rattle.gcd_plan.specs.Limits.{max_value, max_time}
+use Rattle.gcd_source.proofs.Merges.{folded_below}
 
 -- ## Sums over numbers
 
 zeros : (a n : ℕ) → sum_by (λ k. 0) (range_with_len a n) ≡ 0
 zeros a zero = refl
 zeros a (suc n) = let step = sum_by-cons (λ k. 0) a (range_with_len (a + 1) n) in let rest = zeros (a + 1) n in omega (arith, step, rest)
-
-ones : (a n : ℕ) → sum_by (λ k. 1) (range_with_len a n) ≡ n
-ones a zero = refl
-ones a (suc n) = let step = sum_by-cons (λ k. 1) a (range_with_len (a + 1) n) in let rest = ones (a + 1) n in omega (arith, step, rest)
 
 same_range : (f g : ℕ → ℕ) (a n : ℕ) → ((k : ℕ) → f k ≡ g k) → sum_by f (range_with_len a n) ≤ sum_by g (range_with_len a n)
 same_range f g a n same = sum_range_le f g a n (λ k. let s = same k in omega (arith, s))
@@ -83,7 +81,7 @@ few_on plan past n =
     let few = few_open past in
     omega (arith, apart, few)
 
-pub runs_small : (plan : PlanView) (past : List Event) (v : MachineView) → MostTies plan past v → sum v.tree.open_on ≤ length past
+pub runs_small : (plan : PlanView) (past : List Event) (v : MachineView) → AllTies plan past v → sum v.tree.open_on ≤ length past
 runs_small plan past v t =
     let each = sum_within v.tree.open_on (open_on plan past) 0 (λ o.
     let is = t.tree.runs o in
@@ -94,19 +92,7 @@ runs_small plan past v t =
 
 -- ## What is left
 
--- each element has a number below n
-all_counted : (xs : List Submission) (n : ℕ) → ((k : ℕ) → n ≤ k → count_by (is_of k) xs ≡ 0) → length xs ≤ sum_by (λ k. count_by (is_of k) xs) (range_with_len 0 n)
-all_counted [] n none = omega arith
-all_counted (x ∷ xs) n none =
-    let b = x.blk.0 in
-    let rest = all_counted xs n (λ k high. let c = count_by-cons (is_of k) x xs in let z = none k high in omega (arith, c, z)) in
-    let here : count_by (is_of b) (x ∷ xs) ≡ 1 + count_by (is_of b) xs = count_by-cons (is_of b) x xs ∙ ap (λ v. cond {A = ℕ} v 1 0 + count_by (is_of b) xs) (eq-eqb b b refl) in
-    let low : b < n = ⊎_elim (λ (l : b < n). l) (λ (high : n ≤ b). let z = none b high in absurd (omega (arith, here, z))) (cases_lt b n) in
-    let more = sum_range_less (λ k. count_by (is_of k) xs) (λ k. count_by (is_of k) (x ∷ xs)) 0 n b 1
-    (λ k. let c = count_by-cons (is_of k) x xs in omega (arith, c)) (omega (arith, here)) (omega arith) (omega (arith, low)) in
-    omega (arith, rest, more)
-
-some_blocks : (plan : PlanView) → IsPlan plan → 1 ≤ length plan.blocks
+pub some_blocks : (plan : PlanView) → IsPlan plan → 1 ≤ length plan.blocks
 some_blocks plan valid =
     elim plan.blocks as (λ l. option_map (λ b. b.name) (slice_get l 0) ≡ Some (codes "main") → 1 ≤ length l) [
       | [] ↦ λ k. cc
@@ -125,7 +111,7 @@ few_submitted plan past valid lawful =
     let long = ones 0 n in
     omega (arith, all, once, long)
 
-pub left_small : (plan : PlanView) (past : List Event) (v : MachineView) → IsPlan plan → IsLawful plan past → MostTies plan past v → v.left ≤ length plan.blocks
+pub left_small : (plan : PlanView) (past : List Event) (v : MachineView) → IsPlan plan → IsLawful plan past → AllTies plan past v → v.left ≤ length plan.blocks
 left_small plan past v valid lawful t =
     let h = t.totals.left in
     let f = count_by-le-length (λ s. not (is_ended past s.blk.0)) (submitted plan past) in
@@ -134,16 +120,11 @@ left_small plan past v valid lawful t =
 
 -- ## What is pending
 
--- joined or added, two values are at most their sum
-low_folded : (kind : Kind) (a b : ℕ) → folded kind a b ≤ a + b
-low_folded Or a b = let both = or_add_and a b in omega (arith, both)
-low_folded kind a b = omega arith
-
 low_fold : (kind : Kind) (a : ℕ) (xs : List ℕ) → fold (folded kind) a xs ≤ a + sum xs
 low_fold kind a [] = omega arith
 low_fold kind a (x ∷ xs) =
     let rest = low_fold kind (folded kind a x) xs in
-    let here = low_folded kind a x in
+    let here = folded_below kind a x in
     let step : sum (x ∷ xs) ≡ x + sum xs = sum_by-cons (λ y. y) x xs in
     omega (arith, rest, here, step)
 
@@ -154,22 +135,22 @@ sum_of_ones (y ∷ ys) =
     let rest = sum_of_ones ys in
     omega (arith, step, rest)
 
-merge_low : (plan : PlanView) (s : ℕ) (o : Option Act) → ((act : Act) → o ≡ Some act → is_act plan act ≡ true) → sum (merged_by s o) ≤ 2147483647
+merge_low : (plan : PlanView) (s : ℕ) (o : Option Act) → ((act : Act) → o ≡ Some act → is_act plan act ≡ true) → sum (merged_by s o) ≤ max_value
 merge_low plan s (Some (Merge t n)) fine =
-    let low = leb-true n 2147483647 (and_parts (has_kind is_merge_kind plan t.0) _ (fine (Merge t n) refl)).1 in
-    elim (t.0 == s) as (λ u. sum (cond u (cond (n == 0) [] (n ∷ [])) []) ≤ 2147483647) [
-      | true ↦ elim (n == 0) as (λ u. sum (cond u [] (n ∷ [])) ≤ 2147483647) [ true ↦ omega arith | false ↦ omega (arith, low) ]
+    let low = leb-true n max_value (and_parts (has_kind is_merge_kind plan t.0) _ (fine (Merge t n) refl)).1 in
+    elim (t.0 == s) as (λ u. sum (cond u (cond (n == 0) [] (n ∷ [])) []) ≤ max_value) [
+      | true ↦ elim (n == 0) as (λ u. sum (cond u [] (n ∷ [])) ≤ max_value) [ true ↦ omega arith | false ↦ omega (arith, low) ]
       | false ↦ omega arith
     ]
 merge_low plan s o fine = omega arith
 
 -- an event adds less than 2^31
-input_low : (plan : PlanView) (past : List Event) (e : Event) (s : ℕ) → IsPlan plan → IsLawful plan (e ∷ past) → sum (input plan past e s) ≤ 2147483647
+input_low : (plan : PlanView) (past : List Event) (e : Event) (s : ℕ) → IsPlan plan → IsLawful plan (e ∷ past) → sum (input plan past e s) ≤ max_value
 input_low plan past (Ready t n) s valid lawful =
-    let low = leb-true n 2147483647 (and_parts (ltb 0 n) _ (and_parts (is_feed plan t.0) _ (allowed plan past (Ready t n) lawful.1).known).1).1 in
-    elim (t.0 == s) as (λ u. sum (cond u (n ∷ []) []) ≤ 2147483647) [ true ↦ omega (arith, low) | false ↦ omega arith ]
+    let low = leb-true n max_value (and_parts (ltb 0 n) _ (and_parts (is_feed plan t.0) _ (allowed plan past (Ready t n) lawful.1).known).1).1 in
+    elim (t.0 == s) as (λ u. sum (cond u (n ∷ []) []) ≤ max_value) [ true ↦ omega (arith, low) | false ↦ omega arith ]
 input_low plan past (Tick t) s valid lawful =
-    let low = leb-true t 86400000 (and_parts (ltb 0 t) _ (allowed plan past (Tick t) lawful.1).known).1 in
+    let low = leb-true t max_time (and_parts (ltb 0 t) _ (allowed plan past (Tick t) lawful.1).known).1 in
     let times = range_with_len (now past + 1) (t - now past) in
     let long : length times ≡ t - now past = length-range_with_len (now past + 1) (t - now past) in
     let few = fewer (is_due plan past s) times in
@@ -177,26 +158,26 @@ input_low plan past (Tick t) s valid lawful =
     omega (arith, low, long, few, all)
 input_low plan past e s valid lawful = merge_low plan s (act_of plan e) (λ act at. recorded_fits plan e act valid at)
 
-inputs_low : (plan : PlanView) (past : List Event) (s : ℕ) → IsPlan plan → IsLawful plan past → sum (new_inputs plan past s) ≤ length past * 2147483647
+inputs_low : (plan : PlanView) (past : List Event) (s : ℕ) → IsPlan plan → IsLawful plan past → sum (new_inputs plan past s) ≤ length past * max_value
 inputs_low plan [] s valid lawful = omega arith
 inputs_low plan (e ∷ past) s valid lawful =
     let rest = inputs_low plan past s valid lawful.0 in
     let here = input_low plan past e s valid lawful in
     let both : sum (new_inputs plan past s ++ input plan past e s) ≡ sum (new_inputs plan past s) + sum (input plan past e s) = sum_by-append (λ y. y) (new_inputs plan past s) (input plan past e s) in
-    elim (delivers s e) as (λ u. sum (cond u [] (new_inputs plan past s ++ input plan past e s)) ≤ suc (length past) * 2147483647) [
+    elim (delivers s e) as (λ u. sum (cond u [] (new_inputs plan past s ++ input plan past e s)) ≤ suc (length past) * max_value) [
       | true ↦ omega arith
       | false ↦ omega (arith, rest, here, both)
     ]
 
-pending_low : (plan : PlanView) (past : List Event) (s : ℕ) → IsPlan plan → IsLawful plan past → pending plan past s ≤ length past * 2147483647
+pending_low : (plan : PlanView) (past : List Event) (s : ℕ) → IsPlan plan → IsLawful plan past → pending plan past s ≤ length past * max_value
 pending_low plan past s valid lawful =
     let low = inputs_low plan past s valid lawful in
-    elim (kind_of plan s) as (λ o. option_map_or (λ kind. fold_of kind (new_inputs plan past s)) o 0 ≤ length past * 2147483647) [
+    elim (kind_of plan s) as (λ o. option_map_or (λ kind. fold_of kind (new_inputs plan past s)) o 0 ≤ length past * max_value) [
       | None ↦ omega arith
       | Some kind ↦ let f = low_fold kind 0 (new_inputs plan past s) in omega (arith, f, low)
     ]
 
-pub pending_small : (plan : PlanView) (past : List Event) (v : MachineView) → IsPlan plan → IsLawful plan past → MostTies plan past v → (s : ℕ) → pending_at v.sources s ≤ length past * 2147483647
+pub pending_small : (plan : PlanView) (past : List Event) (v : MachineView) → IsPlan plan → IsLawful plan past → AllTies plan past v → (s : ℕ) → pending_at v.sources s ≤ length past * max_value
 pending_small plan past v valid lawful t s =
     let p = t.sources.pending s in
     let taken = t.sources.taken s in
@@ -205,7 +186,7 @@ pending_small plan past v valid lawful t s =
 
 -- ## All bounds
 
-pub numbers_small : (plan : PlanView) (past : List Event) (v : MachineView) → IsPlan plan → IsLawful plan past → MostTies plan past v → NumbersAreSmall plan past v
+pub numbers_small : (plan : PlanView) (past : List Event) (v : MachineView) → IsPlan plan → IsLawful plan past → AllTies plan past v → NumbersAreSmall plan past v
 numbers_small plan past v valid lawful t =
     let m = most_small plan past v lawful t in
     record {
@@ -223,5 +204,4 @@ numbers_small plan past v valid lawful t =
       handler_acts = m.handler_acts;
       running = m.running;
       left = left_small plan past v valid lawful t;
-      feeds = m.feeds;
     }

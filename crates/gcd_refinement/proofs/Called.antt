@@ -14,7 +14,7 @@ use Rattle.gcd_plan.specs.declared.reason.Reason.TheVariants.{Block as EndOf}
 use Rattle.gcd_event.specs.declared.event.Event.{Event}
 use Rattle.gcd_event.specs.declared.event.Event.TheVariants.{Act as Acted}
 use Rattle.gcd_history.specs.Runs.{act_at, is_ended, ends}
-use Rattle.gcd_history.specs.Parked.{reason_by, reason, has_come}
+use Rattle.gcd_history.specs.Parked.{awaited_by, awaited, has_come}
 use Rattle.gcd_history.specs.Permitted.{IsLawful}
 use Rattle.gcd_history.specs.Submitted.{submitted, submission_of, new_submissions, submitted_by, at_cancel, at_empty, cancels}
 use Rattle.gcd_history.proofs.Lists.{find_from_any, any_from_find, any_left, any_right}
@@ -75,7 +75,7 @@ called_goes_on plan past e c valid lawful h =
 end_of_same : (d c : Blk) → Some (EndOf d) ≡ Some (EndOf c) → d ≡ c
 end_of_same d c h = cc
 
-call_is : (plan : PlanView) (past : List Event) (d b c : Blk) (act : Option Act) → (d.0 == b.0) ≡ true → reason_by plan past act ≡ Some (EndOf c) → called_by c.0 d act ≡ Some b
+call_is : (plan : PlanView) (past : List Event) (d b c : Blk) (act : Option Act) → (d.0 == b.0) ≡ true → awaited_by plan past act ≡ Some (EndOf c) → called_by c.0 d act ≡ Some b
 call_is plan past d b c (Some (Sync q f)) same h =
     let t = eq-eqb f.0 c.0 (ap (λ k. k.0) (end_of_same f c h)) in
     ap (λ v. cond v (Some d) None) t ∙ ap (λ n. Some (record { 0 = n })) (eqb-true d.0 b.0 same)
@@ -86,7 +86,7 @@ call_is plan past d b c _ same h = cc
 
 pub now_called : (plan : PlanView) (past : List Event) (e : Event) (b c : Blk) → parked_now plan past e b.0 ≡ Some (EndOf c) → calls plan c.0 e ≡ Some b
 now_called plan past (Acted w (Block d) i) b c h =
-    elim (d.0 == b.0) as (λ v. d.0 == b.0 ≡ v → cond v (reason_by plan past (act_at plan (Block d) i)) None ≡ Some (EndOf c) → called_by c.0 d (act_at plan (Block d) i) ≡ Some b) [
+    elim (d.0 == b.0) as (λ v. d.0 == b.0 ≡ v → cond v (awaited_by plan past (act_at plan (Block d) i)) None ≡ Some (EndOf c) → called_by c.0 d (act_at plan (Block d) i) ≡ Some b) [
       | true ↦ λ same k. call_is plan past d b c (act_at plan (Block d) i) same k
       | false ↦ λ other k. cc
     ] refl h
@@ -101,7 +101,7 @@ one_call d b f c h =
       | false ↦ λ other k. cc
     ] refl h
 
-call_parks : (plan : PlanView) (past : List Event) (d b c : Blk) (act : Option Act) → called_by c.0 d act ≡ Some b → cond (d.0 == b.0) (reason_by plan past act) None ≡ Some (EndOf c)
+call_parks : (plan : PlanView) (past : List Event) (d b c : Blk) (act : Option Act) → called_by c.0 d act ≡ Some b → cond (d.0 == b.0) (awaited_by plan past act) None ≡ Some (EndOf c)
 call_parks plan past d b c (Some (Sync q f)) h = one_call d b f c h
 call_parks plan past d b c (Some (BarrierSync q f)) h = one_call d b f c h
 call_parks plan past d b c _ h = cc
@@ -113,13 +113,13 @@ called_now plan past e b c h = cc
 -- ## The caller
 
 -- who is parked for the end of c is its caller
-pub caller_from_reason : (plan : PlanView) (past : List Event) (b c : Blk) → IsPlan plan → IsLawful plan past → reason plan past (Block b) ≡ Some (EndOf c) → caller_of plan past c.0 ≡ Some b
-caller_from_reason plan [] b c valid lawful is = let facts = parked_facts plan [] b (EndOf c) is in let no_run : false ≡ true = facts.live in cc
-caller_from_reason plan (e ∷ past) b c valid lawful is =
+pub caller_from_awaited : (plan : PlanView) (past : List Event) (b c : Blk) → IsPlan plan → IsLawful plan past → awaited plan past (Block b) ≡ Some (EndOf c) → caller_of plan past c.0 ≡ Some b
+caller_from_awaited plan [] b c valid lawful is = let facts = parked_facts plan [] b (EndOf c) is in let no_run : false ≡ true = facts.live in cc
+caller_from_awaited plan (e ∷ past) b c valid lawful is =
     ⊎_elim
     (λ new. ap (λ o. option_or o (caller_of plan past c.0)) (now_called plan past e b c new))
     (λ old.
-    let was = caller_from_reason plan past b c valid lawful.0 old in
+    let was = caller_from_awaited plan past b c valid lawful.0 old in
     elim (calls plan c.0 e) as (λ o. calls plan c.0 e ≡ o → option_or o (caller_of plan past c.0) ≡ Some b) [
       | None ↦ λ at. was
       | Some d ↦ λ at.
@@ -128,12 +128,12 @@ caller_from_reason plan (e ∷ past) b c valid lawful is =
     (parked_new plan past e b (EndOf c) is)
 
 -- and until that end its caller is parked for it
-pub reason_from_caller : (plan : PlanView) (past : List Event) (b c : Blk) → IsPlan plan → IsLawful plan past → caller_of plan past c.0 ≡ Some b → is_ended past c.0 ≡ false → reason plan past (Block b) ≡ Some (EndOf c)
+pub awaited_from_caller : (plan : PlanView) (past : List Event) (b c : Blk) → IsPlan plan → IsLawful plan past → caller_of plan past c.0 ≡ Some b → is_ended past c.0 ≡ false → awaited plan past (Block b) ≡ Some (EndOf c)
 unfolding has_come
-reason_from_caller plan [] b c valid lawful is goes = cc
-reason_from_caller plan (e ∷ past) b c valid lawful is goes =
+awaited_from_caller plan [] b c valid lawful is goes = cc
+awaited_from_caller plan (e ∷ past) b c valid lawful is goes =
     let on = (or_parts (ends c.0 e) (is_ended past c.0) goes).1 in
-    elim (calls plan c.0 e) as (λ o. calls plan c.0 e ≡ o → option_or o (caller_of plan past c.0) ≡ Some b → reason plan (e ∷ past) (Block b) ≡ Some (EndOf c)) [
-      | None ↦ λ at k. still_parked plan past e b (EndOf c) lawful (reason_from_caller plan past b c valid lawful.0 k on) on
+    elim (calls plan c.0 e) as (λ o. calls plan c.0 e ≡ o → option_or o (caller_of plan past c.0) ≡ Some b → awaited plan (e ∷ past) (Block b) ≡ Some (EndOf c)) [
+      | None ↦ λ at k. still_parked plan past e b (EndOf c) lawful (awaited_from_caller plan past b c valid lawful.0 k on) on
       | Some d ↦ λ at k. now_parked plan past e b (EndOf c) lawful (called_now plan past e b c (at ∙ k))
     ] refl is

@@ -5,7 +5,7 @@ use Rattle.std.specs.Option.{option_map_or}
 use Rattle.std.proofs.lemmas.Bool.{and_parts, or_parts, le-leb, leb-true, ltb-true, false_from_ne_true}
 use Rattle.std.proofs.lemmas.Option.{same_Some}
 use Rattle.gcd_plan.specs.PlanView.{PlanView, ObjView, kind_of}
-use Rattle.gcd_plan.specs.Kinds.{has_kind, is_source}
+use Rattle.gcd_plan.specs.Kinds.{has_kind, is_source, is_timer_kind}
 use Rattle.gcd_plan.specs.KindValues.{is_on_interval}
 use Rattle.gcd_plan.specs.Validity.{IsPlan, is_kind, is_object, has_path, has_fields}
 use Rattle.gcd_plan.specs.declared.kind.Kind.{Kind}
@@ -20,7 +20,8 @@ use Rattle.gcd_history.specs.Permitted.{IsLawful}
 use Rattle.gcd_plan.proofs.Quantifiers.{list_all_get}
 use Rattle.gcd_plan.proofs.Sums.{count_by-cons}
 use Rattle.gcd_history.proofs.Reasons.{at_tick}
-use Rattle.gcd_refinement.specs.MachineView.{is_timer_kind}
+use Rattle.gcd_plan.specs.Limits.{max_time}
+use Rattle.gcd_history.proofs.Sums.{none_in}
 
 -- how many due times timer s has had
 abbrev pub dues : PlanView → List Event → ℕ → ℕ
@@ -36,14 +37,6 @@ alike_range p q a (suc n) same =
     let left = count_by-cons p a (range_with_len (a + 1) n) in
     let right = count_by-cons q a (range_with_len (a + 1) n) in
     omega (arith, here, rest, left, right)
-
-none_in : (p : ℕ → Bool) (a n : ℕ) → ((t : ℕ) → p t ≡ false) → count_by p (range_with_len a n) ≡ 0
-none_in p a zero none = refl
-none_in p a (suc n) none =
-    let here = ap (λ v. cond {A = ℕ} v 1 0) (none a) in
-    let rest = none_in p (a + 1) n none in
-    let c = count_by-cons p a (range_with_len (a + 1) n) in
-    omega (arith, here, rest, c)
 
 -- a range in two
 range_in_two : (p : ℕ → Bool) (a m n : ℕ) → count_by p (range_with_len a (m + n)) ≡ count_by p (range_with_len a m) + count_by p (range_with_len (a + m) n)
@@ -76,28 +69,28 @@ kind_fits plan s kind valid at =
     ] refl at
 
 -- no time up to the one from which a timer counts is due
-early_beat : (kind : Kind) (from t : ℕ) → is_kind kind ≡ true → t ≤ from → is_on_interval kind from t ≡ false
-early_beat (Timer start every) from t fits early =
-    let some = leb-true 1 start (and_parts (leb 1 start) (leb start 86400000 && (leb 1 every && leb every 86400000)) fits).0 in
+early_interval : (kind : Kind) (from t : ℕ) → is_kind kind ≡ true → t ≤ from → is_on_interval kind from t ≡ false
+early_interval (Timer start every) from t fits early =
+    let some = leb-true 1 start (and_parts (leb 1 start) (leb start max_time && (leb 1 every && leb every max_time)) fits).0 in
     let late : leb (from + start) t ≡ false = false_from_ne_true (leb (from + start) t) (λ h. let l = leb-true (from + start) t h in absurd (omega (arith, l, some, early))) in
     ap (λ v. v && (t - (from + start)) % every == 0) late
-early_beat kind from t fits early = refl
+early_interval kind from t fits early = refl
 
-unbeaten : (kind : Kind) (from t : ℕ) → is_timer_kind kind ≡ false → is_on_interval kind from t ≡ false
-unbeaten (Timer start every) from t h = cc
-unbeaten kind from t h = refl
+no_interval : (kind : Kind) (from t : ℕ) → is_timer_kind kind ≡ false → is_on_interval kind from t ≡ false
+no_interval (Timer start every) from t h = cc
+no_interval kind from t h = refl
 
 -- ## What is due
 
--- the first half of is_due: the time is on a beat
-abbrev beats_by : PlanView → ℕ → ℕ → Option ℕ → Bool
-beats_by plan s t on = option_map_or (λ from. option_map_or (λ kind. is_on_interval kind from t) (kind_of plan s) false) on false
+-- the first half of is_due: the time is a multiple of the interval after the start
+abbrev on_interval_since : PlanView → ℕ → ℕ → Option ℕ → Bool
+on_interval_since plan s t on = option_map_or (λ from. option_map_or (λ kind. is_on_interval kind from t) (kind_of plan s) false) on false
 
-early_none : (plan : PlanView) (s t from : ℕ) → IsPlan plan → t ≤ from → beats_by plan s t (Some from) ≡ false
+early_none : (plan : PlanView) (s t from : ℕ) → IsPlan plan → t ≤ from → on_interval_since plan s t (Some from) ≡ false
 early_none plan s t from valid early =
     elim (kind_of plan s) as (λ o. kind_of plan s ≡ o → option_map_or (λ kind. is_on_interval kind from t) o false ≡ false) [
       | None ↦ λ k. refl
-      | Some kind ↦ λ k. early_beat kind from t (kind_fits plan s kind valid k) early
+      | Some kind ↦ λ k. early_interval kind from t (kind_fits plan s kind valid k) early
     ] refl
 
 -- what is no timer has no due time
@@ -105,25 +98,25 @@ pub no_due : (plan : PlanView) (past : List Event) (s t : ℕ) → has_kind is_t
 no_due plan past s t idle =
     ap (λ v. v && (leb t plan.until && option_map_or (λ end. leb t end) (cancelled_at plan past s) true)) (never (activated_at plan past s))
   where
-    never : (on : Option ℕ) → beats_by plan s t on ≡ false
+    never : (on : Option ℕ) → on_interval_since plan s t on ≡ false
     never None = refl
     never (Some from) =
         elim (kind_of plan s) as (λ o. option_map_or is_timer_kind o false ≡ false → option_map_or (λ kind. is_on_interval kind from t) o false ≡ false) [
           | None ↦ λ k. refl
-          | Some kind ↦ λ k. unbeaten kind from t k
+          | Some kind ↦ λ k. no_interval kind from t k
         ] idle
 
 pub no_dues : (plan : PlanView) (past : List Event) (s a n : ℕ) → has_kind is_timer_kind plan s ≡ false → count_by (is_due plan past s) (range_with_len a n) ≡ 0
 no_dues plan past s a n idle = none_in (is_due plan past s) a n (λ t. no_due plan past s t idle)
 
 -- what is not active was not activated, and what is not cancelled was not
-inactive_never : (plan : PlanView) (past : List Event) (s : ℕ) → is_active plan past s ≡ false → activated_at plan past s ≡ None
+pub inactive_never : (plan : PlanView) (past : List Event) (s : ℕ) → is_active plan past s ≡ false → activated_at plan past s ≡ None
 inactive_never plan [] s idle = refl
 inactive_never plan (e ∷ past) s idle =
     let parts = or_parts (is_active plan past s) (activates s (is_source plan s && hold plan past s == 0) (act_of plan e)) idle in
     ap (λ v. cond (v && not (is_active plan past s)) (Some (now past)) (activated_at plan past s)) idle ∙ inactive_never plan past s parts.0
 
-uncancelled_never : (plan : PlanView) (past : List Event) (s : ℕ) → is_cancelled plan past s ≡ false → cancelled_at plan past s ≡ None
+pub uncancelled_never : (plan : PlanView) (past : List Event) (s : ℕ) → is_cancelled plan past s ≡ false → cancelled_at plan past s ≡ None
 uncancelled_never plan [] s idle = refl
 uncancelled_never plan (e ∷ past) s idle =
     let parts = or_parts (option_map_or (λ t. t.0 == s) (cancels plan e) false) (is_cancelled plan past s) idle in
@@ -131,9 +124,9 @@ uncancelled_never plan (e ∷ past) s idle =
 
 -- an activation, and a cancellation, changes nothing that was due up to the present
 activation_later : (plan : PlanView) (past : List Event) (s t : ℕ) (on was : Bool) → IsPlan plan → t ≤ now past → (was ≡ false → activated_at plan past s ≡ None)
-    → beats_by plan s t (cond (on && not was) (Some (now past)) (activated_at plan past s)) ≡ beats_by plan s t (activated_at plan past s)
+    → on_interval_since plan s t (cond (on && not was) (Some (now past)) (activated_at plan past s)) ≡ on_interval_since plan s t (activated_at plan past s)
 activation_later plan past s t true true valid low never = refl
-activation_later plan past s t true false valid low never = early_none plan s t (now past) valid low ∙ ap (beats_by plan s t) (sym (never refl))
+activation_later plan past s t true false valid low never = early_none plan s t (now past) valid low ∙ ap (on_interval_since plan s t) (sym (never refl))
 activation_later plan past s t false was valid low never = refl
 
 cancellation_later : (plan : PlanView) (past : List Event) (s t : ℕ) (off was : Bool) → t ≤ now past → (was ≡ false → cancelled_at plan past s ≡ None)
@@ -147,7 +140,7 @@ pub due_kept : (plan : PlanView) (e : Event) (past : List Event) (s t : ℕ) →
 due_kept plan e past s t valid low =
     ap (λ v. v && (leb t plan.until && option_map_or (λ end. leb t end) (cancelled_at plan (e ∷ past) s) true))
     (activation_later plan past s t (is_active plan (e ∷ past) s) (is_active plan past s) valid low (inactive_never plan past s))
-    ∙ ap (λ v. beats_by plan s t (activated_at plan past s) && (leb t plan.until && v))
+    ∙ ap (λ v. on_interval_since plan s t (activated_at plan past s) && (leb t plan.until && v))
     (cancellation_later plan past s t (is_cancelled plan (e ∷ past) s) (is_cancelled plan past s) low (uncancelled_never plan past s))
 
 -- while time stands still
@@ -159,8 +152,8 @@ dues_kept plan e past s valid still =
 -- at a Tick nothing is activated or cancelled
 due_ticked : (plan : PlanView) (past : List Event) (s t k : ℕ) → is_due plan (Tick t ∷ past) s k ≡ is_due plan past s k
 due_ticked plan past s t k =
-    ap (λ o. beats_by plan s k o && (leb k plan.until && option_map_or (λ end. leb k end) (cancelled_at plan (Tick t ∷ past) s) true)) (on (is_active plan past s))
-    ∙ ap (λ o. beats_by plan s k (activated_at plan past s) && (leb k plan.until && option_map_or (λ end. leb k end) o true)) (off (is_cancelled plan past s))
+    ap (λ o. on_interval_since plan s k o && (leb k plan.until && option_map_or (λ end. leb k end) (cancelled_at plan (Tick t ∷ past) s) true)) (on (is_active plan past s))
+    ∙ ap (λ o. on_interval_since plan s k (activated_at plan past s) && (leb k plan.until && option_map_or (λ end. leb k end) o true)) (off (is_cancelled plan past s))
   where
     on : (a : Bool) → cond ((a || false) && not a) (Some (now past)) (activated_at plan past s) ≡ activated_at plan past s
     on true = refl

@@ -18,6 +18,7 @@ use Rattle.gcd_refinement.specs.Ties.{GroupsAre, BlocksAre}
 use Rattle.gcd_refinement.specs.Submits.{left_by, lessened, last_of, emptied_by}
 use Rattle.gcd_refinement.proofs.Members.{is_group}
 use Rattle.gcd_refinement.proofs.StepGroups.{CountsAre, counts_step, acts_count, end_counts, adds}
+use Rattle.gcd_refinement.proofs.StepSubmits.{counts_of}
 
 -- the group counts one less after the event, and no other counts less
 record Lessens (plan : PlanView) (past : List Event) (e : Event) (o : Option Obj) : Type 0 where
@@ -41,9 +42,6 @@ by_end plan past e o by = record {
   less = λ k is. let b = by k in let one = ap (λ v. cond {A = ℕ} v 1 0) is in omega (arith, b, one);
   more = λ k is. let b = by k in let one = ap (λ v. cond {A = ℕ} v 1 0) is in omega (arith, b, one);
 }
-
-pub counts_of : (plan : PlanView) (past : List Event) (v : MachineView) → GroupsAre plan past v → CountsAre plan past v.groups
-counts_of plan past v ties = record { counts = ties.counts; entered = ties.entered }
 
 -- how the event changes counts, where it is no End
 pub event_counts : (plan : PlanView) (past : List Event) (e : Event) (v : MachineView) → IsPlan plan → IsLawful plan (e ∷ past) → PartsFit plan v → OwnFit plan v → GroupsAre plan past v → BlocksAre plan past v

@@ -12,7 +12,7 @@ use Rattle.gcd_refinement.specs.After.{fired_times, all_fired, groups_by, member
 
 -- ## What fires
 
-fired_count : (n : ℕ) (groups : GroupsView) (g k : ℕ) → count_at (fired_times n groups g) k ≡ count_at groups k
+pub fired_count : (n : ℕ) (groups : GroupsView) (g k : ℕ) → count_at (fired_times n groups g) k ≡ count_at groups k
 fired_count zero groups g k = refl
 fired_count (suc n) groups g k = fired_count n (with_fired groups g) g k
 

@@ -14,7 +14,7 @@ use Rattle.gcd_event.specs.declared.event.Event.{Event}
 use Rattle.gcd_event.specs.declared.event.Event.TheVariants.{Act as Acted}
 use Rattle.gcd_history.specs.Runs.{act_at}
 use Rattle.gcd_history.specs.Groups.{count, is_empty_above}
-use Rattle.gcd_history.specs.Parked.{reason_by, reason, has_come}
+use Rattle.gcd_history.specs.Parked.{awaited_by, awaited, has_come}
 use Rattle.gcd_history.specs.Permitted.{IsLawful}
 use Rattle.gcd_history.proofs.Lists.{any_left, any_right}
 use Rattle.gcd_history.proofs.Woken.{parked_facts}
@@ -30,7 +30,7 @@ record NowSleeps (past : List Event) (b : Blk) (p : ℕ) (now : List Blk) : Type
   position : p ≡ length past
   new : now ≡ b ∷ []
 
-sleep_is : (plan : PlanView) (past : List Event) (d b : Blk) (g : Obj) (p : ℕ) (act : Option Act) → (d.0 == b.0) ≡ true → reason_by plan past act ≡ Some (Empty g p)
+sleep_is : (plan : PlanView) (past : List Event) (d b : Blk) (g : Obj) (p : ℕ) (act : Option Act) → (d.0 == b.0) ≡ true → awaited_by plan past act ≡ Some (Empty g p)
     → NowSleeps past b p (cond (waits_for_group g.0 act) (d ∷ []) [])
 sleep_is plan past d b g p (Some (GroupWait h)) same e =
     let parts = group_of_same h g (length past) p e in
@@ -42,13 +42,13 @@ sleep_is plan past d b g p _ same e = cc
 
 now_sleeps : (plan : PlanView) (past : List Event) (e : Event) (b : Blk) (g : Obj) (p : ℕ) → parked_now plan past e b.0 ≡ Some (Empty g p) → NowSleeps past b p (block_if (waits_for_group g.0) plan e)
 now_sleeps plan past (Acted w (Block d) i) b g p h =
-    elim (d.0 == b.0) as (λ v. d.0 == b.0 ≡ v → cond v (reason_by plan past (act_at plan (Block d) i)) None ≡ Some (Empty g p) → NowSleeps past b p (block_if (waits_for_group g.0) plan (Acted w (Block d) i))) [
+    elim (d.0 == b.0) as (λ v. d.0 == b.0 ≡ v → cond v (awaited_by plan past (act_at plan (Block d) i)) None ≡ Some (Empty g p) → NowSleeps past b p (block_if (waits_for_group g.0) plan (Acted w (Block d) i))) [
       | true ↦ λ same by. sleep_is plan past d b g p (act_at plan (Block d) i) same by
       | false ↦ λ other by. cc
     ] refl h
 now_sleeps plan past e b g p h = cc
 
-group_parks : (plan : PlanView) (past : List Event) (d b : Blk) (g : Obj) (act : Option Act) → list_any (λ c. c.0 == b.0) (cond (waits_for_group g.0 act) (d ∷ []) []) ≡ true → cond (d.0 == b.0) (reason_by plan past act) None ≡ Some (Empty g (length past))
+group_parks : (plan : PlanView) (past : List Event) (d b : Blk) (g : Obj) (act : Option Act) → list_any (λ c. c.0 == b.0) (cond (waits_for_group g.0 act) (d ∷ []) []) ≡ true → cond (d.0 == b.0) (awaited_by plan past act) None ≡ Some (Empty g (length past))
 group_parks plan past d b g (Some (GroupWait h)) any =
     elim (h.0 == g.0) as (λ v. h.0 == g.0 ≡ v → list_any (λ c. c.0 == b.0) (cond v (d ∷ []) []) ≡ true → cond (d.0 == b.0) (Some (Empty h (length past))) None ≡ Some (Empty g (length past))) [
       | true ↦ λ same k. parks (d.0 == b.0) k (ap (λ n. record { 0 = n }) (eqb-true h.0 g.0 same))
@@ -67,7 +67,7 @@ sleeps_now plan past e b g any = cc
 -- ## Positions
 
 -- a block is parked for a group since a position of the history
-pub parked_since : (plan : PlanView) (past : List Event) (b : Blk) (g : Obj) (p : ℕ) → reason plan past (Block b) ≡ Some (Empty g p) → p < length past
+pub parked_since : (plan : PlanView) (past : List Event) (b : Blk) (g : Obj) (p : ℕ) → awaited plan past (Block b) ≡ Some (Empty g p) → p < length past
 parked_since plan [] b g p is = let facts = parked_facts plan [] b (Empty g p) is in let no_run : false ≡ true = facts.live in cc
 parked_since plan (e ∷ past) b g p is =
     ⊎_elim
@@ -107,7 +107,7 @@ pub none_sleep : (plan : PlanView) (past : List Event) (g : ℕ) → count plan 
 none_sleep plan [] g h = refl
 none_sleep plan (e ∷ past) g h = ap (λ v. cond v [] (group_sleepers plan past g ++ block_if (waits_for_group g) plan e)) (eq-eqb (count plan (e ∷ past) g) 0 h)
 
-pub sleeps_from : (plan : PlanView) (past : List Event) (b : Blk) (g : Obj) (p : ℕ) → reason plan past (Block b) ≡ Some (Empty g p) → is_empty_above plan past g.0 p ≡ false
+pub sleeps_from : (plan : PlanView) (past : List Event) (b : Blk) (g : Obj) (p : ℕ) → awaited plan past (Block b) ≡ Some (Empty g p) → is_empty_above plan past g.0 p ≡ false
     → list_any (λ c. c.0 == b.0) (group_sleepers plan past g.0) ≡ true
 sleeps_from plan [] b g p is waits = let facts = parked_facts plan [] b (Empty g p) is in let no_run : false ≡ true = facts.live in cc
 sleeps_from plan (e ∷ past) b g p is waits =
@@ -126,7 +126,7 @@ sleeps_from plan (e ∷ past) b g p is waits =
 -- what a sleeper is parked for
 pub record Sleeps (plan : PlanView) (past : List Event) (b : Blk) (g : Obj) : Type 0 where
   pub position : ℕ
-  pub is : reason plan past (Block b) ≡ Some (Empty g position)
+  pub is : awaited plan past (Block b) ≡ Some (Empty g position)
   pub waits : is_empty_above plan past g.0 position ≡ false
 
 pub sleeper_parked : (plan : PlanView) (past : List Event) (b : Blk) (g : Obj) → IsLawful plan past → list_any (λ c. c.0 == b.0) (group_sleepers plan past g.0) ≡ true → Sleeps plan past b g

@@ -28,7 +28,6 @@ pub mod StepMarks
 pub mod Beginning
 pub mod StepParts
 pub mod StepOwn
-pub mod MostTies
 pub mod Small
 pub mod Bounded
 pub mod ParkedNew

@@ -16,7 +16,7 @@ use Rattle.gcd_history.specs.Submitted.{submitted, submission_of, notify_blocks}
 use Rattle.gcd_history.specs.Permitted.{IsLawful, waits_on}
 use Rattle.gcd_history.proofs.Lists.{any_from_find}
 use Rattle.gcd_plan.proofs.Sums.{count_by-cons, count_by_some}
-use Rattle.gcd_history.proofs.Sums.{sum_range_less}
+use Rattle.gcd_history.proofs.Sums.{sum_range_less, term_within}
 use Rattle.gcd_history.proofs.SubmittedOnce.{is_of, kept_once, submitted_once}
 use Rattle.gcd_lists.specs.ListsView.{list_at, barrier_in, place_of}
 use Rattle.gcd_lists.proofs.Places.{place_of_is, place_of_none}
@@ -28,14 +28,8 @@ use Rattle.gcd_refinement.proofs.Awake.{awake_from}
 
 -- ## A submitted block waits in no notify list
 
--- a term is within the sum
-term_within : (f : ℕ → ℕ) (n c : ℕ) → c < n → f c ≤ sum_by f (range_with_len 0 n)
-term_within f n c low =
-    let less = sum_range_less (λ k. 0) f 0 n c (f c) (λ k. omega arith) (omega arith) (omega arith) (omega (arith, low)) in
-    omega (arith, less)
-
 -- a block that is not counted is not in the list
-uncounted : (v : MachineView) (b : ℕ) (xs : List (Blk × Bool)) → count_by (is_of b) (map (told v) xs) ≡ 0 → barrier_in b xs ≡ None
+pub uncounted : (v : MachineView) (b : ℕ) (xs : List (Blk × Bool)) → count_by (is_of b) (map (told v) xs) ≡ 0 → barrier_in b xs ≡ None
 uncounted v b [] none = refl
 uncounted v b (x ∷ xs) none =
     let c = count_by-cons (is_of b) (told v x) (map (told v) xs) in

@@ -10,19 +10,11 @@ use Rattle.gcd_history.specs.Runs.{act_at, act_of}
 use Rattle.gcd_history.specs.Misuses.{first_code, is_released, named, misuse, act_misuses}
 use Rattle.gcd_history.specs.Permitted.{IsLawful, misuse_at}
 use Rattle.gcd_history.proofs.Reasons.{at_act}
-
--- where no code applies, the first does not, nor do the others
-pub code_none : (code : ℕ) (t : Bool) (rest : List (ℕ × Bool)) → is_some (first_code ((code, t) ∷ rest)) ≡ false → (t ≡ false) × (is_some (first_code rest) ≡ false)
-code_none code true rest h = cc
-code_none code false rest h = (refl, h)
-
-proper_at : (plan : PlanView) (past : List Event) (r : Run) (i : ℕ) (act : Act) → act_at plan r i ≡ Some act → is_some (misuse_at plan past r i) ≡ false → is_some (misuse plan past act) ≡ false
-unfolding misuse_at
-proper_at plan past r i act at h = ap (λ o. is_some (option_and_then (misuse plan past) o)) (sym at) ∙ h
+use Rattle.gcd_history.proofs.TargetActs.{code_none, no_misuse_at}
 
 -- the act that an event records is no misuse
 pub proper : (plan : PlanView) (past : List Event) (e : Event) (act : Act) → IsLawful plan (e ∷ past) → act_of plan e ≡ Some act → is_some (misuse plan past act) ≡ false
-proper plan past (Acted w r i) act h at = proper_at plan past r i act at (at_act plan past w r i h.1).proper
+proper plan past (Acted w r i) act h at = no_misuse_at plan past r i act at (at_act plan past w r i h.1).proper
 proper plan past _ act h at = cc
 
 -- it names no released object, and nothing else is wrong with it

@@ -29,7 +29,7 @@ use Rattle.gcd_group.specs.GroupsView.{count_at, entered_at}
 use Rattle.gcd_sema.specs.SemasView.{signals_at, waits_at}
 use Rattle.gcd_refinement.specs.MachineView.{MachineView, block_at, handler_at, refs_at}
 use Rattle.gcd_refinement.proofs.Members.{members}
-use Rattle.gcd_refinement.proofs.MostTies.{MostTies}
+use Rattle.gcd_refinement.proofs.AllTies.{AllTies}
 
 -- ## Over histories
 
@@ -108,9 +108,8 @@ pub record MostSmall (plan : PlanView) (past : List Event) (v : MachineView) : T
   pub block_acts : (b : ℕ) → (block_at v b).done ≤ length past
   pub handler_acts : (s : ℕ) → (handler_at v s).done ≤ length past
   pub running : v.running ≤ length past
-  pub feeds : v.feeds ≤ length plan.objects
 
-pub most_small : (plan : PlanView) (past : List Event) (v : MachineView) → IsLawful plan past → MostTies plan past v → MostSmall plan past v
+pub most_small : (plan : PlanView) (past : List Event) (v : MachineView) → IsLawful plan past → AllTies plan past v → MostSmall plan past v
 most_small plan past v lawful t =
     let open_few = few_open past in
     record {
@@ -129,5 +128,4 @@ most_small plan past v lawful t =
       block_acts = λ b. let h = t.blocks.done b in let f = few_acts past (Block (record { 0 = b })) in omega (arith, h, f);
       handler_acts = λ s. let h = t.handlers.done s in let f = few_acts past (Source (record { 0 = s })) in omega (arith, h, f);
       running = let h = t.totals.running in let f = few (λ run. is_none (parked_by plan past run)) (open_runs past) in omega (arith, h, f, open_few);
-      feeds = let h = t.totals.feeds in let f = few (is_live_feed plan past) (range_with_len 0 (length plan.objects)) in let n = length-range_with_len 0 (length plan.objects) in omega (arith, h, f, n);
     }

@@ -22,7 +22,7 @@ use Rattle.gcd_history.specs.Runs.{same_run, act_at, acts_done, is_started, is_e
 use Rattle.gcd_history.specs.Submitted.{submitted, new_submissions, submission_of}
 use Rattle.gcd_history.specs.Permitted.{IsLawful, is_worker, has_block}
 use Rattle.gcd_history.proofs.Counts.{count_unfound}
-use Rattle.gcd_history.proofs.Lists.{any_from_find}
+use Rattle.gcd_history.proofs.Lists.{any_from_find, none_found}
 use Rattle.gcd_plan.proofs.Sums.{count_by-cons, count_by-append, count_by_some}
 use Rattle.gcd_history.proofs.Reasons.{allowed, at_start}
 use Rattle.gcd_history.proofs.SubmittedOnNodes.{recorded_fits}
@@ -152,13 +152,6 @@ noted_none (s ∷ subs) blocks b none =
     let other : b ≡ s.blk.0 → ⊥ = λ same. let t = ap (λ u. cond {A = ℕ} u 1 0) (eq-eqb s.blk.0 b (sym same)) in omega (arith, c, t, none) in
     noted_none subs (noted blocks s) b (omega (arith, c, none))
     ∙ get_or-set_other blocks s.blk.0 b (record (get_or blocks s.blk.0 idle) { node = s.node; barrier = s.barrier }) idle other
-
-none_found : {X : Type 0} (p : X → Bool) (xs : List X) → count_by p xs ≡ 0 → find p xs ≡ None
-none_found p xs none =
-    elim (find p xs) as (λ o. find p xs ≡ o → o ≡ None) [
-      | None ↦ λ k. refl
-      | Some x ↦ λ k. let some = count_by_some p xs (any_from_find p xs (ap is_some k)) in absurd (omega (arith, some, none))
-    ] refl
 
 -- the block that is submitted once is what its submission says
 noted_is : {X : Type 0} (f : BlockProgress → X) (g : Submission → X) → ((y : BlockProgress) (s : Submission) → f (record y { node = s.node; barrier = s.barrier }) ≡ g s) → (subs : List Submission) (blocks : List BlockProgress) (b : ℕ) → b < length blocks

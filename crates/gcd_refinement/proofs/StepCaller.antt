@@ -72,7 +72,7 @@ arranged_keep blocks (Some (Notify g q c)) b = write_keeps (λ x. x.caller) bloc
 arranged_keep blocks _ b = refl
 
 -- the block that is called is of the plan
-submittable_within : (plan : PlanView) (c : Blk) → is_submittable plan c ≡ true → c.0 < length plan.blocks
+pub submittable_within : (plan : PlanView) (c : Blk) → is_submittable plan c ≡ true → c.0 < length plan.blocks
 submittable_within plan c h = ltb-true c.0 (length plan.blocks) (and_parts (nat_lt 0 c.0) (nat_lt c.0 (length plan.blocks)) h).1
 
 or_cond : (t : Bool) (d : Blk) (o : Option Blk) → cond t (Some d) o ≡ option_or (cond t (Some d) None) o

@@ -21,7 +21,7 @@ use Rattle.gcd_event.specs.declared.event.Event.TheVariants.{Act as Acted, End, 
 use Rattle.gcd_history.specs.Runs.{act_at, act_of, is_ended}
 use Rattle.gcd_history.specs.Groups.{count, is_empty_above}
 use Rattle.gcd_history.specs.Semas.{signals, first_value, signal_count, wait_count}
-use Rattle.gcd_history.specs.Parked.{reason_by, reason, has_come, may_wake}
+use Rattle.gcd_history.specs.Parked.{awaited_by, awaited, has_come, may_wake}
 use Rattle.gcd_history.specs.Permitted.{IsLawful}
 use Rattle.gcd_history.specs.Facts.{wakes}
 use Rattle.gcd_history.proofs.Lists.{any_right}
@@ -38,7 +38,7 @@ use Rattle.gcd_refinement.specs.Submits.{emptied_by, sleepers_at, come_at_once, 
 use Rattle.gcd_refinement.specs.After.{with_due, woken}
 use Rattle.gcd_refinement.proofs.Members.{is_group}
 use Rattle.gcd_refinement.proofs.ParkedNew.{parked_now, now_parked, still_parked}
-use Rattle.gcd_refinement.proofs.Called.{reason_from_caller}
+use Rattle.gcd_refinement.proofs.Called.{awaited_from_caller}
 use Rattle.gcd_refinement.proofs.Waiters.{not_yet, rank_from}
 use Rattle.gcd_refinement.proofs.GroupSleepers.{parked_since, sleeper_parked}
 use Rattle.gcd_refinement.proofs.KindsSleep.{group_is_no_semaphore}
@@ -136,19 +136,19 @@ fold_long due (x ∷ xs) = fold_long (set due x.0 true) xs ∙ length-set due x.
 
 -- ## May wake
 
-pub may_from : (plan : PlanView) (past : List Event) (b : Blk) (r : Reason) → reason plan past (Block b) ≡ Some r → has_come plan past r ≡ true → may_wake plan past b.0 ≡ true
+pub may_from : (plan : PlanView) (past : List Event) (b : Blk) (r : Reason) → awaited plan past (Block b) ≡ Some r → has_come plan past r ≡ true → may_wake plan past b.0 ≡ true
 unfolding may_wake
 may_from plan past b r is come = ap (λ o. option_map_or (has_come plan past) o false) is ∙ come
 
 pub record MayWake (plan : PlanView) (past : List Event) (b : Blk) : Type 0 where
   pub why : Reason
-  pub is : reason plan past (Block b) ≡ Some why
+  pub is : awaited plan past (Block b) ≡ Some why
   pub come : has_come plan past why ≡ true
 
 pub may_parts : (plan : PlanView) (past : List Event) (b : Blk) → may_wake plan past b.0 ≡ true → MayWake plan past b
 unfolding may_wake
 may_parts plan past b may =
-    elim (reason plan past (Block b)) as (λ o. reason plan past (Block b) ≡ o → option_map_or (has_come plan past) o false ≡ true → MayWake plan past b) [
+    elim (awaited plan past (Block b)) as (λ o. awaited plan past (Block b) ≡ o → option_map_or (has_come plan past) o false ≡ true → MayWake plan past b) [
       | None ↦ λ is h. cc
       | Some r ↦ λ is h. record { why = r; is = is; come = h }
     ] refl may
@@ -204,7 +204,7 @@ caller_wakes plan past w c v b bf any =
       | None ↦ λ at h. cc
       | Some d ↦ λ at h.
           let called : caller_of plan past c.0 ≡ Some b = sym (bf.blocks.caller c.0) ∙ (at ∙ ap Some (alone d b h)) in
-          let is = reason_from_caller plan past b c bf.valid bf.lawful.0 called goes in
+          let is = awaited_from_caller plan past b c bf.valid bf.lawful.0 called goes in
           may_from plan (End w c ∷ past) b (EndOf c) (still_parked plan past (End w c) b (EndOf c) bf.lawful is goes)
           (or_left (c.0 == c.0) (is_ended past c.0) (eq-eqb c.0 c.0 refl))
     ] refl any
@@ -240,7 +240,7 @@ once_wakes plan past w d i v b (Some (Wait s)) bf at any =
           let m = bf.semas.waits s.0 in
           let c = count_by-cons (λ x. signals s.0 (act_of plan x)) e past in
           let now : parked_now plan past e b.0 ≡ Some (Rank s (wait_count plan past s.0 + 1)) =
-          ap (λ u. cond u (reason_by plan past (act_at plan (Block d) i)) None) (eq-eqb d.0 b.0 (ap (λ k. k.0) (alone d b h))) ∙ ap (reason_by plan past) at in
+          ap (λ u. cond u (awaited_by plan past (act_at plan (Block d) i)) None) (eq-eqb d.0 b.0 (ap (λ k. k.0) (alone d b h))) ∙ ap (awaited_by plan past) at in
           may_from plan (e ∷ past) b (Rank s (wait_count plan past s.0 + 1)) (now_parked plan past e b (Rank s (wait_count plan past s.0 + 1)) bf.lawful now)
           (le-leb (wait_count plan past s.0 + 1) (first_value plan s.0 + signal_count plan (e ∷ past) s.0) (omega (arith, low, f, g, m, c)))
       | false ↦ λ waits h. cc
@@ -255,7 +255,7 @@ once_wakes plan past w d i v b (Some (GroupWait g)) bf at any =
           let zero_now : count plan (e ∷ past) g.0 ≡ 0 = omega (arith, was, c, n) in
           let low : length past < length (e ∷ past) = omega arith in
           let now : parked_now plan past e b.0 ≡ Some (Empty g (length past)) =
-          ap (λ u. cond u (reason_by plan past (act_at plan (Block d) i)) None) (eq-eqb d.0 b.0 (ap (λ k. k.0) (alone d b h))) ∙ ap (reason_by plan past) at in
+          ap (λ u. cond u (awaited_by plan past (act_at plan (Block d) i)) None) (eq-eqb d.0 b.0 (ap (λ k. k.0) (alone d b h))) ∙ ap (awaited_by plan past) at in
           may_from plan (e ∷ past) b (Empty g (length past)) (now_parked plan past e b (Empty g (length past)) bf.lawful now)
           (or_left (nat_lt (length past) (length (e ∷ past)) && count plan (e ∷ past) g.0 == 0) (is_empty_above plan past g.0 (length past))
           (ap (λ u. u && count plan (e ∷ past) g.0 == 0) (lt-ltb (length past) (length (e ∷ past)) low) ∙ eq-eqb (count plan (e ∷ past) g.0) 0 zero_now))

@@ -26,14 +26,12 @@ use Rattle.gcd_refinement.specs.Sleepers.{grouped, group_of}
 use Rattle.gcd_refinement.specs.Ties.{BlocksAre}
 use Rattle.gcd_refinement.specs.After.{fired_times, groups_by, member_ended, groups_after}
 use Rattle.gcd_refinement.proofs.Writes.{one_more, one_less}
-use Rattle.gcd_refinement.proofs.Proper.{proper, proper_parts, code_none}
+use Rattle.gcd_refinement.proofs.Proper.{proper, proper_parts}
 use Rattle.gcd_refinement.proofs.Members.{members, is_group, member_once, unended, without}
+use Rattle.gcd_refinement.proofs.GroupMoves.{fired_count}
+use Rattle.gcd_history.proofs.TargetActs.{code_none}
 
 -- ## What fires counts nothing
-
-fired_counts : (n : ℕ) (groups : GroupsView) (g k : ℕ) → count_at (fired_times n groups g) k ≡ count_at groups k
-fired_counts zero groups g k = refl
-fired_counts (suc n) groups g k = fired_counts n (with_fired groups g) g k
 
 fired_entered : (n : ℕ) (groups : GroupsView) (g k : ℕ) → entered_at (fired_times n groups g) k ≡ entered_at groups k
 fired_entered zero groups g k = refl
@@ -60,9 +58,9 @@ counts_by groups at (Some (Leave g)) k n fits e =
     let f = fits.gone g refl in
     let view = with_entered (with_one_less groups g.0 at) g.0 (entered_at groups g.0 - 1) in
     let m = one_less groups.counts g.0 k n f.0 f.2 e in
-    let c = fired_counts (slice_index view.due g.0) view g.0 k in omega (arith, m, c)
+    let c = fired_count (slice_index view.due g.0) view g.0 k in omega (arith, m, c)
 counts_by groups at (Some (Notify g q b)) k n fits e =
-    let view = with_notify groups g.0 b in let c = fired_counts (slice_index view.due g.0) view g.0 k in omega (arith, c, e)
+    let view = with_notify groups g.0 b in let c = fired_count (slice_index view.due g.0) view g.0 k in omega (arith, c, e)
 counts_by groups at _ k n fits e = omega (arith, e)
 
 entered_by : (groups : GroupsView) (at : ℕ) (act : Option Act) (k n : ℕ) → Fits groups act → entered_at groups k ≡ n
@@ -171,7 +169,7 @@ ended_counts groups at (Some g) k n fits e =
     let f = fits g refl in
     let view = with_one_less groups g.0 at in
     let m = one_less groups.counts g.0 k n f.0 f.1 e in
-    let c = fired_counts (slice_index view.due g.0) view g.0 k in omega (arith, m, c)
+    let c = fired_count (slice_index view.due g.0) view g.0 k in omega (arith, m, c)
 
 ended_entered : (groups : GroupsView) (at : ℕ) (o : Option Obj) (k : ℕ) → entered_at (member_ended groups at o) k ≡ entered_at groups k
 ended_entered groups at None k = refl

@@ -21,7 +21,8 @@ use Rattle.gcd_refinement.specs.Shape.{PartsFit}
 use Rattle.gcd_refinement.specs.Ties.{HoldsAre}
 use Rattle.gcd_refinement.specs.After.{holds_by, after}
 use Rattle.gcd_refinement.proofs.Writes.{entry_set}
-use Rattle.gcd_refinement.proofs.Proper.{proper, proper_parts, code_none}
+use Rattle.gcd_refinement.proofs.Proper.{proper, proper_parts}
+use Rattle.gcd_history.proofs.TargetActs.{code_none}
 
 -- what the act names is in the lists, and what a Resume finds at hold 0 is a source
 pub record Fits (plan : PlanView) (holds : HoldsView) (act : Option Act) : Type 0 where

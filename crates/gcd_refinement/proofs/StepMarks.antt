@@ -5,7 +5,7 @@ use Rattle.std.specs.Option.{option_map_or}
 use Rattle.std.proofs.lemmas.Bool.{cases_eq, and_parts, or_parts, both_ways, ltb-false}
 use Rattle.std.proofs.lemmas.List.{append-nil, length-set, nil_from_length}
 use Rattle.gcd_plan.specs.PlanView.{PlanView, kind_of}
-use Rattle.gcd_plan.specs.Kinds.{has_kind, is_source, is_source_kind, is_read_kind, is_merge_kind}
+use Rattle.gcd_plan.specs.Kinds.{has_kind, is_source, is_source_kind, is_read_kind, is_merge_kind, is_timer_kind}
 use Rattle.gcd_plan.specs.Validity.{IsPlan}
 use Rattle.gcd_plan.specs.declared.act.Act.{Act}
 use Rattle.gcd_plan.specs.declared.act.Act.TheVariants.{Merge}
@@ -25,14 +25,14 @@ use Rattle.gcd_history.proofs.Fitting.{has_object}
 use Rattle.gcd_history.proofs.Reasons.{allowed}
 use Rattle.gcd_history.proofs.SubmittedOnNodes.{on_a_node, recorded_fits}
 use Rattle.gcd_lists.specs.ListsView.{list_at}
-use Rattle.gcd_refinement.specs.MachineView.{MachineView, block_at, busy_at, is_timer_kind}
+use Rattle.gcd_refinement.specs.MachineView.{MachineView, block_at, busy_at}
 use Rattle.gcd_refinement.specs.Shape.{PartsFit, OwnFit}
 use Rattle.gcd_refinement.specs.Ties.{ListsAre, GroupsAre, BlocksAre, SourcesAre, MarksAre, waiter}
 use Rattle.gcd_refinement.specs.After.{popped, pushed, begun, lists_after, pending_in, marked, stays_busy, unmarked, busy_by, busy_at_event, after}
 use Rattle.gcd_refinement.proofs.Writes.{entry_set}
 use Rattle.gcd_refinement.proofs.DueTimes.{no_dues}
 use Rattle.gcd_refinement.proofs.StepLists.{is_within, node_within, pushed_all, new_fit, lists_step}
-use Rattle.gcd_refinement.proofs.StepSources.{beaten}
+use Rattle.gcd_refinement.proofs.StepSources.{intervals_counted}
 use Rattle.gcd_refinement.proofs.StepSubmits.{submits_are}
 use Rattle.gcd_refinement.proofs.StepTold.{nothing_mapped}
 
@@ -81,7 +81,7 @@ record Quiet (plan : PlanView) (waits : List (Blk × Bool)) (value o : ℕ) : Ty
 quiet_now : (plan : PlanView) (l1 l2 : List (Blk × Bool)) (p1 p2 o : ℕ) → l2 ≡ l1 → p2 ≡ p1 → Quiet plan l1 p1 o → Quiet plan l2 p2 o
 quiet_now plan l1 l2 p1 p2 o a b quiet = record { list = a ∙ quiet.list; pend = b ∙ quiet.pend; timer = quiet.timer }
 
-none_first : {X : Type 0} (xs : List X) → slice_get xs 0 ≡ None → xs ≡ []
+pub none_first : {X : Type 0} (xs : List X) → slice_get xs 0 ≡ None → xs ≡ []
 none_first [] h = refl
 none_first (x ∷ xs) h = cc
 
@@ -215,7 +215,7 @@ quiet_event plan past (Ready s n) v o valid lawful fit own sources old off =
 quiet_event plan past (Tick t) v o valid lawful fit own sources old off =
     let quiet = old off in
     let none = no_dues plan past o (now past + 1) (t - now past) quiet.timer in
-    let more : pending plan (Tick t ∷ past) o ≡ pending plan past o + count_by (is_due plan past o) (range_with_len (now past + 1) (t - now past)) = beaten plan past o t in
+    let more : pending plan (Tick t ∷ past) o ≡ pending plan past o + count_by (is_due plan past o) (range_with_len (now past + 1) (t - now past)) = intervals_counted plan past o t in
     quiet_now plan (list_at v.lists o) (list_at v.lists o) (pending plan past o) (pending plan (Tick t ∷ past) o) o refl (omega (arith, none, more)) quiet
 quiet_event plan past (Acted w r i) v o valid lawful fit own sources old off = by_act plan past w r i v o (act_of plan (Acted w r i)) refl valid own old off
 quiet_event plan past e v o valid lawful fit own sources old off =

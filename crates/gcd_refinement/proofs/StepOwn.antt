@@ -6,7 +6,7 @@ use Rattle.std.proofs.lemmas.Bool.{and_parts, or_cases, ltb-true}
 use Rattle.std.proofs.lemmas.List.{length-set}
 use Rattle.std.proofs.lemmas.Option.{same_Some}
 use Rattle.gcd_plan.specs.PlanView.{PlanView}
-use Rattle.gcd_plan.specs.Kinds.{has_kind, is_group_kind, is_queue, is_queue_kind, is_source}
+use Rattle.gcd_plan.specs.Kinds.{has_kind, is_group_kind, is_queue, is_queue_kind, is_source, is_read_kind}
 use Rattle.gcd_plan.specs.Validity.{IsPlan, is_act, is_submittable}
 use Rattle.gcd_plan.specs.declared.act.Act.{Act}
 use Rattle.gcd_plan.specs.declared.act.Act.TheVariants.{Sync, BarrierSync, GroupAsync, Notify, GroupWait, Signal, Wait}
@@ -18,7 +18,7 @@ use Rattle.gcd_event.specs.declared.event.Event.{Event}
 use Rattle.gcd_event.specs.declared.event.Event.TheVariants.{Start, Act as Acted, Wake, End, Deliver, DeliverEnd}
 use Rattle.gcd_history.specs.declared.submission.Submission.{Submission}
 use Rattle.gcd_history.specs.Runs.{opens, is_open, act_at, act_of}
-use Rattle.gcd_history.specs.Submitted.{submitted, submission_of}
+use Rattle.gcd_history.specs.Submitted.{submitted, submission_of, cancels}
 use Rattle.gcd_history.specs.Parked.{is_parking, has_run}
 use Rattle.gcd_history.specs.Permitted.{IsLawful, is_worker, has_block, is_run_of}
 use Rattle.gcd_history.proofs.Fitting.{has_object}
@@ -35,13 +35,15 @@ use Rattle.gcd_refinement.specs.declared.progress.BlockProgress.{BlockProgress}
 use Rattle.gcd_refinement.specs.Shape.{OwnFit}
 use Rattle.gcd_refinement.specs.Sleepers.{grouped, group_of, called_by, calls, caller_of}
 use Rattle.gcd_refinement.specs.Ties.{BlocksAre, WorkersAre, is_run}
-use Rattle.gcd_refinement.specs.Submits.{submits, emptied_by, come_by}
-use Rattle.gcd_refinement.specs.After.{popped, pushed_on, asleep, asleep_by_handler, asleep_after, all_woken, with_due, woken, noted, blocks_by, delivered, handlers_after, marked, busy_at_event, workers_after, ended_after, after}
+use Rattle.gcd_refinement.specs.Submits.{submits, emptied_by, come_by, activated_by, newly_cancelled}
+use Rattle.gcd_refinement.specs.After.{popped, pushed_on, asleep, asleep_by_handler, asleep_after, all_woken, with_due, woken, noted, blocks_by, delivered, handlers_after, marked, busy_at_event, workers_after, ended_after, after, live_begun, live_ended, live_after}
 use Rattle.gcd_refinement.proofs.Homes.{home_of, homed, homes_after}
 use Rattle.gcd_refinement.proofs.StepBlocks.{by_long}
 use Rattle.gcd_refinement.proofs.StepLists.{node_within}
 use Rattle.gcd_refinement.proofs.StepMarks.{event_long, marked_long}
 use Rattle.gcd_refinement.proofs.StepWaits.{known_block}
+use Rattle.gcd_refinement.proofs.StepDue.{woken_long}
+use Rattle.gcd_source.specs.SourcesView.{is_cancelled_at}
 
 -- ## What the history names is of the plan
 
@@ -148,10 +150,6 @@ due_long : (bs : List Blk) (due : List Bool) → length (fold with_due due bs) �
 due_long [] due = refl
 due_long (b ∷ bs) due = due_long bs (with_due due b) ∙ length-set due b.0 true
 
-woken_long : (due : List Bool) (e : Event) → length (woken due e) ≡ length due
-woken_long due (Wake w b) = length-set due b.0 false
-woken_long due e = refl
-
 all_marked_long : (subs : List Submission) (busy : List Bool) → length (fold marked busy subs) ≡ length busy
 all_marked_long [] busy = refl
 all_marked_long (s ∷ subs) busy = all_marked_long subs (marked busy s) ∙ marked_long busy s
@@ -175,6 +173,23 @@ workers_long plan v (DeliverEnd w s) = length-set v.workers w None
 workers_long plan v (Acted w r i) = elim (is_parking (act_at plan r i)) as (λ t. length (cond t (set v.workers w None) v.workers) ≡ length v.workers) [ true ↦ length-set v.workers w None | false ↦ refl ]
 workers_long plan v e = refl
 
+live_ended_long : (live : List Bool) (o : Option Obj) → length (live_ended live o) ≡ length live
+live_ended_long live None = refl
+live_ended_long live (Some s) = length-set live s.0 false
+
+pub live_begun_long : (plan : PlanView) (v : MachineView) (o : Option Obj) → length (live_begun plan v o) ≡ length v.live
+live_begun_long plan v None = refl
+live_begun_long plan v (Some o) =
+    elim (has_kind is_read_kind plan o.0 && not (is_cancelled_at v.sources o.0)) as (λ t. length (cond t (set v.live o.0 true) v.live) ≡ length v.live) [
+      | true ↦ length-set v.live o.0 true
+      | false ↦ refl
+    ]
+
+pub live_long : (plan : PlanView) (v : MachineView) (e : Event) → length (live_after plan v e) ≡ length v.live
+live_long plan v e =
+    live_ended_long (live_begun plan v (activated_by v (act_of plan e))) (newly_cancelled v (cancels plan e))
+    ∙ live_begun_long plan v (activated_by v (act_of plan e))
+
 -- ## The step
 
 home_known : (plan : PlanView) (e : Event) (b : ℕ) (h : Obj) (act : Option Act) → IsPlan plan → act_of plan e ≡ act → h.0 < length plan.objects → (homed b act h).0 < length plan.objects
@@ -196,6 +211,7 @@ own_step plan past e v valid lawful own blocks workers =
       due = due_long (come_by plan v e) (woken v.due e) ∙ (woken_long v.due e ∙ own.due);
       handlers = handlers_long v e ∙ own.handlers;
       busy = all_marked_long (submits plan v e) (busy_at_event plan v e) ∙ (event_long plan v e ∙ own.busy);
+      live = live_long plan v e ∙ own.live;
       workers = workers_long plan v e ∙ own.workers;
       nodes = λ b q at. node_known plan (e ∷ past) b q valid (sym (blocks.node b) ∙ at);
       groups = λ b g at. group_known plan (e ∷ past) b g valid (sym (blocks.group b) ∙ at);

@@ -27,7 +27,7 @@ use Rattle.gcd_timer.specs.TimersView.{TimersView}
 use Rattle.gcd_refinement.specs.MachineView.{MachineView, block_at}
 use Rattle.gcd_refinement.specs.Shape.{PartsFit}
 use Rattle.gcd_refinement.specs.Submits.{submits, activated_by, newly_cancelled}
-use Rattle.gcd_refinement.specs.After.{refs_by, popped, pushed, begun, opened, closed, targeted, tree_after, holds_by, barrier_began, barrier_ended, drains_after, fired_times, groups_by, member_ended, groups_after, semas_by, parked_for, reason_in_view, waits_after, source_cancelled, merged_by, values_after, ticked, activated, timer_cancelled, after}
+use Rattle.gcd_refinement.specs.After.{refs_by, popped, pushed, begun, opened, closed, targeted, tree_after, holds_by, barrier_began, barrier_ended, drains_after, fired_times, groups_by, member_ended, groups_after, semas_by, parked_for, awaited_in_view, waits_after, source_cancelled, merged_by, values_after, ticked, activated, timer_cancelled, after}
 use Rattle.gcd_refinement.proofs.StepLists.{pushed_long}
 use Rattle.gcd_refinement.proofs.StepMarks.{begun_long}
 
@@ -251,7 +251,7 @@ waits_parked a (Block b) None = record { reasons = refl; objects = refl }
 waits_parked a (Source s) why = record { reasons = refl; objects = refl }
 
 waits_alike : (plan : PlanView) (v : MachineView) (e : Event) → WaitsAlike v.waits (waits_after plan v e)
-waits_alike plan v (Acted w run i) = waits_parked v.waits run (reason_in_view v (act_at plan run i))
+waits_alike plan v (Acted w run i) = waits_parked v.waits run (awaited_in_view v (act_at plan run i))
 waits_alike plan v (Wake w b) = record { reasons = length-set v.waits.reasons b.0 None; objects = refl }
 waits_alike plan v e = record { reasons = refl; objects = refl }
 

@@ -7,7 +7,7 @@ use Rattle.std.proofs.lemmas.List.{append-nil}
 use Rattle.std.proofs.lemmas.List.Sums.{fold_push, length-filter}
 use Rattle.std.proofs.lemmas.Option.{slice_get-map}
 use Rattle.gcd_plan.specs.PlanView.{PlanView, kind_of}
-use Rattle.gcd_plan.specs.Kinds.{has_kind, is_source, is_source_kind, is_merge_kind, is_read_kind}
+use Rattle.gcd_plan.specs.Kinds.{has_kind, is_source, is_source_kind, is_merge_kind, is_read_kind, is_timer_kind}
 use Rattle.gcd_plan.specs.KindValues.{folded}
 use Rattle.gcd_plan.specs.Validity.{IsPlan}
 use Rattle.gcd_plan.specs.declared.act.Act.{Act}
@@ -31,7 +31,7 @@ use Rattle.gcd_history.proofs.Reasons.{allowed}
 use Rattle.gcd_history.proofs.SubmittedOnNodes.{recorded_fits}
 use Rattle.gcd_source.specs.SourcesView.{SourcesView, pending_at, merged_at}
 use Rattle.gcd_timer.specs.TimersView.{TimersView, due_count_at, is_due_at, activated_at, cancelled_at}
-use Rattle.gcd_refinement.specs.MachineView.{MachineView, handler_at, undelivered, is_timer_kind}
+use Rattle.gcd_refinement.specs.MachineView.{MachineView, handler_at, undelivered}
 use Rattle.gcd_refinement.specs.declared.progress.HandlerProgress.{HandlerProgress}
 use Rattle.gcd_refinement.specs.Shape.{PartsFit, OwnFit}
 use Rattle.gcd_refinement.specs.Ties.{HoldsAre, SourcesAre, TimersAre}
@@ -142,9 +142,9 @@ ones kind sums a (y ∷ ys) =
     let here = sums a 1 in
     omega (arith, rest, here)
 
-pub beaten : (plan : PlanView) (past : List Event) (s t : ℕ)
+pub intervals_counted : (plan : PlanView) (past : List Event) (s t : ℕ)
     → fold_at plan s (new_inputs plan past s ++ due_inputs plan past s (now past) t) ≡ pending plan past s + count_by (is_due plan past s) (range_with_len (now past + 1) (t - now past))
-beaten plan past s t =
+intervals_counted plan past s t =
     let xs = new_inputs plan past s in
     let ys = filter (is_due plan past s) (range_with_len (now past + 1) (t - now past)) in
     let n = count_by (is_due plan past s) (range_with_len (now past + 1) (t - now past)) in
@@ -233,7 +233,7 @@ valued plan past e v o s n valid fit low pend time values taken inputs =
 by_tick : (plan : PlanView) (past : List Event) (t : ℕ) (v : MachineView) (s : ℕ) → IsLawful plan (Tick t ∷ past) → old_pend plan past v s → new_pend plan past (Tick t) v s
 by_tick plan past t v s lawful pend =
     let d = dues_ticked plan past s t lawful in
-    let x : pending plan (Tick t ∷ past) s ≡ pending plan past s + count_by (is_due plan past s) (range_with_len (now past + 1) (t - now past)) = beaten plan past s t in
+    let x : pending plan (Tick t ∷ past) s ≡ pending plan past s + count_by (is_due plan past s) (range_with_len (now past + 1) (t - now past)) = intervals_counted plan past s t in
     let sum = pend.sum in
     let low = pend.low in
     record { sum = omega (arith, d, x, sum); low = omega (arith, d, low) }

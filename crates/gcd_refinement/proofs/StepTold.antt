@@ -21,7 +21,7 @@ use Rattle.gcd_history.proofs.Fitting.{has_object}
 use Rattle.gcd_plan.proofs.Sums.{count_by-cons, count_by-append}
 use Rattle.gcd_history.proofs.SubmittedOnNodes.{recorded_fits}
 use Rattle.gcd_history.proofs.SubmittedOnce.{is_of, at_groups, kept_once}
-use Rattle.gcd_history.proofs.Sums.{sum_range_less}
+use Rattle.gcd_history.proofs.Sums.{sum_range_less, term_within}
 use Rattle.gcd_lists.specs.ListsView.{list_at}
 use Rattle.gcd_group.specs.GroupsView.{count_at, emptied_at}
 use Rattle.gcd_refinement.specs.MachineView.{MachineView, block_at}
@@ -34,13 +34,9 @@ use Rattle.gcd_refinement.proofs.StepGroups.{fits_at, counts_step, end_counts}
 use Rattle.gcd_refinement.proofs.StepSubmits.{none_waits, counts_of}
 use Rattle.gcd_refinement.proofs.GroupMoves.{Rests, Moves, Within, Known, told_by, moves_by, moves_end}
 use Rattle.gcd_refinement.proofs.Homes.{home_of, homed, homes_after}
+use Rattle.gcd_refinement.proofs.GroupSleepers.{none_above}
 
 -- ## What an act registers waits nowhere
-
-in_sum : (f : ℕ → ℕ) (n k : ℕ) → k < n → f k ≤ sum_by f (range_with_len 0 n)
-in_sum f n k low =
-    let s = sum_range_less (λ i. 0) f 0 n k (f k) (λ i. omega arith) (omega arith) (omega arith) (omega (arith, low)) in
-    omega (arith, s)
 
 unregistered : (plan : PlanView) (past : List Event) (e : Event) (g q : Obj) (b : Blk) (k : ℕ) → IsPlan plan → IsLawful plan (e ∷ past) → act_of plan e ≡ Some (Notify g q b) → k < length plan.objects
     → count_by (is_of b.0) (notify_blocks plan past k) ≡ 0
@@ -49,8 +45,8 @@ unregistered plan past e g q b k valid lawful at low =
     let known = has_object is_group_kind plan g.0 (and_parts (has_kind is_group_kind plan g.0) (is_queue plan q.0 && is_submittable plan b) (recorded_fits plan e (Notify g q b) valid at)).0 in
     let new : registered g.0 (act_of plan e) ≡ on_node q b false = ap (registered g.0) at ∙ ap (λ t. cond t (on_node q b false) []) (eq-eqb g.0 g.0 refl) in
     let one : count_by (is_of b.0) (registered g.0 (act_of plan e)) ≡ 1 = ap (count_by (is_of b.0)) new ∙ ap (λ t. 0 + cond {A = ℕ} t 1 0) (eq-eqb b.0 b.0 refl) in
-    let there = in_sum (λ i. count_by (is_of b.0) (registered i (act_of plan e))) n g.0 known in
-    let here = in_sum (λ i. count_by (is_of b.0) (notify_blocks plan past i)) n k low in
+    let there = term_within (λ i. count_by (is_of b.0) (registered i (act_of plan e))) n g.0 known in
+    let here = term_within (λ i. count_by (is_of b.0) (notify_blocks plan past i)) n k low in
     let fired = flat_map (at_empty plan past e) (range_with_len 0 n) in
     let groups = at_groups plan past e b.0 in
     let once = kept_once plan (e ∷ past) valid lawful b.0 in
@@ -155,11 +151,6 @@ now_told v blocks k _ homes = refl
 
 -- ## When groups were empty
 
-above_past : (plan : PlanView) (past : List Event) (g p : ℕ) → length past ≤ p → is_empty_above plan past g p ≡ false
-above_past plan [] g p high = refl
-above_past plan (e ∷ past) g p high =
-    ap (λ t. (t && count plan (e ∷ past) g == 0) || is_empty_above plan past g p) (le-ltb p (length (e ∷ past)) high) ∙ above_past plan past g p (omega (arith, high))
-
 empty_by : (now was new old len p : ℕ) (above : Bool) → p < suc len → old ≤ len → ((now ≡ 0 → ⊥) → new ≡ cond (was == 0) len old) → (p < len → (was == 0 || leb (p + 1) old) ≡ above) → (len ≤ p → above ≡ false)
     → (now == 0 || leb (p + 1) new) ≡ ((ltb p (suc len) && now == 0) || above)
 empty_by now was new old len p above low few stays before beyond =
@@ -220,7 +211,7 @@ groups_step plan past e v valid lawful fit own ties blocks long =
           ∙ empty_by (count plan (e ∷ past) g) (count_at v.groups g) (emptied_at (groups_after plan v e) g) (emptied_at v.groups g) (length past) p (is_empty_above plan past g p) low few
           (λ some. m.stays (λ z. some (sym c ∙ z)) ∙ ap (λ n. cond (count_at v.groups g == 0) n (emptied_at v.groups g)) long)
           (ties.empty g p)
-          (above_past plan past g p);
+          (none_above plan past g p);
       emptied = λ g. let m = (moves_at plan past e v g valid lawful fit own ties blocks long).low in omega (arith, m, long);
       notify = λ k.
           let m = moves_at plan past e v k valid lawful fit own ties blocks long in

@@ -12,7 +12,7 @@ use Rattle.gcd_event.specs.declared.event.Event.TheVariants.{Start, Act as Acted
 use Rattle.gcd_history.specs.declared.submission.Submission.{Submission}
 use Rattle.gcd_history.specs.Runs.{same_run, open_runs, is_open, act_at, is_started, ends, is_ended}
 use Rattle.gcd_history.specs.Submitted.{submitted, new_submissions}
-use Rattle.gcd_history.specs.Parked.{is_parking, reason_by, parked_by, running, has_run}
+use Rattle.gcd_history.specs.Parked.{is_parking, awaited_by, parked_by, running, has_run}
 use Rattle.gcd_history.specs.Permitted.{IsLawful, is_halted, ends_in_misuse, ends_in_halt}
 use Rattle.gcd_plan.proofs.Sums.{count_by_push}
 use Rattle.gcd_history.proofs.Lists.{any_from_find}
@@ -139,7 +139,7 @@ running_step plan past (Acted w r i) v lawful tie =
     let own = (at_act plan past w r i lawful.1).own in
     let live = open_from_has_run plan past w r own in
     let goes = ap is_none (unparked plan past w r own) in
-    let why = reason_by plan past (act_at plan r i) in
+    let why = awaited_by plan past (act_at plan r i) in
     let p = λ (run : Run). is_none (cond (same_run r run) why (parked_by plan past run)) in
     elim (is_parking (act_at plan r i)) as (λ t. is_parking (act_at plan r i) ≡ t → cond t (v.running - 1) v.running ≡ count_by p (open_runs past)) [
       | true ↦ λ parking.

@@ -18,7 +18,7 @@ use Rattle.gcd_event.specs.declared.event.Event.TheVariants.{Act as Acted, End}
 use Rattle.gcd_history.specs.Runs.{act_at, act_of, is_ended, ends}
 use Rattle.gcd_history.specs.Groups.{count, is_empty_above}
 use Rattle.gcd_history.specs.Semas.{signals, first_value, signal_count, wait_count}
-use Rattle.gcd_history.specs.Parked.{reason_by, reason, has_come, may_wake}
+use Rattle.gcd_history.specs.Parked.{awaited_by, awaited, has_come, may_wake}
 use Rattle.gcd_history.specs.Permitted.{IsLawful}
 use Rattle.gcd_history.specs.Facts.{wakes}
 use Rattle.gcd_history.proofs.Lists.{any_left, any_right}
@@ -35,7 +35,7 @@ use Rattle.gcd_refinement.specs.Submits.{emptied_by, sleepers_at, come_at_once, 
 use Rattle.gcd_refinement.specs.After.{woken, after}
 use Rattle.gcd_refinement.proofs.Members.{is_group}
 use Rattle.gcd_refinement.proofs.ParkedNew.{parked_now, parked_new, parked_within, gone_at_wake}
-use Rattle.gcd_refinement.proofs.Called.{now_called, called_goes_on, caller_from_reason}
+use Rattle.gcd_refinement.proofs.Called.{now_called, called_goes_on, caller_from_awaited}
 use Rattle.gcd_refinement.proofs.Waiters.{rank_of_same, rank_at}
 use Rattle.gcd_refinement.proofs.GroupSleepers.{group_of_same, parked_since, none_above, not_now, sleeps_from}
 use Rattle.gcd_refinement.proofs.Emptied.{is_emptied, emptied_is}
@@ -81,12 +81,12 @@ signal_in plan past (Acted w run i) v b s bf h there =
 signal_in plan past e v b s bf h there = cc
 
 -- what was parked, and is waited for no more
-come_old : (plan : PlanView) (past : List Event) (e : Event) (v : MachineView) (b : Blk) (r : Reason) → Before plan past e v → reason plan past (Block b) ≡ Some r → has_come plan past r ≡ false → has_come plan (e ∷ past) r ≡ true
+come_old : (plan : PlanView) (past : List Event) (e : Event) (v : MachineView) (b : Blk) (r : Reason) → Before plan past e v → awaited plan past (Block b) ≡ Some r → has_come plan past r ≡ false → has_come plan (e ∷ past) r ≡ true
     → among b (come_by plan v e) ≡ true
 unfolding has_come
 come_old plan past e v b (EndOf c) bf is before now =
     ⊎_elim
-    (λ h. ended_in plan past e v b c bf.blocks h (caller_from_reason plan past b c bf.valid bf.lawful.0 is))
+    (λ h. ended_in plan past e v b c bf.blocks h (caller_from_awaited plan past b c bf.valid bf.lawful.0 is))
     (λ h. absurd (both_ways (is_ended past c.0) before h))
     (either (ends c.0 e) (is_ended past c.0) now)
 come_old plan past e v b (Empty g p) bf is before now =
@@ -124,7 +124,7 @@ end_calls_none plan (End w d) c b h k = cc
 end_calls_none plan e c b h k = cc
 
 once_in_group : (plan : PlanView) (past : List Event) (w : ℕ) (d : Blk) (i : ℕ) (v : MachineView) (b : Blk) (g : Obj) (p : ℕ) (act : Option Act) → Before plan past (Acted w (Block d) i) v → d ≡ b → act_at plan (Block d) i ≡ act
-    → reason_by plan past act ≡ Some (Empty g p) → is_empty_above plan (Acted w (Block d) i ∷ past) g.0 p ≡ true → among b (come_at_once v d act) ≡ true
+    → awaited_by plan past act ≡ Some (Empty g p) → is_empty_above plan (Acted w (Block d) i ∷ past) g.0 p ≡ true → among b (come_at_once v d act) ≡ true
 once_in_group plan past w d i v b g p (Some (GroupWait h)) bf same at is now =
     let e = Acted w (Block d) i in
     let parts = group_of_same h g (length past) p is in
@@ -139,7 +139,7 @@ once_in_group plan past w d i v b g p (Some (GroupWait h)) bf same at is now =
 once_in_group plan past w d i v b g p _ bf same at is now = cc
 
 once_in_sema : (plan : PlanView) (past : List Event) (w : ℕ) (d : Blk) (i : ℕ) (v : MachineView) (b : Blk) (s : Obj) (k : ℕ) (act : Option Act) → Before plan past (Acted w (Block d) i) v → d ≡ b → act_at plan (Block d) i ≡ act
-    → reason_by plan past act ≡ Some (Rank s k) → k ≤ first_value plan s.0 + signal_count plan (Acted w (Block d) i ∷ past) s.0 → among b (come_at_once v d act) ≡ true
+    → awaited_by plan past act ≡ Some (Rank s k) → k ≤ first_value plan s.0 + signal_count plan (Acted w (Block d) i ∷ past) s.0 → among b (come_at_once v d act) ≡ true
 once_in_sema plan past w d i v b s k (Some (Wait t)) bf same at is now =
     let e = Acted w (Block d) i in
     let parts = rank_of_same t s (wait_count plan past t.0 + 1) k is in
@@ -163,11 +163,11 @@ once_in plan past w d i v b h =
 -- who acts, and that the act parks it
 record NowActs (plan : PlanView) (past : List Event) (d b : Blk) (i : ℕ) (r : Reason) : Type 0 where
   same : d ≡ b
-  parks : reason_by plan past (act_at plan (Block d) i) ≡ Some r
+  parks : awaited_by plan past (act_at plan (Block d) i) ≡ Some r
 
 now_acts : (plan : PlanView) (past : List Event) (w : ℕ) (d b : Blk) (i : ℕ) (r : Reason) → parked_now plan past (Acted w (Block d) i) b.0 ≡ Some r → NowActs plan past d b i r
 now_acts plan past w d b i r h =
-    elim (d.0 == b.0) as (λ u. d.0 == b.0 ≡ u → cond u (reason_by plan past (act_at plan (Block d) i)) None ≡ Some r → NowActs plan past d b i r) [
+    elim (d.0 == b.0) as (λ u. d.0 == b.0 ≡ u → cond u (awaited_by plan past (act_at plan (Block d) i)) None ≡ Some r → NowActs plan past d b i r) [
       | true ↦ λ same by. record { same = ap (λ n. record { 0 = n }) (eqb-true d.0 b.0 same); parks = by }
       | false ↦ λ other by. cc
     ] refl h

@@ -13,7 +13,7 @@ use Rattle.gcd_plan.specs.declared.reason.Reason.{Reason}
 use Rattle.gcd_event.specs.declared.event.Event.{Event}
 use Rattle.gcd_event.specs.declared.event.Event.TheVariants.{Start, Act as Acted, Wake, End, Deliver, DeliverEnd}
 use Rattle.gcd_history.specs.Runs.{same_run, is_open, act_at, last_worker}
-use Rattle.gcd_history.specs.Parked.{is_parking, reason_by, parked_by, reason, is_parked, has_run, is_busy}
+use Rattle.gcd_history.specs.Parked.{is_parking, awaited_by, parked_by, awaited, is_parked, has_run, is_busy}
 use Rattle.gcd_history.specs.Permitted.{IsLawful, is_worker}
 use Rattle.gcd_history.proofs.OneRun.{run_facts, is_last, idle_has_none, one_run}
 use Rattle.gcd_history.proofs.Reasons.{allowed, at_start, at_act, at_wake, at_end, at_deliver, at_deliver_end}
@@ -25,6 +25,7 @@ use Rattle.gcd_refinement.specs.After.{workers_after, after}
 use Rattle.gcd_refinement.proofs.Writes.{entry_set}
 use Rattle.gcd_history.proofs.OpenOnce.{shut_at_deliver}
 use Rattle.gcd_refinement.proofs.StepWaits.{unopened, unparked}
+use Rattle.gcd_plan.specs.Limits.{max_workers}
 
 -- ## What makes a run the worker's
 
@@ -118,7 +119,7 @@ by_deliver plan past u w s run lawful =
 
 -- a parked block is open, and waits for something
 pub parked_facts : (plan : PlanView) (past : List Event) (b : ℕ) → is_parked plan past b ≡ true → (is_open past (Block (record { 0 = b })) ≡ true) × (is_none (parked_by plan past (Block (record { 0 = b }))) ≡ false)
-unfolding is_parked reason
+unfolding is_parked awaited
 parked_facts plan past b h = by (is_open past (Block (record { 0 = b }))) (parked_by plan past (Block (record { 0 = b }))) h
   where
     by : (o : Bool) (p : Option Reason) → is_some (cond o p None) ≡ true → (o ≡ true) × (is_none p ≡ false)
@@ -152,8 +153,8 @@ by_deliver_end plan past u w s run lawful =
     (λ other. has_same plan past (DeliverEnd u s) w run (step ∙ ap (λ t. not t && is_open past run) other) refl refl)
     (at_deliver_end plan past u s lawful.1).own
 
--- an act parks where it gives a reason
-pub parks_is : (plan : PlanView) (past : List Event) (act : Option Act) → is_none (reason_by plan past act) ≡ not (is_parking act)
+-- an act parks where it makes its block wait
+pub parks_is : (plan : PlanView) (past : List Event) (act : Option Act) → is_none (awaited_by plan past act) ≡ not (is_parking act)
 parks_is plan past (Some (Sync q b)) = refl
 parks_is plan past (Some (BarrierSync q b)) = refl
 parks_is plan past (Some (GroupWait g)) = refl
@@ -162,18 +163,18 @@ parks_is plan past act = refl
 
 by_park : (plan : PlanView) (past : List Event) (u w i : ℕ) (r run : Run) → IsLawful plan (Acted u r i ∷ past) → is_parking (act_at plan r i) ≡ true → has_run plan (Acted u r i ∷ past) w run ≡ cond (u == w) false (has_run plan past w run)
 by_park plan past u w i r run lawful parking =
-    let none : is_none (reason_by plan past (act_at plan r i)) ≡ false = parks_is plan past (act_at plan r i) ∙ ap not parking in
+    let none : is_none (awaited_by plan past (act_at plan r i)) ≡ false = parks_is plan past (act_at plan r i) ∙ ap not parking in
     freed plan past (Acted u r i) u w r run lawful.0
-    (λ same. has_by plan (Acted u r i ∷ past) w run (is_open past run) false (is_last past run w) refl (ap (λ t. is_none (cond t (reason_by plan past (act_at plan r i)) (parked_by plan past run))) same ∙ none) refl ∙ off (is_open past run))
-    (λ other. has_same plan past (Acted u r i) w run refl (ap (λ t. is_none (cond t (reason_by plan past (act_at plan r i)) (parked_by plan past run))) other) refl)
+    (λ same. has_by plan (Acted u r i ∷ past) w run (is_open past run) false (is_last past run w) refl (ap (λ t. is_none (cond t (awaited_by plan past (act_at plan r i)) (parked_by plan past run))) same ∙ none) refl ∙ off (is_open past run))
+    (λ other. has_same plan past (Acted u r i) w run refl (ap (λ t. is_none (cond t (awaited_by plan past (act_at plan r i)) (parked_by plan past run))) other) refl)
     (at_act plan past u r i lawful.1).own
 
 by_act : (plan : PlanView) (past : List Event) (u w i : ℕ) (r run : Run) → IsLawful plan (Acted u r i ∷ past) → is_parking (act_at plan r i) ≡ false → has_run plan (Acted u r i ∷ past) w run ≡ has_run plan past w run
 by_act plan past u w i r run lawful goes =
-    let none : is_none (reason_by plan past (act_at plan r i)) ≡ true = parks_is plan past (act_at plan r i) ∙ ap not goes in
+    let none : is_none (awaited_by plan past (act_at plan r i)) ≡ true = parks_is plan past (act_at plan r i) ∙ ap not goes in
     let own = (at_act plan past u r i lawful.1).own in
     has_same plan past (Acted u r i) w run refl
-    (elim (same_run r run) as (λ t. same_run r run ≡ t → is_none (cond t (reason_by plan past (act_at plan r i)) (parked_by plan past run)) ≡ is_none (parked_by plan past run)) [
+    (elim (same_run r run) as (λ t. same_run r run ≡ t → is_none (cond t (awaited_by plan past (act_at plan r i)) (parked_by plan past run)) ≡ is_none (parked_by plan past run)) [
       | true ↦ λ same. none ∙ sym (subst (λ q. is_none (parked_by plan past q) ≡ true) (same_run-true r run same) (ap is_none (unparked plan past u r own)))
       | false ↦ λ other. refl
     ] refl)
@@ -189,7 +190,7 @@ run_of_cond run false x y = refl
 wrote : (plan : PlanView) (past : List Event) (v : MachineView) (u w : ℕ) (o : Option Run) (run : Run) → OwnFit plan v → is_worker u ≡ true → WorkersAre plan past v → (x : Bool) → x ≡ cond (u == w) (is_run run o) (has_run plan past w run)
     → x ≡ is_run run (get_or (set v.workers u o) w None)
 wrote plan past v u w o run own known ties x is =
-    let low = ltb-true u 64 known in
+    let low = ltb-true u max_workers known in
     let long = own.workers in
     is ∙ (ap (λ t. cond (u == w) (is_run run o) t) (ties.runs w run)
     ∙ (sym (run_of_cond run (u == w) o (at_worker v w)) ∙ ap (is_run run) (sym (entry_set v.workers u w o None (omega (arith, low, long))))))

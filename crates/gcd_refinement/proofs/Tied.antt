@@ -7,64 +7,59 @@ use Rattle.gcd_history.specs.Permitted.{IsLawful}
 use Rattle.gcd_refinement.specs.MachineView.{MachineView, machine_of}
 use Rattle.gcd_refinement.specs.Stands.{IsTied}
 use Rattle.gcd_refinement.specs.After.{after}
-use Rattle.gcd_refinement.proofs.MostTies.{MostTies, view_of}
 use Rattle.gcd_refinement.proofs.Bounded.{numbers_small}
-use Rattle.gcd_refinement.proofs.AllTies.{AllTies, ties_begin, ties_step, ties_stand}
+use Rattle.gcd_refinement.proofs.AllTies.{AllTies, ties_begin, ties_step, view_of, ties_stand}
 use Rattle.gcd_refinement.proofs.PlacesAre.{places_are}
 
 -- the ties give all the rest
 pub tied_from : (plan : PlanView) (past : List Event) (v : MachineView) → IsPlan plan → IsLawful plan past → AllTies plan past v → IsTied plan past v
-tied_from plan past v valid lawful t =
-    let m = t.most in
-    record {
-      same_plan = m.same_plan;
-      valid = valid;
-      lawful = lawful;
-      parts = m.parts;
-      own = m.own;
-      small = numbers_small plan past v valid lawful m;
-      places = places_are plan past v valid lawful m.parts m.lists m.groups m.waits t.wakes;
-      references = m.references;
-      lists = m.lists;
-      tree = m.tree;
-      holds = m.holds;
-      drains = m.drains;
-      groups = m.groups;
-      semas = m.semas;
-      waits = m.waits;
-      sources = m.sources;
-      timers = m.timers;
-      workers = m.workers;
-      blocks = m.blocks;
-      handlers = m.handlers;
-      wakes = t.wakes;
-      marks = m.marks;
-      totals = m.totals;
-    }
+tied_from plan past v valid lawful t = record {
+  same_plan = t.same_plan;
+  valid = valid;
+  lawful = lawful;
+  parts = t.parts;
+  own = t.own;
+  small = numbers_small plan past v valid lawful t;
+  places = places_are plan past v valid lawful t.parts t.lists t.groups t.waits t.wakes;
+  references = t.references;
+  lists = t.lists;
+  tree = t.tree;
+  holds = t.holds;
+  drains = t.drains;
+  groups = t.groups;
+  semas = t.semas;
+  waits = t.waits;
+  sources = t.sources;
+  timers = t.timers;
+  workers = t.workers;
+  blocks = t.blocks;
+  handlers = t.handlers;
+  wakes = t.wakes;
+  marks = t.marks;
+  totals = t.totals;
+}
 
 pub ties_of : (plan : PlanView) (past : List Event) (v : MachineView) → IsTied plan past v → AllTies plan past v
 ties_of plan past v t = record {
-  most = record {
-    same_plan = t.same_plan;
-    parts = t.parts;
-    own = t.own;
-    references = t.references;
-    lists = t.lists;
-    tree = t.tree;
-    holds = t.holds;
-    drains = t.drains;
-    groups = t.groups;
-    semas = t.semas;
-    waits = t.waits;
-    sources = t.sources;
-    timers = t.timers;
-    workers = t.workers;
-    blocks = t.blocks;
-    handlers = t.handlers;
-    marks = t.marks;
-    totals = t.totals;
-  };
+  same_plan = t.same_plan;
+  parts = t.parts;
+  own = t.own;
+  references = t.references;
+  lists = t.lists;
+  tree = t.tree;
+  holds = t.holds;
+  drains = t.drains;
+  groups = t.groups;
+  semas = t.semas;
+  waits = t.waits;
+  sources = t.sources;
+  timers = t.timers;
+  workers = t.workers;
+  blocks = t.blocks;
+  handlers = t.handlers;
   wakes = t.wakes;
+  marks = t.marks;
+  totals = t.totals;
 }
 
 pub tied_begin : (plan : PlanView) → IsPlan plan → IsTied plan [] (machine_of plan)

@@ -16,7 +16,7 @@ use Rattle.gcd_event.specs.declared.event.Event.{Event}
 use Rattle.gcd_event.specs.declared.event.Event.TheVariants.{Act as Acted}
 use Rattle.gcd_history.specs.Runs.{act_at, act_of}
 use Rattle.gcd_history.specs.Semas.{signals, waits, first_value, signal_count, wait_count}
-use Rattle.gcd_history.specs.Parked.{reason_by, reason, has_come}
+use Rattle.gcd_history.specs.Parked.{awaited_by, awaited, has_come}
 use Rattle.gcd_history.specs.Permitted.{IsLawful}
 use Rattle.gcd_plan.proofs.Places.{slice_get-append_left, slice_get-append_seam}
 use Rattle.gcd_plan.proofs.Sums.{count_by-cons}
@@ -35,7 +35,7 @@ record NowWaits (plan : PlanView) (past : List Event) (b : Blk) (s : Obj) (k : �
   rank : k ≡ wait_count plan past s.0 + 1
   new : now ≡ b ∷ []
 
-wait_is : (plan : PlanView) (past : List Event) (d b : Blk) (s : Obj) (k : ℕ) (act : Option Act) → (d.0 == b.0) ≡ true → reason_by plan past act ≡ Some (Rank s k)
+wait_is : (plan : PlanView) (past : List Event) (d b : Blk) (s : Obj) (k : ℕ) (act : Option Act) → (d.0 == b.0) ≡ true → awaited_by plan past act ≡ Some (Rank s k)
     → NowWaits plan past b s k (cond (waits s.0 act) (d ∷ []) [])
 wait_is plan past d b s k (Some (Wait t)) same h =
     let parts = rank_of_same t s (wait_count plan past t.0 + 1) k h in
@@ -48,17 +48,17 @@ wait_is plan past d b s k _ same h = cc
 
 now_waits : (plan : PlanView) (past : List Event) (e : Event) (b : Blk) (s : Obj) (k : ℕ) → parked_now plan past e b.0 ≡ Some (Rank s k) → NowWaits plan past b s k (block_if (waits s.0) plan e)
 now_waits plan past (Acted w (Block d) i) b s k h =
-    elim (d.0 == b.0) as (λ v. d.0 == b.0 ≡ v → cond v (reason_by plan past (act_at plan (Block d) i)) None ≡ Some (Rank s k) → NowWaits plan past b s k (block_if (waits s.0) plan (Acted w (Block d) i))) [
+    elim (d.0 == b.0) as (λ v. d.0 == b.0 ≡ v → cond v (awaited_by plan past (act_at plan (Block d) i)) None ≡ Some (Rank s k) → NowWaits plan past b s k (block_if (waits s.0) plan (Acted w (Block d) i))) [
       | true ↦ λ same by. wait_is plan past d b s k (act_at plan (Block d) i) same by
       | false ↦ λ other by. cc
     ] refl h
 now_waits plan past e b s k h = cc
 
-wait_parks : (plan : PlanView) (past : List Event) (d b : Blk) (s : Obj) (act : Option Act) → cond (waits s.0 act) (d ∷ []) [] ≡ b ∷ [] → cond (d.0 == b.0) (reason_by plan past act) None ≡ Some (Rank s (wait_count plan past s.0 + 1))
+wait_parks : (plan : PlanView) (past : List Event) (d b : Blk) (s : Obj) (act : Option Act) → cond (waits s.0 act) (d ∷ []) [] ≡ b ∷ [] → cond (d.0 == b.0) (awaited_by plan past act) None ≡ Some (Rank s (wait_count plan past s.0 + 1))
 wait_parks plan past d b s (Some (Wait t)) h =
-    elim (t.0 == s.0) as (λ v. t.0 == s.0 ≡ v → cond v (d ∷ []) [] ≡ b ∷ [] → cond (d.0 == b.0) (reason_by plan past (Some (Wait t))) None ≡ Some (Rank s (wait_count plan past s.0 + 1))) [
+    elim (t.0 == s.0) as (λ v. t.0 == s.0 ≡ v → cond v (d ∷ []) [] ≡ b ∷ [] → cond (d.0 == b.0) (awaited_by plan past (Some (Wait t))) None ≡ Some (Rank s (wait_count plan past s.0 + 1))) [
       | true ↦ λ same k.
-          ap (λ v. cond v (reason_by plan past (Some (Wait t))) None) (eq-eqb d.0 b.0 (ap (λ x. x.0) (one d b k)))
+          ap (λ v. cond v (awaited_by plan past (Some (Wait t))) None) (eq-eqb d.0 b.0 (ap (λ x. x.0) (one d b k)))
           ∙ ap (λ n. Some (Rank (record { 0 = n }) (wait_count plan past n + 1))) (eqb-true t.0 s.0 same)
       | false ↦ λ other k. cc
     ] refl h
@@ -103,7 +103,7 @@ pub record RankAt (plan : PlanView) (past : List Event) (b : Blk) (s : Obj) (k :
   pub rank : k ≡ place + 1
   pub there : slice_get (waiters plan past s.0) place ≡ Some b
 
-pub rank_at : (plan : PlanView) (past : List Event) (b : Blk) (s : Obj) (k : ℕ) → IsPlan plan → reason plan past (Block b) ≡ Some (Rank s k) → RankAt plan past b s k
+pub rank_at : (plan : PlanView) (past : List Event) (b : Blk) (s : Obj) (k : ℕ) → IsPlan plan → awaited plan past (Block b) ≡ Some (Rank s k) → RankAt plan past b s k
 rank_at plan [] b s k valid is = let facts = parked_facts plan [] b (Rank s k) is in let no_run : false ≡ true = facts.live in cc
 rank_at plan (e ∷ past) b s k valid is =
     ⊎_elim
@@ -151,7 +151,7 @@ not_yet plan past s k low =
     false_from_ne_true (nat_le k (first_value plan s.0 + signal_count plan past s.0)) (λ h. let l = leb-true k (first_value plan s.0 + signal_count plan past s.0) h in absurd (omega (arith, l, low)))
 
 pub rank_from : (plan : PlanView) (past : List Event) (b : Blk) (s : Obj) (j : ℕ) → IsPlan plan → IsLawful plan past → slice_get (waiters plan past s.0) j ≡ Some b
-    → first_value plan s.0 + signal_count plan past s.0 ≤ j → reason plan past (Block b) ≡ Some (Rank s (j + 1))
+    → first_value plan s.0 + signal_count plan past s.0 ≤ j → awaited plan past (Block b) ≡ Some (Rank s (j + 1))
 rank_from plan [] b s j valid lawful there high = cc
 rank_from plan (e ∷ past) b s j valid lawful there high =
     let c = count_by-cons (λ x. signals s.0 (act_of plan x)) e past in

@@ -3,7 +3,7 @@
 use Rattle.std.specs.Prelude.{ℕ, zero, suc, ◌+◌, ◌-◌, ◌==◌, nat_lt, Bool, true, false, not, ◌&&◌, ◌||◌, if◌then◌else◌, List, [], ◌∷◌, ◌++◌, length, drop, fold, Option, Some, None, slice_index, slice_index_or, slice_set}
 use Rattle.std.specs.Option.{option_map_or}
 use Rattle.gcd_plan.specs.PlanView.{PlanView}
-use Rattle.gcd_plan.specs.Kinds.{has_kind, is_read_kind}
+use Rattle.gcd_plan.specs.Kinds.{has_kind, is_read_kind, is_timer_kind}
 use Rattle.gcd_plan.specs.declared.act.Act.{Act}
 use Rattle.gcd_plan.specs.declared.act.Act.TheVariants.{Sync, BarrierSync, GroupAsync, Notify, Enter, Leave, GroupWait, Signal, Wait, Suspend, Resume, Activate, Target, Merge, Retain, Release}
 use Rattle.gcd_plan.specs.declared.numbers.Blk.{Blk}
@@ -27,7 +27,7 @@ use Rattle.gcd_sema.specs.SemasView.{SemasView, signals_at, waits_at, is_passed_
 use Rattle.gcd_sync.specs.WaitsView.{WaitsView, with_reason}
 use Rattle.gcd_source.specs.SourcesView.{SourcesView, pending_at, is_cancelled_at, merged_at, with_pending, with_cancelled as with_cancelled_source}
 use Rattle.gcd_timer.specs.TimersView.{TimersView, due_count_at, with_activated, with_cancelled as with_cancelled_timer}
-use Rattle.gcd_refinement.specs.MachineView.{MachineView, idle, block_at, handler_at, is_timer_kind}
+use Rattle.gcd_refinement.specs.MachineView.{MachineView, idle, block_at, handler_at}
 use Rattle.gcd_refinement.specs.declared.progress.BlockProgress.{BlockProgress}
 use Rattle.gcd_refinement.specs.declared.progress.HandlerProgress.{HandlerProgress}
 use Rattle.gcd_refinement.specs.Submits.{emptied_by, submits, activated_by, newly_cancelled, come_by}
@@ -158,19 +158,19 @@ semas_after plan v e = semas_by v.semas (act_of plan e)
 -- ## Parked blocks
 
 -- what the act parks its block for
-abbrev pub reason_in_view : MachineView → Option Act → Option Reason
-reason_in_view v (Some (Sync q c)) = Some (EndOf c)
-reason_in_view v (Some (BarrierSync q c)) = Some (EndOf c)
-reason_in_view v (Some (GroupWait g)) = Some (Empty g v.len)
-reason_in_view v (Some (Wait s)) = Some (Rank s (waits_at v.semas s.0 + 1))
-reason_in_view v _ = None
+abbrev pub awaited_in_view : MachineView → Option Act → Option Reason
+awaited_in_view v (Some (Sync q c)) = Some (EndOf c)
+awaited_in_view v (Some (BarrierSync q c)) = Some (EndOf c)
+awaited_in_view v (Some (GroupWait g)) = Some (Empty g v.len)
+awaited_in_view v (Some (Wait s)) = Some (Rank s (waits_at v.semas s.0 + 1))
+awaited_in_view v _ = None
 
 abbrev pub parked_for : WaitsView → Run → Option Reason → WaitsView
 parked_for waits (Block b) (Some why) = with_reason waits b.0 (Some why)
 parked_for waits run _ = waits
 
 abbrev pub waits_after : PlanView → MachineView → Event → WaitsView
-waits_after plan v (Acted w run i) = parked_for v.waits run (reason_in_view v (act_at plan run i))
+waits_after plan v (Acted w run i) = parked_for v.waits run (awaited_in_view v (act_at plan run i))
 waits_after plan v (Wake w b) = with_reason v.waits b.0 None
 waits_after plan v e = v.waits
 
@@ -368,18 +368,18 @@ is_end e = false
 abbrev pub left_after : PlanView → MachineView → Event → ℕ
 left_after plan v e = v.left + length (submits plan v e) - (if is_end e then 1 else 0)
 
--- a read source that is activated and not cancelled, or that is active and cancelled now
-abbrev pub feeds_begun : PlanView → MachineView → Option Obj → ℕ
-feeds_begun plan v None = 0
-feeds_begun plan v (Some o) = if has_kind is_read_kind plan o.0 && not (is_cancelled_at v.sources o.0) then 1 else 0
+-- a read source that is activated and not cancelled is live, and one that is cancelled is so no more
+abbrev pub live_begun : PlanView → MachineView → Option Obj → List Bool
+live_begun plan v None = v.live
+live_begun plan v (Some o) =
+    if has_kind is_read_kind plan o.0 && not (is_cancelled_at v.sources o.0) then slice_set v.live o.0 true else v.live
 
-abbrev pub feeds_ended : PlanView → MachineView → Option Obj → ℕ
-feeds_ended plan v None = 0
-feeds_ended plan v (Some s) = if has_kind is_read_kind plan s.0 && is_active_at v.holds s.0 then 1 else 0
+abbrev pub live_ended : List Bool → Option Obj → List Bool
+live_ended live None = live
+live_ended live (Some s) = slice_set live s.0 false
 
-abbrev pub feeds_after : PlanView → MachineView → Event → ℕ
-feeds_after plan v e =
-    v.feeds + feeds_begun plan v (activated_by v (act_of plan e)) - feeds_ended plan v (newly_cancelled v (cancels plan e))
+abbrev pub live_after : PlanView → MachineView → Event → List Bool
+live_after plan v e = live_ended (live_begun plan v (activated_by v (act_of plan e))) (newly_cancelled v (cancels plan e))
 
 abbrev pub is_misuse : Event → Bool
 is_misuse (Misuse w run i c) = true
@@ -411,10 +411,10 @@ after plan v e = record {
   due = due_after plan v e;
   handlers = handlers_after v e;
   busy = busy_after plan v e;
+  live = live_after plan v e;
   workers = workers_after plan v e;
   running = running_after plan v e;
   left = left_after plan v e;
-  feeds = feeds_after plan v e;
   misused = v.misused || is_misuse e;
   halted = v.halted || is_halt e;
   len = v.len + 1;

@@ -15,8 +15,9 @@ use Rattle.gcd_sema.specs.SemasView.{signals_at, waits_at}
 use Rattle.gcd_sync.specs.WaitsView.{reason_at}
 use Rattle.gcd_source.specs.SourcesView.{pending_at}
 use Rattle.gcd_refinement.specs.MachineView.{MachineView, block_at, handler_at, refs_at}
+use Rattle.gcd_plan.specs.Limits.{max_value}
 
--- no count is above the length of the history, which is below 2^16; a merge adds less than 2^31
+-- no count is above the length of the history, which is at most `max_events`; a merge adds at most `max_value`
 pub record NumbersAreSmall (plan : PlanView) (past : List Event) (v : MachineView) : Type 0 where
   pub refs : (o : ℕ) → refs_at v o ≤ length past + 1
   pub holds : (o : ℕ) → hold_at v.holds o ≤ length past
@@ -26,13 +27,12 @@ pub record NumbersAreSmall (plan : PlanView) (past : List Event) (v : MachineVie
   pub entered : (g : ℕ) → entered_at v.groups g ≤ count_at v.groups g
   pub signals : (s : ℕ) → signals_at v.semas s ≤ length past
   pub waits : (s : ℕ) → waits_at v.semas s ≤ length past
-  pub pending : (s : ℕ) → pending_at v.sources s ≤ length past * 2147483647
+  pub pending : (s : ℕ) → pending_at v.sources s ≤ length past * max_value
   pub moment : v.timers.moment ≤ plan.until
   pub block_acts : (b : ℕ) → (block_at v b).done ≤ length past
   pub handler_acts : (s : ℕ) → (handler_at v s).done ≤ length past
   pub running : v.running ≤ length past
   pub left : v.left ≤ length plan.blocks
-  pub feeds : v.feeds ≤ length plan.objects
 
 -- the place of what is submitted and not started
 abbrev pub place_in : List Event → Submission → Option (Obj × Bool)

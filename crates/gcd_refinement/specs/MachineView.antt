@@ -1,8 +1,8 @@
 -- The whole view of a machine: the views of its parts, and the arrays that it keeps itself.
 use Rattle.std.specs.Prelude.{ℕ, Bool, true, false, List, [], length, map, replicate, Option, None, slice_index, slice_index_or}
 use Rattle.gcd_plan.specs.PlanView.{PlanView}
-use Rattle.gcd_plan.specs.declared.kind.Kind.{Kind}
-use Rattle.gcd_plan.specs.declared.kind.Kind.TheVariants.{Timer}
+use Rattle.gcd_plan.specs.Kinds.{is_timer_kind}
+use Rattle.gcd_plan.specs.Limits.{max_workers}
 use Rattle.gcd_plan.specs.declared.numbers.Obj.{Obj}
 use Rattle.gcd_plan.specs.declared.numbers.Run.{Run}
 use Rattle.gcd_refinement.specs.declared.progress.BlockProgress.{BlockProgress}
@@ -19,9 +19,9 @@ use Rattle.gcd_timer.specs.TimersView.{TimersView, timers_of}
 
 -- the plan; the parts: references, what waits on nodes, targets, holds, barriers, groups, semaphores, parked blocks, sources, timers;
 -- by semaphore and group the blocks that sleep there; by block what it has come to, whether it has ended, and whether what it
--- is parked for has come; by object what is kept of a source, and whether it has to be looked at; by worker the run that it
--- has; how many runs are open and not parked, how many blocks are submitted and not ended, and how many read sources are
--- live; whether the last event is a misuse, or a halt; how many events have come
+-- is parked for has come; by object what is kept of a source, whether it has to be looked at, and whether it is a live read
+-- source; by worker the run that it has; how many runs are open and not parked, and how many blocks are submitted and not
+-- ended; whether the last event is a misuse, or a halt; how many events have come
 pub record MachineView : Type 0 where
   pub plan : PlanView
   pub refs : List ℕ
@@ -40,10 +40,10 @@ pub record MachineView : Type 0 where
   pub due : List Bool
   pub handlers : List HandlerProgress
   pub busy : List Bool
+  pub live : List Bool
   pub workers : List (Option Run)
   pub running : ℕ
   pub left : ℕ
-  pub feeds : ℕ
   pub misused : Bool
   pub halted : Bool
   pub len : ℕ
@@ -73,6 +73,10 @@ handler_at v s = slice_index_or v.handlers s undelivered
 abbrev pub busy_at : MachineView → ℕ → Bool
 busy_at v o = slice_index_or v.busy o false
 
+-- read source s is live
+abbrev pub live_at : MachineView → ℕ → Bool
+live_at v s = slice_index_or v.live s false
+
 -- the run that worker w has
 abbrev pub at_worker : MachineView → ℕ → Option Run
 at_worker v w = slice_index_or v.workers w None
@@ -80,11 +84,6 @@ at_worker v w = slice_index_or v.workers w None
 -- the references on object o
 abbrev pub refs_at : MachineView → ℕ → ℕ
 refs_at v o = slice_index v.refs o
-
--- a timer
-abbrev pub is_timer_kind : Kind → Bool
-is_timer_kind (Timer start every) = true
-is_timer_kind _ = false
 
 -- nothing waits on any object of the plan
 abbrev pub lists_of : PlanView → ListsView
@@ -110,10 +109,10 @@ machine_of plan = record {
   due = replicate (length plan.blocks) false;
   handlers = replicate (length plan.objects) undelivered;
   busy = map (λ o. is_timer_kind o.kind) plan.objects;
-  workers = replicate 64 None;
+  live = replicate (length plan.objects) false;
+  workers = replicate max_workers None;
   running = 0;
   left = 1;
-  feeds = 0;
   misused = false;
   halted = false;
   len = 0;

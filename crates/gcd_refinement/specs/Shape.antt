@@ -8,6 +8,7 @@ use Rattle.gcd_plan.specs.declared.numbers.Obj.{Obj}
 use Rattle.gcd_plan.specs.declared.numbers.Run.{Run}
 use Rattle.gcd_history.specs.Permitted.{is_run_of}
 use Rattle.gcd_refinement.specs.MachineView.{MachineView, block_at, at_worker}
+use Rattle.gcd_plan.specs.Limits.{max_workers}
 
 -- the parts have an entry for each object or block, and the kinds that the plan says
 pub record PartsFit (plan : PlanView) (v : MachineView) : Type 0 where
@@ -51,7 +52,8 @@ pub record OwnFit (plan : PlanView) (v : MachineView) : Type 0 where
   pub due : length v.due ≡ length plan.blocks
   pub handlers : length v.handlers ≡ length plan.objects
   pub busy : length v.busy ≡ length plan.objects
-  pub workers : length v.workers ≡ 64
+  pub live : length v.live ≡ length plan.objects
+  pub workers : length v.workers ≡ max_workers
   pub nodes : (b : ℕ) (q : Obj) → (block_at v b).node ≡ Some q → q.0 < length plan.objects
   pub groups : (b : ℕ) (g : Obj) → (block_at v b).group ≡ Some g → g.0 < length plan.objects
   pub homes : (b : ℕ) → (block_at v b).home.0 < length plan.objects

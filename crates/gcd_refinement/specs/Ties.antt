@@ -4,7 +4,7 @@ use Rattle.std.specs.Prelude.{◌≡◌, ◌≤◌, ◌<◌, ℕ, ◌+◌, Bool,
 use Rattle.std.specs.Option.{option_map_or}
 use Rattle.std.specs.List.{range_with_len}
 use Rattle.gcd_plan.specs.PlanView.{PlanView}
-use Rattle.gcd_plan.specs.Kinds.{has_kind}
+use Rattle.gcd_plan.specs.Kinds.{has_kind, is_timer_kind}
 use Rattle.gcd_plan.specs.declared.numbers.Blk.{Blk}
 use Rattle.gcd_plan.specs.declared.numbers.Run.{Run}
 use Rattle.gcd_plan.specs.declared.numbers.Run.TheVariants.{Block, Source}
@@ -16,7 +16,7 @@ use Rattle.gcd_history.specs.Submitted.{submitted, submission_of, is_cancelled, 
 use Rattle.gcd_history.specs.Tree.{Aim, aim, open_on}
 use Rattle.gcd_history.specs.Holds.{hold, is_active}
 use Rattle.gcd_history.specs.Semas.{signal_count, wait_count}
-use Rattle.gcd_history.specs.Parked.{reason, running, has_run, may_wake}
+use Rattle.gcd_history.specs.Parked.{awaited, running, has_run, may_wake}
 use Rattle.gcd_history.specs.Timers as timers
 use Rattle.gcd_history.specs.Sources.{pending, last_data, is_live_feed}
 use Rattle.gcd_history.specs.Misuses.{retains, releases}
@@ -30,7 +30,7 @@ use Rattle.gcd_sema.specs.SemasView.{signals_at, waits_at}
 use Rattle.gcd_sync.specs.WaitsView.{reason_at}
 use Rattle.gcd_source.specs.SourcesView.{pending_at, is_cancelled_at}
 use Rattle.gcd_timer.specs.TimersView.{activated_at, cancelled_at, due_count_at}
-use Rattle.gcd_refinement.specs.MachineView.{MachineView, block_at, ended_at, due_at, handler_at, busy_at, at_worker, refs_at, is_timer_kind}
+use Rattle.gcd_refinement.specs.MachineView.{MachineView, block_at, ended_at, due_at, handler_at, busy_at, at_worker, refs_at, live_at}
 use Rattle.gcd_refinement.specs.Sleepers.{group_of, caller_of, sema_sleepers, group_sleepers}
 
 -- ## The parts
@@ -87,7 +87,7 @@ pub record SemasAre (plan : PlanView) (past : List Event) (v : MachineView) : Ty
 
 -- what each block is parked for
 pub record WaitsAre (plan : PlanView) (past : List Event) (v : MachineView) : Type 0 where
-  pub reasons : (b : ℕ) → reason_at v.waits b ≡ reason plan past (Block (record { 0 = b }))
+  pub reasons : (b : ℕ) → reason_at v.waits b ≡ awaited plan past (Block (record { 0 = b }))
 
 -- cancelled sources, and what is pending: of a timer the due times that no delivery took; of the others none are due, so that
 -- none are taken
@@ -148,7 +148,7 @@ pub record MarksAre (plan : PlanView) (past : List Event) (v : MachineView) : Ty
 pub record TotalsAre (plan : PlanView) (past : List Event) (v : MachineView) : Type 0 where
   pub running : v.running ≡ running plan past
   pub left : v.left ≡ count_by (λ s. not (is_ended past s.blk.0)) (submitted plan past)
-  pub feeds : v.feeds ≡ count_by (is_live_feed plan past) (range_with_len 0 (length plan.objects))
+  pub live : (s : ℕ) → live_at v s ≡ is_live_feed plan past s
   pub misused : v.misused ≡ ends_in_misuse past
   pub halted : v.halted ≡ ends_in_halt past
   pub len : v.len ≡ length past

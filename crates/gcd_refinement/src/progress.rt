@@ -11,7 +11,7 @@ pub struct BlockProgress {
     pub barrier: bool,
     /// Whether it has started.
     pub started: bool,
-    /// How many acts it has made, at most 65,535.
+    /// How many acts it has made, at most [`gcd_plan::MAX_ACTS`].
     pub done: u32,
     /// The group that counts it until its end (dispatch_group_async(3)).
     pub group: Option<Obj>,
@@ -37,7 +37,7 @@ impl BlockProgress {
 /// What a source's handler has come to.
 #[derive(Clone, Copy, Debug, PartialEq, Eq)]
 pub struct HandlerProgress {
-    /// How many acts it has made since the last delivery, at most 65,535.
+    /// How many acts it has made since the last delivery, at most [`gcd_plan::MAX_ACTS`].
     pub done: u32,
     /// How many due times of a timer the deliveries have handed over (dispatch_source_set_timer(3)).
     pub taken: u64,

@@ -24,7 +24,7 @@ use Rattle.gcd_history.specs.Groups.{count}
 use Rattle.gcd_history.specs.Submitted.{submitted, submitted_by, new_submissions, cancels, at_cancel, is_cancelled, registered, notify_blocks, at_empty, on_node}
 use Rattle.gcd_history.specs.Tree.{aim, aim_after, asked, target, is_moving, chain, is_open_on}
 use Rattle.gcd_history.specs.Holds.{hold, hold_after, activates, is_active, is_free}
-use Rattle.gcd_history.specs.Parked.{reason_by, parked_by, reason, is_parked}
+use Rattle.gcd_history.specs.Parked.{awaited_by, parked_by, awaited, is_parked}
 use Rattle.gcd_history.specs.Timers.{activated_at, is_due, is_any_due, next_due, may_tick, now}
 use Rattle.gcd_history.specs.Sources.{is_live_feed}
 use Rattle.gcd_history.specs.Misuses.{retains, releases, refs, is_released, misuse}
@@ -124,14 +124,14 @@ none_if false p o e f = f
 pub parked_none : (plan : PlanView) (past : List Event) (run : Run) → IsFirstPlan plan → parked_by plan past run ≡ None
 parked_none plan [] run first = refl
 parked_none plan (Acted w r i ∷ past) run first =
-    let one = of_act plan (reason_by plan past) None (act_at plan r i) (submits_at plan r i first) refl (λ q c. refl) in
-    none_if (same_run r run) (reason_by plan past (act_at plan r i)) (parked_by plan past run) one (parked_none plan past run first)
+    let one = of_act plan (awaited_by plan past) None (act_at plan r i) (submits_at plan r i first) refl (λ q c. refl) in
+    none_if (same_run r run) (awaited_by plan past (act_at plan r i)) (parked_by plan past run) one (parked_none plan past run first)
 parked_none plan (Wake w b ∷ past) run first = none_if (same_run (Block b) run) None (parked_by plan past run) refl (parked_none plan past run first)
 parked_none plan (e ∷ past) run first = none_if (opens e run) None (parked_by plan past run) refl (parked_none plan past run first)
 
-pub reason_none : (plan : PlanView) (past : List Event) (run : Run) → IsFirstPlan plan → reason plan past run ≡ None
-unfolding reason
-reason_none plan past run first = ifs (is_open past run) (parked_by plan past run) (parked_none plan past run first)
+pub awaited_none : (plan : PlanView) (past : List Event) (run : Run) → IsFirstPlan plan → awaited plan past run ≡ None
+unfolding awaited
+awaited_none plan past run first = ifs (is_open past run) (parked_by plan past run) (parked_none plan past run first)
   where
     ifs : {X : Type 0} (b : Bool) (o : Option X) → o ≡ None → cond b o None ≡ None
     ifs true o e = e
@@ -139,7 +139,7 @@ reason_none plan past run first = ifs (is_open past run) (parked_by plan past ru
 
 pub no_parked : (plan : PlanView) (past : List Event) (b : ℕ) → IsFirstPlan plan → is_parked plan past b ≡ false
 unfolding is_parked
-no_parked plan past b first = ap is_some (reason_none plan past (Block (record { 0 = b })) first)
+no_parked plan past b first = ap is_some (awaited_none plan past (Block (record { 0 = b })) first)
 
 never_activated : (plan : PlanView) (past : List Event) (s : ℕ) → IsFirstPlan plan → activated_at plan past s ≡ None
 never_activated plan [] s first = refl

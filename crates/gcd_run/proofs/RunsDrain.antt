@@ -37,7 +37,7 @@ use Rattle.gcd_history.proofs.OneRun.{run_facts}
 use Rattle.gcd_history.proofs.SubmittedOnce.{submitted_once, submitted_within}
 use Rattle.gcd_history.proofs.SubmittedOnNodes.{on_a_node, submitted_fit}
 use Rattle.gcd_history.proofs.Choices.{before_first_waiting, chosen_where_permitted}
-use Rattle.gcd_history.proofs.Quiet.{own_event, quiescent_from_rest}
+use Rattle.gcd_history.proofs.Quiet.{own_event, quiescent_from_rest, none_first}
 use Rattle.gcd_run.specs.Workers.{is_all_by}
 use Rattle.gcd_run.proofs.QueuesOnRoot.{IsFirstPlan, some_blocks}
 use Rattle.gcd_run.proofs.NothingHeld.{held_none, parked_none, nothing_due, nothing_live}
@@ -119,10 +119,6 @@ open_from_started (DeliverEnd w s ∷ past) b started going = still_open past (D
 open_from_started (e ∷ past) b started going = open_from_started past b started going
 
 -- ## What is submitted has started
-
--- no reason applies, where the first does not, nor do the others
-none_first : (w : Why) (t : Bool) (rest : List (Why × Bool)) → t ≡ false → first_of rest ≡ None → first_of ((w, t) ∷ rest) ≡ None
-none_first w t rest off none = ap (λ v. cond v (Some w) (first_of rest)) off ∙ none
 
 submitted_known : (plan : PlanView) (past : List Event) (s : Submission) → IsDone plan past → submission_of plan past s.blk.0 ≡ Some s → has_block plan s.blk.0 ≡ true
 submitted_known plan past s done found =

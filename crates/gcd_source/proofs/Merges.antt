@@ -13,7 +13,7 @@ use Rattle.gcd_source.specs.SourcesView.{SourcesView, pending_at, merged_at}
 pub ruleset nothing_changes = (or_zero_r, set-get_or)
 
 -- two values in one are at most their sum
-folded_below : (kind : Kind) (a b : ℕ) → folded kind a b ≤ a + b
+pub folded_below : (kind : Kind) (a b : ℕ) → folded kind a b ≤ a + b
 folded_below Or a b = let e = or_add_and a b in omega arith
 folded_below _ a b = omega arith
 

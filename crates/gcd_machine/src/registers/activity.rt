@@ -4,7 +4,7 @@ ghost use Rattle.gcd_machine.specs.Steps.{activated, cancelled, made_active, mad
 ghost use Rattle.gcd_machine.specs.Conditions.{CanActivate, CanCancel, CanMakeActive, CanMakeCancelled, CanResume, CanMerge};
 
 use super::Registers;
-use gcd_plan::{Kind, Obj};
+use gcd_plan::Obj;
 
 impl Registers {
     // The object is active from now on (dispatch_activate(3)).
@@ -35,8 +35,8 @@ impl Registers {
         ensures { self.new ≡ made_active self.old o }
     {
         self.timers.activate(o);
-        if self.plan.kind(o) == Kind::Read && !self.sources.is_cancelled(o) {
-            self.feeds += 1;
+        if self.plan.kind(o).is_read() && !self.sources.is_cancelled(o) {
+            self.live.set(o.0);
         }
     }
 
@@ -62,9 +62,7 @@ impl Registers {
     {
         self.sources.cancel(src);
         self.timers.cancel(src);
-        if self.plan.kind(src) == Kind::Read && self.holds.is_active(src) {
-            self.feeds -= 1;
-        }
+        self.live.clear(src.0);
     }
 
     // The value is pending at the source (dispatch_source_merge_data(3)).
@@ -74,7 +72,7 @@ impl Registers {
     {
         self.sources.merge(src, u64::from(value));
         if value > 0 {
-            self.busy[src.0 as usize] = true;
+            self.busy.set(src.0);
         }
     }
 }

@@ -1,9 +1,11 @@
 // What a machine tells of what it keeps.
-ghost use Rattle.std.specs.Prelude.{◌≡◌, ◌<◌, ◌^◌, Some, length};
+ghost use Rattle.std.specs.Prelude.{◌≡◌, ◌<◌, ◌-◌, ◌^◌, Some, find, length, option_map};
+ghost use Rattle.std.specs.List.{range_with_len};
+ghost use Rattle.gcd_sync.specs.WaitsView.{reason_at};
 ghost use Rattle.gcd_history.specs.Runs.{act_of};
 ghost use Rattle.gcd_history.specs.Parked.{is_parking};
 ghost use Rattle.gcd_timer.specs.TimersView.{next_due_at};
-ghost use Rattle.gcd_refinement.specs.MachineView.{block_at, handler_at};
+ghost use Rattle.gcd_refinement.specs.MachineView.{block_at, ended_at, handler_at, live_at};
 ghost use Rattle.gcd_refinement.specs.After.{pending_in};
 ghost use Rattle.gcd_machine.specs.Conditions.{HasPending};
 ghost use Rattle.gcd_machine.specs.Judged.{first_waiting_at};
@@ -11,7 +13,7 @@ ghost use Rattle.gcd_machine.specs.Stands.{IsShaped};
 
 use super::Registers;
 use gcd_event::Event;
-use gcd_plan::{Act, Blk, Obj};
+use gcd_plan::{Act, Blk, Obj, Reason};
 
 // Whether the act parks its block.
 fn is_parking(act: Act) -> bool
@@ -67,6 +69,43 @@ impl Registers {
         ensures { result ≡ (block_at self.now blk.0).node }
     {
         self.blocks[blk.0 as usize].node
+    }
+
+    /// Whether the block has started.
+    pub fn is_started(&self, blk: Blk) -> bool
+        requires shape { IsShaped self.now }
+        requires blk { blk.0 < length self.now.plan.blocks }
+        ensures { result ≡ (block_at self.now blk.0).started }
+    {
+        self.blocks[blk.0 as usize].started
+    }
+
+    /// Whether the block has ended.
+    pub fn is_ended(&self, blk: Blk) -> bool
+        requires shape { IsShaped self.now }
+        requires blk { blk.0 < length self.now.plan.blocks }
+        ensures { result ≡ ended_at self.now blk.0 }
+    {
+        self.ended[blk.0 as usize]
+    }
+
+    /// What the block waits for, where it is parked.
+    pub fn awaited(&self, blk: Blk) -> Option<Reason>
+        requires shape { IsShaped self.now }
+        requires blk { blk.0 < length self.now.plan.blocks }
+        ensures { result ≡ reason_at self.now.waits blk.0 }
+    {
+        self.waits.reason(blk)
+    }
+
+    /// The live read source with the least number from this one on.
+    pub fn next_live_feed(&self, from: u32) -> Option<Obj>
+        ensures { option_map (λ o. o.0) result ≡ find (live_at self.now) (range_with_len from (length self.now.live - from)) }
+    {
+        match self.live.next(from) {
+            Some(o) => Some(Obj(o)),
+            None => None,
+        }
     }
 
     /// What the last delivery of the source handed over.

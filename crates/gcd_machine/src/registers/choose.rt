@@ -16,20 +16,6 @@ use gcd_drain::Marks;
 use gcd_event::Event;
 use gcd_plan::{Act, Blk, Obj, Run};
 
-// The least number from this one on whose flag is set.
-#[tactic(auto, using(crate::proofs::Nodes::next_here, crate::proofs::Nodes::next_later, crate::proofs::Nodes::next_past))]
-fn next_set(flags: &[bool], from: u32) -> Option<u32>
-    requires { length flags.now < 2 ^ 32 }
-    ensures { result ≡ next_set flags.now from }
-{
-    for i in from as usize..flags.len() {
-        if flags[i] {
-            return Some(i as u32);
-        }
-    }
-    None
-}
-
 impl Registers {
     /// What the worker records next: of its own run, or a wake, the start of `main`, or of the objects from this number on,
     /// wrapping round, a start or a delivery.
@@ -149,7 +135,7 @@ impl Registers {
         requires { IsShaped self.now }
         ensures { result ≡ next_set self.now.busy from }
     {
-        next_set(&self.busy, from)
+        self.busy.next(from)
     }
 
     // The same below `end`.

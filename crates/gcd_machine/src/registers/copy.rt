@@ -23,12 +23,14 @@ impl Registers {
     pub fn copied(&self, alloc: Global) -> Result<Registers, AllocError>
         ensures { IfOk result (λ r. r ≡ self.now) }
     {
+        let plan = Arc::try_clone(&self.plan)?;
+        let sleepers = self.sleepers.copied(alloc)?;
         let (refs, lists, tree, holds, drains) = self.copied_node_parts(alloc)?;
         let (groups, semas, waits, sources, timers) = self.copied_event_parts(alloc)?;
         let (blocks, ended, due) = self.copied_block_arrays(alloc)?;
-        let (handlers, busy, workers) = self.copied_run_arrays(alloc)?;
+        let (handlers, busy, live, workers) = self.copied_run_arrays(alloc)?;
         Ok(Registers {
-            plan: Arc::try_clone(&self.plan)?,
+            plan,
             refs,
             lists,
             tree,
@@ -39,16 +41,16 @@ impl Registers {
             waits,
             sources,
             timers,
-            sleepers: self.sleepers.copied(alloc)?,
+            sleepers,
             blocks,
             ended,
             due,
             handlers,
             busy,
+            live,
             workers,
             running: self.running,
             left: self.left,
-            feeds: self.feeds,
             misused: self.misused,
             halted: self.halted,
             len: self.len,
@@ -111,18 +113,20 @@ impl Registers {
         ))
     }
 
-    // What is kept of the handlers, which objects have to be looked at, and what each worker has.
+    // What is kept of the handlers, which objects have to be looked at, which feeds are live, and what each worker has.
     fn copied_run_arrays(
         &self,
         alloc: Global,
-    ) -> Result<(Vec<HandlerProgress>, Vec<bool>, Vec<Option<Run>>), AllocError>
+    ) -> Result<(Vec<HandlerProgress>, BitSet, BitSet, Vec<Option<Run>>), AllocError>
         ensures handlers { IfOk result (λ arrays. arrays.0.items ≡ self.now.handlers) }
-        ensures busy { IfOk result (λ arrays. arrays.1.items ≡ self.now.busy) }
-        ensures workers { IfOk result (λ arrays. arrays.2.items ≡ self.now.workers) }
+        ensures busy { IfOk result (λ arrays. arrays.1 ≡ self.now.busy) }
+        ensures live { IfOk result (λ arrays. arrays.2 ≡ self.now.live) }
+        ensures workers { IfOk result (λ arrays. arrays.3.items ≡ self.now.workers) }
     {
         Ok((
             Vec::from_slice(alloc, &self.handlers)?,
-            Vec::from_slice(alloc, &self.busy)?,
+            self.busy.copied(alloc)?,
+            self.live.copied(alloc)?,
             Vec::from_slice(alloc, &self.workers)?,
         ))
     }

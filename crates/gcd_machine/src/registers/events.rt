@@ -95,7 +95,8 @@ impl Registers {
         };
         self.sources.take(src);
         self.tree.opened(src);
-        self.busy[src.0 as usize] = self.stays_busy(src, 0);
+        let stays = self.stays_busy(src, 0);
+        self.busy.put(src.0, stays);
         self.take_up(worker, Run::Source(src));
     }
 

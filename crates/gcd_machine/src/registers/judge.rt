@@ -1,14 +1,16 @@
 // What may come next.
 ghost use Rattle.std.specs.Prelude.{◌≡◌, ◌<◌, ◌||◌, true, length};
+ghost use Rattle.gcd_plan.specs.Limits.{max_workers};
 ghost use Rattle.gcd_plan.specs.Kinds.{is_source};
 ghost use Rattle.gcd_history.specs.Permitted.{is_known, is_run_of, is_worker};
 ghost use Rattle.gcd_event.specs.declared.event.Event.{Event};
-ghost use Rattle.gcd_machine.specs.Judged.{block_fault_at, fault_at, is_live_at, is_pending_at, may_tick_at, source_fault_at, why_by};
+ghost use Rattle.gcd_refinement.specs.MachineView.{live_at};
+ghost use Rattle.gcd_machine.specs.Judged.{block_fault_at, fault_at, is_pending_at, may_tick_at, source_fault_at, why_by};
 ghost use Rattle.gcd_machine.specs.Stands.{IsShaped};
 
 use super::Registers;
 use gcd_event::Event;
-use gcd_plan::{Blk, MAX_ACTS, MAX_TIME, MAX_VALUE, MAX_WORKERS, Obj, Run, Why};
+use gcd_plan::{Blk, MAX_ACTS, MAX_TIME, MAX_VALUE, MAX_WORKERS, MisuseCode, Obj, Run, Why};
 
 // Whether it is a worker's number.
 pub fn is_worker(worker: u8) -> bool
@@ -64,7 +66,7 @@ impl Registers {
                 && self.has_run(run)
                 && index < MAX_ACTS
                 && 1 <= code
-                && code <= 8,
+                && code <= MisuseCode::LAST,
             Event::Halt => true,
         }
     }
@@ -97,7 +99,7 @@ impl Registers {
 
     fn start_fault(&self, worker: u8, blk: Blk) -> Option<Why>
         requires shape { IsShaped self.now }
-        requires worker { worker < 64 }
+        requires worker { worker < max_workers }
         requires blk { blk.0 < length self.now.plan.blocks }
         ensures { result ≡ fault_at self.now (Event.Start worker blk) }
     {
@@ -126,7 +128,7 @@ impl Registers {
 
     fn act_fault(&self, worker: u8, run: Run, index: u32) -> Option<Why>
         requires shape { IsShaped self.now }
-        requires worker { worker < 64 }
+        requires worker { worker < max_workers }
         requires run { is_run_of self.now.plan run ≡ true }
         ensures { result ≡ fault_at self.now (Event.Act worker run index) }
     {
@@ -143,7 +145,7 @@ impl Registers {
 
     fn wake_fault(&self, worker: u8, blk: Blk) -> Option<Why>
         requires shape { IsShaped self.now }
-        requires worker { worker < 64 }
+        requires worker { worker < max_workers }
         requires blk { blk.0 < length self.now.plan.blocks }
         ensures { result ≡ fault_at self.now (Event.Wake worker blk) }
     {
@@ -163,7 +165,7 @@ impl Registers {
 
     fn end_fault(&self, worker: u8, blk: Blk) -> Option<Why>
         requires shape { IsShaped self.now }
-        requires worker { worker < 64 }
+        requires worker { worker < max_workers }
         requires blk { blk.0 < length self.now.plan.blocks }
         ensures { result ≡ fault_at self.now (Event.End worker blk) }
     {
@@ -178,7 +180,7 @@ impl Registers {
 
     fn deliver_fault(&self, worker: u8, src: Obj) -> Option<Why>
         requires shape { IsShaped self.now }
-        requires worker { worker < 64 }
+        requires worker { worker < max_workers }
         requires source { src.0 < length self.now.plan.objects }
         ensures { result ≡ fault_at self.now (Event.Deliver worker src) }
     {
@@ -219,7 +221,7 @@ impl Registers {
 
     fn deliver_end_fault(&self, worker: u8, src: Obj) -> Option<Why>
         requires shape { IsShaped self.now }
-        requires worker { worker < 64 }
+        requires worker { worker < max_workers }
         requires source { is_source self.now.plan src.0 ≡ true }
         ensures { result ≡ fault_at self.now (Event.DeliverEnd worker src) }
     {
@@ -277,20 +279,14 @@ impl Registers {
     pub fn is_live_feed(&self, src: Obj) -> bool
         requires shape { IsShaped self.now }
         requires source { src.0 < length self.now.plan.objects }
-        ensures { result ≡ is_live_at self.now src.0 }
+        ensures { result ≡ live_at self.now src.0 }
     {
-        if !self.has_feed(src) {
-            return false;
-        }
-        if !self.holds.is_active(src) {
-            return false;
-        }
-        !self.sources.is_cancelled(src)
+        self.live.has(src.0)
     }
 
     fn misuse_fault(&self, worker: u8, run: Run, index: u32, code: u8) -> Option<Why>
         requires shape { IsShaped self.now }
-        requires worker { worker < 64 }
+        requires worker { worker < max_workers }
         requires run { is_run_of self.now.plan run ≡ true }
         ensures { result ≡ fault_at self.now (Event.Misuse worker run index code) }
     {

@@ -9,7 +9,9 @@ ghost use Rattle.gcd_sync.specs.WaitsView.{waits_of};
 ghost use Rattle.gcd_source.specs.SourcesView.{sources_of};
 ghost use Rattle.gcd_timer.specs.TimersView.{timers_of};
 ghost use Rattle.gcd_plan.specs.Validity.{IsPlan};
-ghost use Rattle.gcd_refinement.specs.MachineView.{idle, undelivered, is_timer_kind, lists_of, machine_of};
+ghost use Rattle.gcd_plan.specs.Kinds.{is_timer_kind};
+ghost use Rattle.gcd_plan.specs.Limits.{max_workers};
+ghost use Rattle.gcd_refinement.specs.MachineView.{idle, undelivered, lists_of, machine_of};
 
 use super::Registers;
 use gcd_bits::BitSet;
@@ -18,7 +20,7 @@ use gcd_group::Groups;
 use gcd_hold::Holds;
 use gcd_lists::Lists;
 use gcd_objects::Objects;
-use gcd_plan::{Kind, Obj, Plan, Run};
+use gcd_plan::{MAX_WORKERS, Obj, Plan, Run};
 use gcd_refinement::{BlockProgress, HandlerProgress};
 use gcd_sema::Semas;
 use gcd_source::Sources;
@@ -28,9 +30,6 @@ use gcd_tree::Tree;
 use std::alloc::{AllocError, Global};
 use std::sync::Arc;
 
-/// How many workers there may be.
-pub const WORKERS: usize = 64;
-
 impl Registers {
     /// What is kept before anything has happened, with a copy of the plan. An `Err` comes only of want of memory.
     pub fn new(alloc: Global, plan: &Plan) -> Result<Registers, AllocError>
@@ -38,12 +37,14 @@ impl Registers {
         ensures valid { IsPlan plan.now }
     {
         let blocks = plan.blocks();
+        let shared = Arc::new(alloc, plan.copied(alloc)?)?;
+        let sleepers = Lists::new(alloc, plan)?;
         let (refs, lists, tree, holds, drains) = node_parts(alloc, plan)?;
         let (groups, semas, waits, sources, timers) = event_parts(alloc, plan)?;
         let (blocks, ended, due) = block_arrays(alloc, blocks)?;
-        let (handlers, busy, workers) = run_arrays(alloc, plan)?;
+        let (handlers, busy, live, workers) = run_arrays(alloc, plan)?;
         Ok(Registers {
-            plan: Arc::new(alloc, plan.copied(alloc)?)?,
+            plan: shared,
             refs,
             lists,
             tree,
@@ -54,16 +55,16 @@ impl Registers {
             waits,
             sources,
             timers,
-            sleepers: Lists::new(alloc, plan)?,
+            sleepers,
             blocks,
             ended,
             due,
             handlers,
             busy,
+            live,
             workers,
             running: 0,
             left: 1,
-            feeds: 0,
             misused: false,
             halted: false,
             len: 0,
@@ -127,19 +128,21 @@ fn block_arrays(
     ))
 }
 
-// What is kept of the handlers, which objects have to be looked at, and what each worker has.
+// What is kept of the handlers, which objects have to be looked at, which feeds are live, and what each worker has.
 fn run_arrays(
     alloc: Global,
     plan: &Plan,
-) -> Result<(Vec<HandlerProgress>, Vec<bool>, Vec<Option<Run>>), AllocError>
+) -> Result<(Vec<HandlerProgress>, BitSet, BitSet, Vec<Option<Run>>), AllocError>
     ensures handlers { IfOk result (λ arrays. arrays.0.items ≡ replicate (length plan.now.objects) undelivered) }
-    ensures busy { IfOk result (λ arrays. arrays.1.items ≡ map (λ o. is_timer_kind o.kind) plan.now.objects) }
-    ensures workers { IfOk result (λ arrays. arrays.2.items ≡ replicate 64 None) }
+    ensures busy { IfOk result (λ arrays. arrays.1 ≡ map (λ o. is_timer_kind o.kind) plan.now.objects) }
+    ensures live { IfOk result (λ arrays. arrays.2 ≡ replicate (length plan.now.objects) false) }
+    ensures workers { IfOk result (λ arrays. arrays.3.items ≡ replicate max_workers None) }
 {
     Ok((
         all_undelivered(alloc, plan.objects() as usize)?,
         timers(alloc, plan)?,
-        all_free(alloc, WORKERS)?,
+        BitSet::new(alloc, plan.objects())?,
+        all_free(alloc, MAX_WORKERS as usize)?,
     ))
 }
 
@@ -171,20 +174,13 @@ fn all_free(alloc: Global, workers: usize) -> Result<Vec<Option<Run>>, AllocErro
     vec![in alloc; None; workers]
 }
 
-// Whether it is a timer.
-fn is_timer(kind: Kind) -> bool
-    ensures { result ≡ is_timer_kind kind }
-{
-    matches!(kind, Kind::Timer { .. })
-}
-
 // Which objects are timers.
-fn timers(alloc: Global, plan: &Plan) -> Result<Vec<bool>, AllocError>
-    ensures { IfOk result (λ v. v.items ≡ map (λ o. is_timer_kind o.kind) plan.now.objects) }
+fn timers(alloc: Global, plan: &Plan) -> Result<BitSet, AllocError>
+    ensures { IfOk result (λ s. s ≡ map (λ o. is_timer_kind o.kind) plan.now.objects) }
 {
-    let mut timers = Vec::with_capacity(alloc, plan.objects() as usize)?;
+    let mut timers = BitSet::new(alloc, plan.objects())?;
     for o in 0..plan.objects() {
-        timers.push(is_timer(plan.kind(Obj(o))))?;
+        timers.put(o, plan.kind(Obj(o)).is_timer());
     }
     Ok(timers)
 }

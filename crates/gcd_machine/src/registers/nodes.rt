@@ -7,7 +7,7 @@ ghost use Rattle.gcd_machine.specs.Steps.{begun_on, closed_on, run_begun, run_cl
 ghost use Rattle.gcd_machine.specs.Conditions.{CanBegin, CanCloseOn, CanSubmit, HasList, HasPending};
 
 use super::Registers;
-use gcd_plan::{Blk, Kind, Obj};
+use gcd_plan::{Blk, Obj};
 
 impl Registers {
     // The run of a block opens on its node, if it has one.
@@ -41,7 +41,8 @@ impl Registers {
         self.tree.opened(node);
         self.drains.began(node, barrier);
         let pending = self.pending(node);
-        self.busy[node.0 as usize] = self.stays_busy(node, pending);
+        let stays = self.stays_busy(node, pending);
+        self.busy.put(node.0, stays);
     }
 
     // A run of the node closes there.
@@ -62,7 +63,7 @@ impl Registers {
         let progress = &mut self.blocks[blk.0 as usize];
         progress.node = Some(node);
         progress.barrier = barrier;
-        self.busy[node.0 as usize] = true;
+        self.busy.set(node.0);
         self.left += 1;
     }
 
@@ -71,8 +72,7 @@ impl Registers {
         requires { HasList self.now node }
         ensures { result ≡ stays_busy self.now.plan (length (list_at self.now.lists node.0)) pending node.0 }
     {
-        self.lists.first(node).is_some()
-            || (pending > 0 || matches!(self.plan.kind(node), Kind::Timer { .. }))
+        self.lists.first(node).is_some() || (pending > 0 || self.plan.kind(node).is_timer())
     }
 
     // What is pending at the source, with the due times that no delivery took.

@@ -18,7 +18,7 @@ impl Registers {
         if self.running > 0 {
             return false;
         }
-        if self.feeds > 0 {
+        if !self.live.is_empty() {
             return false;
         }
         if self.timers.next_due().is_some() {

@@ -1,5 +1,6 @@
 // Who has which run, and what is left of it.
 ghost use Rattle.std.specs.Prelude.{◌≡◌, ◌<◌, true, IfSome};
+ghost use Rattle.gcd_plan.specs.Limits.{max_workers};
 ghost use Rattle.gcd_history.specs.Permitted.{is_run_of};
 ghost use Rattle.gcd_history.specs.Runs.{same_run};
 ghost use Rattle.gcd_refinement.specs.MachineView.{at_worker};
@@ -29,7 +30,7 @@ impl Registers {
     /// The run that the worker has.
     pub fn own(&self, worker: u8) -> Option<Run>
         requires shape { IsShaped self.now }
-        requires worker { worker < 64 }
+        requires worker { worker < max_workers }
         ensures { result ≡ at_worker self.now worker }
     {
         self.workers[worker as usize]
@@ -38,7 +39,7 @@ impl Registers {
     /// Whether the worker has a run.
     pub fn is_busy(&self, worker: u8) -> bool
         requires shape { IsShaped self.now }
-        requires worker { worker < 64 }
+        requires worker { worker < max_workers }
         ensures { result ≡ is_busy_at self.now worker }
     {
         self.own(worker).is_some()
@@ -47,7 +48,7 @@ impl Registers {
     /// Whether the worker has this run.
     pub fn is_own(&self, worker: u8, run: Run) -> bool
         requires shape { IsShaped self.now }
-        requires worker { worker < 64 }
+        requires worker { worker < max_workers }
         ensures { result ≡ is_own_at self.now worker run }
     {
         match self.own(worker) {

@@ -1,8 +1,7 @@
 use Rattle.std.proofs.Common.{ap, ◌∙◌}
-use Rattle.gcd_refinement.specs.MachineView.{MachineView}
-use Rattle.gcd_machine.specs.Judged.{is_live_at}
+use Rattle.gcd_refinement.specs.MachineView.{MachineView, live_at}
 use Rattle.gcd_machine.proofs.Shown.{live_stands}
 use Rattle.gcd_machine.proofs.machine.Machine.is_live_feed.Goals as goal
 
 pub returns : goal.returns
-returns c = λ plan h stands. c.is_live_feed.ensures ∙ (ap (λ (m : MachineView). is_live_at m c.args.src.0) c.self.view_is ∙ live_stands c.args.self.now plan h c.args.src.0 stands)
+returns c = λ plan h stands. c.is_live_feed.ensures ∙ (ap (λ (m : MachineView). live_at m c.args.src.0) c.self.view_is ∙ live_stands c.args.self.now plan h c.args.src.0 stands)
