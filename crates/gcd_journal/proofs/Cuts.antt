@@ -126,3 +126,13 @@ pub get_second : {A : Type 0} (xs ys : List A) (i j : ℕ) → j ≡ length xs +
 get_second [] ys i j at = let same : j ≡ i = omega arith in ap (slice_get ys) same
 get_second (x ∷ xs) ys i zero at = absurd (omega arith)
 get_second (x ∷ xs) ys i (suc j) at = get_second xs ys i j (omega arith)
+
+-- a text has a first field
+pub some_field : (text : List ℕ) → (field : List ℕ) × (more : List (List ℕ)) × (fields_of text ≡ field ∷ more)
+some_field [] = ([], [], refl)
+some_field (c ∷ text) =
+    let t = some_field text in
+    elim (c == 32) as (λ v. (field : List ℕ) × (more : List (List ℕ)) × (cond v ([] ∷ fields_of text) (onto_first c (fields_of text)) ≡ field ∷ more)) [
+      | true ↦ ([], fields_of text, refl)
+      | false ↦ (c ∷ t.0, t.1, ap (onto_first c) t.2)
+    ]

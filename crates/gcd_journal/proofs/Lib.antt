@@ -6,3 +6,4 @@ pub mod Spelled
 pub mod SpelledBack
 pub mod OneWay
 pub mod LawfulSpoken
+pub mod NextLines

@@ -20,7 +20,8 @@ use Rattle.gcd_history.specs.JournalText.{event_line, count_line}
 use Rattle.gcd_journal.specs.Spoken.{IsSpoken}
 use Rattle.gcd_journal.specs.Named.{IsLookUp}
 use Rattle.gcd_journal.specs.Spelling.{Look, number_in, worker_in, index_in, time_in, bytes_in, code_in, source_of_run, source_in, of_both, block_event, source_event, turn_event, turn_in, by_one, by_two, by_three, by_four, by_five, event_in}
-use Rattle.gcd_journal.proofs.Cuts.{is_plain}
+use Rattle.gcd_text.specs.Fields.{fields_of}
+use Rattle.gcd_journal.proofs.Cuts.{is_plain, some_field}
 use Rattle.gcd_journal.proofs.NamesApart.{plain_name}
 use Rattle.gcd_journal.proofs.Numbers.{read_back, reads, plain_decimal}
 
@@ -117,3 +118,9 @@ module _ (plan : PlanView) (look : Look) (known : (run : Run) → is_run_of plan
   spells (Misuse w run i c) spoken =
       rw (worker_read w spoken.fits.0, known run spoken.named, number_read 0 (max_acts - 1) i (omega arith) (let f = spoken.fits in omega arith) (omega arith), number_read 1 8 c spoken.fits.3 spoken.fits.4 (omega arith)) refl
   spells Halt spoken = refl
+
+-- six fields and more spell nothing
+pub six_spell_nothing : (look : Look) (kind a b c d rest : List ℕ) → event_in look (kind ∷ a ∷ b ∷ c ∷ d ∷ fields_of rest) ≡ None
+six_spell_nothing look kind a b c d rest =
+    let t = some_field rest in
+    ap (λ fields. event_in look (kind ∷ a ∷ b ∷ c ∷ d ∷ fields)) t.2

@@ -95,11 +95,15 @@ abbrev pub by_four : Look → List ℕ → List ℕ → List ℕ → List ℕ �
 by_four look kind a b c =
     if bytes_eq kind (codes "act") then of_both (λ (turn : ℕ × Run) (i : ℕ). Acted turn.0 turn.1 i) (turn_in look a b) (index_in c) else None
 
+-- what a misuse names: a place in a body and a code
+abbrev pub place_in : List ℕ → List ℕ → Option (ℕ × ℕ)
+place_in c d = of_both (λ (i : ℕ) (k : ℕ). (i, k)) (index_in c) (code_in d)
+
+abbrev pub misuse_in : Look → List ℕ → List ℕ → List ℕ → List ℕ → Option Event
+misuse_in look a b c d = of_both (λ (turn : ℕ × Run) (place : ℕ × ℕ). Misuse turn.0 turn.1 place.0 place.1) (turn_in look a b) (place_in c d)
+
 abbrev pub by_five : Look → List ℕ → List ℕ → List ℕ → List ℕ → List ℕ → Option Event
-by_five look kind a b c d =
-    if bytes_eq kind (codes "misuse")
-    then of_both (λ (turn : ℕ × Run) (what : ℕ × ℕ). Misuse turn.0 turn.1 what.0 what.1) (turn_in look a b) (of_both (λ i k. (i, k)) (index_in c) (code_in d))
-    else None
+by_five look kind a b c d = if bytes_eq kind (codes "misuse") then misuse_in look a b c d else None
 
 -- the event that the fields of a line spell
 abbrev pub event_in : Look → List (List ℕ) → Option Event

@@ -1,6 +1,7 @@
 //! Journals.
 #![tactic(auto)]
 
+mod checker;
 pub mod laws;
 mod lines;
 mod names;
@@ -8,5 +9,6 @@ mod reader;
 mod spelling;
 mod write;
 
-pub use reader::JournalFault;
+pub use checker::{CheckFault, check};
+pub use reader::{JournalFault, read_journal};
 pub use write::write_journal;

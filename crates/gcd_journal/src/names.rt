@@ -1,6 +1,7 @@
 // The names of a plan's blocks and sources.
 ghost use Rattle.std.specs.Prelude.{◌≡◌, List, ℕ, Some, IfOk, OnOk, if◌then◌else◌};
 ghost use Rattle.std.specs.Str.{bytes_eq};
+ghost use Rattle.gcd_plan.specs.Validity.{IsPlan};
 ghost use Rattle.gcd_journal.specs.Named.{IsLookUp, look_of};
 
 use gcd_plan::{Blk, Obj, Plan, Run};
@@ -17,7 +18,8 @@ pub struct Names<'a> {
 impl<'a> Names<'a> {
     /// The names of the plan; an `Err` comes only of want of memory.
     pub fn new(alloc: Global, plan: &'a Plan) -> Result<Names<'a>, AllocError>
-        ensures { IfOk result (λ names. IsLookUp plan.now (look_of names.runs)) }
+        ensures known { IfOk result (λ names. IsLookUp plan.now (look_of names.runs)) }
+        ensures valid { IsPlan plan.now }
     {
         let mut runs = HashMap::with_capacity(alloc, plan.blocks() as usize)?;
         for b in 0..plan.blocks() {

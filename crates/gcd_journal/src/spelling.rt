@@ -2,7 +2,7 @@
 ghost use Rattle.std.specs.Prelude.{◌≡◌, ◌≤◌, ◌∷◌, IfSome, Some, option_and_then};
 ghost use Rattle.gcd_journal.specs.Named.{look_of};
 ghost use Rattle.gcd_text.specs.Fields.{fields_of};
-ghost use Rattle.gcd_journal.specs.Spelling.{number_in, worker_in, index_in, time_in, bytes_in, code_in, source_in, of_both, turn_in, block_event, source_event, turn_event, by_one, by_two, by_three, by_four, by_five, event_in};
+ghost use Rattle.gcd_journal.specs.Spelling.{number_in, worker_in, index_in, time_in, bytes_in, code_in, source_in, of_both, turn_in, block_event, source_event, turn_event, place_in, misuse_in, by_one, by_two, by_three, by_four, by_five, event_in};
 
 use crate::names::Names;
 use gcd_event::Event;
@@ -184,7 +184,7 @@ fn by_four(names: &Names, kind: &[u8], a: &[u8], b: &[u8], c: &[u8]) -> Option<E
 }
 
 fn place_in(c: &[u8], d: &[u8]) -> Option<(u32, u8)>
-    ensures { result ≡ of_both (λ i k. (i, k)) (index_in c.now) (code_in d.now) }
+    ensures { result ≡ place_in c.now d.now }
 {
     let index = index_in(c)?;
     let code = code_in(d)?;
@@ -192,7 +192,7 @@ fn place_in(c: &[u8], d: &[u8]) -> Option<(u32, u8)>
 }
 
 fn misuse_in(names: &Names, a: &[u8], b: &[u8], c: &[u8], d: &[u8]) -> Option<Event>
-    ensures { result ≡ of_both (λ turn what. Event.Misuse turn.0 turn.1 what.0 what.1) (turn_in (look_of names.now.runs) a.now b.now) (of_both (λ i k. (i, k)) (index_in c.now) (code_in d.now)) }
+    ensures { result ≡ misuse_in (look_of names.now.runs) a.now b.now c.now d.now }
 {
     let (worker, run) = turn_in(names, a, b)?;
     let (index, code) = place_in(c, d)?;

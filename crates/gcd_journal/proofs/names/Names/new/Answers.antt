@@ -32,7 +32,7 @@ loop-o-preserved c = elim c.if-is_source.branch [
       c.loop-o.invariant)
 ]
 
-pub returns : goal.returns
-returns c =
+pub returns-clause-known : goal.returns-clause-known
+returns-clause-known c =
     let all : c.loop-o.o ≡ length c.args.plan.now.objects = omega arith in
     knows_all c.args.plan.now (look_of c.loop-o.runs) (subst (λ n. KnowsUpTo c.args.plan.now (look_of c.loop-o.runs) (length c.args.plan.now.blocks) n) all c.loop-o.invariant)
