@@ -1,2 +1,0 @@
-pub use Rattle.gcd_plan.specs.PlanView
-pub mod FirstForms

@@ -1,0 +1,152 @@
+-- What the first line of a text is.
+use Rattle.std.proofs.Common.{◌≡◌, ◌≢◌, ℕ, zero, suc, ◌+◌, ◌^◌, ◌<◌, ◌≤◌, ◌==◌, not, Bool, true, false, List, [], ◌∷◌, ◌++◌, length, Option, Some, None, refl, ap, sym, ◌∙◌, subst, arith, codes, append_assoc, get_or}
+use Rattle.std.specs.List.{join_with_byte, list_all, flat_map, slice_get}
+use Rattle.std.specs.Fmt.{decimal}
+use Rattle.std.proofs.lemmas.Bool.{and_parts, not-true, eqb-false}
+use Rattle.std.proofs.lemmas.List.Splits.{join_with_byte-slice_split}
+use Rattle.std.proofs.lemmas.List.{append-nil, length-append}
+use Rattle.std.proofs.lemmas.Grind.{flat_map-append}
+use Rattle.gcd_plan.specs.Limits.{max_events}
+use Rattle.gcd_plan.specs.PlanView.{PlanView}
+use Rattle.gcd_plan.specs.Validity.{IsPlan}
+use Rattle.gcd_event.specs.declared.event.Event.{Event}
+use Rattle.gcd_history.specs.JournalText.{event_line, count_line, journal_text}
+use Rattle.gcd_text.specs.Fields.{IsWithout, fields_of}
+use Rattle.gcd_journal.specs.Spoken.{IsSpoken, AreSpoken}
+use Rattle.gcd_journal.specs.Journals.{BeginsWith, IsJournal, IsRefusedAt}
+use Rattle.gcd_journal.specs.Named.{IsLookUp}
+use Rattle.gcd_journal.specs.NextLine.{LineSpells, IsFault}
+use Rattle.gcd_journal.specs.Spelling.{Look, event_in}
+use Rattle.gcd_journal.proofs.Cuts.{is_line, without_line, no_line, cut_one_way, joined_line, fields_joined}
+use Rattle.gcd_journal.proofs.Spelled.{fields_of_event, text_of, spells}
+use Rattle.gcd_journal.proofs.SpelledBack.{spelled_back}
+use Rattle.gcd_journal.proofs.OneWay.{count_text, plain_count, text_line, read_text, line_and_rest}
+
+-- the line `events N`, with what follows it
+count_cut : (n : ℕ) (x : List ℕ) → count_line n ++ x ≡ count_text n ++ 10 ∷ x
+count_cut n x = append_assoc (count_text n) (10 ∷ []) x
+
+-- a line has no byte 10
+alone : (text : List ℕ) → is_line text ≡ true → IsWithout 10 text
+alone [] line i within = absurd (omega arith)
+alone (c ∷ text) line zero within = eqb-false c 10 (not-true (c == 10) (and_parts (not (c == 10)) (is_line text) line).0)
+alone (c ∷ text) line (suc i) within = alone text (and_parts (not (c == 10)) (is_line text) line).1 i (omega arith)
+
+-- a text without an end of a line
+pub endless : (look : Look) (text : List ℕ) (count : ℕ) → IsWithout 10 text → IsFault look text count
+endless look text count without = record {
+  no_event = λ rest e spells. absurd (no_line text spells.line rest without spells.cut);
+  no_count = λ begins. no_line text (count_text count) begins.rest without (begins.whole ∙ count_cut count begins.rest);
+}
+
+module _ (look : Look) (line rest : List ℕ) (count : ℕ) (without : IsWithout 10 line) (few : count < 2 ^ 64) where
+  own_line : is_line line ≡ true
+  own_line = without_line line without
+
+  -- the line `events N` spells no event
+  count_apart : line ≡ count_text count → event_in look (fields_of line) ≡ None
+  count_apart same = ap (λ l. event_in look (fields_of l)) same ∙ ap (event_in look) (fields_joined (codes "events") (decimal count ∷ []) (plain_count count few))
+
+  count_line_is : BeginsWith (line ++ 10 ∷ rest) (count_line count) → line ≡ count_text count
+  count_line_is begins =
+      (cut_one_way line (count_text count) rest begins.rest own_line (joined_line (codes "events" ∷ decimal count ∷ []) (plain_count count few)) (begins.whole ∙ count_cut count begins.rest)).0
+
+  pub spoken_line : (e : Event) → Some e ≡ event_in look (fields_of line) → LineSpells look (line ++ 10 ∷ rest) rest e
+  spoken_line e at = record { line = line; cut = refl; alone = without; spells = sym at }
+
+  pub one_too_many : (e : Event) → Some e ≡ event_in look (fields_of line) → max_events ≤ count → IsFault look (line ++ 10 ∷ rest) count
+  one_too_many e at full = record {
+    no_event = λ r f spells. full;
+    no_count = λ begins. let none = count_apart (count_line_is begins) in cc;
+  }
+
+  pub counted_line : line ≡ codes "events " ++ decimal count → BeginsWith (line ++ 10 ∷ rest) (count_line count)
+  counted_line same = record { rest = rest; whole = ap (λ l. l ++ 10 ∷ rest) same ∙ sym (count_cut count rest) }
+
+  pub no_form : None ≡ event_in look (fields_of line) → line ≢ codes "events " ++ decimal count → IsFault look (line ++ 10 ∷ rest) count
+  no_form none other = record {
+    no_event = λ r f spells.
+        let same = (cut_one_way line spells.line rest r own_line (without_line spells.line spells.alone) spells.cut).0 in
+        let both : event_in look (fields_of line) ≡ Some f = ap (λ l. event_in look (fields_of l)) same ∙ spells.spells in
+        let never : None ≡ Some f = none ∙ both in
+        cc;
+    no_count = λ begins. other (count_line_is begins);
+  }
+
+-- ## The events of a text
+
+-- what is read so far
+pub record HasRead (plan : PlanView) (text : List ℕ) (h : List Event) (rest : List ℕ) : Type 0 where
+  pub front : text ≡ flat_map (event_line plan) h ++ rest
+  pub spoken : AreSpoken plan h
+  pub few : length h ≤ max_events
+
+spoken_push : (plan : PlanView) (h : List Event) (e : Event) → AreSpoken plan h → IsSpoken plan e → AreSpoken plan (h ++ e ∷ [])
+spoken_push plan [] e all one zero f at = let same : e ≡ f = cc in subst (IsSpoken plan) same one
+spoken_push plan [] e all one (suc i) f at = cc
+spoken_push plan (d ∷ h) e all one zero f at = all zero f at
+spoken_push plan (d ∷ h) e all one (suc i) f at = spoken_push plan h e (λ j g is. all (suc j) g is) one i f at
+
+pub nothing_read : (plan : PlanView) (text : List ℕ) → HasRead plan text [] text
+nothing_read plan text = record { front = refl; spoken = λ i e at. cc; few = omega arith }
+
+module _ (plan : PlanView) (look : Look) (valid : IsPlan plan) (knows : IsLookUp plan look) where
+  -- a line that spells an event is the event's
+  line_is_its : (line : List ℕ) (e : Event) → event_in look (fields_of line) ≡ Some e → IsSpoken plan e × (text_of plan e ≡ line)
+  line_is_its line e at =
+      let back = spelled_back plan look valid knows.sound (fields_of line) e at in
+      (back.0, ap (join_with_byte 32) back.1 ∙ join_with_byte-slice_split 32 line)
+
+  pub one_more_read : (text : List ℕ) (h : List Event) (rest more : List ℕ) (e : Event) → HasRead plan text h rest → LineSpells look rest more e → length h < max_events
+      → HasRead plan text (h ++ e ∷ []) more
+  one_more_read text h rest more e read line room =
+      let its = line_is_its line.line e line.spells in
+      let cut : rest ≡ event_line plan e ++ more = line.cut ∙ ap (λ l. l ++ 10 ∷ more) (sym its.1) ∙ sym (line_and_rest plan valid e more) in
+      let pushed : flat_map (event_line plan) (h ++ e ∷ []) ≡ flat_map (event_line plan) h ++ event_line plan e =
+      flat_map-append (event_line plan) h (e ∷ []) ∙ ap (λ l. flat_map (event_line plan) h ++ l) (append-nil (event_line plan e)) in
+      record {
+        front = read.front ∙ ap (λ l. flat_map (event_line plan) h ++ l) cut ∙ sym (append_assoc (flat_map (event_line plan) h) (event_line plan e) more) ∙ ap (λ l. l ++ more) (sym pushed);
+        spoken = spoken_push plan h e read.spoken its.0;
+        few = let long = length-append h (e ∷ []) in omega arith;
+      }
+
+  pub whole_journal : (text : List ℕ) (h : List Event) (rest : List ℕ) → HasRead plan text h rest → BeginsWith rest (count_line (length h)) → IsJournal plan text h
+  unfolding journal_text
+  whole_journal text h rest read begins = record {
+    begins = record {
+      rest = begins.rest;
+      whole = read.front ∙ ap (λ l. flat_map (event_line plan) h ++ l) begins.whole ∙ sym (append_assoc (flat_map (event_line plan) h) (count_line (length h)) begins.rest);
+    };
+    spoken = read.spoken;
+    few = read.few;
+  }
+
+  event_spelled : (e : Event) (text more : List ℕ) → IsSpoken plan e → text ≡ event_line plan e ++ more → LineSpells look text more e
+  event_spelled e text more spoken whole = record {
+    line = text_of plan e;
+    cut = whole ∙ line_and_rest plan valid e more;
+    alone = alone (text_of plan e) (text_line plan valid e spoken);
+    spells = ap (event_in look) (read_text plan valid e spoken) ∙ spells plan look knows.known e spoken;
+  }
+
+  pub fault_is_refused : (text : List ℕ) (h : List Event) (rest : List ℕ) (line : ℕ) → HasRead plan text h rest → IsFault look rest (length h) → line ≡ length h + 1 → IsRefusedAt plan text line
+  fault_is_refused text h rest line read fault is = record {
+    events = h;
+    rest = rest;
+    front = read.front;
+    spoken = read.spoken;
+    few = read.few;
+    line_is = is;
+    no_event = λ e spoken begins.
+        let full = fault.no_event begins.rest e (event_spelled e rest begins.rest spoken begins.whole) in
+        let few = read.few in
+        omega arith;
+    no_count = fault.no_count;
+  }
+
+-- a line that is read makes the rest shorter
+pub line_length : (look : Look) (text more : List ℕ) (e : Event) → LineSpells look text more e → length more < length text
+line_length look text more e line =
+    let long = ap length line.cut in
+    let joined = length-append line.line (10 ∷ more) in
+    omega arith

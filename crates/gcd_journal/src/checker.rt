@@ -1,0 +1,59 @@
+// Judges the events of a run.
+ghost use Rattle.std.specs.Prelude.{◌≡◌, ◌+◌, ◌<◌, ◌^◌, [], length, IfOk, IfErr};
+ghost use Rattle.gcd_machine.specs.Stands.{StandsFor};
+ghost use Rattle.gcd_journal.specs.Judged.{IsLawfulWith, IsFaultOf};
+
+use gcd_event::Event;
+use gcd_history::State;
+use gcd_machine::Machine;
+use gcd_plan::Plan;
+use std::alloc::{AllocError, Global};
+
+/// Why events are not called lawful.
+#[derive(Clone, Copy, Debug, PartialEq, Eq)]
+pub enum CheckFault {
+    /// The event at this index, from 0, is the first that is not permitted.
+    Unlawful { index: u32 },
+    /// Memory ran out.
+    Memory,
+}
+
+impl From<AllocError> for CheckFault {
+    ghost use Rattle.gcd_journal.specs.declared.checker.CheckFault.TheVariants.{Memory};
+
+    ghost from_gives = { λ _ fault. fault ≡ Memory };
+
+    fn from(_: AllocError) -> CheckFault {
+        CheckFault::Memory
+    }
+}
+
+/// Judges a run of the plan by its events: the state to which they have come where each is permitted at its position, and else
+/// `Unlawful` at exactly the first that is not. No event after it is looked at. `Memory` comes only of want of memory for the
+/// machine, which is taken at the begin. It costs what the machine's steps cost (this project's own rule).
+pub fn check(alloc: Global, plan: &Plan, events: &[Event]) -> Result<State, CheckFault>
+    requires { length events.now + 2 < 2 ^ 32 }
+    ensures lawful { IfOk result (IsLawfulWith plan.now events.now) }
+    ensures fault { IfErr result (IsFaultOf plan.now events.now) }
+{
+    let mut machine = Machine::new(alloc, plan)?;
+    judged(plan, &mut machine, events)
+}
+
+// Lets a machine that has taken nothing take the events as long as each is permitted.
+fn judged(plan: &Plan, machine: &mut Machine, events: &[Event]) -> Result<State, CheckFault>
+    requires begin { StandsFor machine.old plan.now [] }
+    requires few { length events.now + 2 < 2 ^ 32 }
+    ensures lawful { IfOk result (IsLawfulWith plan.now events.now) }
+    ensures fault { IfErr result (IsFaultOf plan.now events.now) }
+{
+    for (index, e) in events.iter().enumerate() {
+        if machine.permits(*e).is_some() {
+            return Err(CheckFault::Unlawful {
+                index: index as u32,
+            });
+        }
+        machine.apply(*e);
+    }
+    Ok(machine.state())
+}

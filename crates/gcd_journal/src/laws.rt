@@ -1,0 +1,32 @@
+// What holds of journals. Each function's contract is a law; its body is empty.
+ghost use Rattle.std.specs.Prelude.{◌≡◌, ◌≤◌, ◌++◌, ℕ, List, length};
+ghost use Rattle.gcd_plan.specs.PlanView.{PlanView};
+ghost use Rattle.gcd_plan.specs.Limits.{max_events};
+ghost use Rattle.gcd_plan.specs.Validity.{IsPlan};
+ghost use Rattle.gcd_event.specs.declared.event.Event.{Event};
+ghost use Rattle.gcd_history.specs.History.{IsLawful};
+ghost use Rattle.gcd_history.specs.JournalText.{journal_text};
+ghost use Rattle.gcd_journal.specs.Spoken.{AreSpoken};
+ghost use Rattle.gcd_journal.specs.Journals.{IsJournal, IsRefusedAt};
+
+/// A text is a journal of at most one list of events, and then it has no line at fault; and a text has at most one line that is
+/// its first at fault (this project's own rule).
+pub fn journals_are_read_one_way()
+    ensures events { (plan : PlanView) (text : List ℕ) (h k : List Event) → IsPlan plan → IsJournal plan text h → IsJournal plan text k
+        → h ≡ k }
+    ensures journal { (plan : PlanView) (text : List ℕ) (h : List Event) (line : ℕ) → IsPlan plan → IsJournal plan text h
+        → IsRefusedAt plan text line → ⊥ }
+    ensures line { (plan : PlanView) (text : List ℕ) (a b : ℕ) → IsPlan plan → IsRefusedAt plan text a → IsRefusedAt plan text b
+        → a ≡ b }
+{}
+
+/// What is written of events that have lines is a journal of them, whatever follows it (this project's own rule).
+pub fn written_journals_are_read()
+    ensures { (plan : PlanView) (h : List Event) (rest : List ℕ) → AreSpoken plan h → length h ≤ max_events
+        → IsJournal plan (journal_text plan h ++ rest) h }
+{}
+
+/// The events of a lawful history of a valid plan have lines (this project's own rule).
+pub fn lawful_events_are_spoken()
+    ensures { (plan : PlanView) (h : List Event) → IsPlan plan → IsLawful plan h → AreSpoken plan h }
+{}

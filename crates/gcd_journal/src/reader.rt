@@ -1,0 +1,122 @@
+// Reads a journal.
+ghost use Rattle.std.specs.Prelude.{◌≡◌, ◌≢◌, ◌∷◌, ◌++◌, [], codes, IfErr, IfOk, OnOk, MatchBool};
+ghost use Rattle.std.specs.Fmt.{decimal};
+ghost use Rattle.gcd_text.specs.Fields.{IsWithout};
+ghost use Rattle.gcd_journal.specs.Journals.{IsJournal, IsRefusal};
+ghost use Rattle.gcd_journal.specs.Named.{look_of};
+ghost use Rattle.gcd_journal.specs.NextLine.{IsNext};
+
+use crate::names::Names;
+use crate::spelling::event_in;
+use gcd_event::Event;
+use gcd_plan::{MAX_EVENTS, Plan};
+use gcd_text::cut_at;
+use itoa::Buffer;
+use std::alloc::{AllocError, Global};
+
+/// Why a text is not read.
+#[derive(Clone, Copy, Debug, PartialEq, Eq)]
+pub enum JournalFault {
+    /// The line, from 1, is the first at fault: it is neither one event's line more nor the line `events N` with the number
+    /// of events before it.
+    Refused { line: u32 },
+    /// Memory ran out.
+    Memory,
+}
+
+impl From<AllocError> for JournalFault {
+    ghost use Rattle.gcd_journal.specs.declared.reader.JournalFault.TheVariants.{Memory};
+
+    ghost from_gives = { λ _ fault. fault ≡ Memory };
+
+    fn from(_: AllocError) -> JournalFault {
+        JournalFault::Memory
+    }
+}
+
+// What stands next in a text.
+enum Line<'a> {
+    // The line of an event, and what follows it.
+    Spoken(Event, &'a [u8]),
+    // The line `events N`, with the number of events before it.
+    Count,
+    // Neither.
+    Fault,
+}
+
+// Whether the line is `events N` with this number.
+fn is_count(line: &[u8], count: usize) -> bool
+    ensures { MatchBool result (line.now ≡ codes "events " ++ decimal count) (line.now ≢ codes "events " ++ decimal count) }
+{
+    match line.strip_prefix(b"events ".as_slice()) {
+        None => false,
+        Some(rest) => rest == Buffer::new().format(count).as_bytes(),
+    }
+}
+
+// What a line is, and what follows its end.
+fn line_of<'a>(names: &Names, line: &[u8], rest: &'a [u8], count: usize) -> Line<'a>
+    requires { IsWithout 10 line.now }
+    ensures { IsNext (look_of names.now.runs) (line.now ++ 10 ∷ rest.now) count result }
+{
+    match event_in(names, line) {
+        Some(e) => {
+            if count < MAX_EVENTS as usize {
+                Line::Spoken(e, rest)
+            } else {
+                Line::Fault
+            }
+        }
+        None => {
+            if is_count(line, count) {
+                Line::Count
+            } else {
+                Line::Fault
+            }
+        }
+    }
+}
+
+// What stands next in a text, after so many events.
+fn next_line<'a>(names: &Names, text: &'a [u8], count: usize) -> Line<'a>
+    ensures { IsNext (look_of names.now.runs) text.now count result }
+{
+    match cut_at(text, b'\n') {
+        None => Line::Fault,
+        Some((line, rest)) => line_of(names, line, rest, count),
+    }
+}
+
+// One event more.
+fn add(events: &mut Vec<Event>, e: Event) -> Result<(), AllocError>
+    ensures { OnOk result (events.new.items ≡ events.old.items ++ e ∷ []) }
+{
+    events.push(e)?;
+    Ok(())
+}
+
+/// The events of a journal of the plan: those of the text's front up to its line `events N`, after which nothing is read.
+/// `Refused` names exactly the first line at fault: one that is no event's line with fitting fields and names of the plan, a
+/// line `events N` with another number, the 65,536th event, a line that lacks its end, or the line after the last.
+/// `Memory` comes only of want of memory. A name costs one look-up (this project's own rule).
+pub fn read_journal(alloc: Global, plan: &Plan, bytes: &[u8]) -> Result<Vec<Event>, JournalFault>
+    ensures journal { IfOk result (λ events. IsJournal plan.now bytes.now events.items) }
+    ensures fault { IfErr result (IsRefusal plan.now bytes.now) }
+{
+    let names = Names::new(alloc, plan)?;
+    let mut events = Vec::new(alloc);
+    let mut rest = bytes;
+    'lines: loop {
+        match next_line(&names, rest, events.len()) {
+            Line::Spoken(e, more) => {
+                add(&mut events, e)?;
+                rest = more;
+            }
+            Line::Count => return Ok(events),
+            Line::Fault => {
+                let line = events.len() as u32 + 1;
+                return Err(JournalFault::Refused { line });
+            }
+        }
+    }
+}
