@@ -1,11 +1,6 @@
-pub mod Texts
 pub mod Loading
+pub mod Hearing
+pub mod Stories
 pub mod Statuses
-pub mod RunsEnd
-pub mod CallsEnd
-pub mod Reports
-pub mod Turns
-pub mod QueuesOnRoot
-pub mod NothingHeld
-pub mod RunsAreShort
-pub mod RunsDrain
+pub mod Ran
+pub mod Totals

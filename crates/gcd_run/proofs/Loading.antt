@@ -1,17 +1,21 @@
 -- What one load saw of a shelf, said of all loads of a call; and how many loads were made.
 use Rattle.std.proofs.Common.{◌≡◌, ◌≤◌, ◌<◌, ◌∙◌, ℕ, zero, suc, List, [], ◌∷◌, ◌++◌, ◌+◌, length, map, take, get_or, Vec, Global, Option, Some, option_map, slice_get, refl, ap, sym, subst, inl, inr, arith, zero-add}
-use Rattle.std.specs.Prelude.{Result, Ok, Err, OnErr}
+use Rattle.std.specs.Prelude.{Result, Ok, Err, IfErr, OnErr}
+use Rattle.std.specs.Result.{IsErrAnd}
 use Rattle.std.specs.String.{string_bytes}
 use Rattle.std.proofs.lemmas.List.{take_more, take-map, map-append, length-map}
 use Rattle.std.proofs.lemmas.Option.{slice_get-map, slice_get-get_or, slice_get_within}
-use Rattle.gcd_plan.specs.Limits.{max_file_bytes}
+use Rattle.gcd_plan.specs.Limits.{max_file_bytes, max_script_bytes}
 use Rattle.gcd_plan.specs.declared.parts.FilePart.{FilePart}
 use Rattle.gcd_plan.specs.PlanView.{PlanView, FileView, file_view}
 use Rattle.gcd_outer.specs.Outside.{Bytes, ShelfSeen, IsUnread, IsLonger, next_count}
-use Rattle.gcd_run.specs.Loads.{IsLoaded, AreLoaded, IsNextFile, StopsUnread, StopsLonger, MadeLoads, count_after}
-use Rattle.gcd_run.specs.End.{End}
-use Rattle.gcd_run.specs.Ends.{PlanEnds}
-use Rattle.gcd_run.specs.Ends.PlanEnds.{file_unread, file_longer, ran}
+use Rattle.gcd_run.specs.Calls.{MadeLoads, count_after}
+use Rattle.gcd_run.specs.Checks.{IsJournalAt, StopsJournal}
+use Rattle.gcd_run.specs.Checks.StopsJournal.{unloaded as journal_unloaded, refused as journal_refused, wanting as journal_wanting}
+use Rattle.gcd_run.specs.Loads.{IsLoaded, AreLoaded, IsNextFile, IsPlanOf, IsScript, StopsFile, StopsLoad, StopsScript}
+use Rattle.gcd_run.specs.Loads.StopsLoad.{unread, long, wanting}
+use Rattle.gcd_run.specs.Loads.StopsScript.{unloaded as script_unloaded, refused as script_refused, wanting as script_wanting}
+use Rattle.gcd_run.specs.declared.stop.Stop.{Stop}
 
 -- two views of one shelf that tells the same
 pub record SameShelf (s t : ShelfSeen) : Type 0 where
@@ -112,8 +116,13 @@ loaded_count s (file ∷ files) (bytes ∷ contents) loaded = ap (λ n. suc n) (
 loaded_count s [] (bytes ∷ contents) loaded = absurd loaded
 loaded_count s (file ∷ files) [] loaded = absurd loaded
 
--- what the loads of a part of a call saw, said of the whole call
+-- what a part of a call saw, said of the whole call
 module _ (s t : ShelfSeen) (same : SameShelf s t) (before : t.faults_before ≤ s.faults_before) (after : s.faults_after ≤ t.faults_after) where
+  pub load_since : (name : Bytes) (most : ℕ) (longer stop : Stop) → StopsLoad s name most longer stop → StopsLoad t name most longer stop
+  load_since name most longer stop (unread why is) = unread (unread_same s t same before after name why) is
+  load_since name most longer stop (long why is) = long (longer_same s t same name most why) is
+  load_since name most longer stop (wanting is) = wanting is
+
   next_since : (files : List FileView) (f : ℕ) (file : FileView) → IsNextFile s files f file → IsNextFile t files f file
   next_since files f file next = record {
     contents = next.contents;
@@ -121,27 +130,34 @@ module _ (s t : ShelfSeen) (same : SameShelf s t) (before : t.faults_before ≤ 
     next = next.next;
   }
 
-  unread_since : (files : List FileView) (f : ℕ) → StopsUnread s files f → StopsUnread t files f
-  unread_since files f stops = record {
+  pub file_since : (files : List FileView) (f : ℕ) (stop : Stop) → StopsFile s files f stop → StopsFile t files f stop
+  file_since files f stop stops = record {
     file = stops.file;
     next = next_since files f stops.file stops.next;
-    unread = unread_same s t same before after stops.file.path stops.unread;
+    unloaded = load_since stops.file.path max_file_bytes _ stop stops.unloaded;
   }
 
-  longer_since : (files : List FileView) (f line : ℕ) → StopsLonger s files f line → StopsLonger t files f line
-  longer_since files f line stops = record {
-    file = stops.file;
-    next = next_since files f stops.file stops.next;
-    longer = longer_same s t same stops.file.path max_file_bytes stops.longer;
-    line_is = stops.line_is;
+  pub script_since : (name : Bytes) (stop : Stop) → StopsScript s name stop → StopsScript t name stop
+  script_since name stop (script_unloaded why) = script_unloaded (load_since name max_script_bytes _ stop why)
+  script_since name stop (script_refused script line code loaded fault is) =
+      script_refused script line code (loaded_same s t same name max_script_bytes script loaded) fault is
+  script_since name stop (script_wanting is) = script_wanting is
+
+  pub plan_since : (name : Bytes) (plan : PlanView) → IsPlanOf s name plan → IsPlanOf t name plan
+  plan_since name plan is = record {
+    valid = is.valid;
+    script = record {
+      script = is.script.script;
+      loaded = loaded_same s t same name max_script_bytes is.script.script is.script.loaded;
+      declares = is.script.declares;
+    };
   }
 
-  pub plan_ends_since : (plan : PlanView) (loads : ℕ) (end : End) → PlanEnds s plan loads end → PlanEnds t plan loads end
-  plan_ends_since plan loads end (file_unread f stops count is) = file_unread f (unread_since plan.files f stops) count is
-  plan_ends_since plan loads end (file_longer f line stops count is) =
-      file_longer f line (longer_since plan.files f line stops) count is
-  plan_ends_since plan loads end (ran contents loaded count has) =
-      ran contents (are_loaded_same s t same plan.files contents loaded) count has
+  pub journal_since : (name : Bytes) (plan : PlanView) (stop : Stop) → StopsJournal s name plan stop → StopsJournal t name plan stop
+  journal_since name plan stop (journal_unloaded why) = journal_unloaded (load_since name max_file_bytes _ stop why)
+  journal_since name plan stop (journal_refused text line loaded at is) =
+      journal_refused text line (loaded_same s t same name max_file_bytes text loaded) at is
+  journal_since name plan stop (journal_wanting is) = journal_wanting is
 
 -- ## Counts of loads
 
@@ -179,13 +195,21 @@ pub at_most : (i : ℕ) (files : List FilePart) → i < length files → i + 1 �
 at_most i files within = omega (arith, length-map files file_view, within)
 
 -- a file that is next is among the files
-pub unread_within : (shelf : ShelfSeen) (files : List FileView) (f : ℕ) → StopsUnread shelf files f → f + 1 ≤ length files
-unread_within shelf files f stops = omega (arith, slice_get_within files f stops.file stops.next.next)
+pub file_within : (shelf : ShelfSeen) (files : List FileView) (f : ℕ) (stop : Stop) → StopsFile shelf files f stop → f < length files
+file_within shelf files f stop stops = omega (arith, slice_get_within files f stops.file stops.next.next)
 
-pub longer_within : (shelf : ShelfSeen) (files : List FileView) (f line : ℕ) → StopsLonger shelf files f line → f + 1 ≤ length files
-longer_within shelf files f line stops = omega (arith, slice_get_within files f stops.file stops.next.next)
+-- ## Errors that are handed on
+
+-- what holds of an error holds of the same error, handed on
+pub handed_on : {T E : Type 0} (Q : E → Type 0) (r : Result T E) (e : E) → IsErrAnd r (λ y. y ≡ e) → Q e → IfErr r Q
+handed_on Q (Ok x) e is holds = tt
+handed_on Q (Err y) e is holds = subst Q (sym is) holds
 
 -- where something holds anyway, it holds at each error
 pub on_any_err : {T E Q : Type 0} (r : Result T E) → Q → OnErr r Q
 on_any_err (Ok x) holds = tt
 on_any_err (Err e) holds = holds
+
+pub on_err_map : {T E A B : Type 0} (r : Result T E) → (A → B) → OnErr r A → OnErr r B
+on_err_map (Ok x) f holds = tt
+on_err_map (Err e) f holds = f holds

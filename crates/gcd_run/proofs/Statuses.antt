@@ -1,13 +1,32 @@
--- Statuses, their codes, and the statuses that a run can have.
-use Rattle.std.proofs.Common.{◌≡◌, ◌≢◌, ◌∙◌, ◌==◌, ℕ, Bool, true, false, if◌then◌else◌, Option, Some, None, refl, ap, sym}
-use Rattle.std.proofs.lemmas.Bool.{false≢true}
+-- What the answer's status says, by the way in which the call ends.
 use Rattle.std.proofs.lemmas.Option.{same_Some}
+use Rattle.std.proofs.Common.{◌≡◌, ◌⊎◌, ◌∙◌, ◌+◌, ◌==◌, if◌then◌else◌, ℕ, List, [], Option, Some, None, length, ap, subst, refl, sym, inl, inr}
+use Rattle.gcd_plan.specs.PlanView.{PlanView}
+use Rattle.gcd_event.specs.declared.event.Event.{Event}
 use Rattle.gcd_history.specs.declared.state.State.{State}
 use Rattle.gcd_history.specs.declared.state.State.TheVariants.{Drained as RunDrained, Stuck as RunStuck, Misused as RunMisused, Halted as RunHalted, Live as RunLive}
+use Rattle.gcd_journal.specs.Judged.{IsFirstBarred}
+use Rattle.gcd_outer.specs.Outside.{Bytes, SinkSeen, Took}
+use Rattle.gcd_words.specs.Asked.{Asked, RunAsked, request_of, run, check, big}
+use Rattle.gcd_run.specs.Calls.{Calls, InputsSeen, Made, only_loads, with_listen}
+use Rattle.gcd_run.specs.Checks.{CheckEnds, IsJournalAt, IsJudged}
+use Rattle.gcd_run.specs.Checks.CheckEnds.{stopped as check_stopped, judged}
+use Rattle.gcd_run.specs.Checks.IsJudged.{lawful, unlawful}
+use Rattle.gcd_run.specs.End.{End, read_fault, refused_end, no_journal_end, run_text, large_text, lawful_text, stop_end}
+use Rattle.gcd_run.specs.Ends.{AskedEnds, Answers, CallEnds, HasStatus, IsWritten}
+use Rattle.gcd_run.specs.Ends.CallEnds.{told, wanting}
+use Rattle.gcd_run.specs.Ends.IsWritten.{whole, cut_off}
+use Rattle.gcd_run.specs.Loads.{IsPlanOf, IsReady}
+use Rattle.gcd_run.specs.Runs.{BigEnds, Ran, RunEnds, TellsRun}
+use Rattle.gcd_run.specs.Runs.RunEnds.{stopped, ran}
+use Rattle.gcd_run.specs.StatusCodes.{status_code, status_of}
+use Rattle.gcd_run.specs.Statuses.{Asks, IsLawfulTo, Judges, Runs, Says, Stopped, StopsAt}
+use Rattle.gcd_run.specs.Statuses.StopsAt.{of_run, of_check}
 use Rattle.gcd_run.specs.declared.status.Status.{Status}
 use Rattle.gcd_run.specs.declared.status.Status.TheVariants.{Drained, Stuck, NoCommand, ScriptRefused, Misused, Unread, CutOff, NoMemory, Full, JournalRefused}
-use Rattle.gcd_run.specs.StatusCodes.{status_code, status_of}
-use Rattle.gcd_run.specs.Statuses.{IsFirstStatus}
+use Rattle.gcd_run.specs.declared.stop.Stop.{Stop}
+use Rattle.gcd_run.specs.declared.stop.Stop.TheVariants.{Unread as CantRead, Script, Journal, Memory}
+use Rattle.gcd_run.specs.declared.story.Ended.{Ended}
 
 -- the status of a code
 abbrev status_named : ℕ → Option Status
@@ -40,29 +59,153 @@ named_again JournalRefused = refl
 pub same_status : (s t : Status) → status_code s ≡ status_code t → s ≡ t
 same_status s t e = same_Some s t (sym (named_again s) ∙ ap status_named e ∙ named_again t)
 
--- a status that a run can have that nothing halts
-abbrev pub is_of_run : Status → Bool
-is_of_run Drained = true
-is_of_run Stuck = true
-is_of_run Misused = true
-is_of_run Full = true
-is_of_run _ = false
+-- an end that is told is one
+some_end : {a b : End} → Some a ≡ Some b → a ≡ b
+some_end e = cc
 
-run_status : (state : State) → state ≢ RunHalted → is_of_run (status_of state) ≡ true
-run_status RunDrained unhalted = refl
-run_status RunStuck unhalted = refl
-run_status RunMisused unhalted = refl
-run_status RunHalted unhalted = absurd (unhalted refl)
-run_status RunLive unhalted = refl
+module _ (seen : InputsSeen) (sink : SinkSeen) (words : List Bytes) (result : Ended) where
+  -- the status that is answered is one
+  pub one_status : (s t : Status) → HasStatus result s → HasStatus result t → s ≡ t
+  one_status s t is has = same_status s t (sym is ∙ has)
 
--- no run has another
-pub no_run : {A : Type 0} (state : State) (s : Status) → state ≢ RunHalted → is_of_run s ≡ false → status_of state ≡ s → A
-no_run state s unhalted other is = absurd (false≢true (sym other ∙ ap is_of_run (sym is) ∙ run_status state unhalted))
+  -- what a run says by its state
+  says_run : (state : State) → Runs seen sink words result state → Says seen sink words result (status_of state)
+  says_run RunDrained runs = inl runs
+  says_run RunStuck runs = runs
+  says_run RunMisused runs = runs
+  says_run RunHalted runs = inl runs
+  says_run RunLive runs = runs
 
--- a run that has one of the statuses of this stage drained
-pub drained_by : (state : State) → state ≢ RunHalted → IsFirstStatus (status_code (status_of state)) → state ≡ RunDrained
-drained_by RunDrained unhalted first = refl
-drained_by RunStuck unhalted first = absurd (first.not_stuck refl)
-drained_by RunMisused unhalted first = absurd (first.not_misused refl)
-drained_by RunHalted unhalted first = absurd (unhalted refl)
-drained_by RunLive unhalted first = absurd (first.not_full refl)
+  -- what is told and was written whole
+  abbrev Written : End → Type 0
+  Written end = Took sink end.text → Answers result end end.status → Says seen sink words result end.status
+
+  module _ (calls : Calls) (made : Made seen calls) where
+    stopped_by : (stop : Stop) (end : End) → end.journal ≡ [] → StopsAt seen words calls stop → Took sink end.text
+        → Answers result end end.status → Stopped seen sink words result stop end
+    stopped_by stop end none why took answers = record {
+      calls = calls;
+      made = made;
+      why = why;
+      written = took;
+      journal_is = answers.journal_is ∙ none;
+      at_is = answers.at_is;
+    }
+
+    -- a stop says why
+    says_stop : (stop : Stop) (end : End) → StopsAt seen words calls stop → stop_end stop ≡ Some end → Written end
+    says_stop CantRead end why is =
+        subst Written (some_end is) (λ took answers. inr (stopped_by CantRead read_fault refl why took answers))
+    says_stop (Script line code) end why is =
+        subst Written (some_end is) (λ took answers. (line, code, stopped_by (Script line code) (refused_end line code) refl why took answers))
+    says_stop (Journal line) end why is =
+        subst Written (some_end is) (λ took answers. inl (line, stopped_by (Journal line) (no_journal_end line) refl why took answers))
+    says_stop Memory end why is = absurd cc
+
+    -- a run of a script says its state
+    says_script : (asked : RunAsked) (plan : PlanView) (contents : List Bytes) (end : End) → Asks words (run asked)
+        → IsReady seen.shelf asked.script plan contents → calls ≡ with_listen (length plan.files + 1) asked.listen
+        → TellsRun seen.poller seen.clock plan asked.workers (run_text asked.journal plan contents) end → Written end
+    says_script asked plan contents end asks ready calls_are t =
+        subst Written (sym t.end_is)
+        (λ took answers. says_run t.state (inl (record {
+          asked = asked;
+          plan = plan;
+          contents = contents;
+          asks = asks;
+          ready = ready;
+          made = subst (Made seen) calls_are made;
+          ran = subst (λ h. Ran seen.poller seen.clock plan asked.workers h t.state) (sym answers.journal_is) t.ran;
+          at_is = answers.at_is;
+          written = subst (λ h. Took sink (run_text asked.journal plan contents t.state h)) (sym answers.journal_is) took;
+        })))
+
+    -- a run of the large script says its state
+    says_large : (count workers : ℕ) (end : End) → Asks words (big count workers) → calls ≡ only_loads 0
+        → BigEnds seen.poller seen.clock count workers end → Written end
+    says_large count workers end asks calls_are ends =
+        let t = ends.tells in
+        subst Written (sym t.end_is)
+        (λ took answers. says_run t.state (inr (record {
+          count = count;
+          workers = workers;
+          plan = ends.plan;
+          contents = ends.contents;
+          asks = asks;
+          large = ends.large;
+          made = subst (Made seen) calls_are made;
+          ran = subst (λ h. Ran seen.poller seen.clock ends.plan workers h t.state) (sym answers.journal_is) t.ran;
+          at_is = answers.at_is;
+          written = subst (λ h. Took sink (large_text count ends.plan ends.contents t.state h)) (sym answers.journal_is) took;
+        })))
+
+    -- a journal that was judged says what was found
+    judges_by : (script journal : Bytes) (plan : PlanView) (h : List Event) (claim : PlanView → List Event → Type 0) (at : Option (ℕ × ℕ))
+        (text : Bytes) → Asks words (check script journal) → IsPlanOf seen.shelf script plan → IsJournalAt seen.shelf journal plan h
+        → calls ≡ only_loads 2 → result.journal.items ≡ h → claim plan h → result.at ≡ at → Took sink text
+        → Judges seen sink words result claim at text
+    judges_by script journal plan h claim at text asks plan_is read calls_are same is at_is took = record {
+      script = script;
+      journal = journal;
+      plan = plan;
+      asks = asks;
+      plan_is = plan_is;
+      read = subst (IsJournalAt seen.shelf journal plan) (sym same) read;
+      made = subst (Made seen) calls_are made;
+      is = subst (claim plan) (sym same) is;
+      at_is = at_is;
+      written = took;
+    }
+
+    says_judged : (script journal : Bytes) (plan : PlanView) (h : List Event) (end : End) → Asks words (check script journal)
+        → IsPlanOf seen.shelf script plan → IsJournalAt seen.shelf journal plan h → calls ≡ only_loads 2 → IsJudged plan h end → Written end
+    says_judged script journal plan h end asks plan_is read calls_are (unlawful index barred is) =
+        subst Written (sym is)
+        (λ took answers. inr (index, judges_by script journal plan h _ _ _ asks plan_is read calls_are answers.journal_is barred answers.at_is took))
+    says_judged script journal plan h end asks plan_is read calls_are (lawful state law state_is is) =
+        subst Written (sym is)
+        (λ took answers. inr (state, judges_by script journal plan h (IsLawfulTo state) None (lawful_text (length result.journal.items) state)
+        asks plan_is read calls_are answers.journal_is (record { lawful = law; state_is = state_is }) answers.at_is
+        (subst (λ (g : List Event). Took sink (lawful_text (length g) state)) (sym answers.journal_is) took)))
+
+    -- what is told of a request says its status
+    says_asked : (o : Option Asked) (end : End) → request_of words ≡ o → AskedEnds seen o calls end → Written end
+    says_asked None end asks ends =
+        subst Written (sym ends.1)
+        (λ took answers. record {
+          no_command = asks;
+          made = subst (Made seen) ends.0 made;
+          written = took;
+          journal_is = answers.journal_is;
+          at_is = answers.at_is;
+        })
+    says_asked (Some (run asked)) end asks (stopped stop why is) = says_stop stop end (of_run asked asks why) is
+    says_asked (Some (run asked)) end asks (ran plan contents ready calls_are t) = says_script asked plan contents end asks ready calls_are t
+    says_asked (Some (check script journal)) end asks ends = says_check script journal ends.loads end asks ends.calls_are ends.ends
+      where
+        says_check : (script journal : Bytes) (n : ℕ) (end : End) → Asks words (check script journal) → calls ≡ only_loads n
+            → CheckEnds seen.shelf script journal n end → Written end
+        says_check script journal n end asks calls_are (check_stopped stop why is) =
+            says_stop stop end (of_check script journal n asks calls_are why) is
+        says_check script journal n end asks calls_are (judged plan h plan_is read judged_so two) =
+            says_judged script journal plan h end asks plan_is read (calls_are ∙ ap only_loads two) judged_so
+    says_asked (Some (big count workers)) end asks ends = says_large count workers end asks ends.0 ends.1
+
+  -- the status that the call answers says what it says
+  pub says : CallEnds seen sink words result → (s : Status) → HasStatus result s → Says seen sink words result s
+  says (told end calls made ends (whole took answers)) s has =
+      subst (Says seen sink words result) (one_status end.status s answers.status_is has)
+      (says_asked calls made (request_of words) end refl ends took answers)
+  says (told end calls made ends (cut_off took failed answers)) s has =
+      subst (Says seen sink words result) (one_status CutOff s answers.status_is has)
+      (record {
+        end = end;
+        calls = calls;
+        made = made;
+        told = ends;
+        failed = failed;
+        prefix = took;
+        journal_is = answers.journal_is;
+        at_is = answers.at_is;
+      })
+  says (wanting calls made count is) s has = subst (Says seen sink words result) (one_status NoMemory s is.status_is has) is

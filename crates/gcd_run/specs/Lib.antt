@@ -1,11 +1,10 @@
-pub mod Asked
 pub mod StatusCodes
 pub mod End
-pub mod Loads
-pub mod Ends
-pub mod Outcome
 pub mod Stories
-pub mod Requests
-pub mod Shown
+pub mod Calls
+pub mod Loads
+pub mod Runs
+pub mod Listens
+pub mod Checks
+pub mod Ends
 pub mod Statuses
-pub mod Workers

@@ -1,81 +1,97 @@
-// Contents from the shelf.
-ghost use Rattle.std.specs.Prelude.{◌≡◌, ◌≤◌, length, map, MatchResult, IfOk, IfErr};
+// Contents from the shelf, and the plan of a script.
+ghost use Rattle.std.specs.Prelude.{◌≡◌, ◌≤◌, ◌+◌, length, map, IfOk, IfErr};
 ghost use Rattle.gcd_plan.specs.PlanView.{file_view};
 ghost use Rattle.gcd_outer.specs.Outside.{shelf_seen};
-ghost use Rattle.gcd_run.specs.Loads.{IsLoaded, AreLoaded, IsStop, AreStopped, MadeLoads};
+ghost use Rattle.gcd_run.specs.Calls.{MadeLoads};
+ghost use Rattle.gcd_run.specs.Loads.{IsLoaded, AreLoaded, IsPlanOf, IsReady, StopsLoad, StopsScript, StopsFiles, StopsReady, SomeLoads};
 
+use crate::stop::Stop;
 use gcd_outer::{LoadFault, Shelf};
-use gcd_plan::{FilePart, MAX_FILE_BYTES};
-use std::alloc::{AllocError, Global};
+use gcd_plan::{FilePart, MAX_FILE_BYTES, MAX_SCRIPT_BYTES, Plan};
+use gcd_script::{ParseFault, Refusal, parse};
+use std::alloc::Global;
 
-/// Why a content was not loaded.
-#[derive(Clone, Copy, Debug, PartialEq, Eq)]
-pub enum Stop {
-    /// The shelf failed, or it tells and has no such name.
-    Unread,
-    /// The content is longer than its limit.
-    Longer,
-    /// There was not the memory to hold it.
-    Memory,
-}
-
-/// Loads what stands under the name, whole, by one load.
+/// Loads what stands under the name, whole, by one load; `longer` is the answer for a content with more than `most` bytes.
 pub fn load_whole<S: Shelf>(
     alloc: Global,
     shelf: &mut S,
     name: &str,
-    most: usize,
+    most: u32,
+    longer: Stop,
 ) -> Result<Vec<u8>, Stop>
-    ensures loaded { MatchResult result (λ bytes. IsLoaded (shelf_seen S.tells S.content S.loads S.faults shelf.old shelf.new) name.now most bytes.items)
-        (λ stop. IsStop (shelf_seen S.tells S.content S.loads S.faults shelf.old shelf.new) name.now most stop) }
+    ensures loaded { IfOk result (λ bytes. IsLoaded (shelf_seen S.tells S.content S.loads S.faults shelf.old shelf.new) name.now most bytes.items) }
+    ensures stopped { IfErr result (StopsLoad (shelf_seen S.tells S.content S.loads S.faults shelf.old shelf.new) name.now most longer) }
     ensures same { S.content shelf.new ≡ S.content shelf.old }
     ensures faults { S.faults shelf.old ≤ S.faults shelf.new }
     ensures loads { MadeLoads (shelf_seen S.tells S.content S.loads S.faults shelf.old shelf.new) 1 }
 {
     let mut bytes = Vec::new(alloc);
-    match shelf.load(name, most, &mut bytes) {
+    match shelf.load(name, most as usize, &mut bytes) {
         Ok(()) => Ok(bytes),
         Err(LoadFault::Failed) => Err(Stop::Unread),
         Err(LoadFault::Missing) => Err(Stop::Unread),
-        Err(LoadFault::TooLong(_)) => Err(Stop::Longer),
+        Err(LoadFault::TooLong(_)) => Err(longer),
         Err(LoadFault::Memory) => Err(Stop::Memory),
     }
 }
 
-/// Why the files were not loaded.
-#[derive(Clone, Copy, Debug, PartialEq, Eq)]
-pub enum FilesStop {
-    /// One of them can't be read.
-    Unread,
-    /// One of them, declared at this line, is longer than its limit.
-    Longer(u32),
-    /// There was not the memory to hold them.
-    Memory,
+/// Loads the script of this name, by one load, and reads its plan.
+pub fn load_plan<S: Shelf>(alloc: Global, shelf: &mut S, name: &str) -> Result<Plan, Stop>
+    ensures plan { IfOk result (IsPlanOf (shelf_seen S.tells S.content S.loads S.faults shelf.old shelf.new) name.now) }
+    ensures stopped { IfErr result (StopsScript (shelf_seen S.tells S.content S.loads S.faults shelf.old shelf.new) name.now) }
+    ensures same { S.content shelf.new ≡ S.content shelf.old }
+    ensures faults { S.faults shelf.old ≤ S.faults shelf.new }
+    ensures loads { MadeLoads (shelf_seen S.tells S.content S.loads S.faults shelf.old shelf.new) 1 }
+{
+    let too_long = Stop::Script {
+        line: 0,
+        code: Refusal::PastLimit.code(),
+    };
+    let script = load_whole(alloc, shelf, name, MAX_SCRIPT_BYTES, too_long)?;
+    match parse(alloc, &script) {
+        Ok(plan) => Ok(plan),
+        Err(ParseFault::Refused { line, code }) => Err(Stop::Script { line, code }),
+        Err(ParseFault::Memory) => Err(Stop::Memory),
+    }
 }
 
-/// Loads the files, in their order, each by one load, up to the first that can't be loaded.
+/// Loads the files, in their order, each by one load, up to the first that is not loaded.
 pub fn load_files<S: Shelf>(
     alloc: Global,
     shelf: &mut S,
     files: &[FilePart],
-) -> Result<Vec<Vec<u8>>, FilesStop>
+) -> Result<Vec<Vec<u8>>, Stop>
     ensures loaded { IfOk result (λ contents. AreLoaded (shelf_seen S.tells S.content S.loads S.faults shelf.old shelf.new) (map file_view files.now) (map (λ c. c.items) contents.items)) }
     ensures loads { IfOk result (λ _. MadeLoads (shelf_seen S.tells S.content S.loads S.faults shelf.old shelf.new) (length files.now)) }
-    ensures stopped { IfErr result (AreStopped (shelf_seen S.tells S.content S.loads S.faults shelf.old shelf.new) (map file_view files.now)) }
+    ensures stopped { IfErr result (StopsFiles (shelf_seen S.tells S.content S.loads S.faults shelf.old shelf.new) (map file_view files.now)) }
     ensures faults { S.faults shelf.old ≤ S.faults shelf.new }
+    ensures same { S.content shelf.new ≡ S.content shelf.old }
 {
     let mut contents = Vec::new(alloc);
     for file in files {
-        match load_whole(alloc, shelf, file.path.as_str(), MAX_FILE_BYTES as usize) {
-            Ok(bytes) => {
-                if contents.push(bytes).is_err() {
-                    return Err(FilesStop::Memory);
-                }
-            }
-            Err(Stop::Unread) => return Err(FilesStop::Unread),
-            Err(Stop::Longer) => return Err(FilesStop::Longer(file.line)),
-            Err(Stop::Memory) => return Err(FilesStop::Memory),
+        let too_long = Stop::Script {
+            line: file.line,
+            code: Refusal::PastLimit.code(),
+        };
+        let bytes = load_whole(alloc, shelf, file.path.as_str(), MAX_FILE_BYTES, too_long)?;
+        if contents.push(bytes).is_err() {
+            return Err(Stop::Memory);
         }
     }
     Ok(contents)
+}
+
+/// Loads the script of this name and reads its plan, and then loads the plan's files.
+pub fn load_all<S: Shelf>(
+    alloc: Global,
+    shelf: &mut S,
+    name: &str,
+) -> Result<(Plan, Vec<Vec<u8>>), Stop>
+    ensures ready { IfOk result (λ r. IsReady (shelf_seen S.tells S.content S.loads S.faults shelf.old shelf.new) name.now r.0 (map (λ c. c.items) r.1.items)) }
+    ensures loads { IfOk result (λ r. MadeLoads (shelf_seen S.tells S.content S.loads S.faults shelf.old shelf.new) (length r.0.files + 1)) }
+    ensures stopped { IfErr result (λ stop. SomeLoads (shelf_seen S.tells S.content S.loads S.faults shelf.old shelf.new) (λ n. StopsReady (shelf_seen S.tells S.content S.loads S.faults shelf.old shelf.new) name.now n stop)) }
+{
+    let plan = load_plan(alloc, shelf, name)?;
+    let files = load_files(alloc, shelf, plan.files())?;
+    Ok((plan, files))
 }

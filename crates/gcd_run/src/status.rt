@@ -1,34 +1,51 @@
 // The statuses with which a call ends.
 ghost use Rattle.std.specs.Prelude.{◌≡◌};
-ghost use Rattle.gcd_run.specs.StatusCodes.{status_code};
+ghost use Rattle.gcd_run.specs.StatusCodes.{status_code, status_of};
+
+use gcd_history::State;
 
 /// How a call ends (this project's own rules).
 #[derive(Clone, Copy, Debug, PartialEq, Eq)]
 pub enum Status {
-    /// The run drained: nothing may come next, and each block that was submitted has ended.
+    /// The run drained: nothing may come next, and each block that was submitted has ended. Or the journal that was judged is
+    /// lawful.
     Drained,
-    /// The run is stuck: nothing may come next, and a block that was submitted has not ended. No run of the first forms
-    /// is.
+    /// The run is stuck: nothing may come next, and a block that was submitted has not ended.
     Stuck,
     /// The words name no command.
     NoCommand,
     /// The script is refused, or it or a file of it has more bytes than it may.
     ScriptRefused,
-    /// The last event of the run is a misuse. No run of the first forms has one.
+    /// The last event of the run is a misuse.
     Misused,
-    /// The script or a file of it can't be read.
+    /// The script, the journal or a file of the script can't be read, or the poller failed: at its listen, or in the run, which
+    /// is then halted.
     Unread,
     /// The sink failed: it took a proper prefix of the text.
     CutOff,
     /// Memory ran out.
     NoMemory,
-    /// The run has as many events as a run may have, and goes on. No run of the first forms has so many.
+    /// The run has as many events as a run may have, and goes on.
     Full,
-    /// The journal is refused. No command reads one so far.
+    /// The journal is refused: it is none, it is longer than its limit, or an event of it is not permitted.
     JournalRefused,
 }
 
 impl Status {
+    /// The status of a run that is over and has come to this state: a run is halted where its poller failed, and one that goes
+    /// on is full.
+    pub fn of(state: State) -> Status
+        ensures { result ≡ status_of state }
+    {
+        match state {
+            State::Drained => Status::Drained,
+            State::Stuck => Status::Stuck,
+            State::Misused => Status::Misused,
+            State::Halted => Status::Unread,
+            State::Live => Status::Full,
+        }
+    }
+
     /// The number with which the program ends, from 0 to 9.
     pub fn code(self) -> u8
         ensures { result ≡ status_code self }

@@ -1,8 +1,11 @@
 // How a call ends.
-ghost use Rattle.std.specs.Prelude.{◌≡◌, IfOk, string_bytes};
+ghost use Rattle.std.specs.Prelude.{◌≡◌, Some, IfOk};
+ghost use Rattle.gcd_run.specs.End.{state_word};
 
 use crate::status::Status;
+use crate::stop::Stop;
 use gcd_event::Event;
+use gcd_history::State;
 use std::alloc::{AllocError, Global};
 
 /// What the top call answers (this project's own rules).
@@ -10,9 +13,10 @@ use std::alloc::{AllocError, Global};
 pub struct Ended {
     /// The number of the status with which the program ends ([`Status::code`]).
     pub status: u8,
-    /// The journal of the run; empty where nothing ran, and where memory ran out.
+    /// The journal of the run, or the one that was judged; empty where nothing ran or was read, and where memory ran out.
     pub journal: Vec<Event>,
-    /// Where the script is refused, the line, from 1, and the code; line 0 is the script as a whole.
+    /// Where a script is refused, the line, from 1, and the code; line 0 is the script as a whole. Where a journal is refused,
+    /// the line and 1, or the index of the event, from 0, and 2.
     pub at: Option<(u32, u32)>,
 }
 
@@ -22,12 +26,19 @@ pub struct Story {
     pub status: Status,
     pub journal: Vec<Event>,
     pub at: Option<(u32, u32)>,
-    pub text: String,
+    pub text: Vec<u8>,
+}
+
+/// The bytes of a text.
+pub fn bytes_of(alloc: Global, text: &str) -> Result<Vec<u8>, AllocError>
+    ensures { IfOk result (λ bytes. bytes.items ≡ text.now) }
+{
+    Vec::from_slice(alloc, text.as_bytes())
 }
 
 impl Story {
     ghost use Rattle.gcd_run.specs.Stories.{end_of};
-    ghost use Rattle.gcd_run.specs.End.{plain_end, usage_end, read_fault, refused_end};
+    ghost use Rattle.gcd_run.specs.End.{plain_end, usage_end, read_fault, refused_end, no_journal_end, stop_end, ran_end, lawful_end, unlawful_end};
 
     fn plain(alloc: Global, status: Status, text: &str) -> Result<Self, AllocError>
         ensures { IfOk result (λ s. end_of s ≡ plain_end status text.now) }
@@ -36,7 +47,7 @@ impl Story {
             status,
             journal: Vec::new(alloc),
             at: None,
-            text: String::from_str(alloc, text)?,
+            text: bytes_of(alloc, text)?,
         })
     }
 
@@ -51,22 +62,98 @@ impl Story {
         )
     }
 
-    /// The script or a file of it can't be read.
-    pub fn read_fault(alloc: Global) -> Result<Self, AllocError>
+    fn read_fault(alloc: Global) -> Result<Self, AllocError>
         ensures { IfOk result (λ s. end_of s ≡ read_fault) }
     {
         Story::plain(alloc, Status::Unread, "read fault\n")
     }
 
-    /// The script is refused.
-    pub fn refused(alloc: Global, line: u32, code: u8) -> Result<Self, AllocError>
+    fn refused(alloc: Global, line: u32, code: u8) -> Result<Self, AllocError>
         ensures { IfOk result (λ s. end_of s ≡ refused_end line code) }
     {
+        let text = format!(in alloc; "script refused: line {line} code {code}\n")?;
         Ok(Story {
             status: Status::ScriptRefused,
             journal: Vec::new(alloc),
             at: Some((line, u32::from(code))),
-            text: format!(in alloc; "script refused: line {line} code {code}\n")?,
+            text: bytes_of(alloc, text.as_str())?,
         })
+    }
+
+    fn no_journal(alloc: Global, line: u32) -> Result<Self, AllocError>
+        ensures { IfOk result (λ s. end_of s ≡ no_journal_end line) }
+    {
+        let text = format!(in alloc; "journal refused: line {line}\n")?;
+        Ok(Story {
+            status: Status::JournalRefused,
+            journal: Vec::new(alloc),
+            at: Some((line, 1)),
+            text: bytes_of(alloc, text.as_str())?,
+        })
+    }
+
+    /// The call stopped. An `Err` comes of want of memory.
+    pub fn stopped(alloc: Global, stop: Stop) -> Result<Self, AllocError>
+        ensures { IfOk result (λ s. stop_end stop ≡ Some (end_of s)) }
+    {
+        match stop {
+            Stop::Unread => Story::read_fault(alloc),
+            Stop::Script { line, code } => Story::refused(alloc, line, code),
+            Stop::Journal { line } => Story::no_journal(alloc, line),
+            Stop::Memory => Err(AllocError),
+        }
+    }
+
+    /// A run that has come to this state, with what is told of it.
+    pub fn ran(state: State, journal: Vec<Event>, text: Vec<u8>) -> Self
+        ensures { end_of result ≡ ran_end state journal.items text.items }
+    {
+        Story {
+            status: Status::of(state),
+            journal,
+            at: None,
+            text,
+        }
+    }
+
+    /// A journal whose events are lawful and have come to this state.
+    pub fn lawful(alloc: Global, journal: Vec<Event>, state: State) -> Result<Self, AllocError>
+        ensures { IfOk result (λ s. end_of s ≡ lawful_end journal.items state) }
+    {
+        let count = journal.len();
+        let word = state_word(state);
+        let text = format!(in alloc; "lawful {count} {word}\n")?;
+        Ok(Story {
+            status: Status::Drained,
+            journal,
+            at: None,
+            text: bytes_of(alloc, text.as_str())?,
+        })
+    }
+
+    /// A journal whose event at this index is the first that is not permitted.
+    pub fn unlawful(alloc: Global, journal: Vec<Event>, index: u32) -> Result<Self, AllocError>
+        ensures { IfOk result (λ s. end_of s ≡ unlawful_end journal.items index) }
+    {
+        let text = format!(in alloc; "journal refused: event {index}\n")?;
+        Ok(Story {
+            status: Status::JournalRefused,
+            journal,
+            at: Some((index, 2)),
+            text: bytes_of(alloc, text.as_str())?,
+        })
+    }
+}
+
+// The word of a state.
+fn state_word(state: State) -> &'static str
+    ensures { result.now ≡ state_word state }
+{
+    match state {
+        State::Drained => "drained",
+        State::Stuck => "stuck",
+        State::Misused => "misuse",
+        State::Halted => "halted",
+        State::Live => "open",
     }
 }

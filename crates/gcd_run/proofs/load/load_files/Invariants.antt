@@ -1,7 +1,8 @@
 use Rattle.std.proofs.Common.{◌≡◌, ◌≤◌, true, map, take}
 use Rattle.gcd_plan.specs.PlanView.{file_view}
 use Rattle.gcd_outer.specs.Outside.{shelf_seen}
-use Rattle.gcd_run.specs.Loads.{AreLoaded, count_after}
+use Rattle.gcd_run.specs.Loads.{AreLoaded}
+use Rattle.gcd_run.specs.Calls.{count_after}
 use Rattle.gcd_run.proofs.load.load_files.Given as goal
 
 abbrev pub invariant-loop-file : goal.invariant-loop-file

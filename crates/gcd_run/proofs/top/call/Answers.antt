@@ -1,14 +1,15 @@
-use Rattle.std.proofs.Common.{refl, sym}
-use Rattle.std.proofs.lemmas.List.{append-nil}
+use Rattle.std.proofs.Common.{[], append-nil, refl, rules, sym}
 use Rattle.gcd_run.specs.Ends.CallEnds.{told, wanting}
+use Rattle.gcd_run.specs.Stories.{end_of}
 use Rattle.gcd_run.proofs.top.call.Goals as goal
 
-pub returns-in-Ok-clause-ended : goal.returns-in-Ok-clause-ended
-returns-in-Ok-clause-ended g c =
-    let counted = c.in-Ok.ensures.ends in
-    told _ counted.loads counted.made counted.is c.write_story.ensures.written
+pub returns-in-Ok : goal.returns-in-Ok
+returns-in-Ok g c =
+    let t = c.in-Ok.ensures.told in
+    told (end_of c.in-Ok.story) t.calls t.made t.is c.write_story.ensures
 
-pub returns-in-Err-clause-ended : goal.returns-in-Err-clause-ended
-returns-in-Err-clause-ended g c =
-    let counted = c.in-Err.ensures.wanting in
-    wanting counted.loads counted.made counted.is (λ tells. sym (append-nil _)) c.code.ensures c.new.ensures.items refl
+pub returns-in-Err : goal.returns-in-Err
+returns-in-Err g c =
+    let t = c.in-Err.ensures.wanting in
+    wanting t.calls t.made t.is
+    (record { status_is = search rules; nothing = λ _. sym (append-nil _); journal_is = search rules; at_is = refl })

@@ -1,38 +1,95 @@
-use Rattle.std.proofs.Common.{◌≡◌, ◌∙◌, Some, option_map, map, ap, sym, subst}
-use Rattle.std.proofs.lemmas.Result.{IfOk-weaker, on_err_weaker}
-use Rattle.gcd_outer.specs.Outside.{ShelfSeen, shelf_seen}
-use Rattle.gcd_run.specs.Asked.{request_of, run}
-use Rattle.gcd_run.specs.Requests.{run_asked, asked_of}
-use Rattle.gcd_run.specs.Stories.{end_of}
-use Rattle.gcd_run.specs.Ends.{AskedEnds, AskedLoads}
+use Rattle.std.proofs.Common.{◌∙◌, [], append-nil, refl, rules, sym, inl}
+use Rattle.std.proofs.lemmas.Result.{IfOk-weaker}
+use Rattle.gcd_run.specs.Calls.{only_loads}
+use Rattle.gcd_run.proofs.Hearing.{quiet}
+use Rattle.gcd_run.proofs.Loading.{on_any_err, on_err_map}
+use Rattle.gcd_run.proofs.Stories.{calls_of_words, told_of_words}
 use Rattle.gcd_run.proofs.top.tell.Goals as goal
 
-pub returns-in-Some-clause-ends : goal.returns-in-Some-clause-ends
-returns-in-Some-clause-ends g c =
-    let seen : g.row.S.Denot → g.row.S.Denot → ShelfSeen =
-    shelf_seen g.S.Shelf.tells g.S.Shelf.content g.S.Shelf.loads g.S.Shelf.faults in
-    let whole = seen c.args.shelf.now c.run_asked.new.shelf in
-    let asks : request_of (map (λ w. w.now) c.args.words.now) ≡ Some (run (run_asked c.in-Some.request)) =
-    sym c.read_words.ensures ∙ ap (option_map asked_of) c.in-Some.is in
-    IfOk-weaker c.run_asked.result _ _
-    (λ s counted. record {
-      loads = counted.loads;
-      made = counted.made;
-      is = subst (λ o. AskedEnds (record { shelf = whole }) o counted.loads (end_of s)) (sym asks) counted.is;
+pub returns-in_err-read_words-clause-wanting : goal.returns-in_err-read_words-clause-wanting
+returns-in_err-read_words-clause-wanting g c = on_any_err c.from_residual.result
+    (record {
+      calls = only_loads 0;
+      made = record { loads = λ _. refl; listens = quiet g.P.Poller.tells (g.P.Poller.state c.args.poller.now) };
+      is = inl refl;
     })
-    c.run_asked.ensures.ends
 
-pub returns-in-Some-clause-wanting : goal.returns-in-Some-clause-wanting
-returns-in-Some-clause-wanting g c =
-    let seen : g.row.S.Denot → g.row.S.Denot → ShelfSeen =
-    shelf_seen g.S.Shelf.tells g.S.Shelf.content g.S.Shelf.loads g.S.Shelf.faults in
-    let whole = seen c.args.shelf.now c.run_asked.new.shelf in
-    let asks : request_of (map (λ w. w.now) c.args.words.now) ≡ Some (run (run_asked c.in-Some.request)) =
-    sym c.read_words.ensures ∙ ap (option_map asked_of) c.in-Some.is in
-    on_err_weaker c.run_asked.result
-    (λ counted. record {
-      loads = counted.loads;
-      made = counted.made;
-      is = subst (λ o. AskedLoads whole o counted.loads) (sym asks) counted.is;
+pub returns-in-None-clause-told : goal.returns-in-None-clause-told
+returns-in-None-clause-told g c =
+    let asked = rw (c.in-None.is) at c.in_ok-read_words.ensures.exact in
+    IfOk-weaker c.usage.result _ _
+    (λ s is. record {
+      calls = only_loads 0;
+      made = record { loads = λ _. refl; listens = quiet g.P.Poller.tells (g.P.Poller.state c.args.poller.now) };
+      is = told_of_words _ _ _ _ _ asked (refl, is);
     })
-    c.run_asked.ensures.wanting
+    c.usage.ensures
+
+pub returns-in-None-clause-wanting : goal.returns-in-None-clause-wanting
+returns-in-None-clause-wanting g c = on_any_err c.usage.result
+    (record {
+      calls = only_loads 0;
+      made = record { loads = λ _. refl; listens = quiet g.P.Poller.tells (g.P.Poller.state c.args.poller.now) };
+      is = inl refl;
+    })
+
+pub returns-in-Some-Run-clause-told : goal.returns-in-Some-Run-clause-told
+returns-in-Some-Run-clause-told g c =
+    let asked = rw (c.in-Some-Run.is, c.in-Some-Run.field-0-is) at c.in_ok-read_words.ensures.exact in
+    IfOk-weaker c.tell_run.result _ _
+    (λ s t. record { calls = t.calls; made = t.made; is = told_of_words _ _ _ _ _ asked t.is })
+    c.tell_run.ensures.told
+
+pub returns-in-Some-Run-clause-wanting : goal.returns-in-Some-Run-clause-wanting
+returns-in-Some-Run-clause-wanting g c =
+    let asked = rw (c.in-Some-Run.is, c.in-Some-Run.field-0-is) at c.in_ok-read_words.ensures.exact in
+    on_err_map c.tell_run.result
+    (λ t. record { calls = t.calls; made = t.made; is = calls_of_words _ _ _ _ asked t.is })
+    c.tell_run.ensures.wanting
+
+pub returns-in-Some-Check-clause-told : goal.returns-in-Some-Check-clause-told
+returns-in-Some-Check-clause-told g c =
+    let asked = rw (c.in-Some-Check.is, c.in-Some-Check.field-0-is) at c.in_ok-read_words.ensures.exact in
+    IfOk-weaker c.tell_check.result _ _
+    (λ s t. record {
+      calls = only_loads t.loads;
+      made = record { loads = t.made; listens = quiet g.P.Poller.tells (g.P.Poller.state c.args.poller.now) };
+      is = told_of_words _ _ _ _ _ asked (record { loads = t.loads; calls_are = refl; ends = t.is });
+    })
+    c.tell_check.ensures.told
+
+pub returns-in-Some-Check-clause-wanting : goal.returns-in-Some-Check-clause-wanting
+returns-in-Some-Check-clause-wanting g c =
+    let asked = rw (c.in-Some-Check.is, c.in-Some-Check.field-0-is) at c.in_ok-read_words.ensures.exact in
+    on_err_map c.tell_check.result
+    (λ t. record {
+      calls = only_loads t.loads;
+      made = record { loads = t.made; listens = quiet g.P.Poller.tells (g.P.Poller.state c.args.poller.now) };
+      is = calls_of_words _ _ _ _ asked (record { loads = t.loads; calls_are = refl; few = t.is });
+    })
+    c.tell_check.ensures.wanting
+
+pub returns-in-Some-Big-clause-told : goal.returns-in-Some-Big-clause-told
+returns-in-Some-Big-clause-told g c =
+    let asked = rw (c.in-Some-Big.is, c.in-Some-Big.field-0-is) at c.in_ok-read_words.ensures.exact in
+    IfOk-weaker c.tell_large.result _ _
+    (λ s t. record {
+      calls = only_loads 0;
+      made = record {
+        loads = λ _. refl;
+        listens = record { listens = c.tell_large.ensures.listens; added = λ yes. c.tell_large.ensures.addresses yes ∙ sym (append-nil _) };
+      };
+      is = told_of_words _ _ _ _ _ asked (refl, t);
+    })
+    c.tell_large.ensures.told
+
+pub returns-in-Some-Big-clause-wanting : goal.returns-in-Some-Big-clause-wanting
+returns-in-Some-Big-clause-wanting g c = on_any_err c.tell_large.result
+    (record {
+      calls = only_loads 0;
+      made = record {
+        loads = λ _. refl;
+        listens = record { listens = c.tell_large.ensures.listens; added = λ yes. c.tell_large.ensures.addresses yes ∙ sym (append-nil _) };
+      };
+      is = inl refl;
+    })

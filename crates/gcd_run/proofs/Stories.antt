@@ -1,0 +1,50 @@
+-- What is told, and the calls that it took.
+use Rattle.std.proofs.Common.{◌≡◌, ◌+◌, ◌∙◌, ℕ, List, Option, ap, subst, inl, inr}
+use Rattle.gcd_outer.specs.Outside.{Bytes, ShelfSeen}
+use Rattle.gcd_words.specs.Asked.{Asked, RunAsked, request_of}
+use Rattle.gcd_run.specs.Calls.{Calls, InputsSeen, only_loads}
+use Rattle.gcd_run.specs.Checks.{CheckEnds, IsCheckCount, StopsCheck}
+use Rattle.gcd_run.specs.Checks.CheckEnds.{stopped as check_stopped, judged}
+use Rattle.gcd_run.specs.Checks.StopsCheck.{at_script as check_at_script, at_journal}
+use Rattle.gcd_run.specs.End.{End}
+use Rattle.gcd_run.specs.Ends.{AskedCalls, AskedEnds, WordsCall, WordsEnd}
+use Rattle.gcd_run.specs.Loads.{StopsReady}
+use Rattle.gcd_run.specs.Loads.StopsReady.{at_script, at_file}
+use Rattle.gcd_run.specs.Runs.{RunCalls, RunEnds, StopsRun}
+use Rattle.gcd_run.specs.Runs.RunCalls.{of_script, of_file, of_listen, of_run}
+use Rattle.gcd_run.specs.Runs.RunEnds.{stopped, ran}
+use Rattle.gcd_run.specs.Runs.StopsRun.{unready, at_listen, wanting}
+use Rattle.gcd_run.specs.declared.stop.Stop.{Stop}
+use Rattle.gcd_run.proofs.Loading.{file_within}
+
+-- the calls of a run that stops
+pub stops_calls : (seen : InputsSeen) (asked : RunAsked) (calls : Calls) (stop : Stop) → StopsRun seen asked calls stop → RunCalls seen asked calls
+stops_calls seen asked calls stop (unready n (at_script why one) is) = of_script (is ∙ ap only_loads one)
+stops_calls seen asked calls stop (unready n (at_file plan f plan_is stops two) is) =
+    of_file plan f plan_is (file_within seen.shelf plan.files f stop stops) (is ∙ ap only_loads two)
+stops_calls seen asked calls stop (at_listen plan contents address ready listen failed stop_is is) =
+    of_listen plan address ready.plan_is listen is
+stops_calls seen asked calls stop (wanting plan contents ready stop_is is) = of_run plan ready.plan_is is
+
+-- the calls of a run
+pub run_calls : (seen : InputsSeen) (asked : RunAsked) (calls : Calls) (end : End) → RunEnds seen asked calls end → RunCalls seen asked calls
+run_calls seen asked calls end (stopped stop why is) = stops_calls seen asked calls stop why
+run_calls seen asked calls end (ran plan contents ready is told) = of_run plan ready.plan_is is
+
+-- the loads of a check
+pub stops_count : (shelf : ShelfSeen) (script journal : Bytes) (n : ℕ) (stop : Stop) → StopsCheck shelf script journal n stop → IsCheckCount n
+stops_count shelf script journal n stop (check_at_script why one) = inl one
+stops_count shelf script journal n stop (at_journal plan plan_is why two) = inr two
+
+pub check_count : (shelf : ShelfSeen) (script journal : Bytes) (n : ℕ) (end : End) → CheckEnds shelf script journal n end → IsCheckCount n
+check_count shelf script journal n end (check_stopped stop why is) = stops_count shelf script journal n stop why
+check_count shelf script journal n end (judged plan h plan_is read is two) = inr two
+
+-- what is told of a request, said of the words that ask for it
+pub told_of_words : (seen : InputsSeen) (words : List Bytes) (o : Option Asked) (calls : Calls) (end : End) → o ≡ request_of words
+    → AskedEnds seen o calls end → WordsEnd seen words calls end
+told_of_words seen words o calls end asked told = subst (λ (p : Option Asked). AskedEnds seen p calls end) asked told
+
+pub calls_of_words : (seen : InputsSeen) (words : List Bytes) (o : Option Asked) (calls : Calls) → o ≡ request_of words
+    → AskedCalls seen o calls → WordsCall seen words calls
+calls_of_words seen words o calls asked is = inr (subst (λ (p : Option Asked). AskedCalls seen p calls) asked is)

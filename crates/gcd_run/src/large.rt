@@ -1,0 +1,111 @@
+// The command that runs the large script.
+ghost use Rattle.std.specs.Prelude.{◌≡◌, ◌<◌, ◌≤◌, ◌++◌, ℕ, List, true, false, length, map, slice_get, sum, Some, codes, IfOk};
+ghost use Rattle.std.specs.Fmt.{decimal};
+ghost use Rattle.gcd_plan.specs.Limits.{max_blocks};
+ghost use Rattle.gcd_plan.specs.PlanView.{PlanView};
+ghost use Rattle.gcd_plan.specs.Validity.{IsPlan};
+ghost use Rattle.gcd_history.specs.Report.{last_line, line_end};
+ghost use Rattle.gcd_script.specs.Big.{big_script};
+ghost use Rattle.gcd_script.specs.Faults.{IsScriptOf};
+ghost use Rattle.gcd_run.specs.Calls.{seen_by};
+ghost use Rattle.gcd_run.specs.End.{large_file};
+ghost use Rattle.gcd_run.specs.Runs.{BigEnds};
+ghost use Rattle.gcd_run.specs.Stories.{end_of};
+
+use crate::story::{Story, bytes_of};
+use gcd_alone::{Alone, run_alone};
+use gcd_journal::write_last_line;
+use gcd_outer::{Clock, Poller};
+use gcd_plan::Plan;
+use gcd_script::{ParseFault, big_text, parse};
+use gcd_words::BigRequest;
+use std::alloc::{AllocError, Global};
+use std::sync::Wait;
+
+// How many bytes the large script's file has.
+const LARGE_FILE_BYTES: u32 = 4096;
+
+// The large script with so many blocks, as a plan.
+fn large_plan(alloc: Global, count: u32) -> Result<Plan, AllocError>
+    requires some { 0 < count }
+    requires few { count < max_blocks }
+    ensures valid { IfOk result (λ plan. IsPlan plan) }
+    ensures script { IfOk result (IsScriptOf (big_script count)) }
+{
+    let script = big_text(alloc, count)?;
+    match parse(alloc, &script) {
+        Ok(plan) => Ok(plan),
+        Err(ParseFault::Memory) => Err(AllocError),
+        Err(ParseFault::Refused { .. }) => unreachable!(),
+    }
+}
+
+// The file of the large script.
+#[tactic(auto, using(crate::proofs::Totals::one_byte_more))]
+fn large_bytes(alloc: Global) -> Result<Vec<u8>, AllocError>
+    ensures { IfOk result (λ bytes. bytes.items ≡ large_file) }
+{
+    let mut bytes = Vec::with_capacity(alloc, LARGE_FILE_BYTES as usize)?;
+    for i in 0..LARGE_FILE_BYTES {
+        bytes.push(((7 * i + 3) % 256) as u8)?;
+    }
+    Ok(bytes)
+}
+
+// The contents of the plan's files: each is the large script's.
+fn large_files(alloc: Global, plan: &Plan) -> Result<Vec<Vec<u8>>, AllocError>
+    ensures { IfOk result (λ files. map (λ f. f.items) files.items ≡ map (λ file. large_file) plan.now.files) }
+{
+    let mut files = Vec::new(alloc);
+    for _ in 0..plan.files().len() {
+        files.push(large_bytes(alloc)?)?;
+    }
+    Ok(files)
+}
+
+// The values, added up.
+fn total(values: &[u64]) -> u128
+    requires { length values.now ≤ max_blocks }
+    ensures { result ≡ sum values.now }
+{
+    let mut total = 0;
+    for value in values {
+        total += u128::from(*value);
+    }
+    total
+}
+
+// `blocks N` and `total S`, and then the report's last line.
+fn text_of(alloc: Global, plan: &Plan, run: &Alone, count: u16) -> Result<Vec<u8>, AllocError>
+    requires { length run.now.values.items ≤ max_blocks }
+    ensures { IfOk result (λ text. text.items ≡ codes "blocks " ++ (decimal count ++ (line_end
+        ++ (codes "total " ++ (decimal (sum run.now.values.items) ++ (line_end ++ last_line plan.now run.now.state run.now.journal.items)))))) }
+{
+    let total = total(&run.values);
+    let front = format!(in alloc; "blocks {count}\ntotal {total}\n")?;
+    let mut text = bytes_of(alloc, front.as_str())?;
+    write_last_line(alloc, plan, run.state, &run.journal, &mut text)?;
+    Ok(text)
+}
+
+/// `big N`: the large script is made and read, and its plan runs over files that are made too. An `Err` comes of want of
+/// memory.
+pub fn tell_large<R: Wait, P: Poller, C: Clock>(
+    rt: &R,
+    alloc: Global,
+    request: BigRequest,
+    poller: &mut P,
+    clock: &mut C,
+) -> Result<Story, AllocError>
+    requires unwatched { (feed : ℕ) → (P.state poller.old).watched feed ≡ false }
+    requires range { (0 < request.count) × (request.count < max_blocks) × (0 < request.workers) }
+    ensures told { IfOk result (λ s. BigEnds (seen_by P.tells P.state poller.old poller.new) (seen_by C.tells C.state clock.old clock.new) request.count request.workers (end_of s)) }
+    ensures listens { P.tells ≡ true → (P.state poller.new).listens ≡ (P.state poller.old).listens }
+    ensures addresses { P.tells ≡ true → (P.state poller.new).addresses ≡ (P.state poller.old).addresses }
+{
+    let plan = large_plan(alloc, u32::from(request.count))?;
+    let files = large_files(alloc, &plan)?;
+    let run = run_alone(rt, alloc, &plan, &files, poller, clock)?;
+    let text = text_of(alloc, &plan, &run, request.count)?;
+    Ok(Story::ran(run.state, run.journal, text))
+}

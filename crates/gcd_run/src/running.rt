@@ -1,0 +1,143 @@
+// The command that runs a script.
+ghost use Rattle.std.specs.Prelude.{◌≡◌, ◌++◌, ◌+◌, ◌≤◌, ◌<◌, ℕ, List, true, false, length, map, option_map, slice_get, Some, if◌then◌else◌, [], IfOk, IfErr, OnOk, OnErr};
+ghost use Rattle.gcd_history.specs.History.{IsLawful, is_ended};
+ghost use Rattle.gcd_plan.specs.Validity.{IsPlan};
+ghost use Rattle.gcd_history.specs.JournalText.{journal_text};
+ghost use Rattle.gcd_history.specs.Ends.{HasState};
+ghost use Rattle.gcd_history.specs.Values.{value_of};
+ghost use Rattle.gcd_history.specs.declared.state.State.{State};
+ghost use Rattle.gcd_run.specs.Calls.{SomeCalls, inputs_seen, seen_by};
+ghost use Rattle.gcd_run.specs.Listens.{FailsToListen, Listened};
+ghost use Rattle.gcd_run.specs.End.{run_text};
+ghost use Rattle.gcd_run.specs.Runs.{RunCalls, RunEnds, StopsRun, TellsRun};
+ghost use Rattle.gcd_run.specs.Stories.{end_of};
+ghost use Rattle.gcd_words.specs.Requests.{run_asked};
+
+use crate::load::load_all;
+use crate::stop::Stop;
+use crate::story::Story;
+use gcd_event::Event;
+use gcd_alone::{Alone, run_alone};
+use gcd_journal::{write_journal, write_report};
+use gcd_outer::{Clock, Poller, Shelf};
+use gcd_plan::Plan;
+use gcd_words::RunRequest;
+use std::alloc::{AllocError, Global};
+use std::sync::Wait;
+
+// Connections are accepted at the address, if there is one.
+fn listen_at<P: Poller>(poller: &mut P, address: Option<&str>) -> Result<(), Stop>
+    ensures listened { OnOk result (Listened (seen_by P.tells P.state poller.old poller.new) (option_map (λ a. a.now) address.entry)) }
+    ensures failed { IfErr result (FailsToListen (seen_by P.tells P.state poller.old poller.new) (option_map (λ a. a.now) address.entry)) }
+    ensures unwatched { (feed : ℕ) → (P.state poller.new).watched feed ≡ (P.state poller.old).watched feed }
+{
+    match address {
+        None => Ok(()),
+        Some(address) => match poller.listen(address) {
+            Ok(()) => Ok(()),
+            Err(_) => Err(Stop::Unread),
+        },
+    }
+}
+
+// Adds the journal's text, where it is asked for.
+fn add_journal(
+    alloc: Global,
+    plan: &Plan,
+    journal: &[Event],
+    with_journal: bool,
+    text: &mut Vec<u8>,
+) -> Result<(), AllocError>
+    requires valid { IsPlan plan.now }
+    requires lawful { IsLawful plan.now journal.now }
+    ensures { OnOk result (text.new.items ≡ text.old.items ++ (if with_journal then journal_text plan.now journal.now else [])) }
+{
+    if !with_journal {
+        return Ok(());
+    }
+    write_journal(alloc, plan, journal, text)
+}
+
+// What is told of a run: its journal, where it is asked for, and its report.
+fn text_of(
+    alloc: Global,
+    plan: &Plan,
+    run: &Alone,
+    with_journal: bool,
+) -> Result<Vec<u8>, AllocError>
+    requires valid { IsPlan plan.now }
+    requires lawful { IsLawful plan.now run.now.journal.items }
+    requires count { length run.now.values.items ≡ length plan.now.blocks }
+    ensures { (contents : List (List ℕ)) (state : State) → HasState plan.now run.now.journal.items state
+        → ((b : ℕ) → is_ended run.now.journal.items b ≡ true → slice_get run.now.values.items b ≡ Some (value_of plan.now contents b))
+        → IfOk result (λ text. text.items ≡ run_text with_journal plan.now contents state run.now.journal.items) }
+{
+    let mut text = Vec::new(alloc);
+    add_journal(alloc, plan, &run.journal, with_journal, &mut text)?;
+    write_report(alloc, plan, &run.values, &run.journal, &mut text)?;
+    Ok(text)
+}
+
+// The plan runs over its files. An `Err` comes of want of memory.
+fn run_plan<R: Wait, P: Poller, C: Clock>(
+    rt: &R,
+    alloc: Global,
+    plan: &Plan,
+    files: &[Vec<u8>],
+    with_journal: bool,
+    poller: &mut P,
+    clock: &mut C,
+) -> Result<Story, AllocError>
+    requires valid { IsPlan plan.now }
+    requires files { length files.now ≡ length plan.now.files }
+    requires unwatched { (feed : ℕ) → (P.state poller.old).watched feed ≡ false }
+    ensures told { (workers : ℕ) → 0 < workers → IfOk result (λ s. TellsRun (seen_by P.tells P.state poller.old poller.new) (seen_by C.tells C.state clock.old clock.new) plan.now workers (run_text with_journal plan.now (map (λ f. f.items) files.now)) (end_of s)) }
+    ensures listens { P.tells ≡ true → (P.state poller.new).listens ≡ (P.state poller.old).listens }
+    ensures addresses { P.tells ≡ true → (P.state poller.new).addresses ≡ (P.state poller.old).addresses }
+{
+    let run = run_alone(rt, alloc, plan, files, poller, clock)?;
+    let text = text_of(alloc, plan, &run, with_journal)?;
+    Ok(Story::ran(run.state, run.journal, text))
+}
+
+// `run SCRIPT`: the script and its files are loaded, the poller listens, where an address is given, and the plan runs.
+fn run_script<R: Wait, S: Shelf, P: Poller, C: Clock>(
+    rt: &R,
+    alloc: Global,
+    request: RunRequest,
+    shelf: &mut S,
+    poller: &mut P,
+    clock: &mut C,
+) -> Result<Story, Stop>
+    requires unwatched { (feed : ℕ) → (P.state poller.old).watched feed ≡ false }
+    requires workers { 0 < request.workers }
+    ensures told { IfOk result (λ s. SomeCalls (inputs_seen S.tells S.content S.loads S.faults P.tells P.state C.tells C.state shelf.old shelf.new poller.old poller.new clock.old clock.new) (λ calls. RunEnds (inputs_seen S.tells S.content S.loads S.faults P.tells P.state C.tells C.state shelf.old shelf.new poller.old poller.new clock.old clock.new) (run_asked request.entry) calls (end_of s))) }
+    ensures stopped { IfErr result (λ stop. SomeCalls (inputs_seen S.tells S.content S.loads S.faults P.tells P.state C.tells C.state shelf.old shelf.new poller.old poller.new clock.old clock.new) (λ calls. StopsRun (inputs_seen S.tells S.content S.loads S.faults P.tells P.state C.tells C.state shelf.old shelf.new poller.old poller.new clock.old clock.new) (run_asked request.entry) calls stop)) }
+{
+    let (plan, files) = load_all(alloc, shelf, request.script)?;
+    listen_at(poller, request.listen)?;
+    match run_plan(rt, alloc, &plan, &files, request.journal, poller, clock) {
+        Ok(story) => Ok(story),
+        Err(AllocError) => Err(Stop::Memory),
+    }
+}
+
+/// What is told of `run SCRIPT`. An `Err` comes of want of memory.
+pub fn tell_run<R: Wait, S: Shelf, P: Poller, C: Clock>(
+    rt: &R,
+    alloc: Global,
+    request: RunRequest,
+    shelf: &mut S,
+    poller: &mut P,
+    clock: &mut C,
+) -> Result<Story, AllocError>
+    requires unwatched { (feed : ℕ) → (P.state poller.old).watched feed ≡ false }
+    requires workers { 0 < request.workers }
+    ensures told { IfOk result (λ s. SomeCalls (inputs_seen S.tells S.content S.loads S.faults P.tells P.state C.tells C.state shelf.old shelf.new poller.old poller.new clock.old clock.new) (λ calls. RunEnds (inputs_seen S.tells S.content S.loads S.faults P.tells P.state C.tells C.state shelf.old shelf.new poller.old poller.new clock.old clock.new) (run_asked request.entry) calls (end_of s))) }
+    ensures wanting { OnErr result (SomeCalls (inputs_seen S.tells S.content S.loads S.faults P.tells P.state C.tells C.state shelf.old shelf.new poller.old poller.new clock.old clock.new) (RunCalls (inputs_seen S.tells S.content S.loads S.faults P.tells P.state C.tells C.state shelf.old shelf.new poller.old poller.new clock.old clock.new) (run_asked request.entry))) }
+{
+    match run_script(rt, alloc, request, shelf, poller, clock) {
+        Ok(story) => Ok(story),
+        Err(stop) => Story::stopped(alloc, stop),
+    }
+}

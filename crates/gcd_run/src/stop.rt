@@ -1,0 +1,14 @@
+// Why a call stops before it has something to tell.
+
+/// Why a call stops (this project's own rules).
+#[derive(Clone, Copy, Debug, PartialEq, Eq)]
+pub enum Stop {
+    /// The script, the journal or a file of the script can't be read, or the address can't be listened at.
+    Unread,
+    /// The script is refused at this line, from 1, with this code; line 0 is the script as a whole.
+    Script { line: u32, code: u8 },
+    /// The journal is refused at this line, from 1; line 0 is the journal as a whole.
+    Journal { line: u32 },
+    /// Memory ran out.
+    Memory,
+}
