@@ -1,14 +1,13 @@
 -- What a draft holds beside its plan agrees with it after each change.
-use Rattle.std.proofs.Common.{ℕ, zero, suc, ◌≡◌, ◌<◌, ◌+◌, ◌==◌, Bool, true, false, ◌&&◌, cond, ltb, List, [], ◌∷◌, ◌++◌, length, map, set, Option, Some, None, IfSome, is_none, option_to_list, slice_get, get_or, count_by, refl, sym, ap, ◌∙◌, subst, arith}
+use Rattle.std.proofs.Common.{ℕ, zero, suc, ◌≡◌, ◌<◌, ◌+◌, ◌==◌, Bool, true, false, ◌&&◌, cond, ltb, List, [], ◌∷◌, ◌++◌, length, set, Option, Some, None, IfSome, is_none, option_to_list, slice_get, get_or, count_by, refl, sym, ap, ◌∙◌, subst, arith}
 use Rattle.std.specs.List.{list_any}
-use Rattle.std.specs.Option.{option_map_or}
 use Rattle.std.specs.Str.{bytes_eq}
 use Rattle.std.proofs.lemmas.Bool.{and_parts, ltb-true}
 use Rattle.std.proofs.lemmas.List.{length_push, length-set}
 use Rattle.std.proofs.lemmas.List.Sums.{sum_by_push}
 use Rattle.gcd_plan.specs.Kinds.{has_kind, is_group_kind, is_queue, is_source}
-use Rattle.gcd_plan.specs.PlanView.{PlanView, ObjView, BlkView, FileView, cancel_block}
-use Rattle.gcd_plan.specs.Validity.{IsPlan, submitted_blocks, act_count, block_of, is_act, is_submittable}
+use Rattle.gcd_plan.specs.PlanView.{PlanView, ObjView, BlkView, cancel_block}
+use Rattle.gcd_plan.specs.Validity.{IsPlan, submitted_blocks, block_of, is_act, is_submittable}
 use Rattle.gcd_plan.specs.declared.act.Act.{Act}
 use Rattle.gcd_plan.specs.declared.act.Act.TheVariants as act
 use Rattle.gcd_plan.specs.declared.kind.Kind.{Kind}
@@ -27,7 +26,7 @@ use Rattle.gcd_script.specs.Sound.{IsBody}
 use Rattle.gcd_script.specs.Names.{meaning_of, is_unused}
 use Rattle.gcd_script.proofs.BlockActs as block_acts
 use Rattle.gcd_script.proofs.Declares.{file_declares, object_declares, block_declares, same_meanings}
-use Rattle.gcd_script.proofs.Inserts.{fit_from, block_names, object_names}
+use Rattle.gcd_script.proofs.Inserts.{fit_from}
 use Rattle.gcd_script.proofs.ObjectChanges.{StandsAsSource, source_stands}
 use Rattle.gcd_script.proofs.SourceChanges as source_changes
 use Rattle.gcd_script.proofs.Submitted.{flag_after, flag_same}

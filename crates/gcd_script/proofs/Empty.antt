@@ -1,11 +1,9 @@
 -- What stands beside the plan before the first line.
-use Rattle.std.proofs.Common.{ℕ, zero, suc, ◌≡◌, ◌==◌, Bool, true, false, cond, List, [], ◌∷◌, Option, Some, None, option_map, codes, get_or, refl, sym, ap, ◌∙◌}
-use Rattle.std.specs.List.{list_any}
+use Rattle.std.proofs.Common.{ℕ, zero, suc, ◌≡◌, true, false, cond, List, [], ◌∷◌, Option, Some, None, option_map, codes, get_or, refl, sym, ap, ◌∙◌}
 use Rattle.std.specs.Option.{option_or}
 use Rattle.std.specs.Str.{bytes_eq}
-use Rattle.gcd_plan.specs.Validity.{submitted_blocks}
 use Rattle.gcd_script.specs.declared.meaning.Meaning.{Meaning}
-use Rattle.gcd_script.specs.declared.meaning.Meaning.TheVariants.{File, Object, Block}
+use Rattle.gcd_script.specs.declared.meaning.Meaning.TheVariants.{Object, Block}
 use Rattle.gcd_script.specs.Agreement.{AgreeWithPlan, Declares}
 use Rattle.gcd_script.specs.Drafts.{empty_draft}
 use Rattle.gcd_script.specs.Names.{meaning_of}

@@ -1,5 +1,5 @@
 -- What a used name stands for.
-use Rattle.std.proofs.Common.{ℕ, ◌≡◌, ◌<◌, ◌==◌, Bool, true, false, not, ◌&&◌, cond, ltb, List, [], ◌∷◌, length, map, Option, Some, None, Ok, Err, option_map, slice_get, codes, refl, sym, ap, ◌∙◌, subst, arith}
+use Rattle.std.proofs.Common.{ℕ, ◌≡◌, ◌<◌, Bool, true, false, cond, ltb, List, [], ◌∷◌, length, map, Some, None, Ok, Err, option_map, slice_get, codes, refl, ap, ◌∙◌, subst, arith}
 use Rattle.std.specs.Option.{option_map_or, option_or}
 use Rattle.std.specs.Str.{bytes_eq}
 use Rattle.std.proofs.lemmas.Bool.{and_from, lt-ltb}
@@ -13,7 +13,6 @@ use Rattle.gcd_plan.specs.declared.numbers.Obj.{Obj}
 use Rattle.gcd_script.specs.declared.meaning.Meaning.{Meaning}
 use Rattle.gcd_script.specs.declared.meaning.Meaning.TheVariants.{File, Object, Block}
 use Rattle.gcd_script.specs.declared.refusal.Refusal.TheVariants.{UnknownName, OtherKind}
-use Rattle.gcd_script.specs.Meant.{Meant, then_meant}
 use Rattle.gcd_script.specs.Names.{place_of, meaning_among, meaning_of}
 use Rattle.gcd_script.specs.Words.{known, file, block, object, object_but_root, as_file, as_block, as_object, but_root}
 use Rattle.gcd_script.proofs.Inversions.{follows}

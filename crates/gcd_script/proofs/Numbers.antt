@@ -1,12 +1,11 @@
 -- Which words are numbers of a range.
-use Rattle.std.proofs.Common.{ℕ, ◌≡◌, ◌≢◌, ◌<◌, ◌≤◌, ◌^◌, Bool, true, false, ◌&&◌, cond, leb, List, Ok, Err, decimal, refl, sym, ap, ◌∙◌, subst, arith}
+use Rattle.std.proofs.Common.{ℕ, ◌≡◌, ◌≢◌, ◌<◌, ◌≤◌, true, ◌&&◌, cond, leb, List, Ok, Err, decimal, sym, ap, ◌∙◌, subst, arith}
 use Rattle.std.specs.Str.{bytes_eq}
 use Rattle.std.specs.Str.Parse.{digits_value}
 use Rattle.std.proofs.lemmas.Bool.{and_parts, and_from, le-leb, leb-true, false_from_ne_true}
 use Rattle.std.proofs.lemmas.Fmt.{decimal_is_IsNumeral}
 use Rattle.gcd_text.specs.Numbers.{number_end}
 use Rattle.gcd_script.specs.declared.refusal.Refusal.TheVariants.{BadNumber}
-use Rattle.gcd_script.specs.Meant.{Meant}
 use Rattle.gcd_script.specs.Words.{number, is_number}
 use Rattle.gcd_script.proofs.Places.{same_bytes, bytes_same}
 

@@ -1,31 +1,27 @@
 -- A change of what a source does: one act more in its handler, or its cancellation block.
-use Rattle.std.proofs.Common.{ℕ, zero, suc, ◌≡◌, ◌<◌, ◌≤◌, ◌+◌, ◌==◌, Bool, true, false, not, ◌&&◌, List, [], ◌∷◌, ◌++◌, length, map, set, Option, Some, None, is_none, option_map, option_to_list, slice_get, get_or, count_by, sum_by, refl, sym, ap, ◌∙◌, subst, arith}
+use Rattle.std.proofs.Common.{ℕ, zero, suc, ◌≡◌, ◌<◌, ◌≤◌, ◌+◌, ◌==◌, true, false, not, ◌&&◌, List, [], ◌∷◌, ◌++◌, length, map, set, Option, Some, None, option_map, option_to_list, slice_get, get_or, count_by, refl, sym, ap, ◌∙◌, subst, arith}
 use Rattle.std.specs.List.{list_all, flat_map}
 use Rattle.std.specs.Option.{option_map_or}
 use Rattle.std.specs.Str.{bytes_eq}
 use Rattle.std.proofs.lemmas.Bool.{and_parts, and_from}
-use Rattle.std.proofs.lemmas.List.{append-nil, length_push, length-set}
-use Rattle.std.proofs.lemmas.List.Concat.{flat_map-append}
+use Rattle.std.proofs.lemmas.List.{length-set}
 use Rattle.std.proofs.lemmas.List.Sums.{sum_by-set}
 use Rattle.std.proofs.lemmas.Option.{slice_get_within, slice_get-map, get_or_from_slice_get}
 use Rattle.std.proofs.Math.Seq.{map-set_same}
-use Rattle.gcd_plan.specs.Kinds.{has_kind, is_source, is_source_kind, is_queue, is_queue_kind}
+use Rattle.gcd_plan.specs.Kinds.{is_source, is_source_kind, is_queue}
 use Rattle.gcd_plan.specs.Limits.{max_acts}
 use Rattle.gcd_plan.specs.Names.{is_name}
-use Rattle.gcd_plan.specs.PlanView.{PlanView, ObjView, BlkView, kind_of, first_target}
-use Rattle.gcd_plan.specs.Validity.{IsPlan, names_of, root_view, block_of, blocks_of, submitted_blocks, act_count, is_act, is_handler_act, is_object, is_block, is_work, is_submittable, is_kind, has_path, has_fields, has_source_fields}
+use Rattle.gcd_plan.specs.PlanView.{PlanView, ObjView, BlkView, first_target}
+use Rattle.gcd_plan.specs.Validity.{IsPlan, names_of, root_view, blocks_of, submitted_blocks, act_count, is_act, is_handler_act, is_object, is_block, is_submittable, is_kind, has_path, has_fields, has_source_fields}
 use Rattle.gcd_plan.specs.declared.act.Act.{Act}
 use Rattle.gcd_plan.specs.declared.kind.Kind.{Kind}
 use Rattle.gcd_plan.specs.declared.kind.Kind.TheVariants.{Serial, Concurrent, Group, Semaphore, Add, Or, Timer, Read}
 use Rattle.gcd_plan.specs.declared.numbers.Blk.{Blk}
 use Rattle.gcd_plan.specs.declared.numbers.Obj.{Obj}
 use Rattle.gcd_plan.proofs.Sums.{count_by-flat_map, count_by-append}
-use Rattle.gcd_plan.proofs.Quantifiers.{list_all_get, list_all_push}
-use Rattle.gcd_script.specs.Changes.{with_object_at, object_with_act, with_cancel}
-use Rattle.gcd_script.specs.Judged.{is_free}
+use Rattle.gcd_script.specs.Changes.{with_object_at}
 use Rattle.gcd_script.proofs.BlockActs.{set_all}
 use Rattle.gcd_script.proofs.Growth.{Grows, list_all_map, object_grows, block_grows}
-use Rattle.gcd_script.proofs.Submitted.{once_more}
 use Rattle.gcd_script.proofs.Targets.{same_targets_reach}
 
 -- the first element stays where a later one changes

@@ -1,22 +1,19 @@
 -- Lines with another number of words than their forms have.
-use Rattle.std.proofs.Common.{ℕ, ◌≡◌, ◌<◌, ◌≤◌, ◌⊎◌, List, [], ◌∷◌, length, map, Option, Some, None, Ok, Err, Bor, refl, sym, ap, ◌∙◌, ⊎_elim, inl, inr, arith}
+use Rattle.std.proofs.Common.{ℕ, ◌≡◌, ◌<◌, ◌≤◌, ◌⊎◌, List, [], ◌∷◌, length, Option, Some, None, Err, refl, ap, ⊎_elim, arith}
 use Rattle.std.specs.Option.{option_map_or}
-use Rattle.std.proofs.lemmas.List.{length-map}
 use Rattle.gcd_plan.specs.PlanView.{PlanView}
-use Rattle.gcd_plan.specs.declared.act.Act.{Act}
 use Rattle.gcd_plan.specs.declared.numbers.Run.{Run}
 use Rattle.gcd_script.specs.declared.keyword.Keyword.{Keyword}
 use Rattle.gcd_script.specs.declared.keyword.Keyword.TheVariants.{File, Queue, Group, Semaphore, Source, Cancelled, Until, Block, Handler, Main, Submit, GroupSubmit, OneObject, Target, Merge}
 use Rattle.gcd_script.specs.declared.keyword.GroupSubmission.{GroupSubmission}
-use Rattle.gcd_script.specs.declared.line.Line.{Line}
 use Rattle.gcd_script.specs.declared.refusal.Refusal.TheVariants.{NoForm}
 use Rattle.gcd_script.specs.Acts.{act_line, group_submit_act}
 use Rattle.gcd_script.specs.Declarations.{queue_line, source_line, block_line}
 use Rattle.gcd_script.specs.Drafts.{DraftView}
-use Rattle.gcd_script.specs.Forms.{line_by, form_of}
+use Rattle.gcd_script.specs.Forms.{line_by}
 use Rattle.gcd_script.specs.Judged.{judged, line_of}
 use Rattle.gcd_script.specs.Keywords.{keyword_of}
-use Rattle.gcd_script.specs.Meant.{Meant, then_meant}
+use Rattle.gcd_script.specs.Meant.{then_meant}
 
 pub queue_other : (plan : PlanView) (words : List (List ℕ)) → (length words < 2) ⊎ (6 ≤ length words) → queue_line plan words ≡ Err NoForm
 queue_other plan [] other = refl

@@ -1,12 +1,10 @@
 -- How a text is read, line by line.
-use Rattle.std.proofs.Common.{ℕ, ◌≡◌, ◌+◌, Bool, true, false, cond, List, [], ◌∷◌, Option, Some, None, Result, Ok, Err, option_map, refl, sym, ap, ◌∙◌, subst}
+use Rattle.std.proofs.Common.{ℕ, ◌≡◌, ◌+◌, true, false, cond, List, [], ◌∷◌, Some, None, Ok, Err, option_map, refl, sym, ap, ◌∙◌}
 use Rattle.std.specs.Result.{result_err}
-use Rattle.gcd_plan.specs.PlanView.{PlanView}
 use Rattle.gcd_script.specs.declared.fault.ParseFault.{ParseFault}
 use Rattle.gcd_script.specs.declared.fault.ParseFault.TheVariants.{Refused, Memory}
 use Rattle.gcd_script.specs.declared.line.Line.{Line}
 use Rattle.gcd_script.specs.declared.line.Line.TheVariants.{DeclareFile, DeclareObject, DeclareBlock, SetUntil, SetCancel, OpenHandler, OpenMain, AddAct}
-use Rattle.gcd_script.specs.declared.refusal.Refusal.{Refusal}
 use Rattle.gcd_script.specs.declared.refusal.Refusal.TheVariants.{NoForm, NotOneMain}
 use Rattle.gcd_script.specs.Changes.{change}
 use Rattle.gcd_script.specs.Codes.{refusal_code}

@@ -1,5 +1,5 @@
 -- The acts whose words mean something fit the plan.
-use Rattle.std.proofs.Common.{ℕ, ◌≡◌, ◌<◌, Bool, true, ◌&&◌, ltb, leb, List, [], ◌∷◌, length, Option, Some, None, Ok, Err, refl, sym, ap, ◌∙◌, subst}
+use Rattle.std.proofs.Common.{ℕ, ◌≡◌, true, ◌&&◌, ltb, leb, List, [], ◌∷◌, length, Option, Some, None, Ok, Err, ap, subst}
 use Rattle.std.specs.Option.{option_map_or}
 use Rattle.std.proofs.lemmas.Bool.{and_parts, and_from, lt-ltb}
 use Rattle.gcd_plan.specs.Kinds.{has_kind, is_queue, is_queue_kind, is_node_kind, is_group_kind, is_merge_kind}
@@ -23,8 +23,8 @@ use Rattle.gcd_script.specs.declared.refusal.Refusal.TheVariants.{NoForm}
 use Rattle.gcd_script.specs.Acts.{act_line, submitting, submit_act, group_submitting, group_submit_act, asked_of, acting, object_act, target_act, merge_act}
 use Rattle.gcd_script.specs.Asked.{asks}
 use Rattle.gcd_script.specs.Drafts.{DraftView}
-use Rattle.gcd_script.specs.Meant.{Meant, meant, both}
-use Rattle.gcd_script.specs.Sound.{IsDraft, Fits}
+use Rattle.gcd_script.specs.Meant.{Meant, both}
+use Rattle.gcd_script.specs.Sound.{Fits}
 use Rattle.gcd_script.specs.Words.{number, block, queue, object, object_but_root}
 use Rattle.gcd_script.proofs.Inversions.{made_of, both_are, in_range}
 use Rattle.gcd_script.proofs.Known.{block_submittable, object_asked, object_above}

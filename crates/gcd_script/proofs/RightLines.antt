@@ -1,13 +1,13 @@
 -- A line that means something is right, and a right line keeps a draft sound.
-use Rattle.std.proofs.Common.{ℕ, zero, suc, count_by, ◌≡◌, ◌<◌, ◌≤◌, ◌+◌, Bool, true, false, not, ◌&&◌, cond, ltb, leb, List, [], ◌∷◌, ◌++◌, length, set, Option, Some, None, Ok, Err, IfSome, is_none, option_map, slice_get, codes, refl, sym, ap, ◌∙◌, subst, lit≤, arith}
+use Rattle.std.proofs.Common.{ℕ, zero, suc, count_by, ◌≡◌, ◌<◌, ◌≤◌, ◌+◌, true, false, not, cond, ltb, leb, List, [], ◌∷◌, length, Option, Some, None, Ok, Err, IfSome, option_map, slice_get, codes, refl, sym, ap, ◌∙◌, subst, lit≤, arith}
 use Rattle.std.specs.Option.{option_map_or}
 use Rattle.std.specs.Str.{bytes_eq}
 use Rattle.std.proofs.lemmas.Bool.{and_parts, ltb-true, leb-true}
 use Rattle.std.proofs.lemmas.List.{length_push, length-set}
-use Rattle.gcd_plan.specs.Kinds.{has_kind, is_source, is_source_kind}
+use Rattle.gcd_plan.specs.Kinds.{is_source, is_source_kind}
 use Rattle.gcd_plan.specs.Limits.{max_files, max_objects, max_blocks, max_acts, max_time}
 use Rattle.gcd_plan.specs.PlanView.{PlanView, BlkView}
-use Rattle.gcd_plan.specs.Validity.{IsPlan, reaches_root, act_count, is_work, is_act, is_handler_act, is_submittable, block_of}
+use Rattle.gcd_plan.specs.Validity.{reaches_root, act_count}
 use Rattle.gcd_plan.specs.declared.act.Act.{Act}
 use Rattle.gcd_plan.specs.declared.numbers.Blk.{Blk}
 use Rattle.gcd_plan.specs.declared.numbers.Obj.{Obj}
@@ -20,25 +20,21 @@ use Rattle.gcd_script.specs.declared.line.Line.{Line}
 use Rattle.gcd_script.specs.declared.line.Line.TheVariants.{DeclareFile, DeclareObject, DeclareBlock, SetUntil, SetCancel, OpenHandler, OpenMain, AddAct}
 use Rattle.gcd_script.specs.declared.refusal.Refusal.TheVariants.{NoForm, Repeated, InHandler, PastLimit}
 use Rattle.gcd_script.specs.Acts.{submit_act, group_submit_act, object_act, target_act, merge_act}
-use Rattle.gcd_script.specs.Changes.{change, after, new_object, with_act, with_cancel}
+use Rattle.gcd_script.specs.Changes.{change, new_object}
 use Rattle.gcd_script.specs.Drafts.{DraftView, empty_draft, new_block}
 use Rattle.gcd_script.specs.Forms.{line_by, form_of}
-use Rattle.gcd_script.specs.Judged.{is_free, is_untaken, is_allowed, may_have, has_room, judged, line_of}
+use Rattle.gcd_script.specs.Judged.{is_free, is_untaken, is_allowed, has_room, judged, line_of}
 use Rattle.gcd_script.specs.Keywords.{keyword_of}
-use Rattle.gcd_script.specs.Meant.{Meant}
-use Rattle.gcd_script.specs.Names.{is_unused}
 use Rattle.gcd_script.specs.Sound.{IsDraft, IsRight, IsBody, Fits}
 use Rattle.gcd_script.proofs.BlockActs as block_acts
 use Rattle.gcd_script.proofs.Growth.{Grows, has_kind_grows}
 use Rattle.gcd_script.proofs.Inserts.{fit_from}
 use Rattle.gcd_script.proofs.Inversions.{follows}
-use Rattle.gcd_script.proofs.ObjectChanges as change_of
 use Rattle.gcd_script.proofs.ObjectChanges.{source_stands}
 use Rattle.gcd_script.proofs.Places.{same_bytes}
 use Rattle.gcd_script.proofs.RightActs.{act_fits, submit_fits, group_submit_fits, object_act_fits, target_fits, merge_fits}
 use Rattle.gcd_script.proofs.RightWords.{file_fits, queue_fits, group_fits, semaphore_fits, source_fits, cancelled_fits, until_fits, block_fits, handler_fits, main_fits}
 use Rattle.gcd_script.proofs.SourceChanges as source_changes
-use Rattle.gcd_script.proofs.Targets.{has_kind_within}
 use Rattle.gcd_script.proofs.Valid.{file_valid, object_valid, block_valid, until_valid}
 
 module _ (d : DraftView) (sound : IsDraft d) where

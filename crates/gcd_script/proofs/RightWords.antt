@@ -1,29 +1,25 @@
 -- The words of a line that mean something name what is there: what each form gives fits the draft.
-use Rattle.std.proofs.Common.{ℕ, ◌≡◌, ◌<◌, ◌==◌, Bool, true, false, not, ◌&&◌, cond, ltb, leb, List, [], ◌∷◌, length, Option, Some, None, Ok, Err, is_none, codes, refl, sym, ap, ◌∙◌, subst, lit≤, arith}
-use Rattle.std.specs.Option.{option_map_or}
+use Rattle.std.proofs.Common.{ℕ, ◌≡◌, Bool, true, false, not, ◌&&◌, ltb, leb, List, [], ◌∷◌, length, Some, None, Ok, codes, refl, subst}
 use Rattle.std.specs.Str.{bytes_eq}
 use Rattle.std.proofs.lemmas.Bool.{and_parts, and_from, lt-ltb}
-use Rattle.gcd_plan.specs.Kinds.{has_kind, is_queue, is_queue_kind, is_source_kind, is_node_kind, is_group_kind, is_semaphore_kind, is_merge_kind}
+use Rattle.gcd_plan.specs.Kinds.{is_queue, is_queue_kind, is_source_kind, is_merge_kind}
 use Rattle.gcd_plan.specs.Limits.{max_value, max_time, max_file_bytes}
 use Rattle.gcd_plan.specs.Names.{is_path}
 use Rattle.gcd_plan.specs.PlanView.{PlanView}
-use Rattle.gcd_plan.specs.Validity.{IsPlan, is_object, is_kind, has_path, has_fields, is_work, is_act, is_submittable}
-use Rattle.gcd_plan.specs.declared.act.Act.{Act}
+use Rattle.gcd_plan.specs.Validity.{is_object, is_work}
 use Rattle.gcd_plan.specs.declared.kind.Kind.{Kind}
 use Rattle.gcd_plan.specs.declared.kind.Kind.TheVariants.{Serial, Concurrent, Group, Semaphore, Add, Or, Timer, Read}
-use Rattle.gcd_plan.specs.declared.numbers.Blk.{Blk}
 use Rattle.gcd_plan.specs.declared.numbers.Obj.{Obj}
-use Rattle.gcd_plan.specs.declared.numbers.Run.{Run}
 use Rattle.gcd_plan.specs.declared.work.How.{How}
 use Rattle.gcd_plan.specs.declared.work.Work.{Work}
 use Rattle.gcd_script.specs.declared.line.Line.{Line}
-use Rattle.gcd_script.specs.declared.line.Line.TheVariants.{DeclareFile, DeclareObject, DeclareBlock, SetUntil, SetCancel, OpenHandler, OpenMain, AddAct}
+use Rattle.gcd_script.specs.declared.line.Line.TheVariants.{DeclareFile, DeclareObject, DeclareBlock, SetUntil, SetCancel, OpenHandler, OpenMain}
 use Rattle.gcd_script.specs.declared.refusal.Refusal.TheVariants.{NoForm, BadName}
 use Rattle.gcd_script.specs.Changes.{new_object}
 use Rattle.gcd_script.specs.Declarations.{root, one_of, file_line, object_line, queue_line, group_line, semaphore_line, source_line, cancelled_line, until_line, work, work_line, range, whole, counting, block_line, handler_line, main_line}
 use Rattle.gcd_script.specs.Drafts.{DraftView}
 use Rattle.gcd_script.specs.Keywords.{queue_kinds, merge_kinds, counts}
-use Rattle.gcd_script.specs.Meant.{Meant, meant, both, must, given}
+use Rattle.gcd_script.specs.Meant.{Meant, meant, both, must}
 use Rattle.gcd_script.specs.Names.{is_unused}
 use Rattle.gcd_script.specs.Sound.{IsDraft, Fits}
 use Rattle.gcd_script.specs.Words.{new_name, path, number, file, block, queue, source}

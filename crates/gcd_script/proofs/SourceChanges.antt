@@ -1,11 +1,10 @@
 -- One act more in a source's handler, and a source's cancellation block.
-use Rattle.std.proofs.Common.{ℕ, ◌≡◌, ◌<◌, ◌≤◌, ◌+◌, ◌==◌, Bool, true, false, ◌&&◌, List, [], ◌∷◌, ◌++◌, length, map, Option, Some, None, is_none, option_to_list, slice_get, count_by, refl, sym, ap, ◌∙◌, subst, arith}
-use Rattle.std.specs.List.{list_all, flat_map}
+use Rattle.std.proofs.Common.{ℕ, ◌≡◌, ◌<◌, ◌+◌, ◌==◌, Bool, true, ◌&&◌, List, [], ◌∷◌, ◌++◌, length, map, Option, Some, None, is_none, option_to_list, count_by, refl, sym, ap, ◌∙◌, arith}
+use Rattle.std.specs.List.{flat_map}
 use Rattle.std.specs.Option.{option_map_or, option_and_then}
-use Rattle.std.proofs.lemmas.Bool.{and_parts, and_from}
+use Rattle.std.proofs.lemmas.Bool.{and_from}
 use Rattle.std.proofs.lemmas.List.{append-nil, length_push}
 use Rattle.std.proofs.lemmas.List.Concat.{flat_map-append}
-use Rattle.gcd_plan.specs.Kinds.{is_source}
 use Rattle.gcd_plan.specs.Limits.{max_acts}
 use Rattle.gcd_plan.specs.PlanView.{PlanView, ObjView, cancel_block}
 use Rattle.gcd_plan.specs.Validity.{IsPlan, block_of, blocks_of, submitted_blocks, act_count, is_act, is_handler_act, is_object, is_submittable}

@@ -1,13 +1,13 @@
 -- First targets lead to root: what one more object, and a change of an object, keep.
-use Rattle.std.proofs.Common.{ℕ, zero, suc, ◌≡◌, ◌<◌, ◌≤◌, ◌+◌, true, false, cond, eqb, List, [], ◌∷◌, ◌++◌, length, Option, Some, None, option_map, refl, sym, ap, ◌∙◌, subst, add-one, arith, ⊎_elim, Bool}
-use Rattle.std.specs.List.{list_all, slice_get}
+use Rattle.std.proofs.Common.{ℕ, zero, suc, ◌≡◌, ◌<◌, ◌≤◌, ◌+◌, true, false, eqb, List, [], ◌∷◌, ◌++◌, length, Some, option_map, sym, ap, ◌∙◌, subst, add-one, arith, ⊎_elim, Bool}
+use Rattle.std.specs.List.{slice_get}
 use Rattle.std.specs.Option.{option_map_or}
 use Rattle.std.proofs.lemmas.Bool.{and_parts, eqb-true, cases_lt}
 use Rattle.std.proofs.lemmas.List.{length_push}
-use Rattle.gcd_plan.specs.PlanView.{PlanView, ObjView, kind_of, first_target}
+use Rattle.gcd_plan.specs.PlanView.{PlanView, ObjView, first_target}
 use Rattle.gcd_plan.specs.Kinds.{has_kind, is_queue, is_queue_kind}
 use Rattle.gcd_plan.specs.Chains.{chain_by, is_in}
-use Rattle.gcd_plan.specs.Validity.{IsPlan, is_object, is_kind, has_path, has_fields, has_queue_fields, has_no_fields, has_source_fields, root_view, reaches_root}
+use Rattle.gcd_plan.specs.Validity.{IsPlan, is_object, is_kind, has_path, has_fields, root_view, reaches_root}
 use Rattle.gcd_plan.specs.declared.kind.Kind.{Kind}
 use Rattle.gcd_plan.specs.declared.kind.Kind.TheVariants.{Serial, Concurrent, Group, Semaphore, Add, Or, Timer, Read}
 use Rattle.gcd_plan.proofs.Places.{slice_get_kept, slice_get-append_left, slice_get-append_seam, slice_get_some}

@@ -21,7 +21,6 @@ use Rattle.gcd_script.specs.declared.names.Asked.{Asked}
 use Rattle.gcd_script.specs.declared.names.Asked.TheVariants.{Source, Node, Group, Semaphore, MergeSource, Any}
 use Rattle.gcd_script.specs.Asked.{asks}
 use Rattle.gcd_script.specs.declared.refusal.Refusal.TheVariants.{NoForm}
-use Rattle.gcd_script.specs.Drafts.{DraftView}
 use Rattle.gcd_script.specs.Meant.{Meant, meant, both}
 use Rattle.gcd_script.specs.Words.{number, block, queue, object, object_but_root}
 

@@ -1,6 +1,6 @@
 -- What a right line adds to a draft (this project's own rules). Every declaration closes the body that was open; a block,
 -- a handler and `main` open one.
-use Rattle.std.specs.Prelude.{ℕ, ◌+◌, Bool, true, false, List, [], ◌∷◌, ◌++◌, length, Option, Some, None, slice_get, slice_set}
+use Rattle.std.specs.Prelude.{ℕ, ◌+◌, Bool, true, false, List, [], ◌∷◌, ◌++◌, length, Some, None, slice_get, slice_set}
 use Rattle.std.specs.Option.{option_map_or}
 use Rattle.gcd_plan.specs.PlanView.{PlanView, ObjView, BlkView, FileView}
 use Rattle.gcd_plan.specs.declared.act.Act.{Act}

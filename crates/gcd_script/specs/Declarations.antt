@@ -1,6 +1,6 @@
 -- What the lines that declare something mean, by the words after the first (this project's own rules). Each definition has
 -- an equation for each number of words that its form may have; words of another number are no form.
-use Rattle.std.specs.Prelude.{ℕ, ◌&&◌, not, Bool, true, false, if◌then◌else◌, List, [], ◌∷◌, Option, Some, None, Ok, Err, codes}
+use Rattle.std.specs.Prelude.{ℕ, ◌&&◌, not, Bool, true, false, if◌then◌else◌, List, [], ◌∷◌, Some, None, Ok, Err, codes}
 use Rattle.std.specs.Option.{option_map_or}
 use Rattle.std.specs.Str.{bytes_eq}
 use Rattle.gcd_plan.specs.Limits.{max_value, max_time, max_file_bytes}

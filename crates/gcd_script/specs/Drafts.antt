@@ -1,5 +1,5 @@
 -- What the lines of a script declare so far: the plan, and the body that is open (this project's own rules).
-use Rattle.std.specs.Prelude.{ℕ, ◌+◌, Bool, true, false, List, [], ◌∷◌, Option, None, codes}
+use Rattle.std.specs.Prelude.{ℕ, ◌+◌, Bool, false, List, [], ◌∷◌, Option, None, codes}
 use Rattle.gcd_plan.specs.PlanView.{PlanView, BlkView}
 use Rattle.gcd_plan.specs.Validity.{root_view}
 use Rattle.gcd_plan.specs.declared.numbers.Run.{Run}

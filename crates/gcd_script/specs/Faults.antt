@@ -5,7 +5,7 @@ use Rattle.std.specs.Result.{result_err}
 use Rattle.gcd_plan.specs.PlanView.{PlanView}
 use Rattle.gcd_script.specs.declared.line.Line.{Line}
 use Rattle.gcd_script.specs.declared.refusal.Refusal.{Refusal}
-use Rattle.gcd_script.specs.declared.refusal.Refusal.TheVariants.{NoForm, NotOneMain}
+use Rattle.gcd_script.specs.declared.refusal.Refusal.TheVariants.{NotOneMain}
 use Rattle.gcd_script.specs.Changes.{after}
 use Rattle.gcd_script.specs.Codes.{refusal_code}
 use Rattle.gcd_script.specs.Drafts.{DraftView, empty_draft, counted}

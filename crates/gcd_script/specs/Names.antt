@@ -1,5 +1,5 @@
 -- What names mean: all names of a plan share one space (this project's own rules).
-use Rattle.std.specs.Prelude.{ℕ, not, ◌&&◌, Bool, if◌then◌else◌, List, map, Option, Some, None, is_none, option_map, codes}
+use Rattle.std.specs.Prelude.{ℕ, not, ◌&&◌, Bool, if◌then◌else◌, List, map, Option, None, is_none, option_map, codes}
 use Rattle.std.specs.List.{position_from}
 use Rattle.std.specs.Option.{option_or}
 use Rattle.std.specs.Str.{bytes_eq}

@@ -1,5 +1,5 @@
 -- What holds of a draft that right lines make, and which lines are right.
-use Rattle.std.specs.Prelude.{◌≡◌, ℕ, ◌<◌, ◌&&◌, nat_le, not, Bool, true, List, length, Some, IfSome}
+use Rattle.std.specs.Prelude.{◌≡◌, ℕ, ◌<◌, ◌&&◌, nat_le, true, List, length, Some, IfSome}
 use Rattle.std.specs.Option.{option_map_or}
 use Rattle.gcd_plan.specs.Kinds.{is_source}
 use Rattle.gcd_plan.specs.Limits.{max_time}

@@ -1,4 +1,4 @@
-use Rattle.std.proofs.Common.{◌≡◌, ◌∷◌, sym, ap, ◌∙◌}
+use Rattle.std.proofs.Common.{sym, ap, ◌∙◌}
 use Rattle.gcd_script.specs.Lines.{words_of}
 use Rattle.gcd_script.specs.Views.{draft_view}
 use Rattle.gcd_script.proofs.Others.{too_many}

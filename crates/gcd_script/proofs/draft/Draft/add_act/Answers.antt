@@ -1,7 +1,7 @@
-use Rattle.std.proofs.Common.{◌<◌, IfSome, length, sym, subst, ◌∙◌}
+use Rattle.std.proofs.Common.{◌<◌, IfSome, sym, subst}
 use Rattle.gcd_plan.specs.PlanView.{view_of}
 use Rattle.gcd_plan.specs.Validity.{block_of}
-use Rattle.gcd_script.specs.Agreement.{AgreeWithPlan, look_up}
+use Rattle.gcd_script.specs.Agreement.{look_up}
 use Rattle.gcd_script.specs.Sound.{IsBody}
 use Rattle.gcd_script.proofs.Agreement.{act_agrees, flag_stands}
 use Rattle.gcd_script.proofs.draft.Draft.add_act.Goals as goal

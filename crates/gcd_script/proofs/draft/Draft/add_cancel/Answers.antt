@@ -1,7 +1,6 @@
-use Rattle.std.proofs.Common.{sym, subst}
 use Rattle.std.proofs.lemmas.Bool.{and_parts}
 use Rattle.gcd_plan.specs.PlanView.{view_of}
-use Rattle.gcd_script.specs.Agreement.{AgreeWithPlan, look_up}
+use Rattle.gcd_script.specs.Agreement.{look_up}
 use Rattle.gcd_script.proofs.Agreement.{cancelled_agrees}
 use Rattle.gcd_script.proofs.draft.Draft.add_cancel.Goals as goal
 

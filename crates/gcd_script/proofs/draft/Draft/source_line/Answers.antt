@@ -1,4 +1,4 @@
-use Rattle.std.proofs.Common.{ℕ, List, Bor, ◌<◌, ◌≤◌, length, map, inl, inr, sym, subst, arith}
+use Rattle.std.proofs.Common.{ℕ, List, Bor, map, inl, inr, sym, arith}
 use Rattle.std.proofs.lemmas.Bool.{ltb-true, ltb-false, leb-true, leb-false}
 use Rattle.std.proofs.lemmas.List.{length-map}
 use Rattle.gcd_plan.specs.PlanView.{view_of}
