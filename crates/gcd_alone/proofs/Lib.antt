@@ -1,1 +1,2 @@
+mod Goings
 mod ValuesMore

@@ -69,6 +69,11 @@ values_ended plan files h w c given v within is are =
           get_set_other given c.0 b v (slice_get_within given b 0 was) (λ e. both_ways _ parts.0 (eq-eqb c.0 b (sym e))) ∙ was;
     }
 
+-- an event that is no End ends no block
+pub ends_none : (e : Event) → ((w : ℕ) (c : Blk) → e ≡ End w c → ⊥) → (b : ℕ) → ends b e ≡ false
+ends_none (End w c) other b = absurd (other w c refl)
+ends_none _ other b = refl
+
 -- before the first event no block has a value
 pub no_values : (plan : PlanView) (files : List (List ℕ)) → AreValues plan files [] (replicate (length plan.blocks) 0)
 unfolding is_ended

@@ -1,11 +1,13 @@
 // The turns of worker 0 alone.
-ghost use Rattle.std.specs.Prelude.{◌≡◌, ◌≤◌, ◌++◌, ◌∷◌, [], ℕ, true, false, List, length, IfOk};
+ghost use Rattle.std.specs.Prelude.{◌≡◌, ◌≤◌, ◌++◌, ◌∷◌, [], ℕ, true, false, List, Ok, length, IfOk, OnOk};
 ghost use Rattle.gcd_event.specs.declared.event.Event.{Event};
 ghost use Rattle.gcd_jobs.specs.Contents.{contents};
 ghost use Rattle.gcd_machine.specs.Stands.{StandsFor};
 ghost use Rattle.gcd_outer.specs.Outside.{ClockState};
 ghost use Rattle.gcd_outer.specs.Tells.{PollerState};
+ghost use Rattle.gcd_turn.specs.Asked.{IsFree, KeepsListens};
 ghost use Rattle.gcd_turn.specs.Promises.{HasEnded};
+ghost use Rattle.gcd_turn.specs.Turns.{HasRoom};
 ghost use Rattle.gcd_alone.specs.Going.{IsGoing, IsRun};
 ghost use Rattle.gcd_alone.specs.Ran.{RanAlone};
 
@@ -41,14 +43,25 @@ fn work<P: Poller, C: Clock>(
     poller: &mut P,
     clock: &mut C,
     left: Option<u32>,
-) -> Result<(), AllocError> {
+) -> Result<(), AllocError>
+    requires run { IsRun plan.now (contents files.now) run.old.journal.items run.old.values.items run.old.machine }
+    requires room { HasRoom plan.now run.old.journal.items }
+    requires free { IsFree plan.now run.old.journal.items outlook.old.news (P.state poller.old) left }
+    ensures run { OnOk result (IsRun plan.now (contents files.now) run.new.journal.items run.new.values.items run.new.machine) }
+    ensures kept { KeepsListens P.tells (P.state poller.old) (P.state poller.new) }
+    ensures going { (before : PollerState) (early : ClockState)
+        → IsGoing P.tells C.tells plan.now before early (P.state poller.old) (C.state clock.old) run.old.journal.items outlook.old
+        → OnOk result (IsGoing P.tells C.tells plan.now before early (P.state poller.new) (C.state clock.new) run.new.journal.items outlook.new) }
+{
     if let Some(e) = run.machine.choose(0, 0) {
-        return run.record(plan, files, e);
+        run.record(plan, files, e)?;
+        return Ok(());
     }
-    match outlook.idle(plan, &run.machine, poller, clock, left) {
-        Some(e) => run.put(plan, files, e),
-        None => Ok(()),
-    }
+    let Some(e) = outlook.idle(plan, &run.machine, poller, clock, left) else {
+        return Ok(());
+    };
+    run.put(plan, files, e)?;
+    Ok(())
 }
 
 // A turn, up to its first recorded event. Whether the run goes on.
@@ -59,7 +72,15 @@ fn turn<P: Poller, C: Clock>(
     files: &[Vec<u8>],
     poller: &mut P,
     clock: &mut C,
-) -> Result<bool, AllocError> {
+) -> Result<bool, AllocError>
+    requires { IsRun plan.now (contents files.now) run.old.journal.items run.old.values.items run.old.machine }
+    ensures run { OnOk result (IsRun plan.now (contents files.now) run.new.journal.items run.new.values.items run.new.machine) }
+    ensures left { result ≡ Ok false → HasEnded plan.now run.new.journal.items }
+    ensures kept { KeepsListens P.tells (P.state poller.old) (P.state poller.new) }
+    ensures going { (before : PollerState) (early : ClockState)
+        → IsGoing P.tells C.tells plan.now before early (P.state poller.old) (C.state clock.old) run.old.journal.items outlook.old
+        → OnOk result (IsGoing P.tells C.tells plan.now before early (P.state poller.new) (C.state clock.new) run.new.journal.items outlook.new) }
+{
     match outlook.ask(plan, &run.machine, poller, clock) {
         Ask::Leave => Ok(false),
         Ask::Told(e) => {
@@ -78,6 +99,32 @@ fn turn<P: Poller, C: Clock>(
     }
 }
 
+// Turn by turn, until the run has ended.
+fn run_turns<R: Wait, P: Poller, C: Clock>(
+    rt: &R,
+    run: &mut Running,
+    outlook: &mut Outlook,
+    plan: &Plan,
+    files: &[Vec<u8>],
+    poller: &mut P,
+    clock: &mut C,
+) -> Result<(), AllocError>
+    requires { IsRun plan.now (contents files.now) run.old.journal.items run.old.values.items run.old.machine }
+    ensures run { OnOk result (IsRun plan.now (contents files.now) run.new.journal.items run.new.values.items run.new.machine) }
+    ensures ended { OnOk result (HasEnded plan.now run.new.journal.items) }
+    ensures kept { KeepsListens P.tells (P.state poller.old) (P.state poller.new) }
+    ensures going { (before : PollerState) (early : ClockState)
+        → IsGoing P.tells C.tells plan.now before early (P.state poller.old) (C.state clock.old) run.old.journal.items outlook.old
+        → OnOk result (IsGoing P.tells C.tells plan.now before early (P.state poller.new) (C.state clock.new) run.new.journal.items outlook.new) }
+{
+    for _ in rt.forever() {
+        if !turn(run, outlook, plan, files, poller, clock)? {
+            return Ok(());
+        }
+    }
+    unreachable!()
+}
+
 /// Runs the plan by worker 0 alone.
 pub fn run_alone<R: Wait, P: Poller, C: Clock>(
     rt: &R,
@@ -86,18 +133,26 @@ pub fn run_alone<R: Wait, P: Poller, C: Clock>(
     files: &[Vec<u8>],
     poller: &mut P,
     clock: &mut C,
-) -> Result<Alone, AllocError> {
+) -> Result<Alone, AllocError>
+    requires files { length files.now ≡ length plan.now.files }
+    requires unwatched { (feed : ℕ) → (P.state poller.old).watched feed ≡ false }
+    ensures ran { IfOk result (λ a. RanAlone plan.now (contents files.now)
+        (record { tells = P.tells; before = P.state poller.old; after = P.state poller.new })
+        (record { tells = C.tells; before = C.state clock.old; after = C.state clock.new })
+        a.journal.items a.values.items a.state) }
+    ensures stands { IfOk result (λ a. StandsFor a.machine plan.now a.journal.items) }
+    ensures listens { P.tells ≡ true → (P.state poller.new).listens ≡ (P.state poller.old).listens }
+    ensures addresses { P.tells ≡ true → (P.state poller.new).addresses ≡ (P.state poller.old).addresses }
+    ensures poller_faults { (P.state poller.old).faults ≤ (P.state poller.new).faults }
+{
     let mut run = Running::new(alloc, plan, files)?;
     let mut outlook = Outlook::new(clock);
-    for _ in rt.forever() {
-        if !turn(&mut run, &mut outlook, plan, files, poller, clock)? {
-            break;
-        }
-    }
+    run_turns(rt, &mut run, &mut outlook, plan, files, poller, clock)?;
+    let state = run.machine.state();
     Ok(Alone {
-        state: run.machine.state(),
         journal: run.journal,
         values: run.values,
+        state,
         machine: run.machine,
     })
 }

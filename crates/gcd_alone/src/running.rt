@@ -48,10 +48,13 @@ impl Running {
         ensures journal { IfOk result (λ r. r.journal.items ≡ []) }
         ensures run { IfOk result (λ r. IsRun plan.now (contents files.now) r.journal.items r.values.items r.machine) }
     {
+        let journal = Vec::with_capacity(alloc, MAX_EVENTS as usize)?;
+        let values = Vec::from_elem(alloc, 0, plan.blocks() as usize)?;
+        let machine = Machine::new(alloc, plan)?;
         Ok(Running {
-            journal: Vec::with_capacity(alloc, MAX_EVENTS as usize)?,
-            values: Vec::from_elem(alloc, 0, plan.blocks() as usize)?,
-            machine: Machine::new(alloc, plan)?,
+            journal,
+            values,
+            machine,
         })
     }
 
