@@ -116,9 +116,9 @@ one_place p xs i j x y few at there h k =
     elim (cases_order i j) [
       | inl same ↦ same
       | inr other ↦ elim other [
-          | inl before ↦ absurd (omega (arith, twice p xs i j x y before at there h k))
-          | inr after ↦ absurd (omega (arith, twice p xs j i y x after there at k h))
-        ]
+        | inl before ↦ absurd (omega (arith, twice p xs i j x y before at there h k))
+        | inr after ↦ absurd (omega (arith, twice p xs j i y x after there at k h))
+      ]
     ]
 
 -- an element of the second of two lists

@@ -7,3 +7,4 @@ pub mod SpelledBack
 pub mod OneWay
 pub mod LawfulSpoken
 pub mod NextLines
+pub mod FirstBarred

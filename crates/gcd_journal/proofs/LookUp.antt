@@ -126,9 +126,9 @@ module _ (plan : PlanView) (old new : Look) (run : Run) (valid : IsPlan plan) (h
             learns (name_of_run plan r) ∙ ap (λ b. if b then Some run else old (name_of_run plan r)) same
             ∙ ap Some (runs_apart plan run r valid has h ((bytes_eq-Decides (name_of_run plan run) (name_of_run plan r)).0 same))
         | inr other ↦ elim known [
-            | inl equal ↦ absurd (both_ways (bytes_eq (name_of_run plan run) (name_of_run plan r)) other ((bytes_eq-Decides (name_of_run plan run) (name_of_run plan r)).1 (ap (name_of_run plan) (sym equal))))
-            | inr before ↦ learns (name_of_run plan r) ∙ ap (λ b. if b then Some run else old (name_of_run plan r)) other ∙ before
-          ]
+          | inl equal ↦ absurd (both_ways (bytes_eq (name_of_run plan run) (name_of_run plan r)) other ((bytes_eq-Decides (name_of_run plan run) (name_of_run plan r)).1 (ap (name_of_run plan) (sym equal))))
+          | inr before ↦ learns (name_of_run plan r) ∙ ap (λ b. if b then Some run else old (name_of_run plan r)) other ∙ before
+        ]
       ]
 
 same_blk : (b c : Blk) → b.0 ≡ c.0 → b ≡ c

@@ -90,15 +90,15 @@ module _ (plan : PlanView) (look : Look) (valid : IsPlan plan) (sound : (name : 
         let word = same_text kind (codes "tick") is.0 in
         subst (λ f. Spells plan f (kind ∷ a ∷ [])) same (record { fits = (back.1, back.2); named = tt }, ap (λ k. k ∷ decimal parts.0 ∷ []) word ∙ ap (λ f. kind ∷ f ∷ []) (sym back.0))
     | inr other ↦ elim (guarded (bytes_eq kind (codes "feed_end")) _ None e other.1) [
-        | inl is ↦
-            let parts = then_there (λ s. Some (FeedEnd s)) (source_in look a) e is.1 in
-            let named = sound a (Source parts.0) (is_source_name (look a) parts.0 parts.1) in
-            let same : FeedEnd parts.0 ≡ e = cc in
-            let word = same_text kind (codes "feed_end") is.0 in
-            subst (λ f. Spells plan f (kind ∷ a ∷ [])) same
-            (record { fits = run_fits plan (Source parts.0) valid named.0; named = named.0 }, ap (λ k. k ∷ name_of_obj plan parts.0.0 ∷ []) word ∙ ap (λ f. kind ∷ f ∷ []) named.1)
-        | inr none ↦ cc
-      ]
+      | inl is ↦
+          let parts = then_there (λ s. Some (FeedEnd s)) (source_in look a) e is.1 in
+          let named = sound a (Source parts.0) (is_source_name (look a) parts.0 parts.1) in
+          let same : FeedEnd parts.0 ≡ e = cc in
+          let word = same_text kind (codes "feed_end") is.0 in
+          subst (λ f. Spells plan f (kind ∷ a ∷ [])) same
+          (record { fits = run_fits plan (Source parts.0) valid named.0; named = named.0 }, ap (λ k. k ∷ name_of_obj plan parts.0.0 ∷ []) word ∙ ap (λ f. kind ∷ f ∷ []) named.1)
+      | inr none ↦ cc
+    ]
   ]
 
   three_fields : (k1 k2 a1 a2 b1 b2 : List ℕ) → k1 ≡ k2 → a1 ≡ a2 → b1 ≡ b2 → (k1 ∷ a1 ∷ b1 ∷ []) ≡ (k2 ∷ a2 ∷ b2 ∷ [])
@@ -115,18 +115,18 @@ module _ (plan : PlanView) (look : Look) (valid : IsPlan plan) (sound : (name : 
         subst (λ f. Spells plan f (kind ∷ a ∷ b ∷ [])) same
         (record { fits = (few, run_fits plan (Block c) valid has); named = has }, three_fields _ _ _ _ _ _ (same_text kind (codes "start") is.0) (sym at) named)
     | inr other ↦ elim (guarded (bytes_eq kind (codes "end")) _ _ e other.1) [
+      | inl is ↦
+          let same : End w c ≡ e = let made = is.1 in cc in
+          subst (λ f. Spells plan f (kind ∷ a ∷ b ∷ [])) same
+          (record { fits = (few, run_fits plan (Block c) valid has); named = has }, three_fields _ _ _ _ _ _ (same_text kind (codes "end") is.0) (sym at) named)
+      | inr more ↦ elim (guarded (bytes_eq kind (codes "wake")) _ None e more.1) [
         | inl is ↦
-            let same : End w c ≡ e = let made = is.1 in cc in
+            let same : Wake w c ≡ e = let made = is.1 in cc in
             subst (λ f. Spells plan f (kind ∷ a ∷ b ∷ [])) same
-            (record { fits = (few, run_fits plan (Block c) valid has); named = has }, three_fields _ _ _ _ _ _ (same_text kind (codes "end") is.0) (sym at) named)
-        | inr more ↦ elim (guarded (bytes_eq kind (codes "wake")) _ None e more.1) [
-            | inl is ↦
-                let same : Wake w c ≡ e = let made = is.1 in cc in
-                subst (λ f. Spells plan f (kind ∷ a ∷ b ∷ [])) same
-                (record { fits = (few, run_fits plan (Block c) valid has); named = has }, three_fields _ _ _ _ _ _ (same_text kind (codes "wake") is.0) (sym at) named)
-            | inr none ↦ let never = none.1 in cc
-          ]
+            (record { fits = (few, run_fits plan (Block c) valid has); named = has }, three_fields _ _ _ _ _ _ (same_text kind (codes "wake") is.0) (sym at) named)
+        | inr none ↦ let never = none.1 in cc
       ]
+    ]
   ]
 
   source_back : (kind a b : List ℕ) (w : ℕ) (s : Obj) (e : Event) → source_event kind w s ≡ Some e → TurnSpells kind a b w (Source s) e
@@ -136,12 +136,12 @@ module _ (plan : PlanView) (look : Look) (valid : IsPlan plan) (sound : (name : 
         subst (λ f. Spells plan f (kind ∷ a ∷ b ∷ [])) same
         (record { fits = (few, run_fits plan (Source s) valid has); named = has }, three_fields _ _ _ _ _ _ (same_text kind (codes "deliver") is.0) (sym at) named)
     | inr other ↦ elim (guarded (bytes_eq kind (codes "deliver_end")) _ None e other.1) [
-        | inl is ↦
-            let same : DeliverEnd w s ≡ e = let made = is.1 in cc in
-            subst (λ f. Spells plan f (kind ∷ a ∷ b ∷ [])) same
-            (record { fits = (few, run_fits plan (Source s) valid has); named = has }, three_fields _ _ _ _ _ _ (same_text kind (codes "deliver_end") is.0) (sym at) named)
-        | inr none ↦ let never = none.1 in cc
-      ]
+      | inl is ↦
+          let same : DeliverEnd w s ≡ e = let made = is.1 in cc in
+          subst (λ f. Spells plan f (kind ∷ a ∷ b ∷ [])) same
+          (record { fits = (few, run_fits plan (Source s) valid has); named = has }, three_fields _ _ _ _ _ _ (same_text kind (codes "deliver_end") is.0) (sym at) named)
+      | inr none ↦ let never = none.1 in cc
+    ]
   ]
 
   turn_back : (kind a b : List ℕ) (w : ℕ) (run : Run) (e : Event) → turn_event kind w run ≡ Some e → TurnSpells kind a b w run e
@@ -185,9 +185,10 @@ module _ (plan : PlanView) (look : Look) (valid : IsPlan plan) (sound : (name : 
         let i : what.0 ≡ parts.1.0 = ap (λ (t : ℕ × ℕ). t.0) what.4 in
         let k : what.1 ≡ parts.1.1 = ap (λ (t : ℕ × ℕ). t.1) what.4 in
         let word = same_text kind (codes "misuse") is.0 in
-        subst (λ f. Spells plan f (kind ∷ a ∷ b ∷ c ∷ d ∷ [])) parts.4
-        (record { fits = (turn.1, run_fits plan parts.0.1 valid turn.2, subst (λ n. n < max_acts) i index.1, subst (λ n. 1 ≤ n) k code.1, subst (λ n. n ≤ 8) k code.2); named = turn.2 },
-         cc (word, turn.0, turn.3, index.0, code.0, i, k))
+        subst (λ f. Spells plan f (kind ∷ a ∷ b ∷ c ∷ d ∷ [])) parts.4 (
+          record { fits = (turn.1, run_fits plan parts.0.1 valid turn.2, subst (λ n. n < max_acts) i index.1, subst (λ n. 1 ≤ n) k code.1, subst (λ n. n ≤ 8) k code.2); named = turn.2 },
+          cc (word, turn.0, turn.3, index.0, code.0, i, k),
+        )
     | inr none ↦ cc
   ]
 

@@ -8,6 +8,7 @@ ghost use Rattle.gcd_history.specs.History.{IsLawful};
 ghost use Rattle.gcd_history.specs.JournalText.{journal_text};
 ghost use Rattle.gcd_journal.specs.Spoken.{AreSpoken};
 ghost use Rattle.gcd_journal.specs.Journals.{IsJournal, IsRefusedAt};
+ghost use Rattle.gcd_journal.specs.Judged.{IsFirstBarred};
 
 /// A text is a journal of at most one list of events, and then it has no line at fault; and a text has at most one line that is
 /// its first at fault (this project's own rule).
@@ -29,4 +30,10 @@ pub fn written_journals_are_read()
 /// The events of a lawful history of a valid plan have lines (this project's own rule).
 pub fn lawful_events_are_spoken()
     ensures { (plan : PlanView) (h : List Event) → IsPlan plan → IsLawful plan h → AreSpoken plan h }
+{}
+
+/// Events have at most one that is the first not to be permitted, and lawful ones have none (this project's own rule).
+pub fn one_event_is_barred_first()
+    ensures lawful { (plan : PlanView) (h : List Event) (i : ℕ) → IsLawful plan h → IsFirstBarred plan h i → ⊥ }
+    ensures one { (plan : PlanView) (h : List Event) (i j : ℕ) → IsFirstBarred plan h i → IsFirstBarred plan h j → i ≡ j }
 {}

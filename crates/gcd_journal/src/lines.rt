@@ -59,7 +59,13 @@ fn push_act(line: &mut Vec<u8>, worker: u8, name: &str, index: u32) -> Result<()
 }
 
 // Adds the line of a misuse.
-fn push_misuse(line: &mut Vec<u8>, worker: u8, name: &str, index: u32, code: u8) -> Result<(), AllocError>
+fn push_misuse(
+    line: &mut Vec<u8>,
+    worker: u8,
+    name: &str,
+    index: u32,
+    code: u8,
+) -> Result<(), AllocError>
     ensures { OnOk result (line.new.items ≡ line.old.items
         ++ (codes "misuse " ++ (decimal worker ++ (codes " " ++ (name.now ++ (codes " " ++ (decimal index ++ (codes " M" ++ (decimal code ++ line_end))))))))) }
 {

@@ -252,14 +252,7 @@ fn from_four(names: &Names, kind: &[u8], a: &[u8], b: &[u8], rest: &[u8]) -> Opt
     }
 }
 
-fn from_five(
-    names: &Names,
-    kind: &[u8],
-    a: &[u8],
-    b: &[u8],
-    c: &[u8],
-    rest: &[u8],
-) -> Option<Event>
+fn from_five(names: &Names, kind: &[u8], a: &[u8], b: &[u8], c: &[u8], rest: &[u8]) -> Option<Event>
     ensures { result ≡ event_in (look_of names.now.runs) (kind.now ∷ a.now ∷ b.now ∷ c.now ∷ fields_of rest.now) }
 {
     match cut_at(rest, b' ') {

@@ -1,12 +1,19 @@
 // Journals by rows: what the reader and the checker say of each, and what is written again.
 
+ghost use Rattle.std.specs.Prelude.{◌≤◌, length, IfOk};
+ghost use Rattle.gcd_journal.specs.Spoken.{AreSpoken};
+
 mod rows;
 
 use crate::{CheckFault, JournalFault, check, read_journal, write_journal};
-use gcd_plan::{BlkPart, Kind, MAX_EVENTS, Obj, ObjPart, Parts, Plan};
-use rows::{PLANS, ROWS, Setting};
+use gcd_event::Event;
+use gcd_history::State;
+use gcd_plan::{Act, BlkPart, Kind, MAX_EVENTS, Obj, ObjPart, Parts, Plan};
+use rows::{PLANS, ROWS, SEMAPHORE, Setting};
 use std::alloc::{AllocError, Global};
+use std::fmt::Write;
 use std::test::Fail;
+use std::time::Instant;
 
 fn objects(alloc: Global, setting: &Setting) -> Result<Vec<ObjPart>, AllocError> {
     let mut objects = Vec::new(alloc);
@@ -14,6 +21,9 @@ fn objects(alloc: Global, setting: &Setting) -> Result<Vec<ObjPart>, AllocError>
     for (name, kind, target) in setting.objects {
         let mut part = ObjPart::new(alloc, name, *kind)?;
         part.target = Obj(*target);
+        if objects.len() == setting.inactive as usize {
+            part.active = false;
+        }
         objects.push(part)?;
     }
     Ok(objects)
@@ -106,5 +116,66 @@ fn what_is_read_is_written_again(rt: HostRuntime) -> Result<(), Fail> {
             }
         }
     }
+    Ok(())
+}
+
+// A semaphore, which `main` signals as often as the longest journal has room for.
+fn longest_plan(alloc: Global) -> Result<Plan, Fail> {
+    let mut acts = Vec::new(alloc);
+    for _ in 2..MAX_EVENTS {
+        acts.push(Act::Signal(Obj(1)))?;
+    }
+    let mut main = BlkPart::new(alloc, "main")?;
+    main.acts = acts;
+    let parts = Parts {
+        objects: objects(alloc, &SEMAPHORE)?,
+        blocks: vec![in alloc; main]?,
+        files: Vec::new(alloc),
+        until: 1000,
+    };
+    Ok(Plan::of_parts(parts).ok_or("no valid plan")?)
+}
+
+fn longest_text(alloc: Global) -> Result<String, AllocError> {
+    let mut text = String::from_str(alloc, "start 0 main\n")?;
+    for index in 0..MAX_EVENTS - 2 {
+        write!(text, "act 0 main {index}\n")?;
+    }
+    text.push_str("end 0 main\nevents 65535\n")?;
+    Ok(text)
+}
+
+// The events of the longest journal.
+fn longest_events(alloc: Global, plan: &Plan, text: &[u8]) -> Result<Vec<Event>, Fail>
+    ensures spoken { IfOk result (λ events. AreSpoken plan.now events.items) }
+    ensures few { IfOk result (λ events. length events.items ≤ 65535) }
+{
+    match read_journal(alloc, plan, text) {
+        Ok(events) => Ok(events),
+        Err(_) => Err(Fail::from("no journal")),
+    }
+}
+
+// bench/journal.sh calls this and reads the times.
+#[test]
+fn longest_journal(rt: HostRuntime) -> Result<(), Fail> {
+    let plan = longest_plan(rt.alloc())?;
+    let text = longest_text(rt.alloc())?;
+    let bytes = text.len();
+    let began = Instant::now(&rt)?;
+    let events = longest_events(rt.alloc(), &plan, text.as_bytes())?;
+    let read = began.elapsed(&rt)?.as_micros();
+    let began = Instant::now(&rt)?;
+    let state = check(rt.alloc(), &plan, &events);
+    let checked = began.elapsed(&rt)?.as_micros();
+    assert_eq!(rt; state, Ok(State::Drained));
+    let mut written = Vec::new(rt.alloc());
+    let began = Instant::now(&rt)?;
+    write_journal(rt.alloc(), &plan, &events, &mut written)?;
+    let wrote = began.elapsed(&rt)?.as_micros();
+    assert_eq!(rt; written.as_slice(), text.as_bytes());
+    println!(rt; "read {bytes} bytes in {read} us")?;
+    println!(rt; "check {bytes} bytes in {checked} us")?;
+    println!(rt; "write {bytes} bytes in {wrote} us")?;
     Ok(())
 }

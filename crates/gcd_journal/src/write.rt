@@ -9,7 +9,12 @@ use gcd_plan::Plan;
 use std::alloc::{AllocError, Global};
 
 // Adds the event's line, which is first made in `line`; where memory runs out nothing is added.
-fn add_event(line: &mut Vec<u8>, plan: &Plan, e: Event, into: &mut Vec<u8>) -> Result<(), AllocError>
+fn add_event(
+    line: &mut Vec<u8>,
+    plan: &Plan,
+    e: Event,
+    into: &mut Vec<u8>,
+) -> Result<(), AllocError>
     requires { IsNamed plan.now e }
     ensures ok { OnOk result (into.new.items ≡ into.old.items ++ event_line plan.now e) }
     ensures err { OnErr result (into.new.items ≡ into.old.items) }

@@ -2,8 +2,10 @@
 
 use gcd_plan::{Act, Blk, Kind, Obj};
 
-// The name, the kind and the target of each object beside `root`; the name and the acts of each block, `main` first.
+// The name, the kind and the target of each object beside `root`, the number of one that is created inactive, 0 for none, and
+// the name and the acts of each block, `main` first.
 pub struct Setting {
+    pub inactive: u32,
     pub objects: &'static [(&'static str, Kind, u32)],
     pub blocks: &'static [(&'static str, &'static [Act])],
 }
@@ -24,10 +26,12 @@ pub const B3: Blk = Blk(3);
 // a queue that is suspended far below; a queue whose target changes; misuses of a queue; a source; a group wait.
 pub const PLANS: [Setting; 11] = [
     Setting {
+        inactive: 0,
         objects: &[("q", Kind::Serial, 0)],
         blocks: &[("main", &[Act::Async(O1, B1)]), ("b1", &[])],
     },
     Setting {
+        inactive: 0,
         objects: &[],
         blocks: &[
             ("main", &[Act::Async(Obj(0), B1), Act::Barrier(Obj(0), B2)]),
@@ -36,6 +40,7 @@ pub const PLANS: [Setting; 11] = [
         ],
     },
     Setting {
+        inactive: 0,
         objects: &[("q", Kind::Concurrent, 0)],
         blocks: &[
             ("main", &[Act::Async(O1, B1), Act::Barrier(O1, B2)]),
@@ -44,6 +49,7 @@ pub const PLANS: [Setting; 11] = [
         ],
     },
     Setting {
+        inactive: 0,
         objects: &[
             ("t", Kind::Serial, 0),
             ("c", Kind::Concurrent, 1),
@@ -56,6 +62,7 @@ pub const PLANS: [Setting; 11] = [
         ],
     },
     Setting {
+        inactive: 0,
         objects: &[
             ("g", Kind::Serial, 0),
             ("p", Kind::Serial, 1),
@@ -70,6 +77,7 @@ pub const PLANS: [Setting; 11] = [
         ],
     },
     Setting {
+        inactive: 0,
         objects: &[("t", Kind::Serial, 0), ("q", Kind::Serial, 0)],
         blocks: &[
             (
@@ -82,6 +90,7 @@ pub const PLANS: [Setting; 11] = [
         ],
     },
     Setting {
+        inactive: 1,
         objects: &[("q", Kind::Serial, 0)],
         blocks: &[
             ("main", &[Act::Activate(O1), Act::Target(O1, Obj(0))]),
@@ -89,6 +98,7 @@ pub const PLANS: [Setting; 11] = [
         ],
     },
     Setting {
+        inactive: 0,
         objects: &[("q", Kind::Serial, 0)],
         blocks: &[
             ("main", &[Act::Release(O1), Act::Async(O1, B1)]),
@@ -96,14 +106,17 @@ pub const PLANS: [Setting; 11] = [
         ],
     },
     Setting {
+        inactive: 0,
         objects: &[("q", Kind::Serial, 0)],
         blocks: &[("main", &[Act::Suspend(O1), Act::Release(O1)]), ("b", &[])],
     },
     Setting {
+        inactive: 0,
         objects: &[("s", Kind::Add, 0), ("g", Kind::Group, 0)],
         blocks: &[("main", &[Act::Merge(O1, 5), Act::Activate(O1)])],
     },
     Setting {
+        inactive: 0,
         objects: &[("g", Kind::Group, 0), ("q", Kind::Serial, 0)],
         blocks: &[
             (
@@ -120,27 +133,124 @@ pub const PLANS: [Setting; 11] = [
     },
 ];
 
+// A semaphore.
+pub const SEMAPHORE: Setting = Setting {
+    inactive: 0,
+    objects: &[("s", Kind::Semaphore(0), 0)],
+    blocks: &[],
+};
+
 // The plan's number, a journal, what is said of it, and whether it is a journal and nothing follows it.
 pub const ROWS: [(usize, &str, &str, bool); 44] = [
-    (0, "start 0 main; act 0 main 0; end 0 main; start 0 b1; end 0 b1; events 5; ", "lawful 5 Drained", true),
-    (0, "start 0 main; act 0 main 0; end 0 main; start 0 b1; end 0 b1; events 5; b1 = 3; drained; ", "lawful 5 Drained", false),
+    (
+        0,
+        "start 0 main; act 0 main 0; end 0 main; start 0 b1; end 0 b1; events 5; ",
+        "lawful 5 Drained",
+        true,
+    ),
+    (
+        0,
+        "start 0 main; act 0 main 0; end 0 main; start 0 b1; end 0 b1; events 5; b1 = 3; drained; ",
+        "lawful 5 Drained",
+        false,
+    ),
     (0, "events 0; ", "lawful 0 Live", true),
-    (0, "act 0 main 0; end 0 main; start 0 b1; end 0 b1; events 4; ", "event 0", true),
-    (0, "start 0 main; start 0 main; act 0 main 0; end 0 main; start 0 b1; end 0 b1; events 6; ", "event 1", true),
-    (0, "start 0 main; end 0 main; start 0 b1; end 0 b1; events 4; ", "event 1", true),
-    (0, "start 0 main; act 0 main 0; act 0 main 1; end 0 main; start 0 b1; end 0 b1; events 6; ", "event 2", true),
-    (0, "start 0 main; act 0 main 0; end 0 main; start 0 b1; end 1 b1; events 5; ", "event 4", true),
-    (0, "start 0 main; act 0 main 0; start 1 b1; end 0 main; end 1 b1; events 5; ", "lawful 5 Drained", true),
-    (0, "start 0 main; act 0 main 0; end 0 main; start 0 b1; events 4; ", "lawful 4 Live", true),
-    (0, "start 0 main; act 0 main 0; end 0 main; start 0 b1; end 0 b1; tick 5; events 6; ", "event 5", true),
-    (0, "start 0 main; act 0 main 0; end 0 main; start 0 b1; end 0 b1; halt; events 6; ", "lawful 6 Halted", true),
-    (0, "start 0 main; act 0 main 0; end 0 main; start 0 b1; end 0 b1; halt; halt; events 7; ", "event 6", true),
-    (0, "start 0 main; act 0 main 0; end 0 main; start 0 q; end 0 b1; events 5; ", "line 4", false),
-    (0, "start 0 main; act 0 main 0; end 0 main; start 64 b1; end 0 b1; events 5; ", "line 4", false),
-    (0, "start 0 main; act 0 main 0; end 0 main; start 00 b1; end 0 b1; events 5; ", "line 4", false),
-    (0, "start 0 main; act 0 main 0; end 0 main; start 0 b1; end 0 b1; events 4; ", "line 6", false),
-    (0, "start 0 main; act 0 main 0; end 0 main; end 0 b1; start 0 b1; events 5; ", "event 3", true),
-    (0, "start 0 main; act 0 main 0; end 0 main; ", "line 4", false),
+    (
+        0,
+        "act 0 main 0; end 0 main; start 0 b1; end 0 b1; events 4; ",
+        "event 0",
+        true,
+    ),
+    (
+        0,
+        "start 0 main; start 0 main; act 0 main 0; end 0 main; start 0 b1; end 0 b1; events 6; ",
+        "event 1",
+        true,
+    ),
+    (
+        0,
+        "start 0 main; end 0 main; start 0 b1; end 0 b1; events 4; ",
+        "event 1",
+        true,
+    ),
+    (
+        0,
+        "start 0 main; act 0 main 0; act 0 main 1; end 0 main; start 0 b1; end 0 b1; events 6; ",
+        "event 2",
+        true,
+    ),
+    (
+        0,
+        "start 0 main; act 0 main 0; end 0 main; start 0 b1; end 1 b1; events 5; ",
+        "event 4",
+        true,
+    ),
+    (
+        0,
+        "start 0 main; act 0 main 0; start 1 b1; end 0 main; end 1 b1; events 5; ",
+        "lawful 5 Drained",
+        true,
+    ),
+    (
+        0,
+        "start 0 main; act 0 main 0; end 0 main; start 0 b1; events 4; ",
+        "lawful 4 Live",
+        true,
+    ),
+    (
+        0,
+        "start 0 main; act 0 main 0; end 0 main; start 0 b1; end 0 b1; tick 5; events 6; ",
+        "event 5",
+        true,
+    ),
+    (
+        0,
+        "start 0 main; act 0 main 0; end 0 main; start 0 b1; end 0 b1; halt; events 6; ",
+        "lawful 6 Halted",
+        true,
+    ),
+    (
+        0,
+        "start 0 main; act 0 main 0; end 0 main; start 0 b1; end 0 b1; halt; halt; events 7; ",
+        "event 6",
+        true,
+    ),
+    (
+        0,
+        "start 0 main; act 0 main 0; end 0 main; start 0 q; end 0 b1; events 5; ",
+        "line 4",
+        false,
+    ),
+    (
+        0,
+        "start 0 main; act 0 main 0; end 0 main; start 64 b1; end 0 b1; events 5; ",
+        "line 4",
+        false,
+    ),
+    (
+        0,
+        "start 0 main; act 0 main 0; end 0 main; start 00 b1; end 0 b1; events 5; ",
+        "line 4",
+        false,
+    ),
+    (
+        0,
+        "start 0 main; act 0 main 0; end 0 main; start 0 b1; end 0 b1; events 4; ",
+        "line 6",
+        false,
+    ),
+    (
+        0,
+        "start 0 main; act 0 main 0; end 0 main; end 0 b1; start 0 b1; events 5; ",
+        "event 3",
+        true,
+    ),
+    (
+        0,
+        "start 0 main; act 0 main 0; end 0 main; ",
+        "line 4",
+        false,
+    ),
     (0, "start 0 main; act 0 main 0; end 0 main", "line 3", false),
     (0, "", "line 1", false),
     (0, "halt ; events 1; ", "line 1", false),
@@ -151,19 +261,94 @@ pub const ROWS: [(usize, &str, &str, bool); 44] = [
     (0, "misuse 0 main 0 M9; events 1; ", "line 1", false),
     (0, "misuse 0 main 0 M8; events 1; ", "event 0", true),
     (0, "deliver 0 b1; events 1; ", "line 1", false),
-    (1, "start 0 main; act 0 main 0; act 0 main 1; end 0 main; start 0 b1; start 1 b2; end 1 b2; end 0 b1; events 8; ", "lawful 8 Drained", true),
-    (2, "start 0 main; act 0 main 0; act 0 main 1; end 0 main; start 0 b1; start 1 b2; end 1 b2; end 0 b1; events 8; ", "event 5", true),
-    (3, "start 0 main; act 0 main 0; act 0 main 1; end 0 main; start 0 b1; start 1 b2; end 1 b2; end 0 b1; events 8; ", "event 5", true),
-    (3, "start 0 main; act 0 main 0; act 0 main 1; end 0 main; start 0 b1; end 0 b1; start 1 b2; end 1 b2; events 8; ", "lawful 8 Drained", true),
-    (4, "start 0 main; act 0 main 0; act 0 main 1; start 1 b1; act 0 main 2; end 0 main; end 1 b1; events 7; ", "event 3", true),
-    (4, "start 0 main; act 0 main 0; act 0 main 1; act 0 main 2; start 1 b1; end 1 b1; end 0 main; events 7; ", "lawful 7 Drained", true),
-    (5, "start 0 main; act 0 main 0; act 0 main 1; act 0 main 2; end 0 main; start 0 b1; act 0 b1 0; start 1 c; end 0 b1; start 0 b2; events 10; ", "event 9", true),
-    (5, "start 0 main; act 0 main 0; act 0 main 1; act 0 main 2; end 0 main; start 0 c; end 0 c; start 0 b1; act 0 b1 0; end 0 b1; start 0 b2; end 0 b2; events 12; ", "lawful 12 Drained", true),
-    (6, "start 0 main; act 0 main 0; misuse 0 main 1 M4; events 3; ", "lawful 3 Misused", true),
-    (7, "start 0 main; act 0 main 0; misuse 0 main 1 M6; events 3; ", "lawful 3 Misused", true),
-    (8, "start 0 main; act 0 main 0; misuse 0 main 1 M7; events 3; ", "lawful 3 Misused", true),
-    (9, "start 0 main; act 0 main 0; act 0 main 1; end 0 main; deliver 0 s; deliver_end 0 s; events 6; ", "lawful 6 Drained", true),
-    (9, "ready s 2147483647; feed_end s; events 2; ", "event 0", true),
-    (10, "start 0 main; act 0 main 0; act 0 main 1; start 1 w; act 1 w 0; act 0 main 2; act 0 main 3; wake 1 w; end 1 w; end 0 main; events 10; ", "lawful 10 Drained", true),
-    (10, "start 0 main; act 0 main 0; act 0 main 1; start 1 w; act 1 w 0; wake 1 w; act 0 main 2; act 0 main 3; end 1 w; end 0 main; events 10; ", "event 5", true),
+    (
+        1,
+        "start 0 main; act 0 main 0; act 0 main 1; end 0 main; start 0 b1; start 1 b2; end 1 b2; end 0 b1; events 8; ",
+        "lawful 8 Drained",
+        true,
+    ),
+    (
+        2,
+        "start 0 main; act 0 main 0; act 0 main 1; end 0 main; start 0 b1; start 1 b2; end 1 b2; end 0 b1; events 8; ",
+        "event 5",
+        true,
+    ),
+    (
+        3,
+        "start 0 main; act 0 main 0; act 0 main 1; end 0 main; start 0 b1; start 1 b2; end 1 b2; end 0 b1; events 8; ",
+        "event 5",
+        true,
+    ),
+    (
+        3,
+        "start 0 main; act 0 main 0; act 0 main 1; end 0 main; start 0 b1; end 0 b1; start 1 b2; end 1 b2; events 8; ",
+        "lawful 8 Drained",
+        true,
+    ),
+    (
+        4,
+        "start 0 main; act 0 main 0; act 0 main 1; start 1 b1; act 0 main 2; end 0 main; end 1 b1; events 7; ",
+        "event 3",
+        true,
+    ),
+    (
+        4,
+        "start 0 main; act 0 main 0; act 0 main 1; act 0 main 2; start 1 b1; end 1 b1; end 0 main; events 7; ",
+        "lawful 7 Drained",
+        true,
+    ),
+    (
+        5,
+        "start 0 main; act 0 main 0; act 0 main 1; act 0 main 2; end 0 main; start 0 b1; act 0 b1 0; start 1 c; end 0 b1; start 0 b2; events 10; ",
+        "event 9",
+        true,
+    ),
+    (
+        5,
+        "start 0 main; act 0 main 0; act 0 main 1; act 0 main 2; end 0 main; start 0 c; end 0 c; start 0 b1; act 0 b1 0; end 0 b1; start 0 b2; end 0 b2; events 12; ",
+        "lawful 12 Drained",
+        true,
+    ),
+    (
+        6,
+        "start 0 main; act 0 main 0; misuse 0 main 1 M4; events 3; ",
+        "lawful 3 Misused",
+        true,
+    ),
+    (
+        7,
+        "start 0 main; act 0 main 0; misuse 0 main 1 M6; events 3; ",
+        "lawful 3 Misused",
+        true,
+    ),
+    (
+        8,
+        "start 0 main; act 0 main 0; misuse 0 main 1 M7; events 3; ",
+        "lawful 3 Misused",
+        true,
+    ),
+    (
+        9,
+        "start 0 main; act 0 main 0; act 0 main 1; end 0 main; deliver 0 s; deliver_end 0 s; events 6; ",
+        "lawful 6 Drained",
+        true,
+    ),
+    (
+        9,
+        "ready s 2147483647; feed_end s; events 2; ",
+        "event 0",
+        true,
+    ),
+    (
+        10,
+        "start 0 main; act 0 main 0; act 0 main 1; start 1 w; act 1 w 0; act 0 main 2; act 0 main 3; wake 1 w; end 1 w; end 0 main; events 10; ",
+        "lawful 10 Drained",
+        true,
+    ),
+    (
+        10,
+        "start 0 main; act 0 main 0; act 0 main 1; start 1 w; act 1 w 0; wake 1 w; act 0 main 2; act 0 main 3; end 1 w; end 0 main; events 10; ",
+        "event 5",
+        true,
+    ),
 ];

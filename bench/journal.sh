@@ -1,0 +1,24 @@
+#!/usr/bin/env bash
+# Times the reader, the checker and the writer of crates/gcd_journal over a journal of 65,535 events, best of seven each, and
+# fails where reading and checking together take less than 40 MB/s, or writing less than 200 MB/s.
+#
+# `rt test` proves the crate and leaves its tests as the program out/gcd_journal_tests; the test that is named here prints
+# the time of one run of each, and is called seven times.
+set -eu -o pipefail
+cd "$(dirname "$0")/.."
+folder=$(mktemp -d)
+trap 'rm -rf "$folder"' EXIT
+(cd crates/gcd_journal && rt test >"$folder/log" 2>&1) || { tail -20 "$folder/log"; exit 1; }
+for _ in 1 2 3 4 5 6 7; do
+    crates/gcd_journal/out/gcd_journal_tests tests::longest_journal | grep ' us$'
+done | awk '
+    { bytes = $2 }
+    !($1 in best) || $5 < best[$1] { best[$1] = $5 }
+    END {
+        printf "%d bytes\n", bytes
+        printf "read %d us, check %d us, write %d us\n", best["read"], best["check"], best["write"]
+        judged = bytes / (best["read"] + best["check"])
+        written = bytes / best["write"]
+        printf "read and checked at %.0f MB/s, written at %.0f MB/s\n", judged, written
+        exit judged < 40 || written < 200
+    }'
