@@ -1,28 +1,28 @@
 #!/usr/bin/env bash
-# Times the calls of crates/gcd_machine over histories of four plans, and measures what a copy of a machine takes.
+# Times the calls of crates/gcd_machine over the histories of four plans, and measures what a copy of a machine takes.
 #
-# The program bench/machine is built in a folder of its own, over links to the crates, so that the gate does not prove it.
-# It prints for each plan how many events its history has, how many of them were permitted and how many were the choice of
-# worker 0, and nanoseconds an event: of apply; of permits and apply; of choose alone.
+# The program is bench/machine, whose files end in .txt, since the gate proves each file that ends in .rt or .antt. It is
+# proved and built in a folder of its own, beside copies of the crates with what earlier checks left. It prints for each plan
+# how many events its history has, how many of them were permitted and how many were the choice of worker 0, and nanoseconds
+# an event: of apply; of permits and apply; of choose alone.
 set -eu -o pipefail
 cd "$(dirname "$0")/.."
 folder=$(mktemp -d)
 trap 'rm -rf "$folder"' EXIT
 mkdir "$folder/crates"
-for crate in crates/*; do
-    ln -s "$PWD/$crate" "$folder/crates/"
-done
-cp -r bench/machine "$folder/crates/bench_machine"
+cp -r --reflink=auto bench/machine "$folder/crates/bench_machine"
+find "$folder/crates/bench_machine" -name '*.txt' | while read -r file; do mv "$file" "${file%.txt}"; done
 cp HANDLES "$folder/"
-{
-    cat crates.txt
-    printf '\nbench_machine: gcd_plan gcd_event gcd_history gcd_machine anyhow\n'
-} >"$folder/crates.txt"
+for crate in plan event history bits objects lists tree hold drain group sema sync source timer refinement machine; do
+    cp -r --reflink=auto "crates/gcd_$crate" "$folder/crates/"
+    grep "^gcd_$crate:" crates.txt
+done >"$folder/crates.txt"
+echo 'bench_machine: gcd_plan gcd_event gcd_history gcd_refinement gcd_machine anyhow' >>"$folder/crates.txt"
 cd "$folder/crates/bench_machine"
 rt run >"$folder/times" 2>"$folder/log" || { tail -20 "$folder/log" >&2; exit 1; }
 {
     echo 'plan events permitted chosen apply permits choose'
-    cat "$folder/times"
+    grep -E '^(large|chain|group|timers) ' "$folder/times"
 } | column -t
 size() { /usr/bin/time -f %M out/bench_machine "$1" 2>&1 >/dev/null; }
 echo "a copy of a machine of the large script: $((($(size 201) - $(size 1)) / 200)) KiB"

@@ -85,7 +85,7 @@ pub const OWN_CALL: Row = Row {
     ..PLAIN
 };
 
-pub const ROWS: [Row; 34] = [
+pub static ROWS: [Row; 35] = [
     PLAIN,
     Row {
         what: "one block",
@@ -120,6 +120,7 @@ pub const ROWS: [Row; 34] = [
         ..PLAIN
     },
     OWN_CALL,
+    MIDST,
     Row {
         what: "a barrier on root is a plain block",
         blocks: 2,
