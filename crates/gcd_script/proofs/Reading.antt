@@ -1,12 +1,13 @@
 -- How a text is read, line by line.
-use Rattle.std.proofs.Common.{ℕ, ◌≡◌, ◌+◌, true, false, cond, List, [], ◌∷◌, Some, None, Ok, Err, option_map, refl, sym, ap, ◌∙◌}
+use Rattle.std.proofs.Common.{ℕ, ◌≡◌, ◌+◌, true, false, cond, List, [], ◌∷◌, Option, Some, None, subst, Ok, Err, option_map, refl, sym, ap, ◌∙◌}
+use Rattle.std.specs.Option.{option_map_or}
 use Rattle.std.specs.Result.{result_err}
 use Rattle.gcd_script.specs.declared.fault.ParseFault.{ParseFault}
 use Rattle.gcd_script.specs.declared.fault.ParseFault.TheVariants.{Refused, Memory}
 use Rattle.gcd_script.specs.declared.line.Line.{Line}
 use Rattle.gcd_script.specs.declared.line.Line.TheVariants.{DeclareFile, DeclareObject, DeclareBlock, SetUntil, SetCancel, OpenHandler, OpenMain, AddAct}
 use Rattle.gcd_script.specs.declared.refusal.Refusal.TheVariants.{NoForm, NotOneMain}
-use Rattle.gcd_script.specs.Changes.{change}
+use Rattle.gcd_script.specs.Changes.{change, after}
 use Rattle.gcd_script.specs.Codes.{refusal_code}
 use Rattle.gcd_script.specs.Drafts.{DraftView, empty_draft, counted}
 use Rattle.gcd_script.specs.Faults.{is_mark, is_skipped, line_meant, after_line, going_on, draft_after, ended, script_of, fault_of, IsScriptOf}
@@ -15,8 +16,8 @@ use Rattle.gcd_script.specs.Lines.{lines_of, words_of, is_printable}
 use Rattle.gcd_script.specs.Meant.{Meant, meant}
 use Rattle.gcd_script.specs.Refusals.{IsRefusal, IsLineRefusal}
 use Rattle.gcd_script.specs.Sound.{IsDraft, IsRight}
-use Rattle.gcd_script.proofs.Inversions.{passed}
-use Rattle.gcd_script.proofs.RightLines.{line_right}
+use Rattle.gcd_script.proofs.Inversions.{made_of, passed}
+use Rattle.gcd_script.proofs.RightLines.{line_right, change_sound}
 
 -- a line that is not skipped means what its words mean
 meant_line : (d : DraftView) (words : List (List ℕ)) (line : Line (List ℕ)) → cond (is_skipped words) (Ok None) (meant Some (line_of d words)) ≡ Ok (Some line) → line_of d words ≡ Ok line
@@ -48,6 +49,25 @@ no_line d bytes first words printed cut unmarked none =
 -- a count of the line keeps a draft sound
 pub counted_sound : (d : DraftView) → IsDraft d → IsDraft (counted d)
 counted_sound d sound = record { valid = sound.valid; body = sound.body; marks = sound.marks }
+
+-- so a line that is read keeps a draft sound
+next_sound : (d : DraftView) → IsDraft d → (bytes : List ℕ) (right : Option (Line (List ℕ))) → line_meant d bytes ≡ Ok right → IsDraft (option_map_or (λ l. after l d) right (counted d))
+next_sound d sound bytes None h = counted_sound d sound
+next_sound d sound bytes (Some line) h = counted_sound (change line d) (change_sound d sound line (read_right d sound bytes line h))
+
+pub line_sound : (d : DraftView) → IsDraft d → (bytes : List ℕ) (next : DraftView) → after_line d bytes ≡ Ok next → IsDraft next
+line_sound d sound bytes next h =
+    let m = made_of (λ right. option_map_or (λ l. after l d) right (counted d)) (line_meant d bytes) next h in
+    subst IsDraft m.2 (next_sound d sound bytes m.0 m.1)
+
+-- and so do many
+pub lines_sound : (lines : List (List ℕ)) (d e : DraftView) → IsDraft d → draft_after d lines ≡ Ok e → IsDraft e
+lines_sound [] d e sound h = let same : d ≡ e = cc in subst IsDraft same sound
+lines_sound (line ∷ lines) d e sound h =
+    elim (after_line d line) as (λ m. after_line d line ≡ m → going_on (d.lines + 1) (λ next. draft_after next lines) m ≡ Ok e → IsDraft e) [
+      | Ok next ↦ λ is k. lines_sound lines next e (line_sound d sound line next is) k
+      | Err why ↦ λ is k. cc
+    ] refl h
 
 -- a change counts no line
 pub change_lines : (line : Line (List ℕ)) (d : DraftView) → (change line d).lines ≡ d.lines

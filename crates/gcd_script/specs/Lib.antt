@@ -17,3 +17,4 @@ pub mod Refusals
 pub mod Views
 pub mod Sound
 pub mod Agreement
+pub mod BigScript

@@ -3,6 +3,7 @@
 //! | call | answer |
 //! |---|---|
 //! | `parse` | the plan that the script declares (`IsScriptOf`), which is valid (`IsPlan`); or the first line at fault with the lowest code that applies to it (`IsRefusal`: `fault_of`); or `Memory` |
+//! | `big_text` | the script of the large input with n blocks (`big_script`), which is a script; or want of memory |
 //! | `Refusal::code` | the code of a refusal, from 1 to 9 |
 //!
 //! The model is a text as a list of bytes, which `gcd_text` cuts into lines and words. `keyword_of` says what kind of line a
@@ -66,6 +67,7 @@
 
 mod acts;
 mod additions;
+mod big;
 mod changes;
 mod declarations;
 mod draft;
@@ -80,6 +82,7 @@ mod parser;
 mod refusal;
 mod words;
 
+pub use big::big_text;
 pub use fault::ParseFault;
 pub use parser::parse;
 pub use refusal::Refusal;

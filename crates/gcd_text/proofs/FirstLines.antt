@@ -34,7 +34,7 @@ kept_part : (part next : List ℕ) (parts : List (List ℕ)) → but_empty_last 
 kept_part [] next parts = refl
 kept_part (c ∷ cs) next parts = refl
 
-more_follows : (part : List ℕ) (rest : List ℕ) → but_empty_last (part ∷ slice_split ends_line rest) ≡ part ∷ lines_of rest
+pub more_follows : (part : List ℕ) (rest : List ℕ) → but_empty_last (part ∷ slice_split ends_line rest) ≡ part ∷ lines_of rest
 more_follows part rest =
     let t = split_nonempty ends_line rest in
     ap (λ parts. but_empty_last (part ∷ parts)) t.2 ∙ kept_part part t.0 t.1 ∙ ap (λ parts. part ∷ but_empty_last parts) (sym t.2)
