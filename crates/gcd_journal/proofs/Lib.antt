@@ -8,3 +8,5 @@ pub mod OneWay
 pub mod LawfulSpoken
 pub mod NextLines
 pub mod FirstBarred
+pub mod TotalsOf
+pub mod ReportLines

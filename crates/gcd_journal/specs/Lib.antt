@@ -5,3 +5,4 @@ pub mod Judged
 pub mod Spelling
 pub mod Named
 pub mod NextLine
+pub mod Totals

@@ -28,11 +28,14 @@ pub mod laws;
 mod lines;
 mod names;
 mod reader;
+mod report;
 mod spelling;
+mod totals;
 mod write;
 
 pub use checker::{CheckFault, check};
 pub use reader::{JournalFault, read_journal};
+pub use report::{write_last_line, write_report};
 pub use write::write_journal;
 
 #[cfg(test)]

@@ -11,16 +11,16 @@ use gcd_plan::{Plan, Run};
 use itoa::Buffer;
 use std::alloc::AllocError;
 
-// Adds the number in decimal digits.
-fn push_number(line: &mut Vec<u8>, number: u64) -> Result<(), AllocError>
+/// Adds the number in decimal digits.
+pub fn push_number(line: &mut Vec<u8>, number: u64) -> Result<(), AllocError>
     ensures { OnOk result (line.new.items ≡ line.old.items ++ decimal number) }
 {
     let mut digits = Buffer::new();
     line.extend_from_slice(digits.format(number).as_bytes())
 }
 
-// The name of the run's block or source.
-fn name_of(plan: &Plan, run: Run) -> &str
+/// The name of the run's block or source.
+pub fn name_of(plan: &Plan, run: Run) -> &str
     requires { IsTrue (is_run_of plan.now run) }
     ensures { result.now ≡ name_of_run plan.now run }
 {

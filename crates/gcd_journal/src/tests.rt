@@ -5,15 +5,27 @@ ghost use Rattle.gcd_journal.specs.Spoken.{AreSpoken};
 
 mod rows;
 
-use crate::{CheckFault, JournalFault, check, read_journal, write_journal};
+use crate::{
+    CheckFault, JournalFault, check, read_journal, write_journal, write_last_line, write_report,
+};
 use gcd_event::Event;
 use gcd_history::State;
-use gcd_plan::{Act, BlkPart, Kind, MAX_EVENTS, Obj, ObjPart, Parts, Plan};
-use rows::{PLANS, ROWS, SEMAPHORE, Setting};
+use gcd_plan::{
+    Act, BlkPart, FilePart, How, Kind, MAX_EVENTS, Obj, ObjPart, Parts, Plan, WHOLE_FILE, Work,
+};
+use rows::{PLANS, REPORTS, ROWS, SEMAPHORE, Setting};
 use std::alloc::{AllocError, Global};
 use std::fmt::Write;
 use std::test::Fail;
 use std::time::Instant;
+
+// How many lines the file has.
+const LINES: Work = Work {
+    how: How::Lines,
+    file: 0,
+    start: 0,
+    len: WHOLE_FILE,
+};
 
 fn objects(alloc: Global, setting: &Setting) -> Result<Vec<ObjPart>, AllocError> {
     let mut objects = Vec::new(alloc);
@@ -34,16 +46,29 @@ fn blocks(alloc: Global, setting: &Setting) -> Result<Vec<BlkPart>, AllocError> 
     for (name, acts) in setting.blocks {
         let mut part = BlkPart::new(alloc, name)?;
         part.acts = Vec::from_slice(alloc, acts)?;
+        if setting.worker != 0 && blocks.len() == setting.worker as usize {
+            part.work = Some(LINES);
+        }
         blocks.push(part)?;
     }
     Ok(blocks)
+}
+
+// One file.
+fn files(alloc: Global) -> Result<Vec<FilePart>, AllocError> {
+    let file = FilePart {
+        name: String::from_str(alloc, "log")?,
+        path: String::from_str(alloc, "log.txt")?,
+        line: 1,
+    };
+    Ok(vec![in alloc; file]?)
 }
 
 fn plan_of(alloc: Global, setting: &Setting) -> Result<Plan, Fail> {
     let parts = Parts {
         objects: objects(alloc, setting)?,
         blocks: blocks(alloc, setting)?,
-        files: Vec::new(alloc),
+        files: files(alloc)?,
         until: 1000,
     };
     Ok(Plan::of_parts(parts).ok_or("no valid plan")?)
@@ -99,8 +124,9 @@ fn journals_are_judged(rt: HostRuntime) -> Result<(), Fail> {
 // The events of the text, written again.
 fn rewritten(alloc: Global, plan: &Plan, text: &[u8]) -> Result<Vec<u8>, JournalFault> {
     let events = read_journal(alloc, plan, text)?;
+    let events = events.as_slice();
     let mut written = Vec::new(alloc);
-    write_journal(alloc, plan, &events, &mut written)?;
+    write_journal(alloc, plan, events, &mut written)?;
     Ok(written)
 }
 
@@ -113,6 +139,42 @@ fn what_is_read_is_written_again(rt: HostRuntime) -> Result<(), Fail> {
                 let text = text_of(rt.alloc(), journal)?;
                 let again = rewritten(rt.alloc(), &plan, &text)?;
                 assert_eq!(rt; again.as_slice(), text.as_slice(), "{journal}");
+            }
+        }
+    }
+    Ok(())
+}
+
+// The report of a journal's events where block b has the value 3 * b, and its last line once more.
+fn report(alloc: Global, plan: &Plan, text: &[u8]) -> Result<(Vec<u8>, Vec<u8>), Fail> {
+    let events = read_journal(alloc, plan, text)?;
+    let events = events.as_slice();
+    let mut values = Vec::new(alloc);
+    for b in 0..plan.blocks() {
+        values.push(u64::from(b) * 3)?;
+    }
+    if values.len() != plan.blocks() as usize || events.len() > MAX_EVENTS as usize {
+        return Err(Fail::from("too many"));
+    }
+    let state = check(alloc, plan, events)?;
+    let mut report = Vec::new(alloc);
+    write_report(alloc, plan, &values, events, &mut report)?;
+    let mut last = Vec::new(alloc);
+    write_last_line(alloc, plan, state, events, &mut last)?;
+    Ok((report, last))
+}
+
+#[test]
+fn reports_are_written(rt: HostRuntime) -> Result<(), Fail> {
+    for (which, setting) in PLANS.iter().enumerate() {
+        let plan = plan_of(rt.alloc(), setting)?;
+        for (of, journal, report_row) in REPORTS {
+            if of == which {
+                let text = text_of(rt.alloc(), journal)?;
+                let (said, last) = report(rt.alloc(), &plan, &text)?;
+                let expected = text_of(rt.alloc(), report_row)?;
+                assert_eq!(rt; said.as_slice(), expected.as_slice(), "{journal}");
+                assert!(rt; said.ends_with(&last), "{journal}");
             }
         }
     }
@@ -165,13 +227,14 @@ fn longest_journal(rt: HostRuntime) -> Result<(), Fail> {
     let began = Instant::now(&rt)?;
     let events = longest_events(rt.alloc(), &plan, text.as_bytes())?;
     let read = began.elapsed(&rt)?.as_micros();
+    let events = events.as_slice();
     let began = Instant::now(&rt)?;
-    let state = check(rt.alloc(), &plan, &events);
+    let state = check(rt.alloc(), &plan, events);
     let checked = began.elapsed(&rt)?.as_micros();
     assert_eq!(rt; state, Ok(State::Drained));
     let mut written = Vec::new(rt.alloc());
     let began = Instant::now(&rt)?;
-    write_journal(rt.alloc(), &plan, &events, &mut written)?;
+    write_journal(rt.alloc(), &plan, events, &mut written)?;
     let wrote = began.elapsed(&rt)?.as_micros();
     assert_eq!(rt; written.as_slice(), text.as_bytes());
     println!(rt; "read {bytes} bytes in {read} us")?;

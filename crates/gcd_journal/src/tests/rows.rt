@@ -6,6 +6,8 @@ use gcd_plan::{Act, Blk, Kind, Obj};
 // the name and the acts of each block, `main` first.
 pub struct Setting {
     pub inactive: u32,
+    // a block that counts the lines of a file, 0 for none
+    pub worker: u32,
     pub objects: &'static [(&'static str, Kind, u32)],
     pub blocks: &'static [(&'static str, &'static [Act])],
 }
@@ -23,15 +25,18 @@ pub const B2: Blk = Blk(2);
 pub const B3: Blk = Blk(3);
 
 // One block on a serial queue; a block and a barrier on `root`, on a concurrent queue, and on two of them beneath a serial one;
-// a queue that is suspended far below; a queue whose target changes; misuses of a queue; a source; a group wait.
-pub const PLANS: [Setting; 11] = [
+// a queue that is suspended far below; a queue whose target changes; misuses of a queue; a source; a group wait; a call into the
+// own queue, a wait on a group and one on a semaphore that do not pass.
+pub const PLANS: [Setting; 14] = [
     Setting {
         inactive: 0,
+        worker: 1,
         objects: &[("q", Kind::Serial, 0)],
         blocks: &[("main", &[Act::Async(O1, B1)]), ("b1", &[])],
     },
     Setting {
         inactive: 0,
+        worker: 0,
         objects: &[],
         blocks: &[
             ("main", &[Act::Async(Obj(0), B1), Act::Barrier(Obj(0), B2)]),
@@ -41,6 +46,7 @@ pub const PLANS: [Setting; 11] = [
     },
     Setting {
         inactive: 0,
+        worker: 0,
         objects: &[("q", Kind::Concurrent, 0)],
         blocks: &[
             ("main", &[Act::Async(O1, B1), Act::Barrier(O1, B2)]),
@@ -50,6 +56,7 @@ pub const PLANS: [Setting; 11] = [
     },
     Setting {
         inactive: 0,
+        worker: 0,
         objects: &[
             ("t", Kind::Serial, 0),
             ("c", Kind::Concurrent, 1),
@@ -63,6 +70,7 @@ pub const PLANS: [Setting; 11] = [
     },
     Setting {
         inactive: 0,
+        worker: 0,
         objects: &[
             ("g", Kind::Serial, 0),
             ("p", Kind::Serial, 1),
@@ -78,6 +86,7 @@ pub const PLANS: [Setting; 11] = [
     },
     Setting {
         inactive: 0,
+        worker: 0,
         objects: &[("t", Kind::Serial, 0), ("q", Kind::Serial, 0)],
         blocks: &[
             (
@@ -91,6 +100,7 @@ pub const PLANS: [Setting; 11] = [
     },
     Setting {
         inactive: 1,
+        worker: 0,
         objects: &[("q", Kind::Serial, 0)],
         blocks: &[
             ("main", &[Act::Activate(O1), Act::Target(O1, Obj(0))]),
@@ -99,6 +109,7 @@ pub const PLANS: [Setting; 11] = [
     },
     Setting {
         inactive: 0,
+        worker: 0,
         objects: &[("q", Kind::Serial, 0)],
         blocks: &[
             ("main", &[Act::Release(O1), Act::Async(O1, B1)]),
@@ -107,16 +118,19 @@ pub const PLANS: [Setting; 11] = [
     },
     Setting {
         inactive: 0,
+        worker: 0,
         objects: &[("q", Kind::Serial, 0)],
         blocks: &[("main", &[Act::Suspend(O1), Act::Release(O1)]), ("b", &[])],
     },
     Setting {
         inactive: 0,
+        worker: 0,
         objects: &[("s", Kind::Add, 0), ("g", Kind::Group, 0)],
         blocks: &[("main", &[Act::Merge(O1, 5), Act::Activate(O1)])],
     },
     Setting {
         inactive: 0,
+        worker: 0,
         objects: &[("g", Kind::Group, 0), ("q", Kind::Serial, 0)],
         blocks: &[
             (
@@ -131,11 +145,34 @@ pub const PLANS: [Setting; 11] = [
             ("w", &[Act::GroupWait(O1)]),
         ],
     },
+    Setting {
+        inactive: 0,
+        worker: 0,
+        objects: &[("q", Kind::Serial, 0)],
+        blocks: &[
+            ("main", &[Act::Async(O1, B2)]),
+            ("b2", &[]),
+            ("b1", &[Act::Sync(O1, B1)]),
+        ],
+    },
+    Setting {
+        inactive: 0,
+        worker: 0,
+        objects: &[("g", Kind::Group, 0)],
+        blocks: &[("main", &[Act::Enter(O1), Act::GroupWait(O1)])],
+    },
+    Setting {
+        inactive: 0,
+        worker: 0,
+        objects: &[("s", Kind::Semaphore(0), 0)],
+        blocks: &[("main", &[Act::Wait(O1)])],
+    },
 ];
 
 // A semaphore.
 pub const SEMAPHORE: Setting = Setting {
     inactive: 0,
+        worker: 0,
     objects: &[("s", Kind::Semaphore(0), 0)],
     blocks: &[],
 };
@@ -351,4 +388,18 @@ pub const ROWS: [(usize, &str, &str, bool); 44] = [
         "event 5",
         true,
     ),
+];
+
+// The plan's number, a journal, and the report of its events where block b has the value 3 * b.
+pub const REPORTS: [(usize, &str, &str); 10] = [
+    (0, "start 0 main; act 0 main 0; end 0 main; start 0 b1; end 0 b1; events 5; ", "b1 = 3; drained; "),
+    (0, "start 0 main; act 0 main 0; end 0 main; start 0 b1; events 4; ", "full; "),
+    (0, "start 0 main; act 0 main 0; end 0 main; start 0 b1; end 0 b1; halt; events 6; ", "b1 = 3; read fault; "),
+    (6, "start 0 main; act 0 main 0; misuse 0 main 1 M4; events 3; ", "misuse main 1 M4; "),
+    (9, "start 0 main; act 0 main 0; act 0 main 1; end 0 main; deliver 0 s; deliver_end 0 s; events 6; ", "s received 5 in 1 pending 0; drained; "),
+    (9, "start 0 main; act 0 main 0; act 0 main 1; end 0 main; events 4; ", "s received 0 in 0 pending 5; full; "),
+    (11, "start 0 main; act 0 main 0; end 0 main; start 0 b1; act 0 b1 0; events 5; ", "b1 waits for b2; b2 not started; stuck; "),
+    (12, "start 0 main; act 0 main 0; act 0 main 1; events 3; ", "main waits for g; stuck; "),
+    (13, "start 0 main; act 0 main 0; events 2; ", "main waits for s; stuck; "),
+    (4, "start 0 main; act 0 main 0; act 0 main 1; events 3; ", "full; "),
 ];

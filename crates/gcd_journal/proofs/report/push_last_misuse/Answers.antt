@@ -1,0 +1,6 @@
+use Rattle.std.proofs.Common.{◌-◌, length}
+use Rattle.gcd_journal.proofs.ReportLines.{last_there}
+use Rattle.gcd_journal.proofs.report.push_last_misuse.Goals as goal
+
+pub push_misuse_line-requires : goal.push_misuse_line-requires
+push_misuse_line-requires c = (c.requires (length c.args.events.now - 1) c.in-Some.e.now (last_there c.args.events.now (length c.args.events.now - 1) c.in-Some.e c.in-Some.ensures.value)).named

@@ -1,0 +1,106 @@
+// What the deliveries of sources handed over.
+ghost use Rattle.std.specs.Prelude.{◌≡◌, ◌+◌, ◌<◌, ◌^◌, ◌++◌, ◌∷◌, [], ℕ, false, List, None, IfOk, MatchOption, length, replicate};
+ghost use Rattle.gcd_history.specs.Sources.{delivers};
+ghost use Rattle.gcd_plan.specs.KindValues.{folded};
+ghost use Rattle.gcd_event.specs.declared.event.Event.{Event};
+ghost use Rattle.gcd_history.specs.History.{IsLawful, why};
+ghost use Rattle.gcd_machine.specs.Stands.{StandsFor};
+ghost use Rattle.gcd_journal.specs.Totals.{AreTotals, MayNote, no_total};
+
+use gcd_event::Event;
+use gcd_machine::Machine;
+use gcd_plan::{Kind, Obj, Plan};
+use std::alloc::{AllocError, Global};
+
+/// What the deliveries of a source handed over: their number, and their values in one.
+#[derive(Clone, Copy, Debug, PartialEq, Eq)]
+pub struct Total {
+    pub times: u32,
+    pub value: u128,
+}
+
+// The total with one delivery more, of a source of this kind.
+fn with_delivery(total: Total, kind: Kind, amount: u64) -> Total
+    requires times { total.times + 1 < 2 ^ 32 }
+    requires value { total.value + amount < 2 ^ 128 }
+    ensures { result ≡ record { times = total.times + 1; value = folded kind total.value amount } }
+{
+    let more = u128::from(amount);
+    let value = match kind {
+        Kind::Or => total.value | more,
+        Kind::Add | Kind::Timer { .. } | Kind::Read => total.value + more,
+        Kind::Serial | Kind::Concurrent | Kind::Group | Kind::Semaphore(_) => total.value + more,
+    };
+    Total {
+        times: total.times + 1,
+        value,
+    }
+}
+
+// The source of a delivery.
+fn delivered(e: Event) -> Option<Obj>
+    ensures { MatchOption result ((s : ℕ) → delivers s e ≡ false) (λ src. (w : ℕ) × (e ≡ Event.Deliver w src)) }
+{
+    match e {
+        Event::Deliver { src, .. } => Some(src),
+        Event::Start { .. } => None,
+        Event::Act { .. } => None,
+        Event::Wake { .. } => None,
+        Event::End { .. } => None,
+        Event::DeliverEnd { .. } => None,
+        Event::Tick { .. } => None,
+        Event::Ready { .. } => None,
+        Event::FeedEnd { .. } => None,
+        Event::Misuse { .. } => None,
+        Event::Halt => None,
+    }
+}
+
+// Takes the delivery that the event is, if it is one; the machine has taken the event already.
+fn note(plan: &Plan, machine: &Machine, e: Event, totals: &mut Vec<Total>)
+    requires { MayNote plan.now machine.now totals.old.items e }
+    ensures { (h : List Event) → StandsFor machine.now plan.now (h ++ e ∷ []) → why plan.now h e ≡ None → AreTotals plan.now h totals.old.items
+        → AreTotals plan.now (h ++ e ∷ []) totals.new.items }
+{
+    match delivered(e) {
+        None => {}
+        Some(src) => {
+            let at = src.0 as usize;
+            totals[at] = with_delivery(totals[at], plan.kind(src), machine.data_of(src));
+        }
+    }
+}
+
+/// A machine that has taken events, and the totals of the plan's objects by number.
+#[derive(Drop)]
+pub struct Replay {
+    pub machine: Machine,
+    pub totals: Vec<Total>,
+}
+
+// No totals, for each object.
+fn no_totals(alloc: Global, objects: u32) -> Result<Vec<Total>, AllocError>
+    ensures { IfOk result (λ v. v.items ≡ replicate objects no_total) }
+{
+    let mut totals = Vec::with_capacity(alloc, objects as usize)?;
+    for _ in 0..objects {
+        totals.push(Total { times: 0, value: 0 })?;
+    }
+    Ok(totals)
+}
+
+/// Takes the events, which are lawful. It costs what the machine's steps cost.
+pub fn replayed(alloc: Global, plan: &Plan, events: &[Event]) -> Result<Replay, AllocError>
+    requires lawful { IsLawful plan.now events.now }
+    requires few { length events.now + 2 < 2 ^ 32 }
+    ensures stands { IfOk result (λ r. StandsFor r.machine plan.now events.now) }
+    ensures totals { IfOk result (λ r. AreTotals plan.now events.now r.totals.items) }
+{
+    let mut totals = no_totals(alloc, plan.objects())?;
+    let mut machine = Machine::new(alloc, plan)?;
+    for e in events {
+        machine.apply(*e);
+        note(plan, &machine, *e, &mut totals);
+    }
+    Ok(Replay { machine, totals })
+}
