@@ -1,5 +1,5 @@
 -- What a run by worker 0 alone leaves (this project's own rules).
-use Rattle.std.specs.Prelude.{◌≡◌, ◌<◌, ℕ, true, false, List, [], length, Some, slice_get, take, IsTrue, if◌then◌else◌}
+use Rattle.std.specs.Prelude.{◌≡◌, ◌<◌, ◌≤◌, ℕ, true, false, List, [], length, Some, slice_get, take, IsTrue, if◌then◌else◌}
 use Rattle.gcd_plan.specs.Limits.{max_events}
 use Rattle.gcd_plan.specs.PlanView.{PlanView}
 use Rattle.gcd_event.specs.declared.event.Event.{Event}
@@ -38,6 +38,7 @@ pub record RanAlone (plan : PlanView) (files : List (List ℕ)) (poller : Seen P
   pub chosen : FollowsChoice plan h
   pub timely : IsTimely plan [] h clock
   pub heard : IsHeard plan [] h poller
+  pub few : length h ≤ max_events
   pub count : length given ≡ length plan.blocks
   pub values : (b : ℕ) → is_ended h b ≡ true → slice_get given b ≡ Some (value_of plan files b)
   pub others : (b : ℕ) → b < length plan.blocks → is_ended h b ≡ false → slice_get given b ≡ Some 0

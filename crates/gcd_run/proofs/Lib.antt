@@ -4,3 +4,5 @@ pub mod Stories
 pub mod Statuses
 pub mod Ran
 pub mod Totals
+pub mod Told
+pub mod Always

@@ -20,7 +20,7 @@ use Rattle.gcd_run.specs.Loads.{IsPlanOf, IsReady}
 use Rattle.gcd_run.specs.Runs.{BigEnds, Ran, RunEnds, TellsRun}
 use Rattle.gcd_run.specs.Runs.RunEnds.{stopped, ran}
 use Rattle.gcd_run.specs.StatusCodes.{status_code, status_of}
-use Rattle.gcd_run.specs.Statuses.{Asks, IsLawfulTo, Judges, Runs, Says, Stopped, StopsAt}
+use Rattle.gcd_run.specs.Statuses.{Asks, IsLawfulTo, Judges, Runs, RunsLarge, RunsScript, Says, Stopped, StopsAt}
 use Rattle.gcd_run.specs.Statuses.StopsAt.{of_run, of_check}
 use Rattle.gcd_run.specs.declared.status.Status.{Status}
 use Rattle.gcd_run.specs.declared.status.Status.TheVariants.{Drained, Stuck, NoCommand, ScriptRefused, Misused, Unread, CutOff, NoMemory, Full, JournalRefused}
@@ -60,7 +60,7 @@ pub same_status : (s t : Status) → status_code s ≡ status_code t → s ≡ t
 same_status s t e = same_Some s t (sym (named_again s) ∙ ap status_named e ∙ named_again t)
 
 -- an end that is told is one
-some_end : {a b : End} → Some a ≡ Some b → a ≡ b
+pub some_end : {a b : End} → Some a ≡ Some b → a ≡ b
 some_end e = cc
 
 module _ (seen : InputsSeen) (sink : SinkSeen) (words : List Bytes) (result : Ended) where
@@ -102,31 +102,34 @@ module _ (seen : InputsSeen) (sink : SinkSeen) (words : List Bytes) (result : En
         subst Written (some_end is) (λ took answers. inl (line, stopped_by (Journal line) (no_journal_end line) refl why took answers))
     says_stop Memory end why is = absurd cc
 
-    -- a run of a script says its state
-    says_script : (asked : RunAsked) (plan : PlanView) (contents : List Bytes) (end : End) → Asks words (run asked)
+    -- a run of a script, as it was told
+    pub runs_script : (asked : RunAsked) (plan : PlanView) (contents : List Bytes) (end : End) → Asks words (run asked)
         → IsReady seen.shelf asked.script plan contents → calls ≡ with_listen (length plan.files + 1) asked.listen
-        → TellsRun seen.poller seen.clock plan asked.workers (run_text asked.journal plan contents) end → Written end
-    says_script asked plan contents end asks ready calls_are t =
-        subst Written (sym t.end_is)
-        (λ took answers. says_run t.state (inl (record {
+        → (t : TellsRun seen.poller seen.clock plan asked.workers (run_text asked.journal plan contents) end) → Took sink end.text
+        → Answers result end end.status → RunsScript seen sink words result t.state
+    runs_script asked plan contents end asks ready calls_are t took answers =
+        let journal_is : result.journal.items ≡ t.h = answers.journal_is ∙ ap (λ (e : End). e.journal) t.end_is in
+        record {
           asked = asked;
           plan = plan;
           contents = contents;
           asks = asks;
           ready = ready;
           made = subst (Made seen) calls_are made;
-          ran = subst (λ h. Ran seen.poller seen.clock plan asked.workers h t.state) (sym answers.journal_is) t.ran;
-          at_is = answers.at_is;
-          written = subst (λ h. Took sink (run_text asked.journal plan contents t.state h)) (sym answers.journal_is) took;
-        })))
+          ran = subst (λ h. Ran seen.poller seen.clock plan asked.workers h t.state) (sym journal_is) t.ran;
+          at_is = answers.at_is ∙ ap (λ (e : End). e.at) t.end_is;
+          written = subst (λ h. Took sink (run_text asked.journal plan contents t.state h)) (sym journal_is)
+              (subst (λ (e : End). Took sink e.text) t.end_is took);
+        }
 
-    -- a run of the large script says its state
-    says_large : (count workers : ℕ) (end : End) → Asks words (big count workers) → calls ≡ only_loads 0
-        → BigEnds seen.poller seen.clock count workers end → Written end
-    says_large count workers end asks calls_are ends =
+    -- a run of the large script, as it was told
+    pub runs_large : (count workers : ℕ) (end : End) → Asks words (big count workers) → calls ≡ only_loads 0
+        → (ends : BigEnds seen.poller seen.clock count workers end) → Took sink end.text → Answers result end end.status
+        → RunsLarge seen sink words result ends.tells.state
+    runs_large count workers end asks calls_are ends took answers =
         let t = ends.tells in
-        subst Written (sym t.end_is)
-        (λ took answers. says_run t.state (inr (record {
+        let journal_is : result.journal.items ≡ t.h = answers.journal_is ∙ ap (λ (e : End). e.journal) t.end_is in
+        record {
           count = count;
           workers = workers;
           plan = ends.plan;
@@ -134,10 +137,26 @@ module _ (seen : InputsSeen) (sink : SinkSeen) (words : List Bytes) (result : En
           asks = asks;
           large = ends.large;
           made = subst (Made seen) calls_are made;
-          ran = subst (λ h. Ran seen.poller seen.clock ends.plan workers h t.state) (sym answers.journal_is) t.ran;
-          at_is = answers.at_is;
-          written = subst (λ h. Took sink (large_text count ends.plan ends.contents t.state h)) (sym answers.journal_is) took;
-        })))
+          ran = subst (λ h. Ran seen.poller seen.clock ends.plan workers h t.state) (sym journal_is) t.ran;
+          at_is = answers.at_is ∙ ap (λ (e : End). e.at) t.end_is;
+          written = subst (λ h. Took sink (large_text count ends.plan ends.contents t.state h)) (sym journal_is)
+              (subst (λ (e : End). Took sink e.text) t.end_is took);
+        }
+
+    -- a run of a script says its state
+    says_script : (asked : RunAsked) (plan : PlanView) (contents : List Bytes) (end : End) → Asks words (run asked)
+        → IsReady seen.shelf asked.script plan contents → calls ≡ with_listen (length plan.files + 1) asked.listen
+        → TellsRun seen.poller seen.clock plan asked.workers (run_text asked.journal plan contents) end → Written end
+    says_script asked plan contents end asks ready calls_are t = λ took answers.
+        subst (λ (e : End). Says seen sink words result e.status) (sym t.end_is)
+        (says_run t.state (inl (runs_script asked plan contents end asks ready calls_are t took answers)))
+
+    -- a run of the large script says its state
+    says_large : (count workers : ℕ) (end : End) → Asks words (big count workers) → calls ≡ only_loads 0
+        → BigEnds seen.poller seen.clock count workers end → Written end
+    says_large count workers end asks calls_are ends = λ took answers.
+        subst (λ (e : End). Says seen sink words result e.status) (sym ends.tells.end_is)
+        (says_run ends.tells.state (inr (runs_large count workers end asks calls_are ends took answers)))
 
     -- a journal that was judged says what was found
     judges_by : (script journal : Bytes) (plan : PlanView) (h : List Event) (claim : PlanView → List Event → Type 0) (at : Option (ℕ × ℕ))

@@ -77,9 +77,9 @@ status_of_stop Memory = NoMemory
 
 -- nothing failed in the call
 pub record NothingFailed (seen : InputsSeen) (sink : SinkSeen) : Type 0 where
-  pub shelf : ¬ ShelfFailed seen.shelf
-  pub poller : ¬ PollerFailed seen.poller
-  pub sink : ¬ SinkFailed sink
+  pub shelf_works : ¬ ShelfFailed seen.shelf
+  pub poller_works : ¬ PollerFailed seen.poller
+  pub sink_works : ¬ SinkFailed sink
 
 -- what has to come: where the words name no command; where the shelf tells and a run or a check has to stop; where a script and
 -- its files are told, or the large script is asked for, and nothing fails, the run comes to its end and the status is that of

@@ -8,3 +8,4 @@ pub mod Listens
 pub mod Checks
 pub mod Ends
 pub mod Statuses
+pub mod Always

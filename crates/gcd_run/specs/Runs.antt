@@ -10,7 +10,7 @@ use Rattle.gcd_history.specs.declared.state.State.{State}
 use Rattle.gcd_history.specs.declared.state.State.TheVariants.{Live}
 use Rattle.gcd_outer.specs.Outside.{Bytes, ClockState, Seen}
 use Rattle.gcd_outer.specs.Tells.{PollerState}
-use Rattle.gcd_script.specs.Big.{big_script}
+use Rattle.gcd_script.specs.BigScript.{big_script}
 use Rattle.gcd_script.specs.Faults.{IsScriptOf}
 use Rattle.gcd_turn.specs.Promises.{IsHeard, IsTimely}
 use Rattle.gcd_words.specs.Asked.{RunAsked}

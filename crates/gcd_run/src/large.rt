@@ -5,7 +5,8 @@ ghost use Rattle.gcd_plan.specs.Limits.{max_blocks};
 ghost use Rattle.gcd_plan.specs.PlanView.{PlanView};
 ghost use Rattle.gcd_plan.specs.Validity.{IsPlan};
 ghost use Rattle.gcd_history.specs.Report.{last_line, line_end};
-ghost use Rattle.gcd_script.specs.Big.{big_script};
+ghost use Rattle.gcd_journal.specs.Spoken.{AreSpoken};
+ghost use Rattle.gcd_script.specs.BigScript.{big_script};
 ghost use Rattle.gcd_script.specs.Faults.{IsScriptOf};
 ghost use Rattle.gcd_run.specs.Calls.{seen_by};
 ghost use Rattle.gcd_run.specs.End.{large_file};
@@ -77,7 +78,8 @@ fn total(values: &[u64]) -> u128
 
 // `blocks N` and `total S`, and then the report's last line.
 fn text_of(alloc: Global, plan: &Plan, run: &Alone, count: u16) -> Result<Vec<u8>, AllocError>
-    requires { length run.now.values.items ≤ max_blocks }
+    requires few { length run.now.values.items ≤ max_blocks }
+    requires spoken { AreSpoken plan.now run.now.journal.items }
     ensures { IfOk result (λ text. text.items ≡ codes "blocks " ++ (decimal count ++ (line_end
         ++ (codes "total " ++ (decimal (sum run.now.values.items) ++ (line_end ++ last_line plan.now run.now.state run.now.journal.items)))))) }
 {

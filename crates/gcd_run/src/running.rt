@@ -1,6 +1,7 @@
 // The command that runs a script.
 ghost use Rattle.std.specs.Prelude.{◌≡◌, ◌++◌, ◌+◌, ◌≤◌, ◌<◌, ℕ, List, true, false, length, map, option_map, slice_get, Some, if◌then◌else◌, [], IfOk, IfErr, OnOk, OnErr};
 ghost use Rattle.gcd_history.specs.History.{IsLawful, is_ended};
+ghost use Rattle.gcd_plan.specs.Limits.{max_events};
 ghost use Rattle.gcd_plan.specs.Validity.{IsPlan};
 ghost use Rattle.gcd_history.specs.JournalText.{journal_text};
 ghost use Rattle.gcd_history.specs.Ends.{HasState};
@@ -67,6 +68,7 @@ fn text_of(
 ) -> Result<Vec<u8>, AllocError>
     requires valid { IsPlan plan.now }
     requires lawful { IsLawful plan.now run.now.journal.items }
+    requires few { length run.now.journal.items ≤ max_events }
     requires count { length run.now.values.items ≡ length plan.now.blocks }
     ensures { (contents : List (List ℕ)) (state : State) → HasState plan.now run.now.journal.items state
         → ((b : ℕ) → is_ended run.now.journal.items b ≡ true → slice_get run.now.values.items b ≡ Some (value_of plan.now contents b))

@@ -2,6 +2,7 @@
 ghost use Rattle.std.specs.Prelude.{◌≡◌, ℕ, false, map, IfOk, OnErr};
 ghost use Rattle.gcd_outer.specs.Outside.{sink_seen};
 ghost use Rattle.gcd_run.specs.Calls.{SomeCalls, inputs_seen};
+ghost use Rattle.gcd_run.specs.Always.{Always};
 ghost use Rattle.gcd_run.specs.Statuses.{Says};
 ghost use Rattle.gcd_run.specs.declared.status.Status.{Status as AnyStatus};
 ghost use Rattle.gcd_run.specs.Ends.{CallEnds, HasStatus, IsWritten, WordsCall, WordsEnd};
@@ -93,6 +94,9 @@ pub fn gcd_main<R: Wait, S: Shelf, K: Sink, P: Poller, C: Clock>(
 
     // What the status that it answers says.
     ensures says { (status : AnyStatus) → HasStatus result status → Says (inputs_seen S.tells S.content S.loads S.faults P.tells P.state C.tells C.state shelf.old shelf.new poller.old poller.new clock.old clock.new) (sink_seen K.tells K.taken K.faults out.old out.new) (map (λ w. w.now) words.now) result status }
+
+    // When a status has to come.
+    ensures always { Always (inputs_seen S.tells S.content S.loads S.faults P.tells P.state C.tells C.state shelf.old shelf.new poller.old poller.new clock.old clock.new) (sink_seen K.tells K.taken K.faults out.old out.new) (map (λ w. w.now) words.now) result }
 {
     call(rt, alloc, words, shelf, out, poller, clock)
 }

@@ -1,6 +1,7 @@
 use Rattle.std.proofs.Common.{◌≡◌, ◌∙◌, ◌+◌, length, map, ap, refl, sym, arith}
 use Rattle.std.proofs.lemmas.List.{length-map}
 use Rattle.gcd_run.specs.End.{large_file, ran_end}
+use Rattle.gcd_journal.proofs.LawfulSpoken.{lawful_spoken}
 use Rattle.gcd_run.proofs.Ran.{ran_alone}
 use Rattle.gcd_run.proofs.Totals.{total_is}
 use Rattle.gcd_run.proofs.large.tell_large.Goals as goal
@@ -12,8 +13,11 @@ run_alone-requires-clause-files g c =
     ∙ ap length c.in_ok-files.ensures
     ∙ length-map c.in_ok-plan.plan.files (λ file. large_file)
 
-pub text_of-requires : goal.text_of-requires
-text_of-requires g c = omega (arith, c.in_ok-run.ensures.ran.count, c.in_ok-plan.ensures.valid.few_blocks)
+pub text_of-requires-clause-spoken : goal.text_of-requires-clause-spoken
+text_of-requires-clause-spoken g c = lawful_spoken _ _ c.in_ok-plan.ensures.valid c.in_ok-run.ensures.ran.lawful
+
+pub text_of-requires-clause-few : goal.text_of-requires-clause-few
+text_of-requires-clause-few g c = omega (arith, c.in_ok-run.ensures.ran.count, c.in_ok-plan.ensures.valid.few_blocks)
 
 pub returns-clause-told : goal.returns-clause-told
 returns-clause-told g c =

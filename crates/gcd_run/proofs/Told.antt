@@ -1,0 +1,113 @@
+-- What a shelf that tells gives, and what was seen of it.
+use Rattle.std.proofs.Common.{◌≡◌, ◌⊎◌, ◌∙◌, ◌<◌, ℕ, zero, suc, true, false, List, [], ◌∷◌, Option, Some, None, length, take, slice_get, nat_lt, unwrap_or, ap, refl, sym, subst, inl, inr, arith}
+use Rattle.std.specs.Prelude.{Result, Ok, Err}
+use Rattle.std.proofs.lemmas.Bool.{lt-ltb, le-ltb}
+use Rattle.gcd_plan.specs.Limits.{max_file_bytes, max_script_bytes}
+use Rattle.gcd_plan.specs.PlanView.{PlanView, FileView}
+use Rattle.gcd_outer.specs.Outside.{Bytes, ShelfFailed, ShelfSeen}
+use Rattle.gcd_script.specs.Codes.{refusal_code}
+use Rattle.gcd_script.specs.Faults.{fault_of, script_of, IsScriptOf}
+use Rattle.gcd_script.specs.declared.refusal.Refusal.TheVariants.{PastLimit}
+use Rattle.gcd_run.specs.Always.{HoldsScript, IsNoScript, MustStop, files_at, within_limit}
+use Rattle.gcd_run.specs.Always.IsNoScript.{unloaded as no_script_unloaded, refused as no_script_refused}
+use Rattle.gcd_run.specs.Loads.{AreLoaded, IsLoaded, IsNextFile, IsScript, StopsFile, StopsLoad, StopsScript}
+use Rattle.gcd_run.specs.Loads.StopsLoad.{unread, long, wanting}
+use Rattle.gcd_run.specs.Loads.StopsScript.{unloaded, refused, wanting as script_wanting}
+use Rattle.gcd_run.specs.declared.stop.Stop.{Stop}
+use Rattle.gcd_run.specs.declared.stop.Stop.TheVariants.{Unread, Script, Memory}
+
+-- what became of a load that has to go so: the shelf failed, memory ran out, or it went so
+abbrev pub Fate : ShelfSeen → Stop → Type 0 → Type 0
+Fate shelf stop expected = (ShelfFailed shelf × (stop ≡ Unread)) ⊎ ((stop ≡ Memory) ⊎ expected)
+
+fate_map : {A B : Type 0} (shelf : ShelfSeen) (stop : Stop) → (A → B) → Fate shelf stop A → Fate shelf stop B
+fate_map shelf stop f (inl failed) = inl failed
+fate_map shelf stop f (inr (inl wants)) = inr (inl wants)
+fate_map shelf stop f (inr (inr is)) = inr (inr (f is))
+
+module _ (shelf : ShelfSeen) (tells : shelf.tells ≡ true) where
+  pub loaded_within : (name : Bytes) (most : ℕ) (longer : Stop) (bytes : Bytes) → IsLoaded shelf name most bytes
+      → within_limit longer most (shelf.content name) ≡ Ok bytes
+  loaded_within name most longer bytes loaded = rw (loaded.holds tells, le-ltb most (length bytes) loaded.fits) refl
+
+  pub load_stops : (name : Bytes) (most : ℕ) (longer stop : Stop) → StopsLoad shelf name most longer stop
+      → Fate shelf stop (within_limit longer most (shelf.content name) ≡ Err stop)
+  load_stops name most longer stop (unread (inl failed) is) = inl (failed, is)
+  load_stops name most longer stop (unread (inr lacks) is) = inr (inr (rw (lacks.nothing, is) refl))
+  load_stops name most longer stop (long is_long is) =
+      let found = is_long tells in
+      inr (inr (rw (found.1, lt-ltb most (length found.0) found.2, is) refl))
+  load_stops name most longer stop (wanting is) = inr (inl is)
+
+  pub script_stops : (name : Bytes) (stop : Stop) → StopsScript shelf name stop → Fate shelf stop (IsNoScript shelf.content name stop)
+  script_stops name stop (unloaded why) = fate_map shelf stop (λ is. no_script_unloaded is) (load_stops name _ _ stop why)
+  script_stops name stop (refused script line code loaded fault is) =
+      inr (inr (no_script_refused script line code (loaded_within name _ _ script loaded) fault is))
+  script_stops name stop (script_wanting is) = inr (inl is)
+
+  pub script_held : (name : Bytes) (plan : PlanView) → IsScript shelf name plan → HoldsScript shelf.content name plan
+  script_held name plan is = record { bytes = is.script; held = loaded_within name _ _ is.script is.loaded; declares = is.declares }
+
+  pub files_held : (files : List FileView) (contents : List Bytes) → AreLoaded shelf files contents → files_at shelf.content files ≡ Ok contents
+  files_held [] [] loaded = refl
+  files_held (file ∷ files) (bytes ∷ contents) loaded =
+      rw (files_at, loaded_within file.path max_file_bytes (Script file.line (refusal_code PastLimit)) bytes loaded.0, files_held files contents loaded.1) refl
+  files_held [] (bytes ∷ contents) loaded = absurd loaded
+  files_held (file ∷ files) [] loaded = absurd loaded
+
+  -- the files from the one that was not loaded on, after those that were
+  files_stop_from : (files : List FileView) (f : ℕ) (file : FileView) (contents : List Bytes) (stop : Stop) → slice_get files f ≡ Some file
+      → AreLoaded shelf (take f files) contents
+      → within_limit (Script file.line (refusal_code PastLimit)) max_file_bytes (shelf.content file.path) ≡ Err stop
+      → files_at shelf.content files ≡ Err stop
+  files_stop_from [] f file contents stop at before is = absurd cc
+  files_stop_from (one ∷ files) zero file contents stop at before is =
+      let same : file ≡ one = cc in
+      rw (files_at, subst (λ (x : FileView). within_limit (Script x.line (refusal_code PastLimit)) max_file_bytes (shelf.content x.path) ≡ Err stop) same is) refl
+  files_stop_from (one ∷ files) (suc f) file [] stop at before is = absurd before
+  files_stop_from (one ∷ files) (suc f) file (bytes ∷ contents) stop at before is =
+      rw (files_at, loaded_within one.path max_file_bytes (Script one.line (refusal_code PastLimit)) bytes before.0, files_stop_from files f file contents stop at before.1 is) refl
+
+  pub file_stops : (files : List FileView) (f : ℕ) (stop : Stop) → StopsFile shelf files f stop
+      → Fate shelf stop (files_at shelf.content files ≡ Err stop)
+  file_stops files f stop stops = fate_map shelf stop
+      (λ is. files_stop_from files f stops.file stops.next.contents stop stops.next.next stops.next.before is)
+      (load_stops stops.file.path max_file_bytes _ stop stops.unloaded)
+
+-- ## What is told is one
+
+pub same_ok : {T E : Type 0} {x y : T} {r : Result T E} → r ≡ Ok x → r ≡ Ok y → x ≡ y
+same_ok e f = cc
+
+pub same_err : {T E : Type 0} {x y : E} {r : Result T E} → r ≡ Err x → r ≡ Err y → x ≡ y
+same_err e f = cc
+
+pub no_both : {T E : Type 0} {x : T} {y : E} {r : Result T E} → r ≡ Ok x → r ≡ Err y → ⊥
+no_both e f = absurd cc
+
+module _ (content : Bytes → Option Bytes) (name : Bytes) where
+  pub one_plan : (plan other : PlanView) → HoldsScript content name plan → HoldsScript content name other → plan ≡ other
+  one_plan plan other a b =
+      let same : a.bytes ≡ b.bytes = same_ok a.held b.held in
+      same_ok (ap script_of (sym same) ∙ a.declares) b.declares
+
+  -- a script has no fault
+  no_fault : (bytes : Bytes) (plan : PlanView) (at : ℕ × ℕ) → IsScriptOf bytes plan → fault_of bytes ≡ Some at → ⊥
+  no_fault bytes plan at is fault = let none : fault_of bytes ≡ None = rw is refl in absurd cc
+
+  pub no_plan : (plan : PlanView) (stop : Stop) → HoldsScript content name plan → IsNoScript content name stop → ⊥
+  no_plan plan stop held (no_script_unloaded is) = no_both held.held is
+  no_plan plan stop held (no_script_refused bytes line code is fault stop_is) =
+      let same : bytes ≡ held.bytes = same_ok is held.held in
+      no_fault held.bytes plan (line, code) held.declares (ap fault_of (sym same) ∙ fault)
+
+  pub one_stop : (stop other : Stop) → IsNoScript content name stop → IsNoScript content name other → stop ≡ other
+  one_stop stop other (no_script_unloaded a) (no_script_unloaded b) = same_err a b
+  one_stop stop other (no_script_unloaded a) (no_script_refused bytes line code is fault stop_is) = absurd (no_both is a)
+  one_stop stop other (no_script_refused bytes line code is fault stop_is) (no_script_unloaded b) = absurd (no_both is b)
+  one_stop stop other (no_script_refused bytes line code is fault stop_is) (no_script_refused bytes' line' code' is' fault' stop_is') =
+      let same : bytes ≡ bytes' = same_ok is is' in
+      let at : Some (line, code) ≡ Some (line', code') = sym fault ∙ ap fault_of same ∙ fault' in
+      let one : line ≡ line' = ap (λ (o : Option (ℕ × ℕ)). (unwrap_or o (0, 0)).0) at in
+      let two : code ≡ code' = ap (λ (o : Option (ℕ × ℕ)). (unwrap_or o (0, 0)).1) at in
+      rw (stop_is, stop_is', one, two) refl
