@@ -221,8 +221,7 @@ blocks_run (suc m) k d has few rest =
     let small : k + 1 < max_blocks = omega arith in
     let step = block_step k d has small in
     let later = blocks_run m (k + 1) (after (big_line (k + 1)) d) step (omega arith) rest in
-    let all : k + 1 + m ≡ k + suc m = omega arith in
-    (
+    let all : k + 1 + m ≡ k + suc m = omega arith in (
       later.0,
       subst (λ n. HasBlocks n later.0) all later.1,
       ap (going_on (d.lines + 1) (λ next. draft_after next (map big_block (range_with_len (k + 1 + 1) m) ++ rest))) (block_read k d has small) ∙ later.2,
@@ -244,8 +243,7 @@ record HasActs (n a : ℕ) (d : DraftView) : Type 0 where
 main_step : (n : ℕ) (d : DraftView) → HasBlocks n d → HasActs n 0 (after OpenMain d) × (after_line d (codes "main") ≡ Ok (after OpenMain d))
 main_step n d has =
     let form : form_of d (codes "main" ∷ []) ≡ Ok OpenMain = ap (λ t. cond t (Err NotOneMain) (Ok OpenMain)) has.first in
-    let means : line_of d (codes "main" ∷ []) ≡ Ok OpenMain = ap (then_meant (judged d)) form in
-    (
+    let means : line_of d (codes "main" ∷ []) ≡ Ok OpenMain = ap (then_meant (judged d)) form in (
       record {
         sound = counted_sound (change OpenMain d) (change_sound d has.sound OpenMain (line_right d has.sound (codes "main" ∷ []) OpenMain means));
         main = refl;
@@ -387,8 +385,7 @@ acts_run zero n a d has room few = (d, subst (λ k. HasActs n k d) (sym (add-zer
 acts_run (suc m) n a d has room few =
     let step = any_step n a d has (omega arith) few in
     let later = acts_run m n (a + 1) step.0 step.1 (omega arith) few in
-    let all : a + 1 + m ≡ a + suc m = omega arith in
-    (
+    let all : a + 1 + m ≡ a + suc m = omega arith in (
       later.0,
       subst (λ k. HasActs n k later.0) all later.1,
       ap (going_on (d.lines + 1) (λ next. draft_after next (map big_act (range_with_len (a + 1 + 1) m)))) step.2 ∙ later.2,
@@ -444,8 +441,7 @@ lines_read n few =
     let blocks = blocks_run n 0 head_draft head_has (omega arith) (codes "main" ∷ acts) in
     let has : HasBlocks n blocks.0 = subst (λ k. HasBlocks k blocks.0) (zero-add n) blocks.1 in
     let main = main_step n blocks.0 has in
-    let last = acts_run n n 0 (after OpenMain blocks.0) main.0 (omega arith) few in
-    (
+    let last = acts_run n n 0 (after OpenMain blocks.0) main.0 (omega arith) few in (
       last.0,
       last.1.main,
       head_read (map big_block (range_with_len 1 n) ++ codes "main" ∷ acts)
