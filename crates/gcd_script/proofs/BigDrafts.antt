@@ -1,19 +1,19 @@
 -- The script of the large input is read without a fault.
-use Rattle.std.proofs.Common.{ℕ, zero, suc, ◌≡◌, ◌≢◌, ◌<◌, ◌≤◌, ◌+◌, ◌*◌, ◌%◌, ◌==◌, ◌^◌, Bool, true, false, not, ◌&&◌, cond, eqb, ltb, leb, List, [], ◌∷◌, ◌++◌, length, map, Option, Some, None, Result, Ok, Err, IfSome, is_none, option_map, option_to_list, slice_get, count_by, sum_by, codes, decimal, refl, sym, ap, ◌∙◌, subst, lit<, lit≤, add-zero, zero-add, add-one, ⊎_elim, arith}
-use Rattle.std.specs.List.{list_all, list_any, range_with_len, slice_index_or}
+use Rattle.std.proofs.Common.{ℕ, zero, suc, ◌≡◌, ◌≢◌, ◌<◌, ◌≤◌, ◌+◌, ◌%◌, ◌==◌, ◌^◌, true, false, not, ◌&&◌, cond, ltb, leb, List, [], ◌∷◌, ◌++◌, length, map, Option, Some, None, Result, Ok, Err, IfSome, is_none, option_map, option_to_list, slice_get, count_by, codes, decimal, refl, sym, ap, ◌∙◌, subst, add-zero, zero-add, ⊎_elim, arith}
+use Rattle.std.specs.List.{list_all, range_with_len}
 use Rattle.std.specs.Option.{option_map_or}
 use Rattle.std.specs.Fmt.{digits}
 use Rattle.std.specs.Result.{result_err}
 use Rattle.std.specs.Str.{bytes_eq}
-use Rattle.std.proofs.lemmas.Bool.{and_parts, and_from, le-leb, lt-ltb, le-ltb, ltb-true, ne_eqb, eqb-true, eq-eqb, false_from_ne_true, or_right, or_left, cases_eq}
+use Rattle.std.proofs.lemmas.Bool.{and_from, le-leb, lt-ltb, ne_eqb, false_from_ne_true, or_right, or_left, cases_eq}
 use Rattle.std.proofs.lemmas.Fmt.{decimal_injective, length-decimal-le}
 use Rattle.std.proofs.lemmas.List.{length_push, append_assoc, append-nil}
 use Rattle.std.proofs.lemmas.List.Sums.{sum_by_push}
-use Rattle.gcd_plan.specs.Kinds.{has_kind, is_queue_kind}
+use Rattle.gcd_plan.specs.Kinds.{is_queue_kind}
 use Rattle.gcd_plan.specs.Limits.{max_blocks, max_acts, max_file_bytes}
 use Rattle.gcd_plan.specs.Names.{is_name, is_letter, is_name_byte}
-use Rattle.gcd_plan.specs.PlanView.{PlanView, ObjView, BlkView, FileView}
-use Rattle.gcd_plan.specs.Validity.{IsPlan, act_count, submitted_blocks, block_of, root_view}
+use Rattle.gcd_plan.specs.PlanView.{PlanView, BlkView}
+use Rattle.gcd_plan.specs.Validity.{act_count, submitted_blocks, block_of, root_view}
 use Rattle.gcd_plan.specs.declared.act.Act.{Act}
 use Rattle.gcd_plan.specs.declared.act.Act.TheVariants.{Async, Barrier}
 use Rattle.gcd_plan.specs.declared.kind.Kind.TheVariants.{Serial, Concurrent}
@@ -24,28 +24,26 @@ use Rattle.gcd_plan.specs.declared.numbers.Run.TheVariants as run
 use Rattle.gcd_plan.specs.declared.work.How.TheVariants.{Sum}
 use Rattle.gcd_plan.specs.declared.work.Work.{Work}
 use Rattle.gcd_plan.proofs.Places.{slice_get_some}
-use Rattle.gcd_text.specs.Numbers.{number_end}
 use Rattle.gcd_script.specs.declared.line.Line.{Line}
 use Rattle.gcd_script.specs.declared.line.Line.TheVariants.{DeclareBlock, OpenMain, AddAct}
-use Rattle.gcd_script.specs.declared.meaning.Meaning.{Meaning}
-use Rattle.gcd_script.specs.declared.meaning.Meaning.TheVariants.{File, Object, Block}
+use Rattle.gcd_script.specs.declared.meaning.Meaning.TheVariants.{File, Block}
 use Rattle.gcd_script.specs.declared.refusal.Refusal.{Refusal}
-use Rattle.gcd_script.specs.declared.refusal.Refusal.TheVariants.{NoForm, BadName, BadNumber, UnknownName, Repeated, InHandler, PastLimit, NotOneMain}
-use Rattle.gcd_script.specs.BigScript.{big_name, big_start, big_block, big_queue_at, big_queue, big_act, big_head, big_lines, big_script, ended_line}
+use Rattle.gcd_script.specs.declared.refusal.Refusal.TheVariants.{NoForm, BadName, UnknownName, Repeated, PastLimit, NotOneMain}
+use Rattle.gcd_script.specs.BigScript.{big_name, big_start, big_block, big_queue_at, big_queue, big_act, big_head, big_lines, big_script}
 use Rattle.gcd_script.specs.Changes.{change, after, with_block, with_act}
-use Rattle.gcd_script.specs.Declarations.{block_line, work_line, work, one_of, range}
-use Rattle.gcd_script.specs.Acts.{act_line, submit_act}
+use Rattle.gcd_script.specs.Declarations.{work_line, work, one_of, range}
+use Rattle.gcd_script.specs.Acts.{act_line}
 use Rattle.gcd_script.specs.Codes.{refusal_code}
 use Rattle.gcd_script.specs.Drafts.{DraftView, empty_draft, counted, new_block}
-use Rattle.gcd_script.specs.Faults.{is_skipped, line_meant, after_line, going_on, draft_after, ended, script_of, fault_of}
+use Rattle.gcd_script.specs.Faults.{is_skipped, line_meant, after_line, going_on, draft_after, ended, fault_of}
 use Rattle.gcd_script.specs.Forms.{form_of}
-use Rattle.gcd_script.specs.Judged.{judged, line_of, is_free, has_room, is_untaken, is_allowed}
+use Rattle.gcd_script.specs.Judged.{judged, line_of, is_free, has_room, is_untaken}
 use Rattle.gcd_script.specs.Keywords.{counts}
-use Rattle.gcd_script.specs.Lines.{lines_of, words_of, is_printable}
+use Rattle.gcd_script.specs.Lines.{words_of, is_printable}
 use Rattle.gcd_script.specs.Meant.{Meant, meant, then_meant, both, must}
 use Rattle.gcd_script.specs.Names.{meaning_of, is_unused}
 use Rattle.gcd_script.specs.Sound.{IsDraft, IsBody}
-use Rattle.gcd_script.specs.Words.{new_name, number, file, block, queue, known, as_file, as_block, as_object}
+use Rattle.gcd_script.specs.Words.{number, file, block, queue, as_file, as_block, as_object}
 use Rattle.gcd_script.proofs.BigWords.{block_words, block_prints, act_words, name_prints, joined_prints, decimal_pass, is_solid, AllPrint, lines_again}
 use Rattle.gcd_script.proofs.BlockActs as block_acts
 use Rattle.gcd_script.proofs.Declares.{block_declares, same_meanings}
