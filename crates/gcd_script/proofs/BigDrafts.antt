@@ -1,19 +1,19 @@
 -- The script of the large input is read without a fault.
-use Rattle.std.proofs.Common.{ℕ, zero, suc, ◌≡◌, ◌≢◌, ◌<◌, ◌≤◌, ◌+◌, ◌*◌, ◌%◌, ◌==◌, ◌^◌, Bool, true, false, not, ◌&&◌, cond, eqb, ltb, leb, List, [], ◌∷◌, ◌++◌, length, map, Option, Some, None, Result, Ok, Err, IfSome, is_none, option_map, option_to_list, slice_get, count_by, sum_by, codes, decimal, refl, sym, ap, ◌∙◌, subst, lit<, lit≤, add-zero, zero-add, add-one, ⊎_elim, arith}
-use Rattle.std.specs.List.{list_all, list_any, range_with_len, slice_index_or}
+use Rattle.std.proofs.Common.{ℕ, zero, suc, ◌≡◌, ◌≢◌, ◌<◌, ◌≤◌, ◌+◌, ◌%◌, ◌==◌, ◌^◌, true, false, not, ◌&&◌, cond, ltb, leb, List, [], ◌∷◌, ◌++◌, length, map, Option, Some, None, Result, Ok, Err, IfSome, is_none, option_map, option_to_list, slice_get, count_by, codes, decimal, refl, sym, ap, ◌∙◌, subst, add-zero, zero-add, ⊎_elim, arith}
+use Rattle.std.specs.List.{list_all, range_with_len}
 use Rattle.std.specs.Option.{option_map_or}
 use Rattle.std.specs.Fmt.{digits}
 use Rattle.std.specs.Result.{result_err}
 use Rattle.std.specs.Str.{bytes_eq}
-use Rattle.std.proofs.lemmas.Bool.{and_parts, and_from, le-leb, lt-ltb, le-ltb, ltb-true, ne_eqb, eqb-true, eq-eqb, false_from_ne_true, or_right, or_left, cases_eq}
+use Rattle.std.proofs.lemmas.Bool.{and_from, le-leb, lt-ltb, ne_eqb, false_from_ne_true, or_right, or_left, cases_eq}
 use Rattle.std.proofs.lemmas.Fmt.{decimal_injective, length-decimal-le}
 use Rattle.std.proofs.lemmas.List.{length_push, append_assoc, append-nil}
 use Rattle.std.proofs.lemmas.List.Sums.{sum_by_push}
-use Rattle.gcd_plan.specs.Kinds.{has_kind, is_queue_kind}
+use Rattle.gcd_plan.specs.Kinds.{is_queue_kind}
 use Rattle.gcd_plan.specs.Limits.{max_blocks, max_acts, max_file_bytes}
 use Rattle.gcd_plan.specs.Names.{is_name, is_letter, is_name_byte}
-use Rattle.gcd_plan.specs.PlanView.{PlanView, ObjView, BlkView, FileView}
-use Rattle.gcd_plan.specs.Validity.{IsPlan, act_count, submitted_blocks, block_of, root_view}
+use Rattle.gcd_plan.specs.PlanView.{PlanView, BlkView}
+use Rattle.gcd_plan.specs.Validity.{act_count, submitted_blocks, block_of, root_view}
 use Rattle.gcd_plan.specs.declared.act.Act.{Act}
 use Rattle.gcd_plan.specs.declared.act.Act.TheVariants.{Async, Barrier}
 use Rattle.gcd_plan.specs.declared.kind.Kind.TheVariants.{Serial, Concurrent}
@@ -24,28 +24,26 @@ use Rattle.gcd_plan.specs.declared.numbers.Run.TheVariants as run
 use Rattle.gcd_plan.specs.declared.work.How.TheVariants.{Sum}
 use Rattle.gcd_plan.specs.declared.work.Work.{Work}
 use Rattle.gcd_plan.proofs.Places.{slice_get_some}
-use Rattle.gcd_text.specs.Numbers.{number_end}
 use Rattle.gcd_script.specs.declared.line.Line.{Line}
 use Rattle.gcd_script.specs.declared.line.Line.TheVariants.{DeclareBlock, OpenMain, AddAct}
-use Rattle.gcd_script.specs.declared.meaning.Meaning.{Meaning}
-use Rattle.gcd_script.specs.declared.meaning.Meaning.TheVariants.{File, Object, Block}
+use Rattle.gcd_script.specs.declared.meaning.Meaning.TheVariants.{File, Block}
 use Rattle.gcd_script.specs.declared.refusal.Refusal.{Refusal}
-use Rattle.gcd_script.specs.declared.refusal.Refusal.TheVariants.{NoForm, BadName, BadNumber, UnknownName, Repeated, InHandler, PastLimit, NotOneMain}
-use Rattle.gcd_script.specs.BigScript.{big_name, big_start, big_block, big_queue_at, big_queue, big_act, big_head, big_lines, big_script, ended_line}
+use Rattle.gcd_script.specs.declared.refusal.Refusal.TheVariants.{NoForm, BadName, UnknownName, Repeated, PastLimit, NotOneMain}
+use Rattle.gcd_script.specs.BigScript.{big_name, big_start, big_block, big_queue_at, big_queue, big_act, big_head, big_lines, big_script}
 use Rattle.gcd_script.specs.Changes.{change, after, with_block, with_act}
-use Rattle.gcd_script.specs.Declarations.{block_line, work_line, work, one_of, range}
-use Rattle.gcd_script.specs.Acts.{act_line, submit_act}
+use Rattle.gcd_script.specs.Declarations.{work_line, work, one_of, range}
+use Rattle.gcd_script.specs.Acts.{act_line}
 use Rattle.gcd_script.specs.Codes.{refusal_code}
 use Rattle.gcd_script.specs.Drafts.{DraftView, empty_draft, counted, new_block}
-use Rattle.gcd_script.specs.Faults.{is_skipped, line_meant, after_line, going_on, draft_after, ended, script_of, fault_of}
+use Rattle.gcd_script.specs.Faults.{is_skipped, line_meant, after_line, going_on, draft_after, ended, fault_of}
 use Rattle.gcd_script.specs.Forms.{form_of}
-use Rattle.gcd_script.specs.Judged.{judged, line_of, is_free, has_room, is_untaken, is_allowed}
+use Rattle.gcd_script.specs.Judged.{judged, line_of, is_free, has_room, is_untaken}
 use Rattle.gcd_script.specs.Keywords.{counts}
-use Rattle.gcd_script.specs.Lines.{lines_of, words_of, is_printable}
+use Rattle.gcd_script.specs.Lines.{words_of, is_printable}
 use Rattle.gcd_script.specs.Meant.{Meant, meant, then_meant, both, must}
 use Rattle.gcd_script.specs.Names.{meaning_of, is_unused}
 use Rattle.gcd_script.specs.Sound.{IsDraft, IsBody}
-use Rattle.gcd_script.specs.Words.{new_name, number, file, block, queue, known, as_file, as_block, as_object}
+use Rattle.gcd_script.specs.Words.{number, file, block, queue, as_file, as_block, as_object}
 use Rattle.gcd_script.proofs.BigWords.{block_words, block_prints, act_words, name_prints, joined_prints, decimal_pass, is_solid, AllPrint, lines_again}
 use Rattle.gcd_script.proofs.BlockActs as block_acts
 use Rattle.gcd_script.proofs.Declares.{block_declares, same_meanings}
@@ -221,8 +219,7 @@ blocks_run (suc m) k d has few rest =
     let small : k + 1 < max_blocks = omega arith in
     let step = block_step k d has small in
     let later = blocks_run m (k + 1) (after (big_line (k + 1)) d) step (omega arith) rest in
-    let all : k + 1 + m ≡ k + suc m = omega arith in
-    (
+    let all : k + 1 + m ≡ k + suc m = omega arith in (
       later.0,
       subst (λ n. HasBlocks n later.0) all later.1,
       ap (going_on (d.lines + 1) (λ next. draft_after next (map big_block (range_with_len (k + 1 + 1) m) ++ rest))) (block_read k d has small) ∙ later.2,
@@ -244,8 +241,7 @@ record HasActs (n a : ℕ) (d : DraftView) : Type 0 where
 main_step : (n : ℕ) (d : DraftView) → HasBlocks n d → HasActs n 0 (after OpenMain d) × (after_line d (codes "main") ≡ Ok (after OpenMain d))
 main_step n d has =
     let form : form_of d (codes "main" ∷ []) ≡ Ok OpenMain = ap (λ t. cond t (Err NotOneMain) (Ok OpenMain)) has.first in
-    let means : line_of d (codes "main" ∷ []) ≡ Ok OpenMain = ap (then_meant (judged d)) form in
-    (
+    let means : line_of d (codes "main" ∷ []) ≡ Ok OpenMain = ap (then_meant (judged d)) form in (
       record {
         sound = counted_sound (change OpenMain d) (change_sound d has.sound OpenMain (line_right d has.sound (codes "main" ∷ []) OpenMain means));
         main = refl;
@@ -387,8 +383,7 @@ acts_run zero n a d has room few = (d, subst (λ k. HasActs n k d) (sym (add-zer
 acts_run (suc m) n a d has room few =
     let step = any_step n a d has (omega arith) few in
     let later = acts_run m n (a + 1) step.0 step.1 (omega arith) few in
-    let all : a + 1 + m ≡ a + suc m = omega arith in
-    (
+    let all : a + 1 + m ≡ a + suc m = omega arith in (
       later.0,
       subst (λ k. HasActs n k later.0) all later.1,
       ap (going_on (d.lines + 1) (λ next. draft_after next (map big_act (range_with_len (a + 1 + 1) m)))) step.2 ∙ later.2,
@@ -444,8 +439,7 @@ lines_read n few =
     let blocks = blocks_run n 0 head_draft head_has (omega arith) (codes "main" ∷ acts) in
     let has : HasBlocks n blocks.0 = subst (λ k. HasBlocks k blocks.0) (zero-add n) blocks.1 in
     let main = main_step n blocks.0 has in
-    let last = acts_run n n 0 (after OpenMain blocks.0) main.0 (omega arith) few in
-    (
+    let last = acts_run n n 0 (after OpenMain blocks.0) main.0 (omega arith) few in (
       last.0,
       last.1.main,
       head_read (map big_block (range_with_len 1 n) ++ codes "main" ∷ acts)

@@ -1,10 +1,10 @@
 -- How the script of the large input grows, line by line.
-use Rattle.std.proofs.Common.{ℕ, ◌≡◌, ◌+◌, List, [], ◌∷◌, ◌++◌, map, codes, refl, sym, ap, ◌∙◌, arith}
+use Rattle.std.proofs.Common.{ℕ, ◌≡◌, ◌+◌, List, [], ◌∷◌, ◌++◌, map, codes, sym, ap, ◌∙◌, arith}
 use Rattle.std.specs.List.{flat_map, range_with_len}
 use Rattle.std.proofs.lemmas.List.{append_assoc, append-nil}
 use Rattle.std.proofs.lemmas.List.Concat.{flat_map-append}
 use Rattle.std.proofs.lemmas.List.FromFn.{map-range_with_len_more}
-use Rattle.gcd_script.specs.BigScript.{big_head, big_block, big_act, big_lines, ended_line}
+use Rattle.gcd_script.specs.BigScript.{big_head, big_block, big_act, ended_line}
 
 -- the lines with k blocks
 abbrev pub with_blocks : ℕ → List (List ℕ)

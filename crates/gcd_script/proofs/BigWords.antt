@@ -1,20 +1,19 @@
 -- The bytes and the words of the lines of the large input.
-use Rattle.std.proofs.Common.{ℕ, zero, suc, ◌≡◌, ◌≢◌, ◌<◌, ◌≤◌, ◌+◌, ◌*◌, ◌%◌, ◌==◌, ◌^◌, Bool, true, false, not, ◌&&◌, cond, eqb, leb, List, [], ◌∷◌, ◌++◌, length, map, codes, decimal, get_or, refl, sym, ap, ◌∙◌, subst, arith}
-use Rattle.std.specs.List.{All, flat_map, list_all, slice_split, slice_index_or}
+use Rattle.std.proofs.Common.{ℕ, zero, suc, ◌≡◌, ◌<◌, ◌≤◌, ◌==◌, ◌^◌, Bool, true, false, not, leb, List, [], ◌∷◌, ◌++◌, length, codes, decimal, refl, sym, ap, ◌∙◌, arith}
+use Rattle.std.specs.List.{All, flat_map, list_all}
 use Rattle.std.specs.Str.Parse.{AllDigits}
-use Rattle.std.proofs.lemmas.Bool.{and_parts, and_from, le-leb, leb-true, ne_eqb, eqb-true}
+use Rattle.std.proofs.lemmas.Bool.{and_parts, and_from, le-leb, leb-true, ne_eqb}
 use Rattle.std.proofs.lemmas.Fmt.{digits_decimal, decimal_nonempty}
 use Rattle.std.proofs.lemmas.List.{append_assoc}
 use Rattle.std.proofs.lemmas.List.Elements.{All-nil, All-cons}
 use Rattle.std.proofs.lemmas.List.Folds.{list_all-append}
 use Rattle.std.proofs.lemmas.List.Splits.{slice_split_at}
 use Rattle.std.proofs.lemmas.Str.Parse.{IsNumeralModel, numerals_by_value, tells_digits, digit_from_value}
-use Rattle.gcd_plan.specs.Names.{is_name_byte}
-use Rattle.gcd_script.specs.Lines.{lines_of, but_empty_last, words_of, is_line_byte, is_printable, unless_empty}
+use Rattle.gcd_script.specs.Lines.{lines_of, but_empty_last, words_of, is_line_byte, is_printable}
 use Rattle.gcd_text.specs.Fields.{IsWithout}
 use Rattle.gcd_text.proofs.FirstLines.{more_follows}
 use Rattle.gcd_text.proofs.Parts.{first_word, only_word, one_word}
-use Rattle.gcd_script.specs.BigScript.{big_name, big_start, big_block, big_queue, big_act, ended_line}
+use Rattle.gcd_script.specs.BigScript.{big_name, big_start, big_block, ended_line}
 use Rattle.std.specs.Str.Parse.{digits_value}
 
 -- digits are bytes from 48 to 57, so what is written of a number passes each test that these bytes pass

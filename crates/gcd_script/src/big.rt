@@ -1,5 +1,5 @@
 // The script of the large input.
-ghost use Rattle.std.specs.Prelude.{◌≡◌, ◌<◌, ◌≤◌, ◌++◌, IfOk, OnOk, None, decimal};
+ghost use Rattle.std.specs.Prelude.{◌≡◌, ◌<◌, ◌++◌, IfOk, OnOk, None, decimal, length};
 ghost use Rattle.gcd_script.specs.BigScript.{big_name, big_queue, big_block, big_act, ended_line, big_script};
 ghost use Rattle.gcd_script.specs.Faults.{fault_of};
 ghost use Rattle.gcd_plan.specs.Limits.{max_blocks};
@@ -57,13 +57,14 @@ fn push_act(into: &mut Vec<u8>, k: u32) -> Result<(), AllocError>
     into.extend_from_slice(b"\n")
 }
 
-/// The script with `n` blocks that sum ranges of one file of 4,096 bytes, on four serial and two concurrent queues (this
-/// project's own rule): it is the large input of the command `big`.
+/// The script with `n` blocks, at most 16,384, that sum ranges of one file of 4,096 bytes, on four serial and two
+/// concurrent queues (this project's own rule): the large input of the command `big`. It is short enough to be
+/// parsed. An `Err` comes only of want of memory.
 pub fn big_text(alloc: Global, n: u32) -> Result<Vec<u8>, AllocError>
-    requires one { 1 ≤ n }
     requires few { n < max_blocks }
     ensures text { IfOk result (λ text. text.items ≡ big_script n) }
     ensures script { IfOk result (λ text. fault_of text.items ≡ None) }
+    ensures few_bytes { IfOk result (λ text. length text.items < u32.MAX) }
 {
     let mut text = Vec::from_slice(alloc, HEAD)?;
     for k in 0..n {

@@ -1,9 +1,10 @@
 // Worked rows: the expected lines, codes and plans are those of the language's description.
 
-use crate::{ParseFault, parse};
+use crate::{ParseFault, big_text, parse};
 use std::alloc::Global;
 use std::process::Abort;
 use std::test::Fail;
+use std::time::Instant;
 
 // What is answered to a text.
 #[derive(Clone, Copy, Debug, PartialEq, Eq)]
@@ -216,5 +217,63 @@ fn stops_at_acts_and_path_bytes(rt: HostRuntime) -> Result<(), Fail> {
             "{count}"
         );
     }
+    Ok(())
+}
+
+// The first blocks of the large input, and the barrier at the sixteenth.
+#[test]
+fn writes_the_large_input(rt: HostRuntime) -> Result<(), Fail> {
+    let expected =
+        "file data data\nqueue s0 serial\nqueue s1 serial\nqueue s2 serial on s0\nqueue s3 serial on s1\n\
+        queue c0 concurrent\nqueue c1 concurrent on s0\nblock b1 sum data 37 64\nblock b2 sum data 74 64\nmain\n\
+        async s1 b1\nasync s2 b2\n";
+    assert!(rt; big_text(rt.alloc(), 2)?.as_slice() == expected.as_bytes());
+    let text = big_text(rt.alloc(), 16)?;
+    assert!(rt;
+        text.as_slice()
+            .ends_with(b"\nasync s3 b15\nbarrier c0 b16\n")
+    );
+    let text = big_text(rt.alloc(), 16_384)?;
+    assert!(rt; text.len() < 10_000_000);
+    match parse(rt.alloc(), &text) {
+        Ok(plan) => assert_eq!(rt; plan.blocks(), 16_385),
+        Err(fault) => panic!(rt; "{fault:?}"),
+    }
+    Ok(())
+}
+
+// A script of about a mebibyte with 17,001 names, as bench/script.c makes it.
+fn long_script(alloc: Global) -> Result<String, Fail> {
+    let mut text = String::new(alloc);
+    for i in 0..64u32 {
+        text.push_str(format!(in alloc; "file file_{i} data/{i}\n")?.as_str())?;
+    }
+    for i in 0..552u32 {
+        text.push_str(format!(in alloc; "group group_{i}\n")?.as_str())?;
+    }
+    text.push_str("queue queue serial\n")?;
+    for i in 0..16_384u32 {
+        let k = i + 1;
+        let file = k % 64;
+        let from = 37 * k % 4_033;
+        text.push_str(format!(in alloc; "block block_{k} sum file_{file} {from} 64\n")?.as_str())?;
+    }
+    text.push_str("main\n")?;
+    for i in 0..16_384u32 {
+        let k = i + 1;
+        text.push_str(format!(in alloc; "async queue block_{k}\n")?.as_str())?;
+    }
+    Ok(text)
+}
+
+#[test]
+fn reads_a_mebibyte(rt: HostRuntime) -> Result<(), Fail> {
+    let text = long_script(rt.alloc())?;
+    let bytes = text.len();
+    let began = Instant::now(&rt)?;
+    let answer = answer_of(&rt, rt.alloc(), text.as_str());
+    let time = began.elapsed(&rt)?.as_micros();
+    assert_eq!(rt; answer, Answer::Plan(554, 16_385, 64));
+    println!(rt; "{bytes} bytes in {time} us")?;
     Ok(())
 }
