@@ -1,5 +1,5 @@
 -- What a run by worker 0 alone leaves (this project's own rules).
-use Rattle.std.specs.Prelude.{◌≡◌, ◌<◌, ℕ, true, false, List, [], length, Some, slice_get, take, IsTrue, if◌then◌else◌}
+use Rattle.std.specs.Prelude.{◌≡◌, ◌<◌, ◌≤◌, ℕ, true, false, List, [], length, Some, slice_get, take, IsTrue, if◌then◌else◌}
 use Rattle.gcd_plan.specs.Limits.{max_events}
 use Rattle.gcd_plan.specs.PlanView.{PlanView}
 use Rattle.gcd_event.specs.declared.event.Event.{Event}
@@ -34,6 +34,7 @@ pub record RanAlone (plan : PlanView) (files : List (List ℕ)) (poller : Seen P
   pub lawful : IsLawful plan h
   pub state_is : HasState plan h state
   pub ended : HasEnded plan h
+  pub few : length h ≤ max_events
   pub alone : IsAllWorker0 h
   pub chosen : FollowsChoice plan h
   pub timely : IsTimely plan [] h clock

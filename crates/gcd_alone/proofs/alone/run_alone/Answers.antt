@@ -21,6 +21,7 @@ returns-clause-ran g c =
       lawful = lawful_stands c.run_turns.new.run.machine plan h run.stands;
       state_is = c.state-state.ensures plan h run.stands;
       ended = c.in_ok-run_turns.ensures.ended;
+      few = run.few;
       alone = run.alone;
       chosen = run.chosen;
       timely = is_timely plan [] h (record { tells = g.C.Clock.tells; before = early; after = g.C.Clock.state c.run_turns.new.clock }) c.run_turns.new.outlook.start going.timely;
