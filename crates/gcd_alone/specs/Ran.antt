@@ -34,6 +34,7 @@ pub record RanAlone (plan : PlanView) (files : List (List ℕ)) (poller : Seen P
   pub lawful : IsLawful plan h
   pub state_is : HasState plan h state
   pub ended : HasEnded plan h
+  pub few : length h ≤ max_events
   pub alone : IsAllWorker0 h
   pub chosen : FollowsChoice plan h
   pub timely : IsTimely plan [] h clock

@@ -125,7 +125,9 @@ fn run_turns<R: Wait, P: Poller, C: Clock>(
     unreachable!()
 }
 
-/// Runs the plan by worker 0 alone.
+/// Runs the plan by worker 0 alone, turn by turn, until the run is quiescent, halted or full (this project's own rule).
+/// `files` are the contents of the plan's files, in their order; the poller watches no feed yet. A turn costs what the
+/// machine's choice costs, the block's value, and a look at each object for its feed. An `Err` comes only of want of memory.
 pub fn run_alone<R: Wait, P: Poller, C: Clock>(
     rt: &R,
     alloc: Global,

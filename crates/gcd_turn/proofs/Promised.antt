@@ -25,9 +25,9 @@ pub are_told : (plan : PlanView) (stood placed : List Event) (seen : Seen Poller
 are_told plan stood placed seen o hd =
     let A : List (List Tell) = hd.spoken ++ hd.quiet in
     let answers : answers_in seen ≡ A =
-        ap (drop (length seen.before.answers)) hd.answers ∙ drop_at seen.before.answers A (length seen.before.answers) refl in
+    ap (drop (length seen.before.answers)) hd.answers ∙ drop_at seen.before.answers A (length seen.before.answers) refl in
     let watches : watches_in seen ≡ hd.more =
-        ap (drop (length seen.before.watches)) hd.watches ∙ drop_at seen.before.watches hd.more (length seen.before.watches) refl in
+    ap (drop (length seen.before.watches)) hd.watches ∙ drop_at seen.before.watches hd.more (length seen.before.watches) refl in
     record {
       readies = λ s. subst (λ (B : List (List Tell)). Begins (told_of s B) (readies_of s placed)) (sym answers) (hd.feeds s).front;
       ends = λ s stands. subst (λ (B : List (List Tell)). FeedEnds seen.before seen.after B (readies_of s.0 placed) s.0) (sym answers) ((hd.feeds s.0).ends stands);

@@ -72,8 +72,8 @@ time_waited tells plan stood placed before now next start on for kept = record {
   waited = λ told.
       let h : List Event = stood ++ placed in
       let same : next.waited ≡ now.waited → (next.waited ≡ before.waited) ⊎ IsDueMoment plan h start next.waited =
-          λ e. ⊎_elim (λ (none : now.waited ≡ before.waited). inl (e ∙ none))
-              (λ (is : IsDueMoment plan h start now.waited). inr (subst (λ (m : ℕ). IsDueMoment plan h start m) (sym e) is)) (kept.waited told) in
+      λ e. ⊎_elim (λ (none : now.waited ≡ before.waited). inl (e ∙ none))
+      (λ (is : IsDueMoment plan h start now.waited). inr (subst (λ (m : ℕ). IsDueMoment plan h start m) (sym e) is)) (kept.waited told) in
       ⊎_elim same
       (λ (w : (due : ℕ) × (next_due_of plan h ≡ Some due) × (next.waited ≡ max now.waited (later_by start due))).
       ⊎_elim (λ (old : max now.waited (later_by start w.0) ≡ now.waited). same (w.2 ∙ old))

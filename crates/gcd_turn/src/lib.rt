@@ -1,4 +1,37 @@
-//! What worker 0 does with the outside.
+//! The turn of worker 0, which alone has poller and clock. (This project's own rules; read sources and timers are those of
+//! dispatch_source_create(3).)
+//!
+//! A turn ends at its first recorded event. [`Outlook`] is what worker 0 keeps between its turns: the clock's answer before
+//! the first, what was told and is not yet recorded, and how many empty answers came in a row. It sees a machine and says
+//! what to record; the engine that keeps the machine records it in its own way. No call takes memory.
+//!
+//! | call | steps of a turn | answer |
+//! |---|---|---|
+//! | `Outlook::new` | | asks the clock once |
+//! | `ask` | 1. the run has ended | [`Ask::Leave`]: it is quiescent, halted or full |
+//! | | 2. each live feed that is not watched is watched, by number | at a fault [`Ask::Put`] of a Halt |
+//! | | 3. news | [`Ask::Told`]: the first piece, as a Ready or a FeedEnd; then, placed or barred, [`Outlook::settle`] |
+//! | | 4. a due time is left: the clock is asked | [`Ask::Put`] of a Tick where one has come |
+//! | | 5. the engine's: what worker 0 chooses | [`Ask::Work`], with the milliseconds to the next due time |
+//! | `idle` | 6. where a feed is live, one poll | a Halt at a fault; else what came is news |
+//! | | 7. else, where a due time is left and nothing runs, a wait for it | |
+//!
+//! A poll waits 10 milliseconds, not past the next due time, and not at all where a run is open and not parked. An empty
+//! answer to a wait counts; [`EMPTY_ANSWERS`] of them in a row, while the history does not grow and nothing runs, end each
+//! live feed.
+//!
+//! | file of specs/ | says |
+//! |---|---|
+//! | `Promises` | what is promised of the outside, over the states of poller and clock before and after the calls: `IsHeard`, `IsTimely`; and when a run has ended, `HasEnded` |
+//! | `Hearing`, `Timing` | the invariants from which the promises follow: `Heard`, `TimeKept` |
+//! | `Turns`, `Asked`, `Times` | what each step answers |
+//!
+//! The promises follow for every engine that places what it is told to, since the invariants speak of a history that grows:
+//! `proofs/HeardSteps`, `HeardPolls` and `TimeSteps` have a lemma for each step and for each kind of event, and
+//! `proofs/Promised` the promises. `heard` of `ask` and of `idle` keep the invariant, at each history that the machine stands for.
+//!
+//! Nothing is said of how long a poll or a wait takes, nor of a poller that tells nothing but that a Halt stands just where it
+//! failed.
 #![tactic(auto)]
 
 mod ask;

@@ -67,7 +67,9 @@ impl Outlook {
         }
     }
 
-    /// The first steps of a turn.
+    /// The first steps of a turn (this project's own rule): it leaves where the run has ended; it watches what is live; and it
+    /// gives the first of what was told, or a Tick that is due. The clock is asked only where there is no news and a due time
+    /// is left.
     pub fn ask<P: Poller, C: Clock>(
         &self,
         plan: &Plan,
@@ -100,7 +102,7 @@ impl Outlook {
         }
     }
 
-    /// The first of the news was recorded, or is not permitted and is dropped.
+    /// The first of what was told was recorded, or is not permitted and is dropped. Without news it does nothing.
     pub fn settle(&mut self)
         ensures { self.new ≡ record self.old { news = drop 1 self.old.news } }
     {
@@ -178,7 +180,9 @@ impl Outlook {
         Ok(())
     }
 
-    /// The last steps of a turn, where worker 0 has no choice: it polls where a feed is live, and else waits.
+    /// The last steps of a turn, where worker 0 has no choice (this project's own rule): it polls where a feed is live, and
+    /// else waits for the next due time, where there is one and no run is open and unparked. `left` is how many milliseconds
+    /// that is ahead. Some is a Halt, to be recorded: the poller failed.
     pub fn idle<P: Poller, C: Clock>(
         &mut self,
         plan: &Plan,

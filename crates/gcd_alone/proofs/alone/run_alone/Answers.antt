@@ -14,13 +14,14 @@ returns-clause-ran g c =
     let before = g.P.Poller.state c.args.poller.now in
     let early = g.C.Clock.state c.args.clock.now in
     let first = going_first g.P.Poller.tells g.C.Clock.tells plan before early (g.C.Clock.state c.new-outlook.new.clock) c.new-outlook.result
-        c.requires.unwatched c.new-outlook.ensures.news c.new-outlook.ensures.empties c.new-outlook.ensures.len
-        c.new-outlook.ensures.not_before c.new-outlook.ensures.reached c.new-outlook.ensures.told c.new-outlook.ensures.waited in
+    c.requires.unwatched c.new-outlook.ensures.news c.new-outlook.ensures.empties c.new-outlook.ensures.len
+    c.new-outlook.ensures.not_before c.new-outlook.ensures.reached c.new-outlook.ensures.told c.new-outlook.ensures.waited in
     let going = c.in_ok-run_turns.ensures.going before early (rw c.in_ok-run.ensures.journal first) in
     record {
       lawful = lawful_stands c.run_turns.new.run.machine plan h run.stands;
       state_is = c.state-state.ensures plan h run.stands;
       ended = c.in_ok-run_turns.ensures.ended;
+      few = run.few;
       alone = run.alone;
       chosen = run.chosen;
       timely = is_timely plan [] h (record { tells = g.C.Clock.tells; before = early; after = g.C.Clock.state c.run_turns.new.clock }) c.run_turns.new.outlook.start going.timely;
