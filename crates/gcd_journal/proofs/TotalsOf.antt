@@ -61,7 +61,7 @@ received_more plan h e s kind is delivery =
 
 nothing_received : (plan : PlanView) (s : ℕ) → received_of plan [] s ≡ 0
 unfolding received_of
-nothing_received plan s = elim (kind_of plan s) as (λ o. option_map_or (λ k. fold (folded k) 0 []) o 0 ≡ 0) [ | None ↦ refl | Some k ↦ refl ]
+nothing_received plan s = elim (kind_of plan s) as (λ o. option_map_or (λ k. fold (folded k) 0 []) o 0 ≡ 0) [ None ↦ refl | Some k ↦ refl ]
 
 nothing_delivered : (plan : PlanView) (s : ℕ) → no_total ≡ total_of plan [] s
 unfolding delivery_count_of

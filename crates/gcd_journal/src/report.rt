@@ -33,7 +33,13 @@ fn push_result(text: &mut Vec<u8>, name: &str, value: u64) -> Result<(), AllocEr
 }
 
 // The line of a block's result, if it has one.
-fn push_result_line(text: &mut Vec<u8>, plan: &Plan, machine: &Machine, values: &[u64], b: Blk) -> Result<(), AllocError>
+fn push_result_line(
+    text: &mut Vec<u8>,
+    plan: &Plan,
+    machine: &Machine,
+    values: &[u64],
+    b: Blk,
+) -> Result<(), AllocError>
     requires block { b.0 < length plan.now.blocks }
     requires own { machine.now.plan ≡ plan.now }
     requires values { length values.now ≡ length plan.now.blocks }
@@ -81,7 +87,13 @@ fn push_source(text: &mut Vec<u8>, name: &str, total: Total, pending: u64) -> Re
 }
 
 // The line of a source; nothing for another object.
-fn push_source_line(text: &mut Vec<u8>, plan: &Plan, machine: &Machine, totals: &[Total], s: Obj) -> Result<(), AllocError>
+fn push_source_line(
+    text: &mut Vec<u8>,
+    plan: &Plan,
+    machine: &Machine,
+    totals: &[Total],
+    s: Obj,
+) -> Result<(), AllocError>
     requires object { s.0 < length plan.now.objects }
     requires own { machine.now.plan ≡ plan.now }
     requires totals { length totals.now ≡ length plan.now.objects }
@@ -91,7 +103,12 @@ fn push_source_line(text: &mut Vec<u8>, plan: &Plan, machine: &Machine, totals: 
     if !plan.kind(s).is_source() {
         return Ok(());
     }
-    push_source(text, plan.name_of_obj(s), totals[s.0 as usize], machine.pending_of(s))
+    push_source(
+        text,
+        plan.name_of_obj(s),
+        totals[s.0 as usize],
+        machine.pending_of(s),
+    )
 }
 
 // The name of an object; no byte where the plan has it not.
@@ -138,7 +155,12 @@ fn push_wait(text: &mut Vec<u8>, name: &str, cause: &str) -> Result<(), AllocErr
 }
 
 // The line of a parked block; nothing for another.
-fn push_wait_line(text: &mut Vec<u8>, plan: &Plan, machine: &Machine, b: Blk) -> Result<(), AllocError>
+fn push_wait_line(
+    text: &mut Vec<u8>,
+    plan: &Plan,
+    machine: &Machine,
+    b: Blk,
+) -> Result<(), AllocError>
     requires block { b.0 < length plan.now.blocks }
     requires own { machine.now.plan ≡ plan.now }
     ensures { (h : List Event) → StandsFor machine.now plan.now h → OnOk result (text.new.items ≡ text.old.items ++ wait_line plan.now h b.0) }
@@ -169,7 +191,12 @@ fn is_submitted(machine: &Machine, b: Blk) -> bool
 }
 
 // The line of a block that is submitted and has not started; nothing for another.
-fn push_unstarted_line(text: &mut Vec<u8>, plan: &Plan, machine: &Machine, b: Blk) -> Result<(), AllocError>
+fn push_unstarted_line(
+    text: &mut Vec<u8>,
+    plan: &Plan,
+    machine: &Machine,
+    b: Blk,
+) -> Result<(), AllocError>
     requires block { b.0 < length plan.now.blocks }
     requires own { machine.now.plan ≡ plan.now }
     ensures { (h : List Event) → StandsFor machine.now plan.now h → OnOk result (text.new.items ≡ text.old.items ++ unstarted_line plan.now h b.0) }
@@ -184,7 +211,12 @@ fn push_unstarted_line(text: &mut Vec<u8>, plan: &Plan, machine: &Machine, b: Bl
 }
 
 // The results, by number of block.
-fn push_results(text: &mut Vec<u8>, plan: &Plan, machine: &Machine, values: &[u64]) -> Result<(), AllocError>
+fn push_results(
+    text: &mut Vec<u8>,
+    plan: &Plan,
+    machine: &Machine,
+    values: &[u64],
+) -> Result<(), AllocError>
     requires own { machine.now.plan ≡ plan.now }
     requires values { length values.now ≡ length plan.now.blocks }
     ensures { (h : List Event) (value : ℕ → ℕ) → StandsFor machine.now plan.now h → AreValues value values.now h
@@ -197,7 +229,12 @@ fn push_results(text: &mut Vec<u8>, plan: &Plan, machine: &Machine, values: &[u6
 }
 
 // The sources, by number.
-fn push_sources(text: &mut Vec<u8>, plan: &Plan, machine: &Machine, totals: &[Total]) -> Result<(), AllocError>
+fn push_sources(
+    text: &mut Vec<u8>,
+    plan: &Plan,
+    machine: &Machine,
+    totals: &[Total],
+) -> Result<(), AllocError>
     requires own { machine.now.plan ≡ plan.now }
     requires totals { length totals.now ≡ length plan.now.objects }
     ensures { (h : List Event) → StandsFor machine.now plan.now h → AreTotals plan.now h totals.now
@@ -243,7 +280,12 @@ fn push_stuck(text: &mut Vec<u8>, plan: &Plan, machine: &Machine) -> Result<(), 
 }
 
 // The same at every state.
-fn push_left(text: &mut Vec<u8>, plan: &Plan, machine: &Machine, state: State) -> Result<(), AllocError>
+fn push_left(
+    text: &mut Vec<u8>,
+    plan: &Plan,
+    machine: &Machine,
+    state: State,
+) -> Result<(), AllocError>
     requires { machine.now.plan ≡ plan.now }
     ensures { (h : List Event) → StandsFor machine.now plan.now h → OnOk result (text.new.items ≡ text.old.items ++ stuck_lines plan.now state h) }
 {
@@ -276,7 +318,10 @@ fn push_misuse_line(text: &mut Vec<u8>, plan: &Plan, e: Event) -> Result<(), All
 {
     match e {
         Event::Misuse {
-            run, index, code, ..
+            run,
+            index,
+            code,
+            ..
         } => push_misuse(text, name_of(plan, run), index, code),
         Event::Start { .. } => Ok(()),
         Event::Act { .. } => Ok(()),
@@ -303,7 +348,12 @@ fn push_last_misuse(text: &mut Vec<u8>, plan: &Plan, events: &[Event]) -> Result
 }
 
 // The last line.
-fn push_last(text: &mut Vec<u8>, plan: &Plan, state: State, events: &[Event]) -> Result<(), AllocError>
+fn push_last(
+    text: &mut Vec<u8>,
+    plan: &Plan,
+    state: State,
+    events: &[Event],
+) -> Result<(), AllocError>
     requires { AreSpoken plan.now events.now }
     ensures { OnOk result (text.new.items ≡ text.old.items ++ last_line plan.now state events.now) }
 {

@@ -3,7 +3,7 @@
 ghost use Rattle.std.specs.Prelude.{◌≤◌, length, IfOk};
 ghost use Rattle.gcd_journal.specs.Spoken.{AreSpoken};
 
-mod rows;
+mod table;
 
 use crate::{
     CheckFault, JournalFault, check, read_journal, write_journal, write_last_line, write_report,
@@ -13,11 +13,11 @@ use gcd_history::State;
 use gcd_plan::{
     Act, BlkPart, FilePart, How, Kind, MAX_EVENTS, Obj, ObjPart, Parts, Plan, WHOLE_FILE, Work,
 };
-use rows::{PLANS, REPORTS, ROWS, SEMAPHORE, Setting};
 use std::alloc::{AllocError, Global};
 use std::fmt::Write;
 use std::test::Fail;
 use std::time::Instant;
+use table::{SEMAPHORE, Setting, reports, rows, settings};
 
 // How many lines the file has.
 const LINES: Work = Work {
@@ -108,13 +108,13 @@ fn verdict(alloc: Global, plan: &Plan, text: &[u8]) -> Result<String, AllocError
 
 #[test]
 fn journals_are_judged(rt: HostRuntime) -> Result<(), Fail> {
-    for (which, setting) in PLANS.iter().enumerate() {
+    for (which, setting) in settings().iter().enumerate() {
         let plan = plan_of(rt.alloc(), setting)?;
-        for (of, journal, said, _) in ROWS {
-            if of == which {
+        for (of, journal, said, _) in rows() {
+            if *of == which {
                 let text = text_of(rt.alloc(), journal)?;
                 let told = verdict(rt.alloc(), &plan, &text)?;
-                assert_eq!(rt; told.as_str(), said, "{journal}");
+                assert_eq!(rt; told.as_str(), *said, "{journal}");
             }
         }
     }
@@ -132,10 +132,10 @@ fn rewritten(alloc: Global, plan: &Plan, text: &[u8]) -> Result<Vec<u8>, Journal
 
 #[test]
 fn what_is_read_is_written_again(rt: HostRuntime) -> Result<(), Fail> {
-    for (which, setting) in PLANS.iter().enumerate() {
+    for (which, setting) in settings().iter().enumerate() {
         let plan = plan_of(rt.alloc(), setting)?;
-        for (of, journal, _, whole) in ROWS {
-            if of == which && whole {
+        for (of, journal, _, whole) in rows() {
+            if *of == which && *whole {
                 let text = text_of(rt.alloc(), journal)?;
                 let again = rewritten(rt.alloc(), &plan, &text)?;
                 assert_eq!(rt; again.as_slice(), text.as_slice(), "{journal}");
@@ -166,10 +166,10 @@ fn report(alloc: Global, plan: &Plan, text: &[u8]) -> Result<(Vec<u8>, Vec<u8>),
 
 #[test]
 fn reports_are_written(rt: HostRuntime) -> Result<(), Fail> {
-    for (which, setting) in PLANS.iter().enumerate() {
+    for (which, setting) in settings().iter().enumerate() {
         let plan = plan_of(rt.alloc(), setting)?;
-        for (of, journal, report_row) in REPORTS {
-            if of == which {
+        for (of, journal, report_row) in reports() {
+            if *of == which {
                 let text = text_of(rt.alloc(), journal)?;
                 let (said, last) = report(rt.alloc(), &plan, &text)?;
                 let expected = text_of(rt.alloc(), report_row)?;

@@ -27,7 +27,7 @@ pub const B3: Blk = Blk(3);
 // One block on a serial queue; a block and a barrier on `root`, on a concurrent queue, and on two of them beneath a serial one;
 // a queue that is suspended far below; a queue whose target changes; misuses of a queue; a source; a group wait; a call into the
 // own queue, a wait on a group and one on a semaphore that do not pass.
-pub const PLANS: [Setting; 14] = [
+static PLANS: [Setting; 14] = [
     Setting {
         inactive: 0,
         worker: 1,
@@ -172,13 +172,13 @@ pub const PLANS: [Setting; 14] = [
 // A semaphore.
 pub const SEMAPHORE: Setting = Setting {
     inactive: 0,
-        worker: 0,
+    worker: 0,
     objects: &[("s", Kind::Semaphore(0), 0)],
     blocks: &[],
 };
 
 // The plan's number, a journal, what is said of it, and whether it is a journal and nothing follows it.
-pub const ROWS: [(usize, &str, &str, bool); 44] = [
+static ROWS: [(usize, &str, &str, bool); 44] = [
     (
         0,
         "start 0 main; act 0 main 0; end 0 main; start 0 b1; end 0 b1; events 5; ",
@@ -391,15 +391,68 @@ pub const ROWS: [(usize, &str, &str, bool); 44] = [
 ];
 
 // The plan's number, a journal, and the report of its events where block b has the value 3 * b.
-pub const REPORTS: [(usize, &str, &str); 10] = [
-    (0, "start 0 main; act 0 main 0; end 0 main; start 0 b1; end 0 b1; events 5; ", "b1 = 3; drained; "),
-    (0, "start 0 main; act 0 main 0; end 0 main; start 0 b1; events 4; ", "full; "),
-    (0, "start 0 main; act 0 main 0; end 0 main; start 0 b1; end 0 b1; halt; events 6; ", "b1 = 3; read fault; "),
-    (6, "start 0 main; act 0 main 0; misuse 0 main 1 M4; events 3; ", "misuse main 1 M4; "),
-    (9, "start 0 main; act 0 main 0; act 0 main 1; end 0 main; deliver 0 s; deliver_end 0 s; events 6; ", "s received 5 in 1 pending 0; drained; "),
-    (9, "start 0 main; act 0 main 0; act 0 main 1; end 0 main; events 4; ", "s received 0 in 0 pending 5; full; "),
-    (11, "start 0 main; act 0 main 0; end 0 main; start 0 b1; act 0 b1 0; events 5; ", "b1 waits for b2; b2 not started; stuck; "),
-    (12, "start 0 main; act 0 main 0; act 0 main 1; events 3; ", "main waits for g; stuck; "),
-    (13, "start 0 main; act 0 main 0; events 2; ", "main waits for s; stuck; "),
-    (4, "start 0 main; act 0 main 0; act 0 main 1; events 3; ", "full; "),
+static REPORTS: [(usize, &str, &str); 10] = [
+    (
+        0,
+        "start 0 main; act 0 main 0; end 0 main; start 0 b1; end 0 b1; events 5; ",
+        "b1 = 3; drained; ",
+    ),
+    (
+        0,
+        "start 0 main; act 0 main 0; end 0 main; start 0 b1; events 4; ",
+        "full; ",
+    ),
+    (
+        0,
+        "start 0 main; act 0 main 0; end 0 main; start 0 b1; end 0 b1; halt; events 6; ",
+        "b1 = 3; read fault; ",
+    ),
+    (
+        6,
+        "start 0 main; act 0 main 0; misuse 0 main 1 M4; events 3; ",
+        "misuse main 1 M4; ",
+    ),
+    (
+        9,
+        "start 0 main; act 0 main 0; act 0 main 1; end 0 main; deliver 0 s; deliver_end 0 s; events 6; ",
+        "s received 5 in 1 pending 0; drained; ",
+    ),
+    (
+        9,
+        "start 0 main; act 0 main 0; act 0 main 1; end 0 main; events 4; ",
+        "s received 0 in 0 pending 5; full; ",
+    ),
+    (
+        11,
+        "start 0 main; act 0 main 0; end 0 main; start 0 b1; act 0 b1 0; events 5; ",
+        "b1 waits for b2; b2 not started; stuck; ",
+    ),
+    (
+        12,
+        "start 0 main; act 0 main 0; act 0 main 1; events 3; ",
+        "main waits for g; stuck; ",
+    ),
+    (
+        13,
+        "start 0 main; act 0 main 0; events 2; ",
+        "main waits for s; stuck; ",
+    ),
+    (
+        4,
+        "start 0 main; act 0 main 0; act 0 main 1; events 3; ",
+        "full; ",
+    ),
 ];
+
+// The tables, whose contents no proof of a test has to carry.
+pub fn settings() -> &'static [Setting] {
+    &PLANS
+}
+
+pub fn rows() -> &'static [(usize, &'static str, &'static str, bool)] {
+    &ROWS
+}
+
+pub fn reports() -> &'static [(usize, &'static str, &'static str)] {
+    &REPORTS
+}
