@@ -1,6 +1,6 @@
 //! The program: the words of the command line, the real files and standard output, and the status with which it ends.
 //!
-//! `gcd run SCRIPT` runs a script; what it does and answers is `gcd_run::gcd_main`.
+//! What it does and answers is `gcd_run::gcd_main`, over the system's files, its standard output, its sockets and its clock.
 //!
 //! The helpers that touch the system promise nothing: no contract says what the words of a command line are, what its files
 //! hold, or with which status a program ends. So `words_of` and `status` have no clauses, and of the look-up beside the
@@ -13,12 +13,14 @@ ghost use Rattle.std.specs.Prelude.{◌≡◌, map, string_bytes, IfOk};
 mod script_shelf;
 
 use crate::script_shelf::ScriptShelf;
-use gcd_outer::StdoutSink;
+use gcd_outer::{NetPoller, StdoutSink, SystemClock};
 use gcd_run::{Status, gcd_main};
 use std::alloc::{AllocError, Global};
+use std::fs::File;
 use std::process::ExitCode;
-use std::rt::{Env, Files};
-use std::{env, io};
+use std::rt::{Env, Files, Net};
+use std::sync::Wait;
+use std::{env, io, time};
 
 // The words after the program's name.
 fn words_of<R: Env + AllocGlobal>(rt: &R) -> io::Result<Vec<String>> {
@@ -40,7 +42,9 @@ fn texts<'a>(alloc: Global, words: &'a [String]) -> Result<Vec<&'a str>, AllocEr
     Ok(texts)
 }
 
-fn status<R: Files + Print + Env + AllocGlobal>(rt: &R) -> u8 {
+fn status<R: Files<File = File> + Net + Wait + time::Clock + Print + Env + AllocGlobal>(
+    rt: &R,
+) -> u8 {
     // Words that are no text name no command.
     let words = match words_of(rt) {
         Ok(words) => words,
@@ -53,7 +57,20 @@ fn status<R: Files + Print + Env + AllocGlobal>(rt: &R) -> u8 {
     let script = texts.get(1).copied().unwrap_or("");
     let mut shelf = ScriptShelf::new(rt, rt.alloc(), script);
     let mut out = StdoutSink::new(rt);
-    gcd_main(rt.alloc(), &texts, &mut shelf, &mut out).status
+    let Ok(mut poller) = NetPoller::new(rt, rt.alloc()) else {
+        return Status::NoMemory.code();
+    };
+    let mut clock = SystemClock::new(rt);
+    gcd_main(
+        rt,
+        rt.alloc(),
+        &texts,
+        &mut shelf,
+        &mut out,
+        &mut poller,
+        &mut clock,
+    )
+    .status
 }
 
 fn main(rt: HostRuntime) -> ExitCode {

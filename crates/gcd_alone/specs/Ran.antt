@@ -39,7 +39,6 @@ pub record RanAlone (plan : PlanView) (files : List (List ℕ)) (poller : Seen P
   pub chosen : FollowsChoice plan h
   pub timely : IsTimely plan [] h clock
   pub heard : IsHeard plan [] h poller
-  pub few : length h ≤ max_events
   pub count : length given ≡ length plan.blocks
   pub values : (b : ℕ) → is_ended h b ≡ true → slice_get given b ≡ Some (value_of plan files b)
   pub others : (b : ℕ) → b < length plan.blocks → is_ended h b ≡ false → slice_get given b ≡ Some 0

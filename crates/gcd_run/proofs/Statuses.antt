@@ -183,9 +183,12 @@ module _ (seen : InputsSeen) (sink : SinkSeen) (words : List Bytes) (result : En
         (λ took answers. inr (index, judges_by script journal plan h _ _ _ asks plan_is read calls_are answers.journal_is barred answers.at_is took))
     says_judged script journal plan h end asks plan_is read calls_are (lawful state law state_is is) =
         subst Written (sym is)
-        (λ took answers. inr (state, judges_by script journal plan h (IsLawfulTo state) None (lawful_text (length result.journal.items) state)
-        asks plan_is read calls_are answers.journal_is (record { lawful = law; state_is = state_is }) answers.at_is
-        (subst (λ (g : List Event). Took sink (lawful_text (length g) state)) (sym answers.journal_is) took)))
+        (λ took answers. inr (
+          state,
+          judges_by script journal plan h (IsLawfulTo state) None (lawful_text (length result.journal.items) state)
+              asks plan_is read calls_are answers.journal_is (record { lawful = law; state_is = state_is }) answers.at_is
+              (subst (λ (g : List Event). Took sink (lawful_text (length g) state)) (sym answers.journal_is) took),
+        ))
 
     -- what is told of a request says its status
     says_asked : (o : Option Asked) (end : End) → request_of words ≡ o → AskedEnds seen o calls end → Written end

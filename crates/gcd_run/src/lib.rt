@@ -1,4 +1,30 @@
-//! The top call.
+//! The top call: from the words of a command line to a text and a status.
+//!
+//! | part | what it does |
+//! |---|---|
+//! | [`gcd_main`] | does what the words ask for, and answers [`Ended`]: the number of its status, the journal, and where a script or a journal is refused the place |
+//! | [`Status`] | the ways to end by name, each with its number (`Status::code`) |
+//!
+//! `run` loads a script and reads it as a plan (`gcd_script`), loads its files in their order, lets the poller listen where an
+//! address is given, runs the plan by worker 0 (`gcd_alone`), and writes the journal, where it is asked for, and the report
+//! (`gcd_journal`). `check` loads a script and a journal, and judges it. `big` runs the large script over a file that is made.
+//! A call ends at the first step that cannot go on; its text is made whole before the first byte is written.
+//!
+//! The contract of `gcd_main` speaks of what the call saw of the shelf, the poller, the clock and the sink (`gcd_outer`),
+//! before and after.
+//!
+//! | clause | says |
+//! |---|---|
+//! | `ended` (`CallEnds`) | one relation with a rule for each way in which a call ends, with the loads and listens that it took |
+//! | `says` (`Says`) | what each status says. Drained, Stuck, Misused, Full, and Unread after a Halt: the script declares a valid plan, it and each file was loaded once, the journal is a lawful run of the plan that is over and has come to just this state, with one worker each event of a worker is what it chooses at its place, what clock and poller said stands in it, and the sink took the journal, where it is asked for, and its report, in which each result is its block's value over the bytes that were loaded |
+//! | `always` (`Always`) | when a status has to come: where the words name no command; where a shelf that tells gives cause to stop at a script or a file of it; and where nothing stands in the way, the run comes to its end |
+//!
+//! So what is proved of lawful histories of valid plans (`laws` of `gcd_history`) holds of the journal: blocks of one serial
+//! queue never overlap.
+//!
+//! Nothing is said of a shelf, poller or sink that tells nothing, but that a fault comes only where it failed, and nothing of
+//! time. Worker 0 runs alone so far, whatever `--workers` says; with that the journal is exact. When `check` has to refuse a
+//! journal or to call it lawful is said by `ended` alone.
 #![tactic(auto)]
 
 mod checking;
@@ -13,3 +39,6 @@ mod top;
 pub use status::Status;
 pub use story::Ended;
 pub use top::gcd_main;
+
+#[cfg(test)]
+mod tests;

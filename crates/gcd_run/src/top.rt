@@ -78,7 +78,24 @@ fn call<R: Wait, S: Shelf, K: Sink, P: Poller, C: Clock>(
     }
 }
 
-/// Does what the words ask for. They are those after the program's name.
+/// Does what the words ask for: `run SCRIPT [--workers N] [--journal] [--listen ADDR]`, `check SCRIPT JOURNAL`,
+/// `big N [--workers W]`. They are the words after the program's name; scripts, files and journals are names on the shelf.
+///
+/// | [`Status`], code | comes | text |
+/// |---|---|---|
+/// | `Drained`, 0 | the run drained; `check`: the events are lawful | the report; `lawful N STATE` |
+/// | `Stuck`, 1 | the run is stuck | the report |
+/// | `NoCommand`, 2 | the parser of words refuses them, help among these, or they name no command | the usage line |
+/// | `ScriptRefused`, 3 | the script is no script, or it or a file of it is longer than its limit; `at` is the line and the code | `script refused: line L code C` |
+/// | `Misused`, 4 | the run's last event is a misuse | the report |
+/// | `Unread`, 5 | the shelf or the poller failed in the call, or the shelf tells and lacks a name | `read fault`, after a run as the report's last line |
+/// | `CutOff`, 6 | the sink failed in the call | a proper prefix of the text |
+/// | `NoMemory`, 7 | memory ran out | nothing |
+/// | `Full`, 8 | the run has as many events as it may have, and goes on | the report |
+/// | `JournalRefused`, 9 | `check`: the text is no journal or is too long, and `at` is the line and 1; or an event is not permitted, and `at` is its index and 2 | `journal refused: line L`, `journal refused: event I` |
+///
+/// Each is judged at its step, where no earlier step ended the call. No feed of the poller is watched yet. `journal` is that of
+/// the run or, for `check`, the one that was read. It may wait for others (this project's own rules).
 pub fn gcd_main<R: Wait, S: Shelf, K: Sink, P: Poller, C: Clock>(
     rt: &R,
     alloc: Global,

@@ -30,7 +30,6 @@ returns-clause-ran g c =
             c.run_turns.new.outlook (going.heard tells);
         faults = going.faults;
       };
-      few = run.few;
       count = run.values.count;
       values = run.values.values;
       others = run.values.others;
