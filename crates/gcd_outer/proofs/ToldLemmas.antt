@@ -10,7 +10,7 @@ use Rattle.gcd_outer.specs.Tells.{AreTells, ended_after, has_end, is_empty_answe
 -- one tell and the others
 tell_step : (named ended later : Bool) (bytes ts us both : List ℕ) → both ≡ ts ++ (if later then [] else us)
     → (if named then bytes ++ (if ended then [] else both) else both)
-      ≡ (if named then bytes ++ (if ended then [] else ts) else ts) ++ (if (named && ended) || later then [] else us)
+    ≡ (if named then bytes ++ (if ended then [] else ts) else ts) ++ (if (named && ended) || later then [] else us)
 tell_step true true later bytes ts us both is = sym (append-nil (bytes ++ []))
 tell_step true false later bytes ts us both is = ap (λ (b : List ℕ). bytes ++ b) is ∙ sym (append_assoc bytes ts _)
 tell_step false ended later bytes ts us both is = is
