@@ -118,26 +118,15 @@ fn answers(alloc: Global, row: &Row) -> Result<Vec<Told>, AllocError> {
     Ok(answers)
 }
 
-fn poller_of(alloc: Global, row: &Row) -> Result<ListPoller, AllocError> {
-    let answers = answers(alloc, row)?;
-    let mut poller = ListPoller::new(alloc, answers, 4, 100)?;
-    for poll in row.failing_polls {
-        poller.fail_poll(*poll)?;
-    }
-    for watch in row.failing_watches {
-        poller.fail_watch(*watch)?;
-    }
-    Ok(poller)
-}
-
 // The row's run; None where its plan is not valid.
 fn ran(rt: &impl Wait, alloc: Global, row: &Row) -> Result<Option<Alone>, AllocError> {
     let Some(plan) = plan_of(alloc, row)? else {
         return Ok(None);
     };
-    let mut poller = poller_of(alloc, row)?;
-    let mut clock = JumpClock::new(row.step);
+    let answers = answers(alloc, row)?;
     let files = contents(alloc)?;
+    let mut clock = JumpClock::new(row.step);
+    let mut poller = ListPoller::new(alloc, answers, row.watches, 100)?;
     if files.len() != plan.files().len() {
         return Ok(None);
     }

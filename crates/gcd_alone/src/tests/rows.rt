@@ -40,8 +40,8 @@ pub struct Row {
     pub empties: u32,
     // answers of one tell each: feed, bytes, end
     pub tells: &'static [(u32, u32, bool)],
-    pub failing_polls: &'static [u64],
-    pub failing_watches: &'static [u64],
+    // for how many watches the poller has room; past that they fail
+    pub watches: usize,
     // what is recorded
     pub journal: &'static [Event],
     pub state: State,
@@ -124,8 +124,7 @@ const PLAIN: Row = Row {
     step: 0,
     empties: 0,
     tells: &[],
-    failing_polls: &[],
-    failing_watches: &[],
+    watches: 4,
     journal: &[START_MAIN, END_MAIN],
     state: State::Drained,
     values: &[0],
@@ -255,26 +254,8 @@ pub const ROWS: &[Row] = &[
     },
     FEED,
     Row {
-        what: "a poll that fails",
-        failing_polls: &[1],
-        journal: &[
-            START_MAIN,
-            ACT_MAIN_0,
-            END_MAIN,
-            Event::Ready {
-                src: Obj(1),
-                bytes: 4,
-            },
-            DELIVER_1,
-            DELIVERED_1,
-            Event::Halt,
-        ],
-        state: State::Halted,
-        ..FEED
-    },
-    Row {
         what: "a watch that fails",
-        failing_watches: &[0],
+        watches: 0,
         journal: &[START_MAIN, ACT_MAIN_0, Event::Halt],
         state: State::Halted,
         ..FEED
