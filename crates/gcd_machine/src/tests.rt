@@ -1,9 +1,12 @@
+ghost use Rattle.std.specs.Prelude.{◌≡◌, []};
+ghost use Rattle.gcd_machine.specs.Stands.{StandsFor};
+
 mod rows;
 
 use crate::Machine;
 use gcd_event::Event;
 use gcd_plan::{Act, Blk, BlkPart, Kind, MAX_OBJECTS, Obj, ObjPart, Parts, Plan, Reason, Run, Why};
-use rows::{B1, B2, CHAIN, MAIN, MIDST, O1, O2, O3, OWN_CALL, ROWS, Row};
+use rows::{B1, B2, CHAIN, MAIN, O1, O2, O3, ROWS, Row, Told};
 use std::alloc::{AllocError, Global};
 use std::process::Abort;
 use std::test::Fail;
@@ -133,27 +136,40 @@ fn next(m: &Machine, row: &Row, count: usize, taken: &mut usize) -> Option<Event
     e
 }
 
-// What is recorded, why the next event is refused, if one is, and the machine in the end.
-fn recorded(
-    alloc: Global,
+// Records what the row says. Why the next event is refused, if one is.
+fn record(
+    m: &mut Machine,
     plan: &Plan,
     row: &Row,
-) -> Result<(Vec<Event>, Option<Why>, Machine), AllocError> {
-    let mut m = Machine::new(alloc, plan)?;
-    let mut events = Vec::new(alloc);
+    events: &mut Vec<Event>,
+) -> Result<Option<Why>, AllocError>
+    requires new { StandsFor m.old plan.now [] }
+    requires empty { events.old.items ≡ [] }
+{
     let mut taken = 0;
     while events.len() < 100 {
-        let Some(e) = next(&m, row, events.len(), &mut taken) else {
+        let Some(e) = next(m, row, events.len(), &mut taken) else {
             break
         };
         let why = m.permits(e);
         if why.is_some() {
-            return Ok((events, why, m));
+            return Ok(why);
         }
         m.apply(e);
         events.push(e)?;
     }
-    Ok((events, None, m))
+    Ok(None)
+}
+
+fn journal_is_as_told(
+    rt: &impl Abort,
+    alloc: Global,
+    row: &Row,
+    events: &[Event],
+) -> Result<(), Fail> {
+    let journal = journal(alloc, events)?;
+    assert_eq!(rt; journal.as_str(), row.journal, "{}", row.what);
+    Ok(())
 }
 
 // What the last delivery of object 1 handed over.
@@ -161,16 +177,34 @@ fn data(m: &Machine) -> u64 {
     if m.objects() > 1 { m.data_of(O1) } else { 0 }
 }
 
-fn is_as_told(rt: &impl Abort, alloc: Global, plan: &Plan, row: &Row) -> Result<(), Fail> {
-    let (events, refused, m) = recorded(alloc, plan, row)?;
+// What block 2 waits for.
+fn awaited(m: &Machine) -> Option<Reason> {
+    if m.blocks() > 2 { m.awaited(B2) } else { None }
+}
+
+fn ends_as_told(rt: &impl Abort, row: &Row, m: &Machine) {
     let what = row.what;
-    let journal = journal(alloc, events.as_slice())?;
-    assert_eq!(rt; journal.as_str(), row.journal, "{what}");
+    assert!(rt; m.state() == row.state, "{what}");
+    assert_eq!(rt; data(m), row.data, "{what}");
+    assert!(rt; awaited(m) == row.awaited, "{what}");
+    if row.told.is_some() {
+        assert!(rt; summary(m) == row.told, "{what}");
+    }
+}
+
+fn copy_ends_as_told(rt: &impl Abort, alloc: Global, row: &Row, m: &Machine) -> Result<(), Fail> {
     let copied = m.copy(alloc)?;
-    assert!(rt; refused == row.refused, "{what}");
-    assert!(rt; copied.state() == row.state, "{what}");
-    assert_eq!(rt; data(&copied), row.data, "{what}");
+    ends_as_told(rt, row, &copied);
     Ok(())
+}
+
+fn is_as_told(rt: &impl Abort, alloc: Global, plan: &Plan, row: &Row) -> Result<(), Fail> {
+    let mut events = Vec::new(alloc);
+    let mut m = Machine::new(alloc, plan)?;
+    let refused = record(&mut m, plan, row, &mut events)?;
+    assert!(rt; refused == row.refused, "{}", row.what);
+    copy_ends_as_told(rt, alloc, row, &m)?;
+    journal_is_as_told(rt, alloc, row, events.as_slice())
 }
 
 fn check_row(rt: &impl Abort, alloc: Global, row: &Row) -> Result<(), Fail> {
@@ -205,24 +239,6 @@ fn a_chain_of_all_queues_drains(rt: HostRuntime) -> Result<(), Fail> {
     is_as_told(&rt, rt.alloc(), &plan, &CHAIN)
 }
 
-// What a machine tells of the run, of the objects 1 to 3, and of two blocks and two acts of `main`.
-#[derive(Clone, Copy, Debug, PartialEq, Eq)]
-struct Told {
-    sizes: (u32, u32),
-    events: u32,
-    running: u32,
-    quiescent: bool,
-    halted: bool,
-    next_due: Option<u32>,
-    feeds: (bool, bool),
-    next_feeds: (Option<Obj>, Option<Obj>),
-    started: (bool, bool),
-    waiting: (Option<Blk>, Option<Blk>),
-    nodes: (Option<Obj>, Option<Obj>),
-    pending: (u64, u64),
-    parks: (bool, bool),
-}
-
 fn act_of_main(index: u32) -> Event {
     Event::Act {
         worker: 0,
@@ -231,6 +247,7 @@ fn act_of_main(index: u32) -> Event {
     }
 }
 
+// What the machine tells, where the plan is large enough.
 fn summary(m: &Machine) -> Option<Told> {
     if m.objects() < 4 {
         return None;
@@ -248,42 +265,10 @@ fn summary(m: &Machine) -> Option<Told> {
         feeds: (m.is_live_feed(O1), m.is_live_feed(O3)),
         next_feeds: (m.next_live_feed(0), m.next_live_feed(4)),
         started: (m.is_started(Blk(0)), m.is_started(B1)),
+        ended: (m.is_ended(Blk(0)), m.is_ended(B1)),
         waiting: (m.first_waiting(O2), m.first_waiting(O3)),
         nodes: (m.node_of(B1), m.node_of(B2)),
         pending: (m.pending_of(O1), m.pending_of(O3)),
         parks: (m.parks(act_of_main(3)), m.parks(act_of_main(4))),
     })
-}
-
-#[test]
-fn tells_what_it_stands_for(rt: HostRuntime) -> Result<(), Fail> {
-    let plan = plan_of(rt.alloc(), &MIDST, objects(rt.alloc(), &MIDST)?)?;
-    let (_, _, m) = recorded(rt.alloc(), &plan, &MIDST)?;
-    let want = Told {
-        sizes: (4, 3),
-        events: 7,
-        running: 1,
-        quiescent: false,
-        halted: false,
-        next_due: Some(15),
-        feeds: (false, true),
-        next_feeds: (Some(O3), None),
-        started: (true, false),
-        waiting: (Some(B1), None),
-        nodes: (Some(O2), None),
-        pending: (1, 4),
-        parks: (false, true),
-    };
-    assert_eq!(rt; summary(&m), Some(want));
-    Ok(())
-}
-
-#[test]
-fn tells_what_a_parked_block_waits_for(rt: HostRuntime) -> Result<(), Fail> {
-    let plan = plan_of(rt.alloc(), &OWN_CALL, objects(rt.alloc(), &OWN_CALL)?)?;
-    let (_, _, m) = recorded(rt.alloc(), &plan, &OWN_CALL)?;
-    assert!(rt; m.blocks() == 3);
-    assert_eq!(rt; m.awaited(B2), Some(Reason::Block(B1)));
-    assert!(rt; m.awaited(B1).is_none() && m.is_ended(Blk(0)));
-    Ok(())
 }

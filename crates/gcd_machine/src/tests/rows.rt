@@ -2,7 +2,7 @@
 
 use gcd_event::Event;
 use gcd_history::State;
-use gcd_plan::{Act, Blk, DEFAULT_UNTIL, Kind, MAX_OBJECTS, Obj, Run, Why};
+use gcd_plan::{Act, Blk, DEFAULT_UNTIL, Kind, MAX_OBJECTS, Obj, Reason, Run, Why};
 
 pub const ROOT: Obj = Obj(0);
 
@@ -30,6 +30,25 @@ pub const R3: Run = Run::Block(B3);
 
 pub const S1: Run = Run::Source(O1);
 
+// What a machine tells of the run, of the objects 1 to 3, and of two blocks and two acts of `main`.
+#[derive(Clone, Copy, Debug, PartialEq, Eq)]
+pub struct Told {
+    pub sizes: (u32, u32),
+    pub events: u32,
+    pub running: u32,
+    pub quiescent: bool,
+    pub halted: bool,
+    pub next_due: Option<u32>,
+    pub feeds: (bool, bool),
+    pub next_feeds: (Option<Obj>, Option<Obj>),
+    pub started: (bool, bool),
+    pub ended: (bool, bool),
+    pub waiting: (Option<Blk>, Option<Blk>),
+    pub nodes: (Option<Obj>, Option<Obj>),
+    pub pending: (u64, u64),
+    pub parks: (bool, bool),
+}
+
 // A plan and a run of it. Worker 0 records what it chooses, the objects from number `from` on, so long as `most` events have
 // not come; where it chooses nothing the next event by hand comes, until one is refused.
 #[derive(Clone, Copy)]
@@ -55,6 +74,9 @@ pub struct Row {
     pub state: State,
     // what the last delivery of object 1 handed over
     pub data: u64,
+    // what block 2 waits for
+    pub awaited: Option<Reason>,
+    pub told: Option<Told>,
 }
 
 // One serial queue, no block beside `main`, which does nothing.
@@ -73,6 +95,8 @@ pub const PLAIN: Row = Row {
     refused: None,
     state: State::Drained,
     data: 0,
+    awaited: None,
+    told: None,
 };
 
 // A block that waits for another on its own queue.
@@ -82,6 +106,7 @@ pub const OWN_CALL: Row = Row {
     acts: &[(R2, Act::Sync(O1, B1)), (MAIN, Act::Async(O1, B2))],
     journal: "start 0 b0; act 0 b0 0; end 0 b0; start 0 b2; act 0 b2 0; ",
     state: State::Stuck,
+    awaited: Some(Reason::Block(B1)),
     ..PLAIN
 };
 
@@ -117,6 +142,7 @@ pub static ROWS: [Row; 35] = [
         ],
         journal: "start 0 b0; act 0 b0 0; act 0 b0 1; end 0 b0; start 0 b2; act 0 b2 0; ",
         state: State::Stuck,
+        awaited: Some(Reason::Block(B1)),
         ..PLAIN
     },
     OWN_CALL,
@@ -528,5 +554,21 @@ pub const MIDST: Row = Row {
     by_hand: &[Event::Tick { at: 12 }, Event::Ready { src: O3, bytes: 4 }],
     journal: "start 0 b0; act 0 b0 0; act 0 b0 1; act 0 b0 2; act 0 b0 3; tick 12; ready s3 4; ",
     state: State::Live,
+    told: Some(Told {
+        sizes: (4, 3),
+        events: 7,
+        running: 1,
+        quiescent: false,
+        halted: false,
+        next_due: Some(15),
+        feeds: (false, true),
+        next_feeds: (Some(O3), None),
+        started: (true, false),
+        ended: (false, false),
+        waiting: (Some(B1), None),
+        nodes: (Some(O2), None),
+        pending: (1, 4),
+        parks: (false, true),
+    }),
     ..PLAIN
 };

@@ -1,6 +1,6 @@
 use Rattle.std.proofs.Common.{sym, ◌∙◌, arith}
 use Rattle.gcd_plan.proofs.Options.{none_from_is_some}
-use Rattle.gcd_machine.proofs.tests.recorded.Goals as goal
+use Rattle.gcd_machine.proofs.tests.record.Goals as goal
 
 pub apply-requires : goal.apply-requires
 apply-requires c =
