@@ -198,13 +198,26 @@ fn copy_ends_as_told(rt: &impl Abort, alloc: Global, row: &Row, m: &Machine) -> 
     Ok(())
 }
 
-fn is_as_told(rt: &impl Abort, alloc: Global, plan: &Plan, row: &Row) -> Result<(), Fail> {
+// The run of a new machine is as the row tells it.
+fn runs_as_told(
+    rt: &impl Abort,
+    alloc: Global,
+    plan: &Plan,
+    row: &Row,
+    m: &mut Machine,
+) -> Result<(), Fail>
+    requires { StandsFor m.old plan.now [] }
+{
     let mut events = Vec::new(alloc);
-    let mut m = Machine::new(alloc, plan)?;
-    let refused = record(&mut m, plan, row, &mut events)?;
+    let refused = record(m, plan, row, &mut events)?;
     assert!(rt; refused == row.refused, "{}", row.what);
-    copy_ends_as_told(rt, alloc, row, &m)?;
+    copy_ends_as_told(rt, alloc, row, m)?;
     journal_is_as_told(rt, alloc, row, events.as_slice())
+}
+
+fn is_as_told(rt: &impl Abort, alloc: Global, plan: &Plan, row: &Row) -> Result<(), Fail> {
+    let mut m = Machine::new(alloc, plan)?;
+    runs_as_told(rt, alloc, plan, row, &mut m)
 }
 
 fn check_row(rt: &impl Abort, alloc: Global, row: &Row) -> Result<(), Fail> {
