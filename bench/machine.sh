@@ -1,5 +1,5 @@
 #!/usr/bin/env bash
-# Times the calls of crates/gcd_machine over the histories of four plans, and measures what a copy of a machine takes.
+# Times the calls of crates/gcd_machine over the histories of four plans, and measures what a machine takes.
 #
 # The program is bench/machine, whose files end in .txt, since the gate proves each file that ends in .rt or .antt. It is
 # proved and built in a folder of its own, beside copies of the crates with what earlier checks left. It prints for each plan
@@ -24,5 +24,6 @@ rt run >"$folder/times" 2>"$folder/log" || { tail -20 "$folder/log" >&2; exit 1;
     echo 'plan events permitted chosen apply permits choose'
     grep -E '^(large|chain|group|timers) ' "$folder/times"
 } | column -t
-size() { /usr/bin/time -f %M out/bench_machine "$1" 2>&1 >/dev/null; }
-echo "a copy of a machine of the large script: $((($(size 201) - $(size 1)) / 200)) KiB"
+"${CC:-gcc}" -O2 -shared -fPIC -o "$folder/held.so" "$OLDPWD/bench/machine.c" -ldl
+LD_PRELOAD="$folder/held.so" out/bench_machine 2>"$folder/held" >"$folder/times"
+awk 'NR == 1 { first = $1 } NR == 3 { print "a machine of the large plan, with its copy of the plan:", $1 - first, "bytes" }' "$folder/held"
