@@ -1,11 +1,14 @@
 -- How a text is read, line by line.
-use Rattle.std.proofs.Common.{ℕ, ◌≡◌, ◌+◌, true, false, cond, List, [], ◌∷◌, Option, Some, None, subst, Result, Ok, Err, option_map, refl, sym, ap, ◌∙◌}
+use Rattle.std.proofs.Common.{ℕ, ◌≡◌, ◌+◌, Bool, true, false, cond, List, [], ◌∷◌, Option, Some, None, subst, Result, Ok, Err, option_map, refl, sym, ap, ◌∙◌}
 use Rattle.std.specs.Option.{option_map_or}
 use Rattle.std.specs.Result.{result_err}
+use Rattle.gcd_plan.specs.PlanView.{PlanView}
+use Rattle.gcd_plan.specs.Validity.{IsPlan}
 use Rattle.gcd_script.specs.declared.fault.ParseFault.{ParseFault}
 use Rattle.gcd_script.specs.declared.fault.ParseFault.TheVariants.{Refused, Memory}
 use Rattle.gcd_script.specs.declared.line.Line.{Line}
 use Rattle.gcd_script.specs.declared.line.Line.TheVariants.{DeclareFile, DeclareObject, DeclareBlock, SetUntil, SetCancel, OpenHandler, OpenMain, AddAct}
+use Rattle.gcd_script.specs.declared.refusal.Refusal.{Refusal}
 use Rattle.gcd_script.specs.declared.refusal.Refusal.TheVariants.{NoForm, NotOneMain}
 use Rattle.gcd_script.specs.Changes.{change, after}
 use Rattle.gcd_script.specs.Codes.{refusal_code}
@@ -120,12 +123,12 @@ module _ (bytes rest : List ℕ) (d : DraftView) (leads : Leads bytes d rest) wh
         (whole ∙ ap (λ t. cond t (Ok d.plan) (Err (d.lines + 1, NotOneMain))) has_main)
 
 -- the plan of a script is valid
+ended_case : (test : Bool) (d : DraftView) (plan : PlanView) → IsPlan d.plan → ◌≡◌ {A = Result PlanView (ℕ × Refusal)} (cond test (Ok d.plan) (Err (d.lines + 1, NotOneMain))) (Ok plan) → IsPlan plan
+ended_case true d plan valid h = let same : d.plan ≡ plan = cc in subst IsPlan same valid
+ended_case false d plan valid h = cc
+
 ended_valid : (r : Result DraftView (ℕ × Refusal)) (plan : PlanView) → ((d : DraftView) → r ≡ Ok d → IsDraft d) → ended r ≡ Ok plan → IsPlan plan
-ended_valid (Ok d) plan sound h =
-    elim d.has_main as (λ t. cond t (Ok d.plan) (Err (d.lines + 1, NotOneMain)) ≡ Ok plan → IsPlan plan) [
-      | true ↦ λ k. let same : d.plan ≡ plan = cc in subst IsPlan same (sound d refl).valid
-      | false ↦ λ k. cc
-    ] h
+ended_valid (Ok d) plan sound h = ended_case d.has_main d plan (sound d refl).valid h
 ended_valid (Err fault) plan sound h = cc
 
 pub declares_valid : (bytes : List ℕ) (plan : PlanView) → IsScriptOf bytes plan → IsPlan plan
