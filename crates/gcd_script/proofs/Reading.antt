@@ -1,11 +1,14 @@
 -- How a text is read, line by line.
-use Rattle.std.proofs.Common.{ℕ, ◌≡◌, ◌+◌, true, false, cond, List, [], ◌∷◌, Option, Some, None, subst, Ok, Err, option_map, refl, sym, ap, ◌∙◌}
+use Rattle.std.proofs.Common.{ℕ, ◌≡◌, ◌+◌, Bool, true, false, cond, List, [], ◌∷◌, Option, Some, None, subst, Result, Ok, Err, option_map, refl, sym, ap, ◌∙◌}
 use Rattle.std.specs.Option.{option_map_or}
 use Rattle.std.specs.Result.{result_err}
+use Rattle.gcd_plan.specs.PlanView.{PlanView}
+use Rattle.gcd_plan.specs.Validity.{IsPlan}
 use Rattle.gcd_script.specs.declared.fault.ParseFault.{ParseFault}
 use Rattle.gcd_script.specs.declared.fault.ParseFault.TheVariants.{Refused, Memory}
 use Rattle.gcd_script.specs.declared.line.Line.{Line}
 use Rattle.gcd_script.specs.declared.line.Line.TheVariants.{DeclareFile, DeclareObject, DeclareBlock, SetUntil, SetCancel, OpenHandler, OpenMain, AddAct}
+use Rattle.gcd_script.specs.declared.refusal.Refusal.{Refusal}
 use Rattle.gcd_script.specs.declared.refusal.Refusal.TheVariants.{NoForm, NotOneMain}
 use Rattle.gcd_script.specs.Changes.{change, after}
 use Rattle.gcd_script.specs.Codes.{refusal_code}
@@ -17,7 +20,7 @@ use Rattle.gcd_script.specs.Meant.{Meant, meant}
 use Rattle.gcd_script.specs.Refusals.{IsRefusal, IsLineRefusal}
 use Rattle.gcd_script.specs.Sound.{IsDraft, IsRight}
 use Rattle.gcd_script.proofs.Inversions.{made_of, passed}
-use Rattle.gcd_script.proofs.RightLines.{line_right, change_sound}
+use Rattle.gcd_script.proofs.RightLines.{line_right, change_sound, empty_sound}
 
 -- a line that is not skipped means what its words mean
 meant_line : (d : DraftView) (words : List (List ℕ)) (line : Line (List ℕ)) → cond (is_skipped words) (Ok None) (meant Some (line_of d words)) ≡ Ok (Some line) → line_of d words ≡ Ok line
@@ -118,3 +121,16 @@ module _ (bytes rest : List ℕ) (d : DraftView) (leads : Leads bytes d rest) wh
     lacks_main has_main =
         ap (λ r. option_map (λ fault. (fault.0, refusal_code fault.1)) (result_err r))
         (whole ∙ ap (λ t. cond t (Ok d.plan) (Err (d.lines + 1, NotOneMain))) has_main)
+
+-- the plan of a script is valid
+ended_case : (test : Bool) (d : DraftView) (plan : PlanView) → IsPlan d.plan → ◌≡◌ {A = Result PlanView (ℕ × Refusal)} (cond test (Ok d.plan) (Err (d.lines + 1, NotOneMain))) (Ok plan) → IsPlan plan
+ended_case true d plan valid h = let same : d.plan ≡ plan = cc in subst IsPlan same valid
+ended_case false d plan valid h = cc
+
+ended_valid : (r : Result DraftView (ℕ × Refusal)) (plan : PlanView) → ((d : DraftView) → r ≡ Ok d → IsDraft d) → ended r ≡ Ok plan → IsPlan plan
+ended_valid (Ok d) plan sound h = ended_case d.has_main d plan (sound d refl).valid h
+ended_valid (Err fault) plan sound h = cc
+
+pub declares_valid : (bytes : List ℕ) (plan : PlanView) → IsScriptOf bytes plan → IsPlan plan
+declares_valid bytes plan h =
+    ended_valid (draft_after empty_draft (lines_of bytes)) plan (λ d is. lines_sound (lines_of bytes) empty_draft d empty_sound is) h

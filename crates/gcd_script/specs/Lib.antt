@@ -18,3 +18,4 @@ pub mod Views
 pub mod Sound
 pub mod Agreement
 pub mod BigScript
+pub mod Laws

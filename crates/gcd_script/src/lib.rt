@@ -5,6 +5,7 @@
 //! | `parse` | the plan that the script declares (`IsScriptOf`), which is valid (`IsPlan`); or the first line at fault with the lowest code that applies to it (`IsRefusal`: `fault_of`); or `Memory` |
 //! | `big_text` | the script of the large input with n blocks (`big_script`), which is a script; or want of memory |
 //! | `Refusal::code` | the code of a refusal, from 1 to 9 |
+//! | `laws` | the plan that a script declares is valid |
 //!
 //! The model is a text as a list of bytes, which `gcd_text` cuts into lines and words. `keyword_of` says what kind of line a
 //! first word begins, and `line_by` what the words after it mean: a value (`Line`), or the refusal of the lowest code
@@ -74,6 +75,7 @@ mod draft;
 mod fault;
 mod judge;
 mod keyword;
+pub mod laws;
 mod line;
 mod meaning;
 mod meant;

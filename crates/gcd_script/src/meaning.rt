@@ -7,7 +7,7 @@ use gcd_plan::{Blk, Obj};
 pub enum Meaning {
     /// A file, by its number from 0.
     File(u32),
-    /// A queue.
+    /// A queue, a group, a semaphore or a source; `root` is object 0.
     Object(Obj),
     /// A block.
     Block(Blk),

@@ -8,17 +8,17 @@ ghost use Rattle.gcd_script.specs.Codes.{refusal_code};
 pub enum Refusal {
     /// The line has a byte other than 32 to 126, or is of no form, or is an act outside a body.
     NoForm,
-    /// The declared name is ill-formed, reserved or taken.
+    /// The declared name is ill-formed, reserved or taken; or it is a second `until`.
     BadName,
     /// A used name is not declared on an earlier line.
     UnknownName,
     /// A used name is of another kind than the form asks.
     OtherKind,
-    /// A word in a number's place is no number, or out of its range. No form so far has a number.
+    /// A word in a number's place is no number, or out of its range.
     BadNumber,
-    /// An earlier line submits the block.
+    /// An earlier line submits the block, or the source has a handler or a cancellation block already.
     Repeated,
-    /// The act is not allowed in a handler. No form so far opens one.
+    /// The act is not allowed in a handler: it submits a block or waits.
     InHandler,
     /// The line passes a limit on files, objects, blocks or acts; or a script or a file has more bytes than it may.
     PastLimit,
