@@ -1,28 +1,23 @@
 -- What the steps of activation, cancellation and merging ask.
-use Rattle.std.proofs.Common.{◌≡◌, ⊎_elim, ℕ, ◌+◌, ◌^◌, ◌<◌, ◌≤◌, ◌==◌, true, false, not, ◌&&◌, cond, List, [], ◌∷◌, length, Some, None, option_map, codes, refl, ap, sym, ◌∙◌, arith, ne_eqb}
-use Rattle.std.specs.List.{count_by, slice_get, slice_index_or, range_with_len}
+use Rattle.std.proofs.Common.{◌≡◌, ⊎_elim, ℕ, ◌+◌, ◌^◌, ◌<◌, ◌≤◌, ◌==◌, false, not, ◌&&◌, cond, List, [], ◌∷◌, length, Some, None, ap, sym, ◌∙◌, arith, ne_eqb}
+use Rattle.std.specs.List.{count_by, slice_get, slice_index_or}
 use Rattle.std.specs.Option.{option_map_or}
-use Rattle.std.specs.Int.Bits.{or_add_and}
-use Rattle.std.proofs.lemmas.Bool.{cases_lt, and_from, or_parts}
+use Rattle.std.proofs.lemmas.Bool.{cases_lt}
 use Rattle.std.proofs.lemmas.List.{length-map}
 use Rattle.gcd_plan.specs.PlanView.{PlanView}
-use Rattle.gcd_plan.specs.Kinds.{has_kind, is_source, is_source_kind, is_read_kind}
+use Rattle.gcd_plan.specs.Kinds.{is_source, is_source_kind}
 use Rattle.gcd_plan.specs.KindValues.{folded}
 use Rattle.gcd_plan.specs.Validity.{IsPlan}
 use Rattle.gcd_plan.specs.declared.act.Act.TheVariants.{Resume}
-use Rattle.gcd_plan.specs.declared.kind.Kind.{Kind}
-use Rattle.gcd_plan.specs.declared.kind.Kind.TheVariants.{Or}
 use Rattle.gcd_plan.specs.declared.numbers.Obj.{Obj}
 use Rattle.gcd_event.specs.declared.event.Event.{Event}
 use Rattle.gcd_history.specs.Runs.{act_of}
-use Rattle.gcd_history.specs.Submitted.{new_submissions, submitted, cancels, is_cancelled}
-use Rattle.gcd_history.specs.Holds.{hold, is_active, activates}
-use Rattle.gcd_history.specs.Timers.{now, activated_at, cancelled_at}
-use Rattle.gcd_history.specs.Sources.{is_live_feed}
+use Rattle.gcd_history.specs.Submitted.{new_submissions, submitted, cancels}
+use Rattle.gcd_history.specs.Holds.{hold}
+use Rattle.gcd_history.specs.Timers.{now}
 use Rattle.gcd_history.specs.Misuses.{is_over_resumed}
 use Rattle.gcd_history.specs.Permitted.{IsLawful}
-use Rattle.gcd_plan.proofs.Quantifiers.{list_any_in_range}
-use Rattle.gcd_plan.proofs.Sums.{count_by_some, count_by-append}
+use Rattle.gcd_plan.proofs.Sums.{count_by-append}
 use Rattle.gcd_history.proofs.SubmittedOnce.{is_of, submitted_within}
 use Rattle.gcd_hold.specs.HoldsView.{is_active_at, is_source_at, is_over_resumed_at}
 use Rattle.gcd_source.specs.SourcesView.{is_cancelled_at, merged_at, pending_at}

@@ -6,7 +6,6 @@ use Rattle.std.proofs.lemmas.Bool.{both_ways}
 use Rattle.gcd_plan.specs.PlanView.{PlanView}
 use Rattle.gcd_event.specs.declared.event.Event.{Event}
 use Rattle.gcd_history.specs.declared.state.State.TheVariants.{Drained, Stuck, Misused, Halted, Live}
-use Rattle.gcd_history.specs.Choice as choice
 use Rattle.gcd_history.specs.History.{why, choice_of}
 use Rattle.gcd_history.specs.Ends.{ends_in_misuse, ends_in_halt, IsQuiescent, all_ended, HasState}
 use Rattle.gcd_history.proofs.Choices.{chosen_is}

@@ -1,18 +1,13 @@
 -- Whether anything can come any more, and whether a block is left, as what a machine keeps tells it.
-use Rattle.std.proofs.Common.{◌≡◌, ℕ, ◌==◌, ◌<◌, Bool, true, false, not, ◌&&◌, ◌||◌, ◌↔◌, cond, List, [], ◌∷◌, length, None, is_none, count_by, refl, ap, sym, ◌∙◌, arith, get_or, zero, suc}
-use Rattle.std.specs.List.{list_all, range_with_len}
-use Rattle.std.proofs.lemmas.Bool.{and_from, and_parts, eqb-true, eq-eqb, false_from_ne_true, ne_eqb, not-true}
+use Rattle.std.proofs.Common.{◌≡◌, ℕ, ◌==◌, Bool, true, false, not, ◌&&◌, ◌||◌, ◌↔◌, cond, List, [], ◌∷◌, None, is_none, count_by, refl, ap, sym, ◌∙◌, arith, get_or, zero, suc}
+use Rattle.std.specs.List.{list_all}
+use Rattle.std.proofs.lemmas.Bool.{and_from, and_parts, eqb-true, eq-eqb, ne_eqb, not-true}
 use Rattle.gcd_plan.specs.PlanView.{PlanView}
-use Rattle.gcd_plan.specs.Kinds.{has_kind, is_read_kind}
 use Rattle.gcd_event.specs.declared.event.Event.{Event}
 use Rattle.gcd_history.specs.Runs.{is_ended}
 use Rattle.gcd_history.specs.Submitted.{submitted}
-use Rattle.gcd_history.specs.Sources.{is_live_feed}
 use Rattle.gcd_history.specs.Choice.{all_ended, IsQuiescent}
-use Rattle.gcd_history.proofs.Fitting.{has_object}
-use Rattle.gcd_history.proofs.Lists.{none_passes}
-use Rattle.gcd_plan.proofs.Quantifiers.{list_any_in_range, list_any_agree}
-use Rattle.gcd_plan.proofs.Sums.{count_by-cons, count_by_none, count_by_some}
+use Rattle.gcd_plan.proofs.Sums.{count_by-cons}
 use Rattle.gcd_plan.proofs.Options.{none_from_is_none}
 use Rattle.gcd_history.proofs.Quiet.{AtRest, quiescent_from_rest, rest_from_quiescent}
 use Rattle.gcd_timer.specs.TimersView.{next_due_at}

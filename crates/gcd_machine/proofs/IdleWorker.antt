@@ -1,5 +1,5 @@
 -- What is permitted to a worker without a run.
-use Rattle.std.proofs.Common.{◌≡◌, ℕ, ◌-◌, ◌<◌, Bool, true, false, ◌||◌, cond, List, length, Option, Some, None, is_some, is_none, option_map, refl, ap, sym, ◌∙◌}
+use Rattle.std.proofs.Common.{◌≡◌, ℕ, ◌<◌, Bool, true, false, ◌||◌, cond, List, length, Option, Some, None, is_some, is_none, option_map, refl, ap, sym, ◌∙◌}
 use Rattle.std.specs.List.{slice_get}
 use Rattle.std.proofs.lemmas.Bool.{and_from}
 use Rattle.std.proofs.lemmas.Option.{slice_get_within}

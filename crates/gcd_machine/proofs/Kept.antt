@@ -1,23 +1,16 @@
 -- Conditions of a step that stand, since the steps before it change other things.
-use Rattle.std.proofs.Common.{◌≡◌, ℕ, ◌+◌, ◌-◌, ◌<◌, ◌≤◌, ◌==◌, Bool, true, false, cond, List, [], ◌∷◌, length, get_or, set, Option, Some, None, is_some, refl, ap, sym, ◌∙◌, subst, arith, ⊎_elim, eq-eqb, ne_eqb}
-use Rattle.std.specs.List.{fold}
+use Rattle.std.proofs.Common.{◌≡◌, ℕ, ◌+◌, ◌-◌, ◌<◌, ◌≤◌, ◌==◌, Bool, true, false, cond, List, length, get_or, set, Option, Some, None, is_some, refl, ap, sym, ◌∙◌, subst, arith, ⊎_elim, eq-eqb}
 use Rattle.std.proofs.lemmas.Bool.{cases_lt, cases_eq}
 use Rattle.std.proofs.lemmas.List.{length-set, get_or_read, get_or-set_same, get_or-set_other, get_or_past, set_past}
-use Rattle.gcd_plan.specs.declared.act.Act.{Act}
-use Rattle.gcd_plan.specs.declared.act.Act.TheVariants.{Async, Barrier, Sync, BarrierSync, GroupAsync, Notify, Enter, Leave, GroupWait, Signal, Wait, Suspend, Resume, Activate, Target, Merge, Cancel, Retain, Release}
 use Rattle.gcd_plan.specs.declared.numbers.Blk.{Blk}
 use Rattle.gcd_plan.specs.declared.numbers.Obj.{Obj}
-use Rattle.gcd_plan.specs.declared.numbers.Run.{Run}
-use Rattle.gcd_plan.specs.declared.numbers.Run.TheVariants.{Block, Source}
-use Rattle.gcd_plan.specs.declared.reason.Reason.{Reason}
 use Rattle.gcd_lists.specs.ListsView.{list_at, place_of}
 use Rattle.gcd_group.specs.GroupsView.{GroupsView, count_at, due_at, with_notify, with_one_less, with_entered}
 use Rattle.gcd_refinement.specs.MachineView.{MachineView, idle, block_at}
 use Rattle.gcd_refinement.specs.declared.progress.BlockProgress.{BlockProgress}
-use Rattle.gcd_refinement.specs.declared.progress.HandlerProgress.{HandlerProgress}
-use Rattle.gcd_refinement.specs.After.{with_block, with_due}
-use Rattle.gcd_machine.specs.Steps.{acted, called_by, all_let_go, closed_block, caller_let_go, set_free, run_closed, made_cancelled, parked_in}
-use Rattle.gcd_machine.specs.Conditions.{CanSetFree, CanPark, CanLayDown, CanWakeAt, HasPending, CanBegin, CanCloseOn, CanSubmit, HaveHomes, CanFire, CanEmpty, CanComeEmpty, CanLeave, CanLeaveByAct, CanEnter, CanSubmitMember, CanRegister, CanSignal, CanMakeActive, CanActivate, CanResume, CanSuspend, CanMakeCancelled, CanCancel, CanMerge, CanTarget, CanRetain, CanRelease, CanHaveEffect, CanCall, CanWaitForGroup, CanWaitForSemaphore, CanParkIn, CanStart, CanCloseBlock, CanEnd}
+use Rattle.gcd_refinement.specs.After.{with_block}
+use Rattle.gcd_machine.specs.Steps.{all_let_go, closed_block, caller_let_go, set_free, run_closed, made_cancelled}
+use Rattle.gcd_machine.specs.Conditions.{CanBegin, CanCloseOn, CanSubmit, HaveHomes, CanFire, CanEmpty, CanComeEmpty, CanLeave, CanRegister, CanStart, CanCloseBlock, CanEnd}
 use Rattle.gcd_machine.proofs.Places.{waits_as_before}
 
 -- ## Blocks

@@ -1,12 +1,11 @@
 -- What an event submits or registers waits nowhere before it; and how many blocks wait at a group.
-use Rattle.std.proofs.Common.{◌≡◌, ⊎_elim, ℕ, zero, suc, ◌+◌, ◌<◌, ◌≤◌, ◌==◌, ltb, Bool, true, false, cond, List, [], ◌∷◌, ◌++◌, length, map, Option, Some, None, is_some, option_and_then, refl, ap, ◌∙◌, arith, eq-eqb, ne_eqb}
-use Rattle.std.specs.List.{count_by, find, list_all, flat_map, range_with_len, sum_by}
+use Rattle.std.proofs.Common.{◌≡◌, ⊎_elim, ℕ, ◌+◌, ◌<◌, ◌≤◌, ◌==◌, ltb, Bool, true, false, cond, List, [], ◌∷◌, ◌++◌, length, Option, Some, None, is_some, option_and_then, refl, ap, ◌∙◌, arith, eq-eqb, ne_eqb}
+use Rattle.std.specs.List.{count_by, list_all, flat_map, range_with_len}
 use Rattle.std.specs.Option.{option_map_or}
 use Rattle.std.proofs.Math.ListN.{get_or-eq_default}
-use Rattle.std.proofs.lemmas.Bool.{cases_lt, cases_Bool, and_parts, and_from, ltb-true, lt-ltb, both_ways}
+use Rattle.std.proofs.lemmas.Bool.{cases_lt, and_parts, and_from, ltb-true, lt-ltb, both_ways}
 use Rattle.std.proofs.lemmas.List.{length-map}
 use Rattle.std.proofs.lemmas.List.Folds.{list_all-append}
-use Rattle.std.proofs.lemmas.List.Sums.{sum_by-cons}
 use Rattle.gcd_plan.specs.PlanView.{PlanView, cancel_block}
 use Rattle.gcd_plan.specs.Kinds.{has_kind, is_group_kind, is_queue}
 use Rattle.gcd_plan.specs.Validity.{IsPlan}
@@ -21,8 +20,8 @@ use Rattle.gcd_history.specs.Groups.{count}
 use Rattle.gcd_history.specs.Submitted.{on_node, submitted_by, cancels, at_cancel, is_cancelled, registered, notify_blocks, at_empty, new_submissions, submitted, submission_of}
 use Rattle.gcd_history.specs.Permitted.{IsLawful}
 use Rattle.gcd_history.proofs.Fitting.{has_object}
-use Rattle.gcd_history.proofs.Lists.{any_from_find, none_found}
-use Rattle.gcd_plan.proofs.Sums.{count_by-cons, count_by-append, count_by_some}
+use Rattle.gcd_history.proofs.Lists.{none_found}
+use Rattle.gcd_plan.proofs.Sums.{count_by-cons, count_by-append}
 use Rattle.gcd_history.proofs.Sums.{sum_range_le, sum_range_less, ones, term_within}
 use Rattle.gcd_history.proofs.SubmittedOnce.{is_of, waiting, at_groups, kept_once, all_counted}
 use Rattle.gcd_history.proofs.SubmittedOnNodes.{recorded_fits}

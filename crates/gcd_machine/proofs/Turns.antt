@@ -1,5 +1,5 @@
 -- The turns of the two loops: what is left to do after a turn, with the turn done, is what was to do before it.
-use Rattle.std.proofs.Common.{◌≡◌, ◌≢◌, ℕ, zero, suc, ◌+◌, ◌-◌, ◌<◌, ◌≤◌, ◌==◌, Bool, true, false, cond, List, [], ◌∷◌, ◌++◌, length, get_or, set, take, drop, map, Option, Some, None, is_some, option_map, ne_eqb, refl, ap, sym, ◌∙◌, subst, arith, ⊎_elim}
+use Rattle.std.proofs.Common.{◌≡◌, ℕ, zero, suc, ◌-◌, ◌<◌, ◌≤◌, ◌==◌, Bool, false, cond, List, [], ◌∷◌, length, get_or, set, take, drop, map, Option, Some, None, is_some, option_map, ne_eqb, refl, ap, sym, ◌∙◌, subst, arith, ⊎_elim}
 use Rattle.std.specs.List.{slice_get, fold}
 use Rattle.std.proofs.lemmas.Bool.{cases_lt, cases_eq}
 use Rattle.std.proofs.lemmas.List.{length-set, set-set, set-get_or, set_past, get_or_read, get_or-set_same, get_or-set_other, get_or_past}
@@ -10,7 +10,7 @@ use Rattle.gcd_lists.specs.ListsView.{ListsView, list_at, place_of}
 use Rattle.gcd_group.specs.GroupsView.{GroupsView, due_at, with_fired, fires_at}
 use Rattle.gcd_refinement.specs.MachineView.{MachineView, block_at, idle}
 use Rattle.gcd_refinement.specs.declared.progress.BlockProgress.{BlockProgress}
-use Rattle.gcd_refinement.specs.After.{popped, pushed_on, with_due, with_block, fired_times, all_fired}
+use Rattle.gcd_refinement.specs.After.{popped, with_due, with_block, fired_times}
 use Rattle.gcd_machine.specs.Steps.{let_go, all_let_go, submitted, fired_at, all_fired_at}
 use Rattle.gcd_machine.specs.Conditions.{CanWakeAt, CanSubmit, HaveHomes, CanFire}
 use Rattle.gcd_machine.proofs.Places.{waits_as_before, waited_before, first_waits}

@@ -1,7 +1,6 @@
 -- When each private step of a machine may be made: what its parts and arrays ask, of the state before the step.
-use Rattle.std.specs.Prelude.{◌≡◌, ◌<◌, ◌≤◌, ℕ, ◌+◌, ◌^◌, Bool, true, false, length, Option, Some, None, is_some, slice_index, sum}
+use Rattle.std.specs.Prelude.{◌≡◌, ◌<◌, ◌≤◌, ℕ, ◌+◌, ◌^◌, Bool, true, false, length, Some, None, is_some, sum}
 use Rattle.gcd_plan.specs.PlanView.{cancel_block}
-use Rattle.gcd_plan.specs.Kinds.{has_kind, is_read_kind}
 use Rattle.gcd_plan.specs.declared.act.Act.{Act}
 use Rattle.gcd_plan.specs.declared.act.Act.TheVariants.{Async, Barrier, Sync, BarrierSync, GroupAsync, Notify, Enter, Leave, GroupWait, Signal, Wait, Suspend, Resume, Activate, Target, Merge, Cancel, Retain, Release}
 use Rattle.gcd_plan.specs.declared.numbers.Blk.{Blk}

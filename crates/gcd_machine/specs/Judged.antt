@@ -4,7 +4,7 @@ use Rattle.std.specs.Prelude.{ℕ, ◌==◌, nat_lt, nat_le, Bool, false, not, �
 use Rattle.std.specs.Option.{option_map_or}
 use Rattle.std.specs.List.{list_any}
 use Rattle.gcd_plan.specs.PlanView.{starts_active}
-use Rattle.gcd_plan.specs.Kinds.{has_kind, is_semaphore_kind, is_read_kind, is_node}
+use Rattle.gcd_plan.specs.Kinds.{has_kind, is_semaphore_kind, is_node}
 use Rattle.gcd_plan.specs.StartRule.{first_of}
 use Rattle.gcd_plan.specs.MisuseCodes.{code_of}
 use Rattle.gcd_plan.specs.declared.act.Act.{Act}

@@ -1,5 +1,5 @@
 -- The histories that a machine stands for, and what may be applied to it.
-use Rattle.std.specs.Prelude.{◌≡◌, ◌<◌, ◌+◌, ◌^◌, List, length, reverse}
+use Rattle.std.specs.Prelude.{◌<◌, ◌+◌, ◌^◌, List, length, reverse}
 use Rattle.gcd_plan.specs.PlanView.{PlanView}
 use Rattle.gcd_plan.specs.Validity.{IsPlan}
 use Rattle.gcd_event.specs.declared.event.Event.{Event}

@@ -1,7 +1,5 @@
-use Rattle.std.proofs.Common.{◌≡◌, ap, sym, subst, ◌∙◌}
-use Rattle.gcd_event.specs.declared.event.Event.{Event}
+use Rattle.std.proofs.Common.{ap, sym, subst, ◌∙◌}
 use Rattle.gcd_refinement.specs.MachineView.{MachineView}
-use Rattle.gcd_machine.specs.Stands.{MayApply, IsShaped}
 use Rattle.gcd_machine.specs.Conditions.{CanTake}
 use Rattle.gcd_machine.specs.Steps.{stepped}
 use Rattle.gcd_machine.proofs.MayTake.{may_take}
