@@ -32,3 +32,6 @@ mod machine;
 mod registers;
 
 pub use machine::Machine;
+
+#[cfg(test)]
+mod tests;
