@@ -2,7 +2,6 @@
 ghost use Rattle.std.specs.Prelude.{◌≡◌, ◌≤◌, ◌++◌, ◌∷◌, [], ℕ, true, false, List, Ok, length, IfOk, OnOk};
 ghost use Rattle.gcd_event.specs.declared.event.Event.{Event};
 ghost use Rattle.gcd_jobs.specs.Contents.{contents};
-ghost use Rattle.gcd_machine.specs.Stands.{StandsFor};
 ghost use Rattle.gcd_outer.specs.Outside.{ClockState};
 ghost use Rattle.gcd_outer.specs.Tells.{PollerState};
 ghost use Rattle.gcd_turn.specs.Asked.{IsFree, KeepsListens};
@@ -14,7 +13,6 @@ ghost use Rattle.gcd_alone.specs.Ran.{RanAlone};
 use crate::running::Running;
 use gcd_event::Event;
 use gcd_history::State;
-use gcd_machine::Machine;
 use gcd_outer::{Clock, Poller};
 use gcd_plan::Plan;
 use gcd_turn::{Ask, Outlook};
@@ -30,8 +28,6 @@ pub struct Alone {
     pub values: Vec<u64>,
     /// How far the run has come.
     pub state: State,
-    /// The machine that stands for the journal.
-    pub machine: Machine,
 }
 
 // What worker 0 chooses is recorded; where it has no choice it listens or waits.
@@ -142,7 +138,6 @@ pub fn run_alone<R: Wait, P: Poller, C: Clock>(
         (record { tells = P.tells; before = P.state poller.old; after = P.state poller.new })
         (record { tells = C.tells; before = C.state clock.old; after = C.state clock.new })
         a.journal.items a.values.items a.state) }
-    ensures stands { IfOk result (λ a. StandsFor a.machine plan.now a.journal.items) }
     ensures listens { P.tells ≡ true → (P.state poller.new).listens ≡ (P.state poller.old).listens }
     ensures addresses { P.tells ≡ true → (P.state poller.new).addresses ≡ (P.state poller.old).addresses }
     ensures poller_faults { (P.state poller.old).faults ≤ (P.state poller.new).faults }
@@ -155,6 +150,5 @@ pub fn run_alone<R: Wait, P: Poller, C: Clock>(
         journal: run.journal,
         values: run.values,
         state,
-        machine: run.machine,
     })
 }

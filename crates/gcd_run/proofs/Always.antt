@@ -2,7 +2,7 @@
 use Rattle.std.proofs.Common.{◌≡◌, ◌≢◌, ◌⊎◌, ◌∙◌, ℕ, true, false, List, [], ◌∷◌, ◌++◌, Option, Some, None, length, reverse, ap, refl, sym, subst, inl, inr, arith}
 use Rattle.std.specs.Prelude.{Result, Ok, Err, Contains, IsTrue}
 use Rattle.std.proofs.lemmas.Bool.{false≢true}
-use Rattle.std.proofs.lemmas.List.{reverse-reverse}
+use Rattle.std.proofs.lemmas.List.{reverse-append, reverse-reverse}
 use Rattle.std.proofs.lemmas.List.Elements.{Contains-append_right}
 use Rattle.gcd_plan.specs.PlanView.{PlanView}
 use Rattle.gcd_event.specs.declared.event.Event.{Event}
@@ -58,7 +58,9 @@ is_the_halt e is = absurd (false≢true is)
 halt_at_front : (back : List Event) → permitted.ends_in_halt back ≡ true → Contains (reverse back) Halt
 halt_at_front [] is = absurd (false≢true is)
 halt_at_front (e ∷ past) is =
-    rw (is_the_halt e is) (Contains-append_right (reverse past) (Halt ∷ []) Halt (0, omega arith, refl))
+    subst (λ (l : List Event). Contains l Halt) (sym (reverse-append (e ∷ []) past))
+      (subst (λ (x : Event). Contains (reverse past ++ (x ∷ [])) Halt) (sym (is_the_halt e is))
+        (Contains-append_right (reverse past) (Halt ∷ []) Halt (0, omega arith, refl)))
 
 halted_has_halt : (h : List Event) → IsTrue (ends_in_halt h) → Contains h Halt
 unfolding ends_in_halt

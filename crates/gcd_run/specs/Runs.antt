@@ -87,10 +87,14 @@ pub data RunCalls (seen : InputsSeen) (asked : RunAsked) (calls : Calls) : Type 
 
 -- ## `big`
 
+-- the large script with so many blocks declares the plan
+unfoldable pub IsLargeScript : (count : ℕ) → PlanView → Type 0
+IsLargeScript count plan = IsScriptOf (big_script count) plan
+
 -- the plan of the large script with so many blocks, where each file of it holds the large file
 pub record IsLarge (count : ℕ) (plan : PlanView) (contents : List Bytes) : Type 0 where
   pub valid : IsPlan plan
-  pub script : IsScriptOf (big_script count) plan
+  pub script : IsLargeScript count plan
   pub contents_are : contents ≡ map (λ file. large_file) plan.files
 
 -- `big`: its plan ran

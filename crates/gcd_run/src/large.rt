@@ -6,11 +6,9 @@ ghost use Rattle.gcd_plan.specs.PlanView.{PlanView};
 ghost use Rattle.gcd_plan.specs.Validity.{IsPlan};
 ghost use Rattle.gcd_history.specs.Report.{last_line, line_end};
 ghost use Rattle.gcd_journal.specs.Spoken.{AreSpoken};
-ghost use Rattle.gcd_script.specs.BigScript.{big_script};
-ghost use Rattle.gcd_script.specs.Faults.{IsScriptOf};
 ghost use Rattle.gcd_run.specs.Calls.{seen_by};
 ghost use Rattle.gcd_run.specs.End.{large_file};
-ghost use Rattle.gcd_run.specs.Runs.{BigEnds};
+ghost use Rattle.gcd_run.specs.Runs.{BigEnds, IsLargeScript};
 ghost use Rattle.gcd_run.specs.Stories.{end_of};
 
 use crate::story::{Story, bytes_of};
@@ -27,11 +25,12 @@ use std::sync::Wait;
 const LARGE_FILE_BYTES: u32 = 4096;
 
 // The large script with so many blocks, as a plan.
+#[tactic(auto, unfolding(crate::specs::Runs::IsLargeScript))]
 fn large_plan(alloc: Global, count: u32) -> Result<Plan, AllocError>
     requires some { 0 < count }
     requires few { count < max_blocks }
     ensures valid { IfOk result (λ plan. IsPlan plan) }
-    ensures script { IfOk result (IsScriptOf (big_script count)) }
+    ensures script { IfOk result (IsLargeScript count) }
 {
     let script = big_text(alloc, count)?;
     match parse(alloc, &script) {
