@@ -59,8 +59,8 @@ halt_at_front : (back : List Event) → permitted.ends_in_halt back ≡ true →
 halt_at_front [] is = absurd (false≢true is)
 halt_at_front (e ∷ past) is =
     subst (λ (l : List Event). Contains l Halt) (sym (reverse-append (e ∷ []) past))
-      (subst (λ (x : Event). Contains (reverse past ++ (x ∷ [])) Halt) (sym (is_the_halt e is))
-        (Contains-append_right (reverse past) (Halt ∷ []) Halt (0, omega arith, refl)))
+    (subst (λ (x : Event). Contains (reverse past ++ (x ∷ [])) Halt) (sym (is_the_halt e is))
+    (Contains-append_right (reverse past) (Halt ∷ []) Halt (0, omega arith, refl)))
 
 halted_has_halt : (h : List Event) → IsTrue (ends_in_halt h) → Contains h Halt
 unfolding ends_in_halt
