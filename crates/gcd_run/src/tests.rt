@@ -1,31 +1,27 @@
 ghost use Rattle.std.specs.Prelude.{◌≡◌, ℕ, false, IfOk};
 
 mod cases;
+mod subjects;
 
 use crate::{Ended, Status, gcd_main};
 use cases::{BLOCKS, COMMANDS, Case, FAULTS, REFUSALS, RUN, SOURCES, TARGETS_AND_GROUPS};
 use gcd_outer::{JumpClock, ListPoller, MapShelf, Poller, Tell, Told, VecSink};
+use subjects::{CALLS_AND_TARGETS, REFERENCES_AND_WAITS, SOURCES_AND_FEEDS};
 use std::alloc::{AllocError, Global};
 use std::process::Abort;
 use std::sync::Wait;
 use std::test::Fail;
 
-// What is told of feed 1, an answer each.
-const FEED: [(u32, bool); 4] = [(4, false), (0, false), (6, false), (0, true)];
+fn answer(feed: u32, bytes: u32, ended: bool) -> Told {
+    let mut told = Told::new();
+    told.push(Tell { feed, bytes, ended });
+    told
+}
 
-fn answers_of(alloc: Global, feed: bool) -> Result<Vec<Told>, AllocError> {
+fn answers_of(alloc: Global, feed: &[(u32, bool)]) -> Result<Vec<Told>, AllocError> {
     let mut answers = Vec::new(alloc);
-    if !feed {
-        return Ok(answers);
-    }
-    for (bytes, ended) in FEED {
-        let mut told = Told::new();
-        told.push(Tell {
-            feed: 1,
-            bytes,
-            ended,
-        });
-        answers.push(told)?;
+    for (bytes, ended) in feed {
+        answers.push(answer(1, *bytes, *ended))?;
     }
     Ok(answers)
 }
@@ -34,6 +30,9 @@ fn poller_of(alloc: Global, case: &Case) -> Result<ListPoller, AllocError>
     ensures unwatched { IfOk result (λ p. (feed : ℕ) → (⟦<ListPoller as Poller>⟧.state p).watched feed ≡ false) }
 {
     let mut poller = ListPoller::new(alloc, answers_of(alloc, case.feed)?, 4, 100)?;
+    if let Some(watch) = case.failing_watch {
+        poller.fail_watch(watch)?;
+    }
     if let Some(poll) = case.failing_poll {
         poller.fail_poll(poll)?;
     }
@@ -115,6 +114,21 @@ fn runs_targets_and_groups(rt: HostRuntime) -> Result<(), Fail> {
 }
 
 #[test]
+fn calls_and_targets_follow_the_pages(rt: HostRuntime) -> Result<(), Fail> {
+    are_answered(&rt, rt.alloc(), &CALLS_AND_TARGETS)
+}
+
+#[test]
+fn references_and_waits_follow_the_pages(rt: HostRuntime) -> Result<(), Fail> {
+    are_answered(&rt, rt.alloc(), &REFERENCES_AND_WAITS)
+}
+
+#[test]
+fn sources_and_feeds_follow_the_pages(rt: HostRuntime) -> Result<(), Fail> {
+    are_answered(&rt, rt.alloc(), &SOURCES_AND_FEEDS)
+}
+
+#[test]
 fn runs_sources(rt: HostRuntime) -> Result<(), Fail> {
     are_answered(&rt, rt.alloc(), &SOURCES)
 }
@@ -134,11 +148,11 @@ fn judges_journals_and_runs_the_large_script(rt: HostRuntime) -> Result<(), Fail
     are_answered(&rt, rt.alloc(), &COMMANDS)
 }
 
-// `semaphore s 0`, `main`, and so many times `signal s`.
-fn signals(alloc: Global, count: u32) -> Result<String, AllocError> {
-    let mut script = String::from_str(alloc, "semaphore s 0\nmain\n")?;
+// So many times a line, after a first part.
+fn repeated(alloc: Global, first: &str, line: &str, count: u32) -> Result<String, AllocError> {
+    let mut script = String::from_str(alloc, first)?;
     for _ in 0..count {
-        script.push_str("signal s\n")?;
+        script.push_str(line)?;
     }
     Ok(script)
 }
@@ -175,12 +189,85 @@ const SPACES: Case = Case {
     ..RUN
 };
 
+const MANY_BLOCKS: Case = Case {
+    what: "as many blocks as there may be",
+    events: Some(2),
+    ..RUN
+};
+
+const BLOCK_TOO_MANY: Case = Case {
+    what: "one block more than there may be",
+    status: Status::ScriptRefused,
+    at: Some((16_385, 8)),
+    events: Some(0),
+    text: "script refused: line 16385 code 8\n",
+    ..RUN
+};
+
+// So many blocks that nothing submits, and `main`.
+fn blocks(alloc: Global, count: u32) -> Result<String, AllocError> {
+    let mut script = String::new(alloc);
+    for k in 0..count {
+        script.push_str(format!(in alloc; "block b{k}\n")?.as_str())?;
+    }
+    script.push_str("main\n")?;
+    Ok(script)
+}
+
 #[test]
 fn keeps_to_the_limits(rt: HostRuntime) -> Result<(), Fail> {
-    for (count, case) in [(65_533, LONG), (65_534, FULL), (65_536, TOO_LONG)] {
-        let script = signals(rt.alloc(), count)?;
+    for (first, line, count, case) in [
+        ("semaphore s 0\nmain\n", "signal s\n", 65_533, LONG),
+        ("semaphore s 0\nmain\n", "signal s\n", 65_534, FULL),
+        ("queue q serial\nmain\n", "activate q\n", 65_534, FULL),
+        ("semaphore s 0\nmain\n", "signal s\n", 65_536, TOO_LONG),
+    ] {
+        let script = repeated(rt.alloc(), first, line, count)?;
+        is_answered(&rt, rt.alloc(), &case, script.as_bytes())?;
+    }
+    for (count, case) in [(16_384, MANY_BLOCKS), (16_385, BLOCK_TOO_MANY)] {
+        let script = blocks(rt.alloc(), count)?;
         is_answered(&rt, rt.alloc(), &case, script.as_bytes())?;
     }
     let spaces = vec![in rt.alloc(); b' '; 1_048_577]?;
     is_answered(&rt, rt.alloc(), &SPACES, &spaces)
+}
+
+// A feed that becomes live while another is silent is heard: the empty answers before it do not count against it.
+const LATE_FEED: Case = Case {
+    what: "a feed that becomes live late",
+    script: "until 500\nsource r read d on root\nsource s read d on root\nsource t timer 500 500 on root\nhandler t\nactivate s\nmain\nactivate r\nactivate t",
+    step: 1,
+    text: "r received 0 in 0 pending 0\ns received 0 in 0 pending 5\nt received 1 in 1 pending 0\ndrained\n",
+    ..RUN
+};
+
+// So many empty answers, and then what the second object's feed tells.
+fn late_answers(alloc: Global) -> Result<Vec<Told>, AllocError> {
+    let mut answers = Vec::new(alloc);
+    for _ in 0..1_200 {
+        answers.push(Told::new())?;
+    }
+    answers.push(answer(2, 5, true))?;
+    Ok(answers)
+}
+
+#[test]
+fn a_feed_that_becomes_live_late_is_heard(rt: HostRuntime) -> Result<(), Fail> {
+    let mut out = VecSink::new(rt.alloc(), 1_000, 1_000)?;
+    let mut shelf = shelf_of(rt.alloc(), &LATE_FEED, LATE_FEED.script.as_bytes())?;
+    let mut poller = ListPoller::new(rt.alloc(), late_answers(rt.alloc())?, 4, 100)?;
+    let mut clock = JumpClock::new(LATE_FEED.step);
+    let ended = gcd_main(
+        &rt,
+        rt.alloc(),
+        LATE_FEED.words,
+        &mut shelf,
+        &mut out,
+        &mut poller,
+        &mut clock,
+    );
+    assert!(rt; ended.status == LATE_FEED.status.code());
+    assert!(rt; out.bytes() == LATE_FEED.text.as_bytes());
+    Ok(())
 }

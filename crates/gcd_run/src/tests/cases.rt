@@ -2,19 +2,20 @@
 
 use crate::Status;
 
-// A call in memory: its words, the script under `s` and the journal under `j`; whether the poller has the answers of a feed; the
-// calls of the outside that fail, how much the sink takes at once, by how much the clock steps; and then what the call is to
-// answer and to write.
+// A call in memory: its words, the script under `s` and the journal under `j`; what the poller tells of object 1, an answer each,
+// as a number of bytes and whether the feed has ended; the calls of the outside that fail, how much the sink takes at once, by how
+// much the clock steps; and then what the call is to answer and to write.
 #[derive(Clone, Copy)]
 pub struct Case {
     pub what: &'static str,
     pub words: &'static [&'static str],
     pub script: &'static str,
     pub journal: &'static str,
-    pub feed: bool,
+    pub feed: &'static [(u32, bool)],
     pub step: u64,
     pub failing_load: Option<u64>,
     pub failing_listen: Option<u64>,
+    pub failing_watch: Option<u64>,
     pub failing_poll: Option<u64>,
     pub failing_write: Option<u64>,
     pub piece: usize,
@@ -30,10 +31,11 @@ pub const RUN: Case = Case {
     words: &["run", "s"],
     script: "main",
     journal: "",
-    feed: false,
+    feed: &[],
     step: 0,
     failing_load: None,
     failing_listen: None,
+    failing_watch: None,
     failing_poll: None,
     failing_write: None,
     piece: 1_000,
@@ -214,7 +216,7 @@ pub static SOURCES: [Case; 9] = [
         what: "a feed",
         words: &["run", "s", "--journal"],
         script: "source r read d on root\nmain\nactivate r",
-        feed: true,
+        feed: &[(4, false), (0, false), (6, false), (0, true)],
         text: "start 0 main\nact 0 main 0\nend 0 main\nready r 4\ndeliver 0 r\ndeliver_end 0 r\nready r 6\ndeliver 0 r\ndeliver_end 0 r\nfeed_end r\nevents 10\nr received 10 in 2 pending 0\ndrained\n",
         ..RUN
     },
@@ -222,7 +224,7 @@ pub static SOURCES: [Case; 9] = [
         what: "a feed that fails",
         words: &["run", "s", "--journal"],
         script: "source r read d on root\nmain\nactivate r",
-        feed: true,
+        feed: &[(4, false), (0, false), (6, false), (0, true)],
         failing_poll: Some(1),
         status: Status::Unread,
         text: "start 0 main\nact 0 main 0\nend 0 main\nready r 4\ndeliver 0 r\ndeliver_end 0 r\nhalt\nevents 7\nr received 4 in 1 pending 0\nread fault\n",
