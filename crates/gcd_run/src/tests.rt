@@ -1,16 +1,19 @@
 ghost use Rattle.std.specs.Prelude.{◌≡◌, ℕ, false, IfOk};
 
 mod cases;
+mod hostile;
+mod limits;
 mod subjects;
 
-use crate::{Ended, Status, gcd_main};
+use crate::gcd_main;
 use cases::{BLOCKS, COMMANDS, Case, FAULTS, REFUSALS, RUN, SOURCES, TARGETS_AND_GROUPS};
 use gcd_outer::{JumpClock, ListPoller, MapShelf, Poller, Tell, Told, VecSink};
-use subjects::{CALLS_AND_TARGETS, REFERENCES_AND_WAITS, SOURCES_AND_FEEDS};
+use hostile::{FAILURES, MALFORMED};
 use std::alloc::{AllocError, Global};
 use std::process::Abort;
 use std::sync::Wait;
 use std::test::Fail;
+use subjects::{CALLS_AND_TARGETS, REFERENCES_AND_WAITS, SOURCES_AND_FEEDS};
 
 fn answer(feed: u32, bytes: u32, ended: bool) -> Told {
     let mut told = Told::new();
@@ -48,44 +51,35 @@ fn shelf_of(alloc: Global, case: &Case, script: &[u8]) -> Result<MapShelf, Alloc
     shelf.put("j", case.journal.as_bytes())?;
     shelf.put("log.txt", b"a\nbb\nccc\n")?;
     shelf.put("e", b"")?;
+    shelf.put("f.txt", b"a\n")?;
     if let Some(load) = case.failing_load {
         shelf.fail(load)?;
     }
     Ok(shelf)
 }
 
-fn called(
-    rt: &impl Wait,
-    alloc: Global,
-    case: &Case,
-    script: &[u8],
-    out: &mut VecSink,
-) -> Result<Ended, AllocError> {
-    let mut shelf = shelf_of(alloc, case, script)?;
-    let mut poller = poller_of(alloc, case)?;
-    let mut clock = JumpClock::new(case.step);
-    if let Some(write) = case.failing_write {
-        out.fail(write)?;
-    }
-    Ok(gcd_main(
-        rt,
-        alloc,
-        case.words,
-        &mut shelf,
-        out,
-        &mut poller,
-        &mut clock,
-    ))
-}
-
-fn is_answered(
+// The call is answered as it should be, where the shelf holds what it holds.
+fn answers_from(
     rt: &(impl Abort + Wait),
     alloc: Global,
     case: &Case,
-    script: &[u8],
+    shelf: &mut MapShelf,
 ) -> Result<(), Fail> {
     let mut out = VecSink::new(alloc, 1_000_000, case.piece.max(1))?;
-    let ended = called(rt, alloc, case, script, &mut out)?;
+    if let Some(write) = case.failing_write {
+        out.fail(write)?;
+    }
+    let mut poller = poller_of(alloc, case)?;
+    let mut clock = JumpClock::new(case.step);
+    let ended = gcd_main(
+        rt,
+        alloc,
+        case.words,
+        shelf,
+        &mut out,
+        &mut poller,
+        &mut clock,
+    );
     let what = case.what;
     assert!(rt; ended.status == case.status.code(), "{what}");
     assert!(rt; ended.at == case.at, "{what}");
@@ -94,6 +88,16 @@ fn is_answered(
     }
     assert!(rt; out.bytes() == case.text.as_bytes(), "{what}");
     Ok(())
+}
+
+fn is_answered(
+    rt: &(impl Abort + Wait),
+    alloc: Global,
+    case: &Case,
+    script: &[u8],
+) -> Result<(), Fail> {
+    let mut shelf = shelf_of(alloc, case, script)?;
+    answers_from(rt, alloc, case, &mut shelf)
 }
 
 fn are_answered(rt: &(impl Abort + Wait), alloc: Global, cases: &[Case]) -> Result<(), Fail> {
@@ -134,6 +138,16 @@ fn runs_sources(rt: HostRuntime) -> Result<(), Fail> {
 }
 
 #[test]
+fn each_failure_has_its_status(rt: HostRuntime) -> Result<(), Fail> {
+    are_answered(&rt, rt.alloc(), &FAILURES)
+}
+
+#[test]
+fn malformed_lines_are_named(rt: HostRuntime) -> Result<(), Fail> {
+    are_answered(&rt, rt.alloc(), &MALFORMED)
+}
+
+#[test]
 fn refuses_scripts(rt: HostRuntime) -> Result<(), Fail> {
     are_answered(&rt, rt.alloc(), &REFUSALS)
 }
@@ -146,91 +160,6 @@ fn tells_faults(rt: HostRuntime) -> Result<(), Fail> {
 #[test]
 fn judges_journals_and_runs_the_large_script(rt: HostRuntime) -> Result<(), Fail> {
     are_answered(&rt, rt.alloc(), &COMMANDS)
-}
-
-// So many times a line, after a first part.
-fn repeated(alloc: Global, first: &str, line: &str, count: u32) -> Result<String, AllocError> {
-    let mut script = String::from_str(alloc, first)?;
-    for _ in 0..count {
-        script.push_str(line)?;
-    }
-    Ok(script)
-}
-
-const LONG: Case = Case {
-    what: "as many events as a run may have",
-    events: Some(65_535),
-    ..RUN
-};
-
-const FULL: Case = Case {
-    what: "one event more",
-    status: Status::Full,
-    events: Some(65_535),
-    text: "full\n",
-    ..RUN
-};
-
-const TOO_LONG: Case = Case {
-    what: "one act more than there may be",
-    status: Status::ScriptRefused,
-    at: Some((65_538, 8)),
-    events: Some(0),
-    text: "script refused: line 65538 code 8\n",
-    ..RUN
-};
-
-const SPACES: Case = Case {
-    what: "a script longer than its limit",
-    status: Status::ScriptRefused,
-    at: Some((0, 8)),
-    events: Some(0),
-    text: "script refused: line 0 code 8\n",
-    ..RUN
-};
-
-const MANY_BLOCKS: Case = Case {
-    what: "as many blocks as there may be",
-    events: Some(2),
-    ..RUN
-};
-
-const BLOCK_TOO_MANY: Case = Case {
-    what: "one block more than there may be",
-    status: Status::ScriptRefused,
-    at: Some((16_385, 8)),
-    events: Some(0),
-    text: "script refused: line 16385 code 8\n",
-    ..RUN
-};
-
-// So many blocks that nothing submits, and `main`.
-fn blocks(alloc: Global, count: u32) -> Result<String, AllocError> {
-    let mut script = String::new(alloc);
-    for k in 0..count {
-        script.push_str(format!(in alloc; "block b{k}\n")?.as_str())?;
-    }
-    script.push_str("main\n")?;
-    Ok(script)
-}
-
-#[test]
-fn keeps_to_the_limits(rt: HostRuntime) -> Result<(), Fail> {
-    for (first, line, count, case) in [
-        ("semaphore s 0\nmain\n", "signal s\n", 65_533, LONG),
-        ("semaphore s 0\nmain\n", "signal s\n", 65_534, FULL),
-        ("queue q serial\nmain\n", "activate q\n", 65_534, FULL),
-        ("semaphore s 0\nmain\n", "signal s\n", 65_536, TOO_LONG),
-    ] {
-        let script = repeated(rt.alloc(), first, line, count)?;
-        is_answered(&rt, rt.alloc(), &case, script.as_bytes())?;
-    }
-    for (count, case) in [(16_384, MANY_BLOCKS), (16_385, BLOCK_TOO_MANY)] {
-        let script = blocks(rt.alloc(), count)?;
-        is_answered(&rt, rt.alloc(), &case, script.as_bytes())?;
-    }
-    let spaces = vec![in rt.alloc(); b' '; 1_048_577]?;
-    is_answered(&rt, rt.alloc(), &SPACES, &spaces)
 }
 
 // A feed that becomes live while another is silent is heard: the empty answers before it do not count against it.
