@@ -90,7 +90,8 @@ own_begin plan valid =
       ended = length-replicate m false;
       due = length-replicate m false;
       handlers = length-replicate n undelivered;
-      busy = length-map plan.objects (λ o. is_timer_kind o.kind);
+      timed = refl;
+      busy = length-replicate n false;
       live = length-replicate n false;
       workers = length-replicate {A = Option Run} max_workers None;
       nodes = λ b q at. absurd (some_none q (sym at ∙ ap (λ (x : BlockProgress). x.node) (idle_at plan b)));
@@ -203,11 +204,7 @@ handlers_begin plan =
 
 pub marks_begin : (plan : PlanView) → MarksAre plan [] (machine_of plan)
 marks_begin plan = record {
-  idle = λ o off. record {
-    nothing_waits = refl;
-    nothing_pends = no_value plan o;
-    no_timer = option_map_or-map (λ (x : ObjView). x.kind) is_timer_kind (slice_get plan.objects o) false ∙ (sym (get_or-mapped (λ (x : ObjView). is_timer_kind x.kind) plan.objects o false) ∙ off);
-  };
+  idle = λ o off. record { nothing_waits = refl; nothing_pends = no_value plan o };
 }
 
 -- no read source is active at first
