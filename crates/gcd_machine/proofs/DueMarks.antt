@@ -1,17 +1,17 @@
 -- The loop that marks the timers: after it each is marked that was so before or has a due time that no delivery took.
-use Rattle.std.proofs.Common.{◌≡◌, ℕ, ◌+◌, ◌-◌, ◌<◌, ◌≤◌, ◌^◌, leb, ltb, Bool, true, false, ◌&&◌, ◌||◌, inl, inr, List, length, map, set, get_or, Some, None, refl, ap, sym, ◌∙◌, subst, arith, ⊎_elim}
+use Rattle.std.proofs.Common.{◌≡◌, ℕ, ◌+◌, ◌-◌, ◌<◌, ◌≤◌, ◌^◌, leb, ltb, Bool, true, false, ◌&&◌, ◌||◌, inl, inr, List, length, map, set, get_or, Some, None, refl, ap, sym, ◌∙◌, subst, arith}
 use Rattle.std.specs.List.{slice_get, range_with_len}
 use Rattle.std.specs.Option.{option_map_or}
-use Rattle.std.proofs.lemmas.Bool.{cases_eq, cases_lt, lt-ltb, ltb-false, false_from_ne_true, ltb-true}
-use Rattle.std.proofs.lemmas.List.{length-set, length-map, get_or_past, get_or-set_same, get_or-set_other, ext_get_or}
+use Rattle.std.proofs.lemmas.Bool.{cases_eq, cases_lt, lt-ltb, false_from_ne_true, ltb-true}
+use Rattle.std.proofs.lemmas.List.{length-set, length-map, get_or-set_same, get_or-set_other, ext_get_or}
 use Rattle.std.proofs.lemmas.List.FromFn.{length-map-range_with_len, get_or-map-range_with_len}
 use Rattle.gcd_plan.specs.Kinds.{is_timer_kind}
 use Rattle.gcd_plan.proofs.Mapped.{get_or-mapped}
 use Rattle.gcd_history.proofs.Sums.{none_in}
 use Rattle.gcd_bits.proofs.Ranges.{found_first, found_none}
-use Rattle.gcd_timer.specs.TimersView.{TimersView, activated_at, cancelled_at, due_count_at, is_due_at}
-use Rattle.gcd_refinement.specs.MachineView.{MachineView, busy_at, handler_at}
-use Rattle.gcd_refinement.specs.After.{has_due, dues_marked}
+use Rattle.gcd_timer.specs.TimersView.{activated_at, cancelled_at, due_count_at, is_due_at}
+use Rattle.gcd_refinement.specs.MachineView.{MachineView, handler_at}
+use Rattle.gcd_refinement.specs.After.{has_due}
 use Rattle.gcd_refinement.proofs.DueTimes.{never_due}
 use Rattle.gcd_machine.specs.Chosen.{next_set}
 use Rattle.gcd_machine.specs.Conditions.{CanMarkDue}

@@ -21,7 +21,7 @@ use Rattle.gcd_history.specs.Submitted.{cancels}
 use Rattle.gcd_history.specs.Parked.{is_parking}
 use Rattle.gcd_lists.specs.ListsView.{ListsView, list_at}
 use Rattle.gcd_tree.specs.TreeView.{TreeView, open_on_at, with_target, with_request, with_open, settled}
-use Rattle.gcd_hold.specs.HoldsView.{HoldsView, hold_at, is_active_at, with_hold, with_active}
+use Rattle.gcd_hold.specs.HoldsView.{HoldsView, hold_at, with_hold, with_active}
 use Rattle.gcd_drain.specs.DrainsView.{DrainsView, barriers_at, with_barriers}
 use Rattle.gcd_group.specs.GroupsView.{GroupsView, count_at, entered_at, due_at as due_of_group, with_one_more, with_one_less, with_entered, with_notify, with_fired}
 use Rattle.gcd_sema.specs.SemasView.{SemasView, signals_at, waits_at, is_passed_at, with_signals, with_waits}

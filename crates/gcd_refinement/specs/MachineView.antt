@@ -1,9 +1,8 @@
 -- The whole view of a machine: the views of its parts, and the arrays that it keeps itself.
-use Rattle.std.specs.Prelude.{ℕ, Bool, true, false, List, [], length, map, replicate, Option, None, slice_index, slice_index_or}
+use Rattle.std.specs.Prelude.{ℕ, Bool, false, List, [], length, map, replicate, Option, None, slice_index, slice_index_or}
 use Rattle.gcd_plan.specs.PlanView.{PlanView}
 use Rattle.gcd_plan.specs.Kinds.{is_timer_kind}
 use Rattle.gcd_plan.specs.Limits.{max_workers}
-use Rattle.gcd_plan.specs.declared.numbers.Obj.{Obj}
 use Rattle.gcd_plan.specs.declared.numbers.Run.{Run}
 use Rattle.gcd_refinement.specs.declared.progress.BlockProgress.{BlockProgress}
 use Rattle.gcd_refinement.specs.declared.progress.HandlerProgress.{HandlerProgress}
