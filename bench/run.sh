@@ -1,6 +1,6 @@
 #!/usr/bin/env bash
 # Times whole runs of the proved program, as processes: the large script with 16,384 blocks, made in memory, and a script of as many
-# blocks on seven queues, each of which counts the lines of one file of 4,096 bytes. Best of fifteen, in milliseconds.
+# blocks on seven queues, each of which counts the lines of one file of 4,096 bytes. Best of ninety-nine, in milliseconds.
 #
 #   start    the program with no words: it prints how it is called
 #   reading  the script is read: `check` over an empty journal, less the start
@@ -26,7 +26,7 @@ awk 'BEGIN { for (i = 0; i < 512; i++) print "seven77" }' >f.txt
 # The least time of the call, in microseconds.
 best() {
     local least= from spent
-    for _ in {1..15}; do
+    for _ in {1..99}; do
         from=${EPOCHREALTIME/./}
         "$gcd" "$@" >told || :
         spent=$((${EPOCHREALTIME/./} - from))
