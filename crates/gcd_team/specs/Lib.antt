@@ -1,0 +1,4 @@
+pub mod Held
+pub mod Team
+pub mod TeamFacts
+pub mod Cells
