@@ -1,2 +1,2 @@
-mod Goings
-mod ValuesMore
+pub mod Goings
+pub mod ValuesMore
