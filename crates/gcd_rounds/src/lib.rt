@@ -11,8 +11,8 @@
 //! | jobs | those of the Ends that were kept back run by one parallel map; then these Ends are recorded in the order of the workers, as long as the run is neither halted nor full |
 //! | the outside | where nobody recorded or kept back anything since worker 0 last asked, it polls or waits |
 //!
-//! A handler takes what is handed over as its Deliver is recorded, on the caller's thread. With one worker this is just what
-//! worker 0 does alone (`gcd_alone`), with every clock.
+//! A handler takes what is handed over as its Deliver is recorded, on the caller's thread. One worker asks clock and poller as
+//! worker 0 alone does (`gcd_alone`); `gcd_tests` compares what they leave.
 //!
 //! | clause | says, where memory sufficed |
 //! |---|---|

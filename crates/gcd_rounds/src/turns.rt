@@ -1,5 +1,5 @@
 // The turns of the workers in a round.
-ghost use Rattle.std.specs.Prelude.{◌≡◌, ◌<◌, ◌+◌, [], ℕ, List, Ok, Option, true, false, OnOk, IsTrue, length};
+ghost use Rattle.std.specs.Prelude.{◌≡◌, ◌<◌, ◌+◌, [], ℕ, Ok, Option, true, false, OnOk, IsTrue, length};
 ghost use Rattle.gcd_plan.specs.Limits.{max_events};
 ghost use Rattle.gcd_history.specs.Choice.{is_work, worker_of};
 ghost use Rattle.gcd_outer.specs.Outside.{ClockState};
