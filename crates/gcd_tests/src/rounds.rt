@@ -285,6 +285,9 @@ fn the_large_script_has_one_total(rt: HostRuntime) -> Result<(), Fail> {
         (3, 1, 22_304),
         (3, 2, 22_304),
         (3, 64, 22_304),
+        (16_384, 1, 133_875_776),
+        (16_384, 2, 133_875_776),
+        (16_384, 64, 133_875_776),
     ] {
         assert_eq!(rt; large_total(&rt, rt.alloc(), blocks, workers)?, total);
     }
