@@ -4,14 +4,17 @@
 //!
 //! The helpers that touch the system promise nothing: no contract says what the words of a command line are, what its files
 //! hold, or with which status a program ends. So `words_of` and `status` have no clauses, and of the look-up beside the
-//! script only the counts and lengths are promised. What is proved is that the texts handed to `gcd_main` are the words that
-//! were read (`texts`); the rest is tried by the stored run.
+//! script (`ScriptShelf` for files, `ScriptPoller` for feeds) only what each shelf and poller promises is proved. What is
+//! proved beside it is that the texts handed to `gcd_main` are the words that were read (`texts`); the rest is tried by the
+//! stored run and the examples.
 #![tactic(auto)]
 
 ghost use Rattle.std.specs.Prelude.{◌≡◌, map, string_bytes, IfOk};
 
+mod script_poller;
 mod script_shelf;
 
+use crate::script_poller::ScriptPoller;
 use crate::script_shelf::ScriptShelf;
 use gcd_outer::{NetPoller, StdoutSink, SystemClock};
 use gcd_run::{Status, gcd_main};
@@ -57,9 +60,10 @@ fn status<R: Files<File = File> + Net + Wait + time::Clock + Print + Env + Alloc
     let script = texts.get(1).copied().unwrap_or("");
     let mut shelf = ScriptShelf::new(rt, rt.alloc(), script);
     let mut out = StdoutSink::new(rt);
-    let Ok(mut poller) = NetPoller::new(rt, rt.alloc()) else {
+    let Ok(feeds) = NetPoller::new(rt, rt.alloc()) else {
         return Status::NoMemory.code();
     };
+    let mut poller = ScriptPoller::new(rt, rt.alloc(), feeds, script);
     let mut clock = SystemClock::new(rt);
     gcd_main(
         rt,

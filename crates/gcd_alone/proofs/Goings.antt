@@ -1,6 +1,5 @@
 -- What each step of a run by worker 0 alone keeps of what poller and clock said.
-use Rattle.std.proofs.Common.{◌≡◌, ◌≤◌, ◌<◌, ◌+◌, ◌∙◌, ◌++◌, ◌⊎◌, ℕ, Bool, true, false, List, [], ◌∷◌, Some, None, IsTrue, length, ap, sym, subst, refl, arith, if◌then◌else◌, append-nil, drop, min, inl, inr}
-use Rattle.std.specs.Prelude.{Contains}
+use Rattle.std.proofs.Common.{◌≡◌, ◌≤◌, ◌<◌, ◌+◌, ◌∙◌, ◌++◌, ℕ, Bool, true, false, List, [], ◌∷◌, Some, None, length, ap, sym, subst, refl, arith, if◌then◌else◌, append-nil, drop, inl}
 use Rattle.std.proofs.lemmas.Bool.{both_ways}
 use Rattle.std.proofs.lemmas.Option.{same_Some}
 use Rattle.gcd_plan.specs.Limits.{max_events}
@@ -10,13 +9,11 @@ use Rattle.gcd_event.specs.declared.event.Event.TheVariants.{Start, Act as Acted
 use Rattle.gcd_history.specs.Choice.{is_work, worker_of}
 use Rattle.gcd_history.specs.Ends.{is_halted}
 use Rattle.gcd_history.specs.History.{why}
-use Rattle.gcd_history.specs.Permitted.{is_halted as is_halted_after}
-use Rattle.gcd_outer.specs.Outside.{ClockState, Rises}
-use Rattle.gcd_outer.specs.Tells.{PollerState, is_named}
+use Rattle.gcd_outer.specs.Outside.{ClockState}
+use Rattle.gcd_outer.specs.Tells.{PollerState}
 use Rattle.gcd_outer.specs.declared.tell.Tell.{Tell}
 use Rattle.gcd_turn.specs.Asked.{HasFailed, IsDueTick, IsPut, KeepsListens}
 use Rattle.gcd_turn.specs.Hearing.{FeedHeard, Heard}
-use Rattle.gcd_turn.specs.Promises.{HaltsAtFaults}
 use Rattle.gcd_turn.specs.Timing.{TimeKept}
 use Rattle.gcd_turn.specs.Turns.{OutlookView, event_of, first_event}
 use Rattle.gcd_turn.proofs.HeardSteps.{heard_barred, heard_grown, heard_told, is_told}

@@ -1,7 +1,8 @@
 // A run by worker 0 alone, as far as it has come.
-ghost use Rattle.std.specs.Prelude.{◌≡◌, ◌<◌, ◌++◌, ◌∷◌, [], List, length, OnOk, IfOk};
+ghost use Rattle.std.specs.Prelude.{◌≡◌, ◌≤◌, ◌<◌, ◌++◌, ◌∷◌, [], List, length, vec_capacity, IfOk};
 ghost use Rattle.gcd_event.specs.declared.event.Event.{Event};
 ghost use Rattle.gcd_history.specs.Values.{value_of};
+ghost use Rattle.gcd_plan.specs.Limits.{max_events};
 ghost use Rattle.gcd_jobs.specs.Contents.{contents};
 ghost use Rattle.gcd_alone.specs.Ends.{EndFits};
 ghost use Rattle.gcd_alone.specs.Going.{IsNext, IsOutside, IsPlaced, IsRun};
@@ -13,12 +14,14 @@ use gcd_machine::Machine;
 use gcd_plan::{Blk, MAX_EVENTS, Plan};
 use std::alloc::{AllocError, Global};
 
-// The journal, the values of the blocks, and the machine that stands for the journal.
+// The journal, the values of the blocks, and the machine that stands for the journal. The journal has room for all events that
+// may come.
 #[derive(Debug, Drop)]
 pub(crate) struct Running {
     pub(crate) journal: Vec<Event>,
     pub(crate) values: Vec<u64>,
     pub(crate) machine: Machine,
+    ghost room: { max_events ≤ vec_capacity journal },
 }
 
 // The value of a block: that of its work, and 0 without work.
@@ -59,34 +62,26 @@ impl Running {
     }
 
     // Records an event that may come next.
-    pub(crate) fn record(
-        &mut self,
-        plan: &Plan,
-        files: &[Vec<u8>],
-        e: Event,
-    ) -> Result<(), AllocError>
+    pub(crate) fn record(&mut self, plan: &Plan, files: &[Vec<u8>], e: Event)
         requires next { IsNext plan.now self.old.journal.items e }
         requires run { IsRun plan.now (contents files.now) self.old.journal.items self.old.values.items self.old.machine }
-        ensures journal { OnOk result (self.new.journal.items ≡ self.old.journal.items ++ e ∷ []) }
-        ensures run { OnOk result (IsRun plan.now (contents files.now) self.new.journal.items self.new.values.items self.new.machine) }
+        ensures journal { self.new.journal.items ≡ self.old.journal.items ++ e ∷ [] }
+        ensures run { IsRun plan.now (contents files.now) self.new.journal.items self.new.values.items self.new.machine }
     {
         note_end(plan, files, e, &mut self.values);
-        self.journal.push(e)?;
+        self.journal.push_reserved(e);
         self.machine.apply(e);
-        Ok(())
     }
 
     // Records an event of the outside, or drops it where it may not come next.
-    pub(crate) fn put(&mut self, plan: &Plan, files: &[Vec<u8>], e: Event) -> Result<(), AllocError>
+    pub(crate) fn put(&mut self, plan: &Plan, files: &[Vec<u8>], e: Event)
         requires outside { IsOutside self.old.journal.items e }
         requires run { IsRun plan.now (contents files.now) self.old.journal.items self.old.values.items self.old.machine }
-        ensures placed { OnOk result (IsPlaced plan.now self.old.journal.items e self.new.journal.items) }
-        ensures run { OnOk result (IsRun plan.now (contents files.now) self.new.journal.items self.new.values.items self.new.machine) }
+        ensures placed { IsPlaced plan.now self.old.journal.items e self.new.journal.items }
+        ensures run { IsRun plan.now (contents files.now) self.new.journal.items self.new.values.items self.new.machine }
     {
-        if self.machine.permits(e).is_some() {
-            return Ok(());
+        if self.machine.permits(e).is_none() {
+            self.record(plan, files, e);
         }
-        self.record(plan, files, e)?;
-        Ok(())
     }
 }

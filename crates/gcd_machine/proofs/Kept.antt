@@ -46,7 +46,7 @@ written_few xs i n =
 -- whether a run may open says nothing of blocks
 begin_kept : {m : MachineView} {n : Obj} {barrier : Bool} (blocks : List BlockProgress) → CanBegin m n barrier → CanBegin (record m { blocks = blocks }) n barrier
 begin_kept blocks can = record {
-  list = record { listed = can.list.listed; known = can.list.known };
+  list = can.list;
   opens = record { node = can.opens.node; still = can.opens.still; runs = can.opens.runs };
   fenced = can.fenced;
   barriers = can.barriers;

@@ -36,3 +36,4 @@ pub mod Choosing
 pub mod Ending
 pub mod Chosen
 mod Marked
+mod DueMarks

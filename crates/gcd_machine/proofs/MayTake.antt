@@ -1,10 +1,11 @@
 -- An event that is permitted may be taken: whatever its private steps ask holds of a machine that is tied to the history.
-use Rattle.std.proofs.Common.{◌≡◌, ℕ, ◌+◌, ◌^◌, ◌<◌, ◌≤◌, ltb, leb, true, false, List, [], length, reverse, Option, Some, None, option_and_then, refl, ap, sym, ◌∙◌, subst, arith}
+use Rattle.std.proofs.Common.{◌≡◌, ℕ, ◌+◌, ◌^◌, ◌<◌, ◌≤◌, ltb, leb, true, false, List, [], length, reverse, map, Option, Some, None, option_and_then, refl, ap, sym, ◌∙◌, subst, arith}
 use Rattle.std.specs.Option.{option_map_or}
 use Rattle.std.proofs.lemmas.Bool.{and_parts, ltb-true, leb-true}
-use Rattle.std.proofs.lemmas.List.{length-reverse}
-use Rattle.gcd_plan.specs.PlanView.{PlanView}
-use Rattle.gcd_plan.specs.Kinds.{is_source, is_source_kind, is_read_kind}
+use Rattle.std.proofs.lemmas.List.{length-reverse, length-map}
+use Rattle.std.proofs.lemmas.Simd.{map-map}
+use Rattle.gcd_plan.specs.PlanView.{PlanView, ObjView}
+use Rattle.gcd_plan.specs.Kinds.{is_source, is_source_kind, is_read_kind, is_timer_kind}
 use Rattle.gcd_plan.specs.StartRule.{first_of, is_held}
 use Rattle.gcd_plan.specs.declared.numbers.Blk.{Blk}
 use Rattle.gcd_plan.specs.declared.numbers.Obj.{Obj}
@@ -122,7 +123,22 @@ module _ (past : List Event) (m : MachineView) (t : IsTied m.plan past m) (room 
       let within = tick_within m.plan past u (at_tick m.plan past u may) in
       let moment = t.timers.moment in
       let until = t.parts.until in
-      record { forward = omega (arith, within, moment); within = omega (arith, within, until) }
+      let kinds = t.parts.timer_kinds in
+      let timed = t.own.timed in
+      let long = ap length timed ∙ length-map m.plan.objects (λ o. is_timer_kind o.kind) in
+      let handlers = t.own.handlers in
+      let busy = t.own.busy in
+      let few = t.valid.few_objects in
+      record {
+        forward = omega (arith, within, moment);
+        within = omega (arith, within, until);
+        marks = record {
+          timed = timed ∙ (sym (map-map is_timer_kind (λ (o : ObjView). o.kind) m.plan.objects) ∙ ap (map is_timer_kind) (sym kinds));
+          handlers = handlers ∙ sym long;
+          marked = busy ∙ sym long;
+          few = omega (arith, long, few);
+        };
+      }
 
   can_change : (e : Event) → why m.plan past e ≡ None → CanChange m e
   can_change (Start w b) may = can_start w b may

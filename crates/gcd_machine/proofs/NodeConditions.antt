@@ -24,7 +24,7 @@ use Rattle.gcd_tree.specs.TreeView.{is_moving_at}
 use Rattle.gcd_timer.specs.TimersView.{due_count_at, is_due_at}
 use Rattle.gcd_refinement.specs.MachineView.{MachineView, block_at}
 use Rattle.gcd_refinement.specs.Stands.{IsTied}
-use Rattle.gcd_machine.specs.Conditions.{HasPending, HasList, CanOpen, CanClose, CanBegin, CanCloseOn}
+use Rattle.gcd_machine.specs.Conditions.{HasPending, CanOpen, CanClose, CanBegin, CanCloseOn}
 use Rattle.gcd_machine.proofs.TreeTold.{chain_told, moving_told}
 
 -- ## Chains
@@ -52,8 +52,8 @@ unheld plan past xs free = none_of (λ o. not (is_free plan past o)) (is_moving 
 -- ## Nodes
 
 module _ (past : List Event) (m : MachineView) (t : IsTied m.plan past m) (room : length past + 2 < 2 ^ 32) where
-  pub has_list : (n : Obj) → n.0 < length m.plan.objects → HasList m n
-  has_list n low = let lists = t.parts.lists in record { listed = omega (arith, low, lists); known = low }
+  pub has_list : (n : Obj) → n.0 < length m.plan.objects → n.0 < length m.lists.lists
+  has_list n low = let lists = t.parts.lists in omega (arith, low, lists)
 
   due_low : (s : ℕ) → due_count_at m.timers s ≤ m.timers.moment
   due_low s =

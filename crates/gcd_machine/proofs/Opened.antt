@@ -25,7 +25,7 @@ with_run m lists tree drains busy = record m { lists = lists; tree = tree; drain
 pub begun_is : (m : MachineView) (n : Obj) {barrier busy : Bool} {marks : List Bool} {lists : ListsView} {tree : TreeView} {drains : DrainsView} {pending : ℕ}
     → lists ≡ popped m.lists (Some n) → tree ≡ opened m.tree (Some n)
     → (barrier ≡ true → drains ≡ with_barriers m.drains n.0 (barriers_at m.drains n.0 + 1)) → (barrier ≡ false → drains ≡ m.drains)
-    → pending ≡ pending_in m n.0 → busy ≡ stays_busy m.plan (length (list_at lists n.0)) pending n.0
+    → pending ≡ pending_in m n.0 → busy ≡ stays_busy (length (list_at lists n.0)) pending
     → marks ≡ set m.busy n.0 busy → with_run m lists tree drains marks ≡ begun_on m n barrier
 begun_is m n {barrier} {busy} {marks} {lists} {tree} {drains} {pending} lists_is tree_is is_barrier is_plain pending_is busy_is marks_is =
     let rest = popped m.lists (Some n) in
@@ -33,8 +33,8 @@ begun_is m n {barrier} {busy} {marks} {lists} {tree} {drains} {pending} lists_is
     let drains_is = in_either_case drains (with_barriers m.drains n.0 (barriers_at m.drains n.0 + 1)) m.drains barrier is_barrier is_plain in
     let waiting = ap (λ (l : ListsView). length (list_at l n.0)) lists_is ∙ one_less_waits m.lists n in
     let stays = busy_is
-    ∙ (ap (λ k. stays_busy m.plan k pending n.0) waiting
-    ∙ ap (λ k. stays_busy m.plan (length (list_at m.lists n.0) - 1) k n.0) pending_is) in
+    ∙ (ap (λ k. stays_busy k pending) waiting
+    ∙ ap (λ k. stays_busy (length (list_at m.lists n.0) - 1) k) pending_is) in
     ap (λ l. with_run m l tree drains marks) lists_is
     ∙ (ap (λ t. with_run m rest t drains marks) tree_is
     ∙ (ap (λ d. with_run m rest more d marks) drains_is

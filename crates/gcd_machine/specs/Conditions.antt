@@ -1,6 +1,7 @@
 -- When each private step of a machine may be made: what its parts and arrays ask, of the state before the step.
-use Rattle.std.specs.Prelude.{◌≡◌, ◌<◌, ◌≤◌, ℕ, ◌+◌, ◌^◌, Bool, true, false, length, Some, None, is_some, sum}
+use Rattle.std.specs.Prelude.{◌≡◌, ◌<◌, ◌≤◌, ℕ, ◌+◌, ◌^◌, Bool, true, false, length, map, Some, None, is_some, sum}
 use Rattle.gcd_plan.specs.PlanView.{cancel_block}
+use Rattle.gcd_plan.specs.Kinds.{is_timer_kind}
 use Rattle.gcd_plan.specs.declared.act.Act.{Act}
 use Rattle.gcd_plan.specs.declared.act.Act.TheVariants.{Async, Barrier, Sync, BarrierSync, GroupAsync, Notify, Enter, Leave, GroupWait, Signal, Wait, Suspend, Resume, Activate, Target, Merge, Cancel, Retain, Release}
 use Rattle.gcd_plan.specs.declared.numbers.Blk.{Blk}
@@ -62,11 +63,6 @@ pub record HasPending (m : MachineView) (s : Obj) : Type 0 where
   pub taken : (handler_at m s.0).taken ≤ due_count_at m.timers s.0
   pub room : pending_at m.sources s.0 + due_count_at m.timers s.0 < 2 ^ 64
 
--- the node has a list, and the plan has its kind
-pub record HasList (m : MachineView) (n : Obj) : Type 0 where
-  pub listed : n.0 < length m.lists.lists
-  pub known : n.0 < length m.plan.objects
-
 -- a run may open on the node
 pub record CanOpen (m : MachineView) (n : Obj) : Type 0 where
   pub node : n.0 < length m.tree.targets
@@ -80,7 +76,7 @@ pub record CanClose (m : MachineView) (n : Obj) : Type 0 where
 
 -- the run of a block, a barrier or not, may open on the node
 pub record CanBegin (m : MachineView) (n : Obj) (barrier : Bool) : Type 0 where
-  pub list : HasList m n
+  pub list : n.0 < length m.lists.lists
   pub opens : CanOpen m n
   pub fenced : n.0 < length m.drains.barriers
   pub barriers : barrier ≡ true → barriers_at m.drains n.0 + 1 < 2 ^ 32
@@ -349,7 +345,7 @@ pub record CanEnd (m : MachineView) (w : ℕ) (b : Blk) : Type 0 where
 -- worker w may hand what is pending at source s to its handler
 pub record CanDeliver (m : MachineView) (w : ℕ) (s : Obj) : Type 0 where
   pub worker : CanTakeUp m w
-  pub list : HasList m s
+  pub list : s.0 < length m.lists.lists
   pub opens : CanOpen m s
   pub marked : s.0 < length m.busy
   pub pending : HasPending m s
@@ -359,10 +355,18 @@ pub record CanEndDelivery (m : MachineView) (w : ℕ) (s : Obj) : Type 0 where
   pub worker : CanSetFree m w
   pub closes : CanClose m s
 
+-- it is known which objects are timers, and each of them may be looked at
+pub record CanMarkDue (m : MachineView) : Type 0 where
+  pub timed : m.timed ≡ map is_timer_kind m.timers.kinds
+  pub handlers : length m.handlers ≡ length m.timed
+  pub marked : length m.busy ≡ length m.timed
+  pub few : length m.timed < 2 ^ 32
+
 -- the time may come to t
 pub record CanTick (m : MachineView) (t : ℕ) : Type 0 where
   pub forward : m.timers.moment ≤ t
   pub within : t ≤ m.timers.until
+  pub marks : CanMarkDue m
 
 -- what the event changes beside the number of events may be changed
 abbrev pub CanChange : MachineView → Event → Type 0

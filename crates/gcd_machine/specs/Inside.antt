@@ -21,6 +21,7 @@ view_of m = record {
   ended = m.ended.items;
   due = m.due;
   handlers = m.handlers.items;
+  timed = m.timed;
   busy = m.busy;
   live = m.live;
   workers = m.workers.items;

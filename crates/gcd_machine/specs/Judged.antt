@@ -28,10 +28,11 @@ use Rattle.gcd_group.specs.GroupsView.{entered_at}
 use Rattle.gcd_sema.specs.SemasView.{signals_at, waits_at}
 use Rattle.gcd_sync.specs.WaitsView.{reason_at, may_wake_in}
 use Rattle.gcd_source.specs.SourcesView.{pending_at, is_cancelled_at}
-use Rattle.gcd_timer.specs.TimersView.{next_due_at, due_count_at}
+use Rattle.gcd_timer.specs.TimersView.{next_due_at}
 use Rattle.gcd_drain.specs.Rule.{start_fault_of, run_fault_of}
 use Rattle.gcd_refinement.specs.MachineView.{MachineView, block_at, handler_at, at_worker, refs_at, live_at}
 use Rattle.gcd_refinement.specs.Ties.{is_run}
+use Rattle.gcd_refinement.specs.After.{has_due}
 
 -- ## Runs
 
@@ -109,7 +110,7 @@ block_fault_at m b =
 
 -- something is pending at source s: a value, or a due time that no delivery took
 abbrev pub has_pending_at : MachineView → ℕ → Bool
-has_pending_at m s = nat_lt 0 (pending_at m.sources s) || nat_lt (handler_at m s).taken (due_count_at m.timers s)
+has_pending_at m s = nat_lt 0 (pending_at m.sources s) || has_due m.timers m.handlers s
 
 -- so it is, and the source is not cancelled
 abbrev pub is_pending_at : MachineView → ℕ → Bool

@@ -1,5 +1,5 @@
 -- What each private step of a machine changes. The steps of one event together make `after` of gcd_refinement.
-use Rattle.std.specs.Prelude.{ℕ, ◌+◌, ◌-◌, ◌==◌, Bool, true, false, not, ◌&&◌, if◌then◌else◌, [], length, take, map, fold, Option, Some, None, slice_set}
+use Rattle.std.specs.Prelude.{ℕ, ◌+◌, ◌-◌, ◌==◌, Bool, true, false, not, ◌&&◌, ◌||◌, if◌then◌else◌, [], length, take, map, fold, Option, Some, None, slice_set}
 use Rattle.std.specs.Option.{option_map_or}
 use Rattle.gcd_plan.specs.PlanView.{cancel_block}
 use Rattle.gcd_plan.specs.Kinds.{has_kind, is_read_kind}
@@ -21,9 +21,9 @@ use Rattle.gcd_sync.specs.WaitsView.{with_reason}
 use Rattle.gcd_hold.specs.HoldsView.{hold_at, is_active_at, with_hold, with_active}
 use Rattle.gcd_source.specs.SourcesView.{is_cancelled_at, merged_at, with_pending, with_cancelled as with_cancelled_source}
 use Rattle.gcd_timer.specs.TimersView.{with_activated, with_cancelled as with_cancelled_timer}
-use Rattle.gcd_refinement.specs.MachineView.{MachineView, block_at, refs_at}
+use Rattle.gcd_refinement.specs.MachineView.{MachineView, block_at, busy_at, refs_at}
 use Rattle.gcd_refinement.specs.Submits.{sleepers_at}
-use Rattle.gcd_refinement.specs.After.{popped, pushed_on, opened, closed, targeted, barrier_began, barrier_ended, with_block, with_due, handled, delivered as delivery, stays_busy, unmarked, all_fired}
+use Rattle.gcd_refinement.specs.After.{popped, pushed_on, opened, closed, targeted, barrier_began, barrier_ended, with_block, with_due, handled, delivered as delivery, stays_busy, unmarked, has_due, dues_marked, all_fired}
 
 -- ## Workers
 
@@ -43,7 +43,7 @@ begun_on m n barrier = record m {
   lists = popped m.lists (Some n);
   tree = opened m.tree (Some n);
   drains = barrier_began m.drains (Some n) barrier;
-  busy = unmarked m.plan m (Some n);
+  busy = unmarked m (Some n);
 }
 
 -- a run that was open on the node has closed
@@ -160,6 +160,20 @@ merged m s n = record m {
   busy = if n == 0 then m.busy else slice_set m.busy s.0 true;
 }
 
+-- ## Time
+
+-- object s has to be looked at where it is a timer with a due time that no delivery took
+abbrev pub marked_if_due : MachineView → ℕ → MachineView
+marked_if_due m s = record m { busy = slice_set m.busy s (busy_at m s || has_due m.timers m.handlers s) }
+
+-- each such timer has to be looked at
+abbrev pub due_marked : MachineView → MachineView
+due_marked m = record m { busy = dues_marked m.busy m.timers m.handlers }
+
+-- the time has come to t
+abbrev pub come_to : MachineView → ℕ → MachineView
+come_to m t = due_marked (record m { timers = record m.timers { moment = t } })
+
 -- ## Groups
 
 -- the notify blocks of group g that are due are submitted
@@ -218,7 +232,7 @@ delivered m w s =
       handlers = slice_set m.handlers s.0 (delivery m s.0);
       sources = with_pending m.sources s.0 0;
       tree = opened m.tree (Some s);
-      busy = slice_set m.busy s.0 (stays_busy m.plan (length (list_at m.lists s.0)) 0 s.0);
+      busy = slice_set m.busy s.0 (stays_busy (length (list_at m.lists s.0)) 0);
     }) w (Source s)
 
 -- worker w has ended the run of the handler of source s
@@ -307,7 +321,7 @@ changed m (Wake w b) = woken m w b
 changed m (End w b) = ended m w b
 changed m (Deliver w s) = delivered m w s
 changed m (DeliverEnd w s) = delivery_ended m w s
-changed m (Tick t) = record m { timers = record m.timers { moment = t } }
+changed m (Tick t) = come_to m t
 changed m (Ready s n) = merged m s n
 changed m (FeedEnd s) = cancelled m s
 changed m (Misuse w run i c) = record m { misused = true }

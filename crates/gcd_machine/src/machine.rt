@@ -77,7 +77,7 @@ impl Machine {
     }
 
     /// Takes an event that is permitted, without memory. It costs a constant number of steps, twice the length of the node's
-    /// chain, and one for each block that the event submits or lets go on.
+    /// chain, one for each block that the event submits or lets go on, and at a tick a look at each timer.
     pub fn apply(&mut self, e: Event)
         requires { MayApply self.old e }
         ensures plan { self.new.plan ≡ self.old.plan }
@@ -89,8 +89,8 @@ impl Machine {
     /// What the worker records next: the first event that is permitted in the order of choice, which is the next event of its
     /// own run; the wake of the parked block with the least number that may wake; the start of `main`; and of the objects
     /// from number `from` on, wrapping round, the start of the first block that waits there, or the source's delivery. None
-    /// exactly where no event of the worker is permitted (this project's own rule). It looks once at each object that may
-    /// have one of these, and once in all at each object of their chains.
+    /// exactly where no event of the worker is permitted (this project's own rule). It looks once at each object where a
+    /// block waits or something is pending, and once in all at each object of their chains.
     pub fn choose(&self, worker: u8, from: u32) -> Option<Event>
         ensures choice { (plan : PlanView) (h : List Event) → StandsFor self.now plan h → result ≡ choice_of plan h worker from }
         ensures permitted { (plan : PlanView) (h : List Event) → StandsFor self.now plan h → IfSome result (λ e. why plan h e ≡ None) }

@@ -7,6 +7,7 @@ mod acts;
 mod answers;
 mod choose;
 mod copy;
+mod dues;
 mod events;
 mod groups;
 mod judge;
@@ -58,7 +59,9 @@ pub struct Registers {
     pub due: BitSet,
     // by object
     pub handlers: Vec<HandlerProgress>,
-    // the nodes that have to be looked at for a Start or a Deliver
+    // the objects that are timers
+    pub timed: BitSet,
+    // the nodes that have to be looked at for a Start or a Deliver: each where a block waits or something is pending
     pub busy: BitSet,
     // the read sources that are live
     pub live: BitSet,

@@ -77,6 +77,7 @@ pub ties_step : (plan : PlanView) (past : List Event) (e : Event) (v : MachineVi
 ties_step plan past e v valid lawful t =
     let blocks = blocks_step plan past e v valid lawful t.parts t.own t.groups t.sources t.blocks in
     let workers = workers_step plan past e v lawful t.own t.workers in
+    let sources = sources_step plan past e v valid lawful t.parts t.own t.holds t.sources t.timers in
     record {
       same_plan = t.same_plan;
       parts = parts_step plan v e t.parts;
@@ -89,13 +90,13 @@ ties_step plan past e v valid lawful t =
       groups = groups_step plan past e v valid lawful t.parts t.own t.groups t.blocks t.totals.len;
       semas = semas_step plan past e v valid t.parts t.semas;
       waits = waits_step plan past e v lawful t.parts t.totals.len t.semas t.waits;
-      sources = sources_step plan past e v valid lawful t.parts t.own t.holds t.sources t.timers;
+      sources = sources;
       timers = timers_step plan past e v valid lawful t.parts t.holds t.sources t.timers;
       workers = workers;
       blocks = blocks;
       handlers = handlers_step plan past e v lawful t.own t.sources t.handlers;
       wakes = wakes_step plan past e v valid lawful t.parts t.own t.semas t.groups t.blocks t.wakes;
-      marks = marks_step plan past e v valid lawful t.parts t.own t.groups t.blocks t.sources t.lists t.marks;
+      marks = marks_step plan past e v valid lawful t.parts t.own t.groups t.blocks t.sources sources t.lists t.marks;
       totals = totals_step plan past e v valid lawful t.parts t.own t.holds t.groups t.blocks t.sources t.totals;
     }
 

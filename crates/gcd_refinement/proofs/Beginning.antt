@@ -1,37 +1,30 @@
 -- The view that `new` makes is of the empty history.
-use Rattle.std.proofs.Common.{◌≡◌, ℕ, zero, suc, ◌+◌, ◌<◌, ◌≤◌, ◌==◌, Bool, true, false, not, ◌&&◌, cond, List, [], ◌++◌, length, map, get_or, Option, Some, None, refl, ap, sym, ◌∙◌, subst, arith, ⊎_elim, option_map, replicate}
-use Rattle.std.specs.List.{count_by, slice_get, range_with_len}
+use Rattle.std.proofs.Common.{◌≡◌, ℕ, ◌<◌, ◌==◌, Bool, true, false, not, ◌&&◌, cond, [], length, map, get_or, Option, Some, None, refl, ap, sym, ◌∙◌, subst, arith, option_map, replicate}
+use Rattle.std.specs.List.{slice_get}
 use Rattle.std.specs.Option.{option_map_or, option_and_then}
-use Rattle.std.proofs.lemmas.Bool.{cases_lt, and_parts, not-true}
-use Rattle.std.proofs.lemmas.List.{get_or-replicate, get_or_past, length-replicate, length-map}
-use Rattle.std.proofs.Math.Seq.{drop-nil}
-use Rattle.std.proofs.lemmas.Option.{slice_get_within}
+use Rattle.std.proofs.lemmas.Bool.{and_parts, not-true}
+use Rattle.std.proofs.lemmas.List.{get_or-replicate, length-replicate, length-map}
 use Rattle.gcd_plan.proofs.Mapped.{get_or-mapped}
-use Rattle.gcd_plan.proofs.Options.{option_map_or-map}
 use Rattle.gcd_plan.specs.PlanView.{PlanView, ObjView, first_target}
-use Rattle.gcd_plan.specs.Kinds.{is_read_kind, is_queue, is_timer_kind}
+use Rattle.gcd_plan.specs.Kinds.{is_read_kind, is_queue}
 use Rattle.gcd_plan.specs.Validity.{IsPlan, has_fields}
 use Rattle.gcd_plan.specs.declared.kind.Kind.{Kind}
 use Rattle.gcd_plan.specs.declared.kind.Kind.TheVariants.{Read}
 use Rattle.gcd_plan.specs.declared.numbers.Obj.{Obj}
-use Rattle.gcd_plan.specs.declared.numbers.Blk.{Blk}
 use Rattle.gcd_plan.specs.declared.numbers.Run.{Run}
 use Rattle.gcd_plan.specs.declared.numbers.Run.TheVariants.{Block}
 use Rattle.gcd_history.specs.declared.submission.Submission.{Submission}
-use Rattle.gcd_history.specs.Parked.{awaited, has_run, may_wake, has_come}
-use Rattle.gcd_history.specs.Semas.{first_value}
+use Rattle.gcd_history.specs.Parked.{awaited, has_run}
 use Rattle.gcd_history.specs.Sources.{is_live_feed}
 use Rattle.gcd_history.specs.Tree.{Aim}
-use Rattle.gcd_plan.proofs.Sums.{count_by-cons}
 use Rattle.gcd_history.proofs.SubmittedOnce.{object_fields}
 use Rattle.gcd_refinement.specs.MachineView.{idle, undelivered, machine_of, block_at, handler_at, at_worker}
 use Rattle.gcd_refinement.specs.declared.progress.BlockProgress.{BlockProgress}
 use Rattle.gcd_refinement.specs.declared.progress.HandlerProgress.{HandlerProgress}
 use Rattle.gcd_refinement.specs.Shape.{PartsFit, OwnFit}
-use Rattle.gcd_refinement.specs.Ties.{ReferencesAre, ListsAre, TreeIs, HoldsAre, DrainsAre, GroupsAre, SemasAre, WaitsAre, SourcesAre, TimersAre, WorkersAre, BlocksAre, HandlersAre, WakesAre, MarksAre, TotalsAre, told, is_run}
+use Rattle.gcd_refinement.specs.Ties.{ReferencesAre, ListsAre, TreeIs, HoldsAre, DrainsAre, GroupsAre, SemasAre, WaitsAre, SourcesAre, TimersAre, WorkersAre, BlocksAre, HandlersAre, MarksAre, TotalsAre, told, is_run}
 use Rattle.gcd_refinement.proofs.StepMarks.{no_value}
 use Rattle.gcd_plan.specs.Limits.{max_workers}
-use Rattle.gcd_history.proofs.Sums.{none_in}
 use Rattle.gcd_plan.proofs.Places.{get_or-replicate_same}
 use Rattle.gcd_history.proofs.TreeStands.{some_objects}
 
@@ -90,7 +83,8 @@ own_begin plan valid =
       ended = length-replicate m false;
       due = length-replicate m false;
       handlers = length-replicate n undelivered;
-      busy = length-map plan.objects (λ o. is_timer_kind o.kind);
+      timed = refl;
+      busy = length-replicate n false;
       live = length-replicate n false;
       workers = length-replicate {A = Option Run} max_workers None;
       nodes = λ b q at. absurd (some_none q (sym at ∙ ap (λ (x : BlockProgress). x.node) (idle_at plan b)));
@@ -203,11 +197,7 @@ handlers_begin plan =
 
 pub marks_begin : (plan : PlanView) → MarksAre plan [] (machine_of plan)
 marks_begin plan = record {
-  idle = λ o off. record {
-    nothing_waits = refl;
-    nothing_pends = no_value plan o;
-    no_timer = option_map_or-map (λ (x : ObjView). x.kind) is_timer_kind (slice_get plan.objects o) false ∙ (sym (get_or-mapped (λ (x : ObjView). is_timer_kind x.kind) plan.objects o false) ∙ off);
-  };
+  idle = λ o off. record { nothing_waits = refl; nothing_pends = no_value plan o };
 }
 
 -- no read source is active at first

@@ -1,11 +1,10 @@
 -- The bounds that are sums: the open runs of all objects, how many blocks are left, and what is pending; and so all bounds.
-use Rattle.std.proofs.Common.{◌≡◌, ℕ, zero, suc, ◌+◌, ◌<◌, ◌≤◌, ◌==◌, Bool, false, not, cond, List, [], ◌∷◌, length, get_or, Option, Some, None, refl, ap, sym, ◌∙◌, subst, arith, ⊎_elim, eq-eqb, ne_eqb, option_map, codes, ◌++◌, ◌-◌, ◌*◌, ltb, map, filter, true}
+use Rattle.std.proofs.Common.{◌≡◌, ℕ, zero, suc, ◌+◌, ◌≤◌, ◌==◌, Bool, false, not, cond, List, [], ◌∷◌, length, get_or, Option, Some, None, refl, ap, sym, subst, arith, eq-eqb, ne_eqb, option_map, codes, ◌++◌, ◌-◌, ◌*◌, ltb, map, filter, true}
 use Rattle.std.specs.List.{count_by, sum, sum_by, slice_get, range_with_len, fold}
 use Rattle.std.specs.Option.{option_map_or}
-use Rattle.std.proofs.lemmas.Bool.{cases_lt, and_parts, leb-true}
+use Rattle.std.proofs.lemmas.Bool.{and_parts, leb-true}
 use Rattle.std.proofs.lemmas.List.Sums.{sum_by-cons, count_by-le-length, sum_by-append}
 use Rattle.std.proofs.lemmas.List.FromFn.{length-range_with_len}
-use lib.Bits.{or_add_and}
 use Rattle.gcd_plan.specs.PlanView.{PlanView, kind_of}
 use Rattle.gcd_plan.specs.Validity.{IsPlan, is_act}
 use Rattle.gcd_plan.specs.Kinds.{has_kind, is_merge_kind}
@@ -13,10 +12,8 @@ use Rattle.gcd_plan.specs.KindValues.{folded}
 use Rattle.gcd_plan.specs.declared.act.Act.{Act}
 use Rattle.gcd_plan.specs.declared.act.Act.TheVariants.{Merge}
 use Rattle.gcd_plan.specs.declared.kind.Kind.{Kind}
-use Rattle.gcd_plan.specs.declared.kind.Kind.TheVariants.{Or}
 use Rattle.gcd_event.specs.declared.event.Event.{Event}
 use Rattle.gcd_event.specs.declared.event.Event.TheVariants.{Ready, Tick}
-use Rattle.gcd_history.specs.declared.submission.Submission.{Submission}
 use Rattle.gcd_history.specs.Runs.{open_runs, is_ended, act_of}
 use Rattle.gcd_history.specs.Submitted.{submitted}
 use Rattle.gcd_history.specs.Tree.{node_of_run, is_run_on, open_on}
@@ -24,7 +21,7 @@ use Rattle.gcd_history.specs.Permitted.{IsLawful, is_feed}
 use Rattle.gcd_history.specs.Sources.{fold_of, merged_by, input, delivers, new_inputs, pending}
 use Rattle.gcd_history.specs.Timers.{now, is_due}
 use Rattle.gcd_plan.proofs.Sums.{count_by-cons}
-use Rattle.gcd_history.proofs.Sums.{sum_range_le, sum_range_less, sum_range-add, sum_range_one, ones}
+use Rattle.gcd_history.proofs.Sums.{sum_range_le, sum_range-add, sum_range_one, ones}
 use Rattle.gcd_history.proofs.SubmittedOnce.{is_of, submitted_once, submitted_within, all_counted}
 use Rattle.gcd_history.proofs.Reasons.{allowed}
 use Rattle.gcd_history.proofs.SubmittedOnNodes.{recorded_fits}

@@ -93,18 +93,16 @@ early_none plan s t from valid early =
       | Some kind ↦ λ k. early_interval kind from t (kind_fits plan s kind valid k) early
     ] refl
 
--- what is no timer has no due time
+-- what is no timer has no due time, whenever it was activated
+pub never_due : (kind : Option Kind) (on : Option ℕ) (t : ℕ) → option_map_or is_timer_kind kind false ≡ false
+    → option_map_or (λ from. option_map_or (λ k. is_on_interval k from t) kind false) on false ≡ false
+never_due kind None t idle = refl
+never_due None (Some from) t idle = refl
+never_due (Some kind) (Some from) t idle = no_interval kind from t idle
+
 pub no_due : (plan : PlanView) (past : List Event) (s t : ℕ) → has_kind is_timer_kind plan s ≡ false → is_due plan past s t ≡ false
 no_due plan past s t idle =
-    ap (λ v. v && (leb t plan.until && option_map_or (λ end. leb t end) (cancelled_at plan past s) true)) (never (activated_at plan past s))
-  where
-    never : (on : Option ℕ) → on_interval_since plan s t on ≡ false
-    never None = refl
-    never (Some from) =
-        elim (kind_of plan s) as (λ o. option_map_or is_timer_kind o false ≡ false → option_map_or (λ kind. is_on_interval kind from t) o false ≡ false) [
-          | None ↦ λ k. refl
-          | Some kind ↦ λ k. no_interval kind from t k
-        ] idle
+    ap (λ v. v && (leb t plan.until && option_map_or (λ end. leb t end) (cancelled_at plan past s) true)) (never_due (kind_of plan s) (activated_at plan past s) t idle)
 
 pub no_dues : (plan : PlanView) (past : List Event) (s a n : ℕ) → has_kind is_timer_kind plan s ≡ false → count_by (is_due plan past s) (range_with_len a n) ≡ 0
 no_dues plan past s a n idle = none_in (is_due plan past s) a n (λ t. no_due plan past s t idle)

@@ -17,7 +17,7 @@ use Rattle.gcd_refinement.specs.Shape.{PartsFit, OwnFit}
 use Rattle.gcd_refinement.specs.Ties.{GroupsAre, BlocksAre}
 use Rattle.gcd_refinement.specs.Submits.{left_by, lessened, last_of, emptied_by}
 use Rattle.gcd_refinement.proofs.Members.{is_group}
-use Rattle.gcd_refinement.proofs.StepGroups.{CountsAre, counts_step, acts_count, end_counts, adds}
+use Rattle.gcd_refinement.proofs.StepGroups.{counts_step, acts_count, end_counts, adds}
 use Rattle.gcd_refinement.proofs.StepSubmits.{counts_of}
 
 -- the group counts one less after the event, and no other counts less

@@ -1,5 +1,5 @@
 -- What an event parks a block for, and that nothing else parks it.
-use Rattle.std.proofs.Common.{◌≡◌, ◌⊎◌, inl, inr, ⊎_elim, ℕ, ◌<◌, ◌==◌, nat_le, true, false, not, ◌&&◌, ◌||◌, cond, List, [], ◌∷◌, length, Option, Some, None, refl, ap, sym, ◌∙◌, subst}
+use Rattle.std.proofs.Common.{◌≡◌, ◌⊎◌, inl, inr, ⊎_elim, ℕ, ◌<◌, ◌==◌, true, false, not, ◌&&◌, ◌||◌, cond, List, [], ◌∷◌, length, Option, Some, None, refl, ap, sym, ◌∙◌, subst}
 use Rattle.std.proofs.lemmas.Bool.{and_parts, eqb-true, ltb-true, both_ways, cases_Bool}
 use Rattle.gcd_plan.specs.PlanView.{PlanView}
 use Rattle.gcd_plan.specs.declared.numbers.Blk.{Blk}

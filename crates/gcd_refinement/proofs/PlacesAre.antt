@@ -1,6 +1,6 @@
 -- Where blocks wait: the places that the view tells are those of the history.
 use Rattle.std.proofs.Common.{◌≡◌, ⊎_elim, ℕ, ◌<◌, ◌≤◌, ◌==◌, Bool, true, false, not, ◌&&◌, cond, List, [], ◌∷◌, length, map, filter, find, Option, Some, None, is_some, option_map, option_and_then, refl, ap, sym, ◌∙◌, arith}
-use Rattle.std.specs.List.{sum_by, count_by, range_with_len}
+use Rattle.std.specs.List.{count_by}
 use Rattle.std.specs.Option.{option_map_or}
 use Rattle.std.proofs.Math.ListN.{get_or-eq_default}
 use Rattle.std.proofs.lemmas.Bool.{cases_lt, cases_Bool, eqb-true, eq-eqb}
@@ -16,7 +16,7 @@ use Rattle.gcd_history.specs.Submitted.{submitted, submission_of, notify_blocks}
 use Rattle.gcd_history.specs.Permitted.{IsLawful, waits_on}
 use Rattle.gcd_history.proofs.Lists.{any_from_find}
 use Rattle.gcd_plan.proofs.Sums.{count_by-cons, count_by_some}
-use Rattle.gcd_history.proofs.Sums.{sum_range_less, term_within}
+use Rattle.gcd_history.proofs.Sums.{term_within}
 use Rattle.gcd_history.proofs.SubmittedOnce.{is_of, kept_once, submitted_once}
 use Rattle.gcd_lists.specs.ListsView.{list_at, barrier_in, place_of}
 use Rattle.gcd_lists.proofs.Places.{place_of_is, place_of_none}

@@ -1,14 +1,13 @@
 -- What is known of an act that a lawful history records: it is of the plan, and no misuse.
-use Rattle.std.proofs.Common.{◌≡◌, ℕ, Bool, true, false, List, ◌∷◌, Some, is_some, option_and_then, refl, ap, sym, ◌∙◌}
+use Rattle.std.proofs.Common.{◌≡◌, false, List, ◌∷◌, Some, is_some}
 use Rattle.std.specs.List.{list_any}
 use Rattle.gcd_plan.specs.PlanView.{PlanView}
 use Rattle.gcd_plan.specs.declared.act.Act.{Act}
-use Rattle.gcd_plan.specs.declared.numbers.Run.{Run}
 use Rattle.gcd_event.specs.declared.event.Event.{Event}
 use Rattle.gcd_event.specs.declared.event.Event.TheVariants.{Act as Acted}
-use Rattle.gcd_history.specs.Runs.{act_at, act_of}
+use Rattle.gcd_history.specs.Runs.{act_of}
 use Rattle.gcd_history.specs.Misuses.{first_code, is_released, named, misuse, act_misuses}
-use Rattle.gcd_history.specs.Permitted.{IsLawful, misuse_at}
+use Rattle.gcd_history.specs.Permitted.{IsLawful}
 use Rattle.gcd_history.proofs.Reasons.{at_act}
 use Rattle.gcd_history.proofs.TargetActs.{code_none, no_misuse_at}
 

@@ -1,9 +1,8 @@
 -- That no number is too large: what follows of the ties. The sum of open runs, what is pending and how many are left are not here.
 use Rattle.std.proofs.Common.{◌≡◌, ℕ, suc, ◌+◌, ◌-◌, ◌<◌, ◌≤◌, ◌==◌, leb, ltb, Bool, true, false, not, cond, List, [], ◌∷◌, length, filter, Option, Some, None, is_none, arith, ⊎_elim, length-append}
-use Rattle.std.specs.List.{count_by, cons_option, range_with_len}
+use Rattle.std.specs.List.{count_by, cons_option}
 use Rattle.std.proofs.lemmas.Bool.{cases_lt, and_parts, leb-true}
 use Rattle.std.proofs.lemmas.List.{get_or_past}
-use Rattle.std.proofs.lemmas.List.FromFn.{length-range_with_len}
 use Rattle.std.proofs.lemmas.List.Sums.{length-filter}
 use Rattle.gcd_plan.specs.PlanView.{PlanView}
 use Rattle.gcd_plan.specs.declared.act.Act.{Act}
@@ -17,7 +16,6 @@ use Rattle.gcd_history.specs.Groups.{member_of, enters, count}
 use Rattle.gcd_history.specs.Holds.{hold, hold_after}
 use Rattle.gcd_history.specs.Misuses.{retains}
 use Rattle.gcd_history.specs.Semas.{signals, waits}
-use Rattle.gcd_history.specs.Sources.{is_live_feed}
 use Rattle.gcd_history.specs.Timers.{now, may_tick}
 use Rattle.gcd_history.specs.Parked.{parked_by}
 use Rattle.gcd_history.specs.Permitted.{IsLawful, is_barrier_on}

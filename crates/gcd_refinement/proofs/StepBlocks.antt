@@ -1,5 +1,5 @@
 -- What each block has come to after an event.
-use Rattle.std.proofs.Common.{◌≡◌, ℕ, zero, suc, ◌+◌, ◌<◌, ◌≤◌, ◌==◌, ltb, Bool, true, false, ◌||◌, cond, List, [], ◌∷◌, length, get_or, find, Option, Some, None, is_some, refl, ap, sym, ◌∙◌, subst, arith, ⊎_elim, eq-eqb, ne_eqb, option_map}
+use Rattle.std.proofs.Common.{◌≡◌, ℕ, zero, suc, ◌+◌, ◌<◌, ◌≤◌, ◌==◌, ltb, true, false, ◌||◌, cond, List, [], ◌∷◌, length, get_or, find, Option, Some, None, refl, ap, sym, ◌∙◌, subst, arith, ⊎_elim, eq-eqb, ne_eqb, option_map}
 use Rattle.std.specs.List.{fold, count_by, slice_get}
 use Rattle.std.specs.Option.{option_map_or, option_and_then, option_or}
 use Rattle.std.proofs.lemmas.Bool.{cases_eq, cases_lt, and_parts, ltb-true}
@@ -22,8 +22,8 @@ use Rattle.gcd_history.specs.Runs.{same_run, act_at, acts_done, is_started, is_e
 use Rattle.gcd_history.specs.Submitted.{submitted, new_submissions, submission_of}
 use Rattle.gcd_history.specs.Permitted.{IsLawful, is_worker, has_block}
 use Rattle.gcd_history.proofs.Counts.{count_unfound}
-use Rattle.gcd_history.proofs.Lists.{any_from_find, none_found}
-use Rattle.gcd_plan.proofs.Sums.{count_by-cons, count_by-append, count_by_some}
+use Rattle.gcd_history.proofs.Lists.{none_found}
+use Rattle.gcd_plan.proofs.Sums.{count_by-cons, count_by-append}
 use Rattle.gcd_history.proofs.Reasons.{allowed, at_start}
 use Rattle.gcd_history.proofs.SubmittedOnNodes.{recorded_fits}
 use Rattle.gcd_history.proofs.SubmittedOnce.{is_of, submitted_once, submitted_within, unstarted_step}

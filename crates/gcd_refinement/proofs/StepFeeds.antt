@@ -1,22 +1,16 @@
 -- Which read sources are live after an event, and so all numbers and flags of the whole.
-use Rattle.std.proofs.Common.{◌≡◌, ℕ, zero, suc, ◌+◌, ◌<◌, ◌≤◌, ◌==◌, Bool, true, false, not, ◌&&◌, ◌||◌, cond, List, ◌∷◌, length, Option, Some, None, refl, ap, sym, ◌∙◌, arith, ◌⊎◌, inl, inr, ⊎_elim, eq-eqb, ne_eqb, ◌≢◌, set, get_or}
-use Rattle.std.specs.List.{count_by, range_with_len}
-use Rattle.std.specs.Option.{option_map_or}
+use Rattle.std.proofs.Common.{◌≡◌, ℕ, ◌<◌, ◌==◌, Bool, true, false, not, ◌&&◌, ◌||◌, cond, List, ◌∷◌, length, Option, Some, None, refl, ap, sym, ◌∙◌, arith, ◌⊎◌, inl, inr, ne_eqb, ◌≢◌, set, get_or}
 use Rattle.std.proofs.lemmas.Bool.{cases_eq}
 use Rattle.gcd_plan.specs.PlanView.{PlanView}
 use Rattle.gcd_plan.specs.Kinds.{has_kind, is_read_kind}
 use Rattle.gcd_plan.specs.Validity.{IsPlan}
-use Rattle.gcd_plan.specs.declared.act.Act.{Act}
-use Rattle.gcd_plan.specs.declared.act.Act.TheVariants.{Activate, Resume}
 use Rattle.gcd_plan.specs.declared.numbers.Obj.{Obj}
 use Rattle.gcd_event.specs.declared.event.Event.{Event}
-use Rattle.gcd_event.specs.declared.event.Event.TheVariants.{Act as Acted, FeedEnd}
 use Rattle.gcd_history.specs.Runs.{act_of}
-use Rattle.gcd_history.specs.Submitted.{cancels, cancelled_by, is_cancelled}
+use Rattle.gcd_history.specs.Submitted.{cancels, is_cancelled}
 use Rattle.gcd_history.specs.Holds.{is_active}
 use Rattle.gcd_history.specs.Sources.{is_live_feed}
 use Rattle.gcd_history.specs.Permitted.{IsLawful}
-use Rattle.gcd_plan.proofs.Sums.{count_by-cons}
 use Rattle.gcd_history.proofs.Reasons.{allowed}
 use Rattle.gcd_refinement.specs.MachineView.{MachineView, live_at}
 use Rattle.gcd_refinement.specs.Shape.{PartsFit, OwnFit}
@@ -26,7 +20,7 @@ use Rattle.gcd_refinement.specs.After.{live_begun, live_ended, live_after, is_mi
 use Rattle.gcd_refinement.proofs.StepHolds.{fits_at}
 use Rattle.gcd_refinement.proofs.StepTimers.{is_obj, newly_by, newly_ended, cancels_low, newly_low, activated_low}
 use Rattle.gcd_refinement.proofs.StepSubmits.{submits_are}
-use Rattle.gcd_refinement.proofs.StepTotals.{summed, no_misuse_yet, no_halt_yet, is_misuse_last, is_halt_last, running_step, left_step}
+use Rattle.gcd_refinement.proofs.StepTotals.{no_misuse_yet, no_halt_yet, is_misuse_last, is_halt_last, running_step, left_step}
 use Rattle.std.proofs.Math.Bool.{and-true, and-false}
 use Rattle.gcd_source.specs.SourcesView.{is_cancelled_at}
 use Rattle.gcd_refinement.proofs.Writes.{entry_set}

@@ -1,11 +1,13 @@
 -- Which objects have to be looked at after an event.
-use Rattle.std.proofs.Common.{◌≡◌, ℕ, ◌+◌, ◌-◌, ◌<◌, ◌==◌, ltb, Bool, true, false, ◌||◌, cond, List, [], ◌∷◌, ◌++◌, length, map, drop, filter, get_or, set, Option, Some, None, refl, ap, sym, ◌∙◌, arith, ⊎_elim, eq-eqb, ne_eqb}
-use Rattle.std.specs.List.{fold, list_any, list_all, slice_get, count_by, range_with_len}
+use Rattle.std.proofs.Common.{◌≡◌, ℕ, ◌+◌, ◌-◌, ◌<◌, ◌≤◌, ◌==◌, ltb, Bool, true, false, ◌||◌, cond, List, [], ◌∷◌, ◌++◌, length, map, drop, filter, get_or, set, Option, Some, None, refl, ap, sym, ◌∙◌, arith, ⊎_elim, eq-eqb, ne_eqb, option_map}
+use Rattle.std.specs.List.{fold, list_any, list_all, slice_get}
 use Rattle.std.specs.Option.{option_map_or}
-use Rattle.std.proofs.lemmas.Bool.{cases_eq, and_parts, or_parts, both_ways, ltb-false}
-use Rattle.std.proofs.lemmas.List.{append-nil, length-set, nil_from_length}
-use Rattle.gcd_plan.specs.PlanView.{PlanView, kind_of}
-use Rattle.gcd_plan.specs.Kinds.{has_kind, is_source, is_source_kind, is_read_kind, is_merge_kind, is_timer_kind}
+use Rattle.std.proofs.lemmas.Bool.{cases_eq, cases_lt, and_parts, or_parts, both_ways, ltb-false}
+use Rattle.std.proofs.lemmas.List.{append-nil, length-set, nil_from_length, get_or_past}
+use Rattle.std.proofs.lemmas.List.FromFn.{length-map-range_with_len, get_or-map-range_with_len}
+use Rattle.std.proofs.lemmas.Option.{slice_get_past}
+use Rattle.gcd_plan.specs.PlanView.{PlanView, ObjView, kind_of}
+use Rattle.gcd_plan.specs.Kinds.{has_kind, is_source, is_source_kind, is_read_kind, is_merge_kind}
 use Rattle.gcd_plan.specs.Validity.{IsPlan}
 use Rattle.gcd_plan.specs.declared.act.Act.{Act}
 use Rattle.gcd_plan.specs.declared.act.Act.TheVariants.{Merge}
@@ -18,21 +20,20 @@ use Rattle.gcd_history.specs.declared.submission.Submission.{Submission}
 use Rattle.gcd_history.specs.Runs.{act_of}
 use Rattle.gcd_history.specs.Submitted.{submitted, new_submissions}
 use Rattle.gcd_history.specs.Sources.{fold_of, fold_at, merged_by as merged_in, new_inputs, pending}
-use Rattle.gcd_history.specs.Timers.{now, is_due}
 use Rattle.gcd_history.specs.Permitted.{IsLawful, is_worker, is_on, waits_on}
 use Rattle.gcd_history.proofs.Counts.{find_first}
 use Rattle.gcd_history.proofs.Fitting.{has_object}
 use Rattle.gcd_history.proofs.Reasons.{allowed}
 use Rattle.gcd_history.proofs.SubmittedOnNodes.{on_a_node, recorded_fits}
 use Rattle.gcd_lists.specs.ListsView.{list_at}
-use Rattle.gcd_refinement.specs.MachineView.{MachineView, block_at, busy_at}
+use Rattle.gcd_source.specs.SourcesView.{pending_at}
+use Rattle.gcd_timer.specs.TimersView.{due_count_at}
+use Rattle.gcd_refinement.specs.MachineView.{MachineView, block_at, handler_at, busy_at}
 use Rattle.gcd_refinement.specs.Shape.{PartsFit, OwnFit}
 use Rattle.gcd_refinement.specs.Ties.{ListsAre, GroupsAre, BlocksAre, SourcesAre, MarksAre, waiter}
-use Rattle.gcd_refinement.specs.After.{popped, pushed, begun, lists_after, pending_in, marked, stays_busy, unmarked, busy_by, busy_at_event, after}
+use Rattle.gcd_refinement.specs.After.{popped, pushed, begun, lists_after, pending_in, ticked, marked, stays_busy, unmarked, busy_by, has_due, busy_at_event, after}
 use Rattle.gcd_refinement.proofs.Writes.{entry_set}
-use Rattle.gcd_refinement.proofs.DueTimes.{no_dues}
 use Rattle.gcd_refinement.proofs.StepLists.{is_within, node_within, pushed_all, new_fit, lists_step}
-use Rattle.gcd_refinement.proofs.StepSources.{intervals_counted}
 use Rattle.gcd_refinement.proofs.StepSubmits.{submits_are}
 use Rattle.gcd_refinement.proofs.StepTold.{nothing_mapped}
 
@@ -73,35 +74,32 @@ none_passes p (x ∷ xs) h =
 -- ## An object that has not to be looked at
 
 -- by the view, what waits there, and by the history, what is pending
-record Quiet (plan : PlanView) (waits : List (Blk × Bool)) (value o : ℕ) : Type 0 where
+record Quiet (waits : List (Blk × Bool)) (value : ℕ) : Type 0 where
   list : waits ≡ []
   pend : value ≡ 0
-  timer : has_kind is_timer_kind plan o ≡ false
 
-quiet_now : (plan : PlanView) (l1 l2 : List (Blk × Bool)) (p1 p2 o : ℕ) → l2 ≡ l1 → p2 ≡ p1 → Quiet plan l1 p1 o → Quiet plan l2 p2 o
-quiet_now plan l1 l2 p1 p2 o a b quiet = record { list = a ∙ quiet.list; pend = b ∙ quiet.pend; timer = quiet.timer }
+quiet_now : (l1 l2 : List (Blk × Bool)) (p1 p2 : ℕ) → l2 ≡ l1 → p2 ≡ p1 → Quiet l1 p1 → Quiet l2 p2
+quiet_now l1 l2 p1 p2 a b quiet = record { list = a ∙ quiet.list; pend = b ∙ quiet.pend }
 
 pub none_first : {X : Type 0} (xs : List X) → slice_get xs 0 ≡ None → xs ≡ []
 none_first [] h = refl
 none_first (x ∷ xs) h = cc
 
-quiet_old : (plan : PlanView) (past : List Event) (v : MachineView) (o : ℕ) → ListsAre plan past v → MarksAre plan past v → busy_at v o ≡ false → Quiet plan (list_at v.lists o) (pending plan past o) o
+quiet_old : (plan : PlanView) (past : List Event) (v : MachineView) (o : ℕ) → ListsAre plan past v → MarksAre plan past v → busy_at v o ≡ false → Quiet (list_at v.lists o) (pending plan past o)
 quiet_old plan past v o lists ties off =
     let idle = ties.idle o off in
     record {
       list = lists.waiting o ∙ ap (map waiter) (none_first (filter (waits_on past o) (submitted plan past)) (sym (find_first (waits_on past o) (submitted plan past)) ∙ idle.nothing_waits));
       pend = idle.nothing_pends;
-      timer = idle.no_timer;
     }
 
 -- what stays idle after a Start or a Deliver
-idle_still : (plan : PlanView) (waiting pend o : ℕ) → stays_busy plan waiting pend o ≡ false → (waiting ≡ 0) × (pend ≡ 0) × (has_kind is_timer_kind plan o ≡ false)
-idle_still plan waiting pend o h =
-    let one = or_parts (ltb 0 waiting) _ h in
-    let two = or_parts (ltb 0 pend) _ one.1 in
-    let a = ltb-false 0 waiting one.0 in
-    let b = ltb-false 0 pend two.0 in
-    (omega (arith, a), omega (arith, b), two.1)
+idle_still : (waiting pend : ℕ) → stays_busy waiting pend ≡ false → (waiting ≡ 0) × (pend ≡ 0)
+idle_still waiting pend h =
+    let parts = or_parts (ltb 0 waiting) (ltb 0 pend) h in
+    let a = ltb-false 0 waiting parts.0 in
+    let b = ltb-false 0 pend parts.1 in
+    (omega (arith, a), omega (arith, b))
 
 drop_short : {X : Type 0} (xs : List X) → length xs - 1 ≡ 0 → drop 1 xs ≡ []
 drop_short [] h = refl
@@ -115,24 +113,24 @@ pub no_value : (plan : PlanView) (o : ℕ) → fold_at plan o [] ≡ 0
 no_value plan o = elim (kind_of plan o) as (λ k. option_map_or (λ kind. fold_of kind []) k 0 ≡ 0) [ None ↦ refl | Some kind ↦ refl ]
 
 abbrev Old : PlanView → List Event → MachineView → ℕ → Type 0
-Old plan past v o = busy_at v o ≡ false → Quiet plan (list_at v.lists o) (pending plan past o) o
+Old plan past v o = busy_at v o ≡ false → Quiet (list_at v.lists o) (pending plan past o)
 
 by_start : (plan : PlanView) (past : List Event) (w : ℕ) (b : Blk) (v : MachineView) (o : ℕ) → PartsFit plan v → OwnFit plan v → SourcesAre plan past v → Old plan past v o
-    → get_or (unmarked plan v (block_at v b.0).node) o false ≡ false → Quiet plan (list_at (popped v.lists (block_at v b.0).node) o) (pending plan (Start w b ∷ past) o) o
+    → get_or (unmarked v (block_at v b.0).node) o false ≡ false → Quiet (list_at (popped v.lists (block_at v b.0).node) o) (pending plan (Start w b ∷ past) o)
 by_start plan past w b v o fit own sources old off =
-    elim (block_at v b.0).node as (λ m. ((q : Obj) → m ≡ Some q → q.0 < length plan.objects) → get_or (unmarked plan v m) o false ≡ false → Quiet plan (list_at (popped v.lists m) o) (pending plan (Start w b ∷ past) o) o) [
-      | None ↦ λ low h. quiet_now plan (list_at v.lists o) (list_at v.lists o) (pending plan past o) (pending plan (Start w b ∷ past) o) o refl (same_pend plan past o) (old h)
+    elim (block_at v b.0).node as (λ m. ((q : Obj) → m ≡ Some q → q.0 < length plan.objects) → get_or (unmarked v m) o false ≡ false → Quiet (list_at (popped v.lists m) o) (pending plan (Start w b ∷ past) o)) [
+      | None ↦ λ low h. quiet_now (list_at v.lists o) (list_at v.lists o) (pending plan past o) (pending plan (Start w b ∷ past) o) refl (same_pend plan past o) (old h)
       | Some n ↦ λ low h.
           let in_plan = low n refl in
           let wide = own.busy in
           let tall = fit.lists in
-          let stays = stays_busy plan (length (list_at v.lists n.0) - 1) (pending_in v n.0) n.0 in
+          let stays = stays_busy (length (list_at v.lists n.0) - 1) (pending_in v n.0) in
           let write : cond (n.0 == o) stays (busy_at v o) ≡ false = sym (entry_set v.busy n.0 o stays false (omega (arith, in_plan, wide))) ∙ h in
           let list = entry_set v.lists.lists n.0 o (drop 1 (list_at v.lists n.0)) [] (omega (arith, in_plan, tall)) in
           ⊎_elim
           (λ (same : n.0 ≡ o).
           let t = eq-eqb n.0 o same in
-          let idle = idle_still plan (length (list_at v.lists n.0) - 1) (pending_in v n.0) n.0 (sym (ap (λ u. cond u stays (busy_at v o)) t) ∙ write) in
+          let idle = idle_still (length (list_at v.lists n.0) - 1) (pending_in v n.0) (sym (ap (λ u. cond u stays (busy_at v o)) t) ∙ write) in
           let sum = sources.pending n.0 in
           let less = sources.taken n.0 in
           let none = idle.1 in
@@ -140,39 +138,37 @@ by_start plan past w b v o fit own sources old off =
           record {
             list = list ∙ (ap (λ u. cond u (drop 1 (list_at v.lists n.0)) (list_at v.lists o)) t ∙ drop_short (list_at v.lists n.0) idle.0);
             pend = same_pend plan past o ∙ (ap (pending plan past) (sym same) ∙ zero_now);
-            timer = ap (has_kind is_timer_kind plan) (sym same) ∙ idle.2;
           })
           (λ (other : n.0 ≡ o → ⊥).
           let t = ne_eqb n.0 o other in
-          quiet_now plan (list_at v.lists o) (list_at (popped v.lists (Some n)) o) (pending plan past o) (pending plan (Start w b ∷ past) o) o
+          quiet_now (list_at v.lists o) (list_at (popped v.lists (Some n)) o) (pending plan past o) (pending plan (Start w b ∷ past) o)
           (list ∙ ap (λ u. cond u (drop 1 (list_at v.lists n.0)) (list_at v.lists o)) t) (same_pend plan past o) (old (sym (ap (λ u. cond u stays (busy_at v o)) t) ∙ write)))
           (cases_eq n.0 o)
     ] (own.nodes b.0) off
 
 by_deliver : (plan : PlanView) (past : List Event) (w : ℕ) (s : Obj) (v : MachineView) (o : ℕ) → s.0 < length plan.objects → OwnFit plan v → Old plan past v o
-    → get_or (set v.busy s.0 (stays_busy plan (length (list_at v.lists s.0)) 0 s.0)) o false ≡ false → Quiet plan (list_at v.lists o) (pending plan (Deliver w s ∷ past) o) o
+    → get_or (set v.busy s.0 (stays_busy (length (list_at v.lists s.0)) 0)) o false ≡ false → Quiet (list_at v.lists o) (pending plan (Deliver w s ∷ past) o)
 by_deliver plan past w s v o low own old off =
     let wide = own.busy in
-    let stays = stays_busy plan (length (list_at v.lists s.0)) 0 s.0 in
+    let stays = stays_busy (length (list_at v.lists s.0)) 0 in
     let write : cond (s.0 == o) stays (busy_at v o) ≡ false = sym (entry_set v.busy s.0 o stays false (omega (arith, low, wide))) ∙ off in
     ⊎_elim
     (λ (same : s.0 ≡ o).
     let t = eq-eqb s.0 o same in
-    let idle = idle_still plan (length (list_at v.lists s.0)) 0 s.0 (sym (ap (λ u. cond u stays (busy_at v o)) t) ∙ write) in
+    let idle = idle_still (length (list_at v.lists s.0)) 0 (sym (ap (λ u. cond u stays (busy_at v o)) t) ∙ write) in
     record {
       list = ap (list_at v.lists) (sym same) ∙ nil_from_length (list_at v.lists s.0) idle.0;
       pend = ap (λ u. fold_at plan o (cond u [] (new_inputs plan past o ++ []))) t ∙ no_value plan o;
-      timer = ap (has_kind is_timer_kind plan) (sym same) ∙ idle.2;
     })
     (λ (other : s.0 ≡ o → ⊥).
     let t = ne_eqb s.0 o other in
-    quiet_now plan (list_at v.lists o) (list_at v.lists o) (pending plan past o) (pending plan (Deliver w s ∷ past) o) o refl
+    quiet_now (list_at v.lists o) (list_at v.lists o) (pending plan past o) (pending plan (Deliver w s ∷ past) o) refl
     (ap (λ u. fold_at plan o (cond u [] (new_inputs plan past o ++ []))) t ∙ same_pend plan past o) (old (sym (ap (λ u. cond u stays (busy_at v o)) t) ∙ write)))
     (cases_eq s.0 o)
 
 -- an input at source s, which is marked
 by_input : (plan : PlanView) (past : List Event) (e : Event) (s : ℕ) (more : List ℕ) (v : MachineView) (o : ℕ) → s < length plan.objects → OwnFit plan v → Old plan past v o
-    → get_or (set v.busy s true) o false ≡ false → pending plan (e ∷ past) o ≡ fold_at plan o (new_inputs plan past o ++ cond (s == o) more []) → Quiet plan (list_at v.lists o) (pending plan (e ∷ past) o) o
+    → get_or (set v.busy s true) o false ≡ false → pending plan (e ∷ past) o ≡ fold_at plan o (new_inputs plan past o ++ cond (s == o) more []) → Quiet (list_at v.lists o) (pending plan (e ∷ past) o)
 by_input plan past e s more v o low own old off pend =
     let wide = own.busy in
     let write : cond (s == o) true (busy_at v o) ≡ false = sym (entry_set v.busy s o true false (omega (arith, low, wide))) ∙ off in
@@ -180,19 +176,19 @@ by_input plan past e s more v o low own old off pend =
     (λ (same : s ≡ o). absurd (both_ways true (sym (ap (λ u. cond u true (busy_at v o)) (eq-eqb s o same)) ∙ write) refl))
     (λ (other : s ≡ o → ⊥).
     let t = ne_eqb s o other in
-    quiet_now plan (list_at v.lists o) (list_at v.lists o) (pending plan past o) (pending plan (e ∷ past) o) o refl
+    quiet_now (list_at v.lists o) (list_at v.lists o) (pending plan past o) (pending plan (e ∷ past) o) refl
     (pend ∙ (ap (λ u. fold_at plan o (new_inputs plan past o ++ cond u more [])) t ∙ same_pend plan past o)) (old (sym (ap (λ u. cond u true (busy_at v o)) t) ∙ write)))
     (cases_eq s o)
 
 by_act : (plan : PlanView) (past : List Event) (w : ℕ) (r : Run) (i : ℕ) (v : MachineView) (o : ℕ) (act : Option Act) → act_of plan (Acted w r i) ≡ act → IsPlan plan → OwnFit plan v → Old plan past v o
-    → get_or (busy_by v.busy act) o false ≡ false → Quiet plan (list_at v.lists o) (pending plan (Acted w r i ∷ past) o) o
+    → get_or (busy_by v.busy act) o false ≡ false → Quiet (list_at v.lists o) (pending plan (Acted w r i ∷ past) o)
 by_act plan past w r i v o (Some (Merge s n)) at valid own old off =
     let low = has_object is_merge_kind plan s.0 (and_parts (has_kind is_merge_kind plan s.0) _ (recorded_fits plan (Acted w r i) (Merge s n) valid at)).0 in
     let is = ap (λ a. fold_at plan o (new_inputs plan past o ++ merged_in o a)) at in
     ⊎_elim
     (λ (none : n ≡ 0).
     let t = eq-eqb n 0 none in
-    quiet_now plan (list_at v.lists o) (list_at v.lists o) (pending plan past o) (pending plan (Acted w r i ∷ past) o) o refl
+    quiet_now (list_at v.lists o) (list_at v.lists o) (pending plan past o) (pending plan (Acted w r i ∷ past) o) refl
     (is ∙ (ap (λ u. fold_at plan o (new_inputs plan past o ++ cond (s.0 == o) (cond u [] (n ∷ [])) [])) t
     ∙ (elim (s.0 == o) as (λ u. fold_at plan o (new_inputs plan past o ++ cond u [] []) ≡ fold_at plan o (new_inputs plan past o ++ [])) [ true ↦ refl | false ↦ refl ] ∙ same_pend plan past o)))
     (old (sym (ap (λ u. get_or (cond u v.busy (set v.busy s.0 true)) o false) t) ∙ off)))
@@ -202,34 +198,57 @@ by_act plan past w r i v o (Some (Merge s n)) at valid own old off =
     (is ∙ ap (λ u. fold_at plan o (new_inputs plan past o ++ cond (s.0 == o) (cond u [] (n ∷ [])) [])) t))
     (cases_eq n 0)
 by_act plan past w r i v o act at valid own old off =
-    quiet_now plan (list_at v.lists o) (list_at v.lists o) (pending plan past o) (pending plan (Acted w r i ∷ past) o) o refl
+    quiet_now (list_at v.lists o) (list_at v.lists o) (pending plan past o) (pending plan (Acted w r i ∷ past) o) refl
     (ap (λ a. fold_at plan o (new_inputs plan past o ++ merged_in o a)) at ∙ same_pend plan past o) (old off)
 
-quiet_event : (plan : PlanView) (past : List Event) (e : Event) (v : MachineView) (o : ℕ) → IsPlan plan → IsLawful plan (e ∷ past) → PartsFit plan v → OwnFit plan v → SourcesAre plan past v → Old plan past v o
-    → get_or (busy_at_event plan v e) o false ≡ false → Quiet plan (list_at (begun v e) o) (pending plan (e ∷ past) o) o
-quiet_event plan past (Start w b) v o valid lawful fit own sources old off = by_start plan past w b v o fit own sources old off
-quiet_event plan past (Deliver w s) v o valid lawful fit own sources old off =
+-- a timer that is not marked at a Tick has no due time that no delivery took
+by_tick : (plan : PlanView) (past : List Event) (t : ℕ) (v : MachineView) (o : ℕ) → OwnFit plan v → SourcesAre plan past v → SourcesAre plan (Tick t ∷ past) (after plan v (Tick t)) → Old plan past v o
+    → get_or (busy_at_event plan v (Tick t)) o false ≡ false → Quiet (list_at v.lists o) (pending plan (Tick t ∷ past) o)
+by_tick plan past t v o own sources next old off =
+    ⊎_elim
+    (λ (low : o < length v.busy).
+    let told : get_or (busy_at_event plan v (Tick t)) o false ≡ (busy_at v o || has_due (ticked v.timers (Tick t)) v.handlers o) =
+    get_or-map-range_with_len (λ s. get_or v.busy s false || has_due (ticked v.timers (Tick t)) v.handlers s) 0 (length v.busy) o o false low (omega arith) in
+    let parts = or_parts (busy_at v o) (has_due (ticked v.timers (Tick t)) v.handlers o) (sym told ∙ off) in
+    let quiet = old parts.0 in
+    let none = quiet.pend in
+    let taken = ltb-false (handler_at v o).taken (due_count_at (ticked v.timers (Tick t)) o) parts.1 in
+    let before = sources.pending o in
+    let less = sources.taken o in
+    let now_pending : pending_at v.sources o + due_count_at (ticked v.timers (Tick t)) o ≡ (handler_at v o).taken + pending plan (Tick t ∷ past) o = next.pending o in
+    record { list = quiet.list; pend = omega (arith, none, taken, before, less, now_pending) })
+    (λ (high : length v.busy ≤ o).
+    let quiet = old (get_or_past v.busy o false high) in
+    let wide = own.busy in
+    let past_end : length plan.objects ≤ o = omega (arith, high, wide) in
+    record {
+      list = quiet.list;
+      pend = ap (λ obj. option_map_or (λ kind. fold_of kind (new_inputs plan (Tick t ∷ past) o)) (option_map (λ (x : ObjView). x.kind) obj) 0) (slice_get_past plan.objects o past_end);
+    })
+    (cases_lt o (length v.busy))
+
+quiet_event : (plan : PlanView) (past : List Event) (e : Event) (v : MachineView) (o : ℕ) → IsPlan plan → IsLawful plan (e ∷ past) → PartsFit plan v → OwnFit plan v → SourcesAre plan past v → SourcesAre plan (e ∷ past) (after plan v e) → Old plan past v o
+    → get_or (busy_at_event plan v e) o false ≡ false → Quiet (list_at (begun v e) o) (pending plan (e ∷ past) o)
+quiet_event plan past (Start w b) v o valid lawful fit own sources next old off = by_start plan past w b v o fit own sources old off
+quiet_event plan past (Deliver w s) v o valid lawful fit own sources next old off =
     by_deliver plan past w s v o (has_object is_source_kind plan s.0 (and_parts (is_worker w) (is_source plan s.0) (allowed plan past (Deliver w s) lawful.1).known).1) own old off
-quiet_event plan past (Ready s n) v o valid lawful fit own sources old off =
+quiet_event plan past (Ready s n) v o valid lawful fit own sources next old off =
     by_input plan past (Ready s n) s.0 (n ∷ []) v o (has_object is_read_kind plan s.0 (and_parts (has_kind is_read_kind plan s.0) _ (allowed plan past (Ready s n) lawful.1).known).0) own old off refl
-quiet_event plan past (Tick t) v o valid lawful fit own sources old off =
-    let quiet = old off in
-    let none = no_dues plan past o (now past + 1) (t - now past) quiet.timer in
-    let more : pending plan (Tick t ∷ past) o ≡ pending plan past o + count_by (is_due plan past o) (range_with_len (now past + 1) (t - now past)) = intervals_counted plan past o t in
-    quiet_now plan (list_at v.lists o) (list_at v.lists o) (pending plan past o) (pending plan (Tick t ∷ past) o) o refl (omega (arith, none, more)) quiet
-quiet_event plan past (Acted w r i) v o valid lawful fit own sources old off = by_act plan past w r i v o (act_of plan (Acted w r i)) refl valid own old off
-quiet_event plan past e v o valid lawful fit own sources old off =
-    quiet_now plan (list_at v.lists o) (list_at v.lists o) (pending plan past o) (pending plan (e ∷ past) o) o refl (same_pend plan past o) (old off)
+quiet_event plan past (Tick t) v o valid lawful fit own sources next old off = by_tick plan past t v o own sources next old off
+quiet_event plan past (Acted w r i) v o valid lawful fit own sources next old off = by_act plan past w r i v o (act_of plan (Acted w r i)) refl valid own old off
+quiet_event plan past e v o valid lawful fit own sources next old off =
+    quiet_now (list_at v.lists o) (list_at v.lists o) (pending plan past o) (pending plan (e ∷ past) o) refl (same_pend plan past o) (old off)
 
 -- ## The step
 
 pub event_long : (plan : PlanView) (v : MachineView) (e : Event) → length (busy_at_event plan v e) ≡ length v.busy
 event_long plan v (Start w b) = by (block_at v b.0).node
   where
-    by : (m : Option Obj) → length (unmarked plan v m) ≡ length v.busy
+    by : (m : Option Obj) → length (unmarked v m) ≡ length v.busy
     by None = refl
-    by (Some n) = length-set v.busy n.0 (stays_busy plan (length (list_at v.lists n.0) - 1) (pending_in v n.0) n.0)
-event_long plan v (Deliver w s) = length-set v.busy s.0 (stays_busy plan (length (list_at v.lists s.0)) 0 s.0)
+    by (Some n) = length-set v.busy n.0 (stays_busy (length (list_at v.lists n.0) - 1) (pending_in v n.0))
+event_long plan v (Deliver w s) = length-set v.busy s.0 (stays_busy (length (list_at v.lists s.0)) 0)
+event_long plan v (Tick t) = length-map-range_with_len (λ s. get_or v.busy s false || has_due (ticked v.timers (Tick t)) v.handlers s) 0 (length v.busy)
 event_long plan v (Ready s n) = length-set v.busy s.0 true
 event_long plan v (Acted w r i) = by (act_of plan (Acted w r i))
   where
@@ -246,9 +265,9 @@ begun_long v (Start w b) = by (block_at v b.0).node
     by (Some n) = length-set v.lists.lists n.0 (drop 1 (list_at v.lists n.0))
 begun_long v e = refl
 
-pub marks_step : (plan : PlanView) (past : List Event) (e : Event) (v : MachineView) → IsPlan plan → IsLawful plan (e ∷ past) → PartsFit plan v → OwnFit plan v → GroupsAre plan past v → BlocksAre plan past v → SourcesAre plan past v → ListsAre plan past v
+pub marks_step : (plan : PlanView) (past : List Event) (e : Event) (v : MachineView) → IsPlan plan → IsLawful plan (e ∷ past) → PartsFit plan v → OwnFit plan v → GroupsAre plan past v → BlocksAre plan past v → SourcesAre plan past v → SourcesAre plan (e ∷ past) (after plan v e) → ListsAre plan past v
     → MarksAre plan past v → MarksAre plan (e ∷ past) (after plan v e)
-marks_step plan past e v valid lawful fit own groups blocks sources lists ties =
+marks_step plan past e v valid lawful fit own groups blocks sources sources_now lists ties =
     let new = new_submissions plan past e in
     let same = submits_are plan past e v valid lawful fit own groups blocks sources in
     let next = lists_step plan past e v valid lawful fit own groups blocks sources lists in
@@ -258,7 +277,7 @@ marks_step plan past e v valid lawful fit own groups blocks sources lists ties =
           let all : (list_any (is_on o) new || get_or (busy_at_event plan v e) o false) ≡ false =
           sym (marked_all plan (busy_at_event plan v e) new o (event_long plan v e ∙ own.busy) fits) ∙ (ap (λ l. get_or (fold marked (busy_at_event plan v e) l) o false) (sym same) ∙ off) in
           let parts = or_parts (list_any (is_on o) new) (get_or (busy_at_event plan v e) o false) all in
-          let quiet = quiet_event plan past e v o valid lawful fit own sources (λ h. quiet_old plan past v o lists ties h) parts.1 in
+          let quiet = quiet_event plan past e v o valid lawful fit own sources sources_now (λ h. quiet_old plan past v o lists ties h) parts.1 in
           let empty : list_at (lists_after plan v e) o ≡ [] =
           ap (λ l. list_at (fold pushed (begun v e) l) o) same
           ∙ (pushed_all plan (begun v e) new o (begun_long v e ∙ fit.lists) fits
@@ -267,6 +286,5 @@ marks_step plan past e v valid lawful fit own groups blocks sources lists ties =
           record {
             nothing_waits = find_first (waits_on (e ∷ past) o) (submitted plan (e ∷ past)) ∙ ap (λ l. slice_get l 0) (nothing_mapped waiter (filter (waits_on (e ∷ past) o) (submitted plan (e ∷ past))) (sym (next.waiting o) ∙ empty));
             nothing_pends = quiet.pend;
-            no_timer = quiet.timer;
           };
     }

@@ -210,6 +210,7 @@ own_step plan past e v valid lawful own blocks workers =
       ended = ended_long v e ∙ own.ended;
       due = due_long (come_by plan v e) (woken v.due e) ∙ (woken_long v.due e ∙ own.due);
       handlers = handlers_long v e ∙ own.handlers;
+      timed = own.timed;
       busy = all_marked_long (submits plan v e) (busy_at_event plan v e) ∙ (event_long plan v e ∙ own.busy);
       live = live_long plan v e ∙ own.live;
       workers = workers_long plan v e ∙ own.workers;

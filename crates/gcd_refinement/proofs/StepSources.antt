@@ -142,7 +142,7 @@ ones kind sums a (y ∷ ys) =
     let here = sums a 1 in
     omega (arith, rest, here)
 
-pub intervals_counted : (plan : PlanView) (past : List Event) (s t : ℕ)
+intervals_counted : (plan : PlanView) (past : List Event) (s t : ℕ)
     → fold_at plan s (new_inputs plan past s ++ due_inputs plan past s (now past) t) ≡ pending plan past s + count_by (is_due plan past s) (range_with_len (now past + 1) (t - now past))
 intervals_counted plan past s t =
     let xs = new_inputs plan past s in

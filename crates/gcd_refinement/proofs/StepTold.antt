@@ -1,7 +1,7 @@
 -- Groups after an event: all that is known of them.
 use Rattle.std.proofs.Common.{◌≡◌, ℕ, suc, ◌+◌, ◌<◌, ◌≤◌, ◌==◌, leb, ltb, Bool, true, false, ◌&&◌, ◌||◌, cond, List, [], ◌∷◌, ◌++◌, length, map, Option, Some, refl, ap, sym, ◌∙◌, arith, ⊎_elim, eq-eqb, ne_eqb}
-use Rattle.std.specs.List.{count_by, sum_by, flat_map, range_with_len}
-use Rattle.std.proofs.lemmas.Bool.{cases_eq, cases_lt, and_parts, false_from_ne_true, leb-true, le-leb, lt-ltb, le-ltb, ltb-true}
+use Rattle.std.specs.List.{count_by, flat_map, range_with_len}
+use Rattle.std.proofs.lemmas.Bool.{cases_eq, cases_lt, and_parts, false_from_ne_true, leb-true, le-leb, lt-ltb, ltb-true}
 use Rattle.std.proofs.lemmas.List.{map-append, get_or_past}
 use Rattle.gcd_plan.specs.PlanView.{PlanView}
 use Rattle.gcd_plan.specs.Kinds.{has_kind, is_group_kind, is_queue}
@@ -21,7 +21,7 @@ use Rattle.gcd_history.proofs.Fitting.{has_object}
 use Rattle.gcd_plan.proofs.Sums.{count_by-cons, count_by-append}
 use Rattle.gcd_history.proofs.SubmittedOnNodes.{recorded_fits}
 use Rattle.gcd_history.proofs.SubmittedOnce.{is_of, at_groups, kept_once}
-use Rattle.gcd_history.proofs.Sums.{sum_range_less, term_within}
+use Rattle.gcd_history.proofs.Sums.{term_within}
 use Rattle.gcd_lists.specs.ListsView.{list_at}
 use Rattle.gcd_group.specs.GroupsView.{count_at, emptied_at}
 use Rattle.gcd_refinement.specs.MachineView.{MachineView, block_at}

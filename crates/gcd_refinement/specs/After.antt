@@ -1,9 +1,10 @@
 -- How an event changes each part of the view: by the part's own words where it has one. A misuse and a halt change the flags
 -- and the length alone.
-use Rattle.std.specs.Prelude.{ℕ, zero, suc, ◌+◌, ◌-◌, ◌==◌, nat_lt, Bool, true, false, not, ◌&&◌, ◌||◌, if◌then◌else◌, List, [], ◌∷◌, ◌++◌, length, drop, fold, Option, Some, None, slice_index, slice_index_or, slice_set}
+use Rattle.std.specs.Prelude.{ℕ, zero, suc, ◌+◌, ◌-◌, ◌==◌, nat_lt, Bool, true, false, not, ◌&&◌, ◌||◌, if◌then◌else◌, List, [], ◌∷◌, ◌++◌, length, map, drop, fold, Option, Some, None, slice_index, slice_index_or, slice_set}
 use Rattle.std.specs.Option.{option_map_or}
+use Rattle.std.specs.List.{range_with_len}
 use Rattle.gcd_plan.specs.PlanView.{PlanView}
-use Rattle.gcd_plan.specs.Kinds.{has_kind, is_read_kind, is_timer_kind}
+use Rattle.gcd_plan.specs.Kinds.{has_kind, is_read_kind}
 use Rattle.gcd_plan.specs.declared.act.Act.{Act}
 use Rattle.gcd_plan.specs.declared.act.Act.TheVariants.{Sync, BarrierSync, GroupAsync, Notify, Enter, Leave, GroupWait, Signal, Wait, Suspend, Resume, Activate, Target, Merge, Retain, Release}
 use Rattle.gcd_plan.specs.declared.numbers.Blk.{Blk}
@@ -20,14 +21,14 @@ use Rattle.gcd_history.specs.Submitted.{cancels}
 use Rattle.gcd_history.specs.Parked.{is_parking}
 use Rattle.gcd_lists.specs.ListsView.{ListsView, list_at}
 use Rattle.gcd_tree.specs.TreeView.{TreeView, open_on_at, with_target, with_request, with_open, settled}
-use Rattle.gcd_hold.specs.HoldsView.{HoldsView, hold_at, is_active_at, with_hold, with_active}
+use Rattle.gcd_hold.specs.HoldsView.{HoldsView, hold_at, with_hold, with_active}
 use Rattle.gcd_drain.specs.DrainsView.{DrainsView, barriers_at, with_barriers}
 use Rattle.gcd_group.specs.GroupsView.{GroupsView, count_at, entered_at, due_at as due_of_group, with_one_more, with_one_less, with_entered, with_notify, with_fired}
 use Rattle.gcd_sema.specs.SemasView.{SemasView, signals_at, waits_at, is_passed_at, with_signals, with_waits}
 use Rattle.gcd_sync.specs.WaitsView.{WaitsView, with_reason}
 use Rattle.gcd_source.specs.SourcesView.{SourcesView, pending_at, is_cancelled_at, merged_at, with_pending, with_cancelled as with_cancelled_source}
 use Rattle.gcd_timer.specs.TimersView.{TimersView, due_count_at, with_activated, with_cancelled as with_cancelled_timer}
-use Rattle.gcd_refinement.specs.MachineView.{MachineView, idle, block_at, handler_at}
+use Rattle.gcd_refinement.specs.MachineView.{MachineView, idle, undelivered, block_at, handler_at}
 use Rattle.gcd_refinement.specs.declared.progress.BlockProgress.{BlockProgress}
 use Rattle.gcd_refinement.specs.declared.progress.HandlerProgress.{HandlerProgress}
 use Rattle.gcd_refinement.specs.Submits.{emptied_by, submits, activated_by, newly_cancelled, come_by}
@@ -316,24 +317,33 @@ handlers_after v e = v.handlers
 abbrev pub marked : List Bool → Submission → List Bool
 marked busy s = option_map_or (λ n. slice_set busy n.0 true) s.node busy
 
--- object o has to be looked at still: another block waits there, something is pending, or it is a timer
-abbrev pub stays_busy : PlanView → (waiting pending : ℕ) → ℕ → Bool
-stays_busy plan waiting pending o = nat_lt 0 waiting || (nat_lt 0 pending || has_kind is_timer_kind plan o)
+-- an object has to be looked at still: another block waits there, or something is pending
+abbrev pub stays_busy : (waiting pending : ℕ) → Bool
+stays_busy waiting pending = nat_lt 0 waiting || nat_lt 0 pending
 
 -- the node from which a Start takes a block
-abbrev pub unmarked : PlanView → MachineView → Option Obj → List Bool
-unmarked plan v None = v.busy
-unmarked plan v (Some n) =
-    slice_set v.busy n.0 (stays_busy plan (length (list_at v.lists n.0) - 1) (pending_in v n.0) n.0)
+abbrev pub unmarked : MachineView → Option Obj → List Bool
+unmarked v None = v.busy
+unmarked v (Some n) = slice_set v.busy n.0 (stays_busy (length (list_at v.lists n.0) - 1) (pending_in v n.0))
 
 -- the source of a merge above 0 has to be looked at
 abbrev pub busy_by : List Bool → Option Act → List Bool
 busy_by busy (Some (Merge s n)) = if n == 0 then busy else slice_set busy s.0 true
 busy_by busy _ = busy
 
+-- object s is a timer with a due time that no delivery took
+abbrev pub has_due : TimersView → List HandlerProgress → ℕ → Bool
+has_due timers handlers s = nat_lt (slice_index_or handlers s undelivered).taken (due_count_at timers s)
+
+-- each such timer has to be looked at
+abbrev pub dues_marked : List Bool → TimersView → List HandlerProgress → List Bool
+dues_marked busy timers handlers =
+    map (λ s. slice_index_or busy s false || has_due timers handlers s) (range_with_len 0 (length busy))
+
 abbrev pub busy_at_event : PlanView → MachineView → Event → List Bool
-busy_at_event plan v (Start w b) = unmarked plan v (block_at v b.0).node
-busy_at_event plan v (Deliver w s) = slice_set v.busy s.0 (stays_busy plan (length (list_at v.lists s.0)) 0 s.0)
+busy_at_event plan v (Start w b) = unmarked v (block_at v b.0).node
+busy_at_event plan v (Deliver w s) = slice_set v.busy s.0 (stays_busy (length (list_at v.lists s.0)) 0)
+busy_at_event plan v (Tick t) = dues_marked v.busy (ticked v.timers (Tick t)) v.handlers
 busy_at_event plan v (Ready s n) = slice_set v.busy s.0 true
 busy_at_event plan v e = busy_by v.busy (act_of plan e)
 
@@ -410,6 +420,7 @@ after plan v e = record {
   ended = ended_after v e;
   due = due_after plan v e;
   handlers = handlers_after v e;
+  timed = v.timed;
   busy = busy_after plan v e;
   live = live_after plan v e;
   workers = workers_after plan v e;

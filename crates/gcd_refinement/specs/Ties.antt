@@ -2,9 +2,7 @@
 -- every number, of the plan or not, but where it says so.
 use Rattle.std.specs.Prelude.{◌≡◌, ◌≤◌, ◌<◌, ℕ, ◌+◌, Bool, false, not, List, ◌++◌, length, map, filter, Option, Some, None, count_by, option_and_then}
 use Rattle.std.specs.Option.{option_map_or}
-use Rattle.std.specs.List.{range_with_len}
 use Rattle.gcd_plan.specs.PlanView.{PlanView}
-use Rattle.gcd_plan.specs.Kinds.{has_kind, is_timer_kind}
 use Rattle.gcd_plan.specs.declared.numbers.Blk.{Blk}
 use Rattle.gcd_plan.specs.declared.numbers.Run.{Run}
 use Rattle.gcd_plan.specs.declared.numbers.Run.TheVariants.{Block, Source}
@@ -134,11 +132,10 @@ pub record WakesAre (plan : PlanView) (past : List Event) (v : MachineView) : Ty
   pub due : (b : ℕ) → due_at v b ≡ may_wake plan past b
   pub of_sema : (s : ℕ) → map (λ w. w.0) (list_at v.sleepers s) ≡ sema_sleepers plan past s ++ group_sleepers plan past s
 
--- an object that has not to be looked at: nothing waits there, nothing is pending, and it is no timer
+-- an object that has not to be looked at: nothing waits there, and nothing is pending
 pub record IsIdleObject (plan : PlanView) (past : List Event) (o : ℕ) : Type 0 where
   pub nothing_waits : first_waiting plan past o ≡ None
   pub nothing_pends : pending plan past o ≡ 0
-  pub no_timer : has_kind is_timer_kind plan o ≡ false
 
 -- each object that is not marked is idle; a marked one may be idle too
 pub record MarksAre (plan : PlanView) (past : List Event) (v : MachineView) : Type 0 where

@@ -1,6 +1,7 @@
 -- What the lines of a script declare so far: the plan, and the body that is open (this project's own rules).
 use Rattle.std.specs.Prelude.{ℕ, ◌+◌, Bool, false, List, [], ◌∷◌, Option, None, codes}
 use Rattle.gcd_plan.specs.PlanView.{PlanView, BlkView}
+use Rattle.gcd_plan.specs.Limits.{default_until}
 use Rattle.gcd_plan.specs.Validity.{root_view}
 use Rattle.gcd_plan.specs.declared.numbers.Run.{Run}
 use Rattle.gcd_plan.specs.declared.work.Work.{Work}
@@ -23,10 +24,6 @@ pub record DraftView : Type 0 where
 -- a block as it is declared, with no act yet
 abbrev pub new_block : List ℕ → Option Work → BlkView
 new_block name work = record { name = name; acts = []; work = work }
-
--- the last due time of timers where no line says one, in milliseconds
-abbrev pub default_until : ℕ
-default_until = 1000
 
 -- before the first line: root and main alone
 abbrev pub empty_draft : DraftView

@@ -5,12 +5,9 @@ ghost use Rattle.gcd_script.specs.Drafts.{empty_draft};
 
 use crate::additions::declare;
 use crate::meaning::Meaning;
-use gcd_plan::{BlkPart, Kind, Obj, ObjPart, Parts, Run};
+use gcd_plan::{BlkPart, DEFAULT_UNTIL, Kind, Obj, ObjPart, Parts, Run};
 use std::alloc::{AllocError, Global};
 use std::collections::HashMap;
-
-/// The last due time of timers where no line says one, in milliseconds.
-pub const DEFAULT_UNTIL: u32 = 1_000;
 
 /// What the lines so far declare: the parts of the plan and the open body, and beside them what each name means, which
 /// blocks are submitted and how many acts there are.

@@ -1,5 +1,5 @@
 -- What each step of a turn keeps of one feed.
-use Rattle.std.proofs.Common.{◌≡◌, ◌≤◌, ◌<◌, ◌+◌, ◌∙◌, ◌++◌, ◌||◌, ◌&&◌, ◌==◌, ◌⊎◌, ℕ, Bool, true, false, List, [], ◌∷◌, None, if◌then◌else◌, length, ap, sym, subst, refl, arith, append-nil, append_assoc, eq-eqb, ⊎_elim, inl, inr}
+use Rattle.std.proofs.Common.{◌≡◌, ◌+◌, ◌∙◌, ◌++◌, ◌||◌, ◌&&◌, ◌==◌, ◌⊎◌, ℕ, Bool, true, false, List, [], ◌∷◌, None, if◌then◌else◌, length, ap, sym, subst, refl, arith, append-nil, append_assoc, eq-eqb, ⊎_elim, inl, inr}
 use Rattle.std.specs.Prelude.{Contains}
 use Rattle.std.specs.List.{list_any}
 use Rattle.std.proofs.lemmas.Bool.{both_ways, eqb-true, or_parts, or_right}

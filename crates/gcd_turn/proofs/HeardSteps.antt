@@ -1,27 +1,26 @@
 -- What each step of a turn keeps of what was heard.
-use Rattle.std.proofs.Common.{◌≡◌, ◌≢◌, ◌≤◌, ◌<◌, ◌+◌, ◌∙◌, ◌++◌, ◌||◌, ◌&&◌, ◌==◌, ◌⊎◌, ℕ, Bool, true, false, List, [], ◌∷◌, None, Some, if◌then◌else◌, length, ap, sym, subst, refl, arith, append-nil, append_assoc, drop, eq-eqb, ⊎_elim, inl, inr}
+use Rattle.std.proofs.Common.{◌≡◌, ◌≤◌, ◌+◌, ◌∙◌, ◌++◌, ◌&&◌, ◌==◌, ℕ, Bool, true, false, List, [], ◌∷◌, None, Some, if◌then◌else◌, length, ap, sym, subst, refl, arith, append_assoc, drop, eq-eqb, ⊎_elim}
 use Rattle.std.specs.Prelude.{Contains, nat_le, nat_lt}
-use Rattle.std.specs.List.{list_all, list_any}
-use Rattle.std.proofs.lemmas.Bool.{and_from, and_parts, both_ways, eqb-false, eqb-true}
+use Rattle.std.specs.List.{list_all}
+use Rattle.std.proofs.lemmas.Bool.{and_parts, both_ways, eqb-true}
 use Rattle.std.proofs.lemmas.Bool.Decides.{nat_tests}
 use Rattle.std.proofs.lemmas.List.{length-append, length_push}
 use Rattle.std.proofs.lemmas.List.Elements.{Contains-push_cases}
-use Rattle.std.proofs.lemmas.List.Folds.{list_all-append}
 use Rattle.std.proofs.lemmas.Option.{same_Some}
 use Rattle.gcd_plan.specs.Limits.{max_value}
 use Rattle.gcd_plan.specs.PlanView.{PlanView, path_of}
 use Rattle.gcd_event.specs.declared.event.Event.{Event}
 use Rattle.gcd_event.specs.declared.event.Event.TheVariants.{Start, Act as Acted, Wake, End, Deliver, DeliverEnd, Tick, Ready, FeedEnd, Misuse, Halt}
 use Rattle.gcd_history.specs.History.{is_live_feed, why}
-use Rattle.gcd_outer.specs.Tells.{PollerState, is_empty_answer, is_named}
+use Rattle.gcd_outer.specs.Tells.{PollerState}
 use Rattle.gcd_outer.specs.declared.limits.TheConstants.{MAX_TELL_BYTES}
 use Rattle.gcd_outer.specs.declared.tell.Tell.{Tell}
 use Rattle.gcd_turn.specs.Hearing.{FeedHeard, Heard, MayEnd, is_news}
-use Rattle.gcd_turn.specs.Promises.{WasLive, WatchedBefore, ready_by}
-use Rattle.gcd_turn.specs.Turns.{OutlookView, event_of, first_event, news_of}
+use Rattle.gcd_turn.specs.Promises.{WasLive, ready_by}
+use Rattle.gcd_turn.specs.Turns.{OutlookView, event_of, first_event}
 use Rattle.gcd_turn.proofs.FeedSteps.{feed_dropped, feed_ended, feed_other, feed_ready, more_at, same_for_others, same_news}
 use Rattle.gcd_turn.proofs.HistoryMore.{feed_end_may_come, ready_may_come, was_live_more, was_live_now}
-use Rattle.gcd_turn.proofs.PollSteps.{SameFeed, before_later, before_same, feed_answered, feed_same, feed_watched}
+use Rattle.gcd_turn.proofs.PollSteps.{SameFeed, before_same, feed_same, feed_watched}
 
 -- ## An event more
 

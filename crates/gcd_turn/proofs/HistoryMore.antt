@@ -1,7 +1,6 @@
 -- Histories, an event on: what stays active or cancelled, and where a Ready or a FeedEnd may come.
-use Rattle.std.proofs.Common.{◌≡◌, ◌≤◌, ◌<◌, ◌∙◌, ◌++◌, ◌||◌, ◌&&◌, ◌==◌, ℕ, Bool, true, false, not, List, [], ◌∷◌, Option, None, IsTrue, length, reverse, take, ap, sym, subst, refl, arith, eq-eqb}
+use Rattle.std.proofs.Common.{◌≡◌, ◌∙◌, ◌++◌, ◌&&◌, ◌==◌, ℕ, Bool, true, false, not, List, [], ◌∷◌, None, length, reverse, sym, subst, refl, arith, eq-eqb}
 use Rattle.std.specs.Prelude.{Contains, nat_lt, nat_le}
-use Rattle.std.specs.List.{list_any}
 use Rattle.std.specs.Option.{option_map_or}
 use Rattle.std.proofs.lemmas.Bool.{and_parts, and_from, both_ways, or_left, or_right, not-true, not_from_false}
 use Rattle.std.proofs.lemmas.List.{take-append-le, take_all, length_push}
@@ -11,13 +10,12 @@ use Rattle.gcd_plan.specs.Kinds.{has_kind, is_read_kind}
 use Rattle.gcd_plan.specs.Limits.{max_value}
 use Rattle.gcd_plan.specs.declared.numbers.Obj.{Obj}
 use Rattle.gcd_plan.specs.StartRule.{first_of}
-use Rattle.gcd_plan.specs.declared.why.Why.{Why}
 use Rattle.gcd_plan.specs.declared.why.Why.TheVariants.{Over, NoSuch, NotLive}
 use Rattle.gcd_event.specs.declared.event.Event.{Event}
 use Rattle.gcd_event.specs.declared.event.Event.TheVariants.{Ready, FeedEnd, Halt}
-use Rattle.gcd_history.specs.Ends.{IsHalted, is_halted}
+use Rattle.gcd_history.specs.Ends.{is_halted}
 use Rattle.gcd_history.specs.History.{is_active, is_cancelled, is_live_feed, why}
-use Rattle.gcd_history.specs.Permitted.{is_feed, is_halt, is_misuse, is_halted as is_halted_after, why as why_after}
+use Rattle.gcd_history.specs.Permitted.{is_feed, is_halted as is_halted_after}
 use Rattle.gcd_history.specs.Sources.{is_live_feed as is_live_after}
 use Rattle.gcd_history.specs.Submitted.{cancels}
 use Rattle.gcd_history.proofs.Lists.{list_any-reverse, reverse_push}

@@ -1,21 +1,20 @@
 -- What is promised of the outside follows from what holds between the turns.
-use Rattle.std.proofs.Common.{◌≡◌, ◌≤◌, ◌<◌, ◌+◌, ◌∙◌, ◌++◌, ◌⊎◌, ℕ, Bool, true, false, List, [], ◌∷◌, None, length, ap, sym, subst, refl, arith, drop, min, ⊎_elim, inl, inr}
+use Rattle.std.proofs.Common.{◌≡◌, ◌≤◌, ◌<◌, ◌∙◌, ◌++◌, ℕ, true, List, [], ◌∷◌, None, length, ap, sym, subst, refl, arith, drop, ⊎_elim, inl}
 use Rattle.std.specs.Prelude.{Contains}
 use Rattle.std.proofs.lemmas.Bool.{both_ways}
-use Rattle.std.proofs.lemmas.List.{drop_at, length_push}
-use Rattle.std.proofs.lemmas.List.Elements.{Contains-push, Contains-push_cases}
+use Rattle.std.proofs.lemmas.List.{drop_at}
+use Rattle.std.proofs.lemmas.List.Elements.{Contains-push_cases}
 use Rattle.gcd_plan.specs.Limits.{max_events}
-use Rattle.gcd_plan.specs.PlanView.{PlanView, path_of}
-use Rattle.gcd_plan.specs.declared.numbers.Obj.{Obj}
+use Rattle.gcd_plan.specs.PlanView.{PlanView}
 use Rattle.gcd_event.specs.declared.event.Event.{Event}
-use Rattle.gcd_event.specs.declared.event.Event.TheVariants.{FeedEnd, Halt}
+use Rattle.gcd_event.specs.declared.event.Event.TheVariants.{Halt}
 use Rattle.gcd_history.specs.Ends.{IsHalted, is_halted}
 use Rattle.gcd_history.specs.History.{why}
 use Rattle.gcd_outer.specs.Outside.{Rises, Seen}
 use Rattle.gcd_outer.specs.Tells.{PollerState, told_of}
 use Rattle.gcd_outer.specs.declared.tell.Tell.{Tell}
 use Rattle.gcd_turn.specs.Hearing.{Heard}
-use Rattle.gcd_turn.specs.Promises.{AreTold, Begins, FeedEnds, HaltsAtFaults, WasLive, answers_in, readies_of, watches_in}
+use Rattle.gcd_turn.specs.Promises.{AreTold, Begins, FeedEnds, HaltsAtFaults, answers_in, readies_of, watches_in}
 use Rattle.gcd_turn.specs.Turns.{OutlookView}
 use Rattle.gcd_turn.proofs.FeedSteps.{more_at}
 use Rattle.gcd_turn.proofs.HistoryMore.{halted_by_halt, unhalted_before}

@@ -1,6 +1,6 @@
 -- What the turns of worker 0 promise of the outside: what poller and clock said, and what stands in the journal. A history
 -- is `stood ++ placed`: what stood when the calls began, and what was placed in them (this project's own rules).
-use Rattle.std.specs.Prelude.{◌≡◌, ◌≤◌, ◌<◌, ◌+◌, ◌-◌, ◌++◌, ◌==◌, ◌⊎◌, ℕ, Bool, true, List, [], ◌∷◌, length, min, take, drop, if◌then◌else◌, Some, Contains}
+use Rattle.std.specs.Prelude.{◌≡◌, ◌≤◌, ◌<◌, ◌+◌, ◌-◌, ◌++◌, ◌==◌, ◌⊎◌, ℕ, true, List, [], ◌∷◌, length, min, take, drop, if◌then◌else◌, Some, Contains}
 use Rattle.std.specs.List.{list_all, flat_map}
 use Rattle.gcd_plan.specs.Limits.{max_events}
 use Rattle.gcd_plan.specs.PlanView.{PlanView, path_of}

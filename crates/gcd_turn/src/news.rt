@@ -7,10 +7,11 @@ ghost use Rattle.gcd_machine.specs.Stands.{StandsFor};
 ghost use Rattle.gcd_turn.specs.Turns.{bytes_news, end_news, end_of, ends_of, news_by, news_of};
 
 use crate::limits::MAX_NEWS;
+use crate::steps::live_feed_from;
 use arrayvec::ArrayVec;
 use gcd_machine::Machine;
 use gcd_outer::{Tell, Told};
-use gcd_plan::{Obj, Plan};
+use gcd_plan::Plan;
 use std::marker::Model;
 
 // Pieces of news, each bytes or an end of a feed, in order; those before `next` are settled. It takes no memory but its own.
@@ -112,14 +113,14 @@ impl News {
     {
         self.pieces.clear();
         self.next = 0;
-        for o in 0..plan.objects() {
-            if machine.is_live_feed(Obj(o)) {
-                self.pieces.push(Tell {
-                    feed: o,
-                    bytes: 0,
-                    ended: true,
-                });
-            }
+        let mut from = 0;
+        while let Some(src) = live_feed_from(plan, machine, from) {
+            self.pieces.push(Tell {
+                feed: src.0,
+                bytes: 0,
+                ended: true,
+            });
+            from = src.0 + 1;
         }
     }
 }

@@ -16,7 +16,7 @@ use crate::ask::Ask;
 use crate::limits::EMPTY_ANSWERS;
 use crate::news::News;
 use crate::steps::{
-    Time, event_of, is_over, next_live_feed, next_time, poll_wait, wait, watch_new,
+    Time, event_of, is_over, live_feed_from, next_time, poll_wait, wait, watch_new,
 };
 use gcd_event::Event;
 use gcd_machine::Machine;
@@ -207,7 +207,7 @@ impl Outlook {
         ensures waited { (h : List Event) → StandsFor machine.now plan.now h → C.tells ≡ true
             → WaitedFor plan.now h self.old.start (C.state clock.old) (C.state clock.new) }
     {
-        if next_live_feed(machine).is_some() {
+        if live_feed_from(plan, machine, 0).is_some() {
             return match self.listen(plan, machine, poller, left) {
                 Ok(()) => None,
                 Err(Failed) => Some(Event::Halt),

@@ -1,6 +1,6 @@
 // The steps of a turn.
 ghost use Rattle.std.specs.Prelude.{◌≡◌, ◌≤◌, ◌<◌, ◌++◌, [], ℕ, true, false, List, length, IfSome, IfNone, OnOk, OnErr};
-ghost use Rattle.gcd_plan.specs.Limits.{max_events};
+ghost use Rattle.gcd_plan.specs.Limits.{max_events, max_objects};
 ghost use Rattle.gcd_plan.specs.PlanView.{PlanView};
 ghost use Rattle.gcd_event.specs.declared.event.Event.{Event};
 ghost use Rattle.gcd_history.specs.History.{is_live_feed, running_of};
@@ -53,33 +53,41 @@ pub(crate) fn is_over(machine: &Machine) -> bool
     machine.is_halted() || machine.len() >= MAX_EVENTS || machine.is_quiescent()
 }
 
-// The first live feed.
-pub(crate) fn next_live_feed(machine: &Machine) -> Option<Obj>
-    ensures some { (plan : PlanView) (h : List Event) → StandsFor machine.now plan h
-        → IfSome result (λ s. is_live_feed plan h s.0 ≡ true) }
-    ensures none { (plan : PlanView) (h : List Event) → StandsFor machine.now plan h
-        → IfNone result ((s : ℕ) → s < length machine.now.plan.objects → is_live_feed plan h s ≡ false) }
+// The live feed with the least number from this one on. It costs nothing to speak of where no feed is live. A machine that stands
+// for no history may name any, so what is named is looked at.
+pub(crate) fn live_feed_from(plan: &Plan, machine: &Machine, from: u32) -> Option<Obj>
+    requires { machine.now.plan ≡ plan.now }
+    ensures from { IfSome result (λ s. from ≤ s.0) }
+    ensures within { IfSome result (λ s. s.0 < length plan.now.objects) }
+    ensures few { length plan.now.objects ≤ max_objects }
+    ensures live { (h : List Event) → StandsFor machine.now plan.now h → IfSome result (λ s. is_live_feed plan.now h s.0 ≡ true) }
+    ensures first { (h : List Event) → StandsFor machine.now plan.now h
+        → IfSome result (λ s. (k : ℕ) → from ≤ k → k < s.0 → is_live_feed plan.now h k ≡ false) }
+    ensures none { (h : List Event) → StandsFor machine.now plan.now h
+        → IfNone result ((k : ℕ) → from ≤ k → k < length plan.now.objects → is_live_feed plan.now h k ≡ false) }
 {
-    for o in 0..machine.objects() {
-        if machine.is_live_feed(Obj(o)) {
-            return Some(Obj(o));
-        }
+    let objects = plan.objects();
+    let src = machine.next_live_feed(from)?;
+    if src.0 < from {
+        return None;
     }
-    None
+    if src.0 >= objects {
+        return None;
+    }
+    Some(src)
 }
 
-// The feed is watched from now on, if it is live.
+// The live feed is watched from now on.
 fn watch_one<P: Poller>(
     plan: &Plan,
     machine: &Machine,
     poller: &mut P,
     src: Obj,
 ) -> Result<(), Failed>
-    requires own { machine.now.plan ≡ plan.now }
     requires within { src.0 < length plan.now.objects }
     requires low { src.0 < MAX_FEEDS }
-    ensures watched { (h : List Event) → StandsFor machine.now plan.now h → is_live_feed plan.now h src.0 ≡ true
-        → OnOk result ((P.state poller.new).watched src.0 ≡ true) }
+    requires live { (h : List Event) → StandsFor machine.now plan.now h → is_live_feed plan.now h src.0 ≡ true }
+    ensures watched { OnOk result ((P.state poller.new).watched src.0 ≡ true) }
     ensures still { (s : ℕ) → (P.state poller.old).watched s ≡ true → (P.state poller.new).watched s ≡ true }
     ensures heard { (stood placed : List Event) (before : PollerState) (o : OutlookView)
         → StandsFor machine.now plan.now (stood ++ placed)
@@ -89,9 +97,6 @@ fn watch_one<P: Poller>(
     ensures ok { OnOk result (HasNotFailed (P.state poller.old) (P.state poller.new)) }
     ensures failed { OnErr result (HasFailed (P.state poller.old) (P.state poller.new)) }
 {
-    if !machine.is_live_feed(src) {
-        return Ok(());
-    }
     if poller.is_watched(src.0) {
         return Ok(());
     }
@@ -116,8 +121,10 @@ pub(crate) fn watch_new<P: Poller>(
     ensures ok { OnOk result (HasNotFailed (P.state poller.old) (P.state poller.new)) }
     ensures failed { OnErr result (HasFailed (P.state poller.old) (P.state poller.new)) }
 {
-    for o in 0..plan.objects() {
-        watch_one(plan, machine, poller, Obj(o))?;
+    let mut from = 0;
+    while let Some(src) = live_feed_from(plan, machine, from) {
+        watch_one(plan, machine, poller, src)?;
+        from = src.0 + 1;
     }
     Ok(())
 }

@@ -28,7 +28,7 @@ impl Registers {
         let (refs, lists, tree, holds, drains) = self.copied_node_parts(alloc)?;
         let (groups, semas, waits, sources, timers) = self.copied_event_parts(alloc)?;
         let (blocks, ended, due) = self.copied_block_arrays(alloc)?;
-        let (handlers, busy, live, workers) = self.copied_run_arrays(alloc)?;
+        let (handlers, timed, busy, live, workers) = self.copied_run_arrays(alloc)?;
         Ok(Registers {
             plan,
             refs,
@@ -46,6 +46,7 @@ impl Registers {
             ended,
             due,
             handlers,
+            timed,
             busy,
             live,
             workers,
@@ -113,18 +114,30 @@ impl Registers {
         ))
     }
 
-    // What is kept of the handlers, which objects have to be looked at, which feeds are live, and what each worker has.
+    // What is kept of the handlers, which objects are timers, which have to be looked at, which feeds are live, and what each
+    // worker has.
     fn copied_run_arrays(
         &self,
         alloc: Global,
-    ) -> Result<(Vec<HandlerProgress>, BitSet, BitSet, Vec<Option<Run>>), AllocError>
+    ) -> Result<
+        (
+            Vec<HandlerProgress>,
+            BitSet,
+            BitSet,
+            BitSet,
+            Vec<Option<Run>>,
+        ),
+        AllocError,
+    >
         ensures handlers { IfOk result (λ arrays. arrays.0.items ≡ self.now.handlers) }
-        ensures busy { IfOk result (λ arrays. arrays.1 ≡ self.now.busy) }
-        ensures live { IfOk result (λ arrays. arrays.2 ≡ self.now.live) }
-        ensures workers { IfOk result (λ arrays. arrays.3.items ≡ self.now.workers) }
+        ensures timed { IfOk result (λ arrays. arrays.1 ≡ self.now.timed) }
+        ensures busy { IfOk result (λ arrays. arrays.2 ≡ self.now.busy) }
+        ensures live { IfOk result (λ arrays. arrays.3 ≡ self.now.live) }
+        ensures workers { IfOk result (λ arrays. arrays.4.items ≡ self.now.workers) }
     {
         Ok((
             Vec::from_slice(alloc, &self.handlers)?,
+            self.timed.copied(alloc)?,
             self.busy.copied(alloc)?,
             self.live.copied(alloc)?,
             Vec::from_slice(alloc, &self.workers)?,

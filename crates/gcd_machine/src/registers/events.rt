@@ -31,7 +31,7 @@ impl Registers {
             Event::End { worker, blk } => self.end(worker, blk),
             Event::Deliver { worker, src } => self.deliver(worker, src),
             Event::DeliverEnd { worker, src } => self.end_delivery(worker, src),
-            Event::Tick { at } => self.timers.tick(at),
+            Event::Tick { at } => self.tick(at),
             Event::Ready { src, bytes } => self.merge(src, bytes),
             Event::FeedEnd { src } => self.cancel(src),
             Event::Misuse { .. } => self.misused = true,

@@ -216,7 +216,7 @@ impl Registers {
         if self.sources.pending(src) > 0 {
             return true;
         }
-        self.timers.due_count(src) > self.handlers[src.0 as usize].taken
+        self.has_due(src)
     }
 
     fn deliver_end_fault(&self, worker: u8, src: Obj) -> Option<Why>

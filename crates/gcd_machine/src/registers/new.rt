@@ -42,7 +42,7 @@ impl Registers {
         let (refs, lists, tree, holds, drains) = node_parts(alloc, plan)?;
         let (groups, semas, waits, sources, timers) = event_parts(alloc, plan)?;
         let (blocks, ended, due) = block_arrays(alloc, blocks)?;
-        let (handlers, busy, live, workers) = run_arrays(alloc, plan)?;
+        let (handlers, timed, busy, live, workers) = run_arrays(alloc, plan)?;
         Ok(Registers {
             plan: shared,
             refs,
@@ -60,6 +60,7 @@ impl Registers {
             ended,
             due,
             handlers,
+            timed,
             busy,
             live,
             workers,
@@ -128,19 +129,31 @@ fn block_arrays(
     ))
 }
 
-// What is kept of the handlers, which objects have to be looked at, which feeds are live, and what each worker has.
+// What is kept of the handlers, which objects are timers, which have to be looked at, which feeds are live, and what each
+// worker has.
 fn run_arrays(
     alloc: Global,
     plan: &Plan,
-) -> Result<(Vec<HandlerProgress>, BitSet, BitSet, Vec<Option<Run>>), AllocError>
+) -> Result<
+    (
+        Vec<HandlerProgress>,
+        BitSet,
+        BitSet,
+        BitSet,
+        Vec<Option<Run>>,
+    ),
+    AllocError,
+>
     ensures handlers { IfOk result (λ arrays. arrays.0.items ≡ replicate (length plan.now.objects) undelivered) }
-    ensures busy { IfOk result (λ arrays. arrays.1 ≡ map (λ o. is_timer_kind o.kind) plan.now.objects) }
-    ensures live { IfOk result (λ arrays. arrays.2 ≡ replicate (length plan.now.objects) false) }
-    ensures workers { IfOk result (λ arrays. arrays.3.items ≡ replicate max_workers None) }
+    ensures timed { IfOk result (λ arrays. arrays.1 ≡ map (λ o. is_timer_kind o.kind) plan.now.objects) }
+    ensures busy { IfOk result (λ arrays. arrays.2 ≡ replicate (length plan.now.objects) false) }
+    ensures live { IfOk result (λ arrays. arrays.3 ≡ replicate (length plan.now.objects) false) }
+    ensures workers { IfOk result (λ arrays. arrays.4.items ≡ replicate max_workers None) }
 {
     Ok((
         all_undelivered(alloc, plan.objects() as usize)?,
         timers(alloc, plan)?,
+        BitSet::new(alloc, plan.objects())?,
         BitSet::new(alloc, plan.objects())?,
         all_free(alloc, MAX_WORKERS as usize)?,
     ))

@@ -1,10 +1,10 @@
 // What waits and runs on the nodes.
-ghost use Rattle.std.specs.Prelude.{◌≡◌, Some, length};
+ghost use Rattle.std.specs.Prelude.{◌≡◌, ◌<◌, Some, length};
 ghost use Rattle.gcd_plan.specs.declared.numbers.Obj.{Obj};
 ghost use Rattle.gcd_lists.specs.ListsView.{list_at};
 ghost use Rattle.gcd_refinement.specs.After.{pending_in, stays_busy};
 ghost use Rattle.gcd_machine.specs.Steps.{begun_on, closed_on, run_begun, run_closed, submitted};
-ghost use Rattle.gcd_machine.specs.Conditions.{CanBegin, CanCloseOn, CanSubmit, HasList, HasPending};
+ghost use Rattle.gcd_machine.specs.Conditions.{CanBegin, CanCloseOn, CanSubmit, HasPending};
 
 use super::Registers;
 use gcd_plan::{Blk, Obj};
@@ -67,12 +67,12 @@ impl Registers {
         self.left += 1;
     }
 
-    // Whether the node has to be looked at still: a block waits there, something is pending, or it is a timer.
+    // Whether the node has to be looked at still: a block waits there, or something is pending.
     pub fn stays_busy(&self, node: Obj, pending: u64) -> bool
-        requires { HasList self.now node }
-        ensures { result ≡ stays_busy self.now.plan (length (list_at self.now.lists node.0)) pending node.0 }
+        requires { node.0 < length self.now.lists.lists }
+        ensures { result ≡ stays_busy (length (list_at self.now.lists node.0)) pending }
     {
-        self.lists.first(node).is_some() || (pending > 0 || self.plan.kind(node).is_timer())
+        self.lists.first(node).is_some() || pending > 0
     }
 
     // What is pending at the source, with the due times that no delivery took.

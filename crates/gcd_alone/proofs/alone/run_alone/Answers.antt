@@ -1,5 +1,4 @@
-use Rattle.std.proofs.Common.{[], sym, subst}
-use Rattle.gcd_event.specs.declared.event.Event.{Event}
+use Rattle.std.proofs.Common.{[]}
 use Rattle.gcd_machine.proofs.Shown.{lawful_stands}
 use Rattle.gcd_turn.proofs.Promised.{are_told}
 use Rattle.gcd_turn.proofs.TimeSteps.{is_timely}
@@ -10,17 +9,17 @@ pub returns-clause-ran : goal.returns-clause-ran
 returns-clause-ran g c =
     let plan = c.args.plan.now in
     let h = c.run_turns.new.run.journal.items in
-    let run = c.in_ok-run_turns.ensures.run in
+    let run = c.run_turns.ensures.run in
     let before = g.P.Poller.state c.args.poller.now in
     let early = g.C.Clock.state c.args.clock.now in
     let first = going_first g.P.Poller.tells g.C.Clock.tells plan before early (g.C.Clock.state c.new-outlook.new.clock) c.new-outlook.result
     c.requires.unwatched c.new-outlook.ensures.news c.new-outlook.ensures.empties c.new-outlook.ensures.len
     c.new-outlook.ensures.not_before c.new-outlook.ensures.reached c.new-outlook.ensures.told c.new-outlook.ensures.waited in
-    let going = c.in_ok-run_turns.ensures.going before early (rw c.in_ok-run.ensures.journal first) in
+    let going = c.run_turns.ensures.going before early (rw c.in_ok-run.ensures.journal first) in
     record {
       lawful = lawful_stands c.run_turns.new.run.machine plan h run.stands;
       state_is = c.state-state.ensures plan h run.stands;
-      ended = c.in_ok-run_turns.ensures.ended;
+      ended = c.run_turns.ensures.ended;
       few = run.few;
       alone = run.alone;
       chosen = run.chosen;

@@ -1,14 +1,13 @@
 use Rattle.std.proofs.Common.{[], subst}
 use Rattle.gcd_event.specs.declared.event.Event.{Event}
-use Rattle.gcd_event.specs.declared.event.Event.TheVariants.{Halt}
-use Rattle.gcd_alone.specs.Going.{IsGoing, IsPlaced}
+use Rattle.gcd_alone.specs.Going.{IsPlaced}
 use Rattle.gcd_turn.proofs.TimeSteps.{time_waited}
 use Rattle.gcd_alone.proofs.Goings.{going_halted, going_on, going_worked}
 use Rattle.gcd_alone.proofs.alone.work.Goals as goal
 
 pub returns-in-Some-clause-going : goal.returns-in-Some-clause-going
 returns-in-Some-clause-going g c = λ before early going.
-    rw c.in_ok-record.ensures.journal
+    rw c.record.ensures.journal
     (going_worked g.P.Poller.tells g.C.Clock.tells c.args.plan.now before early (g.P.Poller.state c.args.poller.now) (g.C.Clock.state c.args.clock.now)
     c.args.run.now.journal.items c.args.outlook.now c.in-Some.e
     (c.in-Some.ensures.permitted c.args.plan.now c.args.run.now.journal.items c.requires.run.stands) c.requires.room.room c.in-Some.ensures.work going)
@@ -32,7 +31,7 @@ returns-clause-going g c = λ before early going.
     going_halted g.P.Poller.tells g.C.Clock.tells plan before early (g.P.Poller.state c.args.poller.now) (g.P.Poller.state c.idle.new.poller)
     (g.C.Clock.state c.args.clock.now) (g.C.Clock.state c.idle.new.clock) h c.put.new.self.journal.items c.args.outlook.now c.idle.new.self
     c.requires.room.going_on.unhalted
-    (subst (λ (e : Event). IsPlaced plan h e c.put.new.self.journal.items) c.in-Some-idle.ensures.halt c.in_ok-put.ensures.placed)
+    (subst (λ (e : Event). IsPlaced plan h e c.put.new.self.journal.items) c.in-Some-idle.ensures.halt c.put.ensures.placed)
     (λ told hd. c.idle.ensures.heard [] h before c.requires.run.stands c.requires.room.going_on.unhalted c.requires.free.watched told hd)
     c.idle.ensures.start
     (λ kept. time_waited g.C.Clock.tells plan [] h early (g.C.Clock.state c.args.clock.now) (g.C.Clock.state c.idle.new.clock) c.args.outlook.now.start

@@ -1,4 +1,4 @@
-use Rattle.std.proofs.Common.{◌≡◌, ◌≤◌, ◌<◌, ◌+◌, ◌-◌, ◌∙◌, Some, ap, sym, arith, min}
+use Rattle.std.proofs.Common.{◌≡◌, ◌∙◌, Some, ap, sym, arith, min}
 use Rattle.gcd_history.specs.History.{next_due_of}
 use Rattle.gcd_turn.proofs.TimeLemmas.{due_is_ahead}
 use Rattle.gcd_turn.proofs.steps.next_time.Goals as goal

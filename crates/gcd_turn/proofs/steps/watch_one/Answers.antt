@@ -1,5 +1,4 @@
-use Rattle.std.proofs.Common.{◌≡◌, ◌∙◌, false, true, sym}
-use Rattle.std.proofs.lemmas.Bool.{both_ways}
+use Rattle.std.proofs.Common.{◌∙◌, sym}
 use Rattle.gcd_turn.proofs.HeardSteps.{heard_same, heard_watch}
 use Rattle.gcd_turn.proofs.steps.watch_one.Goals as goal
 
@@ -16,7 +15,7 @@ pub returns-clause-heard : goal.returns-clause-heard
 returns-clause-heard g c = λ stood placed before o stands tells hd.
     heard_watch c.args.plan.now stood placed before (g.P.Poller.state c.args.poller.now) (g.P.Poller.state c.watch.new.self) o c.args.src.0 c.path_of.result.now
     (sym c.is_watched.ensures ∙ c.if-is_watched.false)
-    (sym (c.is_live_feed.ensures c.args.plan.now _ stands) ∙ c.if-not-is_live_feed.false)
+    (c.requires.live _ stands)
     c.path_of.ensures
     (record {
       watched = c.in_ok-watch.ensures.watches_it;

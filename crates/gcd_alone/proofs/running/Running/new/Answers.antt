@@ -1,4 +1,4 @@
-use Rattle.std.proofs.Common.{◌≡◌, ◌∙◌, ap, arith, length, replicate}
+use Rattle.std.proofs.Common.{arith}
 use Rattle.gcd_jobs.specs.Contents.{contents}
 use Rattle.gcd_alone.proofs.ValuesMore.{alone_none, follows_none, no_values}
 use Rattle.gcd_alone.proofs.running.Running.new.Goals as goal

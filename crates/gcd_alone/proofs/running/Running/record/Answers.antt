@@ -13,7 +13,7 @@ returns-clause-run c =
     let e = c.args.e in
     let next = c.requires.next in
     let run = c.requires.run in
-    let more = c.in_ok-push.ensures.items in
+    let more = c.push_reserved.ensures.items in
     rw more (record {
       own = c.apply.ensures.plan ∙ run.own;
       stands = c.apply.ensures.stands plan h run.stands next.permitted;

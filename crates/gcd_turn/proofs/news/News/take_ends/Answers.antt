@@ -1,35 +1,27 @@
-use Rattle.std.proofs.Common.{◌≡◌, ◌∙◌, ◌++◌, List, Bool, true, false, [], ◌∷◌, if◌then◌else◌, append-nil, ap, sym, arith, filter, map}
-use Rattle.std.specs.List.{range_with_len}
+use Rattle.std.proofs.Common.{◌∙◌, ◌∷◌, ◌++◌, List, [], ap, sym, arith, drop}
 use Rattle.gcd_history.specs.History.{is_live_feed}
 use Rattle.gcd_outer.specs.declared.tell.Tell.{Tell}
 use Rattle.gcd_turn.specs.Turns.{end_of}
-use Rattle.gcd_turn.proofs.NewsLemmas.{ends_more}
+use Rattle.gcd_turn.proofs.NewsLemmas.{ends_next, ends_on}
 use Rattle.gcd_turn.proofs.news.News.take_ends.Goals as goal
-use Rattle.gcd_turn.proofs.news.News.take_ends.Goals.{then-is_live_feed, else-is_live_feed}
 
-pub loop-o-preserved : goal.loop-o-preserved
-loop-o-preserved c =
+pub loop-src-preserved : goal.loop-src-preserved
+loop-src-preserved c =
     let plan = c.args.plan.now in
-    let o = c.loop-o.o in
-    elim c.if-is_live_feed.branch [
-      | then-is_live_feed w ↦ rw w.self-inside-is (record {
-        first = c.loop-o.invariant.first;
-        few = omega (arith, w.push.ensures.len, c.loop-o.invariant.few);
-        pieces = λ h stands.
-            let live : is_live_feed plan h o ≡ true = sym (c.is_live_feed.ensures plan h stands) ∙ w.if-is_live_feed.true in
-            w.push.ensures.items
-            ∙ ap (λ (ps : List Tell). ps ++ end_of o ∷ []) (c.loop-o.invariant.pieces h stands)
-            ∙ sym (ends_more (is_live_feed plan h) o
-            ∙ ap (λ (b : Bool). map end_of (filter (is_live_feed plan h) (range_with_len 0 o)) ++ (if b then end_of o ∷ [] else [])) live);
-      })
-      | else-is_live_feed w ↦ rw w.self-inside-is (record {
-        first = c.loop-o.invariant.first;
-        few = omega (arith, c.loop-o.invariant.few);
-        pieces = λ h stands.
-            let dead : is_live_feed plan h o ≡ false = sym (c.is_live_feed.ensures plan h stands) ∙ w.if-is_live_feed.false in
-            c.loop-o.invariant.pieces h stands
-            ∙ sym (ends_more (is_live_feed plan h) o
-            ∙ ap (λ (b : Bool). map end_of (filter (is_live_feed plan h) (range_with_len 0 o)) ++ (if b then end_of o ∷ [] else [])) dead
-            ∙ append-nil _);
-      })
-    ]
+    let next = c.in-Some.ensures in
+    record {
+      first = c.loop-src.invariant.first;
+      few = omega (arith, c.push.ensures.len, c.loop-src.invariant.few, next.from);
+      within = omega (arith, next.within);
+      pieces = λ h stands.
+          c.push.ensures.items
+          ∙ ap (λ (ts : List Tell). ts ++ end_of c.in-Some.src.0 ∷ []) (c.loop-src.invariant.pieces h stands)
+          ∙ sym (ends_next (is_live_feed plan h) c.loop-src.from c.in-Some.src.0 next.from (next.live h stands) (next.first h stands));
+    }
+
+pub returns : goal.returns
+returns c = λ h stands.
+    let plan = c.args.plan.now in
+    ap (λ k. drop k c.loop-src.self-inside.pieces.items) c.loop-src.invariant.first
+    ∙ c.loop-src.invariant.pieces h stands
+    ∙ sym (ends_on (is_live_feed plan h) c.loop-src.from _ c.loop-src.invariant.within (c.in_default.ensures.none h stands))

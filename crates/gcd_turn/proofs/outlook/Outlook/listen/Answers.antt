@@ -1,4 +1,4 @@
-use Rattle.std.proofs.Common.{◌≡◌, ◌∙◌, sym, subst}
+use Rattle.std.proofs.Common.{◌∙◌, sym, subst}
 use Rattle.gcd_turn.specs.Hearing.{Heard}
 use Rattle.gcd_turn.specs.Turns.{OutlookView}
 use Rattle.gcd_turn.proofs.HeardPolls.{heard_at_once, heard_empty, heard_poll}

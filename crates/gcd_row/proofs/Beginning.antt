@@ -1,0 +1,97 @@
+-- The rule holds of a new board.
+use Rattle.std.proofs.Common.{◌≡◌, ℕ, zero, suc, List, [], ◌∷◌, length, get_or, map, sym, refl, ap, ◌∙◌, subst, arith, false, Some, None, Option}
+use Rattle.std.specs.Prelude.{slice_get}
+use mathlib.Core.Option.{some, some-injective, some-ne-none}
+use lib.ListN.{get_elem?}
+use Rattle.atomic_table.specs.Table.{opening}
+use Rattle.atomic_table.proofs.Lists.{at_map}
+use Rattle.gcd_plan.specs.Validity.{IsPlan}
+use Rattle.gcd_plan.specs.declared.numbers.Run.{Run}
+use Rattle.gcd_plan.specs.declared.numbers.Run.TheVariants.{Block, Source}
+use Rattle.gcd_history.specs.History.{is_ended}
+use Rattle.gcd_history.proofs.LawfulLemmas.{lawful_none}
+use Rattle.gcd_team.specs.Team.{StartsWith}
+use Rattle.gcd_team.proofs.TeamLaws.{nothing_is_held_first}
+use Rattle.gcd_machine.specs.Stands.{StandsFor}
+use Rattle.gcd_row.specs.Shapes.{Shape}
+use Rattle.gcd_row.specs.Lying.{slot_of, BodyLies, Lies, HasSlots}
+use Rattle.gcd_row.specs.Views.{given_terms, opening_view, held_run}
+use Rattle.gcd_row.specs.Opening.{first_shape, AreFirst}
+use Rattle.gcd_row.specs.Rule.{Fits, Heads, Holds}
+use Rattle.gcd_row.specs.Passes.{IsPassOf, view, slots, terms_of}
+use Rattle.gcd_row.specs.declared.view.Copies.{Copies}
+use Rattle.gcd_row.specs.declared.view.Terms.{Terms}
+use Rattle.gcd_row.specs.declared.view.View.{View}
+use Rattle.gcd_row.specs.declared.board.RowBoard.{RowBoard}
+use Rattle.gcd_row.specs.declared.pass.RowPass.{RowPass}
+use Rattle.gcd_row.proofs.Fronts.{starts_nil, own_nothing}
+
+not_ended : (b : ℕ) → is_ended [] b ≡ false
+unfolding is_ended
+not_ended b = refl
+
+module _ {S : Type 0} where
+  one : (v u : View S) (by : ℕ) → get_elem? (v ∷ []) by ≡ some u → (by ≡ 0) × (v ≡ u)
+  one v u zero e = (refl, some-injective v u e)
+  one v u (suc by) e = absurd (some-ne-none u (sym e))
+
+  length-map : (xs : List S) → length (map some xs) ≡ length xs
+  length-map [] = refl
+  length-map (x ∷ xs) = ap suc (length-map xs)
+
+  value_or : S → Option S → S
+  value_or d None = d
+  value_or d (Some x) = x
+
+  -- the cell at a slot is the first cell there
+  pub same_cell : (cells : List S) (k : ℕ) (c first : S) → get_elem? cells k ≡ some c → slice_get cells k ≡ Some first → c ≡ first
+  unfolding value_or
+  same_cell [] k c first e f = absurd (some-ne-none c (sym e))
+  same_cell (x ∷ xs) zero c first e f = sym (some-injective x c e) ∙ ap (value_or x) f
+  same_cell (x ∷ xs) (suc k) c first e f = same_cell xs k c first e f
+
+module _ {S : Type 0} (shape : S → Shape) (gives : S → ℕ → Type 0) where
+  first_lies : (t : Terms S) (r : Run) (c : S) → get_elem? t.cells (slot_of t.plan r) ≡ some c → shape c ≡ first_shape t.plan r → Lies shape gives t [] r c
+  first_lies t (Block b) c at is = λ first first_at. let same : c ≡ first = same_cell t.cells b.0 c first at first_at in
+      subst (λ n. BodyLies shape gives first n c) (sym (not_ended b.0)) (is, λ v may. subst (λ (x : S). gives x v) same may)
+  first_lies t (Source s) c at is = is
+
+  pub opens : (key : Copies S) (words : List ℕ) (cells : List S) → key.cells.value.items ≡ cells → IsPlan key.plan.value → AreFirst shape key.plan.value cells → length words ≡ 65536 → ((i : ℕ) → get_or words i 0 ≡ 0) → Holds shape gives key (opening words cells (opening_view key))
+  opens key words cells are valid first size zeros = let v : View S = opening_view key in let t : Terms S = given_terms key in record {
+    history = [];
+    valid = valid;
+    row = record { first = zeros 0; size = size; room = omega arith; cells = λ i. zeros (suc i) };
+    lawful = lawful_none t.plan;
+    slots = record {
+      width = length-map cells ∙ first.width;
+      home = λ r known _. let it = first.first r known in
+          (it.0, at_map some cells (slot_of t.plan r) it.0 it.1, first_lies t r it.0 (subst (λ (l : List S). get_elem? l (slot_of t.plan r) ≡ some it.0) (sym are) it.1) it.2);
+    };
+    knows = record {
+      seen = λ by u e. subst (λ (x : View S). StartsWith [] x.seen) (one v u by e).1 (starts_nil []);
+      told = λ by u e. subst (λ (x : View S). StartsWith [] x.told) (one v u by e).1 (starts_nil []);
+      fits = λ by u e live. subst (Fits t []) (one v u by e).1 (record { terms = refl; own = refl });
+      alone = λ i j a b at_a at_b _ _ _. (one v a i at_a).0 ∙ sym (one v b j at_b).0;
+      head = λ by u e live zero_is. subst (Heads [] (v ∷ [])) (one v u by e).1 (record {
+        fresh = λ w nz none_given. own_nothing w;
+        home = λ w ne. refl;
+        out = λ j x at_x fine nz. absurd (nz (ap (λ (y : View S). y.worker) (sym (one v x j at_x).1)));
+      });
+      whole = (0, v, refl, refl, refl);
+    };
+  }
+
+  -- the first pass is one of the board
+  pub first_pass : (b : RowBoard S) (p : RowPass S) → p.seat.table_id ≡ b.table.shared.table_id → p.seat.me ≡ (opening_view b.table.shared.key, []) → p.number ≡ 0 → StandsFor p.machine (terms_of b).plan [] → IsPassOf shape gives b p
+  first_pass b p table me number stands =
+      let is : view p ≡ opening_view b.table.shared.key = ap (λ m. m.0) me in
+      record {
+        table = table;
+        terms = ap (λ (x : View S). x.terms) is;
+        unspent = ap (λ (x : View S). x.spent) is;
+        number = number ∙ sym (ap (λ (x : View S). x.worker) is);
+        few = omega (arith, ap (λ (x : View S). length x.seen) is);
+        has = subst (λ (x : View S). HasSlots shape gives x.terms x.seen (held_run x) (slots p)) (sym is)
+            (subst (λ (o : Option Run). HasSlots shape gives (terms_of b) [] o (slots p)) (sym (nothing_is_held_first (terms_of b).plan 0)) (ap (λ m. m.1) me));
+        stands = subst (λ (x : View S). StandsFor p.machine x.terms.plan x.seen) (sym is) stands;
+      }

@@ -1,0 +1,16 @@
+pub mod Fronts
+pub mod RowWords
+pub mod Seen
+pub mod Running
+pub mod Holding
+pub mod Landing
+pub mod Decoding
+pub mod Parting
+pub mod Keeping
+pub mod Onward
+pub mod Passing
+pub mod Beginning
+pub mod FirstCells
+pub mod Ending
+pub mod Merging
+pub mod SourceSlots

@@ -1,0 +1,10 @@
+pub use Rattle.gcd_plan.specs.PlanView
+pub use Rattle.gcd_history.specs.History
+pub use Rattle.gcd_team.specs.Team
+pub mod Shapes
+pub mod Lying
+pub mod Views
+pub mod Opening
+pub mod Rule
+pub mod Plays
+pub mod Passes

@@ -1,0 +1,44 @@
+-- What lies in the slots of a new board (this project's own rules).
+use Rattle.std.specs.Prelude.{◌≡◌, ℕ, List, [], ◌∷◌, ◌++◌, length, map, filter, drop, if◌then◌else◌, All}
+use mathlib.Core.Option.{some}
+use lib.ListN.{get_elem?}
+use Rattle.gcd_plan.specs.PlanView.{PlanView, ObjView, IsRun}
+use Rattle.gcd_plan.specs.Kinds.{is_source_kind}
+use Rattle.gcd_plan.specs.declared.kind.Kind.{Kind}
+use Rattle.gcd_plan.specs.declared.numbers.Run.{Run}
+use Rattle.gcd_plan.specs.declared.numbers.Run.TheVariants.{Block, Source}
+use Rattle.gcd_row.specs.Shapes.{Shape, body}
+use Rattle.gcd_row.specs.Lying.{slots_of, slot_of, source_shape}
+use Rattle.gcd_row.specs.declared.cell.Cell.{Cell}
+use Rattle.gcd_row.specs.declared.cell.Cell.TheVariants.{Body, Handler, Away}
+
+-- one handler for each source, by number, of its kind, which has not been called yet
+pub record AreHandlersOf {H : Type 0} (kind : H → Kind) (times total : H → ℕ) (plan : PlanView) (handlers : List H) : Type 0 where
+  pub kinds : map kind handlers ≡ filter is_source_kind (map (λ o. o.kind) plan.objects)
+  pub fresh : All (λ h. (times h ≡ 0) × (total h ≡ 0)) handlers
+
+module _ {J H : Type 0} where
+  -- the cell of the next handler
+  abbrev pub next_cell : List H → Cell J H
+  next_cell [] = Away
+  next_cell (h ∷ handlers) = Handler h
+
+  -- the cells of objects: a source's handler, and for another object nothing
+  abbrev pub object_cells : List ObjView → List H → List (Cell J H)
+  object_cells [] handlers = []
+  object_cells (o ∷ objects) handlers =
+      if is_source_kind o.kind then next_cell handlers ∷ object_cells objects (drop 1 handlers) else Away ∷ object_cells objects handlers
+
+  -- the cells of a board, in the order of their slots
+  abbrev pub first_cells : PlanView → List J → List H → List (Cell J H)
+  first_cells plan jobs handlers = map (λ job. Body job) jobs ++ object_cells plan.objects handlers
+
+-- what lies in the slot of a run before the first event
+abbrev pub first_shape : PlanView → Run → Shape
+first_shape plan (Block b) = body
+first_shape plan (Source s) = source_shape plan [] s.0
+
+-- the cells are those of a new board: each block's body, and each source's handler, which has not been called yet
+pub record AreFirst {S : Type 0} (shape : S → Shape) (plan : PlanView) (cells : List S) : Type 0 where
+  pub width : length cells ≡ slots_of plan
+  pub first : (r : Run) → IsRun plan r → (c : S) × (get_elem? cells (slot_of plan r) ≡ some c) × (shape c ≡ first_shape plan r)

@@ -1,0 +1,112 @@
+-- What the calls of a board ask of a pass, and what they do to it (this project's own rules).
+use Rattle.std.specs.Prelude.{◌≡◌, ◌≢◌, ◌<◌, ◌≤◌, ℕ, Bool, true, false, List, [], ◌∷◌, ◌++◌, length, Some, None}
+use mathlib.Core.Option.{some}
+use lib.ListN.{get_elem?}
+use Rattle.gcd_plan.specs.Limits.{max_events}
+use Rattle.gcd_plan.specs.PlanView.{IsRun}
+use Rattle.gcd_plan.specs.declared.numbers.Run.{Run}
+use Rattle.gcd_event.specs.declared.event.Event.{Event}
+use Rattle.gcd_history.specs.Choice.{worker_of}
+use Rattle.gcd_history.specs.History.{why}
+use Rattle.gcd_machine.specs.Stands.{StandsFor}
+use Rattle.gcd_team.specs.Team.{of_worker, StartsWith}
+use Rattle.gcd_team.specs.TeamFacts.{IsNobodys}
+use Rattle.gcd_row.specs.Shapes.{Shape}
+use Rattle.gcd_row.specs.Lying.{slots_of, slot_of, Lies, HasSlots}
+use Rattle.gcd_row.specs.Views.{given_terms, held_run, seeing, hearing, merging}
+use Rattle.gcd_row.specs.Plays.{KnowsFresh, EndsHere, Turned}
+use Rattle.gcd_row.specs.declared.view.Terms.{Terms}
+use Rattle.gcd_row.specs.declared.view.View.{View}
+use Rattle.gcd_row.specs.declared.pass.RowPass.{RowPass}
+use Rattle.gcd_row.specs.declared.board.RowBoard.{RowBoard}
+use Rattle.gcd_row.specs.declared.put.Put.{Put}
+use Rattle.gcd_row.specs.declared.put.Put.TheVariants.{Placed, Barred, Full}
+
+module _ {S : Type 0} where
+  -- what a pass knows
+  abbrev pub view : RowPass S → View S
+  view p = p.seat.me.0
+
+  -- the slots that it has, each with its cell
+  abbrev pub slots : RowPass S → List (ℕ × S)
+  slots p = p.seat.me.1
+
+  -- the plan and the cells that a board was made of
+  abbrev pub terms_of : RowBoard S → Terms S
+  terms_of b = given_terms b.table.shared.key
+
+  -- a pass of the board, which is not spent: it has the slot of the run that its worker holds and no other, and its machine
+  -- stands for what it has seen
+  pub record IsPassOf (shape : S → Shape) (gives : S → ℕ → Type 0) (b : RowBoard S) (p : RowPass S) : Type 0 where
+    pub table : p.seat.table_id ≡ b.table.shared.table_id
+    pub terms : (view p).terms ≡ terms_of b
+    pub unspent : (view p).spent ≡ false
+    pub number : p.number ≡ (view p).worker
+    pub few : length (view p).seen ≤ max_events
+    pub has : HasSlots shape gives (view p).terms (view p).seen (held_run (view p)) (slots p)
+    pub stands : StandsFor p.machine (view p).terms.plan (view p).seen
+
+  -- it has seen no less, and nothing more of its own
+  pub record Ahead (v : View S) (h : List Event) : Type 0 where
+    pub more : StartsWith h v.seen
+    pub own : of_worker v.worker h ≡ of_worker v.worker v.seen
+
+  -- it has seen the next event, which is another's and was permitted
+  pub record Learnt (v w : View S) : Type 0 where
+    pub event : Event
+    pub is : w ≡ seeing v (v.seen ++ event ∷ [])
+    pub ahead : Ahead v w.seen
+    pub may : why v.terms.plan v.seen event ≡ None
+    pub other : worker_of event ≢ v.worker
+
+  -- it has seen the row as it was at a moment of the call: no less than it had seen or was told of before, nothing more of its
+  -- own, and nothing of a number that was never given out
+  pub record Looks (v w : View S) : Type 0 where
+    pub is : w ≡ seeing v w.seen
+    pub ahead : Ahead v w.seen
+    pub told : StartsWith w.seen v.told
+    pub fresh : KnowsFresh w
+
+  -- its event stands behind the history h, which is longer only by others' events
+  pub record IsPlaced (e : Event) (v w : View S) (n : ℕ) : Type 0 where
+    pub history : List Event
+    pub ahead : Ahead v history
+    pub place : n ≡ length history
+    pub room : n < max_events
+    pub may : why v.terms.plan history e ≡ None
+    pub is : w ≡ seeing v (history ++ e ∷ [])
+    pub own : of_worker v.worker w.seen ≡ of_worker v.worker v.seen ++ e ∷ []
+
+  -- what the answer of `put` says
+  abbrev pub Says : Event → View S → View S → Put → Type 0
+  Says e v w (Placed n) = IsPlaced e v w n
+  Says e v w (Barred at y) = Looks v w × (at ≡ length w.seen) × (at < max_events) × (why v.terms.plan w.seen e ≡ Some y)
+  Says e v w Full = (w ≡ seeing v w.seen) × Ahead v w.seen × (length w.seen ≡ max_events)
+
+  -- the slots that a pass has after `put`: with the event the run's slot comes or goes, and with no other answer
+  abbrev pub SaysSlots : (S → Shape) → (S → ℕ → Type 0) → Event → List (ℕ × S) → List (ℕ × S) → View S → Put → Type 0
+  SaysSlots shape gives e c d w (Placed n) = (h : List Event) × (w.seen ≡ h ++ e ∷ []) × Turned shape gives w.terms h e c d
+  SaysSlots shape gives e c d w (Barred at y) = d ≡ c
+  SaysSlots shape gives e c d w Full = d ≡ c
+
+  -- worker 0's pass has taken in another: it has seen the longer of the two histories, which the shorter begins, and no event
+  -- more of either worker
+  pub record Merges (v u w : View S) : Type 0 where
+    pub is : w ≡ merging (hearing v u) u
+    pub mine : Ahead v w.seen
+    pub theirs : Ahead u w.seen
+
+  -- at the end, the cells of the runs that nobody holds are as they lie after the history
+  pub record AtRest (shape : S → Shape) (gives : S → ℕ → Type 0) (t : Terms S) (h : List Event) (cells : List S) : Type 0 where
+    pub width : length cells ≡ slots_of t.plan
+    pub lie : (r : Run) (c : S) → IsRun t.plan r → IsNobodys t.plan h r → get_elem? cells (slot_of t.plan r) ≡ some c → Lies shape gives t h r c
+
+  -- it has seen one event more, or the row is what it has seen
+  abbrev pub EndsOrLearns : View S → View S → Bool → Type 0
+  EndsOrLearns v w true = Learnt v w
+  EndsOrLearns v w false = EndsHere v w
+
+  -- its event is the next, or another's
+  abbrev pub Places : Event → View S → View S → Bool → Type 0
+  Places e v w true = w ≡ seeing v (v.seen ++ e ∷ [])
+  Places e v w false = Learnt v w

@@ -1,0 +1,70 @@
+-- What passes know, and how it changes (this project's own rules).
+use Rattle.std.specs.Prelude.{ℕ, ◌==◌, cond, nat_lt, true, false, List, [], ◌∷◌, ◌++◌, length, Option, Some, None}
+use Rattle.gcd_plan.specs.declared.numbers.Run.{Run}
+use Rattle.gcd_event.specs.declared.event.Event.{Event}
+use Rattle.gcd_team.specs.Team.{held_by}
+use Rattle.gcd_row.specs.declared.view.Copies.{Copies}
+use Rattle.gcd_row.specs.declared.view.Terms.{Terms}
+use Rattle.gcd_row.specs.declared.view.Standing.{Standing}
+use Rattle.gcd_row.specs.declared.view.Standing.TheVariants.{Out, Back}
+use Rattle.gcd_row.specs.declared.view.View.{View}
+
+-- where the pass of worker w is: None where the number was never given out
+abbrev pub standing_of : List (ℕ × Standing) → ℕ → Option Standing
+standing_of [] w = None
+standing_of (x ∷ xs) w = cond (x.0 == w) (Some x.1) (standing_of xs w)
+
+abbrev pub longer : List Event → List Event → List Event
+longer a b = cond (nat_lt (length a) (length b)) b a
+
+module _ {S : Type 0} where
+  -- the terms of the plan and the cells that were copied
+  abbrev pub given_terms : Copies S → Terms S
+  given_terms k = record { plan = k.plan.value; cells = k.cells.value.items }
+
+  -- what worker 0's first pass knows
+  abbrev pub opening_view : Copies S → View S
+  opening_view k = record { terms = given_terms k; spent = false; worker = 0; seen = []; told = []; hands = [] }
+
+  -- what a pass that was joined is left with
+  abbrev pub spent_view : View S
+  spent_view = record {
+    terms = record { plan = record { objects = []; blocks = []; files = []; until = 0 }; cells = [] };
+    spent = true;
+    worker = 0;
+    seen = [];
+    told = [];
+    hands = [];
+  }
+
+  -- the run that the pass holds: open, not parked, and started, woken or delivered last by its worker
+  abbrev pub held_run : View S → Option Run
+  held_run v = held_by v.terms.plan v.seen v.worker
+
+  -- a pass that has seen this history
+  abbrev pub seeing : View S → List Event → View S
+  seeing v h = record { terms = v.terms; spent = v.spent; worker = v.worker; seen = h; told = v.told; hands = v.hands }
+
+  -- a pass that has seen one event more
+  abbrev pub saw : View S → Event → View S
+  saw v e = seeing v (v.seen ++ e ∷ [])
+
+  -- worker 0's pass, which has given out the number w
+  abbrev pub lending : View S → ℕ → View S
+  lending v w = record { terms = v.terms; spent = v.spent; worker = v.worker; seen = v.seen; told = v.told; hands = (w, Out) ∷ v.hands }
+
+  -- the new pass of worker w, which begins with what worker 0's has seen
+  abbrev pub newcomer : View S → ℕ → View S
+  newcomer v w = record { terms = v.terms; spent = false; worker = w; seen = v.seen; told = []; hands = [] }
+
+  -- a pass that was told what another has seen
+  abbrev pub hearing : View S → View S → View S
+  hearing v u = record { terms = v.terms; spent = v.spent; worker = v.worker; seen = v.seen; told = u.seen; hands = v.hands }
+
+  -- worker 0's pass, which has taken in another
+  abbrev pub merging : View S → View S → View S
+  merging v u = record { terms = v.terms; spent = v.spent; worker = v.worker; seen = longer v.seen u.seen; told = v.told; hands = (u.worker, Back) ∷ v.hands }
+
+  -- what a pass has seen, and nothing else
+  abbrev pub note : View S → View S
+  note v = record { terms = v.terms; spent = true; worker = v.worker; seen = v.seen; told = []; hands = [] }

@@ -1,0 +1,22 @@
+// A board: the row of words that decides, and the slots.
+ghost use Rattle.std.specs.Prelude.{◌≡◌};
+
+use crate::cell::{Cell, Slot};
+use crate::plays::Lawful;
+use crate::view::{Copies, View};
+use atomic_table::Table;
+use std::alloc::Global;
+
+/// The table of a board: words and slots.
+pub type RowTable<S> = Table<S, View<S>, Copies<S>, Lawful, Global>;
+
+/// A row of events that up to 64 workers decide by single exchanges, and a slot for each block and each object of its plan.
+/// It is shared by `&` (this project's own rule).
+#[derive(Drop)]
+pub struct RowBoard<S: Slot> {
+    pub table: RowTable<S>,
+    ghost sized: { table.shared.table_id.words ≡ 65536 },
+}
+
+/// A board of jobs and handlers.
+pub type Board<J, H> = RowBoard<Cell<J, H>>;

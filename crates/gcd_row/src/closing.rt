@@ -1,0 +1,76 @@
+// Closing a board.
+ghost use Rattle.std.specs.Prelude.{◌≡◌, ◌≢◌, ℕ, ◌≤◌, [], length, vec_capacity, IfOk, IfErr, Some};
+ghost use Rattle.std.specs.Mem.Slots.{slots_items, slots_len, IsFull};
+ghost use Rattle.gcd_row.specs.Passes.{IsPassOf, AtRest, view};
+ghost use Rattle.gcd_row.specs.Views.{standing_of};
+ghost use Rattle.gcd_row.specs.declared.view.Standing.TheVariants.{Out};
+
+use crate::board::RowBoard;
+use crate::cell::Slot;
+use crate::pass::RowPass;
+use crate::view::View;
+use atomic_table::{Closed, Seat};
+use gcd_event::{Event, of_word};
+use std::alloc::Global;
+
+// The values of the slots, in their order.
+fn take_all<S>(mut closed: Closed<S, Global>, mut cells: Vec<S>) -> Vec<S>
+    requires full { IsFull closed.slots }
+    requires room { (cells.items ≡ []) × (slots_len closed.slots ≤ vec_capacity cells) }
+    ensures { result.items ≡ slots_items closed.slots }
+{
+    for k in 0..closed.slot_count() {
+        cells.push_reserved(closed.take(k));
+    }
+    closed.free();
+    cells
+}
+
+// The seat of a pass.
+fn seat_of<S>(pass: RowPass<S>) -> Seat<S, View<S>>
+    ensures { result ≡ pass.seat }
+{
+    let RowPass {
+        seat,
+        machine: _,
+        number: _,
+    } = pass;
+    seat
+}
+
+impl<S: Slot + Drop> RowBoard<S> {
+    /// The whole history, and the cells: those of the blocks, by number, and behind them one for each object, which is `Away`
+    /// where the object is no source. Worker 0's pass has to be given, with all others joined into it, and so it has seen the
+    /// whole row. A cell is the body of a block that has not started or is parked, the value of one that has ended, the handler
+    /// of a source without an open run; that of a run which is open and not parked may be anything. An `Err` comes only of want
+    /// of memory, and then board and pass come back as they were (this project's own rule).
+    pub fn close(
+        self,
+        alloc: Global,
+        pass: RowPass<S>,
+    ) -> Result<(Vec<Event>, Vec<S>), (RowBoard<S>, RowPass<S>)>
+        requires pass { IsPassOf S.shape S.gives self pass }
+        requires head { (view pass).worker ≡ 0 }
+        requires all_in { (w : ℕ) → standing_of (view pass).hands w ≢ Some Out }
+        ensures events { IfOk result (λ r. r.0.items ≡ (view pass).seen) }
+        ensures cells { IfOk result (λ r. AtRest S.shape S.gives (view pass).terms (view pass).seen r.1.items) }
+        ensures err { IfErr result (λ r. (r.0 ≡ self) × (r.1 ≡ pass)) }
+    {
+        let n = pass.machine.len() as usize;
+        let Ok(mut events) = Vec::with_capacity(alloc, n) else {
+            return Err((self, pass));
+        };
+        let Ok(cells) = Vec::with_capacity(alloc, self.table.slot_count()) else {
+            return Err((self, pass));
+        };
+        let RowBoard { table } = self;
+        let closed = table.close_with(seat_of(pass));
+        for i in 0..n {
+            match of_word(closed.word(i + 1)) {
+                Some(e) => events.push_reserved(e),
+                None => unreachable!(),
+            }
+        }
+        Ok((events, take_all(closed, cells)))
+    }
+}

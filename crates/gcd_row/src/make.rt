@@ -1,0 +1,166 @@
+// Making a board.
+ghost use Rattle.std.specs.Prelude.{◌≡◌, ℕ, ◌++◌, [], length, map, drop, IfOk, OnOk, slice_index, if◌then◌else◌};
+ghost use Rattle.std.specs.Vec.Iter.{into_iter_items, into_iter_len};
+ghost use Rattle.gcd_plan.specs.Validity.{IsPlan};
+ghost use Rattle.gcd_row.specs.Opening.{AreHandlersOf, AreFirst, next_cell, object_cells, first_cells};
+ghost use Rattle.gcd_row.specs.Passes.{IsPassOf, slots, terms_of, view};
+ghost use Rattle.gcd_row.specs.Shapes.{shape_of, gives_of};
+ghost use Rattle.gcd_row.specs.Views.{opening_view};
+ghost use Rattle.gcd_row.specs.declared.cell.Cell.TheVariants.{Body, Away};
+
+use crate::board::{Board, RowBoard, RowTable};
+use crate::cell::{Cell, Slot};
+use crate::pass::{Pass, RowPass};
+use crate::view::{Copies, View};
+use atomic_table::{Refused, Seat, Table};
+use gcd_jobs::{Handler, Job};
+use gcd_machine::Machine;
+use gcd_plan::{MAX_EVENTS, Obj, Plan};
+use std::alloc::{AllocError, Global};
+use std::snapshot::Snapshot;
+use std::vec::IntoIter;
+
+// The words of an empty row.
+fn zeros(alloc: Global, count: usize) -> Result<Vec<u64>, AllocError>
+    ensures { IfOk result (λ v. (length v.items ≡ count) × ((i : ℕ) → slice_index v.items i ≡ 0)) }
+{
+    let mut words = Vec::with_capacity(alloc, count)?;
+    while words.len() < count {
+        words.push(0)?;
+    }
+    Ok(words)
+}
+
+// The copies of a plan and of cells.
+fn copies_of<S>(plan: &Plan, cells: &Vec<S>) -> Copies<S>
+    ensures { (result.plan.value ≡ plan.now) × (result.cells.value ≡ cells.now) }
+{
+    Copies {
+        plan: Snapshot::of(plan),
+        cells: Snapshot::of(cells),
+    }
+}
+
+// The cell of the next handler.
+fn next_of<J, H>(left: &mut IntoIter<H, Global>) -> Cell<J, H>
+    requires { into_iter_len left.old ≡ length (into_iter_items left.old) }
+    ensures cell { result ≡ next_cell (into_iter_items left.old) }
+    ensures left { into_iter_items left.new ≡ drop 1 (into_iter_items left.old) }
+    ensures count { into_iter_len left.new ≡ length (into_iter_items left.new) }
+{
+    match left.next() {
+        Some(handler) => Cell::Handler(handler),
+        None => Cell::Away,
+    }
+}
+
+// The cell of the next object: at a source the next handler's, and else nothing.
+fn object_cell<J, H>(is_source: bool, left: &mut IntoIter<H, Global>) -> Cell<J, H>
+    requires { into_iter_len left.old ≡ length (into_iter_items left.old) }
+    ensures cell { result ≡ (if is_source then next_cell (into_iter_items left.old) else Away) }
+    ensures left { into_iter_items left.new ≡ (if is_source then drop 1 (into_iter_items left.old) else into_iter_items left.old) }
+    ensures count { into_iter_len left.new ≡ length (into_iter_items left.new) }
+{
+    if is_source { next_of(left) } else { Cell::Away }
+}
+
+// The cells of the blocks, with room for so many slots.
+fn block_cells<J: Drop, H: Drop>(
+    alloc: Global,
+    jobs: Vec<J>,
+    slots: usize,
+) -> Result<Vec<Cell<J, H>>, AllocError>
+    ensures { IfOk result (λ cells. cells.items ≡ map (λ job. Body job) jobs.items) }
+{
+    let mut cells = Vec::with_capacity(alloc, slots)?;
+    for job in jobs {
+        cells.push(Cell::Body(job))?;
+    }
+    Ok(cells)
+}
+
+// Adds the cells of the objects.
+fn add_objects<J: Drop, H: Drop>(
+    plan: &Plan,
+    handlers: Vec<H>,
+    cells: &mut Vec<Cell<J, H>>,
+) -> Result<(), AllocError>
+    ensures { OnOk result (cells.new.items ≡ cells.old.items ++ object_cells plan.now.objects handlers.items) }
+{
+    let mut left = handlers.into_iter();
+    for number in 0..plan.objects() {
+        let is_source = plan.kind(Obj(number)).is_source();
+        cells.push(object_cell(is_source, &mut left))?;
+    }
+    Ok(())
+}
+
+// A table over these cells with an empty row, and its first seat.
+fn open_table<S: Slot + Drop>(
+    alloc: Global,
+    plan: &Plan,
+    cells: Vec<S>,
+) -> Result<(RowTable<S>, Seat<S, View<S>>), AllocError>
+    requires valid { IsPlan plan.now }
+    requires cells { AreFirst S.shape plan.now cells.items }
+    ensures words { IfOk result (λ made. made.0.shared.table_id.words ≡ 65536) }
+    ensures plan { IfOk result (λ made. made.0.shared.key.plan.value ≡ plan.now) }
+    ensures cells { IfOk result (λ made. made.0.shared.key.cells.value.items ≡ cells.items) }
+    ensures seat { IfOk result (λ made. (made.1.table_id ≡ made.0.shared.table_id) × (made.1.me ≡ (opening_view made.0.shared.key, []))) }
+{
+    let words = zeros(alloc, MAX_EVENTS as usize + 1)?;
+    let copies = copies_of(plan, &cells);
+    match Table::new(alloc, &words, cells, &copies) {
+        Ok(made) => Ok(made),
+        Err(Refused { slots: _ }) => Err(AllocError),
+    }
+}
+
+// The board of a new table, and worker 0's pass. The machine is made last, so that no way out drops one.
+fn open_board<S: Slot + Drop>(
+    alloc: Global,
+    plan: &Plan,
+    table: RowTable<S>,
+    seat: Seat<S, View<S>>,
+) -> Result<(RowBoard<S>, RowPass<S>), AllocError>
+    requires words { table.shared.table_id.words ≡ 65536 }
+    requires plan { table.shared.key.plan.value ≡ plan.now }
+    requires seat { (seat.table_id ≡ table.shared.table_id) × (seat.me ≡ (opening_view table.shared.key, [])) }
+    ensures key { IfOk result (λ made. made.0.table.shared.key ≡ table.shared.key) }
+    ensures pass { IfOk result (λ made. IsPassOf S.shape S.gives made.0 made.1) }
+    ensures view { IfOk result (λ made. view made.1 ≡ opening_view made.0.table.shared.key) }
+{
+    let machine = Machine::new(alloc, plan)?;
+    let pass = RowPass {
+        seat,
+        machine,
+        number: 0,
+    };
+    Ok((RowBoard { table }, pass))
+}
+
+impl<J: Job + Drop, H: Handler + Drop> RowBoard<Cell<J, H>> {
+    /// A board with no event in its row, and worker 0's pass. It takes one job for each block, `main`'s first, and one handler for
+    /// each source, by number, of its kind, which has not been called yet. In the slots lie the jobs, by the numbers of their
+    /// blocks, and behind them one cell for each object: a source's handler, and for another object nothing. An `Err` comes only
+    /// of want of memory; jobs and handlers are dropped then (this project's own rule).
+    pub fn new(
+        alloc: Global,
+        plan: &Plan,
+        jobs: Vec<J>,
+        handlers: Vec<H>,
+    ) -> Result<(Board<J, H>, Pass<J, H>), AllocError>
+        requires jobs { length jobs.items ≡ length plan.now.blocks }
+        requires handlers { AreHandlersOf H.kind H.times H.total plan.now handlers.items }
+        ensures plan { IfOk result (λ made. (terms_of made.0).plan ≡ plan.now) }
+        ensures cells { IfOk result (λ made. (terms_of made.0).cells ≡ first_cells plan.now jobs.items handlers.items) }
+        ensures pass { IfOk result (λ made. IsPassOf (shape_of H.kind H.times H.total) (gives_of J.gives) made.0 made.1) }
+        ensures view { IfOk result (λ made. view made.1 ≡ opening_view made.0.table.shared.key) }
+    {
+        let slots = plan.blocks() as usize + plan.objects() as usize;
+        let mut cells = block_cells(alloc, jobs, slots)?;
+        add_objects(plan, handlers, &mut cells)?;
+        let (table, seat) = open_table(alloc, plan, cells)?;
+        open_board(alloc, plan, table, seat)
+    }
+}

@@ -1,0 +1,134 @@
+// Splitting and joining passes.
+ghost use Rattle.std.specs.Prelude.{◌≡◌, ◌≢◌, ◌<◌, false, List, [], None, IfOk, IfErr};
+ghost use Rattle.gcd_event.specs.declared.event.Event.{Event};
+ghost use Rattle.gcd_machine.specs.Stands.{StandsFor};
+ghost use Rattle.gcd_plan.specs.PlanView.{PlanView};
+ghost use Rattle.gcd_plan.specs.Limits.{max_workers};
+ghost use Rattle.gcd_team.specs.Team.{of_worker};
+ghost use Rattle.gcd_row.specs.Passes.{IsPassOf, Ahead, Merges, slots, view};
+ghost use Rattle.gcd_row.specs.Plays.{Compares};
+ghost use Rattle.gcd_row.specs.Views.{standing_of, lending, newcomer, longer, merging, hearing};
+
+use crate::board::RowBoard;
+use crate::cell::Slot;
+use crate::pass::RowPass;
+use crate::plays::{Compare, Cut, Down, Fresh, Glue, Numbered, Tell};
+use crate::view::View;
+use atomic_table::Seat;
+use gcd_machine::Machine;
+use std::alloc::{AllocError, Global};
+use std::marker::Brand;
+
+// Becomes the machine of the longer of the two histories.
+fn take_farther(machine: &mut Machine, other: Machine)
+    ensures { (plan : PlanView) (g h : List Event) → StandsFor machine.old plan g → StandsFor other plan h → StandsFor machine.new plan (longer g h) }
+{
+    if machine.len() < other.len() {
+        *machine = other;
+    }
+}
+
+impl<S: Slot> RowBoard<S> {
+    // Splits off a seat for this worker.
+    fn cut<N: Numbered>(&self, seat: &mut Seat<S, View<S>>, worker: u8) -> Seat<S, View<S>>
+        requires board { seat.old.table_id ≡ self.now.table.shared.table_id }
+        requires head { (seat.old.me.0.spent ≡ false) × (seat.old.me.0.worker ≡ 0) }
+        requires number { (worker ≢ 0) × (standing_of seat.old.me.0.hands worker ≡ None) }
+        requires picked { N.number ≡ worker }
+        ensures seat { (seat.new.table_id ≡ seat.old.table_id) × (seat.new.me ≡ (lending seat.old.me.0 worker, seat.old.me.1)) }
+        ensures new { (result.table_id ≡ seat.old.table_id) × (result.me ≡ (newcomer seat.old.me.0 worker, [])) }
+    {
+        let _ = worker;
+        self.table.shared.split_seat::<Cut<N>>(seat)
+    }
+
+    /// A pass for a worker, which begins with what worker 0's pass has seen. Conditions: worker 0's pass is given, and the number,
+    /// 1 to 63, was never given out on this board. An `Err` comes only of want of memory, and nothing is given out then (this
+    /// project's own rule). It copies the machine.
+    pub fn split(
+        &self,
+        alloc: Global,
+        pass: &mut RowPass<S>,
+        worker: u8,
+    ) -> Result<RowPass<S>, AllocError>
+        requires pass { IsPassOf S.shape S.gives self.now pass.old }
+        requires head { (view pass.old).worker ≡ 0 }
+        requires number { (0 < worker) × (worker < max_workers) × (standing_of (view pass.old).hands worker ≡ None) }
+        ensures pass { IsPassOf S.shape S.gives self.now pass.new }
+        ensures slots { slots pass.new ≡ slots pass.old }
+        ensures lent { IfOk result (λ new. view pass.new ≡ lending (view pass.old) worker) }
+        ensures new { IfOk result (λ new. IsPassOf S.shape S.gives self.now new × (view new ≡ newcomer (view pass.old) worker)) }
+        ensures none { IfOk result (λ new. of_worker worker (view new).seen ≡ []) }
+        ensures err { IfErr result (λ _. view pass.new ≡ view pass.old) }
+    {
+        let machine = pass.machine.copy(alloc)?;
+        self.table.shared.load::<Fresh>(&mut pass.seat, 0);
+        let seat = self.cut::<Brand>(&mut pass.seat, worker);
+        Ok(RowPass {
+            seat,
+            machine,
+            number: worker,
+        })
+    }
+
+    // Tells a pass what another has seen.
+    fn tell(&self, pass: &mut RowPass<S>, other: &mut RowPass<S>)
+        requires pass { IsPassOf S.shape S.gives self.now pass.old }
+        requires other { IsPassOf S.shape S.gives self.now other.old }
+        ensures pass { IsPassOf S.shape S.gives self.now pass.new × (slots pass.new ≡ slots pass.old) }
+        ensures other { IsPassOf S.shape S.gives self.now other.new × (slots other.new ≡ slots other.old) }
+        ensures told { view pass.new ≡ hearing (view pass.old) (view other.old) }
+        ensures same { view other.new ≡ view other.old }
+    {
+        let note = self.table.shared.split_seat::<Tell>(&mut other.seat);
+        self.table.shared.join_seat::<Tell>(&mut pass.seat, note);
+    }
+
+    // Compares what a pass has seen with what it was told of.
+    fn compare(&self, pass: &mut RowPass<S>)
+        requires { IsPassOf S.shape S.gives self.now pass.old }
+        ensures pass { IsPassOf S.shape S.gives self.now pass.new × (slots pass.new ≡ slots pass.old) }
+        ensures same { view pass.new ≡ view pass.old }
+        ensures compared { Compares (view pass.old) }
+    {
+        self.table.shared.load::<Compare>(&mut pass.seat, 0);
+    }
+
+    // Takes in another pass: the longer of the two histories, with its machine.
+    fn glue(&self, pass: &mut RowPass<S>, other: RowPass<S>)
+        requires pass { IsPassOf S.shape S.gives self.now pass.old }
+        requires other { IsPassOf S.shape S.gives self.now other }
+        requires head { (view pass.old).worker ≡ 0 }
+        requires ahead { Ahead (view pass.old) (longer (view pass.old).seen (view other).seen) }
+        ensures pass { IsPassOf S.shape S.gives self.now pass.new }
+        ensures slots { slots pass.new ≡ slots pass.old }
+        ensures view { view pass.new ≡ merging (view pass.old) (view other) }
+    {
+        let RowPass {
+            mut seat,
+            machine,
+            number: _,
+        } = other;
+        self.table.shared.load::<Down>(&mut seat, 0);
+        self.table.shared.join_seat::<Glue>(&mut pass.seat, seat);
+        take_farther(&mut pass.machine, machine);
+    }
+
+    /// Takes another pass into worker 0's, which has then seen the longer of the two histories; the shorter is its beginning. The
+    /// other's number is not given out again on this board, and what it had of a run goes to that run's slot. Conditions: worker
+    /// 0's pass comes first, and both are of this board (this project's own rule).
+    pub fn join(&self, pass: &mut RowPass<S>, mut other: RowPass<S>)
+        requires pass { IsPassOf S.shape S.gives self.now pass.old }
+        requires other { IsPassOf S.shape S.gives self.now other }
+        requires head { (view pass.old).worker ≡ 0 }
+        ensures pass { IsPassOf S.shape S.gives self.now pass.new }
+        ensures slots { slots pass.new ≡ slots pass.old }
+        ensures view { Merges (view pass.old) (view other) (view pass.new) }
+    {
+        self.tell(pass, &mut other);
+        self.tell(&mut other, pass);
+        self.compare(pass);
+        self.compare(&mut other);
+        self.glue(pass, other);
+    }
+}

@@ -1,0 +1,60 @@
+// The steps on the words of the row.
+ghost use Rattle.std.specs.Prelude.{◌≡◌, ◌<◌, false, length, MatchOption, IfSome, None};
+ghost use Rattle.gcd_history.specs.Choice.{worker_of};
+ghost use Rattle.gcd_history.specs.History.{why};
+ghost use Rattle.gcd_plan.specs.Limits.{max_events};
+ghost use Rattle.gcd_plan.specs.Validity.{IsPlan};
+ghost use Rattle.gcd_row.specs.Plays.{SeesMore, EndsHere, Turned, LaysBack};
+ghost use Rattle.gcd_row.specs.Views.{saw};
+
+use crate::board::RowBoard;
+use crate::cell::Slot;
+use crate::plays::{End, Look, Try};
+use crate::view::View;
+use atomic_table::Seat;
+use gcd_event::{Event, of_word, to_word};
+
+impl<S: Slot> RowBoard<S> {
+    // The event n, where there is one; else the row has n events.
+    pub(crate) fn read(&self, seat: &mut Seat<S, View<S>>, n: u32) -> Option<Event>
+        requires board { seat.old.table_id ≡ self.now.table.shared.table_id }
+        requires live { seat.old.me.0.spent ≡ false }
+        requires place { (n ≡ length seat.old.me.0.seen) × (n < max_events) }
+        ensures board { (seat.new.table_id ≡ seat.old.table_id) × (seat.new.me.1 ≡ seat.old.me.1) }
+        ensures view { MatchOption result (EndsHere seat.old.me.0 seat.new.me.0) (λ e. SeesMore seat.old.me.0 e seat.new.me.0) }
+    {
+        let word = self.table.shared.load::<Look>(seat, n as usize + 1);
+        of_word(word)
+    }
+
+    // Places the event behind the n that were seen, or gives the one that another pass has placed there.
+    pub(crate) fn write(&self, seat: &mut Seat<S, View<S>>, n: u32, e: Event) -> Option<Event>
+        requires board { seat.old.table_id ≡ self.now.table.shared.table_id }
+        requires live { seat.old.me.0.spent ≡ false }
+        requires place { (n ≡ length seat.old.me.0.seen) × (n < max_events) }
+        requires valid { IsPlan seat.old.me.0.terms.plan }
+        requires slot { LaysBack S.shape S.gives e seat.old.me }
+        requires event { (worker_of e ≡ seat.old.me.0.worker) × (why seat.old.me.0.terms.plan seat.old.me.0.seen e ≡ None) }
+        ensures board { seat.new.table_id ≡ seat.old.table_id }
+        ensures view { MatchOption result ((seat.new.me.0 ≡ saw seat.old.me.0 e) × Turned S.shape S.gives seat.old.me.0.terms seat.old.me.0.seen e seat.old.me.1 seat.new.me.1) (λ x. SeesMore seat.old.me.0 x seat.new.me.0) }
+        ensures slot { IfSome result (λ _. seat.new.me.1 ≡ seat.old.me.1) }
+    {
+        let word = to_word(e);
+        let found = self
+            .table
+            .shared
+            .compare_exchange::<Try>(seat, n as usize + 1, 0, word);
+        of_word(found)
+    }
+
+    // A pass that has seen as many events as there can be has seen the row.
+    pub(crate) fn finish(&self, seat: &mut Seat<S, View<S>>)
+        requires board { seat.old.table_id ≡ self.now.table.shared.table_id }
+        requires live { seat.old.me.0.spent ≡ false }
+        requires full { length seat.old.me.0.seen ≡ max_events }
+        ensures board { (seat.new.table_id ≡ seat.old.table_id) × (seat.new.me ≡ seat.old.me) }
+        ensures ends { EndsHere seat.old.me.0 seat.new.me.0 }
+    {
+        self.table.shared.load::<End>(seat, 0);
+    }
+}

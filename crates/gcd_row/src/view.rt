@@ -1,0 +1,42 @@
+// What a board is made for, and what passes know. Contracts alone read these; no value of `Terms` or `View` is made.
+use gcd_event::Event;
+use gcd_plan::Plan;
+use std::collections::LinkedList;
+use std::snapshot::Snapshot;
+
+/// Copies for contracts of the plan that a board is made for, and of the cells that were in its slots at first. They have no
+/// bytes.
+#[derive(Drop)]
+pub struct Copies<S> {
+    pub plan: Snapshot<Plan>,
+    pub cells: Snapshot<Vec<S>>,
+}
+
+/// The plan that a board is made for, and the cells that were in its slots at first, by slot.
+pub struct Terms<S> {
+    pub plan: Plan,
+    pub cells: LinkedList<S>,
+}
+
+/// Where the pass of a worker's number is that was given out.
+pub enum Standing {
+    /// It was made and not joined.
+    Out,
+    /// It was joined into worker 0's pass.
+    Back,
+}
+
+/// What a pass knows of its board.
+pub struct View<S> {
+    pub terms: Terms<S>,
+    /// It was joined into another, and is no pass any more.
+    pub spent: bool,
+    /// Its number, 0 to 63.
+    pub worker: u8,
+    /// A beginning of the row's history, with all events of its worker.
+    pub seen: LinkedList<Event>,
+    /// A beginning of the history that it was told of.
+    pub told: LinkedList<Event>,
+    /// At worker 0: each number that was given out, the last change first.
+    pub hands: LinkedList<(u8, Standing)>,
+}
