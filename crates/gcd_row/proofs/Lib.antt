@@ -14,3 +14,4 @@ pub mod FirstCells
 pub mod Ending
 pub mod Merging
 pub mod SourceSlots
+pub mod AfterPut

@@ -26,7 +26,7 @@ at_end (x ∷ xs) a b (suc j) e = ⊎_elim (λ (t : get_elem? xs j ≡ some b). 
 standing_same : (l : List (ℕ × Standing)) (w : ℕ) (s : Standing) (n : ℕ) → w ≡ n → standing_of ((w, s) ∷ l) n ≡ Some s
 standing_same l w s n e = ap (λ (b : Bool). cond b (Some s) (standing_of l n)) (eq-eqb w n e)
 
-standing_other : (l : List (ℕ × Standing)) (w : ℕ) (s : Standing) (n : ℕ) → w ≢ n → standing_of ((w, s) ∷ l) n ≡ standing_of l n
+pub standing_other : (l : List (ℕ × Standing)) (w : ℕ) (s : Standing) (n : ℕ) → w ≢ n → standing_of ((w, s) ∷ l) n ≡ standing_of l n
 standing_other l w s n e = ap (λ (b : Bool). cond b (Some s) (standing_of l n)) (ne_eqb w n e)
 
 some_not_none : (o : Option Standing) (s : Standing) → o ≡ Some s → o ≡ None → ⊥

@@ -101,6 +101,11 @@ module _ {S : Type 0} where
     pub width : length cells ≡ slots_of t.plan
     pub lie : (r : Run) (c : S) → IsRun t.plan r → IsNobodys t.plan h r → get_elem? cells (slot_of t.plan r) ≡ some c → Lies shape gives t h r c
 
+  -- it has the same number, and the same numbers are out
+  pub record HasSameNumbers (v w : View S) : Type 0 where
+    pub worker : w.worker ≡ v.worker
+    pub hands : w.hands ≡ v.hands
+
   -- it has seen one event more, or the row is what it has seen
   abbrev pub EndsOrLearns : View S → View S → Bool → Type 0
   EndsOrLearns v w true = Learnt v w

@@ -106,6 +106,7 @@ fn open_table<S: Slot + Drop>(
     ensures words { IfOk result (λ made. made.0.shared.table_id.words ≡ 65536) }
     ensures plan { IfOk result (λ made. made.0.shared.key.plan.value ≡ plan.now) }
     ensures cells { IfOk result (λ made. made.0.shared.key.cells.value.items ≡ cells.items) }
+    ensures first { IfOk result (λ made. AreFirst S.shape made.0.shared.key.plan.value made.0.shared.key.cells.value.items) }
     ensures seat { IfOk result (λ made. (made.1.table_id ≡ made.0.shared.table_id) × (made.1.me ≡ (opening_view made.0.shared.key, []))) }
 {
     let words = zeros(alloc, MAX_EVENTS as usize + 1)?;
@@ -125,8 +126,10 @@ fn open_board<S: Slot + Drop>(
 ) -> Result<(RowBoard<S>, RowPass<S>), AllocError>
     requires words { table.shared.table_id.words ≡ 65536 }
     requires plan { table.shared.key.plan.value ≡ plan.now }
+    requires first { AreFirst S.shape table.shared.key.plan.value table.shared.key.cells.value.items }
     requires seat { (seat.table_id ≡ table.shared.table_id) × (seat.me ≡ (opening_view table.shared.key, [])) }
     ensures key { IfOk result (λ made. made.0.table.shared.key ≡ table.shared.key) }
+    ensures first { IfOk result (λ made. AreFirst S.shape (terms_of made.0).plan (terms_of made.0).cells) }
     ensures pass { IfOk result (λ made. IsPassOf S.shape S.gives made.0 made.1) }
     ensures view { IfOk result (λ made. view made.1 ≡ opening_view made.0.table.shared.key) }
 {
@@ -154,6 +157,7 @@ impl<J: Job + Drop, H: Handler + Drop> RowBoard<Cell<J, H>> {
         requires handlers { AreHandlersOf H.kind H.times H.total plan.now handlers.items }
         ensures plan { IfOk result (λ made. (terms_of made.0).plan ≡ plan.now) }
         ensures cells { IfOk result (λ made. (terms_of made.0).cells ≡ first_cells plan.now jobs.items handlers.items) }
+        ensures first { IfOk result (λ made. AreFirst (shape_of H.kind H.times H.total) (terms_of made.0).plan (terms_of made.0).cells) }
         ensures pass { IfOk result (λ made. IsPassOf (shape_of H.kind H.times H.total) (gives_of J.gives) made.0 made.1) }
         ensures view { IfOk result (λ made. view made.1 ≡ opening_view made.0.table.shared.key) }
     {
