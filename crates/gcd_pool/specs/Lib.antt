@@ -1,2 +1,4 @@
 pub mod Duties
 pub mod Each
+pub mod Hands
+pub mod Turns
