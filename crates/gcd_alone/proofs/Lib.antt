@@ -1,2 +1,2 @@
-mod Goings
+pub mod Goings
 mod ValuesMore

@@ -5,3 +5,8 @@ pub mod Nodes
 pub mod Serves
 pub mod Cells
 pub mod Told
+pub mod Works
+pub mod Outside
+pub mod Leading
+pub mod LeadTurns
+pub mod Splices

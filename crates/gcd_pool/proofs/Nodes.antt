@@ -13,7 +13,7 @@ use Rattle.gcd_plan.specs.declared.numbers.Run.{Run}
 use Rattle.gcd_event.specs.declared.event.Event.{Event}
 use Rattle.gcd_event.specs.declared.event.Event.TheVariants.{Start, Act as Acted, Wake, End, Deliver, DeliverEnd, Tick, Ready, FeedEnd, Misuse, Halt}
 use Rattle.gcd_history.specs.declared.submission.Submission.{Submission}
-use Rattle.gcd_history.specs.Choice.{worker_of}
+use Rattle.gcd_history.specs.Choice.{is_work, worker_of}
 use Rattle.gcd_history.specs.Runs.{is_started}
 use Rattle.gcd_history.specs.Submitted.{submitted, submission_of}
 use Rattle.gcd_history.specs.Permitted.{first_waiting, is_on, is_worker, waits_on}
@@ -79,6 +79,7 @@ pub record Begins (plan : PlanView) (h : List Event) (w n : ℕ) (e : Event) : T
   pub node : begun_on plan h e ≡ Some (record { 0 = n })
   pub worker : worker_of e ≡ w
   pub may : why plan h e ≡ None
+  pub work : is_work e ≡ true
 
 permitted_is : (plan : PlanView) (h : List Event) (x e : Event) → if_permitted plan h x ≡ Some e → (x ≡ e) × (why plan h x ≡ None)
 permitted_is plan h x e is = go (why plan h x) refl is
@@ -94,13 +95,13 @@ start_begins plan h w n e valid lawful is = go (first_waiting_of plan h n) refl 
     go None at k = absurd (cc)
     go (Some b) at k =
         let p = permitted_is plan h (Start w b) e k in
-        subst (Begins plan h w n) p.0 (record { node = first_is_there plan h n b valid lawful at; worker = refl; may = p.1 })
+        subst (Begins plan h w n) p.0 (record { node = first_is_there plan h n b valid lawful at; worker = refl; may = p.1; work = refl })
 
 deliver_begins : (plan : PlanView) (h : List Event) (w n : ℕ) (e : Event) → deliver_of plan h w n ≡ Some e → Begins plan h w n e
 deliver_begins plan h w n e is = go (is_source plan n) is
   where
     go : (b : Bool) → cond b (if_permitted plan h (Deliver w (record { 0 = n }))) None ≡ Some e → Begins plan h w n e
-    go true k = let p = permitted_is plan h (Deliver w (record { 0 = n })) e k in subst (Begins plan h w n) p.0 (record { node = refl; worker = refl; may = p.1 })
+    go true k = let p = permitted_is plan h (Deliver w (record { 0 = n })) e k in subst (Begins plan h w n) p.0 (record { node = refl; worker = refl; may = p.1; work = refl })
     go false k = absurd (cc)
 
 pub begins : (plan : PlanView) (h : List Event) (w n : ℕ) (e : Event) → IsPlan plan → IsLawful plan h → begin_of plan h w n ≡ Some e → Begins plan h w n e

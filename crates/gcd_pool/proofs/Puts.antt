@@ -45,7 +45,7 @@ module _ {S : Type 0} where
   pub looks_goes_on : (v w : View S) → Looks v w → GoesOn v w
   looks_goes_on v w l = record { is = l.is; more = l.ahead.more }
 
-  placed_seen : (e : Event) (v w : View S) (n : ℕ) (p : IsPlaced e v w n) → w.seen ≡ p.history ++ e ∷ []
+  pub placed_seen : (e : Event) (v w : View S) (n : ℕ) (p : IsPlaced e v w n) → w.seen ≡ p.history ++ e ∷ []
   placed_seen e v w n p = ap (λ (x : View S). x.seen) p.is
 
   pub says_goes_on : (e : Event) (v w : View S) (r : Put) → Says e v w r → GoesOn v w

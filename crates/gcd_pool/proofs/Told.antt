@@ -5,7 +5,7 @@ use Rattle.gcd_plan.specs.Limits.{max_events}
 use Rattle.gcd_plan.specs.PlanView.{PlanView}
 use Rattle.gcd_plan.specs.declared.numbers.Obj.{Obj}
 use Rattle.gcd_event.specs.declared.event.Event.{Event}
-use Rattle.gcd_history.specs.Choice.{worker_of}
+use Rattle.gcd_history.specs.Choice.{is_work, worker_of}
 use Rattle.gcd_history.specs.Laws.{IsChoiceOf}
 use Rattle.gcd_history.specs.History.{why, choice_of}
 use Rattle.gcd_history.proofs.PublicLaws.{choice_is_permitted}
@@ -41,13 +41,13 @@ module _ {S : Type 0} (shape : S → Shape) (gives : S → ℕ → Type 0) (b : 
       (begins v.terms.plan v.seen w n.0 e (valid_plan shape gives b p is) (lawful_seen shape gives b p is) (sym told))
 
   -- what it chooses
-  chosen : (w from : ℕ) (e : Event) → w ≡ p.number → Chooses (view p).terms.plan (view p).seen w from e → (worker_of e ≡ (view p).worker) × (why (view p).terms.plan (view p).seen e ≡ None)
+  chosen : (w from : ℕ) (e : Event) → w ≡ p.number → Chooses (view p).terms.plan (view p).seen w from e → (worker_of e ≡ (view p).worker) × (why (view p).terms.plan (view p).seen e ≡ None) × (is_work e ≡ true)
   chosen w from e worker c =
       let it = choice_is_permitted (view p).terms.plan (view p).seen w from e c.chosen in
-      (it.by ∙ worker ∙ is.number, it.permitted)
+      (it.by ∙ worker ∙ is.number, it.permitted, it.work)
 
   pub to_record : (m : MachineView) (w from : ℕ) (e : Event) → m ≡ p.machine → w ≡ p.number → ((plan : PlanView) (h : List Event) → StandsFor m plan h → length h ≤ max_events → IsDuty plan h w from (Record e))
-      → (worker_of e ≡ (view p).worker) × (why (view p).terms.plan (view p).seen e ≡ None)
+      → (worker_of e ≡ (view p).worker) × (why (view p).terms.plan (view p).seen e ≡ None) × (is_work e ≡ true)
   to_record m w from e machine worker tells = chosen w from e worker (tells (view p).terms.plan (view p).seen (stands_as m machine) is.few).0
 
   pub to_begin : (m : MachineView) (w from : ℕ) (n : Obj) (e : Event) → m ≡ p.machine → w ≡ p.number → ((plan : PlanView) (h : List Event) → StandsFor m plan h → length h ≤ max_events → IsDuty plan h w from (Begin n e))

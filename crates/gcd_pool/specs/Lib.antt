@@ -2,3 +2,5 @@ pub mod Duties
 pub mod Each
 pub mod Hands
 pub mod Turns
+pub mod Works
+pub mod Leads

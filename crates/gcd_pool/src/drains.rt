@@ -9,6 +9,7 @@ ghost use Rattle.gcd_steal.specs.Racks.{IsBenchOf, IsRackDrain, number_of};
 ghost use Rattle.gcd_pool.specs.Duties.{begun_on};
 ghost use Rattle.gcd_pool.specs.Hands.{GoesOn, IsFresh, IsReady, Serving};
 ghost use Rattle.gcd_pool.specs.Turns.{AfterTurn, IsLaidDown};
+ghost use Rattle.gcd_pool.specs.Works.{AddsWork};
 
 use crate::beginning::begin_on;
 use crate::crew::Crew;
@@ -93,6 +94,7 @@ fn start_with<S: Slot>(
     requires fresh { IsFresh S.shape (view pass.old) (slots pass.old) }
     ensures pass { IsPassOf S.shape S.gives board.now pass.new }
     ensures view { GoesOn (view pass.old) (view pass.new) }
+    ensures work { AddsWork (view pass.old) (view pass.new) }
     ensures fresh { IsFresh S.shape (view pass.new) (slots pass.new) }
 {
     match begin_on(plan, pass.machine(), pass.worker(), drain.node()) {
@@ -117,6 +119,7 @@ fn begin_with<S: Slot>(pool: &Pool<S>, hand: &mut Hand<S>, drain: Drain) -> Turn
     requires ready { IsReady S.shape S.gives pool.now hand.old }
     requires drain { IsRackDrain pool.now.rack.now drain }
     ensures serving { Serving S.shape S.gives pool.now hand.old hand.new }
+    ensures work { AddsWork (view hand.old.pass) (view hand.new.pass) }
     ensures after { AfterTurn S.shape result (view hand.new.pass) (slots hand.new.pass) }
     ensures laid { IsLaidDown hand.old.bench drain hand.new.bench }
 {
@@ -136,6 +139,7 @@ pub fn begin_near<S: Crew, R: Wait>(rt: &R, pool: &Pool<S>, hand: &mut Hand<S>, 
     requires ready { IsReady S.shape S.gives pool.now hand.old }
     requires node { IsTrue (is_node (view hand.old.pass).terms.plan node.0) }
     ensures serving { Serving S.shape S.gives pool.now hand.old hand.new }
+    ensures work { AddsWork (view hand.old.pass) (view hand.new.pass) }
     ensures after { AfterTurn S.shape result (view hand.new.pass) (slots hand.new.pass) }
 {
     match find_drain(rt, pool.rack, &mut hand.bench, node) {

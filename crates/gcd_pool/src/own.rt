@@ -1,11 +1,12 @@
 // Recording the events that begin no run on a node.
-ghost use Rattle.std.specs.Prelude.{◌≡◌, ◌≤◌, length, None, Some, MatchOption};
-ghost use Rattle.gcd_history.specs.Choice.{worker_of};
+ghost use Rattle.std.specs.Prelude.{◌≡◌, ◌≤◌, true, length, None, Some, MatchOption};
+ghost use Rattle.gcd_history.specs.Choice.{is_work, worker_of};
 ghost use Rattle.gcd_history.specs.History.{why};
 ghost use Rattle.gcd_plan.specs.declared.numbers.Run.TheVariants.{Block, Source};
 ghost use Rattle.gcd_row.specs.Passes.{IsPassOf, slots, view};
 ghost use Rattle.gcd_pool.specs.Hands.{GoesOn, IsFresh, IsReady, IsSettled, Serving, ended_run};
 ghost use Rattle.gcd_pool.specs.Turns.{AfterTurn};
+ghost use Rattle.gcd_pool.specs.Works.{AddsWork};
 
 use crate::crew::Crew;
 use crate::hand::{Hand, Pool};
@@ -41,6 +42,7 @@ fn try_end<S: Slot>(board: &RowBoard<S>, pass: &mut RowPass<S>, e: Event) -> Opt
     requires settled { IsSettled S.shape (view pass.old) e (slots pass.old) }
     ensures pass { IsPassOf S.shape S.gives board.now pass.new }
     ensures view { GoesOn (view pass.old) (view pass.new) }
+    ensures work { AddsWork (view pass.old) (view pass.new) }
     ensures says { MatchOption result (IsSettled S.shape (view pass.new) e (slots pass.new)) (λ t. AfterTurn S.shape t (view pass.new) (slots pass.new)) }
 {
     match board.put(pass, e) {
@@ -63,6 +65,7 @@ fn put_end<S: Slot, R: Wait>(rt: &R, board: &RowBoard<S>, pass: &mut RowPass<S>,
     requires settled { IsSettled S.shape (view pass.old) e (slots pass.old) }
     ensures pass { IsPassOf S.shape S.gives board.now pass.new }
     ensures view { GoesOn (view pass.old) (view pass.new) }
+    ensures work { AddsWork (view pass.old) (view pass.new) }
     ensures after { AfterTurn S.shape result (view pass.new) (slots pass.new) }
 {
     for _ in rt.forever() {
@@ -88,6 +91,7 @@ fn end_block<S: Crew, R: Wait>(
     requires fresh { IsFresh S.shape (view pass.old) (slots pass.old) }
     ensures pass { IsPassOf S.shape S.gives board.now pass.new }
     ensures view { GoesOn (view pass.old) (view pass.new) }
+    ensures work { AddsWork (view pass.old) (view pass.new) }
     ensures after { AfterTurn S.shape result (view pass.new) (slots pass.new) }
 {
     S::run_body(board, pass, b);
@@ -109,6 +113,7 @@ fn end_source<S: Crew, R: Wait>(
     requires fresh { IsFresh S.shape (view pass.old) (slots pass.old) }
     ensures pass { IsPassOf S.shape S.gives board.now pass.new }
     ensures view { GoesOn (view pass.old) (view pass.new) }
+    ensures work { AddsWork (view pass.old) (view pass.new) }
     ensures after { AfterTurn S.shape result (view pass.new) (slots pass.new) }
 {
     S::call_handler(board, pass, s);
@@ -121,10 +126,12 @@ fn go_on<S: Slot>(board: &RowBoard<S>, pass: &mut RowPass<S>, e: Event) -> Turn
     requires worker { worker_of e ≡ (view pass.old).worker }
     requires may { why (view pass.old).terms.plan (view pass.old).seen e ≡ None }
     requires ends_none { ended_run e ≡ None }
+    requires work { is_work e ≡ true }
     requires cells { length (view pass.old).terms.plan.blocks ≤ length (view pass.old).terms.cells }
     requires fresh { IsFresh S.shape (view pass.old) (slots pass.old) }
     ensures pass { IsPassOf S.shape S.gives board.now pass.new }
     ensures view { GoesOn (view pass.old) (view pass.new) }
+    ensures work { AddsWork (view pass.old) (view pass.new) }
     ensures after { AfterTurn S.shape result (view pass.new) (slots pass.new) }
 {
     match board.put_chosen(pass, e) {
@@ -140,7 +147,9 @@ pub fn record_own<S: Crew, R: Wait>(rt: &R, pool: &Pool<S>, hand: &mut Hand<S>, 
     requires ready { IsReady S.shape S.gives pool.now hand.old }
     requires worker { worker_of e ≡ (view hand.old.pass).worker }
     requires may { why (view hand.old.pass).terms.plan (view hand.old.pass).seen e ≡ None }
+    requires work { is_work e ≡ true }
     ensures serving { Serving S.shape S.gives pool.now hand.old hand.new }
+    ensures work { AddsWork (view hand.old.pass) (view hand.new.pass) }
     ensures after { AfterTurn S.shape result (view hand.new.pass) (slots hand.new.pass) }
 {
     match ended_run(e) {

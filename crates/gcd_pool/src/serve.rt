@@ -81,7 +81,7 @@ fn step<S: Crew, R: Wait>(rt: &R, pool: &Pool<S>, hand: &mut Hand<S>, pace: &mut
 }
 
 // Turn by turn, until the run has ended.
-fn serve_to_the_end<S: Crew, R: Wait>(rt: &R, pool: &Pool<S>, hand: &mut Hand<S>)
+pub fn serve_to_the_end<S: Crew, R: Wait>(rt: &R, pool: &Pool<S>, hand: &mut Hand<S>)
     requires { IsReady S.shape S.gives pool.now hand.old }
     ensures { Served S.shape S.gives pool.now hand.old hand.new }
 {

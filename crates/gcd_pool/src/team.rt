@@ -34,7 +34,7 @@ pub trait Lead<T, D: Desk<T>, P: Poller, C: Clock> {
 }
 
 // Each helper in a thread.
-pub(crate) fn serve_all<T: Send, D: Desk<T> + Sync, R: Threads + Wait + Sync>(
+fn serve_all<T: Send, D: Desk<T> + Sync, R: Threads + Wait + Sync>(
     rt: &R,
     desk: &D,
     hands: &mut [T],
@@ -91,4 +91,25 @@ pub fn run_team<
             ensures { Each (D.served desk.entry.now) first.entry.now first.exit.now × ((d : T) → L.led desk.entry.now (slice_index_or first.entry.now 0 d, poller.entry.now, clock.entry.now) (slice_index_or first.exit.now 0 d, poller.exit.now, clock.exit.now)) }
         { lead_first::<T, D, L, P, C, R>(rt, desk, poller, clock, first) },
     );
+}
+
+// The same, where a team of one needs no thread.
+pub fn lead_team<
+    T: Send,
+    D: Desk<T> + Sync,
+    L: Lead<T, D, P, C>,
+    P: Poller,
+    C: Clock,
+    R: Threads + Wait + Sync,
+>(rt: &R, desk: &D, hands: &mut [T], poller: &mut P, clock: &mut C)
+    requires some { 0 < length hands.old }
+    requires hands { All (D.ready desk.now) hands.old }
+    ensures hands { Each (D.served desk.now) hands.old hands.new }
+    ensures led { (d : T) → L.led desk.now (slice_index_or hands.old 0 d, poller.old, clock.old) (slice_index_or hands.new 0 d, poller.new, clock.new) }
+{
+    if hands.len() == 1 {
+        lead_first::<T, D, L, P, C, R>(rt, desk, poller, clock, hands);
+    } else {
+        run_team::<T, D, L, P, C, R>(rt, desk, hands, poller, clock);
+    }
 }

@@ -1,3 +1,0 @@
-mod boards;
-mod plans;
-mod teams;
