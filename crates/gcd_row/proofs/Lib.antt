@@ -15,3 +15,4 @@ pub mod Ending
 pub mod Merging
 pub mod SourceSlots
 pub mod AfterPut
+pub mod Tallies

@@ -7,6 +7,7 @@ use Rattle.gcd_plan.specs.Kinds.{is_source_kind}
 use Rattle.gcd_plan.specs.declared.kind.Kind.{Kind}
 use Rattle.gcd_plan.specs.declared.numbers.Run.{Run}
 use Rattle.gcd_plan.specs.declared.numbers.Run.TheVariants.{Block, Source}
+use Rattle.gcd_jobs.specs.declared.tally.Tally.{Tally}
 use Rattle.gcd_row.specs.Shapes.{Shape, body}
 use Rattle.gcd_row.specs.Lying.{slots_of, slot_of, source_shape}
 use Rattle.gcd_row.specs.declared.cell.Cell.{Cell}
@@ -32,6 +33,10 @@ module _ {J H : Type 0} where
   -- the cells of a board, in the order of their slots
   abbrev pub first_cells : PlanView → List J → List H → List (Cell J H)
   first_cells plan jobs handlers = map (λ job. Body job) jobs ++ object_cells plan.objects handlers
+
+-- a tally for a source of this kind, and none for another object
+abbrev pub tallies_for : Kind → List Tally
+tallies_for kind = if is_source_kind kind then record { kind = kind; times = 0; total = 0 } ∷ [] else []
 
 -- what lies in the slot of a run before the first event
 abbrev pub first_shape : PlanView → Run → Shape

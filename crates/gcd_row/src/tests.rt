@@ -1,0 +1,3 @@
+// Rows of one pass and of two.
+mod rows;
+mod work;
