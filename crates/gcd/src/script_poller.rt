@@ -9,7 +9,8 @@ use std::rt::Files;
 
 /// A poller of the feeds that a script names: by their paths from the caller's folder; a path that names no regular file
 /// there is looked up from the folder of the script, as its files are. The path `tcp` is no name of a file, and is handed on
-/// as it is. It tells nothing, since the system's files decide which path is watched (this project's own rule).
+/// as it is. Where there is no memory for the second name, the first is watched, so that a fault is counted. It tells nothing,
+/// since the system's files decide which path is watched (this project's own rule).
 #[derive(Drop)]
 pub struct ScriptPoller<'a, R: Files<File = File>, P: Poller> {
     rt: &'a R,

@@ -1,2 +1,2 @@
 pub mod Goings
-mod ValuesMore
+pub mod ValuesMore

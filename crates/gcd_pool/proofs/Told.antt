@@ -51,8 +51,9 @@ module _ {S : Type 0} (shape : S → Shape) (gives : S → ℕ → Type 0) (b : 
   to_record m w from e machine worker tells = chosen w from e worker (tells (view p).terms.plan (view p).seen (stands_as m machine) is.few).0
 
   pub to_begin : (m : MachineView) (w from : ℕ) (n : Obj) (e : Event) → m ≡ p.machine → w ≡ p.number → ((plan : PlanView) (h : List Event) → StandsFor m plan h → length h ≤ max_events → IsDuty plan h w from (Begin n e))
-      → is_node (view p).terms.plan n.0 ≡ true
+      → (is_node (view p).terms.plan n.0 ≡ true) × (begun_on (view p).terms.plan (view p).seen e ≡ Some n) × (worker_of e ≡ (view p).worker) × (why (view p).terms.plan (view p).seen e ≡ None) × (is_work e ≡ true)
   to_begin m w from n e machine worker tells =
       let v = view p in
       let duty = tells v.terms.plan v.seen (stands_as m machine) is.few in
-      begun_node v.terms.plan v.seen e n (valid_plan shape gives b p is) (chosen w from e worker duty.0).1 duty.1
+      let it = chosen w from e worker duty.0 in
+      (begun_node v.terms.plan v.seen e n (valid_plan shape gives b p is) it.1 duty.1, duty.1, it.0, it.1, it.2)

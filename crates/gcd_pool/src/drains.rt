@@ -1,6 +1,6 @@
 // What a worker does with a Drain.
-ghost use Rattle.std.specs.Prelude.{◌≡◌, ◌<◌, ◌≤◌, length, None, Some, IsTrue};
-ghost use Rattle.gcd_history.specs.Choice.{worker_of};
+ghost use Rattle.std.specs.Prelude.{◌≡◌, ◌<◌, ◌≤◌, true, length, None, Some, IsTrue};
+ghost use Rattle.gcd_history.specs.Choice.{is_work, worker_of};
 ghost use Rattle.gcd_history.specs.History.{why};
 ghost use Rattle.gcd_plan.specs.Kinds.{is_node};
 ghost use Rattle.gcd_row.specs.Passes.{IsPassOf, Says, SaysSlots, slots, view};
@@ -80,6 +80,23 @@ fn lay_down(rack: &Rack, bench: &mut Bench, drain: Drain, more: bool)
     }
 }
 
+// Puts an event that the pass's machine permits, and that begins a run on the Drain's node. Whether it was placed.
+fn begins_run<S: Slot>(board: &RowBoard<S>, pass: &mut RowPass<S>, drain: &Drain, e: Event) -> bool
+    requires pass { IsPassOf S.shape S.gives board.now pass.old }
+    requires worker { worker_of e ≡ (view pass.old).worker }
+    requires begins { begun_on (view pass.old).terms.plan (view pass.old).seen e ≡ Some (node_of drain.now) }
+    requires may { why (view pass.old).terms.plan (view pass.old).seen e ≡ None }
+    requires work { is_work e ≡ true }
+    requires cells { length (view pass.old).terms.plan.blocks ≤ length (view pass.old).terms.cells }
+    requires fresh { IsFresh S.shape (view pass.old) (slots pass.old) }
+    ensures pass { IsPassOf S.shape S.gives board.now pass.new }
+    ensures view { GoesOn (view pass.old) (view pass.new) }
+    ensures work { AddsWork (view pass.old) (view pass.new) }
+    ensures fresh { IsFresh S.shape (view pass.new) (slots pass.new) }
+{
+    matches!(begin_chosen(board, pass, drain, e), Put::Placed(_))
+}
+
 // Begins what may begin on the Drain's node. Whether an event was placed.
 fn start_with<S: Slot>(
     plan: &Plan,
@@ -98,7 +115,7 @@ fn start_with<S: Slot>(
     ensures fresh { IsFresh S.shape (view pass.new) (slots pass.new) }
 {
     match begin_on(plan, pass.machine(), pass.worker(), drain.node()) {
-        Some(e) => matches!(begin_chosen(board, pass, drain, e), Put::Placed(_)),
+        Some(e) => begins_run(board, pass, drain, e),
         None => false,
     }
 }
@@ -145,5 +162,47 @@ pub fn begin_near<S: Crew, R: Wait>(rt: &R, pool: &Pool<S>, hand: &mut Hand<S>, 
     match find_drain(rt, pool.rack, &mut hand.bench, node) {
         Some(drain) => begin_with(pool, hand, drain),
         None => Turn::Out(node),
+    }
+}
+
+// Begins the run of this event with its node's Drain, and lays that asleep.
+fn begin_awake<S: Slot>(pool: &Pool<S>, hand: &mut Hand<S>, drain: Drain, e: Event) -> Turn
+    requires ready { IsReady S.shape S.gives pool.now hand.old }
+    requires drain { IsRackDrain pool.now.rack.now drain }
+    requires worker { worker_of e ≡ (view hand.old.pass).worker }
+    requires begins { begun_on (view hand.old.pass).terms.plan (view hand.old.pass).seen e ≡ Some (node_of drain) }
+    requires may { why (view hand.old.pass).terms.plan (view hand.old.pass).seen e ≡ None }
+    requires work { is_work e ≡ true }
+    ensures serving { Serving S.shape S.gives pool.now hand.old hand.new }
+    ensures work { AddsWork (view hand.old.pass) (view hand.new.pass) }
+    ensures after { AfterTurn S.shape result (view hand.new.pass) (slots hand.new.pass) }
+    ensures laid { IsLaidDown hand.old.bench drain hand.new.bench }
+{
+    let placed = begins_run(pool.board, &mut hand.pass, &drain, e);
+    pool.rack.sleep(&mut hand.bench, drain);
+    if placed { Turn::Placed } else { Turn::Waited }
+}
+
+// Begins the run of this event, where no other bench takes Drains: the node's Drain sleeps, unless it lies in a deque since earlier.
+pub fn begin_alone<S: Crew, R: Wait>(
+    rt: &R,
+    pool: &Pool<S>,
+    hand: &mut Hand<S>,
+    node: Obj,
+    e: Event,
+) -> Turn
+    requires ready { IsReady S.shape S.gives pool.now hand.old }
+    requires node { IsTrue (is_node (view hand.old.pass).terms.plan node.0) }
+    requires worker { worker_of e ≡ (view hand.old.pass).worker }
+    requires begins { begun_on (view hand.old.pass).terms.plan (view hand.old.pass).seen e ≡ Some node }
+    requires may { why (view hand.old.pass).terms.plan (view hand.old.pass).seen e ≡ None }
+    requires work { is_work e ≡ true }
+    ensures serving { Serving S.shape S.gives pool.now hand.old hand.new }
+    ensures work { AddsWork (view hand.old.pass) (view hand.new.pass) }
+    ensures after { AfterTurn S.shape result (view hand.new.pass) (slots hand.new.pass) }
+{
+    match pool.rack.wake(&mut hand.bench, node) {
+        Some(drain) => begin_awake(pool, hand, drain, e),
+        None => begin_near(rt, pool, hand, node),
     }
 }

@@ -1,19 +1,23 @@
 // The turns of worker 0, which alone has poller and clock.
-ghost use Rattle.std.specs.Prelude.{◌≡◌, ◌≤◌, false, length, List, [], ◌++◌};
+ghost use Rattle.std.specs.Prelude.{◌≡◌, ◌≤◌, true, false, length, None, Some, IsTrue};
 ghost use Rattle.gcd_event.specs.declared.event.Event.{Event};
 ghost use Rattle.gcd_history.specs.Choice.{is_work, worker_of};
+ghost use Rattle.gcd_history.specs.History.{why};
 ghost use Rattle.gcd_outer.specs.Outside.{ClockState};
 ghost use Rattle.gcd_outer.specs.Tells.{PollerState};
 ghost use Rattle.gcd_row.specs.Passes.{IsPassOf, slots, view};
 ghost use Rattle.gcd_turn.specs.Asked.{IsFree, KeepsListens};
 ghost use Rattle.gcd_turn.specs.Turns.{HasRoom, first_event};
 ghost use Rattle.gcd_alone.specs.Going.{IsGoing};
+ghost use Rattle.gcd_plan.specs.Kinds.{is_node};
+ghost use Rattle.gcd_pool.specs.Duties.{begun_on};
 ghost use Rattle.gcd_pool.specs.Hands.{GoesOn, IsFresh, IsReady, Served, Serving};
 ghost use Rattle.gcd_pool.specs.Leads.{IsPut, IsToldPut, Led};
 ghost use Rattle.gcd_pool.specs.Turns.{AfterTurn};
+ghost use Rattle.gcd_pool.specs.Works.{AddsWork};
 
 use crate::crew::Crew;
-use crate::drains::begin_near;
+use crate::drains::{begin_alone, begin_near};
 use crate::duty::{Duty, duty_of};
 use crate::hand::{Hand, Pool};
 use crate::idle::Idle;
@@ -23,6 +27,7 @@ use crate::team::Lead;
 use crate::turn::Turn;
 use gcd_event::Event;
 use gcd_outer::{Clock, Poller};
+use gcd_plan::Obj;
 use gcd_row::{Put, RowBoard, RowPass, Slot};
 use gcd_turn::{Ask, Outlook};
 use std::sync::Wait;
@@ -101,6 +106,31 @@ fn rest<S: Slot, P: Poller, C: Clock>(
     }
 }
 
+// Worker 0 begins a run on the node: that of this event, where the rack has no other bench.
+fn lead_begin<S: Crew, R: Wait>(
+    rt: &R,
+    pool: &Pool<S>,
+    hand: &mut Hand<S>,
+    node: Obj,
+    e: Event,
+) -> Turn
+    requires ready { IsReady S.shape S.gives pool.now hand.old }
+    requires node { IsTrue (is_node (view hand.old.pass).terms.plan node.0) }
+    requires worker { worker_of e ≡ (view hand.old.pass).worker }
+    requires begins { begun_on (view hand.old.pass).terms.plan (view hand.old.pass).seen e ≡ Some node }
+    requires may { why (view hand.old.pass).terms.plan (view hand.old.pass).seen e ≡ None }
+    requires work { is_work e ≡ true }
+    ensures serving { Serving S.shape S.gives pool.now hand.old hand.new }
+    ensures work { AddsWork (view hand.old.pass) (view hand.new.pass) }
+    ensures after { AfterTurn S.shape result (view hand.new.pass) (slots hand.new.pass) }
+{
+    if pool.rack.benches() == 1 {
+        begin_alone(rt, pool, hand, node, e)
+    } else {
+        begin_near(rt, pool, hand, node)
+    }
+}
+
 // Worker 0 does what its machine chooses, or else rests.
 fn lead_work<S: Crew, P: Poller, C: Clock, R: Wait>(
     rt: &R,
@@ -124,7 +154,7 @@ fn lead_work<S: Crew, P: Poller, C: Clock, R: Wait>(
     match duty_of(hand.pass.machine(), hand.pass.worker(), 0) {
         Duty::Leave(_) => Turn::Left,
         Duty::Record(e) => record_own(rt, pool, hand, e),
-        Duty::Begin(node, _) => begin_near(rt, pool, hand, node),
+        Duty::Begin(node, e) => lead_begin(rt, pool, hand, node, e),
         Duty::Rest => rest(pool, hand, outlook, poller, clock, left),
     }
 }

@@ -1,5 +1,5 @@
-//! What each worker of a pool does next, and a team that does it: helpers in threads, and worker 0, which alone has poller and clock. (This project's own rules: libdispatch's pool of threads promises
-//! an order of blocks, and not which thread runs one.)
+//! What each worker of a pool does next, and a team that does it: helpers in threads, and worker 0, which alone has poller and
+//! clock. (This project's own rules: libdispatch's pool of threads promises an order of blocks, and not which thread runs one.)
 //!
 //! A [`Pool`] is what the workers of a run share: the row of events (`gcd_row`), the rack of Drains (`gcd_steal`) and the plan of
 //! both. Each worker has a [`Hand`]: a pass of the row and a bench of the rack. A helper goes from turn to turn. It looks at the row,
@@ -13,7 +13,7 @@
 //! | `Rest` | it waits ([`Idle`]), and asks again once the row has grown |
 //!
 //! Worker 0 ([`Chief`]) looks, asks its outlook (`gcd_turn`), and puts what was told, a Tick or a Halt; or else it does what its machine
-//! chooses, as a helper does, and polls or waits only where that is nothing.
+//! chooses, as a helper does, and polls or waits only where that is nothing. Where the rack has one bench it begins exactly that.
 //!
 //! No worker holds a Drain from one turn to the next, so one that leaves, or whose run is parked, keeps none from the others.
 //!

@@ -5,4 +5,5 @@ pub mod Statuses
 pub mod Ran
 pub mod Totals
 pub mod Told
+pub mod Judging
 pub mod Always

@@ -4,23 +4,30 @@ use Rattle.std.specs.Prelude.{Result, Ok, Err}
 use Rattle.std.proofs.lemmas.Bool.{lt-ltb, le-ltb}
 use Rattle.gcd_plan.specs.Limits.{max_file_bytes, max_script_bytes}
 use Rattle.gcd_plan.specs.PlanView.{PlanView, FileView}
+use Rattle.gcd_plan.specs.Validity.{IsPlan}
+use Rattle.gcd_event.specs.declared.event.Event.{Event}
+use Rattle.gcd_journal.specs.Journals.{IsJournal, IsRefusedAt}
+use Rattle.gcd_journal.proofs.OneWay.{journals_agree, journals_stand, faults_agree}
 use Rattle.gcd_outer.specs.Outside.{Bytes, ShelfFailed, ShelfSeen}
 use Rattle.gcd_script.specs.Codes.{refusal_code}
 use Rattle.gcd_script.specs.Faults.{fault_of, script_of, IsScriptOf}
 use Rattle.gcd_script.specs.declared.refusal.Refusal.TheVariants.{PastLimit}
-use Rattle.gcd_run.specs.Always.{HoldsScript, IsNoScript, MustStop, files_at, within_limit}
+use Rattle.gcd_run.specs.Always.{HoldsJournal, HoldsScript, IsNoJournal, IsNoScript, files_at, within_limit}
+use Rattle.gcd_run.specs.Always.IsNoJournal.{unloaded as no_journal_unloaded, refused as no_journal_refused}
 use Rattle.gcd_run.specs.Always.IsNoScript.{unloaded as no_script_unloaded, refused as no_script_refused}
+use Rattle.gcd_run.specs.Checks.{IsJournalAt, StopsJournal}
+use Rattle.gcd_run.specs.Checks.StopsJournal.{unloaded as journal_unloaded, refused as journal_refused, wanting as journal_wanting}
 use Rattle.gcd_run.specs.Loads.{AreLoaded, IsLoaded, IsNextFile, IsScript, StopsFile, StopsLoad, StopsScript}
 use Rattle.gcd_run.specs.Loads.StopsLoad.{unread, long, wanting}
 use Rattle.gcd_run.specs.Loads.StopsScript.{unloaded, refused, wanting as script_wanting}
 use Rattle.gcd_run.specs.declared.stop.Stop.{Stop}
-use Rattle.gcd_run.specs.declared.stop.Stop.TheVariants.{Unread, Script, Memory}
+use Rattle.gcd_run.specs.declared.stop.Stop.TheVariants.{Unread, Script, Journal, Memory}
 
 -- what became of a load that has to go so: the shelf failed, memory ran out, or it went so
 abbrev pub Fate : ShelfSeen → Stop → Type 0 → Type 0
 Fate shelf stop expected = (ShelfFailed shelf × (stop ≡ Unread)) ⊎ ((stop ≡ Memory) ⊎ expected)
 
-fate_map : {A B : Type 0} (shelf : ShelfSeen) (stop : Stop) → (A → B) → Fate shelf stop A → Fate shelf stop B
+pub fate_map : {A B : Type 0} (shelf : ShelfSeen) (stop : Stop) → (A → B) → Fate shelf stop A → Fate shelf stop B
 fate_map shelf stop f (inl failed) = inl failed
 fate_map shelf stop f (inr (inl wants)) = inr (inl wants)
 fate_map shelf stop f (inr (inr is)) = inr (inr (f is))
@@ -47,6 +54,17 @@ module _ (shelf : ShelfSeen) (tells : shelf.tells ≡ true) where
 
   pub script_held : (name : Bytes) (plan : PlanView) → IsScript shelf name plan → HoldsScript shelf.content name plan
   script_held name plan is = record { bytes = is.script; held = loaded_within name _ _ is.script is.loaded; declares = is.declares }
+
+  pub journal_stops : (name : Bytes) (plan : PlanView) (stop : Stop) → StopsJournal shelf name plan stop
+      → Fate shelf stop (IsNoJournal shelf.content name plan stop)
+  journal_stops name plan stop (journal_unloaded why) = fate_map shelf stop (λ is. no_journal_unloaded is) (load_stops name _ _ stop why)
+  journal_stops name plan stop (journal_refused text line loaded fault is) =
+      inr (inr (no_journal_refused text line (loaded_within name _ _ text loaded) fault is))
+  journal_stops name plan stop (journal_wanting is) = inr (inl is)
+
+  pub journal_held : (name : Bytes) (plan : PlanView) (h : List Event) → IsJournalAt shelf name plan h
+      → HoldsJournal shelf.content name plan h
+  journal_held name plan h is = record { text = is.text; held = loaded_within name _ _ is.text is.loaded; journal_is = is.journal_is }
 
   pub files_held : (files : List FileView) (contents : List Bytes) → AreLoaded shelf files contents → files_at shelf.content files ≡ Ok contents
   files_held [] [] loaded = refl
@@ -111,3 +129,26 @@ module _ (content : Bytes → Option Bytes) (name : Bytes) where
       let one : line ≡ line' = ap (λ (o : Option (ℕ × ℕ)). (unwrap_or o (0, 0)).0) at in
       let two : code ≡ code' = ap (λ (o : Option (ℕ × ℕ)). (unwrap_or o (0, 0)).1) at in
       rw (stop_is, stop_is', one, two) refl
+
+-- ## One journal
+
+module _ (content : Bytes → Option Bytes) (name : Bytes) (plan : PlanView) (valid : IsPlan plan) where
+  pub one_journal : (h k : List Event) → HoldsJournal content name plan h → HoldsJournal content name plan k → h ≡ k
+  one_journal h k a b =
+      let same : a.text ≡ b.text = same_ok a.held b.held in
+      journals_agree plan valid b.text h k (subst (λ (t : Bytes). IsJournal plan t h) same a.journal_is) b.journal_is
+
+  pub no_journal : (h : List Event) (stop : Stop) → HoldsJournal content name plan h → IsNoJournal content name plan stop → ⊥
+  no_journal h stop held (no_journal_unloaded is) = no_both held.held is
+  no_journal h stop held (no_journal_refused text line is fault stop_is) =
+      let same : text ≡ held.text = same_ok is held.held in
+      journals_stand plan valid held.text h line held.journal_is (subst (λ (t : Bytes). IsRefusedAt plan t line) same fault)
+
+  pub one_journal_stop : (stop other : Stop) → IsNoJournal content name plan stop → IsNoJournal content name plan other → stop ≡ other
+  one_journal_stop stop other (no_journal_unloaded a) (no_journal_unloaded b) = same_err a b
+  one_journal_stop stop other (no_journal_unloaded a) (no_journal_refused text line is fault stop_is) = absurd (no_both is a)
+  one_journal_stop stop other (no_journal_refused text line is fault stop_is) (no_journal_unloaded b) = absurd (no_both is b)
+  one_journal_stop stop other (no_journal_refused text line is fault stop_is) (no_journal_refused text' line' is' fault' stop_is') =
+      let same : text ≡ text' = same_ok is is' in
+      let one : line ≡ line' = faults_agree plan valid text' line line' (subst (λ (t : Bytes). IsRefusedAt plan t line) same fault) fault' in
+      stop_is ∙ ap Journal one ∙ sym stop_is'

@@ -1,27 +1,26 @@
--- When each status has to come: what a shelf that tells gives of a script, its files and a journal, and what the call then
--- answers, a fault of the outside and want of memory aside (this project's own rules).
+-- What the call has to tell: what a shelf that tells gives of a script, its files and a journal, and what the call then answers
+-- and writes, a fault of the outside and want of memory aside (this project's own rules).
 use Rattle.std.specs.Prelude.{◌≡◌, ◌≢◌, ◌⊎◌, ℕ, true, nat_lt, if◌then◌else◌, List, [], ◌∷◌, Option, Some, None, Result, Ok, Err, length}
 use Rattle.gcd_plan.specs.Limits.{max_file_bytes, max_script_bytes}
 use Rattle.gcd_plan.specs.PlanView.{PlanView, FileView}
-use Rattle.gcd_history.specs.History.{IsLawful}
 use Rattle.gcd_history.specs.declared.state.State.{State}
 use Rattle.gcd_history.specs.declared.state.State.TheVariants.{Halted}
 use Rattle.gcd_event.specs.declared.event.Event.{Event}
 use Rattle.gcd_journal.specs.Journals.{IsJournal, IsRefusedAt}
 use Rattle.gcd_journal.specs.Judged.{IsFirstBarred}
-use Rattle.gcd_outer.specs.Outside.{Bytes, ShelfFailed, ShelfSeen, SinkSeen, SinkFailed}
+use Rattle.gcd_outer.specs.Outside.{Bytes, ShelfFailed, SinkSeen, SinkFailed}
 use Rattle.gcd_script.specs.Faults.{fault_of, IsScriptOf}
 use Rattle.gcd_script.specs.Codes.{refusal_code}
 use Rattle.gcd_script.specs.declared.refusal.Refusal.TheVariants.{PastLimit}
 use Rattle.gcd_words.specs.Asked.{Asked, RunAsked, request_of, run, check, big}
 use Rattle.gcd_run.specs.Calls.{InputsSeen, PollerFailed}
-use Rattle.gcd_run.specs.Ends.{HasStatus}
+use Rattle.gcd_run.specs.End.{End, lawful_end, read_fault, stop_end, unlawful_end, usage_end}
+use Rattle.gcd_run.specs.Ends.{HasStatus, IsWritten}
 use Rattle.gcd_run.specs.StatusCodes.{status_of}
-use Rattle.gcd_run.specs.Statuses.{Asks, Runs}
-use Rattle.gcd_run.specs.declared.status.Status.{Status}
-use Rattle.gcd_run.specs.declared.status.Status.TheVariants.{Drained, NoCommand, ScriptRefused, Unread, CutOff, NoMemory, JournalRefused}
+use Rattle.gcd_run.specs.Statuses.{Asks, IsLawfulTo, Runs}
+use Rattle.gcd_run.specs.declared.status.Status.TheVariants.{Drained, NoMemory, JournalRefused}
 use Rattle.gcd_run.specs.declared.stop.Stop.{Stop}
-use Rattle.gcd_run.specs.declared.stop.Stop.TheVariants.{Unread as CantRead, Script, Journal, Memory}
+use Rattle.gcd_run.specs.declared.stop.Stop.TheVariants.{Unread as CantRead, Script, Journal}
 use Rattle.gcd_run.specs.declared.story.Ended.{Ended}
 
 -- ## What a content gives
@@ -58,22 +57,58 @@ pub data MustStop (content : Bytes → Option Bytes) (name : Bytes) (stop : Stop
   at_script : IsNoScript content name stop → MustStop content name stop
   at_file : (plan : PlanView) → HoldsScript content name plan → files_at content plan.files ≡ Err stop → MustStop content name stop
 
+-- ## What a journal gives
+
+-- this text stands under the name, within the limit of journals
+abbrev pub HoldsText : (content : Bytes → Option Bytes) → (name text : Bytes) → Type 0
+HoldsText content name text = within_limit (Journal 0) max_file_bytes (content name) ≡ Ok text
+
+-- why there is no journal of the plan under this name: it can't be loaded, where line 0 is the journal as a whole; or a line of
+-- it is at fault
+pub data IsNoJournal (content : Bytes → Option Bytes) (name : Bytes) (plan : PlanView) (stop : Stop) : Type 0 where
+  unloaded : within_limit (Journal 0) max_file_bytes (content name) ≡ Err stop → IsNoJournal content name plan stop
+  refused : (text : Bytes) (line : ℕ) → HoldsText content name text → IsRefusedAt plan text line → stop ≡ Journal line
+      → IsNoJournal content name plan stop
+
+-- the journal of this name is one of these events
+pub record HoldsJournal (content : Bytes → Option Bytes) (name : Bytes) (plan : PlanView) (h : List Event) : Type 0 where
+  pub text : Bytes
+  pub held : HoldsText content name text
+  pub journal_is : IsJournal plan text h
+
+-- why `check` has to stop: at the script, or at the journal
+pub data MustRefuse (content : Bytes → Option Bytes) (script journal : Bytes) (stop : Stop) : Type 0 where
+  at_script : IsNoScript content script stop → MustRefuse content script journal stop
+  at_journal : (plan : PlanView) → HoldsScript content script plan → IsNoJournal content journal plan stop
+      → MustRefuse content script journal stop
+
+-- a check is asked for, of a script that declares the plan and of a journal of these events
+pub record ChecksEvents (content : Bytes → Option Bytes) (words : List Bytes) (plan : PlanView) (h : List Event) : Type 0 where
+  pub script : Bytes
+  pub journal : Bytes
+  pub asks : Asks words (check script journal)
+  pub declares : HoldsScript content script plan
+  pub holds : HoldsJournal content journal plan h
+
+-- a check is asked for, of a script that declares the plan and of a text that stands under the journal's name
+pub record ChecksText (content : Bytes → Option Bytes) (words : List Bytes) : Type 0 where
+  pub script : Bytes
+  pub journal : Bytes
+  pub plan : PlanView
+  pub text : Bytes
+  pub asks : Asks words (check script journal)
+  pub declares : HoldsScript content script plan
+  pub holds : HoldsText content journal text
+
 -- ## What the call answers
 
--- the call answered this status, or the sink failed in it, or memory ran out
-abbrev pub Gives : SinkSeen → Ended → Status → Type 0
-Gives sink result status = HasStatus result status ⊎ ((HasStatus result CutOff × SinkFailed sink) ⊎ HasStatus result NoMemory)
+-- the call told this: it was written whole, or the sink failed in the call; or memory ran out
+abbrev pub Gives : SinkSeen → Ended → End → Type 0
+Gives sink result end = IsWritten sink end result ⊎ HasStatus result NoMemory
 
 -- the same, unless the shelf failed: then nothing could be read
-abbrev pub Answers : InputsSeen → SinkSeen → Ended → Status → Type 0
-Answers seen sink result status = Gives sink result status ⊎ (ShelfFailed seen.shelf × Gives sink result Unread)
-
--- the status of a stop
-abbrev pub status_of_stop : Stop → Status
-status_of_stop CantRead = Unread
-status_of_stop (Script line code) = ScriptRefused
-status_of_stop (Journal line) = JournalRefused
-status_of_stop Memory = NoMemory
+abbrev pub Answers : InputsSeen → SinkSeen → Ended → End → Type 0
+Answers seen sink result end = Gives sink result end ⊎ (ShelfFailed seen.shelf × Gives sink result read_fault)
 
 -- nothing failed in the call
 pub record NothingFailed (seen : InputsSeen) (sink : SinkSeen) : Type 0 where
@@ -81,15 +116,23 @@ pub record NothingFailed (seen : InputsSeen) (sink : SinkSeen) : Type 0 where
   pub poller_works : ¬ PollerFailed seen.poller
   pub sink_works : ¬ SinkFailed sink
 
--- what has to come: where the words name no command; where the shelf tells and a run or a check has to stop; where a script and
--- its files are told, or the large script is asked for, and nothing fails, the run comes to its end and the status is that of
--- its state, which is not halted
+-- What has to come. Where the words name no command, the usage line. Where the shelf tells: where a run or a check has to stop,
+-- what is told of that stop; where a check is asked for of lawful events, that they are lawful, with their state, and else the
+-- first event that is not permitted. Where moreover nothing fails, a check of a text of any kind ends with Drained or
+-- JournalRefused. And where a script and its files are told, or the large script is asked for, and nothing fails, the run comes to
+-- its end and the status is that of its state, which is not halted.
 pub record Always (seen : InputsSeen) (sink : SinkSeen) (words : List Bytes) (result : Ended) : Type 0 where
-  pub usage : request_of words ≡ None → Gives sink result NoCommand
-  pub run_stops : seen.shelf.tells ≡ true → (asked : RunAsked) (stop : Stop) → Asks words (run asked)
-      → MustStop seen.shelf.content asked.script stop → Answers seen sink result (status_of_stop stop)
-  pub check_stops : seen.shelf.tells ≡ true → (script journal : Bytes) (stop : Stop) → Asks words (check script journal)
-      → IsNoScript seen.shelf.content script stop → Answers seen sink result (status_of_stop stop)
+  pub usage : request_of words ≡ None → Gives sink result usage_end
+  pub run_stops : seen.shelf.tells ≡ true → (asked : RunAsked) (stop : Stop) (end : End) → Asks words (run asked)
+      → MustStop seen.shelf.content asked.script stop → stop_end stop ≡ Some end → Answers seen sink result end
+  pub check_stops : seen.shelf.tells ≡ true → (script journal : Bytes) (stop : Stop) (end : End) → Asks words (check script journal)
+      → MustRefuse seen.shelf.content script journal stop → stop_end stop ≡ Some end → Answers seen sink result end
+  pub check_passes : seen.shelf.tells ≡ true → (plan : PlanView) (h : List Event) (state : State)
+      → ChecksEvents seen.shelf.content words plan h → IsLawfulTo state plan h → Answers seen sink result (lawful_end h state)
+  pub check_bars : seen.shelf.tells ≡ true → (plan : PlanView) (h : List Event) (index : ℕ)
+      → ChecksEvents seen.shelf.content words plan h → IsFirstBarred plan h index → Answers seen sink result (unlawful_end h index)
+  pub check_ends : seen.shelf.tells ≡ true → NothingFailed seen sink → ChecksText seen.shelf.content words
+      → HasStatus result NoMemory ⊎ (HasStatus result Drained ⊎ HasStatus result JournalRefused)
   pub run_ends : seen.shelf.tells ≡ true → NothingFailed seen sink → (asked : RunAsked) (plan : PlanView) (contents : List Bytes)
       → Asks words (run asked) → HoldsScript seen.shelf.content asked.script plan → files_at seen.shelf.content plan.files ≡ Ok contents
       → HasStatus result NoMemory ⊎ ((state : State) × Runs seen sink words result state × HasStatus result (status_of state) × (state ≢ Halted))

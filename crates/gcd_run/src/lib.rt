@@ -17,14 +17,13 @@
 //! |---|---|
 //! | `ended` (`CallEnds`) | one relation with a rule for each way in which a call ends, with the loads and listens that it took |
 //! | `says` (`Says`) | what each status says. Drained, Stuck, Misused, Full, and Unread after a Halt: the script declares a valid plan, it and each file was loaded once, the journal is a lawful run of the plan that is over and has come to just this state, with one worker each event of a worker is what it chooses at its place, what clock and poller said stands in it, and the sink took the journal, where it is asked for, and its report, in which each result is its block's value over the bytes that were loaded |
-//! | `always` (`Always`) | when a status has to come: where the words name no command; where a shelf that tells gives cause to stop at a script or a file of it; and where nothing stands in the way, the run comes to its end |
+//! | `always` (`Always`) | what has to be told, a fault of the outside and want of memory aside: the usage line where the words name no command; where a shelf that tells gives cause to stop at a script, a file of it or a journal, that cause; of a journal that `check` is asked for, that its events are lawful and their state, or the first that is not permitted; and where nothing stands in the way, a run comes to its end, and a check to 0 or 9 |
 //!
 //! So what is proved of lawful histories of valid plans (`laws` of `gcd_history`) holds of the journal: blocks of one serial
 //! queue never overlap.
 //!
 //! Nothing is said of a shelf, poller or sink that tells nothing, but that a fault comes only where it failed, and nothing of
-//! time. Worker 0 runs alone so far, whatever `--workers` says; with that the journal is exact. When `check` has to refuse a
-//! journal or to call it lawful is said by `ended` alone.
+//! time. Worker 0 runs alone so far, whatever `--workers` says; with that the journal is exact.
 #![tactic(auto)]
 
 mod checking;

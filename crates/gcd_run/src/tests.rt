@@ -2,6 +2,7 @@ ghost use Rattle.std.specs.Prelude.{◌≡◌, ℕ, false, IfOk};
 
 mod cases;
 mod hostile;
+mod journals;
 mod limits;
 mod subjects;
 
@@ -9,6 +10,7 @@ use crate::gcd_main;
 use cases::{BLOCKS, COMMANDS, Case, FAULTS, REFUSALS, RUN, SOURCES, TARGETS_AND_GROUPS};
 use gcd_outer::{JumpClock, ListPoller, MapShelf, Poller, Tell, Told, VecSink};
 use hostile::{FAILURES, MALFORMED};
+use journals::{FORGED, NO_JOURNALS, TREES};
 use std::alloc::{AllocError, Global};
 use std::process::Abort;
 use std::sync::Wait;
@@ -160,6 +162,21 @@ fn tells_faults(rt: HostRuntime) -> Result<(), Fail> {
 #[test]
 fn judges_journals_and_runs_the_large_script(rt: HostRuntime) -> Result<(), Fail> {
     are_answered(&rt, rt.alloc(), &COMMANDS)
+}
+
+#[test]
+fn judges_forged_journals(rt: HostRuntime) -> Result<(), Fail> {
+    are_answered(&rt, rt.alloc(), &FORGED)
+}
+
+#[test]
+fn refuses_what_is_no_journal(rt: HostRuntime) -> Result<(), Fail> {
+    are_answered(&rt, rt.alloc(), &NO_JOURNALS)
+}
+
+#[test]
+fn judges_journals_of_trees(rt: HostRuntime) -> Result<(), Fail> {
+    are_answered(&rt, rt.alloc(), &TREES)
 }
 
 // A feed that becomes live while another is silent is heard: the empty answers before it do not count against it.

@@ -112,7 +112,7 @@ pub fn gcd_main<R: Wait, S: Shelf, K: Sink, P: Poller, C: Clock>(
     // What the status that it answers says.
     ensures says { (status : AnyStatus) → HasStatus result status → Says (inputs_seen S.tells S.content S.loads S.faults P.tells P.state C.tells C.state shelf.old shelf.new poller.old poller.new clock.old clock.new) (sink_seen K.tells K.taken K.faults out.old out.new) (map (λ w. w.now) words.now) result status }
 
-    // When a status has to come.
+    // What has to be told.
     ensures always { Always (inputs_seen S.tells S.content S.loads S.faults P.tells P.state C.tells C.state shelf.old shelf.new poller.old poller.new clock.old clock.new) (sink_seen K.tells K.taken K.faults out.old out.new) (map (λ w. w.now) words.now) result }
 {
     call(rt, alloc, words, shelf, out, poller, clock)

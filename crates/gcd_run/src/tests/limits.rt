@@ -1,6 +1,7 @@
 // Calls at the limits, and one past each.
 
 use super::cases::{Case, RUN};
+use super::journals::LONGER;
 use super::{answers_from, is_answered};
 use crate::Status;
 use gcd_outer::MapShelf;
@@ -165,6 +166,14 @@ fn a_script_has_a_mebibyte_at_most(rt: HostRuntime) -> Result<(), Fail> {
         is_answered(&rt, rt.alloc(), &case, &script)?;
     }
     Ok(())
+}
+
+#[test]
+fn a_journal_has_sixteen_mebibytes_at_most(rt: HostRuntime) -> Result<(), Fail> {
+    let mut shelf = MapShelf::new(rt.alloc());
+    shelf.put("s", LONGER.script.as_bytes())?;
+    shelf.put("j", &vec![in rt.alloc(); b' '; 16_777_217]?)?;
+    answers_from(&rt, rt.alloc(), &LONGER, &mut shelf)
 }
 
 #[test]

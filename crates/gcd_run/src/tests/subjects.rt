@@ -4,7 +4,7 @@ use super::cases::{Case, RUN};
 use crate::Status;
 
 // Synchronous calls, targets, activation and suspension.
-pub static CALLS_AND_TARGETS: [Case; 10] = [
+pub static CALLS_AND_TARGETS: [Case; 7] = [
     Case {
         what: "main waits for a block",
         words: &["run", "s", "--journal"],
@@ -53,36 +53,6 @@ pub static CALLS_AND_TARGETS: [Case; 10] = [
         status: Status::Stuck,
         events: Some(7),
         text: "start 0 main\nact 0 main 0\nact 0 main 1\nend 0 main\nstart 0 b1\nact 0 b1 0\nend 0 b1\nevents 7\nb2 not started\nstuck\n",
-        ..RUN
-    },
-    Case {
-        what: "a start beneath a queue that is suspended",
-        words: &["check", "s", "j"],
-        script: "queue g serial\nqueue p serial on g\nqueue c serial on p\nblock b1\nmain\nsuspend g\nasync c b1\nresume g",
-        journal: "start 0 main\nact 0 main 0\nact 0 main 1\nstart 1 b1\nact 0 main 2\nend 0 main\nend 1 b1\nevents 7\n",
-        status: Status::JournalRefused,
-        at: Some((3, 2)),
-        text: "journal refused: event 3\n",
-        ..RUN
-    },
-    Case {
-        what: "a start beside a run beneath the same target",
-        words: &["check", "s", "j"],
-        script: "queue t serial\nqueue c concurrent on t\nqueue d concurrent on t\nblock b1\nblock b2\nmain\nasync c b1\nasync d b2",
-        journal: "start 0 main\nact 0 main 0\nact 0 main 1\nend 0 main\nstart 0 b1\nstart 1 b2\nend 1 b2\nend 0 b1\nevents 8\n",
-        status: Status::JournalRefused,
-        at: Some((5, 2)),
-        text: "journal refused: event 5\n",
-        ..RUN
-    },
-    Case {
-        what: "a start beneath a target that has changed",
-        words: &["check", "s", "j"],
-        script: "queue t serial\nqueue q serial\nblock b1\ntarget q t\nblock b2\nblock c\nmain\nasync q b1\nasync q b2\nasync t c",
-        journal: "start 0 main\nact 0 main 0\nact 0 main 1\nact 0 main 2\nend 0 main\nstart 0 b1\nact 0 b1 0\nstart 1 c\nend 0 b1\nstart 0 b2\nend 0 b2\nend 1 c\nevents 12\n",
-        status: Status::JournalRefused,
-        at: Some((9, 2)),
-        text: "journal refused: event 9\n",
         ..RUN
     },
 ];

@@ -1,0 +1,4 @@
+pub mod Handing
+pub mod Kept
+pub mod Ran
+pub mod Running

@@ -1,0 +1,39 @@
+//! The engine of several workers in rounds, which leaves the same journal every time: other engines are tested against it. (This
+//! project's own rules: libdispatch has a pool of workers.)
+//!
+//! [`run_rounds`] runs rounds over one machine (`gcd_machine`) until the run is quiescent, halted or full, and leaves a
+//! [`RoundsEnd`]. A round:
+//!
+//! | | |
+//! |---|---|
+//! | worker 0 | records what the outside asks for (`gcd_turn`) before each of its own events, and what it chooses, the nodes from number 0 on, until it has no choice or that is the End of a block; this End is kept back |
+//! | the other workers | one after the other, do so without the outside, as long as the run is neither halted nor full |
+//! | jobs | those of the Ends that were kept back run by one parallel map; then these Ends are recorded in the order of the workers, as long as the run is neither halted nor full |
+//! | the outside | where nobody recorded or kept back anything since worker 0 last asked, it polls or waits |
+//!
+//! A handler takes what is handed over as its Deliver is recorded, on the caller's thread. One worker asks clock and poller as
+//! worker 0 alone does (`gcd_alone`); `gcd_tests` compares what they leave.
+//!
+//! | clause | says, where memory sufficed |
+//! |---|---|
+//! | `ran` (`RanRounds`) | the journal is lawful and has ended; its workers are below the number of workers; with one worker each event of a worker is what that worker chooses at its place; what poller and clock said stands in it (`IsHeard`, `IsTimely`) |
+//! | `values` (`AreGiven`) | for each block a value that its job may give at 0 where its End stands, and else 0 |
+//! | `handlers` (`AreHandlers`) | the handler of each source took as many values as it has Delivers, and what these handed over |
+//! | `listens`, `addresses`, `poller_faults` | no listen was made, and the poller's count of faults did not fall; these hold in want of memory too |
+//!
+//! How it is proved: `Running` is all that a run keeps. `IsRun` says what its machine, journal and handlers are, `AreReady` what
+//! its values and jobs are beside the Ends that are kept back: an End that is kept back may come until its own worker records
+//! something, since its worker holds the block and the block has no act left (`proofs/EndsKept`). That the promises on poller and
+//! clock follow is shown as for worker 0 alone (`gcd_alone`, `proofs/Goings`).
+//!
+//! It waits for others, so nothing says that it returns: a clock may stand still, a poller may tell for ever of feeds that are no
+//! longer live, and a job may wait. Nothing is said of threads: the jobs of one round may run in any.
+#![tactic(auto)]
+
+mod kept;
+mod places;
+mod rounds;
+mod running;
+mod turns;
+
+pub use rounds::{RoundsEnd, RoundsFault, run_rounds};

@@ -1,0 +1,7 @@
+//! Tests that go through several crates.
+#![tactic(auto)]
+
+#[cfg(test)]
+mod given;
+#[cfg(test)]
+mod rounds;
