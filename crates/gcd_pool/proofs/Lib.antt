@@ -1,0 +1,12 @@
+pub mod Begun
+pub mod Fresh
+pub mod Puts
+pub mod Nodes
+pub mod Serves
+pub mod Cells
+pub mod Told
+pub mod Works
+pub mod Outside
+pub mod Leading
+pub mod LeadTurns
+pub mod Splices

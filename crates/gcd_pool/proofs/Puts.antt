@@ -1,0 +1,153 @@
+-- What a pass is after it has looked or put an event.
+use Rattle.std.proofs.Common.{◌≡◌, ℕ, ◌+◌, ◌<◌, ◌≤◌, inl, inr, List, [], ◌∷◌, ◌++◌, length, Some, None, Option, sym, refl, ap, ◌∙◌, subst, arith}
+use Rattle.std.proofs.lemmas.List.{append_cancel_right}
+use Rattle.std.proofs.lemmas.Option.{same_Some}
+use Rattle.gcd_plan.specs.Validity.{IsPlan}
+use Rattle.gcd_plan.specs.declared.numbers.Run.{Run}
+use Rattle.gcd_event.specs.declared.event.Event.{Event}
+use Rattle.gcd_history.specs.Choice.{worker_of}
+use Rattle.gcd_history.specs.History.{why, IsLawful}
+use Rattle.gcd_history.proofs.LawfulLemmas.{lawful_front}
+use Rattle.gcd_team.specs.Held.{given}
+use Rattle.gcd_team.specs.Team.{of_worker, held_by, StartsWith, HasEnded}
+use Rattle.gcd_team.proofs.Own.{own_events_tell_what_is_held}
+use Rattle.gcd_team.proofs.TeamLaws.{givings_are_the_holders}
+use Rattle.gcd_row.specs.Shapes.{Shape}
+use Rattle.gcd_row.specs.Lying.{slot_of, HasSlots, GivesBack}
+use Rattle.gcd_row.specs.Views.{seeing, held_run}
+use Rattle.gcd_row.specs.Plays.{Turned}
+use Rattle.gcd_row.specs.Passes.{IsPassOf, Ahead, IsPlaced, Looks, Says, SaysSlots, slots, view}
+use Rattle.gcd_row.specs.declared.board.RowBoard.{RowBoard}
+use Rattle.gcd_row.specs.declared.pass.RowPass.{RowPass}
+use Rattle.gcd_row.specs.declared.put.Put.{Put}
+use Rattle.gcd_row.specs.declared.put.Put.TheVariants.{Placed, Barred, Full}
+use Rattle.gcd_row.specs.declared.view.View.{View}
+use Rattle.gcd_row.proofs.Fronts.{starts_refl, starts_trans, starts_more}
+use Rattle.gcd_row.proofs.Passing.{lawful_seen, valid_plan}
+use Rattle.gcd_pool.specs.Hands.{ended_run, GoesOn, IsFresh, IsFreshAt, IsSettled}
+use Rattle.gcd_pool.proofs.Fresh.{back_of_fresh, fresh_ahead, fresh_given, fresh_own, given_is_ended, ready_ahead}
+
+-- ## Going on
+
+module _ {S : Type 0} where
+  pub goes_nowhere : (v : View S) → GoesOn v v
+  goes_nowhere v = record { is = refl; more = starts_refl v.seen }
+
+  pub same_goes_on : (v w : View S) → w ≡ v → GoesOn v w
+  same_goes_on v w same = subst (GoesOn v) (sym same) (goes_nowhere v)
+
+  pub goes_further : (v u w : View S) → GoesOn v u → GoesOn u w → GoesOn v w
+  goes_further v u w a b = record {
+    is = b.is ∙ ap (λ (x : View S). seeing x w.seen) a.is;
+    more = starts_trans w.seen u.seen v.seen b.more a.more;
+  }
+
+  pub looks_goes_on : (v w : View S) → Looks v w → GoesOn v w
+  looks_goes_on v w l = record { is = l.is; more = l.ahead.more }
+
+  pub placed_seen : (e : Event) (v w : View S) (n : ℕ) (p : IsPlaced e v w n) → w.seen ≡ p.history ++ e ∷ []
+  placed_seen e v w n p = ap (λ (x : View S). x.seen) p.is
+
+  pub says_goes_on : (e : Event) (v w : View S) (r : Put) → Says e v w r → GoesOn v w
+  says_goes_on e v w (Placed n) p =
+      let seen : w.seen ≡ p.history ++ e ∷ [] = placed_seen e v w n p in
+      record {
+        is = p.is ∙ ap (λ (l : List Event). seeing v l) (sym seen);
+        more = subst (λ (l : List Event). StartsWith l v.seen) (sym seen) (starts_trans (p.history ++ e ∷ []) p.history v.seen (starts_more p.history e) p.ahead.more);
+      }
+  says_goes_on e v w (Barred at y) p = looks_goes_on v w p.0
+  says_goes_on e v w Full p = record { is = p.0; more = p.1.more }
+
+module _ {S : Type 0} (shape : S → Shape) (gives : S → ℕ → Type 0) (b : RowBoard S) where
+  -- the history that a pass has seen is lawful
+  lawful_as : (v : View S) (q : RowPass S) → IsPassOf shape gives b q → view q ≡ seeing v (view q).seen → IsLawful v.terms.plan (view q).seen
+  lawful_as v q is same = subst (λ (x : View S). IsLawful x.terms.plan (view q).seen) same (lawful_seen shape gives b q is)
+
+  fresh_as : (v w : View S) (c : List (ℕ × S)) → w ≡ seeing v w.seen → IsFreshAt shape v.terms.plan w.seen v.worker c → IsFresh shape w c
+  fresh_as v w c same fresh = subst (λ (x : View S). IsFreshAt shape x.terms.plan w.seen x.worker c) (sym same) fresh
+
+  -- ## The cell that was not used
+
+  ahead_fresh : (p q : RowPass S) → IsPassOf shape gives b q → view q ≡ seeing (view p) (view q).seen → Ahead (view p) (view q).seen → slots q ≡ slots p → IsFresh shape (view p) (slots p) → IsFresh shape (view q) (slots q)
+  ahead_fresh p q is same ahead slots_same fresh =
+      let v = view p in
+      fresh_as v (view q) (slots q) same
+      (subst (IsFreshAt shape v.terms.plan (view q).seen v.worker) (sym slots_same)
+      (fresh_ahead shape v.terms.plan v.seen (view q).seen v.worker (slots p) (lawful_as v q is same) ahead.more ahead.own fresh))
+
+  pub looks_fresh : (p q : RowPass S) → IsPassOf shape gives b q → Looks (view p) (view q) → slots q ≡ slots p → IsFresh shape (view p) (slots p) → IsFresh shape (view q) (slots q)
+  looks_fresh p q is l same fresh = ahead_fresh p q is l.is l.ahead same fresh
+
+  placed_fresh : (p q : RowPass S) (e : Event) (n : ℕ) → IsPassOf shape gives b q → worker_of e ≡ (view p).worker → length (view p).terms.plan.blocks ≤ length (view p).terms.cells
+      → (s : IsPlaced e (view p) (view q) n) → Turned shape gives (view p).terms s.history e (slots p) (slots q) → IsFresh shape (view p) (slots p) → IsFresh shape (view q) (slots q)
+  placed_fresh p q e n is mine cells s turned fresh =
+      let v = view p in
+      let go = says_goes_on e v (view q) (Placed n) s in
+      let seen : (view q).seen ≡ s.history ++ e ∷ [] = placed_seen e v (view q) n s in
+      let after : IsLawful v.terms.plan (s.history ++ e ∷ []) = subst (IsLawful v.terms.plan) seen (lawful_as v q is go.is) in
+      let before : IsLawful v.terms.plan s.history = lawful_front v.terms.plan s.history (e ∷ []) after in
+      let then_fresh : IsFreshAt shape v.terms.plan s.history v.worker (slots p) = fresh_ahead shape v.terms.plan v.seen s.history v.worker (slots p) before s.ahead.more s.ahead.own fresh in
+      let now_fresh : IsFreshAt shape v.terms.plan (s.history ++ e ∷ []) (worker_of e) (slots q) =
+      fresh_own shape gives v.terms s.history e (slots p) (slots q) before s.may cells turned (subst (λ (w : ℕ). IsFreshAt shape v.terms.plan s.history w (slots p)) (sym mine) then_fresh) in
+      fresh_as v (view q) (slots q) go.is
+      (subst (λ (l : List Event). IsFreshAt shape v.terms.plan l v.worker (slots q)) (sym seen)
+      (subst (λ (w : ℕ). IsFreshAt shape v.terms.plan (s.history ++ e ∷ []) w (slots q)) mine now_fresh))
+
+  -- whatever `put` answers
+  pub says_fresh : (p q : RowPass S) (e : Event) (r : Put) → IsPassOf shape gives b q → worker_of e ≡ (view p).worker → length (view p).terms.plan.blocks ≤ length (view p).terms.cells
+      → Says e (view p) (view q) r → SaysSlots shape gives e (slots p) (slots q) (view q) r → IsFresh shape (view p) (slots p) → IsFresh shape (view q) (slots q)
+  says_fresh p q e (Placed n) is mine cells s t fresh =
+      let v = view p in
+      let go = says_goes_on e v (view q) (Placed n) s in
+      let one : t.0 ≡ s.history = append_cancel_right t.0 s.history (e ∷ []) (sym t.1 ∙ placed_seen e v (view q) n s) in
+      let turned : Turned shape gives v.terms s.history e (slots p) (slots q) =
+      subst (λ (l : List Event). Turned shape gives v.terms l e (slots p) (slots q)) one
+      (subst (λ (x : View S). Turned shape gives x.terms t.0 e (slots p) (slots q)) go.is t.2) in
+      placed_fresh p q e n is mine cells s turned fresh
+  says_fresh p q e (Barred at y) is mine cells s t fresh = ahead_fresh p q is s.0.is s.0.ahead t fresh
+  says_fresh p q e Full is mine cells s t fresh = ahead_fresh p q is s.0 s.1 t fresh
+
+  -- ## The cell that is ready
+
+  pub settled_gives : (v : View S) (e : Event) (c : List (ℕ × S)) → IsSettled shape v e c → GivesBack shape v.terms v.seen e c
+  settled_gives v e c s = λ r gave.
+      let same : s.run ≡ r = same_Some s.run r (sym (given_is_ended v.terms.plan e s.run s.ends) ∙ gave) in
+      subst (λ (k : Run). (x : S) × (c ≡ (slot_of v.terms.plan k, x) ∷ []) × Rattle.gcd_row.specs.Lying.IsReadyFor shape v.terms.plan v.seen e k x) same (s.cell, s.here, s.ready)
+
+  pub settled_waits : (p q : RowPass S) (e : Event) → IsPassOf shape gives b q → Looks (view p) (view q) → slots q ≡ slots p → IsSettled shape (view p) e (slots p) → IsSettled shape (view q) e (slots q)
+  settled_waits p q e is l same s =
+      let v = view p in
+      let w_seen = (view q).seen in
+      subst (λ (x : View S). IsSettled shape x e (slots q)) (sym l.is) (record {
+        run = s.run;
+        held = own_events_tell_what_is_held v.terms.plan w_seen v.seen v.worker l.ahead.own ∙ s.held;
+        ends = s.ends;
+        cell = s.cell;
+        here = same ∙ s.here;
+        ready = ready_ahead shape v.terms.plan v.seen w_seen v.worker e s.run s.cell (lawful_as v q is l.is) l.ahead.more l.ahead.own s.held s.ready;
+      })
+
+  pub settled_placed : (p q : RowPass S) (e : Event) (n : ℕ) → worker_of e ≡ (view p).worker → Says e (view p) (view q) (Placed n) → IsSettled shape (view p) e (slots p) → IsFresh shape (view q) (slots q)
+  settled_placed p q e n mine says s =
+      let v = view p in
+      let go = says_goes_on e v (view q) (Placed n) says in
+      fresh_as v (view q) (slots q) go.is
+      (subst (λ (l : List Event). IsFreshAt shape v.terms.plan l v.worker (slots q)) (sym (placed_seen e v (view q) n says))
+      (subst (λ (w : ℕ). IsFreshAt shape v.terms.plan (says.history ++ e ∷ []) w (slots q)) mine
+      (fresh_given shape gives v.terms says.history e s.run (slots q) (given_is_ended v.terms.plan e s.run s.ends))))
+
+  -- ## What its own event asks
+
+  pub fresh_gives : (p : RowPass S) (e : Event) → IsPassOf shape gives b p → worker_of e ≡ (view p).worker → why (view p).terms.plan (view p).seen e ≡ None → ended_run e ≡ None → IsFresh shape (view p) (slots p) → GivesBack shape (view p).terms (view p).seen e (slots p)
+  fresh_gives p e is mine may ends fresh =
+      let v = view p in
+      back_of_fresh shape gives v.terms v.seen e (slots p) (valid_plan shape gives b p is) (lawful_seen shape gives b p is) may ends
+      (subst (λ (w : ℕ). HasSlots shape gives v.terms v.seen (held_by v.terms.plan v.seen w) (slots p)) (sym mine) is.has)
+      (subst (λ (w : ℕ). IsFreshAt shape v.terms.plan v.seen w (slots p)) (sym mine) fresh)
+
+  -- who may end a run holds it
+  pub ended_held : (p : RowPass S) (e : Event) (r : Run) → IsPassOf shape gives b p → worker_of e ≡ (view p).worker → why (view p).terms.plan (view p).seen e ≡ None → ended_run e ≡ Some r → held_run (view p) ≡ Some r
+  ended_held p e r is mine may ends =
+      let v = view p in
+      subst (λ (w : ℕ). held_by v.terms.plan v.seen w ≡ Some r) mine
+      (givings_are_the_holders v.terms.plan v.seen (lawful_seen shape gives b p is) e r (given_is_ended v.terms.plan e r ends) may)

@@ -1,0 +1,63 @@
+-- What a hand is after its pass or its bench has gone on.
+use Rattle.std.proofs.Common.{◌≡◌, ℕ, ◌≤◌, [], length, Some, sym, refl, ap, ◌∙◌, subst}
+use Rattle.gcd_team.specs.Team.{HasEnded, of_worker}
+use Rattle.gcd_row.specs.Shapes.{Shape}
+use Rattle.gcd_row.specs.Passes.{IsPassOf, slots, view}
+use Rattle.gcd_row.specs.declared.pass.RowPass.{RowPass}
+use Rattle.gcd_row.specs.declared.view.Terms.{Terms}
+use Rattle.gcd_row.specs.declared.view.View.{View}
+use Rattle.gcd_steal.specs.Racks.{IsBenchOf, number_of, plan_of}
+use Rattle.gcd_steal.specs.declared.bench.Bench.{Bench}
+use Rattle.gcd_row.proofs.Holding.{holds_nothing}
+use Rattle.gcd_row.proofs.Running.{none_some}
+use Rattle.gcd_pool.specs.Hands.{GoesOn, IsHandOf, IsPool, IsReady, Serving}
+use Rattle.gcd_pool.specs.declared.hand.Hand.{Hand}
+use Rattle.gcd_pool.specs.declared.hand.Pool.{Pool}
+use Rattle.gcd_pool.proofs.Puts.{goes_further, goes_nowhere}
+
+module _ {S : Type 0} (shape : S → Shape) (gives : S → ℕ → Type 0) (pool : Pool S) where
+  pub pass_of_hand : (a : Hand S) (q : RowPass S) → IsHandOf shape gives pool a → IsPassOf shape gives pool.board.now q → GoesOn (view a.pass) (view q) → IsHandOf shape gives pool (record { pass = q; bench = a.bench })
+  pass_of_hand a q of is go =
+      let terms : (view q).terms ≡ (view a.pass).terms = ap (λ (x : View S). x.terms) go.is in
+      record {
+        pass = is;
+        bench = of.bench;
+        rack = subst (λ (t : Terms S). plan_of pool.rack.now ≡ t.plan) (sym terms) of.rack;
+        plan = subst (λ (t : Terms S). pool.plan.now ≡ t.plan) (sym terms) of.plan;
+        cells = subst (λ (t : Terms S). length t.plan.blocks ≤ length t.cells) (sym terms) of.cells;
+      }
+
+  pub serves_pass : (a : Hand S) (q : RowPass S) → IsHandOf shape gives pool a → IsPassOf shape gives pool.board.now q → GoesOn (view a.pass) (view q) → Serving shape gives pool a (record { pass = q; bench = a.bench })
+  serves_pass a q of is go = record { of = pass_of_hand a q of is go; view = go; number = refl }
+
+  pub serves_bench : (a : Hand S) (c : Bench) → IsHandOf shape gives pool a → IsBenchOf pool.rack.now c → number_of c ≡ number_of a.bench → Serving shape gives pool a (record { pass = a.pass; bench = c })
+  serves_bench a c of is number = record {
+    of = record { pass = of.pass; bench = is; rack = of.rack; plan = of.plan; cells = of.cells };
+    view = goes_nowhere (view a.pass);
+    number = number;
+  }
+
+  pub serves_nothing : (a : Hand S) → IsHandOf shape gives pool a → Serving shape gives pool a a
+  serves_nothing a of = record { of = of; view = goes_nowhere (view a.pass); number = refl }
+
+  pub serves_further : (a b c : Hand S) → Serving shape gives pool a b → Serving shape gives pool b c → Serving shape gives pool a c
+  serves_further a b c one two = record {
+    of = two.of;
+    view = goes_further (view a.pass) (view b.pass) (view c.pass) one.view two.view;
+    number = two.number ∙ one.number;
+  }
+
+  -- a worker that has no event yet
+  pub new_hand : (a : Hand S) → IsPool pool → IsPassOf shape gives pool.board.now a.pass → IsBenchOf pool.rack.now a.bench → of_worker (view a.pass).worker (view a.pass).seen ≡ [] → IsReady shape gives pool a
+  new_hand a is pass bench none =
+      let v = view a.pass in
+      record {
+        of = record {
+          pass = pass;
+          bench = bench;
+          rack = subst (λ (t : Terms S). plan_of pool.rack.now ≡ t.plan) (sym pass.terms) is.rack;
+          plan = subst (λ (t : Terms S). pool.plan.now ≡ t.plan) (sym pass.terms) is.plan;
+          cells = subst (λ (t : Terms S). length t.plan.blocks ≤ length t.cells) (sym pass.terms) is.cells;
+        };
+        fresh = λ r c held here. absurd (none_some _ r (holds_nothing v.terms.plan v.seen v.worker none) held);
+      }

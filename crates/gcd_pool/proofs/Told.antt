@@ -1,0 +1,59 @@
+-- What a pass's machine tells of what the pass has seen.
+use Rattle.std.proofs.Common.{◌≡◌, ℕ, ◌<◌, ◌≤◌, true, List, [], ◌∷◌, length, Some, None, Option, sym, refl, ap, ◌∙◌, subst}
+use Rattle.gcd_plan.specs.Kinds.{is_node}
+use Rattle.gcd_plan.specs.Limits.{max_events}
+use Rattle.gcd_plan.specs.PlanView.{PlanView}
+use Rattle.gcd_plan.specs.declared.numbers.Obj.{Obj}
+use Rattle.gcd_event.specs.declared.event.Event.{Event}
+use Rattle.gcd_history.specs.Choice.{is_work, worker_of}
+use Rattle.gcd_history.specs.Laws.{IsChoiceOf}
+use Rattle.gcd_history.specs.History.{why, choice_of}
+use Rattle.gcd_history.proofs.PublicLaws.{choice_is_permitted}
+use Rattle.gcd_refinement.specs.MachineView.{MachineView}
+use Rattle.gcd_machine.specs.Stands.{StandsFor}
+use Rattle.gcd_machine.proofs.Shown.{plan_stands}
+use Rattle.gcd_row.specs.Shapes.{Shape}
+use Rattle.gcd_row.specs.Passes.{IsPassOf, view}
+use Rattle.gcd_row.specs.declared.board.RowBoard.{RowBoard}
+use Rattle.gcd_row.specs.declared.pass.RowPass.{RowPass}
+use Rattle.gcd_row.proofs.Passing.{lawful_seen, valid_plan}
+use Rattle.gcd_pool.specs.Duties.{Chooses, IsDuty, begin_of, begun_on}
+use Rattle.gcd_pool.specs.declared.duty.Duty.{Duty}
+use Rattle.gcd_pool.specs.declared.duty.Duty.TheVariants.{Record, Begin}
+use Rattle.gcd_pool.proofs.Nodes.{Begins, begins, begun_node}
+
+module _ {S : Type 0} (shape : S → Shape) (gives : S → ℕ → Type 0) (b : RowBoard S) (p : RowPass S) (is : IsPassOf shape gives b p) where
+  pub machine_plan : p.machine.plan ≡ (view p).terms.plan
+  machine_plan = plan_stands p.machine (view p).terms.plan (view p).seen is.stands
+
+  -- so does what is equal to its machine
+  pub stands_as : (m : MachineView) → m ≡ p.machine → StandsFor m (view p).terms.plan (view p).seen
+  stands_as m same = subst (λ (x : MachineView). StandsFor x (view p).terms.plan (view p).seen) (sym same) is.stands
+
+  -- what may begin on a node
+  pub begins_there : (plan : PlanView) (m : MachineView) (w : ℕ) (n : Obj) (e : Event) → plan ≡ (view p).terms.plan → m ≡ p.machine → w ≡ p.number
+      → ((h : List Event) → StandsFor m plan h → Some e ≡ begin_of plan h w n.0) → Begins (view p).terms.plan (view p).seen (view p).worker n.0 e
+  begins_there plan m w n e same machine worker tells =
+      let v = view p in
+      let told : Some e ≡ begin_of v.terms.plan v.seen w n.0 =
+      subst (λ (q : PlanView). StandsFor m q v.seen → Some e ≡ begin_of q v.seen w n.0) same (tells v.seen) (stands_as m machine) in
+      subst (λ (k : ℕ). Begins v.terms.plan v.seen k n.0 e) (worker ∙ is.number)
+      (begins v.terms.plan v.seen w n.0 e (valid_plan shape gives b p is) (lawful_seen shape gives b p is) (sym told))
+
+  -- what it chooses
+  chosen : (w from : ℕ) (e : Event) → w ≡ p.number → Chooses (view p).terms.plan (view p).seen w from e → (worker_of e ≡ (view p).worker) × (why (view p).terms.plan (view p).seen e ≡ None) × (is_work e ≡ true)
+  chosen w from e worker c =
+      let it = choice_is_permitted (view p).terms.plan (view p).seen w from e c.chosen in
+      (it.by ∙ worker ∙ is.number, it.permitted, it.work)
+
+  pub to_record : (m : MachineView) (w from : ℕ) (e : Event) → m ≡ p.machine → w ≡ p.number → ((plan : PlanView) (h : List Event) → StandsFor m plan h → length h ≤ max_events → IsDuty plan h w from (Record e))
+      → (worker_of e ≡ (view p).worker) × (why (view p).terms.plan (view p).seen e ≡ None) × (is_work e ≡ true)
+  to_record m w from e machine worker tells = chosen w from e worker (tells (view p).terms.plan (view p).seen (stands_as m machine) is.few).0
+
+  pub to_begin : (m : MachineView) (w from : ℕ) (n : Obj) (e : Event) → m ≡ p.machine → w ≡ p.number → ((plan : PlanView) (h : List Event) → StandsFor m plan h → length h ≤ max_events → IsDuty plan h w from (Begin n e))
+      → (is_node (view p).terms.plan n.0 ≡ true) × (begun_on (view p).terms.plan (view p).seen e ≡ Some n) × (worker_of e ≡ (view p).worker) × (why (view p).terms.plan (view p).seen e ≡ None) × (is_work e ≡ true)
+  to_begin m w from n e machine worker tells =
+      let v = view p in
+      let duty = tells v.terms.plan v.seen (stands_as m machine) is.few in
+      let it = chosen w from e worker duty.0 in
+      (begun_node v.terms.plan v.seen e n (valid_plan shape gives b p is) it.1 duty.1, duty.1, it.0, it.1, it.2)

@@ -1,0 +1,83 @@
+-- What calls add to the row.
+use Rattle.std.proofs.Common.{◌≡◌, ℕ, Bool, true, false, not, ◌||◌, cond, List, [], ◌∷◌, ◌++◌, filter, Some, None, sym, refl, ap, ◌∙◌, subst, append-nil, append_assoc}
+use Rattle.std.specs.List.{list_all}
+use Rattle.std.proofs.lemmas.Bool.{and_from}
+use Rattle.gcd_plan.specs.declared.numbers.Run.{Run}
+use Rattle.gcd_event.specs.declared.event.Event.{Event}
+use Rattle.gcd_event.specs.declared.event.Event.TheVariants.{Start, Act as Acted, Wake, End, Deliver, DeliverEnd, Tick, Ready, FeedEnd, Misuse, Halt}
+use Rattle.gcd_history.specs.Choice.{is_work, worker_of}
+use Rattle.gcd_team.specs.Held.{is_of}
+use Rattle.gcd_team.specs.Team.{of_worker, StartsWith}
+use Rattle.gcd_team.proofs.Own.{none_of_worker}
+use Rattle.gcd_row.specs.Views.{seeing}
+use Rattle.gcd_row.specs.Passes.{Ahead, Looks, Says}
+use Rattle.gcd_row.specs.declared.put.Put.{Put}
+use Rattle.gcd_row.specs.declared.put.Put.TheVariants.{Placed, Barred, Full}
+use Rattle.gcd_row.specs.declared.view.View.{View}
+use Rattle.gcd_pool.specs.Hands.{ended_run}
+use Rattle.gcd_pool.specs.Works.{AddsWork, is_own_work}
+
+pub all_further : {A : Type 0} → (p : A → Bool) (xs ys : List A) → list_all p xs ≡ true → list_all p ys ≡ true → list_all p (xs ++ ys) ≡ true
+all_further p [] ys one two = two
+all_further p (x ∷ xs) ys one two =
+    let parts = Rattle.std.proofs.lemmas.Bool.and_parts (p x) (list_all p xs) one in
+    and_from (p x) (list_all p (xs ++ ys)) parts.0 (all_further p xs ys parts.1 two)
+
+or_right : (a : Bool) → (a || true) ≡ true
+or_right true = refl
+or_right false = refl
+
+-- where no event is its own
+none_own : (w : ℕ) (rest : List Event) → filter (is_of w) rest ≡ [] → list_all (is_own_work w) rest ≡ true
+none_own w [] none = refl
+none_own w (e ∷ rest) none =
+    elim (is_of w e) as (λ b. cond b (e ∷ filter (is_of w) rest) (filter (is_of w) rest) ≡ [] → Rattle.std.specs.Prelude.◌&&◌ (not b || is_work e) (list_all (is_own_work w) rest) ≡ true) [
+      | true ↦ λ h. cc
+      | false ↦ λ h. none_own w rest h
+    ] none
+
+module _ {S : Type 0} where
+  pub adds_nothing : (v w : View S) → w ≡ v → AddsWork v w
+  adds_nothing v w same = record {
+    worker = ap (λ (x : View S). x.worker) same;
+    rest = [];
+    split = ap (λ (x : View S). x.seen) same ∙ sym (append-nil v.seen);
+    work = refl;
+  }
+
+  pub adds_further : (v u w : View S) → AddsWork v u → AddsWork u w → AddsWork v w
+  adds_further v u w a b = record {
+    worker = b.worker ∙ a.worker;
+    rest = a.rest ++ b.rest;
+    split = b.split ∙ ap (λ (l : List Event). l ++ b.rest) a.split ∙ append_assoc v.seen a.rest b.rest;
+    work = all_further (is_own_work v.worker) a.rest b.rest a.work (subst (λ (n : ℕ). list_all (is_own_work n) b.rest ≡ true) a.worker b.work);
+  }
+
+  pub ahead_adds : (v w : View S) → w ≡ seeing v w.seen → Ahead v w.seen → AddsWork v w
+  ahead_adds v w is a = record {
+    worker = ap (λ (x : View S). x.worker) is;
+    rest = a.more.0;
+    split = a.more.1;
+    work = none_own v.worker a.more.0 (none_of_worker v.worker v.seen a.more.0 (sym (ap (of_worker v.worker) a.more.1) ∙ a.own));
+  }
+
+  pub looks_adds : (v w : View S) → Looks v w → AddsWork v w
+  looks_adds v w l = ahead_adds v w l.is l.ahead
+
+  pub says_adds : (e : Event) (v w : View S) (r : Put) → is_work e ≡ true → Says e v w r → AddsWork v w
+  says_adds e v w (Placed n) work p =
+      let before = ahead_adds v (seeing v p.history) refl p.ahead in
+      record {
+        worker = ap (λ (x : View S). x.worker) p.is;
+        rest = before.rest ++ e ∷ [];
+        split = ap (λ (x : View S). x.seen) p.is ∙ ap (λ (l : List Event). l ++ e ∷ []) before.split ∙ append_assoc v.seen before.rest (e ∷ []);
+        work = all_further (is_own_work v.worker) before.rest (e ∷ []) before.work
+            (and_from (not (is_of v.worker e) || is_work e) true (ap (λ (b : Bool). not (is_of v.worker e) || b) work ∙ or_right (not (is_of v.worker e))) refl);
+      }
+  says_adds e v w (Barred at y) work p = looks_adds v w p.0
+  says_adds e v w Full work p = ahead_adds v w p.0 p.1
+
+pub ended_is_work : (e : Event) (r : Run) → ended_run e ≡ Some r → is_work e ≡ true
+ended_is_work (End w b) r is = refl
+ended_is_work (DeliverEnd w s) r is = refl
+ended_is_work e r is = absurd (cc)

@@ -1,0 +1,100 @@
+-- What a worker of a pool has, and what serving comes to (this project's own rules).
+use Rattle.std.specs.Prelude.{◌≡◌, ◌≤◌, ℕ, List, ◌∷◌, [], length, Option, Some, None}
+use Rattle.gcd_plan.specs.PlanView.{PlanView}
+use Rattle.gcd_plan.specs.declared.kind.Kind.{Kind}
+use Rattle.gcd_plan.specs.declared.numbers.Run.{Run}
+use Rattle.gcd_plan.specs.declared.numbers.Run.TheVariants.{Block, Source}
+use Rattle.gcd_event.specs.declared.event.Event.{Event}
+use Rattle.gcd_event.specs.declared.event.Event.TheVariants.{Start, Act as Acted, Wake, End, Deliver, DeliverEnd, Tick, Ready, FeedEnd, Misuse, Halt}
+use Rattle.gcd_history.specs.History.{delivery_count_of, received_of}
+use Rattle.gcd_team.specs.Team.{HasEnded, StartsWith, held_by}
+use Rattle.gcd_row.specs.Shapes.{Shape, body, done, handler}
+use Rattle.gcd_row.specs.Lying.{slot_of, IsUntaken, IsReadyFor}
+use Rattle.gcd_row.specs.Views.{held_run, seeing}
+use Rattle.gcd_row.specs.Passes.{IsPassOf, slots, terms_of, view}
+use Rattle.gcd_row.specs.declared.view.View.{View}
+use Rattle.gcd_steal.specs.Racks.{IsBenchOf, number_of, plan_of}
+use Rattle.gcd_pool.specs.declared.hand.Hand.{Hand}
+use Rattle.gcd_pool.specs.declared.hand.Pool.{Pool}
+
+-- the run that the event ends
+abbrev pub ended_run : Event → Option Run
+ended_run (Start w b) = None
+ended_run (Acted w r i) = None
+ended_run (Wake w b) = None
+ended_run (End w b) = Some (Block b)
+ended_run (Deliver w s) = None
+ended_run (DeliverEnd w s) = Some (Source s)
+ended_run (Tick t) = None
+ended_run (Ready s n) = None
+ended_run (FeedEnd s) = None
+ended_run (Misuse w r i c) = None
+ended_run Halt = None
+
+-- a handler of source s that was not called since the last Deliver
+pub record IsUncalled (plan : PlanView) (h : List Event) (s : ℕ) (x : Shape) : Type 0 where
+  pub kind : Kind
+  pub times : ℕ
+  pub total : ℕ
+  pub is : x ≡ handler kind times total
+  pub untaken : IsUntaken plan h s times total
+
+module _ {S : Type 0} (shape : S → Shape) where
+  -- the cell of a run is as it was taken: a block's body that did not run, or a source's handler that was not called yet
+  abbrev pub IsFreshCell : PlanView → List Event → Run → S → Type 0
+  IsFreshCell plan h (Block b) c = shape c ≡ body
+  IsFreshCell plan h (Source s) c = IsUncalled plan h s.0 (shape c)
+
+  -- so is the cell of the run that worker w holds, if it holds one
+  abbrev pub IsFreshAt : PlanView → List Event → (w : ℕ) → List (ℕ × S) → Type 0
+  IsFreshAt plan h w cells = (r : Run) (c : S) → held_by plan h w ≡ Some r → cells ≡ (slot_of plan r, c) ∷ [] → IsFreshCell plan h r c
+
+  -- the same of a pass
+  abbrev pub IsFresh : View S → List (ℕ × S) → Type 0
+  IsFresh v cells = IsFreshAt v.terms.plan v.seen v.worker cells
+
+  -- the cell of the run that a pass holds is ready for the event, which ends that run
+  pub record IsSettled (v : View S) (e : Event) (cells : List (ℕ × S)) : Type 0 where
+    pub run : Run
+    pub held : held_run v ≡ Some run
+    pub ends : ended_run e ≡ Some run
+    pub cell : S
+    pub here : cells ≡ (slot_of v.terms.plan run, cell) ∷ []
+    pub ready : IsReadyFor shape v.terms.plan v.seen e run cell
+
+-- what the workers of a pool share is of one plan, with a cell for each block
+pub record IsPool {S : Type 0} (pool : Pool S) : Type 0 where
+  pub rack : plan_of pool.rack.now ≡ (terms_of pool.board.now).plan
+  pub plan : pool.plan.now ≡ (terms_of pool.board.now).plan
+  pub cells : length (terms_of pool.board.now).plan.blocks ≤ length (terms_of pool.board.now).cells
+
+-- what calls leave of what a pass knows: it has seen no less, and the rest is as it was
+pub record GoesOn {S : Type 0} (v w : View S) : Type 0 where
+  pub is : w ≡ seeing v w.seen
+  pub more : StartsWith w.seen v.seen
+
+module _ {S : Type 0} (shape : S → Shape) (gives : S → ℕ → Type 0) where
+  -- a hand of the pool: a pass of its board and a bench of its rack, which are of one plan, with a cell for each block
+  pub record IsHandOf (pool : Pool S) (hand : Hand S) : Type 0 where
+    pub pass : IsPassOf shape gives pool.board.now hand.pass
+    pub bench : IsBenchOf pool.rack.now hand.bench
+    pub rack : plan_of pool.rack.now ≡ (view hand.pass).terms.plan
+    pub plan : pool.plan.now ≡ (view hand.pass).terms.plan
+    pub cells : length (view hand.pass).terms.plan.blocks ≤ length (view hand.pass).terms.cells
+
+  -- a hand between two turns
+  pub record IsReady (pool : Pool S) (hand : Hand S) : Type 0 where
+    pub of : IsHandOf pool hand
+    pub fresh : IsFresh shape (view hand.pass) (slots hand.pass)
+
+  -- what a turn leaves of a hand
+  pub record Serving (pool : Pool S) (old new : Hand S) : Type 0 where
+    pub of : IsHandOf pool new
+    pub view : GoesOn (view old.pass) (view new.pass)
+    pub number : number_of new.bench ≡ number_of old.bench
+
+  -- what serving to the end comes to: it is a hand of the pool still, of the same worker and with the same bench, has seen no
+  -- less, and has seen that the run has ended
+  pub record Served (pool : Pool S) (old new : Hand S) : Type 0 where
+    pub serving : Serving pool old new
+    pub ended : HasEnded (Rattle.gcd_row.specs.Passes.view new.pass).terms.plan (Rattle.gcd_row.specs.Passes.view new.pass).seen

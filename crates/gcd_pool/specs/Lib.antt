@@ -1,0 +1,6 @@
+pub mod Duties
+pub mod Each
+pub mod Hands
+pub mod Turns
+pub mod Works
+pub mod Leads

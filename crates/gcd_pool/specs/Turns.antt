@@ -1,0 +1,26 @@
+-- What a turn of a worker comes to (this project's own rules).
+use Rattle.std.specs.Prelude.{◌⊎◌, ℕ, List, ◌∷◌, []}
+use Rattle.gcd_team.specs.Team.{HasEnded}
+use Rattle.gcd_row.specs.Shapes.{Shape}
+use Rattle.gcd_row.specs.declared.view.View.{View}
+use Rattle.gcd_steal.specs.Deques.{Sends}
+use Rattle.gcd_steal.specs.Drains.{node_of, sight_with}
+use Rattle.gcd_steal.specs.Places.{Gives}
+use Rattle.gcd_steal.specs.Racks.{own_account, sight_of}
+use Rattle.gcd_steal.specs.declared.bench.Bench.{Bench}
+use Rattle.gcd_steal.specs.declared.drain.Drain.{Drain}
+use Rattle.gcd_pool.specs.Hands.{IsFresh}
+use Rattle.gcd_pool.specs.declared.turn.Turn.{Turn}
+use Rattle.gcd_pool.specs.declared.turn.Turn.TheVariants.{Left, Placed, Out, Waited, Rested}
+
+-- a worker that leaves has seen that the run has ended; else the run that it holds is as it was taken
+abbrev pub AfterTurn : {S : Type 0} → (S → Shape) → Turn → View S → List (ℕ × S) → Type 0
+AfterTurn shape Left v cells = HasEnded v.terms.plan v.seen
+AfterTurn shape Placed v cells = IsFresh shape v cells
+AfterTurn shape (Out node) v cells = IsFresh shape v cells
+AfterTurn shape Waited v cells = IsFresh shape v cells
+AfterTurn shape Rested v cells = IsFresh shape v cells
+
+-- the Drain was laid into its sleeping place, or put at the back of the bench's own deque
+abbrev pub IsLaidDown : Bench → Drain → Bench → Type 0
+IsLaidDown b d c = Gives (node_of d).0 (sight_with d) (sight_of c) ⊎ Sends (own_account b) (d ∷ []) (own_account c)

@@ -1,0 +1,208 @@
+// What a worker does with a Drain.
+ghost use Rattle.std.specs.Prelude.{◌≡◌, ◌<◌, ◌≤◌, true, length, None, Some, IsTrue};
+ghost use Rattle.gcd_history.specs.Choice.{is_work, worker_of};
+ghost use Rattle.gcd_history.specs.History.{why};
+ghost use Rattle.gcd_plan.specs.Kinds.{is_node};
+ghost use Rattle.gcd_row.specs.Passes.{IsPassOf, Says, SaysSlots, slots, view};
+ghost use Rattle.gcd_steal.specs.Drains.{node_of};
+ghost use Rattle.gcd_steal.specs.Racks.{IsBenchOf, IsRackDrain, number_of};
+ghost use Rattle.gcd_pool.specs.Duties.{begun_on};
+ghost use Rattle.gcd_pool.specs.Hands.{GoesOn, IsFresh, IsReady, Serving};
+ghost use Rattle.gcd_pool.specs.Turns.{AfterTurn, IsLaidDown};
+ghost use Rattle.gcd_pool.specs.Works.{AddsWork};
+
+use crate::beginning::begin_on;
+use crate::crew::Crew;
+use crate::finding::find_drain;
+use crate::hand::{Hand, Pool};
+use crate::turn::Turn;
+use gcd_event::Event;
+use gcd_machine::Machine;
+use gcd_plan::{Obj, Plan};
+use gcd_row::{Put, RowBoard, RowPass, Slot};
+use gcd_steal::{Bench, Drain, Rack};
+use std::sync::Wait;
+
+/// Puts an event that begins a run on a node, by who holds the node's Drain, and answers as [`RowBoard::put`] (this project's own
+/// rule). Conditions: the event is a Start or a Deliver of the pass's worker, and it begins its run on the Drain's node.
+pub fn begin<S: Slot>(board: &RowBoard<S>, pass: &mut RowPass<S>, drain: &Drain, e: Event) -> Put
+    requires pass { IsPassOf S.shape S.gives board.now pass.old }
+    requires worker { worker_of e ≡ (view pass.old).worker }
+    requires begins { begun_on (view pass.old).terms.plan (view pass.old).seen e ≡ Some (node_of drain.now) }
+    ensures pass { IsPassOf S.shape S.gives board.now pass.new }
+    ensures view { Says e (view pass.old) (view pass.new) result }
+    ensures slots { SaysSlots S.shape S.gives e (slots pass.old) (slots pass.new) (view pass.new) result }
+{
+    let _ = drain;
+    board.put(pass, e)
+}
+
+// The same for an event that the pass's machine permits: it is not judged again before the first exchange.
+fn begin_chosen<S: Slot>(board: &RowBoard<S>, pass: &mut RowPass<S>, drain: &Drain, e: Event) -> Put
+    requires pass { IsPassOf S.shape S.gives board.now pass.old }
+    requires worker { worker_of e ≡ (view pass.old).worker }
+    requires begins { begun_on (view pass.old).terms.plan (view pass.old).seen e ≡ Some (node_of drain.now) }
+    requires may { why (view pass.old).terms.plan (view pass.old).seen e ≡ None }
+    ensures pass { IsPassOf S.shape S.gives board.now pass.new }
+    ensures view { Says e (view pass.old) (view pass.new) result }
+    ensures slots { SaysSlots S.shape S.gives e (slots pass.old) (slots pass.new) (view pass.new) result }
+{
+    let _ = drain;
+    board.put_chosen(pass, e)
+}
+
+// Puts the Drain at the back of the bench's own deque, or else into its sleeping place.
+fn push_or_sleep(rack: &Rack, bench: &mut Bench, drain: Drain)
+    requires bench { IsBenchOf rack.now bench.old }
+    requires drain { IsRackDrain rack.now drain }
+    ensures bench { IsBenchOf rack.now bench.new }
+    ensures number { number_of bench.new ≡ number_of bench.old }
+    ensures laid { IsLaidDown bench.old drain bench.new }
+{
+    match rack.push(bench, drain) {
+        Ok(()) => {}
+        Err(drain) => rack.sleep(bench, drain),
+    }
+}
+
+// Lays the Drain down: where more can begin on its node, for others to steal.
+fn lay_down(rack: &Rack, bench: &mut Bench, drain: Drain, more: bool)
+    requires bench { IsBenchOf rack.now bench.old }
+    requires drain { IsRackDrain rack.now drain }
+    ensures bench { IsBenchOf rack.now bench.new }
+    ensures number { number_of bench.new ≡ number_of bench.old }
+    ensures laid { IsLaidDown bench.old drain bench.new }
+{
+    if more {
+        push_or_sleep(rack, bench, drain);
+    } else {
+        rack.sleep(bench, drain);
+    }
+}
+
+// Puts an event that the pass's machine permits, and that begins a run on the Drain's node. Whether it was placed.
+fn begins_run<S: Slot>(board: &RowBoard<S>, pass: &mut RowPass<S>, drain: &Drain, e: Event) -> bool
+    requires pass { IsPassOf S.shape S.gives board.now pass.old }
+    requires worker { worker_of e ≡ (view pass.old).worker }
+    requires begins { begun_on (view pass.old).terms.plan (view pass.old).seen e ≡ Some (node_of drain.now) }
+    requires may { why (view pass.old).terms.plan (view pass.old).seen e ≡ None }
+    requires work { is_work e ≡ true }
+    requires cells { length (view pass.old).terms.plan.blocks ≤ length (view pass.old).terms.cells }
+    requires fresh { IsFresh S.shape (view pass.old) (slots pass.old) }
+    ensures pass { IsPassOf S.shape S.gives board.now pass.new }
+    ensures view { GoesOn (view pass.old) (view pass.new) }
+    ensures work { AddsWork (view pass.old) (view pass.new) }
+    ensures fresh { IsFresh S.shape (view pass.new) (slots pass.new) }
+{
+    matches!(begin_chosen(board, pass, drain, e), Put::Placed(_))
+}
+
+// Begins what may begin on the Drain's node. Whether an event was placed.
+fn start_with<S: Slot>(
+    plan: &Plan,
+    board: &RowBoard<S>,
+    pass: &mut RowPass<S>,
+    drain: &Drain,
+) -> bool
+    requires pass { IsPassOf S.shape S.gives board.now pass.old }
+    requires plan { plan.now ≡ (view pass.old).terms.plan }
+    requires node { (node_of drain.now).0 < length plan.now.objects }
+    requires cells { length (view pass.old).terms.plan.blocks ≤ length (view pass.old).terms.cells }
+    requires fresh { IsFresh S.shape (view pass.old) (slots pass.old) }
+    ensures pass { IsPassOf S.shape S.gives board.now pass.new }
+    ensures view { GoesOn (view pass.old) (view pass.new) }
+    ensures work { AddsWork (view pass.old) (view pass.new) }
+    ensures fresh { IsFresh S.shape (view pass.new) (slots pass.new) }
+{
+    match begin_on(plan, pass.machine(), pass.worker(), drain.node()) {
+        Some(e) => begins_run(board, pass, drain, e),
+        None => false,
+    }
+}
+
+// Whether the node is a concurrent queue on which a block waits.
+fn has_more(plan: &Plan, machine: &Machine, node: Obj) -> bool
+    requires node { node.0 < length plan.now.objects }
+    requires plan { machine.now.plan ≡ plan.now }
+{
+    if !plan.kind(node).is_concurrent() {
+        return false;
+    }
+    machine.first_waiting(node).is_some()
+}
+
+// Begins what may begin on the Drain's node, and lays the Drain down.
+fn begin_with<S: Slot>(pool: &Pool<S>, hand: &mut Hand<S>, drain: Drain) -> Turn
+    requires ready { IsReady S.shape S.gives pool.now hand.old }
+    requires drain { IsRackDrain pool.now.rack.now drain }
+    ensures serving { Serving S.shape S.gives pool.now hand.old hand.new }
+    ensures work { AddsWork (view hand.old.pass) (view hand.new.pass) }
+    ensures after { AfterTurn S.shape result (view hand.new.pass) (slots hand.new.pass) }
+    ensures laid { IsLaidDown hand.old.bench drain hand.new.bench }
+{
+    let node = drain.node();
+    if start_with(pool.plan, pool.board, &mut hand.pass, &drain) {
+        let more = has_more(pool.plan, hand.pass.machine(), node);
+        lay_down(pool.rack, &mut hand.bench, drain, more);
+        Turn::Placed
+    } else {
+        pool.rack.sleep(&mut hand.bench, drain);
+        Turn::Waited
+    }
+}
+
+// Begins a run on the node, or on another whose Drain is found first.
+pub fn begin_near<S: Crew, R: Wait>(rt: &R, pool: &Pool<S>, hand: &mut Hand<S>, node: Obj) -> Turn
+    requires ready { IsReady S.shape S.gives pool.now hand.old }
+    requires node { IsTrue (is_node (view hand.old.pass).terms.plan node.0) }
+    ensures serving { Serving S.shape S.gives pool.now hand.old hand.new }
+    ensures work { AddsWork (view hand.old.pass) (view hand.new.pass) }
+    ensures after { AfterTurn S.shape result (view hand.new.pass) (slots hand.new.pass) }
+{
+    match find_drain(rt, pool.rack, &mut hand.bench, node) {
+        Some(drain) => begin_with(pool, hand, drain),
+        None => Turn::Out(node),
+    }
+}
+
+// Begins the run of this event with its node's Drain, and lays that asleep.
+fn begin_awake<S: Slot>(pool: &Pool<S>, hand: &mut Hand<S>, drain: Drain, e: Event) -> Turn
+    requires ready { IsReady S.shape S.gives pool.now hand.old }
+    requires drain { IsRackDrain pool.now.rack.now drain }
+    requires worker { worker_of e ≡ (view hand.old.pass).worker }
+    requires begins { begun_on (view hand.old.pass).terms.plan (view hand.old.pass).seen e ≡ Some (node_of drain) }
+    requires may { why (view hand.old.pass).terms.plan (view hand.old.pass).seen e ≡ None }
+    requires work { is_work e ≡ true }
+    ensures serving { Serving S.shape S.gives pool.now hand.old hand.new }
+    ensures work { AddsWork (view hand.old.pass) (view hand.new.pass) }
+    ensures after { AfterTurn S.shape result (view hand.new.pass) (slots hand.new.pass) }
+    ensures laid { IsLaidDown hand.old.bench drain hand.new.bench }
+{
+    let placed = begins_run(pool.board, &mut hand.pass, &drain, e);
+    pool.rack.sleep(&mut hand.bench, drain);
+    if placed { Turn::Placed } else { Turn::Waited }
+}
+
+// Begins the run of this event, where no other bench takes Drains: the node's Drain sleeps, unless it lies in a deque since earlier.
+pub fn begin_alone<S: Crew, R: Wait>(
+    rt: &R,
+    pool: &Pool<S>,
+    hand: &mut Hand<S>,
+    node: Obj,
+    e: Event,
+) -> Turn
+    requires ready { IsReady S.shape S.gives pool.now hand.old }
+    requires node { IsTrue (is_node (view hand.old.pass).terms.plan node.0) }
+    requires worker { worker_of e ≡ (view hand.old.pass).worker }
+    requires begins { begun_on (view hand.old.pass).terms.plan (view hand.old.pass).seen e ≡ Some node }
+    requires may { why (view hand.old.pass).terms.plan (view hand.old.pass).seen e ≡ None }
+    requires work { is_work e ≡ true }
+    ensures serving { Serving S.shape S.gives pool.now hand.old hand.new }
+    ensures work { AddsWork (view hand.old.pass) (view hand.new.pass) }
+    ensures after { AfterTurn S.shape result (view hand.new.pass) (slots hand.new.pass) }
+{
+    match pool.rack.wake(&mut hand.bench, node) {
+        Some(drain) => begin_awake(pool, hand, drain, e),
+        None => begin_near(rt, pool, hand, node),
+    }
+}

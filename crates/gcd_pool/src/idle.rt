@@ -1,0 +1,56 @@
+// How a worker passes time with nothing to do.
+ghost use Rattle.std.specs.Prelude.{◌≡◌, ◌≤◌};
+
+use crossbeam_utils::Backoff;
+use std::sync::Wait;
+use std::thread::Parker;
+use std::time::Duration;
+
+// The first sleep, and the longest, in microseconds.
+const FIRST_SLEEP: u64 = 50;
+
+const LONGEST_SLEEP: u64 = 1_000;
+
+/// How a worker passes time while nothing comes: it spins, then yields its processor, then sleeps, each time twice as long, at
+/// most a millisecond. Nobody has to wake it (this project's own rule).
+#[derive(Drop)]
+pub struct Idle {
+    backoff: Backoff,
+    parker: Parker,
+    micros: u64,
+    ghost bounded: { micros ≤ 1000 },
+}
+
+impl Idle {
+    /// Nothing has been waited for yet.
+    pub fn new() -> Idle
+        ensures { result.micros ≡ 50 }
+    {
+        Idle {
+            backoff: Backoff::new(),
+            parker: Parker::new(),
+            micros: FIRST_SLEEP,
+        }
+    }
+
+    /// Something has come: the next pause is short again.
+    pub fn reset(&mut self)
+        ensures { self.new.micros ≡ 50 }
+    {
+        self.backoff.reset();
+        self.micros = FIRST_SLEEP;
+    }
+
+    /// Spins, yields, or sleeps for at most a millisecond.
+    pub fn pause<R: Wait>(&mut self, rt: &R)
+        ensures { self.new.micros ≤ 1000 }
+    {
+        if self.backoff.is_completed() {
+            self.parker
+                .park_timeout(rt, Duration::from_micros(self.micros));
+            self.micros = (self.micros * 2).min(LONGEST_SLEEP);
+        } else {
+            self.backoff.snooze();
+        }
+    }
+}

@@ -1,0 +1,63 @@
+//! What each worker of a pool does next, and a team that does it: helpers in threads, and worker 0, which alone has poller and
+//! clock. (This project's own rules: libdispatch's pool of threads promises an order of blocks, and not which thread runs one.)
+//!
+//! A [`Pool`] is what the workers of a run share: the row of events (`gcd_row`), the rack of Drains (`gcd_steal`) and the plan of
+//! both. Each worker has a [`Hand`]: a pass of the row and a bench of the rack. A helper goes from turn to turn. It looks at the row,
+//! asks [`duty_of`] what there is to do by what it has seen, and does it:
+//!
+//! | duty | what the helper does |
+//! |---|---|
+//! | `Leave` | it leaves: it has seen that the run is quiescent, halted or full |
+//! | `Record` | it puts the event. Before an End it runs the body, before a DeliverEnd it calls the handler ([`Crew`]), and it puts that event until it stands or the run is halted or full |
+//! | `Begin` | it takes a Drain: the front of its own deque, or else of another's from the next number on and round, or else the node's own from its sleeping place. With it it begins what may begin on the Drain's node ([`begin_on`], [`begin`]), and lays it down: at the back of its deque where a block waits on a concurrent queue, and else asleep |
+//! | `Rest` | it waits ([`Idle`]), and asks again once the row has grown |
+//!
+//! Worker 0 ([`Chief`]) looks, asks its outlook (`gcd_turn`), and puts what was told, a Tick or a Halt; or else it does what its machine
+//! chooses, as a helper does, and polls or waits only where that is nothing. Where the rack has one bench it begins exactly that.
+//!
+//! No worker holds a Drain from one turn to the next, so one that leaves, or whose run is parked, keeps none from the others.
+//!
+//! # Contract
+//!
+//! | call | promises |
+//! |---|---|
+//! | [`duty_of`] | the worker's choice (`choice_of` of `gcd_history`), and to leave exactly where the run has ended |
+//! | [`begin_on`] | what may begin on a node |
+//! | [`begin`] | as [`gcd_row::RowBoard::put`]; it asks for the Drain of the event's node |
+//! | [`Desk::serve`] of a [`Pool`] | the hand is still one of the pool, of the same worker and bench (`Serving` of `specs/Hands`), and has seen that the run has ended (`Served`) |
+//! | [`Lead::lead`] of [`Chief`] | the same; and where it began with an empty row and a poller that watches nothing, the journal that it has seen is honest to poller and clock (`Led` of `specs/Leads`, by `IsHeard` and `IsTimely` of `gcd_turn`) |
+//! | [`run_team`] | helpers serve in threads while worker 0 leads; what each did, place by place |
+//! | [`pool_run`] | each hand has served, worker 0 has led, and how the run has ended is what worker 0 has seen; a team of one runs with no thread |
+//!
+//! No call takes memory.
+//!
+//! # What it does not say
+//!
+//! That a helper ever places an event, that it has a thread of its own, or that it returns: each turn promises what it leaves, and
+//! serving ends only where the run has. That none of these calls drops a Drain is a clause of each private call that has one
+//! (`IsLaidDown` of `specs/Turns`), and no clause follows a Drain from there.
+#![tactic(auto)]
+
+mod beginning;
+mod crew;
+mod drains;
+mod duty;
+mod finding;
+mod hand;
+mod idle;
+mod lead;
+mod own;
+mod run;
+mod serve;
+mod team;
+mod turn;
+
+pub use beginning::begin_on;
+pub use crew::Crew;
+pub use drains::begin;
+pub use duty::{Duty, Exit, duty_of};
+pub use hand::{Hand, Pool};
+pub use idle::Idle;
+pub use lead::Chief;
+pub use run::pool_run;
+pub use team::{Desk, Lead, run_team};

@@ -1,0 +1,160 @@
+// Recording the events that begin no run on a node.
+ghost use Rattle.std.specs.Prelude.{◌≡◌, ◌≤◌, true, length, None, Some, MatchOption};
+ghost use Rattle.gcd_history.specs.Choice.{is_work, worker_of};
+ghost use Rattle.gcd_history.specs.History.{why};
+ghost use Rattle.gcd_plan.specs.declared.numbers.Run.TheVariants.{Block, Source};
+ghost use Rattle.gcd_row.specs.Passes.{IsPassOf, slots, view};
+ghost use Rattle.gcd_pool.specs.Hands.{GoesOn, IsFresh, IsReady, IsSettled, Serving, ended_run};
+ghost use Rattle.gcd_pool.specs.Turns.{AfterTurn};
+ghost use Rattle.gcd_pool.specs.Works.{AddsWork};
+
+use crate::crew::Crew;
+use crate::hand::{Hand, Pool};
+use crate::turn::Turn;
+use gcd_event::Event;
+use gcd_plan::{Blk, Obj, Run};
+use gcd_row::{Put, RowBoard, RowPass, Slot};
+use std::sync::Wait;
+
+// The run that the event ends.
+fn ended_run(e: Event) -> Option<Run>
+    ensures { result ≡ ended_run e }
+{
+    match e {
+        Event::End { blk, .. } => Some(Run::Block(blk)),
+        Event::DeliverEnd { src, .. } => Some(Run::Source(src)),
+        Event::Start { .. } => None,
+        Event::Act { .. } => None,
+        Event::Wake { .. } => None,
+        Event::Deliver { .. } => None,
+        Event::Tick { .. } => None,
+        Event::Ready { .. } => None,
+        Event::FeedEnd { .. } => None,
+        Event::Misuse { .. } => None,
+        Event::Halt => None,
+    }
+}
+
+// Puts an end. None where another event barred it and the run is not halted.
+fn try_end<S: Slot>(board: &RowBoard<S>, pass: &mut RowPass<S>, e: Event) -> Option<Turn>
+    requires pass { IsPassOf S.shape S.gives board.now pass.old }
+    requires worker { worker_of e ≡ (view pass.old).worker }
+    requires settled { IsSettled S.shape (view pass.old) e (slots pass.old) }
+    ensures pass { IsPassOf S.shape S.gives board.now pass.new }
+    ensures view { GoesOn (view pass.old) (view pass.new) }
+    ensures work { AddsWork (view pass.old) (view pass.new) }
+    ensures says { MatchOption result (IsSettled S.shape (view pass.new) e (slots pass.new)) (λ t. AfterTurn S.shape t (view pass.new) (slots pass.new)) }
+{
+    match board.put(pass, e) {
+        Put::Placed(_) => Some(Turn::Placed),
+        Put::Full => Some(Turn::Left),
+        Put::Barred { .. } => {
+            if pass.machine().is_halted() {
+                Some(Turn::Left)
+            } else {
+                None
+            }
+        }
+    }
+}
+
+// Puts an end until it stands, or the run has ended.
+fn put_end<S: Slot, R: Wait>(rt: &R, board: &RowBoard<S>, pass: &mut RowPass<S>, e: Event) -> Turn
+    requires pass { IsPassOf S.shape S.gives board.now pass.old }
+    requires worker { worker_of e ≡ (view pass.old).worker }
+    requires settled { IsSettled S.shape (view pass.old) e (slots pass.old) }
+    ensures pass { IsPassOf S.shape S.gives board.now pass.new }
+    ensures view { GoesOn (view pass.old) (view pass.new) }
+    ensures work { AddsWork (view pass.old) (view pass.new) }
+    ensures after { AfterTurn S.shape result (view pass.new) (slots pass.new) }
+{
+    for _ in rt.forever() {
+        if let Some(turn) = try_end(board, pass, e) {
+            return turn;
+        }
+    }
+    unreachable!()
+}
+
+// Runs the block whose run the pass holds, and records its end.
+fn end_block<S: Crew, R: Wait>(
+    rt: &R,
+    board: &RowBoard<S>,
+    pass: &mut RowPass<S>,
+    b: Blk,
+    e: Event,
+) -> Turn
+    requires pass { IsPassOf S.shape S.gives board.now pass.old }
+    requires worker { worker_of e ≡ (view pass.old).worker }
+    requires may { why (view pass.old).terms.plan (view pass.old).seen e ≡ None }
+    requires ends { ended_run e ≡ Some (Block b) }
+    requires fresh { IsFresh S.shape (view pass.old) (slots pass.old) }
+    ensures pass { IsPassOf S.shape S.gives board.now pass.new }
+    ensures view { GoesOn (view pass.old) (view pass.new) }
+    ensures work { AddsWork (view pass.old) (view pass.new) }
+    ensures after { AfterTurn S.shape result (view pass.new) (slots pass.new) }
+{
+    S::run_body(board, pass, b);
+    put_end(rt, board, pass, e)
+}
+
+// Calls the handler of the source whose run the pass holds, and records its end.
+fn end_source<S: Crew, R: Wait>(
+    rt: &R,
+    board: &RowBoard<S>,
+    pass: &mut RowPass<S>,
+    s: Obj,
+    e: Event,
+) -> Turn
+    requires pass { IsPassOf S.shape S.gives board.now pass.old }
+    requires worker { worker_of e ≡ (view pass.old).worker }
+    requires may { why (view pass.old).terms.plan (view pass.old).seen e ≡ None }
+    requires ends { ended_run e ≡ Some (Source s) }
+    requires fresh { IsFresh S.shape (view pass.old) (slots pass.old) }
+    ensures pass { IsPassOf S.shape S.gives board.now pass.new }
+    ensures view { GoesOn (view pass.old) (view pass.new) }
+    ensures work { AddsWork (view pass.old) (view pass.new) }
+    ensures after { AfterTurn S.shape result (view pass.new) (slots pass.new) }
+{
+    S::call_handler(board, pass, s);
+    put_end(rt, board, pass, e)
+}
+
+// Records an event that ends no run.
+fn go_on<S: Slot>(board: &RowBoard<S>, pass: &mut RowPass<S>, e: Event) -> Turn
+    requires pass { IsPassOf S.shape S.gives board.now pass.old }
+    requires worker { worker_of e ≡ (view pass.old).worker }
+    requires may { why (view pass.old).terms.plan (view pass.old).seen e ≡ None }
+    requires ends_none { ended_run e ≡ None }
+    requires work { is_work e ≡ true }
+    requires cells { length (view pass.old).terms.plan.blocks ≤ length (view pass.old).terms.cells }
+    requires fresh { IsFresh S.shape (view pass.old) (slots pass.old) }
+    ensures pass { IsPassOf S.shape S.gives board.now pass.new }
+    ensures view { GoesOn (view pass.old) (view pass.new) }
+    ensures work { AddsWork (view pass.old) (view pass.new) }
+    ensures after { AfterTurn S.shape result (view pass.new) (slots pass.new) }
+{
+    match board.put_chosen(pass, e) {
+        Put::Placed(_) => Turn::Placed,
+        Put::Full => Turn::Left,
+        Put::Barred { .. } => Turn::Waited,
+    }
+}
+
+// Records what the worker's machine chose, an event that begins no run on a node. Before the end of a run the worker runs its
+// body, or calls its handler.
+pub fn record_own<S: Crew, R: Wait>(rt: &R, pool: &Pool<S>, hand: &mut Hand<S>, e: Event) -> Turn
+    requires ready { IsReady S.shape S.gives pool.now hand.old }
+    requires worker { worker_of e ≡ (view hand.old.pass).worker }
+    requires may { why (view hand.old.pass).terms.plan (view hand.old.pass).seen e ≡ None }
+    requires work { is_work e ≡ true }
+    ensures serving { Serving S.shape S.gives pool.now hand.old hand.new }
+    ensures work { AddsWork (view hand.old.pass) (view hand.new.pass) }
+    ensures after { AfterTurn S.shape result (view hand.new.pass) (slots hand.new.pass) }
+{
+    match ended_run(e) {
+        Some(Run::Block(b)) => end_block(rt, pool.board, &mut hand.pass, b, e),
+        Some(Run::Source(s)) => end_source(rt, pool.board, &mut hand.pass, s, e),
+        None => go_on(pool.board, &mut hand.pass, e),
+    }
+}

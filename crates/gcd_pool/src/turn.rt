@@ -1,0 +1,44 @@
+// A turn of a worker.
+ghost use Rattle.std.specs.Prelude.{◌≡◌};
+ghost use Rattle.gcd_row.specs.Passes.{slots, view};
+ghost use Rattle.gcd_pool.specs.Hands.{IsReady, Serving};
+ghost use Rattle.gcd_pool.specs.Turns.{AfterTurn};
+ghost use Rattle.gcd_pool.specs.Works.{AddsWork};
+
+use crate::crew::Crew;
+use crate::drains::begin_near;
+use crate::duty::{Duty, duty_of};
+use crate::hand::{Hand, Pool};
+use crate::own::record_own;
+use gcd_plan::Obj;
+use std::sync::Wait;
+
+/// What a turn of a worker comes to.
+#[derive(Clone, Copy, Debug, PartialEq, Eq)]
+pub enum Turn {
+    /// The run has ended, and the worker has left.
+    Left,
+    /// An event was placed.
+    Placed,
+    /// None was placed, and the Drain of this node is out.
+    Out(Obj),
+    /// None was placed.
+    Waited,
+    /// There is nothing to place, though the run goes on.
+    Rested,
+}
+
+// Does what the worker has to do by what it has seen, its nodes from number `from` on.
+pub fn take_turn<S: Crew, R: Wait>(rt: &R, pool: &Pool<S>, hand: &mut Hand<S>, from: u32) -> Turn
+    requires { IsReady S.shape S.gives pool.now hand.old }
+    ensures serving { Serving S.shape S.gives pool.now hand.old hand.new }
+    ensures work { AddsWork (view hand.old.pass) (view hand.new.pass) }
+    ensures after { AfterTurn S.shape result (view hand.new.pass) (slots hand.new.pass) }
+{
+    match duty_of(hand.pass.machine(), hand.pass.worker(), from) {
+        Duty::Leave(_) => Turn::Left,
+        Duty::Record(e) => record_own(rt, pool, hand, e),
+        Duty::Begin(node, _) => begin_near(rt, pool, hand, node),
+        Duty::Rest => Turn::Rested,
+    }
+}
