@@ -13,16 +13,56 @@ struct Row {
 }
 
 static ROWS: [Row; 10] = [
-    Row { words: &[], status: 2, text: "usage: gcd-view SCRIPT JOURNAL [--trace]\n" },
-    Row { words: &["s", "j", "--svg"], status: 2, text: "usage: " },
-    Row { words: &["s", "--trace"], status: 2, text: "usage: " },
-    Row { words: &["none", "j"], status: 5, text: "read fault\n" },
-    Row { words: &["s", "none"], status: 5, text: "read fault\n" },
-    Row { words: &["j", "j"], status: 3, text: "script refused: line 1 code 1\n" },
-    Row { words: &["s", "s"], status: 9, text: "journal refused: line 1\n" },
-    Row { words: &["s", "forged"], status: 9, text: "journal refused: event 1\n" },
-    Row { words: &["s", "j"], status: 0, text: "<svg xmlns=" },
-    Row { words: &["s", "j", "--trace"], status: 0, text: "{\"traceEvents\":[\n" },
+    Row {
+        words: &[],
+        status: 2,
+        text: "usage: gcd-view SCRIPT JOURNAL [--trace]\n",
+    },
+    Row {
+        words: &["s", "j", "--svg"],
+        status: 2,
+        text: "usage: ",
+    },
+    Row {
+        words: &["s", "--trace"],
+        status: 2,
+        text: "usage: ",
+    },
+    Row {
+        words: &["none", "j"],
+        status: 5,
+        text: "read fault\n",
+    },
+    Row {
+        words: &["s", "none"],
+        status: 5,
+        text: "read fault\n",
+    },
+    Row {
+        words: &["j", "j"],
+        status: 3,
+        text: "script refused: line 1 code 1\n",
+    },
+    Row {
+        words: &["s", "s"],
+        status: 9,
+        text: "journal refused: line 1\n",
+    },
+    Row {
+        words: &["s", "forged"],
+        status: 9,
+        text: "journal refused: event 1\n",
+    },
+    Row {
+        words: &["s", "j"],
+        status: 0,
+        text: "<svg xmlns=",
+    },
+    Row {
+        words: &["s", "j", "--trace"],
+        status: 0,
+        text: "{\"traceEvents\":[\n",
+    },
 ];
 
 fn try_row(
