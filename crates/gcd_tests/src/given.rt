@@ -12,6 +12,9 @@ use std::test::Fail;
 
 // The plan of a script.
 pub fn plan_of(alloc: Global, script: &[u8]) -> Result<Plan, Fail> {
+    if script.len() >= u32::MAX as usize {
+        return Err(Fail::from("a script that is too long"));
+    }
     Ok(parse(alloc, script)?)
 }
 
