@@ -30,6 +30,11 @@ fn kind_of(bar: &Bar) -> &'static str {
     }
 }
 
+// Whether a bar is so narrow that a whole edge would hide its colour: below four pixels.
+fn thinness(width: Tenths) -> &'static str {
+    if width.0 < 40 { " thin" } else { "" }
+}
+
 // Whether nothing gives the run of a bar back.
 fn openness(bar: &Bar, events: &[Event]) -> &'static str {
     if bar.to >= events.len() { " open" } else { "" }
@@ -46,7 +51,7 @@ fn push_bar(
     let x = frame.scale.at(bar.from);
     let width = Tenths(frame.scale.at(bar.to).minus(x).0.max(5));
     let y = frame.lane(bar.worker as usize).saturating_add(4);
-    let (kind, state) = (kind_of(bar), openness(bar, events));
+    let (kind, state, thin) = (kind_of(bar), openness(bar, events), thinness(width));
     let fill = colour(bar.queue);
     let round = match bar.run {
         Run::Block(_) => 2,
@@ -54,7 +59,7 @@ fn push_bar(
     };
     write!(
         into,
-        "<rect class=\"{kind}{state}\" x=\"{x}\" y=\"{y}\" width=\"{width}\" height=\"{BAR}\" rx=\"{round}\" fill=\"{fill}\">"
+        "<rect class=\"{kind}{state}{thin}\" x=\"{x}\" y=\"{y}\" width=\"{width}\" height=\"{BAR}\" rx=\"{round}\" fill=\"{fill}\">"
     )?;
     push_title(into, plan, bar)?;
     into.push_str("</rect>\n")

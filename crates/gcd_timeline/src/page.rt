@@ -22,6 +22,8 @@ text{fill:#222}
 .block{stroke:#555;stroke-width:.6}
 .barrier{stroke:#000;stroke-width:1.8}
 .delivery{stroke:#000;stroke-width:1.8}
+.thin{stroke-width:.15}
+.barrier.thin,.delivery.thin{stroke-width:.6}
 .open{fill-opacity:.45;stroke-dasharray:3 2}
 .parked{stroke:#777;stroke-dasharray:3 2;fill:none}
 .wait{fill:#555;font-size:10px}

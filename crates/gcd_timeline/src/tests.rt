@@ -245,3 +245,38 @@ fn texts_are_escaped(rt: HostRuntime) -> Result<(), Fail> {
     assert_eq!(rt; text.as_str(), "a&lt;b&gt;&amp;&quot;c&quot;\\\\\\\"d ");
     Ok(())
 }
+
+// Many acts of main, and then b, whose bar is narrower than four pixels.
+fn dense_events(alloc: Global) -> Result<Vec<Event>, AllocError> {
+    let (main, b) = (Blk(0), Blk(1));
+    let mut events = Vec::new(alloc);
+    events.push(Event::Start {
+        worker: 0,
+        blk: main,
+    })?;
+    for index in 0..600 {
+        events.push(Event::Act {
+            worker: 0,
+            run: MAIN,
+            index,
+        })?;
+    }
+    events.push(Event::End {
+        worker: 0,
+        blk: main,
+    })?;
+    events.push(Event::Start { worker: 0, blk: b })?;
+    events.push(Event::End { worker: 0, blk: b })?;
+    Ok(events)
+}
+
+#[test]
+fn narrow_bars_have_thin_edges(rt: HostRuntime) -> Result<(), Fail> {
+    let plan = plan_of(rt.alloc(), &[])?.ok_or("no plan")?;
+    let events = dense_events(rt.alloc())?;
+    let made = marks(rt.alloc(), &plan, &events)?;
+    let page = svg(rt.alloc(), &plan, &made, &events)?;
+    let lines = &["<rect class=\"block\"", "<rect class=\"block thin\""];
+    assert_eq!(rt; missing(page.as_str(), lines), None);
+    Ok(())
+}
