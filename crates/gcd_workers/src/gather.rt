@@ -27,7 +27,10 @@ fn take_in<'a>(board: &WorkBoard<'a>, pass: &mut WorkPass<'a>, hand: Hand<WorkCe
     ensures seen { (view pass.new).seen ≡ (view pass.old).seen }
     ensures hands { (view pass.new).hands ≡ ((view hand.entry.pass).worker, Back) ∷ (view pass.old).hands }
 {
-    let Hand { pass: other, bench: _ } = hand;
+    let Hand {
+        pass: other,
+        bench: _,
+    } = hand;
     board.join(pass, other);
 }
 

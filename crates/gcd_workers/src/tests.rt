@@ -45,7 +45,11 @@ fn is_drained(machine: &mut Machine, run: &Worked) -> bool {
 // Whether each block has the value that its number tells: the bytes of the file from there on.
 fn are_right(run: &Worked) -> bool {
     for (number, value) in run.values.iter().enumerate() {
-        let want = if number == 0 { 0 } else { 9 - number as u64 % 9 };
+        let want = if number == 0 {
+            0
+        } else {
+            9 - number as u64 % 9
+        };
         if *value != want {
             return false;
         }

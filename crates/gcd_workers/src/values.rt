@@ -24,13 +24,7 @@ fn value_in(cell: &WorkCell) -> u64
 }
 
 // The values after one more event: an End gives its block a value.
-fn note_end(
-    plan: &Plan,
-    files: &[Vec<u8>],
-    cells: &[WorkCell],
-    e: Event,
-    values: &mut Vec<u64>,
-)
+fn note_end(plan: &Plan, files: &[Vec<u8>], cells: &[WorkCell], e: Event, values: &mut Vec<u64>)
     requires count { length values.old.items ≡ length plan.now.blocks }
     requires cells { length plan.now.blocks ≤ length cells.now }
     requires told { IsTold plan.now (contents files.now) cells.now e }

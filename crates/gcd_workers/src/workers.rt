@@ -1,16 +1,20 @@
 // A run by several workers.
-ghost use Rattle.std.specs.Prelude.{◌≡◌, ◌≤◌, ◌<◌, ℕ, true, false, replicate, length, IfOk};
+ghost use Rattle.std.specs.Prelude.{◌≡◌, ◌≤◌, ◌<◌, ℕ, All, true, false, [], replicate, length, IfOk};
 ghost use Rattle.gcd_plan.specs.Limits.{max_workers};
 ghost use Rattle.gcd_alone.specs.Ran.{AreValues};
 ghost use Rattle.gcd_history.specs.Ends.{HasState};
 ghost use Rattle.gcd_jobs.specs.Contents.{contents};
+ghost use Rattle.gcd_pool.specs.Hands.{IsPool};
 ghost use Rattle.gcd_row.specs.Passes.{IsPassOf, terms_of, view};
+ghost use Rattle.gcd_steal.specs.Racks.{IsBenchOf, plan_of};
+ghost use Rattle.gcd_turn.specs.Asked.{KeepsListens};
+ghost use Rattle.gcd_turn.specs.Promises.{IsHeard, IsTimely};
 ghost use Rattle.gcd_workers.specs.Ran.{RanWorkers};
-ghost use Rattle.gcd_workers.specs.Teams.{HasLed};
+ghost use Rattle.gcd_workers.specs.Teams.{HasLed, IsHead};
 ghost use Rattle.gcd_workers.specs.Told.{GiveWorks, work_gives, work_shape};
 
 use crate::gather::run_team;
-use crate::opening::{WorkBoard, WorkPass, open_board};
+use crate::opening::{WorkBoard, WorkCell, WorkPass, open_board};
 use crate::team::hands_of;
 use crate::values::note_all;
 use gcd_event::Event;
@@ -18,7 +22,7 @@ use gcd_history::State;
 use gcd_outer::{Clock, Poller};
 use gcd_plan::Plan;
 use gcd_pool::Pool;
-use gcd_steal::Rack;
+use gcd_steal::{Bench, Rack};
 use std::alloc::{AllocError, Global};
 use std::sync::Wait;
 use std::thread::Threads;
@@ -69,6 +73,68 @@ fn close<'a>(
     })
 }
 
+// Hires a hand for each bench, and runs the pool of them to the end. What worker 0 has seen then is the whole row.
+fn run_pool<'a, R: Threads + Wait + Sync, P: Poller, C: Clock>(
+    rt: &R,
+    alloc: Global,
+    pool: &Pool<WorkCell<'a>>,
+    pass: WorkPass<'a>,
+    mut benches: Vec<Bench>,
+    poller: &mut P,
+    clock: &mut C,
+) -> Result<WorkPass<'a>, AllocError>
+    requires pool { IsPool pool.now }
+    requires pass { IsPassOf work_shape work_gives pool.now.board.now pass }
+    requires head { IsHead 1 1 (view pass) }
+    requires none { (view pass).seen ≡ [] }
+    requires benches { All (IsBenchOf pool.now.rack.now) benches.items }
+    requires count { (0 < length benches.items) × (length benches.items ≤ max_workers) }
+    requires unwatched { (feed : ℕ) → (P.state poller.old).watched feed ≡ false }
+    ensures pass { IfOk result (λ p. IsPassOf work_shape work_gives pool.now.board.now p) }
+    ensures led { IfOk result (λ p. HasLed (length benches.entry.items) (view p)) }
+    ensures heard { IfOk result (λ p. IsHeard (terms_of pool.now.board.now).plan [] (view p).seen (record { tells = P.tells; before = P.state poller.old; after = P.state poller.new })) }
+    ensures timely { IfOk result (λ p. IsTimely (terms_of pool.now.board.now).plan [] (view p).seen (record { tells = C.tells; before = C.state clock.old; after = C.state clock.new })) }
+    ensures kept { KeepsListens P.tells (P.state poller.old) (P.state poller.new) }
+{
+    let first = benches.remove(0);
+    let hands = hands_of(alloc, pool, pass, first, benches)?;
+    Ok(run_team(rt, pool, hands, poller, clock))
+}
+
+// Runs the plan over a rack: its works over the files lie in a board of their own.
+fn run_board<R: Threads + Wait + Sync, P: Poller, C: Clock>(
+    rt: &R,
+    alloc: Global,
+    plan: &Plan,
+    files: &[Vec<u8>],
+    rack: &Rack,
+    benches: Vec<Bench>,
+    workers: u8,
+    poller: &mut P,
+    clock: &mut C,
+) -> Result<Worked, AllocError>
+    requires rack { plan_of rack.now ≡ plan.now }
+    requires benches { All (IsBenchOf rack.now) benches.items }
+    requires count { length benches.items ≡ workers }
+    requires workers { (0 < workers) × (workers ≤ max_workers) }
+    requires unwatched { (feed : ℕ) → (P.state poller.old).watched feed ≡ false }
+    ensures ran { IfOk result (λ w. RanWorkers plan.now workers (contents files.now)
+        (record { tells = P.tells; before = P.state poller.old; after = P.state poller.new })
+        (record { tells = C.tells; before = C.state clock.old; after = C.state clock.new })
+        w.journal.items w.values.items w.state) }
+    ensures kept { KeepsListens P.tells (P.state poller.old) (P.state poller.new) }
+{
+    let values = Vec::from_elem(alloc, 0, plan.blocks() as usize)?;
+    let (board, pass) = open_board(alloc, plan, files)?;
+    let pool = Pool {
+        board: &board,
+        rack,
+        plan,
+    };
+    let pass = run_pool(rt, alloc, &pool, pass, benches, poller, clock)?;
+    close(alloc, plan, files, board, pass, values, workers)
+}
+
 /// Runs the plan by so many workers, 1 to 64: worker 0, which alone has poller and clock, and helpers in threads of their own, until
 /// the run is quiescent, halted or full (this project's own rule). `files` are the contents of the plan's files, in their order; the
 /// poller watches no feed yet. A run by one worker needs no thread. An `Err` comes only of want of memory, before the first event
@@ -93,16 +159,8 @@ pub fn run_workers<R: Threads + Wait + Sync, P: Poller, C: Clock>(
     ensures addresses { P.tells ≡ true → (P.state poller.new).addresses ≡ (P.state poller.old).addresses }
     ensures poller_faults { (P.state poller.old).faults ≤ (P.state poller.new).faults }
 {
-    let values = Vec::from_elem(alloc, 0, plan.blocks() as usize)?;
-    let (rack, mut benches) = Rack::new(alloc, plan, workers, MOST_PUSHES)?;
-    let (board, pass) = open_board(alloc, plan, files)?;
-    let pool = Pool {
-        board: &board,
-        rack: &rack,
-        plan,
-    };
-    let first = benches.remove(0);
-    let hands = hands_of(alloc, &pool, pass, first, benches)?;
-    let pass = run_team(rt, &pool, hands, poller, clock);
-    close(alloc, plan, files, board, pass, values, workers)
+    let (rack, benches) = Rack::new(alloc, plan, workers, MOST_PUSHES)?;
+    run_board(
+        rt, alloc, plan, files, &rack, benches, workers, poller, clock,
+    )
 }

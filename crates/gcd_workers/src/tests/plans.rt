@@ -1,5 +1,7 @@
 // A plan with a serial queue, a concurrent one with a barrier, and a work in each block.
-use gcd_plan::{Act, Blk, BlkPart, FilePart, How, Kind, Obj, ObjPart, Parts, Plan, WHOLE_FILE, Work};
+use gcd_plan::{
+    Act, Blk, BlkPart, FilePart, How, Kind, Obj, ObjPart, Parts, Plan, WHOLE_FILE, Work,
+};
 use std::alloc::{AllocError, Global};
 use std::test::Fail;
 

@@ -18,5 +18,5 @@ returns-clause-led c =
     let p = c.look.new.pass in
     let same = seen_whole c.args.board.now (view c.args.pass.now) p c.look.ensures.pass c.requires.head.worker c.requires.ended c.look.ensures.view.ahead in
     let ended = subst (λ (t : Terms WorkCell). HasEnded t.plan (view p).seen) (sym c.look.ensures.pass.terms)
-        (subst (λ (h : List Event). HasEnded (terms_of c.args.board.now).plan h) (sym same) c.requires.ended) in
+    (subst (λ (h : List Event). HasEnded (terms_of c.args.board.now).plan h) (sym same) c.requires.ended) in
     has_led n (view p) c.requires.some (head_seeing n n (view c.args.pass.now) (view p) c.look.ensures.view.is c.requires.head) c.look.ensures.view.fresh ended
