@@ -1,6 +1,7 @@
 -- A hand more, and the hands after their service.
 use Rattle.std.proofs.Common.{◌≡◌, ◌<◌, ◌+◌, ◌∙◌, ℕ, suc, List, [], ◌∷◌, ◌++◌, length, ap, sym, subst, arith}
 use Rattle.std.specs.Prelude.{All, slice_index_or}
+use Rattle.std.specs.List.{ShiftedDown}
 use Rattle.gcd_team.specs.Team.{HasEnded, of_worker}
 use Rattle.gcd_event.specs.declared.event.Event.{Event}
 use Rattle.gcd_row.proofs.Fronts.{own_nothing}
@@ -58,3 +59,10 @@ hired pool n hands hand ready worker count each =
 -- what holds of all holds of the rest
 pub all_rest : {T : Type 0} → (P : T → Type 0) (x : T) (xs : List T) → All P (x ∷ xs) → All P xs
 all_rest P x xs all k d low = all (suc k) d (omega arith)
+
+-- what holds of all holds of one that was taken out at the front, and of those behind it
+pub all_first : {T : Type 0} → (P : T → Type 0) (xs : List T) (x : T) → 0 < length xs → x ≡ slice_index_or xs 0 x → All P xs → P x
+all_first P xs x some is all = subst P (sym is) (all 0 x some)
+
+pub all_after : {T : Type 0} → (P : T → Type 0) (xs ys : List T) → length ys + 1 ≡ length xs → ShiftedDown xs ys 0 → All P xs → All P ys
+all_after P xs ys count shifted all k d low = subst P (sym (shifted k d (omega arith))) (all (k + 1) d (omega arith))

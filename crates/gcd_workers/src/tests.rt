@@ -1,8 +1,8 @@
 mod plans;
 
 use crate::{Worked, run_workers};
+use gcd_alone::{Alone, run_alone};
 use gcd_history::State;
-use gcd_machine::Machine;
 use gcd_outer::{JumpClock, ListPoller};
 use gcd_plan::Plan;
 use plans::{BLOCKS, plan_with_a_barrier};
@@ -31,20 +31,21 @@ fn run_of<R: Threads + Wait + Sync>(
     Ok(run_workers(rt, alloc, plan, &files, workers, &mut poller, &mut clock)?)
 }
 
-// Whether a machine of its own takes the journal, event by event, and has drained then.
-fn is_drained(machine: &mut Machine, run: &Worked) -> bool {
-    for e in &run.journal {
-        if machine.permits(*e).is_some() {
-            return false;
-        }
-        machine.apply(*e);
+// The same by worker 0 alone.
+fn alone_of(rt: &impl Wait, alloc: Global, plan: &Plan) -> Result<Alone, Fail> {
+    let mut files = Vec::new(alloc);
+    files.push(LOG.to_vec(alloc)?)?;
+    if files.len() != plan.files().len() {
+        return Err(Fail::from("another number of files"));
     }
-    machine.state() == State::Drained
+    let mut poller = ListPoller::new(alloc, Vec::new(alloc), 4, 100)?;
+    let mut clock = JumpClock::new(0);
+    Ok(run_alone(rt, alloc, plan, &files, &mut poller, &mut clock)?)
 }
 
 // Whether each block has the value that its number tells: the bytes of the file from there on.
-fn are_right(run: &Worked) -> bool {
-    for (number, value) in run.values.iter().enumerate() {
+fn are_right(values: &[u64]) -> bool {
+    for (number, value) in values.iter().enumerate() {
         let want = if number == 0 {
             0
         } else {
@@ -54,7 +55,7 @@ fn are_right(run: &Worked) -> bool {
             return false;
         }
     }
-    run.values.len() == BLOCKS as usize
+    values.len() == BLOCKS as usize
 }
 
 #[test]
@@ -62,10 +63,17 @@ fn workers_run_a_plan_to_its_end(rt: HostRuntime) -> Result<(), Fail> {
     let plan = plan_with_a_barrier(rt.alloc())?;
     for workers in [1, 2, 4] {
         let run = run_of(&rt, rt.alloc(), &plan, workers)?;
-        let mut machine = Machine::new(rt.alloc(), &plan)?;
-        assert!(rt; is_drained(&mut machine, &run), "{workers} workers");
-        assert!(rt; are_right(&run), "{workers} workers");
+        assert!(rt; are_right(run.values.as_slice()), "{workers} workers");
         assert!(rt; run.state == State::Drained, "{workers} workers");
     }
+    Ok(())
+}
+
+#[test]
+fn a_team_of_one_records_what_worker_0_records_alone(rt: HostRuntime) -> Result<(), Fail> {
+    let plan = plan_with_a_barrier(rt.alloc())?;
+    let run = run_of(&rt, rt.alloc(), &plan, 1)?;
+    let alone = alone_of(&rt, rt.alloc(), &plan)?;
+    assert!(rt; run.journal.as_slice() == alone.journal.as_slice());
     Ok(())
 }

@@ -131,8 +131,9 @@ fn run_board<R: Threads + Wait + Sync, P: Poller, C: Clock>(
         rack,
         plan,
     };
-    let pass = run_pool(rt, alloc, &pool, pass, benches, poller, clock)?;
-    close(alloc, plan, files, board, pass, values, workers)
+    let last = run_pool(rt, alloc, &pool, pass, benches, poller, clock)?;
+    let worked = close(alloc, plan, files, board, last, values, workers)?;
+    Ok(worked)
 }
 
 /// Runs the plan by so many workers, 1 to 64: worker 0, which alone has poller and clock, and helpers in threads of their own, until
