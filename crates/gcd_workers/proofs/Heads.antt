@@ -13,7 +13,6 @@ use Rattle.gcd_row.specs.declared.view.Standing.TheVariants.{Out, Back}
 use Rattle.gcd_row.specs.declared.view.View.{View}
 use Rattle.gcd_workers.specs.Ran.{IsOfWorkers}
 use Rattle.gcd_workers.specs.Teams.{AreOut, IsHead, HasLed}
-use Rattle.gcd_workers.specs.Told.{WorkCell}
 use Rattle.gcd_workers.proofs.Places.{none_at}
 
 other_standing : (m w : ℕ) (s : Standing) (hands : List (ℕ × Standing)) → m ≢ w → standing_of ((m, s) ∷ hands) w ≡ standing_of hands w
@@ -33,7 +32,7 @@ back_is_home : (o : Option Standing) → o ≡ Some Back → o ≢ Some Out
 back_is_home o back out = back_out (sym back ∙ out)
 
 -- nothing is out at first
-pub head_first : (v : View WorkCell) → v.worker ≡ 0 → v.hands ≡ [] → IsHead 1 1 v
+pub head_first : {S : Type 0} → (v : View S) → v.worker ≡ 0 → v.hands ≡ [] → IsHead 1 1 v
 head_first v worker none = record {
   worker = worker;
   out = record {
@@ -43,7 +42,7 @@ head_first v worker none = record {
 }
 
 -- a number is given out
-pub head_out : (n : ℕ) (v : View WorkCell) → 0 < n → IsHead 1 n v → IsHead 1 (n + 1) (lending v n)
+pub head_out : {S : Type 0} → (n : ℕ) (v : View S) → 0 < n → IsHead 1 n v → IsHead 1 (n + 1) (lending v n)
 head_out n v some head = record {
   worker = head.worker;
   out = record {
@@ -57,7 +56,7 @@ head_out n v some head = record {
 }
 
 -- a hand comes back
-pub head_back : (m n : ℕ) (v u : View WorkCell) → m < n → IsHead m n v → u.worker ≡ 0 → u.hands ≡ (m, Back) ∷ v.hands → IsHead (suc m) n u
+pub head_back : {S : Type 0} → (m n : ℕ) (v u : View S) → m < n → IsHead m n v → u.worker ≡ 0 → u.hands ≡ (m, Back) ∷ v.hands → IsHead (suc m) n u
 head_back m n v u low head worker hands = record {
   worker = worker;
   out = record {
@@ -77,16 +76,16 @@ head_back m n v u low head worker hands = record {
 }
 
 -- what it has seen does not matter
-pub head_seeing : (m n : ℕ) (v u : View WorkCell) → u ≡ seeing v u.seen → IsHead m n v → IsHead m n u
-head_seeing m n v u is head =
-    let hands : u.hands ≡ v.hands = ap (λ (x : View WorkCell). x.hands) is in
+pub head_seeing : {S : Type 0} → (m n : ℕ) (v u : View S) → u ≡ seeing v u.seen → IsHead m n v → IsHead m n u
+head_seeing {S} m n v u is head =
+    let hands : u.hands ≡ v.hands = ap (λ (x : View S). x.hands) is in
     record {
-      worker = ap (λ (x : View WorkCell). x.worker) is ∙ head.worker;
+      worker = ap (λ (x : View S). x.worker) is ∙ head.worker;
       out = subst (AreOut m n) (sym hands) head.out;
     }
 
 -- all hands are back, and no event is of a number that was never given out
-pub has_led : (n : ℕ) (v : View WorkCell) → 0 < n → IsHead n n v → KnowsFresh v → HasEnded v.terms.plan v.seen → HasLed n v
+pub has_led : {S : Type 0} → (n : ℕ) (v : View S) → 0 < n → IsHead n n v → KnowsFresh v → HasEnded v.terms.plan v.seen → HasLed n v
 unfolding of_worker
 has_led n v some head fresh ended = record {
   worker = head.worker;

@@ -28,7 +28,7 @@ pub ran_workers : (plan : PlanView) (workers : ℕ) (files : List (List ℕ)) (p
 ran_workers plan workers files poller clock b p h given state pass is led heard timely same has are =
     let its : (view p).terms.plan ≡ plan = ap (λ (t : Terms WorkCell). t.plan) pass.terms ∙ is in
     let ran : RanWorkers plan workers files poller clock (view p).seen given state = record {
-      lawful = subst (λ (k : PlanView). IsLawful k (view p).seen) is (lawful_pass b p pass);
+      lawful = subst (λ (k : PlanView). IsLawful k (view p).seen) is (lawful_pass work_shape work_gives b p pass);
       state_is = has;
       ended = subst (λ (k : PlanView). HasEnded k (view p).seen) its led.ended;
       few = pass.few;

@@ -97,7 +97,7 @@ pub told_at_end : (plan : PlanView) (files : List (List ℕ)) (b : RowBoard Work
     → AtRest work_shape work_gives (view p).terms (view p).seen cells → AreTold plan files cells (view p).seen
 told_at_end plan files b p cells pass is works rest =
     subst (λ (k : PlanView). AreTold k files cells (view p).seen) is
-    (told_all files (terms_of b) (view p).seen cells (lawful_pass b p pass)
+    (told_all files (terms_of b) (view p).seen cells (lawful_pass work_shape work_gives b p pass)
     (subst (λ (k : PlanView). GiveWorks k files (terms_of b).cells) (sym is) works)
     (subst (λ (t : Terms WorkCell). AtRest work_shape work_gives t (view p).seen cells) pass.terms rest))
 

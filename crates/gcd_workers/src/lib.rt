@@ -22,6 +22,8 @@ mod team;
 mod values;
 mod workers;
 
+pub use gather::run_pool;
+pub use opening::tallies_of;
 pub use workers::{Worked, run_workers};
 
 #[cfg(test)]

@@ -3,6 +3,7 @@ ghost use Rattle.std.specs.Prelude.{◌≡◌, ◌++◌, ◌≤◌, [], IfOk, On
 ghost use Rattle.gcd_jobs.specs.Contents.{contents};
 ghost use Rattle.gcd_row.specs.Opening.{AreHandlersOf, tallies_for};
 ghost use Rattle.gcd_row.specs.Passes.{IsPassOf, terms_of, view};
+ghost use Rattle.gcd_workers.specs.Teams.{IsNew};
 ghost use Rattle.gcd_workers.specs.Told.{AreJobs, GiveWorks, work_gives, work_shape};
 
 use gcd_jobs::{FileJob, Tally};
@@ -42,8 +43,8 @@ fn add_tally(kind: Kind, tallies: &mut Vec<Tally>) -> Result<(), AllocError>
     Ok(())
 }
 
-// A tally for each source.
-fn tallies_of(alloc: Global, plan: &Plan) -> Result<Vec<Tally>, AllocError>
+/// A tally for each source of the plan, by number. An `Err` comes of want of memory.
+pub fn tallies_of(alloc: Global, plan: &Plan) -> Result<Vec<Tally>, AllocError>
     ensures { IfOk result (λ tallies. AreHandlersOf (λ t. t.kind) (λ t. t.times) (λ t. t.total) plan.now tallies.items) }
 {
     let mut tallies = Vec::new(alloc);
@@ -63,7 +64,7 @@ pub fn open_board<'a>(
     ensures works { IfOk result (λ made. GiveWorks plan.now (contents files.now) (terms_of made.0).cells) }
     ensures cells { IfOk result (λ made. length (terms_of made.0).plan.blocks ≤ length (terms_of made.0).cells) }
     ensures pass { IfOk result (λ made. IsPassOf work_shape work_gives made.0 made.1) }
-    ensures view { IfOk result (λ made. ((view made.1).worker ≡ 0) × ((view made.1).hands ≡ []) × ((view made.1).seen ≡ [])) }
+    ensures new { IfOk result (λ made. IsNew (view made.1)) }
 {
     let jobs = jobs_of(alloc, plan, files)?;
     let tallies = tallies_of(alloc, plan)?;

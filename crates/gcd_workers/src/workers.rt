@@ -13,9 +13,8 @@ ghost use Rattle.gcd_workers.specs.Ran.{RanWorkers};
 ghost use Rattle.gcd_workers.specs.Teams.{HasLed, IsHead};
 ghost use Rattle.gcd_workers.specs.Told.{GiveWorks, work_gives, work_shape};
 
-use crate::gather::run_team;
+use crate::gather::run_pool;
 use crate::opening::{WorkBoard, WorkCell, WorkPass, open_board};
-use crate::team::hands_of;
 use crate::values::note_all;
 use gcd_event::Event;
 use gcd_history::State;
@@ -71,34 +70,6 @@ fn close<'a>(
         values,
         state,
     })
-}
-
-// Hires a hand for each bench, and runs the pool of them to the end. What worker 0 has seen then is the whole row.
-fn run_pool<'a, R: Threads + Wait + Sync, P: Poller, C: Clock>(
-    rt: &R,
-    alloc: Global,
-    pool: &Pool<WorkCell<'a>>,
-    pass: WorkPass<'a>,
-    mut benches: Vec<Bench>,
-    poller: &mut P,
-    clock: &mut C,
-) -> Result<WorkPass<'a>, AllocError>
-    requires pool { IsPool pool.now }
-    requires pass { IsPassOf work_shape work_gives pool.now.board.now pass }
-    requires head { IsHead 1 1 (view pass) }
-    requires none { (view pass).seen ≡ [] }
-    requires benches { All (IsBenchOf pool.now.rack.now) benches.items }
-    requires count { (0 < length benches.items) × (length benches.items ≤ max_workers) }
-    requires unwatched { (feed : ℕ) → (P.state poller.old).watched feed ≡ false }
-    ensures pass { IfOk result (λ p. IsPassOf work_shape work_gives pool.now.board.now p) }
-    ensures led { IfOk result (λ p. HasLed (length benches.entry.items) (view p)) }
-    ensures heard { IfOk result (λ p. IsHeard (terms_of pool.now.board.now).plan [] (view p).seen (record { tells = P.tells; before = P.state poller.old; after = P.state poller.new })) }
-    ensures timely { IfOk result (λ p. IsTimely (terms_of pool.now.board.now).plan [] (view p).seen (record { tells = C.tells; before = C.state clock.old; after = C.state clock.new })) }
-    ensures kept { KeepsListens P.tells (P.state poller.old) (P.state poller.new) }
-{
-    let first = benches.remove(0);
-    let hands = hands_of(alloc, pool, pass, first, benches)?;
-    Ok(run_team(rt, pool, hands, poller, clock))
 }
 
 // Runs the plan over a rack: its works over the files lie in a board of their own.

@@ -10,10 +10,10 @@ use Rattle.gcd_workers.proofs.Places.{each_first, each_rest}
 use Rattle.gcd_workers.proofs.gather.take_all.Goals as goal
 
 pub loop-hand-preserved : goal.loop-hand-preserved
-loop-hand-preserved c =
+loop-hand-preserved g c =
     let at = c.loop-hand in
     let i = at.invariant in
-    let P = IsPassAt c.args.board.now in
+    let P = IsPassAt g.S.Slot.shape g.S.Slot.gives c.args.board.now in
     let n = suc (length at.yielded) in
     let all = length c.args.hands.items in
     let x = c.in-Some.hand in

@@ -6,7 +6,7 @@ use Rattle.gcd_workers.proofs.Hires.{all_rest}
 use Rattle.gcd_workers.proofs.team.add_hands.Goals as goal
 
 pub loop-bench-preserved : goal.loop-bench-preserved
-loop-bench-preserved c =
+loop-bench-preserved g c =
     let at = c.loop-bench in
     let i = at.invariant in
     let x = c.in-Some.bench in

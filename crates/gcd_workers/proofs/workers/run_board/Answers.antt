@@ -5,31 +5,27 @@ use Rattle.gcd_outer.specs.Tells.{PollerState}
 use Rattle.gcd_jobs.specs.Contents.{contents}
 use Rattle.gcd_row.specs.Passes.{view}
 use Rattle.gcd_workers.specs.Teams.{HasLed}
-use Rattle.gcd_workers.proofs.Heads.{head_first}
 use Rattle.gcd_workers.proofs.Runs.{ran_workers}
 use Rattle.gcd_workers.proofs.workers.run_board.Goals as goal
 
-pub run_pool-last-requires-clause-pool : goal.run_pool-last-requires-clause-pool
-run_pool-last-requires-clause-pool g c = record {
+pub run_pool-requires-clause-pool : goal.run_pool-requires-clause-pool
+run_pool-requires-clause-pool g c = λ lifetimes outlive. record {
   rack = c.requires.rack ∙ sym c.in_ok-board.ensures.plan;
   plan = sym c.in_ok-board.ensures.plan;
   cells = c.in_ok-board.ensures.cells;
 }
 
-pub run_pool-last-requires-clause-head : goal.run_pool-last-requires-clause-head
-run_pool-last-requires-clause-head g c = head_first (view c.in_ok-board.pass) c.in_ok-board.ensures.view.0 c.in_ok-board.ensures.view.1
+pub close-requires-clause-led : goal.close-requires-clause-led
+close-requires-clause-led g c = subst (λ (n : ℕ). HasLed n (view c.in_ok-last.last)) c.requires.count c.in_ok-last.ensures.led
 
-pub close-worked-requires-clause-led : goal.close-worked-requires-clause-led
-close-worked-requires-clause-led g c = subst (λ (n : ℕ). HasLed n (view c.in_ok-last.last)) c.requires.count c.in_ok-last.ensures.led
-
-pub close-worked-requires-clause-zeros : goal.close-worked-requires-clause-zeros
-close-worked-requires-clause-zeros g c =
-    c.in_ok-values.ensures.items_if_clones_equal (λ y is. is) ∙ ap (λ (n : ℕ). replicate n 0) c.blocks.ensures.count
+pub close-requires-clause-zeros : goal.close-requires-clause-zeros
+close-requires-clause-zeros g c =
+    c.in_ok-values.ensures.items_if_clones_equal (λ y is. is) ∙ ap (λ (n : ℕ). replicate n 0) c.blocks-2.ensures.count
 
 pub returns-clause-ran : goal.returns-clause-ran
 returns-clause-ran g c =
-    let told : Seen PollerState = record { tells = g.P.Poller.tells; before = g.P.Poller.state c.args.poller.now; after = g.P.Poller.state c.run_pool-last.new.poller } in
-    let timed : Seen ClockState = record { tells = g.C.Clock.tells; before = g.C.Clock.state c.args.clock.now; after = g.C.Clock.state c.run_pool-last.new.clock } in
+    let told : Seen PollerState = record { tells = g.P.Poller.tells; before = g.P.Poller.state c.args.poller.now; after = g.P.Poller.state c.run_pool.new.poller } in
+    let timed : Seen ClockState = record { tells = g.C.Clock.tells; before = g.C.Clock.state c.args.clock.now; after = g.C.Clock.state c.run_pool.new.clock } in
     let led = subst (λ (n : ℕ). HasLed n (view c.in_ok-last.last)) c.requires.count c.in_ok-last.ensures.led in
     ran_workers c.args.plan.now c.args.workers (contents c.args.files.now) told timed c.in_ok-board.board c.in_ok-last.last
     c.in_ok-worked.worked.journal.items c.in_ok-worked.worked.values.items c.in_ok-worked.worked.state
