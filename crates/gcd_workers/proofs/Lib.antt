@@ -5,4 +5,3 @@ pub mod Places
 pub mod Runs
 pub mod Tellings
 pub mod Wholes
-pub mod ValuesMore

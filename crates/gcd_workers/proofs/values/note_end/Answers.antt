@@ -1,7 +1,7 @@
 use Rattle.std.proofs.Common.{◌≡◌, ◌∙◌}
 use Rattle.gcd_jobs.specs.Contents.{contents}
 use Rattle.gcd_history.specs.Values.{value_of}
-use Rattle.gcd_workers.proofs.ValuesMore.{ends_none, values_ended, values_same}
+use Rattle.gcd_alone.proofs.ValuesMore.{ends_none, values_ended, values_same}
 use Rattle.gcd_row.specs.declared.cell.Cell.TheVariants.{Done}
 use Rattle.gcd_workers.proofs.Tellings.{at_place}
 use Rattle.gcd_workers.proofs.values.note_end.Goals as goal
