@@ -1,0 +1,105 @@
+-- What worker 0's pass has given out, a number on.
+use Rattle.std.proofs.Common.{◌≡◌, ◌≢◌, ◌<◌, ◌≤◌, ◌+◌, ◌∙◌, ◌==◌, ℕ, suc, Bool, true, false, cond, List, [], ◌∷◌, Option, Some, None, refl, ap, sym, subst, arith, ⊎_elim, eq-eqb}
+use Rattle.std.specs.Prelude.{slice_get}
+use Rattle.std.proofs.lemmas.Bool.{cases_lt, ne_eqb}
+use Rattle.gcd_event.specs.declared.event.Event.{Event}
+use Rattle.gcd_history.specs.Choice.{worker_of}
+use Rattle.gcd_team.specs.Held.{is_of}
+use Rattle.gcd_team.specs.Team.{of_worker, HasEnded}
+use Rattle.gcd_row.specs.Plays.{KnowsFresh}
+use Rattle.gcd_row.specs.Views.{standing_of, lending, seeing}
+use Rattle.gcd_row.specs.declared.view.Standing.{Standing}
+use Rattle.gcd_row.specs.declared.view.Standing.TheVariants.{Out, Back}
+use Rattle.gcd_row.specs.declared.view.View.{View}
+use Rattle.gcd_workers.specs.Ran.{IsOfWorkers}
+use Rattle.gcd_workers.specs.Teams.{AreOut, IsHead, HasLed}
+use Rattle.gcd_workers.proofs.Places.{none_at}
+
+other_standing : (m w : ℕ) (s : Standing) (hands : List (ℕ × Standing)) → m ≢ w → standing_of ((m, s) ∷ hands) w ≡ standing_of hands w
+other_standing m w s hands differ = ap (λ (b : Bool). cond b (Some s) (standing_of hands w)) (ne_eqb m w differ)
+
+same_standing : (m : ℕ) (s : Standing) (hands : List (ℕ × Standing)) → standing_of ((m, s) ∷ hands) m ≡ Some s
+same_standing m s hands = ap (λ (b : Bool). cond b (Some s) (standing_of hands m)) (eq-eqb m m refl)
+
+none_is_home : (o : Option Standing) → o ≡ None → o ≢ Some Out
+none_is_home None is out = cc
+none_is_home (Some x) is out = cc
+
+back_out : Some Back ≡ Some Out → ⊥
+back_out is = cc
+
+back_is_home : (o : Option Standing) → o ≡ Some Back → o ≢ Some Out
+back_is_home o back out = back_out (sym back ∙ out)
+
+-- nothing is out at first
+pub head_first : {S : Type 0} → (v : View S) → v.worker ≡ 0 → v.hands ≡ [] → IsHead 1 1 v
+head_first v worker none = record {
+  worker = worker;
+  out = record {
+    none = λ w low. ap (λ (h : List (ℕ × Standing)). standing_of h w) none;
+    home = λ w low. none_is_home (standing_of v.hands w) (ap (λ (h : List (ℕ × Standing)). standing_of h w) none);
+  };
+}
+
+-- a number is given out
+pub head_out : {S : Type 0} → (n : ℕ) (v : View S) → 0 < n → IsHead 1 n v → IsHead 1 (n + 1) (lending v n)
+head_out n v some head = record {
+  worker = head.worker;
+  out = record {
+    none = λ w high.
+        let differ : n ≢ w = λ same. omega (arith, high, same) in
+        other_standing n w Out v.hands differ ∙ head.out.none w (omega (arith, high));
+    home = λ w low out.
+        let differ : n ≢ w = λ same. omega (arith, low, some, same) in
+        head.out.home w low (sym (other_standing n w Out v.hands differ) ∙ out);
+  };
+}
+
+-- a hand comes back
+pub head_back : {S : Type 0} → (m n : ℕ) (v u : View S) → m < n → IsHead m n v → u.worker ≡ 0 → u.hands ≡ (m, Back) ∷ v.hands → IsHead (suc m) n u
+head_back m n v u low head worker hands = record {
+  worker = worker;
+  out = record {
+    none = λ w high.
+        let differ : m ≢ w = λ same. omega (arith, high, low, same) in
+        ap (λ (h : List (ℕ × Standing)). standing_of h w) hands ∙ other_standing m w Back v.hands differ ∙ head.out.none w high;
+    home = λ w below.
+        ⊎_elim
+        (λ (under : w < m).
+        let differ : m ≢ w = λ same. omega (arith, under, same) in
+        λ out. head.out.home w under (sym (other_standing m w Back v.hands differ) ∙ sym (ap (λ (h : List (ℕ × Standing)). standing_of h w) hands) ∙ out))
+        (λ (over : m ≤ w).
+        let same : m ≡ w = omega (arith, over, below) in
+        back_is_home (standing_of u.hands w) (ap (λ (h : List (ℕ × Standing)). standing_of h w) hands ∙ subst (λ (k : ℕ). standing_of ((m, Back) ∷ v.hands) k ≡ Some Back) same (same_standing m Back v.hands)))
+        (cases_lt w m);
+  };
+}
+
+-- what it has seen does not matter
+pub head_seeing : {S : Type 0} → (m n : ℕ) (v u : View S) → u ≡ seeing v u.seen → IsHead m n v → IsHead m n u
+head_seeing {S} m n v u is head =
+    let hands : u.hands ≡ v.hands = ap (λ (x : View S). x.hands) is in
+    record {
+      worker = ap (λ (x : View S). x.worker) is ∙ head.worker;
+      out = subst (AreOut m n) (sym hands) head.out;
+    }
+
+-- all hands are back, and no event is of a number that was never given out
+pub has_led : {S : Type 0} → (n : ℕ) (v : View S) → 0 < n → IsHead n n v → KnowsFresh v → HasEnded v.terms.plan v.seen → HasLed n v
+unfolding of_worker
+has_led n v some head fresh ended = record {
+  worker = head.worker;
+  home = λ w.
+      ⊎_elim
+      (λ (under : w < n). head.out.home w under)
+      (λ (over : n ≤ w). none_is_home (standing_of v.hands w) (head.out.none w over))
+      (cases_lt w n);
+  ended = ended;
+  by = λ i e at.
+      ⊎_elim
+      (λ (under : worker_of e < n). under)
+      (λ (over : n ≤ worker_of e).
+      let some_one : worker_of e ≢ 0 = λ none. omega (arith, over, some, none) in
+      absurd (none_at (is_of (worker_of e)) v.seen i e (fresh head.worker (worker_of e) some_one (head.out.none (worker_of e) over)) at (eq-eqb (worker_of e) (worker_of e) refl)))
+      (cases_lt (worker_of e) n);
+}

@@ -1,0 +1,39 @@
+-- What worker 0 has seen of a run that has ended does not grow.
+use Rattle.std.proofs.Common.{◌≡◌, ◌<◌, ℕ, List, [], ◌∷◌, length, subst, sym, arith}
+use Rattle.gcd_event.specs.declared.event.Event.{Event}
+use Rattle.gcd_history.specs.History.{IsLawful}
+use Rattle.gcd_machine.proofs.Shown.{lawful_stands}
+use Rattle.gcd_team.specs.Team.{of_worker, HasEnded}
+use Rattle.gcd_team.proofs.Own.{ended_histories_are_whole}
+use Rattle.gcd_row.specs.Passes.{Ahead, IsPassOf, terms_of, view}
+use Rattle.gcd_row.specs.Shapes.{Shape}
+use Rattle.gcd_row.specs.declared.board.RowBoard.{RowBoard}
+use Rattle.gcd_row.specs.declared.pass.RowPass.{RowPass}
+use Rattle.gcd_row.specs.declared.view.Terms.{Terms}
+use Rattle.gcd_row.specs.declared.view.View.{View}
+
+module _ {S : Type 0} (shape : S → Shape) (gives : S → ℕ → Type 0) where
+  pub lawful_pass : (b : RowBoard S) (p : RowPass S) → IsPassOf shape gives b p → IsLawful (terms_of b).plan (view p).seen
+  lawful_pass b p pass =
+      subst (λ (t : Terms S). IsLawful t.plan (view p).seen) pass.terms (lawful_stands p.machine (view p).terms.plan (view p).seen pass.stands)
+
+  pub seen_whole : (b : RowBoard S) (v : View S) (p : RowPass S) → IsPassOf shape gives b p → v.worker ≡ 0
+      → HasEnded (terms_of b).plan v.seen → Ahead v (view p).seen → (view p).seen ≡ v.seen
+  seen_whole b v p pass zero ended ahead =
+      ended_histories_are_whole (terms_of b).plan (view p).seen v.seen ended (lawful_pass b p pass) pass.few ahead.more
+      (subst (λ (k : ℕ). of_worker k (view p).seen ≡ of_worker k v.seen) zero ahead.own)
+
+  -- a run that has ended has ended for a pass that has seen the same
+  pub ended_of : (b : RowBoard S) (p : RowPass S) → IsPassOf shape gives b p → (h : List Event) → (view p).seen ≡ h
+      → HasEnded (terms_of b).plan h → HasEnded (view p).terms.plan (view p).seen
+  ended_of b p pass h same ended =
+      subst (λ (t : Terms S). HasEnded t.plan (view p).seen) (sym pass.terms) (subst (λ (l : List Event). HasEnded (terms_of b).plan l) (sym same) ended)
+
+-- one of a list that has some
+pub some_of : {T : Type 0} → (xs : List T) → 0 < length xs → T
+some_of [] some = absurd (omega arith)
+some_of (x ∷ xs) some = x
+
+-- what holds of terms holds of the same terms
+pub with_terms : {S : Type 0} → (P : Terms S → Type 0) {a b : Terms S} → a ≡ b → P a → P b
+with_terms P is holds = subst P is holds

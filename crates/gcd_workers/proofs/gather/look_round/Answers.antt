@@ -1,0 +1,16 @@
+use Rattle.gcd_row.specs.Passes.{view}
+use Rattle.gcd_workers.proofs.Heads.{has_led, head_seeing}
+use Rattle.gcd_workers.proofs.Wholes.{ended_of, seen_whole}
+use Rattle.gcd_workers.proofs.gather.look_round.Goals as goal
+
+pub returns-clause-seen : goal.returns-clause-seen
+returns-clause-seen g c =
+    seen_whole g.S.Slot.shape g.S.Slot.gives c.args.board.now (view c.args.pass.now) c.look.new.pass c.look.ensures.pass c.requires.head.worker c.requires.ended c.look.ensures.view.ahead
+
+pub returns-clause-led : goal.returns-clause-led
+returns-clause-led g c =
+    let n = c.args.workers in
+    let p = c.look.new.pass in
+    let same = seen_whole g.S.Slot.shape g.S.Slot.gives c.args.board.now (view c.args.pass.now) p c.look.ensures.pass c.requires.head.worker c.requires.ended c.look.ensures.view.ahead in
+    let ended = ended_of g.S.Slot.shape g.S.Slot.gives c.args.board.now p c.look.ensures.pass (view c.args.pass.now).seen same c.requires.ended in
+    has_led n (view p) c.requires.some (head_seeing n n (view c.args.pass.now) (view p) c.look.ensures.view.is c.requires.head) c.look.ensures.view.fresh ended

@@ -1,0 +1,20 @@
+use Rattle.std.proofs.Common.{◌≡◌, [], List, take, subst, sym}
+use Rattle.std.proofs.lemmas.List.{take_more}
+use Rattle.std.proofs.lemmas.Option.{slice_get-get_or}
+use Rattle.gcd_event.specs.declared.event.Event.{Event}
+use Rattle.gcd_jobs.specs.Contents.{contents}
+use Rattle.gcd_alone.specs.Ran.{AreValues}
+use Rattle.gcd_alone.proofs.ValuesMore.{no_values}
+use Rattle.gcd_workers.proofs.values.note_all.Goals as goal
+
+pub loop-e-init : goal.loop-e-init
+loop-e-init c = subst (AreValues c.args.plan.now (contents c.args.files.now) []) (sym c.requires.zeros) (no_values c.args.plan.now (contents c.args.files.now))
+
+pub note_end-requires-clause-told : goal.note_end-requires-clause-told
+note_end-requires-clause-told c =
+    c.requires.told c.loop-e.e-index _ (slice_get-get_or c.args.journal.now c.loop-e.e-index _ c.loop-e-test.true)
+
+pub loop-e-preserved : goal.loop-e-preserved
+loop-e-preserved c =
+    subst (λ (h : List Event). AreValues c.args.plan.now (contents c.args.files.now) h c.note_end.new.values.items)
+    (sym (take_more c.args.journal.now c.loop-e.e-index _ c.loop-e-test.true)) (c.note_end.ensures (take c.loop-e.e-index c.args.journal.now) c.loop-e.invariant)

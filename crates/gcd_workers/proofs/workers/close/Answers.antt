@@ -1,0 +1,16 @@
+use Rattle.std.proofs.Common.{◌≡◌, ◌≤◌, ◌∙◌, length, ap, sym, subst, arith}
+use Rattle.gcd_jobs.specs.Contents.{contents}
+use Rattle.gcd_plan.specs.PlanView.{PlanView}
+use Rattle.gcd_row.specs.Passes.{terms_of, view}
+use Rattle.gcd_row.specs.declared.view.Terms.{Terms}
+use Rattle.gcd_workers.specs.Told.{AreTold, GiveWorks, WorkCell}
+use Rattle.gcd_workers.proofs.Tellings.{told_at_end, wide_at_end}
+use Rattle.gcd_workers.proofs.workers.close.Goals as goal
+
+pub note_all-requires-clause-cells : goal.note_all-requires-clause-cells
+note_all-requires-clause-cells c = rw c.deref.ensures.value (wide_at_end c.args.plan.now c.args.board c.args.pass c.in-Ok.cells.items c.requires.pass c.requires.plan c.in-Ok.ensures.cells)
+
+pub note_all-requires-clause-told : goal.note_all-requires-clause-told
+note_all-requires-clause-told c =
+    rw (c.deref-2.ensures.value, c.deref.ensures.value, c.in-Ok.ensures.events)
+    (told_at_end c.args.plan.now (contents c.args.files.now) c.args.board c.args.pass c.in-Ok.cells.items c.requires.pass c.requires.plan c.requires.works c.in-Ok.ensures.cells)

@@ -1,0 +1,54 @@
+-- The hands of a team, and what worker 0 has given out (this project's own rules).
+use Rattle.std.specs.Prelude.{◌≡◌, ◌≢◌, ◌<◌, ◌≤◌, ◌+◌, ℕ, List, [], length, Some, None, slice_index_or}
+use Rattle.gcd_plan.specs.PlanView.{PlanView}
+use Rattle.gcd_event.specs.declared.event.Event.{Event}
+use Rattle.gcd_team.specs.Team.{HasEnded}
+use Rattle.gcd_row.specs.Passes.{IsPassOf, view}
+use Rattle.gcd_row.specs.Shapes.{Shape}
+use Rattle.gcd_row.specs.Views.{standing_of}
+use Rattle.gcd_row.specs.declared.view.Standing.{Standing}
+use Rattle.gcd_row.specs.declared.view.Standing.TheVariants.{Out, Back}
+use Rattle.gcd_row.specs.declared.view.View.{View}
+use Rattle.gcd_row.specs.declared.board.RowBoard.{RowBoard}
+use Rattle.gcd_pool.specs.Hands.{IsReady}
+use Rattle.gcd_pool.specs.declared.hand.Hand.{Hand}
+use Rattle.gcd_pool.specs.declared.hand.Pool.{Pool}
+use Rattle.gcd_workers.specs.Ran.{IsOfWorkers}
+
+-- a fact of each place of a list, by its number from n on
+abbrev pub EachFrom : {T : Type 0} → (ℕ → T → Type 0) → (n : ℕ) → List T → Type 0
+EachFrom {T} P n xs = (k : ℕ) (d : T) → k < length xs → P (n + k) (slice_index_or xs k d)
+
+module _ {S : Type 0} (shape : S → Shape) (gives : S → ℕ → Type 0) where
+  -- a hand of worker w that has not served yet
+  pub record IsReadyAt (pool : Pool S) (w : ℕ) (hand : Hand S) : Type 0 where
+    pub ready : IsReady shape gives pool hand
+    pub worker : (view hand.pass).worker ≡ w
+
+  -- a hand of worker w, with a pass of the board
+  pub record IsPassAt (board : RowBoard S) (w : ℕ) (hand : Hand S) : Type 0 where
+    pub pass : IsPassOf shape gives board hand.pass
+    pub worker : (view hand.pass).worker ≡ w
+
+-- no number from n on was given out, and none below m is out
+pub record AreOut (m n : ℕ) (hands : List (ℕ × Standing)) : Type 0 where
+  pub none : (w : ℕ) → n ≤ w → standing_of hands w ≡ None
+  pub home : (w : ℕ) → w < m → standing_of hands w ≢ Some Out
+
+-- worker 0's pass, with numbers given out
+pub record IsHead {S : Type 0} (m n : ℕ) (v : View S) : Type 0 where
+  pub worker : v.worker ≡ 0
+  pub out : AreOut m n v.hands
+
+-- the pass of a team whose run has ended
+pub record HasLed {S : Type 0} (workers : ℕ) (v : View S) : Type 0 where
+  pub worker : v.worker ≡ 0
+  pub home : (w : ℕ) → standing_of v.hands w ≢ Some Out
+  pub ended : HasEnded v.terms.plan v.seen
+  pub by : IsOfWorkers workers v.seen
+
+-- worker 0's pass of a new board: no number was given out, and nothing has come
+pub record IsNew {S : Type 0} (v : View S) : Type 0 where
+  pub worker : v.worker ≡ 0
+  pub hands : v.hands ≡ []
+  pub none : v.seen ≡ []

@@ -1,0 +1,50 @@
+-- What the cells of a board of jobs tell of the values of blocks (this project's own rules).
+use Rattle.std.specs.Prelude.{◌≡◌, ◌<◌, ℕ, List, length, Some, slice_get}
+use Rattle.gcd_plan.specs.PlanView.{PlanView}
+use Rattle.gcd_event.specs.declared.event.Event.{Event}
+use Rattle.gcd_event.specs.declared.event.Event.TheVariants.{Start, Act as Acted, Wake, End, Deliver, DeliverEnd, Tick, Ready, FeedEnd, Misuse, Halt}
+use Rattle.gcd_history.specs.Values.{value_of}
+use Rattle.gcd_jobs.specs.Jobs.{job_value}
+use Rattle.gcd_jobs.specs.declared.file_job.FileJob.{FileJob}
+use Rattle.gcd_jobs.specs.declared.tally.Tally.{Tally}
+use Rattle.gcd_row.specs.Shapes.{Shape, shape_of, gives_of}
+use Rattle.gcd_row.specs.declared.cell.Cell.{Cell}
+use Rattle.gcd_row.specs.declared.cell.Cell.TheVariants.{Done}
+
+-- what lies in a slot: a block's job over the files, its value, or a source's tally
+abbrev pub WorkCell : Type 0
+WorkCell = Cell FileJob Tally
+
+abbrev pub work_shape : WorkCell → Shape
+work_shape = shape_of (λ t. t.kind) (λ t. t.times) (λ t. t.total)
+
+abbrev pub work_gives : WorkCell → ℕ → Type 0
+work_gives = gives_of (λ job input value. value ≡ job_value job)
+
+-- the jobs are those of the blocks' works, by number
+pub record AreJobs (plan : PlanView) (files : List (List ℕ)) (n : ℕ) (jobs : List FileJob) : Type 0 where
+  pub count : length jobs ≡ n
+  pub works : (b : ℕ) (job : FileJob) → slice_get jobs b ≡ Some job → job_value job ≡ value_of plan files b
+
+-- what was put in a block's slot gives the value of its work alone
+abbrev pub GiveWorks : PlanView → (files : List (List ℕ)) → List WorkCell → Type 0
+GiveWorks plan files cells = (b : ℕ) → b < length plan.blocks
+    → (first : WorkCell) × (slice_get cells b ≡ Some first) × ((v : ℕ) → work_gives first v → v ≡ value_of plan files b)
+
+-- where the event ends a block, that is one of the plan, and the value of its work lies in its slot
+abbrev pub IsTold : PlanView → (files : List (List ℕ)) → List WorkCell → Event → Type 0
+IsTold plan files cells (Start w b) = Unit {0}
+IsTold plan files cells (Acted w r i) = Unit {0}
+IsTold plan files cells (Wake w b) = Unit {0}
+IsTold plan files cells (End w b) = (b.0 < length plan.blocks) × (slice_get cells b.0 ≡ Some (Done (value_of plan files b.0)))
+IsTold plan files cells (Deliver w s) = Unit {0}
+IsTold plan files cells (DeliverEnd w s) = Unit {0}
+IsTold plan files cells (Tick t) = Unit {0}
+IsTold plan files cells (Ready s n) = Unit {0}
+IsTold plan files cells (FeedEnd s) = Unit {0}
+IsTold plan files cells (Misuse w r i c) = Unit {0}
+IsTold plan files cells Halt = Unit {0}
+
+-- so it is at each event
+abbrev pub AreTold : PlanView → (files : List (List ℕ)) → List WorkCell → List Event → Type 0
+AreTold plan files cells h = (i : ℕ) (e : Event) → slice_get h i ≡ Some e → IsTold plan files cells e

@@ -1,0 +1,57 @@
+// The values of blocks, of a journal and the cells at its end.
+ghost use Rattle.std.specs.Prelude.{◌≡◌, ◌≤◌, ◌++◌, ◌∷◌, [], ℕ, List, length, replicate};
+ghost use Rattle.gcd_event.specs.declared.event.Event.{Event};
+ghost use Rattle.gcd_alone.specs.Ran.{AreValues};
+ghost use Rattle.gcd_jobs.specs.Contents.{contents};
+ghost use Rattle.gcd_row.specs.declared.cell.Cell.TheVariants.{Done};
+ghost use Rattle.gcd_workers.specs.Told.{AreTold, IsTold};
+
+use crate::opening::WorkCell;
+use gcd_event::Event;
+use gcd_plan::Plan;
+use gcd_row::Cell;
+
+// The value that a block gave.
+fn value_in(cell: &WorkCell) -> u64
+    ensures { (v : ℕ) → cell.now ≡ Done v → result ≡ v }
+{
+    match cell {
+        Cell::Done(value) => *value,
+        Cell::Body(_) => 0,
+        Cell::Handler(_) => 0,
+        Cell::Away => 0,
+    }
+}
+
+// The values after one more event: an End gives its block a value.
+fn note_end(plan: &Plan, files: &[Vec<u8>], cells: &[WorkCell], e: Event, values: &mut Vec<u64>)
+    requires count { length values.old.items ≡ length plan.now.blocks }
+    requires cells { length plan.now.blocks ≤ length cells.now }
+    requires told { IsTold plan.now (contents files.now) cells.now e }
+    ensures { (h : List Event) → AreValues plan.now (contents files.now) h values.old.items
+        → AreValues plan.now (contents files.now) (h ++ e ∷ []) values.new.items }
+{
+    let _ = plan;
+    let _ = files;
+    if let Event::End { blk, .. } = e {
+        values[blk.0 as usize] = value_in(&cells[blk.0 as usize]);
+    }
+}
+
+// The values after all events: each block that has ended has what lies in its slot.
+pub fn note_all(
+    plan: &Plan,
+    files: &[Vec<u8>],
+    cells: &[WorkCell],
+    journal: &[Event],
+    values: &mut Vec<u64>,
+)
+    requires zeros { values.old.items ≡ replicate (length plan.now.blocks) 0 }
+    requires cells { length plan.now.blocks ≤ length cells.now }
+    requires told { AreTold plan.now (contents files.now) cells.now journal.now }
+    ensures { AreValues plan.now (contents files.now) journal.now values.new.items }
+{
+    for e in journal {
+        note_end(plan, files, cells, *e, values);
+    }
+}
