@@ -23,6 +23,7 @@ use std::fs::File;
 use std::process::ExitCode;
 use std::rt::{Env, Files, Net};
 use std::sync::Wait;
+use std::thread::Threads;
 use std::{env, io, time};
 
 // The words after the program's name.
@@ -45,9 +46,9 @@ fn texts<'a>(alloc: Global, words: &'a [String]) -> Result<Vec<&'a str>, AllocEr
     Ok(texts)
 }
 
-fn status<R: Files<File = File> + Net + Wait + time::Clock + Print + Env + AllocGlobal>(
-    rt: &R,
-) -> u8 {
+fn status<
+    R: Files<File = File> + Net + Threads + Wait + Sync + time::Clock + Print + Env + AllocGlobal,
+>(rt: &R) -> u8 {
     // Words that are no text name no command.
     let words = match words_of(rt) {
         Ok(words) => words,

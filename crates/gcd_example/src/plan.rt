@@ -7,8 +7,10 @@ use std::alloc::{AllocError, Global};
 pub const EACH: usize = 4;
 
 /// The stations, with their readings in degrees Celsius.
-pub static STATIONS: [(&str, [u32; EACH]); 2] =
-    [("north", [0, 5, 10, 15]), ("south", [20, 25, 30, 35])];
+pub static STATIONS: [(&str, [u32; EACH]); 2] = [
+    ("north", [0, 5, 10, 15]),
+    ("south", [20, 25, 30, 35]),
+];
 
 // Adds a station: its queue, a block for each of its readings, and their submissions, which are acts of `main`.
 fn add_station(

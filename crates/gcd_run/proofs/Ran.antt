@@ -1,6 +1,5 @@
--- What a run by worker 0 alone promises, as a run by any number of workers.
-use Rattle.std.proofs.Common.{◌≡◌, ◌<◌, ◌∙◌, ◌⊎◌, ℕ, true, false, List, [], length, Some, slice_get, ⊎_elim, refl, ap, sym, subst, inl, inr}
-use Rattle.gcd_plan.specs.Limits.{max_events}
+-- What a run by worker 0 alone promises, and what one by a team does, as a run by any number of workers.
+use Rattle.std.proofs.Common.{◌≡◌, ◌<◌, ◌≤◌, ◌⊎◌, ℕ, true, false, List, [], length, Some, slice_get, ⊎_elim, refl, sym, subst, inl, inr, arith}
 use Rattle.gcd_plan.specs.PlanView.{PlanView}
 use Rattle.gcd_event.specs.declared.event.Event.{Event}
 use Rattle.gcd_history.specs.Choice.{worker_of}
@@ -10,7 +9,8 @@ use Rattle.gcd_history.specs.declared.state.State.TheVariants.{Live}
 use Rattle.gcd_outer.specs.Outside.{Bytes, ClockState, Seen}
 use Rattle.gcd_outer.specs.Tells.{PollerState}
 use Rattle.gcd_turn.specs.Promises.{HasEnded}
-use Rattle.gcd_alone.specs.Ran.{RanAlone}
+use Rattle.gcd_alone.specs.Ran.{AreValues, RanAlone}
+use Rattle.gcd_workers.specs.Ran.{RanWorkers}
 use Rattle.gcd_run.specs.Runs.{Ran}
 
 -- a run that has ended and goes on is full
@@ -38,3 +38,23 @@ ran_alone plan files poller clock h given state workers some r = record {
   timely = r.timely;
   heard = r.heard;
 }
+
+pub values_alone : (plan : PlanView) (files : List Bytes) (poller : Seen PollerState) (clock : Seen ClockState) (h : List Event)
+    (given : List ℕ) (state : State) → RanAlone plan files poller clock h given state → AreValues plan files h given
+values_alone plan files poller clock h given state r = record { count = r.count; values = r.values; others = r.others }
+
+pub ran_workers : (plan : PlanView) (files : List Bytes) (poller : Seen PollerState) (clock : Seen ClockState) (h : List Event)
+    (given : List ℕ) (state : State) (workers : ℕ) → 1 < workers → RanWorkers plan workers files poller clock h given state
+    → Ran poller clock plan workers h state
+ran_workers plan files poller clock h given state workers several r = record {
+  lawful = r.lawful;
+  over = record { state_is = r.state_is; full = full_of plan h state r.state_is r.ended };
+  by = r.by;
+  chosen = λ one. absurd (omega (arith, several, one));
+  timely = r.timely;
+  heard = r.heard;
+}
+
+pub values_workers : (plan : PlanView) (files : List Bytes) (poller : Seen PollerState) (clock : Seen ClockState) (h : List Event)
+    (given : List ℕ) (state : State) (workers : ℕ) → RanWorkers plan workers files poller clock h given state → AreValues plan files h given
+values_workers plan files poller clock h given state workers r = record { count = r.count; values = r.values; others = r.others }

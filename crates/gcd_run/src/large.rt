@@ -1,7 +1,7 @@
 // The command that runs the large script.
 ghost use Rattle.std.specs.Prelude.{◌≡◌, ◌<◌, ◌≤◌, ◌++◌, ℕ, List, true, false, length, map, slice_get, sum, Some, codes, IfOk};
 ghost use Rattle.std.specs.Fmt.{decimal};
-ghost use Rattle.gcd_plan.specs.Limits.{max_blocks};
+ghost use Rattle.gcd_plan.specs.Limits.{max_blocks, max_workers};
 ghost use Rattle.gcd_plan.specs.PlanView.{PlanView};
 ghost use Rattle.gcd_plan.specs.Validity.{IsPlan};
 ghost use Rattle.gcd_history.specs.Report.{last_line, line_end};
@@ -11,15 +11,17 @@ ghost use Rattle.gcd_run.specs.End.{large_file};
 ghost use Rattle.gcd_run.specs.Runs.{BigEnds, IsLargeScript};
 ghost use Rattle.gcd_run.specs.Stories.{end_of};
 
+use crate::engine::run_by;
 use crate::story::{Story, bytes_of};
-use gcd_alone::{Alone, run_alone};
 use gcd_journal::write_last_line;
 use gcd_outer::{Clock, Poller};
 use gcd_plan::Plan;
 use gcd_script::{ParseFault, big_text, parse};
 use gcd_words::BigRequest;
+use gcd_workers::Worked;
 use std::alloc::{AllocError, Global};
 use std::sync::Wait;
+use std::thread::Threads;
 
 // How many bytes the large script's file has.
 const LARGE_FILE_BYTES: u32 = 4096;
@@ -76,7 +78,7 @@ fn total(values: &[u64]) -> u128
 }
 
 // `blocks N` and `total S`, and then the report's last line.
-fn text_of(alloc: Global, plan: &Plan, run: &Alone, count: u16) -> Result<Vec<u8>, AllocError>
+fn text_of(alloc: Global, plan: &Plan, run: &Worked, count: u16) -> Result<Vec<u8>, AllocError>
     requires few { length run.now.values.items ≤ max_blocks }
     requires spoken { AreSpoken plan.now run.now.journal.items }
     ensures { IfOk result (λ text. text.items ≡ codes "blocks " ++ (decimal count ++ (line_end
@@ -91,7 +93,7 @@ fn text_of(alloc: Global, plan: &Plan, run: &Alone, count: u16) -> Result<Vec<u8
 
 /// `big N`: the large script is made and read, and its plan runs over files that are made too. An `Err` comes of want of
 /// memory.
-pub fn tell_large<R: Wait, P: Poller, C: Clock>(
+pub fn tell_large<R: Threads + Wait + Sync, P: Poller, C: Clock>(
     rt: &R,
     alloc: Global,
     request: BigRequest,
@@ -99,14 +101,15 @@ pub fn tell_large<R: Wait, P: Poller, C: Clock>(
     clock: &mut C,
 ) -> Result<Story, AllocError>
     requires unwatched { (feed : ℕ) → (P.state poller.old).watched feed ≡ false }
-    requires range { (0 < request.count) × (request.count < max_blocks) × (0 < request.workers) }
+    requires count { (0 < request.count) × (request.count < max_blocks) }
+    requires workers { (0 < request.workers) × (request.workers ≤ max_workers) }
     ensures told { IfOk result (λ s. BigEnds (seen_by P.tells P.state poller.old poller.new) (seen_by C.tells C.state clock.old clock.new) request.count request.workers (end_of s)) }
     ensures listens { P.tells ≡ true → (P.state poller.new).listens ≡ (P.state poller.old).listens }
     ensures addresses { P.tells ≡ true → (P.state poller.new).addresses ≡ (P.state poller.old).addresses }
 {
     let plan = large_plan(alloc, u32::from(request.count))?;
     let files = large_files(alloc, &plan)?;
-    let run = run_alone(rt, alloc, &plan, &files, poller, clock)?;
+    let run = run_by(rt, alloc, &plan, &files, request.workers, poller, clock)?;
     let text = text_of(alloc, &plan, &run, request.count)?;
     Ok(Story::ran(run.state, run.journal, text))
 }

@@ -6,9 +6,10 @@
 //! | [`Status`] | the ways to end by name, each with its number (`Status::code`) |
 //!
 //! `run` loads a script and reads it as a plan (`gcd_script`), loads its files in their order, lets the poller listen where an
-//! address is given, runs the plan by worker 0 (`gcd_alone`), and writes the journal, where it is asked for, and the report
-//! (`gcd_journal`). `check` loads a script and a journal, and judges it. `big` runs the large script over a file that is made.
-//! A call ends at the first step that cannot go on; its text is made whole before the first byte is written.
+//! address is given, runs the plan by worker 0 alone (`gcd_alone`) or by a team (`gcd_workers`), and writes the journal, where it
+//! is asked for, and the report (`gcd_journal`). `check` loads a script and a journal, and judges it. `big` runs the large script
+//! over a file that is made. A call ends at the first step that cannot go on; its text is made whole before the first byte is
+//! written.
 //!
 //! The contract of `gcd_main` speaks of what the call saw of the shelf, the poller, the clock and the sink (`gcd_outer`),
 //! before and after.
@@ -23,10 +24,11 @@
 //! queue never overlap.
 //!
 //! Nothing is said of a shelf, poller or sink that tells nothing, but that a fault comes only where it failed, and nothing of
-//! time. Worker 0 runs alone so far, whatever `--workers` says; with that the journal is exact.
+//! time. By one worker the journal is exact; by more, which worker does what is left to the threads.
 #![tactic(auto)]
 
 mod checking;
+mod engine;
 mod large;
 mod load;
 mod running;

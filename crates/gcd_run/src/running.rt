@@ -1,7 +1,7 @@
 // The command that runs a script.
 ghost use Rattle.std.specs.Prelude.{◌≡◌, ◌++◌, ◌+◌, ◌≤◌, ◌<◌, ℕ, List, true, false, length, map, option_map, slice_get, Some, if◌then◌else◌, [], IfOk, IfErr, OnOk, OnErr};
 ghost use Rattle.gcd_history.specs.History.{IsLawful, is_ended};
-ghost use Rattle.gcd_plan.specs.Limits.{max_events};
+ghost use Rattle.gcd_plan.specs.Limits.{max_events, max_workers};
 ghost use Rattle.gcd_plan.specs.Validity.{IsPlan};
 ghost use Rattle.gcd_history.specs.JournalText.{journal_text};
 ghost use Rattle.gcd_history.specs.Ends.{HasState};
@@ -14,17 +14,19 @@ ghost use Rattle.gcd_run.specs.Runs.{RunCalls, RunEnds, StopsRun, TellsRun};
 ghost use Rattle.gcd_run.specs.Stories.{end_of};
 ghost use Rattle.gcd_words.specs.Requests.{run_asked};
 
+use crate::engine::run_by;
 use crate::load::load_all;
 use crate::stop::Stop;
 use crate::story::Story;
-use gcd_alone::{Alone, run_alone};
 use gcd_event::Event;
 use gcd_journal::{write_journal, write_report};
 use gcd_outer::{Clock, Poller, Shelf};
 use gcd_plan::Plan;
 use gcd_words::RunRequest;
+use gcd_workers::Worked;
 use std::alloc::{AllocError, Global};
 use std::sync::Wait;
+use std::thread::Threads;
 
 // Connections are accepted at the address, if there is one.
 fn listen_at<P: Poller>(poller: &mut P, address: Option<&str>) -> Result<(), Stop>
@@ -63,7 +65,7 @@ fn add_journal(
 fn text_of(
     alloc: Global,
     plan: &Plan,
-    run: &Alone,
+    run: &Worked,
     with_journal: bool,
 ) -> Result<Vec<u8>, AllocError>
     requires valid { IsPlan plan.now }
@@ -81,29 +83,31 @@ fn text_of(
 }
 
 // The plan runs over its files. An `Err` comes of want of memory.
-fn run_plan<R: Wait, P: Poller, C: Clock>(
+fn run_plan<R: Threads + Wait + Sync, P: Poller, C: Clock>(
     rt: &R,
     alloc: Global,
     plan: &Plan,
     files: &[Vec<u8>],
+    workers: u8,
     with_journal: bool,
     poller: &mut P,
     clock: &mut C,
 ) -> Result<Story, AllocError>
     requires valid { IsPlan plan.now }
     requires files { length files.now ≡ length plan.now.files }
+    requires workers { (0 < workers) × (workers ≤ max_workers) }
     requires unwatched { (feed : ℕ) → (P.state poller.old).watched feed ≡ false }
-    ensures told { (workers : ℕ) → 0 < workers → IfOk result (λ s. TellsRun (seen_by P.tells P.state poller.old poller.new) (seen_by C.tells C.state clock.old clock.new) plan.now workers (run_text with_journal plan.now (map (λ f. f.items) files.now)) (end_of s)) }
+    ensures told { IfOk result (λ s. TellsRun (seen_by P.tells P.state poller.old poller.new) (seen_by C.tells C.state clock.old clock.new) plan.now workers (run_text with_journal plan.now (map (λ f. f.items) files.now)) (end_of s)) }
     ensures listens { P.tells ≡ true → (P.state poller.new).listens ≡ (P.state poller.old).listens }
     ensures addresses { P.tells ≡ true → (P.state poller.new).addresses ≡ (P.state poller.old).addresses }
 {
-    let run = run_alone(rt, alloc, plan, files, poller, clock)?;
+    let run = run_by(rt, alloc, plan, files, workers, poller, clock)?;
     let text = text_of(alloc, plan, &run, with_journal)?;
     Ok(Story::ran(run.state, run.journal, text))
 }
 
 // `run SCRIPT`: the script and its files are loaded, the poller listens, where an address is given, and the plan runs.
-fn run_script<R: Wait, S: Shelf, P: Poller, C: Clock>(
+fn run_script<R: Threads + Wait + Sync, S: Shelf, P: Poller, C: Clock>(
     rt: &R,
     alloc: Global,
     request: RunRequest,
@@ -112,20 +116,29 @@ fn run_script<R: Wait, S: Shelf, P: Poller, C: Clock>(
     clock: &mut C,
 ) -> Result<Story, Stop>
     requires unwatched { (feed : ℕ) → (P.state poller.old).watched feed ≡ false }
-    requires workers { 0 < request.workers }
+    requires workers { (0 < request.workers) × (request.workers ≤ max_workers) }
     ensures told { IfOk result (λ s. SomeCalls (inputs_seen S.tells S.content S.loads S.faults P.tells P.state C.tells C.state shelf.old shelf.new poller.old poller.new clock.old clock.new) (λ calls. RunEnds (inputs_seen S.tells S.content S.loads S.faults P.tells P.state C.tells C.state shelf.old shelf.new poller.old poller.new clock.old clock.new) (run_asked request.entry) calls (end_of s))) }
     ensures stopped { IfErr result (λ stop. SomeCalls (inputs_seen S.tells S.content S.loads S.faults P.tells P.state C.tells C.state shelf.old shelf.new poller.old poller.new clock.old clock.new) (λ calls. StopsRun (inputs_seen S.tells S.content S.loads S.faults P.tells P.state C.tells C.state shelf.old shelf.new poller.old poller.new clock.old clock.new) (run_asked request.entry) calls stop)) }
 {
     let (plan, files) = load_all(alloc, shelf, request.script)?;
     listen_at(poller, request.listen)?;
-    match run_plan(rt, alloc, &plan, &files, request.journal, poller, clock) {
+    match run_plan(
+        rt,
+        alloc,
+        &plan,
+        &files,
+        request.workers,
+        request.journal,
+        poller,
+        clock,
+    ) {
         Ok(story) => Ok(story),
         Err(AllocError) => Err(Stop::Memory),
     }
 }
 
 /// What is told of `run SCRIPT`. An `Err` comes of want of memory.
-pub fn tell_run<R: Wait, S: Shelf, P: Poller, C: Clock>(
+pub fn tell_run<R: Threads + Wait + Sync, S: Shelf, P: Poller, C: Clock>(
     rt: &R,
     alloc: Global,
     request: RunRequest,
@@ -134,7 +147,7 @@ pub fn tell_run<R: Wait, S: Shelf, P: Poller, C: Clock>(
     clock: &mut C,
 ) -> Result<Story, AllocError>
     requires unwatched { (feed : ℕ) → (P.state poller.old).watched feed ≡ false }
-    requires workers { 0 < request.workers }
+    requires workers { (0 < request.workers) × (request.workers ≤ max_workers) }
     ensures told { IfOk result (λ s. SomeCalls (inputs_seen S.tells S.content S.loads S.faults P.tells P.state C.tells C.state shelf.old shelf.new poller.old poller.new clock.old clock.new) (λ calls. RunEnds (inputs_seen S.tells S.content S.loads S.faults P.tells P.state C.tells C.state shelf.old shelf.new poller.old poller.new clock.old clock.new) (run_asked request.entry) calls (end_of s))) }
     ensures wanting { OnErr result (SomeCalls (inputs_seen S.tells S.content S.loads S.faults P.tells P.state C.tells C.state shelf.old shelf.new poller.old poller.new clock.old clock.new) (RunCalls (inputs_seen S.tells S.content S.loads S.faults P.tells P.state C.tells C.state shelf.old shelf.new poller.old poller.new clock.old clock.new) (run_asked request.entry))) }
 {

@@ -5,6 +5,7 @@ mod hostile;
 mod journals;
 mod limits;
 mod subjects;
+mod teams;
 
 use crate::gcd_main;
 use cases::{BLOCKS, COMMANDS, Case, FAULTS, REFUSALS, RUN, SOURCES, TARGETS_AND_GROUPS};
@@ -15,7 +16,9 @@ use std::alloc::{AllocError, Global};
 use std::process::Abort;
 use std::sync::Wait;
 use std::test::Fail;
+use std::thread::Threads;
 use subjects::{CALLS_AND_TARGETS, REFERENCES_AND_WAITS, SOURCES_AND_FEEDS};
+use teams::end_alike;
 
 fn answer(feed: u32, bytes: u32, ended: bool) -> Told {
     let mut told = Told::new();
@@ -62,7 +65,7 @@ fn shelf_of(alloc: Global, case: &Case, script: &[u8]) -> Result<MapShelf, Alloc
 
 // The call is answered as it should be, where the shelf holds what it holds.
 fn answers_from(
-    rt: &(impl Abort + Wait),
+    rt: &(impl Abort + Threads + Wait + Sync),
     alloc: Global,
     case: &Case,
     shelf: &mut MapShelf,
@@ -93,7 +96,7 @@ fn answers_from(
 }
 
 fn is_answered(
-    rt: &(impl Abort + Wait),
+    rt: &(impl Abort + Threads + Wait + Sync),
     alloc: Global,
     case: &Case,
     script: &[u8],
@@ -102,7 +105,11 @@ fn is_answered(
     answers_from(rt, alloc, case, &mut shelf)
 }
 
-fn are_answered(rt: &(impl Abort + Wait), alloc: Global, cases: &[Case]) -> Result<(), Fail> {
+fn are_answered(
+    rt: &(impl Abort + Threads + Wait + Sync),
+    alloc: Global,
+    cases: &[Case],
+) -> Result<(), Fail> {
     for case in cases {
         is_answered(rt, alloc, case, case.script.as_bytes())?;
     }
@@ -216,4 +223,31 @@ fn a_feed_that_becomes_live_late_is_heard(rt: HostRuntime) -> Result<(), Fail> {
     assert!(rt; ended.status == LATE_FEED.status.code());
     assert!(rt; out.bytes() == LATE_FEED.text.as_bytes());
     Ok(())
+}
+
+#[test]
+fn teams_run_blocks(rt: HostRuntime) -> Result<(), Fail> {
+    end_alike(&rt, rt.alloc(), &BLOCKS)
+}
+
+#[test]
+fn teams_run_targets_and_groups(rt: HostRuntime) -> Result<(), Fail> {
+    end_alike(&rt, rt.alloc(), &TARGETS_AND_GROUPS)
+}
+
+#[test]
+fn teams_follow_the_pages(rt: HostRuntime) -> Result<(), Fail> {
+    end_alike(&rt, rt.alloc(), &CALLS_AND_TARGETS)?;
+    end_alike(&rt, rt.alloc(), &REFERENCES_AND_WAITS)
+}
+
+#[test]
+fn teams_run_sources_and_feeds(rt: HostRuntime) -> Result<(), Fail> {
+    end_alike(&rt, rt.alloc(), &SOURCES)?;
+    end_alike(&rt, rt.alloc(), &SOURCES_AND_FEEDS)
+}
+
+#[test]
+fn teams_meet_each_misuse(rt: HostRuntime) -> Result<(), Fail> {
+    end_alike(&rt, rt.alloc(), &REFUSALS)
 }

@@ -17,9 +17,10 @@ use gcd_outer::{Clock, Poller, Shelf, Sink, write_whole};
 use gcd_words::{Request, read_words};
 use std::alloc::{AllocError, Global};
 use std::sync::Wait;
+use std::thread::Threads;
 
 // What is told at the words. An `Err` comes of want of memory.
-fn tell<R: Wait, S: Shelf, P: Poller, C: Clock>(
+fn tell<R: Threads + Wait + Sync, S: Shelf, P: Poller, C: Clock>(
     rt: &R,
     alloc: Global,
     words: &[&str],
@@ -56,7 +57,7 @@ fn write_story<K: Sink>(out: &mut K, story: Story) -> Ended
 }
 
 // The call, by the one relation of its ways to end.
-fn call<R: Wait, S: Shelf, K: Sink, P: Poller, C: Clock>(
+fn call<R: Threads + Wait + Sync, S: Shelf, K: Sink, P: Poller, C: Clock>(
     rt: &R,
     alloc: Global,
     words: &[&str],
@@ -96,7 +97,7 @@ fn call<R: Wait, S: Shelf, K: Sink, P: Poller, C: Clock>(
 ///
 /// Each is judged at its step, where no earlier step ended the call. No feed of the poller is watched yet. `journal` is that of
 /// the run or, for `check`, the one that was read. It may wait for others (this project's own rules).
-pub fn gcd_main<R: Wait, S: Shelf, K: Sink, P: Poller, C: Clock>(
+pub fn gcd_main<R: Threads + Wait + Sync, S: Shelf, K: Sink, P: Poller, C: Clock>(
     rt: &R,
     alloc: Global,
     words: &[&str],

@@ -2,12 +2,11 @@ use Rattle.std.proofs.Common.{◌≡◌, ◌∙◌, ◌+◌, length, map, ap, re
 use Rattle.std.proofs.lemmas.List.{length-map}
 use Rattle.gcd_run.specs.End.{large_file, ran_end}
 use Rattle.gcd_journal.proofs.LawfulSpoken.{lawful_spoken}
-use Rattle.gcd_run.proofs.Ran.{ran_alone}
 use Rattle.gcd_run.proofs.Totals.{total_is}
 use Rattle.gcd_run.proofs.large.tell_large.Goals as goal
 
-pub run_alone-requires-clause-files : goal.run_alone-requires-clause-files
-run_alone-requires-clause-files g c =
+pub run_by-requires-clause-files : goal.run_by-requires-clause-files
+run_by-requires-clause-files g c =
     ap length c.deref.ensures.value
     ∙ sym (length-map c.in_ok-files.files.items (λ f. f.items))
     ∙ ap length c.in_ok-files.ensures
@@ -17,15 +16,15 @@ pub text_of-requires-clause-spoken : goal.text_of-requires-clause-spoken
 text_of-requires-clause-spoken g c = lawful_spoken _ _ c.in_ok-plan.ensures.valid c.in_ok-run.ensures.ran.lawful
 
 pub text_of-requires-clause-few : goal.text_of-requires-clause-few
-text_of-requires-clause-few g c = omega (arith, c.in_ok-run.ensures.ran.count, c.in_ok-plan.ensures.valid.few_blocks)
+text_of-requires-clause-few g c = omega (arith, c.in_ok-run.ensures.values.count, c.in_ok-plan.ensures.valid.few_blocks)
 
 pub returns-clause-told : goal.returns-clause-told
 returns-clause-told g c =
-    let r = rw (c.deref.ensures.value, c.in_ok-files.ensures) at c.in_ok-run.ensures.ran in
+    let v = rw (c.deref.ensures.value, c.in_ok-files.ensures) at c.in_ok-run.ensures.values in
     let plan = c.in_ok-plan.plan in
     let contents = map (λ file. large_file) plan.files in
     let run = c.in_ok-run.run' in
-    let total = total_is plan contents run.journal.items run.values.items r.count r.values r.others in
+    let total = total_is plan contents run.journal.items run.values.items v.count v.values v.others in
     record {
       plan = plan;
       contents = contents;
@@ -33,7 +32,7 @@ returns-clause-told g c =
       tells = record {
         h = run.journal.items;
         state = run.state;
-        ran = ran_alone _ _ _ _ _ _ _ c.args.request.workers c.requires.range.2 r;
+        ran = c.in_ok-run.ensures.ran;
         end_is = c.ran.ensures ∙ ap (ran_end run.state run.journal.items) (rw (total) at c.in_ok-text.ensures);
       };
     }

@@ -44,7 +44,7 @@ returns-in-Ok-clause-told g c =
       watched = c.listen_at.ensures.unwatched;
       faults = listened.faults;
     } in
-    let told = rw (c.deref.ensures.value) at c.in-Ok.ensures.told c.args.request.workers c.requires.workers in
+    let told = rw (c.deref.ensures.value) at c.in-Ok.ensures.told in
     record {
       calls = with_listen (length c.in_ok-plan.plan.files + 1) _;
       made = record {
