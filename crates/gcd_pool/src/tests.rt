@@ -1,0 +1,9 @@
+mod boards;
+mod closing;
+mod hiring;
+mod meeting;
+mod numbers;
+mod plans;
+mod rows;
+mod runs;
+mod teams;
