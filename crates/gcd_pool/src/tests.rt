@@ -1,3 +1,4 @@
+mod begins;
 mod boards;
 mod closing;
 mod hiring;

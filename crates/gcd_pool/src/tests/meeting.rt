@@ -97,7 +97,10 @@ fn meet<R: Threads + Wait + Abort + Sync>(
     let jobs = jobs_of(alloc, &plan, &place, u32::from(workers))?;
     let (exit, _events, cells) = run_of(rt, alloc, &plan, jobs, workers, workers);
     assert!(rt; exit == Exit::Quiescent, "{workers} workers");
-    assert!(rt; met(cells.as_slice()) == usize::from(workers), "{workers} workers");
+    assert!(rt;
+        met(cells.as_slice()) == usize::from(workers),
+        "{workers} workers"
+    );
     Ok(())
 }
 

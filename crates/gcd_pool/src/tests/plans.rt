@@ -109,3 +109,36 @@ pub fn plan_of_meeting(alloc: Global, kind: Kind, count: u32) -> Result<Plan, Fa
     };
     Ok(Plan::of_parts(parts).ok_or("valid")?)
 }
+
+/// How often `main` signals in a plan that fills the row.
+pub const SIGNALS: u32 = 65_533;
+
+// `main` submits a block to a queue, and then signals until no event more has room.
+fn signal_acts(alloc: Global) -> Result<Vec<Act>, AllocError> {
+    let mut acts = Vec::new(alloc);
+    acts.push(Act::Async(Obj(1), Blk(1)))?;
+    for _ in 0..SIGNALS {
+        acts.push(Act::Signal(Obj(2)))?;
+    }
+    Ok(acts)
+}
+
+/// A plan that fills the row while a block waits on a queue.
+pub fn plan_of_signals(alloc: Global) -> Result<Plan, Fail> {
+    let mut objects = Vec::new(alloc);
+    objects.push(ObjPart::new(alloc, "root", Kind::Concurrent)?)?;
+    objects.push(ObjPart::new(alloc, "queue", Kind::Serial)?)?;
+    objects.push(ObjPart::new(alloc, "signals", Kind::Semaphore(0))?)?;
+    let mut blocks = Vec::new(alloc);
+    let mut main = BlkPart::new(alloc, "main")?;
+    main.acts = signal_acts(alloc)?;
+    blocks.push(main)?;
+    blocks.push(BlkPart::new(alloc, "waits")?)?;
+    let parts = Parts {
+        objects,
+        blocks,
+        files: Vec::new(alloc),
+        until: 1000,
+    };
+    Ok(Plan::of_parts(parts).ok_or("valid")?)
+}
