@@ -10,4 +10,4 @@ pub mod Outside
 pub mod Leading
 pub mod LeadTurns
 pub mod Splices
-pub mod Standings
+pub mod Teams

@@ -169,6 +169,28 @@ fn make<S: Crew, R: Wait + Abort>(
     }
 }
 
+// The step of a row, by its worker.
+fn make_row<S: Crew, R: Wait + Abort>(
+    rt: &R,
+    pool: &Pool<S>,
+    first: &mut Hand<S>,
+    second: &mut Hand<S>,
+    queue: Obj,
+    row: Row,
+) -> (Turn, bool)
+    requires first { IsReady S.shape S.gives pool.now first.old }
+    requires second { IsReady S.shape S.gives pool.now second.old }
+    requires queue { IsTrue (is_node pool.now.plan.now queue.0) }
+    ensures first { IsReady S.shape S.gives pool.now first.new }
+    ensures second { IsReady S.shape S.gives pool.now second.new }
+{
+    if row.0 == 0 {
+        make(rt, pool, first, queue, row.1)
+    } else {
+        make(rt, pool, second, queue, row.1)
+    }
+}
+
 // Each step by its worker.
 fn make_all<S: Crew, R: Wait + Abort>(
     rt: &R,
@@ -182,13 +204,9 @@ fn make_all<S: Crew, R: Wait + Abort>(
 {
     let queue = queue_of(rt, pool.plan);
     let mut number = 0u32;
-    for (worker, step, turn, pushed) in rows {
-        let came = if *worker == 0 {
-            make(rt, pool, first, queue, *step)
-        } else {
-            make(rt, pool, second, queue, *step)
-        };
-        assert!(rt; came == (*turn, *pushed), "row {number}");
+    for row in rows {
+        let came = make_row(rt, pool, first, second, queue, *row);
+        assert!(rt; came == (row.2, row.3), "row {number}");
         number = number.wrapping_add(1);
     }
 }

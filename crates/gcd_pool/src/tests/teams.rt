@@ -12,7 +12,7 @@ use super::numbers::{are_right, jobs_of};
 use super::plans::plan_of_each_kind;
 use super::rows::RowDesk;
 use crate::team::serve_all;
-use crate::{Hand, Pool};
+use crate::{Desk, Hand, Pool};
 use gcd_jobs::{Job, Tally};
 use gcd_plan::Plan;
 use gcd_row::Cell;
@@ -22,17 +22,17 @@ use std::sync::Wait;
 use std::test::Fail;
 use std::thread::Threads;
 
-// Each hand serves the pool, with Drains.
-fn serve_pool<J: Job + Drop + Send, R: Threads + Wait + Sync>(
+// Each hand serves at the desk.
+fn serve_at<T: Send, D: Desk<T> + Sync, R: Threads + Wait + Sync>(
     rt: &R,
-    pool: &Pool<Cell<J, Tally>>,
-    mut hands: Vec<Hand<Cell<J, Tally>>>,
-) -> Vec<Hand<Cell<J, Tally>>>
-    requires { All (IsReady (shape_of (λ t. t.kind) (λ t. t.times) (λ t. t.total)) (gives_of J.gives) pool.now) hands.items }
-    ensures count { length result.items ≡ length hands.entry.items }
-    ensures hands { Each (Served (shape_of (λ t. t.kind) (λ t. t.times) (λ t. t.total)) (gives_of J.gives) pool.now) hands.entry.items result.items }
+    desk: &D,
+    mut hands: Vec<T>,
+) -> Vec<T>
+    requires { All (D.ready desk.now) hands.items }
+    ensures count { length result.items ≡ length hands.items }
+    ensures hands { Each (D.served desk.now) hands.items result.items }
 {
-    serve_all(rt, pool, hands.as_mut_slice());
+    serve_all(rt, desk, hands.as_mut_slice());
     hands
 }
 
@@ -40,11 +40,11 @@ fn serve_pool<J: Job + Drop + Send, R: Threads + Wait + Sync>(
 fn serve_row<J: Job + Drop + Send, R: Threads + Wait + Sync>(
     rt: &R,
     pool: &Pool<Cell<J, Tally>>,
-    mut hands: Vec<Hand<Cell<J, Tally>>>,
+    hands: Vec<Hand<Cell<J, Tally>>>,
 ) -> Vec<Hand<Cell<J, Tally>>>
     requires { All (IsReady (shape_of (λ t. t.kind) (λ t. t.times) (λ t. t.total)) (gives_of J.gives) pool.now) hands.items }
-    ensures count { length result.items ≡ length hands.entry.items }
-    ensures hands { Each (Served (shape_of (λ t. t.kind) (λ t. t.times) (λ t. t.total)) (gives_of J.gives) pool.now) hands.entry.items result.items }
+    ensures count { length result.items ≡ length hands.items }
+    ensures hands { Each (Served (shape_of (λ t. t.kind) (λ t. t.times) (λ t. t.total)) (gives_of J.gives) pool.now) hands.items result.items }
 {
     let desk = RowDesk {
         pool: Pool {
@@ -53,8 +53,7 @@ fn serve_row<J: Job + Drop + Send, R: Threads + Wait + Sync>(
             plan: pool.plan,
         },
     };
-    serve_all(rt, &desk, hands.as_mut_slice());
-    hands
+    serve_at(rt, &desk, hands)
 }
 
 // Each hand serves, with Drains or without.
@@ -69,7 +68,7 @@ fn serve<J: Job + Drop + Send, R: Threads + Wait + Sync>(
     ensures hands { Each (Served (shape_of (λ t. t.kind) (λ t. t.times) (λ t. t.total)) (gives_of J.gives) pool.now) hands.items result.items }
 {
     if with_drains {
-        serve_pool(rt, pool, hands)
+        serve_at(rt, pool, hands)
     } else {
         serve_row(rt, pool, hands)
     }
