@@ -10,3 +10,4 @@ pub mod Outside
 pub mod Leading
 pub mod LeadTurns
 pub mod Splices
+pub mod Teams

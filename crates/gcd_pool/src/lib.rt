@@ -61,3 +61,6 @@ pub use idle::Idle;
 pub use lead::Chief;
 pub use run::pool_run;
 pub use team::{Desk, Lead, run_team};
+
+#[cfg(test)]
+mod tests;

@@ -34,7 +34,7 @@ pub trait Lead<T, D: Desk<T>, P: Poller, C: Clock> {
 }
 
 // Each helper in a thread.
-fn serve_all<T: Send, D: Desk<T> + Sync, R: Threads + Wait + Sync>(
+pub fn serve_all<T: Send, D: Desk<T> + Sync, R: Threads + Wait + Sync>(
     rt: &R,
     desk: &D,
     hands: &mut [T],

@@ -1,0 +1,10 @@
+mod begins;
+mod boards;
+mod closing;
+mod hiring;
+mod meeting;
+mod numbers;
+mod plans;
+mod rows;
+mod runs;
+mod teams;

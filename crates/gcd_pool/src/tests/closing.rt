@@ -1,0 +1,72 @@
+// A board that is closed after a run, and its journal.
+ghost use Rattle.std.specs.Prelude.{◌≡◌, ◌≢◌, ℕ, List, Some, [], IfOk};
+ghost use Rattle.gcd_event.specs.declared.event.Event.{Event};
+ghost use Rattle.gcd_machine.specs.Stands.{StandsFor};
+ghost use Rattle.gcd_row.specs.Passes.{IsPassOf, view};
+ghost use Rattle.gcd_row.specs.Views.{standing_of};
+ghost use Rattle.gcd_row.specs.declared.view.Standing.TheVariants.{Out};
+
+use gcd_event::Event;
+use gcd_history::State;
+use gcd_machine::Machine;
+use gcd_plan::{MAX_EVENTS, Plan};
+use gcd_row::{RowBoard, RowPass, Slot};
+use std::alloc::Global;
+use std::process::Abort;
+
+// Takes the event, if it may come next.
+fn takes(plan: &Plan, machine: &mut Machine, e: Event) -> bool
+    requires { (h : List Event) × StandsFor machine.old plan.now h }
+    ensures { (h : List Event) × StandsFor machine.new plan.now h }
+{
+    let _ = plan;
+    if machine.len() >= MAX_EVENTS {
+        return false;
+    }
+    if machine.permits(e).is_some() {
+        return false;
+    }
+    machine.apply(e);
+    true
+}
+
+// Whether each event may follow those before it, and the plan has drained after the last.
+fn drains(plan: &Plan, machine: &mut Machine, events: &[Event]) -> bool
+    requires { StandsFor machine.old plan.now [] }
+{
+    for e in events {
+        if !takes(plan, machine, *e) {
+            return false;
+        }
+    }
+    machine.state() == State::Drained
+}
+
+// A machine of its own judges the journal.
+fn judge<R: Abort>(rt: &R, alloc: Global, plan: &Plan, events: &[Event]) {
+    let Ok(mut machine) = Machine::new(alloc, plan) else {
+        panic!(rt; "no memory")
+    };
+    if !drains(plan, &mut machine, events) {
+        panic!(rt; "the journal is not one of a run that drained")
+    }
+}
+
+/// Closes the board. The journal, which is one of a run that drained, and the cells.
+pub fn closed<S: Slot + Drop, R: Abort>(
+    rt: &R,
+    alloc: Global,
+    plan: &Plan,
+    board: RowBoard<S>,
+    pass: RowPass<S>,
+) -> (Vec<Event>, Vec<S>)
+    requires pass { IsPassOf S.shape S.gives board pass }
+    requires worker { (view pass).worker ≡ 0 }
+    requires back { (w : ℕ) → standing_of (view pass).hands w ≢ Some Out }
+{
+    let Ok((events, cells)) = board.close(alloc, pass) else {
+        panic!(rt; "no memory")
+    };
+    judge(rt, alloc, plan, events.as_slice());
+    (events, cells)
+}

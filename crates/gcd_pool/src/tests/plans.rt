@@ -1,0 +1,144 @@
+// The plans of the tests.
+use gcd_plan::{Act, Blk, BlkPart, Kind, Obj, ObjPart, Parts, Plan};
+use std::alloc::{AllocError, Global};
+use std::test::Fail;
+
+// The serial queue, the concurrent one and the source.
+const SERIAL: Obj = Obj(1);
+
+const WIDE: Obj = Obj(2);
+
+const SOURCE: Obj = Obj(3);
+
+// How many blocks each queue gets beside the one that main waits for.
+const EACH: u32 = 40;
+
+/// The blocks of the plan.
+pub const BLOCKS: u32 = 2 * EACH + 2;
+
+fn objects(alloc: Global) -> Result<Vec<ObjPart>, AllocError> {
+    let mut objects = Vec::new(alloc);
+    objects.push(ObjPart::new(alloc, "root", Kind::Concurrent)?)?;
+    objects.push(ObjPart::new(alloc, "serial", Kind::Serial)?)?;
+    objects.push(ObjPart::new(alloc, "wide", Kind::Concurrent)?)?;
+    objects.push(ObjPart::new(alloc, "source", Kind::Add)?)?;
+    Ok(objects)
+}
+
+// What main does: it submits every block, waits for the last, and merges into the source.
+fn acts(alloc: Global) -> Result<Vec<Act>, AllocError> {
+    let mut acts = Vec::new(alloc);
+    acts.push(Act::Activate(SOURCE))?;
+    for number in 1..EACH + 1 {
+        acts.push(Act::Async(SERIAL, Blk(number)))?;
+        acts.push(Act::Async(WIDE, Blk(EACH + number)))?;
+    }
+    acts.push(Act::Merge(SOURCE, 5))?;
+    acts.push(Act::Sync(SERIAL, Blk(2 * EACH + 1)))?;
+    acts.push(Act::Merge(SOURCE, 7))?;
+    Ok(acts)
+}
+
+fn blocks(alloc: Global) -> Result<Vec<BlkPart>, AllocError> {
+    let mut blocks = Vec::new(alloc);
+    let mut main = BlkPart::new(alloc, "main")?;
+    main.acts = acts(alloc)?;
+    blocks.push(main)?;
+    for number in 1..BLOCKS {
+        let name = format!(in alloc; "b{number}")?;
+        blocks.push(BlkPart::new(alloc, name.as_str())?)?;
+    }
+    Ok(blocks)
+}
+
+/// A plan with a queue of each kind, a source and a parked block.
+pub fn plan_of_each_kind(alloc: Global) -> Result<Plan, Fail> {
+    let parts = Parts {
+        objects: objects(alloc)?,
+        blocks: blocks(alloc)?,
+        files: Vec::new(alloc),
+        until: 1000,
+    };
+    Ok(Plan::of_parts(parts).ok_or("valid")?)
+}
+
+// The queue of block `number` of a meeting.
+fn queue_of(kind: Kind, number: u32) -> Obj {
+    if kind == Kind::Serial {
+        Obj(number)
+    } else {
+        Obj(1)
+    }
+}
+
+// `main` and so many blocks, each of which it submits to its queue.
+fn meeting_blocks(alloc: Global, kind: Kind, count: u32) -> Result<Vec<BlkPart>, AllocError> {
+    let mut blocks = Vec::new(alloc);
+    let mut main = BlkPart::new(alloc, "main")?;
+    for before in 0..count {
+        let number = before + 1;
+        main.acts
+            .push(Act::Async(queue_of(kind, number), Blk(number)))?;
+    }
+    blocks.push(main)?;
+    for number in 0..count {
+        let name = format!(in alloc; "b{number}")?;
+        blocks.push(BlkPart::new(alloc, name.as_str())?)?;
+    }
+    Ok(blocks)
+}
+
+// `root` and so many queues of this kind.
+fn meeting_queues(alloc: Global, kind: Kind, count: u32) -> Result<Vec<ObjPart>, AllocError> {
+    let mut objects = Vec::new(alloc);
+    objects.push(ObjPart::new(alloc, "root", Kind::Concurrent)?)?;
+    for number in 0..count {
+        let name = format!(in alloc; "q{number}")?;
+        objects.push(ObjPart::new(alloc, name.as_str(), kind)?)?;
+    }
+    Ok(objects)
+}
+
+/// A plan of so many blocks, each on a serial queue of its own, or all on the first queue where the kind is another.
+pub fn plan_of_meeting(alloc: Global, kind: Kind, count: u32) -> Result<Plan, Fail> {
+    let parts = Parts {
+        objects: meeting_queues(alloc, kind, count)?,
+        blocks: meeting_blocks(alloc, kind, count)?,
+        files: Vec::new(alloc),
+        until: 1000,
+    };
+    Ok(Plan::of_parts(parts).ok_or("valid")?)
+}
+
+/// How often `main` signals in a plan that fills the row.
+pub const SIGNALS: u32 = 65_533;
+
+// `main` submits a block to a queue, and then signals until no event more has room.
+fn signal_acts(alloc: Global) -> Result<Vec<Act>, AllocError> {
+    let mut acts = Vec::new(alloc);
+    acts.push(Act::Async(Obj(1), Blk(1)))?;
+    for _ in 0..SIGNALS {
+        acts.push(Act::Signal(Obj(2)))?;
+    }
+    Ok(acts)
+}
+
+/// A plan that fills the row while a block waits on a queue.
+pub fn plan_of_signals(alloc: Global) -> Result<Plan, Fail> {
+    let mut objects = Vec::new(alloc);
+    objects.push(ObjPart::new(alloc, "root", Kind::Concurrent)?)?;
+    objects.push(ObjPart::new(alloc, "queue", Kind::Serial)?)?;
+    objects.push(ObjPart::new(alloc, "signals", Kind::Semaphore(0))?)?;
+    let mut blocks = Vec::new(alloc);
+    let mut main = BlkPart::new(alloc, "main")?;
+    main.acts = signal_acts(alloc)?;
+    blocks.push(main)?;
+    blocks.push(BlkPart::new(alloc, "waits")?)?;
+    let parts = Parts {
+        objects,
+        blocks,
+        files: Vec::new(alloc),
+        until: 1000,
+    };
+    Ok(Plan::of_parts(parts).ok_or("valid")?)
+}
