@@ -59,7 +59,7 @@ class Reader:
         self.submitted, self.handlers, self.cancellations = set(), set(), set()
         self.body = self.until = None
         self.has_main = False
-        self.files, self.feeds = [], []
+        self.paths, self.works = {}, {}
 
     def codes_of(self, first, form, words):
         """The codes from 2 on that apply to the line, by its names and numbers."""
@@ -115,8 +115,10 @@ class Reader:
                 self.kinds[word] = words[1] if first == "source" else first
             elif ask == "B":
                 self.submitted.add(word)
-            elif ask == "path":
-                (self.files if first == "file" else self.feeds).append(word)
+        if first == "file":
+            self.paths[words[0]] = words[1]
+        if first == "block" and len(words) > 1:
+            self.works[words[0]] = words[1:]
         counted = self.counted(first)
         if counted:
             self.counts[counted] += 1
@@ -151,6 +153,18 @@ class Reader:
             return min(codes)
         self.take(first, form, rest)
         return None
+
+
+def value_of(work, contents):
+    """The value of a block: its work is the words after its name."""
+    kind, *rest = work
+    byte = int(rest.pop(0)) if kind == "count" else None
+    part = contents[rest[0]]
+    if len(rest) > 1:
+        part = part[int(rest[1]) :][: int(rest[2])]
+    if kind == "words":
+        return len(part.split())
+    return {"bytes": len(part), "lines": part.count(10), "sum": sum(part)}.get(kind, part.count(byte or 0))
 
 
 def read(text):
