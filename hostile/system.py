@@ -82,14 +82,17 @@ def tried(program, words, name, error, meanwhile):
 
 
 def client(port):
-    """A client that sends once somebody listens, and closes; it gives up after two seconds."""
+    """A client that lets the program wait for it, and for what it sends in two pieces; it gives up after two seconds."""
 
     def send():
+        time.sleep(0.05)
         until = time.monotonic() + 2
         while time.monotonic() < until:
             try:
                 with socket.create_connection(("127.0.0.1", port), 1) as sent:
-                    sent.sendall(b"hello world\n")
+                    for piece in (b"hello ", b"world\n"):
+                        time.sleep(0.03)
+                        sent.sendall(piece)
                 return
             except OSError:
                 time.sleep(0.002)
