@@ -1,14 +1,18 @@
 #!/usr/bin/env python3
 """Scripts at the limits by 64 workers: each run ends, and its journal is judged by `gcd check`."""
 
+import os
 import random
 import re
 import resource
+import subprocess
 import tempfile
+from pathlib import Path
 
 import grammar
 from common import Part, call, why_not, words_of
 
+HERE = Path(__file__).resolve().parent
 BLOCKS, OBJECTS, ACTS, FILES = 16_384, 1_023, 65_535, 64
 STATES = {0: b"drained", 1: b"stuck", 8: b"open"}
 
@@ -130,6 +134,52 @@ def try_script(part, program, room, make, workers, seed):
     return int(events), others
 
 
+PIECES = [b" ", b"\n", b"a", b"#\n", b"main\n", b"group g\n", b"start 0 main\n", b"tick 1\n", b"events 0\n", b"\0", b"\xff"]
+
+
+def long_texts(program, room):
+    """Scripts and journals as long as they may be and longer, of one piece again and again."""
+    part = Part("long_texts")
+    for piece in PIECES:
+        for most, words in ((1_048_576, ["run", "long"]), (16_777_216, ["check", "short", "long"])):
+            for size in (most, most + 1):
+                text = (piece * (size // len(piece) + 1))[:size]
+                for name, content in (("long", text), ("short", b"main\n")):
+                    with open(f"{room}/{name}", "wb") as it:
+                        it.write(content)
+                answer = call(program, words, room)
+                why = why_not(words[0], answer) or long_why(words[0], text, most, answer)
+                if why:
+                    part.refuse(f"{size} bytes of {piece} as what is given to {words[0]}", why, answer)
+    part.tell(f"{4 * len(PIECES)} texts are refused where they have to be, or taken")
+
+
+def long_why(command, text, most, answer):
+    if command == "run":
+        at, _ = grammar.read(text)
+        wanted = b"script refused: line %d code %d\n" % at if at else b"drained\n"
+    elif len(text) > most:
+        wanted = b"journal refused: line 0\n"
+    elif text.startswith(b"events 0\n"):
+        wanted = b"lawful 0 open\n"
+    else:
+        return None if answer.status == 9 else "status 9 is wanted"
+    return None if answer.text == wanted else f"{wanted} is wanted"
+
+
+def colliding(program, room):
+    """Names that meet in a hash map: the script is read in the time of a look at each other name for each."""
+    part = Part("colliding")
+    subprocess.run([os.environ.get("CC", "cc"), "-O2", "-o", f"{room}/collide", HERE / "collide.c"], check=True)
+    names = subprocess.run([f"{room}/collide", str(BLOCKS - 1)], capture_output=True, check=True, text=True).stdout.split()
+    with open(f"{room}/script", "w", encoding="ascii") as it:
+        it.write(text_of(["queue q serial", *[f"block {b}" for b in names], "main", *[f"async q {b}" for b in names]]))
+    answer = call(program, ["run", "script"], room, 120)
+    if (answer.status, answer.text, answer.errors) != (0, b"drained\n", b""):
+        part.refuse(f"{len(names)} names", "a run that drains is wanted", answer)
+    part.tell(f"a script of {len(names)} such names is run")
+
+
 def main():
     words = words_of(
         __doc__,
@@ -147,6 +197,8 @@ def main():
             told = [try_script(part, words.program, room, make, words.workers, words.seed + k) for k in range(words.repeat)]
             runs = ", ".join(f"{events} by {others}" for events, others in told)
             part.tell(f"{words.repeat} runs by {words.workers} workers are lawful; events, and workers that started a block: {runs}")
+        long_texts(words.program, room)
+        colliding(words.program, room)
 
 
 if __name__ == "__main__":
