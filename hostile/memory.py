@@ -70,7 +70,7 @@ def try_test(part, tests, name):
             refused += 1
             is_made = is_made or answer.status == 0
             wanted = 0 if is_made else 101
-            if answer.status != wanted or (not is_made and b"AllocError" not in answer.errors):
+            if answer.status != wanted or (not is_made and b"error: Alloc" not in answer.errors):
                 part.refuse(f"{name}: allocation {number}{' and all later' if later else ''}", "not allowed", answer)
         if not is_made:
             part.refuse(name, "no allocation of the call was refused", call(tests, words))
