@@ -4,6 +4,8 @@ mod cases;
 mod hostile;
 mod journals;
 mod limits;
+mod memory;
+mod outside;
 mod subjects;
 mod teams;
 

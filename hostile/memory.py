@@ -1,0 +1,107 @@
+#!/usr/bin/env python3
+"""Memory is refused, one allocation after the other, and then each with all later ones."""
+
+import os
+import subprocess
+import sys
+
+from common import TOP, Part, call, words_of
+from refused import FOLDER, call_refusing, each_refused, is_same
+
+CASES = TOP / "examples"
+TESTS = ["run", "check", "large_script"]
+
+# A name, the words, and whether the run has a feed or an address: the system's own tables for these are made in the run, and what
+# fails in them is a fault of the poller, so that `read fault` is an answer too.
+CALLS = [
+    ("no command", [], False),
+    ("a script that is refused", ["run", "refused/script"], False),
+    ("a script that is not there", ["run", "nowhere/script"], False),
+    ("a block", ["run", "first/script", "--journal"], False),
+    ("files", ["run", "nested/script", "--journal"], False),
+    ("groups", ["run", "group/script", "--journal"], False),
+    ("semaphores", ["run", "semaphore/script", "--journal"], False),
+    ("sources", ["run", "sources/script", "--journal"], False),
+    ("a timer", ["run", "timer/script", "--journal"], False),
+    ("a misuse", ["run", "misuse/script", "--journal"], False),
+    ("a deadlock", ["run", "deadlock/script", "--journal"], False),
+    ("a lawful journal", ["check", "first/script", "check_a_journal/journal"], False),
+    ("a forged journal", ["check", "first/script", "check_a_forgery/journal"], False),
+    ("a large script", ["big", "300"], False),
+    ("a large script by four workers", ["big", "300", "--workers", "4"], False),
+    ("a feed", ["run", "feed/script", "--journal"], True),
+    ("an address", ["run", "first/script", "--listen", "127.0.0.1:0"], True),
+]
+
+
+def is_allowed(answer, ample, is_outside):
+    """The answer of ample memory; or the status of memory that ran out, with nothing written; or a fault of the poller."""
+    if is_same(answer, ample):
+        return True
+    if answer.errors:
+        return False
+    return (answer.status, answer.text) == (7, b"") or (is_outside and answer.status == 5 and answer.text.endswith(b"read fault\n"))
+
+
+def try_call(part, program, case, words, is_outside):
+    """One call of the program, each of its allocations refused in turn; how often each answer came."""
+    ample = call(program, words, CASES)
+    if ample.status is None or ample.status < 0 or ample.errors:
+        part.refuse(case, "with ample memory", ample)
+    counts = {"refused": 0, "said so": 0, "read fault": 0, "answered": 0}
+    for later in (False, True):
+        for number, answer in each_refused(program, words, "memory", later=later, folder=CASES):
+            if not is_allowed(answer, ample, is_outside):
+                part.refuse(f"{case}: allocation {number}{' and all later' if later else ''}", "not allowed", answer)
+            counts["refused"] += 1
+            as_before = is_same(answer, ample)
+            counts["answered" if as_before else "said so" if answer.status == 7 else "read fault"] += 1
+    return counts
+
+
+def try_test(part, tests, name):
+    """One test of gcd_run over an outside in memory: it fails by an error while it makes that outside, and never after."""
+    words, refused = [f"tests::memory::a_{name}_answers_whole_or_nothing"], 0
+    if call(tests, words).status != 0:
+        part.refuse(name, "with ample memory", call(tests, words))
+    for later in (False, True):
+        is_made = False
+        for number, answer in each_refused(tests, words, "memory", later=later):
+            refused += 1
+            is_made = is_made or answer.status == 0
+            wanted = 0 if is_made else 101
+            if answer.status != wanted or (not is_made and b"error: Alloc" not in answer.errors):
+                part.refuse(f"{name}: allocation {number}{' and all later' if later else ''}", "not allowed", answer)
+        if not is_made:
+            part.refuse(name, "no allocation of the call was refused", call(tests, words))
+    return refused
+
+
+def built_tests():
+    """The proved tests of gcd_run, which are built where they are not there."""
+    tests = TOP / "crates/gcd_run/out/gcd_run_tests"
+    if not tests.exists() and subprocess.run(["rt", "test"], cwd=tests.parent.parent, stdout=sys.stderr).returncode:
+        sys.exit(70)
+    return tests
+
+
+def main():
+    words = words_of(__doc__, ("--tests", str, None, "other tests of gcd_run than the ones that rt test builds"))
+    part = Part("memory, over an outside in memory")
+    tests = os.path.abspath(words.tests or built_tests())
+    counts = [try_test(part, tests, name) for name in TESTS]
+    part.tell(f"{sum(counts)} refusals in {len(TESTS)} calls: nothing is written and there is no journal, or the answer is whole")
+    part = Part("memory, over the system")
+    whole = {}
+    for case, call_words, is_outside in CALLS:
+        for what, count in try_call(part, words.program, case, call_words, is_outside).items():
+            whole[what] = whole.get(what, 0) + count
+    part.tell(
+        f"{whole['refused']} refusals in {len(CALLS)} calls: {whole['said so']} with status 7 and nothing written,"
+        f" {whole['answered']} with the answer of ample memory, {whole['read fault']} with a fault of the feed or the address"
+    )
+    FOLDER.cleanup()
+
+
+if __name__ == "__main__":
+    main()
