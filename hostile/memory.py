@@ -9,7 +9,7 @@ from common import TOP, Part, call, words_of
 from refused import FOLDER, call_refusing, each_refused, is_same
 
 CASES = TOP / "examples"
-TESTS = ["run", "check", "large_script"]
+TESTS = ["run", "check", "large_script", "team"]
 
 # A name, the words, and whether the run has a feed or an address: the system's own tables for these are made in the run, and what
 # fails in them is a fault of the poller, so that `read fault` is an answer too.

@@ -3,7 +3,7 @@
 // is refused memory, nothing is written and there is no journal.
 
 use super::cases::Case;
-use super::outside::{BIG, CHECK, WHOLE};
+use super::outside::{BIG, BIG_BY_FOUR, CHECK, WHOLE};
 use super::{poller_of, shelf_of};
 use crate::{Ended, Status, gcd_main};
 use gcd_outer::{JumpClock, VecSink};
@@ -11,6 +11,7 @@ use std::alloc::Global;
 use std::process::Abort;
 use std::sync::Wait;
 use std::test::Fail;
+use std::thread::Threads;
 
 // It is the answer of ample memory, or nothing but the status of memory that ran out.
 fn is_whole_or_nothing(case: &Case, ended: &Ended, out: &VecSink) -> bool {
@@ -24,7 +25,7 @@ fn is_whole_or_nothing(case: &Case, ended: &Ended, out: &VecSink) -> bool {
 
 // All that the outside needs is allocated before the call.
 fn answers_whole_or_nothing(
-    rt: &(impl Abort + Wait),
+    rt: &(impl Abort + Threads + Wait + Sync),
     alloc: Global,
     case: &Case,
 ) -> Result<(), Fail> {
@@ -58,4 +59,9 @@ fn a_check_answers_whole_or_nothing(rt: HostRuntime) -> Result<(), Fail> {
 #[test]
 fn a_large_script_answers_whole_or_nothing(rt: HostRuntime) -> Result<(), Fail> {
     answers_whole_or_nothing(&rt, rt.alloc(), &BIG)
+}
+
+#[test]
+fn a_team_answers_whole_or_nothing(rt: HostRuntime) -> Result<(), Fail> {
+    answers_whole_or_nothing(&rt, rt.alloc(), &BIG_BY_FOUR)
 }

@@ -7,6 +7,7 @@ use std::alloc::Global;
 use std::process::Abort;
 use std::sync::Wait;
 use std::test::Fail;
+use std::thread::Threads;
 
 // Three loads, a listen, two watches and four polls. The clock goes on by 1 at each look, so the first due time comes after the
 // first delivery of the feed, and the other two after its end.
@@ -151,6 +152,12 @@ pub const BIG: Case = Case {
     ..RUN
 };
 
+pub const BIG_BY_FOUR: Case = Case {
+    what: "a large script by four workers",
+    words: &["big", "3", "--workers", "4"],
+    ..BIG
+};
+
 static OF_OTHER_COMMANDS: [Case; 5] = [
     CHECK,
     Case {
@@ -185,7 +192,11 @@ static OF_OTHER_COMMANDS: [Case; 5] = [
 ];
 
 // The same calls with a sink that takes nothing: the status tells of the output, and all else is as it was.
-fn are_cut_off(rt: &(impl Abort + Wait), alloc: Global, cases: &[Case]) -> Result<(), Fail> {
+fn are_cut_off(
+    rt: &(impl Abort + Threads + Wait + Sync),
+    alloc: Global,
+    cases: &[Case],
+) -> Result<(), Fail> {
     for case in cases {
         let cut = Case {
             failing_write: Some(0),
@@ -199,7 +210,11 @@ fn are_cut_off(rt: &(impl Abort + Wait), alloc: Global, cases: &[Case]) -> Resul
 }
 
 // A sink that takes one byte at once fails at each of them in turn: what stood before it is written.
-fn is_cut_anywhere(rt: &(impl Abort + Wait), alloc: Global, case: &Case) -> Result<(), Fail> {
+fn is_cut_anywhere(
+    rt: &(impl Abort + Threads + Wait + Sync),
+    alloc: Global,
+    case: &Case,
+) -> Result<(), Fail> {
     for count in 0..case.text.len() {
         let cut = Case {
             failing_write: Some(count as u64),
