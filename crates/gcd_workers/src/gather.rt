@@ -32,7 +32,7 @@ fn take_in<S: Slot>(board: &RowBoard<S>, pass: &mut RowPass<S>, hand: Hand<S>)
     ensures pass { IsPassOf S.shape S.gives board.now pass.new }
     ensures worker { (view pass.new).worker ≡ 0 }
     ensures seen { (view pass.new).seen ≡ (view pass.old).seen }
-    ensures hands { (view pass.new).hands ≡ ((view hand.entry.pass).worker, Back) ∷ (view pass.old).hands }
+    ensures hands { (view pass.new).hands ≡ ((view hand.pass).worker, Back) ∷ (view pass.old).hands }
 {
     let Hand {
         pass: other,
@@ -48,8 +48,8 @@ fn take_all<S: Slot>(board: &RowBoard<S>, mut hands: Vec<Hand<S>>) -> RowPass<S>
     requires head { (d : Hand S) → IsHead 1 (length hands.items) (view (slice_index_or hands.items 0 d).pass) }
     requires ended { (d : Hand S) → HasEnded (terms_of board.now).plan (view (slice_index_or hands.items 0 d).pass).seen }
     ensures pass { IsPassOf S.shape S.gives board.now result }
-    ensures head { IsHead (length hands.entry.items) (length hands.entry.items) (view result) }
-    ensures seen { (d : Hand S) → (view result).seen ≡ (view (slice_index_or hands.entry.items 0 d).pass).seen }
+    ensures head { IsHead (length hands.items) (length hands.items) (view result) }
+    ensures seen { (d : Hand S) → (view result).seen ≡ (view (slice_index_or hands.items 0 d).pass).seen }
 {
     let Hand { mut pass, bench: _ } = hands.remove(0);
     for hand in hands {
@@ -92,7 +92,7 @@ fn run_team<
     requires none { (d : Hand (Cell J H)) → (view (slice_index_or hands.items 0 d).pass).seen ≡ [] }
     requires unwatched { (feed : ℕ) → (P.state poller.old).watched feed ≡ false }
     ensures pass { IsPassOf (shape_of H.kind H.times H.total) (gives_of J.gives) pool.now.board.now result }
-    ensures led { HasLed (length hands.entry.items) (view result) }
+    ensures led { HasLed (length hands.items) (view result) }
     ensures heard { IsHeard (terms_of pool.now.board.now).plan [] (view result).seen (record { tells = P.tells; before = P.state poller.old; after = P.state poller.new }) }
     ensures timely { IsTimely (terms_of pool.now.board.now).plan [] (view result).seen (record { tells = C.tells; before = C.state clock.old; after = C.state clock.new }) }
     ensures kept { KeepsListens P.tells (P.state poller.old) (P.state poller.new) }

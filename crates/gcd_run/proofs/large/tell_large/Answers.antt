@@ -6,7 +6,7 @@ use Rattle.gcd_run.proofs.Totals.{total_is}
 use Rattle.gcd_run.proofs.large.tell_large.Goals as goal
 
 pub run_by-requires-clause-files : goal.run_by-requires-clause-files
-run_by-requires-clause-files g c =
+run_by-requires-clause-files g c = λ lifetimes outlive.
     ap length c.deref.ensures.value
     ∙ sym (length-map c.in_ok-files.files.items (λ f. f.items))
     ∙ ap length c.in_ok-files.ensures

@@ -29,7 +29,7 @@ returns-in_err-listen_at-clause-stopped g c =
     })
 
 pub run_plan-requires-clause-files : goal.run_plan-requires-clause-files
-run_plan-requires-clause-files g c =
+run_plan-requires-clause-files g c = λ lifetimes outlive.
     ap length c.deref.ensures.value
     ∙ sym (length-map c.in_ok-plan.files.items (λ f. f.items))
     ∙ loaded_count _ c.in_ok-plan.plan.files _ c.in_ok-plan.ensures.ready.loaded
