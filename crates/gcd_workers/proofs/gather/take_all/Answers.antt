@@ -9,6 +9,17 @@ use Rattle.gcd_workers.proofs.Heads.{head_back}
 use Rattle.gcd_workers.proofs.Places.{each_first, each_rest}
 use Rattle.gcd_workers.proofs.gather.take_all.Goals as goal
 
+pub take_in-requires-clause-hand : goal.take_in-requires-clause-hand
+take_in-requires-clause-hand g c =
+    let at = c.loop-hand in
+    let i = at.invariant in
+    let P = IsPassAt g.S.Slot.shape g.S.Slot.gives c.args.board.now in
+    let n = suc (length at.yielded) in
+    let x = c.in-Some.hand in
+    let rest = into_iter_items c.next.new.self in
+    let steps : into_iter_items at.hand-iterator ≡ x ∷ rest = c.in-Some.ensures.steps.0 in
+    (each_first P n x rest (subst (EachFrom P n) steps i.each)).pass
+
 pub loop-hand-preserved : goal.loop-hand-preserved
 loop-hand-preserved g c =
     let at = c.loop-hand in
