@@ -1,17 +1,13 @@
--- The hands of a team, before their service and after it.
-use Rattle.std.proofs.Common.{◌≡◌, ◌<◌, ◌∙◌, ℕ, List, [], ◌∷◌, ◌++◌, length, None, ap, sym, subst, arith}
-use Rattle.std.specs.Prelude.{All, slice_index_or}
+-- The hands of a team, and the numbers that worker 0's pass has given out.
+use Rattle.std.proofs.Common.{◌≡◌, ◌≢◌, ◌<◌, ◌≤◌, ◌∙◌, ℕ, Bool, cond, List, [], ◌∷◌, ◌++◌, length, Some, refl, ap, sym, subst, arith, ⊎_elim, eq-eqb}
+use Rattle.std.specs.Prelude.{All}
+use Rattle.std.proofs.lemmas.Bool.{cases_lt, ne_eqb}
 use Rattle.std.proofs.lemmas.List.Elements.{All-append, All-cons, All-nil}
 use Rattle.gcd_event.specs.declared.event.Event.{Event}
 use Rattle.gcd_team.specs.Team.{of_worker}
-use Rattle.gcd_row.specs.Shapes.{Shape}
-use Rattle.gcd_row.specs.Passes.{IsPassOf, view}
 use Rattle.gcd_row.specs.Views.{standing_of}
-use Rattle.gcd_row.specs.declared.view.View.{View}
-use Rattle.gcd_pool.specs.Each.{Each}
-use Rattle.gcd_pool.specs.Hands.{Served}
-use Rattle.gcd_pool.specs.declared.hand.Hand.{Hand}
-use Rattle.gcd_pool.specs.declared.hand.Pool.{Pool}
+use Rattle.gcd_row.specs.declared.view.Standing.{Standing}
+use Rattle.gcd_row.specs.declared.view.Standing.TheVariants.{Out, Back}
 
 -- one more at the end, and one more in front
 module _ {T : Type 0} (P : T → Type 0) (old new : List T) (x : T) where
@@ -26,15 +22,34 @@ pub none_own : (w : ℕ) (h : List Event) → h ≡ [] → of_worker w h ≡ []
 unfolding of_worker
 none_own w h none = ap (of_worker w) none
 
--- after their service the hands are those of the same workers, and worker 0 has given out the same numbers
-module _ {S : Type 0} (shape : S → Shape) (gives : S → ℕ → Type 0) (pool : Pool S) (old new : List (Hand S)) where
-  pub passes_after : length new ≡ length old → Each (Served shape gives pool) old new → All (λ h. IsPassOf shape gives pool.board.now h.pass) new
-  passes_after count served k d low = (served k d (omega (arith, low, count))).serving.of.pass
+other_standing : (m w : ℕ) (s : Standing) (hands : List (ℕ × Standing)) → m ≢ w → standing_of ((m, s) ∷ hands) w ≡ standing_of hands w
+other_standing m w s hands differ = ap (λ (b : Bool). cond b (Some s) (standing_of hands w)) (ne_eqb m w differ)
 
-  pub worker_after : 0 < length old → Each (Served shape gives pool) old new → ((d : Hand S) → (view (slice_index_or old 0 d).pass).worker ≡ 0)
-      → (d : Hand S) → (view (slice_index_or new 0 d).pass).worker ≡ 0
-  worker_after some served worker d = ap (λ (v : View S). v.worker) (served 0 d some).serving.view.is ∙ worker d
+same_standing : (m : ℕ) (s : Standing) (hands : List (ℕ × Standing)) → standing_of ((m, s) ∷ hands) m ≡ Some s
+same_standing m s hands = ap (λ (b : Bool). cond b (Some s) (standing_of hands m)) (eq-eqb m m refl)
 
-  pub standing_after : 0 < length old → Each (Served shape gives pool) old new → (d : Hand S) (w : ℕ)
-      → standing_of (view (slice_index_or old 0 d).pass).hands w ≡ None → standing_of (view (slice_index_or new 0 d).pass).hands w ≡ None
-  standing_after some served d w none = ap (λ (v : View S). standing_of v.hands w) (served 0 d some).serving.view.is ∙ none
+back_out : Some Back ≡ Some Out → ⊥
+back_out is = cc
+
+-- number n comes back: then none from n on is out, where none above n was
+pub back_next : (n : ℕ) (old new : List (ℕ × Standing)) → new ≡ (n, Back) ∷ old → ((w : ℕ) → n < w → standing_of old w ≢ Some Out) → (w : ℕ) → n ≤ w → standing_of new w ≢ Some Out
+back_next n old new is home w high out =
+    let here : standing_of new w ≡ standing_of ((n, Back) ∷ old) w = ap (λ (h : List (ℕ × Standing)). standing_of h w) is in
+    ⊎_elim
+    (λ (above : n < w).
+    let differ : n ≢ w = λ same. omega (arith, above, same) in
+    home w above (sym (other_standing n w Back old differ) ∙ sym here ∙ out))
+    (λ (below : w ≤ n).
+    let same : n ≡ w = omega (arith, below, high) in
+    back_out (sym (subst (λ (k : ℕ). standing_of ((n, Back) ∷ old) k ≡ Some Back) same (same_standing n Back old)) ∙ sym here ∙ out))
+    (cases_lt n w)
+
+-- no number is out, where none from 1 on is, nor 0
+pub all_home : (hands : List (ℕ × Standing)) → standing_of hands 0 ≢ Some Out → ((w : ℕ) → 1 ≤ w → standing_of hands w ≢ Some Out) → (w : ℕ) → standing_of hands w ≢ Some Out
+all_home hands home high w =
+    ⊎_elim
+    (λ (above : 0 < w). high w (omega (arith, above)))
+    (λ (below : w ≤ 0).
+    let same : 0 ≡ w = omega (arith, below) in
+    subst (λ (k : ℕ). standing_of hands k ≢ Some Out) same home)
+    (cases_lt 0 w)
