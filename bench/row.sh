@@ -1,0 +1,35 @@
+#!/usr/bin/env bash
+# Times the calls of crates/gcd_row: appending to one row by 1, 2 and 4 threads, folding the events into a pass that looks, and
+# splitting off a pass of a plan with 16,384 blocks on seven queues.
+#
+# Each thread has a block of its own with as many acts as make 64,000 events in all; each act merges into a source. So it judges,
+# exchanges and applies an event of its own, and reads and applies those of others. Nanoseconds an event: the least of seven rows
+# in a process, and of three processes. A thread's start is in it. Of a split: the least of five processes with sixteen splits.
+set -eu -o pipefail
+cd "$(dirname "$0")/.."
+. bench/setup.sh
+folder=$(mktemp -d)
+trap 'rm -rf "$folder"' EXIT
+program row "$folder" gcd_plan gcd_event gcd_jobs gcd_row anyhow
+(cd "$folder/crates/bench_row" && rt run -- split >/dev/null 2>"$folder/log") || { tail -20 "$folder/log" >&2; exit 1; }
+bench=$folder/crates/bench_row/out/bench_row
+
+echo "$(nproc) processors, load $(cut -d' ' -f1 /proc/loadavg)"
+for threads in 1 2 4; do
+    for _ in 1 2 3; do "$bench" appends "$threads"; done
+done | awk '
+    $1 != "appends" { exit 1 }
+    !($2 in append) { threads[++n] = $2; append[$2] = $3; fold[$2] = $4 }
+    $3 < append[$2] { append[$2] = $3 }
+    $4 < fold[$2] { fold[$2] = $4 }
+    END {
+        print "threads append fold"
+        for (i = 1; i <= n; i++) print threads[i], append[threads[i]], fold[threads[i]]
+        exit n != 3
+    }' | column -t
+"${CC:-gcc}" -O2 -shared -fPIC -o "$folder/held.so" bench/machine.c -ldl
+LD_PRELOAD="$folder/held.so" "$bench" split 2>"$folder/held" >/dev/null
+for _ in 1 2 3 4 5; do "$bench" split; done | awk -v bytes="$(awk 'NR == 1 { first = $1 } NR == 2 { print $1 - first }' "$folder/held")" '
+    !least || $3 < least { least = $3 }
+    { passes = $2 }
+    END { printf "a split: %.2f ms, %d bytes\n", least / 1e6, bytes / passes }'
