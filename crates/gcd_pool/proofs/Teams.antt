@@ -1,5 +1,5 @@
 -- The hands of a team, and the numbers that worker 0's pass has given out.
-use Rattle.std.proofs.Common.{◌≡◌, ◌≢◌, ◌<◌, ◌≤◌, ◌∙◌, ℕ, Bool, cond, List, [], ◌∷◌, ◌++◌, length, Some, refl, ap, sym, subst, arith, ⊎_elim, eq-eqb}
+use Rattle.std.proofs.Common.{◌≡◌, ◌≢◌, ◌<◌, ◌≤◌, ◌∙◌, ℕ, Bool, cond, List, [], ◌∷◌, ◌++◌, Some, refl, ap, sym, subst, arith, ⊎_elim, eq-eqb}
 use Rattle.std.specs.Prelude.{All}
 use Rattle.std.proofs.lemmas.Bool.{cases_lt, ne_eqb}
 use Rattle.std.proofs.lemmas.List.Elements.{All-append, All-cons, All-nil}
