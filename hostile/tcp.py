@@ -147,11 +147,16 @@ def too_many(program, room, workers):
     """More connections than the process may have descriptors: a fault of the poller."""
     part = Part(f"more connections than descriptors, {workers} workers")
     run = Run(program, room, 60, workers, ["sh", "-c", 'ulimit -n 40; exec "$0" "$@"'])
-    clients = [run.connect() for _ in range(60)]
+    clients = []
+    try:
+        while len(clients) < 60:
+            clients.append(run.connect())
+    except ConnectionError:
+        pass  # the run has ended, and nobody listens any more
     answer = run.answer(60)
     why = why_not("run", answer) or (None if answer.status == 5 else "status 5 is wanted")
-    if why:
-        part.refuse("60 connections, 40 descriptors", why, answer)
+    if why or len(clients) < 30:
+        part.refuse(f"{len(clients)} connections, 40 descriptors", why or "too few were accepted", answer)
     for client in clients:
         client.close()
     part.tell("status 5")
