@@ -9,14 +9,14 @@
 //! stored run and the examples.
 #![tactic(auto)]
 
-ghost use Rattle.std.specs.Prelude.{◌≡◌, map, string_bytes, IfOk};
+ghost use Rattle.std.specs.Prelude.{◌≡◌, ℕ, false, map, string_bytes, IfOk, IfSome};
 
 mod script_poller;
 mod script_shelf;
 
 use crate::script_poller::ScriptPoller;
 use crate::script_shelf::ScriptShelf;
-use gcd_outer::{NetPoller, StdoutSink, SystemClock};
+use gcd_outer::{NetPoller, Poller, StdoutSink, SystemClock};
 use gcd_run::{Status, gcd_main};
 use std::alloc::{AllocError, Global};
 use std::fs::File;
@@ -46,6 +46,20 @@ fn texts<'a>(alloc: Global, words: &'a [String]) -> Result<Vec<&'a str>, AllocEr
     Ok(texts)
 }
 
+// A poller of the feeds that the script names. None where memory ran out.
+fn poller_of<'a, R: Files<File = File> + Net>(
+    rt: &'a R,
+    alloc: Global,
+    script: &'a str,
+) -> Option<ScriptPoller<'a, R, NetPoller<'a, R>>>
+    ensures { IfSome result (λ p. (feed : ℕ) → (⟦<ScriptPoller<'a, R, NetPoller<'a, R>> as Poller>⟧.state p).watched feed ≡ false) }
+{
+    let Ok(feeds) = NetPoller::new(rt, alloc) else {
+        return None;
+    };
+    Some(ScriptPoller::new(rt, alloc, feeds, script))
+}
+
 fn status<
     R: Files<File = File> + Net + Threads + Wait + Sync + time::Clock + Print + Env + AllocGlobal,
 >(rt: &R) -> u8 {
@@ -61,10 +75,9 @@ fn status<
     let script = texts.get(1).copied().unwrap_or("");
     let mut shelf = ScriptShelf::new(rt, rt.alloc(), script);
     let mut out = StdoutSink::new(rt);
-    let Ok(feeds) = NetPoller::new(rt, rt.alloc()) else {
+    let Some(mut poller) = poller_of(rt, rt.alloc(), script) else {
         return Status::NoMemory.code();
     };
-    let mut poller = ScriptPoller::new(rt, rt.alloc(), feeds, script);
     let mut clock = SystemClock::new(rt);
     gcd_main(
         rt,
