@@ -12,7 +12,6 @@ cd "$(dirname "$0")/.."
 folder=$(mktemp -d)
 trap 'rm -rf "$folder"' EXIT
 program pool "$folder" gcd_plan gcd_outer gcd_history gcd_alone gcd_workers anyhow
-(cd "$folder/crates/bench_pool" && rt run -- large 1 >/dev/null 2>"$folder/log") || { tail -20 "$folder/log" >&2; exit 1; }
 bench=$folder/crates/bench_pool/out/bench_pool
 "${CC:-gcc}" -O2 -o "$folder/peak" bench/peak.c
 

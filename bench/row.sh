@@ -10,8 +10,7 @@ cd "$(dirname "$0")/.."
 . bench/setup.sh
 folder=$(mktemp -d)
 trap 'rm -rf "$folder"' EXIT
-program row "$folder" gcd_plan gcd_event gcd_jobs gcd_row anyhow
-(cd "$folder/crates/bench_row" && rt run -- split >/dev/null 2>"$folder/log") || { tail -20 "$folder/log" >&2; exit 1; }
+program row "$folder" gcd_plan gcd_event gcd_jobs gcd_machine gcd_row anyhow
 bench=$folder/crates/bench_row/out/bench_row
 
 echo "$(nproc) processors, load $(cut -d' ' -f1 /proc/loadavg)"

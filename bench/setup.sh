@@ -1,9 +1,12 @@
 # shellcheck shell=bash
 # Read by benches whose program is a crate of its own: makes a folder that has the program, from bench/NAME, beside copies of the
-# crates that it stands on, with what earlier checks left of them.
+# crates that it stands on.
 #
 # The program's files end in .txt, since the gate proves each file that ends in .rt or .antt. `plans.rt` is bench/machine's.
-#   program NAME FOLDER DEP..    the crate bench_NAME in FOLDER/crates; DEP: the libraries that it names
+#   program NAME FOLDER DEP..    proves and builds FOLDER/crates/bench_NAME/out/bench_NAME; DEP: the libraries that it names
+#
+# `rt ci` proves and builds it, since it takes what the gate proved of the crates below; `rt run` would prove them anew. It also
+# runs the program once without words, which ends with status 1.
 
 # The crates that these stand on, and they, without repeats.
 below() {
@@ -28,8 +31,10 @@ program() {
     below "$@"
     for crate in $found; do
         cp -r --reflink=auto "crates/$crate" "$folder/crates/"
-        rm -rf "$folder/crates/$crate/must-fail"
+        rm -rf "$folder/crates/$crate/out" "$folder/crates/$crate/must-fail" # these edits are the gate's
         grep -E "^$crate( [^:]*)?:" crates.txt
     done >"$folder/crates.txt"
     echo "bench_$name: $*" >>"$folder/crates.txt"
+    (cd "$folder/crates/bench_$name" && rt fmt >/dev/null)
+    (cd "$folder" && rt ci >"$folder/log" 2>&1) || { tail -20 "$folder/log" >&2; return 1; }
 }
