@@ -61,10 +61,10 @@ def try_calls(part, program, words, calls, is_allowed, meanwhile=None):
     for name, errors in calls:
         for error in errors:
             for number, answer in tried(program, words, name, error, meanwhile):
-                if not is_allowed(answer, ample):
+                if not (is_allowed(answer, ample) if number else is_alike(answer, ample)):
                     told = errno.errorcode.get(error, "one byte")
                     part.refuse(f"{' '.join(words)}: {name} {number}: {told}", "not allowed", answer)
-                count += 1
+                count += number is not None
     return count
 
 
@@ -135,7 +135,7 @@ def threads_fail(program):
             for number, answer in each_refused(program, words, "pthread_create", later=later, error=errno.EAGAIN, folder=HERE):
                 if why_not(words[0], answer) or not is_same(answer, ample):
                     part.refuse(f"{' '.join(words)}: thread {number}{' and all later' if later else ''}", "not allowed", answer)
-                count += 1
+                count += number is not None
     if not count:
         part.refuse("no call", "asks for a thread", ample)
     part.tell(f"{count} refusals get the answer of all threads")
