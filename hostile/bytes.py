@@ -32,9 +32,11 @@ MORE_SCRIPTS = [
 WORDS = sorted(set(grammar.DECLARATIONS) | set(grammar.ACTS))
 WORDS += "serial concurrent inactive on root main add or timer read bytes lines words sum count tcp q r s t f a b g 0 1 7 007 -1".split()
 WORDS += "log.txt text.txt nowhere 2147483647 2147483648 16777216 86400000 99999999999999999999 q q s b #".split()
-EVENTS = "start act wake end deliver deliver_end tick ready feed_end misuse halt events main b1 q s r M1 M9 0 0 0 1 63 64 00 4294967296".split()
+EVENTS = "start act wake end deliver deliver_end tick ready feed_end misuse halt events main b1 q s r M1 M9".split()
+EVENTS += "0 0 0 1 63 64 00 4294967296".split()
 OPTIONS = ["run", "check", "big", "script", "journal", "--workers", "--journal", "--listen", "--help", "-h", "--", "-", "", "=", "1", "0"]
-OPTIONS += ["64", "65", "+4", "007", "-1", "16384", "16385", "99999999999999999999", "--workers=4", "--journal=1", "x", "é", "\x1b", "help"]
+OPTIONS += ["64", "65", "+4", "007", "-1", "16384", "16385", "99999999999999999999", "--workers=4", "--journal=1"]
+OPTIONS += ["x", "é", "\x1b", "help"]
 
 COMMANDS = [["run", "script"], ["run", "script", "--journal", "--workers", "4"], ["check", "script", "journal"], ["big", "3"]]
 COMMANDS += [["big", "3", "--workers", "64"], ["run", "script", "--listen", "127.0.0.1:0"], []]

@@ -110,13 +110,13 @@ def content_of(path):
     return f"a line of {path}\n".encode() * (100 * int(path[1]) + 1)
 
 
-def try_script(part, program, room, make, workers, seed):
+def try_script(part, program, room, make, workers, seed, seconds=120):
     """One run, and the judgement on its journal."""
     script, status = make(random.Random(seed))
     at, values = value_lines(script)
     with open(f"{room}/script", "w", encoding="ascii") as it:
         it.write(script)
-    answer = call(program, ["run", "script", "--journal", "--workers", str(workers)], room, 120)
+    answer = call(program, ["run", "script", "--journal", "--workers", str(workers)], room, seconds)
     why = why_not("run", answer, 8) or (None if answer.status == status else f"status {status} is wanted")
     case = f"{make.__name__}, {workers} workers, seed {seed}"
     if why or at:
@@ -127,7 +127,7 @@ def try_script(part, program, room, make, workers, seed):
     with open(f"{room}/journal", "wb") as it:
         it.write(answer.text)
     events = re.search(rb"(?m)^events ([0-9]+)$", answer.text)[1]
-    checked = call(program, ["check", "script", "journal"], room, 120)
+    checked = call(program, ["check", "script", "journal"], room, seconds)
     if (checked.status, checked.text, checked.errors) != (0, b"lawful %b %b\n" % (events, STATES[status]), b""):
         part.refuse(case, "a lawful journal is wanted", checked)
     others = len(set(re.findall(rb"(?m)^start ([0-9]+) ", answer.text)))
@@ -186,6 +186,7 @@ def main():
         ("--workers", int, 64, "how many workers"),
         ("--repeat", int, 3, "how often each script is run"),
         ("--seed", int, 1, "the seed of the first"),
+        ("--seconds", int, 120, "the limit of time of a call"),
     )
     resource.setrlimit(resource.RLIMIT_CORE, (0, 0))
     with tempfile.TemporaryDirectory(prefix="gcd-hostile-") as room:
@@ -194,7 +195,8 @@ def main():
                 it.write(content_of(name))
         for make in SCRIPTS:
             part = Part(make.__name__)
-            told = [try_script(part, words.program, room, make, words.workers, words.seed + k) for k in range(words.repeat)]
+            case = (part, words.program, room, make, words.workers)
+            told = [try_script(*case, words.seed + k, words.seconds) for k in range(words.repeat)]
             runs = ", ".join(f"{events} by {others}" for events, others in told)
             part.tell(f"{words.repeat} runs by {words.workers} workers are lawful; events, and workers that started a block: {runs}")
         long_texts(words.program, room)

@@ -51,6 +51,10 @@ def try_call(part, program, case, words, is_outside):
     counts = {"refused": 0, "said so": 0, "read fault": 0, "answered": 0}
     for later in (False, True):
         for number, answer in each_refused(program, words, "memory", later=later, folder=CASES):
+            if number is None:
+                if not is_same(answer, ample):
+                    part.refuse(case, "nothing was refused, and the answer is another", answer)
+                break
             if not is_allowed(answer, ample, is_outside):
                 part.refuse(f"{case}: allocation {number}{' and all later' if later else ''}", "not allowed", answer)
             counts["refused"] += 1
@@ -60,15 +64,16 @@ def try_call(part, program, case, words, is_outside):
 
 
 def try_test(part, tests, name):
-    """One test of gcd_run over an outside in memory: it fails by an error while it makes that outside, and never after."""
-    words, refused = [f"tests::memory::a_{name}_answers_whole_or_nothing"], 0
+    """One test of gcd_run over an outside in memory: it fails by an error while it makes that outside, and never after. How many
+    allocations were refused before the call, and how many within."""
+    words, refused = [f"tests::memory::a_{name}_answers_whole_or_nothing"], [0, 0]
     if call(tests, words).status != 0:
         part.refuse(name, "with ample memory", call(tests, words))
     for later in (False, True):
         is_made = False
         for number, answer in each_refused(tests, words, "memory", later=later):
-            refused += 1
             is_made = is_made or answer.status == 0
+            refused[is_made] += number is not None
             wanted = 0 if is_made else 101
             if answer.status != wanted or (not is_made and b"error: Alloc" not in answer.errors):
                 part.refuse(f"{name}: allocation {number}{' and all later' if later else ''}", "not allowed", answer)
@@ -90,7 +95,11 @@ def main():
     part = Part("memory, over an outside in memory")
     tests = os.path.abspath(words.tests or built_tests())
     counts = [try_test(part, tests, name) for name in TESTS]
-    part.tell(f"{sum(counts)} refusals in {len(TESTS)} calls: nothing is written and there is no journal, or the answer is whole")
+    before, within = (sum(count[k] for count in counts) for k in (0, 1))
+    part.tell(
+        f"{within} refusals within {len(TESTS)} calls: nothing is written and there is no journal, or the answer is whole"
+        f" ({before} more came before the call, to what makes its outside)"
+    )
     part = Part("memory, over the system")
     whole = {}
     for case, call_words, is_outside in CALLS:

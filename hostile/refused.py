@@ -37,12 +37,13 @@ def call_refusing(program, words, name, number, later=False, error=5, **how):
 
 
 def each_refused(program, words, name, most=1_000_000, **how):
-    """Each call of this name refused in turn, until a run makes fewer: its number, and the answer."""
+    """Each call of this name refused in turn: its number, and the answer. Then the run that made fewer calls, with no number: nothing
+    was refused to it, so that it has to answer as ever."""
     for number in range(1, most + 1):
         answer, was_refused = call_refusing(program, words, name, number, **how)
+        yield (number if was_refused else None), answer
         if not was_refused:
             return
-        yield number, answer
 
 
 def is_same(answer, other):

@@ -16,7 +16,8 @@ from refused import FOLDER, each_refused, is_same
 
 HERE = f"{TOP}/examples"
 READ_FAULT = b"read fault\n"
-RUN = "file f first/log.txt\nsource r read feed/text.txt on root\nsource t timer 3 3 on root\nuntil 9\nblock b lines f\nmain\nasync root b\nactivate r\nactivate t\n"
+RUN = "file f first/log.txt\nsource r read feed/text.txt on root\nsource t timer 3 3 on root\nuntil 9\nblock b lines f\n"
+RUN += "main\nasync root b\nactivate r\nactivate t\n"
 HEARD = "source r read tcp on root\nmain\nactivate r\n"
 
 # The calls of the C library, the errors that are told, and the number of the last that is tried.
@@ -32,7 +33,6 @@ OF_SOCKETS = [
     ("epoll_ctl", (errno.ENOSPC,)),
     ("epoll_wait", (errno.EINTR, errno.EBADF)),
 ]
-THREADS = [("pthread_create", (errno.EAGAIN,))]
 
 
 def is_alike(answer, ample):
@@ -61,10 +61,10 @@ def try_calls(part, program, words, calls, is_allowed, meanwhile=None):
     for name, errors in calls:
         for error in errors:
             for number, answer in tried(program, words, name, error, meanwhile):
-                if not is_allowed(answer, ample):
+                if not (is_allowed(answer, ample) if number else is_alike(answer, ample)):
                     told = errno.errorcode.get(error, "one byte")
                     part.refuse(f"{' '.join(words)}: {name} {number}: {told}", "not allowed", answer)
-                count += 1
+                count += number is not None
     return count
 
 
@@ -121,10 +121,24 @@ def calls_fail(program):
     port = free_port()
     words = ["run", heard, "--listen", f"127.0.0.1:{port}"]
     count += try_calls(part, program, words, OF_SOCKETS, is_alike_or_fault, lambda: client(port))
-    count += try_calls(part, program, ["big", "300", "--workers", "4"], THREADS, is_same)
     count += try_calls(part, program, ["big", "300"], [("write", (errno.EIO, errno.ENOSPC))], is_prefix)
     count += try_calls(part, program, ["big", "300"], [("write", (0,))], is_same)
     part.tell(f"{count} refusals: a read fault, a prefix of the text, or the same answer")
+
+
+def threads_fail(program):
+    """Each thread that a team asks for is refused, alone and with all later ones: the run goes on with those that there are."""
+    part, count = Part("threads are refused"), 0
+    for words in (["big", "50", "--workers", "4"], ["big", "50", "--workers", "64"], ["run", "sources/script", "--workers", "8"]):
+        ample = call(program, words, HERE)
+        for later in (False, True):
+            for number, answer in each_refused(program, words, "pthread_create", later=later, error=errno.EAGAIN, folder=HERE):
+                if why_not(words[0], answer) or not is_same(answer, ample):
+                    part.refuse(f"{' '.join(words)}: thread {number}{' and all later' if later else ''}", "not allowed", answer)
+                count += number is not None
+    if not count:
+        part.refuse("no call", "asks for a thread", ample)
+    part.tell(f"{count} refusals get the answer of all threads")
 
 
 def output_fails(program):
@@ -215,7 +229,8 @@ def few_descriptors(program):
     """The process may have so many open descriptors, from 3 on."""
     part = Part("few descriptors")
     script = f"{FOLDER.name}/run"
-    for words in (["run", script], ["run", "first/script", "--listen", "127.0.0.1:0"], ["check", "first/script", "check_a_journal/journal"]):
+    listening, checking = ["run", "first/script", "--listen", "127.0.0.1:0"], ["check", "first/script", "check_a_journal/journal"]
+    for words in (["run", script], listening, checking):
         ample = call(program, words, HERE)
         for most in range(4, 13):
             # The process itself starts with what it needs, so the limit is set in the program's place.
@@ -251,6 +266,7 @@ def main():
     program = words_of(__doc__).program
     resource.setrlimit(resource.RLIMIT_CORE, (0, 0))
     calls_fail(program)
+    threads_fail(program)
     output_fails(program)
     long_pipe(program)
     names_fail(program)
