@@ -159,8 +159,11 @@ pub(crate) fn first_step<J: Job + Drop, H: Handler + Drop, P: Poller, C: Clock>(
             run.put(plan, e)?;
             Ok(Step::Recorded)
         }
-        Ask::Work { left } => {
-            if choose(run, plan, 0, kept)? {
+        Ask::Work { chosen, left } => {
+            let Some(e) = chosen else {
+                return Ok(Step::Stopped { left });
+            };
+            if follow(run, plan, e, kept)? {
                 return Ok(Step::Recorded);
             }
             Ok(Step::Stopped { left })
