@@ -17,7 +17,7 @@ ghost use Rattle.gcd_pool.specs.Turns.{AfterTurn};
 ghost use Rattle.gcd_pool.specs.Works.{AddsWork};
 
 use crate::crew::Crew;
-use crate::drains::{begin_alone, begin_near};
+use crate::drains::begin_chosen;
 use crate::duty::{Duty, duty_of};
 use crate::hand::{Hand, Pool};
 use crate::idle::Idle;
@@ -106,31 +106,6 @@ fn rest<S: Slot, P: Poller, C: Clock>(
     }
 }
 
-// Worker 0 begins a run on the node: that of this event, where the rack has no other bench.
-fn lead_begin<S: Crew, R: Wait>(
-    rt: &R,
-    pool: &Pool<S>,
-    hand: &mut Hand<S>,
-    node: Obj,
-    e: Event,
-) -> Turn
-    requires ready { IsReady S.shape S.gives pool.now hand.old }
-    requires node { IsTrue (is_node (view hand.old.pass).terms.plan node.0) }
-    requires worker { worker_of e ≡ (view hand.old.pass).worker }
-    requires begins { begun_on (view hand.old.pass).terms.plan (view hand.old.pass).seen e ≡ Some node }
-    requires may { why (view hand.old.pass).terms.plan (view hand.old.pass).seen e ≡ None }
-    requires work { is_work e ≡ true }
-    ensures serving { Serving S.shape S.gives pool.now hand.old hand.new }
-    ensures work { AddsWork (view hand.old.pass) (view hand.new.pass) }
-    ensures after { AfterTurn S.shape result (view hand.new.pass) (slots hand.new.pass) }
-{
-    if pool.rack.benches() == 1 {
-        begin_alone(rt, pool, hand, node, e)
-    } else {
-        begin_near(rt, pool, hand, node)
-    }
-}
-
 // Worker 0 does what its machine chooses, or else rests.
 fn lead_work<S: Crew, P: Poller, C: Clock, R: Wait>(
     rt: &R,
@@ -154,7 +129,7 @@ fn lead_work<S: Crew, P: Poller, C: Clock, R: Wait>(
     match duty_of(hand.pass.machine(), hand.pass.worker(), 0) {
         Duty::Leave(_) => Turn::Left,
         Duty::Record(e) => record_own(rt, pool, hand, e),
-        Duty::Begin(node, e) => lead_begin(rt, pool, hand, node, e),
+        Duty::Begin(node, e) => begin_chosen(rt, pool, hand, node, e),
         Duty::Rest => rest(pool, hand, outlook, poller, clock, left),
     }
 }
