@@ -1,6 +1,7 @@
 // The turns of worker 0 alone.
 ghost use Rattle.std.specs.Prelude.{◌≡◌, ◌≤◌, ◌++◌, ◌∷◌, [], ℕ, true, false, List, length, IfOk};
 ghost use Rattle.gcd_event.specs.declared.event.Event.{Event};
+ghost use Rattle.gcd_history.specs.History.{choice_of};
 ghost use Rattle.gcd_jobs.specs.Contents.{contents};
 ghost use Rattle.gcd_machine.specs.Stands.{StandsFor};
 ghost use Rattle.gcd_outer.specs.Outside.{ClockState};
@@ -42,18 +43,20 @@ fn work<P: Poller, C: Clock>(
     files: &[Vec<u8>],
     poller: &mut P,
     clock: &mut C,
+    chosen: Option<Event>,
     left: Option<u32>,
 )
     requires run { IsRun plan.now (contents files.now) run.old.journal.items run.old.values.items run.old.machine }
     requires room { HasRoom plan.now run.old.journal.items }
     requires free { IsFree plan.now run.old.journal.items outlook.old.news (P.state poller.old) left }
+    requires chosen { choice_of plan.now run.old.journal.items 0 0 ≡ chosen }
     ensures run { IsRun plan.now (contents files.now) run.new.journal.items run.new.values.items run.new.machine }
     ensures kept { KeepsListens P.tells (P.state poller.old) (P.state poller.new) }
     ensures going { (before : PollerState) (early : ClockState)
         → IsGoing P.tells C.tells plan.now before early (P.state poller.old) (C.state clock.old) run.old.journal.items outlook.old
         → IsGoing P.tells C.tells plan.now before early (P.state poller.new) (C.state clock.new) run.new.journal.items outlook.new }
 {
-    if let Some(e) = run.machine.choose(0, 0) {
+    if let Some(e) = chosen {
         run.record(plan, files, e);
         return;
     }
@@ -91,8 +94,8 @@ fn turn<P: Poller, C: Clock>(
             run.put(plan, files, e);
             true
         }
-        Ask::Work { left } => {
-            work(run, outlook, plan, files, poller, clock, left);
+        Ask::Work { chosen, left } => {
+            work(run, outlook, plan, files, poller, clock, chosen, left);
             true
         }
     }

@@ -1,5 +1,5 @@
 -- Histories, an event on: what stays active or cancelled, and where a Ready or a FeedEnd may come.
-use Rattle.std.proofs.Common.{◌≡◌, ◌∙◌, ◌++◌, ◌&&◌, ◌==◌, ℕ, Bool, true, false, not, List, [], ◌∷◌, None, length, reverse, sym, subst, refl, arith, eq-eqb}
+use Rattle.std.proofs.Common.{◌≡◌, ◌∙◌, ◌++◌, ◌&&◌, ◌==◌, ℕ, Bool, true, false, not, List, [], ◌∷◌, Option, None, is_some, length, ap, reverse, sym, subst, refl, arith, eq-eqb}
 use Rattle.std.specs.Prelude.{Contains, nat_lt, nat_le}
 use Rattle.std.specs.Option.{option_map_or}
 use Rattle.std.proofs.lemmas.Bool.{and_parts, and_from, both_ways, or_left, or_right, not-true, not_from_false}
@@ -11,14 +11,17 @@ use Rattle.gcd_plan.specs.Limits.{max_value}
 use Rattle.gcd_plan.specs.declared.numbers.Obj.{Obj}
 use Rattle.gcd_plan.specs.StartRule.{first_of}
 use Rattle.gcd_plan.specs.declared.why.Why.TheVariants.{Over, NoSuch, NotLive}
+use Rattle.gcd_plan.proofs.Options.{some_from_is_some}
 use Rattle.gcd_event.specs.declared.event.Event.{Event}
 use Rattle.gcd_event.specs.declared.event.Event.TheVariants.{Ready, FeedEnd, Halt}
-use Rattle.gcd_history.specs.Ends.{is_halted}
-use Rattle.gcd_history.specs.History.{is_active, is_cancelled, is_live_feed, why}
+use Rattle.gcd_history.specs.Choice.{is_work}
+use Rattle.gcd_history.specs.Ends.{IsQuiescent, is_halted}
+use Rattle.gcd_history.specs.History.{choice_of, is_active, is_cancelled, is_live_feed, why}
 use Rattle.gcd_history.specs.Permitted.{is_feed, is_halted as is_halted_after}
 use Rattle.gcd_history.specs.Sources.{is_live_feed as is_live_after}
 use Rattle.gcd_history.specs.Submitted.{cancels}
 use Rattle.gcd_history.proofs.Lists.{list_any-reverse, reverse_push}
+use Rattle.gcd_history.proofs.PublicLaws.{choice_is_permitted, quiescent_stands}
 use Rattle.gcd_history.proofs.Reasons.{allowed, at_feed_end, at_ready}
 use Rattle.gcd_turn.specs.Hearing.{MayEnd}
 use Rattle.gcd_turn.specs.Promises.{WasLive}
@@ -132,3 +135,11 @@ was_live_now plan h s live = record {
   within = omega arith;
   live = subst (λ k. is_live_feed plan k s ≡ true) (sym (take_all (length h) h (omega arith))) live;
 }
+
+-- where worker 0 has a choice the history is not quiescent
+pub unquiet_at_choice : (plan : PlanView) (h : List Event) (chosen : Option Event) → chosen ≡ choice_of plan h 0 0 → is_some chosen ≡ true
+    → IsQuiescent plan h → ⊥
+unquiet_at_choice plan h chosen is some quiet =
+    let one = some_from_is_some chosen some in
+    let choice = choice_is_permitted plan h 0 0 one.0 (sym is ∙ one.1) in
+    both_ways (is_work one.0) (ap is_work (quiescent_stands plan h one.0 quiet choice.permitted)) choice.work

@@ -3,7 +3,7 @@ use Rattle.std.specs.Prelude.{◌≡◌, ◌≤◌, ◌<◌, ◌+◌, ◌⊎◌,
 use Rattle.gcd_plan.specs.PlanView.{PlanView}
 use Rattle.gcd_event.specs.declared.event.Event.{Event}
 use Rattle.gcd_event.specs.declared.event.Event.TheVariants.{Start, Act as Acted, Wake, End, Deliver, DeliverEnd, Tick, Ready, FeedEnd, Misuse, Halt}
-use Rattle.gcd_history.specs.History.{is_live_feed, next_due_of}
+use Rattle.gcd_history.specs.History.{choice_of, is_live_feed, next_due_of}
 use Rattle.gcd_machine.specs.Stands.{StandsFor}
 use Rattle.gcd_refinement.specs.MachineView.{MachineView}
 use Rattle.gcd_outer.specs.Outside.{ClockState, Rises}
@@ -73,12 +73,12 @@ pub record IsFree (plan : PlanView) (h : List Event) (news : List Tell) (poller 
   pub left_is : IsLeft plan h left
 
 -- what is asked at a history: to leave where it has ended, and only there; else to put a Halt, the first of the news or a
--- Tick; or to work
+-- Tick; or to work, on what worker 0 chooses
 abbrev pub IsAsked : PlanView → List Event → OutlookView → (present : ℕ) → (old new : PollerState) → Ask → Type 0
 IsAsked plan h o present old new Leave = HasEnded plan h × HasNotFailed old new
 IsAsked plan h o present old new (Told e) = HasRoom plan h × (first_event o.news ≡ Some e) × HasNotFailed old new
 IsAsked plan h o present old new (Put e) = HasRoom plan h × IsPut plan h o.start present old new e
-IsAsked plan h o present old new (Work left) = HasRoom plan h × IsFree plan h o.news new left × HasNotFailed old new
+IsAsked plan h o present old new (Work chosen left) = HasRoom plan h × IsFree plan h o.news new left × HasNotFailed old new × (choice_of plan h 0 0 ≡ chosen)
 
 -- the clock was waited on for the next due time at the history, or not at all
 abbrev pub WaitedFor : PlanView → List Event → (start : ℕ) → ClockState → ClockState → Type 0

@@ -11,8 +11,10 @@ pub enum Ask {
     Told(Event),
     /// To record this: a Halt, or a Tick.
     Put(Event),
-    /// To record what worker 0 chooses; where it has no choice, [`Outlook::idle`](crate::Outlook::idle).
+    /// To record `chosen`, what worker 0 chooses; where that is None, [`Outlook::idle`](crate::Outlook::idle).
     Work {
+        /// What worker 0 chooses, from object 0 on; None exactly where no event of worker 0 is permitted.
+        chosen: Option<Event>,
         /// How many milliseconds the next due time is ahead, at least 1; None where there is none.
         left: Option<u32>,
     },

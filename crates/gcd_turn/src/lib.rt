@@ -12,7 +12,7 @@
 //! | | 2. each live feed that is not watched is watched, by number | at a fault [`Ask::Put`] of a Halt |
 //! | | 3. news | [`Ask::Told`]: the first piece, as a Ready or a FeedEnd; then, placed or barred, [`Outlook::settle`] |
 //! | | 4. a due time is left: the clock is asked | [`Ask::Put`] of a Tick where one has come |
-//! | | 5. the engine's: what worker 0 chooses | [`Ask::Work`], with the milliseconds to the next due time |
+//! | | 5. the engine's: what worker 0 chooses | [`Ask::Work`], with that choice and the milliseconds to the next due time |
 //! | `idle` | 6. where a feed is live, one poll | a Halt at a fault; else what came is news |
 //! | | 7. else, where a due time is left and nothing runs, a wait for it | |
 //!

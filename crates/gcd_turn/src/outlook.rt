@@ -68,8 +68,8 @@ impl Outlook {
     }
 
     /// The first steps of a turn (this project's own rule): it leaves where the run has ended; it watches what is live; and it
-    /// gives the first of what was told, or a Tick that is due. The clock is asked only where there is no news and a due time
-    /// is left.
+    /// gives the first of what was told, a Tick that is due, or else what worker 0 chooses. The clock is asked only where there
+    /// is no news and a due time is left, and the machine for a choice once, and once more only where the run is quiescent.
     pub fn ask<P: Poller, C: Clock>(
         &self,
         plan: &Plan,
@@ -87,7 +87,8 @@ impl Outlook {
         ensures goes_on { (C.state clock.old).present ≤ (C.state clock.new).present }
         ensures waited { C.tells ≡ true → (C.state clock.new).waited ≡ (C.state clock.old).waited }
     {
-        if is_over(machine) {
+        let chosen = machine.choose(0, 0);
+        if is_over(machine, chosen) {
             return Ask::Leave;
         }
         if watch_new(plan, machine, poller).is_err() {
@@ -98,7 +99,7 @@ impl Outlook {
         }
         match next_time(self.start, plan, machine, clock) {
             Time::Tick(at) => Ask::Put(Event::Tick { at }),
-            Time::Left(left) => Ask::Work { left },
+            Time::Left(left) => Ask::Work { chosen, left },
         }
     }
 

@@ -3,7 +3,7 @@ ghost use Rattle.std.specs.Prelude.{◌≡◌, ◌≤◌, ◌<◌, ◌++◌, [],
 ghost use Rattle.gcd_plan.specs.Limits.{max_events, max_objects};
 ghost use Rattle.gcd_plan.specs.PlanView.{PlanView};
 ghost use Rattle.gcd_event.specs.declared.event.Event.{Event};
-ghost use Rattle.gcd_history.specs.History.{is_live_feed, running_of};
+ghost use Rattle.gcd_history.specs.History.{choice_of, is_live_feed, running_of};
 ghost use Rattle.gcd_machine.specs.Stands.{StandsFor};
 ghost use Rattle.gcd_outer.specs.declared.limits.TheConstants.{MAX_FEEDS};
 ghost use Rattle.gcd_outer.specs.Tells.{PollerState};
@@ -44,13 +44,24 @@ pub(crate) fn event_of(tell: Tell) -> Event
     }
 }
 
-// Whether nothing more is recorded: the run is halted, full or quiescent.
-pub(crate) fn is_over(machine: &Machine) -> bool
+// Whether nothing more is recorded: the run is halted, full or quiescent. A run in which worker 0 has a choice is not quiescent,
+// so only one without a choice is looked at.
+pub(crate) fn is_over(machine: &Machine, chosen: Option<Event>) -> bool
+    requires { (plan : PlanView) (h : List Event) → StandsFor machine.now plan h → chosen ≡ choice_of plan h 0 0 }
     ensures over { (plan : PlanView) (h : List Event) → StandsFor machine.now plan h → length h ≤ max_events
         → result ≡ true → HasEnded plan h }
     ensures goes_on { (plan : PlanView) (h : List Event) → StandsFor machine.now plan h → result ≡ false → HasRoom plan h }
 {
-    machine.is_halted() || machine.len() >= MAX_EVENTS || machine.is_quiescent()
+    if machine.is_halted() {
+        return true;
+    }
+    if machine.len() >= MAX_EVENTS {
+        return true;
+    }
+    if chosen.is_some() {
+        return false;
+    }
+    machine.is_quiescent()
 }
 
 // The live feed with the least number from this one on. It costs nothing to speak of where no feed is live. A machine that stands

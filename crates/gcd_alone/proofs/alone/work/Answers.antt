@@ -1,16 +1,24 @@
-use Rattle.std.proofs.Common.{[], subst}
+use Rattle.std.proofs.Common.{[], ◌∙◌, subst}
 use Rattle.gcd_event.specs.declared.event.Event.{Event}
+use Rattle.gcd_history.proofs.PublicLaws.{choice_is_permitted}
 use Rattle.gcd_alone.specs.Going.{IsPlaced}
 use Rattle.gcd_turn.proofs.TimeSteps.{time_waited}
 use Rattle.gcd_alone.proofs.Goings.{going_halted, going_on, going_worked}
 use Rattle.gcd_alone.proofs.alone.work.Goals as goal
 
+pub record-requires-clause-next : goal.record-requires-clause-next
+record-requires-clause-next g c =
+    let is = c.requires.chosen ∙ c.in-Some.is in
+    let choice = choice_is_permitted c.args.plan.now c.args.run.now.journal.items 0 0 c.in-Some.e is in
+    record { permitted = choice.permitted; room = c.requires.room.room; by = choice.by; chosen = λ work. is }
+
 pub returns-in-Some-clause-going : goal.returns-in-Some-clause-going
 returns-in-Some-clause-going g c = λ before early going.
+    let choice = choice_is_permitted c.args.plan.now c.args.run.now.journal.items 0 0 c.in-Some.e (c.requires.chosen ∙ c.in-Some.is) in
     rw c.record.ensures.journal
     (going_worked g.P.Poller.tells g.C.Clock.tells c.args.plan.now before early (g.P.Poller.state c.args.poller.now) (g.C.Clock.state c.args.clock.now)
     c.args.run.now.journal.items c.args.outlook.now c.in-Some.e
-    (c.in-Some.ensures.permitted c.args.plan.now c.args.run.now.journal.items c.requires.run.stands) c.requires.room.room c.in-Some.ensures.work going)
+    choice.permitted c.requires.room.room choice.work going)
 
 pub returns-in_default-idle-clause-going : goal.returns-in_default-idle-clause-going
 returns-in_default-idle-clause-going g c = λ before early going.

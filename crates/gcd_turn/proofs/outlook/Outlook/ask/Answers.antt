@@ -20,4 +20,5 @@ returns-in-Left-clause-asked g c = λ h stands few.
         left_is = c.in-Left.ensures.time h stands;
       },
       on_ok (HasNotFailed (g.P.Poller.state c.args.poller.now) (g.P.Poller.state c.watch_new.new.poller)) c.watch_new.result no_error c.watch_new.ensures.ok,
+      sym (c.choose-chosen.ensures.choice c.args.plan.now h stands),
     )
