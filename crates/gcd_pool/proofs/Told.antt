@@ -57,3 +57,20 @@ module _ {S : Type 0} (shape : S → Shape) (gives : S → ℕ → Type 0) (b : 
       let duty = tells v.terms.plan v.seen (stands_as m machine) is.few in
       let it = chosen w from e worker duty.0 in
       (begun_node v.terms.plan v.seen e n (valid_plan shape gives b p is) it.1 duty.1, duty.1, it.0, it.1, it.2)
+
+  -- what worker 0 chooses
+  pub to_lead : (plan : PlanView) (e : Event) → plan ≡ (view p).terms.plan → (view p).worker ≡ 0 → choice_of plan (view p).seen 0 0 ≡ Some e
+      → (worker_of e ≡ (view p).worker) × (why (view p).terms.plan (view p).seen e ≡ None) × (is_work e ≡ true)
+  to_lead plan e same head is =
+      let v = view p in
+      let it = choice_is_permitted v.terms.plan v.seen 0 0 e (subst (λ (q : PlanView). choice_of q v.seen 0 0 ≡ Some e) same is) in
+      (it.by ∙ sym head, it.permitted, it.work)
+
+  -- the node on which an event that may come next begins a run
+  pub begins_at : (m : MachineView) (n : Obj) (e : Event) → m ≡ p.machine → why (view p).terms.plan (view p).seen e ≡ None
+      → ((plan : PlanView) (h : List Event) → StandsFor m plan h → why plan h e ≡ None → Some n ≡ begun_on plan h e)
+      → (is_node (view p).terms.plan n.0 ≡ true) × (begun_on (view p).terms.plan (view p).seen e ≡ Some n)
+  begins_at m n e machine may tells =
+      let v = view p in
+      let on = sym (tells v.terms.plan v.seen (stands_as m machine) may) in
+      (begun_node v.terms.plan v.seen e n (valid_plan shape gives b p is) may on, on)

@@ -38,7 +38,7 @@ pub fn begin<S: Slot>(board: &RowBoard<S>, pass: &mut RowPass<S>, drain: &Drain,
 }
 
 // The same for an event that the pass's machine permits: it is not judged again before the first exchange.
-fn begin_chosen<S: Slot>(board: &RowBoard<S>, pass: &mut RowPass<S>, drain: &Drain, e: Event) -> Put
+fn put_begin<S: Slot>(board: &RowBoard<S>, pass: &mut RowPass<S>, drain: &Drain, e: Event) -> Put
     requires pass { IsPassOf S.shape S.gives board.now pass.old }
     requires worker { worker_of e ≡ (view pass.old).worker }
     requires begins { begun_on (view pass.old).terms.plan (view pass.old).seen e ≡ Some (node_of drain.now) }
@@ -94,45 +94,49 @@ fn begins_run<S: Slot>(board: &RowBoard<S>, pass: &mut RowPass<S>, drain: &Drain
     ensures work { AddsWork (view pass.old) (view pass.new) }
     ensures fresh { IsFresh S.shape (view pass.new) (slots pass.new) }
 {
-    matches!(begin_chosen(board, pass, drain, e), Put::Placed(_))
+    matches!(put_begin(board, pass, drain, e), Put::Placed(_))
 }
 
-// Begins what may begin on the Drain's node. Whether an event was placed.
-fn start_with<S: Slot>(
-    plan: &Plan,
-    board: &RowBoard<S>,
-    pass: &mut RowPass<S>,
-    drain: &Drain,
-) -> bool
-    requires pass { IsPassOf S.shape S.gives board.now pass.old }
-    requires plan { plan.now ≡ (view pass.old).terms.plan }
-    requires node { (node_of drain.now).0 < length plan.now.objects }
-    requires cells { length (view pass.old).terms.plan.blocks ≤ length (view pass.old).terms.cells }
-    requires fresh { IsFresh S.shape (view pass.old) (slots pass.old) }
-    ensures pass { IsPassOf S.shape S.gives board.now pass.new }
-    ensures view { GoesOn (view pass.old) (view pass.new) }
-    ensures work { AddsWork (view pass.old) (view pass.new) }
-    ensures fresh { IsFresh S.shape (view pass.new) (slots pass.new) }
-{
-    match begin_on(plan, pass.machine(), pass.worker(), drain.node()) {
-        Some(e) => begins_run(board, pass, drain, e),
-        None => false,
-    }
-}
-
-// Whether the node is a concurrent queue on which a block waits.
-fn has_more(plan: &Plan, machine: &Machine, node: Obj) -> bool
+// Whether others may begin a run on the node: it is a concurrent queue on which a block waits, and the rack has another bench.
+fn others_may_begin(plan: &Plan, rack: &Rack, machine: &Machine, node: Obj) -> bool
     requires node { node.0 < length plan.now.objects }
     requires plan { machine.now.plan ≡ plan.now }
 {
+    if rack.benches() == 1 {
+        return false;
+    }
     if !plan.kind(node).is_concurrent() {
         return false;
     }
     machine.first_waiting(node).is_some()
 }
 
+// Begins the run of this event on the Drain's node, and lays the Drain down.
+fn begin_with<S: Slot>(pool: &Pool<S>, hand: &mut Hand<S>, drain: Drain, e: Event) -> Turn
+    requires ready { IsReady S.shape S.gives pool.now hand.old }
+    requires drain { IsRackDrain pool.now.rack.now drain }
+    requires worker { worker_of e ≡ (view hand.old.pass).worker }
+    requires begins { begun_on (view hand.old.pass).terms.plan (view hand.old.pass).seen e ≡ Some (node_of drain) }
+    requires may { why (view hand.old.pass).terms.plan (view hand.old.pass).seen e ≡ None }
+    requires work { is_work e ≡ true }
+    ensures serving { Serving S.shape S.gives pool.now hand.old hand.new }
+    ensures work { AddsWork (view hand.old.pass) (view hand.new.pass) }
+    ensures after { AfterTurn S.shape result (view hand.new.pass) (slots hand.new.pass) }
+    ensures laid { IsLaidDown hand.old.bench drain hand.new.bench }
+{
+    let node = drain.node();
+    if begins_run(pool.board, &mut hand.pass, &drain, e) {
+        let more = others_may_begin(pool.plan, pool.rack, hand.pass.machine(), node);
+        lay_down(pool.rack, &mut hand.bench, drain, more);
+        Turn::Placed
+    } else {
+        pool.rack.sleep(&mut hand.bench, drain);
+        Turn::Waited
+    }
+}
+
 // Begins what may begin on the Drain's node, and lays the Drain down.
-fn begin_with<S: Slot>(pool: &Pool<S>, hand: &mut Hand<S>, drain: Drain) -> Turn
+fn begin_any<S: Slot>(pool: &Pool<S>, hand: &mut Hand<S>, drain: Drain) -> Turn
     requires ready { IsReady S.shape S.gives pool.now hand.old }
     requires drain { IsRackDrain pool.now.rack.now drain }
     ensures serving { Serving S.shape S.gives pool.now hand.old hand.new }
@@ -140,14 +144,13 @@ fn begin_with<S: Slot>(pool: &Pool<S>, hand: &mut Hand<S>, drain: Drain) -> Turn
     ensures after { AfterTurn S.shape result (view hand.new.pass) (slots hand.new.pass) }
     ensures laid { IsLaidDown hand.old.bench drain hand.new.bench }
 {
-    let node = drain.node();
-    if start_with(pool.plan, pool.board, &mut hand.pass, &drain) {
-        let more = has_more(pool.plan, hand.pass.machine(), node);
-        lay_down(pool.rack, &mut hand.bench, drain, more);
-        Turn::Placed
-    } else {
-        pool.rack.sleep(&mut hand.bench, drain);
-        Turn::Waited
+    let worker = hand.pass.worker();
+    match begin_on(pool.plan, hand.pass.machine(), worker, drain.node()) {
+        Some(e) => begin_with(pool, hand, drain, e),
+        None => {
+            pool.rack.sleep(&mut hand.bench, drain);
+            Turn::Waited
+        }
     }
 }
 
@@ -160,31 +163,13 @@ pub fn begin_near<S: Crew, R: Wait>(rt: &R, pool: &Pool<S>, hand: &mut Hand<S>, 
     ensures after { AfterTurn S.shape result (view hand.new.pass) (slots hand.new.pass) }
 {
     match find_drain(rt, pool.rack, &mut hand.bench, node) {
-        Some(drain) => begin_with(pool, hand, drain),
+        Some(drain) => begin_any(pool, hand, drain),
         None => Turn::Out(node),
     }
 }
 
-// Begins the run of this event with its node's Drain, and lays that asleep.
-fn begin_awake<S: Slot>(pool: &Pool<S>, hand: &mut Hand<S>, drain: Drain, e: Event) -> Turn
-    requires ready { IsReady S.shape S.gives pool.now hand.old }
-    requires drain { IsRackDrain pool.now.rack.now drain }
-    requires worker { worker_of e ≡ (view hand.old.pass).worker }
-    requires begins { begun_on (view hand.old.pass).terms.plan (view hand.old.pass).seen e ≡ Some (node_of drain) }
-    requires may { why (view hand.old.pass).terms.plan (view hand.old.pass).seen e ≡ None }
-    requires work { is_work e ≡ true }
-    ensures serving { Serving S.shape S.gives pool.now hand.old hand.new }
-    ensures work { AddsWork (view hand.old.pass) (view hand.new.pass) }
-    ensures after { AfterTurn S.shape result (view hand.new.pass) (slots hand.new.pass) }
-    ensures laid { IsLaidDown hand.old.bench drain hand.new.bench }
-{
-    let placed = begins_run(pool.board, &mut hand.pass, &drain, e);
-    pool.rack.sleep(&mut hand.bench, drain);
-    if placed { Turn::Placed } else { Turn::Waited }
-}
-
-// Begins the run of this event, where no other bench takes Drains: the node's Drain sleeps, unless it lies in a deque since earlier.
-pub fn begin_alone<S: Crew, R: Wait>(
+// Begins the run of this event on its node, where the node's Drain sleeps; or else what may begin on a Drain that is found.
+pub fn begin_chosen<S: Crew, R: Wait>(
     rt: &R,
     pool: &Pool<S>,
     hand: &mut Hand<S>,
@@ -202,7 +187,7 @@ pub fn begin_alone<S: Crew, R: Wait>(
     ensures after { AfterTurn S.shape result (view hand.new.pass) (slots hand.new.pass) }
 {
     match pool.rack.wake(&mut hand.bench, node) {
-        Some(drain) => begin_awake(pool, hand, drain, e),
+        Some(drain) => begin_with(pool, hand, drain, e),
         None => begin_near(rt, pool, hand, node),
     }
 }

@@ -50,7 +50,7 @@ fn node_of_start(machine: &Machine, blk: Blk) -> Option<Obj>
 }
 
 // The node on which a permitted event begins a run.
-fn node_of_begin(machine: &Machine, e: Event) -> Option<Obj>
+pub fn node_of_begin(machine: &Machine, e: Event) -> Option<Obj>
     ensures { (plan : PlanView) (h : List Event) → StandsFor machine.now plan h → why plan h e ≡ None → result ≡ begun_on plan h e }
 {
     match e {

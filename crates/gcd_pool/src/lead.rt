@@ -2,23 +2,21 @@
 ghost use Rattle.std.specs.Prelude.{◌≡◌, ◌≤◌, true, false, length, None, Some, IsTrue};
 ghost use Rattle.gcd_event.specs.declared.event.Event.{Event};
 ghost use Rattle.gcd_history.specs.Choice.{is_work, worker_of};
-ghost use Rattle.gcd_history.specs.History.{why};
+ghost use Rattle.gcd_history.specs.History.{choice_of, why};
 ghost use Rattle.gcd_outer.specs.Outside.{ClockState};
 ghost use Rattle.gcd_outer.specs.Tells.{PollerState};
 ghost use Rattle.gcd_row.specs.Passes.{IsPassOf, slots, view};
 ghost use Rattle.gcd_turn.specs.Asked.{IsFree, KeepsListens};
 ghost use Rattle.gcd_turn.specs.Turns.{HasRoom, first_event};
 ghost use Rattle.gcd_alone.specs.Going.{IsGoing};
-ghost use Rattle.gcd_plan.specs.Kinds.{is_node};
-ghost use Rattle.gcd_pool.specs.Duties.{begun_on};
 ghost use Rattle.gcd_pool.specs.Hands.{GoesOn, IsFresh, IsReady, Served, Serving};
 ghost use Rattle.gcd_pool.specs.Leads.{IsPut, IsToldPut, Led};
 ghost use Rattle.gcd_pool.specs.Turns.{AfterTurn};
 ghost use Rattle.gcd_pool.specs.Works.{AddsWork};
 
 use crate::crew::Crew;
-use crate::drains::{begin_alone, begin_near};
-use crate::duty::{Duty, duty_of};
+use crate::drains::begin_chosen;
+use crate::duty::node_of_begin;
 use crate::hand::{Hand, Pool};
 use crate::idle::Idle;
 use crate::own::record_own;
@@ -27,7 +25,6 @@ use crate::team::Lead;
 use crate::turn::Turn;
 use gcd_event::Event;
 use gcd_outer::{Clock, Poller};
-use gcd_plan::Obj;
 use gcd_row::{Put, RowBoard, RowPass, Slot};
 use gcd_turn::{Ask, Outlook};
 use std::sync::Wait;
@@ -106,32 +103,23 @@ fn rest<S: Slot, P: Poller, C: Clock>(
     }
 }
 
-// Worker 0 begins a run on the node: that of this event, where the rack has no other bench.
-fn lead_begin<S: Crew, R: Wait>(
-    rt: &R,
-    pool: &Pool<S>,
-    hand: &mut Hand<S>,
-    node: Obj,
-    e: Event,
-) -> Turn
+// Worker 0 records what its machine chose, or begins that run.
+fn lead_chosen<S: Crew, R: Wait>(rt: &R, pool: &Pool<S>, hand: &mut Hand<S>, e: Event) -> Turn
     requires ready { IsReady S.shape S.gives pool.now hand.old }
-    requires node { IsTrue (is_node (view hand.old.pass).terms.plan node.0) }
     requires worker { worker_of e ≡ (view hand.old.pass).worker }
-    requires begins { begun_on (view hand.old.pass).terms.plan (view hand.old.pass).seen e ≡ Some node }
     requires may { why (view hand.old.pass).terms.plan (view hand.old.pass).seen e ≡ None }
     requires work { is_work e ≡ true }
     ensures serving { Serving S.shape S.gives pool.now hand.old hand.new }
     ensures work { AddsWork (view hand.old.pass) (view hand.new.pass) }
     ensures after { AfterTurn S.shape result (view hand.new.pass) (slots hand.new.pass) }
 {
-    if pool.rack.benches() == 1 {
-        begin_alone(rt, pool, hand, node, e)
-    } else {
-        begin_near(rt, pool, hand, node)
+    match node_of_begin(hand.pass.machine(), e) {
+        Some(node) => begin_chosen(rt, pool, hand, node, e),
+        None => record_own(rt, pool, hand, e),
     }
 }
 
-// Worker 0 does what its machine chooses, or else rests.
+// Worker 0 does what its machine chose, or else rests.
 fn lead_work<S: Crew, P: Poller, C: Clock, R: Wait>(
     rt: &R,
     pool: &Pool<S>,
@@ -139,23 +127,23 @@ fn lead_work<S: Crew, P: Poller, C: Clock, R: Wait>(
     outlook: &mut Outlook,
     poller: &mut P,
     clock: &mut C,
+    chosen: Option<Event>,
     left: Option<u32>,
 ) -> Turn
     requires ready { IsReady S.shape S.gives pool.now hand.old }
     requires head { (view hand.old.pass).worker ≡ 0 }
     requires room { HasRoom pool.now.plan.now (view hand.old.pass).seen }
     requires free { IsFree pool.now.plan.now (view hand.old.pass).seen outlook.old.news (P.state poller.old) left }
+    requires chosen { choice_of pool.now.plan.now (view hand.old.pass).seen 0 0 ≡ chosen }
     ensures serving { Serving S.shape S.gives pool.now hand.old hand.new }
     ensures after { AfterTurn S.shape result (view hand.new.pass) (slots hand.new.pass) }
     ensures going { (before : PollerState) (early : ClockState)
         → IsGoing P.tells C.tells pool.now.plan.now before early (P.state poller.old) (C.state clock.old) (view hand.old.pass).seen outlook.old
         → IsGoing P.tells C.tells pool.now.plan.now before early (P.state poller.new) (C.state clock.new) (view hand.new.pass).seen outlook.new }
 {
-    match duty_of(hand.pass.machine(), hand.pass.worker(), 0) {
-        Duty::Leave(_) => Turn::Left,
-        Duty::Record(e) => record_own(rt, pool, hand, e),
-        Duty::Begin(node, e) => lead_begin(rt, pool, hand, node, e),
-        Duty::Rest => rest(pool, hand, outlook, poller, clock, left),
+    match chosen {
+        Some(e) => lead_chosen(rt, pool, hand, e),
+        None => rest(pool, hand, outlook, poller, clock, left),
     }
 }
 
@@ -180,7 +168,9 @@ fn answer<S: Crew, P: Poller, C: Clock, R: Wait>(
         Ask::Leave => Turn::Left,
         Ask::Told(e) => put_told(pool.board, &mut hand.pass, outlook, e),
         Ask::Put(e) => put_outside(pool.board, &mut hand.pass, e),
-        Ask::Work { left } => lead_work(rt, pool, hand, outlook, poller, clock, left),
+        Ask::Work { chosen, left } => {
+            lead_work(rt, pool, hand, outlook, poller, clock, chosen, left)
+        }
     }
 }
 

@@ -6,7 +6,7 @@ ghost use Rattle.gcd_pool.specs.Turns.{AfterTurn};
 ghost use Rattle.gcd_pool.specs.Works.{AddsWork};
 
 use crate::crew::Crew;
-use crate::drains::begin_near;
+use crate::drains::begin_chosen;
 use crate::duty::{Duty, duty_of};
 use crate::hand::{Hand, Pool};
 use crate::own::record_own;
@@ -38,7 +38,7 @@ pub fn take_turn<S: Crew, R: Wait>(rt: &R, pool: &Pool<S>, hand: &mut Hand<S>, f
     match duty_of(hand.pass.machine(), hand.pass.worker(), from) {
         Duty::Leave(_) => Turn::Left,
         Duty::Record(e) => record_own(rt, pool, hand, e),
-        Duty::Begin(node, _) => begin_near(rt, pool, hand, node),
+        Duty::Begin(node, e) => begin_chosen(rt, pool, hand, node, e),
         Duty::Rest => Turn::Rested,
     }
 }

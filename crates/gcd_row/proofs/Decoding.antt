@@ -19,3 +19,7 @@ decoded {S} n v w E (Some e) some_is none_is zero_says other_says = let up = wor
 pub if_some : (n : ℕ) (E : Type 0) (r : Option Event) → IfSome r (λ e. IsFitting e × (word_of e ≡ n)) → (n ≢ 0 → E) → IfSome r (λ _. E)
 if_some n E None some_is says = tt
 if_some n E (Some e) some_is says = let up = word_bounds e some_is.0 in says (λ (z : n ≡ 0). absurd (omega (arith, some_is.1, up.0)))
+
+-- no event's word is 0
+pub zero_is_none : (n : ℕ) → n ≡ 0 → (e : Event) → IsFitting e → word_of e ≢ n
+zero_is_none n zero e fits = λ (is : word_of e ≡ n). let up = word_bounds e fits in absurd (omega (arith, is, zero, up.0))

@@ -1,5 +1,8 @@
 // The steps on the words of the row.
-ghost use Rattle.std.specs.Prelude.{◌≡◌, ◌<◌, false, length, MatchOption, IfSome, None};
+ghost use Rattle.std.specs.Prelude.{◌≡◌, ◌≢◌, ◌<◌, false, length, MatchOption, IfSome, IfNone, None};
+ghost use Rattle.gcd_event.specs.declared.event.Event.{Event};
+ghost use Rattle.gcd_event.specs.Fits.{IsFitting};
+ghost use Rattle.gcd_event.specs.Words.{word_of};
 ghost use Rattle.gcd_history.specs.Choice.{worker_of};
 ghost use Rattle.gcd_history.specs.History.{why};
 ghost use Rattle.gcd_plan.specs.Limits.{max_events};
@@ -14,6 +17,18 @@ use crate::view::View;
 use atomic_table::Seat;
 use gcd_event::{Event, of_word, to_word};
 
+// The event that has the word. 0 is no event's, and is found so often that it is told without decoding.
+#[tactic(auto, using(crate::proofs::Decoding::zero_is_none))]
+fn event_of(word: u64) -> Option<Event>
+    ensures spelled { IfSome result (λ e. IsFitting e × (word_of e ≡ word)) }
+    ensures silent { IfNone result ((e : Event) → IsFitting e → word_of e ≢ word) }
+{
+    if word == 0 {
+        return None;
+    }
+    of_word(word)
+}
+
 impl<S: Slot> RowBoard<S> {
     // The event n, where there is one; else the row has n events.
     pub(crate) fn read(&self, seat: &mut Seat<S, View<S>>, n: u32) -> Option<Event>
@@ -24,7 +39,7 @@ impl<S: Slot> RowBoard<S> {
         ensures view { MatchOption result (EndsHere seat.old.me.0 seat.new.me.0) (λ e. SeesMore seat.old.me.0 e seat.new.me.0) }
     {
         let word = self.table.shared.load::<Look>(seat, n as usize + 1);
-        of_word(word)
+        event_of(word)
     }
 
     // Places the event behind the n that were seen, or gives the one that another pass has placed there.
@@ -44,7 +59,7 @@ impl<S: Slot> RowBoard<S> {
             .table
             .shared
             .compare_exchange::<Try>(seat, n as usize + 1, 0, word);
-        of_word(found)
+        event_of(found)
     }
 
     // A pass that has seen as many events as there can be has seen the row.

@@ -30,6 +30,8 @@ enum Step {
     Turns(u32),
     // It begins a run on the queue, if one may begin there.
     Begin,
+    // It begins the run that its machine chooses.
+    Choose,
 }
 
 // A step of a worker, what it comes to, and whether the queue's Drain lies in the worker's deque then, and not in its place.
@@ -55,6 +57,25 @@ static MEETING: [Row; 11] = [
     (1, Step::Begin, Turn::Placed, false),
     // Nothing waits.
     (0, Step::Begin, Turn::Waited, false),
+];
+
+// The same queue, where each worker begins what its machine chooses.
+static CHOICE: [Row; 9] = [
+    (0, Step::Turns(6), Turn::Placed, false),
+    // The first block runs, and the Drain stays in worker 0's deque.
+    (0, Step::Turns(2), Turn::Placed, false),
+    (1, Step::Look, Turn::Rested, false),
+    // The second, with the Drain from the deque, which has no room for it again.
+    (0, Step::Choose, Turn::Placed, false),
+    // Worker 1 has not seen that the second block has started, and comes too late for it.
+    (1, Step::Choose, Turn::Waited, false),
+    // The third, with the Drain that slept: another waits.
+    (1, Step::Choose, Turn::Placed, true),
+    (0, Step::Turns(1), Turn::Placed, false),
+    // The last.
+    (0, Step::Choose, Turn::Placed, false),
+    // Nothing waits, and each worker ends its run.
+    (1, Step::Turns(1), Turn::Placed, false),
 ];
 
 // A block waits, and a worker sees no more until the row is full.
@@ -150,6 +171,22 @@ fn begin<S: Crew, R: Wait + Abort>(
     (turn, pushed)
 }
 
+// Begins the run that the worker's machine chooses. Whether the Drain lies in the deque then.
+fn choose<S: Crew, R: Wait + Abort>(
+    rt: &R,
+    pool: &Pool<S>,
+    hand: &mut Hand<S>,
+    queue: Obj,
+) -> (Turn, bool)
+    requires ready { IsReady S.shape S.gives pool.now hand.old }
+    requires queue { IsTrue (is_node pool.now.plan.now queue.0) }
+    ensures { IsReady S.shape S.gives pool.now hand.new }
+{
+    let turn = turns(rt, pool, hand, 1);
+    let pushed = lies_in_deque(rt, pool.rack, &mut hand.bench, queue);
+    (turn, pushed)
+}
+
 // A step. What it comes to.
 fn make<S: Crew, R: Wait + Abort>(
     rt: &R,
@@ -166,6 +203,7 @@ fn make<S: Crew, R: Wait + Abort>(
         Step::Look => (look(pool, hand), false),
         Step::Turns(count) => (turns(rt, pool, hand, count), false),
         Step::Begin => begin(rt, pool, hand, queue),
+        Step::Choose => choose(rt, pool, hand, queue),
     }
 }
 
@@ -246,6 +284,7 @@ fn play<R: Wait + Abort>(rt: &R, alloc: Global, plan: &Plan, rows: &[Row]) {
 fn no_drain_is_lost_at_a_begin(rt: HostRuntime) -> Result<(), Fail> {
     let plan = plan_of_meeting(rt.alloc(), Kind::Concurrent, 4)?;
     play(&rt, rt.alloc(), &plan, &MEETING);
+    play(&rt, rt.alloc(), &plan, &CHOICE);
     let plan = plan_of_signals(rt.alloc())?;
     play(&rt, rt.alloc(), &plan, &FULL);
     Ok(())

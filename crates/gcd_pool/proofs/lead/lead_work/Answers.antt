@@ -1,39 +1,20 @@
+use Rattle.std.proofs.Common.{◌∙◌}
 use Rattle.gcd_row.specs.Passes.{view}
 use Rattle.gcd_pool.proofs.Leading.{going_adds}
 use Rattle.gcd_pool.proofs.LeadTurns.{hand_lawful}
-use Rattle.gcd_pool.proofs.Told.{to_begin, to_record}
+use Rattle.gcd_pool.proofs.Told.{to_lead}
 use Rattle.gcd_pool.proofs.lead.lead_work.Goals as goal
 
-pub record_own-requires-clause-worker : goal.record_own-requires-clause-worker
-record_own-requires-clause-worker g c = (to_record g.S.Slot.shape g.S.Slot.gives c.args.pool.now.board.now c.args.hand.now.pass c.requires.ready.of.pass c.machine.result.now c.worker.result 0 c.in-Record.e c.machine.ensures c.worker.ensures c.in-Record.ensures).0
+pub lead_chosen-requires-clause-worker : goal.lead_chosen-requires-clause-worker
+lead_chosen-requires-clause-worker g c = (to_lead g.S.Slot.shape g.S.Slot.gives c.args.pool.now.board.now c.args.hand.now.pass c.requires.ready.of.pass c.args.pool.now.plan.now c.in-Some.e c.requires.ready.of.plan c.requires.head (c.requires.chosen ∙ c.in-Some.is)).0
 
-pub record_own-requires-clause-may : goal.record_own-requires-clause-may
-record_own-requires-clause-may g c = (to_record g.S.Slot.shape g.S.Slot.gives c.args.pool.now.board.now c.args.hand.now.pass c.requires.ready.of.pass c.machine.result.now c.worker.result 0 c.in-Record.e c.machine.ensures c.worker.ensures c.in-Record.ensures).1
+pub lead_chosen-requires-clause-may : goal.lead_chosen-requires-clause-may
+lead_chosen-requires-clause-may g c = (to_lead g.S.Slot.shape g.S.Slot.gives c.args.pool.now.board.now c.args.hand.now.pass c.requires.ready.of.pass c.args.pool.now.plan.now c.in-Some.e c.requires.ready.of.plan c.requires.head (c.requires.chosen ∙ c.in-Some.is)).1
 
-pub record_own-requires-clause-work : goal.record_own-requires-clause-work
-record_own-requires-clause-work g c = (to_record g.S.Slot.shape g.S.Slot.gives c.args.pool.now.board.now c.args.hand.now.pass c.requires.ready.of.pass c.machine.result.now c.worker.result 0 c.in-Record.e c.machine.ensures c.worker.ensures c.in-Record.ensures).2
+pub lead_chosen-requires-clause-work : goal.lead_chosen-requires-clause-work
+lead_chosen-requires-clause-work g c = (to_lead g.S.Slot.shape g.S.Slot.gives c.args.pool.now.board.now c.args.hand.now.pass c.requires.ready.of.pass c.args.pool.now.plan.now c.in-Some.e c.requires.ready.of.plan c.requires.head (c.requires.chosen ∙ c.in-Some.is)).2
 
-pub lead_begin-requires-clause-node : goal.lead_begin-requires-clause-node
-lead_begin-requires-clause-node g c = (to_begin g.S.Slot.shape g.S.Slot.gives c.args.pool.now.board.now c.args.hand.now.pass c.requires.ready.of.pass c.machine.result.now c.worker.result 0 c.in-Begin.node c.in-Begin.e c.machine.ensures c.worker.ensures c.in-Begin.ensures).0
-
-pub lead_begin-requires-clause-begins : goal.lead_begin-requires-clause-begins
-lead_begin-requires-clause-begins g c = (to_begin g.S.Slot.shape g.S.Slot.gives c.args.pool.now.board.now c.args.hand.now.pass c.requires.ready.of.pass c.machine.result.now c.worker.result 0 c.in-Begin.node c.in-Begin.e c.machine.ensures c.worker.ensures c.in-Begin.ensures).1
-
-pub lead_begin-requires-clause-worker : goal.lead_begin-requires-clause-worker
-lead_begin-requires-clause-worker g c = (to_begin g.S.Slot.shape g.S.Slot.gives c.args.pool.now.board.now c.args.hand.now.pass c.requires.ready.of.pass c.machine.result.now c.worker.result 0 c.in-Begin.node c.in-Begin.e c.machine.ensures c.worker.ensures c.in-Begin.ensures).2
-
-pub lead_begin-requires-clause-may : goal.lead_begin-requires-clause-may
-lead_begin-requires-clause-may g c = (to_begin g.S.Slot.shape g.S.Slot.gives c.args.pool.now.board.now c.args.hand.now.pass c.requires.ready.of.pass c.machine.result.now c.worker.result 0 c.in-Begin.node c.in-Begin.e c.machine.ensures c.worker.ensures c.in-Begin.ensures).3
-
-pub lead_begin-requires-clause-work : goal.lead_begin-requires-clause-work
-lead_begin-requires-clause-work g c = (to_begin g.S.Slot.shape g.S.Slot.gives c.args.pool.now.board.now c.args.hand.now.pass c.requires.ready.of.pass c.machine.result.now c.worker.result 0 c.in-Begin.node c.in-Begin.e c.machine.ensures c.worker.ensures c.in-Begin.ensures).4
-
-pub returns-in-Record-clause-going : goal.returns-in-Record-clause-going
-returns-in-Record-clause-going g c = λ before early going.
-    going_adds g.P.Poller.tells g.C.Clock.tells c.args.pool.now.plan.now before early (view c.args.hand.now.pass) (view c.record_own.new.hand.pass) (g.P.Poller.state c.args.poller.now) (g.C.Clock.state c.args.clock.now) c.args.outlook.now c.requires.head
-    (hand_lawful g.S.Slot.shape g.S.Slot.gives c.args.pool.now c.record_own.new.hand c.record_own.ensures.serving.of) c.record_own.ensures.serving.of.pass.few c.record_own.ensures.work going
-
-pub returns-in-Begin-clause-going : goal.returns-in-Begin-clause-going
-returns-in-Begin-clause-going g c = λ before early going.
-    going_adds g.P.Poller.tells g.C.Clock.tells c.args.pool.now.plan.now before early (view c.args.hand.now.pass) (view c.lead_begin.new.hand.pass) (g.P.Poller.state c.args.poller.now) (g.C.Clock.state c.args.clock.now) c.args.outlook.now c.requires.head
-    (hand_lawful g.S.Slot.shape g.S.Slot.gives c.args.pool.now c.lead_begin.new.hand c.lead_begin.ensures.serving.of) c.lead_begin.ensures.serving.of.pass.few c.lead_begin.ensures.work going
+pub returns-in-Some-clause-going : goal.returns-in-Some-clause-going
+returns-in-Some-clause-going g c = λ before early going.
+    going_adds g.P.Poller.tells g.C.Clock.tells c.args.pool.now.plan.now before early (view c.args.hand.now.pass) (view c.lead_chosen.new.hand.pass) (g.P.Poller.state c.args.poller.now) (g.C.Clock.state c.args.clock.now) c.args.outlook.now c.requires.head
+    (hand_lawful g.S.Slot.shape g.S.Slot.gives c.args.pool.now c.lead_chosen.new.hand c.lead_chosen.ensures.serving.of) c.lead_chosen.ensures.serving.of.pass.few c.lead_chosen.ensures.work going

@@ -9,4 +9,4 @@ load-word-requires g c = (search rules, omega (arith, c.args.self.now.sized), lo
 
 pub returns-clause-view : goal.returns-clause-view
 returns-clause-view g c = let told = c.load-word.ensures.2 in let v = c.args.seat.now.me.0 in let w = c.load-word.new.seat.me.0 in
-    decoded c.load-word.result v w (EndsHere v w) c.of_word.result c.of_word.ensures.spelled c.of_word.ensures.silent told.1 told.2
+    decoded c.load-word.result v w (EndsHere v w) c.event_of.result c.event_of.ensures.spelled c.event_of.ensures.silent told.1 told.2

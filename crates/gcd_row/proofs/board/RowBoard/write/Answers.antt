@@ -15,8 +15,8 @@ compare_exchange-found-requires g c = (search rules, omega (arith, c.args.self.n
 
 pub returns-clause-view : goal.returns-clause-view
 returns-clause-view g c = let told = c.compare_exchange-found.ensures.2 in let m = c.args.seat.now.me in let k = c.compare_exchange-found.new.seat.me in
-    decoded c.compare_exchange-found.result m.0 k.0 ((k.0 ≡ saw m.0 c.args.e) × Turned g.S.Slot.shape g.S.Slot.gives m.0.terms m.0.seen c.args.e m.1 k.1) c.of_word.result c.of_word.ensures.spelled c.of_word.ensures.silent (λ z. told.0 z c.args.e (permitted_fits _ _ _ c.requires.valid c.requires.event.1) (search rules)) (λ ne. (told.1 ne).1)
+    decoded c.compare_exchange-found.result m.0 k.0 ((k.0 ≡ saw m.0 c.args.e) × Turned g.S.Slot.shape g.S.Slot.gives m.0.terms m.0.seen c.args.e m.1 k.1) c.event_of.result c.event_of.ensures.spelled c.event_of.ensures.silent (λ z. told.0 z c.args.e (permitted_fits _ _ _ c.requires.valid c.requires.event.1) (search rules)) (λ ne. (told.1 ne).1)
 
 pub returns-clause-slot : goal.returns-clause-slot
 returns-clause-slot g c = let told = c.compare_exchange-found.ensures.2 in let m = c.args.seat.now.me in let k = c.compare_exchange-found.new.seat.me in
-    if_some c.compare_exchange-found.result (k.1 ≡ m.1) c.of_word.result c.of_word.ensures.spelled (λ ne. (told.1 ne).0)
+    if_some c.compare_exchange-found.result (k.1 ≡ m.1) c.event_of.result c.event_of.ensures.spelled (λ ne. (told.1 ne).0)
