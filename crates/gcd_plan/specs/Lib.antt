@@ -1,5 +1,6 @@
 pub mod Limits
 pub mod PlanView
+pub mod HeldParts
 pub mod Kinds
 pub mod Chains
 pub mod Names

@@ -9,6 +9,7 @@
 //! | `MisuseCode::code` | the number of a code of misuse, 1 to 8 |
 //! | `Plan::of_parts` | the plan of the parts; None exactly where they are no valid plan (`IsPlan`) |
 //! | `Plan::of_valid_parts` | the same of parts that the caller knows to be valid |
+//! | `Plan::share` | the same plan, whose copies share its parts, or want of memory |
 //! | `Plan::copied` | the same plan once more, or want of memory |
 //! | `Plan::kinds` | the kinds of all objects, or want of memory |
 //! | `objects`, `blocks`, `kind`, `first_target`, .. | what the plan holds, exactly |
@@ -27,6 +28,7 @@
 
 mod act;
 mod copy;
+mod held;
 mod kind;
 mod kinds_valid;
 mod limits;

@@ -5,7 +5,7 @@ ghost use Rattle.gcd_plan.specs.PlanView.{kind_of, first_target, starts_active, 
 ghost use Rattle.gcd_plan.specs.Validity.{IsPlan};
 
 use crate::act::Act;
-use crate::copy::copied_parts;
+use crate::held::Held;
 use crate::kind::Kind;
 use crate::numbers::{Blk, Obj, Run};
 use crate::parts::{FilePart, Parts};
@@ -18,18 +18,19 @@ use std::marker::Model;
 /// lead to `root`. Contracts see it as the plain lists of its parts (`PlanView`).
 #[derive(Debug, Drop)]
 pub struct Plan {
-    parts: Parts,
+    held: Held,
 }
 
 impl Model for Plan {
+    ghost use Rattle.gcd_plan.specs.HeldParts.{parts_of};
     ghost use Rattle.gcd_plan.specs.PlanView.{PlanView, view_of};
     ghost use Rattle.gcd_plan.specs.Validity.{IsPlan};
 
     ghost Value = { PlanView };
 
-    ghost view = { λ p. view_of p.parts };
+    ghost view = { λ p. view_of (parts_of p.held) };
 
-    ghost invariant = { λ p. IsPlan (view_of p.parts) };
+    ghost invariant = { λ p. IsPlan (view_of (parts_of p.held)) };
 }
 
 impl Plan {
@@ -38,7 +39,9 @@ impl Plan {
         requires { IsPlan (view_of parts) }
         ensures { result ≡ view_of parts }
     {
-        Plan { parts }
+        Plan {
+            held: Held::Own(parts),
+        }
     }
 
     /// The plan of these parts. None, with the parts dropped, exactly where they are no valid plan: `root` is not object
@@ -62,7 +65,7 @@ impl Plan {
         ensures count { result ≡ length self.now.objects }
         ensures valid { IsPlan self.now }
     {
-        self.parts.objects.len() as u32
+        self.held.parts().objects.len() as u32
     }
 
     /// How many blocks there are, `main` among them: 1 to [`crate::MAX_BLOCKS`].
@@ -70,7 +73,7 @@ impl Plan {
         ensures count { result ≡ length self.now.blocks }
         ensures valid { IsPlan self.now }
     {
-        self.parts.blocks.len() as u32
+        self.held.parts().blocks.len() as u32
     }
 
     /// The kind of an object.
@@ -78,7 +81,7 @@ impl Plan {
         requires { o.0 < length self.now.objects }
         ensures { kind_of self.now o.0 ≡ Some result }
     {
-        self.parts.objects[o.0 as usize].kind
+        self.held.parts().objects[o.0 as usize].kind
     }
 
     /// The target that the plan gives an object; `root` for one that has none (dispatch_set_target_queue(3)).
@@ -86,7 +89,7 @@ impl Plan {
         requires { o.0 < length self.now.objects }
         ensures { result.0 ≡ first_target self.now o.0 }
     {
-        self.parts.objects[o.0 as usize].target
+        self.held.parts().objects[o.0 as usize].target
     }
 
     /// Whether an object is created active (dispatch_activate(3)).
@@ -94,7 +97,7 @@ impl Plan {
         requires { o.0 < length self.now.objects }
         ensures { result ≡ starts_active self.now o.0 }
     {
-        self.parts.objects[o.0 as usize].active
+        self.held.parts().objects[o.0 as usize].active
     }
 
     /// What a run does, in order. An object that is no source has no acts.
@@ -103,8 +106,8 @@ impl Plan {
         ensures { result.now ≡ acts_of self.now run }
     {
         match run {
-            Run::Block(b) => &self.parts.blocks[b.0 as usize].acts,
-            Run::Source(s) => &self.parts.objects[s.0 as usize].handler,
+            Run::Block(b) => &self.held.parts().blocks[b.0 as usize].acts,
+            Run::Source(s) => &self.held.parts().objects[s.0 as usize].handler,
         }
     }
 
@@ -113,7 +116,7 @@ impl Plan {
         requires { b.0 < length self.now.blocks }
         ensures { result ≡ work_of self.now b.0 }
     {
-        self.parts.blocks[b.0 as usize].work
+        self.held.parts().blocks[b.0 as usize].work
     }
 
     /// The cancellation block of a source; None exactly where the plan gives it none
@@ -122,7 +125,7 @@ impl Plan {
         requires { s.0 < length self.now.objects }
         ensures { result ≡ cancel_block self.now s.0 }
     {
-        self.parts.objects[s.0 as usize].cancel
+        self.held.parts().objects[s.0 as usize].cancel
     }
 
     /// The files, by number, at most [`crate::MAX_FILES`].
@@ -130,7 +133,7 @@ impl Plan {
         ensures files { map file_view result.now ≡ self.now.files }
         ensures few { length result.now ≤ max_files }
     {
-        &self.parts.files
+        &self.held.parts().files
     }
 
     /// The path of a read source's feed; empty for every other object.
@@ -138,7 +141,7 @@ impl Plan {
         requires { s.0 < length self.now.objects }
         ensures { result.now ≡ path_of self.now s.0 }
     {
-        self.parts.objects[s.0 as usize].path.as_str()
+        self.held.parts().objects[s.0 as usize].path.as_str()
     }
 
     /// The name of an object.
@@ -146,7 +149,7 @@ impl Plan {
         requires { o.0 < length self.now.objects }
         ensures { result.now ≡ name_of_obj self.now o.0 }
     {
-        self.parts.objects[o.0 as usize].name.as_str()
+        self.held.parts().objects[o.0 as usize].name.as_str()
     }
 
     /// The name of a block.
@@ -154,7 +157,7 @@ impl Plan {
         requires { b.0 < length self.now.blocks }
         ensures { result.now ≡ name_of_blk self.now b.0 }
     {
-        self.parts.blocks[b.0 as usize].name.as_str()
+        self.held.parts().blocks[b.0 as usize].name.as_str()
     }
 
     /// The number of the script's line that declares a file.
@@ -162,14 +165,14 @@ impl Plan {
         requires { f < length self.now.files }
         ensures { option_map (λ g. g.line) (slice_get self.now.files f) ≡ Some result }
     {
-        self.parts.files[f as usize].line
+        self.held.parts().files[f as usize].line
     }
 
     /// The last due time of timers, in milliseconds: 1 to [`crate::MAX_TIME`] (this project's own rule).
     pub fn until(&self) -> u32
         ensures { result ≡ self.now.until }
     {
-        self.parts.until
+        self.held.parts().until
     }
 }
 
@@ -185,12 +188,23 @@ impl Plan {
         Ok(kinds)
     }
 
-    /// The same plan once more.
+    /// The same plan, whose copies share its parts: a copy of it takes no memory for them. An `Err` comes only of want of
+    /// memory, and the plan is dropped then (this project's own rule).
+    pub fn share(self, alloc: Global) -> Result<Plan, AllocError>
+        ensures { IfOk result (λ p. p ≡ self) }
+    {
+        Ok(Plan {
+            held: self.held.share(alloc)?,
+        })
+    }
+
+    /// The same plan once more. Of a plan that [`Plan::share`] gave it has the same parts. An `Err` comes only of want of
+    /// memory.
     pub fn copied(&self, alloc: Global) -> Result<Plan, AllocError>
         ensures { IfOk result (λ p. p ≡ self.now) }
     {
         Ok(Plan {
-            parts: copied_parts(alloc, &self.parts)?,
+            held: self.held.copied(alloc)?,
         })
     }
 }

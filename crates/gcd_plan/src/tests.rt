@@ -267,7 +267,8 @@ fn holds_its_blocks(plan: &Plan) -> bool {
 #[test]
 fn tells_what_a_plan_holds(rt: HostRuntime) -> Result<(), Fail> {
     let made = Plan::of_parts(parts(rt.alloc(), &PLAIN)?).ok_or("valid")?;
-    let plan = made.copied(rt.alloc())?;
+    let shared = made.copied(rt.alloc())?.share(rt.alloc())?;
+    let plan = shared.copied(rt.alloc())?;
     assert!(rt; holds_its_objects(&plan));
     assert!(rt; holds_its_blocks(&plan));
     assert_eq!(rt; plan.kinds(rt.alloc())?.len(), 3);
