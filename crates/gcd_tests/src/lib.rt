@@ -5,3 +5,5 @@
 mod given;
 #[cfg(test)]
 mod rounds;
+#[cfg(test)]
+mod teams;

@@ -1,8 +1,6 @@
 -- What worker 0's pass has given out, a number on.
-use Rattle.std.proofs.Common.{◌≡◌, ◌≢◌, ◌<◌, ◌≤◌, ◌+◌, ◌∙◌, ◌==◌, ℕ, suc, Bool, true, false, cond, List, [], ◌∷◌, Option, Some, None, refl, ap, sym, subst, arith, ⊎_elim, eq-eqb}
-use Rattle.std.specs.Prelude.{slice_get}
+use Rattle.std.proofs.Common.{◌≡◌, ◌≢◌, ◌<◌, ◌≤◌, ◌+◌, ◌∙◌, ℕ, suc, Bool, cond, List, [], ◌∷◌, Option, Some, None, refl, ap, sym, subst, arith, ⊎_elim, eq-eqb}
 use Rattle.std.proofs.lemmas.Bool.{cases_lt, ne_eqb}
-use Rattle.gcd_event.specs.declared.event.Event.{Event}
 use Rattle.gcd_history.specs.Choice.{worker_of}
 use Rattle.gcd_team.specs.Held.{is_of}
 use Rattle.gcd_team.specs.Team.{of_worker, HasEnded}
@@ -11,7 +9,6 @@ use Rattle.gcd_row.specs.Views.{standing_of, lending, seeing}
 use Rattle.gcd_row.specs.declared.view.Standing.{Standing}
 use Rattle.gcd_row.specs.declared.view.Standing.TheVariants.{Out, Back}
 use Rattle.gcd_row.specs.declared.view.View.{View}
-use Rattle.gcd_workers.specs.Ran.{IsOfWorkers}
 use Rattle.gcd_workers.specs.Teams.{AreOut, IsHead, HasLed}
 use Rattle.gcd_workers.proofs.Places.{none_at}
 
@@ -102,4 +99,13 @@ has_led n v some head fresh ended = record {
       let some_one : worker_of e ≢ 0 = λ none. omega (arith, over, some, none) in
       absurd (none_at (is_of (worker_of e)) v.seen i e (fresh head.worker (worker_of e) some_one (head.out.none (worker_of e) over)) at (eq-eqb (worker_of e) (worker_of e) refl)))
       (cases_lt (worker_of e) n);
+}
+
+-- what some workers have led is led by more
+pub led_by_more : {S : Type 0} → (m n : ℕ) (v : View S) → m ≤ n → HasLed m v → HasLed n v
+led_by_more m n v more led = record {
+  worker = led.worker;
+  home = led.home;
+  ended = led.ended;
+  by = λ i e at. let low = led.by i e at in omega (arith, more, low);
 }

@@ -5,7 +5,7 @@ use Rattle.std.specs.List.{ShiftedDown}
 use Rattle.gcd_team.specs.Team.{HasEnded, of_worker}
 use Rattle.gcd_event.specs.declared.event.Event.{Event}
 use Rattle.gcd_row.proofs.Fronts.{own_nothing}
-use Rattle.gcd_row.specs.Passes.{IsPassOf, terms_of, view}
+use Rattle.gcd_row.specs.Passes.{terms_of, view}
 use Rattle.gcd_row.specs.Shapes.{Shape}
 use Rattle.gcd_row.specs.declared.pass.RowPass.{RowPass}
 use Rattle.gcd_row.specs.declared.view.Terms.{Terms}

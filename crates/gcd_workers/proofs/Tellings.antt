@@ -1,12 +1,12 @@
 -- What the cells at the end tell of each block that has ended.
-use Rattle.std.proofs.Common.{◌≡◌, ◌<◌, ◌≤◌, ◌+◌, ◌∙◌, ◌==◌, ℕ, zero, suc, Bool, true, false, List, [], ◌∷◌, ◌++◌, length, map, Option, Some, None, refl, ap, sym, subst, arith, reverse, take, eq-eqb, get_or}
+use Rattle.std.proofs.Common.{◌≡◌, ◌<◌, ◌≤◌, ◌∙◌, ℕ, zero, suc, Bool, true, List, [], ◌∷◌, length, Some, refl, ap, sym, subst, arith, reverse, take, eq-eqb, get_or}
 use Rattle.std.specs.Prelude.{slice_get, slice_index_or}
 use Rattle.std.proofs.lemmas.Option.{slice_get-get_or, same_Some, slice_get_within}
 use mathlib.Core.Option.{some}
 use lib.ListN.{get_elem?}
 use Rattle.std.proofs.lemmas.Bool.{both_ways}
 use Rattle.std.proofs.lemmas.Map.Keys.{any_passes_from_place}
-use Rattle.gcd_plan.specs.PlanView.{PlanView, IsRun}
+use Rattle.gcd_plan.specs.PlanView.{PlanView}
 use Rattle.gcd_plan.specs.declared.numbers.Blk.{Blk}
 use Rattle.gcd_plan.specs.declared.numbers.Run.TheVariants.{Block}
 use Rattle.gcd_plan.proofs.Places.{slice_get_some}
@@ -21,7 +21,7 @@ use Rattle.gcd_history.proofs.LawfulLemmas.{lawful_after}
 use Rattle.gcd_history.proofs.StartedOnce.{open_from_has_run, open_not_ended}
 use Rattle.gcd_team.specs.TeamFacts.{IsNobodys}
 use Rattle.gcd_team.proofs.TeamLaws.{held_runs_are_open}
-use Rattle.gcd_row.specs.Lying.{BodyLies, Lies}
+use Rattle.gcd_row.specs.Lying.{BodyLies}
 use Rattle.gcd_row.specs.Passes.{AtRest, IsPassOf, terms_of, view}
 use Rattle.gcd_row.specs.declared.board.RowBoard.{RowBoard}
 use Rattle.gcd_row.specs.declared.pass.RowPass.{RowPass}

@@ -1,13 +1,11 @@
 -- The hands of a team, and what worker 0 has given out (this project's own rules).
 use Rattle.std.specs.Prelude.{◌≡◌, ◌≢◌, ◌<◌, ◌≤◌, ◌+◌, ℕ, List, [], length, Some, None, slice_index_or}
-use Rattle.gcd_plan.specs.PlanView.{PlanView}
-use Rattle.gcd_event.specs.declared.event.Event.{Event}
 use Rattle.gcd_team.specs.Team.{HasEnded}
 use Rattle.gcd_row.specs.Passes.{IsPassOf, view}
 use Rattle.gcd_row.specs.Shapes.{Shape}
 use Rattle.gcd_row.specs.Views.{standing_of}
 use Rattle.gcd_row.specs.declared.view.Standing.{Standing}
-use Rattle.gcd_row.specs.declared.view.Standing.TheVariants.{Out, Back}
+use Rattle.gcd_row.specs.declared.view.Standing.TheVariants.{Out}
 use Rattle.gcd_row.specs.declared.view.View.{View}
 use Rattle.gcd_row.specs.declared.board.RowBoard.{RowBoard}
 use Rattle.gcd_pool.specs.Hands.{IsReady}

@@ -2,10 +2,19 @@
 //! pool of threads promises an order of blocks, and not which thread runs one.)
 //!
 //! [`run_workers`] puts a job for each block and a tally for each source into a board (`gcd_row`), makes a rack of Drains
-//! (`gcd_steal`) and a hand for each worker, and runs the pool of them (`gcd_pool`) until the run has ended. Then it joins what
-//! the helpers have seen into what worker 0 has seen, closes the board, and leaves a [`Worked`].
+//! (`gcd_steal`) and a hand for each worker that there can be work for, and runs the pool of them (`gcd_pool`) until the run has
+//! ended. Then it joins what the helpers have seen into what worker 0 has seen, closes the board, and leaves a [`Worked`].
 //!
-//! | clause | says |
+//! A caller with jobs of its own makes board and rack itself, and calls the parts. (The crate `gcd_example` is such a caller.)
+//!
+//! | call | answer |
+//! |---|---|
+//! | [`team_size`] | how many of so many workers there can be work for, at least 1 |
+//! | [`tallies_of`] | a tally for each source, which a board asks for beside the jobs, or want of memory |
+//! | [`run_pool`] | worker 0's pass of a run that has ended, with which the board may be closed (`HasLed`), or want of memory |
+//! | [`run_workers`] | the journal, the blocks' values and the state of a run of the plan's works over its files (`RanWorkers`), or want of memory |
+//!
+//! | clause of `run_workers` | says |
 //! |---|---|
 //! | `ran` (`RanWorkers`) | where memory sufficed: the journal is lawful and has ended, in the state told; each event is of one of the workers; what poller and clock said stands in it (`IsHeard`, `IsTimely`); and the values are those of the blocks that have ended, and else 0 |
 //! | `listens`, `addresses`, `poller_faults` | no listen was made, and the poller's count of faults did not fall; these hold in want of memory too |
@@ -17,12 +26,14 @@
 #![tactic(auto)]
 
 mod gather;
+mod hiring;
 mod opening;
 mod team;
 mod values;
 mod workers;
 
 pub use gather::run_pool;
+pub use hiring::team_size;
 pub use opening::tallies_of;
 pub use workers::{Worked, run_workers};
 

@@ -1,11 +1,11 @@
 mod plans;
 
-use crate::{Worked, run_workers};
+use crate::{Worked, run_workers, team_size};
 use gcd_alone::{Alone, run_alone};
 use gcd_history::State;
 use gcd_outer::{JumpClock, ListPoller};
 use gcd_plan::Plan;
-use plans::{BLOCKS, plan_with_a_barrier};
+use plans::{plan_of_queues, plan_with_a_barrier};
 use std::alloc::Global;
 use std::process::Abort;
 use std::sync::Wait;
@@ -44,7 +44,7 @@ fn alone_of(rt: &impl Wait, alloc: Global, plan: &Plan) -> Result<Alone, Fail> {
 }
 
 // Whether each block has the value that its number tells: the bytes of the file from there on.
-fn are_right(values: &[u64]) -> bool {
+fn are_right(values: &[u64], blocks: u32) -> bool {
     for (number, value) in values.iter().enumerate() {
         let want = if number == 0 {
             0
@@ -55,16 +55,46 @@ fn are_right(values: &[u64]) -> bool {
             return false;
         }
     }
-    values.len() == BLOCKS as usize
+    values.len() == blocks as usize
+}
+
+// So many workers run the plan to its end.
+fn ends_right(
+    rt: &(impl Abort + Threads + Wait + Sync),
+    alloc: Global,
+    plan: &Plan,
+    workers: u8,
+) -> Result<(), Fail> {
+    let run = run_of(rt, alloc, plan, workers)?;
+    assert!(rt;
+        are_right(run.values.as_slice(), plan.blocks()),
+        "{workers} workers"
+    );
+    assert!(rt; run.state == State::Drained, "{workers} workers");
+    Ok(())
 }
 
 #[test]
 fn workers_run_a_plan_to_its_end(rt: HostRuntime) -> Result<(), Fail> {
     let plan = plan_with_a_barrier(rt.alloc())?;
     for workers in [1, 2, 4] {
-        let run = run_of(&rt, rt.alloc(), &plan, workers)?;
-        assert!(rt; are_right(run.values.as_slice()), "{workers} workers");
-        assert!(rt; run.state == State::Drained, "{workers} workers");
+        ends_right(&rt, rt.alloc(), &plan, workers)?;
+    }
+    ends_right(&rt, rt.alloc(), &plan_of_queues(rt.alloc(), 7, 0)?, 64)
+}
+
+#[test]
+fn a_team_has_no_more_hands_than_a_plan_can_have_runs(rt: HostRuntime) -> Result<(), Fail> {
+    for (serial, wide, workers, hands) in [
+        (0, 0, 64, 1),
+        (7, 0, 64, 8),
+        (7, 0, 4, 4),
+        (2, 3, 64, 6),
+        (2, 3, 4, 4),
+        (0, 99, 64, 64),
+    ] {
+        let plan = plan_of_queues(rt.alloc(), serial, wide)?;
+        assert_eq!(rt; team_size(&plan, workers), hands, "{serial} and {wide}");
     }
     Ok(())
 }

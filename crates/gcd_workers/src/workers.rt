@@ -14,6 +14,7 @@ ghost use Rattle.gcd_workers.specs.Teams.{HasLed, IsHead};
 ghost use Rattle.gcd_workers.specs.Told.{GiveWorks, work_gives, work_shape};
 
 use crate::gather::run_pool;
+use crate::hiring::team_size;
 use crate::opening::{WorkBoard, WorkCell, WorkPass, open_board};
 use crate::values::note_all;
 use gcd_event::Event;
@@ -72,7 +73,7 @@ fn close<'a>(
     })
 }
 
-// Runs the plan over a rack: its works over the files lie in a board of their own.
+// Runs the plan over a rack, by at most so many workers, one for each bench: its works over the files lie in a board of their own.
 fn run_board<R: Threads + Wait + Sync, P: Poller, C: Clock>(
     rt: &R,
     alloc: Global,
@@ -86,8 +87,8 @@ fn run_board<R: Threads + Wait + Sync, P: Poller, C: Clock>(
 ) -> Result<Worked, AllocError>
     requires rack { plan_of rack.now ≡ plan.now }
     requires benches { All (IsBenchOf rack.now) benches.items }
-    requires count { length benches.items ≡ workers }
-    requires workers { (0 < workers) × (workers ≤ max_workers) }
+    requires count { (0 < length benches.items) × (length benches.items ≤ workers) }
+    requires workers { workers ≤ max_workers }
     requires unwatched { (feed : ℕ) → (P.state poller.old).watched feed ≡ false }
     ensures ran { IfOk result (λ w. RanWorkers plan.now workers (contents files.now)
         (record { tells = P.tells; before = P.state poller.old; after = P.state poller.new })
@@ -107,10 +108,10 @@ fn run_board<R: Threads + Wait + Sync, P: Poller, C: Clock>(
     Ok(worked)
 }
 
-/// Runs the plan by so many workers, 1 to 64: worker 0, which alone has poller and clock, and helpers in threads of their own, until
-/// the run is quiescent, halted or full (this project's own rule). `files` are the contents of the plan's files, in their order; the
-/// poller watches no feed yet. A run by one worker needs no thread. An `Err` comes only of want of memory, before the first event
-/// or after the last.
+/// Runs the plan by at most so many workers, 1 to 64, until the run is quiescent, halted or full (this project's own rule). As many of
+/// them have a hand in it as [`team_size`] says: worker 0, which alone has poller and clock, and helpers in threads of their own; where
+/// that is one, there is no thread. `files` are the contents of the plan's files, in their order; the poller watches no feed yet. An
+/// `Err` comes only of want of memory, before the first event or after the last.
 pub fn run_workers<R: Threads + Wait + Sync, P: Poller, C: Clock>(
     rt: &R,
     alloc: Global,
@@ -131,7 +132,8 @@ pub fn run_workers<R: Threads + Wait + Sync, P: Poller, C: Clock>(
     ensures addresses { P.tells ≡ true → (P.state poller.new).addresses ≡ (P.state poller.old).addresses }
     ensures poller_faults { (P.state poller.old).faults ≤ (P.state poller.new).faults }
 {
-    let (rack, benches) = Rack::new(alloc, plan, workers, MOST_PUSHES)?;
+    let hands = team_size(plan, workers);
+    let (rack, benches) = Rack::new(alloc, plan, hands, MOST_PUSHES)?;
     run_board(
         rt, alloc, plan, files, &rack, benches, workers, poller, clock,
     )

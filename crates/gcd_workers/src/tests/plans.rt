@@ -1,4 +1,6 @@
-// A plan with a serial queue, a concurrent one with a barrier, and a work in each block.
+// Plans with a work in each block but `main`: the bytes of the file from the block's number on, and from 9 round.
+ghost use Rattle.std.specs.Prelude.{◌<◌};
+
 use gcd_plan::{
     Act, Blk, BlkPart, FilePart, How, Kind, Obj, ObjPart, Parts, Plan, WHOLE_FILE, Work,
 };
@@ -9,11 +11,8 @@ const SERIAL: Obj = Obj(1);
 
 const WIDE: Obj = Obj(2);
 
-// How many blocks each queue gets.
+// How many blocks each queue gets, at one time.
 const EACH: u32 = 20;
-
-/// The blocks of the plan.
-pub const BLOCKS: u32 = 3 * EACH + 3;
 
 fn objects(alloc: Global) -> Result<Vec<ObjPart>, AllocError> {
     let mut objects = Vec::new(alloc);
@@ -38,12 +37,13 @@ fn acts(alloc: Global) -> Result<Vec<Act>, AllocError> {
     Ok(acts)
 }
 
-fn blocks(alloc: Global) -> Result<Vec<BlkPart>, AllocError> {
+// `main`, and so many blocks in all.
+fn blocks(alloc: Global, acts: Vec<Act>, count: u32) -> Result<Vec<BlkPart>, AllocError> {
     let mut blocks = Vec::new(alloc);
     let mut main = BlkPart::new(alloc, "main")?;
-    main.acts = acts(alloc)?;
+    main.acts = acts;
     blocks.push(main)?;
-    for number in 1..BLOCKS {
+    for number in 1..count {
         let name = format!(in alloc; "b{number}")?;
         let mut block = BlkPart::new(alloc, name.as_str())?;
         block.work = Some(Work {
@@ -67,13 +67,38 @@ fn file_parts(alloc: Global) -> Result<Vec<FilePart>, AllocError> {
     Ok(files)
 }
 
-/// The plan.
-pub fn plan_with_a_barrier(alloc: Global) -> Result<Plan, Fail> {
+fn plan_of(alloc: Global, objects: Vec<ObjPart>, acts: Vec<Act>, count: u32) -> Result<Plan, Fail> {
     let parts = Parts {
-        objects: objects(alloc)?,
-        blocks: blocks(alloc)?,
+        objects,
+        blocks: blocks(alloc, acts, count)?,
         files: file_parts(alloc)?,
         until: 1000,
     };
     Ok(Plan::of_parts(parts).ok_or("valid")?)
+}
+
+/// A serial queue, and a concurrent one with a barrier.
+pub fn plan_with_a_barrier(alloc: Global) -> Result<Plan, Fail> {
+    plan_of(alloc, objects(alloc)?, acts(alloc)?, 3 * EACH + 3)
+}
+
+/// So many serial queues with three blocks each, and so many blocks on `root`.
+pub fn plan_of_queues(alloc: Global, serial: u32, wide: u32) -> Result<Plan, Fail>
+    requires serial { serial < 1000 }
+    requires wide { wide < 10000 }
+{
+    let mut objects = Vec::new(alloc);
+    objects.push(ObjPart::new(alloc, "root", Kind::Concurrent)?)?;
+    let mut acts = Vec::new(alloc);
+    for number in 1..serial + 1 {
+        let name = format!(in alloc; "q{number}")?;
+        objects.push(ObjPart::new(alloc, name.as_str(), Kind::Serial)?)?;
+    }
+    for number in 0..3 * serial {
+        acts.push(Act::Async(Obj(1 + number / 3), Blk(1 + number)))?;
+    }
+    for number in 0..wide {
+        acts.push(Act::Async(Obj(0), Blk(1 + 3 * serial + number)))?;
+    }
+    plan_of(alloc, objects, acts, 1 + 3 * serial + wide)
 }

@@ -1,4 +1,4 @@
-use Rattle.std.proofs.Common.{◌≡◌, ◌∙◌, [], List, subst, sym}
+use Rattle.std.proofs.Common.{◌∙◌, [], List, subst, sym}
 use Rattle.std.specs.Prelude.{slice_index_or}
 use Rattle.gcd_event.specs.declared.event.Event.{Event}
 use Rattle.gcd_row.specs.Passes.{terms_of, view}

@@ -1,4 +1,4 @@
-use Rattle.std.proofs.Common.{◌≡◌, ◌+◌, ◌∙◌, ℕ, ap, sym, subst, arith}
+use Rattle.std.proofs.Common.{◌+◌, ◌∙◌, ap, sym, subst, arith}
 use Rattle.gcd_row.specs.Passes.{view}
 use Rattle.gcd_workers.specs.Teams.{EachFrom, IsHead, IsReadyAt}
 use Rattle.gcd_workers.proofs.Heads.{head_out}

@@ -1,4 +1,4 @@
-use Rattle.std.proofs.Common.{◌≡◌, ◌∷◌, ◌∙◌, ◌+◌, [], ℕ, List, length, ap, sym, subst, arith}
+use Rattle.std.proofs.Common.{◌≡◌, ◌∙◌, ◌+◌, [], length, ap, sym, subst, arith}
 use Rattle.gcd_row.specs.Passes.{view}
 use Rattle.gcd_workers.specs.Teams.{EachFrom, IsHead, IsReadyAt}
 use Rattle.gcd_workers.proofs.Hires.{first_has, nothing_own, pass_has}

@@ -1,4 +1,4 @@
-use Rattle.std.proofs.Common.{◌≡◌, [], List, take, subst, sym}
+use Rattle.std.proofs.Common.{[], List, take, subst, sym}
 use Rattle.std.proofs.lemmas.List.{take_more}
 use Rattle.std.proofs.lemmas.Option.{slice_get-get_or}
 use Rattle.gcd_event.specs.declared.event.Event.{Event}

@@ -1,4 +1,4 @@
-use Rattle.std.proofs.Common.{◌≡◌, take}
+use Rattle.std.proofs.Common.{take}
 use Rattle.gcd_jobs.specs.Contents.{contents}
 use Rattle.gcd_alone.specs.Ran.{AreValues}
 use Rattle.gcd_workers.proofs.values.note_all.Given as goal

@@ -1,4 +1,4 @@
-use Rattle.std.proofs.Common.{◌≡◌, ◌∙◌}
+use Rattle.std.proofs.Common.{◌∙◌}
 use Rattle.gcd_jobs.specs.Contents.{contents}
 use Rattle.gcd_history.specs.Values.{value_of}
 use Rattle.gcd_alone.proofs.ValuesMore.{ends_none, values_ended, values_same}

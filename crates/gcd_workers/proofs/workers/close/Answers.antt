@@ -1,9 +1,4 @@
-use Rattle.std.proofs.Common.{◌≡◌, ◌≤◌, ◌∙◌, length, ap, sym, subst, arith}
 use Rattle.gcd_jobs.specs.Contents.{contents}
-use Rattle.gcd_plan.specs.PlanView.{PlanView}
-use Rattle.gcd_row.specs.Passes.{terms_of, view}
-use Rattle.gcd_row.specs.declared.view.Terms.{Terms}
-use Rattle.gcd_workers.specs.Told.{AreTold, GiveWorks, WorkCell}
 use Rattle.gcd_workers.proofs.Tellings.{told_at_end, wide_at_end}
 use Rattle.gcd_workers.proofs.workers.close.Goals as goal
 
