@@ -95,5 +95,5 @@ pub fn parse(alloc: Global, bytes: &[u8]) -> Result<Plan, ParseFault>
     if !draft.has_main {
         return Err(ParseFault::refused(draft.lines + 1, Refusal::NotOneMain));
     }
-    Ok(Plan::of_valid_parts(draft.into_parts()))
+    Ok(Plan::of_valid_parts(draft.into_parts()).share(alloc)?)
 }
