@@ -2,7 +2,7 @@
 use Rattle.std.proofs.Common.{◌≡◌, ℕ, ◌≤◌, [], length, Some, sym, refl, ap, ◌∙◌, subst}
 use Rattle.gcd_team.specs.Team.{HasEnded, of_worker}
 use Rattle.gcd_row.specs.Shapes.{Shape}
-use Rattle.gcd_row.specs.Passes.{IsPassOf, slots, view}
+use Rattle.gcd_row.specs.Passes.{IsPassOf, Looks, slots, view}
 use Rattle.gcd_row.specs.declared.pass.RowPass.{RowPass}
 use Rattle.gcd_row.specs.declared.view.Terms.{Terms}
 use Rattle.gcd_row.specs.declared.view.View.{View}
@@ -13,7 +13,7 @@ use Rattle.gcd_row.proofs.Running.{none_some}
 use Rattle.gcd_pool.specs.Hands.{GoesOn, IsHandOf, IsPool, IsReady, Serving}
 use Rattle.gcd_pool.specs.declared.hand.Hand.{Hand}
 use Rattle.gcd_pool.specs.declared.hand.Pool.{Pool}
-use Rattle.gcd_pool.proofs.Puts.{goes_further, goes_nowhere}
+use Rattle.gcd_pool.proofs.Puts.{goes_further, goes_nowhere, looks_fresh, looks_goes_on}
 
 module _ {S : Type 0} (shape : S → Shape) (gives : S → ℕ → Type 0) (pool : Pool S) where
   pub pass_of_hand : (a : Hand S) (q : RowPass S) → IsHandOf shape gives pool a → IsPassOf shape gives pool.board.now q → GoesOn (view a.pass) (view q) → IsHandOf shape gives pool (record { pass = q; bench = a.bench })
@@ -45,6 +45,13 @@ module _ {S : Type 0} (shape : S → Shape) (gives : S → ℕ → Type 0) (pool
     of = two.of;
     view = goes_further (view a.pass) (view b.pass) (view c.pass) one.view two.view;
     number = two.number ∙ one.number;
+  }
+
+  -- a hand that has looked at the row
+  pub looks_ready : (a : Hand S) (q : RowPass S) → IsReady shape gives pool a → IsPassOf shape gives pool.board.now q → Looks (view a.pass) (view q) → slots q ≡ slots a.pass → IsReady shape gives pool (record { pass = q; bench = a.bench })
+  looks_ready a q is pass looks same = record {
+    of = pass_of_hand a q is.of pass (looks_goes_on (view a.pass) (view q) looks);
+    fresh = looks_fresh shape gives pool.board.now a.pass q pass looks same is.fresh;
   }
 
   -- a worker that has no event yet

@@ -11,12 +11,13 @@ use Rattle.gcd_steal.specs.declared.bench.Bench.{Bench}
 use Rattle.gcd_steal.specs.declared.drain.Drain.{Drain}
 use Rattle.gcd_pool.specs.Hands.{IsFresh}
 use Rattle.gcd_pool.specs.declared.turn.Turn.{Turn}
-use Rattle.gcd_pool.specs.declared.turn.Turn.TheVariants.{Left, Placed, Out, Waited, Rested}
+use Rattle.gcd_pool.specs.declared.turn.Turn.TheVariants.{Left, Placed, Ended, Out, Waited, Rested}
 
 -- a worker that leaves has seen that the run has ended; else the run that it holds is as it was taken
 abbrev pub AfterTurn : {S : Type 0} → (S → Shape) → Turn → View S → List (ℕ × S) → Type 0
 AfterTurn shape Left v cells = HasEnded v.terms.plan v.seen
 AfterTurn shape Placed v cells = IsFresh shape v cells
+AfterTurn shape Ended v cells = IsFresh shape v cells
 AfterTurn shape (Out node) v cells = IsFresh shape v cells
 AfterTurn shape Waited v cells = IsFresh shape v cells
 AfterTurn shape Rested v cells = IsFresh shape v cells

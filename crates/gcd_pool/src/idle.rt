@@ -9,16 +9,16 @@ use std::time::Duration;
 // The first sleep, and the longest, in microseconds.
 const FIRST_SLEEP: u64 = 50;
 
-const LONGEST_SLEEP: u64 = 1_000;
+const LONGEST_SLEEP: u64 = 250;
 
-/// How a worker passes time while nothing comes: it spins, then yields its processor, then sleeps, each time twice as long, at
-/// most a millisecond. Nobody has to wake it (this project's own rule).
+/// How a worker passes time while nothing comes: it spins, then yields its processor, then sleeps, at first 50 microseconds and
+/// each time twice as long, at most 250. Nobody has to wake it (this project's own rule).
 #[derive(Drop)]
 pub struct Idle {
     backoff: Backoff,
     parker: Parker,
     micros: u64,
-    ghost bounded: { micros ≤ 1000 },
+    ghost bounded: { micros ≤ 250 },
 }
 
 impl Idle {
@@ -41,9 +41,9 @@ impl Idle {
         self.micros = FIRST_SLEEP;
     }
 
-    /// Spins, yields, or sleeps for at most a millisecond.
+    /// Spins, yields, or sleeps for at most 250 microseconds.
     pub fn pause<R: Wait>(&mut self, rt: &R)
-        ensures { self.new.micros ≤ 1000 }
+        ensures { self.new.micros ≤ 250 }
     {
         if self.backoff.is_completed() {
             self.parker

@@ -197,10 +197,9 @@ fn lead_turn<S: Crew, P: Poller, C: Clock, R: Wait>(
 
 // What comes after a turn: where nothing was placed, a short wait.
 fn pass_time<R: Wait>(rt: &R, idle: &mut Idle, turn: Turn) {
-    if let Turn::Placed = turn {
-        idle.reset();
-    } else {
-        idle.pause(rt);
+    match turn {
+        Turn::Placed | Turn::Ended => idle.reset(),
+        _ => idle.pause(rt),
     }
 }
 

@@ -12,6 +12,8 @@
 //! | `Begin` | it wakes the Drain of the event's node, and puts the event with it ([`begin`]). Where that Drain does not sleep it takes another: the front of its own deque, or else of another's from the next number on and round, or else the node's own if it sleeps by now; with that it begins what may begin on that Drain's node ([`begin_on`]). Then it lays the Drain down: at the back of its deque where a block waits on a concurrent queue and the rack has another bench, and else asleep |
 //! | `Rest` | it waits ([`Idle`]), and asks again once the row has grown |
 //!
+//! A helper that has no run begins none, and waits, while others' runs begin and end within about a microsecond.
+//!
 //! Worker 0 ([`Chief`]) looks, asks its outlook (`gcd_turn`), and puts what was told, a Tick or a Halt; or else it does what its machine
 //! chooses, as a helper does, and polls or waits only where that is nothing. Where the rack has one bench each Drain sleeps between
 //! two turns, so that it begins exactly what its machine chose.

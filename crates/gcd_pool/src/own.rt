@@ -46,7 +46,7 @@ fn try_end<S: Slot>(board: &RowBoard<S>, pass: &mut RowPass<S>, e: Event) -> Opt
     ensures says { MatchOption result (IsSettled S.shape (view pass.new) e (slots pass.new)) (λ t. AfterTurn S.shape t (view pass.new) (slots pass.new)) }
 {
     match board.put(pass, e) {
-        Put::Placed(_) => Some(Turn::Placed),
+        Put::Placed(_) => Some(Turn::Ended),
         Put::Full => Some(Turn::Left),
         Put::Barred { .. } => {
             if pass.machine().is_halted() {

@@ -1,6 +1,6 @@
 // The turns of a helper.
 ghost use Rattle.gcd_row.specs.Passes.{slots, view};
-ghost use Rattle.gcd_pool.specs.Hands.{IsReady, Served, Serving};
+ghost use Rattle.gcd_pool.specs.Hands.{IsFresh, IsReady, Served, Serving};
 ghost use Rattle.gcd_pool.specs.Turns.{AfterTurn};
 
 use crate::crew::Crew;
@@ -9,7 +9,16 @@ use crate::idle::Idle;
 use crate::team::Desk;
 use crate::turn::{Turn, take_turn};
 use gcd_plan::Plan;
+use std::hint;
 use std::sync::Wait;
+
+// How often a free helper has its processor pause between two looks: about a microsecond where a pause takes five nanoseconds, ten
+// where it takes fifty.
+const PAUSES: u32 = 200;
+
+// How much the row grows where a whole run with no acts began and ended: of three events of such runs two are the begin and the end
+// of one.
+const WHOLE_RUN: u32 = 3;
 
 // How a helper goes from turn to turn.
 #[derive(Drop)]
@@ -21,6 +30,8 @@ struct Pace {
     seen: u32,
     // It had nothing to do at that look.
     resting: bool,
+    // It has no run.
+    free: bool,
 }
 
 impl Pace {
@@ -31,6 +42,7 @@ impl Pace {
             from,
             seen: 0,
             resting: false,
+            free: true,
         }
     }
 
@@ -39,7 +51,6 @@ impl Pace {
         if seen > self.seen {
             self.seen = seen;
             self.resting = false;
-            self.idle.reset();
         }
     }
 
@@ -47,7 +58,14 @@ impl Pace {
     fn after<R: Wait>(&mut self, rt: &R, turn: Turn) {
         match turn {
             Turn::Left => {}
-            Turn::Placed => self.idle.reset(),
+            Turn::Placed => {
+                self.free = false;
+                self.idle.reset();
+            }
+            Turn::Ended => {
+                self.free = true;
+                self.idle.reset();
+            }
             Turn::Out(node) => {
                 self.from = node.0.wrapping_add(1);
                 self.idle.pause(rt);
@@ -66,6 +84,44 @@ fn first_node(plan: &Plan, worker: u8) -> u32 {
     u32::from(worker) % plan.objects()
 }
 
+// Lets about a microsecond pass, and touches no memory that others use.
+fn linger() {
+    for _ in 0..PAUSES {
+        hint::spin_loop();
+    }
+}
+
+// Whether a whole run began and ended while the helper lingered. It has seen the row as it was after that.
+fn are_quick<S: Crew>(pool: &Pool<S>, hand: &mut Hand<S>, seen: u32) -> bool
+    requires { IsReady S.shape S.gives pool.now hand.old }
+    ensures serving { Serving S.shape S.gives pool.now hand.old hand.new }
+    ensures fresh { IsFresh S.shape (view hand.new.pass) (slots hand.new.pass) }
+{
+    linger();
+    let now = pool.board.look(&mut hand.pass);
+    now.saturating_sub(seen) >= WHOLE_RUN
+}
+
+// A turn of a helper that has no run. Where the others' runs are so short it leaves the row to them: each event goes through the
+// one row, and one who begins there too only slows the others.
+pub fn free_turn<S: Crew, R: Wait>(
+    rt: &R,
+    pool: &Pool<S>,
+    hand: &mut Hand<S>,
+    from: u32,
+    seen: u32,
+) -> Turn
+    requires { IsReady S.shape S.gives pool.now hand.old }
+    ensures serving { Serving S.shape S.gives pool.now hand.old hand.new }
+    ensures after { AfterTurn S.shape result (view hand.new.pass) (slots hand.new.pass) }
+{
+    if are_quick(pool, hand, seen) {
+        Turn::Waited
+    } else {
+        take_turn(rt, pool, hand, from)
+    }
+}
+
 // One turn: it looks, and does what there is to do. A turn that finds nothing new after one with nothing to do only waits.
 fn step<S: Crew, R: Wait>(rt: &R, pool: &Pool<S>, hand: &mut Hand<S>, pace: &mut Pace) -> Turn
     requires { IsReady S.shape S.gives pool.now hand.old }
@@ -76,6 +132,9 @@ fn step<S: Crew, R: Wait>(rt: &R, pool: &Pool<S>, hand: &mut Hand<S>, pace: &mut
     pace.look(seen);
     if pace.resting {
         return Turn::Rested;
+    }
+    if pace.free {
+        return free_turn(rt, pool, hand, pace.from, seen);
     }
     take_turn(rt, pool, hand, pace.from)
 }

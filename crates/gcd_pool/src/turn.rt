@@ -20,6 +20,8 @@ pub enum Turn {
     Left,
     /// An event was placed.
     Placed,
+    /// An event was placed with which the worker's run has ended.
+    Ended,
     /// None was placed, and the Drain of this node is out.
     Out(Obj),
     /// None was placed.

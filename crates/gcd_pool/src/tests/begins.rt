@@ -12,6 +12,7 @@ use super::numbers::jobs_of;
 use super::plans::{SIGNALS, plan_of_meeting, plan_of_signals};
 use crate::crew::Crew;
 use crate::drains::begin_near;
+use crate::serve::free_turn;
 use crate::turn::{Turn, take_turn};
 use crate::{Hand, Pool};
 use gcd_plan::{Kind, Obj, Plan};
@@ -32,6 +33,8 @@ enum Step {
     Begin,
     // It begins the run that its machine chooses.
     Choose,
+    // It looks, and takes a turn as a helper with no run in whose last look so many of the events were not there yet.
+    Free(u32),
 }
 
 // A step of a worker, what it comes to, and whether the queue's Drain lies in the worker's deque then, and not in its place.
@@ -39,7 +42,7 @@ type Row = (u8, Step, Turn, bool);
 
 // Four blocks wait on a concurrent queue. Each bench may push one Drain.
 static MEETING: [Row; 11] = [
-    (0, Step::Turns(6), Turn::Placed, false),
+    (0, Step::Turns(6), Turn::Ended, false),
     (1, Step::Look, Turn::Rested, false),
     // The first block: others wait.
     (0, Step::Begin, Turn::Placed, true),
@@ -49,10 +52,10 @@ static MEETING: [Row; 11] = [
     (0, Step::Begin, Turn::Waited, false),
     // The second block: others wait.
     (1, Step::Begin, Turn::Placed, true),
-    (0, Step::Turns(1), Turn::Placed, false),
+    (0, Step::Turns(1), Turn::Ended, false),
     // The third: another waits, and the deque has no room.
     (0, Step::Begin, Turn::Placed, false),
-    (1, Step::Turns(1), Turn::Placed, false),
+    (1, Step::Turns(1), Turn::Ended, false),
     // The last.
     (1, Step::Begin, Turn::Placed, false),
     // Nothing waits.
@@ -61,9 +64,9 @@ static MEETING: [Row; 11] = [
 
 // The same queue, where each worker begins what its machine chooses.
 static CHOICE: [Row; 9] = [
-    (0, Step::Turns(6), Turn::Placed, false),
+    (0, Step::Turns(6), Turn::Ended, false),
     // The first block runs, and the Drain stays in worker 0's deque.
-    (0, Step::Turns(2), Turn::Placed, false),
+    (0, Step::Turns(2), Turn::Ended, false),
     (1, Step::Look, Turn::Rested, false),
     // The second, with the Drain from the deque, which has no room for it again.
     (0, Step::Choose, Turn::Placed, false),
@@ -71,11 +74,19 @@ static CHOICE: [Row; 9] = [
     (1, Step::Choose, Turn::Waited, false),
     // The third, with the Drain that slept: another waits.
     (1, Step::Choose, Turn::Placed, true),
-    (0, Step::Turns(1), Turn::Placed, false),
+    (0, Step::Turns(1), Turn::Ended, false),
     // The last.
     (0, Step::Choose, Turn::Placed, false),
     // Nothing waits, and each worker ends its run.
-    (1, Step::Turns(1), Turn::Placed, false),
+    (1, Step::Turns(1), Turn::Ended, false),
+];
+
+// The same queue, and a helper with no run beside others that are quick, and beside others that are not.
+static QUICK: [Row; 4] = [
+    (0, Step::Turns(6), Turn::Ended, false),
+    (1, Step::Free(4), Turn::Waited, false),
+    (1, Step::Free(3), Turn::Waited, false),
+    (1, Step::Free(2), Turn::Placed, true),
 ];
 
 // A block waits, and a worker sees no more until the row is full.
@@ -187,6 +198,26 @@ fn choose<S: Crew, R: Wait + Abort>(
     (turn, pushed)
 }
 
+// A turn of a helper with no run. Whether the Drain lies in the deque then.
+fn free<S: Crew, R: Wait + Abort>(
+    rt: &R,
+    pool: &Pool<S>,
+    hand: &mut Hand<S>,
+    queue: Obj,
+    late: u32,
+) -> (Turn, bool)
+    requires ready { IsReady S.shape S.gives pool.now hand.old }
+    requires queue { IsTrue (is_node pool.now.plan.now queue.0) }
+    ensures { IsReady S.shape S.gives pool.now hand.new }
+{
+    look(pool, hand);
+    let seen = hand.pass.machine().len().saturating_sub(late);
+    let turn = free_turn(rt, pool, hand, 0, seen);
+    goes_on(rt, pool, hand, turn);
+    let pushed = lies_in_deque(rt, pool.rack, &mut hand.bench, queue);
+    (turn, pushed)
+}
+
 // A step. What it comes to.
 fn make<S: Crew, R: Wait + Abort>(
     rt: &R,
@@ -204,6 +235,7 @@ fn make<S: Crew, R: Wait + Abort>(
         Step::Turns(count) => (turns(rt, pool, hand, count), false),
         Step::Begin => begin(rt, pool, hand, queue),
         Step::Choose => choose(rt, pool, hand, queue),
+        Step::Free(late) => free(rt, pool, hand, queue, late),
     }
 }
 
@@ -285,6 +317,7 @@ fn no_drain_is_lost_at_a_begin(rt: HostRuntime) -> Result<(), Fail> {
     let plan = plan_of_meeting(rt.alloc(), Kind::Concurrent, 4)?;
     play(&rt, rt.alloc(), &plan, &MEETING);
     play(&rt, rt.alloc(), &plan, &CHOICE);
+    play(&rt, rt.alloc(), &plan, &QUICK);
     let plan = plan_of_signals(rt.alloc())?;
     play(&rt, rt.alloc(), &plan, &FULL);
     Ok(())

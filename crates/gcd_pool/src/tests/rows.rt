@@ -45,10 +45,9 @@ fn step<S: Crew, R: Wait>(rt: &R, pool: &Pool<S>, hand: &mut Hand<S>) -> Turn
 
 // What comes after a turn.
 fn pass_time<R: Wait>(rt: &R, idle: &mut Idle, turn: Turn) {
-    if let Turn::Placed = turn {
-        idle.reset();
-    } else {
-        idle.pause(rt);
+    match turn {
+        Turn::Placed | Turn::Ended => idle.reset(),
+        _ => idle.pause(rt),
     }
 }
 
