@@ -5,8 +5,8 @@
 # The program's files end in .txt, since the gate proves each file that ends in .rt or .antt. `plans.rt` is bench/machine's.
 #   program NAME FOLDER DEP..    proves and builds FOLDER/crates/bench_NAME/out/bench_NAME; DEP: the libraries that it names
 #
-# `rt ci` proves and builds it, since it takes what the gate proved of the crates below; `rt run` would prove them anew. It also
-# runs the program once without words, which ends with status 1.
+# What the gate or a check proved of the crates below, and left in their out/, is taken over (tools/libraries); what is lacking is
+# proved first. `rt run` runs the program once without words, which ends with status 1.
 
 # The crates that these stand on, and they, without repeats.
 below() {
@@ -31,10 +31,11 @@ program() {
     below "$@"
     for crate in $found; do
         cp -r --reflink=auto "crates/$crate" "$folder/crates/"
-        rm -rf "$folder/crates/$crate/out" "$folder/crates/$crate/must-fail" # these edits are the gate's
+        rm -rf "$folder/crates/$crate/out"
         grep -E "^$crate( [^:]*)?:" crates.txt
     done >"$folder/crates.txt"
     echo "bench_$name: $*" >>"$folder/crates.txt"
-    (cd "$folder/crates/bench_$name" && rt fmt >/dev/null)
-    (cd "$folder" && rt ci >"$folder/log" 2>&1) || { tail -20 "$folder/log" >&2; return 1; }
+    tools/libraries . "$folder" >/dev/null
+    (cd "$folder/crates/bench_$name" && rt fmt >/dev/null && rt run --) >"$folder/log" 2>&1 || :
+    [ -x "$folder/crates/bench_$name/out/bench_$name" ] || { tail -20 "$folder/log" >&2; return 1; }
 }

@@ -1,0 +1,73 @@
+#!/usr/bin/env bash
+# Times whole runs of the proved program by several workers, as processes: a script of 16,384 blocks with no work on seven serial
+# queues, by 1, 2, 4 and 64 workers, beside the same shape in peers that keep a journal (bench/peers), where their packages are there
+# (Debian's libtbb-dev and libboost-dev); and 64 blocks that each count the words of 16 MiB on a concurrent queue, by 1 and by 4.
+#
+#   whole  nanoseconds a block of a call, with its start, the reading of the script and the writing of the report; best of 25
+#   run    the same less a call that only reads the script (`check` over an empty journal)
+#   peer   a peer's nanoseconds a block, which it measures itself: making its pool, running the blocks, ending the pool
+set -eu -o pipefail
+cd "$(dirname "$0")/.."
+./build
+gcd=$PWD/crates/gcd/out/gcd
+folder=$(mktemp -d)
+trap 'rm -rf "$folder"' EXIT
+peers=
+peer() {
+    if echo "#include <$2>" | "${CXX:-g++}" -E -x c++ - >/dev/null 2>&1; then
+        # shellcheck disable=SC2086 # words
+        "${CXX:-g++}" -std=c++17 -O2 -pthread -o "$folder/$1" "bench/peers/$1.cpp" ${3-}
+        peers="$peers $1"
+    else
+        echo "$1: no <$2>, so it is left out (Debian's package $4)" >&2
+    fi
+}
+peer tbb tbb/flow_graph.h -ltbb libtbb-dev
+peer asio boost/asio/strand.hpp '' libboost-dev
+cd "$folder"
+awk 'BEGIN {
+    for (q = 1; q <= 7; q++) print "queue q" q, "serial"
+    for (b = 1; b <= 16384; b++) print "block b" b
+    print "main"
+    for (b = 1; b <= 16384; b++) print "async q" b % 7 + 1, "b" b
+}' >script
+awk 'BEGIN {
+    print "file f f.txt"
+    print "queue q concurrent"
+    for (b = 1; b <= 64; b++) print "block b" b, "words f"
+    print "main"
+    for (b = 1; b <= 64; b++) print "async q b" b
+}' >heavy
+awk 'BEGIN { for (i = 0; i < 2097152; i++) print "seven77" }' >f.txt
+: >journal
+
+# The least time of so many calls, in microseconds.
+best() {
+    local least= from spent tries=$1
+    shift
+    while [ $((tries -= 1)) -ge 0 ]; do
+        from=${EPOCHREALTIME/./}
+        "$gcd" "$@" >told || :
+        spent=$((${EPOCHREALTIME/./} - from))
+        if [ -z "$least" ] || [ "$spent" -lt "$least" ]; then least=$spent; fi
+    done
+    echo "$least"
+}
+
+echo "$(nproc) processors, load $(cut -d' ' -f1 /proc/loadavg)"
+read=$(best 25 check script journal)
+{
+    echo "workers whole run peers"
+    for workers in 1 2 4 64; do
+        whole=$(best 25 run script --workers "$workers")
+        [ "$(tail -1 told)" = drained ] || { echo "the script does not drain" >&2; exit 1; }
+        theirs=
+        for peer in $peers; do theirs="$theirs $("./$peer" "$workers" | awk '{ print $1, $3 }')"; done
+        awk -v whole="$whole" -v reading="$read" -v workers="$workers" -v theirs="$theirs" \
+            'BEGIN { printf "%s %.0f %.0f%s\n", workers, whole * 1000 / 16384, (whole - reading) * 1000 / 16384, theirs }'
+    done
+} | column -t
+one=$(best 3 run heavy)
+[ "$(tail -1 told)" = drained ] || { echo "the heavy script does not drain" >&2; exit 1; }
+four=$(best 3 run heavy --workers 4)
+awk -v one="$one" -v four="$four" 'BEGIN { printf "64 heavy blocks: %.0f ms by 1 worker, %.0f by 4, %.2f times as fast\n", one / 1000, four / 1000, one / four }'
