@@ -36,6 +36,7 @@ pub struct Alone {
 }
 
 // What worker 0 chooses is recorded; where it has no choice it listens or waits.
+#[inline(always)]
 fn work<P: Poller, C: Clock>(
     run: &mut Running,
     outlook: &mut Outlook,
@@ -67,6 +68,7 @@ fn work<P: Poller, C: Clock>(
 }
 
 // A turn, up to its first recorded event. Whether the run goes on.
+#[inline(always)]
 fn turn<P: Poller, C: Clock>(
     run: &mut Running,
     outlook: &mut Outlook,

@@ -26,6 +26,7 @@ pub(crate) struct Running {
 
 // The value of a block: that of its work, and 0 without work.
 #[tactic(auto, unfolding(gcd_history::specs::Values::value_of))]
+#[inline(always)]
 fn block_value(plan: &Plan, files: &[Vec<u8>], b: Blk) -> u64
     requires { b.0 < length plan.now.blocks }
     ensures { result ≡ value_of plan.now (contents files.now) b.0 }
@@ -34,6 +35,7 @@ fn block_value(plan: &Plan, files: &[Vec<u8>], b: Blk) -> u64
 }
 
 // The values after one more event: an End gives its block a value.
+#[inline(always)]
 fn note_end(plan: &Plan, files: &[Vec<u8>], e: Event, values: &mut Vec<u64>)
     requires count { length values.old.items ≡ length plan.now.blocks }
     requires ends { EndFits plan.now e }
@@ -62,6 +64,7 @@ impl Running {
     }
 
     // Records an event that may come next.
+    #[inline(always)]
     pub(crate) fn record(&mut self, plan: &Plan, files: &[Vec<u8>], e: Event)
         requires next { IsNext plan.now self.old.journal.items e }
         requires run { IsRun plan.now (contents files.now) self.old.journal.items self.old.values.items self.old.machine }
@@ -74,6 +77,7 @@ impl Running {
     }
 
     // Records an event of the outside, or drops it where it may not come next.
+    #[inline(always)]
     pub(crate) fn put(&mut self, plan: &Plan, files: &[Vec<u8>], e: Event)
         requires outside { IsOutside self.old.journal.items e }
         requires run { IsRun plan.now (contents files.now) self.old.journal.items self.old.values.items self.old.machine }

@@ -78,6 +78,7 @@ impl Machine {
 
     /// Takes an event that is permitted, without memory. It costs a constant number of steps, twice the length of the node's
     /// chain, one for each block that the event submits or lets go on, and at a tick a look at each timer.
+    #[inline(always)]
     pub fn apply(&mut self, e: Event)
         requires { MayApply self.old e }
         ensures plan { self.new.plan ≡ self.old.plan }
@@ -91,6 +92,7 @@ impl Machine {
     /// from number `from` on, wrapping round, the start of the first block that waits there, or the source's delivery. None
     /// exactly where no event of the worker is permitted (this project's own rule). It looks once at each object where a
     /// block waits or something is pending, and once in all at each object of their chains.
+    #[inline(always)]
     pub fn choose(&self, worker: u8, from: u32) -> Option<Event>
         ensures choice { (plan : PlanView) (h : List Event) → StandsFor self.now plan h → result ≡ choice_of plan h worker from }
         ensures permitted { (plan : PlanView) (h : List Event) → StandsFor self.now plan h → IfSome result (λ e. why plan h e ≡ None) }
@@ -116,6 +118,7 @@ impl Machine {
     }
 
     /// Whether the last event is a misuse or a halt, after which nothing is permitted.
+    #[inline(always)]
     pub fn is_halted(&self) -> bool
         ensures { (plan : PlanView) (h : List Event) → StandsFor self.now plan h → result ≡ is_halted h }
     {
@@ -123,6 +126,7 @@ impl Machine {
     }
 
     /// How many events have come.
+    #[inline(always)]
     pub fn len(&self) -> u32
         ensures { (plan : PlanView) (h : List Event) → StandsFor self.now plan h → result ≡ length h }
     {
@@ -130,6 +134,7 @@ impl Machine {
     }
 
     /// How many runs are open and not parked.
+    #[inline(always)]
     pub fn running(&self) -> u32
         ensures { (plan : PlanView) (h : List Event) → StandsFor self.now plan h → result ≡ running_of plan h }
     {
@@ -138,6 +143,7 @@ impl Machine {
 
     /// The least due time above journal time, in milliseconds. None exactly where no due time is left
     /// (dispatch_source_set_timer(3)).
+    #[inline(always)]
     pub fn next_due(&self) -> Option<u32>
         ensures { (plan : PlanView) (h : List Event) → StandsFor self.now plan h → result ≡ next_due_of plan h }
     {
@@ -154,6 +160,7 @@ impl Machine {
 
     /// The live read source with the least number from this one on; None exactly where there is none. It costs a step for each
     /// word of 64 objects that it passes, and none where no read source is live (dispatch_source_create(3)).
+    #[inline(always)]
     pub fn next_live_feed(&self, from: u32) -> Option<Obj>
         ensures { (plan : PlanView) (h : List Event) → StandsFor self.now plan h → option_map (λ o. o.0) result ≡ find (is_live_feed plan h) (range_with_len from (length plan.objects - from)) }
     {

@@ -38,6 +38,7 @@ pub fn begin<S: Slot>(board: &RowBoard<S>, pass: &mut RowPass<S>, drain: &Drain,
 }
 
 // The same for an event that the pass's machine permits: it is not judged again before the first exchange.
+#[inline(always)]
 fn put_begin<S: Slot>(board: &RowBoard<S>, pass: &mut RowPass<S>, drain: &Drain, e: Event) -> Put
     requires pass { IsPassOf S.shape S.gives board.now pass.old }
     requires worker { worker_of e ≡ (view pass.old).worker }
@@ -52,6 +53,7 @@ fn put_begin<S: Slot>(board: &RowBoard<S>, pass: &mut RowPass<S>, drain: &Drain,
 }
 
 // Puts the Drain at the back of the bench's own deque, or else into its sleeping place.
+#[inline(always)]
 fn push_or_sleep(rack: &Rack, bench: &mut Bench, drain: Drain)
     requires bench { IsBenchOf rack.now bench.old }
     requires drain { IsRackDrain rack.now drain }
@@ -66,6 +68,7 @@ fn push_or_sleep(rack: &Rack, bench: &mut Bench, drain: Drain)
 }
 
 // Lays the Drain down: where more can begin on its node, for others to steal.
+#[inline(always)]
 fn lay_down(rack: &Rack, bench: &mut Bench, drain: Drain, more: bool)
     requires bench { IsBenchOf rack.now bench.old }
     requires drain { IsRackDrain rack.now drain }
@@ -81,6 +84,7 @@ fn lay_down(rack: &Rack, bench: &mut Bench, drain: Drain, more: bool)
 }
 
 // Puts an event that the pass's machine permits, and that begins a run on the Drain's node. Whether it was placed.
+#[inline(always)]
 fn begins_run<S: Slot>(board: &RowBoard<S>, pass: &mut RowPass<S>, drain: &Drain, e: Event) -> bool
     requires pass { IsPassOf S.shape S.gives board.now pass.old }
     requires worker { worker_of e ≡ (view pass.old).worker }
@@ -98,6 +102,7 @@ fn begins_run<S: Slot>(board: &RowBoard<S>, pass: &mut RowPass<S>, drain: &Drain
 }
 
 // Whether others may begin a run on the node: it is a concurrent queue on which a block waits, and the rack has another bench.
+#[inline(always)]
 fn others_may_begin(plan: &Plan, rack: &Rack, machine: &Machine, node: Obj) -> bool
     requires node { node.0 < length plan.now.objects }
     requires plan { machine.now.plan ≡ plan.now }
@@ -112,6 +117,7 @@ fn others_may_begin(plan: &Plan, rack: &Rack, machine: &Machine, node: Obj) -> b
 }
 
 // Begins the run of this event on the Drain's node, and lays the Drain down.
+#[inline(always)]
 fn begin_with<S: Slot>(pool: &Pool<S>, hand: &mut Hand<S>, drain: Drain, e: Event) -> Turn
     requires ready { IsReady S.shape S.gives pool.now hand.old }
     requires drain { IsRackDrain pool.now.rack.now drain }
@@ -169,6 +175,7 @@ pub fn begin_near<S: Crew, R: Wait>(rt: &R, pool: &Pool<S>, hand: &mut Hand<S>, 
 }
 
 // Begins the run of this event on its node, where the node's Drain sleeps; or else what may begin on a Drain that is found.
+#[inline(always)]
 pub fn begin_chosen<S: Crew, R: Wait>(
     rt: &R,
     pool: &Pool<S>,

@@ -38,6 +38,7 @@ pub enum Duty {
 
 // The node on which a block that may start was submitted.
 #[tactic(auto, using(crate::proofs::Begun::start_is_known))]
+#[inline(always)]
 fn node_of_start(machine: &Machine, blk: Blk) -> Option<Obj>
     ensures { (plan : PlanView) (h : List Event) (w : ℕ) → StandsFor machine.now plan h → why plan h (Start w blk) ≡ None
         → result ≡ node_of plan h blk.0 }
@@ -50,6 +51,7 @@ fn node_of_start(machine: &Machine, blk: Blk) -> Option<Obj>
 }
 
 // The node on which a permitted event begins a run.
+#[inline(always)]
 pub fn node_of_begin(machine: &Machine, e: Event) -> Option<Obj>
     ensures { (plan : PlanView) (h : List Event) → StandsFor machine.now plan h → why plan h e ≡ None → result ≡ begun_on plan h e }
 {

@@ -104,6 +104,7 @@ fn rest<S: Slot, P: Poller, C: Clock>(
 }
 
 // Worker 0 records what its machine chose, or begins that run.
+#[inline(always)]
 fn lead_chosen<S: Crew, R: Wait>(rt: &R, pool: &Pool<S>, hand: &mut Hand<S>, e: Event) -> Turn
     requires ready { IsReady S.shape S.gives pool.now hand.old }
     requires worker { worker_of e ≡ (view hand.old.pass).worker }
@@ -120,6 +121,7 @@ fn lead_chosen<S: Crew, R: Wait>(rt: &R, pool: &Pool<S>, hand: &mut Hand<S>, e: 
 }
 
 // Worker 0 does what its machine chose, or else rests.
+#[inline(always)]
 fn lead_work<S: Crew, P: Poller, C: Clock, R: Wait>(
     rt: &R,
     pool: &Pool<S>,
@@ -148,6 +150,7 @@ fn lead_work<S: Crew, P: Poller, C: Clock, R: Wait>(
 }
 
 // Does what the outlook asks for.
+#[inline(always)]
 fn answer<S: Crew, P: Poller, C: Clock, R: Wait>(
     rt: &R,
     pool: &Pool<S>,
@@ -175,6 +178,7 @@ fn answer<S: Crew, P: Poller, C: Clock, R: Wait>(
 }
 
 // One turn of worker 0.
+#[inline(always)]
 fn lead_turn<S: Crew, P: Poller, C: Clock, R: Wait>(
     rt: &R,
     pool: &Pool<S>,
@@ -196,6 +200,7 @@ fn lead_turn<S: Crew, P: Poller, C: Clock, R: Wait>(
 }
 
 // What comes after a turn: where nothing was placed, a short wait.
+#[inline(always)]
 fn pass_time<R: Wait>(rt: &R, idle: &mut Idle, turn: Turn) {
     match turn {
         Turn::Placed | Turn::Ended => idle.reset(),

@@ -17,6 +17,7 @@ use gcd_row::{Put, RowBoard, RowPass, Slot};
 use std::sync::Wait;
 
 // The run that the event ends.
+#[inline(always)]
 fn ended_run(e: Event) -> Option<Run>
     ensures { result ≡ ended_run e }
 {
@@ -36,6 +37,7 @@ fn ended_run(e: Event) -> Option<Run>
 }
 
 // Puts an end. None where another event barred it and the run is not halted.
+#[inline(always)]
 fn try_end<S: Slot>(board: &RowBoard<S>, pass: &mut RowPass<S>, e: Event) -> Option<Turn>
     requires pass { IsPassOf S.shape S.gives board.now pass.old }
     requires worker { worker_of e ≡ (view pass.old).worker }
@@ -59,6 +61,7 @@ fn try_end<S: Slot>(board: &RowBoard<S>, pass: &mut RowPass<S>, e: Event) -> Opt
 }
 
 // Puts an end until it stands, or the run has ended.
+#[inline(always)]
 fn put_end<S: Slot, R: Wait>(rt: &R, board: &RowBoard<S>, pass: &mut RowPass<S>, e: Event) -> Turn
     requires pass { IsPassOf S.shape S.gives board.now pass.old }
     requires worker { worker_of e ≡ (view pass.old).worker }
@@ -77,6 +80,7 @@ fn put_end<S: Slot, R: Wait>(rt: &R, board: &RowBoard<S>, pass: &mut RowPass<S>,
 }
 
 // Runs the block whose run the pass holds, and records its end.
+#[inline(always)]
 fn end_block<S: Crew, R: Wait>(
     rt: &R,
     board: &RowBoard<S>,
@@ -121,6 +125,7 @@ fn end_source<S: Crew, R: Wait>(
 }
 
 // Records an event that ends no run.
+#[inline(always)]
 fn go_on<S: Slot>(board: &RowBoard<S>, pass: &mut RowPass<S>, e: Event) -> Turn
     requires pass { IsPassOf S.shape S.gives board.now pass.old }
     requires worker { worker_of e ≡ (view pass.old).worker }
@@ -143,6 +148,7 @@ fn go_on<S: Slot>(board: &RowBoard<S>, pass: &mut RowPass<S>, e: Event) -> Turn
 
 // Records what the worker's machine chose, an event that begins no run on a node. Before the end of a run the worker runs its
 // body, or calls its handler.
+#[inline(always)]
 pub fn record_own<S: Crew, R: Wait>(rt: &R, pool: &Pool<S>, hand: &mut Hand<S>, e: Event) -> Turn
     requires ready { IsReady S.shape S.gives pool.now hand.old }
     requires worker { worker_of e ≡ (view hand.old.pass).worker }

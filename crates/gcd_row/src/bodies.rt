@@ -18,6 +18,7 @@ use gcd_plan::{Blk, Obj};
 
 impl<S: Slot> RowBoard<S> {
     // Changes the cell of the run that the pass holds.
+    #[inline(always)]
     fn change(&self, pass: &mut RowPass<S>, slot: usize, cell: S) -> S
         requires pass { IsPassOf S.shape S.gives self.now pass.old }
         requires here { (c : S) × (slots pass.old ≡ (slot, c) ∷ []) }
@@ -36,6 +37,7 @@ impl<J: Job + Drop, H: Handler + Drop> RowBoard<Cell<J, H>> {
     /// Takes the body of the block whose run the pass holds, to run it; the slot is then `Away`. Conditions: the block is open
     /// and not parked, its last Start or Wake is the pass's own, and its body is in the slot. The body may give only what the job
     /// may that was handed in for the block (this project's own rule).
+    #[inline(always)]
     pub fn take_body(&self, pass: &mut Pass<J, H>, b: Blk) -> J
         requires pass { IsPassOf (shape_of H.kind H.times H.total) (gives_of J.gives) self.now pass.old }
         requires run { held_run (view pass.old) ≡ Some (Block b) }
@@ -54,6 +56,7 @@ impl<J: Job + Drop, H: Handler + Drop> RowBoard<Cell<J, H>> {
 
     /// Gives the body of a block back into its slot, before an act that parks it. Conditions: the pass holds the block's run, its
     /// slot is `Away`, and the body may give only what the job may that was handed in for the block (this project's own rule).
+    #[inline(always)]
     pub fn give_body(&self, pass: &mut Pass<J, H>, b: Blk, job: J)
         requires pass { IsPassOf (shape_of H.kind H.times H.total) (gives_of J.gives) self.now pass.old }
         requires run { held_run (view pass.old) ≡ Some (Block b) }
@@ -68,6 +71,7 @@ impl<J: Job + Drop, H: Handler + Drop> RowBoard<Cell<J, H>> {
 
     /// Gives the value that a block's body gave into its slot, before the block's End. Conditions: the pass holds the block's run,
     /// its slot is `Away`, and the job that was handed in for the block may give the value at 0 (this project's own rule).
+    #[inline(always)]
     pub fn give_done(&self, pass: &mut Pass<J, H>, b: Blk, value: u64)
         requires pass { IsPassOf (shape_of H.kind H.times H.total) (gives_of J.gives) self.now pass.old }
         requires run { held_run (view pass.old) ≡ Some (Block b) }

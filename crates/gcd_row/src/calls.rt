@@ -16,6 +16,7 @@ use gcd_plan::MAX_EVENTS;
 
 impl<S: Slot> RowBoard<S> {
     // Sees the event n, where there is one.
+    #[inline(always)]
     fn advance(&self, pass: &mut RowPass<S>, n: u32) -> bool
         requires pass { IsPassOf S.shape S.gives self.now pass.old }
         requires place { (n ≡ length (view pass.old).seen) × (n < max_events) }
@@ -33,6 +34,7 @@ impl<S: Slot> RowBoard<S> {
     }
 
     // Places the event behind the n that were seen, or sees the one that another pass has placed there.
+    #[inline(always)]
     fn place(&self, pass: &mut RowPass<S>, n: u32, e: Event) -> bool
         requires pass { IsPassOf S.shape S.gives self.now pass.old }
         requires place { (n ≡ length (view pass.old).seen) × (n < max_events) }
@@ -56,6 +58,7 @@ impl<S: Slot> RowBoard<S> {
 
     /// Sees the row as it is at a moment of the call, and answers its length: 0 to 65,535, at least what the pass had seen. It
     /// costs one load for each event that is new to the pass, and one more (this project's own rule).
+    #[inline(always)]
     pub fn look(&self, pass: &mut RowPass<S>) -> u32
         requires { IsPassOf S.shape S.gives self.now pass.old }
         ensures pass { IsPassOf S.shape S.gives self.now pass.new }
@@ -113,6 +116,7 @@ impl<S: Slot> RowBoard<S> {
 
     /// The same for an event that is permitted after what the pass has seen, as one that its machine chose: it is not judged
     /// again before the first exchange (this project's own rule).
+    #[inline(always)]
     pub fn put_chosen(&self, pass: &mut RowPass<S>, e: Event) -> Put
         requires pass { IsPassOf S.shape S.gives self.now pass.old }
         requires worker { worker_of e ≡ (view pass.old).worker }

@@ -19,6 +19,7 @@ use gcd_event::{Event, of_word, to_word};
 
 // The event that has the word. 0 is no event's, and is found so often that it is told without decoding.
 #[tactic(auto, using(crate::proofs::Decoding::zero_is_none))]
+#[inline(always)]
 fn event_of(word: u64) -> Option<Event>
     ensures spelled { IfSome result (λ e. IsFitting e × (word_of e ≡ word)) }
     ensures silent { IfNone result ((e : Event) → IsFitting e → word_of e ≢ word) }
@@ -31,6 +32,7 @@ fn event_of(word: u64) -> Option<Event>
 
 impl<S: Slot> RowBoard<S> {
     // The event n, where there is one; else the row has n events.
+    #[inline(always)]
     pub(crate) fn read(&self, seat: &mut Seat<S, View<S>>, n: u32) -> Option<Event>
         requires board { seat.old.table_id ≡ self.now.table.shared.table_id }
         requires live { seat.old.me.0.spent ≡ false }
@@ -43,6 +45,7 @@ impl<S: Slot> RowBoard<S> {
     }
 
     // Places the event behind the n that were seen, or gives the one that another pass has placed there.
+    #[inline(always)]
     pub(crate) fn write(&self, seat: &mut Seat<S, View<S>>, n: u32, e: Event) -> Option<Event>
         requires board { seat.old.table_id ≡ self.now.table.shared.table_id }
         requires live { seat.old.me.0.spent ≡ false }

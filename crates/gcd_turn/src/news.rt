@@ -80,6 +80,7 @@ impl News {
         }
     }
 
+    #[inline(always)]
     pub(crate) fn first(&self) -> Option<Tell>
         ensures { result ≡ slice_get self.now 0 }
     {

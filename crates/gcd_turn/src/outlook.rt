@@ -70,6 +70,7 @@ impl Outlook {
     /// The first steps of a turn (this project's own rule): it leaves where the run has ended; it watches what is live; and it
     /// gives the first of what was told, a Tick that is due, or else what worker 0 chooses. The clock is asked only where there
     /// is no news and a due time is left, and the machine for a choice once, and once more only where the run is quiescent.
+    #[inline(always)]
     pub fn ask<P: Poller, C: Clock>(
         &self,
         plan: &Plan,

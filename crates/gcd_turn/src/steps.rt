@@ -30,6 +30,7 @@ pub(crate) enum Time {
 }
 
 // The event that records a piece of news.
+#[inline(always)]
 pub(crate) fn event_of(tell: Tell) -> Event
     ensures { result ≡ event_of tell }
 {
@@ -46,6 +47,7 @@ pub(crate) fn event_of(tell: Tell) -> Event
 
 // Whether nothing more is recorded: the run is halted, full or quiescent. A run in which worker 0 has a choice is not quiescent,
 // so only one without a choice is looked at.
+#[inline(always)]
 pub(crate) fn is_over(machine: &Machine, chosen: Option<Event>) -> bool
     requires { (plan : PlanView) (h : List Event) → StandsFor machine.now plan h → chosen ≡ choice_of plan h 0 0 }
     ensures over { (plan : PlanView) (h : List Event) → StandsFor machine.now plan h → length h ≤ max_events
@@ -66,6 +68,7 @@ pub(crate) fn is_over(machine: &Machine, chosen: Option<Event>) -> bool
 
 // The live feed with the least number from this one on. It costs nothing to speak of where no feed is live. A machine that stands
 // for no history may name any, so what is named is looked at.
+#[inline(always)]
 pub(crate) fn live_feed_from(plan: &Plan, machine: &Machine, from: u32) -> Option<Obj>
     requires { machine.now.plan ≡ plan.now }
     ensures from { IfSome result (λ s. from ≤ s.0) }
@@ -116,6 +119,7 @@ fn watch_one<P: Poller>(
 }
 
 // Each live feed is watched from now on, by number.
+#[inline(always)]
 pub(crate) fn watch_new<P: Poller>(
     plan: &Plan,
     machine: &Machine,
@@ -141,6 +145,7 @@ pub(crate) fn watch_new<P: Poller>(
 }
 
 // A Tick that is due, or how long the next due time is ahead. The clock is asked only where a due time is left.
+#[inline(always)]
 pub(crate) fn next_time<C: Clock>(start: u64, plan: &Plan, machine: &Machine, clock: &mut C) -> Time
     ensures time { (h : List Event) → StandsFor machine.now plan.now h
         → IsTime plan.now h start (C.state clock.new).present result }

@@ -9,6 +9,7 @@ use gcd_plan::{Act, Blk, Obj, Reason, Run};
 
 impl Registers {
     // The run makes its act of this index.
+    #[inline(always)]
     pub fn act(&mut self, worker: u8, run: Run, index: u32)
         requires { CanAct self.old worker run index }
         ensures { self.new ≡ act_taken self.old worker run (act_at self.old.plan run index) }
@@ -20,6 +21,7 @@ impl Registers {
     }
 
     // The run makes the act.
+    #[inline(always)]
     fn make(&mut self, worker: u8, run: Run, act: Act)
         requires { CanDo self.old worker run act }
         ensures { self.new ≡ act_made self.old worker run act }
@@ -30,6 +32,7 @@ impl Registers {
     }
 
     // Parks the run where the act waits for something; a handler waits for nothing.
+    #[inline(always)]
     fn park_in(&mut self, worker: u8, run: Run, act: Act)
         requires { CanParkIn self.old worker run act }
         ensures { self.new ≡ parked_in self.old worker run act }
@@ -41,6 +44,7 @@ impl Registers {
     }
 
     // The run has made one act more.
+    #[inline(always)]
     fn count_act(&mut self, run: Run)
         requires { CanCount self.old run }
         ensures { self.new ≡ acted self.old run }
@@ -101,6 +105,7 @@ impl Registers {
     }
 
     // What the act does, whoever makes it.
+    #[inline(always)]
     fn have_effect(&mut self, act: Act)
         requires { CanHaveEffect self.old act }
         ensures { self.new ≡ effect_of self.old act }

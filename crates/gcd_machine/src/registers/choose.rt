@@ -19,6 +19,7 @@ use gcd_plan::{Act, Blk, Obj, Run};
 impl Registers {
     /// What the worker records next: of its own run, or a wake, the start of `main`, or of the objects from this number on,
     /// wrapping round, a start or a delivery.
+    #[inline(always)]
     pub fn choice(&self, worker: u8, from: u32) -> Option<Event>
         requires { IsShaped self.now }
         ensures { result ≡ choice_by self.now worker from }
@@ -33,6 +34,7 @@ impl Registers {
     }
 
     // The next event of the run, which the worker has.
+    #[inline(always)]
     fn own_event(&self, worker: u8, run: Run) -> Event
         requires shape { IsShaped self.now }
         requires run { is_run_of self.now.plan run ≡ true }
@@ -48,6 +50,7 @@ impl Registers {
     }
 
     // The run's next act, as an act or as a misuse.
+    #[inline(always)]
     fn act_event(&self, worker: u8, run: Run, act: Act) -> Event
         requires shape { IsShaped self.now }
         requires run { is_run_of self.now.plan run ≡ true }
@@ -67,6 +70,7 @@ impl Registers {
     }
 
     // What a worker without a run records next.
+    #[inline(always)]
     fn idle_choice(&self, worker: u8, from: u32) -> Option<Event>
         requires { IsShaped self.now }
         ensures { result ≡ idle_choice_at self.now worker from }
@@ -81,6 +85,7 @@ impl Registers {
     }
 
     // The parked block with the least number that may wake.
+    #[inline(always)]
     fn next_due_block(&self) -> Option<u32>
         requires { IsShaped self.now }
         ensures { result ≡ next_set self.now.due 0 }
@@ -89,6 +94,7 @@ impl Registers {
     }
 
     // The wake of that block.
+    #[inline(always)]
     fn wake_choice(&self, worker: u8) -> Option<Event>
         requires { IsShaped self.now }
         ensures { result ≡ wake_at self.now worker }
@@ -103,6 +109,7 @@ impl Registers {
     }
 
     // The start of `main`, until it has come.
+    #[inline(always)]
     fn main_choice(&self, worker: u8) -> Option<Event>
         requires { IsShaped self.now }
         ensures { result ≡ main_at self.now worker }
@@ -118,6 +125,7 @@ impl Registers {
     }
 
     // The first start or delivery of the objects from this number on, wrapping round.
+    #[inline(always)]
     fn all_nodes_choice(&self, worker: u8, first: u32) -> Option<Event>
         requires shape { IsShaped self.now }
         requires first { first ≤ length self.now.plan.objects }
@@ -131,6 +139,7 @@ impl Registers {
     }
 
     // The next object from this number on that has to be looked at.
+    #[inline(always)]
     fn next_busy(&self, from: u32) -> Option<u32>
         requires { IsShaped self.now }
         ensures { result ≡ next_set self.now.busy from }
@@ -139,6 +148,7 @@ impl Registers {
     }
 
     // The same below `end`.
+    #[inline(always)]
     fn next_busy_below(&self, from: u32, end: u32) -> Option<u32>
         requires shape { IsShaped self.now }
         requires order { from ≤ end }
@@ -173,6 +183,7 @@ impl Registers {
     }
 
     // The start of the first block that waits on the object, or the source's delivery, if it may come next.
+    #[inline(always)]
     fn node_choice(&self, worker: u8, node: Obj, marks: &mut Marks) -> Option<Event>
         requires shape { IsShaped self.now }
         requires node { node.0 < length self.now.plan.objects }
@@ -190,6 +201,7 @@ impl Registers {
     }
 
     // The start of the first block that waits on the object, whose chain is not shut.
+    #[inline(always)]
     fn start_choice(&self, worker: u8, node: Obj) -> Option<Event>
         requires shape { IsShaped self.now }
         requires node { node.0 < length self.now.plan.objects }
@@ -208,6 +220,7 @@ impl Registers {
     }
 
     // The delivery of the source, whose chain is not shut.
+    #[inline(always)]
     fn deliver_choice(&self, worker: u8, node: Obj) -> Option<Event>
         requires shape { IsShaped self.now }
         requires node { node.0 < length self.now.plan.objects }

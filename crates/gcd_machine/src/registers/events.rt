@@ -10,6 +10,7 @@ use gcd_refinement::HandlerProgress;
 
 impl Registers {
     /// Takes the event.
+    #[inline(always)]
     pub fn apply(&mut self, e: Event)
         requires { CanTake self.old e }
         ensures { self.new ≡ stepped self.old e }
@@ -20,6 +21,7 @@ impl Registers {
     }
 
     // Changes what the event changes beside the number of events.
+    #[inline(always)]
     fn change(&mut self, e: Event)
         requires { CanChange self.old e }
         ensures { self.new ≡ changed self.old e }
@@ -40,6 +42,7 @@ impl Registers {
     }
 
     // The worker starts the block.
+    #[inline(always)]
     fn start(&mut self, worker: u8, blk: Blk)
         requires { CanStart self.old worker blk }
         ensures { self.new ≡ started self.old worker blk }
@@ -61,6 +64,7 @@ impl Registers {
     }
 
     // The worker ends the block.
+    #[inline(always)]
     fn end(&mut self, worker: u8, blk: Blk)
         requires { CanEnd self.old worker blk }
         ensures { self.new ≡ ended self.old worker blk }
@@ -72,6 +76,7 @@ impl Registers {
     }
 
     // The block is over: its run closes on its node, if it has one, and the worker is free.
+    #[inline(always)]
     fn close_block(&mut self, worker: u8, blk: Blk)
         requires { CanCloseBlock self.old worker blk }
         ensures { self.new ≡ closed_block self.old worker blk }

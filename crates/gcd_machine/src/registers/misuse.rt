@@ -12,6 +12,7 @@ use super::Registers;
 use gcd_plan::{Act, MisuseCode, Obj, Run};
 
 // The objects that the act names: one, and of some acts another.
+#[inline(always)]
 fn named(act: Act) -> (Obj, Option<Obj>)
     ensures { named act ≡ result.0.0 ∷ second_of result.1 }
 {
@@ -41,6 +42,7 @@ fn named(act: Act) -> (Obj, Option<Obj>)
 impl Registers {
     /// The code of the misuse, if the act is one now; a released name comes first, and then the lowest code
     /// (dispatch_object(3)).
+    #[inline(always)]
     pub fn misuse(&self, act: Act) -> Option<u8>
         requires shape { IsShaped self.now }
         requires act { is_act self.now.plan act ≡ true }
@@ -62,6 +64,7 @@ impl Registers {
     }
 
     // Whether no reference on the object is left; root has none to lose.
+    #[inline(always)]
     fn is_released(&self, o: Obj) -> bool
         requires shape { IsShaped self.now }
         requires object { o.0 < length self.now.plan.objects }
@@ -71,6 +74,7 @@ impl Registers {
     }
 
     // Whether an object that the act names is released.
+    #[inline(always)]
     fn names_released(&self, act: Act) -> bool
         requires shape { IsShaped self.now }
         requires act { is_act self.now.plan act ≡ true }
@@ -87,6 +91,7 @@ impl Registers {
     }
 
     // What is wrong with the act beside a released name.
+    #[inline(always)]
     fn act_misuse(&self, act: Act) -> Option<u8>
         requires shape { IsShaped self.now }
         requires act { is_act self.now.plan act ≡ true }

@@ -11,6 +11,7 @@ use gcd_plan::{Blk, Obj};
 
 impl Registers {
     // The run of a block opens on its node, if it has one.
+    #[inline(always)]
     pub fn begin_run(&mut self, node: Option<Obj>, barrier: bool)
         requires { (n : Obj) → node ≡ Some n → CanBegin self.old n barrier }
         ensures { self.new ≡ run_begun self.old node barrier }
@@ -22,6 +23,7 @@ impl Registers {
     }
 
     // The run of a block closes on its node, if it has one.
+    #[inline(always)]
     pub fn close_run(&mut self, node: Option<Obj>, barrier: bool)
         requires { (n : Obj) → node ≡ Some n → CanCloseOn self.old n barrier }
         ensures { self.new ≡ run_closed self.old node barrier }
@@ -33,6 +35,7 @@ impl Registers {
     }
 
     // The run of the first block that waits on the node opens there.
+    #[inline(always)]
     fn begin_on(&mut self, node: Obj, barrier: bool)
         requires { CanBegin self.old node barrier }
         ensures { self.new ≡ begun_on self.old node barrier }
@@ -46,6 +49,7 @@ impl Registers {
     }
 
     // A run of the node closes there.
+    #[inline(always)]
     fn close_on(&mut self, node: Obj, barrier: bool)
         requires { CanCloseOn self.old node barrier }
         ensures { self.new ≡ closed_on self.old node barrier }
@@ -55,6 +59,7 @@ impl Registers {
     }
 
     // The block waits on the node behind all others.
+    #[inline(always)]
     pub fn submit(&mut self, node: Obj, blk: Blk, barrier: bool)
         requires { CanSubmit self.old node blk }
         ensures { self.new ≡ submitted self.old node blk barrier }
@@ -68,6 +73,7 @@ impl Registers {
     }
 
     // Whether the node has to be looked at still: a block waits there, or something is pending.
+    #[inline(always)]
     pub fn stays_busy(&self, node: Obj, pending: u64) -> bool
         requires { node.0 < length self.now.lists.lists }
         ensures { result ≡ stays_busy (length (list_at self.now.lists node.0)) pending }
@@ -76,6 +82,7 @@ impl Registers {
     }
 
     // What is pending at the source, with the due times that no delivery took.
+    #[inline(always)]
     pub fn pending(&self, src: Obj) -> u64
         requires { HasPending self.now src }
         ensures { result ≡ pending_in self.now src.0 }

@@ -7,6 +7,7 @@ use gcd_plan::{Act, Run};
 
 impl Registers {
     // The act at a place of what the run does.
+    #[inline(always)]
     pub fn act_at(&self, run: Run, index: u32) -> Option<Act>
         ensures { result ≡ act_at self.now.plan run index }
     {

@@ -28,6 +28,7 @@ fn is_same(run: Run, other: Run) -> bool
 
 impl Registers {
     /// The run that the worker has.
+    #[inline(always)]
     pub fn own(&self, worker: u8) -> Option<Run>
         requires shape { IsShaped self.now }
         requires worker { worker < max_workers }
@@ -58,6 +59,7 @@ impl Registers {
     }
 
     /// How many acts the run has made.
+    #[inline(always)]
     pub fn done(&self, run: Run) -> u32
         requires shape { IsShaped self.now }
         requires run { is_run_of self.now.plan run ≡ true }
@@ -70,6 +72,7 @@ impl Registers {
     }
 
     /// The run's next act, if one is left.
+    #[inline(always)]
     pub fn next_act(&self, run: Run) -> Option<Act>
         requires shape { IsShaped self.now }
         requires run { is_run_of self.now.plan run ≡ true }

@@ -9,6 +9,7 @@ use gcd_plan::{Blk, Obj, Reason, Run};
 
 impl Registers {
     // The worker has the run.
+    #[inline(always)]
     pub fn take_up(&mut self, worker: u8, run: Run)
         requires { CanTakeUp self.old worker }
         ensures { self.new ≡ taken_up self.old worker run }
@@ -18,6 +19,7 @@ impl Registers {
     }
 
     // The worker has no run.
+    #[inline(always)]
     pub fn set_free(&mut self, worker: u8)
         requires { CanSetFree self.old worker }
         ensures { self.new ≡ set_free self.old worker }
@@ -44,6 +46,7 @@ impl Registers {
     }
 
     // Whoever waits for the end of a block may wake, if somebody does.
+    #[inline(always)]
     pub fn let_caller_go(&mut self, caller: Option<Blk>)
         requires { (b : Blk) → caller ≡ Some b → b.0 < length self.old.due }
         ensures { self.new ≡ caller_let_go self.old caller }
