@@ -1,6 +1,7 @@
 #!/usr/bin/env bash
-# Times whole runs of the proved program, as processes: the large script with 16,384 blocks, made in memory, and a script of as many
-# blocks on seven queues, each of which counts the lines of one file of 4,096 bytes. Best of ninety-nine, in milliseconds.
+# Times whole runs of the proved program, as processes: the large script with 16,384 blocks, made in memory; a script of as many blocks
+# on seven queues that do nothing; and the same where each block counts the lines of one file of 4,096 bytes. Best of ninety-nine, in
+# milliseconds.
 #
 #   start    the program with no words: it prints how it is called
 #   reading  the script is read: `check` over an empty journal, less the start
@@ -13,13 +14,18 @@ gcd=$PWD/crates/gcd/out/gcd
 folder=$(mktemp -d)
 trap 'rm -rf "$folder"' EXIT
 cd "$folder"
-awk 'BEGIN {
-    print "file f f.txt"
-    for (q = 1; q <= 7; q++) print "queue q" q, q % 2 ? "serial" : "concurrent"
-    for (b = 1; b <= 16384; b++) print "block b" b, "lines f"
-    print "main"
-    for (b = 1; b <= 16384; b++) print "async q" b % 7 + 1, "b" b
-}' >script
+# A script whose blocks have this work.
+script_of() {
+    awk -v work="$1" 'BEGIN {
+        print "file f f.txt"
+        for (q = 1; q <= 7; q++) print "queue q" q, q % 2 ? "serial" : "concurrent"
+        for (b = 1; b <= 16384; b++) print "block b" b work
+        print "main"
+        for (b = 1; b <= 16384; b++) print "async q" b % 7 + 1, "b" b
+    }'
+}
+script_of "" >idle
+script_of " lines f" >lines
 awk 'BEGIN { for (i = 0; i < 512; i++) print "seven77" }' >f.txt
 : >journal
 
@@ -39,15 +45,16 @@ best() {
 tell() { printf '%8.1f  %s\n' "$(awk "BEGIN { print $1 / 1000 }")" "$2"; }
 
 start=$(best)
-check=$(best check script journal)
-run=$(best run script)
-[ "$(tail -1 told)" = drained ] || { echo "the script does not drain" >&2; exit 1; }
-whole=$(best run script --journal)
-big=$(best big 16384)
 tell "$start" "start"
-tell $((check - start)) "reading"
-tell $((run - check)) "running"
-tell $((whole - run)) "writing"
-tell "$run" "run script"
-tell "$whole" "run script --journal"
-tell "$big" "big 16384"
+for script in idle lines; do
+    check=$(best check "$script" journal)
+    run=$(best run "$script")
+    [ "$(tail -1 told)" = drained ] || { echo "the script $script does not drain" >&2; exit 1; }
+    whole=$(best run "$script" --journal)
+    tell $((check - start)) "$script: reading"
+    tell $((run - check)) "$script: running"
+    tell $((whole - run)) "$script: writing"
+    tell "$run" "run $script"
+    tell "$whole" "run $script --journal"
+done
+tell "$(best big 16384)" "big 16384"
