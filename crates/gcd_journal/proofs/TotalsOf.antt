@@ -1,9 +1,9 @@
 -- What deliveries hand over, an event on.
-use Rattle.std.proofs.Common.{◌≡◌, ◌≢◌, ℕ, ◌+◌, ◌*◌, ◌^◌, ◌<◌, ◌≤◌, ◌==◌, Bool, true, false, cond, List, [], ◌∷◌, ◌++◌, length, take, reverse, Option, Some, None, get_or, set, replicate, refl, ap, sym, ◌∙◌, subst, arith, fold, inl, inr, if◌then◌else◌, lit≤}
+use Rattle.std.proofs.Common.{zero, suc, add-one, ◌≡◌, ◌≢◌, ℕ, ◌+◌, ◌*◌, ◌^◌, ◌<◌, ◌≤◌, ◌==◌, Bool, true, false, cond, List, [], ◌∷◌, ◌++◌, length, take, reverse, Option, Some, None, get_or, set, replicate, refl, ap, sym, ◌∙◌, subst, arith, fold, inl, inr, if◌then◌else◌, lit≤}
 use Rattle.std.specs.Option.{option_map_or}
 use Rattle.std.specs.Int.Bits.{or_add_and}
-use Rattle.std.proofs.lemmas.Bool.{cases_eq, eq-eqb, eqb-true, ne_eqb}
-use Rattle.std.proofs.lemmas.List.{append-nil, length-append, length-set, get_or-set_same, get_or-set_other, get_or-replicate, length-replicate}
+use Rattle.std.proofs.lemmas.Bool.{both_ways, cases_eq, eq-eqb, eqb-true, ne_eqb}
+use Rattle.std.proofs.lemmas.List.{append-nil, length-append, length-set, get_or-set_same, get_or-set_other, get_or-replicate, length-replicate, take_more, take_all}
 use Rattle.std.proofs.lemmas.List.Sums.{fold_push}
 use Rattle.gcd_plan.specs.PlanView.{PlanView, kind_of}
 use Rattle.gcd_plan.specs.KindValues.{folded}
@@ -12,12 +12,12 @@ use Rattle.gcd_plan.specs.declared.kind.Kind.TheVariants.{Or}
 use Rattle.gcd_plan.specs.declared.numbers.Obj.{Obj}
 use Rattle.gcd_plan.proofs.Sums.{count_by-cons, cond-le-one}
 use Rattle.gcd_event.specs.declared.event.Event.{Event}
-use Rattle.gcd_event.specs.declared.event.Event.TheVariants.{Deliver}
+use Rattle.gcd_event.specs.declared.event.Event.TheVariants.{Deliver, Halt}
 use Rattle.gcd_history.specs.Sources.{delivers, delivery_count, fold_at, handed, pending, received, last_data}
 use Rattle.std.proofs.lemmas.Option.{slice_get-get_or}
 use Rattle.gcd_history.specs.History.{IsLawful, why, received_of, delivery_count_of, last_data_of}
 use Rattle.gcd_history.proofs.Lists.{reverse_push}
-use Rattle.gcd_plan.specs.Kinds.{is_source_kind}
+use Rattle.gcd_plan.specs.Kinds.{is_source, is_source_kind}
 use Rattle.gcd_plan.specs.Validity.{IsPlan}
 use Rattle.gcd_history.proofs.Fitting.{has_object}
 use Rattle.gcd_journal.specs.Spoken.{IsSpoken}
@@ -201,3 +201,26 @@ delivery_of plan h e w src totals kind amount total new same within is given low
     let after = delivery plan h w src totals kind amount within is (given ∙ ap (λ f. last_data_of plan (h ++ f ∷ []) src.0) same) low are total in
     subst (λ f. AreTotals plan (h ++ f ∷ []) (set totals src.0 new)) (sym same)
     (subst (λ n. AreTotals plan (h ++ Deliver w src ∷ []) (set totals src.0 n)) is_new after)
+
+-- where no object is a source, no event is a delivery
+undelivered : (plan : PlanView) (e : Event) → IsSpoken plan e → ((s : ℕ) → s < length plan.objects → is_source plan s ≡ false) → (s : ℕ) → delivers s e ≡ false
+undelivered plan (Deliver w src) spoken none s =
+    let named : is_source plan src.0 ≡ true = spoken.named in
+    absurd (both_ways (is_source plan src.0) (none src.0 (has_object is_source_kind plan src.0 named)) named)
+undelivered plan e spoken none s = refl
+
+-- in a plan without sources no total is above 0
+module _ (plan : PlanView) (h : List Event) (totals : List Total) (valid : IsPlan plan) (lawful : IsLawful plan h)
+    (none : (s : ℕ) → s < length plan.objects → is_source plan s ≡ false) (is : totals ≡ replicate (length plan.objects) no_total) where
+  none_up_to : (n : ℕ) → n ≤ length h → AreTotals plan (take n h) totals
+  none_up_to zero within = none_delivered plan totals is
+  none_up_to (suc n) within =
+      let inside : n < length h = omega arith in
+      let e = get_or h n Halt in
+      let permitted = allowed_at plan h n Halt lawful inside in
+      let other = undelivered plan e (permitted_spoken plan (take n h) e valid permitted) none in
+      let more : take n h ++ get_or h n Halt ∷ [] ≡ take (suc n) h = sym (ap (λ m. take m h) (sym (add-one n)) ∙ take_more h n Halt inside) in
+      subst (λ g. AreTotals plan g totals) more (other_event plan (take n h) e totals other (none_up_to n (omega arith)))
+
+  pub without_sources : AreTotals plan h totals
+  without_sources = subst (λ g. AreTotals plan g totals) (take_all (length h) h (omega arith)) (none_up_to (length h) (omega arith))

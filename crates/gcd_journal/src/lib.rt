@@ -9,6 +9,8 @@
 //! | [`write_journal`] | adds the text (`journal_text`), or nothing where memory runs out |
 //! | [`read_journal`] | the events of the text's front up to its line `events N` (`IsJournal`); else `Refused` at exactly the first line at fault (`IsRefusedAt`), or `Memory` |
 //! | [`check`] | the state to which lawful events have come (`IsLawfulWith`); else `Unlawful` at exactly the first event that is not permitted (`IsFirstBarred`), or `Memory` |
+//! | [`write_report`] | adds the report of a run (`report_by`), or nothing where memory runs out; it takes the events by a machine of its own |
+//! | [`write_report_by`] | the same by a machine that stands for the events; it takes no step of a machine where no object of the plan is a source |
 //! | [`laws::journals_are_read_one_way`] | a text is a journal of one list of events at most, and then of no line at fault |
 //! | [`laws::written_journals_are_read`], [`laws::lawful_events_are_spoken`] | what is written is a journal, whatever follows it; lawful events have lines |
 //! | [`laws::one_event_is_barred_first`] | events have at most one first that is not permitted, and lawful ones have none |
@@ -35,7 +37,7 @@ mod write;
 
 pub use checker::{CheckFault, check};
 pub use reader::{JournalFault, read_journal};
-pub use report::{write_last_line, write_report};
+pub use report::{write_last_line, write_report, write_report_by};
 pub use write::write_journal;
 
 #[cfg(test)]

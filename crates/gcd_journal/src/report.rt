@@ -14,7 +14,7 @@ ghost use Rattle.gcd_journal.specs.Spoken.{AreSpoken, IsNamed};
 ghost use Rattle.gcd_journal.specs.Totals.{AreTotals, AreValues};
 
 use crate::lines::{name_of, push_number};
-use crate::totals::{Replay, Total, replayed};
+use crate::totals::{Total, replayed, totals_by};
 use gcd_event::Event;
 use gcd_history::State;
 use gcd_machine::Machine;
@@ -389,33 +389,27 @@ pub fn push_report(
     push_last(text, plan, state, events)
 }
 
-// The report as a text of its own, of a replay.
+// The report as a text of its own, of a machine that has taken the events, and the totals of the sources.
 fn report_by(
     alloc: Global,
     plan: &Plan,
-    replay: &Replay,
+    machine: &Machine,
+    totals: &[Total],
     values: &[u64],
     events: &[Event],
 ) -> Result<Vec<u8>, AllocError>
-    requires stands { StandsFor replay.now.machine plan.now events.now }
-    requires totals { AreTotals plan.now events.now replay.now.totals.items }
+    requires stands { StandsFor machine.now plan.now events.now }
+    requires totals { AreTotals plan.now events.now totals.now }
     requires values { length values.now ≡ length plan.now.blocks }
     ensures { (value : ℕ → ℕ) (state : State) → HasState plan.now events.now state → AreValues value values.now events.now
         → IfOk result (λ text. text.items ≡ report_by plan.now value state events.now) }
 {
     let mut text = Vec::new(alloc);
-    push_report(
-        &mut text,
-        plan,
-        &replay.machine,
-        &replay.totals,
-        values,
-        events,
-    )?;
+    push_report(&mut text, plan, machine, totals, values, events)?;
     Ok(text)
 }
 
-// The report as a text of its own.
+// The same of the events alone, which a new machine takes.
 fn report_of(
     alloc: Global,
     plan: &Plan,
@@ -429,7 +423,26 @@ fn report_of(
         → IfOk result (λ text. text.items ≡ report_by plan.now value state events.now) }
 {
     let replay = replayed(alloc, plan, events)?;
-    report_by(alloc, plan, &replay, values, events)
+    report_by(alloc, plan, &replay.machine, &replay.totals, values, events)
+}
+
+// The same of a machine that has taken the events.
+fn report_on(
+    alloc: Global,
+    plan: &Plan,
+    machine: &Machine,
+    values: &[u64],
+    events: &[Event],
+) -> Result<Vec<u8>, AllocError>
+    requires stands { StandsFor machine.now plan.now events.now }
+    requires lawful { IsLawful plan.now events.now }
+    requires few { length events.now + 2 < 2 ^ 32 }
+    requires values { length values.now ≡ length plan.now.blocks }
+    ensures { (value : ℕ → ℕ) (state : State) → HasState plan.now events.now state → AreValues value values.now events.now
+        → IfOk result (λ text. text.items ≡ report_by plan.now value state events.now) }
+{
+    let totals = totals_by(alloc, plan, events)?;
+    report_by(alloc, plan, machine, &totals, values, events)
 }
 
 /// Adds the report of a run of the plan to the text: a line for each block with a work that has ended, with its value, by
@@ -452,6 +465,29 @@ pub fn write_report(
     ensures err { OnErr result (into.new.items ≡ into.old.items) }
 {
     let text = report_of(alloc, plan, values, events)?;
+    into.extend_from_slice(&text)
+}
+
+/// Adds the report of a run of the plan to the text, as [`write_report`] does, from a machine that has taken its events. Where no
+/// object of the plan is a source, no step of a machine is taken: it costs a look at each block and object. Else the totals of the
+/// sources come of the events, which a further machine takes (this project's own rule).
+pub fn write_report_by(
+    alloc: Global,
+    plan: &Plan,
+    machine: &Machine,
+    values: &[u64],
+    events: &[Event],
+    into: &mut Vec<u8>,
+) -> Result<(), AllocError>
+    requires stands { StandsFor machine.now plan.now events.now }
+    requires lawful { IsLawful plan.now events.now }
+    requires few { length events.now + 2 < 2 ^ 32 }
+    requires values { length values.now ≡ length plan.now.blocks }
+    ensures ok { (value : ℕ → ℕ) (state : State) → HasState plan.now events.now state → AreValues value values.now events.now
+        → OnOk result (into.new.items ≡ into.old.items ++ report_by plan.now value state events.now) }
+    ensures err { OnErr result (into.new.items ≡ into.old.items) }
+{
+    let text = report_on(alloc, plan, machine, values, events)?;
     into.extend_from_slice(&text)
 }
 

@@ -1,12 +1,15 @@
 // Journals by rows: what the reader and the checker say of each, and what is written again.
 
-ghost use Rattle.std.specs.Prelude.{◌≤◌, length, IfOk};
+ghost use Rattle.std.specs.Prelude.{◌≡◌, ◌+◌, ◌<◌, ◌≤◌, ◌^◌, length, IfOk};
+ghost use Rattle.gcd_history.specs.History.{IsLawful};
 ghost use Rattle.gcd_journal.specs.Spoken.{AreSpoken};
 
 mod table;
 
+use crate::totals::replayed;
 use crate::{
     CheckFault, JournalFault, check, read_journal, write_journal, write_last_line, write_report,
+    write_report_by,
 };
 use gcd_event::Event;
 use gcd_history::State;
@@ -145,7 +148,24 @@ fn what_is_read_is_written_again(rt: HostRuntime) -> Result<(), Fail> {
     Ok(())
 }
 
-// The report of a journal's events where block b has the value 3 * b, and its last line once more.
+// The same report by a machine that has taken the events.
+fn report_by(
+    alloc: Global,
+    plan: &Plan,
+    values: &[u64],
+    events: &[Event],
+) -> Result<Vec<u8>, AllocError>
+    requires lawful { IsLawful plan.now events.now }
+    requires few { length events.now + 2 < 2 ^ 32 }
+    requires values { length values.now ≡ length plan.now.blocks }
+{
+    let replay = replayed(alloc, plan, events)?;
+    let mut text = Vec::new(alloc);
+    write_report_by(alloc, plan, &replay.machine, values, events, &mut text)?;
+    Ok(text)
+}
+
+// The report of a journal's events where block b has the value 3 * b, by each of the two calls, and its last line once more.
 fn report(alloc: Global, plan: &Plan, text: &[u8]) -> Result<(Vec<u8>, Vec<u8>), Fail> {
     let events = read_journal(alloc, plan, text)?;
     let events = events.as_slice();
@@ -159,6 +179,9 @@ fn report(alloc: Global, plan: &Plan, text: &[u8]) -> Result<(Vec<u8>, Vec<u8>),
     let state = check(alloc, plan, events)?;
     let mut report = Vec::new(alloc);
     write_report(alloc, plan, &values, events, &mut report)?;
+    if report_by(alloc, plan, &values, events)? != report {
+        return Err(Fail::from("another report"));
+    }
     let mut last = Vec::new(alloc);
     write_last_line(alloc, plan, state, events, &mut last)?;
     Ok((report, last))

@@ -1,7 +1,8 @@
 // What the deliveries of sources handed over.
-ghost use Rattle.std.specs.Prelude.{◌≡◌, ◌+◌, ◌<◌, ◌^◌, ◌++◌, ◌∷◌, [], ℕ, false, List, None, IfOk, MatchOption, length, replicate};
+ghost use Rattle.std.specs.Prelude.{◌≡◌, ◌+◌, ◌<◌, ◌^◌, ◌++◌, ◌∷◌, [], ℕ, true, false, List, None, IfOk, MatchOption, length, replicate};
 ghost use Rattle.gcd_history.specs.Sources.{delivers};
 ghost use Rattle.gcd_plan.specs.KindValues.{folded};
+ghost use Rattle.gcd_plan.specs.Kinds.{is_source};
 ghost use Rattle.gcd_event.specs.declared.event.Event.{Event};
 ghost use Rattle.gcd_history.specs.History.{IsLawful, why};
 ghost use Rattle.gcd_machine.specs.Stands.{StandsFor};
@@ -103,4 +104,31 @@ pub fn replayed(alloc: Global, plan: &Plan, events: &[Event]) -> Result<Replay, 
         note(plan, &machine, *e, &mut totals);
     }
     Ok(Replay { machine, totals })
+}
+
+// Whether an object of the plan is a source.
+fn has_source(plan: &Plan) -> bool
+    ensures none { result ≡ false → (s : ℕ) → s < length plan.now.objects → is_source plan.now s ≡ false }
+    ensures one { result ≡ true → (s : ℕ) × (is_source plan.now s ≡ true) }
+{
+    for s in 0..plan.objects() {
+        if plan.kind(Obj(s)).is_source() {
+            return true;
+        }
+    }
+    false
+}
+
+/// The totals of lawful events. Where no object of the plan is a source no event is looked at; else it costs what the machine's
+/// steps cost.
+pub fn totals_by(alloc: Global, plan: &Plan, events: &[Event]) -> Result<Vec<Total>, AllocError>
+    requires lawful { IsLawful plan.now events.now }
+    requires few { length events.now + 2 < 2 ^ 32 }
+    ensures { IfOk result (λ t. AreTotals plan.now events.now t.items) }
+{
+    if !has_source(plan) {
+        return no_totals(alloc, plan.objects());
+    }
+    let replay = replayed(alloc, plan, events)?;
+    Ok(replay.totals)
 }
