@@ -61,7 +61,7 @@ only_line (c ∷ cs) none some =
     ap but_empty_last (slice_split_none ends_line (c ∷ cs) (λ k d low. fails_before_first ends_line (c ∷ cs) k d (omega (arith, absent ends_line (c ∷ cs) none))))
 
 -- a line of bytes from 32 to 126 is text
-ascii_line : (line : List ℕ) → is_printable line ≡ true → IsAscii line
+pub ascii_line : (line : List ℕ) → is_printable line ≡ true → IsAscii line
 ascii_line [] h i = lit< tt
 ascii_line (c ∷ cs) h zero = omega (arith, leb-true c 126 (and_parts (leb 32 c) (leb c 126) (and_parts (is_line_byte c) (is_printable cs) h).0).1)
 ascii_line (c ∷ cs) h (suc i) = ascii_line cs (and_parts (is_line_byte c) (is_printable cs) h).1 i

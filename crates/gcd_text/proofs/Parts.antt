@@ -29,6 +29,12 @@ cut_here byte text place found =
           eqb-false (get_or text i 0) byte (at.2 i before) (sym (get_or-take place text i 0 before) ∙ same),
     )
 
+-- its first place is within the text, and the byte stands there
+pub stands_here : (byte : ℕ) (text : List ℕ) (place : ℕ) → position (λ c. c == byte) text ≡ Some place → (place < length text) × (get_or text place 0 ≡ byte)
+stands_here byte text place found =
+    let at = position-Some (λ c. c == byte) text place 0 found in
+    (at.0, eqb-true (get_or text place 0) byte at.1)
+
 -- where it has no place, the text is without it
 pub cut_nowhere : (byte : ℕ) (text : List ℕ) → position (λ c. c == byte) text ≡ None → IsWithout byte text
 cut_nowhere byte text none i within =

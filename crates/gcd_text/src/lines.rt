@@ -1,5 +1,6 @@
 // Lines of a text, and words of a line.
 ghost use Rattle.std.specs.Prelude.{◌≡◌, ◌==◌, ◌<◌, [], ◌∷◌, ◌++◌, true, false, length, map, position, IfSome, IfNone, MatchOption};
+ghost use Rattle.gcd_text.specs.Fields.{IsWithout};
 ghost use Rattle.gcd_text.specs.Limits.{max_words};
 ghost use Rattle.gcd_text.specs.Lines.{lines_of, is_line_byte, is_printable, unless_empty, words_of};
 
@@ -47,9 +48,29 @@ pub fn printable(line: &[u8]) -> Option<&str>
         (λ text. (is_printable line.now ≡ true) × (text.now ≡ line.now)) }
 {
     if is_printable(line) {
-        str::from_utf8(line).ok()
+        // Such bytes are ASCII, so they need no second look.
+        Some(unsafe { str::from_utf8_unchecked(line) })
     } else {
         None
+    }
+}
+
+// The place of the first space.
+fn first_space(line: &str) -> Option<usize>
+    ensures { result ≡ position (λ c. c == 32) line.now }
+{
+    line.as_bytes().iter().position(|c| *c == b' ')
+}
+
+// What stands before the first space, and what follows it; None exactly where there is no space.
+fn cut_word(line: &str) -> Option<(&str, &str)>
+    ensures cut { IfSome result (λ parts. line.now ≡ parts.0.now ++ 32 ∷ parts.1.now) }
+    ensures first { IfSome result (λ parts. IsWithout 32 parts.0.now) }
+    ensures uncut { IfNone result (IsWithout 32 line.now) }
+{
+    match first_space(line) {
+        Some(place) => Some((&line[..place], &line[place + 1..])),
+        None => None,
     }
 }
 
@@ -75,7 +96,7 @@ pub fn first_word(line: &str) -> Option<(&str, &str)>
         (λ cut. words_of line.now ≡ cut.0.now ∷ words_of cut.1.now) }
 {
     let mut rest = line;
-    while let Some((word, more)) = rest.split_once(' ') {
+    while let Some((word, more)) = cut_word(rest) {
         if !word.is_empty() {
             return Some((word, more));
         }
@@ -94,7 +115,7 @@ pub fn words(line: &str) -> Option<ArrayVec<&str, MAX_WORDS>>
 {
     let mut words = ArrayVec::new();
     let mut rest = line;
-    while let Some((word, more)) = rest.split_once(' ') {
+    while let Some((word, more)) = cut_word(rest) {
         if !push_word(&mut words, word) {
             return None;
         }

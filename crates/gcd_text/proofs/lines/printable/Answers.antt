@@ -1,7 +1,7 @@
-use Rattle.std.proofs.Common.{sym}
-use Rattle.gcd_text.proofs.FirstLines.{text_of_line}
+use Rattle.std.proofs.Common.{sym, ◌∙◌}
+use Rattle.std.proofs.lemmas.Str.{IsUtf8-from_ascii}
+use Rattle.gcd_text.proofs.FirstLines.{ascii_line}
 use Rattle.gcd_text.proofs.lines.printable.Goals as goal
 
-pub returns-then-is_printable : goal.returns-then-is_printable
-returns-then-is_printable c =
-    text_of_line _ c.args.line.now _ c.ok.result c.ok.ensures.value c.from_utf8.ensures.cases (sym c.if-is_printable.ensures)
+pub from_utf8_unchecked-requires : goal.from_utf8_unchecked-requires
+from_utf8_unchecked-requires c = IsUtf8-from_ascii c.args.line.now (ascii_line c.args.line.now (sym c.is_printable.ensures ∙ c.if-is_printable.true))
