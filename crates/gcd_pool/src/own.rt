@@ -37,7 +37,6 @@ fn ended_run(e: Event) -> Option<Run>
 }
 
 // Puts an end. None where another event barred it and the run is not halted.
-#[inline(always)]
 fn try_end<S: Slot>(board: &RowBoard<S>, pass: &mut RowPass<S>, e: Event) -> Option<Turn>
     requires pass { IsPassOf S.shape S.gives board.now pass.old }
     requires worker { worker_of e ≡ (view pass.old).worker }
@@ -60,9 +59,33 @@ fn try_end<S: Slot>(board: &RowBoard<S>, pass: &mut RowPass<S>, e: Event) -> Opt
     }
 }
 
-// Puts an end until it stands, or the run has ended.
+// The same for an end that the pass's machine permits: it is not judged again before the first exchange.
 #[inline(always)]
-fn put_end<S: Slot, R: Wait>(rt: &R, board: &RowBoard<S>, pass: &mut RowPass<S>, e: Event) -> Turn
+fn try_chosen_end<S: Slot>(board: &RowBoard<S>, pass: &mut RowPass<S>, e: Event) -> Option<Turn>
+    requires pass { IsPassOf S.shape S.gives board.now pass.old }
+    requires worker { worker_of e ≡ (view pass.old).worker }
+    requires may { why (view pass.old).terms.plan (view pass.old).seen e ≡ None }
+    requires settled { IsSettled S.shape (view pass.old) e (slots pass.old) }
+    ensures pass { IsPassOf S.shape S.gives board.now pass.new }
+    ensures view { GoesOn (view pass.old) (view pass.new) }
+    ensures work { AddsWork (view pass.old) (view pass.new) }
+    ensures says { MatchOption result (IsSettled S.shape (view pass.new) e (slots pass.new)) (λ t. AfterTurn S.shape t (view pass.new) (slots pass.new)) }
+{
+    match board.put_chosen(pass, e) {
+        Put::Placed(_) => Some(Turn::Ended),
+        Put::Full => Some(Turn::Left),
+        Put::Barred { .. } => {
+            if pass.machine().is_halted() {
+                Some(Turn::Left)
+            } else {
+                None
+            }
+        }
+    }
+}
+
+// Puts an end until it stands, or the run has ended.
+fn retry_end<S: Slot, R: Wait>(rt: &R, board: &RowBoard<S>, pass: &mut RowPass<S>, e: Event) -> Turn
     requires pass { IsPassOf S.shape S.gives board.now pass.old }
     requires worker { worker_of e ≡ (view pass.old).worker }
     requires settled { IsSettled S.shape (view pass.old) e (slots pass.old) }
@@ -77,6 +100,24 @@ fn put_end<S: Slot, R: Wait>(rt: &R, board: &RowBoard<S>, pass: &mut RowPass<S>,
         }
     }
     unreachable!()
+}
+
+// Puts an end that the pass's machine permits until it stands, or the run has ended.
+#[inline(always)]
+fn put_end<S: Slot, R: Wait>(rt: &R, board: &RowBoard<S>, pass: &mut RowPass<S>, e: Event) -> Turn
+    requires pass { IsPassOf S.shape S.gives board.now pass.old }
+    requires worker { worker_of e ≡ (view pass.old).worker }
+    requires may { why (view pass.old).terms.plan (view pass.old).seen e ≡ None }
+    requires settled { IsSettled S.shape (view pass.old) e (slots pass.old) }
+    ensures pass { IsPassOf S.shape S.gives board.now pass.new }
+    ensures view { GoesOn (view pass.old) (view pass.new) }
+    ensures work { AddsWork (view pass.old) (view pass.new) }
+    ensures after { AfterTurn S.shape result (view pass.new) (slots pass.new) }
+{
+    match try_chosen_end(board, pass, e) {
+        Some(turn) => turn,
+        None => retry_end(rt, board, pass, e),
+    }
 }
 
 // Runs the block whose run the pass holds, and records its end.

@@ -1,6 +1,7 @@
 // Closing a board.
 ghost use Rattle.std.specs.Prelude.{◌≡◌, ◌≢◌, ℕ, ◌≤◌, [], length, vec_capacity, IfOk, IfErr, Some};
 ghost use Rattle.std.specs.Mem.Slots.{slots_items, slots_len, IsFull};
+ghost use Rattle.gcd_machine.specs.Stands.{StandsFor};
 ghost use Rattle.gcd_row.specs.Passes.{IsPassOf, AtRest, view};
 ghost use Rattle.gcd_row.specs.Views.{standing_of};
 ghost use Rattle.gcd_row.specs.declared.view.Standing.TheVariants.{Out};
@@ -8,9 +9,9 @@ ghost use Rattle.gcd_row.specs.declared.view.Standing.TheVariants.{Out};
 use crate::board::RowBoard;
 use crate::cell::Slot;
 use crate::pass::RowPass;
-use crate::view::View;
-use atomic_table::{Closed, Seat};
+use atomic_table::Closed;
 use gcd_event::{Event, of_word};
+use gcd_machine::Machine;
 use std::alloc::Global;
 
 // The values of the slots, in their order.
@@ -24,18 +25,6 @@ fn take_all<S>(mut closed: Closed<S, Global>, mut cells: Vec<S>) -> Vec<S>
     }
     closed.free();
     cells
-}
-
-// The seat of a pass.
-fn seat_of<S>(pass: RowPass<S>) -> Seat<S, View<S>>
-    ensures { result ≡ pass.seat }
-{
-    let RowPass {
-        seat,
-        machine: _,
-        number: _,
-    } = pass;
-    seat
 }
 
 impl<S: Slot + Drop> RowBoard<S> {
@@ -56,6 +45,26 @@ impl<S: Slot + Drop> RowBoard<S> {
         ensures cells { IfOk result (λ r. AtRest S.shape S.gives (view pass).terms (view pass).seen r.1.items) }
         ensures err { IfErr result (λ r. (r.0 ≡ self) × (r.1 ≡ pass)) }
     {
+        match self.close_whole(alloc, pass) {
+            Ok((events, cells, _)) => Ok((events, cells)),
+            Err(back) => Err(back),
+        }
+    }
+
+    /// The same, and the pass's machine, which stands for the whole history (this project's own rule).
+    pub fn close_whole(
+        self,
+        alloc: Global,
+        pass: RowPass<S>,
+    ) -> Result<(Vec<Event>, Vec<S>, Machine), (RowBoard<S>, RowPass<S>)>
+        requires pass { IsPassOf S.shape S.gives self pass }
+        requires head { (view pass).worker ≡ 0 }
+        requires all_in { (w : ℕ) → standing_of (view pass).hands w ≢ Some Out }
+        ensures events { IfOk result (λ r. r.0.items ≡ (view pass).seen) }
+        ensures cells { IfOk result (λ r. AtRest S.shape S.gives (view pass).terms (view pass).seen r.1.items) }
+        ensures machine { IfOk result (λ r. StandsFor r.2 (view pass).terms.plan (view pass).seen) }
+        ensures err { IfErr result (λ r. (r.0 ≡ self) × (r.1 ≡ pass)) }
+    {
         let n = pass.machine.len() as usize;
         let Ok(mut events) = Vec::with_capacity(alloc, n) else {
             return Err((self, pass));
@@ -64,13 +73,18 @@ impl<S: Slot + Drop> RowBoard<S> {
             return Err((self, pass));
         };
         let RowBoard { table } = self;
-        let closed = table.close_with(seat_of(pass));
+        let RowPass {
+            seat,
+            machine,
+            number: _,
+        } = pass;
+        let closed = table.close_with(seat);
         for i in 0..n {
             match of_word(closed.word(i + 1)) {
                 Some(e) => events.push_reserved(e),
                 None => unreachable!(),
             }
         }
-        Ok((events, take_all(closed, cells)))
+        Ok((events, take_all(closed, cells), machine))
     }
 }

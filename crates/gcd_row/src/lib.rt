@@ -33,10 +33,10 @@
 //! | [`RowBoard::join`] | worker 0's pass has taken in another | `Merges` |
 //! | [`RowBoard::take_body`], [`RowBoard::give_body`], [`RowBoard::give_done`] | a block's body or value, from the slot of the run that the pass holds and into it | `MayGive` |
 //! | [`RowBoard::take_handler`], [`RowBoard::give_handler`] | the same of a source's handler | `IsUntaken`, `IsServed` |
-//! | [`RowBoard::close`] | the whole history and all cells, or want of memory | `AtRest` |
+//! | [`RowBoard::close`], [`RowBoard::close_whole`] | the whole history and all cells, or want of memory; the second also gives the machine | `AtRest` |
 //! | [`RowPass::machine`], [`RowPass::worker`] | the machine, which stands for what the pass has seen, and the number | |
 //!
-//! No call but `new`, `split` and `close` takes memory. `look` and `put` go on by one event each turn, so they return. A board may
+//! No call but `new`, `split` and those that close takes memory. `look` and `put` go on by one event each turn, so they return. A board may
 //! be shared by threads and a pass sent to one, where jobs and handlers may be sent.
 //!
 //! # How it is proved

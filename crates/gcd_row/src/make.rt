@@ -15,20 +15,20 @@ use crate::view::{Copies, View};
 use atomic_table::{Refused, Seat, Table};
 use gcd_jobs::{Handler, Job};
 use gcd_machine::Machine;
-use gcd_plan::{MAX_EVENTS, Obj, Plan};
+use gcd_plan::{Obj, Plan};
 use std::alloc::{AllocError, Global};
 use std::snapshot::Snapshot;
 use std::vec::IntoIter;
 
-// The words of an empty row.
-fn zeros(alloc: Global, count: usize) -> Result<Vec<u64>, AllocError>
-    ensures { IfOk result (λ v. (length v.items ≡ count) × ((i : ℕ) → slice_index v.items i ≡ 0)) }
+// The words of a row without events: word 0, and one for each event that there can be.
+static EMPTY_ROW: [u64; 65_536] = [0; 65_536];
+
+// The same, of which a table copies its words.
+fn empty_row() -> &'static [u64]
+    ensures count { length result.now ≡ 65536 }
+    ensures zeros { (i : ℕ) → slice_index result.now i ≡ 0 }
 {
-    let mut words = Vec::with_capacity(alloc, count)?;
-    while words.len() < count {
-        words.push(0)?;
-    }
-    Ok(words)
+    &EMPTY_ROW
 }
 
 // The copies of a plan and of cells.
@@ -109,9 +109,8 @@ fn open_table<S: Slot + Drop>(
     ensures first { IfOk result (λ made. AreFirst S.shape made.0.shared.key.plan.value made.0.shared.key.cells.value.items) }
     ensures seat { IfOk result (λ made. (made.1.table_id ≡ made.0.shared.table_id) × (made.1.me ≡ (opening_view made.0.shared.key, []))) }
 {
-    let words = zeros(alloc, MAX_EVENTS as usize + 1)?;
     let copies = copies_of(plan, &cells);
-    match Table::new(alloc, &words, cells, &copies) {
+    match Table::new(alloc, empty_row(), cells, &copies) {
         Ok(made) => Ok(made),
         Err(Refused { slots: _ }) => Err(AllocError),
     }

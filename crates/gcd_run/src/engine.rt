@@ -3,6 +3,7 @@ ghost use Rattle.std.specs.Prelude.{◌≡◌, ◌<◌, ◌≤◌, ℕ, true, fa
 ghost use Rattle.gcd_plan.specs.Limits.{max_events, max_workers};
 ghost use Rattle.gcd_alone.specs.Ran.{AreValues};
 ghost use Rattle.gcd_jobs.specs.Contents.{contents};
+ghost use Rattle.gcd_machine.specs.Stands.{StandsFor};
 ghost use Rattle.gcd_run.specs.Calls.{seen_by};
 ghost use Rattle.gcd_run.specs.Runs.{Ran};
 
@@ -30,6 +31,7 @@ pub fn run_by<R: Threads + Wait + Sync, P: Poller, C: Clock>(
     ensures ran { IfOk result (λ w. Ran (seen_by P.tells P.state poller.old poller.new) (seen_by C.tells C.state clock.old clock.new) plan.now workers w.journal.items w.state) }
     ensures few { IfOk result (λ w. length w.journal.items ≤ max_events) }
     ensures values { IfOk result (λ w. AreValues plan.now (contents files.now) w.journal.items w.values.items) }
+    ensures stands { IfOk result (λ w. StandsFor w.machine plan.now w.journal.items) }
     ensures listens { P.tells ≡ true → (P.state poller.new).listens ≡ (P.state poller.old).listens }
     ensures addresses { P.tells ≡ true → (P.state poller.new).addresses ≡ (P.state poller.old).addresses }
 {
@@ -41,5 +43,6 @@ pub fn run_by<R: Threads + Wait + Sync, P: Poller, C: Clock>(
         journal: run.journal,
         values: run.values,
         state: run.state,
+        machine: run.machine,
     })
 }

@@ -7,6 +7,7 @@ ghost use Rattle.gcd_history.specs.JournalText.{journal_text};
 ghost use Rattle.gcd_history.specs.Ends.{HasState};
 ghost use Rattle.gcd_history.specs.Values.{value_of};
 ghost use Rattle.gcd_history.specs.declared.state.State.{State};
+ghost use Rattle.gcd_machine.specs.Stands.{StandsFor};
 ghost use Rattle.gcd_run.specs.Calls.{SomeCalls, inputs_seen, seen_by};
 ghost use Rattle.gcd_run.specs.Listens.{FailsToListen, Listened};
 ghost use Rattle.gcd_run.specs.End.{run_text};
@@ -19,7 +20,7 @@ use crate::load::load_all;
 use crate::stop::Stop;
 use crate::story::Story;
 use gcd_event::Event;
-use gcd_journal::{write_journal, write_report};
+use gcd_journal::{write_journal, write_report_by};
 use gcd_outer::{Clock, Poller, Shelf};
 use gcd_plan::Plan;
 use gcd_words::RunRequest;
@@ -72,13 +73,21 @@ fn text_of(
     requires lawful { IsLawful plan.now run.now.journal.items }
     requires few { length run.now.journal.items ≤ max_events }
     requires count { length run.now.values.items ≡ length plan.now.blocks }
+    requires stands { StandsFor run.now.machine plan.now run.now.journal.items }
     ensures { (contents : List (List ℕ)) (state : State) → HasState plan.now run.now.journal.items state
         → ((b : ℕ) → is_ended run.now.journal.items b ≡ true → slice_get run.now.values.items b ≡ Some (value_of plan.now contents b))
         → IfOk result (λ text. text.items ≡ run_text with_journal plan.now contents state run.now.journal.items) }
 {
     let mut text = Vec::new(alloc);
     add_journal(alloc, plan, &run.journal, with_journal, &mut text)?;
-    write_report(alloc, plan, &run.values, &run.journal, &mut text)?;
+    write_report_by(
+        alloc,
+        plan,
+        &run.machine,
+        &run.values,
+        &run.journal,
+        &mut text,
+    )?;
     Ok(text)
 }
 

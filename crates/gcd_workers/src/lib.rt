@@ -17,6 +17,7 @@
 //! | clause of `run_workers` | says |
 //! |---|---|
 //! | `ran` (`RanWorkers`) | where memory sufficed: the journal is lawful and has ended, in the state told; each event is of one of the workers; what poller and clock said stands in it (`IsHeard`, `IsTimely`); and the values are those of the blocks that have ended, and else 0 |
+//! | `stands` | the machine that is left stands for the journal |
 //! | `listens`, `addresses`, `poller_faults` | no listen was made, and the poller's count of faults did not fall; these hold in want of memory too |
 //!
 //! A call takes memory before the first event and after the last, and none between. Which worker does what is left to the threads,

@@ -26,7 +26,7 @@ fn jobs_of<'a>(
 ) -> Result<Vec<FileJob<'a>>, AllocError>
     ensures { IfOk result (λ jobs. AreJobs plan.now (contents files.now) (length plan.now.blocks) jobs.items) }
 {
-    let mut jobs = Vec::new(alloc);
+    let mut jobs = Vec::with_capacity(alloc, plan.blocks() as usize)?;
     for number in 0..plan.blocks() {
         jobs.push(FileJob::new(files, plan.work(Blk(number))))?;
     }

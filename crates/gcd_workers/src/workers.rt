@@ -4,6 +4,7 @@ ghost use Rattle.gcd_plan.specs.Limits.{max_workers};
 ghost use Rattle.gcd_alone.specs.Ran.{AreValues};
 ghost use Rattle.gcd_history.specs.Ends.{HasState};
 ghost use Rattle.gcd_jobs.specs.Contents.{contents};
+ghost use Rattle.gcd_machine.specs.Stands.{StandsFor};
 ghost use Rattle.gcd_pool.specs.Hands.{IsPool};
 ghost use Rattle.gcd_row.specs.Passes.{IsPassOf, terms_of, view};
 ghost use Rattle.gcd_steal.specs.Racks.{IsBenchOf, plan_of};
@@ -19,6 +20,7 @@ use crate::opening::{WorkBoard, WorkCell, WorkPass, open_board};
 use crate::values::note_all;
 use gcd_event::Event;
 use gcd_history::State;
+use gcd_machine::Machine;
 use gcd_outer::{Clock, Poller};
 use gcd_plan::Plan;
 use gcd_pool::Pool;
@@ -36,6 +38,8 @@ pub struct Worked {
     pub values: Vec<u64>,
     /// How far the run has come.
     pub state: State,
+    /// The machine that stands for the journal.
+    pub machine: Machine,
 }
 
 // How many Drains a bench may push; from then on they sleep.
@@ -57,12 +61,13 @@ fn close<'a>(
     requires works { GiveWorks plan.now (contents files.now) (terms_of board).cells }
     requires zeros { values.items ≡ replicate (length plan.now.blocks) 0 }
     ensures journal { IfOk result (λ w. w.journal.items ≡ (view pass.entry).seen) }
+    ensures stands { IfOk result (λ w. StandsFor w.machine plan.now w.journal.items) }
     ensures state { IfOk result (λ w. HasState plan.now (view pass.entry).seen w.state) }
     ensures values { IfOk result (λ w. AreValues plan.now (contents files.now) (view pass.entry).seen w.values.items) }
 {
     let _ = workers;
     let state = pass.machine().state();
-    let Ok((journal, cells)) = board.close(alloc, pass) else {
+    let Ok((journal, cells, machine)) = board.close_whole(alloc, pass) else {
         return Err(AllocError);
     };
     note_all(plan, files, &cells, &journal, &mut values);
@@ -70,6 +75,7 @@ fn close<'a>(
         journal,
         values,
         state,
+        machine,
     })
 }
 
@@ -94,6 +100,7 @@ fn run_board<R: Threads + Wait + Sync, P: Poller, C: Clock>(
         (record { tells = P.tells; before = P.state poller.old; after = P.state poller.new })
         (record { tells = C.tells; before = C.state clock.old; after = C.state clock.new })
         w.journal.items w.values.items w.state) }
+    ensures stands { IfOk result (λ w. StandsFor w.machine plan.now w.journal.items) }
     ensures kept { KeepsListens P.tells (P.state poller.old) (P.state poller.new) }
 {
     let values = Vec::from_elem(alloc, 0, plan.blocks() as usize)?;
@@ -128,6 +135,7 @@ pub fn run_workers<R: Threads + Wait + Sync, P: Poller, C: Clock>(
         (record { tells = P.tells; before = P.state poller.old; after = P.state poller.new })
         (record { tells = C.tells; before = C.state clock.old; after = C.state clock.new })
         w.journal.items w.values.items w.state) }
+    ensures stands { IfOk result (λ w. StandsFor w.machine plan.now w.journal.items) }
     ensures listens { P.tells ≡ true → (P.state poller.new).listens ≡ (P.state poller.old).listens }
     ensures addresses { P.tells ≡ true → (P.state poller.new).addresses ≡ (P.state poller.old).addresses }
     ensures poller_faults { (P.state poller.old).faults ≤ (P.state poller.new).faults }

@@ -2,17 +2,14 @@ use Rattle.std.proofs.Common.{arith, ◌≡◌, ◌≤◌, ◌+◌, ◌∷◌, [
 use Rattle.std.proofs.lemmas.List.{take_all}
 use Rattle.std.specs.Mem.Slots.{slots_items}
 use Rattle.gcd_event.specs.Words.{word_of}
-use Rattle.atomic_table.specs.Table.{Final, Seen}
 use Rattle.gcd_row.specs.Passes.{view, AtRest}
-use Rattle.gcd_row.specs.Rule.{Holds}
 use Rattle.gcd_row.proofs.Ending.{closes, reads_next, at_value}
-use Rattle.gcd_row.proofs.board.RowBoard.close.Goals as goal
+use Rattle.gcd_row.proofs.board.RowBoard.close_whole.Goals as goal
 
 pub unreachable-requires : goal.unreachable-requires
 unreachable-requires g c =
     let p = c.args.pass in let v = view p in let r = c.close_with-closed.result in let q = c.requires.pass in
-    let f = subst (λ s. Final (Seen (Holds g.S.Slot.shape g.S.Slot.gives c.args.self.table.shared.key) s.id s.me.0) (slots_items r.words) (slots_items r.slots)) c.seat_of.ensures c.close_with-closed.ensures.values.2 in
-    let z = closes _ _ c.args.self.table.shared.key p.seat.id v (slots_items r.words) (slots_items r.slots) f q.unspent c.requires.head c.requires.all_in in
+    let z = closes _ _ c.args.self.table.shared.key p.seat.id v (slots_items r.words) (slots_items r.slots) c.close_with-closed.ensures.values.2 q.unspent c.requires.head c.requires.all_in in
     let len : c.len-n.result ≡ length v.seen = c.len-n.ensures v.terms.plan v.seen q.stands in
     let found : c.word.result ≡ get_or (map word_of v.seen) c.loop-i.i 0 = at_value (slots_items r.words) (c.loop-i.i + 1) c.word.result c.word.ensures ∙ ap (λ (k : ℕ). get_or (slots_items r.words) k 0) (add-one c.loop-i.i) ∙ z.words c.loop-i.i in
     reads_next v.seen c.loop-i.i c.word.result None z.fit (omega arith) found c.in-None.ensures.spelled c.in-None.ensures.silent
@@ -20,8 +17,7 @@ unreachable-requires g c =
 pub loop-i-preserved : goal.loop-i-preserved
 loop-i-preserved g c =
     let p = c.args.pass in let v = view p in let r = c.close_with-closed.result in let q = c.requires.pass in
-    let f = subst (λ s. Final (Seen (Holds g.S.Slot.shape g.S.Slot.gives c.args.self.table.shared.key) s.id s.me.0) (slots_items r.words) (slots_items r.slots)) c.seat_of.ensures c.close_with-closed.ensures.values.2 in
-    let z = closes _ _ c.args.self.table.shared.key p.seat.id v (slots_items r.words) (slots_items r.slots) f q.unspent c.requires.head c.requires.all_in in
+    let z = closes _ _ c.args.self.table.shared.key p.seat.id v (slots_items r.words) (slots_items r.slots) c.close_with-closed.ensures.values.2 q.unspent c.requires.head c.requires.all_in in
     let len : c.len-n.result ≡ length v.seen = c.len-n.ensures v.terms.plan v.seen q.stands in
     let found : c.word.result ≡ get_or (map word_of v.seen) c.loop-i.i 0 = at_value (slots_items r.words) (c.loop-i.i + 1) c.word.result c.word.ensures ∙ ap (λ (k : ℕ). get_or (slots_items r.words) k 0) (add-one c.loop-i.i) ∙ z.words c.loop-i.i in
     let more = reads_next v.seen c.loop-i.i c.word.result (Some c.in-Some.e) z.fit (omega arith) found c.in-Some.ensures.spelled c.in-Some.ensures.silent in
@@ -40,6 +36,5 @@ returns-clause-events g c =
 pub returns-clause-cells : goal.returns-clause-cells
 returns-clause-cells g c =
     let p = c.args.pass in let v = view p in let r = c.close_with-closed.result in let q = c.requires.pass in
-    let f = subst (λ s. Final (Seen (Holds g.S.Slot.shape g.S.Slot.gives c.args.self.table.shared.key) s.id s.me.0) (slots_items r.words) (slots_items r.slots)) c.seat_of.ensures c.close_with-closed.ensures.values.2 in
-    let z = closes _ _ c.args.self.table.shared.key p.seat.id v (slots_items r.words) (slots_items r.slots) f q.unspent c.requires.head c.requires.all_in in
+    let z = closes _ _ c.args.self.table.shared.key p.seat.id v (slots_items r.words) (slots_items r.slots) c.close_with-closed.ensures.values.2 q.unspent c.requires.head c.requires.all_in in
     subst (AtRest g.S.Slot.shape g.S.Slot.gives v.terms v.seen) (sym c.take_all.ensures) z.rest

@@ -1,7 +1,7 @@
 use Rattle.gcd_row.specs.Passes.{IsPassOf, slots, view}
 use Rattle.gcd_pool.specs.Hands.{GoesOn, IsSettled}
 use Rattle.gcd_pool.specs.Works.{AddsWork}
-use Rattle.gcd_pool.proofs.own.put_end.Given as goal
+use Rattle.gcd_pool.proofs.own.retry_end.Given as goal
 
 abbrev pub invariant-loop : goal.invariant-loop
 invariant-loop g l = record {

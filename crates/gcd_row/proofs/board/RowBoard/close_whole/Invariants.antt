@@ -1,7 +1,7 @@
 use Rattle.std.proofs.Common.{◌≡◌, take}
 use Rattle.std.specs.Prelude.{vec_capacity}
 use Rattle.gcd_row.specs.Passes.{view}
-use Rattle.gcd_row.proofs.board.RowBoard.close.Given as goal
+use Rattle.gcd_row.proofs.board.RowBoard.close_whole.Given as goal
 
 abbrev pub invariant-loop-i : goal.invariant-loop-i
 invariant-loop-i g l = record {
