@@ -1,5 +1,5 @@
 // The first words of lines.
-ghost use Rattle.std.specs.Prelude.{◌≡◌};
+ghost use Rattle.std.specs.Prelude.{◌≡◌, Some, IfSome};
 ghost use Rattle.gcd_script.specs.Keywords.{pick, declarations, acts, object_acts, keyword_of};
 
 /// What kind of line a first word begins.
@@ -91,6 +91,9 @@ impl Keyword {
     pub fn of_word(word: &str) -> Option<Keyword>
         ensures { result ≡ keyword_of word.now }
     {
+        if let Some(keyword) = common(word) {
+            return Some(keyword);
+        }
         if let Some(keyword) = declaration(word) {
             return Some(keyword);
         }
@@ -102,6 +105,27 @@ impl Keyword {
             None => None,
         }
     }
+}
+
+// The same of the words that most lines of a long script begin with, each at one comparison; None says nothing.
+fn common(word: &str) -> Option<Keyword>
+    ensures { IfSome result (λ keyword. keyword_of word.now ≡ Some keyword) }
+{
+    match word.as_bytes().first() {
+        Some(b'a') => known(word, "async", Keyword::Submit(Submission::Async)),
+        Some(b'b') => known(word, "block", Keyword::Block),
+        Some(b'q') => known(word, "queue", Keyword::Queue),
+        Some(b's') => known(word, "sync", Keyword::Submit(Submission::Sync)),
+        _ => None,
+    }
+}
+
+// The keyword that a word is known for; None where it is another word.
+fn known(word: &str, spelled: &str, keyword: Keyword) -> Option<Keyword>
+    requires { keyword_of spelled.now ≡ Some keyword }
+    ensures { IfSome result (λ keyword. keyword_of word.now ≡ Some keyword) }
+{
+    if word == spelled { Some(keyword) } else { None }
 }
 
 // The same of declarations.

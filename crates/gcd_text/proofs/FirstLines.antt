@@ -1,15 +1,11 @@
 -- How a text's first line comes off.
-use Rattle.std.proofs.Common.{ℕ, zero, suc, ◌≡◌, ◌==◌, ◌<◌, ◌≤◌, ◌+◌, Bool, true, false, cond, ltb, leb, eqb, List, [], ◌∷◌, length, take, drop, Option, Some, None, Result, Ok, Err, lit<, position, refl, sym, ap, subst, ◌∙◌, arith}
+use Rattle.std.proofs.Common.{ℕ, zero, suc, ◌≡◌, ◌==◌, ◌<◌, ◌≤◌, ◌+◌, Bool, true, false, cond, ltb, leb, eqb, List, [], ◌∷◌, length, take, drop, Some, None, lit<, position, refl, sym, ap, ◌∙◌, arith}
 use Rattle.std.specs.List.{slice_split, onto_first, position_or_len, before_first, after_first}
 use Rattle.std.proofs.lemmas.List.Splits.{slice_split_first, slice_split_none}
 use Rattle.std.proofs.lemmas.List.Sums.{fails_before_first}
 use Rattle.std.proofs.lemmas.Bool.{ltb-true, ltb-false, leb-true, eqb-false, and_parts}
 use Rattle.std.proofs.lemmas.Option.{cond_some}
-use Rattle.std.proofs.lemmas.Str.{IsUtf8-from_ascii}
-use Rattle.std.specs.Borrow.{Bor}
-use Rattle.std.specs.Option.{MatchOption}
-use Rattle.std.specs.Result.{MatchResult, result_ok}
-use Rattle.std.specs.Str.{IsAscii, IsUtf8}
+use Rattle.std.specs.Str.{IsAscii}
 use Rattle.gcd_text.specs.Lines.{lines_of, but_empty_last, is_line_byte, is_printable}
 
 cond_none : (b : Bool) (n : ℕ) → cond b (Some n) None ≡ None → b ≡ false
@@ -65,10 +61,6 @@ pub ascii_line : (line : List ℕ) → is_printable line ≡ true → IsAscii li
 ascii_line [] h i = lit< tt
 ascii_line (c ∷ cs) h zero = omega (arith, leb-true c 126 (and_parts (leb 32 c) (leb c 126) (and_parts (is_line_byte c) (is_printable cs) h).0).1)
 ascii_line (c ∷ cs) h (suc i) = ascii_line cs (and_parts (is_line_byte c) (is_printable cs) h).1 i
-
-pub text_of_line : {E : Type 0} (V : E → Type 0) (line : List ℕ) (r : Result (Bor (List ℕ)) E) (o : Option (Bor (List ℕ))) → o ≡ result_ok r → MatchResult r (λ s. (s.now ≡ line) × IsUtf8 line) (λ e. ¬ (IsUtf8 line) × V e) → is_printable line ≡ true → MatchOption o (is_printable line ≡ false) (λ t. (is_printable line ≡ true) × (t.now ≡ line))
-text_of_line V line (Ok s) o is cases printed = subst (λ o. MatchOption o (is_printable line ≡ false) (λ t. (is_printable line ≡ true) × (t.now ≡ line))) (sym is) (printed, cases.0)
-text_of_line V line (Err e) o is cases printed = absurd (cases.0 (IsUtf8-from_ascii line (ascii_line line printed)))
 
 pub has_length : (text : List ℕ) → eqb (length text) 0 ≡ false → 0 < length text
 has_length text h = let other = eqb-false (length text) 0 h in omega arith

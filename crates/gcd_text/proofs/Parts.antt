@@ -1,6 +1,6 @@
 -- How the words and the fields of a line come off its front.
 use Rattle.std.proofs.Common.{ℕ, cond, ◌≡◌, ◌<◌, ◌+◌, ◌==◌, not, false, List, Bor, map, [], ◌∷◌, ◌++◌, length, take, drop, filter, get_or, position, Some, None, refl, sym, ap, ◌∙◌, arith}
-use Rattle.std.specs.List.{All}
+use Rattle.std.specs.List.{All, slice_range}
 use Rattle.std.proofs.lemmas.Bool.{false_from_ne_true, eqb-true, eqb-false}
 use Rattle.std.proofs.lemmas.List.{take-append-drop, drop_more, get_or-take, length-take-le, length-append, length-map, map_push, append_assoc}
 use Rattle.std.proofs.lemmas.List.Quantifiers.{position-Some}
@@ -34,6 +34,10 @@ pub stands_here : (byte : ℕ) (text : List ℕ) (place : ℕ) → position (λ 
 stands_here byte text place found =
     let at = position-Some (λ c. c == byte) text place 0 found in
     (at.0, eqb-true (get_or text place 0) byte at.1)
+
+-- a range from the start
+pub from_start : (text : List ℕ) (n : ℕ) → slice_range text 0 n ≡ take n text
+from_start text n = ap (λ m. take m text) (omega arith)
 
 -- where it has no place, the text is without it
 pub cut_nowhere : (byte : ℕ) (text : List ℕ) → position (λ c. c == byte) text ≡ None → IsWithout byte text

@@ -48,7 +48,7 @@ pub fn printable(line: &[u8]) -> Option<&str>
         (λ text. (is_printable line.now ≡ true) × (text.now ≡ line.now)) }
 {
     if is_printable(line) {
-        // Such bytes are ASCII, so they need no second look.
+        // These bytes are ASCII, so what the call asks is proved, and the line is not looked at twice.
         Some(unsafe { str::from_utf8_unchecked(line) })
     } else {
         None
