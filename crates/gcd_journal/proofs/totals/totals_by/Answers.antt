@@ -1,6 +1,4 @@
-use Rattle.std.proofs.Common.{◌≡◌, length, replicate}
 use Rattle.std.proofs.lemmas.Result.{IfOk-weaker}
-use Rattle.gcd_journal.specs.Totals.{no_total}
 use Rattle.gcd_journal.proofs.TotalsOf.{without_sources}
 use Rattle.gcd_journal.proofs.totals.totals_by.Goals as goal
 

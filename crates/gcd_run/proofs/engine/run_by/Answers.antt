@@ -1,6 +1,6 @@
 use Rattle.gcd_jobs.specs.Contents.{contents}
 use Rattle.gcd_run.specs.Calls.{seen_by}
-use Rattle.gcd_run.proofs.Ran.{ran_alone, values_alone}
+use Rattle.gcd_run.proofs.Ran.{ran_alone}
 use Rattle.gcd_run.proofs.engine.run_by.Goals as goal
 
 pub returns-clause-ran : goal.returns-clause-ran
