@@ -4,6 +4,8 @@
 #[cfg(test)]
 mod given;
 #[cfg(test)]
+mod held;
+#[cfg(test)]
 mod rounds;
 #[cfg(test)]
 mod teams;
