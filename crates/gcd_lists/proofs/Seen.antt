@@ -1,48 +1,54 @@
 -- The arrays and the view of them: what each call reads and leaves.
 use Rattle.std.proofs.Common.{◌≡◌, ℕ, ◌≤◌, ◌<◌, Bool, List, [], ◌∷◌, ◌++◌, length, get_or, set, drop, replicate, Option, Some, None, refl, ap, sym, ◌∙◌, subst, arith}
 use Rattle.std.specs.List.{slice_get}
-use Rattle.std.proofs.lemmas.List.{get_or_read, get_or-set_same, length-replicate}
+use Rattle.std.proofs.lemmas.List.{get_or_read, get_or-set_same, length-set, length-replicate}
 use Rattle.std.proofs.lemmas.Option.{none-some, same_Some}
+use Rattle.gcd_plan.specs.Limits.{max_objects, max_blocks}
 use Rattle.gcd_plan.specs.declared.numbers.Blk.{Blk}
 use Rattle.gcd_plan.specs.declared.numbers.Obj.{Obj}
 use Rattle.gcd_lists.specs.ListsView.{ListsView, list_at, place_of}
-use Rattle.gcd_lists.specs.Links.{Hold, AreLinked, entry, lists_of, view_of, last_at}
+use Rattle.gcd_lists.specs.Links.{Hold, AreLists, entry, lists_of, view_of, last_at}
 use Rattle.gcd_lists.proofs.Held.{First, list_short, place_seen, none_first, some_first, some_last, entry_within, view_is, linked}
 use Rattle.gcd_lists.proofs.Changes.{nothing_waits, hold_longer, hold_rest, comes_first, comes_behind}
 
 -- arrays that hold the lists of a view
 pub record Shows (links : List (Option Blk)) (places : List (Option (Obj × Bool))) (heads : List (Option Blk)) (lasts : List Blk)
     (v : ListsView) : Type 0 where
-  pub linked : AreLinked links places heads lasts
+  pub are : AreLists links places heads lasts
   pub seen : view_of links places heads ≡ v
 
 pub shown : {links : List (Option Blk)} {places : List (Option (Obj × Bool))} {heads : List (Option Blk)} {lasts : List Blk} {v : ListsView}
-    → AreLinked links places heads lasts → view_of links places heads ≡ v → Shows links places heads lasts v
-shown linked seen = record { linked = linked; seen = seen }
+    → AreLists links places heads lasts → view_of links places heads ≡ v → Shows links places heads lasts v
+shown are seen = record { are = are; seen = seen }
 
 shows_from : (links places heads lasts lists : _) (blocks : ℕ) → Hold links places heads lasts lists → length links ≡ blocks
-    → Shows links places heads lasts (record { lists = lists; blocks = blocks })
-shows_from links places heads lasts lists blocks h long = record {
-  linked = linked links places heads lasts lists h;
+    → blocks ≤ max_blocks → length heads ≤ max_objects → Shows links places heads lasts (record { lists = lists; blocks = blocks })
+shows_from links places heads lasts lists blocks h long few_blocks few_objects = record {
+  are = record { linked = linked links places heads lasts lists h; few_blocks = rw long few_blocks; few_objects = few_objects };
   seen = view_is links places heads lasts lists h ∙ ap (λ n. record { lists = lists; blocks = n }) long;
 }
 
 -- arrays of nothing show that nothing waits
 pub shows_nothing : {links : List (Option Blk)} {places : List (Option (Obj × Bool))} {heads : List (Option Blk)} {lasts : List Blk}
     (objects blocks : ℕ) → links ≡ replicate blocks None → places ≡ replicate blocks None → heads ≡ replicate objects None
-    → lasts ≡ replicate objects (record { 0 = 0 }) → Shows links places heads lasts (record { lists = replicate objects []; blocks = blocks })
-shows_nothing objects blocks links places heads lasts =
+    → lasts ≡ replicate objects (record { 0 = 0 }) → blocks ≤ max_blocks → objects ≤ max_objects
+    → Shows links places heads lasts (record { lists = replicate objects []; blocks = blocks })
+shows_nothing objects blocks links places heads lasts few_blocks few_objects =
     rw (links, places, heads, lasts)
     (shows_from (replicate blocks None) (replicate blocks None) (replicate objects None) (replicate objects (record { 0 = 0 })) (replicate objects []) blocks
-    (nothing_waits objects blocks) (length-replicate blocks None))
+    (nothing_waits objects blocks) (length-replicate blocks None) few_blocks (rw (length-replicate {A = Option Blk} objects None) few_objects))
 
 module _ {links : List (Option Blk)} {places : List (Option (Obj × Bool))} {heads : List (Option Blk)} {lasts : List Blk} {v : ListsView}
     (s : Shows links places heads lasts v) where
   pub hold : Hold links places heads lasts v.lists
-  hold = subst (λ u. Hold links places heads lasts u.lists) s.seen s.linked
+  hold = subst (λ u. Hold links places heads lasts u.lists) s.seen s.are.linked
 
   pub blocks_long : length links ≡ v.blocks
   blocks_long = ap (λ u. u.blocks) s.seen
+
+  -- the arrays stay as short as those of a plan
+  few_blocks : v.blocks ≤ max_blocks
+  few_blocks = omega (arith, blocks_long, s.are.few_blocks)
 
   -- no more blocks wait on a node than there are
   pub few_wait : (n : ℕ) → length (list_at v n) ≤ v.blocks
@@ -107,7 +113,7 @@ module _ {links : List (Option Blk)} {places : List (Option (Obj × Bool))} {hea
       shows_from (set links b.0 None) (set places b.0 (Some (n, barrier))) (set heads n.0 (Some b)) (set lasts n.0 b)
       (set v.lists n.0 (list_at v n.0 ++ (b, barrier) ∷ [])) v.blocks
       (hold_longer links places heads lasts v.lists (set links b.0 None) (set heads n.0 (Some b)) n.0 b barrier hold comes)
-      (comes.links_long ∙ blocks_long)
+      (comes.links_long ∙ blocks_long) few_blocks (omega (arith, comes.heads_long, s.are.few_objects))
 
   pub shows_behind : (n : Obj) (a end b : Blk) (barrier : Bool) → n.0 < length v.lists → b.0 < v.blocks → place_of v b.0 ≡ None → entry heads n.0 ≡ Some a
       → last_at lasts n.0 ≡ end
@@ -119,7 +125,7 @@ module _ {links : List (Option Blk)} {places : List (Option (Obj × Bool))} {hea
       shows_from (set (set links b.0 None) end.0 (Some b)) (set places b.0 (Some (n, barrier))) heads (set lasts n.0 b)
       (set v.lists n.0 (list_at v n.0 ++ (b, barrier) ∷ [])) v.blocks
       (hold_longer links places heads lasts v.lists (set (set links b.0 None) end.0 (Some b)) heads n.0 b barrier hold comes)
-      (comes.links_long ∙ blocks_long)
+      (comes.links_long ∙ blocks_long) few_blocks (omega (arith, comes.heads_long, s.are.few_objects))
 
   -- the last block of a list is one of the plan's
   pub end_within : (n : Obj) (a end : Blk) → entry heads n.0 ≡ Some a → last_at lasts n.0 ≡ end → end.0 < length links
@@ -137,7 +143,8 @@ module _ {links : List (Option Blk)} {places : List (Option (Obj × Bool))} {hea
       let link : second ≡ entry links b.0 = get_or_read links b.0 second (taken_within n b barrier first) read None in
       rw link
       (shows_from links (set places b.0 None) (set heads n.0 (entry links b.0)) lasts (set v.lists n.0 (drop 1 (list_at v n.0))) v.blocks
-      (hold_rest links places heads lasts v.lists n.0 b hold node (first_at_head n.0 b barrier first)) blocks_long)
+      (hold_rest links places heads lasts v.lists n.0 b hold node (first_at_head n.0 b barrier first)) blocks_long few_blocks
+      (omega (arith, length-set heads n.0 (entry links b.0), s.are.few_objects)))
 
   -- the block that leaves waits nowhere afterwards
   pub taken_gone : (n : Obj) (b : Blk) (barrier : Bool) (second : Option Blk) → n.0 < length v.lists
@@ -145,6 +152,6 @@ module _ {links : List (Option Blk)} {places : List (Option (Obj × Bool))} {hea
       → place_of (view_of links (set places b.0 None) (set heads n.0 second)) b.0 ≡ None
   taken_gone n b barrier second node first read =
       let after = shows_rest n b barrier second node first read in
-      place_seen links (set places b.0 None) (set heads n.0 second) lasts (lists_of links (set places b.0 None) (set heads n.0 second)) after.linked
+      place_seen links (set places b.0 None) (set heads n.0 second) lasts (lists_of links (set places b.0 None) (set heads n.0 second)) after.are.linked
       (view_of links (set places b.0 None) (set heads n.0 second)) refl b.0
       ∙ get_or-set_same places b.0 None None (omega (arith, taken_within n b barrier first, hold.places_long))

@@ -1,2 +1,3 @@
 pub mod ListsView
 pub mod Links
+pub mod Codes

@@ -1,6 +1,7 @@
 -- How the arrays of `Lists` hold its lists. No contract cites this: it is for the proofs of this crate alone.
 use Rattle.std.specs.Prelude.{◌≡◌, ℕ, zero, suc, ◌≤◌, ◌==◌, Bool, false, List, [], ◌∷◌, length, map, Option, Some, None, slice_index_or, count_by}
 use Rattle.std.specs.Option.{option_map_or}
+use Rattle.gcd_plan.specs.Limits.{max_objects, max_blocks}
 use Rattle.gcd_plan.specs.declared.numbers.Blk.{Blk}
 use Rattle.gcd_plan.specs.declared.numbers.Obj.{Obj}
 use Rattle.gcd_lists.specs.ListsView.{ListsView, barrier_in}
@@ -65,6 +66,14 @@ pub record Hold
   pub queues : (n : ℕ) → IsQueue links places n (entry heads n) (last_at lasts n) (slice_index_or lists n [])
   pub found : (b n : ℕ) (barrier : Bool) → entry places b ≡ on n barrier → barrier_in b (slice_index_or lists n []) ≡ Some barrier
 
--- what is true of the arrays of each `Lists`
+-- the arrays hold the lists that they are seen as
 abbrev pub AreLinked : List (Option Blk) → List (Option (Obj × Bool)) → List (Option Blk) → List Blk → Type 0
 AreLinked links places heads lasts = Hold links places heads lasts (lists_of links places heads)
+
+-- what is true of the arrays of each `Lists`; no more blocks and objects than a plan may have, so that each link and each
+-- place has a number of two bytes
+pub record AreLists (links : List (Option Blk)) (places : List (Option (Obj × Bool))) (heads : List (Option Blk)) (lasts : List Blk)
+    : Type 0 where
+  pub linked : AreLinked links places heads lasts
+  pub few_blocks : length links ≤ max_blocks
+  pub few_objects : length heads ≤ max_objects

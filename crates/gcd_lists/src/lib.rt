@@ -21,10 +21,14 @@
 //! wait where is for the caller to say: the crate knows no history, and any object may have a list, a group or a
 //! semaphore too.
 //!
+//! A block takes 4 bytes of memory: 2 for its link to the block behind it, and 2 for its place.
+//!
 //! `proofs/Places` has, for proofs above, what `place_of` says of the lists.
 #![tactic(auto)]
 
+mod link;
 mod lists;
+mod place;
 
 pub use lists::Lists;
 

@@ -2,6 +2,8 @@
 ghost use Rattle.std.specs.Prelude.{◌≡◌, ◌≤◌, ◌<◌, ◌++◌, ◌∷◌, [], IfOk, IfSome, None, length, drop, replicate, slice_get, slice_set};
 ghost use Rattle.gcd_lists.specs.ListsView.{list_at, place_of};
 
+use crate::link::Link;
+use crate::place::Place;
 use gcd_plan::{Blk, Obj, Plan};
 use std::alloc::{AllocError, Global};
 use std::marker::Model;
@@ -13,9 +15,9 @@ use std::marker::Model;
 #[derive(Debug, Drop)]
 pub struct Lists {
     // By block: the block behind it in its list. Of a block that waits nowhere it says nothing.
-    next: Vec<Option<Blk>>,
+    next: Vec<Link>,
     // By block: the object on which it waits, and whether it is a barrier.
-    places: Vec<Option<(Obj, bool)>>,
+    places: Vec<Place>,
     // By object: the first and the last block of its list. The last of an empty list says nothing.
     heads: Vec<Option<Blk>>,
     lasts: Vec<Blk>,
@@ -23,13 +25,13 @@ pub struct Lists {
 
 impl Model for Lists {
     ghost use Rattle.gcd_lists.specs.ListsView.{ListsView};
-    ghost use Rattle.gcd_lists.specs.Links.{view_of, AreLinked};
+    ghost use Rattle.gcd_lists.specs.Links.{view_of, AreLists};
 
     ghost Value = { ListsView };
 
     ghost view = { λ l. view_of l.next.items l.places.items l.heads.items };
 
-    ghost invariant = { λ l. AreLinked l.next.items l.places.items l.heads.items l.lasts.items };
+    ghost invariant = { λ l. AreLists l.next.items l.places.items l.heads.items l.lasts.items };
 }
 
 impl Lists {
@@ -41,8 +43,8 @@ impl Lists {
         let objects = plan.objects() as usize;
         let blocks = plan.blocks() as usize;
         Ok(Lists {
-            next: vec![in alloc; None; blocks]?,
-            places: vec![in alloc; None; blocks]?,
+            next: vec![in alloc; Link::NONE; blocks]?,
+            places: vec![in alloc; Place::NONE; blocks]?,
             heads: vec![in alloc; None; objects]?,
             lasts: vec![in alloc; Blk(0); objects]?,
         })
@@ -63,6 +65,7 @@ impl Lists {
     /// The block waits on the object from now on, behind all that wait there, as a barrier or not (dispatch_async(3),
     /// dispatch_barrier_async(3)). It waits nowhere before: [`Lists::place`] is the test. So no more wait there than there
     /// are blocks.
+    #[inline(always)]
     pub fn push(&mut self, node: Obj, blk: Blk, barrier: bool)
         requires node { node.0 < length self.old.lists }
         requires blk { blk.0 < self.old.blocks }
@@ -72,10 +75,10 @@ impl Lists {
     {
         let last = self.lasts[node.0 as usize];
         self.lasts[node.0 as usize] = blk;
-        self.places[blk.0 as usize] = Some((node, barrier));
-        self.next[blk.0 as usize] = None;
+        self.places[blk.0 as usize] = Place::of(node, barrier);
+        self.next[blk.0 as usize] = Link::NONE;
         match self.heads[node.0 as usize] {
-            Some(_) => self.next[last.0 as usize] = Some(blk),
+            Some(_) => self.next[last.0 as usize] = Link::of(blk),
             None => self.heads[node.0 as usize] = Some(blk),
         }
     }
@@ -89,7 +92,7 @@ impl Lists {
         ensures within { IfSome result (λ waiting. waiting.0.0 < self.now.blocks) }
     {
         let blk = self.heads[node.0 as usize]?;
-        let (_, barrier) = self.places[blk.0 as usize]?;
+        let (_, barrier) = self.places[blk.0 as usize].get()?;
         Some((blk, barrier))
     }
 
@@ -103,8 +106,8 @@ impl Lists {
         ensures within { IfSome result (λ waiting. waiting.0.0 < self.old.blocks) }
     {
         let (blk, barrier) = self.first(node)?;
-        self.heads[node.0 as usize] = self.next[blk.0 as usize];
-        self.places[blk.0 as usize] = None;
+        self.heads[node.0 as usize] = self.next[blk.0 as usize].get();
+        self.places[blk.0 as usize] = Place::NONE;
         Some((blk, barrier))
     }
 
@@ -114,6 +117,6 @@ impl Lists {
         requires { blk.0 < self.now.blocks }
         ensures { result ≡ place_of self.now blk.0 }
     {
-        self.places[blk.0 as usize]
+        self.places[blk.0 as usize].get()
     }
 }

@@ -1,6 +1,8 @@
 ghost use Rattle.std.specs.Prelude.{◌≡◌, length};
 
 use crate::Lists;
+use crate::link::Link;
+use crate::place::Place;
 use gcd_plan::{Blk, BlkPart, Kind, Obj, ObjPart, Parts, Plan};
 use std::alloc::{AllocError, Global};
 use std::process::Abort;
@@ -110,4 +112,30 @@ fn blocks_wait_in_order(rt: HostRuntime) -> Result<(), Fail> {
         play(&rt, &mut world, call);
     }
     Ok(())
+}
+
+// The last block of the largest plan, on its last object, and the largest numbers that two bytes have room for.
+const LARGEST: [(u32, u32, bool); 4] = [
+    (16_384, 1_023, true),
+    (16_384, 1_023, false),
+    (65_534, 32_766, true),
+    (0, 0, false),
+];
+
+fn read_again(rt: &impl Abort, blk: u32, node: u32, barrier: bool) {
+    assert!(rt; blk < 65_535 && node < 32_767);
+    assert_eq!(rt; Link::of(Blk(blk)).get(), Some(Blk(blk)));
+    assert_eq!(rt;
+        Place::of(Obj(node), barrier).get(),
+        Some((Obj(node), barrier))
+    );
+}
+
+#[test]
+fn numbers_have_room_in_two_bytes(rt: HostRuntime) {
+    for (blk, node, barrier) in LARGEST.iter() {
+        read_again(&rt, *blk, *node, *barrier);
+    }
+    assert_eq!(&rt; size_of::<Link>() + size_of::<Place>(), 4);
+    assert!(&rt; Link::NONE.get().is_none() && Place::NONE.get().is_none());
 }

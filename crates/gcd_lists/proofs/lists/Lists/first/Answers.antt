@@ -1,4 +1,4 @@
-use Rattle.std.proofs.Common.{◌∙◌, arith}
+use Rattle.std.proofs.Common.{◌∙◌, sym, arith}
 use Rattle.gcd_lists.proofs.Seen.{shown, few_wait, head_read, place_read, first_within, first_waits, none_waits, first_listed}
 use Rattle.gcd_lists.proofs.lists.Lists.first.Goals as goal
 
@@ -22,7 +22,7 @@ returns c =
     let s = shown c.self.invariant c.self.view_is in
     let head = head_read s c.args.node.0 c.index.result.now c.requires c.index.ensures ∙ c.in_ok-blk.was in
     let within = first_within s c.args.node.0 c.in_ok-blk.blk head in
-    let place = place_read s c.in_ok-blk.blk.0 c.index-2.result.now within c.index-2.ensures ∙ c.in_ok-barrier.was in
+    let place = place_read s c.in_ok-blk.blk.0 c.index-2.result.now within c.index-2.ensures ∙ sym c.get.ensures ∙ c.in_ok-barrier.was in
     record {
       value = first_waits s c.args.node.0 c.in_ok-blk.blk _ c.in_ok-barrier.barrier head place;
       few = few_wait s c.args.node.0;

@@ -5,4 +5,4 @@ use Rattle.gcd_lists.proofs.lists.Lists.place.Goals as goal
 pub returns : goal.returns
 returns c =
     let s = shown c.self.invariant c.self.view_is in
-    sym (place_read s c.args.blk.0 c.index.result.now (places_reach s c.args.blk.0 c.requires) c.index.ensures) ∙ place_is s c.args.blk.0
+    c.get.ensures ∙ sym (place_read s c.args.blk.0 c.index.result.now (places_reach s c.args.blk.0 c.requires) c.index.ensures) ∙ place_is s c.args.blk.0

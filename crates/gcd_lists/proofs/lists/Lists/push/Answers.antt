@@ -14,8 +14,9 @@ invariant_of-self c =
     let s = shown c.self.invariant c.self.view_is in
     let head = head_read s c.args.node.0 c.index.result.now c.requires.node c.index.ensures ∙ c.in-Some.is in
     let last = last_read s c.args.node.0 c.index-last.result.now c.requires.node c.index-last.ensures in
+    rw (c.of.ensures, c.of-in-Some.ensures)
     (shows_behind s c.args.node c.in-Some.field-0 c.index-last.result.now c.args.blk c.args.barrier c.requires.node c.requires.blk
-    c.requires.waits_nowhere head last).linked
+    c.requires.waits_nowhere head last).are
 
 pub returns-in-Some : goal.returns-in-Some
 returns-in-Some c =
@@ -24,17 +25,17 @@ returns-in-Some c =
     let last = last_read s c.args.node.0 c.index-last.result.now c.requires.node c.index-last.ensures in
     let shows = shows_behind s c.args.node c.in-Some.field-0 c.index-last.result.now c.args.blk c.args.barrier c.requires.node c.requires.blk
     c.requires.waits_nowhere head last in
-    record { behind = shows.seen; few = few_wait (shown shows.linked refl) c.args.node.0 }
+    rw (c.of.ensures, c.of-in-Some.ensures) (record { behind = shows.seen; few = few_wait (shown shows.are refl) c.args.node.0 })
 
 pub invariant_of-self-in-None : goal.invariant_of-self-in-None
 invariant_of-self-in-None c =
     let s = shown c.self.invariant c.self.view_is in
     let head = head_read s c.args.node.0 c.index.result.now c.requires.node c.index.ensures ∙ c.in-None.is in
-    (shows_first s c.args.node c.args.blk c.args.barrier c.requires.node c.requires.blk c.requires.waits_nowhere head).linked
+    rw c.of.ensures (shows_first s c.args.node c.args.blk c.args.barrier c.requires.node c.requires.blk c.requires.waits_nowhere head).are
 
 pub returns-in-None : goal.returns-in-None
 returns-in-None c =
     let s = shown c.self.invariant c.self.view_is in
     let head = head_read s c.args.node.0 c.index.result.now c.requires.node c.index.ensures ∙ c.in-None.is in
     let shows = shows_first s c.args.node c.args.blk c.args.barrier c.requires.node c.requires.blk c.requires.waits_nowhere head in
-    record { behind = shows.seen; few = few_wait (shown shows.linked refl) c.args.node.0 }
+    rw c.of.ensures (record { behind = shows.seen; few = few_wait (shown shows.are refl) c.args.node.0 })
