@@ -102,6 +102,7 @@ impl Timers {
 
     /// The least due time after the present, at most the plan's `until`; None exactly where no due time is left
     /// (dispatch_source_set_timer(3)). It looks at each timer once.
+    #[inline(always)]
     pub fn next_due(&self) -> Option<u32>
         ensures { result ≡ next_due_at self.now }
     {

@@ -204,6 +204,7 @@ impl Tree {
 
     /// One run less is open on the node, on which one is. Where it was the last, the target that the node waits for is
     /// its target from here on (dispatch_set_target_queue(3)).
+    #[inline(always)]
     pub fn closed(&mut self, node: Obj)
         requires object { node.0 < length self.old.targets }
         requires open { 0 < open_on_at self.old node.0 }

@@ -164,6 +164,7 @@ impl Registers {
 
     // The first start or delivery of the objects from `from` on, below `end`. The marks say which chains are known.
     #[tactic(auto, using(crate::proofs::Nodes::found_within, crate::proofs::Nodes::nodes_none))]
+    #[inline(always)]
     fn nodes_choice(&self, worker: u8, from: u32, end: u32, marks: &mut Marks) -> Option<Event>
         requires shape { IsShaped self.now }
         requires order { from ≤ end }
