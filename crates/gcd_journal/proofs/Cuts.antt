@@ -1,8 +1,8 @@
 -- Texts that are cut at bytes in one way.
-use Rattle.std.proofs.Common.{◌≡◌, ℕ, zero, suc, ◌+◌, ◌<◌, ◌≤◌, ◌==◌, not, ◌&&◌, cond, Bool, true, false, List, [], ◌∷◌, ◌++◌, length, Some, None, get_or, refl, ap, sym, subst, ◌∙◌, arith, count_by, inl, inr}
-use Rattle.std.specs.List.{slice_split, onto_first, join_with_byte, list_all, slice_get}
-use Rattle.std.proofs.lemmas.Bool.{and_parts, not-true, both_ways, eq-eqb, eqb-true, eqb-false, cases_order, false_from_ne_true}
-use Rattle.gcd_plan.proofs.Sums.{count_by-cons, cond-le-one}
+use Rattle.std.proofs.Common.{◌≡◌, ℕ, zero, suc, ◌+◌, ◌<◌, ◌≤◌, ◌==◌, not, ◌&&◌, cond, Bool, true, false, List, [], ◌∷◌, ◌++◌, length, Some, get_or, refl, ap, sym, ◌∙◌, arith, count_by, inl, inr}
+use Rattle.std.specs.List.{onto_first, join_with_byte, list_all, slice_get}
+use Rattle.std.proofs.lemmas.Bool.{and_parts, not-true, eqb-true, eqb-false, cases_order, false_from_ne_true}
+use Rattle.gcd_plan.proofs.Sums.{count_by-cons}
 use Rattle.gcd_text.specs.Fields.{IsWithout, fields_of}
 
 -- a byte that no field has: neither a space nor the end of a line

@@ -1,14 +1,13 @@
 -- The events of lawful histories have lines.
-use Rattle.std.proofs.Common.{◌≡◌, ℕ, refl, Bool, true, false, List, length, take, Option, Some, None, reverse, ◌&&◌}
+use Rattle.std.proofs.Common.{◌≡◌, ℕ, refl, true, false, List, take, Some, None, reverse, ◌&&◌}
 use Rattle.std.specs.List.{slice_get}
 use Rattle.std.specs.Option.{option_map, option_map_or}
 use Rattle.std.proofs.lemmas.Bool.{and_parts}
 use Rattle.gcd_plan.specs.PlanView.{PlanView}
-use Rattle.gcd_plan.specs.Kinds.{has_kind, is_source, is_source_kind, is_read_kind}
+use Rattle.gcd_plan.specs.Kinds.{is_source, is_source_kind, is_read_kind}
 use Rattle.gcd_plan.specs.Validity.{IsPlan}
 use Rattle.gcd_plan.specs.declared.kind.Kind.{Kind}
 use Rattle.gcd_plan.specs.declared.kind.Kind.TheVariants.{Serial, Concurrent, Group, Semaphore, Add, Or, Timer, Read}
-use Rattle.gcd_plan.specs.declared.numbers.Run.TheVariants.{Block, Source}
 use Rattle.gcd_event.specs.declared.event.Event.{Event}
 use Rattle.gcd_event.specs.declared.event.Event.TheVariants.{Start, Act as Acted, Wake, End, Deliver, DeliverEnd, Tick, Ready, FeedEnd, Misuse, Halt}
 use Rattle.gcd_history.specs.Permitted.{is_known, is_worker, is_run_of, is_index, is_code, has_block, is_feed}

@@ -1,5 +1,5 @@
 -- A look-up of a valid plan's names, over lists.
-use Rattle.std.proofs.Common.{◌≡◌, ℕ, ◌<◌, ◌&&◌, Bool, true, false, List, [], ◌++◌, length, map, Option, Some, None, is_some, refl, ap, sym, ◌∙◌, arith, find, cond, ◌⊎◌, inl, inr, ◌≤◌, ◌+◌, if◌then◌else◌}
+use Rattle.std.proofs.Common.{◌≡◌, ℕ, ◌<◌, ◌&&◌, Bool, true, false, List, [], ◌++◌, length, map, Some, None, refl, ap, sym, ◌∙◌, arith, find, ◌⊎◌, inl, inr, ◌+◌, if◌then◌else◌}
 use Rattle.std.specs.List.{range_with_len, list_any}
 use Rattle.std.proofs.lemmas.Bool.{cases_Bool, both_ways, cases_eq, lt-ltb}
 use Rattle.std.specs.Str.{bytes_eq}

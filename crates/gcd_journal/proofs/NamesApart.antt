@@ -1,15 +1,15 @@
 -- The names of a valid plan's blocks and sources: they are apart, and have plain bytes.
-use Rattle.std.proofs.Common.{◌≡◌, ℕ, zero, suc, ◌+◌, ◌<◌, ◌≤◌, ◌==◌, ◌&&◌, ◌||◌, Bool, true, false, not, List, [], ◌∷◌, ◌++◌, length, map, Option, Some, None, refl, ap, sym, subst, ◌∙◌, arith, leb, ltb, count_by}
+use Rattle.std.proofs.Common.{◌≡◌, ℕ, zero, suc, ◌+◌, ◌<◌, ◌≤◌, ◌==◌, true, false, List, [], ◌∷◌, ◌++◌, length, map, Some, refl, ap, sym, ◌∙◌, arith}
 use Rattle.std.specs.List.{slice_get, list_all}
 use Rattle.std.specs.Option.{option_map, option_map_or}
 use Rattle.std.specs.Str.{bytes_eq}
-use Rattle.std.proofs.lemmas.Bool.{and_parts, ltb-true, false≢true, eqb-true, cases_lt, not_from_false, false_from_ne_true}
+use Rattle.std.proofs.lemmas.Bool.{and_parts, ltb-true, false≢true, eqb-true, false_from_ne_true}
 use Rattle.std.proofs.lemmas.Option.{slice_get-map}
-use Rattle.std.proofs.lemmas.List.{length-map, length-append}
+use Rattle.std.proofs.lemmas.List.{length-map}
 use Rattle.std.proofs.lemmas.Slice.Eq.{bytes_eq-Decides}
-use Rattle.gcd_plan.specs.PlanView.{PlanView, ObjView, BlkView, name_of_obj, name_of_blk}
+use Rattle.gcd_plan.specs.PlanView.{PlanView}
 use Rattle.gcd_plan.specs.Kinds.{is_source, is_source_kind}
-use Rattle.gcd_plan.specs.Names.{is_name, is_name_byte, is_letter, begins_with_letter}
+use Rattle.gcd_plan.specs.Names.{is_name, is_name_byte, begins_with_letter}
 use Rattle.gcd_plan.specs.Limits.{max_blocks, max_objects}
 use Rattle.gcd_plan.specs.Validity.{IsPlan, names_of}
 use Rattle.gcd_event.specs.Fits.{IsRun}
@@ -19,7 +19,7 @@ use Rattle.gcd_plan.specs.declared.numbers.Run.{Run}
 use Rattle.gcd_plan.specs.declared.numbers.Run.TheVariants.{Block, Source}
 use Rattle.gcd_plan.proofs.Places.{slice_get-append_left, slice_get_some}
 use Rattle.gcd_plan.proofs.Quantifiers.{list_all_get}
-use Rattle.gcd_history.specs.Permitted.{is_run_of, has_block}
+use Rattle.gcd_history.specs.Permitted.{is_run_of}
 use Rattle.gcd_history.specs.Report.{name_of_run}
 use Rattle.gcd_history.proofs.Fitting.{has_object}
 use Rattle.gcd_journal.proofs.Cuts.{is_plain, one_place, get_second}

@@ -1,6 +1,6 @@
 -- What the first line of a text is.
-use Rattle.std.proofs.Common.{◌≡◌, ◌≢◌, ℕ, zero, suc, ◌+◌, ◌^◌, ◌<◌, ◌≤◌, ◌==◌, not, Bool, true, false, List, [], ◌∷◌, ◌++◌, length, Option, Some, None, refl, ap, sym, ◌∙◌, subst, arith, codes, append_assoc, get_or}
-use Rattle.std.specs.List.{join_with_byte, list_all, flat_map, slice_get}
+use Rattle.std.proofs.Common.{◌≡◌, ◌≢◌, ℕ, zero, suc, ◌+◌, ◌^◌, ◌<◌, ◌≤◌, ◌==◌, not, true, List, [], ◌∷◌, ◌++◌, length, Some, None, refl, ap, sym, ◌∙◌, subst, arith, codes, append_assoc}
+use Rattle.std.specs.List.{join_with_byte, flat_map}
 use Rattle.std.specs.Fmt.{decimal}
 use Rattle.std.proofs.lemmas.Bool.{and_parts, not-true, eqb-false}
 use Rattle.std.proofs.lemmas.List.Splits.{join_with_byte-slice_split}
@@ -18,7 +18,7 @@ use Rattle.gcd_journal.specs.Named.{IsLookUp}
 use Rattle.gcd_journal.specs.NextLine.{LineSpells, IsFault}
 use Rattle.gcd_journal.specs.Spelling.{Look, event_in}
 use Rattle.gcd_journal.proofs.Cuts.{is_line, without_line, no_line, cut_one_way, joined_line, fields_joined}
-use Rattle.gcd_journal.proofs.Spelled.{fields_of_event, text_of, spells}
+use Rattle.gcd_journal.proofs.Spelled.{text_of, spells}
 use Rattle.gcd_journal.proofs.SpelledBack.{spelled_back}
 use Rattle.gcd_journal.proofs.OneWay.{count_text, plain_count, text_line, read_text, line_and_rest}
 

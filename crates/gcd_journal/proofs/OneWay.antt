@@ -1,6 +1,6 @@
 -- A text is a journal in one way.
-use Rattle.std.proofs.Common.{◌≡◌, ℕ, zero, suc, ◌+◌, ◌^◌, ◌<◌, ◌≤◌, Bool, true, false, List, [], ◌∷◌, ◌++◌, length, Some, None, refl, ap, sym, ◌∙◌, subst, arith, codes, append_assoc}
-use Rattle.std.specs.List.{join_with_byte, list_all, flat_map, slice_get}
+use Rattle.std.proofs.Common.{◌≡◌, ℕ, zero, suc, ◌+◌, ◌^◌, ◌<◌, ◌≤◌, true, List, [], ◌∷◌, ◌++◌, length, Some, None, refl, ap, sym, ◌∙◌, subst, arith, codes, append_assoc}
+use Rattle.std.specs.List.{join_with_byte, list_all, flat_map}
 use Rattle.std.specs.Fmt.{decimal}
 use Rattle.std.proofs.lemmas.Bool.{and_from}
 use Rattle.gcd_plan.specs.Limits.{max_events}

@@ -1,10 +1,8 @@
 -- The fields of an event's line spell the event, and nothing else spells it.
-use Rattle.std.proofs.Common.{◌≡◌, ◌≢◌, ℕ, ◌+◌, ◌-◌, ◌^◌, ◌<◌, ◌≤◌, ◌==◌, ◌&&◌, Bool, true, false, cond, List, [], ◌∷◌, ◌++◌, Option, Some, None, option_and_then, refl, ap, sym, ◌∙◌, subst, arith, if◌then◌else◌, inl, inr, ◌⊎◌, codes, append_assoc}
+use Rattle.std.proofs.Common.{◌≡◌, ℕ, ◌-◌, ◌^◌, ◌<◌, ◌≤◌, true, List, [], ◌∷◌, ◌++◌, Some, None, refl, ap, arith, codes, append_assoc}
 use Rattle.std.specs.List.{join_with_byte, list_all}
 use Rattle.std.specs.Fmt.{decimal}
-use Rattle.std.specs.Str.{bytes_eq}
-use Rattle.std.proofs.lemmas.Bool.{and_from, eqb-true, false≢true}
-use Rattle.std.proofs.lemmas.Slice.Eq.{bytes_eq-Decides}
+use Rattle.std.proofs.lemmas.Bool.{and_from}
 use Rattle.gcd_plan.specs.Limits.{max_workers, max_acts, max_time, max_value}
 use Rattle.gcd_plan.specs.PlanView.{PlanView, name_of_blk, name_of_obj}
 use Rattle.gcd_plan.specs.Validity.{IsPlan}
@@ -15,15 +13,14 @@ use Rattle.gcd_plan.specs.declared.numbers.Run.TheVariants.{Block, Source}
 use Rattle.gcd_event.specs.declared.event.Event.{Event}
 use Rattle.gcd_event.specs.declared.event.Event.TheVariants.{Start, Act as Acted, Wake, End, Deliver, DeliverEnd, Tick, Ready, FeedEnd, Misuse, Halt}
 use Rattle.gcd_history.specs.Permitted.{is_run_of}
-use Rattle.gcd_history.specs.Report.{name_of_run, line_end}
-use Rattle.gcd_history.specs.JournalText.{event_line, count_line}
+use Rattle.gcd_history.specs.Report.{name_of_run}
+use Rattle.gcd_history.specs.JournalText.{event_line}
 use Rattle.gcd_journal.specs.Spoken.{IsSpoken}
-use Rattle.gcd_journal.specs.Named.{IsLookUp}
-use Rattle.gcd_journal.specs.Spelling.{Look, number_in, worker_in, index_in, time_in, bytes_in, code_in, source_of_run, source_in, of_both, block_event, source_event, turn_event, turn_in, by_one, by_two, by_three, by_four, by_five, event_in}
+use Rattle.gcd_journal.specs.Spelling.{Look, number_in, worker_in, event_in}
 use Rattle.gcd_text.specs.Fields.{fields_of}
 use Rattle.gcd_journal.proofs.Cuts.{is_plain, some_field}
 use Rattle.gcd_journal.proofs.NamesApart.{plain_name}
-use Rattle.gcd_journal.proofs.Numbers.{read_back, reads, plain_decimal}
+use Rattle.gcd_journal.proofs.Numbers.{reads, plain_decimal}
 
 -- the fields of an event's line
 abbrev pub fields_of_event : PlanView → Event → List (List ℕ)

@@ -1,8 +1,8 @@
 -- What deliveries hand over, an event on.
-use Rattle.std.proofs.Common.{zero, suc, add-one, ◌≡◌, ◌≢◌, ℕ, ◌+◌, ◌*◌, ◌^◌, ◌<◌, ◌≤◌, ◌==◌, Bool, true, false, cond, List, [], ◌∷◌, ◌++◌, length, take, reverse, Option, Some, None, get_or, set, replicate, refl, ap, sym, ◌∙◌, subst, arith, fold, inl, inr, if◌then◌else◌, lit≤}
+use Rattle.std.proofs.Common.{zero, suc, add-one, ◌≡◌, ◌≢◌, ℕ, ◌+◌, ◌*◌, ◌^◌, ◌<◌, ◌≤◌, true, false, cond, List, [], ◌∷◌, ◌++◌, length, take, reverse, Some, None, get_or, set, replicate, refl, ap, sym, ◌∙◌, subst, arith, fold, inl, inr, if◌then◌else◌}
 use Rattle.std.specs.Option.{option_map_or}
 use Rattle.std.specs.Int.Bits.{or_add_and}
-use Rattle.std.proofs.lemmas.Bool.{both_ways, cases_eq, eq-eqb, eqb-true, ne_eqb}
+use Rattle.std.proofs.lemmas.Bool.{both_ways, cases_eq, eq-eqb, ne_eqb}
 use Rattle.std.proofs.lemmas.List.{append-nil, length-append, length-set, get_or-set_same, get_or-set_other, get_or-replicate, length-replicate, take_more, take_all}
 use Rattle.std.proofs.lemmas.List.Sums.{fold_push}
 use Rattle.gcd_plan.specs.PlanView.{PlanView, kind_of}
@@ -10,7 +10,7 @@ use Rattle.gcd_plan.specs.KindValues.{folded}
 use Rattle.gcd_plan.specs.declared.kind.Kind.{Kind}
 use Rattle.gcd_plan.specs.declared.kind.Kind.TheVariants.{Or}
 use Rattle.gcd_plan.specs.declared.numbers.Obj.{Obj}
-use Rattle.gcd_plan.proofs.Sums.{count_by-cons, cond-le-one}
+use Rattle.gcd_plan.proofs.Sums.{count_by-cons}
 use Rattle.gcd_event.specs.declared.event.Event.{Event}
 use Rattle.gcd_event.specs.declared.event.Event.TheVariants.{Deliver, Halt}
 use Rattle.gcd_history.specs.Sources.{delivers, delivery_count, fold_at, handed, pending, received, last_data}

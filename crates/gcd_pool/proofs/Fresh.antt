@@ -1,8 +1,8 @@
 -- The cell of the run that a worker holds, as events come.
-use Rattle.std.proofs.Common.{◌≡◌, ℕ, ◌+◌, ◌<◌, ◌≤◌, ⊎_elim, Bool, true, false, List, [], ◌∷◌, ◌++◌, length, Some, None, Option, sym, refl, ap, ◌∙◌, subst, arith}
+use Rattle.std.proofs.Common.{◌≡◌, ℕ, ◌<◌, ◌≤◌, ⊎_elim, Bool, true, false, List, [], ◌∷◌, ◌++◌, length, Some, None, Option, sym, refl, ap, ◌∙◌, subst, arith}
 use Rattle.std.specs.Prelude.{slice_get}
 use Rattle.std.proofs.lemmas.Option.{same_Some, slice_get_cases}
-use Rattle.gcd_plan.specs.PlanView.{PlanView, IsRun}
+use Rattle.gcd_plan.specs.PlanView.{PlanView}
 use Rattle.gcd_plan.specs.Validity.{IsPlan}
 use Rattle.gcd_plan.specs.declared.numbers.Blk.{Blk}
 use Rattle.gcd_plan.specs.declared.numbers.Run.{Run}
@@ -13,7 +13,7 @@ use Rattle.gcd_history.specs.Choice.{worker_of}
 use Rattle.gcd_history.specs.Runs.{act_at}
 use Rattle.gcd_history.specs.Parked.{is_parking}
 use Rattle.gcd_history.specs.Sources.{joined}
-use Rattle.gcd_history.specs.History.{why, parks, IsLawful, is_ended, delivery_count_of, received_of, last_data_of}
+use Rattle.gcd_history.specs.History.{why, parks, IsLawful, is_ended, delivery_count_of, received_of}
 use Rattle.gcd_history.proofs.LawfulLemmas.{lawful_more}
 use Rattle.gcd_team.specs.Held.{taken, given}
 use Rattle.gcd_team.specs.Team.{of_worker, held_by, StartsWith}

@@ -1,15 +1,15 @@
 -- What a hand of a pool knows by the plan of the pool, and what a turn of worker 0 keeps by it.
-use Rattle.std.proofs.Common.{◌≡◌, ◌≤◌, ◌<◌, ◌+◌, ◌∙◌, ◌++◌, ℕ, Bool, true, false, List, [], ◌∷◌, Some, None, length, ap, sym, subst, refl, arith}
+use Rattle.std.proofs.Common.{◌≡◌, ◌≤◌, ◌∙◌, ℕ, Bool, true, false, [], length, ap, sym, subst, refl, arith}
 use Rattle.gcd_plan.specs.Limits.{max_events}
 use Rattle.gcd_plan.specs.PlanView.{PlanView}
 use Rattle.gcd_event.specs.declared.event.Event.{Event}
 use Rattle.gcd_event.specs.declared.event.Event.TheVariants.{Start, Act as Acted, Wake, End, Deliver, DeliverEnd, Tick, Ready, FeedEnd, Misuse, Halt}
-use Rattle.gcd_history.specs.History.{why, IsLawful}
+use Rattle.gcd_history.specs.History.{IsLawful}
 use Rattle.gcd_outer.specs.Outside.{ClockState}
 use Rattle.gcd_outer.specs.Tells.{PollerState}
 use Rattle.gcd_refinement.specs.MachineView.{MachineView}
 use Rattle.gcd_machine.specs.Stands.{StandsFor}
-use Rattle.gcd_turn.specs.Asked.{HasFailed, IsPut, KeepsListens}
+use Rattle.gcd_turn.specs.Asked.{IsPut, KeepsListens}
 use Rattle.gcd_turn.specs.Hearing.{Heard}
 use Rattle.gcd_turn.specs.Timing.{TimeKept}
 use Rattle.gcd_turn.specs.Promises.{IsHeard, IsTimely}

@@ -15,7 +15,7 @@ use Rattle.gcd_turn.specs.Asked.{HasFailed, KeepsListens}
 use Rattle.gcd_turn.specs.Hearing.{Heard}
 use Rattle.gcd_turn.specs.Timing.{TimeKept}
 use Rattle.gcd_turn.specs.Turns.{OutlookView, first_event}
-use Rattle.gcd_turn.proofs.HeardSteps.{heard_grown, is_told}
+use Rattle.gcd_turn.proofs.HeardSteps.{heard_grown}
 use Rattle.gcd_alone.specs.Going.{IsGoing}
 use Rattle.gcd_alone.specs.Going.IsPlaced.{recorded, dropped}
 use Rattle.gcd_alone.proofs.Goings.{going_placed, going_told}

@@ -1,28 +1,26 @@
 -- What worker 0's turns keep of what poller and clock said, while others place events too.
-use Rattle.std.proofs.Common.{◌≡◌, ◌≤◌, ◌<◌, ◌+◌, ◌∙◌, ◌++◌, ◌⊎◌, inl, inr, ℕ, Bool, true, false, not, ◌||◌, ◌==◌, List, [], ◌∷◌, Some, None, length, ap, sym, subst, refl, arith, drop, length-append, append-nil, append_assoc}
+use Rattle.std.proofs.Common.{◌≡◌, ◌≤◌, ◌<◌, ◌++◌, ◌⊎◌, ℕ, Bool, true, false, List, [], ◌∷◌, None, length, ap, sym, subst, refl, arith, length-append, append-nil, append_assoc}
 use Rattle.std.specs.List.{list_all}
 use Rattle.std.proofs.lemmas.Bool.{and_parts, both_ways}
 use Rattle.gcd_plan.specs.Limits.{max_events}
 use Rattle.gcd_plan.specs.PlanView.{PlanView}
-use Rattle.gcd_plan.specs.declared.why.Why.{Why}
 use Rattle.gcd_event.specs.declared.event.Event.{Event}
 use Rattle.gcd_event.specs.declared.event.Event.TheVariants.{Start, Act as Acted, Wake, End, Deliver, DeliverEnd, Tick, Ready, FeedEnd, Misuse, Halt}
-use Rattle.gcd_history.specs.Choice.{is_work, worker_of}
-use Rattle.gcd_history.specs.Ends.{IsHalted, is_halted}
+use Rattle.gcd_history.specs.Choice.{is_work}
+use Rattle.gcd_history.specs.Ends.{IsHalted}
 use Rattle.gcd_history.specs.History.{why, IsLawful}
-use Rattle.gcd_history.proofs.LawfulLemmas.{lawful_front, lawful_next}
+use Rattle.gcd_history.proofs.LawfulLemmas.{lawful_next}
 use Rattle.gcd_outer.specs.Outside.{ClockState}
 use Rattle.gcd_outer.specs.Tells.{PollerState}
 use Rattle.gcd_turn.specs.Asked.{HasFailed, KeepsListens}
 use Rattle.gcd_turn.specs.Hearing.{Heard}
 use Rattle.gcd_turn.specs.Timing.{TimeKept}
-use Rattle.gcd_turn.specs.Turns.{OutlookView, first_event}
+use Rattle.gcd_turn.specs.Turns.{OutlookView}
 use Rattle.gcd_turn.proofs.HeardSteps.{heard_grown, is_told}
 use Rattle.gcd_turn.proofs.Promised.{faults_halted}
 use Rattle.gcd_turn.proofs.TimeSteps.{time_more}
 use Rattle.gcd_alone.specs.Going.{IsGoing}
-use Rattle.gcd_alone.specs.Going.IsPlaced.{recorded, dropped}
-use Rattle.gcd_alone.proofs.Goings.{going_placed, going_told, going_worked, keeps_through}
+use Rattle.gcd_alone.proofs.Goings.{going_worked, keeps_through}
 use Rattle.gcd_pool.specs.Works.{is_own_work}
 
 -- what worker 0 adds of its own, and what others add, is work

@@ -1,15 +1,13 @@
 -- What a pass is after it has looked or put an event.
-use Rattle.std.proofs.Common.{◌≡◌, ℕ, ◌+◌, ◌<◌, ◌≤◌, inl, inr, List, [], ◌∷◌, ◌++◌, length, Some, None, Option, sym, refl, ap, ◌∙◌, subst, arith}
+use Rattle.std.proofs.Common.{◌≡◌, ℕ, ◌≤◌, List, [], ◌∷◌, ◌++◌, length, Some, None, sym, refl, ap, ◌∙◌, subst}
 use Rattle.std.proofs.lemmas.List.{append_cancel_right}
 use Rattle.std.proofs.lemmas.Option.{same_Some}
-use Rattle.gcd_plan.specs.Validity.{IsPlan}
 use Rattle.gcd_plan.specs.declared.numbers.Run.{Run}
 use Rattle.gcd_event.specs.declared.event.Event.{Event}
 use Rattle.gcd_history.specs.Choice.{worker_of}
 use Rattle.gcd_history.specs.History.{why, IsLawful}
 use Rattle.gcd_history.proofs.LawfulLemmas.{lawful_front}
-use Rattle.gcd_team.specs.Held.{given}
-use Rattle.gcd_team.specs.Team.{of_worker, held_by, StartsWith, HasEnded}
+use Rattle.gcd_team.specs.Team.{held_by, StartsWith}
 use Rattle.gcd_team.proofs.Own.{own_events_tell_what_is_held}
 use Rattle.gcd_team.proofs.TeamLaws.{givings_are_the_holders}
 use Rattle.gcd_row.specs.Shapes.{Shape}

@@ -1,6 +1,6 @@
 -- What a hand is after its pass or its bench has gone on.
-use Rattle.std.proofs.Common.{◌≡◌, ℕ, ◌≤◌, [], length, Some, sym, refl, ap, ◌∙◌, subst}
-use Rattle.gcd_team.specs.Team.{HasEnded, of_worker}
+use Rattle.std.proofs.Common.{◌≡◌, ℕ, ◌≤◌, [], length, sym, refl, ap, ◌∙◌, subst}
+use Rattle.gcd_team.specs.Team.{of_worker}
 use Rattle.gcd_row.specs.Shapes.{Shape}
 use Rattle.gcd_row.specs.Passes.{IsPassOf, Looks, slots, view}
 use Rattle.gcd_row.specs.declared.pass.RowPass.{RowPass}

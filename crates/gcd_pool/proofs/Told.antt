@@ -1,12 +1,11 @@
 -- What a pass's machine tells of what the pass has seen.
-use Rattle.std.proofs.Common.{◌≡◌, ℕ, ◌<◌, ◌≤◌, true, List, [], ◌∷◌, length, Some, None, Option, sym, refl, ap, ◌∙◌, subst}
+use Rattle.std.proofs.Common.{◌≡◌, ℕ, ◌≤◌, true, List, length, Some, None, sym, ◌∙◌, subst}
 use Rattle.gcd_plan.specs.Kinds.{is_node}
 use Rattle.gcd_plan.specs.Limits.{max_events}
 use Rattle.gcd_plan.specs.PlanView.{PlanView}
 use Rattle.gcd_plan.specs.declared.numbers.Obj.{Obj}
 use Rattle.gcd_event.specs.declared.event.Event.{Event}
 use Rattle.gcd_history.specs.Choice.{is_work, worker_of}
-use Rattle.gcd_history.specs.Laws.{IsChoiceOf}
 use Rattle.gcd_history.specs.History.{why, choice_of}
 use Rattle.gcd_history.proofs.PublicLaws.{choice_is_permitted}
 use Rattle.gcd_refinement.specs.MachineView.{MachineView}
@@ -18,7 +17,6 @@ use Rattle.gcd_row.specs.declared.board.RowBoard.{RowBoard}
 use Rattle.gcd_row.specs.declared.pass.RowPass.{RowPass}
 use Rattle.gcd_row.proofs.Passing.{lawful_seen, valid_plan}
 use Rattle.gcd_pool.specs.Duties.{Chooses, IsDuty, begin_of, begun_on}
-use Rattle.gcd_pool.specs.declared.duty.Duty.{Duty}
 use Rattle.gcd_pool.specs.declared.duty.Duty.TheVariants.{Record, Begin}
 use Rattle.gcd_pool.proofs.Nodes.{Begins, begins, begun_node}
 

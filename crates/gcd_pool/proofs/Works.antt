@@ -1,13 +1,13 @@
 -- What calls add to the row.
-use Rattle.std.proofs.Common.{◌≡◌, ℕ, Bool, true, false, not, ◌||◌, cond, List, [], ◌∷◌, ◌++◌, filter, Some, None, sym, refl, ap, ◌∙◌, subst, append-nil, append_assoc}
+use Rattle.std.proofs.Common.{◌≡◌, ℕ, Bool, true, false, not, ◌||◌, cond, List, [], ◌∷◌, ◌++◌, filter, Some, sym, refl, ap, ◌∙◌, subst, append-nil, append_assoc}
 use Rattle.std.specs.List.{list_all}
 use Rattle.std.proofs.lemmas.Bool.{and_from}
 use Rattle.gcd_plan.specs.declared.numbers.Run.{Run}
 use Rattle.gcd_event.specs.declared.event.Event.{Event}
-use Rattle.gcd_event.specs.declared.event.Event.TheVariants.{Start, Act as Acted, Wake, End, Deliver, DeliverEnd, Tick, Ready, FeedEnd, Misuse, Halt}
-use Rattle.gcd_history.specs.Choice.{is_work, worker_of}
+use Rattle.gcd_event.specs.declared.event.Event.TheVariants.{End, DeliverEnd}
+use Rattle.gcd_history.specs.Choice.{is_work}
 use Rattle.gcd_team.specs.Held.{is_of}
-use Rattle.gcd_team.specs.Team.{of_worker, StartsWith}
+use Rattle.gcd_team.specs.Team.{of_worker}
 use Rattle.gcd_team.proofs.Own.{none_of_worker}
 use Rattle.gcd_row.specs.Views.{seeing}
 use Rattle.gcd_row.specs.Passes.{Ahead, Looks, Says}

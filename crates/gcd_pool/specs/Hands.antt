@@ -6,9 +6,8 @@ use Rattle.gcd_plan.specs.declared.numbers.Run.{Run}
 use Rattle.gcd_plan.specs.declared.numbers.Run.TheVariants.{Block, Source}
 use Rattle.gcd_event.specs.declared.event.Event.{Event}
 use Rattle.gcd_event.specs.declared.event.Event.TheVariants.{Start, Act as Acted, Wake, End, Deliver, DeliverEnd, Tick, Ready, FeedEnd, Misuse, Halt}
-use Rattle.gcd_history.specs.History.{delivery_count_of, received_of}
 use Rattle.gcd_team.specs.Team.{HasEnded, StartsWith, held_by}
-use Rattle.gcd_row.specs.Shapes.{Shape, body, done, handler}
+use Rattle.gcd_row.specs.Shapes.{Shape, body, handler}
 use Rattle.gcd_row.specs.Lying.{slot_of, IsUntaken, IsReadyFor}
 use Rattle.gcd_row.specs.Views.{held_run, seeing}
 use Rattle.gcd_row.specs.Passes.{IsPassOf, slots, terms_of, view}

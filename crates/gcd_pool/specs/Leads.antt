@@ -1,5 +1,5 @@
 -- What worker 0 of a pool promises of its poller and its clock (this project's own rules).
-use Rattle.std.specs.Prelude.{◌≡◌, ℕ, Bool, true, false, List, [], drop}
+use Rattle.std.specs.Prelude.{◌≡◌, ℕ, Bool, false, [], drop}
 use Rattle.gcd_event.specs.declared.event.Event.{Event}
 use Rattle.gcd_outer.specs.Outside.{ClockState}
 use Rattle.gcd_outer.specs.Tells.{PollerState}

@@ -1,8 +1,7 @@
-use Rattle.std.proofs.Common.{◌≡◌, ◌<◌, ◌∙◌, take, length, get_or, is_some, None, ap, sym, subst, arith, true, false}
+use Rattle.std.proofs.Common.{◌≡◌, ◌∙◌, take, length, get_or, is_some, ap, sym, subst, arith}
 use Rattle.std.proofs.lemmas.List.{take_more, take_all, length-take-le}
 use Rattle.std.proofs.lemmas.Option.{slice_get-get_or}
 use Rattle.gcd_plan.proofs.Options.{none_from_is_some}
-use Rattle.gcd_history.specs.History.{why}
 use Rattle.gcd_machine.specs.Stands.{StandsFor}
 use Rattle.gcd_machine.proofs.Shown.{lawful_stands}
 use Rattle.gcd_journal.proofs.checker.judged.Goals as goal

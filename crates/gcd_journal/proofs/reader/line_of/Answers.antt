@@ -1,6 +1,6 @@
 use Rattle.std.proofs.Common.{arith}
 use Rattle.gcd_journal.specs.Named.{look_of}
-use Rattle.gcd_journal.proofs.NextLines.{spoken_line, one_too_many, counted_line, no_form}
+use Rattle.gcd_journal.proofs.NextLines.{one_too_many, counted_line, no_form}
 use Rattle.gcd_journal.proofs.reader.line_of.Goals as goal
 
 pub returns-else-count : goal.returns-else-count

@@ -1,9 +1,9 @@
-use Rattle.std.proofs.Common.{◌≡◌, ◌<◌, ◌+◌, ◌++◌, ◌∷◌, [], length, ap, sym, subst, arith, append_assoc, length-append, vec_len}
+use Rattle.std.proofs.Common.{◌≡◌, ◌+◌, length, subst, arith}
 use Rattle.gcd_history.specs.JournalText.{count_line}
 use Rattle.gcd_journal.specs.Journals.{BeginsWith}
 use Rattle.gcd_journal.specs.Named.{look_of}
 use Rattle.gcd_journal.specs.NextLine.{IsFault}
-use Rattle.gcd_journal.proofs.NextLines.{HasRead, nothing_read, one_more_read, whole_journal, fault_is_refused, line_length}
+use Rattle.gcd_journal.proofs.NextLines.{nothing_read, one_more_read, whole_journal, fault_is_refused, line_length}
 use Rattle.gcd_journal.proofs.reader.read_journal.Goals as goal
 
 pub lines-init : goal.lines-init

@@ -1,9 +1,9 @@
-use Rattle.std.proofs.Common.{◌≡◌, ◌++◌, ℕ, List}
+use Rattle.std.proofs.Common.{◌≡◌, ◌++◌, List}
 use Rattle.std.specs.List.{flat_map, range_with_len}
 use Rattle.gcd_event.specs.declared.event.Event.{Event}
 use Rattle.gcd_history.specs.Report.{source_line}
 use Rattle.gcd_machine.specs.Stands.{StandsFor}
-use Rattle.gcd_journal.specs.Totals.{AreTotals, AreValues}
+use Rattle.gcd_journal.specs.Totals.{AreTotals}
 use Rattle.gcd_journal.proofs.report.push_sources.Given as goal
 
 abbrev pub invariant-loop-s : goal.invariant-loop-s

@@ -1,9 +1,8 @@
-use Rattle.std.proofs.Common.{◌≡◌, ◌++◌, ℕ, List}
+use Rattle.std.proofs.Common.{◌≡◌, ◌++◌, List}
 use Rattle.std.specs.List.{flat_map, range_with_len}
 use Rattle.gcd_event.specs.declared.event.Event.{Event}
 use Rattle.gcd_history.specs.Report.{wait_line}
 use Rattle.gcd_machine.specs.Stands.{StandsFor}
-use Rattle.gcd_journal.specs.Totals.{AreTotals, AreValues}
 use Rattle.gcd_journal.proofs.report.push_waits.Given as goal
 
 abbrev pub invariant-loop-b : goal.invariant-loop-b

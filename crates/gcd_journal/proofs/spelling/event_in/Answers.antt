@@ -1,4 +1,4 @@
-use Rattle.std.proofs.Common.{◌∷◌, ◌∙◌, ap, sym}
+use Rattle.std.proofs.Common.{◌∙◌, ap, sym}
 use Rattle.gcd_text.proofs.Parts.{first_field, only_field}
 use Rattle.gcd_journal.specs.Named.{look_of}
 use Rattle.gcd_journal.specs.Spelling.{event_in}

@@ -1,9 +1,7 @@
-use Rattle.std.proofs.Common.{◌∷◌, ◌∙◌, Option, None, refl, ap, sym, List, ℕ, ◌≡◌}
-use Rattle.gcd_event.specs.declared.event.Event.{Event}
+use Rattle.std.proofs.Common.{◌∷◌, ◌∙◌, ap, sym}
 use Rattle.gcd_text.proofs.Parts.{first_field, only_field}
-use Rattle.gcd_text.specs.Fields.{fields_of}
 use Rattle.gcd_journal.specs.Named.{look_of}
-use Rattle.gcd_journal.specs.Spelling.{Look, event_in}
+use Rattle.gcd_journal.specs.Spelling.{event_in}
 use Rattle.gcd_journal.proofs.Spelled.{six_spell_nothing}
 use Rattle.gcd_journal.proofs.spelling.from_five.Goals as goal
 

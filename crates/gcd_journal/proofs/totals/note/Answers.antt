@@ -1,8 +1,6 @@
-use Rattle.std.proofs.Common.{◌≡◌, ◌<◌, ◌≤◌, ◌+◌, ◌*◌, ◌^◌, ◌∙◌, ◌++◌, ◌∷◌, [], length, get_or, ap, sym, subst, arith}
-use Rattle.gcd_history.specs.History.{delivery_count_of, received_of}
+use Rattle.std.proofs.Common.{◌∙◌, ◌++◌, ◌∷◌, [], length, ap, arith}
 use Rattle.gcd_machine.proofs.Shown.{plan_stands, valid_stands}
 use Rattle.gcd_journal.specs.declared.totals.Total.{Total}
-use Rattle.gcd_journal.specs.Totals.{total_of}
 use Rattle.gcd_journal.proofs.TotalsOf.{delivered_source, delivery_of, other_event}
 use Rattle.gcd_journal.proofs.totals.note.Goals as goal
 

@@ -1,9 +1,7 @@
-use Rattle.std.proofs.Common.{◌≡◌, ◌<◌, ◌∙◌, take, length, get_or, None, ap, sym, subst, arith}
-use Rattle.std.proofs.lemmas.List.{take_more, take_all, length-take-le}
-use Rattle.std.proofs.lemmas.Option.{slice_get-get_or}
-use Rattle.gcd_history.specs.History.{IsLawful, why}
+use Rattle.std.proofs.Common.{◌≡◌, take, length, sym, subst, arith}
+use Rattle.std.proofs.lemmas.List.{take_more, length-take-le}
 use Rattle.gcd_machine.specs.Stands.{StandsFor}
-use Rattle.gcd_journal.specs.Totals.{AreTotals, no_total}
+use Rattle.gcd_journal.specs.Totals.{AreTotals}
 use Rattle.gcd_journal.proofs.TotalsOf.{none_delivered, allowed_at}
 use Rattle.gcd_journal.proofs.totals.replayed.Goals as goal
 

@@ -1,5 +1,4 @@
-use Rattle.std.proofs.Common.{◌≡◌, ◌<◌, length, true, false, arith, ap, subst, refl, sym, ◌∙◌}
-use Rattle.gcd_plan.specs.Kinds.{is_source}
+use Rattle.std.proofs.Common.{◌≡◌, length, true, false, arith, subst}
 use Rattle.gcd_journal.specs.Named.{look_of}
 use Rattle.gcd_journal.proofs.LookUp.{KnowsUpTo, knows_none, knows_block, knows_source, knows_other, knows_all, source_known, finds_nothing}
 use Rattle.gcd_journal.proofs.names.Names.new.Goals as goal
