@@ -1,5 +1,8 @@
 #!/usr/bin/env python3
-"""Scripts at the limits by 64 workers: each run ends, and its journal is judged by `gcd check`."""
+"""Scripts at the limits by 64 workers: each run ends, and its journal is judged by `gcd check`.
+
+The files are so long that the works of each script are worth a team (`is_worth_a_team` of gcd_workers).
+"""
 
 import os
 import random
@@ -69,16 +72,16 @@ def past_the_events(chance):
 
 def all_parked(_):
     """Ten thousand blocks that wait at once, until the last act of main."""
-    lines = ["group g"] + [f"queue q{k} concurrent" for k in range(7)]
+    lines = ["file f f2.txt", "group g"] + [f"queue q{k} concurrent" for k in range(7)]
     for b in range(10_000):
-        lines += [f"block b{b}", "group_wait g"]
+        lines += [f"block b{b} lines f", "group_wait g"]
     return text_of(lines + ["main", "enter g"] + [f"async q{b % 7} b{b}" for b in range(10_000)] + ["leave g"]), 0
 
 
 def none_starts(_):
     """A chain of queues beneath one that is suspended, with a block on each and many on the last: nothing starts."""
-    lines = ["queue q0 serial"] + [f"queue q{k} serial on q{k - 1}" for k in range(1, OBJECTS)]
-    lines += [f"block b{b}" for b in range(BLOCKS)] + ["main", "suspend q0"]
+    lines = ["file f f2.txt", "queue q0 serial"] + [f"queue q{k} serial on q{k - 1}" for k in range(1, OBJECTS)]
+    lines += [f"block b{b} lines f" for b in range(BLOCKS)] + ["main", "suspend q0"]
     return text_of(lines + [f"async q{min(b, OBJECTS - 1)} b{b}" for b in range(BLOCKS)]), 1
 
 
@@ -103,11 +106,12 @@ def value_lines(script):
     """The lines of the values of all blocks, where each ends."""
     at, reader = grammar.read(script.encode())
     contents = {name: content_of(path) for name, path in reader.paths.items()}
-    return at, {f"{name} = {grammar.value_of(work, contents)}".encode() for name, work in reader.works.items()}
+    values = {work: grammar.value_of(work, contents) for work in {tuple(work) for work in reader.works.values()}}
+    return at, {f"{name} = {values[tuple(work)]}".encode() for name, work in reader.works.items()}
 
 
 def content_of(path):
-    return f"a line of {path}\n".encode() * (100 * int(path[1]) + 1)
+    return f"a line of {path}\n".encode() * (2_000 * int(path[1]) + 1)
 
 
 def try_script(part, program, room, make, workers, seed, seconds=120):

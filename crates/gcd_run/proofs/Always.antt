@@ -1,12 +1,12 @@
 -- What the call has to tell, by the way in which it ends.
-use Rattle.std.proofs.Common.{◌≡◌, ◌≢◌, ◌⊎◌, ◌∙◌, ℕ, true, false, List, [], ◌∷◌, ◌++◌, Option, Some, None, ⊎_elim, length, reverse, ap, refl, sym, subst, inl, inr, arith}
-use Rattle.std.specs.Prelude.{Result, Ok, Err, Contains, IsTrue}
+use Rattle.std.proofs.Common.{◌≡◌, ◌≢◌, ◌⊎◌, ◌∙◌, ℕ, true, List, [], ◌∷◌, ◌++◌, Option, Some, None, ⊎_elim, reverse, ap, refl, sym, subst, inl, inr, arith}
+use Rattle.std.specs.Prelude.{Ok, Err, Contains, IsTrue}
 use Rattle.std.proofs.lemmas.Bool.{false≢true}
 use Rattle.std.proofs.lemmas.List.{reverse-append, reverse-reverse}
 use Rattle.std.proofs.lemmas.List.Elements.{Contains-append_right}
 use Rattle.gcd_plan.specs.PlanView.{PlanView}
 use Rattle.gcd_event.specs.declared.event.Event.{Event}
-use Rattle.gcd_event.specs.declared.event.Event.TheVariants.{Start, Act as Acted, Wake, End as Ended_, Deliver, DeliverEnd, Tick, Ready, FeedEnd, Misuse, Halt}
+use Rattle.gcd_event.specs.declared.event.Event.TheVariants.{Halt}
 use Rattle.gcd_history.specs.Ends.{HasState, ends_in_halt}
 use Rattle.gcd_history.specs.Permitted as permitted
 use Rattle.gcd_history.specs.declared.state.State.{State}
@@ -15,15 +15,15 @@ use Rattle.gcd_outer.specs.Outside.{Bytes, SinkSeen}
 use Rattle.gcd_words.specs.Asked.{Asked, RunAsked, request_of, run, check, big}
 use Rattle.gcd_run.specs.Always.{Always, Answers, ChecksText, Gives, HoldsScript, IsNoScript, MustStop, NothingFailed, files_at}
 use Rattle.gcd_run.specs.Always.MustStop.{at_script as must_at_script, at_file as must_at_file}
-use Rattle.gcd_run.specs.Calls.{Calls, InputsSeen, Made, only_loads, with_listen}
+use Rattle.gcd_run.specs.Calls.{Calls, InputsSeen, Made, only_loads}
 use Rattle.gcd_run.specs.Checks.{CheckEnds}
-use Rattle.gcd_run.specs.End.{End, lawful_end, read_fault, run_text, stop_end, unlawful_end, usage_end}
-use Rattle.gcd_run.specs.Ends.{AskedEnds, Answers as AnswersEnd, CallEnds, HasStatus, IsWritten}
+use Rattle.gcd_run.specs.End.{End, lawful_end, read_fault, stop_end, unlawful_end, usage_end}
+use Rattle.gcd_run.specs.Ends.{AskedEnds, CallEnds, HasStatus, IsWritten}
 use Rattle.gcd_run.specs.Ends.CallEnds.{told, wanting}
 use Rattle.gcd_run.specs.Ends.IsWritten.{whole, cut_off}
 use Rattle.gcd_run.specs.Loads.{IsReady, StopsReady}
 use Rattle.gcd_run.specs.Loads.StopsReady.{at_script, at_file}
-use Rattle.gcd_run.specs.Runs.{BigEnds, Ran, RunEnds, StopsRun}
+use Rattle.gcd_run.specs.Runs.{BigEnds, Ran, RunEnds}
 use Rattle.gcd_run.specs.Runs.RunEnds.{stopped, ran}
 use Rattle.gcd_run.specs.Runs.StopsRun.{unready, at_listen, wanting as run_wanting}
 use Rattle.gcd_run.specs.StatusCodes.{status_code, status_of}

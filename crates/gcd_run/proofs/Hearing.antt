@@ -1,5 +1,5 @@
 -- What the turns saw of the poller, said of a call that first listened.
-use Rattle.std.proofs.Common.{◌≡◌, ◌∙◌, ◌+◌, ◌++◌, ◌≤◌, ◌<◌, ℕ, true, Bool, List, drop, length, [], append-nil, ap, refl, sym, subst, inl, inr}
+use Rattle.std.proofs.Common.{◌≡◌, ◌∙◌, ◌+◌, ◌++◌, ◌≤◌, ◌<◌, ℕ, true, Bool, List, drop, length, [], append-nil, refl, sym, subst, inl, inr}
 use Rattle.std.specs.Prelude.{Contains}
 use Rattle.gcd_plan.specs.PlanView.{PlanView, path_of}
 use Rattle.gcd_event.specs.declared.event.Event.{Event}

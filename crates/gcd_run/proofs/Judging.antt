@@ -1,5 +1,5 @@
 -- What `check` has to tell.
-use Rattle.std.proofs.Common.{◌≡◌, ◌⊎◌, ◌∙◌, ℕ, true, List, Option, Some, ap, sym, subst, inl, inr, refl}
+use Rattle.std.proofs.Common.{◌≡◌, ◌⊎◌, ◌∙◌, ℕ, true, List, Some, ap, sym, subst, inl, inr, refl}
 use Rattle.gcd_plan.specs.PlanView.{PlanView}
 use Rattle.gcd_plan.specs.Validity.{IsPlan}
 use Rattle.gcd_event.specs.declared.event.Event.{Event}
@@ -19,7 +19,6 @@ use Rattle.gcd_run.specs.Checks.StopsCheck.{at_script, at_journal}
 use Rattle.gcd_run.specs.End.{End, lawful_end, no_journal_end, read_fault, stop_end, unlawful_end}
 use Rattle.gcd_run.specs.Loads.{IsPlanOf}
 use Rattle.gcd_run.specs.Statuses.{IsLawfulTo}
-use Rattle.gcd_run.specs.declared.status.Status.{Status}
 use Rattle.gcd_run.specs.declared.status.Status.TheVariants.{Drained, JournalRefused}
 use Rattle.gcd_run.specs.declared.stop.Stop.{Stop}
 use Rattle.gcd_run.specs.declared.stop.Stop.TheVariants.{Unread, Journal, Memory}

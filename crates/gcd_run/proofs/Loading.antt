@@ -10,9 +10,9 @@ use Rattle.gcd_plan.specs.declared.parts.FilePart.{FilePart}
 use Rattle.gcd_plan.specs.PlanView.{PlanView, FileView, file_view}
 use Rattle.gcd_outer.specs.Outside.{Bytes, ShelfSeen, IsUnread, IsLonger, next_count}
 use Rattle.gcd_run.specs.Calls.{MadeLoads, count_after}
-use Rattle.gcd_run.specs.Checks.{IsJournalAt, StopsJournal}
+use Rattle.gcd_run.specs.Checks.{StopsJournal}
 use Rattle.gcd_run.specs.Checks.StopsJournal.{unloaded as journal_unloaded, refused as journal_refused, wanting as journal_wanting}
-use Rattle.gcd_run.specs.Loads.{IsLoaded, AreLoaded, IsNextFile, IsPlanOf, IsScript, StopsFile, StopsLoad, StopsScript}
+use Rattle.gcd_run.specs.Loads.{IsLoaded, AreLoaded, IsNextFile, IsPlanOf, StopsFile, StopsLoad, StopsScript}
 use Rattle.gcd_run.specs.Loads.StopsLoad.{unread, long, wanting}
 use Rattle.gcd_run.specs.Loads.StopsScript.{unloaded as script_unloaded, refused as script_refused, wanting as script_wanting}
 use Rattle.gcd_run.specs.declared.stop.Stop.{Stop}

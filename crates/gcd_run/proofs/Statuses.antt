@@ -1,11 +1,10 @@
 -- What the answer's status says, by the way in which the call ends.
 use Rattle.std.proofs.lemmas.Option.{same_Some}
-use Rattle.std.proofs.Common.{◌≡◌, ◌⊎◌, ◌∙◌, ◌+◌, ◌==◌, if◌then◌else◌, ℕ, List, [], Option, Some, None, length, ap, subst, refl, sym, inl, inr}
+use Rattle.std.proofs.Common.{◌≡◌, ◌∙◌, ◌+◌, ◌==◌, if◌then◌else◌, ℕ, List, [], Option, Some, None, length, ap, subst, refl, sym, inl, inr}
 use Rattle.gcd_plan.specs.PlanView.{PlanView}
 use Rattle.gcd_event.specs.declared.event.Event.{Event}
 use Rattle.gcd_history.specs.declared.state.State.{State}
 use Rattle.gcd_history.specs.declared.state.State.TheVariants.{Drained as RunDrained, Stuck as RunStuck, Misused as RunMisused, Halted as RunHalted, Live as RunLive}
-use Rattle.gcd_journal.specs.Judged.{IsFirstBarred}
 use Rattle.gcd_outer.specs.Outside.{Bytes, SinkSeen, Took}
 use Rattle.gcd_words.specs.Asked.{Asked, RunAsked, request_of, run, check, big}
 use Rattle.gcd_run.specs.Calls.{Calls, InputsSeen, Made, only_loads, with_listen}
@@ -13,11 +12,11 @@ use Rattle.gcd_run.specs.Checks.{CheckEnds, IsJournalAt, IsJudged}
 use Rattle.gcd_run.specs.Checks.CheckEnds.{stopped as check_stopped, judged}
 use Rattle.gcd_run.specs.Checks.IsJudged.{lawful, unlawful}
 use Rattle.gcd_run.specs.End.{End, read_fault, refused_end, no_journal_end, run_text, large_text, lawful_text, stop_end}
-use Rattle.gcd_run.specs.Ends.{AskedEnds, Answers, CallEnds, HasStatus, IsWritten}
+use Rattle.gcd_run.specs.Ends.{AskedEnds, Answers, CallEnds, HasStatus}
 use Rattle.gcd_run.specs.Ends.CallEnds.{told, wanting}
 use Rattle.gcd_run.specs.Ends.IsWritten.{whole, cut_off}
 use Rattle.gcd_run.specs.Loads.{IsPlanOf, IsReady}
-use Rattle.gcd_run.specs.Runs.{BigEnds, Ran, RunEnds, TellsRun}
+use Rattle.gcd_run.specs.Runs.{BigEnds, Ran, TellsRun}
 use Rattle.gcd_run.specs.Runs.RunEnds.{stopped, ran}
 use Rattle.gcd_run.specs.StatusCodes.{status_code, status_of}
 use Rattle.gcd_run.specs.Statuses.{Asks, IsLawfulTo, Judges, Runs, RunsLarge, RunsScript, Says, Stopped, StopsAt}

@@ -1,5 +1,5 @@
 -- What is told, and the calls that it took.
-use Rattle.std.proofs.Common.{◌≡◌, ◌+◌, ◌∙◌, ℕ, List, Option, ap, subst, inl, inr}
+use Rattle.std.proofs.Common.{◌≡◌, ◌∙◌, ℕ, List, Option, ap, subst, inl, inr}
 use Rattle.gcd_outer.specs.Outside.{Bytes, ShelfSeen}
 use Rattle.gcd_words.specs.Asked.{Asked, RunAsked, request_of}
 use Rattle.gcd_run.specs.Calls.{Calls, InputsSeen, only_loads}
@@ -8,7 +8,6 @@ use Rattle.gcd_run.specs.Checks.CheckEnds.{stopped as check_stopped, judged}
 use Rattle.gcd_run.specs.Checks.StopsCheck.{at_script as check_at_script, at_journal}
 use Rattle.gcd_run.specs.End.{End}
 use Rattle.gcd_run.specs.Ends.{AskedCalls, AskedEnds, WordsCall, WordsEnd}
-use Rattle.gcd_run.specs.Loads.{StopsReady}
 use Rattle.gcd_run.specs.Loads.StopsReady.{at_script, at_file}
 use Rattle.gcd_run.specs.Runs.{RunCalls, RunEnds, StopsRun}
 use Rattle.gcd_run.specs.Runs.RunCalls.{of_script, of_file, of_listen, of_run}

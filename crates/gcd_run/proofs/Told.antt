@@ -1,8 +1,8 @@
 -- What a shelf that tells gives, and what was seen of it.
-use Rattle.std.proofs.Common.{◌≡◌, ◌⊎◌, ◌∙◌, ◌<◌, ℕ, zero, suc, true, false, List, [], ◌∷◌, Option, Some, None, length, take, slice_get, nat_lt, unwrap_or, ap, refl, sym, subst, inl, inr, arith}
+use Rattle.std.proofs.Common.{◌≡◌, ◌⊎◌, ◌∙◌, ℕ, zero, suc, true, List, [], ◌∷◌, Option, Some, None, length, take, slice_get, unwrap_or, ap, refl, sym, subst, inl, inr}
 use Rattle.std.specs.Prelude.{Result, Ok, Err}
 use Rattle.std.proofs.lemmas.Bool.{lt-ltb, le-ltb}
-use Rattle.gcd_plan.specs.Limits.{max_file_bytes, max_script_bytes}
+use Rattle.gcd_plan.specs.Limits.{max_file_bytes}
 use Rattle.gcd_plan.specs.PlanView.{PlanView, FileView}
 use Rattle.gcd_plan.specs.Validity.{IsPlan}
 use Rattle.gcd_event.specs.declared.event.Event.{Event}
@@ -17,7 +17,7 @@ use Rattle.gcd_run.specs.Always.IsNoJournal.{unloaded as no_journal_unloaded, re
 use Rattle.gcd_run.specs.Always.IsNoScript.{unloaded as no_script_unloaded, refused as no_script_refused}
 use Rattle.gcd_run.specs.Checks.{IsJournalAt, StopsJournal}
 use Rattle.gcd_run.specs.Checks.StopsJournal.{unloaded as journal_unloaded, refused as journal_refused, wanting as journal_wanting}
-use Rattle.gcd_run.specs.Loads.{AreLoaded, IsLoaded, IsNextFile, IsScript, StopsFile, StopsLoad, StopsScript}
+use Rattle.gcd_run.specs.Loads.{AreLoaded, IsLoaded, IsScript, StopsFile, StopsLoad, StopsScript}
 use Rattle.gcd_run.specs.Loads.StopsLoad.{unread, long, wanting}
 use Rattle.gcd_run.specs.Loads.StopsScript.{unloaded, refused, wanting as script_wanting}
 use Rattle.gcd_run.specs.declared.stop.Stop.{Stop}

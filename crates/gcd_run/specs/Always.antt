@@ -12,7 +12,7 @@ use Rattle.gcd_outer.specs.Outside.{Bytes, ShelfFailed, SinkSeen, SinkFailed}
 use Rattle.gcd_script.specs.Faults.{fault_of, IsScriptOf}
 use Rattle.gcd_script.specs.Codes.{refusal_code}
 use Rattle.gcd_script.specs.declared.refusal.Refusal.TheVariants.{PastLimit}
-use Rattle.gcd_words.specs.Asked.{Asked, RunAsked, request_of, run, check, big}
+use Rattle.gcd_words.specs.Asked.{RunAsked, request_of, run, check, big}
 use Rattle.gcd_run.specs.Calls.{InputsSeen, PollerFailed}
 use Rattle.gcd_run.specs.End.{End, lawful_end, read_fault, stop_end, unlawful_end, usage_end}
 use Rattle.gcd_run.specs.Ends.{HasStatus, IsWritten}

@@ -1,5 +1,5 @@
 -- What a call saw of the outside, and how many calls it made on it (this project's own rules).
-use Rattle.std.specs.Prelude.{◌≡◌, ◌++◌, ◌+◌, ℕ, zero, suc, Bool, true, List, [], Option, Some, length, option_to_list}
+use Rattle.std.specs.Prelude.{◌≡◌, ◌++◌, ℕ, zero, suc, Bool, true, List, [], Option, length, option_to_list}
 use Rattle.gcd_outer.specs.Outside.{Bytes, ClockState, Rises, Seen, ShelfSeen, next_count, shelf_seen}
 use Rattle.gcd_outer.specs.Tells.{PollerState}
 

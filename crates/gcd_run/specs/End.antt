@@ -1,5 +1,5 @@
 -- How a call ends, before anything is written: its status, journal, place and text (this project's own rules).
-use Rattle.std.specs.Prelude.{ℕ, ◌*◌, ◌+◌, ◌%◌, Bool, if◌then◌else◌, List, [], ◌∷◌, ◌++◌, length, map, sum, Option, None, Some, codes}
+use Rattle.std.specs.Prelude.{ℕ, ◌*◌, ◌+◌, ◌%◌, Bool, if◌then◌else◌, List, [], ◌++◌, length, map, sum, Option, None, Some, codes}
 use Rattle.std.specs.List.{range_with_len}
 use Rattle.std.specs.Fmt.{decimal}
 use Rattle.gcd_plan.specs.PlanView.{PlanView}

@@ -1,5 +1,5 @@
 -- The step at which connections begin to be accepted.
-use Rattle.std.specs.Prelude.{◌≡◌, ℕ, true, List, [], Option, Some, length, option_to_list}
+use Rattle.std.specs.Prelude.{◌≡◌, true, [], Option, Some, length, option_to_list}
 use Rattle.gcd_outer.specs.Outside.{Bytes, Seen}
 use Rattle.gcd_outer.specs.Tells.{PollerState}
 use Rattle.gcd_run.specs.Calls.{Listening, PollerFailed}

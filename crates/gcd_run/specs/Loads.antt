@@ -9,7 +9,7 @@ use Rattle.gcd_script.specs.Codes.{refusal_code}
 use Rattle.gcd_script.specs.Faults.{IsScriptOf, fault_of}
 use Rattle.gcd_run.specs.Calls.{MadeLoads}
 use Rattle.gcd_run.specs.declared.stop.Stop.{Stop}
-use Rattle.gcd_run.specs.declared.stop.Stop.TheVariants.{Unread, Script, Journal, Memory}
+use Rattle.gcd_run.specs.declared.stop.Stop.TheVariants.{Unread, Script, Memory}
 
 -- what stands under the name was loaded: these bytes, no more than the limit
 pub record IsLoaded (shelf : ShelfSeen) (name : Bytes) (most : ℕ) (bytes : Bytes) : Type 0 where

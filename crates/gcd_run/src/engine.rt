@@ -7,10 +7,9 @@ ghost use Rattle.gcd_machine.specs.Stands.{StandsFor};
 ghost use Rattle.gcd_run.specs.Calls.{seen_by};
 ghost use Rattle.gcd_run.specs.Runs.{Ran};
 
-use gcd_alone::run_alone;
 use gcd_outer::{Clock, Poller};
 use gcd_plan::Plan;
-use gcd_workers::{Worked, run_workers};
+use gcd_workers::{Worked, run_single, run_workers};
 use std::alloc::{AllocError, Global};
 use std::sync::Wait;
 use std::thread::Threads;
@@ -38,11 +37,6 @@ pub fn run_by<R: Threads + Wait + Sync, P: Poller, C: Clock>(
     if workers > 1 {
         return run_workers(rt, alloc, plan, files, workers, poller, clock);
     }
-    let run = run_alone(rt, alloc, plan, files, poller, clock)?;
-    Ok(Worked {
-        journal: run.journal,
-        values: run.values,
-        state: run.state,
-        machine: run.machine,
-    })
+    let worked = run_single(rt, alloc, plan, files, poller, clock)?;
+    Ok(worked)
 }

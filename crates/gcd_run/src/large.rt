@@ -7,7 +7,7 @@ ghost use Rattle.gcd_plan.specs.Validity.{IsPlan};
 ghost use Rattle.gcd_history.specs.Report.{last_line, line_end};
 ghost use Rattle.gcd_journal.specs.Spoken.{AreSpoken};
 ghost use Rattle.gcd_run.specs.Calls.{seen_by};
-ghost use Rattle.gcd_run.specs.End.{large_file};
+ghost use Rattle.gcd_run.specs.End.{large_file, ran_end};
 ghost use Rattle.gcd_run.specs.Runs.{BigEnds, IsLargeScript};
 ghost use Rattle.gcd_run.specs.Stories.{end_of};
 
@@ -91,6 +91,17 @@ fn text_of(alloc: Global, plan: &Plan, run: &Worked, count: u16) -> Result<Vec<u
     Ok(text)
 }
 
+// The story of a run of the large script, of which no more is kept than its journal. An `Err` comes of want of memory.
+fn story_of(alloc: Global, plan: &Plan, run: Worked, count: u16) -> Result<Story, AllocError>
+    requires few { length run.values.items ≤ max_blocks }
+    requires spoken { AreSpoken plan.now run.journal.items }
+    ensures { IfOk result (λ s. end_of s ≡ ran_end run.state run.journal.items (codes "blocks " ++ (decimal count ++ (line_end
+        ++ (codes "total " ++ (decimal (sum run.values.items) ++ (line_end ++ last_line plan.now run.state run.journal.items))))))) }
+{
+    let text = text_of(alloc, plan, &run, count)?;
+    Ok(Story::ran(run.state, run.journal, text))
+}
+
 /// `big N`: the large script is made and read, and its plan runs over files that are made too. An `Err` comes of want of
 /// memory.
 pub fn tell_large<R: Threads + Wait + Sync, P: Poller, C: Clock>(
@@ -110,6 +121,6 @@ pub fn tell_large<R: Threads + Wait + Sync, P: Poller, C: Clock>(
     let plan = large_plan(alloc, u32::from(request.count))?;
     let files = large_files(alloc, &plan)?;
     let run = run_by(rt, alloc, &plan, &files, request.workers, poller, clock)?;
-    let text = text_of(alloc, &plan, &run, request.count)?;
-    Ok(Story::ran(run.state, run.journal, text))
+    let story = story_of(alloc, &plan, run, request.count)?;
+    Ok(story)
 }

@@ -10,7 +10,7 @@ ghost use Rattle.gcd_history.specs.declared.state.State.{State};
 ghost use Rattle.gcd_machine.specs.Stands.{StandsFor};
 ghost use Rattle.gcd_run.specs.Calls.{SomeCalls, inputs_seen, seen_by};
 ghost use Rattle.gcd_run.specs.Listens.{FailsToListen, Listened};
-ghost use Rattle.gcd_run.specs.End.{run_text};
+ghost use Rattle.gcd_run.specs.End.{ran_end, run_text};
 ghost use Rattle.gcd_run.specs.Runs.{RunCalls, RunEnds, StopsRun, TellsRun};
 ghost use Rattle.gcd_run.specs.Stories.{end_of};
 ghost use Rattle.gcd_words.specs.Requests.{run_asked};
@@ -91,6 +91,26 @@ fn text_of(
     Ok(text)
 }
 
+// The story of a run, of which no more is kept than its journal. An `Err` comes of want of memory.
+fn story_of(
+    alloc: Global,
+    plan: &Plan,
+    run: Worked,
+    with_journal: bool,
+) -> Result<Story, AllocError>
+    requires valid { IsPlan plan.now }
+    requires lawful { IsLawful plan.now run.journal.items }
+    requires few { length run.journal.items ≤ max_events }
+    requires count { length run.values.items ≡ length plan.now.blocks }
+    requires stands { StandsFor run.machine plan.now run.journal.items }
+    ensures { (contents : List (List ℕ)) → HasState plan.now run.journal.items run.state
+        → ((b : ℕ) → is_ended run.journal.items b ≡ true → slice_get run.values.items b ≡ Some (value_of plan.now contents b))
+        → IfOk result (λ s. end_of s ≡ ran_end run.state run.journal.items (run_text with_journal plan.now contents run.state run.journal.items)) }
+{
+    let text = text_of(alloc, plan, &run, with_journal)?;
+    Ok(Story::ran(run.state, run.journal, text))
+}
+
 // The plan runs over its files. An `Err` comes of want of memory.
 fn run_plan<R: Threads + Wait + Sync, P: Poller, C: Clock>(
     rt: &R,
@@ -111,8 +131,8 @@ fn run_plan<R: Threads + Wait + Sync, P: Poller, C: Clock>(
     ensures addresses { P.tells ≡ true → (P.state poller.new).addresses ≡ (P.state poller.old).addresses }
 {
     let run = run_by(rt, alloc, plan, files, workers, poller, clock)?;
-    let text = text_of(alloc, plan, &run, with_journal)?;
-    Ok(Story::ran(run.state, run.journal, text))
+    let story = story_of(alloc, plan, run, with_journal)?;
+    Ok(story)
 }
 
 // `run SCRIPT`: the script and its files are loaded, the poller listens, where an address is given, and the plan runs.

@@ -1,6 +1,7 @@
 // How many hands a team needs.
 ghost use Rattle.std.specs.Prelude.{◌<◌, ◌≤◌};
 
+use crate::worth::is_worth_a_team;
 use gcd_plan::{Act, Blk, Obj, Plan, Run};
 
 /// How many hands a team of at most so many workers, at least 1, has for the plan (this project's own rule): as many as the plan can have
@@ -21,6 +22,20 @@ pub fn team_size(plan: &Plan, workers: u8) -> u8
         size = with_acts(plan, plan.acts(Run::Block(Blk(number))), size, workers);
     }
     size
+}
+
+/// How many hands a run of the plan over its files has, where at most so many workers are asked for, at least 1 (this project's own
+/// rule): one where the works are not worth a team, and else [`team_size`].
+pub fn hands_for(plan: &Plan, files: &[Vec<u8>], workers: u8) -> u8
+    requires { 0 < workers }
+    ensures some { 0 < result }
+    ensures few { result ≤ workers }
+{
+    if is_worth_a_team(plan, files) {
+        team_size(plan, workers)
+    } else {
+        1
+    }
 }
 
 // A hand for `main`, and one for each serial queue and each source; at most so many workers.

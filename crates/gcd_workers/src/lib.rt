@@ -1,7 +1,8 @@
 //! The engine of several workers: a plan is run by worker 0 and its helpers, in threads. (This project's own rules: libdispatch's
 //! pool of threads promises an order of blocks, and not which thread runs one.)
 //!
-//! [`run_workers`] puts a job for each block and a tally for each source into a board (`gcd_row`), makes a rack of Drains
+//! [`run_workers`] asks whether the plan's works are worth a team. Where they are not, worker 0 runs the plan alone (`gcd_alone`). Else
+//! it puts a job for each block and a tally for each source into a board (`gcd_row`), makes a rack of Drains
 //! (`gcd_steal`) and a hand for each worker that there can be work for, and runs the pool of them (`gcd_pool`) until the run has
 //! ended. Then it joins what the helpers have seen into what worker 0 has seen, closes the board, and leaves a [`Worked`].
 //!
@@ -10,8 +11,11 @@
 //! | call | answer |
 //! |---|---|
 //! | [`team_size`] | how many of so many workers there can be work for, at least 1 |
+//! | [`is_worth_a_team`] | whether the plan has few blocks, or works that read much for each |
+//! | [`hands_for`] | `team_size` where it is worth a team, and else 1 |
 //! | [`tallies_of`] | a tally for each source, which a board asks for beside the jobs, or want of memory |
 //! | [`run_pool`] | worker 0's pass of a run that has ended, with which the board may be closed (`HasLed`), or want of memory |
+//! | [`run_single`] | what a run by worker 0 alone leaves (`RanAlone` of `gcd_alone`), or want of memory |
 //! | [`run_workers`] | the journal, the blocks' values and the state of a run of the plan's works over its files (`RanWorkers`), or want of memory |
 //!
 //! | clause of `run_workers` | says |
@@ -32,11 +36,13 @@ mod opening;
 mod team;
 mod values;
 mod workers;
+mod worth;
 
 pub use gather::run_pool;
-pub use hiring::team_size;
+pub use hiring::{hands_for, team_size};
 pub use opening::tallies_of;
-pub use workers::{Worked, run_workers};
+pub use workers::{Worked, run_single, run_workers};
+pub use worth::is_worth_a_team;
 
 #[cfg(test)]
 mod tests;

@@ -1,7 +1,7 @@
 // A run by several workers.
 ghost use Rattle.std.specs.Prelude.{◌≡◌, ◌≤◌, ◌<◌, ℕ, All, true, false, [], replicate, length, IfOk};
 ghost use Rattle.gcd_plan.specs.Limits.{max_workers};
-ghost use Rattle.gcd_alone.specs.Ran.{AreValues};
+ghost use Rattle.gcd_alone.specs.Ran.{AreValues, RanAlone};
 ghost use Rattle.gcd_history.specs.Ends.{HasState};
 ghost use Rattle.gcd_jobs.specs.Contents.{contents};
 ghost use Rattle.gcd_machine.specs.Stands.{StandsFor};
@@ -15,9 +15,10 @@ ghost use Rattle.gcd_workers.specs.Teams.{HasLed, IsHead};
 ghost use Rattle.gcd_workers.specs.Told.{GiveWorks, work_gives, work_shape};
 
 use crate::gather::run_pool;
-use crate::hiring::team_size;
+use crate::hiring::hands_for;
 use crate::opening::{WorkBoard, WorkCell, WorkPass, open_board};
 use crate::values::note_all;
+use gcd_alone::run_alone;
 use gcd_event::Event;
 use gcd_history::State;
 use gcd_machine::Machine;
@@ -80,7 +81,7 @@ fn close<'a>(
 }
 
 // Runs the plan over a rack, by at most so many workers, one for each bench: its works over the files lie in a board of their own.
-fn run_board<R: Threads + Wait + Sync, P: Poller, C: Clock>(
+pub(crate) fn run_board<R: Threads + Wait + Sync, P: Poller, C: Clock>(
     rt: &R,
     alloc: Global,
     plan: &Plan,
@@ -115,10 +116,41 @@ fn run_board<R: Threads + Wait + Sync, P: Poller, C: Clock>(
     Ok(worked)
 }
 
+/// Runs the plan by worker 0 alone, without a board, and leaves what [`run_workers`] leaves (this project's own rule). `files` are the
+/// contents of the plan's files, in their order; the poller watches no feed yet. An `Err` comes only of want of memory, before the first
+/// event.
+pub fn run_single<R: Wait, P: Poller, C: Clock>(
+    rt: &R,
+    alloc: Global,
+    plan: &Plan,
+    files: &[Vec<u8>],
+    poller: &mut P,
+    clock: &mut C,
+) -> Result<Worked, AllocError>
+    requires files { length files.now ≡ length plan.now.files }
+    requires unwatched { (feed : ℕ) → (P.state poller.old).watched feed ≡ false }
+    ensures ran { IfOk result (λ w. RanAlone plan.now (contents files.now)
+        (record { tells = P.tells; before = P.state poller.old; after = P.state poller.new })
+        (record { tells = C.tells; before = C.state clock.old; after = C.state clock.new })
+        w.journal.items w.values.items w.state) }
+    ensures stands { IfOk result (λ w. StandsFor w.machine plan.now w.journal.items) }
+    ensures listens { P.tells ≡ true → (P.state poller.new).listens ≡ (P.state poller.old).listens }
+    ensures addresses { P.tells ≡ true → (P.state poller.new).addresses ≡ (P.state poller.old).addresses }
+    ensures poller_faults { (P.state poller.old).faults ≤ (P.state poller.new).faults }
+{
+    let run = run_alone(rt, alloc, plan, files, poller, clock)?;
+    Ok(Worked {
+        journal: run.journal,
+        values: run.values,
+        state: run.state,
+        machine: run.machine,
+    })
+}
+
 /// Runs the plan by at most so many workers, 1 to 64, until the run is quiescent, halted or full (this project's own rule). As many of
-/// them have a hand in it as [`team_size`] says: worker 0, which alone has poller and clock, and helpers in threads of their own; where
-/// that is one, there is no thread. `files` are the contents of the plan's files, in their order; the poller watches no feed yet. An
-/// `Err` comes only of want of memory, before the first event or after the last.
+/// them have a hand in it as [`hands_for`] says: worker 0, which alone has poller and clock, and helpers in threads of their own; where
+/// that is one, worker 0 runs it alone ([`run_single`]). `files` are the contents of the plan's files, in their order; the poller watches
+/// no feed yet. An `Err` comes only of want of memory, before the first event or after the last.
 pub fn run_workers<R: Threads + Wait + Sync, P: Poller, C: Clock>(
     rt: &R,
     alloc: Global,
@@ -140,7 +172,11 @@ pub fn run_workers<R: Threads + Wait + Sync, P: Poller, C: Clock>(
     ensures addresses { P.tells ≡ true → (P.state poller.new).addresses ≡ (P.state poller.old).addresses }
     ensures poller_faults { (P.state poller.old).faults ≤ (P.state poller.new).faults }
 {
-    let hands = team_size(plan, workers);
+    let hands = hands_for(plan, files, workers);
+    if hands == 1 {
+        let worked = run_single(rt, alloc, plan, files, poller, clock)?;
+        return Ok(worked);
+    }
     let (rack, benches) = Rack::new(alloc, plan, hands, MOST_PUSHES)?;
     run_board(
         rt, alloc, plan, files, &rack, benches, workers, poller, clock,

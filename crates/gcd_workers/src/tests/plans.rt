@@ -1,4 +1,4 @@
-// Plans with a work in each block but `main`: the bytes of the file from the block's number on, and from 9 round.
+// Plans with a work in each block but `main`: it counts in the file from the block's number on, and from 9 round.
 ghost use Rattle.std.specs.Prelude.{◌<◌};
 
 use gcd_plan::{
@@ -37,8 +37,8 @@ fn acts(alloc: Global) -> Result<Vec<Act>, AllocError> {
     Ok(acts)
 }
 
-// `main`, and so many blocks in all.
-fn blocks(alloc: Global, acts: Vec<Act>, count: u32) -> Result<Vec<BlkPart>, AllocError> {
+// `main`, and so many blocks in all, which count so.
+fn blocks(alloc: Global, acts: Vec<Act>, count: u32, how: How) -> Result<Vec<BlkPart>, AllocError> {
     let mut blocks = Vec::new(alloc);
     let mut main = BlkPart::new(alloc, "main")?;
     main.acts = acts;
@@ -47,7 +47,7 @@ fn blocks(alloc: Global, acts: Vec<Act>, count: u32) -> Result<Vec<BlkPart>, All
         let name = format!(in alloc; "b{number}")?;
         let mut block = BlkPart::new(alloc, name.as_str())?;
         block.work = Some(Work {
-            how: How::Bytes,
+            how,
             file: 0,
             start: number % 9,
             len: WHOLE_FILE,
@@ -67,10 +67,16 @@ fn file_parts(alloc: Global) -> Result<Vec<FilePart>, AllocError> {
     Ok(files)
 }
 
-fn plan_of(alloc: Global, objects: Vec<ObjPart>, acts: Vec<Act>, count: u32) -> Result<Plan, Fail> {
+fn plan_of(
+    alloc: Global,
+    objects: Vec<ObjPart>,
+    acts: Vec<Act>,
+    count: u32,
+    how: How,
+) -> Result<Plan, Fail> {
     let parts = Parts {
         objects,
-        blocks: blocks(alloc, acts, count)?,
+        blocks: blocks(alloc, acts, count, how)?,
         files: file_parts(alloc)?,
         until: 1000,
     };
@@ -79,11 +85,17 @@ fn plan_of(alloc: Global, objects: Vec<ObjPart>, acts: Vec<Act>, count: u32) -> 
 
 /// A serial queue, and a concurrent one with a barrier.
 pub fn plan_with_a_barrier(alloc: Global) -> Result<Plan, Fail> {
-    plan_of(alloc, objects(alloc)?, acts(alloc)?, 3 * EACH + 3)
+    plan_of(
+        alloc,
+        objects(alloc)?,
+        acts(alloc)?,
+        3 * EACH + 3,
+        How::Bytes,
+    )
 }
 
-/// So many serial queues with three blocks each, and so many blocks on `root`.
-pub fn plan_of_queues(alloc: Global, serial: u32, wide: u32) -> Result<Plan, Fail>
+/// So many serial queues with three blocks each, and so many blocks on `root`, which all count so.
+pub fn plan_of_queues(alloc: Global, serial: u32, wide: u32, how: How) -> Result<Plan, Fail>
     requires serial { serial < 1000 }
     requires wide { wide < 10000 }
 {
@@ -100,5 +112,5 @@ pub fn plan_of_queues(alloc: Global, serial: u32, wide: u32) -> Result<Plan, Fai
     for number in 0..wide {
         acts.push(Act::Async(Obj(0), Blk(1 + 3 * serial + number)))?;
     }
-    plan_of(alloc, objects, acts, 1 + 3 * serial + wide)
+    plan_of(alloc, objects, acts, 1 + 3 * serial + wide, how)
 }

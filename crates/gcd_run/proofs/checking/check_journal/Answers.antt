@@ -1,4 +1,4 @@
-use Rattle.std.proofs.Common.{◌+◌, ◌∙◌, refl, arith, rules}
+use Rattle.std.proofs.Common.{refl, arith}
 use Rattle.gcd_plan.specs.Limits.{max_file_bytes}
 use Rattle.gcd_outer.specs.Outside.{ShelfSeen, shelf_seen}
 use Rattle.gcd_run.specs.Checks.CheckEnds.{judged}

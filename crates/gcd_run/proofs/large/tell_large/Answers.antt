@@ -1,6 +1,6 @@
-use Rattle.std.proofs.Common.{◌≡◌, ◌∙◌, ◌+◌, length, map, ap, refl, sym, arith}
+use Rattle.std.proofs.Common.{◌∙◌, length, map, ap, refl, sym, arith}
 use Rattle.std.proofs.lemmas.List.{length-map}
-use Rattle.gcd_run.specs.End.{large_file, ran_end}
+use Rattle.gcd_run.specs.End.{large_file}
 use Rattle.gcd_journal.proofs.LawfulSpoken.{lawful_spoken}
 use Rattle.gcd_run.proofs.Totals.{total_is}
 use Rattle.gcd_run.proofs.large.tell_large.Goals as goal
@@ -12,11 +12,11 @@ run_by-requires-clause-files g c = λ lifetimes outlive.
     ∙ ap length c.in_ok-files.ensures
     ∙ length-map c.in_ok-plan.plan.files (λ file. large_file)
 
-pub text_of-requires-clause-spoken : goal.text_of-requires-clause-spoken
-text_of-requires-clause-spoken g c = lawful_spoken _ _ c.in_ok-plan.ensures.valid c.in_ok-run.ensures.ran.lawful
+pub story_of-requires-clause-spoken : goal.story_of-requires-clause-spoken
+story_of-requires-clause-spoken g c = lawful_spoken _ _ c.in_ok-plan.ensures.valid c.in_ok-run.ensures.ran.lawful
 
-pub text_of-requires-clause-few : goal.text_of-requires-clause-few
-text_of-requires-clause-few g c = omega (arith, c.in_ok-run.ensures.values.count, c.in_ok-plan.ensures.valid.few_blocks)
+pub story_of-requires-clause-few : goal.story_of-requires-clause-few
+story_of-requires-clause-few g c = omega (arith, c.in_ok-run.ensures.values.count, c.in_ok-plan.ensures.valid.few_blocks)
 
 pub returns-clause-told : goal.returns-clause-told
 returns-clause-told g c =
@@ -33,6 +33,6 @@ returns-clause-told g c =
         h = run.journal.items;
         state = run.state;
         ran = c.in_ok-run.ensures.ran;
-        end_is = c.ran.ensures ∙ ap (ran_end run.state run.journal.items) (rw (total) at c.in_ok-text.ensures);
+        end_is = rw (total) at c.in_ok-story.ensures;
       };
     }

@@ -1,11 +1,10 @@
-use Rattle.std.proofs.Common.{◌∙◌, ◌+◌, map, refl, ap, arith, rules}
+use Rattle.std.proofs.Common.{◌∙◌, map, refl, ap, arith, rules}
 use Rattle.std.proofs.lemmas.List.{take_all}
 use Rattle.gcd_plan.specs.Limits.{max_file_bytes}
 use Rattle.gcd_plan.specs.PlanView.{file_view}
 use Rattle.gcd_outer.specs.Outside.{ShelfSeen, shelf_seen, next_count}
 use Rattle.gcd_run.specs.Loads.{StopsFile, StopsFiles}
 use Rattle.gcd_run.specs.Loads.StopsLoad.{wanting}
-use Rattle.gcd_run.specs.declared.stop.Stop.TheVariants.{Memory}
 use Rattle.gcd_run.proofs.Loading.{SameShelf, loaded_same, are_loaded_same, loaded_more, next_file, file_since, count_more, handed_on}
 use Rattle.gcd_run.proofs.load.load_files.Goals as goal
 

@@ -1,6 +1,5 @@
 use Rattle.std.proofs.Common.{refl}
-use Rattle.gcd_run.specs.Loads.StopsScript.{unloaded, refused}
-use Rattle.gcd_run.proofs.Loading.{handed_on}
+use Rattle.gcd_run.specs.Loads.StopsScript.{refused}
 use Rattle.gcd_run.proofs.load.load_plan.Goals as goal
 
 pub returns-in-Err-Refused-clause-stopped : goal.returns-in-Err-Refused-clause-stopped

@@ -1,4 +1,4 @@
-use Rattle.std.proofs.Common.{◌≡◌, ◌+◌, ◌∙◌, map, length, ap, sym, refl, rules}
+use Rattle.std.proofs.Common.{◌+◌, ◌∙◌, map, length, ap, sym, refl}
 use Rattle.std.proofs.lemmas.List.{length-map}
 use Rattle.gcd_run.specs.Calls.{only_loads, failed_listen, with_listen}
 use Rattle.gcd_run.specs.Runs.RunEnds.{ran}

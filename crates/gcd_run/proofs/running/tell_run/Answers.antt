@@ -1,7 +1,7 @@
 use Rattle.std.proofs.lemmas.Result.{IfOk-weaker}
 use Rattle.gcd_run.specs.Runs.RunEnds.{stopped}
 use Rattle.gcd_run.proofs.Loading.{on_any_err}
-use Rattle.gcd_run.proofs.Stories.{run_calls, stops_calls}
+use Rattle.gcd_run.proofs.Stories.{stops_calls}
 use Rattle.gcd_run.proofs.running.tell_run.Goals as goal
 
 pub returns-in-Err-clause-told : goal.returns-in-Err-clause-told

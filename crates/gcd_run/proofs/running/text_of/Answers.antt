@@ -1,4 +1,4 @@
-use Rattle.std.proofs.Common.{◌++◌, refl}
+use Rattle.std.proofs.Common.{refl}
 use Rattle.gcd_history.specs.Values.{value_of}
 use Rattle.gcd_run.proofs.running.text_of.Goals as goal
 

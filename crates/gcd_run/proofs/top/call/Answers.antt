@@ -1,4 +1,4 @@
-use Rattle.std.proofs.Common.{[], append-nil, refl, rules, sym}
+use Rattle.std.proofs.Common.{append-nil, refl, rules, sym}
 use Rattle.gcd_run.specs.Ends.CallEnds.{told, wanting}
 use Rattle.gcd_run.specs.Stories.{end_of}
 use Rattle.gcd_run.proofs.top.call.Goals as goal

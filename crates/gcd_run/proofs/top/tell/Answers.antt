@@ -1,4 +1,4 @@
-use Rattle.std.proofs.Common.{◌∙◌, [], append-nil, refl, rules, sym, inl}
+use Rattle.std.proofs.Common.{◌∙◌, append-nil, refl, sym, inl}
 use Rattle.std.proofs.lemmas.Result.{IfOk-weaker}
 use Rattle.gcd_run.specs.Calls.{only_loads}
 use Rattle.gcd_run.proofs.Hearing.{quiet}
