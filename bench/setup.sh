@@ -25,7 +25,7 @@ program() {
     shift 2
     mkdir -p "$folder/crates"
     cp -r --reflink=auto "bench/$name" "$folder/crates/bench_$name"
-    cp bench/machine/src/plans.rt.txt "$folder/crates/bench_$name/src/"
+    if grep -q '^mod plans;' "bench/$name"/src/main.rt.txt; then cp bench/machine/src/plans.rt.txt "$folder/crates/bench_$name/src/"; fi
     find "$folder/crates/bench_$name" -name '*.txt' | while read -r file; do mv "$file" "${file%.txt}"; done
     cp HANDLES "$folder/"
     below "$@"

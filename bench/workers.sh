@@ -1,11 +1,12 @@
 #!/usr/bin/env bash
-# Times whole runs of the proved program by several workers, as processes: a script of 16,384 blocks with no work on seven serial
-# queues, by 1, 2, 4 and 64 workers, beside the same shape in peers that keep a journal (bench/peers), where their packages are there
-# (Debian's libtbb-dev and libboost-dev); and 64 blocks that each count the words of 16 MiB on a concurrent queue, by 1 and by 4.
+# Times whole runs of the proved program by several workers, as processes: the large script, written to a file, by 1, 2, 4 and 64
+# workers, beside its shape in peers that keep a journal (bench/peers), where their packages are there (Debian's libtbb-dev and
+# libboost-dev); and 64 blocks that each count the words of 16 MiB on a concurrent queue, by 1 and by 4.
 #
 #   whole  nanoseconds a block of a call, with its start, the reading of the script and the writing of the report; best of 25
 #   run    the same less a call that only reads the script (`check` over an empty journal)
-#   peer   a peer's nanoseconds a block, which it measures itself: making its pool, running the blocks, ending the pool
+#   peer   the first run of a peer's process, and its best of nine, which it measures itself: making its pool, running the blocks,
+#          ending the pool; each the least of five processes
 set -eu -o pipefail
 cd "$(dirname "$0")/.."
 ./build
@@ -26,11 +27,14 @@ peer tbb tbb/flow_graph.h -ltbb libtbb-dev
 peer asio boost/asio/strand.hpp '' libboost-dev
 cd "$folder"
 awk 'BEGIN {
-    for (q = 1; q <= 7; q++) print "queue q" q, "serial"
-    for (b = 1; b <= 16384; b++) print "block b" b
+    split("s0 s1 s2 s3 c0 c1", queues, " ")
+    print "file data data\nqueue s0 serial\nqueue s1 serial\nqueue s2 serial on s0\nqueue s3 serial on s1"
+    print "queue c0 concurrent\nqueue c1 concurrent on s0"
+    for (k = 1; k <= 16384; k++) print "block b" k, "sum data", 37 * k % 4033, 64
     print "main"
-    for (b = 1; b <= 16384; b++) print "async q" b % 7 + 1, "b" b
+    for (k = 1; k <= 16384; k++) print k % 16 ? "async" : "barrier", queues[k % 6 + 1], "b" k
 }' >script
+LC_ALL=C awk 'BEGIN { for (i = 0; i < 4096; i++) printf "%c", (7 * i + 3) % 256 }' >data
 awk 'BEGIN {
     print "file f f.txt"
     print "queue q concurrent"
@@ -57,12 +61,15 @@ best() {
 echo "$(nproc) processors, load $(cut -d' ' -f1 /proc/loadavg)"
 read=$(best 25 check script journal)
 {
-    echo "workers whole run peers"
+    echo "workers whole run peers first best"
     for workers in 1 2 4 64; do
         whole=$(best 25 run script --workers "$workers")
         [ "$(tail -1 told)" = drained ] || { echo "the script does not drain" >&2; exit 1; }
         theirs=
-        for peer in $peers; do theirs="$theirs $("./$peer" "$workers" | awk '{ print $1, $3 }')"; done
+        for peer in $peers; do
+            theirs="$theirs $(for _ in 1 2 3 4 5; do "./$peer" "$workers"; done |
+                awk 'NR == 1 || $3 < first { first = $3 } NR == 1 || $4 < best { best = $4 } END { print $1, first, best }')"
+        done
         awk -v whole="$whole" -v reading="$read" -v workers="$workers" -v theirs="$theirs" \
             'BEGIN { printf "%s %.0f %.0f%s\n", workers, whole * 1000 / 16384, (whole - reading) * 1000 / 16384, theirs }'
     done

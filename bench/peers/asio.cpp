@@ -1,4 +1,4 @@
-// Boost.Asio: a strand for each queue, over a pool of so many threads.
+// Boost.Asio: a strand for each strand of the shape, over a pool of so many threads.
 #include "shape.hpp"
 #include <boost/asio/post.hpp>
 #include <boost/asio/strand.hpp>
@@ -20,12 +20,14 @@ static uint32_t worker() {
 static void run(uint32_t workers, Journal &journal) {
     threads = 0;
     asio::thread_pool pool(workers);
-    std::vector<Strand> strands(QUEUES, Strand(pool.get_executor()));
+    std::vector<Strand> strands(STRANDS, Strand(pool.get_executor()));
     for (Strand &strand : strands)
         strand = asio::make_strand(pool);
     asio::post(pool, [&] {
-        for (uint32_t b = 0; b < BLOCKS; b++)
-            asio::post(strands[b % QUEUES], [&journal, b] { journal.run(b, worker()); });
+        for (uint32_t k = 1; k <= BLOCKS; k++) {
+            journal.submit(k, worker());
+            asio::post(strands[strand_of(k)], [&journal, k] { journal.run(k, worker()); });
+        }
     });
     pool.join();
 }
