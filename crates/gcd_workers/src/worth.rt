@@ -3,7 +3,7 @@ ghost use Rattle.std.specs.Prelude.{◌≡◌, ◌≤◌, true, length};
 
 use gcd_plan::{Blk, How, Plan, Work};
 
-// A plan with at most so many blocks has the team that is asked for: a hand for it is made in less than a tenth of a millisecond.
+// A plan with at most so many blocks has the team that is asked for: a hand for it costs a tenth or two of a millisecond.
 const FEW_BLOCKS: u32 = 1_024;
 
 // A larger plan has a team where its works read so many bytes a block, taken over all blocks: in the time of such a work a block goes
