@@ -7,7 +7,7 @@ use gcd_plan::{Blk, How, Plan, Work};
 const FEW_BLOCKS: u32 = 1_024;
 
 // A larger plan has a team where its works read so many bytes a block, taken over all blocks: in the time of such a work a block goes
-// through the row of a team. Blocks with less to do end sooner where worker 0 runs them alone.
+// through the row of a team. Blocks with much less to do end sooner where worker 0 runs them alone.
 const BYTES_A_BLOCK: u64 = 8_192;
 
 // How many bytes of the files the work reads.
@@ -35,9 +35,9 @@ fn read_at_least(plan: &Plan, files: &[Vec<u8>], want: u64) -> bool {
     false
 }
 
-/// Whether the plan's works over its files are worth more hands than one (this project's own rule). A plan with few blocks has the
-/// hands that are asked for. A larger one has them where its works read much: for each event goes through one row and through each
-/// hand's machine, which blocks with little to do never repay.
+/// Whether the plan's works over its files are worth more hands than one (this project's own rule): where the plan has at most 1,024
+/// blocks, `main` among them, and where its works read at least 8,192 bytes for each of its blocks, taken over all; a work that counts
+/// bytes reads none. For each event goes through one row and through each hand's machine, which blocks with little to do never repay.
 pub fn is_worth_a_team(plan: &Plan, files: &[Vec<u8>]) -> bool
     ensures { length plan.now.blocks ≤ 1024 → result ≡ true }
 {
