@@ -46,11 +46,7 @@ pub(crate) struct Running<J, H> {
 fn waiting<J: Drop>(alloc: Global, jobs: Vec<J>) -> Result<Vec<Option<J>>, AllocError>
     ensures { IfOk result (λ v. v.items ≡ map Some jobs.items) }
 {
-    let mut waiting = Vec::with_capacity(alloc, jobs.len())?;
-    for job in jobs {
-        waiting.push(Some(job))?;
-    }
-    Ok(waiting)
+    jobs.into_iter().map(Some).collect(alloc)
 }
 
 // Where the event that was recorded last is a Deliver, the handler of its source takes what it hands over.
