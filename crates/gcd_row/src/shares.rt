@@ -18,14 +18,22 @@ use atomic_table::Seat;
 use gcd_machine::Machine;
 use std::alloc::{AllocError, Global};
 use std::marker::Brand;
+use std::mem;
 
 // Becomes the machine of the longer of the two histories.
-fn take_farther(machine: &mut Machine, other: Machine)
-    ensures { (plan : PlanView) (g h : List Event) → StandsFor machine.old plan g → StandsFor other plan h → StandsFor machine.new plan (longer g h) }
+fn swap_farther(machine: &mut Machine, other: &mut Machine)
+    ensures { (plan : PlanView) (g h : List Event) → StandsFor machine.old plan g → StandsFor other.old plan h → StandsFor machine.new plan (longer g h) }
 {
     if machine.len() < other.len() {
-        *machine = other;
+        mem::swap(machine, other);
     }
+}
+
+// The same, with a machine that goes.
+fn take_farther(machine: &mut Machine, mut other: Machine)
+    ensures { (plan : PlanView) (g h : List Event) → StandsFor machine.old plan g → StandsFor other plan h → StandsFor machine.new plan (longer g h) }
+{
+    swap_farther(machine, &mut other);
 }
 
 impl<S: Slot> RowBoard<S> {
