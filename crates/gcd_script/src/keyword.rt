@@ -3,7 +3,7 @@ ghost use Rattle.std.specs.Prelude.{◌≡◌, Some, IfSome};
 ghost use Rattle.gcd_script.specs.Keywords.{pick, declarations, acts, object_acts, keyword_of};
 
 /// What kind of line a first word begins.
-#[derive(Clone, Copy, Debug, PartialEq, Eq)]
+#[derive(Clone, Copy)]
 pub enum Keyword {
     /// `file`: a file that is loaded whole.
     File,
@@ -38,7 +38,7 @@ pub enum Keyword {
 }
 
 /// How an act submits a block to a queue.
-#[derive(Clone, Copy, Debug, PartialEq, Eq)]
+#[derive(Clone, Copy)]
 pub enum Submission {
     /// `async` (dispatch_async(3)).
     Async,
@@ -51,7 +51,7 @@ pub enum Submission {
 }
 
 /// How an act submits a block to a queue for a group.
-#[derive(Clone, Copy, Debug, PartialEq, Eq)]
+#[derive(Clone, Copy)]
 pub enum GroupSubmission {
     /// `group_async` (dispatch_group_async(3)).
     GroupAsync,
@@ -60,7 +60,7 @@ pub enum GroupSubmission {
 }
 
 /// What an act does with one object.
-#[derive(Clone, Copy, Debug, PartialEq, Eq)]
+#[derive(Clone, Copy)]
 pub enum ObjectAct {
     /// `enter` (dispatch_group_enter(3)).
     Enter,

@@ -3,7 +3,7 @@
 use gcd_plan::{Act, Blk, Kind, Obj, Run, Work};
 
 /// What a line of one of the forms does, with what its words mean. New names and paths are texts `N`.
-#[derive(Clone, Copy, Debug, PartialEq, Eq)]
+#[derive(Clone, Copy)]
 pub enum Line<N> {
     /// `file F PATH`: the file is loaded whole under the path.
     DeclareFile {

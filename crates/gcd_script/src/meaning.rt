@@ -3,7 +3,7 @@
 use gcd_plan::{Blk, Obj};
 
 /// What a declared name stands for. All names share one space (this project's own rule).
-#[derive(Clone, Copy, Debug, PartialEq, Eq)]
+#[derive(Clone, Copy)]
 pub enum Meaning {
     /// A file, by its number from 0.
     File(u32),

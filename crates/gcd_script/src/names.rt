@@ -10,7 +10,7 @@ use crate::refusal::Refusal;
 use gcd_plan::{Blk, Kind, Obj, is_name};
 
 /// What a form asks of an object's kind.
-#[derive(Clone, Copy, Debug, PartialEq, Eq)]
+#[derive(Clone, Copy)]
 pub enum Asked {
     Queue,
     Source,

@@ -7,7 +7,7 @@ use gcd_plan::{Obj, Plan, Run};
 use std::alloc::{AllocError, Global};
 
 /// A stretch of a run, and what comes after it.
-#[derive(Clone, Copy, Debug, PartialEq, Eq)]
+#[derive(Clone, Copy)]
 pub struct Bar {
     /// The block or source that runs.
     pub run: Run,

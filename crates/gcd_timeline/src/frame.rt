@@ -19,7 +19,7 @@ const TITLE: u64 = 30;
 const OUTSIDE: u64 = 38;
 
 /// A page: how far apart events are, how many lanes of workers there are, and whether there is a row for the outside.
-#[derive(Clone, Copy, Debug, PartialEq, Eq)]
+#[derive(Clone, Copy)]
 pub struct Frame {
     /// How far apart events are.
     pub scale: Scale,

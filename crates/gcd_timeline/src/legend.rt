@@ -13,7 +13,7 @@ use std::fmt::Write;
 const NAMED: usize = 40;
 
 // Where the next word of the legend goes.
-#[derive(Clone, Copy, Debug, PartialEq, Eq)]
+#[derive(Clone, Copy)]
 struct Pen {
     x: u64,
     y: u64,

@@ -4,7 +4,7 @@ use crate::scale::Tenths;
 use std::alloc::{AllocError, Global};
 
 // Up to where the two rows of a lane are taken.
-#[derive(Clone, Copy, Debug, PartialEq, Eq)]
+#[derive(Clone, Copy)]
 struct Taken {
     upper: u64,
     lower: u64,

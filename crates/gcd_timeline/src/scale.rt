@@ -3,7 +3,7 @@
 use std::fmt;
 
 /// A length on the page, in tenths of a pixel.
-#[derive(Clone, Copy, Debug, PartialEq, Eq)]
+#[derive(Clone, Copy)]
 pub struct Tenths(pub u64);
 
 impl fmt::Display for Tenths {
@@ -33,7 +33,7 @@ impl Tenths {
 
 /// The places of a journal along a page: 24 pixels an event for up to 60 events, then fewer, and never more than 2000 pixels in
 /// all.
-#[derive(Clone, Copy, Debug, PartialEq, Eq)]
+#[derive(Clone, Copy)]
 pub struct Scale {
     events: u64,
     width: u64,

@@ -9,7 +9,7 @@ use gcd_timeline::{marks, svg, trace};
 use std::alloc::{AllocError, Global};
 
 /// How the program ends (this project's own rules; the numbers are those of `gcd check`).
-#[derive(Clone, Copy, Debug, PartialEq, Eq)]
+#[derive(Clone, Copy)]
 pub enum Status {
     /// A run is shown.
     Shown,

@@ -1,7 +1,7 @@
 // What the words ask for.
 
 /// A script and a journal to be shown.
-#[derive(Clone, Copy, Debug, PartialEq, Eq)]
+#[derive(Clone, Copy)]
 pub struct Request<'a> {
     /// The script's path.
     pub script: &'a str,

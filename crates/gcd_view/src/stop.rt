@@ -1,7 +1,7 @@
 // Why nothing is shown.
 
 /// Why nothing is shown (this project's own rules).
-#[derive(Clone, Copy, Debug, PartialEq, Eq)]
+#[derive(Clone, Copy)]
 pub enum Stop {
     /// The words are no call of the program.
     NoCall,
