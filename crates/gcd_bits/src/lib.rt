@@ -25,6 +25,3 @@ mod word;
 
 pub use set::BitSet;
 pub use small::SmallSet;
-
-#[cfg(test)]
-mod tests;

@@ -44,7 +44,5 @@ mod marks;
 mod shut;
 
 pub use drains::Drains;
+pub use free::is_chain_held;
 pub use marks::Marks;
-
-#[cfg(test)]
-mod tests;

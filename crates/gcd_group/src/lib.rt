@@ -29,6 +29,3 @@
 mod groups;
 
 pub use groups::Groups;
-
-#[cfg(test)]
-mod tests;

@@ -27,6 +27,3 @@ mod first;
 mod holds;
 
 pub use holds::Holds;
-
-#[cfg(test)]
-mod tests;

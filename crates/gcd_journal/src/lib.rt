@@ -38,7 +38,5 @@ mod write;
 pub use checker::{CheckFault, check};
 pub use reader::{JournalFault, read_journal};
 pub use report::{write_last_line, write_report, write_report_by};
+pub use totals::{Replay, Total, replayed};
 pub use write::write_journal;
-
-#[cfg(test)]
-mod tests;

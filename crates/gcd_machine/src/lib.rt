@@ -32,6 +32,3 @@ mod machine;
 mod registers;
 
 pub use machine::Machine;
-
-#[cfg(test)]
-mod tests;

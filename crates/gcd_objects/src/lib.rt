@@ -21,6 +21,3 @@
 mod objects;
 
 pub use objects::Objects;
-
-#[cfg(test)]
-mod tests;

@@ -62,6 +62,3 @@ pub use plan::Plan;
 pub use reason::Reason;
 pub use why::Why;
 pub use work::{How, WHOLE_FILE, Work};
-
-#[cfg(test)]
-mod tests;

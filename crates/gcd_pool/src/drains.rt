@@ -160,7 +160,8 @@ fn begin_any<S: Slot>(pool: &Pool<S>, hand: &mut Hand<S>, drain: Drain) -> Turn
     }
 }
 
-// Begins a run on the node, or on another whose Drain is found first.
+/// Begins a run on the node, or on another whose Drain is found first (this project's own rule). [`Turn::Out`] where the node's Drain is
+/// with another worker, which begins what may begin there.
 pub fn begin_near<S: Crew, R: Wait>(rt: &R, pool: &Pool<S>, hand: &mut Hand<S>, node: Obj) -> Turn
     requires ready { IsReady S.shape S.gives pool.now hand.old }
     requires node { IsTrue (is_node (view hand.old.pass).terms.plan node.0) }

@@ -57,13 +57,13 @@ mod turn;
 
 pub use beginning::begin_on;
 pub use crew::Crew;
-pub use drains::begin;
+pub use drains::{begin, begin_near};
 pub use duty::{Duty, Exit, duty_of};
 pub use hand::{Hand, Pool};
 pub use idle::Idle;
 pub use lead::Chief;
+pub use own::record_own;
 pub use run::pool_run;
-pub use team::{Desk, Lead, run_team};
-
-#[cfg(test)]
-mod tests;
+pub use serve::free_turn;
+pub use team::{Desk, Lead, run_team, serve_all};
+pub use turn::{Turn, take_turn};

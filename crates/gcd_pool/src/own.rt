@@ -187,8 +187,8 @@ fn go_on<S: Slot>(board: &RowBoard<S>, pass: &mut RowPass<S>, e: Event) -> Turn
     }
 }
 
-// Records what the worker's machine chose, an event that begins no run on a node. Before the end of a run the worker runs its
-// body, or calls its handler.
+/// Records what the worker's machine chose, an event that begins no run on a node (this project's own rule). Before the end of a run the
+/// worker runs its body, or calls its handler.
 #[inline(always)]
 pub fn record_own<S: Crew, R: Wait>(rt: &R, pool: &Pool<S>, hand: &mut Hand<S>, e: Event) -> Turn
     requires ready { IsReady S.shape S.gives pool.now hand.old }

@@ -102,8 +102,8 @@ fn are_quick<S: Crew>(pool: &Pool<S>, hand: &mut Hand<S>, seen: u32) -> bool
     now.saturating_sub(seen) >= WHOLE_RUN
 }
 
-// A turn of a helper that has no run. Where the others' runs are so short it leaves the row to them: each event goes through the
-// one row, and one who begins there too only slows the others.
+/// A turn of a helper that has no run (this project's own rule). Where the others' runs are so short it leaves the row to them: each
+/// event goes through the one row, and one who begins there too only slows the others.
 pub fn free_turn<S: Crew, R: Wait>(
     rt: &R,
     pool: &Pool<S>,

@@ -33,7 +33,7 @@ pub trait Lead<T, D: Desk<T>, P: Poller, C: Clock> {
         ensures led { Self.led desk.now (hand.old, poller.old, clock.old) (hand.new, poller.new, clock.new) };
 }
 
-// Each helper in a thread.
+/// Each helper serves in a thread of its own, until all have served.
 pub fn serve_all<T: Send, D: Desk<T> + Sync, R: Threads + Wait + Sync>(
     rt: &R,
     desk: &D,

@@ -30,7 +30,7 @@ pub enum Turn {
     Rested,
 }
 
-// Does what the worker has to do by what it has seen, its nodes from number `from` on.
+/// Does what the worker has to do by what it has seen, its nodes from number `from` on (this project's own rule).
 pub fn take_turn<S: Crew, R: Wait>(rt: &R, pool: &Pool<S>, hand: &mut Hand<S>, from: u32) -> Turn
     requires { IsReady S.shape S.gives pool.now hand.old }
     ensures serving { Serving S.shape S.gives pool.now hand.old hand.new }

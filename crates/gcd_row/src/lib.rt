@@ -71,6 +71,3 @@ pub use pass::{Pass, RowPass};
 pub use plays::Lawful;
 pub use put::Put;
 pub use view::{Copies, Standing, Terms, View};
-
-#[cfg(test)]
-mod tests;

@@ -40,6 +40,3 @@ mod top;
 pub use status::Status;
 pub use story::Ended;
 pub use top::gcd_main;
-
-#[cfg(test)]
-mod tests;

@@ -88,6 +88,3 @@ pub use big::big_text;
 pub use fault::ParseFault;
 pub use parser::parse;
 pub use refusal::Refusal;
-
-#[cfg(test)]
-mod tests;

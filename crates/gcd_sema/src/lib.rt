@@ -24,6 +24,3 @@ mod first;
 mod semas;
 
 pub use semas::Semas;
-
-#[cfg(test)]
-mod tests;

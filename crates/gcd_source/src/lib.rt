@@ -24,6 +24,3 @@
 mod sources;
 
 pub use sources::Sources;
-
-#[cfg(test)]
-mod tests;

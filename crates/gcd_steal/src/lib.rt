@@ -68,6 +68,3 @@ mod tokens;
 
 pub use bench::{Bench, Rack};
 pub use drain::Drain;
-
-#[cfg(test)]
-mod tests;

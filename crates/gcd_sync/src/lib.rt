@@ -24,6 +24,3 @@
 mod waits;
 
 pub use waits::Waits;
-
-#[cfg(test)]
-mod tests;

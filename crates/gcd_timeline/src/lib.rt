@@ -34,10 +34,9 @@ mod scale;
 mod taking;
 mod tracing;
 
+pub use escape::{push_json, push_xml};
 pub use mark::{Mark, Stretch};
 pub use marking::marks;
+pub use naming::run_name;
 pub use page::svg;
 pub use tracing::trace;
-
-#[cfg(test)]
-mod tests;

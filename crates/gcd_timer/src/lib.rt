@@ -29,6 +29,3 @@ mod first;
 mod timers;
 
 pub use timers::Timers;
-
-#[cfg(test)]
-mod tests;

@@ -30,6 +30,3 @@ mod tree;
 
 pub use chain::Chain;
 pub use tree::Tree;
-
-#[cfg(test)]
-mod tests;

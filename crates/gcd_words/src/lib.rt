@@ -24,6 +24,3 @@ mod request;
 
 pub use reading::read_words;
 pub use request::{BigRequest, CheckRequest, Request, RunRequest};
-
-#[cfg(test)]
-mod tests;

@@ -41,8 +41,5 @@ mod worth;
 pub use gather::run_pool;
 pub use hiring::{hands_for, team_size};
 pub use opening::tallies_of;
-pub use workers::{Worked, run_single, run_workers};
+pub use workers::{Worked, run_board, run_single, run_workers};
 pub use worth::is_worth_a_team;
-
-#[cfg(test)]
-mod tests;

@@ -80,8 +80,9 @@ fn close<'a>(
     })
 }
 
-// Runs the plan over a rack, by at most so many workers, one for each bench: its works over the files lie in a board of their own.
-pub(crate) fn run_board<R: Threads + Wait + Sync, P: Poller, C: Clock>(
+/// Runs the plan over a rack, by at most so many workers, one for each bench (this project's own rule): its works over the files lie in
+/// a board of their own. An `Err` comes only of want of memory.
+pub fn run_board<R: Threads + Wait + Sync, P: Poller, C: Clock>(
     rt: &R,
     alloc: Global,
     plan: &Plan,

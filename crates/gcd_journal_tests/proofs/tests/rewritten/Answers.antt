@@ -1,0 +1,6 @@
+use Rattle.std.proofs.Common.{sym, subst}
+use Rattle.gcd_journal.specs.Spoken.{AreSpoken}
+use Rattle.gcd_journal_tests.proofs.tests.rewritten.Goals as goal
+
+pub write_journal-requires : goal.write_journal-requires
+write_journal-requires c = subst (AreSpoken c.args.plan.now) (sym c.as_slice-events.ensures.value) c.in_ok-events.ensures.journal.spoken

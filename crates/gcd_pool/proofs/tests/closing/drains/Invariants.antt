@@ -1,7 +1,0 @@
-use Rattle.std.proofs.Common.{List}
-use Rattle.gcd_event.specs.declared.event.Event.{Event}
-use Rattle.gcd_machine.specs.Stands.{StandsFor}
-use Rattle.gcd_pool.proofs.tests.closing.drains.Given as goal
-
-abbrev pub invariant-loop-e : goal.invariant-loop-e
-invariant-loop-e l = (h : List Event) × StandsFor l.machine l.plan h

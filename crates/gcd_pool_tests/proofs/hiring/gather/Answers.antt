@@ -1,0 +1,13 @@
+use Rattle.std.proofs.Common.{arith}
+use Rattle.gcd_row.specs.Passes.{view}
+use Rattle.gcd_pool.proofs.Teams.{all_home}
+use Rattle.gcd_pool_tests.proofs.hiring.gather.Goals as goal
+
+pub take_in-requires-clause-back : goal.take_in-requires-clause-back
+take_in-requires-clause-back g c w above = c.loop-step.invariant.back w (omega (arith, above))
+
+pub returns-clause-back : goal.returns-clause-back
+returns-clause-back g c =
+    let over = c.loop-step-test.false in
+    let last = c.loop-step.auto.step-end in
+    all_home (view c.loop-step.head).hands c.loop-step.invariant.home (λ w low. c.loop-step.invariant.back w (omega (arith, low, over, last)))

@@ -1,0 +1,75 @@
+// A desk with no Drains: the row alone keeps its workers apart.
+ghost use Rattle.gcd_row.specs.Passes.{slots, view};
+ghost use Rattle.gcd_pool.specs.Hands.{IsReady, Served, Serving};
+ghost use Rattle.gcd_pool.specs.Turns.{AfterTurn};
+
+use gcd_pool::{Crew, Desk, Duty, Hand, Idle, Pool, Turn, duty_of, record_own};
+use gcd_row::Slot;
+use std::sync::Wait;
+
+/// What workers share who look, choose by their machine, and put.
+#[derive(Drop)]
+pub struct RowDesk<'a, S: Slot> {
+    /// The board, and a rack that nobody uses.
+    pub pool: Pool<'a, S>,
+}
+
+// Puts what the machine chose, whatever node it begins on.
+fn take_turn<S: Crew, R: Wait>(rt: &R, pool: &Pool<S>, hand: &mut Hand<S>) -> Turn
+    requires { IsReady S.shape S.gives pool.now hand.old }
+    ensures serving { Serving S.shape S.gives pool.now hand.old hand.new }
+    ensures after { AfterTurn S.shape result (view hand.new.pass) (slots hand.new.pass) }
+{
+    match duty_of(hand.pass.machine(), hand.pass.worker(), 0) {
+        Duty::Leave(_) => Turn::Left,
+        Duty::Record(e) => record_own(rt, pool, hand, e),
+        Duty::Begin(_, e) => record_own(rt, pool, hand, e),
+        Duty::Rest => Turn::Rested,
+    }
+}
+
+// Looks, chooses and puts.
+fn step<S: Crew, R: Wait>(rt: &R, pool: &Pool<S>, hand: &mut Hand<S>) -> Turn
+    requires { IsReady S.shape S.gives pool.now hand.old }
+    ensures serving { Serving S.shape S.gives pool.now hand.old hand.new }
+    ensures after { AfterTurn S.shape result (view hand.new.pass) (slots hand.new.pass) }
+{
+    pool.board.look(&mut hand.pass);
+    take_turn(rt, pool, hand)
+}
+
+// What comes after a turn.
+fn pass_time<R: Wait>(rt: &R, idle: &mut Idle, turn: Turn) {
+    match turn {
+        Turn::Placed | Turn::Ended => idle.reset(),
+        _ => idle.pause(rt),
+    }
+}
+
+// Turn by turn, until the run has ended.
+fn serve_to_the_end<S: Crew, R: Wait>(rt: &R, pool: &Pool<S>, hand: &mut Hand<S>)
+    requires { IsReady S.shape S.gives pool.now hand.old }
+    ensures { Served S.shape S.gives pool.now hand.old hand.new }
+{
+    let mut idle = Idle::new();
+    for _ in rt.forever() {
+        let turn = step(rt, pool, hand);
+        if let Turn::Left = turn {
+            return;
+        }
+        pass_time(rt, &mut idle, turn);
+    }
+    unreachable!()
+}
+
+impl<S: Crew> Desk<Hand<S>> for RowDesk<'_, S> {
+    ghost use Rattle.gcd_pool.specs.Hands.{IsReady, Served};
+
+    ghost ready = { λ desk. IsReady S.shape S.gives desk.pool };
+
+    ghost served = { λ desk. Served S.shape S.gives desk.pool };
+
+    fn serve<R: Wait>(&self, rt: &R, hand: &mut Hand<S>) {
+        serve_to_the_end(rt, &self.pool, hand);
+    }
+}

@@ -1,0 +1,80 @@
+// Runs with worker 0, its poller and its clock.
+ghost use Rattle.std.specs.Prelude.{◌≡◌, ◌<◌, All, length};
+ghost use Rattle.gcd_row.specs.Shapes.{shape_of, gives_of};
+ghost use Rattle.gcd_pool.specs.Each.{Each};
+ghost use Rattle.gcd_pool.specs.Hands.{IsReady, Served};
+
+use super::boards::{board_of, rack_of, workers_of};
+use super::closing::closed;
+use super::hiring::{gather, team_of};
+use super::numbers::{are_right, jobs_of};
+use super::plans::plan_of_each_kind;
+use gcd_event::Event;
+use gcd_jobs::{Job, Tally};
+use gcd_outer::{JumpClock, ListPoller};
+use gcd_plan::Plan;
+use gcd_pool::{Exit, Hand, Pool, pool_run};
+use gcd_row::Cell;
+use std::alloc::Global;
+use std::process::Abort;
+use std::sync::Wait;
+use std::test::Fail;
+use std::thread::Threads;
+
+// Worker 0 leads, and the others serve.
+fn lead<J: Job + Drop + Send, R: Threads + Wait + Abort + Sync>(
+    rt: &R,
+    alloc: Global,
+    pool: &Pool<Cell<J, Tally>>,
+    hands: Vec<Hand<Cell<J, Tally>>>,
+) -> (Exit, Vec<Hand<Cell<J, Tally>>>)
+    requires some { 0 < length hands.items }
+    requires hands { All (IsReady (shape_of (λ t. t.kind) (λ t. t.times) (λ t. t.total)) (gives_of J.gives) pool.now) hands.items }
+    ensures count { length result.1.items ≡ length hands.items }
+    ensures hands { Each (Served (shape_of (λ t. t.kind) (λ t. t.times) (λ t. t.total)) (gives_of J.gives) pool.now) hands.items result.1.items }
+{
+    let Ok(mut poller) = ListPoller::new(alloc, Vec::new(alloc), 0, 0) else {
+        panic!(rt; "no memory")
+    };
+    let mut clock = JumpClock::new(0);
+    pool_run(rt, pool, hands, &mut poller, &mut clock)
+}
+
+/// Runs the plan with these jobs by so many workers, over a rack of so many benches. How the run ended, the journal and the cells.
+pub fn run_of<J: Job + Drop + Send, R: Threads + Wait + Abort + Sync>(
+    rt: &R,
+    alloc: Global,
+    plan: &Plan,
+    jobs: Vec<J>,
+    benches: u8,
+    workers: u8,
+) -> (Exit, Vec<Event>, Vec<Cell<J, Tally>>) {
+    let workers = workers_of(rt, workers);
+    let (rack, benches) = rack_of(rt, alloc, plan, benches, 4_096);
+    let (board, head) = board_of(rt, alloc, plan, jobs);
+    let pool = Pool {
+        board: &board,
+        rack: &rack,
+        plan,
+    };
+    let hands = team_of(rt, alloc, &pool, head, benches, workers);
+    let (exit, hands) = lead(rt, alloc, &pool, hands);
+    let head = gather(rt, &board, hands, workers);
+    let (events, cells) = closed(rt, alloc, plan, board, head);
+    (exit, events, cells)
+}
+
+// A rack of two benches, of which worker 0 has one, is no rack of one: it looks into deques.
+#[test]
+fn teams_drain(rt: HostRuntime) -> Result<(), Fail> {
+    let plan = plan_of_each_kind(rt.alloc())?;
+    for (benches, workers, rounds) in [(1, 1, 2), (2, 1, 2), (2, 2, 20), (4, 4, 20), (8, 8, 20)] {
+        for _ in 0..rounds {
+            let jobs = jobs_of(rt.alloc(), &plan)?;
+            let (exit, _events, cells) = run_of(&rt, rt.alloc(), &plan, jobs, benches, workers);
+            assert!(rt; exit == Exit::Quiescent, "{workers} workers");
+            are_right(&rt, cells.as_slice());
+        }
+    }
+    Ok(())
+}

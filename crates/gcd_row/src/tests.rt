@@ -1,3 +1,0 @@
-// Rows of one pass and of two.
-mod rows;
-mod work;

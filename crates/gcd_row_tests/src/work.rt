@@ -1,0 +1,134 @@
+// What the workers of the tests do.
+ghost use Rattle.std.specs.Prelude.{◌≡◌, ◌∷◌, ◌++◌, [], Some, None, IfOk, OnOk, length};
+ghost use Rattle.gcd_plan.specs.declared.numbers.Run.TheVariants.{Block};
+ghost use Rattle.gcd_row.specs.Opening.{AreFirst, AreHandlersOf, tallies_for};
+ghost use Rattle.gcd_row.specs.Passes.{IsPassOf, HasSameNumbers, slots, terms_of, view};
+ghost use Rattle.gcd_row.specs.Shapes.{shape_of, gives_of};
+ghost use Rattle.gcd_row.specs.Views.{held_run};
+ghost use Rattle.gcd_row.specs.declared.cell.Cell.TheVariants.{Body, Done};
+
+use gcd_event::Event;
+use gcd_jobs::{Handler, Job, Tally};
+use gcd_plan::{Blk, Kind, Obj, Plan, Run};
+use gcd_row::{Board, Pass, Put};
+use std::alloc::{AllocError, Global};
+
+// A job that gives one value.
+#[derive(Drop)]
+pub struct Fixed(pub u64);
+
+impl Job for Fixed {
+    ghost gives = { λ job input value. value ≡ job.0 };
+
+    fn run(self, _input: u64) -> u64 {
+        self.0
+    }
+}
+
+// A job for each block: it gives ten times the block's number.
+pub fn jobs_of(alloc: Global, plan: &Plan) -> Result<Vec<Fixed>, AllocError>
+    ensures { IfOk result (λ jobs. length jobs.items ≡ length plan.now.blocks) }
+{
+    let mut jobs = Vec::new(alloc);
+    for number in 0..plan.blocks() {
+        jobs.push(Fixed(u64::from(number) * 10))?;
+    }
+    Ok(jobs)
+}
+
+// Adds a handler for a source of this kind, and none for another object.
+fn add_tally(kind: Kind, tallies: &mut Vec<Tally>) -> Result<(), AllocError>
+    ensures { OnOk result (tallies.new.items ≡ tallies.old.items ++ tallies_for kind) }
+{
+    if kind.is_source() {
+        tallies.push(Tally::new(kind))?;
+    }
+    Ok(())
+}
+
+// A handler for each source.
+pub fn tallies_of(alloc: Global, plan: &Plan) -> Result<Vec<Tally>, AllocError>
+    ensures { IfOk result (λ tallies. AreHandlersOf (λ t. t.kind) (λ t. t.times) (λ t. t.total) plan.now tallies.items) }
+{
+    let mut tallies = Vec::new(alloc);
+    for number in 0..plan.objects() {
+        add_tally(plan.kind(Obj(number)), &mut tallies)?;
+    }
+    Ok(tallies)
+}
+
+// Puts the Start of a block; where it is placed the pass has the block's body.
+pub fn begin<J: Job + Drop, H: Handler + Drop>(
+    board: &Board<J, H>,
+    pass: &mut Pass<J, H>,
+    b: Blk,
+) -> Result<u32, Put>
+    requires pass { IsPassOf (shape_of H.kind H.times H.total) (gives_of J.gives) board.now pass.old }
+    requires first { AreFirst (shape_of H.kind H.times H.total) (terms_of board.now).plan (terms_of board.now).cells }
+    ensures pass { IsPassOf (shape_of H.kind H.times H.total) (gives_of J.gives) board.now pass.new }
+    ensures numbers { HasSameNumbers (view pass.old) (view pass.new) }
+    ensures run { IfOk result (λ _. held_run (view pass.new) ≡ Some (Block b)) }
+    ensures body { IfOk result (λ _. (job : J) × (slots pass.new ≡ (b.0, Body job) ∷ [])) }
+{
+    let worker = pass.worker();
+    match board.put(pass, Event::Start { worker, blk: b }) {
+        Put::Placed(n) => Ok(n),
+        other => Err(other),
+    }
+}
+
+// Makes an act of the run that the pass holds, if the act does not park.
+pub fn act<J: Job + Drop, H: Handler + Drop>(
+    board: &Board<J, H>,
+    pass: &mut Pass<J, H>,
+    run: Run,
+    index: u32,
+) -> Option<Put>
+    requires pass { IsPassOf (shape_of H.kind H.times H.total) (gives_of J.gives) board.now pass.old }
+    ensures pass { IsPassOf (shape_of H.kind H.times H.total) (gives_of J.gives) board.now pass.new }
+    ensures numbers { HasSameNumbers (view pass.old) (view pass.new) }
+    ensures run { held_run (view pass.new) ≡ held_run (view pass.old) }
+    ensures slots { slots pass.new ≡ slots pass.old }
+{
+    let worker = pass.worker();
+    let event = Event::Act { worker, run, index };
+    if pass.machine.parks(event) {
+        return None;
+    }
+    Some(board.put(pass, event))
+}
+
+// Runs the body that the pass has, and lays down its value.
+pub fn run_body<J: Job + Drop, H: Handler + Drop>(
+    board: &Board<J, H>,
+    pass: &mut Pass<J, H>,
+    b: Blk,
+) -> u64
+    requires pass { IsPassOf (shape_of H.kind H.times H.total) (gives_of J.gives) board.now pass.old }
+    requires run { held_run (view pass.old) ≡ Some (Block b) }
+    requires body { (job : J) × (slots pass.old ≡ (b.0, Body job) ∷ []) }
+    ensures pass { IsPassOf (shape_of H.kind H.times H.total) (gives_of J.gives) board.now pass.new }
+    ensures numbers { HasSameNumbers (view pass.old) (view pass.new) }
+    ensures run { held_run (view pass.new) ≡ Some (Block b) }
+    ensures done { slots pass.new ≡ (b.0, Done result) ∷ [] }
+{
+    let value = board.take_body(pass, b).run(0);
+    board.give_done(pass, b, value);
+    value
+}
+
+// Puts the End of a block whose value lies in the slot.
+pub fn end<J: Job + Drop, H: Handler + Drop>(
+    board: &Board<J, H>,
+    pass: &mut Pass<J, H>,
+    b: Blk,
+    value: u64,
+) -> Put
+    requires pass { IsPassOf (shape_of H.kind H.times H.total) (gives_of J.gives) board.now pass.old }
+    requires done { slots pass.old ≡ (b.0, Done value) ∷ [] }
+    ensures pass { IsPassOf (shape_of H.kind H.times H.total) (gives_of J.gives) board.now pass.new }
+    ensures numbers { HasSameNumbers (view pass.old) (view pass.new) }
+{
+    let worker = pass.worker();
+    board.put(pass, Event::End { worker, blk: b })
+}

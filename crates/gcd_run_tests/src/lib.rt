@@ -1,0 +1,5 @@
+//! Tests of `gcd_run` through its public face, in a crate of their own: so its proof is not made again with them.
+#![tactic(auto)]
+
+#[cfg(test)]
+mod tests;

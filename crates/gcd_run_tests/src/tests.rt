@@ -1,0 +1,255 @@
+ghost use Rattle.std.specs.Prelude.{◌≡◌, ℕ, false, IfOk};
+
+mod cases;
+mod hostile;
+mod journals;
+mod limits;
+mod memory;
+mod outside;
+mod subjects;
+mod teams;
+
+use cases::{BLOCKS, COMMANDS, Case, FAULTS, REFUSALS, RUN, SOURCES, TARGETS_AND_GROUPS};
+use gcd_outer::{JumpClock, ListPoller, MapShelf, Poller, Tell, Told, VecSink};
+use gcd_run::gcd_main;
+use hostile::{FAILURES, MALFORMED};
+use journals::{FORGED, NO_JOURNALS, TREES};
+use std::alloc::{AllocError, Global};
+use std::process::Abort;
+use std::sync::Wait;
+use std::test::Fail;
+use std::thread::Threads;
+use subjects::{CALLS_AND_TARGETS, REFERENCES_AND_WAITS, SOURCES_AND_FEEDS};
+use teams::end_alike;
+
+fn answer(feed: u32, bytes: u32, ended: bool) -> Told {
+    let mut told = Told::new();
+    told.push(Tell { feed, bytes, ended });
+    told
+}
+
+fn answers_of(alloc: Global, feed: &[(u32, bool)]) -> Result<Vec<Told>, AllocError> {
+    let mut answers = Vec::new(alloc);
+    for (bytes, ended) in feed {
+        answers.push(answer(1, *bytes, *ended))?;
+    }
+    Ok(answers)
+}
+
+fn poller_of(alloc: Global, case: &Case) -> Result<ListPoller, AllocError>
+    ensures unwatched { IfOk result (λ p. (feed : ℕ) → (⟦<ListPoller as Poller>⟧.state p).watched feed ≡ false) }
+{
+    let mut poller = ListPoller::new(alloc, answers_of(alloc, case.feed)?, 4, 100)?;
+    if let Some(watch) = case.failing_watch {
+        poller.fail_watch(watch)?;
+    }
+    if let Some(poll) = case.failing_poll {
+        poller.fail_poll(poll)?;
+    }
+    if let Some(listen) = case.failing_listen {
+        poller.fail_listen(listen)?;
+    }
+    Ok(poller)
+}
+
+fn shelf_of(alloc: Global, case: &Case, script: &[u8]) -> Result<MapShelf, AllocError> {
+    let mut shelf = MapShelf::new(alloc);
+    shelf.put("s", script)?;
+    shelf.put("j", case.journal.as_bytes())?;
+    shelf.put("log.txt", b"a\nbb\nccc\n")?;
+    shelf.put("e", b"")?;
+    shelf.put("f.txt", b"a\n")?;
+    if let Some(load) = case.failing_load {
+        shelf.fail(load)?;
+    }
+    Ok(shelf)
+}
+
+// The call is answered as it should be, where the shelf holds what it holds.
+fn answers_from(
+    rt: &(impl Abort + Threads + Wait + Sync),
+    alloc: Global,
+    case: &Case,
+    shelf: &mut MapShelf,
+) -> Result<(), Fail> {
+    let mut out = VecSink::new(alloc, 1_000_000, case.piece.max(1))?;
+    if let Some(write) = case.failing_write {
+        out.fail(write)?;
+    }
+    let mut poller = poller_of(alloc, case)?;
+    let mut clock = JumpClock::new(case.step);
+    let ended = gcd_main(
+        rt,
+        alloc,
+        case.words,
+        shelf,
+        &mut out,
+        &mut poller,
+        &mut clock,
+    );
+    let what = case.what;
+    assert!(rt; ended.status == case.status.code(), "{what}");
+    assert!(rt; ended.at == case.at, "{what}");
+    if let Some(events) = case.events {
+        assert!(rt; ended.journal.len() == events, "{what}");
+    }
+    assert!(rt; out.bytes() == case.text.as_bytes(), "{what}");
+    Ok(())
+}
+
+fn is_answered(
+    rt: &(impl Abort + Threads + Wait + Sync),
+    alloc: Global,
+    case: &Case,
+    script: &[u8],
+) -> Result<(), Fail> {
+    let mut shelf = shelf_of(alloc, case, script)?;
+    answers_from(rt, alloc, case, &mut shelf)
+}
+
+fn are_answered(
+    rt: &(impl Abort + Threads + Wait + Sync),
+    alloc: Global,
+    cases: &[Case],
+) -> Result<(), Fail> {
+    for case in cases {
+        is_answered(rt, alloc, case, case.script.as_bytes())?;
+    }
+    Ok(())
+}
+
+#[test]
+fn runs_blocks(rt: HostRuntime) -> Result<(), Fail> {
+    are_answered(&rt, rt.alloc(), &BLOCKS)
+}
+
+#[test]
+fn runs_targets_and_groups(rt: HostRuntime) -> Result<(), Fail> {
+    are_answered(&rt, rt.alloc(), &TARGETS_AND_GROUPS)
+}
+
+#[test]
+fn calls_and_targets_follow_the_pages(rt: HostRuntime) -> Result<(), Fail> {
+    are_answered(&rt, rt.alloc(), &CALLS_AND_TARGETS)
+}
+
+#[test]
+fn references_and_waits_follow_the_pages(rt: HostRuntime) -> Result<(), Fail> {
+    are_answered(&rt, rt.alloc(), &REFERENCES_AND_WAITS)
+}
+
+#[test]
+fn sources_and_feeds_follow_the_pages(rt: HostRuntime) -> Result<(), Fail> {
+    are_answered(&rt, rt.alloc(), &SOURCES_AND_FEEDS)
+}
+
+#[test]
+fn runs_sources(rt: HostRuntime) -> Result<(), Fail> {
+    are_answered(&rt, rt.alloc(), &SOURCES)
+}
+
+#[test]
+fn each_failure_has_its_status(rt: HostRuntime) -> Result<(), Fail> {
+    are_answered(&rt, rt.alloc(), &FAILURES)
+}
+
+#[test]
+fn malformed_lines_are_named(rt: HostRuntime) -> Result<(), Fail> {
+    are_answered(&rt, rt.alloc(), &MALFORMED)
+}
+
+#[test]
+fn refuses_scripts(rt: HostRuntime) -> Result<(), Fail> {
+    are_answered(&rt, rt.alloc(), &REFUSALS)
+}
+
+#[test]
+fn tells_faults(rt: HostRuntime) -> Result<(), Fail> {
+    are_answered(&rt, rt.alloc(), &FAULTS)
+}
+
+#[test]
+fn judges_journals_and_runs_the_large_script(rt: HostRuntime) -> Result<(), Fail> {
+    are_answered(&rt, rt.alloc(), &COMMANDS)
+}
+
+#[test]
+fn judges_forged_journals(rt: HostRuntime) -> Result<(), Fail> {
+    are_answered(&rt, rt.alloc(), &FORGED)
+}
+
+#[test]
+fn refuses_what_is_no_journal(rt: HostRuntime) -> Result<(), Fail> {
+    are_answered(&rt, rt.alloc(), &NO_JOURNALS)
+}
+
+#[test]
+fn judges_journals_of_trees(rt: HostRuntime) -> Result<(), Fail> {
+    are_answered(&rt, rt.alloc(), &TREES)
+}
+
+// A feed that becomes live while another is silent is heard: the empty answers before it do not count against it.
+const LATE_FEED: Case = Case {
+    what: "a feed that becomes live late",
+    script: "until 500\nsource r read d on root\nsource s read d on root\nsource t timer 500 500 on root\nhandler t\nactivate s\nmain\nactivate r\nactivate t",
+    step: 1,
+    text: "r received 0 in 0 pending 0\ns received 0 in 0 pending 5\nt received 1 in 1 pending 0\ndrained\n",
+    ..RUN
+};
+
+// So many empty answers, and then what the second object's feed tells.
+fn late_answers(alloc: Global) -> Result<Vec<Told>, AllocError> {
+    let mut answers = Vec::new(alloc);
+    for _ in 0..1_200 {
+        answers.push(Told::new())?;
+    }
+    answers.push(answer(2, 5, true))?;
+    Ok(answers)
+}
+
+#[test]
+fn a_feed_that_becomes_live_late_is_heard(rt: HostRuntime) -> Result<(), Fail> {
+    let mut out = VecSink::new(rt.alloc(), 1_000, 1_000)?;
+    let mut shelf = shelf_of(rt.alloc(), &LATE_FEED, LATE_FEED.script.as_bytes())?;
+    let mut poller = ListPoller::new(rt.alloc(), late_answers(rt.alloc())?, 4, 100)?;
+    let mut clock = JumpClock::new(LATE_FEED.step);
+    let ended = gcd_main(
+        &rt,
+        rt.alloc(),
+        LATE_FEED.words,
+        &mut shelf,
+        &mut out,
+        &mut poller,
+        &mut clock,
+    );
+    assert!(rt; ended.status == LATE_FEED.status.code());
+    assert!(rt; out.bytes() == LATE_FEED.text.as_bytes());
+    Ok(())
+}
+
+#[test]
+fn teams_run_blocks(rt: HostRuntime) -> Result<(), Fail> {
+    end_alike(&rt, rt.alloc(), &BLOCKS)
+}
+
+#[test]
+fn teams_run_targets_and_groups(rt: HostRuntime) -> Result<(), Fail> {
+    end_alike(&rt, rt.alloc(), &TARGETS_AND_GROUPS)
+}
+
+#[test]
+fn teams_follow_the_pages(rt: HostRuntime) -> Result<(), Fail> {
+    end_alike(&rt, rt.alloc(), &CALLS_AND_TARGETS)?;
+    end_alike(&rt, rt.alloc(), &REFERENCES_AND_WAITS)
+}
+
+#[test]
+fn teams_run_sources_and_feeds(rt: HostRuntime) -> Result<(), Fail> {
+    end_alike(&rt, rt.alloc(), &SOURCES)?;
+    end_alike(&rt, rt.alloc(), &SOURCES_AND_FEEDS)
+}
+
+#[test]
+fn teams_meet_each_misuse(rt: HostRuntime) -> Result<(), Fail> {
+    end_alike(&rt, rt.alloc(), &REFUSALS)
+}

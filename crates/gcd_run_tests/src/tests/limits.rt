@@ -1,0 +1,188 @@
+// Calls at the limits, and one past each.
+
+use super::cases::{Case, RUN};
+use super::journals::LONGER;
+use super::{answers_from, is_answered};
+use gcd_outer::MapShelf;
+use gcd_run::Status;
+use std::alloc::{AllocError, Global};
+use std::test::Fail;
+
+// So many times a line, after a first part.
+fn repeated(alloc: Global, first: &str, line: &str, count: u32) -> Result<String, AllocError> {
+    let mut script = String::from_str(alloc, first)?;
+    for _ in 0..count {
+        script.push_str(line)?;
+    }
+    Ok(script)
+}
+
+const LONG: Case = Case {
+    what: "as many events as a run may have",
+    events: Some(65_535),
+    ..RUN
+};
+
+const FULL: Case = Case {
+    what: "one event more",
+    status: Status::Full,
+    events: Some(65_535),
+    text: "full\n",
+    ..RUN
+};
+
+const TOO_LONG: Case = Case {
+    what: "one act more than there may be",
+    status: Status::ScriptRefused,
+    at: Some((65_538, 8)),
+    events: Some(0),
+    text: "script refused: line 65538 code 8\n",
+    ..RUN
+};
+
+const MAIN_AND_FEEDS: Case = Case {
+    what: "a script as long as its limit",
+    events: Some(2),
+    ..RUN
+};
+
+const SCRIPT_TOO_LONG: Case = Case {
+    what: "a script longer than its limit",
+    status: Status::ScriptRefused,
+    at: Some((0, 8)),
+    events: Some(0),
+    text: "script refused: line 0 code 8\n",
+    ..RUN
+};
+
+const LONG_FILE: Case = Case {
+    what: "a file as long as its limit",
+    script: "file f p\nmain",
+    events: Some(2),
+    ..RUN
+};
+
+const FILE_TOO_LONG: Case = Case {
+    what: "a file longer than its limit",
+    script: "file f p\nmain",
+    status: Status::ScriptRefused,
+    at: Some((1, 8)),
+    events: Some(0),
+    text: "script refused: line 1 code 8\n",
+    ..RUN
+};
+
+const MANY_BLOCKS: Case = Case {
+    what: "as many blocks as there may be",
+    events: Some(2),
+    ..RUN
+};
+
+const BLOCK_TOO_MANY: Case = Case {
+    what: "one block more than there may be",
+    status: Status::ScriptRefused,
+    at: Some((16_385, 8)),
+    events: Some(0),
+    text: "script refused: line 16385 code 8\n",
+    ..RUN
+};
+
+const MANY_GROUPS: Case = Case {
+    what: "as many objects as there may be",
+    events: Some(2),
+    ..RUN
+};
+
+const GROUP_TOO_MANY: Case = Case {
+    what: "one object more than there may be",
+    status: Status::ScriptRefused,
+    at: Some((1_024, 8)),
+    events: Some(0),
+    text: "script refused: line 1024 code 8\n",
+    ..RUN
+};
+
+const MANY_FILES: Case = Case {
+    what: "as many files as there may be",
+    events: Some(2),
+    ..RUN
+};
+
+const FILE_TOO_MANY: Case = Case {
+    what: "one file more than there may be",
+    status: Status::ScriptRefused,
+    at: Some((65, 8)),
+    events: Some(0),
+    text: "script refused: line 65 code 8\n",
+    ..RUN
+};
+
+// So many declarations, whose names end in a number, and `main`.
+fn declarations(alloc: Global, line: &str, path: &str, count: u32) -> Result<String, AllocError> {
+    let mut script = String::new(alloc);
+    for k in 0..count {
+        script.push_str(format!(in alloc; "{line}{k}{path}\n")?.as_str())?;
+    }
+    script.push_str("main\n")?;
+    Ok(script)
+}
+
+#[test]
+fn keeps_to_the_limits(rt: HostRuntime) -> Result<(), Fail> {
+    for (first, line, count, case) in [
+        ("semaphore s 0\nmain\n", "signal s\n", 65_533, LONG),
+        ("semaphore s 0\nmain\n", "signal s\n", 65_534, FULL),
+        ("queue q serial\nmain\n", "activate q\n", 65_534, FULL),
+        ("semaphore s 0\nmain\n", "signal s\n", 65_536, TOO_LONG),
+    ] {
+        let script = repeated(rt.alloc(), first, line, count)?;
+        is_answered(&rt, rt.alloc(), &case, script.as_bytes())?;
+    }
+    for (line, path, count, case) in [
+        ("block b", "", 16_384, MANY_BLOCKS),
+        ("block b", "", 16_385, BLOCK_TOO_MANY),
+        ("group g", "", 1_023, MANY_GROUPS),
+        ("group g", "", 1_024, GROUP_TOO_MANY),
+        ("file f", " e", 64, MANY_FILES),
+        ("file f", " e", 65, FILE_TOO_MANY),
+    ] {
+        let script = declarations(rt.alloc(), line, path, count)?;
+        is_answered(&rt, rt.alloc(), &case, script.as_bytes())?;
+    }
+    Ok(())
+}
+
+// `main` and then line feeds, up to so many bytes.
+fn feeds(alloc: Global, bytes: usize) -> Result<Vec<u8>, AllocError> {
+    let mut script = Vec::from_slice(alloc, b"main\n")?;
+    script.resize(bytes, b'\n')?;
+    Ok(script)
+}
+
+#[test]
+fn a_script_has_a_mebibyte_at_most(rt: HostRuntime) -> Result<(), Fail> {
+    for (bytes, case) in [(1_048_576, MAIN_AND_FEEDS), (1_048_577, SCRIPT_TOO_LONG)] {
+        let script = feeds(rt.alloc(), bytes)?;
+        is_answered(&rt, rt.alloc(), &case, &script)?;
+    }
+    Ok(())
+}
+
+#[test]
+fn a_journal_has_sixteen_mebibytes_at_most(rt: HostRuntime) -> Result<(), Fail> {
+    let mut shelf = MapShelf::new(rt.alloc());
+    shelf.put("s", LONGER.script.as_bytes())?;
+    shelf.put("j", &vec![in rt.alloc(); b' '; 16_777_217]?)?;
+    answers_from(&rt, rt.alloc(), &LONGER, &mut shelf)
+}
+
+#[test]
+fn a_file_has_sixteen_mebibytes_at_most(rt: HostRuntime) -> Result<(), Fail> {
+    for (bytes, case) in [(16_777_216, LONG_FILE), (16_777_217, FILE_TOO_LONG)] {
+        let mut shelf = MapShelf::new(rt.alloc());
+        shelf.put("s", case.script.as_bytes())?;
+        shelf.put("p", &vec![in rt.alloc(); 0; bytes]?)?;
+        answers_from(&rt, rt.alloc(), &case, &mut shelf)?;
+    }
+    Ok(())
+}

@@ -1,5 +1,0 @@
-use Rattle.gcd_steal.specs.Racks.{IsBenchOf}
-use Rattle.gcd_steal.proofs.tests.moving.empty.Given as goal
-
-abbrev pub invariant-loop : goal.invariant-loop
-invariant-loop l = IsBenchOf l.rack l.bench

@@ -1,3 +1,0 @@
-mod moving;
-mod plans;
-mod serial;
