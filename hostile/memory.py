@@ -83,8 +83,8 @@ def try_test(part, tests, name):
 
 
 def built_tests():
-    """The proved tests of gcd_run, which are built where they are not there."""
-    tests = TOP / "crates/gcd_run/out/gcd_run_tests"
+    """The proved tests of gcd_run, from gcd_run_tests, which are built where they are not there."""
+    tests = TOP / "crates/gcd_run_tests/out/gcd_run_tests_tests"
     if not tests.exists() and subprocess.run(["rt", "test"], cwd=tests.parent.parent, stdout=sys.stderr).returncode:
         sys.exit(70)
     return tests
