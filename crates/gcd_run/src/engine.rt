@@ -7,12 +7,20 @@ ghost use Rattle.gcd_machine.specs.Stands.{StandsFor};
 ghost use Rattle.gcd_run.specs.Calls.{seen_by};
 ghost use Rattle.gcd_run.specs.Runs.{Ran};
 
+use gcd_event::Event;
 use gcd_outer::{Clock, Poller};
 use gcd_plan::Plan;
 use gcd_workers::{Worked, run_single, run_workers};
 use std::alloc::{AllocError, Global};
 use std::sync::Wait;
 use std::thread::Threads;
+
+/// The journal of a run, of which no more is kept.
+pub fn journal_of(run: Worked) -> Vec<Event>
+    ensures { result.items ≡ run.journal.items }
+{
+    run.journal
+}
 
 /// Runs the plan over its files by so many workers: one is worker 0 alone, more are a team. An `Err` comes of want of memory.
 pub fn run_by<R: Threads + Wait + Sync, P: Poller, C: Clock>(

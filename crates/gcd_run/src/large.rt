@@ -11,7 +11,7 @@ ghost use Rattle.gcd_run.specs.End.{large_file, ran_end};
 ghost use Rattle.gcd_run.specs.Runs.{BigEnds, IsLargeScript};
 ghost use Rattle.gcd_run.specs.Stories.{end_of};
 
-use crate::engine::run_by;
+use crate::engine::{journal_of, run_by};
 use crate::story::{Story, bytes_of};
 use gcd_journal::write_last_line;
 use gcd_outer::{Clock, Poller};
@@ -70,11 +70,7 @@ fn total(values: &[u64]) -> u128
     requires { length values.now ≤ max_blocks }
     ensures { result ≡ sum values.now }
 {
-    let mut total = 0;
-    for value in values {
-        total += u128::from(*value);
-    }
-    total
+    values.iter().map(|value| u128::from(*value)).sum()
 }
 
 // `blocks N` and `total S`, and then the report's last line.
@@ -98,8 +94,9 @@ fn story_of(alloc: Global, plan: &Plan, run: Worked, count: u16) -> Result<Story
     ensures { IfOk result (λ s. end_of s ≡ ran_end run.state run.journal.items (codes "blocks " ++ (decimal count ++ (line_end
         ++ (codes "total " ++ (decimal (sum run.values.items) ++ (line_end ++ last_line plan.now run.state run.journal.items))))))) }
 {
-    let text = text_of(alloc, plan, &run, count)?;
-    Ok(Story::ran(run.state, run.journal, text))
+    let text = text_of(alloc, plan, &run, count);
+    let state = run.state;
+    Story::ran(state, journal_of(run), text)
 }
 
 /// `big N`: the large script is made and read, and its plan runs over files that are made too. An `Err` comes of want of

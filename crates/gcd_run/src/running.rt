@@ -15,7 +15,7 @@ ghost use Rattle.gcd_run.specs.Runs.{RunCalls, RunEnds, StopsRun, TellsRun};
 ghost use Rattle.gcd_run.specs.Stories.{end_of};
 ghost use Rattle.gcd_words.specs.Requests.{run_asked};
 
-use crate::engine::run_by;
+use crate::engine::{journal_of, run_by};
 use crate::load::load_all;
 use crate::stop::Stop;
 use crate::story::Story;
@@ -107,8 +107,9 @@ fn story_of(
         → ((b : ℕ) → is_ended run.journal.items b ≡ true → slice_get run.values.items b ≡ Some (value_of plan.now contents b))
         → IfOk result (λ s. end_of s ≡ ran_end run.state run.journal.items (run_text with_journal plan.now contents run.state run.journal.items)) }
 {
-    let text = text_of(alloc, plan, &run, with_journal)?;
-    Ok(Story::ran(run.state, run.journal, text))
+    let text = text_of(alloc, plan, &run, with_journal);
+    let state = run.state;
+    Story::ran(state, journal_of(run), text)
 }
 
 // The plan runs over its files. An `Err` comes of want of memory.

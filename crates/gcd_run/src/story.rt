@@ -1,5 +1,5 @@
 // How a call ends.
-ghost use Rattle.std.specs.Prelude.{◌≡◌, Some, IfOk};
+ghost use Rattle.std.specs.Prelude.{◌≡◌, ℕ, List, Some, IfOk};
 ghost use Rattle.gcd_run.specs.End.{state_word};
 
 use crate::status::Status;
@@ -104,16 +104,20 @@ impl Story {
         }
     }
 
-    /// A run that has come to this state, with what is told of it.
-    pub fn ran(state: State, journal: Vec<Event>, text: Vec<u8>) -> Self
-        ensures { end_of result ≡ ran_end state journal.items text.items }
+    /// A run that has come to this state, with what is told of it, where memory sufficed for that.
+    pub fn ran(
+        state: State,
+        journal: Vec<Event>,
+        text: Result<Vec<u8>, AllocError>,
+    ) -> Result<Self, AllocError>
+        ensures { (told : List ℕ) → IfOk text (λ t. t.items ≡ told) → IfOk result (λ s. end_of s ≡ ran_end state journal.items told) }
     {
-        Story {
+        Ok(Story {
             status: Status::of(state),
             journal,
             at: None,
-            text,
-        }
+            text: text?,
+        })
     }
 
     /// A journal whose events are lawful and have come to this state.
