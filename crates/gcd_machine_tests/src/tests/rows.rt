@@ -22,11 +22,11 @@ pub const B3: Blk = Blk(3);
 
 pub const MAIN: Run = Run::Block(Blk(0));
 
-pub const R1: Run = Run::Block(B1);
+pub const RUN1: Run = Run::Block(B1);
 
-pub const R2: Run = Run::Block(B2);
+pub const RUN2: Run = Run::Block(B2);
 
-pub const R3: Run = Run::Block(B3);
+pub const RUN3: Run = Run::Block(B3);
 
 pub const S1: Run = Run::Source(O1);
 
@@ -103,7 +103,7 @@ pub const PLAIN: Row = Row {
 pub const OWN_CALL: Row = Row {
     what: "a synchronous call on the own queue",
     blocks: 2,
-    acts: &[(R2, Act::Sync(O1, B1)), (MAIN, Act::Async(O1, B2))],
+    acts: &[(RUN2, Act::Sync(O1, B1)), (MAIN, Act::Async(O1, B2))],
     journal: "start 0 b0; act 0 b0 0; end 0 b0; start 0 b2; act 0 b2 0; ",
     state: State::Stuck,
     awaited: Some(Reason::Block(B1)),
@@ -124,7 +124,7 @@ pub static ROWS: [Row; 35] = [
         objects: &[(Kind::Serial, ROOT), (Kind::Serial, ROOT)],
         blocks: 3,
         acts: &[
-            (R2, Act::Sync(O2, B1)),
+            (RUN2, Act::Sync(O2, B1)),
             (MAIN, Act::Async(O1, B2)),
             (MAIN, Act::Async(O1, B3)),
         ],
@@ -136,7 +136,7 @@ pub static ROWS: [Row; 35] = [
         objects: &[(Kind::Serial, ROOT), (Kind::Serial, O1), (Kind::Serial, O1)],
         blocks: 3,
         acts: &[
-            (R2, Act::Sync(O3, B1)),
+            (RUN2, Act::Sync(O3, B1)),
             (MAIN, Act::Async(O2, B2)),
             (MAIN, Act::Async(O2, B3)),
         ],
@@ -229,7 +229,7 @@ pub static ROWS: [Row; 35] = [
         what: "a block suspends its own queue",
         blocks: 2,
         acts: &[
-            (R1, Act::Suspend(O1)),
+            (RUN1, Act::Suspend(O1)),
             (MAIN, Act::Async(O1, B1)),
             (MAIN, Act::Async(O1, B2)),
         ],
@@ -257,7 +257,7 @@ pub static ROWS: [Row; 35] = [
         objects: &[(Kind::Serial, ROOT), (Kind::Serial, ROOT)],
         blocks: 3,
         acts: &[
-            (R1, Act::Target(O2, O1)),
+            (RUN1, Act::Target(O2, O1)),
             (MAIN, Act::Async(O2, B1)),
             (MAIN, Act::Async(O2, B2)),
             (MAIN, Act::Async(O1, B3)),
@@ -270,7 +270,7 @@ pub static ROWS: [Row; 35] = [
         objects: &[(Kind::Serial, ROOT), (Kind::Serial, ROOT)],
         blocks: 3,
         acts: &[
-            (R1, Act::Target(O2, O1)),
+            (RUN1, Act::Target(O2, O1)),
             (MAIN, Act::Async(O2, B1)),
             (MAIN, Act::Async(O2, B2)),
             (MAIN, Act::Async(O1, B3)),
@@ -364,9 +364,9 @@ pub static ROWS: [Row; 35] = [
         ],
         blocks: 3,
         acts: &[
-            (R1, Act::Wait(O1)),
-            (R2, Act::Wait(O1)),
-            (R3, Act::Wait(O1)),
+            (RUN1, Act::Wait(O1)),
+            (RUN2, Act::Wait(O1)),
+            (RUN3, Act::Wait(O1)),
             (MAIN, Act::Async(O2, B1)),
             (MAIN, Act::Async(O3, B2)),
             (MAIN, Act::Async(O4, B3)),
