@@ -7,7 +7,7 @@ use Rattle.gcd_plan.specs.PlanView.{PlanView}
 use Rattle.gcd_plan.specs.Kinds.{has_kind, is_read_kind}
 use Rattle.gcd_event.specs.declared.event.Event.{Event}
 use Rattle.gcd_event.specs.declared.event.Event.TheVariants.{Ready, FeedEnd}
-use Rattle.gcd_history.specs.Holds.{is_active, activates}
+use Rattle.gcd_history.specs.Holds.{is_active}
 use Rattle.gcd_history.specs.Submitted.{is_cancelled, cancels}
 use Rattle.gcd_history.specs.Sources.{is_live_feed}
 use Rattle.gcd_history.specs.Permitted.{IsLawful, is_halted, why}

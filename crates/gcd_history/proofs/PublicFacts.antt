@@ -1,5 +1,5 @@
 -- The facts over histories in order, from those by recursion.
-use Rattle.std.proofs.Common.{◌≡◌, ℕ, true, false, List, [], ◌∷◌, ◌++◌, reverse, take, Some, is_some, is_none, ap, sym, ◌∙◌, subst, ◌||◌, ⊎_elim, Bool}
+use Rattle.std.proofs.Common.{◌≡◌, ℕ, true, false, List, [], ◌∷◌, ◌++◌, reverse, take, Some, is_some, is_none, ap, sym, ◌∙◌, subst, ◌||◌, ⊎_elim}
 use Rattle.std.specs.Option.{option_map_or}
 use Rattle.std.proofs.lemmas.Bool.{and_parts, lt-ltb, false_from_ne_true, or_left, or_cases}
 use Rattle.std.proofs.lemmas.List.{reverse-append, append-nil, reverse-reverse}

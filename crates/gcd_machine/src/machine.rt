@@ -16,9 +16,16 @@ use std::alloc::{AllocError, Global};
 use std::marker::Model;
 
 /// A queue machine: it stands for a plan and each history that has led to it, and tells what may come next.
-#[derive(Debug, Drop)]
+#[derive(Debug)]
 pub struct Machine {
     registers: Registers,
+}
+
+// One call drops all that a machine keeps: so a crate that drops machines proves nothing of their parts.
+impl Drop for Machine {
+    fn drop(self) {
+        let Machine { registers: _ } = self;
+    }
 }
 
 impl Model for Machine {

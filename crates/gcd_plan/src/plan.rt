@@ -16,9 +16,16 @@ use std::marker::Model;
 
 /// A valid plan: its kinds and ranges fit, its names are apart, each block is submitted at most once, and its targets
 /// lead to `root`. Contracts see it as the plain lists of its parts (`PlanView`).
-#[derive(Debug, Drop)]
+#[derive(Debug)]
 pub struct Plan {
     held: Held,
+}
+
+// One call drops all that a plan holds: so a crate that drops plans proves nothing of their parts.
+impl Drop for Plan {
+    fn drop(self) {
+        let Plan { held: _ } = self;
+    }
 }
 
 impl Model for Plan {
@@ -193,8 +200,9 @@ impl Plan {
     pub fn share(self, alloc: Global) -> Result<Plan, AllocError>
         ensures { IfOk result (λ p. p ≡ self) }
     {
+        let Plan { held } = self;
         Ok(Plan {
-            held: self.held.share(alloc)?,
+            held: held.share(alloc)?,
         })
     }
 

@@ -232,6 +232,19 @@ fn go_round<R: Threads + Wait + Sync, J: Job + Drop + Send, H: Handler + Drop, P
     unreachable!()
 }
 
+// What is left of a run, whether or not memory sufficed for it.
+fn end_of<J: Drop, H: Drop>(run: Running<J, H>) -> RoundsEnd<H>
+    ensures journal { result.journal ≡ run.journal }
+    ensures values { result.values ≡ run.values }
+    ensures handlers { result.handlers ≡ run.handlers }
+{
+    RoundsEnd {
+        journal: run.journal,
+        values: run.values,
+        handlers: run.handlers,
+    }
+}
+
 // The run of the plan, where memory suffices.
 fn ran<R: Threads + Wait + Sync, J: Job + Drop + Send, H: Handler + Drop, P: Poller, C: Clock>(
     rt: &R,
@@ -258,12 +271,10 @@ fn ran<R: Threads + Wait + Sync, J: Job + Drop + Send, H: Handler + Drop, P: Pol
 {
     let mut run = Running::new(alloc, plan, jobs, handlers, workers)?;
     let mut outlook = Outlook::new(clock);
-    go_round(rt, alloc, &mut run, &mut outlook, plan, poller, clock)?;
-    Ok(RoundsEnd {
-        journal: run.journal,
-        values: run.values,
-        handlers: run.handlers,
-    })
+    let gone = go_round(rt, alloc, &mut run, &mut outlook, plan, poller, clock);
+    let end = end_of(run);
+    gone?;
+    Ok(end)
 }
 
 /// Runs the plan by so many workers, round after round, until the run is quiescent, halted or full (this project's own rule).

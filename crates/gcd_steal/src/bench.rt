@@ -8,7 +8,6 @@ use crate::tokens::Tokens;
 
 /// What the workers of a run share: a sleeping place for each node of the plan, and a way to steal from each bench (this
 /// project's own rule). Threads share it by `&`.
-#[derive(Drop)]
 pub struct Rack {
     pub(crate) tokens: Tokens,
     pub(crate) places: Places,
@@ -20,9 +19,19 @@ pub struct Rack {
     ghost sized: { places.shared.table_id.words ≡ places.shared.table_id.slots + 8 },
 }
 
+// One call drops all that a rack has: so a crate that drops racks proves nothing of its parts.
+impl Drop for Rack {
+    fn drop(self) {
+        let Rack {
+            tokens: _,
+            places: _,
+            thieves: _,
+        } = self;
+    }
+}
+
 /// What one worker has: its deque, and what it needs to wake, to sleep and to steal (this project's own rule). It may go to
 /// a thread of its own.
-#[derive(Drop)]
 pub struct Bench {
     pub(crate) deque: Deque,
     pub(crate) number: u8,
@@ -31,4 +40,16 @@ pub struct Bench {
     // One of each bench's deque, by number. Its own is not used.
     pub(crate) passes: Vec<Pass>,
     ghost idle: { seat.me.1 ≡ [] },
+}
+
+// The same for a bench.
+impl Drop for Bench {
+    fn drop(self) {
+        let Bench {
+            deque: _,
+            number: _,
+            seat: _,
+            passes: _,
+        } = self;
+    }
 }

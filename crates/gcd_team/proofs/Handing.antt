@@ -1,13 +1,11 @@
 -- What an event does to the cells of runs: a body waits for its end, and a handler for its Deliver.
-use Rattle.std.proofs.Common.{◌≡◌, ℕ, ◌+◌, Bool, true, false, not, ◌&&◌, ◌||◌, cond, ◌==◌, List, [], ◌∷◌, ◌++◌, reverse, Some, None, refl, ap, sym, ◌∙◌, arith}
+use Rattle.std.proofs.Common.{◌≡◌, ℕ, ◌+◌, true, false, ◌||◌, cond, List, [], ◌∷◌, ◌++◌, reverse, Some, None, refl, ap, sym, ◌∙◌, arith}
 use Rattle.std.specs.List.{list_any}
 use Rattle.std.specs.Option.{option_map_or}
-use Rattle.std.proofs.lemmas.Bool.{eqb-true, eq-eqb, and_parts, or_left, or_right, both_ways, false_from_ne_true}
-use Rattle.std.proofs.lemmas.List.{reverse-append}
+use Rattle.std.proofs.lemmas.Bool.{eqb-true, eq-eqb, both_ways, false_from_ne_true}
 use Rattle.std.proofs.lemmas.List.Sums.{fold_push}
 use Rattle.gcd_plan.proofs.Sums.{count_by-cons}
 use Rattle.gcd_plan.specs.PlanView.{PlanView, kind_of}
-use Rattle.gcd_plan.specs.Kinds.{has_kind, is_read_kind}
 use Rattle.gcd_plan.specs.KindValues.{folded}
 use Rattle.gcd_plan.specs.Validity.{IsPlan}
 use Rattle.gcd_plan.specs.declared.numbers.Blk.{Blk}
@@ -17,8 +15,6 @@ use Rattle.gcd_event.specs.declared.event.Event.{Event}
 use Rattle.gcd_event.specs.declared.event.Event.TheVariants.{End, Deliver}
 use Rattle.gcd_history.specs.Runs.{ends, is_ended as is_ended_after}
 use Rattle.gcd_history.specs.Sources.{delivers, delivery_count, fold_of, handed, fold_at, received, last_data, pending, joined}
-use Rattle.gcd_history.specs.Submitted.{is_cancelled, cancels}
-use Rattle.gcd_history.specs.Holds.{is_active}
 use Rattle.gcd_history.specs.Permitted.{IsLawful as IsLawfulAfter}
 use Rattle.gcd_history.specs.History.{IsLawful, why, has_run, is_ended, delivery_count_of, received_of, last_data_of, pending_of, running_of}
 use Rattle.gcd_history.specs.Ends.{IsQuiescent}

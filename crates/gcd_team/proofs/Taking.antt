@@ -1,38 +1,28 @@
 -- What an event changes of who has a run: its worker takes a run that nobody had, gives one that it had, and whatever else is
 -- had stays so.
-use Rattle.std.proofs.Common.{◌≡◌, ℕ, ◌<◌, zero, suc, Bool, true, false, not, ◌&&◌, ◌||◌, cond, ◌==◌, List, ◌∷◌, length, Option, Some, None, is_some, is_none, refl, ap, sym, ◌∙◌, subst, arith}
-use Rattle.std.specs.List.{list_any}
+use Rattle.std.proofs.Common.{◌≡◌, ℕ, Bool, true, false, not, ◌&&◌, ◌||◌, cond, ◌==◌, List, ◌∷◌, Option, Some, None, is_some, is_none, refl, ap, sym, ◌∙◌, subst}
 use Rattle.std.specs.Option.{option_map_or}
-use Rattle.std.proofs.lemmas.Bool.{eqb-true, eq-eqb, and_parts, and_from, or_left, both_ways, false_from_ne_true}
+use Rattle.std.proofs.lemmas.Bool.{eqb-true, or_left, both_ways}
 use Rattle.std.proofs.lemmas.Option.{same_Some, none-some}
 use Rattle.gcd_plan.specs.PlanView.{PlanView}
-use Rattle.gcd_plan.specs.Kinds.{is_source, is_exclusive, is_exclusive_kind, is_source_kind}
-use Rattle.gcd_plan.specs.Chains.{chain_by, is_in}
 use Rattle.gcd_plan.specs.declared.act.Act.{Act}
 use Rattle.gcd_plan.specs.declared.act.Act.TheVariants.{Sync, BarrierSync, GroupWait, Wait}
-use Rattle.gcd_plan.specs.declared.kind.Kind.{Kind}
-use Rattle.gcd_plan.specs.declared.kind.Kind.TheVariants.{Serial}
 use Rattle.gcd_plan.specs.declared.numbers.Blk.{Blk}
 use Rattle.gcd_plan.specs.declared.numbers.Obj.{Obj}
 use Rattle.gcd_plan.specs.declared.numbers.Run.{Run}
 use Rattle.gcd_plan.specs.declared.numbers.Run.TheVariants.{Block, Source}
 use Rattle.gcd_event.specs.declared.event.Event.{Event}
 use Rattle.gcd_event.specs.declared.event.Event.TheVariants.{Start, Act as Acted, Wake, End, Deliver, DeliverEnd}
-use Rattle.gcd_history.specs.Runs.{same_run, open_runs, is_open, act_at, last_worker, is_started}
+use Rattle.gcd_history.specs.Runs.{same_run, is_open, act_at, last_worker, is_started}
 use Rattle.gcd_history.specs.Parked.{awaited_by, is_parking, parked_by, awaited, has_run, is_busy, is_parked}
-use Rattle.gcd_history.specs.Tree.{target, chain, chain_of_run, is_open_beneath}
-use Rattle.gcd_history.specs.Permitted.{IsLawful, is_worker}
+use Rattle.gcd_history.specs.Permitted.{IsLawful}
 use Rattle.gcd_history.specs.Choice.{worker_of}
 use Rattle.gcd_plan.proofs.Options.{some_from_is_some}
-use Rattle.gcd_history.proofs.OneRun.{is_last, run_facts, idle_has_none}
+use Rattle.gcd_history.proofs.OneRun.{is_last, run_facts}
 use Rattle.gcd_history.proofs.OpenOnce.{shut_at_deliver}
 use Rattle.gcd_history.proofs.RunsOpen.{same_run-true, same_run-refl, is_open-step}
-use Rattle.gcd_history.proofs.Reasons.{allowed, at_start, at_act, at_wake, at_end, at_deliver, at_deliver_end}
-use Rattle.gcd_history.proofs.OpenNodes.{any_open}
+use Rattle.gcd_history.proofs.Reasons.{at_start, at_act, at_wake, at_end, at_deliver, at_deliver_end}
 use Rattle.gcd_history.proofs.StartedOnce.{started_from_open}
-use Rattle.gcd_history.proofs.FreeAtStart.{deliver_begins_alone}
-use Rattle.gcd_history.proofs.Fitting.{has_object}
-use Rattle.gcd_history.proofs.SubmittedOnNodes.{kind_implies}
 use Rattle.gcd_history.proofs.Woken.{parked_facts}
 use Rattle.gcd_team.specs.Held.{taken, given}
 

@@ -1,5 +1,5 @@
 -- What is known of the cells of runs, an event on, the oldest event first (this project's own rules).
-use Rattle.std.specs.Prelude.{◌≡◌, ◌≤◌, ◌*◌, ◌+◌, ℕ, true, false, List, [], ◌∷◌, ◌++◌, length, Some, None}
+use Rattle.std.specs.Prelude.{◌≡◌, ◌≤◌, ◌*◌, ◌+◌, ℕ, false, List, [], ◌∷◌, ◌++◌, length, Some, None}
 use Rattle.gcd_plan.specs.Limits.{max_value}
 use Rattle.gcd_plan.specs.PlanView.{PlanView}
 use Rattle.gcd_plan.specs.declared.numbers.Blk.{Blk}
