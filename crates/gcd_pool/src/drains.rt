@@ -160,8 +160,12 @@ fn begin_any<S: Slot>(pool: &Pool<S>, hand: &mut Hand<S>, drain: Drain) -> Turn
     }
 }
 
-/// Begins a run on the node, or on another whose Drain is found first (this project's own rule). [`Turn::Out`] where the node's Drain is
-/// with another worker, which begins what may begin there.
+/// Begins what may begin by a Drain that it finds (this project's own rule): the front of the bench's deque, or else of another's, or else
+/// the node's own from its sleeping place. It answers [`Turn::Placed`] where a run began on that Drain's node; the Drain is then at the
+/// back of the bench's deque, where another block waits on a concurrent queue, the rack has another bench and the deque has room, and
+/// sleeps else. [`Turn::Waited`] where nothing may begin there, another event came first, or the row is full; the Drain sleeps then.
+/// [`Turn::Out`] where it finds none: the node's Drain is with another worker, which begins what may begin there. Conditions: the node is
+/// a queue or source of the plan, and the run that the hand holds, if any, is as it was taken.
 pub fn begin_near<S: Crew, R: Wait>(rt: &R, pool: &Pool<S>, hand: &mut Hand<S>, node: Obj) -> Turn
     requires ready { IsReady S.shape S.gives pool.now hand.old }
     requires node { IsTrue (is_node (view hand.old.pass).terms.plan node.0) }

@@ -188,7 +188,10 @@ fn go_on<S: Slot>(board: &RowBoard<S>, pass: &mut RowPass<S>, e: Event) -> Turn
 }
 
 /// Records what the worker's machine chose, an event that begins no run on a node (this project's own rule). Before the end of a run the
-/// worker runs its body, or calls its handler.
+/// worker runs its body, or calls its handler; it puts the end until that stands ([`Turn::Ended`]), or until the row is full or the run
+/// halted ([`Turn::Left`]). It puts another event once: [`Turn::Placed`], [`Turn::Waited`] where one that came first bars it, or
+/// [`Turn::Left`] where the row is full. Conditions: the event is one of the hand's worker, none of the outside, and the worker's machine
+/// permits it; and the run that the hand holds, if any, is as it was taken.
 #[inline(always)]
 pub fn record_own<S: Crew, R: Wait>(rt: &R, pool: &Pool<S>, hand: &mut Hand<S>, e: Event) -> Turn
     requires ready { IsReady S.shape S.gives pool.now hand.old }

@@ -102,8 +102,10 @@ fn are_quick<S: Crew>(pool: &Pool<S>, hand: &mut Hand<S>, seen: u32) -> bool
     now.saturating_sub(seen) >= WHOLE_RUN
 }
 
-/// A turn of a helper that has no run (this project's own rule). Where the others' runs are so short it leaves the row to them: each
-/// event goes through the one row, and one who begins there too only slows the others.
+/// A turn of a helper that has no run, and that had seen so many events when it last looked (this project's own rule). It looks again
+/// after about a microsecond. Where three events or more have come since, the others' runs are so short that it leaves the row to them,
+/// and answers [`Turn::Waited`]: each event goes through the one row, and one who begins there too only slows the others. Else it is
+/// [`take_turn`]. Condition: the run that the hand holds, if any, is as it was taken.
 pub fn free_turn<S: Crew, R: Wait>(
     rt: &R,
     pool: &Pool<S>,

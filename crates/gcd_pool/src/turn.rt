@@ -30,7 +30,11 @@ pub enum Turn {
     Rested,
 }
 
-/// Does what the worker has to do by what it has seen, its nodes from number `from` on (this project's own rule).
+/// Does what the worker has to do by what it has seen, its nodes from number `from` on (this project's own rule): what [`duty_of`] says.
+/// It answers [`Turn::Left`] where the worker has seen that the run has ended, and [`Turn::Rested`] where there is nothing to do. An
+/// event that begins no run on a node is put by [`record_own`]. One that begins a run is put once where the Drain of its node sleeps:
+/// [`Turn::Placed`], or [`Turn::Waited`] where another event came first or the row is full. Where that Drain does not sleep this is
+/// [`begin_near`](crate::begin_near). Condition: the run that the hand holds, if any, is as it was taken.
 pub fn take_turn<S: Crew, R: Wait>(rt: &R, pool: &Pool<S>, hand: &mut Hand<S>, from: u32) -> Turn
     requires { IsReady S.shape S.gives pool.now hand.old }
     ensures serving { Serving S.shape S.gives pool.now hand.old hand.new }

@@ -1,3 +1,4 @@
 pub mod Ran
 pub mod Teams
 pub mod Told
+pub mod Worth

@@ -1,5 +1,7 @@
 // How many hands a team needs.
-ghost use Rattle.std.specs.Prelude.{◌<◌, ◌≤◌};
+ghost use Rattle.std.specs.Prelude.{◌≡◌, ◌<◌, ◌≤◌, false};
+ghost use Rattle.gcd_jobs.specs.Contents.{contents};
+ghost use Rattle.gcd_workers.specs.Worth.{is_worth_a_team};
 
 use crate::worth::is_worth_a_team;
 use gcd_plan::{Act, Blk, Obj, Plan, Run};
@@ -30,6 +32,7 @@ pub fn hands_for(plan: &Plan, files: &[Vec<u8>], workers: u8) -> u8
     requires { 0 < workers }
     ensures some { 0 < result }
     ensures few { result ≤ workers }
+    ensures one { is_worth_a_team plan.now (contents files.now) ≡ false → result ≡ 1 }
 {
     if is_worth_a_team(plan, files) {
         team_size(plan, workers)

@@ -11,8 +11,8 @@
 //! | call | answer |
 //! |---|---|
 //! | [`team_size`] | how many of so many workers there can be work for, at least 1 |
-//! | [`is_worth_a_team`] | whether the plan has few blocks, or works that read much for each |
-//! | [`hands_for`] | `team_size` where it is worth a team, and else 1 |
+//! | [`is_worth_a_team`] | exactly whether the plan has few blocks, or works that read much for each (`specs/Worth`) |
+//! | [`hands_for`] | `team_size` where it is worth a team, and else 1; clauses say the second, and that there are 1 to so many |
 //! | [`tallies_of`] | a tally for each source, which a board asks for beside the jobs, or want of memory |
 //! | [`run_pool`] | worker 0's pass of a run that has ended, with which the board may be closed (`HasLed`), or want of memory |
 //! | [`run_single`] | what a run by worker 0 alone leaves (`RanAlone` of `gcd_alone`), or want of memory |
