@@ -13,7 +13,7 @@ mkdir "$folder/crates"
 cp -r --reflink=auto bench/machine "$folder/crates/bench_machine"
 find "$folder/crates/bench_machine" -name '*.txt' | while read -r file; do mv "$file" "${file%.txt}"; done
 cp HANDLES "$folder/"
-for crate in plan event history bits objects lists tree hold drain group sema sync source timer refinement machine; do
+for crate in plan event history bits soonest objects lists tree hold drain group sema sync source timer refinement machine; do
     cp -r --reflink=auto "crates/gcd_$crate" "$folder/crates/"
     grep "^gcd_$crate:" crates.txt
 done >"$folder/crates.txt"

@@ -40,11 +40,18 @@ CHECKED = {
 }
 
 
+# What may stand on standard error: sentences, a line each. What else stands there comes of a fault of the program.
+SAID = re.compile(rb"(?:[^\x00-\x1f\x7f]+\n)*")
+NOT_SAID = re.compile(rb"(?m)^(?:error|thread|rattle|=)|panic|Sanitizer")
+
+
 class Answer:
-    """What one call answered: its status (below 0: it was ended by that signal; None: by the limit of time), and what it wrote."""
+    """What one call answered: its status (below 0: it was ended by that signal; None: by the limit of time), what it wrote, and, as
+    errors, what it wrote on standard error where that is not sentences alone."""
 
     def __init__(self, status, text, errors):
-        self.status, self.text, self.errors = status, text, errors
+        is_said = SAID.fullmatch(errors) and not NOT_SAID.search(errors)
+        self.status, self.text, self.errors = status, text, b"" if is_said else errors
 
     def __repr__(self):
         return f"status {self.status}, text {self.text[-200:]!r}, errors {self.errors[-400:]!r}"

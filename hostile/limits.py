@@ -1,7 +1,7 @@
 #!/usr/bin/env python3
 """Scripts at the limits by 64 workers: each run ends, and its journal is judged by `gcd check`.
 
-The files are so long that the works of each script are worth a team (`is_worth_a_team` of gcd_workers).
+The files are so long that the works take time, and several workers have a part in them.
 """
 
 import os

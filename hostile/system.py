@@ -11,7 +11,7 @@ import subprocess
 import threading
 import time
 
-from common import TOP, USAGE, Part, call, why_not, words_of
+from common import TOP, USAGE, Answer, Part, call, why_not, words_of
 from refused import FOLDER, each_refused, is_same
 
 HERE = f"{TOP}/examples"
@@ -171,7 +171,7 @@ def long_pipe(program):
     with subprocess.Popen(words, stdout=subprocess.PIPE, stderr=subprocess.PIPE) as run:
         told = run.stdout.read(1_000)
         run.stdout.close()
-        status, errors = run.wait(60), run.stderr.read()
+        status, errors = run.wait(60), Answer(0, b"", run.stderr.read()).errors
     if status != 6 or errors or not told.startswith(b"start 0 main\nact 0 main 0\n"):
         part.refuse("a long journal", f"status {status}", errors)
     part.tell("status 6")
@@ -257,6 +257,7 @@ def is_stopped(program):
             if words[1] == heard:
                 client(port).join()
             text, errors = run.communicate(timeout=60)
+        errors = Answer(0, b"", errors).errors
         if run.returncode or errors or not re.fullmatch(rb"[rt] received (10|12) in \d+ pending 0\ndrained\n", text):
             part.refuse(" ".join(words), f"status {run.returncode}", text + errors)
     part.tell("the runs end as they would have")

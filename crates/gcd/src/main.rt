@@ -1,23 +1,32 @@
 //! The program: the words of the command line, the real files and standard output, and the status with which it ends.
 //!
-//! What it does and answers is `gcd_run::gcd_main`, over the system's files, its standard output, its sockets and its clock.
+//! What it does and answers is `gcd_run::gcd_main`, over the system's files, its standard output, its sockets and its clock. Why it
+//! ended so is then said on standard error, in the words of `gcd_why`; where memory runs out for that, no more is said, and the
+//! status is as it was.
 //!
 //! The helpers that touch the system promise nothing: no contract says what the words of a command line are, what its files
 //! hold, or with which status a program ends. So `words_of` and `status` have no clauses, and of the look-up beside the
 //! script (`ScriptShelf` for files, `ScriptPoller` for feeds) only what each shelf and poller promises is proved. What is
 //! proved beside it is that the texts handed to `gcd_main` are the words that were read (`texts`); the rest is tried by the
 //! stored run and the examples.
+//!
+//! Where an item names no manual page, what it says is this project's own rule.
 #![tactic(auto)]
 
 ghost use Rattle.std.specs.Prelude.{◌≡◌, ℕ, false, map, string_bytes, IfOk, IfSome};
 
+mod missed;
+mod saying;
 mod script_poller;
 mod script_shelf;
 
+use crate::saying::{say_ended, say_status};
 use crate::script_poller::ScriptPoller;
 use crate::script_shelf::ScriptShelf;
-use gcd_outer::{NetPoller, Poller, StdoutSink, SystemClock};
+use gcd_outer::Poller;
 use gcd_run::{Status, gcd_main};
+use gcd_system::{NetPoller, StdoutSink, SystemClock};
+use gcd_words::{Request, read_words};
 use std::alloc::{AllocError, Global};
 use std::fs::File;
 use std::process::ExitCode;
@@ -47,7 +56,7 @@ fn texts<'a>(alloc: Global, words: &'a [String]) -> Result<Vec<&'a str>, AllocEr
 }
 
 // A poller of the feeds that the script names. None where memory ran out.
-fn poller_of<'a, R: Files<File = File> + Net>(
+fn poller_of<'a, R: Files<File = File> + Net + Eprint>(
     rt: &'a R,
     alloc: Global,
     script: &'a str,
@@ -60,35 +69,78 @@ fn poller_of<'a, R: Files<File = File> + Net>(
     Some(ScriptPoller::new(rt, alloc, feeds, script))
 }
 
-fn status<
-    R: Files<File = File> + Net + Threads + Wait + Sync + time::Clock + Print + Env + AllocGlobal,
->(rt: &R) -> u8 {
-    // Words that are no text name no command.
-    let words = match words_of(rt) {
-        Ok(words) => words,
-        Err(error) if error.kind() == io::ErrorKind::OutOfMemory => return Status::NoMemory.code(),
-        Err(_) => Vec::new(rt.alloc()),
-    };
-    let Ok(texts) = texts(rt.alloc(), &words) else {
-        return Status::NoMemory.code();
-    };
-    let script = texts.get(1).copied().unwrap_or("");
-    let mut shelf = ScriptShelf::new(rt, rt.alloc(), script);
+// The script's name and how many contents are kept for what is said at the end: the script, and the journal that is judged.
+fn asked<'a>(alloc: Global, words: &'a [&'a str]) -> (&'a str, usize) {
+    match read_words(alloc, words) {
+        Ok(Some(Request::Run(request))) => (request.script, 1),
+        Ok(Some(Request::Check(request))) => (request.script, 2),
+        Ok(Some(Request::Big(_))) => ("", 0),
+        Ok(None) => ("", 0),
+        Err(AllocError) => ("", 0),
+    }
+}
+
+// Does what the words ask for, and says why it ended as it did.
+fn answer<
+    'a,
+    R: Files<File = File>
+        + Net
+        + Threads
+        + Wait
+        + Sync
+        + time::Clock
+        + Print
+        + Eprint
+        + Env
+        + AllocGlobal,
+>(rt: &'a R, texts: &'a [&'a str]) -> u8 {
+    let (script, keeps) = asked(rt.alloc(), texts);
+    let mut shelf = ScriptShelf::new(rt, rt.alloc(), script, keeps);
     let mut out = StdoutSink::new(rt);
     let Some(mut poller) = poller_of(rt, rt.alloc(), script) else {
-        return Status::NoMemory.code();
+        return say_status(rt, Status::NoMemory);
     };
     let mut clock = SystemClock::new(rt);
-    gcd_main(
+    let ended = gcd_main(
         rt,
         rt.alloc(),
-        &texts,
+        texts,
         &mut shelf,
         &mut out,
         &mut poller,
         &mut clock,
-    )
-    .status
+    );
+    match shelf.missed() {
+        Some(missed) => say_ended(rt, rt.alloc(), texts, &ended, &shelf, Some(missed)),
+        None => say_ended(rt, rt.alloc(), texts, &ended, &shelf, poller.missed()),
+    }
+    ended.status
+}
+
+fn status<
+    R: Files<File = File>
+        + Net
+        + Threads
+        + Wait
+        + Sync
+        + time::Clock
+        + Print
+        + Eprint
+        + Env
+        + AllocGlobal,
+>(rt: &R) -> u8 {
+    // Words that are no text name no command.
+    let words = match words_of(rt) {
+        Ok(words) => words,
+        Err(error) if error.kind() == io::ErrorKind::OutOfMemory => {
+            return say_status(rt, Status::NoMemory);
+        }
+        Err(_) => Vec::new(rt.alloc()),
+    };
+    let Ok(texts) = texts(rt.alloc(), &words) else {
+        return say_status(rt, Status::NoMemory);
+    };
+    answer(rt, &texts)
 }
 
 fn main(rt: HostRuntime) -> ExitCode {

@@ -5,8 +5,8 @@
 //!
 //! | call | answer | what it leaves | cost |
 //! |---|---|---|---|
-//! | `BitSet::new` | an empty set for the numbers below `len`; or want of memory | | `len` / 64 |
-//! | `copied` | the same set once more; or want of memory | | `len` / 64 |
+//! | `BitSet::new` | an empty set for the numbers below `len`; or out of memory | | `len` / 64 |
+//! | `copied` | the same set once more; or out of memory | | `len` / 64 |
 //! | `len` | the length that the set was made with | | constant |
 //! | `has` | whether the number is in the set | | constant |
 //! | `count`, `is_empty` | how many numbers are in the set, whether there are none | | constant |

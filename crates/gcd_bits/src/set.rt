@@ -54,7 +54,7 @@ impl BitSet {
         })
     }
 
-    /// The same set once more. It takes all the memory that the set ever needs: an `Err` comes only of want of it.
+    /// The same set once more. It takes all the memory that the set ever needs: an `Err` comes only where memory runs out.
     pub fn copied(&self, alloc: Global) -> Result<BitSet, AllocError>
         ensures { IfOk result (λ s. s ≡ self.now) }
     {

@@ -45,7 +45,7 @@ fn is_behind(lists: &Lists, node: Obj, b: Blk) -> bool
 
 impl Drains {
     /// The plan's objects before the first event: no barrier is open. It takes all the memory that the numbers ever need:
-    /// an `Err` comes only of want of it. (This project's own rule.)
+    /// an `Err` comes only where memory runs out. (This project's own rule.)
     pub fn new(alloc: Global, plan: &Plan) -> Result<Drains, AllocError>
         ensures { IfOk result (λ d. d ≡ drains_of plan.now) }
     {
@@ -55,7 +55,7 @@ impl Drains {
         })
     }
 
-    /// The same numbers once more. It takes all the memory that the numbers ever need: an `Err` comes only of want of it.
+    /// The same numbers once more. It takes all the memory that the numbers ever need: an `Err` comes only where memory runs out.
     pub fn copied(&self, alloc: Global) -> Result<Drains, AllocError>
         ensures { IfOk result (λ d. d ≡ self.now) }
     {

@@ -7,8 +7,8 @@
 //!
 //! | call | answer | what it leaves |
 //! |---|---|---|
-//! | `Drains::new` | no barrier open, and the plan's kinds; or want of memory | |
-//! | `copied` | the same numbers once more; or want of memory | |
+//! | `Drains::new` | no barrier open, and the plan's kinds; or out of memory | |
+//! | `copied` | the same numbers once more; or out of memory | |
 //! | `may_start` | the first reason why the block may not start, None exactly where it may | |
 //! | `may_run` | the first reason why the source's handler may not run, None exactly where it may | |
 //! | `is_shut` | whether the node's chain is shut: `NotFree` or `Excluded` applies to it | marks that say so |

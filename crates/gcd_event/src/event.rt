@@ -1,5 +1,6 @@
 // What happens in a run.
-ghost use Rattle.std.specs.Prelude.{IsTrue, ◌↔◌};
+ghost use Rattle.std.specs.Prelude.{IsTrue, ◌↔◌, ◌≡◌};
+ghost use Rattle.gcd_event.specs.Owners.{begun, ended, worker_of};
 
 use gcd_plan::{
     Blk, MAX_ACTS, MAX_BLOCKS, MAX_OBJECTS, MAX_TIME, MAX_VALUE, MAX_WORKERS, MisuseCode, Obj, Run,
@@ -98,6 +99,51 @@ impl Event {
                     && *code <= MisuseCode::LAST
             }
             Event::Halt => true,
+        }
+    }
+
+    /// The event's worker; those of the outside (Tick, Ready, FeedEnd, Halt) are worker 0's.
+    #[inline(always)]
+    pub fn worker(&self) -> u8
+        ensures { result ≡ worker_of self.now }
+    {
+        match *self {
+            Event::Start { worker, .. } => worker,
+            Event::Act { worker, .. } => worker,
+            Event::Wake { worker, .. } => worker,
+            Event::End { worker, .. } => worker,
+            Event::Deliver { worker, .. } => worker,
+            Event::DeliverEnd { worker, .. } => worker,
+            Event::Misuse { worker, .. } => worker,
+            Event::Tick { .. } | Event::Ready { .. } | Event::FeedEnd { .. } | Event::Halt => 0,
+        }
+    }
+
+    /// The run that the event begins: a Start's block, or a Deliver's source; None exactly where it begins none.
+    #[inline(always)]
+    pub fn begun(&self) -> Option<Run>
+        ensures { result ≡ begun self.now }
+    {
+        match *self {
+            Event::Start { blk, .. } => Some(Run::Block(blk)),
+            Event::Deliver { src, .. } => Some(Run::Source(src)),
+            Event::Act { .. } | Event::Wake { .. } => None,
+            Event::End { .. } | Event::DeliverEnd { .. } | Event::Misuse { .. } => None,
+            Event::Tick { .. } | Event::Ready { .. } | Event::FeedEnd { .. } | Event::Halt => None,
+        }
+    }
+
+    /// The run that the event ends: an End's block, or a DeliverEnd's source; None exactly where it ends none.
+    #[inline(always)]
+    pub fn ended(&self) -> Option<Run>
+        ensures { result ≡ ended self.now }
+    {
+        match *self {
+            Event::End { blk, .. } => Some(Run::Block(blk)),
+            Event::DeliverEnd { src, .. } => Some(Run::Source(src)),
+            Event::Start { .. } | Event::Act { .. } | Event::Wake { .. } => None,
+            Event::Deliver { .. } | Event::Misuse { .. } => None,
+            Event::Tick { .. } | Event::Ready { .. } | Event::FeedEnd { .. } | Event::Halt => None,
         }
     }
 }

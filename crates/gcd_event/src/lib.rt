@@ -3,6 +3,7 @@
 //! | call | answer |
 //! |---|---|
 //! | `Event::fits` | whether the event's fields are in the ranges of its kind (`IsFitting`) |
+//! | `Event::worker`, `begun`, `ended` | the worker whose it is; the run that it begins, or ends |
 //! | `to_word` | the word of a fitting event (`word_of`), never 0 |
 //! | `of_word` | the one fitting event that has the word; None exactly where no fitting event has it |
 //!

@@ -1,4 +1,4 @@
--- What a job gives, and what a board of readings holds (this project's own rules).
+-- What a job gives, and what a board of readings holds.
 use Rattle.std.specs.Prelude.{◌≡◌, ◌+◌, ◌*◌, ◌/◌, ℕ}
 use Rattle.gcd_jobs.specs.declared.tally.Tally.{Tally}
 use Rattle.gcd_row.specs.Shapes.{Shape, shape_of, gives_of}

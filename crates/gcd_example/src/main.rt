@@ -16,6 +16,8 @@
 //! Proved is that each call is made as its contract asks, that the jobs are the readings, block by block, and that a job gives its
 //! reading in degrees Fahrenheit. That the run leaves each block's value in its slot is the promise of `close` (`AtRest` of
 //! `gcd_row`), and what is written of it is tested.
+//!
+//! Where an item names no manual page, what it says is this project's own rule.
 #![tactic(auto)]
 
 mod plan;
@@ -54,7 +56,7 @@ fn lines_of(alloc: Global, cells: &[Cell<Reading, Tally>]) -> Result<String, All
     Ok(lines)
 }
 
-// All that is written. An `Err` comes of want of memory.
+// All that is written. An `Err` comes where memory runs out.
 fn text<R: Threads + Wait + Sync>(rt: &R, alloc: Global) -> Result<String, AllocError> {
     match plan_of_stations(alloc)? {
         Some(plan) => {

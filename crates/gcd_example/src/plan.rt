@@ -60,7 +60,7 @@ fn blocks(alloc: Global) -> Result<Vec<BlkPart>, AllocError>
     Ok(blocks)
 }
 
-/// The plan; None where its parts are no valid plan. An `Err` comes of want of memory.
+/// The plan; None where its parts are no valid plan. An `Err` comes where memory runs out.
 pub fn plan_of_stations(alloc: Global) -> Result<Option<Plan>, AllocError>
     ensures { IfOk result (λ plan. IfSome plan (λ plan. length plan.blocks ≡ length READINGS + 1)) }
 {

@@ -32,7 +32,7 @@ pub const MAIN_JOB: Reading = Reading {
     celsius: 0,
 };
 
-/// A job for each block, by number: `main`'s, and the readings. An `Err` comes of want of memory.
+/// A job for each block, by number: `main`'s, and the readings. An `Err` comes where memory runs out.
 pub fn jobs_of_readings(alloc: Global) -> Result<Vec<Reading>, AllocError>
     ensures { IfOk result (λ jobs. jobs.items ≡ MAIN_JOB ∷ READINGS) }
 {

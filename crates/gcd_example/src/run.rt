@@ -69,18 +69,14 @@ fn run_benches<R: Threads + Wait + Sync>(
 {
     let workers = benches.len();
     let (board, pass) = open(alloc, plan)?;
-    let pool = Pool {
-        board: &board,
-        rack,
-        plan,
-    };
+    let pool = Pool::new(&board, rack, plan);
     let mut clock = JumpClock::new(0);
     let last = run_pool(rt, alloc, &pool, pass, benches, poller, &mut clock)?;
     close(alloc, board, last, workers)
 }
 
 /// Runs the plan of the stations by at most so many workers, 1 to 64, and gives what lies in the slots at its end: of a block that has
-/// ended its value. The plan has no source, and so no feed and no time to wait for. An `Err` comes of want of memory.
+/// ended its value. The plan has no source, and so no feed and no time to wait for. An `Err` comes where memory runs out.
 pub fn run<R: Threads + Wait + Sync>(
     rt: &R,
     alloc: Global,

@@ -36,7 +36,7 @@ impl Model for Groups {
 
 impl Groups {
     /// The plan's groups before the first event: all are empty (dispatch_group_create(3)). It takes all the memory that the
-    /// groups ever need: an `Err` comes only of want of it.
+    /// groups ever need: an `Err` comes only where memory runs out.
     pub fn new(alloc: Global, plan: &Plan) -> Result<Groups, AllocError>
         ensures { IfOk result (λ g. g ≡ groups_of plan.now) }
     {
@@ -51,7 +51,7 @@ impl Groups {
         })
     }
 
-    /// The same groups once more. It takes all the memory that the groups ever need: an `Err` comes only of want of it.
+    /// The same groups once more. It takes all the memory that the groups ever need: an `Err` comes only where memory runs out.
     pub fn copied(&self, alloc: Global) -> Result<Groups, AllocError>
         ensures { IfOk result (λ g. g ≡ self.now) }
     {

@@ -7,8 +7,8 @@
 //!
 //! | call | answer | what it leaves |
 //! |---|---|---|
-//! | `Groups::new` | every group empty, and no block to be told; or want of memory | |
-//! | `copied` | the same groups once more; or want of memory | |
+//! | `Groups::new` | every group empty, and no block to be told; or out of memory | |
+//! | `copied` | the same groups once more; or out of memory | |
 //! | `count`, `entered` | what the lists hold | |
 //! | `empty_since` | whether the group was empty at some position from this one on | |
 //! | `notify_group` | the group whose notify block it is, until it fires; else None | |

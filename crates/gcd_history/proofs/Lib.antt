@@ -39,3 +39,4 @@ pub mod Quiet
 pub mod OneState
 pub mod Counts
 pub mod FeedsDie
+mod NotEmpty

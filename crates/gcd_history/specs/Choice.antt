@@ -8,6 +8,7 @@ use Rattle.gcd_plan.specs.declared.numbers.Run.{Run}
 use Rattle.gcd_plan.specs.declared.numbers.Run.TheVariants.{Block, Source}
 use Rattle.gcd_event.specs.declared.event.Event.{Event}
 use Rattle.gcd_event.specs.declared.event.Event.TheVariants.{Start, Act as Acted, Wake, End, Deliver, DeliverEnd, Tick, Ready, FeedEnd, Misuse, Halt}
+use Rattle.gcd_event.specs.Owners.{worker_of as worker_by}
 use Rattle.gcd_history.specs.Runs.{open_runs, acts_done, is_ended}
 use Rattle.gcd_history.specs.Submitted.{submitted}
 use Rattle.gcd_history.specs.Parked.{has_run}
@@ -71,17 +72,7 @@ is_work Halt = false
 
 -- the event's worker; those of the outside are worker 0's
 abbrev pub worker_of : Event → ℕ
-worker_of (Start w b) = w
-worker_of (Acted w r i) = w
-worker_of (Wake w b) = w
-worker_of (End w b) = w
-worker_of (Deliver w s) = w
-worker_of (DeliverEnd w s) = w
-worker_of (Tick t) = 0
-worker_of (Ready s n) = 0
-worker_of (FeedEnd s) = 0
-worker_of (Misuse w r i c) = w
-worker_of Halt = 0
+worker_of e = worker_by e
 
 -- not halted, no event of any worker is permitted, no due time is left, and no read source is live
 pub record IsQuiescent (plan : PlanView) (past : List Event) : Type 0 where

@@ -1,7 +1,6 @@
 -- How a history ends, the oldest event first (this project's own rule).
-use Rattle.std.specs.Prelude.{◌≡◌, Bool, true, false, List, length, reverse, IsTrue}
+use Rattle.std.specs.Prelude.{◌≡◌, ◌⊎◌, ℕ, Bool, true, false, List, length, reverse, IsTrue}
 use Rattle.gcd_plan.specs.PlanView.{PlanView}
-use Rattle.gcd_plan.specs.Limits.{max_events}
 use Rattle.gcd_event.specs.declared.event.Event.{Event}
 use Rattle.gcd_history.specs.declared.state.State.{State}
 use Rattle.gcd_history.specs.declared.state.State.TheVariants.{Drained, Stuck, Misused, Halted, Live}
@@ -47,10 +46,14 @@ pub record IsGoingOn (plan : PlanView) (h : List Event) : Type 0 where
   pub unhalted : is_halted h ≡ false
   pub unquiet : ¬ IsQuiescent plan h
 
--- as long as a history may be, and neither halted nor quiescent
-pub record IsFull (plan : PlanView) (h : List Event) : Type 0 where
-  pub whole : length h ≡ max_events
+-- as long as a history may be, `most` events, and neither halted nor quiescent
+pub record IsFull (most : ℕ) (plan : PlanView) (h : List Event) : Type 0 where
+  pub whole : length h ≡ most
   pub going_on : IsGoingOn plan h
+
+-- nothing more is to be recorded: the history is quiescent, halted, or as long as it may be
+abbrev pub HasEnded : (most : ℕ) → PlanView → List Event → Type 0
+HasEnded most plan h = IsQuiescent plan h ⊎ (IsHalted h ⊎ (length h ≡ most))
 
 -- how far the history has come; it is Live from its beginning on, so that a run is over where it is full is said by IsFull
 abbrev pub HasState : PlanView → List Event → State → Type 0

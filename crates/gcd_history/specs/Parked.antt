@@ -1,8 +1,9 @@
 -- Which blocks are parked, what they wait for, and which runs a worker has (dispatch_sync(3), dispatch_group_wait(3),
 -- dispatch_semaphore_wait(3)).
-use Rattle.std.specs.Prelude.{ℕ, ◌+◌, ◌==◌, Bool, true, false, ◌&&◌, if◌then◌else◌, List, [], ◌∷◌, length, Option, Some, None, is_some, is_none, count_by}
+use Rattle.std.specs.Prelude.{ℕ, ◌+◌, ◌==◌, Bool, false, ◌&&◌, if◌then◌else◌, List, [], ◌∷◌, length, Option, Some, None, is_some, is_none, count_by}
 use Rattle.std.specs.Option.{option_map_or}
 use Rattle.std.specs.List.{list_any}
+use Rattle.gcd_plan.specs.Acts.{parks}
 use Rattle.gcd_plan.specs.PlanView.{PlanView}
 use Rattle.gcd_plan.specs.declared.act.Act.{Act}
 use Rattle.gcd_plan.specs.declared.act.Act.TheVariants.{Async, Barrier, Sync, BarrierSync, GroupAsync, Notify, Enter, Leave, GroupWait, Signal, Wait, Suspend, Resume, Activate, Target, Merge, Cancel, Retain, Release}
@@ -43,25 +44,7 @@ awaited_by plan past (Some (Release o)) = None
 -- the act parks its block until a Wake
 abbrev pub is_parking : Option Act → Bool
 is_parking None = false
-is_parking (Some (Async q b)) = false
-is_parking (Some (Barrier q b)) = false
-is_parking (Some (Sync q b)) = true
-is_parking (Some (BarrierSync q b)) = true
-is_parking (Some (GroupAsync g q b)) = false
-is_parking (Some (Notify g q b)) = false
-is_parking (Some (Enter g)) = false
-is_parking (Some (Leave g)) = false
-is_parking (Some (GroupWait g)) = true
-is_parking (Some (Signal s)) = false
-is_parking (Some (Wait s)) = true
-is_parking (Some (Suspend o)) = false
-is_parking (Some (Resume o)) = false
-is_parking (Some (Activate o)) = false
-is_parking (Some (Target o t)) = false
-is_parking (Some (Merge s n)) = false
-is_parking (Some (Cancel s)) = false
-is_parking (Some (Retain o)) = false
-is_parking (Some (Release o)) = false
+is_parking (Some act) = parks act
 
 -- what the run's last act makes it wait for, where no Wake stands since
 abbrev pub parked_by : PlanView → List Event → Run → Option Reason

@@ -1,12 +1,12 @@
 // What holds of every lawful history, and some of every history. Each function's contract is a law; its body is empty.
-ghost use Rattle.std.specs.Prelude.{◌≡◌, ℕ, List, Some, None, false, length, count_by};
+ghost use Rattle.std.specs.Prelude.{◌≡◌, ◌≤◌, ℕ, List, Some, None, false, length, count_by};
 ghost use Rattle.std.specs.List.{range_with_len};
 ghost use Rattle.gcd_plan.specs.PlanView.{PlanView};
 ghost use Rattle.gcd_plan.specs.Validity.{IsPlan};
 ghost use Rattle.gcd_event.specs.declared.event.Event.{Event};
 ghost use Rattle.gcd_event.specs.declared.event.Event.TheVariants.{Halt};
 ghost use Rattle.gcd_history.specs.History.{IsLawful, why, choice_of};
-ghost use Rattle.gcd_history.specs.Ends.{IsDrained, IsQuiescent, IsHalted, HasState};
+ghost use Rattle.gcd_history.specs.Ends.{HasEnded, IsDrained, IsQuiescent, IsHalted, HasState};
 ghost use Rattle.gcd_history.specs.declared.state.State.{State};
 ghost use Rattle.gcd_history.specs.Values.{words_begun, begins_word};
 ghost use Rattle.gcd_history.specs.Laws.{RunsOnce, StartsAfterSubmission, AllEndOnce, IsSubmittedOnce, StartsInOrder, BeginsFree, WakesHaveCause, NoneParked, WaitsHavePassed, GroupWaitsPass, SemaphoreWaitsPass, IsConserved, RunsExclude, BlocksOfOneNodeApart, BarriersExclude, DeliversAlone, TreeStands, IsChoiceOf, HasNoChoice, HasSomeState, IsAtRest};
@@ -110,6 +110,12 @@ pub fn ended_histories_stand()
     ensures halted { (plan : PlanView) (h : List Event) (e : Event) → IsHalted h → why plan h e ≡ None → ⊥ }
     ensures quiescent { (plan : PlanView) (h : List Event) (e : Event) → IsQuiescent plan h → why plan h e ≡ None
         → e ≡ Halt }
+{}
+
+/// A history that has ended is not empty, where it may have an event at all: `main` may start from the outset (this project's own
+/// rule).
+pub fn ended_histories_are_not_empty()
+    ensures { (most : ℕ) (plan : PlanView) (h : List Event) → 1 ≤ most → IsPlan plan → HasEnded most plan h → 1 ≤ length h }
 {}
 
 /// A history has come to at most one state (this project's own rule).

@@ -41,7 +41,7 @@
 //! | [`laws::merged_data_is_conserved`] | what was merged was handed over, or is pending |
 //! | [`laws::tree_stands_under_open_runs`] | targets lead to root, and stand still under an open run |
 //! | [`laws::choices_are_complete`] | in any history of a valid plan a worker has a choice exactly where an event of its own is permitted |
-//! | [`laws::quiescent_is_at_rest`], [`laws::ended_histories_stand`] | how to see that nothing goes on, and what can still come then |
+//! | [`laws::quiescent_is_at_rest`], [`laws::ended_histories_stand`], [`laws::ended_histories_are_not_empty`] | how to see that nothing goes on, what can still come then, and that something has come before |
 //! | [`laws::states_are_apart`], [`laws::each_history_has_a_state`] | a history has at most one state, and a lawful one of a valid plan has one |
 //! | [`laws::words_are_places_where_one_begins`] | what the work `words` counts, said without recursion |
 //! | [`facts::workers_have_one_run`], [`facts::open_runs_go_on`] | a worker has at most one open and unparked run, and none where it gets one; and such a run has a permitted event of its own |

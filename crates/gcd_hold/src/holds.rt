@@ -28,7 +28,7 @@ impl Model for Holds {
 
 impl Holds {
     /// The plan's objects before the first event: each hold is 0, and active is what is created active
-    /// (dispatch_activate(3)). It takes all the memory that the lists ever need: an `Err` comes only of want of it.
+    /// (dispatch_activate(3)). It takes all the memory that the lists ever need: an `Err` comes only where memory runs out.
     pub fn new(alloc: Global, plan: &Plan) -> Result<Holds, AllocError>
         ensures { IfOk result (λ h. h ≡ holds_of plan.now) }
     {
@@ -39,7 +39,7 @@ impl Holds {
         })
     }
 
-    /// The same lists once more. It takes all the memory that the lists ever need: an `Err` comes only of want of it.
+    /// The same lists once more. It takes all the memory that the lists ever need: an `Err` comes only where memory runs out.
     pub fn copied(&self, alloc: Global) -> Result<Holds, AllocError>
         ensures { IfOk result (λ h. h ≡ self.now) }
     {

@@ -6,8 +6,8 @@
 //!
 //! | call | answer | what it leaves |
 //! |---|---|---|
-//! | `Holds::new` | no hold, and active what is created active; or want of memory | |
-//! | `copied` | the same lists once more; or want of memory | |
+//! | `Holds::new` | no hold, and active what is created active; or out of memory | |
+//! | `copied` | the same lists once more; or out of memory | |
 //! | `hold`, `is_active` | what the lists hold | |
 //! | `is_free` | whether the object is active with hold 0 | |
 //! | `may_resume` | whether a resume is no misuse: the hold is above 0, or the object is an inactive source | |

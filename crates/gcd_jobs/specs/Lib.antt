@@ -1,4 +1,6 @@
 pub use Rattle.gcd_history.specs.Sources
 pub use Rattle.gcd_history.specs.Values
+pub mod BlockValues
 pub mod Contents
+pub mod Ends
 pub mod Jobs

@@ -38,12 +38,7 @@ impl Handler for Tally {
 
     fn take(&mut self, value: u64) {
         self.times += 1;
-        self.total = match self.kind {
-            Kind::Or => self.total | value,
-            Kind::Add | Kind::Timer { .. } | Kind::Read => self.total + value,
-            Kind::Serial | Kind::Concurrent | Kind::Group | Kind::Semaphore(_) => {
-                self.total + value
-            }
-        };
+        let folded = self.kind.folded(u128::from(self.total), u128::from(value));
+        self.total = folded as u64;
     }
 }

@@ -1,3 +1,4 @@
+pub mod Begun
 pub mod Cuts
 pub mod NamesApart
 pub mod LookUp

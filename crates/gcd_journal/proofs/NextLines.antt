@@ -6,7 +6,6 @@ use Rattle.std.proofs.lemmas.Bool.{and_parts, not-true, eqb-false}
 use Rattle.std.proofs.lemmas.List.Splits.{join_with_byte-slice_split}
 use Rattle.std.proofs.lemmas.List.{append-nil, length-append}
 use Rattle.std.proofs.lemmas.Grind.{flat_map-append}
-use Rattle.gcd_plan.specs.Limits.{max_events}
 use Rattle.gcd_plan.specs.PlanView.{PlanView}
 use Rattle.gcd_plan.specs.Validity.{IsPlan}
 use Rattle.gcd_event.specs.declared.event.Event.{Event}
@@ -33,13 +32,13 @@ alone (c ∷ text) line zero within = eqb-false c 10 (not-true (c == 10) (and_pa
 alone (c ∷ text) line (suc i) within = alone text (and_parts (not (c == 10)) (is_line text) line).1 i (omega arith)
 
 -- a text without an end of a line
-pub endless : (look : Look) (text : List ℕ) (count : ℕ) → IsWithout 10 text → IsFault look text count
-endless look text count without = record {
+pub endless : (most : ℕ) (look : Look) (text : List ℕ) (count : ℕ) → IsWithout 10 text → IsFault most look text count
+endless most look text count without = record {
   no_event = λ rest e spells. absurd (no_line text spells.line rest without spells.cut);
   no_count = λ begins. no_line text (count_text count) begins.rest without (begins.whole ∙ count_cut count begins.rest);
 }
 
-module _ (look : Look) (line rest : List ℕ) (count : ℕ) (without : IsWithout 10 line) (few : count < 2 ^ 64) where
+module _ (most : ℕ) (look : Look) (line rest : List ℕ) (count : ℕ) (without : IsWithout 10 line) (few : count < 2 ^ 64) where
   own_line : is_line line ≡ true
   own_line = without_line line without
 
@@ -54,7 +53,7 @@ module _ (look : Look) (line rest : List ℕ) (count : ℕ) (without : IsWithout
   pub spoken_line : (e : Event) → Some e ≡ event_in look (fields_of line) → LineSpells look (line ++ 10 ∷ rest) rest e
   spoken_line e at = record { line = line; cut = refl; alone = without; spells = sym at }
 
-  pub one_too_many : (e : Event) → Some e ≡ event_in look (fields_of line) → max_events ≤ count → IsFault look (line ++ 10 ∷ rest) count
+  pub one_too_many : (e : Event) → Some e ≡ event_in look (fields_of line) → most ≤ count → IsFault most look (line ++ 10 ∷ rest) count
   one_too_many e at full = record {
     no_event = λ r f spells. full;
     no_count = λ begins. let none = count_apart (count_line_is begins) in cc;
@@ -63,7 +62,7 @@ module _ (look : Look) (line rest : List ℕ) (count : ℕ) (without : IsWithout
   pub counted_line : line ≡ codes "events " ++ decimal count → BeginsWith (line ++ 10 ∷ rest) (count_line count)
   counted_line same = record { rest = rest; whole = ap (λ l. l ++ 10 ∷ rest) same ∙ sym (count_cut count rest) }
 
-  pub no_form : None ≡ event_in look (fields_of line) → line ≢ codes "events " ++ decimal count → IsFault look (line ++ 10 ∷ rest) count
+  pub no_form : None ≡ event_in look (fields_of line) → line ≢ codes "events " ++ decimal count → IsFault most look (line ++ 10 ∷ rest) count
   no_form none other = record {
     no_event = λ r f spells.
         let same = (cut_one_way line spells.line rest r own_line (without_line spells.line spells.alone) spells.cut).0 in
@@ -76,10 +75,10 @@ module _ (look : Look) (line rest : List ℕ) (count : ℕ) (without : IsWithout
 -- ## The events of a text
 
 -- what is read so far
-pub record HasRead (plan : PlanView) (text : List ℕ) (h : List Event) (rest : List ℕ) : Type 0 where
+pub record HasRead (most : ℕ) (plan : PlanView) (text : List ℕ) (h : List Event) (rest : List ℕ) : Type 0 where
   pub front : text ≡ flat_map (event_line plan) h ++ rest
   pub spoken : AreSpoken plan h
-  pub few : length h ≤ max_events
+  pub few : length h ≤ most
 
 spoken_push : (plan : PlanView) (h : List Event) (e : Event) → AreSpoken plan h → IsSpoken plan e → AreSpoken plan (h ++ e ∷ [])
 spoken_push plan [] e all one zero f at = let same : e ≡ f = cc in subst (IsSpoken plan) same one
@@ -87,18 +86,18 @@ spoken_push plan [] e all one (suc i) f at = cc
 spoken_push plan (d ∷ h) e all one zero f at = all zero f at
 spoken_push plan (d ∷ h) e all one (suc i) f at = spoken_push plan h e (λ j g is. all (suc j) g is) one i f at
 
-pub nothing_read : (plan : PlanView) (text : List ℕ) → HasRead plan text [] text
-nothing_read plan text = record { front = refl; spoken = λ i e at. cc; few = omega arith }
+pub nothing_read : (most : ℕ) (plan : PlanView) (text : List ℕ) → HasRead most plan text [] text
+nothing_read most plan text = record { front = refl; spoken = λ i e at. cc; few = omega arith }
 
-module _ (plan : PlanView) (look : Look) (valid : IsPlan plan) (knows : IsLookUp plan look) where
+module _ (most : ℕ) (plan : PlanView) (look : Look) (valid : IsPlan plan) (knows : IsLookUp plan look) where
   -- a line that spells an event is the event's
   line_is_its : (line : List ℕ) (e : Event) → event_in look (fields_of line) ≡ Some e → IsSpoken plan e × (text_of plan e ≡ line)
   line_is_its line e at =
       let back = spelled_back plan look valid knows.sound (fields_of line) e at in
       (back.0, ap (join_with_byte 32) back.1 ∙ join_with_byte-slice_split 32 line)
 
-  pub one_more_read : (text : List ℕ) (h : List Event) (rest more : List ℕ) (e : Event) → HasRead plan text h rest → LineSpells look rest more e → length h < max_events
-      → HasRead plan text (h ++ e ∷ []) more
+  pub one_more_read : (text : List ℕ) (h : List Event) (rest more : List ℕ) (e : Event) → HasRead most plan text h rest → LineSpells look rest more e → length h < most
+      → HasRead most plan text (h ++ e ∷ []) more
   one_more_read text h rest more e read line room =
       let its = line_is_its line.line e line.spells in
       let cut : rest ≡ event_line plan e ++ more = line.cut ∙ ap (λ l. l ++ 10 ∷ more) (sym its.1) ∙ sym (line_and_rest plan valid e more) in
@@ -110,7 +109,7 @@ module _ (plan : PlanView) (look : Look) (valid : IsPlan plan) (knows : IsLookUp
         few = let long = length-append h (e ∷ []) in omega arith;
       }
 
-  pub whole_journal : (text : List ℕ) (h : List Event) (rest : List ℕ) → HasRead plan text h rest → BeginsWith rest (count_line (length h)) → IsJournal plan text h
+  pub whole_journal : (text : List ℕ) (h : List Event) (rest : List ℕ) → HasRead most plan text h rest → BeginsWith rest (count_line (length h)) → IsJournal most plan text h
   unfolding journal_text
   whole_journal text h rest read begins = record {
     begins = record {
@@ -129,7 +128,7 @@ module _ (plan : PlanView) (look : Look) (valid : IsPlan plan) (knows : IsLookUp
     spells = ap (event_in look) (read_text plan valid e spoken) ∙ spells plan look knows.known e spoken;
   }
 
-  pub fault_is_refused : (text : List ℕ) (h : List Event) (rest : List ℕ) (line : ℕ) → HasRead plan text h rest → IsFault look rest (length h) → line ≡ length h + 1 → IsRefusedAt plan text line
+  pub fault_is_refused : (text : List ℕ) (h : List Event) (rest : List ℕ) (line : ℕ) → HasRead most plan text h rest → IsFault most look rest (length h) → line ≡ length h + 1 → IsRefusedAt most plan text line
   fault_is_refused text h rest line read fault is = record {
     events = h;
     rest = rest;

@@ -3,7 +3,6 @@ use Rattle.std.proofs.Common.{◌≡◌, ℕ, zero, suc, ◌+◌, ◌^◌, ◌<�
 use Rattle.std.specs.List.{join_with_byte, list_all, flat_map}
 use Rattle.std.specs.Fmt.{decimal}
 use Rattle.std.proofs.lemmas.Bool.{and_from}
-use Rattle.gcd_plan.specs.Limits.{max_events}
 use Rattle.gcd_plan.specs.PlanView.{PlanView}
 use Rattle.gcd_plan.specs.Validity.{IsPlan}
 use Rattle.gcd_event.specs.declared.event.Event.{Event}
@@ -106,72 +105,72 @@ module _ (plan : PlanView) (valid : IsPlan plan) where
       ap (λ g. g ∷ h) heads.0 ∙ ap (λ l. f ∷ l) (one_journal h k a b x y (later e h p) (later f k q) m n heads.1)
 
   -- a journal has no line at fault
-  no_fault : (done : ℕ) (h k : List Event) (n : ℕ) (x rest : List ℕ) → AreSpoken plan h → AreSpoken plan k → n ≡ done + length h → n ≤ max_events
-      → ((e : Event) → IsSpoken plan e → BeginsWith rest (event_line plan e) → done + length k ≡ max_events)
+  no_fault : (most : ℕ) → most < 2 ^ 64 → (done : ℕ) (h k : List Event) (n : ℕ) (x rest : List ℕ) → AreSpoken plan h → AreSpoken plan k → n ≡ done + length h → n ≤ most
+      → ((e : Event) → IsSpoken plan e → BeginsWith rest (event_line plan e) → done + length k ≡ most)
       → (BeginsWith rest (count_line (done + length k)) → ⊥)
       → flat_map (event_line plan) h ++ (count_line n ++ x) ≡ flat_map (event_line plan) k ++ rest → ⊥
-  no_fault done [] [] n x rest p q long few event count same =
+  no_fault most small done [] [] n x rest p q long few event count same =
       let is : n ≡ done + 0 = omega arith in
       count (record { rest = x; whole = sym same ∙ ap (λ m. count_line m ++ x) is })
-  no_fault done [] (f ∷ k) n x rest p q long few event count same =
+  no_fault most small done [] (f ∷ k) n x rest p q long few event count same =
       no_event_counts f n x (flat_map (event_line plan) k ++ rest) (first f k q) (omega arith) (same ∙ front f k rest)
-  no_fault done (e ∷ h) [] n x rest p q long few event count same =
+  no_fault most small done (e ∷ h) [] n x rest p q long few event count same =
       let full = event e (first e h p) (record { rest = flat_map (event_line plan) h ++ (count_line n ++ x); whole = sym same ∙ front e h (count_line n ++ x) }) in
       omega arith
-  no_fault done (e ∷ h) (f ∷ k) n x rest p q long few event count same =
+  no_fault most small done (e ∷ h) (f ∷ k) n x rest p q long few event count same =
       let heads = same_line e f _ _ (first e h p) (first f k q) (sym (front e h (count_line n ++ x)) ∙ same ∙ front f k rest) in
       let more : (done + 1) + length k ≡ done + length (f ∷ k) = omega arith in
-      no_fault (done + 1) h k n x rest (later e h p) (later f k q) (omega arith) few
+      no_fault most small (done + 1) h k n x rest (later e h p) (later f k q) (omega arith) few
       (λ g spoken begins. more ∙ event g spoken begins)
       (λ begins. count (subst (λ m. BeginsWith rest (count_line m)) more begins))
       heads.1
 
   -- two lines at fault are one
-  one_fault : (done : ℕ) (h k : List Event) (x y : List ℕ) → AreSpoken plan h → AreSpoken plan k → done + length h ≤ max_events → done + length k ≤ max_events
-      → ((e : Event) → IsSpoken plan e → BeginsWith x (event_line plan e) → done + length h ≡ max_events)
-      → ((e : Event) → IsSpoken plan e → BeginsWith y (event_line plan e) → done + length k ≡ max_events)
+  one_fault : (most : ℕ) → most < 2 ^ 64 → (done : ℕ) (h k : List Event) (x y : List ℕ) → AreSpoken plan h → AreSpoken plan k → done + length h ≤ most → done + length k ≤ most
+      → ((e : Event) → IsSpoken plan e → BeginsWith x (event_line plan e) → done + length h ≡ most)
+      → ((e : Event) → IsSpoken plan e → BeginsWith y (event_line plan e) → done + length k ≡ most)
       → flat_map (event_line plan) h ++ x ≡ flat_map (event_line plan) k ++ y → length h ≡ length k
-  one_fault done [] [] x y p q few short one other same = refl
-  one_fault done [] (f ∷ k) x y p q few short one other same =
+  one_fault most small done [] [] x y p q few short one other same = refl
+  one_fault most small done [] (f ∷ k) x y p q few short one other same =
       let full = one f (first f k q) (record { rest = flat_map (event_line plan) k ++ y; whole = same ∙ front f k y }) in
       absurd (omega arith)
-  one_fault done (e ∷ h) [] x y p q few short one other same =
+  one_fault most small done (e ∷ h) [] x y p q few short one other same =
       let full = other e (first e h p) (record { rest = flat_map (event_line plan) h ++ x; whole = sym same ∙ front e h x }) in
       absurd (omega arith)
-  one_fault done (e ∷ h) (f ∷ k) x y p q few short one other same =
+  one_fault most small done (e ∷ h) (f ∷ k) x y p q few short one other same =
       let heads = same_line e f _ _ (first e h p) (first f k q) (sym (front e h x) ∙ same ∙ front f k y) in
       let more_h : (done + 1) + length h ≡ done + length (e ∷ h) = omega arith in
       let more_k : (done + 1) + length k ≡ done + length (f ∷ k) = omega arith in
-      ap suc (one_fault (done + 1) h k x y (later e h p) (later f k q) (omega arith) (omega arith)
+      ap suc (one_fault most small (done + 1) h k x y (later e h p) (later f k q) (omega arith) (omega arith)
       (λ g spoken begins. more_h ∙ one g spoken begins) (λ g spoken begins. more_k ∙ other g spoken begins) heads.1)
 
   -- the text of a journal, with what follows it
-  whole : (text : List ℕ) (h : List Event) (journal : IsJournal plan text h) → text ≡ flat_map (event_line plan) h ++ (count_line (length h) ++ journal.begins.rest)
+  whole : (most : ℕ) (text : List ℕ) (h : List Event) (journal : IsJournal most plan text h) → text ≡ flat_map (event_line plan) h ++ (count_line (length h) ++ journal.begins.rest)
   unfolding journal_text
-  whole text h journal = journal.begins.whole ∙ append_assoc (flat_map (event_line plan) h) (count_line (length h)) journal.begins.rest
+  whole most text h journal = journal.begins.whole ∙ append_assoc (flat_map (event_line plan) h) (count_line (length h)) journal.begins.rest
 
-  pub journals_agree : (text : List ℕ) (h k : List Event) → IsJournal plan text h → IsJournal plan text k → h ≡ k
-  journals_agree text h k one other =
+  pub journals_agree : (most : ℕ) → most < 2 ^ 64 → (text : List ℕ) (h k : List Event) → IsJournal most plan text h → IsJournal most plan text k → h ≡ k
+  journals_agree most small text h k one other =
       let few = one.few in
       let short = other.few in
-      one_journal h k (length h) (length k) one.begins.rest other.begins.rest one.spoken other.spoken (omega arith) (omega arith) (sym (whole text h one) ∙ whole text k other)
+      one_journal h k (length h) (length k) one.begins.rest other.begins.rest one.spoken other.spoken (omega arith) (omega arith) (sym (whole most text h one) ∙ whole most text k other)
 
-  pub journals_stand : (text : List ℕ) (h : List Event) (line : ℕ) → IsJournal plan text h → IsRefusedAt plan text line → ⊥
-  journals_stand text h line journal refused =
+  pub journals_stand : (most : ℕ) → most < 2 ^ 64 → (text : List ℕ) (h : List Event) (line : ℕ) → IsJournal most plan text h → IsRefusedAt most plan text line → ⊥
+  journals_stand most small text h line journal refused =
       let e : 0 + length refused.events ≡ length refused.events = omega arith in
-      no_fault 0 h refused.events (length h) journal.begins.rest refused.rest journal.spoken refused.spoken (omega arith) journal.few
+      no_fault most small 0 h refused.events (length h) journal.begins.rest refused.rest journal.spoken refused.spoken (omega arith) journal.few
       (λ f spoken begins. e ∙ refused.no_event f spoken begins)
       (λ begins. refused.no_count (subst (λ m. BeginsWith refused.rest (count_line m)) e begins))
-      (sym (whole text h journal) ∙ refused.front)
+      (sym (whole most text h journal) ∙ refused.front)
 
-  pub faults_agree : (text : List ℕ) (a b : ℕ) → IsRefusedAt plan text a → IsRefusedAt plan text b → a ≡ b
-  faults_agree text a b one other =
+  pub faults_agree : (most : ℕ) → most < 2 ^ 64 → (text : List ℕ) (a b : ℕ) → IsRefusedAt most plan text a → IsRefusedAt most plan text b → a ≡ b
+  faults_agree most small text a b one other =
       let e : 0 + length one.events ≡ length one.events = omega arith in
       let f : 0 + length other.events ≡ length other.events = omega arith in
       let few = one.few in
       let short = other.few in
       let is = one.line_is in
       let at = other.line_is in
-      let same = one_fault 0 one.events other.events one.rest other.rest one.spoken other.spoken (omega arith) (omega arith)
+      let same = one_fault most small 0 one.events other.events one.rest other.rest one.spoken other.spoken (omega arith) (omega arith)
       (λ g spoken begins. e ∙ one.no_event g spoken begins) (λ g spoken begins. f ∙ other.no_event g spoken begins) (sym one.front ∙ other.front) in
       omega arith

@@ -25,7 +25,7 @@ use Rattle.gcd_journal.specs.declared.totals.Total.{Total}
 use Rattle.gcd_journal.proofs.LawfulSpoken.{permitted_spoken}
 use Rattle.gcd_journal.specs.Totals.{AreTotals, total_of, no_total}
 
-folded_low : (kind : Kind) (a b : ℕ) → folded kind a b ≤ a + b
+pub folded_low : (kind : Kind) (a b : ℕ) → folded kind a b ≤ a + b
 folded_low Or a b = let e = or_add_and a b in omega arith
 folded_low kind a b = omega arith
 

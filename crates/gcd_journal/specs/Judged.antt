@@ -1,4 +1,4 @@
--- What the checker says of events (this project's own rule).
+-- What the checker says of events.
 use Rattle.std.specs.Prelude.{◌≡◌, ⊤, ℕ, List, Some, slice_get, take, IsSome}
 use Rattle.gcd_plan.specs.PlanView.{PlanView}
 use Rattle.gcd_event.specs.declared.event.Event.{Event}

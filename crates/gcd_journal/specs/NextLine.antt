@@ -1,6 +1,5 @@
 -- What stands next in a text, after the lines of some events: what the functions inside this crate say of one another.
 use Rattle.std.specs.Prelude.{◌≡◌, ℕ, ◌<◌, ◌≤◌, List, ◌∷◌, ◌++◌, Some}
-use Rattle.gcd_plan.specs.Limits.{max_events}
 use Rattle.gcd_event.specs.declared.event.Event.{Event}
 use Rattle.gcd_history.specs.JournalText.{count_line}
 use Rattle.gcd_text.specs.Fields.{IsWithout, fields_of}
@@ -17,12 +16,12 @@ pub record LineSpells (look : Look) (text rest : List ℕ) (e : Event) : Type 0 
   pub spells : event_in look (fields_of line) ≡ Some e
 
 -- the text's first line is neither an event's where a journal may have one more, nor `events N` with the count
-pub record IsFault (look : Look) (text : List ℕ) (count : ℕ) : Type 0 where
-  pub no_event : (rest : List ℕ) (e : Event) → LineSpells look text rest e → max_events ≤ count
+pub record IsFault (most : ℕ) (look : Look) (text : List ℕ) (count : ℕ) : Type 0 where
+  pub no_event : (rest : List ℕ) (e : Event) → LineSpells look text rest e → most ≤ count
   pub no_count : ¬ BeginsWith text (count_line count)
 
 -- what the reader says of the text's first line, after so many events
-abbrev pub IsNext : Look → List ℕ → ℕ → Line → Type 0
-IsNext look text count (Spoken e rest) = LineSpells look text rest.now e × (count < max_events)
-IsNext look text count Count = BeginsWith text (count_line count)
-IsNext look text count Fault = IsFault look text count
+abbrev pub IsNext : (most : ℕ) → Look → List ℕ → ℕ → Line → Type 0
+IsNext most look text count (Spoken e rest) = LineSpells look text rest.now e × (count < most)
+IsNext most look text count Count = BeginsWith text (count_line count)
+IsNext most look text count Fault = IsFault most look text count

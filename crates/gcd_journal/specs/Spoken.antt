@@ -1,4 +1,4 @@
--- Which events have a line in a journal (this project's own rule).
+-- Which events have a line in a journal.
 use Rattle.std.specs.Prelude.{◌≡◌, ℕ, List, Some, slice_get, IsTrue}
 use Rattle.gcd_plan.specs.PlanView.{PlanView}
 use Rattle.gcd_plan.specs.declared.numbers.Run.TheVariants.{Block, Source}

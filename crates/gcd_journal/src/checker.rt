@@ -29,8 +29,8 @@ impl From<AllocError> for CheckFault {
 }
 
 /// Judges a run of the plan by its events: the state to which they have come where each is permitted at its position, and else
-/// `Unlawful` at exactly the first that is not. No event after it is looked at. `Memory` comes only of want of memory for the
-/// machine, which is taken at the begin. It costs what the machine's steps cost (this project's own rule).
+/// `Unlawful` at exactly the first that is not. No event after it is looked at. `Memory` comes only where memory runs out for the
+/// machine, which is taken at the begin. It costs what the machine's steps cost.
 pub fn check(alloc: Global, plan: &Plan, events: &[Event]) -> Result<State, CheckFault>
     requires { length events.now + 2 < 2 ^ 32 }
     ensures lawful { IfOk result (IsLawfulWith plan.now events.now) }

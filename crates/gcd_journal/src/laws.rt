@@ -1,7 +1,6 @@
 // What holds of journals. Each function's contract is a law; its body is empty.
-ghost use Rattle.std.specs.Prelude.{◌≡◌, ◌≤◌, ◌++◌, ℕ, List, length};
+ghost use Rattle.std.specs.Prelude.{◌≡◌, ◌≤◌, ◌<◌, ◌^◌, ◌++◌, ℕ, List, length};
 ghost use Rattle.gcd_plan.specs.PlanView.{PlanView};
-ghost use Rattle.gcd_plan.specs.Limits.{max_events};
 ghost use Rattle.gcd_plan.specs.Validity.{IsPlan};
 ghost use Rattle.gcd_event.specs.declared.event.Event.{Event};
 ghost use Rattle.gcd_history.specs.History.{IsLawful};
@@ -10,29 +9,29 @@ ghost use Rattle.gcd_journal.specs.Spoken.{AreSpoken};
 ghost use Rattle.gcd_journal.specs.Journals.{IsJournal, IsRefusedAt};
 ghost use Rattle.gcd_journal.specs.Judged.{IsFirstBarred};
 
-/// A text is a journal of at most one list of events, and then it has no line at fault; and a text has at most one line that is
-/// its first at fault (this project's own rule).
+/// Where a journal may have `most` events, of whatever number below 2 ^ 64: a text is a journal of at most one list of events, and
+/// then it has no line at fault; and a text has at most one line that is its first at fault.
 pub fn journals_are_read_one_way()
-    ensures events { (plan : PlanView) (text : List ℕ) (h k : List Event) → IsPlan plan → IsJournal plan text h → IsJournal plan text k
+    ensures events { (most : ℕ) (plan : PlanView) (text : List ℕ) (h k : List Event) → most < 2 ^ 64 → IsPlan plan → IsJournal most plan text h → IsJournal most plan text k
         → h ≡ k }
-    ensures journal { (plan : PlanView) (text : List ℕ) (h : List Event) (line : ℕ) → IsPlan plan → IsJournal plan text h
-        → IsRefusedAt plan text line → ⊥ }
-    ensures line { (plan : PlanView) (text : List ℕ) (a b : ℕ) → IsPlan plan → IsRefusedAt plan text a → IsRefusedAt plan text b
+    ensures journal { (most : ℕ) (plan : PlanView) (text : List ℕ) (h : List Event) (line : ℕ) → most < 2 ^ 64 → IsPlan plan → IsJournal most plan text h
+        → IsRefusedAt most plan text line → ⊥ }
+    ensures line { (most : ℕ) (plan : PlanView) (text : List ℕ) (a b : ℕ) → most < 2 ^ 64 → IsPlan plan → IsRefusedAt most plan text a → IsRefusedAt most plan text b
         → a ≡ b }
 {}
 
-/// What is written of events that have lines is a journal of them, whatever follows it (this project's own rule).
+/// What is written of events that have lines is a journal of them, whatever follows it.
 pub fn written_journals_are_read()
-    ensures { (plan : PlanView) (h : List Event) (rest : List ℕ) → AreSpoken plan h → length h ≤ max_events
-        → IsJournal plan (journal_text plan h ++ rest) h }
+    ensures { (most : ℕ) (plan : PlanView) (h : List Event) (rest : List ℕ) → AreSpoken plan h → length h ≤ most
+        → IsJournal most plan (journal_text plan h ++ rest) h }
 {}
 
-/// The events of a lawful history of a valid plan have lines (this project's own rule).
+/// The events of a lawful history of a valid plan have lines.
 pub fn lawful_events_are_spoken()
     ensures { (plan : PlanView) (h : List Event) → IsPlan plan → IsLawful plan h → AreSpoken plan h }
 {}
 
-/// Events have at most one that is the first not to be permitted, and lawful ones have none (this project's own rule).
+/// Events have at most one that is the first not to be permitted, and lawful ones have none.
 pub fn one_event_is_barred_first()
     ensures lawful { (plan : PlanView) (h : List Event) (i : ℕ) → IsLawful plan h → IsFirstBarred plan h i → ⊥ }
     ensures one { (plan : PlanView) (h : List Event) (i j : ℕ) → IsFirstBarred plan h i → IsFirstBarred plan h j → i ≡ j }

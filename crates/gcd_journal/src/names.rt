@@ -16,7 +16,7 @@ pub struct Names<'a> {
 }
 
 impl<'a> Names<'a> {
-    /// The names of the plan; an `Err` comes only of want of memory.
+    /// The names of the plan; an `Err` comes only where memory runs out.
     pub fn new(alloc: Global, plan: &'a Plan) -> Result<Names<'a>, AllocError>
         ensures known { IfOk result (λ names. IsLookUp plan.now (look_of names.runs)) }
         ensures valid { IsPlan plan.now }

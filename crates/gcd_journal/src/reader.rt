@@ -1,5 +1,5 @@
 // Reads a journal.
-ghost use Rattle.std.specs.Prelude.{◌≡◌, ◌≢◌, ◌∷◌, ◌++◌, [], codes, IfErr, IfOk, OnOk, MatchBool};
+ghost use Rattle.std.specs.Prelude.{◌≡◌, ◌≢◌, ◌+◌, ◌<◌, ◌^◌, ◌∷◌, ◌++◌, [], codes, IfErr, IfOk, OnOk, MatchBool};
 ghost use Rattle.std.specs.Fmt.{decimal};
 ghost use Rattle.gcd_text.specs.Fields.{IsWithout};
 ghost use Rattle.gcd_journal.specs.Journals.{IsJournal, IsRefusal};
@@ -9,7 +9,7 @@ ghost use Rattle.gcd_journal.specs.NextLine.{IsNext};
 use crate::names::Names;
 use crate::spelling::event_in;
 use gcd_event::Event;
-use gcd_plan::{MAX_EVENTS, Plan};
+use gcd_plan::Plan;
 use gcd_text::cut_at;
 use itoa::Buffer;
 use std::alloc::{AllocError, Global};
@@ -54,14 +54,14 @@ fn is_count(line: &[u8], count: usize) -> bool
     }
 }
 
-// What a line is, and what follows its end.
-fn line_of<'a>(names: &Names, line: &[u8], rest: &'a [u8], count: usize) -> Line<'a>
+// What a line is, after so many events of the most that a journal may have, and what follows its end.
+fn line_of<'a>(names: &Names, line: &[u8], rest: &'a [u8], count: usize, most: u32) -> Line<'a>
     requires { IsWithout 10 line.now }
-    ensures { IsNext (look_of names.now.runs) (line.now ++ 10 ∷ rest.now) count result }
+    ensures { IsNext most (look_of names.now.runs) (line.now ++ 10 ∷ rest.now) count result }
 {
     match event_in(names, line) {
         Some(e) => {
-            if count < MAX_EVENTS as usize {
+            if count < most as usize {
                 Line::Spoken(e, rest)
             } else {
                 Line::Fault
@@ -77,13 +77,13 @@ fn line_of<'a>(names: &Names, line: &[u8], rest: &'a [u8], count: usize) -> Line
     }
 }
 
-// What stands next in a text, after so many events.
-fn next_line<'a>(names: &Names, text: &'a [u8], count: usize) -> Line<'a>
-    ensures { IsNext (look_of names.now.runs) text.now count result }
+// What stands next in a text, after so many events of the most that a journal may have.
+fn next_line<'a>(names: &Names, text: &'a [u8], count: usize, most: u32) -> Line<'a>
+    ensures { IsNext most (look_of names.now.runs) text.now count result }
 {
     match cut_at(text, b'\n') {
         None => Line::Fault,
-        Some((line, rest)) => line_of(names, line, rest, count),
+        Some((line, rest)) => line_of(names, line, rest, count, most),
     }
 }
 
@@ -95,19 +95,25 @@ fn add(events: &mut Vec<Event>, e: Event) -> Result<(), AllocError>
     Ok(())
 }
 
-/// The events of a journal of the plan: those of the text's front up to its line `events N`, after which nothing is read.
+/// The events of a journal of the plan, at most `most`: those of the text's front up to its line `events N`, after which nothing is read.
 /// `Refused` names exactly the first line at fault: one that is no event's line with fitting fields and names of the plan, a
-/// line `events N` with another number, the 65,536th event, a line that lacks its end, or the line after the last.
-/// `Memory` comes only of want of memory. A name costs one look-up (this project's own rule).
-pub fn read_journal(alloc: Global, plan: &Plan, bytes: &[u8]) -> Result<Vec<Event>, JournalFault>
-    ensures journal { IfOk result (λ events. IsJournal plan.now bytes.now events.items) }
-    ensures fault { IfErr result (IsRefusal plan.now bytes.now) }
+/// line `events N` with another number, an event more than `most`, a line that lacks its end, or the line after the last.
+/// `Memory` comes only where memory runs out. A name costs one look-up.
+pub fn read_journal(
+    alloc: Global,
+    plan: &Plan,
+    most: u32,
+    bytes: &[u8],
+) -> Result<Vec<Event>, JournalFault>
+    requires { most + 1 < 2 ^ 32 }
+    ensures journal { IfOk result (λ events. IsJournal most plan.now bytes.now events.items) }
+    ensures fault { IfErr result (IsRefusal most plan.now bytes.now) }
 {
     let names = Names::new(alloc, plan)?;
     let mut events = Vec::new(alloc);
     let mut rest = bytes;
     'lines: loop {
-        match next_line(&names, rest, events.len()) {
+        match next_line(&names, rest, events.len(), most) {
             Line::Spoken(e, more) => {
                 add(&mut events, e)?;
                 rest = more;

@@ -449,7 +449,7 @@ fn report_on(
 /// number; a line for each source; where the run is stuck a line for each parked block and for each block that has not
 /// started; and how it ended. `values` has a value for each block, `main` first; those of blocks that have not ended are not
 /// read. Where memory runs out the text is as before. It takes the events by a machine, and looks at each block and object
-/// once (this project's own rule).
+/// once.
 pub fn write_report(
     alloc: Global,
     plan: &Plan,
@@ -470,7 +470,7 @@ pub fn write_report(
 
 /// Adds the report of a run of the plan to the text, as [`write_report`] does, from a machine that has taken its events. Where no
 /// object of the plan is a source, no step of a machine is taken: it costs a look at each block and object. Else the totals of the
-/// sources come of the events, which a further machine takes (this project's own rule).
+/// sources come of the events, which a further machine takes.
 pub fn write_report_by(
     alloc: Global,
     plan: &Plan,
@@ -492,7 +492,7 @@ pub fn write_report_by(
 }
 
 /// Adds the last line of the report of events that have come to this state, as `big` shows it; where memory runs out the text is
-/// as before (this project's own rule).
+/// as before.
 pub fn write_last_line(
     alloc: Global,
     plan: &Plan,

@@ -10,7 +10,7 @@ ghost use Rattle.gcd_journal.specs.Totals.{AreTotals, MayNote, no_total};
 
 use gcd_event::Event;
 use gcd_machine::Machine;
-use gcd_plan::{Kind, Obj, Plan};
+use gcd_plan::{Kind, Obj, Plan, Run};
 use std::alloc::{AllocError, Global};
 
 /// What the deliveries of a source handed over: their number, and their values in one.
@@ -26,15 +26,9 @@ fn with_delivery(total: Total, kind: Kind, amount: u64) -> Total
     requires value { total.value + amount < 2 ^ 128 }
     ensures { result ≡ record { times = total.times + 1; value = folded kind total.value amount } }
 {
-    let more = u128::from(amount);
-    let value = match kind {
-        Kind::Or => total.value | more,
-        Kind::Add | Kind::Timer { .. } | Kind::Read => total.value + more,
-        Kind::Serial | Kind::Concurrent | Kind::Group | Kind::Semaphore(_) => total.value + more,
-    };
     Total {
         times: total.times + 1,
-        value,
+        value: kind.folded(total.value, u128::from(amount)),
     }
 }
 
@@ -42,18 +36,10 @@ fn with_delivery(total: Total, kind: Kind, amount: u64) -> Total
 fn delivered(e: Event) -> Option<Obj>
     ensures { MatchOption result ((s : ℕ) → delivers s e ≡ false) (λ src. (w : ℕ) × (e ≡ Event.Deliver w src)) }
 {
-    match e {
-        Event::Deliver { src, .. } => Some(src),
-        Event::Start { .. } => None,
-        Event::Act { .. } => None,
-        Event::Wake { .. } => None,
-        Event::End { .. } => None,
-        Event::DeliverEnd { .. } => None,
-        Event::Tick { .. } => None,
-        Event::Ready { .. } => None,
-        Event::FeedEnd { .. } => None,
-        Event::Misuse { .. } => None,
-        Event::Halt => None,
+    match e.begun() {
+        Some(Run::Source(src)) => Some(src),
+        Some(Run::Block(_)) => None,
+        None => None,
     }
 }
 

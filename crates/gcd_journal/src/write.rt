@@ -36,7 +36,7 @@ fn add_count(line: &mut Vec<u8>, count: usize, into: &mut Vec<u8>) -> Result<(),
 
 /// Adds the journal of the events to the text: a line for each event, in order, and then `events N` with their number. Where
 /// memory runs out the text is as before. Conditions: each event has a line (`IsSpoken`), as the events of lawful histories
-/// and of journals that were read have. It takes memory for one line beside the text (this project's own rule).
+/// and of journals that were read have. It takes memory for one line beside the text.
 pub fn write_journal(
     alloc: Global,
     plan: &Plan,

@@ -95,7 +95,7 @@ fn text_of(alloc: Global, row: &str) -> Result<Vec<u8>, AllocError> {
 
 // What `check` of the program writes of the journal.
 fn verdict(alloc: Global, plan: &Plan, text: &[u8]) -> Result<String, AllocError> {
-    let events = match read_journal(alloc, plan, text) {
+    let events = match read_journal(alloc, plan, MAX_EVENTS, text) {
         Ok(events) => events,
         Err(JournalFault::Refused { line }) => return format!(in alloc; "line {line}"),
         Err(JournalFault::Memory) => return Err(AllocError),
@@ -127,7 +127,7 @@ fn journals_are_judged(rt: HostRuntime) -> Result<(), Fail> {
 
 // The events of the text, written again.
 fn rewritten(alloc: Global, plan: &Plan, text: &[u8]) -> Result<Vec<u8>, JournalFault> {
-    let events = read_journal(alloc, plan, text)?;
+    let events = read_journal(alloc, plan, MAX_EVENTS, text)?;
     let events = events.as_slice();
     let mut written = Vec::new(alloc);
     write_journal(alloc, plan, events, &mut written)?;
@@ -184,7 +184,7 @@ fn report_by(
 
 // The report of a journal's events where block b has the value 3 * b, by each of the two calls, and its last line once more.
 fn report(alloc: Global, plan: &Plan, text: &[u8]) -> Result<(Vec<u8>, Vec<u8>), Fail> {
-    let events = read_journal(alloc, plan, text)?;
+    let events = read_journal(alloc, plan, MAX_EVENTS, text)?;
     let events = events.as_slice();
     let mut values = Vec::new(alloc);
     for b in 0..plan.blocks() {
@@ -252,7 +252,7 @@ fn longest_events(alloc: Global, plan: &Plan, text: &[u8]) -> Result<Vec<Event>,
     ensures spoken { IfOk result (λ events. AreSpoken plan.now events.items) }
     ensures few { IfOk result (λ events. length events.items ≤ 65535) }
 {
-    match read_journal(alloc, plan, text) {
+    match read_journal(alloc, plan, MAX_EVENTS, text) {
         Ok(events) => Ok(events),
         Err(_) => Err(Fail::from("no journal")),
     }

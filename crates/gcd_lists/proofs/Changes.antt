@@ -49,7 +49,7 @@ placed_elsewhere places b n place lt nowhere =
     let old : value (entry places b) ≡ 0 = ap value nowhere in
     omega (arith, more, old)
 
-taken_here : (places : List (Option (Obj × Bool))) (b n : ℕ) (barrier : Bool) → b < length places → entry places b ≡ on n barrier
+pub taken_here : (places : List (Option (Obj × Bool))) (b n : ℕ) (barrier : Bool) → b < length places → entry places b ≡ on n barrier
     → count_by (is_on n) (set places b None) + 1 ≡ count_by (is_on n) places
 taken_here places b n barrier lt there =
     let value : Option (Obj × Bool) → ℕ = λ p. cond (is_on n p) 1 0 in
@@ -57,7 +57,7 @@ taken_here places b n barrier lt there =
     let old : value (entry places b) ≡ 1 = ap value there ∙ ap (λ t. cond t 1 0) (eq-eqb n n refl) in
     omega (arith, more, old)
 
-taken_elsewhere : (places : List (Option (Obj × Bool))) (b m n : ℕ) (barrier : Bool) → b < length places → m ≢ n
+pub taken_elsewhere : (places : List (Option (Obj × Bool))) (b m n : ℕ) (barrier : Bool) → b < length places → m ≢ n
     → entry places b ≡ on m barrier → count_by (is_on n) (set places b None) ≡ count_by (is_on n) places
 taken_elsewhere places b m n barrier lt apart there =
     let value : Option (Obj × Bool) → ℕ = λ p. cond (is_on n p) 1 0 in
@@ -66,7 +66,7 @@ taken_elsewhere places b m n barrier lt apart there =
     omega (arith, more, old)
 
 -- a change that leaves the list of a node alone
-untouched : (links places links' places' : _) (n : ℕ) (head : Option Blk) (end : Blk) (ws : List (Blk × Bool)) → IsQueue links places n head end ws
+pub untouched : (links places links' places' : _) (n : ℕ) (head : Option Blk) (end : Blk) (ws : List (Blk × Bool)) → IsQueue links places n head end ws
     → ((b : ℕ) (barrier : Bool) → entry places b ≡ on n barrier → (entry links' b ≡ entry links b) × (entry places' b ≡ entry places b))
     → count_by (is_on n) places ≤ count_by (is_on n) places' → IsQueue links' places' n head end ws
 untouched links places links' places' n head end ws q same more = record {

@@ -1,10 +1,10 @@
 -- How the arrays of `Lists` hold its lists. No contract cites this: it is for the proofs of this crate alone.
-use Rattle.std.specs.Prelude.{◌≡◌, ℕ, zero, suc, ◌≤◌, ◌==◌, Bool, false, List, [], ◌∷◌, length, map, Option, Some, None, slice_index_or, count_by}
+use Rattle.std.specs.Prelude.{◌≡◌, ℕ, zero, suc, ◌≤◌, ◌==◌, Bool, false, if◌then◌else◌, List, [], ◌∷◌, length, map, Option, Some, None, slice_index_or, count_by}
 use Rattle.std.specs.Option.{option_map_or}
-use Rattle.gcd_plan.specs.Limits.{max_objects, max_blocks}
+use Rattle.gcd_plan.specs.Limits.{max_blocks}
 use Rattle.gcd_plan.specs.declared.numbers.Blk.{Blk}
 use Rattle.gcd_plan.specs.declared.numbers.Obj.{Obj}
-use Rattle.gcd_lists.specs.ListsView.{ListsView, barrier_in}
+use Rattle.gcd_lists.specs.ListsView.{ListsView, barrier_in, max_lists}
 
 -- what stands in an array at a number; past the end that is nothing
 abbrev pub entry : {X : Type 0} → List (Option X) → ℕ → Option X
@@ -70,10 +70,24 @@ pub record Hold
 abbrev pub AreLinked : List (Option Blk) → List (Option (Obj × Bool)) → List (Option Blk) → List Blk → Type 0
 AreLinked links places heads lasts = Hold links places heads lasts (lists_of links places heads)
 
--- what is true of the arrays of each `Lists`; no more blocks and objects than a plan may have, so that each link and each
--- place has a number of two bytes
-pub record AreLists (links : List (Option Blk)) (places : List (Option (Obj × Bool))) (heads : List (Option Blk)) (lasts : List Blk)
+-- the block before block b in a list; none before the first
+abbrev pub before_in : ℕ → List (Blk × Bool) → Option Blk
+before_in b [] = None
+before_in b (w ∷ []) = None
+before_in b (w ∷ v ∷ ws) = if v.0.0 == b then Some w.0 else before_in b (v ∷ ws)
+
+-- the link back from the block behind one that waits leads to it
+abbrev pub AreBacked : List (Option Blk) → List (Option Blk) → List (Option (Obj × Bool)) → Type 0
+AreBacked links befores places =
+    (b n : ℕ) (barrier : Bool) (behind : Blk) → entry places b ≡ on n barrier → entry links b ≡ Some behind
+    → entry befores behind.0 ≡ Some (record { 0 = b })
+
+-- what is true of the arrays of each `Lists`; no more blocks and lists than two bytes have numbers for
+pub record AreLists
+    (links : List (Option Blk)) (befores : List (Option Blk)) (places : List (Option (Obj × Bool))) (heads : List (Option Blk)) (lasts : List Blk)
     : Type 0 where
   pub linked : AreLinked links places heads lasts
+  pub backed : AreBacked links befores places
+  pub befores_long : length befores ≡ length links
   pub few_blocks : length links ≤ max_blocks
-  pub few_objects : length heads ≤ max_objects
+  pub few_lists : length heads ≤ max_lists

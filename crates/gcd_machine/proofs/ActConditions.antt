@@ -104,11 +104,11 @@ module _ (past : List Event) (m : MachineView) (t : IsTied m.plan past m) (room 
   can_wait_for_group : (w : ℕ) (b : Blk) (g : Obj) → has_run m.plan past w (Block b) ≡ true → CanSetFree m w → b.0 < length m.plan.blocks → g.0 < length m.plan.objects → CanWaitForGroup m w b g
   can_wait_for_group w b g own worker block group =
       let counts = t.parts.counts in
-      let due = t.own.due in
+      let wakeable = t.own.wakeable in
       let objects = t.parts.wait_objects in
       record {
         group = omega (arith, group, counts);
-        due = omega (arith, block, due);
+        wakeable = omega (arith, block, wakeable);
         sleeps = can_lay_down g b w own group block;
         parks = can_park w b (Empty g m.len) worker block (omega (arith, group, objects), position_low past m t room);
       }
@@ -117,12 +117,12 @@ module _ (past : List Event) (m : MachineView) (t : IsTied m.plan past m) (room 
   can_wait_for_semaphore w b s own worker block semaphore =
       let waits = t.parts.waits in
       let few = t.small.waits s.0 in
-      let due = t.own.due in
+      let wakeable = t.own.wakeable in
       let objects = t.parts.wait_objects in
       record {
         semaphore = omega (arith, semaphore, waits);
         room = omega (arith, few, room);
-        due = omega (arith, block, due);
+        wakeable = omega (arith, block, wakeable);
         sleeps = can_lay_down s b w own semaphore block;
         parks = can_park w b (Rank s (waits_at m.semas s.0 + 1)) worker block (omega (arith, semaphore, objects));
       }

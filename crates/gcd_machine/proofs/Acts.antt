@@ -50,8 +50,8 @@ module _ (m : MachineView) (blocks : List BlockProgress) (handlers : List Handle
   park_by_noted w (Source s) act can = tt
   park_by_noted w (Block b) (Sync q c) can = call_noted can
   park_by_noted w (Block b) (BarrierSync q c) can = call_noted can
-  park_by_noted w (Block b) (GroupWait g) can = record { group = can.group; due = can.due; sleeps = sleep_noted can.sleeps; parks = park_noted can.parks }
-  park_by_noted w (Block b) (Wait s) can = record { semaphore = can.semaphore; room = can.room; due = can.due; sleeps = sleep_noted can.sleeps; parks = park_noted can.parks }
+  park_by_noted w (Block b) (GroupWait g) can = record { group = can.group; wakeable = can.wakeable; sleeps = sleep_noted can.sleeps; parks = park_noted can.parks }
+  park_by_noted w (Block b) (Wait s) can = record { semaphore = can.semaphore; room = can.room; wakeable = can.wakeable; sleeps = sleep_noted can.sleeps; parks = park_noted can.parks }
   park_by_noted w (Block b) act can = can
 
   module _ (homes : (c : ℕ) → (get_or blocks c idle).home ≡ (block_at m c).home) where

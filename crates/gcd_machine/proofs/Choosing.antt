@@ -124,7 +124,7 @@ event_of_own m w run =
     ]
 
 wake_of : (m : MachineView) (w : ℕ) → IsOf w (wake_at m w)
-wake_of m w = elim (next_set m.due 0) as (λ o. IsOf w (option_map (wake_event w) o)) [ None ↦ tt | Some b ↦ by_itself w ]
+wake_of m w = elim (next_set m.wakeable 0) as (λ o. IsOf w (option_map (wake_event w) o)) [ None ↦ tt | Some b ↦ by_itself w ]
 
 main_of : (m : MachineView) (w : ℕ) → IsOf w (main_at m w)
 main_of m w = if_of w (block_at m 0).started None (Some (Start w (record { 0 = 0 }))) tt (by_itself w)

@@ -11,7 +11,7 @@ use Rattle.gcd_group.specs.GroupsView.{count_at, with_one_less}
 use Rattle.gcd_refinement.specs.MachineView.{MachineView, block_at}
 use Rattle.gcd_refinement.specs.Ties.{GroupsAre}
 use Rattle.gcd_refinement.specs.Submits.{sleepers_at}
-use Rattle.gcd_refinement.specs.After.{closed, barrier_ended, with_due, after}
+use Rattle.gcd_refinement.specs.After.{closed, barrier_ended, with_wakeable, after}
 use Rattle.gcd_machine.specs.Steps.{closed_block, caller_let_go, emptied, member_left, stepped}
 use Rattle.gcd_machine.proofs.Activations.{units, counted}
 use Rattle.gcd_machine.proofs.Firing.{with_groups, emptied_is, due_at_last, told_is_sent}
@@ -36,7 +36,7 @@ closed_is m w b =
 
 -- who waits for the end may wake
 abbrev called_view : MachineView → Option Blk → MachineView
-called_view m caller = record m { due = fold with_due m.due (option_to_list caller) }
+called_view m caller = record m { wakeable = fold with_wakeable m.wakeable (option_to_list caller) }
 
 called_is : (m : MachineView) (caller : Option Blk) → caller_let_go m caller ≡ called_view m caller
 called_is m None = refl
@@ -73,7 +73,7 @@ left_by_end plan past m w b (Some g) groups low some e =
       | true ↦ λ one.
           ap (λ t. counted m (cond t (emptied (with_groups over fewer) g) (with_groups over fewer))) one
           ∙ (ap (counted m) (emptied_is over g fewer (λ k. (block_at m k).home) (λ k. refl) (due_at_last m.groups g.0 (m.len + 1) one (low g refl)))
-          ∙ rw (e, one, told_is_sent plan past m g.0 groups, fold-append with_due m.due (option_to_list (block_at m b.0).caller) (sleepers_at m (Some g))) (simp (units, later_less)))
+          ∙ rw (e, one, told_is_sent plan past m g.0 groups, fold-append with_wakeable m.wakeable (option_to_list (block_at m b.0).caller) (sleepers_at m (Some g))) (simp (units, later_less)))
       | false ↦ λ more. rw (e, more, groups.fired g.0) (simp units)
     ] refl
 

@@ -54,7 +54,7 @@ module _ (past : List Event) (m : MachineView) (t : IsTied m.plan past m) (room 
   -- ## Groups
 
   pub can_wake_at : (o : Obj) → o.0 < length m.plan.objects → CanWakeAt m o
-  can_wake_at o low = let long = t.own.sleepers in record { object = omega (arith, low, long); blocks = t.own.sleeper_blocks ∙ sym t.own.due }
+  can_wake_at o low = let long = t.own.sleepers in record { object = omega (arith, low, long); blocks = t.own.sleeper_blocks ∙ sym t.own.wakeable }
 
   pub position_low : m.len + 1 < 2 ^ 32
   position_low = let is = t.totals.len in omega (arith, is, room)

@@ -20,7 +20,7 @@ use Rattle.gcd_refinement.specs.MachineView.{MachineView, idle, block_at}
 use Rattle.gcd_refinement.specs.declared.progress.BlockProgress.{BlockProgress}
 use Rattle.gcd_refinement.specs.Ties.{GroupsAre, told}
 use Rattle.gcd_refinement.specs.Submits.{sleepers_at}
-use Rattle.gcd_refinement.specs.After.{with_block, with_due, all_fired, all_woken, after}
+use Rattle.gcd_refinement.specs.After.{with_block, with_wakeable, all_fired, all_woken, after}
 use Rattle.gcd_refinement.proofs.StepSubmits.{none_waits}
 use Rattle.gcd_machine.specs.Steps.{acted, act_taken, all_fired_at, emptied, stepped}
 use Rattle.gcd_machine.proofs.Activations.{units, counted, all_submitted}
@@ -54,7 +54,7 @@ abbrev emptied_by_leave : MachineView → Run → Obj → MachineView
 emptied_by_leave m run g = counted m (record (all_submitted (acted m run) (map (sent (home_in m)) (list_at m.groups.notify g.0))) {
   groups = all_fired (less m g) g.0;
   sleepers = all_woken (acted m run).sleepers (Some g);
-  due = fold with_due (acted m run).due (sleepers_at (acted m run) (Some g));
+  wakeable = fold with_wakeable (acted m run).wakeable (sleepers_at (acted m run) (Some g));
 })
 
 emptied_stepped : (plan : PlanView) (past : List Event) (m : MachineView) (w : ℕ) (run : Run) (i : ℕ) (g : Obj)

@@ -18,12 +18,12 @@ use Rattle.gcd_plan.proofs.Options.{none_from_is_none}
 use Rattle.gcd_history.proofs.Quiet.{wake_permitted}
 use Rattle.gcd_history.proofs.Reasons.{at_wake}
 use Rattle.gcd_history.proofs.Woken.{parked_facts}
-use Rattle.gcd_refinement.specs.MachineView.{MachineView, block_at, due_at, at_worker}
+use Rattle.gcd_refinement.specs.MachineView.{MachineView, block_at, is_wakeable_at, at_worker}
 use Rattle.gcd_refinement.specs.Stands.{IsTied}
 use Rattle.gcd_machine.specs.Chosen.{wake_at, main_at, nodes_at, idle_choice_at}
 use Rattle.gcd_machine.proofs.IdleWorker.{IsIdle, has_none, start_is, has_main}
 use Rattle.gcd_machine.proofs.NodeChoice.{nodes_are, all_nodes_are}
-use Rattle.gcd_refinement.proofs.StepDue.{same_truth}
+use Rattle.gcd_refinement.proofs.StepWakeable.{same_truth}
 
 -- ## It has no own run
 
@@ -56,20 +56,20 @@ wakes m past w b tied idle may =
           ap is_none (wake_permitted m.plan past (record { 0 = b }) w tied.lawful idle.going idle.worker (has_none m past w tied idle.free) live (ap is_some some) may)
     ] refl may
 
-wake_is_due : (m : MachineView) (past : List Event) (w b : ℕ) → IsTied m.plan past m → IsIdle m past w → permitted m.plan past (wake_event w b) ≡ due_at m b
-wake_is_due m past w b tied idle =
+wake_is_wakeable : (m : MachineView) (past : List Event) (w b : ℕ) → IsTied m.plan past m → IsIdle m past w → permitted m.plan past (wake_event w b) ≡ is_wakeable_at m b
+wake_is_wakeable m past w b tied idle =
     same_truth (permitted m.plan past (wake_event w b)) (may_wake m.plan past b)
     (λ may. (at_wake m.plan past w (record { 0 = b }) (none_from_is_none (why m.plan past (wake_event w b)) may)).came)
     (wakes m past w b tied idle)
-    ∙ sym (tied.wakes.due b)
+    ∙ sym (tied.wakes.wakeable b)
 
 wakes_are : (m : MachineView) (past : List Event) (w : ℕ) → IsTied m.plan past m → IsIdle m past w → find (permitted m.plan past) (map (wake_event w) (range_with_len 0 (length m.plan.blocks))) ≡ wake_at m w
 wakes_are m past w tied idle =
-    let due_long = tied.own.due in
-    let long : length m.plan.blocks ≡ length m.due - 0 = omega (arith, due_long) in
+    let wakeable_long = tied.own.wakeable in
+    let long : length m.plan.blocks ≡ length m.wakeable - 0 = omega (arith, wakeable_long) in
     found_map (permitted m.plan past) (wake_event w) (range_with_len 0 (length m.plan.blocks))
-    ∙ (ap (λ test. option_map (wake_event w) (find test (range_with_len 0 (length m.plan.blocks)))) (fun_ext (λ b. wake_is_due m past w b tied idle))
-    ∙ ap (λ n. option_map (wake_event w) (find (due_at m) (range_with_len 0 n))) long)
+    ∙ (ap (λ test. option_map (wake_event w) (find test (range_with_len 0 (length m.plan.blocks)))) (fun_ext (λ b. wake_is_wakeable m past w b tied idle))
+    ∙ ap (λ n. option_map (wake_event w) (find (is_wakeable_at m) (range_with_len 0 n))) long)
 
 -- ## Main
 

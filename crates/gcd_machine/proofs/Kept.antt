@@ -87,7 +87,7 @@ pub record SameForGroups (m : MachineView) (k : MachineView) : Type 0 where
   pub blocks : k.blocks ≡ m.blocks
   pub busy : k.busy ≡ m.busy
   pub len : k.len ≡ m.len
-  pub due : length k.due ≡ length m.due
+  pub wakeable : length k.wakeable ≡ length m.wakeable
   pub left : k.left ≤ m.left
 
 homes_same : {m k : MachineView} → SameForGroups m k → HaveHomes m → HaveHomes k
@@ -111,7 +111,7 @@ leave_same {m} {k} {g} same can =
       comes_empty = record {
         group = omega (arith, count, may.group);
         position = omega (arith, same.len, may.position);
-        wakes = record { object = omega (arith, sleep, may.wakes.object); blocks = listed ∙ (may.wakes.blocks ∙ sym same.due) };
+        wakes = record { object = omega (arith, sleep, may.wakes.object); blocks = listed ∙ (may.wakes.blocks ∙ sym same.wakeable) };
         homes = homes_same same may.homes;
         room = omega (arith, notify, same.left, may.room);
       };
@@ -122,21 +122,21 @@ same_closed m w b = at (block_at m b.0).node
   where
     at : (node : Option Obj)
         → SameForGroups m (set_free (run_closed (record m { ended = set m.ended b.0 true; left = m.left - 1 }) node (block_at m b.0).barrier) w)
-    at None = record { groups = refl; sleepers = refl; lists = refl; blocks = refl; busy = refl; len = refl; due = refl; left = omega arith }
-    at (Some n) = record { groups = refl; sleepers = refl; lists = refl; blocks = refl; busy = refl; len = refl; due = refl; left = omega arith }
+    at None = record { groups = refl; sleepers = refl; lists = refl; blocks = refl; busy = refl; len = refl; wakeable = refl; left = omega arith }
+    at (Some n) = record { groups = refl; sleepers = refl; lists = refl; blocks = refl; busy = refl; len = refl; wakeable = refl; left = omega arith }
 
 pub same_let_go : (m : MachineView) (caller : Option Blk) → SameForGroups m (caller_let_go m caller)
-same_let_go m None = record { groups = refl; sleepers = refl; lists = refl; blocks = refl; busy = refl; len = refl; due = refl; left = omega arith }
-same_let_go m (Some b) = record { groups = refl; sleepers = refl; lists = refl; blocks = refl; busy = refl; len = refl; due = length-set m.due b.0 true; left = omega arith }
+same_let_go m None = record { groups = refl; sleepers = refl; lists = refl; blocks = refl; busy = refl; len = refl; wakeable = refl; left = omega arith }
+same_let_go m (Some b) = record { groups = refl; sleepers = refl; lists = refl; blocks = refl; busy = refl; len = refl; wakeable = length-set m.wakeable b.0 true; left = omega arith }
 
 -- the caller and the group of a block that ends
 pub may_let_go : (m : MachineView) {k : MachineView} {w : ℕ} {b : Blk} {read : BlockProgress} → read ≡ get_or m.blocks b.0 read → k ≡ closed_block m w b
-    → CanEnd m w b → (c : Blk) → read.caller ≡ Some c → c.0 < length k.due
+    → CanEnd m w b → (c : Blk) → read.caller ≡ Some c → c.0 < length k.wakeable
 may_let_go m {k} {w} {b} {read} read_is is can = λ c at.
     let same = block_read m b read_is can.closes.blk in
     let within = can.caller c (ap (λ (r : BlockProgress). r.caller) (sym same) ∙ at) in
-    let long = ap (λ (n : MachineView). length n.due) is in
-    omega (arith, within, long, (same_closed m w b).due)
+    let long = ap (λ (n : MachineView). length n.wakeable) is in
+    omega (arith, within, long, (same_closed m w b).wakeable)
 
 pub may_leave : (m : MachineView) {k l : MachineView} {w : ℕ} {b : Blk} {read : BlockProgress} → read ≡ get_or m.blocks b.0 read → k ≡ closed_block m w b
     → l ≡ caller_let_go k read.caller → CanEnd m w b → (g : Obj) → read.group ≡ Some g → CanLeave l g

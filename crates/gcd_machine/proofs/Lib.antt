@@ -31,9 +31,9 @@ pub mod Nodes
 pub mod OwnChoice
 pub mod IdleWorker
 pub mod NodeChoice
+pub mod Begins
 pub mod IdleChoice
 pub mod Choosing
 pub mod Ending
 pub mod Chosen
 mod Marked
-mod DueMarks

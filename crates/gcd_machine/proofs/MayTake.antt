@@ -1,11 +1,10 @@
 -- An event that is permitted may be taken: whatever its private steps ask holds of a machine that is tied to the history.
-use Rattle.std.proofs.Common.{◌≡◌, ℕ, ◌+◌, ◌^◌, ◌<◌, ◌≤◌, ltb, leb, true, false, List, [], length, reverse, map, Option, Some, None, option_and_then, refl, ap, sym, ◌∙◌, subst, arith}
+use Rattle.std.proofs.Common.{◌≡◌, ℕ, ◌+◌, ◌^◌, ◌<◌, ◌≤◌, ltb, leb, true, false, List, [], length, reverse, Option, Some, None, option_and_then, refl, ap, sym, ◌∙◌, subst, arith}
 use Rattle.std.specs.Option.{option_map_or}
 use Rattle.std.proofs.lemmas.Bool.{and_parts, ltb-true, leb-true}
 use Rattle.std.proofs.lemmas.List.{length-reverse, length-map}
-use Rattle.std.proofs.lemmas.Simd.{map-map}
-use Rattle.gcd_plan.specs.PlanView.{PlanView, ObjView}
-use Rattle.gcd_plan.specs.Kinds.{is_source, is_source_kind, is_read_kind, is_timer_kind}
+use Rattle.gcd_plan.specs.PlanView.{PlanView}
+use Rattle.gcd_plan.specs.Kinds.{is_source, is_source_kind, is_read_kind}
 use Rattle.gcd_plan.specs.StartRule.{first_of, is_held}
 use Rattle.gcd_plan.specs.declared.numbers.Blk.{Blk}
 use Rattle.gcd_plan.specs.declared.numbers.Obj.{Obj}
@@ -71,8 +70,8 @@ module _ (past : List Event) (m : MachineView) (t : IsTied m.plan past m) (room 
       let known = and_parts (is_worker w) (has_block m.plan b.0) (allowed m.plan past (Wake w b) may).known in
       let low = ltb-true b.0 (length m.plan.blocks) known.1 in
       let reasons = t.parts.reasons in
-      let due = t.own.due in
-      record { worker = can_take_up w known.0; blk = omega (arith, low, reasons); due = omega (arith, low, due) }
+      let wakeable = t.own.wakeable in
+      record { worker = can_take_up w known.0; blk = omega (arith, low, reasons); wakeable = omega (arith, low, wakeable) }
 
   can_end : (w : ℕ) (b : Blk) → why m.plan past (End w b) ≡ None → CanEnd m w b
   can_end w b may =
@@ -82,7 +81,7 @@ module _ (past : List Event) (m : MachineView) (t : IsTied m.plan past m) (room 
       let live = open_from_has_run m.plan past w (Block b) own in
       let blocks = t.own.blocks in
       let ended = t.own.ended in
-      let due = t.own.due in
+      let wakeable = t.own.wakeable in
       record {
         closes = record {
           worker = can_set_free past m t room w (Block b) known.0 own;
@@ -91,7 +90,7 @@ module _ (past : List Event) (m : MachineView) (t : IsTied m.plan past m) (room 
           left = left_at_end past m t w b may;
           node = λ n on. can_close_on past m t room n b live on;
         };
-        caller = λ c of. let l = t.own.callers b.0 c of in omega (arith, l, due);
+        caller = λ c of. let l = t.own.callers b.0 c of in omega (arith, l, wakeable);
         group = λ g of. can_leave past m t room w b g (t.lawful, may) of;
       }
 
@@ -124,20 +123,11 @@ module _ (past : List Event) (m : MachineView) (t : IsTied m.plan past m) (room 
       let moment = t.timers.moment in
       let until = t.parts.until in
       let kinds = t.parts.timer_kinds in
-      let timed = t.own.timed in
-      let long = ap length timed ∙ length-map m.plan.objects (λ o. is_timer_kind o.kind) in
-      let handlers = t.own.handlers in
       let busy = t.own.busy in
-      let few = t.valid.few_objects in
       record {
         forward = omega (arith, within, moment);
         within = omega (arith, within, until);
-        marks = record {
-          timed = timed ∙ (sym (map-map is_timer_kind (λ (o : ObjView). o.kind) m.plan.objects) ∙ ap (map is_timer_kind) (sym kinds));
-          handlers = handlers ∙ sym long;
-          marked = busy ∙ sym long;
-          few = omega (arith, long, few);
-        };
+        marked = busy ∙ sym (ap length kinds ∙ length-map m.plan.objects (λ o. o.kind));
       }
 
   can_change : (e : Event) → why m.plan past e ≡ None → CanChange m e

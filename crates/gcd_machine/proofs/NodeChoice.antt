@@ -104,10 +104,10 @@ source_delivers m past w n tied idle source =
       | false ↦ refl
     ]
 
-abbrev starts_on : PlanView → List Event → ℕ → ℕ → List Event
+abbrev pub starts_on : PlanView → List Event → ℕ → ℕ → List Event
 starts_on plan past w n = option_map_or (λ s. Start w s.blk ∷ []) (first_waiting plan past n) []
 
-abbrev delivers_on : PlanView → ℕ → ℕ → List Event
+abbrev pub delivers_on : PlanView → ℕ → ℕ → List Event
 delivers_on plan w n = cond (is_source plan n) (Deliver w (record { 0 = n }) ∷ []) []
 
 by_two : (shut fenced : Bool) (e : Event) → cond (not (shut || fenced)) (Some e) None ≡ cond shut None (cond fenced None (Some e))
@@ -175,16 +175,22 @@ either_shut : (shut : Bool) (a b : Option Event) → option_or (cond shut None a
 either_shut true a b = refl
 either_shut false a b = refl
 
-node_is : (m : MachineView) (past : List Event) (w n : ℕ) → IsTied m.plan past m → IsIdle m past w → find (permitted m.plan past) (node_events m.plan past w n) ≡ cond (busy_at m n) (node_at m w n) None
-node_is m past w n tied idle =
+-- the two of a node, whether it is marked or not
+pub begins_are : (m : MachineView) (past : List Event) (w n : ℕ) → IsTied m.plan past m → IsIdle m past w
+    → option_or (find (permitted m.plan past) (starts_on m.plan past w n)) (find (permitted m.plan past) (delivers_on m.plan w n)) ≡ node_at m w n
+begins_are m past w n tied idle =
     let shut = is_shut_by m.drains m.tree m.holds n in
     let starts = option_map_or (start_at m w n) (slice_get (list_at m.lists n) 0) None in
+    ap (λ o. option_or o (find (permitted m.plan past) (delivers_on m.plan w n))) (starts_are m past w n tied idle)
+    ∙ (ap (option_or (cond shut None starts)) (delivers_are m past w n tied idle) ∙ either_shut shut starts (deliver_at m w n))
+
+node_is : (m : MachineView) (past : List Event) (w n : ℕ) → IsTied m.plan past m → IsIdle m past w → find (permitted m.plan past) (node_events m.plan past w n) ≡ cond (busy_at m n) (node_at m w n) None
+node_is m past w n tied idle =
     elim (busy_at m n) as (λ v. busy_at m n ≡ v → find (permitted m.plan past) (node_events m.plan past w n) ≡ cond v (node_at m w n) None) [
       | false ↦ λ unmarked. let is = tied.marks.idle n unmarked in none_on m.plan past w n is.nothing_waits is.nothing_pends
       | true ↦ λ marked.
           find-append (permitted m.plan past) (starts_on m.plan past w n) (delivers_on m.plan w n)
-          ∙ (ap (λ o. option_or o (find (permitted m.plan past) (delivers_on m.plan w n))) (starts_are m past w n tied idle)
-          ∙ (ap (option_or (cond shut None starts)) (delivers_are m past w n tied idle) ∙ either_shut shut starts (deliver_at m w n)))
+          ∙ begins_are m past w n tied idle
     ] refl
 
 pub nodes_are : (m : MachineView) (past : List Event) (w n count : ℕ) → IsTied m.plan past m → IsIdle m past w

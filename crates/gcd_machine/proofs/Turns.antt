@@ -10,7 +10,7 @@ use Rattle.gcd_lists.specs.ListsView.{ListsView, list_at, place_of}
 use Rattle.gcd_group.specs.GroupsView.{GroupsView, due_at, with_fired, fires_at}
 use Rattle.gcd_refinement.specs.MachineView.{MachineView, block_at, idle}
 use Rattle.gcd_refinement.specs.declared.progress.BlockProgress.{BlockProgress}
-use Rattle.gcd_refinement.specs.After.{popped, with_due, with_block, fired_times}
+use Rattle.gcd_refinement.specs.After.{popped, with_wakeable, with_block, fired_times}
 use Rattle.gcd_machine.specs.Steps.{let_go, all_let_go, submitted, fired_at, all_fired_at}
 use Rattle.gcd_machine.specs.Conditions.{CanWakeAt, CanSubmit, HaveHomes, CanFire}
 use Rattle.gcd_machine.proofs.Places.{waits_as_before, waited_before, first_waits}
@@ -40,7 +40,7 @@ first_and_rest (y ∷ xs) x first = ap (λ v. v ∷ xs) (same_Some y x first)
 
 -- the machine with other sleepers, and other blocks that may wake
 abbrev with_sleepers : MachineView → List (List (Blk × Bool)) → List Bool → MachineView
-with_sleepers m lists due = record m { sleepers = record m.sleepers { lists = lists }; due = due }
+with_sleepers m lists wakeable = record m { sleepers = record m.sleepers { lists = lists }; wakeable = wakeable }
 
 -- one block less sleeps at the object
 abbrev pub without_first : MachineView → Obj → MachineView
@@ -51,11 +51,11 @@ wake_same : (m : MachineView) (o : Obj) (w : Blk × Bool) → slice_get (list_at
 wake_same m o w first =
     let lists = m.sleepers.lists in
     let ws = list_at m.sleepers o.0 in
-    let due : List (Blk × Bool) → List Bool = λ vs. fold with_due (with_due m.due w.0) (map (λ v. v.0) vs) in
+    let wakeable : List (Blk × Bool) → List Bool = λ vs. fold with_wakeable (with_wakeable m.wakeable w.0) (map (λ v. v.0) vs) in
     let a = set-set lists o.0 (drop 1 ws) [] in
-    let b = ap due (rest_back lists o.0) in
-    let c = ap (λ vs. fold with_due m.due (map (λ v. v.0) vs)) (sym (first_and_rest ws w first)) in
-    ap (λ l. with_sleepers m l (due (get_or (set lists o.0 (drop 1 ws)) o.0 []))) a ∙ ap (with_sleepers m (set lists o.0 [])) (b ∙ c)
+    let b = ap wakeable (rest_back lists o.0) in
+    let c = ap (λ vs. fold with_wakeable m.wakeable (map (λ v. v.0) vs)) (sym (first_and_rest ws w first)) in
+    ap (λ l. with_sleepers m l (wakeable (get_or (set lists o.0 (drop 1 ws)) o.0 []))) a ∙ ap (with_sleepers m (set lists o.0 [])) (b ∙ c)
 
 wake_goes_on : (m : MachineView) (o : Obj) (b : Blk) → CanWakeAt m o → CanWakeAt (let_go (without_first m o) b) o
 wake_goes_on m o b can = record {
@@ -83,9 +83,9 @@ pub wake_end : (m : MachineView) (o : Obj) → slice_get (list_at m.sleepers o.0
 wake_end m o none =
     let lists = m.sleepers.lists in
     let empty = none_first (list_at m.sleepers o.0) none in
-    ap (λ ws. with_sleepers m (set lists o.0 []) (fold with_due m.due (map (λ v. v.0) ws))) empty
-    ∙ (ap (λ ws. with_sleepers m (set lists o.0 ws) m.due) (sym empty)
-    ∙ ap (λ l. with_sleepers m l m.due) (set-get_or lists o.0 []))
+    ap (λ ws. with_sleepers m (set lists o.0 []) (fold with_wakeable m.wakeable (map (λ v. v.0) ws))) empty
+    ∙ (ap (λ ws. with_sleepers m (set lists o.0 ws) m.wakeable) (sym empty)
+    ∙ ap (λ l. with_sleepers m l m.wakeable) (set-get_or lists o.0 []))
 
 -- ## Notify blocks
 

@@ -18,7 +18,7 @@ use Rattle.gcd_timer.specs.TimersView.{next_due_at}
 use Rattle.gcd_drain.specs.Rule.{is_fenced_at}
 use Rattle.gcd_drain.specs.Shut.{is_shut_by}
 use Rattle.gcd_refinement.specs.MachineView.{MachineView, block_at, at_worker, busy_at}
-use Rattle.gcd_machine.specs.Judged.{done_at, next_act_at, misuse_by, is_pending_at}
+use Rattle.gcd_machine.specs.Judged.{done_at, next_act_at, misuse_by, is_busy_at, is_pending_at}
 
 -- ## Of its own run
 
@@ -39,7 +39,7 @@ next_set flags from = find (λ i. slice_index_or flags i false) (range_with_len 
 
 -- the Wake of the parked block with the least number that may wake
 abbrev pub wake_at : MachineView → ℕ → Option Event
-wake_at m w = option_map (wake_event w) (next_set m.due 0)
+wake_at m w = option_map (wake_event w) (next_set m.wakeable 0)
 
 -- the Start of main
 abbrev pub main_at : MachineView → ℕ → Option Event
@@ -82,6 +82,13 @@ choice_by m w from =
     if (m.misused || m.halted) || not (is_worker w)
     then None
     else option_map_or (λ run. Some (own_event_at m w run)) (at_worker m w) (idle_choice_at m w from)
+
+-- what worker w may begin on node n, if it has no run
+abbrev pub begin_by : MachineView → ℕ → ℕ → Option Event
+begin_by m w n =
+    if (m.misused || m.halted) || not (is_worker w)
+    then None
+    else (if is_busy_at m w then None else node_at m w n)
 
 -- ## How far the run has come
 

@@ -1,7 +1,6 @@
 -- When each private step of a machine may be made: what its parts and arrays ask, of the state before the step.
-use Rattle.std.specs.Prelude.{◌≡◌, ◌<◌, ◌≤◌, ℕ, ◌+◌, ◌^◌, Bool, true, false, length, map, Some, None, is_some, sum}
+use Rattle.std.specs.Prelude.{◌≡◌, ◌<◌, ◌≤◌, ℕ, ◌+◌, ◌^◌, Bool, true, false, length, Some, None, is_some, sum}
 use Rattle.gcd_plan.specs.PlanView.{cancel_block}
-use Rattle.gcd_plan.specs.Kinds.{is_timer_kind}
 use Rattle.gcd_plan.specs.declared.act.Act.{Act}
 use Rattle.gcd_plan.specs.declared.act.Act.TheVariants.{Async, Barrier, Sync, BarrierSync, GroupAsync, Notify, Enter, Leave, GroupWait, Signal, Wait, Suspend, Resume, Activate, Target, Merge, Cancel, Retain, Release}
 use Rattle.gcd_plan.specs.declared.numbers.Blk.{Blk}
@@ -51,7 +50,7 @@ pub record CanLayDown (m : MachineView) (o : Obj) (b : Blk) : Type 0 where
 -- blocks may sleep at the object
 pub record CanWakeAt (m : MachineView) (o : Obj) : Type 0 where
   pub object : o.0 < length m.sleepers.lists
-  pub blocks : m.sleepers.blocks ≡ length m.due
+  pub blocks : m.sleepers.blocks ≡ length m.wakeable
 
 -- ## Nodes
 
@@ -266,7 +265,7 @@ pub record CanCall (m : MachineView) (w : ℕ) (b : Blk) (c : Blk) : Type 0 wher
 -- block b may wait for group g
 pub record CanWaitForGroup (m : MachineView) (w : ℕ) (b : Blk) (g : Obj) : Type 0 where
   pub group : g.0 < length m.groups.counts
-  pub due : b.0 < length m.due
+  pub wakeable : b.0 < length m.wakeable
   pub sleeps : CanLayDown m g b
   pub parks : CanPark m w b (Empty g m.len)
 
@@ -274,17 +273,31 @@ pub record CanWaitForGroup (m : MachineView) (w : ℕ) (b : Blk) (g : Obj) : Typ
 pub record CanWaitForSemaphore (m : MachineView) (w : ℕ) (b : Blk) (s : Obj) : Type 0 where
   pub semaphore : s.0 < length m.semas.waits
   pub room : waits_at m.semas s.0 + 1 < 2 ^ 32
-  pub due : b.0 < length m.due
+  pub wakeable : b.0 < length m.wakeable
   pub sleeps : CanLayDown m s b
   pub parks : CanPark m w b (Rank s (waits_at m.semas s.0 + 1))
 
 -- block b may be parked where the act waits for something
 abbrev pub CanParkBy : MachineView → ℕ → Blk → Act → Type 0
+CanParkBy m w b (Async q c) = Unit {0}
+CanParkBy m w b (Barrier q c) = Unit {0}
 CanParkBy m w b (Sync q c) = CanCall m w b c
 CanParkBy m w b (BarrierSync q c) = CanCall m w b c
+CanParkBy m w b (GroupAsync g q c) = Unit {0}
+CanParkBy m w b (Notify g q c) = Unit {0}
+CanParkBy m w b (Enter g) = Unit {0}
+CanParkBy m w b (Leave g) = Unit {0}
 CanParkBy m w b (GroupWait g) = CanWaitForGroup m w b g
+CanParkBy m w b (Signal s) = Unit {0}
 CanParkBy m w b (Wait s) = CanWaitForSemaphore m w b s
-CanParkBy m w b act = Unit {0}
+CanParkBy m w b (Suspend o) = Unit {0}
+CanParkBy m w b (Resume o) = Unit {0}
+CanParkBy m w b (Activate o) = Unit {0}
+CanParkBy m w b (Target o t) = Unit {0}
+CanParkBy m w b (Merge s n) = Unit {0}
+CanParkBy m w b (Cancel s) = Unit {0}
+CanParkBy m w b (Retain o) = Unit {0}
+CanParkBy m w b (Release o) = Unit {0}
 
 -- the same of a run; a handler waits for nothing
 abbrev pub CanParkIn : MachineView → ℕ → Run → Act → Type 0
@@ -326,7 +339,7 @@ pub record CanStart (m : MachineView) (w : ℕ) (b : Blk) : Type 0 where
 pub record CanWake (m : MachineView) (w : ℕ) (b : Blk) : Type 0 where
   pub worker : CanTakeUp m w
   pub blk : b.0 < length m.waits.reasons
-  pub due : b.0 < length m.due
+  pub wakeable : b.0 < length m.wakeable
 
 -- block b may be over, and worker w free
 pub record CanCloseBlock (m : MachineView) (w : ℕ) (b : Blk) : Type 0 where
@@ -339,7 +352,7 @@ pub record CanCloseBlock (m : MachineView) (w : ℕ) (b : Blk) : Type 0 where
 -- worker w may end block b
 pub record CanEnd (m : MachineView) (w : ℕ) (b : Blk) : Type 0 where
   pub closes : CanCloseBlock m w b
-  pub caller : (c : Blk) → (block_at m b.0).caller ≡ Some c → c.0 < length m.due
+  pub caller : (c : Blk) → (block_at m b.0).caller ≡ Some c → c.0 < length m.wakeable
   pub group : (g : Obj) → (block_at m b.0).group ≡ Some g → CanLeave m g
 
 -- worker w may hand what is pending at source s to its handler
@@ -355,18 +368,11 @@ pub record CanEndDelivery (m : MachineView) (w : ℕ) (s : Obj) : Type 0 where
   pub worker : CanSetFree m w
   pub closes : CanClose m s
 
--- it is known which objects are timers, and each of them may be looked at
-pub record CanMarkDue (m : MachineView) : Type 0 where
-  pub timed : m.timed ≡ map is_timer_kind m.timers.kinds
-  pub handlers : length m.handlers ≡ length m.timed
-  pub marked : length m.busy ≡ length m.timed
-  pub few : length m.timed < 2 ^ 32
-
 -- the time may come to t
 pub record CanTick (m : MachineView) (t : ℕ) : Type 0 where
   pub forward : m.timers.moment ≤ t
   pub within : t ≤ m.timers.until
-  pub marks : CanMarkDue m
+  pub marked : length m.busy ≡ length m.timers.kinds
 
 -- what the event changes beside the number of events may be changed
 abbrev pub CanChange : MachineView → Event → Type 0

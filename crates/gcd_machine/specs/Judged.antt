@@ -8,7 +8,7 @@ use Rattle.gcd_plan.specs.Kinds.{has_kind, is_semaphore_kind, is_node}
 use Rattle.gcd_plan.specs.StartRule.{first_of}
 use Rattle.gcd_plan.specs.MisuseCodes.{code_of}
 use Rattle.gcd_plan.specs.declared.act.Act.{Act}
-use Rattle.gcd_plan.specs.declared.act.Act.TheVariants.{Leave, Resume, Target, Release}
+use Rattle.gcd_plan.specs.declared.act.Act.TheVariants.{Async, Barrier, Sync, BarrierSync, GroupAsync, Notify, Enter, Leave, GroupWait, Signal, Wait, Suspend, Resume, Activate, Target, Merge, Cancel, Retain, Release}
 use Rattle.gcd_plan.specs.declared.misuse_code.MisuseCode.TheVariants.{OverResume, UnbalancedLeave, TargetCycle, TargetAfterActivation, TargetWhileTargeted, UseAfterRelease, ReleaseWhileSuspended, ReleaseBelowFirstValue}
 use Rattle.gcd_plan.specs.declared.numbers.Blk.{Blk}
 use Rattle.gcd_plan.specs.declared.numbers.Obj.{Obj}
@@ -78,18 +78,32 @@ second_of (Some o) = o.0 ∷ []
 
 -- what may be wrong with the act beside a name that is released: each code with its test, the lowest first
 abbrev pub act_misuses_at : MachineView → Act → List (ℕ × Bool)
-act_misuses_at m (Resume o) = (code_of OverResume, is_over_resumed_at m.holds o.0) ∷ []
+act_misuses_at m (Async q b) = []
+act_misuses_at m (Barrier q b) = []
+act_misuses_at m (Sync q b) = []
+act_misuses_at m (BarrierSync q b) = []
+act_misuses_at m (GroupAsync g q b) = []
+act_misuses_at m (Notify g q b) = []
+act_misuses_at m (Enter g) = []
 act_misuses_at m (Leave g) = (code_of UnbalancedLeave, entered_at m.groups g.0 == 0) ∷ []
+act_misuses_at m (GroupWait g) = []
+act_misuses_at m (Signal s) = []
+act_misuses_at m (Wait s) = []
+act_misuses_at m (Suspend o) = []
+act_misuses_at m (Resume o) = (code_of OverResume, is_over_resumed_at m.holds o.0) ∷ []
+act_misuses_at m (Activate o) = []
 act_misuses_at m (Target o t) =
     (code_of TargetCycle, would_cycle_at m.tree o.0 t.0)
     ∷ (code_of TargetAfterActivation, not (starts_active m.plan o.0) && is_active_at m.holds o.0)
     ∷ (code_of TargetWhileTargeted, starts_active m.plan o.0 && has_child_at m.tree o.0)
     ∷ []
+act_misuses_at m (Merge s n) = []
+act_misuses_at m (Cancel s) = []
+act_misuses_at m (Retain o) = []
 act_misuses_at m (Release o) =
     (code_of ReleaseWhileSuspended, refs_at m o.0 == 1 && is_held_node_at m o.0)
     ∷ (code_of ReleaseBelowFirstValue, refs_at m o.0 == 1 && is_below_first_at m o.0)
     ∷ []
-act_misuses_at m _ = []
 
 -- the code of the misuse, if the act is one now
 abbrev pub misuse_by : MachineView → Act → Option ℕ

@@ -5,4 +5,5 @@ pub mod Stands
 pub mod Steps
 pub mod Conditions
 pub mod Judged
+pub mod Begins
 pub mod Chosen

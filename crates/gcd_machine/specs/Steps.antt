@@ -1,5 +1,5 @@
 -- What each private step of a machine changes. The steps of one event together make `after` of gcd_refinement.
-use Rattle.std.specs.Prelude.{ℕ, ◌+◌, ◌-◌, ◌==◌, Bool, true, false, not, ◌&&◌, ◌||◌, if◌then◌else◌, [], length, take, map, fold, Option, Some, None, slice_set}
+use Rattle.std.specs.Prelude.{ℕ, ◌+◌, ◌-◌, ◌==◌, Bool, true, false, not, ◌&&◌, if◌then◌else◌, [], length, take, map, fold, Option, Some, None, slice_set}
 use Rattle.std.specs.Option.{option_map_or}
 use Rattle.gcd_plan.specs.PlanView.{cancel_block}
 use Rattle.gcd_plan.specs.Kinds.{has_kind, is_read_kind}
@@ -20,10 +20,10 @@ use Rattle.gcd_sema.specs.SemasView.{waits_at, signals_at, is_passed_at, with_wa
 use Rattle.gcd_sync.specs.WaitsView.{with_reason}
 use Rattle.gcd_hold.specs.HoldsView.{hold_at, is_active_at, with_hold, with_active}
 use Rattle.gcd_source.specs.SourcesView.{is_cancelled_at, merged_at, with_pending, with_cancelled as with_cancelled_source}
-use Rattle.gcd_timer.specs.TimersView.{with_activated, with_cancelled as with_cancelled_timer}
-use Rattle.gcd_refinement.specs.MachineView.{MachineView, block_at, busy_at, refs_at}
+use Rattle.gcd_timer.specs.TimersView.{with_activated, with_cancelled as with_cancelled_timer, marked_by}
+use Rattle.gcd_refinement.specs.MachineView.{MachineView, block_at, refs_at}
 use Rattle.gcd_refinement.specs.Submits.{sleepers_at}
-use Rattle.gcd_refinement.specs.After.{popped, pushed_on, opened, closed, targeted, barrier_began, barrier_ended, with_block, with_due, handled, delivered as delivery, stays_busy, unmarked, has_due, dues_marked, all_fired}
+use Rattle.gcd_refinement.specs.After.{popped, pushed_on, opened, closed, targeted, barrier_began, barrier_ended, with_block, with_wakeable, handled, delivered as delivery, stays_busy, unmarked, all_fired}
 
 -- ## Workers
 
@@ -72,7 +72,7 @@ submitted m n b barrier = record m {
 
 -- what block b is parked for has come
 abbrev pub let_go : MachineView → Blk → MachineView
-let_go m b = record m { due = with_due m.due b }
+let_go m b = record m { wakeable = with_wakeable m.wakeable b }
 
 -- block b sleeps at the object behind all others there
 abbrev pub laid_down : MachineView → Obj → Blk → MachineView
@@ -82,14 +82,14 @@ laid_down m o b = record m { sleepers = pushed_on m.sleepers o b false }
 abbrev pub first_let_go : MachineView → Obj → MachineView
 first_let_go m o = record m {
   sleepers = popped m.sleepers (Some o);
-  due = fold with_due m.due (take 1 (sleepers_at m (Some o)));
+  wakeable = fold with_wakeable m.wakeable (take 1 (sleepers_at m (Some o)));
 }
 
 -- each block that sleeps at the object may wake
 abbrev pub all_let_go : MachineView → Obj → MachineView
 all_let_go m o = record m {
   sleepers = record m.sleepers { lists = slice_set m.sleepers.lists o.0 [] };
-  due = fold with_due m.due (sleepers_at m (Some o));
+  wakeable = fold with_wakeable m.wakeable (sleepers_at m (Some o));
 }
 
 -- ## Acts
@@ -162,17 +162,9 @@ merged m s n = record m {
 
 -- ## Time
 
--- object s has to be looked at where it is a timer with a due time that no delivery took
-abbrev pub marked_if_due : MachineView → ℕ → MachineView
-marked_if_due m s = record m { busy = slice_set m.busy s (busy_at m s || has_due m.timers m.handlers s) }
-
--- each such timer has to be looked at
-abbrev pub due_marked : MachineView → MachineView
-due_marked m = record m { busy = dues_marked m.busy m.timers m.handlers }
-
 -- the time has come to t
 abbrev pub come_to : MachineView → ℕ → MachineView
-come_to m t = due_marked (record m { timers = record m.timers { moment = t } })
+come_to m t = record m { timers = record m.timers { moment = t }; busy = marked_by m.timers t m.busy }
 
 -- ## Groups
 
@@ -206,7 +198,7 @@ started m w b =
 
 -- worker w goes on with block b
 abbrev pub woken : MachineView → ℕ → Blk → MachineView
-woken m w b = taken_up (record m { waits = with_reason m.waits b.0 None; due = slice_set m.due b.0 false }) w (Block b)
+woken m w b = taken_up (record m { waits = with_reason m.waits b.0 None; wakeable = slice_set m.wakeable b.0 false }) w (Block b)
 
 -- block b is over: its run has closed on its node, if it has one, and worker w is free
 abbrev pub closed_block : MachineView → ℕ → Blk → MachineView
@@ -293,11 +285,25 @@ effect_of m (Release o) = record m { refs = slice_set m.refs o.0 (refs_at m o.0 
 
 -- block b is parked where the act, which it makes, waits for something
 abbrev pub parked_by_act : MachineView → ℕ → Blk → Act → MachineView
+parked_by_act m w b (Async q c) = m
+parked_by_act m w b (Barrier q c) = m
 parked_by_act m w b (Sync q c) = called_by m w b c
 parked_by_act m w b (BarrierSync q c) = called_by m w b c
+parked_by_act m w b (GroupAsync g q c) = m
+parked_by_act m w b (Notify g q c) = m
+parked_by_act m w b (Enter g) = m
+parked_by_act m w b (Leave g) = m
 parked_by_act m w b (GroupWait g) = waited_for_group m w b g
+parked_by_act m w b (Signal s) = m
 parked_by_act m w b (Wait s) = waited_for_semaphore m w b s
-parked_by_act m w b act = m
+parked_by_act m w b (Suspend o) = m
+parked_by_act m w b (Resume o) = m
+parked_by_act m w b (Activate o) = m
+parked_by_act m w b (Target o t) = m
+parked_by_act m w b (Merge s n) = m
+parked_by_act m w b (Cancel s) = m
+parked_by_act m w b (Retain o) = m
+parked_by_act m w b (Release o) = m
 
 abbrev pub parked_in : MachineView → ℕ → Run → Act → MachineView
 parked_in m w (Block b) act = parked_by_act m w b act

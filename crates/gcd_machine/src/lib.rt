@@ -5,11 +5,12 @@
 //!
 //! | call | answer |
 //! |---|---|
-//! | `Machine::new` | a machine that stands for the plan and the empty history, or want of memory |
-//! | `copy` | the same machine once more, which shares the plan, or want of memory |
+//! | `Machine::new` | a machine that stands for the plan and the empty history, or out of memory |
+//! | `copy` | the same machine once more, which shares the plan, or out of memory |
 //! | `permits` | the first reason why the event may not come next (`why`), or None |
 //! | `apply` | takes a permitted event: what the machine stood for, with the event |
 //! | `choose` | what a worker records next (`choice_of`), permitted and the worker's own |
+//! | `begin_on` | what a worker may begin on a node: a Start or a Deliver (`begin_of`) |
 //! | `state`, `is_quiescent`, `is_halted` | how far the run has come (`HasState`), whether nothing but a halt can come, whether it is over |
 //! | `len`, `running` | how many events came, how many runs are open and not parked |
 //! | `next_due`, `is_live_feed`, `next_live_feed`, `data_of`, `pending_of` | due times, live feeds, what sources handed over and have pending |

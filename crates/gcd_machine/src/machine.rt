@@ -6,6 +6,7 @@ ghost use Rattle.gcd_event.specs.declared.event.Event.{Event};
 ghost use Rattle.gcd_history.specs.Choice.{is_work, worker_of};
 ghost use Rattle.gcd_history.specs.Ends.{HasState, IsQuiescent, is_halted};
 ghost use Rattle.gcd_history.specs.History.{awaited_of, choice_of, last_data_of, first_waiting_of, is_ended, is_live_feed, is_started, next_due_of, node_of, parks, pending_of, running_of, why};
+ghost use Rattle.gcd_machine.specs.Begins.{begin_of};
 ghost use Rattle.gcd_machine.specs.Stands.{MayApply, StandsFor};
 
 use crate::registers::Registers;
@@ -42,7 +43,7 @@ impl Model for Machine {
 
 impl Machine {
     /// The machine of the plan before anything has happened. It keeps a copy of the plan, which its own copies share. An `Err`
-    /// comes only of want of memory.
+    /// comes only where memory runs out.
     pub fn new(alloc: Global, plan: &Plan) -> Result<Machine, AllocError>
         ensures plan { IfOk result (λ m. m.plan ≡ plan.now) }
         ensures stands { IfOk result (λ m. StandsFor m plan.now []) }
@@ -52,7 +53,7 @@ impl Machine {
         })
     }
 
-    /// The same machine once more, which shares the plan. An `Err` comes only of want of memory.
+    /// The same machine once more, which shares the plan. An `Err` comes only where memory runs out.
     pub fn copy(&self, alloc: Global) -> Result<Machine, AllocError>
         ensures { IfOk result (λ m. m ≡ self.now) }
     {
@@ -84,7 +85,7 @@ impl Machine {
     }
 
     /// Takes an event that is permitted, without memory. It costs a constant number of steps, twice the length of the node's
-    /// chain, one for each block that the event submits or lets go on, and at a tick a look at each timer.
+    /// chain, one for each block that the event submits or lets go on, and at a tick a few for each timer that it reaches.
     #[inline(always)]
     pub fn apply(&mut self, e: Event)
         requires { MayApply self.old e }
@@ -109,6 +110,16 @@ impl Machine {
         self.registers.choice(worker, from)
     }
 
+    /// What the worker may begin on the node: the start of the first block that waits there, or else the source's delivery. None
+    /// exactly where neither may come next, as for a worker that has a run (this project's own rule). It looks once at each
+    /// object of the node's chain.
+    pub fn begin_on(&self, worker: u8, node: Obj) -> Option<Event>
+        requires { node.0 < length self.now.plan.objects }
+        ensures { (plan : PlanView) (h : List Event) → StandsFor self.now plan h → result ≡ begin_of plan h worker node.0 }
+    {
+        self.registers.begin(worker, node)
+    }
+
     /// How far the run has come. It costs as much as [`Machine::is_quiescent`].
     pub fn state(&self) -> State
         ensures { (plan : PlanView) (h : List Event) → StandsFor self.now plan h → HasState plan h result }
@@ -117,7 +128,7 @@ impl Machine {
     }
 
     /// Whether nothing but a halt can come any more, and the run is not halted. It costs a constant number of steps where a run
-    /// is open and not parked, or a read source is live, and else a look at each timer and one [`Machine::choose`].
+    /// is open and not parked, or a read source is live, and else as much as one [`Machine::choose`].
     pub fn is_quiescent(&self) -> bool
         ensures { (plan : PlanView) (h : List Event) → StandsFor self.now plan h → IsTrue result ↔ IsQuiescent plan h }
     {

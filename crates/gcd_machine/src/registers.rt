@@ -56,11 +56,9 @@ pub struct Registers {
     pub blocks: Vec<BlockProgress>,
     pub ended: Vec<bool>,
     // the parked blocks that may wake
-    pub due: BitSet,
+    pub wakeable: BitSet,
     // by object
     pub handlers: Vec<HandlerProgress>,
-    // the objects that are timers
-    pub timed: BitSet,
     // the nodes that have to be looked at for a Start or a Deliver: each where a block waits or something is pending
     pub busy: BitSet,
     // the read sources that are live

@@ -283,5 +283,6 @@ fn summary(m: &Machine) -> Option<Told> {
         nodes: (m.node_of(B1), m.node_of(B2)),
         pending: (m.pending_of(O1), m.pending_of(O3)),
         parks: (m.parks(act_of_main(3)), m.parks(act_of_main(4))),
+        begins: (m.begin_on(1, O1), m.begin_on(1, O2), m.begin_on(0, O3)),
     })
 }

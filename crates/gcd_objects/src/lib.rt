@@ -5,8 +5,8 @@
 //!
 //! | call | answer | what it leaves |
 //! |---|---|---|
-//! | `Objects::new` | one reference on each object of the plan; or want of memory | |
-//! | `copied` | the same counts once more; or want of memory | |
+//! | `Objects::new` | one reference on each object of the plan; or out of memory | |
+//! | `copied` | the same counts once more; or out of memory | |
 //! | `refs` | how many references the object has | |
 //! | `is_live` | whether it has any | |
 //! | `retain` | | one reference more on the object, the others as they were |

@@ -22,7 +22,7 @@ impl Model for Objects {
 
 impl Objects {
     /// One reference on each object of the plan, as at its creation (dispatch_object(3)). It takes all the memory that
-    /// the counts ever need: an `Err` comes only of want of it.
+    /// the counts ever need: an `Err` comes only where memory runs out.
     pub fn new(alloc: Global, plan: &Plan) -> Result<Objects, AllocError>
         ensures { IfOk result (λ o. o ≡ replicate (length plan.now.objects) 1) }
     {
@@ -31,7 +31,7 @@ impl Objects {
         })
     }
 
-    /// The same counts once more. It takes all the memory that the counts ever need: an `Err` comes only of want of it.
+    /// The same counts once more. It takes all the memory that the counts ever need: an `Err` comes only where memory runs out.
     pub fn copied(&self, alloc: Global) -> Result<Objects, AllocError>
         ensures { IfOk result (λ o. o ≡ self.now) }
     {

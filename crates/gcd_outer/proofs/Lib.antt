@@ -1,6 +1,5 @@
 mod AnswerLemmas
 mod FeedLemmas
-mod SlotLemmas
-mod TellLemmas
+pub mod TellLemmas
 mod TextLemmas
 pub mod ToldLemmas

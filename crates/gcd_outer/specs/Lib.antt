@@ -1,10 +1,8 @@
 pub mod Answers
 pub mod Feeds
 pub mod InMemory
-pub mod Listening
 pub mod Outside
 pub mod Pages
 pub mod Planned
-pub mod Slots
 pub mod Tells
 pub mod Texts

@@ -1,4 +1,4 @@
--- What calls on the outside tell: bytes, counts, and what one call saw of a shelf and of a sink. (This project's own rules.)
+-- What calls on the outside tell: bytes, counts, and what one call saw of a shelf and of a sink.
 use Rattle.std.specs.Prelude.{◌≡◌, ◌≤◌, ◌<◌, ◌+◌, ◌++◌, ◌⊎◌, ℕ, Bool, true, List, Option, Some, None, length, min, take}
 
 -- bytes, each a number below 256

@@ -1,4 +1,4 @@
--- What a poller tells of its feeds. (This project's own rules.)
+-- What a poller tells of its feeds.
 use Rattle.std.specs.Prelude.{◌≡◌, ◌≤◌, ◌++◌, ◌∷◌, [], ◌==◌, ◌||◌, ◌&&◌, ℕ, Bool, true, false, List, if◌then◌else◌, nat_le}
 use Rattle.std.specs.List.{list_all, list_any, flat_map}
 use Rattle.gcd_outer.specs.declared.limits.TheConstants.{MAX_TELL_BYTES}

@@ -2,8 +2,7 @@
 ghost use Rattle.std.specs.Prelude.{◌≡◌, ◌≤◌, Bool, true, max};
 ghost use Rattle.gcd_outer.specs.Outside.{ClockState};
 
-/// The time, in milliseconds from a start of its own. It never goes back. It has no fault. (This
-/// project's own rule.)
+/// The time, in milliseconds from a start of its own. It never goes back. It has no fault.
 pub trait Clock {
     /// Whether it tells the present and the greatest moment waited for. Where it doesn't, `waited` of its state
     /// claims nothing.

@@ -5,7 +5,7 @@ use crate::clock::Clock;
 
 /// A clock in memory: each answer moves its present on by a step, and a wait moves it to its end. It
 /// starts at 0. Sums of times stop at 2^64 - 1. It tells its present and the greatest moment that was
-/// waited for. (This project's own rule.)
+/// waited for.
 #[derive(Drop)]
 pub struct JumpClock {
     step: u64,

@@ -1,6 +1,6 @@
 //! The outside of the program: what comes in and what goes out. (This project's own rules.)
 //!
-//! | trait | what it is | model | in memory | over the system |
+//! | trait | what it is | model | in memory | over the system (`gcd_system`) |
 //! |---|---|---|---|---|
 //! | `Shelf` | contents by name, loaded whole | the content under each name; the number of loads | `MapShelf` | `FileShelf` |
 //! | `Sink` | takes bytes, piece by piece | the bytes taken so far | `VecSink` | `StdoutSink` |
@@ -42,39 +42,26 @@ mod answer_list;
 mod calls;
 mod clock;
 mod feed;
-mod file_shelf;
 mod jump_clock;
 mod limits;
 mod list_poller;
 mod map_shelf;
-mod net_poller;
 mod poller;
 mod shelf;
 mod sink;
-mod slot;
-mod slots;
-mod stdout_sink;
-mod system_clock;
 mod tell;
 mod text_log;
 mod told;
 mod vec_sink;
 
 pub use clock::Clock;
-pub use file_shelf::FileShelf;
 pub use jump_clock::JumpClock;
 pub use limits::{MAX_FEEDS, MAX_TELL_BYTES, MAX_TELLS};
 pub use list_poller::ListPoller;
 pub use map_shelf::MapShelf;
-pub use net_poller::NetPoller;
 pub use poller::Poller;
 pub use shelf::{LoadFault, Shelf};
 pub use sink::{Failed, Sink, write_whole};
-pub use stdout_sink::StdoutSink;
-pub use system_clock::SystemClock;
 pub use tell::Tell;
 pub use told::Told;
 pub use vec_sink::VecSink;
-
-#[cfg(test)]
-mod tests;

@@ -1,4 +1,4 @@
-// The limits of what a poller watches and tells. (This project's own rules.)
+// The limits of what a poller watches and tells.
 
 /// Feeds are numbered below this.
 pub const MAX_FEEDS: u32 = 1024;

@@ -22,8 +22,8 @@ use std::alloc::{AllocError, Global};
 ///
 /// It fails in the listens, watches and polls that `fail_listen`, `fail_watch` and `fail_poll` name, in
 /// a listen or a watch that would pass its room, and in a poll after 2^64 - 1 answers; a listen after one
-/// that succeeded may also fail for want of memory. A poll that fails uses up no answer, and a listen or a
-/// watch that fails uses no room. (This project's own rule.)
+/// that succeeded may also fail for lack of memory. A poll that fails uses up no answer, and a listen or a
+/// watch that fails uses no room.
 #[derive(Drop)]
 pub struct ListPoller {
     answers: AnswerList,
@@ -82,7 +82,7 @@ impl ListPoller {
         })
     }
 
-    /// The listen of this number, counted from 0, is to fail. Want of memory leaves the poller as it was.
+    /// The listen of this number, counted from 0, is to fail. Being out of memory leaves the poller as it was.
     pub fn fail_listen(&mut self, listen: u64) -> Result<(), AllocError>
         ensures ok { OnOk result (failing_listens self.new ≡ failing_listens self.old ++ listen ∷ []) }
         ensures wanting { OnErr result (failing_listens self.new ≡ failing_listens self.old) }
@@ -93,7 +93,7 @@ impl ListPoller {
         self.listens.fail(listen)
     }
 
-    /// The watch of this number, counted from 0, is to fail. Want of memory leaves the poller as it was.
+    /// The watch of this number, counted from 0, is to fail. Being out of memory leaves the poller as it was.
     pub fn fail_watch(&mut self, watch: u64) -> Result<(), AllocError>
         ensures ok { OnOk result (failing_watches self.new ≡ failing_watches self.old ++ watch ∷ []) }
         ensures wanting { OnErr result (failing_watches self.new ≡ failing_watches self.old) }
@@ -104,7 +104,7 @@ impl ListPoller {
         self.watches.fail(watch)
     }
 
-    /// The poll of this number, counted from 0, is to fail. Want of memory leaves the poller as it was.
+    /// The poll of this number, counted from 0, is to fail. Being out of memory leaves the poller as it was.
     pub fn fail_poll(&mut self, poll: u64) -> Result<(), AllocError>
         ensures ok { OnOk result (failing_polls self.new ≡ failing_polls self.old ++ poll ∷ []) }
         ensures wanting { OnErr result (failing_polls self.new ≡ failing_polls self.old) }
@@ -154,7 +154,7 @@ impl Poller for ListPoller {
     ghost state = { state_of };
 
     // What each poller promises, and then: it fails just where that is planned, past the room, or, where
-    // an address is held already, for want of memory.
+    // an address is held already, for lack of memory.
     fn listen(&mut self, addr: &str) -> Result<(), Failed>
         ensures watched { (feed : ℕ) → watched_of self.new feed ≡ watched_of self.old feed }
         ensures ended { (feed : ℕ) → ended_of self.new feed ≡ ended_of self.old feed }

@@ -7,8 +7,7 @@ use crate::shelf::{LoadFault, Shelf};
 use std::alloc::{AllocError, Global};
 use std::collections::BTreeMap;
 
-/// A shelf in memory. It tells what it holds. It fails just in the loads that `fail` names. (This
-/// project's own rule.)
+/// A shelf in memory. It tells what it holds. It fails just in the loads that `fail` names.
 #[derive(Drop)]
 pub struct MapShelf {
     alloc: Global,
@@ -35,7 +34,7 @@ impl MapShelf {
         }
     }
 
-    /// Puts these bytes under the name, in place of what stood there. Want of memory leaves the shelf
+    /// Puts these bytes under the name, in place of what stood there. Being out of memory leaves the shelf
     /// as it was.
     pub fn put(&mut self, name: &str, bytes: &[u8]) -> Result<(), AllocError>
         ensures put { OnOk result (⟦<MapShelf as Shelf>⟧.content self.new name.now ≡ Some bytes.now) }
@@ -53,7 +52,7 @@ impl MapShelf {
         Ok(())
     }
 
-    /// The load of this number, counted from 0, is to fail; nothing else changes. Want of memory leaves
+    /// The load of this number, counted from 0, is to fail; nothing else changes. Being out of memory leaves
     /// the shelf as it was.
     pub fn fail(&mut self, load: u64) -> Result<(), AllocError>
         ensures content { ⟦<MapShelf as Shelf>⟧.content self.new ≡ ⟦<MapShelf as Shelf>⟧.content self.old }

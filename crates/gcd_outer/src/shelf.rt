@@ -2,7 +2,7 @@
 ghost use Rattle.std.specs.Prelude.{◌≡◌, ◌≤◌, ◌<◌, List, ℕ, Bool, Option, Some, None, [], true, length, OnOk, OnErr, IsErrOf};
 ghost use Rattle.gcd_outer.specs.Outside.{Rises, next_count};
 
-/// Why a load gave no content. (This project's own rule.)
+/// Why a load gave no content.
 #[derive(Clone, Copy, Debug, PartialEq, Eq)]
 pub enum LoadFault {
     /// The shelf failed, and counted it.
@@ -16,7 +16,7 @@ pub enum LoadFault {
     Memory,
 }
 
-/// A map from names to bytes. (This project's own rule.)
+/// A map from names to bytes.
 pub trait Shelf {
     /// Whether it tells what it holds. Where it doesn't, `content` and `loads` claim nothing.
     ghost tells: { Bool };

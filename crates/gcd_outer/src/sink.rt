@@ -2,11 +2,11 @@
 ghost use Rattle.std.specs.Prelude.{◌≡◌, ◌≤◌, ◌<◌, ◌++◌, List, ℕ, Bool, true, length, take, OnOk, OnErr, IfOk};
 ghost use Rattle.gcd_outer.specs.Outside.{Rises};
 
-/// A call of a sink failed, and the sink counted it. (This project's own rule.)
+/// A call of a sink failed, and the sink counted it.
 #[derive(Clone, Copy, Debug, PartialEq, Eq)]
 pub struct Failed;
 
-/// Takes bytes, one piece after another. (This project's own rule.)
+/// Takes bytes, one piece after another.
 pub trait Sink {
     /// Whether it tells what it took. Where it doesn't, `taken` claims nothing.
     ghost tells: { Bool };
@@ -30,7 +30,7 @@ pub trait Sink {
 }
 
 /// Writes the whole text, by as many writes as the sink wants. `Failed` where one of them failed: then
-/// the sink took a proper front of the text. (This project's own rule.)
+/// the sink took a proper front of the text.
 pub fn write_whole<K: Sink>(out: &mut K, text: &[u8]) -> Result<(), Failed>
     ensures ok { K.tells ≡ true → OnOk result (K.taken out.new ≡ K.taken out.old ++ text.now) }
     ensures front { K.tells ≡ true

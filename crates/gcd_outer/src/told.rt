@@ -9,7 +9,7 @@ use arrayvec::ArrayVec;
 use std::marker::Model;
 
 /// One answer of a poller: at most `MAX_TELLS` tells, in order. It takes no memory but its own. Contracts see
-/// the list of its tells. (This project's own rule.)
+/// the list of its tells.
 #[derive(Drop)]
 pub struct Told {
     tells: ArrayVec<Tell, MAX_TELLS>,

@@ -6,8 +6,7 @@ use crate::sink::{Failed, Sink};
 use std::alloc::{AllocError, Global};
 
 /// A sink in memory with room for a stated number of bytes. It tells what it took. It fails just in the
-/// writes that `fail` names and in one that would pass its room, and takes nothing then. (This project's
-/// own rule.)
+/// writes that `fail` names and in one that would pass its room, and takes nothing then.
 #[derive(Drop)]
 pub struct VecSink {
     bytes: Vec<u8>,
@@ -41,7 +40,7 @@ impl VecSink {
         })
     }
 
-    /// The write of this number, counted from 0, is to fail; nothing else changes. Want of memory leaves
+    /// The write of this number, counted from 0, is to fail; nothing else changes. Being out of memory leaves
     /// the sink as it was.
     pub fn fail(&mut self, write: u64) -> Result<(), AllocError>
         ensures taken { ⟦<VecSink as Sink>⟧.taken self.new ≡ ⟦<VecSink as Sink>⟧.taken self.old }

@@ -10,9 +10,13 @@ mod group;
 #[cfg(test)]
 mod hold;
 #[cfg(test)]
+mod lists;
+#[cfg(test)]
 mod objects;
 #[cfg(test)]
 mod sema;
+#[cfg(test)]
+mod soonest;
 #[cfg(test)]
 mod source;
 #[cfg(test)]

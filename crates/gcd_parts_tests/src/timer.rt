@@ -1,5 +1,6 @@
 ghost use Rattle.std.specs.Prelude.{◌≡◌, length};
 
+use gcd_bits::BitSet;
 use gcd_plan::{BlkPart, Kind, MAX_TIME, Obj, ObjPart, Parts, Plan};
 use gcd_timer::Timers;
 use std::alloc::{AllocError, Global};
@@ -247,6 +248,62 @@ fn play_row(rt: &impl Abort, alloc: Global, row: &Row) -> Result<(), Fail> {
 fn due_times(rt: HostRuntime) -> Result<(), Fail> {
     for row in ROWS.iter() {
         play_row(&rt, rt.alloc(), row)?;
+    }
+    Ok(())
+}
+
+// Ticks, each with which of the five objects are marked after it, where the queue was before.
+const TICKS: [(u32, [bool; 5]); 5] = [
+    (2, [false, false, false, true, false]),
+    (3, [false, false, true, true, false]),
+    (11, [false, true, false, true, false]),
+    (20, [false, true, true, true, false]),
+    (21, [false, false, true, true, false]),
+];
+
+fn is_marked(rt: &impl Abort, marks: &BitSet, i: usize) -> bool {
+    assert!(rt; i < marks.len() as usize);
+    marks.has(i as u32)
+}
+
+fn tick_once(
+    rt: &impl Abort,
+    alloc: Global,
+    plan: &Plan,
+    timers: &mut Timers,
+    tick: &(u32, [bool; 5]),
+) -> Result<(), Fail>
+    requires kinds { length timers.old.kinds ≡ length plan.now.objects }
+    requires until { timers.old.until ≡ plan.now.until }
+    ensures kinds { length timers.new.kinds ≡ length plan.now.objects }
+    ensures until { timers.new.until ≡ plan.now.until }
+{
+    let mut marks = BitSet::new(alloc, plan.objects())?;
+    assert!(rt; plan.objects() == 5);
+    marks.set(QUEUE.0);
+    assert!(rt; timers.moment() <= tick.0);
+    assert!(rt; tick.0 <= plan.until());
+    timers.tick_marked(tick.0, &mut marks);
+    for (i, marked) in tick.1.iter().enumerate() {
+        assert_eq!(rt;
+            is_marked(rt, &marks, i),
+            *marked,
+            "object {i} at {}",
+            tick.0
+        );
+    }
+    Ok(())
+}
+
+#[test]
+fn a_tick_marks_the_timers_that_it_reaches(rt: HostRuntime) -> Result<(), Fail> {
+    let made = Plan::of_parts(parts(rt.alloc(), 21)?).ok_or("a valid plan")?;
+    let plan = &made;
+    let mut timers = Timers::new(rt.alloc(), plan)?;
+    play(&rt, plan, &mut timers, &Call::Activate(FIVES));
+    play(&rt, plan, &mut timers, &Call::Activate(NINES));
+    for tick in TICKS.iter() {
+        tick_once(&rt, rt.alloc(), plan, &mut timers, tick)?;
     }
     Ok(())
 }

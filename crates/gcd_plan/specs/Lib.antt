@@ -4,6 +4,7 @@ pub mod HeldParts
 pub mod Kinds
 pub mod Chains
 pub mod Names
+pub mod Acts
 pub mod Validity
 pub mod WithinLimits
 pub mod StartRule

@@ -1,5 +1,5 @@
 -- The number of each code of misuse (dispatch_resume(3), dispatch_group_leave(3), dispatch_set_target_queue(3),
--- dispatch_object(3), dispatch_semaphore_create(3); 4 and 5 are this project's own rule).
+-- dispatch_object(3), dispatch_semaphore_create(3); 4 and 5 dispatch/object.h and dispatch/queue.h).
 use Rattle.std.specs.Prelude.{ℕ}
 use Rattle.gcd_plan.specs.declared.misuse_code.MisuseCode.{MisuseCode}
 use Rattle.gcd_plan.specs.declared.misuse_code.MisuseCode.TheVariants.{OverResume, UnbalancedLeave, TargetCycle, TargetAfterActivation, TargetWhileTargeted, UseAfterRelease, ReleaseWhileSuspended, ReleaseBelowFirstValue}

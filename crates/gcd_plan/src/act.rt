@@ -1,4 +1,7 @@
 // What a block or a handler does, step by step.
+ghost use Rattle.std.specs.Prelude.{◌≡◌};
+ghost use Rattle.gcd_plan.specs.Acts.{parks};
+ghost use Rattle.gcd_plan.specs.Validity.{block_of, is_handler_act};
 
 use crate::numbers::{Blk, Obj};
 
@@ -43,4 +46,51 @@ pub enum Act {
     Retain(Obj),
     /// Gives a reference on the object back (dispatch_release(3)).
     Release(Obj),
+}
+
+impl Act {
+    /// Whether the act parks its block until a Wake: a call that waits, even where what it waits for has come (dispatch_sync(3),
+    /// dispatch_barrier_sync(3), dispatch_group_wait(3), dispatch_semaphore_wait(3)).
+    pub fn parks(self) -> bool
+        ensures { result ≡ parks self }
+    {
+        match self {
+            Act::Sync(..) | Act::BarrierSync(..) | Act::GroupWait(_) | Act::Wait(_) => true,
+            Act::Async(..) | Act::Barrier(..) | Act::GroupAsync(..) | Act::Notify(..) => false,
+            Act::Enter(_) | Act::Leave(_) | Act::Signal(_) => false,
+            Act::Suspend(_) | Act::Resume(_) | Act::Activate(_) | Act::Target(..) => false,
+            Act::Merge(..) | Act::Cancel(_) | Act::Retain(_) | Act::Release(_) => false,
+        }
+    }
+
+    /// Whether a handler may have the act: it submits no block and waits for nothing (this project's own rule).
+    pub fn is_for_handlers(self) -> bool
+        ensures { result ≡ is_handler_act self }
+    {
+        match self {
+            Act::Async(..) | Act::Barrier(..) | Act::Sync(..) | Act::BarrierSync(..) => false,
+            Act::GroupAsync(..) | Act::Notify(..) => false,
+            Act::GroupWait(_) | Act::Wait(_) => false,
+            Act::Enter(_) | Act::Leave(_) | Act::Signal(_) => true,
+            Act::Suspend(_) | Act::Resume(_) | Act::Activate(_) | Act::Target(..) => true,
+            Act::Merge(..) | Act::Cancel(_) => true,
+            Act::Retain(_) | Act::Release(_) => true,
+        }
+    }
+
+    /// The block that the act submits; None exactly where it submits none.
+    pub fn block(self) -> Option<Blk>
+        ensures { result ≡ block_of self }
+    {
+        match self {
+            Act::Async(_, b) | Act::Barrier(_, b) | Act::Sync(_, b) | Act::BarrierSync(_, b) => {
+                Some(b)
+            }
+            Act::GroupAsync(_, _, b) | Act::Notify(_, _, b) => Some(b),
+            Act::Enter(_) | Act::Leave(_) | Act::GroupWait(_) | Act::Signal(_) => None,
+            Act::Wait(_) => None,
+            Act::Suspend(_) | Act::Resume(_) | Act::Activate(_) | Act::Target(..) => None,
+            Act::Merge(..) | Act::Cancel(_) | Act::Retain(_) | Act::Release(_) => None,
+        }
+    }
 }

@@ -28,7 +28,7 @@ impl Held {
         }
     }
 
-    /// The same parts, to be shared by copies. An `Err` comes only of want of memory, and the parts are dropped then.
+    /// The same parts, to be shared by copies. An `Err` comes only where memory runs out, and the parts are dropped then.
     pub fn share(self, alloc: Global) -> Result<Held, AllocError>
         ensures { IfOk result (λ h. parts_of h ≡ parts_of self) }
     {
@@ -38,8 +38,8 @@ impl Held {
         }
     }
 
-    /// The same parts once more: those that are shared are no copy and take no memory. An `Err` comes only of want of
-    /// memory.
+    /// The same parts once more: those that are shared are no copy and take no memory. An `Err` comes only where
+    /// memory runs out.
     pub fn copied(&self, alloc: Global) -> Result<Held, AllocError>
         ensures { IfOk result (λ h. view_of (parts_of h) ≡ view_of (parts_of self.now)) }
     {

@@ -2,7 +2,7 @@
 ghost use Rattle.std.specs.Prelude.{◌≡◌};
 ghost use Rattle.gcd_plan.specs.PlanView.{view_of, kind_of};
 ghost use Rattle.gcd_plan.specs.Kinds.{has_kind, is_queue_kind, is_node_kind, is_source_kind, is_group_kind, is_semaphore_kind, is_merge_kind, is_queue};
-ghost use Rattle.gcd_plan.specs.Validity.{is_submittable, is_held_object, is_act, is_handler_act};
+ghost use Rattle.gcd_plan.specs.Validity.{is_submittable, is_held_object, is_act};
 
 use crate::act::Act;
 use crate::kind::Kind;
@@ -96,20 +96,5 @@ pub fn is_act(parts: &Parts, act: Act) -> bool
         Act::Merge(s, n) => is_merge_source(parts, s) && n <= MAX_VALUE,
         Act::Cancel(s) => is_source(parts, s),
         Act::Retain(o) | Act::Release(o) => is_counted(parts, o),
-    }
-}
-
-/// Whether a handler may have the act: it submits no block and waits for nothing (this project's own rule).
-pub fn is_handler_act(act: Act) -> bool
-    ensures { result ≡ is_handler_act act }
-{
-    match act {
-        Act::Async(..) | Act::Barrier(..) | Act::Sync(..) | Act::BarrierSync(..) => false,
-        Act::GroupAsync(..) | Act::Notify(..) => false,
-        Act::GroupWait(_) | Act::Wait(_) => false,
-        Act::Enter(_) | Act::Leave(_) | Act::Signal(_) => true,
-        Act::Suspend(_) | Act::Resume(_) | Act::Activate(_) | Act::Target(..) => true,
-        Act::Merge(..) | Act::Cancel(_) => true,
-        Act::Retain(_) | Act::Release(_) => true,
     }
 }

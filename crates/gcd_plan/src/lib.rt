@@ -4,16 +4,18 @@
 //!
 //! | call | answer |
 //! |---|---|
-//! | `ObjPart::new`, `BlkPart::new` | an object or block of a name with nothing else declared, or want of memory |
+//! | `ObjPart::new`, `BlkPart::new` | an object or block of a name with nothing else declared, or out of memory |
 //! | `Kind::is_queue`, `is_source`, `is_node`, `is_exclusive`, .. | what kind of object it is |
 //! | `MisuseCode::code` | the number of a code of misuse, 1 to 8 |
 //! | `Plan::of_parts` | the plan of the parts; None exactly where they are no valid plan (`IsPlan`) |
 //! | `Plan::of_valid_parts` | the same of parts that the caller knows to be valid |
-//! | `Plan::share` | the same plan, whose copies share its parts, or want of memory |
-//! | `Plan::copied` | the same plan once more, or want of memory |
-//! | `Plan::kinds` | the kinds of all objects, or want of memory |
+//! | `Plan::share` | the same plan, whose copies share its parts, or out of memory |
+//! | `Plan::copied` | the same plan once more, or out of memory |
+//! | `Plan::kinds` | the kinds of all objects, or out of memory |
 //! | `objects`, `blocks`, `kind`, `first_target`, .. | what the plan holds, exactly |
-//! | `is_name`, `is_path`, `block_of` | the tests of names and paths, the block that an act submits |
+//! | `Act::block`, `parks`, `is_for_handlers` | the block that an act submits; whether it waits; whether a handler may have it |
+//! | `Kind::folded` | two values in one, as the kind folds them |
+//! | `is_name`, `is_path` | the tests of names and paths |
 //! | `MAX_OBJECTS`, `MAX_BLOCKS`, .. | how much plans, scripts and runs may hold |
 //!
 //! `specs/StartRule` has the rule by which a block starts over plain data, since the parts of the machine and the
@@ -56,7 +58,6 @@ pub use limits::{
 pub use misuse_code::MisuseCode;
 pub use names_valid::{is_name, is_path};
 pub use numbers::{Blk, Obj, Run};
-pub use once_valid::block_of;
 pub use parts::{BlkPart, FilePart, ObjPart, Parts};
 pub use plan::Plan;
 pub use reason::Reason;

@@ -36,23 +36,10 @@ pub fn blocks_named(blocks: &[BlkPart], name: &str) -> usize
     blocks.iter().filter(|b| name == b.name.as_str()).count()
 }
 
-/// The block that the act submits; None exactly where it submits none.
-pub fn block_of(act: Act) -> Option<Blk>
-    ensures { result ≡ block_of act }
-{
-    match act {
-        Act::Async(_, b) | Act::Barrier(_, b) | Act::Sync(_, b) | Act::BarrierSync(_, b) => Some(b),
-        Act::GroupAsync(_, _, b) | Act::Notify(_, _, b) => Some(b),
-        Act::Enter(_) | Act::Leave(_) | Act::GroupWait(_) | Act::Signal(_) | Act::Wait(_) => None,
-        Act::Suspend(_) | Act::Resume(_) | Act::Activate(_) | Act::Target(..) => None,
-        Act::Merge(..) | Act::Cancel(_) | Act::Retain(_) | Act::Release(_) => None,
-    }
-}
-
 fn submits(act: Act, b: Blk) -> bool
     ensures { result ≡ option_map_or (λ c. c.0 == b.0) (block_of act) false }
 {
-    match block_of(act) {
+    match act.block() {
         Some(c) => c.0 == b.0,
         None => false,
     }

@@ -31,7 +31,7 @@ pub struct ObjPart {
 
 impl ObjPart {
     /// An object of this name and kind on target `root`, with no path, no handler and no cancellation block, and active
-    /// exactly where its kind is no source (dispatch_activate(3)). An `Err` comes only of want of memory.
+    /// exactly where its kind is no source (dispatch_activate(3)). An `Err` comes only where memory runs out.
     pub fn new(alloc: Global, name: &str, kind: Kind) -> Result<ObjPart, AllocError>
         ensures { IfOk result (λ o. obj_view o ≡ record {
           name = name.now;
@@ -67,8 +67,8 @@ pub struct BlkPart {
 }
 
 impl BlkPart {
-    /// A block of this name that does nothing and computes nothing (this project's own rule). An `Err` comes only of want of
-    /// memory.
+    /// A block of this name that does nothing and computes nothing (this project's own rule). An `Err` comes only where
+    /// memory runs out.
     pub fn new(alloc: Global, name: &str) -> Result<BlkPart, AllocError>
         ensures { IfOk result (λ b. blk_view b ≡ record { name = name.now; acts = []; work = None }) }
     {

@@ -6,7 +6,7 @@ ghost use Rattle.gcd_plan.specs.Validity.{is_kind, has_path, has_fields, is_obje
 
 use crate::act::Act;
 use crate::kind::Kind;
-use crate::kinds_valid::{is_act, is_handler_act, is_queue, is_submittable};
+use crate::kinds_valid::{is_act, is_queue, is_submittable};
 use crate::limits::{MAX_FILE_BYTES, MAX_TIME, MAX_VALUE};
 use crate::names_valid::is_path;
 use crate::parts::{BlkPart, FilePart, ObjPart, Parts};
@@ -39,7 +39,7 @@ fn is_handler(parts: &Parts, acts: &[Act]) -> bool
     ensures { result ≡ list_all (λ act. is_handler_act act && is_act (view_of parts.now) act) acts.now }
 {
     acts.iter()
-        .all(|act| is_handler_act(*act) && is_act(parts, *act))
+        .all(|act| act.is_for_handlers() && is_act(parts, *act))
 }
 
 fn has_fields(parts: &Parts, o: &ObjPart) -> bool

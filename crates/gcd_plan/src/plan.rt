@@ -184,7 +184,7 @@ impl Plan {
 }
 
 impl Plan {
-    /// The kind of each object, by number; an `Err` comes only of want of memory.
+    /// The kind of each object, by number; an `Err` comes only where memory runs out.
     pub fn kinds(&self, alloc: Global) -> Result<Vec<Kind>, AllocError>
         ensures { IfOk result (λ v. v.items ≡ map (λ o. o.kind) self.now.objects) }
     {
@@ -195,8 +195,8 @@ impl Plan {
         Ok(kinds)
     }
 
-    /// The same plan, whose copies share its parts: a copy of it takes no memory for them. An `Err` comes only of want of
-    /// memory, and the plan is dropped then (this project's own rule).
+    /// The same plan, whose copies share its parts: a copy of it takes no memory for them. An `Err` comes only where
+    /// memory runs out, and the plan is dropped then (this project's own rule).
     pub fn share(self, alloc: Global) -> Result<Plan, AllocError>
         ensures { IfOk result (λ p. p ≡ self) }
     {
@@ -206,8 +206,8 @@ impl Plan {
         })
     }
 
-    /// The same plan once more. Of a plan that [`Plan::share`] gave it has the same parts. An `Err` comes only of want of
-    /// memory.
+    /// The same plan once more. Of a plan that [`Plan::share`] gave it has the same parts. An `Err` comes only where
+    /// memory runs out.
     pub fn copied(&self, alloc: Global) -> Result<Plan, AllocError>
         ensures { IfOk result (λ p. p ≡ self.now) }
     {

@@ -8,7 +8,7 @@ ghost use Rattle.gcd_plan.specs.Validity.{submitted_blocks, block_of, blocks_of}
 
 use crate::act::Act;
 use crate::numbers::Blk;
-use crate::once_valid::{block_of, block_submissions, object_submissions};
+use crate::once_valid::{block_submissions, object_submissions};
 use crate::parts::{ObjPart, Parts};
 
 #[tactic(auto, using(crate::proofs::Valid::submissions_counted, crate::proofs::Valid::acts_seen, crate::proofs::Sums::sum_by_one_more))]
@@ -23,7 +23,7 @@ fn submits_once(parts: &Parts, act: Act) -> bool
     requires { IsWithinLimits parts.now }
     ensures { result ≡ option_map_or (λ b. count_by (λ c. c.0 == b.0) (submitted_blocks (view_of parts.now)) == 1) (block_of act) true }
 {
-    match block_of(act) {
+    match act.block() {
         None => true,
         Some(b) => is_submitted_once(parts, b),
     }

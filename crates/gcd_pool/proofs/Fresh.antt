@@ -28,7 +28,8 @@ use Rattle.gcd_row.specs.Plays.{Turned}
 use Rattle.gcd_row.specs.declared.view.Terms.{Terms}
 use Rattle.gcd_row.proofs.Holding.{handler_of_source}
 use Rattle.gcd_row.proofs.Running.{known_run, taken_known, taken_not_given, taken_source, none_some}
-use Rattle.gcd_pool.specs.Hands.{ended_run, IsUncalled, IsFreshCell, IsFreshAt}
+use Rattle.gcd_event.specs.Owners.{ended}
+use Rattle.gcd_pool.specs.Hands.{IsUncalled, IsFreshCell, IsFreshAt}
 
 first_there : {A : Type 0} → (xs : List A) (i : ℕ) → i < length xs → (x : A) × (slice_get xs i ≡ Some x)
 first_there xs i low = ⊎_elim
@@ -91,7 +92,7 @@ module _ {S : Type 0} (shape : S → Shape) (plan : PlanView) where
 
 -- ## Its own events
 
-pub given_is_ended : (plan : PlanView) (e : Event) (r : Run) → ended_run e ≡ Some r → given plan e ≡ Some r
+pub given_is_ended : (plan : PlanView) (e : Event) (r : Run) → ended e ≡ Some r → given plan e ≡ Some r
 given_is_ended plan (End w b) r is = is
 given_is_ended plan (DeliverEnd w s) r is = is
 given_is_ended plan e r is = absurd (cc)
@@ -161,7 +162,7 @@ module _ {S : Type 0} (shape : S → Shape) (gives : S → ℕ → Type 0) (t : 
   parked_is_ready h w (Source u) (Source s) i x valid gave fresh =
       absurd (none_some None (Source s) refl (sym (ap (λ (p : Bool). Rattle.std.specs.Prelude.cond p (Some (Source u)) None) (parking_acts_are_blocks t.plan valid w i u)) ∙ gave))
 
-  pub back_of_fresh : (h : List Event) (e : Event) (c : List (ℕ × S)) → IsPlan t.plan → IsLawful t.plan h → why t.plan h e ≡ None → ended_run e ≡ None → HasSlots shape gives t h (held_by t.plan h (worker_of e)) c → IsFreshAt shape t.plan h (worker_of e) c → GivesBack shape t h e c
+  pub back_of_fresh : (h : List Event) (e : Event) (c : List (ℕ × S)) → IsPlan t.plan → IsLawful t.plan h → why t.plan h e ≡ None → ended e ≡ None → HasSlots shape gives t h (held_by t.plan h (worker_of e)) c → IsFreshAt shape t.plan h (worker_of e) c → GivesBack shape t h e c
   back_of_fresh h (Acted w q i) c valid lawful may ends has fresh = λ r gave.
       let mine : held_by t.plan h w ≡ Some r = givings_are_the_holders t.plan h lawful (Acted w q i) r gave may in
       let had = subst (λ (o : Option Run). HasSlots shape gives t h o c) mine has in

@@ -6,8 +6,9 @@ pub mod Serves
 pub mod Cells
 pub mod Told
 pub mod Works
-pub mod Outside
-pub mod Leading
-pub mod LeadTurns
 pub mod Splices
 pub mod Teams
+pub mod Recording
+pub mod EndPuts
+pub mod Exits
+pub mod Laid

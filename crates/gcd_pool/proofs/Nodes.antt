@@ -24,7 +24,8 @@ use Rattle.gcd_history.proofs.Reasons.{allowed}
 use Rattle.gcd_history.proofs.SubmittedOnNodes.{on_a_node, source_is_node, submitted_fit}
 use Rattle.gcd_history.proofs.SubmittedOnce.{submitted_once}
 use Rattle.gcd_team.specs.Held.{given}
-use Rattle.gcd_pool.specs.Duties.{begin_of, begun_on, deliver_of, if_permitted, start_of}
+use Rattle.gcd_machine.specs.Begins.{begin_of, deliver_of, if_permitted, start_of}
+use Rattle.gcd_pool.specs.Duties.{begun_on}
 
 -- ## The node is a queue or a source
 

@@ -22,7 +22,8 @@ use Rattle.gcd_row.specs.declared.put.Put.TheVariants.{Placed, Barred, Full}
 use Rattle.gcd_row.specs.declared.view.View.{View}
 use Rattle.gcd_row.proofs.Fronts.{starts_refl, starts_trans, starts_more}
 use Rattle.gcd_row.proofs.Passing.{lawful_seen, valid_plan}
-use Rattle.gcd_pool.specs.Hands.{ended_run, GoesOn, IsFresh, IsFreshAt, IsSettled}
+use Rattle.gcd_event.specs.Owners.{ended}
+use Rattle.gcd_pool.specs.Hands.{GoesOn, IsFresh, IsFreshAt, IsSettled}
 use Rattle.gcd_pool.proofs.Fresh.{back_of_fresh, fresh_ahead, fresh_given, fresh_own, given_is_ended, ready_ahead}
 
 -- ## Going on
@@ -136,7 +137,7 @@ module _ {S : Type 0} (shape : S → Shape) (gives : S → ℕ → Type 0) (b : 
 
   -- ## What its own event asks
 
-  pub fresh_gives : (p : RowPass S) (e : Event) → IsPassOf shape gives b p → worker_of e ≡ (view p).worker → why (view p).terms.plan (view p).seen e ≡ None → ended_run e ≡ None → IsFresh shape (view p) (slots p) → GivesBack shape (view p).terms (view p).seen e (slots p)
+  pub fresh_gives : (p : RowPass S) (e : Event) → IsPassOf shape gives b p → worker_of e ≡ (view p).worker → why (view p).terms.plan (view p).seen e ≡ None → ended e ≡ None → IsFresh shape (view p) (slots p) → GivesBack shape (view p).terms (view p).seen e (slots p)
   fresh_gives p e is mine may ends fresh =
       let v = view p in
       back_of_fresh shape gives v.terms v.seen e (slots p) (valid_plan shape gives b p is) (lawful_seen shape gives b p is) may ends
@@ -144,7 +145,7 @@ module _ {S : Type 0} (shape : S → Shape) (gives : S → ℕ → Type 0) (b : 
       (subst (λ (w : ℕ). IsFreshAt shape v.terms.plan v.seen w (slots p)) (sym mine) fresh)
 
   -- who may end a run holds it
-  pub ended_held : (p : RowPass S) (e : Event) (r : Run) → IsPassOf shape gives b p → worker_of e ≡ (view p).worker → why (view p).terms.plan (view p).seen e ≡ None → ended_run e ≡ Some r → held_run (view p) ≡ Some r
+  pub ended_held : (p : RowPass S) (e : Event) (r : Run) → IsPassOf shape gives b p → worker_of e ≡ (view p).worker → why (view p).terms.plan (view p).seen e ≡ None → ended e ≡ Some r → held_run (view p) ≡ Some r
   ended_held p e r is mine may ends =
       let v = view p in
       subst (λ (w : ℕ). held_by v.terms.plan v.seen w ≡ Some r) mine

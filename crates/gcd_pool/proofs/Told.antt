@@ -6,6 +6,7 @@ use Rattle.gcd_plan.specs.PlanView.{PlanView}
 use Rattle.gcd_plan.specs.declared.numbers.Obj.{Obj}
 use Rattle.gcd_event.specs.declared.event.Event.{Event}
 use Rattle.gcd_history.specs.Choice.{is_work, worker_of}
+use Rattle.gcd_history.specs.Ends.{HasEnded}
 use Rattle.gcd_history.specs.History.{why, choice_of}
 use Rattle.gcd_history.proofs.PublicLaws.{choice_is_permitted}
 use Rattle.gcd_refinement.specs.MachineView.{MachineView}
@@ -16,8 +17,11 @@ use Rattle.gcd_row.specs.Passes.{IsPassOf, view}
 use Rattle.gcd_row.specs.declared.board.RowBoard.{RowBoard}
 use Rattle.gcd_row.specs.declared.pass.RowPass.{RowPass}
 use Rattle.gcd_row.proofs.Passing.{lawful_seen, valid_plan}
-use Rattle.gcd_pool.specs.Duties.{Chooses, IsDuty, begin_of, begun_on}
-use Rattle.gcd_pool.specs.declared.duty.Duty.TheVariants.{Record, Begin}
+use Rattle.gcd_machine.specs.Begins.{begin_of}
+use Rattle.gcd_pool.specs.Duties.{Chooses, IsDuty, begun_on}
+use Rattle.gcd_pool.specs.declared.duty.Duty.TheVariants.{Leave, Record, Begin}
+use Rattle.gcd_pool.specs.declared.duty.Exit.{Exit}
+use Rattle.gcd_pool.proofs.Exits.{exit_ended}
 use Rattle.gcd_pool.proofs.Nodes.{Begins, begins, begun_node}
 
 module _ {S : Type 0} (shape : S → Shape) (gives : S → ℕ → Type 0) (b : RowBoard S) (p : RowPass S) (is : IsPassOf shape gives b p) where
@@ -29,31 +33,34 @@ module _ {S : Type 0} (shape : S → Shape) (gives : S → ℕ → Type 0) (b : 
   stands_as m same = subst (λ (x : MachineView). StandsFor x (view p).terms.plan (view p).seen) (sym same) is.stands
 
   -- what may begin on a node
-  pub begins_there : (plan : PlanView) (m : MachineView) (w : ℕ) (n : Obj) (e : Event) → plan ≡ (view p).terms.plan → m ≡ p.machine → w ≡ p.number
-      → ((h : List Event) → StandsFor m plan h → Some e ≡ begin_of plan h w n.0) → Begins (view p).terms.plan (view p).seen (view p).worker n.0 e
-  begins_there plan m w n e same machine worker tells =
+  pub begins_there : (m : MachineView) (w : ℕ) (n : Obj) (e : Event) → m ≡ p.machine → w ≡ p.number
+      → ((plan : PlanView) (h : List Event) → StandsFor m plan h → Some e ≡ begin_of plan h w n.0) → Begins (view p).terms.plan (view p).seen (view p).worker n.0 e
+  begins_there m w n e machine worker tells =
       let v = view p in
-      let told : Some e ≡ begin_of v.terms.plan v.seen w n.0 =
-      subst (λ (q : PlanView). StandsFor m q v.seen → Some e ≡ begin_of q v.seen w n.0) same (tells v.seen) (stands_as m machine) in
+      let told : Some e ≡ begin_of v.terms.plan v.seen w n.0 = tells v.terms.plan v.seen (stands_as m machine) in
       subst (λ (k : ℕ). Begins v.terms.plan v.seen k n.0 e) (worker ∙ is.number)
       (begins v.terms.plan v.seen w n.0 e (valid_plan shape gives b p is) (lawful_seen shape gives b p is) (sym told))
 
   -- what it chooses
-  chosen : (w from : ℕ) (e : Event) → w ≡ p.number → Chooses (view p).terms.plan (view p).seen w from e → (worker_of e ≡ (view p).worker) × (why (view p).terms.plan (view p).seen e ≡ None) × (is_work e ≡ true)
-  chosen w from e worker c =
+  chosen : (most w from : ℕ) (e : Event) → w ≡ p.number → Chooses most (view p).terms.plan (view p).seen w from e → (worker_of e ≡ (view p).worker) × (why (view p).terms.plan (view p).seen e ≡ None) × (is_work e ≡ true)
+  chosen most w from e worker c =
       let it = choice_is_permitted (view p).terms.plan (view p).seen w from e c.chosen in
       (it.by ∙ worker ∙ is.number, it.permitted, it.work)
 
-  pub to_record : (m : MachineView) (w from : ℕ) (e : Event) → m ≡ p.machine → w ≡ p.number → ((plan : PlanView) (h : List Event) → StandsFor m plan h → length h ≤ max_events → IsDuty plan h w from (Record e))
-      → (worker_of e ≡ (view p).worker) × (why (view p).terms.plan (view p).seen e ≡ None) × (is_work e ≡ true)
-  to_record m w from e machine worker tells = chosen w from e worker (tells (view p).terms.plan (view p).seen (stands_as m machine) is.few).0
+  -- what it has seen is within the row's limit
+  within : (most : ℕ) → most ≡ max_events → length (view p).seen ≤ most
+  within most limit = subst (λ (n : ℕ). length (view p).seen ≤ n) (sym limit) is.few
 
-  pub to_begin : (m : MachineView) (w from : ℕ) (n : Obj) (e : Event) → m ≡ p.machine → w ≡ p.number → ((plan : PlanView) (h : List Event) → StandsFor m plan h → length h ≤ max_events → IsDuty plan h w from (Begin n e))
+  pub to_record : (m : MachineView) (most w from : ℕ) (e : Event) → m ≡ p.machine → most ≡ max_events → w ≡ p.number → ((plan : PlanView) (h : List Event) → StandsFor m plan h → length h ≤ most → IsDuty most plan h w from (Record e))
+      → (worker_of e ≡ (view p).worker) × (why (view p).terms.plan (view p).seen e ≡ None) × (is_work e ≡ true)
+  to_record m most w from e machine limit worker tells = chosen most w from e worker (tells (view p).terms.plan (view p).seen (stands_as m machine) (within most limit)).0
+
+  pub to_begin : (m : MachineView) (most w from : ℕ) (n : Obj) (e : Event) → m ≡ p.machine → most ≡ max_events → w ≡ p.number → ((plan : PlanView) (h : List Event) → StandsFor m plan h → length h ≤ most → IsDuty most plan h w from (Begin n e))
       → (is_node (view p).terms.plan n.0 ≡ true) × (begun_on (view p).terms.plan (view p).seen e ≡ Some n) × (worker_of e ≡ (view p).worker) × (why (view p).terms.plan (view p).seen e ≡ None) × (is_work e ≡ true)
-  to_begin m w from n e machine worker tells =
+  to_begin m most w from n e machine limit worker tells =
       let v = view p in
-      let duty = tells v.terms.plan v.seen (stands_as m machine) is.few in
-      let it = chosen w from e worker duty.0 in
+      let duty = tells v.terms.plan v.seen (stands_as m machine) (within most limit) in
+      let it = chosen most w from e worker duty.0 in
       (begun_node v.terms.plan v.seen e n (valid_plan shape gives b p is) it.1 duty.1, duty.1, it.0, it.1, it.2)
 
   -- what worker 0 chooses
@@ -72,3 +79,10 @@ module _ {S : Type 0} (shape : S → Shape) (gives : S → ℕ → Type 0) (b : 
       let v = view p in
       let on = sym (tells v.terms.plan v.seen (stands_as m machine) may) in
       (begun_node v.terms.plan v.seen e n (valid_plan shape gives b p is) may on, on)
+
+  -- a run that it has seen to end
+  pub to_leave : (m : MachineView) (most w from : ℕ) (exit : Exit) → m ≡ p.machine → most ≡ max_events → ((plan : PlanView) (h : List Event) → StandsFor m plan h → length h ≤ most → IsDuty most plan h w from (Leave exit))
+      → HasEnded max_events (view p).terms.plan (view p).seen
+  to_leave m most w from exit machine limit tells =
+      let v = view p in
+      subst (λ (n : ℕ). HasEnded n v.terms.plan v.seen) limit (exit_ended most v.terms.plan v.seen exit (tells v.terms.plan v.seen (stands_as m machine) (within most limit)))

@@ -1,5 +1,5 @@
 -- What calls add to the row.
-use Rattle.std.proofs.Common.{◌≡◌, ℕ, Bool, true, false, not, ◌||◌, cond, List, [], ◌∷◌, ◌++◌, filter, Some, sym, refl, ap, ◌∙◌, subst, append-nil, append_assoc}
+use Rattle.std.proofs.Common.{◌≡◌, ℕ, Bool, true, false, not, ◌||◌, cond, List, [], ◌∷◌, ◌++◌, filter, Some, sym, refl, ap, ◌∙◌, subst, append-nil, append_assoc, ◌⊎◌, inl, inr}
 use Rattle.std.specs.List.{list_all}
 use Rattle.std.proofs.lemmas.Bool.{and_from}
 use Rattle.gcd_plan.specs.declared.numbers.Run.{Run}
@@ -7,15 +7,15 @@ use Rattle.gcd_event.specs.declared.event.Event.{Event}
 use Rattle.gcd_event.specs.declared.event.Event.TheVariants.{End, DeliverEnd}
 use Rattle.gcd_history.specs.Choice.{is_work}
 use Rattle.gcd_team.specs.Held.{is_of}
-use Rattle.gcd_team.specs.Team.{of_worker}
+use Rattle.gcd_team.specs.Team.{of_worker, StartsWith}
 use Rattle.gcd_team.proofs.Own.{none_of_worker}
 use Rattle.gcd_row.specs.Views.{seeing}
 use Rattle.gcd_row.specs.Passes.{Ahead, Looks, Says}
 use Rattle.gcd_row.specs.declared.put.Put.{Put}
 use Rattle.gcd_row.specs.declared.put.Put.TheVariants.{Placed, Barred, Full}
 use Rattle.gcd_row.specs.declared.view.View.{View}
-use Rattle.gcd_pool.specs.Hands.{ended_run}
-use Rattle.gcd_pool.specs.Works.{AddsWork, is_own_work}
+use Rattle.gcd_event.specs.Owners.{ended}
+use Rattle.gcd_pool.specs.Works.{AddsNone, AddsOnly, AddsWork, is_own_work}
 
 pub all_further : {A : Type 0} → (p : A → Bool) (xs ys : List A) → list_all p xs ≡ true → list_all p ys ≡ true → list_all p (xs ++ ys) ≡ true
 all_further p [] ys one two = two
@@ -77,7 +77,60 @@ module _ {S : Type 0} where
   says_adds e v w (Barred at y) work p = looks_adds v w p.0
   says_adds e v w Full work p = ahead_adds v w p.0 p.1
 
-pub ended_is_work : (e : Event) (r : Run) → ended_run e ≡ Some r → is_work e ≡ true
+pub ended_is_work : (e : Event) (r : Run) → ended e ≡ Some r → is_work e ≡ true
 ended_is_work (End w b) r is = refl
 ended_is_work (DeliverEnd w s) r is = refl
 ended_is_work e r is = absurd (cc)
+
+-- ## Where each event is the worker's own
+
+all_filter : (w : ℕ) (rest : List Event) → list_all (is_of w) rest ≡ true → filter (is_of w) rest ≡ [] → rest ≡ []
+all_filter w [] all none = refl
+all_filter w (e ∷ rest) all none =
+    let parts = Rattle.std.proofs.lemmas.Bool.and_parts (is_of w e) (list_all (is_of w) rest) all in
+    let bad : e ∷ filter (is_of w) rest ≡ [] = sym (ap (λ (b : Bool). cond b (e ∷ filter (is_of w) rest) (filter (is_of w) rest)) parts.0) ∙ none in
+    cc
+
+all_front : (p : Event → Bool) (xs ys : List Event) → list_all p (xs ++ ys) ≡ true → (list_all p xs ≡ true) × (list_all p ys ≡ true)
+all_front p [] ys all = (refl, all)
+all_front p (x ∷ xs) ys all =
+    let parts = Rattle.std.proofs.lemmas.Bool.and_parts (p x) (list_all p (xs ++ ys)) all in
+    let more = all_front p xs ys parts.1 in
+    (and_from (p x) (list_all p xs) parts.0 more.0, more.1)
+
+module _ {S : Type 0} where
+  ahead_none : (v : View S) (h : List Event) → Ahead v h → list_all (is_of v.worker) h ≡ true → h ≡ v.seen
+  ahead_none v h a all =
+      let rest = a.more.0 in
+      let split : h ≡ v.seen ++ rest = a.more.1 in
+      let none = none_of_worker v.worker v.seen rest (sym (ap (of_worker v.worker) split) ∙ a.own) in
+      let parts = all_front (is_of v.worker) v.seen rest (sym (ap (list_all (is_of v.worker)) split) ∙ all) in
+      split ∙ ap (λ (l : List Event). v.seen ++ l) (all_filter v.worker rest parts.1 none) ∙ append-nil v.seen
+
+  pub looks_none : (v w : View S) → Looks v w → AddsNone v w
+  looks_none v w l = record { none = λ all. ahead_none v w.seen l.ahead all }
+
+  pub says_only : (e : Event) (v w : View S) (r : Put) → Says e v w r → AddsOnly e v w
+  says_only e v w (Placed n) p = record {
+    only = λ all.
+        let is : w.seen ≡ p.history ++ e ∷ [] = ap (λ (x : View S). x.seen) p.is in
+        let parts = all_front (is_of v.worker) p.history (e ∷ []) (sym (ap (list_all (is_of v.worker)) is) ∙ all) in
+        inr (is ∙ ap (λ (l : List Event). l ++ e ∷ []) (ahead_none v p.history p.ahead parts.0));
+  }
+  says_only e v w (Barred at y) p = record { only = λ all. inl (ahead_none v w.seen p.0.ahead all) }
+  says_only e v w Full p = record { only = λ all. inl (ahead_none v w.seen p.1 all) }
+
+  -- what is seen later has what was seen before
+  pub still_all : (n : ℕ) (u w : View S) → StartsWith w.seen u.seen → list_all (is_of n) w.seen ≡ true → list_all (is_of n) u.seen ≡ true
+  still_all n u w starts all = (all_front (is_of n) u.seen starts.0 (sym (ap (list_all (is_of n)) starts.1) ∙ all)).0
+
+  pub none_further : (v u w : View S) → u.worker ≡ v.worker → StartsWith w.seen u.seen → AddsNone v u → AddsNone u w → AddsNone v w
+  none_further v u w same starts a b = record {
+    none = λ all. b.none (subst (λ (n : ℕ). list_all (is_of n) w.seen ≡ true) (sym same) all) ∙ a.none (still_all v.worker u w starts all);
+  }
+
+  pub none_then : (e : Event) (v u w : View S) → u.worker ≡ v.worker → StartsWith w.seen u.seen → AddsNone v u → AddsOnly e u w → AddsOnly e v w
+  none_then e v u w same starts a b = record {
+    only = λ all. subst (λ (l : List Event). (w.seen ≡ l) ⊎ (w.seen ≡ l ++ e ∷ [])) (a.none (still_all v.worker u w starts all))
+        (b.only (subst (λ (n : ℕ). list_all (is_of n) w.seen ≡ true) (sym same) all));
+  }

@@ -1,12 +1,14 @@
--- What a worker of a pool has, and what serving comes to (this project's own rules).
+-- What a worker of a pool has, and what serving comes to.
 use Rattle.std.specs.Prelude.{◌≡◌, ◌≤◌, ℕ, List, ◌∷◌, [], length, Option, Some, None}
+use Rattle.gcd_plan.specs.Limits.{max_events}
 use Rattle.gcd_plan.specs.PlanView.{PlanView}
 use Rattle.gcd_plan.specs.declared.kind.Kind.{Kind}
 use Rattle.gcd_plan.specs.declared.numbers.Run.{Run}
 use Rattle.gcd_plan.specs.declared.numbers.Run.TheVariants.{Block, Source}
 use Rattle.gcd_event.specs.declared.event.Event.{Event}
-use Rattle.gcd_event.specs.declared.event.Event.TheVariants.{Start, Act as Acted, Wake, End, Deliver, DeliverEnd, Tick, Ready, FeedEnd, Misuse, Halt}
-use Rattle.gcd_team.specs.Team.{HasEnded, StartsWith, held_by}
+use Rattle.gcd_event.specs.Owners.{ended}
+use Rattle.gcd_history.specs.Ends.{HasEnded}
+use Rattle.gcd_team.specs.Team.{StartsWith, held_by}
 use Rattle.gcd_row.specs.Shapes.{Shape, body, handler}
 use Rattle.gcd_row.specs.Lying.{slot_of, IsUntaken, IsReadyFor}
 use Rattle.gcd_row.specs.Views.{held_run, seeing}
@@ -15,20 +17,6 @@ use Rattle.gcd_row.specs.declared.view.View.{View}
 use Rattle.gcd_steal.specs.Racks.{IsBenchOf, number_of, plan_of}
 use Rattle.gcd_pool.specs.declared.hand.Hand.{Hand}
 use Rattle.gcd_pool.specs.declared.hand.Pool.{Pool}
-
--- the run that the event ends
-abbrev pub ended_run : Event → Option Run
-ended_run (Start w b) = None
-ended_run (Acted w r i) = None
-ended_run (Wake w b) = None
-ended_run (End w b) = Some (Block b)
-ended_run (Deliver w s) = None
-ended_run (DeliverEnd w s) = Some (Source s)
-ended_run (Tick t) = None
-ended_run (Ready s n) = None
-ended_run (FeedEnd s) = None
-ended_run (Misuse w r i c) = None
-ended_run Halt = None
 
 -- a handler of source s that was not called since the last Deliver
 pub record IsUncalled (plan : PlanView) (h : List Event) (s : ℕ) (x : Shape) : Type 0 where
@@ -56,7 +44,7 @@ module _ {S : Type 0} (shape : S → Shape) where
   pub record IsSettled (v : View S) (e : Event) (cells : List (ℕ × S)) : Type 0 where
     pub run : Run
     pub held : held_run v ≡ Some run
-    pub ends : ended_run e ≡ Some run
+    pub ends : ended e ≡ Some run
     pub cell : S
     pub here : cells ≡ (slot_of v.terms.plan run, cell) ∷ []
     pub ready : IsReadyFor shape v.terms.plan v.seen e run cell
@@ -66,6 +54,12 @@ pub record IsPool {S : Type 0} (pool : Pool S) : Type 0 where
   pub rack : plan_of pool.rack.now ≡ (terms_of pool.board.now).plan
   pub plan : pool.plan.now ≡ (terms_of pool.board.now).plan
   pub cells : length (terms_of pool.board.now).plan.blocks ≤ length (terms_of pool.board.now).cells
+
+-- two pools of the same board, rack and plan
+pub record IsSamePool {S : Type 0} (p q : Pool S) : Type 0 where
+  pub board : q.board.now ≡ p.board.now
+  pub rack : q.rack.now ≡ p.rack.now
+  pub plan : q.plan.now ≡ p.plan.now
 
 -- what calls leave of what a pass knows: it has seen no less, and the rest is as it was
 pub record GoesOn {S : Type 0} (v w : View S) : Type 0 where
@@ -96,4 +90,4 @@ module _ {S : Type 0} (shape : S → Shape) (gives : S → ℕ → Type 0) where
   -- less, and has seen that the run has ended
   pub record Served (pool : Pool S) (old new : Hand S) : Type 0 where
     pub serving : Serving pool old new
-    pub ended : HasEnded (Rattle.gcd_row.specs.Passes.view new.pass).terms.plan (Rattle.gcd_row.specs.Passes.view new.pass).seen
+    pub ended : HasEnded max_events (Rattle.gcd_row.specs.Passes.view new.pass).terms.plan (Rattle.gcd_row.specs.Passes.view new.pass).seen

@@ -1,40 +1,56 @@
--- What worker 0 of a pool promises of its poller and its clock (this project's own rules).
-use Rattle.std.specs.Prelude.{◌≡◌, ℕ, Bool, false, [], drop}
+-- What worker 0 of a pool promises of its poller and its clock.
+use Rattle.std.proofs.Common.{◌≡◌, ◌≤◌, ◌∙◌, ℕ, Bool, true, List, length, sym, subst}
+use Rattle.std.specs.List.{list_all}
 use Rattle.gcd_event.specs.declared.event.Event.{Event}
+use Rattle.gcd_plan.specs.Limits.{max_events}
+use Rattle.gcd_plan.specs.PlanView.{PlanView}
+use Rattle.gcd_loop.specs.Followed.{FollowsChoice}
+use Rattle.gcd_team.specs.Held.{is_of}
+use Rattle.gcd_loop.specs.Going.{IsRunOn}
+use Rattle.gcd_loop.specs.Recorded.{IsSight}
+use Rattle.gcd_machine.specs.Stands.{StandsFor}
+use Rattle.gcd_machine.proofs.Shown.{plan_stands}
 use Rattle.gcd_outer.specs.Outside.{ClockState}
 use Rattle.gcd_outer.specs.Tells.{PollerState}
-use Rattle.gcd_row.specs.Passes.{Says, view}
-use Rattle.gcd_row.specs.declared.put.Put.{Put}
-use Rattle.gcd_row.specs.declared.put.Put.TheVariants.{Placed, Barred, Full}
-use Rattle.gcd_row.specs.declared.view.View.{View}
+use Rattle.gcd_row.specs.Passes.{view}
+use Rattle.gcd_row.specs.Shapes.{Shape}
 use Rattle.gcd_turn.specs.Asked.{KeepsListens}
-use Rattle.gcd_turn.specs.Promises.{IsHeard, IsTimely}
-use Rattle.gcd_turn.specs.Turns.{OutlookView}
+use Rattle.gcd_pool.specs.Hands.{IsHandOf, IsReady, Serving}
 use Rattle.gcd_pool.specs.declared.hand.Hand.{Hand}
 use Rattle.gcd_pool.specs.declared.hand.Pool.{Pool}
 
--- the event was put
-pub record IsPut {S : Type 0} (e : Event) (v w : View S) : Type 0 where
-  pub answer : Put
-  pub said : Says e v w answer
+-- worker 0's hand between two turns; the limit of events is the row's
+pub record IsHead {S : Type 0} (shape : S → Shape) (gives : S → ℕ → Type 0) (most : ℕ) (plan : PlanView) (pool : Pool S) (hand : Hand S) : Type 0 where
+  pub ready : IsReady shape gives pool hand
+  pub head : (view hand.pass).worker ≡ 0
+  pub plan_is : pool.plan.now ≡ plan
+  pub most_is : most ≡ max_events
 
--- what is kept after what was told was put: it is dropped from the news, unless the row has no room
-abbrev pub after_put : Put → OutlookView → OutlookView
-after_put (Placed n) o = record o { news = drop 1 o.news }
-after_put (Barred at y) o = record o { news = drop 1 o.news }
-after_put Full o = o
+-- so its machine stands for what it has seen
+pub head_sight : {S : Type 0} (shape : S → Shape) (gives : S → ℕ → Type 0) (most : ℕ) (plan : PlanView) (pool : Pool S) (hand : Hand S) → IsHead shape gives most plan pool hand → IsSight most plan (view hand.pass).seen hand.pass.machine
+head_sight shape gives most plan pool hand is =
+    let of = is.ready.of in
+    let stands : StandsFor hand.pass.machine plan (view hand.pass).seen = subst (λ (q : PlanView). StandsFor hand.pass.machine q (view hand.pass).seen) (sym of.plan ∙ is.plan_is) of.pass.stands in
+    record { own = plan_stands hand.pass.machine plan (view hand.pass).seen stands; stands = stands; few = subst (λ (n : ℕ). length (view hand.pass).seen ≤ n) (sym is.most_is) of.pass.few }
 
--- the first of the news was put
-pub record IsToldPut {S : Type 0} (e : Event) (v w : View S) (o u : OutlookView) : Type 0 where
-  pub answer : Put
-  pub said : Says e v w answer
-  pub kept : u ≡ after_put answer o
+-- and it is a hand of the pool
+pub head_left : {S : Type 0} (shape : S → Shape) (gives : S → ℕ → Type 0) (most : ℕ) (plan : PlanView) (pool : Pool S) (hand : Hand S) → IsHead shape gives most plan pool hand → IsHandOf shape gives pool hand
+head_left shape gives most plan pool hand is = is.ready.of
 
--- Worker 0 has led: where it began with an empty row and a poller that watches nothing, what poller and clock said since stands
--- in what it has seen.
-pub record Led {S P C : Type 0} (poller_tells clock_tells : Bool) (poller : P → PollerState) (clock : C → ClockState) (pool : Pool S) (old new : Hand S × P × C) : Type 0 where
-  pub heard : (view old.0.pass).worker ≡ 0 → (view old.0.pass).seen ≡ [] → ((feed : ℕ) → (poller old.1).watched feed ≡ false)
-      → IsHeard (view old.0.pass).terms.plan [] (view new.0.pass).seen (record { tells = poller_tells; before = poller old.1; after = poller new.1 })
-  pub timely : (view old.0.pass).worker ≡ 0 → (view old.0.pass).seen ≡ [] → ((feed : ℕ) → (poller old.1).watched feed ≡ false)
-      → IsTimely (view old.0.pass).terms.plan [] (view new.0.pass).seen (record { tells = clock_tells; before = clock old.2; after = clock new.2 })
-  pub kept : (view old.0.pass).worker ≡ 0 → (view old.0.pass).seen ≡ [] → ((feed : ℕ) → (poller old.1).watched feed ≡ false) → KeepsListens poller_tells (poller old.1) (poller new.1)
+-- where each event that is seen is worker 0's, it follows its choice as before
+abbrev pub Follows : PlanView → List Event → List Event → Type 0
+Follows plan h k = list_all (is_of 0) k ≡ true → FollowsChoice plan h → FollowsChoice plan k
+
+-- what no step of worker 0 changes; alone it follows its choice
+pub record Leads {S : Type 0} (shape : S → Shape) (gives : S → ℕ → Type 0) (plan : PlanView) (pool : Pool S) (old new : Hand S) : Type 0 where
+  pub serving : Serving shape gives pool old new
+  pub follows : pool.alone ≡ true → Follows plan (view old.pass).seen (view new.pass).seen
+
+-- Worker 0 has led: the run has ended; what poller and clock said since stands in what it has seen since; and alone it follows its
+-- choice.
+pub record Led {S P C : Type 0} (poller_tells clock_tells : Bool) (poller : P → PollerState) (clock : C → ClockState) (alone : Type 0) (old new : Hand S × P × C) : Type 0 where
+  pub led : (view old.0.pass).worker ≡ 0
+      → IsRunOn max_events (view old.0.pass).terms.plan (view old.0.pass).seen (view new.0.pass).seen (record { tells = poller_tells; before = poller old.1; after = poller new.1 })
+      (record { tells = clock_tells; before = clock old.2; after = clock new.2 })
+  pub follows : alone → (view old.0.pass).worker ≡ 0 → Follows (view old.0.pass).terms.plan (view old.0.pass).seen (view new.0.pass).seen
+  pub kept : (view old.0.pass).worker ≡ 0 → KeepsListens poller_tells (poller old.1) (poller new.1)

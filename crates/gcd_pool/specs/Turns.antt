@@ -1,6 +1,7 @@
--- What a turn of a worker comes to (this project's own rules).
-use Rattle.std.specs.Prelude.{◌⊎◌, ℕ, List, ◌∷◌, []}
-use Rattle.gcd_team.specs.Team.{HasEnded}
+-- What a turn of a worker comes to.
+use Rattle.std.specs.Prelude.{◌≡◌, ◌⊎◌, ℕ, List, ◌∷◌, []}
+use Rattle.gcd_plan.specs.Limits.{max_events}
+use Rattle.gcd_history.specs.Ends.{HasEnded}
 use Rattle.gcd_row.specs.Shapes.{Shape}
 use Rattle.gcd_row.specs.declared.view.View.{View}
 use Rattle.gcd_steal.specs.Deques.{Sends}
@@ -15,7 +16,7 @@ use Rattle.gcd_pool.specs.declared.turn.Turn.TheVariants.{Left, Placed, Ended, O
 
 -- a worker that leaves has seen that the run has ended; else the run that it holds is as it was taken
 abbrev pub AfterTurn : {S : Type 0} → (S → Shape) → Turn → View S → List (ℕ × S) → Type 0
-AfterTurn shape Left v cells = HasEnded v.terms.plan v.seen
+AfterTurn shape Left v cells = HasEnded max_events v.terms.plan v.seen
 AfterTurn shape Placed v cells = IsFresh shape v cells
 AfterTurn shape Ended v cells = IsFresh shape v cells
 AfterTurn shape (Out node) v cells = IsFresh shape v cells
@@ -25,3 +26,27 @@ AfterTurn shape Rested v cells = IsFresh shape v cells
 -- the Drain was laid into its sleeping place, or put at the back of the bench's own deque
 abbrev pub IsLaidDown : Bench → Drain → Bench → Type 0
 IsLaidDown b d c = Gives (node_of d).0 (sight_with d) (sight_of c) ⊎ Sends (own_account b) (d ∷ []) (own_account c)
+
+-- a Drain that was found, without any being pushed, was laid down
+pub record HasLaidDown (b c : Bench) : Type 0 where
+  pub found : Bench
+  pub drain : Drain
+  pub sent : (own_account found).sent ≡ (own_account b).sent
+  pub laid : IsLaidDown found drain c
+
+-- none was found, nor pushed: the answer tells that the node's Drain is out
+abbrev pub FoundNone : Bench → Bench → Turn → Type 0
+FoundNone b c Left = ⊥
+FoundNone b c Placed = ⊥
+FoundNone b c Ended = ⊥
+FoundNone b c (Out node) = (own_account c).sent ≡ (own_account b).sent
+FoundNone b c Waited = ⊥
+FoundNone b c Rested = ⊥
+
+-- a call that looks for a Drain leaves none in hand
+abbrev pub LaysFoundDown : Bench → Bench → Turn → Type 0
+LaysFoundDown b c turn = HasLaidDown b c ⊎ FoundNone b c turn
+
+-- nor does one that may do something else, for which it does not use its bench
+abbrev pub LaysDown : Bench → Bench → Turn → Type 0
+LaysDown b c turn = (c ≡ b) ⊎ LaysFoundDown b c turn

@@ -1,10 +1,16 @@
--- What a worker adds to the row (this project's own rules).
-use Rattle.std.specs.Prelude.{◌≡◌, ℕ, Bool, true, not, ◌||◌, List, ◌++◌}
+-- What a worker adds to the row.
+use Rattle.std.specs.Prelude.{◌≡◌, ◌⊎◌, ℕ, Bool, true, not, ◌||◌, List, ◌++◌, ◌∷◌, [], Option, MatchOption}
 use Rattle.std.specs.List.{list_all}
 use Rattle.gcd_event.specs.declared.event.Event.{Event}
 use Rattle.gcd_history.specs.Choice.{is_work}
 use Rattle.gcd_team.specs.Held.{is_of}
+use Rattle.gcd_row.specs.Passes.{slots, view}
+use Rattle.gcd_row.specs.Shapes.{Shape}
+use Rattle.gcd_row.specs.declared.pass.RowPass.{RowPass}
 use Rattle.gcd_row.specs.declared.view.View.{View}
+use Rattle.gcd_pool.specs.Hands.{GoesOn, IsSettled}
+use Rattle.gcd_pool.specs.Turns.{AfterTurn}
+use Rattle.gcd_pool.specs.declared.turn.Turn.{Turn}
 
 -- the event is another's, or an event of a worker and not of the outside
 abbrev pub is_own_work : ℕ → Event → Bool
@@ -16,3 +22,18 @@ pub record AddsWork {S : Type 0} (v w : View S) : Type 0 where
   pub rest : List Event
   pub split : w.seen ≡ v.seen ++ rest
   pub work : list_all (is_own_work v.worker) rest ≡ true
+
+-- where each event that is seen is the worker's own, nothing has come
+pub record AddsNone {S : Type 0} (v w : View S) : Type 0 where
+  pub none : list_all (is_of v.worker) w.seen ≡ true → w.seen ≡ v.seen
+
+-- where each event that is seen is the worker's own, nothing has come but this event at most
+pub record AddsOnly {S : Type 0} (e : Event) (v w : View S) : Type 0 where
+  pub only : list_all (is_of v.worker) w.seen ≡ true → (w.seen ≡ v.seen) ⊎ (w.seen ≡ v.seen ++ e ∷ [])
+
+-- an end was put: either the turn is over, or nothing of its own has come and the cell is ready still
+pub record WasEndPut {S : Type 0} (shape : S → Shape) (e : Event) (old new : RowPass S) (came : Option Turn) : Type 0 where
+  pub goes : GoesOn (view old) (view new)
+  pub work : AddsWork (view old) (view new)
+  pub only : MatchOption came (AddsNone (view old) (view new)) (λ t. AddsOnly e (view old) (view new))
+  pub says : MatchOption came (IsSettled shape (view new) e (slots new)) (λ t. AfterTurn shape t (view new) (slots new))

@@ -8,13 +8,12 @@ ghost use Rattle.gcd_steal.specs.Drains.{node_of};
 ghost use Rattle.gcd_steal.specs.Racks.{IsBenchOf, IsRackDrain, number_of};
 ghost use Rattle.gcd_pool.specs.Duties.{begun_on};
 ghost use Rattle.gcd_pool.specs.Hands.{GoesOn, IsFresh, IsReady, Serving};
-ghost use Rattle.gcd_pool.specs.Turns.{AfterTurn, IsLaidDown};
+ghost use Rattle.gcd_pool.specs.Turns.{AfterTurn, IsLaidDown, LaysFoundDown};
 ghost use Rattle.gcd_pool.specs.Works.{AddsWork};
 
-use crate::beginning::begin_on;
-use crate::crew::Crew;
 use crate::finding::find_drain;
 use crate::hand::{Hand, Pool};
+use crate::run_cells::RunCells;
 use crate::turn::Turn;
 use gcd_event::Event;
 use gcd_machine::Machine;
@@ -23,32 +22,30 @@ use gcd_row::{Put, RowBoard, RowPass, Slot};
 use gcd_steal::{Bench, Drain, Rack};
 use std::sync::Wait;
 
-/// Puts an event that begins a run on a node, by who holds the node's Drain, and answers as [`RowBoard::put`] (this project's own
-/// rule). Conditions: the event is a Start or a Deliver of the pass's worker, and it begins its run on the Drain's node.
-pub fn begin<S: Slot>(board: &RowBoard<S>, pass: &mut RowPass<S>, drain: &Drain, e: Event) -> Put
+/// Puts an event that begins a run on a node, by who holds the node's Drain, and answers as [`RowBoard::put`]. Conditions: the event is a
+/// Start or a Deliver of the pass's worker, and it begins its run on the Drain's node.
+pub fn begin<S: Slot>(board: &RowBoard<S>, pass: &mut RowPass<S>, _drain: &Drain, e: Event) -> Put
     requires pass { IsPassOf S.shape S.gives board.now pass.old }
     requires worker { worker_of e ≡ (view pass.old).worker }
-    requires begins { begun_on (view pass.old).terms.plan (view pass.old).seen e ≡ Some (node_of drain.now) }
+    requires begins { begun_on (view pass.old).terms.plan (view pass.old).seen e ≡ Some (node_of _drain.now) }
     ensures pass { IsPassOf S.shape S.gives board.now pass.new }
     ensures view { Says e (view pass.old) (view pass.new) result }
     ensures slots { SaysSlots S.shape S.gives e (slots pass.old) (slots pass.new) (view pass.new) result }
 {
-    let _ = drain;
     board.put(pass, e)
 }
 
 // The same for an event that the pass's machine permits: it is not judged again before the first exchange.
 #[inline(always)]
-fn put_begin<S: Slot>(board: &RowBoard<S>, pass: &mut RowPass<S>, drain: &Drain, e: Event) -> Put
+fn put_begin<S: Slot>(board: &RowBoard<S>, pass: &mut RowPass<S>, _drain: &Drain, e: Event) -> Put
     requires pass { IsPassOf S.shape S.gives board.now pass.old }
     requires worker { worker_of e ≡ (view pass.old).worker }
-    requires begins { begun_on (view pass.old).terms.plan (view pass.old).seen e ≡ Some (node_of drain.now) }
+    requires begins { begun_on (view pass.old).terms.plan (view pass.old).seen e ≡ Some (node_of _drain.now) }
     requires may { why (view pass.old).terms.plan (view pass.old).seen e ≡ None }
     ensures pass { IsPassOf S.shape S.gives board.now pass.new }
     ensures view { Says e (view pass.old) (view pass.new) result }
     ensures slots { SaysSlots S.shape S.gives e (slots pass.old) (slots pass.new) (view pass.new) result }
 {
-    let _ = drain;
     board.put_chosen(pass, e)
 }
 
@@ -101,13 +98,13 @@ fn begins_run<S: Slot>(board: &RowBoard<S>, pass: &mut RowPass<S>, drain: &Drain
     matches!(put_begin(board, pass, drain, e), Put::Placed(_))
 }
 
-// Whether others may begin a run on the node: it is a concurrent queue on which a block waits, and the rack has another bench.
+// Whether others may begin a run on the node: the team has another hand, and it is a concurrent queue on which a block waits.
 #[inline(always)]
-fn others_may_begin(plan: &Plan, rack: &Rack, machine: &Machine, node: Obj) -> bool
+fn others_may_begin(plan: &Plan, alone: bool, machine: &Machine, node: Obj) -> bool
     requires node { node.0 < length plan.now.objects }
     requires plan { machine.now.plan ≡ plan.now }
 {
-    if rack.benches() == 1 {
+    if alone {
         return false;
     }
     if !plan.kind(node).is_concurrent() {
@@ -132,7 +129,7 @@ fn begin_with<S: Slot>(pool: &Pool<S>, hand: &mut Hand<S>, drain: Drain, e: Even
 {
     let node = drain.node();
     if begins_run(pool.board, &mut hand.pass, &drain, e) {
-        let more = others_may_begin(pool.plan, pool.rack, hand.pass.machine(), node);
+        let more = others_may_begin(pool.plan, pool.alone, hand.pass.machine(), node);
         lay_down(pool.rack, &mut hand.bench, drain, more);
         Turn::Placed
     } else {
@@ -151,7 +148,7 @@ fn begin_any<S: Slot>(pool: &Pool<S>, hand: &mut Hand<S>, drain: Drain) -> Turn
     ensures laid { IsLaidDown hand.old.bench drain hand.new.bench }
 {
     let worker = hand.pass.worker();
-    match begin_on(pool.plan, hand.pass.machine(), worker, drain.node()) {
+    match hand.pass.machine().begin_on(worker, drain.node()) {
         Some(e) => begin_with(pool, hand, drain, e),
         None => {
             pool.rack.sleep(&mut hand.bench, drain);
@@ -160,18 +157,24 @@ fn begin_any<S: Slot>(pool: &Pool<S>, hand: &mut Hand<S>, drain: Drain) -> Turn
     }
 }
 
-/// Begins what may begin by a Drain that it finds (this project's own rule): the front of the bench's deque, or else of another's, or else
+/// Begins what may begin by a Drain that it finds: the front of the bench's deque, or else of another's, or else
 /// the node's own from its sleeping place. It answers [`Turn::Placed`] where a run began on that Drain's node; the Drain is then at the
-/// back of the bench's deque, where another block waits on a concurrent queue, the rack has another bench and the deque has room, and
+/// back of the bench's deque, where another block waits on a concurrent queue, the team has another hand and the deque has room, and
 /// sleeps else. [`Turn::Waited`] where nothing may begin there, another event came first, or the row is full; the Drain sleeps then.
 /// [`Turn::Out`] where it finds none: the node's Drain is with another worker, which begins what may begin there. Conditions: the node is
 /// a queue or source of the plan, and the run that the hand holds, if any, is as it was taken.
-pub fn begin_near<S: Crew, R: Wait>(rt: &R, pool: &Pool<S>, hand: &mut Hand<S>, node: Obj) -> Turn
+pub fn begin_near<S: RunCells, R: Wait>(
+    rt: &R,
+    pool: &Pool<S>,
+    hand: &mut Hand<S>,
+    node: Obj,
+) -> Turn
     requires ready { IsReady S.shape S.gives pool.now hand.old }
     requires node { IsTrue (is_node (view hand.old.pass).terms.plan node.0) }
     ensures serving { Serving S.shape S.gives pool.now hand.old hand.new }
     ensures work { AddsWork (view hand.old.pass) (view hand.new.pass) }
     ensures after { AfterTurn S.shape result (view hand.new.pass) (slots hand.new.pass) }
+    ensures laid { LaysFoundDown hand.old.bench hand.new.bench result }
 {
     match find_drain(rt, pool.rack, &mut hand.bench, node) {
         Some(drain) => begin_any(pool, hand, drain),
@@ -181,7 +184,7 @@ pub fn begin_near<S: Crew, R: Wait>(rt: &R, pool: &Pool<S>, hand: &mut Hand<S>, 
 
 // Begins the run of this event on its node, where the node's Drain sleeps; or else what may begin on a Drain that is found.
 #[inline(always)]
-pub fn begin_chosen<S: Crew, R: Wait>(
+pub fn begin_chosen<S: RunCells, R: Wait>(
     rt: &R,
     pool: &Pool<S>,
     hand: &mut Hand<S>,
@@ -197,6 +200,7 @@ pub fn begin_chosen<S: Crew, R: Wait>(
     ensures serving { Serving S.shape S.gives pool.now hand.old hand.new }
     ensures work { AddsWork (view hand.old.pass) (view hand.new.pass) }
     ensures after { AfterTurn S.shape result (view hand.new.pass) (slots hand.new.pass) }
+    ensures laid { LaysFoundDown hand.old.bench hand.new.bench result }
 {
     match pool.rack.wake(&mut hand.bench, node) {
         Some(drain) => begin_with(pool, hand, drain, e),

@@ -1,18 +1,19 @@
 // What a worker has to do next, as its machine tells it.
-ghost use Rattle.std.specs.Prelude.{◌≡◌, ◌<◌, ◌≤◌, ℕ, List, None, length};
-ghost use Rattle.gcd_plan.specs.Limits.{max_events};
+ghost use Rattle.std.specs.Prelude.{◌≡◌, ◌<◌, ◌≤◌, ℕ, List, None, Some, length, MatchOption};
 ghost use Rattle.gcd_plan.specs.PlanView.{PlanView};
+ghost use Rattle.gcd_plan.specs.declared.numbers.Run.TheVariants.{Block};
+ghost use Rattle.gcd_event.specs.Owners.{begun};
 ghost use Rattle.gcd_event.specs.declared.event.Event.{Event};
-ghost use Rattle.gcd_event.specs.declared.event.Event.TheVariants.{Start};
+ghost use Rattle.gcd_history.specs.Ends.{HasEnded, IsGoingOn};
 ghost use Rattle.gcd_history.specs.History.{why, choice_of, node_of};
 ghost use Rattle.gcd_machine.specs.Stands.{StandsFor};
 ghost use Rattle.gcd_pool.specs.Duties.{HasExit, IsDuty, begun_on};
 
 use gcd_event::Event;
 use gcd_machine::Machine;
-use gcd_plan::{Blk, MAX_EVENTS, Obj};
+use gcd_plan::{Blk, Obj, Run};
 
-/// How a run has ended for a worker (this project's own rule).
+/// How a run has ended for a worker.
 #[derive(Clone, Copy, Debug, PartialEq, Eq)]
 pub enum Exit {
     /// Nothing but a Halt can come any more, and the run is not halted.
@@ -23,7 +24,7 @@ pub enum Exit {
     Full,
 }
 
-/// What a worker has to do next (this project's own rule).
+/// What a worker has to do next.
 #[derive(Clone, Copy, Debug, PartialEq, Eq)]
 pub enum Duty {
     /// To leave: the run has ended.
@@ -37,11 +38,11 @@ pub enum Duty {
 }
 
 // The node on which a block that may start was submitted.
-#[tactic(auto, using(crate::proofs::Begun::start_is_known))]
+#[tactic(auto, using(crate::proofs::Begun::begun_is_known))]
 #[inline(always)]
 fn node_of_start(machine: &Machine, blk: Blk) -> Option<Obj>
-    ensures { (plan : PlanView) (h : List Event) (w : ℕ) → StandsFor machine.now plan h → why plan h (Start w blk) ≡ None
-        → result ≡ node_of plan h blk.0 }
+    ensures { (plan : PlanView) (h : List Event) (e : Event) → StandsFor machine.now plan h → why plan h e ≡ None
+        → begun e ≡ Some (Block blk) → result ≡ node_of plan h blk.0 }
 {
     if blk.0 < machine.blocks() {
         machine.node_of(blk)
@@ -55,56 +56,56 @@ fn node_of_start(machine: &Machine, blk: Blk) -> Option<Obj>
 pub fn node_of_begin(machine: &Machine, e: Event) -> Option<Obj>
     ensures { (plan : PlanView) (h : List Event) → StandsFor machine.now plan h → why plan h e ≡ None → result ≡ begun_on plan h e }
 {
-    match e {
-        Event::Start { blk, .. } => node_of_start(machine, blk),
-        Event::Deliver { src, .. } => Some(src),
-        Event::Act { .. } => None,
-        Event::Wake { .. } => None,
-        Event::End { .. } => None,
-        Event::DeliverEnd { .. } => None,
-        Event::Tick { .. } => None,
-        Event::Ready { .. } => None,
-        Event::FeedEnd { .. } => None,
-        Event::Misuse { .. } => None,
-        Event::Halt => None,
+    match e.begun() {
+        Some(Run::Block(blk)) => node_of_start(machine, blk),
+        Some(Run::Source(src)) => Some(src),
+        None => None,
+    }
+}
+
+// How the run has ended, where it is quiescent or halted. None where it goes on, but for room.
+fn end_of(machine: &Machine) -> Option<Exit>
+    ensures { (most : ℕ) (plan : PlanView) (h : List Event) → StandsFor machine.now plan h
+        → MatchOption result (IsGoingOn plan h) (λ exit. HasExit most plan h exit) }
+{
+    if machine.is_halted() {
+        Some(Exit::Halted)
+    } else if machine.is_quiescent() {
+        Some(Exit::Quiescent)
+    } else {
+        None
+    }
+}
+
+// How a run that has ended has ended.
+pub fn exit_of(machine: &Machine) -> Exit
+    ensures { (most : ℕ) (plan : PlanView) (h : List Event) → StandsFor machine.now plan h → HasEnded most plan h → HasExit most plan h result }
+{
+    match end_of(machine) {
+        Some(exit) => exit,
+        None => Exit::Full,
     }
 }
 
 // Where a run with no choice has come to.
 fn rest_or_leave(machine: &Machine) -> Duty
-    ensures { (plan : PlanView) (h : List Event) (w from : ℕ) → StandsFor machine.now plan h → choice_of plan h w from ≡ None → length h < max_events
-        → IsDuty plan h w from result }
+    ensures { (most : ℕ) (plan : PlanView) (h : List Event) (w from : ℕ) → StandsFor machine.now plan h → choice_of plan h w from ≡ None → length h < most
+        → IsDuty most plan h w from result }
 {
-    if machine.is_halted() {
-        Duty::Leave(Exit::Halted)
-    } else if machine.is_quiescent() {
-        Duty::Leave(Exit::Quiescent)
-    } else {
-        Duty::Rest
+    match end_of(machine) {
+        Some(exit) => Duty::Leave(exit),
+        None => Duty::Rest,
     }
 }
 
-// How a run with no room for an event more has ended.
-fn exit_without_room(machine: &Machine) -> Exit
-    ensures { (plan : PlanView) (h : List Event) → StandsFor machine.now plan h → length h ≡ max_events → HasExit plan h result }
+/// What the worker has to do where the run, of at most so many events, has come so far as the machine stands for, its nodes from
+/// number `from` on. It costs one [`Machine::choose`], and where that is None one [`Machine::is_quiescent`].
+pub fn duty_of(most: u32, machine: &Machine, worker: u8, from: u32) -> Duty
+    ensures { (plan : PlanView) (h : List Event) → StandsFor machine.now plan h → length h ≤ most
+        → IsDuty most plan h worker from result }
 {
-    if machine.is_halted() {
-        Exit::Halted
-    } else if machine.is_quiescent() {
-        Exit::Quiescent
-    } else {
-        Exit::Full
-    }
-}
-
-/// What the worker has to do where the run has come so far as the machine stands for, its nodes from number `from` on. It costs one
-/// [`Machine::choose`], and where that is None one [`Machine::is_quiescent`] (this project's own rule).
-pub fn duty_of(machine: &Machine, worker: u8, from: u32) -> Duty
-    ensures { (plan : PlanView) (h : List Event) → StandsFor machine.now plan h → length h ≤ max_events
-        → IsDuty plan h worker from result }
-{
-    if machine.len() >= MAX_EVENTS {
-        return Duty::Leave(exit_without_room(machine));
+    if machine.len() >= most {
+        return Duty::Leave(exit_of(machine));
     }
     match machine.choose(worker, from) {
         Some(e) => match node_of_begin(machine, e) {

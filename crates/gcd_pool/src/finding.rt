@@ -2,7 +2,7 @@
 ghost use Rattle.std.specs.Prelude.{◌≡◌, ◌≢◌, ◌<◌, ◌≤◌, IfSome, IsTrue};
 ghost use Rattle.gcd_plan.specs.Kinds.{is_node};
 ghost use Rattle.gcd_plan.specs.Limits.{max_workers};
-ghost use Rattle.gcd_steal.specs.Racks.{IsBenchOf, IsRackDrain, number_of, plan_of};
+ghost use Rattle.gcd_steal.specs.Racks.{IsBenchOf, IsRackDrain, number_of, own_account, plan_of};
 
 use gcd_plan::Obj;
 use gcd_steal::{Bench, Drain, Rack};
@@ -28,6 +28,7 @@ fn steal_round<R: Wait>(rt: &R, rack: &Rack, bench: &mut Bench) -> Option<Drain>
     requires { IsBenchOf rack.now bench.old }
     ensures bench { IsBenchOf rack.now bench.new }
     ensures number { number_of bench.new ≡ number_of bench.old }
+    ensures sent { (own_account bench.new).sent ≡ (own_account bench.old).sent }
     ensures drain { IfSome result (λ d. IsRackDrain rack.now d) }
 {
     let benches = rack.benches();
@@ -48,6 +49,7 @@ pub fn find_drain<R: Wait>(rt: &R, rack: &Rack, bench: &mut Bench, node: Obj) ->
     requires node { IsTrue (is_node (plan_of rack.now) node.0) }
     ensures bench { IsBenchOf rack.now bench.new }
     ensures number { number_of bench.new ≡ number_of bench.old }
+    ensures sent { (own_account bench.new).sent ≡ (own_account bench.old).sent }
     ensures drain { IfSome result (λ d. IsRackDrain rack.now d) }
 {
     if let Some(drain) = rack.pop(bench) {

@@ -1,15 +1,15 @@
 // What workers share, and what each of them has.
-ghost use Rattle.std.specs.Prelude.{◌≡◌, []};
+ghost use Rattle.std.specs.Prelude.{◌≡◌, true, []};
 ghost use Rattle.gcd_team.specs.Team.{of_worker};
 ghost use Rattle.gcd_row.specs.Passes.{IsPassOf, view};
 ghost use Rattle.gcd_steal.specs.Racks.{IsBenchOf};
-ghost use Rattle.gcd_pool.specs.Hands.{IsPool, IsReady};
+ghost use Rattle.gcd_pool.specs.Hands.{IsPool, IsReady, IsSamePool};
 
 use gcd_plan::Plan;
 use gcd_row::{RowBoard, RowPass, Slot};
 use gcd_steal::{Bench, Rack};
 
-/// What the workers of a run share: the board, the rack and the plan of both (this project's own rule). Threads share it by `&`.
+/// What the workers of a run share: the board, the rack and the plan of both. Threads share it by `&`.
 #[derive(Drop)]
 pub struct Pool<'a, S: Slot> {
     /// The row of events, and the slots.
@@ -18,9 +18,41 @@ pub struct Pool<'a, S: Slot> {
     pub rack: &'a Rack,
     /// The plan of the board and of the rack.
     pub plan: &'a Plan,
+    // Whether the team has one hand alone: then nobody else begins anything, and no Drain is pushed.
+    pub(crate) alone: bool,
 }
 
-/// What one worker has: its pass of the board and its bench of the rack (this project's own rule). It may go to a thread of its
+impl<'a, S: Slot> Pool<'a, S> {
+    /// What workers share of a board, a rack and a plan. Conditions, for the calls that ask for a hand of it:
+    /// the board is of this plan, with a cell for each block, and so is the rack.
+    pub fn new(board: &'a RowBoard<S>, rack: &'a Rack, plan: &'a Plan) -> Pool<'a, S>
+        ensures board { result.board.now ≡ board.now }
+        ensures rack { result.rack.now ≡ rack.now }
+        ensures plan { result.plan.now ≡ plan.now }
+    {
+        Pool {
+            board,
+            rack,
+            plan,
+            alone: false,
+        }
+    }
+
+    // The same for so many hands.
+    pub(crate) fn for_hands(&self, hands: usize) -> Pool<'a, S>
+        ensures same { IsSamePool self.now result }
+        ensures alone { hands ≡ 1 → result.alone ≡ true }
+    {
+        Pool {
+            board: self.board,
+            rack: self.rack,
+            plan: self.plan,
+            alone: hands == 1,
+        }
+    }
+}
+
+/// What one worker has: its pass of the board and its bench of the rack. It may go to a thread of its
 /// own.
 #[derive(Drop)]
 pub struct Hand<S> {
@@ -31,17 +63,16 @@ pub struct Hand<S> {
 }
 
 impl<S: Slot> Hand<S> {
-    /// The hand of a worker that has no event yet (this project's own rule). Conditions: the pass is of the pool's board, the bench
+    /// The hand of a worker that has no event yet. Conditions: the pass is of the pool's board, the bench
     /// of its rack, and both are of its plan.
-    pub fn new(pool: &Pool<S>, pass: RowPass<S>, bench: Bench) -> Hand<S>
-        requires pool { IsPool pool.now }
-        requires pass { IsPassOf S.shape S.gives pool.now.board.now pass }
-        requires bench { IsBenchOf pool.now.rack.now bench }
+    pub fn new(_pool: &Pool<S>, pass: RowPass<S>, bench: Bench) -> Hand<S>
+        requires pool { IsPool _pool.now }
+        requires pass { IsPassOf S.shape S.gives _pool.now.board.now pass }
+        requires bench { IsBenchOf _pool.now.rack.now bench }
         requires none { of_worker (view pass).worker (view pass).seen ≡ [] }
-        ensures ready { IsReady S.shape S.gives pool.now result }
+        ensures ready { IsReady S.shape S.gives _pool.now result }
         ensures parts { result ≡ record { pass = pass; bench = bench } }
     {
-        let _ = pool;
         Hand { pass, bench }
     }
 }

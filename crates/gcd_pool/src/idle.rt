@@ -12,7 +12,7 @@ const FIRST_SLEEP: u64 = 50;
 const LONGEST_SLEEP: u64 = 250;
 
 /// How a worker passes time while nothing comes: it spins, then yields its processor, then sleeps, at first 50 microseconds and
-/// each time twice as long, at most 250. Nobody has to wake it (this project's own rule).
+/// each time twice as long, at most 250. Nobody has to wake it.
 #[derive(Drop)]
 pub struct Idle {
     backoff: Backoff,

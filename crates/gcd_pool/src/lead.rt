@@ -1,111 +1,77 @@
-// The turns of worker 0, which alone has poller and clock.
-ghost use Rattle.std.specs.Prelude.{◌≡◌, ◌≤◌, true, false, length, None, Some, IsTrue};
+// Worker 0 of a pool, which alone has poller and clock.
+ghost use Rattle.std.specs.Prelude.{◌≡◌, ◌≤◌, true, false, ℕ, List, length, None};
 ghost use Rattle.gcd_event.specs.declared.event.Event.{Event};
 ghost use Rattle.gcd_history.specs.Choice.{is_work, worker_of};
-ghost use Rattle.gcd_history.specs.History.{choice_of, why};
-ghost use Rattle.gcd_outer.specs.Outside.{ClockState};
-ghost use Rattle.gcd_outer.specs.Tells.{PollerState};
+ghost use Rattle.gcd_history.specs.Ends.{HasEnded};
+ghost use Rattle.gcd_history.specs.History.{why};
+ghost use Rattle.gcd_plan.specs.Limits.{max_events};
+ghost use Rattle.gcd_plan.specs.PlanView.{PlanView};
+ghost use Rattle.gcd_loop.specs.Recorded.{After, Says};
 ghost use Rattle.gcd_row.specs.Passes.{IsPassOf, slots, view};
-ghost use Rattle.gcd_turn.specs.Asked.{IsFree, KeepsListens};
-ghost use Rattle.gcd_turn.specs.Turns.{HasRoom, first_event};
-ghost use Rattle.gcd_alone.specs.Going.{IsGoing};
+ghost use Rattle.gcd_row.specs.declared.view.View.{View};
 ghost use Rattle.gcd_pool.specs.Hands.{GoesOn, IsFresh, IsReady, Served, Serving};
-ghost use Rattle.gcd_pool.specs.Leads.{IsPut, IsToldPut, Led};
+ghost use Rattle.gcd_pool.specs.Leads.{Led};
 ghost use Rattle.gcd_pool.specs.Turns.{AfterTurn};
-ghost use Rattle.gcd_pool.specs.Works.{AddsWork};
+ghost use Rattle.gcd_pool.specs.Works.{AddsOnly, AddsWork};
 
-use crate::crew::Crew;
 use crate::drains::begin_chosen;
 use crate::duty::node_of_begin;
 use crate::hand::{Hand, Pool};
 use crate::idle::Idle;
 use crate::own::record_own;
+use crate::run_cells::RunCells;
 use crate::serve::serve_to_the_end;
-use crate::team::Lead;
+use crate::team::Leader;
 use crate::turn::Turn;
 use gcd_event::Event;
+use gcd_loop::{Backoff, Recorder, Step, run_turns};
+use gcd_machine::Machine;
 use gcd_outer::{Clock, Poller};
+use gcd_plan::Plan;
 use gcd_row::{Put, RowBoard, RowPass, Slot};
-use gcd_turn::{Ask, Outlook};
+use std::convert::Infallible;
 use std::sync::Wait;
 
 // Puts an event of the outside.
-fn put_outside<S: Slot>(board: &RowBoard<S>, pass: &mut RowPass<S>, e: Event) -> Turn
+#[inline(always)]
+fn put_outside<S: Slot>(board: &RowBoard<S>, pass: &mut RowPass<S>, e: Event) -> gcd_loop::Put
     requires pass { IsPassOf S.shape S.gives board.now pass.old }
-    requires worker { worker_of e ≡ (view pass.old).worker }
+    requires worker { worker_of e ≡ 0 }
     requires outside { is_work e ≡ false }
+    requires head { (view pass.old).worker ≡ 0 }
     requires cells { length (view pass.old).terms.plan.blocks ≤ length (view pass.old).terms.cells }
     requires fresh { IsFresh S.shape (view pass.old) (slots pass.old) }
     ensures pass { IsPassOf S.shape S.gives board.now pass.new }
     ensures view { GoesOn (view pass.old) (view pass.new) }
-    ensures after { AfterTurn S.shape result (view pass.new) (slots pass.new) }
-    ensures said { IsPut e (view pass.old) (view pass.new) }
+    ensures fresh { IsFresh S.shape (view pass.new) (slots pass.new) }
+    ensures only { AddsOnly e (view pass.old) (view pass.new) }
+    ensures said { Says max_events (view pass.old).terms.plan e (view pass.old).seen (view pass.new).seen result }
 {
     match board.put(pass, e) {
-        Put::Placed(_) => Turn::Placed,
-        Put::Full => Turn::Left,
-        Put::Barred { .. } => Turn::Waited,
+        Put::Placed(_) => gcd_loop::Put::Placed,
+        Put::Barred { .. } => gcd_loop::Put::Barred,
+        Put::Full => gcd_loop::Put::Later,
     }
 }
 
-// Puts the first of the news, and settles it, unless the row has no room.
-fn put_told<S: Slot>(
-    board: &RowBoard<S>,
-    pass: &mut RowPass<S>,
-    outlook: &mut Outlook,
-    e: Event,
-) -> Turn
-    requires pass { IsPassOf S.shape S.gives board.now pass.old }
-    requires worker { worker_of e ≡ (view pass.old).worker }
-    requires outside { is_work e ≡ false }
-    requires cells { length (view pass.old).terms.plan.blocks ≤ length (view pass.old).terms.cells }
-    requires fresh { IsFresh S.shape (view pass.old) (slots pass.old) }
-    ensures pass { IsPassOf S.shape S.gives board.now pass.new }
-    ensures view { GoesOn (view pass.old) (view pass.new) }
-    ensures after { AfterTurn S.shape result (view pass.new) (slots pass.new) }
-    ensures said { IsToldPut e (view pass.old) (view pass.new) outlook.old outlook.new }
+// What a worker's turn is to the loop.
+#[inline(always)]
+fn step_of<S: Slot>(turn: Turn) -> Step
+    ensures { (v : View S) (cells : List (ℕ × S)) → AfterTurn S.shape turn v cells → After (IsFresh S.shape v cells) ⊥ (HasEnded max_events v.terms.plan v.seen) result }
 {
-    match board.put(pass, e) {
-        Put::Placed(_) => {
-            outlook.settle();
-            Turn::Placed
-        }
-        Put::Full => Turn::Left,
-        Put::Barred { .. } => {
-            outlook.settle();
-            Turn::Waited
-        }
-    }
-}
-
-// Worker 0 has nothing to do of its own: it polls, or waits for the next due time.
-fn rest<S: Slot, P: Poller, C: Clock>(
-    pool: &Pool<S>,
-    hand: &mut Hand<S>,
-    outlook: &mut Outlook,
-    poller: &mut P,
-    clock: &mut C,
-    left: Option<u32>,
-) -> Turn
-    requires ready { IsReady S.shape S.gives pool.now hand.old }
-    requires head { (view hand.old.pass).worker ≡ 0 }
-    requires room { HasRoom pool.now.plan.now (view hand.old.pass).seen }
-    requires free { IsFree pool.now.plan.now (view hand.old.pass).seen outlook.old.news (P.state poller.old) left }
-    ensures serving { Serving S.shape S.gives pool.now hand.old hand.new }
-    ensures after { AfterTurn S.shape result (view hand.new.pass) (slots hand.new.pass) }
-    ensures going { (before : PollerState) (early : ClockState)
-        → IsGoing P.tells C.tells pool.now.plan.now before early (P.state poller.old) (C.state clock.old) (view hand.old.pass).seen outlook.old
-        → IsGoing P.tells C.tells pool.now.plan.now before early (P.state poller.new) (C.state clock.new) (view hand.new.pass).seen outlook.new }
-{
-    match outlook.idle(pool.plan, hand.pass.machine(), poller, clock, left) {
-        None => Turn::Rested,
-        Some(e) => put_outside(pool.board, &mut hand.pass, e),
+    match turn {
+        Turn::Left => Step::Over,
+        Turn::Placed => Step::Placed,
+        Turn::Ended => Step::Placed,
+        Turn::Out(_) => Step::Waited,
+        Turn::Waited => Step::Waited,
+        Turn::Rested => Step::Waited,
     }
 }
 
 // Worker 0 records what its machine chose, or begins that run.
 #[inline(always)]
-fn lead_chosen<S: Crew, R: Wait>(rt: &R, pool: &Pool<S>, hand: &mut Hand<S>, e: Event) -> Turn
+fn lead_chosen<S: RunCells, R: Wait>(rt: &R, pool: &Pool<S>, hand: &mut Hand<S>, e: Event) -> Turn
     requires ready { IsReady S.shape S.gives pool.now hand.old }
     requires worker { worker_of e ≡ (view hand.old.pass).worker }
     requires may { why (view hand.old.pass).terms.plan (view hand.old.pass).seen e ≡ None }
@@ -120,123 +86,120 @@ fn lead_chosen<S: Crew, R: Wait>(rt: &R, pool: &Pool<S>, hand: &mut Hand<S>, e: 
     }
 }
 
-// Worker 0 does what its machine chose, or else rests.
+// The same, or, where no other hand serves, records what it chose at once: nobody else begins anything.
 #[inline(always)]
-fn lead_work<S: Crew, P: Poller, C: Clock, R: Wait>(
-    rt: &R,
-    pool: &Pool<S>,
-    hand: &mut Hand<S>,
-    outlook: &mut Outlook,
-    poller: &mut P,
-    clock: &mut C,
-    chosen: Option<Event>,
-    left: Option<u32>,
-) -> Turn
+fn lead_any<S: RunCells, R: Wait>(rt: &R, pool: &Pool<S>, hand: &mut Hand<S>, e: Event) -> Turn
     requires ready { IsReady S.shape S.gives pool.now hand.old }
-    requires head { (view hand.old.pass).worker ≡ 0 }
-    requires room { HasRoom pool.now.plan.now (view hand.old.pass).seen }
-    requires free { IsFree pool.now.plan.now (view hand.old.pass).seen outlook.old.news (P.state poller.old) left }
-    requires chosen { choice_of pool.now.plan.now (view hand.old.pass).seen 0 0 ≡ chosen }
+    requires worker { worker_of e ≡ (view hand.old.pass).worker }
+    requires may { why (view hand.old.pass).terms.plan (view hand.old.pass).seen e ≡ None }
+    requires work { is_work e ≡ true }
     ensures serving { Serving S.shape S.gives pool.now hand.old hand.new }
+    ensures work { AddsWork (view hand.old.pass) (view hand.new.pass) }
+    ensures only { pool.now.alone ≡ true → AddsOnly e (view hand.old.pass) (view hand.new.pass) }
     ensures after { AfterTurn S.shape result (view hand.new.pass) (slots hand.new.pass) }
-    ensures going { (before : PollerState) (early : ClockState)
-        → IsGoing P.tells C.tells pool.now.plan.now before early (P.state poller.old) (C.state clock.old) (view hand.old.pass).seen outlook.old
-        → IsGoing P.tells C.tells pool.now.plan.now before early (P.state poller.new) (C.state clock.new) (view hand.new.pass).seen outlook.new }
 {
-    match chosen {
-        Some(e) => lead_chosen(rt, pool, hand, e),
-        None => rest(pool, hand, outlook, poller, clock, left),
+    if pool.alone {
+        record_own(rt, pool, hand, e)
+    } else {
+        lead_chosen(rt, pool, hand, e)
     }
 }
 
-// Does what the outlook asks for.
-#[inline(always)]
-fn answer<S: Crew, P: Poller, C: Clock, R: Wait>(
-    rt: &R,
-    pool: &Pool<S>,
-    hand: &mut Hand<S>,
-    outlook: &mut Outlook,
-    poller: &mut P,
-    clock: &mut C,
-) -> Turn
-    requires ready { IsReady S.shape S.gives pool.now hand.old }
-    requires head { (view hand.old.pass).worker ≡ 0 }
-    ensures serving { Serving S.shape S.gives pool.now hand.old hand.new }
-    ensures after { AfterTurn S.shape result (view hand.new.pass) (slots hand.new.pass) }
-    ensures going { (before : PollerState) (early : ClockState)
-        → IsGoing P.tells C.tells pool.now.plan.now before early (P.state poller.old) (C.state clock.old) (view hand.old.pass).seen outlook.old
-        → IsGoing P.tells C.tells pool.now.plan.now before early (P.state poller.new) (C.state clock.new) (view hand.new.pass).seen outlook.new }
-{
-    match outlook.ask(pool.plan, hand.pass.machine(), poller, clock) {
-        Ask::Leave => Turn::Left,
-        Ask::Told(e) => put_told(pool.board, &mut hand.pass, outlook, e),
-        Ask::Put(e) => put_outside(pool.board, &mut hand.pass, e),
-        Ask::Work { chosen, left } => {
-            lead_work(rt, pool, hand, outlook, poller, clock, chosen, left)
-        }
+impl<'a, S: RunCells> Recorder<Pool<'a, S>> for Hand<S> {
+    type Fault = Infallible;
+
+    ghost use Rattle.gcd_row.specs.Passes.{view};
+    ghost use Rattle.gcd_pool.specs.Hands.{IsHandOf};
+    ghost use Rattle.gcd_pool.specs.Leads.{IsHead, Leads, head_left, head_sight};
+
+    ghost seen = { λ hand. (view hand.pass).seen };
+
+    ghost sight = { λ hand. hand.pass.machine };
+
+    ghost ready = { λ most plan pool hand. IsHead S.shape S.gives most plan pool hand };
+
+    ghost kept = { λ most plan pool a b. Leads S.shape S.gives plan pool a b };
+
+    ghost left = { λ most plan pool hand. IsHandOf S.shape S.gives pool hand };
+
+    // It stops no turn.
+    ghost stopped = { λ most plan pool hand. ⊥ };
+
+    ghost stands = { λ most plan pool hand is. head_sight S.shape S.gives most plan pool hand is };
+
+    ghost leaves = { λ most plan pool hand is. head_left S.shape S.gives most plan pool hand is };
+
+    #[inline(always)]
+    fn machine(&self) -> &Machine
+        ensures { result.now ≡ self.now.pass.machine }
+    {
+        self.pass.machine()
+    }
+
+    #[inline(always)]
+    fn look(&mut self, plan: &Plan, most: u32, desk: &Pool<'a, S>) {
+        let _ = plan;
+        let _ = most;
+        desk.board.look(&mut self.pass);
+    }
+
+    #[inline(always)]
+    fn put(
+        &mut self,
+        plan: &Plan,
+        most: u32,
+        desk: &Pool<'a, S>,
+        e: Event,
+    ) -> Result<gcd_loop::Put, Infallible> {
+        let _ = plan;
+        let _ = most;
+        Ok(put_outside(desk.board, &mut self.pass, e))
+    }
+
+    #[inline(always)]
+    fn work<R: Wait>(
+        &mut self,
+        rt: &R,
+        plan: &Plan,
+        most: u32,
+        desk: &Pool<'a, S>,
+        e: Event,
+    ) -> Result<Step, Infallible> {
+        let _ = plan;
+        let _ = most;
+        Ok(step_of::<S>(lead_any(rt, desk, self, e)))
+    }
+
+    #[inline(always)]
+    fn rest<R: Wait>(
+        &mut self,
+        rt: &R,
+        plan: &Plan,
+        most: u32,
+        desk: &Pool<'a, S>,
+    ) -> Result<Step, Infallible> {
+        let _ = rt;
+        let _ = plan;
+        let _ = most;
+        let _ = desk;
+        Ok(Step::Waited)
     }
 }
 
-// One turn of worker 0.
-#[inline(always)]
-fn lead_turn<S: Crew, P: Poller, C: Clock, R: Wait>(
-    rt: &R,
-    pool: &Pool<S>,
-    hand: &mut Hand<S>,
-    outlook: &mut Outlook,
-    poller: &mut P,
-    clock: &mut C,
-) -> Turn
-    requires ready { IsReady S.shape S.gives pool.now hand.old }
-    requires head { (view hand.old.pass).worker ≡ 0 }
-    ensures serving { Serving S.shape S.gives pool.now hand.old hand.new }
-    ensures after { AfterTurn S.shape result (view hand.new.pass) (slots hand.new.pass) }
-    ensures going { (before : PollerState) (early : ClockState)
-        → IsGoing P.tells C.tells pool.now.plan.now before early (P.state poller.old) (C.state clock.old) (view hand.old.pass).seen outlook.old
-        → IsGoing P.tells C.tells pool.now.plan.now before early (P.state poller.new) (C.state clock.new) (view hand.new.pass).seen outlook.new }
-{
-    pool.board.look(&mut hand.pass);
-    answer(rt, pool, hand, outlook, poller, clock)
-}
-
-// What comes after a turn: where nothing was placed, a short wait.
-#[inline(always)]
-fn pass_time<R: Wait>(rt: &R, idle: &mut Idle, turn: Turn) {
-    match turn {
-        Turn::Placed | Turn::Ended => idle.reset(),
-        _ => idle.pause(rt),
+impl Backoff for Idle {
+    #[inline(always)]
+    fn reset(&mut self) {
+        Idle::reset(self);
     }
-}
 
-// Turn by turn, until the run has ended.
-fn lead_turns<S: Crew, P: Poller, C: Clock, R: Wait>(
-    rt: &R,
-    pool: &Pool<S>,
-    hand: &mut Hand<S>,
-    outlook: &mut Outlook,
-    poller: &mut P,
-    clock: &mut C,
-)
-    requires ready { IsReady S.shape S.gives pool.now hand.old }
-    requires head { (view hand.old.pass).worker ≡ 0 }
-    ensures served { Served S.shape S.gives pool.now hand.old hand.new }
-    ensures going { (before : PollerState) (early : ClockState)
-        → IsGoing P.tells C.tells pool.now.plan.now before early (P.state poller.old) (C.state clock.old) (view hand.old.pass).seen outlook.old
-        → IsGoing P.tells C.tells pool.now.plan.now before early (P.state poller.new) (C.state clock.new) (view hand.new.pass).seen outlook.new }
-{
-    let mut idle = Idle::new();
-    for _ in rt.forever() {
-        let turn = lead_turn(rt, pool, hand, outlook, poller, clock);
-        if let Turn::Left = turn {
-            return;
-        }
-        pass_time(rt, &mut idle, turn);
+    #[inline(always)]
+    fn pause<R: Wait>(&mut self, rt: &R) {
+        Idle::pause(self, rt);
     }
-    unreachable!()
 }
 
 // Worker 0 leads, from its first turn to the end.
-fn lead_to_the_end<S: Crew, P: Poller, C: Clock, R: Wait>(
+fn lead_to_the_end<S: RunCells, P: Poller, C: Clock, R: Wait>(
     rt: &R,
     pool: &Pool<S>,
     hand: &mut Hand<S>,
@@ -246,31 +209,35 @@ fn lead_to_the_end<S: Crew, P: Poller, C: Clock, R: Wait>(
     requires ready { IsReady S.shape S.gives pool.now hand.old }
     requires head { (view hand.old.pass).worker ≡ 0 }
     ensures served { Served S.shape S.gives pool.now hand.old hand.new }
-    ensures led { Led P.tells C.tells P.state C.state pool.now (hand.old, poller.old, clock.old) (hand.new, poller.new, clock.new) }
+    ensures led { Led P.tells C.tells P.state C.state (pool.now.alone ≡ true) (hand.old, poller.old, clock.old) (hand.new, poller.new, clock.new) }
 {
-    let mut outlook = Outlook::new(clock);
-    lead_turns(rt, pool, hand, &mut outlook, poller, clock);
+    let mut idle = Idle::new();
+    let most = pool.board.most();
+    match run_turns(rt, pool.plan, most, pool, hand, &mut idle, poller, clock) {
+        Ok(()) => {}
+        Err(never) => match never {},
+    }
 }
 
-/// Worker 0 of a pool (this project's own rule). With the hand of another worker it serves as that helper.
-pub struct Chief;
+/// Worker 0 of a pool. With the hand of another worker it serves as that helper.
+pub struct Worker0;
 
-impl<'a, S: Crew, P: Poller, C: Clock> Lead<Hand<S>, Pool<'a, S>, P, C> for Chief {
+impl<'a, S: RunCells, P: Poller, C: Clock> Leader<Hand<S>, Pool<'a, S>, P, C> for Worker0 {
     ghost use Rattle.gcd_pool.specs.Leads.{Led};
 
-    ghost led = { Led P.tells C.tells P.state C.state };
+    ghost led = { λ pool old new. Led P.tells C.tells P.state C.state (pool.alone ≡ true) old new };
 
     fn lead<R: Wait>(
         rt: &R,
-        desk: &Pool<'a, S>,
+        shared: &Pool<'a, S>,
         poller: &mut P,
         clock: &mut C,
         hand: &mut Hand<S>,
     ) {
         if hand.pass.worker() == 0 {
-            lead_to_the_end(rt, desk, hand, poller, clock);
+            lead_to_the_end(rt, shared, hand, poller, clock);
         } else {
-            serve_to_the_end(rt, desk, hand);
+            serve_to_the_end(rt, shared, hand);
         }
     }
 }

@@ -8,15 +8,15 @@
 //! | duty | what the helper does |
 //! |---|---|
 //! | `Leave` | it leaves: it has seen that the run is quiescent, halted or full |
-//! | `Record` | it puts the event. Before an End it runs the body, before a DeliverEnd it calls the handler ([`Crew`]), and it puts that event until it stands or the run is halted or full |
-//! | `Begin` | it wakes the Drain of the event's node, and puts the event with it ([`begin`]). Where that Drain does not sleep it takes another: the front of its own deque, or else of another's from the next number on and round, or else the node's own if it sleeps by now; with that it begins what may begin on that Drain's node ([`begin_on`]). Then it lays the Drain down: at the back of its deque where a block waits on a concurrent queue and the rack has another bench, and else asleep |
+//! | `Record` | it puts the event. Before an End it runs the body, before a DeliverEnd it calls the handler ([`RunCells`]), and it puts that event until it stands or the run is halted or full |
+//! | `Begin` | it wakes the Drain of the event's node, and puts the event with it ([`begin`]). Where that Drain does not sleep it takes another: the front of its own deque, or else of another's from the next number on and round, or else the node's own if it sleeps by now; with that it begins what may begin on that Drain's node ([`gcd_machine::Machine::begin_on`]). Then it lays the Drain down: at the back of its deque where a block waits on a concurrent queue and the team has another hand, and else asleep |
 //! | `Rest` | it waits ([`Idle`]), and asks again once the row has grown |
 //!
 //! A helper that has no run begins none, and waits, while others' runs begin and end within about a microsecond.
 //!
-//! Worker 0 ([`Chief`]) looks, asks its outlook (`gcd_turn`), and puts what was told, a Tick or a Halt; or else it does what its machine
-//! chooses, as a helper does, and polls or waits only where that is nothing. Where the rack has one bench each Drain sleeps between
-//! two turns, so that it begins exactly what its machine chose.
+//! Worker 0 ([`Worker0`]) looks, asks its outlook (`gcd_turn`), and puts what was told, a Tick or a Halt; or else it does what its machine
+//! chooses, as a helper does, and polls or waits only where that is nothing. Where it is the team's only hand it needs no Drain and
+//! pushes none: it records at once what its machine chose, whatever the number of the rack's benches.
 //!
 //! No worker holds a Drain from one turn to the next, so one that leaves, or whose run is parked, keeps none from the others.
 //!
@@ -25,24 +25,22 @@
 //! | call | promises |
 //! |---|---|
 //! | [`duty_of`] | the worker's choice (`choice_of` of `gcd_history`), and to leave exactly where the run has ended |
-//! | [`begin_on`] | what may begin on a node |
 //! | [`begin`] | as [`gcd_row::RowBoard::put`]; it asks for the Drain of the event's node |
-//! | [`Desk::serve`] of a [`Pool`] | the hand is still one of the pool, of the same worker and bench (`Serving` of `specs/Hands`), and has seen that the run has ended (`Served`) |
-//! | [`Lead::lead`] of [`Chief`] | the same; and where it began with an empty row and a poller that watches nothing, the journal that it has seen is honest to poller and clock (`Led` of `specs/Leads`, by `IsHeard` and `IsTimely` of `gcd_turn`) |
-//! | [`run_team`] | helpers serve in threads while worker 0 leads; what each did, place by place |
-//! | [`pool_run`] | each hand has served, worker 0 has led, and how the run has ended is what worker 0 has seen; a team of one runs with no thread |
+//! | [`begin_near`], [`take_turn`] | the hand is still one of the pool; what it adds is work of its worker; a Drain that was found is laid down, asleep or at the back of the bench's deque (`LaysDown`) |
+//! | [`Shared::serve`] of a [`Pool`] | the hand is still one of the pool, of the same worker and bench (`Serving` of `specs/Hands`), and has seen that the run has ended (`Served`) |
+//! | [`Leader::lead`] of [`Worker0`] | the same; and where its poller watches feeds of active sources alone, what poller and clock said stands in what it has seen since, whatever stood in the row before (`Led` of `specs/Leads`, by `IsRunOn` of `gcd_loop`) |
+//! | [`run_in_threads`] | helpers serve in threads while worker 0 leads; what each did, place by place |
+//! | [`pool_run`] | each hand has served, worker 0 has led, and how the run has ended is what worker 0 has seen; a team of one runs with no thread, and where each event of the row is worker 0's that hand follows its choice (`Follows`) |
 //!
 //! No call takes memory.
 //!
 //! # What it does not say
 //!
 //! That a helper ever places an event, that it has a thread of its own, or that it returns: each turn promises what it leaves, and
-//! serving ends only where the run has. That none of these calls drops a Drain is a clause of each private call that has one
-//! (`IsLaidDown` of `specs/Turns`), and no clause follows a Drain from there.
+//! serving ends only where the run has. That [`begin_near`] and [`take_turn`] lay a Drain that they find down is a clause (`LaysDown` of
+//! `specs/Turns`); no clause follows a Drain from there.
 #![tactic(auto)]
 
-mod beginning;
-mod crew;
 mod drains;
 mod duty;
 mod finding;
@@ -51,19 +49,19 @@ mod idle;
 mod lead;
 mod own;
 mod run;
+mod run_cells;
 mod serve;
 mod team;
 mod turn;
 
-pub use beginning::begin_on;
-pub use crew::Crew;
 pub use drains::{begin, begin_near};
 pub use duty::{Duty, Exit, duty_of};
 pub use hand::{Hand, Pool};
 pub use idle::Idle;
-pub use lead::Chief;
+pub use lead::Worker0;
 pub use own::record_own;
 pub use run::pool_run;
+pub use run_cells::RunCells;
 pub use serve::free_turn;
-pub use team::{Desk, Lead, run_team, serve_all};
+pub use team::{Leader, Shared, run_in_threads, serve_all};
 pub use turn::{Turn, take_turn};

@@ -1,77 +1,33 @@
 // Recording the events that begin no run on a node.
-ghost use Rattle.std.specs.Prelude.{◌≡◌, ◌≤◌, true, length, None, Some, MatchOption};
+ghost use Rattle.std.specs.Prelude.{◌≡◌, ◌≤◌, true, length, None, Some};
+ghost use Rattle.gcd_event.specs.declared.event.Event.{Event};
+ghost use Rattle.gcd_event.specs.Owners.{ended};
 ghost use Rattle.gcd_history.specs.Choice.{is_work, worker_of};
 ghost use Rattle.gcd_history.specs.History.{why};
 ghost use Rattle.gcd_plan.specs.declared.numbers.Run.TheVariants.{Block, Source};
-ghost use Rattle.gcd_row.specs.Passes.{IsPassOf, slots, view};
-ghost use Rattle.gcd_pool.specs.Hands.{GoesOn, IsFresh, IsReady, IsSettled, Serving, ended_run};
+ghost use Rattle.gcd_row.specs.Passes.{IsPassOf, Says, SaysSlots, slots, view};
+ghost use Rattle.gcd_row.specs.declared.board.RowBoard.{RowBoard};
+ghost use Rattle.gcd_row.specs.declared.pass.RowPass.{RowPass};
+ghost use Rattle.gcd_pool.specs.Hands.{GoesOn, IsFresh, IsReady, IsSettled, Serving};
 ghost use Rattle.gcd_pool.specs.Turns.{AfterTurn};
-ghost use Rattle.gcd_pool.specs.Works.{AddsWork};
+ghost use Rattle.gcd_pool.specs.Works.{AddsOnly, AddsWork, WasEndPut};
 
-use crate::crew::Crew;
 use crate::hand::{Hand, Pool};
+use crate::run_cells::RunCells;
 use crate::turn::Turn;
 use gcd_event::Event;
 use gcd_plan::{Blk, Obj, Run};
 use gcd_row::{Put, RowBoard, RowPass, Slot};
 use std::sync::Wait;
 
-// The run that the event ends.
+// What has come of an end that was put. None where another event barred it and the run is not halted.
 #[inline(always)]
-fn ended_run(e: Event) -> Option<Run>
-    ensures { result ≡ ended_run e }
+fn end_said<S: Slot>(pass: &RowPass<S>, said: Put) -> Option<Turn>
+    ensures { (board : RowBoard S) (before : RowPass S) (e : Event) → IsPassOf S.shape S.gives board pass.now
+        → Says e (view before) (view pass.now) said → SaysSlots S.shape S.gives e (slots before) (slots pass.now) (view pass.now) said
+        → worker_of e ≡ (view before).worker → IsSettled S.shape (view before) e (slots before) → WasEndPut S.shape e before pass.now result }
 {
-    match e {
-        Event::End { blk, .. } => Some(Run::Block(blk)),
-        Event::DeliverEnd { src, .. } => Some(Run::Source(src)),
-        Event::Start { .. } => None,
-        Event::Act { .. } => None,
-        Event::Wake { .. } => None,
-        Event::Deliver { .. } => None,
-        Event::Tick { .. } => None,
-        Event::Ready { .. } => None,
-        Event::FeedEnd { .. } => None,
-        Event::Misuse { .. } => None,
-        Event::Halt => None,
-    }
-}
-
-// Puts an end. None where another event barred it and the run is not halted.
-fn try_end<S: Slot>(board: &RowBoard<S>, pass: &mut RowPass<S>, e: Event) -> Option<Turn>
-    requires pass { IsPassOf S.shape S.gives board.now pass.old }
-    requires worker { worker_of e ≡ (view pass.old).worker }
-    requires settled { IsSettled S.shape (view pass.old) e (slots pass.old) }
-    ensures pass { IsPassOf S.shape S.gives board.now pass.new }
-    ensures view { GoesOn (view pass.old) (view pass.new) }
-    ensures work { AddsWork (view pass.old) (view pass.new) }
-    ensures says { MatchOption result (IsSettled S.shape (view pass.new) e (slots pass.new)) (λ t. AfterTurn S.shape t (view pass.new) (slots pass.new)) }
-{
-    match board.put(pass, e) {
-        Put::Placed(_) => Some(Turn::Ended),
-        Put::Full => Some(Turn::Left),
-        Put::Barred { .. } => {
-            if pass.machine().is_halted() {
-                Some(Turn::Left)
-            } else {
-                None
-            }
-        }
-    }
-}
-
-// The same for an end that the pass's machine permits: it is not judged again before the first exchange.
-#[inline(always)]
-fn try_chosen_end<S: Slot>(board: &RowBoard<S>, pass: &mut RowPass<S>, e: Event) -> Option<Turn>
-    requires pass { IsPassOf S.shape S.gives board.now pass.old }
-    requires worker { worker_of e ≡ (view pass.old).worker }
-    requires may { why (view pass.old).terms.plan (view pass.old).seen e ≡ None }
-    requires settled { IsSettled S.shape (view pass.old) e (slots pass.old) }
-    ensures pass { IsPassOf S.shape S.gives board.now pass.new }
-    ensures view { GoesOn (view pass.old) (view pass.new) }
-    ensures work { AddsWork (view pass.old) (view pass.new) }
-    ensures says { MatchOption result (IsSettled S.shape (view pass.new) e (slots pass.new)) (λ t. AfterTurn S.shape t (view pass.new) (slots pass.new)) }
-{
-    match board.put_chosen(pass, e) {
+    match said {
         Put::Placed(_) => Some(Turn::Ended),
         Put::Full => Some(Turn::Left),
         Put::Barred { .. } => {
@@ -92,10 +48,12 @@ fn retry_end<S: Slot, R: Wait>(rt: &R, board: &RowBoard<S>, pass: &mut RowPass<S
     ensures pass { IsPassOf S.shape S.gives board.now pass.new }
     ensures view { GoesOn (view pass.old) (view pass.new) }
     ensures work { AddsWork (view pass.old) (view pass.new) }
+    ensures only { AddsOnly e (view pass.old) (view pass.new) }
     ensures after { AfterTurn S.shape result (view pass.new) (slots pass.new) }
 {
     for _ in rt.forever() {
-        if let Some(turn) = try_end(board, pass, e) {
+        let said = board.put(pass, e);
+        if let Some(turn) = end_said(pass, said) {
             return turn;
         }
     }
@@ -112,9 +70,11 @@ fn put_end<S: Slot, R: Wait>(rt: &R, board: &RowBoard<S>, pass: &mut RowPass<S>,
     ensures pass { IsPassOf S.shape S.gives board.now pass.new }
     ensures view { GoesOn (view pass.old) (view pass.new) }
     ensures work { AddsWork (view pass.old) (view pass.new) }
+    ensures only { AddsOnly e (view pass.old) (view pass.new) }
     ensures after { AfterTurn S.shape result (view pass.new) (slots pass.new) }
 {
-    match try_chosen_end(board, pass, e) {
+    let said = board.put_chosen(pass, e);
+    match end_said(pass, said) {
         Some(turn) => turn,
         None => retry_end(rt, board, pass, e),
     }
@@ -122,7 +82,7 @@ fn put_end<S: Slot, R: Wait>(rt: &R, board: &RowBoard<S>, pass: &mut RowPass<S>,
 
 // Runs the block whose run the pass holds, and records its end.
 #[inline(always)]
-fn end_block<S: Crew, R: Wait>(
+fn end_block<S: RunCells, R: Wait>(
     rt: &R,
     board: &RowBoard<S>,
     pass: &mut RowPass<S>,
@@ -132,11 +92,12 @@ fn end_block<S: Crew, R: Wait>(
     requires pass { IsPassOf S.shape S.gives board.now pass.old }
     requires worker { worker_of e ≡ (view pass.old).worker }
     requires may { why (view pass.old).terms.plan (view pass.old).seen e ≡ None }
-    requires ends { ended_run e ≡ Some (Block b) }
+    requires ends { ended e ≡ Some (Block b) }
     requires fresh { IsFresh S.shape (view pass.old) (slots pass.old) }
     ensures pass { IsPassOf S.shape S.gives board.now pass.new }
     ensures view { GoesOn (view pass.old) (view pass.new) }
     ensures work { AddsWork (view pass.old) (view pass.new) }
+    ensures only { AddsOnly e (view pass.old) (view pass.new) }
     ensures after { AfterTurn S.shape result (view pass.new) (slots pass.new) }
 {
     S::run_body(board, pass, b);
@@ -144,7 +105,7 @@ fn end_block<S: Crew, R: Wait>(
 }
 
 // Calls the handler of the source whose run the pass holds, and records its end.
-fn end_source<S: Crew, R: Wait>(
+fn end_source<S: RunCells, R: Wait>(
     rt: &R,
     board: &RowBoard<S>,
     pass: &mut RowPass<S>,
@@ -154,11 +115,12 @@ fn end_source<S: Crew, R: Wait>(
     requires pass { IsPassOf S.shape S.gives board.now pass.old }
     requires worker { worker_of e ≡ (view pass.old).worker }
     requires may { why (view pass.old).terms.plan (view pass.old).seen e ≡ None }
-    requires ends { ended_run e ≡ Some (Source s) }
+    requires ends { ended e ≡ Some (Source s) }
     requires fresh { IsFresh S.shape (view pass.old) (slots pass.old) }
     ensures pass { IsPassOf S.shape S.gives board.now pass.new }
     ensures view { GoesOn (view pass.old) (view pass.new) }
     ensures work { AddsWork (view pass.old) (view pass.new) }
+    ensures only { AddsOnly e (view pass.old) (view pass.new) }
     ensures after { AfterTurn S.shape result (view pass.new) (slots pass.new) }
 {
     S::call_handler(board, pass, s);
@@ -171,13 +133,14 @@ fn go_on<S: Slot>(board: &RowBoard<S>, pass: &mut RowPass<S>, e: Event) -> Turn
     requires pass { IsPassOf S.shape S.gives board.now pass.old }
     requires worker { worker_of e ≡ (view pass.old).worker }
     requires may { why (view pass.old).terms.plan (view pass.old).seen e ≡ None }
-    requires ends_none { ended_run e ≡ None }
+    requires ends_none { ended e ≡ None }
     requires work { is_work e ≡ true }
     requires cells { length (view pass.old).terms.plan.blocks ≤ length (view pass.old).terms.cells }
     requires fresh { IsFresh S.shape (view pass.old) (slots pass.old) }
     ensures pass { IsPassOf S.shape S.gives board.now pass.new }
     ensures view { GoesOn (view pass.old) (view pass.new) }
     ensures work { AddsWork (view pass.old) (view pass.new) }
+    ensures only { AddsOnly e (view pass.old) (view pass.new) }
     ensures after { AfterTurn S.shape result (view pass.new) (slots pass.new) }
 {
     match board.put_chosen(pass, e) {
@@ -187,22 +150,29 @@ fn go_on<S: Slot>(board: &RowBoard<S>, pass: &mut RowPass<S>, e: Event) -> Turn
     }
 }
 
-/// Records what the worker's machine chose, an event that begins no run on a node (this project's own rule). Before the end of a run the
+/// Records what the worker's machine chose, an event that begins no run on a node. Before the end of a run the
 /// worker runs its body, or calls its handler; it puts the end until that stands ([`Turn::Ended`]), or until the row is full or the run
 /// halted ([`Turn::Left`]). It puts another event once: [`Turn::Placed`], [`Turn::Waited`] where one that came first bars it, or
 /// [`Turn::Left`] where the row is full. Conditions: the event is one of the hand's worker, none of the outside, and the worker's machine
 /// permits it; and the run that the hand holds, if any, is as it was taken.
 #[inline(always)]
-pub fn record_own<S: Crew, R: Wait>(rt: &R, pool: &Pool<S>, hand: &mut Hand<S>, e: Event) -> Turn
+pub fn record_own<S: RunCells, R: Wait>(
+    rt: &R,
+    pool: &Pool<S>,
+    hand: &mut Hand<S>,
+    e: Event,
+) -> Turn
     requires ready { IsReady S.shape S.gives pool.now hand.old }
     requires worker { worker_of e ≡ (view hand.old.pass).worker }
     requires may { why (view hand.old.pass).terms.plan (view hand.old.pass).seen e ≡ None }
     requires work { is_work e ≡ true }
     ensures serving { Serving S.shape S.gives pool.now hand.old hand.new }
     ensures work { AddsWork (view hand.old.pass) (view hand.new.pass) }
+    ensures only { AddsOnly e (view hand.old.pass) (view hand.new.pass) }
+    ensures bench { hand.new.bench ≡ hand.old.bench }
     ensures after { AfterTurn S.shape result (view hand.new.pass) (slots hand.new.pass) }
 {
-    match ended_run(e) {
+    match e.ended() {
         Some(Run::Block(b)) => end_block(rt, pool.board, &mut hand.pass, b, e),
         Some(Run::Source(s)) => end_source(rt, pool.board, &mut hand.pass, s, e),
         None => go_on(pool.board, &mut hand.pass, e),

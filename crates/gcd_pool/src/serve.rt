@@ -3,10 +3,10 @@ ghost use Rattle.gcd_row.specs.Passes.{slots, view};
 ghost use Rattle.gcd_pool.specs.Hands.{IsFresh, IsReady, Served, Serving};
 ghost use Rattle.gcd_pool.specs.Turns.{AfterTurn};
 
-use crate::crew::Crew;
 use crate::hand::{Hand, Pool};
 use crate::idle::Idle;
-use crate::team::Desk;
+use crate::run_cells::RunCells;
+use crate::team::Shared;
 use crate::turn::{Turn, take_turn};
 use gcd_plan::Plan;
 use std::hint;
@@ -22,7 +22,7 @@ const WHOLE_RUN: u32 = 3;
 
 // How a helper goes from turn to turn.
 #[derive(Drop)]
-struct Pace {
+struct Watch {
     idle: Idle,
     // The number of the node at which it looks first.
     from: u32,
@@ -34,10 +34,10 @@ struct Pace {
     free: bool,
 }
 
-impl Pace {
-    // A pace that looks at this node first.
-    fn new(from: u32) -> Pace {
-        Pace {
+impl Watch {
+    // A watch that looks at this node first.
+    fn new(from: u32) -> Watch {
+        Watch {
             idle: Idle::new(),
             from,
             seen: 0,
@@ -92,7 +92,7 @@ fn linger() {
 }
 
 // Whether a whole run began and ended while the helper lingered. It has seen the row as it was after that.
-fn are_quick<S: Crew>(pool: &Pool<S>, hand: &mut Hand<S>, seen: u32) -> bool
+fn are_quick<S: RunCells>(pool: &Pool<S>, hand: &mut Hand<S>, seen: u32) -> bool
     requires { IsReady S.shape S.gives pool.now hand.old }
     ensures serving { Serving S.shape S.gives pool.now hand.old hand.new }
     ensures fresh { IsFresh S.shape (view hand.new.pass) (slots hand.new.pass) }
@@ -102,11 +102,11 @@ fn are_quick<S: Crew>(pool: &Pool<S>, hand: &mut Hand<S>, seen: u32) -> bool
     now.saturating_sub(seen) >= WHOLE_RUN
 }
 
-/// A turn of a helper that has no run, and that had seen so many events when it last looked (this project's own rule). It looks again
+/// A turn of a helper that has no run, and that had seen so many events when it last looked. It looks again
 /// after about a microsecond. Where three events or more have come since, the others' runs are so short that it leaves the row to them,
 /// and answers [`Turn::Waited`]: each event goes through the one row, and one who begins there too only slows the others. Else it is
 /// [`take_turn`]. Condition: the run that the hand holds, if any, is as it was taken.
-pub fn free_turn<S: Crew, R: Wait>(
+pub fn free_turn<S: RunCells, R: Wait>(
     rt: &R,
     pool: &Pool<S>,
     hand: &mut Hand<S>,
@@ -125,39 +125,39 @@ pub fn free_turn<S: Crew, R: Wait>(
 }
 
 // One turn: it looks, and does what there is to do. A turn that finds nothing new after one with nothing to do only waits.
-fn step<S: Crew, R: Wait>(rt: &R, pool: &Pool<S>, hand: &mut Hand<S>, pace: &mut Pace) -> Turn
+fn step<S: RunCells, R: Wait>(rt: &R, pool: &Pool<S>, hand: &mut Hand<S>, watch: &mut Watch) -> Turn
     requires { IsReady S.shape S.gives pool.now hand.old }
     ensures serving { Serving S.shape S.gives pool.now hand.old hand.new }
     ensures after { AfterTurn S.shape result (view hand.new.pass) (slots hand.new.pass) }
 {
     let seen = pool.board.look(&mut hand.pass);
-    pace.look(seen);
-    if pace.resting {
+    watch.look(seen);
+    if watch.resting {
         return Turn::Rested;
     }
-    if pace.free {
-        return free_turn(rt, pool, hand, pace.from, seen);
+    if watch.free {
+        return free_turn(rt, pool, hand, watch.from, seen);
     }
-    take_turn(rt, pool, hand, pace.from)
+    take_turn(rt, pool, hand, watch.from)
 }
 
 // Turn by turn, until the run has ended.
-pub fn serve_to_the_end<S: Crew, R: Wait>(rt: &R, pool: &Pool<S>, hand: &mut Hand<S>)
+pub fn serve_to_the_end<S: RunCells, R: Wait>(rt: &R, pool: &Pool<S>, hand: &mut Hand<S>)
     requires { IsReady S.shape S.gives pool.now hand.old }
     ensures { Served S.shape S.gives pool.now hand.old hand.new }
 {
-    let mut pace = Pace::new(first_node(pool.plan, hand.pass.worker()));
+    let mut watch = Watch::new(first_node(pool.plan, hand.pass.worker()));
     for _ in rt.forever() {
-        let turn = step(rt, pool, hand, &mut pace);
+        let turn = step(rt, pool, hand, &mut watch);
         if let Turn::Left = turn {
             return;
         }
-        pace.after(rt, turn);
+        watch.after(rt, turn);
     }
     unreachable!()
 }
 
-impl<S: Crew> Desk<Hand<S>> for Pool<'_, S> {
+impl<S: RunCells> Shared<Hand<S>> for Pool<'_, S> {
     ghost use Rattle.gcd_pool.specs.Hands.{IsReady, Served};
 
     ghost ready = { IsReady S.shape S.gives };

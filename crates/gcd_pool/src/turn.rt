@@ -2,14 +2,14 @@
 ghost use Rattle.std.specs.Prelude.{◌≡◌};
 ghost use Rattle.gcd_row.specs.Passes.{slots, view};
 ghost use Rattle.gcd_pool.specs.Hands.{IsReady, Serving};
-ghost use Rattle.gcd_pool.specs.Turns.{AfterTurn};
+ghost use Rattle.gcd_pool.specs.Turns.{AfterTurn, LaysDown};
 ghost use Rattle.gcd_pool.specs.Works.{AddsWork};
 
-use crate::crew::Crew;
 use crate::drains::begin_chosen;
 use crate::duty::{Duty, duty_of};
 use crate::hand::{Hand, Pool};
 use crate::own::record_own;
+use crate::run_cells::RunCells;
 use gcd_plan::Obj;
 use std::sync::Wait;
 
@@ -30,18 +30,25 @@ pub enum Turn {
     Rested,
 }
 
-/// Does what the worker has to do by what it has seen, its nodes from number `from` on (this project's own rule): what [`duty_of`] says.
+/// Does what the worker has to do by what it has seen, its nodes from number `from` on: what [`duty_of`] says.
 /// It answers [`Turn::Left`] where the worker has seen that the run has ended, and [`Turn::Rested`] where there is nothing to do. An
 /// event that begins no run on a node is put by [`record_own`]. One that begins a run is put once where the Drain of its node sleeps:
 /// [`Turn::Placed`], or [`Turn::Waited`] where another event came first or the row is full. Where that Drain does not sleep this is
 /// [`begin_near`](crate::begin_near). Condition: the run that the hand holds, if any, is as it was taken.
-pub fn take_turn<S: Crew, R: Wait>(rt: &R, pool: &Pool<S>, hand: &mut Hand<S>, from: u32) -> Turn
+pub fn take_turn<S: RunCells, R: Wait>(
+    rt: &R,
+    pool: &Pool<S>,
+    hand: &mut Hand<S>,
+    from: u32,
+) -> Turn
     requires { IsReady S.shape S.gives pool.now hand.old }
     ensures serving { Serving S.shape S.gives pool.now hand.old hand.new }
     ensures work { AddsWork (view hand.old.pass) (view hand.new.pass) }
     ensures after { AfterTurn S.shape result (view hand.new.pass) (slots hand.new.pass) }
+    ensures laid { LaysDown hand.old.bench hand.new.bench result }
 {
-    match duty_of(hand.pass.machine(), hand.pass.worker(), from) {
+    let most = pool.board.most();
+    match duty_of(most, hand.pass.machine(), hand.pass.worker(), from) {
         Duty::Leave(_) => Turn::Left,
         Duty::Record(e) => record_own(rt, pool, hand, e),
         Duty::Begin(node, e) => begin_chosen(rt, pool, hand, node, e),

@@ -6,12 +6,12 @@ ghost use Rattle.gcd_steal.specs.Racks.{IsBenchOf, number_of, plan_of};
 ghost use Rattle.gcd_pool.specs.Hands.{IsHandOf, IsReady};
 ghost use Rattle.gcd_pool.specs.Turns.{AfterTurn};
 
-use super::boards::{board_of, next_bench, rack_of};
+use super::boards::{board_of, next_bench, pool_of, rack_of};
 use super::hiring::team_of;
 use super::numbers::jobs_of;
 use super::plans::{SIGNALS, plan_of_meeting, plan_of_signals};
 use gcd_plan::{Kind, Obj, Plan};
-use gcd_pool::{Crew, Hand, Pool, Turn, begin_near, free_turn, take_turn};
+use gcd_pool::{Hand, Pool, RunCells, Turn, begin_near, free_turn, take_turn};
 use gcd_steal::{Bench, Rack};
 use std::alloc::Global;
 use std::process::Abort;
@@ -127,7 +127,7 @@ fn lies_in_deque<R: Abort>(rt: &R, rack: &Rack, bench: &mut Bench, queue: Obj) -
 }
 
 // The run has not ended for the worker.
-fn goes_on<S: Crew, R: Abort>(rt: &R, pool: &Pool<S>, hand: &Hand<S>, turn: Turn)
+fn goes_on<S: RunCells, R: Abort>(rt: &R, pool: &Pool<S>, hand: &Hand<S>, turn: Turn)
     requires of { IsHandOf S.shape S.gives pool.now hand.now }
     requires after { AfterTurn S.shape turn (view hand.now.pass) (slots hand.now.pass) }
     ensures { IsReady S.shape S.gives pool.now hand.now }
@@ -140,7 +140,12 @@ fn goes_on<S: Crew, R: Abort>(rt: &R, pool: &Pool<S>, hand: &Hand<S>, turn: Turn
 }
 
 // So many turns by what the worker has seen now. What the last comes to.
-fn turns<S: Crew, R: Wait + Abort>(rt: &R, pool: &Pool<S>, hand: &mut Hand<S>, count: u32) -> Turn
+fn turns<S: RunCells, R: Wait + Abort>(
+    rt: &R,
+    pool: &Pool<S>,
+    hand: &mut Hand<S>,
+    count: u32,
+) -> Turn
     requires { IsReady S.shape S.gives pool.now hand.old }
     ensures { IsReady S.shape S.gives pool.now hand.new }
 {
@@ -153,7 +158,7 @@ fn turns<S: Crew, R: Wait + Abort>(rt: &R, pool: &Pool<S>, hand: &mut Hand<S>, c
 }
 
 // A look.
-fn look<S: Crew>(pool: &Pool<S>, hand: &mut Hand<S>) -> Turn
+fn look<S: RunCells>(pool: &Pool<S>, hand: &mut Hand<S>) -> Turn
     requires { IsReady S.shape S.gives pool.now hand.old }
     ensures { IsReady S.shape S.gives pool.now hand.new }
 {
@@ -162,7 +167,7 @@ fn look<S: Crew>(pool: &Pool<S>, hand: &mut Hand<S>) -> Turn
 }
 
 // Begins a run on the queue. Whether the Drain lies in the deque then.
-fn begin<S: Crew, R: Wait + Abort>(
+fn begin<S: RunCells, R: Wait + Abort>(
     rt: &R,
     pool: &Pool<S>,
     hand: &mut Hand<S>,
@@ -179,7 +184,7 @@ fn begin<S: Crew, R: Wait + Abort>(
 }
 
 // Begins the run that the worker's machine chooses. Whether the Drain lies in the deque then.
-fn choose<S: Crew, R: Wait + Abort>(
+fn choose<S: RunCells, R: Wait + Abort>(
     rt: &R,
     pool: &Pool<S>,
     hand: &mut Hand<S>,
@@ -195,7 +200,7 @@ fn choose<S: Crew, R: Wait + Abort>(
 }
 
 // A turn of a helper with no run. Whether the Drain lies in the deque then.
-fn free<S: Crew, R: Wait + Abort>(
+fn free<S: RunCells, R: Wait + Abort>(
     rt: &R,
     pool: &Pool<S>,
     hand: &mut Hand<S>,
@@ -215,7 +220,7 @@ fn free<S: Crew, R: Wait + Abort>(
 }
 
 // A step. What it comes to.
-fn make<S: Crew, R: Wait + Abort>(
+fn make<S: RunCells, R: Wait + Abort>(
     rt: &R,
     pool: &Pool<S>,
     hand: &mut Hand<S>,
@@ -236,7 +241,7 @@ fn make<S: Crew, R: Wait + Abort>(
 }
 
 // The step of a row, by its worker.
-fn make_row<S: Crew, R: Wait + Abort>(
+fn make_row<S: RunCells, R: Wait + Abort>(
     rt: &R,
     pool: &Pool<S>,
     first: &mut Hand<S>,
@@ -258,7 +263,7 @@ fn make_row<S: Crew, R: Wait + Abort>(
 }
 
 // Each step by its worker.
-fn make_all<S: Crew, R: Wait + Abort>(
+fn make_all<S: RunCells, R: Wait + Abort>(
     rt: &R,
     pool: &Pool<S>,
     first: &mut Hand<S>,
@@ -278,7 +283,11 @@ fn make_all<S: Crew, R: Wait + Abort>(
 }
 
 // The last hand that is left.
-fn last_hand<S: Crew + Drop, R: Abort>(rt: &R, pool: &Pool<S>, hands: &mut Vec<Hand<S>>) -> Hand<S>
+fn last_hand<S: RunCells + Drop, R: Abort>(
+    rt: &R,
+    pool: &Pool<S>,
+    hands: &mut Vec<Hand<S>>,
+) -> Hand<S>
     requires { All (IsReady S.shape S.gives pool.now) hands.old.items }
     ensures others { All (IsReady S.shape S.gives pool.now) hands.new.items }
     ensures hand { IsReady S.shape S.gives pool.now result }
@@ -297,11 +306,7 @@ fn play<R: Wait + Abort>(rt: &R, alloc: Global, plan: &Plan, rows: &[Row]) {
     };
     let (rack, benches) = rack_of(rt, alloc, plan, 2, 1);
     let (board, head) = board_of(rt, alloc, plan, jobs);
-    let pool = Pool {
-        board: &board,
-        rack: &rack,
-        plan,
-    };
+    let pool = pool_of(&board, &rack, plan);
     let mut hands = team_of(rt, alloc, &pool, head, benches, 2);
     let mut second = last_hand(rt, &pool, &mut hands);
     let mut first = last_hand(rt, &pool, &mut hands);

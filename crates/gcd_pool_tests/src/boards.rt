@@ -1,6 +1,7 @@
 // Boards of a plan, and racks with their benches.
 ghost use Rattle.std.specs.Prelude.{◌≡◌, ◌<◌, ◌≤◌, ◌++◌, [], All, IfOk, OnOk, length};
 ghost use Rattle.gcd_plan.specs.Limits.{max_workers};
+ghost use Rattle.gcd_pool.specs.Hands.{IsPool};
 ghost use Rattle.gcd_row.specs.Opening.{AreFirst, AreHandlersOf, tallies_for};
 ghost use Rattle.gcd_row.specs.Passes.{IsPassOf, terms_of, view};
 ghost use Rattle.gcd_row.specs.Shapes.{shape_of, gives_of};
@@ -9,7 +10,8 @@ ghost use Rattle.gcd_steal.specs.Racks.{IsBenchOf, plan_of};
 
 use gcd_jobs::{Job, Tally};
 use gcd_plan::{Kind, Obj, Plan};
-use gcd_row::{Board, Pass};
+use gcd_pool::Pool;
+use gcd_row::{Board, Pass, RowBoard, Slot};
 use gcd_steal::{Bench, Rack};
 use std::alloc::{AllocError, Global};
 use std::process::Abort;
@@ -104,4 +106,16 @@ pub fn next_bench<R: Abort>(rt: &R, rack: &Rack, benches: &mut Vec<Bench>) -> Be
         panic!(rt; "a bench for each worker")
     };
     bench
+}
+
+/// What workers share of a board and a rack of one plan.
+pub fn pool_of<'a, S: Slot>(board: &'a RowBoard<S>, rack: &'a Rack, plan: &'a Plan) -> Pool<'a, S>
+    requires board { (terms_of board.now).plan ≡ plan.now }
+    requires rack { plan_of rack.now ≡ plan.now }
+    requires cells { length (terms_of board.now).plan.blocks ≤ length (terms_of board.now).cells }
+    ensures pool { IsPool result }
+    ensures board { result.board.now ≡ board.now }
+    ensures rack { result.rack.now ≡ rack.now }
+{
+    Pool::new(board, rack, plan)
 }

@@ -70,3 +70,28 @@ pub fn closed<S: Slot + Drop, R: Abort>(
     judge(rt, alloc, plan, events.as_slice());
     (events, cells)
 }
+
+// Whether each event is what worker 0 chooses at its place, and nothing is left to choose.
+fn chooses(plan: &Plan, machine: &mut Machine, events: &[Event]) -> bool
+    requires { StandsFor machine.old plan.now [] }
+{
+    for e in events {
+        if machine.choose(0, 0) != Some(*e) {
+            return false;
+        }
+        if !takes(plan, machine, *e) {
+            return false;
+        }
+    }
+    machine.choose(0, 0).is_none()
+}
+
+/// A machine of its own chooses the journal.
+pub fn are_chosen<R: Abort>(rt: &R, alloc: Global, plan: &Plan, events: &[Event]) {
+    let Ok(mut machine) = Machine::new(alloc, plan) else {
+        panic!(rt; "no memory")
+    };
+    if !chooses(plan, &mut machine, events) {
+        panic!(rt; "the journal is not what worker 0 chooses")
+    }
+}

@@ -142,3 +142,39 @@ pub fn plan_of_signals(alloc: Global) -> Result<Plan, Fail> {
     };
     Ok(Plan::of_parts(parts).ok_or("valid")?)
 }
+
+// `main` suspends the first queue, and submits two blocks to it and two to the other.
+fn suspending_acts(alloc: Global) -> Result<Vec<Act>, AllocError> {
+    let mut acts = Vec::new(alloc);
+    acts.push(Act::Suspend(Obj(1)))?;
+    for number in 1..5u32 {
+        let queue = if number < 3 { Obj(1) } else { Obj(2) };
+        acts.push(Act::Async(queue, Blk(number)))?;
+    }
+    Ok(acts)
+}
+
+/// A plan of two concurrent queues, the first of which is suspended until the first block of the other runs. Blocks then wait on both.
+pub fn plan_of_two_queues(alloc: Global) -> Result<Plan, Fail> {
+    let mut objects = Vec::new(alloc);
+    objects.push(ObjPart::new(alloc, "root", Kind::Concurrent)?)?;
+    objects.push(ObjPart::new(alloc, "c1", Kind::Concurrent)?)?;
+    objects.push(ObjPart::new(alloc, "c2", Kind::Concurrent)?)?;
+    let mut blocks = Vec::new(alloc);
+    let mut main = BlkPart::new(alloc, "main")?;
+    main.acts = suspending_acts(alloc)?;
+    blocks.push(main)?;
+    blocks.push(BlkPart::new(alloc, "a1")?)?;
+    blocks.push(BlkPart::new(alloc, "a2")?)?;
+    let mut resumes = BlkPart::new(alloc, "b1")?;
+    resumes.acts.push(Act::Resume(Obj(1)))?;
+    blocks.push(resumes)?;
+    blocks.push(BlkPart::new(alloc, "b2")?)?;
+    let parts = Parts {
+        objects,
+        blocks,
+        files: Vec::new(alloc),
+        until: 1000,
+    };
+    Ok(Plan::of_parts(parts).ok_or("valid")?)
+}

@@ -1,26 +1,27 @@
-// A desk with no Drains: the row alone keeps its workers apart.
+// What workers share with no Drains: the row alone keeps its workers apart.
 ghost use Rattle.gcd_row.specs.Passes.{slots, view};
 ghost use Rattle.gcd_pool.specs.Hands.{IsReady, Served, Serving};
 ghost use Rattle.gcd_pool.specs.Turns.{AfterTurn};
 
-use gcd_pool::{Crew, Desk, Duty, Hand, Idle, Pool, Turn, duty_of, record_own};
+use gcd_pool::{Duty, Hand, Idle, Pool, RunCells, Shared, Turn, duty_of, record_own};
 use gcd_row::Slot;
 use std::sync::Wait;
 
 /// What workers share who look, choose by their machine, and put.
 #[derive(Drop)]
-pub struct RowDesk<'a, S: Slot> {
+pub struct RowAlone<'a, 'b, S: Slot> {
     /// The board, and a rack that nobody uses.
-    pub pool: Pool<'a, S>,
+    pub pool: &'a Pool<'b, S>,
 }
 
 // Puts what the machine chose, whatever node it begins on.
-fn take_turn<S: Crew, R: Wait>(rt: &R, pool: &Pool<S>, hand: &mut Hand<S>) -> Turn
+fn take_turn<S: RunCells, R: Wait>(rt: &R, pool: &Pool<S>, hand: &mut Hand<S>) -> Turn
     requires { IsReady S.shape S.gives pool.now hand.old }
     ensures serving { Serving S.shape S.gives pool.now hand.old hand.new }
     ensures after { AfterTurn S.shape result (view hand.new.pass) (slots hand.new.pass) }
 {
-    match duty_of(hand.pass.machine(), hand.pass.worker(), 0) {
+    let most = pool.board.most();
+    match duty_of(most, hand.pass.machine(), hand.pass.worker(), 0) {
         Duty::Leave(_) => Turn::Left,
         Duty::Record(e) => record_own(rt, pool, hand, e),
         Duty::Begin(_, e) => record_own(rt, pool, hand, e),
@@ -29,7 +30,7 @@ fn take_turn<S: Crew, R: Wait>(rt: &R, pool: &Pool<S>, hand: &mut Hand<S>) -> Tu
 }
 
 // Looks, chooses and puts.
-fn step<S: Crew, R: Wait>(rt: &R, pool: &Pool<S>, hand: &mut Hand<S>) -> Turn
+fn step<S: RunCells, R: Wait>(rt: &R, pool: &Pool<S>, hand: &mut Hand<S>) -> Turn
     requires { IsReady S.shape S.gives pool.now hand.old }
     ensures serving { Serving S.shape S.gives pool.now hand.old hand.new }
     ensures after { AfterTurn S.shape result (view hand.new.pass) (slots hand.new.pass) }
@@ -47,7 +48,7 @@ fn pass_time<R: Wait>(rt: &R, idle: &mut Idle, turn: Turn) {
 }
 
 // Turn by turn, until the run has ended.
-fn serve_to_the_end<S: Crew, R: Wait>(rt: &R, pool: &Pool<S>, hand: &mut Hand<S>)
+fn serve_to_the_end<S: RunCells, R: Wait>(rt: &R, pool: &Pool<S>, hand: &mut Hand<S>)
     requires { IsReady S.shape S.gives pool.now hand.old }
     ensures { Served S.shape S.gives pool.now hand.old hand.new }
 {
@@ -62,14 +63,14 @@ fn serve_to_the_end<S: Crew, R: Wait>(rt: &R, pool: &Pool<S>, hand: &mut Hand<S>
     unreachable!()
 }
 
-impl<S: Crew> Desk<Hand<S>> for RowDesk<'_, S> {
+impl<S: RunCells> Shared<Hand<S>> for RowAlone<'_, '_, S> {
     ghost use Rattle.gcd_pool.specs.Hands.{IsReady, Served};
 
-    ghost ready = { λ desk. IsReady S.shape S.gives desk.pool };
+    ghost ready = { λ row. IsReady S.shape S.gives row.pool.now };
 
-    ghost served = { λ desk. Served S.shape S.gives desk.pool };
+    ghost served = { λ row. Served S.shape S.gives row.pool.now };
 
     fn serve<R: Wait>(&self, rt: &R, hand: &mut Hand<S>) {
-        serve_to_the_end(rt, &self.pool, hand);
+        serve_to_the_end(rt, self.pool, hand);
     }
 }

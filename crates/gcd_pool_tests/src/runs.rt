@@ -4,11 +4,11 @@ ghost use Rattle.gcd_row.specs.Shapes.{shape_of, gives_of};
 ghost use Rattle.gcd_pool.specs.Each.{Each};
 ghost use Rattle.gcd_pool.specs.Hands.{IsReady, Served};
 
-use super::boards::{board_of, rack_of, workers_of};
-use super::closing::closed;
+use super::boards::{board_of, pool_of, rack_of, workers_of};
+use super::closing::{are_chosen, closed};
 use super::hiring::{gather, team_of};
 use super::numbers::{are_right, jobs_of};
-use super::plans::plan_of_each_kind;
+use super::plans::{plan_of_each_kind, plan_of_two_queues};
 use gcd_event::Event;
 use gcd_jobs::{Job, Tally};
 use gcd_outer::{JumpClock, ListPoller};
@@ -52,11 +52,7 @@ pub fn run_of<J: Job + Drop + Send, R: Threads + Wait + Abort + Sync>(
     let workers = workers_of(rt, workers);
     let (rack, benches) = rack_of(rt, alloc, plan, benches, 4_096);
     let (board, head) = board_of(rt, alloc, plan, jobs);
-    let pool = Pool {
-        board: &board,
-        rack: &rack,
-        plan,
-    };
+    let pool = pool_of(&board, &rack, plan);
     let hands = team_of(rt, alloc, &pool, head, benches, workers);
     let (exit, hands) = lead(rt, alloc, &pool, hands);
     let head = gather(rt, &board, hands, workers);
@@ -64,7 +60,6 @@ pub fn run_of<J: Job + Drop + Send, R: Threads + Wait + Abort + Sync>(
     (exit, events, cells)
 }
 
-// A rack of two benches, of which worker 0 has one, is no rack of one: it looks into deques.
 #[test]
 fn teams_drain(rt: HostRuntime) -> Result<(), Fail> {
     let plan = plan_of_each_kind(rt.alloc())?;
@@ -75,6 +70,19 @@ fn teams_drain(rt: HostRuntime) -> Result<(), Fail> {
             assert!(rt; exit == Exit::Quiescent, "{workers} workers");
             are_right(&rt, cells.as_slice());
         }
+    }
+    Ok(())
+}
+
+// However many benches the rack has: no Drain is pushed, which would be taken before the one that the machine chose.
+#[test]
+fn one_hand_follows_its_choice(rt: HostRuntime) -> Result<(), Fail> {
+    let plan = plan_of_two_queues(rt.alloc())?;
+    for benches in [1, 4] {
+        let jobs = jobs_of(rt.alloc(), &plan)?;
+        let (exit, events, _cells) = run_of(&rt, rt.alloc(), &plan, jobs, benches, 1);
+        assert!(rt; exit == Exit::Quiescent, "{benches} benches");
+        are_chosen(&rt, rt.alloc(), &plan, events.as_slice());
     }
     Ok(())
 }

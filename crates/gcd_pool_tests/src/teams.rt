@@ -5,15 +5,15 @@ ghost use Rattle.gcd_steal.specs.Limits.{max_pushes};
 ghost use Rattle.gcd_pool.specs.Each.{Each};
 ghost use Rattle.gcd_pool.specs.Hands.{IsReady, Served};
 
-use super::boards::{board_of, rack_of, workers_of};
+use super::boards::{board_of, pool_of, rack_of, workers_of};
 use super::closing::closed;
 use super::hiring::{gather, team_of};
 use super::numbers::{are_right, jobs_of};
 use super::plans::plan_of_each_kind;
-use super::rows::RowDesk;
+use super::rows::RowAlone;
 use gcd_jobs::{Job, Tally};
 use gcd_plan::Plan;
-use gcd_pool::{Desk, Hand, Pool, serve_all};
+use gcd_pool::{Hand, Pool, Shared, serve_all};
 use gcd_row::Cell;
 use std::alloc::Global;
 use std::process::Abort;
@@ -21,17 +21,17 @@ use std::sync::Wait;
 use std::test::Fail;
 use std::thread::Threads;
 
-// Each hand serves at the desk.
-fn serve_at<T: Send, D: Desk<T> + Sync, R: Threads + Wait + Sync>(
+// Each hand serves.
+fn serve_at<T: Send, D: Shared<T> + Sync, R: Threads + Wait + Sync>(
     rt: &R,
-    desk: &D,
+    shared: &D,
     mut hands: Vec<T>,
 ) -> Vec<T>
-    requires { All (D.ready desk.now) hands.items }
+    requires { All (D.ready shared.now) hands.items }
     ensures count { length result.items ≡ length hands.items }
-    ensures hands { Each (D.served desk.now) hands.items result.items }
+    ensures hands { Each (D.served shared.now) hands.items result.items }
 {
-    serve_all(rt, desk, hands.as_mut_slice());
+    serve_all(rt, shared, hands.as_mut_slice());
     hands
 }
 
@@ -45,14 +45,8 @@ fn serve_row<J: Job + Drop + Send, R: Threads + Wait + Sync>(
     ensures count { length result.items ≡ length hands.items }
     ensures hands { Each (Served (shape_of (λ t. t.kind) (λ t. t.times) (λ t. t.total)) (gives_of J.gives) pool.now) hands.items result.items }
 {
-    let desk = RowDesk {
-        pool: Pool {
-            board: pool.board,
-            rack: pool.rack,
-            plan: pool.plan,
-        },
-    };
-    serve_at(rt, &desk, hands)
+    let row = RowAlone { pool };
+    serve_at(rt, &row, hands)
 }
 
 // Each hand serves, with Drains or without.
@@ -88,11 +82,7 @@ fn serve_plan<J: Job + Drop + Send, R: Threads + Wait + Abort + Sync>(
     let workers = workers_of(rt, workers);
     let (rack, benches) = rack_of(rt, alloc, plan, workers, most);
     let (board, head) = board_of(rt, alloc, plan, jobs);
-    let pool = Pool {
-        board: &board,
-        rack: &rack,
-        plan,
-    };
+    let pool = pool_of(&board, &rack, plan);
     let hands = team_of(rt, alloc, &pool, head, benches, workers);
     let hands = serve(rt, &pool, hands, with_drains);
     let head = gather(rt, &board, hands, workers);

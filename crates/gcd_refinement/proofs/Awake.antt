@@ -23,7 +23,7 @@ use Rattle.gcd_refinement.proofs.Waiters.{rank_from}
 use Rattle.gcd_refinement.proofs.GroupSleepers.{sleeper_parked}
 use Rattle.gcd_refinement.proofs.StepSleepers.{blocks_at}
 use Rattle.gcd_refinement.proofs.StepAsleep.{drop_nil}
-use Rattle.gcd_refinement.proofs.StepDue.{among, alone, either, split}
+use Rattle.gcd_refinement.proofs.StepWakeable.{among, alone, either, split}
 use Rattle.gcd_plan.proofs.Places.{get_or-replicate_same}
 
 -- ## Places
@@ -87,7 +87,7 @@ awake_from plan past v b valid lawful waits ties none =
 pub wakes_begin : (plan : PlanView) → WakesAre plan [] (machine_of plan)
 unfolding may_wake awaited
 wakes_begin plan = record {
-  due = λ b. get_or-replicate_same (length plan.blocks) b false;
+  wakeable = λ b. get_or-replicate_same (length plan.blocks) b false;
   of_sema = λ s.
       ap (map (λ w. w.0)) (get_or-replicate_same (length plan.objects) s [])
       ∙ ap (λ l. l ++ []) (sym (drop_nil (first_value plan s + signal_count plan [] s)));

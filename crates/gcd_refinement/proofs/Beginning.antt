@@ -81,9 +81,8 @@ own_begin plan valid =
       sleeper_blocks = refl;
       blocks = length-replicate m idle;
       ended = length-replicate m false;
-      due = length-replicate m false;
+      wakeable = length-replicate m false;
       handlers = length-replicate n undelivered;
-      timed = refl;
       busy = length-replicate n false;
       live = length-replicate n false;
       workers = length-replicate {A = Option Run} max_workers None;

@@ -39,7 +39,7 @@ pub mod NoCount
 pub mod Emptied
 pub mod StepSleepers
 pub mod StepAsleep
-pub mod StepDue
+pub mod StepWakeable
 pub mod StepWakes
 pub mod StepCaller
 pub mod Awake

@@ -27,11 +27,12 @@ use Rattle.gcd_history.proofs.Reasons.{allowed}
 use Rattle.gcd_history.proofs.SubmittedOnNodes.{on_a_node, recorded_fits}
 use Rattle.gcd_lists.specs.ListsView.{list_at}
 use Rattle.gcd_source.specs.SourcesView.{pending_at}
-use Rattle.gcd_timer.specs.TimersView.{due_count_at}
+use Rattle.gcd_timer.specs.TimersView.{due_count_at, comes_by}
+use Rattle.gcd_timer.proofs.Marks.{count_kept}
 use Rattle.gcd_refinement.specs.MachineView.{MachineView, block_at, handler_at, busy_at}
 use Rattle.gcd_refinement.specs.Shape.{PartsFit, OwnFit}
 use Rattle.gcd_refinement.specs.Ties.{ListsAre, GroupsAre, BlocksAre, SourcesAre, MarksAre, waiter}
-use Rattle.gcd_refinement.specs.After.{popped, pushed, begun, lists_after, pending_in, ticked, marked, stays_busy, unmarked, busy_by, has_due, busy_at_event, after}
+use Rattle.gcd_refinement.specs.After.{popped, pushed, begun, lists_after, pending_in, ticked, marked, stays_busy, unmarked, busy_by, busy_at_event, after}
 use Rattle.gcd_refinement.proofs.Writes.{entry_set}
 use Rattle.gcd_refinement.proofs.StepLists.{is_within, node_within, pushed_all, new_fit, lists_step}
 use Rattle.gcd_refinement.proofs.StepSubmits.{submits_are}
@@ -207,16 +208,15 @@ by_tick : (plan : PlanView) (past : List Event) (t : ℕ) (v : MachineView) (o :
 by_tick plan past t v o own sources next old off =
     ⊎_elim
     (λ (low : o < length v.busy).
-    let told : get_or (busy_at_event plan v (Tick t)) o false ≡ (busy_at v o || has_due (ticked v.timers (Tick t)) v.handlers o) =
-    get_or-map-range_with_len (λ s. get_or v.busy s false || has_due (ticked v.timers (Tick t)) v.handlers s) 0 (length v.busy) o o false low (omega arith) in
-    let parts = or_parts (busy_at v o) (has_due (ticked v.timers (Tick t)) v.handlers o) (sym told ∙ off) in
+    let told : get_or (busy_at_event plan v (Tick t)) o false ≡ (busy_at v o || comes_by v.timers t o) =
+    get_or-map-range_with_len (λ s. get_or v.busy s false || comes_by v.timers t s) 0 (length v.busy) o o false low (omega arith) in
+    let parts = or_parts (busy_at v o) (comes_by v.timers t o) (sym told ∙ off) in
     let quiet = old parts.0 in
     let none = quiet.pend in
-    let taken = ltb-false (handler_at v o).taken (due_count_at (ticked v.timers (Tick t)) o) parts.1 in
+    let kept = count_kept v.timers t o parts.1 in
     let before = sources.pending o in
-    let less = sources.taken o in
     let now_pending : pending_at v.sources o + due_count_at (ticked v.timers (Tick t)) o ≡ (handler_at v o).taken + pending plan (Tick t ∷ past) o = next.pending o in
-    record { list = quiet.list; pend = omega (arith, none, taken, before, less, now_pending) })
+    record { list = quiet.list; pend = omega (arith, none, kept, before, now_pending) })
     (λ (high : length v.busy ≤ o).
     let quiet = old (get_or_past v.busy o false high) in
     let wide = own.busy in
@@ -248,7 +248,7 @@ event_long plan v (Start w b) = by (block_at v b.0).node
     by None = refl
     by (Some n) = length-set v.busy n.0 (stays_busy (length (list_at v.lists n.0) - 1) (pending_in v n.0))
 event_long plan v (Deliver w s) = length-set v.busy s.0 (stays_busy (length (list_at v.lists s.0)) 0)
-event_long plan v (Tick t) = length-map-range_with_len (λ s. get_or v.busy s false || has_due (ticked v.timers (Tick t)) v.handlers s) 0 (length v.busy)
+event_long plan v (Tick t) = length-map-range_with_len (λ s. get_or v.busy s false || comes_by v.timers t s) 0 (length v.busy)
 event_long plan v (Ready s n) = length-set v.busy s.0 true
 event_long plan v (Acted w r i) = by (act_of plan (Acted w r i))
   where

@@ -36,13 +36,13 @@ use Rattle.gcd_refinement.specs.Shape.{OwnFit}
 use Rattle.gcd_refinement.specs.Sleepers.{grouped, group_of, called_by, calls, caller_of}
 use Rattle.gcd_refinement.specs.Ties.{BlocksAre, WorkersAre, is_run}
 use Rattle.gcd_refinement.specs.Submits.{submits, emptied_by, come_by, activated_by, newly_cancelled}
-use Rattle.gcd_refinement.specs.After.{popped, pushed_on, asleep, asleep_by_handler, asleep_after, all_woken, with_due, woken, noted, blocks_by, delivered, handlers_after, marked, busy_at_event, workers_after, ended_after, after, live_begun, live_ended, live_after}
+use Rattle.gcd_refinement.specs.After.{popped, pushed_on, asleep, asleep_by_handler, asleep_after, all_woken, with_wakeable, woken, noted, blocks_by, delivered, handlers_after, marked, busy_at_event, workers_after, ended_after, after, live_begun, live_ended, live_after}
 use Rattle.gcd_refinement.proofs.Homes.{home_of, homed, homes_after}
 use Rattle.gcd_refinement.proofs.StepBlocks.{by_long}
 use Rattle.gcd_refinement.proofs.StepLists.{node_within}
 use Rattle.gcd_refinement.proofs.StepMarks.{event_long, marked_long}
 use Rattle.gcd_refinement.proofs.StepWaits.{known_block}
-use Rattle.gcd_refinement.proofs.StepDue.{woken_long}
+use Rattle.gcd_refinement.proofs.StepWakeable.{woken_long}
 use Rattle.gcd_source.specs.SourcesView.{is_cancelled_at}
 
 -- ## What the history names is of the plan
@@ -146,9 +146,9 @@ noted_long : (subs : List Submission) (blocks : List BlockProgress) → length (
 noted_long [] blocks = refl
 noted_long (s ∷ subs) blocks = noted_long subs (noted blocks s) ∙ length-set blocks s.blk.0 (record (get_or blocks s.blk.0 idle) { node = s.node; barrier = s.barrier })
 
-due_long : (bs : List Blk) (due : List Bool) → length (fold with_due due bs) ≡ length due
-due_long [] due = refl
-due_long (b ∷ bs) due = due_long bs (with_due due b) ∙ length-set due b.0 true
+wakeable_long : (bs : List Blk) (wakeable : List Bool) → length (fold with_wakeable wakeable bs) ≡ length wakeable
+wakeable_long [] wakeable = refl
+wakeable_long (b ∷ bs) wakeable = wakeable_long bs (with_wakeable wakeable b) ∙ length-set wakeable b.0 true
 
 all_marked_long : (subs : List Submission) (busy : List Bool) → length (fold marked busy subs) ≡ length busy
 all_marked_long [] busy = refl
@@ -208,9 +208,8 @@ own_step plan past e v valid lawful own blocks workers =
       sleeper_blocks = sleepers.blocks ∙ own.sleeper_blocks;
       blocks = noted_long (submits plan v e) (blocks_by plan v e) ∙ (by_long plan v e ∙ own.blocks);
       ended = ended_long v e ∙ own.ended;
-      due = due_long (come_by plan v e) (woken v.due e) ∙ (woken_long v.due e ∙ own.due);
+      wakeable = wakeable_long (come_by plan v e) (woken v.wakeable e) ∙ (woken_long v.wakeable e ∙ own.wakeable);
       handlers = handlers_long v e ∙ own.handlers;
-      timed = own.timed;
       busy = all_marked_long (submits plan v e) (busy_at_event plan v e) ∙ (event_long plan v e ∙ own.busy);
       live = live_long plan v e ∙ own.live;
       workers = workers_long plan v e ∙ own.workers;

@@ -27,7 +27,7 @@ use Rattle.gcd_history.proofs.SubmittedOnNodes.{recorded_fits}
 use Rattle.gcd_history.proofs.Woken.{come_kept, parked_kept}
 use Rattle.gcd_group.specs.GroupsView.{count_at}
 use Rattle.gcd_sema.specs.SemasView.{waits_at, signals_at, first_at}
-use Rattle.gcd_refinement.specs.MachineView.{MachineView, block_at, due_at}
+use Rattle.gcd_refinement.specs.MachineView.{MachineView, block_at, is_wakeable_at}
 use Rattle.gcd_refinement.specs.Shape.{PartsFit, OwnFit}
 use Rattle.gcd_refinement.specs.Sleepers.{calls, caller_of, waiters, group_sleepers}
 use Rattle.gcd_refinement.specs.Ties.{GroupsAre, SemasAre, BlocksAre, WakesAre}
@@ -41,7 +41,7 @@ use Rattle.gcd_refinement.proofs.GroupSleepers.{group_of_same, parked_since, non
 use Rattle.gcd_refinement.proofs.Emptied.{is_emptied, emptied_is}
 use Rattle.gcd_refinement.proofs.StepSleepers.{blocks_at}
 use Rattle.gcd_refinement.proofs.StepAsleep.{first_is, at_semaphore, waits_count, sleepers_step}
-use Rattle.gcd_refinement.proofs.StepDue.{Before, either, same_truth, among, itself, dropped_first, due_fold, woken_due, woken_long, fold_long, may_from, may_parts, group_of_emptied, at_group, emptied_in, come_may}
+use Rattle.gcd_refinement.proofs.StepWakeable.{Before, either, same_truth, among, itself, dropped_first, wakeable_fold, woken_wakeable, woken_long, fold_long, may_from, may_parts, group_of_emptied, at_group, emptied_in, come_may}
 
 -- ## A wait that the event ends
 
@@ -222,29 +222,29 @@ due_from plan past e v b bf h =
     (cases_Bool (wakes b.0 e)))
     (parked_new plan past e b may.why may.is)
 
-due_by : (plan : PlanView) (past : List Event) (e : Event) (v : MachineView) (b : Blk) → Before plan past e v → due_at (after plan v e) b.0 ≡ may_wake plan (e ∷ past) b.0
-due_by plan past e v b bf =
-    let long = woken_long v.due e in
+wakeable_by : (plan : PlanView) (past : List Event) (e : Event) (v : MachineView) (b : Blk) → Before plan past e v → is_wakeable_at (after plan v e) b.0 ≡ may_wake plan (e ∷ past) b.0
+wakeable_by plan past e v b bf =
+    let long = woken_long v.wakeable e in
     ⊎_elim
-    (λ (low : b.0 < length v.due).
-    due_fold (woken v.due e) (come_by plan v e) b (omega (arith, low, long))
-    ∙ (ap (λ u. among b (come_by plan v e) || u) (woken_due v.due e b low ∙ ap (λ u. not (wakes b.0 e) && u) (bf.wakes.due b.0))
+    (λ (low : b.0 < length v.wakeable).
+    wakeable_fold (woken v.wakeable e) (come_by plan v e) b (omega (arith, low, long))
+    ∙ (ap (λ u. among b (come_by plan v e) || u) (woken_wakeable v.wakeable e b low ∙ ap (λ u. not (wakes b.0 e) && u) (bf.wakes.wakeable b.0))
     ∙ same_truth (among b (come_by plan v e) || (not (wakes b.0 e) && may_wake plan past b.0)) (may_wake plan (e ∷ past) b.0) (due_to plan past e v b bf) (due_from plan past e v b bf)))
-    (λ (high : length v.due ≤ b.0).
-    let whole = fold_long (woken v.due e) (come_by plan v e) in
-    let own = bf.own.due in
-    get_or-eq_default (after plan v e).due false (omega (arith, high, whole, long))
+    (λ (high : length v.wakeable ≤ b.0).
+    let whole = fold_long (woken v.wakeable e) (come_by plan v e) in
+    let own = bf.own.wakeable in
+    get_or-eq_default (after plan v e).wakeable false (omega (arith, high, whole, long))
     ∙ sym (false_from_ne_true (may_wake plan (e ∷ past) b.0) (λ h.
     let may = may_parts plan (e ∷ past) b h in
     let within = parked_within plan (e ∷ past) b may.why bf.lawful may.is in
     absurd (omega (arith, within, high, own)))))
-    (cases_lt b.0 (length v.due))
+    (cases_lt b.0 (length v.wakeable))
 
 pub wakes_step : (plan : PlanView) (past : List Event) (e : Event) (v : MachineView) → IsPlan plan → IsLawful plan (e ∷ past) → PartsFit plan v → OwnFit plan v → SemasAre plan past v → GroupsAre plan past v → BlocksAre plan past v
     → WakesAre plan past v → WakesAre plan (e ∷ past) (after plan v e)
 wakes_step plan past e v valid lawful fit own semas groups blocks ties =
     let bf : Before plan past e v = record { valid = valid; lawful = lawful; fit = fit; own = own; semas = semas; groups = groups; blocks = blocks; wakes = ties } in
     record {
-      due = λ b. due_by plan past e v (record { 0 = b }) bf;
+      wakeable = λ b. wakeable_by plan past e v (record { 0 = b }) bf;
       of_sema = λ s. sleepers_step plan past e v s valid lawful fit own semas groups blocks ties;
     }

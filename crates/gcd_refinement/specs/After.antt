@@ -1,12 +1,11 @@
 -- How an event changes each part of the view: by the part's own words where it has one. A misuse and a halt change the flags
 -- and the length alone.
-use Rattle.std.specs.Prelude.{ℕ, zero, suc, ◌+◌, ◌-◌, ◌==◌, nat_lt, Bool, true, false, not, ◌&&◌, ◌||◌, if◌then◌else◌, List, [], ◌∷◌, ◌++◌, length, map, drop, fold, Option, Some, None, slice_index, slice_index_or, slice_set}
+use Rattle.std.specs.Prelude.{ℕ, zero, suc, ◌+◌, ◌-◌, ◌==◌, nat_lt, Bool, true, false, not, ◌&&◌, ◌||◌, if◌then◌else◌, List, [], ◌∷◌, ◌++◌, length, drop, fold, Option, Some, None, slice_index, slice_index_or, slice_set}
 use Rattle.std.specs.Option.{option_map_or}
-use Rattle.std.specs.List.{range_with_len}
 use Rattle.gcd_plan.specs.PlanView.{PlanView}
 use Rattle.gcd_plan.specs.Kinds.{has_kind, is_read_kind}
 use Rattle.gcd_plan.specs.declared.act.Act.{Act}
-use Rattle.gcd_plan.specs.declared.act.Act.TheVariants.{Sync, BarrierSync, GroupAsync, Notify, Enter, Leave, GroupWait, Signal, Wait, Suspend, Resume, Activate, Target, Merge, Retain, Release}
+use Rattle.gcd_plan.specs.declared.act.Act.TheVariants.{Async, Barrier, Sync, BarrierSync, GroupAsync, Notify, Enter, Leave, GroupWait, Signal, Wait, Suspend, Resume, Activate, Target, Merge, Cancel, Retain, Release}
 use Rattle.gcd_plan.specs.declared.numbers.Blk.{Blk}
 use Rattle.gcd_plan.specs.declared.numbers.Obj.{Obj}
 use Rattle.gcd_plan.specs.declared.numbers.Run.{Run}
@@ -14,7 +13,7 @@ use Rattle.gcd_plan.specs.declared.numbers.Run.TheVariants.{Block, Source}
 use Rattle.gcd_plan.specs.declared.reason.Reason.{Reason}
 use Rattle.gcd_plan.specs.declared.reason.Reason.TheVariants.{Block as EndOf, Group as Empty, Rank}
 use Rattle.gcd_event.specs.declared.event.Event.{Event}
-use Rattle.gcd_event.specs.declared.event.Event.TheVariants.{Start, Act as Acted, Wake, End, Deliver, DeliverEnd, Tick, Ready, Misuse, Halt}
+use Rattle.gcd_event.specs.declared.event.Event.TheVariants.{Start, Act as Acted, Wake, End, Deliver, DeliverEnd, Tick, Ready, FeedEnd, Misuse, Halt}
 use Rattle.gcd_history.specs.declared.submission.Submission.{Submission}
 use Rattle.gcd_history.specs.Runs.{act_at, act_of}
 use Rattle.gcd_history.specs.Submitted.{cancels}
@@ -23,11 +22,11 @@ use Rattle.gcd_lists.specs.ListsView.{ListsView, list_at}
 use Rattle.gcd_tree.specs.TreeView.{TreeView, open_on_at, with_target, with_request, with_open, settled}
 use Rattle.gcd_hold.specs.HoldsView.{HoldsView, hold_at, with_hold, with_active}
 use Rattle.gcd_drain.specs.DrainsView.{DrainsView, barriers_at, with_barriers}
-use Rattle.gcd_group.specs.GroupsView.{GroupsView, count_at, entered_at, due_at as due_of_group, with_one_more, with_one_less, with_entered, with_notify, with_fired}
+use Rattle.gcd_group.specs.GroupsView.{GroupsView, count_at, entered_at, due_at, with_one_more, with_one_less, with_entered, with_notify, with_fired}
 use Rattle.gcd_sema.specs.SemasView.{SemasView, signals_at, waits_at, is_passed_at, with_signals, with_waits}
 use Rattle.gcd_sync.specs.WaitsView.{WaitsView, with_reason}
 use Rattle.gcd_source.specs.SourcesView.{SourcesView, pending_at, is_cancelled_at, merged_at, with_pending, with_cancelled as with_cancelled_source}
-use Rattle.gcd_timer.specs.TimersView.{TimersView, due_count_at, with_activated, with_cancelled as with_cancelled_timer}
+use Rattle.gcd_timer.specs.TimersView.{TimersView, due_count_at, with_activated, with_cancelled as with_cancelled_timer, marked_by}
 use Rattle.gcd_refinement.specs.MachineView.{MachineView, idle, undelivered, block_at, handler_at}
 use Rattle.gcd_refinement.specs.declared.progress.BlockProgress.{BlockProgress}
 use Rattle.gcd_refinement.specs.declared.progress.HandlerProgress.{HandlerProgress}
@@ -36,9 +35,26 @@ use Rattle.gcd_refinement.specs.Submits.{emptied_by, submits, activated_by, newl
 -- ## References
 
 abbrev pub refs_by : List ℕ → Option Act → List ℕ
+refs_by refs None = refs
+refs_by refs (Some (Async q b)) = refs
+refs_by refs (Some (Barrier q b)) = refs
+refs_by refs (Some (Sync q b)) = refs
+refs_by refs (Some (BarrierSync q b)) = refs
+refs_by refs (Some (GroupAsync g q b)) = refs
+refs_by refs (Some (Notify g q b)) = refs
+refs_by refs (Some (Enter g)) = refs
+refs_by refs (Some (Leave g)) = refs
+refs_by refs (Some (GroupWait g)) = refs
+refs_by refs (Some (Signal s)) = refs
+refs_by refs (Some (Wait s)) = refs
+refs_by refs (Some (Suspend o)) = refs
+refs_by refs (Some (Resume o)) = refs
+refs_by refs (Some (Activate o)) = refs
+refs_by refs (Some (Target o t)) = refs
+refs_by refs (Some (Merge s n)) = refs
+refs_by refs (Some (Cancel s)) = refs
 refs_by refs (Some (Retain o)) = slice_set refs o.0 (slice_index refs o.0 + 1)
 refs_by refs (Some (Release o)) = slice_set refs o.0 (slice_index refs o.0 - 1)
-refs_by refs _ = refs
 
 abbrev pub refs_after : PlanView → MachineView → Event → List ℕ
 refs_after plan v e = refs_by v.refs (act_of plan e)
@@ -60,7 +76,16 @@ pushed lists s = option_map_or (λ n. pushed_on lists n s.blk s.barrier) s.node 
 -- the lists after a Start has taken its block off
 abbrev pub begun : MachineView → Event → ListsView
 begun v (Start w b) = popped v.lists (block_at v b.0).node
-begun v e = v.lists
+begun v (Acted w run i) = v.lists
+begun v (Wake w b) = v.lists
+begun v (End w b) = v.lists
+begun v (Deliver w s) = v.lists
+begun v (DeliverEnd w s) = v.lists
+begun v (Tick t) = v.lists
+begun v (Ready s n) = v.lists
+begun v (FeedEnd s) = v.lists
+begun v (Misuse w run i c) = v.lists
+begun v Halt = v.lists
 
 abbrev pub lists_after : PlanView → MachineView → Event → ListsView
 lists_after plan v e = fold pushed (begun v e) (submits plan v e)
@@ -79,24 +104,64 @@ closed tree (Some n) =
 
 -- another target: at once where no run is open on the object, and else as a request
 abbrev pub targeted : TreeView → Option Act → TreeView
+targeted tree None = tree
+targeted tree (Some (Async q b)) = tree
+targeted tree (Some (Barrier q b)) = tree
+targeted tree (Some (Sync q b)) = tree
+targeted tree (Some (BarrierSync q b)) = tree
+targeted tree (Some (GroupAsync g q b)) = tree
+targeted tree (Some (Notify g q b)) = tree
+targeted tree (Some (Enter g)) = tree
+targeted tree (Some (Leave g)) = tree
+targeted tree (Some (GroupWait g)) = tree
+targeted tree (Some (Signal s)) = tree
+targeted tree (Some (Wait s)) = tree
+targeted tree (Some (Suspend o)) = tree
+targeted tree (Some (Resume o)) = tree
+targeted tree (Some (Activate o)) = tree
 targeted tree (Some (Target o t)) = if open_on_at tree o.0 == 0 then with_target tree o.0 t else with_request tree o.0 (Some t)
-targeted tree _ = tree
+targeted tree (Some (Merge s n)) = tree
+targeted tree (Some (Cancel s)) = tree
+targeted tree (Some (Retain o)) = tree
+targeted tree (Some (Release o)) = tree
 
 abbrev pub tree_after : PlanView → MachineView → Event → TreeView
 tree_after plan v (Start w b) = opened v.tree (block_at v b.0).node
-tree_after plan v (Deliver w s) = opened v.tree (Some s)
+tree_after plan v (Acted w run i) = targeted v.tree (act_at plan run i)
+tree_after plan v (Wake w b) = v.tree
 tree_after plan v (End w b) = closed v.tree (block_at v b.0).node
+tree_after plan v (Deliver w s) = opened v.tree (Some s)
 tree_after plan v (DeliverEnd w s) = closed v.tree (Some s)
-tree_after plan v e = targeted v.tree (act_of plan e)
+tree_after plan v (Tick t) = v.tree
+tree_after plan v (Ready s n) = v.tree
+tree_after plan v (FeedEnd s) = v.tree
+tree_after plan v (Misuse w run i c) = v.tree
+tree_after plan v Halt = v.tree
 
 -- ## Holds
 
 abbrev pub holds_by : HoldsView → Option Act → HoldsView
+holds_by holds None = holds
+holds_by holds (Some (Async q b)) = holds
+holds_by holds (Some (Barrier q b)) = holds
+holds_by holds (Some (Sync q b)) = holds
+holds_by holds (Some (BarrierSync q b)) = holds
+holds_by holds (Some (GroupAsync g q b)) = holds
+holds_by holds (Some (Notify g q b)) = holds
+holds_by holds (Some (Enter g)) = holds
+holds_by holds (Some (Leave g)) = holds
+holds_by holds (Some (GroupWait g)) = holds
+holds_by holds (Some (Signal s)) = holds
+holds_by holds (Some (Wait s)) = holds
 holds_by holds (Some (Suspend o)) = with_hold holds o.0 (hold_at holds o.0 + 1)
 holds_by holds (Some (Resume o)) =
     if hold_at holds o.0 == 0 then with_active holds o.0 else with_hold holds o.0 (hold_at holds o.0 - 1)
 holds_by holds (Some (Activate o)) = with_active holds o.0
-holds_by holds _ = holds
+holds_by holds (Some (Target o t)) = holds
+holds_by holds (Some (Merge s n)) = holds
+holds_by holds (Some (Cancel s)) = holds
+holds_by holds (Some (Retain o)) = holds
+holds_by holds (Some (Release o)) = holds
 
 abbrev pub holds_after : PlanView → MachineView → Event → HoldsView
 holds_after plan v e = holds_by v.holds (act_of plan e)
@@ -114,8 +179,16 @@ barrier_ended drains (Some n) barrier = if barrier then with_barriers drains n.0
 
 abbrev pub drains_after : PlanView → MachineView → Event → DrainsView
 drains_after plan v (Start w b) = barrier_began v.drains (block_at v b.0).node (block_at v b.0).barrier
+drains_after plan v (Acted w run i) = v.drains
+drains_after plan v (Wake w b) = v.drains
 drains_after plan v (End w b) = barrier_ended v.drains (block_at v b.0).node (block_at v b.0).barrier
-drains_after plan v e = v.drains
+drains_after plan v (Deliver w s) = v.drains
+drains_after plan v (DeliverEnd w s) = v.drains
+drains_after plan v (Tick t) = v.drains
+drains_after plan v (Ready s n) = v.drains
+drains_after plan v (FeedEnd s) = v.drains
+drains_after plan v (Misuse w run i c) = v.drains
+drains_after plan v Halt = v.drains
 
 -- ## Groups
 
@@ -126,16 +199,31 @@ fired_times (suc n) groups g = fired_times n (with_fired groups g) g
 
 -- all that are due have fired
 abbrev pub all_fired : GroupsView → ℕ → GroupsView
-all_fired groups g = fired_times (due_of_group groups g) groups g
+all_fired groups g = fired_times (due_at groups g) groups g
 
 -- `at` is the length of the history after the event
 abbrev pub groups_by : GroupsView → (at : ℕ) → Option Act → GroupsView
+groups_by groups at None = groups
+groups_by groups at (Some (Async q b)) = groups
+groups_by groups at (Some (Barrier q b)) = groups
+groups_by groups at (Some (Sync q b)) = groups
+groups_by groups at (Some (BarrierSync q b)) = groups
 groups_by groups at (Some (GroupAsync g q b)) = with_one_more groups g.0 at
+groups_by groups at (Some (Notify g q b)) = all_fired (with_notify groups g.0 b) g.0
 groups_by groups at (Some (Enter g)) = with_entered (with_one_more groups g.0 at) g.0 (entered_at groups g.0 + 1)
 groups_by groups at (Some (Leave g)) =
     all_fired (with_entered (with_one_less groups g.0 at) g.0 (entered_at groups g.0 - 1)) g.0
-groups_by groups at (Some (Notify g q b)) = all_fired (with_notify groups g.0 b) g.0
-groups_by groups at _ = groups
+groups_by groups at (Some (GroupWait g)) = groups
+groups_by groups at (Some (Signal s)) = groups
+groups_by groups at (Some (Wait s)) = groups
+groups_by groups at (Some (Suspend o)) = groups
+groups_by groups at (Some (Resume o)) = groups
+groups_by groups at (Some (Activate o)) = groups
+groups_by groups at (Some (Target o t)) = groups
+groups_by groups at (Some (Merge s n)) = groups
+groups_by groups at (Some (Cancel s)) = groups
+groups_by groups at (Some (Retain o)) = groups
+groups_by groups at (Some (Release o)) = groups
 
 -- a member of the group has ended, if there is one
 abbrev pub member_ended : GroupsView → (at : ℕ) → Option Obj → GroupsView
@@ -143,15 +231,41 @@ member_ended groups at None = groups
 member_ended groups at (Some g) = all_fired (with_one_less groups g.0 at) g.0
 
 abbrev pub groups_after : PlanView → MachineView → Event → GroupsView
+groups_after plan v (Start w b) = v.groups
+groups_after plan v (Acted w run i) = groups_by v.groups (v.len + 1) (act_at plan run i)
+groups_after plan v (Wake w b) = v.groups
 groups_after plan v (End w b) = member_ended v.groups (v.len + 1) (block_at v b.0).group
-groups_after plan v e = groups_by v.groups (v.len + 1) (act_of plan e)
+groups_after plan v (Deliver w s) = v.groups
+groups_after plan v (DeliverEnd w s) = v.groups
+groups_after plan v (Tick t) = v.groups
+groups_after plan v (Ready s n) = v.groups
+groups_after plan v (FeedEnd s) = v.groups
+groups_after plan v (Misuse w run i c) = v.groups
+groups_after plan v Halt = v.groups
 
 -- ## Semaphores
 
 abbrev pub semas_by : SemasView → Option Act → SemasView
+semas_by semas None = semas
+semas_by semas (Some (Async q b)) = semas
+semas_by semas (Some (Barrier q b)) = semas
+semas_by semas (Some (Sync q b)) = semas
+semas_by semas (Some (BarrierSync q b)) = semas
+semas_by semas (Some (GroupAsync g q b)) = semas
+semas_by semas (Some (Notify g q b)) = semas
+semas_by semas (Some (Enter g)) = semas
+semas_by semas (Some (Leave g)) = semas
+semas_by semas (Some (GroupWait g)) = semas
 semas_by semas (Some (Signal s)) = with_signals semas s.0 (signals_at semas s.0 + 1)
 semas_by semas (Some (Wait s)) = with_waits semas s.0 (waits_at semas s.0 + 1)
-semas_by semas _ = semas
+semas_by semas (Some (Suspend o)) = semas
+semas_by semas (Some (Resume o)) = semas
+semas_by semas (Some (Activate o)) = semas
+semas_by semas (Some (Target o t)) = semas
+semas_by semas (Some (Merge s n)) = semas
+semas_by semas (Some (Cancel s)) = semas
+semas_by semas (Some (Retain o)) = semas
+semas_by semas (Some (Release o)) = semas
 
 abbrev pub semas_after : PlanView → MachineView → Event → SemasView
 semas_after plan v e = semas_by v.semas (act_of plan e)
@@ -160,41 +274,108 @@ semas_after plan v e = semas_by v.semas (act_of plan e)
 
 -- what the act parks its block for
 abbrev pub awaited_in_view : MachineView → Option Act → Option Reason
+awaited_in_view v None = None
+awaited_in_view v (Some (Async q b)) = None
+awaited_in_view v (Some (Barrier q b)) = None
 awaited_in_view v (Some (Sync q c)) = Some (EndOf c)
 awaited_in_view v (Some (BarrierSync q c)) = Some (EndOf c)
+awaited_in_view v (Some (GroupAsync g q b)) = None
+awaited_in_view v (Some (Notify g q b)) = None
+awaited_in_view v (Some (Enter g)) = None
+awaited_in_view v (Some (Leave g)) = None
 awaited_in_view v (Some (GroupWait g)) = Some (Empty g v.len)
+awaited_in_view v (Some (Signal s)) = None
 awaited_in_view v (Some (Wait s)) = Some (Rank s (waits_at v.semas s.0 + 1))
-awaited_in_view v _ = None
+awaited_in_view v (Some (Suspend o)) = None
+awaited_in_view v (Some (Resume o)) = None
+awaited_in_view v (Some (Activate o)) = None
+awaited_in_view v (Some (Target o t)) = None
+awaited_in_view v (Some (Merge s n)) = None
+awaited_in_view v (Some (Cancel s)) = None
+awaited_in_view v (Some (Retain o)) = None
+awaited_in_view v (Some (Release o)) = None
 
 abbrev pub parked_for : WaitsView → Run → Option Reason → WaitsView
 parked_for waits (Block b) (Some why) = with_reason waits b.0 (Some why)
-parked_for waits run _ = waits
+parked_for waits (Block b) None = waits
+parked_for waits (Source s) why = waits
 
 abbrev pub waits_after : PlanView → MachineView → Event → WaitsView
+waits_after plan v (Start w b) = v.waits
 waits_after plan v (Acted w run i) = parked_for v.waits run (awaited_in_view v (act_at plan run i))
 waits_after plan v (Wake w b) = with_reason v.waits b.0 None
-waits_after plan v e = v.waits
+waits_after plan v (End w b) = v.waits
+waits_after plan v (Deliver w s) = v.waits
+waits_after plan v (DeliverEnd w s) = v.waits
+waits_after plan v (Tick t) = v.waits
+waits_after plan v (Ready s n) = v.waits
+waits_after plan v (FeedEnd s) = v.waits
+waits_after plan v (Misuse w run i c) = v.waits
+waits_after plan v Halt = v.waits
 
 -- the blocks that sleep at an object, behind which a block goes to sleep where what it waits for has not come
 abbrev pub asleep : MachineView → Blk → Option Act → ListsView
-asleep v b (Some (Wait s)) =
-    if is_passed_at v.semas s.0 (waits_at v.semas s.0 + 1) then v.sleepers else pushed_on v.sleepers s b false
+asleep v b None = v.sleepers
+asleep v b (Some (Async q c)) = v.sleepers
+asleep v b (Some (Barrier q c)) = v.sleepers
+asleep v b (Some (Sync q c)) = v.sleepers
+asleep v b (Some (BarrierSync q c)) = v.sleepers
+asleep v b (Some (GroupAsync g q c)) = v.sleepers
+asleep v b (Some (Notify g q c)) = v.sleepers
+asleep v b (Some (Enter g)) = v.sleepers
+asleep v b (Some (Leave g)) = v.sleepers
 asleep v b (Some (GroupWait g)) = if count_at v.groups g.0 == 0 then v.sleepers else pushed_on v.sleepers g b false
 asleep v b (Some (Signal s)) = popped v.sleepers (Some s)
-asleep v b _ = v.sleepers
+asleep v b (Some (Wait s)) =
+    if is_passed_at v.semas s.0 (waits_at v.semas s.0 + 1) then v.sleepers else pushed_on v.sleepers s b false
+asleep v b (Some (Suspend o)) = v.sleepers
+asleep v b (Some (Resume o)) = v.sleepers
+asleep v b (Some (Activate o)) = v.sleepers
+asleep v b (Some (Target o t)) = v.sleepers
+asleep v b (Some (Merge s n)) = v.sleepers
+asleep v b (Some (Cancel s)) = v.sleepers
+asleep v b (Some (Retain o)) = v.sleepers
+asleep v b (Some (Release o)) = v.sleepers
 
 -- a handler waits for nothing, but may signal
 abbrev pub asleep_by_handler : MachineView → Option Act → ListsView
+asleep_by_handler v None = v.sleepers
+asleep_by_handler v (Some (Async q b)) = v.sleepers
+asleep_by_handler v (Some (Barrier q b)) = v.sleepers
+asleep_by_handler v (Some (Sync q b)) = v.sleepers
+asleep_by_handler v (Some (BarrierSync q b)) = v.sleepers
+asleep_by_handler v (Some (GroupAsync g q b)) = v.sleepers
+asleep_by_handler v (Some (Notify g q b)) = v.sleepers
+asleep_by_handler v (Some (Enter g)) = v.sleepers
+asleep_by_handler v (Some (Leave g)) = v.sleepers
+asleep_by_handler v (Some (GroupWait g)) = v.sleepers
 asleep_by_handler v (Some (Signal s)) = popped v.sleepers (Some s)
-asleep_by_handler v _ = v.sleepers
+asleep_by_handler v (Some (Wait s)) = v.sleepers
+asleep_by_handler v (Some (Suspend o)) = v.sleepers
+asleep_by_handler v (Some (Resume o)) = v.sleepers
+asleep_by_handler v (Some (Activate o)) = v.sleepers
+asleep_by_handler v (Some (Target o t)) = v.sleepers
+asleep_by_handler v (Some (Merge s n)) = v.sleepers
+asleep_by_handler v (Some (Cancel s)) = v.sleepers
+asleep_by_handler v (Some (Retain o)) = v.sleepers
+asleep_by_handler v (Some (Release o)) = v.sleepers
 
 abbrev pub asleep_by : MachineView → Run → Option Act → ListsView
 asleep_by v (Block b) act = asleep v b act
 asleep_by v (Source s) act = asleep_by_handler v act
 
 abbrev pub asleep_after : PlanView → MachineView → Event → ListsView
+asleep_after plan v (Start w b) = v.sleepers
 asleep_after plan v (Acted w run i) = asleep_by v run (act_at plan run i)
-asleep_after plan v e = v.sleepers
+asleep_after plan v (Wake w b) = v.sleepers
+asleep_after plan v (End w b) = v.sleepers
+asleep_after plan v (Deliver w s) = v.sleepers
+asleep_after plan v (DeliverEnd w s) = v.sleepers
+asleep_after plan v (Tick t) = v.sleepers
+asleep_after plan v (Ready s n) = v.sleepers
+asleep_after plan v (FeedEnd s) = v.sleepers
+asleep_after plan v (Misuse w run i c) = v.sleepers
+asleep_after plan v Halt = v.sleepers
 
 -- nobody sleeps at the object any more, if there is one
 abbrev pub all_woken : ListsView → Option Obj → ListsView
@@ -205,16 +386,25 @@ abbrev pub sleepers_after : PlanView → MachineView → Event → ListsView
 sleepers_after plan v e = all_woken (asleep_after plan v e) (emptied_by plan v e)
 
 -- the block may wake
-abbrev pub with_due : List Bool → Blk → List Bool
-with_due due b = slice_set due b.0 true
+abbrev pub with_wakeable : List Bool → Blk → List Bool
+with_wakeable wakeable b = slice_set wakeable b.0 true
 
 -- the block that the event wakes may not wake again
 abbrev pub woken : List Bool → Event → List Bool
-woken due (Wake w b) = slice_set due b.0 false
-woken due e = due
+woken wakeable (Start w b) = wakeable
+woken wakeable (Acted w run i) = wakeable
+woken wakeable (Wake w b) = slice_set wakeable b.0 false
+woken wakeable (End w b) = wakeable
+woken wakeable (Deliver w s) = wakeable
+woken wakeable (DeliverEnd w s) = wakeable
+woken wakeable (Tick t) = wakeable
+woken wakeable (Ready s n) = wakeable
+woken wakeable (FeedEnd s) = wakeable
+woken wakeable (Misuse w run i c) = wakeable
+woken wakeable Halt = wakeable
 
-abbrev pub due_after : PlanView → MachineView → Event → List Bool
-due_after plan v e = fold with_due (woken v.due e) (come_by plan v e)
+abbrev pub wakeable_after : PlanView → MachineView → Event → List Bool
+wakeable_after plan v e = fold with_wakeable (woken v.wakeable e) (come_by plan v e)
 
 -- ## Sources and timers
 
@@ -224,21 +414,56 @@ source_cancelled sources None = sources
 source_cancelled sources (Some s) = with_cancelled_source sources s.0
 
 abbrev pub merged_by : SourcesView → Option Act → SourcesView
+merged_by sources None = sources
+merged_by sources (Some (Async q b)) = sources
+merged_by sources (Some (Barrier q b)) = sources
+merged_by sources (Some (Sync q b)) = sources
+merged_by sources (Some (BarrierSync q b)) = sources
+merged_by sources (Some (GroupAsync g q b)) = sources
+merged_by sources (Some (Notify g q b)) = sources
+merged_by sources (Some (Enter g)) = sources
+merged_by sources (Some (Leave g)) = sources
+merged_by sources (Some (GroupWait g)) = sources
+merged_by sources (Some (Signal s)) = sources
+merged_by sources (Some (Wait s)) = sources
+merged_by sources (Some (Suspend o)) = sources
+merged_by sources (Some (Resume o)) = sources
+merged_by sources (Some (Activate o)) = sources
+merged_by sources (Some (Target o t)) = sources
 merged_by sources (Some (Merge s n)) = with_pending sources s.0 (merged_at sources s.0 n)
-merged_by sources _ = sources
+merged_by sources (Some (Cancel s)) = sources
+merged_by sources (Some (Retain o)) = sources
+merged_by sources (Some (Release o)) = sources
 
 abbrev pub values_after : PlanView → MachineView → Event → SourcesView
-values_after plan v (Ready s n) = with_pending v.sources s.0 (merged_at v.sources s.0 n)
+values_after plan v (Start w b) = v.sources
+values_after plan v (Acted w run i) = merged_by v.sources (act_at plan run i)
+values_after plan v (Wake w b) = v.sources
+values_after plan v (End w b) = v.sources
 values_after plan v (Deliver w s) = with_pending v.sources s.0 0
-values_after plan v e = merged_by v.sources (act_of plan e)
+values_after plan v (DeliverEnd w s) = v.sources
+values_after plan v (Tick t) = v.sources
+values_after plan v (Ready s n) = with_pending v.sources s.0 (merged_at v.sources s.0 n)
+values_after plan v (FeedEnd s) = v.sources
+values_after plan v (Misuse w run i c) = v.sources
+values_after plan v Halt = v.sources
 
 abbrev pub sources_after : PlanView → MachineView → Event → SourcesView
 sources_after plan v e = source_cancelled (values_after plan v e) (cancels plan e)
 
 -- the time after the event
 abbrev pub ticked : TimersView → Event → TimersView
+ticked timers (Start w b) = timers
+ticked timers (Acted w run i) = timers
+ticked timers (Wake w b) = timers
+ticked timers (End w b) = timers
+ticked timers (Deliver w s) = timers
+ticked timers (DeliverEnd w s) = timers
 ticked timers (Tick t) = record timers { moment = t }
-ticked timers e = timers
+ticked timers (Ready s n) = timers
+ticked timers (FeedEnd s) = timers
+ticked timers (Misuse w run i c) = timers
+ticked timers Halt = timers
 
 abbrev pub activated : TimersView → Option Obj → TimersView
 activated timers None = timers
@@ -264,15 +489,49 @@ noted blocks s = with_block blocks s.blk.0 (λ x. record x { node = s.node; barr
 
 -- what the act arranges for a block: the group that counts it, the queue to which it will go
 abbrev pub arranged : List BlockProgress → Option Act → List BlockProgress
+arranged blocks None = blocks
+arranged blocks (Some (Async q b)) = blocks
+arranged blocks (Some (Barrier q b)) = blocks
+arranged blocks (Some (Sync q b)) = blocks
+arranged blocks (Some (BarrierSync q b)) = blocks
 arranged blocks (Some (GroupAsync g q c)) = with_block blocks c.0 (λ x. record x { group = Some g })
 arranged blocks (Some (Notify g q c)) = with_block blocks c.0 (λ x. record x { home = q })
-arranged blocks _ = blocks
+arranged blocks (Some (Enter g)) = blocks
+arranged blocks (Some (Leave g)) = blocks
+arranged blocks (Some (GroupWait g)) = blocks
+arranged blocks (Some (Signal s)) = blocks
+arranged blocks (Some (Wait s)) = blocks
+arranged blocks (Some (Suspend o)) = blocks
+arranged blocks (Some (Resume o)) = blocks
+arranged blocks (Some (Activate o)) = blocks
+arranged blocks (Some (Target o t)) = blocks
+arranged blocks (Some (Merge s n)) = blocks
+arranged blocks (Some (Cancel s)) = blocks
+arranged blocks (Some (Retain o)) = blocks
+arranged blocks (Some (Release o)) = blocks
 
 -- block b waits for the end of the block that it submits
 abbrev pub called : List BlockProgress → Blk → Option Act → List BlockProgress
+called blocks b None = blocks
+called blocks b (Some (Async q c)) = blocks
+called blocks b (Some (Barrier q c)) = blocks
 called blocks b (Some (Sync q c)) = with_block blocks c.0 (λ x. record x { caller = Some b })
 called blocks b (Some (BarrierSync q c)) = with_block blocks c.0 (λ x. record x { caller = Some b })
-called blocks b _ = blocks
+called blocks b (Some (GroupAsync g q c)) = blocks
+called blocks b (Some (Notify g q c)) = blocks
+called blocks b (Some (Enter g)) = blocks
+called blocks b (Some (Leave g)) = blocks
+called blocks b (Some (GroupWait g)) = blocks
+called blocks b (Some (Signal s)) = blocks
+called blocks b (Some (Wait s)) = blocks
+called blocks b (Some (Suspend o)) = blocks
+called blocks b (Some (Resume o)) = blocks
+called blocks b (Some (Activate o)) = blocks
+called blocks b (Some (Target o t)) = blocks
+called blocks b (Some (Merge s n)) = blocks
+called blocks b (Some (Cancel s)) = blocks
+called blocks b (Some (Retain o)) = blocks
+called blocks b (Some (Release o)) = blocks
 
 -- block b has made one act more
 abbrev pub counted : List BlockProgress → Run → Option Act → List BlockProgress
@@ -282,14 +541,31 @@ counted blocks (Source s) act = blocks
 abbrev pub blocks_by : PlanView → MachineView → Event → List BlockProgress
 blocks_by plan v (Start w b) = with_block v.blocks b.0 (λ x. record x { started = true })
 blocks_by plan v (Acted w run i) = arranged (counted v.blocks run (act_at plan run i)) (act_at plan run i)
-blocks_by plan v e = v.blocks
+blocks_by plan v (Wake w b) = v.blocks
+blocks_by plan v (End w b) = v.blocks
+blocks_by plan v (Deliver w s) = v.blocks
+blocks_by plan v (DeliverEnd w s) = v.blocks
+blocks_by plan v (Tick t) = v.blocks
+blocks_by plan v (Ready s n) = v.blocks
+blocks_by plan v (FeedEnd s) = v.blocks
+blocks_by plan v (Misuse w run i c) = v.blocks
+blocks_by plan v Halt = v.blocks
 
 abbrev pub blocks_after : PlanView → MachineView → Event → List BlockProgress
 blocks_after plan v e = fold noted (blocks_by plan v e) (submits plan v e)
 
 abbrev pub ended_after : MachineView → Event → List Bool
+ended_after v (Start w b) = v.ended
+ended_after v (Acted w run i) = v.ended
+ended_after v (Wake w b) = v.ended
 ended_after v (End w b) = slice_set v.ended b.0 true
-ended_after v e = v.ended
+ended_after v (Deliver w s) = v.ended
+ended_after v (DeliverEnd w s) = v.ended
+ended_after v (Tick t) = v.ended
+ended_after v (Ready s n) = v.ended
+ended_after v (FeedEnd s) = v.ended
+ended_after v (Misuse w run i c) = v.ended
+ended_after v Halt = v.ended
 
 -- ## Handlers
 
@@ -307,9 +583,17 @@ handled v (Block b) = v.handlers
 handled v (Source s) = slice_set v.handlers s.0 (record (handler_at v s.0) { done = (handler_at v s.0).done + 1 })
 
 abbrev pub handlers_after : MachineView → Event → List HandlerProgress
-handlers_after v (Deliver w s) = slice_set v.handlers s.0 (delivered v s.0)
+handlers_after v (Start w b) = v.handlers
 handlers_after v (Acted w run i) = handled v run
-handlers_after v e = v.handlers
+handlers_after v (Wake w b) = v.handlers
+handlers_after v (End w b) = v.handlers
+handlers_after v (Deliver w s) = slice_set v.handlers s.0 (delivered v s.0)
+handlers_after v (DeliverEnd w s) = v.handlers
+handlers_after v (Tick t) = v.handlers
+handlers_after v (Ready s n) = v.handlers
+handlers_after v (FeedEnd s) = v.handlers
+handlers_after v (Misuse w run i c) = v.handlers
+handlers_after v Halt = v.handlers
 
 -- ## Marks
 
@@ -328,24 +612,43 @@ unmarked v (Some n) = slice_set v.busy n.0 (stays_busy (length (list_at v.lists 
 
 -- the source of a merge above 0 has to be looked at
 abbrev pub busy_by : List Bool → Option Act → List Bool
+busy_by busy None = busy
+busy_by busy (Some (Async q b)) = busy
+busy_by busy (Some (Barrier q b)) = busy
+busy_by busy (Some (Sync q b)) = busy
+busy_by busy (Some (BarrierSync q b)) = busy
+busy_by busy (Some (GroupAsync g q b)) = busy
+busy_by busy (Some (Notify g q b)) = busy
+busy_by busy (Some (Enter g)) = busy
+busy_by busy (Some (Leave g)) = busy
+busy_by busy (Some (GroupWait g)) = busy
+busy_by busy (Some (Signal s)) = busy
+busy_by busy (Some (Wait s)) = busy
+busy_by busy (Some (Suspend o)) = busy
+busy_by busy (Some (Resume o)) = busy
+busy_by busy (Some (Activate o)) = busy
+busy_by busy (Some (Target o t)) = busy
 busy_by busy (Some (Merge s n)) = if n == 0 then busy else slice_set busy s.0 true
-busy_by busy _ = busy
+busy_by busy (Some (Cancel s)) = busy
+busy_by busy (Some (Retain o)) = busy
+busy_by busy (Some (Release o)) = busy
 
 -- object s is a timer with a due time that no delivery took
 abbrev pub has_due : TimersView → List HandlerProgress → ℕ → Bool
 has_due timers handlers s = nat_lt (slice_index_or handlers s undelivered).taken (due_count_at timers s)
 
--- each such timer has to be looked at
-abbrev pub dues_marked : List Bool → TimersView → List HandlerProgress → List Bool
-dues_marked busy timers handlers =
-    map (λ s. slice_index_or busy s false || has_due timers handlers s) (range_with_len 0 (length busy))
-
 abbrev pub busy_at_event : PlanView → MachineView → Event → List Bool
 busy_at_event plan v (Start w b) = unmarked v (block_at v b.0).node
+busy_at_event plan v (Acted w run i) = busy_by v.busy (act_at plan run i)
+busy_at_event plan v (Wake w b) = v.busy
+busy_at_event plan v (End w b) = v.busy
 busy_at_event plan v (Deliver w s) = slice_set v.busy s.0 (stays_busy (length (list_at v.lists s.0)) 0)
-busy_at_event plan v (Tick t) = dues_marked v.busy (ticked v.timers (Tick t)) v.handlers
+busy_at_event plan v (DeliverEnd w s) = v.busy
+busy_at_event plan v (Tick t) = marked_by v.timers t v.busy
 busy_at_event plan v (Ready s n) = slice_set v.busy s.0 true
-busy_at_event plan v e = busy_by v.busy (act_of plan e)
+busy_at_event plan v (FeedEnd s) = v.busy
+busy_at_event plan v (Misuse w run i c) = v.busy
+busy_at_event plan v Halt = v.busy
 
 abbrev pub busy_after : PlanView → MachineView → Event → List Bool
 busy_after plan v e = fold marked (busy_at_event plan v e) (submits plan v e)
@@ -355,25 +658,42 @@ busy_after plan v e = fold marked (busy_at_event plan v e) (submits plan v e)
 -- an act that parks frees its worker
 abbrev pub workers_after : PlanView → MachineView → Event → List (Option Run)
 workers_after plan v (Start w b) = slice_set v.workers w (Some (Block b))
-workers_after plan v (Wake w b) = slice_set v.workers w (Some (Block b))
-workers_after plan v (Deliver w s) = slice_set v.workers w (Some (Source s))
-workers_after plan v (End w b) = slice_set v.workers w None
-workers_after plan v (DeliverEnd w s) = slice_set v.workers w None
 workers_after plan v (Acted w run i) = if is_parking (act_at plan run i) then slice_set v.workers w None else v.workers
-workers_after plan v e = v.workers
+workers_after plan v (Wake w b) = slice_set v.workers w (Some (Block b))
+workers_after plan v (End w b) = slice_set v.workers w None
+workers_after plan v (Deliver w s) = slice_set v.workers w (Some (Source s))
+workers_after plan v (DeliverEnd w s) = slice_set v.workers w None
+workers_after plan v (Tick t) = v.workers
+workers_after plan v (Ready s n) = v.workers
+workers_after plan v (FeedEnd s) = v.workers
+workers_after plan v (Misuse w run i c) = v.workers
+workers_after plan v Halt = v.workers
 
 abbrev pub running_after : PlanView → MachineView → Event → ℕ
 running_after plan v (Start w b) = v.running + 1
-running_after plan v (Wake w b) = v.running + 1
-running_after plan v (Deliver w s) = v.running + 1
-running_after plan v (End w b) = v.running - 1
-running_after plan v (DeliverEnd w s) = v.running - 1
 running_after plan v (Acted w run i) = if is_parking (act_at plan run i) then v.running - 1 else v.running
-running_after plan v e = v.running
+running_after plan v (Wake w b) = v.running + 1
+running_after plan v (End w b) = v.running - 1
+running_after plan v (Deliver w s) = v.running + 1
+running_after plan v (DeliverEnd w s) = v.running - 1
+running_after plan v (Tick t) = v.running
+running_after plan v (Ready s n) = v.running
+running_after plan v (FeedEnd s) = v.running
+running_after plan v (Misuse w run i c) = v.running
+running_after plan v Halt = v.running
 
 abbrev pub is_end : Event → Bool
+is_end (Start w b) = false
+is_end (Acted w run i) = false
+is_end (Wake w b) = false
 is_end (End w b) = true
-is_end e = false
+is_end (Deliver w s) = false
+is_end (DeliverEnd w s) = false
+is_end (Tick t) = false
+is_end (Ready s n) = false
+is_end (FeedEnd s) = false
+is_end (Misuse w run i c) = false
+is_end Halt = false
 
 abbrev pub left_after : PlanView → MachineView → Event → ℕ
 left_after plan v e = v.left + length (submits plan v e) - (if is_end e then 1 else 0)
@@ -392,12 +712,30 @@ abbrev pub live_after : PlanView → MachineView → Event → List Bool
 live_after plan v e = live_ended (live_begun plan v (activated_by v (act_of plan e))) (newly_cancelled v (cancels plan e))
 
 abbrev pub is_misuse : Event → Bool
+is_misuse (Start w b) = false
+is_misuse (Acted w run i) = false
+is_misuse (Wake w b) = false
+is_misuse (End w b) = false
+is_misuse (Deliver w s) = false
+is_misuse (DeliverEnd w s) = false
+is_misuse (Tick t) = false
+is_misuse (Ready s n) = false
+is_misuse (FeedEnd s) = false
 is_misuse (Misuse w run i c) = true
-is_misuse e = false
+is_misuse Halt = false
 
 abbrev pub is_halt : Event → Bool
+is_halt (Start w b) = false
+is_halt (Acted w run i) = false
+is_halt (Wake w b) = false
+is_halt (End w b) = false
+is_halt (Deliver w s) = false
+is_halt (DeliverEnd w s) = false
+is_halt (Tick t) = false
+is_halt (Ready s n) = false
+is_halt (FeedEnd s) = false
+is_halt (Misuse w run i c) = false
 is_halt Halt = true
-is_halt e = false
 
 -- ## The whole
 
@@ -418,9 +756,8 @@ after plan v e = record {
   sleepers = sleepers_after plan v e;
   blocks = blocks_after plan v e;
   ended = ended_after v e;
-  due = due_after plan v e;
+  wakeable = wakeable_after plan v e;
   handlers = handlers_after v e;
-  timed = v.timed;
   busy = busy_after plan v e;
   live = live_after plan v e;
   workers = workers_after plan v e;

@@ -1,7 +1,6 @@
 -- The whole view of a machine: the views of its parts, and the arrays that it keeps itself.
-use Rattle.std.specs.Prelude.{ℕ, Bool, false, List, [], length, map, replicate, Option, None, slice_index, slice_index_or}
+use Rattle.std.specs.Prelude.{ℕ, Bool, false, List, [], length, replicate, Option, None, slice_index, slice_index_or}
 use Rattle.gcd_plan.specs.PlanView.{PlanView}
-use Rattle.gcd_plan.specs.Kinds.{is_timer_kind}
 use Rattle.gcd_plan.specs.Limits.{max_workers}
 use Rattle.gcd_plan.specs.declared.numbers.Run.{Run}
 use Rattle.gcd_refinement.specs.declared.progress.BlockProgress.{BlockProgress}
@@ -18,9 +17,9 @@ use Rattle.gcd_timer.specs.TimersView.{TimersView, timers_of}
 
 -- the plan; the parts: references, what waits on nodes, targets, holds, barriers, groups, semaphores, parked blocks, sources, timers;
 -- by semaphore and group the blocks that sleep there; by block what it has come to, whether it has ended, and whether what it
--- is parked for has come; by object what is kept of a source, whether it is a timer, whether it has to be looked at, and whether
--- it is a live read source; by worker the run that it has; how many runs are open and not parked, and how many blocks are
--- submitted and not ended; whether the last event is a misuse, or a halt; how many events have come
+-- is parked for has come; by object what is kept of a source, whether it has to be looked at, and whether it is a live read
+-- source; by worker the run that it has; how many runs are open and not parked, and how many blocks are submitted and not ended;
+-- whether the last event is a misuse, or a halt; how many events have come
 pub record MachineView : Type 0 where
   pub plan : PlanView
   pub refs : List ℕ
@@ -36,9 +35,8 @@ pub record MachineView : Type 0 where
   pub sleepers : ListsView
   pub blocks : List BlockProgress
   pub ended : List Bool
-  pub due : List Bool
+  pub wakeable : List Bool
   pub handlers : List HandlerProgress
-  pub timed : List Bool
   pub busy : List Bool
   pub live : List Bool
   pub workers : List (Option Run)
@@ -63,8 +61,8 @@ block_at v b = slice_index_or v.blocks b idle
 abbrev pub ended_at : MachineView → ℕ → Bool
 ended_at v b = slice_index_or v.ended b false
 
-abbrev pub due_at : MachineView → ℕ → Bool
-due_at v b = slice_index_or v.due b false
+abbrev pub is_wakeable_at : MachineView → ℕ → Bool
+is_wakeable_at v b = slice_index_or v.wakeable b false
 
 -- what is kept of source s, and whether object o has to be looked at for a Start or a Deliver
 abbrev pub handler_at : MachineView → ℕ → HandlerProgress
@@ -106,9 +104,8 @@ machine_of plan = record {
   sleepers = lists_of plan;
   blocks = replicate (length plan.blocks) idle;
   ended = replicate (length plan.blocks) false;
-  due = replicate (length plan.blocks) false;
+  wakeable = replicate (length plan.blocks) false;
   handlers = replicate (length plan.objects) undelivered;
-  timed = map (λ o. is_timer_kind o.kind) plan.objects;
   busy = replicate (length plan.objects) false;
   live = replicate (length plan.objects) false;
   workers = replicate max_workers None;

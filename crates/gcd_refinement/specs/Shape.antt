@@ -1,7 +1,7 @@
 -- How long the arrays are, what in them never changes, and that what they name is of the plan: for the conditions of the parts.
 use Rattle.std.specs.Prelude.{◌≡◌, ◌<◌, ℕ, true, length, map, Some}
 use Rattle.gcd_plan.specs.PlanView.{PlanView}
-use Rattle.gcd_plan.specs.Kinds.{is_node_kind, is_source_kind, is_timer_kind}
+use Rattle.gcd_plan.specs.Kinds.{is_node_kind, is_source_kind}
 use Rattle.gcd_plan.specs.KindValues.{first_value_of}
 use Rattle.gcd_plan.specs.declared.numbers.Blk.{Blk}
 use Rattle.gcd_plan.specs.declared.numbers.Obj.{Obj}
@@ -49,9 +49,8 @@ pub record OwnFit (plan : PlanView) (v : MachineView) : Type 0 where
   pub sleeper_blocks : v.sleepers.blocks ≡ length plan.blocks
   pub blocks : length v.blocks ≡ length plan.blocks
   pub ended : length v.ended ≡ length plan.blocks
-  pub due : length v.due ≡ length plan.blocks
+  pub wakeable : length v.wakeable ≡ length plan.blocks
   pub handlers : length v.handlers ≡ length plan.objects
-  pub timed : v.timed ≡ map (λ o. is_timer_kind o.kind) plan.objects
   pub busy : length v.busy ≡ length plan.objects
   pub live : length v.live ≡ length plan.objects
   pub workers : length v.workers ≡ max_workers

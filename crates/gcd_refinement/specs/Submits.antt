@@ -3,13 +3,13 @@ use Rattle.std.specs.Prelude.{◌+◌, ◌==◌, false, if◌then◌else◌, Lis
 use Rattle.std.specs.Option.{option_map_or}
 use Rattle.gcd_plan.specs.PlanView.{PlanView, cancel_block}
 use Rattle.gcd_plan.specs.declared.act.Act.{Act}
-use Rattle.gcd_plan.specs.declared.act.Act.TheVariants.{Notify, Leave, GroupWait, Signal, Wait, Resume, Activate}
+use Rattle.gcd_plan.specs.declared.act.Act.TheVariants.{Async, Barrier, Sync, BarrierSync, GroupAsync, Notify, Enter, Leave, GroupWait, Signal, Wait, Suspend, Resume, Activate, Target, Merge, Cancel, Retain, Release}
 use Rattle.gcd_plan.specs.declared.numbers.Blk.{Blk}
 use Rattle.gcd_plan.specs.declared.numbers.Obj.{Obj}
 use Rattle.gcd_plan.specs.declared.numbers.Run.{Run}
 use Rattle.gcd_plan.specs.declared.numbers.Run.TheVariants.{Block, Source}
 use Rattle.gcd_event.specs.declared.event.Event.{Event}
-use Rattle.gcd_event.specs.declared.event.Event.TheVariants.{Act as Acted, End}
+use Rattle.gcd_event.specs.declared.event.Event.TheVariants.{Start, Act as Acted, Wake, End, Deliver, DeliverEnd, Tick, Ready, FeedEnd, Misuse, Halt}
 use Rattle.gcd_history.specs.declared.submission.Submission.{Submission}
 use Rattle.gcd_history.specs.Runs.{act_at, act_of}
 use Rattle.gcd_history.specs.Submitted.{on_node, submitted_by, cancels}
@@ -25,13 +25,40 @@ use Rattle.gcd_refinement.specs.Ties.{told}
 
 -- the group that the act leaves
 abbrev pub left_by : Option Act → Option Obj
+left_by None = None
+left_by (Some (Async q b)) = None
+left_by (Some (Barrier q b)) = None
+left_by (Some (Sync q b)) = None
+left_by (Some (BarrierSync q b)) = None
+left_by (Some (GroupAsync g q b)) = None
+left_by (Some (Notify g q b)) = None
+left_by (Some (Enter g)) = None
 left_by (Some (Leave g)) = Some g
-left_by _ = None
+left_by (Some (GroupWait g)) = None
+left_by (Some (Signal s)) = None
+left_by (Some (Wait s)) = None
+left_by (Some (Suspend o)) = None
+left_by (Some (Resume o)) = None
+left_by (Some (Activate o)) = None
+left_by (Some (Target o t)) = None
+left_by (Some (Merge s n)) = None
+left_by (Some (Cancel s)) = None
+left_by (Some (Retain o)) = None
+left_by (Some (Release o)) = None
 
 -- the group that counts one less after the event: that of a block which ends, or the one that an act leaves
 abbrev pub lessened : PlanView → MachineView → Event → Option Obj
+lessened plan v (Start w b) = None
+lessened plan v (Acted w run i) = left_by (act_at plan run i)
+lessened plan v (Wake w b) = None
 lessened plan v (End w b) = (block_at v b.0).group
-lessened plan v e = left_by (act_of plan e)
+lessened plan v (Deliver w s) = None
+lessened plan v (DeliverEnd w s) = None
+lessened plan v (Tick t) = None
+lessened plan v (Ready s n) = None
+lessened plan v (FeedEnd s) = None
+lessened plan v (Misuse w run i c) = None
+lessened plan v Halt = None
 
 -- the group, where it counts just one
 abbrev pub last_of : MachineView → Option Obj → Option Obj
@@ -57,8 +84,26 @@ at_empty v (Some g) = map (told v) (list_at v.groups.notify g.0)
 
 -- the notify block that the act registers at an empty group
 abbrev pub at_notify : MachineView → Option Act → List Submission
+at_notify v None = []
+at_notify v (Some (Async q b)) = []
+at_notify v (Some (Barrier q b)) = []
+at_notify v (Some (Sync q b)) = []
+at_notify v (Some (BarrierSync q b)) = []
+at_notify v (Some (GroupAsync g q b)) = []
 at_notify v (Some (Notify g q b)) = if count_at v.groups g.0 == 0 then on_node q b false else []
-at_notify v _ = []
+at_notify v (Some (Enter g)) = []
+at_notify v (Some (Leave g)) = []
+at_notify v (Some (GroupWait g)) = []
+at_notify v (Some (Signal s)) = []
+at_notify v (Some (Wait s)) = []
+at_notify v (Some (Suspend o)) = []
+at_notify v (Some (Resume o)) = []
+at_notify v (Some (Activate o)) = []
+at_notify v (Some (Target o t)) = []
+at_notify v (Some (Merge s n)) = []
+at_notify v (Some (Cancel s)) = []
+at_notify v (Some (Retain o)) = []
+at_notify v (Some (Release o)) = []
 
 -- what the event submits, in order; at most one of the four is not empty
 abbrev pub submits : PlanView → MachineView → Event → List Submission
@@ -76,9 +121,26 @@ if_inactive v o = if is_active_at v.holds o.0 then None else Some o
 
 -- the object that the act makes active, where it was not: of an Activate, or of a Resume at hold 0
 abbrev pub activated_by : MachineView → Option Act → Option Obj
-activated_by v (Some (Activate o)) = if_inactive v o
+activated_by v None = None
+activated_by v (Some (Async q b)) = None
+activated_by v (Some (Barrier q b)) = None
+activated_by v (Some (Sync q b)) = None
+activated_by v (Some (BarrierSync q b)) = None
+activated_by v (Some (GroupAsync g q b)) = None
+activated_by v (Some (Notify g q b)) = None
+activated_by v (Some (Enter g)) = None
+activated_by v (Some (Leave g)) = None
+activated_by v (Some (GroupWait g)) = None
+activated_by v (Some (Signal s)) = None
+activated_by v (Some (Wait s)) = None
+activated_by v (Some (Suspend o)) = None
 activated_by v (Some (Resume o)) = if hold_at v.holds o.0 == 0 then if_inactive v o else None
-activated_by v _ = None
+activated_by v (Some (Activate o)) = if_inactive v o
+activated_by v (Some (Target o t)) = None
+activated_by v (Some (Merge s n)) = None
+activated_by v (Some (Cancel s)) = None
+activated_by v (Some (Retain o)) = None
+activated_by v (Some (Release o)) = None
 
 -- the source that the event cancels, where it was not cancelled before
 abbrev pub newly_cancelled : MachineView → Option Obj → Option Obj
@@ -94,9 +156,26 @@ sleepers_at v (Some o) = map (λ w. w.0) (list_at v.sleepers o.0)
 
 -- block b, where its act waits for what has come already: a semaphore with a value above 0, or an empty group
 abbrev pub come_at_once : MachineView → Blk → Option Act → List Blk
-come_at_once v b (Some (Wait s)) = if is_passed_at v.semas s.0 (waits_at v.semas s.0 + 1) then b ∷ [] else []
+come_at_once v b None = []
+come_at_once v b (Some (Async q c)) = []
+come_at_once v b (Some (Barrier q c)) = []
+come_at_once v b (Some (Sync q c)) = []
+come_at_once v b (Some (BarrierSync q c)) = []
+come_at_once v b (Some (GroupAsync g q c)) = []
+come_at_once v b (Some (Notify g q c)) = []
+come_at_once v b (Some (Enter g)) = []
+come_at_once v b (Some (Leave g)) = []
 come_at_once v b (Some (GroupWait g)) = if count_at v.groups g.0 == 0 then b ∷ [] else []
-come_at_once v b _ = []
+come_at_once v b (Some (Signal s)) = []
+come_at_once v b (Some (Wait s)) = if is_passed_at v.semas s.0 (waits_at v.semas s.0 + 1) then b ∷ [] else []
+come_at_once v b (Some (Suspend o)) = []
+come_at_once v b (Some (Resume o)) = []
+come_at_once v b (Some (Activate o)) = []
+come_at_once v b (Some (Target o t)) = []
+come_at_once v b (Some (Merge s n)) = []
+come_at_once v b (Some (Cancel s)) = []
+come_at_once v b (Some (Retain o)) = []
+come_at_once v b (Some (Release o)) = []
 
 abbrev pub come_to_run : MachineView → Run → Option Act → List Blk
 come_to_run v (Block b) act = come_at_once v b act
@@ -104,14 +183,40 @@ come_to_run v (Source s) act = []
 
 -- the block that a signal lets go on: the first that sleeps there
 abbrev pub signalled : MachineView → Option Act → List Blk
+signalled v None = []
+signalled v (Some (Async q b)) = []
+signalled v (Some (Barrier q b)) = []
+signalled v (Some (Sync q b)) = []
+signalled v (Some (BarrierSync q b)) = []
+signalled v (Some (GroupAsync g q b)) = []
+signalled v (Some (Notify g q b)) = []
+signalled v (Some (Enter g)) = []
+signalled v (Some (Leave g)) = []
+signalled v (Some (GroupWait g)) = []
 signalled v (Some (Signal s)) = take 1 (sleepers_at v (Some s))
-signalled v _ = []
+signalled v (Some (Wait s)) = []
+signalled v (Some (Suspend o)) = []
+signalled v (Some (Resume o)) = []
+signalled v (Some (Activate o)) = []
+signalled v (Some (Target o t)) = []
+signalled v (Some (Merge s n)) = []
+signalled v (Some (Cancel s)) = []
+signalled v (Some (Retain o)) = []
+signalled v (Some (Release o)) = []
 
 -- the blocks that may wake after the event, and might not before
 abbrev pub come_by : PlanView → MachineView → Event → List Blk
-come_by plan v (End w b) = option_to_list (block_at v b.0).caller ++ sleepers_at v (emptied_by plan v (End w b))
+come_by plan v (Start w b) = []
 come_by plan v (Acted w run i) =
     come_to_run v run (act_at plan run i)
     ++ signalled v (act_at plan run i)
     ++ sleepers_at v (emptied_by plan v (Acted w run i))
-come_by plan v e = []
+come_by plan v (Wake w b) = []
+come_by plan v (End w b) = option_to_list (block_at v b.0).caller ++ sleepers_at v (emptied_by plan v (End w b))
+come_by plan v (Deliver w s) = []
+come_by plan v (DeliverEnd w s) = []
+come_by plan v (Tick t) = []
+come_by plan v (Ready s n) = []
+come_by plan v (FeedEnd s) = []
+come_by plan v (Misuse w run i c) = []
+come_by plan v Halt = []

@@ -23,12 +23,12 @@ use Rattle.gcd_lists.specs.ListsView.{list_at}
 use Rattle.gcd_tree.specs.TreeView.{TreeView, target_at, request_at, open_on_at}
 use Rattle.gcd_hold.specs.HoldsView.{hold_at, is_active_at}
 use Rattle.gcd_drain.specs.DrainsView.{barriers_at}
-use Rattle.gcd_group.specs.GroupsView.{count_at, entered_at, emptied_at, due_at as due_of_group, is_empty_since}
+use Rattle.gcd_group.specs.GroupsView.{count_at, entered_at, emptied_at, due_at, is_empty_since}
 use Rattle.gcd_sema.specs.SemasView.{signals_at, waits_at}
 use Rattle.gcd_sync.specs.WaitsView.{reason_at}
 use Rattle.gcd_source.specs.SourcesView.{pending_at, is_cancelled_at}
 use Rattle.gcd_timer.specs.TimersView.{activated_at, cancelled_at, due_count_at}
-use Rattle.gcd_refinement.specs.MachineView.{MachineView, block_at, ended_at, due_at, handler_at, busy_at, at_worker, refs_at, live_at}
+use Rattle.gcd_refinement.specs.MachineView.{MachineView, block_at, ended_at, is_wakeable_at, handler_at, busy_at, at_worker, refs_at, live_at}
 use Rattle.gcd_refinement.specs.Sleepers.{group_of, caller_of, sema_sleepers, group_sleepers}
 
 -- ## The parts
@@ -76,7 +76,7 @@ pub record GroupsAre (plan : PlanView) (past : List Event) (v : MachineView) : T
   pub empty : (g p : ℕ) → p < length past → is_empty_since v.groups g (p + 1) ≡ is_empty_above plan past g p
   pub emptied : (g : ℕ) → emptied_at v.groups g ≤ length past
   pub notify : (g : ℕ) → map (told v) (list_at v.groups.notify g) ≡ notify_blocks plan past g
-  pub fired : (g : ℕ) → due_of_group v.groups g ≡ 0
+  pub fired : (g : ℕ) → due_at v.groups g ≡ 0
 
 -- signals and waits
 pub record SemasAre (plan : PlanView) (past : List Event) (v : MachineView) : Type 0 where
@@ -129,7 +129,7 @@ pub record HandlersAre (plan : PlanView) (past : List Event) (v : MachineView) :
 
 -- which parked blocks may wake, and which sleep: a list has blocks of a semaphore or of a group, since no object is both
 pub record WakesAre (plan : PlanView) (past : List Event) (v : MachineView) : Type 0 where
-  pub due : (b : ℕ) → due_at v b ≡ may_wake plan past b
+  pub wakeable : (b : ℕ) → is_wakeable_at v b ≡ may_wake plan past b
   pub of_sema : (s : ℕ) → map (λ w. w.0) (list_at v.sleepers s) ≡ sema_sleepers plan past s ++ group_sleepers plan past s
 
 -- an object that has not to be looked at: nothing waits there, and nothing is pending

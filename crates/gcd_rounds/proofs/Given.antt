@@ -25,8 +25,8 @@ unfolding is_ended
 ended_push h e b = rw reverse_push refl
 
 -- the run went on before an event
-pub went_on : (plan : PlanView) (h : List Event) (e : Event) → why plan h e ≡ None → GoesOn (h ++ e ∷ []) → GoesOn h
-went_on plan h e may on = record {
+pub went_on : (most : ℕ) (plan : PlanView) (h : List Event) (e : Event) → why plan h e ≡ None → GoesOn most (h ++ e ∷ []) → GoesOn most h
+went_on most plan h e may on = record {
   unhalted = unhalted_before plan h e may;
   room = let room = on.room in omega (arith, length_push h e, room);
 }
@@ -91,8 +91,8 @@ given_end gives plan jobs h done values within has given =
 
 -- ## Jobs
 
-pub wait_first : {J : Type 0} (plan : PlanView) (jobs : List J) → length jobs ≡ length plan.blocks → AllWait plan jobs [] (map Some jobs) []
-wait_first plan jobs count on b low not_yet unkept =
+pub wait_first : {J : Type 0} (most : ℕ) (plan : PlanView) (jobs : List J) → length jobs ≡ length plan.blocks → AllWait most plan jobs [] (map Some jobs) []
+wait_first most plan jobs count on b low not_yet unkept =
     let found = slice_get_some jobs b (omega (arith, count, low)) in
     record {
       job = found.0;
@@ -101,15 +101,15 @@ wait_first plan jobs count on b low not_yet unkept =
     }
 
 -- an event that ends no block
-pub wait_same : {J : Type 0} (plan : PlanView) (first : List J) (h : List Event) (e : Event) (jobs : List (Option J)) (kept : List Ending)
-    → why plan h e ≡ None → ((b : ℕ) → ends b e ≡ false) → AllWait plan first h jobs kept → AllWait plan first (h ++ e ∷ []) jobs kept
-wait_same plan first h e jobs kept may none wait on b low not_yet unkept =
-    wait (went_on plan h e may on) b low (sym (ended_push h e b ∙ ap (λ (v : Bool). v || is_ended h b) (none b)) ∙ not_yet) unkept
+pub wait_same : {J : Type 0} (most : ℕ) (plan : PlanView) (first : List J) (h : List Event) (e : Event) (jobs : List (Option J)) (kept : List Ending)
+    → why plan h e ≡ None → ((b : ℕ) → ends b e ≡ false) → AllWait most plan first h jobs kept → AllWait most plan first (h ++ e ∷ []) jobs kept
+wait_same most plan first h e jobs kept may none wait on b low not_yet unkept =
+    wait (went_on most plan h e may on) b low (sym (ended_push h e b ∙ ap (λ (v : Bool). v || is_ended h b) (none b)) ∙ not_yet) unkept
 
 -- an End that is kept back
-pub wait_keep : {J : Type 0} (plan : PlanView) (first : List J) (h : List Event) (x : Ending) (jobs : List (Option J)) (kept : List Ending)
-    → AllWait plan first h jobs kept → AllWait plan first h (slice_set jobs x.blk.0 None) (kept ++ x ∷ [])
-wait_keep plan first h x jobs kept wait on b low not_yet unkept =
+pub wait_keep : {J : Type 0} (most : ℕ) (plan : PlanView) (first : List J) (h : List Event) (x : Ending) (jobs : List (Option J)) (kept : List Ending)
+    → AllWait most plan first h jobs kept → AllWait most plan first h (slice_set jobs x.blk.0 None) (kept ++ x ∷ [])
+wait_keep most plan first h x jobs kept wait on b low not_yet unkept =
     let was = wait on b low not_yet (λ is. unkept (record { place = is.place; ending = is.ending; at = at_front kept (x ∷ []) is.place is.ending is.at; of = is.of })) in
     record {
       job = was.job;
@@ -119,12 +119,12 @@ wait_keep plan first h x jobs kept wait on b low not_yet unkept =
     }
 
 -- an End that is recorded
-pub wait_end : {J : Type 0} (plan : PlanView) (first : List J) (h : List Event) (x : Ending) (jobs : List (Option J)) (rest : List Ending)
-    → why plan h (End x.worker x.blk) ≡ None → AllWait plan first h jobs (x ∷ rest)
-    → AllWait plan first (h ++ End x.worker x.blk ∷ []) jobs rest
-wait_end plan first h x jobs rest may wait on b low not_yet unkept =
+pub wait_end : {J : Type 0} (most : ℕ) (plan : PlanView) (first : List J) (h : List Event) (x : Ending) (jobs : List (Option J)) (rest : List Ending)
+    → why plan h (End x.worker x.blk) ≡ None → AllWait most plan first h jobs (x ∷ rest)
+    → AllWait most plan first (h ++ End x.worker x.blk ∷ []) jobs rest
+wait_end most plan first h x jobs rest may wait on b low not_yet unkept =
     let parts = or_parts (x.blk.0 == b) (is_ended h b) (sym (ended_push h (End x.worker x.blk) b) ∙ not_yet) in
-    wait (went_on plan h (End x.worker x.blk) may on) b low parts.1 (kept_is b parts.0 unkept)
+    wait (went_on most plan h (End x.worker x.blk) may on) b low parts.1 (kept_is b parts.0 unkept)
   where
     kept_is : (b : ℕ) → (x.blk.0 == b) ≡ false → (IsKept rest b → ⊥) → IsKept (x ∷ rest) b → ⊥
     kept_is b differ unkept is = by_place is.place is.ending is.at is.of
@@ -134,6 +134,6 @@ wait_end plan first h x jobs rest may wait on b low not_yet unkept =
         by_place (suc i) e at of = unkept (record { place = i; ending = e; at = at; of = of })
 
 -- where the run is over nothing is asked
-pub wait_over : {J : Type 0} (plan : PlanView) (first : List J) (h : List Event) (jobs : List (Option J)) (kept : List Ending) → (GoesOn h → ⊥)
-    → AllWait plan first h jobs kept
-wait_over plan first h jobs kept over on b low not_yet unkept = absurd (over on)
+pub wait_over : {J : Type 0} (most : ℕ) (plan : PlanView) (first : List J) (h : List Event) (jobs : List (Option J)) (kept : List Ending) → (GoesOn most h → ⊥)
+    → AllWait most plan first h jobs kept
+wait_over most plan first h jobs kept over on b low not_yet unkept = absurd (over on)

@@ -32,17 +32,17 @@ end_within plan h x at = ltb-true _ _ (and_parts (is_worker x.worker) (has_block
 
 module _ {J H : Type 0} (gives : J → ℕ → ℕ → Type 0) (kind : H → Kind) (times total : H → ℕ) (plan : PlanView) where
   -- where the run is over no End is recorded any more
-  pub ready_over : (r : Running J H) (ends : List Ending) → (GoesOn r.journal.items → ⊥) → AreReady gives plan r ends → AreReady gives plan r []
+  pub ready_over : (r : Running J H) (ends : List Ending) → (GoesOn r.terms.most r.journal.items → ⊥) → AreReady gives plan r ends → AreReady gives plan r []
   ready_over r ends over ready = record {
     given = ready.given;
     count = ready.count;
-    wait = wait_over plan r.terms.jobs.value.items r.journal.items r.jobs.items [] over;
+    wait = wait_over r.terms.most plan r.terms.jobs.value.items r.journal.items r.jobs.items [] over;
     kept = none_kept plan r.terms.workers r.journal.items;
   }
 
   -- the first End that was kept back comes next
-  pub end_comes_next : (r : Running J H) (x : Ending) (rest : List Ending) → IsRun kind times total plan r → GoesOn r.journal.items
-      → AreReady gives plan r (x ∷ rest) → IsNext plan r.terms.workers r.journal.items (End x.worker x.blk)
+  pub end_comes_next : (r : Running J H) (x : Ending) (rest : List Ending) → IsRun kind times total plan r → GoesOn r.terms.most r.journal.items
+      → AreReady gives plan r (x ∷ rest) → IsNext r.terms.most plan r.terms.workers r.journal.items (End x.worker x.blk)
   end_comes_next r x rest run on ready = record {
     permitted = end_may_come plan r.journal.items x (lawful_stands r.machine plan r.journal.items run.stands) on.unhalted (ready.kept.at_end 0 x refl);
     room = on.room;
@@ -59,12 +59,12 @@ module _ {J H : Type 0} (gives : J → ℕ → ℕ → Type 0) (kind : H → Kin
 
   -- ## An End that comes next
 
-  at_end : (r : Running J H) (x : Ending) → IsNext plan r.terms.workers r.journal.items (End x.worker x.blk) → IsRun kind times total plan r
+  at_end : (r : Running J H) (x : Ending) → IsNext r.terms.most plan r.terms.workers r.journal.items (End x.worker x.blk) → IsRun kind times total plan r
       → IsAtEnd plan r.journal.items x
   at_end r x next run = end_is_next plan r.journal.items x (lawful_stands r.machine plan r.journal.items run.stands) next.permitted
 
   -- the job of its block lies where it was handed in
-  pub job_waits : (r : Running J H) (x : Ending) (ends : List Ending) → IsNext plan r.terms.workers r.journal.items (End x.worker x.blk)
+  pub job_waits : (r : Running J H) (x : Ending) (ends : List Ending) → IsNext r.terms.most plan r.terms.workers r.journal.items (End x.worker x.blk)
       → IsRun kind times total plan r → AreReady gives plan r ends → EndBefore x.worker ends → Waits r.terms.jobs.value.items r.jobs.items x.blk.0
   job_waits r x ends next run ready before =
       let h : List Event = r.journal.items in
@@ -79,7 +79,7 @@ module _ {J H : Type 0} (gives : J → ℕ → ℕ → Type 0) (kind : H → Kin
 
   -- it is kept back with this job
   pub ready_kept : (r : Running J H) (later : Vec (Option J) Global) (x : Ending) (kept more : List (Kept J))
-      → WasKept r.jobs.items later.items x kept more → IsNext plan r.terms.workers r.journal.items (End x.worker x.blk)
+      → WasKept r.jobs.items later.items x kept more → IsNext r.terms.most plan r.terms.workers r.journal.items (End x.worker x.blk)
       → IsRun kind times total plan r → AreReady gives plan r (endings_of kept) → EndBefore x.worker (endings_of kept)
       → AreReady gives plan (record r { jobs = later }) (endings_of more)
   ready_kept r later x kept more was next run ready before =
@@ -90,12 +90,12 @@ module _ {J H : Type 0} (gives : J → ℕ → ℕ → Type 0) (kind : H → Kin
       (record {
         given = ready.given;
         count = long ∙ ready.count;
-        wait = rw was.taken (wait_keep plan r.terms.jobs.value.items h x r.jobs.items (endings_of kept) ready.wait);
+        wait = rw was.taken (wait_keep r.terms.most plan r.terms.jobs.value.items h x r.jobs.items (endings_of kept) ready.wait);
         kept = kept_more plan r.terms.workers h x (endings_of kept) (at_end r x next run) next.below before (λ one. next.chosen one refl) ready.kept;
       })
 
   pub jobs_kept : (r : Running J H) (later : Vec (Option J) Global) (x : Ending) (kept more : List (Kept J))
-      → WasKept r.jobs.items later.items x kept more → IsNext plan r.terms.workers r.journal.items (End x.worker x.blk)
+      → WasKept r.jobs.items later.items x kept more → IsNext r.terms.most plan r.terms.workers r.journal.items (End x.worker x.blk)
       → IsRun kind times total plan r → AreReady gives plan r (endings_of kept) → EndBefore x.worker (endings_of kept)
       → HaveJobs r.terms.jobs.value.items kept → HaveJobs r.terms.jobs.value.items more
   jobs_kept r later x kept more was next run ready before jobs =

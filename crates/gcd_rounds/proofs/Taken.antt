@@ -9,7 +9,6 @@ use Rattle.std.proofs.lemmas.List.FromFn.{length-map-range_with_len, get_or-map-
 use Rattle.std.proofs.lemmas.Option.{same_Some, slice_get-get_or, slice_get_within}
 use Rattle.gcd_plan.specs.Kinds.{is_source, is_source_kind}
 use Rattle.gcd_plan.specs.KindValues.{folded}
-use Rattle.gcd_plan.specs.Limits.{max_events}
 use Rattle.gcd_plan.specs.PlanView.{PlanView, kind_of}
 use Rattle.gcd_plan.specs.Validity.{IsPlan}
 use Rattle.gcd_plan.specs.declared.kind.Kind.{Kind}
@@ -199,7 +198,7 @@ module _ {H : Type 0} (kind : H → Kind) (times total : H → ℕ) (plan : Plan
     pub total_fits : folded (kind x) (total x) value < 2 ^ 64
 
   pub taking_fits : (h : List Event) (w : ℕ) (s : Obj) (handlers : List H) (x : H) (value : ℕ) → IsPlan plan → IsLawful plan (h ++ Deliver w s ∷ [])
-      → length h < max_events → is_source plan s.0 ≡ true → slice_get handlers (sources_before plan s.0) ≡ Some x
+      → length h + 2 < 2 ^ 32 → is_source plan s.0 ≡ true → slice_get handlers (sources_before plan s.0) ≡ Some x
       → value ≡ last_data_of plan (h ++ Deliver w s ∷ []) s.0 → HaveTaken kind times total plan h handlers → Fits x value
   taking_fits h w s handlers x value valid lawful room source at handed took =
       let over = deliver_hands_over plan h w s in

@@ -1,32 +1,11 @@
--- What a run by rounds leaves (this project's own rules).
-use Rattle.std.specs.Prelude.{◌≡◌, ◌<◌, ◌≤◌, ℕ, true, false, List, [], length, Some, slice_get, count_by}
+-- What a run by rounds leaves beside its journal.
+use Rattle.std.specs.Prelude.{◌≡◌, ◌<◌, ℕ, true, false, List, length, Some, slice_get, count_by}
 use Rattle.std.specs.List.{range_with_len}
 use Rattle.gcd_plan.specs.Kinds.{is_source}
-use Rattle.gcd_plan.specs.Limits.{max_events}
 use Rattle.gcd_plan.specs.PlanView.{PlanView, kind_of}
 use Rattle.gcd_plan.specs.declared.kind.Kind.{Kind}
 use Rattle.gcd_event.specs.declared.event.Event.{Event}
-use Rattle.gcd_history.specs.Choice.{worker_of}
-use Rattle.gcd_history.specs.History.{IsLawful, is_ended}
-use Rattle.gcd_outer.specs.Outside.{ClockState, Seen}
-use Rattle.gcd_outer.specs.Tells.{PollerState}
-use Rattle.gcd_turn.specs.Promises.{HasEnded, IsHeard, IsTimely}
-use Rattle.gcd_alone.specs.Ran.{FollowsChoice}
-
--- each event is of a worker with a number below this
-abbrev pub AreBelow : (workers : ℕ) → List Event → Type 0
-AreBelow workers h = (i : ℕ) (e : Event) → slice_get h i ≡ Some e → worker_of e < workers
-
--- The journal of a run by so many workers: it is lawful and has ended; each worker is one of them; with one worker each event of
--- a worker is what that worker chooses at its place; and what poller and clock said stands in it.
-pub record RanRounds (plan : PlanView) (workers : ℕ) (poller : Seen PollerState) (clock : Seen ClockState) (h : List Event) : Type 0 where
-  pub lawful : IsLawful plan h
-  pub ended : HasEnded plan h
-  pub few : length h ≤ max_events
-  pub below : AreBelow workers h
-  pub chosen : workers ≡ 1 → FollowsChoice plan h
-  pub timely : IsTimely plan [] h clock
-  pub heard : IsHeard plan [] h poller
+use Rattle.gcd_history.specs.History.{is_ended}
 
 -- the value of block b is one that its job may give at 0
 pub record IsGiven {J : Type 0} (gives : J → ℕ → ℕ → Type 0) (jobs : List J) (values : List ℕ) (b : ℕ) : Type 0 where

@@ -1,7 +1,7 @@
 -- What holds of a run by rounds after each of its steps.
-use Rattle.std.specs.Prelude.{◌≡◌, ◌≤◌, ◌<◌, ◌++◌, ℕ, Bool, false, List, Option, Some, None, IsTrue, length, map, slice_get}
+use Rattle.std.specs.Prelude.{◌≡◌, ◌≤◌, ◌<◌, ◌+◌, ◌^◌, [], ℕ, false, List, Option, Some, None, IsTrue, length, map, slice_get}
+use Rattle.std.proofs.Common.{subst}
 use Rattle.std.specs.List.{range_with_len}
-use Rattle.gcd_plan.specs.Limits.{max_events}
 use Rattle.gcd_plan.specs.PlanView.{PlanView}
 use Rattle.gcd_plan.specs.declared.kind.Kind.{Kind}
 use Rattle.gcd_event.specs.declared.event.Event.{Event}
@@ -9,20 +9,18 @@ use Rattle.gcd_history.specs.Choice.{is_work, worker_of}
 use Rattle.gcd_history.specs.Ends.{is_halted}
 use Rattle.gcd_history.specs.History.{choice_of, delivery_count_of, is_ended, received_of, why}
 use Rattle.gcd_machine.specs.Stands.{StandsFor}
-use Rattle.gcd_outer.specs.Outside.{ClockState}
-use Rattle.gcd_outer.specs.Tells.{PollerState}
-use Rattle.gcd_turn.specs.Turns.{OutlookView}
-use Rattle.gcd_alone.specs.Going.{IsGoing}
-use Rattle.gcd_alone.specs.Ran.{FollowsChoice}
+use Rattle.gcd_loop.specs.Followed.{FollowsChoice, IsOfWorkers}
+use Rattle.gcd_loop.specs.Recorded.{IsSight}
 use Rattle.gcd_rounds.specs.declared.kept.Ending.{Ending}
+use Rattle.gcd_rounds.specs.declared.round.Round.{Round}
 use Rattle.gcd_rounds.specs.declared.running.Running.{Running}
-use Rattle.gcd_rounds.specs.Kept.{AreKept}
-use Rattle.gcd_rounds.specs.Ran.{AreBelow, AreGiven, AreHandlers, sources_before}
+use Rattle.gcd_rounds.specs.Kept.{AreKept, EndBefore, HaveJobs, endings_of}
+use Rattle.gcd_rounds.specs.Ran.{AreGiven, AreHandlers, sources_before}
 
 -- the event may come next, is of one of the workers, and the choice of one who is alone; and there is room for it
-pub record IsNext (plan : PlanView) (workers : ℕ) (h : List Event) (e : Event) : Type 0 where
+pub record IsNext (most : ℕ) (plan : PlanView) (workers : ℕ) (h : List Event) (e : Event) : Type 0 where
   pub permitted : why plan h e ≡ None
-  pub room : length h < max_events
+  pub room : length h < most
   pub below : worker_of e < workers
   pub chosen : workers ≡ 1 → IsTrue (is_work e) → choice_of plan h 0 0 ≡ Some e
 
@@ -35,21 +33,22 @@ abbrev pub HaveTaken : {H : Type 0} → (kind : H → Kind) → (times total : H
 HaveTaken kind times total plan h handlers = AreHandlers kind times total plan (delivery_count_of h) (received_of plan h) handlers
 
 -- a run so far: the machine stands for its journal, whose workers are those of the run, and which follows the choice of one who
--- is alone; and the handlers took what was handed over
+-- is alone; and the handlers took what was handed over; the machine counts events in 32 bits
 pub record IsRun {J H : Type 0} (kind : H → Kind) (times total : H → ℕ) (plan : PlanView) (r : Running J H) : Type 0 where
   pub some : 0 < r.terms.workers
+  pub countable : r.terms.most + 1 < 2 ^ 32
   pub own : r.machine.plan ≡ plan
   pub stands : StandsFor r.machine plan r.journal.items
-  pub few : length r.journal.items ≤ max_events
-  pub below : AreBelow r.terms.workers r.journal.items
+  pub few : length r.journal.items ≤ r.terms.most
+  pub by : IsOfWorkers r.terms.workers r.journal.items
   pub chosen : r.terms.workers ≡ 1 → FollowsChoice plan r.journal.items
   pub places : r.places.items ≡ places_of plan
   pub taken : HaveTaken kind times total plan r.journal.items r.handlers.items
 
 -- the run goes on: its history is neither halted nor full
-pub record GoesOn (h : List Event) : Type 0 where
+pub record GoesOn (most : ℕ) (h : List Event) : Type 0 where
   pub unhalted : is_halted h ≡ false
-  pub room : length h < max_events
+  pub room : length h < most
 
 -- one of these Ends is of block b
 pub record IsKept (ends : List Ending) (b : ℕ) : Type 0 where
@@ -65,21 +64,37 @@ pub record Waits {J : Type 0} (first : List J) (jobs : List (Option J)) (b : ℕ
   pub at : slice_get jobs b ≡ Some (Some job)
 
 -- as long as the run goes on, the job of each block lies there whose End neither stands nor is kept back
-abbrev pub AllWait : {J : Type 0} → PlanView → (first : List J) → List Event → (jobs : List (Option J)) → List Ending → Type 0
-AllWait plan first h jobs ends =
-    GoesOn h → (b : ℕ) → b < length plan.blocks → is_ended h b ≡ false → (IsKept ends b → ⊥) → Waits first jobs b
+abbrev pub AllWait : {J : Type 0} → (most : ℕ) → PlanView → (first : List J) → List Event → (jobs : List (Option J)) → List Ending → Type 0
+AllWait most plan first h jobs ends =
+    GoesOn most h → (b : ℕ) → b < length plan.blocks → is_ended h b ≡ false → (IsKept ends b → ⊥) → Waits first jobs b
 
 -- the values and jobs of the blocks, and the Ends that are kept back
 pub record AreReady {J H : Type 0} (gives : J → ℕ → ℕ → Type 0) (plan : PlanView) (r : Running J H) (ends : List Ending) : Type 0 where
   pub given : AreGiven gives plan r.terms.jobs.value.items r.journal.items r.values.items
   pub count : length r.jobs.items ≡ length plan.blocks
-  pub wait : AllWait plan r.terms.jobs.value.items r.journal.items r.jobs.items ends
+  pub wait : AllWait r.terms.most plan r.terms.jobs.value.items r.journal.items r.jobs.items ends
   pub kept : AreKept plan r.terms.workers r.journal.items ends
 
--- the history grew by events of workers: what poller and clock said stands in it as before
-pub record Worked (plan : PlanView) (old new : List Event) : Type 0 where
-  pub more : List Event
-  pub grown : new ≡ old ++ more
-  pub going : (poller_tells clock_tells : Bool) (before : PollerState) (early : ClockState) (poller : PollerState) (clock : ClockState) (o : OutlookView)
-      → IsGoing poller_tells clock_tells plan before early poller clock old o
-      → IsGoing poller_tells clock_tells plan before early poller clock new o
+-- a run between two turns of worker 0, of so many events at most: no End is kept back
+pub record AtTurn {J H : Type 0} (gives : J → ℕ → ℕ → Type 0) (kind : H → Kind) (times total : H → ℕ) (most : ℕ) (plan : PlanView) (o : Round J H) : Type 0 where
+  pub run : IsRun kind times total plan o.run
+  pub ready : AreReady gives plan o.run []
+  pub none : o.kept.items ≡ []
+  pub limit : o.run.terms.most ≡ most
+
+-- a run where worker 0's turn is over in a round: an End of it may be kept back, and nobody else's
+pub record InRound {J H : Type 0} (gives : J → ℕ → ℕ → Type 0) (kind : H → Kind) (times total : H → ℕ) (most : ℕ) (plan : PlanView) (o : Round J H) : Type 0 where
+  pub run : IsRun kind times total plan o.run
+  pub ready : AreReady gives plan o.run (endings_of o.kept.items)
+  pub jobs : HaveJobs o.run.terms.jobs.value.items o.kept.items
+  pub before : EndBefore 1 (endings_of o.kept.items)
+  pub limit : o.run.terms.most ≡ most
+
+-- its machine stands for its journal
+pub run_sight : {J H : Type 0} (kind : H → Kind) (times total : H → ℕ) (most : ℕ) (plan : PlanView) (r : Running J H) → IsRun kind times total plan r → r.terms.most ≡ most
+    → IsSight most plan r.journal.items r.machine
+run_sight kind times total most plan r run limit = record { own = run.own; stands = run.stands; few = subst (λ (n : ℕ). length r.journal.items ≤ n) limit run.few }
+
+pub turn_sight : {J H : Type 0} (gives : J → ℕ → ℕ → Type 0) (kind : H → Kind) (times total : H → ℕ) (most : ℕ) (plan : PlanView) (o : Round J H)
+    → AtTurn gives kind times total most plan o → IsSight most plan o.run.journal.items o.run.machine
+turn_sight gives kind times total most plan o at = run_sight kind times total most plan o.run at.run at.limit

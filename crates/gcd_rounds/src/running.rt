@@ -1,12 +1,12 @@
 // A run by rounds, as far as it has come.
-ghost use Rattle.std.specs.Prelude.{◌≡◌, ◌<◌, ◌++◌, ◌∷◌, [], ℕ, List, Some, true, false, OnOk, IfOk, length, map};
+ghost use Rattle.std.specs.Prelude.{◌≡◌, ◌<◌, ◌+◌, ◌^◌, ◌++◌, ◌∷◌, [], ℕ, List, Some, true, false, OnOk, IfOk, length, map};
 ghost use Rattle.gcd_plan.specs.PlanView.{PlanView};
 ghost use Rattle.gcd_event.specs.declared.event.Event.{Event};
 ghost use Rattle.gcd_event.specs.declared.event.Event.TheVariants.{End};
 ghost use Rattle.gcd_history.specs.Choice.{worker_of};
 ghost use Rattle.gcd_history.specs.Runs.{ends};
 ghost use Rattle.gcd_machine.specs.Stands.{StandsFor};
-ghost use Rattle.gcd_alone.specs.Going.{IsOutside, IsPlaced};
+ghost use Rattle.gcd_loop.specs.Recorded.{IsOutside, Says};
 ghost use Rattle.gcd_rounds.specs.declared.kept.Ending.{Ending};
 ghost use Rattle.gcd_rounds.specs.Handing.{WasRecorded};
 ghost use Rattle.gcd_rounds.specs.Kept.{EndOthers, HasValue};
@@ -17,16 +17,18 @@ use crate::kept::Done;
 use crate::places::{place_of, places_of};
 use gcd_event::Event;
 use gcd_jobs::{Handler, Job};
+use gcd_loop::Put;
 use gcd_machine::Machine;
-use gcd_plan::{MAX_EVENTS, Plan};
+use gcd_plan::Plan;
 use std::alloc::{AllocError, Global};
 use std::snapshot::Snapshot;
 
-// What was handed in: the jobs, which clauses alone see, and the number of workers.
+// What was handed in: the jobs, which clauses alone see, the number of workers, and how many events there may be.
 #[derive(Drop)]
 pub(crate) struct Terms<J> {
     pub(crate) jobs: Snapshot<Vec<J>>,
     pub(crate) workers: u8,
+    pub(crate) most: u32,
 }
 
 // The journal and the machine that stands for it; the values of the blocks, and the jobs whose End neither stands nor is kept
@@ -69,18 +71,21 @@ fn hand_over<H: Handler>(
 }
 
 impl<J: Job + Drop, H: Handler + Drop> Running<J, H> {
-    // A run before its first event. The journal has room for all that may come.
+    // A run before its first event.
     pub(crate) fn new(
         alloc: Global,
         plan: &Plan,
+        most: u32,
         jobs: Vec<J>,
         handlers: Vec<H>,
         workers: u8,
     ) -> Result<Running<J, H>, AllocError>
+        requires most { most + 1 < 2 ^ 32 }
         requires jobs { length jobs.items ≡ length plan.now.blocks }
         requires handlers { AreHandlers H.kind H.times H.total plan.now (λ s. 0) (λ s. 0) handlers.items }
         requires workers { 0 < workers }
         ensures workers { IfOk result (λ r. r.terms.workers ≡ workers) }
+        ensures most { IfOk result (λ r. r.terms.most ≡ most) }
         ensures jobs { IfOk result (λ r. r.terms.jobs.value ≡ jobs) }
         ensures journal { IfOk result (λ r. r.journal.items ≡ []) }
         ensures run { IfOk result (λ r. IsRun H.kind H.times H.total plan.now r) }
@@ -89,8 +94,9 @@ impl<J: Job + Drop, H: Handler + Drop> Running<J, H> {
         let terms = Terms {
             jobs: Snapshot::of(&jobs),
             workers,
+            most,
         };
-        let journal = Vec::with_capacity(alloc, MAX_EVENTS as usize)?;
+        let journal = Vec::new(alloc);
         let values = Vec::from_elem(alloc, 0, plan.blocks() as usize)?;
         let jobs = waiting(alloc, jobs)?;
         let places = places_of(alloc, plan)?;
@@ -108,15 +114,15 @@ impl<J: Job + Drop, H: Handler + Drop> Running<J, H> {
 
     // Whether no worker records anything more: the run is halted or full.
     pub(crate) fn is_over(&self) -> bool
-        ensures goes_on { (plan : PlanView) (h : List Event) → StandsFor self.now.machine plan h → result ≡ false → GoesOn h }
-        ensures over { (plan : PlanView) (h : List Event) → StandsFor self.now.machine plan h → result ≡ true → GoesOn h → ⊥ }
+        ensures goes_on { (plan : PlanView) (h : List Event) → StandsFor self.now.machine plan h → result ≡ false → GoesOn self.now.terms.most h }
+        ensures over { (plan : PlanView) (h : List Event) → StandsFor self.now.machine plan h → result ≡ true → GoesOn self.now.terms.most h → ⊥ }
     {
-        self.machine.is_halted() || self.machine.len() >= MAX_EVENTS
+        self.machine.is_halted() || self.machine.len() >= self.terms.most
     }
 
     // Records an event that may come next.
     pub(crate) fn record(&mut self, plan: &Plan, e: Event) -> Result<(), AllocError>
-        requires next { IsNext plan.now self.old.terms.workers self.old.journal.items e }
+        requires next { IsNext self.old.terms.most plan.now self.old.terms.workers self.old.journal.items e }
         requires run { IsRun H.kind H.times H.total plan.now self.old }
         ensures terms { self.new.terms ≡ self.old.terms }
         ensures values { self.new.values ≡ self.old.values }
@@ -133,24 +139,26 @@ impl<J: Job + Drop, H: Handler + Drop> Running<J, H> {
     }
 
     // Records an event of the outside, or drops it where it may not come next. No End is kept back.
-    pub(crate) fn put(&mut self, plan: &Plan, e: Event) -> Result<(), AllocError>
-        requires outside { IsOutside self.old.journal.items e }
+    pub(crate) fn put(&mut self, plan: &Plan, e: Event) -> Result<Put, AllocError>
+        requires outside { IsOutside e }
+        requires room { length self.old.journal.items < self.old.terms.most }
         requires run { IsRun H.kind H.times H.total plan.now self.old }
+        requires ready { AreReady J.gives plan.now self.old [] }
         ensures terms { self.new.terms ≡ self.old.terms }
-        ensures placed { OnOk result (IsPlaced plan.now self.old.journal.items e self.new.journal.items) }
+        ensures said { IfOk result (Says self.old.terms.most plan.now e self.old.journal.items self.new.journal.items) }
         ensures run { OnOk result (IsRun H.kind H.times H.total plan.now self.new) }
-        ensures ready { AreReady J.gives plan.now self.old [] → OnOk result (AreReady J.gives plan.now self.new []) }
+        ensures ready { OnOk result (AreReady J.gives plan.now self.new []) }
     {
         if self.machine.permits(e).is_some() {
-            return Ok(());
+            return Ok(Put::Barred);
         }
         self.record(plan, e)?;
-        Ok(())
+        Ok(Put::Placed)
     }
 
     // Records an End that was kept back first, and the value that its job gave.
     pub(crate) fn end(&mut self, plan: &Plan, done: Done) -> Result<(), AllocError>
-        requires next { IsNext plan.now self.old.terms.workers self.old.journal.items (End done.ending.worker done.ending.blk) }
+        requires next { IsNext self.old.terms.most plan.now self.old.terms.workers self.old.journal.items (End done.ending.worker done.ending.blk) }
         requires run { IsRun H.kind H.times H.total plan.now self.old }
         requires within { done.ending.blk.0 < length self.old.values.items }
         ensures terms { self.new.terms ≡ self.old.terms }

@@ -1,5 +1,4 @@
--- What lies in the slots of a board: at home while nobody holds the slot's run, and with the pass that holds it (this
--- project's own rules).
+-- What lies in the slots of a board: at home while nobody holds the slot's run, and with the pass that holds it.
 use Rattle.std.specs.Prelude.{◌≡◌, ℕ, ◌+◌, Bool, true, false, List, [], ◌∷◌, length, Option, Some, None, slice_get, if◌then◌else◌, ◌⊎◌}
 use Rattle.std.specs.Option.{option_map_or}
 use Rattle.gcd_plan.specs.PlanView.{PlanView, kind_of, IsRun}

@@ -1,4 +1,4 @@
--- What lies in the slots of a new board (this project's own rules).
+-- What lies in the slots of a new board.
 use Rattle.std.specs.Prelude.{◌≡◌, ℕ, List, [], ◌∷◌, ◌++◌, length, map, filter, drop, if◌then◌else◌, All}
 use mathlib.Core.Option.{some}
 use lib.ListN.{get_elem?}

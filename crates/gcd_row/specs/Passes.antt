@@ -1,4 +1,4 @@
--- What the calls of a board ask of a pass, and what they do to it (this project's own rules).
+-- What the calls of a board ask of a pass, and what they do to it.
 use Rattle.std.specs.Prelude.{◌≡◌, ◌≢◌, ◌<◌, ◌≤◌, ℕ, Bool, true, false, List, [], ◌∷◌, ◌++◌, length, Some, None}
 use mathlib.Core.Option.{some}
 use lib.ListN.{get_elem?}

@@ -1,4 +1,4 @@
--- What each step tells: of the step, the seat before, the number found and the seat after (this project's own rule).
+-- What each step tells: of the step, the seat before, the number found and the seat after.
 use Rattle.std.specs.Prelude.{◌≡◌, ◌≢◌, ℕ, ◌≤◌, List, [], ◌∷◌, ◌++◌, length, Some, None}
 use Rattle.atomic_table.specs.Table.{Me, Step, rest}
 use Rattle.gcd_plan.specs.declared.numbers.Run.{Run}

@@ -1,4 +1,4 @@
--- The rule of the row, which holds between any two steps of any number of passes (this project's own rule).
+-- The rule of the row, which holds between any two steps of any number of passes.
 use Rattle.std.specs.Prelude.{◌≡◌, ◌≢◌, ℕ, suc, ◌≤◌, Some, None, false, List, [], map, length, slice_index}
 use mathlib.Core.Option.{Option, some}
 use lib.ListN.{get_elem?}

@@ -1,4 +1,4 @@
--- What lies in a slot, and what a cell of jobs and handlers is of that (this project's own rule).
+-- What lies in a slot, and what a cell of jobs and handlers is of that.
 use Rattle.std.specs.Prelude.{◌≡◌, ℕ, Some, slice_get}
 use Rattle.gcd_plan.specs.declared.kind.Kind.{Kind}
 use Rattle.gcd_row.specs.declared.view.Terms.{Terms}

@@ -1,4 +1,4 @@
--- What passes know, and how it changes (this project's own rules).
+-- What passes know, and how it changes.
 use Rattle.std.specs.Prelude.{ℕ, ◌==◌, cond, nat_lt, true, false, List, [], ◌∷◌, ◌++◌, length, Option, Some, None}
 use Rattle.gcd_plan.specs.declared.numbers.Run.{Run}
 use Rattle.gcd_event.specs.declared.event.Event.{Event}

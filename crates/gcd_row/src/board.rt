@@ -11,10 +11,10 @@ use std::alloc::Global;
 pub type RowTable<S> = Table<S, View<S>, Copies<S>, Lawful, Global>;
 
 /// A row of events that up to 64 workers decide by single exchanges, and a slot for each block and each object of its plan.
-/// It is shared by `&` (this project's own rule).
+/// It is shared by `&`.
 #[derive(Drop)]
 pub struct RowBoard<S: Slot> {
-    pub table: RowTable<S>,
+    pub(crate) table: RowTable<S>,
     ghost sized: { table.shared.table_id.words ≡ 65536 },
 }
 

@@ -36,7 +36,7 @@ impl<S: Slot> RowBoard<S> {
 impl<J: Job + Drop, H: Handler + Drop> RowBoard<Cell<J, H>> {
     /// Takes the body of the block whose run the pass holds, to run it; the slot is then `Away`. Conditions: the block is open
     /// and not parked, its last Start or Wake is the pass's own, and its body is in the slot. The body may give only what the job
-    /// may that was handed in for the block (this project's own rule).
+    /// may that was handed in for the block.
     #[inline(always)]
     pub fn take_body(&self, pass: &mut Pass<J, H>, b: Blk) -> J
         requires pass { IsPassOf (shape_of H.kind H.times H.total) (gives_of J.gives) self.now pass.old }
@@ -55,7 +55,7 @@ impl<J: Job + Drop, H: Handler + Drop> RowBoard<Cell<J, H>> {
     }
 
     /// Gives the body of a block back into its slot, before an act that parks it. Conditions: the pass holds the block's run, its
-    /// slot is `Away`, and the body may give only what the job may that was handed in for the block (this project's own rule).
+    /// slot is `Away`, and the body may give only what the job may that was handed in for the block.
     #[inline(always)]
     pub fn give_body(&self, pass: &mut Pass<J, H>, b: Blk, job: J)
         requires pass { IsPassOf (shape_of H.kind H.times H.total) (gives_of J.gives) self.now pass.old }
@@ -70,7 +70,7 @@ impl<J: Job + Drop, H: Handler + Drop> RowBoard<Cell<J, H>> {
     }
 
     /// Gives the value that a block's body gave into its slot, before the block's End. Conditions: the pass holds the block's run,
-    /// its slot is `Away`, and the job that was handed in for the block may give the value at 0 (this project's own rule).
+    /// its slot is `Away`, and the job that was handed in for the block may give the value at 0.
     #[inline(always)]
     pub fn give_done(&self, pass: &mut Pass<J, H>, b: Blk, value: u64)
         requires pass { IsPassOf (shape_of H.kind H.times H.total) (gives_of J.gives) self.now pass.old }
@@ -86,7 +86,7 @@ impl<J: Job + Drop, H: Handler + Drop> RowBoard<Cell<J, H>> {
 
     /// Takes the handler of the source whose run the pass holds, to call it; the slot is then `Away`. Conditions: the pass's own
     /// Deliver is the source's last, its run is open, and the handler is in the slot and was not called in this run yet. The
-    /// handler has the times and the total of the Delivers before this run's (this project's own rule).
+    /// handler has the times and the total of the Delivers before this run's.
     pub fn take_handler(&self, pass: &mut Pass<J, H>, s: Obj) -> H
         requires pass { IsPassOf (shape_of H.kind H.times H.total) (gives_of J.gives) self.now pass.old }
         requires run { held_run (view pass.old) ≡ Some (Source s) }
@@ -107,7 +107,7 @@ impl<J: Job + Drop, H: Handler + Drop> RowBoard<Cell<J, H>> {
 
     /// Gives the handler of a source back into its slot, before the DeliverEnd. Conditions: the pass holds the source's run, the
     /// slot is `Away`, and the handler is of the source's kind, with the times and the total of all Delivers of the source, this
-    /// run's among them (this project's own rule).
+    /// run's among them.
     pub fn give_handler(&self, pass: &mut Pass<J, H>, s: Obj, handler: H)
         requires pass { IsPassOf (shape_of H.kind H.times H.total) (gives_of J.gives) self.now pass.old }
         requires run { held_run (view pass.old) ≡ Some (Source s) }

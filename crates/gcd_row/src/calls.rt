@@ -15,6 +15,14 @@ use gcd_event::Event;
 use gcd_plan::MAX_EVENTS;
 
 impl<S: Slot> RowBoard<S> {
+    /// How many events the row can have at most: 65,535.
+    #[inline(always)]
+    pub fn most(&self) -> u32
+        ensures { result ≡ max_events }
+    {
+        MAX_EVENTS
+    }
+
     // Sees the event n, where there is one.
     #[inline(always)]
     fn advance(&self, pass: &mut RowPass<S>, n: u32) -> bool
@@ -57,7 +65,7 @@ impl<S: Slot> RowBoard<S> {
     }
 
     /// Sees the row as it is at a moment of the call, and answers its length: 0 to 65,535, at least what the pass had seen. It
-    /// costs one load for each event that is new to the pass, and one more (this project's own rule).
+    /// costs one load for each event that is new to the pass, and one more.
     #[inline(always)]
     pub fn look(&self, pass: &mut RowPass<S>) -> u32
         requires { IsPassOf S.shape S.gives self.now pass.old }
@@ -78,7 +86,7 @@ impl<S: Slot> RowBoard<S> {
     }
 
     /// Places an event of the pass's worker behind all others, by the one exchange that makes it the row's next event, or says
-    /// why it may not stand there (this project's own rule). Conditions: before an act that parks its block, the pass has the
+    /// why it may not stand there. Conditions: before an act that parks its block, the pass has the
     /// block's body in the slot; before an End, the value; before a DeliverEnd, the handler with all Delivers of its source.
     ///
     /// - `Placed(n)`: the event is event n, and the last that the pass has seen. With a Start, Wake or Deliver the pass has
@@ -115,7 +123,7 @@ impl<S: Slot> RowBoard<S> {
     }
 
     /// The same for an event that is permitted after what the pass has seen, as one that its machine chose: it is not judged
-    /// again before the first exchange (this project's own rule).
+    /// again before the first exchange.
     #[inline(always)]
     pub fn put_chosen(&self, pass: &mut RowPass<S>, e: Event) -> Put
         requires pass { IsPassOf S.shape S.gives self.now pass.old }

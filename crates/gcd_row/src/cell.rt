@@ -4,7 +4,7 @@ ghost use Rattle.gcd_row.specs.Shapes.{Shape};
 
 use gcd_jobs::{Handler, Job};
 
-/// What lies in a slot of a board (this project's own rule).
+/// What lies in a slot of a board.
 pub trait Slot {
     // what it is of: a body, a value, a handler or nothing
     ghost shape: { Self → Shape };
@@ -13,7 +13,7 @@ pub trait Slot {
     ghost gives: { Self → ℕ → Type 0 };
 }
 
-/// What a board has of a block or a source (this project's own rule).
+/// What a board has of a block or a source.
 #[derive(Drop)]
 pub enum Cell<J, H> {
     /// What the block runs, once; it has not ended.

@@ -10,12 +10,12 @@ use crate::board::RowBoard;
 use crate::cell::Slot;
 use crate::pass::RowPass;
 use atomic_table::Closed;
-use gcd_event::{Event, of_word};
+use gcd_event::Event;
 use gcd_machine::Machine;
 use std::alloc::Global;
 
 // The values of the slots, in their order.
-fn take_all<S>(mut closed: Closed<S, Global>, mut cells: Vec<S>) -> Vec<S>
+pub(crate) fn take_all<S>(mut closed: Closed<S, Global>, mut cells: Vec<S>) -> Vec<S>
     requires full { IsFull closed.slots }
     requires room { (cells.items ≡ []) × (slots_len closed.slots ≤ vec_capacity cells) }
     ensures { result.items ≡ slots_items closed.slots }
@@ -31,8 +31,8 @@ impl<S: Slot + Drop> RowBoard<S> {
     /// The whole history, and the cells: those of the blocks, by number, and behind them one for each object, which is `Away`
     /// where the object is no source. Worker 0's pass has to be given, with all others joined into it, and so it has seen the
     /// whole row. A cell is the body of a block that has not started or is parked, the value of one that has ended, the handler
-    /// of a source without an open run; that of a run which is open and not parked may be anything. An `Err` comes only of want
-    /// of memory, and then board and pass come back as they were (this project's own rule).
+    /// of a source without an open run; that of a run which is open and not parked may be anything. An `Err` comes only where
+    /// memory runs out, and then board and pass come back as they were.
     pub fn close(
         self,
         alloc: Global,
@@ -51,7 +51,7 @@ impl<S: Slot + Drop> RowBoard<S> {
         }
     }
 
-    /// The same, and the pass's machine, which stands for the whole history (this project's own rule).
+    /// The same, and the pass's machine, which stands for the whole history.
     pub fn close_whole(
         self,
         alloc: Global,
@@ -65,26 +65,6 @@ impl<S: Slot + Drop> RowBoard<S> {
         ensures machine { IfOk result (λ r. StandsFor r.2 (view pass).terms.plan (view pass).seen) }
         ensures err { IfErr result (λ r. (r.0 ≡ self) × (r.1 ≡ pass)) }
     {
-        let n = pass.machine.len() as usize;
-        let Ok(mut events) = Vec::with_capacity(alloc, n) else {
-            return Err((self, pass));
-        };
-        let Ok(cells) = Vec::with_capacity(alloc, self.table.slot_count()) else {
-            return Err((self, pass));
-        };
-        let RowBoard { table } = self;
-        let RowPass {
-            seat,
-            machine,
-            number: _,
-        } = pass;
-        let closed = table.close_with(seat);
-        for i in 0..n {
-            match of_word(closed.word(i + 1)) {
-                Some(e) => events.push_reserved(e),
-                None => unreachable!(),
-            }
-        }
-        Ok((events, take_all(closed, cells), machine))
+        pass.close_board(alloc, self)
     }
 }

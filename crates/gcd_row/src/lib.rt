@@ -26,14 +26,15 @@
 //!
 //! | call | answer | clause |
 //! |---|---|---|
-//! | [`RowBoard::new`] | a board with an empty row and worker 0's pass, or want of memory | `AreFirst`, `opening_view` |
+//! | [`RowBoard::new`] | a board with an empty row and worker 0's pass, or out of memory | `AreFirst`, `opening_view` |
+//! | [`RowBoard::most`] | how many events the row can have | `max_events` |
 //! | [`RowBoard::look`] | the length of the row at a moment of the call, which the pass has then seen | `Looks` |
 //! | [`RowBoard::put`], [`RowBoard::put_chosen`] | the event is event n; or the row was what the pass has now seen, after which the event is not permitted, with the first reason; or the row is full | `Says`, `SaysSlots` |
-//! | [`RowBoard::split`] | a pass for a new number, or want of memory | `lending`, `newcomer` |
+//! | [`RowBoard::split`] | a pass for a new number, or out of memory | `lending`, `newcomer` |
 //! | [`RowBoard::join`] | worker 0's pass has taken in another | `Merges` |
 //! | [`RowBoard::take_body`], [`RowBoard::give_body`], [`RowBoard::give_done`] | a block's body or value, from the slot of the run that the pass holds and into it | `MayGive` |
 //! | [`RowBoard::take_handler`], [`RowBoard::give_handler`] | the same of a source's handler | `IsUntaken`, `IsServed` |
-//! | [`RowBoard::close`], [`RowBoard::close_whole`] | the whole history and all cells, or want of memory; the second also gives the machine | `AtRest` |
+//! | [`RowBoard::close`], [`RowBoard::close_whole`] | the whole history and all cells, or out of memory; the second also gives the machine | `AtRest` |
 //! | [`RowPass::machine`], [`RowPass::worker`] | the machine, which stands for what the pass has seen, and the number | |
 //!
 //! No call but `new`, `split` and those that close takes memory. `look` and `put` go on by one event each turn, so they return. A board may

@@ -145,7 +145,7 @@ impl<J: Job + Drop, H: Handler + Drop> RowBoard<Cell<J, H>> {
     /// A board with no event in its row, and worker 0's pass. It takes one job for each block, `main`'s first, and one handler for
     /// each source, by number, of its kind, which has not been called yet. In the slots lie the jobs, by the numbers of their
     /// blocks, and behind them one cell for each object: a source's handler, and for another object nothing. An `Err` comes only
-    /// of want of memory; jobs and handlers are dropped then (this project's own rule).
+    /// where memory runs out; jobs and handlers are dropped then.
     pub fn new(
         alloc: Global,
         plan: &Plan,

@@ -1,18 +1,35 @@
 // What one worker has of a board.
-ghost use Rattle.std.specs.Prelude.{◌≡◌};
+ghost use Rattle.std.specs.Prelude.{◌≡◌, ◌≢◌, ℕ, IfOk, IfErr, Some};
+ghost use Rattle.gcd_machine.specs.Stands.{StandsFor};
 
-use crate::cell::Cell;
+use crate::board::RowBoard;
+use crate::cell::{Cell, Slot};
+use crate::closing::take_all;
+use crate::plays::{Down, Glue};
+use crate::shares::take_farther;
 use crate::view::View;
 use atomic_table::Seat;
+use gcd_event::{Event, of_word};
 use gcd_machine::Machine;
+use std::alloc::Global;
 
 /// What one worker has of a board: what it has seen of the row, with a machine that stands for that, and the slot of the run
-/// that the worker holds. It may go to a thread of its own (this project's own rule).
-#[derive(Drop)]
+/// that the worker holds. It may go to a thread of its own.
 pub struct RowPass<S> {
-    pub seat: Seat<S, View<S>>,
-    pub machine: Machine,
-    pub number: u8,
+    pub(crate) seat: Seat<S, View<S>>,
+    pub(crate) machine: Machine,
+    pub(crate) number: u8,
+}
+
+// One call drops all that a pass has: so a crate that drops passes proves nothing of their parts.
+impl<S> Drop for RowPass<S> {
+    fn drop(self) {
+        let RowPass {
+            seat: _,
+            machine: _,
+            number: _,
+        } = self;
+    }
 }
 
 /// A pass of a board of jobs and handlers.
@@ -31,5 +48,73 @@ impl<S> RowPass<S> {
         ensures { result ≡ self.now.number }
     {
         self.number
+    }
+}
+
+impl<S: Slot> RowPass<S> {
+    ghost use Rattle.gcd_row.specs.Passes.{IsPassOf, Ahead, slots, view};
+    ghost use Rattle.gcd_row.specs.Views.{longer, merging};
+
+    // Goes into another pass, which takes the longer of the two histories, with its machine.
+    pub(crate) fn glue(self, board: &RowBoard<S>, pass: &mut RowPass<S>)
+        requires pass { IsPassOf S.shape S.gives board.now pass.old }
+        requires other { IsPassOf S.shape S.gives board.now self }
+        requires head { (view pass.old).worker ≡ 0 }
+        requires ahead { Ahead (view pass.old) (longer (view pass.old).seen (view self).seen) }
+        ensures pass { IsPassOf S.shape S.gives board.now pass.new }
+        ensures slots { slots pass.new ≡ slots pass.old }
+        ensures view { view pass.new ≡ merging (view pass.old) (view self) }
+    {
+        let RowPass {
+            mut seat,
+            machine,
+            number: _,
+        } = self;
+        board.table.shared.load::<Down>(&mut seat, 0);
+        board.table.shared.join_seat::<Glue>(&mut pass.seat, seat);
+        take_farther(&mut pass.machine, machine);
+    }
+}
+
+impl<S: Slot + Drop> RowPass<S> {
+    ghost use Rattle.gcd_row.specs.Passes.{IsPassOf, AtRest, view};
+    ghost use Rattle.gcd_row.specs.Views.{standing_of};
+    ghost use Rattle.gcd_row.specs.declared.view.Standing.TheVariants.{Out};
+
+    // Closes its board, as the last of the board's passes.
+    pub(crate) fn close_board(
+        self,
+        alloc: Global,
+        board: RowBoard<S>,
+    ) -> Result<(Vec<Event>, Vec<S>, Machine), (RowBoard<S>, RowPass<S>)>
+        requires pass { IsPassOf S.shape S.gives board self }
+        requires head { (view self).worker ≡ 0 }
+        requires all_in { (w : ℕ) → standing_of (view self).hands w ≢ Some Out }
+        ensures events { IfOk result (λ r. r.0.items ≡ (view self).seen) }
+        ensures cells { IfOk result (λ r. AtRest S.shape S.gives (view self).terms (view self).seen r.1.items) }
+        ensures machine { IfOk result (λ r. StandsFor r.2 (view self).terms.plan (view self).seen) }
+        ensures err { IfErr result (λ r. (r.0 ≡ board) × (r.1 ≡ self)) }
+    {
+        let n = self.machine.len() as usize;
+        let Ok(mut events) = Vec::with_capacity(alloc, n) else {
+            return Err((board, self));
+        };
+        let Ok(cells) = Vec::with_capacity(alloc, board.table.slot_count()) else {
+            return Err((board, self));
+        };
+        let RowBoard { table } = board;
+        let RowPass {
+            seat,
+            machine,
+            number: _,
+        } = self;
+        let closed = table.close_with(seat);
+        for i in 0..n {
+            match of_word(closed.word(i + 1)) {
+                Some(e) => events.push_reserved(e),
+                None => unreachable!(),
+            }
+        }
+        Ok((events, take_all(closed, cells), machine))
     }
 }

@@ -10,7 +10,7 @@ use atomic_table::{Join, Play, Split, TableRule};
 use std::marker::{Brand, PhantomData};
 
 /// The rule of the row: there is a lawful history, whose words the row has and of which each pass has seen a beginning, and the
-/// slot of a run that nobody holds has what lies there after it (this project's own rule).
+/// slot of a run that nobody holds has what lies there after it.
 pub struct Lawful;
 
 impl<S: Slot> TableRule<S, View<S>, Copies<S>> for Lawful {

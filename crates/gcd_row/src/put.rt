@@ -1,7 +1,7 @@
 // What putting an event answers.
 use gcd_plan::Why;
 
-/// What putting an event into a row answers (this project's own rule).
+/// What putting an event into a row answers.
 #[derive(Clone, Copy, Debug, PartialEq, Eq)]
 pub enum Put {
     /// The event stands in the row, with this many events before it.

@@ -5,14 +5,14 @@ ghost use Rattle.gcd_machine.specs.Stands.{StandsFor};
 ghost use Rattle.gcd_plan.specs.PlanView.{PlanView};
 ghost use Rattle.gcd_plan.specs.Limits.{max_workers};
 ghost use Rattle.gcd_team.specs.Team.{of_worker};
-ghost use Rattle.gcd_row.specs.Passes.{IsPassOf, Ahead, Merges, slots, view};
+ghost use Rattle.gcd_row.specs.Passes.{IsPassOf, Merges, slots, view};
 ghost use Rattle.gcd_row.specs.Plays.{Compares};
-ghost use Rattle.gcd_row.specs.Views.{standing_of, lending, newcomer, longer, merging, hearing};
+ghost use Rattle.gcd_row.specs.Views.{standing_of, lending, newcomer, longer, hearing};
 
 use crate::board::RowBoard;
 use crate::cell::Slot;
 use crate::pass::RowPass;
-use crate::plays::{Compare, Cut, Down, Fresh, Glue, Numbered, Tell};
+use crate::plays::{Compare, Cut, Fresh, Numbered, Tell};
 use crate::view::View;
 use atomic_table::Seat;
 use gcd_machine::Machine;
@@ -30,7 +30,7 @@ fn swap_farther(machine: &mut Machine, other: &mut Machine)
 }
 
 // The same, with a machine that goes.
-fn take_farther(machine: &mut Machine, mut other: Machine)
+pub(crate) fn take_farther(machine: &mut Machine, mut other: Machine)
     ensures { (plan : PlanView) (g h : List Event) → StandsFor machine.old plan g → StandsFor other plan h → StandsFor machine.new plan (longer g h) }
 {
     swap_farther(machine, &mut other);
@@ -51,8 +51,8 @@ impl<S: Slot> RowBoard<S> {
     }
 
     /// A pass for a worker, which begins with what worker 0's pass has seen. Conditions: worker 0's pass is given, and the number,
-    /// 1 to 63, was never given out on this board. An `Err` comes only of want of memory, and nothing is given out then (this
-    /// project's own rule). It copies the machine.
+    /// 1 to 63, was never given out on this board. An `Err` comes only where memory runs out, and nothing is given out then. It copies the
+    /// machine.
     pub fn split(
         &self,
         alloc: Global,
@@ -102,29 +102,9 @@ impl<S: Slot> RowBoard<S> {
         self.table.shared.load::<Compare>(&mut pass.seat, 0);
     }
 
-    // Takes in another pass: the longer of the two histories, with its machine.
-    fn glue(&self, pass: &mut RowPass<S>, other: RowPass<S>)
-        requires pass { IsPassOf S.shape S.gives self.now pass.old }
-        requires other { IsPassOf S.shape S.gives self.now other }
-        requires head { (view pass.old).worker ≡ 0 }
-        requires ahead { Ahead (view pass.old) (longer (view pass.old).seen (view other).seen) }
-        ensures pass { IsPassOf S.shape S.gives self.now pass.new }
-        ensures slots { slots pass.new ≡ slots pass.old }
-        ensures view { view pass.new ≡ merging (view pass.old) (view other) }
-    {
-        let RowPass {
-            mut seat,
-            machine,
-            number: _,
-        } = other;
-        self.table.shared.load::<Down>(&mut seat, 0);
-        self.table.shared.join_seat::<Glue>(&mut pass.seat, seat);
-        take_farther(&mut pass.machine, machine);
-    }
-
     /// Takes another pass into worker 0's, which has then seen the longer of the two histories; the shorter is its beginning. The
     /// other's number is not given out again on this board, and what it had of a run goes to that run's slot. Conditions: worker
-    /// 0's pass comes first, and both are of this board (this project's own rule).
+    /// 0's pass comes first, and both are of this board.
     pub fn join(&self, pass: &mut RowPass<S>, mut other: RowPass<S>)
         requires pass { IsPassOf S.shape S.gives self.now pass.old }
         requires other { IsPassOf S.shape S.gives self.now other }
@@ -137,6 +117,6 @@ impl<S: Slot> RowBoard<S> {
         self.tell(&mut other, pass);
         self.compare(pass);
         self.compare(&mut other);
-        self.glue(pass, other);
+        other.glue(self, pass);
     }
 }

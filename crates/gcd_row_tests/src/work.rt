@@ -1,5 +1,9 @@
 // What the workers of the tests do.
-ghost use Rattle.std.specs.Prelude.{◌≡◌, ◌∷◌, ◌++◌, [], Some, None, IfOk, OnOk, length};
+ghost use Rattle.std.specs.Prelude.{◌≡◌, ◌∷◌, ◌++◌, [], List, Some, None, IfOk, OnOk, length};
+ghost use Rattle.gcd_event.specs.declared.event.Event.{Event};
+ghost use Rattle.gcd_history.specs.History.{parks};
+ghost use Rattle.gcd_machine.specs.Stands.{StandsFor};
+ghost use Rattle.gcd_plan.specs.PlanView.{PlanView};
 ghost use Rattle.gcd_plan.specs.declared.numbers.Run.TheVariants.{Block};
 ghost use Rattle.gcd_row.specs.Opening.{AreFirst, AreHandlersOf, tallies_for};
 ghost use Rattle.gcd_row.specs.Passes.{IsPassOf, HasSameNumbers, slots, terms_of, view};
@@ -77,6 +81,13 @@ pub fn begin<J: Job + Drop, H: Handler + Drop>(
     }
 }
 
+// Whether the event is an act that parks its block, as the machine of the pass tells.
+fn parks<J: Job + Drop, H: Handler + Drop>(pass: &Pass<J, H>, event: Event) -> bool
+    ensures { (plan : PlanView) (h : List Event) → StandsFor pass.now.machine plan h → result ≡ parks plan event }
+{
+    pass.machine().parks(event)
+}
+
 // Makes an act of the run that the pass holds, if the act does not park.
 pub fn act<J: Job + Drop, H: Handler + Drop>(
     board: &Board<J, H>,
@@ -92,7 +103,7 @@ pub fn act<J: Job + Drop, H: Handler + Drop>(
 {
     let worker = pass.worker();
     let event = Event::Act { worker, run, index };
-    if pass.machine.parks(event) {
+    if parks(pass, event) {
         return None;
     }
     Some(board.put(pass, event))

@@ -56,7 +56,7 @@ halted_has_halt h is = subst (λ (l : List Event). Contains l Halt) (reverse-rev
 unhalted : (seen : InputsSeen) (sink : SinkSeen) → NothingFailed seen sink → (plan : PlanView) (workers : ℕ) (h : List Event) (state : State)
     → Ran seen.poller seen.clock plan workers h state → state ≢ Halted
 unhalted seen sink works plan workers h state r halted =
-    works.poller_works (r.heard.faults.halts (halted_has_halt h (subst (HasState plan h) halted r.over.state_is)))
+    works.poller_works (r.run.heard.faults.halts (halted_has_halt h (subst (HasState plan h) halted r.over.state_is)))
 
 -- ## What is told of a run
 

@@ -1,6 +1,7 @@
 -- What the turns saw of the poller, said of a call that first listened.
 use Rattle.std.proofs.Common.{◌≡◌, ◌∙◌, ◌+◌, ◌++◌, ◌≤◌, ◌<◌, ℕ, true, Bool, List, drop, length, [], append-nil, refl, sym, subst, inl, inr}
 use Rattle.std.specs.Prelude.{Contains}
+use Rattle.gcd_plan.specs.Limits.{max_events}
 use Rattle.gcd_plan.specs.PlanView.{PlanView, path_of}
 use Rattle.gcd_event.specs.declared.event.Event.{Event}
 use Rattle.gcd_outer.specs.Outside.{Bytes, ClockState, Rises, Seen}
@@ -59,10 +60,10 @@ module _ (a b now : PollerState) (tells : Bool) (same : SameHearing a b tells) (
         → path ≡ path_of plan s) (same.watches yes) t.paths;
   }
 
-pub heard_since : (a b now : PollerState) (tells : Bool) → SameHearing a b tells → (plan : PlanView) (stood placed : List Event)
-    → IsHeard plan stood placed (record { tells = tells; before = a; after = now })
-    → IsHeard plan stood placed (record { tells = tells; before = b; after = now })
-heard_since a b now tells same plan stood placed heard = record {
+pub heard_since : (most : ℕ) (a b now : PollerState) (tells : Bool) → SameHearing a b tells → (plan : PlanView) (stood placed : List Event)
+    → IsHeard most plan stood placed (record { tells = tells; before = a; after = now })
+    → IsHeard most plan stood placed (record { tells = tells; before = b; after = now })
+heard_since most a b now tells same plan stood placed heard = record {
   told = λ yes. told_since a b now tells same yes plan stood placed (heard.told yes);
   faults = record {
     halts = λ stands. subst (λ n. Rises n now.faults) same.faults (heard.faults.halts stands);
@@ -94,12 +95,16 @@ tells_since a b now tells same clock plan workers text end t = record {
   h = t.h;
   state = t.state;
   ran = record {
-    lawful = t.ran.lawful;
+    run = record {
+      lawful = t.ran.run.lawful;
+      ended = t.ran.run.ended;
+      few = t.ran.run.few;
+      by = t.ran.run.by;
+      chosen = t.ran.run.chosen;
+      timely = t.ran.run.timely;
+      heard = heard_since max_events a b now tells same plan [] t.h t.ran.run.heard;
+    };
     over = t.ran.over;
-    by = t.ran.by;
-    chosen = t.ran.chosen;
-    timely = t.ran.timely;
-    heard = heard_since a b now tells same plan [] t.h t.ran.heard;
   };
   end_is = t.end_is;
 }

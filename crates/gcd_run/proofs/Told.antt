@@ -1,8 +1,8 @@
 -- What a shelf that tells gives, and what was seen of it.
-use Rattle.std.proofs.Common.{◌≡◌, ◌⊎◌, ◌∙◌, ℕ, zero, suc, true, List, [], ◌∷◌, Option, Some, None, length, take, slice_get, unwrap_or, ap, refl, sym, subst, inl, inr}
+use Rattle.std.proofs.Common.{◌≡◌, ◌⊎◌, ◌∙◌, ℕ, zero, suc, true, List, [], ◌∷◌, Option, Some, None, length, take, slice_get, unwrap_or, ap, refl, sym, subst, arith, inl, inr}
 use Rattle.std.specs.Prelude.{Result, Ok, Err}
 use Rattle.std.proofs.lemmas.Bool.{lt-ltb, le-ltb}
-use Rattle.gcd_plan.specs.Limits.{max_file_bytes}
+use Rattle.gcd_plan.specs.Limits.{max_events, max_file_bytes}
 use Rattle.gcd_plan.specs.PlanView.{PlanView, FileView}
 use Rattle.gcd_plan.specs.Validity.{IsPlan}
 use Rattle.gcd_event.specs.declared.event.Event.{Event}
@@ -136,13 +136,13 @@ module _ (content : Bytes → Option Bytes) (name : Bytes) (plan : PlanView) (va
   pub one_journal : (h k : List Event) → HoldsJournal content name plan h → HoldsJournal content name plan k → h ≡ k
   one_journal h k a b =
       let same : a.text ≡ b.text = same_ok a.held b.held in
-      journals_agree plan valid b.text h k (subst (λ (t : Bytes). IsJournal plan t h) same a.journal_is) b.journal_is
+      journals_agree plan valid max_events (omega arith) b.text h k (subst (λ (t : Bytes). IsJournal max_events plan t h) same a.journal_is) b.journal_is
 
   pub no_journal : (h : List Event) (stop : Stop) → HoldsJournal content name plan h → IsNoJournal content name plan stop → ⊥
   no_journal h stop held (no_journal_unloaded is) = no_both held.held is
   no_journal h stop held (no_journal_refused text line is fault stop_is) =
       let same : text ≡ held.text = same_ok is held.held in
-      journals_stand plan valid held.text h line held.journal_is (subst (λ (t : Bytes). IsRefusedAt plan t line) same fault)
+      journals_stand plan valid max_events (omega arith) held.text h line held.journal_is (subst (λ (t : Bytes). IsRefusedAt max_events plan t line) same fault)
 
   pub one_journal_stop : (stop other : Stop) → IsNoJournal content name plan stop → IsNoJournal content name plan other → stop ≡ other
   one_journal_stop stop other (no_journal_unloaded a) (no_journal_unloaded b) = same_err a b
@@ -150,5 +150,5 @@ module _ (content : Bytes → Option Bytes) (name : Bytes) (plan : PlanView) (va
   one_journal_stop stop other (no_journal_refused text line is fault stop_is) (no_journal_unloaded b) = absurd (no_both is b)
   one_journal_stop stop other (no_journal_refused text line is fault stop_is) (no_journal_refused text' line' is' fault' stop_is') =
       let same : text ≡ text' = same_ok is is' in
-      let one : line ≡ line' = faults_agree plan valid text' line line' (subst (λ (t : Bytes). IsRefusedAt plan t line) same fault) fault' in
+      let one : line ≡ line' = faults_agree plan valid max_events (omega arith) text' line line' (subst (λ (t : Bytes). IsRefusedAt max_events plan t line) same fault) fault' in
       stop_is ∙ ap Journal one ∙ sym stop_is'

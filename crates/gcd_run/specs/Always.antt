@@ -1,7 +1,7 @@
 -- What the call has to tell: what a shelf that tells gives of a script, its files and a journal, and what the call then answers
--- and writes, a fault of the outside and want of memory aside (this project's own rules).
+-- and writes, a fault of the outside and out of memory aside.
 use Rattle.std.specs.Prelude.{◌≡◌, ◌≢◌, ◌⊎◌, ℕ, true, nat_lt, if◌then◌else◌, List, [], ◌∷◌, Option, Some, None, Result, Ok, Err, length}
-use Rattle.gcd_plan.specs.Limits.{max_file_bytes, max_script_bytes}
+use Rattle.gcd_plan.specs.Limits.{max_events, max_file_bytes, max_script_bytes}
 use Rattle.gcd_plan.specs.PlanView.{PlanView, FileView}
 use Rattle.gcd_history.specs.declared.state.State.{State}
 use Rattle.gcd_history.specs.declared.state.State.TheVariants.{Halted}
@@ -67,14 +67,14 @@ HoldsText content name text = within_limit (Journal 0) max_file_bytes (content n
 -- it is at fault
 pub data IsNoJournal (content : Bytes → Option Bytes) (name : Bytes) (plan : PlanView) (stop : Stop) : Type 0 where
   unloaded : within_limit (Journal 0) max_file_bytes (content name) ≡ Err stop → IsNoJournal content name plan stop
-  refused : (text : Bytes) (line : ℕ) → HoldsText content name text → IsRefusedAt plan text line → stop ≡ Journal line
+  refused : (text : Bytes) (line : ℕ) → HoldsText content name text → IsRefusedAt max_events plan text line → stop ≡ Journal line
       → IsNoJournal content name plan stop
 
 -- the journal of this name is one of these events
 pub record HoldsJournal (content : Bytes → Option Bytes) (name : Bytes) (plan : PlanView) (h : List Event) : Type 0 where
   pub text : Bytes
   pub held : HoldsText content name text
-  pub journal_is : IsJournal plan text h
+  pub journal_is : IsJournal max_events plan text h
 
 -- why `check` has to stop: at the script, or at the journal
 pub data MustRefuse (content : Bytes → Option Bytes) (script journal : Bytes) (stop : Stop) : Type 0 where

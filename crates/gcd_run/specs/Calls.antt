@@ -1,6 +1,6 @@
--- What a call saw of the outside, and how many calls it made on it (this project's own rules).
+-- What a call saw of the outside, and how many calls it made on it.
 use Rattle.std.specs.Prelude.{◌≡◌, ◌++◌, ℕ, zero, suc, Bool, true, List, [], Option, length, option_to_list}
-use Rattle.gcd_outer.specs.Outside.{Bytes, ClockState, Rises, Seen, ShelfSeen, next_count, shelf_seen}
+use Rattle.gcd_outer.specs.Outside.{Bytes, ClockState, Rises, Seen, ShelfSeen, next_count}
 use Rattle.gcd_outer.specs.Tells.{PollerState}
 
 -- what a call saw of something that has a state
@@ -12,15 +12,6 @@ pub record InputsSeen : Type 0 where
   pub shelf : ShelfSeen
   pub poller : Seen PollerState
   pub clock : Seen ClockState
-
--- what a call saw of its inputs, from their ghost members and their states before and after the call
-abbrev pub inputs_seen : {S P C : Type 0} → Bool → (S → Bytes → Option Bytes) → (S → ℕ) → (S → ℕ) → Bool → (P → PollerState) → Bool
-    → (C → ClockState) → (shelf_old shelf_new : S) → (poller_old poller_new : P) → (clock_old clock_new : C) → InputsSeen
-inputs_seen told content loads faults poller_tells poller clock_tells clock shelf_old shelf_new poller_old poller_new clock_old clock_new = record {
-  shelf = shelf_seen told content loads faults shelf_old shelf_new;
-  poller = seen_by poller_tells poller poller_old poller_new;
-  clock = seen_by clock_tells clock clock_old clock_new;
-}
 
 -- the poller failed in the call
 abbrev pub PollerFailed : Seen PollerState → Type 0

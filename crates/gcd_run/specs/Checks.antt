@@ -1,6 +1,6 @@
--- What `check` does (this project's own rules).
+-- What `check` does.
 use Rattle.std.specs.Prelude.{◌≡◌, ◌⊎◌, ℕ, List, Some}
-use Rattle.gcd_plan.specs.Limits.{max_file_bytes}
+use Rattle.gcd_plan.specs.Limits.{max_events, max_file_bytes}
 use Rattle.gcd_plan.specs.PlanView.{PlanView}
 use Rattle.gcd_event.specs.declared.event.Event.{Event}
 use Rattle.gcd_history.specs.Ends.{HasState}
@@ -18,12 +18,12 @@ use Rattle.gcd_run.specs.declared.stop.Stop.TheVariants.{Journal, Memory}
 pub record IsJournalAt (shelf : ShelfSeen) (name : Bytes) (plan : PlanView) (h : List Event) : Type 0 where
   pub text : Bytes
   pub loaded : IsLoaded shelf name max_file_bytes text
-  pub journal_is : IsJournal plan text h
+  pub journal_is : IsJournal max_events plan text h
 
 -- why no journal was read: its text was not loaded, where line 0 is the journal as a whole; or it is none
 pub data StopsJournal (shelf : ShelfSeen) (name : Bytes) (plan : PlanView) (stop : Stop) : Type 0 where
   unloaded : StopsLoad shelf name max_file_bytes (Journal 0) stop → StopsJournal shelf name plan stop
-  refused : (text : Bytes) (line : ℕ) → IsLoaded shelf name max_file_bytes text → IsRefusedAt plan text line → stop ≡ Journal line
+  refused : (text : Bytes) (line : ℕ) → IsLoaded shelf name max_file_bytes text → IsRefusedAt max_events plan text line → stop ≡ Journal line
       → StopsJournal shelf name plan stop
   wanting : stop ≡ Memory → StopsJournal shelf name plan stop
 

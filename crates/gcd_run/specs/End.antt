@@ -1,4 +1,4 @@
--- How a call ends, before anything is written: its status, journal, place and text (this project's own rules).
+-- How a call ends, before anything is written: its status, journal, place and text.
 use Rattle.std.specs.Prelude.{ℕ, ◌*◌, ◌+◌, ◌%◌, Bool, if◌then◌else◌, List, [], ◌++◌, length, map, sum, Option, None, Some, codes}
 use Rattle.std.specs.List.{range_with_len}
 use Rattle.std.specs.Fmt.{decimal}

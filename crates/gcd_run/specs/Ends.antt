@@ -1,4 +1,4 @@
--- The ways in which a call can end, one rule for each (this project's own rules).
+-- The ways in which a call can end, one rule for each.
 use Rattle.std.specs.Prelude.{◌≡◌, ◌⊎◌, ℕ, List, [], Option, Some, None}
 use Rattle.gcd_outer.specs.Outside.{Bytes, SinkSeen, SinkFailed, Took, TookFront}
 use Rattle.gcd_words.specs.Asked.{Asked, request_of, run, check, big}

@@ -1,4 +1,4 @@
--- Contents that are loaded from a shelf, in order (this project's own rules).
+-- Contents that are loaded from a shelf, in order.
 use Rattle.std.specs.Prelude.{◌≡◌, ◌≤◌, ◌+◌, ℕ, List, [], ◌∷◌, Some, length, take, slice_get}
 use Rattle.gcd_plan.specs.Limits.{max_file_bytes, max_script_bytes}
 use Rattle.gcd_plan.specs.PlanView.{PlanView, FileView}

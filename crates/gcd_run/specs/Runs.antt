@@ -1,18 +1,17 @@
--- What `run` and `big` do, and what their runs promise (this project's own rules).
-use Rattle.std.specs.Prelude.{◌≡◌, ◌<◌, ◌+◌, ℕ, List, [], length, map, Some, slice_get, take, IsTrue}
+-- What `run` and `big` do, and what their runs promise.
+use Rattle.std.specs.Prelude.{◌≡◌, ◌<◌, ◌+◌, ℕ, List, length, map, Some}
+use Rattle.gcd_plan.specs.Limits.{max_events}
 use Rattle.gcd_plan.specs.PlanView.{PlanView}
 use Rattle.gcd_plan.specs.Validity.{IsPlan}
 use Rattle.gcd_event.specs.declared.event.Event.{Event}
-use Rattle.gcd_history.specs.Choice.{is_work, worker_of}
 use Rattle.gcd_history.specs.Ends.{HasState, IsFull}
-use Rattle.gcd_history.specs.History.{IsLawful, choice_of}
 use Rattle.gcd_history.specs.declared.state.State.{State}
 use Rattle.gcd_history.specs.declared.state.State.TheVariants.{Live}
 use Rattle.gcd_outer.specs.Outside.{Bytes, ClockState, Seen}
 use Rattle.gcd_outer.specs.Tells.{PollerState}
 use Rattle.gcd_script.specs.BigScript.{big_script}
 use Rattle.gcd_script.specs.Faults.{IsScriptOf}
-use Rattle.gcd_turn.specs.Promises.{IsHeard, IsTimely}
+use Rattle.gcd_loop.specs.Ran.{RunsPlan}
 use Rattle.gcd_words.specs.Asked.{RunAsked}
 use Rattle.gcd_run.specs.Calls.{Calls, InputsSeen, PollerFailed, only_loads, failed_listen, with_listen}
 use Rattle.gcd_run.specs.End.{End, ran_end, run_text, large_file, large_text, stop_end}
@@ -22,30 +21,18 @@ use Rattle.gcd_run.specs.declared.stop.Stop.TheVariants.{Unread, Memory}
 
 -- ## A run
 
--- each event of a worker is what worker 0 chooses at its place, the nodes from number 0 on
-abbrev pub FollowsChoice : PlanView → List Event → Type 0
-FollowsChoice plan h = (i : ℕ) (e : Event) → slice_get h i ≡ Some e → IsTrue (is_work e) → choice_of plan (take i h) 0 0 ≡ Some e
-
--- each event is by a worker whose number is below this one
-abbrev pub IsBy : (workers : ℕ) → List Event → Type 0
-IsBy workers h = (i : ℕ) (e : Event) → slice_get h i ≡ Some e → worker_of e < workers
-
 -- the run is over: it is halted, full or quiescent, as its state says
 pub record IsOver (plan : PlanView) (h : List Event) (state : State) : Type 0 where
   pub state_is : HasState plan h state
-  pub full : state ≡ Live → IsFull plan h
+  pub full : state ≡ Live → IsFull max_events plan h
 
--- A plan has run by so many workers, and this is the run's whole journal: it is lawful and over; with one worker each event is
+-- A plan has run by so many workers, and this is the run's whole journal: it is lawful; with one worker each event of a worker is
 -- what that worker chooses; no Tick is ahead of the clock, and moments waited for are due times; what the poller told stands in
--- it, in order; and it is halted just where the poller failed.
+-- it, in order, and it is halted just where the poller failed (`RunsPlan` says all this); and it is over, in this state.
 pub record Ran (poller : Seen PollerState) (clock : Seen ClockState) (plan : PlanView) (workers : ℕ) (h : List Event) (state : State)
     : Type 0 where
-  pub lawful : IsLawful plan h
+  pub run : RunsPlan max_events plan workers poller clock h
   pub over : IsOver plan h state
-  pub by : IsBy workers h
-  pub chosen : workers ≡ 1 → FollowsChoice plan h
-  pub timely : IsTimely plan [] h clock
-  pub heard : IsHeard plan [] h poller
 
 -- a plan has run over these contents of its files, and this is told of the run, by its journal and its state
 pub record TellsRun (poller : Seen PollerState) (clock : Seen ClockState) (plan : PlanView) (workers : ℕ)

@@ -1,4 +1,4 @@
--- The number of each status, and the status of a run that is over (this project's own rules).
+-- The number of each status, and the status of a run that is over.
 use Rattle.std.specs.Prelude.{ℕ}
 use Rattle.gcd_history.specs.declared.state.State.{State}
 use Rattle.gcd_history.specs.declared.state.State.TheVariants.{Drained as RunDrained, Stuck as RunStuck, Misused as RunMisused, Halted as RunHalted, Live as RunLive}

@@ -14,7 +14,7 @@ use crate::story::Story;
 use gcd_event::Event;
 use gcd_journal::{CheckFault, JournalFault, check, read_journal};
 use gcd_outer::Shelf;
-use gcd_plan::{MAX_FILE_BYTES, Plan};
+use gcd_plan::{MAX_EVENTS, MAX_FILE_BYTES, Plan};
 use gcd_words::CheckRequest;
 use std::alloc::{AllocError, Global};
 
@@ -32,14 +32,14 @@ fn load_journal<S: Shelf>(
 {
     let too_long = Stop::Journal { line: 0 };
     let text = load_whole(alloc, shelf, name, MAX_FILE_BYTES, too_long)?;
-    match read_journal(alloc, plan, &text) {
+    match read_journal(alloc, plan, MAX_EVENTS, &text) {
         Ok(journal) => Ok(journal),
         Err(JournalFault::Refused { line }) => Err(Stop::Journal { line }),
         Err(JournalFault::Memory) => Err(Stop::Memory),
     }
 }
 
-// The events are judged. An `Err` comes of want of memory.
+// The events are judged. An `Err` comes where memory runs out.
 fn judge(alloc: Global, plan: &Plan, journal: Vec<Event>) -> Result<Story, AllocError>
     requires few { length journal.items ≤ max_events }
     ensures { IfOk result (λ s. IsJudged plan.now journal.items (end_of s)) }
@@ -68,7 +68,7 @@ fn check_journal<S: Shelf>(
     }
 }
 
-/// What is told of `check SCRIPT JOURNAL`. An `Err` comes of want of memory.
+/// What is told of `check SCRIPT JOURNAL`. An `Err` comes where memory runs out.
 pub fn tell_check<S: Shelf>(
     alloc: Global,
     request: CheckRequest,

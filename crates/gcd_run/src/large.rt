@@ -6,6 +6,7 @@ ghost use Rattle.gcd_plan.specs.PlanView.{PlanView};
 ghost use Rattle.gcd_plan.specs.Validity.{IsPlan};
 ghost use Rattle.gcd_history.specs.Report.{last_line, line_end};
 ghost use Rattle.gcd_journal.specs.Spoken.{AreSpoken};
+ghost use Rattle.gcd_turn.specs.Asked.{KeepsListens};
 ghost use Rattle.gcd_run.specs.Calls.{seen_by};
 ghost use Rattle.gcd_run.specs.End.{large_file, ran_end};
 ghost use Rattle.gcd_run.specs.Runs.{BigEnds, IsLargeScript};
@@ -18,7 +19,7 @@ use gcd_outer::{Clock, Poller};
 use gcd_plan::Plan;
 use gcd_script::{ParseFault, big_text, parse};
 use gcd_words::BigRequest;
-use gcd_workers::Worked;
+use gcd_workers::Outcome;
 use std::alloc::{AllocError, Global};
 use std::sync::Wait;
 use std::thread::Threads;
@@ -74,7 +75,7 @@ fn total(values: &[u64]) -> u128
 }
 
 // `blocks N` and `total S`, and then the report's last line.
-fn text_of(alloc: Global, plan: &Plan, run: &Worked, count: u16) -> Result<Vec<u8>, AllocError>
+fn text_of(alloc: Global, plan: &Plan, run: &Outcome, count: u16) -> Result<Vec<u8>, AllocError>
     requires few { length run.now.values.items ≤ max_blocks }
     requires spoken { AreSpoken plan.now run.now.journal.items }
     ensures { IfOk result (λ text. text.items ≡ codes "blocks " ++ (decimal count ++ (line_end
@@ -87,8 +88,8 @@ fn text_of(alloc: Global, plan: &Plan, run: &Worked, count: u16) -> Result<Vec<u
     Ok(text)
 }
 
-// The story of a run of the large script, of which no more is kept than its journal. An `Err` comes of want of memory.
-fn story_of(alloc: Global, plan: &Plan, run: Worked, count: u16) -> Result<Story, AllocError>
+// The story of a run of the large script, of which no more is kept than its journal. An `Err` comes where memory runs out.
+fn story_of(alloc: Global, plan: &Plan, run: Outcome, count: u16) -> Result<Story, AllocError>
     requires few { length run.values.items ≤ max_blocks }
     requires spoken { AreSpoken plan.now run.journal.items }
     ensures { IfOk result (λ s. end_of s ≡ ran_end run.state run.journal.items (codes "blocks " ++ (decimal count ++ (line_end
@@ -99,8 +100,8 @@ fn story_of(alloc: Global, plan: &Plan, run: Worked, count: u16) -> Result<Story
     Story::ran(state, journal_of(run), text)
 }
 
-/// `big N`: the large script is made and read, and its plan runs over files that are made too. An `Err` comes of want of
-/// memory.
+/// `big N`: the large script is made and read, and its plan runs over files that are made too. An `Err` comes where
+/// memory runs out.
 pub fn tell_large<R: Threads + Wait + Sync, P: Poller, C: Clock>(
     rt: &R,
     alloc: Global,
@@ -112,8 +113,7 @@ pub fn tell_large<R: Threads + Wait + Sync, P: Poller, C: Clock>(
     requires count { (0 < request.count) × (request.count < max_blocks) }
     requires workers { (0 < request.workers) × (request.workers ≤ max_workers) }
     ensures told { IfOk result (λ s. BigEnds (seen_by P.tells P.state poller.old poller.new) (seen_by C.tells C.state clock.old clock.new) request.count request.workers (end_of s)) }
-    ensures listens { P.tells ≡ true → (P.state poller.new).listens ≡ (P.state poller.old).listens }
-    ensures addresses { P.tells ≡ true → (P.state poller.new).addresses ≡ (P.state poller.old).addresses }
+    ensures kept { KeepsListens P.tells (P.state poller.old) (P.state poller.new) }
 {
     let plan = large_plan(alloc, u32::from(request.count))?;
     let files = large_files(alloc, &plan)?;

@@ -8,7 +8,9 @@ ghost use Rattle.gcd_history.specs.Ends.{HasState};
 ghost use Rattle.gcd_history.specs.Values.{value_of};
 ghost use Rattle.gcd_history.specs.declared.state.State.{State};
 ghost use Rattle.gcd_machine.specs.Stands.{StandsFor};
-ghost use Rattle.gcd_run.specs.Calls.{SomeCalls, inputs_seen, seen_by};
+ghost use Rattle.gcd_outer.specs.Outside.{shelf_seen};
+ghost use Rattle.gcd_turn.specs.Asked.{KeepsListens};
+ghost use Rattle.gcd_run.specs.Calls.{SomeCalls, seen_by};
 ghost use Rattle.gcd_run.specs.Listens.{FailsToListen, Listened};
 ghost use Rattle.gcd_run.specs.End.{ran_end, run_text};
 ghost use Rattle.gcd_run.specs.Runs.{RunCalls, RunEnds, StopsRun, TellsRun};
@@ -24,7 +26,7 @@ use gcd_journal::{write_journal, write_report_by};
 use gcd_outer::{Clock, Poller, Shelf};
 use gcd_plan::Plan;
 use gcd_words::RunRequest;
-use gcd_workers::Worked;
+use gcd_workers::Outcome;
 use std::alloc::{AllocError, Global};
 use std::sync::Wait;
 use std::thread::Threads;
@@ -66,7 +68,7 @@ fn add_journal(
 fn text_of(
     alloc: Global,
     plan: &Plan,
-    run: &Worked,
+    run: &Outcome,
     with_journal: bool,
 ) -> Result<Vec<u8>, AllocError>
     requires valid { IsPlan plan.now }
@@ -91,11 +93,11 @@ fn text_of(
     Ok(text)
 }
 
-// The story of a run, of which no more is kept than its journal. An `Err` comes of want of memory.
+// The story of a run, of which no more is kept than its journal. An `Err` comes where memory runs out.
 fn story_of(
     alloc: Global,
     plan: &Plan,
-    run: Worked,
+    run: Outcome,
     with_journal: bool,
 ) -> Result<Story, AllocError>
     requires valid { IsPlan plan.now }
@@ -112,7 +114,7 @@ fn story_of(
     Story::ran(state, journal_of(run), text)
 }
 
-// The plan runs over its files. An `Err` comes of want of memory.
+// The plan runs over its files. An `Err` comes where memory runs out.
 fn run_plan<R: Threads + Wait + Sync, P: Poller, C: Clock>(
     rt: &R,
     alloc: Global,
@@ -128,8 +130,7 @@ fn run_plan<R: Threads + Wait + Sync, P: Poller, C: Clock>(
     requires workers { (0 < workers) × (workers ≤ max_workers) }
     requires unwatched { (feed : ℕ) → (P.state poller.old).watched feed ≡ false }
     ensures told { IfOk result (λ s. TellsRun (seen_by P.tells P.state poller.old poller.new) (seen_by C.tells C.state clock.old clock.new) plan.now workers (run_text with_journal plan.now (map (λ f. f.items) files.now)) (end_of s)) }
-    ensures listens { P.tells ≡ true → (P.state poller.new).listens ≡ (P.state poller.old).listens }
-    ensures addresses { P.tells ≡ true → (P.state poller.new).addresses ≡ (P.state poller.old).addresses }
+    ensures kept { KeepsListens P.tells (P.state poller.old) (P.state poller.new) }
 {
     let run = run_by(rt, alloc, plan, files, workers, poller, clock)?;
     let story = story_of(alloc, plan, run, with_journal)?;
@@ -147,8 +148,8 @@ fn run_script<R: Threads + Wait + Sync, S: Shelf, P: Poller, C: Clock>(
 ) -> Result<Story, Stop>
     requires unwatched { (feed : ℕ) → (P.state poller.old).watched feed ≡ false }
     requires workers { (0 < request.workers) × (request.workers ≤ max_workers) }
-    ensures told { IfOk result (λ s. SomeCalls (inputs_seen S.tells S.content S.loads S.faults P.tells P.state C.tells C.state shelf.old shelf.new poller.old poller.new clock.old clock.new) (λ calls. RunEnds (inputs_seen S.tells S.content S.loads S.faults P.tells P.state C.tells C.state shelf.old shelf.new poller.old poller.new clock.old clock.new) (run_asked request.entry) calls (end_of s))) }
-    ensures stopped { IfErr result (λ stop. SomeCalls (inputs_seen S.tells S.content S.loads S.faults P.tells P.state C.tells C.state shelf.old shelf.new poller.old poller.new clock.old clock.new) (λ calls. StopsRun (inputs_seen S.tells S.content S.loads S.faults P.tells P.state C.tells C.state shelf.old shelf.new poller.old poller.new clock.old clock.new) (run_asked request.entry) calls stop)) }
+    ensures told { IfOk result (λ s. SomeCalls (record { shelf = shelf_seen S.tells S.content S.loads S.faults shelf.old shelf.new; poller = seen_by P.tells P.state poller.old poller.new; clock = seen_by C.tells C.state clock.old clock.new }) (λ calls. RunEnds (record { shelf = shelf_seen S.tells S.content S.loads S.faults shelf.old shelf.new; poller = seen_by P.tells P.state poller.old poller.new; clock = seen_by C.tells C.state clock.old clock.new }) (run_asked request.entry) calls (end_of s))) }
+    ensures stopped { IfErr result (λ stop. SomeCalls (record { shelf = shelf_seen S.tells S.content S.loads S.faults shelf.old shelf.new; poller = seen_by P.tells P.state poller.old poller.new; clock = seen_by C.tells C.state clock.old clock.new }) (λ calls. StopsRun (record { shelf = shelf_seen S.tells S.content S.loads S.faults shelf.old shelf.new; poller = seen_by P.tells P.state poller.old poller.new; clock = seen_by C.tells C.state clock.old clock.new }) (run_asked request.entry) calls stop)) }
 {
     let (plan, files) = load_all(alloc, shelf, request.script)?;
     listen_at(poller, request.listen)?;
@@ -167,7 +168,7 @@ fn run_script<R: Threads + Wait + Sync, S: Shelf, P: Poller, C: Clock>(
     }
 }
 
-/// What is told of `run SCRIPT`. An `Err` comes of want of memory.
+/// What is told of `run SCRIPT`. An `Err` comes where memory runs out.
 pub fn tell_run<R: Threads + Wait + Sync, S: Shelf, P: Poller, C: Clock>(
     rt: &R,
     alloc: Global,
@@ -178,8 +179,8 @@ pub fn tell_run<R: Threads + Wait + Sync, S: Shelf, P: Poller, C: Clock>(
 ) -> Result<Story, AllocError>
     requires unwatched { (feed : ℕ) → (P.state poller.old).watched feed ≡ false }
     requires workers { (0 < request.workers) × (request.workers ≤ max_workers) }
-    ensures told { IfOk result (λ s. SomeCalls (inputs_seen S.tells S.content S.loads S.faults P.tells P.state C.tells C.state shelf.old shelf.new poller.old poller.new clock.old clock.new) (λ calls. RunEnds (inputs_seen S.tells S.content S.loads S.faults P.tells P.state C.tells C.state shelf.old shelf.new poller.old poller.new clock.old clock.new) (run_asked request.entry) calls (end_of s))) }
-    ensures wanting { OnErr result (SomeCalls (inputs_seen S.tells S.content S.loads S.faults P.tells P.state C.tells C.state shelf.old shelf.new poller.old poller.new clock.old clock.new) (RunCalls (inputs_seen S.tells S.content S.loads S.faults P.tells P.state C.tells C.state shelf.old shelf.new poller.old poller.new clock.old clock.new) (run_asked request.entry))) }
+    ensures told { IfOk result (λ s. SomeCalls (record { shelf = shelf_seen S.tells S.content S.loads S.faults shelf.old shelf.new; poller = seen_by P.tells P.state poller.old poller.new; clock = seen_by C.tells C.state clock.old clock.new }) (λ calls. RunEnds (record { shelf = shelf_seen S.tells S.content S.loads S.faults shelf.old shelf.new; poller = seen_by P.tells P.state poller.old poller.new; clock = seen_by C.tells C.state clock.old clock.new }) (run_asked request.entry) calls (end_of s))) }
+    ensures wanting { OnErr result (SomeCalls (record { shelf = shelf_seen S.tells S.content S.loads S.faults shelf.old shelf.new; poller = seen_by P.tells P.state poller.old poller.new; clock = seen_by C.tells C.state clock.old clock.new }) (RunCalls (record { shelf = shelf_seen S.tells S.content S.loads S.faults shelf.old shelf.new; poller = seen_by P.tells P.state poller.old poller.new; clock = seen_by C.tells C.state clock.old clock.new }) (run_asked request.entry))) }
 {
     match run_script(rt, alloc, request, shelf, poller, clock) {
         Ok(story) => Ok(story),

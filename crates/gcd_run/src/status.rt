@@ -4,7 +4,7 @@ ghost use Rattle.gcd_run.specs.StatusCodes.{status_code, status_of};
 
 use gcd_history::State;
 
-/// How a call ends (this project's own rules).
+/// How a call ends.
 #[derive(Clone, Copy, Debug, PartialEq, Eq)]
 pub enum Status {
     /// The run drained: nothing may come next, and each block that was submitted has ended. Or the journal that was judged is

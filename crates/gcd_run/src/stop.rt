@@ -1,6 +1,6 @@
 // Why a call stops before it has something to tell.
 
-/// Why a call stops (this project's own rules).
+/// Why a call stops.
 #[derive(Clone, Copy)]
 pub enum Stop {
     /// The script, the journal or a file of the script can't be read, or the address can't be listened at.

@@ -8,7 +8,7 @@ use gcd_event::Event;
 use gcd_history::State;
 use std::alloc::{AllocError, Global};
 
-/// What the top call answers (this project's own rules).
+/// What the top call answers.
 #[derive(Drop)]
 pub struct Ended {
     /// The number of the status with which the program ends ([`Status::code`]).
@@ -92,7 +92,7 @@ impl Story {
         })
     }
 
-    /// The call stopped. An `Err` comes of want of memory.
+    /// The call stopped. An `Err` comes where memory runs out.
     pub fn stopped(alloc: Global, stop: Stop) -> Result<Self, AllocError>
         ensures { IfOk result (λ s. stop_end stop ≡ Some (end_of s)) }
     {

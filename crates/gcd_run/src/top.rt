@@ -1,10 +1,12 @@
 // The top call.
-ghost use Rattle.std.specs.Prelude.{◌≡◌, ℕ, false, map, IfOk, OnErr};
-ghost use Rattle.gcd_outer.specs.Outside.{sink_seen};
-ghost use Rattle.gcd_run.specs.Calls.{SomeCalls, inputs_seen};
+ghost use Rattle.std.specs.Prelude.{◌≡◌, ℕ, true, false, map, is_some, IfOk, OnErr};
+ghost use Rattle.gcd_outer.specs.Outside.{shelf_seen, sink_seen};
+ghost use Rattle.gcd_run.specs.Calls.{SomeCalls, seen_by};
 ghost use Rattle.gcd_run.specs.Always.{Always};
 ghost use Rattle.gcd_run.specs.Statuses.{Says};
 ghost use Rattle.gcd_run.specs.declared.status.Status.{Status as AnyStatus};
+ghost use Rattle.gcd_run.specs.declared.status.Status.TheVariants.{NoCommand};
+ghost use Rattle.gcd_words.specs.Asked.{AreTaken, request_of};
 ghost use Rattle.gcd_run.specs.Ends.{CallEnds, HasStatus, IsWritten, WordsCall, WordsEnd};
 ghost use Rattle.gcd_run.specs.Stories.{end_of};
 
@@ -19,7 +21,7 @@ use std::alloc::{AllocError, Global};
 use std::sync::Wait;
 use std::thread::Threads;
 
-// What is told at the words. An `Err` comes of want of memory.
+// What is told at the words. An `Err` comes where memory runs out.
 fn tell<R: Threads + Wait + Sync, S: Shelf, P: Poller, C: Clock>(
     rt: &R,
     alloc: Global,
@@ -29,8 +31,9 @@ fn tell<R: Threads + Wait + Sync, S: Shelf, P: Poller, C: Clock>(
     clock: &mut C,
 ) -> Result<Story, AllocError>
     requires unwatched { (feed : ℕ) → (P.state poller.old).watched feed ≡ false }
-    ensures told { IfOk result (λ s. SomeCalls (inputs_seen S.tells S.content S.loads S.faults P.tells P.state C.tells C.state shelf.old shelf.new poller.old poller.new clock.old clock.new) (λ calls. WordsEnd (inputs_seen S.tells S.content S.loads S.faults P.tells P.state C.tells C.state shelf.old shelf.new poller.old poller.new clock.old clock.new) (map (λ w. w.now) words.now) calls (end_of s))) }
-    ensures wanting { OnErr result (SomeCalls (inputs_seen S.tells S.content S.loads S.faults P.tells P.state C.tells C.state shelf.old shelf.new poller.old poller.new clock.old clock.new) (WordsCall (inputs_seen S.tells S.content S.loads S.faults P.tells P.state C.tells C.state shelf.old shelf.new poller.old poller.new clock.old clock.new) (map (λ w. w.now) words.now))) }
+    ensures told { IfOk result (λ s. SomeCalls (record { shelf = shelf_seen S.tells S.content S.loads S.faults shelf.old shelf.new; poller = seen_by P.tells P.state poller.old poller.new; clock = seen_by C.tells C.state clock.old clock.new }) (λ calls. WordsEnd (record { shelf = shelf_seen S.tells S.content S.loads S.faults shelf.old shelf.new; poller = seen_by P.tells P.state poller.old poller.new; clock = seen_by C.tells C.state clock.old clock.new }) (map (λ w. w.now) words.now) calls (end_of s))) }
+    ensures taken { IfOk result (λ s. AreTaken (map (λ w. w.now) words.now) → is_some (request_of (map (λ w. w.now) words.now)) ≡ true) }
+    ensures wanting { OnErr result (SomeCalls (record { shelf = shelf_seen S.tells S.content S.loads S.faults shelf.old shelf.new; poller = seen_by P.tells P.state poller.old poller.new; clock = seen_by C.tells C.state clock.old clock.new }) (WordsCall (record { shelf = shelf_seen S.tells S.content S.loads S.faults shelf.old shelf.new; poller = seen_by P.tells P.state poller.old poller.new; clock = seen_by C.tells C.state clock.old clock.new }) (map (λ w. w.now) words.now))) }
 {
     match read_words(alloc, words)? {
         None => Story::usage(alloc),
@@ -67,7 +70,8 @@ fn call<R: Threads + Wait + Sync, S: Shelf, K: Sink, P: Poller, C: Clock>(
     clock: &mut C,
 ) -> Ended
     requires unwatched { (feed : ℕ) → (P.state poller.old).watched feed ≡ false }
-    ensures { CallEnds (inputs_seen S.tells S.content S.loads S.faults P.tells P.state C.tells C.state shelf.old shelf.new poller.old poller.new clock.old clock.new) (sink_seen K.tells K.taken K.faults out.old out.new) (map (λ w. w.now) words.now) result }
+    ensures ended { CallEnds (record { shelf = shelf_seen S.tells S.content S.loads S.faults shelf.old shelf.new; poller = seen_by P.tells P.state poller.old poller.new; clock = seen_by C.tells C.state clock.old clock.new }) (sink_seen K.tells K.taken K.faults out.old out.new) (map (λ w. w.now) words.now) result }
+    ensures named { HasStatus result NoCommand → AreTaken (map (λ w. w.now) words.now) → ⊥ }
 {
     match tell(rt, alloc, words, shelf, poller, clock) {
         Ok(story) => write_story(out, story),
@@ -96,7 +100,7 @@ fn call<R: Threads + Wait + Sync, S: Shelf, K: Sink, P: Poller, C: Clock>(
 /// | `JournalRefused`, 9 | `check`: the text is no journal or is too long, and `at` is the line and 1; or an event is not permitted, and `at` is its index and 2 | `journal refused: line L`, `journal refused: event I` |
 ///
 /// Each is judged at its step, where no earlier step ended the call. No feed of the poller is watched yet. `journal` is that of
-/// the run or, for `check`, the one that was read. It may wait for others (this project's own rules).
+/// the run or, for `check`, the one that was read. It may wait for others.
 pub fn gcd_main<R: Threads + Wait + Sync, S: Shelf, K: Sink, P: Poller, C: Clock>(
     rt: &R,
     alloc: Global,
@@ -108,13 +112,16 @@ pub fn gcd_main<R: Threads + Wait + Sync, S: Shelf, K: Sink, P: Poller, C: Clock
 ) -> Ended
     requires unwatched { (feed : ℕ) → (P.state poller.old).watched feed ≡ false }
     // How the call ends: one relation, with a rule for each way, which counts the calls on the outside.
-    ensures ended { CallEnds (inputs_seen S.tells S.content S.loads S.faults P.tells P.state C.tells C.state shelf.old shelf.new poller.old poller.new clock.old clock.new) (sink_seen K.tells K.taken K.faults out.old out.new) (map (λ w. w.now) words.now) result }
+    ensures ended { CallEnds (record { shelf = shelf_seen S.tells S.content S.loads S.faults shelf.old shelf.new; poller = seen_by P.tells P.state poller.old poller.new; clock = seen_by C.tells C.state clock.old clock.new }) (sink_seen K.tells K.taken K.faults out.old out.new) (map (λ w. w.now) words.now) result }
 
     // What the status that it answers says.
-    ensures says { (status : AnyStatus) → HasStatus result status → Says (inputs_seen S.tells S.content S.loads S.faults P.tells P.state C.tells C.state shelf.old shelf.new poller.old poller.new clock.old clock.new) (sink_seen K.tells K.taken K.faults out.old out.new) (map (λ w. w.now) words.now) result status }
+    ensures says { (status : AnyStatus) → HasStatus result status → Says (record { shelf = shelf_seen S.tells S.content S.loads S.faults shelf.old shelf.new; poller = seen_by P.tells P.state poller.old poller.new; clock = seen_by C.tells C.state clock.old clock.new }) (sink_seen K.tells K.taken K.faults out.old out.new) (map (λ w. w.now) words.now) result status }
+
+    // Words that name a command, and that the parser takes, are never answered by the usage line.
+    ensures named { HasStatus result NoCommand → AreTaken (map (λ w. w.now) words.now) → ⊥ }
 
     // What has to be told.
-    ensures always { Always (inputs_seen S.tells S.content S.loads S.faults P.tells P.state C.tells C.state shelf.old shelf.new poller.old poller.new clock.old clock.new) (sink_seen K.tells K.taken K.faults out.old out.new) (map (λ w. w.now) words.now) result }
+    ensures always { Always (record { shelf = shelf_seen S.tells S.content S.loads S.faults shelf.old shelf.new; poller = seen_by P.tells P.state poller.old poller.new; clock = seen_by C.tells C.state clock.old clock.new }) (sink_seen K.tells K.taken K.faults out.old out.new) (map (λ w. w.now) words.now) result }
 {
     call(rt, alloc, words, shelf, out, poller, clock)
 }

@@ -3,6 +3,7 @@ ghost use Rattle.std.specs.Prelude.{◌≡◌, ℕ, false, IfOk};
 mod cases;
 mod hostile;
 mod journals;
+mod large;
 mod limits;
 mod memory;
 mod outside;
@@ -14,12 +15,13 @@ use gcd_outer::{JumpClock, ListPoller, MapShelf, Poller, Tell, Told, VecSink};
 use gcd_run::gcd_main;
 use hostile::{FAILURES, MALFORMED};
 use journals::{FORGED, NO_JOURNALS, TREES};
+use large::{LARGE, LARGE_SCRIPTS, large_bytes};
 use std::alloc::{AllocError, Global};
 use std::process::Abort;
 use std::sync::Wait;
 use std::test::Fail;
 use std::thread::Threads;
-use subjects::{CALLS_AND_TARGETS, REFERENCES_AND_WAITS, SOURCES_AND_FEEDS};
+use subjects::{CALLS_AND_TARGETS, MISUSED, REFERENCES_AND_WAITS, SOURCES_AND_FEEDS};
 use teams::end_alike;
 
 fn answer(feed: u32, bytes: u32, ended: bool) -> Told {
@@ -56,9 +58,15 @@ fn shelf_of(alloc: Global, case: &Case, script: &[u8]) -> Result<MapShelf, Alloc
     let mut shelf = MapShelf::new(alloc);
     shelf.put("s", script)?;
     shelf.put("j", case.journal.as_bytes())?;
-    shelf.put("log.txt", b"a\nbb\nccc\n")?;
+    if !case.lacks_log {
+        shelf.put("log.txt", b"a\nbb\nccc\n")?;
+    }
     shelf.put("e", b"")?;
     shelf.put("f.txt", b"a\n")?;
+    // The file of the large script, where it is named.
+    if case.script.starts_with("file data ") {
+        shelf.put("data", &large_bytes(alloc)?)?;
+    }
     if let Some(load) = case.failing_load {
         shelf.fail(load)?;
     }
@@ -93,6 +101,9 @@ fn answers_from(
     if let Some(events) = case.events {
         assert!(rt; ended.journal.len() == events, "{what}");
     }
+    if let Some(history) = case.history {
+        assert!(rt; ended.journal.as_slice() == history, "{what}");
+    }
     assert!(rt; out.bytes() == case.text.as_bytes(), "{what}");
     Ok(())
 }
@@ -119,72 +130,31 @@ fn are_answered(
 }
 
 #[test]
-fn runs_blocks(rt: HostRuntime) -> Result<(), Fail> {
-    are_answered(&rt, rt.alloc(), &BLOCKS)
-}
-
-#[test]
-fn runs_targets_and_groups(rt: HostRuntime) -> Result<(), Fail> {
-    are_answered(&rt, rt.alloc(), &TARGETS_AND_GROUPS)
-}
-
-#[test]
-fn calls_and_targets_follow_the_pages(rt: HostRuntime) -> Result<(), Fail> {
-    are_answered(&rt, rt.alloc(), &CALLS_AND_TARGETS)
-}
-
-#[test]
-fn references_and_waits_follow_the_pages(rt: HostRuntime) -> Result<(), Fail> {
-    are_answered(&rt, rt.alloc(), &REFERENCES_AND_WAITS)
-}
-
-#[test]
-fn sources_and_feeds_follow_the_pages(rt: HostRuntime) -> Result<(), Fail> {
-    are_answered(&rt, rt.alloc(), &SOURCES_AND_FEEDS)
-}
-
-#[test]
-fn runs_sources(rt: HostRuntime) -> Result<(), Fail> {
+fn runs_follow_the_pages(rt: HostRuntime) -> Result<(), Fail> {
+    are_answered(&rt, rt.alloc(), &BLOCKS)?;
+    are_answered(&rt, rt.alloc(), &TARGETS_AND_GROUPS)?;
+    are_answered(&rt, rt.alloc(), &CALLS_AND_TARGETS)?;
+    are_answered(&rt, rt.alloc(), &REFERENCES_AND_WAITS)?;
+    are_answered(&rt, rt.alloc(), &SOURCES_AND_FEEDS)?;
+    are_answered(&rt, rt.alloc(), &MISUSED)?;
+    are_answered(&rt, rt.alloc(), &LARGE_SCRIPTS)?;
     are_answered(&rt, rt.alloc(), &SOURCES)
 }
 
 #[test]
 fn each_failure_has_its_status(rt: HostRuntime) -> Result<(), Fail> {
-    are_answered(&rt, rt.alloc(), &FAILURES)
-}
-
-#[test]
-fn malformed_lines_are_named(rt: HostRuntime) -> Result<(), Fail> {
-    are_answered(&rt, rt.alloc(), &MALFORMED)
-}
-
-#[test]
-fn refuses_scripts(rt: HostRuntime) -> Result<(), Fail> {
-    are_answered(&rt, rt.alloc(), &REFUSALS)
-}
-
-#[test]
-fn tells_faults(rt: HostRuntime) -> Result<(), Fail> {
+    are_answered(&rt, rt.alloc(), &FAILURES)?;
+    are_answered(&rt, rt.alloc(), &MALFORMED)?;
+    are_answered(&rt, rt.alloc(), &REFUSALS)?;
     are_answered(&rt, rt.alloc(), &FAULTS)
 }
 
 #[test]
 fn judges_journals_and_runs_the_large_script(rt: HostRuntime) -> Result<(), Fail> {
-    are_answered(&rt, rt.alloc(), &COMMANDS)
-}
-
-#[test]
-fn judges_forged_journals(rt: HostRuntime) -> Result<(), Fail> {
-    are_answered(&rt, rt.alloc(), &FORGED)
-}
-
-#[test]
-fn refuses_what_is_no_journal(rt: HostRuntime) -> Result<(), Fail> {
-    are_answered(&rt, rt.alloc(), &NO_JOURNALS)
-}
-
-#[test]
-fn judges_journals_of_trees(rt: HostRuntime) -> Result<(), Fail> {
+    are_answered(&rt, rt.alloc(), &COMMANDS)?;
+    are_answered(&rt, rt.alloc(), &FORGED)?;
+    are_answered(&rt, rt.alloc(), &NO_JOURNALS)?;
+    are_answered(&rt, rt.alloc(), &LARGE)?;
     are_answered(&rt, rt.alloc(), &TREES)
 }
 
@@ -227,29 +197,16 @@ fn a_feed_that_becomes_live_late_is_heard(rt: HostRuntime) -> Result<(), Fail> {
     Ok(())
 }
 
-#[test]
-fn teams_run_blocks(rt: HostRuntime) -> Result<(), Fail> {
-    end_alike(&rt, rt.alloc(), &BLOCKS)
-}
-
-#[test]
-fn teams_run_targets_and_groups(rt: HostRuntime) -> Result<(), Fail> {
-    end_alike(&rt, rt.alloc(), &TARGETS_AND_GROUPS)
-}
-
+// Teams bring the runs of these tables to the same end with the same report, misuse among these, by journals that are lawful.
 #[test]
 fn teams_follow_the_pages(rt: HostRuntime) -> Result<(), Fail> {
+    end_alike(&rt, rt.alloc(), &BLOCKS)?;
+    end_alike(&rt, rt.alloc(), &TARGETS_AND_GROUPS)?;
     end_alike(&rt, rt.alloc(), &CALLS_AND_TARGETS)?;
-    end_alike(&rt, rt.alloc(), &REFERENCES_AND_WAITS)
-}
-
-#[test]
-fn teams_run_sources_and_feeds(rt: HostRuntime) -> Result<(), Fail> {
+    end_alike(&rt, rt.alloc(), &REFERENCES_AND_WAITS)?;
     end_alike(&rt, rt.alloc(), &SOURCES)?;
-    end_alike(&rt, rt.alloc(), &SOURCES_AND_FEEDS)
-}
-
-#[test]
-fn teams_meet_each_misuse(rt: HostRuntime) -> Result<(), Fail> {
+    end_alike(&rt, rt.alloc(), &SOURCES_AND_FEEDS)?;
+    end_alike(&rt, rt.alloc(), &MISUSED)?;
+    end_alike(&rt, rt.alloc(), &LARGE_SCRIPTS)?;
     end_alike(&rt, rt.alloc(), &REFUSALS)
 }

@@ -1,4 +1,4 @@
--- What the lines of acts mean, by the words after the first (this project's own rules). An act belongs to the body that is
+-- What the lines of acts mean, by the words after the first. An act belongs to the body that is
 -- open; where none is open the line is of no form.
 use Rattle.std.specs.Prelude.{ℕ, List, [], ◌∷◌, Option, Ok, Err}
 use Rattle.std.specs.Option.{option_map_or}

@@ -1,4 +1,4 @@
--- What a form asks of an object's kind (this project's own rules).
+-- What a form asks of an object's kind.
 use Rattle.std.specs.Prelude.{Bool, true}
 use Rattle.gcd_plan.specs.Kinds.{is_queue_kind, is_source_kind, is_node_kind, is_group_kind, is_semaphore_kind, is_merge_kind}
 use Rattle.gcd_plan.specs.declared.kind.Kind.{Kind}

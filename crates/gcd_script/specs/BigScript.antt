@@ -1,4 +1,4 @@
--- The script of the large input (this project's own rule): n blocks that sum ranges of one file, on six queues.
+-- The script of the large input: n blocks that sum ranges of one file, on six queues.
 use Rattle.std.specs.Prelude.{ℕ, ◌*◌, ◌%◌, ◌==◌, if◌then◌else◌, List, [], ◌∷◌, ◌++◌, map, codes, decimal}
 use Rattle.std.specs.List.{flat_map, range_with_len, slice_index_or}
 

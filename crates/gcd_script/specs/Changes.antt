@@ -1,4 +1,4 @@
--- What a right line adds to a draft (this project's own rules). Every declaration closes the body that was open; a block,
+-- What a right line adds to a draft. Every declaration closes the body that was open; a block,
 -- a handler and `main` open one.
 use Rattle.std.specs.Prelude.{ℕ, ◌+◌, Bool, true, false, List, [], ◌∷◌, ◌++◌, length, Some, None, slice_get, slice_set}
 use Rattle.std.specs.Option.{option_map_or}

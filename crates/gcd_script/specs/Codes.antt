@@ -1,4 +1,4 @@
--- The code of each refusal of a line (this project's own rule).
+-- The code of each refusal of a line.
 use Rattle.std.specs.Prelude.{ℕ}
 use Rattle.gcd_script.specs.declared.refusal.Refusal.{Refusal}
 use Rattle.gcd_script.specs.declared.refusal.Refusal.TheVariants.{NoForm, BadName, UnknownName, OtherKind, BadNumber, Repeated, InHandler, PastLimit, NotOneMain}

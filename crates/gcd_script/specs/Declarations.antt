@@ -1,4 +1,4 @@
--- What the lines that declare something mean, by the words after the first (this project's own rules). Each definition has
+-- What the lines that declare something mean, by the words after the first. Each definition has
 -- an equation for each number of words that its form may have; words of another number are no form.
 use Rattle.std.specs.Prelude.{ℕ, ◌&&◌, not, Bool, true, false, if◌then◌else◌, List, [], ◌∷◌, Some, None, Ok, Err, codes}
 use Rattle.std.specs.Option.{option_map_or}

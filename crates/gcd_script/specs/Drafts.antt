@@ -1,4 +1,4 @@
--- What the lines of a script declare so far: the plan, and the body that is open (this project's own rules).
+-- What the lines of a script declare so far: the plan, and the body that is open.
 use Rattle.std.specs.Prelude.{ℕ, ◌+◌, Bool, false, List, [], ◌∷◌, Option, None, codes}
 use Rattle.gcd_plan.specs.PlanView.{PlanView, BlkView}
 use Rattle.gcd_plan.specs.Limits.{default_until}

@@ -1,4 +1,4 @@
--- What the words of a line mean, by its first word (this project's own rules).
+-- What the words of a line mean, by its first word.
 use Rattle.std.specs.Prelude.{ℕ, List, [], ◌∷◌, Err}
 use Rattle.std.specs.Option.{option_map_or}
 use Rattle.gcd_script.specs.declared.keyword.Keyword.{Keyword}

@@ -1,5 +1,4 @@
--- What is judged of a whole line: codes above those of words, so that they count only where all its words have a meaning
--- (this project's own rules).
+-- What is judged of a whole line: codes above those of words, so that they count only where all its words have a meaning.
 use Rattle.std.specs.Prelude.{ℕ, ◌==◌, nat_lt, not, ◌&&◌, Bool, true, false, if◌then◌else◌, List, length, is_none, Ok, Err}
 use Rattle.std.specs.List.{list_any, slice_index_or}
 use Rattle.std.specs.Option.{option_map_or}

@@ -1,4 +1,4 @@
--- The first words of lines, and the words that choose a kind or what a work counts (this project's own rules).
+-- The first words of lines, and the words that choose a kind or what a work counts.
 use Rattle.std.specs.Prelude.{ℕ, if◌then◌else◌, List, [], ◌∷◌, Option, Some, None, option_map, codes}
 use Rattle.std.specs.Option.{option_or}
 use Rattle.std.specs.Str.{bytes_eq}

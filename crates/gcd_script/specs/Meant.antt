@@ -1,5 +1,4 @@
--- What words mean: a value, or why they are refused. Of two refusals the one of the lower code applies (this project's own
--- rule).
+-- What words mean: a value, or why they are refused. Of two refusals the one of the lower code applies.
 use Rattle.std.specs.Prelude.{nat_le, Bool, if◌then◌else◌, Result, Ok, Err}
 use Rattle.gcd_script.specs.Codes.{refusal_code}
 use Rattle.gcd_script.specs.declared.refusal.Refusal.{Refusal}

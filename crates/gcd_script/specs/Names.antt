@@ -1,4 +1,4 @@
--- What names mean: all names of a plan share one space (this project's own rules).
+-- What names mean: all names of a plan share one space.
 use Rattle.std.specs.Prelude.{ℕ, not, ◌&&◌, Bool, if◌then◌else◌, List, map, Option, None, is_none, option_map, codes}
 use Rattle.std.specs.List.{position_from}
 use Rattle.std.specs.Option.{option_or}

@@ -7,7 +7,7 @@ use Rattle.gcd_script.specs.Codes.{refusal_code}
 use Rattle.gcd_script.specs.Drafts.{DraftView}
 use Rattle.gcd_script.specs.Faults.{after_line, fault_of}
 
--- the line and the code are those of the text's first fault; want of memory says nothing of the text
+-- the line and the code are those of the text's first fault; out of memory says nothing of the text
 abbrev pub IsRefusal : List ℕ → ParseFault → Type 0
 IsRefusal bytes (Refused line code) = fault_of bytes ≡ Some (line, code)
 IsRefusal bytes Memory = Unit {0}

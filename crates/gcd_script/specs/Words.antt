@@ -1,4 +1,4 @@
--- What a form asks of one word (this project's own rules).
+-- What a form asks of one word.
 use Rattle.std.specs.Prelude.{ℕ, ◌&&◌, nat_le, nat_lt, Bool, if◌then◌else◌, List, Ok, Err, decimal}
 use Rattle.std.specs.Option.{option_map_or}
 use Rattle.std.specs.Str.{bytes_eq}

@@ -58,8 +58,8 @@ fn push_act(into: &mut Vec<u8>, k: u32) -> Result<(), AllocError>
 }
 
 /// The script with `n` blocks, at most 16,384, that sum ranges of one file of 4,096 bytes, on four serial and two
-/// concurrent queues (this project's own rule): the large input of the command `big`. It is short enough to be
-/// parsed. An `Err` comes only of want of memory.
+/// concurrent queues: the large input of the command `big`. It is short enough to be
+/// parsed. An `Err` comes only where memory runs out.
 pub fn big_text(alloc: Global, n: u32) -> Result<Vec<u8>, AllocError>
     requires few { n < max_blocks }
     ensures text { IfOk result (λ text. text.items ≡ big_script n) }

@@ -8,7 +8,7 @@ use crate::additions::{declare, push_act, push_block, push_file, push_object, se
 use crate::draft::Draft;
 use crate::line::Line;
 use crate::meaning::Meaning;
-use gcd_plan::{Act, Blk, Kind, Obj, Parts, Run, Work, block_of};
+use gcd_plan::{Act, Blk, Kind, Obj, Parts, Run, Work};
 use std::alloc::{AllocError, Global};
 
 // Marks a block as submitted.
@@ -169,7 +169,7 @@ impl<'a> Draft<'a> {
         ensures agrees { OnOk result (DraftAgrees self.new) }
     {
         push_act(&mut self.parts, run, act)?;
-        mark(&mut self.submitted, block_of(act));
+        mark(&mut self.submitted, act.block());
         self.acts += 1;
         Ok(())
     }

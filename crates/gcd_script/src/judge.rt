@@ -1,7 +1,6 @@
 // What all words of a line mean, and what is judged of the whole line.
 ghost use Rattle.std.specs.Prelude.{◌≡◌, ◌∷◌, map};
 ghost use Rattle.gcd_plan.specs.PlanView.{view_of};
-ghost use Rattle.gcd_plan.specs.Validity.{is_handler_act};
 ghost use Rattle.gcd_script.specs.Judged.{may_have, is_allowed};
 ghost use Rattle.gcd_script.specs.Views.{line_view};
 
@@ -10,22 +9,7 @@ use crate::keyword::Keyword;
 use crate::line::Line;
 use crate::meant::Meant;
 use crate::refusal::Refusal;
-use gcd_plan::{Act, Blk, MAX_ACTS, MAX_BLOCKS, MAX_FILES, MAX_OBJECTS, Obj, Run, block_of};
-
-// Whether a handler may have the act: it submits no block and waits for nothing.
-fn is_handler_act(act: Act) -> bool
-    ensures { result ≡ is_handler_act act }
-{
-    match act {
-        Act::Async(..) | Act::Barrier(..) | Act::Sync(..) | Act::BarrierSync(..) => false,
-        Act::GroupAsync(..) | Act::Notify(..) => false,
-        Act::GroupWait(_) | Act::Wait(_) => false,
-        Act::Enter(_) | Act::Leave(_) | Act::Signal(_) => true,
-        Act::Suspend(_) | Act::Resume(_) | Act::Activate(_) | Act::Target(..) => true,
-        Act::Merge(..) | Act::Cancel(_) => true,
-        Act::Retain(_) | Act::Release(_) => true,
-    }
-}
+use gcd_plan::{Act, Blk, MAX_ACTS, MAX_BLOCKS, MAX_FILES, MAX_OBJECTS, Obj, Run};
 
 // Whether the body may have the act.
 fn may_have(run: Run, act: Act) -> bool
@@ -33,7 +17,7 @@ fn may_have(run: Run, act: Act) -> bool
 {
     match run {
         Run::Block(_) => true,
-        Run::Source(_) => is_handler_act(act),
+        Run::Source(_) => act.is_for_handlers(),
     }
 }
 
@@ -112,7 +96,7 @@ impl<'a> Draft<'a> {
         requires { DraftAgrees self.now }
         ensures { result ≡ option_map_or (is_free (view_of self.now.parts)) (block_of act) true }
     {
-        match block_of(act) {
+        match act.block() {
             Some(b) => self.is_free(b),
             None => true,
         }

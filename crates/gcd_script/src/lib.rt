@@ -3,7 +3,7 @@
 //! | call | answer |
 //! |---|---|
 //! | `parse` | the plan that the script declares (`IsScriptOf`), which is valid (`IsPlan`); or the first line at fault with the lowest code that applies to it (`IsRefusal`: `fault_of`); or `Memory` |
-//! | `big_text` | the script of the large input with n blocks (`big_script`), which is a script; or want of memory |
+//! | `big_text` | the script of the large input with n blocks (`big_script`), which is a script; or out of memory |
 //! | `Refusal::code` | the code of a refusal, from 1 to 9 |
 //! | `laws` | the plan that a script declares is valid |
 //!

@@ -2,7 +2,7 @@
 
 use gcd_plan::{Blk, Obj};
 
-/// What a declared name stands for. All names share one space (this project's own rule).
+/// What a declared name stands for. All names share one space.
 #[derive(Clone, Copy)]
 pub enum Meaning {
     /// A file, by its number from 0.

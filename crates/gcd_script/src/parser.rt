@@ -73,7 +73,7 @@ fn take_line<'a>(draft: &mut Draft<'a>, alloc: Global, line: &'a [u8]) -> Result
     }
 }
 
-/// The plan that a script declares (this project's own rule).
+/// The plan that a script declares.
 ///
 /// A text that is no script is `Refused`, with its first line at fault, counted from 1, and the lowest code that applies
 /// to it: the page of this crate has the codes. Where all lines are right and none is `main`, the line after the last is

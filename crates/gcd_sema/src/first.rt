@@ -10,7 +10,8 @@ fn first_value(kind: Kind) -> u32
 {
     match kind {
         Kind::Semaphore(n) => n,
-        _ => 0,
+        Kind::Serial | Kind::Concurrent | Kind::Group => 0,
+        Kind::Add | Kind::Or | Kind::Timer { .. } | Kind::Read => 0,
     }
 }
 

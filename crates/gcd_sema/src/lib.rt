@@ -6,8 +6,8 @@
 //!
 //! | call | answer | what it leaves |
 //! |---|---|---|
-//! | `Semas::new` | the first values, and no signal or wait; or want of memory | |
-//! | `copied` | the same semaphores once more; or want of memory | |
+//! | `Semas::new` | the first values, and no signal or wait; or out of memory | |
+//! | `copied` | the same semaphores once more; or out of memory | |
 //! | `waits`, `signals` | how often the semaphore was waited for, and signalled | |
 //! | `wait` | the rank of this wait | a wait more |
 //! | `signal` | | a signal more |

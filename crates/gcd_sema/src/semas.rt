@@ -28,7 +28,7 @@ impl Model for Semas {
 
 impl Semas {
     /// The plan's semaphores before the first event: each has its first value (dispatch_semaphore_create(3)). It takes all
-    /// the memory that the semaphores ever need: an `Err` comes only of want of it.
+    /// the memory that the semaphores ever need: an `Err` comes only where memory runs out.
     pub fn new(alloc: Global, plan: &Plan) -> Result<Semas, AllocError>
         ensures { IfOk result (λ s. s ≡ semas_of plan.now) }
     {
@@ -39,7 +39,7 @@ impl Semas {
         })
     }
 
-    /// The same semaphores once more. It takes all the memory that the semaphores ever need: an `Err` comes only of want of it.
+    /// The same semaphores once more. It takes all the memory that the semaphores ever need: an `Err` comes only where memory runs out.
     pub fn copied(&self, alloc: Global) -> Result<Semas, AllocError>
         ensures { IfOk result (λ s. s ≡ self.now) }
     {

@@ -7,8 +7,8 @@
 //!
 //! | call | answer | what it leaves |
 //! |---|---|---|
-//! | `Sources::new` | nothing pending, and none cancelled; or want of memory | |
-//! | `copied` | the same sources once more; or want of memory | |
+//! | `Sources::new` | nothing pending, and none cancelled; or out of memory | |
+//! | `copied` | the same sources once more; or out of memory | |
 //! | `pending`, `is_cancelled` | what the lists hold | |
 //! | `merge` | | the value joined to what is pending; a merge of 0 changes nothing |
 //! | `take` | what is pending | nothing pending |

@@ -33,15 +33,12 @@ fn joined(kind: Kind, a: u64, b: u64) -> u64
     ensures value { result ≡ folded kind a b }
     ensures nothing { b ≡ 0 → result ≡ a }
 {
-    match kind {
-        Kind::Or => a | b,
-        _ => a + b,
-    }
+    kind.folded(u128::from(a), u128::from(b)) as u64
 }
 
 impl Sources {
     /// The plan's sources before the first event: nothing is pending, and none is cancelled (dispatch_source_create(3)). It
-    /// takes all the memory that the sources ever need: an `Err` comes only of want of it.
+    /// takes all the memory that the sources ever need: an `Err` comes only where memory runs out.
     pub fn new(alloc: Global, plan: &Plan) -> Result<Sources, AllocError>
         ensures { IfOk result (λ s. s ≡ sources_of plan.now) }
     {
@@ -52,7 +49,7 @@ impl Sources {
         })
     }
 
-    /// The same sources once more. It takes all the memory that the sources ever need: an `Err` comes only of want of it.
+    /// The same sources once more. It takes all the memory that the sources ever need: an `Err` comes only where memory runs out.
     pub fn copied(&self, alloc: Global) -> Result<Sources, AllocError>
         ensures { IfOk result (λ s. s ≡ self.now) }
     {

@@ -1,4 +1,4 @@
--- How much a bench may do. (This project's own rule.)
+-- How much a bench may do.
 use Rattle.std.specs.Prelude.{ℕ}
 
 -- pushes of one bench in all, for which its deque has room from the start

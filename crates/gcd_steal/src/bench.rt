@@ -6,8 +6,7 @@ use crate::deque::{Deque, Pass, Thief};
 use crate::places::{PlaceSeat, Places};
 use crate::tokens::Tokens;
 
-/// What the workers of a run share: a sleeping place for each node of the plan, and a way to steal from each bench (this
-/// project's own rule). Threads share it by `&`.
+/// What the workers of a run share: a sleeping place for each node of the plan, and a way to steal from each bench. Threads share it by `&`.
 pub struct Rack {
     pub(crate) tokens: Tokens,
     pub(crate) places: Places,
@@ -30,7 +29,7 @@ impl Drop for Rack {
     }
 }
 
-/// What one worker has: its deque, and what it needs to wake, to sleep and to steal (this project's own rule). It may go to
+/// What one worker has: its deque, and what it needs to wake, to sleep and to steal. It may go to
 /// a thread of its own.
 pub struct Bench {
     pub(crate) deque: Deque,

@@ -23,7 +23,7 @@ pub struct Drain {
 impl Drain {
     ghost use Rattle.gcd_steal.specs.Drains.{node_of};
 
-    /// The node that it may drain (this project's own rule).
+    /// The node that it may drain.
     pub fn node(&self) -> Obj
         ensures { result ≡ node_of self.now }
     {

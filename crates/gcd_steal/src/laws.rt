@@ -7,7 +7,7 @@ use crate::bench::Rack;
 use crate::drain::Drain;
 use crate::tokens::compare_tokens;
 
-/// Two Drains are of two nodes (this project's own rule). It gives both back; a program needs it for its clause alone. Three
+/// Two Drains are of two nodes. It gives both back; a program needs it for its clause alone. Three
 /// loads of a word that no step writes.
 pub fn two_drains_have_two_nodes(rack: &Rack, one: Drain, other: Drain) -> (Drain, Drain)
     requires one { IsRackDrain rack.now one }

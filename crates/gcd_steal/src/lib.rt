@@ -27,7 +27,7 @@
 //!
 //! | call | answer | steps |
 //! |---|---|---|
-//! | [`Rack::new`] | the rack of a plan and its benches, each Drain asleep, or want of memory | all that is made |
+//! | [`Rack::new`] | the rack of a plan and its benches, each Drain asleep, or out of memory | all that is made |
 //! | [`Rack::wake`] | the node's Drain; None only where it was not asleep at a moment of the call | one swap, and one load where it slept |
 //! | [`Rack::sleep`] | the Drain lies in its place | one store |
 //! | [`Rack::push`] | Err, with the Drain, exactly where the bench has pushed `most` times | one load and one store |

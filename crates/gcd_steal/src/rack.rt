@@ -20,7 +20,7 @@ use std::alloc::{AllocError, Global};
 use std::sync::Wait;
 
 impl Bench {
-    /// Its number, from 0: its place in the list that [`Rack::new`] gave (this project's own rule).
+    /// Its number, from 0: its place in the list that [`Rack::new`] gave.
     pub fn number(&self) -> u8
         ensures { result ≡ number_of self.now }
     {
@@ -29,10 +29,10 @@ impl Bench {
 }
 
 impl Rack {
-    /// A rack of the plan and a bench for each of its workers, in the order of their numbers (this project's own rule).
+    /// A rack of the plan and a bench for each of its workers, in the order of their numbers.
     ///
     /// Each node's one Drain sleeps in a place of its own. Each bench has a FIFO deque with room for `most` pushes in all.
-    /// There are 1 to 64 workers, and `most` is 1 to 65,536. The only refusal is want of memory, and then nothing is kept.
+    /// There are 1 to 64 workers, and `most` is 1 to 65,536. The only refusal is out of memory, and then nothing is kept.
     pub fn new(
         alloc: Global,
         plan: &Plan,
@@ -66,7 +66,7 @@ impl Rack {
         Ok((made, benches))
     }
 
-    /// How many benches it has, 1 to 64 (this project's own rule).
+    /// How many benches it has, 1 to 64.
     pub fn benches(&self) -> u8
         ensures count { result ≡ benches_of self.now }
         ensures few { (0 < result) × (result ≤ max_workers) }
@@ -74,7 +74,7 @@ impl Rack {
         self.thieves.len() as u8
     }
 
-    /// Takes the Drain of the node asked for from its sleeping place (this project's own rule). The node is a queue or a
+    /// Takes the Drain of the node asked for from its sleeping place. The node is a queue or a
     /// source of the rack's plan.
     ///
     /// None only where the Drain was not asleep at a moment of the call: at its one write to the node's word, which the
@@ -93,7 +93,7 @@ impl Rack {
         take_from_place(&self.places, &mut bench.seat, node)
     }
 
-    /// Lays the Drain into its sleeping place, where the next [`Rack::wake`] of its node finds it (this project's own rule).
+    /// Lays the Drain into its sleeping place, where the next [`Rack::wake`] of its node finds it.
     /// The bench has then seen that it lies there. One store.
     pub fn sleep(&self, bench: &mut Bench, drain: Drain)
         requires bench { IsBenchOf self.now bench.old }
@@ -105,7 +105,7 @@ impl Rack {
         bench.seat = lay_in_place(&self.places, drain);
     }
 
-    /// Puts the Drain at the back of the bench's own deque (this project's own rule).
+    /// Puts the Drain at the back of the bench's own deque.
     ///
     /// Err exactly where the bench has pushed `most` times since [`Rack::new`], however many were taken since; the Drain
     /// comes back then, and nothing has changed.
@@ -122,7 +122,7 @@ impl Rack {
         bench.deque.push(drain)
     }
 
-    /// Takes the Drain at the front of the bench's own deque (this project's own rule).
+    /// Takes the Drain at the front of the bench's own deque.
     ///
     /// None only where that deque was found empty: by the clause it can have held nothing while the bench knew what it knows of
     /// it, and that it held nothing at a moment of the call rests on the form of a private function (the crate's page).
@@ -139,7 +139,7 @@ impl Rack {
         bench.deque.pop()
     }
 
-    /// Takes the Drain at the front of the deque of another bench, by its number (this project's own rule).
+    /// Takes the Drain at the front of the deque of another bench, by its number.
     ///
     /// None only where that deque was found empty, as [`Rack::pop`] says it. Where another thread takes first it tries again,
     /// so it may wait for others, and what it promises holds if it returns.

@@ -3,6 +3,7 @@ ghost use Rattle.std.specs.Prelude.{◌≡◌, IsTrue, IfSome};
 ghost use Rattle.gcd_plan.specs.Kinds.{is_node};
 
 use gcd_plan::{BlkPart, Kind, Obj, ObjPart, Parts, Plan};
+use gcd_script::parse;
 use std::alloc::{AllocError, Global};
 use std::test::Fail;
 
@@ -24,6 +25,22 @@ fn parts(alloc: Global, queues: u32) -> Result<Parts, AllocError> {
 // A plan of root and that many serial queues.
 pub fn plan_of_queues(alloc: Global, queues: u32) -> Result<Plan, Fail> {
     Ok(Plan::of_parts(parts(alloc, queues)?).ok_or("valid")?)
+}
+
+// One block on a serial queue.
+const ONE_BLOCK: &[u8] = b"file log log.txt\nqueue q serial\nblock b1 lines log\nmain\nasync q b1";
+
+// The plan of a script.
+fn plan_of(alloc: Global, script: &[u8]) -> Result<Plan, Fail> {
+    if script.len() >= u32::MAX as usize {
+        return Err(Fail::from("a script that is too long"));
+    }
+    Ok(parse(alloc, script)?)
+}
+
+// The plan of one block on a serial queue.
+pub fn plan_of_one_block(alloc: Global) -> Result<Plan, Fail> {
+    plan_of(alloc, ONE_BLOCK)
 }
 
 // The object of that number, if it is a node of the plan.

@@ -4,7 +4,7 @@ ghost use Rattle.gcd_plan.specs.Kinds.{is_node};
 ghost use Rattle.gcd_steal.specs.Limits.{max_pushes};
 ghost use Rattle.gcd_steal.specs.Racks.{plan_of, IsBenchOf, IsRackDrain};
 
-use super::plans::{node_at, plan_of_queues};
+use super::plans::{node_at, plan_of_one_block};
 use gcd_plan::{Obj, Plan};
 use gcd_steal::laws::two_drains_have_two_nodes;
 use gcd_steal::{Bench, Drain, Rack};
@@ -148,6 +148,7 @@ fn hand_over<R: Wait + Abort>(rt: &R, rack: &Rack, first: &mut Bench, second: &m
         (6, (0, Call::Wake), true),
         (7, (0, Call::Push), false),
         (8, (0, Call::Sleep), true),
+        (9, (1, Call::Steal(0)), false),
     ] {
         let got = make_on(rt, rack, first, second, node, call, held);
         held = got.0;
@@ -157,7 +158,7 @@ fn hand_over<R: Wait + Abort>(rt: &R, rack: &Rack, first: &mut Bench, second: &m
 
 #[test]
 fn hands_one_drain_from_bench_to_bench(rt: HostRuntime) -> Result<(), Fail> {
-    let plan = plan_of_queues(rt.alloc(), 1)?;
+    let plan = plan_of_one_block(rt.alloc())?;
     let (rack, mut first, mut second) = rack_of_two(rt.alloc(), &plan, 1)?;
     assert!(rt; rack.benches() == 2 && first.number() == 0 && second.number() == 1);
     let node = node_at(&plan, 1).ok_or("a node")?;

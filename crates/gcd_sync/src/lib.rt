@@ -6,8 +6,8 @@
 //!
 //! | call | answer | what it leaves |
 //! |---|---|---|
-//! | `Waits::new` | no block parked; or want of memory | |
-//! | `copied` | the same parked blocks once more; or want of memory | |
+//! | `Waits::new` | no block parked; or out of memory | |
+//! | `copied` | the same parked blocks once more; or out of memory | |
 //! | `park` | | the block parked, for this reason |
 //! | `reason` | what the block waits for; None exactly where it is not parked | |
 //! | `may_wake` | whether what the block waits for has come | |

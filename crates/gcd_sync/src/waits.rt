@@ -28,7 +28,7 @@ impl Model for Waits {
 
 impl Waits {
     /// The plan's blocks before the first event: none is parked (dispatch_sync(3)). It takes all the memory that is ever
-    /// needed: an `Err` comes only of want of it.
+    /// needed: an `Err` comes only where memory runs out.
     pub fn new(alloc: Global, plan: &Plan) -> Result<Waits, AllocError>
         ensures { IfOk result (λ w. w ≡ waits_of plan.now) }
     {
@@ -38,7 +38,7 @@ impl Waits {
         })
     }
 
-    /// The same parked blocks once more. It takes all the memory that they ever need: an `Err` comes only of want of it.
+    /// The same parked blocks once more. It takes all the memory that they ever need: an `Err` comes only where memory runs out.
     pub fn copied(&self, alloc: Global) -> Result<Waits, AllocError>
         ensures { IfOk result (λ w. w ≡ self.now) }
     {

@@ -6,13 +6,13 @@ use Rattle.gcd_plan.specs.PlanView.{PlanView}
 use Rattle.gcd_event.specs.declared.event.Event.{Event}
 use Rattle.gcd_event.specs.declared.event.Event.TheVariants.{Halt}
 use Rattle.gcd_history.specs.History.{IsLawful, why}
-use Rattle.gcd_history.specs.Ends.{IsHalted, is_halted}
+use Rattle.gcd_history.specs.Ends.{HasEnded, IsHalted, is_halted}
 use Rattle.gcd_history.specs.Permitted.{is_halted as is_halted_after}
 use Rattle.gcd_history.proofs.Lists.{reverse_push}
 use Rattle.gcd_history.proofs.LawfulLemmas.{lawful_next}
 use Rattle.gcd_history.proofs.PublicLaws.{halted_stands, quiescent_stands}
 use Rattle.gcd_team.specs.Held.{is_of, held, held_after}
-use Rattle.gcd_team.specs.Team.{of_worker, held_by, StartsWith, HasEnded, GrowsByHalt}
+use Rattle.gcd_team.specs.Team.{of_worker, held_by, StartsWith, GrowsByHalt}
 
 pub filter_reverse : {X : Type 0} → (p : X → Bool) (xs : List X) → filter p (reverse xs) ≡ reverse (filter p xs)
 filter_reverse p [] = refl
@@ -54,8 +54,8 @@ pub none_of_worker : (w : ℕ) (h rest : List Event) → of_worker w (h ++ rest)
 unfolding of_worker
 none_of_worker w h rest same = none_after (filter (is_of w) h) (filter (is_of w) rest) (filter (is_of w) (h ++ rest)) (filter-append (is_of w) h rest) same
 
-no_more : (plan : PlanView) (h : List Event) (e : Event) (rest : List Event) → HasEnded plan h → IsLawful plan (h ++ e ∷ rest) → length (h ++ e ∷ rest) ≤ 65535 → of_worker 0 (h ++ e ∷ rest) ≡ of_worker 0 h → ⊥
-no_more plan h e rest ended lawful few same =
+no_more : (most : ℕ) (plan : PlanView) (h : List Event) (e : Event) (rest : List Event) → HasEnded most plan h → IsLawful plan (h ++ e ∷ rest) → length (h ++ e ∷ rest) ≤ most → of_worker 0 (h ++ e ∷ rest) ≡ of_worker 0 h → ⊥
+no_more most plan h e rest ended lawful few same =
     let may : why plan h e ≡ None = lawful_next plan h e rest lawful in
     ⊎_elim
     (λ quiet.
@@ -68,20 +68,20 @@ no_more plan h e rest ended lawful few same =
     other)
     ended
 
-same_whole : (plan : PlanView) (h rest : List Event) → HasEnded plan h → IsLawful plan (h ++ rest) → length (h ++ rest) ≤ 65535 → of_worker 0 (h ++ rest) ≡ of_worker 0 h → h ++ rest ≡ h
-same_whole plan h [] ended lawful few same = append-nil h
-same_whole plan h (e ∷ rest) ended lawful few same = absurd (no_more plan h e rest ended lawful few same)
+same_whole : (most : ℕ) (plan : PlanView) (h rest : List Event) → HasEnded most plan h → IsLawful plan (h ++ rest) → length (h ++ rest) ≤ most → of_worker 0 (h ++ rest) ≡ of_worker 0 h → h ++ rest ≡ h
+same_whole most plan h [] ended lawful few same = append-nil h
+same_whole most plan h (e ∷ rest) ended lawful few same = absurd (no_more most plan h e rest ended lawful few same)
 
 -- where a history has ended for worker 0, no lawful history that goes on from it without an event of worker 0 is longer
-pub ended_histories_are_whole : (plan : PlanView) (g h : List Event) → HasEnded plan h → IsLawful plan g → length g ≤ 65535 → StartsWith g h → of_worker 0 g ≡ of_worker 0 h → g ≡ h
-ended_histories_are_whole plan g h ended lawful few begins same =
+pub ended_histories_are_whole : (most : ℕ) (plan : PlanView) (g h : List Event) → HasEnded most plan h → IsLawful plan g → length g ≤ most → StartsWith g h → of_worker 0 g ≡ of_worker 0 h → g ≡ h
+ended_histories_are_whole most plan g h ended lawful few begins same =
     let whole = begins.1 in
-    whole ∙ same_whole plan h begins.0 ended (subst (IsLawful plan) whole lawful) (subst (λ l. length l ≤ 65535) whole few) (subst (λ l. of_worker 0 l ≡ of_worker 0 h) whole same)
+    whole ∙ same_whole most plan h begins.0 ended (subst (IsLawful plan) whole lawful) (subst (λ l. length l ≤ most) whole few) (subst (λ l. of_worker 0 l ≡ of_worker 0 h) whole same)
 
 -- ## What may still come
 
-next_is_halt : (plan : PlanView) (h : List Event) (e : Event) (rest : List Event) → HasEnded plan h → IsLawful plan (h ++ e ∷ rest) → length (h ++ e ∷ rest) ≤ 65535 → e ≡ Halt
-next_is_halt plan h e rest ended lawful few =
+next_is_halt : (most : ℕ) (plan : PlanView) (h : List Event) (e : Event) (rest : List Event) → HasEnded most plan h → IsLawful plan (h ++ e ∷ rest) → length (h ++ e ∷ rest) ≤ most → e ≡ Halt
+next_is_halt most plan h e rest ended lawful few =
     let may : why plan h e ≡ None = lawful_next plan h e rest lawful in
     ⊎_elim
     (λ quiet. quiescent_stands plan h e quiet may)
@@ -101,15 +101,15 @@ one_halt plan h (x ∷ rest) lawful =
     let split : h ++ (Halt ∷ x ∷ rest) ≡ (h ++ Halt ∷ []) ++ x ∷ rest = sym (append_assoc h (Halt ∷ []) (x ∷ rest)) in
     absurd (halted_stands plan (h ++ Halt ∷ []) x (halts h) (lawful_next plan (h ++ Halt ∷ []) x rest (subst (IsLawful plan) split lawful)))
 
-grows : (plan : PlanView) (h rest : List Event) → HasEnded plan h → IsLawful plan (h ++ rest) → length (h ++ rest) ≤ 65535 → GrowsByHalt (h ++ rest) h
-grows plan h [] ended lawful few = inl (append-nil h)
-grows plan h (e ∷ rest) ended lawful few =
-    let halt = next_is_halt plan h e rest ended lawful few in
+grows : (most : ℕ) (plan : PlanView) (h rest : List Event) → HasEnded most plan h → IsLawful plan (h ++ rest) → length (h ++ rest) ≤ most → GrowsByHalt (h ++ rest) h
+grows most plan h [] ended lawful few = inl (append-nil h)
+grows most plan h (e ∷ rest) ended lawful few =
+    let halt = next_is_halt most plan h e rest ended lawful few in
     let none = one_halt plan h rest (subst (λ k. IsLawful plan (h ++ k ∷ rest)) halt lawful) in
     inr (ap (λ k. h ++ k ∷ rest) halt ∙ ap (λ l. h ++ Halt ∷ l) none)
 
 -- where a history has ended, a lawful one that goes on from it has at most a halt more
-pub ended_histories_grow_by_halt : (plan : PlanView) (g h : List Event) → HasEnded plan h → IsLawful plan g → length g ≤ 65535 → StartsWith g h → GrowsByHalt g h
-ended_histories_grow_by_halt plan g h ended lawful few begins =
+pub ended_histories_grow_by_halt : (most : ℕ) (plan : PlanView) (g h : List Event) → HasEnded most plan h → IsLawful plan g → length g ≤ most → StartsWith g h → GrowsByHalt g h
+ended_histories_grow_by_halt most plan g h ended lawful few begins =
     let whole = begins.1 in
-    subst (λ l. GrowsByHalt l h) (sym whole) (grows plan h begins.0 ended (subst (IsLawful plan) whole lawful) (subst (λ l. length l ≤ 65535) whole few))
+    subst (λ l. GrowsByHalt l h) (sym whole) (grows most plan h begins.0 ended (subst (IsLawful plan) whole lawful) (subst (λ l. length l ≤ most) whole few))

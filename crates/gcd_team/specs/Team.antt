@@ -1,11 +1,9 @@
 -- What a team's workers rely on, the oldest event first (this project's own rules).
 use Rattle.std.specs.Prelude.{◌≡◌, ℕ, List, ◌++◌, length, filter, reverse, Option, ◌⊎◌, [], ◌∷◌}
-use Rattle.gcd_plan.specs.Limits.{max_events}
 use Rattle.gcd_plan.specs.PlanView.{PlanView}
 use Rattle.gcd_plan.specs.declared.numbers.Run.{Run}
 use Rattle.gcd_event.specs.declared.event.Event.{Event}
 use Rattle.gcd_event.specs.declared.event.Event.TheVariants.{Halt}
-use Rattle.gcd_history.specs.Ends.{IsQuiescent, IsHalted}
 use Rattle.gcd_team.specs.Held.{is_of, held}
 
 -- the events of worker w, in order; those of the outside are worker 0's
@@ -19,10 +17,6 @@ held_by plan h w = held plan (reverse h) w
 -- g begins with h
 abbrev pub StartsWith : (g h : List Event) → Type 0
 StartsWith g h = (rest : List Event) × (g ≡ h ++ rest)
-
--- nothing more is to come of worker 0's own: quiescent, halted, or as long as a history may be
-abbrev pub HasEnded : PlanView → List Event → Type 0
-HasEnded plan h = IsQuiescent plan h ⊎ (IsHalted h ⊎ (length h ≡ max_events))
 
 -- g is h, or h with a halt after it
 abbrev pub GrowsByHalt : (g h : List Event) → Type 0

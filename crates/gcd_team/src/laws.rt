@@ -1,13 +1,12 @@
 // Which run each worker holds, and what a team of workers relies on.
 ghost use Rattle.std.specs.Prelude.{◌≡◌, ◌≤◌, ℕ, List, [], ◌∷◌, ◌++◌, None, length};
-ghost use Rattle.gcd_plan.specs.Limits.{max_events};
 ghost use Rattle.gcd_plan.specs.PlanView.{PlanView};
 ghost use Rattle.gcd_plan.specs.Validity.{IsPlan};
 ghost use Rattle.gcd_plan.specs.declared.numbers.Obj.{Obj};
 ghost use Rattle.gcd_event.specs.declared.event.Event.{Event};
 ghost use Rattle.gcd_history.specs.History.{IsLawful, running_of, choice_of};
-ghost use Rattle.gcd_history.specs.Ends.{IsQuiescent};
-ghost use Rattle.gcd_team.specs.Team.{of_worker, held_by, StartsWith, HasEnded, GrowsByHalt};
+ghost use Rattle.gcd_history.specs.Ends.{HasEnded, IsQuiescent};
+ghost use Rattle.gcd_team.specs.Team.{of_worker, held_by, StartsWith, GrowsByHalt};
 ghost use Rattle.gcd_team.specs.TeamFacts.{HeldRunsAreOpen, HeldRunsAreApart, HeldAfter, TakingsFindNobody, GivingsAreTheHolders, OwnEventsAreTheHolders, ParkingActsAreBlocks, ComesHome, CellsWait, NoWork, IsOneWorkers};
 ghost use Rattle.gcd_team.specs.Cells.{CellsStay, HeldCellsWait, BodiesComeBack, HandsOver, TotalsFit};
 
@@ -62,9 +61,9 @@ pub fn deliver_hands_over()
 /// Where a history has ended, a lawful one that goes on from it has at most a halt more, and none goes on from it without an
 /// event of worker 0; and no history of worker 0 alone goes on from another without one (this project's own rule).
 pub fn ended_histories_are_whole()
-    ensures ended { (plan : PlanView) (g h : List Event) → HasEnded plan h → IsLawful plan g → length g ≤ max_events
+    ensures ended { (most : ℕ) (plan : PlanView) (g h : List Event) → HasEnded most plan h → IsLawful plan g → length g ≤ most
         → StartsWith g h → of_worker 0 g ≡ of_worker 0 h → g ≡ h }
-    ensures halt { (plan : PlanView) (g h : List Event) → HasEnded plan h → IsLawful plan g → length g ≤ max_events
+    ensures halt { (most : ℕ) (plan : PlanView) (g h : List Event) → HasEnded most plan h → IsLawful plan g → length g ≤ most
         → StartsWith g h → GrowsByHalt g h }
     ensures alone { (g h : List Event) → StartsWith g h → of_worker 0 g ≡ of_worker 0 h → IsOneWorkers g → g ≡ h }
 {}

@@ -8,4 +8,6 @@ mod held;
 #[cfg(test)]
 mod rounds;
 #[cfg(test)]
+mod small;
+#[cfg(test)]
 mod teams;

@@ -2,14 +2,14 @@
 ghost use Rattle.std.specs.Prelude.{◌≤◌, ◌<◌, IfOk, length};
 
 use crate::given::{files_of, jobs_of, plan_of, poller_of, tallies_of};
-use gcd_alone::{Alone, run_alone};
 use gcd_history::State;
 use gcd_jobs::Tally;
 use gcd_journal::check;
 use gcd_outer::JumpClock;
-use gcd_plan::Plan;
+use gcd_plan::{MAX_EVENTS, Plan};
 use gcd_rounds::{RoundsEnd, run_rounds};
 use gcd_script::big_text;
+use gcd_workers::{Outcome, run_alone};
 use std::alloc::{AllocError, Global};
 use std::process::Abort;
 use std::sync::Wait;
@@ -166,6 +166,7 @@ fn ran<R: Threads + Wait + Sync>(
         rt,
         alloc,
         plan,
+        MAX_EVENTS,
         jobs,
         tallies,
         workers,
@@ -175,7 +176,7 @@ fn ran<R: Threads + Wait + Sync>(
 }
 
 // The two runs left the same journal and the same values.
-fn are_same(rt: &impl Abort, what: &str, end: &RoundsEnd<Tally>, alone: &Alone) {
+fn are_same(rt: &impl Abort, what: &str, end: &RoundsEnd<Tally>, alone: &Outcome) {
     assert!(rt;
         end.journal.as_slice() == alone.journal.as_slice(),
         "{what}"
@@ -194,7 +195,15 @@ fn is_alike(
     let end = ran(rt, alloc, &plan, &files, row, 1)?;
     let mut poller = poller_of(alloc, row.feed, row.failing_poll)?;
     let mut clock = JumpClock::new(row.step);
-    let alone = run_alone(rt, alloc, &plan, &files, &mut poller, &mut clock)?;
+    let alone = run_alone(
+        rt,
+        alloc,
+        &plan,
+        MAX_EVENTS,
+        &files,
+        &mut poller,
+        &mut clock,
+    )?;
     are_same(rt, row.script, &end, &alone);
     Ok(())
 }

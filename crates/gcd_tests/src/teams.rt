@@ -6,7 +6,7 @@ use gcd_history::State;
 use gcd_journal::check;
 use gcd_outer::JumpClock;
 use gcd_plan::Plan;
-use gcd_workers::{Worked, run_workers, team_size};
+use gcd_workers::{Outcome, run_workers, team_size};
 use std::alloc::Global;
 use std::process::Abort;
 use std::sync::Wait;
@@ -58,7 +58,7 @@ fn ran<R: Threads + Wait + Sync>(
     alloc: Global,
     plan: &Plan,
     workers: u8,
-) -> Result<Worked, Fail>
+) -> Result<Outcome, Fail>
     requires { 0 < workers × workers ≤ 64 }
     ensures { IfOk result (λ run. length run.journal.items ≤ 65535) }
 {
@@ -103,7 +103,7 @@ fn teams_in_threads_keep_the_rules(rt: HostRuntime) -> Result<(), Fail> {
 }
 
 // Scripts, and how many of 64 workers have a hand in them.
-static SIZES: [(&str, u8); 5] = [
+static SIZES: [(&str, u8); 8] = [
     ("main", 1),
     ("queue q serial\nqueue r serial on q\nmain", 3),
     (
@@ -117,6 +117,18 @@ static SIZES: [(&str, u8); 5] = [
     (
         "group g\nsemaphore s 1\nqueue w concurrent\nmain\nenter g\nleave g\ngroup_wait g\nsignal s\nwait s\nsuspend w\nresume w\nretain w\nrelease w",
         1,
+    ),
+    (
+        "queue t serial\nqueue a serial\nqueue c serial on a\nqueue q serial\nblock b\nmain\nasync q b\ntarget a t",
+        5,
+    ),
+    (
+        "group g\nqueue q serial\nblock b\nmain\nasync q b\nleave g",
+        2,
+    ),
+    (
+        "semaphore s 1\nqueue q serial\nblock b\nmain\nasync q b\nwait s\nrelease s",
+        2,
     ),
 ];
 

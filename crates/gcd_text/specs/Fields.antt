@@ -1,4 +1,4 @@
--- How a text is cut at a byte, and a journal's line into fields (this project's own rules).
+-- How a text is cut at a byte, and a journal's line into fields.
 use Rattle.std.specs.Prelude.{◌≢◌, ◌<◌, ◌==◌, ℕ, List, length, slice_index}
 use Rattle.std.specs.List.{slice_split}
 

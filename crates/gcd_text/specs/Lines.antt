@@ -1,4 +1,4 @@
--- How a script is cut into lines, and a line into words (this project's own rules).
+-- How a script is cut into lines, and a line into words.
 use Rattle.std.specs.Prelude.{ℕ, ◌==◌, nat_le, not, ◌&&◌, Bool, List, [], ◌∷◌, length, filter}
 use Rattle.std.specs.List.{slice_split, list_all}
 

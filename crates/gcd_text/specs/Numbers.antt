@@ -1,4 +1,4 @@
--- How numbers are written (this project's own rules).
+-- How numbers are written.
 use Rattle.std.specs.Prelude.{ℕ, ◌^◌}
 
 -- all numbers with at most ten digits are below this one

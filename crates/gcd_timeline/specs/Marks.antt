@@ -1,15 +1,13 @@
 -- The marks of a journal: which runs it has, on whose lane each goes on, from which place to which. Here a history is the
--- oldest event first, and a place is an event's index, from 0 (this project's own rule).
+-- oldest event first, and a place is an event's index, from 0.
 use Rattle.std.specs.Prelude.{ℕ, ◌+◌, ◌-◌, Bool, false, if◌then◌else◌, List, drop, length, Option, Some, None, option_map, position, slice_get}
 use Rattle.std.specs.Option.{option_map_or, option_and_then}
 use Rattle.std.specs.List.{filter_map, range_with_len}
 use Rattle.gcd_plan.specs.PlanView.{PlanView}
 use Rattle.gcd_plan.specs.declared.numbers.Run.{Run}
-use Rattle.gcd_plan.specs.declared.numbers.Run.TheVariants.{Block, Source}
 use Rattle.gcd_event.specs.declared.event.Event.{Event}
-use Rattle.gcd_event.specs.declared.event.Event.TheVariants.{Start, Act as Acted, Wake, End, Deliver, DeliverEnd, Tick, Ready, FeedEnd, Misuse, Halt}
+use Rattle.gcd_event.specs.Owners.{begun, ended, worker_of}
 use Rattle.gcd_history.specs.Runs.{same_run}
-use Rattle.gcd_history.specs.Choice.{worker_of}
 use Rattle.gcd_team.specs.Held.{taken, given}
 use Rattle.gcd_timeline.specs.declared.mark.Stretch.{Stretch}
 use Rattle.gcd_timeline.specs.declared.mark.Mark.{Mark}
@@ -21,34 +19,6 @@ pub record MarkView : Type 0 where
 
 abbrev pub mark_view : Mark → MarkView
 mark_view m = record { run = m.run; stretches = m.stretches.items }
-
--- the run that the event begins
-abbrev pub begun : Event → Option Run
-begun (Start w b) = Some (Block b)
-begun (Deliver w s) = Some (Source s)
-begun (Acted w r i) = None
-begun (Wake w b) = None
-begun (End w b) = None
-begun (DeliverEnd w s) = None
-begun (Tick t) = None
-begun (Ready s n) = None
-begun (FeedEnd s) = None
-begun (Misuse w r i c) = None
-begun Halt = None
-
--- the run that the event ends
-abbrev pub ended : Event → Option Run
-ended (End w b) = Some (Block b)
-ended (DeliverEnd w s) = Some (Source s)
-ended (Start w b) = None
-ended (Acted w r i) = None
-ended (Wake w b) = None
-ended (Deliver w s) = None
-ended (Tick t) = None
-ended (Ready s n) = None
-ended (FeedEnd s) = None
-ended (Misuse w r i c) = None
-ended Halt = None
 
 -- what is told is run r
 abbrev pub is_run : Run → Option Run → Bool

@@ -2,10 +2,11 @@
 ghost use Rattle.std.specs.Prelude.{◌≡◌, ◌++◌, ◌∷◌, [], ◌<◌, ◌≤◌, Some, length, map, position, slice_get, IfOk, IfSome, OnOk};
 ghost use Rattle.gcd_team.specs.Held.{given};
 ghost use Rattle.std.specs.Option.{option_to_list};
-ghost use Rattle.gcd_timeline.specs.Marks.{is_run, ended, mark_view, ended_from, given_from, stretch_at, stretches_of, mark_at, marks_of};
+ghost use Rattle.gcd_event.specs.Owners.{ended};
+ghost use Rattle.gcd_timeline.specs.Marks.{is_run, mark_view, ended_from, given_from, stretch_at, stretches_of, mark_at, marks_of};
 
 use crate::mark::{Mark, Stretch};
-use crate::taking::{begun, ended, given, is_run, taken, worker_of};
+use crate::taking::{given, is_run, taken};
 use gcd_event::Event;
 use gcd_plan::{Plan, Run};
 use std::alloc::{AllocError, Global};
@@ -33,7 +34,7 @@ fn before_ended(events: &[Event], run: Run) -> Option<usize>
     ensures exact { result ≡ position (λ e. is_run run (ended e)) events.now }
     ensures within { IfSome result (λ count. count < length events.now) }
 {
-    events.iter().position(|event| is_run(run, ended(*event)))
+    events.iter().position(|event| is_run(run, event.ended()))
 }
 
 // Where the run is given back, from this place on; the number of events where it is not.
@@ -73,7 +74,7 @@ fn add_stretch(
     let event = event_at(events, at);
     if is_run(run, taken(event)) {
         into.push(Stretch {
-            worker: worker_of(event),
+            worker: event.worker(),
             from: at,
             to: given_from(plan, events, run, at),
         })?;
@@ -118,7 +119,7 @@ fn add_mark(
     requires { at < length events.now }
     ensures { OnOk result (map mark_view into.new.items ≡ map mark_view into.old.items ++ option_to_list (mark_at plan.now events.now at)) }
 {
-    match begun(event_at(events, at)) {
+    match event_at(events, at).begun() {
         Some(run) => push_mark(into, run, stretches_of(alloc, plan, events, run, at)?),
         None => Ok(()),
     }
@@ -127,8 +128,7 @@ fn add_mark(
 /// A mark for each run of the journal, in the order in which they begin: one at each Start and each Deliver. Each has a stretch
 /// for each event up to its end that takes it (its Start or Deliver, and each Wake), on the lane of that event's worker, up to
 /// the event that gives it back (the act that parks it, or its end), or to the number of events where none does. An `Err` comes
-/// only of want of memory. It looks at the events of each run once for its end and once for its stretches (this project's own
-/// rule).
+/// only where memory runs out. It looks at the events of each run once for its end and once for its stretches.
 pub fn marks(alloc: Global, plan: &Plan, events: &[Event]) -> Result<Vec<Mark>, AllocError>
     ensures { IfOk result (λ marks. map mark_view marks.items ≡ marks_of plan.now events.now) }
 {

@@ -1,24 +1,12 @@
-// Which run an event begins, takes, gives back or ends.
+// Which run an event takes or gives back, and which act it records.
 ghost use Rattle.std.specs.Prelude.{◌≡◌, Some};
-ghost use Rattle.gcd_history.specs.Choice.{worker_of};
 ghost use Rattle.gcd_history.specs.Parked.{is_parking};
 ghost use Rattle.gcd_history.specs.Runs.{act_at, same_run};
 ghost use Rattle.gcd_team.specs.Held.{taken, given};
-ghost use Rattle.gcd_timeline.specs.Marks.{begun, ended, is_run};
+ghost use Rattle.gcd_timeline.specs.Marks.{is_run};
 
 use gcd_event::Event;
 use gcd_plan::{Act, Plan, Run};
-
-/// The run that the event begins.
-pub fn begun(event: Event) -> Option<Run>
-    ensures { result ≡ begun event }
-{
-    match event {
-        Event::Start { blk, .. } => Some(Run::Block(blk)),
-        Event::Deliver { src, .. } => Some(Run::Source(src)),
-        _ => None,
-    }
-}
 
 /// The run that the event's worker takes.
 pub fn taken(event: Event) -> Option<Run>
@@ -28,18 +16,9 @@ pub fn taken(event: Event) -> Option<Run>
         Event::Start { blk, .. } => Some(Run::Block(blk)),
         Event::Wake { blk, .. } => Some(Run::Block(blk)),
         Event::Deliver { src, .. } => Some(Run::Source(src)),
-        _ => None,
-    }
-}
-
-/// The run that the event ends.
-pub fn ended(event: Event) -> Option<Run>
-    ensures { result ≡ ended event }
-{
-    match event {
-        Event::End { blk, .. } => Some(Run::Block(blk)),
-        Event::DeliverEnd { src, .. } => Some(Run::Source(src)),
-        _ => None,
+        Event::Act { .. } | Event::Misuse { .. } => None,
+        Event::End { .. } | Event::DeliverEnd { .. } => None,
+        Event::Tick { .. } | Event::Ready { .. } | Event::FeedEnd { .. } | Event::Halt => None,
     }
 }
 
@@ -57,7 +36,9 @@ pub fn given(plan: &Plan, event: Event) -> Option<Run>
         }
         Event::End { blk, .. } => Some(Run::Block(blk)),
         Event::DeliverEnd { src, .. } => Some(Run::Source(src)),
-        _ => None,
+        Event::Start { .. } | Event::Wake { .. } | Event::Deliver { .. } => None,
+        Event::Tick { .. } | Event::Ready { .. } | Event::FeedEnd { .. } => None,
+        Event::Misuse { .. } | Event::Halt => None,
     }
 }
 
@@ -66,12 +47,12 @@ fn parks(plan: &Plan, run: Run, index: u32) -> bool
     ensures { result ≡ is_parking (act_at plan.now run index) }
 {
     match act_at(plan, run, index) {
-        Some(act) => is_parking(act),
+        Some(act) => act.parks(),
         None => false,
     }
 }
 
-/// The act at a place of what the run does.
+/// The act at a place of what the run does; None where the plan has no such run or the run no such act.
 pub fn act_at(plan: &Plan, run: Run, index: u32) -> Option<Act>
     ensures { result ≡ act_at plan.now run index }
 {
@@ -86,25 +67,13 @@ pub fn act_at(plan: &Plan, run: Run, index: u32) -> Option<Act>
     }
 }
 
-fn is_parking(act: Act) -> bool
-    ensures { result ≡ is_parking (Some act) }
-{
-    match act {
-        Act::Sync(_, _) => true,
-        Act::BarrierSync(_, _) => true,
-        Act::GroupWait(_) => true,
-        Act::Wait(_) => true,
-        _ => false,
-    }
-}
-
 fn same_run(one: Run, other: Run) -> bool
     ensures { result ≡ same_run one other }
 {
     match (one, other) {
         (Run::Block(b), Run::Block(c)) => b.0 == c.0,
         (Run::Source(s), Run::Source(t)) => s.0 == t.0,
-        _ => false,
+        (Run::Block(_), Run::Source(_)) | (Run::Source(_), Run::Block(_)) => false,
     }
 }
 
@@ -115,21 +84,5 @@ pub fn is_run(run: Run, told: Option<Run>) -> bool
     match told {
         Some(other) => same_run(run, other),
         None => false,
-    }
-}
-
-/// The event's worker; those of the outside are worker 0's.
-pub fn worker_of(event: Event) -> u8
-    ensures { result ≡ worker_of event }
-{
-    match event {
-        Event::Start { worker, .. } => worker,
-        Event::Act { worker, .. } => worker,
-        Event::Wake { worker, .. } => worker,
-        Event::End { worker, .. } => worker,
-        Event::Deliver { worker, .. } => worker,
-        Event::DeliverEnd { worker, .. } => worker,
-        Event::Misuse { worker, .. } => worker,
-        _ => 0,
     }
 }

@@ -1,4 +1,5 @@
-//! Tests of `gcd_timeline` through its public face, in a crate of their own: so its proof is not made again with them.
+//! Tests of `gcd_timeline` and of `gcd_picture` through their public faces, in a crate of their own: so their proofs are not made
+//! again with them.
 #![tactic(auto)]
 
 #[cfg(test)]

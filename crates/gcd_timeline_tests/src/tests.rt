@@ -1,8 +1,9 @@
 // Small journals by rows: their marks, lines of their pages, and their traces.
 
 use gcd_event::Event;
+use gcd_picture::{push_json, push_xml, run_name, svg, trace};
 use gcd_plan::{Act, Blk, BlkPart, Kind, Obj, ObjPart, Parts, Plan, Run};
-use gcd_timeline::{Mark, marks, svg, trace};
+use gcd_timeline::{Mark, marks};
 use std::alloc::{AllocError, Global};
 use std::fmt::Write;
 use std::process::Abort;
@@ -190,7 +191,7 @@ fn plan_of(alloc: Global, acts: &[Act]) -> Result<Option<Plan>, AllocError> {
 fn spelled(alloc: Global, plan: &Plan, marks: &[Mark]) -> Result<String, AllocError> {
     let mut text = String::new(alloc);
     for mark in marks {
-        text.push_str(gcd_timeline::run_name(plan, mark.run))?;
+        text.push_str(run_name(plan, mark.run))?;
         for stretch in &mark.stretches {
             let (worker, from, to) = (stretch.worker, stretch.from, stretch.to);
             write!(text, " {worker}:{from}-{to}")?;
@@ -240,8 +241,8 @@ fn journals_by_rows(rt: HostRuntime) -> Result<(), Fail> {
 #[test]
 fn texts_are_escaped(rt: HostRuntime) -> Result<(), Fail> {
     let mut text = String::new(rt.alloc());
-    gcd_timeline::push_xml(&mut text, "a<b>&\"c\"")?;
-    gcd_timeline::push_json(&mut text, "\\\"d\n")?;
+    push_xml(&mut text, "a<b>&\"c\"")?;
+    push_json(&mut text, "\\\"d\n")?;
     assert_eq!(rt; text.as_str(), "a&lt;b&gt;&amp;&quot;c&quot;\\\\\\\"d ");
     Ok(())
 }

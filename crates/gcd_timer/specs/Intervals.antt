@@ -3,7 +3,7 @@
 use Rattle.std.specs.Prelude.{ℕ, ◌+◌, ◌-◌, ◌/◌, ◌%◌, ◌<◌, ◌==◌, nat_le, nat_lt, min, Bool, ◌&&◌, if◌then◌else◌, Option, Some, None}
 use Rattle.std.specs.Option.{option_map_or}
 use Rattle.gcd_plan.specs.declared.kind.Kind.{Kind}
-use Rattle.gcd_plan.specs.declared.kind.Kind.TheVariants.{Timer}
+use Rattle.gcd_plan.specs.declared.kind.Kind.TheVariants.{Serial, Concurrent, Group, Semaphore, Add, Or, Timer, Read}
 use Rattle.gcd_timer.specs.declared.due_times.DueTimes.{DueTimes}
 
 -- the first due time is above 0, and no two are one
@@ -25,8 +25,14 @@ last_due until cancelled = option_map_or (λ end. min end until) cancelled until
 
 -- the due times of an object of this kind that is activated at `from`, if it is a timer
 abbrev pub due_times_of : Kind → (from last : ℕ) → Option DueTimes
+due_times_of Serial from last = None
+due_times_of Concurrent from last = None
+due_times_of Group from last = None
+due_times_of (Semaphore n) from last = None
+due_times_of Add from last = None
+due_times_of Or from last = None
 due_times_of (Timer start every) from last = Some (record { first = from + start; every = every; last = last })
-due_times_of _ from last = None
+due_times_of Read from last = None
 
 -- the least of first, first + every, .. that is above the moment, though it may be past the last
 abbrev pub due_after : DueTimes → ℕ → ℕ
@@ -36,9 +42,3 @@ due_after times moment =
 -- how many of first, first + every, .. there are up to `end`
 abbrev pub due_up_to : (first every end : ℕ) → ℕ
 due_up_to first every end = if nat_lt end first then 0 else (end - first) / every + 1
-
--- the earlier of two times, where there are two
-abbrev pub earlier : Option ℕ → Option ℕ → Option ℕ
-earlier None b = b
-earlier (Some x) None = Some x
-earlier (Some x) (Some y) = Some (min x y)

@@ -1,32 +1,19 @@
--- What the timers keep beside what their readers see: which objects are timers.
-use Rattle.std.specs.Prelude.{◌≡◌, ℕ, ◌+◌, ◌-◌, Bool, true, false, List, length, map, Option, None, slice_get, find}
+-- What the timers keep beside what their readers see: the next due time of each object.
+use Rattle.std.specs.Prelude.{◌≡◌, ℕ, ◌+◌, ◌-◌, ◌≤◌, nat_le, Bool, true, false, not, ◌&&◌, ◌||◌, List, length, map, Option, None, slice_get, slice_index_or, find}
 use Rattle.std.specs.Option.{option_map_or, option_and_then}
-use Rattle.std.specs.List.{list_all, filter, fold, range_with_len}
-use Rattle.gcd_plan.specs.Kinds.{is_timer_kind}
+use Rattle.std.specs.List.{list_all, range_with_len}
+use Rattle.gcd_plan.specs.Limits.{max_time}
 use Rattle.gcd_plan.specs.Validity.{is_kind}
-use Rattle.gcd_plan.specs.declared.kind.Kind.{Kind}
-use Rattle.gcd_plan.specs.declared.numbers.Obj.{Obj}
 use Rattle.gcd_timer.specs.TimersView.{TimersView, activated_at, cancelled_at, is_due_at}
-use Rattle.gcd_timer.specs.Intervals.{last_due, due_times_of, earlier}
+use Rattle.gcd_timer.specs.Intervals.{last_due, due_times_of}
 use Rattle.gcd_timer.specs.declared.due_times.DueTimes.{DueTimes}
 
--- object s is a timer
-abbrev pub is_timer_in : List Kind → Obj → Bool
-is_timer_in kinds s = option_map_or is_timer_kind (slice_get kinds s.0) false
-
-abbrev pub obj_of : ℕ → Obj
-obj_of s = record { 0 = s }
-
--- the timers among the first n objects
-abbrev pub timers_below : List Kind → ℕ → List Obj
-timers_below kinds n = filter (is_timer_in kinds) (map obj_of (range_with_len 0 n))
-
--- the lists are equally long, the numbers that the kinds carry are in range, and the list of timers is whole
-pub record AreListed (view : TimersView) (timers : List Obj) : Type 0 where
+-- the lists are equally long, the numbers that the kinds carry are in range, and the last due time is at most a day
+pub record IsClock (view : TimersView) : Type 0 where
   pub activated : length view.activated ≡ length view.kinds
   pub cancelled : length view.cancelled ≡ length view.kinds
   pub kinds : list_all is_kind view.kinds ≡ true
-  pub listed : timers ≡ timers_below view.kinds (length view.kinds)
+  pub until_short : view.until ≤ max_time
 
 -- the due times of object s, if it is an activated timer
 abbrev pub due_times_at : TimersView → ℕ → Option DueTimes
@@ -39,6 +26,27 @@ due_times_at view s =
 abbrev pub next_due_of : TimersView → ℕ → Option ℕ
 next_due_of view s = find (is_due_at view s) (range_with_len (view.moment + 1) (view.until - view.moment))
 
--- the least of those of some objects
-abbrev pub next_due_among : TimersView → List Obj → Option ℕ
-next_due_among view timers = fold (λ next s. earlier next (next_due_of view s.0)) None timers
+-- that of each object
+abbrev pub nexts_of : TimersView → List (Option ℕ)
+nexts_of view = map (next_due_of view) (range_with_len 0 (length view.kinds))
+
+-- a time is at most t
+abbrev pub is_reached : ℕ → Option ℕ → Bool
+is_reached t next = option_map_or (λ x. nat_le x t) next false
+
+-- what the present has not reached of some times is the next due time of its object
+pub record AreBehind (view : TimersView) (nexts : List (Option ℕ)) : Type 0 where
+  pub long : length nexts ≡ length view.kinds
+  pub ahead : (s : ℕ) → is_reached view.moment (slice_index_or nexts s None) ≡ false → slice_index_or nexts s None ≡ next_due_of view s
+
+-- marks, with each number marked whose time is at most t
+abbrev pub reached_marked : ℕ → List (Option ℕ) → List Bool → List Bool
+reached_marked t nexts marks =
+    map (λ s. slice_index_or marks s false || is_reached t (slice_index_or nexts s None)) (range_with_len 0 (length marks))
+
+-- marks so far: what was reached of the first times and is no more has been marked
+pub record AreMarked (t : ℕ) (nexts : List (Option ℕ)) (marks : List Bool) (nexts' : List (Option ℕ)) (marks' : List Bool) : Type 0 where
+  pub length_kept : length marks' ≡ length marks
+  pub fewer : (s : ℕ) → is_reached t (slice_index_or nexts' s None) ≡ true → is_reached t (slice_index_or nexts s None) ≡ true
+  pub marked : (s : ℕ) → slice_index_or marks' s false
+      ≡ (slice_index_or marks s false || (is_reached t (slice_index_or nexts s None) && not (is_reached t (slice_index_or nexts' s None))))

@@ -1,7 +1,7 @@
 -- Timers, as their readers see them: the time, when each source was activated and cancelled, and what follows of their
 -- due times (dispatch_source_create(3), dispatch_source_set_timer(3); whole milliseconds and `until` are this project's own
 -- rule).
-use Rattle.std.specs.Prelude.{ℕ, ◌+◌, ◌-◌, nat_le, Bool, true, false, ◌&&◌, List, length, map, replicate, Option, Some, None, find, count_by, slice_get, slice_index_or, slice_set}
+use Rattle.std.specs.Prelude.{ℕ, ◌+◌, ◌-◌, nat_le, Bool, true, false, ◌&&◌, ◌||◌, List, length, map, replicate, Option, Some, None, find, count_by, slice_get, slice_index_or, slice_set}
 use Rattle.std.specs.Option.{option_map_or}
 use Rattle.std.specs.List.{list_any, range_with_len}
 use Rattle.gcd_plan.specs.PlanView.{PlanView}
@@ -58,3 +58,11 @@ with_activated view s = record view { activated = slice_set view.activated s (So
 
 abbrev pub with_cancelled : TimersView → ℕ → TimersView
 with_cancelled view s = record view { cancelled = slice_set view.cancelled s (Some view.moment) }
+
+-- timer s has a due time after the present and up to t
+abbrev pub comes_by : TimersView → (t s : ℕ) → Bool
+comes_by view t s = list_any (is_due_at view s) (range_with_len (view.moment + 1) (t - view.moment))
+
+-- marks of objects, with each timer marked that has such a due time
+abbrev pub marked_by : TimersView → ℕ → List Bool → List Bool
+marked_by view t marks = map (λ s. slice_index_or marks s false || comes_by view t s) (range_with_len 0 (length marks))

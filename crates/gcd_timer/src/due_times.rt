@@ -1,7 +1,7 @@
 // The due times of one timer, as numbers.
 ghost use Rattle.std.specs.Prelude.{◌≡◌, ◌≤◌, ℕ, ◌+◌, find, count_by};
 ghost use Rattle.std.specs.List.{range_with_len};
-ghost use Rattle.gcd_timer.specs.Intervals.{IsSpaced, due_times_of, last_due, is_due_in, due_after, due_up_to, earlier};
+ghost use Rattle.gcd_timer.specs.Intervals.{IsSpaced, due_times_of, last_due, is_due_in, due_after, due_up_to};
 
 use gcd_plan::Kind;
 
@@ -36,7 +36,8 @@ pub fn due_times_of(kind: Kind, from: u32, last: u32) -> Option<DueTimes>
             every,
             last,
         }),
-        _ => None,
+        Kind::Serial | Kind::Concurrent | Kind::Group | Kind::Semaphore(_) => None,
+        Kind::Add | Kind::Or | Kind::Read => None,
     }
 }
 
@@ -86,15 +87,4 @@ pub fn count_of(times: DueTimes, moment: u32) -> u64
     ensures { result ≡ count_by (is_due_in times) (range_with_len 1 moment) }
 {
     due_up_to(times, moment.min(times.last))
-}
-
-/// The earlier of two times, where there are two.
-pub fn earlier(a: Option<u32>, b: Option<u32>) -> Option<u32>
-    ensures { result ≡ earlier a b }
-{
-    match (a, b) {
-        (None, _) => b,
-        (_, None) => a,
-        (Some(x), Some(y)) => Some(x.min(y)),
-    }
 }

@@ -7,25 +7,30 @@
 //!
 //! | call | answer | what it leaves |
 //! |---|---|---|
-//! | `Timers::new` | time 0, and nothing activated or cancelled; or want of memory | |
-//! | `copied` | the same timers once more; or want of memory | |
+//! | `Timers::new` | time 0, and nothing activated or cancelled; or out of memory | |
+//! | `copied` | the same timers once more; or out of memory | |
 //! | `moment` | the present time | |
 //! | `next_due` | the least due time after the present; None exactly where no due time is left | |
 //! | `due_count` | how many due times the timer has had, up to the present | |
 //! | `activate` | | the timer activated now, where it was not before |
 //! | `cancel` | | the timer cancelled now, where it was not before |
 //! | `tick` | | the present moved on, over any number of due times |
+//! | `tick_marked` | | the same, and each timer marked of which a due time came |
 //!
 //! No due time is kept in a list: they are counted by division, so a timer with an interval of 1 ms costs what one with
-//! two due times costs. `next_due` costs as much as the plan has timers; every other call costs the same whatever the
-//! plan. `new` and `copied` take all memory, each array at once; every other call takes none and cannot fail.
+//! two due times costs. Of each timer the next due time is kept, in a tree of which the least is read at once
+//! (`gcd_soonest`). So `next_due` costs the same however many timers there are; `activate` and `cancel` take a step for
+//! each doubling of the objects, and a tick as many, twice, for each timer of which it reaches a due time. `new` and
+//! `copied` take all memory, each array at once; every other call takes none and cannot fail.
+//!
+//! `proofs/Marks` has, for proofs above, what a due time that comes says of the number of due times.
 //!
 //! The crate knows no history, and not whether a timer's source is held. What a timer has pending is the caller's to
 //! say: the difference of two counts.
 #![tactic(auto)]
 
+mod clock;
 mod due_times;
-mod first;
 mod timers;
 
 pub use timers::Timers;

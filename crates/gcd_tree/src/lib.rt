@@ -6,8 +6,8 @@
 //!
 //! | call | answer, exactly | cost |
 //! |---|---|---|
-//! | `Tree::new` | the first targets, no request, nothing open; or want of memory | the objects |
-//! | `copied` | the same tree once more; or want of memory | the objects |
+//! | `Tree::new` | the first targets, no request, nothing open; or out of memory | the objects |
+//! | `copied` | the same tree once more; or out of memory | the objects |
 //! | `target`, `is_moving`, `open_on` | what the lists hold | constant |
 //! | `open_beneath` | the runs open on all objects whose chain has the object | constant |
 //! | `chain` | the chain, an iterator | its length |

@@ -36,7 +36,7 @@ impl Model for Tree {
 }
 
 impl Tree {
-    /// The tree of the plan before its first event: the first targets, no request, nothing open. Err for want of memory.
+    /// The tree of the plan before its first event: the first targets, no request, nothing open. Err for lack of memory.
     pub fn new(alloc: Global, plan: &Plan) -> Result<Tree, AllocError>
         ensures { IfOk result (λ tree. tree ≡ tree_of plan.now) }
     {
@@ -50,7 +50,7 @@ impl Tree {
         })
     }
 
-    /// The same tree once more. It takes all the memory that the tree ever need: an `Err` comes only of want of it.
+    /// The same tree once more. It takes all the memory that the tree ever need: an `Err` comes only where memory runs out.
     pub fn copied(&self, alloc: Global) -> Result<Tree, AllocError>
         ensures { IfOk result (λ tree. tree ≡ self.now) }
     {

@@ -90,10 +90,19 @@ heard_grown plan stood placed e before now o untold permitted hd =
 
 -- ## The first of the news
 
--- the feed of a FeedEnd
+-- the feed of a FeedEnd, and 0 for any other event
 abbrev feed_ended_by : Event → ℕ
+feed_ended_by (Start w b) = 0
+feed_ended_by (Acted w r i) = 0
+feed_ended_by (Wake w b) = 0
+feed_ended_by (End w b) = 0
+feed_ended_by (Deliver w s) = 0
+feed_ended_by (DeliverEnd w s) = 0
+feed_ended_by (Tick t) = 0
+feed_ended_by (Ready s n) = 0
 feed_ended_by (FeedEnd s) = s.0
-feed_ended_by _ = 0
+feed_ended_by (Misuse w r i c) = 0
+feed_ended_by Halt = 0
 
 first_end : (plan : PlanView) (stood placed : List Event) (before now : PollerState) (A : List (List Tell)) (t : Tell) (rest : List Tell) (s : ℕ)
     → t.ended ≡ true → (t.bytes == 0) ≡ true → why plan (stood ++ placed) (FeedEnd (record { 0 = t.feed })) ≡ None

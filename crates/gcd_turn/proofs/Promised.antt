@@ -4,7 +4,6 @@ use Rattle.std.specs.Prelude.{Contains}
 use Rattle.std.proofs.lemmas.Bool.{both_ways}
 use Rattle.std.proofs.lemmas.List.{drop_at}
 use Rattle.std.proofs.lemmas.List.Elements.{Contains-push_cases}
-use Rattle.gcd_plan.specs.Limits.{max_events}
 use Rattle.gcd_plan.specs.PlanView.{PlanView}
 use Rattle.gcd_event.specs.declared.event.Event.{Event}
 use Rattle.gcd_event.specs.declared.event.Event.TheVariants.{Halt}
@@ -37,29 +36,29 @@ are_told plan stood placed seen o hd =
 -- ## Faults
 
 -- the poller has not failed since
-pub faults_same : (stood placed : List Event) (before now next : PollerState) → next.faults ≡ now.faults
-    → HaltsAtFaults stood placed before now → HaltsAtFaults stood placed before next
-faults_same stood placed before now next same f = record {
+pub faults_same : (most : ℕ) (stood placed : List Event) (before now next : PollerState) → next.faults ≡ now.faults
+    → HaltsAtFaults most stood placed before now → HaltsAtFaults most stood placed before next
+faults_same most stood placed before now next same f = record {
   halts = λ stands. subst (λ (n : ℕ). Rises before.faults n) (sym same) (f.halts stands);
   stops = λ rose. f.stops (subst (λ (n : ℕ). before.faults < n) same rose);
 }
 
 -- an event that is no Halt
-pub faults_more : (plan : PlanView) (stood placed : List Event) (e : Event) (before now : PollerState)
-    → why plan (stood ++ placed) e ≡ None → length (stood ++ placed) < max_events → (e ≡ Halt → ⊥)
-    → HaltsAtFaults stood placed before now → HaltsAtFaults stood (placed ++ e ∷ []) before now
-faults_more plan stood placed e before now permitted room other f = record {
+pub faults_more : (most : ℕ) (plan : PlanView) (stood placed : List Event) (e : Event) (before now : PollerState)
+    → why plan (stood ++ placed) e ≡ None → length (stood ++ placed) < most → (e ≡ Halt → ⊥)
+    → HaltsAtFaults most stood placed before now → HaltsAtFaults most stood (placed ++ e ∷ []) before now
+faults_more most plan stood placed e before now permitted room other f = record {
   halts = λ stands.
       ⊎_elim (λ (old : Contains placed Halt). f.halts old) (λ (own : e ≡ Halt). absurd (other own)) (Contains-push_cases placed e Halt stands);
   stops = λ rose.
       ⊎_elim (λ (halted : IsHalted (stood ++ placed)). absurd (both_ways _ (unhalted_before plan (stood ++ placed) e permitted) halted))
-      (λ (full : length (stood ++ placed) ≡ max_events). absurd (omega (arith, full, room))) (f.stops rose);
+      (λ (full : length (stood ++ placed) ≡ most). absurd (omega (arith, full, room))) (f.stops rose);
 }
 
 -- a Halt, where the poller failed
-pub faults_halted : (stood placed : List Event) (before now next : PollerState) → before.faults ≤ now.faults → Rises now.faults next.faults
-    → HaltsAtFaults stood (placed ++ Halt ∷ []) before next
-faults_halted stood placed before now next low rises = record {
+pub faults_halted : (most : ℕ) (stood placed : List Event) (before now next : PollerState) → before.faults ≤ now.faults → Rises now.faults next.faults
+    → HaltsAtFaults most stood (placed ++ Halt ∷ []) before next
+faults_halted most stood placed before now next low rises = record {
   halts = λ stands. omega (arith, low, rises);
   stops = λ rose. inl (subst (λ (k : List Event). is_halted k ≡ true) (sym (more_at stood placed Halt)) (halted_by_halt (stood ++ placed)));
 }

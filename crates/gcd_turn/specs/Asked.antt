@@ -3,13 +3,14 @@ use Rattle.std.specs.Prelude.{◌≡◌, ◌≤◌, ◌<◌, ◌+◌, ◌⊎◌,
 use Rattle.gcd_plan.specs.PlanView.{PlanView}
 use Rattle.gcd_event.specs.declared.event.Event.{Event}
 use Rattle.gcd_event.specs.declared.event.Event.TheVariants.{Start, Act as Acted, Wake, End, Deliver, DeliverEnd, Tick, Ready, FeedEnd, Misuse, Halt}
+use Rattle.gcd_history.specs.Ends.{HasEnded}
 use Rattle.gcd_history.specs.History.{choice_of, is_live_feed, next_due_of}
 use Rattle.gcd_machine.specs.Stands.{StandsFor}
 use Rattle.gcd_refinement.specs.MachineView.{MachineView}
 use Rattle.gcd_outer.specs.Outside.{ClockState, Rises}
 use Rattle.gcd_outer.specs.Tells.{PollerState}
 use Rattle.gcd_outer.specs.declared.tell.Tell.{Tell}
-use Rattle.gcd_turn.specs.Promises.{HasEnded, later_by}
+use Rattle.gcd_turn.specs.Promises.{later_by}
 use Rattle.gcd_turn.specs.Turns.{HasRoom, OutlookView, first_event}
 use Rattle.gcd_turn.specs.declared.ask.Ask.{Ask}
 use Rattle.gcd_turn.specs.declared.ask.Ask.TheVariants.{Leave, Told, Put, Work}
@@ -66,19 +67,19 @@ IsPut plan h start present old new (FeedEnd s) = ⊥
 IsPut plan h start present old new (Misuse w r i c) = ⊥
 IsPut plan h start present old new Halt = HasFailed old new
 
--- there is no news, each live feed is watched, and so long is the next due time ahead
-pub record IsFree (plan : PlanView) (h : List Event) (news : List Tell) (poller : PollerState) (left : Option ℕ) : Type 0 where
+-- worker 0 may listen or wait: there is no news, each live feed is watched, and so long is the next due time ahead
+pub record MayIdle (plan : PlanView) (h : List Event) (news : List Tell) (poller : PollerState) (left : Option ℕ) : Type 0 where
   pub no_news : news ≡ []
   pub watched : AllWatched plan h poller
   pub left_is : IsLeft plan h left
 
--- what is asked at a history: to leave where it has ended, and only there; else to put a Halt, the first of the news or a
+-- what is asked at a history, which may have `most` events: to leave where it has ended, and only there; else to put a Halt, the first of the news or a
 -- Tick; or to work, on what worker 0 chooses
-abbrev pub IsAsked : PlanView → List Event → OutlookView → (present : ℕ) → (old new : PollerState) → Ask → Type 0
-IsAsked plan h o present old new Leave = HasEnded plan h × HasNotFailed old new
-IsAsked plan h o present old new (Told e) = HasRoom plan h × (first_event o.news ≡ Some e) × HasNotFailed old new
-IsAsked plan h o present old new (Put e) = HasRoom plan h × IsPut plan h o.start present old new e
-IsAsked plan h o present old new (Work chosen left) = HasRoom plan h × IsFree plan h o.news new left × HasNotFailed old new × (choice_of plan h 0 0 ≡ chosen)
+abbrev pub IsAsked : (most : ℕ) → PlanView → List Event → OutlookView → (present : ℕ) → (old new : PollerState) → Ask → Type 0
+IsAsked most plan h o present old new Leave = HasEnded most plan h × HasNotFailed old new
+IsAsked most plan h o present old new (Told e) = HasRoom most plan h × (first_event o.news ≡ Some e) × HasNotFailed old new
+IsAsked most plan h o present old new (Put e) = HasRoom most plan h × IsPut plan h o.start present old new e
+IsAsked most plan h o present old new (Work chosen left) = HasRoom most plan h × MayIdle plan h o.news new left × HasNotFailed old new × (choice_of plan h 0 0 ≡ chosen)
 
 -- the clock was waited on for the next due time at the history, or not at all
 abbrev pub WaitedFor : PlanView → List Event → (start : ℕ) → ClockState → ClockState → Type 0

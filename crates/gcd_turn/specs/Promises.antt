@@ -1,13 +1,12 @@
 -- What the turns of worker 0 promise of the outside: what poller and clock said, and what stands in the journal. A history
--- is `stood ++ placed`: what stood when the calls began, and what was placed in them (this project's own rules).
+-- is `stood ++ placed`: what stood when the calls began, and what was placed in them.
 use Rattle.std.specs.Prelude.{◌≡◌, ◌≤◌, ◌<◌, ◌+◌, ◌-◌, ◌++◌, ◌==◌, ◌⊎◌, ℕ, true, List, [], ◌∷◌, length, min, take, drop, if◌then◌else◌, Some, Contains}
 use Rattle.std.specs.List.{list_all, flat_map}
-use Rattle.gcd_plan.specs.Limits.{max_events}
 use Rattle.gcd_plan.specs.PlanView.{PlanView, path_of}
 use Rattle.gcd_plan.specs.declared.numbers.Obj.{Obj}
 use Rattle.gcd_event.specs.declared.event.Event.{Event}
 use Rattle.gcd_event.specs.declared.event.Event.TheVariants.{Start, Act as Acted, Wake, End, Deliver, DeliverEnd, Tick, Ready, FeedEnd, Misuse, Halt}
-use Rattle.gcd_history.specs.Ends.{IsHalted, IsQuiescent}
+use Rattle.gcd_history.specs.Ends.{IsHalted}
 use Rattle.gcd_history.specs.History.{is_live_feed, next_due_of}
 use Rattle.gcd_outer.specs.Outside.{ClockState, Rises, Seen}
 use Rattle.gcd_outer.specs.Tells.{PollerState, is_empty_answer, is_end_told, told_of}
@@ -86,15 +85,15 @@ pub record AreTold (plan : PlanView) (stood placed : List Event) (seen : Seen Po
   pub live : (s : ℕ) (path : List ℕ) → Contains (watches_in seen) (s, path) → WasLive plan (stood ++ placed) s
   pub paths : (s : ℕ) (path : List ℕ) → Contains (watches_in seen) (s, path) → path ≡ path_of plan s
 
--- A Halt stands only where the poller failed, and where it failed the history is halted or has no room.
-pub record HaltsAtFaults (stood placed : List Event) (before now : PollerState) : Type 0 where
+-- A Halt stands only where the poller failed, and where it failed the history is halted or has no room: it has `most` events.
+pub record HaltsAtFaults (most : ℕ) (stood placed : List Event) (before now : PollerState) : Type 0 where
   pub halts : Contains placed Halt → Rises before.faults now.faults
-  pub stops : before.faults < now.faults → IsHalted (stood ++ placed) ⊎ (length (stood ++ placed) ≡ max_events)
+  pub stops : before.faults < now.faults → IsHalted (stood ++ placed) ⊎ (length (stood ++ placed) ≡ most)
 
 -- the journal tells what the poller told, and halts where it failed
-pub record IsHeard (plan : PlanView) (stood placed : List Event) (seen : Seen PollerState) : Type 0 where
+pub record IsHeard (most : ℕ) (plan : PlanView) (stood placed : List Event) (seen : Seen PollerState) : Type 0 where
   pub told : seen.tells ≡ true → AreTold plan stood placed seen
-  pub faults : HaltsAtFaults stood placed seen.before seen.after
+  pub faults : HaltsAtFaults most stood placed seen.before seen.after
 
 -- ## What the clock told
 
@@ -115,9 +114,3 @@ pub record IsTimely (plan : PlanView) (stood placed : List Event) (seen : Seen C
   pub ticks : (t : ℕ) → Contains placed (Tick t) → t ≤ seen.after.present - seen.before.present
   pub waits : seen.tells ≡ true → seen.before.waited < seen.after.waited
       → IsDueMoment plan (stood ++ placed) seen.before.present seen.after.waited
-
--- ## How turns end
-
--- nothing more is recorded: the history is quiescent, halted or full
-abbrev pub HasEnded : PlanView → List Event → Type 0
-HasEnded plan h = IsQuiescent plan h ⊎ IsHalted h ⊎ (length h ≡ max_events)

@@ -1,7 +1,6 @@
 -- What worker 0 knows of the outside between its turns.
 use Rattle.std.specs.Prelude.{◌<◌, ◌==◌, ◌+◌, ◌++◌, nat_lt, ℕ, true, false, List, [], ◌∷◌, Option, length, if◌then◌else◌, map, filter, option_map, slice_get}
 use Rattle.std.specs.List.{flat_map, range_with_len}
-use Rattle.gcd_plan.specs.Limits.{max_events}
 use Rattle.gcd_plan.specs.PlanView.{PlanView}
 use Rattle.gcd_event.specs.declared.event.Event.{Event}
 use Rattle.gcd_event.specs.declared.event.Event.TheVariants.{Ready, FeedEnd}
@@ -49,10 +48,10 @@ event_of t = if t.ended then FeedEnd (record { 0 = t.feed }) else Ready (record 
 abbrev pub first_event : List Tell → Option Event
 first_event news = option_map event_of (slice_get news 0)
 
--- the history goes on, and there is room for an event more
-pub record HasRoom (plan : PlanView) (h : List Event) : Type 0 where
+-- the history goes on, and there is room for an event more: it has fewer than `most`
+pub record HasRoom (most : ℕ) (plan : PlanView) (h : List Event) : Type 0 where
   pub going_on : IsGoingOn plan h
-  pub room : length h < max_events
+  pub room : length h < most
 
 -- how many empty answers came in a row with one more, where the history has now this length
 abbrev pub row_with : OutlookView → (len : ℕ) → ℕ

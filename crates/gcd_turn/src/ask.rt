@@ -2,7 +2,7 @@
 
 use gcd_event::Event;
 
-/// What a turn asks of the engine, after its first steps. (This project's own rule.)
+/// What a turn asks of the engine, after its first steps.
 #[derive(Clone, Copy, Debug, PartialEq, Eq)]
 pub enum Ask {
     /// The run has ended: it is quiescent, halted or full.

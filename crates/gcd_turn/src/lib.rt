@@ -8,7 +8,7 @@
 //! | call | steps of a turn | answer |
 //! |---|---|---|
 //! | `Outlook::new` | | asks the clock once |
-//! | `ask` | 1. the run has ended | [`Ask::Leave`]: it is quiescent, halted or full |
+//! | `ask` | 1. the run has ended | [`Ask::Leave`]: it is quiescent, halted or full, which is at `most` events |
 //! | | 2. each live feed that is not watched is watched, by number | at a fault [`Ask::Put`] of a Halt |
 //! | | 3. news | [`Ask::Told`]: the first piece, as a Ready or a FeedEnd; then, placed or barred, [`Outlook::settle`] |
 //! | | 4. a due time is left: the clock is asked | [`Ask::Put`] of a Tick where one has come |
@@ -22,7 +22,7 @@
 //!
 //! | file of specs/ | says |
 //! |---|---|
-//! | `Promises` | what is promised of the outside, over the states of poller and clock before and after the calls: `IsHeard`, `IsTimely`; and when a run has ended, `HasEnded` |
+//! | `Promises` | what is promised of the outside, over the states of poller and clock before and after the calls: `IsHeard`, `IsTimely` |
 //! | `Hearing`, `Timing` | the invariants from which the promises follow: `Heard`, `TimeKept` |
 //! | `Turns`, `Asked`, `Times` | what each step answers |
 //!

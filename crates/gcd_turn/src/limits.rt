@@ -1,4 +1,4 @@
-// How long worker 0 listens. (This project's own rules.)
+// How long worker 0 listens.
 
 /// After so many empty answers of the poller in a row each live feed is taken to have ended.
 pub const EMPTY_ANSWERS: u32 = 1_000;

@@ -1,6 +1,5 @@
 // What worker 0 keeps of the outside between its turns.
 ghost use Rattle.std.specs.Prelude.{◌≡◌, ◌≤◌, ◌<◌, ◌++◌, [], ℕ, true, false, List, drop, length, IfSome, OnSome, IfNone, OnOk, OnErr};
-ghost use Rattle.gcd_plan.specs.Limits.{max_events};
 ghost use Rattle.gcd_plan.specs.PlanView.{PlanView};
 ghost use Rattle.gcd_event.specs.declared.event.Event.{Event};
 ghost use Rattle.gcd_event.specs.declared.event.Event.TheVariants.{Halt};
@@ -24,7 +23,7 @@ use gcd_outer::{Clock, Failed, Poller, Told};
 use gcd_plan::Plan;
 use std::marker::Model;
 
-/// What worker 0, which alone has poller and clock, keeps of them between its turns. (This project's own rule.)
+/// What worker 0, which alone has poller and clock, keeps of them between its turns.
 #[derive(Debug, Drop)]
 pub struct Outlook {
     // The clock's answer before the first turn.
@@ -67,20 +66,22 @@ impl Outlook {
         }
     }
 
-    /// The first steps of a turn (this project's own rule): it leaves where the run has ended; it watches what is live; and it
+    /// The first steps of a turn: it leaves where the run has ended, which may have
+    /// `most` events; it watches what is live; and it
     /// gives the first of what was told, a Tick that is due, or else what worker 0 chooses. The clock is asked only where there
     /// is no news and a due time is left, and the machine for a choice once, and once more only where the run is quiescent.
     #[inline(always)]
     pub fn ask<P: Poller, C: Clock>(
         &self,
         plan: &Plan,
+        most: u32,
         machine: &Machine,
         poller: &mut P,
         clock: &mut C,
     ) -> Ask
         requires { machine.now.plan ≡ plan.now }
-        ensures asked { (h : List Event) → StandsFor machine.now plan.now h → length h ≤ max_events
-            → IsAsked plan.now h self.now (C.state clock.new).present (P.state poller.old) (P.state poller.new) result }
+        ensures asked { (h : List Event) → StandsFor machine.now plan.now h → length h ≤ most
+            → IsAsked most plan.now h self.now (C.state clock.new).present (P.state poller.old) (P.state poller.new) result }
         ensures heard { (stood placed : List Event) (before : PollerState) → StandsFor machine.now plan.now (stood ++ placed)
             → P.tells ≡ true → Heard plan.now stood placed before (P.state poller.old) self.now
             → Heard plan.now stood placed before (P.state poller.new) self.now }
@@ -89,7 +90,7 @@ impl Outlook {
         ensures waited { C.tells ≡ true → (C.state clock.new).waited ≡ (C.state clock.old).waited }
     {
         let chosen = machine.choose(0, 0);
-        if is_over(machine, chosen) {
+        if is_over(machine, most, chosen) {
             return Ask::Leave;
         }
         if watch_new(plan, machine, poller).is_err() {
@@ -182,7 +183,7 @@ impl Outlook {
         Ok(())
     }
 
-    /// The last steps of a turn, where worker 0 has no choice (this project's own rule): it polls where a feed is live, and
+    /// The last steps of a turn, where worker 0 has no choice: it polls where a feed is live, and
     /// else waits for the next due time, where there is one and no run is open and unparked. `left` is how many milliseconds
     /// that is ahead. Some is a Halt, to be recorded: the poller failed.
     pub fn idle<P: Poller, C: Clock>(

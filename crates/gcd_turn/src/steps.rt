@@ -1,15 +1,15 @@
 // The steps of a turn.
 ghost use Rattle.std.specs.Prelude.{◌≡◌, ◌≤◌, ◌<◌, ◌++◌, [], ℕ, true, false, List, length, IfSome, IfNone, OnOk, OnErr};
-ghost use Rattle.gcd_plan.specs.Limits.{max_events, max_objects};
+ghost use Rattle.gcd_plan.specs.Limits.{max_objects};
 ghost use Rattle.gcd_plan.specs.PlanView.{PlanView};
 ghost use Rattle.gcd_event.specs.declared.event.Event.{Event};
+ghost use Rattle.gcd_history.specs.Ends.{HasEnded};
 ghost use Rattle.gcd_history.specs.History.{choice_of, is_live_feed, running_of};
 ghost use Rattle.gcd_machine.specs.Stands.{StandsFor};
 ghost use Rattle.gcd_outer.specs.declared.limits.TheConstants.{MAX_FEEDS};
 ghost use Rattle.gcd_outer.specs.Tells.{PollerState};
 ghost use Rattle.gcd_turn.specs.Asked.{AllWatched, HasFailed, HasNotFailed, KeepsListens, WaitedFor};
 ghost use Rattle.gcd_turn.specs.Hearing.{Heard};
-ghost use Rattle.gcd_turn.specs.Promises.{HasEnded};
 ghost use Rattle.gcd_turn.specs.Times.{IsTime, IsPollWait};
 ghost use Rattle.gcd_turn.specs.Turns.{HasRoom, OutlookView, event_of};
 ghost use Rattle.gcd_turn.specs.declared.limits.TheConstants.{POLL_WAIT};
@@ -18,7 +18,7 @@ use crate::limits::POLL_WAIT;
 use gcd_event::Event;
 use gcd_machine::Machine;
 use gcd_outer::{Clock, Failed, Poller, Tell};
-use gcd_plan::{MAX_EVENTS, Obj, Plan};
+use gcd_plan::{Obj, Plan};
 
 // What the clock asks for.
 #[derive(Clone, Copy)]
@@ -45,19 +45,19 @@ pub(crate) fn event_of(tell: Tell) -> Event
     }
 }
 
-// Whether nothing more is recorded: the run is halted, full or quiescent. A run in which worker 0 has a choice is not quiescent,
+// Whether nothing more is recorded: the run is halted, full, which is at `most` events, or quiescent. A run in which worker 0 has a choice is not quiescent,
 // so only one without a choice is looked at.
 #[inline(always)]
-pub(crate) fn is_over(machine: &Machine, chosen: Option<Event>) -> bool
+pub(crate) fn is_over(machine: &Machine, most: u32, chosen: Option<Event>) -> bool
     requires { (plan : PlanView) (h : List Event) → StandsFor machine.now plan h → chosen ≡ choice_of plan h 0 0 }
-    ensures over { (plan : PlanView) (h : List Event) → StandsFor machine.now plan h → length h ≤ max_events
-        → result ≡ true → HasEnded plan h }
-    ensures goes_on { (plan : PlanView) (h : List Event) → StandsFor machine.now plan h → result ≡ false → HasRoom plan h }
+    ensures over { (plan : PlanView) (h : List Event) → StandsFor machine.now plan h → length h ≤ most
+        → result ≡ true → HasEnded most plan h }
+    ensures goes_on { (plan : PlanView) (h : List Event) → StandsFor machine.now plan h → result ≡ false → HasRoom most plan h }
 {
     if machine.is_halted() {
         return true;
     }
-    if machine.len() >= MAX_EVENTS {
+    if machine.len() >= most {
         return true;
     }
     if chosen.is_some() {

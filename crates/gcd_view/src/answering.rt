@@ -5,7 +5,8 @@ use crate::loading::load_run;
 use crate::request::{Request, read_words};
 use crate::stop::Stop;
 use gcd_outer::Shelf;
-use gcd_timeline::{marks, svg, trace};
+use gcd_picture::{svg, trace};
+use gcd_timeline::marks;
 use std::alloc::{AllocError, Global};
 
 /// How the program ends (this project's own rules; the numbers are those of `gcd check`).
@@ -94,7 +95,7 @@ fn shown<S: Shelf>(alloc: Global, shelf: &mut S, request: Request) -> Result<Str
 }
 
 /// What the words, those after the program's name, are answered: the picture or the trace of the journal of the script, or why
-/// there is none. An `Err` comes only of want of memory (this project's own rule).
+/// there is none. An `Err` comes only where memory runs out.
 pub fn answer_to<S: Shelf>(
     alloc: Global,
     words: &[&str],

@@ -8,7 +8,7 @@ use crate::stop::Stop;
 use gcd_event::Event;
 use gcd_journal::{CheckFault, JournalFault, check, read_journal};
 use gcd_outer::{LoadFault, Shelf};
-use gcd_plan::{MAX_FILE_BYTES, MAX_SCRIPT_BYTES, Plan};
+use gcd_plan::{MAX_EVENTS, MAX_FILE_BYTES, MAX_SCRIPT_BYTES, Plan};
 use gcd_script::{ParseFault, Refusal, parse};
 use std::alloc::Global;
 
@@ -57,7 +57,7 @@ fn load_journal<S: Shelf>(
 {
     let too_long = Stop::Journal { line: 0 };
     let text = load_whole(alloc, shelf, name, MAX_FILE_BYTES, too_long)?;
-    match read_journal(alloc, plan, &text) {
+    match read_journal(alloc, plan, MAX_EVENTS, &text) {
         Ok(events) => Ok(events),
         Err(JournalFault::Refused { line }) => Err(Stop::Journal { line }),
         Err(JournalFault::Memory) => Err(Stop::Memory),
@@ -78,7 +78,7 @@ fn judge(alloc: Global, plan: &Plan, events: &[Event]) -> Result<(), Stop>
 
 /// Loads the script and reads its plan, and then loads the journal, reads it and judges its events: what is given is a lawful
 /// journal of the plan. Else it says at which of these steps it stopped, and why: `Unread`, `Script`, `Journal` with a line,
-/// `Event`, or `Memory` (this project's own rule).
+/// `Event`, or `Memory`.
 pub fn load_run<S: Shelf>(
     alloc: Global,
     shelf: &mut S,

@@ -1,7 +1,7 @@
 //! The program that shows a run: a script and a journal of it as a picture, or as a trace.
 //!
 //! `gcd-view SCRIPT JOURNAL [--trace]` loads the script and reads its plan (`gcd_script`), loads the journal, reads and judges it
-//! (`gcd_journal`), and writes the page of SVG or, with `--trace`, the trace events (`gcd_timeline`) on standard output. What is
+//! (`gcd_journal`), and writes the page of SVG or, with `--trace`, the trace events (`gcd_picture`) on standard output. What is
 //! refused is told in the words of `gcd check`, and shows nothing.
 //!
 //! | status | comes | text |
@@ -14,9 +14,12 @@
 //! | 7 | memory ran out | nothing |
 //! | 9 | the journal is none or longer than its limit, or an event of it is not permitted | `journal refused: line L`, `journal refused: event I` |
 //!
-//! Proved is that only a lawful journal of the script's plan is shown (`load_run`), and of what the picture is made that the marks
-//! are those of its runs (`gcd_timeline::marks`). The real files and standard output tell nothing, so what is read and written is
-//! tried by tests over a shelf in memory and by the stored run alone.
+//! Proved is that only events that are lawful in the plan by which they are shown are shown (`load_run`), and of what the picture is
+//! made that the marks are those of its runs (`gcd_timeline::marks`). That this is the script's plan, and these the journal's events,
+//! is tested. The real files and standard output tell nothing, so what is read and written is tried by tests over a shelf in memory
+//! and by the stored run alone.
+//!
+//! Where an item names no manual page, what it says is this project's own rule.
 #![tactic(auto)]
 
 mod answering;
@@ -25,7 +28,8 @@ mod request;
 mod stop;
 
 use crate::answering::{Answer, Status, answer_to};
-use gcd_outer::{FileShelf, StdoutSink, write_whole};
+use gcd_outer::write_whole;
+use gcd_system::{FileShelf, StdoutSink};
 use std::alloc::{AllocError, Global};
 use std::process::ExitCode;
 use std::rt::{Env, Files};

@@ -11,8 +11,7 @@ pub struct Request<'a> {
     pub is_trace: bool,
 }
 
-/// What the words `SCRIPT JOURNAL [--trace]` ask for, which are those after the program's name; None where they are no such call
-/// (this project's own rule).
+/// What the words `SCRIPT JOURNAL [--trace]` ask for, which are those after the program's name; None where they are no such call.
 pub fn read_words<'a>(words: &[&'a str]) -> Option<Request<'a>> {
     match words {
         [script, journal] => named(*script, *journal, false),

@@ -1,6 +1,6 @@
 // Why nothing is shown.
 
-/// Why nothing is shown (this project's own rules).
+/// Why nothing is shown.
 #[derive(Clone, Copy)]
 pub enum Stop {
     /// The words are no call of the program.

@@ -12,7 +12,7 @@ struct Row {
     text: &'static str,
 }
 
-static ROWS: [Row; 10] = [
+static ROWS: [Row; 13] = [
     Row {
         words: &[],
         status: 2,
@@ -54,6 +54,21 @@ static ROWS: [Row; 10] = [
         text: "journal refused: event 1\n",
     },
     Row {
+        words: &["t", "j"],
+        status: 9,
+        text: "journal refused: event 1\n",
+    },
+    Row {
+        words: &["s", "k"],
+        status: 9,
+        text: "journal refused: line 4\n",
+    },
+    Row {
+        words: &["t", "k"],
+        status: 0,
+        text: "<svg xmlns=",
+    },
+    Row {
         words: &["s", "j"],
         status: 0,
         text: "<svg xmlns=",
@@ -81,6 +96,11 @@ fn calls_by_rows(rt: HostRuntime) -> Result<(), Fail> {
     let mut shelf = MapShelf::new(rt.alloc());
     shelf.put("s", b"main\n")?;
     shelf.put("j", b"start 0 main\nend 0 main\nevents 2\n")?;
+    shelf.put("t", b"block b\nmain\nasync root b\n")?;
+    shelf.put(
+        "k",
+        b"start 0 main\nact 0 main 0\nend 0 main\nstart 0 b\nend 0 b\nevents 5\n",
+    )?;
     shelf.put("forged", b"start 0 main\nstart 1 main\nevents 2\n")?;
     for row in &ROWS {
         try_row(&rt, &mut shelf, row)?;

@@ -1,4 +1,4 @@
--- What the words after the program's name ask for (this project's own rules).
+-- What the words after the program's name ask for.
 use Rattle.std.specs.Prelude.{◌≡◌, ◌<◌, ◌≤◌, is_some, min, max, ℕ, Bool, List, Option, None, [], ◌∷◌, ◌&&◌, true, if◌then◌else◌, codes, option_map, unwrap_or, length, nat_lt}
 use Rattle.std.specs.List.{list_all}
 use Rattle.std.specs.Option.{option_map_or}

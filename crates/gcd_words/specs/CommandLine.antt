@@ -1,5 +1,4 @@
--- The command line, as `clap` reads it: its subcommands, their arguments and options, and the ranges of numbers (this project's
--- own rules).
+-- The command line, as `clap` reads it: its subcommands, their arguments and options, and the ranges of numbers.
 use Rattle.std.specs.Prelude.{ℕ, Some, [], ◌-◌, true, pos, codes}
 use Rattle.clap.specs.Words.{App, Rule, Text, new_app, new_rule, with_rule, with_subcommand}
 use Rattle.clap.specs.declared.builder.action.ArgAction.TheVariants.{SetTrue}

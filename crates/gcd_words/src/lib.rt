@@ -12,7 +12,7 @@
 //!
 //! | call | answer |
 //! |---|---|
-//! | [`read_words`] | what the words ask for (`request_of`), or want of memory |
+//! | [`read_words`] | what the words ask for (`request_of`), or out of memory |
 //!
 //! A number is read as `clap` reads it: one leading `+` and leading zeros are dropped. Nothing is said of the texts that `clap`
 //! would print; none is used.

@@ -103,7 +103,7 @@ fn asked<'a>(matches: &ArgMatches<'a>) -> Option<Request<'a>>
 
 /// Reads the words after the program's name. The numbers of a
 /// request are in their ranges. `None` exactly where the parser refuses them for another cause than memory, a
-/// call for help among these, or they name no command; an `Err` comes only of want of memory (this project's own rules).
+/// call for help among these, or they name no command; an `Err` comes only where memory runs out.
 pub fn read_words<'a>(
     alloc: Global,
     words: &'a [&'a str],

@@ -31,7 +31,7 @@ pub struct BigRequest {
     pub workers: u8,
 }
 
-/// What the words ask for (this project's own rules).
+/// What the words ask for.
 #[derive(Clone, Copy, Debug, PartialEq, Eq)]
 pub enum Request<'a> {
     /// `run SCRIPT [--workers N] [--journal] [--listen ADDR]`

@@ -3,7 +3,9 @@ use Rattle.std.proofs.Common.{◌≡◌, ◌≢◌, ◌<◌, ◌≤◌, ◌+◌,
 use Rattle.std.proofs.lemmas.Bool.{cases_lt, ne_eqb}
 use Rattle.gcd_history.specs.Choice.{worker_of}
 use Rattle.gcd_team.specs.Held.{is_of}
-use Rattle.gcd_team.specs.Team.{of_worker, HasEnded}
+use Rattle.gcd_plan.specs.Limits.{max_events}
+use Rattle.gcd_history.specs.Ends.{HasEnded}
+use Rattle.gcd_team.specs.Team.{of_worker}
 use Rattle.gcd_row.specs.Plays.{KnowsFresh}
 use Rattle.gcd_row.specs.Views.{standing_of, lending, seeing}
 use Rattle.gcd_row.specs.declared.view.Standing.{Standing}
@@ -82,7 +84,7 @@ head_seeing {S} m n v u is head =
     }
 
 -- all hands are back, and no event is of a number that was never given out
-pub has_led : {S : Type 0} → (n : ℕ) (v : View S) → 0 < n → IsHead n n v → KnowsFresh v → HasEnded v.terms.plan v.seen → HasLed n v
+pub has_led : {S : Type 0} → (n : ℕ) (v : View S) → 0 < n → IsHead n n v → KnowsFresh v → HasEnded max_events v.terms.plan v.seen → HasLed n v
 unfolding of_worker
 has_led n v some head fresh ended = record {
   worker = head.worker;

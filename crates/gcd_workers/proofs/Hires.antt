@@ -2,7 +2,9 @@
 use Rattle.std.proofs.Common.{◌≡◌, ◌<◌, ◌+◌, ◌∙◌, ℕ, suc, List, [], ◌∷◌, ◌++◌, length, ap, sym, subst, arith}
 use Rattle.std.specs.Prelude.{All, slice_index_or}
 use Rattle.std.specs.List.{ShiftedDown}
-use Rattle.gcd_team.specs.Team.{HasEnded, of_worker}
+use Rattle.gcd_plan.specs.Limits.{max_events}
+use Rattle.gcd_history.specs.Ends.{HasEnded}
+use Rattle.gcd_team.specs.Team.{of_worker}
 use Rattle.gcd_event.specs.declared.event.Event.{Event}
 use Rattle.gcd_row.proofs.Fronts.{own_nothing}
 use Rattle.gcd_row.specs.Passes.{terms_of, view}
@@ -47,10 +49,10 @@ module _ {S : Type 0} (shape : S → Shape) (gives : S → ℕ → Type 0) where
 
   -- and has seen that the run has ended
   pub ended_after : (pool : Pool S) (old new : List (Hand S)) → 0 < length old → Each (Served shape gives pool) old new
-      → (d : Hand S) → HasEnded (terms_of pool.board.now).plan (view (slice_index_or new 0 d).pass).seen
+      → (d : Hand S) → HasEnded max_events (terms_of pool.board.now).plan (view (slice_index_or new 0 d).pass).seen
   ended_after pool old new some served d =
       let s = served 0 d some in
-      subst (λ (t : Terms S). HasEnded t.plan (view (slice_index_or new 0 d).pass).seen) s.serving.of.pass.terms s.ended
+      subst (λ (t : Terms S). HasEnded max_events t.plan (view (slice_index_or new 0 d).pass).seen) s.serving.of.pass.terms s.ended
 
   -- the hand of the next number
   pub hired : (pool : Pool S) (n : ℕ) (hands : List (Hand S)) (hand : Hand S) → IsReady shape gives pool hand

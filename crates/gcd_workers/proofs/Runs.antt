@@ -1,42 +1,89 @@
--- What a run by several workers leaves, of what worker 0 has seen at its end.
-use Rattle.std.proofs.Common.{◌≡◌, ◌∙◌, ℕ, List, [], ap, sym, subst}
+-- What a run by a team promises, of what worker 0 has seen at its end.
+use Rattle.std.proofs.Common.{◌≡◌, ◌∙◌, ◌<◌, ◌≤◌, ◌==◌, ◌&&◌, ℕ, zero, suc, Bool, true, false, List, [], ◌∷◌, Some, refl, ap, sym, subst, arith, eq-eqb}
+use Rattle.std.specs.Prelude.{slice_get}
+use Rattle.std.specs.List.{list_all}
+use Rattle.std.proofs.lemmas.Bool.{and_from}
+use Rattle.gcd_plan.specs.Limits.{max_events}
 use Rattle.gcd_plan.specs.PlanView.{PlanView}
 use Rattle.gcd_event.specs.declared.event.Event.{Event}
+use Rattle.gcd_history.specs.Choice.{worker_of}
 use Rattle.gcd_history.specs.Ends.{HasState}
-use Rattle.gcd_history.specs.History.{IsLawful}
 use Rattle.gcd_history.specs.declared.state.State.{State}
+use Rattle.gcd_jobs.specs.BlockValues.{AreValues}
+use Rattle.gcd_machine.proofs.Shown.{plan_stands}
+use Rattle.gcd_machine.specs.Stands.{StandsFor}
+use Rattle.gcd_team.specs.Held.{is_of}
 use Rattle.gcd_outer.specs.Outside.{ClockState, Seen}
 use Rattle.gcd_outer.specs.Tells.{PollerState}
-use Rattle.gcd_turn.specs.Promises.{HasEnded, IsHeard, IsTimely}
-use Rattle.gcd_alone.specs.Ran.{AreValues}
+use Rattle.gcd_loop.proofs.Follows.{follows_none}
+use Rattle.gcd_loop.proofs.Steps.{runs_plan}
+use Rattle.gcd_loop.specs.Followed.{FollowsChoice, IsOfWorkers}
+use Rattle.gcd_loop.specs.Going.{IsRunOn}
+use Rattle.gcd_loop.specs.Ran.{RunsPlan}
+use Rattle.gcd_loop.specs.Recorded.{IsSight}
 use Rattle.gcd_row.specs.Passes.{IsPassOf, terms_of, view}
+use Rattle.gcd_row.specs.Shapes.{Shape}
 use Rattle.gcd_row.specs.declared.board.RowBoard.{RowBoard}
 use Rattle.gcd_row.specs.declared.pass.RowPass.{RowPass}
 use Rattle.gcd_row.specs.declared.view.Terms.{Terms}
-use Rattle.gcd_workers.specs.Ran.{RanWorkers}
+use Rattle.gcd_row.specs.declared.view.View.{View}
+use Rattle.gcd_pool.specs.Leads.{Follows}
+use Rattle.gcd_workers.specs.Ran.{RunsOverFiles}
 use Rattle.gcd_workers.specs.Teams.{HasLed}
-use Rattle.gcd_workers.specs.Told.{WorkCell, work_gives, work_shape}
-use Rattle.gcd_workers.proofs.Wholes.{lawful_pass}
 
--- worker 0's pass of a run that has ended, and the values that its board told, are a run by the workers
-pub ran_workers : (plan : PlanView) (workers : ℕ) (files : List (List ℕ)) (poller : Seen PollerState) (clock : Seen ClockState)
-    (b : RowBoard WorkCell) (p : RowPass WorkCell) (h : List Event) (given : List ℕ) (state : State)
-    → IsPassOf work_shape work_gives b p → (terms_of b).plan ≡ plan → HasLed workers (view p)
-    → IsHeard (terms_of b).plan [] (view p).seen poller → IsTimely (terms_of b).plan [] (view p).seen clock
-    → h ≡ (view p).seen → HasState plan (view p).seen state → AreValues plan files (view p).seen given
-    → RanWorkers plan workers files poller clock h given state
-ran_workers plan workers files poller clock b p h given state pass is led heard timely same has are =
-    let its : (view p).terms.plan ≡ plan = ap (λ (t : Terms WorkCell). t.plan) pass.terms ∙ is in
-    let ran : RanWorkers plan workers files poller clock (view p).seen given state = record {
-      lawful = subst (λ (k : PlanView). IsLawful k (view p).seen) is (lawful_pass work_shape work_gives b p pass);
-      state_is = has;
-      ended = subst (λ (k : PlanView). HasEnded k (view p).seen) its led.ended;
-      few = pass.few;
-      by = led.by;
-      timely = subst (λ (k : PlanView). IsTimely k [] (view p).seen clock) is timely;
-      heard = subst (λ (k : PlanView). IsHeard k [] (view p).seen poller) is heard;
-      count = are.count;
-      values = are.values;
-      others = are.others;
-    } in
-    subst (λ (l : List Event). RanWorkers plan workers files poller clock l given state) (sym same) ran
+-- each event of the first of the workers is of number 0
+all_of_first : (h : List Event) → IsOfWorkers 1 h → list_all (is_of 0) h ≡ true
+all_of_first [] by = refl
+all_of_first (e ∷ h) by =
+    let low = by zero e refl in
+    let zero_is : worker_of e ≡ 0 = omega (arith, low) in
+    and_from (is_of 0 e) (list_all (is_of 0) h) (eq-eqb (worker_of e) 0 zero_is) (all_of_first h (λ i f at. by (suc i) f at))
+
+module _ {S : Type 0} (shape : S → Shape) (gives : S → ℕ → Type 0) where
+  -- a pass's machine stands for what the pass has seen
+  pass_sight : (b : RowBoard S) (p : RowPass S) → IsPassOf shape gives b p → IsSight max_events (terms_of b).plan (view p).seen p.machine
+  pass_sight b p pass =
+      let plan_is : (view p).terms.plan ≡ (terms_of b).plan = ap (λ (t : Terms S). t.plan) pass.terms in
+      let stands : StandsFor p.machine (terms_of b).plan (view p).seen = subst (λ (q : PlanView). StandsFor p.machine q (view p).seen) plan_is pass.stands in
+      record { own = plan_stands p.machine (terms_of b).plan (view p).seen stands; stands = stands; few = pass.few }
+
+  -- worker 0's pass, which knows all that came since the board was new, shows what the run promises
+  pub team_ran : (b : RowBoard S) (n : ℕ) (old last : View S) (p : RowPass S) (poller : Seen PollerState) (clock : Seen ClockState)
+      → IsPassOf shape gives b p → HasLed n (view p) → old.terms ≡ terms_of b → old.seen ≡ [] → (view p).seen ≡ last.seen
+      → IsRunOn max_events old.terms.plan old.seen last.seen poller clock → (n ≡ 1 → Follows old.terms.plan old.seen last.seen)
+      → ((s : ℕ) → poller.before.watched s ≡ false) → RunsPlan max_events (terms_of b).plan n poller clock (view p).seen
+  team_ran b n old last p poller clock pass led terms none same on follows unwatched =
+      let plan_is : old.terms.plan ≡ (terms_of b).plan = ap (λ (t : Terms S). t.plan) terms in
+      let from_none : IsRunOn max_events old.terms.plan [] last.seen poller clock = subst (λ (h : List Event). IsRunOn max_events old.terms.plan h last.seen poller clock) none on in
+      let to_seen : IsRunOn max_events old.terms.plan [] (view p).seen poller clock = subst (λ (k : List Event). IsRunOn max_events old.terms.plan [] k poller clock) (sym same) from_none in
+      let whole : IsRunOn max_events (terms_of b).plan [] (view p).seen poller clock = subst (λ (q : PlanView). IsRunOn max_events q [] (view p).seen poller clock) plan_is to_seen in
+      runs_plan max_events (terms_of b).plan n (view p).seen p.machine poller clock (pass_sight b p pass) led.by
+      (λ (one : n ≡ 1).
+      let by : IsOfWorkers 1 last.seen = subst (IsOfWorkers 1) same (subst (λ (m : ℕ). IsOfWorkers m (view p).seen) one led.by) in
+      let first : FollowsChoice old.terms.plan old.seen = subst (FollowsChoice old.terms.plan) (sym none) (follows_none old.terms.plan) in
+      let chosen : FollowsChoice old.terms.plan last.seen = follows one (all_of_first last.seen by) first in
+      subst (λ (q : PlanView). FollowsChoice q (view p).seen) plan_is (subst (λ (k : List Event). FollowsChoice old.terms.plan k) (sym same) chosen))
+      unwatched whole
+
+-- what fewer workers promise more do
+pub runs_by_more : (most : ℕ) (plan : PlanView) (m n : ℕ) (poller : Seen PollerState) (clock : Seen ClockState) (h : List Event)
+    → 0 < m → m ≤ n → RunsPlan most plan m poller clock h → RunsPlan most plan n poller clock h
+runs_by_more most plan m n poller clock h some more run = record {
+  lawful = run.lawful;
+  ended = run.ended;
+  few = run.few;
+  by = λ i e at. let low = run.by i e at in omega (arith, more, low);
+  chosen = λ one. run.chosen (omega (arith, some, more, one));
+  timely = run.timely;
+  heard = run.heard;
+}
+
+-- the run, with the values that its board told
+pub runs_over_files : (plan own : PlanView) (workers : ℕ) (files : List (List ℕ)) (poller : Seen PollerState) (clock : Seen ClockState)
+    (seen h : List Event) (given : List ℕ) (state : State) → own ≡ plan → h ≡ seen
+    → RunsPlan max_events own workers poller clock seen → HasState plan seen state → AreValues plan files seen given
+    → RunsOverFiles max_events plan workers files poller clock h given state
+runs_over_files plan own workers files poller clock seen h given state is same run has are =
+    let all : RunsOverFiles max_events plan workers files poller clock seen given state =
+    record { run = subst (λ (q : PlanView). RunsPlan max_events q workers poller clock seen) is run; state_is = has; values = are } in
+    subst (λ (l : List Event). RunsOverFiles max_events plan workers files poller clock l given state) (sym same) all

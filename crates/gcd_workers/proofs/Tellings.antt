@@ -28,8 +28,8 @@ use Rattle.gcd_row.specs.declared.pass.RowPass.{RowPass}
 use Rattle.gcd_row.specs.Shapes.{done}
 use Rattle.gcd_row.specs.declared.cell.Cell.TheVariants.{Body, Done, Handler, Away}
 use Rattle.gcd_row.specs.declared.view.Terms.{Terms}
-use Rattle.gcd_alone.specs.Ends.{EndFits}
-use Rattle.gcd_alone.proofs.ValuesMore.{end_fits}
+use Rattle.gcd_jobs.specs.Ends.{EndFits}
+use Rattle.gcd_jobs.proofs.ValuesMore.{end_fits}
 use Rattle.gcd_workers.proofs.Wholes.{lawful_pass}
 use Rattle.gcd_workers.specs.Told.{AreTold, GiveWorks, IsTold, WorkCell, work_gives, work_shape}
 

@@ -3,7 +3,9 @@ use Rattle.std.proofs.Common.{◌≡◌, ◌<◌, ℕ, List, [], ◌∷◌, leng
 use Rattle.gcd_event.specs.declared.event.Event.{Event}
 use Rattle.gcd_history.specs.History.{IsLawful}
 use Rattle.gcd_machine.proofs.Shown.{lawful_stands}
-use Rattle.gcd_team.specs.Team.{of_worker, HasEnded}
+use Rattle.gcd_plan.specs.Limits.{max_events}
+use Rattle.gcd_history.specs.Ends.{HasEnded}
+use Rattle.gcd_team.specs.Team.{of_worker}
 use Rattle.gcd_team.proofs.Own.{ended_histories_are_whole}
 use Rattle.gcd_row.specs.Passes.{Ahead, IsPassOf, terms_of, view}
 use Rattle.gcd_row.specs.Shapes.{Shape}
@@ -18,16 +20,16 @@ module _ {S : Type 0} (shape : S → Shape) (gives : S → ℕ → Type 0) where
       subst (λ (t : Terms S). IsLawful t.plan (view p).seen) pass.terms (lawful_stands p.machine (view p).terms.plan (view p).seen pass.stands)
 
   pub seen_whole : (b : RowBoard S) (v : View S) (p : RowPass S) → IsPassOf shape gives b p → v.worker ≡ 0
-      → HasEnded (terms_of b).plan v.seen → Ahead v (view p).seen → (view p).seen ≡ v.seen
+      → HasEnded max_events (terms_of b).plan v.seen → Ahead v (view p).seen → (view p).seen ≡ v.seen
   seen_whole b v p pass zero ended ahead =
-      ended_histories_are_whole (terms_of b).plan (view p).seen v.seen ended (lawful_pass b p pass) pass.few ahead.more
+      ended_histories_are_whole max_events (terms_of b).plan (view p).seen v.seen ended (lawful_pass b p pass) pass.few ahead.more
       (subst (λ (k : ℕ). of_worker k (view p).seen ≡ of_worker k v.seen) zero ahead.own)
 
   -- a run that has ended has ended for a pass that has seen the same
   pub ended_of : (b : RowBoard S) (p : RowPass S) → IsPassOf shape gives b p → (h : List Event) → (view p).seen ≡ h
-      → HasEnded (terms_of b).plan h → HasEnded (view p).terms.plan (view p).seen
+      → HasEnded max_events (terms_of b).plan h → HasEnded max_events (view p).terms.plan (view p).seen
   ended_of b p pass h same ended =
-      subst (λ (t : Terms S). HasEnded t.plan (view p).seen) (sym pass.terms) (subst (λ (l : List Event). HasEnded (terms_of b).plan l) (sym same) ended)
+      subst (λ (t : Terms S). HasEnded max_events t.plan (view p).seen) (sym pass.terms) (subst (λ (l : List Event). HasEnded max_events (terms_of b).plan l) (sym same) ended)
 
 -- one of a list that has some
 pub some_of : {T : Type 0} → (xs : List T) → 0 < length xs → T

@@ -1,4 +1,4 @@
+pub mod ListRuns
 pub mod Ran
 pub mod Teams
 pub mod Told
-pub mod Worth

@@ -1,6 +1,8 @@
--- The hands of a team, and what worker 0 has given out (this project's own rules).
+-- The hands of a team, and what worker 0 has given out.
 use Rattle.std.specs.Prelude.{◌≡◌, ◌≢◌, ◌<◌, ◌≤◌, ◌+◌, ℕ, List, [], length, Some, None, slice_index_or}
-use Rattle.gcd_team.specs.Team.{HasEnded}
+use Rattle.gcd_plan.specs.Limits.{max_events}
+use Rattle.gcd_history.specs.Ends.{HasEnded}
+use Rattle.gcd_loop.specs.Followed.{IsOfWorkers}
 use Rattle.gcd_row.specs.Passes.{IsPassOf, view}
 use Rattle.gcd_row.specs.Shapes.{Shape}
 use Rattle.gcd_row.specs.Views.{standing_of}
@@ -11,7 +13,6 @@ use Rattle.gcd_row.specs.declared.board.RowBoard.{RowBoard}
 use Rattle.gcd_pool.specs.Hands.{IsReady}
 use Rattle.gcd_pool.specs.declared.hand.Hand.{Hand}
 use Rattle.gcd_pool.specs.declared.hand.Pool.{Pool}
-use Rattle.gcd_workers.specs.Ran.{IsOfWorkers}
 
 -- a fact of each place of a list, by its number from n on
 abbrev pub EachFrom : {T : Type 0} → (ℕ → T → Type 0) → (n : ℕ) → List T → Type 0
@@ -42,7 +43,7 @@ pub record IsHead {S : Type 0} (m n : ℕ) (v : View S) : Type 0 where
 pub record HasLed {S : Type 0} (workers : ℕ) (v : View S) : Type 0 where
   pub worker : v.worker ≡ 0
   pub home : (w : ℕ) → standing_of v.hands w ≢ Some Out
-  pub ended : HasEnded v.terms.plan v.seen
+  pub ended : HasEnded max_events v.terms.plan v.seen
   pub by : IsOfWorkers workers v.seen
 
 -- worker 0's pass of a new board: no number was given out, and nothing has come

@@ -1,4 +1,4 @@
--- What the cells of a board of jobs tell of the values of blocks (this project's own rules).
+-- What the cells of a board of jobs tell of the values of blocks.
 use Rattle.std.specs.Prelude.{◌≡◌, ◌<◌, ℕ, List, length, Some, slice_get}
 use Rattle.gcd_plan.specs.PlanView.{PlanView}
 use Rattle.gcd_event.specs.declared.event.Event.{Event}

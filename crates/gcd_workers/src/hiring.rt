@@ -1,12 +1,9 @@
 // How many hands a team needs.
-ghost use Rattle.std.specs.Prelude.{◌≡◌, ◌<◌, ◌≤◌, false};
-ghost use Rattle.gcd_jobs.specs.Contents.{contents};
-ghost use Rattle.gcd_workers.specs.Worth.{is_worth_a_team};
+ghost use Rattle.std.specs.Prelude.{◌<◌, ◌≤◌};
 
-use crate::worth::is_worth_a_team;
 use gcd_plan::{Act, Blk, Obj, Plan, Run};
 
-/// How many hands a team of at most so many workers, at least 1, has for the plan (this project's own rule): as many as the plan can have
+/// How many hands a team of at most so many workers, at least 1, has for the plan: as many as the plan can have
 /// runs that are open and not parked at one moment, and no more than `workers`. Such runs are one of `main`, one on each serial queue and
 /// at each source, and one for each act of a block that submits a block to a concurrent queue, `root` among them: for each block is
 /// submitted once, a cancellation block runs at its source, and a handler submits none. That a further worker would so never have a run
@@ -24,21 +21,6 @@ pub fn team_size(plan: &Plan, workers: u8) -> u8
         size = with_acts(plan, plan.acts(Run::Block(Blk(number))), size, workers);
     }
     size
-}
-
-/// How many hands a run of the plan over its files has, where at most so many workers are asked for, at least 1 (this project's own
-/// rule): one where the works are not worth a team, and else [`team_size`].
-pub fn hands_for(plan: &Plan, files: &[Vec<u8>], workers: u8) -> u8
-    requires { 0 < workers }
-    ensures some { 0 < result }
-    ensures few { result ≤ workers }
-    ensures one { is_worth_a_team plan.now (contents files.now) ≡ false → result ≡ 1 }
-{
-    if is_worth_a_team(plan, files) {
-        team_size(plan, workers)
-    } else {
-        1
-    }
 }
 
 // A hand for `main`, and one for each serial queue and each source; at most so many workers.

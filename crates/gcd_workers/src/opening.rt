@@ -43,7 +43,7 @@ fn add_tally(kind: Kind, tallies: &mut Vec<Tally>) -> Result<(), AllocError>
     Ok(())
 }
 
-/// A tally for each source of the plan, by number. An `Err` comes of want of memory.
+/// A tally for each source of the plan, by number. An `Err` comes where memory runs out.
 pub fn tallies_of(alloc: Global, plan: &Plan) -> Result<Vec<Tally>, AllocError>
     ensures { IfOk result (λ tallies. AreHandlersOf (λ t. t.kind) (λ t. t.times) (λ t. t.total) plan.now tallies.items) }
 {

@@ -1,14 +1,14 @@
 // The values of blocks, of a journal and the cells at its end.
 ghost use Rattle.std.specs.Prelude.{◌≡◌, ◌≤◌, ◌++◌, ◌∷◌, [], ℕ, List, length, replicate};
 ghost use Rattle.gcd_event.specs.declared.event.Event.{Event};
-ghost use Rattle.gcd_alone.specs.Ran.{AreValues};
+ghost use Rattle.gcd_jobs.specs.BlockValues.{AreValues};
 ghost use Rattle.gcd_jobs.specs.Contents.{contents};
 ghost use Rattle.gcd_row.specs.declared.cell.Cell.TheVariants.{Done};
 ghost use Rattle.gcd_workers.specs.Told.{AreTold, IsTold};
 
 use crate::opening::WorkCell;
 use gcd_event::Event;
-use gcd_plan::Plan;
+use gcd_plan::{Plan, Run};
 use gcd_row::Cell;
 
 // The value that a block gave.
@@ -33,8 +33,12 @@ fn note_end(plan: &Plan, files: &[Vec<u8>], cells: &[WorkCell], e: Event, values
 {
     let _ = plan;
     let _ = files;
-    if let Event::End { blk, .. } = e {
-        values[blk.0 as usize] = value_in(&cells[blk.0 as usize]);
+    match e.ended() {
+        Some(Run::Block(blk)) => {
+            values[blk.0 as usize] = value_in(&cells[blk.0 as usize]);
+        }
+        Some(Run::Source(_)) => {}
+        None => {}
     }
 }
 

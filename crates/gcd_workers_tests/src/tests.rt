@@ -1,12 +1,12 @@
+mod alone;
 mod plans;
 
-use gcd_alone::run_alone;
 use gcd_event::Event;
 use gcd_history::State;
 use gcd_outer::{JumpClock, ListPoller};
-use gcd_plan::{How, Plan};
+use gcd_plan::{How, MAX_EVENTS, Plan};
 use gcd_steal::Rack;
-use gcd_workers::{Worked, hands_for, is_worth_a_team, run_board, team_size};
+use gcd_workers::{Outcome, run_alone, run_board, team_size};
 use plans::{plan_of_queues, plan_with_a_barrier};
 use std::alloc::{AllocError, Global};
 use std::process::Abort;
@@ -29,7 +29,7 @@ fn run_of<R: Threads + Wait + Sync>(
     alloc: Global,
     plan: &Plan,
     hands: u8,
-) -> Result<Worked, Fail> {
+) -> Result<Outcome, Fail> {
     let files = files_of(alloc, LOG)?;
     if files.len() != plan.files().len() || hands == 0 || hands > 64 {
         return Err(Fail::from("another number of files or hands"));
@@ -67,7 +67,7 @@ fn journal_alone(rt: &impl Wait, alloc: Global, plan: &Plan) -> Result<Vec<Event
     }
     let mut poller = ListPoller::new(alloc, Vec::new(alloc), 4, 100)?;
     let mut clock = JumpClock::new(0);
-    Ok(run_alone(rt, alloc, plan, &files, &mut poller, &mut clock)?.journal)
+    Ok(run_alone(rt, alloc, plan, MAX_EVENTS, &files, &mut poller, &mut clock)?.journal)
 }
 
 // Whether each block has the value that its number tells: the bytes of the file from there on.
@@ -86,7 +86,7 @@ fn are_right(values: &[u64], blocks: u32) -> bool {
 }
 
 // The run has come to its end, with the blocks' values.
-fn check_end(rt: &impl Abort, run: &Worked, plan: &Plan, hands: u8) {
+fn check_end(rt: &impl Abort, run: &Outcome, plan: &Plan, hands: u8) {
     assert!(rt;
         are_right(run.values.as_slice(), plan.blocks()),
         "{hands} hands"
@@ -130,39 +130,6 @@ fn a_team_has_no_more_hands_than_a_plan_can_have_runs(rt: HostRuntime) -> Result
     ] {
         let plan = plan_of_queues(rt.alloc(), serial, wide, How::Bytes)?;
         assert_eq!(rt; team_size(&plan, workers), hands, "{serial} and {wide}");
-    }
-    Ok(())
-}
-
-// Blocks on `root`, how they count in a file of so many bytes, and whether that is worth a team. 1,024 blocks beside `main` read from
-// there on 4 bytes less than the file has, on average, and are worth a team where that comes to 8,192 for each of 1,025.
-const WORTH: [(u32, How, usize, bool); 7] = [
-    (1_023, How::Bytes, 0, true),
-    (1_024, How::Bytes, 0, false),
-    (1_024, How::Bytes, 8_204, false),
-    (1_024, How::Lines, 8_203, false),
-    (1_024, How::Lines, 8_204, true),
-    (1_024, How::Sum, 8_204, true),
-    (1_024, How::Words, 100_000, true),
-];
-
-#[test]
-fn many_blocks_with_little_to_do_have_one_hand(rt: HostRuntime) -> Result<(), Fail> {
-    for (wide, how, bytes, worth) in WORTH {
-        let plan = plan_of_queues(rt.alloc(), 0, wide, how)?;
-        let file = Vec::from_elem(rt.alloc(), b'a', bytes)?;
-        let files = files_of(rt.alloc(), &file)?;
-        assert_eq!(rt;
-            is_worth_a_team(&plan, &files),
-            worth,
-            "{wide} {how:?} {bytes}"
-        );
-        let hands = if worth { 4 } else { 1 };
-        assert_eq!(rt;
-            hands_for(&plan, &files, 4),
-            hands,
-            "{wide} {how:?} {bytes}"
-        );
     }
     Ok(())
 }

@@ -64,7 +64,10 @@ impl Registers {
             Act::Sync(_, called) | Act::BarrierSync(_, called) => self.call(worker, blk, called),
             Act::GroupWait(g) => self.wait_for_group(worker, blk, g),
             Act::Wait(s) => self.wait_for_semaphore(worker, blk, s),
-            _ => {}
+            Act::Async(..) | Act::Barrier(..) | Act::GroupAsync(..) | Act::Notify(..) => {}
+            Act::Enter(_) | Act::Leave(_) | Act::Signal(_) => {}
+            Act::Suspend(_) | Act::Resume(_) | Act::Activate(_) | Act::Target(..) => {}
+            Act::Merge(..) | Act::Cancel(_) | Act::Retain(_) | Act::Release(_) => {}
         }
     }
 

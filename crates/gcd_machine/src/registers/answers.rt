@@ -1,5 +1,5 @@
 // What a machine tells of what it keeps.
-ghost use Rattle.std.specs.Prelude.{◌≡◌, ◌<◌, ◌-◌, ◌^◌, Some, find, length, option_map};
+ghost use Rattle.std.specs.Prelude.{◌≡◌, ◌<◌, ◌-◌, ◌^◌, find, length, option_map};
 ghost use Rattle.std.specs.List.{range_with_len};
 ghost use Rattle.gcd_sync.specs.WaitsView.{reason_at};
 ghost use Rattle.gcd_history.specs.Runs.{act_of};
@@ -13,20 +13,7 @@ ghost use Rattle.gcd_machine.specs.Stands.{IsShaped};
 
 use super::Registers;
 use gcd_event::Event;
-use gcd_plan::{Act, Blk, Obj, Reason};
-
-// Whether the act parks its block.
-fn is_parking(act: Act) -> bool
-    ensures { result ≡ is_parking (Some act) }
-{
-    match act {
-        Act::Sync(_, _) => true,
-        Act::BarrierSync(_, _) => true,
-        Act::GroupWait(_) => true,
-        Act::Wait(_) => true,
-        _ => false,
-    }
-}
+use gcd_plan::{Blk, Obj, Reason};
 
 impl Registers {
     /// How many events have come.
@@ -139,10 +126,13 @@ impl Registers {
     {
         match e {
             Event::Act { run, index, .. } => match self.act_at(run, index) {
-                Some(act) => is_parking(act),
+                Some(act) => act.parks(),
                 None => false,
             },
-            _ => false,
+            Event::Start { .. } | Event::Wake { .. } | Event::End { .. } => false,
+            Event::Deliver { .. } | Event::DeliverEnd { .. } => false,
+            Event::Tick { .. } | Event::Ready { .. } | Event::FeedEnd { .. } => false,
+            Event::Misuse { .. } | Event::Halt => false,
         }
     }
 }

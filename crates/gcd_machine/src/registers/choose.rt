@@ -7,7 +7,7 @@ ghost use Rattle.gcd_history.specs.Permitted.{is_run_of};
 ghost use Rattle.gcd_lists.specs.ListsView.{list_at};
 ghost use Rattle.gcd_drain.specs.Shut.{AreSound};
 ghost use Rattle.gcd_refinement.specs.MachineView.{busy_at};
-ghost use Rattle.gcd_machine.specs.Chosen.{act_event_at, all_nodes_at, choice_by, deliver_at, idle_choice_at, main_at, next_set, node_at, nodes_at, own_event_at, start_at, wake_at};
+ghost use Rattle.gcd_machine.specs.Chosen.{act_event_at, all_nodes_at, begin_by, choice_by, deliver_at, idle_choice_at, main_at, next_set, node_at, nodes_at, own_event_at, start_at, wake_at};
 ghost use Rattle.gcd_machine.specs.Stands.{IsShaped};
 
 use super::Registers;
@@ -31,6 +31,22 @@ impl Registers {
             Some(run) => Some(self.own_event(worker, run)),
             None => self.idle_choice(worker, from),
         }
+    }
+
+    /// What the worker may begin on the object, if it has no run: the start of the first block that waits there, or the
+    /// source's delivery.
+    pub fn begin(&self, worker: u8, node: Obj) -> Option<Event>
+        requires shape { IsShaped self.now }
+        requires node { node.0 < length self.now.plan.objects }
+        ensures { result ≡ begin_by self.now worker node.0 }
+    {
+        if self.is_over() || !is_worker(worker) {
+            return None;
+        }
+        if self.is_busy(worker) {
+            return None;
+        }
+        self.node_choice(worker, node, &mut Marks::new())
     }
 
     // The next event of the run, which the worker has.
@@ -86,11 +102,11 @@ impl Registers {
 
     // The parked block with the least number that may wake.
     #[inline(always)]
-    fn next_due_block(&self) -> Option<u32>
+    fn next_wakeable(&self) -> Option<u32>
         requires { IsShaped self.now }
-        ensures { result ≡ next_set self.now.due 0 }
+        ensures { result ≡ next_set self.now.wakeable 0 }
     {
-        self.due.next(0)
+        self.wakeable.next(0)
     }
 
     // The wake of that block.
@@ -99,7 +115,7 @@ impl Registers {
         requires { IsShaped self.now }
         ensures { result ≡ wake_at self.now worker }
     {
-        match self.next_due_block() {
+        match self.next_wakeable() {
             Some(b) => Some(Event::Wake {
                 worker,
                 blk: Blk(b),

@@ -19,7 +19,7 @@ use std::alloc::{AllocError, Global};
 use std::sync::Arc;
 
 impl Registers {
-    /// The same once more, with the same plan. An `Err` comes only of want of memory.
+    /// The same once more, with the same plan. An `Err` comes only where memory runs out.
     pub fn copied(&self, alloc: Global) -> Result<Registers, AllocError>
         ensures { IfOk result (λ r. r ≡ self.now) }
     {
@@ -27,8 +27,8 @@ impl Registers {
         let sleepers = self.sleepers.copied(alloc)?;
         let (refs, lists, tree, holds, drains) = self.copied_node_parts(alloc)?;
         let (groups, semas, waits, sources, timers) = self.copied_event_parts(alloc)?;
-        let (blocks, ended, due) = self.copied_block_arrays(alloc)?;
-        let (handlers, timed, busy, live, workers) = self.copied_run_arrays(alloc)?;
+        let (blocks, ended, wakeable) = self.copied_block_arrays(alloc)?;
+        let (handlers, busy, live, workers) = self.copied_run_arrays(alloc)?;
         Ok(Registers {
             plan,
             refs,
@@ -44,9 +44,8 @@ impl Registers {
             sleepers,
             blocks,
             ended,
-            due,
+            wakeable,
             handlers,
-            timed,
             busy,
             live,
             workers,
@@ -105,39 +104,27 @@ impl Registers {
     ) -> Result<(Vec<BlockProgress>, Vec<bool>, BitSet), AllocError>
         ensures blocks { IfOk result (λ arrays. arrays.0.items ≡ self.now.blocks) }
         ensures ended { IfOk result (λ arrays. arrays.1.items ≡ self.now.ended) }
-        ensures due { IfOk result (λ arrays. arrays.2 ≡ self.now.due) }
+        ensures wakeable { IfOk result (λ arrays. arrays.2 ≡ self.now.wakeable) }
     {
         Ok((
             Vec::from_slice(alloc, &self.blocks)?,
             Vec::from_slice(alloc, &self.ended)?,
-            self.due.copied(alloc)?,
+            self.wakeable.copied(alloc)?,
         ))
     }
 
-    // What is kept of the handlers, which objects are timers, which have to be looked at, which feeds are live, and what each
-    // worker has.
+    // What is kept of the handlers, which objects have to be looked at, which feeds are live, and what each worker has.
     fn copied_run_arrays(
         &self,
         alloc: Global,
-    ) -> Result<
-        (
-            Vec<HandlerProgress>,
-            BitSet,
-            BitSet,
-            BitSet,
-            Vec<Option<Run>>,
-        ),
-        AllocError,
-    >
+    ) -> Result<(Vec<HandlerProgress>, BitSet, BitSet, Vec<Option<Run>>), AllocError>
         ensures handlers { IfOk result (λ arrays. arrays.0.items ≡ self.now.handlers) }
-        ensures timed { IfOk result (λ arrays. arrays.1 ≡ self.now.timed) }
-        ensures busy { IfOk result (λ arrays. arrays.2 ≡ self.now.busy) }
-        ensures live { IfOk result (λ arrays. arrays.3 ≡ self.now.live) }
-        ensures workers { IfOk result (λ arrays. arrays.4.items ≡ self.now.workers) }
+        ensures busy { IfOk result (λ arrays. arrays.1 ≡ self.now.busy) }
+        ensures live { IfOk result (λ arrays. arrays.2 ≡ self.now.live) }
+        ensures workers { IfOk result (λ arrays. arrays.3.items ≡ self.now.workers) }
     {
         Ok((
             Vec::from_slice(alloc, &self.handlers)?,
-            self.timed.copied(alloc)?,
             self.busy.copied(alloc)?,
             self.live.copied(alloc)?,
             Vec::from_slice(alloc, &self.workers)?,

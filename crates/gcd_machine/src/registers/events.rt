@@ -59,7 +59,7 @@ impl Registers {
         ensures { self.new ≡ woken self.old worker blk }
     {
         self.waits.woken(blk);
-        self.due.clear(blk.0);
+        self.wakeable.clear(blk.0);
         self.take_up(worker, Run::Block(blk));
     }
 

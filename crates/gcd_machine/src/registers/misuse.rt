@@ -102,7 +102,10 @@ impl Registers {
             Act::Leave(g) => self.leave_misuse(g),
             Act::Target(o, t) => self.target_misuse(o, t),
             Act::Release(o) => self.release_misuse(o),
-            _ => None,
+            Act::Async(..) | Act::Barrier(..) | Act::Sync(..) | Act::BarrierSync(..) => None,
+            Act::GroupAsync(..) | Act::Notify(..) | Act::Enter(_) | Act::GroupWait(_) => None,
+            Act::Signal(_) | Act::Wait(_) | Act::Suspend(_) | Act::Activate(_) => None,
+            Act::Merge(..) | Act::Cancel(_) | Act::Retain(_) => None,
         }
     }
 

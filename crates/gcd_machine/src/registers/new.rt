@@ -1,5 +1,5 @@
 // What a machine keeps before anything has happened, and once more.
-ghost use Rattle.std.specs.Prelude.{◌≡◌, false, IfOk, length, map, replicate, None};
+ghost use Rattle.std.specs.Prelude.{◌≡◌, false, IfOk, length, replicate, None};
 ghost use Rattle.gcd_tree.specs.TreeView.{tree_of};
 ghost use Rattle.gcd_hold.specs.HoldsView.{holds_of};
 ghost use Rattle.gcd_drain.specs.DrainsView.{drains_of};
@@ -9,7 +9,6 @@ ghost use Rattle.gcd_sync.specs.WaitsView.{waits_of};
 ghost use Rattle.gcd_source.specs.SourcesView.{sources_of};
 ghost use Rattle.gcd_timer.specs.TimersView.{timers_of};
 ghost use Rattle.gcd_plan.specs.Validity.{IsPlan};
-ghost use Rattle.gcd_plan.specs.Kinds.{is_timer_kind};
 ghost use Rattle.gcd_plan.specs.Limits.{max_workers};
 ghost use Rattle.gcd_refinement.specs.MachineView.{idle, undelivered, lists_of, machine_of};
 
@@ -20,7 +19,7 @@ use gcd_group::Groups;
 use gcd_hold::Holds;
 use gcd_lists::Lists;
 use gcd_objects::Objects;
-use gcd_plan::{MAX_WORKERS, Obj, Plan, Run};
+use gcd_plan::{MAX_WORKERS, Plan, Run};
 use gcd_refinement::{BlockProgress, HandlerProgress};
 use gcd_sema::Semas;
 use gcd_source::Sources;
@@ -31,7 +30,7 @@ use std::alloc::{AllocError, Global};
 use std::sync::Arc;
 
 impl Registers {
-    /// What is kept before anything has happened, with a copy of the plan. An `Err` comes only of want of memory.
+    /// What is kept before anything has happened, with a copy of the plan. An `Err` comes only where memory runs out.
     pub fn new(alloc: Global, plan: &Plan) -> Result<Registers, AllocError>
         ensures kept { IfOk result (λ r. r ≡ machine_of plan.now) }
         ensures valid { IsPlan plan.now }
@@ -41,8 +40,8 @@ impl Registers {
         let sleepers = Lists::new(alloc, plan)?;
         let (refs, lists, tree, holds, drains) = node_parts(alloc, plan)?;
         let (groups, semas, waits, sources, timers) = event_parts(alloc, plan)?;
-        let (blocks, ended, due) = block_arrays(alloc, blocks)?;
-        let (handlers, timed, busy, live, workers) = run_arrays(alloc, plan)?;
+        let (blocks, ended, wakeable) = block_arrays(alloc, blocks)?;
+        let (handlers, busy, live, workers) = run_arrays(alloc, plan)?;
         Ok(Registers {
             plan: shared,
             refs,
@@ -58,9 +57,8 @@ impl Registers {
             sleepers,
             blocks,
             ended,
-            due,
+            wakeable,
             handlers,
-            timed,
             busy,
             live,
             workers,
@@ -120,7 +118,7 @@ fn block_arrays(
 ) -> Result<(Vec<BlockProgress>, Vec<bool>, BitSet), AllocError>
     ensures blocks { IfOk result (λ arrays. arrays.0.items ≡ replicate blocks idle) }
     ensures ended { IfOk result (λ arrays. arrays.1.items ≡ replicate blocks false) }
-    ensures due { IfOk result (λ arrays. arrays.2 ≡ replicate blocks false) }
+    ensures wakeable { IfOk result (λ arrays. arrays.2 ≡ replicate blocks false) }
 {
     Ok((
         all_idle(alloc, blocks as usize)?,
@@ -129,30 +127,18 @@ fn block_arrays(
     ))
 }
 
-// What is kept of the handlers, which objects are timers, which have to be looked at, which feeds are live, and what each
-// worker has.
+// What is kept of the handlers, which objects have to be looked at, which feeds are live, and what each worker has.
 fn run_arrays(
     alloc: Global,
     plan: &Plan,
-) -> Result<
-    (
-        Vec<HandlerProgress>,
-        BitSet,
-        BitSet,
-        BitSet,
-        Vec<Option<Run>>,
-    ),
-    AllocError,
->
+) -> Result<(Vec<HandlerProgress>, BitSet, BitSet, Vec<Option<Run>>), AllocError>
     ensures handlers { IfOk result (λ arrays. arrays.0.items ≡ replicate (length plan.now.objects) undelivered) }
-    ensures timed { IfOk result (λ arrays. arrays.1 ≡ map (λ o. is_timer_kind o.kind) plan.now.objects) }
-    ensures busy { IfOk result (λ arrays. arrays.2 ≡ replicate (length plan.now.objects) false) }
-    ensures live { IfOk result (λ arrays. arrays.3 ≡ replicate (length plan.now.objects) false) }
-    ensures workers { IfOk result (λ arrays. arrays.4.items ≡ replicate max_workers None) }
+    ensures busy { IfOk result (λ arrays. arrays.1 ≡ replicate (length plan.now.objects) false) }
+    ensures live { IfOk result (λ arrays. arrays.2 ≡ replicate (length plan.now.objects) false) }
+    ensures workers { IfOk result (λ arrays. arrays.3.items ≡ replicate max_workers None) }
 {
     Ok((
         all_undelivered(alloc, plan.objects() as usize)?,
-        timers(alloc, plan)?,
         BitSet::new(alloc, plan.objects())?,
         BitSet::new(alloc, plan.objects())?,
         all_free(alloc, MAX_WORKERS as usize)?,
@@ -185,15 +171,4 @@ fn all_free(alloc: Global, workers: usize) -> Result<Vec<Option<Run>>, AllocErro
     ensures { IfOk result (λ v. v.items ≡ replicate workers None) }
 {
     vec![in alloc; None; workers]
-}
-
-// Which objects are timers.
-fn timers(alloc: Global, plan: &Plan) -> Result<BitSet, AllocError>
-    ensures { IfOk result (λ s. s ≡ map (λ o. is_timer_kind o.kind) plan.now.objects) }
-{
-    let mut timers = BitSet::new(alloc, plan.objects())?;
-    for o in 0..plan.objects() {
-        timers.put(o, plan.kind(Obj(o)).is_timer());
-    }
-    Ok(timers)
 }

@@ -39,16 +39,16 @@ impl Registers {
 
     // What the block is parked for has come.
     pub fn let_go(&mut self, blk: Blk)
-        requires { blk.0 < length self.old.due }
+        requires { blk.0 < length self.old.wakeable }
         ensures { self.new ≡ let_go self.old blk }
     {
-        self.due.set(blk.0);
+        self.wakeable.set(blk.0);
     }
 
     // Whoever waits for the end of a block may wake, if somebody does.
     #[inline(always)]
     pub fn let_caller_go(&mut self, caller: Option<Blk>)
-        requires { (b : Blk) → caller ≡ Some b → b.0 < length self.old.due }
+        requires { (b : Blk) → caller ≡ Some b → b.0 < length self.old.wakeable }
         ensures { self.new ≡ caller_let_go self.old caller }
     {
         match caller {

@@ -47,6 +47,8 @@ pub struct Told {
     pub nodes: (Option<Obj>, Option<Obj>),
     pub pending: (u64, u64),
     pub parks: (bool, bool),
+    // on object 1 and 2 by worker 1, on object 3 by worker 0
+    pub begins: (Option<Event>, Option<Event>, Option<Event>),
 }
 
 // A plan and a run of it. Worker 0 records what it chooses, the objects from number `from` on, so long as `most` events have
@@ -110,7 +112,7 @@ pub const OWN_CALL: Row = Row {
     ..PLAIN
 };
 
-pub static ROWS: [Row; 35] = [
+pub static ROWS: [Row; 36] = [
     PLAIN,
     Row {
         what: "one block",
@@ -147,6 +149,7 @@ pub static ROWS: [Row; 35] = [
     },
     OWN_CALL,
     MIDST,
+    UNSUSPENDED,
     Row {
         what: "a barrier on root is a plain block",
         blocks: 2,
@@ -569,6 +572,44 @@ pub const MIDST: Row = Row {
         nodes: (Some(O2), None),
         pending: (1, 4),
         parks: (false, true),
+        begins: (Some(DELIVER1), None, None),
     }),
     ..PLAIN
+};
+
+const DELIVER1: Event = Event::Deliver { worker: 1, src: O1 };
+
+// What may begin in the midst of `main`, where the queue is not suspended.
+pub const UNSUSPENDED: Row = Row {
+    what: "in the midst of main, with a queue from which a block may start",
+    acts: &[
+        (MAIN, Act::Activate(O1)),
+        (MAIN, Act::Activate(O3)),
+        (MAIN, Act::Async(O2, B1)),
+        (MAIN, Act::Sync(O2, B2)),
+    ],
+    most: 4,
+    journal: "start 0 b0; act 0 b0 0; act 0 b0 1; act 0 b0 2; tick 12; ready s3 4; ",
+    told: Some(Told {
+        sizes: (4, 3),
+        events: 6,
+        running: 1,
+        quiescent: false,
+        halted: false,
+        next_due: Some(15),
+        feeds: (false, true),
+        next_feeds: (Some(O3), None),
+        started: (true, false),
+        ended: (false, false),
+        waiting: (Some(B1), None),
+        nodes: (Some(O2), None),
+        pending: (1, 4),
+        parks: (true, false),
+        begins: (
+            Some(DELIVER1),
+            Some(Event::Start { worker: 1, blk: B1 }),
+            None,
+        ),
+    }),
+    ..MIDST
 };

@@ -1,16 +1,19 @@
 // The calls of the tests, and what each has to answer and to write.
 
+use gcd_event::Event;
+use gcd_plan::{Blk, Run};
 use gcd_run::Status;
 
-// A call in memory: its words, the script under `s` and the journal under `j`; what the poller tells of object 1, an answer each,
-// as a number of bytes and whether the feed has ended; the calls of the outside that fail, how much the sink takes at once, by how
-// much the clock steps; and then what the call is to answer and to write.
+// A call in memory: its words, the script under `s` and the journal under `j`, and whether the shelf lacks the file `log.txt`; what
+// the poller tells of object 1, an answer each, as a number of bytes and whether the feed has ended; the calls of the outside that
+// fail, how much the sink takes at once, by how much the clock steps; and then what the call is to answer and to write.
 #[derive(Clone, Copy)]
 pub struct Case {
     pub what: &'static str,
     pub words: &'static [&'static str],
     pub script: &'static str,
     pub journal: &'static str,
+    pub lacks_log: bool,
     pub feed: &'static [(u32, bool)],
     pub step: u64,
     pub failing_load: Option<u64>,
@@ -23,6 +26,10 @@ pub struct Case {
     pub at: Option<(u32, u32)>,
     // None: not compared
     pub events: Option<usize>,
+    // None: not compared
+    pub history: Option<&'static [Event]>,
+    // whether how often and when a source is delivered is left to the threads of a team
+    pub is_free: bool,
     pub text: &'static str,
 }
 
@@ -31,6 +38,7 @@ pub const RUN: Case = Case {
     words: &["run", "s"],
     script: "main",
     journal: "",
+    lacks_log: false,
     feed: &[],
     step: 0,
     failing_load: None,
@@ -42,15 +50,40 @@ pub const RUN: Case = Case {
     status: Status::Drained,
     at: None,
     events: None,
+    history: None,
+    is_free: false,
     text: "drained\n",
 };
 
 // Blocks, queues and suspension.
-pub static BLOCKS: [Case; 9] = [
+pub static BLOCKS: [Case; 10] = [
     Case {
         what: "one block on a serial queue",
         words: &["run", "s", "--journal"],
         script: "file log log.txt\nqueue q serial\nblock b1 lines log\nmain\nasync q b1",
+        history: Some(&[
+            Event::Start {
+                worker: 0,
+                blk: Blk(0),
+            },
+            Event::Act {
+                worker: 0,
+                run: Run::Block(Blk(0)),
+                index: 0,
+            },
+            Event::End {
+                worker: 0,
+                blk: Blk(0),
+            },
+            Event::Start {
+                worker: 0,
+                blk: Blk(1),
+            },
+            Event::End {
+                worker: 0,
+                blk: Blk(1),
+            },
+        ]),
         text: "start 0 main\nact 0 main 0\nend 0 main\nstart 0 b1\nend 0 b1\nevents 5\nb1 = 3\ndrained\n",
         ..RUN
     },
@@ -75,9 +108,11 @@ pub static BLOCKS: [Case; 9] = [
     },
     Case {
         what: "a call beneath one target",
+        words: &["run", "s", "--journal"],
         script: "queue t serial\nqueue q serial on t\nqueue r serial on t\nblock b3\nblock b1\nsync r b3\nblock b2\nmain\nasync q b1\nasync q b2",
         status: Status::Stuck,
-        text: "b1 waits for b3\nb3 not started\nb2 not started\nstuck\n",
+        events: Some(6),
+        text: "start 0 main\nact 0 main 0\nact 0 main 1\nend 0 main\nstart 0 b1\nact 0 b1 0\nevents 6\nb1 waits for b3\nb3 not started\nb2 not started\nstuck\n",
         ..RUN
     },
     Case {
@@ -91,6 +126,14 @@ pub static BLOCKS: [Case; 9] = [
         what: "a barrier, with four workers",
         words: &["run", "s", "--workers", "4"],
         script: "queue q concurrent\nblock b1\nblock b2\nblock x\nblock b3\nblock b4\nmain\nasync q b1\nasync q b2\nbarrier q x\nasync q b3\nasync q b4",
+        events: Some(17),
+        ..RUN
+    },
+    Case {
+        what: "two concurrent queues on one serial target, with four workers",
+        words: &["run", "s", "--workers", "4"],
+        script: "queue t serial\nqueue c concurrent on t\nqueue d concurrent on t\nblock b1\nblock b2\nmain\nasync c b1\nasync d b2",
+        events: Some(8),
         ..RUN
     },
     Case {
@@ -179,22 +222,27 @@ pub static TARGETS_AND_GROUPS: [Case; 9] = [
 pub static SOURCES: [Case; 9] = [
     Case {
         what: "merges are added",
+        words: &["run", "s", "--journal"],
         script: "source s add on root\nmain\nactivate s\nsuspend s\nmerge s 5\nmerge s 0\nmerge s 7\nresume s",
         events: Some(10),
-        text: "s received 12 in 1 pending 0\ndrained\n",
+        text: "start 0 main\nact 0 main 0\nact 0 main 1\nact 0 main 2\nact 0 main 3\nact 0 main 4\nact 0 main 5\nend 0 main\ndeliver 0 s\ndeliver_end 0 s\nevents 10\ns received 12 in 1 pending 0\ndrained\n",
         ..RUN
     },
     Case {
         what: "merges are joined",
+        words: &["run", "s", "--journal"],
         script: "source s or on root\nmain\nmerge s 3\nmerge s 6\nactivate s",
-        text: "s received 7 in 1 pending 0\ndrained\n",
+        events: Some(7),
+        text: "start 0 main\nact 0 main 0\nact 0 main 1\nact 0 main 2\nend 0 main\ndeliver 0 s\ndeliver_end 0 s\nevents 7\ns received 7 in 1 pending 0\ndrained\n",
         ..RUN
     },
     Case {
         what: "a timer",
+        words: &["run", "s", "--journal"],
         script: "source t timer 10 5 on root\nuntil 21\nmain\nactivate t",
         events: Some(12),
-        text: "t received 3 in 3 pending 0\ndrained\n",
+        is_free: true,
+        text: "start 0 main\nact 0 main 0\nend 0 main\ntick 10\ndeliver 0 t\ndeliver_end 0 t\ntick 15\ndeliver 0 t\ndeliver_end 0 t\ntick 20\ndeliver 0 t\ndeliver_end 0 t\nevents 12\nt received 3 in 3 pending 0\ndrained\n",
         ..RUN
     },
     Case {
@@ -202,6 +250,7 @@ pub static SOURCES: [Case; 9] = [
         words: &["run", "s", "--journal"],
         script: "source t timer 10 5 on root\nuntil 21\nmain\nactivate t",
         step: 6,
+        is_free: true,
         text: "start 0 main\nact 0 main 0\nend 0 main\ntick 12\ntick 18\ntick 21\ndeliver 0 t\ndeliver_end 0 t\nevents 8\nt received 3 in 1 pending 0\ndrained\n",
         ..RUN
     },
@@ -209,6 +258,7 @@ pub static SOURCES: [Case; 9] = [
         what: "a timer that its handler cancels",
         words: &["run", "s", "--journal"],
         script: "source t timer 10 5 on root\nhandler t\ncancel t\nblock c\ncancelled t c\nuntil 21\nmain\nactivate t",
+        is_free: true,
         text: "start 0 main\nact 0 main 0\nend 0 main\ntick 10\ndeliver 0 t\nact 0 t 0\ndeliver_end 0 t\nstart 0 c\nend 0 c\nevents 9\nt received 1 in 1 pending 0\ndrained\n",
         ..RUN
     },
@@ -217,6 +267,7 @@ pub static SOURCES: [Case; 9] = [
         words: &["run", "s", "--journal"],
         script: "source r read d on root\nmain\nactivate r",
         feed: &[(4, false), (0, false), (6, false), (0, true)],
+        is_free: true,
         text: "start 0 main\nact 0 main 0\nend 0 main\nready r 4\ndeliver 0 r\ndeliver_end 0 r\nready r 6\ndeliver 0 r\ndeliver_end 0 r\nfeed_end r\nevents 10\nr received 10 in 2 pending 0\ndrained\n",
         ..RUN
     },
@@ -367,7 +418,7 @@ pub static REFUSALS: [Case; 13] = [
 ];
 
 // Faults of what is outside, and of the words.
-pub static FAULTS: [Case; 10] = [
+pub static FAULTS: [Case; 11] = [
     Case {
         what: "the sink fails at once",
         script: "file log log.txt\nqueue q serial\nblock b1 lines log\nmain\nasync q b1",
@@ -400,6 +451,15 @@ pub static FAULTS: [Case; 10] = [
         what: "the load of the file fails",
         script: "file log log.txt\nqueue q serial\nblock b1 lines log\nmain\nasync q b1",
         failing_load: Some(1),
+        status: Status::Unread,
+        events: Some(0),
+        text: "read fault\n",
+        ..RUN
+    },
+    Case {
+        what: "a shelf that lacks the file",
+        script: "file log log.txt\nqueue q serial\nblock b1 lines log\nmain\nasync q b1",
+        lacks_log: true,
         status: Status::Unread,
         events: Some(0),
         text: "read fault\n",
@@ -460,8 +520,8 @@ pub static FAULTS: [Case; 10] = [
     },
 ];
 
-// Journals that are judged, and the large script.
-pub static COMMANDS: [Case; 8] = [
+// Journals that are judged.
+pub static COMMANDS: [Case; 6] = [
     Case {
         what: "a journal is lawful",
         words: &["check", "s", "j"],
@@ -520,22 +580,6 @@ pub static COMMANDS: [Case; 8] = [
         at: Some((5, 2)),
         events: Some(8),
         text: "journal refused: event 5\n",
-        ..RUN
-    },
-    Case {
-        what: "one large block",
-        words: &["big", "1"],
-        script: "",
-        events: Some(5),
-        text: "blocks 1\ntotal 7328\ndrained\n",
-        ..RUN
-    },
-    Case {
-        what: "three large blocks",
-        words: &["big", "3", "--workers", "64"],
-        script: "",
-        events: Some(11),
-        text: "blocks 3\ntotal 22304\ndrained\n",
         ..RUN
     },
 ];

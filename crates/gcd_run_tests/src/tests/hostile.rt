@@ -14,7 +14,7 @@ const FED: Case = Case {
 };
 
 // Each call of the outside that fails, by its number.
-pub static FAILURES: [Case; 10] = [
+pub static FAILURES: [Case; 11] = [
     FED,
     Case {
         what: "the script can't be loaded",
@@ -68,6 +68,13 @@ pub static FAILURES: [Case; 10] = [
         status: Status::Unread,
         events: Some(10),
         text: "b = 1\nr received 4 in 1 pending 0\nread fault\n",
+        ..FED
+    },
+    Case {
+        what: "the first write fails",
+        failing_write: Some(0),
+        status: Status::CutOff,
+        text: "",
         ..FED
     },
     Case {

@@ -117,6 +117,24 @@ const FILE_TOO_MANY: Case = Case {
     ..RUN
 };
 
+const CHAIN: Case = Case {
+    what: "as many queues as there may be, each on the one before, and a block on the last",
+    events: Some(5),
+    ..RUN
+};
+
+// Such queues, and a block on the last.
+fn chain(alloc: Global) -> Result<String, AllocError> {
+    let mut script = String::from_str(alloc, "queue q0 serial\n")?;
+    let mut before: u32 = 0;
+    for k in 1..1_023 {
+        script.push_str(format!(in alloc; "queue q{k} serial on q{before}\n")?.as_str())?;
+        before = k;
+    }
+    script.push_str(format!(in alloc; "block b\nmain\nasync q{before} b\n")?.as_str())?;
+    Ok(script)
+}
+
 // So many declarations, whose names end in a number, and `main`.
 fn declarations(alloc: Global, line: &str, path: &str, count: u32) -> Result<String, AllocError> {
     let mut script = String::new(alloc);
@@ -150,6 +168,12 @@ fn keeps_to_the_limits(rt: HostRuntime) -> Result<(), Fail> {
         is_answered(&rt, rt.alloc(), &case, script.as_bytes())?;
     }
     Ok(())
+}
+
+#[test]
+fn a_block_starts_beneath_a_long_chain(rt: HostRuntime) -> Result<(), Fail> {
+    let script = chain(rt.alloc())?;
+    is_answered(&rt, rt.alloc(), &CHAIN, script.as_bytes())
 }
 
 // `main` and then line feeds, up to so many bytes.

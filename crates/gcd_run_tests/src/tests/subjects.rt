@@ -107,6 +107,42 @@ pub static REFERENCES_AND_WAITS: [Case; 6] = [
     },
 ];
 
+// Misuse in scripts with a queue and a block more, so that a team of more than one hand runs them.
+pub static MISUSED: [Case; 4] = [
+    Case {
+        what: "a target of a target, beside a block",
+        words: &["run", "s", "--journal"],
+        script: "queue t serial\nqueue a serial\nqueue c serial on a\nqueue q serial\nblock b\nmain\nasync q b\ntarget a t",
+        status: Status::Misused,
+        text: "start 0 main\nact 0 main 0\nmisuse 0 main 1 M5\nevents 3\nmisuse main 1 M5\n",
+        ..RUN
+    },
+    Case {
+        what: "a target of itself, beside a block",
+        words: &["run", "s", "--journal"],
+        script: "queue t serial\nqueue a serial\nqueue c serial on a\nqueue q serial\nblock b\nmain\nasync q b\ntarget a a",
+        status: Status::Misused,
+        text: "start 0 main\nact 0 main 0\nmisuse 0 main 1 M3\nevents 3\nmisuse main 1 M3\n",
+        ..RUN
+    },
+    Case {
+        what: "a leave without an enter, beside a block",
+        words: &["run", "s", "--journal"],
+        script: "group g\nqueue q serial\nblock b\nmain\nasync q b\nleave g",
+        status: Status::Misused,
+        text: "start 0 main\nact 0 main 0\nmisuse 0 main 1 M2\nevents 3\nmisuse main 1 M2\n",
+        ..RUN
+    },
+    Case {
+        what: "a release below the first value, beside a block",
+        words: &["run", "s", "--journal"],
+        script: "semaphore s 1\nqueue q serial\nblock b\nmain\nasync q b\nwait s\nrelease s",
+        status: Status::Misused,
+        text: "start 0 main\nact 0 main 0\nact 0 main 1\nwake 0 main\nmisuse 0 main 2 M8\nevents 5\nmisuse main 2 M8\n",
+        ..RUN
+    },
+];
+
 // Sources and feeds, and the range of the large script.
 pub static SOURCES_AND_FEEDS: [Case; 8] = [
     Case {
@@ -136,6 +172,7 @@ pub static SOURCES_AND_FEEDS: [Case; 8] = [
         words: &["run", "s", "--journal"],
         script: "source r read d on root\nmain\nactivate r",
         feed: &[(5, false)],
+        is_free: true,
         text: "start 0 main\nact 0 main 0\nend 0 main\nready r 5\ndeliver 0 r\ndeliver_end 0 r\nfeed_end r\nevents 7\nr received 5 in 1 pending 0\ndrained\n",
         ..RUN
     },
@@ -144,6 +181,7 @@ pub static SOURCES_AND_FEEDS: [Case; 8] = [
         words: &["run", "s", "--journal"],
         script: "source r read d on root\nmain\nactivate r",
         feed: &[(5, true)],
+        is_free: true,
         text: "start 0 main\nact 0 main 0\nend 0 main\nready r 5\nfeed_end r\nevents 5\nr received 0 in 0 pending 5\ndrained\n",
         ..RUN
     },

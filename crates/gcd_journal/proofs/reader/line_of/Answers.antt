@@ -3,14 +3,14 @@ use Rattle.gcd_journal.specs.Named.{look_of}
 use Rattle.gcd_journal.proofs.NextLines.{one_too_many, counted_line, no_form}
 use Rattle.gcd_journal.proofs.reader.line_of.Goals as goal
 
-pub returns-else-count : goal.returns-else-count
-returns-else-count c =
-    one_too_many (look_of c.args.names.now.runs) c.args.line.now c.args.rest.now c.args.count c.requires (omega arith) c.in-Some.e c.in-Some.ensures (omega arith)
+pub returns-else-count-most : goal.returns-else-count-most
+returns-else-count-most c =
+    one_too_many c.args.most (look_of c.args.names.now.runs) c.args.line.now c.args.rest.now c.args.count c.requires (omega arith) c.in-Some.e c.in-Some.ensures (omega arith)
 
 pub returns-then-is_count : goal.returns-then-is_count
 returns-then-is_count c =
-    counted_line (look_of c.args.names.now.runs) c.args.line.now c.args.rest.now c.args.count c.requires (omega arith) c.if-is_count.ensures
+    counted_line c.args.most (look_of c.args.names.now.runs) c.args.line.now c.args.rest.now c.args.count c.requires (omega arith) c.if-is_count.ensures
 
 pub returns-else-is_count : goal.returns-else-is_count
 returns-else-is_count c =
-    no_form (look_of c.args.names.now.runs) c.args.line.now c.args.rest.now c.args.count c.requires (omega arith) c.in-None.ensures c.if-is_count.ensures
+    no_form c.args.most (look_of c.args.names.now.runs) c.args.line.now c.args.rest.now c.args.count c.requires (omega arith) c.in-None.ensures c.if-is_count.ensures

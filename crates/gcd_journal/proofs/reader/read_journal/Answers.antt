@@ -7,7 +7,7 @@ use Rattle.gcd_journal.proofs.NextLines.{nothing_read, one_more_read, whole_jour
 use Rattle.gcd_journal.proofs.reader.read_journal.Goals as goal
 
 pub lines-init : goal.lines-init
-lines-init c = rw c.new-events.ensures.items (nothing_read c.args.plan.now c.args.bytes.now)
+lines-init c = rw c.new-events.ensures.items (nothing_read c.args.most c.args.plan.now c.args.bytes.now)
 
 pub lines-smaller : goal.lines-smaller
 lines-smaller c = line_length (look_of c.in_ok-names.names.runs) c.lines.rest.now c.in-Spoken.more.now c.in-Spoken.e c.in-Spoken.ensures.0
@@ -15,18 +15,18 @@ lines-smaller c = line_length (look_of c.in_ok-names.names.runs) c.lines.rest.no
 pub lines-preserved : goal.lines-preserved
 lines-preserved c =
     rw c.in_ok-add-in-Spoken.ensures
-    (one_more_read c.args.plan.now (look_of c.in_ok-names.names.runs) c.in_ok-names.ensures.valid c.in_ok-names.ensures.known
+    (one_more_read c.args.most c.args.plan.now (look_of c.in_ok-names.names.runs) c.in_ok-names.ensures.valid c.in_ok-names.ensures.known
     c.args.bytes.now c.lines.events.items c.lines.rest.now c.in-Spoken.more.now c.in-Spoken.e c.lines.invariant c.in-Spoken.ensures.0 (omega (arith, c.in-Spoken.ensures.1)))
 
 pub returns-in-Count-clause-journal : goal.returns-in-Count-clause-journal
 returns-in-Count-clause-journal c =
     let same : c.len.result ≡ length c.lines.events.items = omega arith in
-    whole_journal c.args.plan.now (look_of c.in_ok-names.names.runs) c.in_ok-names.ensures.valid c.in_ok-names.ensures.known
+    whole_journal c.args.most c.args.plan.now (look_of c.in_ok-names.names.runs) c.in_ok-names.ensures.valid c.in_ok-names.ensures.known
     c.args.bytes.now c.lines.events.items c.lines.rest.now c.lines.invariant (subst (λ n. BeginsWith c.lines.rest.now (count_line n)) same c.in-Count.ensures)
 
 pub returns-in-Fault-clause-fault : goal.returns-in-Fault-clause-fault
 returns-in-Fault-clause-fault c =
     let same : c.len.result ≡ length c.lines.events.items = omega arith in
-    fault_is_refused c.args.plan.now (look_of c.in_ok-names.names.runs) c.in_ok-names.ensures.valid c.in_ok-names.ensures.known
+    fault_is_refused c.args.most c.args.plan.now (look_of c.in_ok-names.names.runs) c.in_ok-names.ensures.valid c.in_ok-names.ensures.known
     c.args.bytes.now c.lines.events.items c.lines.rest.now (c.len-in-Fault.result + 1) c.lines.invariant
-    (subst (λ n. IsFault (look_of c.in_ok-names.names.runs) c.lines.rest.now n) same c.in-Fault.ensures) (omega arith)
+    (subst (λ n. IsFault c.args.most (look_of c.in_ok-names.names.runs) c.lines.rest.now n) same c.in-Fault.ensures) (omega arith)

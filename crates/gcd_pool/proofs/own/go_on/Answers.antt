@@ -1,6 +1,6 @@
 use Rattle.gcd_pool.proofs.Puts.{fresh_gives, says_fresh}
 use Rattle.gcd_row.specs.Passes.{view}
-use Rattle.gcd_pool.proofs.Works.{says_adds}
+use Rattle.gcd_pool.proofs.Works.{says_adds, says_only}
 use Rattle.gcd_pool.proofs.own.go_on.Goals as goal
 
 pub put_chosen-requires-clause-cell : goal.put_chosen-requires-clause-cell
@@ -20,3 +20,12 @@ returns-in-Full-clause-work g c = says_adds c.args.e (view c.args.pass.now) (vie
 
 pub returns-in-Barred-clause-work : goal.returns-in-Barred-clause-work
 returns-in-Barred-clause-work g c = says_adds c.args.e (view c.args.pass.now) (view c.put_chosen.new.pass) c.put_chosen.result c.requires.work c.put_chosen.ensures.view
+
+pub returns-in-Placed-clause-only : goal.returns-in-Placed-clause-only
+returns-in-Placed-clause-only g c = says_only c.args.e (view c.args.pass.now) (view c.put_chosen.new.pass) c.put_chosen.result c.put_chosen.ensures.view
+
+pub returns-in-Barred-clause-only : goal.returns-in-Barred-clause-only
+returns-in-Barred-clause-only g c = says_only c.args.e (view c.args.pass.now) (view c.put_chosen.new.pass) c.put_chosen.result c.put_chosen.ensures.view
+
+pub returns-in-Full-clause-only : goal.returns-in-Full-clause-only
+returns-in-Full-clause-only g c = says_only c.args.e (view c.args.pass.now) (view c.put_chosen.new.pass) c.put_chosen.result c.put_chosen.ensures.view

@@ -2,8 +2,8 @@ use Rattle.gcd_pool.proofs.Puts.{looks_fresh}
 use Rattle.gcd_pool.proofs.Serves.{looks_ready}
 use Rattle.gcd_pool.proofs.serve.step.Goals as goal
 
-pub returns-then-pace-clause-after : goal.returns-then-pace-clause-after
-returns-then-pace-clause-after g c =
+pub returns-then-watch-clause-after : goal.returns-then-watch-clause-after
+returns-then-watch-clause-after g c =
     looks_fresh g.S.Slot.shape g.S.Slot.gives c.args.pool.now.board.now c.args.hand.now.pass c.look-seen.new.pass c.look-seen.ensures.pass c.look-seen.ensures.view c.look-seen.ensures.slots c.requires.fresh
 
 pub free_turn-requires : goal.free_turn-requires

@@ -1,26 +1,29 @@
-use Rattle.gcd_pool.proofs.Told.{to_begin, to_record}
+use Rattle.gcd_pool.proofs.Told.{to_begin, to_leave, to_record}
 use Rattle.gcd_pool.proofs.turn.take_turn.Goals as goal
 
 pub record_own-requires-clause-worker : goal.record_own-requires-clause-worker
-record_own-requires-clause-worker g c = (to_record g.S.Slot.shape g.S.Slot.gives c.args.pool.now.board.now c.args.hand.now.pass c.requires.of.pass c.machine.result.now c.worker.result c.args.from c.in-Record.e c.machine.ensures c.worker.ensures c.in-Record.ensures).0
+record_own-requires-clause-worker g c = (to_record g.S.Slot.shape g.S.Slot.gives c.args.pool.now.board.now c.args.hand.now.pass c.requires.of.pass c.machine.result.now c.most-most.result c.worker.result c.args.from c.in-Record.e c.machine.ensures c.most-most.ensures c.worker.ensures c.in-Record.ensures).0
 
 pub record_own-requires-clause-may : goal.record_own-requires-clause-may
-record_own-requires-clause-may g c = (to_record g.S.Slot.shape g.S.Slot.gives c.args.pool.now.board.now c.args.hand.now.pass c.requires.of.pass c.machine.result.now c.worker.result c.args.from c.in-Record.e c.machine.ensures c.worker.ensures c.in-Record.ensures).1
+record_own-requires-clause-may g c = (to_record g.S.Slot.shape g.S.Slot.gives c.args.pool.now.board.now c.args.hand.now.pass c.requires.of.pass c.machine.result.now c.most-most.result c.worker.result c.args.from c.in-Record.e c.machine.ensures c.most-most.ensures c.worker.ensures c.in-Record.ensures).1
 
 pub record_own-requires-clause-work : goal.record_own-requires-clause-work
-record_own-requires-clause-work g c = (to_record g.S.Slot.shape g.S.Slot.gives c.args.pool.now.board.now c.args.hand.now.pass c.requires.of.pass c.machine.result.now c.worker.result c.args.from c.in-Record.e c.machine.ensures c.worker.ensures c.in-Record.ensures).2
+record_own-requires-clause-work g c = (to_record g.S.Slot.shape g.S.Slot.gives c.args.pool.now.board.now c.args.hand.now.pass c.requires.of.pass c.machine.result.now c.most-most.result c.worker.result c.args.from c.in-Record.e c.machine.ensures c.most-most.ensures c.worker.ensures c.in-Record.ensures).2
 
 pub begin_chosen-requires-clause-node : goal.begin_chosen-requires-clause-node
-begin_chosen-requires-clause-node g c = (to_begin g.S.Slot.shape g.S.Slot.gives c.args.pool.now.board.now c.args.hand.now.pass c.requires.of.pass c.machine.result.now c.worker.result c.args.from c.in-Begin.node c.in-Begin.e c.machine.ensures c.worker.ensures c.in-Begin.ensures).0
+begin_chosen-requires-clause-node g c = (to_begin g.S.Slot.shape g.S.Slot.gives c.args.pool.now.board.now c.args.hand.now.pass c.requires.of.pass c.machine.result.now c.most-most.result c.worker.result c.args.from c.in-Begin.node c.in-Begin.e c.machine.ensures c.most-most.ensures c.worker.ensures c.in-Begin.ensures).0
 
 pub begin_chosen-requires-clause-begins : goal.begin_chosen-requires-clause-begins
-begin_chosen-requires-clause-begins g c = (to_begin g.S.Slot.shape g.S.Slot.gives c.args.pool.now.board.now c.args.hand.now.pass c.requires.of.pass c.machine.result.now c.worker.result c.args.from c.in-Begin.node c.in-Begin.e c.machine.ensures c.worker.ensures c.in-Begin.ensures).1
+begin_chosen-requires-clause-begins g c = (to_begin g.S.Slot.shape g.S.Slot.gives c.args.pool.now.board.now c.args.hand.now.pass c.requires.of.pass c.machine.result.now c.most-most.result c.worker.result c.args.from c.in-Begin.node c.in-Begin.e c.machine.ensures c.most-most.ensures c.worker.ensures c.in-Begin.ensures).1
 
 pub begin_chosen-requires-clause-worker : goal.begin_chosen-requires-clause-worker
-begin_chosen-requires-clause-worker g c = (to_begin g.S.Slot.shape g.S.Slot.gives c.args.pool.now.board.now c.args.hand.now.pass c.requires.of.pass c.machine.result.now c.worker.result c.args.from c.in-Begin.node c.in-Begin.e c.machine.ensures c.worker.ensures c.in-Begin.ensures).2
+begin_chosen-requires-clause-worker g c = (to_begin g.S.Slot.shape g.S.Slot.gives c.args.pool.now.board.now c.args.hand.now.pass c.requires.of.pass c.machine.result.now c.most-most.result c.worker.result c.args.from c.in-Begin.node c.in-Begin.e c.machine.ensures c.most-most.ensures c.worker.ensures c.in-Begin.ensures).2
 
 pub begin_chosen-requires-clause-may : goal.begin_chosen-requires-clause-may
-begin_chosen-requires-clause-may g c = (to_begin g.S.Slot.shape g.S.Slot.gives c.args.pool.now.board.now c.args.hand.now.pass c.requires.of.pass c.machine.result.now c.worker.result c.args.from c.in-Begin.node c.in-Begin.e c.machine.ensures c.worker.ensures c.in-Begin.ensures).3
+begin_chosen-requires-clause-may g c = (to_begin g.S.Slot.shape g.S.Slot.gives c.args.pool.now.board.now c.args.hand.now.pass c.requires.of.pass c.machine.result.now c.most-most.result c.worker.result c.args.from c.in-Begin.node c.in-Begin.e c.machine.ensures c.most-most.ensures c.worker.ensures c.in-Begin.ensures).3
 
 pub begin_chosen-requires-clause-work : goal.begin_chosen-requires-clause-work
-begin_chosen-requires-clause-work g c = (to_begin g.S.Slot.shape g.S.Slot.gives c.args.pool.now.board.now c.args.hand.now.pass c.requires.of.pass c.machine.result.now c.worker.result c.args.from c.in-Begin.node c.in-Begin.e c.machine.ensures c.worker.ensures c.in-Begin.ensures).4
+begin_chosen-requires-clause-work g c = (to_begin g.S.Slot.shape g.S.Slot.gives c.args.pool.now.board.now c.args.hand.now.pass c.requires.of.pass c.machine.result.now c.most-most.result c.worker.result c.args.from c.in-Begin.node c.in-Begin.e c.machine.ensures c.most-most.ensures c.worker.ensures c.in-Begin.ensures).4
+
+pub returns-in-Leave-clause-after : goal.returns-in-Leave-clause-after
+returns-in-Leave-clause-after g c = to_leave g.S.Slot.shape g.S.Slot.gives c.args.pool.now.board.now c.args.hand.now.pass c.requires.of.pass c.machine.result.now c.most-most.result c.worker.result c.args.from _ c.machine.ensures c.most-most.ensures c.in-Leave.ensures

@@ -1,4 +1,7 @@
-use Rattle.std.proofs.Common.{◌∙◌}
+use Rattle.std.proofs.Common.{◌∙◌, ◌≡◌, List, None, subst, sym}
+use Rattle.std.specs.Prelude.{slice_index_or}
+use Rattle.gcd_row.specs.Views.{standing_of}
+use Rattle.gcd_pool.specs.declared.hand.Hand.{Hand}
 use Rattle.gcd_row.specs.Passes.{view}
 use Rattle.gcd_pool.specs.Hands.{IsReady}
 use Rattle.gcd_pool.proofs.Teams.{all_led, none_own}
@@ -13,3 +16,8 @@ pub returns-clause-hands : goal.returns-clause-hands
 returns-clause-hands g c =
     all_led (IsReady g.S.Slot.shape g.S.Slot.gives c.args.pool.now) c.hire_all-hands.result.items c.insert.new.self.items c.new.result
     c.in-Ok.ensures.items c.hire_all-hands.ensures.hands c.new.ensures.ready
+
+pub returns-clause-none : goal.returns-clause-none
+returns-clause-none g c = λ d w high.
+    subst (λ (hands : List (Hand g.row.S.Denot)). standing_of (view (slice_index_or hands 0 d).pass).hands w ≡ None) (sym c.in-Ok.ensures.items)
+    (subst (λ (hand : Hand g.row.S.Denot). standing_of (view hand.pass).hands w ≡ None) (sym c.new.ensures.parts) (c.hire_all-hands.ensures.none w high))

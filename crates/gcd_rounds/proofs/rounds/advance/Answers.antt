@@ -1,10 +1,20 @@
-use Rattle.std.proofs.Common.{◌∙◌, Ok, ap}
+use Rattle.std.proofs.Common.{◌∙◌, refl}
 use Rattle.gcd_rounds.proofs.rounds.advance.Goals as goal
 
-pub end_round-requires-clause-free : goal.end_round-requires-clause-free
-end_round-requires-clause-free g c =
-    λ lifetimes outlive. c.first_step.ensures.free c.in-Stopped.left (c.in_ok-first_step.was ∙ ap Ok c.in-Stopped.is)
+pub returns-in_err-take_turn-clause-terms : goal.returns-in_err-take_turn-clause-terms
+returns-in_err-take_turn-clause-terms g c = c.take_turn.ensures.kept c.args.round.now refl
 
-pub returns-in_ok-end_round-in-Stopped-clause-going : goal.returns-in_ok-end_round-in-Stopped-clause-going
-returns-in_ok-end_round-in-Stopped-clause-going g c = λ before early going.
-    c.in_ok-end_round-in-Stopped.ensures.going before early (c.in_ok-first_step.ensures.going before early going)
+pub returns-in-Placed-clause-terms : goal.returns-in-Placed-clause-terms
+returns-in-Placed-clause-terms g c = c.take_turn.ensures.kept c.args.round.now refl
+
+pub returns-in-Waited-clause-terms : goal.returns-in-Waited-clause-terms
+returns-in-Waited-clause-terms g c = c.take_turn.ensures.kept c.args.round.now refl
+
+pub returns-in-Over-clause-terms : goal.returns-in-Over-clause-terms
+returns-in-Over-clause-terms g c = c.take_turn.ensures.kept c.args.round.now refl
+
+pub returns-in_err-close_round-in-Stopped-clause-terms : goal.returns-in_err-close_round-in-Stopped-clause-terms
+returns-in_err-close_round-in-Stopped-clause-terms g c = c.close_round.ensures.terms ∙ c.take_turn.ensures.kept c.args.round.now refl
+
+pub returns-in_ok-close_round-in-Stopped-clause-terms : goal.returns-in_ok-close_round-in-Stopped-clause-terms
+returns-in_ok-close_round-in-Stopped-clause-terms g c = c.close_round.ensures.terms ∙ c.take_turn.ensures.kept c.args.round.now refl

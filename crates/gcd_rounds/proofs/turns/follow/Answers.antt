@@ -1,10 +1,10 @@
-use Rattle.std.proofs.Common.{refl}
+use Rattle.std.proofs.Common.{◌++◌, ◌∷◌, [], refl}
 use Rattle.gcd_history.specs.Choice.{worker_of}
-use Rattle.gcd_alone.proofs.ValuesMore.{ends_none}
 use Rattle.gcd_rounds.specs.Kept.{endings_of}
 use Rattle.gcd_rounds.proofs.EndsKept.{before_are_others}
 use Rattle.gcd_rounds.proofs.Ready.{before_kept, job_waits, jobs_kept, ready_kept}
-use Rattle.gcd_rounds.proofs.WorkedOn.{worked_once}
+use Rattle.gcd_loop.proofs.Steps.{grows_one}
+use Rattle.gcd_rounds.proofs.Grown.{ends_none}
 use Rattle.gcd_rounds.proofs.Zips.{before_more}
 use Rattle.gcd_rounds.proofs.turns.follow.Goals as goal
 
@@ -49,5 +49,5 @@ returns g c =
       before = before_more (worker_of e) ends c.requires.before;
       going = λ is. refl;
       stopped = λ is. cc;
-      worked = rw c.in_ok-record.ensures.journal (worked_once plan h e next.permitted next.room c.requires.work);
+      grows = rw c.in_ok-record.ensures.journal (grows_one h (h ++ e ∷ []) e refl c.requires.work);
     }

@@ -1,7 +1,7 @@
 use Rattle.std.proofs.Common.{◌∙◌, sym, subst, List}
 use Rattle.gcd_rounds.specs.declared.kept.Kept.{Kept}
 use Rattle.gcd_rounds.specs.Kept.{EndBefore, endings_of}
-use Rattle.gcd_rounds.proofs.WorkedOn.{worked_through}
+use Rattle.gcd_rounds.proofs.Grown.{grows_through}
 use Rattle.gcd_rounds.proofs.turns.take_turn.Goals as goal
 
 pub loop-preserved : goal.loop-preserved
@@ -13,5 +13,5 @@ loop-preserved g c =
       ready = c.in_ok-choose.ensures.ready;
       jobs = c.in_ok-choose.ensures.jobs;
       before = subst (λ (kept : List (Kept _)). EndBefore c.args.worker (endings_of kept)) (sym (c.in_ok-choose.ensures.going (cc))) was.before;
-      worked = worked_through c.args.plan.now c.args.run.now.journal.items c.loop.run.journal.items c.choose.new.run.journal.items was.worked c.in_ok-choose.ensures.worked;
+      grows = grows_through c.args.run.now.journal.items c.loop.run.journal.items c.choose.new.run.journal.items was.grows c.in_ok-choose.ensures.grows;
     }

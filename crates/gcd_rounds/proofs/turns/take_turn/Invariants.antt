@@ -1,6 +1,7 @@
 use Rattle.std.proofs.Common.{◌≡◌}
 use Rattle.gcd_rounds.specs.Kept.{EndBefore, HaveJobs, endings_of}
-use Rattle.gcd_rounds.specs.Running.{AreReady, IsRun, Worked}
+use Rattle.gcd_loop.specs.Recorded.{Grows}
+use Rattle.gcd_rounds.specs.Running.{AreReady, IsRun}
 use Rattle.gcd_rounds.proofs.turns.take_turn.Given as goal
 
 abbrev pub invariant-loop : goal.invariant-loop
@@ -10,5 +11,5 @@ invariant-loop g l = record {
   ready : AreReady g.J.Job.gives l.plan l.run (endings_of l.kept.items);
   jobs : HaveJobs l.run.terms.jobs.value.items l.kept.items;
   before : EndBefore l.worker (endings_of l.kept.items);
-  worked : Worked l.plan l.initial.run.journal.items l.run.journal.items;
+  grows : Grows l.initial.run.journal.items l.run.journal.items;
 }

@@ -13,7 +13,7 @@ run_by-requires-clause-files g c = λ lifetimes outlive.
     ∙ length-map c.in_ok-plan.plan.files (λ file. large_file)
 
 pub story_of-requires-clause-spoken : goal.story_of-requires-clause-spoken
-story_of-requires-clause-spoken g c = lawful_spoken _ _ c.in_ok-plan.ensures.valid c.in_ok-run.ensures.ran.lawful
+story_of-requires-clause-spoken g c = lawful_spoken _ _ c.in_ok-plan.ensures.valid c.in_ok-run.ensures.ran.run.lawful
 
 pub story_of-requires-clause-few : goal.story_of-requires-clause-few
 story_of-requires-clause-few g c = omega (arith, c.in_ok-run.ensures.values.count, c.in_ok-plan.ensures.valid.few_blocks)

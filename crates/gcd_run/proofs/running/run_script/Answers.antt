@@ -50,7 +50,7 @@ returns-in-Ok-clause-told g c =
       made = record {
         loads = c.in_ok-plan.ensures.loads;
         listens = listening_more g.P.Poller.tells (state c.args.poller.now) (state c.listen_at.new.poller) (state c.run_plan.new.poller) _ _
-            listened.listening c.run_plan.ensures.listens c.run_plan.ensures.addresses;
+            listened.listening c.run_plan.ensures.kept.listens c.run_plan.ensures.kept.addresses;
       };
       is = ran c.in_ok-plan.plan (map (λ f. f.items) c.in_ok-plan.files.items) c.in_ok-plan.ensures.ready refl
           (tells_since (state c.listen_at.new.poller) (state c.args.poller.now) (state c.run_plan.new.poller) g.P.Poller.tells same _ _ _ _ _ told);
@@ -65,7 +65,7 @@ returns-clause-stopped g c =
       made = record {
         loads = c.in_ok-plan.ensures.loads;
         listens = listening_more g.P.Poller.tells (state c.args.poller.now) (state c.listen_at.new.poller) (state c.run_plan.new.poller) _ _
-            listened.listening c.run_plan.ensures.listens c.run_plan.ensures.addresses;
+            listened.listening c.run_plan.ensures.kept.listens c.run_plan.ensures.kept.addresses;
       };
       is = wanting c.in_ok-plan.plan (map (λ f. f.items) c.in_ok-plan.files.items) c.in_ok-plan.ensures.ready refl refl;
     }

@@ -3,7 +3,8 @@ use Rattle.std.proofs.lemmas.Result.{IfOk-weaker}
 use Rattle.gcd_run.specs.Calls.{only_loads}
 use Rattle.gcd_run.proofs.Hearing.{quiet}
 use Rattle.gcd_run.proofs.Loading.{on_any_err, on_err_map}
-use Rattle.gcd_run.proofs.Stories.{calls_of_words, told_of_words}
+use Rattle.gcd_run.proofs.Stories.{calls_of_words, ok_anyhow, taken_asks, told_of_words}
+use Rattle.gcd_words.specs.Requests.{asked_of}
 use Rattle.gcd_run.proofs.top.tell.Goals as goal
 
 pub returns-in_err-read_words-clause-wanting : goal.returns-in_err-read_words-clause-wanting
@@ -77,7 +78,7 @@ returns-in-Some-Big-clause-told g c =
       calls = only_loads 0;
       made = record {
         loads = λ _. refl;
-        listens = record { listens = c.tell_large.ensures.listens; added = λ yes. c.tell_large.ensures.addresses yes ∙ sym (append-nil _) };
+        listens = record { listens = c.tell_large.ensures.kept.listens; added = λ yes. c.tell_large.ensures.kept.addresses yes ∙ sym (append-nil _) };
       };
       is = told_of_words _ _ _ _ _ asked (refl, t);
     })
@@ -89,7 +90,19 @@ returns-in-Some-Big-clause-wanting g c = on_any_err c.tell_large.result
       calls = only_loads 0;
       made = record {
         loads = λ _. refl;
-        listens = record { listens = c.tell_large.ensures.listens; added = λ yes. c.tell_large.ensures.addresses yes ∙ sym (append-nil _) };
+        listens = record { listens = c.tell_large.ensures.kept.listens; added = λ yes. c.tell_large.ensures.kept.addresses yes ∙ sym (append-nil _) };
       };
       is = inl refl;
     })
+
+pub returns-in-None-clause-taken : goal.returns-in-None-clause-taken
+returns-in-None-clause-taken g c = ok_anyhow _ c.usage.result (taken_asks asked_of _ _ c.in_ok-read_words.ensures.exact c.in_ok-read_words.ensures.taken)
+
+pub returns-in-Some-Run-clause-taken : goal.returns-in-Some-Run-clause-taken
+returns-in-Some-Run-clause-taken g c = ok_anyhow _ c.tell_run.result (taken_asks asked_of _ _ c.in_ok-read_words.ensures.exact c.in_ok-read_words.ensures.taken)
+
+pub returns-in-Some-Check-clause-taken : goal.returns-in-Some-Check-clause-taken
+returns-in-Some-Check-clause-taken g c = ok_anyhow _ c.tell_check.result (taken_asks asked_of _ _ c.in_ok-read_words.ensures.exact c.in_ok-read_words.ensures.taken)
+
+pub returns-in-Some-Big-clause-taken : goal.returns-in-Some-Big-clause-taken
+returns-in-Some-Big-clause-taken g c = ok_anyhow _ c.tell_large.result (taken_asks asked_of _ _ c.in_ok-read_words.ensures.exact c.in_ok-read_words.ensures.taken)

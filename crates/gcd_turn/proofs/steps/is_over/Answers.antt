@@ -9,5 +9,5 @@ returns-then-is_some-clause-goes_on c = λ plan h stands same.
         unhalted = sym (c.is_halted.ensures plan h stands) ∙ c.if-is_halted.false;
         unquiet = unquiet_at_choice plan h c.args.chosen (c.requires plan h stands) (sym c.is_some.ensures ∙ c.if-is_some.true);
       };
-      room = omega (arith, c.if-len-ge-MAX_EVENTS.false, c.len.ensures plan h stands);
+      room = omega (arith, c.if-len-most.false, c.len.ensures plan h stands);
     }

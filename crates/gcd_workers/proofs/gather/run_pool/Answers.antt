@@ -1,6 +1,10 @@
 use Rattle.std.proofs.Common.{◌≡◌, ℕ, length, sym, subst, arith}
 use Rattle.std.specs.Prelude.{slice_index_or}
-use Rattle.gcd_row.specs.Passes.{view}
+use Rattle.gcd_plan.specs.Limits.{max_events}
+use Rattle.gcd_outer.specs.Outside.{ClockState, Seen}
+use Rattle.gcd_outer.specs.Tells.{PollerState}
+use Rattle.gcd_loop.specs.Ran.{RunsPlan}
+use Rattle.gcd_row.specs.Passes.{terms_of, view}
 use Rattle.gcd_steal.specs.Racks.{IsBenchOf}
 use Rattle.gcd_workers.specs.Teams.{HasLed, IsHead}
 use Rattle.gcd_workers.proofs.Heads.{head_first}
@@ -31,3 +35,12 @@ returns-clause-led g c =
     let fewer = c.remove-first.ensures.len in
     let same : length c.in_ok-hands.hands.items ≡ length c.args.benches.items = omega (arith, count, fewer) in
     subst (λ (n : ℕ). HasLed n (view c.run_team.result)) same c.run_team.ensures.led
+
+pub returns-clause-ran : goal.returns-clause-ran
+returns-clause-ran g c =
+    let count = c.in_ok-hands.ensures.count in
+    let fewer = c.remove-first.ensures.len in
+    let same : length c.in_ok-hands.hands.items ≡ length c.args.benches.items = omega (arith, count, fewer) in
+    let told : Seen PollerState = record { tells = g.P.Poller.tells; before = g.P.Poller.state c.args.poller.now; after = g.P.Poller.state c.run_team.new.poller } in
+    let timed : Seen ClockState = record { tells = g.C.Clock.tells; before = g.C.Clock.state c.args.clock.now; after = g.C.Clock.state c.run_team.new.clock } in
+    subst (λ (n : ℕ). RunsPlan max_events (terms_of c.args.pool.now.board.now).plan n told timed (view c.run_team.result).seen) same c.run_team.ensures.ran

@@ -3,8 +3,8 @@ use Rattle.std.proofs.lemmas.List.{take_more}
 use Rattle.std.proofs.lemmas.Option.{slice_get-get_or}
 use Rattle.gcd_event.specs.declared.event.Event.{Event}
 use Rattle.gcd_jobs.specs.Contents.{contents}
-use Rattle.gcd_alone.specs.Ran.{AreValues}
-use Rattle.gcd_alone.proofs.ValuesMore.{no_values}
+use Rattle.gcd_jobs.specs.BlockValues.{AreValues}
+use Rattle.gcd_jobs.proofs.ValuesMore.{no_values}
 use Rattle.gcd_workers.proofs.values.note_all.Goals as goal
 
 pub loop-e-init : goal.loop-e-init

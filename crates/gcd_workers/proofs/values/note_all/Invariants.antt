@@ -1,6 +1,6 @@
 use Rattle.std.proofs.Common.{take}
 use Rattle.gcd_jobs.specs.Contents.{contents}
-use Rattle.gcd_alone.specs.Ran.{AreValues}
+use Rattle.gcd_jobs.specs.BlockValues.{AreValues}
 use Rattle.gcd_workers.proofs.values.note_all.Given as goal
 
 abbrev pub invariant-loop-e : goal.invariant-loop-e

@@ -1,19 +1,26 @@
-use Rattle.std.proofs.Common.{◌∙◌, ℕ, length, ap, sym}
+use Rattle.std.proofs.Common.{◌∙◌, ◌≤◌, ℕ, length, ap, subst, sym}
 use Rattle.std.specs.Prelude.{replicate}
 use Rattle.gcd_outer.specs.Outside.{ClockState, Seen}
 use Rattle.gcd_outer.specs.Tells.{PollerState}
 use Rattle.gcd_jobs.specs.Contents.{contents}
-use Rattle.gcd_row.specs.Passes.{view}
+use Rattle.gcd_plan.specs.Limits.{max_events}
+use Rattle.gcd_row.specs.Passes.{terms_of, view}
+use Rattle.gcd_row.specs.declared.board.RowBoard.{RowBoard}
+use Rattle.gcd_steal.specs.Racks.{plan_of}
+use Rattle.gcd_workers.specs.Told.{WorkCell}
 use Rattle.gcd_workers.proofs.Heads.{led_by_more}
-use Rattle.gcd_workers.proofs.Runs.{ran_workers}
+use Rattle.gcd_workers.proofs.Runs.{runs_by_more, runs_over_files}
 use Rattle.gcd_workers.proofs.workers.run_board.Goals as goal
 
 pub run_pool-requires-clause-pool : goal.run_pool-requires-clause-pool
-run_pool-requires-clause-pool g c = λ lifetimes outlive. record {
-  rack = c.requires.rack ∙ sym c.in_ok-board.ensures.plan;
-  plan = sym c.in_ok-board.ensures.plan;
-  cells = c.in_ok-board.ensures.cells;
-}
+run_pool-requires-clause-pool g c = λ lifetimes outlive.
+    let board = c.new-pool.ensures.board in
+    let own = ap (λ (b : RowBoard WorkCell). (terms_of b).plan) board ∙ c.in_ok-board.ensures.plan in
+    record {
+      rack = ap plan_of c.new-pool.ensures.rack ∙ c.requires.rack ∙ sym own;
+      plan = c.new-pool.ensures.plan ∙ sym own;
+      cells = subst (λ (b : RowBoard WorkCell). length (terms_of b).plan.blocks ≤ length (terms_of b).cells) (sym board) c.in_ok-board.ensures.cells;
+    }
 
 pub close-requires-clause-led : goal.close-requires-clause-led
 close-requires-clause-led g c =
@@ -27,8 +34,10 @@ pub returns-clause-ran : goal.returns-clause-ran
 returns-clause-ran g c =
     let told : Seen PollerState = record { tells = g.P.Poller.tells; before = g.P.Poller.state c.args.poller.now; after = g.P.Poller.state c.run_pool.new.poller } in
     let timed : Seen ClockState = record { tells = g.C.Clock.tells; before = g.C.Clock.state c.args.clock.now; after = g.C.Clock.state c.run_pool.new.clock } in
-    let led = led_by_more (length c.args.benches.items) c.args.workers (view c.in_ok-last.last) c.requires.count.1 c.in_ok-last.ensures.led in
-    ran_workers c.args.plan.now c.args.workers (contents c.args.files.now) told timed c.in_ok-board.board c.in_ok-last.last
-    c.in_ok-worked.worked.journal.items c.in_ok-worked.worked.values.items c.in_ok-worked.worked.state
-    c.in_ok-last.ensures.pass c.in_ok-board.ensures.plan led c.in_ok-last.ensures.heard c.in_ok-last.ensures.timely
-    c.in_ok-worked.ensures.journal c.in_ok-worked.ensures.state c.in_ok-worked.ensures.values
+    let own = (terms_of c.new-pool.result.board.now).plan in
+    let is = ap (λ (b : RowBoard WorkCell). (terms_of b).plan) c.new-pool.ensures.board ∙ c.in_ok-board.ensures.plan in
+    let seen = (view c.in_ok-last.last).seen in
+    let run = runs_by_more max_events own (length c.args.benches.items) c.args.workers told timed seen c.requires.count.0 c.requires.count.1 c.in_ok-last.ensures.ran in
+    runs_over_files c.args.plan.now own c.args.workers (contents c.args.files.now) told timed seen
+    c.in_ok-outcome.outcome.journal.items c.in_ok-outcome.outcome.values.items c.in_ok-outcome.outcome.state
+    is c.in_ok-outcome.ensures.journal run c.in_ok-outcome.ensures.state c.in_ok-outcome.ensures.values

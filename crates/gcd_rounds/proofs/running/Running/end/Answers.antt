@@ -22,7 +22,7 @@ returns-clause-ready g c = λ rest others has ready.
     record {
       given = rw (more, event, terms, values) (given_end g.J.Job.gives plan self.terms.jobs.value.items h c.args.done self.values.items (omega (arith, count, within)) has ready.given);
       count = rw jobs ready.count;
-      wait = rw (more, event, terms, jobs) (wait_end plan self.terms.jobs.value.items h x self.jobs.items rest next.permitted ready.wait);
+      wait = rw (more, event, terms, jobs) (wait_end self.terms.most plan self.terms.jobs.value.items h x self.jobs.items rest next.permitted ready.wait);
       kept = rw (more, event, terms) (kept_waits plan self.terms.workers h (End x.worker x.blk) rest (lawful_stands self.machine plan h c.requires.run.stands)
           next.permitted next.below others (kept_rest plan self.terms.workers h x rest ready.kept));
     }

@@ -1,11 +1,36 @@
-use Rattle.std.proofs.Common.{◌<◌, ◌∙◌, arith}
+use Rattle.std.proofs.Common.{◌∙◌, arith}
 use Rattle.std.proofs.lemmas.List.{length_push}
-use Rattle.gcd_history.specs.Choice.{worker_of}
 use Rattle.gcd_machine.proofs.Shown.{lawful_stands}
-use Rattle.gcd_alone.proofs.ValuesMore.{each_more, follows_more}
+use Rattle.gcd_loop.proofs.Follows.{follows_more, workers_more}
 use Rattle.gcd_rounds.proofs.EndsKept.{kept_waits}
 use Rattle.gcd_rounds.proofs.Given.{given_same, wait_same}
 use Rattle.gcd_rounds.proofs.running.Running.record.Goals as goal
+
+pub apply-requires : goal.apply-requires
+apply-requires g c =
+    let run = c.requires.run in
+    let room = c.requires.next.room in
+    let countable = run.countable in
+    record {
+      plan = c.args.plan.now;
+      history = c.args.self.now.journal.items;
+      stands = run.stands;
+      permitted = c.requires.next.permitted;
+      room = omega (arith, room, countable);
+    }
+
+pub hand_over-requires-clause-recorded : goal.hand_over-requires-clause-recorded
+hand_over-requires-clause-recorded g c =
+    let run = c.requires.run in
+    let room = c.requires.next.room in
+    let countable = run.countable in
+    record {
+      history = c.args.self.now.journal.items;
+      stands = c.apply.ensures.stands c.args.plan.now c.args.self.now.journal.items run.stands c.requires.next.permitted;
+      own = c.apply.ensures.plan ∙ run.own;
+      room = omega (arith, room, countable);
+      taken = run.taken;
+    }
 
 pub returns-clause-run : goal.returns-clause-run
 returns-clause-run g c =
@@ -19,10 +44,11 @@ returns-clause-run g c =
     let stands = c.apply.ensures.stands plan h run.stands next.permitted in
     record {
       some = run.some;
+      countable = run.countable;
       own = c.apply.ensures.plan ∙ run.own;
       stands = rw more stands;
       few = let room = next.room in rw more (omega (arith, length_push h e, room));
-      below = rw more (each_more (λ k x. worker_of x < workers) h e run.below next.below);
+      by = rw more (workers_more workers h e run.by next.below);
       chosen = λ one. rw more (follows_more plan h e (run.chosen one) (next.chosen one));
       places = run.places;
       taken = rw more (c.hand_over.ensures h stands run.taken);
@@ -39,6 +65,6 @@ returns-clause-ready g c = λ kept none others ready.
     record {
       given = rw more (given_same g.J.Job.gives plan self.terms.jobs.value.items h e self.values.items none ready.given);
       count = ready.count;
-      wait = rw more (wait_same plan self.terms.jobs.value.items h e self.jobs.items kept next.permitted none ready.wait);
+      wait = rw more (wait_same self.terms.most plan self.terms.jobs.value.items h e self.jobs.items kept next.permitted none ready.wait);
       kept = rw more (kept_waits plan self.terms.workers h e kept (lawful_stands self.machine plan h c.requires.run.stands) next.permitted next.below others ready.kept);
     }

@@ -1,3 +1,4 @@
+use Rattle.gcd_plan.specs.Limits.{max_events}
 use Rattle.std.proofs.Common.{◌≡◌, ◌-◌, length}
 use Rattle.gcd_row.specs.Views.{seeing}
 use Rattle.gcd_row.specs.Passes.{IsPassOf, Ahead, slots, view}
@@ -13,4 +14,4 @@ invariant-loop-n g l = record {
 }
 
 abbrev pub decreases-loop-n : goal.decreases-loop-n
-decreases-loop-n g l = 65535 - l.n
+decreases-loop-n g l = max_events - l.n

@@ -10,7 +10,7 @@ pub mark-requires : goal.mark-requires
 mark-requires c =
     let old = c.args.self.now in
     let right = c.requires.right in
-    rw c.block_of.ensures
+    rw c.block.ensures
     (subst (λ n. IfSome (block_of c.args.act) (λ b. b.0 < n)) (sym old.submitted.ok.0)
     (flag_stands (look_up old.meanings) old.submitted.items old.acts (view_of old.parts) c.requires.agrees c.requires.sound.valid c.args.act right.fits.1))
 
@@ -19,6 +19,6 @@ returns-clause-agrees c =
     let old = c.args.self.now in
     let right = c.requires.right in
     let body = subst (λ o. IfSome o (IsBody (view_of old.parts))) right.fits.0 c.requires.sound.body in
-    rw (c.mark.ensures, c.block_of.ensures, c.in_ok-push_act.ensures)
+    rw (c.mark.ensures, c.block.ensures, c.in_ok-push_act.ensures)
     (act_agrees (look_up old.meanings) old.submitted.items old.acts (view_of old.parts) c.requires.agrees c.requires.sound.valid
     c.args.run c.args.act body right.fits.1)

@@ -1,0 +1,5 @@
+use Rattle.gcd_history.proofs.NotEmpty.{ended_is_not_empty}
+use Rattle.gcd_history.proofs.laws.ended_histories_are_not_empty.Goals as goal
+
+pub returns : goal.returns
+returns c = ended_is_not_empty

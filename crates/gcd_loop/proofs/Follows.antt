@@ -1,0 +1,60 @@
+-- What holds of each event of a history, an event on.
+use Rattle.std.proofs.Common.{◌≡◌, ◌<◌, ◌≤◌, ◌∙◌, ◌⊎◌, ℕ, List, [], ◌∷◌, ◌++◌, length, Some, IsTrue, ap, sym, subst, arith, ⊎_elim}
+use Rattle.std.specs.Prelude.{slice_get, take}
+use Rattle.std.proofs.lemmas.Bool.{cases_lt}
+use Rattle.std.proofs.lemmas.List.{length_push, take-append-le, take_at}
+use Rattle.std.proofs.lemmas.Option.{same_Some, slice_get_within}
+use Rattle.gcd_plan.specs.PlanView.{PlanView}
+use Rattle.gcd_plan.proofs.Places.{slice_get-append_left, slice_get-append_seam}
+use Rattle.gcd_event.specs.declared.event.Event.{Event}
+use Rattle.gcd_history.specs.Choice.{is_work, worker_of}
+use Rattle.gcd_history.specs.History.{choice_of}
+use Rattle.gcd_loop.specs.Followed.{FollowsChoice, IsAllWorker0, IsOfWorkers}
+
+-- what holds of each event of a history, and of one more
+pub each_more : (P : List Event → Event → Type 0) (h : List Event) (e : Event)
+    → ((i : ℕ) (x : Event) → slice_get h i ≡ Some x → P (take i h) x) → P h e
+    → (i : ℕ) (x : Event) → slice_get (h ++ e ∷ []) i ≡ Some x → P (take i (h ++ e ∷ [])) x
+each_more P h e each last i x at =
+    let within : i < length (h ++ e ∷ []) = slice_get_within (h ++ e ∷ []) i x at in
+    let long = length_push h e in
+    ⊎_elim
+    (λ (early : i < length h).
+    let there : slice_get h i ≡ Some x = sym (slice_get-append_left h (e ∷ []) i early) ∙ at in
+    subst (λ (k : List Event). P k x) (sym (take-append-le i h (e ∷ []) (omega arith))) (each i x there))
+    (λ (late : length h ≤ i).
+    let same : length h ≡ i = omega (arith, long, within, late) in
+    let it : e ≡ x = same_Some e x (sym (slice_get-append_seam h e []) ∙ ap (slice_get (h ++ e ∷ [])) same ∙ at) in
+    subst (λ (k : List Event). P k x) (sym (take_at h (e ∷ []) i same)) (subst (λ (y : Event). P h y) it last))
+    (cases_lt i (length h))
+
+pub follows_more : (plan : PlanView) (h : List Event) (e : Event) → FollowsChoice plan h → (IsTrue (is_work e) → choice_of plan h 0 0 ≡ Some e)
+    → FollowsChoice plan (h ++ e ∷ [])
+follows_more plan h e follows chosen = each_more (λ k x. IsTrue (is_work x) → choice_of plan k 0 0 ≡ Some x) h e follows chosen
+
+pub alone_more : (h : List Event) (e : Event) → IsAllWorker0 h → worker_of e ≡ 0 → IsAllWorker0 (h ++ e ∷ [])
+alone_more h e alone by = each_more (λ k x. worker_of x ≡ 0) h e alone by
+
+pub workers_more : (workers : ℕ) (h : List Event) (e : Event) → IsOfWorkers workers h → worker_of e < workers → IsOfWorkers workers (h ++ e ∷ [])
+workers_more workers h e by last = each_more (λ k x. worker_of x < workers) h e by last
+
+pub follows_none : (plan : PlanView) → FollowsChoice plan []
+follows_none plan i e at = cc
+
+pub alone_none : IsAllWorker0 []
+alone_none i e at = cc
+
+pub workers_none : (workers : ℕ) → IsOfWorkers workers []
+workers_none workers i e at = cc
+
+-- where each event is worker 0's it is of one of the workers
+pub workers_of_alone : (workers : ℕ) (h : List Event) → 0 < workers → IsAllWorker0 h → IsOfWorkers workers h
+workers_of_alone workers h some alone i e at = let by = alone i e at in omega (arith, some, by)
+
+-- nothing came, or this event
+pub follows_only : (plan : PlanView) (h k : List Event) (e : Event) → (k ≡ h) ⊎ (k ≡ h ++ e ∷ []) → (IsTrue (is_work e) → choice_of plan h 0 0 ≡ Some e)
+    → FollowsChoice plan h → FollowsChoice plan k
+follows_only plan h k e only chosen follows =
+    ⊎_elim (λ (same : k ≡ h). subst (FollowsChoice plan) (sym same) follows)
+    (λ (more : k ≡ h ++ e ∷ []). subst (FollowsChoice plan) (sym more) (follows_more plan h e follows chosen))
+    only

@@ -1,0 +1,4 @@
+pub mod Events
+pub mod Follows
+pub mod Goings
+pub mod Steps

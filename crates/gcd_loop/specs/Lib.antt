@@ -1,0 +1,4 @@
+pub mod Followed
+pub mod Going
+pub mod Ran
+pub mod Recorded

@@ -1,0 +1,78 @@
+-- What a recorder says of its steps. Others may have recorded events of workers meanwhile.
+use Rattle.std.specs.Prelude.{◌≡◌, ◌≤◌, ℕ, true, false, List, [], ◌∷◌, ◌++◌, None, length, drop}
+use Rattle.std.specs.List.{list_all}
+use Rattle.gcd_plan.specs.PlanView.{PlanView}
+use Rattle.gcd_event.specs.declared.event.Event.{Event}
+use Rattle.gcd_event.specs.declared.event.Event.TheVariants.{Halt}
+use Rattle.gcd_history.specs.Choice.{is_work, worker_of}
+use Rattle.gcd_history.specs.History.{IsLawful, why}
+use Rattle.gcd_machine.specs.Stands.{StandsFor}
+use Rattle.gcd_refinement.specs.MachineView.{MachineView}
+use Rattle.gcd_turn.specs.Turns.{OutlookView}
+use Rattle.gcd_loop.specs.declared.recorder.Put.{Put}
+use Rattle.gcd_loop.specs.declared.recorder.Put.TheVariants.{Placed as PutPlaced, Barred, Later}
+use Rattle.gcd_loop.specs.declared.recorder.Step.{Step}
+use Rattle.gcd_loop.specs.declared.recorder.Step.TheVariants.{Placed, Waited, Stopped, Over}
+
+-- the machine stands for what is seen, which has at most `most` events
+pub record IsSight (most : ℕ) (plan : PlanView) (h : List Event) (m : MachineView) : Type 0 where
+  pub own : m.plan ≡ plan
+  pub stands : StandsFor m plan h
+  pub few : length h ≤ most
+
+-- an event of the outside: it is worker 0's
+pub record IsOutside (e : Event) : Type 0 where
+  pub by : worker_of e ≡ 0
+  pub no_work : is_work e ≡ false
+
+-- more is seen: events of workers
+pub record Grows (h k : List Event) : Type 0 where
+  pub rest : List Event
+  pub split : k ≡ h ++ rest
+  pub work : list_all is_work rest ≡ true
+
+-- the event stands last, behind events of workers at most
+pub record IsPlaced (e : Event) (h k : List Event) : Type 0 where
+  pub front : List Event
+  pub grown : Grows h front
+  pub is : k ≡ front ++ e ∷ []
+
+-- what `put` says
+abbrev pub Says : (most : ℕ) → PlanView → Event → List Event → List Event → Put → Type 0
+Says most plan e h k PutPlaced = IsPlaced e h k
+Says most plan e h k Barred = Grows h k × (why plan k e ≡ None → ⊥)
+Says most plan e h k Later = Grows h k × (e ≡ Halt → length k ≡ most)
+
+-- after a step the next may come, or the turn is stopped, or the run has ended
+abbrev pub After : (ready stopped ended : Type 0) → Step → Type 0
+After ready stopped ended Placed = ready
+After ready stopped ended Waited = ready
+After ready stopped ended Stopped = stopped
+After ready stopped ended Over = ended
+
+-- more is seen, which is lawful, and no more than there can be
+pub record IsGrown (most : ℕ) (plan : PlanView) (h k : List Event) : Type 0 where
+  pub grows : Grows h k
+  pub lawful : IsLawful plan k
+  pub few : length k ≤ most
+
+-- the event was put
+pub record WasPut (most : ℕ) (plan : PlanView) (e : Event) (h k : List Event) : Type 0 where
+  pub answer : Put
+  pub said : Says most plan e h k answer
+  pub lawful : IsLawful plan k
+  pub few : length k ≤ most
+
+-- what is kept after what was told was put: it is dropped from the news, unless it is to be put again
+abbrev pub after_put : Put → OutlookView → OutlookView
+after_put PutPlaced o = record o { news = drop 1 o.news }
+after_put Barred o = record o { news = drop 1 o.news }
+after_put Later o = o
+
+-- the first of the news was put
+pub record WasTold (most : ℕ) (plan : PlanView) (e : Event) (h k : List Event) (o u : OutlookView) : Type 0 where
+  pub answer : Put
+  pub said : Says most plan e h k answer
+  pub kept : u ≡ after_put answer o
+  pub lawful : IsLawful plan k
+  pub few : length k ≤ most

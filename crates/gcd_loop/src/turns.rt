@@ -1,0 +1,342 @@
+// The turns of worker 0, which alone has poller and clock.
+ghost use Rattle.std.specs.Prelude.{◌≡◌, ◌≤◌, true, List, OnOk, IfOk, Some, None};
+ghost use Rattle.gcd_event.specs.declared.event.Event.{Event};
+ghost use Rattle.gcd_history.specs.Ends.{HasEnded};
+ghost use Rattle.gcd_history.specs.History.{choice_of};
+ghost use Rattle.gcd_outer.specs.Outside.{ClockState};
+ghost use Rattle.gcd_outer.specs.Tells.{PollerState};
+ghost use Rattle.gcd_turn.specs.Asked.{KeepsListens, MayIdle};
+ghost use Rattle.gcd_turn.specs.Turns.{HasRoom};
+ghost use Rattle.gcd_loop.specs.Going.{AfterTurn, IsGoing, IsRunOn, IsStopped};
+ghost use Rattle.gcd_loop.specs.Recorded.{IsGrown, IsOutside, WasPut, WasTold};
+
+use crate::backoff::Backoff;
+use crate::recorder::{Put, Recorder, Step};
+use gcd_event::Event;
+use gcd_outer::{Clock, Poller};
+use gcd_plan::Plan;
+use gcd_turn::{Ask, Outlook};
+use std::sync::Wait;
+
+/// What a turn comes to.
+#[derive(Clone, Copy, Debug, PartialEq, Eq)]
+pub enum Turn {
+    /// An event was placed, or other work done.
+    Placed,
+    /// None was.
+    Waited,
+    /// The recorder stopped the turn.
+    Stopped {
+        /// How many milliseconds the next due time is ahead, at least 1; None where there is none.
+        left: Option<u32>,
+    },
+    /// The run has ended.
+    Over,
+}
+
+// Puts an event of the outside.
+#[inline(always)]
+fn put<D, T: Recorder<D>>(
+    plan: &Plan,
+    most: u32,
+    desk: &D,
+    run: &mut T,
+    e: Event,
+) -> Result<Turn, T::Fault>
+    requires ready { T.ready most plan.now desk.now run.old }
+    requires room { HasRoom most plan.now (T.seen run.old) }
+    requires outside { IsOutside e }
+    ensures ready { OnOk result (T.ready most plan.now desk.now run.new) }
+    ensures after { IfOk result (AfterTurn (T.ready most plan.now desk.now run.new) (λ left. ⊥) ⊥) }
+    ensures said { OnOk result (WasPut most plan.now e (T.seen run.old) (T.seen run.new)) }
+    ensures kept { (a : T) → T.kept most plan.now desk.now a run.old → T.kept most plan.now desk.now a run.new }
+{
+    match run.put(plan, most, desk, e)? {
+        Put::Placed => Ok(Turn::Placed),
+        Put::Barred => Ok(Turn::Waited),
+        Put::Later => Ok(Turn::Waited),
+    }
+}
+
+// Puts the first of the news, and settles it, unless it is to be put again.
+#[inline(always)]
+fn tell<D, T: Recorder<D>>(
+    plan: &Plan,
+    most: u32,
+    desk: &D,
+    run: &mut T,
+    outlook: &mut Outlook,
+    e: Event,
+) -> Result<Turn, T::Fault>
+    requires ready { T.ready most plan.now desk.now run.old }
+    requires room { HasRoom most plan.now (T.seen run.old) }
+    requires outside { IsOutside e }
+    ensures after { IfOk result (AfterTurn (T.ready most plan.now desk.now run.new) (λ left. ⊥) ⊥) }
+    ensures said { OnOk result (WasTold most plan.now e (T.seen run.old) (T.seen run.new) outlook.old outlook.new) }
+    ensures kept { (a : T) → T.kept most plan.now desk.now a run.old → T.kept most plan.now desk.now a run.new }
+{
+    match run.put(plan, most, desk, e)? {
+        Put::Placed => {
+            outlook.settle();
+            Ok(Turn::Placed)
+        }
+        Put::Barred => {
+            outlook.settle();
+            Ok(Turn::Waited)
+        }
+        Put::Later => Ok(Turn::Waited),
+    }
+}
+
+/// Worker 0 listens or waits: the end of a turn in which nothing was done, so neither stopped nor over.
+/// Where the poller fails a Halt is put.
+#[inline(always)]
+pub fn idle<D, T: Recorder<D>, P: Poller, C: Clock>(
+    plan: &Plan,
+    most: u32,
+    desk: &D,
+    run: &mut T,
+    outlook: &mut Outlook,
+    poller: &mut P,
+    clock: &mut C,
+    left: Option<u32>,
+) -> Result<Turn, T::Fault>
+    requires ready { T.ready most plan.now desk.now run.old }
+    requires room { HasRoom most plan.now (T.seen run.old) }
+    requires idle { MayIdle plan.now (T.seen run.old) outlook.old.news (P.state poller.old) left }
+    ensures ready { OnOk result (T.ready most plan.now desk.now run.new) }
+    ensures after { IfOk result (AfterTurn (T.ready most plan.now desk.now run.new) (λ left. ⊥) ⊥) }
+    ensures kept { (a : T) → T.kept most plan.now desk.now a run.old → T.kept most plan.now desk.now a run.new }
+    ensures listens { KeepsListens P.tells (P.state poller.old) (P.state poller.new) }
+    ensures going { (stood : List Event) (before : PollerState) (early : ClockState)
+        → IsGoing most P.tells C.tells plan.now stood before early (P.state poller.old) (C.state clock.old) (T.seen run.old) outlook.old
+        → OnOk result (IsGoing most P.tells C.tells plan.now stood before early (P.state poller.new) (C.state clock.new) (T.seen run.new) outlook.new) }
+{
+    match outlook.idle(plan, run.machine(), poller, clock, left) {
+        None => Ok(Turn::Waited),
+        Some(e) => put(plan, most, desk, run, e),
+    }
+}
+
+// Worker 0 has no choice: the others work, or else it listens or waits.
+#[inline(always)]
+fn rest<D, T: Recorder<D>, P: Poller, C: Clock, R: Wait>(
+    rt: &R,
+    plan: &Plan,
+    most: u32,
+    desk: &D,
+    run: &mut T,
+    outlook: &mut Outlook,
+    poller: &mut P,
+    clock: &mut C,
+    left: Option<u32>,
+) -> Result<Turn, T::Fault>
+    requires ready { T.ready most plan.now desk.now run.old }
+    requires room { HasRoom most plan.now (T.seen run.old) }
+    requires idle { MayIdle plan.now (T.seen run.old) outlook.old.news (P.state poller.old) left }
+    requires none { choice_of plan.now (T.seen run.old) 0 0 ≡ None }
+    ensures after { IfOk result (AfterTurn (T.ready most plan.now desk.now run.new)
+        (IsStopped most plan.now (T.stopped most plan.now desk.now run.new) (T.seen run.new) outlook.new.news (P.state poller.new))
+        (HasEnded most plan.now (T.seen run.new) × T.left most plan.now desk.now run.new)) }
+    ensures kept { (a : T) → T.kept most plan.now desk.now a run.old → T.kept most plan.now desk.now a run.new }
+    ensures listens { KeepsListens P.tells (P.state poller.old) (P.state poller.new) }
+    ensures going { (stood : List Event) (before : PollerState) (early : ClockState)
+        → IsGoing most P.tells C.tells plan.now stood before early (P.state poller.old) (C.state clock.old) (T.seen run.old) outlook.old
+        → OnOk result (IsGoing most P.tells C.tells plan.now stood before early (P.state poller.new) (C.state clock.new) (T.seen run.new) outlook.new) }
+{
+    match run.rest(rt, plan, most, desk)? {
+        Step::Placed => Ok(Turn::Placed),
+        Step::Waited => idle(plan, most, desk, run, outlook, poller, clock, left),
+        Step::Stopped => Ok(Turn::Stopped { left }),
+        Step::Over => Ok(Turn::Over),
+    }
+}
+
+// Worker 0 does what it chooses.
+#[inline(always)]
+fn work<D, T: Recorder<D>, R: Wait>(
+    rt: &R,
+    plan: &Plan,
+    most: u32,
+    desk: &D,
+    run: &mut T,
+    e: Event,
+    left: Option<u32>,
+) -> Result<Turn, T::Fault>
+    requires ready { T.ready most plan.now desk.now run.old }
+    requires room { HasRoom most plan.now (T.seen run.old) }
+    requires chosen { choice_of plan.now (T.seen run.old) 0 0 ≡ Some e }
+    ensures after { IfOk result (AfterTurn (T.ready most plan.now desk.now run.new)
+        (λ more. (more ≡ left) × T.stopped most plan.now desk.now run.new × (T.seen run.new ≡ T.seen run.old))
+        (HasEnded most plan.now (T.seen run.new) × T.left most plan.now desk.now run.new)) }
+    ensures grown { OnOk result (IsGrown most plan.now (T.seen run.old) (T.seen run.new)) }
+    ensures kept { (a : T) → T.kept most plan.now desk.now a run.old → T.kept most plan.now desk.now a run.new }
+{
+    match run.work(rt, plan, most, desk, e)? {
+        Step::Placed => Ok(Turn::Placed),
+        Step::Waited => Ok(Turn::Waited),
+        Step::Stopped => Ok(Turn::Stopped { left }),
+        Step::Over => Ok(Turn::Over),
+    }
+}
+
+// Worker 0 does what it chooses, or else rests.
+#[inline(always)]
+fn act<D, T: Recorder<D>, P: Poller, C: Clock, R: Wait>(
+    rt: &R,
+    plan: &Plan,
+    most: u32,
+    desk: &D,
+    run: &mut T,
+    outlook: &mut Outlook,
+    poller: &mut P,
+    clock: &mut C,
+    chosen: Option<Event>,
+    left: Option<u32>,
+) -> Result<Turn, T::Fault>
+    requires ready { T.ready most plan.now desk.now run.old }
+    requires room { HasRoom most plan.now (T.seen run.old) }
+    requires idle { MayIdle plan.now (T.seen run.old) outlook.old.news (P.state poller.old) left }
+    requires chosen { choice_of plan.now (T.seen run.old) 0 0 ≡ chosen }
+    ensures after { IfOk result (AfterTurn (T.ready most plan.now desk.now run.new)
+        (IsStopped most plan.now (T.stopped most plan.now desk.now run.new) (T.seen run.new) outlook.new.news (P.state poller.new))
+        (HasEnded most plan.now (T.seen run.new) × T.left most plan.now desk.now run.new)) }
+    ensures kept { (a : T) → T.kept most plan.now desk.now a run.old → T.kept most plan.now desk.now a run.new }
+    ensures listens { KeepsListens P.tells (P.state poller.old) (P.state poller.new) }
+    ensures going { (stood : List Event) (before : PollerState) (early : ClockState)
+        → IsGoing most P.tells C.tells plan.now stood before early (P.state poller.old) (C.state clock.old) (T.seen run.old) outlook.old
+        → OnOk result (IsGoing most P.tells C.tells plan.now stood before early (P.state poller.new) (C.state clock.new) (T.seen run.new) outlook.new) }
+{
+    match chosen {
+        Some(e) => work(rt, plan, most, desk, run, e, left),
+        None => rest(rt, plan, most, desk, run, outlook, poller, clock, left),
+    }
+}
+
+// Does what the outlook asks for.
+#[inline(always)]
+fn answer<D, T: Recorder<D>, P: Poller, C: Clock, R: Wait>(
+    rt: &R,
+    plan: &Plan,
+    most: u32,
+    desk: &D,
+    run: &mut T,
+    outlook: &mut Outlook,
+    poller: &mut P,
+    clock: &mut C,
+) -> Result<Turn, T::Fault>
+    requires ready { T.ready most plan.now desk.now run.old }
+    ensures after { IfOk result (AfterTurn (T.ready most plan.now desk.now run.new)
+        (IsStopped most plan.now (T.stopped most plan.now desk.now run.new) (T.seen run.new) outlook.new.news (P.state poller.new))
+        (HasEnded most plan.now (T.seen run.new) × T.left most plan.now desk.now run.new)) }
+    ensures kept { (a : T) → T.kept most plan.now desk.now a run.old → T.kept most plan.now desk.now a run.new }
+    ensures listens { KeepsListens P.tells (P.state poller.old) (P.state poller.new) }
+    ensures going { (stood : List Event) (before : PollerState) (early : ClockState)
+        → IsGoing most P.tells C.tells plan.now stood before early (P.state poller.old) (C.state clock.old) (T.seen run.old) outlook.old
+        → OnOk result (IsGoing most P.tells C.tells plan.now stood before early (P.state poller.new) (C.state clock.new) (T.seen run.new) outlook.new) }
+{
+    match outlook.ask(plan, most, run.machine(), poller, clock) {
+        Ask::Leave => Ok(Turn::Over),
+        Ask::Told(e) => tell(plan, most, desk, run, outlook, e),
+        Ask::Put(e) => put(plan, most, desk, run, e),
+        Ask::Work { chosen, left } => act(
+            rt, plan, most, desk, run, outlook, poller, clock, chosen, left,
+        ),
+    }
+}
+
+/// One turn: it ends at the first event that is placed, where nothing more is to be done, where the
+/// recorder stops it, or where the run has ended. Where it is stopped nothing more is seen, and once its engine has gone on by
+/// itself, and nothing came of it, worker 0 is to listen or wait ([`idle`]). An `Err` comes only of the recorder.
+#[inline(always)]
+pub fn take_turn<D, T: Recorder<D>, P: Poller, C: Clock, R: Wait>(
+    rt: &R,
+    plan: &Plan,
+    most: u32,
+    desk: &D,
+    run: &mut T,
+    outlook: &mut Outlook,
+    poller: &mut P,
+    clock: &mut C,
+) -> Result<Turn, T::Fault>
+    requires ready { T.ready most plan.now desk.now run.old }
+    ensures after { IfOk result (AfterTurn (T.ready most plan.now desk.now run.new)
+        (IsStopped most plan.now (T.stopped most plan.now desk.now run.new) (T.seen run.new) outlook.new.news (P.state poller.new))
+        (HasEnded most plan.now (T.seen run.new) × T.left most plan.now desk.now run.new)) }
+    ensures kept { (a : T) → T.kept most plan.now desk.now a run.old → T.kept most plan.now desk.now a run.new }
+    ensures listens { KeepsListens P.tells (P.state poller.old) (P.state poller.new) }
+    ensures going { (stood : List Event) (before : PollerState) (early : ClockState)
+        → IsGoing most P.tells C.tells plan.now stood before early (P.state poller.old) (C.state clock.old) (T.seen run.old) outlook.old
+        → OnOk result (IsGoing most P.tells C.tells plan.now stood before early (P.state poller.new) (C.state clock.new) (T.seen run.new) outlook.new) }
+{
+    run.look(plan, most, desk);
+    answer(rt, plan, most, desk, run, outlook, poller, clock)
+}
+
+// Turn by turn, until the run has ended.
+fn go_on<D, T: Recorder<D>, N: Backoff, P: Poller, C: Clock, R: Wait>(
+    rt: &R,
+    plan: &Plan,
+    most: u32,
+    desk: &D,
+    run: &mut T,
+    outlook: &mut Outlook,
+    backoff: &mut N,
+    poller: &mut P,
+    clock: &mut C,
+) -> Result<(), T::Fault>
+    requires ready { T.ready most plan.now desk.now run.old }
+    requires unstopped { (r : T) → T.stopped most plan.now desk.now r → ⊥ }
+    ensures ended { OnOk result (HasEnded most plan.now (T.seen run.new)) }
+    ensures left { OnOk result (T.left most plan.now desk.now run.new) }
+    ensures kept { (a : T) → T.kept most plan.now desk.now a run.old → T.kept most plan.now desk.now a run.new }
+    ensures listens { KeepsListens P.tells (P.state poller.old) (P.state poller.new) }
+    ensures going { (stood : List Event) (before : PollerState) (early : ClockState)
+        → IsGoing most P.tells C.tells plan.now stood before early (P.state poller.old) (C.state clock.old) (T.seen run.old) outlook.old
+        → OnOk result (IsGoing most P.tells C.tells plan.now stood before early (P.state poller.new) (C.state clock.new) (T.seen run.new) outlook.new) }
+{
+    for _ in rt.forever() {
+        match take_turn(rt, plan, most, desk, run, outlook, poller, clock)? {
+            Turn::Placed => backoff.reset(),
+            Turn::Waited => backoff.pause(rt),
+            Turn::Stopped { .. } => unreachable!(),
+            Turn::Over => return Ok(()),
+        }
+    }
+    unreachable!()
+}
+
+/// Goes turn by turn from what has been seen of a run to its end, with a recorder that stops no turn. The
+/// run has at most `most` events. An `Err` comes only of the recorder.
+pub fn run_turns<D, T: Recorder<D>, N: Backoff, P: Poller, C: Clock, R: Wait>(
+    rt: &R,
+    plan: &Plan,
+    most: u32,
+    desk: &D,
+    run: &mut T,
+    backoff: &mut N,
+    poller: &mut P,
+    clock: &mut C,
+) -> Result<(), T::Fault>
+    requires ready { T.ready most plan.now desk.now run.old }
+    requires unstopped { (r : T) → T.stopped most plan.now desk.now r → ⊥ }
+    ensures run_on { OnOk result (IsRunOn most plan.now (T.seen run.old) (T.seen run.new)
+        (record { tells = P.tells; before = P.state poller.old; after = P.state poller.new })
+        (record { tells = C.tells; before = C.state clock.old; after = C.state clock.new })) }
+    ensures left { OnOk result (T.left most plan.now desk.now run.new) }
+    ensures kept { (a : T) → T.kept most plan.now desk.now a run.old → T.kept most plan.now desk.now a run.new }
+    ensures listens { KeepsListens P.tells (P.state poller.old) (P.state poller.new) }
+{
+    let mut outlook = Outlook::new(clock);
+    go_on(
+        rt,
+        plan,
+        most,
+        desk,
+        run,
+        &mut outlook,
+        backoff,
+        poller,
+        clock,
+    )
+}

@@ -1,6 +1,0 @@
-use Rattle.std.proofs.Common.{[]}
-use Rattle.gcd_outer.specs.Slots.{ReadTells}
-use Rattle.gcd_outer.proofs.slots.Slots.accept.Given as goal
-
-abbrev pub invariant-loop : goal.invariant-loop
-invariant-loop l = ReadTells l.initial.self.slots.items l.self.slots.items []

@@ -1,0 +1,106 @@
+// On which queue a run is.
+
+use gcd_plan::{Act, Blk, Obj, Plan, Run};
+use std::alloc::{AllocError, Global};
+
+/// The queue of each block, by number: the one to which the plan submits it, and `root` where it submits it to none; and whether
+/// it is a barrier there.
+#[derive(Drop)]
+pub struct Queues {
+    blocks: Vec<Obj>,
+    barriers: Vec<bool>,
+}
+
+// The block that the act submits as a barrier.
+fn barrier_of(act: Act) -> Option<Blk> {
+    match act {
+        Act::Barrier(_, b) => Some(b),
+        Act::BarrierSync(_, b) => Some(b),
+        Act::Async(..) | Act::Sync(..) | Act::GroupAsync(..) | Act::Notify(..) => None,
+        Act::Enter(_) | Act::Leave(_) | Act::GroupWait(_) => None,
+        Act::Signal(_) | Act::Wait(_) => None,
+        Act::Suspend(_) | Act::Resume(_) | Act::Activate(_) | Act::Target(..) => None,
+        Act::Merge(..) | Act::Cancel(_) | Act::Retain(_) | Act::Release(_) => None,
+    }
+}
+
+fn put_barrier(barriers: &mut [bool], barrier: Option<Blk>) {
+    if let Some(b) = barrier {
+        if let Some(place) = barriers.get_mut(b.0 as usize) {
+            *place = true;
+        }
+    }
+}
+
+// The queue to which the act submits a block, and the block.
+fn submitted(act: Act) -> Option<(Obj, Blk)> {
+    match act {
+        Act::Async(q, b) => Some((q, b)),
+        Act::Barrier(q, b) => Some((q, b)),
+        Act::Sync(q, b) => Some((q, b)),
+        Act::BarrierSync(q, b) => Some((q, b)),
+        Act::GroupAsync(_, q, b) => Some((q, b)),
+        Act::Notify(_, q, b) => Some((q, b)),
+        Act::Enter(_) | Act::Leave(_) | Act::GroupWait(_) => None,
+        Act::Signal(_) | Act::Wait(_) => None,
+        Act::Suspend(_) | Act::Resume(_) | Act::Activate(_) | Act::Target(..) => None,
+        Act::Merge(..) | Act::Cancel(_) | Act::Retain(_) | Act::Release(_) => None,
+    }
+}
+
+// The queue to which a source's cancellation block is submitted, and the block.
+fn cancelled(plan: &Plan, s: Obj) -> Option<(Obj, Blk)> {
+    if s.0 < plan.objects() {
+        plan.cancel_block(s).map(|b| (plan.first_target(s), b))
+    } else {
+        None
+    }
+}
+
+fn put(blocks: &mut [Obj], submission: Option<(Obj, Blk)>) {
+    if let Some((queue, b)) = submission {
+        if let Some(place) = blocks.get_mut(b.0 as usize) {
+            *place = queue;
+        }
+    }
+}
+
+impl Queues {
+    /// The queues of the plan; an `Err` comes only where memory runs out.
+    pub fn new(alloc: Global, plan: &Plan) -> Result<Queues, AllocError> {
+        let mut blocks = vec![in alloc; Obj(0); plan.blocks() as usize]?;
+        let mut barriers = vec![in alloc; false; plan.blocks() as usize]?;
+        for b in 0..plan.blocks() {
+            for act in plan.acts(Run::Block(Blk(b))) {
+                put(&mut blocks, submitted(*act));
+                put_barrier(&mut barriers, barrier_of(*act));
+            }
+        }
+        for s in 0..plan.objects() {
+            put(&mut blocks, cancelled(plan, Obj(s)));
+        }
+        Ok(Queues { blocks, barriers })
+    }
+
+    /// The queue of a run: a block's own, and the first target of a source.
+    pub fn of(&self, plan: &Plan, run: Run) -> Obj {
+        match run {
+            Run::Block(b) => self.blocks.get(b.0 as usize).copied().unwrap_or(Obj(0)),
+            Run::Source(s) => {
+                if s.0 < plan.objects() {
+                    plan.first_target(s)
+                } else {
+                    Obj(0)
+                }
+            }
+        }
+    }
+
+    /// Whether a run is of a block that is submitted as a barrier.
+    pub fn is_barrier(&self, run: Run) -> bool {
+        match run {
+            Run::Block(b) => self.barriers.get(b.0 as usize).copied().unwrap_or(false),
+            Run::Source(_) => false,
+        }
+    }
+}

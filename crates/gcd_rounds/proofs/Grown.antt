@@ -1,0 +1,46 @@
+-- A history that grows by events of workers.
+use Rattle.std.proofs.Common.{◌≡◌, ◌∙◌, ◌++◌, ◌∷◌, [], Bool, ℕ, true, false, List, length, append-nil, append_assoc, ap, sym, refl, arith}
+use Rattle.std.specs.List.{list_all}
+use Rattle.std.proofs.lemmas.Bool.{and_from, and_parts}
+use Rattle.std.proofs.lemmas.List.{length-append}
+use Rattle.gcd_plan.specs.declared.numbers.Blk.{Blk}
+use Rattle.gcd_event.specs.declared.event.Event.{Event}
+use Rattle.gcd_event.specs.declared.event.Event.TheVariants.{Start, Act as Acted, Wake, End, Deliver, DeliverEnd, Tick, Ready, FeedEnd, Misuse, Halt}
+use Rattle.gcd_history.specs.Choice.{is_work}
+use Rattle.gcd_history.specs.Runs.{ends}
+use Rattle.gcd_loop.specs.Recorded.{Grows}
+
+all_further : (p : Event → Bool) (xs ys : List Event) → list_all p xs ≡ true → list_all p ys ≡ true → list_all p (xs ++ ys) ≡ true
+all_further p [] ys one two = two
+all_further p (x ∷ xs) ys one two =
+    let parts = and_parts (p x) (list_all p xs) one in
+    and_from (p x) (list_all p (xs ++ ys)) parts.0 (all_further p xs ys parts.1 two)
+
+pub grows_through : (a b c : List Event) → Grows a b → Grows b c → Grows a c
+grows_through a b c first second = record {
+  rest = first.rest ++ second.rest;
+  split = second.split ∙ ap (λ (k : List Event). k ++ second.rest) first.split ∙ append_assoc a first.rest second.rest;
+  work = all_further is_work first.rest second.rest first.work second.work;
+}
+
+none_more : (h more : List Event) → length (h ++ more) ≡ length h → h ++ more ≡ h
+none_more h [] same = append-nil h
+none_more h (e ∷ more) same = let long = length-append h (e ∷ more) in absurd (omega (arith, same, long))
+
+-- a history that is as long as before is as it was
+pub grown_none : (old new : List Event) → Grows old new → length new ≡ length old → new ≡ old
+grown_none old new grown same = grown.split ∙ none_more old grown.rest (ap length (sym grown.split) ∙ same)
+
+-- an event that is no End ends no block
+pub ends_none : (e : Event) → ((w : ℕ) (c : Blk) → e ≡ End w c → ⊥) → (b : ℕ) → ends b e ≡ false
+ends_none (Start w c) other b = refl
+ends_none (Acted w r i) other b = refl
+ends_none (Wake w c) other b = refl
+ends_none (End w c) other b = absurd (other w c refl)
+ends_none (Deliver w s) other b = refl
+ends_none (DeliverEnd w s) other b = refl
+ends_none (Tick t) other b = refl
+ends_none (Ready s n) other b = refl
+ends_none (FeedEnd s) other b = refl
+ends_none (Misuse w r i x) other b = refl
+ends_none Halt other b = refl

@@ -1,0 +1,157 @@
+// A run by rounds as what records the events of worker 0's turns.
+ghost use Rattle.std.specs.Prelude.{◌≡◌, [], true, false, List, OnOk, IfOk, length};
+ghost use Rattle.gcd_loop.specs.Recorded.{Grows};
+ghost use Rattle.gcd_machine.specs.Stands.{StandsFor};
+ghost use Rattle.gcd_event.specs.declared.event.Event.{Event};
+ghost use Rattle.gcd_plan.specs.PlanView.{PlanView};
+ghost use Rattle.gcd_rounds.specs.Kept.{HaveValues, dones_of, endings_of};
+ghost use Rattle.gcd_rounds.specs.Running.{AreReady, AtTurn, InRound, IsRun};
+
+use crate::kept::{Done, Kept, run_jobs};
+use crate::running::Running;
+use crate::turns::{follow, take_turns};
+use gcd_event::Event;
+use gcd_jobs::{Handler, Job};
+use gcd_loop::{Put, Recorder, Step};
+use gcd_machine::Machine;
+use gcd_plan::Plan;
+use std::alloc::{AllocError, Global};
+use std::mem;
+use std::sync::Wait;
+use std::thread::Threads;
+
+// A run, and the Ends that are kept back in its round.
+#[derive(Drop)]
+pub(crate) struct Round<J, H> {
+    pub(crate) run: Running<J, H>,
+    pub(crate) kept: Vec<Kept<J>>,
+}
+
+// A turn of worker 0 is stopped where an End is kept back, and where worker 0 has no choice: then the round ends.
+impl<J: Job + Drop, H: Handler + Drop> Recorder<Global> for Round<J, H> {
+    type Fault = AllocError;
+
+    ghost use Rattle.std.specs.Prelude.{◌≡◌};
+    ghost use Rattle.gcd_rounds.specs.Running.{AtTurn, InRound, turn_sight};
+
+    ghost seen = { λ o. o.run.journal.items };
+
+    ghost sight = { λ o. o.run.machine };
+
+    ghost ready = { λ most plan d o. AtTurn J.gives H.kind H.times H.total most plan o };
+
+    ghost kept = { λ most plan d a o. o.run.terms ≡ a.run.terms };
+
+    ghost left = { λ most plan d o. AtTurn J.gives H.kind H.times H.total most plan o };
+
+    ghost stopped = { λ most plan d o. InRound J.gives H.kind H.times H.total most plan o };
+
+    ghost leaves = { λ most plan d o at. at };
+
+    ghost stands = { λ most plan d o at. turn_sight J.gives H.kind H.times H.total most plan o at };
+
+    fn machine(&self) -> &Machine
+        ensures { result.now ≡ self.now.run.machine }
+    {
+        &self.run.machine
+    }
+
+    fn look(&mut self, plan: &Plan, most: u32, desk: &Global) {
+        let _ = plan;
+        let _ = most;
+        let _ = desk;
+    }
+
+    fn put(&mut self, plan: &Plan, most: u32, desk: &Global, e: Event) -> Result<Put, AllocError> {
+        let _ = most;
+        let _ = desk;
+        self.run.put(plan, e)
+    }
+
+    fn work<R: Wait>(
+        &mut self,
+        rt: &R,
+        plan: &Plan,
+        most: u32,
+        desk: &Global,
+        e: Event,
+    ) -> Result<Step, AllocError> {
+        let _ = rt;
+        let _ = most;
+        let _ = desk;
+        if follow(&mut self.run, plan, e, &mut self.kept)? {
+            return Ok(Step::Placed);
+        }
+        Ok(Step::Stopped)
+    }
+
+    fn rest<R: Wait>(
+        &mut self,
+        rt: &R,
+        plan: &Plan,
+        most: u32,
+        desk: &Global,
+    ) -> Result<Step, AllocError> {
+        let _ = rt;
+        let _ = plan;
+        let _ = most;
+        let _ = desk;
+        Ok(Step::Stopped)
+    }
+}
+
+// The Ends that were kept back are recorded in the order of the workers, as long as the run goes on.
+fn end_all<J: Job + Drop, H: Handler + Drop>(
+    run: &mut Running<J, H>,
+    plan: &Plan,
+    dones: &[Done],
+) -> Result<(), AllocError>
+    requires run { IsRun H.kind H.times H.total plan.now run.old }
+    requires ready { AreReady J.gives plan.now run.old (dones_of dones.now) }
+    requires values { HaveValues J.gives run.old.terms.jobs.value.items dones.now }
+    ensures terms { run.new.terms ≡ run.old.terms }
+    ensures run { OnOk result (IsRun H.kind H.times H.total plan.now run.new) }
+    ensures ready { OnOk result (AreReady J.gives plan.now run.new []) }
+    ensures grows { OnOk result (Grows run.old.journal.items run.new.journal.items) }
+{
+    for done in dones {
+        if run.is_over() {
+            return Ok(());
+        }
+        run.end(plan, *done)?;
+    }
+    Ok(())
+}
+
+// Whether nothing is kept back, and there are so many events.
+fn is_quiet<J, H>(run: &Running<J, H>, kept: &Vec<Kept<J>>, len: u32) -> bool
+    ensures none { result ≡ true → kept.now.items ≡ [] }
+    ensures same { (plan : PlanView) (h : List Event) → StandsFor run.now.machine plan h → result ≡ true → length h ≡ len }
+{
+    kept.is_empty() && run.machine.len() == len
+}
+
+// After the turn of worker 0: the other workers have theirs, the jobs run whose Ends were kept back, and these are recorded.
+// Whether anybody recorded or kept back anything.
+pub(crate) fn end_round<R: Threads + Wait + Sync, J: Job + Drop + Send, H: Handler + Drop>(
+    rt: &R,
+    alloc: Global,
+    plan: &Plan,
+    round: &mut Round<J, H>,
+) -> Result<bool, AllocError>
+    requires stopped { InRound J.gives H.kind H.times H.total round.old.run.terms.most plan.now round.old }
+    ensures terms { round.new.run.terms ≡ round.old.run.terms }
+    ensures ready { OnOk result (AtTurn J.gives H.kind H.times H.total round.old.run.terms.most plan.now round.new) }
+    ensures grows { OnOk result (Grows round.old.run.journal.items round.new.run.journal.items) }
+    ensures none { IfOk result (λ some. some ≡ false → round.new.run.journal.items ≡ round.old.run.journal.items) }
+{
+    let len = round.run.machine.len();
+    take_turns(rt, &mut round.run, plan, &mut round.kept)?;
+    if is_quiet(&round.run, &round.kept, len) {
+        return Ok(false);
+    }
+    let kept = mem::replace(&mut round.kept, Vec::new(alloc));
+    let dones = run_jobs(rt, kept)?;
+    end_all(&mut round.run, plan, &dones)?;
+    Ok(true)
+}

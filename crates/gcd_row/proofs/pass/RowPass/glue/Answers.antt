@@ -1,0 +1,25 @@
+use Rattle.std.proofs.Common.{rules, arith, sym, ap, subst, refl, ◌∙◌, ◌≡◌, []}
+use Rattle.gcd_machine.specs.Stands.{StandsFor}
+use Rattle.gcd_row.specs.Views.{merging}
+use Rattle.gcd_row.specs.Passes.{view}
+use Rattle.gcd_row.proofs.Holding.{rest_none}
+use Rattle.gcd_row.proofs.Keeping.{joins, puts_down}
+use Rattle.gcd_row.proofs.Merging.{joined_pass}
+use Rattle.gcd_row.proofs.pass.RowPass.glue.Goals as goal
+
+pub load-requires : goal.load-requires
+load-requires g c = let o = c.requires.other in
+    (search rules, omega (arith, c.args.board.now.sized), puts_down _ _ c.args.board.now.table.shared.key _ _ _ _ o.unspent o.has)
+
+pub join_seat-requires : goal.join_seat-requires
+join_seat-requires g c = let o = c.requires.other in let same = c.load.ensures.2.0 in
+    let none : c.load.new.seat.me.1 ≡ [] = c.load.ensures.2.1 ∙ rest_none _ _ _ _ _ _ o.has in
+    (search rules, search rules, none, omega (arith, c.args.board.now.sized), joins _ _ c.args.board.now.table.shared.key _ _ _ _ c.requires.pass.unspent c.requires.head (ap (λ v. v.spent) same ∙ o.unspent))
+
+pub returns-clause-pass : goal.returns-clause-pass
+returns-clause-pass g c =
+    let p = c.requires.pass in let o = c.requires.other in
+    let v = view c.args.pass.now in let u = view c.args.self in
+    joined_pass _ _ c.args.board.now c.args.pass.now c.args.self _ p o c.requires.ahead c.join_seat.ensures.0 refl (ap (λ m. m.1) c.join_seat.ensures.2)
+    (ap (λ m. m.0) c.join_seat.ensures.2 ∙ ap (merging v) c.load.ensures.2.0)
+    (c.take_farther.ensures v.terms.plan v.seen u.seen p.stands (subst (λ t. StandsFor c.args.self.machine t.plan u.seen) (o.terms ∙ sym p.terms) o.stands))

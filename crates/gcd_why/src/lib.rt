@@ -1,0 +1,50 @@
+//! Why, in words: what a script, a journal, a run or the words of a command line are refused for, or ended by. (This project's own
+//! rules.)
+//!
+//! | call | says |
+//! |---|---|
+//! | [`why_script`] | why the script is refused at that line with that code, which the parser told |
+//! | [`why_journal`] | why the text is no journal at that line, which the reader told |
+//! | [`why_event`] | which event is the first that is not permitted, the reason that the definitions give it (`why`), and what is in the way |
+//! | [`why_run`] | of a stuck run what each block waits for, down to the cause; of a drained one what never came; of a misuse the act and the rule; of a full one how far it came |
+//! | [`why_words`] | which word of a command line is refused |
+//! | [`Unread`], [`CUT_OFF`], [`NO_MEMORY`] | what could not be read; that standard output cannot be written; that memory ran out |
+//!
+//! A [`Sentence`] is one line, with the file, as the caller named it, and the line.
+//!
+//! Proved is that each call answers, whatever it is given; that a sentence is of that file and line; and that [`why_event`] names
+//! the first event that is not permitted with the reason of the definitions, and nothing exactly where the events are lawful
+//! (`specs/Barred`). Which words a sentence has is tested by a table, a row a sentence: no clause says it. So that a sentence can
+//! name what is in the way, a scene follows the events beside the machine (`Scene`); nothing is judged by it.
+#![tactic(auto)]
+
+mod barred;
+mod blame;
+mod command;
+mod event;
+mod form;
+mod journal;
+mod known;
+mod lines;
+mod misuses;
+mod naming;
+mod places;
+mod reasons;
+mod role;
+mod run;
+mod scene;
+mod script;
+mod script_cause;
+mod sentence;
+mod shown;
+mod sight;
+mod unread;
+
+pub use barred::Barred;
+pub use command::{WordsCause, why_words};
+pub use event::{EventSentence, why_event};
+pub use journal::why_journal;
+pub use run::why_run;
+pub use script::why_script;
+pub use sentence::Sentence;
+pub use unread::{CUT_OFF, NO_MEMORY, Unread};

@@ -1,0 +1,227 @@
+// How objects, runs, acts and events are called.
+
+use gcd_event::Event;
+use gcd_plan::{Act, Blk, Kind, Obj, Plan, Run, Why};
+use std::fmt;
+
+/// The name of an object; `?` where the plan has it not.
+pub fn object_name(plan: &Plan, o: Obj) -> &str {
+    if o.0 < plan.objects() {
+        plan.name_of_obj(o)
+    } else {
+        "?"
+    }
+}
+
+/// The name of a block.
+pub fn block_name(plan: &Plan, b: Blk) -> &str {
+    if b.0 < plan.blocks() {
+        plan.name_of_blk(b)
+    } else {
+        "?"
+    }
+}
+
+/// The name of a block or source.
+pub fn run_name(plan: &Plan, run: Run) -> &str {
+    match run {
+        Run::Block(b) => block_name(plan, b),
+        Run::Source(s) => object_name(plan, s),
+    }
+}
+
+/// The kind of an object; that of `root` where the plan has it not.
+pub fn kind_of(plan: &Plan, o: Obj) -> Kind {
+    if o.0 < plan.objects() {
+        plan.kind(o)
+    } else {
+        Kind::Concurrent
+    }
+}
+
+/// What an object is, in words.
+pub fn kind_words(kind: Kind) -> &'static str {
+    match kind {
+        Kind::Serial => "serial queue",
+        Kind::Concurrent => "concurrent queue",
+        Kind::Group => "group",
+        Kind::Semaphore(_) => "semaphore",
+        Kind::Add | Kind::Or => "source",
+        Kind::Timer { .. } => "timer",
+        Kind::Read => "read source",
+    }
+}
+
+/// The act of a run at an index; None where the plan has it not.
+pub fn act_at(plan: &Plan, run: Run, index: u32) -> Option<Act> {
+    let known = match run {
+        Run::Block(b) => b.0 < plan.blocks(),
+        Run::Source(s) => s.0 < plan.objects(),
+    };
+    if known {
+        plan.acts(run).get(index as usize).copied()
+    } else {
+        None
+    }
+}
+
+/// How many acts a run has.
+pub fn acts_of(plan: &Plan, run: Run) -> u32 {
+    let known = match run {
+        Run::Block(b) => b.0 < plan.blocks(),
+        Run::Source(s) => s.0 < plan.objects(),
+    };
+    if known {
+        u32::try_from(plan.acts(run).len()).unwrap_or(u32::MAX)
+    } else {
+        0
+    }
+}
+
+/// An act as a script writes it.
+#[derive(Clone, Copy)]
+pub struct ActWords<'a> {
+    pub plan: &'a Plan,
+    pub act: Act,
+}
+
+// The first word of an act.
+fn act_word(act: Act) -> &'static str {
+    match act {
+        Act::Async(..) => "async",
+        Act::Barrier(..) => "barrier",
+        Act::Sync(..) => "sync",
+        Act::BarrierSync(..) => "barrier_sync",
+        Act::GroupAsync(..) => "group_async",
+        Act::Notify(..) => "notify",
+        Act::Enter(_) => "enter",
+        Act::Leave(_) => "leave",
+        Act::GroupWait(_) => "group_wait",
+        Act::Signal(_) => "signal",
+        Act::Wait(_) => "wait",
+        Act::Suspend(_) => "suspend",
+        Act::Resume(_) => "resume",
+        Act::Activate(_) => "activate",
+        Act::Target(..) => "target",
+        Act::Merge(..) => "merge",
+        Act::Cancel(_) => "cancel",
+        Act::Retain(_) => "retain",
+        Act::Release(_) => "release",
+    }
+}
+
+impl<'a> fmt::Display for ActWords<'a> {
+    fn fmt<W: fmt::Write>(&self, f: &mut fmt::Formatter<W>) -> fmt::Result {
+        let word = act_word(self.act);
+        match self.act {
+            Act::Async(q, b) | Act::Barrier(q, b) | Act::Sync(q, b) | Act::BarrierSync(q, b) => {
+                let (queue, block) = (object_name(self.plan, q), block_name(self.plan, b));
+                write!(f, "{word} {queue} {block}")
+            }
+            Act::GroupAsync(g, q, b) | Act::Notify(g, q, b) => {
+                let (group, queue) = (object_name(self.plan, g), object_name(self.plan, q));
+                let block = block_name(self.plan, b);
+                write!(f, "{word} {group} {queue} {block}")
+            }
+            Act::Enter(o) | Act::Leave(o) | Act::GroupWait(o) | Act::Signal(o) | Act::Wait(o) => {
+                let object = object_name(self.plan, o);
+                write!(f, "{word} {object}")
+            }
+            Act::Suspend(o) | Act::Resume(o) | Act::Activate(o) | Act::Cancel(o) => {
+                let object = object_name(self.plan, o);
+                write!(f, "{word} {object}")
+            }
+            Act::Retain(o) | Act::Release(o) => {
+                let object = object_name(self.plan, o);
+                write!(f, "{word} {object}")
+            }
+            Act::Target(o, t) => {
+                let (object, target) = (object_name(self.plan, o), object_name(self.plan, t));
+                write!(f, "{word} {object} {target}")
+            }
+            Act::Merge(s, n) => {
+                let source = object_name(self.plan, s);
+                write!(f, "{word} {source} {n}")
+            }
+        }
+    }
+}
+
+/// An event in the words of journals.
+#[derive(Clone, Copy)]
+pub struct EventWords<'a> {
+    pub plan: &'a Plan,
+    pub event: Event,
+}
+
+// The first word, the worker and the name.
+fn write_turn<W: fmt::Write>(
+    f: &mut fmt::Formatter<W>,
+    word: &str,
+    worker: u8,
+    name: &str,
+) -> fmt::Result {
+    write!(f, "{word} {worker} {name}")
+}
+
+impl<'a> fmt::Display for EventWords<'a> {
+    fn fmt<W: fmt::Write>(&self, f: &mut fmt::Formatter<W>) -> fmt::Result {
+        let plan = self.plan;
+        match self.event {
+            Event::Start { worker, blk } => write_turn(f, "start", worker, block_name(plan, blk)),
+            Event::Act { worker, run, index } => {
+                write_turn(f, "act", worker, run_name(plan, run))?;
+                write!(f, " {index}")
+            }
+            Event::Wake { worker, blk } => write_turn(f, "wake", worker, block_name(plan, blk)),
+            Event::End { worker, blk } => write_turn(f, "end", worker, block_name(plan, blk)),
+            Event::Deliver { worker, src } => {
+                write_turn(f, "deliver", worker, object_name(plan, src))
+            }
+            Event::DeliverEnd { worker, src } => {
+                write_turn(f, "deliver_end", worker, object_name(plan, src))
+            }
+            Event::Tick { at } => write!(f, "tick {at}"),
+            Event::Ready { src, bytes } => {
+                let name = object_name(plan, src);
+                write!(f, "ready {name} {bytes}")
+            }
+            Event::FeedEnd { src } => {
+                let name = object_name(plan, src);
+                write!(f, "feed_end {name}")
+            }
+            Event::Misuse {
+                worker,
+                run,
+                index,
+                code,
+            } => {
+                write_turn(f, "misuse", worker, run_name(plan, run))?;
+                write!(f, " {index} M{code}")
+            }
+            Event::Halt => write!(f, "halt"),
+        }
+    }
+}
+
+/// The name of a reason, as the definitions have it.
+pub fn why_name(why: Why) -> &'static str {
+    match why {
+        Why::Over => "Over",
+        Why::NoSuch => "NoSuch",
+        Why::Busy => "Busy",
+        Why::Unready => "Unready",
+        Why::Behind => "Behind",
+        Why::NotFree => "NotFree",
+        Why::Excluded => "Excluded",
+        Why::Fenced => "Fenced",
+        Why::NotOwn => "NotOwn",
+        Why::NotNext => "NotNext",
+        Why::IsMisuse => "IsMisuse",
+        Why::NotParked => "NotParked",
+        Why::Waiting => "Waiting",
+        Why::NotDue => "NotDue",
+        Why::NotLive => "NotLive",
+        Why::NotMisuse => "NotMisuse",
+    }
+}

@@ -1,0 +1,114 @@
+// On which line of a script an act stands.
+
+use crate::form::is_declaration;
+use crate::lines::{Lines, Words};
+use crate::scene::Place;
+use gcd_plan::{Blk, Obj, Plan, Run};
+use std::alloc::{AllocError, Global};
+
+/// The lines of a script's acts.
+#[derive(Drop)]
+pub struct Places {
+    acts: Vec<(Place, u32)>,
+    objects: Vec<u32>,
+}
+
+// The source of that name.
+fn source_named(plan: &Plan, name: &str) -> Option<Run> {
+    for o in 0..plan.objects() {
+        if plan.name_of_obj(Obj(o)) == name {
+            return Some(Run::Source(Obj(o)));
+        }
+    }
+    None
+}
+
+// A body that is open, and how many of its acts stand above.
+#[derive(Clone, Copy)]
+struct Reading {
+    body: Option<Run>,
+    acts: u32,
+    blocks: u32,
+}
+
+// The body after a line that declares something.
+fn declared(plan: &Plan, words: Words, reading: Reading) -> Reading {
+    if words.first == "block" {
+        let number = reading.blocks.saturating_add(1);
+        return Reading {
+            body: Some(Run::Block(Blk(number))),
+            acts: 0,
+            blocks: number,
+        };
+    }
+    let body = if words.first == "main" {
+        Some(Run::Block(Blk(0)))
+    } else if words.first == "handler" {
+        source_named(plan, words.get(0))
+    } else {
+        None
+    };
+    Reading {
+        body,
+        acts: 0,
+        blocks: reading.blocks,
+    }
+}
+
+// Whether the line of these words declares an object.
+fn is_object(words: Words) -> bool {
+    words.first == "queue"
+        || words.first == "group"
+        || words.first == "semaphore"
+        || words.first == "source"
+}
+
+impl Places {
+    /// The lines of the acts and objects of a plan's script; none where the text is another. An `Err` comes only where memory runs
+    /// out.
+    pub fn of(alloc: Global, plan: &Plan, text: &[u8]) -> Result<Places, AllocError> {
+        let mut acts = Vec::new(alloc);
+        let mut objects = vec![in alloc; 0u32]?;
+        let mut reading = Reading {
+            body: None,
+            acts: 0,
+            blocks: 0,
+        };
+        let mut at = 0u32;
+        for line in Lines::of(text) {
+            at = at.saturating_add(1);
+            let Some(words) = Words::of(line) else {
+                continue;
+            };
+            if is_object(words) {
+                objects.push(at)?;
+            }
+            if is_declaration(words.first) {
+                reading = declared(plan, words, reading);
+            } else if let Some(run) = reading.body {
+                let index = reading.acts;
+                acts.push((Place { run, index }, at))?;
+                reading.acts = index.saturating_add(1);
+            }
+        }
+        Ok(Places { acts, objects })
+    }
+
+    /// The line of an act; 0 where there is none.
+    pub fn line_of(&self, place: Option<Place>) -> u32 {
+        let Some(place) = place else {
+            return 0;
+        };
+        for (other, line) in self.acts.as_slice() {
+            if other.run == place.run && other.index == place.index {
+                return *line;
+            }
+        }
+        0
+    }
+
+    /// The line that declares an object; 0 where there is none.
+    pub fn line_of_object(&self, o: Obj) -> u32 {
+        self.objects.get(o.0 as usize).copied().unwrap_or(0)
+    }
+}

@@ -1,0 +1,288 @@
+// Why a run ended as it did.
+ghost use Rattle.std.specs.Prelude.{◌+◌, ◌<◌, ◌^◌, [], length};
+ghost use Rattle.gcd_machine.specs.Stands.{StandsFor};
+
+use crate::barred::find_barred;
+use crate::blame::{chain, hold_words};
+use crate::misuses::{code_name, misuse_words};
+use crate::naming::{ActWords, act_at, kind_of};
+use crate::places::Places;
+use crate::scene::{Place, Scene};
+use crate::sentence::Sentence;
+use crate::sight::Sight;
+use gcd_event::Event;
+use gcd_history::State;
+use gcd_machine::Machine;
+use gcd_plan::{Blk, MAX_EVENTS, Obj, Plan, Run, Why};
+use std::alloc::{AllocError, Global};
+
+/// The most sentences that are said of a run.
+const MAX_SAID: usize = 200;
+
+// What is said so far of a run.
+#[derive(Drop)]
+struct Saying<'a> {
+    alloc: Global,
+    file: &'a str,
+    places: Places,
+    said: Vec<Sentence<'a>>,
+}
+
+impl<'a> Saying<'a> {
+    // One sentence more, on that line, but none past the most.
+    fn add(&mut self, line: u32, text: String) -> Result<(), AllocError> {
+        if self.said.len() < MAX_SAID {
+            let sentence = Sentence {
+                file: self.file,
+                line,
+                text,
+            };
+            self.said.push(sentence)?;
+        }
+        Ok(())
+    }
+
+    fn is_full(&self) -> bool {
+        self.said.len() >= MAX_SAID
+    }
+
+    // The act by which a block is parked, or was submitted.
+    fn line_of_block(&self, sight: Sight, b: Blk) -> u32 {
+        let now = sight.scene.block(b);
+        if sight.awaited(b).is_some() {
+            return self.places.line_of(Some(Place {
+                run: Run::Block(b),
+                index: now.made.saturating_sub(1),
+            }));
+        }
+        self.places.line_of(now.by)
+    }
+
+    // What a block waits for, where it is parked.
+    fn parked(&mut self, sight: Sight, b: Blk) -> Result<(), AllocError> {
+        if sight.awaited(b).is_none() {
+            return Ok(());
+        }
+        let text = chain(self.alloc, sight, b)?;
+        let line = self.line_of_block(sight, b);
+        self.add(line, text)
+    }
+
+    // What a block waits for, where it is submitted and has not started.
+    fn unstarted(&mut self, sight: Sight, b: Blk) -> Result<(), AllocError> {
+        if sight.is_started(b) || !sight.is_submitted(b) {
+            return Ok(());
+        }
+        let text = chain(self.alloc, sight, b)?;
+        let line = self.line_of_block(sight, b);
+        self.add(line, text)
+    }
+
+    // What each parked block waits for, and then each that has not started.
+    fn stuck(&mut self, sight: Sight) -> Result<(), AllocError> {
+        for b in 0..sight.plan.blocks() {
+            if self.is_full() {
+                return Ok(());
+            }
+            self.parked(sight, Blk(b))?;
+        }
+        for b in 0..sight.plan.blocks() {
+            if self.is_full() {
+                return Ok(());
+            }
+            self.unstarted(sight, Blk(b))?;
+        }
+        Ok(())
+    }
+
+    // That a notify block never came.
+    fn note_block(&mut self, sight: Sight, b: Blk) -> Result<(), AllocError> {
+        let now = sight.scene.block(b);
+        let Some(g) = now.notify else {
+            return Ok(());
+        };
+        if sight.is_submitted(b) {
+            return Ok(());
+        }
+        let (name, group) = (sight.name_of_block(b), sight.name_of_object(g));
+        let state = sight.scene.object(g);
+        let count = state.enters.saturating_add(state.members);
+        let text = format!(in self.alloc;
+            "note: {name} was never submitted: group {group} still counts {count}"
+        )?;
+        let line = self.places.line_of(now.by);
+        self.add(line, text)
+    }
+
+    // That data was never delivered.
+    fn note_source(&mut self, sight: Sight, s: Obj) -> Result<(), AllocError> {
+        let pending = sight.pending(s);
+        if pending == 0 || !kind_of(sight.plan, s).is_source() {
+            return Ok(());
+        }
+        let name = sight.name_of_object(s);
+        let why = undelivered(self.alloc, sight, s)?;
+        let text = format!(in self.alloc; "note: {pending} of {name} was never delivered: {why}")?;
+        let line = self.places.line_of_object(s);
+        self.add(line, text)
+    }
+
+    // The notes on what never came.
+    fn notes(&mut self, sight: Sight) -> Result<(), AllocError> {
+        for b in 0..sight.plan.blocks() {
+            self.note_block(sight, Blk(b))?;
+        }
+        for s in 0..sight.plan.objects() {
+            self.note_source(sight, Obj(s))?;
+        }
+        Ok(())
+    }
+
+    // The act that ended the run, and the rule that it breaks.
+    fn misused(&mut self, sight: Sight, run: Run, index: u32, code: u8) -> Result<(), AllocError> {
+        let rule = misuse_words(self.alloc, sight, run, index, code)?;
+        let (name, rule_name) = (sight.name_of(run), code_name(code));
+        let text = match act_at(sight.plan, run, index) {
+            Some(act) => {
+                let words = ActWords {
+                    plan: sight.plan,
+                    act,
+                };
+                format!(in self.alloc;
+                    "{words} in {name} is a misuse: {rule} (M{code}, {rule_name})"
+                )?
+            }
+            None => format!(in self.alloc; "{name} has no such act (M{code}, {rule_name})")?,
+        };
+        let line = self.places.line_of(Some(Place { run, index }));
+        self.add(line, text)
+    }
+
+    // How far a run came that was cut off.
+    fn full(&mut self, sight: Sight) -> Result<(), AllocError> {
+        let (mut ended, mut open, mut left) = (0u32, 0u32, 0u32);
+        for b in 0..sight.plan.blocks() {
+            if sight.is_ended(Blk(b)) {
+                ended = ended.saturating_add(1);
+            } else if sight.is_started(Blk(b)) {
+                open = open.saturating_add(1);
+            } else if sight.is_submitted(Blk(b)) {
+                left = left.saturating_add(1);
+            }
+        }
+        let time = sight.scene.time;
+        let text = format!(in self.alloc;
+            "the run has 65535 events, the most that one may have, and goes on: {ended} blocks have ended, {open} are open, {left} wait for their start, at {time} ms"
+        )?;
+        self.add(0, text)
+    }
+}
+
+// Why nothing is delivered of a source at which something is pending.
+fn undelivered(alloc: Global, sight: Sight, s: Obj) -> Result<String, AllocError> {
+    let name = sight.name_of_object(s);
+    if sight.scene.object(s).is_cancelled {
+        return format!(in alloc; "{name} is cancelled");
+    }
+    match (sight.bars_deliver(s), sight.held(s), sight.excluding(s)) {
+        (Some(Why::NotFree), Some(o), _) => hold_words(alloc, sight, o),
+        (Some(Why::Excluded), _, Some((o, run))) => {
+            let (object, other) = (sight.name_of_object(o), sight.name_of(run));
+            format!(in alloc; "{other} is open beneath {object}")
+        }
+        _ => String::from_str(alloc, "the run ended before"),
+    }
+}
+
+// What is said of a run that has come to this state.
+fn say_state(
+    saying: &mut Saying,
+    sight: Sight,
+    state: State,
+    events: &[Event],
+) -> Result<(), AllocError> {
+    match state {
+        State::Drained => saying.notes(sight),
+        State::Stuck => {
+            saying.stuck(sight)?;
+            saying.notes(sight)
+        }
+        State::Misused => {
+            let Some(
+                Event::Misuse {
+                    run,
+                    index,
+                    code,
+                    ..
+                },
+            ) = events.last()
+            else {
+                return Ok(());
+            };
+            saying.misused(sight, *run, *index, *code)
+        }
+        State::Halted => Ok(()),
+        State::Live => {
+            if events.len() < MAX_EVENTS as usize {
+                Ok(())
+            } else {
+                saying.full(sight)
+            }
+        }
+    }
+}
+
+// The same, by a machine that has taken nothing; nothing is said of events that are not lawful.
+fn say_by(
+    plan: &Plan,
+    saying: &mut Saying,
+    events: &[Event],
+    machine: &mut Machine,
+    scene: &mut Scene,
+) -> Result<(), AllocError>
+    requires begin { StandsFor machine.old plan.now [] }
+    requires few { length events.now + 2 < 2 ^ 32 }
+{
+    if find_barred(plan, machine, scene, events)?.is_some() {
+        return Ok(());
+    }
+    let state = machine.state();
+    let sight = Sight {
+        plan,
+        machine,
+        scene,
+    };
+    say_state(saying, sight, state, events)
+}
+
+/// Says why a run of the plan ended as it did, by its events; the script's name and text give the lines. Of a stuck run it says of
+/// each parked block, and of each that is submitted and has not started, what it waits for, down to the cause, and of a cycle that
+/// it is one; of a stuck or drained run also which notify blocks never came, and what was never delivered; of a misuse the act and
+/// the rule that it breaks; of a full run how far it came. Nothing of events that are not lawful, and no more than 200 sentences.
+/// An `Err` comes only where memory runs out.
+pub fn why_run<'a>(
+    alloc: Global,
+    plan: &Plan,
+    file: &'a str,
+    text: &[u8],
+    events: &[Event],
+) -> Result<Vec<Sentence<'a>>, AllocError>
+    requires few { length events.now + 2 < 2 ^ 32 }
+{
+    let mut saying = Saying {
+        alloc,
+        file,
+        places: Places::of(alloc, plan, text)?,
+        said: Vec::new(alloc),
+    };
+    let mut scene = Scene::new(alloc, plan)?;
+    let mut machine = Machine::new(alloc, plan)?;
+    say_by(plan, &mut saying, events, &mut machine, &mut scene)?;
+    let Saying {
+        alloc: _,
+        file: _,
+        places: _,
+        said,
+    } = saying;
+    Ok(said)
+}

@@ -1,0 +1,20 @@
+use Rattle.std.proofs.Common.{arith}
+use Rattle.gcd_jobs.proofs.ValuesMore.{no_values}
+use Rattle.gcd_jobs.specs.Contents.{contents}
+use Rattle.gcd_loop.proofs.Follows.{alone_none, follows_none}
+use Rattle.gcd_workers.proofs.list_run.ListRun.new.Goals as goal
+
+pub returns-clause-run : goal.returns-clause-run
+returns-clause-run c =
+    let plan = c.args.plan.now in
+    let empty = c.in_ok-journal.ensures.items in
+    let zeros = c.in_ok-values.ensures.items_if_clones_equal (λ y is. is) in
+    record {
+      own = c.in_ok-machine.ensures.plan;
+      stands = rw empty c.in_ok-machine.ensures.stands;
+      few = rw empty (omega arith);
+      small = c.requires;
+      alone = rw empty alone_none;
+      chosen = rw empty (follows_none plan);
+      values = rw (empty, zeros, c.blocks-count.ensures.count) (no_values plan (contents c.args.files.now));
+    }

@@ -1,0 +1,26 @@
+use Rattle.std.proofs.Common.{◌∙◌, arith}
+use Rattle.std.proofs.lemmas.List.{length_push}
+use Rattle.gcd_jobs.proofs.ValuesMore.{end_fits}
+use Rattle.gcd_loop.proofs.Follows.{alone_more, follows_more}
+use Rattle.gcd_workers.proofs.list_run.ListRun.record.Goals as goal
+
+pub note_end-requires-clause-ends : goal.note_end-requires-clause-ends
+note_end-requires-clause-ends c = end_fits c.args.plan.now c.args.self.now.journal.items c.args.e c.requires.next.permitted
+
+pub returns-clause-run : goal.returns-clause-run
+returns-clause-run c =
+    let plan = c.args.plan.now in
+    let h = c.args.self.now.journal.items in
+    let e = c.args.e in
+    let next = c.requires.next in
+    let run = c.requires.run in
+    let more = c.in_ok-push.ensures.items in
+    rw more (record {
+      own = c.apply.ensures.plan ∙ run.own;
+      stands = c.apply.ensures.stands plan h run.stands next.permitted;
+      few = omega (arith, length_push h e, next.room);
+      small = run.small;
+      alone = alone_more h e run.alone next.by;
+      chosen = follows_more plan h e run.chosen next.chosen;
+      values = c.note_end.ensures.values h run.values;
+    })

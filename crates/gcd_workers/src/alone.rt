@@ -1,0 +1,59 @@
+// A run by worker 0 alone.
+ghost use Rattle.std.specs.Prelude.{◌≡◌, ◌<◌, ◌+◌, ◌^◌, ℕ, false, length, IfOk};
+ghost use Rattle.gcd_jobs.specs.Contents.{contents};
+ghost use Rattle.gcd_machine.specs.Stands.{StandsFor};
+ghost use Rattle.gcd_turn.specs.Asked.{KeepsListens};
+ghost use Rattle.gcd_workers.specs.Ran.{RunsOverFiles};
+
+use crate::list_run::{Files, ListRun};
+use crate::outcome::Outcome;
+use gcd_loop::{NoBackoff, run_turns};
+use gcd_outer::{Clock, Poller};
+use gcd_plan::Plan;
+use std::alloc::{AllocError, Global};
+use std::sync::Wait;
+
+/// Runs the plan by worker 0 alone, turn by turn, until the run is quiescent, halted, or has `most` events.
+/// One thread keeps the list of events, so it makes no row. `files` are the contents of the plan's files, in their order; the poller
+/// watches no feed yet. A turn costs what the machine's choice costs, the block's value, and a look at each live feed. The list begins
+/// with room for four events a block, and grows. An `Err` comes only where memory runs out, before the first event or at an event
+/// for which there is no room: it leaves nothing of the run, and the poller listens where it did (`kept`); what the poller has told
+/// is told.
+pub fn run_alone<R: Wait, P: Poller, C: Clock>(
+    rt: &R,
+    alloc: Global,
+    plan: &Plan,
+    most: u32,
+    files: &[Vec<u8>],
+    poller: &mut P,
+    clock: &mut C,
+) -> Result<Outcome, AllocError>
+    requires most { most + 1 < 2 ^ 32 }
+    requires files { length files.now ≡ length plan.now.files }
+    requires unwatched { (feed : ℕ) → (P.state poller.old).watched feed ≡ false }
+    ensures ran { IfOk result (λ o. RunsOverFiles most plan.now 1 (contents files.now)
+        (record { tells = P.tells; before = P.state poller.old; after = P.state poller.new })
+        (record { tells = C.tells; before = C.state clock.old; after = C.state clock.new })
+        o.journal.items o.values.items o.state) }
+    ensures stands { IfOk result (λ o. StandsFor o.machine plan.now o.journal.items) }
+    ensures kept { KeepsListens P.tells (P.state poller.old) (P.state poller.new) }
+{
+    let mut run = ListRun::new(alloc, plan, most, files)?;
+    run_turns(
+        rt,
+        plan,
+        most,
+        &Files { all: files },
+        &mut run,
+        &mut NoBackoff,
+        poller,
+        clock,
+    )?;
+    let state = run.machine.state();
+    Ok(Outcome {
+        journal: run.journal,
+        values: run.values,
+        state,
+        machine: run.machine,
+    })
+}

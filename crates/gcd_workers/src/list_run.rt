@@ -1,0 +1,187 @@
+// A run that one worker keeps in a list, as far as it has come.
+ghost use Rattle.std.specs.Prelude.{◌≡◌, ◌<◌, ◌+◌, ◌^◌, ◌++◌, ◌∷◌, [], List, length, IfOk, OnOk};
+ghost use Rattle.gcd_event.specs.declared.event.Event.{Event};
+ghost use Rattle.gcd_history.specs.Values.{value_of};
+ghost use Rattle.gcd_jobs.specs.BlockValues.{AreValues};
+ghost use Rattle.gcd_jobs.specs.Contents.{contents};
+ghost use Rattle.gcd_jobs.specs.Ends.{EndFits};
+ghost use Rattle.gcd_workers.specs.ListRuns.{IsListRun, IsNext};
+
+use gcd_event::Event;
+use gcd_jobs::{FileJob, Job};
+use gcd_loop::{Put, Recorder, Step};
+use gcd_machine::Machine;
+use gcd_plan::{Blk, Plan, Run};
+use std::alloc::{AllocError, Global};
+use std::sync::Wait;
+
+// The journal, the values of the blocks, and the machine that stands for the journal.
+#[derive(Debug, Drop)]
+pub(crate) struct ListRun {
+    pub(crate) journal: Vec<Event>,
+    pub(crate) values: Vec<u64>,
+    pub(crate) machine: Machine,
+}
+
+// A list has room at first for so many events, or for four events a block where that is more, and for no more than may come. What comes
+// beyond that grows it.
+const FIRST_EVENTS: usize = 1_024;
+
+// The value of a block: that of its work, and 0 without work.
+#[tactic(auto, unfolding(gcd_history::specs::Values::value_of))]
+#[inline(always)]
+fn block_value(plan: &Plan, files: &[Vec<u8>], b: Blk) -> u64
+    requires { b.0 < length plan.now.blocks }
+    ensures { result ≡ value_of plan.now (contents files.now) b.0 }
+{
+    FileJob::new(files, plan.work(b)).run(0)
+}
+
+// The values after one more event: an End gives its block a value.
+#[inline(always)]
+fn note_end(plan: &Plan, files: &[Vec<u8>], e: Event, values: &mut Vec<u64>)
+    requires count { length values.old.items ≡ length plan.now.blocks }
+    requires ends { EndFits plan.now e }
+    ensures values { (h : List Event) → AreValues plan.now (contents files.now) h values.old.items
+        → AreValues plan.now (contents files.now) (h ++ e ∷ []) values.new.items }
+{
+    match e.ended() {
+        Some(Run::Block(blk)) => {
+            values[blk.0 as usize] = block_value(plan, files, blk);
+        }
+        Some(Run::Source(_)) => {}
+        None => {}
+    }
+}
+
+impl ListRun {
+    // A run before its first event.
+    pub(crate) fn new(
+        alloc: Global,
+        plan: &Plan,
+        most: u32,
+        files: &[Vec<u8>],
+    ) -> Result<ListRun, AllocError>
+        requires { most + 1 < 2 ^ 32 }
+        ensures journal { IfOk result (λ r. r.journal.items ≡ []) }
+        ensures run { IfOk result (λ r. IsListRun most plan.now (contents files.now) r.journal.items r.values.items r.machine) }
+    {
+        let count = plan.blocks() as usize;
+        let room = (4 * count).max(FIRST_EVENTS).min(most as usize);
+        let journal = Vec::with_capacity(alloc, room)?;
+        let values = Vec::from_elem(alloc, 0, count)?;
+        let machine = Machine::new(alloc, plan)?;
+        Ok(ListRun {
+            journal,
+            values,
+            machine,
+        })
+    }
+
+    // Records an event that may come next. An `Err` leaves the run as it was.
+    #[inline(always)]
+    fn record(
+        &mut self,
+        plan: &Plan,
+        most: u32,
+        files: &[Vec<u8>],
+        e: Event,
+    ) -> Result<(), AllocError>
+        requires next { IsNext most plan.now self.old.journal.items e }
+        requires run { IsListRun most plan.now (contents files.now) self.old.journal.items self.old.values.items self.old.machine }
+        ensures journal { OnOk result (self.new.journal.items ≡ self.old.journal.items ++ e ∷ []) }
+        ensures run { IsListRun most plan.now (contents files.now) self.new.journal.items self.new.values.items self.new.machine }
+    {
+        self.journal.push(e)?;
+        note_end(plan, files, e, &mut self.values);
+        self.machine.apply(e);
+        Ok(())
+    }
+}
+
+// The contents of the plan's files.
+#[derive(Drop)]
+pub(crate) struct Files<'a> {
+    pub(crate) all: &'a [Vec<u8>],
+}
+
+impl<'a> Recorder<Files<'a>> for ListRun {
+    type Fault = AllocError;
+
+    ghost use Rattle.gcd_jobs.specs.Contents.{contents};
+    ghost use Rattle.gcd_workers.specs.ListRuns.{IsListRun, list_sight};
+
+    ghost seen = { λ r. r.journal.items };
+
+    ghost sight = { λ r. r.machine };
+
+    ghost ready = { λ most plan d r. IsListRun most plan (contents d.all.now) r.journal.items r.values.items r.machine };
+
+    ghost kept = { λ most plan d a r. IsListRun most plan (contents d.all.now) r.journal.items r.values.items r.machine };
+
+    ghost left = { λ most plan d r. IsListRun most plan (contents d.all.now) r.journal.items r.values.items r.machine };
+
+    ghost stopped = { λ most plan d r. ⊥ };
+
+    ghost stands = { λ most plan d r run. list_sight most plan (contents d.all.now) r.journal.items r.values.items r.machine run };
+
+    ghost leaves = { λ most plan d r run. run };
+
+    #[inline(always)]
+    fn machine(&self) -> &Machine
+        ensures { result.now ≡ self.now.machine }
+    {
+        &self.machine
+    }
+
+    #[inline(always)]
+    fn look(&mut self, plan: &Plan, most: u32, desk: &Files<'a>) {
+        let _ = plan;
+        let _ = most;
+        let _ = desk;
+    }
+
+    #[inline(always)]
+    fn put(
+        &mut self,
+        plan: &Plan,
+        most: u32,
+        desk: &Files<'a>,
+        e: Event,
+    ) -> Result<Put, AllocError> {
+        if self.machine.permits(e).is_some() {
+            return Ok(Put::Barred);
+        }
+        self.record(plan, most, desk.all, e)?;
+        Ok(Put::Placed)
+    }
+
+    #[inline(always)]
+    fn work<R: Wait>(
+        &mut self,
+        rt: &R,
+        plan: &Plan,
+        most: u32,
+        desk: &Files<'a>,
+        e: Event,
+    ) -> Result<Step, AllocError> {
+        let _ = rt;
+        self.record(plan, most, desk.all, e)?;
+        Ok(Step::Placed)
+    }
+
+    #[inline(always)]
+    fn rest<R: Wait>(
+        &mut self,
+        rt: &R,
+        plan: &Plan,
+        most: u32,
+        desk: &Files<'a>,
+    ) -> Result<Step, AllocError> {
+        let _ = rt;
+        let _ = plan;
+        let _ = most;
+        let _ = desk;
+        Ok(Step::Waited)
+    }
+}
