@@ -8,6 +8,7 @@ mod RowsOrder
 mod RowsObjects
 mod RowsGroups
 mod RowsSources
+mod RowsReplace
 mod RowsForged
 mod RowsReasons
 mod RowsValues

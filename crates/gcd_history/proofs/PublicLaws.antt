@@ -4,6 +4,7 @@ use Rattle.std.proofs.lemmas.Bool.{eqb-true, both_ways}
 use Rattle.std.proofs.lemmas.List.{take-append-drop, reverse-append, take_all, length-reverse, length-take-le}
 use Rattle.std.specs.Bool.{IsTrue}
 use Rattle.std.specs.List.{slice_get}
+use Rattle.std.specs.Option.{option_map_or}
 use Rattle.std.proofs.lemmas.Option.{slice_get_within, get_or_from_slice_get}
 use Rattle.gcd_plan.specs.PlanView.{PlanView}
 use Rattle.gcd_plan.specs.Validity.{IsPlan}
@@ -20,9 +21,9 @@ use Rattle.gcd_history.specs.Submitted.{submitted, submission_of}
 use Rattle.gcd_history.specs.Parked.{awaited, is_parked, has_come as has_come_after}
 use Rattle.gcd_history.specs.Permitted.{IsLawful as IsLawfulAfter, is_halted as is_halted_after}
 use Rattle.gcd_history.specs.Choice.{choice, all_ended as all_ended_after}
-use Rattle.gcd_history.specs.History.{why, IsLawful, node_of, is_started, is_submitted, submitted_of, is_free, chain_of_run as outer_chain, awaited_of, has_come, group_wait_passes, semaphore_wait_passes, received_of, pending_of, merged_of, is_open, is_active, chain_of, node_of_run, is_barrier_on, choice_of, running_of, next_due_of, is_live_feed}
+use Rattle.gcd_history.specs.History.{why, IsLawful, node_of, is_started, is_submitted, submitted_of, is_free, chain_of_run as outer_chain, awaited_of, has_come, group_wait_passes, semaphore_wait_passes, inputs_of, new_inputs_of, received_of, pending_of, merged_of, is_open, is_active, chain_of, node_of_run, is_barrier_on, choice_of, running_of, next_due_of, is_live_feed}
 use Rattle.gcd_history.specs.Ends.{IsDrained, all_ended, IsQuiescent, IsHalted, is_halted}
-use Rattle.gcd_history.specs.Laws.{RunsOnce, StartsAfterSubmission, AllEndOnce, IsSubmittedOnce, StartsInOrder, BeginsFree, WakesHaveCause, NoneParked, WaitsHavePassed, GroupWaitsPass, SemaphoreWaitsPass, IsConserved, RunsExclude, BlocksOfOneNodeApart, BarriersExclude, DeliversAlone, TreeStands, IsChoiceOf, HasNoChoice, IsAtRest}
+use Rattle.gcd_history.specs.Laws.{RunsOnce, StartsAfterSubmission, AllEndOnce, IsSubmittedOnce, StartsInOrder, BeginsFree, WakesHaveCause, NoneParked, WaitsHavePassed, GroupWaitsPass, SemaphoreWaitsPass, IsConserved, LastsAreKept, RunsExclude, BlocksOfOneNodeApart, BarriersExclude, DeliversAlone, TreeStands, IsChoiceOf, HasNoChoice, IsAtRest}
 use Rattle.gcd_plan.proofs.Places.{past_from_slice_get}
 use Rattle.gcd_history.proofs.Lists.{count_by-reverse, found_passes, past_more}
 use Rattle.gcd_plan.proofs.Sums.{count_by_some}
@@ -35,7 +36,9 @@ use Rattle.gcd_history.proofs.InOrder.{starts_in_order as starts_in_order_after}
 use Rattle.gcd_history.proofs.FreeAtStart.{start_begins_alone, deliver_begins_alone}
 use Rattle.gcd_history.proofs.Woken.{came, none_parked}
 use Rattle.gcd_history.proofs.WaitsPass.{passed, group_wait_passed, semaphore_wait_passed}
-use Rattle.gcd_history.proofs.Merged.{conserved}
+use Rattle.gcd_plan.specs.declared.kind.Kind.TheVariants.{Replace}
+use Rattle.gcd_history.specs.Sources.{fold_of, inputs, new_inputs, pending, handed, received}
+use Rattle.gcd_history.proofs.Merged.{conserved, last_of_new, last_received, replace_kind, last_is}
 use Rattle.gcd_history.proofs.OpenOnce.{shut_at_deliver}
 use Rattle.gcd_history.proofs.BlocksApart.{blocks_apart}
 use Rattle.gcd_history.proofs.RunsAlone.{runs_alone, barriers_alone}
@@ -141,7 +144,21 @@ semaphore_waits_pass plan h valid lawful drained s k low =
 
 pub is_conserved : (plan : PlanView) (h : List Event) → IsConserved plan h
 unfolding received_of pending_of merged_of
-is_conserved plan h s = conserved plan (reverse h) s
+is_conserved plan h s keeps = conserved plan (reverse h) s keeps
+
+pub lasts_are_kept : (plan : PlanView) (h : List Event) → IsLawful plan h → LastsAreKept plan h
+unfolding received_of pending_of inputs_of new_inputs_of
+lasts_are_kept plan h lawful s replaced =
+    let is = replace_kind plan s replaced in
+    let past = reverse h in
+    let last = last_is (inputs plan past s) in
+    let waits : pending plan past s ≡ fold_of Replace (new_inputs plan past s) = ap (λ o. option_map_or (λ k. fold_of k (new_inputs plan past s)) o 0) is in
+    let got : received plan past s ≡ fold_of Replace (handed plan past s) = ap (λ o. option_map_or (λ k. fold_of k (handed plan past s)) o 0) is in
+    record {
+      waits = λ some. waits ∙ (last_of_new plan past s some ∙ last);
+      none_waits = λ none. waits ∙ ap (fold_of Replace) none;
+      handed = λ none. got ∙ (last_received plan past s (lawful_after plan h lawful) is none ∙ last);
+    }
 
 pub runs_exclude : (plan : PlanView) (h : List Event) → IsPlan plan → IsLawful plan h → RunsExclude plan h
 unfolding is_open outer_chain

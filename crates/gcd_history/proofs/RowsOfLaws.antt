@@ -5,13 +5,13 @@ use Rattle.gcd_plan.specs.PlanView.{PlanView}
 use Rattle.gcd_plan.specs.Validity.{IsPlan}
 use Rattle.gcd_plan.specs.declared.act.Act.TheVariants.{Async, Barrier, Sync, GroupAsync, GroupWait, Signal, Wait, Suspend, Resume, Activate, Merge, Cancel}
 use Rattle.gcd_plan.specs.declared.kind.Kind.{Kind}
-use Rattle.gcd_plan.specs.declared.kind.Kind.TheVariants.{Add, Or, Read}
+use Rattle.gcd_plan.specs.declared.kind.Kind.TheVariants.{Add, Or, Replace, Read}
 use Rattle.gcd_plan.specs.declared.reason.Reason.TheVariants.{Block as EndOf, Group, Rank}
 use Rattle.gcd_plan.specs.declared.why.Why.TheVariants.{Busy, Unready, Behind, NotFree, Excluded, Fenced, Waiting, NotLive, Over}
 use Rattle.gcd_event.specs.declared.event.Event.{Event}
 use Rattle.gcd_event.specs.declared.event.Event.TheVariants.{Start, Act as Acted, Wake, End, Deliver, DeliverEnd, Ready, FeedEnd, Halt}
 use Rattle.gcd_history.specs.Runs.{starts, ends}
-use Rattle.gcd_history.specs.History.{why, IsLawful, is_submitted, is_started, submitted_of, is_open, node_of, chain_of_run, node_of_run, is_barrier_on, is_free, awaited_of, has_come, received_of, pending_of, merged_of, request_of, target_of, open_beneath_of, is_active, has_run, is_running, running_of, is_cancelled, is_live_feed}
+use Rattle.gcd_history.specs.History.{why, IsLawful, is_submitted, is_started, submitted_of, is_open, node_of, chain_of_run, node_of_run, is_barrier_on, is_free, awaited_of, has_come, inputs_of, new_inputs_of, received_of, pending_of, merged_of, request_of, target_of, open_beneath_of, is_active, has_run, is_running, running_of, is_cancelled, is_live_feed}
 use Rattle.gcd_history.specs.Ends.{IsDrained}
 use Rattle.gcd_history.proofs.Samples.{words, o, b, run, handler, serial, concurrent, group, semaphore, source, block, plan_of, journal}
 use Rattle.gcd_history.proofs.SampleLaws.{words_of_history, plan_from, lawful_row, drained_row}
@@ -259,6 +259,18 @@ or_premise : (map (λ i. received_of (merged_twice Or) (take i delivered_twice) 
     × (map (λ i. merged_of (merged_twice Or) (take i delivered_twice) 1) (6 ∷ 7 ∷ 9 ∷ 13 ∷ []) ≡ 7 ∷ 7 ∷ 15 ∷ 15 ∷ [])
 unfolding words words_of_history
 or_premise = (refl, refl, refl)
+
+-- the same of a replace source: pending, received, the inputs and those after the last Deliver
+replace_lawful : IsLawful (merged_twice Replace) delivered_twice
+unfolding words
+replace_lawful = lawful_row (merged_twice Replace) delivered_twice refl
+
+replace_premise : (map (λ i. received_of (merged_twice Replace) (take i delivered_twice) 1) (6 ∷ 7 ∷ 9 ∷ 13 ∷ []) ≡ 0 ∷ 6 ∷ 6 ∷ 12 ∷ [])
+    × (map (λ i. pending_of (merged_twice Replace) (take i delivered_twice) 1) (6 ∷ 7 ∷ 9 ∷ 13 ∷ []) ≡ 6 ∷ 0 ∷ 12 ∷ 0 ∷ [])
+    × (map (λ i. inputs_of (merged_twice Replace) (take i delivered_twice) 1) (6 ∷ 13 ∷ []) ≡ (3 ∷ 6 ∷ []) ∷ (3 ∷ 6 ∷ 12 ∷ []) ∷ [])
+    × (map (λ i. new_inputs_of (merged_twice Replace) (take i delivered_twice) 1) (6 ∷ 7 ∷ 9 ∷ 13 ∷ []) ≡ (3 ∷ 6 ∷ []) ∷ [] ∷ (12 ∷ []) ∷ [] ∷ [])
+unfolding words words_of_history
+replace_premise = (refl, refl, refl, refl)
 
 -- ## 8 While a run is open the chain of its node does not change
 

@@ -201,9 +201,14 @@ is_cancelled plan h s = submitted.is_cancelled plan (reverse h) s
 unfoldable pub is_live_feed : PlanView → List Event → ℕ → Bool
 is_live_feed plan h s = sources.is_live_feed plan (reverse h) s
 
--- the inputs of source s: its merges above 0, the bytes of its Readys, or 1 for each due time (dispatch_source_create(3))
+-- the inputs of source s: its merges above 0, at a replace source all of them, the bytes of its Readys, or 1 for each due time
+-- (dispatch_source_create(3))
 unfoldable pub inputs_of : PlanView → List Event → ℕ → List ℕ
 inputs_of plan h s = sources.inputs plan (reverse h) s
+
+-- those of them after its last Deliver (dispatch_source_get_data(3))
+unfoldable pub new_inputs_of : PlanView → List Event → ℕ → List ℕ
+new_inputs_of plan h s = sources.new_inputs plan (reverse h) s
 
 -- what is pending at source s: its inputs after its last Deliver, in one (dispatch_source_get_data(3))
 unfoldable pub pending_of : PlanView → List Event → ℕ → ℕ

@@ -1,8 +1,8 @@
 -- What holds of every lawful history, the oldest event first (this project's own rule, where a definition names no page).
-use Rattle.std.specs.Prelude.{◌≡◌, ◌≤◌, ◌<◌, ◌+◌, length, ℕ, ◌==◌, true, false, List, take, Some, None, slice_get, count_by, IsTrue, AllPairs}
+use Rattle.std.specs.Prelude.{◌≡◌, ◌≤◌, ◌<◌, ◌+◌, ◌-◌, length, ℕ, ◌==◌, Bool, true, false, List, [], take, Some, None, unwrap_or, slice_get, count_by, IsTrue, AllPairs}
 use Rattle.gcd_plan.specs.PlanView.{PlanView}
 use Rattle.gcd_plan.specs.Chains.{is_in}
-use Rattle.gcd_plan.specs.Kinds.{is_exclusive, has_barriers}
+use Rattle.gcd_plan.specs.Kinds.{is_exclusive, has_barriers, has_kind, is_replace_kind}
 use Rattle.gcd_plan.specs.declared.act.Act.TheVariants.{GroupWait}
 use Rattle.gcd_plan.specs.declared.numbers.Run.{Run}
 use Rattle.gcd_plan.specs.declared.numbers.Blk.{Blk}
@@ -16,7 +16,7 @@ use Rattle.gcd_history.specs.declared.submission.Submission.{Submission}
 use Rattle.gcd_history.specs.Runs.{starts, ends, act_of}
 use Rattle.gcd_history.specs.Semas.{wait_count}
 use Rattle.gcd_history.specs.Permitted.{is_on}
-use Rattle.gcd_history.specs.History.{is_started, is_submitted, submitted_of, chain_of_run, is_free, awaited_of, has_come, received_of, pending_of, merged_of, is_open, OverlapAt, Overlap, node_of, is_active, chain_of, node_of_run, is_barrier_on, group_wait_passes, semaphore_wait_passes, why, choice_of, running_of, next_due_of, is_live_feed}
+use Rattle.gcd_history.specs.History.{is_started, is_submitted, submitted_of, chain_of_run, is_free, awaited_of, has_come, inputs_of, new_inputs_of, received_of, pending_of, merged_of, is_open, OverlapAt, Overlap, node_of, is_active, chain_of, node_of_run, is_barrier_on, group_wait_passes, semaphore_wait_passes, why, choice_of, running_of, next_due_of, is_live_feed}
 use Rattle.gcd_history.specs.Choice.{is_work, worker_of}
 use Rattle.gcd_history.specs.Ends.{is_halted, HasState}
 use Rattle.gcd_history.specs.Sources.{joined}
@@ -86,9 +86,30 @@ GroupWaitsPass plan h =
 abbrev pub SemaphoreWaitsPass : PlanView → List Event → Type 0
 SemaphoreWaitsPass plan h = (s k : ℕ) → k ≤ wait_count plan h s → IsTrue (semaphore_wait_passes plan h s k)
 
--- what the Delivers of each source handed over, with what is pending, is all that it was given (dispatch_source_merge_data(3))
+-- source s is one of which the newest merged value stays
+abbrev pub is_replaced : PlanView → ℕ → Bool
+is_replaced plan s = has_kind is_replace_kind plan s
+
+-- the last of the values, or 0 where there is none
+abbrev pub last_of : List ℕ → ℕ
+last_of values = unwrap_or (slice_get values (length values - 1)) 0
+
+-- at a replace source the last merge is pending where it stands after the last Deliver; else nothing is pending, and the last
+-- merge was received last (dispatch_source_merge_data(3))
+pub record KeepsTheLast (plan : PlanView) (h : List Event) (s : ℕ) : Type 0 where
+  pub waits : (new_inputs_of plan h s ≡ [] → ⊥) → pending_of plan h s ≡ last_of (inputs_of plan h s)
+  pub none_waits : new_inputs_of plan h s ≡ [] → pending_of plan h s ≡ 0
+  pub handed : new_inputs_of plan h s ≡ [] → received_of plan h s ≡ last_of (inputs_of plan h s)
+
+-- what the Delivers of each source that is not a replace source handed over, with what is pending, is all that it was given
+-- (dispatch_source_merge_data(3))
 abbrev pub IsConserved : PlanView → List Event → Type 0
-IsConserved plan h = (s : ℕ) → joined plan s (received_of plan h s) (pending_of plan h s) ≡ merged_of plan h s
+IsConserved plan h =
+    (s : ℕ) → is_replaced plan s ≡ false → joined plan s (received_of plan h s) (pending_of plan h s) ≡ merged_of plan h s
+
+-- each replace source keeps the last (dispatch_source_merge_data(3))
+abbrev pub LastsAreKept : PlanView → List Event → Type 0
+LastsAreKept plan h = (s : ℕ) → IsTrue (is_replaced plan s) → KeepsTheLast plan h s
 
 -- runs that overlap where both are beneath one serial queue or source are one run (dispatch_queue_create(3),
 -- dispatch_set_target_queue(3))

@@ -4,7 +4,7 @@ use Rattle.std.specs.Option.{option_map_or}
 use Rattle.std.specs.List.{range_with_len}
 use Rattle.gcd_plan.specs.PlanView.{PlanView, kind_of}
 use Rattle.gcd_plan.specs.Kinds.{has_kind, is_read_kind}
-use Rattle.gcd_plan.specs.KindValues.{folded}
+use Rattle.gcd_plan.specs.KindValues.{folded, has_effect}
 use Rattle.gcd_plan.specs.declared.act.Act.{Act}
 use Rattle.gcd_plan.specs.declared.act.Act.TheVariants.{Merge}
 use Rattle.gcd_plan.specs.declared.kind.Kind.{Kind}
@@ -27,20 +27,24 @@ joined plan s a b = option_map_or (λ kind. folded kind a b) (kind_of plan s) 0
 abbrev pub fold_at : PlanView → ℕ → List ℕ → ℕ
 fold_at plan s values = option_map_or (λ kind. fold_of kind values) (kind_of plan s) 0
 
--- what the act merges into source s; a merge of 0 has no effect (dispatch_source_merge_data(3))
-abbrev pub merged_by : ℕ → Option Act → List ℕ
-merged_by s (Some (Merge t n)) = if t.0 == s then (if n == 0 then [] else n ∷ []) else []
-merged_by s _ = []
+-- a merge of n into source s has an effect (dispatch_source_merge_data(3))
+abbrev pub has_effect_at : PlanView → ℕ → (n : ℕ) → Bool
+has_effect_at plan s n = option_map_or (λ kind. has_effect kind n) (kind_of plan s) false
+
+-- what the act merges into source s (dispatch_source_merge_data(3))
+abbrev pub merged_by : PlanView → ℕ → Option Act → List ℕ
+merged_by plan s (Some (Merge t n)) = if t.0 == s && has_effect_at plan s n then n ∷ [] else []
+merged_by plan s _ = []
 
 -- 1 for each due time of timer s after from, up to the tick
 abbrev pub due_inputs : PlanView → List Event → ℕ → (from to : ℕ) → List ℕ
 due_inputs plan past s from to = map (λ t. 1) (filter (is_due plan past s) (range_with_len (from + 1) (to - from)))
 
--- what the event after past adds to the inputs of source s: a merge above 0, the bytes of a Ready, or 1 for each due time
--- up to a Tick (dispatch_source_create(3))
+-- what the event after past adds to the inputs of source s: a merge above 0, at a replace source of 0 too, the bytes of a
+-- Ready, or 1 for each due time up to a Tick (dispatch_source_create(3))
 abbrev pub input : PlanView → List Event → Event → ℕ → List ℕ
 input plan past (Start w b) s = []
-input plan past (Acted w r i) s = merged_by s (act_at plan r i)
+input plan past (Acted w r i) s = merged_by plan s (act_at plan r i)
 input plan past (Wake w b) s = []
 input plan past (End w b) s = []
 input plan past (Deliver w t) s = []

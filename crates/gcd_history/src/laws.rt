@@ -9,7 +9,7 @@ ghost use Rattle.gcd_history.specs.History.{IsLawful, why, choice_of};
 ghost use Rattle.gcd_history.specs.Ends.{HasEnded, IsDrained, IsQuiescent, IsHalted, HasState};
 ghost use Rattle.gcd_history.specs.declared.state.State.{State};
 ghost use Rattle.gcd_history.specs.Values.{words_begun, begins_word};
-ghost use Rattle.gcd_history.specs.Laws.{RunsOnce, StartsAfterSubmission, AllEndOnce, IsSubmittedOnce, StartsInOrder, BeginsFree, WakesHaveCause, NoneParked, WaitsHavePassed, GroupWaitsPass, SemaphoreWaitsPass, IsConserved, RunsExclude, BlocksOfOneNodeApart, BarriersExclude, DeliversAlone, TreeStands, IsChoiceOf, HasNoChoice, HasSomeState, IsAtRest};
+ghost use Rattle.gcd_history.specs.Laws.{RunsOnce, StartsAfterSubmission, AllEndOnce, IsSubmittedOnce, StartsInOrder, BeginsFree, WakesHaveCause, NoneParked, WaitsHavePassed, GroupWaitsPass, SemaphoreWaitsPass, IsConserved, LastsAreKept, RunsExclude, BlocksOfOneNodeApart, BarriersExclude, DeliversAlone, TreeStands, IsChoiceOf, HasNoChoice, HasSomeState, IsAtRest};
 
 /// Each block starts at most once, after its submission, and ends at most once; where the run is drained each submitted
 /// block has ended exactly once (dispatch_async(3)).
@@ -76,9 +76,12 @@ pub fn wakes_have_causes()
         → SemaphoreWaitsPass plan h }
 {}
 
-/// What the Delivers of a source handed over, with what is pending, is all that it was given (dispatch_source_merge_data(3)).
+/// What the Delivers of a source handed over, with what is pending, is all that it was given; of a replace source the last merge
+/// is pending where it stands after the last Deliver, and else nothing is pending and it was received last
+/// (dispatch_source_merge_data(3)).
 pub fn merged_data_is_conserved()
-    ensures { (plan : PlanView) (h : List Event) → IsConserved plan h }
+    ensures others { (plan : PlanView) (h : List Event) → IsConserved plan h }
+    ensures replaced { (plan : PlanView) (h : List Event) → IsLawful plan h → LastsAreKept plan h }
 {}
 
 /// While a run is open the chain of its node does not change and each object of it is active, and following targets from any

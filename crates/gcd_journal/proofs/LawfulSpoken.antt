@@ -7,7 +7,7 @@ use Rattle.gcd_plan.specs.PlanView.{PlanView}
 use Rattle.gcd_plan.specs.Kinds.{is_source, is_source_kind, is_read_kind}
 use Rattle.gcd_plan.specs.Validity.{IsPlan}
 use Rattle.gcd_plan.specs.declared.kind.Kind.{Kind}
-use Rattle.gcd_plan.specs.declared.kind.Kind.TheVariants.{Serial, Concurrent, Group, Semaphore, Add, Or, Timer, Read}
+use Rattle.gcd_plan.specs.declared.kind.Kind.TheVariants.{Serial, Concurrent, Group, Semaphore, Add, Or, Replace, Timer, Read}
 use Rattle.gcd_event.specs.declared.event.Event.{Event}
 use Rattle.gcd_event.specs.declared.event.Event.TheVariants.{Start, Act as Acted, Wake, End, Deliver, DeliverEnd, Tick, Ready, FeedEnd, Misuse, Halt}
 use Rattle.gcd_history.specs.Permitted.{is_known, is_worker, is_run_of, is_index, is_code, has_block, is_feed}
@@ -24,6 +24,7 @@ feed_is_source Group h = h
 feed_is_source (Semaphore n) h = h
 feed_is_source Add h = refl
 feed_is_source Or h = refl
+feed_is_source Replace h = refl
 feed_is_source (Timer start every) h = refl
 feed_is_source Read h = h
 

@@ -6,7 +6,7 @@ use std::alloc::{AllocError, Global};
 use std::process::Abort;
 use std::test::Fail;
 
-// `root`, an add source, an or source, a read source and another add source, and `main`.
+// `root`, an add source, an or source, a read source, another add source and a replace source, and `main`.
 fn parts(alloc: Global) -> Result<Parts, AllocError> {
     let main = BlkPart::new(alloc, "main")?;
     let root = ObjPart::new(alloc, "root", Kind::Concurrent)?;
@@ -15,8 +15,9 @@ fn parts(alloc: Global) -> Result<Parts, AllocError> {
     let mut read = ObjPart::new(alloc, "r", Kind::Read)?;
     read.path = String::from_str(alloc, "feed")?;
     let other = ObjPart::new(alloc, "b", Kind::Add)?;
+    let replace = ObjPart::new(alloc, "n", Kind::Replace)?;
     Ok(Parts {
-        objects: vec![in alloc; root, add, or, read, other]?,
+        objects: vec![in alloc; root, add, or, read, other, replace]?,
         blocks: vec![in alloc; main]?,
         files: Vec::new(alloc),
         until: 1,
@@ -32,7 +33,7 @@ enum Call {
     Cancel(Obj),
 }
 
-const CALLS: [Call; 38] = [
+const CALLS: [Call; 46] = [
     // An add source adds.
     Call::Pending(Obj(1), 0),
     Call::Merge(Obj(1), 5),
@@ -52,6 +53,15 @@ const CALLS: [Call; 38] = [
     Call::Merge(Obj(3), 4),
     Call::Merge(Obj(3), 6),
     Call::Pending(Obj(3), 10),
+    // At a replace source the newest value stays, and 0 takes all away.
+    Call::Merge(Obj(5), 3),
+    Call::Merge(Obj(5), 9),
+    Call::Pending(Obj(5), 9),
+    Call::Merge(Obj(5), 0),
+    Call::Pending(Obj(5), 0),
+    Call::Merge(Obj(5), 4),
+    Call::Take(Obj(5), 4),
+    Call::Take(Obj(5), 0),
     // What comes between two takings, while a handler may run, is kept for the next.
     Call::Merge(Obj(4), 2),
     Call::Take(Obj(4), 2),

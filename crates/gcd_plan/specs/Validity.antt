@@ -13,7 +13,7 @@ use Rattle.gcd_plan.specs.declared.act.Act.TheVariants.{Async, Barrier, Sync, Ba
 use Rattle.gcd_plan.specs.declared.numbers.Blk.{Blk}
 use Rattle.gcd_plan.specs.declared.numbers.Obj.{Obj}
 use Rattle.gcd_plan.specs.declared.kind.Kind.{Kind}
-use Rattle.gcd_plan.specs.declared.kind.Kind.TheVariants.{Serial, Concurrent, Group, Semaphore, Add, Or, Timer, Read}
+use Rattle.gcd_plan.specs.declared.kind.Kind.TheVariants.{Serial, Concurrent, Group, Semaphore, Add, Or, Replace, Timer, Read}
 use Rattle.gcd_plan.specs.declared.work.Work.{Work}
 
 -- the queue root: object 0
@@ -127,6 +127,7 @@ is_kind Group = true
 is_kind (Semaphore n) = nat_le n max_value
 is_kind Add = true
 is_kind Or = true
+is_kind Replace = true
 is_kind (Timer start every) = nat_le 1 start && (nat_le start max_time && (nat_le 1 every && nat_le every max_time))
 is_kind Read = true
 
@@ -138,6 +139,7 @@ has_path Group path = length path == 0
 has_path (Semaphore n) path = length path == 0
 has_path Add path = length path == 0
 has_path Or path = length path == 0
+has_path Replace path = length path == 0
 has_path (Timer start every) path = length path == 0
 has_path Read path = is_path path
 
@@ -166,6 +168,7 @@ has_fields plan Group o = has_no_fields o
 has_fields plan (Semaphore n) o = has_no_fields o
 has_fields plan Add o = has_source_fields plan o
 has_fields plan Or o = has_source_fields plan o
+has_fields plan Replace o = has_source_fields plan o
 has_fields plan (Timer start every) o = has_source_fields plan o
 has_fields plan Read o = has_source_fields plan o
 

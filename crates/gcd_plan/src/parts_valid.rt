@@ -21,7 +21,7 @@ fn is_kind(kind: Kind) -> bool
             1 <= start && start <= MAX_TIME && 1 <= every && every <= MAX_TIME
         }
         Kind::Serial | Kind::Concurrent | Kind::Group => true,
-        Kind::Add | Kind::Or | Kind::Read => true,
+        Kind::Add | Kind::Or | Kind::Replace | Kind::Read => true,
     }
 }
 
@@ -31,7 +31,7 @@ fn has_path(kind: Kind, path: &str) -> bool
     match kind {
         Kind::Read => is_path(path.as_bytes()),
         Kind::Serial | Kind::Concurrent | Kind::Group | Kind::Semaphore(_) => path.is_empty(),
-        Kind::Add | Kind::Or | Kind::Timer { .. } => path.is_empty(),
+        Kind::Add | Kind::Or | Kind::Replace | Kind::Timer { .. } => path.is_empty(),
     }
 }
 
@@ -52,7 +52,7 @@ fn has_fields(parts: &Parts, o: &ObjPart) -> bool
         Kind::Group | Kind::Semaphore(_) => {
             o.target.0 == 0 && o.active && o.handler.is_empty() && o.cancel.is_none()
         }
-        Kind::Add | Kind::Or | Kind::Timer { .. } | Kind::Read => {
+        Kind::Add | Kind::Or | Kind::Replace | Kind::Timer { .. } | Kind::Read => {
             is_queue(parts, o.target)
                 && !o.active
                 && is_handler(parts, &o.handler)

@@ -18,7 +18,7 @@ use Rattle.gcd_history.specs.Runs.{open_runs, is_ended, act_of}
 use Rattle.gcd_history.specs.Submitted.{submitted}
 use Rattle.gcd_history.specs.Tree.{node_of_run, is_run_on, open_on}
 use Rattle.gcd_history.specs.Permitted.{IsLawful, is_feed}
-use Rattle.gcd_history.specs.Sources.{fold_of, merged_by, input, delivers, new_inputs, pending}
+use Rattle.gcd_history.specs.Sources.{fold_of, has_effect_at, merged_by, input, delivers, new_inputs, pending}
 use Rattle.gcd_history.specs.Timers.{now, is_due}
 use Rattle.gcd_plan.proofs.Sums.{count_by-cons}
 use Rattle.gcd_history.proofs.Sums.{sum_range_le, sum_range-add, sum_range_one, ones}
@@ -132,13 +132,10 @@ sum_of_ones (y ∷ ys) =
     let rest = sum_of_ones ys in
     omega (arith, step, rest)
 
-merge_low : (plan : PlanView) (s : ℕ) (o : Option Act) → ((act : Act) → o ≡ Some act → is_act plan act ≡ true) → sum (merged_by s o) ≤ max_value
+merge_low : (plan : PlanView) (s : ℕ) (o : Option Act) → ((act : Act) → o ≡ Some act → is_act plan act ≡ true) → sum (merged_by plan s o) ≤ max_value
 merge_low plan s (Some (Merge t n)) fine =
     let low = leb-true n max_value (and_parts (has_kind is_merge_kind plan t.0) _ (fine (Merge t n) refl)).1 in
-    elim (t.0 == s) as (λ u. sum (cond u (cond (n == 0) [] (n ∷ [])) []) ≤ max_value) [
-      | true ↦ elim (n == 0) as (λ u. sum (cond u [] (n ∷ [])) ≤ max_value) [ true ↦ omega arith | false ↦ omega (arith, low) ]
-      | false ↦ omega arith
-    ]
+    elim (t.0 == s && has_effect_at plan s n) as (λ u. sum (cond u (n ∷ []) []) ≤ max_value) [ true ↦ omega (arith, low) | false ↦ omega arith ]
 merge_low plan s o fine = omega arith
 
 -- an event adds less than 2^31

@@ -1,13 +1,15 @@
 -- Which objects have to be looked at after an event.
-use Rattle.std.proofs.Common.{◌≡◌, ℕ, ◌+◌, ◌-◌, ◌<◌, ◌≤◌, ◌==◌, ltb, Bool, true, false, ◌||◌, cond, List, [], ◌∷◌, ◌++◌, length, map, drop, filter, get_or, set, Option, Some, None, refl, ap, sym, ◌∙◌, arith, ⊎_elim, eq-eqb, ne_eqb, option_map}
+use Rattle.std.proofs.Common.{◌≡◌, ℕ, ◌+◌, ◌-◌, ◌<◌, ◌≤◌, ◌==◌, ltb, Bool, true, false, ◌||◌, ◌&&◌, cond, List, [], ◌∷◌, ◌++◌, length, map, drop, filter, get_or, set, Option, Some, None, refl, ap, sym, ◌∙◌, arith, ⊎_elim, eq-eqb, ne_eqb, option_map}
 use Rattle.std.specs.List.{fold, list_any, list_all, slice_get}
 use Rattle.std.specs.Option.{option_map_or}
 use Rattle.std.proofs.lemmas.Bool.{cases_eq, cases_lt, and_parts, or_parts, both_ways, ltb-false}
 use Rattle.std.proofs.lemmas.List.{append-nil, length-set, nil_from_length, get_or_past}
 use Rattle.std.proofs.lemmas.List.FromFn.{length-map-range_with_len, get_or-map-range_with_len}
+use Rattle.std.proofs.lemmas.List.Sums.{fold_push}
 use Rattle.std.proofs.lemmas.Option.{slice_get_past}
 use Rattle.gcd_plan.specs.PlanView.{PlanView, ObjView, kind_of}
 use Rattle.gcd_plan.specs.Kinds.{has_kind, is_source, is_source_kind, is_read_kind, is_merge_kind}
+use Rattle.gcd_plan.specs.KindValues.{folded}
 use Rattle.gcd_plan.specs.Validity.{IsPlan}
 use Rattle.gcd_plan.specs.declared.act.Act.{Act}
 use Rattle.gcd_plan.specs.declared.act.Act.TheVariants.{Merge}
@@ -19,10 +21,11 @@ use Rattle.gcd_event.specs.declared.event.Event.TheVariants.{Start, Act as Acted
 use Rattle.gcd_history.specs.declared.submission.Submission.{Submission}
 use Rattle.gcd_history.specs.Runs.{act_of}
 use Rattle.gcd_history.specs.Submitted.{submitted, new_submissions}
-use Rattle.gcd_history.specs.Sources.{fold_of, fold_at, merged_by as merged_in, new_inputs, pending}
+use Rattle.gcd_history.specs.Sources.{fold_of, fold_at, has_effect_at, merged_by as merged_in, new_inputs, pending}
 use Rattle.gcd_history.specs.Permitted.{IsLawful, is_worker, is_on, waits_on}
 use Rattle.gcd_history.proofs.Counts.{find_first}
 use Rattle.gcd_history.proofs.Fitting.{has_object}
+use Rattle.gcd_history.proofs.Merged.{zero-folded}
 use Rattle.gcd_history.proofs.Reasons.{allowed}
 use Rattle.gcd_history.proofs.SubmittedOnNodes.{on_a_node, recorded_fits}
 use Rattle.gcd_lists.specs.ListsView.{list_at}
@@ -181,26 +184,40 @@ by_input plan past e s more v o low own old off pend =
     (pend ∙ (ap (λ u. fold_at plan o (new_inputs plan past o ++ cond u more [])) t ∙ same_pend plan past o)) (old (sym (ap (λ u. cond u true (busy_at v o)) t) ∙ write)))
     (cases_eq s o)
 
+-- a value of 0 more leaves nothing pending
+zero_stays : (plan : PlanView) (o : ℕ) (u : Bool) (xs : List ℕ) → fold_at plan o xs ≡ 0 → fold_at plan o (xs ++ cond u (0 ∷ []) []) ≡ 0
+zero_stays plan o false xs none = ap (fold_at plan o) (append-nil xs) ∙ none
+zero_stays plan o true xs none =
+    elim (kind_of plan o) as (λ k. option_map_or (λ kind. fold_of kind xs) k 0 ≡ 0 → option_map_or (λ kind. fold_of kind (xs ++ 0 ∷ [])) k 0 ≡ 0) [
+      | None ↦ λ z. refl
+      | Some kind ↦ λ z. fold_push (folded kind) 0 xs 0 ∙ (ap (λ v. folded kind v 0) z ∙ zero-folded kind 0)
+    ] none
+
+one_after_other : (a b : Bool) (xs : List ℕ) → cond (a && b) xs [] ≡ cond a (cond b xs []) []
+one_after_other true b xs = refl
+one_after_other false b xs = refl
+
 by_act : (plan : PlanView) (past : List Event) (w : ℕ) (r : Run) (i : ℕ) (v : MachineView) (o : ℕ) (act : Option Act) → act_of plan (Acted w r i) ≡ act → IsPlan plan → OwnFit plan v → Old plan past v o
     → get_or (busy_by v.busy act) o false ≡ false → Quiet (list_at v.lists o) (pending plan (Acted w r i ∷ past) o)
 by_act plan past w r i v o (Some (Merge s n)) at valid own old off =
     let low = has_object is_merge_kind plan s.0 (and_parts (has_kind is_merge_kind plan s.0) _ (recorded_fits plan (Acted w r i) (Merge s n) valid at)).0 in
-    let is = ap (λ a. fold_at plan o (new_inputs plan past o ++ merged_in o a)) at in
+    let is = ap (λ a. fold_at plan o (new_inputs plan past o ++ merged_in plan o a)) at in
     ⊎_elim
     (λ (none : n ≡ 0).
-    let t = eq-eqb n 0 none in
-    quiet_now (list_at v.lists o) (list_at v.lists o) (pending plan past o) (pending plan (Acted w r i ∷ past) o) refl
-    (is ∙ (ap (λ u. fold_at plan o (new_inputs plan past o ++ cond (s.0 == o) (cond u [] (n ∷ [])) [])) t
-    ∙ (elim (s.0 == o) as (λ u. fold_at plan o (new_inputs plan past o ++ cond u [] []) ≡ fold_at plan o (new_inputs plan past o ++ [])) [ true ↦ refl | false ↦ refl ] ∙ same_pend plan past o)))
-    (old (sym (ap (λ u. get_or (cond u v.busy (set v.busy s.0 true)) o false) t) ∙ off)))
+    let quiet = old (sym (ap (λ u. get_or (cond u v.busy (set v.busy s.0 true)) o false) (eq-eqb n 0 none)) ∙ off) in
+    record {
+      list = quiet.list;
+      pend = is ∙ (ap (λ m. fold_at plan o (new_inputs plan past o ++ cond (s.0 == o && has_effect_at plan o n) (m ∷ []) [])) none
+      ∙ zero_stays plan o (s.0 == o && has_effect_at plan o n) (new_inputs plan past o) quiet.pend);
+    })
     (λ (some : n ≡ 0 → ⊥).
-    let t = ne_eqb n 0 some in
-    by_input plan past (Acted w r i) s.0 (n ∷ []) v o low own old (sym (ap (λ u. get_or (cond u v.busy (set v.busy s.0 true)) o false) t) ∙ off)
-    (is ∙ ap (λ u. fold_at plan o (new_inputs plan past o ++ cond (s.0 == o) (cond u [] (n ∷ [])) [])) t))
+    by_input plan past (Acted w r i) s.0 (cond (has_effect_at plan o n) (n ∷ []) []) v o low own old
+    (sym (ap (λ u. get_or (cond u v.busy (set v.busy s.0 true)) o false) (ne_eqb n 0 some)) ∙ off)
+    (is ∙ ap (λ l. fold_at plan o (new_inputs plan past o ++ l)) (one_after_other (s.0 == o) (has_effect_at plan o n) (n ∷ []))))
     (cases_eq n 0)
 by_act plan past w r i v o act at valid own old off =
     quiet_now (list_at v.lists o) (list_at v.lists o) (pending plan past o) (pending plan (Acted w r i ∷ past) o) refl
-    (ap (λ a. fold_at plan o (new_inputs plan past o ++ merged_in o a)) at ∙ same_pend plan past o) (old off)
+    (ap (λ a. fold_at plan o (new_inputs plan past o ++ merged_in plan o a)) at ∙ same_pend plan past o) (old off)
 
 -- a timer that is not marked at a Tick has no due time that no delivery took
 by_tick : (plan : PlanView) (past : List Event) (t : ℕ) (v : MachineView) (o : ℕ) → OwnFit plan v → SourcesAre plan past v → SourcesAre plan (Tick t ∷ past) (after plan v (Tick t)) → Old plan past v o

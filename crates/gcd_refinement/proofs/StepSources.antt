@@ -1,5 +1,5 @@
 -- What is pending at sources after an event, and what the deliveries took of the due times.
-use Rattle.std.proofs.Common.{◌≡◌, ℕ, zero, suc, ◌+◌, ◌-◌, ◌<◌, ◌≤◌, ◌==◌, true, false, cond, List, [], ◌∷◌, ◌++◌, length, get_or, set, map, filter, Option, Some, None, refl, ap, sym, ◌∙◌, subst, arith, ◌⊎◌, ⊎_elim, inl, inr, eq-eqb, ne_eqb}
+use Rattle.std.proofs.Common.{◌≡◌, ℕ, zero, suc, ◌+◌, ◌-◌, ◌<◌, ◌≤◌, ◌==◌, true, false, not, ◌&&◌, cond, List, [], ◌∷◌, ◌++◌, length, get_or, set, map, filter, Option, Some, None, refl, ap, sym, ◌∙◌, subst, arith, ◌⊎◌, ⊎_elim, inl, inr, eq-eqb, ne_eqb}
 use Rattle.std.specs.List.{count_by, fold, slice_get, range_with_len}
 use Rattle.std.specs.Option.{option_map_or}
 use Rattle.std.proofs.lemmas.Bool.{cases_eq, and_parts}
@@ -7,13 +7,13 @@ use Rattle.std.proofs.lemmas.List.{append-nil}
 use Rattle.std.proofs.lemmas.List.Sums.{fold_push, length-filter}
 use Rattle.std.proofs.lemmas.Option.{slice_get-map}
 use Rattle.gcd_plan.specs.PlanView.{PlanView, kind_of}
-use Rattle.gcd_plan.specs.Kinds.{has_kind, is_source, is_source_kind, is_merge_kind, is_read_kind, is_timer_kind}
-use Rattle.gcd_plan.specs.KindValues.{folded}
+use Rattle.gcd_plan.specs.Kinds.{has_kind, is_source, is_source_kind, is_merge_kind, is_replace_kind, is_read_kind, is_timer_kind}
+use Rattle.gcd_plan.specs.KindValues.{folded, has_effect}
 use Rattle.gcd_plan.specs.Validity.{IsPlan}
 use Rattle.gcd_plan.specs.declared.act.Act.{Act}
 use Rattle.gcd_plan.specs.declared.act.Act.TheVariants.{Merge}
 use Rattle.gcd_plan.specs.declared.kind.Kind.{Kind}
-use Rattle.gcd_plan.specs.declared.kind.Kind.TheVariants.{Or}
+use Rattle.gcd_plan.specs.declared.kind.Kind.TheVariants.{Or, Replace}
 use Rattle.gcd_plan.specs.declared.numbers.Obj.{Obj}
 use Rattle.gcd_plan.specs.declared.numbers.Run.{Run}
 use Rattle.gcd_plan.specs.declared.numbers.Run.TheVariants.{Block, Source}
@@ -21,7 +21,7 @@ use Rattle.gcd_event.specs.declared.event.Event.{Event}
 use Rattle.gcd_event.specs.declared.event.Event.TheVariants.{Act as Acted, Deliver, Tick, Ready}
 use Rattle.gcd_history.specs.Runs.{act_of}
 use Rattle.gcd_history.specs.Submitted.{cancels}
-use Rattle.gcd_history.specs.Sources.{fold_of, fold_at, merged_by as merged_in, due_inputs, new_inputs, pending}
+use Rattle.gcd_history.specs.Sources.{fold_of, fold_at, has_effect_at, merged_by as merged_in, due_inputs, new_inputs, pending}
 use Rattle.gcd_history.specs.Timers as timers
 use Rattle.gcd_history.specs.Timers.{now, is_due}
 use Rattle.gcd_history.specs.Permitted.{IsLawful, is_worker}
@@ -86,6 +86,7 @@ record Pend (p d t x : ℕ) : Type 0 where
 -- a kind adds its values, or is of no timer
 sums_or_idle : (kind : Kind) → ((a b : ℕ) → folded kind a b ≡ a + b) ⊎ (is_timer_kind kind ≡ false)
 sums_or_idle Or = inr refl
+sums_or_idle Replace = inr refl
 sums_or_idle kind = inl (λ a b. refl)
 
 -- a value more
@@ -117,20 +118,36 @@ joins plan past v s d t n fit none pend =
       | Some kind ↦ λ z k. subst (λ y. Pend (folded kind p n) d t y) (sym (fold_push (folded kind) 0 xs n)) (folds kind p d t (fold_of kind xs) n z k)
     ] none pend)
 
--- a merge of 0 is no input, and changes nothing
-zero_input : (plan : PlanView) (s n : ℕ) (xs : List ℕ) → fold_at plan s (xs ++ cond (n == 0) [] (n ∷ [])) ≡ fold_at plan s (xs ++ n ∷ [])
-zero_input plan s n xs =
+-- which merges have an effect, by the kind
+effect_at_replace : (kind : Kind) (n : ℕ) → is_replace_kind kind ≡ true → has_effect kind n ≡ true
+effect_at_replace Replace n is = refl
+effect_at_replace kind n is = cc
+
+effect_elsewhere : (kind : Kind) (n : ℕ) → is_replace_kind kind ≡ false → has_effect kind n ≡ not (n == 0)
+effect_elsewhere Replace n keeps = cc
+effect_elsewhere kind n keeps = refl
+
+-- a merge of 0 changes nothing where it has no effect
+zero_kept : (kind : Kind) (n : ℕ) (xs : List ℕ) → is_replace_kind kind ≡ false → fold_of kind (xs ++ cond (not (n == 0)) (n ∷ []) []) ≡ fold_of kind (xs ++ n ∷ [])
+zero_kept kind n xs keeps =
     ⊎_elim
     (λ (none : n ≡ 0).
-    elim (kind_of plan s) as (λ o. option_map_or (λ kind. fold_of kind (xs ++ cond (n == 0) [] (n ∷ []))) o 0 ≡ option_map_or (λ kind. fold_of kind (xs ++ n ∷ [])) o 0) [
-      | None ↦ refl
-      | Some kind ↦
-          ap (λ v. fold_of kind (xs ++ cond v [] (n ∷ []))) (eq-eqb n 0 none)
-          ∙ (ap (fold_of kind) (append-nil xs)
-          ∙ (sym (folded-zero kind (fold_of kind xs)) ∙ (ap (folded kind (fold_of kind xs)) (sym none) ∙ sym (fold_push (folded kind) 0 xs n))))
-    ])
-    (λ (some : n ≡ 0 → ⊥). ap (λ v. fold_at plan s (xs ++ cond v [] (n ∷ []))) (ne_eqb n 0 some))
+    ap (λ v. fold_of kind (xs ++ cond (not v) (n ∷ []) [])) (eq-eqb n 0 none)
+    ∙ (ap (fold_of kind) (append-nil xs)
+    ∙ (sym (folded-zero kind (fold_of kind xs) keeps) ∙ (ap (folded kind (fold_of kind xs)) (sym none) ∙ sym (fold_push (folded kind) 0 xs n)))))
+    (λ (some : n ≡ 0 → ⊥). ap (λ v. fold_of kind (xs ++ cond (not v) (n ∷ []) [])) (ne_eqb n 0 some))
     (cases_eq n 0)
+
+-- a merge that has no effect is no input, and changes nothing
+zero_input : (plan : PlanView) (s n : ℕ) (xs : List ℕ) → fold_at plan s (xs ++ cond (has_effect_at plan s n) (n ∷ []) []) ≡ fold_at plan s (xs ++ n ∷ [])
+zero_input plan s n xs =
+    elim (kind_of plan s) as (λ o. option_map_or (λ kind. fold_of kind (xs ++ cond (option_map_or (λ kind. has_effect kind n) o false) (n ∷ []) [])) o 0 ≡ option_map_or (λ kind. fold_of kind (xs ++ n ∷ [])) o 0) [
+      | None ↦ refl
+      | Some kind ↦ elim (is_replace_kind kind) as (λ v. is_replace_kind kind ≡ v → fold_of kind (xs ++ cond (has_effect kind n) (n ∷ []) []) ≡ fold_of kind (xs ++ n ∷ [])) [
+        | true ↦ λ is. ap (λ v. fold_of kind (xs ++ cond v (n ∷ []) [])) (effect_at_replace kind n is)
+        | false ↦ λ keeps. ap (λ v. fold_of kind (xs ++ cond v (n ∷ []) [])) (effect_elsewhere kind n keeps) ∙ zero_kept kind n xs keeps
+      ] refl
+    ]
 
 -- ## A Tick
 
@@ -141,6 +158,11 @@ ones kind sums a (y ∷ ys) =
     let rest = ones kind sums (folded kind a 1) ys in
     let here = sums a 1 in
     omega (arith, rest, here)
+
+-- no replace source adds
+adds_nowhere_else : (kind : Kind) → ((a b : ℕ) → folded kind a b ≡ a + b) → is_replace_kind kind ≡ false
+adds_nowhere_else Replace sums = let no = sums 1 0 in absurd (omega (arith, no))
+adds_nowhere_else kind sums = refl
 
 intervals_counted : (plan : PlanView) (past : List Event) (s t : ℕ)
     → fold_at plan s (new_inputs plan past s ++ due_inputs plan past s (now past) t) ≡ pending plan past s + count_by (is_due plan past s) (range_with_len (now past + 1) (t - now past))
@@ -154,7 +176,7 @@ intervals_counted plan past s t =
       | Some kind ↦ λ none.
           ⊎_elim
           (λ (sums : (a b : ℕ) → folded kind a b ≡ a + b).
-          let a : fold_of kind (xs ++ map (λ y. 1) ys) ≡ folded kind (fold_of kind xs) (fold_of kind (map (λ y. 1) ys)) = fold_of-append kind xs (map (λ y. 1) ys) in
+          let a : fold_of kind (xs ++ map (λ y. 1) ys) ≡ folded kind (fold_of kind xs) (fold_of kind (map (λ y. 1) ys)) = fold_of-append kind xs (map (λ y. 1) ys) (adds_nowhere_else kind sums) in
           let b = sums (fold_of kind xs) (fold_of kind (map (λ y. 1) ys)) in
           let c : fold_of kind (map (λ y. 1) ys) ≡ 0 + length ys = ones kind sums 0 ys in
           omega (arith, a, b, c, long))
@@ -276,15 +298,15 @@ by_act plan past w r i v s (Some (Merge o n)) at valid fit pend =
     let xs = new_inputs plan past s in
     valued plan past (Acted w r i) v o.0 s n valid fit (has_object is_merge_kind plan o.0 (and_parts (has_kind is_merge_kind plan o.0) _ (recorded_fits plan (Acted w r i) (Merge o n) valid at)).0) pend refl
     (ap (λ a. pending_at (merged_by v.sources a) s) at) (run_kept v r s)
-    (ap (λ a. fold_at plan s (xs ++ merged_in s a)) at
-    ∙ elim (o.0 == s) as (λ u. fold_at plan s (xs ++ cond u (cond (n == 0) [] (n ∷ [])) []) ≡ cond u (fold_at plan s (xs ++ n ∷ [])) (fold_at plan s (xs ++ []))) [
+    (ap (λ a. fold_at plan s (xs ++ merged_in plan s a)) at
+    ∙ elim (o.0 == s) as (λ u. fold_at plan s (xs ++ cond (u && has_effect_at plan s n) (n ∷ []) []) ≡ cond u (fold_at plan s (xs ++ n ∷ [])) (fold_at plan s (xs ++ []))) [
       | true ↦ zero_input plan s n xs
       | false ↦ refl
     ])
 by_act plan past w r i v s act at valid fit pend =
     still plan past (Acted w r i) v s valid pend refl
     (ap (λ a. pending_at (merged_by v.sources a) s) at) (run_kept v r s)
-    (ap (λ a. new_inputs plan past s ++ merged_in s a) at)
+    (ap (λ a. new_inputs plan past s ++ merged_in plan s a) at)
 
 joint : (plan : PlanView) (past : List Event) (e : Event) (v : MachineView) (s : ℕ) → IsPlan plan → IsLawful plan (e ∷ past) → PartsFit plan v → OwnFit plan v → TimersAre plan past v → old_pend plan past v s → new_pend plan past e v s
 joint plan past (Tick t) v s valid lawful fit own ties pend = by_tick plan past t v s lawful pend

@@ -15,7 +15,7 @@ use Rattle.gcd_plan.specs.PlanView.{PlanView, ObjView, BlkView, first_target}
 use Rattle.gcd_plan.specs.Validity.{IsPlan, names_of, root_view, blocks_of, submitted_blocks, act_count, is_act, is_handler_act, is_object, is_block, is_submittable, is_kind, has_path, has_fields, has_source_fields}
 use Rattle.gcd_plan.specs.declared.act.Act.{Act}
 use Rattle.gcd_plan.specs.declared.kind.Kind.{Kind}
-use Rattle.gcd_plan.specs.declared.kind.Kind.TheVariants.{Serial, Concurrent, Group, Semaphore, Add, Or, Timer, Read}
+use Rattle.gcd_plan.specs.declared.kind.Kind.TheVariants.{Serial, Concurrent, Group, Semaphore, Add, Or, Replace, Timer, Read}
 use Rattle.gcd_plan.specs.declared.numbers.Blk.{Blk}
 use Rattle.gcd_plan.specs.declared.numbers.Obj.{Obj}
 use Rattle.gcd_plan.proofs.Sums.{count_by-flat_map, count_by-append}
@@ -136,6 +136,7 @@ source_fields plan Group o h = cc
 source_fields plan (Semaphore n) o h = cc
 source_fields plan Add o h = refl
 source_fields plan Or o h = refl
+source_fields plan Replace o h = refl
 source_fields plan (Timer start every) o h = refl
 source_fields plan Read o h = refl
 

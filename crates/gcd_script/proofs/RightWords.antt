@@ -8,7 +8,7 @@ use Rattle.gcd_plan.specs.Names.{is_path}
 use Rattle.gcd_plan.specs.PlanView.{PlanView}
 use Rattle.gcd_plan.specs.Validity.{is_object, is_work}
 use Rattle.gcd_plan.specs.declared.kind.Kind.{Kind}
-use Rattle.gcd_plan.specs.declared.kind.Kind.TheVariants.{Serial, Concurrent, Group, Semaphore, Add, Or, Timer, Read}
+use Rattle.gcd_plan.specs.declared.kind.Kind.TheVariants.{Serial, Concurrent, Group, Semaphore, Add, Or, Replace, Timer, Read}
 use Rattle.gcd_plan.specs.declared.numbers.Obj.{Obj}
 use Rattle.gcd_plan.specs.declared.work.How.{How}
 use Rattle.gcd_plan.specs.declared.work.Work.{Work}
@@ -35,6 +35,7 @@ queue_object plan name Group target active is on = cc
 queue_object plan name (Semaphore n) target active is on = cc
 queue_object plan name Add target active is on = cc
 queue_object plan name Or target active is on = cc
+queue_object plan name Replace target active is on = cc
 queue_object plan name (Timer start every) target active is on = cc
 queue_object plan name Read target active is on = cc
 
@@ -66,13 +67,13 @@ module _ (d : DraftView) (sound : IsDraft d) where
   queue_on_root name k active kind target h =
       let b = both_are (one_of queue_kinds k) (Ok root) kind target h in
       let on : root ≡ target = let r : ◌≡◌ {A = Meant Obj} (Ok root) (Ok target) = b.1 in cc in
-      queue_object d.plan name kind target active (one_is (λ a. is_queue_kind a ≡ true) queue_kinds k kind (refl, (refl, tt)) b.0)
+      queue_object d.plan name kind target active (one_is (λ a. is_queue_kind a ≡ true) queue_kinds k kind (refl, (refl, (refl, tt))) b.0)
       (subst (λ t. is_queue d.plan t.0 ≡ true) on root_queue)
 
   queue_on : (name k t : List ℕ) (active : Bool) (kind : Kind) (target : Obj) → both (one_of queue_kinds k) (queue d.plan t) ≡ Ok (kind, target) → is_object d.plan (new_object name kind target active []) ≡ true
   queue_on name k t active kind target h =
       let b = both_are (one_of queue_kinds k) (queue d.plan t) kind target h in
-      queue_object d.plan name kind target active (one_is (λ a. is_queue_kind a ≡ true) queue_kinds k kind (refl, (refl, tt)) b.0)
+      queue_object d.plan name kind target active (one_is (λ a. is_queue_kind a ≡ true) queue_kinds k kind (refl, (refl, (refl, tt))) b.0)
       (object_asked d.plan is_queue_kind t target b.1)
 
   pub queue_fits : (words : List (List ℕ)) (line : Line (List ℕ)) → queue_line d.plan words ≡ Ok line → Fits d line
@@ -116,13 +117,14 @@ module _ (d : DraftView) (sound : IsDraft d) where
   merge_object name (Semaphore n) target is on = cc
   merge_object name Add target is on = and_from (is_queue d.plan target.0) true on refl
   merge_object name Or target is on = and_from (is_queue d.plan target.0) true on refl
+  merge_object name Replace target is on = and_from (is_queue d.plan target.0) true on refl
   merge_object name (Timer start every) target is on = cc
   merge_object name Read target is on = cc
 
   merge_on : (name k t : List ℕ) (kind : Kind) (target : Obj) → both (one_of merge_kinds k) (queue d.plan t) ≡ Ok (kind, target) → is_object d.plan (new_object name kind target false []) ≡ true
   merge_on name k t kind target h =
       let b = both_are (one_of merge_kinds k) (queue d.plan t) kind target h in
-      merge_object name kind target (one_is (λ a. is_merge_kind a ≡ true) merge_kinds k kind (refl, (refl, tt)) b.0)
+      merge_object name kind target (one_is (λ a. is_merge_kind a ≡ true) merge_kinds k kind (refl, (refl, (refl, tt))) b.0)
       (object_asked d.plan is_queue_kind t target b.1)
 
   -- a read source

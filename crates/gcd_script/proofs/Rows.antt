@@ -137,7 +137,7 @@ source_kind : fault_of (codes "source s merge on root") ≡ Some (1, 1)
 unfolding digits
 source_kind = refl
 
-source_replace : fault_of (codes "source s replace on root") ≡ Some (1, 1)
+source_replace : fault_of (codes "source s replace on root\nmain\nmerge s 0") ≡ None
 unfolding digits
 source_replace = refl
 

@@ -9,7 +9,7 @@ use Rattle.gcd_plan.specs.Kinds.{has_kind, is_queue, is_queue_kind}
 use Rattle.gcd_plan.specs.Chains.{chain_by, is_in}
 use Rattle.gcd_plan.specs.Validity.{IsPlan, is_object, is_kind, has_path, has_fields, root_view, reaches_root}
 use Rattle.gcd_plan.specs.declared.kind.Kind.{Kind}
-use Rattle.gcd_plan.specs.declared.kind.Kind.TheVariants.{Serial, Concurrent, Group, Semaphore, Add, Or, Timer, Read}
+use Rattle.gcd_plan.specs.declared.kind.Kind.TheVariants.{Serial, Concurrent, Group, Semaphore, Add, Or, Replace, Timer, Read}
 use Rattle.gcd_plan.proofs.Places.{slice_get_kept, slice_get-append_left, slice_get-append_seam, slice_get_some}
 use Rattle.gcd_plan.proofs.Quantifiers.{list_all_get}
 use Rattle.gcd_plan.proofs.Walks.{chain_agree, in_cases, in_longer, in_rest}
@@ -43,6 +43,7 @@ target_by_kind plan (Semaphore n) o h root =
     subst (λ t. is_queue plan t ≡ true) (sym none) root
 target_by_kind plan Add o h root = (and_parts (is_queue plan o.target.0) _ h).0
 target_by_kind plan Or o h root = (and_parts (is_queue plan o.target.0) _ h).0
+target_by_kind plan Replace o h root = (and_parts (is_queue plan o.target.0) _ h).0
 target_by_kind plan (Timer start every) o h root = (and_parts (is_queue plan o.target.0) _ h).0
 target_by_kind plan Read o h root = (and_parts (is_queue plan o.target.0) _ h).0
 

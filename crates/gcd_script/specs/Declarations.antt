@@ -59,7 +59,7 @@ semaphore_line plan (s ∷ n ∷ []) =
     object_line plan s (meant (λ value. (Semaphore value, root)) (number 0 max_value n)) true []
 semaphore_line plan _ = Err NoForm
 
--- `source S add on T`, `source S or on T`, `source S read PATH on T`, `source S timer START EVERY on T`
+-- `source S add on T`, `source S or on T`, `source S replace on T`, `source S read PATH on T`, `source S timer START EVERY on T`
 abbrev pub source_line : PlanView → List (List ℕ) → Meant (Line (List ℕ))
 source_line plan (s ∷ k ∷ on ∷ t ∷ []) =
     given (bytes_eq on (codes "on")) (object_line plan s (both (one_of merge_kinds k) (queue plan t)) false [])

@@ -3,7 +3,7 @@ use Rattle.std.specs.Prelude.{ℕ, if◌then◌else◌, List, [], ◌∷◌, Opt
 use Rattle.std.specs.Option.{option_or}
 use Rattle.std.specs.Str.{bytes_eq}
 use Rattle.gcd_plan.specs.declared.kind.Kind.{Kind}
-use Rattle.gcd_plan.specs.declared.kind.Kind.TheVariants.{Serial, Concurrent, Add, Or}
+use Rattle.gcd_plan.specs.declared.kind.Kind.TheVariants.{Serial, Concurrent, Add, Or, Replace}
 use Rattle.gcd_plan.specs.declared.work.How.{How}
 use Rattle.gcd_plan.specs.declared.work.How.TheVariants.{Bytes, Lines, Words, Sum}
 use Rattle.gcd_script.specs.declared.keyword.Keyword.{Keyword}
@@ -73,7 +73,7 @@ queue_kinds = (codes "serial", Serial) ∷ (codes "concurrent", Concurrent) ∷ 
 
 -- the words that choose the kind of a source of merged values
 abbrev pub merge_kinds : List (List ℕ × Kind)
-merge_kinds = (codes "add", Add) ∷ (codes "or", Or) ∷ []
+merge_kinds = (codes "add", Add) ∷ (codes "or", Or) ∷ (codes "replace", Replace) ∷ []
 
 -- the words that choose what a work counts, but for `count V`
 abbrev pub counts : List (List ℕ × How)

@@ -43,7 +43,7 @@
 //! | `wait S` | a semaphore | no |
 //! | `suspend O`, `resume O`, `activate O` | a queue other than `root`, or a source | yes |
 //! | `target O T` | O as above, T a queue | yes |
-//! | `merge S N` | an add or or source, N 0 to `MAX_VALUE` | yes |
+//! | `merge S N` | an add, or or replace source, N 0 to `MAX_VALUE` | yes |
 //! | `cancel S` | a source | yes |
 //! | `retain O`, `release O` | any object but `root` | yes |
 //!

@@ -65,6 +65,8 @@ pub fn merge_kind(word: &str) -> Meant<Kind>
         Ok(Kind::Add)
     } else if word == "or" {
         Ok(Kind::Or)
+    } else if word == "replace" {
+        Ok(Kind::Replace)
     } else {
         Err(Refusal::NoForm)
     }

@@ -93,7 +93,7 @@ const ROWS: [(&str, Answer); 60] = [
     ("queue q serial at root", Answer::Refused(1, 1)),
     ("queue q serial on root active", Answer::Refused(1, 1)),
     ("source s merge on root", Answer::Refused(1, 1)),
-    ("source s replace on root", Answer::Refused(1, 1)),
+    ("source s renew on root", Answer::Refused(1, 1)),
     ("source s timer 1 1 at root", Answer::Refused(1, 1)),
     ("file f p\nblock b count 5 f 0", Answer::Refused(2, 1)),
     ("file f p\nblock b median f", Answer::Refused(2, 1)),

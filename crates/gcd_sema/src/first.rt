@@ -11,7 +11,7 @@ fn first_value(kind: Kind) -> u32
     match kind {
         Kind::Semaphore(n) => n,
         Kind::Serial | Kind::Concurrent | Kind::Group => 0,
-        Kind::Add | Kind::Or | Kind::Timer { .. } | Kind::Read => 0,
+        Kind::Add | Kind::Or | Kind::Replace | Kind::Timer { .. } | Kind::Read => 0,
     }
 }
 

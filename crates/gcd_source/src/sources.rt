@@ -1,7 +1,8 @@
 // The sources.
-ghost use Rattle.std.specs.Prelude.{◌≡◌, ◌<◌, ◌^◌, IfOk, length};
+ghost use Rattle.std.specs.Prelude.{◌≡◌, ◌<◌, ◌^◌, IfOk, false, length};
+ghost use Rattle.gcd_plan.specs.Kinds.{is_replace_kind};
 ghost use Rattle.gcd_plan.specs.KindValues.{folded};
-ghost use Rattle.gcd_source.specs.SourcesView.{sources_of, pending_at, is_cancelled_at, merged_at, with_pending, with_cancelled};
+ghost use Rattle.gcd_source.specs.SourcesView.{sources_of, pending_at, is_cancelled_at, is_replace_at, merged_at, with_pending, with_cancelled};
 
 use gcd_plan::{Kind, Obj, Plan};
 use std::alloc::{AllocError, Global};
@@ -26,12 +27,12 @@ impl Model for Sources {
     ghost invariant = { λ s. AreAsMany (record { kinds = s.kinds.items; pending = s.pending.items; cancelled = s.cancelled.items }) };
 }
 
-// Two values in one, at a source of this kind; 0 changes nothing.
+// Two values in one, at a source of this kind; 0 changes nothing, but at a replace source.
 #[tactic(auto, using(crate::proofs::Merges::nothing_changes))]
 fn joined(kind: Kind, a: u64, b: u64) -> u64
     requires { folded kind a b < 2 ^ 64 }
     ensures value { result ≡ folded kind a b }
-    ensures nothing { b ≡ 0 → result ≡ a }
+    ensures nothing { is_replace_kind kind ≡ false → b ≡ 0 → result ≡ a }
 {
     kind.folded(u128::from(a), u128::from(b)) as u64
 }
@@ -76,14 +77,14 @@ impl Sources {
         self.cancelled[s.0 as usize]
     }
 
-    /// Joins the value to what is pending at the source: bit by bit at an or source, and else by addition, whose sum stays
-    /// below 2^64; a merge of 0 changes nothing (dispatch_source_merge_data(3)). [`Sources::pending`] is the test.
-    #[tactic(auto, using(crate::proofs::Merges::nothing_changes))]
+    /// Joins the value to what is pending at the source: bit by bit at an or source, in its place at a replace source, and else
+    /// by addition, whose sum stays below 2^64; a merge of 0 changes nothing, but at a replace source, where nothing is pending
+    /// then (dispatch_source_merge_data(3)). [`Sources::pending`] is the test.
     pub fn merge(&mut self, s: Obj, v: u64)
         requires source { s.0 < length self.old.kinds }
         requires room { merged_at self.old s.0 v < 2 ^ 64 }
         ensures joined { self.new ≡ with_pending self.old s.0 (merged_at self.old s.0 v) }
-        ensures nothing { v ≡ 0 → self.new ≡ self.old }
+        ensures nothing { is_replace_at self.old s.0 ≡ false → v ≡ 0 → self.new ≡ self.old }
     {
         let at = s.0 as usize;
         self.pending[at] = joined(self.kinds[at], self.pending[at], v);

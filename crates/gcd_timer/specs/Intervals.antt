@@ -3,7 +3,7 @@
 use Rattle.std.specs.Prelude.{ℕ, ◌+◌, ◌-◌, ◌/◌, ◌%◌, ◌<◌, ◌==◌, nat_le, nat_lt, min, Bool, ◌&&◌, if◌then◌else◌, Option, Some, None}
 use Rattle.std.specs.Option.{option_map_or}
 use Rattle.gcd_plan.specs.declared.kind.Kind.{Kind}
-use Rattle.gcd_plan.specs.declared.kind.Kind.TheVariants.{Serial, Concurrent, Group, Semaphore, Add, Or, Timer, Read}
+use Rattle.gcd_plan.specs.declared.kind.Kind.TheVariants.{Serial, Concurrent, Group, Semaphore, Add, Or, Replace, Timer, Read}
 use Rattle.gcd_timer.specs.declared.due_times.DueTimes.{DueTimes}
 
 -- the first due time is above 0, and no two are one
@@ -31,6 +31,7 @@ due_times_of Group from last = None
 due_times_of (Semaphore n) from last = None
 due_times_of Add from last = None
 due_times_of Or from last = None
+due_times_of Replace from last = None
 due_times_of (Timer start every) from last = Some (record { first = from + start; every = every; last = last })
 due_times_of Read from last = None
 

@@ -37,7 +37,7 @@ pub fn due_times_of(kind: Kind, from: u32, last: u32) -> Option<DueTimes>
             last,
         }),
         Kind::Serial | Kind::Concurrent | Kind::Group | Kind::Semaphore(_) => None,
-        Kind::Add | Kind::Or | Kind::Read => None,
+        Kind::Add | Kind::Or | Kind::Replace | Kind::Read => None,
     }
 }
 

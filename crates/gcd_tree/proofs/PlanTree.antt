@@ -10,7 +10,7 @@ use Rattle.std.proofs.lemmas.List.Sums.{AllPass-from_list_all}
 use Rattle.std.proofs.lemmas.Option.{slice_get-get_or, slice_get_within}
 use Rattle.gcd_plan.specs.declared.numbers.Obj.{Obj}
 use Rattle.gcd_plan.specs.declared.kind.Kind.{Kind}
-use Rattle.gcd_plan.specs.declared.kind.Kind.TheVariants.{Serial, Concurrent, Group, Semaphore, Add, Or, Timer, Read}
+use Rattle.gcd_plan.specs.declared.kind.Kind.TheVariants.{Serial, Concurrent, Group, Semaphore, Add, Or, Replace, Timer, Read}
 use Rattle.gcd_plan.specs.PlanView.{PlanView, ObjView, first_target}
 use Rattle.gcd_plan.specs.Kinds.{is_node_kind, is_queue_kind, is_queue, is_node}
 use Rattle.gcd_plan.specs.Validity.{IsPlan, is_object, has_fields, root_view}
@@ -90,6 +90,7 @@ target_of_kind plan Group o h = inr (eqb-true _ _ (and_parts _ _ h).0)
 target_of_kind plan (Semaphore n) o h = inr (eqb-true _ _ (and_parts _ _ h).0)
 target_of_kind plan Add o h = inl (and_parts _ _ h).0
 target_of_kind plan Or o h = inl (and_parts _ _ h).0
+target_of_kind plan Replace o h = inl (and_parts _ _ h).0
 target_of_kind plan (Timer start every) o h = inl (and_parts _ _ h).0
 target_of_kind plan Read o h = inl (and_parts _ _ h).0
 
@@ -100,6 +101,7 @@ plain_at_root plan Group o h none = eqb-true _ _ (and_parts _ _ h).0
 plain_at_root plan (Semaphore n) o h none = eqb-true _ _ (and_parts _ _ h).0
 plain_at_root plan Add o h none = absurd (true≢false none)
 plain_at_root plan Or o h none = absurd (true≢false none)
+plain_at_root plan Replace o h none = absurd (true≢false none)
 plain_at_root plan (Timer start every) o h none = absurd (true≢false none)
 plain_at_root plan Read o h none = absurd (true≢false none)
 

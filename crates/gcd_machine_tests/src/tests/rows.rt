@@ -112,7 +112,7 @@ pub const OWN_CALL: Row = Row {
     ..PLAIN
 };
 
-pub static ROWS: [Row; 36] = [
+pub static ROWS: [Row; 38] = [
     PLAIN,
     Row {
         what: "one block",
@@ -412,6 +412,29 @@ pub static ROWS: [Row; 36] = [
         ],
         journal: "start 0 b0; act 0 b0 0; act 0 b0 1; act 0 b0 2; end 0 b0; deliver 0 s1; deliver_end 0 s1; ",
         data: 7,
+        ..PLAIN
+    },
+    Row {
+        what: "the newest merge in place of the others",
+        objects: &[(Kind::Replace, ROOT)],
+        acts: &[
+            (MAIN, Act::Merge(O1, 3)),
+            (MAIN, Act::Merge(O1, 9)),
+            (MAIN, Act::Activate(O1)),
+        ],
+        journal: "start 0 b0; act 0 b0 0; act 0 b0 1; act 0 b0 2; end 0 b0; deliver 0 s1; deliver_end 0 s1; ",
+        data: 9,
+        ..PLAIN
+    },
+    Row {
+        what: "a merge of 0 that takes all away at a replace source",
+        objects: &[(Kind::Replace, ROOT)],
+        acts: &[
+            (MAIN, Act::Merge(O1, 3)),
+            (MAIN, Act::Merge(O1, 0)),
+            (MAIN, Act::Activate(O1)),
+        ],
+        journal: "start 0 b0; act 0 b0 0; act 0 b0 1; act 0 b0 2; end 0 b0; ",
         ..PLAIN
     },
     Row {

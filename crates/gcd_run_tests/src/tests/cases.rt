@@ -219,7 +219,7 @@ pub static TARGETS_AND_GROUPS: [Case; 9] = [
 ];
 
 // Sources.
-pub static SOURCES: [Case; 9] = [
+pub static SOURCES: [Case; 11] = [
     Case {
         what: "merges are added",
         words: &["run", "s", "--journal"],
@@ -234,6 +234,22 @@ pub static SOURCES: [Case; 9] = [
         script: "source s or on root\nmain\nmerge s 3\nmerge s 6\nactivate s",
         events: Some(7),
         text: "start 0 main\nact 0 main 0\nact 0 main 1\nact 0 main 2\nend 0 main\ndeliver 0 s\ndeliver_end 0 s\nevents 7\ns received 7 in 1 pending 0\ndrained\n",
+        ..RUN
+    },
+    Case {
+        what: "the newest merge stays",
+        words: &["run", "s", "--journal"],
+        script: "source s replace on root\nmain\nmerge s 3\nmerge s 9\nactivate s",
+        events: Some(7),
+        text: "start 0 main\nact 0 main 0\nact 0 main 1\nact 0 main 2\nend 0 main\ndeliver 0 s\ndeliver_end 0 s\nevents 7\ns received 9 in 1 pending 0\ndrained\n",
+        ..RUN
+    },
+    Case {
+        what: "a merge of 0 takes all away at a replace source",
+        words: &["run", "s", "--journal"],
+        script: "source s replace on root\nmain\nmerge s 3\nmerge s 0\nactivate s",
+        events: Some(5),
+        text: "start 0 main\nact 0 main 0\nact 0 main 1\nact 0 main 2\nend 0 main\nevents 5\ns received 0 in 0 pending 0\ndrained\n",
         ..RUN
     },
     Case {
