@@ -269,7 +269,7 @@ replace_premise : (map (λ i. received_of (merged_twice Replace) (take i deliver
     × (map (λ i. pending_of (merged_twice Replace) (take i delivered_twice) 1) (6 ∷ 7 ∷ 9 ∷ 13 ∷ []) ≡ 6 ∷ 0 ∷ 12 ∷ 0 ∷ [])
     × (map (λ i. inputs_of (merged_twice Replace) (take i delivered_twice) 1) (6 ∷ 13 ∷ []) ≡ (3 ∷ 6 ∷ []) ∷ (3 ∷ 6 ∷ 12 ∷ []) ∷ [])
     × (map (λ i. new_inputs_of (merged_twice Replace) (take i delivered_twice) 1) (6 ∷ 7 ∷ 9 ∷ 13 ∷ []) ≡ (3 ∷ 6 ∷ []) ∷ [] ∷ (12 ∷ []) ∷ [] ∷ [])
-unfolding words words_of_history
+unfolding words words_of_history inputs_of new_inputs_of
 replace_premise = (refl, refl, refl, refl)
 
 -- ## 8 While a run is open the chain of its node does not change

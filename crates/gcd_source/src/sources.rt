@@ -1,6 +1,5 @@
 // The sources.
 ghost use Rattle.std.specs.Prelude.{◌≡◌, ◌<◌, ◌^◌, IfOk, false, length};
-ghost use Rattle.gcd_plan.specs.Kinds.{is_replace_kind};
 ghost use Rattle.gcd_plan.specs.KindValues.{folded};
 ghost use Rattle.gcd_source.specs.SourcesView.{sources_of, pending_at, is_cancelled_at, is_replace_at, merged_at, with_pending, with_cancelled};
 
@@ -27,12 +26,10 @@ impl Model for Sources {
     ghost invariant = { λ s. AreAsMany (record { kinds = s.kinds.items; pending = s.pending.items; cancelled = s.cancelled.items }) };
 }
 
-// Two values in one, at a source of this kind; 0 changes nothing, but at a replace source.
-#[tactic(auto, using(crate::proofs::Merges::nothing_changes))]
+// Two values in one, at a source of this kind.
 fn joined(kind: Kind, a: u64, b: u64) -> u64
     requires { folded kind a b < 2 ^ 64 }
-    ensures value { result ≡ folded kind a b }
-    ensures nothing { is_replace_kind kind ≡ false → b ≡ 0 → result ≡ a }
+    ensures { result ≡ folded kind a b }
 {
     kind.folded(u128::from(a), u128::from(b)) as u64
 }
@@ -85,6 +82,15 @@ impl Sources {
         requires room { merged_at self.old s.0 v < 2 ^ 64 }
         ensures joined { self.new ≡ with_pending self.old s.0 (merged_at self.old s.0 v) }
         ensures nothing { is_replace_at self.old s.0 ≡ false → v ≡ 0 → self.new ≡ self.old }
+    {
+        self.fold_in(s, v);
+    }
+
+    // Folds the value into what is pending at the source.
+    fn fold_in(&mut self, s: Obj, v: u64)
+        requires source { s.0 < length self.old.kinds }
+        requires room { merged_at self.old s.0 v < 2 ^ 64 }
+        ensures { self.new ≡ with_pending self.old s.0 (merged_at self.old s.0 v) }
     {
         let at = s.0 as usize;
         self.pending[at] = joined(self.kinds[at], self.pending[at], v);
