@@ -4,12 +4,9 @@ ghost use Rattle.gcd_history.specs.History.{IsLawful};
 ghost use Rattle.gcd_machine.specs.Stands.{StandsFor};
 ghost use Rattle.gcd_why.specs.Barred.{IsBarred};
 
-use crate::barred::{Barred, find_barred};
-use crate::naming::{EventWords, why_name};
-use crate::reasons::in_the_way;
-use crate::scene::Scene;
+use crate::barred::find_barred;
 use crate::sentence::Sentence;
-use crate::sight::Sight;
+use gcd_cause::{Barred, EventWords, Scene, Sight, in_the_way, why_name};
 use gcd_event::Event;
 use gcd_machine::Machine;
 use gcd_plan::Plan;

@@ -1,4 +1,4 @@
-//! Why, in words: what a script, a journal, a run or the words of a command line are refused for, or ended by. (This project's own
+//! Why, in sentences: what a script, a journal, a run or the words of a command line are refused for, or ended by. (This project's own
 //! rules.)
 //!
 //! | call | says |
@@ -14,35 +14,19 @@
 //!
 //! Proved is that each call answers, whatever it is given; that a sentence is of that file and line; and that [`why_event`] names
 //! the first event that is not permitted with the reason of the definitions, and nothing exactly where the events are lawful
-//! (`specs/Barred`). Which words a sentence has is tested by a table, a row a sentence: no clause says it. So that a sentence can
-//! name what is in the way, a scene follows the events beside the machine (`Scene`); nothing is judged by it.
+//! (`specs/Barred`). Which words a sentence has, `gcd_cause` chooses, and a table tests, a row a sentence: no clause says it.
 #![tactic(auto)]
 
 mod barred;
-mod blame;
-mod command;
 mod event;
-mod form;
 mod journal;
-mod known;
-mod lines;
-mod misuses;
-mod naming;
-mod places;
-mod reasons;
-mod role;
 mod run;
-mod scene;
 mod script;
-mod script_cause;
 mod sentence;
-mod shown;
-mod sight;
 mod unread;
 
-pub use barred::Barred;
-pub use command::{WordsCause, why_words};
 pub use event::{EventSentence, why_event};
+pub use gcd_cause::{Barred, WordsCause, why_words};
 pub use journal::why_journal;
 pub use run::why_run;
 pub use script::why_script;

@@ -3,13 +3,11 @@ ghost use Rattle.std.specs.Prelude.{◌+◌, ◌<◌, ◌^◌, [], length};
 ghost use Rattle.gcd_machine.specs.Stands.{StandsFor};
 
 use crate::barred::find_barred;
-use crate::blame::{chain, hold_words};
-use crate::misuses::{code_name, misuse_words};
-use crate::naming::{ActWords, act_at, kind_of};
-use crate::places::Places;
-use crate::scene::{Place, Scene};
 use crate::sentence::Sentence;
-use crate::sight::Sight;
+use gcd_cause::{
+    ActWords, Place, Places, Scene, Sight, act_at, chain, code_name, hold_words, kind_of,
+    misuse_words,
+};
 use gcd_event::Event;
 use gcd_history::State;
 use gcd_machine::Machine;
@@ -172,7 +170,7 @@ impl<'a> Saying<'a> {
         }
         let time = sight.scene.time;
         let text = format!(in self.alloc;
-            "the run has 65535 events, the most that one may have, and goes on: {ended} blocks have ended, {open} are open, {left} wait for their start, at {time} ms"
+            "the run has {MAX_EVENTS} events, the most that one may have, and goes on: {ended} blocks have ended, {open} are open, {left} wait for their start, at {time} ms"
         )?;
         self.add(0, text)
     }

@@ -1,7 +1,7 @@
 // One sentence, and where it belongs.
 ghost use Rattle.std.specs.Prelude.{◌≡◌, IfOk};
 
-use crate::shown::Shown;
+use gcd_cause::Shown;
 use std::alloc::{AllocError, Global};
 use std::fmt;
 

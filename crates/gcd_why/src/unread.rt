@@ -1,6 +1,6 @@
 // Why something cannot be read.
 
-use crate::shown::Shown;
+use gcd_cause::Shown;
 use std::fmt;
 
 /// What could not be read, and where it is named; `said` is what the system said, empty where it said nothing.

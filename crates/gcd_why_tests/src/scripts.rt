@@ -62,7 +62,7 @@ static FORMS: [Row; 12] = [
     ),
     (
         "source s sum on root\nmain\n",
-        "s:1: 'sum' stands where 'add' or 'or' is asked (word 3)",
+        "s:1: 'sum' stands where 'add', 'or' or 'replace' is asked (word 3)",
     ),
     (
         "file f p\nblock b bits f\nmain\n",
@@ -125,7 +125,7 @@ static NAMES: [Row; 15] = [
     ),
     (
         "source s timer 1 1 on root\nmain\nmerge s 1\n",
-        "s:3: 's' is a timer (line 1), and a source that adds or joins bits is asked (word 2)",
+        "s:3: 's' is a timer (line 1), and a source of merged values is asked (word 2)",
     ),
     (
         "block b\nqueue q serial on b\nmain\n",

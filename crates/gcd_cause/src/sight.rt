@@ -232,7 +232,7 @@ impl<'a> Sight<'a> {
         match kind_of(self.plan, s) {
             Kind::Semaphore(value) => value,
             Kind::Serial | Kind::Concurrent | Kind::Group => 0,
-            Kind::Add | Kind::Or | Kind::Timer { .. } | Kind::Read => 0,
+            Kind::Add | Kind::Or | Kind::Replace | Kind::Timer { .. } | Kind::Read => 0,
         }
     }
 }

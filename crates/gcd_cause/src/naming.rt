@@ -46,7 +46,7 @@ pub fn kind_words(kind: Kind) -> &'static str {
         Kind::Concurrent => "concurrent queue",
         Kind::Group => "group",
         Kind::Semaphore(_) => "semaphore",
-        Kind::Add | Kind::Or => "source",
+        Kind::Add | Kind::Or | Kind::Replace => "source",
         Kind::Timer { .. } => "timer",
         Kind::Read => "read source",
     }

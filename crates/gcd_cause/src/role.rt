@@ -19,7 +19,7 @@ pub enum Role {
     Count,
     /// `serial` or `concurrent`.
     QueueKind,
-    /// `add` or `or`.
+    /// `add`, `or` or `replace`.
     MergeKind,
     /// `bytes`, `lines`, `words` or `sum`.
     Work,
@@ -35,7 +35,7 @@ pub enum Role {
     Semaphore,
     /// A source's.
     Source,
-    /// A source's that adds or joins bits.
+    /// A source's of merged values.
     MergeSource,
     /// Any object's but `root`'s.
     Object,
@@ -65,7 +65,7 @@ impl Role {
             Role::Timer => "'timer'",
             Role::Count => "'count'",
             Role::QueueKind => "'serial' or 'concurrent'",
-            Role::MergeKind => "'add' or 'or'",
+            Role::MergeKind => "'add', 'or' or 'replace'",
             Role::Work => "'bytes', 'lines', 'words' or 'sum'",
             Role::File => "a file",
             Role::Queue => "a queue",
@@ -73,7 +73,7 @@ impl Role {
             Role::Group => "a group",
             Role::Semaphore => "a semaphore",
             Role::Source => "a source",
-            Role::MergeSource => "a source that adds or joins bits",
+            Role::MergeSource => "a source of merged values",
             Role::Object => "an object other than root",
             Role::Block => "a block",
             Role::Byte | Role::Extent | Role::Time | Role::Value => "a number",
@@ -139,6 +139,6 @@ static COUNT: [&str; 1] = ["count"];
 
 static QUEUE_KINDS: [&str; 2] = ["serial", "concurrent"];
 
-static MERGE_KINDS: [&str; 2] = ["add", "or"];
+static MERGE_KINDS: [&str; 3] = ["add", "or", "replace"];
 
 static WORKS: [&str; 4] = ["bytes", "lines", "words", "sum"];

@@ -1,0 +1,50 @@
+//! The words for what is in the way: why a line of a script, of a journal, or a word of a command line is refused, why an event may
+//! not come at its place, and what a run waits for.
+//!
+//! | call | tells |
+//! |---|---|
+//! | [`cause_of_script`], [`cause_of_journal`], [`why_words`] | the cause at a line of a script or a journal, or among the words of a command line |
+//! | [`in_the_way`] | what is in the way of an event that may not come |
+//! | [`chain`], [`hold_words`], [`misuse_words`] | what a block waits for, down to the cause; what holds an object; the rule that an act breaks |
+//! | [`Places`] | on which line of a script an act, a block or an object stands |
+//! | [`ActWords`], [`EventWords`], [`why_name`], [`code_name`] | acts and events as scripts and journals write them, reasons and codes by their names |
+//! | [`Shown`] | a word of a caller's, as a sentence shows it |
+//!
+//! So that words can name what is in the way, a [`Scene`] follows the events beside the machine, and a [`Sight`] is both at one place;
+//! nothing is judged by them. Proved is that each call answers, whatever it is given. Which words it has is tested by the table of
+//! `gcd_why_tests`, a row a sentence: no clause says it. What is promised of sentences is said by `gcd_why`, which makes them.
+//!
+//! Where an item names no manual page, what it says is this project's own rule.
+#![tactic(auto)]
+
+mod barred;
+mod blame;
+mod command;
+mod form;
+mod journal;
+mod known;
+mod lines;
+mod misuses;
+mod naming;
+mod places;
+mod reasons;
+mod role;
+mod scene;
+mod script;
+mod script_cause;
+mod shown;
+mod sight;
+
+pub use barred::Barred;
+pub use blame::{chain, hold_words};
+pub use command::{WordsCause, why_words};
+pub use journal::{JournalCause, cause_of_journal};
+pub use misuses::{code_name, misuse_words};
+pub use naming::{ActWords, EventWords, act_at, kind_of, why_name};
+pub use places::Places;
+pub use reasons::in_the_way;
+pub use scene::{Place, Scene};
+pub use script::cause_of_script;
+pub use script_cause::ScriptCause;
+pub use shown::Shown;
+pub use sight::Sight;
