@@ -12,7 +12,7 @@ pub trait Handler {
     // how many values it took
     ghost times: { Self → ℕ };
 
-    // these values in one, 0 before the first: joined bit by bit at an or source, and else added
+    // these values in one, 0 before the first: joined bit by bit at an or source, the newest at a replace source, and else added
     ghost total: { Self → ℕ };
 
     /// Takes the value of a delivery (dispatch_source_get_data(3)). Conditions: neither the times nor the total passes the

@@ -84,7 +84,12 @@ fn deliver<H: Handler + Drop + Send>(handler: &mut H, value: u64)
 
 #[test]
 fn a_tally_adds_or_joins_bit_by_bit_or_keeps_the_newest(rt: HostRuntime) {
-    for (kind, total) in [(Kind::Add, 9), (Kind::Or, 7), (Kind::Replace, 6), (Kind::Read, 9)] {
+    for (kind, total) in [
+        (Kind::Add, 9),
+        (Kind::Or, 7),
+        (Kind::Replace, 6),
+        (Kind::Read, 9),
+    ] {
         let mut tally = Tally::new(kind);
         deliver(&mut tally, 3);
         deliver(&mut tally, 6);

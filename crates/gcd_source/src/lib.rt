@@ -2,15 +2,15 @@
 //! dispatch_source_merge_data(3), dispatch_source_get_data(3), dispatch_source_cancel(3)).
 //!
 //! Contracts see [`Sources`] as plain lists by object (`SourcesView`): the kind, what is pending, and whether the
-//! source is cancelled. Values come together until they are taken: by bitwise or at an or source, and else by addition
-//! (`folded` of `gcd_plan`).
+//! source is cancelled. Values come together until they are taken: by bitwise or at an or source, the newest in place of the others at a
+//! replace source, and else by addition (`folded` of `gcd_plan`).
 //!
 //! | call | answer | what it leaves |
 //! |---|---|---|
 //! | `Sources::new` | nothing pending, and none cancelled; or out of memory | |
 //! | `copied` | the same sources once more; or out of memory | |
 //! | `pending`, `is_cancelled` | what the lists hold | |
-//! | `merge` | | the value joined to what is pending; a merge of 0 changes nothing |
+//! | `merge` | | the value joined to what is pending; a merge of 0 changes nothing, but at a replace source, where nothing is pending then |
 //! | `take` | what is pending | nothing pending |
 //! | `cancel` | | the source cancelled, as it may have been before |
 //!
