@@ -12,8 +12,8 @@
 //! | `Tally` | its kind, times and total | `new`: times and total 0 |
 //!
 //! Values are folded by bitwise or at an or source, to the newest at a replace source, and else by addition (`folded` of
-//! `gcd_plan`). A work that names no file of the list, or whose range has no byte, counts nothing and gives 0. No call takes memory, and a `FileJob` borrows
-//! its files, so that several threads can run jobs over them.
+//! `gcd_plan`). A work that names no file of the list, or whose range has no byte, counts nothing and gives 0. No call takes
+//! memory, and a `FileJob` borrows its files, so that several threads can run jobs over them.
 //!
 //! Nothing is said of when a job runs, or on which thread. bench/works.sh times the works.
 #![tactic(auto)]
