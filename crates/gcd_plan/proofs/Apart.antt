@@ -1,8 +1,8 @@
 -- Lists in which nothing stands twice.
-use Rattle.std.proofs.Common.{◌≡◌, ℕ, ◌<◌, ◌≤◌, ◌==◌, Bool, true, List, [], ◌∷◌, length, get_or, ap, ◌∙◌, arith, eq-eqb, eqb-true, ⊎_elim, cond}
+use Rattle.std.proofs.Common.{◌≡◌, ◌<◌, ◌≤◌, ◌==◌, Bool, true, List, [], ◌∷◌, length, get_or, ap, ◌∙◌, arith, eqb-true, ⊎_elim}
 use Rattle.std.specs.List.{count_by, list_all}
 use Rattle.std.proofs.lemmas.Bool.{cases_lt}
-use Rattle.std.proofs.lemmas.List.Sums.{AllPass-from_list_all, list_all-from_AllPass, get_or-le-sum_by}
+use Rattle.std.proofs.lemmas.List.Sums.{AllPass-from_list_all}
 use Rattle.gcd_plan.proofs.Places.{Found, find_counted}
 
 -- each element stands once by its key, as a test
@@ -34,12 +34,3 @@ module _ {K A : Type 0} (same : K → A → Bool) (key : A → K) (xs : List A)
       omega (arith, one))
       (λ few. few)
       (cases_lt 1 (count_by (same k) xs))
-
-  pub once_from_apart : ((k : K) → count_by (same k) xs ≤ 1) → stand_once same key xs ≡ true
-  once_from_apart apart =
-      list_all-from_AllPass (λ x. count_by (same (key x)) xs == 1) xs
-      (λ i d h.
-      let x : A = get_or xs i d in
-      let counted : ◌≡◌ {A = ℕ} (cond (same (key x) x) 1 0) 1 = ap (λ b. cond b 1 0) (own x) in
-      let some = get_or-le-sum_by (λ y. cond (same (key x) y) 1 0) xs i d h in
-      eq-eqb _ _ (omega (arith, apart (key x), counted, some)))

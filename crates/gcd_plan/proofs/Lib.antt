@@ -6,3 +6,8 @@ pub mod Mapped
 pub mod Apart
 pub mod Walks
 pub mod Valid
+mod Having
+mod NamesApart
+mod Submitted
+mod Broken
+mod Planned

@@ -1,34 +1,12 @@
 -- Tests of the elements of a list: what std lacks.
-use Rattle.std.proofs.Common.{◌≡◌, ℕ, zero, suc, ◌+◌, ◌<◌, ◌≤◌, Bool, true, ◌&&◌, ◌||◌, List, [], ◌∷◌, ◌++◌, get_or, Option, Some, None, refl, ap, sym, ◌∙◌, ⊎_elim, arith}
-use Rattle.std.specs.Option.{option_map_or, option_to_list}
-use Rattle.std.specs.List.{flat_map, list_all, list_any, range_with_len, slice_get}
-use Rattle.std.proofs.Math.Bool.{and-true}
+use Rattle.std.proofs.Common.{◌≡◌, ℕ, zero, suc, ◌+◌, ◌<◌, ◌≤◌, Bool, true, ◌&&◌, ◌||◌, List, [], ◌∷◌, ◌++◌, get_or, Some, refl, ap, sym, ◌∙◌, ⊎_elim, arith}
+use Rattle.std.specs.List.{list_all, list_any, range_with_len, slice_get}
 use Rattle.std.proofs.lemmas.Bool.{and_parts, and_from, or_left, or_right, cases_eq}
 use Rattle.std.proofs.lemmas.Option.{same_Some}
 use Rattle.std.proofs.lemmas.List.Folds.{list_all-append, list_any_at}
 use Rattle.std.proofs.lemmas.List.FromFn.{length-range_with_len, get_or-range_with_len}
 
 -- ## Tests of all
-
--- a test of all elements of lists joined end to end
-pub list_all-flat_map : {A B : Type 0} (p : B → Bool) (f : A → List B) (xs : List A)
-    → list_all p (flat_map f xs) ≡ list_all (λ x. list_all p (f x)) xs
-list_all-flat_map p f [] = refl
-list_all-flat_map p f (x ∷ xs) =
-    list_all-append p (f x) (flat_map f xs) ∙ ap (λ b. list_all p (f x) && b) (list_all-flat_map p f xs)
-
--- a test of all values that a function has
-pub list_all-found : {A B : Type 0} (p : B → Bool) (f : A → Option B) (xs : List A)
-    → list_all p (flat_map (λ x. option_to_list (f x)) xs) ≡ list_all (λ x. option_map_or p (f x) true) xs
-list_all-found p f xs = list_all-flat_map p (λ x. option_to_list (f x)) xs ∙ same xs
-  where
-    one : (o : Option _) → list_all p (option_to_list o) ≡ option_map_or p o true
-    one None = refl
-    one (Some y) = and-true (p y)
-
-    same : (ys : List _) → list_all (λ x. list_all p (option_to_list (f x))) ys ≡ list_all (λ x. option_map_or p (f x) true) ys
-    same [] = refl
-    same (y ∷ ys) = ap (λ b. b && list_all (λ x. list_all p (option_to_list (f x))) ys) (one (f y)) ∙ ap (λ b. option_map_or p (f y) true && b) (same ys)
 
 -- what all pass, each passes
 pub list_all_get : {A : Type 0} (p : A → Bool) (xs : List A) (i : ℕ) (x : A) → list_all p xs ≡ true → slice_get xs i ≡ Some x → p x ≡ true

@@ -6,6 +6,8 @@ pub mod Chains
 pub mod Names
 pub mod Acts
 pub mod Validity
+pub mod Breaks
+pub mod Checked
 pub mod WithinLimits
 pub mod StartRule
 pub mod KindValues

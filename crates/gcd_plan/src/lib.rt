@@ -8,6 +8,7 @@
 //! | `Kind::is_queue`, `is_source`, `is_node`, `is_exclusive`, .. | what kind of object it is |
 //! | `MisuseCode::code` | the number of a code of misuse, 1 to 8 |
 //! | `Plan::of_parts` | the plan of the parts; None exactly where they are no valid plan (`IsPlan`) |
+//! | `Plan::fault_of` | a rule that the parts break, and the part at fault (`Breaks`); None exactly where they are a valid plan |
 //! | `Plan::of_valid_parts` | the same of parts that the caller knows to be valid |
 //! | `Plan::share` | the same plan, whose copies share its parts, or out of memory |
 //! | `Plan::copied` | the same plan once more, or out of memory |
@@ -18,6 +19,7 @@
 //! | `is_name`, `is_path` | the tests of names and paths |
 //! | `MAX_OBJECTS`, `MAX_BLOCKS`, .. | how much plans, scripts and runs may hold |
 //!
+//! `specs/Validity` says which parts are a plan, by `IsPlan`, and `specs/Breaks` what each [`PartsFault`] says of them.
 //! `specs/StartRule` has the rule by which a block starts over plain data, since the parts of the machine and the
 //! definitions over histories both cite it, and `specs/KindValues` what a kind says of values and times. `specs/Limits` has
 //! each limit once, for all crates. Lemmas that std lacks stand here, for all crates: `proofs/Sums` on sums and counts,
@@ -41,6 +43,7 @@ mod names_valid;
 mod numbers;
 mod once_valid;
 mod parts;
+mod parts_fault;
 mod parts_valid;
 mod plan;
 mod reason;
@@ -59,6 +62,7 @@ pub use misuse_code::MisuseCode;
 pub use names_valid::{is_name, is_path};
 pub use numbers::{Blk, Obj, Run};
 pub use parts::{BlkPart, FilePart, ObjPart, Parts};
+pub use parts_fault::PartsFault;
 pub use plan::Plan;
 pub use reason::Reason;
 pub use why::Why;

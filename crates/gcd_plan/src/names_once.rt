@@ -1,86 +1,140 @@
 // Whether names are well formed and apart.
-ghost use Rattle.std.specs.Prelude.{◌≡◌, ◌==◌, ℕ, List, string_bytes, count_by};
-ghost use Rattle.std.specs.List.{list_all};
+ghost use Rattle.std.specs.Prelude.{◌≡◌, ◌<◌, ◌++◌, take, map, length, string_bytes, IfOk, IfErr};
+ghost use Rattle.std.specs.List.{list_any};
 ghost use Rattle.std.specs.Str.{bytes_eq};
-ghost use Rattle.gcd_plan.specs.WithinLimits.{IsWithinLimits};
+ghost use Rattle.gcd_plan.specs.Breaks.{Breaks, Has, names_before_file, names_before_object, names_before_block};
+ghost use Rattle.gcd_plan.specs.Checked.{AllHave, IsNewName};
 ghost use Rattle.gcd_plan.specs.PlanView.{view_of};
-ghost use Rattle.gcd_plan.specs.Names.{is_name};
-ghost use Rattle.gcd_plan.specs.Validity.{names_of};
+ghost use Rattle.gcd_plan.specs.WithinLimits.{IsWithinLimits};
 
 use crate::names_valid::is_name;
-use crate::once_valid::{blocks_named, files_named, objects_named};
-use crate::parts::Parts;
+use crate::numbers::{Blk, Obj};
+use crate::parts::{BlkPart, FilePart, ObjPart, Parts};
+use crate::parts_fault::PartsFault;
+use crate::parts_valid::{block_at, file_at, object_at};
 
-/// Whether each name is well formed.
-#[tactic(auto, using(crate::proofs::Valid::names_tested))]
-pub fn are_names(parts: &Parts) -> bool
-    ensures { result ≡ list_all is_name (names_of (view_of parts.now)) }
+fn is_file_name(files: &[FilePart], name: &str) -> bool
+    ensures { result ≡ list_any (λ f. bytes_eq name.now (string_bytes f.name)) files.now }
 {
-    are_file_names(parts) && are_object_names(parts) && are_block_names(parts)
+    files.iter().any(|f| name == f.name.as_str())
 }
 
-fn are_file_names(parts: &Parts) -> bool
-    ensures { result ≡ list_all (λ f. is_name (string_bytes f.name)) parts.now.files.items }
+fn is_object_name(objects: &[ObjPart], name: &str) -> bool
+    ensures { result ≡ list_any (λ o. bytes_eq name.now (string_bytes o.name)) objects.now }
 {
-    parts.files.iter().all(|f| is_name(f.name.as_bytes()))
+    objects.iter().any(|o| name == o.name.as_str())
 }
 
-fn are_object_names(parts: &Parts) -> bool
-    ensures { result ≡ list_all (λ o. is_name (string_bytes o.name)) parts.now.objects.items }
+fn is_block_name(blocks: &[BlkPart], name: &str) -> bool
+    ensures { result ≡ list_any (λ b. bytes_eq name.now (string_bytes b.name)) blocks.now }
 {
-    parts.objects.iter().all(|o| is_name(o.name.as_bytes()))
+    blocks.iter().any(|b| name == b.name.as_str())
 }
 
-fn are_block_names(parts: &Parts) -> bool
-    ensures { result ≡ list_all (λ b. is_name (string_bytes b.name)) parts.now.blocks.items }
+#[tactic(auto, using(crate::proofs::NamesApart::before_file))]
+fn is_before_file(parts: &Parts, f: u32, name: &str) -> bool
+    requires { f < length parts.now.files.items }
+    ensures { result ≡ list_any (bytes_eq name.now) (names_before_file (view_of parts.now) f) }
 {
-    parts.blocks.iter().all(|b| is_name(b.name.as_bytes()))
+    is_file_name(&parts.files[..f as usize], name)
 }
 
-#[tactic(auto, using(crate::proofs::Valid::names_counted))]
-fn is_named_once(parts: &Parts, name: &str) -> bool
+#[tactic(auto, using(crate::proofs::NamesApart::before_object))]
+fn is_before_object(parts: &Parts, o: Obj, name: &str) -> bool
+    requires { o.0 < length parts.now.objects.items }
+    ensures { result ≡ list_any (bytes_eq name.now) (names_before_object (view_of parts.now) o.0) }
+{
+    is_file_name(&parts.files, name) || is_object_name(&parts.objects[..o.0 as usize], name)
+}
+
+#[tactic(auto, using(crate::proofs::NamesApart::before_block))]
+fn is_before_block(parts: &Parts, b: Blk, name: &str) -> bool
+    requires { b.0 < length parts.now.blocks.items }
+    ensures { result ≡ list_any (bytes_eq name.now) (names_before_block (view_of parts.now) b.0) }
+{
+    if is_file_name(&parts.files, name) {
+        return true;
+    }
+    is_object_name(&parts.objects, name) || is_block_name(&parts.blocks[..b.0 as usize], name)
+}
+
+fn check_file_name(parts: &Parts, f: u32) -> Result<(), PartsFault>
+    requires { f < length parts.now.files.items }
+    ensures fits { IfOk result (λ _. Has (view_of parts.now).files f (λ v. IsNewName (names_before_file (view_of parts.now) f) v.name)) }
+    ensures broken { IfErr result (Breaks (view_of parts.now)) }
+{
+    let name = file_at(parts, f).name.as_str();
+    if !is_name(name.as_bytes()) {
+        return Err(PartsFault::FileNameIllFormed(f));
+    }
+    if is_before_file(parts, f, name) {
+        return Err(PartsFault::FileNameTaken(f));
+    }
+    Ok(())
+}
+
+fn check_object_name(parts: &Parts, o: Obj) -> Result<(), PartsFault>
+    requires { o.0 < length parts.now.objects.items }
+    ensures fits { IfOk result (λ _. Has (view_of parts.now).objects o.0 (λ v. IsNewName (names_before_object (view_of parts.now) o.0) v.name)) }
+    ensures broken { IfErr result (Breaks (view_of parts.now)) }
+{
+    let name = object_at(parts, o).name.as_str();
+    if !is_name(name.as_bytes()) {
+        return Err(PartsFault::ObjectNameIllFormed(o));
+    }
+    if is_before_object(parts, o, name) {
+        return Err(PartsFault::ObjectNameTaken(o));
+    }
+    Ok(())
+}
+
+fn check_block_name(parts: &Parts, b: Blk) -> Result<(), PartsFault>
+    requires { b.0 < length parts.now.blocks.items }
+    ensures fits { IfOk result (λ _. Has (view_of parts.now).blocks b.0 (λ v. IsNewName (names_before_block (view_of parts.now) b.0) v.name)) }
+    ensures broken { IfErr result (Breaks (view_of parts.now)) }
+{
+    let name = block_at(parts, b).name.as_str();
+    if !is_name(name.as_bytes()) {
+        return Err(PartsFault::BlockNameIllFormed(b));
+    }
+    if is_before_block(parts, b, name) {
+        return Err(PartsFault::BlockNameTaken(b));
+    }
+    Ok(())
+}
+
+/// Ok where each file's name is well formed and no earlier part's.
+pub fn check_file_names(parts: &Parts) -> Result<(), PartsFault>
     requires { IsWithinLimits parts.now }
-    ensures { result ≡ (count_by (bytes_eq name.now) (names_of (view_of parts.now)) == 1) }
+    ensures fits { IfOk result (λ _. AllHave (view_of parts.now).files (λ f v. IsNewName (names_before_file (view_of parts.now) f) v.name)) }
+    ensures broken { IfErr result (Breaks (view_of parts.now)) }
 {
-    let rest = objects_named(&parts.objects, name) + blocks_named(&parts.blocks, name);
-    files_named(&parts.files, name) + rest == 1
+    for f in 0..parts.files.len() as u32 {
+        check_file_name(parts, f)?;
+    }
+    Ok(())
 }
 
-fn files_named_once(parts: &Parts) -> bool
+/// Ok where each object's name is well formed and no earlier part's.
+pub fn check_object_names(parts: &Parts) -> Result<(), PartsFault>
     requires { IsWithinLimits parts.now }
-    ensures { result ≡ list_all (λ f. count_by (bytes_eq (string_bytes f.name)) (names_of (view_of parts.now)) == 1) parts.now.files.items }
+    ensures fits { IfOk result (λ _. AllHave (view_of parts.now).objects (λ o v. IsNewName (names_before_object (view_of parts.now) o) v.name)) }
+    ensures broken { IfErr result (Breaks (view_of parts.now)) }
 {
-    parts
-        .files
-        .iter()
-        .all(|f| is_named_once(parts, f.name.as_str()))
+    for o in 0..parts.objects.len() as u32 {
+        check_object_name(parts, Obj(o))?;
+    }
+    Ok(())
 }
 
-fn objects_named_once(parts: &Parts) -> bool
+/// Ok where each block's name is well formed and no earlier part's.
+pub fn check_block_names(parts: &Parts) -> Result<(), PartsFault>
     requires { IsWithinLimits parts.now }
-    ensures { result ≡ list_all (λ o. count_by (bytes_eq (string_bytes o.name)) (names_of (view_of parts.now)) == 1) parts.now.objects.items }
+    ensures fits { IfOk result (λ _. AllHave (view_of parts.now).blocks (λ b v. IsNewName (names_before_block (view_of parts.now) b) v.name)) }
+    ensures broken { IfErr result (Breaks (view_of parts.now)) }
 {
-    parts
-        .objects
-        .iter()
-        .all(|o| is_named_once(parts, o.name.as_str()))
-}
-
-fn blocks_named_once(parts: &Parts) -> bool
-    requires { IsWithinLimits parts.now }
-    ensures { result ≡ list_all (λ b. count_by (bytes_eq (string_bytes b.name)) (names_of (view_of parts.now)) == 1) parts.now.blocks.items }
-{
-    parts
-        .blocks
-        .iter()
-        .all(|b| is_named_once(parts, b.name.as_str()))
-}
-
-/// Whether each name stands once.
-#[tactic(auto, using(crate::proofs::Valid::names_tested))]
-pub fn are_names_apart(parts: &Parts) -> bool
-    requires { IsWithinLimits parts.now }
-    ensures { result ≡ list_all (λ n. count_by (bytes_eq n) (names_of (view_of parts.now)) == 1) (names_of (view_of parts.now)) }
-{
-    files_named_once(parts) && objects_named_once(parts) && blocks_named_once(parts)
+    for b in 0..parts.blocks.len() as u32 {
+        check_block_name(parts, Blk(b))?;
+    }
+    Ok(())
 }

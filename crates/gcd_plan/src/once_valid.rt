@@ -1,4 +1,4 @@
-// Whether names are apart, each block is submitted at most once, and targets lead to root.
+// How often blocks are submitted, and whether targets lead to root.
 ghost use Rattle.std.specs.Prelude.{◌≡◌, ◌≤◌, ◌<◌, ◌+◌, ◌==◌, string_bytes, count_by, sum_by, length, false, ◌++◌};
 ghost use Rattle.std.specs.List.{list_all};
 ghost use Rattle.std.specs.Option.{option_map_or, option_to_list};
@@ -11,30 +11,6 @@ ghost use Rattle.gcd_plan.specs.Validity.{block_of, blocks_of, reaches_root};
 use crate::act::Act;
 use crate::numbers::Blk;
 use crate::parts::{BlkPart, FilePart, ObjPart, Parts};
-
-/// How many files have the name.
-pub fn files_named(files: &[FilePart], name: &str) -> usize
-    ensures named { result ≡ count_by (λ f. bytes_eq name.now (string_bytes f.name)) files.now }
-    ensures few { result ≤ length files.now }
-{
-    files.iter().filter(|f| name == f.name.as_str()).count()
-}
-
-/// How many objects have the name.
-pub fn objects_named(objects: &[ObjPart], name: &str) -> usize
-    ensures named { result ≡ count_by (λ o. bytes_eq name.now (string_bytes o.name)) objects.now }
-    ensures few { result ≤ length objects.now }
-{
-    objects.iter().filter(|o| name == o.name.as_str()).count()
-}
-
-/// How many blocks have the name.
-pub fn blocks_named(blocks: &[BlkPart], name: &str) -> usize
-    ensures named { result ≡ count_by (λ b. bytes_eq name.now (string_bytes b.name)) blocks.now }
-    ensures few { result ≤ length blocks.now }
-{
-    blocks.iter().filter(|b| name == b.name.as_str()).count()
-}
 
 fn submits(act: Act, b: Blk) -> bool
     ensures { result ≡ option_map_or (λ c. c.0 == b.0) (block_of act) false }

@@ -1,15 +1,22 @@
 // Whether each object, block and file of the parts fits.
-ghost use Rattle.std.specs.Prelude.{◌≡◌, ◌&&◌};
-ghost use Rattle.std.specs.List.{list_all};
+ghost use Rattle.std.specs.Prelude.{◌≡◌, not, ◌<◌, ◌&&◌, ◌==◌, true, false, Some, length, slice_get, is_none, IfOk, IfErr, IfSome, IfNone};
+ghost use Rattle.std.specs.List.{list_all, position};
+ghost use Rattle.std.specs.Option.{option_map_or};
+ghost use Rattle.gcd_plan.specs.Breaks.{Breaks, Has};
+ghost use Rattle.gcd_plan.specs.Checked.{AllHave};
+ghost use Rattle.gcd_plan.specs.Kinds.{is_source_kind, is_node_kind};
 ghost use Rattle.gcd_plan.specs.PlanView.{view_of, obj_view, blk_view, file_view};
-ghost use Rattle.gcd_plan.specs.Validity.{is_kind, has_path, has_fields, is_object, is_work, is_block, is_file, is_handler_act, is_act, is_submittable};
+ghost use Rattle.gcd_plan.specs.Validity.{is_kind, has_path, has_queue_fields, has_no_fields, has_source_fields, is_object, is_work, is_block, is_file, is_handler_act, is_act, is_submittable};
+ghost use Rattle.gcd_plan.specs.WithinLimits.{IsWithinLimits};
 
 use crate::act::Act;
 use crate::kind::Kind;
 use crate::kinds_valid::{is_act, is_queue, is_submittable};
 use crate::limits::{MAX_FILE_BYTES, MAX_TIME, MAX_VALUE};
 use crate::names_valid::is_path;
+use crate::numbers::{Blk, Obj};
 use crate::parts::{BlkPart, FilePart, ObjPart, Parts};
+use crate::parts_fault::PartsFault;
 use crate::work::Work;
 
 fn is_kind(kind: Kind) -> bool
@@ -35,36 +42,150 @@ fn has_path(kind: Kind, path: &str) -> bool
     }
 }
 
-fn is_handler(parts: &Parts, acts: &[Act]) -> bool
-    ensures { result ≡ list_all (λ act. is_handler_act act && is_act (view_of parts.now) act) acts.now }
+/// The object of this number.
+pub fn object_at(parts: &Parts, o: Obj) -> &ObjPart
+    requires { o.0 < length parts.now.objects.items }
+    ensures { slice_get (view_of parts.now).objects o.0 ≡ Some (obj_view result.now) }
 {
-    acts.iter()
-        .all(|act| act.is_for_handlers() && is_act(parts, *act))
+    &parts.objects[o.0 as usize]
 }
 
-fn has_fields(parts: &Parts, o: &ObjPart) -> bool
-    ensures { result ≡ has_fields (view_of parts.now) o.now.kind (obj_view o.now) }
+/// The block of this number.
+pub fn block_at(parts: &Parts, b: Blk) -> &BlkPart
+    requires { b.0 < length parts.now.blocks.items }
+    ensures { slice_get (view_of parts.now).blocks b.0 ≡ Some (blk_view result.now) }
 {
-    match o.kind {
-        Kind::Serial | Kind::Concurrent => {
-            is_queue(parts, o.target) && o.handler.is_empty() && o.cancel.is_none()
-        }
-        Kind::Group | Kind::Semaphore(_) => {
-            o.target.0 == 0 && o.active && o.handler.is_empty() && o.cancel.is_none()
-        }
-        Kind::Add | Kind::Or | Kind::Replace | Kind::Timer { .. } | Kind::Read => {
-            is_queue(parts, o.target)
-                && !o.active
-                && is_handler(parts, &o.handler)
-                && o.cancel.map_or(true, |b| is_submittable(parts, b))
-        }
+    &parts.blocks[b.0 as usize]
+}
+
+/// The file of this number.
+pub fn file_at(parts: &Parts, f: u32) -> &FilePart
+    requires { f < length parts.now.files.items }
+    ensures { slice_get (view_of parts.now).files f ≡ Some (file_view result.now) }
+{
+    &parts.files[f as usize]
+}
+
+// The place of the first act that a handler may not have.
+fn first_barred(acts: &[Act]) -> Option<usize>
+    ensures { result ≡ position (λ act. not (is_handler_act act)) acts.now }
+{
+    acts.iter().position(|act| !act.is_for_handlers())
+}
+
+// The place of the first act that does not fit what it names.
+fn first_unfit(parts: &Parts, acts: &[Act]) -> Option<usize>
+    ensures { result ≡ position (λ act. not (is_act (view_of parts.now) act)) acts.now }
+{
+    acts.iter().position(|act| !is_act(parts, *act))
+}
+
+fn has_no_source_parts(o: &ObjPart) -> bool
+    ensures { result ≡ (length (obj_view o.now).handler == 0 && is_none (obj_view o.now).cancel) }
+{
+    o.handler.is_empty() && o.cancel.is_none()
+}
+
+fn check_queue(parts: &Parts, o: Obj, object: &ObjPart) -> Result<(), PartsFault>
+    requires stands { slice_get (view_of parts.now).objects o.0 ≡ Some (obj_view object.now) }
+    requires node { is_node_kind object.now.kind ≡ true }
+    requires other { is_source_kind object.now.kind ≡ false }
+    ensures fits { IfOk result (λ _. has_queue_fields (view_of parts.now) (obj_view object.now) ≡ true) }
+    ensures broken { IfErr result (Breaks (view_of parts.now)) }
+{
+    if !is_queue(parts, object.target) {
+        return Err(PartsFault::TargetIsNoQueue(o));
     }
+    if !has_no_source_parts(object) {
+        return Err(PartsFault::HasSourceParts(o));
+    }
+    Ok(())
 }
 
-fn is_object(parts: &Parts, o: &ObjPart) -> bool
-    ensures { result ≡ is_object (view_of parts.now) (obj_view o.now) }
+fn check_group_or_semaphore(parts: &Parts, o: Obj, object: &ObjPart) -> Result<(), PartsFault>
+    requires stands { slice_get (view_of parts.now).objects o.0 ≡ Some (obj_view object.now) }
+    requires other { is_node_kind object.now.kind ≡ false }
+    requires no_source { is_source_kind object.now.kind ≡ false }
+    ensures fits { IfOk result (λ _. has_no_fields (obj_view object.now) ≡ true) }
+    ensures broken { IfErr result (Breaks (view_of parts.now)) }
 {
-    is_kind(o.kind) && has_path(o.kind, o.path.as_str()) && has_fields(parts, o)
+    if object.target.0 != 0 {
+        return Err(PartsFault::HasTarget(o));
+    }
+    if !object.active {
+        return Err(PartsFault::Inactive(o));
+    }
+    if !has_no_source_parts(object) {
+        return Err(PartsFault::HasSourceParts(o));
+    }
+    Ok(())
+}
+
+fn check_handler(parts: &Parts, s: Obj, object: &ObjPart) -> Result<(), PartsFault>
+    requires stands { slice_get (view_of parts.now).objects s.0 ≡ Some (obj_view object.now) }
+    requires source { is_source_kind object.now.kind ≡ true }
+    ensures fits { IfOk result (λ _. list_all (λ act. is_handler_act act && is_act (view_of parts.now) act) object.now.handler.items ≡ true) }
+    ensures broken { IfErr result (Breaks (view_of parts.now)) }
+{
+    if let Some(act) = first_barred(&object.handler) {
+        return Err(PartsFault::HandlerActBarred(s, act));
+    }
+    if let Some(act) = first_unfit(parts, &object.handler) {
+        return Err(PartsFault::HandlerActUnfit(s, act));
+    }
+    Ok(())
+}
+
+fn check_source(parts: &Parts, s: Obj, object: &ObjPart) -> Result<(), PartsFault>
+    requires stands { slice_get (view_of parts.now).objects s.0 ≡ Some (obj_view object.now) }
+    requires source { is_source_kind object.now.kind ≡ true }
+    requires node { is_node_kind object.now.kind ≡ true }
+    ensures fits { IfOk result (λ _. has_source_fields (view_of parts.now) (obj_view object.now) ≡ true) }
+    ensures broken { IfErr result (Breaks (view_of parts.now)) }
+{
+    if !is_queue(parts, object.target) {
+        return Err(PartsFault::TargetIsNoQueue(s));
+    }
+    if object.active {
+        return Err(PartsFault::ActiveSource(s));
+    }
+    if !object.cancel.map_or(true, |b| is_submittable(parts, b)) {
+        return Err(PartsFault::CancelOutOfRange(s));
+    }
+    check_handler(parts, s, object)
+}
+
+fn check_object(parts: &Parts, o: Obj) -> Result<(), PartsFault>
+    requires { o.0 < length parts.now.objects.items }
+    ensures fits { IfOk result (λ _. Has (view_of parts.now).objects o.0 (λ v. is_object (view_of parts.now) v ≡ true)) }
+    ensures broken { IfErr result (Breaks (view_of parts.now)) }
+{
+    let object = object_at(parts, o);
+    if !is_kind(object.kind) {
+        return Err(PartsFault::KindOutOfRange(o));
+    }
+    if !has_path(object.kind, object.path.as_str()) {
+        return Err(PartsFault::PathUnfit(o));
+    }
+    if object.kind.is_source() {
+        return check_source(parts, o, object);
+    }
+    if object.kind.is_node() {
+        return check_queue(parts, o, object);
+    }
+    check_group_or_semaphore(parts, o, object)
+}
+
+/// Ok where each object fits its kind.
+pub fn check_objects(parts: &Parts) -> Result<(), PartsFault>
+    requires { IsWithinLimits parts.now }
+    ensures fits { IfOk result (λ _. AllHave (view_of parts.now).objects (λ _ v. is_object (view_of parts.now) v ≡ true)) }
+    ensures broken { IfErr result (Breaks (view_of parts.now)) }
+{
+    for o in 0..parts.objects.len() as u32 {
+        check_object(parts, Obj(o))?;
+    }
+    Ok(())
 }
 
 fn is_work(parts: &Parts, w: Work) -> bool
@@ -73,41 +194,59 @@ fn is_work(parts: &Parts, w: Work) -> bool
     (w.file as usize) < parts.files.len() && w.start <= MAX_FILE_BYTES && w.len <= MAX_FILE_BYTES
 }
 
-fn all_acts(parts: &Parts, acts: &[Act]) -> bool
-    ensures { result ≡ list_all (is_act (view_of parts.now)) acts.now }
+fn has_fitting_work(parts: &Parts, b: &BlkPart) -> bool
+    ensures { result ≡ option_map_or (is_work (view_of parts.now)) (blk_view b.now).work true }
 {
-    acts.iter().all(|act| is_act(parts, *act))
+    b.work.map_or(true, |w| is_work(parts, w))
 }
 
-fn is_block(parts: &Parts, b: &BlkPart) -> bool
-    ensures { result ≡ is_block (view_of parts.now) (blk_view b.now) }
+fn check_block(parts: &Parts, b: Blk) -> Result<(), PartsFault>
+    requires { b.0 < length parts.now.blocks.items }
+    ensures fits { IfOk result (λ _. Has (view_of parts.now).blocks b.0 (λ v. is_block (view_of parts.now) v ≡ true)) }
+    ensures broken { IfErr result (Breaks (view_of parts.now)) }
 {
-    b.work.map_or(true, |w| is_work(parts, w)) && all_acts(parts, &b.acts)
+    let block = block_at(parts, b);
+    if !has_fitting_work(parts, block) {
+        return Err(PartsFault::WorkOutOfRange(b));
+    }
+    if let Some(act) = first_unfit(parts, &block.acts) {
+        return Err(PartsFault::BlockActUnfit(b, act));
+    }
+    Ok(())
 }
 
-fn is_file(f: &FilePart) -> bool
-    ensures { result ≡ is_file (file_view f.now) }
+/// Ok where each block's work and acts fit.
+pub fn check_blocks(parts: &Parts) -> Result<(), PartsFault>
+    requires { IsWithinLimits parts.now }
+    ensures fits { IfOk result (λ _. AllHave (view_of parts.now).blocks (λ _ v. is_block (view_of parts.now) v ≡ true)) }
+    ensures broken { IfErr result (Breaks (view_of parts.now)) }
 {
-    is_path(f.path.as_bytes())
+    for b in 0..parts.blocks.len() as u32 {
+        check_block(parts, Blk(b))?;
+    }
+    Ok(())
 }
 
-/// Whether each object fits its kind.
-pub fn all_objects(parts: &Parts) -> bool
-    ensures { result ≡ list_all (λ o. is_object (view_of parts.now) (obj_view o)) parts.now.objects.items }
+fn check_file(parts: &Parts, f: u32) -> Result<(), PartsFault>
+    requires { f < length parts.now.files.items }
+    ensures fits { IfOk result (λ _. Has (view_of parts.now).files f (λ v. is_file v ≡ true)) }
+    ensures broken { IfErr result (Breaks (view_of parts.now)) }
 {
-    parts.objects.iter().all(|o| is_object(parts, o))
+    if is_path(file_at(parts, f).path.as_bytes()) {
+        Ok(())
+    } else {
+        Err(PartsFault::FilePathIllFormed(f))
+    }
 }
 
-/// Whether each block's work and acts fit.
-pub fn all_blocks(parts: &Parts) -> bool
-    ensures { result ≡ list_all (λ b. is_block (view_of parts.now) (blk_view b)) parts.now.blocks.items }
+/// Ok where each file's path fits.
+pub fn check_files(parts: &Parts) -> Result<(), PartsFault>
+    requires { IsWithinLimits parts.now }
+    ensures fits { IfOk result (λ _. AllHave (view_of parts.now).files (λ _ v. is_file v ≡ true)) }
+    ensures broken { IfErr result (Breaks (view_of parts.now)) }
 {
-    parts.blocks.iter().all(|b| is_block(parts, b))
-}
-
-/// Whether each file's path fits.
-pub fn all_files(parts: &Parts) -> bool
-    ensures { result ≡ list_all (λ f. is_file (file_view f)) parts.now.files.items }
-{
-    parts.files.iter().all(|f| is_file(f))
+    for f in 0..parts.files.len() as u32 {
+        check_file(parts, f)?;
+    }
+    Ok(())
 }

@@ -1,5 +1,6 @@
 // A valid plan.
-ghost use Rattle.std.specs.Prelude.{◌≡◌, ◌<◌, ◌≤◌, ◌^◌, ◌↔◌, IfOk, IfSome, IsSome, length, map, option_map, slice_get, Some};
+ghost use Rattle.std.specs.Prelude.{◌≡◌, ◌<◌, ◌≤◌, ◌^◌, ◌↔◌, IfOk, IfSome, IsSome, IsNone, length, map, option_map, slice_get, Some};
+ghost use Rattle.gcd_plan.specs.Breaks.{Breaks};
 ghost use Rattle.gcd_plan.specs.Limits.{max_files};
 ghost use Rattle.gcd_plan.specs.PlanView.{kind_of, first_target, starts_active, acts_of, work_of, cancel_block, path_of, name_of_obj, name_of_blk, IsRun, file_view, view_of};
 ghost use Rattle.gcd_plan.specs.Validity.{IsPlan};
@@ -9,7 +10,8 @@ use crate::held::Held;
 use crate::kind::Kind;
 use crate::numbers::{Blk, Obj, Run};
 use crate::parts::{FilePart, Parts};
-use crate::validity::is_valid;
+use crate::parts_fault::PartsFault;
+use crate::validity::fault_of;
 use crate::work::Work;
 use std::alloc::{AllocError, Global};
 use std::marker::Model;
@@ -54,17 +56,25 @@ impl Plan {
     /// The plan of these parts. None, with the parts dropped, exactly where they are no valid plan: `root` is not object
     /// 0 or `main` not block 0, `main` has a work, another name is ill-formed or taken, a number is out of range, what
     /// stands somewhere is not of the kind that is asked there, an act is barred in a handler, a block is submitted twice,
-    /// a cycle of targets stands, or a limit is passed. It takes no memory, and so compares each name with each other and
-    /// each submission with each other.
+    /// a cycle of targets stands, or a limit is passed. [`Plan::fault_of`] tells which it is. It takes no memory, and so
+    /// compares each name with all before it and counts the submissions of each block by themselves.
     pub fn of_parts(parts: Parts) -> Option<Plan>
         ensures plan { IfSome result (λ plan. plan ≡ view_of parts) }
         ensures valid { IsSome result ↔ IsPlan (view_of parts) }
     {
-        if is_valid(&parts) {
-            Some(Plan::of_valid_parts(parts))
-        } else {
-            None
+        match fault_of(&parts) {
+            None => Some(Plan::of_valid_parts(parts)),
+            Some(_) => None,
         }
+    }
+
+    /// A rule of plans that the parts break, and the part at fault: of several the one that is found first. None exactly
+    /// where they are a plan, which [`Plan::of_parts`] then gives. It takes no memory, as `of_parts`.
+    pub fn fault_of(parts: &Parts) -> Option<PartsFault>
+        ensures valid { IsNone result ↔ IsPlan (view_of parts.now) }
+        ensures broken { IfSome result (Breaks (view_of parts.now)) }
+    {
+        fault_of(parts)
     }
 
     /// How many objects there are, `root` among them: 1 to [`crate::MAX_OBJECTS`].

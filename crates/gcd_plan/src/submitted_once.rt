@@ -1,87 +1,34 @@
 // Whether each block is submitted at most once.
-ghost use Rattle.std.specs.Prelude.{◌≡◌, ◌==◌, ◌++◌, count_by, true};
-ghost use Rattle.std.specs.List.{list_all};
-ghost use Rattle.std.specs.Option.{option_map_or, option_to_list};
-ghost use Rattle.gcd_plan.specs.WithinLimits.{IsWithinLimits};
+ghost use Rattle.std.specs.Prelude.{◌≡◌, ◌==◌, ◌<◌, ◌≤◌, ℕ, length, count_by, IfOk, IfErr};
+ghost use Rattle.gcd_plan.specs.Breaks.{Breaks};
 ghost use Rattle.gcd_plan.specs.PlanView.{view_of};
-ghost use Rattle.gcd_plan.specs.Validity.{submitted_blocks, block_of, blocks_of};
+ghost use Rattle.gcd_plan.specs.Validity.{submitted_blocks};
+ghost use Rattle.gcd_plan.specs.WithinLimits.{IsWithinLimits};
 
-use crate::act::Act;
 use crate::numbers::Blk;
 use crate::once_valid::{block_submissions, object_submissions};
-use crate::parts::{ObjPart, Parts};
+use crate::parts::Parts;
+use crate::parts_fault::PartsFault;
 
+// How often the block is submitted.
 #[tactic(auto, using(crate::proofs::Valid::submissions_counted, crate::proofs::Valid::acts_seen, crate::proofs::Sums::sum_by_one_more))]
-fn is_submitted_once(parts: &Parts, b: Blk) -> bool
+fn submissions(parts: &Parts, b: Blk) -> usize
     requires { IsWithinLimits parts.now }
-    ensures { result ≡ (count_by (λ c. c.0 == b.0) (submitted_blocks (view_of parts.now)) == 1) }
+    ensures { result ≡ count_by (λ c. c.0 == b.0) (submitted_blocks (view_of parts.now)) }
 {
-    block_submissions(&parts.blocks, b) + object_submissions(&parts.objects, b) == 1
+    block_submissions(&parts.blocks, b) + object_submissions(&parts.objects, b)
 }
 
-fn submits_once(parts: &Parts, act: Act) -> bool
+/// Ok where each block of the parts is submitted at most once.
+pub fn check_submissions(parts: &Parts) -> Result<(), PartsFault>
     requires { IsWithinLimits parts.now }
-    ensures { result ≡ option_map_or (λ b. count_by (λ c. c.0 == b.0) (submitted_blocks (view_of parts.now)) == 1) (block_of act) true }
+    ensures fits { IfOk result (λ _. (b : ℕ) → b < length parts.now.blocks.items → count_by (λ c. c.0 == b) (submitted_blocks (view_of parts.now)) ≤ 1) }
+    ensures broken { IfErr result (Breaks (view_of parts.now)) }
 {
-    match act.block() {
-        None => true,
-        Some(b) => is_submitted_once(parts, b),
+    for b in 0..parts.blocks.len() as u32 {
+        if submissions(parts, Blk(b)) > 1 {
+            return Err(PartsFault::SubmittedTwice(Blk(b)));
+        }
     }
-}
-
-fn acts_submit_once(parts: &Parts, acts: &[Act]) -> bool
-    requires { IsWithinLimits parts.now }
-    ensures { result ≡ list_all (λ act. option_map_or (λ b. count_by (λ c. c.0 == b.0) (submitted_blocks (view_of parts.now)) == 1) (block_of act) true) acts.now }
-{
-    acts.iter().all(|act| submits_once(parts, *act))
-}
-
-fn body_submits_once(parts: &Parts, acts: &[Act]) -> bool
-    requires { IsWithinLimits parts.now }
-    ensures { result ≡ list_all (λ b. count_by (λ c. c.0 == b.0) (submitted_blocks (view_of parts.now)) == 1) (blocks_of acts.now) }
-{
-    acts_submit_once(parts, acts)
-}
-
-fn cancels_once(parts: &Parts, cancel: Option<Blk>) -> bool
-    requires { IsWithinLimits parts.now }
-    ensures { result ≡ list_all (λ b. count_by (λ c. c.0 == b.0) (submitted_blocks (view_of parts.now)) == 1) (option_to_list cancel) }
-{
-    match cancel {
-        None => true,
-        Some(b) => is_submitted_once(parts, b),
-    }
-}
-
-fn object_submits_once(parts: &Parts, o: &ObjPart) -> bool
-    requires { IsWithinLimits parts.now }
-    ensures { result ≡ list_all (λ b. count_by (λ c. c.0 == b.0) (submitted_blocks (view_of parts.now)) == 1) (blocks_of o.now.handler.items ++ option_to_list o.now.cancel) }
-{
-    body_submits_once(parts, &o.handler) && cancels_once(parts, o.cancel)
-}
-
-fn blocks_submit_once(parts: &Parts) -> bool
-    requires { IsWithinLimits parts.now }
-    ensures { result ≡ list_all (λ q. list_all (λ b. count_by (λ c. c.0 == b.0) (submitted_blocks (view_of parts.now)) == 1) (blocks_of q.acts.items)) parts.now.blocks.items }
-{
-    parts
-        .blocks
-        .iter()
-        .all(|q| body_submits_once(parts, &q.acts))
-}
-
-fn objects_submit_once(parts: &Parts) -> bool
-    requires { IsWithinLimits parts.now }
-    ensures { result ≡ list_all (λ o. list_all (λ b. count_by (λ c. c.0 == b.0) (submitted_blocks (view_of parts.now)) == 1) (blocks_of o.handler.items ++ option_to_list o.cancel)) parts.now.objects.items }
-{
-    parts.objects.iter().all(|o| object_submits_once(parts, o))
-}
-
-/// Whether each block that the plan submits stands once among those.
-#[tactic(auto, using(crate::proofs::Valid::submissions_tested))]
-pub fn are_submitted_once(parts: &Parts) -> bool
-    requires { IsWithinLimits parts.now }
-    ensures { result ≡ list_all (λ b. count_by (λ c. c.0 == b.0) (submitted_blocks (view_of parts.now)) == 1) (submitted_blocks (view_of parts.now)) }
-{
-    blocks_submit_once(parts) && objects_submit_once(parts)
+    Ok(())
 }

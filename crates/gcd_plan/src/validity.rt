@@ -1,22 +1,22 @@
-// Whether parts are a valid plan.
-ghost use Rattle.std.specs.Prelude.{◌≡◌, ◌≤◌, ◌<◌, ◌==◌, ◌&&◌, ℕ, IsTrue, ◌↔◌, Some, None, true, false, List, [], length, slice_get, option_map, is_none, codes, count_by, string_bytes};
-ghost use Rattle.std.specs.List.{list_all};
+// Why parts are no plan, or that they are one.
+ghost use Rattle.std.specs.Prelude.{◌≡◌, ◌≤◌, ◌<◌, ◌==◌, ◌↔◌, ℕ, IsTrue, IsNone, IfSome, IfOk, IfErr, Some, None, true, false, [], length, slice_get, option_map, is_none, codes, string_bytes};
 ghost use Rattle.std.specs.Option.{option_map_or};
-ghost use Rattle.std.specs.Str.{bytes_eq};
+ghost use Rattle.gcd_plan.specs.Breaks.{Breaks};
 ghost use Rattle.gcd_plan.specs.Limits.{max_time};
+ghost use Rattle.gcd_plan.specs.PlanView.{view_of, obj_view};
+ghost use Rattle.gcd_plan.specs.Validity.{IsPlan, root_view, reaches_root};
 ghost use Rattle.gcd_plan.specs.WithinLimits.{IsWithinLimits};
-ghost use Rattle.gcd_plan.specs.PlanView.{view_of, obj_view, blk_view, file_view};
-ghost use Rattle.gcd_plan.specs.Names.{is_name};
-ghost use Rattle.gcd_plan.specs.Validity.{IsPlan, root_view, reaches_root, names_of, submitted_blocks, is_object, is_block, is_file};
 
 use crate::kind::Kind;
-use crate::limits::{MAX_BLOCKS, MAX_FILES, MAX_OBJECTS, MAX_TIME};
-use crate::limits_valid::has_few_acts;
-use crate::names_once::{are_names, are_names_apart};
+use crate::limits::MAX_TIME;
+use crate::limits_valid::check_limits;
+use crate::names_once::{check_block_names, check_file_names, check_object_names};
+use crate::numbers::Obj;
 use crate::once_valid::reaches_root;
 use crate::parts::{BlkPart, ObjPart, Parts};
-use crate::parts_valid::{all_blocks, all_files, all_objects};
-use crate::submitted_once::are_submitted_once;
+use crate::parts_fault::PartsFault;
+use crate::parts_valid::{check_blocks, check_files, check_objects};
+use crate::submitted_once::check_submissions;
 
 fn has_nothing_more(o: &ObjPart) -> bool
     ensures { IsTrue result ↔ ((string_bytes o.now.path ≡ []) × (o.now.handler.items ≡ []) × (o.now.cancel ≡ None)) }
@@ -44,14 +44,13 @@ fn begins_with_root(parts: &Parts) -> bool
 }
 
 fn is_main(b: &BlkPart) -> bool
-    ensures { IsTrue result ↔ ((string_bytes b.now.name ≡ codes "main") × (is_none b.now.work ≡ true)) }
+    ensures { IsTrue result ↔ (string_bytes b.now.name ≡ codes "main") }
 {
-    b.name.as_str() == "main" && b.work.is_none()
+    b.name.as_str() == "main"
 }
 
 fn begins_with_main(parts: &Parts) -> bool
-    ensures { IsTrue result ↔ ((option_map (λ b. b.name) (slice_get (view_of parts.now).blocks 0) ≡ Some (codes "main"))
-        × (option_map_or (λ b. is_none b.work) (slice_get (view_of parts.now).blocks 0) false ≡ true)) }
+    ensures { IsTrue result ↔ (option_map (λ b. b.name) (slice_get (view_of parts.now).blocks 0) ≡ Some (codes "main")) }
 {
     match parts.blocks.first() {
         None => false,
@@ -59,13 +58,13 @@ fn begins_with_main(parts: &Parts) -> bool
     }
 }
 
-fn is_within_limits(parts: &Parts) -> bool
-    ensures { IsTrue result ↔ IsWithinLimits parts.now }
+fn is_main_idle(parts: &Parts) -> bool
+    ensures { result ≡ option_map_or (λ b. is_none b.work) (slice_get (view_of parts.now).blocks 0) false }
 {
-    parts.objects.len() <= MAX_OBJECTS as usize
-        && parts.blocks.len() <= MAX_BLOCKS as usize
-        && parts.files.len() <= MAX_FILES as usize
-        && has_few_acts(parts)
+    match parts.blocks.first() {
+        None => false,
+        Some(b) => b.work.is_none(),
+    }
 }
 
 fn is_time(t: u32) -> bool
@@ -74,56 +73,70 @@ fn is_time(t: u32) -> bool
     1 <= t && t <= MAX_TIME
 }
 
-fn all_reach_root(parts: &Parts) -> bool
+fn check_targets(parts: &Parts) -> Result<(), PartsFault>
     requires { IsWithinLimits parts.now }
-    ensures { IsTrue result ↔ ((o : ℕ) → o < length parts.now.objects.items → reaches_root (view_of parts.now) o ≡ true) }
+    ensures fits { IfOk result (λ _. (o : ℕ) → o < length parts.now.objects.items → reaches_root (view_of parts.now) o ≡ true) }
+    ensures broken { IfErr result (Breaks (view_of parts.now)) }
 {
     for o in 0..parts.objects.len() as u32 {
         if !reaches_root(parts, o) {
-            return false;
+            return Err(PartsFault::NeverReachesRoot(Obj(o)));
         }
     }
-    true
+    Ok(())
 }
 
-fn fits_kinds(parts: &Parts) -> bool
-    ensures { result ≡ (list_all is_name (names_of (view_of parts.now))
-        && (list_all (λ o. is_object (view_of parts.now) (obj_view o)) parts.now.objects.items
-        && (list_all (λ b. is_block (view_of parts.now) (blk_view b)) parts.now.blocks.items
-        && list_all (λ f. is_file (file_view f)) parts.now.files.items))) }
+fn check_first(parts: &Parts) -> Result<(), PartsFault>
+    ensures root { IfOk result (λ _. slice_get (view_of parts.now).objects 0 ≡ Some root_view) }
+    ensures main { IfOk result (λ _. option_map (λ b. b.name) (slice_get (view_of parts.now).blocks 0) ≡ Some (codes "main")) }
+    ensures idle { IfOk result (λ _. option_map_or (λ b. is_none b.work) (slice_get (view_of parts.now).blocks 0) false ≡ true) }
+    ensures broken { IfErr result (Breaks (view_of parts.now)) }
 {
-    are_names(parts) && all_objects(parts) && all_blocks(parts) && all_files(parts)
+    if !begins_with_root(parts) {
+        return Err(PartsFault::NoRoot);
+    }
+    if !begins_with_main(parts) {
+        return Err(PartsFault::NoMain);
+    }
+    if !is_main_idle(parts) {
+        return Err(PartsFault::MainHasWork);
+    }
+    Ok(())
 }
 
-fn stand_apart(parts: &Parts) -> bool
-    requires { IsWithinLimits parts.now }
-    ensures { IsTrue result ↔ ((name : List ℕ) → count_by (bytes_eq name) (names_of (view_of parts.now)) ≤ 1) }
+fn check_until(parts: &Parts) -> Result<(), PartsFault>
+    ensures fits { IfOk result (λ _. (1 ≤ parts.now.until) × (parts.now.until ≤ max_time)) }
+    ensures broken { IfErr result (Breaks (view_of parts.now)) }
 {
-    are_names_apart(parts)
+    if is_time(parts.until) {
+        Ok(())
+    } else {
+        Err(PartsFault::UntilOutOfRange)
+    }
 }
 
-fn submits_each_once(parts: &Parts) -> bool
-    requires { IsWithinLimits parts.now }
-    ensures { IsTrue result ↔ ((b : ℕ) → count_by (λ c. c.0 == b) (submitted_blocks (view_of parts.now)) ≤ 1) }
+fn check_parts(parts: &Parts) -> Result<(), PartsFault>
+    ensures fits { IfOk result (λ _. IsPlan (view_of parts.now)) }
+    ensures broken { IfErr result (Breaks (view_of parts.now)) }
 {
-    are_submitted_once(parts)
+    check_first(parts)?;
+    check_limits(parts)?;
+    check_until(parts)?;
+    check_file_names(parts)?;
+    check_object_names(parts)?;
+    check_block_names(parts)?;
+    check_objects(parts)?;
+    check_blocks(parts)?;
+    check_files(parts)?;
+    check_targets(parts)?;
+    check_submissions(parts)?;
+    Ok(())
 }
 
-/// Whether the parts are a valid plan.
-pub fn is_valid(parts: &Parts) -> bool
-    ensures { IsTrue result ↔ IsPlan (view_of parts.now) }
+/// A rule of plans that the parts break, the first that is found; None exactly where they are a plan.
+pub fn fault_of(parts: &Parts) -> Option<PartsFault>
+    ensures valid { IsNone result ↔ IsPlan (view_of parts.now) }
+    ensures broken { IfSome result (Breaks (view_of parts.now)) }
 {
-    if !is_within_limits(parts) || !is_time(parts.until) {
-        return false;
-    }
-    if !begins_with_root(parts) || !begins_with_main(parts) {
-        return false;
-    }
-    if !fits_kinds(parts) {
-        return false;
-    }
-    if !all_reach_root(parts) {
-        return false;
-    }
-    stand_apart(parts) && submits_each_once(parts)
+    check_parts(parts).err()
 }

@@ -1,7 +1,7 @@
-use Rattle.std.proofs.Common.{◌==◌, length, ap, sym, arith}
+use Rattle.std.proofs.Common.{length, sym, arith}
 use Rattle.gcd_plan.proofs.Sums.{sum_by_one_more}
 use Rattle.gcd_plan.proofs.Valid.{acts_seen, submissions_counted}
-use Rattle.gcd_plan.proofs.submitted_once.is_submitted_once.Goals as goal
+use Rattle.gcd_plan.proofs.submitted_once.submissions.Goals as goal
 
 pub object_submissions-requires : goal.object_submissions-requires
 object_submissions-requires c =
@@ -12,4 +12,4 @@ object_submissions-requires c =
 pub returns : goal.returns
 returns c =
     rw (c.block_submissions.ensures.count, c.object_submissions.ensures.count, c.deref.ensures.value, c.deref-2.ensures.value)
-    (ap (λ n. n == 1) (sym (submissions_counted c.args.parts.now c.args.b.0)))
+    (sym (submissions_counted c.args.parts.now c.args.b.0))

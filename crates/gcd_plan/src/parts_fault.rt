@@ -1,0 +1,146 @@
+// Why parts are no plan.
+
+use crate::numbers::{Blk, Obj};
+use std::fmt;
+
+/// The rule that parts break, and the part at fault. Objects, blocks and files are told by their number in the parts, and
+/// an act by its place in its body; all count from 0.
+#[derive(Clone, Copy, Debug, PartialEq, Eq)]
+pub enum PartsFault {
+    /// Object 0 is missing, or is not the queue `root`: concurrent, its own target, active, and with nothing else.
+    NoRoot,
+    /// Block 0 is missing, or is not named `main`.
+    NoMain,
+    /// `main` has a work.
+    MainHasWork,
+    /// There are more than [`crate::MAX_OBJECTS`] objects.
+    TooManyObjects,
+    /// There are more than [`crate::MAX_BLOCKS`] blocks.
+    TooManyBlocks,
+    /// There are more than [`crate::MAX_FILES`] files.
+    TooManyFiles,
+    /// All bodies together have more than [`crate::MAX_ACTS`] acts.
+    TooManyActs,
+    /// `until` is 0 or above [`crate::MAX_TIME`].
+    UntilOutOfRange,
+    /// The object's name is ill-formed ([`crate::is_name`]).
+    ObjectNameIllFormed(Obj),
+    /// The block's name is ill-formed ([`crate::is_name`]).
+    BlockNameIllFormed(Blk),
+    /// The file's name is ill-formed ([`crate::is_name`]).
+    FileNameIllFormed(u32),
+    /// The object's name is a file's or an earlier object's too.
+    ObjectNameTaken(Obj),
+    /// The block's name is a file's, an object's or an earlier block's too.
+    BlockNameTaken(Blk),
+    /// The file's name is an earlier file's too.
+    FileNameTaken(u32),
+    /// The first value of a semaphore is above [`crate::MAX_VALUE`], or the start or the interval of a timer is 0 or above
+    /// [`crate::MAX_TIME`].
+    KindOutOfRange(Obj),
+    /// The path of a read source is ill-formed ([`crate::is_path`]), or an object that is none has a path.
+    PathUnfit(Obj),
+    /// The target of a queue or source is no queue.
+    TargetIsNoQueue(Obj),
+    /// A queue, a group or a semaphore has a handler or a cancellation block, which only sources have.
+    HasSourceParts(Obj),
+    /// A group or a semaphore has a target other than `root`.
+    HasTarget(Obj),
+    /// A group or a semaphore is inactive at the start.
+    Inactive(Obj),
+    /// A source is active at the start (dispatch_source_create(3)).
+    ActiveSource(Obj),
+    /// The source's handler has this act, which a handler may not have: it submits a block or waits.
+    HandlerActBarred(Obj, usize),
+    /// What this act of the source's handler names is not of the kind that it asks, or its value is above
+    /// [`crate::MAX_VALUE`].
+    HandlerActUnfit(Obj, usize),
+    /// The cancellation block of the source is `main` or is not there.
+    CancelOutOfRange(Obj),
+    /// The block's work names a file that is not there, or its range passes [`crate::MAX_FILE_BYTES`].
+    WorkOutOfRange(Blk),
+    /// What this act of the block names is not of the kind that it asks, or its value is above [`crate::MAX_VALUE`].
+    BlockActUnfit(Blk, usize),
+    /// The file's path is ill-formed ([`crate::is_path`]).
+    FilePathIllFormed(u32),
+    /// The block is submitted more than once, by acts or as a cancellation block.
+    SubmittedTwice(Blk),
+    /// Following the targets from the object never ends at `root`.
+    NeverReachesRoot(Obj),
+}
+
+/// One plain sentence, as "block 3: it is submitted more than once". The numbers are those of the parts, and count from 0, as
+/// the places of acts do.
+impl fmt::Display for PartsFault {
+    fn fmt<W: fmt::Write>(&self, f: &mut fmt::Formatter<W>) -> fmt::Result {
+        let what = self.what();
+        match *self {
+            PartsFault::NoRoot | PartsFault::NoMain | PartsFault::MainHasWork => f.write_str(what),
+            PartsFault::TooManyObjects | PartsFault::TooManyBlocks => f.write_str(what),
+            PartsFault::TooManyFiles | PartsFault::TooManyActs => f.write_str(what),
+            PartsFault::UntilOutOfRange => f.write_str(what),
+            PartsFault::ObjectNameIllFormed(o)
+            | PartsFault::ObjectNameTaken(o)
+            | PartsFault::KindOutOfRange(o)
+            | PartsFault::PathUnfit(o)
+            | PartsFault::TargetIsNoQueue(o)
+            | PartsFault::HasSourceParts(o)
+            | PartsFault::HasTarget(o)
+            | PartsFault::Inactive(o)
+            | PartsFault::ActiveSource(o)
+            | PartsFault::CancelOutOfRange(o)
+            | PartsFault::NeverReachesRoot(o) => write!(f, "object {}: {what}", o.0),
+            PartsFault::HandlerActBarred(o, act) | PartsFault::HandlerActUnfit(o, act) => {
+                write!(f, "object {}: act {act} of its handler {what}", o.0)
+            }
+            PartsFault::BlockNameIllFormed(b)
+            | PartsFault::BlockNameTaken(b)
+            | PartsFault::WorkOutOfRange(b)
+            | PartsFault::SubmittedTwice(b) => write!(f, "block {}: {what}", b.0),
+            PartsFault::BlockActUnfit(b, act) => write!(f, "block {}: act {act} {what}", b.0),
+            PartsFault::FileNameIllFormed(file)
+            | PartsFault::FileNameTaken(file)
+            | PartsFault::FilePathIllFormed(file) => write!(f, "file {file}: {what}"),
+        }
+    }
+}
+
+impl PartsFault {
+    // What is said of the part at fault.
+    fn what(self) -> &'static str {
+        match self {
+            PartsFault::NoRoot => "object 0 is not the queue root",
+            PartsFault::NoMain => "block 0 is not named main",
+            PartsFault::MainHasWork => "block 0 is main and has a work",
+            PartsFault::TooManyObjects => "there are more objects than a plan may have",
+            PartsFault::TooManyBlocks => "there are more blocks than a plan may have",
+            PartsFault::TooManyFiles => "there are more files than a plan may have",
+            PartsFault::TooManyActs => "there are more acts than a plan may have",
+            PartsFault::UntilOutOfRange => "the last due time of timers is out of range",
+            PartsFault::ObjectNameIllFormed(_) => "its name is ill-formed",
+            PartsFault::BlockNameIllFormed(_) => "its name is ill-formed",
+            PartsFault::FileNameIllFormed(_) => "its name is ill-formed",
+            PartsFault::ObjectNameTaken(_) => "its name is a file's or an earlier object's",
+            PartsFault::BlockNameTaken(_) =>
+                "its name is a file's, an object's or an earlier block's",
+            PartsFault::FileNameTaken(_) => "its name is an earlier file's",
+            PartsFault::KindOutOfRange(_) => "a number of its kind is out of range",
+            PartsFault::PathUnfit(_) => "its path does not fit its kind",
+            PartsFault::TargetIsNoQueue(_) => "its target is no queue",
+            PartsFault::HasSourceParts(_) => "it has what only a source may have",
+            PartsFault::HasTarget(_) => "it has a target, but it is no queue or source",
+            PartsFault::Inactive(_) => "it is inactive, but it is no queue or source",
+            PartsFault::ActiveSource(_) => "it is a source and active at the start",
+            PartsFault::HandlerActBarred(..) => "submits a block or waits",
+            PartsFault::HandlerActUnfit(..) => UNFIT,
+            PartsFault::CancelOutOfRange(_) => "its cancellation block is main or not there",
+            PartsFault::WorkOutOfRange(_) => "its work reads no file of the plan, or too far",
+            PartsFault::BlockActUnfit(..) => UNFIT,
+            PartsFault::FilePathIllFormed(_) => "its path is ill-formed",
+            PartsFault::SubmittedTwice(_) => "it is submitted more than once",
+            PartsFault::NeverReachesRoot(_) => "its targets never lead to root",
+        }
+    }
+}
+
+const UNFIT: &str = "names what is not of the kind that it asks, or its value is out of range";
