@@ -1,4 +1,3 @@
-use Rattle.std.proofs.Common.{ap, subst}
 use Rattle.gcd_row.specs.Passes.{view}
 use Rattle.gcd_workers.proofs.Giving.{cells_for, given_at_end}
 use Rattle.gcd_workers.proofs.running_jobs.close.Goals as goal

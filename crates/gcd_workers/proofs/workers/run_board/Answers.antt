@@ -1,13 +1,10 @@
-use Rattle.std.proofs.Common.{◌∙◌, ◌≤◌, ℕ, length, ap, subst, sym}
+use Rattle.std.proofs.Common.{◌∙◌, ℕ, length, ap}
 use Rattle.std.specs.Prelude.{replicate}
 use Rattle.gcd_outer.specs.Outside.{ClockState, Seen}
 use Rattle.gcd_outer.specs.Tells.{PollerState}
 use Rattle.gcd_jobs.specs.Contents.{contents}
 use Rattle.gcd_plan.specs.Limits.{max_events}
 use Rattle.gcd_row.specs.Passes.{terms_of, view}
-use Rattle.gcd_row.specs.declared.board.RowBoard.{RowBoard}
-use Rattle.gcd_steal.specs.Racks.{plan_of}
-use Rattle.gcd_workers.specs.Told.{WorkCell}
 use Rattle.gcd_workers.proofs.Heads.{led_by_more}
 use Rattle.gcd_workers.proofs.Pools.{plan_along, pool_of}
 use Rattle.gcd_workers.proofs.Runs.{runs_by_more, runs_over_files}
