@@ -1,35 +1,27 @@
 // The plan: a serial queue for each station, and a block for each reading.
-ghost use Rattle.std.specs.Prelude.{◌≡◌, ◌+◌, IfOk, IfSome, length};
-
 use crate::reading::Reading;
 use gcd_plan::{Act, Blk, BlkPart, Kind, Obj, ObjPart, Parts, Plan};
 use std::alloc::{AllocError, Global};
 
-// The queue of the station in the north. Object 0 of each plan is the queue `root`.
-const NORTH: Obj = Obj(1);
-
-// The queue of the station in the south.
-const SOUTH: Obj = Obj(2);
-
-/// The stations: their queues and their names, in the order of the objects.
-pub static STATIONS: [(Obj, &str); 2] = [(NORTH, "north"), (SOUTH, "south")];
+/// The stations: their queues and their names, in the order of the objects. Object 0 of each plan is the queue `root`.
+pub static STATIONS: [(Obj, &str); 2] = [(Obj(1), "north"), (Obj(2), "south")];
 
 /// What was measured. The block of the first reading is block 1, since block 0 of each plan is `main`.
 pub static READINGS: [Reading; 4] = [
     Reading {
-        station: NORTH,
+        station: Obj(1),
         celsius: 0,
     },
     Reading {
-        station: SOUTH,
+        station: Obj(2),
         celsius: 20,
     },
     Reading {
-        station: NORTH,
+        station: Obj(1),
         celsius: 5,
     },
     Reading {
-        station: SOUTH,
+        station: Obj(2),
         celsius: 25,
     },
 ];
@@ -45,9 +37,7 @@ fn queues(alloc: Global) -> Result<Vec<ObjPart>, AllocError> {
 }
 
 // `main`, and a block for each reading, which `main` submits to the station's queue.
-fn blocks(alloc: Global) -> Result<Vec<BlkPart>, AllocError>
-    ensures { IfOk result (λ blocks. length blocks.items ≡ length READINGS + 1) }
-{
+fn blocks(alloc: Global) -> Result<Vec<BlkPart>, AllocError> {
     let mut main = BlkPart::new(alloc, "main")?;
     let mut blocks = Vec::new(alloc);
     for (number, reading) in READINGS.iter().enumerate() {
@@ -61,9 +51,7 @@ fn blocks(alloc: Global) -> Result<Vec<BlkPart>, AllocError>
 }
 
 /// The plan; None where its parts are no valid plan. An `Err` comes where memory runs out.
-pub fn plan_of_stations(alloc: Global) -> Result<Option<Plan>, AllocError>
-    ensures { IfOk result (λ plan. IfSome plan (λ plan. length plan.blocks ≡ length READINGS + 1)) }
-{
+pub fn plan_of_stations(alloc: Global) -> Result<Option<Plan>, AllocError> {
     Ok(Plan::of_parts(Parts {
         objects: queues(alloc)?,
         blocks: blocks(alloc)?,

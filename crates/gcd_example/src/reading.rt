@@ -1,5 +1,5 @@
 // What the blocks run.
-ghost use Rattle.std.specs.Prelude.{◌≡◌, ◌∷◌, IfOk};
+ghost use Rattle.std.specs.Prelude.{◌≡◌, ◌+◌, ◌*◌, ◌/◌, ◌∷◌, IfOk};
 
 use crate::plan::READINGS;
 use gcd_jobs::Job;
@@ -16,10 +16,8 @@ pub struct Reading {
 }
 
 impl Job for Reading {
-    ghost use Rattle.gcd_example.specs.Readings.{fahrenheit};
-
     // The values that the job may give: this one.
-    ghost gives = { λ job input value. value ≡ fahrenheit job.celsius };
+    ghost gives = { λ job input value. value ≡ job.celsius * 9 / 5 + 32 };
 
     fn run(self, _input: u64) -> u64 {
         u64::from(self.celsius) * 9 / 5 + 32

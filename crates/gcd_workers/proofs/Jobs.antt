@@ -13,8 +13,9 @@ use Rattle.gcd_jobs.specs.Jobs.{job_value}
 use Rattle.gcd_jobs.specs.declared.file_job.FileJob.{FileJob}
 use Rattle.gcd_jobs.specs.declared.tally.Tally.{Tally}
 use Rattle.gcd_row.specs.Opening.{first_cells, object_cells}
+use Rattle.gcd_row.specs.declared.cell.Cell.{Cell}
 use Rattle.gcd_row.specs.declared.cell.Cell.TheVariants.{Body}
-use Rattle.gcd_workers.specs.Told.{AreJobs, GiveWorks, WorkCell}
+use Rattle.gcd_workers.specs.Told.{AreJobs, GiveWorks}
 
 pub no_jobs : (plan : PlanView) (files : List (List ℕ)) → AreJobs plan files 0 []
 no_jobs plan files = record {
@@ -41,10 +42,10 @@ jobs_push plan files n jobs job is are =
           (cases_lt b (length jobs));
     }
 
-body_at : (jobs : List FileJob) (rest : List WorkCell) (b : ℕ) (job : FileJob) → slice_get jobs b ≡ Some job
+pub body_at : {J H : Type 0} (jobs : List J) (rest : List (Cell J H)) (b : ℕ) (job : J) → slice_get jobs b ≡ Some job
     → slice_get (map (λ j. Body j) jobs ++ rest) b ≡ Some (Body job)
 body_at [] rest b job at = absurd (cc)
-body_at (j ∷ jobs) rest zero job at = ap (λ (x : FileJob). Some (Body x)) (same_Some j job at)
+body_at {J} {H} (j ∷ jobs) rest zero job at = ap (λ (x : J). let cell : Cell J H = Body x in Some cell) (same_Some j job at)
 body_at (j ∷ jobs) rest (suc b) job at = body_at jobs rest b job at
 
 pub give_works : (plan : PlanView) (files : List (List ℕ)) (jobs : List FileJob) (tallies : List Tally) → AreJobs plan files (length plan.blocks) jobs

@@ -1,7 +1,9 @@
+pub mod Giving
 pub mod Heads
 pub mod Hires
 pub mod Jobs
 pub mod Places
+pub mod Pools
 pub mod Runs
 pub mod Tellings
 pub mod Wholes

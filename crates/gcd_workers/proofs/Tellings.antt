@@ -38,7 +38,7 @@ unfolding is_ended
 ended_at h i w c at = list_any-reverse (ends c.0) h ∙ any_passes_from_place (ends c.0) h i (End w c) at (eq-eqb c.0 c.0 refl)
 
 -- nobody holds a block that has ended
-ended_is_nobodys : (plan : PlanView) (h : List Event) (c : Blk) → IsLawful plan h → is_ended h c.0 ≡ true → IsNobodys plan h (Block c)
+pub ended_is_nobodys : (plan : PlanView) (h : List Event) (c : Blk) → IsLawful plan h → is_ended h c.0 ≡ true → IsNobodys plan h (Block c)
 unfolding is_ended has_run
 ended_is_nobodys plan h c lawful ended w held =
     let has = (held_runs_are_open plan h lawful).has w (Block c) held in
@@ -51,7 +51,7 @@ is_done (Done x) v is = ap Done (cc)
 is_done (Handler t) v is = absurd (cc)
 is_done Away v is = absurd (cc)
 
-elem_of : {A : Type 0} (xs : List A) (i : ℕ) (x : A) → slice_get xs i ≡ Some x → get_elem? xs i ≡ some x
+pub elem_of : {A : Type 0} (xs : List A) (i : ℕ) (x : A) → slice_get xs i ≡ Some x → get_elem? xs i ≡ some x
 elem_of [] i x at = absurd (cc)
 elem_of (y ∷ ys) zero x at = cc
 elem_of (y ∷ ys) (suc i) x at = elem_of ys i x at

@@ -1,3 +1,4 @@
+pub mod JobsRuns
 pub mod ListRuns
 pub mod Ran
 pub mod Teams

@@ -7,20 +7,28 @@
 //! are made, and the pool of them (`gcd_pool`) runs until the run has ended. Then what the helpers have seen is joined into what
 //! worker 0 has seen, and the board is closed. Both are the loop of `gcd_loop`, over a recorder each, and leave an [`Outcome`].
 //!
-//! A caller with jobs of its own makes board and rack itself, and calls the parts. (The crate `gcd_example` is such a caller.)
+//! A caller with jobs of its own calls [`run_jobs`], which makes all that a run by a team needs, with the outside in memory: no feed is
+//! told of, and time jumps. (The crate `gcd_example` is such a caller.) One who has feeds or a clock too makes board and rack itself, and
+//! calls the parts.
 //!
 //! | call | answer |
 //! |---|---|
 //! | [`team_size`] | how many of so many workers there can be work for, at least 1 |
 //! | [`tallies_of`] | a tally for each source, which a board asks for beside the jobs, or out of memory |
 //! | [`run_pool`] | worker 0's pass of a run that has ended, with which the board may be closed (`HasLed`, `RunsPlan`), or out of memory |
+//! | [`run_jobs`] | the journal, the blocks' values and the state of a run of the caller's own jobs (`RunsJobs`), or why there is none: another number of jobs, no number of workers, out of memory |
 //! | [`run_alone`], [`run_board`], [`run_workers`] | the journal, the blocks' values and the state of a run of the plan's works over its files (`RunsOverFiles`), or out of memory |
 //!
-//! | clause of these three | says |
+//! | clause of the last three | says |
 //! |---|---|
 //! | `ran` (`RunsOverFiles`) | where memory sufficed: the journal is lawful and has ended, in the state told; each event is of one of the workers, and with one of them each event of a worker is what worker 0 chooses at its place; what poller and clock said stands in it (`RunsPlan` of `gcd_loop`); and the values are those of the blocks that have ended, and else 0 |
 //! | `stands` | the machine that is left stands for the journal |
 //! | `kept` | no listen was made, and the poller's count of faults did not fall; this holds where memory runs out too |
+//!
+//! | clause of `run_jobs` | says |
+//! |---|---|
+//! | `ran` (`RunsJobs`) | where it is run: the journal is lawful and has ended, in the state told; whose its events are, as above; and a block has a value exactly where its End stands, which is one that its own job may give (`AreGiven`) |
+//! | `job_count`, `worker_count` | it is refused by that name exactly where there is not one job for each block; and where else the number of workers is 0 or above 64 |
 //!
 //! A run by worker 0 alone takes memory before its first event, and where its list has to grow; what is left of it at a refusal
 //! is nothing. So with a given clock and poller its journal is exact. A team takes memory before the first event and after the last,
@@ -33,9 +41,11 @@
 mod alone;
 mod gather;
 mod hiring;
+mod jobs_run;
 mod list_run;
 mod opening;
 mod outcome;
+mod running_jobs;
 mod team;
 mod values;
 mod workers;
@@ -43,6 +53,8 @@ mod workers;
 pub use alone::run_alone;
 pub use gather::run_pool;
 pub use hiring::team_size;
+pub use jobs_run::{JobsRefused, JobsRun};
 pub use opening::tallies_of;
 pub use outcome::Outcome;
+pub use running_jobs::run_jobs;
 pub use workers::{run_board, run_workers};

@@ -28,7 +28,7 @@ use std::sync::Wait;
 use std::thread::Threads;
 
 // How many Drains a bench may push; from then on they sleep.
-const MOST_PUSHES: u32 = 4_096;
+pub const MOST_PUSHES: u32 = 4_096;
 
 // Closes the board of a run that has ended.
 fn close<'a>(

@@ -1,4 +1,5 @@
 mod alone;
+mod jobs;
 mod plans;
 
 use gcd_event::Event;

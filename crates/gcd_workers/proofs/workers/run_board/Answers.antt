@@ -1,26 +1,20 @@
-use Rattle.std.proofs.Common.{◌∙◌, ◌≤◌, ℕ, length, ap, subst, sym}
+use Rattle.std.proofs.Common.{◌∙◌, ℕ, length, ap}
 use Rattle.std.specs.Prelude.{replicate}
 use Rattle.gcd_outer.specs.Outside.{ClockState, Seen}
 use Rattle.gcd_outer.specs.Tells.{PollerState}
 use Rattle.gcd_jobs.specs.Contents.{contents}
 use Rattle.gcd_plan.specs.Limits.{max_events}
 use Rattle.gcd_row.specs.Passes.{terms_of, view}
-use Rattle.gcd_row.specs.declared.board.RowBoard.{RowBoard}
-use Rattle.gcd_steal.specs.Racks.{plan_of}
-use Rattle.gcd_workers.specs.Told.{WorkCell}
 use Rattle.gcd_workers.proofs.Heads.{led_by_more}
+use Rattle.gcd_workers.proofs.Pools.{plan_along, pool_of}
 use Rattle.gcd_workers.proofs.Runs.{runs_by_more, runs_over_files}
 use Rattle.gcd_workers.proofs.workers.run_board.Goals as goal
 
 pub run_pool-requires-clause-pool : goal.run_pool-requires-clause-pool
 run_pool-requires-clause-pool g c = λ lifetimes outlive.
-    let board = c.new-pool.ensures.board in
-    let own = ap (λ (b : RowBoard WorkCell). (terms_of b).plan) board ∙ c.in_ok-board.ensures.plan in
-    record {
-      rack = ap plan_of c.new-pool.ensures.rack ∙ c.requires.rack ∙ sym own;
-      plan = c.new-pool.ensures.plan ∙ sym own;
-      cells = subst (λ (b : RowBoard WorkCell). length (terms_of b).plan.blocks ≤ length (terms_of b).cells) (sym board) c.in_ok-board.ensures.cells;
-    }
+    let made = c.new-pool in
+    pool_of made.result c.in_ok-board.board c.args.rack.now c.args.plan.now made.ensures.board made.ensures.rack made.ensures.plan
+    c.in_ok-board.ensures.plan c.requires.rack c.in_ok-board.ensures.cells
 
 pub close-requires-clause-led : goal.close-requires-clause-led
 close-requires-clause-led g c =
@@ -35,7 +29,7 @@ returns-clause-ran g c =
     let told : Seen PollerState = record { tells = g.P.Poller.tells; before = g.P.Poller.state c.args.poller.now; after = g.P.Poller.state c.run_pool.new.poller } in
     let timed : Seen ClockState = record { tells = g.C.Clock.tells; before = g.C.Clock.state c.args.clock.now; after = g.C.Clock.state c.run_pool.new.clock } in
     let own = (terms_of c.new-pool.result.board.now).plan in
-    let is = ap (λ (b : RowBoard WorkCell). (terms_of b).plan) c.new-pool.ensures.board ∙ c.in_ok-board.ensures.plan in
+    let is = plan_along c.new-pool.ensures.board ∙ c.in_ok-board.ensures.plan in
     let seen = (view c.in_ok-last.last).seen in
     let run = runs_by_more max_events own (length c.args.benches.items) c.args.workers told timed seen c.requires.count.0 c.requires.count.1 c.in_ok-last.ensures.ran in
     runs_over_files c.args.plan.now own c.args.workers (contents c.args.files.now) told timed seen

@@ -1,0 +1,147 @@
+-- What a run of a caller's own jobs leaves, of the cells at its end.
+use Rattle.std.proofs.Common.{◌≡◌, ◌<◌, ◌≤◌, ◌+◌, ◌∙◌, ℕ, Bool, true, false, List, [], ◌∷◌, ◌++◌, length, Option, Some, None, ap, sym, subst, arith, ⊎_elim}
+use Rattle.std.specs.Prelude.{slice_get}
+use Rattle.std.proofs.lemmas.Bool.{cases_lt}
+use Rattle.std.proofs.lemmas.List.{length_push}
+use Rattle.gcd_plan.specs.Limits.{max_events}
+use Rattle.gcd_plan.specs.PlanView.{PlanView}
+use Rattle.gcd_plan.specs.declared.numbers.Blk.{Blk}
+use Rattle.gcd_plan.specs.declared.numbers.Run.TheVariants.{Block}
+use Rattle.gcd_plan.proofs.Places.{slice_get_some, slice_get-append_left, slice_get-append_seam}
+use Rattle.gcd_event.specs.declared.event.Event.{Event}
+use Rattle.gcd_history.specs.Ends.{HasState}
+use Rattle.gcd_history.specs.History.{IsLawful, is_ended}
+use Rattle.gcd_history.specs.declared.state.State.{State}
+use Rattle.gcd_machine.proofs.Shown.{plan_stands}
+use Rattle.gcd_machine.specs.Stands.{StandsFor}
+use Rattle.gcd_refinement.specs.MachineView.{MachineView}
+use Rattle.gcd_outer.specs.Outside.{ClockState, Seen}
+use Rattle.gcd_outer.specs.Tells.{PollerState}
+use Rattle.gcd_jobs.specs.declared.tally.Tally.{Tally}
+use Rattle.gcd_loop.specs.Ran.{RunsPlan}
+use Rattle.gcd_row.specs.Lying.{BodyLies}
+use Rattle.gcd_row.specs.Opening.{first_cells, object_cells}
+use Rattle.gcd_row.specs.Passes.{AtRest, IsPassOf, terms_of, view}
+use Rattle.gcd_row.specs.Shapes.{done, gives_of}
+use Rattle.gcd_row.specs.declared.board.RowBoard.{RowBoard}
+use Rattle.gcd_row.specs.declared.cell.Cell.{Cell}
+use Rattle.gcd_row.specs.declared.cell.Cell.TheVariants.{Body, Done, Handler, Away}
+use Rattle.gcd_row.specs.declared.pass.RowPass.{RowPass}
+use Rattle.gcd_row.specs.declared.view.Terms.{Terms}
+use Rattle.gcd_workers.specs.JobsRuns.{AreGiven, AreLaid, AreTaken, IsGiven, RunsJobs, tally_shape}
+use Rattle.gcd_workers.proofs.Jobs.{body_at}
+use Rattle.gcd_workers.proofs.Tellings.{elem_of, ended_is_nobodys}
+use Rattle.gcd_workers.proofs.Wholes.{lawful_pass}
+
+module _ {J : Type 0} where
+  -- the jobs are the first cells of a new board
+  pub jobs_laid : (plan : PlanView) (jobs : List J) (tallies : List Tally) → AreLaid jobs (first_cells plan jobs tallies)
+  jobs_laid plan jobs tallies b job at = body_at jobs (object_cells plan.objects tallies) b job at
+
+  -- the value of one block more
+  pub taken_push : (h : List Event) (cells : List (Cell J Tally)) (n : ℕ) (values : List (Option ℕ)) (cell : Cell J Tally) (v : Option ℕ) (t : Bool)
+      → t ≡ is_ended h n → slice_get cells n ≡ Some cell → ((x : ℕ) → t ≡ true → cell ≡ Done x → v ≡ Some x) → (t ≡ false → v ≡ None)
+      → AreTaken h cells n values → AreTaken h cells (n + 1) (values ++ v ∷ [])
+  taken_push h cells n values cell v t test at gave lacks taken =
+      let count = taken.count in
+      let long = length_push values v in
+      let seam : slice_get (values ++ v ∷ []) (length values) ≡ Some v = slice_get-append_seam values v [] in
+      let here : slice_get (values ++ v ∷ []) n ≡ Some v = subst (λ (k : ℕ). slice_get (values ++ v ∷ []) k ≡ Some v) count seam in
+      record {
+        count = omega (arith, count, long);
+        ended = λ b x low ended lies.
+            ⊎_elim
+            (λ (early : b < n). slice_get-append_left values (v ∷ []) b (omega (arith, count, early)) ∙ taken.ended b x early ended lies)
+            (λ (late : n ≤ b).
+            let same : n ≡ b = omega (arith, low, late) in
+            let own : is_ended h n ≡ true = ap (is_ended h) same ∙ ended in
+            let cell_is : Some cell ≡ Some (Done x) = sym at ∙ ap (slice_get cells) same ∙ lies in
+            let done_is : cell ≡ Done x = cc in
+            subst (λ (k : ℕ). slice_get (values ++ v ∷ []) k ≡ Some (Some x)) same (here ∙ ap Some (gave x (test ∙ own) done_is)))
+            (cases_lt b n);
+        others = λ b low not_yet.
+            ⊎_elim
+            (λ (early : b < n). slice_get-append_left values (v ∷ []) b (omega (arith, count, early)) ∙ taken.others b early not_yet)
+            (λ (late : n ≤ b).
+            let same : n ≡ b = omega (arith, low, late) in
+            let own : is_ended h n ≡ false = ap (is_ended h) same ∙ not_yet in
+            subst (λ (k : ℕ). slice_get (values ++ v ∷ []) k ≡ Some None) same (here ∙ ap Some (lacks (test ∙ own))))
+            (cases_lt b n);
+      }
+
+  is_done : (cell : Cell J Tally) (v : ℕ) → tally_shape cell ≡ done v → cell ≡ Done v
+  is_done (Body job) v is = absurd (cc)
+  is_done (Done x) v is = ap Done (cc)
+  is_done (Handler t) v is = absurd (cc)
+  is_done Away v is = absurd (cc)
+
+  module _ (gives : J → ℕ → ℕ → Type 0) where
+    -- a value that its job may give lies in the slot of a block that has ended
+    given_at : (t : Terms (Cell J Tally)) (h : List Event) (cells : List (Cell J Tally)) (jobs : List J) (values : List (Option ℕ)) (b : ℕ)
+        → IsLawful t.plan h → AtRest tally_shape (gives_of gives) t h cells → AreLaid jobs t.cells → length jobs ≡ length t.plan.blocks
+        → AreTaken h cells (length t.plan.blocks) values → b < length t.plan.blocks → is_ended h b ≡ true → IsGiven gives jobs values b
+    given_at t h cells jobs values b lawful rest laid count taken low ended =
+        let width = rest.width in
+        let blk : Blk = record { 0 = b } in
+        let job = slice_get_some jobs b (omega (arith, count, low)) in
+        let here = slice_get_some cells b (omega (arith, width, low)) in
+        let first : Cell J Tally = Body job.0 in
+        let lies = rest.lie (Block blk) here.0 low (ended_is_nobodys t.plan h blk lawful ended) (elem_of cells b here.0 here.1) first (laid b job.0 job.1) in
+        let is : BodyLies tally_shape (gives_of gives) first true here.0 =
+        subst (λ (e : Bool). BodyLies tally_shape (gives_of gives) first e here.0) ended lies in
+        record {
+          job = job.0;
+          value = is.0;
+          job_of = job.1;
+          value_of = taken.ended b is.0 low ended (here.1 ∙ ap Some (is_done here.0 is.0 is.1));
+          given = is.2;
+        }
+
+    -- the machine of a pass is of the board's plan
+    machine_plan : (b : RowBoard (Cell J Tally)) (p : RowPass (Cell J Tally)) (m : MachineView) → IsPassOf tally_shape (gives_of gives) b p
+        → StandsFor m (view p).terms.plan (view p).seen → m.plan ≡ (terms_of b).plan
+    machine_plan b p m pass stands = plan_stands m (view p).terms.plan (view p).seen stands ∙ ap (λ (t : Terms (Cell J Tally)). t.plan) pass.terms
+
+    -- there is a cell for each of its blocks
+    pub cells_for : (p : RowPass (Cell J Tally)) (m : MachineView) (cells : List (Cell J Tally))
+        → AtRest tally_shape (gives_of gives) (view p).terms (view p).seen cells → StandsFor m (view p).terms.plan (view p).seen
+        → length m.plan.blocks ≤ length cells
+    cells_for p m cells rest stands =
+        let width = rest.width in
+        let own = plan_stands m (view p).terms.plan (view p).seen stands in
+        let wide : length (view p).terms.plan.blocks ≤ length cells = omega (arith, width) in
+        subst (λ (k : PlanView). length k.blocks ≤ length cells) (sym own) wide
+
+    -- of a board that is closed: the values are those of the jobs that it was made of
+    pub given_at_end : (b : RowBoard (Cell J Tally)) (p : RowPass (Cell J Tally)) (m : MachineView) (cells : List (Cell J Tally)) (jobs : List J)
+        (values : List (Option ℕ)) → IsPassOf tally_shape (gives_of gives) b p → StandsFor m (view p).terms.plan (view p).seen
+        → AtRest tally_shape (gives_of gives) (view p).terms (view p).seen cells → AreLaid jobs (terms_of b).cells
+        → length jobs ≡ length (terms_of b).plan.blocks → AreTaken (view p).seen cells (length m.plan.blocks) values
+        → AreGiven gives (terms_of b).plan jobs (view p).seen values
+    given_at_end b p m cells jobs values pass stands at_rest laid count taken_by =
+        let lawful = lawful_pass tally_shape (gives_of gives) b p pass in
+        let rest = subst (λ (t : Terms (Cell J Tally)). AtRest tally_shape (gives_of gives) t (view p).seen cells) pass.terms at_rest in
+        let taken = subst (λ (k : PlanView). AreTaken (view p).seen cells (length k.blocks) values) (machine_plan b p m pass stands) taken_by in
+        record {
+          count = taken.count;
+          ended = λ k low ended. given_at (terms_of b) (view p).seen cells jobs values k lawful rest laid count taken low ended;
+          others = taken.others;
+        }
+
+    -- what the loop promises of a run, in the words of one who has jobs
+    pub runs_jobs : (plan mine own : PlanView) (jobs : List J) (m n : ℕ) {poller : Seen PollerState} {clock : Seen ClockState} (seen h : List Event)
+        (values : List (Option ℕ)) (state : State) → own ≡ mine → mine ≡ plan → h ≡ seen → 0 < m → m ≤ n → RunsPlan max_events own m poller clock seen
+        → HasState mine seen state → AreGiven gives mine jobs seen values → RunsJobs gives plan jobs n h values state
+    runs_jobs plan mine own jobs m n {poller} {clock} seen h values state board is same low more ran has given =
+        let run = subst (λ (q : PlanView). RunsPlan max_events q m poller clock seen) board ran in
+        let all : RunsJobs gives mine jobs n seen values state = record {
+          lawful = run.lawful;
+          ended = run.ended;
+          state_is = has;
+          few = run.few;
+          by = λ i e at. let by = run.by i e at in omega (arith, more, by);
+          chosen = λ one. run.chosen (omega (arith, low, more, one));
+          given = given;
+        } in
+        subst (λ (q : PlanView). RunsJobs gives q jobs n h values state) is
+        (subst (λ (l : List Event). RunsJobs gives mine jobs n l values state) (sym same) all)

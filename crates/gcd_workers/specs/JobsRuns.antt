@@ -1,0 +1,58 @@
+-- What a run of a caller's own jobs leaves.
+use Rattle.std.specs.Prelude.{◌≡◌, ◌<◌, ◌≤◌, ◌⊎◌, ℕ, true, false, List, length, Option, Some, None, slice_get}
+use Rattle.gcd_plan.specs.Limits.{max_events, max_workers}
+use Rattle.gcd_plan.specs.PlanView.{PlanView}
+use Rattle.gcd_event.specs.declared.event.Event.{Event}
+use Rattle.gcd_history.specs.Ends.{HasEnded, HasState}
+use Rattle.gcd_history.specs.History.{IsLawful, is_ended}
+use Rattle.gcd_history.specs.declared.state.State.{State}
+use Rattle.gcd_jobs.specs.declared.tally.Tally.{Tally}
+use Rattle.gcd_loop.specs.Followed.{FollowsChoice, IsOfWorkers}
+use Rattle.gcd_row.specs.Shapes.{Shape, shape_of}
+use Rattle.gcd_row.specs.declared.cell.Cell.{Cell}
+use Rattle.gcd_row.specs.declared.cell.Cell.TheVariants.{Body, Done}
+
+-- no number of workers that a run may have: none, or too many
+abbrev pub IsNoTeam : (workers : ℕ) → Type 0
+IsNoTeam workers = (workers ≡ 0) ⊎ (max_workers < workers)
+
+-- the value of block b is one that its job may give at the input 0
+pub record IsGiven {J : Type 0} (gives : J → ℕ → ℕ → Type 0) (jobs : List J) (values : List (Option ℕ)) (b : ℕ) : Type 0 where
+  pub job : J
+  pub value : ℕ
+  pub job_of : slice_get jobs b ≡ Some job
+  pub value_of : slice_get values b ≡ Some (Some value)
+  pub given : gives job 0 value
+
+-- for each block a value that its job may give where its End stands, and else none
+pub record AreGiven {J : Type 0} (gives : J → ℕ → ℕ → Type 0) (plan : PlanView) (jobs : List J) (h : List Event) (values : List (Option ℕ)) : Type 0 where
+  pub count : length values ≡ length plan.blocks
+  pub ended : (b : ℕ) → b < length plan.blocks → is_ended h b ≡ true → IsGiven gives jobs values b
+  pub others : (b : ℕ) → b < length plan.blocks → is_ended h b ≡ false → slice_get values b ≡ Some None
+
+-- The run of a plan with these jobs by so many workers: its journal is lawful and has ended, in this state; each event is of one of the
+-- workers, and with one worker each event of a worker is what that worker chooses at its place; and these are the values of the blocks.
+pub record RunsJobs {J : Type 0} (gives : J → ℕ → ℕ → Type 0) (plan : PlanView) (jobs : List J) (workers : ℕ) (h : List Event)
+    (values : List (Option ℕ)) (state : State) : Type 0 where
+  pub lawful : IsLawful plan h
+  pub ended : HasEnded max_events plan h
+  pub state_is : HasState plan h state
+  pub few : length h ≤ max_events
+  pub by : IsOfWorkers workers h
+  pub chosen : workers ≡ 1 → FollowsChoice plan h
+  pub given : AreGiven gives plan jobs h values
+
+module _ {J : Type 0} where
+  -- what lies in a slot
+  abbrev pub tally_shape : Cell J Tally → Shape
+  tally_shape = shape_of (λ t. t.kind) (λ t. t.times) (λ t. t.total)
+
+  -- the jobs lie in the first slots, in order
+  abbrev pub AreLaid : (jobs : List J) (cells : List (Cell J Tally)) → Type 0
+  AreLaid jobs cells = (b : ℕ) (job : J) → slice_get jobs b ≡ Some job → slice_get cells b ≡ Some (Body job)
+
+  -- the values of the first n blocks are what their slots have where they have ended, and else none
+  pub record AreTaken (h : List Event) (cells : List (Cell J Tally)) (n : ℕ) (values : List (Option ℕ)) : Type 0 where
+    pub count : length values ≡ n
+    pub ended : (b v : ℕ) → b < n → is_ended h b ≡ true → slice_get cells b ≡ Some (Done v) → slice_get values b ≡ Some (Some v)
+    pub others : (b : ℕ) → b < n → is_ended h b ≡ false → slice_get values b ≡ Some None

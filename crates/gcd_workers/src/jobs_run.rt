@@ -1,0 +1,39 @@
+// What a run of a caller's own jobs leaves, and why there may be none.
+use gcd_event::Event;
+use gcd_history::State;
+use std::error::Error;
+use std::fmt;
+
+/// What a run of a caller's own jobs leaves.
+#[derive(Debug, Drop)]
+pub struct JobsRun {
+    /// All events, in order.
+    pub journal: Vec<Event>,
+    /// For each block, by number, the value that its job gave where the block has ended, and else None.
+    pub values: Vec<Option<u64>>,
+    /// How far the run has come.
+    pub state: State,
+}
+
+/// Why a caller's jobs are not run. Nothing of a run is left then, and the jobs are dropped.
+#[derive(Clone, Copy, Debug, PartialEq, Eq)]
+pub enum JobsRefused {
+    /// There is not one job for each block of the plan.
+    JobCount,
+    /// The number of workers is 0, or greater than `MAX_WORKERS` of `gcd_plan`.
+    WorkerCount,
+    /// Memory ran out, before the first event or after the last.
+    OutOfMemory,
+}
+
+impl fmt::Display for JobsRefused {
+    fn fmt<W: fmt::Write>(&self, f: &mut fmt::Formatter<W>) -> fmt::Result {
+        match self {
+            JobsRefused::JobCount => write!(f, "the number of jobs is not that of the blocks"),
+            JobsRefused::WorkerCount => write!(f, "the number of workers is 0 or above 64"),
+            JobsRefused::OutOfMemory => write!(f, "out of memory"),
+        }
+    }
+}
+
+impl Error for JobsRefused {}
