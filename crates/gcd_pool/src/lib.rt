@@ -40,9 +40,9 @@
 //! # What it does not say
 //!
 //! That a helper ever places an event, that it has a thread of its own, or that it returns: each turn promises what it leaves, and
-//! serving ends only where the run has. Why a [`take_turn`], [`free_turn`] or [`begin_near`] answers `Waited`: nothing of its own is
-//! new then. That [`begin_near`] and [`take_turn`] lay a Drain that they find down is a clause (`LaysDown` of
-//! `specs/Turns`); no clause follows a Drain from there.
+//! serving ends only where the run has. Nor why a [`take_turn`], [`free_turn`] or [`begin_near`] answers `Waited`, with which no event of
+//! the worker is new. That [`begin_near`] and [`take_turn`] lay a Drain that they find down is a clause (`LaysDown` of `specs/Turns`); no
+//! clause follows a Drain from there.
 #![tactic(auto)]
 
 mod drains;

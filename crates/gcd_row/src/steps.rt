@@ -81,6 +81,6 @@ impl<S: Slot> RowBoard<S> {
         ensures board { (seat.new.table_id ≡ seat.old.table_id) × (seat.new.me ≡ seat.old.me) }
         ensures ends { EndsHere seat.old.me.0 seat.new.me.0 }
     {
-        self.table.shared.load::<End>(seat, 0);
+        load_word::<S, View<S>, Copies<S>, Lawful, End>(&self.table.shared, seat, 0);
     }
 }
