@@ -7,7 +7,7 @@ use Rattle.std.proofs.lemmas.Bool.{and_parts, both_ways, eqb-true, not-true}
 use Rattle.std.proofs.lemmas.List.Folds.{list_all-append, list_all-map}
 use Rattle.gcd_plan.specs.declared.act.Act.{Act}
 use Rattle.gcd_plan.specs.declared.kind.Kind.{Kind}
-use Rattle.gcd_plan.specs.declared.kind.Kind.TheVariants.{Serial, Concurrent, Group, Semaphore, Add, Or, Timer, Read}
+use Rattle.gcd_plan.specs.declared.kind.Kind.TheVariants.{Serial, Concurrent, Group, Semaphore, Add, Or, Replace, Timer, Read}
 use Rattle.gcd_plan.specs.declared.parts_fault.PartsFault.{PartsFault}
 use Rattle.gcd_plan.specs.declared.parts_fault.PartsFault.TheVariants.{NoRoot, NoMain, MainHasWork, TooManyObjects, TooManyBlocks, TooManyFiles, TooManyActs, UntilOutOfRange, ObjectNameIllFormed, BlockNameIllFormed, FileNameIllFormed, ObjectNameTaken, BlockNameTaken, FileNameTaken, KindOutOfRange, PathUnfit, TargetIsNoQueue, HasSourceParts, HasTarget, Inactive, ActiveSource, HandlerActBarred, HandlerActUnfit, CancelOutOfRange, WorkOutOfRange, BlockActUnfit, FilePathIllFormed, SubmittedTwice, NeverReachesRoot}
 use Rattle.gcd_plan.specs.Breaks.{Breaks, Has}
@@ -28,6 +28,7 @@ source_has plan Group o is h = cc
 source_has plan (Semaphore n) o is h = cc
 source_has plan Add o is h = h
 source_has plan Or o is h = h
+source_has plan Replace o is h = h
 source_has plan (Timer start every) o is h = h
 source_has plan Read o is h = h
 
@@ -44,6 +45,7 @@ node_target plan Group o is h = cc
 node_target plan (Semaphore n) o is h = cc
 node_target plan Add o is h = target_of_source plan o h
 node_target plan Or o is h = target_of_source plan o h
+node_target plan Replace o is h = target_of_source plan o h
 node_target plan (Timer start every) o is h = target_of_source plan o h
 node_target plan Read o is h = target_of_source plan o h
 
@@ -54,6 +56,7 @@ other_has plan Group o is h = h
 other_has plan (Semaphore n) o is h = h
 other_has plan Add o is h = cc
 other_has plan Or o is h = cc
+other_has plan Replace o is h = cc
 other_has plan (Timer start every) o is h = cc
 other_has plan Read o is h = cc
 
@@ -65,6 +68,7 @@ no_source_parts plan Group o is h = (and_parts o.active _ (and_parts (o.target.0
 no_source_parts plan (Semaphore n) o is h = (and_parts o.active _ (and_parts (o.target.0 == 0) _ h).1).1
 no_source_parts plan Add o is h = cc
 no_source_parts plan Or o is h = cc
+no_source_parts plan Replace o is h = cc
 no_source_parts plan (Timer start every) o is h = cc
 no_source_parts plan Read o is h = cc
 

@@ -18,6 +18,7 @@ use Rattle.gcd_team.proofs.Totals.{totals_fit}
 use Rattle.gcd_row.specs.Shapes.{body, handler, shape_of, gives_of}
 use Rattle.gcd_row.specs.Lying.{slot_of, HasSlots, HasSlot, IsServed, IsUntaken}
 use Rattle.gcd_row.specs.Views.{held_run}
+use Rattle.gcd_row.proofs.Totals.{earlier_and_last}
 use Rattle.gcd_row.specs.Passes.{IsPassOf, slots, view}
 use Rattle.gcd_row.specs.declared.board.RowBoard.{RowBoard}
 use Rattle.gcd_row.specs.declared.cell.Cell.{Cell}
@@ -35,7 +36,8 @@ pub takes_fit : (plan : PlanView) (h : List Event) (s : ℕ) (kind : Kind) (time
 takes_fit plan h s kind times total value valid lawful few at u is =
     let fit = totals_fit plan h s valid lawful in
     let sum : folded kind total value ≡ received_of plan h s =
-    sym (ap (λ (o : Option Kind). option_map_or (λ k. folded k total value) o 0) at) ∙ ap (joined plan s total) is ∙ u.without_data in
+    sym (ap (λ (o : Option Kind). option_map_or (λ k. folded k total value) o 0) at) ∙ ap (joined plan s total) is
+    ∙ ap (λ (n : ℕ). joined plan s n (last_data_of plan h s)) u.all_earlier ∙ earlier_and_last plan h s (omega (arith, u.once_fewer)) in
     let most : max_value * length h ≤ max_value * max_events = mul-le-mul_left max_value few in
     record {
       times_fit = omega (arith, u.once_fewer, fit.times, few);

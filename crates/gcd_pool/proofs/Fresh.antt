@@ -12,7 +12,6 @@ use Rattle.gcd_event.specs.declared.event.Event.TheVariants.{Start, Act as Acted
 use Rattle.gcd_history.specs.Choice.{worker_of}
 use Rattle.gcd_history.specs.Runs.{act_at}
 use Rattle.gcd_history.specs.Parked.{is_parking}
-use Rattle.gcd_history.specs.Sources.{joined}
 use Rattle.gcd_history.specs.History.{why, parks, IsLawful, is_ended, delivery_count_of, received_of}
 use Rattle.gcd_history.proofs.LawfulLemmas.{lawful_more}
 use Rattle.gcd_team.specs.Held.{taken, given}
@@ -27,6 +26,7 @@ use Rattle.gcd_row.specs.Lying.{slot_of, BodyLies, Lies, HasSlots, IsReadyFor, G
 use Rattle.gcd_row.specs.Plays.{Turned}
 use Rattle.gcd_row.specs.declared.view.Terms.{Terms}
 use Rattle.gcd_row.proofs.Holding.{handler_of_source}
+use Rattle.gcd_row.proofs.Totals.{earlier_now, earlier_waits}
 use Rattle.gcd_row.proofs.Running.{known_run, taken_known, taken_not_given, taken_source, none_some}
 use Rattle.gcd_event.specs.Owners.{ended}
 use Rattle.gcd_pool.specs.Hands.{IsUncalled, IsFreshCell, IsFreshAt}
@@ -55,7 +55,7 @@ uncalled_waits plan h later s x w u = record {
   is = u.is;
   untaken = record {
     once_fewer = u.untaken.once_fewer ∙ sym w.times;
-    without_data = ap (λ (d : ℕ). joined plan s u.total d) w.value ∙ u.untaken.without_data ∙ sym w.received;
+    all_earlier = u.untaken.all_earlier ∙ sym (earlier_waits plan h later s w);
   };
 }
 
@@ -122,7 +122,7 @@ module _ {S : Type 0} (shape : S → Shape) (gives : S → ℕ → Type 0) (t : 
         times = delivery_count_of h s.0;
         total = received_of t.plan h s.0;
         is = lies ∙ it.2;
-        untaken = record { once_fewer = sym over.times; without_data = sym over.total };
+        untaken = record { once_fewer = sym over.times; all_earlier = sym (earlier_now t.plan h d.0 s) };
       })
 
   -- after the worker's own event

@@ -6,6 +6,7 @@ pub mod Serves
 pub mod Cells
 pub mod Told
 pub mod Works
+pub mod Placing
 pub mod Splices
 pub mod Teams
 pub mod Recording

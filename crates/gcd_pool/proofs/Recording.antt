@@ -1,5 +1,5 @@
 -- What worker 0's calls on the row are to its loop.
-use Rattle.std.proofs.Common.{◌≡◌, ◌≤◌, ◌∙◌, ◌++◌, ◌||◌, not, ℕ, Bool, true, false, List, [], ◌∷◌, Some, None, Option, length, ap, sym, subst, refl, cond, IsTrue, ◌⊎◌}
+use Rattle.std.proofs.Common.{◌≡◌, ◌≤◌, ◌∙◌, ℕ, Bool, true, List, [], ◌∷◌, Some, None, Option, length, ap, sym, subst, refl, IsTrue}
 use Rattle.std.specs.List.{list_all}
 use Rattle.std.proofs.lemmas.Bool.{and_from, and_parts}
 use Rattle.gcd_plan.specs.Limits.{max_events}
@@ -12,26 +12,26 @@ use Rattle.gcd_history.specs.History.{choice_of, why}
 use Rattle.gcd_loop.specs.Followed.{FollowsChoice}
 use Rattle.gcd_loop.proofs.Follows.{follows_only}
 use Rattle.gcd_team.specs.Held.{is_of}
-use Rattle.gcd_loop.specs.Recorded.{After, Grows, IsGrown, IsPlaced, IsSight, Says}
+use Rattle.gcd_loop.specs.Recorded.{After, Grows, IsGrown, IsSight, Says}
 use Rattle.gcd_loop.specs.declared.recorder.Put.TheVariants.{Placed as PutPlaced, Barred as PutBarred, Later}
 use Rattle.gcd_loop.specs.declared.recorder.Step.{Step}
 use Rattle.gcd_loop.specs.declared.recorder.Step.TheVariants.{Placed as StepPlaced, Waited as StepWaited, Stopped, Over}
 use Rattle.gcd_loop.proofs.Steps.{grown}
 use Rattle.gcd_row.specs.Shapes.{Shape}
 use Rattle.gcd_row.specs.Views.{seeing}
-use Rattle.gcd_row.specs.Passes.{IsPassOf, Looks, slots, view}
+use Rattle.gcd_row.specs.Passes.{IsPassOf, Looks, slots, view, machine_of}
 use Rattle.gcd_row.specs.Passes as row
 use Rattle.gcd_row.specs.declared.pass.RowPass.{RowPass}
 use Rattle.gcd_row.specs.declared.put.Put.TheVariants.{Placed, Barred, Full}
 use Rattle.gcd_row.specs.declared.view.View.{View}
-use Rattle.gcd_pool.specs.Hands.{GoesOn, IsFresh, IsHandOf, IsReady, Serving}
+use Rattle.gcd_pool.specs.Hands.{GoesOn, IsFresh, Serving}
 use Rattle.gcd_outer.specs.Outside.{ClockState}
 use Rattle.gcd_outer.specs.Tells.{PollerState}
 use Rattle.gcd_pool.specs.Leads.{IsHead, Leads, Led}
 use Rattle.gcd_pool.specs.Works.{AddsNone, AddsOnly, AddsWork, is_own_work}
 use Rattle.gcd_pool.specs.declared.hand.Hand.{Hand}
 use Rattle.gcd_pool.specs.declared.hand.Pool.{Pool}
-use Rattle.gcd_pool.proofs.Puts.{looks_goes_on, placed_seen}
+use Rattle.gcd_pool.proofs.Puts.{placed_seen}
 use Rattle.gcd_pool.proofs.Serves.{looks_ready, serves_further, serves_pass}
 use Rattle.gcd_pool.proofs.Works.{ahead_adds, looks_adds, still_all}
 
@@ -132,15 +132,15 @@ module _ {S : Type 0} (shape : S → Shape) (gives : S → ℕ → Type 0) (most
   pub put_head : (q : RowPass S) → IsPassOf shape gives pool.board.now q → GoesOn (view a.pass) (view q) → IsFresh shape (view q) (slots q) → IsHead shape gives most plan pool (record { pass = q; bench = a.bench })
   put_head q pass go fresh = still_head (record { pass = q; bench = a.bench }) (serves_pass shape gives pool a q is.ready.of pass go) fresh
 
-  hand_sight : (b : Hand S) → Serving shape gives pool a b → IsSight most plan (view b.pass).seen b.pass.machine
+  hand_sight : (b : Hand S) → Serving shape gives pool a b → IsSight most plan (view b.pass).seen (machine_of b.pass)
   hand_sight b serving =
-      let m = b.pass.machine in
+      let m = machine_of b.pass in
       let stands = subst (λ (q : PlanView). Rattle.gcd_machine.specs.Stands.StandsFor m q (view b.pass).seen) (sym serving.of.plan ∙ is.plan_is) serving.of.pass.stands in
       record { own = Rattle.gcd_machine.proofs.Shown.plan_stands m plan (view b.pass).seen stands; stands = stands; few = subst (λ (n : ℕ). length (view b.pass).seen ≤ n) (sym is.most_is) serving.of.pass.few }
 
   pub worked : (b : Hand S) → Serving shape gives pool a b → AddsWork (view a.pass) (view b.pass) → IsGrown most plan (view a.pass).seen (view b.pass).seen
   worked b serving adds =
-      grown most plan (view a.pass).seen (view b.pass).seen b.pass.machine (hand_sight b serving) (adds_grows (view a.pass) (view b.pass) is.head adds)
+      grown most plan (view a.pass).seen (view b.pass).seen (machine_of b.pass) (hand_sight b serving) (adds_grows (view a.pass) (view b.pass) is.head adds)
 
   pub plan_after : (b : Hand S) → Serving shape gives pool a b → (view b.pass).terms.plan ≡ plan
   plan_after b serving = sym serving.of.plan ∙ is.plan_is

@@ -7,7 +7,7 @@ use Rattle.gcd_history.specs.Ends.{HasEnded}
 use Rattle.gcd_machine.specs.Stands.{StandsFor}
 use Rattle.gcd_team.specs.Team.{of_worker}
 use Rattle.gcd_row.specs.Shapes.{Shape}
-use Rattle.gcd_row.specs.Passes.{IsPassOf, Looks, slots, view}
+use Rattle.gcd_row.specs.Passes.{IsPassOf, Looks, slots, view, machine_of}
 use Rattle.gcd_row.specs.declared.pass.RowPass.{RowPass}
 use Rattle.gcd_row.specs.declared.view.Terms.{Terms}
 use Rattle.gcd_row.specs.declared.view.View.{View}
@@ -104,6 +104,6 @@ other_way p q same = record { board = sym same.board; rack = sym same.rack; plan
 
 -- how the run has ended that a hand has seen to end
 pub exit_served : {S : Type 0} → (shape : S → Shape) (gives : S → ℕ → Type 0) (pool : Pool S) (old new : Hand S) (exit : Exit) → Served shape gives pool old new
-    → ((plan : PlanView) (h : List Event) → StandsFor new.pass.machine plan h → HasEnded max_events plan h → HasExit max_events plan h exit) → HasExit max_events pool.plan.now (view new.pass).seen exit
+    → ((plan : PlanView) (h : List Event) → StandsFor (machine_of new.pass) plan h → HasEnded max_events plan h → HasExit max_events plan h exit) → HasExit max_events pool.plan.now (view new.pass).seen exit
 exit_served shape gives pool old new exit is tells =
     subst (λ (q : PlanView). HasExit max_events q (view new.pass).seen exit) (sym is.serving.of.plan) (tells (view new.pass).terms.plan (view new.pass).seen is.serving.of.pass.stands is.ended)

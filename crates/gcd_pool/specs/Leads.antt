@@ -12,7 +12,7 @@ use Rattle.gcd_machine.specs.Stands.{StandsFor}
 use Rattle.gcd_machine.proofs.Shown.{plan_stands}
 use Rattle.gcd_outer.specs.Outside.{ClockState}
 use Rattle.gcd_outer.specs.Tells.{PollerState}
-use Rattle.gcd_row.specs.Passes.{view}
+use Rattle.gcd_row.specs.Passes.{view, machine_of}
 use Rattle.gcd_row.specs.Shapes.{Shape}
 use Rattle.gcd_turn.specs.Asked.{KeepsListens}
 use Rattle.gcd_pool.specs.Hands.{IsHandOf, IsReady, Serving}
@@ -27,11 +27,11 @@ pub record IsHead {S : Type 0} (shape : S → Shape) (gives : S → ℕ → Type
   pub most_is : most ≡ max_events
 
 -- so its machine stands for what it has seen
-pub head_sight : {S : Type 0} (shape : S → Shape) (gives : S → ℕ → Type 0) (most : ℕ) (plan : PlanView) (pool : Pool S) (hand : Hand S) → IsHead shape gives most plan pool hand → IsSight most plan (view hand.pass).seen hand.pass.machine
+pub head_sight : {S : Type 0} (shape : S → Shape) (gives : S → ℕ → Type 0) (most : ℕ) (plan : PlanView) (pool : Pool S) (hand : Hand S) → IsHead shape gives most plan pool hand → IsSight most plan (view hand.pass).seen (machine_of hand.pass)
 head_sight shape gives most plan pool hand is =
     let of = is.ready.of in
-    let stands : StandsFor hand.pass.machine plan (view hand.pass).seen = subst (λ (q : PlanView). StandsFor hand.pass.machine q (view hand.pass).seen) (sym of.plan ∙ is.plan_is) of.pass.stands in
-    record { own = plan_stands hand.pass.machine plan (view hand.pass).seen stands; stands = stands; few = subst (λ (n : ℕ). length (view hand.pass).seen ≤ n) (sym is.most_is) of.pass.few }
+    let stands : StandsFor (machine_of hand.pass) plan (view hand.pass).seen = subst (λ (q : PlanView). StandsFor (machine_of hand.pass) q (view hand.pass).seen) (sym of.plan ∙ is.plan_is) of.pass.stands in
+    record { own = plan_stands (machine_of hand.pass) plan (view hand.pass).seen stands; stands = stands; few = subst (λ (n : ℕ). length (view hand.pass).seen ≤ n) (sym is.most_is) of.pass.few }
 
 -- and it is a hand of the pool
 pub head_left : {S : Type 0} (shape : S → Shape) (gives : S → ℕ → Type 0) (most : ℕ) (plan : PlanView) (pool : Pool S) (hand : Hand S) → IsHead shape gives most plan pool hand → IsHandOf shape gives pool hand

@@ -2,5 +2,6 @@ pub mod Duties
 pub mod Each
 pub mod Hands
 pub mod Turns
+pub mod Placing
 pub mod Works
 pub mod Leads

@@ -6,10 +6,11 @@ use Rattle.gcd_row.specs.Shapes.{Shape}
 use Rattle.gcd_row.specs.declared.view.View.{View}
 use Rattle.gcd_steal.specs.Deques.{Sends}
 use Rattle.gcd_steal.specs.Drains.{node_of, sight_with}
-use Rattle.gcd_steal.specs.Places.{Gives}
+use Rattle.gcd_steal.specs.Places.{Gives, Misses, Since}
 use Rattle.gcd_steal.specs.Racks.{own_account, sight_of}
 use Rattle.gcd_steal.specs.declared.bench.Bench.{Bench}
 use Rattle.gcd_steal.specs.declared.drain.Drain.{Drain}
+use Rattle.gcd_steal.specs.declared.places.Sight.{Sight}
 use Rattle.gcd_pool.specs.Hands.{IsFresh}
 use Rattle.gcd_pool.specs.declared.turn.Turn.{Turn}
 use Rattle.gcd_pool.specs.declared.turn.Turn.TheVariants.{Left, Placed, Ended, Out, Waited, Rested}
@@ -22,6 +23,16 @@ AfterTurn shape Ended v cells = IsFresh shape v cells
 AfterTurn shape (Out node) v cells = IsFresh shape v cells
 AfterTurn shape Waited v cells = IsFresh shape v cells
 AfterTurn shape Rested v cells = IsFresh shape v cells
+
+-- a call that answers that a node's Drain is out has written to that node's place, after all that the bench had seen, and the
+-- Drain did not sleep there then
+unfoldable pub SaysOut : Turn → Bench → Bench → Type 0
+SaysOut Left b c = Unit {0}
+SaysOut Placed b c = Unit {0}
+SaysOut Ended b c = Unit {0}
+SaysOut (Out node) b c = (v : Sight) × Since v.seen (sight_of b).seen × Misses node.0 v (sight_of c)
+SaysOut Waited b c = Unit {0}
+SaysOut Rested b c = Unit {0}
 
 -- the Drain was laid into its sleeping place, or put at the back of the bench's own deque
 abbrev pub IsLaidDown : Bench → Drain → Bench → Type 0

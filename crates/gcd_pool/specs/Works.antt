@@ -9,6 +9,7 @@ use Rattle.gcd_row.specs.Shapes.{Shape}
 use Rattle.gcd_row.specs.declared.pass.RowPass.{RowPass}
 use Rattle.gcd_row.specs.declared.view.View.{View}
 use Rattle.gcd_pool.specs.Hands.{GoesOn, IsSettled}
+use Rattle.gcd_pool.specs.Placing.{HasPlacedNone, SaysRecorded}
 use Rattle.gcd_pool.specs.Turns.{AfterTurn}
 use Rattle.gcd_pool.specs.declared.turn.Turn.{Turn}
 
@@ -36,4 +37,5 @@ pub record WasEndPut {S : Type 0} (shape : S → Shape) (e : Event) (old new : R
   pub goes : GoesOn (view old) (view new)
   pub work : AddsWork (view old) (view new)
   pub only : MatchOption came (AddsNone (view old) (view new)) (λ t. AddsOnly e (view old) (view new))
+  pub recorded : MatchOption came (HasPlacedNone (view old) (view new)) (λ t. SaysRecorded e t (view old) (view new))
   pub says : MatchOption came (IsSettled shape (view new) e (slots new)) (λ t. AfterTurn shape t (view new) (slots new))

@@ -1,14 +1,16 @@
 // What a worker does with a Drain.
-ghost use Rattle.std.specs.Prelude.{◌≡◌, ◌<◌, ◌≤◌, true, length, None, Some, IsTrue};
+ghost use Rattle.std.specs.Prelude.{◌≡◌, ◌<◌, ◌≤◌, true, length, None, Some, IsTrue, MatchBool};
 ghost use Rattle.gcd_history.specs.Choice.{is_work, worker_of};
 ghost use Rattle.gcd_history.specs.History.{why};
 ghost use Rattle.gcd_plan.specs.Kinds.{is_node};
+ghost use Rattle.gcd_plan.specs.declared.numbers.Obj.{Obj};
 ghost use Rattle.gcd_row.specs.Passes.{IsPassOf, Says, SaysSlots, slots, view};
 ghost use Rattle.gcd_steal.specs.Drains.{node_of};
 ghost use Rattle.gcd_steal.specs.Racks.{IsBenchOf, IsRackDrain, number_of};
 ghost use Rattle.gcd_pool.specs.Duties.{begun_on};
 ghost use Rattle.gcd_pool.specs.Hands.{GoesOn, IsFresh, IsReady, Serving};
-ghost use Rattle.gcd_pool.specs.Turns.{AfterTurn, IsLaidDown, LaysFoundDown};
+ghost use Rattle.gcd_pool.specs.Placing.{HasPlaced, HasPlacedNone, SaysBegun};
+ghost use Rattle.gcd_pool.specs.Turns.{AfterTurn, IsLaidDown, LaysFoundDown, SaysOut};
 ghost use Rattle.gcd_pool.specs.Works.{AddsWork};
 
 use crate::finding::find_drain;
@@ -93,9 +95,14 @@ fn begins_run<S: Slot>(board: &RowBoard<S>, pass: &mut RowPass<S>, drain: &Drain
     ensures pass { IsPassOf S.shape S.gives board.now pass.new }
     ensures view { GoesOn (view pass.old) (view pass.new) }
     ensures work { AddsWork (view pass.old) (view pass.new) }
+    ensures placed { MatchBool result (HasPlaced e (view pass.old) (view pass.new)) (HasPlacedNone (view pass.old) (view pass.new)) }
     ensures fresh { IsFresh S.shape (view pass.new) (slots pass.new) }
 {
-    matches!(put_begin(board, pass, drain, e), Put::Placed(_))
+    match put_begin(board, pass, drain, e) {
+        Put::Placed(_) => true,
+        Put::Barred { .. } => false,
+        Put::Full => false,
+    }
 }
 
 // Whether others may begin a run on the node: the team has another hand, and it is a concurrent queue on which a block waits.
@@ -124,6 +131,7 @@ fn begin_with<S: Slot>(pool: &Pool<S>, hand: &mut Hand<S>, drain: Drain, e: Even
     requires work { is_work e ≡ true }
     ensures serving { Serving S.shape S.gives pool.now hand.old hand.new }
     ensures work { AddsWork (view hand.old.pass) (view hand.new.pass) }
+    ensures begun { (node : Obj) → SaysBegun node result (view hand.old.pass) (view hand.new.pass) }
     ensures after { AfterTurn S.shape result (view hand.new.pass) (slots hand.new.pass) }
     ensures laid { IsLaidDown hand.old.bench drain hand.new.bench }
 {
@@ -144,6 +152,7 @@ fn begin_any<S: Slot>(pool: &Pool<S>, hand: &mut Hand<S>, drain: Drain) -> Turn
     requires drain { IsRackDrain pool.now.rack.now drain }
     ensures serving { Serving S.shape S.gives pool.now hand.old hand.new }
     ensures work { AddsWork (view hand.old.pass) (view hand.new.pass) }
+    ensures begun { (node : Obj) → SaysBegun node result (view hand.old.pass) (view hand.new.pass) }
     ensures after { AfterTurn S.shape result (view hand.new.pass) (slots hand.new.pass) }
     ensures laid { IsLaidDown hand.old.bench drain hand.new.bench }
 {
@@ -173,7 +182,9 @@ pub fn begin_near<S: RunCells, R: Wait>(
     requires node { IsTrue (is_node (view hand.old.pass).terms.plan node.0) }
     ensures serving { Serving S.shape S.gives pool.now hand.old hand.new }
     ensures work { AddsWork (view hand.old.pass) (view hand.new.pass) }
+    ensures begun { SaysBegun node result (view hand.old.pass) (view hand.new.pass) }
     ensures after { AfterTurn S.shape result (view hand.new.pass) (slots hand.new.pass) }
+    ensures out { SaysOut result hand.old.bench hand.new.bench }
     ensures laid { LaysFoundDown hand.old.bench hand.new.bench result }
 {
     match find_drain(rt, pool.rack, &mut hand.bench, node) {
@@ -199,7 +210,9 @@ pub fn begin_chosen<S: RunCells, R: Wait>(
     requires work { is_work e ≡ true }
     ensures serving { Serving S.shape S.gives pool.now hand.old hand.new }
     ensures work { AddsWork (view hand.old.pass) (view hand.new.pass) }
+    ensures begun { SaysBegun node result (view hand.old.pass) (view hand.new.pass) }
     ensures after { AfterTurn S.shape result (view hand.new.pass) (slots hand.new.pass) }
+    ensures out { SaysOut result hand.old.bench hand.new.bench }
     ensures laid { LaysFoundDown hand.old.bench hand.new.bench result }
 {
     match pool.rack.wake(&mut hand.bench, node) {

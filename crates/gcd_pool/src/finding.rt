@@ -1,8 +1,9 @@
 // Where a worker finds a Drain.
-ghost use Rattle.std.specs.Prelude.{◌≡◌, ◌≢◌, ◌<◌, ◌≤◌, IfSome, IsTrue};
+ghost use Rattle.std.specs.Prelude.{◌≡◌, ◌≢◌, ◌<◌, ◌≤◌, IfNone, IfSome, IsTrue};
 ghost use Rattle.gcd_plan.specs.Kinds.{is_node};
 ghost use Rattle.gcd_plan.specs.Limits.{max_workers};
-ghost use Rattle.gcd_steal.specs.Racks.{IsBenchOf, IsRackDrain, number_of, own_account, plan_of};
+ghost use Rattle.gcd_steal.specs.Places.{Misses};
+ghost use Rattle.gcd_steal.specs.Racks.{IsBenchOf, IsRackDrain, number_of, own_account, plan_of, sight_of};
 
 use gcd_plan::Obj;
 use gcd_steal::{Bench, Drain, Rack};
@@ -28,6 +29,7 @@ fn steal_round<R: Wait>(rt: &R, rack: &Rack, bench: &mut Bench) -> Option<Drain>
     requires { IsBenchOf rack.now bench.old }
     ensures bench { IsBenchOf rack.now bench.new }
     ensures number { number_of bench.new ≡ number_of bench.old }
+    ensures sight { sight_of bench.new ≡ sight_of bench.old }
     ensures sent { (own_account bench.new).sent ≡ (own_account bench.old).sent }
     ensures drain { IfSome result (λ d. IsRackDrain rack.now d) }
 {
@@ -51,6 +53,7 @@ pub fn find_drain<R: Wait>(rt: &R, rack: &Rack, bench: &mut Bench, node: Obj) ->
     ensures number { number_of bench.new ≡ number_of bench.old }
     ensures sent { (own_account bench.new).sent ≡ (own_account bench.old).sent }
     ensures drain { IfSome result (λ d. IsRackDrain rack.now d) }
+    ensures out { IfNone result (Misses node.0 (sight_of bench.old) (sight_of bench.new)) }
 {
     if let Some(drain) = rack.pop(bench) {
         return Some(drain);

@@ -108,13 +108,13 @@ fn lead_any<S: RunCells, R: Wait>(rt: &R, pool: &Pool<S>, hand: &mut Hand<S>, e:
 impl<'a, S: RunCells> Recorder<Pool<'a, S>> for Hand<S> {
     type Fault = Infallible;
 
-    ghost use Rattle.gcd_row.specs.Passes.{view};
+    ghost use Rattle.gcd_row.specs.Passes.{machine_of, view};
     ghost use Rattle.gcd_pool.specs.Hands.{IsHandOf};
     ghost use Rattle.gcd_pool.specs.Leads.{IsHead, Leads, head_left, head_sight};
 
     ghost seen = { λ hand. (view hand.pass).seen };
 
-    ghost sight = { λ hand. hand.pass.machine };
+    ghost sight = { λ hand. machine_of hand.pass };
 
     ghost ready = { λ most plan pool hand. IsHead S.shape S.gives most plan pool hand };
 
@@ -131,7 +131,7 @@ impl<'a, S: RunCells> Recorder<Pool<'a, S>> for Hand<S> {
 
     #[inline(always)]
     fn machine(&self) -> &Machine
-        ensures { result.now ≡ self.now.pass.machine }
+        ensures { result.now ≡ machine_of self.now.pass }
     {
         self.pass.machine()
     }

@@ -27,6 +27,9 @@
 //! | [`duty_of`] | the worker's choice (`choice_of` of `gcd_history`), and to leave exactly where the run has ended |
 //! | [`begin`] | as [`gcd_row::RowBoard::put`]; it asks for the Drain of the event's node |
 //! | [`begin_near`], [`take_turn`] | the hand is still one of the pool; what it adds is work of its worker; a Drain that was found is laid down, asleep or at the back of the bench's deque (`LaysDown`) |
+//! | [`take_turn`], [`free_turn`] | of the worker's own events exactly one is new where the answer is `Placed` or `Ended`, with which no run or one ends, and else none (`SaysPlaced` of `specs/Placing`); where it is `Rested` the run goes on and no event of the worker is permitted (`SaysRested`); where it is `Out` the call wrote to the place of that node's Drain, which did not sleep there (`SaysOut`) |
+//! | [`begin_near`] | it answers `Placed`, with an event that begins a run, `Waited` or `Out`, of the node that was asked for (`SaysBegun`, `SaysOut`) |
+//! | [`record_own`] | it answers `Placed` or `Ended` where this event is the one that is new; `Left` where the run has ended, and `Waited` where the event is not permitted any more, and none is new (`SaysRecorded`) |
 //! | [`Shared::serve`] of a [`Pool`] | the hand is still one of the pool, of the same worker and bench (`Serving` of `specs/Hands`), and has seen that the run has ended (`Served`) |
 //! | [`Leader::lead`] of [`Worker0`] | the same; and where its poller watches feeds of active sources alone, what poller and clock said stands in what it has seen since, whatever stood in the row before (`Led` of `specs/Leads`, by `IsRunOn` of `gcd_loop`) |
 //! | [`run_in_threads`] | helpers serve in threads while worker 0 leads; what each did, place by place |
@@ -37,8 +40,9 @@
 //! # What it does not say
 //!
 //! That a helper ever places an event, that it has a thread of its own, or that it returns: each turn promises what it leaves, and
-//! serving ends only where the run has. That [`begin_near`] and [`take_turn`] lay a Drain that they find down is a clause (`LaysDown` of
-//! `specs/Turns`); no clause follows a Drain from there.
+//! serving ends only where the run has. Nor why a [`take_turn`], [`free_turn`] or [`begin_near`] answers `Waited`, with which no event of
+//! the worker is new. That [`begin_near`] and [`take_turn`] lay a Drain that they find down is a clause (`LaysDown` of `specs/Turns`); no
+//! clause follows a Drain from there.
 #![tactic(auto)]
 
 mod drains;

@@ -9,6 +9,7 @@ ghost use Rattle.gcd_row.specs.Passes.{IsPassOf, Says, SaysSlots, slots, view};
 ghost use Rattle.gcd_row.specs.declared.board.RowBoard.{RowBoard};
 ghost use Rattle.gcd_row.specs.declared.pass.RowPass.{RowPass};
 ghost use Rattle.gcd_pool.specs.Hands.{GoesOn, IsFresh, IsReady, IsSettled, Serving};
+ghost use Rattle.gcd_pool.specs.Placing.{SaysRecorded};
 ghost use Rattle.gcd_pool.specs.Turns.{AfterTurn};
 ghost use Rattle.gcd_pool.specs.Works.{AddsOnly, AddsWork, WasEndPut};
 
@@ -49,6 +50,7 @@ fn retry_end<S: Slot, R: Wait>(rt: &R, board: &RowBoard<S>, pass: &mut RowPass<S
     ensures view { GoesOn (view pass.old) (view pass.new) }
     ensures work { AddsWork (view pass.old) (view pass.new) }
     ensures only { AddsOnly e (view pass.old) (view pass.new) }
+    ensures recorded { SaysRecorded e result (view pass.old) (view pass.new) }
     ensures after { AfterTurn S.shape result (view pass.new) (slots pass.new) }
 {
     for _ in rt.forever() {
@@ -71,6 +73,7 @@ fn put_end<S: Slot, R: Wait>(rt: &R, board: &RowBoard<S>, pass: &mut RowPass<S>,
     ensures view { GoesOn (view pass.old) (view pass.new) }
     ensures work { AddsWork (view pass.old) (view pass.new) }
     ensures only { AddsOnly e (view pass.old) (view pass.new) }
+    ensures recorded { SaysRecorded e result (view pass.old) (view pass.new) }
     ensures after { AfterTurn S.shape result (view pass.new) (slots pass.new) }
 {
     let said = board.put_chosen(pass, e);
@@ -98,6 +101,7 @@ fn end_block<S: RunCells, R: Wait>(
     ensures view { GoesOn (view pass.old) (view pass.new) }
     ensures work { AddsWork (view pass.old) (view pass.new) }
     ensures only { AddsOnly e (view pass.old) (view pass.new) }
+    ensures recorded { SaysRecorded e result (view pass.old) (view pass.new) }
     ensures after { AfterTurn S.shape result (view pass.new) (slots pass.new) }
 {
     S::run_body(board, pass, b);
@@ -121,6 +125,7 @@ fn end_source<S: RunCells, R: Wait>(
     ensures view { GoesOn (view pass.old) (view pass.new) }
     ensures work { AddsWork (view pass.old) (view pass.new) }
     ensures only { AddsOnly e (view pass.old) (view pass.new) }
+    ensures recorded { SaysRecorded e result (view pass.old) (view pass.new) }
     ensures after { AfterTurn S.shape result (view pass.new) (slots pass.new) }
 {
     S::call_handler(board, pass, s);
@@ -141,6 +146,7 @@ fn go_on<S: Slot>(board: &RowBoard<S>, pass: &mut RowPass<S>, e: Event) -> Turn
     ensures view { GoesOn (view pass.old) (view pass.new) }
     ensures work { AddsWork (view pass.old) (view pass.new) }
     ensures only { AddsOnly e (view pass.old) (view pass.new) }
+    ensures recorded { SaysRecorded e result (view pass.old) (view pass.new) }
     ensures after { AfterTurn S.shape result (view pass.new) (slots pass.new) }
 {
     match board.put_chosen(pass, e) {
@@ -170,6 +176,7 @@ pub fn record_own<S: RunCells, R: Wait>(
     ensures work { AddsWork (view hand.old.pass) (view hand.new.pass) }
     ensures only { AddsOnly e (view hand.old.pass) (view hand.new.pass) }
     ensures bench { hand.new.bench ≡ hand.old.bench }
+    ensures recorded { SaysRecorded e result (view hand.old.pass) (view hand.new.pass) }
     ensures after { AfterTurn S.shape result (view hand.new.pass) (slots hand.new.pass) }
 {
     match e.ended() {

@@ -5,7 +5,7 @@ ghost use Rattle.gcd_history.specs.Ends.{HasEnded};
 ghost use Rattle.gcd_machine.specs.Stands.{StandsFor};
 ghost use Rattle.gcd_plan.specs.Limits.{max_events};
 ghost use Rattle.gcd_plan.specs.PlanView.{PlanView};
-ghost use Rattle.gcd_row.specs.Passes.{view};
+ghost use Rattle.gcd_row.specs.Passes.{view, machine_of};
 ghost use Rattle.gcd_row.specs.Shapes.{shape_of, gives_of};
 ghost use Rattle.gcd_row.specs.declared.cell.Cell.{Cell};
 ghost use Rattle.gcd_pool.specs.declared.hand.Hand.{Hand};
@@ -27,7 +27,7 @@ use std::thread::Threads;
 // How the run has ended that the first of these hands has seen to end.
 fn exit_of_first<S>(hands: &Vec<Hand<S>>) -> Exit
     requires { 0 < length hands.now.items }
-    ensures { (d : Hand S) (most : ℕ) (plan : PlanView) (h : List Event) → StandsFor (slice_index_or hands.now.items 0 d).pass.machine plan h → HasEnded most plan h
+    ensures { (d : Hand S) (most : ℕ) (plan : PlanView) (h : List Event) → StandsFor (machine_of (slice_index_or hands.now.items 0 d).pass) plan h → HasEnded most plan h
         → HasExit most plan h result }
 {
     exit_of(hands[0].pass.machine())

@@ -1,7 +1,9 @@
 // The turns of a helper.
+ghost use Rattle.std.specs.Prelude.{◌≡◌};
 ghost use Rattle.gcd_row.specs.Passes.{slots, view};
 ghost use Rattle.gcd_pool.specs.Hands.{IsFresh, IsReady, Served, Serving};
-ghost use Rattle.gcd_pool.specs.Turns.{AfterTurn};
+ghost use Rattle.gcd_pool.specs.Placing.{HasPlacedNone, SaysPlaced, SaysRested};
+ghost use Rattle.gcd_pool.specs.Turns.{AfterTurn, SaysOut};
 
 use crate::hand::{Hand, Pool};
 use crate::idle::Idle;
@@ -95,6 +97,8 @@ fn linger() {
 fn are_quick<S: RunCells>(pool: &Pool<S>, hand: &mut Hand<S>, seen: u32) -> bool
     requires { IsReady S.shape S.gives pool.now hand.old }
     ensures serving { Serving S.shape S.gives pool.now hand.old hand.new }
+    ensures none { HasPlacedNone (view hand.old.pass) (view hand.new.pass) }
+    ensures bench { hand.new.bench ≡ hand.old.bench }
     ensures fresh { IsFresh S.shape (view hand.new.pass) (slots hand.new.pass) }
 {
     linger();
@@ -115,6 +119,9 @@ pub fn free_turn<S: RunCells, R: Wait>(
 ) -> Turn
     requires { IsReady S.shape S.gives pool.now hand.old }
     ensures serving { Serving S.shape S.gives pool.now hand.old hand.new }
+    ensures placed { SaysPlaced result (view hand.old.pass) (view hand.new.pass) }
+    ensures rested { SaysRested result (view hand.new.pass) }
+    ensures out { SaysOut result hand.old.bench hand.new.bench }
     ensures after { AfterTurn S.shape result (view hand.new.pass) (slots hand.new.pass) }
 {
     if are_quick(pool, hand, seen) {

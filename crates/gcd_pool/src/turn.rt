@@ -2,7 +2,8 @@
 ghost use Rattle.std.specs.Prelude.{◌≡◌};
 ghost use Rattle.gcd_row.specs.Passes.{slots, view};
 ghost use Rattle.gcd_pool.specs.Hands.{IsReady, Serving};
-ghost use Rattle.gcd_pool.specs.Turns.{AfterTurn, LaysDown};
+ghost use Rattle.gcd_pool.specs.Placing.{SaysPlaced, SaysRested};
+ghost use Rattle.gcd_pool.specs.Turns.{AfterTurn, LaysDown, SaysOut};
 ghost use Rattle.gcd_pool.specs.Works.{AddsWork};
 
 use crate::drains::begin_chosen;
@@ -18,15 +19,15 @@ use std::sync::Wait;
 pub enum Turn {
     /// The run has ended, and the worker has left.
     Left,
-    /// An event was placed.
+    /// One event of the worker was placed, which ends no run.
     Placed,
-    /// An event was placed with which the worker's run has ended.
+    /// One event of the worker was placed, with which its run has ended.
     Ended,
-    /// None was placed, and the Drain of this node is out.
+    /// None was placed, and the Drain of this node is out: it did not sleep at a moment of the call.
     Out(Obj),
     /// None was placed.
     Waited,
-    /// There is nothing to place, though the run goes on.
+    /// None was placed: no event of the worker is permitted, though the run goes on.
     Rested,
 }
 
@@ -44,7 +45,10 @@ pub fn take_turn<S: RunCells, R: Wait>(
     requires { IsReady S.shape S.gives pool.now hand.old }
     ensures serving { Serving S.shape S.gives pool.now hand.old hand.new }
     ensures work { AddsWork (view hand.old.pass) (view hand.new.pass) }
+    ensures placed { SaysPlaced result (view hand.old.pass) (view hand.new.pass) }
+    ensures rested { SaysRested result (view hand.new.pass) }
     ensures after { AfterTurn S.shape result (view hand.new.pass) (slots hand.new.pass) }
+    ensures out { SaysOut result hand.old.bench hand.new.bench }
     ensures laid { LaysDown hand.old.bench hand.new.bench result }
 {
     let most = pool.board.most();

@@ -14,7 +14,6 @@ use Rattle.gcd_event.specs.declared.event.Event.{Event}
 use Rattle.gcd_event.specs.declared.event.Event.TheVariants.{Deliver}
 use Rattle.gcd_history.specs.Choice.{worker_of}
 use Rattle.gcd_history.specs.Runs.{ends}
-use Rattle.gcd_history.specs.Sources.{joined}
 use Rattle.gcd_history.specs.History.{why, IsLawful, is_ended, delivery_count_of, received_of}
 use Rattle.gcd_team.specs.Held.{is_of, taken, given}
 use Rattle.gcd_team.specs.Team.{of_worker, held_by, StartsWith}
@@ -27,6 +26,7 @@ use Rattle.gcd_row.specs.Shapes.{Shape, body, done, handler, away}
 use Rattle.gcd_row.specs.Lying.{slot_of, source_shape, IsUntaken, IsServed, BodyLies, Lies, BodyHeld, HandlerHeld, MayHold, HasSlot, HasSlots, IsReadyBody, GivesBack}
 use Rattle.gcd_row.specs.Plays.{Turned}
 use Rattle.gcd_row.specs.declared.view.Terms.{Terms}
+use Rattle.gcd_row.proofs.Totals.{earlier_now, earlier_waits}
 use Rattle.gcd_row.proofs.Running.{known_run, taken_known, given_known, given_not_taken, taken_source, source_slot, none_some}
 
 abbrev pub head_of : {S : Type 0} → ℕ → S → List (ℕ × S) → ℕ × S
@@ -64,7 +64,7 @@ handler_waits plan h later s (handler kind times total) w x = (
   x.0,
   ⊎_elim
       (λ (u : IsUntaken plan h s times total).
-      inl (record { once_fewer = u.once_fewer ∙ sym w.times; without_data = ap (λ (d : ℕ). joined plan s total d) w.value ∙ u.without_data ∙ sym w.received }))
+      inl (record { once_fewer = u.once_fewer ∙ sym w.times; all_earlier = u.all_earlier ∙ sym (earlier_waits plan h later s w) }))
       (λ (u : IsServed plan h s times total). inr (record { all_times = u.all_times ∙ sym w.times; all_data = u.all_data ∙ sym w.received }))
       x.1,
 )
@@ -128,7 +128,7 @@ module _ {S : Type 0} (shape : S → Shape) (gives : S → ℕ → Type 0) (t : 
       let it = handler_of_source t.plan h s.0 (taken_known t.plan h e (Source s) is may) in
       let over = deliver_hands_over t.plan h d.0 s in
       let G : Event → Type 0 = λ x. HandlerHeld t.plan (h ++ x ∷ []) s.0 (shape y) in
-      subst G (sym d.1) (subst (HandlerHeld t.plan (h ++ Deliver d.0 s ∷ []) s.0) (sym (lies ∙ it.2)) (it.1, inl (record { once_fewer = sym over.times; without_data = sym over.total })))
+      subst G (sym d.1) (subst (HandlerHeld t.plan (h ++ Deliver d.0 s ∷ []) s.0) (sym (lies ∙ it.2)) (it.1, inl (record { once_fewer = sym over.times; all_earlier = sym (earlier_now t.plan h d.0 s) })))
 
   -- a holder has one slot at most
   pub rest_none : (h : List Event) (o : Option Run) (c : List (ℕ × S)) → HasSlots shape gives t h o c → rest c ≡ []

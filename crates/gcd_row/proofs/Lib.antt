@@ -1,6 +1,8 @@
 pub mod Fronts
 pub mod RowWords
 pub mod Seen
+pub mod Totals
+mod RowsOfTotals
 pub mod Running
 pub mod Holding
 pub mod Landing

@@ -2,6 +2,7 @@ pub use Rattle.gcd_plan.specs.PlanView
 pub use Rattle.gcd_history.specs.History
 pub use Rattle.gcd_team.specs.Team
 pub mod Shapes
+pub mod Totals
 pub mod Lying
 pub mod Views
 pub mod Opening

@@ -8,10 +8,10 @@ use Rattle.gcd_plan.specs.declared.numbers.Run.{Run}
 use Rattle.gcd_plan.specs.declared.numbers.Run.TheVariants.{Block, Source}
 use Rattle.gcd_event.specs.declared.event.Event.{Event}
 use Rattle.gcd_history.specs.Runs.{ends}
-use Rattle.gcd_history.specs.Sources.{joined}
-use Rattle.gcd_history.specs.History.{is_ended, delivery_count_of, received_of, last_data_of}
+use Rattle.gcd_history.specs.History.{is_ended, delivery_count_of, received_of}
 use Rattle.gcd_team.specs.Held.{given}
 use Rattle.gcd_row.specs.Shapes.{Shape, body, done, handler, away}
+use Rattle.gcd_row.specs.Totals.{received_earlier}
 use Rattle.gcd_row.specs.declared.view.Terms.{Terms}
 
 -- how many slots a board has: one for each block, and behind these one for each object
@@ -29,10 +29,11 @@ unfoldable pub source_shape : PlanView → List Event → ℕ → Shape
 source_shape plan h s =
     option_map_or (λ kind. if is_source_kind kind then handler kind (delivery_count_of h s) (received_of plan h s) else away) (kind_of plan s) away
 
--- the handler as it was before the last Deliver of source s
+-- the handler as it was before the last Deliver of source s: it took each one before that, and its total is what these handed
+-- over, in one
 pub record IsUntaken (plan : PlanView) (h : List Event) (s times total : ℕ) : Type 0 where
   pub once_fewer : times + 1 ≡ delivery_count_of h s
-  pub without_data : joined plan s total (last_data_of plan h s) ≡ received_of plan h s
+  pub all_earlier : total ≡ received_earlier plan h s
 
 -- the handler with all Delivers of source s
 pub record IsServed (plan : PlanView) (h : List Event) (s times total : ℕ) : Type 0 where

@@ -8,6 +8,7 @@ use Rattle.gcd_plan.specs.declared.numbers.Run.{Run}
 use Rattle.gcd_event.specs.declared.event.Event.{Event}
 use Rattle.gcd_history.specs.Choice.{worker_of}
 use Rattle.gcd_history.specs.History.{why}
+use Rattle.gcd_refinement.specs.MachineView.{MachineView}
 use Rattle.gcd_machine.specs.Stands.{StandsFor}
 use Rattle.gcd_team.specs.Team.{of_worker, StartsWith}
 use Rattle.gcd_team.specs.TeamFacts.{IsNobodys}
@@ -27,6 +28,13 @@ module _ {S : Type 0} where
   abbrev pub view : RowPass S → View S
   view p = p.seat.me.0
 
+  -- its machine, and the number of its worker
+  abbrev pub machine_of : RowPass S → MachineView
+  machine_of p = p.machine
+
+  abbrev pub worker_number : RowPass S → ℕ
+  worker_number p = p.number
+
   -- the slots that it has, each with its cell
   abbrev pub slots : RowPass S → List (ℕ × S)
   slots p = p.seat.me.1
@@ -41,10 +49,10 @@ module _ {S : Type 0} where
     pub table : p.seat.table_id ≡ b.table.shared.table_id
     pub terms : (view p).terms ≡ terms_of b
     pub unspent : (view p).spent ≡ false
-    pub number : p.number ≡ (view p).worker
+    pub number : worker_number p ≡ (view p).worker
     pub few : length (view p).seen ≤ max_events
     pub has : HasSlots shape gives (view p).terms (view p).seen (held_run (view p)) (slots p)
-    pub stands : StandsFor p.machine (view p).terms.plan (view p).seen
+    pub stands : StandsFor (machine_of p) (view p).terms.plan (view p).seen
 
   -- it has seen no less, and nothing more of its own
   pub record Ahead (v : View S) (h : List Event) : Type 0 where

@@ -45,7 +45,13 @@
 //! Over `atomic_table`, whose steps may assume the rule and have to keep it. `specs/Plays` says what each step tells; of each there
 //! is one lemma that it keeps the rule (`proofs/Keeping`), over lemmas on one part of the rule each: words (`RowWords`), views
 //! (`Seen`, `Parting`), slots (`Holding`, `Landing`). That `look` sees the row as it is at a moment of the call is said by what a
-//! pass was *told*: a beginning of the history that another has seen, which is then in what it sees.
+//! pass was *told*: a beginning of the history that another has seen, which is then in what it sees. A helper is told of no other
+//! before its join, and for it this rests on the form of `load_word` and `exchange_word` (`src/words.rt`), by which alone `look`
+//! and `put` read a word of the row: they are proved over every rule of a table and every kind of step, and say what that kind says
+//! of the word and of the number found there, so that number can only come from a step on that word in the call.
+//!
+//! The fields of [`RowBoard`] and [`RowPass`] are the crate's own. Clauses, definitions and proofs of other crates name `terms_of`
+//! of a board, and `view`, `slots`, `machine_of` and `worker_number` of a pass (`specs/Passes`).
 //!
 //! # What it does not say
 //!
@@ -65,6 +71,7 @@ mod put;
 mod shares;
 mod steps;
 mod view;
+mod words;
 
 pub use board::{Board, RowBoard, RowTable};
 pub use cell::{Cell, Slot};

@@ -36,16 +36,18 @@ impl<S> Drop for RowPass<S> {
 pub type Pass<J, H> = RowPass<Cell<J, H>>;
 
 impl<S> RowPass<S> {
+    ghost use Rattle.gcd_row.specs.Passes.{machine_of, worker_number};
+
     /// The machine, which stands for what the pass has seen.
     pub fn machine(&self) -> &Machine
-        ensures { result.now ≡ self.now.machine }
+        ensures { result.now ≡ machine_of self.now }
     {
         &self.machine
     }
 
     /// The number of its worker, 0 to 63.
     pub fn worker(&self) -> u8
-        ensures { result ≡ self.now.number }
+        ensures { result ≡ worker_number self.now }
     {
         self.number
     }

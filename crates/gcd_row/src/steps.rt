@@ -12,8 +12,9 @@ ghost use Rattle.gcd_row.specs.Views.{saw};
 
 use crate::board::RowBoard;
 use crate::cell::Slot;
-use crate::plays::{End, Look, Try};
-use crate::view::View;
+use crate::plays::{End, Lawful, Look, Try};
+use crate::view::{Copies, View};
+use crate::words::{exchange_word, load_word};
 use atomic_table::Seat;
 use gcd_event::{Event, of_word, to_word};
 
@@ -40,7 +41,11 @@ impl<S: Slot> RowBoard<S> {
         ensures board { (seat.new.table_id ≡ seat.old.table_id) × (seat.new.me.1 ≡ seat.old.me.1) }
         ensures view { MatchOption result (EndsHere seat.old.me.0 seat.new.me.0) (λ e. SeesMore seat.old.me.0 e seat.new.me.0) }
     {
-        let word = self.table.shared.load::<Look>(seat, n as usize + 1);
+        let word = load_word::<S, View<S>, Copies<S>, Lawful, Look>(
+            &self.table.shared,
+            seat,
+            n as usize + 1,
+        );
         event_of(word)
     }
 
@@ -58,10 +63,13 @@ impl<S: Slot> RowBoard<S> {
         ensures slot { IfSome result (λ _. seat.new.me.1 ≡ seat.old.me.1) }
     {
         let word = to_word(e);
-        let found = self
-            .table
-            .shared
-            .compare_exchange::<Try>(seat, n as usize + 1, 0, word);
+        let found = exchange_word::<S, View<S>, Copies<S>, Lawful, Try>(
+            &self.table.shared,
+            seat,
+            n as usize + 1,
+            0,
+            word,
+        );
         event_of(found)
     }
 
@@ -73,6 +81,6 @@ impl<S: Slot> RowBoard<S> {
         ensures board { (seat.new.table_id ≡ seat.old.table_id) × (seat.new.me ≡ seat.old.me) }
         ensures ends { EndsHere seat.old.me.0 seat.new.me.0 }
     {
-        self.table.shared.load::<End>(seat, 0);
+        load_word::<S, View<S>, Copies<S>, Lawful, End>(&self.table.shared, seat, 0);
     }
 }

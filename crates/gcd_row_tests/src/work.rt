@@ -6,7 +6,7 @@ ghost use Rattle.gcd_machine.specs.Stands.{StandsFor};
 ghost use Rattle.gcd_plan.specs.PlanView.{PlanView};
 ghost use Rattle.gcd_plan.specs.declared.numbers.Run.TheVariants.{Block};
 ghost use Rattle.gcd_row.specs.Opening.{AreFirst, AreHandlersOf, tallies_for};
-ghost use Rattle.gcd_row.specs.Passes.{IsPassOf, HasSameNumbers, slots, terms_of, view};
+ghost use Rattle.gcd_row.specs.Passes.{IsPassOf, HasSameNumbers, slots, terms_of, view, machine_of};
 ghost use Rattle.gcd_row.specs.Shapes.{shape_of, gives_of};
 ghost use Rattle.gcd_row.specs.Views.{held_run};
 ghost use Rattle.gcd_row.specs.declared.cell.Cell.TheVariants.{Body, Done};
@@ -83,7 +83,7 @@ pub fn begin<J: Job + Drop, H: Handler + Drop>(
 
 // Whether the event is an act that parks its block, as the machine of the pass tells.
 fn parks<J: Job + Drop, H: Handler + Drop>(pass: &Pass<J, H>, event: Event) -> bool
-    ensures { (plan : PlanView) (h : List Event) → StandsFor pass.now.machine plan h → result ≡ parks plan event }
+    ensures { (plan : PlanView) (h : List Event) → StandsFor (machine_of pass.now) plan h → result ≡ parks plan event }
 {
     pass.machine().parks(event)
 }

@@ -20,7 +20,7 @@ use Rattle.gcd_loop.specs.Followed.{FollowsChoice, IsOfWorkers}
 use Rattle.gcd_loop.specs.Going.{IsRunOn}
 use Rattle.gcd_loop.specs.Ran.{RunsPlan}
 use Rattle.gcd_loop.specs.Recorded.{IsSight}
-use Rattle.gcd_row.specs.Passes.{IsPassOf, terms_of, view}
+use Rattle.gcd_row.specs.Passes.{IsPassOf, terms_of, view, machine_of}
 use Rattle.gcd_row.specs.Shapes.{Shape}
 use Rattle.gcd_row.specs.declared.board.RowBoard.{RowBoard}
 use Rattle.gcd_row.specs.declared.pass.RowPass.{RowPass}
@@ -40,11 +40,11 @@ all_of_first (e ∷ h) by =
 
 module _ {S : Type 0} (shape : S → Shape) (gives : S → ℕ → Type 0) where
   -- a pass's machine stands for what the pass has seen
-  pass_sight : (b : RowBoard S) (p : RowPass S) → IsPassOf shape gives b p → IsSight max_events (terms_of b).plan (view p).seen p.machine
+  pass_sight : (b : RowBoard S) (p : RowPass S) → IsPassOf shape gives b p → IsSight max_events (terms_of b).plan (view p).seen (machine_of p)
   pass_sight b p pass =
       let plan_is : (view p).terms.plan ≡ (terms_of b).plan = ap (λ (t : Terms S). t.plan) pass.terms in
-      let stands : StandsFor p.machine (terms_of b).plan (view p).seen = subst (λ (q : PlanView). StandsFor p.machine q (view p).seen) plan_is pass.stands in
-      record { own = plan_stands p.machine (terms_of b).plan (view p).seen stands; stands = stands; few = pass.few }
+      let stands : StandsFor (machine_of p) (terms_of b).plan (view p).seen = subst (λ (q : PlanView). StandsFor (machine_of p) q (view p).seen) plan_is pass.stands in
+      record { own = plan_stands (machine_of p) (terms_of b).plan (view p).seen stands; stands = stands; few = pass.few }
 
   -- worker 0's pass, which knows all that came since the board was new, shows what the run promises
   pub team_ran : (b : RowBoard S) (n : ℕ) (old last : View S) (p : RowPass S) (poller : Seen PollerState) (clock : Seen ClockState)
@@ -56,7 +56,7 @@ module _ {S : Type 0} (shape : S → Shape) (gives : S → ℕ → Type 0) where
       let from_none : IsRunOn max_events old.terms.plan [] last.seen poller clock = subst (λ (h : List Event). IsRunOn max_events old.terms.plan h last.seen poller clock) none on in
       let to_seen : IsRunOn max_events old.terms.plan [] (view p).seen poller clock = subst (λ (k : List Event). IsRunOn max_events old.terms.plan [] k poller clock) (sym same) from_none in
       let whole : IsRunOn max_events (terms_of b).plan [] (view p).seen poller clock = subst (λ (q : PlanView). IsRunOn max_events q [] (view p).seen poller clock) plan_is to_seen in
-      runs_plan max_events (terms_of b).plan n (view p).seen p.machine poller clock (pass_sight b p pass) led.by
+      runs_plan max_events (terms_of b).plan n (view p).seen (machine_of p) poller clock (pass_sight b p pass) led.by
       (λ (one : n ≡ 1).
       let by : IsOfWorkers 1 last.seen = subst (IsOfWorkers 1) same (subst (λ (m : ℕ). IsOfWorkers m (view p).seen) one led.by) in
       let first : FollowsChoice old.terms.plan old.seen = subst (FollowsChoice old.terms.plan) (sym none) (follows_none old.terms.plan) in

@@ -7,7 +7,7 @@ use Rattle.gcd_plan.specs.Limits.{max_events}
 use Rattle.gcd_history.specs.Ends.{HasEnded}
 use Rattle.gcd_team.specs.Team.{of_worker}
 use Rattle.gcd_team.proofs.Own.{ended_histories_are_whole}
-use Rattle.gcd_row.specs.Passes.{Ahead, IsPassOf, terms_of, view}
+use Rattle.gcd_row.specs.Passes.{Ahead, IsPassOf, terms_of, view, machine_of}
 use Rattle.gcd_row.specs.Shapes.{Shape}
 use Rattle.gcd_row.specs.declared.board.RowBoard.{RowBoard}
 use Rattle.gcd_row.specs.declared.pass.RowPass.{RowPass}
@@ -17,7 +17,7 @@ use Rattle.gcd_row.specs.declared.view.View.{View}
 module _ {S : Type 0} (shape : S → Shape) (gives : S → ℕ → Type 0) where
   pub lawful_pass : (b : RowBoard S) (p : RowPass S) → IsPassOf shape gives b p → IsLawful (terms_of b).plan (view p).seen
   lawful_pass b p pass =
-      subst (λ (t : Terms S). IsLawful t.plan (view p).seen) pass.terms (lawful_stands p.machine (view p).terms.plan (view p).seen pass.stands)
+      subst (λ (t : Terms S). IsLawful t.plan (view p).seen) pass.terms (lawful_stands (machine_of p) (view p).terms.plan (view p).seen pass.stands)
 
   pub seen_whole : (b : RowBoard S) (v : View S) (p : RowPass S) → IsPassOf shape gives b p → v.worker ≡ 0
       → HasEnded max_events (terms_of b).plan v.seen → Ahead v (view p).seen → (view p).seen ≡ v.seen

@@ -1,4 +1,6 @@
-use Rattle.std.proofs.Common.{◌<◌, ℕ, Some, ap, length, sym, subst, ◌∙◌}
+use Rattle.std.proofs.Common.{◌<◌, ℕ, Some, ap, length, refl, sym, subst, ◌∙◌}
+use Rattle.gcd_row.specs.Passes.{view}
+use Rattle.gcd_pool.proofs.Placing.{begins_none}
 use Rattle.gcd_plan.specs.PlanView.{PlanView}
 use Rattle.gcd_plan.specs.declared.numbers.Obj.{Obj}
 use Rattle.gcd_refinement.specs.MachineView.{MachineView}
@@ -33,3 +35,6 @@ begin_on-requires g c =
     (of.rack ∙ sym (ap (λ (m : MachineView). m.plan) c.machine.ensures ∙ machine_plan g.S.Slot.shape g.S.Slot.gives c.args.pool.now.board.now c.args.hand.now.pass of.pass))
     (subst (λ (n : ℕ). c.node.result.0 < n) rack.placed
     (subst (λ (o : Obj). o.0 < rack.places.shared.table_id.slots) (sym c.node.ensures) c.requires.drain.node))
+
+pub returns-in-None-clause-begun : goal.returns-in-None-clause-begun
+returns-in-None-clause-begun g c = λ node. begins_none node (view c.args.hand.now.pass) (view c.args.hand.now.pass) refl

@@ -1,4 +1,4 @@
-use Rattle.std.proofs.Common.{◌∙◌, ℕ, sym, subst, refl}
+use Rattle.std.proofs.Common.{ℕ, subst, refl}
 use Rattle.gcd_plan.specs.PlanView.{PlanView}
 use Rattle.gcd_history.specs.Ends.{HasEnded}
 use Rattle.gcd_loop.specs.Going.{IsRunOn}

@@ -1,5 +1,8 @@
 use Rattle.gcd_pool.proofs.Puts.{fresh_gives, says_fresh}
-use Rattle.gcd_row.specs.Passes.{view}
+use Rattle.std.proofs.Common.{subst}
+use Rattle.gcd_row.specs.Passes.{Says, view}
+use Rattle.gcd_row.specs.declared.put.Put.{Put}
+use Rattle.gcd_pool.proofs.Placing.{leaves_full, records, waits_barred}
 use Rattle.gcd_pool.proofs.Works.{says_adds, says_only}
 use Rattle.gcd_pool.proofs.own.go_on.Goals as goal
 
@@ -29,3 +32,24 @@ returns-in-Barred-clause-only g c = says_only c.args.e (view c.args.pass.now) (v
 
 pub returns-in-Full-clause-only : goal.returns-in-Full-clause-only
 returns-in-Full-clause-only g c = says_only c.args.e (view c.args.pass.now) (view c.put_chosen.new.pass) c.put_chosen.result c.put_chosen.ensures.view
+
+pub returns-in-Placed-clause-recorded : goal.returns-in-Placed-clause-recorded
+returns-in-Placed-clause-recorded g c =
+    let v = view c.args.pass.now in
+    let w = view c.put_chosen.new.pass in
+    let said = subst (λ (r : Put). Says c.args.e v w r) c.in-Placed.is c.put_chosen.ensures.view in
+    records c.args.e v w _ said c.requires.ends_none
+
+pub returns-in-Full-clause-recorded : goal.returns-in-Full-clause-recorded
+returns-in-Full-clause-recorded g c =
+    let v = view c.args.pass.now in
+    let w = view c.put_chosen.new.pass in
+    let said = subst (λ (r : Put). Says c.args.e v w r) c.in-Full.is c.put_chosen.ensures.view in
+    leaves_full c.args.e v w said
+
+pub returns-in-Barred-clause-recorded : goal.returns-in-Barred-clause-recorded
+returns-in-Barred-clause-recorded g c =
+    let v = view c.args.pass.now in
+    let w = view c.put_chosen.new.pass in
+    let said = subst (λ (r : Put). Says c.args.e v w r) c.in-Barred.is c.put_chosen.ensures.view in
+    waits_barred c.args.e v w _ _ said

@@ -2,6 +2,7 @@ use Rattle.std.proofs.Common.{ap, sym, ◌∙◌}
 use Rattle.gcd_row.specs.Passes.{slots, view}
 use Rattle.gcd_row.specs.declared.view.View.{View}
 use Rattle.gcd_pool.proofs.Puts.{goes_further, settled_gives}
+use Rattle.gcd_pool.proofs.Placing.{recorded_further}
 use Rattle.gcd_pool.proofs.Works.{adds_further, none_then}
 use Rattle.gcd_pool.proofs.own.put_end.Goals as goal
 
@@ -39,3 +40,11 @@ returns-in-None-clause-only g c =
     let came = c.in-None.ensures c.args.board.now c.args.pass.now c.args.e c.put_chosen-said.ensures.pass c.put_chosen-said.ensures.view c.put_chosen-said.ensures.slots c.requires.worker c.requires.settled in
     none_then c.args.e (view c.args.pass.now) (view c.put_chosen-said.new.pass) (view c.retry_end.new.pass) (ap (λ (x : View g.row.S.Denot). x.worker) came.goes.is)
     c.retry_end.ensures.view.more came.only c.retry_end.ensures.only
+
+pub returns-in-Some-clause-recorded : goal.returns-in-Some-clause-recorded
+returns-in-Some-clause-recorded g c = (c.in-Some.ensures c.args.board.now c.args.pass.now c.args.e c.put_chosen-said.ensures.pass c.put_chosen-said.ensures.view c.put_chosen-said.ensures.slots c.requires.worker c.requires.settled).recorded
+
+pub returns-in-None-clause-recorded : goal.returns-in-None-clause-recorded
+returns-in-None-clause-recorded g c =
+    let came = c.in-None.ensures c.args.board.now c.args.pass.now c.args.e c.put_chosen-said.ensures.pass c.put_chosen-said.ensures.view c.put_chosen-said.ensures.slots c.requires.worker c.requires.settled in
+    recorded_further c.args.e c.retry_end.result (view c.args.pass.now) (view c.put_chosen-said.new.pass) (view c.retry_end.new.pass) came.goes came.recorded c.retry_end.ensures.recorded

@@ -2,6 +2,7 @@ use Rattle.std.proofs.Common.{ap, sym, ◌∙◌}
 use Rattle.gcd_row.specs.Passes.{slots, view}
 use Rattle.gcd_row.specs.declared.view.View.{View}
 use Rattle.gcd_pool.proofs.Puts.{goes_further, settled_gives}
+use Rattle.gcd_pool.proofs.Placing.{quiet_further, recorded_further}
 use Rattle.gcd_pool.proofs.Works.{adds_further, none_further, none_then}
 use Rattle.gcd_pool.proofs.own.retry_end.Goals as goal
 
@@ -36,6 +37,12 @@ returns-in-Some-end_said-clause-after g c =
     (c.requires.worker ∙ sym (ap (λ (x : View g.row.S.Denot). x.worker) c.loop.invariant.goes.is)) c.loop.invariant.settled in
     came.says
 
+pub returns-in-Some-end_said-clause-recorded : goal.returns-in-Some-end_said-clause-recorded
+returns-in-Some-end_said-clause-recorded g c =
+    let came = c.in-Some-end_said.ensures c.args.board.now c.loop.pass c.args.e c.put-said.ensures.pass c.put-said.ensures.view c.put-said.ensures.slots
+    (c.requires.worker ∙ sym (ap (λ (x : View g.row.S.Denot). x.worker) c.loop.invariant.goes.is)) c.loop.invariant.settled in
+    recorded_further c.args.e _ (view c.args.pass.now) (view c.loop.pass) (view c.put-said.new.pass) c.loop.invariant.goes c.loop.invariant.quiet came.recorded
+
 pub loop-preserved : goal.loop-preserved
 loop-preserved g c =
     let came = c.in_default.ensures c.args.board.now c.loop.pass c.args.e c.put-said.ensures.pass c.put-said.ensures.view c.put-said.ensures.slots
@@ -46,5 +53,6 @@ loop-preserved g c =
       work = adds_further (view c.args.pass.now) (view c.loop.pass) (view c.put-said.new.pass) c.loop.invariant.work came.work;
       none = none_further (view c.args.pass.now) (view c.loop.pass) (view c.put-said.new.pass) (ap (λ (x : View g.row.S.Denot). x.worker) c.loop.invariant.goes.is)
           came.goes.more c.loop.invariant.none came.only;
+      quiet = quiet_further (view c.args.pass.now) (view c.loop.pass) (view c.put-said.new.pass) c.loop.invariant.goes c.loop.invariant.quiet came.recorded;
       settled = came.says;
     }

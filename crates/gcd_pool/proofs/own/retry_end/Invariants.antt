@@ -1,5 +1,6 @@
 use Rattle.gcd_row.specs.Passes.{IsPassOf, slots, view}
 use Rattle.gcd_pool.specs.Hands.{GoesOn, IsSettled}
+use Rattle.gcd_pool.specs.Placing.{HasPlacedNone}
 use Rattle.gcd_pool.specs.Works.{AddsNone, AddsWork}
 use Rattle.gcd_pool.proofs.own.retry_end.Given as goal
 
@@ -9,5 +10,6 @@ invariant-loop g l = record {
   goes : GoesOn (view l.initial.pass) (view l.pass);
   work : AddsWork (view l.initial.pass) (view l.pass);
   none : AddsNone (view l.initial.pass) (view l.pass);
+  quiet : HasPlacedNone (view l.initial.pass) (view l.pass);
   settled : IsSettled g.S.Slot.shape (view l.pass) l.e (slots l.pass);
 }

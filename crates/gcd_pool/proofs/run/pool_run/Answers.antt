@@ -1,4 +1,4 @@
-use Rattle.std.proofs.Common.{rules, sym, ◌∙◌, ◌≡◌, length}
+use Rattle.std.proofs.Common.{rules, sym, ◌≡◌, length}
 use Rattle.gcd_plan.specs.Limits.{max_events}
 use Rattle.gcd_row.specs.Shapes.{shape_of, gives_of}
 use Rattle.gcd_pool.proofs.Recording.{led_where}

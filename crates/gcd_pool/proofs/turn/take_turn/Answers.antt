@@ -1,4 +1,8 @@
-use Rattle.gcd_pool.proofs.Told.{to_begin, to_leave, to_record}
+use Rattle.gcd_pool.proofs.Laid.{leaves_out, recorded_out, rests_out}
+use Rattle.std.proofs.Common.{refl}
+use Rattle.gcd_row.specs.Passes.{view}
+use Rattle.gcd_pool.proofs.Placing.{begun_placed, begun_rests, leaves_placed, leaves_rested, recorded_placed, recorded_rests, rests_placed}
+use Rattle.gcd_pool.proofs.Told.{to_begin, to_leave, to_record, to_rest}
 use Rattle.gcd_pool.proofs.turn.take_turn.Goals as goal
 
 pub record_own-requires-clause-worker : goal.record_own-requires-clause-worker
@@ -27,3 +31,37 @@ begin_chosen-requires-clause-work g c = (to_begin g.S.Slot.shape g.S.Slot.gives 
 
 pub returns-in-Leave-clause-after : goal.returns-in-Leave-clause-after
 returns-in-Leave-clause-after g c = to_leave g.S.Slot.shape g.S.Slot.gives c.args.pool.now.board.now c.args.hand.now.pass c.requires.of.pass c.machine.result.now c.most-most.result c.worker.result c.args.from _ c.machine.ensures c.most-most.ensures c.in-Leave.ensures
+
+pub returns-in-Leave-clause-placed : goal.returns-in-Leave-clause-placed
+returns-in-Leave-clause-placed g c = leaves_placed (view c.args.hand.now.pass) (view c.args.hand.now.pass) refl
+
+pub returns-in-Leave-clause-rested : goal.returns-in-Leave-clause-rested
+returns-in-Leave-clause-rested g c = leaves_rested (view c.args.hand.now.pass)
+
+pub returns-in-Record-clause-placed : goal.returns-in-Record-clause-placed
+returns-in-Record-clause-placed g c = recorded_placed c.in-Record.e c.record_own.result (view c.args.hand.now.pass) (view c.record_own.new.hand.pass) c.record_own.ensures.recorded
+
+pub returns-in-Record-clause-rested : goal.returns-in-Record-clause-rested
+returns-in-Record-clause-rested g c = recorded_rests c.in-Record.e c.record_own.result (view c.args.hand.now.pass) (view c.record_own.new.hand.pass) c.record_own.ensures.recorded
+
+pub returns-in-Begin-clause-placed : goal.returns-in-Begin-clause-placed
+returns-in-Begin-clause-placed g c = begun_placed c.in-Begin.node c.begin_chosen.result (view c.args.hand.now.pass) (view c.begin_chosen.new.hand.pass) c.begin_chosen.ensures.begun
+
+pub returns-in-Begin-clause-rested : goal.returns-in-Begin-clause-rested
+returns-in-Begin-clause-rested g c = begun_rests c.in-Begin.node c.begin_chosen.result (view c.args.hand.now.pass) (view c.begin_chosen.new.hand.pass) c.begin_chosen.ensures.begun
+
+pub returns-in-Rest-clause-placed : goal.returns-in-Rest-clause-placed
+returns-in-Rest-clause-placed g c = rests_placed (view c.args.hand.now.pass) (view c.args.hand.now.pass) refl
+
+pub returns-in-Rest-clause-rested : goal.returns-in-Rest-clause-rested
+returns-in-Rest-clause-rested g c = to_rest g.S.Slot.shape g.S.Slot.gives c.args.pool.now.board.now c.args.hand.now.pass c.requires.of.pass c.machine.result.now c.most-most.result c.worker.result c.args.from c.machine.ensures c.most-most.ensures c.worker.ensures c.in-Rest.ensures
+
+pub returns-in-Leave-clause-out : goal.returns-in-Leave-clause-out
+returns-in-Leave-clause-out g c = leaves_out c.args.hand.now.bench c.args.hand.now.bench
+
+pub returns-in-Record-clause-out : goal.returns-in-Record-clause-out
+returns-in-Record-clause-out g c =
+    recorded_out c.in-Record.e c.record_own.result (view c.args.hand.now.pass) (view c.record_own.new.hand.pass) c.args.hand.now.bench c.record_own.new.hand.bench c.record_own.ensures.recorded
+
+pub returns-in-Rest-clause-out : goal.returns-in-Rest-clause-out
+returns-in-Rest-clause-out g c = rests_out c.args.hand.now.bench c.args.hand.now.bench

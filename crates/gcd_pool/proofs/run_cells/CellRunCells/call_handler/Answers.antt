@@ -1,6 +1,7 @@
 use Rattle.std.proofs.Common.{◌<◌, length, ap, sym, ◌∙◌, subst}
 use Rattle.gcd_plan.specs.PlanView.{PlanView}
 use Rattle.gcd_refinement.specs.MachineView.{MachineView}
+use Rattle.gcd_row.specs.Lying.{IsServed}
 use Rattle.gcd_row.specs.Passes.{view}
 use Rattle.gcd_row.specs.Shapes.{shape_of, gives_of}
 use Rattle.gcd_row.proofs.Passing.{lawful_seen, valid_plan}
@@ -39,3 +40,16 @@ take-requires-clause-total_fits g c =
     (valid_plan shape gives c.args.board.now c.args.pass.now c.requires.pass) (lawful_seen shape gives c.args.board.now c.args.pass.now c.requires.pass) c.requires.pass.few
     c.take_handler-handler.ensures.kind c.take_handler-handler.ensures.untaken
     (c.data_of-value.ensures v.terms.plan v.seen (stands_as shape gives c.args.board.now c.args.pass.now c.requires.pass c.machine.result.now c.machine.ensures))).total_fits
+
+pub give_handler-requires-clause-served : goal.give_handler-requires-clause-served
+give_handler-requires-clause-served g c =
+    let v = view c.args.pass.now in
+    let shape = shape_of g.H.Handler.kind g.H.Handler.times g.H.Handler.total in
+    let gives = gives_of g.J.Job.gives in
+    let h = c.take_handler-handler.result in
+    let fit = takes_fit v.terms.plan v.seen c.args.s.0 (g.H.Handler.kind h) (g.H.Handler.times h) (g.H.Handler.total h) c.data_of-value.result
+    (valid_plan shape gives c.args.board.now c.args.pass.now c.requires.pass) (lawful_seen shape gives c.args.board.now c.args.pass.now c.requires.pass) c.requires.pass.few
+    c.take_handler-handler.ensures.kind c.take_handler-handler.ensures.untaken
+    (c.data_of-value.ensures v.terms.plan v.seen (stands_as shape gives c.args.board.now c.args.pass.now c.requires.pass c.machine.result.now c.machine.ensures)) in
+    subst (λ x. IsServed x.terms.plan x.seen c.args.s.0 (g.H.Handler.times c.take.new.self) (g.H.Handler.total c.take.new.self)) (sym c.take_handler-handler.ensures.view)
+    (record { all_times = c.take.ensures.once_more ∙ fit.served.all_times; all_data = c.take.ensures.folded_in ∙ fit.served.all_data })
