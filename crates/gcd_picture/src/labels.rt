@@ -6,7 +6,7 @@ use crate::drawing::Drawing;
 use crate::escape::{push_xml, push_xml_char};
 use crate::frame::{LETTER, text_width};
 use crate::lanes::{bar_width, is_thin};
-use crate::naming::{run_name, wait_text};
+use crate::naming::{awaited_text, run_name};
 use crate::rows::Rows;
 use crate::scale::Tenths;
 use crate::verticals::Verticals;
@@ -16,7 +16,7 @@ use std::alloc::{AllocError, Global};
 use std::fmt::Write;
 
 // The fewest letters to which a text is cut, without the two points that stand for the rest.
-const FEWEST: u64 = 4;
+const FEWEST: u64 = 5;
 
 // The letters of what a run waits for are smaller: tenths of a pixel.
 const SMALL: u64 = 62;
@@ -142,9 +142,11 @@ fn push_wait(
         edge
     };
     let lane = bar.worker as usize;
-    let clear = verticals.beneath(lane, x).unwrap_or(edge);
+    let clear = verticals.beneath(lane, x, row).unwrap_or(edge);
     let room = Tenths(end.0.min(clear.0)).minus(x).minus(Tenths::pixels(6));
-    let wait = wait_text(alloc, drawing.showing.plan, *event)?;
+    let awaited = awaited_text(alloc, drawing.showing.plan, *event)?;
+    let awaited = awaited.as_str();
+    let wait = format!(in alloc; "for {awaited}")?;
     let y = frame.row(lane, row).saturating_sub(3);
     let x = x.plus(Tenths::pixels(4));
     push_cut(into, "wait", wait.as_str(), x, y, room.0 / SMALL)
@@ -154,7 +156,7 @@ fn push_wait(
 pub fn push_labels(alloc: Global, into: &mut String, drawing: Drawing) -> Result<(), AllocError> {
     let (frame, events) = (drawing.frame, drawing.showing.events.len());
     let mut rows = Rows::new(alloc, frame.lanes)?;
-    let mut verticals = Verticals::new(alloc, drawing.bars, frame.lanes, frame.scale, events)?;
+    let mut verticals = Verticals::new(alloc, drawing)?;
     // The cross of a misuse is eight pixels wide to each side.
     if let Some(Event::Misuse { worker, .. }) = drawing.showing.events.last() {
         let x = frame.scale.at(events.saturating_sub(1));

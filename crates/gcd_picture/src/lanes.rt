@@ -4,7 +4,7 @@ use crate::bars::Bar;
 use crate::drawing::Drawing;
 use crate::escape::push_xml;
 use crate::frame::BAR;
-use crate::naming::{node_name, run_name, wait_text};
+use crate::naming::{awaited_text, node_name, run_name};
 use crate::scale::Tenths;
 use gcd_event::Event;
 use gcd_plan::{Plan, Run};
@@ -96,18 +96,18 @@ fn push_path(
     )
 }
 
-/// What is told of a parked time: the run, what it waits for, and that it never went on, where it did not.
+// What is told of a parked time: the run, what it waits for, and that it never went on, where it did not.
 fn push_told(
     into: &mut String,
     plan: &Plan,
     bar: &Bar,
-    wait: &str,
+    awaited: &str,
     is_woken: bool,
 ) -> Result<(), AllocError> {
     into.push_str("<title>")?;
     push_xml(into, run_name(plan, bar.run))?;
-    into.push_str(" ")?;
-    push_xml(into, wait)?;
+    into.push_str(" waits for ")?;
+    push_xml(into, awaited)?;
     if !is_woken {
         into.push_str(", and has not gone on")?;
     }
@@ -130,8 +130,8 @@ fn push_parked(
         return Ok(());
     };
     push_path(into, drawing, bar, row, worker, next)?;
-    let wait = wait_text(alloc, plan, *event)?;
-    push_told(into, plan, bar, wait.as_str(), next < events.len())
+    let awaited = awaited_text(alloc, plan, *event)?;
+    push_told(into, plan, bar, awaited.as_str(), next < events.len())
 }
 
 /// Adds the lines of parked times, and over them the bars.

@@ -83,10 +83,10 @@ static SIGNS: [(&str, &str); 9] = [
         "<rect class=\"delivery\" width=\"20\" height=\"14\" rx=\"7\" fill=\"#fff\"/>",
         "delivery",
     ),
-    ("<path class=\"parked\" d=\"M0 7H20\"/>", "parked"),
+    ("<path class=\"parked\" d=\"M0 7H20\"/>", "parked, for what"),
     (
         "<path class=\"parked still\" d=\"M0 7H20\"/>",
-        "has not gone on",
+        "parked to the end",
     ),
     (
         "<rect class=\"block open\" width=\"20\" height=\"14\" rx=\"2\" fill=\"#fff\"/>",

@@ -45,8 +45,8 @@ pub fn feed_path(plan: &Plan, s: Obj) -> &str {
     }
 }
 
-/// What a run waits for that this event parks; empty where it parks none.
-pub fn wait_text(alloc: Global, plan: &Plan, event: Event) -> Result<String, AllocError> {
+/// What a run waits for that this event parks: a block's name, or a group or a semaphore with its name; empty where it parks none.
+pub fn awaited_text(alloc: Global, plan: &Plan, event: Event) -> Result<String, AllocError> {
     let Event::Act { run, index, .. } = event else {
         return Ok(String::new(alloc));
     };
@@ -55,25 +55,18 @@ pub fn wait_text(alloc: Global, plan: &Plan, event: Event) -> Result<String, All
     };
     match act {
         Act::Sync(_, b) | Act::BarrierSync(_, b) => {
-            awaited(alloc, "", run_name(plan, Run::Block(b)))
+            String::from_str(alloc, run_name(plan, Run::Block(b)))
         }
-        Act::GroupWait(g) => awaited(alloc, "group ", object_name(plan, g)),
-        Act::Wait(s) => awaited(alloc, "semaphore ", object_name(plan, s)),
-        Act::Async(..) | Act::Barrier(..) | Act::GroupAsync(..) | Act::Notify(..) => {
-            Ok(String::new(alloc))
+        Act::GroupWait(g) => {
+            let name = object_name(plan, g);
+            format!(in alloc; "group {name}")
         }
-        Act::Enter(_) | Act::Leave(_) | Act::Signal(_) => Ok(String::new(alloc)),
-        Act::Suspend(_) | Act::Resume(_) | Act::Activate(_) | Act::Target(..) => {
-            Ok(String::new(alloc))
+        Act::Wait(s) => {
+            let name = object_name(plan, s);
+            format!(in alloc; "semaphore {name}")
         }
-        Act::Merge(..) | Act::Cancel(_) | Act::Retain(_) | Act::Release(_) => {
-            Ok(String::new(alloc))
-        }
+        _ => Ok(String::new(alloc)),
     }
-}
-
-fn awaited(alloc: Global, what: &str, name: &str) -> Result<String, AllocError> {
-    format!(in alloc; "waits for {what}{name}")
 }
 
 // The first word of an act's line.

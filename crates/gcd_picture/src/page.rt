@@ -131,7 +131,7 @@ fn push_body(alloc: Global, into: &mut String, drawing: Drawing) -> Result<u64, 
     let top = drawing.frame.bottom().saturating_add(48);
     let below = push_ending(alloc, into, drawing, top)?;
     let below = push_unstarted(alloc, into, drawing, below)?;
-    push_legend(alloc, into, drawing, below)
+    push_legend(alloc, into, drawing, below.saturating_sub(8))
 }
 
 // The page of what is drawn.

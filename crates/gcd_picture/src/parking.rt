@@ -32,21 +32,38 @@ fn take(taken: &mut Vec<usize>, from: usize, until: usize) -> Result<Option<u64>
     Ok(Some(row as u64))
 }
 
+// The ends of the parked times, from left to right, each with the number of its bar.
+fn by_end(alloc: Global, bars: &[Bar]) -> Result<Vec<(usize, usize)>, AllocError> {
+    let mut ends = Vec::new(alloc);
+    for (number, bar) in bars.iter().enumerate() {
+        if let Some((_, until)) = bar.parked {
+            ends.push((until, number))?;
+        }
+    }
+    ends.sort_by_key(|end| end.0)?;
+    Ok(ends)
+}
+
 impl Parking {
-    /// The rows of the bars' parked times, on so many lanes; an `Err` comes only where memory runs out.
+    /// The rows of the bars' parked times, on so many lanes: those that end first are nearest to the bars. An `Err` comes only where
+    /// memory runs out.
     pub fn new(alloc: Global, bars: &[Bar], lanes: usize) -> Result<Parking, AllocError> {
         let mut taken = Vec::new(alloc);
         for _ in 0..lanes {
             taken.push(Vec::new(alloc))?;
         }
         let mut parking = Parking {
-            rows: Vec::new(alloc),
+            rows: vec![in alloc; None; bars.len()]?,
             taken,
             left_out: 0,
         };
-        for bar in bars {
-            let row = parking.row_after(bar)?;
-            parking.rows.push(row)?;
+        for (_, number) in &by_end(alloc, bars)? {
+            if let Some(bar) = bars.get(*number) {
+                let row = parking.row_after(bar)?;
+                if let Some(entry) = parking.rows.get_mut(*number) {
+                    *entry = row;
+                }
+            }
         }
         Ok(parking)
     }

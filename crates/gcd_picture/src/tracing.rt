@@ -3,7 +3,7 @@
 use crate::bars::{Bar, bars_of};
 use crate::escape::push_json;
 use crate::frame::lanes_of;
-use crate::naming::{act_text, misuse_text, node_name, object_name, run_name, wait_text};
+use crate::naming::{act_text, awaited_text, misuse_text, node_name, object_name, run_name};
 use crate::showing::Showing;
 use crate::submissions::Submissions;
 use gcd_event::Event;
@@ -76,15 +76,15 @@ fn push_end(
     place: usize,
     id: usize,
     name: &str,
-    wait: &str,
+    awaited: &str,
 ) -> Result<(), AllocError> {
     write!(
         into,
         "{{\"ph\":\"{phase}\",\"pid\":1,\"tid\":{worker},\"ts\":{place},\"id\":{id},\"cat\":\"parked\",\"name\":\""
     )?;
     push_json(into, name)?;
-    into.push_str(" ")?;
-    push_json(into, wait)?;
+    into.push_str(" waits for ")?;
+    push_json(into, awaited)?;
     into.push_str("\"},\n")
 }
 
@@ -98,11 +98,19 @@ fn push_parked(
     let (Some((worker, next)), Some(event)) = (bar.parked, showing.events.get(bar.to)) else {
         return Ok(());
     };
-    let wait = wait_text(alloc, showing.plan, *event)?;
+    let awaited = awaited_text(alloc, showing.plan, *event)?;
     let name = run_name(showing.plan, bar.run);
-    push_end(into, "b", bar.worker, bar.to, bar.to, name, wait.as_str())?;
+    push_end(
+        into,
+        "b",
+        bar.worker,
+        bar.to,
+        bar.to,
+        name,
+        awaited.as_str(),
+    )?;
     if next < showing.events.len() {
-        push_end(into, "e", worker, next, bar.to, name, wait.as_str())?;
+        push_end(into, "e", worker, next, bar.to, name, awaited.as_str())?;
     }
     Ok(())
 }

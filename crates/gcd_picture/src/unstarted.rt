@@ -32,7 +32,7 @@ fn started(alloc: Global, drawing: Drawing) -> Result<Vec<bool>, AllocError> {
     Ok(started)
 }
 
-fn unstarted(alloc: Global, drawing: Drawing) -> Result<Unstarted, AllocError> {
+fn find_unstarted(alloc: Global, drawing: Drawing) -> Result<Unstarted, AllocError> {
     let plan = drawing.showing.plan;
     let submissions = Submissions::new(alloc, plan, drawing.showing.events)?;
     let started = started(alloc, drawing)?;
@@ -93,7 +93,7 @@ fn push_runs(
             push_entry(into, &mut pen, width, swatch.as_str(), words.as_str())?;
         }
     }
-    Ok(pen.y.saturating_add(40))
+    Ok(pen.y.saturating_add(38))
 }
 
 /// Adds the blocks that have not started, in the colours of their queues, from this height on: those that were submitted, and those
@@ -105,7 +105,7 @@ pub fn push_unstarted(
     top: u64,
 ) -> Result<u64, AllocError> {
     let queues = Queues::new(alloc, drawing.showing.plan)?;
-    let found = unstarted(alloc, drawing)?;
+    let found = find_unstarted(alloc, drawing)?;
     let said = "submitted and not started";
     let below = push_runs(
         alloc,

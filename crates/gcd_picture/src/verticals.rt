@@ -1,13 +1,28 @@
 // Where the lines of parked times go down or up across a lane.
 
 use crate::bars::Bar;
-use crate::scale::{Scale, Tenths};
+use crate::drawing::Drawing;
+use crate::parking::Parking;
+use crate::scale::Tenths;
 use std::alloc::{AllocError, Global};
+
+// The tenths of a pixel that no text exceeds.
+const MOST_TEXT: u64 = 4_000;
+
+// A row that is deeper than any: the whole lane is crossed.
+const ALL: u64 = u64::MAX;
+
+// A place where a lane is crossed, and the row beneath which it is: lines in rows nearer to the bars are not reached.
+#[derive(Clone, Copy)]
+struct Crossing {
+    x: Tenths,
+    row: u64,
+}
 
 // What is crossed of a lane, from left to right, and how much of it was asked for.
 #[derive(Drop)]
 struct Crossed {
-    xs: Vec<Tenths>,
+    xs: Vec<Crossing>,
     passed: usize,
 }
 
@@ -19,26 +34,30 @@ impl Crossed {
         }
     }
 
-    // The first crossing to the right of this.
-    fn after(&mut self, from: Tenths) -> Option<Tenths> {
+    // The first crossing of this row to the right of this, within as much as a text may take.
+    fn after(&mut self, from: Tenths, row: u64) -> Option<Tenths> {
         let mut passed = self.passed;
         let mut found = None;
-        for x in self.xs.iter().skip(passed) {
-            if x.0 > from.0 {
-                found = Some(*x);
+        for crossing in self.xs.iter().skip(passed) {
+            if crossing.x.0 <= from.0 {
+                passed = passed.saturating_add(1);
+            } else if crossing.row > row {
+                found = Some(crossing.x);
+                break;
+            } else if crossing.x.0 > from.0.saturating_add(MOST_TEXT) {
                 break;
             }
-            passed = passed.saturating_add(1);
         }
         self.passed = passed;
         found
     }
 }
 
-// A vertical line: at which place, from which lane to which. From one lane to itself it goes down from the bars, and stays in it.
+// A vertical line: at which place, from which row of which lane to which lane's bars.
 #[derive(Clone, Copy)]
 struct Vertical {
     place: usize,
+    row: u64,
     from: usize,
     to: usize,
 }
@@ -51,19 +70,27 @@ pub struct Verticals {
 }
 
 // The vertical lines of the bars' parked times, from left to right.
-fn verticals_of(alloc: Global, bars: &[Bar], events: usize) -> Result<Vec<Vertical>, AllocError> {
+fn verticals_of(
+    alloc: Global,
+    bars: &[Bar],
+    parking: &Parking,
+    events: usize,
+) -> Result<Vec<Vertical>, AllocError> {
     let mut found = Vec::new(alloc);
-    for bar in bars {
-        if let Some((worker, next)) = bar.parked {
+    for (number, bar) in bars.iter().enumerate() {
+        if let (Some((worker, next)), Some(row)) = (bar.parked, parking.row(number)) {
             let from = bar.worker as usize;
-            found.push(Vertical {
+            let begin = Vertical {
                 place: bar.to,
+                row,
                 from,
                 to: from,
-            })?;
+            };
+            found.push(begin)?;
             if next < events {
                 found.push(Vertical {
                     place: next,
+                    row,
                     from,
                     to: worker as usize,
                 })?;
@@ -75,63 +102,56 @@ fn verticals_of(alloc: Global, bars: &[Bar], events: usize) -> Result<Vec<Vertic
 }
 
 // Adds a crossing to a lane.
-fn cross(lanes: &mut [Crossed], lane: usize, x: Tenths) -> Result<(), AllocError> {
+fn cross(lanes: &mut [Crossed], lane: usize, x: Tenths, row: u64) -> Result<(), AllocError> {
     if let Some(crossed) = lanes.get_mut(lane) {
-        crossed.xs.push(x)?;
+        crossed.xs.push(Crossing { x, row })?;
     }
     Ok(())
 }
 
 impl Verticals {
-    /// Those of the bars' parked times on so many lanes; an `Err` comes only where memory runs out.
-    pub fn new(
-        alloc: Global,
-        bars: &[Bar],
-        lanes: usize,
-        scale: Scale,
-        events: usize,
-    ) -> Result<Verticals, AllocError> {
+    /// Those of the parked times that are drawn; an `Err` comes only where memory runs out.
+    pub fn new(alloc: Global, drawing: Drawing) -> Result<Verticals, AllocError> {
         let (mut above, mut beneath) = (Vec::new(alloc), Vec::new(alloc));
-        for _ in 0..lanes {
+        for _ in 0..drawing.frame.lanes {
             above.push(Crossed::new(alloc))?;
             beneath.push(Crossed::new(alloc))?;
         }
         let mut verticals = Verticals { above, beneath };
-        for vertical in &verticals_of(alloc, bars, events)? {
-            verticals.add(*vertical, scale.at(vertical.place))?;
+        let events = drawing.showing.events.len();
+        for vertical in &verticals_of(alloc, drawing.bars, drawing.parking, events)? {
+            verticals.add(*vertical, drawing.frame.scale.at(vertical.place))?;
         }
         Ok(verticals)
     }
 
-    // Adds a vertical line to each lane that it crosses: beneath the bars of the upper ones, and above those of the lower ones.
+    // Adds a vertical line to each lane that it crosses: beneath the bars of the upper ones, and above those of the lower ones. In
+    // its own lane it goes to its row where it goes up, and to the bottom where it goes down to another lane.
     fn add(&mut self, vertical: Vertical, x: Tenths) -> Result<(), AllocError> {
-        let (upper, lower) = if vertical.from <= vertical.to {
-            (vertical.from, vertical.to)
-        } else {
-            (vertical.to, vertical.from)
-        };
-        cross(&mut self.beneath, vertical.from, x)?;
-        for lane in upper..lower {
-            if lane != vertical.from {
-                cross(&mut self.beneath, lane, x)?;
+        let (from, to) = (vertical.from, vertical.to);
+        let own = if from < to { ALL } else { vertical.row };
+        cross(&mut self.beneath, from, x, own)?;
+        for lane in from.min(to)..from.max(to) {
+            if lane != from {
+                cross(&mut self.beneath, lane, x, ALL)?;
             }
-            cross(&mut self.above, lane.saturating_add(1), x)?;
+            cross(&mut self.above, lane.saturating_add(1), x, ALL)?;
         }
         Ok(())
     }
 
     /// Adds what stands above the bars of a lane at its right end.
     pub fn end_above(&mut self, lane: usize, x: Tenths) -> Result<(), AllocError> {
-        cross(&mut self.above, lane, x)
+        cross(&mut self.above, lane, x, ALL)
     }
 
-    /// How far it is clear above the bars of a lane, to the right of this; None where nothing crosses there.
+    /// How far it is clear above the bars of a lane, to the right of this; None where nothing near crosses there.
     pub fn above(&mut self, lane: usize, from: Tenths) -> Option<Tenths> {
-        self.above.get_mut(lane)?.after(from)
+        self.above.get_mut(lane)?.after(from, 0)
     }
 
-    /// How far it is clear beneath the bars of a lane, to the right of this; None where nothing crosses there.
-    pub fn beneath(&mut self, lane: usize, from: Tenths) -> Option<Tenths> {
-        self.beneath.get_mut(lane)?.after(from)
+    /// How far a row beneath the bars of a lane is clear, to the right of this; None where nothing near crosses there.
+    pub fn beneath(&mut self, lane: usize, from: Tenths, row: u64) -> Option<Tenths> {
+        self.beneath.get_mut(lane)?.after(from, row)
     }
 }
