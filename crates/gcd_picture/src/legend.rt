@@ -62,11 +62,10 @@ fn push_nodes(
     push_node(alloc, into, drawing, pen, None, "main, on no queue")?;
     let used = used(alloc, drawing)?;
     let mut named = 0usize;
-    for (o, is_used) in used.iter().enumerate() {
-        if *is_used && named < NAMED {
-            let node = Obj(o as u32);
-            let words = node_words(alloc, plan, node)?;
-            push_node(alloc, into, drawing, pen, Some(node), words.as_str())?;
+    for o in 0..plan.objects() {
+        if named < NAMED && used.get(o as usize).copied().unwrap_or(false) {
+            let words = node_words(alloc, plan, Obj(o))?;
+            push_node(alloc, into, drawing, pen, Some(Obj(o)), words.as_str())?;
             named = named.saturating_add(1);
         }
     }

@@ -34,7 +34,7 @@ text{fill:#222}
 .open{fill-opacity:.45;stroke-dasharray:3 2}
 .parked{stroke:#777;stroke-dasharray:3 2;fill:none}
 .still{stroke:#b2182b}
-.above,.wait{paint-order:stroke;stroke:#f6f6f6;stroke-width:3px}
+.above,.wait,.again{paint-order:stroke;stroke:#f6f6f6;stroke-width:3px}
 .wait{fill:#555;font-size:10px}
 path.tick{stroke:#1f6fb4;stroke-dasharray:1 3}
 text.tick{fill:#1f6fb4}
@@ -46,42 +46,40 @@ text.misuse{fill:#c00}
 </style>
 ";
 
-// The name of a lane, beside it, and again within it wherever the page is so wide that the first would be out of sight.
-fn push_worker(into: &mut String, frame: &Frame, lane: usize) -> Result<(), AllocError> {
-    let y = frame.bars(lane).saturating_add(14);
-    write!(
-        into,
-        "<text class=\"worker\" x=\"12\" y=\"{y}\">worker {lane}</text>\n"
-    )?;
-    let (right, y) = (
-        frame.scale.right().0 / 10,
-        frame.floor(lane).saturating_sub(6),
-    );
-    let times = right.saturating_sub(LEFT) / REPEAT;
-    for time in 0..times {
-        let x = time
-            .saturating_add(1)
-            .saturating_mul(REPEAT)
-            .saturating_add(12);
-        write!(
-            into,
-            "<text class=\"worker\" x=\"{x}\" y=\"{y}\">worker {lane}</text>\n"
-        )?;
-    }
-    Ok(())
-}
-
-// The lanes' backgrounds, and the workers' names.
+// The lanes' backgrounds, and the workers' names beside them.
 fn push_workers(into: &mut String, frame: &Frame) -> Result<(), AllocError> {
     let width = (frame.scale.right().0 / 10).saturating_sub(LEFT);
     for lane in 0..frame.lanes {
         let top = frame.lane(lane).saturating_add(1);
         let height = frame.floor(lane).saturating_sub(top).saturating_sub(2);
+        let y = frame.bars(lane).saturating_add(14);
         write!(
             into,
             "<rect class=\"lane\" x=\"{LEFT}\" y=\"{top}\" width=\"{width}\" height=\"{height}\"/>"
         )?;
-        push_worker(into, frame, lane)?;
+        write!(
+            into,
+            "<text class=\"worker\" x=\"12\" y=\"{y}\">worker {lane}</text>\n"
+        )?;
+    }
+    Ok(())
+}
+
+// The workers' names again within their lanes, wherever the page is so wide that the first ones are out of sight.
+fn push_again(into: &mut String, frame: &Frame) -> Result<(), AllocError> {
+    let times = (frame.scale.right().0 / 10).saturating_sub(LEFT) / REPEAT;
+    for lane in 0..frame.lanes {
+        let y = frame.floor(lane).saturating_sub(6);
+        for time in 0..times {
+            let x = time
+                .saturating_add(1)
+                .saturating_mul(REPEAT)
+                .saturating_add(12);
+            write!(
+                into,
+                "<text class=\"worker again\" x=\"{x}\" y=\"{y}\">worker {lane}</text>\n"
+            )?;
+        }
     }
     Ok(())
 }
@@ -125,6 +123,7 @@ fn push_body(alloc: Global, into: &mut String, drawing: Drawing) -> Result<u64, 
     push_workers(into, drawing.frame)?;
     push_marks(alloc, into, drawing)?;
     push_lanes(alloc, into, drawing)?;
+    push_again(into, drawing.frame)?;
     push_labels(alloc, into, drawing)?;
     push_misuse(alloc, into, drawing)?;
     push_axis(into, drawing.frame, drawing.showing.events.len())?;

@@ -70,8 +70,9 @@ static ROWS: [Row; 3] = [
         lines: &[
             "width=\"14620\" ",
             "<rect class=\"lane\" x=\"84\" y=\"31\" width=\"14496\" ",
-            "<text class=\"worker\" x=\"12\" y=\"72\">worker 0</text>\n<text class=\"worker\" x=\"972\" y=\"90\">worker 0</text>\n",
-            "<text class=\"worker\" x=\"14412\" y=\"90\">worker 0</text>\n",
+            "<text class=\"worker\" x=\"12\" y=\"72\">worker 0</text>\n",
+            "<text class=\"worker again\" x=\"972\" y=\"90\">worker 0</text>\n",
+            "<text class=\"worker again\" x=\"14412\" y=\"90\">worker 0</text>\n",
             "<rect class=\"block\" x=\"14544.0\" y=\"58\" width=\"24.0\" ",
         ],
     },

@@ -153,7 +153,10 @@ fn calls_by_rows(rt: HostRuntime) -> Result<(), Fail> {
         "k",
         b"start 0 main\nact 0 main 0\nend 0 main\nstart 0 b\nend 0 b\nevents 5\n",
     )?;
-    shelf.put("front", b"start 0 main\nact 0 main 0\nend 0 main\nevents 3\n")?;
+    shelf.put(
+        "front",
+        b"start 0 main\nact 0 main 0\nend 0 main\nevents 3\n",
+    )?;
     shelf.put(
         "stuck",
         b"queue q serial\nblock b2\nblock b1\nsync q b2\nmain\nasync q b1\n",
