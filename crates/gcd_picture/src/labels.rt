@@ -19,7 +19,7 @@ use std::fmt::Write;
 const FEWEST: u64 = 5;
 
 // The letters of what a run waits for are smaller: tenths of a pixel.
-const SMALL: u64 = 62;
+const SMALL: u64 = 61;
 
 // How many letters of a name have room.
 fn letters_in(room: Tenths) -> u64 {
@@ -143,7 +143,7 @@ fn push_wait(
     };
     let lane = bar.worker as usize;
     let clear = verticals.beneath(lane, x, row).unwrap_or(edge);
-    let room = Tenths(end.0.min(clear.0)).minus(x).minus(Tenths::pixels(6));
+    let room = Tenths(end.0.min(clear.0)).minus(x).minus(Tenths::pixels(4));
     let awaited = awaited_text(alloc, drawing.showing.plan, *event)?;
     let awaited = awaited.as_str();
     let wait = format!(in alloc; "for {awaited}")?;
