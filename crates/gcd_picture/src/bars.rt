@@ -1,8 +1,9 @@
 // The stretches of all runs, in the order in which a page shows them.
 
 use crate::queues::Queues;
+use crate::showing::Showing;
 use gcd_event::Event;
-use gcd_plan::{Obj, Plan, Run};
+use gcd_plan::{Obj, Run};
 use gcd_timeline::Mark;
 use std::alloc::{AllocError, Global};
 
@@ -11,8 +12,8 @@ use std::alloc::{AllocError, Global};
 pub struct Bar {
     /// The block or source that runs.
     pub run: Run,
-    /// The queue that it is on.
-    pub queue: Obj,
+    /// The node that it is on, a queue or the source itself; None for `main`, which is on none.
+    pub node: Option<Obj>,
     /// Whether it is a barrier there.
     pub is_barrier: bool,
     /// The worker that has it.
@@ -45,17 +46,26 @@ fn parked_after(mark: &Mark, stretch: usize, events: &[Event]) -> Option<(u8, us
     }
 }
 
+impl Bar {
+    /// What kind of run it is of, in a word.
+    pub fn kind(&self) -> &'static str {
+        match self.run {
+            Run::Block(_) => { if self.is_barrier { "barrier" } else { "block" } }
+            Run::Source(_) => "delivery",
+        }
+    }
+}
+
 fn add_bars(
     bars: &mut Vec<Bar>,
     mark: &Mark,
     queues: &Queues,
-    plan: &Plan,
     events: &[Event],
 ) -> Result<(), AllocError> {
     for (index, stretch) in mark.stretches.iter().enumerate() {
         bars.push(Bar {
             run: mark.run,
-            queue: queues.of(plan, mark.run),
+            node: queues.of(mark.run),
             is_barrier: queues.is_barrier(mark.run),
             worker: stretch.worker,
             from: stretch.from,
@@ -67,16 +77,11 @@ fn add_bars(
 }
 
 /// The stretches of all marks, in the order of their first places; an `Err` comes only where memory runs out.
-pub fn bars_of(
-    alloc: Global,
-    plan: &Plan,
-    marks: &[Mark],
-    events: &[Event],
-) -> Result<Vec<Bar>, AllocError> {
-    let queues = Queues::new(alloc, plan)?;
+pub fn bars_of(alloc: Global, showing: Showing) -> Result<Vec<Bar>, AllocError> {
+    let queues = Queues::new(alloc, showing.plan)?;
     let mut bars = Vec::new(alloc);
-    for mark in marks {
-        add_bars(&mut bars, mark, &queues, plan, events)?;
+    for mark in showing.marks {
+        add_bars(&mut bars, mark, &queues, showing.events)?;
     }
     bars.sort_by_key(|bar| bar.from)?;
     Ok(bars)

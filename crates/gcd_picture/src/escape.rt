@@ -2,16 +2,21 @@
 
 use std::alloc::AllocError;
 
+/// Adds a letter to an SVG page.
+pub fn push_xml_char(into: &mut String, c: char) -> Result<(), AllocError> {
+    match c {
+        '&' => into.push_str("&amp;"),
+        '<' => into.push_str("&lt;"),
+        '>' => into.push_str("&gt;"),
+        '"' => into.push_str("&quot;"),
+        _ => into.push(c),
+    }
+}
+
 /// Adds a text to an SVG page, as text or as an attribute's value.
 pub fn push_xml(into: &mut String, text: &str) -> Result<(), AllocError> {
     for c in text.chars() {
-        match c {
-            '&' => into.push_str("&amp;")?,
-            '<' => into.push_str("&lt;")?,
-            '>' => into.push_str("&gt;")?,
-            '"' => into.push_str("&quot;")?,
-            _ => into.push(c)?,
-        }
+        push_xml_char(into, c)?;
     }
     Ok(())
 }

@@ -1,11 +1,10 @@
 // The bars of runs, and the lines of parked times, on the lanes of their workers.
 
 use crate::bars::Bar;
+use crate::drawing::Drawing;
 use crate::escape::push_xml;
-use crate::frame::{BAR, Frame, text_width};
-use crate::naming::{object_name, run_name, wait_text};
-use crate::palette::colour;
-use crate::rows::Rows;
+use crate::frame::BAR;
+use crate::naming::{awaited_text, node_name, run_name};
 use crate::scale::Tenths;
 use gcd_event::Event;
 use gcd_plan::{Plan, Run};
@@ -13,26 +12,30 @@ use std::alloc::{AllocError, Global};
 use std::fmt::Write;
 
 // What is told of a bar when it is pointed at.
-fn push_title(into: &mut String, plan: &Plan, bar: &Bar) -> Result<(), AllocError> {
-    let (worker, from, to) = (bar.worker, bar.from, bar.to);
+fn push_title(into: &mut String, drawing: Drawing, bar: &Bar) -> Result<(), AllocError> {
+    let plan = drawing.showing.plan;
+    let (kind, worker, from, to) = (bar.kind(), bar.worker, bar.from, bar.to);
+    let line = drawing.showing.lines.of_run(bar.run);
     into.push_str("<title>")?;
     push_xml(into, run_name(plan, bar.run))?;
-    into.push_str(" on ")?;
-    push_xml(into, object_name(plan, bar.queue))?;
-    write!(into, ", worker {worker}, events {from} to {to}</title>")
-}
-
-// What kind of run a bar is of.
-fn kind_of(bar: &Bar) -> &'static str {
-    match bar.run {
-        Run::Block(_) => { if bar.is_barrier { "barrier" } else { "block" } }
-        Run::Source(_) => "delivery",
+    write!(into, ", {kind} on ")?;
+    push_xml(into, node_name(plan, bar.node))?;
+    write!(into, ", worker {worker}, events {from} to {to}")?;
+    if line > 0 {
+        write!(into, ", line {line}")?;
     }
+    into.push_str("</title>")
 }
 
-// Whether a bar is so narrow that a whole edge would hide its colour: below four pixels.
-fn thinness(width: Tenths) -> &'static str {
-    if width.0 < 40 { " thin" } else { "" }
+/// Whether a bar is so narrow that a whole edge would hide its colour: below four pixels.
+pub fn is_thin(width: Tenths) -> bool {
+    width.0 < 40
+}
+
+/// The width of a bar.
+pub fn bar_width(drawing: Drawing, bar: &Bar) -> Tenths {
+    let scale = &drawing.frame.scale;
+    Tenths(scale.at(bar.to).minus(scale.at(bar.from)).0.max(5))
 }
 
 // Whether nothing gives the run of a bar back.
@@ -41,18 +44,13 @@ fn openness(bar: &Bar, events: &[Event]) -> &'static str {
 }
 
 // The bar of a stretch.
-fn push_bar(
-    into: &mut String,
-    plan: &Plan,
-    frame: &Frame,
-    bar: &Bar,
-    events: &[Event],
-) -> Result<(), AllocError> {
-    let x = frame.scale.at(bar.from);
-    let width = Tenths(frame.scale.at(bar.to).minus(x).0.max(5));
-    let y = frame.lane(bar.worker as usize).saturating_add(4);
-    let (kind, state, thin) = (kind_of(bar), openness(bar, events), thinness(width));
-    let fill = colour(bar.queue);
+fn push_bar(into: &mut String, drawing: Drawing, bar: &Bar) -> Result<(), AllocError> {
+    let x = drawing.frame.scale.at(bar.from);
+    let width = bar_width(drawing, bar);
+    let y = drawing.frame.bars(bar.worker as usize);
+    let (kind, state) = (bar.kind(), openness(bar, drawing.showing.events));
+    let thin = if is_thin(width) { " thin" } else { "" };
+    let fill = drawing.palette.of(bar.node);
     let round = match bar.run {
         Run::Block(_) => 2,
         Run::Source(_) => 10,
@@ -61,126 +59,88 @@ fn push_bar(
         into,
         "<rect class=\"{kind}{state}{thin}\" x=\"{x}\" y=\"{y}\" width=\"{width}\" height=\"{BAR}\" rx=\"{round}\" fill=\"{fill}\">"
     )?;
-    push_title(into, plan, bar)?;
+    push_title(into, drawing, bar)?;
     into.push_str("</rect>\n")
 }
 
-// The name of a bar: within it where it is wide enough, and else in a row beneath it that has room.
-fn push_name(
+// The path of a parked time: down from the bar that ends in it, along its row, and to the bar that goes on, where one does.
+fn push_path(
     into: &mut String,
-    plan: &Plan,
-    frame: &Frame,
+    drawing: Drawing,
     bar: &Bar,
-    rows: &mut Rows,
+    row: u64,
+    worker: u8,
+    next: usize,
 ) -> Result<(), AllocError> {
-    let name = run_name(plan, bar.run);
-    let x = frame.scale.at(bar.from);
-    let end = x.plus(text_width(name)).plus(Tenths::pixels(6));
-    let top = frame.lane(bar.worker as usize);
-    if end.0 <= frame.scale.at(bar.to).0 {
-        let (x, y) = (x.plus(Tenths::pixels(3)), top.saturating_add(18));
-        write!(into, "<text x=\"{x}\" y=\"{y}\">")?;
-        push_xml(into, name)?;
-        return into.push_str("</text>\n");
+    let frame = drawing.frame;
+    let lane = bar.worker as usize;
+    let (x, until) = (frame.scale.at(bar.to), frame.scale.at(next));
+    let (from, y) = (frame.bars(lane).saturating_add(BAR), frame.row(lane, row));
+    if next >= drawing.showing.events.len() {
+        let edge = frame.width();
+        return write!(
+            into,
+            "<path class=\"parked still\" d=\"M{x} {from}V{y}H{edge}\">"
+        );
     }
-    if let Some(row) = rows.take(bar.worker as usize, x, end) {
-        let y = top
-            .saturating_add(36)
-            .saturating_add(row.saturating_mul(12));
-        write!(into, "<text x=\"{x}\" y=\"{y}\">")?;
-        push_xml(into, name)?;
-        into.push_str("</text>\n")?;
-    }
-    Ok(())
+    // From below it comes to the bottom of the bar, and from above to its top.
+    let bar_top = frame.bars(worker as usize);
+    let end = if lane < worker as usize {
+        bar_top
+    } else {
+        bar_top.saturating_add(BAR)
+    };
+    write!(
+        into,
+        "<path class=\"parked\" d=\"M{x} {from}V{y}H{until}V{end}\">"
+    )
 }
 
-// The line of a parked time, from the bar that ends in it to the one that goes on, and what is waited for.
+// What is told of a parked time: the run, what it waits for, and that it never went on, where it did not.
+fn push_told(
+    into: &mut String,
+    plan: &Plan,
+    bar: &Bar,
+    awaited: &str,
+    is_woken: bool,
+) -> Result<(), AllocError> {
+    into.push_str("<title>")?;
+    push_xml(into, run_name(plan, bar.run))?;
+    into.push_str(" waits for ")?;
+    push_xml(into, awaited)?;
+    if !is_woken {
+        into.push_str(", and has not gone on")?;
+    }
+    into.push_str("</title></path>\n")
+}
+
+// The line of the parked time after the bar of this number, if there is one and it has a row.
 fn push_parked(
     alloc: Global,
     into: &mut String,
-    plan: &Plan,
-    frame: &Frame,
+    drawing: Drawing,
+    number: usize,
     bar: &Bar,
-    events: &[Event],
-    rows: &mut Rows,
 ) -> Result<(), AllocError> {
+    let (events, plan) = (drawing.showing.events, drawing.showing.plan);
     let (Some((worker, next)), Some(event)) = (bar.parked, events.get(bar.to)) else {
         return Ok(());
     };
-    let (x, until) = (frame.scale.at(bar.to), frame.scale.at(next));
-    let Some(row) = rows.take(bar.worker as usize, x, until) else {
+    let Some(row) = drawing.parking.row(number) else {
         return Ok(());
     };
-    let wait = wait_text(alloc, plan, *event)?;
-    let top = frame
-        .lane(bar.worker as usize)
-        .saturating_add(4)
-        .saturating_add(BAR);
-    let y = frame
-        .lane(bar.worker as usize)
-        .saturating_add(60)
-        .saturating_add(row.saturating_mul(10));
-    let end = frame
-        .lane(worker as usize)
-        .saturating_add(4)
-        .saturating_add(BAR);
-    if next < events.len() {
-        write!(
-            into,
-            "<path class=\"parked\" d=\"M{x} {top}V{y}H{until}V{end}\"><title>"
-        )?;
-    } else {
-        write!(
-            into,
-            "<path class=\"parked\" d=\"M{x} {top}V{y}H{until}\"><title>"
-        )?;
-    }
-    push_xml(into, run_name(plan, bar.run))?;
-    into.push_str(" ")?;
-    push_xml(into, wait.as_str())?;
-    into.push_str("</title></path>\n")?;
-    let room = if next < events.len() {
-        until
-    } else {
-        Tenths::pixels(frame.width())
-    };
-    push_wait(into, wait.as_str(), x, room, y)
+    push_path(into, drawing, bar, row, worker, next)?;
+    let awaited = awaited_text(alloc, plan, *event)?;
+    push_told(into, plan, bar, awaited.as_str(), next < events.len())
 }
 
-// What a parked run waits for, over its line, where there is room up to `until`: the line's end, or the page's edge where nothing
-// ends the wait.
-fn push_wait(
-    into: &mut String,
-    wait: &str,
-    from: Tenths,
-    until: Tenths,
-    y: u64,
-) -> Result<(), AllocError> {
-    let x = from.plus(Tenths::pixels(3));
-    if x.plus(text_width(wait)).0 > until.0 {
-        return Ok(());
+/// Adds the lines of parked times, and over them the bars.
+pub fn push_lanes(alloc: Global, into: &mut String, drawing: Drawing) -> Result<(), AllocError> {
+    for (number, bar) in drawing.bars.iter().enumerate() {
+        push_parked(alloc, into, drawing, number, bar)?;
     }
-    let y = y.saturating_sub(2);
-    write!(into, "<text class=\"wait\" x=\"{x}\" y=\"{y}\">")?;
-    push_xml(into, wait)?;
-    into.push_str("</text>\n")
-}
-
-/// Adds the bars, their names and the lines of parked times.
-pub fn push_lanes(
-    alloc: Global,
-    into: &mut String,
-    plan: &Plan,
-    frame: &Frame,
-    bars: &[Bar],
-    events: &[Event],
-) -> Result<(), AllocError> {
-    let mut names = Rows::new(alloc, frame.lanes)?;
-    let mut waits = Rows::new(alloc, frame.lanes)?;
-    for bar in bars {
-        push_parked(alloc, into, plan, frame, bar, events, &mut waits)?;
-        push_bar(into, plan, frame, bar, events)?;
-        push_name(into, plan, frame, bar, &mut names)?;
+    for bar in drawing.bars {
+        push_bar(into, drawing, bar)?;
     }
     Ok(())
 }

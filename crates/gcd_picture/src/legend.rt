@@ -1,56 +1,16 @@
 // What the colours and lines of a page mean.
 
-use crate::bars::Bar;
-use crate::escape::push_xml;
-use crate::frame::{Frame, LETTER};
+use crate::drawing::Drawing;
 use crate::naming::object_name;
-use crate::palette::colour;
+use crate::swatches::{Pen, push_entry};
 use gcd_plan::{Obj, Plan};
 use std::alloc::{AllocError, Global};
-use std::fmt::Write;
 
-// How many queues are named at most.
+// How many nodes are named at most.
 const NAMED: usize = 40;
 
-// Where the next word of the legend goes.
-#[derive(Clone, Copy)]
-struct Pen {
-    x: u64,
-    y: u64,
-}
-
-// Room for a swatch and so many letters: on this line, or on the next one where the page is not as wide.
-fn advance(pen: &mut Pen, letters: usize, width: u64) -> u64 {
-    let room = (letters as u64).saturating_mul(LETTER).saturating_add(40);
-    if pen.x.saturating_add(room) > width {
-        pen.x = 12;
-        pen.y = pen.y.saturating_add(22);
-    }
-    let x = pen.x;
-    pen.x = x.saturating_add(room);
-    x
-}
-
-// A swatch of this look, and its word.
-fn push_entry(
-    into: &mut String,
-    pen: &mut Pen,
-    width: u64,
-    swatch: &str,
-    word: &str,
-) -> Result<(), AllocError> {
-    let x = advance(pen, word.len(), width);
-    let (y, text_x, text_y) = (pen.y, x.saturating_add(26), pen.y.saturating_add(12));
-    write!(
-        into,
-        "<g transform=\"translate({x} {y})\">{swatch}</g><text x=\"{text_x}\" y=\"{text_y}\">"
-    )?;
-    push_xml(into, word)?;
-    into.push_str("</text>\n")
-}
-
-// The name of a queue, and of its target where that is not `root`.
-fn queue_words(alloc: Global, plan: &Plan, queue: Obj) -> Result<String, AllocError> {
+// The name of a node, and of its target where that is not `root`.
+fn node_words(alloc: Global, plan: &Plan, queue: Obj) -> Result<String, AllocError> {
     let name = object_name(plan, queue);
     if queue.0 < plan.objects() {
         let target = plan.first_target(queue);
@@ -62,37 +22,58 @@ fn queue_words(alloc: Global, plan: &Plan, queue: Obj) -> Result<String, AllocEr
     String::from_str(alloc, name)
 }
 
-// Whether a bar is of the queue.
-fn is_used(bars: &[Bar], queue: Obj) -> bool {
-    bars.iter().any(|bar| bar.queue.0 == queue.0)
+// Whether each object has a bar.
+fn used(alloc: Global, drawing: Drawing) -> Result<Vec<bool>, AllocError> {
+    let mut used = vec![in alloc; false; drawing.showing.plan.objects() as usize]?;
+    for bar in drawing.bars {
+        if let Some(node) = bar.node {
+            if let Some(entry) = used.get_mut(node.0 as usize) {
+                *entry = true;
+            }
+        }
+    }
+    Ok(used)
 }
 
-// The queues that have runs, each with its colour.
-fn push_queues(
+// A swatch in the colour of a node, or of none, and its words.
+fn push_node(
     alloc: Global,
     into: &mut String,
-    plan: &Plan,
+    drawing: Drawing,
     pen: &mut Pen,
-    width: u64,
-    bars: &[Bar],
+    node: Option<Obj>,
+    words: &str,
 ) -> Result<(), AllocError> {
-    let mut named = 0;
-    for queue in 0..plan.objects() {
-        if named < NAMED && is_used(bars, Obj(queue)) {
-            let words = queue_words(alloc, plan, Obj(queue))?;
-            let fill = colour(Obj(queue));
-            let swatch = format!(in alloc;
-                "<rect class=\"block\" width=\"20\" height=\"14\" rx=\"2\" fill=\"{fill}\"/>"
-            )?;
-            push_entry(into, pen, width, swatch.as_str(), words.as_str())?;
-            named += 1;
+    let fill = drawing.palette.of(node);
+    let swatch = format!(in alloc;
+        "<rect class=\"block\" width=\"20\" height=\"14\" rx=\"2\" fill=\"{fill}\"/>"
+    )?;
+    push_entry(into, pen, drawing.frame.texts(), swatch.as_str(), words)
+}
+
+// The nodes that have runs, each with its colour; and the colour of what is on none.
+fn push_nodes(
+    alloc: Global,
+    into: &mut String,
+    drawing: Drawing,
+    pen: &mut Pen,
+) -> Result<(), AllocError> {
+    let plan = drawing.showing.plan;
+    push_node(alloc, into, drawing, pen, None, "main, on no queue")?;
+    let used = used(alloc, drawing)?;
+    let mut named = 0usize;
+    for o in 0..plan.objects() {
+        if named < NAMED && used.get(o as usize).copied().unwrap_or(false) {
+            let words = node_words(alloc, plan, Obj(o))?;
+            push_node(alloc, into, drawing, pen, Some(Obj(o)), words.as_str())?;
+            named = named.saturating_add(1);
         }
     }
     Ok(())
 }
 
 // What each kind of line means.
-static SIGNS: [(&str, &str); 8] = [
+static SIGNS: [(&str, &str); 9] = [
     (
         "<rect class=\"barrier\" width=\"20\" height=\"14\" rx=\"2\" fill=\"#fff\"/>",
         "barrier",
@@ -101,7 +82,11 @@ static SIGNS: [(&str, &str); 8] = [
         "<rect class=\"delivery\" width=\"20\" height=\"14\" rx=\"7\" fill=\"#fff\"/>",
         "delivery",
     ),
-    ("<path class=\"parked\" d=\"M0 7H20\"/>", "parked"),
+    ("<path class=\"parked\" d=\"M0 7H20\"/>", "parked, for what"),
+    (
+        "<path class=\"parked still\" d=\"M0 7H20\"/>",
+        "parked to the end",
+    ),
     (
         "<rect class=\"block open\" width=\"20\" height=\"14\" rx=\"2\" fill=\"#fff\"/>",
         "not ended",
@@ -119,18 +104,15 @@ static SIGNS: [(&str, &str); 8] = [
 pub fn push_legend(
     alloc: Global,
     into: &mut String,
-    plan: &Plan,
-    frame: &Frame,
-    bars: &[Bar],
+    drawing: Drawing,
     top: u64,
 ) -> Result<u64, AllocError> {
-    let width = frame.width();
     let mut pen = Pen { x: 12, y: top };
-    push_queues(alloc, into, plan, &mut pen, width, bars)?;
+    push_nodes(alloc, into, drawing, &mut pen)?;
     pen.x = 12;
     pen.y = pen.y.saturating_add(22);
     for (swatch, word) in &SIGNS {
-        push_entry(into, &mut pen, width, swatch, word)?;
+        push_entry(into, &mut pen, drawing.frame.texts(), swatch, word)?;
     }
     Ok(pen.y.saturating_add(26))
 }

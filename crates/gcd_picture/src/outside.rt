@@ -1,15 +1,17 @@
 // What came from the outside, and what ended the run.
 
+use crate::drawing::Drawing;
 use crate::escape::push_xml;
-use crate::frame::{BAR, Frame, text_width};
-use crate::naming::{feed_path, object_name, run_name};
+use crate::frame::text_width;
+use crate::naming::{feed_path, misuse_text, object_name};
 use crate::rows::Rows;
+use crate::scale::Tenths;
 use gcd_event::Event;
-use gcd_plan::{Plan, Run};
+use gcd_plan::Plan;
 use std::alloc::{AllocError, Global};
 use std::fmt::Write;
 
-// What is written of an event of the outside, and the class of its line.
+// What is written of an event of the outside or a misuse, and the class of its line.
 fn words_of(
     alloc: Global,
     plan: &Plan,
@@ -26,10 +28,19 @@ fn words_of(
             Ok(Some(("ready", format!(in alloc; "{name} ends")?)))
         }
         Event::Halt => Ok(Some(("halt", String::from_str(alloc, "halt")?))),
+        Event::Misuse {
+            run,
+            index,
+            code,
+            ..
+        } => {
+            let words = misuse_text(alloc, plan, run, index, code)?;
+            Ok(Some(("misuse", words)))
+        }
         Event::Start { .. } | Event::Act { .. } | Event::Wake { .. } | Event::End { .. } => Ok(
             None,
         ),
-        Event::Deliver { .. } | Event::DeliverEnd { .. } | Event::Misuse { .. } => Ok(None),
+        Event::Deliver { .. } | Event::DeliverEnd { .. } => Ok(None),
     }
 }
 
@@ -44,29 +55,20 @@ fn path_of(plan: &Plan, event: Event) -> &str {
     }
 }
 
-// A line down all lanes, with what is told of it when it is pointed at, and its words where there is room.
-fn push_outside(
+// Words in the rows of the outside, where there is room: to the right of their line, and at the page's edge to its left.
+fn push_words(
     into: &mut String,
-    plan: &Plan,
-    frame: &Frame,
+    drawing: Drawing,
     place: usize,
-    event: Event,
     class: &str,
     words: &str,
     rows: &mut Rows,
 ) -> Result<(), AllocError> {
-    let x = frame.scale.at(place);
-    let (top, bottom) = (frame.top().saturating_sub(8), frame.bottom());
-    write!(
-        into,
-        "<path class=\"{class}\" d=\"M{x} {top}V{bottom}\"><title>event {place}: "
-    )?;
-    push_xml(into, words)?;
-    into.push_str(" ")?;
-    push_xml(into, path_of(plan, event))?;
-    into.push_str("</title></path>\n")?;
-    if let Some(row) = rows.take(0, x, x.plus(text_width(words)).plus(text_width(" "))) {
-        let y = frame.outside_row(row);
+    let width = text_width(words).plus(text_width(" "));
+    let most = Tenths::pixels(drawing.frame.width()).minus(width);
+    let x = Tenths(drawing.frame.scale.at(place).0.min(most.0));
+    if let Some(row) = rows.take(0, x, x.plus(width)) {
+        let y = drawing.frame.outside_row(row);
         write!(into, "<text class=\"{class}\" x=\"{x}\" y=\"{y}\">")?;
         push_xml(into, words)?;
         into.push_str("</text>\n")?;
@@ -74,60 +76,63 @@ fn push_outside(
     Ok(())
 }
 
-// A cross where a misuse ended the run.
-fn push_misuse(
+// A line down all lanes, with what is told of it when it is pointed at.
+fn push_outside(
     into: &mut String,
-    plan: &Plan,
-    frame: &Frame,
+    drawing: Drawing,
     place: usize,
-    worker: u8,
-    run: Run,
-    code: u8,
+    event: Event,
+    class: &str,
+    words: &str,
 ) -> Result<(), AllocError> {
-    let x = frame.scale.at(place);
-    let y = frame
-        .lane(worker as usize)
-        .saturating_add(4)
-        .saturating_add(BAR / 2);
+    let x = drawing.frame.scale.at(place);
+    let (top, bottom) = (
+        drawing.frame.top().saturating_sub(8),
+        drawing.frame.bottom(),
+    );
     write!(
         into,
-        "<path class=\"misuse\" d=\"M{x} {y}m-8 -8l16 16m0 -16l-16 16\"><title>event {place}: misuse {code} by "
+        "<path class=\"{class}\" d=\"M{x} {top}V{bottom}\"><title>event {place}: "
     )?;
-    push_xml(into, run_name(plan, run))?;
+    push_xml(into, words)?;
+    into.push_str(" ")?;
+    push_xml(into, path_of(drawing.showing.plan, event))?;
     into.push_str("</title></path>\n")
 }
 
-/// Adds the ticks, what came on feeds, and how the run was halted or misused.
-pub fn push_marks(
-    alloc: Global,
-    into: &mut String,
-    plan: &Plan,
-    frame: &Frame,
-    events: &[Event],
-) -> Result<(), AllocError> {
+/// Adds the lines of ticks, of what came on feeds and of a halt, and their words.
+pub fn push_marks(alloc: Global, into: &mut String, drawing: Drawing) -> Result<(), AllocError> {
     let mut rows = Rows::new(alloc, 1)?;
-    for (place, event) in events.iter().enumerate() {
-        if let Some((class, words)) = words_of(alloc, plan, *event)? {
-            push_outside(
-                into,
-                plan,
-                frame,
-                place,
-                *event,
-                class,
-                words.as_str(),
-                &mut rows,
-            )?;
-        }
-        if let Event::Misuse {
-            worker,
-            run,
-            code,
-            ..
-        } = event
-        {
-            push_misuse(into, plan, frame, place, *worker, *run, *code)?;
+    for (place, event) in drawing.showing.events.iter().enumerate() {
+        if let Some((class, words)) = words_of(alloc, drawing.showing.plan, *event)? {
+            let words = words.as_str();
+            if class != "misuse" {
+                push_outside(into, drawing, place, *event, class, words)?;
+            }
+            push_words(into, drawing, place, class, words, &mut rows)?;
         }
     }
     Ok(())
+}
+
+/// Adds a cross over its bar where a misuse ended the run.
+pub fn push_misuse(alloc: Global, into: &mut String, drawing: Drawing) -> Result<(), AllocError> {
+    let events = drawing.showing.events;
+    let Some(event) = events.last() else {
+        return Ok(());
+    };
+    let Event::Misuse { worker, .. } = event else {
+        return Ok(());
+    };
+    let place = events.len().saturating_sub(1);
+    let x = drawing.frame.scale.at(place);
+    let y = drawing.frame.bars(*worker as usize).saturating_sub(11);
+    write!(
+        into,
+        "<path class=\"misuse\" d=\"M{x} {y}m-8 -8l16 16m0 -16l-16 16\"><title>event {place}: "
+    )?;
+    if let Some((_, words)) = words_of(alloc, drawing.showing.plan, *event)? {
+        push_xml(into, words.as_str())?;
+    }
+    into.push_str("</title></path>\n")
 }

@@ -1,13 +1,13 @@
-// On which queue a run is.
+// On which node a run is.
 
 use gcd_plan::{Act, Blk, Obj, Plan, Run};
 use std::alloc::{AllocError, Global};
 
-/// The queue of each block, by number: the one to which the plan submits it, and `root` where it submits it to none; and whether
-/// it is a barrier there.
+/// The queue of each block, by number: the one to which the plan submits it, and None for `main`, which it submits to none; and
+/// whether it is a barrier there.
 #[derive(Drop)]
 pub struct Queues {
-    blocks: Vec<Obj>,
+    blocks: Vec<Option<Obj>>,
     barriers: Vec<bool>,
 }
 
@@ -57,10 +57,10 @@ fn cancelled(plan: &Plan, s: Obj) -> Option<(Obj, Blk)> {
     }
 }
 
-fn put(blocks: &mut [Obj], submission: Option<(Obj, Blk)>) {
+fn put(blocks: &mut [Option<Obj>], submission: Option<(Obj, Blk)>) {
     if let Some((queue, b)) = submission {
         if let Some(place) = blocks.get_mut(b.0 as usize) {
-            *place = queue;
+            *place = Some(queue);
         }
     }
 }
@@ -68,7 +68,7 @@ fn put(blocks: &mut [Obj], submission: Option<(Obj, Blk)>) {
 impl Queues {
     /// The queues of the plan; an `Err` comes only where memory runs out.
     pub fn new(alloc: Global, plan: &Plan) -> Result<Queues, AllocError> {
-        let mut blocks = vec![in alloc; Obj(0); plan.blocks() as usize]?;
+        let mut blocks = vec![in alloc; None; plan.blocks() as usize]?;
         let mut barriers = vec![in alloc; false; plan.blocks() as usize]?;
         for b in 0..plan.blocks() {
             for act in plan.acts(Run::Block(Blk(b))) {
@@ -82,17 +82,11 @@ impl Queues {
         Ok(Queues { blocks, barriers })
     }
 
-    /// The queue of a run: a block's own, and the first target of a source.
-    pub fn of(&self, plan: &Plan, run: Run) -> Obj {
+    /// The node of a run: a block's queue, and a source itself.
+    pub fn of(&self, run: Run) -> Option<Obj> {
         match run {
-            Run::Block(b) => self.blocks.get(b.0 as usize).copied().unwrap_or(Obj(0)),
-            Run::Source(s) => {
-                if s.0 < plan.objects() {
-                    plan.first_target(s)
-                } else {
-                    Obj(0)
-                }
-            }
+            Run::Block(b) => self.blocks.get(b.0 as usize).copied().unwrap_or(None),
+            Run::Source(s) => Some(s),
         }
     }
 

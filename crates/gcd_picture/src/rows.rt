@@ -1,4 +1,4 @@
-// Which of two rows beneath a lane has room.
+// Which of two rows has room.
 
 use crate::scale::Tenths;
 use std::alloc::{AllocError, Global};
@@ -10,7 +10,7 @@ struct Taken {
     lower: u64,
 }
 
-/// The two rows beneath each lane. What is put there from left to right does not overlap.
+/// The two rows of names of each lane. What is put there from left to right does not overlap.
 #[derive(Drop)]
 pub struct Rows {
     lanes: Vec<Taken>,

@@ -31,8 +31,8 @@ impl Tenths {
     }
 }
 
-/// The places of a journal along a page: 24 pixels an event for up to 60 events, then fewer, and never more than 2000 pixels in
-/// all.
+/// The places of a journal along a page: [`EVENT`] pixels an event, and never more than [`MOST`] in all, so that from 1,334 events
+/// on they stand closer.
 #[derive(Clone, Copy)]
 pub struct Scale {
     events: u64,
@@ -42,18 +42,11 @@ pub struct Scale {
 /// The pixels to the left of the first event.
 pub const LEFT: u64 = 84;
 
-// The width of all events, in pixels.
-fn width_of(events: u64) -> u64 {
-    if events <= 60 {
-        events * 24
-    } else if events <= 144 {
-        1440
-    } else if events <= 200 {
-        events * 10
-    } else {
-        2000
-    }
-}
+/// The pixels of an event.
+pub const EVENT: u64 = 24;
+
+/// The most pixels that all events take.
+pub const MOST: u64 = 32_000;
 
 impl Scale {
     /// The scale of a journal of so many events.
@@ -61,7 +54,7 @@ impl Scale {
         let events = events as u64;
         Scale {
             events,
-            width: width_of(events),
+            width: events.saturating_mul(EVENT).min(MOST),
         }
     }
 

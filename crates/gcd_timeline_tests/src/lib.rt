@@ -3,4 +3,8 @@
 #![tactic(auto)]
 
 #[cfg(test)]
+mod scripts;
+#[cfg(test)]
 mod tests;
+#[cfg(test)]
+mod wide;

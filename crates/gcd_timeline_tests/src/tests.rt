@@ -1,7 +1,7 @@
 // Small journals by rows: their marks, lines of their pages, and their traces.
 
 use gcd_event::Event;
-use gcd_picture::{push_json, push_xml, run_name, svg, trace};
+use gcd_picture::{ScriptLines, Showing, push_json, push_xml, run_name, svg, trace};
 use gcd_plan::{Act, Blk, BlkPart, Kind, Obj, ObjPart, Parts, Plan, Run};
 use gcd_timeline::{Mark, marks};
 use std::alloc::{AllocError, Global};
@@ -29,8 +29,14 @@ static ROWS: [Row; 4] = [
         acts: &[],
         events: &[],
         marks: "",
-        lines: &["0 runs by 1 worker, 0 events</text>"],
-        trace: "{\"ph\":\"M\",\"pid\":1,\"tid\":0,\"name\":\"thread_name\",\"args\":{\"name\":\"worker 0\"}},\n",
+        lines: &[
+            "width=\"760\"",
+            "0 runs by 1 worker, 0 events: open</text>",
+            "submitted and not started: 1</text>",
+        ],
+        trace: "{\"ph\":\"M\",\"pid\":1,\"tid\":0,\"name\":\"thread_name\",\"args\":{\"name\":\"worker 0\"}},
+{\"ph\":\"i\",\"s\":\"g\",\"pid\":1,\"tid\":0,\"ts\":0,\"cat\":\"state\",\"name\":\"open\",\"args\":{\"why\":[]}},
+",
     },
     // main on worker 0 waits for b on worker 1, which then wakes it
     Row {
@@ -64,19 +70,25 @@ static ROWS: [Row; 4] = [
         ],
         marks: "main 0:0-1 1:4-5\nb 1:2-3\n",
         lines: &[
-            "2 runs by 2 workers, 6 events</text>",
-            "<rect class=\"block\" x=\"96.0\" y=\"34\" width=\"24.0\" height=\"20\" rx=\"2\" fill=\"#d9d9d9\"><title>main on root, worker 0, events 0 to 1</title></rect>\n",
-            "<rect class=\"block\" x=\"144.0\" y=\"108\" width=\"24.0\" height=\"20\" rx=\"2\" fill=\"#8dd3c7\"><title>b on q, worker 1, events 2 to 3</title></rect>\n",
-            "<path class=\"parked\" d=\"M120.0 54V90H192.0V128\"><title>main waits for b</title></path>\n",
-            "<text x=\"147.0\" y=\"122\">b</text>\n",
+            "2 runs by 2 workers, 6 events: open</text>",
+            "<rect class=\"block\" x=\"96.0\" y=\"58\" width=\"24.0\" height=\"20\" rx=\"2\" fill=\"#e0e0e0\"><title>main, block on no queue, worker 0, events 0 to 1</title></rect>\n",
+            "<rect class=\"block\" x=\"144.0\" y=\"139\" width=\"24.0\" height=\"20\" rx=\"2\" fill=\"#fdb462\"><title>b, block on q, worker 1, events 2 to 3</title></rect>\n",
+            "<path class=\"parked\" d=\"M120.0 78V93H192.0V139\"><title>main waits for b</title></path>\n",
+            "<text class=\"above\" x=\"97.0\" y=\"54\">main</text>\n",
+            "<text class=\"wait\" x=\"124.0\" y=\"90\">for b</text>\n",
+            "<text class=\"name\" x=\"147.0\" y=\"153\">b</text>\n",
         ],
         trace: "{\"ph\":\"M\",\"pid\":1,\"tid\":0,\"name\":\"thread_name\",\"args\":{\"name\":\"worker 0\"}},
 {\"ph\":\"M\",\"pid\":1,\"tid\":1,\"name\":\"thread_name\",\"args\":{\"name\":\"worker 1\"}},
-{\"ph\":\"X\",\"pid\":1,\"tid\":0,\"ts\":0,\"dur\":1,\"name\":\"main\",\"cat\":\"root\"},
+{\"ph\":\"X\",\"pid\":1,\"tid\":0,\"ts\":0,\"dur\":2,\"cat\":\"block\",\"name\":\"main\",\"args\":{\"queue\":\"no queue\"}},
 {\"ph\":\"b\",\"pid\":1,\"tid\":0,\"ts\":1,\"id\":1,\"cat\":\"parked\",\"name\":\"main waits for b\"},
 {\"ph\":\"e\",\"pid\":1,\"tid\":1,\"ts\":4,\"id\":1,\"cat\":\"parked\",\"name\":\"main waits for b\"},
-{\"ph\":\"X\",\"pid\":1,\"tid\":1,\"ts\":2,\"dur\":1,\"name\":\"b\",\"cat\":\"q\"},
-{\"ph\":\"X\",\"pid\":1,\"tid\":1,\"ts\":4,\"dur\":1,\"name\":\"main\",\"cat\":\"root\"},
+{\"ph\":\"X\",\"pid\":1,\"tid\":1,\"ts\":2,\"dur\":2,\"cat\":\"block\",\"name\":\"b\",\"args\":{\"queue\":\"q\"}},
+{\"ph\":\"X\",\"pid\":1,\"tid\":1,\"ts\":4,\"dur\":2,\"cat\":\"block\",\"name\":\"main\",\"args\":{\"queue\":\"no queue\"}},
+{\"ph\":\"i\",\"s\":\"t\",\"pid\":1,\"tid\":0,\"ts\":1,\"cat\":\"act\",\"name\":\"sync q b\"},
+{\"ph\":\"s\",\"pid\":1,\"tid\":0,\"ts\":1,\"id\":1,\"cat\":\"submission\",\"name\":\"submits b\"},
+{\"ph\":\"f\",\"bp\":\"e\",\"pid\":1,\"tid\":1,\"ts\":2,\"id\":1,\"cat\":\"submission\",\"name\":\"submits b\"},
+{\"ph\":\"i\",\"s\":\"g\",\"pid\":1,\"tid\":0,\"ts\":6,\"cat\":\"state\",\"name\":\"open\",\"args\":{\"why\":[]}},
 ",
     },
     // a delivery that has not ended, after a tick
@@ -109,13 +121,16 @@ static ROWS: [Row; 4] = [
         ],
         marks: "main 0:0-3\ns 0:5-6\n",
         lines: &[
-            "<path class=\"tick\" d=\"M192.0 60V142\"><title>event 4: 7 ms </title></path>\n<text class=\"tick\" x=\"192.0\" y=\"42\">7 ms</text>\n",
-            "<rect class=\"delivery open\" x=\"216.0\" y=\"72\" width=\"12.0\" height=\"20\" rx=\"10\" fill=\"#8dd3c7\">",
+            "<path class=\"tick\" d=\"M192.0 60V134\"><title>event 4: 7 ms </title></path>\n<text class=\"tick\" x=\"192.0\" y=\"42\">7 ms</text>\n",
+            "<rect class=\"delivery open\" x=\"216.0\" y=\"96\" width=\"12.0\" height=\"20\" rx=\"10\" fill=\"#bebada\"><title>s, delivery on s, worker 0, events 5 to 6</title>",
         ],
         trace: "{\"ph\":\"M\",\"pid\":1,\"tid\":0,\"name\":\"thread_name\",\"args\":{\"name\":\"worker 0\"}},
-{\"ph\":\"X\",\"pid\":1,\"tid\":0,\"ts\":0,\"dur\":3,\"name\":\"main\",\"cat\":\"root\"},
-{\"ph\":\"X\",\"pid\":1,\"tid\":0,\"ts\":5,\"dur\":1,\"name\":\"s\",\"cat\":\"q\"},
-{\"ph\":\"i\",\"s\":\"g\",\"pid\":1,\"tid\":0,\"ts\":4,\"name\":\"tick 7\"},
+{\"ph\":\"X\",\"pid\":1,\"tid\":0,\"ts\":0,\"dur\":4,\"cat\":\"block\",\"name\":\"main\",\"args\":{\"queue\":\"no queue\"}},
+{\"ph\":\"B\",\"pid\":1,\"tid\":0,\"ts\":5,\"cat\":\"delivery\",\"name\":\"s\",\"args\":{\"queue\":\"s\"}},
+{\"ph\":\"i\",\"s\":\"t\",\"pid\":1,\"tid\":0,\"ts\":1,\"cat\":\"act\",\"name\":\"activate s\"},
+{\"ph\":\"i\",\"s\":\"t\",\"pid\":1,\"tid\":0,\"ts\":2,\"cat\":\"act\",\"name\":\"merge s 5\"},
+{\"ph\":\"i\",\"s\":\"g\",\"pid\":1,\"tid\":0,\"ts\":4,\"cat\":\"outside\",\"name\":\"tick 7\"},
+{\"ph\":\"i\",\"s\":\"g\",\"pid\":1,\"tid\":0,\"ts\":6,\"cat\":\"state\",\"name\":\"open\",\"args\":{\"why\":[]}},
 ",
     },
     // a misuse, and what no plan can have: a block that it has not
@@ -126,12 +141,6 @@ static ROWS: [Row; 4] = [
                 worker: 0,
                 blk: Blk(0),
             },
-            Event::Misuse {
-                worker: 0,
-                run: MAIN,
-                index: 0,
-                code: 1,
-            },
             Event::Start {
                 worker: 1,
                 blk: Blk(9),
@@ -141,17 +150,25 @@ static ROWS: [Row; 4] = [
                 run: B,
                 index: 7,
             },
+            Event::Misuse {
+                worker: 0,
+                run: MAIN,
+                index: 0,
+                code: 1,
+            },
         ],
-        marks: "main 0:0-4\n? 1:2-4\n",
+        marks: "main 0:0-4\n? 1:1-4\n",
         lines: &[
-            "<path class=\"misuse\" d=\"M120.0 44m-8 -8l16 16m0 -16l-16 16\"><title>event 1: misuse 1 by main</title></path>\n",
-            "<rect class=\"block open\" x=\"96.0\" y=\"34\" width=\"84.0\"",
+            "<path class=\"misuse\" d=\"M168.0 85m-8 -8l16 16m0 -16l-16 16\"",
+            "<rect class=\"block open\" x=\"96.0\" y=\"96\" width=\"84.0\"",
         ],
         trace: "{\"ph\":\"M\",\"pid\":1,\"tid\":0,\"name\":\"thread_name\",\"args\":{\"name\":\"worker 0\"}},
 {\"ph\":\"M\",\"pid\":1,\"tid\":1,\"name\":\"thread_name\",\"args\":{\"name\":\"worker 1\"}},
-{\"ph\":\"X\",\"pid\":1,\"tid\":0,\"ts\":0,\"dur\":4,\"name\":\"main\",\"cat\":\"root\"},
-{\"ph\":\"X\",\"pid\":1,\"tid\":1,\"ts\":2,\"dur\":2,\"name\":\"?\",\"cat\":\"root\"},
-{\"ph\":\"i\",\"s\":\"t\",\"pid\":1,\"tid\":0,\"ts\":1,\"name\":\"misuse 1\"},
+{\"ph\":\"B\",\"pid\":1,\"tid\":0,\"ts\":0,\"cat\":\"block\",\"name\":\"main\",\"args\":{\"queue\":\"no queue\"}},
+{\"ph\":\"B\",\"pid\":1,\"tid\":1,\"ts\":1,\"cat\":\"block\",\"name\":\"?\",\"args\":{\"queue\":\"no queue\"}},
+{\"ph\":\"i\",\"s\":\"t\",\"pid\":1,\"tid\":1,\"ts\":2,\"cat\":\"act\",\"name\":\"?\"},
+{\"ph\":\"i\",\"s\":\"t\",\"pid\":1,\"tid\":0,\"ts\":3,\"cat\":\"misuse\",\"name\":\"misuse M1: leave g in main\"},
+{\"ph\":\"i\",\"s\":\"g\",\"pid\":1,\"tid\":0,\"ts\":4,\"cat\":\"state\",\"name\":\"open\",\"args\":{\"why\":[]}},
 ",
     },
 ];
@@ -216,17 +233,23 @@ fn try_row(rt: &(impl Abort + AllocGlobal), row: &'static Row) -> Result<(), Fai
     let plan = plan_of(alloc, row.acts)?.ok_or("no plan")?;
     let made = marks(alloc, &plan, row.events)?;
     assert_eq!(rt; spelled(alloc, &plan, &made)?.as_str(), row.marks);
-    let page = svg(alloc, &plan, &made, row.events)?;
+    let lines = ScriptLines::none(alloc);
+    let showing = Showing {
+        plan: &plan,
+        marks: made.as_slice(),
+        events: row.events,
+        state: "open",
+        notes: &[],
+        lines: &lines,
+    };
+    let page = svg(alloc, showing)?;
     assert_eq!(rt; missing(page.as_str(), row.lines), None);
     let wanted = format!(in alloc;
         "{{\"traceEvents\":[\n{}{}",
         row.trace,
         "{\"ph\":\"M\",\"pid\":1,\"name\":\"process_name\",\"args\":{\"name\":\"run\"}}\n]}\n"
     )?;
-    assert_eq!(rt;
-        trace(alloc, &plan, &made, row.events)?.as_str(),
-        wanted.as_str()
-    );
+    assert_eq!(rt; trace(alloc, showing)?.as_str(), wanted.as_str());
     Ok(())
 }
 
@@ -244,40 +267,5 @@ fn texts_are_escaped(rt: HostRuntime) -> Result<(), Fail> {
     push_xml(&mut text, "a<b>&\"c\"")?;
     push_json(&mut text, "\\\"d\n")?;
     assert_eq!(rt; text.as_str(), "a&lt;b&gt;&amp;&quot;c&quot;\\\\\\\"d ");
-    Ok(())
-}
-
-// Many acts of main, and then b, whose bar is narrower than four pixels.
-fn dense_events(alloc: Global) -> Result<Vec<Event>, AllocError> {
-    let (main, b) = (Blk(0), Blk(1));
-    let mut events = Vec::new(alloc);
-    events.push(Event::Start {
-        worker: 0,
-        blk: main,
-    })?;
-    for index in 0..600 {
-        events.push(Event::Act {
-            worker: 0,
-            run: MAIN,
-            index,
-        })?;
-    }
-    events.push(Event::End {
-        worker: 0,
-        blk: main,
-    })?;
-    events.push(Event::Start { worker: 0, blk: b })?;
-    events.push(Event::End { worker: 0, blk: b })?;
-    Ok(events)
-}
-
-#[test]
-fn narrow_bars_have_thin_edges(rt: HostRuntime) -> Result<(), Fail> {
-    let plan = plan_of(rt.alloc(), &[])?.ok_or("no plan")?;
-    let events = dense_events(rt.alloc())?;
-    let made = marks(rt.alloc(), &plan, &events)?;
-    let page = svg(rt.alloc(), &plan, &made, &events)?;
-    let lines = &["<rect class=\"block\"", "<rect class=\"block thin\""];
-    assert_eq!(rt; missing(page.as_str(), lines), None);
     Ok(())
 }

@@ -1,12 +1,17 @@
 // What is written, and with which status the program ends.
-ghost use Rattle.std.specs.Prelude.{◌≡◌};
+ghost use Rattle.std.specs.Prelude.{◌≤◌, length};
+ghost use Rattle.gcd_plan.specs.Limits.{max_events};
 
-use crate::loading::load_run;
+use crate::loading::{Loaded, load_run};
 use crate::request::{Request, read_words};
 use crate::stop::Stop;
+use gcd_event::Event;
+use gcd_history::State;
 use gcd_outer::Shelf;
-use gcd_picture::{svg, trace};
+use gcd_picture::{Note, ScriptLines, Showing, svg, trace};
+use gcd_plan::{MAX_EVENTS, Plan};
 use gcd_timeline::marks;
+use gcd_why::{Sentence, why_run};
 use std::alloc::{AllocError, Global};
 
 /// How the program ends (this project's own rules; the numbers are those of `gcd check`).
@@ -77,18 +82,71 @@ fn refusal(alloc: Global, stop: Stop) -> Result<Answer, AllocError> {
     Ok(Answer { status, text })
 }
 
+// The word of a state.
+fn state_word(state: State, events: usize) -> &'static str {
+    match state {
+        State::Drained => "drained",
+        State::Stuck => "stuck",
+        State::Misused => "misuse",
+        State::Halted => "halted",
+        State::Live => {
+            if events < MAX_EVENTS as usize {
+                "open"
+            } else {
+                "full"
+            }
+        }
+    }
+}
+
+// Why the events have come to their state, in sentences with lines of the script.
+fn notes_of(
+    alloc: Global,
+    plan: &Plan,
+    script: &[u8],
+    events: &[Event],
+) -> Result<Vec<Note>, AllocError>
+    requires { length events.now ≤ max_events }
+{
+    let mut notes = Vec::new(alloc);
+    for sentence in why_run(alloc, plan, "", script, events)? {
+        let Sentence {
+            file: _,
+            line,
+            text,
+        } = sentence;
+        notes.push(Note { line, text })?;
+    }
+    Ok(notes)
+}
+
 // The picture or the trace of a journal.
-fn shown<S: Shelf>(alloc: Global, shelf: &mut S, request: Request) -> Result<String, Stop> {
-    let (plan, events) = load_run(alloc, shelf, request)?;
-    let Ok(marks) = marks(alloc, &plan, &events) else {
-        return Err(Stop::Memory);
+fn picture(alloc: Global, loaded: &Loaded, is_trace: bool) -> Result<String, AllocError>
+    requires { length loaded.now.events.items ≤ max_events }
+{
+    let (plan, events) = (&loaded.plan, loaded.events.as_slice());
+    let marks = marks(alloc, plan, events)?;
+    let notes = notes_of(alloc, plan, loaded.script.as_slice(), events)?;
+    let lines = ScriptLines::of(alloc, plan, loaded.script.as_slice())?;
+    let showing = Showing {
+        plan,
+        marks: marks.as_slice(),
+        events,
+        state: state_word(loaded.state, events.len()),
+        notes: notes.as_slice(),
+        lines: &lines,
     };
-    let text = if request.is_trace {
-        trace(alloc, &plan, &marks, &events)
+    if is_trace {
+        trace(alloc, showing)
     } else {
-        svg(alloc, &plan, &marks, &events)
-    };
-    match text {
+        svg(alloc, showing)
+    }
+}
+
+// The picture or the trace of a journal that is yet to be loaded.
+fn shown<S: Shelf>(alloc: Global, shelf: &mut S, request: Request) -> Result<String, Stop> {
+    let loaded = load_run(alloc, shelf, request)?;
+    match picture(alloc, &loaded, request.is_trace) {
         Ok(text) => Ok(text),
         Err(AllocError) => Err(Stop::Memory),
     }

@@ -1,16 +1,31 @@
 // The plan of a script, and a lawful journal of it.
-ghost use Rattle.std.specs.Prelude.{◌≤◌, length, IfOk};
-ghost use Rattle.gcd_plan.specs.Limits.{max_events};
-ghost use Rattle.gcd_history.specs.History.{IsLawful};
+ghost use Rattle.std.specs.Prelude.{◌≡◌, ◌≤◌, length, IfOk};
+ghost use Rattle.gcd_plan.specs.Limits.{max_events, max_script_bytes};
+ghost use Rattle.gcd_journal.specs.Judged.{IsLawfulWith};
+ghost use Rattle.gcd_view.specs.Loads.{IsLoaded, IsScript, IsJournalAt, IsRun};
 
 use crate::request::Request;
 use crate::stop::Stop;
 use gcd_event::Event;
+use gcd_history::State;
 use gcd_journal::{CheckFault, JournalFault, check, read_journal};
 use gcd_outer::{LoadFault, Shelf};
 use gcd_plan::{MAX_EVENTS, MAX_FILE_BYTES, MAX_SCRIPT_BYTES, Plan};
 use gcd_script::{ParseFault, Refusal, parse};
 use std::alloc::Global;
+
+/// A journal to be shown: the script's text and its plan, the events, and the state to which they have come.
+#[derive(Drop)]
+pub struct Loaded {
+    /// The script's text.
+    pub script: Vec<u8>,
+    /// The plan that the script declares.
+    pub plan: Plan,
+    /// The events of the journal.
+    pub events: Vec<Event>,
+    /// The state to which they have come.
+    pub state: State,
+}
 
 // What stands under the name, whole; `longer` is the answer for a content with more than `most` bytes.
 fn load_whole<S: Shelf>(
@@ -20,7 +35,8 @@ fn load_whole<S: Shelf>(
     most: u32,
     longer: Stop,
 ) -> Result<Vec<u8>, Stop>
-    ensures { IfOk result (λ bytes. length bytes.items ≤ most) }
+    ensures loaded { IfOk result (λ bytes. IsLoaded S.tells (S.content shelf.old) name.now most bytes.items) }
+    ensures same { S.content shelf.new ≡ S.content shelf.old }
 {
     let mut bytes = Vec::new(alloc);
     match shelf.load(name, most as usize, &mut bytes) {
@@ -32,15 +48,18 @@ fn load_whole<S: Shelf>(
     }
 }
 
-// The plan of the script under this name.
-fn load_plan<S: Shelf>(alloc: Global, shelf: &mut S, name: &str) -> Result<Plan, Stop> {
+// The text of the script under this name, and the plan that it declares.
+fn load_plan<S: Shelf>(alloc: Global, shelf: &mut S, name: &str) -> Result<(Vec<u8>, Plan), Stop>
+    ensures script { IfOk result (λ r. IsScript S.tells (S.content shelf.old) name.now r.0.items r.1) }
+    ensures same { S.content shelf.new ≡ S.content shelf.old }
+{
     let too_long = Stop::Script {
         line: 0,
         code: Refusal::PastLimit.code(),
     };
     let script = load_whole(alloc, shelf, name, MAX_SCRIPT_BYTES, too_long)?;
     match parse(alloc, &script) {
-        Ok(plan) => Ok(plan),
+        Ok(plan) => Ok((script, plan)),
         Err(ParseFault::Refused { line, code }) => Err(Stop::Script { line, code }),
         Err(ParseFault::Memory) => Err(Stop::Memory),
     }
@@ -53,7 +72,8 @@ fn load_journal<S: Shelf>(
     shelf: &mut S,
     name: &str,
 ) -> Result<Vec<Event>, Stop>
-    ensures { IfOk result (λ events. length events.items ≤ max_events) }
+    ensures journal { IfOk result (λ events. IsJournalAt S.tells (S.content shelf.old) name.now plan.now events.items) }
+    ensures few { IfOk result (λ events. length events.items ≤ max_events) }
 {
     let too_long = Stop::Journal { line: 0 };
     let text = load_whole(alloc, shelf, name, MAX_FILE_BYTES, too_long)?;
@@ -64,30 +84,33 @@ fn load_journal<S: Shelf>(
     }
 }
 
-// Whether each event is permitted where it stands.
-fn judge(alloc: Global, plan: &Plan, events: &[Event]) -> Result<(), Stop>
+// The state to which the events have come, where each is permitted where it stands.
+fn judge(alloc: Global, plan: &Plan, events: &[Event]) -> Result<State, Stop>
     requires { length events.now ≤ max_events }
-    ensures { IfOk result (λ _. IsLawful plan.now events.now) }
+    ensures { IfOk result (IsLawfulWith plan.now events.now) }
 {
     match check(alloc, plan, events) {
-        Ok(_) => Ok(()),
+        Ok(state) => Ok(state),
         Err(CheckFault::Unlawful { index }) => Err(Stop::Event { index }),
         Err(CheckFault::Memory) => Err(Stop::Memory),
     }
 }
 
-/// Loads the script and reads its plan, and then loads the journal, reads it and judges its events: what is given is a lawful
-/// journal of the plan. Else it says at which of these steps it stopped, and why: `Unread`, `Script`, `Journal` with a line,
-/// `Event`, or `Memory`.
-pub fn load_run<S: Shelf>(
-    alloc: Global,
-    shelf: &mut S,
-    request: Request,
-) -> Result<(Plan, Vec<Event>), Stop>
-    ensures { IfOk result (λ run. IsLawful run.0 run.1.items) }
+/// Loads the script and reads its plan, and then loads the journal, reads it and judges its events. The plan is the one that the
+/// script's text declares, the events are those of the journal's text, and lawful in the plan, and the state is theirs; the two
+/// texts are what stands under the two names of the request, where the shelf tells what it holds. Else it says at which of these
+/// steps it stopped, and why: `Unread`, `Script`, `Journal` with a line, `Event`, or `Memory`.
+pub fn load_run<S: Shelf>(alloc: Global, shelf: &mut S, request: Request) -> Result<Loaded, Stop>
+    ensures run { IfOk result (λ r. IsRun S.tells (S.content shelf.old) request.script.now request.journal.now r.script.items r.plan r.events.items r.state) }
+    ensures few { IfOk result (λ r. length r.events.items ≤ max_events) }
 {
-    let plan = load_plan(alloc, shelf, request.script)?;
+    let (script, plan) = load_plan(alloc, shelf, request.script)?;
     let events = load_journal(alloc, &plan, shelf, request.journal)?;
-    judge(alloc, &plan, &events)?;
-    Ok((plan, events))
+    let state = judge(alloc, &plan, &events)?;
+    Ok(Loaded {
+        script,
+        plan,
+        events,
+        state,
+    })
 }

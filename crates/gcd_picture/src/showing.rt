@@ -1,0 +1,33 @@
+// What is shown.
+
+use crate::script_lines::ScriptLines;
+use gcd_event::Event;
+use gcd_plan::Plan;
+use gcd_timeline::Mark;
+
+/// A sentence on how a run ended, and the line of the script that it is about, from 1; 0 is none.
+#[derive(Debug, Drop)]
+pub struct Note {
+    /// The line; 0 where there is none.
+    pub line: u32,
+    /// The sentence.
+    pub text: String,
+}
+
+/// A journal to be shown: the events with their marks ([`gcd_timeline::marks`]), in which state they have come to rest, and the
+/// lines of the script.
+#[derive(Clone, Copy)]
+pub struct Showing<'a> {
+    /// The plan of the journal.
+    pub plan: &'a Plan,
+    /// The marks of the events.
+    pub marks: &'a [Mark],
+    /// The events, from the first on.
+    pub events: &'a [Event],
+    /// The state to which they have come, in a word.
+    pub state: &'a str,
+    /// Why they have come to it.
+    pub notes: &'a [Note],
+    /// Where the blocks and acts stand in the script.
+    pub lines: &'a ScriptLines,
+}
