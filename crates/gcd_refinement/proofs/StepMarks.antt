@@ -208,7 +208,7 @@ by_act plan past w r i v o (Some (Merge s n)) at valid own old off =
     record {
       list = quiet.list;
       pend = is ∙ (ap (λ m. fold_at plan o (new_inputs plan past o ++ cond (s.0 == o && has_effect_at plan o n) (m ∷ []) [])) none
-      ∙ zero_stays plan o (s.0 == o && has_effect_at plan o n) (new_inputs plan past o) quiet.pend);
+          ∙ zero_stays plan o (s.0 == o && has_effect_at plan o n) (new_inputs plan past o) quiet.pend);
     })
     (λ (some : n ≡ 0 → ⊥).
     by_input plan past (Acted w r i) s.0 (cond (has_effect_at plan o n) (n ∷ []) []) v o low own old
