@@ -1,5 +1,5 @@
 -- The bounds that are sums: the open runs of all objects, how many blocks are left, and what is pending; and so all bounds.
-use Rattle.std.proofs.Common.{◌≡◌, ℕ, zero, suc, ◌+◌, ◌≤◌, ◌==◌, Bool, false, not, cond, List, [], ◌∷◌, length, get_or, Option, Some, None, refl, ap, sym, subst, arith, eq-eqb, ne_eqb, option_map, codes, ◌++◌, ◌-◌, ◌*◌, ltb, map, filter, true}
+use Rattle.std.proofs.Common.{◌≡◌, ℕ, zero, suc, ◌+◌, ◌≤◌, ◌==◌, ◌&&◌, Bool, false, not, cond, List, [], ◌∷◌, length, get_or, Option, Some, None, refl, ap, sym, subst, arith, eq-eqb, ne_eqb, option_map, codes, ◌++◌, ◌-◌, ◌*◌, ltb, map, filter, true}
 use Rattle.std.specs.List.{count_by, sum, sum_by, slice_get, range_with_len, fold}
 use Rattle.std.specs.Option.{option_map_or}
 use Rattle.std.proofs.lemmas.Bool.{and_parts, leb-true}
