@@ -5,7 +5,7 @@ use crate::naming::{node_name, run_name};
 use crate::queues::Queues;
 use crate::submissions::Submissions;
 use crate::swatches::{Pen, push_entry};
-use gcd_plan::{Blk, Run};
+use gcd_plan::{Blk, Obj, Run};
 use std::alloc::{AllocError, Global};
 use std::fmt::Write;
 
@@ -53,6 +53,26 @@ fn find_unstarted(alloc: Global, drawing: Drawing) -> Result<Unstarted, AllocErr
     Ok(found)
 }
 
+// A pale swatch in the colour of a run's queue, with the names of both.
+fn push_swatch(
+    alloc: Global,
+    into: &mut String,
+    drawing: Drawing,
+    pen: &mut Pen,
+    run: Run,
+    node: Option<Obj>,
+) -> Result<(), AllocError> {
+    let plan = drawing.showing.plan;
+    let (name, queue) = (run_name(plan, run), node_name(plan, node));
+    let words = format!(in alloc; "{name} on {queue}")?;
+    let fill = drawing.palette.of(node);
+    let swatch = format!(in alloc;
+        "<rect class=\"block open\" width=\"20\" height=\"14\" rx=\"2\" fill=\"{fill}\"/>"
+    )?;
+    let width = drawing.frame.texts();
+    push_entry(into, pen, width, swatch.as_str(), words.as_str())
+}
+
 // A swatch for each of the runs, after how many there are and what they are; nothing where there is none.
 fn push_runs(
     alloc: Global,
@@ -66,7 +86,7 @@ fn push_runs(
     if runs.is_empty() {
         return Ok(top);
     }
-    let (count, plan) = (runs.len(), drawing.showing.plan);
+    let count = runs.len();
     let more = if count > SHOWN {
         ", the first of them"
     } else {
@@ -82,15 +102,7 @@ fn push_runs(
     };
     for (number, run) in runs.iter().enumerate() {
         if number < SHOWN {
-            let node = queues.of(*run);
-            let (name, queue) = (run_name(plan, *run), node_name(plan, node));
-            let words = format!(in alloc; "{name} on {queue}")?;
-            let fill = drawing.palette.of(node);
-            let swatch = format!(in alloc;
-                "<rect class=\"block open\" width=\"20\" height=\"14\" rx=\"2\" fill=\"{fill}\"/>"
-            )?;
-            let width = drawing.frame.texts();
-            push_entry(into, &mut pen, width, swatch.as_str(), words.as_str())?;
+            push_swatch(alloc, into, drawing, &mut pen, *run, queues.of(*run))?;
         }
     }
     Ok(pen.y.saturating_add(38))

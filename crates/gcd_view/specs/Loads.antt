@@ -3,11 +3,9 @@ use Rattle.std.specs.Prelude.{◌≡◌, ◌≤◌, ℕ, Bool, true, List, Optio
 use Rattle.gcd_plan.specs.Limits.{max_events, max_file_bytes, max_script_bytes}
 use Rattle.gcd_plan.specs.PlanView.{PlanView}
 use Rattle.gcd_event.specs.declared.event.Event.{Event}
-use Rattle.gcd_history.specs.declared.state.State.{State}
 use Rattle.gcd_outer.specs.Outside.{Bytes}
 use Rattle.gcd_script.specs.Faults.{IsScriptOf}
 use Rattle.gcd_journal.specs.Journals.{IsJournal}
-use Rattle.gcd_journal.specs.Judged.{IsLawfulWith}
 
 -- what a shelf holds under a name
 abbrev pub Content : Type 0
@@ -28,10 +26,3 @@ pub record IsJournalAt (tells : Bool) (content : Content) (name : Bytes) (plan :
   pub text : Bytes
   pub loaded : IsLoaded tells content name max_file_bytes text
   pub reads : IsJournal max_events plan text h
-
--- the script of this name declares the plan, and the journal of that name is one of it, of these events, which are lawful and have
--- come to this state
-pub record IsRun (tells : Bool) (content : Content) (script_name journal_name script : Bytes) (plan : PlanView) (h : List Event) (state : State) : Type 0 where
-  pub script : IsScript tells content script_name script plan
-  pub journal : IsJournalAt tells content journal_name plan h
-  pub judged : IsLawfulWith plan h state
