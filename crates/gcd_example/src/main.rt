@@ -14,7 +14,7 @@ mod reading;
 
 use crate::plan::{READINGS, STATIONS, plan_of_stations};
 use crate::reading::jobs_of_readings;
-use gcd_workers::run_jobs;
+use gcd_workers::{JobsRefused, run_jobs};
 use std::alloc::{AllocError, Global};
 use std::fmt::Write;
 use std::process::ExitCode;
@@ -49,6 +49,7 @@ fn text<R: Threads + Wait + Sync>(rt: &R, alloc: Global) -> Result<String, Alloc
     };
     match run_jobs(rt, alloc, &plan, jobs_of_readings(alloc)?, WORKERS) {
         Ok(run) => lines_of(alloc, &run.values),
+        Err(JobsRefused::OutOfMemory) => Err(AllocError),
         Err(refusal) => format!(in alloc; "{refusal}\n"),
     }
 }
