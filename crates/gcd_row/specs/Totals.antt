@@ -9,7 +9,7 @@ abbrev pub handed_earlier : PlanView → List Event → ℕ → List ℕ
 handed_earlier plan [] s = []
 handed_earlier plan (e ∷ past) s = if delivers s e then handed plan past s else handed_earlier plan past s
 
--- all that they handed over, in one, as the source's kind folds values (`folded` of gcd_plan): bit by bit at an or source, and
--- else by addition
+-- all that they handed over, in one, as the source's kind folds values (`folded` of gcd_plan): bit by bit at an or source, the
+-- newest at a replace source, and else by addition
 unfoldable pub received_earlier : PlanView → List Event → ℕ → ℕ
 received_earlier plan h s = fold_at plan s (handed_earlier plan (reverse h) s)

@@ -87,7 +87,7 @@ impl<J: Job + Drop, H: Handler + Drop> RowBoard<Cell<J, H>> {
     /// Takes the handler of the source whose run the pass holds, to call it; the slot is then `Away`. Conditions: the pass's own
     /// Deliver is the source's last, its run is open, and the handler is in the slot and was not called in this run yet. The
     /// handler has taken each Deliver of the source before this run's and no other: its total is what these handed over, in one,
-    /// bit by bit at an or source and else by addition.
+    /// by the source's kind: joined bit by bit, the newest, or added.
     pub fn take_handler(&self, pass: &mut Pass<J, H>, s: Obj) -> H
         requires pass { IsPassOf (shape_of H.kind H.times H.total) (gives_of J.gives) self.now pass.old }
         requires run { held_run (view pass.old) ≡ Some (Source s) }
