@@ -164,7 +164,7 @@ fn run_team<J: Job + Drop + Send, R: Threads + Wait + Sync>(
 }
 
 /// Runs a caller's own jobs: the plan by at most so many workers, until the run is quiescent, halted or full. There is one job for each
-/// block, by number, so the first is `main`'s; it runs once, at the input 0, where its block comes to its end, and a block has a value
+/// block, by number, so the first is `main`'s; it runs at most once, at the input 0, where its block comes to its end, and a block has a value
 /// exactly where it has ended. Each source's handler is a tally, of which nothing is told. Board, rack, tallies, poller and clock are
 /// made by the call, and dropped.
 ///
