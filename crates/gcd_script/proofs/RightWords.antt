@@ -67,13 +67,13 @@ module _ (d : DraftView) (sound : IsDraft d) where
   queue_on_root name k active kind target h =
       let b = both_are (one_of queue_kinds k) (Ok root) kind target h in
       let on : root ≡ target = let r : ◌≡◌ {A = Meant Obj} (Ok root) (Ok target) = b.1 in cc in
-      queue_object d.plan name kind target active (one_is (λ a. is_queue_kind a ≡ true) queue_kinds k kind (refl, (refl, (refl, tt))) b.0)
+      queue_object d.plan name kind target active (one_is (λ a. is_queue_kind a ≡ true) queue_kinds k kind (refl, (refl, tt)) b.0)
       (subst (λ t. is_queue d.plan t.0 ≡ true) on root_queue)
 
   queue_on : (name k t : List ℕ) (active : Bool) (kind : Kind) (target : Obj) → both (one_of queue_kinds k) (queue d.plan t) ≡ Ok (kind, target) → is_object d.plan (new_object name kind target active []) ≡ true
   queue_on name k t active kind target h =
       let b = both_are (one_of queue_kinds k) (queue d.plan t) kind target h in
-      queue_object d.plan name kind target active (one_is (λ a. is_queue_kind a ≡ true) queue_kinds k kind (refl, (refl, (refl, tt))) b.0)
+      queue_object d.plan name kind target active (one_is (λ a. is_queue_kind a ≡ true) queue_kinds k kind (refl, (refl, tt)) b.0)
       (object_asked d.plan is_queue_kind t target b.1)
 
   pub queue_fits : (words : List (List ℕ)) (line : Line (List ℕ)) → queue_line d.plan words ≡ Ok line → Fits d line
