@@ -101,8 +101,8 @@ fn judge(alloc: Global, plan: &Plan, events: &[Event]) -> Result<State, Stop>
 /// texts are what stands under the two names of the request, where the shelf tells what it holds. Else it says at which of these
 /// steps it stopped, and why: `Unread`, `Script`, `Journal` with a line, `Event`, or `Memory`.
 pub fn load_run<S: Shelf>(alloc: Global, shelf: &mut S, request: Request) -> Result<Loaded, Stop>
-    ensures script { IfOk result (λ r. IsScript S.tells (S.content shelf.old) request.script.now r.script.items r.plan) }
-    ensures journal { IfOk result (λ r. IsJournalAt S.tells (S.content shelf.old) request.journal.now r.plan r.events.items) }
+    ensures script { IfOk result (λ r. IsScript S.tells (S.content shelf.old) request.entry.script.now r.script.items r.plan) }
+    ensures journal { IfOk result (λ r. IsJournalAt S.tells (S.content shelf.old) request.entry.journal.now r.plan r.events.items) }
     ensures judged { IfOk result (λ r. IsLawfulWith r.plan r.events.items r.state) }
     ensures few { IfOk result (λ r. length r.events.items ≤ max_events) }
 {
