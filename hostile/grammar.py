@@ -7,10 +7,10 @@ WELL_FORMED = re.compile(r"[a-z][a-z0-9_]{0,31}")
 MOST = {"file": 64, "object": 1023, "block": 16384, "act": 65535}
 DAY, MEBIBYTES, LARGE = (1, 86_400_000), (0, 16_777_216), (0, 2_147_483_647)
 QUEUES = {"queue", "root"}
-SOURCES = {"add", "or", "timer", "read"}
+SOURCES = {"add", "or", "replace", "timer", "read"}
 OBJECTS = {"queue", "group", "semaphore"} | SOURCES
 NODES = {"queue"} | SOURCES
-KINDS = {"Q": QUEUES, "T": QUEUES, "G": {"group"}, "X": {"semaphore"}, "O": NODES, "S": SOURCES, "M": {"add", "or"}}
+KINDS = {"Q": QUEUES, "T": QUEUES, "G": {"group"}, "X": {"semaphore"}, "O": NODES, "S": SOURCES, "M": {"add", "or", "replace"}}
 KINDS |= {"A": OBJECTS, "B": {"block"}, "C": {"block"}, "F": {"file"}}
 NUMBERS = {"#day": DAY, "#large": LARGE, "#byte": (0, 255), "#place": MEBIBYTES}
 
@@ -21,7 +21,7 @@ DECLARATIONS = {
     "queue": [f"+ {kind}{on}{still}" for kind in ("serial", "concurrent") for on in ("", " on T") for still in ("", " inactive")],
     "group": ["+"],
     "semaphore": ["+ #large"],
-    "source": ["+ add on T", "+ or on T", "+ timer #day #day on T", "+ read path on T"],
+    "source": ["+ add on T", "+ or on T", "+ replace on T", "+ timer #day #day on T", "+ read path on T"],
     "cancelled": ["S B"],
     "until": ["#day"],
     "block": ["+"]
