@@ -69,15 +69,15 @@ fn poller_of<'a, R: Files<File = File> + Net + Eprint>(
     Some(ScriptPoller::new(rt, alloc, feeds, script))
 }
 
-// The script's name and how many contents are kept for what is said at the end: the script, and the journal that is judged.
-fn asked<'a>(alloc: Global, words: &'a [&'a str]) -> (&'a str, usize) {
-    match read_words(alloc, words) {
-        Ok(Some(Request::Run(request))) => (request.script, 1),
-        Ok(Some(Request::Check(request))) => (request.script, 2),
-        Ok(Some(Request::Big(_))) => ("", 0),
-        Ok(None) => ("", 0),
-        Err(AllocError) => ("", 0),
-    }
+// The script's name and how many contents are kept for what is said at the end: the script, and the journal that is judged. An `Err`
+// comes only where memory runs out.
+fn asked<'a>(alloc: Global, words: &'a [&'a str]) -> Result<(&'a str, usize), AllocError> {
+    Ok(match read_words(alloc, words)? {
+        Some(Request::Run(request)) => (request.script, 1),
+        Some(Request::Check(request)) => (request.script, 2),
+        Some(Request::Big(_)) => ("", 0),
+        None => ("", 0),
+    })
 }
 
 // Does what the words ask for, and says why it ended as it did.
@@ -94,7 +94,9 @@ fn answer<
         + Env
         + AllocGlobal,
 >(rt: &'a R, texts: &'a [&'a str]) -> u8 {
-    let (script, keeps) = asked(rt.alloc(), texts);
+    let Ok((script, keeps)) = asked(rt.alloc(), texts) else {
+        return say_status(rt, Status::NoMemory);
+    };
     let mut shelf = ScriptShelf::new(rt, rt.alloc(), script, keeps);
     let mut out = StdoutSink::new(rt);
     let Some(mut poller) = poller_of(rt, rt.alloc(), script) else {
