@@ -15,18 +15,26 @@ const BY_TWO: &[&str] = &["run", "s", "--workers", "2"];
 
 const BY_FOUR: &[&str] = &["run", "s", "--workers", "4"];
 
-// So many bytes of words. A block that counts them takes some milliseconds, in which a helper's thread gets its turn even where all
-// threads share one processor.
-const LONG: usize = 8 * 1024 * 1024;
+// So many blocks before these count so many bytes of words. Together they take a tenth of a second, in which each helper's thread gets
+// its turn, even where all threads share one processor with others.
+const LONG_BLOCKS: u32 = 16;
 
-// A block with a long work, and so many blocks without work, which `main` submits to `root`.
+const LONG: usize = 16 * 1024 * 1024;
+
+// So many blocks with a long work, and then so many without work, which `main` submits to `root`.
 fn script_of(alloc: Global) -> Result<String, AllocError> {
     let mut script = String::new(alloc);
-    script.push_str("file f words.txt\nblock long words f\n")?;
+    script.push_str("file f words.txt\n")?;
+    for number in 0..LONG_BLOCKS {
+        script.push_str(format!(in alloc; "block long{number} words f\n")?.as_str())?;
+    }
     for number in 0..BLOCKS {
         script.push_str(format!(in alloc; "block b{number}\n")?.as_str())?;
     }
-    script.push_str("main\nasync root long\n")?;
+    script.push_str("main\n")?;
+    for number in 0..LONG_BLOCKS {
+        script.push_str(format!(in alloc; "async root long{number}\n")?.as_str())?;
+    }
     for number in 0..BLOCKS {
         script.push_str(format!(in alloc; "async root b{number}\n")?.as_str())?;
     }
@@ -49,7 +57,7 @@ fn run<R: Threads + Wait + Sync>(
 // Whether worker 1 started a block of a run that has ended as it should, with each event of `main` and of the blocks.
 fn is_shared(rt: &(impl Abort + Threads + Wait + Sync), ended: &Ended) -> bool {
     assert!(rt; ended.status == Status::Drained.code());
-    assert!(rt; ended.journal.len() == 3 * (BLOCKS as usize + 1) + 2);
+    assert!(rt; ended.journal.len() == 3 * (BLOCKS + LONG_BLOCKS) as usize + 2);
     ended
         .journal
         .iter()
