@@ -48,7 +48,7 @@ fn run<R: Threads + Wait + Sync>(
     words: &[&str],
     shelf: &mut MapShelf,
 ) -> Result<Ended, AllocError> {
-    let mut out = VecSink::new(alloc, 100, 100)?;
+    let mut out = VecSink::new(alloc, 1_000, 1_000)?;
     let mut poller = poller_of(alloc, false, None)?;
     let mut clock = JumpClock::new(0);
     Ok(gcd_main(rt, alloc, words, shelf, &mut out, &mut poller, &mut clock))
