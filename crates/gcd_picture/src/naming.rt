@@ -1,5 +1,6 @@
 // How runs and objects are called in pictures.
 
+use gcd_cause::ActWords;
 use gcd_event::Event;
 use gcd_plan::{Act, Obj, Plan, Run};
 use gcd_timeline::act_at;
@@ -65,73 +66,26 @@ pub fn awaited_text(alloc: Global, plan: &Plan, event: Event) -> Result<String, 
             let name = object_name(plan, s);
             format!(in alloc; "semaphore {name}")
         }
-        _ => Ok(String::new(alloc)),
-    }
-}
-
-// The first word of an act's line.
-fn act_word(act: Act) -> &'static str {
-    match act {
-        Act::Async(..) => "async",
-        Act::Barrier(..) => "barrier",
-        Act::Sync(..) => "sync",
-        Act::BarrierSync(..) => "barrier_sync",
-        Act::GroupAsync(..) => "group_async",
-        Act::Notify(..) => "notify",
-        Act::Enter(_) => "enter",
-        Act::Leave(_) => "leave",
-        Act::GroupWait(_) => "group_wait",
-        Act::Signal(_) => "signal",
-        Act::Wait(_) => "wait",
-        Act::Suspend(_) => "suspend",
-        Act::Resume(_) => "resume",
-        Act::Activate(_) => "activate",
-        Act::Target(..) => "target",
-        Act::Merge(..) => "merge",
-        Act::Cancel(_) => "cancel",
-        Act::Retain(_) => "retain",
-        Act::Release(_) => "release",
-    }
-}
-
-// The words of an act's line after the first.
-fn act_names(alloc: Global, plan: &Plan, act: Act) -> Result<String, AllocError> {
-    match act {
-        Act::Async(q, b) | Act::Barrier(q, b) | Act::Sync(q, b) | Act::BarrierSync(q, b) => {
-            let (queue, block) = (object_name(plan, q), run_name(plan, Run::Block(b)));
-            format!(in alloc; "{queue} {block}")
-        }
-        Act::GroupAsync(g, q, b) | Act::Notify(g, q, b) => {
-            let (group, queue) = (object_name(plan, g), object_name(plan, q));
-            let block = run_name(plan, Run::Block(b));
-            format!(in alloc; "{group} {queue} {block}")
-        }
-        Act::Target(o, q) => {
-            let (object, queue) = (object_name(plan, o), object_name(plan, q));
-            format!(in alloc; "{object} {queue}")
-        }
-        Act::Merge(s, value) => {
-            let source = object_name(plan, s);
-            format!(in alloc; "{source} {value}")
-        }
-        Act::Enter(o) | Act::Leave(o) | Act::GroupWait(o) | Act::Signal(o) | Act::Wait(o) => {
-            String::from_str(alloc, object_name(plan, o))
-        }
-        Act::Suspend(o) | Act::Resume(o) | Act::Activate(o) | Act::Cancel(o) => {
-            String::from_str(alloc, object_name(plan, o))
-        }
-        Act::Retain(o) | Act::Release(o) => String::from_str(alloc, object_name(plan, o)),
+        Act::Async(..) | Act::Barrier(..) | Act::GroupAsync(..) | Act::Notify(..) => Ok(String::new(
+            alloc,
+        )),
+        Act::Enter(_) | Act::Leave(_) | Act::Signal(_) | Act::Merge(..) => Ok(String::new(alloc)),
+        Act::Suspend(_) | Act::Resume(_) | Act::Activate(_) | Act::Target(..) => Ok(String::new(
+            alloc,
+        )),
+        Act::Cancel(_) | Act::Retain(_) | Act::Release(_) => Ok(String::new(alloc)),
     }
 }
 
 /// An act of a run as it stands in a script; `?` where the run has no such act.
 pub fn act_text(alloc: Global, plan: &Plan, run: Run, index: u32) -> Result<String, AllocError> {
-    let Some(act) = act_at(plan, run, index) else {
-        return String::from_str(alloc, "?");
-    };
-    let (word, names) = (act_word(act), act_names(alloc, plan, act)?);
-    let names = names.as_str();
-    format!(in alloc; "{word} {names}")
+    match act_at(plan, run, index) {
+        Some(act) => {
+            let words = ActWords { plan, act };
+            format!(in alloc; "{words}")
+        }
+        None => String::from_str(alloc, "?"),
+    }
 }
 
 /// A misuse: its code, and the act that it barred.

@@ -198,7 +198,9 @@ fn line_of(showing: Showing, event: Event) -> u32 {
         Event::Act { run, index, .. } | Event::Misuse { run, index, .. } => {
             showing.lines.of_act(run, index)
         }
-        _ => 0,
+        Event::Start { .. } | Event::Wake { .. } | Event::End { .. } => 0,
+        Event::Deliver { .. } | Event::DeliverEnd { .. } | Event::Tick { .. } => 0,
+        Event::Ready { .. } | Event::FeedEnd { .. } | Event::Halt => 0,
     }
 }
 
