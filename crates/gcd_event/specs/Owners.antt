@@ -3,7 +3,7 @@ use Rattle.std.specs.Prelude.{ℕ, Option, Some, None}
 use Rattle.gcd_plan.specs.declared.numbers.Run.{Run}
 use Rattle.gcd_plan.specs.declared.numbers.Run.TheVariants.{Block, Source}
 use Rattle.gcd_event.specs.declared.event.Event.{Event}
-use Rattle.gcd_event.specs.declared.event.Event.TheVariants.{Start, Act as Acted, Wake, End, Deliver, DeliverEnd, Tick, Ready, FeedEnd, Misuse, Halt}
+use Rattle.gcd_event.specs.declared.event.Event.TheVariants.{Start, Act as Acted, Wake, End, Deliver, DeliverEnd, Tick, Ready, FeedEnd, Misuse, Halt, Expire}
 
 -- the event's worker; those of the outside are worker 0's
 abbrev pub worker_of : Event → ℕ
@@ -18,6 +18,7 @@ worker_of (Ready s n) = 0
 worker_of (FeedEnd s) = 0
 worker_of (Misuse w r i c) = w
 worker_of Halt = 0
+worker_of (Expire b) = 0
 
 -- the run that the event begins
 abbrev pub begun : Event → Option Run
@@ -32,6 +33,7 @@ begun (Ready s n) = None
 begun (FeedEnd s) = None
 begun (Misuse w r i c) = None
 begun Halt = None
+begun (Expire b) = None
 
 -- the run that the event ends
 abbrev pub ended : Event → Option Run
@@ -46,3 +48,4 @@ ended (Ready s n) = None
 ended (FeedEnd s) = None
 ended (Misuse w r i c) = None
 ended Halt = None
+ended (Expire b) = None

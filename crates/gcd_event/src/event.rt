@@ -6,8 +6,8 @@ use gcd_plan::{
     Blk, MAX_ACTS, MAX_BLOCKS, MAX_OBJECTS, MAX_TIME, MAX_VALUE, MAX_WORKERS, MisuseCode, Obj, Run,
 };
 
-/// What happened, in one atomic step. Tick, Ready, FeedEnd and Halt are worker 0's (this project's own rule: libdispatch
-/// keeps no journal).
+/// What happened, in one atomic step. Tick, Ready, FeedEnd, Halt and Expire are worker 0's (this project's own rule:
+/// libdispatch keeps no journal).
 #[derive(Clone, Copy, Debug, PartialEq, Eq)]
 pub enum Event {
     /// The worker started the block (dispatch_async(3)).
@@ -63,6 +63,11 @@ pub enum Event {
     },
     /// The outside failed, which ends the run of the plan.
     Halt,
+    /// The limit of the parked block's wait has passed, and the wait is over (dispatch_semaphore_wait(3),
+    /// dispatch_group_wait(3)).
+    Expire {
+        blk: Blk,
+    },
 }
 
 impl Event {
@@ -99,10 +104,11 @@ impl Event {
                     && *code <= MisuseCode::LAST
             }
             Event::Halt => true,
+            Event::Expire { blk } => is_block(*blk),
         }
     }
 
-    /// The event's worker; those of the outside (Tick, Ready, FeedEnd, Halt) are worker 0's.
+    /// The event's worker; those of the outside (Tick, Ready, FeedEnd, Halt, Expire) are worker 0's.
     #[inline(always)]
     pub fn worker(&self) -> u8
         ensures { result ≡ worker_of self.now }
@@ -116,6 +122,7 @@ impl Event {
             Event::DeliverEnd { worker, .. } => worker,
             Event::Misuse { worker, .. } => worker,
             Event::Tick { .. } | Event::Ready { .. } | Event::FeedEnd { .. } | Event::Halt => 0,
+            Event::Expire { .. } => 0,
         }
     }
 
@@ -130,6 +137,7 @@ impl Event {
             Event::Act { .. } | Event::Wake { .. } => None,
             Event::End { .. } | Event::DeliverEnd { .. } | Event::Misuse { .. } => None,
             Event::Tick { .. } | Event::Ready { .. } | Event::FeedEnd { .. } | Event::Halt => None,
+            Event::Expire { .. } => None,
         }
     }
 
@@ -144,6 +152,7 @@ impl Event {
             Event::Start { .. } | Event::Act { .. } | Event::Wake { .. } => None,
             Event::Deliver { .. } | Event::Misuse { .. } => None,
             Event::Tick { .. } | Event::Ready { .. } | Event::FeedEnd { .. } | Event::Halt => None,
+            Event::Expire { .. } => None,
         }
     }
 }

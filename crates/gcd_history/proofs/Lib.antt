@@ -9,6 +9,7 @@ mod RowsObjects
 mod RowsGroups
 mod RowsSources
 mod RowsReplace
+mod RowsLimits
 mod RowsForged
 mod RowsReasons
 mod RowsValues
@@ -22,6 +23,7 @@ pub mod PublicLaws
 pub mod PublicFacts
 pub mod Merged
 pub mod FreeAtStart
+pub mod StaysOver
 pub mod Woken
 pub mod WaitsPass
 pub mod OneRun

@@ -36,7 +36,7 @@ once_lawful = lawful_row one_async whole refl
 
 once_drained : IsDrained one_async whole
 unfolding words words_of_history
-once_drained = drained_row one_async whole once_plan once_lawful refl refl refl refl refl refl
+once_drained = drained_row one_async whole once_plan once_lawful refl refl refl refl refl refl refl
 
 -- event 3 is the Start of b1, which is submitted then and has not started; it starts once, and ends once
 once_premise : (slice_get whole 3 ≡ Some (Start 0 (b 1)))
@@ -203,7 +203,7 @@ waits_lawful = lawful_row waits_thrice (journal waits_thrice) refl
 
 waits_drained : IsDrained waits_thrice (journal waits_thrice)
 unfolding words words_of_history
-waits_drained = drained_row waits_thrice (journal waits_thrice) waits_plan waits_lawful refl refl refl refl refl refl
+waits_drained = drained_row waits_thrice (journal waits_thrice) waits_plan waits_lawful refl refl refl refl refl refl refl
 
 -- events 4, 9 and 15 are Wakes of main, for the end of x, for group g and for the first wait on s
 waits_premise : (map (slice_get (journal waits_thrice)) (4 ∷ 9 ∷ 15 ∷ []) ≡ Some (Wake 0 (b 0)) ∷ Some (Wake 0 (b 0)) ∷ Some (Wake 0 (b 0)) ∷ [])

@@ -19,7 +19,7 @@ use Rattle.gcd_history.specs.Holds.{is_active as is_active_after}
 use Rattle.gcd_history.specs.Submitted.{is_cancelled}
 use Rattle.gcd_history.specs.Sources.{is_live_feed}
 use Rattle.gcd_history.specs.Permitted.{why as why_after}
-use Rattle.gcd_history.specs.History.{why, IsLawful, is_open, is_running, is_free, chain_of_run, node_of_run, is_barrier_on, has_come, submitted_of, node_of, target_of, request_of, chain_of, open_beneath_of, is_active, hold_of, merged_of, running_of, choice_of, next_due_of, is_live_feed as outer_feed, has_run, group_wait_passes, semaphore_wait_passes}
+use Rattle.gcd_history.specs.History.{why, IsLawful, is_open, is_running, is_free, chain_of_run, node_of_run, is_barrier_on, has_come, is_over, has_expired, semaphore_wait_expired, limit_of, expiry_of, submitted_of, node_of, target_of, request_of, chain_of, open_beneath_of, is_active, hold_of, merged_of, running_of, choice_of, next_due_of, is_live_feed as outer_feed, has_run, group_wait_passes, semaphore_wait_passes}
 use Rattle.gcd_history.specs.Ends.{IsDrained, is_halted, all_ended}
 use Rattle.gcd_plan.proofs.Quantifiers.{list_all_get}
 use Rattle.gcd_history.proofs.LawfulLemmas.{lawful_none, lawful_more}
@@ -102,7 +102,7 @@ lawful_row plan h none = lawful_on plan [] h (lawful_none plan) none
 
 -- opens the words of a history that rows speak of
 unfoldable pub words_of_history : Unit {0}
-unfolding is_open is_running is_free chain_of_run node_of_run is_barrier_on has_come submitted_of node_of target_of request_of chain_of open_beneath_of is_active hold_of merged_of running_of choice_of next_due_of outer_feed all_ended is_halted has_run why group_wait_passes semaphore_wait_passes
+unfolding is_open is_running is_free chain_of_run node_of_run is_barrier_on has_come is_over has_expired semaphore_wait_expired limit_of expiry_of submitted_of node_of target_of request_of chain_of open_beneath_of is_active hold_of merged_of running_of choice_of next_due_of outer_feed all_ended is_halted has_run why group_wait_passes semaphore_wait_passes
 words_of_history = tt
 
 -- a plan without read sources has no live feed
@@ -116,8 +116,8 @@ no_feed plan h none s =
 
 -- where nothing goes on in a valid plan's lawful history, and each submitted block has ended, it is drained
 pub drained_row : (plan : PlanView) (h : List Event) → IsPlan plan → IsLawful plan h
-    → list_all (λ obj. not (is_read_kind obj.kind)) plan.objects ≡ true → is_halted h ≡ false → running_of plan h ≡ 0 → choice_of plan h 0 0 ≡ None → next_due_of plan h ≡ None → all_ended plan h ≡ true → IsDrained plan h
-drained_row plan h valid lawful feedless on idle none timeless ended = record {
-  quiescent = rest_is_quiescent plan h valid lawful (record { unhalted = on; idle = idle; no_choice = none; no_time = timeless; no_feed = no_feed plan h feedless });
+    → list_all (λ obj. not (is_read_kind obj.kind)) plan.objects ≡ true → is_halted h ≡ false → running_of plan h ≡ 0 → choice_of plan h 0 0 ≡ None → expiry_of plan h ≡ None → next_due_of plan h ≡ None → all_ended plan h ≡ true → IsDrained plan h
+drained_row plan h valid lawful feedless on idle none unexpiring timeless ended = record {
+  quiescent = rest_is_quiescent plan h valid lawful (record { unhalted = on; idle = idle; no_choice = none; no_expiry = unexpiring; no_time = timeless; no_feed = no_feed plan h feedless });
   ended = ended;
 }

@@ -4,15 +4,16 @@ use Rattle.std.specs.Option.{option_map_or}
 use Rattle.std.specs.List.{list_all, flat_map, range_with_len}
 use Rattle.gcd_plan.specs.PlanView.{PlanView}
 use Rattle.gcd_plan.specs.Kinds.{is_source}
+use Rattle.gcd_plan.specs.declared.numbers.Blk.{Blk}
 use Rattle.gcd_plan.specs.declared.numbers.Run.{Run}
 use Rattle.gcd_plan.specs.declared.numbers.Run.TheVariants.{Block, Source}
 use Rattle.gcd_event.specs.declared.event.Event.{Event}
-use Rattle.gcd_event.specs.declared.event.Event.TheVariants.{Start, Act as Acted, Wake, End, Deliver, DeliverEnd, Tick, Ready, FeedEnd, Misuse, Halt}
+use Rattle.gcd_event.specs.declared.event.Event.TheVariants.{Start, Act as Acted, Wake, End, Deliver, DeliverEnd, Tick, Ready, FeedEnd, Misuse, Halt, Expire}
 use Rattle.gcd_event.specs.Owners.{worker_of as worker_by}
 use Rattle.gcd_history.specs.Runs.{open_runs, acts_done, is_ended}
 use Rattle.gcd_history.specs.Submitted.{submitted}
 use Rattle.gcd_history.specs.Parked.{has_run}
-use Rattle.gcd_history.specs.Timers.{next_due}
+use Rattle.gcd_history.specs.Due.{next_due}
 use Rattle.gcd_history.specs.Sources.{is_live_feed}
 use Rattle.gcd_history.specs.Permitted.{permitted, misuse_at, first_waiting, is_halted}
 
@@ -56,6 +57,14 @@ candidates plan past w from =
 abbrev pub choice : PlanView → List Event → ℕ → (from : ℕ) → Option Event
 choice plan past w from = find (permitted plan past) (candidates plan past w from)
 
+-- the Expire of block b
+abbrev pub expire_event : ℕ → Event
+expire_event b = Expire (record { 0 = b })
+
+-- the Expire that worker 0 records: that of the lowest-numbered block where it is permitted
+abbrev pub expiry : PlanView → List Event → Option Event
+expiry plan past = find (permitted plan past) (map expire_event (range_with_len 0 (length plan.blocks)))
+
 -- an event of a worker, and not of the outside
 abbrev pub is_work : Event → Bool
 is_work (Start w b) = true
@@ -69,15 +78,17 @@ is_work (Ready s n) = false
 is_work (FeedEnd s) = false
 is_work (Misuse w r i c) = true
 is_work Halt = false
+is_work (Expire b) = false
 
 -- the event's worker; those of the outside are worker 0's
 abbrev pub worker_of : Event → ℕ
 worker_of e = worker_by e
 
--- not halted, no event of any worker is permitted, no due time is left, and no read source is live
+-- not halted, no event of any worker and no Expire is permitted, no due time is left, and no read source is live
 pub record IsQuiescent (plan : PlanView) (past : List Event) : Type 0 where
   pub goes_on : is_halted past ≡ false
   pub no_work : (e : Event) → is_work e ≡ true → permitted plan past e ≡ false
+  pub no_expiry : (b : Blk) → permitted plan past (Expire b) ≡ false
   pub no_time : next_due plan past ≡ None
   pub no_feed : (s : ℕ) → is_live_feed plan past s ≡ false
 

@@ -1,9 +1,10 @@
 -- What holds of every lawful history, the oldest event first (this project's own rule, where a definition names no page).
-use Rattle.std.specs.Prelude.{◌≡◌, ◌≤◌, ◌<◌, ◌+◌, ◌-◌, length, ℕ, ◌==◌, Bool, true, false, List, [], take, Some, None, unwrap_or, slice_get, count_by, IsTrue, AllPairs}
+use Rattle.std.specs.Prelude.{◌≡◌, ◌≤◌, ◌<◌, ◌+◌, ◌-◌, length, ℕ, ◌==◌, Bool, true, false, ◌||◌, List, [], take, Option, Some, None, unwrap_or, slice_get, count_by, IsTrue, AllPairs}
 use Rattle.gcd_plan.specs.PlanView.{PlanView}
 use Rattle.gcd_plan.specs.Chains.{is_in}
 use Rattle.gcd_plan.specs.Kinds.{is_exclusive, has_barriers, has_kind, is_replace_kind}
-use Rattle.gcd_plan.specs.declared.act.Act.TheVariants.{GroupWait}
+use Rattle.gcd_plan.specs.declared.act.Act.{Act}
+use Rattle.gcd_plan.specs.declared.act.Act.TheVariants.{Async, Barrier, Sync, BarrierSync, GroupAsync, Notify, Enter, Leave, GroupWait, GroupWaitFor, Signal, Wait, WaitFor, Suspend, Resume, Activate, Target, Merge, Cancel, Retain, Release}
 use Rattle.gcd_plan.specs.declared.numbers.Run.{Run}
 use Rattle.gcd_plan.specs.declared.numbers.Blk.{Blk}
 use Rattle.gcd_plan.specs.declared.numbers.Obj.{Obj}
@@ -16,7 +17,7 @@ use Rattle.gcd_history.specs.declared.submission.Submission.{Submission}
 use Rattle.gcd_history.specs.Runs.{starts, ends, act_of}
 use Rattle.gcd_history.specs.Semas.{wait_count}
 use Rattle.gcd_history.specs.Permitted.{is_on}
-use Rattle.gcd_history.specs.History.{is_started, is_submitted, submitted_of, chain_of_run, is_free, awaited_of, has_come, inputs_of, new_inputs_of, received_of, pending_of, merged_of, is_open, OverlapAt, Overlap, node_of, is_active, chain_of, node_of_run, is_barrier_on, group_wait_passes, semaphore_wait_passes, why, choice_of, running_of, next_due_of, is_live_feed}
+use Rattle.gcd_history.specs.History.{is_started, is_submitted, submitted_of, chain_of_run, is_free, awaited_of, is_over, has_expired, semaphore_wait_expired, expiry_of, inputs_of, new_inputs_of, received_of, pending_of, merged_of, is_open, OverlapAt, Overlap, node_of, is_active, chain_of, node_of_run, is_barrier_on, group_wait_passes, semaphore_wait_passes, why, choice_of, running_of, next_due_of, is_live_feed}
 use Rattle.gcd_history.specs.Choice.{is_work, worker_of}
 use Rattle.gcd_history.specs.Ends.{is_halted, HasState}
 use Rattle.gcd_history.specs.Sources.{joined}
@@ -58,11 +59,11 @@ pub record BeginsFree (plan : PlanView) (h : List Event) : Type 0 where
   pub starts : (i w : ℕ) (b : Blk) (o : ℕ) → slice_get h i ≡ Some (Start w b) → IsTrue (is_in o (chain_of_run plan (take i h) (Block b))) → IsTrue (is_free plan (take i h) o)
   pub delivers : (i w : ℕ) (s : Obj) (o : ℕ) → slice_get h i ≡ Some (Deliver w s) → IsTrue (is_in o (chain_of_run plan (take i h) (Source s))) → IsTrue (is_free plan (take i h) o)
 
--- block b may wake: it is parked, and what it waits for has come
+-- block b may wake: it is parked, and what it waits for has come, or its wait has expired
 pub record MayWake (plan : PlanView) (h : List Event) (b : ℕ) : Type 0 where
   pub awaited : Reason
   pub parked : awaited_of plan h b ≡ Some awaited
-  pub come : has_come plan h awaited ≡ true
+  pub over : is_over plan h awaited ≡ true
 
 -- each Wake finds that its block may wake (dispatch_sync(3), dispatch_group_wait(3), dispatch_semaphore_wait(3))
 abbrev pub WakesHaveCause : PlanView → List Event → Type 0
@@ -72,19 +73,46 @@ WakesHaveCause plan h = (i w : ℕ) (b : Blk) → slice_get h i ≡ Some (Wake w
 abbrev pub NoneParked : PlanView → List Event → Type 0
 NoneParked plan h = (b : ℕ) → awaited_of plan h b ≡ None
 
--- whatever a block has waited for at some position has come
-abbrev pub WaitsHavePassed : PlanView → List Event → Type 0
-WaitsHavePassed plan h = (i b : ℕ) (awaited : Reason) → awaited_of plan (take i h) b ≡ Some awaited → has_come plan h awaited ≡ true
+-- whatever a block has waited for at some position has come, or its wait has expired
+abbrev pub WaitsAreOver : PlanView → List Event → Type 0
+WaitsAreOver plan h = (i b : ℕ) (awaited : Reason) → awaited_of plan (take i h) b ≡ Some awaited → is_over plan h awaited ≡ true
 
--- each wait on a group passes (dispatch_group_wait(3))
-abbrev pub GroupWaitsPass : PlanView → List Event → Type 0
-GroupWaitsPass plan h =
-    (i : ℕ) (e : Event) (g : Obj) → slice_get h i ≡ Some e → act_of plan e ≡ Some (GroupWait g)
-    → IsTrue (group_wait_passes plan h g.0 i)
+-- the act waits for the group (dispatch_group_wait(3))
+abbrev pub waits_for : Obj → Option Act → Bool
+waits_for g None = false
+waits_for g (Some (Async q b)) = false
+waits_for g (Some (Barrier q b)) = false
+waits_for g (Some (Sync q b)) = false
+waits_for g (Some (BarrierSync q b)) = false
+waits_for g (Some (GroupAsync x q b)) = false
+waits_for g (Some (Notify x q b)) = false
+waits_for g (Some (Enter x)) = false
+waits_for g (Some (Leave x)) = false
+waits_for g (Some (GroupWait h)) = h.0 == g.0
+waits_for g (Some (GroupWaitFor h ms)) = h.0 == g.0
+waits_for g (Some (Signal x)) = false
+waits_for g (Some (Wait x)) = false
+waits_for g (Some (WaitFor x ms)) = false
+waits_for g (Some (Suspend o)) = false
+waits_for g (Some (Resume o)) = false
+waits_for g (Some (Activate o)) = false
+waits_for g (Some (Target o t)) = false
+waits_for g (Some (Merge o n)) = false
+waits_for g (Some (Cancel o)) = false
+waits_for g (Some (Retain o)) = false
+waits_for g (Some (Release o)) = false
 
--- each wait on a semaphore passes, from the first to the last that stands (dispatch_semaphore_wait(3))
-abbrev pub SemaphoreWaitsPass : PlanView → List Event → Type 0
-SemaphoreWaitsPass plan h = (s k : ℕ) → k ≤ wait_count plan h s → IsTrue (semaphore_wait_passes plan h s k)
+-- each wait on a group has passed or expired (dispatch_group_wait(3))
+abbrev pub GroupWaitsEnd : PlanView → List Event → Type 0
+GroupWaitsEnd plan h =
+    (i : ℕ) (e : Event) (g : Obj) → slice_get h i ≡ Some e → IsTrue (waits_for g (act_of plan e))
+    → IsTrue (group_wait_passes plan h g.0 i || has_expired h i)
+
+-- each wait on a semaphore has passed or expired, from the first to the last that stands (dispatch_semaphore_wait(3))
+abbrev pub SemaphoreWaitsEnd : PlanView → List Event → Type 0
+SemaphoreWaitsEnd plan h =
+    (s k : ℕ) → 1 ≤ k → k ≤ wait_count plan h s
+    → IsTrue (semaphore_wait_passes plan h s k || semaphore_wait_expired plan h s k)
 
 -- source s is one of which the newest merged value stays
 abbrev pub is_replaced : PlanView → ℕ → Bool
@@ -158,11 +186,12 @@ pub record HasSomeState (plan : PlanView) (h : List Event) : Type 0 where
   pub state : State
   pub come_to : HasState plan h state
 
--- nothing goes on: not halted, no run is open and unparked, worker 0 has no choice, no due time is left, and no read source is
--- live (this project's own rule)
+-- nothing goes on: not halted, no run is open and unparked, worker 0 has no choice, no wait may expire, no due time is left, and
+-- no read source is live (this project's own rule)
 pub record IsAtRest (plan : PlanView) (h : List Event) : Type 0 where
   pub unhalted : is_halted h ≡ false
   pub idle : running_of plan h ≡ 0
   pub no_choice : choice_of plan h 0 0 ≡ None
+  pub no_expiry : expiry_of plan h ≡ None
   pub no_time : next_due_of plan h ≡ None
   pub no_feed : (s : ℕ) → is_live_feed plan h s ≡ false

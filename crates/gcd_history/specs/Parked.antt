@@ -1,12 +1,12 @@
 -- Which blocks are parked, what they wait for, and which runs a worker has (dispatch_sync(3), dispatch_group_wait(3),
 -- dispatch_semaphore_wait(3)).
-use Rattle.std.specs.Prelude.{ℕ, ◌+◌, ◌==◌, Bool, false, ◌&&◌, if◌then◌else◌, List, [], ◌∷◌, length, Option, Some, None, is_some, is_none, count_by}
+use Rattle.std.specs.Prelude.{ℕ, ◌+◌, ◌==◌, Bool, false, ◌&&◌, ◌||◌, if◌then◌else◌, List, [], ◌∷◌, length, Option, Some, None, is_some, is_none, count_by}
 use Rattle.std.specs.Option.{option_map_or}
 use Rattle.std.specs.List.{list_any}
 use Rattle.gcd_plan.specs.Acts.{parks}
 use Rattle.gcd_plan.specs.PlanView.{PlanView}
 use Rattle.gcd_plan.specs.declared.act.Act.{Act}
-use Rattle.gcd_plan.specs.declared.act.Act.TheVariants.{Async, Barrier, Sync, BarrierSync, GroupAsync, Notify, Enter, Leave, GroupWait, Signal, Wait, Suspend, Resume, Activate, Target, Merge, Cancel, Retain, Release}
+use Rattle.gcd_plan.specs.declared.act.Act.TheVariants.{Async, Barrier, Sync, BarrierSync, GroupAsync, Notify, Enter, Leave, GroupWait, GroupWaitFor, Signal, Wait, WaitFor, Suspend, Resume, Activate, Target, Merge, Cancel, Retain, Release}
 use Rattle.gcd_plan.specs.declared.numbers.Run.{Run}
 use Rattle.gcd_plan.specs.declared.numbers.Run.TheVariants.{Block}
 use Rattle.gcd_plan.specs.declared.reason.Reason.{Reason}
@@ -14,8 +14,9 @@ use Rattle.gcd_plan.specs.declared.reason.Reason.TheVariants.{Block as EndOf, Gr
 use Rattle.gcd_event.specs.declared.event.Event.{Event}
 use Rattle.gcd_event.specs.declared.event.Event.TheVariants.{Act as Acted, Wake}
 use Rattle.gcd_history.specs.Runs.{same_run, opens, is_open, open_runs, act_at, last_worker, is_ended}
-use Rattle.gcd_history.specs.Groups.{is_empty_above}
-use Rattle.gcd_history.specs.Semas.{wait_count, passes}
+use Rattle.gcd_history.specs.Expired.{has_expired}
+use Rattle.gcd_history.specs.Groups.{group_passes}
+use Rattle.gcd_history.specs.Semas.{wait_count, passes, is_expired_wait}
 
 -- what the act, recorded after past, makes its block wait for (dispatch_sync(3), dispatch_barrier_sync(3),
 -- dispatch_group_wait(3), dispatch_semaphore_wait(3))
@@ -30,8 +31,10 @@ awaited_by plan past (Some (Notify g q b)) = None
 awaited_by plan past (Some (Enter g)) = None
 awaited_by plan past (Some (Leave g)) = None
 awaited_by plan past (Some (GroupWait g)) = Some (Group g (length past))
+awaited_by plan past (Some (GroupWaitFor g ms)) = Some (Group g (length past))
 awaited_by plan past (Some (Signal s)) = None
 awaited_by plan past (Some (Wait s)) = Some (Rank s (wait_count plan past s.0 + 1))
+awaited_by plan past (Some (WaitFor s ms)) = Some (Rank s (wait_count plan past s.0 + 1))
 awaited_by plan past (Some (Suspend o)) = None
 awaited_by plan past (Some (Resume o)) = None
 awaited_by plan past (Some (Activate o)) = None
@@ -74,12 +77,24 @@ has_run plan past w run =
 unfoldable pub is_busy : PlanView → List Event → ℕ → Bool
 is_busy plan past w = list_any (has_run plan past w) (open_runs past)
 
--- what is waited for has come: the block has ended, the group was empty above the position, the wait passes
+-- what is waited for has come: the block has ended, or the wait passes (dispatch_sync(3), dispatch_group_wait(3),
+-- dispatch_semaphore_wait(3))
 unfoldable pub has_come : PlanView → List Event → Reason → Bool
 has_come plan past (EndOf b) = is_ended past b.0
-has_come plan past (Group g position) = is_empty_above plan past g.0 position
+has_come plan past (Group g position) = group_passes plan past g.0 position
 has_come plan past (Rank s k) = passes plan past s.0 k
 
--- what block b waits for has come
+-- the wait has expired; a wait for the end of a block has no limit, and never does (dispatch_group_wait(3),
+-- dispatch_semaphore_wait(3))
+unfoldable pub has_run_out : PlanView → List Event → Reason → Bool
+has_run_out plan past (EndOf b) = false
+has_run_out plan past (Group g position) = has_expired past position
+has_run_out plan past (Rank s k) = is_expired_wait plan past s.0 k
+
+-- the wait is over: what is waited for has come, or the wait has expired
+abbrev pub is_over : PlanView → List Event → Reason → Bool
+is_over plan past awaited = has_come plan past awaited || has_run_out plan past awaited
+
+-- block b is parked, and its wait is over
 unfoldable pub may_wake : PlanView → List Event → ℕ → Bool
-may_wake plan past b = option_map_or (has_come plan past) (awaited plan past (Block (record { 0 = b }))) false
+may_wake plan past b = option_map_or (is_over plan past) (awaited plan past (Block (record { 0 = b }))) false

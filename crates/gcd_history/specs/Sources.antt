@@ -6,10 +6,10 @@ use Rattle.gcd_plan.specs.PlanView.{PlanView, kind_of}
 use Rattle.gcd_plan.specs.Kinds.{has_kind, is_read_kind}
 use Rattle.gcd_plan.specs.KindValues.{folded, has_effect}
 use Rattle.gcd_plan.specs.declared.act.Act.{Act}
-use Rattle.gcd_plan.specs.declared.act.Act.TheVariants.{Merge}
+use Rattle.gcd_plan.specs.declared.act.Act.TheVariants.{Async, Barrier, Sync, BarrierSync, GroupAsync, Notify, Enter, Leave, GroupWait, GroupWaitFor, Signal, Wait, WaitFor, Suspend, Resume, Activate, Target, Merge, Cancel, Retain, Release}
 use Rattle.gcd_plan.specs.declared.kind.Kind.{Kind}
 use Rattle.gcd_event.specs.declared.event.Event.{Event}
-use Rattle.gcd_event.specs.declared.event.Event.TheVariants.{Start, Act as Acted, Wake, End, Deliver, DeliverEnd, Tick, Ready, FeedEnd, Misuse, Halt}
+use Rattle.gcd_event.specs.declared.event.Event.TheVariants.{Start, Act as Acted, Wake, End, Deliver, DeliverEnd, Tick, Ready, FeedEnd, Misuse, Halt, Expire}
 use Rattle.gcd_history.specs.Runs.{act_at}
 use Rattle.gcd_history.specs.Holds.{is_active}
 use Rattle.gcd_history.specs.Submitted.{is_cancelled}
@@ -33,8 +33,28 @@ has_effect_at plan s n = option_map_or (λ kind. has_effect kind n) (kind_of pla
 
 -- what the act merges into source s (dispatch_source_merge_data(3))
 abbrev pub merged_by : PlanView → ℕ → Option Act → List ℕ
+merged_by plan s None = []
+merged_by plan s (Some (Async q b)) = []
+merged_by plan s (Some (Barrier q b)) = []
+merged_by plan s (Some (Sync q b)) = []
+merged_by plan s (Some (BarrierSync q b)) = []
+merged_by plan s (Some (GroupAsync x q b)) = []
+merged_by plan s (Some (Notify x q b)) = []
+merged_by plan s (Some (Enter x)) = []
+merged_by plan s (Some (Leave x)) = []
+merged_by plan s (Some (GroupWait x)) = []
+merged_by plan s (Some (GroupWaitFor x ms)) = []
+merged_by plan s (Some (Signal x)) = []
+merged_by plan s (Some (Wait x)) = []
+merged_by plan s (Some (WaitFor x ms)) = []
+merged_by plan s (Some (Suspend o)) = []
+merged_by plan s (Some (Resume o)) = []
+merged_by plan s (Some (Activate o)) = []
+merged_by plan s (Some (Target o t)) = []
 merged_by plan s (Some (Merge t n)) = if t.0 == s && has_effect_at plan s n then n ∷ [] else []
-merged_by plan s _ = []
+merged_by plan s (Some (Cancel o)) = []
+merged_by plan s (Some (Retain o)) = []
+merged_by plan s (Some (Release o)) = []
 
 -- 1 for each due time of timer s after from, up to the tick
 abbrev pub due_inputs : PlanView → List Event → ℕ → (from to : ℕ) → List ℕ
@@ -54,6 +74,7 @@ input plan past (Ready t n) s = if t.0 == s then n ∷ [] else []
 input plan past (FeedEnd t) s = []
 input plan past (Misuse w r i c) s = []
 input plan past Halt s = []
+input plan past (Expire b) s = []
 
 -- the event is a Deliver of source s
 abbrev pub delivers : ℕ → Event → Bool

@@ -9,7 +9,7 @@ ghost use Rattle.gcd_history.specs.History.{IsLawful, why, choice_of};
 ghost use Rattle.gcd_history.specs.Ends.{HasEnded, IsDrained, IsQuiescent, IsHalted, HasState};
 ghost use Rattle.gcd_history.specs.declared.state.State.{State};
 ghost use Rattle.gcd_history.specs.Values.{words_begun, begins_word};
-ghost use Rattle.gcd_history.specs.Laws.{RunsOnce, StartsAfterSubmission, AllEndOnce, IsSubmittedOnce, StartsInOrder, BeginsFree, WakesHaveCause, NoneParked, WaitsHavePassed, GroupWaitsPass, SemaphoreWaitsPass, IsConserved, LastsAreKept, RunsExclude, BlocksOfOneNodeApart, BarriersExclude, DeliversAlone, TreeStands, IsChoiceOf, HasNoChoice, HasSomeState, IsAtRest};
+ghost use Rattle.gcd_history.specs.Laws.{RunsOnce, StartsAfterSubmission, AllEndOnce, IsSubmittedOnce, StartsInOrder, BeginsFree, WakesHaveCause, NoneParked, WaitsAreOver, GroupWaitsEnd, SemaphoreWaitsEnd, IsConserved, LastsAreKept, RunsExclude, BlocksOfOneNodeApart, BarriersExclude, DeliversAlone, TreeStands, IsChoiceOf, HasNoChoice, HasSomeState, IsAtRest};
 
 /// Each block starts at most once, after its submission, and ends at most once; where the run is drained each submitted
 /// block has ended exactly once (dispatch_async(3)).
@@ -61,19 +61,19 @@ pub fn runs_begin_free()
     ensures { (plan : PlanView) (h : List Event) → IsLawful plan h → BeginsFree plan h }
 {}
 
-/// A Wake stands only where what its block waits for had come; where the run is drained no block is parked, and whatever a
-/// block has waited for has come, so every group wait and every semaphore wait has passed (dispatch_sync(3),
-/// dispatch_group_wait(3), dispatch_semaphore_wait(3)).
+/// A Wake stands only where what its block waits for had come, or where its wait had expired; where the run is drained no block
+/// is parked, and whatever a block has waited for has come, or its wait has expired, so every group wait and every semaphore
+/// wait has passed or expired (dispatch_sync(3), dispatch_group_wait(3), dispatch_semaphore_wait(3)).
 pub fn wakes_have_causes()
     ensures cause { (plan : PlanView) (h : List Event) → IsLawful plan h → WakesHaveCause plan h }
     ensures none { (plan : PlanView) (h : List Event) → IsLawful plan h → IsDrained plan h
         → NoneParked plan h }
     ensures passed { (plan : PlanView) (h : List Event) → IsLawful plan h → IsDrained plan h
-        → WaitsHavePassed plan h }
+        → WaitsAreOver plan h }
     ensures groups { (plan : PlanView) (h : List Event) → IsPlan plan → IsLawful plan h → IsDrained plan h
-        → GroupWaitsPass plan h }
+        → GroupWaitsEnd plan h }
     ensures semaphores { (plan : PlanView) (h : List Event) → IsPlan plan → IsLawful plan h → IsDrained plan h
-        → SemaphoreWaitsPass plan h }
+        → SemaphoreWaitsEnd plan h }
 {}
 
 /// What the Delivers of a source handed over, with what is pending, is all that it was given; of a replace source the last merge

@@ -21,7 +21,8 @@
 //!
 //! A definition that sorts acts, events, kinds or states names each variant, so that the compiler refuses a new one until
 //! someone decides what it is. A test for one or two variants (`starts`, `retains`, `hold_after`) passes over all others: that
-//! is its meaning. So do the three walks `acts_done`, `last_worker` and `parked_by`, which ask `opens` of each other event.
+//! is its meaning. So do the three walks `acts_done`, `last_worker` and `parked_by`, which ask `opens` of each other event,
+//! and the two walks `last_act` and `last_limit`, which look for acts.
 //!
 //! Worked rows (`proofs/Rows*`) are computed with each check: `proofs/Lib.antt` names their files, so a row that does not hold
 //! fails the crate, though no law cites it.
@@ -37,7 +38,7 @@
 //! | [`laws::blocks_of_one_queue_exclude_each_other`] | so blocks of one serial queue never overlap |
 //! | [`laws::deliveries_exclude_each_other`] | a delivery begins where no run of its source is open |
 //! | [`laws::runs_begin_free`] | what begins, begins with its whole chain free |
-//! | [`laws::wakes_have_causes`] | a parked block wakes only when what it waits for has come |
+//! | [`laws::wakes_have_causes`] | a parked block wakes only when what it waits for has come, or its wait has expired |
 //! | [`laws::merged_data_is_conserved`] | what was merged was handed over, or is pending |
 //! | [`laws::tree_stands_under_open_runs`] | targets lead to root, and stand still under an open run |
 //! | [`laws::choices_are_complete`] | in any history of a valid plan a worker has a choice exactly where an event of its own is permitted |

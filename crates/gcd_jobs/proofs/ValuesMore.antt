@@ -7,11 +7,10 @@ use Rattle.std.proofs.lemmas.Option.{slice_get-get_or, slice_get_within}
 use Rattle.gcd_plan.specs.PlanView.{PlanView}
 use Rattle.gcd_plan.specs.declared.numbers.Blk.{Blk}
 use Rattle.gcd_plan.specs.declared.numbers.Obj.{Obj}
-use Rattle.gcd_plan.specs.declared.numbers.Run.{Run}
 use Rattle.gcd_plan.specs.declared.numbers.Run.TheVariants.{Block, Source}
 use Rattle.gcd_event.specs.Owners.{ended}
 use Rattle.gcd_event.specs.declared.event.Event.{Event}
-use Rattle.gcd_event.specs.declared.event.Event.TheVariants.{Start, Act as Acted, Wake, End, Deliver, DeliverEnd, Tick, Ready, FeedEnd, Misuse, Halt}
+use Rattle.gcd_event.specs.declared.event.Event.TheVariants.{Start, Act as Acted, Wake, End, Deliver, DeliverEnd, Tick, Ready, FeedEnd, Misuse, Halt, Expire}
 use Rattle.gcd_history.specs.Runs.{ends}
 use Rattle.gcd_history.specs.History.{is_ended, why}
 use Rattle.gcd_history.specs.Values.{value_of}
@@ -101,6 +100,7 @@ end_fits plan h (Ready s n) permitted = tt
 end_fits plan h (FeedEnd s) permitted = tt
 end_fits plan h (Misuse w r i c) permitted = tt
 end_fits plan h Halt permitted = tt
+end_fits plan h (Expire b) permitted = tt
 
 -- a block is ended by its End
 pub ended_block : (e : Event) (b : Blk) → Some (Block b) ≡ ended e → (w : ℕ) × (e ≡ End w b)
@@ -115,6 +115,7 @@ ended_block (Ready s n) b is = cc
 ended_block (FeedEnd s) b is = cc
 ended_block (Misuse w r i c) b is = cc
 ended_block Halt b is = cc
+ended_block (Expire c) b is = cc
 
 -- an event that ends a source's run ends no block
 pub source_ended : (e : Event) (s : Obj) → Some (Source s) ≡ ended e → (b : ℕ) → ends b e ≡ false

@@ -2,7 +2,7 @@
 use Rattle.std.specs.Prelude.{◌<◌, length}
 use Rattle.gcd_plan.specs.PlanView.{PlanView}
 use Rattle.gcd_event.specs.declared.event.Event.{Event}
-use Rattle.gcd_event.specs.declared.event.Event.TheVariants.{Start, Act as Acted, Wake, End, Deliver, DeliverEnd, Tick, Ready, FeedEnd, Misuse, Halt}
+use Rattle.gcd_event.specs.declared.event.Event.TheVariants.{Start, Act as Acted, Wake, End, Deliver, DeliverEnd, Tick, Ready, FeedEnd, Misuse, Halt, Expire}
 
 -- the block that the event ends is one of the plan's
 abbrev pub EndFits : PlanView → Event → Type 0
@@ -17,3 +17,4 @@ EndFits plan (Ready s n) = Unit {0}
 EndFits plan (FeedEnd s) = Unit {0}
 EndFits plan (Misuse w r i c) = Unit {0}
 EndFits plan Halt = Unit {0}
+EndFits plan (Expire b) = Unit {0}

@@ -6,7 +6,7 @@ use Rattle.std.proofs.lemmas.Bool.{and_from, and_parts, eqb-true, ltb-true, ne_e
 use Rattle.std.proofs.lemmas.List.{nil_from_length}
 use Rattle.std.proofs.lemmas.List.Folds.{list_all-append}
 use Rattle.gcd_plan.specs.declared.act.Act.{Act}
-use Rattle.gcd_plan.specs.declared.act.Act.TheVariants.{Async, Barrier, Sync, BarrierSync, GroupAsync, Notify, Enter, Leave, GroupWait, Signal, Wait, Suspend, Resume, Activate, Target, Merge, Cancel, Retain, Release}
+use Rattle.gcd_plan.specs.declared.act.Act.TheVariants.{Async, Barrier, Sync, BarrierSync, GroupAsync, Notify, Enter, Leave, GroupWait, GroupWaitFor, Signal, Wait, WaitFor, Suspend, Resume, Activate, Target, Merge, Cancel, Retain, Release}
 use Rattle.gcd_plan.specs.declared.kind.Kind.{Kind}
 use Rattle.gcd_plan.specs.declared.kind.Kind.TheVariants.{Serial, Concurrent, Group, Semaphore, Add, Or, Replace, Timer, Read}
 use Rattle.gcd_plan.specs.declared.numbers.Blk.{Blk}
@@ -29,8 +29,10 @@ act_names plan (Notify g q b) h =
 act_names plan (Enter g) h = refl
 act_names plan (Leave g) h = refl
 act_names plan (GroupWait g) h = refl
+act_names plan (GroupWaitFor g ms) h = refl
 act_names plan (Signal s) h = refl
 act_names plan (Wait s) h = refl
+act_names plan (WaitFor s ms) h = refl
 act_names plan (Suspend o) h = refl
 act_names plan (Resume o) h = refl
 act_names plan (Activate o) h = refl

@@ -1,7 +1,7 @@
 -- What is said of an act by itself.
 use Rattle.std.specs.Prelude.{Bool, true, false}
 use Rattle.gcd_plan.specs.declared.act.Act.{Act}
-use Rattle.gcd_plan.specs.declared.act.Act.TheVariants.{Async, Barrier, Sync, BarrierSync, GroupAsync, Notify, Enter, Leave, GroupWait, Signal, Wait, Suspend, Resume, Activate, Target, Merge, Cancel, Retain, Release}
+use Rattle.gcd_plan.specs.declared.act.Act.TheVariants.{Async, Barrier, Sync, BarrierSync, GroupAsync, Notify, Enter, Leave, GroupWait, GroupWaitFor, Signal, Wait, WaitFor, Suspend, Resume, Activate, Target, Merge, Cancel, Retain, Release}
 
 -- the act parks its block until a Wake (dispatch_sync(3), dispatch_barrier_sync(3), dispatch_group_wait(3),
 -- dispatch_semaphore_wait(3))
@@ -15,8 +15,10 @@ parks (Notify g q b) = false
 parks (Enter g) = false
 parks (Leave g) = false
 parks (GroupWait g) = true
+parks (GroupWaitFor g ms) = true
 parks (Signal s) = false
 parks (Wait s) = true
+parks (WaitFor s ms) = true
 parks (Suspend o) = false
 parks (Resume o) = false
 parks (Activate o) = false

@@ -26,10 +26,14 @@ pub enum Act {
     Leave(Obj),
     /// Waits until the group is empty (dispatch_group_wait(3)).
     GroupWait(Obj),
+    /// Waits until the group is empty, for so many milliseconds, at most [`crate::MAX_TIME`] (dispatch_group_wait(3)).
+    GroupWaitFor(Obj, u32),
     /// Signals the semaphore (dispatch_semaphore_signal(3)).
     Signal(Obj),
     /// Waits for the semaphore (dispatch_semaphore_wait(3)).
     Wait(Obj),
+    /// Waits for the semaphore, for so many milliseconds, at most [`crate::MAX_TIME`] (dispatch_semaphore_wait(3)).
+    WaitFor(Obj, u32),
     /// Suspends the queue or source (dispatch_suspend(3)).
     Suspend(Obj),
     /// Resumes the queue or source (dispatch_resume(3)).
@@ -56,6 +60,7 @@ impl Act {
     {
         match self {
             Act::Sync(..) | Act::BarrierSync(..) | Act::GroupWait(_) | Act::Wait(_) => true,
+            Act::GroupWaitFor(..) | Act::WaitFor(..) => true,
             Act::Async(..) | Act::Barrier(..) | Act::GroupAsync(..) | Act::Notify(..) => false,
             Act::Enter(_) | Act::Leave(_) | Act::Signal(_) => false,
             Act::Suspend(_) | Act::Resume(_) | Act::Activate(_) | Act::Target(..) => false,
@@ -71,6 +76,7 @@ impl Act {
             Act::Async(..) | Act::Barrier(..) | Act::Sync(..) | Act::BarrierSync(..) => false,
             Act::GroupAsync(..) | Act::Notify(..) => false,
             Act::GroupWait(_) | Act::Wait(_) => false,
+            Act::GroupWaitFor(..) | Act::WaitFor(..) => false,
             Act::Enter(_) | Act::Leave(_) | Act::Signal(_) => true,
             Act::Suspend(_) | Act::Resume(_) | Act::Activate(_) | Act::Target(..) => true,
             Act::Merge(..) | Act::Cancel(_) => true,
@@ -88,7 +94,7 @@ impl Act {
             }
             Act::GroupAsync(_, _, b) | Act::Notify(_, _, b) => Some(b),
             Act::Enter(_) | Act::Leave(_) | Act::GroupWait(_) | Act::Signal(_) => None,
-            Act::Wait(_) => None,
+            Act::Wait(_) | Act::GroupWaitFor(..) | Act::WaitFor(..) => None,
             Act::Suspend(_) | Act::Resume(_) | Act::Activate(_) | Act::Target(..) => None,
             Act::Merge(..) | Act::Cancel(_) | Act::Retain(_) | Act::Release(_) => None,
         }

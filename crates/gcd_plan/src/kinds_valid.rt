@@ -6,7 +6,7 @@ ghost use Rattle.gcd_plan.specs.Validity.{is_submittable, is_held_object, is_act
 
 use crate::act::Act;
 use crate::kind::Kind;
-use crate::limits::MAX_VALUE;
+use crate::limits::{MAX_TIME, MAX_VALUE};
 use crate::numbers::{Blk, Obj};
 use crate::parts::Parts;
 
@@ -90,7 +90,9 @@ pub fn is_act(parts: &Parts, act: Act) -> bool
             is_group(parts, g) && is_submission(parts, q, b)
         }
         Act::Enter(g) | Act::Leave(g) | Act::GroupWait(g) => is_group(parts, g),
+        Act::GroupWaitFor(g, ms) => is_group(parts, g) && ms <= MAX_TIME,
         Act::Signal(s) | Act::Wait(s) => is_semaphore(parts, s),
+        Act::WaitFor(s, ms) => is_semaphore(parts, s) && ms <= MAX_TIME,
         Act::Suspend(o) | Act::Resume(o) | Act::Activate(o) => is_held_object(parts, o),
         Act::Target(o, t) => is_held_object(parts, o) && is_queue(parts, t),
         Act::Merge(s, n) => is_merge_source(parts, s) && n <= MAX_VALUE,

@@ -36,5 +36,5 @@ pub const MAX_PATH_BYTES: u32 = 255;
 /// The most bytes in a name.
 pub const MAX_NAME_BYTES: u32 = 32;
 
-/// The time, in milliseconds, until which timers count where a script does not say.
+/// The time, in milliseconds, until which timers and limits of waits count where a script does not say.
 pub const DEFAULT_UNTIL: u32 = 1_000;

@@ -100,6 +100,6 @@ pub struct Parts {
     pub blocks: Vec<BlkPart>,
     /// The files.
     pub files: Vec<FilePart>,
-    /// The last due time of timers, in milliseconds from 1 to [`crate::MAX_TIME`].
+    /// The last due time of timers and limit of waits, in milliseconds from 1 to [`crate::MAX_TIME`].
     pub until: u32,
 }

@@ -185,7 +185,7 @@ impl Plan {
         self.held.parts().files[f as usize].line
     }
 
-    /// The last due time of timers, in milliseconds: 1 to [`crate::MAX_TIME`] (this project's own rule).
+    /// The last due time of timers and limit of waits, in milliseconds: 1 to [`crate::MAX_TIME`] (this project's own rule).
     pub fn until(&self) -> u32
         ensures { result ≡ self.now.until }
     {

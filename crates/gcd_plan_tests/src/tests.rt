@@ -30,7 +30,7 @@ const PLAIN: Case = Case {
     valid: true,
 };
 
-const CASES: [Case; 28] = [
+const CASES: [Case; 31] = [
     PLAIN,
     Case {
         what: "a barrier",
@@ -63,6 +63,15 @@ const CASES: [Case; 28] = [
         what: "a semaphore",
         kind: Kind::Semaphore(MAX_VALUE),
         acts: &[Act::Signal(Obj(1))],
+        ..PLAIN
+    },
+    Case {
+        what: "waits with the longest limits",
+        kind: Kind::Semaphore(0),
+        acts: &[
+            Act::WaitFor(Obj(1), MAX_TIME),
+            Act::GroupWaitFor(Obj(2), MAX_TIME),
+        ],
         ..PLAIN
     },
     Case {
@@ -179,6 +188,19 @@ const CASES: [Case; 28] = [
     Case {
         what: "a queue that is merged into",
         acts: &[Act::Merge(Obj(1), 1)],
+        valid: false,
+        ..PLAIN
+    },
+    Case {
+        what: "a wait with too long a limit",
+        kind: Kind::Semaphore(0),
+        acts: &[Act::WaitFor(Obj(1), MAX_TIME + 1)],
+        valid: false,
+        ..PLAIN
+    },
+    Case {
+        what: "a wait for a queue as for a group",
+        acts: &[Act::GroupWaitFor(Obj(1), 1)],
         valid: false,
         ..PLAIN
     },
