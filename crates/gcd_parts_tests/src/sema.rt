@@ -1,20 +1,35 @@
 ghost use Rattle.std.specs.Prelude.{◌≡◌, length};
 
-use gcd_plan::{BlkPart, Kind, MAX_VALUE, Obj, ObjPart, Parts, Plan};
-use gcd_sema::Semas;
+use gcd_plan::{Act, BlkPart, Kind, MAX_VALUE, Obj, ObjPart, Parts, Plan};
+use gcd_sema::{Semas, has_awaited};
 use std::alloc::{AllocError, Global};
 use std::process::Abort;
 use std::test::Fail;
 
-// `root`, semaphores of first value 1, 5 and 2^31 - 1, and `main`.
+// `root`, semaphores of first value 1, 5, 2^31 - 1 and 0, and `main`, which waits for them 4 times, once, never and 6 times.
 fn parts(alloc: Global) -> Result<Parts, AllocError> {
-    let main = BlkPart::new(alloc, "main")?;
+    let mut main = BlkPart::new(alloc, "main")?;
+    main.acts = vec![in alloc;
+        Act::Wait(Obj(1)),
+        Act::Wait(Obj(4)),
+        Act::WaitFor(Obj(4), 0),
+        Act::Signal(Obj(4)),
+        Act::WaitFor(Obj(1), 7),
+        Act::Wait(Obj(2)),
+        Act::WaitFor(Obj(4), 5),
+        Act::Wait(Obj(1)),
+        Act::WaitFor(Obj(4), 9),
+        Act::WaitFor(Obj(4), 9),
+        Act::Wait(Obj(1)),
+        Act::Wait(Obj(4)),
+    ]?;
     let root = ObjPart::new(alloc, "root", Kind::Concurrent)?;
     let one = ObjPart::new(alloc, "s", Kind::Semaphore(1))?;
     let five = ObjPart::new(alloc, "t", Kind::Semaphore(5))?;
     let most = ObjPart::new(alloc, "u", Kind::Semaphore(MAX_VALUE))?;
+    let none = ObjPart::new(alloc, "v", Kind::Semaphore(0))?;
     Ok(Parts {
-        objects: vec![in alloc; root, one, five, most]?,
+        objects: vec![in alloc; root, one, five, most, none]?,
         blocks: vec![in alloc; main]?,
         files: Vec::new(alloc),
         until: 1,
@@ -25,13 +40,17 @@ fn parts(alloc: Global) -> Result<Parts, AllocError> {
 enum Call {
     Wait(Obj, u32),
     Signal(Obj),
+    Expire(Obj, u32),
+    HasExpired(Obj, u32, bool),
     Passed(Obj, u32, bool),
     Value(Obj, i64),
     Counts(Obj, u32, u32),
     IsBelowFirst(Obj, bool),
+    HasValue(Obj, bool),
+    Room(Obj, u32),
 }
 
-const CALLS: [Call; 37] = [
+static CALLS: [Call; 36] = [
     Call::Value(Obj(1), 1),
     Call::Wait(Obj(1), 1),
     Call::Value(Obj(1), 0),
@@ -63,26 +82,79 @@ const CALLS: [Call; 37] = [
     Call::Value(Obj(1), 0),
     // The others stay as they are, and what is no semaphore has no value.
     Call::Value(Obj(2), 5),
-    Call::Passed(Obj(2), 5, true),
-    Call::Passed(Obj(2), 6, false),
     Call::Wait(Obj(2), 1),
+    Call::Passed(Obj(2), 1, true),
     Call::Value(Obj(2), 4),
     Call::Value(Obj(0), 0),
     Call::IsBelowFirst(Obj(0), false),
     // A value passes 2^31 - 1.
     Call::Signal(Obj(3)),
     Call::Value(Obj(3), MAX_VALUE as i64 + 1),
-    Call::Passed(Obj(3), MAX_VALUE + 1, true),
+    Call::HasValue(Obj(3), true),
+];
+
+static EXPIRIES: [Call; 43] = [
+    Call::Room(Obj(0), 0),
+    Call::Room(Obj(1), 4),
+    Call::Room(Obj(2), 1),
+    Call::Room(Obj(3), 0),
+    Call::Room(Obj(4), 6),
+    Call::HasValue(Obj(4), false),
+    Call::HasValue(Obj(2), true),
+    // The second of three waits expires: it frees its turn.
+    Call::Wait(Obj(4), 1),
+    Call::Wait(Obj(4), 2),
+    Call::Wait(Obj(4), 3),
+    Call::Value(Obj(4), -3),
+    Call::Expire(Obj(4), 2),
+    Call::HasExpired(Obj(4), 1, false),
+    Call::HasExpired(Obj(4), 2, true),
+    Call::Value(Obj(4), -2),
+    Call::Counts(Obj(4), 0, 3),
+    Call::Passed(Obj(4), 1, false),
+    Call::Passed(Obj(4), 3, false),
+    Call::Signal(Obj(4)),
+    Call::Passed(Obj(4), 1, true),
+    Call::Passed(Obj(4), 3, false),
+    Call::Signal(Obj(4)),
+    Call::Passed(Obj(4), 2, false),
+    Call::Passed(Obj(4), 3, true),
+    Call::Value(Obj(4), 0),
+    Call::IsBelowFirst(Obj(4), false),
+    // The next wait expires, and a signal is kept for the one after it.
+    Call::Wait(Obj(4), 4),
+    Call::Expire(Obj(4), 4),
+    Call::Value(Obj(4), 0),
+    Call::Signal(Obj(4)),
+    Call::HasValue(Obj(4), true),
+    Call::Wait(Obj(4), 5),
+    Call::Passed(Obj(4), 4, false),
+    Call::Passed(Obj(4), 5, true),
+    Call::HasValue(Obj(4), false),
+    // A wait that has expired leaves the value as it was before it.
+    Call::Wait(Obj(4), 6),
+    Call::IsBelowFirst(Obj(4), true),
+    Call::Expire(Obj(4), 6),
+    Call::IsBelowFirst(Obj(4), false),
+    Call::Value(Obj(4), 0),
+    Call::Counts(Obj(4), 3, 6),
+    // The others stay as they are.
+    Call::Counts(Obj(1), 0, 0),
+    Call::Value(Obj(1), 1),
 ];
 
 fn object_of(call: &Call) -> Obj {
     match call {
         Call::Wait(s, _) => *s,
         Call::Signal(s) => *s,
+        Call::Expire(s, _) => *s,
+        Call::HasExpired(s, _, _) => *s,
         Call::Passed(s, _, _) => *s,
         Call::Value(s, _) => *s,
         Call::Counts(s, _, _) => *s,
         Call::IsBelowFirst(s, _) => *s,
+        Call::HasValue(s, _) => *s,
+        Call::Room(s, _) => *s,
     }
 }
 
@@ -94,29 +166,70 @@ fn play(rt: &impl Abort, plan: &Plan, semas: &mut Semas, call: &Call)
     assert!(rt; s.0 < plan.objects());
     match call {
         Call::Wait(_, answer) => {
-            assert!(rt; semas.waits(s) < 1000);
+            assert!(rt; semas.waits(s) < semas.room(s));
             assert_eq!(rt; semas.wait(s), *answer);
         }
         Call::Signal(_) => {
             assert!(rt; semas.signals(s) < 1000);
             semas.signal(s);
         }
-        Call::Passed(_, rank, answer) => assert_eq!(rt; semas.passed(s, *rank), *answer),
+        Call::Expire(_, rank) => {
+            assert!(rt; *rank > 0 && *rank <= semas.waits(s));
+            assert!(rt; !semas.passed(s, *rank));
+            assert!(rt; !semas.has_expired(s, *rank));
+            semas.expire(s, *rank);
+        }
+        Call::HasExpired(_, rank, answer) => {
+            assert!(rt; *rank > 0 && *rank <= semas.waits(s));
+            assert_eq!(rt; semas.has_expired(s, *rank), *answer);
+        }
+        Call::Passed(_, rank, answer) => {
+            assert!(rt; *rank > 0);
+            assert_eq!(rt; semas.passed(s, *rank), *answer);
+        }
         Call::Value(_, answer) => assert_eq!(rt; semas.value(s), *answer),
         Call::Counts(_, signals, waits) => {
             assert_eq!(rt; (semas.signals(s), semas.waits(s)), (*signals, *waits));
         }
         Call::IsBelowFirst(_, answer) => assert_eq!(rt; semas.is_below_first(s), *answer),
+        Call::HasValue(_, answer) => assert_eq!(rt; semas.has_value(s), *answer),
+        Call::Room(_, answer) => assert_eq!(rt; semas.room(s), *answer),
     }
+}
+
+// A plan's semaphores before the first event, and all of these calls on them.
+fn play_all(rt: &impl Abort, alloc: Global, calls: &[Call]) -> Result<(), Fail> {
+    let made = Plan::of_parts(parts(alloc)?).ok_or("a valid plan")?;
+    let plan = &made;
+    let mut semas = Semas::new(alloc, plan)?.copied(alloc)?;
+    for call in calls.iter() {
+        play(rt, plan, &mut semas, call);
+    }
+    Ok(())
+}
+
+#[test]
+fn acts_may_wait_where_there_is_a_semaphore(rt: HostRuntime) -> Result<(), Fail> {
+    let alloc = rt.alloc();
+    assert!(rt; has_awaited(&Plan::of_parts(parts(alloc)?).ok_or("a valid plan")?));
+    let queue = ObjPart::new(alloc, "q", Kind::Serial)?;
+    let without = Parts {
+        objects: vec![in alloc; ObjPart::new(alloc, "root", Kind::Concurrent)?, queue]?,
+        blocks: vec![in alloc; BlkPart::new(alloc, "main")?]?,
+        files: Vec::new(alloc),
+        until: 1,
+    };
+    let plan = Plan::of_parts(without).ok_or("a valid plan")?;
+    assert!(rt; !has_awaited(&plan));
+    Ok(())
 }
 
 #[test]
 fn waits_and_signals(rt: HostRuntime) -> Result<(), Fail> {
-    let made = Plan::of_parts(parts(rt.alloc())?).ok_or("a valid plan")?;
-    let plan = &made;
-    let mut semas = Semas::new(rt.alloc(), plan)?.copied(rt.alloc())?;
-    for call in CALLS.iter() {
-        play(&rt, plan, &mut semas, call);
-    }
-    Ok(())
+    play_all(&rt, rt.alloc(), &CALLS)
+}
+
+#[test]
+fn waits_expire(rt: HostRuntime) -> Result<(), Fail> {
+    play_all(&rt, rt.alloc(), &EXPIRIES)
 }

@@ -1,41 +1,97 @@
 // The semaphores.
-ghost use Rattle.std.specs.Prelude.{◌≡◌, ◌+◌, ◌<◌, ◌^◌, IfOk, length};
-ghost use Rattle.gcd_sema.specs.SemasView.{semas_of, first_at, signals_at, waits_at, is_passed_at, is_below_first_at, value_at, with_signals, with_waits};
+ghost use Rattle.std.specs.Prelude.{◌≡◌, ◌+◌, ◌<◌, ◌≤◌, ◌^◌, pos, ◌-ℤ◌, IfOk, cond, false, min, length};
+ghost use Rattle.gcd_sema.specs.Cells.{IsNext};
+ghost use Rattle.gcd_sema.specs.SemasView.{semas_of, room_at, signals_at, waits_at, is_passed_at, is_expired_at, has_value_at, is_below_first_at, value_at, with_signals, with_wait, with_expired};
 
 use crate::first::first_values;
+use crate::rooms::{bases, rooms};
 use gcd_plan::{Obj, Plan};
 use std::alloc::{AllocError, Global};
 use std::marker::Model;
 
-/// How often each semaphore of a plan was signalled and waited for, beside its first value (dispatch_semaphore_create(3)).
-/// Contracts see it as plain lists by object (`SemasView`).
+/// How often each semaphore of a plan was signalled, and each wait for it, beside its first value
+/// (dispatch_semaphore_create(3)). Contracts see it as plain lists by object (`SemasView`).
 #[derive(Debug, Drop)]
 pub struct Semas {
     firsts: Vec<u32>,
     signals: Vec<u32>,
-    waits: Vec<u32>,
+    // By semaphore: how many waits have begun, and how many of them have not expired.
+    given: Vec<u32>,
+    left: Vec<u32>,
+    // By semaphore: how many of its waits have passed or expired, from the first on.
+    reached: Vec<u32>,
+    // Where its cells begin, and at the end where those of the last one end; by cell, whether that wait has expired.
+    bases: Vec<u32>,
+    expired: Vec<bool>,
 }
 
 impl Model for Semas {
-    ghost use Rattle.gcd_sema.specs.SemasView.{SemasView, AreAsMany};
+    ghost use Rattle.gcd_sema.specs.SemasView.{SemasView};
 
     ghost Value = { SemasView };
 
-    ghost view = { λ s. record { firsts = s.firsts.items; signals = s.signals.items; waits = s.waits.items } };
+    ghost use Rattle.gcd_sema.specs.Cells.{view_of, InsideAgrees};
 
-    ghost invariant = { λ s. AreAsMany (record { firsts = s.firsts.items; signals = s.signals.items; waits = s.waits.items }) };
+    ghost view = { view_of };
+
+    ghost invariant = { InsideAgrees };
+}
+
+// From this wait on the first that has not expired, or the end.
+fn unexpired_from(waits: &[bool], from: u32) -> u32
+    requires from { from ≤ length waits.now }
+    requires few { length waits.now < 2 ^ 32 }
+    ensures { IsNext waits.now from result }
+{
+    for at in from..waits.len() as u32 {
+        if !waits[at as usize] {
+            return at;
+        }
+    }
+    waits.len() as u32
+}
+
+// How many waits are reached once one more has begun: all of them where it passes at once.
+fn reached_with_wait(passes: bool, given: u32, reached: u32) -> u32
+    requires { given + 1 < 2 ^ 32 }
+    ensures { result ≡ cond passes (given + 1) reached }
+{
+    if passes { given + 1 } else { reached }
+}
+
+// One wait further, where there is one.
+fn one_further(reached: u32, given: u32) -> u32
+    requires { reached ≤ given }
+    ensures { result ≡ min (reached + 1) given }
+{
+    if reached < given { reached + 1 } else { given }
+}
+
+// The value of a semaphore that began at `first`.
+fn value_of(first: u32, signals: u32, left: u32) -> i64
+    ensures { result ≡ pos (first + signals) -ℤ pos left }
+{
+    i64::from(first) + i64::from(signals) - i64::from(left)
 }
 
 impl Semas {
     /// The plan's semaphores before the first event: each has its first value (dispatch_semaphore_create(3)). It takes all
-    /// the memory that the semaphores ever need: an `Err` comes only where memory runs out.
+    /// the memory that the semaphores ever need, a byte for each act that waits for one: an `Err` comes only where memory
+    /// runs out.
     pub fn new(alloc: Global, plan: &Plan) -> Result<Semas, AllocError>
         ensures { IfOk result (λ s. s ≡ semas_of plan.now) }
     {
+        let objects = plan.objects() as usize;
+        let bases = bases(alloc, &rooms(alloc, plan)?)?;
+        let end = bases[objects];
         Ok(Semas {
             firsts: first_values(alloc, plan)?,
-            signals: vec![in alloc; 0; plan.objects() as usize]?,
-            waits: vec![in alloc; 0; plan.objects() as usize]?,
+            signals: vec![in alloc; 0; objects]?,
+            given: vec![in alloc; 0; objects]?,
+            left: vec![in alloc; 0; objects]?,
+            reached: vec![in alloc; 0; objects]?,
+            bases,
+            expired: vec![in alloc; false; end as usize]?,
         })
     }
 
@@ -46,16 +102,20 @@ impl Semas {
         Ok(Semas {
             firsts: Vec::from_slice(alloc, &self.firsts)?,
             signals: Vec::from_slice(alloc, &self.signals)?,
-            waits: Vec::from_slice(alloc, &self.waits)?,
+            given: Vec::from_slice(alloc, &self.given)?,
+            left: Vec::from_slice(alloc, &self.left)?,
+            reached: Vec::from_slice(alloc, &self.reached)?,
+            bases: Vec::from_slice(alloc, &self.bases)?,
+            expired: Vec::from_slice(alloc, &self.expired)?,
         })
     }
 
-    /// How often the semaphore was waited for (dispatch_semaphore_wait(3)).
+    /// How often the semaphore was waited for, with the waits that have expired (dispatch_semaphore_wait(3)).
     pub fn waits(&self, s: Obj) -> u32
         requires { s.0 < length self.now.waits }
         ensures { result ≡ waits_at self.now s.0 }
     {
-        self.waits[s.0 as usize]
+        self.given[s.0 as usize]
     }
 
     /// How often the semaphore was signalled (dispatch_semaphore_signal(3)).
@@ -66,55 +126,118 @@ impl Semas {
         self.signals[s.0 as usize]
     }
 
-    /// A wait on the semaphore begins; the answer is its rank, 1 for the first (dispatch_semaphore_wait(3)). There are fewer
-    /// than 2^32 - 1 waits on it before: [`Semas::waits`] is the test.
-    pub fn wait(&mut self, s: Obj) -> u32
-        requires semaphore { s.0 < length self.old.waits }
-        requires room { waits_at self.old s.0 + 1 < 2 ^ 32 }
-        ensures rank { result ≡ waits_at self.old s.0 + 1 }
-        ensures counted { self.new ≡ with_waits self.old s.0 (waits_at self.old s.0 + 1) }
+    /// How many waits on the semaphore may begin: the plan has as many acts that wait for it (dispatch_semaphore_wait(3)).
+    pub fn room(&self, s: Obj) -> u32
+        requires { s.0 < length self.now.waits }
+        ensures { result ≡ room_at self.now s.0 }
     {
-        let rank = self.waits[s.0 as usize] + 1;
-        self.waits[s.0 as usize] = rank;
-        rank
+        self.bases[s.0 as usize + 1] - self.bases[s.0 as usize]
     }
 
-    /// The semaphore is signalled (dispatch_semaphore_signal(3)). It was signalled fewer than 2^32 - 1 times before:
-    /// [`Semas::signals`] is the test.
+    /// A wait on the semaphore begins; the answer is its rank, 1 for the first (dispatch_semaphore_wait(3)). Fewer waits on it
+    /// began before than the plan has acts that wait for it: [`Semas::room`] is the test.
+    pub fn wait(&mut self, s: Obj) -> u32
+        requires semaphore { s.0 < length self.old.waits }
+        requires room { waits_at self.old s.0 < room_at self.old s.0 }
+        ensures rank { result ≡ waits_at self.old s.0 + 1 }
+        ensures counted { self.new ≡ with_wait self.old s.0 }
+    {
+        let at = s.0 as usize;
+        let place = self.given[at];
+        let reached = reached_with_wait(self.has_value(s), place, self.reached[at]);
+        self.expired[self.bases[at] as usize + place as usize] = false;
+        self.left[at] += 1;
+        self.reached[at] = reached;
+        self.given[at] = place + 1;
+        place + 1
+    }
+
+    /// The semaphore is signalled (dispatch_semaphore_signal(3)): the first of its waits that has neither passed nor expired
+    /// passes, if there is one. It was signalled fewer than 2^32 - 1 times before: [`Semas::signals`] is the test. It passes
+    /// over the expired waits that follow, each of which is passed over once in a run.
     pub fn signal(&mut self, s: Obj)
         requires semaphore { s.0 < length self.old.waits }
         requires room { signals_at self.old s.0 + 1 < 2 ^ 32 }
         ensures { self.new ≡ with_signals self.old s.0 (signals_at self.old s.0 + 1) }
     {
-        self.signals[s.0 as usize] += 1;
+        let at = s.0 as usize;
+        let base = self.bases[at] as usize;
+        let waits = &self.expired[base..base + self.given[at] as usize];
+        let reached = unexpired_from(waits, one_further(self.reached[at], self.given[at]));
+        self.signals[at] += 1;
+        self.reached[at] = reached;
     }
 
-    /// Whether the wait of this rank on the semaphore passes: its first value plus the signals so far is at least the rank
-    /// (dispatch_semaphore_wait(3); that waits are served in their order is this project's own rule).
+    /// The wait of this rank on the semaphore expires: it never passes, and counts no longer (dispatch_semaphore_wait(3)). It
+    /// has neither passed nor expired before: [`Semas::passed`] and [`Semas::has_expired`] are the tests. No other wait passes by
+    /// this. It passes over the expired waits that follow, each of which is passed over once in a run.
+    pub fn expire(&mut self, s: Obj, rank: u32)
+        requires semaphore { s.0 < length self.old.waits }
+        requires first { 1 ≤ rank }
+        requires begun { rank ≤ waits_at self.old s.0 }
+        requires waiting { is_passed_at self.old s.0 rank ≡ false }
+        requires unexpired { is_expired_at self.old s.0 rank ≡ false }
+        ensures { self.new ≡ with_expired self.old s.0 rank }
+    {
+        let at = s.0 as usize;
+        let base = self.bases[at] as usize;
+        self.expired[base + (rank - 1) as usize] = true;
+        let waits = &self.expired[base..base + self.given[at] as usize];
+        let reached = unexpired_from(waits, self.reached[at]);
+        self.reached[at] = reached;
+        self.left[at] -= 1;
+    }
+
+    /// Whether the wait of this rank on the semaphore has expired (dispatch_semaphore_wait(3)).
+    pub fn has_expired(&self, s: Obj, rank: u32) -> bool
+        requires semaphore { s.0 < length self.now.waits }
+        requires first { 1 ≤ rank }
+        requires begun { rank ≤ waits_at self.now s.0 }
+        ensures { result ≡ is_expired_at self.now s.0 rank }
+    {
+        self.expired[self.bases[s.0 as usize] as usize + (rank - 1) as usize]
+    }
+
+    /// Whether the wait of this rank on the semaphore passes: it has not expired, and the first value plus the signals so far
+    /// is at least the number of waits, up to and with it, that have not expired (dispatch_semaphore_wait(3); that waits are
+    /// served in their order is this project's own rule).
     pub fn passed(&self, s: Obj, rank: u32) -> bool
-        requires { s.0 < length self.now.waits }
+        requires semaphore { s.0 < length self.now.waits }
+        requires first { 1 ≤ rank }
         ensures { result ≡ is_passed_at self.now s.0 rank }
     {
         let at = s.0 as usize;
-        u64::from(rank) <= u64::from(self.firsts[at]) + u64::from(self.signals[at])
+        if self.given[at] < rank {
+            return self.given[at] == self.reached[at];
+        }
+        rank <= self.reached[at] && !self.expired[self.bases[at] as usize + (rank - 1) as usize]
     }
 
-    /// Whether the semaphore's value is below its first value: it was waited for more often than signalled
-    /// (dispatch_semaphore_create(3)). Of an object for which none waited it is false.
+    /// Whether the semaphore's value is above 0, so that one wait more would pass at once (dispatch_semaphore_wait(3)).
+    pub fn has_value(&self, s: Obj) -> bool
+        requires { s.0 < length self.now.waits }
+        ensures { result ≡ has_value_at self.now s.0 }
+    {
+        let at = s.0 as usize;
+        u64::from(self.left[at]) < u64::from(self.firsts[at]) + u64::from(self.signals[at])
+    }
+
+    /// Whether the semaphore's value is below its first value: more waits that have not expired have begun than it was
+    /// signalled (dispatch_semaphore_create(3)). Of an object for which none waited it is false.
     pub fn is_below_first(&self, s: Obj) -> bool
         requires { s.0 < length self.now.waits }
         ensures { result ≡ is_below_first_at self.now s.0 }
     {
-        self.signals[s.0 as usize] < self.waits[s.0 as usize]
+        self.signals[s.0 as usize] < self.left[s.0 as usize]
     }
 
-    /// The semaphore's value: its first value, and the signals less the waits; it is negative where more waits have begun
-    /// than can pass (dispatch_semaphore_create(3)).
+    /// The semaphore's value: its first value, and the signals less the waits that have not expired; it is negative where more
+    /// such waits have begun than can pass (dispatch_semaphore_create(3)).
     pub fn value(&self, s: Obj) -> i64
         requires { s.0 < length self.now.waits }
         ensures { result ≡ value_at self.now s.0 }
     {
         let at = s.0 as usize;
-        i64::from(self.firsts[at]) + i64::from(self.signals[at]) - i64::from(self.waits[at])
+        value_of(self.firsts[at], self.signals[at], self.left[at])
     }
 }

@@ -1,5 +1,5 @@
 -- That a merge of 0 changes nothing but at a replace source, and how much a merge may make.
-use Rattle.std.proofs.Common.{◌≡◌, ℕ, ◌+◌, ◌≤◌, ◌<◌, false, List, length, Option, Some, None, arith, ap, sym, ◌∙◌}
+use Rattle.std.proofs.Common.{◌≡◌, ℕ, ◌+◌, ◌≤◌, ◌<◌, false, length, Option, Some, None, arith, ap, sym, ◌∙◌}
 use Rattle.std.proofs.lemmas.List.{set-get_or}
 use Rattle.std.specs.Int.Bits.{or_zero_r, or_add_and}
 use Rattle.std.specs.List.{slice_get}

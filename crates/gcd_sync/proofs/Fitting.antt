@@ -1,44 +1,101 @@
--- That each reason fits, from before the first event on.
-use Rattle.std.proofs.Common.{◌≡◌, ℕ, ◌<◌, List, length, replicate, set, Option, Some, None, IfSome, inl, inr, sym, ◌∙◌, subst}
-use Rattle.std.proofs.lemmas.Bool.{cases_eq}
-use Rattle.std.proofs.lemmas.List.{length-set, get_or-set_same, get_or-set_other}
+-- That each reason fits, and that only parked blocks have a limit, from before the first event on.
+use Rattle.std.proofs.Common.{◌≡◌, ℕ, ◌<◌, ◌≤◌, Bool, false, List, length, get_or, replicate, set, Option, Some, None, IfSome, inl, inr, refl, sym, ap, ◌∙◌, subst, arith}
+use Rattle.std.proofs.lemmas.Bool.{cases_eq, cases_lt}
+use Rattle.std.proofs.lemmas.List.{length-set, length-replicate, get_or-set_same, get_or-set_other, get_or_past}
 use Rattle.std.proofs.lemmas.Option.{none-some}
 use Rattle.gcd_plan.specs.declared.reason.Reason.{Reason}
 use Rattle.gcd_plan.specs.declared.reason.Reason.TheVariants.{Block, Group, Rank}
 use Rattle.gcd_plan.proofs.Places.{get_or-replicate_same}
-use Rattle.gcd_sync.specs.WaitsView.{WaitsView, reason_at, Fits, AllFit}
+use Rattle.gcd_sync.specs.WaitsView.{WaitsView, reason_at, limit_at, has_expired_at, Fits, AllFit}
 
-abbrev seen : List (Option Reason) → ℕ → WaitsView
-seen reasons objects = record { reasons = reasons; objects = objects }
+abbrev seen : List (Option Reason) → List (Option ℕ) → List Bool → ℕ → WaitsView
+seen reasons limits expired objects = record { reasons = reasons; limits = limits; expired = expired; objects = objects }
 
 -- before the first event none is parked
-none_parked : (n objects b : ℕ) → reason_at (seen (replicate n None) objects) b ≡ None
-none_parked n objects b = get_or-replicate_same n b None
+module _ (n room objects : ℕ) (reasons : List (Option Reason)) (limits : List (Option ℕ)) (expired : List Bool)
+    (reasons_are : reasons ≡ replicate n None) (limits_are : limits ≡ replicate room None) (expired_are : expired ≡ replicate n false) where
+  long : length reasons ≡ n
+  long = ap length reasons_are ∙ length-replicate n None
 
-pub none_fit : (n objects : ℕ) → AllFit (seen (replicate n None) objects)
-none_fit n objects = record { fits = λ b why found. absurd (none-some why (sym (none_parked n objects b) ∙ found)) }
+  none_at : (b : ℕ) → reason_at (seen reasons limits expired objects) b ≡ None
+  none_at b = ap (λ xs. get_or xs b None) reasons_are ∙ get_or-replicate_same n b None
+
+  pub none_fit : AllFit (seen reasons limits expired objects)
+  none_fit = record {
+    fits = λ b why found. absurd (none-some why (sym (none_at b) ∙ found));
+    expired = ap length expired_are ∙ length-replicate n false ∙ sym long;
+    awake = λ b none. ap (λ xs. get_or xs b None) limits_are ∙ get_or-replicate_same room b None;
+    kept = λ b none. ap (λ xs. get_or xs b false) expired_are ∙ get_or-replicate_same n b false;
+  }
 
 -- where the blocks are as many, the same fits
-fits_still : (reasons after : List (Option Reason)) (objects : ℕ) → length after ≡ length reasons → (why : Reason)
-    → Fits (seen reasons objects) why → Fits (seen after objects) why
-fits_still reasons after objects same (Block b) fits = subst (λ n. b.0 < n) (sym same) fits
-fits_still reasons after objects same (Group g position) fits = fits
-fits_still reasons after objects same (Rank s rank) fits = fits
+fits_still : (before after : WaitsView) → length after.reasons ≡ length before.reasons → after.objects ≡ before.objects → (why : Reason)
+    → Fits before why → Fits after why
+fits_still before after same objects (Block b) fits = subst (λ n. b.0 < n) (sym same) fits
+fits_still before after same objects (Group g position) fits = (subst (λ n. g.0 < n) (sym objects) fits.0, fits.1)
+fits_still before after same objects (Rank s rank) fits = (subst (λ n. s.0 < n) (sym objects) fits.0, fits.1)
 
--- one block waits for what fits from now on, or for nothing
-module _ (reasons : List (Option Reason)) (objects b : ℕ) (reason : Option Reason) (all : AllFit (seen reasons objects))
-    (within : b < length reasons) (fits : IfSome reason (Fits (seen reasons objects))) where
-  fits_as_before : (x : ℕ) (why : Reason) → reason_at (seen (set reasons b reason) objects) x ≡ Some why → Fits (seen reasons objects) why
-  fits_as_before x why found =
-      elim (cases_eq x b) [
-        | inl at ↦
-            let here = subst (λ y. reason_at (seen (set reasons b reason) objects) y ≡ Some why) at found in
-            subst (λ o. IfSome o (Fits (seen reasons objects))) (sym (get_or-set_same reasons b reason None within) ∙ here) fits
-        | inr apart ↦ all.fits x why (sym (get_or-set_other reasons b x reason None apart) ∙ found)
-      ]
+module _ (reasons : List (Option Reason)) (limits : List (Option ℕ)) (expired : List Bool) (objects b : ℕ) (all : AllFit (seen reasons limits expired objects))
+    (within : b < length reasons) where
+  -- one block waits for what fits from now on, or for nothing, and has no limit then
+  module _ (reason : Option Reason) (limit : Option ℕ) (fits : IfSome reason (Fits (seen reasons limits expired objects))) (bare : reason ≡ None → limit ≡ None) where
+    abbrev after : WaitsView
+    after = seen (set reasons b reason) (set limits b limit) (set expired b false) objects
 
-  -- each reason fits still
-  pub one_changed : AllFit (seen (set reasons b reason) objects)
-  one_changed = record {
-    fits = λ x why found. fits_still reasons (set reasons b reason) objects (length-set reasons b reason) why (fits_as_before x why found);
-  }
+    fits_as_before : (x : ℕ) (why : Reason) → reason_at after x ≡ Some why → Fits (seen reasons limits expired objects) why
+    fits_as_before x why found =
+        elim (cases_eq x b) [
+          | inl at ↦
+              let here = subst (λ y. reason_at after y ≡ Some why) at found in
+              subst (λ o. IfSome o (Fits (seen reasons limits expired objects))) (sym (get_or-set_same reasons b reason None within) ∙ here) fits
+          | inr apart ↦ all.fits x why (sym (get_or-set_other reasons b x reason None apart) ∙ found)
+        ]
+
+    -- a limit that is none, where limits are kept of the block and where they are not
+    limit_here : limit ≡ None → get_or (set limits b limit) b None ≡ None
+    limit_here none =
+        elim (cases_lt b (length limits)) [
+          | inl kept ↦ get_or-set_same limits b limit None kept ∙ none
+          | inr past ↦ get_or_past (set limits b limit) b None (subst (λ n. n ≤ b) (sym (length-set limits b limit)) past)
+        ]
+
+    awake_still : (x : ℕ) → reason_at after x ≡ None → limit_at after x ≡ None
+    awake_still x none =
+        elim (cases_eq x b) [
+          | inl at ↦
+              let here = subst (λ y. reason_at after y ≡ None) at none in
+              let no_limit = bare (sym (get_or-set_same reasons b reason None within) ∙ here) in
+              ap (limit_at after) at ∙ limit_here no_limit
+          | inr apart ↦ get_or-set_other limits b x limit None apart ∙ all.awake x (sym (get_or-set_other reasons b x reason None apart) ∙ none)
+        ]
+
+    kept_still : (x : ℕ) → reason_at after x ≡ None → has_expired_at after x ≡ false
+    kept_still x none =
+        elim (cases_eq x b) [
+          | inl at ↦ ap (has_expired_at after) at ∙ get_or-set_same expired b false false (omega (arith, within, all.expired))
+          | inr apart ↦ get_or-set_other expired b x false false apart ∙ all.kept x (sym (get_or-set_other reasons b x reason None apart) ∙ none)
+        ]
+
+    -- each reason fits still
+    one_changed : AllFit (seen (set reasons b reason) (set limits b limit) (set expired b false) objects)
+    one_changed = record {
+      fits = λ x why found. fits_still (seen reasons limits expired objects) after (length-set reasons b reason) refl why (fits_as_before x why found);
+      expired = length-set expired b false ∙ all.expired ∙ sym (length-set reasons b reason);
+      awake = awake_still;
+      kept = kept_still;
+    }
+
+    -- the same, as the arrays are seen
+    pub changed_fit : (kept : List (Option ℕ)) → kept ≡ set limits b limit → (flags : List Bool) → flags ≡ set expired b false → AllFit (seen (set reasons b reason) kept flags objects)
+    changed_fit kept kept_is flags is =
+        subst (λ ls. AllFit (seen (set reasons b reason) ls flags objects)) (sym kept_is)
+        (subst (λ xs. AllFit (seen (set reasons b reason) (set limits b limit) xs objects)) (sym is) one_changed)
+
+-- what the arrays are seen as has the blocks, and asks the same of reasons
+pub within_view : {reasons : List (Option Reason)} {limits : List (Option ℕ)} {expired : List Bool} {objects : ℕ} {v : WaitsView} → seen reasons limits expired objects ≡ v
+    → (b : ℕ) → b < length v.reasons → b < length reasons
+within_view is b lt = subst (λ w. b < length w.reasons) (sym is) lt
+
+pub fits_view : {reasons : List (Option Reason)} {limits : List (Option ℕ)} {expired : List Bool} {objects : ℕ} {v : WaitsView} → seen reasons limits expired objects ≡ v
+    → (why : Reason) → Fits v why → Fits (seen reasons limits expired objects) why
+fits_view is why fits = subst (λ w. Fits w why) (sym is) fits

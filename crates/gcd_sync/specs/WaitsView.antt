@@ -1,31 +1,47 @@
 -- Parked blocks, as their readers see them: what each block waits for, and when that has come (dispatch_sync(3),
 -- dispatch_group_wait(3), dispatch_semaphore_wait(3)).
-use Rattle.std.specs.Prelude.{◌≡◌, ℕ, ◌+◌, ◌<◌, ◌^◌, Bool, false, List, length, replicate, Option, Some, None, slice_index_or, slice_set}
+use Rattle.std.specs.Prelude.{◌≡◌, ℕ, ◌+◌, ◌<◌, ◌≤◌, ◌^◌, Bool, true, false, ◌||◌, List, length, replicate, Option, Some, None, slice_index_or, slice_set}
 use Rattle.std.specs.Option.{option_map_or}
 use Rattle.gcd_plan.specs.PlanView.{PlanView}
 use Rattle.gcd_plan.specs.declared.reason.Reason.{Reason}
 use Rattle.gcd_plan.specs.declared.reason.Reason.TheVariants.{Block, Group, Rank}
 use Rattle.gcd_group.specs.GroupsView.{GroupsView, is_empty_since}
 use Rattle.gcd_sema.specs.SemasView.{SemasView, is_passed_at}
+use Rattle.gcd_sync.specs.LimitRoom.{limit_room}
 
--- for each block by number what it waits for, where it is parked; and how many objects there are
+-- for each block by number what it waits for, where it is parked, and whether the wait has expired; for each of those of which
+-- limits are kept the limit of this wait, if it has one; and how many objects there are; times are milliseconds
 pub record WaitsView : Type 0 where
   pub reasons : List (Option Reason)
+  pub limits : List (Option ℕ)
+  pub expired : List Bool
   pub objects : ℕ
 
 -- a plan's blocks before the first event: none is parked
 abbrev pub waits_of : PlanView → WaitsView
-waits_of plan = record { reasons = replicate (length plan.blocks) None; objects = length plan.objects }
+waits_of plan = record {
+  reasons = replicate (length plan.blocks) None;
+  limits = replicate (limit_room plan) None;
+  expired = replicate (length plan.blocks) false;
+  objects = length plan.objects;
+}
 
 -- what block b waits for, where it is parked
 abbrev pub reason_at : WaitsView → ℕ → Option Reason
 reason_at view b = slice_index_or view.reasons b None
 
--- what is waited for is of the plan, and a position of the history has one after it
+-- the limit of block b's wait, where it is parked with one, and whether its wait has expired
+abbrev pub limit_at : WaitsView → ℕ → Option ℕ
+limit_at view b = slice_index_or view.limits b None
+
+abbrev pub has_expired_at : WaitsView → ℕ → Bool
+has_expired_at view b = slice_index_or view.expired b false
+
+-- what is waited for is of the plan, a position of the history has one after it, and a rank is a wait's, from 1
 abbrev pub Fits : WaitsView → Reason → Type 0
 Fits view (Block b) = b.0 < length view.reasons
 Fits view (Group g position) = (g.0 < view.objects) × (position + 1 < 2 ^ 32)
-Fits view (Rank s rank) = s.0 < view.objects
+Fits view (Rank s rank) = (s.0 < view.objects) × (1 ≤ rank)
 
 -- what is waited for has come: the block has ended, the group was empty above the position, or the wait of the rank passes
 -- (dispatch_sync(3), dispatch_group_wait(3), dispatch_semaphore_wait(3))
@@ -34,14 +50,32 @@ has_come_in groups semas ended (Block b) = slice_index_or ended b.0 false
 has_come_in groups semas ended (Group g position) = is_empty_since groups g.0 (position + 1)
 has_come_in groups semas ended (Rank s rank) = is_passed_at semas s.0 rank
 
--- block b is parked, and what it waits for has come
+-- block b is parked, and what it waits for has come, or its wait has expired
 abbrev pub may_wake_in : WaitsView → GroupsView → SemasView → (ended : List Bool) → ℕ → Bool
-may_wake_in view groups semas ended b = option_map_or (has_come_in groups semas ended) (reason_at view b) false
+may_wake_in view groups semas ended b =
+    option_map_or (λ why. has_come_in groups semas ended why || has_expired_at view b) (reason_at view b) false
 
--- the same with block b parked for the reason, or not parked
-abbrev pub with_reason : WaitsView → ℕ → Option Reason → WaitsView
-with_reason view b reason = record view { reasons = slice_set view.reasons b reason }
+-- the same with block b parked for the reason, with this limit or without one; not parked; and with its wait expired
+abbrev pub with_parked : WaitsView → ℕ → Reason → (limit : Option ℕ) → WaitsView
+with_parked view b why limit = record view {
+  reasons = slice_set view.reasons b (Some why);
+  limits = slice_set view.limits b limit;
+  expired = slice_set view.expired b false;
+}
+
+abbrev pub with_woken : WaitsView → ℕ → WaitsView
+with_woken view b = record view {
+  reasons = slice_set view.reasons b None;
+  limits = slice_set view.limits b None;
+  expired = slice_set view.expired b false;
+}
+
+abbrev pub with_expired : WaitsView → ℕ → WaitsView
+with_expired view b = record view { expired = slice_set view.expired b true }
 
 -- each reason fits
 pub record AllFit (view : WaitsView) : Type 0 where
   pub fits : (b : ℕ) (why : Reason) → reason_at view b ≡ Some why → Fits view why
+  pub expired : length view.expired ≡ length view.reasons
+  pub awake : (b : ℕ) → reason_at view b ≡ None → limit_at view b ≡ None
+  pub kept : (b : ℕ) → reason_at view b ≡ None → has_expired_at view b ≡ false

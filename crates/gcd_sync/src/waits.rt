@@ -1,18 +1,24 @@
 // The parked blocks.
-ghost use Rattle.std.specs.Prelude.{◌≡◌, ◌<◌, IfOk, None, Some, is_some, true, length};
-ghost use Rattle.gcd_sync.specs.WaitsView.{waits_of, reason_at, Fits, has_come_in, may_wake_in, with_reason};
+ghost use Rattle.std.specs.Prelude.{◌≡◌, ◌+◌, ◌<◌, ◌^◌, IfOk, IfSome, None, Some, is_some, true, length, slice_set, slice_index_or};
+ghost use Rattle.gcd_sync.specs.WaitsView.{waits_of, reason_at, limit_at, has_expired_at, Fits, has_come_in, may_wake_in, with_parked, with_woken, with_expired};
 
+use crate::limit::Limit;
+use crate::room::limit_room;
+use gcd_bits::BitSet;
 use gcd_group::Groups;
 use gcd_plan::{Blk, Plan, Reason};
 use gcd_sema::Semas;
 use std::alloc::{AllocError, Global};
 use std::marker::Model;
 
-/// What each block of a plan waits for, where it is parked (dispatch_sync(3), dispatch_group_wait(3),
-/// dispatch_semaphore_wait(3)). Contracts see it as a plain list by block (`WaitsView`).
+/// What each block of a plan waits for, where it is parked, until when, and whether its wait has expired (dispatch_sync(3),
+/// dispatch_group_wait(3), dispatch_semaphore_wait(3)). Contracts see it as plain lists by block (`WaitsView`).
 #[derive(Debug, Drop)]
 pub struct Waits {
     reasons: Vec<Option<Reason>>,
+    // Of each block, or of none where no act of the plan waits with a limit.
+    limits: Vec<Limit>,
+    expired: BitSet,
     objects: u32,
 }
 
@@ -21,9 +27,32 @@ impl Model for Waits {
 
     ghost Value = { WaitsView };
 
-    ghost view = { λ w. record { reasons = w.reasons.items; objects = w.objects } };
+    ghost view = { λ w. record { reasons = w.reasons.items; limits = w.limits.items; expired = w.expired; objects = w.objects } };
 
-    ghost invariant = { λ w. AllFit (record { reasons = w.reasons.items; objects = w.objects }) };
+    ghost invariant = { λ w. AllFit (record { reasons = w.reasons.items; limits = w.limits.items; expired = w.expired; objects = w.objects }) };
+}
+
+// The block's place says this from now on, where there is one.
+#[inline(always)]
+fn keep(limits: &mut Vec<Limit>, blk: Blk, limit: Limit)
+    ensures { limits.new.items ≡ slice_set limits.old.items blk.0 limit }
+{
+    let at = blk.0 as usize;
+    if at < limits.len() {
+        limits[at] = limit;
+    }
+}
+
+// What the block's place says; none where there is no place.
+fn kept(limits: &[Limit], blk: Blk) -> Option<u32>
+    ensures { result ≡ slice_index_or limits.now blk.0 None }
+{
+    let at = blk.0 as usize;
+    if at < limits.len() {
+        limits[at].get()
+    } else {
+        None
+    }
 }
 
 impl Waits {
@@ -34,6 +63,8 @@ impl Waits {
     {
         Ok(Waits {
             reasons: vec![in alloc; None; plan.blocks() as usize]?,
+            limits: vec![in alloc; Limit::NONE; limit_room(plan) as usize]?,
+            expired: BitSet::new(alloc, plan.blocks())?,
             objects: plan.objects(),
         })
     }
@@ -44,20 +75,38 @@ impl Waits {
     {
         Ok(Waits {
             reasons: Vec::from_slice(alloc, &self.reasons)?,
+            limits: Vec::from_slice(alloc, &self.limits)?,
+            expired: self.expired.copied(alloc)?,
             objects: self.objects,
         })
     }
 
-    /// The block is parked from now on, until [`Waits::woken`], and waits for this (dispatch_sync(3),
-    /// dispatch_group_wait(3), dispatch_semaphore_wait(3)). What it waits for is of the plan, and the position of a group's
-    /// wait is below 2^32 - 1.
-    #[tactic(auto, using(crate::proofs::Fitting::one_changed))]
+    /// The block is parked from now on, until [`Waits::woken`], and waits for this without a limit (dispatch_sync(3),
+    /// dispatch_group_wait(3), dispatch_semaphore_wait(3)). What it waits for is of the plan, the position of a group's wait
+    /// is below 2^32 - 1, and a rank is at least 1.
     pub fn park(&mut self, blk: Blk, why: Reason)
         requires blk { blk.0 < length self.old.reasons }
         requires why { Fits self.old why }
-        ensures { self.new ≡ with_reason self.old blk.0 (Some why) }
+        ensures { self.new ≡ with_parked self.old blk.0 why None }
     {
         self.reasons[blk.0 as usize] = Some(why);
+        keep(&mut self.limits, blk, Limit::NONE);
+        self.expired.clear(blk.0);
+    }
+
+    /// The same with a limit: from this time on, in milliseconds, the wait may expire (dispatch_group_wait(3),
+    /// dispatch_semaphore_wait(3)). Limits are kept of the block, as of every block where an act of the plan waits with one:
+    /// [`limit_room`] tells of how many.
+    pub fn park_until(&mut self, blk: Blk, why: Reason, at: u32)
+        requires blk { blk.0 < length self.old.reasons }
+        requires room { blk.0 < length self.old.limits }
+        requires why { Fits self.old why }
+        requires at { at + 1 < 2 ^ 32 }
+        ensures { self.new ≡ with_parked self.old blk.0 why (Some at) }
+    {
+        self.reasons[blk.0 as usize] = Some(why);
+        self.limits[blk.0 as usize] = Limit::of(at);
+        self.expired.clear(blk.0);
     }
 
     /// What the block waits for; None exactly where it is not parked (this project's own rule).
@@ -68,10 +117,41 @@ impl Waits {
         self.reasons[blk.0 as usize]
     }
 
-    /// Whether what the parked block waits for has come: the block has ended, as the list says, which has a flag for each
-    /// block, main's first; the group was empty at some position above that of the wait; or the semaphore's wait of that rank
-    /// passes (dispatch_sync(3), dispatch_group_wait(3), dispatch_semaphore_wait(3)). [`Waits::reason`] tells whether it is
-    /// parked. Groups and semaphores are those of the same plan.
+    /// The limit of the block's wait; None exactly where it is not parked with one (dispatch_group_wait(3),
+    /// dispatch_semaphore_wait(3)).
+    pub fn limit(&self, blk: Blk) -> Option<u32>
+        requires { blk.0 < length self.now.reasons }
+        ensures limit { result ≡ limit_at self.now blk.0 }
+        ensures parked { IfSome result (λ at. is_some (reason_at self.now blk.0) ≡ true) }
+    {
+        kept(&self.limits, blk)
+    }
+
+    /// The wait of the parked block has expired from now on, until [`Waits::woken`]. It has a limit: [`Waits::limit`] is the
+    /// test (dispatch_group_wait(3), dispatch_semaphore_wait(3)).
+    pub fn expire(&mut self, blk: Blk)
+        requires blk { blk.0 < length self.old.reasons }
+        requires limit { is_some (limit_at self.old blk.0) ≡ true }
+        ensures { self.new ≡ with_expired self.old blk.0 }
+    {
+        self.expired.set(blk.0);
+    }
+
+    /// Whether the wait of the block has expired; false where it is not parked (dispatch_group_wait(3),
+    /// dispatch_semaphore_wait(3)).
+    pub fn has_expired(&self, blk: Blk) -> bool
+        requires { blk.0 < length self.now.reasons }
+        ensures expired { result ≡ has_expired_at self.now blk.0 }
+        ensures parked { result ≡ true → is_some (reason_at self.now blk.0) ≡ true }
+    {
+        self.expired.has(blk.0)
+    }
+
+    /// Whether the parked block may wake: what it waits for has come, or its wait has expired. It has come where the block has
+    /// ended, as the list says, which has a flag for each block, main's first; where the group was empty at some position
+    /// above that of the wait; or where the semaphore's wait of that rank passes (dispatch_sync(3), dispatch_group_wait(3),
+    /// dispatch_semaphore_wait(3)). [`Waits::reason`] tells whether it is parked. Groups and semaphores are those of the same
+    /// plan.
     pub fn may_wake(&self, groups: &Groups, semas: &Semas, ended: &[bool], blk: Blk) -> bool
         requires blk { blk.0 < length self.now.reasons }
         requires parked { is_some (reason_at self.now blk.0) ≡ true }
@@ -81,18 +161,19 @@ impl Waits {
         ensures { result ≡ may_wake_in self.now groups.now semas.now ended.now blk.0 }
     {
         match self.reasons[blk.0 as usize] {
-            Some(why) => self.has_come(groups, semas, ended, why),
+            Some(why) => self.has_come(groups, semas, ended, why) || self.expired.has(blk.0),
             None => false,
         }
     }
 
-    /// The block is no longer parked (this project's own rule).
-    #[tactic(auto, using(crate::proofs::Fitting::one_changed))]
+    /// The block is no longer parked, and has no limit (this project's own rule).
     pub fn woken(&mut self, blk: Blk)
         requires { blk.0 < length self.old.reasons }
-        ensures { self.new ≡ with_reason self.old blk.0 None }
+        ensures { self.new ≡ with_woken self.old blk.0 }
     {
         self.reasons[blk.0 as usize] = None;
+        keep(&mut self.limits, blk, Limit::NONE);
+        self.expired.clear(blk.0);
     }
 
     // Whether what is waited for has come.

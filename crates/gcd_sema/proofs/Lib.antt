@@ -1,0 +1,5 @@
+pub mod NoWaits
+mod Waits
+mod Ranges
+mod Cells
+mod Fresh

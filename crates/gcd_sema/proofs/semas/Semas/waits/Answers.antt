@@ -1,0 +1,11 @@
+use Rattle.std.proofs.Common.{◌∙◌, arith}
+use Rattle.gcd_sema.proofs.Cells.{shown, in_given, read_at, given_seen}
+use Rattle.gcd_sema.proofs.semas.Semas.waits.Goals as goal
+
+pub index-requires : goal.index-requires
+index-requires c = omega (arith, in_given (shown c.self.invariant c.self.view_is) c.args.s.0 c.requires, c.self.inside.given.ok)
+
+pub returns : goal.returns
+returns c =
+    let sh = shown c.self.invariant c.self.view_is in
+    read_at sh c.args.s.0 c.requires _ c.index.result.now (in_given sh c.args.s.0 c.requires) c.index.ensures ∙ given_seen sh c.args.s.0 c.requires
