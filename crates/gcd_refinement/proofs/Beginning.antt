@@ -14,15 +14,18 @@ use Rattle.gcd_plan.specs.declared.numbers.Obj.{Obj}
 use Rattle.gcd_plan.specs.declared.numbers.Run.{Run}
 use Rattle.gcd_plan.specs.declared.numbers.Run.TheVariants.{Block}
 use Rattle.gcd_history.specs.declared.submission.Submission.{Submission}
-use Rattle.gcd_history.specs.Parked.{awaited, has_run}
+use Rattle.gcd_history.specs.Parked.{awaited, is_parked, has_run, has_run_out, may_wake}
+use Rattle.gcd_history.specs.Due.{limit, is_at_limit}
 use Rattle.gcd_history.specs.Sources.{is_live_feed}
 use Rattle.gcd_history.specs.Tree.{Aim}
 use Rattle.gcd_history.proofs.SubmittedOnce.{object_fields}
+use Rattle.gcd_sync.specs.LimitRoom.{limit_room}
 use Rattle.gcd_refinement.specs.MachineView.{idle, undelivered, machine_of, block_at, handler_at, at_worker}
 use Rattle.gcd_refinement.specs.declared.progress.BlockProgress.{BlockProgress}
 use Rattle.gcd_refinement.specs.declared.progress.HandlerProgress.{HandlerProgress}
 use Rattle.gcd_refinement.specs.Shape.{PartsFit, OwnFit}
-use Rattle.gcd_refinement.specs.Ties.{ReferencesAre, ListsAre, TreeIs, HoldsAre, DrainsAre, GroupsAre, SemasAre, WaitsAre, SourcesAre, TimersAre, WorkersAre, BlocksAre, HandlersAre, MarksAre, TotalsAre, told, is_run}
+use Rattle.gcd_refinement.specs.Ties.{ReferencesAre, ListsAre, TreeIs, HoldsAre, DrainsAre, GroupsAre, SemasAre, WaitsAre, SourcesAre, TimersAre, WorkersAre, BlocksAre, HandlersAre, LimitsAre, MarksAre, TotalsAre, told, is_run}
+use Rattle.gcd_refinement.specs.Sleepers.{limit_ahead, may_expire}
 use Rattle.gcd_refinement.proofs.StepMarks.{no_value}
 use Rattle.gcd_plan.specs.Limits.{max_workers}
 use Rattle.gcd_plan.proofs.Places.{get_or-replicate_same}
@@ -54,8 +57,11 @@ parts_begin plan =
       due = length-replicate n 0;
       firsts = refl;
       signals = length-replicate n 0;
-      waits = length-replicate n 0;
+      waits = length-replicate n [];
+      rooms = refl;
       reasons = length-replicate (length plan.blocks) None;
+      limits = length-replicate (limit_room plan) None;
+      expired = length-replicate (length plan.blocks) false;
       wait_objects = refl;
       source_kinds = refl;
       pending = length-replicate n 0;
@@ -82,6 +88,8 @@ own_begin plan valid =
       blocks = length-replicate m idle;
       ended = length-replicate m false;
       wakeable = length-replicate m false;
+      ahead = length-replicate (limit_room plan) None;
+      ripe = length-replicate m false;
       handlers = length-replicate n undelivered;
       busy = length-replicate n false;
       live = length-replicate n false;
@@ -137,14 +145,45 @@ groups_begin plan =
     }
 
 pub semas_begin : (plan : PlanView) → SemasAre plan [] (machine_of plan)
-semas_begin plan = record { signals = λ s. get_or-replicate_same (length plan.objects) s 0; waits = λ s. get_or-replicate_same (length plan.objects) s 0 }
+semas_begin plan = record { signals = λ s. get_or-replicate_same (length plan.objects) s 0; waits = λ s. get_or-replicate_same (length plan.objects) s [] }
 
 no_awaited : (plan : PlanView) (b : ℕ) → awaited plan [] (Block (record { 0 = b })) ≡ None
 unfolding awaited
 no_awaited plan b = refl
 
+no_limit : (plan : PlanView) (b : ℕ) → limit plan [] b ≡ None
+unfolding awaited is_parked
+no_limit plan b = refl
+
+none_expired : (plan : PlanView) (b : ℕ) → option_map_or (has_run_out plan []) (awaited plan [] (Block (record { 0 = b }))) false ≡ false
+unfolding awaited
+none_expired plan b = refl
+
 pub waits_begin : (plan : PlanView) → WaitsAre plan [] (machine_of plan)
-waits_begin plan = record { reasons = λ b. get_or-replicate_same (length plan.blocks) b None ∙ sym (no_awaited plan b) }
+waits_begin plan =
+    let m = length plan.blocks in
+    record {
+      reasons = λ b. get_or-replicate_same m b None ∙ sym (no_awaited plan b);
+      limits = λ b. get_or-replicate_same (limit_room plan) b None ∙ sym (no_limit plan b);
+      expired = λ b. get_or-replicate_same m b false ∙ sym (none_expired plan b);
+    }
+
+-- no limit is ahead, and none has come
+none_ahead : (plan : PlanView) (b : ℕ) → limit_ahead plan [] b ≡ None
+unfolding awaited is_parked may_wake
+none_ahead plan b = refl
+
+none_ripe : (plan : PlanView) (b : ℕ) → may_expire plan [] b ≡ false
+unfolding awaited is_parked is_at_limit
+none_ripe plan b = refl
+
+pub limits_begin : (plan : PlanView) → LimitsAre plan [] (machine_of plan)
+limits_begin plan =
+    let m = length plan.blocks in
+    record {
+      ahead = λ b. get_or-replicate_same (limit_room plan) b None ∙ sym (none_ahead plan b);
+      ripe = λ b. get_or-replicate_same m b false ∙ sym (none_ripe plan b);
+    }
 
 pub sources_begin : (plan : PlanView) → SourcesAre plan [] (machine_of plan)
 sources_begin plan =

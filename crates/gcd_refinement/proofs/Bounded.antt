@@ -1,8 +1,9 @@
 -- The bounds that are sums: the open runs of all objects, how many blocks are left, and what is pending; and so all bounds.
-use Rattle.std.proofs.Common.{◌≡◌, ℕ, zero, suc, ◌+◌, ◌≤◌, ◌==◌, ◌&&◌, Bool, false, not, cond, List, [], ◌∷◌, length, get_or, Option, Some, None, refl, ap, sym, subst, arith, eq-eqb, ne_eqb, option_map, codes, ◌++◌, ◌-◌, ◌*◌, ltb, map, filter, true}
+use Rattle.std.proofs.Common.{◌≡◌, ℕ, zero, suc, ◌+◌, ◌≤◌, ◌==◌, ◌&&◌, Bool, false, not, cond, List, [], ◌∷◌, length, get_or, Option, Some, None, refl, ap, sym, subst, arith, eq-eqb, ne_eqb, option_map, codes, ◌∙◌, ◌++◌, ◌-◌, ◌*◌, ltb, map, filter, true}
 use Rattle.std.specs.List.{count_by, sum, sum_by, slice_get, range_with_len, fold}
 use Rattle.std.specs.Option.{option_map_or}
 use Rattle.std.proofs.lemmas.Bool.{and_parts, leb-true}
+use Rattle.std.proofs.lemmas.Option.{same_Some}
 use Rattle.std.proofs.lemmas.List.Sums.{sum_by-cons, count_by-le-length, sum_by-append}
 use Rattle.std.proofs.lemmas.List.FromFn.{length-range_with_len}
 use Rattle.gcd_plan.specs.PlanView.{PlanView, kind_of}
@@ -10,12 +11,17 @@ use Rattle.gcd_plan.specs.Validity.{IsPlan, is_act}
 use Rattle.gcd_plan.specs.Kinds.{has_kind, is_merge_kind}
 use Rattle.gcd_plan.specs.KindValues.{folded}
 use Rattle.gcd_plan.specs.declared.act.Act.{Act}
-use Rattle.gcd_plan.specs.declared.act.Act.TheVariants.{Merge}
+use Rattle.gcd_plan.specs.declared.act.Act.TheVariants.{GroupWaitFor, WaitFor, Merge}
 use Rattle.gcd_plan.specs.declared.kind.Kind.{Kind}
+use Rattle.gcd_plan.specs.declared.numbers.Obj.{Obj}
+use Rattle.gcd_plan.specs.declared.numbers.Run.TheVariants.{Block}
+use Rattle.gcd_plan.specs.declared.reason.Reason.TheVariants.{Rank}
 use Rattle.gcd_event.specs.declared.event.Event.{Event}
-use Rattle.gcd_event.specs.declared.event.Event.TheVariants.{Ready, Tick}
-use Rattle.gcd_history.specs.Runs.{open_runs, is_ended, act_of}
+use Rattle.gcd_event.specs.declared.event.Event.TheVariants.{Act as Acted, Ready, Tick}
+use Rattle.gcd_history.specs.Runs.{same_run, open_runs, is_ended, act_at, act_of}
 use Rattle.gcd_history.specs.Submitted.{submitted}
+use Rattle.gcd_history.specs.Parked.{is_parked}
+use Rattle.gcd_history.specs.Due.{limit_after, limit_by, last_limit}
 use Rattle.gcd_history.specs.Tree.{node_of_run, is_run_on, open_on}
 use Rattle.gcd_history.specs.Permitted.{IsLawful, is_feed}
 use Rattle.gcd_history.specs.Sources.{fold_of, has_effect_at, merged_by, input, delivers, new_inputs, pending}
@@ -25,11 +31,14 @@ use Rattle.gcd_history.proofs.Sums.{sum_range_le, sum_range-add, sum_range_one, 
 use Rattle.gcd_history.proofs.SubmittedOnce.{is_of, submitted_once, submitted_within, all_counted}
 use Rattle.gcd_history.proofs.Reasons.{allowed}
 use Rattle.gcd_history.proofs.SubmittedOnNodes.{recorded_fits}
+use Rattle.gcd_history.proofs.Woken.{given_awaited}
+use Rattle.gcd_sync.specs.WaitsView.{reason_at, limit_at}
 use Rattle.gcd_source.specs.SourcesView.{pending_at}
 use Rattle.gcd_tree.specs.TreeView.{open_on_at}
 use Rattle.gcd_refinement.specs.MachineView.{MachineView}
-use Rattle.gcd_refinement.specs.Bounds.{NumbersAreSmall}
+use Rattle.gcd_refinement.specs.Bounds.{IsRank, NumbersAreSmall}
 use Rattle.gcd_refinement.proofs.AllTies.{AllTies}
+use Rattle.gcd_refinement.proofs.WaitRooms.{waits_told, waits_fit}
 use Rattle.gcd_refinement.proofs.Small.{few_open, most_small, fewer}
 use Rattle.gcd_plan.specs.Limits.{max_value, max_time}
 use Rattle.gcd_source.proofs.Merges.{folded_below}
@@ -178,6 +187,38 @@ pending_small plan past v valid lawful t s =
     let low = pending_low plan past s valid lawful in
     omega (arith, p, taken, low)
 
+-- ## Waits
+
+-- a rank is one of the waits that have begun
+ranks_given : (plan : PlanView) (past : List Event) (v : MachineView) (b : ℕ) (s : Obj) (k : ℕ) → AllTies plan past v → reason_at v.waits b ≡ Some (Rank s k) → IsRank v s.0 k
+ranks_given plan past v b s k t parked =
+    let given = given_awaited plan past (record { 0 = b }) (Rank s k) (sym (t.waits.reasons b) ∙ parked) in
+    let high = given.1 in
+    let told = waits_told plan past v s.0 t.semas in
+    record { low = given.0; high = omega (arith, high, told) }
+
+limit_low : (plan : PlanView) (past : List Event) (act : Option Act) (t : ℕ) → limit_by plan past act ≡ Some t → t ≤ plan.until
+limit_low plan past (Some (GroupWaitFor g ms)) t h = let same = same_Some (limit_after plan past ms) t h in omega (arith, same)
+limit_low plan past (Some (WaitFor s ms)) t h = let same = same_Some (limit_after plan past ms) t h in omega (arith, same)
+limit_low plan past _ t h = cc
+
+last_limit_low : (plan : PlanView) (past : List Event) (b t : ℕ) → last_limit plan past b ≡ Some t → t ≤ plan.until
+last_limit_low plan [] b t h = cc
+last_limit_low plan (Acted w r i ∷ past) b t h =
+    elim (same_run r (Block (record { 0 = b }))) as (λ u. cond u (limit_by plan past (act_at plan r i)) (last_limit plan past b) ≡ Some t → t ≤ plan.until) [
+      | true ↦ λ k. limit_low plan past (act_at plan r i) t k
+      | false ↦ λ k. last_limit_low plan past b t k
+    ] h
+last_limit_low plan (e ∷ past) b t h = last_limit_low plan past b t h
+
+-- no limit is past the last due time
+limits_low : (plan : PlanView) (past : List Event) (v : MachineView) (b t : ℕ) → AllTies plan past v → limit_at v.waits b ≡ Some t → t ≤ plan.until
+limits_low plan past v b t ties told =
+    elim (is_parked plan past b) as (λ u. cond u (last_limit plan past b) None ≡ Some t → t ≤ plan.until) [
+      | true ↦ λ k. last_limit_low plan past b t k
+      | false ↦ λ k. cc
+    ] (sym (ties.waits.limits b) ∙ told)
+
 -- ## All bounds
 
 pub numbers_small : (plan : PlanView) (past : List Event) (v : MachineView) → IsPlan plan → IsLawful plan past → AllTies plan past v → NumbersAreSmall plan past v
@@ -191,7 +232,9 @@ numbers_small plan past v valid lawful t =
       counts = m.counts;
       entered = m.entered;
       signals = m.signals;
-      waits = m.waits;
+      waits = λ s. waits_fit plan past v s valid lawful t.parts t.semas;
+      ranks = λ b s k at. ranks_given plan past v b s k t at;
+      limits = λ b n at. limits_low plan past v b n t at;
       pending = pending_small plan past v valid lawful t;
       moment = m.moment;
       block_acts = m.block_acts;

@@ -14,7 +14,7 @@ use Rattle.gcd_plan.specs.declared.reason.Reason.TheVariants.{Block as EndOf}
 use Rattle.gcd_event.specs.declared.event.Event.{Event}
 use Rattle.gcd_event.specs.declared.event.Event.TheVariants.{Act as Acted}
 use Rattle.gcd_history.specs.Runs.{act_at, is_ended, ends}
-use Rattle.gcd_history.specs.Parked.{awaited_by, awaited, has_come}
+use Rattle.gcd_history.specs.Parked.{awaited_by, awaited, has_come, has_run_out}
 use Rattle.gcd_history.specs.Permitted.{IsLawful}
 use Rattle.gcd_history.specs.Submitted.{submitted, submission_of, new_submissions, submitted_by, at_cancel, at_empty, cancels}
 use Rattle.gcd_history.proofs.Lists.{find_from_any, any_from_find, any_left, any_right}
@@ -129,11 +129,11 @@ caller_from_awaited plan (e ∷ past) b c valid lawful is =
 
 -- and until that end its caller is parked for it
 pub awaited_from_caller : (plan : PlanView) (past : List Event) (b c : Blk) → IsPlan plan → IsLawful plan past → caller_of plan past c.0 ≡ Some b → is_ended past c.0 ≡ false → awaited plan past (Block b) ≡ Some (EndOf c)
-unfolding has_come
+unfolding has_come has_run_out
 awaited_from_caller plan [] b c valid lawful is goes = cc
 awaited_from_caller plan (e ∷ past) b c valid lawful is goes =
     let on = (or_parts (ends c.0 e) (is_ended past c.0) goes).1 in
     elim (calls plan c.0 e) as (λ o. calls plan c.0 e ≡ o → option_or o (caller_of plan past c.0) ≡ Some b → awaited plan (e ∷ past) (Block b) ≡ Some (EndOf c)) [
-      | None ↦ λ at k. still_parked plan past e b (EndOf c) lawful (awaited_from_caller plan past b c valid lawful.0 k on) on
+      | None ↦ λ at k. still_parked plan past e b (EndOf c) lawful (awaited_from_caller plan past b c valid lawful.0 k on) (ap (λ v. v || false) on)
       | Some d ↦ λ at k. now_parked plan past e b (EndOf c) lawful (called_now plan past e b c (at ∙ k))
     ] refl is

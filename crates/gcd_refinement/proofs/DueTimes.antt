@@ -15,7 +15,8 @@ use Rattle.gcd_event.specs.declared.event.Event.TheVariants.{Tick}
 use Rattle.gcd_history.specs.Runs.{act_of}
 use Rattle.gcd_history.specs.Submitted.{cancels, is_cancelled}
 use Rattle.gcd_history.specs.Holds.{hold, is_active, activates}
-use Rattle.gcd_history.specs.Timers.{now, activated_at, cancelled_at, is_due, may_tick}
+use Rattle.gcd_history.specs.Timers.{now, activated_at, cancelled_at, is_due}
+use Rattle.gcd_history.specs.Due.{may_tick}
 use Rattle.gcd_history.specs.Permitted.{IsLawful}
 use Rattle.gcd_plan.proofs.Quantifiers.{list_all_get}
 use Rattle.gcd_plan.proofs.Sums.{count_by-cons}

@@ -1,13 +1,13 @@
 -- Nobody waits for a semaphore that is none, nor sleeps at a group that is none; and no object is both.
-use Rattle.std.proofs.Common.{◌≡◌, ℕ, ◌==◌, Bool, true, false, cond, List, [], ◌∷◌, ◌++◌, Option, Some, None, refl, ap, ◌∙◌, subst}
+use Rattle.std.proofs.Common.{◌≡◌, ℕ, ◌==◌, Bool, true, false, cond, List, [], ◌∷◌, ◌++◌, length, Option, Some, None, refl, ap, ◌∙◌, subst}
 use Rattle.std.specs.List.{slice_get}
 use Rattle.std.specs.Option.{option_map, option_map_or}
-use Rattle.std.proofs.lemmas.Bool.{eqb-true, both_ways, false_from_ne_true}
+use Rattle.std.proofs.lemmas.Bool.{eqb-true, both_ways, false_from_ne_true, and_parts}
 use Rattle.gcd_plan.specs.PlanView.{PlanView}
 use Rattle.gcd_plan.specs.Kinds.{has_kind, is_group_kind, is_semaphore_kind}
 use Rattle.gcd_plan.specs.Validity.{IsPlan, is_act}
 use Rattle.gcd_plan.specs.declared.act.Act.{Act}
-use Rattle.gcd_plan.specs.declared.act.Act.TheVariants.{GroupWait, Wait}
+use Rattle.gcd_plan.specs.declared.act.Act.TheVariants.{GroupWait, GroupWaitFor, Wait, WaitFor}
 use Rattle.gcd_plan.specs.declared.kind.Kind.{Kind}
 use Rattle.gcd_plan.specs.declared.kind.Kind.TheVariants.{Group}
 use Rattle.gcd_plan.specs.declared.numbers.Run.TheVariants.{Block}
@@ -17,7 +17,7 @@ use Rattle.gcd_history.specs.Runs.{act_at}
 use Rattle.gcd_history.specs.Groups.{count}
 use Rattle.gcd_history.specs.Semas.{waits}
 use Rattle.gcd_history.proofs.SubmittedOnNodes.{act_fits}
-use Rattle.gcd_refinement.specs.Sleepers.{block_if, waits_for_group, waiters, group_sleepers}
+use Rattle.gcd_refinement.specs.Sleepers.{wait_if, waits_for_group, sema_waits, unexpired_blocks, group_waits, group_sleepers}
 
 -- ## Kinds
 
@@ -42,34 +42,45 @@ sema_act : (plan : PlanView) (s : ℕ) (act : Option Act) → ((a : Act) → act
 sema_act plan s (Some (Wait t)) fits none =
     false_from_ne_true (t.0 == s) (λ same.
     both_ways (has_kind is_semaphore_kind plan s) none (subst (λ n. has_kind is_semaphore_kind plan n ≡ true) (eqb-true t.0 s same) (fits (Wait t) refl)))
+sema_act plan s (Some (WaitFor t ms)) fits none =
+    false_from_ne_true (t.0 == s) (λ same.
+    both_ways (has_kind is_semaphore_kind plan s) none
+    (subst (λ n. has_kind is_semaphore_kind plan n ≡ true) (eqb-true t.0 s same) (and_parts (has_kind is_semaphore_kind plan t.0) _ (fits (WaitFor t ms) refl)).0))
 sema_act plan s _ fits none = refl
 
 group_act : (plan : PlanView) (g : ℕ) (act : Option Act) → ((a : Act) → act ≡ Some a → is_act plan a ≡ true) → has_kind is_group_kind plan g ≡ false → waits_for_group g act ≡ false
 group_act plan g (Some (GroupWait t)) fits none =
     false_from_ne_true (t.0 == g) (λ same.
     both_ways (has_kind is_group_kind plan g) none (subst (λ n. has_kind is_group_kind plan n ≡ true) (eqb-true t.0 g same) (fits (GroupWait t) refl)))
+group_act plan g (Some (GroupWaitFor t ms)) fits none =
+    false_from_ne_true (t.0 == g) (λ same.
+    both_ways (has_kind is_group_kind plan g) none
+    (subst (λ n. has_kind is_group_kind plan n ≡ true) (eqb-true t.0 g same) (and_parts (has_kind is_group_kind plan t.0) _ (fits (GroupWaitFor t ms) refl)).0))
 group_act plan g _ fits none = refl
 
-no_sema_wait : (plan : PlanView) (e : Event) (s : ℕ) → IsPlan plan → has_kind is_semaphore_kind plan s ≡ false → block_if (waits s) plan e ≡ []
-no_sema_wait plan (Acted w (Block b) i) s valid none = ap (λ v. cond v (b ∷ []) []) (sema_act plan s (act_at plan (Block b) i) (λ a at. act_fits plan (Block b) i a valid at) none)
-no_sema_wait plan e s valid none = refl
+no_sema_wait : (plan : PlanView) (past : List Event) (e : Event) (s : ℕ) → IsPlan plan → has_kind is_semaphore_kind plan s ≡ false → wait_if (waits s) plan past e ≡ []
+no_sema_wait plan past (Acted w (Block b) i) s valid none = ap (λ v. cond v ((length past, b) ∷ []) []) (sema_act plan s (act_at plan (Block b) i) (λ a at. act_fits plan (Block b) i a valid at) none)
+no_sema_wait plan past e s valid none = refl
 
-no_group_wait : (plan : PlanView) (e : Event) (g : ℕ) → IsPlan plan → has_kind is_group_kind plan g ≡ false → block_if (waits_for_group g) plan e ≡ []
-no_group_wait plan (Acted w (Block b) i) g valid none = ap (λ v. cond v (b ∷ []) []) (group_act plan g (act_at plan (Block b) i) (λ a at. act_fits plan (Block b) i a valid at) none)
-no_group_wait plan e g valid none = refl
+no_group_wait : (plan : PlanView) (past : List Event) (e : Event) (g : ℕ) → IsPlan plan → has_kind is_group_kind plan g ≡ false → wait_if (waits_for_group g) plan past e ≡ []
+no_group_wait plan past (Acted w (Block b) i) g valid none = ap (λ v. cond v ((length past, b) ∷ []) []) (group_act plan g (act_at plan (Block b) i) (λ a at. act_fits plan (Block b) i a valid at) none)
+no_group_wait plan past e g valid none = refl
 
 -- ## Lists
 
-pub no_waiters : (plan : PlanView) (past : List Event) (s : ℕ) → IsPlan plan → has_kind is_semaphore_kind plan s ≡ false → waiters plan past s ≡ []
-no_waiters plan [] s valid none = refl
-no_waiters plan (e ∷ past) s valid none = ap (λ l. l ++ block_if (waits s) plan e) (no_waiters plan past s valid none) ∙ no_sema_wait plan e s valid none
+pub no_sema_waits : (plan : PlanView) (past : List Event) (s : ℕ) → IsPlan plan → has_kind is_semaphore_kind plan s ≡ false → sema_waits plan past s ≡ []
+no_sema_waits plan [] s valid none = refl
+no_sema_waits plan (e ∷ past) s valid none = ap (λ l. l ++ wait_if (waits s) plan past e) (no_sema_waits plan past s valid none) ∙ no_sema_wait plan past e s valid none
 
 either_nil : {X : Type 0} (v : Bool) → cond {A = List X} v [] [] ≡ []
 either_nil true = refl
 either_nil false = refl
 
+no_group_waits : (plan : PlanView) (past : List Event) (g : ℕ) → IsPlan plan → has_kind is_group_kind plan g ≡ false → group_waits plan past g ≡ []
+no_group_waits plan [] g valid none = refl
+no_group_waits plan (e ∷ past) g valid none =
+    ap (λ l. cond (count plan (e ∷ past) g == 0) [] (l ++ wait_if (waits_for_group g) plan past e)) (no_group_waits plan past g valid none)
+    ∙ (ap (λ l. cond (count plan (e ∷ past) g == 0) [] l) (no_group_wait plan past e g valid none) ∙ either_nil (count plan (e ∷ past) g == 0))
+
 pub no_sleepers : (plan : PlanView) (past : List Event) (g : ℕ) → IsPlan plan → has_kind is_group_kind plan g ≡ false → group_sleepers plan past g ≡ []
-no_sleepers plan [] g valid none = refl
-no_sleepers plan (e ∷ past) g valid none =
-    ap (λ l. cond (count plan (e ∷ past) g == 0) [] (l ++ block_if (waits_for_group g) plan e)) (no_sleepers plan past g valid none)
-    ∙ (ap (λ l. cond (count plan (e ∷ past) g == 0) [] l) (no_group_wait plan e g valid none) ∙ either_nil (count plan (e ∷ past) g == 0))
+no_sleepers plan past g valid none = ap (unexpired_blocks past) (no_group_waits plan past g valid none)

@@ -9,7 +9,7 @@ use Rattle.gcd_plan.specs.declared.reason.Reason.{Reason}
 use Rattle.gcd_event.specs.declared.event.Event.{Event}
 use Rattle.gcd_event.specs.declared.event.Event.TheVariants.{Act as Acted, Wake}
 use Rattle.gcd_history.specs.Runs.{opens, act_at, is_open}
-use Rattle.gcd_history.specs.Parked.{awaited_by, parked_by, awaited, has_come, may_wake}
+use Rattle.gcd_history.specs.Parked.{awaited_by, parked_by, awaited, may_wake, is_over}
 use Rattle.gcd_history.specs.Permitted.{is_index, IsLawful, is_worker, is_run_of}
 use Rattle.gcd_history.specs.Facts.{wakes}
 use Rattle.gcd_history.proofs.Reasons.{allowed, at_act, at_wake}
@@ -94,15 +94,15 @@ gone_at_wake plan past (Wake w c) b r now is =
     let none : None ≡ Some r = ap (λ v. cond v None (parked_by plan past (Block b))) (sym now) ∙ facts.by in cc
 gone_at_wake plan past e b r now is = cc
 
-came_now : (plan : PlanView) (past : List Event) (e : Event) (b : Blk) (r : Reason) → IsLawful plan (e ∷ past) → awaited plan past (Block b) ≡ Some r → wakes b.0 e ≡ true → has_come plan past r ≡ true
+came_now : (plan : PlanView) (past : List Event) (e : Event) (b : Blk) (r : Reason) → IsLawful plan (e ∷ past) → awaited plan past (Block b) ≡ Some r → wakes b.0 e ≡ true → is_over plan past r ≡ true
 came_now plan past (Wake w c) b r lawful is now =
     came plan past b.0 r is (subst (λ n. may_wake plan past n ≡ true) (eqb-true c.0 b.0 now) (at_wake plan past w c lawful.1).came)
 came_now plan past e b r lawful is now = cc
 
 -- while what it waits for has not come, a block stays parked
-pub still_parked : (plan : PlanView) (past : List Event) (e : Event) (b : Blk) (r : Reason) → IsLawful plan (e ∷ past) → awaited plan past (Block b) ≡ Some r → has_come plan past r ≡ false → awaited plan (e ∷ past) (Block b) ≡ Some r
+pub still_parked : (plan : PlanView) (past : List Event) (e : Event) (b : Blk) (r : Reason) → IsLawful plan (e ∷ past) → awaited plan past (Block b) ≡ Some r → is_over plan past r ≡ false → awaited plan (e ∷ past) (Block b) ≡ Some r
 still_parked plan past e b r lawful is waits =
     ⊎_elim
-    (λ now. absurd (both_ways (has_come plan past r) waits (came_now plan past e b r lawful is now)))
+    (λ now. absurd (both_ways (is_over plan past r) waits (came_now plan past e b r lawful is now)))
     (λ other. parked_kept plan e past lawful b r is other)
     (cases_Bool (wakes b.0 e))

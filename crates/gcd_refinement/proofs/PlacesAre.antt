@@ -24,7 +24,7 @@ use Rattle.gcd_refinement.specs.MachineView.{MachineView}
 use Rattle.gcd_refinement.specs.Shape.{PartsFit}
 use Rattle.gcd_refinement.specs.Bounds.{place_in, PlacesAre}
 use Rattle.gcd_refinement.specs.Ties.{ListsAre, GroupsAre, WaitsAre, WakesAre, waiter, told}
-use Rattle.gcd_refinement.proofs.Awake.{awake_from}
+use Rattle.gcd_refinement.proofs.Awake.{awake_from, called_from}
 
 -- ## A submitted block waits in no notify list
 
@@ -166,5 +166,6 @@ pub places_are : (plan : PlanView) (past : List Event) (v : MachineView) → IsP
 places_are plan past v valid lawful fit lists groups waits wakes = record {
   waiting = λ b. waiting_from plan past v b valid lawful lists;
   awake = λ b none. awake_from plan past v b valid lawful waits wakes none;
+  called = λ b may. called_from plan past v b valid lawful wakes may;
   unregistered = λ b some. unregistered_from plan past v b valid lawful fit groups some;
 }

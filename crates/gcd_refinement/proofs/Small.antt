@@ -15,8 +15,9 @@ use Rattle.gcd_history.specs.Runs.{same_run, open_runs, acts_done, act_of, is_en
 use Rattle.gcd_history.specs.Groups.{member_of, enters, count}
 use Rattle.gcd_history.specs.Holds.{hold, hold_after}
 use Rattle.gcd_history.specs.Misuses.{retains}
-use Rattle.gcd_history.specs.Semas.{signals, waits}
-use Rattle.gcd_history.specs.Timers.{now, may_tick}
+use Rattle.gcd_history.specs.Semas.{signals}
+use Rattle.gcd_history.specs.Timers.{now}
+use Rattle.gcd_history.specs.Due.{may_tick}
 use Rattle.gcd_history.specs.Parked.{parked_by}
 use Rattle.gcd_history.specs.Permitted.{IsLawful, is_barrier_on}
 use Rattle.gcd_plan.proofs.Sums.{count_by-cons}
@@ -24,7 +25,7 @@ use Rattle.gcd_history.proofs.Reasons.{at_tick}
 use Rattle.gcd_hold.specs.HoldsView.{hold_at}
 use Rattle.gcd_drain.specs.DrainsView.{barriers_at}
 use Rattle.gcd_group.specs.GroupsView.{count_at, entered_at}
-use Rattle.gcd_sema.specs.SemasView.{signals_at, waits_at}
+use Rattle.gcd_sema.specs.SemasView.{signals_at}
 use Rattle.gcd_refinement.specs.MachineView.{MachineView, block_at, handler_at, refs_at}
 use Rattle.gcd_refinement.proofs.Members.{members}
 use Rattle.gcd_refinement.proofs.AllTies.{AllTies}
@@ -101,7 +102,6 @@ pub record MostSmall (plan : PlanView) (past : List Event) (v : MachineView) : T
   pub counts : (g : ℕ) → count_at v.groups g ≤ length past
   pub entered : (g : ℕ) → entered_at v.groups g ≤ count_at v.groups g
   pub signals : (s : ℕ) → signals_at v.semas s ≤ length past
-  pub waits : (s : ℕ) → waits_at v.semas s ≤ length past
   pub moment : v.timers.moment ≤ plan.until
   pub block_acts : (b : ℕ) → (block_at v b).done ≤ length past
   pub handler_acts : (s : ℕ) → (handler_at v s).done ≤ length past
@@ -121,7 +121,6 @@ most_small plan past v lawful t =
       counts = λ g. let h = t.groups.counts g in let f = few_counted plan past g in omega (arith, h, f);
       entered = λ g. let h = t.groups.counts g in let x = t.groups.entered g in omega (arith, h, x);
       signals = λ s. let h = t.semas.signals s in let f = few (λ e. signals s (act_of plan e)) past in omega (arith, h, f);
-      waits = λ s. let h = t.semas.waits s in let f = few (λ e. waits s (act_of plan e)) past in omega (arith, h, f);
       moment = let h = t.timers.moment in let f = now_low plan past lawful in omega (arith, h, f);
       block_acts = λ b. let h = t.blocks.done b in let f = few_acts past (Block (record { 0 = b })) in omega (arith, h, f);
       handler_acts = λ s. let h = t.handlers.done s in let f = few_acts past (Source (record { 0 = s })) in omega (arith, h, f);

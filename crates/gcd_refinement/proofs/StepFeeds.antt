@@ -16,7 +16,8 @@ use Rattle.gcd_refinement.specs.MachineView.{MachineView, live_at}
 use Rattle.gcd_refinement.specs.Shape.{PartsFit, OwnFit}
 use Rattle.gcd_refinement.specs.Ties.{HoldsAre, GroupsAre, SourcesAre, BlocksAre, TotalsAre}
 use Rattle.gcd_refinement.specs.Submits.{activated_by, newly_cancelled}
-use Rattle.gcd_refinement.specs.After.{live_begun, live_ended, live_after, is_misuse, is_halt, after}
+use Rattle.gcd_refinement.specs.After.{after}
+use Rattle.gcd_refinement.specs.AfterTotals.{live_begun, live_ended, live_after, is_misuse, is_halt}
 use Rattle.gcd_refinement.proofs.StepHolds.{fits_at}
 use Rattle.gcd_refinement.proofs.StepTimers.{is_obj, newly_by, newly_ended, cancels_low, newly_low, activated_low}
 use Rattle.gcd_refinement.proofs.StepSubmits.{submits_are}

@@ -1,21 +1,22 @@
 -- The machine's own arrays after an event: their lengths, and that what they name is of the plan.
 use Rattle.std.proofs.Common.{◌≡◌, ℕ, ◌+◌, ◌<◌, ◌==◌, ltb, Bool, true, false, not, ◌&&◌, cond, List, [], ◌∷◌, ◌++◌, length, drop, get_or, set, Option, Some, None, refl, ap, sym, ◌∙◌, subst, arith, ⊎_elim}
-use Rattle.std.specs.List.{fold}
+use Rattle.std.specs.List.{fold, range_with_len}
 use Rattle.std.specs.Option.{option_and_then, option_or}
 use Rattle.std.proofs.lemmas.Bool.{and_parts, or_cases, ltb-true}
-use Rattle.std.proofs.lemmas.List.{length-set}
+use Rattle.std.proofs.lemmas.List.{length-set, length-map}
+use Rattle.std.proofs.lemmas.List.FromFn.{length-range_with_len}
 use Rattle.std.proofs.lemmas.Option.{same_Some}
 use Rattle.gcd_plan.specs.PlanView.{PlanView}
 use Rattle.gcd_plan.specs.Kinds.{has_kind, is_group_kind, is_queue, is_queue_kind, is_source, is_read_kind}
 use Rattle.gcd_plan.specs.Validity.{IsPlan, is_act, is_submittable}
 use Rattle.gcd_plan.specs.declared.act.Act.{Act}
-use Rattle.gcd_plan.specs.declared.act.Act.TheVariants.{Sync, BarrierSync, GroupAsync, Notify, GroupWait, Signal, Wait}
+use Rattle.gcd_plan.specs.declared.act.Act.TheVariants.{Sync, BarrierSync, GroupAsync, Notify, GroupWait, GroupWaitFor, Signal, Wait, WaitFor}
 use Rattle.gcd_plan.specs.declared.numbers.Blk.{Blk}
 use Rattle.gcd_plan.specs.declared.numbers.Obj.{Obj}
 use Rattle.gcd_plan.specs.declared.numbers.Run.{Run}
 use Rattle.gcd_plan.specs.declared.numbers.Run.TheVariants.{Block, Source}
 use Rattle.gcd_event.specs.declared.event.Event.{Event}
-use Rattle.gcd_event.specs.declared.event.Event.TheVariants.{Start, Act as Acted, Wake, End, Deliver, DeliverEnd}
+use Rattle.gcd_event.specs.declared.event.Event.TheVariants.{Start, Act as Acted, Wake, End, Deliver, DeliverEnd, Tick, Expire}
 use Rattle.gcd_history.specs.declared.submission.Submission.{Submission}
 use Rattle.gcd_history.specs.Runs.{opens, is_open, act_at, act_of}
 use Rattle.gcd_history.specs.Submitted.{submitted, submission_of, cancels}
@@ -27,16 +28,19 @@ use Rattle.gcd_history.proofs.Reasons.{allowed}
 use Rattle.gcd_history.proofs.RunsOpen.{same_run-true, same_run-refl, closes, is_open-step}
 use Rattle.gcd_history.proofs.StartedOnce.{open_from_has_run}
 use Rattle.gcd_history.proofs.SubmittedOnNodes.{on_a_node, submitted_fit, recorded_fits}
-use Rattle.gcd_lists.specs.ListsView.{ListsView, list_at}
+use Rattle.gcd_lists.specs.ListsView.{ListsView, list_at, without}
 use Rattle.gcd_group.specs.GroupsView.{count_at}
-use Rattle.gcd_sema.specs.SemasView.{waits_at, is_passed_at}
+use Rattle.gcd_sema.specs.SemasView.{has_value_at}
+use Rattle.gcd_sync.specs.WaitsView.{reason_at}
 use Rattle.gcd_refinement.specs.MachineView.{MachineView, handler_at, idle}
 use Rattle.gcd_refinement.specs.declared.progress.BlockProgress.{BlockProgress}
 use Rattle.gcd_refinement.specs.Shape.{OwnFit}
 use Rattle.gcd_refinement.specs.Sleepers.{grouped, group_of, called_by, calls, caller_of}
 use Rattle.gcd_refinement.specs.Ties.{BlocksAre, WorkersAre, is_run}
 use Rattle.gcd_refinement.specs.Submits.{submits, emptied_by, come_by, activated_by, newly_cancelled}
-use Rattle.gcd_refinement.specs.After.{popped, pushed_on, asleep, asleep_by_handler, asleep_after, all_woken, with_wakeable, woken, noted, blocks_by, delivered, handlers_after, marked, busy_at_event, workers_after, ended_after, after, live_begun, live_ended, live_after}
+use Rattle.gcd_refinement.specs.After.{popped, pushed_on, bed_of, removed, asleep, asleep_by_handler, asleep_after, all_woken, with_wakeable, woken, noted, blocks_by, delivered, handlers_after, marked, busy_at_event, ended_after, after}
+use Rattle.gcd_refinement.specs.AfterLimits.{laid_ahead, laid_ripe, still_ahead, is_ripe_by, limit_asleep, ahead_at_event, ripe_at_event, without_limit, without_ripe}
+use Rattle.gcd_refinement.specs.AfterTotals.{workers_after, live_begun, live_ended, live_after}
 use Rattle.gcd_refinement.proofs.Homes.{home_of, homed, homes_after}
 use Rattle.gcd_refinement.proofs.StepBlocks.{by_long}
 use Rattle.gcd_refinement.proofs.StepLists.{node_within}
@@ -121,11 +125,15 @@ pushed_alike a n b barrier = record { lists = length-set a.lists n.0 (list_at a 
 popped_alike : (a : ListsView) (n : Obj) → Alike a (popped a (Some n))
 popped_alike a n = record { lists = length-set a.lists n.0 (drop 1 (list_at a n.0)); blocks = refl }
 
+slept_alike : (t : Bool) (a : ListsView) (o : Obj) (b : Blk) → Alike a (cond t a (pushed_on a o b false))
+slept_alike true a o b = same_lists a
+slept_alike false a o b = pushed_alike a o b false
+
 asleep_alike : (v : MachineView) (b : Blk) (act : Option Act) → Alike v.sleepers (asleep v b act)
-asleep_alike v b (Some (Wait s)) =
-    elim (is_passed_at v.semas s.0 (waits_at v.semas s.0 + 1)) as (λ t. Alike v.sleepers (cond t v.sleepers (pushed_on v.sleepers s b false))) [ true ↦ same_lists v.sleepers | false ↦ pushed_alike v.sleepers s b false ]
-asleep_alike v b (Some (GroupWait g)) =
-    elim (count_at v.groups g.0 == 0) as (λ t. Alike v.sleepers (cond t v.sleepers (pushed_on v.sleepers g b false))) [ true ↦ same_lists v.sleepers | false ↦ pushed_alike v.sleepers g b false ]
+asleep_alike v b (Some (Wait s)) = slept_alike (has_value_at v.semas s.0) v.sleepers s b
+asleep_alike v b (Some (WaitFor s ms)) = slept_alike (has_value_at v.semas s.0) v.sleepers s b
+asleep_alike v b (Some (GroupWait g)) = slept_alike (count_at v.groups g.0 == 0) v.sleepers g b
+asleep_alike v b (Some (GroupWaitFor g ms)) = slept_alike (count_at v.groups g.0 == 0) v.sleepers g b
 asleep_alike v b (Some (Signal s)) = popped_alike v.sleepers s
 asleep_alike v b act = same_lists v.sleepers
 
@@ -133,9 +141,14 @@ handler_alike : (v : MachineView) (act : Option Act) → Alike v.sleepers (aslee
 handler_alike v (Some (Signal s)) = popped_alike v.sleepers s
 handler_alike v act = same_lists v.sleepers
 
+removed_alike : (a : ListsView) (o : Option Obj) (b : Blk) → Alike a (removed a o b)
+removed_alike a None b = same_lists a
+removed_alike a (Some o) b = record { lists = length-set a.lists o.0 (without b.0 (list_at a o.0)); blocks = refl }
+
 event_alike : (plan : PlanView) (v : MachineView) (e : Event) → Alike v.sleepers (asleep_after plan v e)
 event_alike plan v (Acted w (Block b) i) = asleep_alike v b (act_at plan (Block b) i)
 event_alike plan v (Acted w (Source s) i) = handler_alike v (act_at plan (Source s) i)
+event_alike plan v (Expire b) = removed_alike v.sleepers (bed_of (reason_at v.waits b.0)) b
 event_alike plan v e = same_lists v.sleepers
 
 woken_alike : (a b : ListsView) (o : Option Obj) → Alike a b → Alike a (all_woken b o)
@@ -149,6 +162,34 @@ noted_long (s ∷ subs) blocks = noted_long subs (noted blocks s) ∙ length-set
 wakeable_long : (bs : List Blk) (wakeable : List Bool) → length (fold with_wakeable wakeable bs) ≡ length wakeable
 wakeable_long [] wakeable = refl
 wakeable_long (b ∷ bs) wakeable = wakeable_long bs (with_wakeable wakeable b) ∙ length-set wakeable b.0 true
+
+over_long : (bs : List Blk) (ahead : List (Option ℕ)) → length (fold without_limit ahead bs) ≡ length ahead
+over_long [] ahead = refl
+over_long (b ∷ bs) ahead = over_long bs (without_limit ahead b) ∙ length-set ahead b.0 None
+
+unripe_long : (bs : List Blk) (ripe : List Bool) → length (fold without_ripe ripe bs) ≡ length ripe
+unripe_long [] ripe = refl
+unripe_long (b ∷ bs) ripe = unripe_long bs (without_ripe ripe b) ∙ length-set ripe b.0 false
+
+laid_long : (v : MachineView) (b : Blk) (limit : Option ℕ) → (length (laid_ahead v b limit) ≡ length v.ahead) × (length (laid_ripe v b limit) ≡ length v.ripe)
+laid_long v b None = (refl, refl)
+laid_long v b (Some end) =
+    elim (ltb v.timers.moment end) as (λ t. (length (cond t (set v.ahead b.0 (Some end)) v.ahead) ≡ length v.ahead) × (length (cond t v.ripe (set v.ripe b.0 true)) ≡ length v.ripe)) [
+      | true ↦ (length-set v.ahead b.0 (Some end), refl)
+      | false ↦ (refl, length-set v.ripe b.0 true)
+    ]
+
+pub ahead_long : (plan : PlanView) (v : MachineView) (e : Event) → length (ahead_at_event plan v e) ≡ length v.ahead
+ahead_long plan v (Acted w (Block b) i) = (laid_long v b (limit_asleep v b (act_at plan (Block b) i))).0
+ahead_long plan v (Acted w (Source s) i) = refl
+ahead_long plan v (Tick t) = length-map v.ahead (still_ahead t)
+ahead_long plan v e = refl
+
+pub ripe_long : (plan : PlanView) (v : MachineView) (e : Event) → length (ripe_at_event plan v e) ≡ length v.ripe
+ripe_long plan v (Acted w (Block b) i) = (laid_long v b (limit_asleep v b (act_at plan (Block b) i))).1
+ripe_long plan v (Acted w (Source s) i) = refl
+ripe_long plan v (Tick t) = length-map (range_with_len 0 (length v.ripe)) (is_ripe_by v t) ∙ length-range_with_len 0 (length v.ripe)
+ripe_long plan v e = refl
 
 all_marked_long : (subs : List Submission) (busy : List Bool) → length (fold marked busy subs) ≡ length busy
 all_marked_long [] busy = refl
@@ -209,6 +250,8 @@ own_step plan past e v valid lawful own blocks workers =
       blocks = noted_long (submits plan v e) (blocks_by plan v e) ∙ (by_long plan v e ∙ own.blocks);
       ended = ended_long v e ∙ own.ended;
       wakeable = wakeable_long (come_by plan v e) (woken v.wakeable e) ∙ (woken_long v.wakeable e ∙ own.wakeable);
+      ahead = over_long (come_by plan v e) (ahead_at_event plan v e) ∙ (ahead_long plan v e ∙ own.ahead);
+      ripe = unripe_long (come_by plan v e) (ripe_at_event plan v e) ∙ (ripe_long plan v e ∙ own.ripe);
       handlers = handlers_long v e ∙ own.handlers;
       busy = all_marked_long (submits plan v e) (busy_at_event plan v e) ∙ (event_long plan v e ∙ own.busy);
       live = live_long plan v e ∙ own.live;

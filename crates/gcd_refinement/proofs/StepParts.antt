@@ -4,14 +4,15 @@ use Rattle.std.specs.List.{fold}
 use Rattle.std.proofs.lemmas.List.{length-set}
 use Rattle.gcd_plan.specs.PlanView.{PlanView}
 use Rattle.gcd_plan.specs.declared.act.Act.{Act}
-use Rattle.gcd_plan.specs.declared.act.Act.TheVariants.{GroupAsync, Notify, Enter, Leave, Signal, Wait, Suspend, Resume, Activate, Target, Merge, Retain, Release}
+use Rattle.gcd_plan.specs.declared.act.Act.TheVariants.{GroupAsync, Notify, Enter, Leave, Signal, Wait, WaitFor, Suspend, Resume, Activate, Target, Merge, Retain, Release}
 use Rattle.gcd_plan.specs.declared.numbers.Blk.{Blk}
 use Rattle.gcd_plan.specs.declared.numbers.Obj.{Obj}
 use Rattle.gcd_plan.specs.declared.numbers.Run.{Run}
 use Rattle.gcd_plan.specs.declared.numbers.Run.TheVariants.{Block, Source}
 use Rattle.gcd_plan.specs.declared.reason.Reason.{Reason}
+use Rattle.gcd_plan.specs.declared.reason.Reason.TheVariants.{Rank}
 use Rattle.gcd_event.specs.declared.event.Event.{Event}
-use Rattle.gcd_event.specs.declared.event.Event.TheVariants.{Start, Act as Acted, Wake, End, Deliver, DeliverEnd, Tick, Ready}
+use Rattle.gcd_event.specs.declared.event.Event.TheVariants.{Start, Act as Acted, Wake, End, Deliver, DeliverEnd, Tick, Ready, Expire}
 use Rattle.gcd_history.specs.declared.submission.Submission.{Submission}
 use Rattle.gcd_history.specs.Runs.{act_at, act_of}
 use Rattle.gcd_history.specs.Submitted.{cancels}
@@ -20,14 +21,15 @@ use Rattle.gcd_tree.specs.TreeView.{TreeView, open_on_at, with_open, settled, se
 use Rattle.gcd_hold.specs.HoldsView.{HoldsView, hold_at, with_active, with_hold}
 use Rattle.gcd_drain.specs.DrainsView.{DrainsView, barriers_at}
 use Rattle.gcd_group.specs.GroupsView.{GroupsView, count_at, entered_at, due_at, with_one_more, with_one_less, with_entered, with_notify, with_fired}
-use Rattle.gcd_sema.specs.SemasView.{SemasView, signals_at, waits_at}
-use Rattle.gcd_sync.specs.WaitsView.{WaitsView}
+use Rattle.gcd_sema.specs.SemasView.{SemasView, signals_at, expiries_at}
+use Rattle.gcd_sync.specs.WaitsView.{WaitsView, reason_at}
 use Rattle.gcd_source.specs.SourcesView.{SourcesView, merged_at}
 use Rattle.gcd_timer.specs.TimersView.{TimersView}
 use Rattle.gcd_refinement.specs.MachineView.{MachineView, block_at}
 use Rattle.gcd_refinement.specs.Shape.{PartsFit}
 use Rattle.gcd_refinement.specs.Submits.{submits, activated_by, newly_cancelled}
-use Rattle.gcd_refinement.specs.After.{refs_by, popped, pushed, begun, opened, closed, targeted, tree_after, holds_by, barrier_began, barrier_ended, drains_after, fired_times, groups_by, member_ended, groups_after, semas_by, parked_for, awaited_in_view, waits_after, source_cancelled, merged_by, values_after, ticked, activated, timer_cancelled, after}
+use Rattle.gcd_refinement.specs.AfterLimits.{limit_in_view}
+use Rattle.gcd_refinement.specs.After.{refs_by, popped, pushed, begun, opened, closed, targeted, tree_after, holds_by, barrier_began, barrier_ended, drains_after, fired_times, groups_by, member_ended, groups_after, semas_by, semas_expired, semas_after, parked_for, awaited_in_view, waits_after, source_cancelled, merged_by, values_after, ticked, activated, timer_cancelled, after}
 use Rattle.gcd_refinement.proofs.StepLists.{pushed_long}
 use Rattle.gcd_refinement.proofs.StepMarks.{begun_long}
 
@@ -235,25 +237,52 @@ record SemasAlike (a b : SemasView) : Type 0 where
   firsts : b.firsts ≡ a.firsts
   signals : length b.signals ≡ length a.signals
   waits : length b.waits ≡ length a.waits
+  rooms : b.rooms ≡ a.rooms
 
-semas_alike : (a : SemasView) (act : Option Act) → SemasAlike a (semas_by a act)
-semas_alike a (Some (Signal s)) = record { firsts = refl; signals = length-set a.signals s.0 (signals_at a s.0 + 1); waits = refl }
-semas_alike a (Some (Wait s)) = record { firsts = refl; signals = refl; waits = length-set a.waits s.0 (waits_at a s.0 + 1) }
-semas_alike a act = record { firsts = refl; signals = refl; waits = refl }
+semas_acted : (a : SemasView) (act : Option Act) → SemasAlike a (semas_by a act)
+semas_acted a (Some (Signal s)) = record { firsts = refl; signals = length-set a.signals s.0 (signals_at a s.0 + 1); waits = refl; rooms = refl }
+semas_acted a (Some (Wait s)) = record { firsts = refl; signals = refl; waits = length-set a.waits s.0 (expiries_at a s.0 ++ false ∷ []); rooms = refl }
+semas_acted a (Some (WaitFor s ms)) = record { firsts = refl; signals = refl; waits = length-set a.waits s.0 (expiries_at a s.0 ++ false ∷ []); rooms = refl }
+semas_acted a act = record { firsts = refl; signals = refl; waits = refl; rooms = refl }
+
+semas_ended : (a : SemasView) (why : Option Reason) → SemasAlike a (semas_expired a why)
+semas_ended a (Some (Rank s k)) = record { firsts = refl; signals = refl; waits = length-set a.waits s.0 (set (expiries_at a s.0) (k - 1) true); rooms = refl }
+semas_ended a why = record { firsts = refl; signals = refl; waits = refl; rooms = refl }
+
+semas_alike : (plan : PlanView) (v : MachineView) (e : Event) → SemasAlike v.semas (semas_after plan v e)
+semas_alike plan v (Acted w run i) = semas_acted v.semas (act_at plan run i)
+semas_alike plan v (Expire b) = semas_ended v.semas (reason_at v.waits b.0)
+semas_alike plan v e = record { firsts = refl; signals = refl; waits = refl; rooms = refl }
 
 record WaitsAlike (a b : WaitsView) : Type 0 where
   reasons : length b.reasons ≡ length a.reasons
+  limits : length b.limits ≡ length a.limits
+  expired : length b.expired ≡ length a.expired
   objects : b.objects ≡ a.objects
 
-waits_parked : (a : WaitsView) (run : Run) (why : Option Reason) → WaitsAlike a (parked_for a run why)
-waits_parked a (Block b) (Some why) = record { reasons = length-set a.reasons b.0 (Some why); objects = refl }
-waits_parked a (Block b) None = record { reasons = refl; objects = refl }
-waits_parked a (Source s) why = record { reasons = refl; objects = refl }
+waits_same : (a : WaitsView) → WaitsAlike a a
+waits_same a = record { reasons = refl; limits = refl; expired = refl; objects = refl }
+
+waits_parked : (a : WaitsView) (run : Run) (why : Option Reason) (limit : Option ℕ) → WaitsAlike a (parked_for a run why limit)
+waits_parked a (Block b) (Some why) limit = record {
+  reasons = length-set a.reasons b.0 (Some why);
+  limits = length-set a.limits b.0 limit;
+  expired = length-set a.expired b.0 false;
+  objects = refl;
+}
+waits_parked a (Block b) None limit = waits_same a
+waits_parked a (Source s) why limit = waits_same a
 
 waits_alike : (plan : PlanView) (v : MachineView) (e : Event) → WaitsAlike v.waits (waits_after plan v e)
-waits_alike plan v (Acted w run i) = waits_parked v.waits run (awaited_in_view v (act_at plan run i))
-waits_alike plan v (Wake w b) = record { reasons = length-set v.waits.reasons b.0 None; objects = refl }
-waits_alike plan v e = record { reasons = refl; objects = refl }
+waits_alike plan v (Acted w run i) = waits_parked v.waits run (awaited_in_view v (act_at plan run i)) (limit_in_view v (act_at plan run i))
+waits_alike plan v (Wake w b) = record {
+  reasons = length-set v.waits.reasons b.0 None;
+  limits = length-set v.waits.limits b.0 None;
+  expired = length-set v.waits.expired b.0 false;
+  objects = refl;
+}
+waits_alike plan v (Expire b) = record { reasons = refl; limits = refl; expired = length-set v.waits.expired b.0 true; objects = refl }
+waits_alike plan v e = waits_same v.waits
 
 record SourcesAlike (a b : SourcesView) : Type 0 where
   kinds : b.kinds ≡ a.kinds
@@ -303,7 +332,7 @@ parts_step plan v e fit =
     let holds = holds_alike v.holds (act_of plan e) in
     let drains = drains_alike plan v e in
     let groups = groups_alike plan v e in
-    let semas = semas_alike v.semas (act_of plan e) in
+    let semas = semas_alike plan v e in
     let waits = waits_alike plan v e in
     let sources = sources_alike v.sources (values_after plan v e) (cancels plan e) (values_alike plan v e) in
     let timers = timers_off v.timers (activated (ticked v.timers e) (activated_by v (act_of plan e))) (newly_cancelled v (cancels plan e)) (timers_on v.timers (ticked v.timers e) (activated_by v (act_of plan e)) (timers_ticked v.timers e)) in
@@ -329,7 +358,10 @@ parts_step plan v e fit =
       firsts = semas.firsts ∙ fit.firsts;
       signals = semas.signals ∙ fit.signals;
       waits = semas.waits ∙ fit.waits;
+      rooms = semas.rooms ∙ fit.rooms;
       reasons = waits.reasons ∙ fit.reasons;
+      limits = waits.limits ∙ fit.limits;
+      expired = waits.expired ∙ fit.expired;
       wait_objects = waits.objects ∙ fit.wait_objects;
       source_kinds = sources.kinds ∙ fit.source_kinds;
       pending = sources.pending ∙ fit.pending;

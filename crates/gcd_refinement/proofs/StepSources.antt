@@ -43,11 +43,11 @@ use Rattle.gcd_refinement.proofs.StepTimers.{cancelled_step, timers_step}
 -- ## The due times by the view
 
 -- the view's timers are those of the plan
-record TimersFit (plan : PlanView) (view : TimersView) : Type 0 where
-  kinds : view.kinds ≡ map (λ o. o.kind) plan.objects
-  until : view.until ≡ plan.until
+pub record TimersFit (plan : PlanView) (view : TimersView) : Type 0 where
+  pub kinds : view.kinds ≡ map (λ o. o.kind) plan.objects
+  pub until : view.until ≡ plan.until
 
-due_is : (plan : PlanView) (past : List Event) (view : TimersView) (s t : ℕ) → TimersFit plan view → activated_at view s ≡ timers.activated_at plan past s → cancelled_at view s ≡ timers.cancelled_at plan past s
+pub due_is : (plan : PlanView) (past : List Event) (view : TimersView) (s t : ℕ) → TimersFit plan view → activated_at view s ≡ timers.activated_at plan past s → cancelled_at view s ≡ timers.cancelled_at plan past s
     → is_due_at view s t ≡ is_due plan past s t
 due_is plan past view s t fit on off = rw (on, off, fit.until, fit.kinds, slice_get-map (λ o. o.kind) plan.objects s) refl
 

@@ -23,7 +23,7 @@ use Rattle.gcd_history.proofs.StartedOnce.{open_from_has_run, started_from_open,
 use Rattle.gcd_history.proofs.SubmittedOnce.{submitted_once}
 use Rattle.gcd_refinement.specs.MachineView.{MachineView}
 use Rattle.gcd_refinement.specs.Submits.{submits}
-use Rattle.gcd_refinement.specs.After.{running_after, left_after, is_end, is_misuse, is_halt}
+use Rattle.gcd_refinement.specs.AfterTotals.{running_after, left_after, is_end, is_misuse, is_halt}
 use Rattle.gcd_history.proofs.OpenOnce.{stands_once, shut_at_deliver}
 use Rattle.gcd_refinement.proofs.StepRuns.{alike_in, one_taken}
 use Rattle.gcd_refinement.proofs.StepLists.{new_unstarted}

@@ -21,7 +21,8 @@ use Rattle.gcd_history.proofs.RunsOpen.{same_run-true, same_run-refl, is_open-st
 use Rattle.gcd_refinement.specs.MachineView.{MachineView, at_worker}
 use Rattle.gcd_refinement.specs.Shape.{OwnFit}
 use Rattle.gcd_refinement.specs.Ties.{WorkersAre, is_run}
-use Rattle.gcd_refinement.specs.After.{workers_after, after}
+use Rattle.gcd_refinement.specs.After.{after}
+use Rattle.gcd_refinement.specs.AfterTotals.{workers_after}
 use Rattle.gcd_refinement.proofs.Writes.{entry_set}
 use Rattle.gcd_history.proofs.OpenOnce.{shut_at_deliver}
 use Rattle.gcd_refinement.proofs.StepWaits.{unopened, unparked}

@@ -35,6 +35,7 @@ tied_from plan past v valid lawful t = record {
   blocks = t.blocks;
   handlers = t.handlers;
   wakes = t.wakes;
+  limits = t.limits;
   marks = t.marks;
   totals = t.totals;
 }
@@ -58,6 +59,7 @@ ties_of plan past v t = record {
   blocks = t.blocks;
   handlers = t.handlers;
   wakes = t.wakes;
+  limits = t.limits;
   marks = t.marks;
   totals = t.totals;
 }

@@ -1,11 +1,10 @@
 -- How an event changes each part of the view: by the part's own words where it has one. A misuse and a halt change the flags
 -- and the length alone.
-use Rattle.std.specs.Prelude.{ℕ, zero, suc, ◌+◌, ◌-◌, ◌==◌, nat_lt, Bool, true, false, not, ◌&&◌, ◌||◌, if◌then◌else◌, List, [], ◌∷◌, ◌++◌, length, drop, fold, Option, Some, None, slice_index, slice_index_or, slice_set}
+use Rattle.std.specs.Prelude.{ℕ, zero, suc, ◌+◌, ◌-◌, ◌==◌, nat_lt, Bool, true, false, ◌||◌, if◌then◌else◌, List, [], ◌∷◌, ◌++◌, length, drop, fold, Option, Some, None, slice_index, slice_index_or, slice_set}
 use Rattle.std.specs.Option.{option_map_or}
 use Rattle.gcd_plan.specs.PlanView.{PlanView}
-use Rattle.gcd_plan.specs.Kinds.{has_kind, is_read_kind}
 use Rattle.gcd_plan.specs.declared.act.Act.{Act}
-use Rattle.gcd_plan.specs.declared.act.Act.TheVariants.{Async, Barrier, Sync, BarrierSync, GroupAsync, Notify, Enter, Leave, GroupWait, Signal, Wait, Suspend, Resume, Activate, Target, Merge, Cancel, Retain, Release}
+use Rattle.gcd_plan.specs.declared.act.Act.TheVariants.{Async, Barrier, Sync, BarrierSync, GroupAsync, Notify, Enter, Leave, GroupWait, GroupWaitFor, Signal, Wait, WaitFor, Suspend, Resume, Activate, Target, Merge, Cancel, Retain, Release}
 use Rattle.gcd_plan.specs.declared.numbers.Blk.{Blk}
 use Rattle.gcd_plan.specs.declared.numbers.Obj.{Obj}
 use Rattle.gcd_plan.specs.declared.numbers.Run.{Run}
@@ -13,24 +12,25 @@ use Rattle.gcd_plan.specs.declared.numbers.Run.TheVariants.{Block, Source}
 use Rattle.gcd_plan.specs.declared.reason.Reason.{Reason}
 use Rattle.gcd_plan.specs.declared.reason.Reason.TheVariants.{Block as EndOf, Group as Empty, Rank}
 use Rattle.gcd_event.specs.declared.event.Event.{Event}
-use Rattle.gcd_event.specs.declared.event.Event.TheVariants.{Start, Act as Acted, Wake, End, Deliver, DeliverEnd, Tick, Ready, FeedEnd, Misuse, Halt}
+use Rattle.gcd_event.specs.declared.event.Event.TheVariants.{Start, Act as Acted, Wake, End, Deliver, DeliverEnd, Tick, Ready, FeedEnd, Misuse, Halt, Expire}
 use Rattle.gcd_history.specs.declared.submission.Submission.{Submission}
 use Rattle.gcd_history.specs.Runs.{act_at, act_of}
 use Rattle.gcd_history.specs.Submitted.{cancels}
-use Rattle.gcd_history.specs.Parked.{is_parking}
-use Rattle.gcd_lists.specs.ListsView.{ListsView, list_at}
+use Rattle.gcd_lists.specs.ListsView.{ListsView, list_at, without}
 use Rattle.gcd_tree.specs.TreeView.{TreeView, open_on_at, with_target, with_request, with_open, settled}
 use Rattle.gcd_hold.specs.HoldsView.{HoldsView, hold_at, with_hold, with_active}
 use Rattle.gcd_drain.specs.DrainsView.{DrainsView, barriers_at, with_barriers}
 use Rattle.gcd_group.specs.GroupsView.{GroupsView, count_at, entered_at, due_at, with_one_more, with_one_less, with_entered, with_notify, with_fired}
-use Rattle.gcd_sema.specs.SemasView.{SemasView, signals_at, waits_at, is_passed_at, with_signals, with_waits}
-use Rattle.gcd_sync.specs.WaitsView.{WaitsView, with_reason}
-use Rattle.gcd_source.specs.SourcesView.{SourcesView, pending_at, is_cancelled_at, merged_at, with_pending, with_cancelled as with_cancelled_source}
+use Rattle.gcd_sema.specs.SemasView.{SemasView, signals_at, waits_at, has_value_at, with_signals, with_wait, with_expired as with_expired_wait}
+use Rattle.gcd_sync.specs.WaitsView.{WaitsView, reason_at, with_parked, with_woken, with_expired}
+use Rattle.gcd_source.specs.SourcesView.{SourcesView, pending_at, merged_at, with_pending, with_cancelled as with_cancelled_source}
 use Rattle.gcd_timer.specs.TimersView.{TimersView, due_count_at, with_activated, with_cancelled as with_cancelled_timer, marked_by}
 use Rattle.gcd_refinement.specs.MachineView.{MachineView, idle, undelivered, block_at, handler_at}
 use Rattle.gcd_refinement.specs.declared.progress.BlockProgress.{BlockProgress}
 use Rattle.gcd_refinement.specs.declared.progress.HandlerProgress.{HandlerProgress}
 use Rattle.gcd_refinement.specs.Submits.{emptied_by, submits, activated_by, newly_cancelled, come_by}
+use Rattle.gcd_refinement.specs.AfterLimits.{limit_in_view, ahead_after, ripe_after}
+use Rattle.gcd_refinement.specs.AfterTotals.{workers_after, running_after, left_after, live_after, is_misuse, is_halt}
 
 -- ## References
 
@@ -45,8 +45,10 @@ refs_by refs (Some (Notify g q b)) = refs
 refs_by refs (Some (Enter g)) = refs
 refs_by refs (Some (Leave g)) = refs
 refs_by refs (Some (GroupWait g)) = refs
+refs_by refs (Some (GroupWaitFor g ms)) = refs
 refs_by refs (Some (Signal s)) = refs
 refs_by refs (Some (Wait s)) = refs
+refs_by refs (Some (WaitFor s ms)) = refs
 refs_by refs (Some (Suspend o)) = refs
 refs_by refs (Some (Resume o)) = refs
 refs_by refs (Some (Activate o)) = refs
@@ -86,6 +88,7 @@ begun v (Ready s n) = v.lists
 begun v (FeedEnd s) = v.lists
 begun v (Misuse w run i c) = v.lists
 begun v Halt = v.lists
+begun v (Expire b) = v.lists
 
 abbrev pub lists_after : PlanView → MachineView → Event → ListsView
 lists_after plan v e = fold pushed (begun v e) (submits plan v e)
@@ -114,8 +117,10 @@ targeted tree (Some (Notify g q b)) = tree
 targeted tree (Some (Enter g)) = tree
 targeted tree (Some (Leave g)) = tree
 targeted tree (Some (GroupWait g)) = tree
+targeted tree (Some (GroupWaitFor g ms)) = tree
 targeted tree (Some (Signal s)) = tree
 targeted tree (Some (Wait s)) = tree
+targeted tree (Some (WaitFor s ms)) = tree
 targeted tree (Some (Suspend o)) = tree
 targeted tree (Some (Resume o)) = tree
 targeted tree (Some (Activate o)) = tree
@@ -137,6 +142,7 @@ tree_after plan v (Ready s n) = v.tree
 tree_after plan v (FeedEnd s) = v.tree
 tree_after plan v (Misuse w run i c) = v.tree
 tree_after plan v Halt = v.tree
+tree_after plan v (Expire b) = v.tree
 
 -- ## Holds
 
@@ -151,8 +157,10 @@ holds_by holds (Some (Notify g q b)) = holds
 holds_by holds (Some (Enter g)) = holds
 holds_by holds (Some (Leave g)) = holds
 holds_by holds (Some (GroupWait g)) = holds
+holds_by holds (Some (GroupWaitFor g ms)) = holds
 holds_by holds (Some (Signal s)) = holds
 holds_by holds (Some (Wait s)) = holds
+holds_by holds (Some (WaitFor s ms)) = holds
 holds_by holds (Some (Suspend o)) = with_hold holds o.0 (hold_at holds o.0 + 1)
 holds_by holds (Some (Resume o)) =
     if hold_at holds o.0 == 0 then with_active holds o.0 else with_hold holds o.0 (hold_at holds o.0 - 1)
@@ -189,6 +197,7 @@ drains_after plan v (Ready s n) = v.drains
 drains_after plan v (FeedEnd s) = v.drains
 drains_after plan v (Misuse w run i c) = v.drains
 drains_after plan v Halt = v.drains
+drains_after plan v (Expire b) = v.drains
 
 -- ## Groups
 
@@ -214,8 +223,10 @@ groups_by groups at (Some (Enter g)) = with_entered (with_one_more groups g.0 at
 groups_by groups at (Some (Leave g)) =
     all_fired (with_entered (with_one_less groups g.0 at) g.0 (entered_at groups g.0 - 1)) g.0
 groups_by groups at (Some (GroupWait g)) = groups
+groups_by groups at (Some (GroupWaitFor g ms)) = groups
 groups_by groups at (Some (Signal s)) = groups
 groups_by groups at (Some (Wait s)) = groups
+groups_by groups at (Some (WaitFor s ms)) = groups
 groups_by groups at (Some (Suspend o)) = groups
 groups_by groups at (Some (Resume o)) = groups
 groups_by groups at (Some (Activate o)) = groups
@@ -242,6 +253,7 @@ groups_after plan v (Ready s n) = v.groups
 groups_after plan v (FeedEnd s) = v.groups
 groups_after plan v (Misuse w run i c) = v.groups
 groups_after plan v Halt = v.groups
+groups_after plan v (Expire b) = v.groups
 
 -- ## Semaphores
 
@@ -256,8 +268,10 @@ semas_by semas (Some (Notify g q b)) = semas
 semas_by semas (Some (Enter g)) = semas
 semas_by semas (Some (Leave g)) = semas
 semas_by semas (Some (GroupWait g)) = semas
+semas_by semas (Some (GroupWaitFor g ms)) = semas
 semas_by semas (Some (Signal s)) = with_signals semas s.0 (signals_at semas s.0 + 1)
-semas_by semas (Some (Wait s)) = with_waits semas s.0 (waits_at semas s.0 + 1)
+semas_by semas (Some (Wait s)) = with_wait semas s.0
+semas_by semas (Some (WaitFor s ms)) = with_wait semas s.0
 semas_by semas (Some (Suspend o)) = semas
 semas_by semas (Some (Resume o)) = semas
 semas_by semas (Some (Activate o)) = semas
@@ -267,8 +281,26 @@ semas_by semas (Some (Cancel s)) = semas
 semas_by semas (Some (Retain o)) = semas
 semas_by semas (Some (Release o)) = semas
 
+-- the wait for this has expired, where it is one on a semaphore
+abbrev pub semas_expired : SemasView → Option Reason → SemasView
+semas_expired semas None = semas
+semas_expired semas (Some (EndOf b)) = semas
+semas_expired semas (Some (Empty g position)) = semas
+semas_expired semas (Some (Rank s k)) = with_expired_wait semas s.0 k
+
 abbrev pub semas_after : PlanView → MachineView → Event → SemasView
-semas_after plan v e = semas_by v.semas (act_of plan e)
+semas_after plan v (Start w b) = v.semas
+semas_after plan v (Acted w run i) = semas_by v.semas (act_at plan run i)
+semas_after plan v (Wake w b) = v.semas
+semas_after plan v (End w b) = v.semas
+semas_after plan v (Deliver w s) = v.semas
+semas_after plan v (DeliverEnd w s) = v.semas
+semas_after plan v (Tick t) = v.semas
+semas_after plan v (Ready s n) = v.semas
+semas_after plan v (FeedEnd s) = v.semas
+semas_after plan v (Misuse w run i c) = v.semas
+semas_after plan v Halt = v.semas
+semas_after plan v (Expire b) = semas_expired v.semas (reason_at v.waits b.0)
 
 -- ## Parked blocks
 
@@ -284,8 +316,10 @@ awaited_in_view v (Some (Notify g q b)) = None
 awaited_in_view v (Some (Enter g)) = None
 awaited_in_view v (Some (Leave g)) = None
 awaited_in_view v (Some (GroupWait g)) = Some (Empty g v.len)
+awaited_in_view v (Some (GroupWaitFor g ms)) = Some (Empty g v.len)
 awaited_in_view v (Some (Signal s)) = None
 awaited_in_view v (Some (Wait s)) = Some (Rank s (waits_at v.semas s.0 + 1))
+awaited_in_view v (Some (WaitFor s ms)) = Some (Rank s (waits_at v.semas s.0 + 1))
 awaited_in_view v (Some (Suspend o)) = None
 awaited_in_view v (Some (Resume o)) = None
 awaited_in_view v (Some (Activate o)) = None
@@ -295,15 +329,17 @@ awaited_in_view v (Some (Cancel s)) = None
 awaited_in_view v (Some (Retain o)) = None
 awaited_in_view v (Some (Release o)) = None
 
-abbrev pub parked_for : WaitsView → Run → Option Reason → WaitsView
-parked_for waits (Block b) (Some why) = with_reason waits b.0 (Some why)
-parked_for waits (Block b) None = waits
-parked_for waits (Source s) why = waits
+-- with this limit, or without one
+abbrev pub parked_for : WaitsView → Run → Option Reason → (limit : Option ℕ) → WaitsView
+parked_for waits (Block b) (Some why) limit = with_parked waits b.0 why limit
+parked_for waits (Block b) None limit = waits
+parked_for waits (Source s) why limit = waits
 
 abbrev pub waits_after : PlanView → MachineView → Event → WaitsView
 waits_after plan v (Start w b) = v.waits
-waits_after plan v (Acted w run i) = parked_for v.waits run (awaited_in_view v (act_at plan run i))
-waits_after plan v (Wake w b) = with_reason v.waits b.0 None
+waits_after plan v (Acted w run i) =
+    parked_for v.waits run (awaited_in_view v (act_at plan run i)) (limit_in_view v (act_at plan run i))
+waits_after plan v (Wake w b) = with_woken v.waits b.0
 waits_after plan v (End w b) = v.waits
 waits_after plan v (Deliver w s) = v.waits
 waits_after plan v (DeliverEnd w s) = v.waits
@@ -312,6 +348,7 @@ waits_after plan v (Ready s n) = v.waits
 waits_after plan v (FeedEnd s) = v.waits
 waits_after plan v (Misuse w run i c) = v.waits
 waits_after plan v Halt = v.waits
+waits_after plan v (Expire b) = with_expired v.waits b.0
 
 -- the blocks that sleep at an object, behind which a block goes to sleep where what it waits for has not come
 abbrev pub asleep : MachineView → Blk → Option Act → ListsView
@@ -325,9 +362,10 @@ asleep v b (Some (Notify g q c)) = v.sleepers
 asleep v b (Some (Enter g)) = v.sleepers
 asleep v b (Some (Leave g)) = v.sleepers
 asleep v b (Some (GroupWait g)) = if count_at v.groups g.0 == 0 then v.sleepers else pushed_on v.sleepers g b false
+asleep v b (Some (GroupWaitFor g ms)) = if count_at v.groups g.0 == 0 then v.sleepers else pushed_on v.sleepers g b false
 asleep v b (Some (Signal s)) = popped v.sleepers (Some s)
-asleep v b (Some (Wait s)) =
-    if is_passed_at v.semas s.0 (waits_at v.semas s.0 + 1) then v.sleepers else pushed_on v.sleepers s b false
+asleep v b (Some (Wait s)) = if has_value_at v.semas s.0 then v.sleepers else pushed_on v.sleepers s b false
+asleep v b (Some (WaitFor s ms)) = if has_value_at v.semas s.0 then v.sleepers else pushed_on v.sleepers s b false
 asleep v b (Some (Suspend o)) = v.sleepers
 asleep v b (Some (Resume o)) = v.sleepers
 asleep v b (Some (Activate o)) = v.sleepers
@@ -349,8 +387,10 @@ asleep_by_handler v (Some (Notify g q b)) = v.sleepers
 asleep_by_handler v (Some (Enter g)) = v.sleepers
 asleep_by_handler v (Some (Leave g)) = v.sleepers
 asleep_by_handler v (Some (GroupWait g)) = v.sleepers
+asleep_by_handler v (Some (GroupWaitFor g ms)) = v.sleepers
 asleep_by_handler v (Some (Signal s)) = popped v.sleepers (Some s)
 asleep_by_handler v (Some (Wait s)) = v.sleepers
+asleep_by_handler v (Some (WaitFor s ms)) = v.sleepers
 asleep_by_handler v (Some (Suspend o)) = v.sleepers
 asleep_by_handler v (Some (Resume o)) = v.sleepers
 asleep_by_handler v (Some (Activate o)) = v.sleepers
@@ -364,6 +404,18 @@ abbrev pub asleep_by : MachineView → Run → Option Act → ListsView
 asleep_by v (Block b) act = asleep v b act
 asleep_by v (Source s) act = asleep_by_handler v act
 
+-- the object at which a block sleeps that waits for this
+abbrev pub bed_of : Option Reason → Option Obj
+bed_of None = None
+bed_of (Some (EndOf b)) = None
+bed_of (Some (Empty g position)) = Some g
+bed_of (Some (Rank s k)) = Some s
+
+-- the lists without block b, which is on the object's, if there is one
+abbrev pub removed : ListsView → Option Obj → Blk → ListsView
+removed lists None b = lists
+removed lists (Some o) b = record lists { lists = slice_set lists.lists o.0 (without b.0 (list_at lists o.0)) }
+
 abbrev pub asleep_after : PlanView → MachineView → Event → ListsView
 asleep_after plan v (Start w b) = v.sleepers
 asleep_after plan v (Acted w run i) = asleep_by v run (act_at plan run i)
@@ -376,6 +428,7 @@ asleep_after plan v (Ready s n) = v.sleepers
 asleep_after plan v (FeedEnd s) = v.sleepers
 asleep_after plan v (Misuse w run i c) = v.sleepers
 asleep_after plan v Halt = v.sleepers
+asleep_after plan v (Expire b) = removed v.sleepers (bed_of (reason_at v.waits b.0)) b
 
 -- nobody sleeps at the object any more, if there is one
 abbrev pub all_woken : ListsView → Option Obj → ListsView
@@ -402,6 +455,7 @@ woken wakeable (Ready s n) = wakeable
 woken wakeable (FeedEnd s) = wakeable
 woken wakeable (Misuse w run i c) = wakeable
 woken wakeable Halt = wakeable
+woken wakeable (Expire b) = wakeable
 
 abbrev pub wakeable_after : PlanView → MachineView → Event → List Bool
 wakeable_after plan v e = fold with_wakeable (woken v.wakeable e) (come_by plan v e)
@@ -424,8 +478,10 @@ merged_by sources (Some (Notify g q b)) = sources
 merged_by sources (Some (Enter g)) = sources
 merged_by sources (Some (Leave g)) = sources
 merged_by sources (Some (GroupWait g)) = sources
+merged_by sources (Some (GroupWaitFor g ms)) = sources
 merged_by sources (Some (Signal s)) = sources
 merged_by sources (Some (Wait s)) = sources
+merged_by sources (Some (WaitFor s ms)) = sources
 merged_by sources (Some (Suspend o)) = sources
 merged_by sources (Some (Resume o)) = sources
 merged_by sources (Some (Activate o)) = sources
@@ -447,6 +503,7 @@ values_after plan v (Ready s n) = with_pending v.sources s.0 (merged_at v.source
 values_after plan v (FeedEnd s) = v.sources
 values_after plan v (Misuse w run i c) = v.sources
 values_after plan v Halt = v.sources
+values_after plan v (Expire b) = v.sources
 
 abbrev pub sources_after : PlanView → MachineView → Event → SourcesView
 sources_after plan v e = source_cancelled (values_after plan v e) (cancels plan e)
@@ -464,6 +521,7 @@ ticked timers (Ready s n) = timers
 ticked timers (FeedEnd s) = timers
 ticked timers (Misuse w run i c) = timers
 ticked timers Halt = timers
+ticked timers (Expire b) = timers
 
 abbrev pub activated : TimersView → Option Obj → TimersView
 activated timers None = timers
@@ -499,8 +557,10 @@ arranged blocks (Some (Notify g q c)) = with_block blocks c.0 (λ x. record x { 
 arranged blocks (Some (Enter g)) = blocks
 arranged blocks (Some (Leave g)) = blocks
 arranged blocks (Some (GroupWait g)) = blocks
+arranged blocks (Some (GroupWaitFor g ms)) = blocks
 arranged blocks (Some (Signal s)) = blocks
 arranged blocks (Some (Wait s)) = blocks
+arranged blocks (Some (WaitFor s ms)) = blocks
 arranged blocks (Some (Suspend o)) = blocks
 arranged blocks (Some (Resume o)) = blocks
 arranged blocks (Some (Activate o)) = blocks
@@ -522,8 +582,10 @@ called blocks b (Some (Notify g q c)) = blocks
 called blocks b (Some (Enter g)) = blocks
 called blocks b (Some (Leave g)) = blocks
 called blocks b (Some (GroupWait g)) = blocks
+called blocks b (Some (GroupWaitFor g ms)) = blocks
 called blocks b (Some (Signal s)) = blocks
 called blocks b (Some (Wait s)) = blocks
+called blocks b (Some (WaitFor s ms)) = blocks
 called blocks b (Some (Suspend o)) = blocks
 called blocks b (Some (Resume o)) = blocks
 called blocks b (Some (Activate o)) = blocks
@@ -550,6 +612,7 @@ blocks_by plan v (Ready s n) = v.blocks
 blocks_by plan v (FeedEnd s) = v.blocks
 blocks_by plan v (Misuse w run i c) = v.blocks
 blocks_by plan v Halt = v.blocks
+blocks_by plan v (Expire b) = v.blocks
 
 abbrev pub blocks_after : PlanView → MachineView → Event → List BlockProgress
 blocks_after plan v e = fold noted (blocks_by plan v e) (submits plan v e)
@@ -566,6 +629,7 @@ ended_after v (Ready s n) = v.ended
 ended_after v (FeedEnd s) = v.ended
 ended_after v (Misuse w run i c) = v.ended
 ended_after v Halt = v.ended
+ended_after v (Expire b) = v.ended
 
 -- ## Handlers
 
@@ -594,6 +658,7 @@ handlers_after v (Ready s n) = v.handlers
 handlers_after v (FeedEnd s) = v.handlers
 handlers_after v (Misuse w run i c) = v.handlers
 handlers_after v Halt = v.handlers
+handlers_after v (Expire b) = v.handlers
 
 -- ## Marks
 
@@ -622,8 +687,10 @@ busy_by busy (Some (Notify g q b)) = busy
 busy_by busy (Some (Enter g)) = busy
 busy_by busy (Some (Leave g)) = busy
 busy_by busy (Some (GroupWait g)) = busy
+busy_by busy (Some (GroupWaitFor g ms)) = busy
 busy_by busy (Some (Signal s)) = busy
 busy_by busy (Some (Wait s)) = busy
+busy_by busy (Some (WaitFor s ms)) = busy
 busy_by busy (Some (Suspend o)) = busy
 busy_by busy (Some (Resume o)) = busy
 busy_by busy (Some (Activate o)) = busy
@@ -649,93 +716,10 @@ busy_at_event plan v (Ready s n) = slice_set v.busy s.0 true
 busy_at_event plan v (FeedEnd s) = v.busy
 busy_at_event plan v (Misuse w run i c) = v.busy
 busy_at_event plan v Halt = v.busy
+busy_at_event plan v (Expire b) = v.busy
 
 abbrev pub busy_after : PlanView → MachineView → Event → List Bool
 busy_after plan v e = fold marked (busy_at_event plan v e) (submits plan v e)
-
--- ## Workers and totals
-
--- an act that parks frees its worker
-abbrev pub workers_after : PlanView → MachineView → Event → List (Option Run)
-workers_after plan v (Start w b) = slice_set v.workers w (Some (Block b))
-workers_after plan v (Acted w run i) = if is_parking (act_at plan run i) then slice_set v.workers w None else v.workers
-workers_after plan v (Wake w b) = slice_set v.workers w (Some (Block b))
-workers_after plan v (End w b) = slice_set v.workers w None
-workers_after plan v (Deliver w s) = slice_set v.workers w (Some (Source s))
-workers_after plan v (DeliverEnd w s) = slice_set v.workers w None
-workers_after plan v (Tick t) = v.workers
-workers_after plan v (Ready s n) = v.workers
-workers_after plan v (FeedEnd s) = v.workers
-workers_after plan v (Misuse w run i c) = v.workers
-workers_after plan v Halt = v.workers
-
-abbrev pub running_after : PlanView → MachineView → Event → ℕ
-running_after plan v (Start w b) = v.running + 1
-running_after plan v (Acted w run i) = if is_parking (act_at plan run i) then v.running - 1 else v.running
-running_after plan v (Wake w b) = v.running + 1
-running_after plan v (End w b) = v.running - 1
-running_after plan v (Deliver w s) = v.running + 1
-running_after plan v (DeliverEnd w s) = v.running - 1
-running_after plan v (Tick t) = v.running
-running_after plan v (Ready s n) = v.running
-running_after plan v (FeedEnd s) = v.running
-running_after plan v (Misuse w run i c) = v.running
-running_after plan v Halt = v.running
-
-abbrev pub is_end : Event → Bool
-is_end (Start w b) = false
-is_end (Acted w run i) = false
-is_end (Wake w b) = false
-is_end (End w b) = true
-is_end (Deliver w s) = false
-is_end (DeliverEnd w s) = false
-is_end (Tick t) = false
-is_end (Ready s n) = false
-is_end (FeedEnd s) = false
-is_end (Misuse w run i c) = false
-is_end Halt = false
-
-abbrev pub left_after : PlanView → MachineView → Event → ℕ
-left_after plan v e = v.left + length (submits plan v e) - (if is_end e then 1 else 0)
-
--- a read source that is activated and not cancelled is live, and one that is cancelled is so no more
-abbrev pub live_begun : PlanView → MachineView → Option Obj → List Bool
-live_begun plan v None = v.live
-live_begun plan v (Some o) =
-    if has_kind is_read_kind plan o.0 && not (is_cancelled_at v.sources o.0) then slice_set v.live o.0 true else v.live
-
-abbrev pub live_ended : List Bool → Option Obj → List Bool
-live_ended live None = live
-live_ended live (Some s) = slice_set live s.0 false
-
-abbrev pub live_after : PlanView → MachineView → Event → List Bool
-live_after plan v e = live_ended (live_begun plan v (activated_by v (act_of plan e))) (newly_cancelled v (cancels plan e))
-
-abbrev pub is_misuse : Event → Bool
-is_misuse (Start w b) = false
-is_misuse (Acted w run i) = false
-is_misuse (Wake w b) = false
-is_misuse (End w b) = false
-is_misuse (Deliver w s) = false
-is_misuse (DeliverEnd w s) = false
-is_misuse (Tick t) = false
-is_misuse (Ready s n) = false
-is_misuse (FeedEnd s) = false
-is_misuse (Misuse w run i c) = true
-is_misuse Halt = false
-
-abbrev pub is_halt : Event → Bool
-is_halt (Start w b) = false
-is_halt (Acted w run i) = false
-is_halt (Wake w b) = false
-is_halt (End w b) = false
-is_halt (Deliver w s) = false
-is_halt (DeliverEnd w s) = false
-is_halt (Tick t) = false
-is_halt (Ready s n) = false
-is_halt (FeedEnd s) = false
-is_halt (Misuse w run i c) = false
-is_halt Halt = true
 
 -- ## The whole
 
@@ -757,6 +741,8 @@ after plan v e = record {
   blocks = blocks_after plan v e;
   ended = ended_after v e;
   wakeable = wakeable_after plan v e;
+  ahead = ahead_after plan v e;
+  ripe = ripe_after plan v e;
   handlers = handlers_after v e;
   busy = busy_after plan v e;
   live = live_after plan v e;

@@ -11,14 +11,17 @@ use Rattle.gcd_hold.specs.HoldsView.{HoldsView, holds_of}
 use Rattle.gcd_drain.specs.DrainsView.{DrainsView, drains_of}
 use Rattle.gcd_group.specs.GroupsView.{GroupsView, groups_of}
 use Rattle.gcd_sema.specs.SemasView.{SemasView, semas_of}
+use Rattle.gcd_sync.specs.LimitRoom.{limit_room}
 use Rattle.gcd_sync.specs.WaitsView.{WaitsView, waits_of}
 use Rattle.gcd_source.specs.SourcesView.{SourcesView, sources_of}
-use Rattle.gcd_timer.specs.TimersView.{TimersView, timers_of}
+use Rattle.gcd_timer.specs.TimersView.{TimersView, timers_of, next_due_at}
+use Rattle.gcd_soonest.specs.Least.{earlier, least}
 
 -- the plan; the parts: references, what waits on nodes, targets, holds, barriers, groups, semaphores, parked blocks, sources, timers;
 -- by semaphore and group the blocks that sleep there; by block what it has come to, whether it has ended, and whether what it
--- is parked for has come; by object what is kept of a source, whether it has to be looked at, and whether it is a live read
--- source; by worker the run that it has; how many runs are open and not parked, and how many blocks are submitted and not ended;
+-- is parked for has come or its wait has expired, where limits are kept the limit of its wait if that is not over and the limit is
+-- ahead, and whether its wait may expire; by object what is kept of a source, whether it has to be looked at, and whether it is a live read source;
+-- by worker the run that it has; how many runs are open and not parked, and how many blocks are submitted and not ended;
 -- whether the last event is a misuse, or a halt; how many events have come
 pub record MachineView : Type 0 where
   pub plan : PlanView
@@ -36,6 +39,8 @@ pub record MachineView : Type 0 where
   pub blocks : List BlockProgress
   pub ended : List Bool
   pub wakeable : List Bool
+  pub ahead : List (Option ℕ)
+  pub ripe : List Bool
   pub handlers : List HandlerProgress
   pub busy : List Bool
   pub live : List Bool
@@ -54,7 +59,7 @@ idle = record { node = None; barrier = false; started = false; done = 0; group =
 abbrev pub undelivered : HandlerProgress
 undelivered = record { done = 0; taken = 0; given = 0 }
 
--- what block b has come to, whether it has ended, and whether what it is parked for has come
+-- what block b has come to, whether it has ended, and whether what it is parked for has come or its wait has expired
 abbrev pub block_at : MachineView → ℕ → BlockProgress
 block_at v b = slice_index_or v.blocks b idle
 
@@ -63,6 +68,17 @@ ended_at v b = slice_index_or v.ended b false
 
 abbrev pub is_wakeable_at : MachineView → ℕ → Bool
 is_wakeable_at v b = slice_index_or v.wakeable b false
+
+-- the limit of block b's wait, where it is ahead and the wait is not over, and whether its wait may expire
+abbrev pub ahead_at : MachineView → ℕ → Option ℕ
+ahead_at v b = slice_index_or v.ahead b None
+
+abbrev pub is_ripe_at : MachineView → ℕ → Bool
+is_ripe_at v b = slice_index_or v.ripe b false
+
+-- the next due time: of a timer, or of a wait that is not over
+abbrev pub next_due_in : MachineView → Option ℕ
+next_due_in v = earlier (next_due_at v.timers) (least v.ahead)
 
 -- what is kept of source s, and whether object o has to be looked at for a Start or a Deliver
 abbrev pub handler_at : MachineView → ℕ → HandlerProgress
@@ -105,6 +121,8 @@ machine_of plan = record {
   blocks = replicate (length plan.blocks) idle;
   ended = replicate (length plan.blocks) false;
   wakeable = replicate (length plan.blocks) false;
+  ahead = replicate (limit_room plan) None;
+  ripe = replicate (length plan.blocks) false;
   handlers = replicate (length plan.objects) undelivered;
   busy = replicate (length plan.objects) false;
   live = replicate (length plan.objects) false;

@@ -1,11 +1,14 @@
 -- How long the arrays are, what in them never changes, and that what they name is of the plan: for the conditions of the parts.
 use Rattle.std.specs.Prelude.{◌≡◌, ◌<◌, ℕ, true, length, map, Some}
+use Rattle.std.specs.List.{range_with_len}
 use Rattle.gcd_plan.specs.PlanView.{PlanView}
 use Rattle.gcd_plan.specs.Kinds.{is_node_kind, is_source_kind}
 use Rattle.gcd_plan.specs.KindValues.{first_value_of}
 use Rattle.gcd_plan.specs.declared.numbers.Blk.{Blk}
 use Rattle.gcd_plan.specs.declared.numbers.Obj.{Obj}
 use Rattle.gcd_plan.specs.declared.numbers.Run.{Run}
+use Rattle.gcd_sema.specs.SemasView.{wait_acts}
+use Rattle.gcd_sync.specs.LimitRoom.{limit_room}
 use Rattle.gcd_history.specs.Permitted.{is_run_of}
 use Rattle.gcd_refinement.specs.MachineView.{MachineView, block_at, at_worker}
 use Rattle.gcd_plan.specs.Limits.{max_workers}
@@ -33,7 +36,10 @@ pub record PartsFit (plan : PlanView) (v : MachineView) : Type 0 where
   pub firsts : v.semas.firsts ≡ map (λ o. first_value_of o.kind) plan.objects
   pub signals : length v.semas.signals ≡ length plan.objects
   pub waits : length v.semas.waits ≡ length plan.objects
+  pub rooms : v.semas.rooms ≡ map (wait_acts plan) (range_with_len 0 (length plan.objects))
   pub reasons : length v.waits.reasons ≡ length plan.blocks
+  pub limits : length v.waits.limits ≡ limit_room plan
+  pub expired : length v.waits.expired ≡ length plan.blocks
   pub wait_objects : v.waits.objects ≡ length plan.objects
   pub source_kinds : v.sources.kinds ≡ map (λ o. o.kind) plan.objects
   pub pending : length v.sources.pending ≡ length plan.objects
@@ -50,6 +56,8 @@ pub record OwnFit (plan : PlanView) (v : MachineView) : Type 0 where
   pub blocks : length v.blocks ≡ length plan.blocks
   pub ended : length v.ended ≡ length plan.blocks
   pub wakeable : length v.wakeable ≡ length plan.blocks
+  pub ahead : length v.ahead ≡ limit_room plan
+  pub ripe : length v.ripe ≡ length plan.blocks
   pub handlers : length v.handlers ≡ length plan.objects
   pub busy : length v.busy ≡ length plan.objects
   pub live : length v.live ≡ length plan.objects

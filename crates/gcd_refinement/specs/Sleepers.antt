@@ -1,17 +1,22 @@
 -- What a history says that the parts do not ask of it, for the machine's own arrays: which group counts a block, who waits for
--- its end, and which blocks sleep at a semaphore or a group, their wait not passed. Histories are the newest event first.
-use Rattle.std.specs.Prelude.{ℕ, ◌+◌, ◌==◌, Bool, false, if◌then◌else◌, List, [], ◌∷◌, ◌++◌, drop, Option, Some, None}
+-- its end, which blocks sleep at a semaphore or a group, their wait neither passed nor expired, and which limits are ahead.
+-- Histories are the newest event first.
+use Rattle.std.specs.Prelude.{ℕ, ◌+◌, ◌==◌, nat_lt, Bool, false, not, ◌&&◌, if◌then◌else◌, List, [], ◌∷◌, ◌++◌, length, map, filter, drop, Option, Some, None, option_and_then}
 use Rattle.std.specs.Option.{option_or}
 use Rattle.gcd_plan.specs.PlanView.{PlanView}
 use Rattle.gcd_plan.specs.declared.act.Act.{Act}
-use Rattle.gcd_plan.specs.declared.act.Act.TheVariants.{Async, Barrier, Sync, BarrierSync, GroupAsync, Notify, Enter, Leave, GroupWait, Signal, Wait, Suspend, Resume, Activate, Target, Merge, Cancel, Retain, Release}
+use Rattle.gcd_plan.specs.declared.act.Act.TheVariants.{Async, Barrier, Sync, BarrierSync, GroupAsync, Notify, Enter, Leave, GroupWait, GroupWaitFor, Signal, Wait, WaitFor, Suspend, Resume, Activate, Target, Merge, Cancel, Retain, Release}
 use Rattle.gcd_plan.specs.declared.numbers.Blk.{Blk}
 use Rattle.gcd_plan.specs.declared.numbers.Obj.{Obj}
 use Rattle.gcd_plan.specs.declared.numbers.Run.TheVariants.{Block, Source}
 use Rattle.gcd_event.specs.declared.event.Event.{Event}
-use Rattle.gcd_event.specs.declared.event.Event.TheVariants.{Start, Act as Acted, Wake, End, Deliver, DeliverEnd, Tick, Ready, FeedEnd, Misuse, Halt}
+use Rattle.gcd_event.specs.declared.event.Event.TheVariants.{Start, Act as Acted, Wake, End, Deliver, DeliverEnd, Tick, Ready, FeedEnd, Misuse, Halt, Expire}
 use Rattle.gcd_history.specs.Runs.{act_at, act_of}
+use Rattle.gcd_history.specs.Expired.{has_expired}
 use Rattle.gcd_history.specs.Groups.{count}
+use Rattle.gcd_history.specs.Parked.{may_wake}
+use Rattle.gcd_history.specs.Timers.{now}
+use Rattle.gcd_history.specs.Due.{limit, is_at_limit}
 use Rattle.gcd_history.specs.Semas.{first_value, signal_count, waits}
 
 -- the group to which the act adds block b
@@ -26,8 +31,10 @@ grouped b (Some (Notify g q c)) = None
 grouped b (Some (Enter g)) = None
 grouped b (Some (Leave g)) = None
 grouped b (Some (GroupWait g)) = None
+grouped b (Some (GroupWaitFor g ms)) = None
 grouped b (Some (Signal s)) = None
 grouped b (Some (Wait s)) = None
+grouped b (Some (WaitFor s ms)) = None
 grouped b (Some (Suspend o)) = None
 grouped b (Some (Resume o)) = None
 grouped b (Some (Activate o)) = None
@@ -54,8 +61,10 @@ called_by c b (Some (Notify g q d)) = None
 called_by c b (Some (Enter g)) = None
 called_by c b (Some (Leave g)) = None
 called_by c b (Some (GroupWait g)) = None
+called_by c b (Some (GroupWaitFor g ms)) = None
 called_by c b (Some (Signal s)) = None
 called_by c b (Some (Wait s)) = None
+called_by c b (Some (WaitFor s ms)) = None
 called_by c b (Some (Suspend o)) = None
 called_by c b (Some (Resume o)) = None
 called_by c b (Some (Activate o)) = None
@@ -78,6 +87,7 @@ calls plan c (Ready s n) = None
 calls plan c (FeedEnd s) = None
 calls plan c (Misuse w run i k) = None
 calls plan c Halt = None
+calls plan c (Expire b) = None
 
 -- the block that has waited for the end of block c, or still does
 abbrev pub caller_of : PlanView → List Event → ℕ → Option Blk
@@ -96,8 +106,10 @@ waits_for_group g (Some (Notify h q b)) = false
 waits_for_group g (Some (Enter h)) = false
 waits_for_group g (Some (Leave h)) = false
 waits_for_group g (Some (GroupWait h)) = h.0 == g
+waits_for_group g (Some (GroupWaitFor h ms)) = h.0 == g
 waits_for_group g (Some (Signal s)) = false
 waits_for_group g (Some (Wait s)) = false
+waits_for_group g (Some (WaitFor s ms)) = false
 waits_for_group g (Some (Suspend o)) = false
 waits_for_group g (Some (Resume o)) = false
 waits_for_group g (Some (Activate o)) = false
@@ -107,32 +119,53 @@ waits_for_group g (Some (Cancel s)) = false
 waits_for_group g (Some (Retain o)) = false
 waits_for_group g (Some (Release o)) = false
 
--- the block whose act the event is, where the act passes the test
-abbrev pub block_if : (Option Act → Bool) → PlanView → Event → List Blk
-block_if test plan (Start w b) = []
-block_if test plan (Acted w (Block b) i) = if test (act_at plan (Block b) i) then b ∷ [] else []
-block_if test plan (Acted w (Source s) i) = []
-block_if test plan (Wake w b) = []
-block_if test plan (End w b) = []
-block_if test plan (Deliver w s) = []
-block_if test plan (DeliverEnd w s) = []
-block_if test plan (Tick t) = []
-block_if test plan (Ready s n) = []
-block_if test plan (FeedEnd s) = []
-block_if test plan (Misuse w run i c) = []
-block_if test plan Halt = []
+-- the wait that the event after past begins, where its act passes the test: the position of the act, and its block
+abbrev pub wait_if : (Option Act → Bool) → PlanView → List Event → Event → List (ℕ × Blk)
+wait_if test plan past (Start w b) = []
+wait_if test plan past (Acted w (Block b) i) = if test (act_at plan (Block b) i) then (length past, b) ∷ [] else []
+wait_if test plan past (Acted w (Source s) i) = []
+wait_if test plan past (Wake w b) = []
+wait_if test plan past (End w b) = []
+wait_if test plan past (Deliver w s) = []
+wait_if test plan past (DeliverEnd w s) = []
+wait_if test plan past (Tick t) = []
+wait_if test plan past (Ready s n) = []
+wait_if test plan past (FeedEnd s) = []
+wait_if test plan past (Misuse w run i c) = []
+wait_if test plan past Halt = []
+wait_if test plan past (Expire b) = []
 
--- the blocks that waited for semaphore s, by the rank of the wait, from 1
-abbrev pub waiters : PlanView → List Event → ℕ → List Blk
-waiters plan [] s = []
-waiters plan (e ∷ past) s = waiters plan past s ++ block_if (waits s) plan e
+-- the blocks of these waits that have not expired
+abbrev pub unexpired_blocks : List Event → List (ℕ × Blk) → List Blk
+unexpired_blocks past waits = map (λ w. w.1) (filter (λ w. not (has_expired past w.0)) waits)
 
--- those of them whose wait does not pass yet
+-- the waits on semaphore s, by their rank, from 1
+abbrev pub sema_waits : PlanView → List Event → ℕ → List (ℕ × Blk)
+sema_waits plan [] s = []
+sema_waits plan (e ∷ past) s = sema_waits plan past s ++ wait_if (waits s) plan past e
+
+-- the blocks whose wait on semaphore s has neither passed nor expired
 abbrev pub sema_sleepers : PlanView → List Event → ℕ → List Blk
-sema_sleepers plan past s = drop (first_value plan s + signal_count plan past s) (waiters plan past s)
+sema_sleepers plan past s = drop (first_value plan s + signal_count plan past s) (unexpired_blocks past (sema_waits plan past s))
 
--- the blocks that wait for group g since it was empty last
+-- the waits for group g since it was empty last
+abbrev pub group_waits : PlanView → List Event → ℕ → List (ℕ × Blk)
+group_waits plan [] g = []
+group_waits plan (e ∷ past) g =
+    if count plan (e ∷ past) g == 0 then [] else group_waits plan past g ++ wait_if (waits_for_group g) plan past e
+
+-- the blocks whose wait for group g has neither passed nor expired
 abbrev pub group_sleepers : PlanView → List Event → ℕ → List Blk
-group_sleepers plan [] g = []
-group_sleepers plan (e ∷ past) g =
-    if count plan (e ∷ past) g == 0 then [] else group_sleepers plan past g ++ block_if (waits_for_group g) plan e
+group_sleepers plan past g = unexpired_blocks past (group_waits plan past g)
+
+-- the limit, where it is above this time
+abbrev pub if_ahead : (now limit : ℕ) → Option ℕ
+if_ahead now end = if nat_lt now end then Some end else None
+
+-- the limit of block b's wait, where the wait is not over and the limit is ahead
+abbrev pub limit_ahead : PlanView → List Event → ℕ → Option ℕ
+limit_ahead plan past b = if may_wake plan past b then None else option_and_then (if_ahead (now past)) (limit plan past b)
+
+-- the wait of block b may expire: it is not over, and its limit has come
+abbrev pub may_expire : PlanView → List Event → ℕ → Bool
+may_expire plan past b = is_at_limit plan past b && not (may_wake plan past b)

@@ -1,22 +1,22 @@
 -- What an event submits, empties and wakes, told by the view that stands before it.
-use Rattle.std.specs.Prelude.{◌+◌, ◌==◌, false, if◌then◌else◌, List, [], ◌∷◌, ◌++◌, map, take, Option, Some, None, option_to_list}
+use Rattle.std.specs.Prelude.{◌==◌, false, if◌then◌else◌, List, [], ◌∷◌, ◌++◌, map, take, Option, Some, None, option_to_list}
 use Rattle.std.specs.Option.{option_map_or}
 use Rattle.gcd_plan.specs.PlanView.{PlanView, cancel_block}
 use Rattle.gcd_plan.specs.declared.act.Act.{Act}
-use Rattle.gcd_plan.specs.declared.act.Act.TheVariants.{Async, Barrier, Sync, BarrierSync, GroupAsync, Notify, Enter, Leave, GroupWait, Signal, Wait, Suspend, Resume, Activate, Target, Merge, Cancel, Retain, Release}
+use Rattle.gcd_plan.specs.declared.act.Act.TheVariants.{Async, Barrier, Sync, BarrierSync, GroupAsync, Notify, Enter, Leave, GroupWait, GroupWaitFor, Signal, Wait, WaitFor, Suspend, Resume, Activate, Target, Merge, Cancel, Retain, Release}
 use Rattle.gcd_plan.specs.declared.numbers.Blk.{Blk}
 use Rattle.gcd_plan.specs.declared.numbers.Obj.{Obj}
 use Rattle.gcd_plan.specs.declared.numbers.Run.{Run}
 use Rattle.gcd_plan.specs.declared.numbers.Run.TheVariants.{Block, Source}
 use Rattle.gcd_event.specs.declared.event.Event.{Event}
-use Rattle.gcd_event.specs.declared.event.Event.TheVariants.{Start, Act as Acted, Wake, End, Deliver, DeliverEnd, Tick, Ready, FeedEnd, Misuse, Halt}
+use Rattle.gcd_event.specs.declared.event.Event.TheVariants.{Start, Act as Acted, Wake, End, Deliver, DeliverEnd, Tick, Ready, FeedEnd, Misuse, Halt, Expire}
 use Rattle.gcd_history.specs.declared.submission.Submission.{Submission}
 use Rattle.gcd_history.specs.Runs.{act_at, act_of}
 use Rattle.gcd_history.specs.Submitted.{on_node, submitted_by, cancels}
 use Rattle.gcd_lists.specs.ListsView.{list_at}
 use Rattle.gcd_hold.specs.HoldsView.{hold_at, is_active_at}
 use Rattle.gcd_group.specs.GroupsView.{count_at}
-use Rattle.gcd_sema.specs.SemasView.{waits_at, is_passed_at}
+use Rattle.gcd_sema.specs.SemasView.{has_value_at}
 use Rattle.gcd_source.specs.SourcesView.{is_cancelled_at}
 use Rattle.gcd_refinement.specs.MachineView.{MachineView, block_at}
 use Rattle.gcd_refinement.specs.Ties.{told}
@@ -35,8 +35,10 @@ left_by (Some (Notify g q b)) = None
 left_by (Some (Enter g)) = None
 left_by (Some (Leave g)) = Some g
 left_by (Some (GroupWait g)) = None
+left_by (Some (GroupWaitFor g ms)) = None
 left_by (Some (Signal s)) = None
 left_by (Some (Wait s)) = None
+left_by (Some (WaitFor s ms)) = None
 left_by (Some (Suspend o)) = None
 left_by (Some (Resume o)) = None
 left_by (Some (Activate o)) = None
@@ -59,6 +61,7 @@ lessened plan v (Ready s n) = None
 lessened plan v (FeedEnd s) = None
 lessened plan v (Misuse w run i c) = None
 lessened plan v Halt = None
+lessened plan v (Expire b) = None
 
 -- the group, where it counts just one
 abbrev pub last_of : MachineView → Option Obj → Option Obj
@@ -94,8 +97,10 @@ at_notify v (Some (Notify g q b)) = if count_at v.groups g.0 == 0 then on_node q
 at_notify v (Some (Enter g)) = []
 at_notify v (Some (Leave g)) = []
 at_notify v (Some (GroupWait g)) = []
+at_notify v (Some (GroupWaitFor g ms)) = []
 at_notify v (Some (Signal s)) = []
 at_notify v (Some (Wait s)) = []
+at_notify v (Some (WaitFor s ms)) = []
 at_notify v (Some (Suspend o)) = []
 at_notify v (Some (Resume o)) = []
 at_notify v (Some (Activate o)) = []
@@ -131,8 +136,10 @@ activated_by v (Some (Notify g q b)) = None
 activated_by v (Some (Enter g)) = None
 activated_by v (Some (Leave g)) = None
 activated_by v (Some (GroupWait g)) = None
+activated_by v (Some (GroupWaitFor g ms)) = None
 activated_by v (Some (Signal s)) = None
 activated_by v (Some (Wait s)) = None
+activated_by v (Some (WaitFor s ms)) = None
 activated_by v (Some (Suspend o)) = None
 activated_by v (Some (Resume o)) = if hold_at v.holds o.0 == 0 then if_inactive v o else None
 activated_by v (Some (Activate o)) = if_inactive v o
@@ -166,8 +173,10 @@ come_at_once v b (Some (Notify g q c)) = []
 come_at_once v b (Some (Enter g)) = []
 come_at_once v b (Some (Leave g)) = []
 come_at_once v b (Some (GroupWait g)) = if count_at v.groups g.0 == 0 then b ∷ [] else []
+come_at_once v b (Some (GroupWaitFor g ms)) = if count_at v.groups g.0 == 0 then b ∷ [] else []
 come_at_once v b (Some (Signal s)) = []
-come_at_once v b (Some (Wait s)) = if is_passed_at v.semas s.0 (waits_at v.semas s.0 + 1) then b ∷ [] else []
+come_at_once v b (Some (Wait s)) = if has_value_at v.semas s.0 then b ∷ [] else []
+come_at_once v b (Some (WaitFor s ms)) = if has_value_at v.semas s.0 then b ∷ [] else []
 come_at_once v b (Some (Suspend o)) = []
 come_at_once v b (Some (Resume o)) = []
 come_at_once v b (Some (Activate o)) = []
@@ -193,8 +202,10 @@ signalled v (Some (Notify g q b)) = []
 signalled v (Some (Enter g)) = []
 signalled v (Some (Leave g)) = []
 signalled v (Some (GroupWait g)) = []
+signalled v (Some (GroupWaitFor g ms)) = []
 signalled v (Some (Signal s)) = take 1 (sleepers_at v (Some s))
 signalled v (Some (Wait s)) = []
+signalled v (Some (WaitFor s ms)) = []
 signalled v (Some (Suspend o)) = []
 signalled v (Some (Resume o)) = []
 signalled v (Some (Activate o)) = []
@@ -220,3 +231,4 @@ come_by plan v (Ready s n) = []
 come_by plan v (FeedEnd s) = []
 come_by plan v (Misuse w run i c) = []
 come_by plan v Halt = []
+come_by plan v (Expire b) = b ∷ []

@@ -13,9 +13,11 @@ use Rattle.gcd_history.specs.Groups.{enters, leaves, count, is_empty_above}
 use Rattle.gcd_history.specs.Submitted.{submitted, submission_of, is_cancelled, notify_blocks}
 use Rattle.gcd_history.specs.Tree.{Aim, aim, open_on}
 use Rattle.gcd_history.specs.Holds.{hold, is_active}
-use Rattle.gcd_history.specs.Semas.{signal_count, wait_count}
-use Rattle.gcd_history.specs.Parked.{awaited, running, has_run, may_wake}
+use Rattle.gcd_history.specs.Semas as semas
+use Rattle.gcd_history.specs.Parked.{awaited, running, has_run, may_wake, has_run_out}
+use Rattle.gcd_history.specs.Expired.{has_expired}
 use Rattle.gcd_history.specs.Timers as timers
+use Rattle.gcd_history.specs.Due.{limit}
 use Rattle.gcd_history.specs.Sources.{pending, last_data, is_live_feed}
 use Rattle.gcd_history.specs.Misuses.{retains, releases}
 use Rattle.gcd_history.specs.Permitted.{waits_on, first_waiting, is_barrier_on, ends_in_misuse, ends_in_halt}
@@ -24,12 +26,12 @@ use Rattle.gcd_tree.specs.TreeView.{TreeView, target_at, request_at, open_on_at}
 use Rattle.gcd_hold.specs.HoldsView.{hold_at, is_active_at}
 use Rattle.gcd_drain.specs.DrainsView.{barriers_at}
 use Rattle.gcd_group.specs.GroupsView.{count_at, entered_at, emptied_at, due_at, is_empty_since}
-use Rattle.gcd_sema.specs.SemasView.{signals_at, waits_at}
-use Rattle.gcd_sync.specs.WaitsView.{reason_at}
+use Rattle.gcd_sema.specs.SemasView.{signals_at, expiries_at}
+use Rattle.gcd_sync.specs.WaitsView.{reason_at, limit_at, has_expired_at}
 use Rattle.gcd_source.specs.SourcesView.{pending_at, is_cancelled_at}
 use Rattle.gcd_timer.specs.TimersView.{activated_at, cancelled_at, due_count_at}
-use Rattle.gcd_refinement.specs.MachineView.{MachineView, block_at, ended_at, is_wakeable_at, handler_at, busy_at, at_worker, refs_at, live_at}
-use Rattle.gcd_refinement.specs.Sleepers.{group_of, caller_of, sema_sleepers, group_sleepers}
+use Rattle.gcd_refinement.specs.MachineView.{MachineView, block_at, ended_at, is_wakeable_at, ahead_at, is_ripe_at, handler_at, busy_at, at_worker, refs_at, live_at}
+use Rattle.gcd_refinement.specs.Sleepers.{group_of, caller_of, sema_sleepers, group_sleepers, limit_ahead, may_expire}
 
 -- ## The parts
 
@@ -78,14 +80,16 @@ pub record GroupsAre (plan : PlanView) (past : List Event) (v : MachineView) : T
   pub notify : (g : ℕ) → map (told v) (list_at v.groups.notify g) ≡ notify_blocks plan past g
   pub fired : (g : ℕ) → due_at v.groups g ≡ 0
 
--- signals and waits
+-- signals, and of each wait whether it has expired
 pub record SemasAre (plan : PlanView) (past : List Event) (v : MachineView) : Type 0 where
-  pub signals : (s : ℕ) → signals_at v.semas s ≡ signal_count plan past s
-  pub waits : (s : ℕ) → waits_at v.semas s ≡ wait_count plan past s
+  pub signals : (s : ℕ) → signals_at v.semas s ≡ semas.signal_count plan past s
+  pub waits : (s : ℕ) → expiries_at v.semas s ≡ map (has_expired past) (semas.waits_on plan past s)
 
--- what each block is parked for
+-- what each block is parked for, the limit of its wait, and whether this has expired
 pub record WaitsAre (plan : PlanView) (past : List Event) (v : MachineView) : Type 0 where
   pub reasons : (b : ℕ) → reason_at v.waits b ≡ awaited plan past (Block (record { 0 = b }))
+  pub limits : (b : ℕ) → limit_at v.waits b ≡ limit plan past b
+  pub expired : (b : ℕ) → has_expired_at v.waits b ≡ option_map_or (has_run_out plan past) (awaited plan past (Block (record { 0 = b }))) false
 
 -- cancelled sources, and what is pending: of a timer the due times that no delivery took; of the others none are due, so that
 -- none are taken
@@ -127,10 +131,16 @@ pub record HandlersAre (plan : PlanView) (past : List Event) (v : MachineView) :
   pub done : (s : ℕ) → (handler_at v s).done ≡ acts_done past (Source (record { 0 = s }))
   pub given : (s : ℕ) → (handler_at v s).given ≡ last_data plan past s
 
--- which parked blocks may wake, and which sleep: a list has blocks of a semaphore or of a group, since no object is both
+-- which parked blocks may wake, and which sleep, their wait neither passed nor expired: a list has blocks of a semaphore or of a
+-- group, since no object is both
 pub record WakesAre (plan : PlanView) (past : List Event) (v : MachineView) : Type 0 where
   pub wakeable : (b : ℕ) → is_wakeable_at v b ≡ may_wake plan past b
   pub of_sema : (s : ℕ) → map (λ w. w.0) (list_at v.sleepers s) ≡ sema_sleepers plan past s ++ group_sleepers plan past s
+
+-- which limits are ahead, and which waits may expire
+pub record LimitsAre (plan : PlanView) (past : List Event) (v : MachineView) : Type 0 where
+  pub ahead : (b : ℕ) → ahead_at v b ≡ limit_ahead plan past b
+  pub ripe : (b : ℕ) → is_ripe_at v b ≡ may_expire plan past b
 
 -- an object that has not to be looked at: nothing waits there, and nothing is pending
 pub record IsIdleObject (plan : PlanView) (past : List Event) (o : ℕ) : Type 0 where
