@@ -1,12 +1,14 @@
 -- What an act asks: its effect may be had, its block may be parked, and its run may count it.
-use Rattle.std.proofs.Common.{◌≡◌, ℕ, ◌+◌, ◌^◌, ◌<◌, ◌==◌, ltb, Bool, true, false, not, ◌&&◌, cond, List, [], ◌∷◌, length, Some, None, is_none, refl, ap, sym, ◌∙◌, arith, eq-eqb, ne_eqb}
+use Rattle.std.proofs.Common.{◌≡◌, ℕ, ◌+◌, ◌^◌, ◌<◌, ◌==◌, ltb, ◌≤◌, Bool, true, false, not, ◌&&◌, cond, List, [], ◌∷◌, length, ◌++◌, min, Option, Some, None, is_none, refl, ap, sym, ◌∙◌, subst, arith, eq-eqb, ne_eqb}
 use Rattle.std.specs.List.{list_any}
 use Rattle.std.proofs.lemmas.Bool.{and_parts, ltb-true, leb-true, or_parts, both_ways}
+use Rattle.std.proofs.lemmas.List.{get_or-set_same, length-append}
+use Rattle.std.proofs.lemmas.Option.{same_Some}
 use Rattle.gcd_plan.specs.PlanView.{PlanView}
 use Rattle.gcd_plan.specs.Kinds.{has_kind, is_queue, is_queue_kind, is_node_kind, is_source_kind, is_merge_kind, is_group_kind, is_semaphore_kind}
 use Rattle.gcd_plan.specs.Validity.{is_act, is_submittable, is_held_object}
 use Rattle.gcd_plan.specs.declared.act.Act.{Act}
-use Rattle.gcd_plan.specs.declared.act.Act.TheVariants.{Async, Barrier, Sync, BarrierSync, GroupAsync, Notify, Enter, Leave, GroupWait, Signal, Wait, Suspend, Resume, Activate, Target, Merge, Cancel, Retain, Release}
+use Rattle.gcd_plan.specs.declared.act.Act.TheVariants.{Async, Barrier, Sync, BarrierSync, GroupAsync, Notify, Enter, Leave, GroupWait, GroupWaitFor, Signal, Wait, WaitFor, Suspend, Resume, Activate, Target, Merge, Cancel, Retain, Release}
 use Rattle.gcd_plan.specs.declared.numbers.Blk.{Blk}
 use Rattle.gcd_plan.specs.declared.numbers.Obj.{Obj}
 use Rattle.gcd_plan.specs.declared.numbers.Run.{Run}
@@ -26,15 +28,19 @@ use Rattle.gcd_history.proofs.OpenNodes.{any_open}
 use Rattle.gcd_history.proofs.Reasons.{allowed, at_act}
 use Rattle.gcd_history.proofs.StartedOnce.{open_from_has_run}
 use Rattle.gcd_history.proofs.SubmittedOnNodes.{recorded_fits}
-use Rattle.gcd_sema.specs.SemasView.{waits_at}
+use Rattle.gcd_sema.specs.SemasView.{waits_at, room_at, expiries_at, with_wait}
 use Rattle.gcd_sync.specs.WaitsView.{Fits}
 use Rattle.gcd_refinement.specs.MachineView.{MachineView, refs_at}
+use Rattle.gcd_refinement.specs.After.{semas_by, after}
+use Rattle.gcd_refinement.specs.AfterLimits.{limit_in_view}
 use Rattle.gcd_refinement.specs.Stands.{IsTied}
 use Rattle.gcd_refinement.proofs.Proper.{proper, proper_parts}
 use Rattle.gcd_refinement.proofs.StepWaits.{unparked}
-use Rattle.gcd_machine.specs.Conditions.{CanSetFree, CanPark, CanLayDown, CanSubmit, CanSignal, CanRetain, CanRelease, CanHaveEffect, CanCall, CanWaitForGroup, CanWaitForSemaphore, CanParkBy, CanParkIn, CanCount, CanAct}
+use Rattle.gcd_refinement.proofs.LimitRoom.{room_of_limit}
+use Rattle.gcd_refinement.proofs.Tied.{tied_step}
+use Rattle.gcd_machine.specs.Conditions.{CanKeepLimit, CanBeAhead, CanSetFree, CanPark, CanLayDown, CanSubmit, CanSignal, CanRetain, CanRelease, CanHaveEffect, CanCall, CanWaitForGroup, CanWaitForSemaphore, CanParkBy, CanParkIn, CanCount, CanAct}
 use Rattle.gcd_machine.proofs.NewBlocks.{unsubmitted, by_act, by_notify, nowhere}
-use Rattle.gcd_machine.proofs.GroupConditions.{can_submit, can_wake_at, position_low, can_enter, can_submit_member, can_leave_by_act, can_register}
+use Rattle.gcd_machine.proofs.GroupConditions.{can_let_go, can_submit, can_wake_at, position_low, can_enter, can_submit_member, can_leave_by_act, can_register}
 use Rattle.gcd_machine.proofs.ActivityConditions.{can_activate, can_resume, can_suspend, can_cancel, can_merge}
 use Rattle.gcd_machine.proofs.TargetConditions.{can_target}
 use Rattle.gcd_plan.specs.Limits.{max_workers, max_value}
@@ -82,8 +88,8 @@ module _ (past : List Event) (m : MachineView) (t : IsTied m.plan past m) (room 
 
   -- ## Waits
 
-  can_park : (w : ℕ) (b : Blk) (why : Reason) → CanSetFree m w → b.0 < length m.plan.blocks → Fits m.waits why → CanPark m w b why
-  can_park w b why worker low fits = let long = t.parts.reasons in record { worker = worker; blk = omega (arith, low, long); fits = fits }
+  can_park : (w : ℕ) (b : Blk) (why : Reason) (limit : Option ℕ) → CanSetFree m w → b.0 < length m.plan.blocks → Fits m.waits why → ((end : ℕ) → limit ≡ Some end → CanKeepLimit m b end) → CanPark m w b why limit
+  can_park w b why limit worker low fits keeps = let long = t.parts.reasons in record { worker = worker; blk = omega (arith, low, long); fits = fits; keeps = keeps }
 
   can_lay_down : (o : Obj) (b : Blk) (w : ℕ) → has_run m.plan past w (Block b) ≡ true → o.0 < length m.plan.objects → b.0 < length m.plan.blocks → CanLayDown m o b
   can_lay_down o b w own object block =
@@ -95,48 +101,85 @@ module _ (past : List Event) (m : MachineView) (t : IsTied m.plan past m) (room 
         awake = t.places.awake b.0 (t.waits.reasons b.0 ∙ awake_now m.plan past (Block b) (unparked m.plan past w (Block b) own));
       }
 
+  -- a limit is no later than the last due time
+  short_limit : (act : Act) (end : ℕ) → limit_in_view m (Some act) ≡ Some end → end + 1 < 2 ^ 32
+  short_limit (GroupWaitFor g ms) end is = let high = t.valid.until_high in let same = same_Some (min (m.timers.moment + ms) m.plan.until) end is in omega (arith, high, same)
+  short_limit (WaitFor s ms) end is = let high = t.valid.until_high in let same = same_Some (min (m.timers.moment + ms) m.plan.until) end is in omega (arith, high, same)
+  short_limit act end is = cc
+
+  -- limits are kept where an act of the plan has one
+  can_keep : (b : Blk) (i : ℕ) (act : Act) → act_at m.plan (Block b) i ≡ Some act → b.0 < length m.plan.blocks → (end : ℕ) → limit_in_view m (Some act) ≡ Some end → CanKeepLimit m b end
+  can_keep b i act at block end is =
+      let limits = t.parts.limits in
+      let all = room_of_limit m.plan m b i end (ap (limit_in_view m) at ∙ is) in
+      record { kept = omega (arith, block, limits, all); short = short_limit act end is }
+
+  can_be_ahead : (b : Blk) (i : ℕ) (act : Act) → act_at m.plan (Block b) i ≡ Some act → b.0 < length m.plan.blocks → (end : ℕ) → limit_in_view m (Some act) ≡ Some end → CanBeAhead m b end
+  can_be_ahead b i act at block end is =
+      let ahead = t.own.ahead in
+      let all = room_of_limit m.plan m b i end (ap (limit_in_view m) at ∙ is) in
+      record { kept = omega (arith, block, ahead, all); short = short_limit act end is }
+
   can_call : (w : ℕ) (b c : Blk) → CanSetFree m w → b.0 < length m.plan.blocks → c.0 < length m.plan.blocks → CanCall m w b c
   can_call w b c worker block called =
       let long = t.own.blocks in
       let reasons = t.parts.reasons in
-      record { called = omega (arith, called, long); parks = can_park w b (EndOf c) worker block (omega (arith, called, reasons)) }
+      record { called = omega (arith, called, long); parks = can_park w b (EndOf c) None worker block (omega (arith, called, reasons)) (λ end is. cc) }
 
-  can_wait_for_group : (w : ℕ) (b : Blk) (g : Obj) → has_run m.plan past w (Block b) ≡ true → CanSetFree m w → b.0 < length m.plan.blocks → g.0 < length m.plan.objects → CanWaitForGroup m w b g
-  can_wait_for_group w b g own worker block group =
+  can_wait_for_group : (w : ℕ) (b : Blk) (i : ℕ) (act : Act) (g : Obj) → act_at m.plan (Block b) i ≡ Some act → has_run m.plan past w (Block b) ≡ true → CanSetFree m w → b.0 < length m.plan.blocks → g.0 < length m.plan.objects
+      → CanWaitForGroup m w b g (limit_in_view m (Some act))
+  can_wait_for_group w b i act g at own worker block group =
       let counts = t.parts.counts in
-      let wakeable = t.own.wakeable in
       let objects = t.parts.wait_objects in
       record {
         group = omega (arith, group, counts);
-        wakeable = omega (arith, block, wakeable);
+        over = can_let_go past m t room b block;
         sleeps = can_lay_down g b w own group block;
-        parks = can_park w b (Empty g m.len) worker block (omega (arith, group, objects), position_low past m t room);
+        ahead = can_be_ahead b i act at block;
+        parks = can_park w b (Empty g m.len) (limit_in_view m (Some act)) worker block (omega (arith, group, objects), position_low past m t room) (can_keep b i act at block);
       }
 
-  can_wait_for_semaphore : (w : ℕ) (b : Blk) (s : Obj) → has_run m.plan past w (Block b) ≡ true → CanSetFree m w → b.0 < length m.plan.blocks → s.0 < length m.plan.objects → CanWaitForSemaphore m w b s
-  can_wait_for_semaphore w b s own worker block semaphore =
+  -- the plan has room for each wait that its acts begin
+  has_room : (e : Event) (s : Obj) → IsLawful m.plan (e ∷ past) → (after m.plan m e).semas ≡ with_wait m.semas s.0 → s.0 < length m.plan.objects → waits_at m.semas s.0 < room_at m.semas s.0
+  has_room e s lawful is low =
+      let long = t.parts.waits in
+      let now : waits_at (with_wait m.semas s.0) s.0 ≤ room_at m.semas s.0 = subst (λ v. waits_at v s.0 ≤ room_at v s.0) is ((tied_step m.plan past e m lawful t).small.waits s.0) in
+      let one_more = ap length (get_or-set_same m.semas.waits s.0 (expiries_at m.semas s.0 ++ false ∷ []) [] (omega (arith, low, long))) in
+      let split = length-append (expiries_at m.semas s.0) (false ∷ []) in
+      omega (arith, now, one_more, split)
+
+  can_wait_for_semaphore : (w : ℕ) (b : Blk) (i : ℕ) (act : Act) (s : Obj) → act_at m.plan (Block b) i ≡ Some act → has_run m.plan past w (Block b) ≡ true → CanSetFree m w → b.0 < length m.plan.blocks → s.0 < length m.plan.objects → waits_at m.semas s.0 < room_at m.semas s.0
+      → CanWaitForSemaphore m w b s (limit_in_view m (Some act))
+  can_wait_for_semaphore w b i act s at own worker block semaphore has =
       let waits = t.parts.waits in
-      let few = t.small.waits s.0 in
-      let wakeable = t.own.wakeable in
       let objects = t.parts.wait_objects in
       record {
         semaphore = omega (arith, semaphore, waits);
-        room = omega (arith, few, room);
-        wakeable = omega (arith, block, wakeable);
+        room = has;
+        over = can_let_go past m t room b block;
         sleeps = can_lay_down s b w own semaphore block;
-        parks = can_park w b (Rank s (waits_at m.semas s.0 + 1)) worker block (omega (arith, semaphore, objects));
+        ahead = can_be_ahead b i act at block;
+        parks = can_park w b (Rank s (waits_at m.semas s.0 + 1)) (limit_in_view m (Some act)) worker block (omega (arith, semaphore, objects), omega arith) (can_keep b i act at block);
       }
 
-  can_park_by : (w : ℕ) (b : Blk) (act : Act) → has_run m.plan past w (Block b) ≡ true → CanSetFree m w → b.0 < length m.plan.blocks → is_act m.plan act ≡ true → CanParkBy m w b act
-  can_park_by w b (Sync q c) own worker block fits = can_call w b c worker block (submittable_within m.plan c (and_parts (is_queue m.plan q.0) _ fits).1)
-  can_park_by w b (BarrierSync q c) own worker block fits = can_call w b c worker block (submittable_within m.plan c (and_parts (is_queue m.plan q.0) _ fits).1)
-  can_park_by w b (GroupWait g) own worker block fits = can_wait_for_group w b g own worker block (has_object is_group_kind m.plan g.0 fits)
-  can_park_by w b (Wait s) own worker block fits = can_wait_for_semaphore w b s own worker block (has_object is_semaphore_kind m.plan s.0 fits)
-  can_park_by w b act own worker block fits = tt
+  can_park_by : (w : ℕ) (b : Blk) (i : ℕ) (act : Act) → IsLawful m.plan (Acted w (Block b) i ∷ past) → act_at m.plan (Block b) i ≡ Some act → has_run m.plan past w (Block b) ≡ true → CanSetFree m w → b.0 < length m.plan.blocks → is_act m.plan act ≡ true
+      → CanParkBy m w b act
+  can_park_by w b i (Sync q c) lawful at own worker block fits = can_call w b c worker block (submittable_within m.plan c (and_parts (is_queue m.plan q.0) _ fits).1)
+  can_park_by w b i (BarrierSync q c) lawful at own worker block fits = can_call w b c worker block (submittable_within m.plan c (and_parts (is_queue m.plan q.0) _ fits).1)
+  can_park_by w b i (GroupWait g) lawful at own worker block fits = can_wait_for_group w b i (GroupWait g) g at own worker block (has_object is_group_kind m.plan g.0 fits)
+  can_park_by w b i (GroupWaitFor g ms) lawful at own worker block fits =
+      can_wait_for_group w b i (GroupWaitFor g ms) g at own worker block (has_object is_group_kind m.plan g.0 (and_parts (has_kind is_group_kind m.plan g.0) _ fits).0)
+  can_park_by w b i (Wait s) lawful at own worker block fits =
+      let low = has_object is_semaphore_kind m.plan s.0 fits in
+      can_wait_for_semaphore w b i (Wait s) s at own worker block low (has_room (Acted w (Block b) i) s lawful (ap (semas_by m.semas) at) low)
+  can_park_by w b i (WaitFor s ms) lawful at own worker block fits =
+      let low = has_object is_semaphore_kind m.plan s.0 (and_parts (has_kind is_semaphore_kind m.plan s.0) _ fits).0 in
+      can_wait_for_semaphore w b i (WaitFor s ms) s at own worker block low (has_room (Acted w (Block b) i) s lawful (ap (semas_by m.semas) at) low)
+  can_park_by w b i act lawful at own worker block fits = tt
 
-  can_park_in : (w : ℕ) (run : Run) (act : Act) → has_run m.plan past w run ≡ true → CanSetFree m w → is_run_of m.plan run ≡ true → is_act m.plan act ≡ true → CanParkIn m w run act
-  can_park_in w (Block b) act own worker of fits = can_park_by w b act own worker (ltb-true b.0 (length m.plan.blocks) of) fits
-  can_park_in w (Source s) act own worker of fits = tt
+  can_park_in : (w : ℕ) (run : Run) (i : ℕ) (act : Act) → IsLawful m.plan (Acted w run i ∷ past) → act_at m.plan run i ≡ Some act → has_run m.plan past w run ≡ true → CanSetFree m w → is_run_of m.plan run ≡ true → is_act m.plan act ≡ true → CanParkIn m w run act
+  can_park_in w (Block b) i act lawful at own worker of fits = can_park_by w b i act lawful at own worker (ltb-true b.0 (length m.plan.blocks) of) fits
+  can_park_in w (Source s) i act lawful at own worker of fits = tt
 
   -- ## References and semaphores
 
@@ -200,8 +243,10 @@ module _ (past : List Event) (m : MachineView) (t : IsTied m.plan past m) (room 
   have_effect w run i (Enter g) lawful at fits = can_enter past m t room g (has_object is_group_kind m.plan g.0 fits)
   have_effect w run i (Leave g) lawful at fits = can_leave_by_act past m t room (Acted w run i) g lawful at (has_object is_group_kind m.plan g.0 fits)
   have_effect w run i (GroupWait g) lawful at fits = tt
+  have_effect w run i (GroupWaitFor g ms) lawful at fits = tt
   have_effect w run i (Signal s) lawful at fits = can_signal s (has_object is_semaphore_kind m.plan s.0 fits)
   have_effect w run i (Wait s) lawful at fits = tt
+  have_effect w run i (WaitFor s ms) lawful at fits = tt
   have_effect w run i (Suspend o) lawful at fits = can_suspend past m t room o (held_low o fits)
   have_effect w run i (Resume o) lawful at fits = can_resume past m t room (Acted w run i) o lawful at (held_low o fits)
   have_effect w run i (Activate o) lawful at fits = can_activate past m t room o (held_low o fits)
@@ -225,7 +270,7 @@ module _ (past : List Event) (m : MachineView) (t : IsTied m.plan past m) (room 
             let fits = recorded_fits m.plan (Acted w run i) act t.valid at in
             record {
               counts = can_count run of;
-              parks = can_park_in w run act own (can_set_free w run known.0 own) of fits;
+              parks = can_park_in w run i act lawful at own (can_set_free w run known.0 own) of fits;
               effect = have_effect w run i act lawful at fits;
             };
       }

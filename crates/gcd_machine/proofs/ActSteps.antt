@@ -1,10 +1,10 @@
 -- What an act changes: the private steps together make what its event changes. Those that end or tell a group are in
 -- `GroupSteps`.
-use Rattle.std.proofs.Common.{◌≡◌, ℕ, ◌+◌, ◌<◌, ◌==◌, true, false, List, Some, length, refl, ap, ◌∙◌}
+use Rattle.std.proofs.Common.{◌≡◌, ℕ, ◌<◌, ◌==◌, true, false, List, Some, length, refl, ap, ◌∙◌}
 use Rattle.gcd_plan.specs.PlanView.{PlanView}
 use Rattle.gcd_plan.specs.Validity.{is_handler_act}
 use Rattle.gcd_plan.specs.declared.act.Act.{Act}
-use Rattle.gcd_plan.specs.declared.act.Act.TheVariants.{Async, Barrier, Sync, BarrierSync, GroupAsync, Notify, Enter, Leave, GroupWait, Signal, Wait, Suspend, Resume, Activate, Target, Merge, Cancel, Retain, Release}
+use Rattle.gcd_plan.specs.declared.act.Act.TheVariants.{Async, Barrier, Sync, BarrierSync, GroupAsync, Notify, Enter, Leave, GroupWait, GroupWaitFor, Signal, Wait, WaitFor, Suspend, Resume, Activate, Target, Merge, Cancel, Retain, Release}
 use Rattle.gcd_plan.specs.declared.numbers.Blk.{Blk}
 use Rattle.gcd_plan.specs.declared.numbers.Obj.{Obj}
 use Rattle.gcd_plan.specs.declared.numbers.Run.{Run}
@@ -13,7 +13,7 @@ use Rattle.gcd_event.specs.declared.event.Event.{Event}
 use Rattle.gcd_event.specs.declared.event.Event.TheVariants.{Act as Acted}
 use Rattle.gcd_history.specs.Runs.{act_at}
 use Rattle.gcd_group.specs.GroupsView.{count_at}
-use Rattle.gcd_sema.specs.SemasView.{waits_at, is_passed_at}
+use Rattle.gcd_sema.specs.SemasView.{has_value_at}
 use Rattle.gcd_refinement.specs.MachineView.{MachineView}
 use Rattle.gcd_refinement.specs.Ties.{GroupsAre}
 use Rattle.gcd_refinement.specs.After.{after}
@@ -45,13 +45,27 @@ cancel_stepped m w (Source t) i s at =
 
 wait_stepped : (m : MachineView) (w : ℕ) (b : Blk) (i : ℕ) (s : Obj) → act_at m.plan (Block b) i ≡ Some (Wait s) → IsStepped m w (Block b) i
 wait_stepped m w b i s at =
-    elim (is_passed_at m.semas s.0 (waits_at m.semas s.0 + 1)) as (λ t. is_passed_at m.semas s.0 (waits_at m.semas s.0 + 1) ≡ t → IsStepped m w (Block b) i) [
+    elim (has_value_at m.semas s.0) as (λ t. has_value_at m.semas s.0 ≡ t → IsStepped m w (Block b) i) [
+      | true ↦ λ e. rw (at, e) (simp units)
+      | false ↦ λ e. rw (at, e) (simp units)
+    ] refl
+
+limited_wait_stepped : (m : MachineView) (w : ℕ) (b : Blk) (i : ℕ) (s : Obj) (ms : ℕ) → act_at m.plan (Block b) i ≡ Some (WaitFor s ms) → IsStepped m w (Block b) i
+limited_wait_stepped m w b i s ms at =
+    elim (has_value_at m.semas s.0) as (λ t. has_value_at m.semas s.0 ≡ t → IsStepped m w (Block b) i) [
       | true ↦ λ e. rw (at, e) (simp units)
       | false ↦ λ e. rw (at, e) (simp units)
     ] refl
 
 group_wait_stepped : (m : MachineView) (w : ℕ) (b : Blk) (i : ℕ) (g : Obj) → act_at m.plan (Block b) i ≡ Some (GroupWait g) → IsStepped m w (Block b) i
 group_wait_stepped m w b i g at =
+    elim (count_at m.groups g.0 == 0) as (λ t. (count_at m.groups g.0 == 0) ≡ t → IsStepped m w (Block b) i) [
+      | true ↦ λ e. rw (at, e) (simp units)
+      | false ↦ λ e. rw (at, e) (simp units)
+    ] refl
+
+limited_group_wait_stepped : (m : MachineView) (w : ℕ) (b : Blk) (i : ℕ) (g : Obj) (ms : ℕ) → act_at m.plan (Block b) i ≡ Some (GroupWaitFor g ms) → IsStepped m w (Block b) i
+limited_group_wait_stepped m w b i g ms at =
     elim (count_at m.groups g.0 == 0) as (λ t. (count_at m.groups g.0 == 0) ≡ t → IsStepped m w (Block b) i) [
       | true ↦ λ e. rw (at, e) (simp units)
       | false ↦ λ e. rw (at, e) (simp units)
@@ -74,7 +88,9 @@ block_stepped plan past m w b i (Notify g q c) groups low at =
 block_stepped plan past m w b i (Enter g) groups low at = rw at (simp units)
 block_stepped plan past m w b i (Leave g) groups low at = leave_stepped plan past m w (Block b) i g groups (low.leave g refl) at
 block_stepped plan past m w b i (GroupWait g) groups low at = group_wait_stepped m w b i g at
+block_stepped plan past m w b i (GroupWaitFor g ms) groups low at = limited_group_wait_stepped m w b i g ms at
 block_stepped plan past m w b i (Wait s) groups low at = wait_stepped m w b i s at
+block_stepped plan past m w b i (WaitFor s ms) groups low at = limited_wait_stepped m w b i s ms at
 block_stepped plan past m w b i (Signal s) groups low at = rw at (simp units)
 block_stepped plan past m w b i (Suspend o) groups low at = rw at (simp units)
 block_stepped plan past m w b i (Resume o) groups low at = resume_stepped m w (Block b) i o at

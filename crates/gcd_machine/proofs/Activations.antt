@@ -14,7 +14,8 @@ use Rattle.gcd_hold.specs.HoldsView.{hold_at, is_active_at, with_active}
 use Rattle.gcd_source.specs.SourcesView.{SourcesView, is_cancelled_at}
 use Rattle.gcd_refinement.specs.MachineView.{MachineView}
 use Rattle.gcd_refinement.specs.Submits.{at_cancel, if_inactive, activated_by, newly_cancelled}
-use Rattle.gcd_refinement.specs.After.{pushed, noted, marked, source_cancelled, timer_cancelled, holds_by, activated as timer_activated, live_begun, live_ended}
+use Rattle.gcd_refinement.specs.After.{pushed, noted, marked, source_cancelled, timer_cancelled, holds_by, activated as timer_activated}
+use Rattle.gcd_refinement.specs.AfterTotals.{live_begun, live_ended}
 use Rattle.gcd_machine.specs.Steps.{activated, resumed, cancelled, cancel_submitted}
 
 -- what does not compute at a variable

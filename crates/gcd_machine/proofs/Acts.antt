@@ -1,8 +1,8 @@
 -- The conditions of an act stand once it is counted and its run is parked.
-use Rattle.std.proofs.Common.{◌≡◌, ℕ, ◌+◌, List, length, get_or, set, refl, ap, sym, ◌∙◌, subst, arith}
+use Rattle.std.proofs.Common.{◌≡◌, ℕ, ◌+◌, List, Option, length, get_or, set, refl, ap, sym, ◌∙◌, subst, arith}
 use Rattle.std.proofs.lemmas.List.{length-set}
 use Rattle.gcd_plan.specs.declared.act.Act.{Act}
-use Rattle.gcd_plan.specs.declared.act.Act.TheVariants.{Async, Barrier, Sync, BarrierSync, GroupAsync, Notify, Enter, Leave, GroupWait, Signal, Wait, Suspend, Resume, Activate, Target, Merge, Cancel, Retain, Release}
+use Rattle.gcd_plan.specs.declared.act.Act.TheVariants.{Async, Barrier, Sync, BarrierSync, GroupAsync, Notify, Enter, Leave, GroupWait, GroupWaitFor, Signal, Wait, WaitFor, Suspend, Resume, Activate, Target, Merge, Cancel, Retain, Release}
 use Rattle.gcd_plan.specs.declared.numbers.Blk.{Blk}
 use Rattle.gcd_plan.specs.declared.numbers.Obj.{Obj}
 use Rattle.gcd_plan.specs.declared.numbers.Run.{Run}
@@ -13,7 +13,7 @@ use Rattle.gcd_refinement.specs.declared.progress.BlockProgress.{BlockProgress}
 use Rattle.gcd_refinement.specs.declared.progress.HandlerProgress.{HandlerProgress}
 use Rattle.gcd_refinement.specs.After.{handled}
 use Rattle.gcd_machine.specs.Steps.{acted, called_by, parked_in}
-use Rattle.gcd_machine.specs.Conditions.{CanPark, CanLayDown, CanWakeAt, CanSubmit, HaveHomes, CanComeEmpty, CanEnter, CanMakeActive, CanMakeCancelled, CanCall, CanHaveEffect, CanParkIn, CanDo}
+use Rattle.gcd_machine.specs.Conditions.{CanPark, CanLayDown, CanWakeAt, CanSubmit, HaveHomes, CanComeEmpty, CanEnter, CanMakeActive, CanMakeCancelled, CanCall, CanWaitForGroup, CanWaitForSemaphore, CanHaveEffect, CanParkIn, CanDo}
 use Rattle.gcd_machine.proofs.Kept.{homes_kept}
 
 -- ## Another record of blocks, as long and with the same homes, and of handlers
@@ -26,7 +26,7 @@ module _ (m : MachineView) (blocks : List BlockProgress) (handlers : List Handle
   submit_noted can = record { node = can.node; listed = can.listed; nowhere = can.nowhere; blk = omega (arith, long, can.blk); marked = can.marked; room = can.room }
 
   wakes_noted : {o : Obj} → CanWakeAt m o → CanWakeAt (with_noted m blocks handlers) o
-  wakes_noted can = record { object = can.object; blocks = can.blocks }
+  wakes_noted can = record { object = can.object; blocks = can.blocks; ripe = can.ripe }
 
   enter_noted : {g : Obj} → CanEnter m g → CanEnter (with_noted m blocks handlers) g
   enter_noted can = record { group = can.group; room = can.room; position = can.position }
@@ -37,11 +37,35 @@ module _ (m : MachineView) (blocks : List BlockProgress) (handlers : List Handle
   cancelled_noted : {s : Obj} → CanMakeCancelled m s → CanMakeCancelled (with_noted m blocks handlers) s
   cancelled_noted can = record { source = can.source; timer = can.timer; never = can.never; known = can.known; live = can.live }
 
-  park_noted : {w : ℕ} {b : Blk} {why : Reason} → CanPark m w b why → CanPark (with_noted m blocks handlers) w b why
-  park_noted can = record { worker = record { worker = can.worker.worker; running = can.worker.running }; blk = can.blk; fits = can.fits }
+  park_noted : {w : ℕ} {b : Blk} {why : Reason} {limit : Option ℕ} → CanPark m w b why limit → CanPark (with_noted m blocks handlers) w b why limit
+  park_noted can = record {
+    worker = record { worker = can.worker.worker; running = can.worker.running };
+    blk = can.blk;
+    fits = can.fits;
+    keeps = λ end is. let keeps = can.keeps end is in record { kept = keeps.kept; short = keeps.short };
+  }
 
   sleep_noted : {o : Obj} {b : Blk} → CanLayDown m o b → CanLayDown (with_noted m blocks handlers) o b
   sleep_noted can = record { object = can.object; blk = can.blk; awake = can.awake }
+
+  group_wait_noted : {w : ℕ} {b : Blk} {g : Obj} {limit : Option ℕ} → CanWaitForGroup m w b g limit → CanWaitForGroup (with_noted m blocks handlers) w b g limit
+  group_wait_noted can = record {
+    group = can.group;
+    over = record { wakeable = can.over.wakeable; ripe = can.over.ripe };
+    sleeps = sleep_noted can.sleeps;
+    ahead = λ end is. let ahead = can.ahead end is in record { kept = ahead.kept; short = ahead.short };
+    parks = park_noted can.parks;
+  }
+
+  wait_noted : {w : ℕ} {b : Blk} {s : Obj} {limit : Option ℕ} → CanWaitForSemaphore m w b s limit → CanWaitForSemaphore (with_noted m blocks handlers) w b s limit
+  wait_noted can = record {
+    semaphore = can.semaphore;
+    room = can.room;
+    over = record { wakeable = can.over.wakeable; ripe = can.over.ripe };
+    sleeps = sleep_noted can.sleeps;
+    ahead = λ end is. let ahead = can.ahead end is in record { kept = ahead.kept; short = ahead.short };
+    parks = park_noted can.parks;
+  }
 
   call_noted : {w : ℕ} {b c : Blk} → CanCall m w b c → CanCall (with_noted m blocks handlers) w b c
   call_noted can = record { called = omega (arith, long, can.called); parks = park_noted can.parks }
@@ -50,8 +74,10 @@ module _ (m : MachineView) (blocks : List BlockProgress) (handlers : List Handle
   park_by_noted w (Source s) act can = tt
   park_by_noted w (Block b) (Sync q c) can = call_noted can
   park_by_noted w (Block b) (BarrierSync q c) can = call_noted can
-  park_by_noted w (Block b) (GroupWait g) can = record { group = can.group; wakeable = can.wakeable; sleeps = sleep_noted can.sleeps; parks = park_noted can.parks }
-  park_by_noted w (Block b) (Wait s) can = record { semaphore = can.semaphore; room = can.room; wakeable = can.wakeable; sleeps = sleep_noted can.sleeps; parks = park_noted can.parks }
+  park_by_noted w (Block b) (GroupWait g) can = group_wait_noted can
+  park_by_noted w (Block b) (GroupWaitFor g ms) can = group_wait_noted can
+  park_by_noted w (Block b) (Wait s) can = wait_noted can
+  park_by_noted w (Block b) (WaitFor s ms) can = wait_noted can
   park_by_noted w (Block b) act can = can
 
   module _ (homes : (c : ℕ) → (get_or blocks c idle).home ≡ (block_at m c).home) where
@@ -86,8 +112,10 @@ module _ (m : MachineView) (blocks : List BlockProgress) (handlers : List Handle
     effect_noted (Enter g) can = enter_noted can
     effect_noted (Leave g) can = record { entered = can.entered; comes_empty = empty_noted can.comes_empty }
     effect_noted (GroupWait g) can = tt
+    effect_noted (GroupWaitFor g ms) can = tt
     effect_noted (Signal s) can = record { semaphore = can.semaphore; room = can.room; wakes = wakes_noted can.wakes }
     effect_noted (Wait s) can = tt
+    effect_noted (WaitFor s ms) can = tt
     effect_noted (Suspend o) can = record { object = can.object; room = can.room }
     effect_noted (Resume o) can = record { object = can.object; no_misuse = can.no_misuse; inactive = λ none inactive. active_noted (can.inactive none inactive) }
     effect_noted (Activate o) can = record { object = can.object; inactive = λ inactive. active_noted (can.inactive inactive) }
@@ -126,7 +154,9 @@ effect_parked m w (Source s) act can = can
 effect_parked m w (Block b) (Sync q c) can = submit_called m w b c q can
 effect_parked m w (Block b) (BarrierSync q c) can = submit_called m w b c q can
 effect_parked m w (Block b) (GroupWait g) can = tt
+effect_parked m w (Block b) (GroupWaitFor g ms) can = tt
 effect_parked m w (Block b) (Wait s) can = tt
+effect_parked m w (Block b) (WaitFor s ms) can = tt
 effect_parked m w (Block b) act can = can
 
 -- what the run needs for the act, once it is counted, and parked

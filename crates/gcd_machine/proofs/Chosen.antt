@@ -6,13 +6,14 @@ use Rattle.std.proofs.lemmas.Bool.{both_ways}
 use Rattle.gcd_plan.specs.PlanView.{PlanView}
 use Rattle.gcd_event.specs.declared.event.Event.{Event}
 use Rattle.gcd_history.specs.declared.state.State.TheVariants.{Drained, Stuck, Misused, Halted, Live}
-use Rattle.gcd_history.specs.History.{why, choice_of}
+use Rattle.gcd_history.specs.History.{why, choice_of, expiry_of}
 use Rattle.gcd_history.specs.Ends.{ends_in_misuse, ends_in_halt, IsQuiescent, all_ended, HasState}
 use Rattle.gcd_history.proofs.Choices.{chosen_is}
 use Rattle.gcd_refinement.specs.MachineView.{MachineView}
-use Rattle.gcd_machine.specs.Chosen.{choice_by, is_quiescent_at, state_by}
+use Rattle.gcd_machine.specs.Chosen.{choice_by, expiry_by, is_quiescent_at, state_by}
 use Rattle.gcd_machine.specs.Stands.{StandsFor}
 use Rattle.gcd_machine.proofs.Choosing.{choice_is}
+use Rattle.gcd_machine.proofs.Expiries.{expiry_is}
 use Rattle.gcd_machine.proofs.Ending.{quiet_is, left_none_is}
 use Rattle.gcd_machine.proofs.Shown.{tied_by, over_stands}
 
@@ -29,6 +30,12 @@ permitted_of plan h w from (Some e) is = (chosen_is plan (reverse h) w from e (s
 
 pub permitted_stands : (m : MachineView) (plan : PlanView) (h : List Event) (w from : ℕ) → StandsFor m plan h → IfSome (choice_by m w from) (λ e. why plan h e ≡ None)
 permitted_stands m plan h w from stands = permitted_of plan h w from (choice_by m w from) (choice_stands m plan h w from stands)
+
+-- ## What worker 0 records where a wait may expire
+
+pub expiry_stands : (m : MachineView) (plan : PlanView) (h : List Event) → StandsFor m plan h → expiry_by m ≡ expiry_of plan h
+unfolding expiry_of
+expiry_stands m plan h stands = expiry_is plan (reverse h) m (tied_by m plan h stands)
 
 -- ## How far the run has come
 

@@ -1,20 +1,20 @@
 -- The End of a block: its run closes on its node, who waits for it may wake, and the group that counted it has one member less.
-use Rattle.std.proofs.Common.{◌≡◌, ℕ, ◌+◌, ◌-◌, ◌<◌, ◌≤◌, ◌==◌, true, false, cond, List, length, Option, Some, None, option_to_list, refl, ap, ◌∙◌, arith}
-use Rattle.std.specs.List.{fold, slice_set}
-use Rattle.std.proofs.lemmas.List.Sums.{fold-append}
+use Rattle.std.proofs.Common.{◌≡◌, ℕ, ◌+◌, ◌-◌, ◌<◌, ◌≤◌, ◌==◌, true, false, cond, List, [], ◌∷◌, ◌++◌, length, map, Option, Some, None, option_to_list, refl, ap, ◌∙◌, arith}
+use Rattle.std.specs.List.{slice_set}
 use Rattle.gcd_plan.specs.PlanView.{PlanView}
 use Rattle.gcd_plan.specs.declared.numbers.Blk.{Blk}
 use Rattle.gcd_plan.specs.declared.numbers.Obj.{Obj}
 use Rattle.gcd_event.specs.declared.event.Event.{Event}
 use Rattle.gcd_event.specs.declared.event.Event.TheVariants.{End}
-use Rattle.gcd_group.specs.GroupsView.{count_at, with_one_less}
+use Rattle.gcd_lists.specs.ListsView.{list_at}
+use Rattle.gcd_group.specs.GroupsView.{GroupsView, count_at, with_one_less}
 use Rattle.gcd_refinement.specs.MachineView.{MachineView, block_at}
 use Rattle.gcd_refinement.specs.Ties.{GroupsAre}
 use Rattle.gcd_refinement.specs.Submits.{sleepers_at}
-use Rattle.gcd_refinement.specs.After.{closed, barrier_ended, with_wakeable, after}
-use Rattle.gcd_machine.specs.Steps.{closed_block, caller_let_go, emptied, member_left, stepped}
-use Rattle.gcd_machine.proofs.Activations.{units, counted}
-use Rattle.gcd_machine.proofs.Firing.{with_groups, emptied_is, due_at_last, told_is_sent}
+use Rattle.gcd_refinement.specs.After.{closed, barrier_ended, all_fired, all_woken, after}
+use Rattle.gcd_machine.specs.Steps.{all_over, let_go, closed_block, caller_let_go, emptied, member_left, stepped}
+use Rattle.gcd_machine.proofs.Activations.{units, counted, all_submitted}
+use Rattle.gcd_machine.proofs.Firing.{with_groups, sent, emptied_is, due_at_last, told_is_sent}
 
 -- the block has ended, and its run is closed
 abbrev closed_view : MachineView → ℕ → Blk → MachineView
@@ -34,9 +34,14 @@ closed_is m w b =
       | Some n ↦ λ e. rw e
     ] refl
 
+-- the waits of some blocks are over, and then those of others
+over_in_turn : (m : MachineView) (first later : List Blk) → all_over (all_over m first) later ≡ all_over m (first ++ later)
+over_in_turn m [] later = refl
+over_in_turn m (b ∷ first) later = over_in_turn (let_go m b) first later
+
 -- who waits for the end may wake
 abbrev called_view : MachineView → Option Blk → MachineView
-called_view m caller = record m { wakeable = fold with_wakeable m.wakeable (option_to_list caller) }
+called_view m caller = all_over m (option_to_list caller)
 
 called_is : (m : MachineView) (caller : Option Blk) → caller_let_go m caller ≡ called_view m caller
 called_is m None = refl
@@ -59,6 +64,13 @@ stepped_over m w b = ap (λ x. counted m (member_left x (block_at m b.0).group))
 
 -- ## The group that counted the block
 
+-- all that is registered is submitted, and nobody sleeps at the group
+abbrev emptied_by_end : MachineView → Obj → GroupsView → MachineView → MachineView
+emptied_by_end m g fewer over = counted m (record (all_submitted over (map (sent (λ k. (block_at m k).home)) (list_at m.groups.notify g.0))) {
+  groups = all_fired fewer g.0;
+  sleepers = all_woken m.sleepers (Some g);
+})
+
 later_less : (a n : ℕ) → 1 ≤ a → a - 1 + n ≡ a + n - 1
 later_less a n some = omega (arith, some)
 
@@ -73,8 +85,11 @@ left_by_end plan past m w b (Some g) groups low some e =
       | true ↦ λ one.
           ap (λ t. counted m (cond t (emptied (with_groups over fewer) g) (with_groups over fewer))) one
           ∙ (ap (counted m) (emptied_is over g fewer (λ k. (block_at m k).home) (λ k. refl) (due_at_last m.groups g.0 (m.len + 1) one (low g refl)))
-          ∙ rw (e, one, told_is_sent plan past m g.0 groups, fold-append with_wakeable m.wakeable (option_to_list (block_at m b.0).caller) (sleepers_at m (Some g))) (simp (units, later_less)))
-      | false ↦ λ more. rw (e, more, groups.fired g.0) (simp units)
+          ∙ (ap (emptied_by_end m g fewer) (over_in_turn (closed_view m w b) (option_to_list (block_at m b.0).caller) (sleepers_at m (Some g)))
+          ∙ rw (e, one, told_is_sent plan past m g.0 groups) (simp (units, later_less))))
+      | false ↦ λ more.
+          ap (λ t. counted m (cond t (emptied (with_groups over fewer) g) (with_groups over fewer))) more
+          ∙ rw (e, more, groups.fired g.0) (simp units)
     ] refl
 
 pub end_stepped : (plan : PlanView) (past : List Event) (m : MachineView) (w : ℕ) (b : Blk)

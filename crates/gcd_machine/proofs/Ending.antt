@@ -6,16 +6,20 @@ use Rattle.gcd_plan.specs.PlanView.{PlanView}
 use Rattle.gcd_event.specs.declared.event.Event.{Event}
 use Rattle.gcd_history.specs.Runs.{is_ended}
 use Rattle.gcd_history.specs.Submitted.{submitted}
-use Rattle.gcd_history.specs.Choice.{all_ended, IsQuiescent}
+use Rattle.gcd_plan.specs.declared.numbers.Blk.{Blk}
+use Rattle.gcd_event.specs.declared.event.Event.TheVariants.{Expire}
+use Rattle.gcd_history.specs.Permitted.{permitted, is_halted}
+use Rattle.gcd_history.specs.Choice.{all_ended, expire_event, IsQuiescent}
 use Rattle.gcd_plan.proofs.Sums.{count_by-cons}
 use Rattle.gcd_plan.proofs.Options.{none_from_is_none}
 use Rattle.gcd_history.proofs.Quiet.{AtRest, quiescent_from_rest, rest_from_quiescent}
-use Rattle.gcd_timer.specs.TimersView.{next_due_at}
-use Rattle.gcd_refinement.specs.MachineView.{MachineView}
+use Rattle.gcd_refinement.specs.MachineView.{MachineView, is_ripe_at, next_due_in}
 use Rattle.gcd_refinement.specs.Stands.{IsTied}
+use Rattle.gcd_refinement.proofs.NextDue.{next_due_is}
 use Rattle.gcd_machine.specs.Chosen.{choice_by, is_quiescent_at}
 use Rattle.gcd_machine.proofs.Choosing.{choice_is}
-use Rattle.gcd_machine.proofs.Waits.{next_due_is}
+use Rattle.gcd_machine.proofs.Expiries.{expires_is, none_from_unripe}
+use Rattle.gcd_machine.proofs.Judges.{of_plan}
 use Rattle.gcd_machine.proofs.Workers.{over_is}
 
 -- ## Live feeds
@@ -42,7 +46,8 @@ record Tests (m : MachineView) : Type 0 where
   going : (m.misused || m.halted) ≡ false
   idle : m.running ≡ 0
   no_feed : count_by (λ b. b) m.live ≡ 0
-  no_time : next_due_at m.timers ≡ None
+  no_expiry : count_by (λ b. b) m.ripe ≡ 0
+  no_time : next_due_in m ≡ None
   no_choice : choice_by m 0 0 ≡ None
 
 tests_from : (m : MachineView) → is_quiescent_at m ≡ true → Tests m
@@ -50,19 +55,22 @@ tests_from m quiet =
     let one = and_parts (not (m.misused || m.halted)) _ quiet in
     let two = and_parts (m.running == 0) _ one.1 in
     let three = and_parts (count_by (λ b. b) m.live == 0) _ two.1 in
-    let four = and_parts (is_none (next_due_at m.timers)) (is_none (choice_by m 0 0)) three.1 in
+    let four = and_parts (count_by (λ b. b) m.ripe == 0) _ three.1 in
+    let five = and_parts (is_none (next_due_in m)) (is_none (choice_by m 0 0)) four.1 in
     record {
       going = not-true (m.misused || m.halted) one.0;
       idle = eqb-true m.running 0 two.0;
       no_feed = eqb-true (count_by (λ b. b) m.live) 0 three.0;
-      no_time = none_from_is_none (next_due_at m.timers) four.0;
-      no_choice = none_from_is_none (choice_by m 0 0) four.1;
+      no_expiry = eqb-true (count_by (λ b. b) m.ripe) 0 four.0;
+      no_time = none_from_is_none (next_due_in m) five.0;
+      no_choice = none_from_is_none (choice_by m 0 0) five.1;
     }
 
 tests_to : (m : MachineView) → Tests m → is_quiescent_at m ≡ true
 tests_to m tests =
-    let none = and_from (is_none (next_due_at m.timers)) (is_none (choice_by m 0 0)) (ap is_none tests.no_time) (ap is_none tests.no_choice) in
-    let still = and_from (count_by (λ b. b) m.live == 0) _ (eq-eqb (count_by (λ b. b) m.live) 0 tests.no_feed) none in
+    let none = and_from (is_none (next_due_in m)) (is_none (choice_by m 0 0)) (ap is_none tests.no_time) (ap is_none tests.no_choice) in
+    let unripe = and_from (count_by (λ b. b) m.ripe == 0) _ (eq-eqb (count_by (λ b. b) m.ripe) 0 tests.no_expiry) none in
+    let still = and_from (count_by (λ b. b) m.live == 0) _ (eq-eqb (count_by (λ b. b) m.live) 0 tests.no_feed) unripe in
     and_from (not (m.misused || m.halted)) _ (ap not tests.going) (and_from (m.running == 0) _ (eq-eqb m.running 0 tests.idle) still)
 
 rests : (plan : PlanView) (past : List Event) (m : MachineView) → IsTied plan past m → Tests m → AtRest plan past
@@ -70,24 +78,31 @@ rests plan past m tied tests = record {
   goes_on = sym (over_is plan past m tied.totals) ∙ tests.going;
   idle = sym tied.totals.running ∙ tests.idle;
   no_choice = sym (choice_is plan past m 0 0 tied) ∙ tests.no_choice;
-  no_time = sym (next_due_is plan past m tied.parts tied.timers) ∙ tests.no_time;
+  no_expiry = none_from_unripe plan past m tied (none_set m.ripe tests.no_expiry);
+  no_time = sym (next_due_is plan past m tied) ∙ tests.no_time;
   no_feed = λ s. sym (tied.totals.live s) ∙ none_set m.live tests.no_feed s;
 }
 
-tests_at_rest : (plan : PlanView) (past : List Event) (m : MachineView) → IsTied plan past m → AtRest plan past → Tests m
-tests_at_rest plan past m tied rest = record {
-  going = over_is plan past m tied.totals ∙ rest.goes_on;
-  idle = tied.totals.running ∙ rest.idle;
-  no_feed = none_counted m.live (λ s. tied.totals.live s ∙ rest.no_feed s);
-  no_time = next_due_is plan past m tied.parts tied.timers ∙ rest.no_time;
-  no_choice = choice_is plan past m 0 0 tied ∙ rest.no_choice;
-}
+unripe : (plan : PlanView) (past : List Event) (m : MachineView) → IsTied plan past m → is_halted past ≡ false → ((b : Blk) → permitted plan past (Expire b) ≡ false) → (b : ℕ) → is_ripe_at m b ≡ false
+unripe plan past m tied on none b =
+    sym (expires_is m past b (of_plan plan past m tied) on) ∙ (ap (λ p. permitted p past (expire_event b)) tied.same_plan ∙ none (record { 0 = b }))
+
+tests_at_rest : (plan : PlanView) (past : List Event) (m : MachineView) → IsTied plan past m → IsQuiescent plan past → Tests m
+tests_at_rest plan past m tied quiet =
+    let rest = rest_from_quiescent plan past tied.valid tied.lawful quiet in record {
+      going = over_is plan past m tied.totals ∙ rest.goes_on;
+      idle = tied.totals.running ∙ rest.idle;
+      no_feed = none_counted m.live (λ s. tied.totals.live s ∙ rest.no_feed s);
+      no_expiry = none_counted m.ripe (unripe plan past m tied quiet.goes_on quiet.no_expiry);
+      no_time = next_due_is plan past m tied ∙ rest.no_time;
+      no_choice = choice_is plan past m 0 0 tied ∙ rest.no_choice;
+    }
 
 -- nothing but a halt can come exactly where the tests say so
 pub quiet_is : (plan : PlanView) (past : List Event) (m : MachineView) → IsTied plan past m → (is_quiescent_at m ≡ true) ↔ IsQuiescent plan past
 quiet_is plan past m tied = (
   λ quiet. quiescent_from_rest plan past tied.valid tied.lawful (rests plan past m tied (tests_from m quiet)),
-  λ quiet. tests_to m (tests_at_rest plan past m tied (rest_from_quiescent plan past tied.valid tied.lawful quiet)),
+  λ quiet. tests_to m (tests_at_rest plan past m tied quiet),
 )
 
 -- ## Blocks that are left

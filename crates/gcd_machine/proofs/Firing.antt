@@ -23,6 +23,7 @@ use Rattle.gcd_refinement.specs.declared.progress.BlockProgress.{BlockProgress}
 use Rattle.gcd_refinement.specs.Ties.{GroupsAre, told}
 use Rattle.gcd_refinement.specs.Submits.{sleepers_at}
 use Rattle.gcd_refinement.specs.After.{with_block, with_wakeable, all_fired, all_woken}
+use Rattle.gcd_refinement.specs.AfterLimits.{without_limit, without_ripe}
 use Rattle.gcd_machine.specs.Steps.{submitted, fired_at, all_let_go, all_fired_at, emptied}
 use Rattle.gcd_machine.proofs.Activations.{all_submitted}
 
@@ -112,6 +113,8 @@ pub emptied_is : (m : MachineView) (g : Obj) (groups : GroupsView) (home : â„• â
       groups = all_fired groups g.0;
       sleepers = all_woken m.sleepers (Some g);
       wakeable = fold with_wakeable m.wakeable (sleepers_at m (Some g));
+      ahead = fold without_limit m.ahead (sleepers_at m (Some g));
+      ripe = fold without_ripe m.ripe (sleepers_at m (Some g));
     }
 emptied_is m g groups home homes due = all_fired_is (all_let_go (with_groups m groups) g) g home homes due
 

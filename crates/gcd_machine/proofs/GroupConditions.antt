@@ -17,7 +17,7 @@ use Rattle.gcd_refinement.specs.Stands.{IsTied}
 use Rattle.gcd_refinement.proofs.Members.{is_group}
 use Rattle.gcd_refinement.proofs.StepGroups.{fits_at, end_counts}
 use Rattle.gcd_refinement.proofs.StepSubmits.{counts_of}
-use Rattle.gcd_machine.specs.Conditions.{CanWakeAt, CanSubmit, HaveHomes, CanComeEmpty, CanLeave, CanLeaveByAct, CanEnter, CanSubmitMember, CanRegister}
+use Rattle.gcd_machine.specs.Conditions.{CanLetGo, CanWakeAt, CanSubmit, HaveHomes, CanComeEmpty, CanLeave, CanLeaveByAct, CanEnter, CanSubmitMember, CanRegister}
 use Rattle.gcd_machine.proofs.NewBlocks.{IsNew, notified_nowhere, of_no_group, new_nowhere, few_waiting}
 
 module _ (past : List Event) (m : MachineView) (t : IsTied m.plan past m) (room : length past + 2 < 2 ^ 32) where
@@ -54,7 +54,19 @@ module _ (past : List Event) (m : MachineView) (t : IsTied m.plan past m) (room 
   -- ## Groups
 
   pub can_wake_at : (o : Obj) → o.0 < length m.plan.objects → CanWakeAt m o
-  can_wake_at o low = let long = t.own.sleepers in record { object = omega (arith, low, long); blocks = t.own.sleeper_blocks ∙ sym t.own.wakeable }
+  can_wake_at o low =
+      let long = t.own.sleepers in
+      record {
+        object = omega (arith, low, long);
+        blocks = t.own.sleeper_blocks ∙ sym t.own.wakeable;
+        ripe = t.own.sleeper_blocks ∙ sym t.own.ripe;
+      }
+
+  pub can_let_go : (b : Blk) → b.0 < length m.plan.blocks → CanLetGo m b
+  can_let_go b low =
+      let wakeable = t.own.wakeable in
+      let ripe = t.own.ripe in
+      record { wakeable = omega (arith, low, wakeable); ripe = omega (arith, low, ripe) }
 
   pub position_low : m.len + 1 < 2 ^ 32
   position_low = let is = t.totals.len in omega (arith, is, room)

@@ -21,6 +21,7 @@ use Rattle.gcd_refinement.specs.declared.progress.BlockProgress.{BlockProgress}
 use Rattle.gcd_refinement.specs.Ties.{GroupsAre, told}
 use Rattle.gcd_refinement.specs.Submits.{sleepers_at}
 use Rattle.gcd_refinement.specs.After.{with_block, with_wakeable, all_fired, all_woken, after}
+use Rattle.gcd_refinement.specs.AfterLimits.{without_limit, without_ripe}
 use Rattle.gcd_refinement.proofs.StepSubmits.{none_waits}
 use Rattle.gcd_machine.specs.Steps.{acted, act_taken, all_fired_at, emptied, stepped}
 use Rattle.gcd_machine.proofs.Activations.{units, counted, all_submitted}
@@ -55,6 +56,8 @@ emptied_by_leave m run g = counted m (record (all_submitted (acted m run) (map (
   groups = all_fired (less m g) g.0;
   sleepers = all_woken (acted m run).sleepers (Some g);
   wakeable = fold with_wakeable (acted m run).wakeable (sleepers_at (acted m run) (Some g));
+  ahead = fold without_limit (acted m run).ahead (sleepers_at (acted m run) (Some g));
+  ripe = fold without_ripe (acted m run).ripe (sleepers_at (acted m run) (Some g));
 })
 
 emptied_stepped : (plan : PlanView) (past : List Event) (m : MachineView) (w : ℕ) (run : Run) (i : ℕ) (g : Obj)

@@ -11,7 +11,7 @@ use Rattle.gcd_plan.specs.declared.why.Why.TheVariants.{Unready}
 use Rattle.gcd_event.specs.declared.event.Event.{Event}
 use Rattle.gcd_event.specs.declared.event.Event.TheVariants.{Start}
 use Rattle.gcd_history.specs.Runs.{open_runs}
-use Rattle.gcd_history.specs.Parked.{awaited, is_parked, has_come, may_wake}
+use Rattle.gcd_history.specs.Parked.{awaited, is_parked, is_over, may_wake}
 use Rattle.gcd_history.specs.Permitted.{permitted, why}
 use Rattle.gcd_history.specs.Choice.{next_events, own_events, wake_event, node_events, choice}
 use Rattle.gcd_plan.proofs.Options.{none_from_is_none}
@@ -38,7 +38,7 @@ no_own m past w tied free =
 
 -- ## Wakes
 
-found_map : {X Y : Type 0} (p : Y → Bool) (f : X → Y) (xs : List X) → find p (map f xs) ≡ option_map f (find (λ x. p (f x)) xs)
+pub found_map : {X Y : Type 0} (p : Y → Bool) (f : X → Y) (xs : List X) → find p (map f xs) ≡ option_map f (find (λ x. p (f x)) xs)
 found_map p f [] = refl
 found_map p f (x ∷ xs) =
     elim (p (f x)) as (λ v. cond v (Some (f x)) (find p (map f xs)) ≡ option_map f (cond v (Some x) (find (λ y. p (f y)) xs))) [
@@ -49,7 +49,7 @@ found_map p f (x ∷ xs) =
 wakes : (m : MachineView) (past : List Event) (w b : ℕ) → IsTied m.plan past m → IsIdle m past w → may_wake m.plan past b ≡ true → permitted m.plan past (wake_event w b) ≡ true
 unfolding may_wake is_parked
 wakes m past w b tied idle may =
-    elim (awaited m.plan past (Block (record { 0 = b }))) as (λ o. awaited m.plan past (Block (record { 0 = b })) ≡ o → option_map_or (has_come m.plan past) o false ≡ true → permitted m.plan past (wake_event w b) ≡ true) [
+    elim (awaited m.plan past (Block (record { 0 = b }))) as (λ o. awaited m.plan past (Block (record { 0 = b })) ≡ o → option_map_or (is_over m.plan past) o false ≡ true → permitted m.plan past (wake_event w b) ≡ true) [
       | None ↦ λ none no. cc
       | Some r ↦ λ some come.
           let live = (parked_facts m.plan past (record { 0 = b }) r some).live in

@@ -5,12 +5,12 @@ use Rattle.gcd_plan.specs.PlanView.{PlanView}
 use Rattle.gcd_plan.specs.StartRule.{Knowledge, first_of, run_reasons}
 use Rattle.gcd_plan.specs.declared.numbers.Run.TheVariants.{Block, Source}
 use Rattle.gcd_plan.specs.declared.why.Why.{Why}
-use Rattle.gcd_plan.specs.declared.why.Why.TheVariants.{Over, NoSuch, Busy, Unready, NotOwn, NotNext, IsMisuse, NotParked, Waiting, NotDue, NotLive, NotMisuse}
+use Rattle.gcd_plan.specs.declared.why.Why.TheVariants.{Over, NoSuch, Busy, Unready, NotOwn, NotNext, IsMisuse, NotParked, Waiting, NotDue, NotLive, NotMisuse, Came}
 use Rattle.gcd_event.specs.declared.event.Event.{Event}
-use Rattle.gcd_event.specs.declared.event.Event.TheVariants.{Start, Act as Acted, Wake, End, Deliver, DeliverEnd, Tick, Ready, FeedEnd, Misuse, Halt}
+use Rattle.gcd_event.specs.declared.event.Event.TheVariants.{Start, Act as Acted, Wake, End, Deliver, DeliverEnd, Tick, Ready, FeedEnd, Misuse, Halt, Expire}
 use Rattle.gcd_history.specs.Parked.{has_run, is_busy, is_parked}
 use Rattle.gcd_history.specs.Sources.{is_pending, is_live_feed}
-use Rattle.gcd_history.specs.Timers.{may_tick}
+use Rattle.gcd_history.specs.Due.{is_at_limit, may_tick}
 use Rattle.gcd_history.specs.Tree.{chain}
 use Rattle.gcd_history.specs.Permitted.{is_halted, is_known, is_next, knowledge, reasons, why}
 use Rattle.gcd_sync.specs.WaitsView.{reason_at}
@@ -18,10 +18,10 @@ use Rattle.gcd_tree.specs.TreeView.{chain_at}
 use Rattle.gcd_drain.specs.Rule.{run_fault_of}
 use Rattle.gcd_refinement.specs.MachineView.{MachineView}
 use Rattle.gcd_refinement.specs.Stands.{IsTied}
-use Rattle.gcd_machine.specs.Judged.{is_next_at, next_act_at, misuse_of_run, block_fault_at, source_fault_at, may_wake_at, fault_at, why_by}
+use Rattle.gcd_machine.specs.Judged.{is_next_at, next_act_at, misuse_of_run, block_fault_at, source_fault_at, may_wake_at, is_at_limit_at, fault_at, why_by}
 use Rattle.gcd_machine.proofs.Known.{chain_is, knowledge_is}
 use Rattle.gcd_machine.proofs.Starts.{block_fault_is}
-use Rattle.gcd_machine.proofs.Waits.{parked_is, wake_is, tick_is, is_pending_is}
+use Rattle.gcd_machine.proofs.Waits.{parked_is, wake_is, limit_is, tick_is, is_pending_is}
 use Rattle.gcd_machine.proofs.Misused.{misuse_at_is}
 use Rattle.gcd_machine.proofs.Workers.{own_is, busy_is, next_is, left_is, over_is}
 
@@ -88,6 +88,10 @@ fault_is m past (Misuse w run i c) tied =
     ∙ (ap (λ u. first_of ((NotOwn, not (has_run m.plan past w run)) ∷ (NotNext, not u) ∷ (NotMisuse, not (option_map_or (λ code. code == c) (misuse_of_run m run i) false)) ∷ [])) next
     ∙ ap (λ o. first_of ((NotOwn, not (has_run m.plan past w run)) ∷ (NotNext, not (is_next m.plan past run i)) ∷ (NotMisuse, not (option_map_or (λ code. code == c) o false)) ∷ [])) misused)
 fault_is m past Halt tied = refl
+fault_is m past (Expire b) tied =
+    ap (λ u. first_of ((NotParked, u) ∷ (NotDue, not (is_at_limit_at m b.0)) ∷ (Came, may_wake_at m b.0) ∷ [])) (parked_is m.plan past m b.0 tied)
+    ∙ (ap (λ u. first_of ((NotParked, not (is_parked m.plan past b.0)) ∷ (NotDue, not u) ∷ (Came, may_wake_at m b.0) ∷ [])) (limit_is m.plan past m b.0 tied)
+    ∙ ap (λ u. first_of ((NotParked, not (is_parked m.plan past b.0)) ∷ (NotDue, not (is_at_limit m.plan past b.0)) ∷ (Came, u) ∷ [])) (wake_is m.plan past m b.0 tied))
 
 -- ## The whole
 

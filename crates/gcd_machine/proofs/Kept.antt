@@ -10,7 +10,7 @@ use Rattle.gcd_refinement.specs.MachineView.{MachineView, idle, block_at}
 use Rattle.gcd_refinement.specs.declared.progress.BlockProgress.{BlockProgress}
 use Rattle.gcd_refinement.specs.After.{with_block}
 use Rattle.gcd_machine.specs.Steps.{all_let_go, closed_block, caller_let_go, set_free, run_closed, made_cancelled}
-use Rattle.gcd_machine.specs.Conditions.{CanBegin, CanCloseOn, CanSubmit, HaveHomes, CanFire, CanEmpty, CanComeEmpty, CanLeave, CanRegister, CanStart, CanCloseBlock, CanEnd}
+use Rattle.gcd_machine.specs.Conditions.{CanLetGo, CanBegin, CanCloseOn, CanSubmit, HaveHomes, CanFire, CanEmpty, CanComeEmpty, CanLeave, CanRegister, CanStart, CanCloseBlock, CanEnd}
 use Rattle.gcd_machine.proofs.Places.{waits_as_before}
 
 -- ## Blocks
@@ -88,6 +88,7 @@ pub record SameForGroups (m : MachineView) (k : MachineView) : Type 0 where
   pub busy : k.busy ≡ m.busy
   pub len : k.len ≡ m.len
   pub wakeable : length k.wakeable ≡ length m.wakeable
+  pub ripe : length k.ripe ≡ length m.ripe
   pub left : k.left ≤ m.left
 
 homes_same : {m k : MachineView} → SameForGroups m k → HaveHomes m → HaveHomes k
@@ -111,7 +112,11 @@ leave_same {m} {k} {g} same can =
       comes_empty = record {
         group = omega (arith, count, may.group);
         position = omega (arith, same.len, may.position);
-        wakes = record { object = omega (arith, sleep, may.wakes.object); blocks = listed ∙ (may.wakes.blocks ∙ sym same.wakeable) };
+        wakes = record {
+          object = omega (arith, sleep, may.wakes.object);
+          blocks = listed ∙ (may.wakes.blocks ∙ sym same.wakeable);
+          ripe = listed ∙ (may.wakes.ripe ∙ sym same.ripe);
+        };
         homes = homes_same same may.homes;
         room = omega (arith, notify, same.left, may.room);
       };
@@ -122,21 +127,35 @@ same_closed m w b = at (block_at m b.0).node
   where
     at : (node : Option Obj)
         → SameForGroups m (set_free (run_closed (record m { ended = set m.ended b.0 true; left = m.left - 1 }) node (block_at m b.0).barrier) w)
-    at None = record { groups = refl; sleepers = refl; lists = refl; blocks = refl; busy = refl; len = refl; wakeable = refl; left = omega arith }
-    at (Some n) = record { groups = refl; sleepers = refl; lists = refl; blocks = refl; busy = refl; len = refl; wakeable = refl; left = omega arith }
+    at None = record { groups = refl; sleepers = refl; lists = refl; blocks = refl; busy = refl; len = refl; wakeable = refl; ripe = refl; left = omega arith }
+    at (Some n) = record { groups = refl; sleepers = refl; lists = refl; blocks = refl; busy = refl; len = refl; wakeable = refl; ripe = refl; left = omega arith }
 
 pub same_let_go : (m : MachineView) (caller : Option Blk) → SameForGroups m (caller_let_go m caller)
-same_let_go m None = record { groups = refl; sleepers = refl; lists = refl; blocks = refl; busy = refl; len = refl; wakeable = refl; left = omega arith }
-same_let_go m (Some b) = record { groups = refl; sleepers = refl; lists = refl; blocks = refl; busy = refl; len = refl; wakeable = length-set m.wakeable b.0 true; left = omega arith }
+same_let_go m None = record { groups = refl; sleepers = refl; lists = refl; blocks = refl; busy = refl; len = refl; wakeable = refl; ripe = refl; left = omega arith }
+same_let_go m (Some b) = record {
+  groups = refl;
+  sleepers = refl;
+  lists = refl;
+  blocks = refl;
+  busy = refl;
+  len = refl;
+  wakeable = length-set m.wakeable b.0 true;
+  ripe = length-set m.ripe b.0 false;
+  left = omega arith;
+}
 
 -- the caller and the group of a block that ends
 pub may_let_go : (m : MachineView) {k : MachineView} {w : ℕ} {b : Blk} {read : BlockProgress} → read ≡ get_or m.blocks b.0 read → k ≡ closed_block m w b
-    → CanEnd m w b → (c : Blk) → read.caller ≡ Some c → c.0 < length k.wakeable
+    → CanEnd m w b → (c : Blk) → read.caller ≡ Some c → CanLetGo k c
 may_let_go m {k} {w} {b} {read} read_is is can = λ c at.
     let same = block_read m b read_is can.closes.blk in
     let within = can.caller c (ap (λ (r : BlockProgress). r.caller) (sym same) ∙ at) in
-    let long = ap (λ (n : MachineView). length n.wakeable) is in
-    omega (arith, within, long, (same_closed m w b).wakeable)
+    let long = same_closed m w b in
+    subst (λ n. CanLetGo n c) (sym is)
+    (record {
+      wakeable = omega (arith, within.wakeable, long.wakeable);
+      ripe = omega (arith, within.ripe, long.ripe);
+    })
 
 pub may_leave : (m : MachineView) {k l : MachineView} {w : ℕ} {b : Blk} {read : BlockProgress} → read ≡ get_or m.blocks b.0 read → k ≡ closed_block m w b
     → l ≡ caller_let_go k read.caller → CanEnd m w b → (g : Obj) → read.group ≡ Some g → CanLeave l g
@@ -150,7 +169,7 @@ may_leave m {k} {l} {w} {b} {read} read_is closed_is is can = λ g at.
 may_come_empty : {m : MachineView} {g : Obj} (groups : GroupsView) → groups.notify ≡ m.groups.notify → length groups.counts ≡ length m.groups.counts
     → due_at groups g.0 ≤ length (list_at m.groups.notify g.0) → CanComeEmpty m g → CanEmpty (record m { groups = groups }) g
 may_come_empty groups notify counts few can = record {
-  wakes = record { object = can.wakes.object; blocks = can.wakes.blocks };
+  wakes = record { object = can.wakes.object; blocks = can.wakes.blocks; ripe = can.wakes.ripe };
   fires = record {
     group = omega (arith, counts, can.group);
     homes = record {

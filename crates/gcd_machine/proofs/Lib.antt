@@ -1,6 +1,8 @@
 pub mod Places
 pub mod Turns
+pub mod Ripening
 pub mod Kept
+pub mod ExpirySteps
 pub mod Acts
 pub mod Opened
 pub mod Activations
@@ -18,11 +20,13 @@ pub mod GroupConditions
 pub mod ActivityConditions
 pub mod TargetConditions
 pub mod ActConditions
+pub mod Waits
+pub mod Sleeping
+pub mod ExpiryConditions
 pub mod MayTake
 pub mod Applied
 pub mod Known
 pub mod Starts
-pub mod Waits
 pub mod Misused
 pub mod Workers
 pub mod Judges
@@ -34,6 +38,7 @@ pub mod NodeChoice
 pub mod Begins
 pub mod IdleChoice
 pub mod Choosing
+pub mod Expiries
 pub mod Ending
 pub mod Chosen
 mod Marked

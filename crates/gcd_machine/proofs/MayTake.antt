@@ -10,11 +10,12 @@ use Rattle.gcd_plan.specs.declared.numbers.Blk.{Blk}
 use Rattle.gcd_plan.specs.declared.numbers.Obj.{Obj}
 use Rattle.gcd_plan.specs.declared.numbers.Run.TheVariants.{Block, Source}
 use Rattle.gcd_event.specs.declared.event.Event.{Event}
-use Rattle.gcd_event.specs.declared.event.Event.TheVariants.{Start, Act as Acted, Wake, End, Deliver, DeliverEnd, Tick, Ready, FeedEnd, Misuse, Halt}
+use Rattle.gcd_event.specs.declared.event.Event.TheVariants.{Start, Act as Acted, Wake, End, Deliver, DeliverEnd, Tick, Ready, FeedEnd, Misuse, Halt, Expire}
 use Rattle.gcd_history.specs.declared.submission.Submission.{Submission}
 use Rattle.gcd_history.specs.Submitted.{submission_of}
 use Rattle.gcd_history.specs.Tree.{chain}
-use Rattle.gcd_history.specs.Timers.{now, may_tick}
+use Rattle.gcd_history.specs.Timers.{now}
+use Rattle.gcd_history.specs.Due.{may_tick}
 use Rattle.gcd_history.specs.Permitted.{is_worker, has_block, is_feed, knowledge, waiting_reasons, node_reasons, why}
 use Rattle.gcd_history.specs.History.{why as why_after}
 use Rattle.gcd_history.proofs.Fitting.{has_object}
@@ -22,13 +23,15 @@ use Rattle.gcd_history.proofs.Reasons.{allowed, at_start, at_end, at_deliver, at
 use Rattle.gcd_history.proofs.StartedOnce.{open_from_has_run}
 use Rattle.gcd_refinement.specs.MachineView.{MachineView, block_at}
 use Rattle.gcd_refinement.specs.Stands.{IsTied}
+use Rattle.gcd_refinement.proofs.LimitRoom.{room_low}
 use Rattle.gcd_machine.specs.Conditions.{CanTakeUp, CanStart, CanWake, CanEnd, CanDeliver, CanEndDelivery, CanTick, CanChange, CanTake}
 use Rattle.gcd_machine.specs.Stands.{StandsFor, MayApply}
 use Rattle.gcd_machine.proofs.Stepped.{left_at_end}
 use Rattle.gcd_machine.proofs.NodeConditions.{has_list, has_pending, can_open, can_close, can_begin, can_close_on}
-use Rattle.gcd_machine.proofs.GroupConditions.{position_low, can_leave}
+use Rattle.gcd_machine.proofs.GroupConditions.{can_let_go, position_low, can_leave}
 use Rattle.gcd_machine.proofs.ActivityConditions.{can_cancel, can_merge}
 use Rattle.gcd_machine.proofs.ActConditions.{can_set_free, can_act}
+use Rattle.gcd_machine.proofs.ExpiryConditions.{can_expire}
 use Rattle.gcd_plan.specs.Limits.{max_workers, max_value}
 
 -- nothing on the chain of a block that may start is held
@@ -81,7 +84,6 @@ module _ (past : List Event) (m : MachineView) (t : IsTied m.plan past m) (room 
       let live = open_from_has_run m.plan past w (Block b) own in
       let blocks = t.own.blocks in
       let ended = t.own.ended in
-      let wakeable = t.own.wakeable in
       record {
         closes = record {
           worker = can_set_free past m t room w (Block b) known.0 own;
@@ -90,7 +92,7 @@ module _ (past : List Event) (m : MachineView) (t : IsTied m.plan past m) (room 
           left = left_at_end past m t w b may;
           node = λ n on. can_close_on past m t room n b live on;
         };
-        caller = λ c of. let l = t.own.callers b.0 c of in omega (arith, l, wakeable);
+        caller = λ c of. can_let_go past m t room c (t.own.callers b.0 c of);
         group = λ g of. can_leave past m t room w b g (t.lawful, may) of;
       }
 
@@ -124,9 +126,12 @@ module _ (past : List Event) (m : MachineView) (t : IsTied m.plan past m) (room 
       let until = t.parts.until in
       let kinds = t.parts.timer_kinds in
       let busy = t.own.busy in
+      let ahead = t.own.ahead in
+      let ripe = t.own.ripe in
       record {
         forward = omega (arith, within, moment);
         within = omega (arith, within, until);
+        limits = let room = room_low m.plan in omega (arith, ahead, ripe, room);
         marked = busy ∙ sym (ap length kinds ∙ length-map m.plan.objects (λ o. o.kind));
       }
 
@@ -144,6 +149,7 @@ module _ (past : List Event) (m : MachineView) (t : IsTied m.plan past m) (room 
   can_change (FeedEnd s) may = can_cancel past m t room (FeedEnd s) s (t.lawful, may) refl (has_object is_read_kind m.plan s.0 (allowed m.plan past (FeedEnd s) may).known)
   can_change (Misuse w run i c) may = tt
   can_change Halt may = tt
+  can_change (Expire b) may = can_expire past m t room b may
 
   can_take_here : (e : Event) → why m.plan past e ≡ None → CanTake m e
   can_take_here e may = record { room = position_low past m t room; changes = can_change e may }

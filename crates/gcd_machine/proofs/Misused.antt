@@ -1,21 +1,24 @@
 -- Which acts are misuses, as what a machine keeps tells it.
-use Rattle.std.proofs.Common.{◌≡◌, ℕ, ◌<◌, ◌==◌, nat_lt, Bool, true, false, not, ◌&&◌, ◌||◌, List, [], ◌∷◌, length, Some, None, refl, ap, sym, ◌∙◌, arith}
+use Rattle.std.proofs.Common.{◌≡◌, ℕ, ◌<◌, ◌==◌, nat_lt, Bool, true, false, not, ◌&&◌, ◌||◌, List, [], ◌∷◌, length, count_by, Some, None, refl, ap, sym, ◌∙◌, arith}
 use Rattle.std.specs.List.{list_any, list_all, slice_get, slice_index_or}
 use Rattle.std.specs.Option.{option_and_then}
 use Rattle.std.proofs.lemmas.Bool.{and_parts, and_from, lt-ltb, ltb-true}
 use Rattle.gcd_plan.proofs.Mapped.{get_or-mapped}
 use Rattle.gcd_plan.proofs.Options.{option_map_or-map}
+use Rattle.gcd_plan.proofs.Sums.{count_by-map}
 use Rattle.gcd_plan.specs.PlanView.{PlanView, ObjView}
 use Rattle.gcd_plan.specs.Kinds.{has_kind, is_source, is_queue, is_queue_kind, is_node_kind, is_source_kind, is_merge_kind, is_group_kind, is_semaphore_kind}
 use Rattle.gcd_plan.specs.Validity.{is_act, is_submittable, is_held_object}
 use Rattle.gcd_plan.specs.declared.kind.Kind.{Kind}
 use Rattle.gcd_plan.specs.declared.act.Act.{Act}
-use Rattle.gcd_plan.specs.declared.act.Act.TheVariants.{Async, Barrier, Sync, BarrierSync, GroupAsync, Notify, Enter, Leave, GroupWait, Signal, Wait, Suspend, Resume, Activate, Target, Merge, Cancel, Retain, Release}
+use Rattle.gcd_plan.specs.declared.act.Act.TheVariants.{Async, Barrier, Sync, BarrierSync, GroupAsync, Notify, Enter, Leave, GroupWait, GroupWaitFor, Signal, Wait, WaitFor, Suspend, Resume, Activate, Target, Merge, Cancel, Retain, Release}
 use Rattle.gcd_plan.specs.declared.numbers.Obj.{Obj}
 use Rattle.gcd_plan.specs.declared.numbers.Run.{Run}
 use Rattle.gcd_event.specs.declared.event.Event.{Event}
 use Rattle.gcd_history.specs.Runs.{act_at}
+use Rattle.gcd_history.specs.Expired.{has_expired}
 use Rattle.gcd_history.specs.Groups.{entered}
+use Rattle.gcd_history.specs.Semas.{waits_on}
 use Rattle.gcd_history.specs.Misuses.{refs, is_released, named, is_over_resumed, is_held_node, is_below_first, act_misuses, first_code, misuse}
 use Rattle.gcd_history.specs.Permitted.{misuse_at}
 use Rattle.gcd_history.proofs.Fitting.{has_object}
@@ -63,8 +66,10 @@ named_low plan (Notify g q b) h =
 named_low plan (Enter g) h = one_low is_group_kind plan g.0 h
 named_low plan (Leave g) h = one_low is_group_kind plan g.0 h
 named_low plan (GroupWait g) h = one_low is_group_kind plan g.0 h
+named_low plan (GroupWaitFor g ms) h = one_low is_group_kind plan g.0 (and_parts (has_kind is_group_kind plan g.0) _ h).0
 named_low plan (Signal s) h = one_low is_semaphore_kind plan s.0 h
 named_low plan (Wait s) h = one_low is_semaphore_kind plan s.0 h
+named_low plan (WaitFor s ms) h = one_low is_semaphore_kind plan s.0 (and_parts (has_kind is_semaphore_kind plan s.0) _ h).0
 named_low plan (Suspend o) h = held_low plan o h
 named_low plan (Resume o) h = held_low plan o h
 named_low plan (Activate o) h = held_low plan o h
@@ -116,8 +121,8 @@ held_node_is m past o holds =
 below_first_is : (m : MachineView) (past : List Event) (s : ℕ) → SemasAre m.plan past m → is_below_first_at m s ≡ is_below_first m.plan past s
 below_first_is m past s semas =
     let signals = semas.signals s in
-    let waits = semas.waits s in
-    rw (signals, waits) refl
+    let left = ap (count_by not) (semas.waits s) ∙ count_by-map not (has_expired past) (waits_on m.plan past s) in
+    rw (signals, left) refl
 
 -- ## The act
 

@@ -7,7 +7,7 @@ use Rattle.gcd_plan.specs.declared.act.Act.{Act}
 use Rattle.gcd_plan.specs.declared.numbers.Run.{Run}
 use Rattle.gcd_plan.specs.declared.numbers.Run.TheVariants.{Block, Source}
 use Rattle.gcd_event.specs.declared.event.Event.{Event}
-use Rattle.gcd_event.specs.declared.event.Event.TheVariants.{Start, Act as Acted, Wake, End, Deliver, DeliverEnd, Tick, Ready, FeedEnd, Misuse, Halt}
+use Rattle.gcd_event.specs.declared.event.Event.TheVariants.{Start, Act as Acted, Wake, End, Deliver, DeliverEnd, Tick, Ready, FeedEnd, Misuse, Halt, Expire}
 use Rattle.gcd_history.specs.Runs.{act_at, last_worker}
 use Rattle.gcd_history.specs.Parked.{parked_by, has_run, is_busy}
 use Rattle.gcd_history.specs.Permitted.{why, is_halted, misuse_at}
@@ -117,6 +117,7 @@ own_only m past w own (Tick t) tied at may work by = absurd (both_ways false ref
 own_only m past w own (Ready s n) tied at may work by = absurd (both_ways false refl work)
 own_only m past w own (FeedEnd s) tied at may work by = absurd (both_ways false refl work)
 own_only m past w own Halt tied at may work by = absurd (both_ways false refl work)
+own_only m past w own (Expire b) tied at may work by = absurd (both_ways false refl work)
 
 -- and one is permitted, so it is chosen
 pub own_choice_is : (m : MachineView) (past : List Event) (w from : ℕ) (own : Run) → IsTied m.plan past m → is_halted past ≡ false → at_worker m w ≡ Some own

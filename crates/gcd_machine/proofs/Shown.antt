@@ -16,8 +16,8 @@ use Rattle.gcd_history.specs.Permitted as permitted
 use Rattle.gcd_history.specs.History.{why, IsLawful, running_of, next_due_of, is_live_feed, first_waiting_of, node_of, is_started, is_ended, awaited_of, last_data_of, pending_of, parks}
 use Rattle.gcd_history.specs.Ends.{is_halted}
 use Rattle.gcd_history.proofs.LawfulLemmas.{lawful_none, lawful_more}
-use Rattle.gcd_timer.specs.TimersView.{is_due_at, next_due_at, due_count_at}
-use Rattle.gcd_refinement.specs.MachineView.{MachineView, block_at, ended_at, handler_at, live_at}
+use Rattle.gcd_timer.specs.TimersView.{is_due_at, due_count_at}
+use Rattle.gcd_refinement.specs.MachineView.{MachineView, block_at, ended_at, handler_at, live_at, next_due_in}
 use Rattle.gcd_refinement.specs.After.{pending_in}
 use Rattle.gcd_refinement.specs.Stands.{IsTied}
 use Rattle.gcd_refinement.specs.Ties.{waiter}
@@ -25,7 +25,8 @@ use Rattle.gcd_machine.specs.Conditions.{HasPending}
 use Rattle.gcd_machine.specs.Judged.{first_waiting_at, why_by}
 use Rattle.gcd_machine.specs.Stands.{StandsFor}
 use Rattle.gcd_machine.proofs.Starts.{first_is}
-use Rattle.gcd_machine.proofs.Waits.{next_due_is, pending_is}
+use Rattle.gcd_refinement.proofs.NextDue.{next_due_is}
+use Rattle.gcd_machine.proofs.Waits.{pending_is}
 use Rattle.gcd_machine.proofs.Workers.{over_is}
 use Rattle.gcd_machine.proofs.Judges.{why_is}
 use Rattle.gcd_sync.specs.WaitsView.{reason_at}
@@ -54,9 +55,9 @@ pub running_stands : (m : MachineView) (plan : PlanView) (h : List Event) → St
 unfolding running_of
 running_stands m plan h stands = (tied_by m plan h stands).totals.running
 
-pub next_due_stands : (m : MachineView) (plan : PlanView) (h : List Event) → StandsFor m plan h → next_due_at m.timers ≡ next_due_of plan h
+pub next_due_stands : (m : MachineView) (plan : PlanView) (h : List Event) → StandsFor m plan h → next_due_in m ≡ next_due_of plan h
 unfolding next_due_of
-next_due_stands m plan h stands = let tied = tied_by m plan h stands in next_due_is plan (reverse h) m tied.parts tied.timers
+next_due_stands m plan h stands = next_due_is plan (reverse h) m (tied_by m plan h stands)
 
 -- ## Blocks
 

@@ -10,7 +10,7 @@ use Rattle.gcd_plan.specs.declared.numbers.Blk.{Blk}
 use Rattle.gcd_plan.specs.declared.numbers.Run.{Run}
 use Rattle.gcd_plan.specs.declared.numbers.Run.TheVariants.{Block, Source}
 use Rattle.gcd_event.specs.declared.event.Event.{Event}
-use Rattle.gcd_event.specs.declared.event.Event.TheVariants.{Start, Act as Acted, Wake, End, Deliver, DeliverEnd, Tick, Ready, FeedEnd, Misuse, Halt}
+use Rattle.gcd_event.specs.declared.event.Event.TheVariants.{Start, Act as Acted, Wake, End, Deliver, DeliverEnd, Tick, Ready, FeedEnd, Misuse, Halt, Expire}
 use Rattle.gcd_history.specs.Runs.{act_at, is_ended}
 use Rattle.gcd_history.specs.Submitted.{submitted, submission_of}
 use Rattle.gcd_history.specs.Permitted.{why, is_feed}
@@ -25,7 +25,7 @@ use Rattle.gcd_refinement.specs.MachineView.{MachineView}
 use Rattle.gcd_refinement.specs.Stands.{IsTied}
 use Rattle.gcd_refinement.specs.After.{after}
 use Rattle.gcd_machine.specs.Steps.{stepped}
-use Rattle.gcd_machine.proofs.PlainSteps.{start_stepped, wake_stepped, deliver_stepped, deliver_end_stepped, tick_stepped, ready_stepped, misuse_stepped, halt_stepped, feed_end_stepped}
+use Rattle.gcd_machine.proofs.PlainSteps.{start_stepped, wake_stepped, deliver_stepped, deliver_end_stepped, tick_stepped, ready_stepped, misuse_stepped, halt_stepped, expire_stepped, feed_end_stepped}
 use Rattle.gcd_machine.proofs.EndSteps.{end_stepped}
 use Rattle.gcd_machine.proofs.ActSteps.{HasPlaces, block_stepped, handler_stepped}
 
@@ -90,6 +90,7 @@ module _ (past : List Event) (m : MachineView) (t : IsTied m.plan past m) where
   stepped_here (FeedEnd s) may = feed_end_stepped m s
   stepped_here (Misuse w run i c) may = misuse_stepped m w run i c
   stepped_here Halt may = halt_stepped m
+  stepped_here (Expire b) may = expire_stepped m b
 
 -- whatever the plan is called
 pub stepped_is : (plan : PlanView) (past : List Event) (m : MachineView) (e : Event) → IsTied plan past m → why plan past e ≡ None → stepped m e ≡ after plan m e

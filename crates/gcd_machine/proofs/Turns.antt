@@ -10,8 +10,8 @@ use Rattle.gcd_lists.specs.ListsView.{ListsView, list_at, place_of}
 use Rattle.gcd_group.specs.GroupsView.{GroupsView, due_at, with_fired, fires_at}
 use Rattle.gcd_refinement.specs.MachineView.{MachineView, block_at, idle}
 use Rattle.gcd_refinement.specs.declared.progress.BlockProgress.{BlockProgress}
-use Rattle.gcd_refinement.specs.After.{popped, with_wakeable, with_block, fired_times}
-use Rattle.gcd_machine.specs.Steps.{let_go, all_let_go, submitted, fired_at, all_fired_at}
+use Rattle.gcd_refinement.specs.After.{popped, with_block, fired_times}
+use Rattle.gcd_machine.specs.Steps.{all_over, let_go, all_let_go, submitted, fired_at, all_fired_at}
 use Rattle.gcd_machine.specs.Conditions.{CanWakeAt, CanSubmit, HaveHomes, CanFire}
 use Rattle.gcd_machine.proofs.Places.{waits_as_before, waited_before, first_waits}
 use Rattle.gcd_machine.proofs.Firing.{none_fired_is}
@@ -38,9 +38,9 @@ first_and_rest (y ∷ xs) x first = ap (λ v. v ∷ xs) (same_Some y x first)
 
 -- ## Wakes
 
--- the machine with other sleepers, and other blocks that may wake
-abbrev with_sleepers : MachineView → List (List (Blk × Bool)) → List Bool → MachineView
-with_sleepers m lists wakeable = record m { sleepers = record m.sleepers { lists = lists }; wakeable = wakeable }
+-- the machine with other sleepers, where the waits of these blocks are over
+abbrev with_sleepers : MachineView → List (List (Blk × Bool)) → List (Blk × Bool) → MachineView
+with_sleepers m lists over = record (all_over m (map (λ v. v.0) over)) { sleepers = record m.sleepers { lists = lists } }
 
 -- one block less sleeps at the object
 abbrev pub without_first : MachineView → Obj → MachineView
@@ -51,16 +51,15 @@ wake_same : (m : MachineView) (o : Obj) (w : Blk × Bool) → slice_get (list_at
 wake_same m o w first =
     let lists = m.sleepers.lists in
     let ws = list_at m.sleepers o.0 in
-    let wakeable : List (Blk × Bool) → List Bool = λ vs. fold with_wakeable (with_wakeable m.wakeable w.0) (map (λ v. v.0) vs) in
     let a = set-set lists o.0 (drop 1 ws) [] in
-    let b = ap wakeable (rest_back lists o.0) in
-    let c = ap (λ vs. fold with_wakeable m.wakeable (map (λ v. v.0) vs)) (sym (first_and_rest ws w first)) in
-    ap (λ l. with_sleepers m l (wakeable (get_or (set lists o.0 (drop 1 ws)) o.0 []))) a ∙ ap (with_sleepers m (set lists o.0 [])) (b ∙ c)
+    let b = ap (λ vs. w ∷ vs) (rest_back lists o.0) ∙ sym (first_and_rest ws w first) in
+    ap (λ l. with_sleepers m l (w ∷ get_or (set lists o.0 (drop 1 ws)) o.0 [])) a ∙ ap (with_sleepers m (set lists o.0 [])) b
 
 wake_goes_on : (m : MachineView) (o : Obj) (b : Blk) → CanWakeAt m o → CanWakeAt (let_go (without_first m o) b) o
 wake_goes_on m o b can = record {
   object = rw length-set can.object;
   blocks = rw length-set can.blocks;
+  ripe = rw length-set can.ripe;
 }
 
 -- what is left to do makes of the machine what was to be made of it in the beginning
@@ -83,9 +82,9 @@ pub wake_end : (m : MachineView) (o : Obj) → slice_get (list_at m.sleepers o.0
 wake_end m o none =
     let lists = m.sleepers.lists in
     let empty = none_first (list_at m.sleepers o.0) none in
-    ap (λ ws. with_sleepers m (set lists o.0 []) (fold with_wakeable m.wakeable (map (λ v. v.0) ws))) empty
-    ∙ (ap (λ ws. with_sleepers m (set lists o.0 ws) m.wakeable) (sym empty)
-    ∙ ap (λ l. with_sleepers m l m.wakeable) (set-get_or lists o.0 []))
+    ap (with_sleepers m (set lists o.0 [])) empty
+    ∙ (ap (λ ws. with_sleepers m (set lists o.0 ws) []) (sym empty)
+    ∙ ap (λ l. with_sleepers m l []) (set-get_or lists o.0 []))
 
 -- ## Notify blocks
 

@@ -1,55 +1,90 @@
 -- Which parked blocks may go on, and when time may move, as what a machine keeps tells it.
-use Rattle.std.proofs.Common.{◌≡◌, ⊎_elim, ℕ, ◌+◌, ◌-◌, ◌<◌, ◌≤◌, ◌==◌, nat_le, nat_lt, false, not, ◌&&◌, ◌||◌, List, length, Option, Some, None, find, is_some, is_none, refl, ap, sym, ◌∙◌, arith}
-use Rattle.std.specs.List.{list_any, range_with_len}
+use Rattle.std.proofs.Common.{◌≡◌, ⊎_elim, ℕ, ◌+◌, ◌-◌, ◌<◌, ◌≤◌, ◌==◌, nat_le, nat_lt, false, not, ◌&&◌, ◌||◌, Bool, true, List, take, count_by, Option, Some, None, is_some, is_none, refl, ap, sym, ◌∙◌, arith}
+use Rattle.std.specs.List.{slice_index_or}
 use Rattle.std.specs.Option.{option_map_or}
-use Rattle.std.proofs.Math.Path.{fun_ext}
 use Rattle.std.proofs.lemmas.Bool.{cases_eq, cases_lt, eq-eqb, ne_eqb, lt-ltb, ltb-true, false_from_ne_true, or_left, or_right}
-use Rattle.std.proofs.lemmas.List.{length-map}
-use Rattle.std.proofs.lemmas.Option.{slice_get-map}
+use Rattle.std.proofs.lemmas.List.{take-map}
 use Rattle.gcd_plan.specs.PlanView.{PlanView}
 use Rattle.gcd_plan.specs.declared.numbers.Blk.{Blk}
 use Rattle.gcd_plan.specs.declared.numbers.Run.TheVariants.{Block}
 use Rattle.gcd_plan.specs.declared.reason.Reason.{Reason}
 use Rattle.gcd_plan.specs.declared.reason.Reason.TheVariants.{Block as EndOf, Group as Empty, Rank}
 use Rattle.gcd_event.specs.declared.event.Event.{Event}
-use Rattle.gcd_history.specs.Parked.{awaited, has_come, is_parked, may_wake}
-use Rattle.gcd_history.specs.Timers.{now, is_due, is_any_due, next_due, may_tick}
+use Rattle.gcd_history.specs.Expired.{has_expired}
+use Rattle.gcd_history.specs.Groups.{is_empty_above}
+use Rattle.gcd_history.specs.Semas.{waits_on, unexpired, is_expired_wait, passes}
+use Rattle.gcd_history.specs.Parked.{awaited, has_come, has_run_out, is_over, is_parked, may_wake}
+use Rattle.gcd_history.specs.Timers.{now}
+use Rattle.gcd_history.specs.Due.{limit, is_at_limit, next_due, may_tick}
 use Rattle.gcd_history.specs.Sources.{pending, is_pending}
-use Rattle.gcd_sync.specs.WaitsView.{reason_at, has_come_in}
+use Rattle.gcd_plan.proofs.Mapped.{get_or-mapped}
+use Rattle.gcd_plan.proofs.Sums.{count_by-map}
+use Rattle.gcd_sema.specs.SemasView.{expiries_at, is_expired_at, is_passed_at}
+use Rattle.gcd_sync.specs.WaitsView.{reason_at, has_come_in, has_expired_at}
 use Rattle.gcd_source.specs.SourcesView.{pending_at, is_cancelled_at}
-use Rattle.gcd_timer.specs.TimersView.{is_due_at, is_any_due_at, next_due_at, due_count_at}
+use Rattle.gcd_timer.specs.TimersView.{due_count_at}
 use Rattle.gcd_refinement.specs.MachineView.{MachineView, handler_at}
-use Rattle.gcd_refinement.specs.Shape.{PartsFit}
 use Rattle.gcd_refinement.specs.Stands.{IsTied}
-use Rattle.gcd_refinement.specs.Ties.{SourcesAre, TimersAre}
+use Rattle.gcd_refinement.specs.Ties.{SourcesAre}
 use Rattle.gcd_refinement.specs.After.{pending_in}
 use Rattle.gcd_refinement.proofs.GroupSleepers.{parked_since}
+use Rattle.gcd_refinement.proofs.NextDue.{next_due_is}
 use Rattle.gcd_refinement.proofs.StepAsleep.{first_is}
-use Rattle.gcd_machine.specs.Judged.{has_pending_at, is_pending_at, may_tick_at, may_wake_at}
+use Rattle.gcd_machine.specs.Judged.{has_pending_at, is_at_limit_at, is_pending_at, may_tick_at, may_wake_at}
 
 -- ## Parked blocks
 
--- what a block is parked for has come
-come_is : (plan : PlanView) (past : List Event) (v : MachineView) (b : Blk) (why : Reason) → IsTied plan past v → awaited plan past (Block b) ≡ Some why
-    → has_come_in v.groups v.semas v.ended why ≡ has_come plan past why
-unfolding has_come
-come_is plan past v b (EndOf c) tied is = tied.blocks.ended c.0
-come_is plan past v b (Empty g p) tied is = tied.groups.empty g.0 p (parked_since plan past b g p is)
-come_is plan past v b (Rank s k) tied is =
-    let first = first_is plan v s.0 tied.parts in
-    let signals = tied.semas.signals s.0 in
-    rw (first, signals) refl
+-- the waits on a semaphore, by rank: which have expired, and which pass
+pub expired_is : (plan : PlanView) (past : List Event) (v : MachineView) (s k : ℕ) → IsTied plan past v → is_expired_at v.semas s k ≡ is_expired_wait plan past s k
+expired_is plan past v s k tied =
+    ap (λ l. slice_index_or l (k - 1) false) (tied.semas.waits s) ∙ get_or-mapped (has_expired past) (waits_on plan past s) (k - 1) false
+
+pub passed_is : (plan : PlanView) (past : List Event) (v : MachineView) (s k : ℕ) → IsTied plan past v → is_passed_at v.semas s k ≡ passes plan past s k
+passed_is plan past v s k tied =
+    let expired = expired_is plan past v s k tied in
+    let first = first_is plan v s tied.parts in
+    let signals = tied.semas.signals s in
+    let left : count_by not (take k (expiries_at v.semas s)) ≡ unexpired past (take k (waits_on plan past s)) =
+    ap (λ l. count_by not (take k l)) (tied.semas.waits s)
+    ∙ (ap (count_by not) (take-map (has_expired past) k (waits_on plan past s))
+    ∙ count_by-map not (has_expired past) (take k (waits_on plan past s))) in
+    rw (expired, left, first, signals) refl
+
+-- what a block is parked for has come, or its wait has expired
+empty_or_expired : (empty out : Bool) → (empty || out) ≡ ((not out && empty) || out)
+empty_or_expired true true = refl
+empty_or_expired true false = refl
+empty_or_expired false true = refl
+empty_or_expired false false = refl
+
+over_in : (plan : PlanView) (past : List Event) (v : MachineView) (b : Blk) (why : Reason) → IsTied plan past v → awaited plan past (Block b) ≡ Some why
+    → (has_come_in v.groups v.semas v.ended why || has_run_out plan past why) ≡ is_over plan past why
+unfolding has_come has_run_out
+over_in plan past v b (EndOf c) tied is = ap (λ u. u || false) (tied.blocks.ended c.0)
+over_in plan past v b (Empty g p) tied is =
+    ap (λ u. u || has_expired past p) (tied.groups.empty g.0 p (parked_since plan past b g p is))
+    ∙ empty_or_expired (is_empty_above plan past g.0 p) (has_expired past p)
+over_in plan past v b (Rank s k) tied is = ap (λ u. u || is_expired_wait plan past s.0 k) (passed_is plan past v s.0 k tied)
 
 pub wake_is : (plan : PlanView) (past : List Event) (v : MachineView) (b : ℕ) → IsTied plan past v → may_wake_at v b ≡ may_wake plan past b
 unfolding may_wake
 wake_is plan past v b tied =
-    let same : reason_at v.waits b ≡ awaited plan past (Block (record { 0 = b })) = tied.waits.reasons b in
-    ap (λ o. option_map_or (has_come_in v.groups v.semas v.ended) o false) same
-    ∙ elim (awaited plan past (Block (record { 0 = b }))) as (λ o. awaited plan past (Block (record { 0 = b })) ≡ o
-    → option_map_or (has_come_in v.groups v.semas v.ended) o false ≡ option_map_or (has_come plan past) o false) [
+    let run = Block (record { 0 = b }) in
+    let same : reason_at v.waits b ≡ awaited plan past run = tied.waits.reasons b in
+    ap (λ o. option_map_or (λ why. has_come_in v.groups v.semas v.ended why || has_expired_at v.waits b) o false) same
+    ∙ (ap (λ t. option_map_or (λ why. has_come_in v.groups v.semas v.ended why || t) (awaited plan past run) false) (tied.waits.expired b)
+    ∙ elim (awaited plan past run) as (λ o. awaited plan past run ≡ o
+    → option_map_or (λ why. has_come_in v.groups v.semas v.ended why || option_map_or (has_run_out plan past) o false) o false ≡ option_map_or (is_over plan past) o false) [
       | None ↦ λ is. refl
-      | Some why ↦ λ is. come_is plan past v (record { 0 = b }) why tied is
-    ] refl
+      | Some why ↦ λ is. over_in plan past v (record { 0 = b }) why tied is
+    ] refl)
+
+-- time has come to the limit of a wait
+pub limit_is : (plan : PlanView) (past : List Event) (v : MachineView) (b : ℕ) → IsTied plan past v → is_at_limit_at v b ≡ is_at_limit plan past b
+unfolding is_at_limit
+limit_is plan past v b tied =
+    ap (λ o. option_map_or (λ end. nat_le end v.timers.moment) o false) (tied.waits.limits b)
+    ∙ ap (λ n. option_map_or (λ end. nat_le end n) (limit plan past b) false) tied.timers.moment
 
 pub parked_is : (plan : PlanView) (past : List Event) (v : MachineView) (b : ℕ) → IsTied plan past v → is_none (reason_at v.waits b) ≡ not (is_parked plan past b)
 unfolding is_parked
@@ -61,28 +96,10 @@ parked_is plan past v b tied = ap is_none (tied.waits.reasons b) ∙ turned (awa
 
 -- ## Due times
 
-due_at_is : (plan : PlanView) (past : List Event) (v : MachineView) (s t : ℕ) → PartsFit plan v → TimersAre plan past v → is_due_at v.timers s t ≡ is_due plan past s t
-due_at_is plan past v s t fit ties =
-    let on = ties.activated s in
-    let off = ties.cancelled s in
-    rw (on, off, fit.until, fit.timer_kinds, slice_get-map (λ o. o.kind) plan.objects s) refl
-
-any_due_is : (plan : PlanView) (past : List Event) (v : MachineView) (t : ℕ) → PartsFit plan v → TimersAre plan past v → is_any_due_at v.timers t ≡ is_any_due plan past t
-any_due_is plan past v t fit ties =
-    ap (λ n. list_any (λ s. is_due_at v.timers s t) (range_with_len 0 n)) (ap length fit.timer_kinds ∙ length-map plan.objects (λ o. o.kind))
-    ∙ ap (λ p. list_any p (range_with_len 0 (length plan.objects))) (fun_ext (λ s. due_at_is plan past v s t fit ties))
-
-pub next_due_is : (plan : PlanView) (past : List Event) (v : MachineView) → PartsFit plan v → TimersAre plan past v → next_due_at v.timers ≡ next_due plan past
-unfolding next_due
-next_due_is plan past v fit ties =
-    ap (λ p. find p (range_with_len (v.timers.moment + 1) (v.timers.until - v.timers.moment))) (fun_ext (λ t. any_due_is plan past v t fit ties))
-    ∙ (ap (λ n. find (is_any_due plan past) (range_with_len (n + 1) (v.timers.until - n))) ties.moment
-    ∙ ap (λ n. find (is_any_due plan past) (range_with_len (now past + 1) (n - now past))) fit.until)
-
 pub tick_is : (plan : PlanView) (past : List Event) (v : MachineView) (t : ℕ) → IsTied plan past v → v.plan ≡ plan → may_tick_at v t ≡ may_tick plan past t
 unfolding may_tick
 tick_is plan past v t tied own =
-    ap (λ o. nat_lt v.timers.moment t && (nat_le t v.plan.until && option_map_or (λ due. nat_le due t) o false)) (next_due_is plan past v tied.parts tied.timers)
+    ap (λ o. nat_lt v.timers.moment t && (nat_le t v.plan.until && option_map_or (λ due. nat_le due t) o false)) (next_due_is plan past v tied)
     ∙ (ap (λ n. nat_lt n t && (nat_le t v.plan.until && option_map_or (λ due. nat_le due t) (next_due plan past) false)) tied.timers.moment
     ∙ ap (λ (p : PlanView). nat_lt (now past) t && (nat_le t p.until && option_map_or (λ due. nat_le due t) (next_due plan past) false)) own)
 

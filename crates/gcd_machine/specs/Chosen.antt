@@ -9,15 +9,14 @@ use Rattle.gcd_plan.specs.declared.numbers.Blk.{Blk}
 use Rattle.gcd_plan.specs.declared.numbers.Run.{Run}
 use Rattle.gcd_event.specs.declared.event.Event.{Event}
 use Rattle.gcd_event.specs.declared.event.Event.TheVariants.{Start, Act as Acted, Deliver, Misuse}
-use Rattle.gcd_history.specs.Choice.{end_of, wake_event}
+use Rattle.gcd_history.specs.Choice.{end_of, wake_event, expire_event}
 use Rattle.gcd_history.specs.Permitted.{is_worker}
 use Rattle.gcd_history.specs.declared.state.State.{State}
 use Rattle.gcd_history.specs.declared.state.State.TheVariants.{Drained, Stuck, Misused, Halted, Live}
 use Rattle.gcd_lists.specs.ListsView.{list_at}
-use Rattle.gcd_timer.specs.TimersView.{next_due_at}
 use Rattle.gcd_drain.specs.Rule.{is_fenced_at}
 use Rattle.gcd_drain.specs.Shut.{is_shut_by}
-use Rattle.gcd_refinement.specs.MachineView.{MachineView, block_at, at_worker, busy_at}
+use Rattle.gcd_refinement.specs.MachineView.{MachineView, block_at, at_worker, busy_at, next_due_in}
 use Rattle.gcd_machine.specs.Judged.{done_at, next_act_at, misuse_by, is_busy_at, is_pending_at}
 
 -- ## Of its own run
@@ -90,13 +89,17 @@ begin_by m w n =
     then None
     else (if is_busy_at m w then None else node_at m w n)
 
+-- the Expire that worker 0 records: of the block with the least number whose wait may expire
+abbrev pub expiry_by : MachineView → Option Event
+expiry_by m = if m.misused || m.halted then None else option_map expire_event (next_set m.ripe 0)
+
 -- ## How far the run has come
 
 -- nothing but a halt can come, and the run is not halted
 abbrev pub is_quiescent_at : MachineView → Bool
 is_quiescent_at m =
     not (m.misused || m.halted)
-    && (m.running == 0 && (count_by (λ b. b) m.live == 0 && (is_none (next_due_at m.timers) && is_none (choice_by m 0 0))))
+    && (m.running == 0 && (count_by (λ b. b) m.live == 0 && (count_by (λ b. b) m.ripe == 0 && (is_none (next_due_in m) && is_none (choice_by m 0 0)))))
 
 -- how far the run has come; where nothing can come and no block is left it is drained, and else stuck
 abbrev pub state_by : MachineView → State

@@ -1,8 +1,8 @@
 -- When each private step of a machine may be made: what its parts and arrays ask, of the state before the step.
-use Rattle.std.specs.Prelude.{◌≡◌, ◌<◌, ◌≤◌, ℕ, ◌+◌, ◌^◌, Bool, true, false, length, Some, None, is_some, sum}
+use Rattle.std.specs.Prelude.{◌≡◌, ◌<◌, ◌≤◌, ℕ, ◌+◌, ◌^◌, Bool, true, false, length, Some, None, Option, is_some, sum, option_map}
 use Rattle.gcd_plan.specs.PlanView.{cancel_block}
 use Rattle.gcd_plan.specs.declared.act.Act.{Act}
-use Rattle.gcd_plan.specs.declared.act.Act.TheVariants.{Async, Barrier, Sync, BarrierSync, GroupAsync, Notify, Enter, Leave, GroupWait, Signal, Wait, Suspend, Resume, Activate, Target, Merge, Cancel, Retain, Release}
+use Rattle.gcd_plan.specs.declared.act.Act.TheVariants.{Async, Barrier, Sync, BarrierSync, GroupAsync, Notify, Enter, Leave, GroupWait, GroupWaitFor, Signal, Wait, WaitFor, Suspend, Resume, Activate, Target, Merge, Cancel, Retain, Release}
 use Rattle.gcd_plan.specs.declared.numbers.Blk.{Blk}
 use Rattle.gcd_plan.specs.declared.numbers.Obj.{Obj}
 use Rattle.gcd_plan.specs.declared.numbers.Run.{Run}
@@ -10,18 +10,20 @@ use Rattle.gcd_plan.specs.declared.numbers.Run.TheVariants.{Block, Source}
 use Rattle.gcd_plan.specs.declared.reason.Reason.{Reason}
 use Rattle.gcd_plan.specs.declared.reason.Reason.TheVariants.{Block as EndOf, Group as Empty, Rank}
 use Rattle.gcd_event.specs.declared.event.Event.{Event}
-use Rattle.gcd_event.specs.declared.event.Event.TheVariants.{Start, Act as Acted, Wake, End, Deliver, DeliverEnd, Tick, Ready, FeedEnd, Misuse, Halt}
+use Rattle.gcd_event.specs.declared.event.Event.TheVariants.{Start, Act as Acted, Wake, End, Deliver, DeliverEnd, Tick, Ready, FeedEnd, Misuse, Halt, Expire}
 use Rattle.gcd_history.specs.Runs.{act_at}
 use Rattle.gcd_lists.specs.ListsView.{place_of, list_at}
 use Rattle.gcd_tree.specs.TreeView.{open_on_at, has_mover_at, is_node_at, would_cycle_at, has_child_at, open_beneath_at}
 use Rattle.gcd_hold.specs.HoldsView.{hold_at, is_active_at, is_over_resumed_at}
 use Rattle.gcd_drain.specs.DrainsView.{barriers_at}
 use Rattle.gcd_group.specs.GroupsView.{count_at, entered_at, due_at}
-use Rattle.gcd_sema.specs.SemasView.{waits_at, signals_at}
+use Rattle.gcd_sema.specs.SemasView.{waits_at, signals_at, room_at, is_expired_at, is_passed_at}
 use Rattle.gcd_source.specs.SourcesView.{pending_at, is_cancelled_at, merged_at}
 use Rattle.gcd_timer.specs.TimersView.{due_count_at, activated_at, cancelled_at}
-use Rattle.gcd_sync.specs.WaitsView.{Fits}
+use Rattle.gcd_sync.specs.WaitsView.{Fits, reason_at, limit_at}
 use Rattle.gcd_refinement.specs.MachineView.{MachineView, block_at, handler_at, refs_at}
+use Rattle.gcd_refinement.specs.After.{bed_of}
+use Rattle.gcd_refinement.specs.AfterLimits.{limit_in_view}
 
 -- ## Workers and wakes
 
@@ -35,11 +37,17 @@ pub record CanSetFree (m : MachineView) (w : ℕ) : Type 0 where
   pub worker : w < length m.workers
   pub running : 0 < m.running
 
--- worker w may park block b
-pub record CanPark (m : MachineView) (w : ℕ) (b : Blk) (why : Reason) : Type 0 where
+-- limits are kept of block b, and this is one
+pub record CanKeepLimit (m : MachineView) (b : Blk) (end : ℕ) : Type 0 where
+  pub kept : b.0 < length m.waits.limits
+  pub short : end + 1 < 2 ^ 32
+
+-- worker w may park block b, with this limit or without one
+pub record CanPark (m : MachineView) (w : ℕ) (b : Blk) (why : Reason) (limit : Option ℕ) : Type 0 where
   pub worker : CanSetFree m w
   pub blk : b.0 < length m.waits.reasons
   pub fits : Fits m.waits why
+  pub keeps : (end : ℕ) → limit ≡ Some end → CanKeepLimit m b end
 
 -- block b, which sleeps nowhere, may sleep at the object
 pub record CanLayDown (m : MachineView) (o : Obj) (b : Blk) : Type 0 where
@@ -47,10 +55,21 @@ pub record CanLayDown (m : MachineView) (o : Obj) (b : Blk) : Type 0 where
   pub blk : b.0 < m.sleepers.blocks
   pub awake : place_of m.sleepers b.0 ≡ None
 
+-- the wait of block b may be over
+pub record CanLetGo (m : MachineView) (b : Blk) : Type 0 where
+  pub wakeable : b.0 < length m.wakeable
+  pub ripe : b.0 < length m.ripe
+
 -- blocks may sleep at the object
 pub record CanWakeAt (m : MachineView) (o : Obj) : Type 0 where
   pub object : o.0 < length m.sleepers.lists
   pub blocks : m.sleepers.blocks ≡ length m.wakeable
+  pub ripe : m.sleepers.blocks ≡ length m.ripe
+
+-- the limit of block b's wait may be ahead
+pub record CanBeAhead (m : MachineView) (b : Blk) (end : ℕ) : Type 0 where
+  pub kept : b.0 < length m.ahead
+  pub short : end + 1 < 2 ^ 32
 
 -- ## Nodes
 
@@ -246,8 +265,10 @@ CanHaveEffect m (Notify g q b) = CanRegister m g q b
 CanHaveEffect m (Enter g) = CanEnter m g
 CanHaveEffect m (Leave g) = CanLeaveByAct m g
 CanHaveEffect m (GroupWait g) = Unit {0}
+CanHaveEffect m (GroupWaitFor g ms) = Unit {0}
 CanHaveEffect m (Signal s) = CanSignal m s
 CanHaveEffect m (Wait s) = Unit {0}
+CanHaveEffect m (WaitFor s ms) = Unit {0}
 CanHaveEffect m (Suspend o) = CanSuspend m o
 CanHaveEffect m (Resume o) = CanResume m o
 CanHaveEffect m (Activate o) = CanActivate m o
@@ -260,22 +281,24 @@ CanHaveEffect m (Release o) = CanRelease m o
 -- block b may wait for the end of block c
 pub record CanCall (m : MachineView) (w : ℕ) (b : Blk) (c : Blk) : Type 0 where
   pub called : c.0 < length m.blocks
-  pub parks : CanPark m w b (EndOf c)
+  pub parks : CanPark m w b (EndOf c) None
 
--- block b may wait for group g
-pub record CanWaitForGroup (m : MachineView) (w : ℕ) (b : Blk) (g : Obj) : Type 0 where
+-- block b may wait for group g, with this limit or without one
+pub record CanWaitForGroup (m : MachineView) (w : ℕ) (b : Blk) (g : Obj) (limit : Option ℕ) : Type 0 where
   pub group : g.0 < length m.groups.counts
-  pub wakeable : b.0 < length m.wakeable
+  pub over : CanLetGo m b
   pub sleeps : CanLayDown m g b
-  pub parks : CanPark m w b (Empty g m.len)
+  pub ahead : (end : ℕ) → limit ≡ Some end → CanBeAhead m b end
+  pub parks : CanPark m w b (Empty g m.len) limit
 
--- block b may wait for semaphore s
-pub record CanWaitForSemaphore (m : MachineView) (w : ℕ) (b : Blk) (s : Obj) : Type 0 where
+-- block b may wait for semaphore s, with this limit or without one
+pub record CanWaitForSemaphore (m : MachineView) (w : ℕ) (b : Blk) (s : Obj) (limit : Option ℕ) : Type 0 where
   pub semaphore : s.0 < length m.semas.waits
-  pub room : waits_at m.semas s.0 + 1 < 2 ^ 32
-  pub wakeable : b.0 < length m.wakeable
+  pub room : waits_at m.semas s.0 < room_at m.semas s.0
+  pub over : CanLetGo m b
   pub sleeps : CanLayDown m s b
-  pub parks : CanPark m w b (Rank s (waits_at m.semas s.0 + 1))
+  pub ahead : (end : ℕ) → limit ≡ Some end → CanBeAhead m b end
+  pub parks : CanPark m w b (Rank s (waits_at m.semas s.0 + 1)) limit
 
 -- block b may be parked where the act waits for something
 abbrev pub CanParkBy : MachineView → ℕ → Blk → Act → Type 0
@@ -287,9 +310,11 @@ CanParkBy m w b (GroupAsync g q c) = Unit {0}
 CanParkBy m w b (Notify g q c) = Unit {0}
 CanParkBy m w b (Enter g) = Unit {0}
 CanParkBy m w b (Leave g) = Unit {0}
-CanParkBy m w b (GroupWait g) = CanWaitForGroup m w b g
+CanParkBy m w b (GroupWait g) = CanWaitForGroup m w b g None
+CanParkBy m w b (GroupWaitFor g ms) = CanWaitForGroup m w b g (limit_in_view m (Some (GroupWaitFor g ms)))
 CanParkBy m w b (Signal s) = Unit {0}
-CanParkBy m w b (Wait s) = CanWaitForSemaphore m w b s
+CanParkBy m w b (Wait s) = CanWaitForSemaphore m w b s None
+CanParkBy m w b (WaitFor s ms) = CanWaitForSemaphore m w b s (limit_in_view m (Some (WaitFor s ms)))
 CanParkBy m w b (Suspend o) = Unit {0}
 CanParkBy m w b (Resume o) = Unit {0}
 CanParkBy m w b (Activate o) = Unit {0}
@@ -341,6 +366,28 @@ pub record CanWake (m : MachineView) (w : ℕ) (b : Blk) : Type 0 where
   pub blk : b.0 < length m.waits.reasons
   pub wakeable : b.0 < length m.wakeable
 
+-- the wait on semaphore s of this rank has begun, and has neither passed nor expired
+pub record IsWaiting (m : MachineView) (s : ℕ) (rank : ℕ) : Type 0 where
+  pub low : 1 ≤ rank
+  pub begun : rank ≤ waits_at m.semas s
+  pub not_passed : is_passed_at m.semas s rank ≡ false
+  pub not_expired : is_expired_at m.semas s rank ≡ false
+
+-- block b's wait for this, which has begun and neither passed nor expired, may end: the block sleeps where it waits
+pub record CanEndWait (m : MachineView) (b : Blk) (awaited : Option Reason) : Type 0 where
+  pub listed : b.0 < m.sleepers.blocks
+  pub objects : length m.sleepers.lists ≡ length m.semas.waits
+  pub known : (o : Obj) → bed_of awaited ≡ Some o → o.0 < length m.sleepers.lists
+  pub asleep : option_map (λ at. at.0) (place_of m.sleepers b.0) ≡ bed_of awaited
+  pub semaphore : (s : Obj) (k : ℕ) → awaited ≡ Some (Rank s k) → IsWaiting m s.0 k
+
+-- the wait of block b, which is parked with a limit, may expire
+pub record CanExpire (m : MachineView) (b : Blk) : Type 0 where
+  pub blk : b.0 < length m.waits.reasons
+  pub over : CanLetGo m b
+  pub limited : is_some (limit_at m.waits b.0) ≡ true
+  pub ends : CanEndWait m b (reason_at m.waits b.0)
+
 -- block b may be over, and worker w free
 pub record CanCloseBlock (m : MachineView) (w : ℕ) (b : Blk) : Type 0 where
   pub worker : CanSetFree m w
@@ -352,7 +399,7 @@ pub record CanCloseBlock (m : MachineView) (w : ℕ) (b : Blk) : Type 0 where
 -- worker w may end block b
 pub record CanEnd (m : MachineView) (w : ℕ) (b : Blk) : Type 0 where
   pub closes : CanCloseBlock m w b
-  pub caller : (c : Blk) → (block_at m b.0).caller ≡ Some c → c.0 < length m.wakeable
+  pub caller : (c : Blk) → (block_at m b.0).caller ≡ Some c → CanLetGo m c
   pub group : (g : Obj) → (block_at m b.0).group ≡ Some g → CanLeave m g
 
 -- worker w may hand what is pending at source s to its handler
@@ -372,6 +419,7 @@ pub record CanEndDelivery (m : MachineView) (w : ℕ) (s : Obj) : Type 0 where
 pub record CanTick (m : MachineView) (t : ℕ) : Type 0 where
   pub forward : m.timers.moment ≤ t
   pub within : t ≤ m.timers.until
+  pub limits : length m.ahead ≤ length m.ripe
   pub marked : length m.busy ≡ length m.timers.kinds
 
 -- what the event changes beside the number of events may be changed
@@ -387,6 +435,7 @@ CanChange m (Ready s n) = CanMerge m s n
 CanChange m (FeedEnd s) = CanCancel m s
 CanChange m (Misuse w run i c) = Unit {0}
 CanChange m Halt = Unit {0}
+CanChange m (Expire b) = CanExpire m b
 
 -- the event may be taken
 pub record CanTake (m : MachineView) (e : Event) : Type 0 where

@@ -8,16 +8,16 @@ use Rattle.gcd_plan.specs.Kinds.{has_kind, is_semaphore_kind, is_node}
 use Rattle.gcd_plan.specs.StartRule.{first_of}
 use Rattle.gcd_plan.specs.MisuseCodes.{code_of}
 use Rattle.gcd_plan.specs.declared.act.Act.{Act}
-use Rattle.gcd_plan.specs.declared.act.Act.TheVariants.{Async, Barrier, Sync, BarrierSync, GroupAsync, Notify, Enter, Leave, GroupWait, Signal, Wait, Suspend, Resume, Activate, Target, Merge, Cancel, Retain, Release}
+use Rattle.gcd_plan.specs.declared.act.Act.TheVariants.{Async, Barrier, Sync, BarrierSync, GroupAsync, Notify, Enter, Leave, GroupWait, GroupWaitFor, Signal, Wait, WaitFor, Suspend, Resume, Activate, Target, Merge, Cancel, Retain, Release}
 use Rattle.gcd_plan.specs.declared.misuse_code.MisuseCode.TheVariants.{OverResume, UnbalancedLeave, TargetCycle, TargetAfterActivation, TargetWhileTargeted, UseAfterRelease, ReleaseWhileSuspended, ReleaseBelowFirstValue}
 use Rattle.gcd_plan.specs.declared.numbers.Blk.{Blk}
 use Rattle.gcd_plan.specs.declared.numbers.Obj.{Obj}
 use Rattle.gcd_plan.specs.declared.numbers.Run.{Run}
 use Rattle.gcd_plan.specs.declared.numbers.Run.TheVariants.{Block, Source}
 use Rattle.gcd_plan.specs.declared.why.Why.{Why}
-use Rattle.gcd_plan.specs.declared.why.Why.TheVariants.{Over, NoSuch, Busy, Unready, NotOwn, NotNext, IsMisuse, NotParked, Waiting, NotDue, NotLive, NotMisuse}
+use Rattle.gcd_plan.specs.declared.why.Why.TheVariants.{Over, NoSuch, Busy, Unready, NotOwn, NotNext, IsMisuse, NotParked, Waiting, NotDue, NotLive, NotMisuse, Came}
 use Rattle.gcd_event.specs.declared.event.Event.{Event}
-use Rattle.gcd_event.specs.declared.event.Event.TheVariants.{Start, Act as Acted, Wake, End, Deliver, DeliverEnd, Tick, Ready, FeedEnd, Misuse, Halt}
+use Rattle.gcd_event.specs.declared.event.Event.TheVariants.{Start, Act as Acted, Wake, End, Deliver, DeliverEnd, Tick, Ready, FeedEnd, Misuse, Halt, Expire}
 use Rattle.gcd_history.specs.Runs.{act_at}
 use Rattle.gcd_history.specs.Misuses.{named, first_code}
 use Rattle.gcd_history.specs.Permitted.{is_known}
@@ -25,12 +25,11 @@ use Rattle.gcd_lists.specs.ListsView.{list_at}
 use Rattle.gcd_tree.specs.TreeView.{would_cycle_at, has_child_at}
 use Rattle.gcd_hold.specs.HoldsView.{hold_at, is_active_at, is_over_resumed_at}
 use Rattle.gcd_group.specs.GroupsView.{entered_at}
-use Rattle.gcd_sema.specs.SemasView.{signals_at, waits_at}
-use Rattle.gcd_sync.specs.WaitsView.{reason_at, may_wake_in}
+use Rattle.gcd_sema.specs.SemasView.{is_below_first_at as is_below_first_in}
+use Rattle.gcd_sync.specs.WaitsView.{reason_at, limit_at, may_wake_in}
 use Rattle.gcd_source.specs.SourcesView.{pending_at, is_cancelled_at}
-use Rattle.gcd_timer.specs.TimersView.{next_due_at}
 use Rattle.gcd_drain.specs.Rule.{start_fault_of, run_fault_of}
-use Rattle.gcd_refinement.specs.MachineView.{MachineView, block_at, handler_at, at_worker, refs_at, live_at}
+use Rattle.gcd_refinement.specs.MachineView.{MachineView, block_at, handler_at, at_worker, refs_at, live_at, next_due_in}
 use Rattle.gcd_refinement.specs.Ties.{is_run}
 use Rattle.gcd_refinement.specs.After.{has_due}
 
@@ -69,7 +68,7 @@ is_held_node_at m o = is_node m.plan o && (nat_lt 0 (hold_at m.holds o) || not (
 
 -- s is a semaphore whose value is below its first value
 abbrev pub is_below_first_at : MachineView → ℕ → Bool
-is_below_first_at m s = has_kind is_semaphore_kind m.plan s && nat_lt (signals_at m.semas s) (waits_at m.semas s)
+is_below_first_at m s = has_kind is_semaphore_kind m.plan s && is_below_first_in m.semas s
 
 -- the other object of an act that names two
 abbrev pub second_of : Option Obj → List ℕ
@@ -87,8 +86,10 @@ act_misuses_at m (Notify g q b) = []
 act_misuses_at m (Enter g) = []
 act_misuses_at m (Leave g) = (code_of UnbalancedLeave, entered_at m.groups g.0 == 0) ∷ []
 act_misuses_at m (GroupWait g) = []
+act_misuses_at m (GroupWaitFor g ms) = []
 act_misuses_at m (Signal s) = []
 act_misuses_at m (Wait s) = []
+act_misuses_at m (WaitFor s ms) = []
 act_misuses_at m (Suspend o) = []
 act_misuses_at m (Resume o) = (code_of OverResume, is_over_resumed_at m.holds o.0) ∷ []
 act_misuses_at m (Activate o) = []
@@ -137,11 +138,15 @@ source_fault_at m s = if is_pending_at m s then run_fault_of m.drains m.tree m.h
 -- time may come to t
 abbrev pub may_tick_at : MachineView → ℕ → Bool
 may_tick_at m t =
-    nat_lt m.timers.moment t && (nat_le t m.plan.until && option_map_or (λ due. nat_le due t) (next_due_at m.timers) false)
+    nat_lt m.timers.moment t && (nat_le t m.plan.until && option_map_or (λ due. nat_le due t) (next_due_in m) false)
 
--- block b is parked, and what it waits for has come
+-- block b is parked, and what it waits for has come, or its wait has expired
 abbrev pub may_wake_at : MachineView → ℕ → Bool
 may_wake_at m b = may_wake_in m.waits m.groups m.semas m.ended b
+
+-- block b is parked with a limit, and time has come to it
+abbrev pub is_at_limit_at : MachineView → ℕ → Bool
+is_at_limit_at m b = option_map_or (λ end. nat_le end m.timers.moment) (limit_at m.waits b) false
 
 -- why an event that the plan knows may not come next, if the run goes on
 abbrev pub fault_at : MachineView → Event → Option Why
@@ -162,6 +167,8 @@ fault_at m (Misuse w run i c) =
     first_of ((NotOwn, not (is_own_at m w run)) ∷ (NotNext, not (is_next_at m run i))
     ∷ (NotMisuse, not (option_map_or (λ code. code == c) (misuse_of_run m run i) false)) ∷ [])
 fault_at m Halt = None
+fault_at m (Expire b) =
+    first_of ((NotParked, is_none (reason_at m.waits b.0)) ∷ (NotDue, not (is_at_limit_at m b.0)) ∷ (Came, may_wake_at m b.0) ∷ [])
 
 -- the first reason why the event may not come next
 abbrev pub why_by : MachineView → Event → Option Why

@@ -1,10 +1,11 @@
 -- What each private step of a machine changes. The steps of one event together make `after` of gcd_refinement.
-use Rattle.std.specs.Prelude.{ℕ, ◌+◌, ◌-◌, ◌==◌, Bool, true, false, not, ◌&&◌, if◌then◌else◌, [], length, take, map, fold, Option, Some, None, slice_set}
+use Rattle.std.specs.Prelude.{ℕ, ◌+◌, ◌-◌, ◌==◌, Bool, true, false, not, ◌&&◌, if◌then◌else◌, List, [], length, take, map, fold, Option, Some, None, slice_set}
 use Rattle.std.specs.Option.{option_map_or}
+use Rattle.std.specs.List.{range_with_len}
 use Rattle.gcd_plan.specs.PlanView.{cancel_block}
 use Rattle.gcd_plan.specs.Kinds.{has_kind, is_read_kind}
 use Rattle.gcd_plan.specs.declared.act.Act.{Act}
-use Rattle.gcd_plan.specs.declared.act.Act.TheVariants.{Async, Barrier, Sync, BarrierSync, GroupAsync, Notify, Enter, Leave, GroupWait, Signal, Wait, Suspend, Resume, Activate, Target, Merge, Cancel, Retain, Release}
+use Rattle.gcd_plan.specs.declared.act.Act.TheVariants.{Async, Barrier, Sync, BarrierSync, GroupAsync, Notify, Enter, Leave, GroupWait, GroupWaitFor, Signal, Wait, WaitFor, Suspend, Resume, Activate, Target, Merge, Cancel, Retain, Release}
 use Rattle.gcd_plan.specs.declared.numbers.Blk.{Blk}
 use Rattle.gcd_plan.specs.declared.numbers.Obj.{Obj}
 use Rattle.gcd_plan.specs.declared.numbers.Run.{Run}
@@ -12,18 +13,19 @@ use Rattle.gcd_plan.specs.declared.numbers.Run.TheVariants.{Block, Source}
 use Rattle.gcd_plan.specs.declared.reason.Reason.{Reason}
 use Rattle.gcd_plan.specs.declared.reason.Reason.TheVariants.{Block as EndOf, Group as Empty, Rank}
 use Rattle.gcd_event.specs.declared.event.Event.{Event}
-use Rattle.gcd_event.specs.declared.event.Event.TheVariants.{Start, Act as Acted, Wake, End, Deliver, DeliverEnd, Tick, Ready, FeedEnd, Misuse, Halt}
+use Rattle.gcd_event.specs.declared.event.Event.TheVariants.{Start, Act as Acted, Wake, End, Deliver, DeliverEnd, Tick, Ready, FeedEnd, Misuse, Halt, Expire}
 use Rattle.gcd_history.specs.Runs.{act_at}
 use Rattle.gcd_lists.specs.ListsView.{list_at}
 use Rattle.gcd_group.specs.GroupsView.{count_at, entered_at, due_at, with_one_more, with_one_less, with_entered, with_notify}
-use Rattle.gcd_sema.specs.SemasView.{waits_at, signals_at, is_passed_at, with_waits, with_signals}
-use Rattle.gcd_sync.specs.WaitsView.{with_reason}
+use Rattle.gcd_sema.specs.SemasView.{waits_at, signals_at, has_value_at, with_wait, with_signals}
+use Rattle.gcd_sync.specs.WaitsView.{reason_at, with_parked, with_woken, with_expired}
 use Rattle.gcd_hold.specs.HoldsView.{hold_at, is_active_at, with_hold, with_active}
 use Rattle.gcd_source.specs.SourcesView.{is_cancelled_at, merged_at, with_pending, with_cancelled as with_cancelled_source}
 use Rattle.gcd_timer.specs.TimersView.{with_activated, with_cancelled as with_cancelled_timer, marked_by}
 use Rattle.gcd_refinement.specs.MachineView.{MachineView, block_at, refs_at}
 use Rattle.gcd_refinement.specs.Submits.{sleepers_at}
-use Rattle.gcd_refinement.specs.After.{popped, pushed_on, opened, closed, targeted, barrier_began, barrier_ended, with_block, with_wakeable, handled, delivered as delivery, stays_busy, unmarked, all_fired}
+use Rattle.gcd_refinement.specs.After.{popped, pushed_on, opened, closed, targeted, barrier_began, barrier_ended, with_block, with_wakeable, handled, delivered as delivery, stays_busy, unmarked, all_fired, semas_expired, bed_of, removed}
+use Rattle.gcd_refinement.specs.AfterLimits.{laid_ahead, laid_ripe, still_ahead, is_ripe_by, without_limit, without_ripe, limit_in_view}
 
 -- ## Workers
 
@@ -70,9 +72,25 @@ submitted m n b barrier = record m {
 
 -- ## Wakes
 
--- what block b is parked for has come
+-- the waits of these blocks are over: each may wake, and has no limit ahead
+abbrev pub all_over : MachineView → List Blk → MachineView
+all_over m blocks = record m {
+  wakeable = fold with_wakeable m.wakeable blocks;
+  ahead = fold without_limit m.ahead blocks;
+  ripe = fold without_ripe m.ripe blocks;
+}
+
+-- block b has no limit ahead
+abbrev pub unlimited : MachineView → Blk → MachineView
+unlimited m b = record m { ahead = without_limit m.ahead b }
+
+-- the wait of block b is over
 abbrev pub let_go : MachineView → Blk → MachineView
-let_go m b = record m { wakeable = with_wakeable m.wakeable b }
+let_go m b = record m { wakeable = with_wakeable m.wakeable b; ahead = without_limit m.ahead b; ripe = without_ripe m.ripe b }
+
+-- the wait of block b has this limit, if it has one: it is ahead, or the wait may expire at once
+abbrev pub limited : MachineView → Blk → Option ℕ → MachineView
+limited m b limit = record m { ahead = laid_ahead m b limit; ripe = laid_ripe m b limit }
 
 -- block b sleeps at the object behind all others there
 abbrev pub laid_down : MachineView → Obj → Blk → MachineView
@@ -80,16 +98,12 @@ laid_down m o b = record m { sleepers = pushed_on m.sleepers o b false }
 
 -- the first block that sleeps at the object may wake
 abbrev pub first_let_go : MachineView → Obj → MachineView
-first_let_go m o = record m {
-  sleepers = popped m.sleepers (Some o);
-  wakeable = fold with_wakeable m.wakeable (take 1 (sleepers_at m (Some o)));
-}
+first_let_go m o = record (all_over m (take 1 (sleepers_at m (Some o)))) { sleepers = popped m.sleepers (Some o) }
 
 -- each block that sleeps at the object may wake
 abbrev pub all_let_go : MachineView → Obj → MachineView
-all_let_go m o = record m {
+all_let_go m o = record (all_over m (sleepers_at m (Some o))) {
   sleepers = record m.sleepers { lists = slice_set m.sleepers.lists o.0 [] };
-  wakeable = fold with_wakeable m.wakeable (sleepers_at m (Some o));
 }
 
 -- ## Acts
@@ -99,26 +113,26 @@ abbrev pub acted : MachineView → Run → MachineView
 acted m (Block b) = record m { blocks = with_block m.blocks b.0 (λ x. record x { done = x.done + 1 }) }
 acted m (Source s) = record m { handlers = handled m (Source s) }
 
--- block b waits for this, and its worker w is free
-abbrev pub parked : MachineView → ℕ → Blk → Reason → MachineView
-parked m w b why = set_free (record m { waits = with_reason m.waits b.0 (Some why) }) w
+-- block b waits for this, with this limit or without one, and its worker w is free
+abbrev pub parked : MachineView → ℕ → Blk → Reason → (limit : Option ℕ) → MachineView
+parked m w b why limit = set_free (record m { waits = with_parked m.waits b.0 why limit }) w
 
 -- block b waits for the end of block c
 abbrev pub called_by : MachineView → ℕ → Blk → Blk → MachineView
 called_by m w b c =
-    parked (record m { blocks = with_block m.blocks c.0 (λ x. record x { caller = Some b }) }) w b (EndOf c)
+    parked (record m { blocks = with_block m.blocks c.0 (λ x. record x { caller = Some b }) }) w b (EndOf c) None
 
 -- block b waits for group g, or may wake at once where the group is empty
-abbrev pub waited_for_group : MachineView → ℕ → Blk → Obj → MachineView
-waited_for_group m w b g =
-    parked (if count_at m.groups g.0 == 0 then let_go m b else laid_down m g b) w b (Empty g m.len)
+abbrev pub waited_for_group : MachineView → ℕ → Blk → Obj → (limit : Option ℕ) → MachineView
+waited_for_group m w b g limit =
+    parked (if count_at m.groups g.0 == 0 then let_go m b else limited (laid_down m g b) b limit) w b (Empty g m.len) limit
 
 -- block b waits for semaphore s, or may wake at once where its wait passes
-abbrev pub waited_for_semaphore : MachineView → ℕ → Blk → Obj → MachineView
-waited_for_semaphore m w b s =
-    parked (record (if is_passed_at m.semas s.0 (waits_at m.semas s.0 + 1) then let_go m b else laid_down m s b) {
-      semas = with_waits m.semas s.0 (waits_at m.semas s.0 + 1);
-    }) w b (Rank s (waits_at m.semas s.0 + 1))
+abbrev pub waited_for_semaphore : MachineView → ℕ → Blk → Obj → (limit : Option ℕ) → MachineView
+waited_for_semaphore m w b s limit =
+    parked (record (if has_value_at m.semas s.0 then let_go m b else limited (laid_down m s b) b limit) {
+      semas = with_wait m.semas s.0;
+    }) w b (Rank s (waits_at m.semas s.0 + 1)) limit
 
 -- ## Activation and cancellation
 
@@ -162,9 +176,16 @@ merged m s n = record m {
 
 -- ## Time
 
+-- each wait whose limit time t has reached may expire, and its limit is ahead no more
+abbrev pub ripened : MachineView → ℕ → MachineView
+ripened m t = record m {
+  ahead = map (still_ahead t) m.ahead;
+  ripe = map (is_ripe_by m t) (range_with_len 0 (length m.ripe));
+}
+
 -- the time has come to t
 abbrev pub come_to : MachineView → ℕ → MachineView
-come_to m t = record m { timers = record m.timers { moment = t }; busy = marked_by m.timers t m.busy }
+come_to m t = ripened (record m { timers = record m.timers { moment = t }; busy = marked_by m.timers t m.busy }) t
 
 -- ## Groups
 
@@ -198,7 +219,15 @@ started m w b =
 
 -- worker w goes on with block b
 abbrev pub woken : MachineView → ℕ → Blk → MachineView
-woken m w b = taken_up (record m { waits = with_reason m.waits b.0 None; wakeable = slice_set m.wakeable b.0 false }) w (Block b)
+woken m w b = taken_up (record m { waits = with_woken m.waits b.0; wakeable = slice_set m.wakeable b.0 false }) w (Block b)
+
+-- block b's wait for this has expired: it counts at its semaphore no more, and the block sleeps nowhere
+abbrev pub wait_ended : MachineView → Blk → Option Reason → MachineView
+wait_ended m b awaited = record m { semas = semas_expired m.semas awaited; sleepers = removed m.sleepers (bed_of awaited) b }
+
+-- the wait of block b has expired, and the block may wake
+abbrev pub expired : MachineView → Blk → MachineView
+expired m b = let_go (wait_ended (record m { waits = with_expired m.waits b.0 }) b (reason_at m.waits b.0)) b
 
 -- block b is over: its run has closed on its node, if it has one, and worker w is free
 abbrev pub closed_block : MachineView → ℕ → Blk → MachineView
@@ -272,8 +301,10 @@ effect_of m (Enter g) =
     record m { groups = with_entered (with_one_more m.groups g.0 (m.len + 1)) g.0 (entered_at m.groups g.0 + 1) }
 effect_of m (Leave g) = left_by_act m g
 effect_of m (GroupWait g) = m
+effect_of m (GroupWaitFor g ms) = m
 effect_of m (Signal s) = signalled_at m s
 effect_of m (Wait s) = m
+effect_of m (WaitFor s ms) = m
 effect_of m (Suspend o) = record m { holds = with_hold m.holds o.0 (hold_at m.holds o.0 + 1) }
 effect_of m (Resume o) = resumed m o
 effect_of m (Activate o) = activated m o
@@ -293,9 +324,11 @@ parked_by_act m w b (GroupAsync g q c) = m
 parked_by_act m w b (Notify g q c) = m
 parked_by_act m w b (Enter g) = m
 parked_by_act m w b (Leave g) = m
-parked_by_act m w b (GroupWait g) = waited_for_group m w b g
+parked_by_act m w b (GroupWait g) = waited_for_group m w b g None
+parked_by_act m w b (GroupWaitFor g ms) = waited_for_group m w b g (limit_in_view m (Some (GroupWaitFor g ms)))
 parked_by_act m w b (Signal s) = m
-parked_by_act m w b (Wait s) = waited_for_semaphore m w b s
+parked_by_act m w b (Wait s) = waited_for_semaphore m w b s None
+parked_by_act m w b (WaitFor s ms) = waited_for_semaphore m w b s (limit_in_view m (Some (WaitFor s ms)))
 parked_by_act m w b (Suspend o) = m
 parked_by_act m w b (Resume o) = m
 parked_by_act m w b (Activate o) = m
@@ -332,6 +365,7 @@ changed m (Ready s n) = merged m s n
 changed m (FeedEnd s) = cancelled m s
 changed m (Misuse w run i c) = record m { misused = true }
 changed m Halt = record m { halted = true }
+changed m (Expire b) = expired m b
 
 abbrev pub stepped : MachineView → Event → MachineView
 stepped m e = record (changed m e) { len = m.len + 1 }

@@ -11,9 +11,10 @@
 //! | `apply` | takes a permitted event: what the machine stood for, with the event |
 //! | `choose` | what a worker records next (`choice_of`), permitted and the worker's own |
 //! | `begin_on` | what a worker may begin on a node: a Start or a Deliver (`begin_of`) |
+//! | `expiry` | the Expire that worker 0 records (`expiry_of`), or None where no wait may expire |
 //! | `state`, `is_quiescent`, `is_halted` | how far the run has come (`HasState`), whether nothing but a halt can come, whether it is over |
 //! | `len`, `running` | how many events came, how many runs are open and not parked |
-//! | `next_due`, `is_live_feed`, `next_live_feed`, `data_of`, `pending_of` | due times, live feeds, what sources handed over and have pending |
+//! | `next_due`, `is_live_feed`, `next_live_feed`, `data_of`, `pending_of` | due times of timers and limits of waits, live feeds, what sources handed over and have pending |
 //! | `first_waiting`, `node_of`, `is_started`, `is_ended`, `awaited`, `parks` | what waits on an object; of a block where it was submitted, whether it has started and ended, what it waits for; whether an act parks its block |
 //! | `objects`, `blocks` | the plan's numbers, for the conditions of the calls |
 //! | [`laws::histories_are_lawful`] | the histories that a machine stands for are lawful, of its own plan, which is valid |

@@ -5,7 +5,7 @@ ghost use Rattle.gcd_plan.specs.PlanView.{PlanView};
 ghost use Rattle.gcd_event.specs.declared.event.Event.{Event};
 ghost use Rattle.gcd_history.specs.Choice.{is_work, worker_of};
 ghost use Rattle.gcd_history.specs.Ends.{HasState, IsQuiescent, is_halted};
-ghost use Rattle.gcd_history.specs.History.{awaited_of, choice_of, last_data_of, first_waiting_of, is_ended, is_live_feed, is_started, next_due_of, node_of, parks, pending_of, running_of, why};
+ghost use Rattle.gcd_history.specs.History.{awaited_of, choice_of, expiry_of, last_data_of, first_waiting_of, is_ended, is_live_feed, is_started, next_due_of, node_of, parks, pending_of, running_of, why};
 ghost use Rattle.gcd_machine.specs.Begins.{begin_of};
 ghost use Rattle.gcd_machine.specs.Stands.{MayApply, StandsFor};
 
@@ -85,7 +85,8 @@ impl Machine {
     }
 
     /// Takes an event that is permitted, without memory. It costs a constant number of steps, twice the length of the node's
-    /// chain, one for each block that the event submits or lets go on, and at a tick a few for each timer that it reaches.
+    /// chain, one for each block that the event submits or lets go on, and at a tick a few for each timer that it reaches. Where a wait
+    /// has a limit, its act, its end and the tick that reaches the limit cost a step for each doubling of the number of blocks.
     #[inline(always)]
     pub fn apply(&mut self, e: Event)
         requires { MayApply self.old e }
@@ -108,6 +109,15 @@ impl Machine {
         ensures work { IfSome result (λ e. IsTrue (is_work e)) }
     {
         self.registers.choice(worker, from)
+    }
+
+    /// The Expire that worker 0 records: that of the parked block with the least number whose wait may expire. None exactly where
+    /// none may (this project's own rule). It costs a step for each word of 64 blocks that it passes, and none where no wait may
+    /// expire.
+    pub fn expiry(&self) -> Option<Event>
+        ensures { (plan : PlanView) (h : List Event) → StandsFor self.now plan h → result ≡ expiry_of plan h }
+    {
+        self.registers.expiry()
     }
 
     /// What the worker may begin on the node: the start of the first block that waits there, or else the source's delivery. None
@@ -159,8 +169,8 @@ impl Machine {
         self.registers.running()
     }
 
-    /// The least due time above journal time, in milliseconds. None exactly where no due time is left
-    /// (dispatch_source_set_timer(3)).
+    /// The least number above journal time that is a due time of a timer or the limit of a wait that is not over, in milliseconds.
+    /// None exactly where none is left (dispatch_source_set_timer(3), dispatch_semaphore_wait(3), dispatch_group_wait(3)).
     #[inline(always)]
     pub fn next_due(&self) -> Option<u32>
         ensures { (plan : PlanView) (h : List Event) → StandsFor self.now plan h → result ≡ next_due_of plan h }

@@ -12,6 +12,7 @@ mod events;
 mod groups;
 mod judge;
 mod kinds;
+mod limits;
 mod misuse;
 mod new;
 mod nodes;
@@ -29,6 +30,7 @@ use gcd_objects::Objects;
 use gcd_plan::{Plan, Run};
 use gcd_refinement::{BlockProgress, HandlerProgress};
 use gcd_sema::Semas;
+use gcd_soonest::Times;
 use gcd_source::Sources;
 use gcd_sync::Waits;
 use gcd_timer::Timers;
@@ -57,6 +59,10 @@ pub struct Registers {
     pub ended: Vec<bool>,
     // the parked blocks that may wake
     pub wakeable: BitSet,
+    // the limits of waits that are not over, where they are above the time; of no block where no act of the plan has a limit
+    pub ahead: Times,
+    // the parked blocks whose wait may expire
+    pub ripe: BitSet,
     // by object
     pub handlers: Vec<HandlerProgress>,
     // the nodes that have to be looked at for a Start or a Deliver: each where a block waits or something is pending

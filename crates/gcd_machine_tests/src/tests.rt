@@ -1,11 +1,13 @@
 ghost use Rattle.std.specs.Prelude.{◌≡◌, []};
 ghost use Rattle.gcd_machine.specs.Stands.{StandsFor};
 
+mod limits;
 mod rows;
 
 use gcd_event::Event;
 use gcd_machine::Machine;
 use gcd_plan::{Act, Blk, BlkPart, Kind, MAX_OBJECTS, Obj, ObjPart, Parts, Plan, Reason, Run, Why};
+use limits::LIMITS;
 use rows::{B1, B2, CHAIN, MAIN, O1, O2, O3, ROWS, Row, Told};
 use std::alloc::{AllocError, Global};
 use std::process::Abort;
@@ -112,6 +114,7 @@ fn word(alloc: Global, e: Event) -> Result<String, AllocError> {
             code,
         } => format!(in alloc; "misuse {worker} {} {index} M{code}", run_name(alloc, run)?),
         Event::Halt => format!(in alloc; "halt"),
+        Event::Expire { blk } => format!(in alloc; "expire b{}", blk.0),
     }
 }
 
@@ -187,6 +190,7 @@ fn ends_as_told(rt: &impl Abort, row: &Row, m: &Machine) {
     assert!(rt; m.state() == row.state, "{what}");
     assert_eq!(rt; data(m), row.data, "{what}");
     assert!(rt; awaited(m) == row.awaited, "{what}");
+    assert!(rt; m.expiry() == row.expiry, "{what}");
     if row.told.is_some() {
         assert!(rt; summary(m) == row.told, "{what}");
     }
@@ -228,6 +232,14 @@ fn check_row(rt: &impl Abort, alloc: Global, row: &Row) -> Result<(), Fail> {
 #[test]
 fn rows_are_recorded_as_told(rt: HostRuntime) -> Result<(), Fail> {
     for row in ROWS.iter() {
+        check_row(&rt, rt.alloc(), row)?;
+    }
+    Ok(())
+}
+
+#[test]
+fn limits_are_kept_as_told(rt: HostRuntime) -> Result<(), Fail> {
+    for row in LIMITS.iter() {
         check_row(&rt, rt.alloc(), row)?;
     }
     Ok(())

@@ -1,8 +1,8 @@
 // One act more.
-ghost use Rattle.std.specs.Prelude.{◌≡◌};
+ghost use Rattle.std.specs.Prelude.{◌≡◌, ℕ, Some};
 ghost use Rattle.gcd_history.specs.Runs.{act_at};
-ghost use Rattle.gcd_machine.specs.Steps.{acted, act_made, act_taken, parked_in, parked_by_act, effect_of, called_by, waited_for_group, waited_for_semaphore};
-ghost use Rattle.gcd_machine.specs.Conditions.{CanAct, CanDo, CanCount, CanParkIn, CanParkBy, CanHaveEffect, CanCall, CanWaitForGroup, CanWaitForSemaphore};
+ghost use Rattle.gcd_machine.specs.Steps.{acted, act_made, act_taken, parked_in, parked_by_act, effect_of, called_by, waited_for_group, waited_for_semaphore, laid_down, limited};
+ghost use Rattle.gcd_machine.specs.Conditions.{CanAct, CanDo, CanCount, CanParkIn, CanParkBy, CanHaveEffect, CanCall, CanWaitForGroup, CanWaitForSemaphore, CanBeAhead, CanLayDown, CanLetGo};
 
 use super::Registers;
 use gcd_plan::{Act, Blk, Obj, Reason, Run};
@@ -62,8 +62,14 @@ impl Registers {
     {
         match act {
             Act::Sync(_, called) | Act::BarrierSync(_, called) => self.call(worker, blk, called),
-            Act::GroupWait(g) => self.wait_for_group(worker, blk, g),
-            Act::Wait(s) => self.wait_for_semaphore(worker, blk, s),
+            Act::GroupWait(g) => self.wait_for_group(worker, blk, g, None),
+            Act::GroupWaitFor(g, ms) => {
+                self.wait_for_group(worker, blk, g, Some(self.limit_of(ms)))
+            }
+            Act::Wait(s) => self.wait_for_semaphore(worker, blk, s, None),
+            Act::WaitFor(s, ms) => {
+                self.wait_for_semaphore(worker, blk, s, Some(self.limit_of(ms)))
+            }
             Act::Async(..) | Act::Barrier(..) | Act::GroupAsync(..) | Act::Notify(..) => {}
             Act::Enter(_) | Act::Leave(_) | Act::Signal(_) => {}
             Act::Suspend(_) | Act::Resume(_) | Act::Activate(_) | Act::Target(..) => {}
@@ -77,34 +83,45 @@ impl Registers {
         ensures { self.new ≡ called_by self.old worker blk called }
     {
         self.blocks[called.0 as usize].caller = Some(blk);
-        self.park(worker, blk, Reason::Block(called));
+        self.park(worker, blk, Reason::Block(called), None);
     }
 
-    // The block waits until the group is empty (dispatch_group_wait(3)).
-    fn wait_for_group(&mut self, worker: u8, blk: Blk, g: Obj)
-        requires { CanWaitForGroup self.old worker blk g }
-        ensures { self.new ≡ waited_for_group self.old worker blk g }
+    // The block waits until the group is empty, or to this limit (dispatch_group_wait(3)).
+    fn wait_for_group(&mut self, worker: u8, blk: Blk, g: Obj, limit: Option<u32>)
+        requires { CanWaitForGroup self.old worker blk g limit }
+        ensures { self.new ≡ waited_for_group self.old worker blk g limit }
     {
         if self.groups.count(g) == 0 {
             self.let_go(blk);
         } else {
-            self.lay_down(g, blk);
+            self.sleep(g, blk, limit);
         }
-        self.park(worker, blk, Reason::Group(g, self.len));
+        self.park(worker, blk, Reason::Group(g, self.len), limit);
     }
 
-    // The block waits for its turn at the semaphore (dispatch_semaphore_wait(3)).
-    fn wait_for_semaphore(&mut self, worker: u8, blk: Blk, s: Obj)
-        requires { CanWaitForSemaphore self.old worker blk s }
-        ensures { self.new ≡ waited_for_semaphore self.old worker blk s }
+    // The block waits for its turn at the semaphore, or to this limit (dispatch_semaphore_wait(3)).
+    fn wait_for_semaphore(&mut self, worker: u8, blk: Blk, s: Obj, limit: Option<u32>)
+        requires { CanWaitForSemaphore self.old worker blk s limit }
+        ensures { self.new ≡ waited_for_semaphore self.old worker blk s limit }
     {
-        let rank = self.semas.wait(s);
-        if self.semas.passed(s, rank) {
+        if self.semas.has_value(s) {
             self.let_go(blk);
         } else {
-            self.lay_down(s, blk);
+            self.sleep(s, blk, limit);
         }
-        self.park(worker, blk, Reason::Rank(s, rank));
+        let rank = self.semas.wait(s);
+        self.park(worker, blk, Reason::Rank(s, rank), limit);
+    }
+
+    // The block sleeps at the object, with this limit or without one.
+    fn sleep(&mut self, o: Obj, blk: Blk, limit: Option<u32>)
+        requires sleeps { CanLayDown self.old o blk }
+        requires over { CanLetGo self.old blk }
+        requires ahead { (end : ℕ) → limit ≡ Some end → CanBeAhead self.old blk end }
+        ensures { self.new ≡ limited (laid_down self.old o blk) blk limit }
+    {
+        self.lay_down(o, blk);
+        self.limit(blk, limit);
     }
 
     // What the act does, whoever makes it.
@@ -120,7 +137,8 @@ impl Registers {
             Act::Notify(g, q, b) => self.register(g, q, b),
             Act::Enter(g) => self.groups.enter(g, self.len + 1),
             Act::Leave(g) => self.leave_by_act(g),
-            Act::GroupWait(_) | Act::Wait(_) => {}
+            Act::GroupWait(_) | Act::GroupWaitFor(..) => {}
+            Act::Wait(_) | Act::WaitFor(..) => {}
             Act::Signal(s) => self.signal(s),
             Act::Suspend(o) => self.holds.suspend(o),
             Act::Resume(o) => self.resume(o),

@@ -4,7 +4,6 @@ ghost use Rattle.std.specs.List.{range_with_len};
 ghost use Rattle.gcd_sync.specs.WaitsView.{reason_at};
 ghost use Rattle.gcd_history.specs.Runs.{act_of};
 ghost use Rattle.gcd_history.specs.Parked.{is_parking};
-ghost use Rattle.gcd_timer.specs.TimersView.{next_due_at};
 ghost use Rattle.gcd_refinement.specs.MachineView.{block_at, ended_at, handler_at, live_at};
 ghost use Rattle.gcd_refinement.specs.After.{pending_in};
 ghost use Rattle.gcd_machine.specs.Conditions.{HasPending};
@@ -28,13 +27,6 @@ impl Registers {
         ensures { result ≡ self.now.running }
     {
         self.running
-    }
-
-    /// The least due time above journal time, in milliseconds.
-    pub fn next_due(&self) -> Option<u32>
-        ensures { result ≡ next_due_at self.now.timers }
-    {
-        self.timers.next_due()
     }
 
     /// The first block that waits on the object.
@@ -132,7 +124,7 @@ impl Registers {
             Event::Start { .. } | Event::Wake { .. } | Event::End { .. } => false,
             Event::Deliver { .. } | Event::DeliverEnd { .. } => false,
             Event::Tick { .. } | Event::Ready { .. } | Event::FeedEnd { .. } => false,
-            Event::Misuse { .. } | Event::Halt => false,
+            Event::Misuse { .. } | Event::Halt | Event::Expire { .. } => false,
         }
     }
 }

@@ -7,7 +7,7 @@ ghost use Rattle.gcd_history.specs.Permitted.{is_run_of};
 ghost use Rattle.gcd_lists.specs.ListsView.{list_at};
 ghost use Rattle.gcd_drain.specs.Shut.{AreSound};
 ghost use Rattle.gcd_refinement.specs.MachineView.{busy_at};
-ghost use Rattle.gcd_machine.specs.Chosen.{act_event_at, all_nodes_at, begin_by, choice_by, deliver_at, idle_choice_at, main_at, next_set, node_at, nodes_at, own_event_at, start_at, wake_at};
+ghost use Rattle.gcd_machine.specs.Chosen.{act_event_at, all_nodes_at, begin_by, choice_by, deliver_at, expiry_by, idle_choice_at, main_at, next_set, node_at, nodes_at, own_event_at, start_at, wake_at};
 ghost use Rattle.gcd_machine.specs.Stands.{IsShaped};
 
 use super::Registers;
@@ -122,6 +122,28 @@ impl Registers {
             }),
             None => None,
         }
+    }
+
+    /// The expiry of the parked block with the least number whose wait may expire.
+    pub fn expiry(&self) -> Option<Event>
+        requires { IsShaped self.now }
+        ensures { result ≡ expiry_by self.now }
+    {
+        if self.is_over() {
+            return None;
+        }
+        match self.next_ripe() {
+            Some(b) => Some(Event::Expire { blk: Blk(b) }),
+            None => None,
+        }
+    }
+
+    // The parked block with the least number whose wait may expire.
+    fn next_ripe(&self) -> Option<u32>
+        requires { IsShaped self.now }
+        ensures { result ≡ next_set self.now.ripe 0 }
+    {
+        self.ripe.next(0)
     }
 
     // The start of `main`, until it has come.

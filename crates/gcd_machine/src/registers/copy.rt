@@ -11,6 +11,7 @@ use gcd_objects::Objects;
 use gcd_plan::Run;
 use gcd_refinement::{BlockProgress, HandlerProgress};
 use gcd_sema::Semas;
+use gcd_soonest::Times;
 use gcd_source::Sources;
 use gcd_sync::Waits;
 use gcd_timer::Timers;
@@ -27,7 +28,7 @@ impl Registers {
         let sleepers = self.sleepers.copied(alloc)?;
         let (refs, lists, tree, holds, drains) = self.copied_node_parts(alloc)?;
         let (groups, semas, waits, sources, timers) = self.copied_event_parts(alloc)?;
-        let (blocks, ended, wakeable) = self.copied_block_arrays(alloc)?;
+        let (blocks, ended, wakeable, ahead, ripe) = self.copied_block_arrays(alloc)?;
         let (handlers, busy, live, workers) = self.copied_run_arrays(alloc)?;
         Ok(Registers {
             plan,
@@ -45,6 +46,8 @@ impl Registers {
             blocks,
             ended,
             wakeable,
+            ahead,
+            ripe,
             handlers,
             busy,
             live,
@@ -101,15 +104,19 @@ impl Registers {
     fn copied_block_arrays(
         &self,
         alloc: Global,
-    ) -> Result<(Vec<BlockProgress>, Vec<bool>, BitSet), AllocError>
+    ) -> Result<(Vec<BlockProgress>, Vec<bool>, BitSet, Times, BitSet), AllocError>
         ensures blocks { IfOk result (λ arrays. arrays.0.items ≡ self.now.blocks) }
         ensures ended { IfOk result (λ arrays. arrays.1.items ≡ self.now.ended) }
         ensures wakeable { IfOk result (λ arrays. arrays.2 ≡ self.now.wakeable) }
+        ensures ahead { IfOk result (λ arrays. arrays.3 ≡ self.now.ahead) }
+        ensures ripe { IfOk result (λ arrays. arrays.4 ≡ self.now.ripe) }
     {
         Ok((
             Vec::from_slice(alloc, &self.blocks)?,
             Vec::from_slice(alloc, &self.ended)?,
             self.wakeable.copied(alloc)?,
+            self.ahead.copied(alloc)?,
+            self.ripe.copied(alloc)?,
         ))
     }
 

@@ -8,12 +8,14 @@ use super::Registers;
 use gcd_plan::Obj;
 
 impl Registers {
-    // The time has come to `at`, in milliseconds: each timer of which a due time comes has to be looked at.
+    // The time has come to `at`, in milliseconds: each timer of which a due time comes has to be looked at, and each wait whose
+    // limit comes may expire.
     pub fn tick(&mut self, at: u32)
         requires { CanTick self.old at }
         ensures { self.new ≡ come_to self.old at }
     {
         self.timers.tick_marked(at, &mut self.busy);
+        self.ripen(at);
     }
 
     /// Whether the source is a timer with a due time that no delivery took (dispatch_source_set_timer(3)).

@@ -38,6 +38,7 @@ impl Registers {
             Event::FeedEnd { src } => self.cancel(src),
             Event::Misuse { .. } => self.misused = true,
             Event::Halt => self.halted = true,
+            Event::Expire { blk } => self.expire(blk),
         }
     }
 

@@ -5,7 +5,7 @@ ghost use Rattle.gcd_plan.specs.Kinds.{is_source};
 ghost use Rattle.gcd_history.specs.Permitted.{is_known, is_run_of, is_worker};
 ghost use Rattle.gcd_event.specs.declared.event.Event.{Event};
 ghost use Rattle.gcd_refinement.specs.MachineView.{live_at};
-ghost use Rattle.gcd_machine.specs.Judged.{block_fault_at, fault_at, is_pending_at, may_tick_at, source_fault_at, why_by};
+ghost use Rattle.gcd_machine.specs.Judged.{block_fault_at, fault_at, is_at_limit_at, is_pending_at, may_tick_at, source_fault_at, why_by};
 ghost use Rattle.gcd_machine.specs.Stands.{IsShaped};
 
 use super::Registers;
@@ -68,6 +68,7 @@ impl Registers {
                 && 1 <= code
                 && code <= MisuseCode::LAST,
             Event::Halt => true,
+            Event::Expire { blk } => self.has_block(blk),
         }
     }
 
@@ -94,6 +95,7 @@ impl Registers {
                 code,
             } => self.misuse_fault(worker, run, index, code),
             Event::Halt => None,
+            Event::Expire { blk } => self.expire_fault(blk),
         }
     }
 
@@ -245,8 +247,8 @@ impl Registers {
         }
     }
 
-    // Whether time may come to this moment: it lies ahead, not past the plan's last due time, and a timer is due by then
-    // (dispatch_source_set_timer(3)).
+    // Whether time may come to this moment: it lies ahead, not past the plan's last due time, and a timer or the limit of a
+    // wait is due by then (dispatch_source_set_timer(3)).
     fn may_tick(&self, at: u32) -> bool
         requires { IsShaped self.now }
         ensures { result ≡ may_tick_at self.now at }
@@ -257,8 +259,39 @@ impl Registers {
         if at > self.plan.until() {
             return false;
         }
-        match self.timers.next_due() {
+        match self.next_due() {
             Some(due) => due <= at,
+            None => false,
+        }
+    }
+
+    fn expire_fault(&self, blk: Blk) -> Option<Why>
+        requires shape { IsShaped self.now }
+        requires blk { blk.0 < length self.now.plan.blocks }
+        ensures { result ≡ fault_at self.now (Event.Expire blk) }
+    {
+        if self.waits.reason(blk).is_none() {
+            Some(Why::NotParked)
+        } else if !self.is_at_limit(blk) {
+            Some(Why::NotDue)
+        } else if self
+            .waits
+            .may_wake(&self.groups, &self.semas, &self.ended, blk)
+        {
+            Some(Why::Came)
+        } else {
+            None
+        }
+    }
+
+    // Whether the block is parked with a limit, and time has come to it (dispatch_semaphore_wait(3), dispatch_group_wait(3)).
+    fn is_at_limit(&self, blk: Blk) -> bool
+        requires shape { IsShaped self.now }
+        requires blk { blk.0 < length self.now.plan.blocks }
+        ensures { result ≡ is_at_limit_at self.now blk.0 }
+    {
+        match self.waits.limit(blk) {
+            Some(at) => at <= self.timers.moment(),
             None => false,
         }
     }

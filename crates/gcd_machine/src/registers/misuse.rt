@@ -26,8 +26,10 @@ fn named(act: Act) -> (Obj, Option<Obj>)
         Act::Enter(g) => (g, None),
         Act::Leave(g) => (g, None),
         Act::GroupWait(g) => (g, None),
+        Act::GroupWaitFor(g, _) => (g, None),
         Act::Signal(s) => (s, None),
         Act::Wait(s) => (s, None),
+        Act::WaitFor(s, _) => (s, None),
         Act::Suspend(o) => (o, None),
         Act::Resume(o) => (o, None),
         Act::Activate(o) => (o, None),
@@ -106,6 +108,7 @@ impl Registers {
             Act::GroupAsync(..) | Act::Notify(..) | Act::Enter(_) | Act::GroupWait(_) => None,
             Act::Signal(_) | Act::Wait(_) | Act::Suspend(_) | Act::Activate(_) => None,
             Act::Merge(..) | Act::Cancel(_) | Act::Retain(_) => None,
+            Act::GroupWaitFor(..) | Act::WaitFor(..) => None,
         }
     }
 

@@ -22,8 +22,9 @@ use gcd_objects::Objects;
 use gcd_plan::{MAX_WORKERS, Plan, Run};
 use gcd_refinement::{BlockProgress, HandlerProgress};
 use gcd_sema::Semas;
+use gcd_soonest::Times;
 use gcd_source::Sources;
-use gcd_sync::Waits;
+use gcd_sync::{Waits, limit_room};
 use gcd_timer::Timers;
 use gcd_tree::Tree;
 use std::alloc::{AllocError, Global};
@@ -35,12 +36,12 @@ impl Registers {
         ensures kept { IfOk result (λ r. r ≡ machine_of plan.now) }
         ensures valid { IsPlan plan.now }
     {
-        let blocks = plan.blocks();
+        let (count, room) = (plan.blocks(), limit_room(plan));
         let shared = Arc::new(alloc, plan.copied(alloc)?)?;
         let sleepers = Lists::new(alloc, plan)?;
         let (refs, lists, tree, holds, drains) = node_parts(alloc, plan)?;
         let (groups, semas, waits, sources, timers) = event_parts(alloc, plan)?;
-        let (blocks, ended, wakeable) = block_arrays(alloc, blocks)?;
+        let (blocks, ended, wakeable, ahead, ripe) = block_arrays(alloc, count, room)?;
         let (handlers, busy, live, workers) = run_arrays(alloc, plan)?;
         Ok(Registers {
             plan: shared,
@@ -58,6 +59,8 @@ impl Registers {
             blocks,
             ended,
             wakeable,
+            ahead,
+            ripe,
             handlers,
             busy,
             live,
@@ -111,18 +114,24 @@ fn event_parts(
     ))
 }
 
-// What is kept of the blocks: what they have come to, which have ended, and which may wake.
+// What is kept of the blocks: what they have come to, which have ended, which may wake, which limits are ahead, and whose wait
+// may expire. Limits are kept of so many blocks as there is room for.
 fn block_arrays(
     alloc: Global,
     blocks: u32,
-) -> Result<(Vec<BlockProgress>, Vec<bool>, BitSet), AllocError>
+    room: u32,
+) -> Result<(Vec<BlockProgress>, Vec<bool>, BitSet, Times, BitSet), AllocError>
     ensures blocks { IfOk result (λ arrays. arrays.0.items ≡ replicate blocks idle) }
     ensures ended { IfOk result (λ arrays. arrays.1.items ≡ replicate blocks false) }
     ensures wakeable { IfOk result (λ arrays. arrays.2 ≡ replicate blocks false) }
+    ensures ahead { IfOk result (λ arrays. arrays.3 ≡ replicate room None) }
+    ensures ripe { IfOk result (λ arrays. arrays.4 ≡ replicate blocks false) }
 {
     Ok((
         all_idle(alloc, blocks as usize)?,
         none_of(alloc, blocks as usize)?,
+        BitSet::new(alloc, blocks)?,
+        Times::new(alloc, room)?,
         BitSet::new(alloc, blocks)?,
     ))
 }

@@ -21,7 +21,10 @@ impl Registers {
         if !self.live.is_empty() {
             return false;
         }
-        if self.timers.next_due().is_some() {
+        if !self.ripe.is_empty() {
+            return false;
+        }
+        if self.next_due().is_some() {
             return false;
         }
         self.choice(0, 0).is_none()

@@ -1,8 +1,8 @@
 // Who has which run, and which blocks may wake.
-ghost use Rattle.std.specs.Prelude.{◌≡◌, ◌<◌, Some, length};
+ghost use Rattle.std.specs.Prelude.{◌≡◌, Some};
 ghost use Rattle.gcd_plan.specs.declared.numbers.Blk.{Blk};
 ghost use Rattle.gcd_machine.specs.Steps.{taken_up, set_free, let_go, caller_let_go, laid_down, first_let_go, all_let_go, parked, signalled_at};
-ghost use Rattle.gcd_machine.specs.Conditions.{CanTakeUp, CanSetFree, CanPark, CanLayDown, CanWakeAt, CanSignal};
+ghost use Rattle.gcd_machine.specs.Conditions.{CanTakeUp, CanSetFree, CanPark, CanLetGo, CanLayDown, CanWakeAt, CanSignal};
 
 use super::Registers;
 use gcd_plan::{Blk, Obj, Reason, Run};
@@ -28,27 +28,32 @@ impl Registers {
         self.running -= 1;
     }
 
-    // The block is parked, and its worker is free.
-    pub fn park(&mut self, worker: u8, blk: Blk, why: Reason)
-        requires { CanPark self.old worker blk why }
-        ensures { self.new ≡ parked self.old worker blk why }
+    // The block is parked, with this limit or without one, and its worker is free.
+    pub fn park(&mut self, worker: u8, blk: Blk, why: Reason, limit: Option<u32>)
+        requires { CanPark self.old worker blk why limit }
+        ensures { self.new ≡ parked self.old worker blk why limit }
     {
-        self.waits.park(blk, why);
+        match limit {
+            Some(at) => self.waits.park_until(blk, why, at),
+            None => self.waits.park(blk, why),
+        }
         self.set_free(worker);
     }
 
-    // What the block is parked for has come.
+    // The wait of the block is over: it may wake, and has no limit ahead.
     pub fn let_go(&mut self, blk: Blk)
-        requires { blk.0 < length self.old.wakeable }
+        requires { CanLetGo self.old blk }
         ensures { self.new ≡ let_go self.old blk }
     {
         self.wakeable.set(blk.0);
+        self.forget_limit(blk);
+        self.ripe.clear(blk.0);
     }
 
     // Whoever waits for the end of a block may wake, if somebody does.
     #[inline(always)]
     pub fn let_caller_go(&mut self, caller: Option<Blk>)
-        requires { (b : Blk) → caller ≡ Some b → b.0 < length self.old.wakeable }
+        requires { (b : Blk) → caller ≡ Some b → CanLetGo self.old b }
         ensures { self.new ≡ caller_let_go self.old caller }
     {
         match caller {

@@ -78,6 +78,8 @@ pub struct Row {
     pub data: u64,
     // what block 2 waits for
     pub awaited: Option<Reason>,
+    // the Expire that worker 0 would record
+    pub expiry: Option<Event>,
     pub told: Option<Told>,
 }
 
@@ -98,6 +100,7 @@ pub const PLAIN: Row = Row {
     state: State::Drained,
     data: 0,
     awaited: None,
+    expiry: None,
     told: None,
 };
 
