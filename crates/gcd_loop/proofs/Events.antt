@@ -3,7 +3,7 @@ use Rattle.std.proofs.Common.{◌≡◌, ℕ, Bool, true, false, List, [], ◌�
 use Rattle.std.proofs.lemmas.Option.{same_Some}
 use Rattle.gcd_plan.specs.PlanView.{PlanView}
 use Rattle.gcd_event.specs.declared.event.Event.{Event}
-use Rattle.gcd_event.specs.declared.event.Event.TheVariants.{Start, Act as Acted, Wake, End, Deliver, DeliverEnd, Tick, Ready, FeedEnd, Misuse, Halt}
+use Rattle.gcd_event.specs.declared.event.Event.TheVariants.{Start, Act as Acted, Wake, End, Deliver, DeliverEnd, Tick, Ready, FeedEnd, Misuse, Halt, Expire}
 use Rattle.gcd_history.specs.Choice.{is_work}
 use Rattle.gcd_history.specs.Ends.{is_halted}
 use Rattle.gcd_history.specs.History.{why}
@@ -26,6 +26,7 @@ untold (Ready s n) work = cc
 untold (FeedEnd s) work = cc
 untold (Misuse w r i c) work = refl
 untold Halt work = refl
+untold (Expire b) work = refl
 
 pick_is_told : (b : Bool) (t : Tell) (e : Event) → (if b then FeedEnd (record { 0 = t.feed }) else Ready (record { 0 = t.feed }) t.bytes) ≡ e
     → is_told e ≡ true
@@ -48,6 +49,7 @@ told_outside (Ready s n) told = record { by = refl; no_work = refl }
 told_outside (FeedEnd s) told = record { by = refl; no_work = refl }
 told_outside (Misuse w r i c) told = cc
 told_outside Halt told = cc
+told_outside (Expire b) told = cc
 
 pub first_is_outside : (news : List Tell) (e : Event) → first_event news ≡ Some e → IsOutside e
 first_is_outside news e first = told_outside e (first_is_told news e first)
@@ -64,6 +66,7 @@ put_is_outside plan h start present p q (Ready s n) put = absurd put
 put_is_outside plan h start present p q (FeedEnd s) put = absurd put
 put_is_outside plan h start present p q (Misuse w r i k) put = absurd put
 put_is_outside plan h start present p q Halt put = record { by = refl; no_work = refl }
+put_is_outside plan h start present p q (Expire b) put = record { by = refl; no_work = refl }
 
 pub halt_is_outside : IsOutside Halt
 halt_is_outside = record { by = refl; no_work = refl }
@@ -93,3 +96,4 @@ tick_time (Ready s n) = 0
 tick_time (FeedEnd s) = 0
 tick_time (Misuse w r i c) = 0
 tick_time Halt = 0
+tick_time (Expire b) = 0

@@ -4,8 +4,9 @@ use Rattle.std.specs.List.{list_all}
 use Rattle.std.proofs.lemmas.Bool.{and_parts, both_ways}
 use Rattle.std.proofs.lemmas.List.{length_push}
 use Rattle.gcd_plan.specs.PlanView.{PlanView}
+use Rattle.gcd_plan.specs.declared.numbers.Blk.{Blk}
 use Rattle.gcd_event.specs.declared.event.Event.{Event}
-use Rattle.gcd_event.specs.declared.event.Event.TheVariants.{Tick, Halt}
+use Rattle.gcd_event.specs.declared.event.Event.TheVariants.{Tick, Halt, Expire}
 use Rattle.gcd_history.specs.Choice.{is_work}
 use Rattle.gcd_history.specs.Ends.{is_halted}
 use Rattle.gcd_history.specs.History.{why, IsLawful}
@@ -168,13 +169,24 @@ module _ (most : ℕ) (pt ct : Bool) (plan : PlanView) (stood : List Event) (bef
           timely = time_more ct plan stood g.placed e early c o.start (λ t (tick : e ≡ Tick t). absurd (both_ways (is_told e) (ap is_told tick) told)) g.timely;
         }))
 
+  -- nobody told it, it is no Halt, and no Tick ahead of the clock
+  going_untold : (p : PollerState) (c : ClockState) (h k : List Event) (o : OutlookView) (e : Event) (r : Put) → IsLawful plan k → length k ≤ most
+      → (e ≡ Halt → ⊥) → is_told e ≡ false → ((t : ℕ) → e ≡ Tick t → o.start + t ≤ c.present) → Says most plan e h k r
+      → IsGoing most pt ct plan stood before early p c h o → IsGoing most pt ct plan stood before early p c k o
+  going_untold p c h k o e Placed lawful few other told tick said going = placed_untold h k lawful few e said p c o other told tick going
+  going_untold p c h k o e Barred lawful few other told tick said going = going_grown p c h k o lawful few said.0 going
+  going_untold p c h k o e Later lawful few other told tick said going = going_grown p c h k o lawful few said.0 going
+
   pub going_tick : (p : PollerState) (c : ClockState) (h k : List Event) (o : OutlookView) (t : ℕ) (r : Put) → IsLawful plan k → length k ≤ most → o.start + t ≤ c.present → Says most plan (Tick t) h k r
       → IsGoing most pt ct plan stood before early p c h o → IsGoing most pt ct plan stood before early p c k o
-  going_tick p c h k o t Placed lawful few due said going =
-      placed_untold h k lawful few (Tick t) said p c o (λ (halt : Tick t ≡ Halt). cc) refl
-      (λ x (tick : Tick t ≡ Tick x). let same : t ≡ x = ap tick_time tick in omega (arith, same, due)) going
-  going_tick p c h k o t Barred lawful few due said going = going_grown p c h k o lawful few said.0 going
-  going_tick p c h k o t Later lawful few due said going = going_grown p c h k o lawful few said.0 going
+  going_tick p c h k o t r lawful few due said going =
+      going_untold p c h k o (Tick t) r lawful few (λ (halt : Tick t ≡ Halt). cc) refl
+      (λ x (tick : Tick t ≡ Tick x). let same : t ≡ x = ap tick_time tick in omega (arith, same, due)) said going
+
+  pub going_expire : (p : PollerState) (c : ClockState) (h k : List Event) (o : OutlookView) (b : Blk) (r : Put) → IsLawful plan k → length k ≤ most → Says most plan (Expire b) h k r
+      → IsGoing most pt ct plan stood before early p c h o → IsGoing most pt ct plan stood before early p c k o
+  going_expire p c h k o b r lawful few said going =
+      going_untold p c h k o (Expire b) r lawful few (λ (halt : Expire b ≡ Halt). cc) refl (λ x (tick : Expire b ≡ Tick x). cc) said going
 
   pub going_told : (p : PollerState) (c : ClockState) (h k : List Event) (o u : OutlookView) (e : Event) (r : Put) → IsLawful plan k → length k ≤ most → first_event o.news ≡ Some e → Says most plan e h k r
       → u ≡ after_put r o → IsGoing most pt ct plan stood before early p c h o → IsGoing most pt ct plan stood before early p c k u

@@ -5,7 +5,7 @@ use Rattle.std.proofs.lemmas.Bool.{both_ways}
 use Rattle.std.proofs.lemmas.Result.{IfOk-weaker}
 use Rattle.gcd_plan.specs.PlanView.{PlanView}
 use Rattle.gcd_event.specs.declared.event.Event.{Event}
-use Rattle.gcd_event.specs.declared.event.Event.TheVariants.{Start, Act as Acted, Wake, End, Deliver, DeliverEnd, Tick, Ready, FeedEnd, Misuse, Halt}
+use Rattle.gcd_event.specs.declared.event.Event.TheVariants.{Start, Act as Acted, Wake, End, Deliver, DeliverEnd, Tick, Ready, FeedEnd, Misuse, Halt, Expire}
 use Rattle.gcd_history.specs.Choice.{is_work}
 use Rattle.gcd_history.specs.Ends.{HasEnded, is_halted}
 use Rattle.gcd_history.specs.History.{IsLawful, is_active}
@@ -29,7 +29,7 @@ use Rattle.gcd_loop.specs.Ran.{RunsPlan}
 use Rattle.gcd_loop.specs.declared.recorder.Put.{Put}
 use Rattle.gcd_loop.specs.declared.turns.Turn.{Turn}
 use Rattle.gcd_loop.specs.declared.turns.Turn.TheVariants.{Placed, Waited, Stopped, Over}
-use Rattle.gcd_loop.proofs.Goings.{Listens, going_halt, going_on, going_tick, keeps_same}
+use Rattle.gcd_loop.proofs.Goings.{Listens, going_expire, going_halt, going_on, going_tick, keeps_same}
 
 pub sight_lawful : (most : ℕ) (plan : PlanView) (h : List Event) (m : MachineView) → IsSight most plan h m → IsLawful plan h
 sight_lawful most plan h m s = lawful_stands m plan h s.stands
@@ -80,6 +80,9 @@ module _ (most : ℕ) (pt ct : Bool) (plan : PlanView) (stood : List Event) (bef
   going_put p q c d h k o (Misuse w i j x) r lawful few put said l going = absurd put
   going_put p q c d h k o Halt r lawful few put said l going =
       going_halt most pt ct plan stood before early p q c d h k o o r lawful few said l put going
+  going_put p q c d h k o (Expire b) r lawful few put said l going =
+      going_expire most pt ct plan stood before early q d h k o b r lawful few said
+      (going_on most pt ct plan stood before early p q c d h o o l put.1 going)
 
 -- ## Before the first turn, and after the last
 

@@ -19,7 +19,7 @@
 //! | `Followed` | whose the events of a history are, and that they are worker 0's choice |
 //! | `Ran` | what a run by any engine promises: `RunsPlan` |
 //!
-//! An event that a poller told, a Tick and a Halt are the events of the outside. A run has at most `most` events.
+//! An event that a poller told, a Tick, a Halt and an Expire are the events of the outside. A run has at most `most` events.
 #![tactic(auto)]
 
 mod backoff;

@@ -13,12 +13,13 @@ use Rattle.gcd_history.specs.History.{why}
 use Rattle.gcd_history.proofs.Reasons.{allowed}
 use Rattle.gcd_refinement.specs.MachineView.{MachineView}
 use Rattle.gcd_machine.specs.Stands.{StandsFor}
+use Rattle.gcd_machine.proofs.Shown.{plan_stands}
 
 -- a block that may start is one of the machine's plan
 start_is_known : (m : MachineView) (plan : PlanView) (h : List Event) (w : ℕ) (b : Blk) → StandsFor m plan h → why plan h (Start w b) ≡ None → b.0 < length m.plan.blocks
-unfolding why StandsFor
+unfolding why
 start_is_known m plan h w b stands may =
-    subst (λ (p : PlanView). b.0 < length p.blocks) (sym stands.same_plan) (ltb-true _ _ (and_parts _ _ (allowed plan (reverse h) (Start w b) may).known).1)
+    subst (λ (p : PlanView). b.0 < length p.blocks) (sym (plan_stands m plan h stands)) (ltb-true _ _ (and_parts _ _ (allowed plan (reverse h) (Start w b) may).known).1)
 
 block_of : Blk → Run → Blk
 block_of b (Block c) = c

@@ -8,7 +8,7 @@ use Rattle.gcd_plan.specs.declared.numbers.Blk.{Blk}
 use Rattle.gcd_plan.specs.declared.numbers.Run.{Run}
 use Rattle.gcd_plan.specs.declared.numbers.Run.TheVariants.{Block, Source}
 use Rattle.gcd_event.specs.declared.event.Event.{Event}
-use Rattle.gcd_event.specs.declared.event.Event.TheVariants.{Start, Act as Acted, Wake, End, Deliver, DeliverEnd, Tick, Ready, FeedEnd, Misuse, Halt}
+use Rattle.gcd_event.specs.declared.event.Event.TheVariants.{Start, Act as Acted, Wake, End, Deliver, DeliverEnd, Tick, Ready, FeedEnd, Misuse, Halt, Expire}
 use Rattle.gcd_history.specs.Choice.{worker_of}
 use Rattle.gcd_history.specs.Runs.{act_at}
 use Rattle.gcd_history.specs.Parked.{is_parking}
@@ -177,3 +177,4 @@ module _ {S : Type 0} (shape : S → Shape) (gives : S → ℕ → Type 0) (t : 
   back_of_fresh h (FeedEnd s) c valid lawful may ends has fresh = λ r gave. absurd (none_some None r refl gave)
   back_of_fresh h (Misuse w r i k) c valid lawful may ends has fresh = λ q gave. absurd (none_some None q refl gave)
   back_of_fresh h Halt c valid lawful may ends has fresh = λ r gave. absurd (none_some None r refl gave)
+  back_of_fresh h (Expire b) c valid lawful may ends has fresh = λ r gave. absurd (none_some None r refl gave)

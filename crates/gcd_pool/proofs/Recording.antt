@@ -6,7 +6,7 @@ use Rattle.gcd_plan.specs.Limits.{max_events}
 use Rattle.gcd_plan.specs.PlanView.{PlanView}
 use Rattle.gcd_plan.specs.declared.why.Why.{Why}
 use Rattle.gcd_event.specs.declared.event.Event.{Event}
-use Rattle.gcd_event.specs.declared.event.Event.TheVariants.{Start, Act as Acted, Wake, End, Deliver, DeliverEnd, Tick, Ready, FeedEnd, Misuse, Halt}
+use Rattle.gcd_event.specs.declared.event.Event.TheVariants.{Start, Act as Acted, Wake, End, Deliver, DeliverEnd, Tick, Ready, FeedEnd, Misuse, Halt, Expire}
 use Rattle.gcd_history.specs.Choice.{is_work}
 use Rattle.gcd_history.specs.History.{choice_of, why}
 use Rattle.gcd_loop.specs.Followed.{FollowsChoice}
@@ -48,6 +48,7 @@ own_is_work (Ready s n) h = cc
 own_is_work (FeedEnd s) h = cc
 own_is_work (Misuse w r i c) h = refl
 own_is_work Halt h = cc
+own_is_work (Expire b) h = cc
 
 all_work : (rest : List Event) → list_all (is_own_work 0) rest ≡ true → list_all is_work rest ≡ true
 all_work [] h = refl

@@ -14,7 +14,7 @@
 //!
 //! A helper that has no run begins none, and waits, while others' runs begin and end within about a microsecond.
 //!
-//! Worker 0 ([`Worker0`]) looks, asks its outlook (`gcd_turn`), and puts what was told, a Tick or a Halt; or else it does what its machine
+//! Worker 0 ([`Worker0`]) looks, asks its outlook (`gcd_turn`), and puts what was told, a Tick, an Expire or a Halt; or else it does what its machine
 //! chooses, as a helper does, and polls or waits only where that is nothing. Where it is the team's only hand it needs no Drain and
 //! pushes none: it records at once what its machine chose, whatever the number of the rack's benches.
 //!

@@ -178,3 +178,53 @@ pub fn plan_of_two_queues(alloc: Global) -> Result<Plan, Fail> {
     };
     Ok(Plan::of_parts(parts).ok_or("valid")?)
 }
+
+// How many blocks wait in a plan of waits with a limit.
+const WAITING: u32 = 8;
+
+// `main` submits the blocks, waits for the group, and leaves it once its limit has come.
+fn limit_acts(alloc: Global) -> Result<Vec<Act>, AllocError> {
+    let mut acts = Vec::new(alloc);
+    acts.push(Act::Enter(Obj(3)))?;
+    for before in 0..WAITING {
+        acts.push(Act::Async(Obj(1), Blk(before + 1)))?;
+    }
+    acts.push(Act::GroupWaitFor(Obj(3), 7))?;
+    acts.push(Act::Leave(Obj(3)))?;
+    Ok(acts)
+}
+
+// `main` and blocks that wait: in turn for the group, and so many milliseconds at the semaphore.
+fn limit_blocks(alloc: Global) -> Result<Vec<BlkPart>, AllocError> {
+    let mut blocks = Vec::new(alloc);
+    let mut main = BlkPart::new(alloc, "main")?;
+    main.acts = limit_acts(alloc)?;
+    blocks.push(main)?;
+    for number in 0..WAITING {
+        let name = format!(in alloc; "b{number}")?;
+        let mut block = BlkPart::new(alloc, name.as_str())?;
+        block.acts.push(if number % 2 == 0 {
+            Act::GroupWait(Obj(3))
+        } else {
+            Act::WaitFor(Obj(2), number)
+        })?;
+        blocks.push(block)?;
+    }
+    Ok(blocks)
+}
+
+/// A plan in which waits at a semaphore that nobody signals, and one for a group, expire. It drains.
+pub fn plan_of_limits(alloc: Global) -> Result<Plan, Fail> {
+    let mut objects = Vec::new(alloc);
+    objects.push(ObjPart::new(alloc, "root", Kind::Concurrent)?)?;
+    objects.push(ObjPart::new(alloc, "wide", Kind::Concurrent)?)?;
+    objects.push(ObjPart::new(alloc, "semaphore", Kind::Semaphore(0))?)?;
+    objects.push(ObjPart::new(alloc, "group", Kind::Group)?)?;
+    let parts = Parts {
+        objects,
+        blocks: limit_blocks(alloc)?,
+        files: Vec::new(alloc),
+        until: 1000,
+    };
+    Ok(Plan::of_parts(parts).ok_or("valid")?)
+}

@@ -8,7 +8,7 @@ use super::boards::{board_of, pool_of, rack_of, workers_of};
 use super::closing::{are_chosen, closed};
 use super::hiring::{gather, team_of};
 use super::numbers::{are_right, jobs_of};
-use super::plans::{plan_of_each_kind, plan_of_two_queues};
+use super::plans::{plan_of_each_kind, plan_of_limits, plan_of_two_queues};
 use gcd_event::Event;
 use gcd_jobs::{Job, Tally};
 use gcd_outer::{JumpClock, ListPoller};
@@ -71,6 +71,29 @@ fn teams_drain(rt: HostRuntime) -> Result<(), Fail> {
             are_right(&rt, cells.as_slice());
         }
     }
+    Ok(())
+}
+
+#[test]
+fn teams_drain_where_waits_expire(rt: HostRuntime) -> Result<(), Fail> {
+    let plan = plan_of_limits(rt.alloc())?;
+    for (benches, workers, rounds) in [(2, 2, 10), (4, 4, 10)] {
+        for _ in 0..rounds {
+            let jobs = jobs_of(rt.alloc(), &plan)?;
+            let (exit, _events, _cells) = run_of(&rt, rt.alloc(), &plan, jobs, benches, workers);
+            assert!(rt; exit == Exit::Quiescent, "{workers} workers");
+        }
+    }
+    Ok(())
+}
+
+#[test]
+fn one_hand_follows_its_choice_where_waits_expire(rt: HostRuntime) -> Result<(), Fail> {
+    let plan = plan_of_limits(rt.alloc())?;
+    let jobs = jobs_of(rt.alloc(), &plan)?;
+    let (exit, events, _cells) = run_of(&rt, rt.alloc(), &plan, jobs, 1, 1);
+    assert!(rt; exit == Exit::Quiescent);
+    are_chosen(&rt, rt.alloc(), &plan, events.as_slice());
     Ok(())
 }
 

@@ -7,7 +7,7 @@ use Rattle.gcd_plan.specs.PlanView.{PlanView}
 use Rattle.gcd_plan.specs.declared.numbers.Blk.{Blk}
 use Rattle.gcd_plan.specs.declared.numbers.Run.TheVariants.{Block}
 use Rattle.gcd_event.specs.declared.event.Event.{Event}
-use Rattle.gcd_event.specs.declared.event.Event.TheVariants.{Start, Act as Acted, Wake, End, Deliver, DeliverEnd, Tick, Ready, FeedEnd, Misuse, Halt}
+use Rattle.gcd_event.specs.declared.event.Event.TheVariants.{Start, Act as Acted, Wake, End, Deliver, DeliverEnd, Tick, Ready, FeedEnd, Misuse, Halt, Expire}
 use Rattle.gcd_history.specs.Choice.{worker_of}
 use Rattle.gcd_history.specs.Ends.{is_halted}
 use Rattle.gcd_history.specs.Runs.{act_at, acts_done, same_run}
@@ -65,6 +65,7 @@ acts_wait plan h (Ready s n) w b lawful may held other = refl
 acts_wait plan h (FeedEnd s) w b lawful may held other = refl
 acts_wait plan h (Misuse v r i c) w b lawful may held other = refl
 acts_wait plan h Halt w b lawful may held other = refl
+acts_wait plan h (Expire c) w b lawful may held other = refl
 
 -- the events of others leave it there
 pub end_waits : (plan : PlanView) (h : List Event) (e : Event) (x : Ending) → IsLawful plan h → why plan h e ≡ None → (x.worker ≡ worker_of e → ⊥)

@@ -9,6 +9,7 @@ mod memory;
 mod outside;
 mod subjects;
 mod teams;
+mod waits;
 
 use cases::{BLOCKS, COMMANDS, Case, FAULTS, REFUSALS, RUN, SOURCES, TARGETS_AND_GROUPS};
 use gcd_outer::{JumpClock, ListPoller, MapShelf, Poller, Tell, Told, VecSink};
@@ -23,6 +24,7 @@ use std::test::Fail;
 use std::thread::Threads;
 use subjects::{CALLS_AND_TARGETS, MISUSED, REFERENCES_AND_WAITS, SOURCES_AND_FEEDS};
 use teams::end_alike;
+use waits::{EXPIRIES_JUDGED, LIMITED_GROUP_WAITS, LIMITED_WAITS};
 
 fn answer(feed: u32, bytes: u32, ended: bool) -> Told {
     let mut told = Told::new();
@@ -142,6 +144,13 @@ fn runs_follow_the_pages(rt: HostRuntime) -> Result<(), Fail> {
 }
 
 #[test]
+fn waits_with_a_limit_expire(rt: HostRuntime) -> Result<(), Fail> {
+    are_answered(&rt, rt.alloc(), &LIMITED_WAITS)?;
+    are_answered(&rt, rt.alloc(), &LIMITED_GROUP_WAITS)?;
+    are_answered(&rt, rt.alloc(), &EXPIRIES_JUDGED)
+}
+
+#[test]
 fn each_failure_has_its_status(rt: HostRuntime) -> Result<(), Fail> {
     are_answered(&rt, rt.alloc(), &FAILURES)?;
     are_answered(&rt, rt.alloc(), &MALFORMED)?;
@@ -209,4 +218,10 @@ fn teams_follow_the_pages(rt: HostRuntime) -> Result<(), Fail> {
     end_alike(&rt, rt.alloc(), &MISUSED)?;
     end_alike(&rt, rt.alloc(), &LARGE_SCRIPTS)?;
     end_alike(&rt, rt.alloc(), &REFUSALS)
+}
+
+#[test]
+fn teams_wait_with_a_limit(rt: HostRuntime) -> Result<(), Fail> {
+    end_alike(&rt, rt.alloc(), &LIMITED_WAITS)?;
+    end_alike(&rt, rt.alloc(), &LIMITED_GROUP_WAITS)
 }

@@ -33,7 +33,7 @@ const RUN: Row = Row {
 };
 
 // The worked scripts of the program's own tests.
-static SCRIPTS: [Row; 26] = [
+static SCRIPTS: [Row; 29] = [
     Row {
         script: "file log log.txt\nqueue q serial\nblock b1 lines log\nmain\nasync q b1",
         ..RUN
@@ -121,6 +121,20 @@ static SCRIPTS: [Row; 26] = [
     },
     Row {
         script: "queue q serial\nsource t timer 8 20 on q\nblock b\nuntil 40\nmain\nactivate t\nasync q b",
+        step: 3,
+        ..RUN
+    },
+    Row {
+        script: "semaphore s 0\nqueue q serial\nblock b\nsignal s\nmain\nwait_for s 5\nwait_for s 0\nasync q b\nwait_for s 5",
+        ..RUN
+    },
+    Row {
+        script: "semaphore s 0\nqueue q concurrent\nblock x\nwait_for s 9\nblock y\nwait_for s 7\nblock z\nwait s\nmain\nasync q x\nasync q y\nasync q z",
+        step: 4,
+        ..RUN
+    },
+    Row {
+        script: "group g\nqueue q serial\nsource t timer 8 20 on q\nblock b\nuntil 40\nmain\nactivate t\nenter g\ngroup_async g q b\ngroup_wait_for g 30",
         step: 3,
         ..RUN
     },
@@ -252,6 +266,13 @@ fn four_workers_keep_the_rules(rt: HostRuntime) -> Result<(), Fail> {
         "queue t serial\nqueue c concurrent on t\nqueue d concurrent on t\nblock b1\nblock b2\nmain\nasync c b1\nasync d b2",
         4,
         8,
+    )?;
+    is_drained(
+        &rt,
+        rt.alloc(),
+        "semaphore s 0\nsemaphore n 0\nqueue q concurrent\nblock x\nwait s\nblock y\nwait_for s 5\nblock z\nwait s\nmain\nasync q x\nasync q y\nasync q z\nwait_for n 9\nsignal s\nsignal s",
+        4,
+        25,
     )
 }
 

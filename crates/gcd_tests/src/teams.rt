@@ -115,7 +115,7 @@ static SIZES: [(&str, u8); 8] = [
         7,
     ),
     (
-        "group g\nsemaphore s 1\nqueue w concurrent\nmain\nenter g\nleave g\ngroup_wait g\nsignal s\nwait s\nsuspend w\nresume w\nretain w\nrelease w",
+        "group g\nsemaphore s 1\nqueue w concurrent\nmain\nenter g\nleave g\ngroup_wait g\ngroup_wait_for g 1\nsignal s\nwait s\nwait_for s 1\nsuspend w\nresume w\nretain w\nrelease w",
         1,
     ),
     (

@@ -1,3 +1,4 @@
+mod Expiries
 pub mod FeedSteps
 pub mod HeardPolls
 pub mod HeardSteps

@@ -1,12 +1,13 @@
 -- Due times, and what was answered.
-use Rattle.std.proofs.Common.{◌≡◌, ◌≤◌, ◌<◌, ◌+◌, ℕ, Bool, true, false, List, zero, suc, Some, Result, Ok, Err, if◌then◌else◌, find, arith, reverse}
+use Rattle.std.proofs.Common.{◌≡◌, ◌≤◌, ◌<◌, ◌+◌, ◌||◌, ℕ, Bool, true, false, List, zero, suc, Some, Result, Ok, Err, if◌then◌else◌, find, arith, reverse}
 use Rattle.std.specs.Prelude.{OnErr, OnOk, is_err}
 use Rattle.std.specs.List.{range_with_len}
 use Rattle.std.proofs.lemmas.Option.{same_Some}
 use Rattle.gcd_plan.specs.PlanView.{PlanView}
 use Rattle.gcd_event.specs.declared.event.Event.{Event}
 use Rattle.gcd_history.specs.History.{next_due_of}
-use Rattle.gcd_history.specs.Timers.{is_any_due, next_due, now}
+use Rattle.gcd_history.specs.Timers.{is_any_due, now}
+use Rattle.gcd_history.specs.Due.{is_any_limit, next_due}
 
 found_low : (p : ℕ → Bool) (a n d : ℕ) → find p (range_with_len a n) ≡ Some d → a ≤ d
 found_low p a zero d found = cc
@@ -20,7 +21,8 @@ found_low p a (suc n) d found =
 pub due_is_ahead : (plan : PlanView) (h : List Event) (due : ℕ) → next_due_of plan h ≡ Some due → 0 < due
 unfolding next_due_of next_due
 due_is_ahead plan h due is =
-    let low : now (reverse h) + 1 ≤ due = found_low (is_any_due plan (reverse h)) (now (reverse h) + 1) _ due is in omega arith
+    let past : List Event = reverse h in
+    let low : now past + 1 ≤ due = found_low (λ t. is_any_due plan past t || is_any_limit plan past t) (now past + 1) _ due is in omega arith
 
 -- what holds where the answer is no error
 pub on_ok : {A E : Type 0} → (P : Type 0) (r : Result A E) → is_err r ≡ false → OnOk r P → P

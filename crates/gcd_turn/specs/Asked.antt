@@ -2,9 +2,9 @@
 use Rattle.std.specs.Prelude.{◌≡◌, ◌≤◌, ◌<◌, ◌+◌, ◌⊎◌, ℕ, Bool, true, List, [], Option, Some, None, IsSome, max, min}
 use Rattle.gcd_plan.specs.PlanView.{PlanView}
 use Rattle.gcd_event.specs.declared.event.Event.{Event}
-use Rattle.gcd_event.specs.declared.event.Event.TheVariants.{Start, Act as Acted, Wake, End, Deliver, DeliverEnd, Tick, Ready, FeedEnd, Misuse, Halt}
+use Rattle.gcd_event.specs.declared.event.Event.TheVariants.{Start, Act as Acted, Wake, End, Deliver, DeliverEnd, Tick, Ready, FeedEnd, Misuse, Halt, Expire}
 use Rattle.gcd_history.specs.Ends.{HasEnded}
-use Rattle.gcd_history.specs.History.{choice_of, is_live_feed, next_due_of}
+use Rattle.gcd_history.specs.History.{choice_of, expiry_of, is_live_feed, next_due_of}
 use Rattle.gcd_machine.specs.Stands.{StandsFor}
 use Rattle.gcd_refinement.specs.MachineView.{MachineView}
 use Rattle.gcd_outer.specs.Outside.{ClockState, Rises}
@@ -31,8 +31,8 @@ pub record HasWatched (m : MachineView) (plan : PlanView) (poller : PollerState)
   pub stands : StandsFor m plan history
   pub watched : AllWatched plan history poller
 
--- so much time has passed since the start that a due time has come: the Tick is at the time that has passed, or at the last
--- due time of timers
+-- so much time has passed since the start that a due time has come: the Tick is at the time that has passed, and no later than
+-- `until`
 pub record IsDueTick (plan : PlanView) (h : List Event) (start present t : ℕ) : Type 0 where
   pub passed : ℕ
   pub due : ℕ
@@ -53,7 +53,7 @@ HasFailed old new = Rises old.faults new.faults
 abbrev pub HasNotFailed : PollerState → PollerState → Type 0
 HasNotFailed old new = new.faults ≡ old.faults
 
--- what is put of itself: a Halt where the poller failed, or a Tick that is due
+-- what is put of itself: a Halt where the poller failed, a Tick that is due, or the Expire that worker 0 records
 abbrev pub IsPut : PlanView → List Event → (start present : ℕ) → (old new : PollerState) → Event → Type 0
 IsPut plan h start present old new (Start w b) = ⊥
 IsPut plan h start present old new (Acted w r i) = ⊥
@@ -66,15 +66,18 @@ IsPut plan h start present old new (Ready s n) = ⊥
 IsPut plan h start present old new (FeedEnd s) = ⊥
 IsPut plan h start present old new (Misuse w r i c) = ⊥
 IsPut plan h start present old new Halt = HasFailed old new
+IsPut plan h start present old new (Expire b) = (expiry_of plan h ≡ Some (Expire b)) × HasNotFailed old new
 
--- worker 0 may listen or wait: there is no news, each live feed is watched, and so long is the next due time ahead
+-- worker 0 may listen or wait: there is no news, each live feed is watched, so long is the next due time ahead, and no wait may
+-- expire
 pub record MayIdle (plan : PlanView) (h : List Event) (news : List Tell) (poller : PollerState) (left : Option ℕ) : Type 0 where
   pub no_news : news ≡ []
   pub watched : AllWatched plan h poller
   pub left_is : IsLeft plan h left
+  pub no_expiry : expiry_of plan h ≡ None
 
--- what is asked at a history, which may have `most` events: to leave where it has ended, and only there; else to put a Halt, the first of the news or a
--- Tick; or to work, on what worker 0 chooses
+-- what is asked at a history, which may have `most` events: to leave where it has ended, and only there; else to put a Halt, the
+-- first of the news, a Tick or an Expire; or to work, on what worker 0 chooses
 abbrev pub IsAsked : (most : ℕ) → PlanView → List Event → OutlookView → (present : ℕ) → (old new : PollerState) → Ask → Type 0
 IsAsked most plan h o present old new Leave = HasEnded most plan h × HasNotFailed old new
 IsAsked most plan h o present old new (Told e) = HasRoom most plan h × (first_event o.news ≡ Some e) × HasNotFailed old new

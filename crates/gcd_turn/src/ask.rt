@@ -9,9 +9,10 @@ pub enum Ask {
     Leave,
     /// To record this, which a poller told; then, or where it is not permitted, [`Outlook::settle`](crate::Outlook::settle).
     Told(Event),
-    /// To record this: a Halt, or a Tick.
+    /// To record this: a Halt, a Tick or an Expire.
     Put(Event),
-    /// To record `chosen`, what worker 0 chooses; where that is None, [`Outlook::idle`](crate::Outlook::idle).
+    /// To record `chosen`, what worker 0 chooses; where that is None, [`Outlook::idle`](crate::Outlook::idle). No wait may
+    /// expire.
     Work {
         /// What worker 0 chooses, from object 0 on; None exactly where no event of worker 0 is permitted.
         chosen: Option<Event>,

@@ -1,5 +1,5 @@
 //! The turn of worker 0, which alone has poller and clock. (This project's own rules; read sources and timers are those of
-//! dispatch_source_create(3).)
+//! dispatch_source_create(3), waits with a limit those of dispatch_semaphore_wait(3) and dispatch_group_wait(3).)
 //!
 //! A turn ends at its first recorded event. [`Outlook`] is what worker 0 keeps between its turns: the clock's answer before
 //! the first, what was told and is not yet recorded, and how many empty answers came in a row. It sees a machine and says
@@ -12,9 +12,12 @@
 //! | | 2. each live feed that is not watched is watched, by number | at a fault [`Ask::Put`] of a Halt |
 //! | | 3. news | [`Ask::Told`]: the first piece, as a Ready or a FeedEnd; then, placed or barred, [`Outlook::settle`] |
 //! | | 4. a due time is left: the clock is asked | [`Ask::Put`] of a Tick where one has come |
-//! | | 5. the engine's: what worker 0 chooses | [`Ask::Work`], with that choice and the milliseconds to the next due time |
-//! | `idle` | 6. where a feed is live, one poll | a Halt at a fault; else what came is news |
-//! | | 7. else, where a due time is left and nothing runs, a wait for it | |
+//! | | 5. a wait may expire | [`Ask::Put`] of the Expire of the lowest-numbered block whose wait may |
+//! | | 6. the engine's: what worker 0 chooses | [`Ask::Work`], with that choice and the milliseconds to the next due time |
+//! | `idle` | 7. where a feed is live, one poll | a Halt at a fault; else what came is news |
+//! | | 8. else, where a due time is left and nothing runs, a wait for it | |
+//!
+//! Due times are those of timers, and the limits of waits that are not over.
 //!
 //! A poll waits 10 milliseconds, not past the next due time, and not at all where a run is open and not parked. An empty
 //! answer to a wait counts; [`EMPTY_ANSWERS`] of them in a row, while the history does not grow and nothing runs, end each

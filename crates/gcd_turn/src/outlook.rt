@@ -68,8 +68,9 @@ impl Outlook {
 
     /// The first steps of a turn: it leaves where the run has ended, which may have
     /// `most` events; it watches what is live; and it
-    /// gives the first of what was told, a Tick that is due, or else what worker 0 chooses. The clock is asked only where there
-    /// is no news and a due time is left, and the machine for a choice once, and once more only where the run is quiescent.
+    /// gives the first of what was told, a Tick that is due, the Expire of a wait that may expire, or else what worker 0 chooses.
+    /// The clock is asked only where there is no news and a due time is left, and the machine for a choice once, and once more
+    /// only where the run is quiescent.
     #[inline(always)]
     pub fn ask<P: Poller, C: Clock>(
         &self,
@@ -101,7 +102,10 @@ impl Outlook {
         }
         match next_time(self.start, plan, machine, clock) {
             Time::Tick(at) => Ask::Put(Event::Tick { at }),
-            Time::Left(left) => Ask::Work { chosen, left },
+            Time::Left(left) => match machine.expiry() {
+                Some(expire) => Ask::Put(expire),
+                None => Ask::Work { chosen, left },
+            },
         }
     }
 

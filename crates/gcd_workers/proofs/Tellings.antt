@@ -11,7 +11,7 @@ use Rattle.gcd_plan.specs.declared.numbers.Blk.{Blk}
 use Rattle.gcd_plan.specs.declared.numbers.Run.TheVariants.{Block}
 use Rattle.gcd_plan.proofs.Places.{slice_get_some}
 use Rattle.gcd_event.specs.declared.event.Event.{Event}
-use Rattle.gcd_event.specs.declared.event.Event.TheVariants.{Start, Act as Acted, Wake, End, Deliver, DeliverEnd, Tick, Ready, FeedEnd, Misuse, Halt}
+use Rattle.gcd_event.specs.declared.event.Event.TheVariants.{Start, Act as Acted, Wake, End, Deliver, DeliverEnd, Tick, Ready, FeedEnd, Misuse, Halt, Expire}
 use Rattle.gcd_history.specs.Runs.{ends}
 use Rattle.gcd_history.specs.Runs.{is_ended as is_ended_after}
 use Rattle.gcd_history.specs.History.{IsLawful, has_run, is_ended}
@@ -86,6 +86,7 @@ told_all files t h cells lawful works rest i e at = go e at (end_fits t.plan (ta
     go (FeedEnd s) is fits = tt
     go (Misuse w r j k) is fits = tt
     go Halt is fits = tt
+    go (Expire b) is fits = tt
 
 -- what lies at a place
 pub at_place : {A : Type 0} (xs : List A) (i : ℕ) (x : A) → slice_get xs i ≡ Some x → (d : A) → slice_index_or xs i d ≡ x

@@ -2,7 +2,7 @@
 use Rattle.std.specs.Prelude.{◌≡◌, ◌<◌, ℕ, List, length, Some, slice_get}
 use Rattle.gcd_plan.specs.PlanView.{PlanView}
 use Rattle.gcd_event.specs.declared.event.Event.{Event}
-use Rattle.gcd_event.specs.declared.event.Event.TheVariants.{Start, Act as Acted, Wake, End, Deliver, DeliverEnd, Tick, Ready, FeedEnd, Misuse, Halt}
+use Rattle.gcd_event.specs.declared.event.Event.TheVariants.{Start, Act as Acted, Wake, End, Deliver, DeliverEnd, Tick, Ready, FeedEnd, Misuse, Halt, Expire}
 use Rattle.gcd_history.specs.Values.{value_of}
 use Rattle.gcd_jobs.specs.Jobs.{job_value}
 use Rattle.gcd_jobs.specs.declared.file_job.FileJob.{FileJob}
@@ -44,6 +44,7 @@ IsTold plan files cells (Ready s n) = Unit {0}
 IsTold plan files cells (FeedEnd s) = Unit {0}
 IsTold plan files cells (Misuse w r i c) = Unit {0}
 IsTold plan files cells Halt = Unit {0}
+IsTold plan files cells (Expire b) = Unit {0}
 
 -- so it is at each event
 abbrev pub AreTold : PlanView → (files : List (List ℕ)) → List WorkCell → List Event → Type 0

@@ -69,6 +69,7 @@ fn queue_of(act: Act) -> Option<Obj> {
         Act::Async(q, _) | Act::Barrier(q, _) | Act::Sync(q, _) | Act::BarrierSync(q, _) => Some(q),
         Act::GroupAsync(_, q, _) | Act::Notify(_, q, _) => Some(q),
         Act::Enter(_) | Act::Leave(_) | Act::GroupWait(_) | Act::Signal(_) | Act::Wait(_) => None,
+        Act::GroupWaitFor(..) | Act::WaitFor(..) => None,
         Act::Suspend(_) | Act::Resume(_) | Act::Activate(_) | Act::Target(..) => None,
         Act::Merge(..) | Act::Cancel(_) | Act::Retain(_) | Act::Release(_) => None,
     }

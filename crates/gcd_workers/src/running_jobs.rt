@@ -170,8 +170,8 @@ fn run_team<J: Job + Drop + Send, R: Threads + Wait + Sync>(
 ///
 /// The outside is in memory. No feed is told of: a read source delivers nothing, and its feed ends after as many empty answers as
 /// after which worker 0 gives a silent feed up. Time jumps: each due time comes as soon as worker 0 has nothing else to do, so a run
-/// waits for no timer, and no Tick says anything of real time. A caller with feeds or a clock of its own makes board and rack itself, and
-/// calls [`run_pool`](crate::run_pool).
+/// waits for no timer and for no limit of a wait, and no Tick says anything of real time. A caller with feeds or a clock of its own makes
+/// board and rack itself, and calls [`run_pool`](crate::run_pool).
 ///
 /// The first refusal that applies is told: [`JobsRefused::JobCount`] exactly where the number of jobs is not that of the plan's blocks,
 /// [`JobsRefused::WorkerCount`] exactly where else the number of workers is 0 or greater than `MAX_WORKERS`, which is 64, and

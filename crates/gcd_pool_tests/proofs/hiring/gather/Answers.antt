@@ -1,7 +1,17 @@
-use Rattle.std.proofs.Common.{arith}
+use Rattle.std.proofs.Common.{arith, rules}
 use Rattle.gcd_row.specs.Passes.{view}
 use Rattle.gcd_pool.proofs.Teams.{all_home}
 use Rattle.gcd_pool_tests.proofs.hiring.gather.Goals as goal
+
+pub loop-step-init : goal.loop-step-init
+loop-step-init g c = record {
+  some = search rules;
+  pass = search rules;
+  worker = search rules;
+  hands = search rules;
+  home = search rules;
+  back = search rules;
+}
 
 pub take_in-requires-clause-back : goal.take_in-requires-clause-back
 take_in-requires-clause-back g c w above = c.loop-step.invariant.back w (omega (arith, above))

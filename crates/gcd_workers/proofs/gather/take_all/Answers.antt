@@ -1,4 +1,4 @@
-use Rattle.std.proofs.Common.{◌≡◌, ◌<◌, ◌∙◌, ◌∷◌, [], ◌++◌, ℕ, suc, length, ap, sym, subst, arith}
+use Rattle.std.proofs.Common.{◌≡◌, ◌<◌, ◌∙◌, ◌∷◌, [], ◌++◌, ℕ, suc, length, ap, sym, subst, refl, rules, arith}
 use Rattle.std.specs.Vec.Iter.{into_iter_items}
 use Rattle.std.proofs.lemmas.List.{length_push}
 use Rattle.gcd_row.specs.Passes.{view}
@@ -7,6 +7,17 @@ use Rattle.gcd_workers.specs.Teams.{EachFrom, IsHead, IsPassAt}
 use Rattle.gcd_workers.proofs.Heads.{head_back}
 use Rattle.gcd_workers.proofs.Places.{each_first, each_rest}
 use Rattle.gcd_workers.proofs.gather.take_all.Goals as goal
+
+pub loop-hand-init : goal.loop-hand-init
+loop-hand-init g c = record {
+  len = search rules;
+  count = search rules;
+  each = search rules;
+  pass = search rules;
+  head = search rules;
+  seen = refl;
+  ended = search rules;
+}
 
 pub take_in-requires-clause-hand : goal.take_in-requires-clause-hand
 take_in-requires-clause-hand g c =

@@ -20,7 +20,7 @@ const B1: Blk = Blk(1);
 
 const O1: Obj = Obj(1);
 
-static ROWS: [Row; 4] = [
+static ROWS: [Row; 5] = [
     Row {
         what: "a block on a serial queue",
         kind: Kind::Serial,
@@ -73,6 +73,36 @@ static ROWS: [Row; 4] = [
             Event::Tick { at: 10 },
             Event::Deliver { worker: 0, src: O1 },
             Event::DeliverEnd { worker: 0, src: O1 },
+        ],
+        values: &[0, 0],
+        state: State::Drained,
+    },
+    Row {
+        what: "a wait whose limit comes",
+        kind: Kind::Semaphore(0),
+        act: Act::WaitFor(O1, 10),
+        feed: &[],
+        failing_poll: None,
+        journal: &[
+            Event::Start {
+                worker: 0,
+                blk: MAIN,
+            },
+            Event::Act {
+                worker: 0,
+                run: Run::Block(MAIN),
+                index: 0,
+            },
+            Event::Tick { at: 10 },
+            Event::Expire { blk: MAIN },
+            Event::Wake {
+                worker: 0,
+                blk: MAIN,
+            },
+            Event::End {
+                worker: 0,
+                blk: MAIN,
+            },
         ],
         values: &[0, 0],
         state: State::Drained,

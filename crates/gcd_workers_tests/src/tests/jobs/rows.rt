@@ -29,7 +29,7 @@ const ROOT: Obj = Obj(0);
 
 const O1: Obj = Obj(1);
 
-static ROWS: [Row; 4] = [
+static ROWS: [Row; 5] = [
     Row {
         what: "a block that waits for ever has no value",
         kind: Kind::Semaphore(0),
@@ -58,6 +58,59 @@ static ROWS: [Row; 4] = [
         ],
         values: &[Some(100), None],
         state: State::Stuck,
+    },
+    Row {
+        what: "limits come at once, and a wait ends with the time that there is",
+        kind: Kind::Group,
+        main: &[
+            Act::Enter(O1),
+            Act::Async(ROOT, B1),
+            Act::GroupWaitFor(O1, 5),
+        ],
+        block: &[Act::GroupWaitFor(O1, 60_000)],
+        journal: &[
+            Event::Start {
+                worker: 0,
+                blk: MAIN,
+            },
+            Event::Act {
+                worker: 0,
+                run: Run::Block(MAIN),
+                index: 0,
+            },
+            Event::Act {
+                worker: 0,
+                run: Run::Block(MAIN),
+                index: 1,
+            },
+            Event::Act {
+                worker: 0,
+                run: Run::Block(MAIN),
+                index: 2,
+            },
+            Event::Start { worker: 0, blk: B1 },
+            Event::Act {
+                worker: 0,
+                run: Run::Block(B1),
+                index: 0,
+            },
+            Event::Tick { at: 5 },
+            Event::Expire { blk: MAIN },
+            Event::Wake {
+                worker: 0,
+                blk: MAIN,
+            },
+            Event::End {
+                worker: 0,
+                blk: MAIN,
+            },
+            Event::Tick { at: 21 },
+            Event::Expire { blk: B1 },
+            Event::Wake { worker: 0, blk: B1 },
+            Event::End { worker: 0, blk: B1 },
+        ],
+        values: &[Some(100), Some(121)],
+        state: State::Drained,
     },
     Row {
         what: "a source that adds",
