@@ -68,7 +68,7 @@ pub fn is_first(word: &str) -> bool {
 
 const NO: Role = Role::Nothing;
 
-static FORMS: [Form; 38] = [
+static FORMS: [Form; 40] = [
     Form {
         first: "file",
         shape: "F PATH",
@@ -238,6 +238,11 @@ static FORMS: [Form; 38] = [
         roles: [Role::Group, NO, NO, NO, NO, NO],
     },
     Form {
+        first: "group_wait_for",
+        shape: "G MS",
+        roles: [Role::Group, Role::Limit, NO, NO, NO, NO],
+    },
+    Form {
         first: "signal",
         shape: "S",
         roles: [Role::Semaphore, NO, NO, NO, NO, NO],
@@ -246,6 +251,11 @@ static FORMS: [Form; 38] = [
         first: "wait",
         shape: "S",
         roles: [Role::Semaphore, NO, NO, NO, NO, NO],
+    },
+    Form {
+        first: "wait_for",
+        shape: "S MS",
+        roles: [Role::Semaphore, Role::Limit, NO, NO, NO, NO],
     },
     Form {
         first: "suspend",

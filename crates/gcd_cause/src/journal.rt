@@ -146,7 +146,7 @@ struct Shape {
 
 const NO: Field = Field::Nothing;
 
-static SHAPES: [Shape; 12] = [
+static SHAPES: [Shape; 13] = [
     Shape {
         first: "start",
         shape: " W B",
@@ -201,6 +201,11 @@ static SHAPES: [Shape; 12] = [
         first: "halt",
         shape: "",
         asked: [NO, NO, NO, NO],
+    },
+    Shape {
+        first: "expire",
+        shape: " B",
+        asked: [Field::Block, NO, NO, NO],
     },
     Shape {
         first: "events",

@@ -68,7 +68,7 @@ impl What {
             Role::New | Role::Path | Role::Nothing => true,
             Role::On | Role::Inactive | Role::Read | Role::Timer | Role::Count => true,
             Role::QueueKind | Role::MergeKind | Role::Work => true,
-            Role::Byte | Role::Extent | Role::Time | Role::Value => true,
+            Role::Byte | Role::Extent | Role::Time | Role::Limit | Role::Value => true,
         }
     }
 }

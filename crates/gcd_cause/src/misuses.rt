@@ -10,8 +10,8 @@ fn named(act: Act) -> (Obj, Obj) {
     match act {
         Act::Async(q, _) | Act::Barrier(q, _) | Act::Sync(q, _) | Act::BarrierSync(q, _) => (q, q),
         Act::GroupAsync(g, q, _) | Act::Notify(g, q, _) => (g, q),
-        Act::Enter(o) | Act::Leave(o) | Act::GroupWait(o) => (o, o),
-        Act::Signal(o) | Act::Wait(o) => (o, o),
+        Act::Enter(o) | Act::Leave(o) | Act::GroupWait(o) | Act::GroupWaitFor(o, _) => (o, o),
+        Act::Signal(o) | Act::Wait(o) | Act::WaitFor(o, _) => (o, o),
         Act::Suspend(o) | Act::Resume(o) | Act::Activate(o) => (o, o),
         Act::Target(o, t) => (o, t),
         Act::Merge(o, _) | Act::Cancel(o) => (o, o),

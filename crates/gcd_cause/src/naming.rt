@@ -97,8 +97,10 @@ fn act_word(act: Act) -> &'static str {
         Act::Enter(_) => "enter",
         Act::Leave(_) => "leave",
         Act::GroupWait(_) => "group_wait",
+        Act::GroupWaitFor(..) => "group_wait_for",
         Act::Signal(_) => "signal",
         Act::Wait(_) => "wait",
+        Act::WaitFor(..) => "wait_for",
         Act::Suspend(_) => "suspend",
         Act::Resume(_) => "resume",
         Act::Activate(_) => "activate",
@@ -139,9 +141,9 @@ impl<'a> fmt::Display for ActWords<'a> {
                 let (object, target) = (object_name(self.plan, o), object_name(self.plan, t));
                 write!(f, "{word} {object} {target}")
             }
-            Act::Merge(s, n) => {
-                let source = object_name(self.plan, s);
-                write!(f, "{word} {source} {n}")
+            Act::Merge(o, n) | Act::WaitFor(o, n) | Act::GroupWaitFor(o, n) => {
+                let object = object_name(self.plan, o);
+                write!(f, "{word} {object} {n}")
             }
         }
     }
@@ -200,6 +202,10 @@ impl<'a> fmt::Display for EventWords<'a> {
                 write!(f, " {index} M{code}")
             }
             Event::Halt => write!(f, "halt"),
+            Event::Expire { blk } => {
+                let name = block_name(plan, blk);
+                write!(f, "expire {name}")
+            }
         }
     }
 }
@@ -223,5 +229,6 @@ pub fn why_name(why: Why) -> &'static str {
         Why::NotDue => "NotDue",
         Why::NotLive => "NotLive",
         Why::NotMisuse => "NotMisuse",
+        Why::Came => "Came",
     }
 }

@@ -39,6 +39,7 @@ fn no_such(alloc: Global, sight: Sight, event: Event) -> Result<String, AllocErr
                 "the plan has no such block, or a number is out of its range",
             )
         }
+        Event::Expire { .. } => String::from_str(alloc, "the plan has no such block"),
         Event::Deliver { .. } | Event::DeliverEnd { .. } | Event::Misuse { .. } => {
             String::from_str(
                 alloc,
@@ -59,6 +60,7 @@ fn worker_of(event: Event) -> u8 {
         Event::Deliver { worker, .. } | Event::DeliverEnd { worker, .. } => worker,
         Event::Misuse { worker, .. } => worker,
         Event::Tick { .. } | Event::Ready { .. } | Event::FeedEnd { .. } | Event::Halt => 0,
+        Event::Expire { .. } => 0,
     }
 }
 
@@ -71,6 +73,7 @@ fn run_of(event: Event) -> Option<Run> {
         Event::Act { run, .. } | Event::Misuse { run, .. } => Some(run),
         Event::Deliver { src, .. } | Event::DeliverEnd { src, .. } => Some(Run::Source(src)),
         Event::Ready { src, .. } | Event::FeedEnd { src } => Some(Run::Source(src)),
+        Event::Expire { blk } => Some(Run::Block(blk)),
         Event::Tick { .. } | Event::Halt => None,
     }
 }
@@ -175,10 +178,17 @@ pub fn awaited_words(alloc: Global, sight: Sight, reason: Reason) -> Result<Stri
         }
         Reason::Rank(s, rank) => {
             let name = sight.name_of_object(s);
-            let (first, signals) = (sight.first_value(s), sight.scene.object(s).signals);
-            format!(in alloc;
-                "semaphore {name}, as wait {rank} (first value {first}, signals {signals})"
-            )
+            let (first, now) = (sight.first_value(s), sight.scene.object(s));
+            let (signals, expired) = (now.signals, now.expired);
+            if expired == 0 {
+                format!(in alloc;
+                    "semaphore {name}, as wait {rank} (first value {first}, signals {signals})"
+                )
+            } else {
+                format!(in alloc;
+                    "semaphore {name}, as wait {rank} (first value {first}, signals {signals}, expired waits {expired})"
+                )
+            }
         }
     }
 }
@@ -227,7 +237,9 @@ fn not_next(alloc: Global, sight: Sight, run: Run, event: Event) -> Result<Strin
         Event::DeliverEnd { .. } | Event::Tick { .. } | Event::Ready { .. } => {
             format!(in alloc; "{name} has made its acts")
         }
-        Event::FeedEnd { .. } | Event::Halt => format!(in alloc; "{name} has made its acts"),
+        Event::FeedEnd { .. } | Event::Halt | Event::Expire { .. } => {
+            format!(in alloc; "{name} has made its acts")
+        }
     }
 }
 
@@ -264,7 +276,7 @@ fn misused(alloc: Global, sight: Sight, event: Event) -> Result<String, AllocErr
         Event::Start { .. } | Event::Wake { .. } | Event::End { .. } => return no_act(alloc),
         Event::Deliver { .. } | Event::DeliverEnd { .. } => return no_act(alloc),
         Event::Tick { .. } | Event::Ready { .. } | Event::FeedEnd { .. } => return no_act(alloc),
-        Event::Halt => return no_act(alloc),
+        Event::Halt | Event::Expire { .. } => return no_act(alloc),
     };
     match code_now(sight, worker, run, index) {
         Some(code) => {
@@ -310,10 +322,45 @@ fn waiting(alloc: Global, sight: Sight, run: Run) -> Result<String, AllocError> 
     if let Run::Block(b) = run {
         if let Some(reason) = sight.awaited(b) {
             let what = awaited_words(alloc, sight, reason)?;
-            return format!(in alloc; "{name} waits for {what}");
+            return match limit_of(sight, b) {
+                Some(limit) => format!(in alloc; "{name} waits for {what}, until {limit}"),
+                None => format!(in alloc; "{name} waits for {what}"),
+            };
         }
     }
     format!(in alloc; "{name} waits")
+}
+
+// The limit of the wait of a parked block; None where it has none.
+fn limit_of(sight: Sight, b: Blk) -> Option<u32> {
+    let (_, limit) = sight.scene.block(b).wait?;
+    limit
+}
+
+// The limit of a parked block's wait has not come.
+fn below_limit(alloc: Global, sight: Sight, b: Blk) -> Result<String, AllocError> {
+    let (name, time) = (sight.name_of_block(b), sight.scene.time);
+    match limit_of(sight, b) {
+        Some(limit) => format!(in alloc;
+            "the limit of the wait of {name} is {limit}, and journal time is {time}"
+        ),
+        None => format!(in alloc; "the wait of {name} has no limit"),
+    }
+}
+
+// The wait of a parked block is over.
+fn came(alloc: Global, sight: Sight, b: Blk) -> Result<String, AllocError> {
+    let name = sight.name_of_block(b);
+    if sight.scene.block(b).has_expired {
+        return format!(in alloc; "the wait of {name} has expired already");
+    }
+    match sight.awaited(b) {
+        Some(reason) => {
+            let what = awaited_words(alloc, sight, reason)?;
+            format!(in alloc; "what {name} waits for has come: {what}")
+        }
+        None => format!(in alloc; "what {name} waits for has come"),
+    }
 }
 
 // What is in the way of an event of a run.
@@ -339,7 +386,8 @@ fn of_run(alloc: Global, sight: Sight, barred: Barred, run: Run) -> Result<Strin
         Why::NotParked => format!(in alloc; "{name} is not parked"),
         Why::Waiting => waiting(alloc, sight, run),
         Why::NotLive => not_live(alloc, sight, run),
-        Why::NotDue => String::from_str(alloc, "no timer is due"),
+        Why::NotDue => below_limit(alloc, sight, blk),
+        Why::Came => came(alloc, sight, blk),
     }
 }
 

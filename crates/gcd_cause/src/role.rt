@@ -47,6 +47,8 @@ pub enum Role {
     Extent,
     /// A time in milliseconds, from 1.
     Time,
+    /// How long to wait, in milliseconds, from 0.
+    Limit,
     /// A number up to the greatest value.
     Value,
     /// No word: the form has fewer.
@@ -76,7 +78,7 @@ impl Role {
             Role::MergeSource => "a source of merged values",
             Role::Object => "an object other than root",
             Role::Block => "a block",
-            Role::Byte | Role::Extent | Role::Time | Role::Value => "a number",
+            Role::Byte | Role::Extent | Role::Time | Role::Limit | Role::Value => "a number",
             Role::Nothing => "nothing",
         }
     }
@@ -95,7 +97,7 @@ impl Role {
             Role::New | Role::Path | Role::Nothing => None,
             Role::File | Role::Queue | Role::Node | Role::Group | Role::Semaphore => None,
             Role::Source | Role::MergeSource | Role::Object | Role::Block => None,
-            Role::Byte | Role::Extent | Role::Time | Role::Value => None,
+            Role::Byte | Role::Extent | Role::Time | Role::Limit | Role::Value => None,
         }
     }
 
@@ -105,6 +107,7 @@ impl Role {
             Role::Byte => Some((0, 255)),
             Role::Extent => Some((0, gcd_plan::MAX_FILE_BYTES)),
             Role::Time => Some((1, gcd_plan::MAX_TIME)),
+            Role::Limit => Some((0, gcd_plan::MAX_TIME)),
             Role::Value => Some((0, gcd_plan::MAX_VALUE)),
             Role::New | Role::Path | Role::Nothing => None,
             Role::On | Role::Inactive | Role::Read | Role::Timer | Role::Count => None,
@@ -122,7 +125,7 @@ impl Role {
             Role::New | Role::Path | Role::Nothing => false,
             Role::On | Role::Inactive | Role::Read | Role::Timer | Role::Count => false,
             Role::QueueKind | Role::MergeKind | Role::Work => false,
-            Role::Byte | Role::Extent | Role::Time | Role::Value => false,
+            Role::Byte | Role::Extent | Role::Time | Role::Limit | Role::Value => false,
         }
     }
 }

@@ -31,7 +31,10 @@ pub struct ObjectNow {
     /// The blocks of a group that are submitted and have not ended.
     pub members: u32,
     pub signals: u32,
+    /// The waits of a semaphore that have not expired.
     pub waits: u32,
+    /// Those that have.
+    pub expired: u32,
     pub refs: u32,
     pub is_cancelled: bool,
     pub is_delivering: bool,
@@ -53,6 +56,10 @@ pub struct BlockNow {
     pub group: Option<Obj>,
     /// The group at which it is registered.
     pub notify: Option<Obj>,
+    /// The last wait that it began: the object for which it waits, and the limit, if the wait has one.
+    pub wait: Option<(Obj, Option<u32>)>,
+    /// Whether that wait has expired.
+    pub has_expired: bool,
 }
 
 /// What events have made of a plan.
@@ -80,6 +87,7 @@ fn first_object(plan: &Plan, o: Obj) -> ObjectNow {
         members: 0,
         signals: 0,
         waits: 0,
+        expired: 0,
         refs: 1,
         is_cancelled: false,
         is_delivering: false,
@@ -94,6 +102,8 @@ const FIRST_BLOCK: BlockNow = BlockNow {
     is_barrier: false,
     group: None,
     notify: None,
+    wait: None,
+    has_expired: false,
 };
 
 fn first_objects(alloc: Global, plan: &Plan) -> Result<Vec<ObjectNow>, AllocError> {
@@ -186,6 +196,7 @@ const NO_OBJECT: ObjectNow = ObjectNow {
     members: 0,
     signals: 0,
     waits: 0,
+    expired: 0,
     refs: 1,
     is_cancelled: false,
     is_delivering: false,
@@ -295,10 +306,34 @@ impl Scene {
                 self.submit(by, q, b, false);
                 self.register(g, b);
             }
-            Act::Enter(_) | Act::Leave(_) | Act::GroupWait(_) => {}
-            Act::Signal(_) | Act::Wait(_) => {}
+            Act::Enter(_) | Act::Leave(_) | Act::GroupWait(_) | Act::GroupWaitFor(..) => {}
+            Act::Signal(_) | Act::Wait(_) | Act::WaitFor(..) => {}
             Act::Suspend(_) | Act::Resume(_) | Act::Activate(_) | Act::Target(..) => {}
             Act::Merge(..) | Act::Cancel(_) | Act::Retain(_) | Act::Release(_) => {}
+        }
+    }
+
+    // The run, which parks, begins this wait, or one without a limit for the end of a block.
+    fn wait(&mut self, run: Run, wait: Option<(Obj, Option<u32>)>) {
+        if let Run::Block(b) = run {
+            if let Some(now) = self.blocks.get_mut(b.0 as usize) {
+                now.wait = wait;
+                now.has_expired = false;
+            }
+        }
+    }
+
+    // The wait of the block expires.
+    fn expire(&mut self, b: Blk) {
+        let wait = self.block(b).wait;
+        if let Some(now) = self.blocks.get_mut(b.0 as usize) {
+            now.has_expired = true;
+        }
+        if let Some((o, _)) = wait {
+            if let Some(now) = self.objects.get_mut(o.0 as usize) {
+                now.waits = now.waits.saturating_sub(1);
+                now.expired = now.expired.saturating_add(1);
+            }
         }
     }
 
@@ -321,6 +356,8 @@ impl Scene {
         self.count(by.run);
         if act.parks() {
             self.give(by.run);
+            let wait = begun_wait(act, self.time, plan.until());
+            self.wait(by.run, wait);
         }
         self.submitted(by, act);
         let is_source = match object_of(act) {
@@ -374,6 +411,7 @@ impl Scene {
             Event::FeedEnd { src } => self.cancel(src),
             Event::Misuse { .. } => {}
             Event::Halt => {}
+            Event::Expire { blk } => self.expire(blk),
         }
         Ok(())
     }
@@ -384,11 +422,27 @@ fn object_of(act: Act) -> Option<Obj> {
     match act {
         Act::Async(..) | Act::Barrier(..) | Act::Sync(..) | Act::BarrierSync(..) => None,
         Act::GroupAsync(..) | Act::Notify(..) => None,
-        Act::Enter(o) | Act::Leave(o) | Act::GroupWait(o) => Some(o),
-        Act::Signal(o) | Act::Wait(o) => Some(o),
+        Act::Enter(o) | Act::Leave(o) | Act::GroupWait(o) | Act::GroupWaitFor(o, _) => Some(o),
+        Act::Signal(o) | Act::Wait(o) | Act::WaitFor(o, _) => Some(o),
         Act::Suspend(o) | Act::Resume(o) | Act::Activate(o) => Some(o),
         Act::Target(o, _) | Act::Merge(o, _) | Act::Cancel(o) => Some(o),
         Act::Retain(o) | Act::Release(o) => Some(o),
+    }
+}
+
+// The wait at a group or semaphore that the act begins, with its limit where it has one: so many milliseconds from now, and no later
+// than the last due time.
+fn begun_wait(act: Act, now: u32, until: u32) -> Option<(Obj, Option<u32>)> {
+    match act {
+        Act::GroupWait(o) | Act::Wait(o) => Some((o, None)),
+        Act::GroupWaitFor(o, ms) | Act::WaitFor(o, ms) => {
+            Some((o, Some(now.saturating_add(ms).min(until))))
+        }
+        Act::Async(..) | Act::Barrier(..) | Act::Sync(..) | Act::BarrierSync(..) => None,
+        Act::GroupAsync(..) | Act::Notify(..) | Act::Enter(_) | Act::Leave(_) => None,
+        Act::Signal(_) | Act::Suspend(_) | Act::Resume(_) | Act::Activate(_) => None,
+        Act::Target(..) | Act::Merge(..) | Act::Cancel(_) => None,
+        Act::Retain(_) | Act::Release(_) => None,
     }
 }
 
@@ -427,7 +481,7 @@ fn after_act(now: ObjectNow, by: Place, act: Act, is_source: bool) -> ObjectNow 
         Act::Enter(_) => after.enters = now.enters.saturating_add(1),
         Act::Leave(_) => after.enters = now.enters.saturating_sub(1),
         Act::Signal(_) => after.signals = now.signals.saturating_add(1),
-        Act::Wait(_) => after.waits = now.waits.saturating_add(1),
+        Act::Wait(_) | Act::WaitFor(..) => after.waits = now.waits.saturating_add(1),
         Act::Suspend(_) => return suspended(now, by),
         Act::Resume(_) => return resumed(now, is_source),
         Act::Activate(_) => after.is_active = true,
@@ -435,7 +489,7 @@ fn after_act(now: ObjectNow, by: Place, act: Act, is_source: bool) -> ObjectNow 
         Act::Cancel(_) => after.is_cancelled = true,
         Act::Retain(_) => after.refs = now.refs.saturating_add(1),
         Act::Release(_) => after.refs = now.refs.saturating_sub(1),
-        Act::GroupWait(_) | Act::Merge(..) => {}
+        Act::GroupWait(_) | Act::GroupWaitFor(..) | Act::Merge(..) => {}
         Act::Async(..) | Act::Barrier(..) | Act::Sync(..) | Act::BarrierSync(..) => {}
         Act::GroupAsync(..) | Act::Notify(..) => {}
     }

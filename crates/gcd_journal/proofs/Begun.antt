@@ -6,7 +6,7 @@ use Rattle.gcd_plan.specs.declared.numbers.Run.{Run}
 use Rattle.gcd_plan.specs.declared.numbers.Run.TheVariants.{Block, Source}
 use Rattle.gcd_event.specs.Owners.{begun}
 use Rattle.gcd_event.specs.declared.event.Event.{Event}
-use Rattle.gcd_event.specs.declared.event.Event.TheVariants.{Start, Act as Acted, Wake, End, Deliver, DeliverEnd, Tick, Ready, FeedEnd, Misuse, Halt}
+use Rattle.gcd_event.specs.declared.event.Event.TheVariants.{Start, Act as Acted, Wake, End, Deliver, DeliverEnd, Tick, Ready, FeedEnd, Misuse, Halt, Expire}
 use Rattle.gcd_history.specs.Sources.{delivers}
 
 -- an event that begins a source's run delivers it
@@ -22,6 +22,7 @@ delivery_begins (Ready t n) s is = cc
 delivery_begins (FeedEnd t) s is = cc
 delivery_begins (Misuse w r i c) s is = cc
 delivery_begins Halt s is = cc
+delivery_begins (Expire b) s is = cc
 
 -- an event that begins a block's run delivers no source
 pub block_begins : (e : Event) (b : Blk) → Some (Block b) ≡ begun e → (s : ℕ) → delivers s e ≡ false
@@ -36,6 +37,7 @@ block_begins (Ready t n) b is s = refl
 block_begins (FeedEnd t) b is s = refl
 block_begins (Misuse w r i c) b is s = refl
 block_begins Halt b is s = refl
+block_begins (Expire c) b is s = refl
 
 -- nor does one that begins none
 pub none_begins : (e : Event) → None ≡ begun e → (s : ℕ) → delivers s e ≡ false
@@ -50,3 +52,4 @@ none_begins (Ready t n) is s = refl
 none_begins (FeedEnd t) is s = refl
 none_begins (Misuse w r i c) is s = refl
 none_begins Halt is s = refl
+none_begins (Expire b) is s = refl

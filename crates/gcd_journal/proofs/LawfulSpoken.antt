@@ -9,7 +9,7 @@ use Rattle.gcd_plan.specs.Validity.{IsPlan}
 use Rattle.gcd_plan.specs.declared.kind.Kind.{Kind}
 use Rattle.gcd_plan.specs.declared.kind.Kind.TheVariants.{Serial, Concurrent, Group, Semaphore, Add, Or, Replace, Timer, Read}
 use Rattle.gcd_event.specs.declared.event.Event.{Event}
-use Rattle.gcd_event.specs.declared.event.Event.TheVariants.{Start, Act as Acted, Wake, End, Deliver, DeliverEnd, Tick, Ready, FeedEnd, Misuse, Halt}
+use Rattle.gcd_event.specs.declared.event.Event.TheVariants.{Start, Act as Acted, Wake, End, Deliver, DeliverEnd, Tick, Ready, FeedEnd, Misuse, Halt, Expire}
 use Rattle.gcd_history.specs.Permitted.{is_known, is_worker, is_run_of, is_index, is_code, has_block, is_feed}
 use Rattle.gcd_history.specs.History.{IsLawful, why}
 use Rattle.gcd_history.proofs.Reasons.{allowed}
@@ -49,6 +49,7 @@ known_named plan (FeedEnd s) h = source_of_feed plan s.0 h
 known_named plan (Misuse w run i c) h =
     (and_parts (is_run_of plan run) (is_index i && is_code c) (and_parts (is_worker w) (is_run_of plan run && (is_index i && is_code c)) h).1).0
 known_named plan Halt h = tt
+known_named plan (Expire b) h = h
 
 pub permitted_spoken : (plan : PlanView) (h : List Event) (e : Event) → IsPlan plan → why plan h e ≡ None → IsSpoken plan e
 unfolding why

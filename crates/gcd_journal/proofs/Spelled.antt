@@ -11,7 +11,7 @@ use Rattle.gcd_plan.specs.declared.numbers.Obj.{Obj}
 use Rattle.gcd_plan.specs.declared.numbers.Run.{Run}
 use Rattle.gcd_plan.specs.declared.numbers.Run.TheVariants.{Block, Source}
 use Rattle.gcd_event.specs.declared.event.Event.{Event}
-use Rattle.gcd_event.specs.declared.event.Event.TheVariants.{Start, Act as Acted, Wake, End, Deliver, DeliverEnd, Tick, Ready, FeedEnd, Misuse, Halt}
+use Rattle.gcd_event.specs.declared.event.Event.TheVariants.{Start, Act as Acted, Wake, End, Deliver, DeliverEnd, Tick, Ready, FeedEnd, Misuse, Halt, Expire}
 use Rattle.gcd_history.specs.Permitted.{is_run_of}
 use Rattle.gcd_history.specs.Report.{name_of_run}
 use Rattle.gcd_history.specs.JournalText.{event_line}
@@ -35,6 +35,7 @@ fields_of_event plan (Ready s n) = codes "ready" ∷ name_of_obj plan s.0 ∷ de
 fields_of_event plan (FeedEnd s) = codes "feed_end" ∷ name_of_obj plan s.0 ∷ []
 fields_of_event plan (Misuse w run i c) = codes "misuse" ∷ decimal w ∷ name_of_run plan run ∷ decimal i ∷ (77 ∷ decimal c) ∷ []
 fields_of_event plan Halt = codes "halt" ∷ []
+fields_of_event plan (Expire b) = codes "expire" ∷ name_of_blk plan b.0 ∷ []
 
 -- the text of a line is its fields, joined by spaces
 abbrev pub text_of : PlanView → Event → List ℕ
@@ -53,6 +54,7 @@ line_of_text plan (Ready s n) = simp append_assoc
 line_of_text plan (FeedEnd s) = refl
 line_of_text plan (Misuse w run i c) = simp append_assoc
 line_of_text plan Halt = refl
+line_of_text plan (Expire b) = refl
 
 -- the fields are plain
 all_plain : (a : List ℕ) (more : List (List ℕ)) → list_all is_plain a ≡ true → list_all (list_all is_plain) more ≡ true → list_all (list_all is_plain) (a ∷ more) ≡ true
@@ -85,6 +87,8 @@ plain_fields plan (Misuse w run i c) valid spoken =
     (all_plain (decimal i) ((77 ∷ decimal c) ∷ []) (plain_decimal i (let f = spoken.fits in omega arith))
     (all_plain (77 ∷ decimal c) [] (plain_decimal c (let f = spoken.fits in omega arith)) refl))
 plain_fields plan Halt valid spoken = refl
+plain_fields plan (Expire b) valid spoken =
+    all_plain (codes "expire") (name_of_blk plan b.0 ∷ []) refl (all_plain (name_of_blk plan b.0) [] (plain_name plan (Block b) valid spoken.named) refl)
 
 -- ## What the fields of an event spell
 
@@ -115,6 +119,7 @@ module _ (plan : PlanView) (look : Look) (known : (run : Run) → is_run_of plan
   spells (Misuse w run i c) spoken =
       rw (worker_read w spoken.fits.0, known run spoken.named, number_read 0 (max_acts - 1) i (omega arith) (let f = spoken.fits in omega arith) (omega arith), number_read 1 8 c spoken.fits.3 spoken.fits.4 (omega arith)) refl
   spells Halt spoken = refl
+  spells (Expire b) spoken = rw (block_read b spoken.named) refl
 
 -- six fields and more spell nothing
 pub six_spell_nothing : (look : Look) (kind a b c d rest : List ℕ) → event_in look (kind ∷ a ∷ b ∷ c ∷ d ∷ fields_of rest) ≡ None

@@ -5,18 +5,18 @@ use Rattle.std.specs.Str.{bytes_eq}
 use Rattle.std.proofs.lemmas.Bool.{eqb-true}
 use Rattle.std.proofs.lemmas.Slice.Eq.{bytes_eq-Decides}
 use Rattle.gcd_plan.specs.Limits.{max_workers, max_acts, max_time, max_value}
-use Rattle.gcd_plan.specs.PlanView.{PlanView, name_of_obj}
+use Rattle.gcd_plan.specs.PlanView.{PlanView, name_of_blk, name_of_obj}
 use Rattle.gcd_plan.specs.Validity.{IsPlan}
 use Rattle.gcd_plan.specs.declared.numbers.Blk.{Blk}
 use Rattle.gcd_plan.specs.declared.numbers.Obj.{Obj}
 use Rattle.gcd_plan.specs.declared.numbers.Run.{Run}
 use Rattle.gcd_plan.specs.declared.numbers.Run.TheVariants.{Block, Source}
 use Rattle.gcd_event.specs.declared.event.Event.{Event}
-use Rattle.gcd_event.specs.declared.event.Event.TheVariants.{Start, Act as Acted, Wake, End, Deliver, DeliverEnd, Tick, Ready, FeedEnd, Misuse, Halt}
+use Rattle.gcd_event.specs.declared.event.Event.TheVariants.{Start, Act as Acted, Wake, End, Deliver, DeliverEnd, Tick, Ready, FeedEnd, Misuse, Halt, Expire}
 use Rattle.gcd_history.specs.Permitted.{is_run_of}
 use Rattle.gcd_history.specs.Report.{name_of_run}
 use Rattle.gcd_journal.specs.Spoken.{IsSpoken}
-use Rattle.gcd_journal.specs.Spelling.{Look, number_in, worker_in, index_in, time_in, bytes_in, code_in, source_of_run, source_in, of_both, block_event, source_event, turn_event, turn_in, by_one, by_two, by_three, by_four, by_five, event_in}
+use Rattle.gcd_journal.specs.Spelling.{Look, number_in, worker_in, index_in, time_in, bytes_in, code_in, block_of_run, block_in, source_of_run, source_in, of_both, block_event, source_event, turn_event, turn_in, by_one, by_two, by_three, by_four, by_five, event_in}
 use Rattle.gcd_journal.proofs.NamesApart.{run_fits}
 use Rattle.gcd_journal.proofs.Numbers.{read_back}
 use Rattle.gcd_journal.proofs.Spelled.{fields_of_event}
@@ -38,6 +38,11 @@ is_source_name : (o : Option Run) (s : Obj) → option_and_then source_of_run o 
 is_source_name None s h = cc
 is_source_name (Some (Block c)) s h = cc
 is_source_name (Some (Source t)) s h = let same : t ≡ s = cc in ap (λ d. Some (Source d)) same
+
+is_block_name : (o : Option Run) (b : Blk) → option_and_then block_of_run o ≡ Some b → o ≡ Some (Block b)
+is_block_name None b h = cc
+is_block_name (Some (Block c)) b h = let same : c ≡ b = cc in ap (λ d. Some (Block d)) same
+is_block_name (Some (Source t)) b h = cc
 
 is_code : (field : List ℕ) (k : ℕ) → code_in field ≡ Some k → (field ≡ 77 ∷ decimal k) × (1 ≤ k) × (k ≤ 8)
 is_code [] k h = cc
@@ -89,7 +94,7 @@ module _ (plan : PlanView) (look : Look) (valid : IsPlan plan) (sound : (name : 
         let same : Tick parts.0 ≡ e = cc in
         let word = same_text kind (codes "tick") is.0 in
         subst (λ f. Spells plan f (kind ∷ a ∷ [])) same (record { fits = (back.1, back.2); named = tt }, ap (λ k. k ∷ decimal parts.0 ∷ []) word ∙ ap (λ f. kind ∷ f ∷ []) (sym back.0))
-    | inr other ↦ elim (guarded (bytes_eq kind (codes "feed_end")) _ None e other.1) [
+    | inr other ↦ elim (guarded (bytes_eq kind (codes "feed_end")) _ _ e other.1) [
       | inl is ↦
           let parts = then_there (λ s. Some (FeedEnd s)) (source_in look a) e is.1 in
           let named = sound a (Source parts.0) (is_source_name (look a) parts.0 parts.1) in
@@ -97,7 +102,16 @@ module _ (plan : PlanView) (look : Look) (valid : IsPlan plan) (sound : (name : 
           let word = same_text kind (codes "feed_end") is.0 in
           subst (λ f. Spells plan f (kind ∷ a ∷ [])) same
           (record { fits = run_fits plan (Source parts.0) valid named.0; named = named.0 }, ap (λ k. k ∷ name_of_obj plan parts.0.0 ∷ []) word ∙ ap (λ f. kind ∷ f ∷ []) named.1)
-      | inr none ↦ cc
+      | inr more ↦ elim (guarded (bytes_eq kind (codes "expire")) _ None e more.1) [
+        | inl is ↦
+            let parts = then_there (λ b. Some (Expire b)) (block_in look a) e is.1 in
+            let named = sound a (Block parts.0) (is_block_name (look a) parts.0 parts.1) in
+            let same : Expire parts.0 ≡ e = cc in
+            let word = same_text kind (codes "expire") is.0 in
+            subst (λ f. Spells plan f (kind ∷ a ∷ [])) same
+            (record { fits = run_fits plan (Block parts.0) valid named.0; named = named.0 }, ap (λ k. k ∷ name_of_blk plan parts.0.0 ∷ []) word ∙ ap (λ f. kind ∷ f ∷ []) named.1)
+        | inr none ↦ cc
+      ]
     ]
   ]
 

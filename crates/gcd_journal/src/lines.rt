@@ -97,6 +97,15 @@ fn push_feed_end(line: &mut Vec<u8>, name: &str) -> Result<(), AllocError>
     line.extend_from_slice(b"\n")
 }
 
+// Adds the line of a wait that has expired.
+fn push_expire(line: &mut Vec<u8>, name: &str) -> Result<(), AllocError>
+    ensures { OnOk result (line.new.items ≡ line.old.items ++ (codes "expire " ++ (name.now ++ line_end))) }
+{
+    line.extend_from_slice(b"expire ")?;
+    line.extend_from_slice(name.as_bytes())?;
+    line.extend_from_slice(b"\n")
+}
+
 // Adds a line of one word and a number.
 fn push_number_line(line: &mut Vec<u8>, kind: &[u8], number: u64) -> Result<(), AllocError>
     ensures { OnOk result (line.new.items ≡ line.old.items ++ (kind.now ++ (decimal number ++ line_end))) }
@@ -136,6 +145,7 @@ pub fn push_event(line: &mut Vec<u8>, plan: &Plan, e: Event) -> Result<(), Alloc
             code,
         } => push_misuse(line, worker, name_of(plan, run), index, code),
         Event::Halt => line.extend_from_slice(b"halt\n"),
+        Event::Expire { blk } => push_expire(line, plan.name_of_blk(blk)),
     }
 }
 

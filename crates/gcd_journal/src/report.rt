@@ -333,6 +333,7 @@ fn push_misuse_line(text: &mut Vec<u8>, plan: &Plan, e: Event) -> Result<(), All
         Event::Ready { .. } => Ok(()),
         Event::FeedEnd { .. } => Ok(()),
         Event::Halt => Ok(()),
+        Event::Expire { .. } => Ok(()),
     }
 }
 

@@ -2,7 +2,7 @@
 ghost use Rattle.std.specs.Prelude.{◌≡◌, ◌≤◌, ◌∷◌, IfSome, Some, option_and_then};
 ghost use Rattle.gcd_journal.specs.Named.{look_of};
 ghost use Rattle.gcd_text.specs.Fields.{fields_of};
-ghost use Rattle.gcd_journal.specs.Spelling.{number_in, worker_in, index_in, time_in, bytes_in, code_in, source_in, of_both, turn_in, block_event, source_event, turn_event, place_in, misuse_in, by_one, by_two, by_three, by_four, by_five, event_in};
+ghost use Rattle.gcd_journal.specs.Spelling.{number_in, worker_in, index_in, time_in, bytes_in, code_in, block_in, source_in, of_both, turn_in, block_event, source_event, turn_event, place_in, misuse_in, by_one, by_two, by_three, by_four, by_five, event_in};
 
 use crate::names::Names;
 use gcd_event::Event;
@@ -52,6 +52,15 @@ fn code_in(field: &[u8]) -> Option<u8>
     Some(code as u8)
 }
 
+fn block_in(names: &Names, field: &[u8]) -> Option<Blk>
+    ensures { result ≡ block_in (look_of names.now.runs) field.now }
+{
+    match names.run(field)? {
+        Run::Block(b) => Some(b),
+        Run::Source(_) => None,
+    }
+}
+
 fn source_in(names: &Names, field: &[u8]) -> Option<Obj>
     ensures { result ≡ source_in (look_of names.now.runs) field.now }
 {
@@ -93,6 +102,13 @@ fn feed_end_in(names: &Names, a: &[u8]) -> Option<Event>
     Some(Event::FeedEnd { src })
 }
 
+fn expire_in(names: &Names, a: &[u8]) -> Option<Event>
+    ensures { result ≡ option_and_then (λ b. Some (Event.Expire b)) (block_in (look_of names.now.runs) a.now) }
+{
+    let blk = block_in(names, a)?;
+    Some(Event::Expire { blk })
+}
+
 fn by_two(names: &Names, kind: &[u8], a: &[u8]) -> Option<Event>
     ensures { result ≡ by_two (look_of names.now.runs) kind.now a.now }
 {
@@ -100,6 +116,8 @@ fn by_two(names: &Names, kind: &[u8], a: &[u8]) -> Option<Event>
         tick_in(a)
     } else if kind == b"feed_end".as_slice() {
         feed_end_in(names, a)
+    } else if kind == b"expire".as_slice() {
+        expire_in(names, a)
     } else {
         None
     }

@@ -3,12 +3,12 @@ use Rattle.std.proofs.Common.{ℕ, ◌≡◌, ◌≤◌, ◌==◌, Bool, true, f
 use Rattle.std.specs.List.{list_all}
 use Rattle.std.specs.Option.{option_map_or}
 use Rattle.std.proofs.lemmas.Bool.{and_parts, and_from, ltb-true, lt-ltb}
-use Rattle.gcd_plan.specs.Limits.{max_value, max_file_bytes}
+use Rattle.gcd_plan.specs.Limits.{max_value, max_time, max_file_bytes}
 use Rattle.gcd_plan.specs.PlanView.{PlanView, ObjView, BlkView, kind_of}
 use Rattle.gcd_plan.specs.Kinds.{has_kind, is_queue, is_queue_kind, is_group_kind, is_semaphore_kind, is_merge_kind, is_source_kind, is_node_kind}
 use Rattle.gcd_plan.specs.Validity.{is_submittable, is_held_object, is_act, is_handler_act, is_object, is_work, is_block, has_fields, is_kind, has_path}
 use Rattle.gcd_plan.specs.declared.act.Act.{Act}
-use Rattle.gcd_plan.specs.declared.act.Act.TheVariants.{Async, Barrier, Sync, BarrierSync, GroupAsync, Notify, Enter, Leave, GroupWait, Signal, Wait, Suspend, Resume, Activate, Target, Merge, Cancel, Retain, Release}
+use Rattle.gcd_plan.specs.declared.act.Act.TheVariants.{Async, Barrier, Sync, BarrierSync, GroupAsync, Notify, Enter, Leave, GroupWait, GroupWaitFor, Signal, Wait, WaitFor, Suspend, Resume, Activate, Target, Merge, Cancel, Retain, Release}
 use Rattle.gcd_plan.specs.declared.kind.Kind.{Kind}
 use Rattle.gcd_plan.specs.declared.kind.Kind.TheVariants.{Serial, Concurrent, Group, Semaphore, Read}
 use Rattle.gcd_plan.specs.declared.numbers.Blk.{Blk}
@@ -70,8 +70,10 @@ module _ (old new : PlanView) (grows : Grows old new) where
   act_grows (Enter g) h = has_kind_grows is_group_kind g.0 h
   act_grows (Leave g) h = has_kind_grows is_group_kind g.0 h
   act_grows (GroupWait g) h = has_kind_grows is_group_kind g.0 h
+  act_grows (GroupWaitFor g ms) h = and_map (has_kind is_group_kind old g.0) (leb ms max_time) (has_kind is_group_kind new g.0) (leb ms max_time) (has_kind_grows is_group_kind g.0) (λ k. k) h
   act_grows (Signal s) h = has_kind_grows is_semaphore_kind s.0 h
   act_grows (Wait s) h = has_kind_grows is_semaphore_kind s.0 h
+  act_grows (WaitFor s ms) h = and_map (has_kind is_semaphore_kind old s.0) (leb ms max_time) (has_kind is_semaphore_kind new s.0) (leb ms max_time) (has_kind_grows is_semaphore_kind s.0) (λ k. k) h
   act_grows (Suspend o) h = held_grows o h
   act_grows (Resume o) h = held_grows o h
   act_grows (Activate o) h = held_grows o h

@@ -4,7 +4,7 @@ use Rattle.std.specs.Option.{option_map_or}
 use Rattle.gcd_plan.specs.PlanView.{PlanView}
 use Rattle.gcd_plan.specs.declared.numbers.Run.{Run}
 use Rattle.gcd_script.specs.declared.keyword.Keyword.{Keyword}
-use Rattle.gcd_script.specs.declared.keyword.Keyword.TheVariants.{File, Queue, Group, Semaphore, Source, Cancelled, Until, Block, Handler, Main, Submit, GroupSubmit, OneObject, Target, Merge}
+use Rattle.gcd_script.specs.declared.keyword.Keyword.TheVariants.{File, Queue, Group, Semaphore, Source, Cancelled, Until, Block, Handler, Main, Submit, GroupSubmit, OneObject, Limited, Target, Merge}
 use Rattle.gcd_script.specs.declared.keyword.GroupSubmission.{GroupSubmission}
 use Rattle.gcd_script.specs.declared.refusal.Refusal.TheVariants.{NoForm}
 use Rattle.gcd_script.specs.Acts.{act_line, group_submit_act}
@@ -81,6 +81,7 @@ seven d Main a b c e f g h more = refl
 seven d (Submit how) a b c e f g h more = no_act d.body
 seven d (GroupSubmit how) a b c e f g h more = no_act d.body
 seven d (OneObject what) a b c e f g h more = no_act d.body
+seven d (Limited what) a b c e f g h more = no_act d.body
 seven d Target a b c e f g h more = no_act d.body
 seven d Merge a b c e f g h more = no_act d.body
 

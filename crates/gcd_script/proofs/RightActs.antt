@@ -2,8 +2,8 @@
 use Rattle.std.proofs.Common.{ℕ, ◌≡◌, true, ◌&&◌, ltb, leb, List, [], ◌∷◌, length, Option, Some, None, Ok, Err, ap, subst}
 use Rattle.std.specs.Option.{option_map_or}
 use Rattle.std.proofs.lemmas.Bool.{and_parts, and_from, lt-ltb}
-use Rattle.gcd_plan.specs.Kinds.{has_kind, is_queue, is_queue_kind, is_node_kind, is_group_kind, is_merge_kind}
-use Rattle.gcd_plan.specs.Limits.{max_value}
+use Rattle.gcd_plan.specs.Kinds.{has_kind, is_queue, is_queue_kind, is_node_kind, is_group_kind, is_semaphore_kind, is_merge_kind}
+use Rattle.gcd_plan.specs.Limits.{max_value, max_time}
 use Rattle.gcd_plan.specs.PlanView.{PlanView}
 use Rattle.gcd_plan.specs.Validity.{IsPlan, is_act, is_submittable}
 use Rattle.gcd_plan.specs.declared.act.Act.{Act}
@@ -15,12 +15,14 @@ use Rattle.gcd_script.specs.declared.keyword.Submission.{Submission}
 use Rattle.gcd_script.specs.declared.keyword.Submission.TheVariants.{Async, Barrier, Sync, BarrierSync}
 use Rattle.gcd_script.specs.declared.keyword.GroupSubmission.{GroupSubmission}
 use Rattle.gcd_script.specs.declared.keyword.GroupSubmission.TheVariants.{GroupAsync, Notify}
+use Rattle.gcd_script.specs.declared.keyword.LimitedWait.{LimitedWait}
+use Rattle.gcd_script.specs.declared.keyword.LimitedWait.TheVariants.{WaitFor, GroupWaitFor}
 use Rattle.gcd_script.specs.declared.keyword.ObjectAct.{ObjectAct}
 use Rattle.gcd_script.specs.declared.keyword.ObjectAct.TheVariants.{Enter, Leave, GroupWait, Signal, Wait, Suspend, Resume, Activate, Cancel, Retain, Release}
 use Rattle.gcd_script.specs.declared.line.Line.{Line}
 use Rattle.gcd_script.specs.declared.line.Line.TheVariants.{AddAct}
 use Rattle.gcd_script.specs.declared.refusal.Refusal.TheVariants.{NoForm}
-use Rattle.gcd_script.specs.Acts.{act_line, submitting, submit_act, group_submitting, group_submit_act, asked_of, acting, object_act, target_act, merge_act}
+use Rattle.gcd_script.specs.Acts.{act_line, submitting, submit_act, group_submitting, group_submit_act, asked_of, acting, object_act, waited_of, waiting, limited_act, target_act, merge_act}
 use Rattle.gcd_script.specs.Asked.{asks}
 use Rattle.gcd_script.specs.Drafts.{DraftView}
 use Rattle.gcd_script.specs.Meant.{Meant, both}
@@ -63,6 +65,10 @@ acting_fits plan Cancel o above is = is
 acting_fits plan Retain o above is = referred_fits plan o above is
 acting_fits plan Release o above is = referred_fits plan o above is
 
+waiting_fits : (plan : PlanView) (what : LimitedWait) (o : Obj) (ms : ℕ) → has_kind (asks (waited_of what)) plan o.0 ≡ true → leb ms max_time ≡ true → is_act plan (waiting what o ms) ≡ true
+waiting_fits plan WaitFor o ms is low = and_from (has_kind is_semaphore_kind plan o.0) (leb ms max_time) is low
+waiting_fits plan GroupWaitFor o ms is low = and_from (has_kind is_group_kind plan o.0) (leb ms max_time) is low
+
 module _ (plan : PlanView) (valid : IsPlan plan) where
   pub submit_fits : (how : Submission) (words : List (List ℕ)) (a : Act) → submit_act plan how words ≡ Ok a → is_act plan a ≡ true
   submit_fits how (q ∷ b ∷ []) a h =
@@ -88,6 +94,15 @@ module _ (plan : PlanView) (valid : IsPlan plan) where
       let is = object_above plan (asks (asked_of what)) o m.0 m.1 in
       subst (λ x. is_act plan x ≡ true) m.2 (acting_fits plan what m.0 is.0 is.1)
   object_act_fits what _ a h = cc
+
+  pub limited_fits : (what : LimitedWait) (words : List (List ℕ)) (a : Act) → limited_act plan what words ≡ Ok a → is_act plan a ≡ true
+  limited_fits what (o ∷ n ∷ []) a h =
+      let m = made_of (λ (waited, ms). waiting what waited ms) (both (object plan (asks (waited_of what)) o) (number 0 max_time n)) a h in
+      let p = both_are (object plan (asks (waited_of what)) o) (number 0 max_time n) m.0.0 m.0.1 m.1 in
+      let low = and_parts (leb 0 m.0.1) (leb m.0.1 max_time) (in_range 0 max_time n m.0.1 p.1) in
+      subst (λ x. is_act plan x ≡ true) m.2
+      (waiting_fits plan what m.0.0 m.0.1 (object_asked plan (asks (waited_of what)) o m.0.0 p.0) low.1)
+  limited_fits what _ a h = cc
 
   pub target_fits : (words : List (List ℕ)) (a : Act) → target_act plan words ≡ Ok a → is_act plan a ≡ true
   target_fits (o ∷ t ∷ []) a h =

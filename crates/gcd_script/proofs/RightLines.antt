@@ -15,11 +15,11 @@ use Rattle.gcd_plan.specs.declared.numbers.Run.{Run}
 use Rattle.gcd_plan.specs.declared.numbers.Run.TheVariants as run
 use Rattle.gcd_plan.proofs.Places.{slice_get_some}
 use Rattle.gcd_script.specs.declared.keyword.Keyword.{Keyword}
-use Rattle.gcd_script.specs.declared.keyword.Keyword.TheVariants.{File, Queue, Group, Semaphore, Source, Cancelled, Until, Block, Handler, Main, Submit, GroupSubmit, OneObject, Target, Merge}
+use Rattle.gcd_script.specs.declared.keyword.Keyword.TheVariants.{File, Queue, Group, Semaphore, Source, Cancelled, Until, Block, Handler, Main, Submit, GroupSubmit, OneObject, Limited, Target, Merge}
 use Rattle.gcd_script.specs.declared.line.Line.{Line}
 use Rattle.gcd_script.specs.declared.line.Line.TheVariants.{DeclareFile, DeclareObject, DeclareBlock, SetUntil, SetCancel, OpenHandler, OpenMain, AddAct}
 use Rattle.gcd_script.specs.declared.refusal.Refusal.TheVariants.{NoForm, Repeated, InHandler, PastLimit}
-use Rattle.gcd_script.specs.Acts.{submit_act, group_submit_act, object_act, target_act, merge_act}
+use Rattle.gcd_script.specs.Acts.{submit_act, group_submit_act, object_act, limited_act, target_act, merge_act}
 use Rattle.gcd_script.specs.Changes.{change, new_object}
 use Rattle.gcd_script.specs.Drafts.{DraftView, empty_draft, new_block}
 use Rattle.gcd_script.specs.Forms.{line_by, form_of}
@@ -32,7 +32,7 @@ use Rattle.gcd_script.proofs.Inserts.{fit_from}
 use Rattle.gcd_script.proofs.Inversions.{follows}
 use Rattle.gcd_script.proofs.ObjectChanges.{source_stands}
 use Rattle.gcd_script.proofs.Places.{same_bytes}
-use Rattle.gcd_script.proofs.RightActs.{act_fits, submit_fits, group_submit_fits, object_act_fits, target_fits, merge_fits}
+use Rattle.gcd_script.proofs.RightActs.{act_fits, submit_fits, group_submit_fits, object_act_fits, limited_fits, target_fits, merge_fits}
 use Rattle.gcd_script.proofs.RightWords.{file_fits, queue_fits, group_fits, semaphore_fits, source_fits, cancelled_fits, until_fits, block_fits, handler_fits, main_fits}
 use Rattle.gcd_script.proofs.SourceChanges as source_changes
 use Rattle.gcd_script.proofs.Valid.{file_valid, object_valid, block_valid, until_valid}
@@ -53,6 +53,7 @@ module _ (d : DraftView) (sound : IsDraft d) where
   keyword_fits words (GroupSubmit how) line h =
       act_fits d (group_submit_act d.plan how words) line (group_submit_fits d.plan sound.valid how words) h
   keyword_fits words (OneObject what) line h = act_fits d (object_act d.plan what words) line (object_act_fits d.plan sound.valid what words) h
+  keyword_fits words (Limited what) line h = act_fits d (limited_act d.plan what words) line (limited_fits d.plan sound.valid what words) h
   keyword_fits words Target line h = act_fits d (target_act d.plan words) line (target_fits d.plan sound.valid words) h
   keyword_fits words Merge line h = act_fits d (merge_act d.plan words) line (merge_fits d.plan sound.valid words) h
 

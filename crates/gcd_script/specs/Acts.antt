@@ -2,7 +2,7 @@
 -- open; where none is open the line is of no form.
 use Rattle.std.specs.Prelude.{ℕ, List, [], ◌∷◌, Option, Ok, Err}
 use Rattle.std.specs.Option.{option_map_or}
-use Rattle.gcd_plan.specs.Limits.{max_value}
+use Rattle.gcd_plan.specs.Limits.{max_value, max_time}
 use Rattle.gcd_plan.specs.PlanView.{PlanView}
 use Rattle.gcd_plan.specs.declared.act.Act.{Act}
 use Rattle.gcd_plan.specs.declared.act.Act.TheVariants as act
@@ -13,6 +13,8 @@ use Rattle.gcd_script.specs.declared.keyword.Submission.{Submission}
 use Rattle.gcd_script.specs.declared.keyword.Submission.TheVariants.{Async, Barrier, Sync, BarrierSync}
 use Rattle.gcd_script.specs.declared.keyword.GroupSubmission.{GroupSubmission}
 use Rattle.gcd_script.specs.declared.keyword.GroupSubmission.TheVariants.{GroupAsync, Notify}
+use Rattle.gcd_script.specs.declared.keyword.LimitedWait.{LimitedWait}
+use Rattle.gcd_script.specs.declared.keyword.LimitedWait.TheVariants.{WaitFor, GroupWaitFor}
 use Rattle.gcd_script.specs.declared.keyword.ObjectAct.{ObjectAct}
 use Rattle.gcd_script.specs.declared.keyword.ObjectAct.TheVariants.{Enter, Leave, GroupWait, Signal, Wait, Suspend, Resume, Activate, Cancel, Retain, Release}
 use Rattle.gcd_script.specs.declared.line.Line.{Line}
@@ -84,6 +86,22 @@ acting Release o = act.Release o
 abbrev pub object_act : PlanView → ObjectAct → List (List ℕ) → Meant Act
 object_act plan what (o ∷ []) = meant (acting what) (object_but_root plan (asks (asked_of what)) o)
 object_act plan what _ = Err NoForm
+
+-- what the wait asks of its object's kind
+abbrev pub waited_of : LimitedWait → Asked
+waited_of WaitFor = Semaphore
+waited_of GroupWaitFor = Group
+
+-- the act that waits for so many milliseconds
+abbrev pub waiting : LimitedWait → Obj → (ms : ℕ) → Act
+waiting WaitFor o ms = act.WaitFor o ms
+waiting GroupWaitFor o ms = act.GroupWaitFor o ms
+
+-- `wait_for S MS`, `group_wait_for G MS`
+abbrev pub limited_act : PlanView → LimitedWait → List (List ℕ) → Meant Act
+limited_act plan what (o ∷ ms ∷ []) =
+    meant (λ (waited, n). waiting what waited n) (both (object plan (asks (waited_of what)) o) (number 0 max_time ms))
+limited_act plan what _ = Err NoForm
 
 -- `target O T`
 abbrev pub target_act : PlanView → List (List ℕ) → Meant Act

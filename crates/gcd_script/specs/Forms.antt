@@ -2,10 +2,10 @@
 use Rattle.std.specs.Prelude.{ℕ, List, [], ◌∷◌, Err}
 use Rattle.std.specs.Option.{option_map_or}
 use Rattle.gcd_script.specs.declared.keyword.Keyword.{Keyword}
-use Rattle.gcd_script.specs.declared.keyword.Keyword.TheVariants.{File, Queue, Group, Semaphore, Source, Cancelled, Until, Block, Handler, Main, Submit, GroupSubmit, OneObject, Target, Merge}
+use Rattle.gcd_script.specs.declared.keyword.Keyword.TheVariants.{File, Queue, Group, Semaphore, Source, Cancelled, Until, Block, Handler, Main, Submit, GroupSubmit, OneObject, Limited, Target, Merge}
 use Rattle.gcd_script.specs.declared.line.Line.{Line}
 use Rattle.gcd_script.specs.declared.refusal.Refusal.TheVariants.{NoForm}
-use Rattle.gcd_script.specs.Acts.{act_line, submit_act, group_submit_act, object_act, target_act, merge_act}
+use Rattle.gcd_script.specs.Acts.{act_line, submit_act, group_submit_act, object_act, limited_act, target_act, merge_act}
 use Rattle.gcd_script.specs.Declarations.{file_line, queue_line, group_line, semaphore_line, source_line, cancelled_line, until_line, block_line, handler_line, main_line}
 use Rattle.gcd_script.specs.Drafts.{DraftView}
 use Rattle.gcd_script.specs.Keywords.{keyword_of}
@@ -26,6 +26,7 @@ line_by d words Main = main_line d.has_main words
 line_by d words (Submit how) = act_line d.body (submit_act d.plan how words)
 line_by d words (GroupSubmit how) = act_line d.body (group_submit_act d.plan how words)
 line_by d words (OneObject what) = act_line d.body (object_act d.plan what words)
+line_by d words (Limited what) = act_line d.body (limited_act d.plan what words)
 line_by d words Target = act_line d.body (target_act d.plan words)
 line_by d words Merge = act_line d.body (merge_act d.plan words)
 

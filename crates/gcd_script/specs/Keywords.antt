@@ -7,9 +7,10 @@ use Rattle.gcd_plan.specs.declared.kind.Kind.TheVariants.{Serial, Concurrent, Ad
 use Rattle.gcd_plan.specs.declared.work.How.{How}
 use Rattle.gcd_plan.specs.declared.work.How.TheVariants.{Bytes, Lines, Words, Sum}
 use Rattle.gcd_script.specs.declared.keyword.Keyword.{Keyword}
-use Rattle.gcd_script.specs.declared.keyword.Keyword.TheVariants.{File, Queue, Group, Semaphore, Source, Cancelled, Until, Block, Handler, Main, Submit, GroupSubmit, OneObject, Target, Merge}
+use Rattle.gcd_script.specs.declared.keyword.Keyword.TheVariants.{File, Queue, Group, Semaphore, Source, Cancelled, Until, Block, Handler, Main, Submit, GroupSubmit, OneObject, Limited, Target, Merge}
 use Rattle.gcd_script.specs.declared.keyword.Submission.TheVariants.{Async, Barrier, Sync, BarrierSync}
 use Rattle.gcd_script.specs.declared.keyword.GroupSubmission.TheVariants.{GroupAsync, Notify}
+use Rattle.gcd_script.specs.declared.keyword.LimitedWait.TheVariants.{WaitFor, GroupWaitFor}
 use Rattle.gcd_script.specs.declared.keyword.ObjectAct.{ObjectAct}
 use Rattle.gcd_script.specs.declared.keyword.ObjectAct.TheVariants.{Enter, Leave, GroupWait, Signal, Wait, Suspend, Resume, Activate, Cancel, Retain, Release}
 
@@ -42,6 +43,8 @@ acts =
     ∷ (codes "barrier_sync", Submit BarrierSync)
     ∷ (codes "group_async", GroupSubmit GroupAsync)
     ∷ (codes "notify", GroupSubmit Notify)
+    ∷ (codes "wait_for", Limited WaitFor)
+    ∷ (codes "group_wait_for", Limited GroupWaitFor)
     ∷ (codes "target", Target)
     ∷ (codes "merge", Merge)
     ∷ []

@@ -1,16 +1,16 @@
 // What the lines of acts mean, by the words after the first.
 ghost use Rattle.std.specs.Prelude.{◌≡◌, [], ◌∷◌, map};
 ghost use Rattle.gcd_plan.specs.PlanView.{view_of};
-ghost use Rattle.gcd_script.specs.Acts.{submitting, group_submitting, asked_of, acting};
+ghost use Rattle.gcd_script.specs.Acts.{submitting, group_submitting, asked_of, acting, waited_of, waiting};
 
 use crate::draft::Draft;
-use crate::keyword::{GroupSubmission, ObjectAct, Submission};
+use crate::keyword::{GroupSubmission, LimitedWait, ObjectAct, Submission};
 use crate::line::Line;
 use crate::meant::{Meant, both};
 use crate::names::Asked;
 use crate::refusal::Refusal;
 use crate::words::number;
-use gcd_plan::{Act, Blk, MAX_VALUE, Obj};
+use gcd_plan::{Act, Blk, MAX_TIME, MAX_VALUE, Obj};
 
 impl Submission {
     // The act that submits a block to a queue.
@@ -78,8 +78,30 @@ impl ObjectAct {
     }
 }
 
+impl LimitedWait {
+    // What the wait asks of its object's kind.
+    fn asked(self) -> Asked
+        ensures { result ≡ waited_of self }
+    {
+        match self {
+            LimitedWait::WaitFor => Asked::Semaphore,
+            LimitedWait::GroupWaitFor => Asked::Group,
+        }
+    }
+
+    // The act that waits for so many milliseconds.
+    fn act(self, o: Obj, ms: u32) -> Act
+        ensures { result ≡ waiting self o ms }
+    {
+        match self {
+            LimitedWait::WaitFor => Act::WaitFor(o, ms),
+            LimitedWait::GroupWaitFor => Act::GroupWaitFor(o, ms),
+        }
+    }
+}
+
 impl<'a> Draft<'a> {
-    ghost use Rattle.gcd_script.specs.Acts.{act_line, submit_act, group_submit_act, object_act, target_act, merge_act};
+    ghost use Rattle.gcd_script.specs.Acts.{act_line, submit_act, group_submit_act, object_act, limited_act, target_act, merge_act};
     ghost use Rattle.gcd_script.specs.Agreement.{DraftAgrees};
     ghost use Rattle.gcd_script.specs.Meant.{meant};
     ghost use Rattle.gcd_script.specs.Views.{line_view};
@@ -149,6 +171,26 @@ impl<'a> Draft<'a> {
     {
         let object = self.object_but_root(what.asked(), object)?;
         Ok(what.act(object))
+    }
+
+    /// `wait_for S MS` (dispatch_semaphore_wait(3)), `group_wait_for G MS` (dispatch_group_wait(3)).
+    pub fn limited_act(&self, what: LimitedWait, words: &[&str]) -> Meant<Act>
+        requires { DraftAgrees self.now }
+        ensures { result ≡ limited_act (view_of self.now.parts) what (map (λ w. w.now) words.now) }
+    {
+        match *words {
+            [object, limit] => self.waited(what, object, limit),
+            _ => Err(Refusal::NoForm),
+        }
+    }
+
+    fn waited(&self, what: LimitedWait, object: &str, limit: &str) -> Meant<Act>
+        requires { DraftAgrees self.now }
+        ensures { result ≡ limited_act (view_of self.now.parts) what (object.now ∷ limit.now ∷ []) }
+    {
+        let object = self.object(what.asked(), object);
+        let (object, limit) = both(object, number(0, MAX_TIME, limit))?;
+        Ok(what.act(object, limit))
     }
 
     /// `target O T` (dispatch_set_target_queue(3)).

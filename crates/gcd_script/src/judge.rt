@@ -67,6 +67,7 @@ impl<'a> Draft<'a> {
             Keyword::Submit(how) => self.act_line(self.submit_act(how, words)),
             Keyword::GroupSubmit(how) => self.act_line(self.group_submit_act(how, words)),
             Keyword::OneObject(what) => self.act_line(self.object_act(what, words)),
+            Keyword::Limited(what) => self.act_line(self.limited_act(what, words)),
             Keyword::Target => self.act_line(self.target_act(words)),
             Keyword::Merge => self.act_line(self.merge_act(words)),
         }

@@ -17,7 +17,7 @@ pub enum Keyword {
     Source,
     /// `cancelled`: the cancellation block of a source (dispatch_source_set_cancel_handler(3)).
     Cancelled,
-    /// `until`: the last due time of timers.
+    /// `until`: the last due time of timers and limit of waits.
     Until,
     /// `block`: a block, whose acts follow.
     Block,
@@ -31,6 +31,8 @@ pub enum Keyword {
     GroupSubmit(GroupSubmission),
     /// An act on one object.
     OneObject(ObjectAct),
+    /// A wait for so many milliseconds.
+    Limited(LimitedWait),
     /// `target` (dispatch_set_target_queue(3)).
     Target,
     /// `merge` (dispatch_source_merge_data(3)).
@@ -57,6 +59,15 @@ pub enum GroupSubmission {
     GroupAsync,
     /// `notify` (dispatch_group_notify(3)).
     Notify,
+}
+
+/// What a wait with a limit waits for.
+#[derive(Clone, Copy)]
+pub enum LimitedWait {
+    /// `wait_for` (dispatch_semaphore_wait(3)).
+    WaitFor,
+    /// `group_wait_for` (dispatch_group_wait(3)).
+    GroupWaitFor,
 }
 
 /// What an act does with one object.
@@ -173,6 +184,10 @@ fn act(word: &str) -> Option<Keyword>
         Some(Keyword::GroupSubmit(GroupSubmission::GroupAsync))
     } else if word == "notify" {
         Some(Keyword::GroupSubmit(GroupSubmission::Notify))
+    } else if word == "wait_for" {
+        Some(Keyword::Limited(LimitedWait::WaitFor))
+    } else if word == "group_wait_for" {
+        Some(Keyword::Limited(LimitedWait::GroupWaitFor))
     } else if word == "target" {
         Some(Keyword::Target)
     } else if word == "merge" {

@@ -28,7 +28,7 @@
 //! | `semaphore S N` | N from 0 to `MAX_VALUE` (dispatch_semaphore_create(3)) |
 //! | `source S add on T`, `source S or on T`, `source S timer START EVERY on T`, `source S read PATH on T` | T a queue, the times 1 to `MAX_TIME` (dispatch_source_create(3)) |
 //! | `cancelled S B` | B is the cancellation block of the source S, and so is submitted (dispatch_source_set_cancel_handler(3)) |
-//! | `until MS` | the last due time of timers, 1 to `MAX_TIME`; 1000 when absent |
+//! | `until MS` | the last due time of timers and limit of waits, 1 to `MAX_TIME`; 1000 when absent |
 //! | `block B`, `block B W F`, `block B W F FROM LEN`, `block B count V F`, `block B count V F FROM LEN` | W is `bytes`, `lines`, `words` or `sum`, F a file, V 0 to 255, FROM and LEN at most `MAX_FILE_BYTES` |
 //! | `handler S` | the acts of the source S (dispatch_source_set_event_handler(3)) |
 //! | `main` | the acts of `main` |
@@ -39,8 +39,10 @@
 //! | `group_async G Q B`, `notify G Q B` | a group, a queue, a block | no |
 //! | `enter G`, `leave G` | a group | yes |
 //! | `group_wait G` | a group | no |
+//! | `group_wait_for G MS` | a group, MS 0 to `MAX_TIME` | no |
 //! | `signal S` | a semaphore | yes |
 //! | `wait S` | a semaphore | no |
+//! | `wait_for S MS` | a semaphore, MS 0 to `MAX_TIME` | no |
 //! | `suspend O`, `resume O`, `activate O` | a queue other than `root`, or a source | yes |
 //! | `target O T` | O as above, T a queue | yes |
 //! | `merge S N` | an add, or or replace source, N 0 to `MAX_VALUE` | yes |

@@ -24,7 +24,7 @@ pub enum Line<N> {
         name: N,
         work: Option<Work>,
     },
-    /// `until MS`: the last due time of timers, in milliseconds.
+    /// `until MS`: the last due time of timers and limit of waits, in milliseconds.
     SetUntil(u32),
     /// `cancelled S B`: the source's cancellation block (dispatch_source_set_cancel_handler(3)).
     SetCancel {

@@ -26,7 +26,7 @@ fn answer_of(rt: &impl Abort, alloc: Global, text: &str) -> Answer {
 }
 
 // One script with each form, scripts with spaces and comments, and scripts that are refused.
-const ROWS: [(&str, Answer); 60] = [
+const ROWS: [(&str, Answer); 66] = [
     (
         "# each form\n\nfile f p/a.txt\nqueue q serial\nqueue c concurrent inactive\nqueue r serial on c\n\
          queue d concurrent on r inactive\ngroup g\nsemaphore s 0\nsource a add on q\nsource o or on root\n\
@@ -34,7 +34,8 @@ const ROWS: [(&str, Answer); 60] = [
          block b2 lines f 0 16777216\nblock b3 words f\nblock b4 sum f 5 7\nblock b5 count 255 f\n\
          block b6 count 0 f 1 2\nblock b7\ncancelled t b7\nhandler a\nsignal s\nenter g\nleave g\nsuspend q\n\
          resume q\nactivate c\ntarget d root\nmerge o 2147483647\ncancel t\nretain g\nrelease g\nmain\nasync root b0\n\
-         barrier c b1\nsync q b2\nbarrier_sync c b3\ngroup_async g q b4\nnotify g q b5\ngroup_wait g\nwait s",
+         barrier c b1\nsync q b2\nbarrier_sync c b3\ngroup_async g q b4\nnotify g q b5\ngroup_wait g\nwait s\n\
+         wait_for s 86400000\ngroup_wait_for g 0",
         Answer::Plan(11, 9, 1),
     ),
     ("main", Answer::Plan(1, 1, 0)),
@@ -137,6 +138,24 @@ const ROWS: [(&str, Answer); 60] = [
     (
         "source s add on root\ngroup g\nhandler s\ngroup_wait g",
         Answer::Refused(4, 7),
+    ),
+    (
+        "semaphore m 0\nsource s add on root\nhandler s\nwait_for m 1\nmain",
+        Answer::Refused(4, 7),
+    ),
+    (
+        "group g\nsource s or on root\nhandler s\ngroup_wait_for g 1",
+        Answer::Refused(4, 7),
+    ),
+    (
+        "semaphore s 0\nmain\nwait_for s 86400001",
+        Answer::Refused(3, 5),
+    ),
+    ("semaphore s 0\nmain\nwait_for s", Answer::Refused(3, 1)),
+    ("group g\nmain\nwait_for g 1", Answer::Refused(3, 4)),
+    (
+        "semaphore s 0\nmain\ngroup_wait_for s 1",
+        Answer::Refused(3, 4),
     ),
 ];
 

@@ -219,9 +219,66 @@ static HOLDS: [Row; 7] = [
     ("start 0 main\nact 0 main 0\nevents 2\n", "lawful"),
 ];
 
+// A block and `main` that wait for so long, and the block once more without a limit.
+const LIMITED: &str =
+    "semaphore s 0\nuntil 9\nblock b\nwait_for s 5\nwait s\nmain\nasync root b\nwait_for s 30\n";
+
+static LIMITS: [Row; 9] = [
+    (
+        "expire s\nevents 1\n",
+        "j:1: 's' stands where a block of the plan is asked (word 2)",
+    ),
+    (
+        "expire b\nevents 1\n",
+        "j:1: event 0, expire b, may not come here: b is not parked (NotParked)",
+    ),
+    (
+        "start 0 main\nact 0 main 0\nact 0 main 1\nexpire main\nevents 4\n",
+        "j:4: event 3, expire main, may not come here: the limit of the wait of main is 9, and journal time is 0 (NotDue)",
+    ),
+    (
+        "start 0 main\nact 0 main 0\nact 0 main 1\ntick 5\nevents 4\n",
+        "j:4: event 3, tick 5, may not come here: the next due time is 9 (NotDue)",
+    ),
+    (
+        "start 0 main\nact 0 main 0\nact 0 main 1\nwake 0 main\nevents 4\n",
+        "j:4: event 3, wake 0 main, may not come here: main waits for semaphore s, as wait 1 (first value 0, signals 0), until 9 (Waiting)",
+    ),
+    (
+        "start 0 main\nact 0 main 0\nact 0 main 1\nstart 0 b\nact 0 b 0\ntick 5\nexpire b\nexpire b\nevents 8\n",
+        "j:8: event 7, expire b, may not come here: the wait of b has expired already (Came)",
+    ),
+    (
+        "start 0 main\nact 0 main 0\nact 0 main 1\nstart 0 b\nact 0 b 0\ntick 5\nexpire b\nwake 0 b\nact 0 b 1\nexpire b\nevents 10\n",
+        "j:10: event 9, expire b, may not come here: the wait of b has no limit (NotDue)",
+    ),
+    (
+        "start 0 main\nact 0 main 0\nact 0 main 1\nstart 0 b\nact 0 b 0\ntick 5\nexpire b\nwake 0 b\nact 0 b 1\nwake 0 b\nevents 10\n",
+        "j:10: event 9, wake 0 b, may not come here: b waits for semaphore s, as wait 3 (first value 0, signals 0, expired waits 1) (Waiting)",
+    ),
+    (
+        "start 0 main\nact 0 main 0\nact 0 main 1\nstart 0 b\nact 0 b 0\ntick 9\nexpire b\nexpire main\nwake 1 main\nend 1 main\nevents 10\n",
+        "lawful",
+    ),
+];
+
+// A signal that comes before the limit's moment has been told.
+const SIGNALLED: &str = "semaphore s 0\nblock b\nsignal s\nmain\nasync root b\nwait_for s 5\n";
+
+static CAME: [Row; 1] = [(
+    "start 0 main\nact 0 main 0\nact 0 main 1\nstart 0 b\ntick 5\nact 0 b 0\nexpire main\nevents 7\n",
+    "j:7: event 6, expire main, may not come here: what main waits for has come: semaphore s, as wait 1 (first value 0, signals 1) (Came)",
+)];
+
 #[test]
 fn lines(rt: HostRuntime) -> Result<(), Fail> {
     are_said(&rt, rt.alloc(), WAITS, &LINES)
+}
+
+#[test]
+fn limits(rt: HostRuntime) -> Result<(), Fail> {
+    are_said(&rt, rt.alloc(), LIMITED, &LIMITS)?;
+    are_said(&rt, rt.alloc(), SIGNALLED, &CAME)
 }
 
 #[test]

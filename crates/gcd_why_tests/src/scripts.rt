@@ -30,7 +30,7 @@ fn are_said(rt: &impl Abort, alloc: Global, rows: &[Row]) -> Result<(), Fail> {
     Ok(())
 }
 
-static FORMS: [Row; 12] = [
+static FORMS: [Row; 14] = [
     (
         "main\n\tx\n",
         "s:2: column 1 holds the byte 9: a line, a comment too, holds bytes from 32 to 126 alone",
@@ -75,6 +75,14 @@ static FORMS: [Row; 12] = [
     (
         "main\ngroup g\nenter g\n",
         "s:3: 'enter' stands in no body: no line 'block', 'handler' or 'main' is open above",
+    ),
+    (
+        "semaphore s 0\nmain\nwait_for s\n",
+        "s:3: 'wait_for' has 1 word after it here, and may be: wait_for S MS",
+    ),
+    (
+        "group g\nmain\ngroup_wait_for g 86400001\n",
+        "s:3: 86400001 is out of its range, 0 to 86400000 (word 3)",
     ),
 ];
 

@@ -27,7 +27,7 @@ pub const B3: Blk = Blk(3);
 // One block on a serial queue; a block and a barrier on `root`, on a concurrent queue, and on two of them beneath a serial one;
 // a queue that is suspended far below; a queue whose target changes; misuses of a queue; a source; a group wait; a call into the
 // own queue, a wait on a group and one on a semaphore that do not pass.
-static PLANS: [Setting; 14] = [
+static PLANS: [Setting; 15] = [
     Setting {
         inactive: 0,
         worker: 1,
@@ -167,6 +167,19 @@ static PLANS: [Setting; 14] = [
         objects: &[("s", Kind::Semaphore(0), 0)],
         blocks: &[("main", &[Act::Wait(O1)])],
     },
+    Setting {
+        inactive: 0,
+        worker: 0,
+        objects: &[("s", Kind::Semaphore(0), 0), ("g", Kind::Group, 0)],
+        blocks: &[(
+            "main",
+            &[
+                Act::WaitFor(O1, 5),
+                Act::Enter(O2),
+                Act::GroupWaitFor(O2, 0),
+            ],
+        )],
+    },
 ];
 
 // A semaphore.
@@ -178,7 +191,7 @@ pub const SEMAPHORE: Setting = Setting {
 };
 
 // The plan's number, a journal, what is said of it, and whether it is a journal and nothing follows it.
-static ROWS: [(usize, &str, &str, bool); 44] = [
+static ROWS: [(usize, &str, &str, bool); 48] = [
     (
         0,
         "start 0 main; act 0 main 0; end 0 main; start 0 b1; end 0 b1; events 5; ",
@@ -388,10 +401,34 @@ static ROWS: [(usize, &str, &str, bool); 44] = [
         "event 5",
         true,
     ),
+    (
+        14,
+        "start 0 main; act 0 main 0; tick 5; expire main; wake 0 main; act 0 main 1; act 0 main 2; expire main; wake 0 main; end 0 main; events 10; ",
+        "lawful 10 Drained",
+        true,
+    ),
+    (
+        14,
+        "start 0 main; act 0 main 0; expire main; events 3; ",
+        "event 2",
+        true,
+    ),
+    (
+        14,
+        "start 0 main; act 0 main 0; tick 7; expire main; wake 3 main; act 3 main 1; act 3 main 2; events 7; ",
+        "lawful 7 Live",
+        true,
+    ),
+    (
+        14,
+        "start 0 main; act 0 main 0; tick 5; expire s; events 4; ",
+        "line 4",
+        false,
+    ),
 ];
 
 // The plan's number, a journal, and the report of its events where block b has the value 3 * b.
-static REPORTS: [(usize, &str, &str); 10] = [
+static REPORTS: [(usize, &str, &str); 11] = [
     (
         0,
         "start 0 main; act 0 main 0; end 0 main; start 0 b1; end 0 b1; events 5; ",
@@ -441,6 +478,11 @@ static REPORTS: [(usize, &str, &str); 10] = [
         4,
         "start 0 main; act 0 main 0; act 0 main 1; events 3; ",
         "full; ",
+    ),
+    (
+        14,
+        "start 0 main; act 0 main 0; tick 5; expire main; wake 0 main; act 0 main 1; act 0 main 2; expire main; wake 0 main; end 0 main; events 10; ",
+        "drained; ",
     ),
 ];
 
