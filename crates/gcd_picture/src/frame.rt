@@ -58,6 +58,7 @@ fn is_outside(event: &Event) -> bool {
             | Event::Ready { .. }
             | Event::FeedEnd { .. }
             | Event::Halt
+            | Event::Expire { .. }
             | Event::Misuse { .. }
     )
 }

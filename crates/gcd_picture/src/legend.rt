@@ -73,7 +73,7 @@ fn push_nodes(
 }
 
 // What each kind of line means.
-static SIGNS: [(&str, &str); 9] = [
+static SIGNS: [(&str, &str); 10] = [
     (
         "<rect class=\"barrier\" width=\"20\" height=\"14\" rx=\"2\" fill=\"#fff\"/>",
         "barrier",
@@ -93,6 +93,7 @@ static SIGNS: [(&str, &str); 9] = [
     ),
     ("<path class=\"tick\" d=\"M10 0V14\"/>", "tick"),
     ("<path class=\"ready\" d=\"M10 0V14\"/>", "feed"),
+    ("<path class=\"expiry\" d=\"M10 0V14\"/>", "wait expired"),
     (
         "<path class=\"misuse\" d=\"M10 7m-7 -7l14 14m0 -14l-14 14\"/>",
         "misuse",

@@ -58,11 +58,11 @@ pub fn awaited_text(alloc: Global, plan: &Plan, event: Event) -> Result<String, 
         Act::Sync(_, b) | Act::BarrierSync(_, b) => {
             String::from_str(alloc, run_name(plan, Run::Block(b)))
         }
-        Act::GroupWait(g) => {
+        Act::GroupWait(g) | Act::GroupWaitFor(g, _) => {
             let name = object_name(plan, g);
             format!(in alloc; "group {name}")
         }
-        Act::Wait(s) => {
+        Act::Wait(s) | Act::WaitFor(s, _) => {
             let name = object_name(plan, s);
             format!(in alloc; "semaphore {name}")
         }

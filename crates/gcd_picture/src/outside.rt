@@ -3,11 +3,11 @@
 use crate::drawing::Drawing;
 use crate::escape::push_xml;
 use crate::frame::text_width;
-use crate::naming::{feed_path, misuse_text, object_name};
+use crate::naming::{feed_path, misuse_text, object_name, run_name};
 use crate::rows::Rows;
 use crate::scale::Tenths;
 use gcd_event::Event;
-use gcd_plan::Plan;
+use gcd_plan::{Plan, Run};
 use std::alloc::{AllocError, Global};
 use std::fmt::Write;
 
@@ -28,6 +28,10 @@ fn words_of(
             Ok(Some(("ready", format!(in alloc; "{name} ends")?)))
         }
         Event::Halt => Ok(Some(("halt", String::from_str(alloc, "halt")?))),
+        Event::Expire { blk } => {
+            let name = run_name(plan, Run::Block(blk));
+            Ok(Some(("expiry", format!(in alloc; "{name}: time is up")?)))
+        }
         Event::Misuse {
             run,
             index,
@@ -51,7 +55,7 @@ fn path_of(plan: &Plan, event: Event) -> &str {
         Event::FeedEnd { src } => feed_path(plan, src),
         Event::Start { .. } | Event::Act { .. } | Event::Wake { .. } | Event::End { .. } => "",
         Event::Deliver { .. } | Event::DeliverEnd { .. } | Event::Misuse { .. } => "",
-        Event::Tick { .. } | Event::Halt => "",
+        Event::Tick { .. } | Event::Halt | Event::Expire { .. } => "",
     }
 }
 
@@ -100,7 +104,7 @@ fn push_outside(
     into.push_str("</title></path>\n")
 }
 
-/// Adds the lines of ticks, of what came on feeds and of a halt, and their words.
+/// Adds the lines of ticks, of what came on feeds, of waits that expired and of a halt, and their words.
 pub fn push_marks(alloc: Global, into: &mut String, drawing: Drawing) -> Result<(), AllocError> {
     let mut rows = Rows::new(alloc, 1)?;
     for (place, event) in drawing.showing.events.iter().enumerate() {

@@ -40,6 +40,8 @@ path.tick{stroke:#1f6fb4;stroke-dasharray:1 3}
 text.tick{fill:#1f6fb4}
 path.ready{stroke:#2a8a3e;stroke-dasharray:1 3}
 text.ready{fill:#2a8a3e}
+path.expiry{stroke:#b36b00;stroke-dasharray:1 3}
+text.expiry{fill:#b36b00}
 path.halt{stroke:#000;stroke-width:2}
 path.misuse{stroke:#c00;stroke-width:3;fill:none}
 text.misuse{fill:#c00}

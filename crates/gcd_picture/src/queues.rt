@@ -17,8 +17,8 @@ fn barrier_of(act: Act) -> Option<Blk> {
         Act::Barrier(_, b) => Some(b),
         Act::BarrierSync(_, b) => Some(b),
         Act::Async(..) | Act::Sync(..) | Act::GroupAsync(..) | Act::Notify(..) => None,
-        Act::Enter(_) | Act::Leave(_) | Act::GroupWait(_) => None,
-        Act::Signal(_) | Act::Wait(_) => None,
+        Act::Enter(_) | Act::Leave(_) | Act::GroupWait(_) | Act::GroupWaitFor(..) => None,
+        Act::Signal(_) | Act::Wait(_) | Act::WaitFor(..) => None,
         Act::Suspend(_) | Act::Resume(_) | Act::Activate(_) | Act::Target(..) => None,
         Act::Merge(..) | Act::Cancel(_) | Act::Retain(_) | Act::Release(_) => None,
     }
@@ -41,8 +41,8 @@ fn submitted(act: Act) -> Option<(Obj, Blk)> {
         Act::BarrierSync(q, b) => Some((q, b)),
         Act::GroupAsync(_, q, b) => Some((q, b)),
         Act::Notify(_, q, b) => Some((q, b)),
-        Act::Enter(_) | Act::Leave(_) | Act::GroupWait(_) => None,
-        Act::Signal(_) | Act::Wait(_) => None,
+        Act::Enter(_) | Act::Leave(_) | Act::GroupWait(_) | Act::GroupWaitFor(..) => None,
+        Act::Signal(_) | Act::Wait(_) | Act::WaitFor(..) => None,
         Act::Suspend(_) | Act::Resume(_) | Act::Activate(_) | Act::Target(..) => None,
         Act::Merge(..) | Act::Cancel(_) | Act::Retain(_) | Act::Release(_) => None,
     }

@@ -37,6 +37,7 @@ fn submitted(plan: &Plan, event: Event) -> Option<Blk> {
         Event::Start { .. } | Event::Wake { .. } | Event::End { .. } => None,
         Event::Deliver { .. } | Event::DeliverEnd { .. } => None,
         Event::Tick { .. } | Event::Ready { .. } | Event::Misuse { .. } | Event::Halt => None,
+        Event::Expire { .. } => None,
     }
 }
 

@@ -186,6 +186,10 @@ fn moment_of(
             ("outside", format!(in alloc; "{source} ends")?)
         }
         Event::Halt => ("outside", String::from_str(alloc, "halt")?),
+        Event::Expire { blk } => {
+            let name = run_name(plan, Run::Block(blk));
+            ("outside", format!(in alloc; "{name}: time is up")?)
+        }
         Event::Start { .. } | Event::Wake { .. } | Event::End { .. } => return Ok(None),
         Event::Deliver { .. } | Event::DeliverEnd { .. } => return Ok(None),
     };
@@ -201,6 +205,7 @@ fn line_of(showing: Showing, event: Event) -> u32 {
         Event::Start { .. } | Event::Wake { .. } | Event::End { .. } => 0,
         Event::Deliver { .. } | Event::DeliverEnd { .. } | Event::Tick { .. } => 0,
         Event::Ready { .. } | Event::FeedEnd { .. } | Event::Halt => 0,
+        Event::Expire { .. } => 0,
     }
 }
 
@@ -246,7 +251,7 @@ fn push_ending(into: &mut String, showing: Showing) -> Result<(), AllocError> {
 /// or one that only begins where nothing gives the run back, whose thread is the worker, whose category is what kind of run it is
 /// (`block`, `barrier`, `delivery`), and whose times are places in the journal; an asynchronous event for each time in which a run is
 /// parked, which stays open where the run has not gone on; a flow from each block's submission to its start; an instant for each
-/// act, for each tick, for what came on feeds, for a misuse and a halt, and for the state to which the run has come. What stands in
+/// act, for each tick, for what came on feeds, for each wait that expired, for a misuse and a halt, and for the state to which the run has come. What stands in
 /// the script has its line. An `Err` comes only where memory runs out.
 pub fn trace(alloc: Global, showing: Showing) -> Result<String, AllocError> {
     let bars = bars_of(alloc, showing)?;

@@ -19,6 +19,7 @@ pub fn taken(event: Event) -> Option<Run>
         Event::Act { .. } | Event::Misuse { .. } => None,
         Event::End { .. } | Event::DeliverEnd { .. } => None,
         Event::Tick { .. } | Event::Ready { .. } | Event::FeedEnd { .. } | Event::Halt => None,
+        Event::Expire { .. } => None,
     }
 }
 
@@ -38,7 +39,7 @@ pub fn given(plan: &Plan, event: Event) -> Option<Run>
         Event::DeliverEnd { src, .. } => Some(Run::Source(src)),
         Event::Start { .. } | Event::Wake { .. } | Event::Deliver { .. } => None,
         Event::Tick { .. } | Event::Ready { .. } | Event::FeedEnd { .. } => None,
-        Event::Misuse { .. } | Event::Halt => None,
+        Event::Misuse { .. } | Event::Halt | Event::Expire { .. } => None,
     }
 }
 
