@@ -26,6 +26,8 @@ MORE_SCRIPTS = [
     b"activate u\nmerge s 3\nmerge s 4\ncancel s\n",
     b"queue a serial\nqueue b serial\nblock x\ntarget a b\nretain a\nrelease a\nblock y\nmain\nasync a x\nbarrier_sync b y\nrelease b\n",
     b"semaphore s 1\nblock x\nwait s\nsignal s\nblock y\nwait s\nmain\nasync root x\nasync root y\nwait s\nsignal s\n",
+    b"semaphore s 1\ngroup g\nuntil 20\nblock a\nwait_for s 5\ngroup_wait_for g 3\nblock b\nwait_for s 0\nwait_for s 9\nsignal s\nmain\n"
+    b"enter g\nasync root a\nasync root b\ngroup_wait_for g 30\nleave g\n",
     b"source n replace on root\nblock b\nmerge n 5\nmain\nmerge n 3\nmerge n 0\nactivate n\nsync root b\nmerge n 4\n",
     b"source t timer 1 2 on root\nhandler t\nretain t\nuntil 9\nmain\nactivate t\n",
     b"source r read text.txt on root\nsource v read log.txt on root\nblock c\ncancelled r c\nmain\nresume r\nactivate v\n",
@@ -33,7 +35,7 @@ MORE_SCRIPTS = [
 WORDS = sorted(set(grammar.DECLARATIONS) | set(grammar.ACTS))
 WORDS += "serial concurrent inactive on root main add or replace timer read bytes lines words sum count tcp q r s t f a b g 0 1 7 007 -1".split()
 WORDS += "log.txt text.txt nowhere 2147483647 2147483648 16777216 86400000 99999999999999999999 q q s b #".split()
-EVENTS = "start act wake end deliver deliver_end tick ready feed_end misuse halt events main b1 q s r M1 M9".split()
+EVENTS = "start act wake end deliver deliver_end tick ready feed_end misuse halt expire events main b1 q s r M1 M9".split()
 EVENTS += "0 0 0 1 63 64 00 4294967296".split()
 OPTIONS = ["run", "check", "big", "script", "journal", "--workers", "--journal", "--listen", "--help", "-h", "--", "-", "", "=", "1", "0"]
 OPTIONS += ["64", "65", "+4", "007", "-1", "16384", "16385", "99999999999999999999", "--workers=4", "--journal=1"]
@@ -105,9 +107,9 @@ def changed(chance, text, words):
 
 
 def hastened(text):
-    """The same script with little time, where it has timers, so that each call ends soon by the real clock too."""
+    """The same script with little time, where it has timers or limits, so that each call ends soon by the real clock too."""
     text = re.sub(rb"(?m)^( *until +)[1-9][0-9]{2,}( *)$", rb"\g<1>60\2", text)
-    if re.search(rb" timer ", text) and not re.search(rb"(?m)^ *until ", text):
+    if re.search(rb" timer |wait_for ", text) and not re.search(rb"(?m)^ *until ", text):
         text = b"until 60\n" + text
     return text
 

@@ -14,7 +14,7 @@ USAGE = b"usage: gcd run SCRIPT [--workers N] [--journal] [--listen ADDR] | gcd 
 NAME = rb"(?:main|root|[a-z][a-z0-9_]{0,31})"
 EVENT = (
     rb"(?:(?:start|wake|end|deliver|deliver_end) [0-9]+ %b|act [0-9]+ %b [0-9]+|tick [0-9]+|ready %b [0-9]+|feed_end %b"
-    rb"|misuse [0-9]+ %b [0-9]+ M[1-8]|halt)\n" % ((NAME,) * 5)
+    rb"|misuse [0-9]+ %b [0-9]+ M[1-8]|expire %b|halt)\n" % ((NAME,) * 6)
 )
 JOURNAL = rb"(?:(?:%b)*events [0-9]+\n)?" % EVENT
 REPORT = (

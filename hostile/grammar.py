@@ -5,14 +5,14 @@ import re
 NUMBER = re.compile(r"0|[1-9][0-9]{0,9}")
 WELL_FORMED = re.compile(r"[a-z][a-z0-9_]{0,31}")
 MOST = {"file": 64, "object": 1023, "block": 16384, "act": 65535}
-DAY, MEBIBYTES, LARGE = (1, 86_400_000), (0, 16_777_216), (0, 2_147_483_647)
+DAY, WAIT, MEBIBYTES, LARGE = (1, 86_400_000), (0, 86_400_000), (0, 16_777_216), (0, 2_147_483_647)
 QUEUES = {"queue", "root"}
 SOURCES = {"add", "or", "replace", "timer", "read"}
 OBJECTS = {"queue", "group", "semaphore"} | SOURCES
 NODES = {"queue"} | SOURCES
 KINDS = {"Q": QUEUES, "T": QUEUES, "G": {"group"}, "X": {"semaphore"}, "O": NODES, "S": SOURCES, "M": {"add", "or", "replace"}}
 KINDS |= {"A": OBJECTS, "B": {"block"}, "C": {"block"}, "F": {"file"}}
-NUMBERS = {"#day": DAY, "#large": LARGE, "#byte": (0, 255), "#place": MEBIBYTES}
+NUMBERS = {"#day": DAY, "#wait": WAIT, "#large": LARGE, "#byte": (0, 255), "#place": MEBIBYTES}
 
 # The words after the first, a form each: a capital stands for a used name of that kind (B: and this line submits it), `+` for the
 # name that is declared, `#` for a number, `path` for a path; what else stands there is that word.
@@ -33,8 +33,8 @@ ACTS = {word: ["Q B"] for word in ("async", "barrier", "sync", "barrier_sync")}
 ACTS |= {word: ["G Q B"] for word in ("group_async", "notify")}
 ACTS |= {"enter": ["G"], "leave": ["G"], "group_wait": ["G"], "signal": ["X"], "wait": ["X"], "target": ["O T"]}
 ACTS |= {"suspend": ["O"], "resume": ["O"], "activate": ["O"], "merge": ["M #large"], "cancel": ["S"]}
-ACTS |= {"retain": ["A"], "release": ["A"]}
-NOT_IN_HANDLERS = {"async", "barrier", "sync", "barrier_sync", "group_async", "notify", "group_wait", "wait"}
+ACTS |= {"retain": ["A"], "release": ["A"], "wait_for": ["X #wait"], "group_wait_for": ["G #wait"]}
+NOT_IN_HANDLERS = {"async", "barrier", "sync", "barrier_sync", "group_async", "notify", "group_wait", "wait", "wait_for", "group_wait_for"}
 
 
 def fits(form, words):

@@ -78,6 +78,14 @@ def all_parked(_):
     return text_of(lines + ["main", "enter g"] + [f"async q{b % 7} b{b}" for b in range(10_000)] + ["leave g"]), 0
 
 
+def all_expire(_):
+    """Ten thousand blocks whose waits run out at three moments, and that go on."""
+    lines = ["file f f2.txt", "semaphore s 0"] + [f"queue q{k} concurrent" for k in range(7)]
+    for b in range(10_000):
+        lines += [f"block b{b} lines f", f"wait_for s {b % 3}"]
+    return text_of(lines + ["main"] + [f"async q{b % 7} b{b}" for b in range(10_000)]), 0
+
+
 def none_starts(_):
     """A chain of queues beneath one that is suspended, with a block on each and many on the last: nothing starts."""
     lines = ["file f f2.txt", "queue q0 serial"] + [f"queue q{k} serial on q{k - 1}" for k in range(1, OBJECTS)]
@@ -99,7 +107,7 @@ def ping_pong(_):
     return text_of([*lines, "block y", *["wait m", "signal n"] * 5000, "main", "async root x", "async root y"]), 0
 
 
-SCRIPTS = [at_the_limits, past_the_events, all_parked, none_starts, hand_over_hand, ping_pong]
+SCRIPTS = [at_the_limits, past_the_events, all_parked, all_expire, none_starts, hand_over_hand, ping_pong]
 
 
 def value_lines(script):
