@@ -61,7 +61,7 @@ unreleased plan past o some live none =
 above : (n : ℕ) → (n ≡ 0 → ⊥) → 0 < n
 above n h = omega (arith, h)
 
-module _ (past : List Event) (m : MachineView) (t : IsTied m.plan past m) (room : length past + 2 < 2 ^ 32) where
+module _ (past : List Event) (m : MachineView) (t : IsTied m.plan past m) (room : length past + 1 < 2 ^ 32) where
   -- ## The run
 
   pub can_set_free : (w : ℕ) (run : Run) → is_worker w ≡ true → has_run m.plan past w run ≡ true → CanSetFree m w

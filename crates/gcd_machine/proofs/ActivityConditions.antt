@@ -51,7 +51,7 @@ new_of_plan plan past e b valid lawful new =
 
 -- ## In the machine
 
-module _ (past : List Event) (m : MachineView) (t : IsTied m.plan past m) (room : length past + 2 < 2 ^ 32) where
+module _ (past : List Event) (m : MachineView) (t : IsTied m.plan past m) (room : length past + 1 < 2 ^ 32) where
   kinds_long : length m.sources.kinds ≡ length m.plan.objects
   kinds_long = ap length t.parts.source_kinds ∙ length-map m.plan.objects (λ o. o.kind)
 

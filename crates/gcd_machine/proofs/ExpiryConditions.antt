@@ -71,7 +71,7 @@ rank_waits : (plan : PlanView) (past : List Event) (s : Obj) (k : ℕ) → is_ov
 unfolding has_come has_run_out
 rank_waits plan past s k waits = or_parts (passes plan past s.0 k) (is_expired_wait plan past s.0 k) waits
 
-module _ (past : List Event) (m : MachineView) (t : IsTied m.plan past m) (room : length past + 2 < 2 ^ 32) where
+module _ (past : List Event) (m : MachineView) (t : IsTied m.plan past m) (room : length past + 1 < 2 ^ 32) where
   is_waiting : (b : Blk) (s : Obj) (k : ℕ) → awaited m.plan past (Block b) ≡ Some (Rank s k) → is_over m.plan past (Rank s k) ≡ false → IsWaiting m s.0 k
   is_waiting b s k is waits =
       let rank = t.small.ranks b.0 s k (t.waits.reasons b.0 ∙ is) in

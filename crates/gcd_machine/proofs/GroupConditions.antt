@@ -20,7 +20,7 @@ use Rattle.gcd_refinement.proofs.StepSubmits.{counts_of}
 use Rattle.gcd_machine.specs.Conditions.{CanLetGo, CanWakeAt, CanSubmit, HaveHomes, CanComeEmpty, CanLeave, CanLeaveByAct, CanEnter, CanSubmitMember, CanRegister}
 use Rattle.gcd_machine.proofs.NewBlocks.{IsNew, notified_nowhere, of_no_group, new_nowhere, few_waiting}
 
-module _ (past : List Event) (m : MachineView) (t : IsTied m.plan past m) (room : length past + 2 < 2 ^ 32) where
+module _ (past : List Event) (m : MachineView) (t : IsTied m.plan past m) (room : length past + 1 < 2 ^ 32) where
   -- ## Submissions
 
   pub can_submit : (n : Obj) (b : Blk) → n.0 < length m.plan.objects → b.0 < length m.plan.blocks → place_of m.lists b.0 ≡ None → CanSubmit m n b

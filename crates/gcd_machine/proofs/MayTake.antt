@@ -47,7 +47,7 @@ tick_within plan past u may =
     let parts = and_parts (ltb (now past) u) _ may in
     (ltb-true (now past) u parts.0, leb-true u plan.until (and_parts (leb u plan.until) _ parts.1).0)
 
-module _ (past : List Event) (m : MachineView) (t : IsTied m.plan past m) (room : length past + 2 < 2 ^ 32) where
+module _ (past : List Event) (m : MachineView) (t : IsTied m.plan past m) (room : length past + 1 < 2 ^ 32) where
   can_take_up : (w : ℕ) → is_worker w ≡ true → CanTakeUp m w
   can_take_up w worker =
       let low = ltb-true w max_workers worker in
@@ -155,7 +155,7 @@ module _ (past : List Event) (m : MachineView) (t : IsTied m.plan past m) (room 
   can_take_here e may = record { room = position_low past m t room; changes = can_change e may }
 
 -- whatever the plan is called
-pub can_take : (plan : PlanView) (past : List Event) (m : MachineView) (e : Event) → IsTied plan past m → why plan past e ≡ None → length past + 2 < 2 ^ 32 → CanTake m e
+pub can_take : (plan : PlanView) (past : List Event) (m : MachineView) (e : Event) → IsTied plan past m → why plan past e ≡ None → length past + 1 < 2 ^ 32 → CanTake m e
 can_take plan past m e t may room =
     subst (λ p. IsTied p past m → why p past e ≡ None → CanTake m e) t.same_plan (λ tied may. can_take_here past m tied room e may) t may
 

@@ -51,7 +51,7 @@ unheld plan past xs free = none_of (λ o. not (is_free plan past o)) (is_moving 
 
 -- ## Nodes
 
-module _ (past : List Event) (m : MachineView) (t : IsTied m.plan past m) (room : length past + 2 < 2 ^ 32) where
+module _ (past : List Event) (m : MachineView) (t : IsTied m.plan past m) (room : length past + 1 < 2 ^ 32) where
   pub has_list : (n : Obj) → n.0 < length m.plan.objects → n.0 < length m.lists.lists
   has_list n low = let lists = t.parts.lists in omega (arith, low, lists)
 

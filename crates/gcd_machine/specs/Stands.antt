@@ -24,4 +24,4 @@ pub record MayApply (m : MachineView) (e : Event) : Type 0 where
   pub history : List Event
   pub stands : StandsFor m plan history
   pub permitted : IsPermitted plan history e
-  pub room : length history + 2 < 2 ^ 32
+  pub room : length history + 1 < 2 ^ 32

@@ -138,7 +138,8 @@ impl Machine {
     }
 
     /// Whether nothing but a halt can come any more, and the run is not halted. It costs a constant number of steps where a run
-    /// is open and not parked, or a read source is live, and else as much as one [`Machine::choose`].
+    /// is open and not parked, a read source is live, a wait may expire or a due time is left, and else as much as one
+    /// [`Machine::choose`].
     pub fn is_quiescent(&self) -> bool
         ensures { (plan : PlanView) (h : List Event) → StandsFor self.now plan h → IsTrue result ↔ IsQuiescent plan h }
     {

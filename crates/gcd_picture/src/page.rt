@@ -153,7 +153,7 @@ fn page_of(alloc: Global, drawing: Drawing) -> Result<String, AllocError> {
 
 /// The picture of a run, as a page of SVG: a lane for each worker, on it a bar for each stretch of a run, in the colour of its
 /// node, and beneath it the times in which runs of the lane are parked, with what they wait for; lines for ticks, for what came on
-/// feeds and for a halt, and a cross for a misuse; barriers and deliveries have a thick edge, and those of deliveries are round;
+/// feeds, for waits that expired and for a halt, and a cross for a misuse; barriers and deliveries have a thick edge, and those of deliveries are round;
 /// the state to which the run has come, why, and which blocks have not started; and what the colours and lines mean. The axis is
 /// the place in the journal, from 0: the page is as wide as the journal is long, and the names of its lanes are repeated. A text
 /// that has no room is cut, or left to what is shown where the bar or line is pointed at. An `Err` comes only where memory runs out.

@@ -251,8 +251,8 @@ fn push_ending(into: &mut String, showing: Showing) -> Result<(), AllocError> {
 /// or one that only begins where nothing gives the run back, whose thread is the worker, whose category is what kind of run it is
 /// (`block`, `barrier`, `delivery`), and whose times are places in the journal; an asynchronous event for each time in which a run is
 /// parked, which stays open where the run has not gone on; a flow from each block's submission to its start; an instant for each
-/// act, for each tick, for what came on feeds, for each wait that expired, for a misuse and a halt, and for the state to which the run has come. What stands in
-/// the script has its line. An `Err` comes only where memory runs out.
+/// act, for each tick, for what came on feeds, for each wait that expired, for a misuse and a halt, and for the state to which the run
+/// has come. What stands in the script has its line. An `Err` comes only where memory runs out.
 pub fn trace(alloc: Global, showing: Showing) -> Result<String, AllocError> {
     let bars = bars_of(alloc, showing)?;
     let submissions = Submissions::new(alloc, showing.plan, showing.events)?;

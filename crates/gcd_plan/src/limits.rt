@@ -13,7 +13,7 @@ pub const MAX_FILES: u32 = 64;
 pub const MAX_ACTS: u32 = 65_535;
 
 /// The most events in a run.
-pub const MAX_EVENTS: u32 = 65_535;
+pub const MAX_EVENTS: u32 = 4_294_967_295;
 
 /// The most workers of a run.
 pub const MAX_WORKERS: u32 = 64;

@@ -116,7 +116,7 @@ impl PartsFault {
             PartsFault::TooManyBlocks => "there are more blocks than a plan may have",
             PartsFault::TooManyFiles => "there are more files than a plan may have",
             PartsFault::TooManyActs => "there are more acts than a plan may have",
-            PartsFault::UntilOutOfRange => "the last due time of timers is out of range",
+            PartsFault::UntilOutOfRange => "the last due time and limit is out of range",
             PartsFault::ObjectNameIllFormed(_) => "its name is ill-formed",
             PartsFault::BlockNameIllFormed(_) => "its name is ill-formed",
             PartsFault::FileNameIllFormed(_) => "its name is ill-formed",

@@ -118,7 +118,7 @@ static LISTS: [Row; 8] = [
     },
     Row {
         fault: PartsFault::UntilOutOfRange,
-        says: "the last due time of timers is out of range",
+        says: "the last due time and limit is out of range",
         until: MAX_TIME + 1,
         ..SOUND
     },

@@ -2,22 +2,16 @@
 use Rattle.std.proofs.Common.{◌≡◌, ℕ, ◌≤◌, Bool, true, false, cond, List, [], ◌∷◌, length, zero, suc, Option, None, Some, refl, ap, ◌∙◌, ◌⊎◌, inl, inr, arith}
 use Rattle.std.specs.List.{list_any, slice_get}
 use Rattle.std.specs.Option.{option_map_or}
-use Rattle.std.proofs.lemmas.Bool.{or_left, or_right}
 use Rattle.gcd_plan.specs.PlanView.{PlanView, BlkView}
 use Rattle.gcd_plan.specs.declared.act.Act.{Act}
 use Rattle.gcd_plan.specs.declared.act.Act.TheVariants.{GroupWaitFor, WaitFor}
 use Rattle.gcd_plan.specs.declared.numbers.Blk.{Blk}
 use Rattle.gcd_plan.specs.declared.numbers.Run.TheVariants.{Block}
 use Rattle.gcd_history.specs.Runs.{act_at}
+use Rattle.gcd_sema.proofs.NoWaits.{found_any}
 use Rattle.gcd_sync.specs.LimitRoom.{has_limit, has_limits, limit_room}
 use Rattle.gcd_refinement.specs.MachineView.{MachineView}
 use Rattle.gcd_refinement.specs.AfterLimits.{limit_in_view}
-
--- what stands in a list is among its elements
-found_any : {X : Type 0} (p : X → Bool) (xs : List X) (i : ℕ) (x : X) → slice_get xs i ≡ Some x → p x ≡ true → list_any p xs ≡ true
-found_any p [] i x at h = cc
-found_any p (y ∷ xs) zero x at h = let same : y ≡ x = cc in or_left (p y) (list_any p xs) (ap p same ∙ h)
-found_any p (y ∷ xs) (suc i) x at h = or_right (p y) (list_any p xs) (found_any p xs i x at h)
 
 -- where an act of a block waits with a limit
 pub room_of_act : (plan : PlanView) (b : Blk) (i : ℕ) (act : Act) → act_at plan (Block b) i ≡ Some act → has_limit act ≡ true → limit_room plan ≡ length plan.blocks

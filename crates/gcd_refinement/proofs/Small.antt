@@ -1,5 +1,5 @@
 -- That no number is too large: what follows of the ties. The sum of open runs, what is pending and how many are left are not here.
-use Rattle.std.proofs.Common.{◌≡◌, ℕ, suc, ◌+◌, ◌-◌, ◌<◌, ◌≤◌, ◌==◌, leb, ltb, Bool, true, false, not, cond, List, [], ◌∷◌, length, filter, Option, Some, None, is_none, arith, ⊎_elim, length-append}
+use Rattle.std.proofs.Common.{◌≡◌, ℕ, suc, ◌+◌, ◌-◌, ◌<◌, ◌≤◌, ◌==◌, leb, ltb, Bool, true, false, not, cond, List, [], ◌∷◌, length, filter, Option, Some, None, is_none, refl, ap, ◌∙◌, arith, ⊎_elim, length-append}
 use Rattle.std.specs.List.{count_by, cons_option}
 use Rattle.std.proofs.lemmas.Bool.{cases_lt, and_parts, leb-true}
 use Rattle.std.proofs.lemmas.List.{get_or_past}
@@ -18,10 +18,10 @@ use Rattle.gcd_history.specs.Misuses.{retains}
 use Rattle.gcd_history.specs.Semas.{signals}
 use Rattle.gcd_history.specs.Timers.{now}
 use Rattle.gcd_history.specs.Due.{may_tick}
-use Rattle.gcd_history.specs.Parked.{parked_by}
+use Rattle.gcd_history.specs.Parked.{parked_by, has_run}
 use Rattle.gcd_history.specs.Permitted.{IsLawful, is_barrier_on}
 use Rattle.gcd_plan.proofs.Sums.{count_by-cons}
-use Rattle.gcd_history.proofs.Reasons.{at_tick}
+use Rattle.gcd_history.proofs.Reasons.{at_act, at_tick}
 use Rattle.gcd_hold.specs.HoldsView.{hold_at}
 use Rattle.gcd_drain.specs.DrainsView.{barriers_at}
 use Rattle.gcd_group.specs.GroupsView.{count_at, entered_at}
@@ -41,6 +41,30 @@ few p (x ∷ xs) =
 
 pub fewer : {X : Type 0} (p : X → Bool) (xs : List X) → length (filter p xs) ≤ length xs
 fewer p xs = let a = length-filter p xs in let b = few p xs in omega (arith, a, b)
+
+-- the first event of a lawful history is no act
+first_retains_nothing : (plan : PlanView) (e : Event) (o : ℕ) → IsLawful plan (e ∷ []) → retains o (act_of plan e) ≡ false
+unfolding has_run
+first_retains_nothing plan (Acted w r i) o lawful = let own = (at_act plan [] w r i lawful.1).own in cc
+first_retains_nothing plan _ o lawful = refl
+
+-- so no more are retained than events follow it
+few_after : (plan : PlanView) (e : Event) (past : List Event) (o : ℕ) → IsLawful plan (e ∷ past) → count_by (λ d. retains o (act_of plan d)) (e ∷ past) ≤ length past
+few_after plan e [] o lawful =
+    let none = first_retains_nothing plan e o lawful in
+    let c = count_by-cons (λ d. retains o (act_of plan d)) e [] ∙ ap (λ t. cond {A = ℕ} t 1 0 + 0) none in
+    omega (arith, c)
+few_after plan e (d ∷ past) o lawful =
+    let rest = few_after plan d past o lawful.0 in
+    let c = count_by-cons (λ d. retains o (act_of plan d)) e (d ∷ past) in
+    elim (retains o (act_of plan e)) as (λ t. count_by (λ d. retains o (act_of plan d)) (e ∷ d ∷ past) ≡ cond {A = ℕ} t 1 0 + count_by (λ d. retains o (act_of plan d)) (d ∷ past) → count_by (λ d. retains o (act_of plan d)) (e ∷ d ∷ past) ≤ suc (length past)) [
+      | true ↦ λ k. omega (arith, k, rest)
+      | false ↦ λ k. omega (arith, k, rest)
+    ] c
+
+few_retains : (plan : PlanView) (past : List Event) (o : ℕ) → IsLawful plan past → count_by (λ e. retains o (act_of plan e)) past ≤ length past - 1
+few_retains plan [] o lawful = omega arith
+few_retains plan (e ∷ past) o lawful = let few = few_after plan e past o lawful in omega (arith, few)
 
 pub few_open : (past : List Event) → length (open_runs past) ≤ length past
 few_open [] = omega arith
@@ -96,7 +120,7 @@ now_low plan (e ∷ past) lawful = now_low plan past lawful.0
 -- ## The numbers of the view
 
 pub record MostSmall (plan : PlanView) (past : List Event) (v : MachineView) : Type 0 where
-  pub refs : (o : ℕ) → refs_at v o ≤ length past + 1
+  pub refs : (o : ℕ) → refs_at v o ≤ length past - 1 + 1
   pub holds : (o : ℕ) → hold_at v.holds o ≤ length past
   pub barriers : (n : ℕ) → barriers_at v.drains n ≤ length past
   pub counts : (g : ℕ) → count_at v.groups g ≤ length past
@@ -113,7 +137,7 @@ most_small plan past v lawful t =
     record {
       refs = λ o.
           ⊎_elim
-          (λ (low : o < length plan.objects). let c = t.references.counted o low in let f = few (λ e. retains o (act_of plan e)) past in omega (arith, c, f))
+          (λ (low : o < length plan.objects). let c = t.references.counted o low in let f = few_retains plan past o lawful in omega (arith, c, f))
           (λ (high : length plan.objects ≤ o). let long = t.parts.refs in let z : refs_at v o ≡ 0 = get_or_past v.refs o 0 (omega (arith, high, long)) in omega (arith, z))
           (cases_lt o (length plan.objects));
       holds = λ o. let h = t.holds.holds o in let f = few_holds plan past o in omega (arith, h, f);

@@ -1,6 +1,6 @@
 -- What the parts' calls ask beside the shape: that no number is too large, and that a block waits at one place at a time. All
 -- of it follows from the ties.
-use Rattle.std.specs.Prelude.{◌≡◌, ◌≤◌, ◌+◌, ◌*◌, ℕ, Bool, true, List, length, Option, Some, None, is_some, if◌then◌else◌, sum, option_map, option_and_then}
+use Rattle.std.specs.Prelude.{◌≡◌, ◌≤◌, ◌+◌, ◌-◌, ◌*◌, ℕ, Bool, true, List, length, Option, Some, None, is_some, if◌then◌else◌, sum, option_map, option_and_then}
 use Rattle.gcd_plan.specs.PlanView.{PlanView}
 use Rattle.gcd_plan.specs.declared.numbers.Obj.{Obj}
 use Rattle.gcd_plan.specs.declared.reason.Reason.TheVariants.{Rank}
@@ -23,9 +23,9 @@ pub record IsRank (v : MachineView) (s rank : ℕ) : Type 0 where
   pub low : 1 ≤ rank
   pub high : rank ≤ waits_at v.semas s
 
--- no count is above the length of the history, which is at most `max_events`; a merge adds at most `max_value`
+-- no count is above the length of the history, and the first event of one retains nothing; a merge adds at most `max_value`
 pub record NumbersAreSmall (plan : PlanView) (past : List Event) (v : MachineView) : Type 0 where
-  pub refs : (o : ℕ) → refs_at v o ≤ length past + 1
+  pub refs : (o : ℕ) → refs_at v o ≤ length past - 1 + 1
   pub holds : (o : ℕ) → hold_at v.holds o ≤ length past
   pub runs : sum v.tree.open_on ≤ length past
   pub barriers : (n : ℕ) → barriers_at v.drains n ≤ length past

@@ -8,6 +8,7 @@
 //! | `Shape`, `Bounds` | how long the arrays are; how large the numbers, and where blocks wait |
 //! | `Stands` | `IsTied`: all of these at once |
 //! | `Submits`, `After` | what an event submits, empties and wakes; `after`, the state after an event |
+//! | `AfterLimits`, `AfterTotals` | what an event makes of the limits of waits; of the numbers and flags, and of who has which run |
 //! | `Sleepers` | words of histories that no part asks: who waits for a block's end, who sleeps at an object |
 //!
 //! `proofs/Tied` has the three sentences on which the machine stands: a new machine's state is tied to the empty history

@@ -26,7 +26,7 @@
 //! | `queue Q K`, `queue Q K inactive`, `queue Q K on T`, `queue Q K on T inactive` | K is `serial` or `concurrent`, T a queue, `root` when absent (dispatch_queue_create(3)) |
 //! | `group G` | (dispatch_group_create(3)) |
 //! | `semaphore S N` | N from 0 to `MAX_VALUE` (dispatch_semaphore_create(3)) |
-//! | `source S add on T`, `source S or on T`, `source S timer START EVERY on T`, `source S read PATH on T` | T a queue, the times 1 to `MAX_TIME` (dispatch_source_create(3)) |
+//! | `source S add on T`, `source S or on T`, `source S replace on T`, `source S timer START EVERY on T`, `source S read PATH on T` | T a queue, the times 1 to `MAX_TIME` (dispatch_source_create(3)) |
 //! | `cancelled S B` | B is the cancellation block of the source S, and so is submitted (dispatch_source_set_cancel_handler(3)) |
 //! | `until MS` | the last due time of timers and limit of waits, 1 to `MAX_TIME`; 1000 when absent |
 //! | `block B`, `block B W F`, `block B W F FROM LEN`, `block B count V F`, `block B count V F FROM LEN` | W is `bytes`, `lines`, `words` or `sum`, F a file, V 0 to 255, FROM and LEN at most `MAX_FILE_BYTES` |

@@ -42,7 +42,7 @@ any_taken p (suc n) (x ∷ xs) h =
     ⊎_elim (λ here. or_left (p x) (list_any p xs) here) (λ more. or_right (p x) (list_any p xs) (any_taken p n xs more)) (or_cases (p x) (list_any p (take n xs)) h)
 
 -- what stands at a place is among all
-found_any : {X : Type 0} (p : X → Bool) (xs : List X) (i : ℕ) (x : X) → slice_get xs i ≡ Some x → p x ≡ true → list_any p xs ≡ true
+pub found_any : {X : Type 0} (p : X → Bool) (xs : List X) (i : ℕ) (x : X) → slice_get xs i ≡ Some x → p x ≡ true → list_any p xs ≡ true
 found_any p [] i x at h = cc
 found_any p (y ∷ xs) zero x at h = let same : y ≡ x = cc in or_left (p y) (list_any p xs) (ap p same ∙ h)
 found_any p (y ∷ xs) (suc i) x at h = or_right (p y) (list_any p xs) (found_any p xs i x at h)

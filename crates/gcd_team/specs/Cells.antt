@@ -34,7 +34,7 @@ pub record HandsOver (plan : PlanView) (h : List Event) (w : ℕ) (s : Obj) : Ty
   pub value : last_data_of plan (h ++ Deliver w s ∷ []) s.0 ≡ pending_of plan h s.0
   pub total : received_of plan (h ++ Deliver w s ∷ []) s.0 ≡ joined plan s.0 (received_of plan h s.0) (last_data_of plan (h ++ Deliver w s ∷ []) s.0)
 
--- what sources count and add up is small: below 2^48 in a history of 65,535 events
+-- what sources count and add up is small: below 2^63 in the longest history
 pub record TotalsFit (plan : PlanView) (h : List Event) (s : ℕ) : Type 0 where
   pub times : delivery_count_of h s ≤ length h
   pub value : last_data_of plan h s ≤ max_value * length h

@@ -1,21 +1,12 @@
 -- Due times, and what was answered.
-use Rattle.std.proofs.Common.{◌≡◌, ◌≤◌, ◌<◌, ◌+◌, ◌||◌, ℕ, Bool, true, false, List, zero, suc, Some, Result, Ok, Err, if◌then◌else◌, find, arith, reverse}
+use Rattle.std.proofs.Common.{◌≡◌, ◌≤◌, ◌<◌, ◌+◌, ◌||◌, ℕ, true, false, List, Some, Result, Ok, Err, arith, reverse}
 use Rattle.std.specs.Prelude.{OnErr, OnOk, is_err}
-use Rattle.std.specs.List.{range_with_len}
-use Rattle.std.proofs.lemmas.Option.{same_Some}
 use Rattle.gcd_plan.specs.PlanView.{PlanView}
 use Rattle.gcd_event.specs.declared.event.Event.{Event}
 use Rattle.gcd_history.specs.History.{next_due_of}
 use Rattle.gcd_history.specs.Timers.{is_any_due, now}
 use Rattle.gcd_history.specs.Due.{is_any_limit, next_due}
-
-found_low : (p : ℕ → Bool) (a n d : ℕ) → find p (range_with_len a n) ≡ Some d → a ≤ d
-found_low p a zero d found = cc
-found_low p a (suc n) d found =
-    elim (p a) as (λ v. (if v then Some a else find p (range_with_len (a + 1) n)) ≡ Some d → a ≤ d) [
-      | true ↦ λ own. let same : a ≡ d = same_Some a d own in omega arith
-      | false ↦ λ later. let low : a + 1 ≤ d = found_low p (a + 1) n d later in omega arith
-    ] found
+use Rattle.gcd_refinement.proofs.NextDue.{found_low}
 
 -- the next due time is above 0
 pub due_is_ahead : (plan : PlanView) (h : List Event) (due : ℕ) → next_due_of plan h ≡ Some due → 0 < due

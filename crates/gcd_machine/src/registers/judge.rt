@@ -247,7 +247,7 @@ impl Registers {
         }
     }
 
-    // Whether time may come to this moment: it lies ahead, not past the plan's last due time, and a timer or the limit of a
+    // Whether time may come to this moment: it lies ahead, not past `until`, and a timer or the limit of a
     // wait is due by then (dispatch_source_set_timer(3)).
     fn may_tick(&self, at: u32) -> bool
         requires { IsShaped self.now }

@@ -1,7 +1,7 @@
 // Limits of waits: which are ahead, and which waits may expire.
 ghost use Rattle.std.specs.Prelude.{◌≡◌, ◌<◌, ◌≤◌, ◌+◌, Option, ℕ, Some, IfSome, IfNone, length, min, nat_le, true, false, slice_index_or, None};
 ghost use Rattle.std.specs.Option.{option_map_or};
-ghost use Rattle.gcd_soonest.specs.Least.{least};
+ghost use Rattle.gcd_soonest.specs.Least.{earlier, least};
 ghost use Rattle.gcd_refinement.specs.MachineView.{ahead_at, next_due_in};
 ghost use Rattle.gcd_refinement.specs.AfterLimits.{is_reached};
 ghost use Rattle.gcd_plan.specs.declared.reason.Reason.{Reason};
@@ -12,7 +12,7 @@ use super::Registers;
 use gcd_plan::{Blk, Obj, Reason};
 
 // The earlier of two times, where there are two.
-fn earlier(a: Option<u32>, b: Option<u32>) -> Option<u32>
+fn earlier_of(a: Option<u32>, b: Option<u32>) -> Option<u32>
     ensures { result ≡ earlier a b }
 {
     match a {
@@ -24,17 +24,15 @@ fn earlier(a: Option<u32>, b: Option<u32>) -> Option<u32>
     }
 }
 
-ghost use Rattle.gcd_soonest.specs.Least.{earlier};
-
 impl Registers {
     /// The least number above journal time that is a due time of a timer or the limit of a wait that is not over, in milliseconds.
     pub fn next_due(&self) -> Option<u32>
         ensures { result ≡ next_due_in self.now }
     {
-        earlier(self.timers.next_due(), self.ahead.least())
+        earlier_of(self.timers.next_due(), self.ahead.least())
     }
 
-    // The limit of a wait of so many milliseconds that begins now: no later than the last due time (dispatch_semaphore_wait(3),
+    // The limit of a wait of so many milliseconds that begins now: no later than `until` (dispatch_semaphore_wait(3),
     // dispatch_group_wait(3)).
     pub fn limit_of(&self, ms: u32) -> u32
         ensures { result ≡ min (self.now.timers.moment + ms) self.now.plan.until }

@@ -62,7 +62,7 @@ impl Registers {
         }
     }
 
-    // The block sleeps at the object until what it is parked for has come.
+    // The block sleeps at the object until its wait is over.
     pub fn lay_down(&mut self, o: Obj, blk: Blk)
         requires { CanLayDown self.old o blk }
         ensures { self.new ≡ laid_down self.old o blk }
