@@ -21,14 +21,14 @@ use Rattle.gcd_team.proofs.Homes.{what_is_held_after}
 use Rattle.gcd_row.specs.Shapes.{Shape, body, done, shape_of}
 use Rattle.gcd_row.specs.Lying.{slot_of, BodyLies, Lies, HasSlot, HasSlots, IsReadyBody, IsReadyFor, GivesBack}
 use Rattle.gcd_row.specs.Opening.{AreFirst}
-use Rattle.gcd_row.specs.Views.{held_run, seeing}
+use Rattle.gcd_row.specs.Views.{held_run, knowing, known}
 use Rattle.gcd_row.specs.Passes.{IsPassOf, Ahead, IsPlaced, Says, SaysSlots, HasSameNumbers, view, slots}
 use Rattle.gcd_row.specs.declared.put.Put.{Put}
 use Rattle.gcd_row.specs.declared.board.RowBoard.{RowBoard}
 use Rattle.gcd_row.specs.declared.cell.Cell.{Cell}
 use Rattle.gcd_row.specs.declared.cell.Cell.TheVariants.{Body, Done, Handler, Away}
 use Rattle.gcd_row.specs.declared.pass.RowPass.{RowPass}
-use Rattle.gcd_row.specs.declared.put.Put.TheVariants.{Placed, Barred, Full}
+use Rattle.gcd_row.specs.declared.put.Put.TheVariants.{Placed, Barred, Held, Full}
 use Rattle.gcd_row.specs.declared.view.Terms.{Terms}
 use Rattle.gcd_row.specs.declared.view.View.{View}
 use Rattle.gcd_row.proofs.Holding.{head_of}
@@ -55,9 +55,10 @@ ready_at_end shape plan h w b x v is = subst (λ (n : Bool). IsReadyBody shape n
 
 -- what an answer says leaves the numbers as they were
 pub same_numbers : {S : Type 0} (e : Event) (v w : View S) (r : Put) → Says e v w r → HasSameNumbers v w
-same_numbers {S} e v w (Placed n) says = record { worker = ap (λ (x : View S). x.worker) says.is; hands = ap (λ (x : View S). x.hands) says.is }
-same_numbers {S} e v w (Barred at y) says = record { worker = ap (λ (x : View S). x.worker) says.0.is; hands = ap (λ (x : View S). x.hands) says.0.is }
-same_numbers {S} e v w Full says = record { worker = ap (λ (x : View S). x.worker) says.0; hands = ap (λ (x : View S). x.hands) says.0 }
+same_numbers {S} e v w (Placed n) says = record { worker = ap (λ (x : View S). x.worker) says.is; hands = ap (λ (x : View S). x.hands) says.is; passed = ap (λ (x : View S). x.marks.passed) says.is }
+same_numbers {S} e v w (Barred at y) says = record { worker = ap (λ (x : View S). x.worker) says.0.is; hands = ap (λ (x : View S). x.hands) says.0.is; passed = ap (λ (x : View S). x.marks.passed) says.0.is }
+same_numbers {S} e v w (Held by passed) says = record { worker = ap (λ (x : View S). x.worker) says.0.looks.is; hands = ap (λ (x : View S). x.hands) says.0.looks.is; passed = ap (λ (x : View S). x.marks.passed) says.0.looks.is }
+same_numbers {S} e v w Full says = record { worker = ap (λ (x : View S). x.worker) says.0; hands = ap (λ (x : View S). x.hands) says.0; passed = ap (λ (x : View S). x.marks.passed) says.0 }
 
 -- what is at a place of a list
 pub get_slice : {A : Type 0} (l : List A) (k : ℕ) (a : A) → get_elem? l k ≡ some a → slice_get l k ≡ Some a
@@ -105,7 +106,7 @@ module _ {S : Type 0} (shape : S → Shape) (gives : S → ℕ → Type 0) (b : 
     pub held : held_run (view q) ≡ held_run (view p)
     pub same : slots q ≡ slots p
 
-  pub kept_ahead : (p q : RowPass S) → view q ≡ seeing (view p) (view q).seen → Ahead (view p) (view q).seen → slots q ≡ slots p → Kept p q
+  pub kept_ahead : (p q : RowPass S) → view q ≡ knowing (view p) (view q).seen (known (view p) (view q)) → Ahead (view p) (view q).seen → slots q ≡ slots p → Kept p q
   kept_ahead p q is ahead same = record {
     held = (λ i. held_by (is i).terms.plan (view q).seen (is i).worker) ∙ own_events_tell_what_is_held (view p).terms.plan (view q).seen (view p).seen (view p).worker ahead.own;
     same = same;
@@ -124,6 +125,7 @@ module _ {S : Type 0} (shape : S → Shape) (gives : S → ℕ → Type 0) (b : 
   pub kept : (p q : RowPass S) (e : Event) (r : Put) → taken e ≡ None → given (view p).terms.plan e ≡ None → Says e (view p) (view q) r → SaysSlots shape gives e (slots p) (slots q) (view q) r → Kept p q
   kept p q e (Placed n) none nothing says says_slots = kept_placed p q e n none nothing says says_slots
   kept p q e (Barred at y) none nothing says says_slots = kept_ahead p q says.0.is says.0.ahead says_slots
+  kept p q e (Held by passed) none nothing says says_slots = kept_ahead p q says.0.looks.is says.0.looks.ahead says_slots
   kept p q e Full none nothing says says_slots = kept_ahead p q says.0 says.1 says_slots
 
 -- an act that does not park gives no run back

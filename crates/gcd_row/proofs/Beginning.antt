@@ -1,6 +1,8 @@
 -- The rule holds of a new board.
-use Rattle.std.proofs.Common.{◌≡◌, ℕ, zero, suc, List, [], ◌∷◌, length, get_or, map, sym, refl, ap, ◌∙◌, subst, arith, false, Some, None, Option}
+use Rattle.std.proofs.Common.{◌≡◌, ◌+◌, ◌<◌, ◌≤◌, inl, inr, Bool, cond, lt-ltb, le-ltb, ◌++◌, ℕ, zero, suc, List, [], ◌∷◌, length, get_or, map, sym, refl, ap, ◌∙◌, subst, arith, false, Some, None, Option}
 use Rattle.std.specs.Prelude.{slice_get}
+use mathlib.Core.Logic.{dite}
+use native.Mathlib.Decide.{dec_le}
 use mathlib.Core.Option.{some, some-injective, some-ne-none}
 use lib.ListN.{get_elem?}
 use Rattle.atomic_table.specs.Table.{opening}
@@ -8,27 +10,43 @@ use Rattle.atomic_table.proofs.Lists.{at_map}
 use Rattle.gcd_plan.specs.Validity.{IsPlan}
 use Rattle.gcd_plan.specs.declared.numbers.Run.{Run}
 use Rattle.gcd_plan.specs.declared.numbers.Run.TheVariants.{Block, Source}
+use Rattle.gcd_event.specs.Words.{word_of}
 use Rattle.gcd_history.specs.History.{is_ended}
 use Rattle.gcd_history.proofs.LawfulLemmas.{lawful_none}
 use Rattle.gcd_team.specs.Team.{StartsWith}
 use Rattle.gcd_team.proofs.TeamLaws.{nothing_is_held_first}
 use Rattle.gcd_machine.specs.Stands.{StandsFor}
+use Rattle.gcd_row.specs.Ring.{AreFirstWords, first_word, passed_word, gone}
 use Rattle.gcd_row.specs.Shapes.{Shape}
 use Rattle.gcd_row.specs.Lying.{slot_of, BodyLies, Lies, HasSlots}
 use Rattle.gcd_row.specs.Views.{given_terms, opening_view, held_run}
 use Rattle.gcd_row.specs.Opening.{first_shape, AreFirst}
 use Rattle.gcd_row.specs.Rule.{Fits, Heads, Holds}
-use Rattle.gcd_row.specs.Passes.{IsPassOf, view, slots, terms_of}
+use Rattle.gcd_row.specs.Passes.{IsPassOf, MayRead, view, slots, terms_of}
 use Rattle.gcd_row.specs.declared.view.Copies.{Copies}
 use Rattle.gcd_row.specs.declared.view.Terms.{Terms}
 use Rattle.gcd_row.specs.declared.view.View.{View}
 use Rattle.gcd_row.specs.declared.board.RowBoard.{RowBoard}
 use Rattle.gcd_row.specs.declared.pass.RowPass.{RowPass}
 use Rattle.gcd_row.proofs.Fronts.{starts_nil, own_nothing}
+use Rattle.gcd_row.proofs.RowWords.{at_front, at_next}
+use Rattle.gcd_row.proofs.Passing.{nothing_beneath}
 
 not_ended : (b : ℕ) → is_ended [] b ≡ false
 unfolding is_ended
 not_ended b = refl
+
+low_word : (workers i : ℕ) → i < 4097 + workers → first_word workers i ≡ 0
+low_word workers i lt = ap (λ (b : Bool). cond {A = ℕ} b 0 gone) (lt-ltb i (4097 + workers) lt)
+
+high_word : (workers i : ℕ) → 4097 + workers ≤ i → first_word workers i ≡ gone
+high_word workers i le = ap (λ (b : Bool). cond {A = ℕ} b 0 gone) (le-ltb i (4097 + workers) le)
+
+-- one word more
+pub one_more : (workers : ℕ) (words : List ℕ) (i x : ℕ) → length words ≡ i → ((j : ℕ) → j < i → get_or words j 0 ≡ first_word workers j) → x ≡ first_word workers i → (j : ℕ) → j < i + 1 → get_or (words ++ x ∷ []) j 0 ≡ first_word workers j
+one_more workers words i x len all is j lt = dite (dec_le i j)
+    (λ le. let same : j ≡ length words = omega (arith, len, le, lt) in subst (λ (k : ℕ). get_or (words ++ x ∷ []) k 0 ≡ first_word workers k) (sym same) (at_next words x [] ∙ is ∙ ap (first_word workers) (sym len)))
+    (λ not. let low : j < length words = omega (arith, len, not) in at_front words (x ∷ []) j low ∙ all j (omega (arith, not)))
 
 module _ {S : Type 0} where
   one : (v u : View S) (by : ℕ) → get_elem? (v ∷ []) by ≡ some u → (by ≡ 0) × (v ≡ u)
@@ -56,39 +74,62 @@ module _ {S : Type 0} (shape : S → Shape) (gives : S → ℕ → Type 0) where
       subst (λ n. BodyLies shape gives first n c) (sym (not_ended b.0)) (is, λ v may. subst (λ (x : S). gives x v) same may)
   first_lies t (Source s) c at is = is
 
-  pub opens : (key : Copies S) (words : List ℕ) (cells : List S) → key.cells.value.items ≡ cells → IsPlan key.plan.value → AreFirst shape key.plan.value cells → length words ≡ 65536 → ((i : ℕ) → get_or words i 0 ≡ 0) → Holds shape gives key (opening words cells (opening_view key))
-  opens key words cells are valid first size zeros = let v : View S = opening_view key in let t : Terms S = given_terms key in record {
-    history = [];
-    valid = valid;
-    row = record { first = zeros 0; size = size; room = omega arith; cells = λ i. zeros (suc i) };
-    lawful = lawful_none t.plan;
-    slots = record {
-      width = length-map cells ∙ first.width;
-      home = λ r known _. let it = first.first r known in
-          (it.0, at_map some cells (slot_of t.plan r) it.0 it.1, first_lies t r it.0 (subst (λ (l : List S). get_elem? l (slot_of t.plan r) ≡ some it.0) (sym are) it.1) it.2);
-    };
-    knows = record {
-      seen = λ by u e. subst (λ (x : View S). StartsWith [] x.seen) (one v u by e).1 (starts_nil []);
-      told = λ by u e. subst (λ (x : View S). StartsWith [] x.told) (one v u by e).1 (starts_nil []);
-      fits = λ by u e live. subst (Fits t []) (one v u by e).1 (record { terms = refl; own = refl });
-      alone = λ i j a b at_a at_b _ _ _. (one v a i at_a).0 ∙ sym (one v b j at_b).0;
-      head = λ by u e live zero_is. subst (Heads [] (v ∷ [])) (one v u by e).1 (record {
-        fresh = λ w nz none_given. own_nothing w;
-        home = λ w ne. refl;
-        out = λ j x at_x fine nz. absurd (nz (ap (λ (y : View S). y.worker) (sym (one v x j at_x).1)));
-      });
-      whole = (0, v, refl, refl, refl);
-    };
-  }
+  pub opens : (key : Copies S) (words : List ℕ) (cells : List S) → key.cells.value.items ≡ cells → IsPlan key.plan.value → AreFirst shape key.plan.value cells → 0 < key.limits.workers → key.limits.workers ≤ 64 → key.limits.most < 4294967296 → AreFirstWords key.limits.workers words → Holds shape gives key (opening words cells (opening_view key))
+  opens key words cells are valid first some_workers few_workers few_events fresh =
+      let v : View S = opening_view key in
+      let t : Terms S = given_terms key in
+      let low : (i : ℕ) → i < 4097 + t.limits.workers → get_or words i 0 ≡ 0 = λ i lt. fresh.words_at i (omega (arith, lt, few_workers)) ∙ low_word t.limits.workers i lt in
+      let high : (k : ℕ) → t.limits.workers ≤ k → k < 64 → passed_word words k ≡ gone = λ k le lt. fresh.words_at (4097 + k) (omega (arith, lt)) ∙ high_word t.limits.workers (4097 + k) (omega (arith, le)) in record {
+        history = [];
+        valid = valid;
+        bounds = (some_workers, few_workers, few_events);
+        ring = record {
+          first = low 0 (omega arith);
+          size = fresh.size;
+          room = omega arith;
+          held = λ n lt _. absurd (omega (arith, lt));
+          blank = λ n _ lt. low (suc n) (omega (arith, lt));
+        };
+        passed = record {
+          slow = λ k lt. omega arith;
+          rests = λ k lt. dite (dec_le t.limits.workers k) (λ le. inl (high k le lt)) (λ not. inr (inl (low (4097 + k) (omega (arith, not)))));
+          mine = λ by u e live. subst (λ (x : View S). passed_word words x.worker ≡ x.marks.passed) (one v u by e).1 (low 4097 (omega (arith, some_workers)));
+          pair = λ by u e k lt. subst (λ (x : View S). x.marks.floor ≤ passed_word words k) (one v u by e).1 (omega arith);
+          begin = λ by u e live zero_is k nz lt none. low (4097 + k) (omega (arith, lt));
+          beyond = high;
+        };
+        lawful = lawful_none t.plan;
+        slots = record {
+          width = length-map cells ∙ first.width;
+          home = λ r known _. let it = first.first r known in
+              (it.0, at_map some cells (slot_of t.plan r) it.0 it.1, first_lies t r it.0 (subst (λ (l : List S). get_elem? l (slot_of t.plan r) ≡ some it.0) (sym are) it.1) it.2);
+        };
+        knows = record {
+          seen = λ by u e. subst (λ (x : View S). StartsWith [] x.seen) (one v u by e).1 (starts_nil []);
+          told = λ by u e. subst (λ (x : View S). StartsWith [] x.told) (one v u by e).1 (starts_nil []);
+          fits = λ by u e live. subst (Fits t []) (one v u by e).1 (record { terms = refl; own = refl });
+          alone = λ i j a b at_a at_b _ _ _. (one v a i at_a).0 ∙ sym (one v b j at_b).0;
+          head = λ by u e live zero_is. subst (Heads [] (v ∷ [])) (one v u by e).1 (record {
+            fresh = λ w nz none_given. own_nothing w;
+            home = λ w ne. refl;
+            out = λ j x at_x fine nz. absurd (nz (ap (λ (y : View S). y.worker) (sym (one v x j at_x).1)));
+          });
+          whole = (0, v, refl, refl, refl);
+        };
+      }
 
   -- the first pass is one of the board
-  pub first_pass : (b : RowBoard S) (p : RowPass S) → p.seat.table_id ≡ b.table.shared.table_id → p.seat.me ≡ (opening_view b.table.shared.key, []) → p.number ≡ 0 → StandsFor p.machine (terms_of b).plan [] → IsPassOf shape gives b p
-  first_pass b p table me number stands =
+  pub first_pass : (b : RowBoard S) (p : RowPass S) → p.seat.table_id ≡ b.table.shared.table_id → p.seat.me ≡ (opening_view b.table.shared.key, []) → p.number ≡ 0 → p.passed ≡ 0 → p.floor ≡ 0 → p.upto ≡ 64 → p.beneath ≡ None → StandsFor p.machine (terms_of b).plan [] → IsPassOf shape gives b p
+  first_pass b p table me number passed floor upto beneath stands =
       let is : view p ≡ opening_view b.table.shared.key = ap (λ m. m.0) me in
       record {
         table = table;
         terms = ap (λ (x : View S). x.terms) is;
-        unspent = ap (λ (x : View S). x.spent) is;
+        may_read = subst (λ (x : View S). MayRead x) (sym is) (record { unspent = refl; number = omega arith; passed = omega arith });
+        passed = passed ∙ sym (ap (λ (x : View S). x.marks.passed) is);
+        floor = floor ∙ sym (ap (λ (x : View S). x.marks.floor) is);
+        upto = upto ∙ sym (ap (λ (x : View S). x.marks.upto) is);
+        beneath = nothing_beneath p.beneath (map word_of (view p).seen) beneath;
         number = number ∙ sym (ap (λ (x : View S). x.worker) is);
         few = omega (arith, ap (λ (x : View S). length x.seen) is);
         has = subst (λ (x : View S). HasSlots shape gives x.terms x.seen (held_run x) (slots p)) (sym is)

@@ -1,6 +1,5 @@
 -- What a closed table tells of the history that worker 0's pass has seen.
-use Rattle.std.proofs.Common.{◌≡◌, ◌≢◌, ℕ, zero, suc, ◌<◌, List, [], ◌∷◌, ◌++◌, map, length, get_or, set, take, Bool, sym, refl, ap, ◌∙◌, subst, arith, false, Some, None, Option}
-use Rattle.std.specs.Prelude.{MatchOption, IfSome, IfNone}
+use Rattle.std.proofs.Common.{◌≡◌, ◌≢◌, ℕ, zero, suc, ◌+◌, ◌%◌, ◌≤◌, ◌<◌, List, [], ◌∷◌, ◌++◌, map, length, get_or, set, take, Bool, sym, refl, ap, ◌∙◌, subst, arith, false, Some}
 use mathlib.Core.Logic.{dite}
 use mathlib.Core.Option.{some, some-injective, some-ne-none}
 use native.Mathlib.Decide.{ℕ_discrete}
@@ -9,14 +8,15 @@ use Rattle.atomic_table.specs.Table.{Final, Seen}
 use Rattle.gcd_event.specs.declared.event.Event.{Event}
 use Rattle.gcd_event.specs.Fits.{IsFitting}
 use Rattle.gcd_event.specs.Words.{word_of}
-use Rattle.gcd_event.proofs.WordLemmas.{same_from_word}
 use Rattle.gcd_history.specs.Facts.{AllFit}
 use Rattle.gcd_history.proofs.PublicFacts.{all_fit}
 use Rattle.gcd_row.specs.Shapes.{Shape}
 use Rattle.gcd_row.specs.Lying.{slot_of, Lies}
 use Rattle.gcd_row.specs.Views.{given_terms, standing_of}
 use Rattle.gcd_row.specs.Rule.{Knows, Holds}
-use Rattle.gcd_row.specs.Passes.{AtRest}
+use Rattle.gcd_row.specs.Passes.{AtRest, MayRead}
+use Rattle.gcd_row.specs.Ring.{lap}
+use Rattle.gcd_row.proofs.RowWords.{rereads}
 use Rattle.gcd_row.specs.declared.view.Copies.{Copies}
 use Rattle.gcd_row.specs.declared.view.Standing.TheVariants.{Out}
 use Rattle.gcd_row.specs.declared.view.Terms.{Terms}
@@ -31,13 +31,14 @@ module _ {S : Type 0} where
       ap (λ (x : View S). x.seen) (sym (at_once views id w.1 v (subst (λ (n : ℕ). get_elem? views n ≡ some w.1) here w.2) at)) ∙ w.4)
       (λ ne. absurd (all_in w.1.worker ((k.head id v at live head_is).out w.0 w.1 w.2 w.3 ne)))
 
-pub record Closes {S : Type 0} (shape : S → Shape) (gives : S → ℕ → Type 0) (t : Terms S) (h : List Event) (ws : List ℕ) (xs : List S) : Type 0 where
+pub record Closes {S : Type 0} (shape : S → Shape) (gives : S → ℕ → Type 0) (t : Terms S) (h : List Event) (from : ℕ) (ws : List ℕ) (xs : List S) : Type 0 where
+  pub words : (i : ℕ) → from ≤ i → i < length h → get_or ws (suc (i % 4096)) 0 ≡ get_or (map word_of h) i 0 + lap i
   pub fit : AllFit h
-  pub words : (i : ℕ) → get_or ws (suc i) 0 ≡ get_or (map word_of h) i 0
   pub rest : AtRest shape gives t h xs
 
-pub closes : {S : Type 0} (shape : S → Shape) (gives : S → ℕ → Type 0) (key : Copies S) (id : ℕ) (v : View S) (ws : List ℕ) (xs : List S) → Final (Seen (Holds shape gives key) id v) ws xs → v.spent ≡ false → v.worker ≡ 0 → ((w : ℕ) → standing_of v.hands w ≢ Some Out) → Closes shape gives v.terms v.seen ws xs
-closes {S} shape gives key id v ws xs f live head_is all_in =
+pub closes : {S : Type 0} (shape : S → Shape) (gives : S → ℕ → Type 0) (key : Copies S) (id : ℕ) (v : View S) (ws : List ℕ) (xs : List S) → Final (Seen (Holds shape gives key) id v) ws xs → MayRead v → v.worker ≡ 0 → ((w : ℕ) → standing_of v.hands w ≢ Some Out) → Closes shape gives v.terms v.seen v.marks.passed ws xs
+closes {S} shape gives key id v ws xs f ok head_is all_in =
+    let live = ok.unspent in
     let s = f.0 in let k = f.1.0 in let t : Terms S = given_terms key in
     let all : v.seen ≡ k.history = all_seen t k.history s.views id v f.1.1 k.knows live head_is all_in in
     let terms : v.terms ≡ t = (k.knows.fits id v f.1.1 live).terms in
@@ -47,20 +48,23 @@ closes {S} shape gives key id v ws xs f live head_is all_in =
     } in
     record {
       fit = subst AllFit (sym all) (all_fit t.plan k.history k.valid k.lawful);
-      words = λ i. ap (λ (l : List ℕ). get_or l (suc i) 0) (sym f.2) ∙ k.row.cells i ∙ ap (λ (h : List Event). get_or (map word_of h) i 0) (sym all);
+      words = λ i le lt. let slow = k.passed.slow v.worker ok.number in let mine = k.passed.mine id v f.1.1 live in
+          ap (λ (l : List ℕ). get_or l (suc (i % 4096)) 0) (sym f.2) ∙ rereads t.limits.most s.words k.history v.seen i k.ring (k.knows.seen id v f.1.1) lt (omega (arith, slow, mine, le));
       rest = subst (λ (q : Terms S). AtRest shape gives q v.seen xs) (sym terms) (subst (λ (h : List Event). AtRest shape gives t h xs) (sym all) at_rest);
     }
 
--- the event that was read is the next of the history
-next_of : (h : List Event) (i : ℕ) (r : Option Event) → AllFit h → i < length h → IfSome r (λ e. IsFitting e × (word_of e ≡ get_or (map word_of h) i 0)) → IfNone r ((e : Event) → IsFitting e → word_of e ≢ get_or (map word_of h) i 0) → MatchOption r ⊥ (λ e. take (suc i) h ≡ take i h ++ e ∷ [])
-next_of [] i r ok lt some_is none_is = absurd (omega arith)
-next_of (x ∷ h) zero None ok lt some_is none_is = none_is x (ok 0 x refl) refl
-next_of (x ∷ h) zero (Some e) ok lt some_is none_is = ap (λ (y : Event). y ∷ []) (same_from_word x e (ok 0 x refl) some_is.0 (sym some_is.1))
-next_of (x ∷ h) (suc i) None ok lt some_is none_is = next_of h i None (λ j e at. ok (suc j) e at) (omega arith) some_is none_is
-next_of (x ∷ h) (suc i) (Some e) ok lt some_is none_is = ap (λ (l : List Event). x ∷ l) (next_of h i (Some e) (λ j y at. ok (suc j) y at) (omega arith) some_is none_is)
+-- the event at a place of a history
+pub record IsAt (h : List Event) (i : ℕ) : Type 0 where
+  pub event : Event
+  pub fits : IsFitting event
+  pub word : get_or (map word_of h) i 0 ≡ word_of event
+  pub next : take (suc i) h ≡ take i h ++ event ∷ []
 
-pub reads_next : (h : List Event) (i n : ℕ) (r : Option Event) → AllFit h → i < length h → n ≡ get_or (map word_of h) i 0 → IfSome r (λ e. IsFitting e × (word_of e ≡ n)) → IfNone r ((e : Event) → IsFitting e → word_of e ≢ n) → MatchOption r ⊥ (λ e. take (suc i) h ≡ take i h ++ e ∷ [])
-reads_next h i n r fit lt is some_is none_is = next_of h i r fit lt (subst (λ (m : ℕ). IfSome r (λ e. IsFitting e × (word_of e ≡ m))) is some_is) (subst (λ (m : ℕ). IfNone r ((e : Event) → IsFitting e → word_of e ≢ m)) is none_is)
+pub event_at : (h : List Event) (i : ℕ) → AllFit h → i < length h → IsAt h i
+event_at [] i ok lt = absurd (omega arith)
+event_at (x ∷ h) zero ok lt = record { event = x; fits = ok 0 x refl; word = refl; next = refl }
+event_at (x ∷ h) (suc i) ok lt = let r = event_at h i (λ j e at. ok (suc j) e at) (omega arith) in
+    record { event = r.event; fits = r.fits; word = r.word; next = ap (λ (l : List Event). x ∷ l) r.next }
 
 pub at_value : (l : List ℕ) (i n : ℕ) → get_elem? l i ≡ some n → n ≡ get_or l i 0
 at_value [] i n e = absurd (some-ne-none n (sym e))

@@ -1,12 +1,14 @@
 pub mod Fronts
 pub mod RowWords
+pub mod Marking
+pub mod Parted
+pub mod Scanning
 pub mod Seen
 pub mod Totals
 mod RowsOfTotals
 pub mod Running
 pub mod Holding
 pub mod Landing
-pub mod Decoding
 pub mod Parting
 pub mod Keeping
 pub mod Onward
@@ -17,4 +19,5 @@ pub mod Ending
 pub mod Merging
 pub mod SourceSlots
 pub mod AfterPut
+pub mod Gathered
 pub mod Tallies

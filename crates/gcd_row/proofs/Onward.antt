@@ -1,17 +1,17 @@
 -- One event more in a loop, and in what a pass is.
-use Rattle.std.proofs.Common.{◌≡◌, ◌≢◌, ℕ, ◌+◌, ◌<◌, List, [], ◌∷◌, ◌++◌, length, sym, refl, ap, ◌∙◌, subst, arith, length-append, None, false, ne_eqb}
-use Rattle.gcd_plan.specs.Limits.{max_events}
+use Rattle.std.proofs.Common.{◌≡◌, ◌≢◌, ℕ, Some, Option, ◌+◌, ◌<◌, ◌≤◌, List, [], ◌∷◌, ◌++◌, length, sym, refl, ap, ◌∙◌, subst, arith, length-append, None, false, ne_eqb}
 use Rattle.gcd_event.specs.declared.event.Event.{Event}
 use Rattle.gcd_history.specs.Choice.{worker_of}
 use Rattle.gcd_history.specs.History.{why}
 use Rattle.gcd_team.specs.Held.{is_of}
 use Rattle.gcd_team.specs.Team.{of_worker, StartsWith}
+use Rattle.gcd_row.specs.declared.view.Marks.{Marks}
 use Rattle.gcd_row.specs.declared.view.View.{View}
 use Rattle.gcd_row.specs.declared.put.Put.{Put}
-use Rattle.gcd_row.specs.declared.put.Put.TheVariants.{Placed, Barred, Full}
-use Rattle.gcd_row.specs.Views.{seeing}
+use Rattle.gcd_row.specs.declared.put.Put.TheVariants.{Placed, Barred, Held, Full}
+use Rattle.gcd_row.specs.Views.{saw, seeing, knowing, known, passing}
 use Rattle.gcd_row.specs.Plays.{SeesMore}
-use Rattle.gcd_row.specs.Passes.{Ahead, Learnt, IsPlaced, Says}
+use Rattle.gcd_row.specs.Passes.{Ahead, Learnt, LearntOn, Looks, IsHolder, IsPlaced, Says, Knew, Turns}
 use Rattle.gcd_row.proofs.Fronts.{starts_refl, starts_trans, starts_more, own_more}
 
 -- an event of another worker is not this one's
@@ -31,60 +31,123 @@ module _ {S : Type 0} where
   pub stays_ahead : (v : View S) → Ahead v v.seen
   stays_ahead v = record { more = starts_refl v.seen; own = refl }
 
-  pub further : (v u w : View S) → u ≡ seeing v u.seen → Ahead v u.seen → Ahead u w.seen → Ahead v w.seen
+  pub further : (v u w : View S) → u ≡ knowing v u.seen (known v u) → Ahead v u.seen → Ahead u w.seen → Ahead v w.seen
   further v u w is a b = record {
     more = starts_trans w.seen u.seen v.seen b.more a.more;
     own = subst (λ (k : ℕ). of_worker k w.seen ≡ of_worker k u.seen) (ap (λ (y : View S). y.worker) is) b.own ∙ a.own;
   }
 
-  -- a loop that has come from v to u, and now to w
+  -- a pass that has seen this, and whose own passed word is as v knows it
+  pub knows_as : (v w : View S) (h : List Event) (m : Marks) → w ≡ knowing v h m → m.passed ≡ v.marks.passed → w ≡ knowing v h (known v w)
+  knows_as v w h m is own =
+      let same : m ≡ passing m v.marks.passed = ap (passing m) own in
+      is ∙ ap (knowing v h) same ∙ ap (λ (y : View S). knowing v h (known v y)) (sym is)
+
+  -- a loop that has come from v to w
   pub record Onward (v w : View S) (n : ℕ) : Type 0 where
     pub place : n ≡ length w.seen
-    pub known : w ≡ seeing v w.seen
+    pub known : w ≡ knowing v w.seen (known v w)
     pub ahead : Ahead v w.seen
+    pub loads : v.marks.loads ≤ w.marks.loads
 
-  pub onward : (v u w : View S) (n : ℕ) → n ≡ length u.seen → u ≡ seeing v u.seen → Ahead v u.seen → Learnt u w → Onward v w (n + 1)
-  onward v u w n len is a l =
+  pub onward_on : (v u w : View S) (n : ℕ) → n ≡ length u.seen → u ≡ knowing v u.seen (known v u) → Ahead v u.seen → v.marks.loads ≤ u.marks.loads → LearntOn u w → Onward v w (n + 1)
+  onward_on v u w n len is a few l =
       let w_seen : w.seen ≡ u.seen ++ l.event ∷ [] = ap (λ (y : View S). y.seen) l.is in
       record {
         place = omega (arith, ap length w_seen, length-append u.seen (l.event ∷ []));
-        known = l.is ∙ ap (λ (y : View S). seeing y (u.seen ++ l.event ∷ [])) is ∙ ap (seeing v) (sym w_seen);
+        known = l.is ∙ ap (λ (y : View S). knowing y (u.seen ++ l.event ∷ []) (known y w)) is ∙ ap (λ (h : List Event). knowing v h (known v w)) (sym w_seen);
         ahead = further v u w is a l.ahead;
+        loads = omega (arith, few, l.loads);
       }
 
-  -- the event that was placed in the loop
-  pub placed : (e : Event) (v u w : View S) (n : ℕ) → n ≡ length u.seen → n < max_events → u ≡ seeing v u.seen → Ahead v u.seen → worker_of e ≡ v.worker → why u.terms.plan u.seen e ≡ None → w ≡ seeing u (u.seen ++ e ∷ []) → IsPlaced e v w n
-  placed e v u w n len room is a mine may now =
-      let w_seen : w.seen ≡ u.seen ++ e ∷ [] = ap (λ (y : View S). y.seen) now in
+  -- one event more, with the same of the passed words
+  pub learnt_on : (v w : View S) → Learnt v w → LearntOn v w
+  learnt_on v w l = record {
+    event = l.event;
+    is = l.is ∙ (λ i. knowing v (v.seen ++ l.event ∷ []) (known v (sym l.is i)));
+    loads = let same : w.marks.loads ≡ v.marks.loads = ap (λ (y : View S). y.marks.loads) l.is in omega (arith, same);
+    ahead = l.ahead;
+    may = l.may;
+    other = l.other;
+  }
+
+  pub onward : (v u w : View S) (n : ℕ) → n ≡ length u.seen → u ≡ seeing v u.seen → Ahead v u.seen → Learnt u w → (n + 1 ≡ length w.seen) × (w ≡ seeing v w.seen) × Ahead v w.seen
+  onward v u w n len is a l =
+      let w_seen : w.seen ≡ u.seen ++ l.event ∷ [] = ap (λ (y : View S). y.seen) l.is in (
+        omega (arith, len, ap length w_seen, length-append u.seen (l.event ∷ [])),
+        l.is ∙ ap (λ (y : View S). seeing y (u.seen ++ l.event ∷ [])) is ∙ ap (seeing v) (sym w_seen),
+        further v u w (is ∙ (λ i. knowing v u.seen (known v (sym is i)))) a l.ahead,
+      )
+
+  -- the event that was placed at once
+  pub placed_here : (e : Event) (v w : View S) (n : ℕ) → n ≡ length v.seen → n < v.terms.limits.most → worker_of e ≡ v.worker → why v.terms.plan v.seen e ≡ None → w ≡ saw v e → IsPlaced e v w n
+  placed_here e v w n len room mine may is =
+      let w_seen : w.seen ≡ v.seen ++ e ∷ [] = ap (λ (y : View S). y.seen) is in
       record {
-        history = u.seen;
-        ahead = a;
+        history = v.seen;
+        ahead = stays_ahead v;
         place = len;
         room = room;
-        may = subst (λ (y : View S). why y.terms.plan u.seen e ≡ None) is may;
-        is = now ∙ ap (λ (y : View S). seeing y (u.seen ++ e ∷ [])) is;
-        own = ap (of_worker v.worker) w_seen ∙ own_more v.worker u.seen e mine ∙ ap (λ (l : List Event). l ++ e ∷ []) a.own;
+        may = may;
+        is = is ∙ (λ i. knowing v (v.seen ++ e ∷ []) (known v (sym is i)));
+        own = ap (of_worker v.worker) w_seen ∙ own_more v.worker v.seen e mine;
       }
 
-  -- what an answer says after one event more was seen, it says of what was seen before
-  pub says_on : (e : Event) (v u w : View S) (r : Put) → Learnt v u → Says e u w r → Says e v w r
-  says_on e v u w r l says = go (subst (Ahead v) (ap (λ (y : View S). y.seen) l.is) l.ahead) r (subst (λ (y : View S). Says e y w r) l.is says)
-    where
-      h : List Event
-      h = v.seen ++ l.event ∷ []
+  looks_on : (v u w : View S) → u ≡ knowing v u.seen (known v u) → Ahead v u.seen → Looks u w → Looks v w
+  looks_on v u w is a l = record {
+    is = l.is ∙ ap (λ (y : View S). knowing y w.seen (known y w)) is;
+    ahead = further v u w is a l.ahead;
+    told = subst (StartsWith w.seen) (ap (λ (y : View S). y.told) is) l.told;
+    fresh = l.fresh;
+  }
 
-      on : Ahead v h → (g : List Event) → Ahead (seeing v h) g → Ahead v g
-      on a g b = record { more = starts_trans g h v.seen b.more a.more; own = b.own ∙ a.own }
+  holder_on : (v u w : View S) (by passed : ℕ) → u ≡ knowing v u.seen (known v u) → v.marks.loads ≤ u.marks.loads → IsHolder u w by passed → IsHolder v w by passed
+  holder_on v u w by passed is few p = record {
+    worker = subst (λ (z : View S). by < z.terms.limits.workers) is p.worker;
+    lap_ago = p.lap_ago;
+    loaded = omega (arith, few, p.loaded);
+    held = p.held;
+    below = p.below;
+    lowest = p.lowest;
+    mine = subst (λ (z : View S). by ≡ z.worker → passed ≡ z.marks.passed) is p.mine;
+  }
 
-      go : Ahead v h → (r : Put) → Says e (seeing v h) w r → Says e v w r
-      go a (Placed n) p = record {
-        history = p.history;
-        ahead = on a p.history p.ahead;
-        place = p.place;
-        room = p.room;
-        may = p.may;
-        is = p.is;
-        own = p.own ∙ ap (λ (k : List Event). k ++ e ∷ []) a.own;
-      }
-      go a (Barred at y) p = (record { is = p.0.is; ahead = on a w.seen p.0.ahead; told = p.0.told; fresh = p.0.fresh }, p.1, p.2, p.3)
-      go a Full p = (p.0, on a w.seen p.1, p.2)
+  -- what an answer says after more was seen, it says of what was seen before
+  pub says_on : (e : Event) (v u w : View S) (r : Put) → u ≡ knowing v u.seen (known v u) → Ahead v u.seen → v.marks.loads ≤ u.marks.loads → Says e u w r → Says e v w r
+  says_on e v u w (Placed n) is a few p = record {
+    history = p.history;
+    ahead = record { more = starts_trans p.history u.seen v.seen p.ahead.more a.more; own = subst (λ (k : ℕ). of_worker k p.history ≡ of_worker k u.seen) (ap (λ (y : View S). y.worker) is) p.ahead.own ∙ a.own };
+    place = p.place;
+    room = subst (λ (y : View S). n < y.terms.limits.most) is p.room;
+    may = subst (λ (y : View S). why y.terms.plan p.history e ≡ None) is p.may;
+    is = p.is ∙ ap (λ (y : View S). knowing y (p.history ++ e ∷ []) (known y w)) is;
+    own = subst (λ (k : ℕ). of_worker k w.seen ≡ of_worker k u.seen ++ e ∷ []) (ap (λ (y : View S). y.worker) is) p.own ∙ ap (λ (k : List Event). k ++ e ∷ []) a.own;
+  }
+  says_on e v u w (Barred at y) is a few p = (looks_on v u w is a p.0, p.1, subst (λ (z : View S). at < z.terms.limits.most) is p.2, subst (λ (z : View S). why z.terms.plan w.seen e ≡ Some y) is p.3)
+  says_on e v u w (Held by passed) is a few p = (
+    record {
+      looks = looks_on v u w is a p.0.looks;
+      room = subst (λ (z : View S). length w.seen < z.terms.limits.most) is p.0.room;
+      holder = holder_on v u w by passed is few p.0.holder;
+    },
+    subst (λ (z : View S). why z.terms.plan w.seen e ≡ None) is p.1,
+  )
+  says_on e v u w Full is a few p = (p.0 ∙ ap (λ (y : View S). knowing y w.seen (known y w)) is, further v u w is a p.1, subst (λ (z : View S). length w.seen ≡ z.terms.limits.most) is p.2)
+
+  -- what a turn says after the pass has learnt more of the passed words
+  pub turns_on : (e : Event) (v u w : View S) (r : Option Put) → Knew v u → Turns e u w r → Turns e v w r
+  turns_on e v u w None k l = record {
+    event = l.event;
+    is = l.is ∙ ap (λ (y : View S). knowing y (y.seen ++ l.event ∷ []) (known y w)) k.is;
+    loads = omega (arith, k.loads, l.loads);
+    ahead = let a = subst (λ (y : View S). Ahead y w.seen) k.is l.ahead in record { more = a.more; own = a.own };
+    may = subst (λ (y : View S). why y.terms.plan y.seen l.event ≡ None) k.is l.may;
+    other = subst (λ (y : View S). worker_of l.event ≢ y.worker) k.is l.other;
+  }
+  turns_on e v u w (Some r) k says =
+      let seen : u.seen ≡ v.seen = ap (λ (y : View S). y.seen) k.is in
+      says_on e v u w r (k.is ∙ (λ i. knowing v (sym seen i) (known v u))) (subst (Ahead v) (sym seen) (stays_ahead v)) k.loads says
+
+  -- where one event more was seen, the pass is known by that
+  pub learnt_is : (v w : View S) → LearntOn v w → w ≡ knowing v w.seen (known v w)
+  learnt_is v w l = l.is ∙ ap (λ (h : List Event). knowing v h (known v w)) (sym (ap (λ (y : View S). y.seen) l.is))

@@ -17,19 +17,19 @@ use Rattle.gcd_row.specs.Views.{standing_of, spent_view, lending, newcomer, long
 use Rattle.gcd_row.proofs.Fronts.{starts_refl, starts_nil, starts_length, starts_whole, starts_shorter, between}
 use Rattle.gcd_row.proofs.Seen.{at_short, at_once}
 
-at_end : {A : Type 0} (l : List A) (a b : A) (j : ℕ) → get_elem? (l ++ a ∷ []) j ≡ some b → (get_elem? l j ≡ some b) ⊎ ((j ≡ length l) × (a ≡ b))
+pub at_end : {A : Type 0} (l : List A) (a b : A) (j : ℕ) → get_elem? (l ++ a ∷ []) j ≡ some b → (get_elem? l j ≡ some b) ⊎ ((j ≡ length l) × (a ≡ b))
 at_end [] a b zero e = inr (refl, some-injective a b e)
 at_end [] a b (suc j) e = absurd (some-ne-none b (sym e))
 at_end (x ∷ xs) a b zero e = inl e
 at_end (x ∷ xs) a b (suc j) e = ⊎_elim (λ (t : get_elem? xs j ≡ some b). inl t) (λ (t : (j ≡ length xs) × (a ≡ b)). inr (ap suc t.0, t.1)) (at_end xs a b j e)
 
-standing_same : (l : List (ℕ × Standing)) (w : ℕ) (s : Standing) (n : ℕ) → w ≡ n → standing_of ((w, s) ∷ l) n ≡ Some s
+pub standing_same : (l : List (ℕ × Standing)) (w : ℕ) (s : Standing) (n : ℕ) → w ≡ n → standing_of ((w, s) ∷ l) n ≡ Some s
 standing_same l w s n e = ap (λ (b : Bool). cond b (Some s) (standing_of l n)) (eq-eqb w n e)
 
 pub standing_other : (l : List (ℕ × Standing)) (w : ℕ) (s : Standing) (n : ℕ) → w ≢ n → standing_of ((w, s) ∷ l) n ≡ standing_of l n
 standing_other l w s n e = ap (λ (b : Bool). cond b (Some s) (standing_of l n)) (ne_eqb w n e)
 
-some_not_none : (o : Option Standing) (s : Standing) → o ≡ Some s → o ≡ None → ⊥
+pub some_not_none : (o : Option Standing) (s : Standing) → o ≡ Some s → o ≡ None → ⊥
 some_not_none o s it gone = cc
 
 off : (b : Bool) → b ≡ true → b ≡ false → ⊥
@@ -97,7 +97,7 @@ module _ {S : Type 0} (p : Terms S) (log : List Event) (views : List (View S)) (
         (λ ne. (old.0, old.1, far old.0 old.1 (set_else views id old.0 (lending v n) ne ∙ old.2), old.3, old.4));
   }
 
-longer_left : (w a b : List Event) → StartsWith w a → StartsWith w b → StartsWith (longer a b) a
+pub longer_left : (w a b : List Event) → StartsWith w a → StartsWith w b → StartsWith (longer a b) a
 longer_left w a b s t = dite (dec_le (length b) (length a))
     (λ le. subst (λ (c : Bool). StartsWith (cond c b a) a) (sym (le-ltb (length a) (length b) le)) (starts_refl a))
     (λ not. let lt : length a < length b = omega arith in let le : length a ≤ length b = omega arith in subst (λ (c : Bool). StartsWith (cond c b a) a) (sym (lt-ltb (length a) (length b) lt)) (starts_shorter w a b s t le))

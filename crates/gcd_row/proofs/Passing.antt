@@ -1,23 +1,34 @@
 -- A pass of a board stays one as it sees more.
-use Rattle.std.proofs.Common.{◌≡◌, ℕ, ◌<◌, [], ◌∷◌, ◌++◌, length, sym, ap, ◌∙◌, subst, arith, length-append, None}
-use Rattle.gcd_plan.specs.Limits.{max_events}
+use Rattle.std.proofs.Common.{◌≡◌, ℕ, ◌<◌, ◌≤◌, List, [], ◌∷◌, ◌++◌, map, length, Option, sym, ap, ◌∙◌, subst, arith, length-append, None}
+use Rattle.std.specs.Prelude.{IfSome}
 use Rattle.gcd_plan.specs.Validity.{IsPlan}
 use Rattle.gcd_event.specs.declared.event.Event.{Event}
+use Rattle.gcd_event.specs.Words.{word_of}
 use Rattle.gcd_history.specs.Choice.{worker_of}
+use Rattle.gcd_history.specs.Facts.{AllFit}
 use Rattle.gcd_history.specs.History.{why, IsLawful}
+use Rattle.gcd_history.proofs.PublicFacts.{all_fit}
 use Rattle.gcd_machine.specs.Stands.{StandsFor}
 use Rattle.gcd_machine.proofs.Shown.{lawful_stands, valid_stands}
 use Rattle.gcd_team.specs.Team.{held_by}
+use Rattle.gcd_row.specs.Ring.{under}
 use Rattle.gcd_row.specs.Shapes.{Shape}
 use Rattle.gcd_row.specs.Lying.{HasSlots, GivesBack}
 use Rattle.gcd_row.specs.Views.{saw, held_run}
 use Rattle.gcd_row.specs.Plays.{SeesMore, Turned, LaysBack}
-use Rattle.gcd_row.specs.Passes.{IsPassOf, Learnt, view, slots}
+use Rattle.gcd_row.specs.Passes.{IsPassOf, MayRead, LearntOn, view, slots}
 use Rattle.gcd_row.specs.declared.board.RowBoard.{RowBoard}
 use Rattle.gcd_row.specs.declared.pass.RowPass.{RowPass}
 use Rattle.gcd_row.specs.declared.view.View.{View}
 use Rattle.gcd_row.proofs.Holding.{has_more, has_own, lays_back, back_waits}
 use Rattle.gcd_row.proofs.Onward.{of_another}
+
+-- what is known of the next cell, where that is nothing, and where no more was seen
+pub nothing_beneath : (o : Option ℕ) (h : List ℕ) → o ≡ None → IfSome o (λ x. x ≡ under h)
+nothing_beneath o h is = subst (λ (o : Option ℕ). IfSome o (λ x. x ≡ under h)) (sym is) tt
+
+pub same_beneath : (o r : Option ℕ) (g h : List Event) → IfSome o (λ x. x ≡ under (map word_of g)) → r ≡ o → h ≡ g → IfSome r (λ x. x ≡ under (map word_of h))
+same_beneath o r g h old same seen = subst (λ (r : Option ℕ). IfSome r (λ x. x ≡ under (map word_of h))) (sym same) (subst (λ (h : List Event). IfSome o (λ x. x ≡ under (map word_of h))) (sym seen) old)
 
 module _ {S : Type 0} (shape : S → Shape) (gives : S → ℕ → Type 0) (b : RowBoard S) where
   pub lawful_seen : (p : RowPass S) → IsPassOf shape gives b p → IsLawful (view p).terms.plan (view p).seen
@@ -26,36 +37,51 @@ module _ {S : Type 0} (shape : S → Shape) (gives : S → ℕ → Type 0) (b : 
   pub valid_plan : (p : RowPass S) → IsPassOf shape gives b p → IsPlan (view p).terms.plan
   valid_plan p is = valid_stands p.machine (view p).terms.plan (view p).seen is.stands
 
+  pub fits_seen : (p : RowPass S) → IsPassOf shape gives b p → AllFit (view p).seen
+  fits_seen p is = all_fit (view p).terms.plan (view p).seen (valid_plan p is) (lawful_seen p is)
+
+  -- the numbers of the pass are as they were, and it knows nothing of the next cell
+  pub record HasSameWords (p q : RowPass S) : Type 0 where
+    pub number : q.number ≡ p.number
+    pub passed : q.passed ≡ p.passed
+    pub floor : q.floor ≡ p.floor
+    pub upto : q.upto ≡ p.upto
+    pub beneath : q.beneath ≡ None
+
   -- one event more, and the slots by it
-  goes_on : (p q : RowPass S) (e : Event) → IsPassOf shape gives b p → view q ≡ saw (view p) e → length (view p).seen < max_events → q.seat.table_id ≡ p.seat.table_id → q.number ≡ p.number
+  goes_on : (p q : RowPass S) (e : Event) → IsPassOf shape gives b p → view q ≡ saw (view p) e → length (view p).seen < (view p).terms.limits.most → q.seat.table_id ≡ p.seat.table_id → HasSameWords p q
       → HasSlots shape gives (view p).terms ((view p).seen ++ e ∷ []) (held_by (view p).terms.plan ((view p).seen ++ e ∷ []) (view p).worker) (slots q)
       → StandsFor q.machine (view p).terms.plan ((view p).seen ++ e ∷ []) → IsPassOf shape gives b q
-  goes_on p q e is now room table number has stands = record {
+  goes_on p q e is now room table words has stands = record {
     table = table ∙ is.table;
     terms = ap (λ (x : View S). x.terms) now ∙ is.terms;
-    unspent = ap (λ (x : View S). x.spent) now ∙ is.unspent;
-    number = number ∙ is.number ∙ sym (ap (λ (x : View S). x.worker) now);
-    few = omega (arith, ap (λ (x : View S). length x.seen) now, length-append (view p).seen (e ∷ []));
+    may_read = subst (λ (x : View S). MayRead x) (sym now) (record { unspent = is.may_read.unspent; number = is.may_read.number; passed = omega (arith, is.may_read.passed, length-append (view p).seen (e ∷ [])) });
+    number = words.number ∙ is.number ∙ sym (ap (λ (x : View S). x.worker) now);
+    passed = words.passed ∙ is.passed ∙ sym (ap (λ (x : View S). x.marks.passed) now);
+    floor = words.floor ∙ is.floor ∙ sym (ap (λ (x : View S). x.marks.floor) now);
+    upto = words.upto ∙ is.upto ∙ sym (ap (λ (x : View S). x.marks.upto) now);
+    beneath = nothing_beneath q.beneath (map word_of (view q).seen) words.beneath;
+    few = subst (λ (x : View S). length x.seen ≤ x.terms.limits.most) (sym now) (omega (arith, room, length-append (view p).seen (e ∷ [])));
     has = subst (λ (x : View S). HasSlots shape gives x.terms x.seen (held_run x) (slots q)) (sym now) has;
     stands = subst (λ (x : View S). StandsFor q.machine x.terms.plan x.seen) (sym now) stands;
   }
 
   -- another's event
-  pub sees_another : (p q : RowPass S) (e : Event) → IsPassOf shape gives b p → SeesMore (view p) e (view q) → length (view p).seen < max_events → q.seat.table_id ≡ p.seat.table_id → q.number ≡ p.number → slots q ≡ slots p
+  pub sees_another : (p q : RowPass S) (e : Event) → IsPassOf shape gives b p → SeesMore (view p) e (view q) → length (view p).seen < (view p).terms.limits.most → q.seat.table_id ≡ p.seat.table_id → HasSameWords p q → slots q ≡ slots p
       → StandsFor q.machine (view p).terms.plan ((view p).seen ++ e ∷ []) → IsPassOf shape gives b q
-  sees_another p q e is s room table number same stands =
+  sees_another p q e is s room table words same stands =
       let v = view p in
-      goes_on p q e is s.view room table number
+      goes_on p q e is s.view room table words
       (subst (HasSlots shape gives v.terms (v.seen ++ e ∷ []) (held_by v.terms.plan (v.seen ++ e ∷ []) v.worker)) (sym same)
       (has_more shape gives v.terms v.seen e v.worker (slots p) (lawful_seen p is) s.may (of_another v.worker e s.other) is.has)) stands
 
   -- its own event
-  pub places_own : (p q : RowPass S) (e : Event) → IsPassOf shape gives b p → view q ≡ saw (view p) e → length (view p).seen < max_events → q.seat.table_id ≡ p.seat.table_id → q.number ≡ p.number
+  pub places_own : (p q : RowPass S) (e : Event) → IsPassOf shape gives b p → view q ≡ saw (view p) e → length (view p).seen < (view p).terms.limits.most → q.seat.table_id ≡ p.seat.table_id → HasSameWords p q
       → worker_of e ≡ (view p).worker → why (view p).terms.plan (view p).seen e ≡ None → Turned shape gives (view p).terms (view p).seen e (slots p) (slots q)
       → StandsFor q.machine (view p).terms.plan ((view p).seen ++ e ∷ []) → IsPassOf shape gives b q
-  places_own p q e is now room table number mine may turned stands =
+  places_own p q e is now room table words mine may turned stands =
       let v = view p in
-      goes_on p q e is now room table number
+      goes_on p q e is now room table words
       (subst (λ (w : ℕ). HasSlots shape gives v.terms (v.seen ++ e ∷ []) (held_by v.terms.plan (v.seen ++ e ∷ []) w) (slots q)) mine
       (has_own shape gives v.terms v.seen e (slots p) (slots q) (lawful_seen p is) may turned
       (subst (λ (w : ℕ). HasSlots shape gives v.terms v.seen (held_by v.terms.plan v.seen w) (slots p)) (sym mine) is.has))) stands
@@ -67,8 +93,8 @@ module _ {S : Type 0} (shape : S → Shape) (gives : S → ℕ → Type 0) (b : 
       lays_back shape gives v.terms v.seen e (slots p) (lawful_seen p is) may (subst (λ (w : ℕ). HasSlots shape gives v.terms v.seen (held_by v.terms.plan v.seen w) (slots p)) (sym mine) is.has) back
 
   -- what is ready to be given back stays so while others go on
-  pub back_stays : (p q : RowPass S) (e : Event) → IsPassOf shape gives b p → Learnt (view p) (view q) → slots q ≡ slots p → GivesBack shape (view p).terms (view p).seen e (slots p) → GivesBack shape (view q).terms (view q).seen e (slots q)
-  back_stays p q e is l same back =
+  pub back_stays_on : (p q : RowPass S) (e : Event) → IsPassOf shape gives b p → LearntOn (view p) (view q) → slots q ≡ slots p → GivesBack shape (view p).terms (view p).seen e (slots p) → GivesBack shape (view q).terms (view q).seen e (slots q)
+  back_stays_on p q e is l same back =
       let v = view p in
       subst (λ (x : View S). GivesBack shape x.terms x.seen e (slots q)) (sym l.is)
       (subst (GivesBack shape v.terms (v.seen ++ l.event ∷ []) e) (sym same) (back_waits shape gives v.terms v.seen e l.event v.worker (slots p) (lawful_seen p is) l.may is.has back))

@@ -5,6 +5,7 @@ pub mod Shapes
 pub mod Totals
 pub mod Lying
 pub mod Views
+pub mod Ring
 pub mod Opening
 pub mod Rule
 pub mod Plays

@@ -1,27 +1,34 @@
 -- What the calls of a board ask of a pass, and what they do to it.
-use Rattle.std.specs.Prelude.{◌≡◌, ◌≢◌, ◌<◌, ◌≤◌, ℕ, Bool, true, false, List, [], ◌∷◌, ◌++◌, length, Some, None}
+use Rattle.std.specs.Prelude.{◌≡◌, ◌≢◌, ◌<◌, ◌≤◌, ◌+◌, ℕ, Option, false, List, [], ◌∷◌, ◌++◌, map, length, take, Some, None, IfSome}
 use mathlib.Core.Option.{some}
 use lib.ListN.{get_elem?}
-use Rattle.gcd_plan.specs.Limits.{max_events}
 use Rattle.gcd_plan.specs.PlanView.{IsRun}
 use Rattle.gcd_plan.specs.declared.numbers.Run.{Run}
 use Rattle.gcd_event.specs.declared.event.Event.{Event}
+use Rattle.gcd_event.specs.Words.{word_of}
 use Rattle.gcd_history.specs.Choice.{worker_of}
 use Rattle.gcd_history.specs.History.{why}
 use Rattle.gcd_refinement.specs.MachineView.{MachineView}
 use Rattle.gcd_machine.specs.Stands.{StandsFor}
 use Rattle.gcd_team.specs.Team.{of_worker, StartsWith}
 use Rattle.gcd_team.specs.TeamFacts.{IsNobodys}
+use Rattle.gcd_row.specs.Ring.{under}
 use Rattle.gcd_row.specs.Shapes.{Shape}
 use Rattle.gcd_row.specs.Lying.{slots_of, slot_of, Lies, HasSlots}
-use Rattle.gcd_row.specs.Views.{given_terms, held_run, seeing, hearing, merging}
-use Rattle.gcd_row.specs.Plays.{KnowsFresh, EndsHere, Turned}
+use Rattle.gcd_row.specs.Views.{given_terms, held_run, knowing, known, seeing, hearing, merging}
+use Rattle.gcd_row.specs.Plays.{KnowsFresh, Turned}
 use Rattle.gcd_row.specs.declared.view.Terms.{Terms}
 use Rattle.gcd_row.specs.declared.view.View.{View}
 use Rattle.gcd_row.specs.declared.pass.RowPass.{RowPass}
 use Rattle.gcd_row.specs.declared.board.RowBoard.{RowBoard}
 use Rattle.gcd_row.specs.declared.put.Put.{Put}
-use Rattle.gcd_row.specs.declared.put.Put.TheVariants.{Placed, Barred, Full}
+use Rattle.gcd_row.specs.declared.put.Put.TheVariants.{Placed, Barred, Held, Full}
+
+-- a pass that may read cells: it is not spent, its number is below 64, and its passed word is not gone
+pub record MayRead {S : Type 0} (v : View S) : Type 0 where
+  pub unspent : v.spent ≡ false
+  pub number : v.worker < 64
+  pub passed : v.marks.passed ≤ length v.seen
 
 module _ {S : Type 0} where
   -- what a pass knows
@@ -48,9 +55,13 @@ module _ {S : Type 0} where
   pub record IsPassOf (shape : S → Shape) (gives : S → ℕ → Type 0) (b : RowBoard S) (p : RowPass S) : Type 0 where
     pub table : p.seat.table_id ≡ b.table.shared.table_id
     pub terms : (view p).terms ≡ terms_of b
-    pub unspent : (view p).spent ≡ false
+    pub may_read : MayRead (view p)
     pub number : worker_number p ≡ (view p).worker
-    pub few : length (view p).seen ≤ max_events
+    pub passed : p.passed ≡ (view p).marks.passed
+    pub floor : p.floor ≡ (view p).marks.floor
+    pub upto : p.upto ≡ (view p).marks.upto
+    pub beneath : IfSome p.beneath (λ x. x ≡ under (map word_of (view p).seen))
+    pub few : length (view p).seen ≤ (view p).terms.limits.most
     pub has : HasSlots shape gives (view p).terms (view p).seen (held_run (view p)) (slots p)
     pub stands : StandsFor (machine_of p) (view p).terms.plan (view p).seen
 
@@ -70,7 +81,7 @@ module _ {S : Type 0} where
   -- it has seen the row as it was at a moment of the call: no less than it had seen or was told of before, nothing more of its
   -- own, and nothing of a number that was never given out
   pub record Looks (v w : View S) : Type 0 where
-    pub is : w ≡ seeing v w.seen
+    pub is : w ≡ knowing v w.seen (known v w)
     pub ahead : Ahead v w.seen
     pub told : StartsWith w.seen v.told
     pub fresh : KnowsFresh w
@@ -80,21 +91,52 @@ module _ {S : Type 0} where
     pub history : List Event
     pub ahead : Ahead v history
     pub place : n ≡ length history
-    pub room : n < max_events
+    pub room : n < v.terms.limits.most
     pub may : why v.terms.plan history e ≡ None
-    pub is : w ≡ seeing v (history ++ e ∷ [])
+    pub is : w ≡ knowing v (history ++ e ∷ []) (known v w)
     pub own : of_worker v.worker w.seen ≡ of_worker v.worker v.seen ++ e ∷ []
+
+  -- it knows something else of the passed words, and nothing more
+  pub record Knew (v w : View S) : Type 0 where
+    pub is : w ≡ knowing v v.seen (known v w)
+    pub loads : v.marks.loads ≤ w.marks.loads
+
+  -- the passed word that it loaded last is that of worker `by`, and it has loaded one since v: it is `passed`, a lap ago, and those of
+  -- lower numbers let the next event be written
+  pub record IsHolder (v w : View S) (by passed : ℕ) : Type 0 where
+    pub worker : by < v.terms.limits.workers
+    pub lap_ago : passed + 4096 ≡ length w.seen
+    pub loaded : v.marks.loads < w.marks.loads
+    pub held : w.marks.held ≡ Some (by, passed)
+    pub below : w.marks.upto ≡ by
+    pub lowest : by ≢ 0 → length w.seen < w.marks.floor + 4096
+    pub mine : by ≡ v.worker → passed ≡ v.marks.passed
+
+  -- a passed word does not let the next event be written, and the row was what the pass has seen when it was loaded
+  pub record IsHeldAt (v w : View S) (by passed : ℕ) : Type 0 where
+    pub knew : Knew v w
+    pub told : StartsWith v.seen v.told
+    pub fresh : KnowsFresh v
+    pub holder : IsHolder v w by passed
+
+  -- the same, as `put` answers it
+  pub record IsHeld (v w : View S) (by passed : ℕ) : Type 0 where
+    pub looks : Looks v w
+    pub room : length w.seen < v.terms.limits.most
+    pub holder : IsHolder v w by passed
 
   -- what the answer of `put` says
   abbrev pub Says : Event → View S → View S → Put → Type 0
   Says e v w (Placed n) = IsPlaced e v w n
-  Says e v w (Barred at y) = Looks v w × (at ≡ length w.seen) × (at < max_events) × (why v.terms.plan w.seen e ≡ Some y)
-  Says e v w Full = (w ≡ seeing v w.seen) × Ahead v w.seen × (length w.seen ≡ max_events)
+  Says e v w (Barred at y) = Looks v w × (at ≡ length w.seen) × (at < v.terms.limits.most) × (why v.terms.plan w.seen e ≡ Some y)
+  Says e v w (Held by passed) = IsHeld v w by passed × (why v.terms.plan w.seen e ≡ None)
+  Says e v w Full = (w ≡ knowing v w.seen (known v w)) × Ahead v w.seen × (length w.seen ≡ v.terms.limits.most)
 
   -- the slots that a pass has after `put`: with the event the run's slot comes or goes, and with no other answer
   abbrev pub SaysSlots : (S → Shape) → (S → ℕ → Type 0) → Event → List (ℕ × S) → List (ℕ × S) → View S → Put → Type 0
   SaysSlots shape gives e c d w (Placed n) = (h : List Event) × (w.seen ≡ h ++ e ∷ []) × Turned shape gives w.terms h e c d
   SaysSlots shape gives e c d w (Barred at y) = d ≡ c
+  SaysSlots shape gives e c d w (Held by passed) = d ≡ c
   SaysSlots shape gives e c d w Full = d ≡ c
 
   -- worker 0's pass has taken in another: it has seen the longer of the two histories, which the shorter begins, and no event
@@ -109,17 +151,31 @@ module _ {S : Type 0} where
     pub width : length cells ≡ slots_of t.plan
     pub lie : (r : Run) (c : S) → IsRun t.plan r → IsNobodys t.plan h r → get_elem? cells (slot_of t.plan r) ≡ some c → Lies shape gives t h r c
 
-  -- it has the same number, and the same numbers are out
+  -- it has the same number and passed word, and the same numbers are out
   pub record HasSameNumbers (v w : View S) : Type 0 where
     pub worker : w.worker ≡ v.worker
     pub hands : w.hands ≡ v.hands
+    pub passed : w.marks.passed ≡ v.marks.passed
 
-  -- it has seen one event more, or the row is what it has seen
-  abbrev pub EndsOrLearns : View S → View S → Bool → Type 0
-  EndsOrLearns v w true = Learnt v w
-  EndsOrLearns v w false = EndsHere v w
+  -- the journal is what worker 0's pass has seen up to its passed word
+  abbrev pub IsGathered : View S → List Event → Type 0
+  IsGathered v journal = journal ≡ take v.marks.passed v.seen
 
-  -- its event is the next, or another's
-  abbrev pub Places : Event → View S → View S → Bool → Type 0
-  Places e v w true = w ≡ seeing v (v.seen ++ e ∷ [])
-  Places e v w false = Learnt v w
+  -- it has seen one event more, which is another's; what it knows of the passed words may have changed
+  pub record LearntOn (v w : View S) : Type 0 where
+    pub event : Event
+    pub is : w ≡ knowing v (v.seen ++ event ∷ []) (known v w)
+    pub loads : v.marks.loads ≤ w.marks.loads
+    pub ahead : Ahead v w.seen
+    pub may : why v.terms.plan v.seen event ≡ None
+    pub other : worker_of event ≢ v.worker
+
+  -- one turn of `put`: an answer, or one event more was seen
+  abbrev pub Turns : Event → View S → View S → Option Put → Type 0
+  Turns e v w None = LearntOn v w
+  Turns e v w (Some r) = Says e v w r
+
+  -- the slots after a turn
+  abbrev pub TurnsSlots : (S → Shape) → (S → ℕ → Type 0) → Event → List (ℕ × S) → List (ℕ × S) → View S → Option Put → Type 0
+  TurnsSlots shape gives e c d w None = d ≡ c
+  TurnsSlots shape gives e c d w (Some r) = SaysSlots shape gives e c d w r

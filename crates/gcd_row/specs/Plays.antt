@@ -1,5 +1,5 @@
 -- What each step tells: of the step, the seat before, the number found and the seat after.
-use Rattle.std.specs.Prelude.{◌≡◌, ◌≢◌, ℕ, ◌≤◌, List, [], ◌∷◌, ◌++◌, length, Some, None}
+use Rattle.std.specs.Prelude.{◌≡◌, ◌≢◌, ℕ, suc, ◌+◌, ◌%◌, ◌<◌, ◌≤◌, nat_lt, true, false, map, slice_index, List, [], ◌∷◌, ◌++◌, length, Some, None}
 use Rattle.atomic_table.specs.Table.{Me, Step, rest}
 use Rattle.gcd_plan.specs.declared.numbers.Run.{Run}
 use Rattle.gcd_event.specs.declared.event.Event.{Event}
@@ -9,9 +9,10 @@ use Rattle.gcd_history.specs.Choice.{worker_of}
 use Rattle.gcd_history.specs.History.{why}
 use Rattle.gcd_team.specs.Held.{taken, given}
 use Rattle.gcd_team.specs.Team.{of_worker, StartsWith}
+use Rattle.gcd_row.specs.Ring.{is_news, lap, under}
 use Rattle.gcd_row.specs.Shapes.{Shape}
 use Rattle.gcd_row.specs.Lying.{slot_of, Lies}
-use Rattle.gcd_row.specs.Views.{standing_of, saw}
+use Rattle.gcd_row.specs.Views.{standing_of, saw, knowing, asked, passing}
 use Rattle.gcd_row.specs.declared.view.Terms.{Terms}
 use Rattle.gcd_row.specs.declared.view.View.{View}
 
@@ -34,7 +35,7 @@ module _ {S : Type 0} where
     pub fresh : KnowsFresh v
 
   abbrev pub Found : View S → ℕ → View S → Type 0
-  Found v n w = (e : Event) × IsFitting e × (word_of e ≡ n) × SeesMore v e w
+  Found v n w = (e : Event) × IsFitting e × (n ≡ word_of e + lap (length v.seen)) × SeesMore v e w
 
   -- the shorter of what was seen and what was told of begins the longer, which has no more events of the pass's worker
   pub record Compares (v : View S) : Type 0 where
@@ -52,15 +53,35 @@ module _ {S : Type 0} where
   LaysBack shape gives e m =
       (r : Run) → given m.0.terms.plan e ≡ Some r → (c : S) × (m.1 ≡ (slot_of m.0.terms.plan r, c) ∷ []) × Lies shape gives m.0.terms (m.0.seen ++ e ∷ []) r c
 
-  -- a load of the word behind what was seen
+  -- a load of the cell of the next event: it is there, or the row is what the pass has seen and n is the word of the event a lap ago
   abbrev pub Looked : Step S → Me S (View S) → ℕ → Me S (View S) → Type 0
-  Looked st m n k = (k.1 ≡ m.1) × (n ≡ 0 → EndsHere m.0 k.0) × (n ≢ 0 → Found m.0 n k.0)
+  Looked st m n k = (k.1 ≡ m.1) × (is_news (length m.0.seen) n ≡ true → Found m.0 n k.0)
+      × (is_news (length m.0.seen) n ≡ false → EndsHere m.0 k.0 × (n ≡ under (map word_of m.0.seen)))
 
-  -- an exchange of that word from 0, which places each event that has the new word where it wins
+  -- an exchange of that cell from that word, which places each event that has the new word where it wins
   abbrev pub Tried : (S → Shape) → (S → ℕ → Type 0) → Step S → Me S (View S) → ℕ → Me S (View S) → Type 0
   Tried shape gives st m n k =
-      (n ≡ 0 → (e : Event) → IsFitting e → word_of e ≡ st.second → (k.0 ≡ saw m.0 e) × Turned shape gives m.0.terms m.0.seen e m.1 k.1)
-      × (n ≢ 0 → (k.1 ≡ m.1) × Found m.0 n k.0)
+      (n ≡ st.first → (e : Event) → IsFitting e → st.second ≡ word_of e + lap (length m.0.seen) → (k.0 ≡ saw m.0 e) × Turned shape gives m.0.terms m.0.seen e m.1 k.1)
+      × (n ≢ st.first → (k.1 ≡ m.1) × Found m.0 n k.0)
+
+  -- what a load of worker k's passed word tells: the row is at most a lap longer, and where it is a lap longer the pass has seen it all
+  pub record Asks (v : View S) (k x : ℕ) (w : View S) : Type 0 where
+    pub view : w ≡ knowing v v.seen (asked v.terms.limits v.marks k x (nat_lt (length v.seen) (x + 4096)))
+    pub slow : length v.seen ≤ x + 4096
+    pub ends : x + 4096 ≤ length v.seen → StartsWith v.seen v.told × KnowsFresh v
+    pub mine : k ≡ v.worker → x ≡ v.marks.passed
+
+  -- a load of a passed word
+  abbrev pub Asked : Step S → Me S (View S) → ℕ → Me S (View S) → Type 0
+  Asked st m n k = (k.1 ≡ m.1) × ((j : ℕ) → st.word ≡ 4097 + j → Asks m.0 j n k.0)
+
+  -- a store of one's own passed word
+  abbrev pub PassedOn : Step S → Me S (View S) → ℕ → Me S (View S) → Type 0
+  PassedOn st m n k = (k.1 ≡ m.1) × (k.0 ≡ knowing m.0 m.0.seen (passing m.0.marks n))
+
+  -- a load again of the cell of an event that was seen and not passed
+  abbrev pub Reread : Step S → Me S (View S) → ℕ → Me S (View S) → Type 0
+  Reread st m n k = (k ≡ m) × ((i : ℕ) → m.0.marks.passed ≤ i → i < length m.0.seen → st.word ≡ suc (i % 4096) → n ≡ slice_index (map word_of m.0.seen) i + lap i)
 
   -- any load, by a pass that has seen as many events as there can be
   abbrev pub Ended : Step S → Me S (View S) → ℕ → Me S (View S) → Type 0

@@ -1,9 +1,9 @@
 -- The rule of the row, which holds between any two steps of any number of passes.
-use Rattle.std.specs.Prelude.{◌≡◌, ◌≢◌, ℕ, suc, ◌≤◌, Some, None, false, List, [], map, length, slice_index}
+use Rattle.std.specs.Prelude.{◌≡◌, ◌≢◌, ℕ, ◌+◌, ◌<◌, ◌≤◌, Some, None, false, List, [], map, length}
+use mathlib.Core.Logic.{◌⊎◌}
 use mathlib.Core.Option.{Option, some}
 use lib.ListN.{get_elem?}
 use Rattle.atomic_table.specs.Table.{State}
-use Rattle.gcd_plan.specs.Limits.{max_events}
 use Rattle.gcd_plan.specs.PlanView.{IsRun}
 use Rattle.gcd_plan.specs.Validity.{IsPlan}
 use Rattle.gcd_plan.specs.declared.numbers.Run.{Run}
@@ -12,6 +12,7 @@ use Rattle.gcd_event.specs.Words.{word_of}
 use Rattle.gcd_history.specs.History.{IsLawful}
 use Rattle.gcd_team.specs.Team.{of_worker, StartsWith}
 use Rattle.gcd_team.specs.TeamFacts.{IsNobodys}
+use Rattle.gcd_row.specs.Ring.{IsRing, passed_word, gone}
 use Rattle.gcd_row.specs.Shapes.{Shape}
 use Rattle.gcd_row.specs.Lying.{slots_of, slot_of, Lies}
 use Rattle.gcd_row.specs.Views.{standing_of, given_terms}
@@ -19,13 +20,6 @@ use Rattle.gcd_row.specs.declared.view.Copies.{Copies}
 use Rattle.gcd_row.specs.declared.view.Standing.TheVariants.{Out}
 use Rattle.gcd_row.specs.declared.view.Terms.{Terms}
 use Rattle.gcd_row.specs.declared.view.View.{View}
-
--- word 0 is 0, and the words from 1 on are those of the history, followed by zeros
-pub record IsRow (most : ℕ) (words : List ℕ) (h : List Event) : Type 0 where
-  pub first : slice_index words 0 ≡ 0
-  pub size : length words ≡ suc most
-  pub room : length h ≤ most
-  pub cells : (i : ℕ) → slice_index words (suc i) ≡ slice_index (map word_of h) i
 
 module _ {S : Type 0} where
   -- a pass that is not spent has seen all events of its worker
@@ -50,6 +44,23 @@ module _ {S : Type 0} where
     -- some pass has seen all
     pub whole : (by : ℕ) × (v : View S) × (get_elem? views by ≡ some v) × (v.spent ≡ false) × (v.seen ≡ h)
 
+  -- the passed word of worker k is gone, 0, or at most what its pass has seen
+  abbrev pub Rests : List ℕ → List (View S) → ℕ → Type 0
+  Rests words views k = (passed_word words k ≡ gone) ⊎ (passed_word words k ≡ 0) ⊎ ((by : ℕ) × (v : View S) × (get_elem? views by ≡ some v) × (v.spent ≡ false) × (v.worker ≡ k) × (passed_word words k ≤ length v.seen))
+
+  -- the passed words
+  pub record PassedWords (t : Terms S) (h : List Event) (words : List ℕ) (views : List (View S)) : Type 0 where
+    -- the history is at most a lap longer than each; gone is a number above all lengths
+    pub slow : (k : ℕ) → k < 64 → length h ≤ passed_word words k + 4096
+    pub rests : (k : ℕ) → k < 64 → Rests words views k
+    -- each pass knows its own
+    pub mine : (by : ℕ) (v : View S) → get_elem? views by ≡ some v → v.spent ≡ false → passed_word words v.worker ≡ v.marks.passed
+    -- and that those below a number are at least another
+    pub pair : (by : ℕ) (v : View S) → get_elem? views by ≡ some v → (k : ℕ) → k < v.marks.upto → v.marks.floor ≤ passed_word words k
+    -- that of a number which was not given out is 0, and from the number of workers on they are gone
+    pub begin : (by : ℕ) (v : View S) → get_elem? views by ≡ some v → v.spent ≡ false → v.worker ≡ 0 → (k : ℕ) → k ≢ 0 → k < t.limits.workers → standing_of v.hands k ≡ None → passed_word words k ≡ 0
+    pub beyond : (k : ℕ) → t.limits.workers ≤ k → k < 64 → passed_word words k ≡ gone
+
   -- the slot of a run that nobody holds is at home, with what lies there after the history
   pub record Homes (shape : S → Shape) (gives : S → ℕ → Type 0) (t : Terms S) (h : List Event) (homes : List (Option S)) : Type 0 where
     pub width : length homes ≡ slots_of t.plan
@@ -59,9 +70,11 @@ module _ {S : Type 0} where
   pub record Kept (shape : S → Shape) (gives : S → ℕ → Type 0) (t : Terms S) (words : List ℕ) (homes : List (Option S)) (views : List (View S)) : Type 0 where
     pub history : List Event
     pub valid : IsPlan t.plan
-    pub row : IsRow max_events words history
+    pub bounds : (0 < t.limits.workers) × (t.limits.workers ≤ 64) × (t.limits.most < 4294967296)
+    pub ring : IsRing t.limits.most words (map word_of history)
     pub lawful : IsLawful t.plan history
     pub knows : Knows t history views
+    pub passed : PassedWords t history words views
     pub slots : Homes shape gives t history homes
 
   abbrev pub Holds : (S → Shape) → (S → ℕ → Type 0) → Copies S → State S (View S) → Type 0

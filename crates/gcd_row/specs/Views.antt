@@ -1,9 +1,11 @@
 -- What passes know, and how it changes.
-use Rattle.std.specs.Prelude.{ℕ, ◌==◌, cond, nat_lt, true, false, List, [], ◌∷◌, ◌++◌, length, Option, Some, None}
+use Rattle.std.specs.Prelude.{ℕ, suc, min, ◌==◌, Bool, cond, nat_lt, true, false, List, [], ◌∷◌, ◌++◌, length, Option, Some, None}
 use Rattle.gcd_plan.specs.declared.numbers.Run.{Run}
 use Rattle.gcd_event.specs.declared.event.Event.{Event}
 use Rattle.gcd_team.specs.Team.{held_by}
 use Rattle.gcd_row.specs.declared.view.Copies.{Copies}
+use Rattle.gcd_row.specs.declared.view.Limits.{Limits}
+use Rattle.gcd_row.specs.declared.view.Marks.{Marks}
 use Rattle.gcd_row.specs.declared.view.Terms.{Terms}
 use Rattle.gcd_row.specs.declared.view.Standing.{Standing}
 use Rattle.gcd_row.specs.declared.view.Standing.TheVariants.{Out, Back}
@@ -17,33 +19,58 @@ standing_of (x ∷ xs) w = cond (x.0 == w) (Some x.1) (standing_of xs w)
 abbrev pub longer : List Event → List Event → List Event
 longer a b = cond (nat_lt (length a) (length b)) b a
 
+-- what a pass knows of the passed words at first: that they are at least 0
+abbrev pub first_marks : Marks
+first_marks = record { passed = 0; floor = 0; upto = 64; loads = 0; held = None }
+
+abbrev pub no_marks : Marks
+no_marks = record { passed = 0; floor = 0; upto = 0; loads = 0; held = None }
+
+-- where the passed word of worker k is x, and those below it are known: x lets the next event be written, or it does not
+abbrev pub asked : Limits → Marks → ℕ → ℕ → Bool → Marks
+asked l m k x true = record { passed = m.passed; floor = cond (k == 0) x (min m.floor x); upto = cond (suc k == l.workers) 64 (suc k); loads = suc m.loads; held = None }
+asked l m k x false = record { passed = m.passed; floor = m.floor; upto = k; loads = suc m.loads; held = Some (k, x) }
+
+-- where the pass's own is x
+abbrev pub passing : Marks → ℕ → Marks
+passing m x = record { passed = x; floor = m.floor; upto = m.upto; loads = m.loads; held = m.held }
+
 module _ {S : Type 0} where
   -- the terms of the plan and the cells that were copied
   abbrev pub given_terms : Copies S → Terms S
-  given_terms k = record { plan = k.plan.value; cells = k.cells.value.items }
+  given_terms k = record { plan = k.plan.value; cells = k.cells.value.items; limits = k.limits }
 
   -- what worker 0's first pass knows
   abbrev pub opening_view : Copies S → View S
-  opening_view k = record { terms = given_terms k; spent = false; worker = 0; seen = []; told = []; hands = [] }
+  opening_view k = record { terms = given_terms k; spent = false; worker = 0; seen = []; told = []; hands = []; marks = first_marks }
 
   -- what a pass that was joined is left with
   abbrev pub spent_view : View S
   spent_view = record {
-    terms = record { plan = record { objects = []; blocks = []; files = []; until = 0 }; cells = [] };
+    terms = record { plan = record { objects = []; blocks = []; files = []; until = 0 }; cells = []; limits = record { workers = 0; most = 0 } };
     spent = true;
     worker = 0;
     seen = [];
     told = [];
     hands = [];
+    marks = no_marks;
   }
 
   -- the run that the pass holds: open, not parked, and started, woken or delivered last by its worker
   abbrev pub held_run : View S → Option Run
   held_run v = held_by v.terms.plan v.seen v.worker
 
+  -- a pass that has seen this history, and knows this of the passed words
+  abbrev pub knowing : View S → List Event → Marks → View S
+  knowing v h m = record { terms = v.terms; spent = v.spent; worker = v.worker; seen = h; told = v.told; hands = v.hands; marks = m }
+
+  -- its own passed word as v knows it, and what w knows of the others
+  abbrev pub known : View S → View S → Marks
+  known v w = passing w.marks v.marks.passed
+
   -- a pass that has seen this history
   abbrev pub seeing : View S → List Event → View S
-  seeing v h = record { terms = v.terms; spent = v.spent; worker = v.worker; seen = h; told = v.told; hands = v.hands }
+  seeing v h = knowing v h v.marks
 
   -- a pass that has seen one event more
   abbrev pub saw : View S → Event → View S
@@ -51,20 +78,20 @@ module _ {S : Type 0} where
 
   -- worker 0's pass, which has given out the number w
   abbrev pub lending : View S → ℕ → View S
-  lending v w = record { terms = v.terms; spent = v.spent; worker = v.worker; seen = v.seen; told = v.told; hands = (w, Out) ∷ v.hands }
+  lending v w = record { terms = v.terms; spent = v.spent; worker = v.worker; seen = v.seen; told = v.told; hands = (w, Out) ∷ v.hands; marks = v.marks }
 
   -- the new pass of worker w, which begins with what worker 0's has seen
   abbrev pub newcomer : View S → ℕ → View S
-  newcomer v w = record { terms = v.terms; spent = false; worker = w; seen = v.seen; told = []; hands = [] }
+  newcomer v w = record { terms = v.terms; spent = false; worker = w; seen = v.seen; told = []; hands = []; marks = passing v.marks 0 }
 
   -- a pass that was told what another has seen
   abbrev pub hearing : View S → View S → View S
-  hearing v u = record { terms = v.terms; spent = v.spent; worker = v.worker; seen = v.seen; told = u.seen; hands = v.hands }
+  hearing v u = record { terms = v.terms; spent = v.spent; worker = v.worker; seen = v.seen; told = u.seen; hands = v.hands; marks = v.marks }
 
   -- worker 0's pass, which has taken in another
   abbrev pub merging : View S → View S → View S
-  merging v u = record { terms = v.terms; spent = v.spent; worker = v.worker; seen = longer v.seen u.seen; told = v.told; hands = (u.worker, Back) ∷ v.hands }
+  merging v u = record { terms = v.terms; spent = v.spent; worker = v.worker; seen = longer v.seen u.seen; told = v.told; hands = (u.worker, Back) ∷ v.hands; marks = v.marks }
 
   -- what a pass has seen, and nothing else
   abbrev pub note : View S → View S
-  note v = record { terms = v.terms; spent = true; worker = v.worker; seen = v.seen; told = []; hands = [] }
+  note v = record { terms = v.terms; spent = true; worker = v.worker; seen = v.seen; told = []; hands = []; marks = no_marks }

@@ -1,21 +1,24 @@
 // A board: the row of words that decides, and the slots.
-ghost use Rattle.std.specs.Prelude.{◌≡◌};
+ghost use Rattle.std.specs.Prelude.{◌≡◌, ◌≤◌, ◌<◌};
 
 use crate::cell::{Cell, Slot};
 use crate::plays::Lawful;
-use crate::view::{Copies, View};
+use crate::view::{Copies, Limits, View};
 use atomic_table::Table;
 use std::alloc::Global;
 
 /// The table of a board: words and slots.
 pub type RowTable<S> = Table<S, View<S>, Copies<S>, Lawful, Global>;
 
-/// A row of events that up to 64 workers decide by single exchanges, and a slot for each block and each object of its plan.
+/// A ring of events that up to 64 workers decide by single exchanges, and a slot for each block and each object of its plan.
 /// It is shared by `&`.
 #[derive(Drop)]
 pub struct RowBoard<S: Slot> {
     pub(crate) table: RowTable<S>,
-    ghost sized: { table.shared.table_id.words ≡ 65536 },
+    pub(crate) limits: Limits,
+    ghost sized: { table.shared.table_id.words ≡ 4161 },
+    ghost same: { limits ≡ table.shared.key.limits },
+    ghost bounds: { (0 < table.shared.key.limits.workers) × (table.shared.key.limits.workers ≤ 64) × (0 < table.shared.key.limits.most) × (table.shared.key.limits.most < 4294967296) },
 }
 
 /// A board of jobs and handlers.

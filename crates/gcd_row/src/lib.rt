@@ -1,11 +1,18 @@
 //! The shared row: up to 64 workers decide by single exchanges which event comes next, and each follows the row with a machine of
 //! its own. No call waits for another, and no lock is taken.
 //!
-//! A [`Board`] has a row of words and a slot for each block and each object of its plan. Event n is the one exchange of word n + 1
-//! from 0 to the event's word; word 0 stays 0. A [`Pass`] is what one worker has of it: a beginning of the row's history, which it
-//! has *seen*, a machine that stands for that, and the slot of the run that its worker *holds*, the one that it started, woke or
-//! had delivered and that is open and not parked. That a block's body is with one worker at a time is libdispatch's rule
-//! (dispatch_async(3)); row and slots are this project's own.
+//! A [`Board`] is made for so many workers and for at most so many events, 1 to 4,294,967,295. It has 4,161 words and a slot for each
+//! block and each object of its plan. Word 0 stays 0. The words 1 to 4,096 are the *cells* of a ring: event n stands in word
+//! 1 + n mod 4,096, as its own word, plus 2^63 in every second lap. It is the one exchange of that word from the word of event n - 4,096,
+//! or from 0 in the first lap. The words behind the cells are the *passed words* of workers 0 to 63: how many events each has read for
+//! good. A passed word only grows, and is 2^64 - 1 where its worker reads no more, or never will; event n is written only where all
+//! passed words are above n - 4,096. So no cell is written again while a pass has still to read it, and a row may be longer than its
+//! ring.
+//!
+//! A [`Pass`] is what one worker has of the board: a beginning of the row's history, which it has *seen*, a machine that stands for that,
+//! what it knows of the passed words, and the slot of the run that its worker *holds*, the one that it started, woke or had delivered and
+//! that is open and not parked. That a block's body is with one worker at a time is libdispatch's rule (dispatch_async(3)); row and slots
+//! are this project's own. Worker 0 *gathers* what it passes into a journal; the others just pass on.
 //!
 //! # The rule
 //!
@@ -13,12 +20,13 @@
 //!
 //! | | |
 //! |---|---|
-//! | the row | word 0 is 0, and the words from 1 on are those of a lawful history of the plan, followed by zeros |
+//! | the cells | word 0 is 0, and the cells hold the last 4,096 events of a lawful history of the plan, each with the bit of its lap, and 0 where there is none yet; it has no more events than the board was made for |
+//! | the passed words | the history is at most 4,096 events longer than each; that of a worker is gone, 0, or at most what its pass has seen; each pass knows its own, and of those below a number that they are at least another, its *pair* |
 //! | the passes | each has seen a beginning of that history, with all events of its own worker; no two are of one worker; worker 0's knows which numbers are out, and no event is of a number that was never given out; some pass has seen all |
 //! | the slots | the slot of a run that nobody holds is at home: a block's has its body, which gives only what the job that was handed in may, and where the block has ended a value that this job may give; a source's has its handler, with the times and the total of all its Delivers |
 //!
-//! The kinds of step are a load and an exchange of a word, plain reading and writing of a slot that one holds, and splitting and
-//! joining a seat.
+//! The kinds of step are a load and an exchange of a cell, a load of a passed word, a store of one's own, plain reading and writing of
+//! a slot that one holds, and splitting and joining a seat. An exchange rests on its caller's own pair.
 //!
 //! # Calls
 //!
@@ -27,24 +35,33 @@
 //! | call | answer | clause |
 //! |---|---|---|
 //! | [`RowBoard::new`] | a board with an empty row and worker 0's pass, or out of memory | `AreFirst`, `opening_view` |
-//! | [`RowBoard::most`] | how many events the row can have | `max_events` |
+//! | [`RowBoard::most`] | how many events the row can have | `Limits` |
 //! | [`RowBoard::look`] | the length of the row at a moment of the call, which the pass has then seen | `Looks` |
-//! | [`RowBoard::put`], [`RowBoard::put_chosen`] | the event is event n; or the row was what the pass has now seen, after which the event is not permitted, with the first reason; or the row is full | `Says`, `SaysSlots` |
+//! | [`RowBoard::put`], [`RowBoard::put_chosen`] | the event is event n; or the row was what the pass has now seen, after which the event is not permitted, with the first reason, or is held, with the lowest worker that has still to pass the event a lap ago; or the row is full | `Says`, `SaysSlots` |
+//! | [`RowBoard::pass_on`] | a helper's passed word is what its pass has seen | `passing` |
+//! | [`RowBoard::gather`] | worker 0's journal is what its pass has seen, and its passed word says how much that is; or out of memory | `IsGathered`, `passing` |
 //! | [`RowBoard::split`] | a pass for a new number, or out of memory | `lending`, `newcomer` |
 //! | [`RowBoard::join`] | worker 0's pass has taken in another | `Merges` |
 //! | [`RowBoard::take_body`], [`RowBoard::give_body`], [`RowBoard::give_done`] | a block's body or value, from the slot of the run that the pass holds and into it | `MayGive` |
 //! | [`RowBoard::take_handler`], [`RowBoard::give_handler`] | the same of a source's handler | `IsUntaken`, `IsServed` |
-//! | [`RowBoard::close`], [`RowBoard::close_whole`] | the whole history and all cells, or out of memory; the second also gives the machine | `AtRest` |
+//! | [`RowBoard::close`], [`RowBoard::close_whole`] | the journal with the rest of the whole history, and all slots, or out of memory; the second also gives the machine | `AtRest` |
 //! | [`RowPass::machine`], [`RowPass::worker`] | the machine, which stands for what the pass has seen, and the number | |
 //!
-//! No call but `new`, `split` and those that close takes memory. `look` and `put` go on by one event each turn, so they return. A board may
-//! be shared by threads and a pass sent to one, where jobs and handlers may be sent.
+//! A board takes 33,288 bytes for its words, however many events it is made for, and its slots; a pass takes a machine; a journal grows
+//! as it is gathered. No call but `new`, `split`, `gather` and those that close takes memory. `look` and `put` go on by one event each
+//! turn, so they return. A board may be shared by threads and a pass sent to one, where jobs and handlers may be sent.
+//!
+//! All numbers below the board's number of workers count from the outset, split or not: one that is never split holds the ring after
+//! 4,096 events. So does a worker that is long in a body, or that its system does not run: the others are held until it passes on.
 //!
 //! # How it is proved
 //!
 //! Over `atomic_table`, whose steps may assume the rule and have to keep it. `specs/Plays` says what each step tells; of each there
-//! is one lemma that it keeps the rule (`proofs/Keeping`), over lemmas on one part of the rule each: words (`RowWords`), views
-//! (`Seen`, `Parting`), slots (`Holding`, `Landing`). That `look` sees the row as it is at a moment of the call is said by what a
+//! is one lemma that it keeps the rule (`proofs/Keeping`), over lemmas on one part of the rule each: cells (`RowWords`), passed words
+//! (`Marking`, `Parted`), views (`Seen`, `Parting`), slots (`Holding`, `Landing`). An exchange that finds the word of the event a lap ago
+//! is the next event's, whatever words the two have: as the pass's own passed word stands, the cell has that event or the next, and their
+//! lap bits differ. That a held event is held by a word loaded in the call is said by a count of such loads in the view, and by what the
+//! last of them found. That `look` sees the row as it is at a moment of the call is said by what a
 //! pass was *told*: a beginning of the history that another has seen, which is then in what it sees. A helper is told of no other
 //! before its join, and for it this rests on the form of `load_word` and `exchange_word` (`src/words.rt`), by which alone `look`
 //! and `put` read a word of the row: they are proved over every rule of a table and every kind of step, and say what that kind says
@@ -55,7 +72,7 @@
 //!
 //! # What it does not say
 //!
-//! - That an event of a worker is ever placed: others may always come before it.
+//! - That an event of a worker is ever placed: others may always come before it, and a worker that does not pass on may hold it for ever.
 //! - What lies in the slot of a run that is open and not parked when the board is closed.
 #![tactic(auto)]
 
@@ -64,7 +81,9 @@ mod bodies;
 mod calls;
 mod cell;
 mod closing;
+mod gathering;
 mod make;
+mod pairs;
 mod pass;
 mod plays;
 mod put;
@@ -78,4 +97,4 @@ pub use cell::{Cell, Slot};
 pub use pass::{Pass, RowPass};
 pub use plays::Lawful;
 pub use put::Put;
-pub use view::{Copies, Standing, Terms, View};
+pub use view::{Copies, Limits, Marks, Standing, Terms, View};

@@ -1,5 +1,6 @@
 // Making a board.
-ghost use Rattle.std.specs.Prelude.{◌≡◌, ℕ, ◌++◌, [], length, map, drop, IfOk, OnOk, slice_index, if◌then◌else◌};
+ghost use Rattle.std.specs.Prelude.{◌≡◌, ◌<◌, ◌≤◌, ◌++◌, [], length, map, drop, IfOk, OnOk, if◌then◌else◌};
+ghost use Rattle.gcd_row.specs.Ring.{AreFirstWords, first_word};
 ghost use Rattle.std.specs.Vec.Iter.{into_iter_items, into_iter_len};
 ghost use Rattle.gcd_plan.specs.Validity.{IsPlan};
 ghost use Rattle.gcd_row.specs.Opening.{AreHandlersOf, AreFirst, next_cell, object_cells, first_cells};
@@ -11,7 +12,8 @@ ghost use Rattle.gcd_row.specs.declared.cell.Cell.TheVariants.{Body, Away};
 use crate::board::{Board, RowBoard, RowTable};
 use crate::cell::{Cell, Slot};
 use crate::pass::{Pass, RowPass};
-use crate::view::{Copies, View};
+use crate::steps::GONE;
+use crate::view::{Copies, Limits, View};
 use atomic_table::{Refused, Seat, Table};
 use gcd_jobs::{Handler, Job};
 use gcd_machine::Machine;
@@ -20,24 +22,39 @@ use std::alloc::{AllocError, Global};
 use std::snapshot::Snapshot;
 use std::vec::IntoIter;
 
-// The words of a row without events: word 0, and one for each event that there can be.
-static EMPTY_ROW: [u64; 65_536] = [0; 65_536];
-
-// The same, of which a table copies its words.
-fn empty_row() -> &'static [u64]
-    ensures count { length result.now ≡ 65536 }
-    ensures zeros { (i : ℕ) → slice_index result.now i ≡ 0 }
+// The word at a place of a new board.
+fn word_at(i: u32, workers: u8) -> u64
+    requires { workers ≤ 64 }
+    ensures { result ≡ first_word workers i }
 {
-    &EMPTY_ROW
+    if i < 4097 + u32::from(workers) {
+        return 0;
+    }
+    GONE
+}
+
+// The words of a new board.
+fn first_words(alloc: Global, workers: u8) -> Result<Vec<u64>, AllocError>
+    requires { workers ≤ 64 }
+    ensures { IfOk result (λ w. AreFirstWords workers w.items) }
+{
+    let mut words = Vec::with_capacity(alloc, 4161)?;
+    let mut i = 0;
+    while i < 4161 {
+        words.push_reserved(word_at(i, workers));
+        i += 1;
+    }
+    Ok(words)
 }
 
 // The copies of a plan and of cells.
-fn copies_of<S>(plan: &Plan, cells: &Vec<S>) -> Copies<S>
-    ensures { (result.plan.value ≡ plan.now) × (result.cells.value ≡ cells.now) }
+fn copies_of<S>(plan: &Plan, cells: &Vec<S>, limits: Limits) -> Copies<S>
+    ensures { (result.plan.value ≡ plan.now) × (result.cells.value ≡ cells.now) × (result.limits ≡ limits) }
 {
     Copies {
         plan: Snapshot::of(plan),
         cells: Snapshot::of(cells),
+        limits,
     }
 }
 
@@ -100,17 +117,22 @@ fn open_table<S: Slot + Drop>(
     alloc: Global,
     plan: &Plan,
     cells: Vec<S>,
+    workers: u8,
+    most: u32,
 ) -> Result<(RowTable<S>, Seat<S, View<S>>), AllocError>
+    requires limits { (0 < workers) × (workers ≤ 64) }
     requires valid { IsPlan plan.now }
     requires cells { AreFirst S.shape plan.now cells.items }
-    ensures words { IfOk result (λ made. made.0.shared.table_id.words ≡ 65536) }
+    ensures words { IfOk result (λ made. made.0.shared.table_id.words ≡ 4161) }
+    ensures limits { IfOk result (λ made. made.0.shared.key.limits ≡ record { workers = workers; most = most }) }
     ensures plan { IfOk result (λ made. made.0.shared.key.plan.value ≡ plan.now) }
     ensures cells { IfOk result (λ made. made.0.shared.key.cells.value.items ≡ cells.items) }
     ensures first { IfOk result (λ made. AreFirst S.shape made.0.shared.key.plan.value made.0.shared.key.cells.value.items) }
     ensures seat { IfOk result (λ made. (made.1.table_id ≡ made.0.shared.table_id) × (made.1.me ≡ (opening_view made.0.shared.key, []))) }
 {
-    let copies = copies_of(plan, &cells);
-    match Table::new(alloc, empty_row(), cells, &copies) {
+    let words = first_words(alloc, workers)?;
+    let copies = copies_of(plan, &cells, Limits { workers, most });
+    match Table::new(alloc, words.as_slice(), cells, &copies) {
         Ok(made) => Ok(made),
         Err(Refused { slots: _ }) => Err(AllocError),
     }
@@ -122,8 +144,11 @@ fn open_board<S: Slot + Drop>(
     plan: &Plan,
     table: RowTable<S>,
     seat: Seat<S, View<S>>,
+    limits: Limits,
 ) -> Result<(RowBoard<S>, RowPass<S>), AllocError>
-    requires words { table.shared.table_id.words ≡ 65536 }
+    requires words { table.shared.table_id.words ≡ 4161 }
+    requires limits { table.shared.key.limits ≡ limits }
+    requires bounds { (0 < limits.workers) × (limits.workers ≤ 64) × (0 < limits.most) × (limits.most < 4294967296) }
     requires plan { table.shared.key.plan.value ≡ plan.now }
     requires first { AreFirst S.shape table.shared.key.plan.value table.shared.key.cells.value.items }
     requires seat { (seat.table_id ≡ table.shared.table_id) × (seat.me ≡ (opening_view table.shared.key, [])) }
@@ -137,24 +162,33 @@ fn open_board<S: Slot + Drop>(
         seat,
         machine,
         number: 0,
+        passed: 0,
+        floor: 0,
+        upto: 64,
+        beneath: None,
     };
-    Ok((RowBoard { table }, pass))
+    Ok((RowBoard { table, limits }, pass))
 }
 
 impl<J: Job + Drop, H: Handler + Drop> RowBoard<Cell<J, H>> {
-    /// A board with no event in its row, and worker 0's pass. It takes one job for each block, `main`'s first, and one handler for
-    /// each source, by number, of its kind, which has not been called yet. In the slots lie the jobs, by the numbers of their
-    /// blocks, and behind them one cell for each object: a source's handler, and for another object nothing. An `Err` comes only
-    /// where memory runs out; jobs and handlers are dropped then.
+    /// A board with no event in its row, and worker 0's pass, which has seen and passed nothing. The board is for so many workers, 1 to
+    /// 64, each of whom has to pass on in each lap of the ring, and for at most so many events, 1 to 4,294,967,295. It takes one job for
+    /// each block, `main`'s first, and one handler for each source, by number, of its kind, which has not been called yet. In the slots
+    /// lie the jobs, by the numbers of their blocks, and behind them one cell for each object: a source's handler, and for another
+    /// object nothing. An `Err` comes only where memory runs out; jobs and handlers are dropped then.
     pub fn new(
         alloc: Global,
         plan: &Plan,
         jobs: Vec<J>,
         handlers: Vec<H>,
+        workers: u8,
+        most: u32,
     ) -> Result<(Board<J, H>, Pass<J, H>), AllocError>
+        requires limits { (0 < workers) × (workers ≤ 64) × (0 < most) }
         requires jobs { length jobs.items ≡ length plan.now.blocks }
         requires handlers { AreHandlersOf H.kind H.times H.total plan.now handlers.items }
         ensures plan { IfOk result (λ made. (terms_of made.0).plan ≡ plan.now) }
+        ensures limits { IfOk result (λ made. (terms_of made.0).limits ≡ record { workers = workers; most = most }) }
         ensures cells { IfOk result (λ made. (terms_of made.0).cells ≡ first_cells plan.now jobs.items handlers.items) }
         ensures first { IfOk result (λ made. AreFirst (shape_of H.kind H.times H.total) (terms_of made.0).plan (terms_of made.0).cells) }
         ensures pass { IfOk result (λ made. IsPassOf (shape_of H.kind H.times H.total) (gives_of J.gives) made.0 made.1) }
@@ -163,7 +197,7 @@ impl<J: Job + Drop, H: Handler + Drop> RowBoard<Cell<J, H>> {
         let slots = plan.blocks() as usize + plan.objects() as usize;
         let mut cells = block_cells(alloc, jobs, slots)?;
         add_objects(plan, handlers, &mut cells)?;
-        let (table, seat) = open_table(alloc, plan, cells)?;
-        open_board(alloc, plan, table, seat)
+        let (table, seat) = open_table(alloc, plan, cells, workers, most)?;
+        open_board(alloc, plan, table, seat, Limits { workers, most })
     }
 }

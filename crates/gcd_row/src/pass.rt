@@ -1,5 +1,5 @@
 // What one worker has of a board.
-ghost use Rattle.std.specs.Prelude.{◌≡◌, ◌≢◌, ℕ, IfOk, IfErr, Some};
+ghost use Rattle.std.specs.Prelude.{◌≡◌, ◌≢◌, ℕ, ◌<◌, ◌≤◌, ◌+◌, ◌-◌, take, length, vec_capacity, IfOk, IfErr, Some};
 ghost use Rattle.gcd_machine.specs.Stands.{StandsFor};
 
 use crate::board::RowBoard;
@@ -7,9 +7,10 @@ use crate::cell::{Cell, Slot};
 use crate::closing::take_all;
 use crate::plays::{Down, Glue};
 use crate::shares::take_farther;
+use crate::steps::{cell_of, event_of};
 use crate::view::View;
 use atomic_table::Seat;
-use gcd_event::{Event, of_word};
+use gcd_event::Event;
 use gcd_machine::Machine;
 use std::alloc::Global;
 
@@ -19,6 +20,13 @@ pub struct RowPass<S> {
     pub(crate) seat: Seat<S, View<S>>,
     pub(crate) machine: Machine,
     pub(crate) number: u8,
+    // Its passed word.
+    pub(crate) passed: u64,
+    // The passed words of workers below `upto` are at least this.
+    pub(crate) floor: u64,
+    pub(crate) upto: u8,
+    // What the last look found in the cell of the next event, while no more was seen.
+    pub(crate) beneath: Option<u64>,
 }
 
 // One call drops all that a pass has: so a crate that drops passes proves nothing of their parts.
@@ -28,6 +36,10 @@ impl<S> Drop for RowPass<S> {
             seat: _,
             machine: _,
             number: _,
+            passed: _,
+            floor: _,
+            upto: _,
+            beneath: _,
         } = self;
     }
 }
@@ -70,53 +82,65 @@ impl<S: Slot> RowPass<S> {
         let RowPass {
             mut seat,
             machine,
-            number: _,
+            number,
+            passed: _,
+            floor: _,
+            upto: _,
+            beneath: _,
         } = self;
         board.table.shared.load::<Down>(&mut seat, 0);
+        board.leave(&mut seat, number);
         board.table.shared.join_seat::<Glue>(&mut pass.seat, seat);
+        pass.beneath = None;
         take_farther(&mut pass.machine, machine);
     }
 }
 
 impl<S: Slot + Drop> RowPass<S> {
-    ghost use Rattle.gcd_row.specs.Passes.{IsPassOf, AtRest, view};
+    ghost use Rattle.gcd_row.specs.Passes.{IsPassOf, IsGathered, AtRest, view};
     ghost use Rattle.gcd_row.specs.Views.{standing_of};
     ghost use Rattle.gcd_row.specs.declared.view.Standing.TheVariants.{Out};
 
-    // Closes its board, as the last of the board's passes.
+    // Closes its board, as the last of the board's passes, and adds to the journal what was not gathered.
     pub(crate) fn close_board(
         self,
         alloc: Global,
         board: RowBoard<S>,
-    ) -> Result<(Vec<Event>, Vec<S>, Machine), (RowBoard<S>, RowPass<S>)>
+        mut journal: Vec<Event>,
+    ) -> Result<(Vec<Event>, Vec<S>, Machine), (RowBoard<S>, RowPass<S>, Vec<Event>)>
         requires pass { IsPassOf S.shape S.gives board self }
         requires head { (view self).worker ≡ 0 }
         requires all_in { (w : ℕ) → standing_of (view self).hands w ≢ Some Out }
+        requires journal { IsGathered (view self) journal.items }
         ensures events { IfOk result (λ r. r.0.items ≡ (view self).seen) }
         ensures cells { IfOk result (λ r. AtRest S.shape S.gives (view self).terms (view self).seen r.1.items) }
         ensures machine { IfOk result (λ r. StandsFor r.2 (view self).terms.plan (view self).seen) }
-        ensures err { IfErr result (λ r. (r.0 ≡ board) × (r.1 ≡ self)) }
+        ensures err { IfErr result (λ r. (r.0 ≡ board) × (r.1 ≡ self) × (r.2.items ≡ journal.items)) }
     {
-        let n = self.machine.len() as usize;
-        let Ok(mut events) = Vec::with_capacity(alloc, n) else {
-            return Err((board, self));
-        };
+        let n = self.machine.len();
+        let first = self.passed as u32;
+        if journal.reserve((n - first) as usize).is_err() {
+            return Err((board, self, journal));
+        }
         let Ok(cells) = Vec::with_capacity(alloc, board.table.slot_count()) else {
-            return Err((board, self));
+            return Err((board, self, journal));
         };
-        let RowBoard { table } = board;
+        let RowBoard { table, limits: _ } = board;
         let RowPass {
             seat,
             machine,
             number: _,
+            passed: _,
+            floor: _,
+            upto: _,
+            beneath: _,
         } = self;
         let closed = table.close_with(seat);
-        for i in 0..n {
-            match of_word(closed.word(i + 1)) {
-                Some(e) => events.push_reserved(e),
-                None => unreachable!(),
-            }
+        let mut i = first;
+        while i < n {
+            journal.push_reserved(event_of(i, closed.word(cell_of(i))));
+            i += 1;
         }
-        Ok((events, take_all(closed, cells), machine))
+        Ok((journal, take_all(closed, cells), machine))
     }
 }

@@ -1,6 +1,6 @@
 // The rule of a board's table, and what each kind of step tells.
 ghost use Rattle.std.specs.Prelude.{ℕ};
-ghost use Rattle.gcd_row.specs.Plays.{Looked, Tried, Ended, Compared, Unused, PutDown};
+ghost use Rattle.gcd_row.specs.Plays.{Looked, Tried, Ended, Compared, Unused, PutDown, Asked, PassedOn, Reread};
 ghost use Rattle.gcd_row.specs.Rule.{Holds};
 ghost use Rattle.gcd_row.specs.Views.{opening_view, spent_view, lending, newcomer, merging, note, hearing};
 
@@ -59,6 +59,27 @@ pub struct Down;
 
 impl<S> Play<S, View<S>> for Down {
     ghost then = { PutDown };
+}
+
+// A load of a passed word.
+pub struct Ask;
+
+impl<S> Play<S, View<S>> for Ask {
+    ghost then = { Asked };
+}
+
+// A store of one's own.
+pub struct PassOn;
+
+impl<S> Play<S, View<S>> for PassOn {
+    ghost then = { PassedOn };
+}
+
+// A load again of a cell.
+pub struct Again;
+
+impl<S> Play<S, View<S>> for Again {
+    ghost then = { Reread };
 }
 
 // The number of a new pass. Each call picks it.

@@ -8,6 +8,9 @@ pub enum Put {
     Placed(u32),
     /// The row had this many events at a moment of the call, and the first reason why the event may not come next.
     Barred { at: u32, why: Why },
-    /// The row has 65,535 events, as many as there can be.
+    /// The event may come next, but its cell has event number `passed`, which the worker `by` has not passed yet, and no worker of a
+    /// lower number holds it.
+    Held { by: u8, passed: u64 },
+    /// The row has as many events as it can have.
     Full,
 }

@@ -3,9 +3,8 @@ ghost use Rattle.std.specs.Prelude.{◌≡◌, ◌≢◌, ◌<◌, false, List, 
 ghost use Rattle.gcd_event.specs.declared.event.Event.{Event};
 ghost use Rattle.gcd_machine.specs.Stands.{StandsFor};
 ghost use Rattle.gcd_plan.specs.PlanView.{PlanView};
-ghost use Rattle.gcd_plan.specs.Limits.{max_workers};
 ghost use Rattle.gcd_team.specs.Team.{of_worker};
-ghost use Rattle.gcd_row.specs.Passes.{IsPassOf, Merges, slots, view};
+ghost use Rattle.gcd_row.specs.Passes.{IsPassOf, Merges, slots, terms_of, view};
 ghost use Rattle.gcd_row.specs.Plays.{Compares};
 ghost use Rattle.gcd_row.specs.Views.{standing_of, lending, newcomer, longer, hearing};
 
@@ -41,7 +40,7 @@ impl<S: Slot> RowBoard<S> {
     fn cut<N: Numbered>(&self, seat: &mut Seat<S, View<S>>, worker: u8) -> Seat<S, View<S>>
         requires board { seat.old.table_id ≡ self.now.table.shared.table_id }
         requires head { (seat.old.me.0.spent ≡ false) × (seat.old.me.0.worker ≡ 0) }
-        requires number { (worker ≢ 0) × (standing_of seat.old.me.0.hands worker ≡ None) }
+        requires number { (worker ≢ 0) × (worker < self.now.table.shared.key.limits.workers) × (standing_of seat.old.me.0.hands worker ≡ None) }
         requires picked { N.number ≡ worker }
         ensures seat { (seat.new.table_id ≡ seat.old.table_id) × (seat.new.me ≡ (lending seat.old.me.0 worker, seat.old.me.1)) }
         ensures new { (result.table_id ≡ seat.old.table_id) × (result.me ≡ (newcomer seat.old.me.0 worker, [])) }
@@ -50,9 +49,9 @@ impl<S: Slot> RowBoard<S> {
         self.table.shared.split_seat::<Cut<N>>(seat)
     }
 
-    /// A pass for a worker, which begins with what worker 0's pass has seen. Conditions: worker 0's pass is given, and the number,
-    /// 1 to 63, was never given out on this board. An `Err` comes only where memory runs out, and nothing is given out then. It copies the
-    /// machine.
+    /// A pass for a worker, which begins with what worker 0's pass has seen and has passed nothing. Conditions: worker 0's pass is given,
+    /// and the number, above 0 and below the board's number of workers, was never given out on this board. An `Err` comes only where
+    /// memory runs out, and nothing is given out then. It copies the machine.
     pub fn split(
         &self,
         alloc: Global,
@@ -61,7 +60,7 @@ impl<S: Slot> RowBoard<S> {
     ) -> Result<RowPass<S>, AllocError>
         requires pass { IsPassOf S.shape S.gives self.now pass.old }
         requires head { (view pass.old).worker ≡ 0 }
-        requires number { (0 < worker) × (worker < max_workers) × (standing_of (view pass.old).hands worker ≡ None) }
+        requires number { (0 < worker) × (worker < (terms_of self.now).limits.workers) × (standing_of (view pass.old).hands worker ≡ None) }
         ensures pass { IsPassOf S.shape S.gives self.now pass.new }
         ensures slots { slots pass.new ≡ slots pass.old }
         ensures lent { IfOk result (λ new. view pass.new ≡ lending (view pass.old) worker) }
@@ -76,6 +75,10 @@ impl<S: Slot> RowBoard<S> {
             seat,
             machine,
             number: worker,
+            passed: 0,
+            floor: pass.floor,
+            upto: pass.upto,
+            beneath: pass.beneath,
         })
     }
 
@@ -103,8 +106,8 @@ impl<S: Slot> RowBoard<S> {
     }
 
     /// Takes another pass into worker 0's, which has then seen the longer of the two histories; the shorter is its beginning. The
-    /// other's number is not given out again on this board, and what it had of a run goes to that run's slot. Conditions: worker
-    /// 0's pass comes first, and both are of this board.
+    /// other's passed word is gone before that, so it holds no event any more; its number is not given out again on this board, and
+    /// what it had of a run goes to that run's slot. Conditions: worker 0's pass comes first, and both are of this board.
     pub fn join(&self, pass: &mut RowPass<S>, mut other: RowPass<S>)
         requires pass { IsPassOf S.shape S.gives self.now pass.old }
         requires other { IsPassOf S.shape S.gives self.now other }

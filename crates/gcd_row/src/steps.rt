@@ -1,83 +1,173 @@
-// The steps on the words of the row.
-ghost use Rattle.std.specs.Prelude.{◌≡◌, ◌≢◌, ◌<◌, false, length, MatchOption, IfSome, IfNone, None};
+// The steps on the words of the ring.
+ghost use mathlib.Core.Logic.{◌⊎◌};
+ghost use Rattle.std.specs.Prelude.{◌≡◌, ◌≢◌, ℕ, suc, ◌+◌, ◌%◌, ◌<◌, ◌≤◌, false, true, length, map, slice_index, MatchOption, IfSome, IfNone, None};
 ghost use Rattle.gcd_event.specs.declared.event.Event.{Event};
 ghost use Rattle.gcd_event.specs.Fits.{IsFitting};
 ghost use Rattle.gcd_event.specs.Words.{word_of};
 ghost use Rattle.gcd_history.specs.Choice.{worker_of};
 ghost use Rattle.gcd_history.specs.History.{why};
-ghost use Rattle.gcd_plan.specs.Limits.{max_events};
 ghost use Rattle.gcd_plan.specs.Validity.{IsPlan};
-ghost use Rattle.gcd_row.specs.Plays.{SeesMore, EndsHere, Turned, LaysBack};
-ghost use Rattle.gcd_row.specs.Views.{saw};
+ghost use Rattle.gcd_row.specs.Passes.{MayRead};
+ghost use Rattle.gcd_row.specs.Plays.{Asks, SeesMore, EndsHere, Found, Turned, LaysBack};
+ghost use Rattle.gcd_row.specs.Ring.{IsWord, is_news, lap, under, gone};
+ghost use Rattle.gcd_row.specs.Views.{knowing, passing, saw};
 
 use crate::board::RowBoard;
 use crate::cell::Slot;
-use crate::plays::{End, Lawful, Look, Try};
+use crate::plays::{Again, Ask, End, Lawful, Look, PassOn, Try};
 use crate::view::{Copies, View};
 use crate::words::{exchange_word, load_word};
 use atomic_table::Seat;
 use gcd_event::{Event, of_word, to_word};
 
-// The event that has the word. 0 is no event's, and is found so often that it is told without decoding.
-#[tactic(auto, using(crate::proofs::Decoding::zero_is_none))]
+// The lap bit.
+const LAP: u64 = 9_223_372_036_854_775_808;
+
+// What the passed word of a worker without a pass is.
+pub(crate) const GONE: u64 = 18_446_744_073_709_551_615;
+
+// The word in which event n stands.
 #[inline(always)]
-fn event_of(word: u64) -> Option<Event>
-    ensures spelled { IfSome result (λ e. IsFitting e × (word_of e ≡ word)) }
-    ensures silent { IfNone result ((e : Event) → IsFitting e → word_of e ≢ word) }
+pub(crate) fn cell_of(n: u32) -> usize
+    ensures { result ≡ suc (n % 4096) }
+{
+    n as usize % 4096 + 1
+}
+
+// Whether a word found in the cell of event n is that event's.
+#[inline(always)]
+pub fn is_news(n: u32, word: u64) -> bool
+    ensures { result ≡ is_news n word }
 {
     if word == 0 {
-        return None;
+        return false;
     }
-    of_word(word)
+    word / LAP == u64::from(n / 4096 % 2)
+}
+
+// The word without its lap bit.
+#[inline(always)]
+fn bare(word: u64) -> u64
+    ensures { (n e : ℕ) → IsWord e → word ≡ e + lap n → result ≡ e }
+{
+    word % LAP
+}
+
+// The word of event n with its lap bit.
+#[inline(always)]
+fn lapped(word: u64, n: u32) -> u64
+    requires { IsWord word }
+    ensures { result ≡ word + lap n }
+{
+    word + u64::from(n / 4096 % 2) * LAP
+}
+
+// The event whose word, with the lap bit of event n, was found in its cell.
+#[inline(always)]
+pub fn event_of(n: u32, found: u64) -> Event
+    requires { (e : Event) × IsFitting e × (found ≡ word_of e + lap n) }
+    ensures { (e : Event) → IsFitting e → found ≡ word_of e + lap n → result ≡ e }
+{
+    match of_word(bare(found)) {
+        Some(e) => e,
+        None => unreachable!(),
+    }
 }
 
 impl<S: Slot> RowBoard<S> {
-    // The event n, where there is one; else the row has n events.
+    // Loads the cell of the event n, the next.
     #[inline(always)]
-    pub(crate) fn read(&self, seat: &mut Seat<S, View<S>>, n: u32) -> Option<Event>
+    pub(crate) fn read(&self, seat: &mut Seat<S, View<S>>, n: u32) -> u64
         requires board { seat.old.table_id ≡ self.now.table.shared.table_id }
-        requires live { seat.old.me.0.spent ≡ false }
-        requires place { (n ≡ length seat.old.me.0.seen) × (n < max_events) }
+        requires may { MayRead seat.old.me.0 }
+        requires place { n ≡ length seat.old.me.0.seen }
         ensures board { (seat.new.table_id ≡ seat.old.table_id) × (seat.new.me.1 ≡ seat.old.me.1) }
-        ensures view { MatchOption result (EndsHere seat.old.me.0 seat.new.me.0) (λ e. SeesMore seat.old.me.0 e seat.new.me.0) }
+        ensures news { is_news n result ≡ true → Found seat.old.me.0 result seat.new.me.0 }
+        ensures ends { is_news n result ≡ false → EndsHere seat.old.me.0 seat.new.me.0 × (result ≡ under (map word_of seat.old.me.0.seen)) }
     {
-        let word = load_word::<S, View<S>, Copies<S>, Lawful, Look>(
-            &self.table.shared,
-            seat,
-            n as usize + 1,
-        );
-        event_of(word)
+        load_word::<S, View<S>, Copies<S>, Lawful, Look>(&self.table.shared, seat, cell_of(n))
     }
 
-    // Places the event behind the n that were seen, or gives the one that another pass has placed there.
+    // Exchanges the cell of the event n from what lay there before.
     #[inline(always)]
-    pub(crate) fn write(&self, seat: &mut Seat<S, View<S>>, n: u32, e: Event) -> Option<Event>
+    pub(crate) fn write(&self, seat: &mut Seat<S, View<S>>, n: u32, old: u64, e: Event) -> u64
         requires board { seat.old.table_id ≡ self.now.table.shared.table_id }
-        requires live { seat.old.me.0.spent ≡ false }
-        requires place { (n ≡ length seat.old.me.0.seen) × (n < max_events) }
+        requires may { MayRead seat.old.me.0 }
+        requires place { (n ≡ length seat.old.me.0.seen) × (n < self.now.table.shared.key.limits.most) }
+        requires old { old ≡ under (map word_of seat.old.me.0.seen) }
+        requires pair { (seat.old.me.0.marks.upto ≡ 64) × (n < seat.old.me.0.marks.floor + 4096) }
         requires valid { IsPlan seat.old.me.0.terms.plan }
         requires slot { LaysBack S.shape S.gives e seat.old.me }
         requires event { (worker_of e ≡ seat.old.me.0.worker) × (why seat.old.me.0.terms.plan seat.old.me.0.seen e ≡ None) }
         ensures board { seat.new.table_id ≡ seat.old.table_id }
-        ensures view { MatchOption result ((seat.new.me.0 ≡ saw seat.old.me.0 e) × Turned S.shape S.gives seat.old.me.0.terms seat.old.me.0.seen e seat.old.me.1 seat.new.me.1) (λ x. SeesMore seat.old.me.0 x seat.new.me.0) }
-        ensures slot { IfSome result (λ _. seat.new.me.1 ≡ seat.old.me.1) }
+        ensures won { result ≡ old → (seat.new.me.0 ≡ saw seat.old.me.0 e) × Turned S.shape S.gives seat.old.me.0.terms seat.old.me.0.seen e seat.old.me.1 seat.new.me.1 }
+        ensures lost { result ≢ old → (seat.new.me.1 ≡ seat.old.me.1) × Found seat.old.me.0 result seat.new.me.0 }
     {
-        let word = to_word(e);
-        let found = exchange_word::<S, View<S>, Copies<S>, Lawful, Try>(
+        let new = lapped(to_word(e), n);
+        exchange_word::<S, View<S>, Copies<S>, Lawful, Try>(
             &self.table.shared,
             seat,
-            n as usize + 1,
-            0,
-            word,
-        );
-        event_of(found)
+            cell_of(n),
+            old,
+            new,
+        )
+    }
+
+    // Loads the passed word of worker k, where those below are known.
+    #[inline(always)]
+    pub(crate) fn ask(&self, seat: &mut Seat<S, View<S>>, k: u8) -> u64
+        requires board { seat.old.table_id ≡ self.now.table.shared.table_id }
+        requires may { MayRead seat.old.me.0 }
+        requires place { (k < self.now.table.shared.key.limits.workers) × (k ≢ 0 → seat.old.me.0.marks.upto ≡ k) }
+        ensures board { (seat.new.table_id ≡ seat.old.table_id) × (seat.new.me.1 ≡ seat.old.me.1) }
+        ensures asks { Asks seat.old.me.0 k result seat.new.me.0 }
+    {
+        load_word::<S, View<S>, Copies<S>, Lawful, Ask>(&self.table.shared, seat, k as usize + 4097)
+    }
+
+    // Stores the pass's own passed word.
+    #[inline(always)]
+    pub(crate) fn store(&self, seat: &mut Seat<S, View<S>>, k: u8, x: u64)
+        requires board { seat.old.table_id ≡ self.now.table.shared.table_id }
+        requires may { MayRead seat.old.me.0 }
+        requires place { k ≡ seat.old.me.0.worker }
+        requires grows { (x ≡ gone) ⊎ ((seat.old.me.0.marks.passed ≤ x) × (x ≤ length seat.old.me.0.seen)) }
+        ensures board { (seat.new.table_id ≡ seat.old.table_id) × (seat.new.me.1 ≡ seat.old.me.1) }
+        ensures view { seat.new.me.0 ≡ knowing seat.old.me.0 seat.old.me.0.seen (passing seat.old.me.0.marks x) }
+    {
+        self.table
+            .shared
+            .store::<PassOn>(seat, k as usize + 4097, x);
+    }
+
+    // The pass reads no cell again: its passed word is gone.
+    pub(crate) fn leave(&self, seat: &mut Seat<S, View<S>>, k: u8)
+        requires board { seat.old.table_id ≡ self.now.table.shared.table_id }
+        requires may { MayRead seat.old.me.0 }
+        requires place { k ≡ seat.old.me.0.worker }
+        ensures board { (seat.new.table_id ≡ seat.old.table_id) × (seat.new.me.1 ≡ seat.old.me.1) }
+        ensures view { seat.new.me.0 ≡ knowing seat.old.me.0 seat.old.me.0.seen (passing seat.old.me.0.marks gone) }
+    {
+        self.store(seat, k, GONE);
+    }
+
+    // Loads again the cell of the event n, which was seen and not passed.
+    #[inline(always)]
+    pub(crate) fn reread(&self, seat: &mut Seat<S, View<S>>, n: u32) -> u64
+        requires board { seat.old.table_id ≡ self.now.table.shared.table_id }
+        requires may { MayRead seat.old.me.0 }
+        requires place { (seat.old.me.0.marks.passed ≤ n) × (n < length seat.old.me.0.seen) }
+        ensures board { (seat.new.table_id ≡ seat.old.table_id) × (seat.new.me ≡ seat.old.me) }
+        ensures word { result ≡ slice_index (map word_of seat.old.me.0.seen) n + lap n }
+    {
+        load_word::<S, View<S>, Copies<S>, Lawful, Again>(&self.table.shared, seat, cell_of(n))
     }
 
     // A pass that has seen as many events as there can be has seen the row.
     pub(crate) fn finish(&self, seat: &mut Seat<S, View<S>>)
         requires board { seat.old.table_id ≡ self.now.table.shared.table_id }
-        requires live { seat.old.me.0.spent ≡ false }
-        requires full { length seat.old.me.0.seen ≡ max_events }
+        requires may { MayRead seat.old.me.0 }
+        requires full { length seat.old.me.0.seen ≡ self.now.table.shared.key.limits.most }
         ensures board { (seat.new.table_id ≡ seat.old.table_id) × (seat.new.me ≡ seat.old.me) }
         ensures ends { EndsHere seat.old.me.0 seat.new.me.0 }
     {

@@ -4,18 +4,27 @@ use gcd_plan::Plan;
 use std::collections::LinkedList;
 use std::snapshot::Snapshot;
 
+/// How many workers a board is made for, and how many events it takes.
+#[derive(Clone, Copy, Debug, Drop)]
+pub struct Limits {
+    pub workers: u8,
+    pub most: u32,
+}
+
 /// Copies for contracts of the plan that a board is made for, and of the cells that were in its slots at first. They have no
 /// bytes.
 #[derive(Drop)]
 pub struct Copies<S> {
     pub plan: Snapshot<Plan>,
     pub cells: Snapshot<Vec<S>>,
+    pub limits: Limits,
 }
 
 /// The plan that a board is made for, and the cells that were in its slots at first, by slot.
 pub struct Terms<S> {
     pub plan: Plan,
     pub cells: LinkedList<S>,
+    pub limits: Limits,
 }
 
 /// Where the pass of a worker's number is that was given out.
@@ -24,6 +33,19 @@ pub enum Standing {
     Out,
     /// It was joined into worker 0's pass.
     Back,
+}
+
+/// What a pass knows of the passed words.
+pub struct Marks {
+    /// Its own.
+    pub passed: u64,
+    /// Those of workers below `upto` are at least this.
+    pub floor: u64,
+    pub upto: u8,
+    /// How often it has loaded one.
+    pub loads: u64,
+    /// The one that it loaded last, where that did not let the next event be written: whose it is, and what it was.
+    pub held: Option<(u8, u64)>,
 }
 
 /// What a pass knows of its board.
@@ -39,4 +61,5 @@ pub struct View<S> {
     pub told: LinkedList<Event>,
     /// At worker 0: each number that was given out, the last change first.
     pub hands: LinkedList<(u8, Standing)>,
+    pub marks: Marks,
 }

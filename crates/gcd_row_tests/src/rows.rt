@@ -5,7 +5,7 @@ ghost use Rattle.std.specs.Prelude.{◌≡◌, ◌∷◌, [], IfOk};
 ghost use Rattle.gcd_row.specs.Shapes.{shape_of, gives_of};
 ghost use Rattle.gcd_row.specs.declared.view.Standing.TheVariants.{Out};
 
-use super::work::{Fixed, act, begin, end, jobs_of, run_body, tallies_of};
+use super::work::{Fixed, act, begin, end, jobs_of, run_body, second, tallies_of};
 use gcd_event::Event;
 use gcd_jobs::{Handler, Job, Tally};
 use gcd_plan::{Act, Blk, BlkPart, Kind, Obj, ObjPart, Parts, Plan, Run, Why};
@@ -38,14 +38,15 @@ fn parts(alloc: Global, submits: bool) -> Result<Parts, AllocError> {
 
 // A board of such a plan, and worker 0's pass.
 fn opened(alloc: Global, submits: bool) -> Result<(Board<Fixed, Tally>, Pass<Fixed, Tally>), Fail>
+    ensures two { IfOk result (λ made. (terms_of made.0).limits.workers ≡ 2) }
     ensures first { IfOk result (λ made. AreFirst (shape_of (λ t. t.kind) (λ t. t.times) (λ t. t.total)) (terms_of made.0).plan (terms_of made.0).cells) }
     ensures pass { IfOk result (λ made. IsPassOf (shape_of (λ t. t.kind) (λ t. t.times) (λ t. t.total)) (gives_of (λ job input value. value ≡ job.0)) made.0 made.1) }
-    ensures view { IfOk result (λ made. ((view made.1).worker ≡ 0) × ((view made.1).hands ≡ [])) }
+    ensures view { IfOk result (λ made. ((view made.1).worker ≡ 0) × ((view made.1).hands ≡ []) × ((view made.1).marks.passed ≡ 0)) }
 {
     let plan = Plan::of_parts(parts(alloc, submits)?).ok_or("valid")?;
     let jobs = jobs_of(alloc, &plan)?;
     let tallies = tallies_of(alloc, &plan)?;
-    Ok(Board::new(alloc, &plan, jobs, tallies)?)
+    Ok(Board::new(alloc, &plan, jobs, tallies, 2, 5)?)
 }
 
 // The second Start of `main` comes too late, and each pass sees what the other has placed.
@@ -102,8 +103,9 @@ fn judge<R: Abort>(
     requires pass { IsPassOf (shape_of (λ t. t.kind) (λ t. t.times) (λ t. t.total)) (gives_of (λ job input value. value ≡ job.0)) board pass }
     requires head { (view pass).worker ≡ 0 }
     requires hands { (view pass).hands ≡ [] }
+    requires passed { (view pass).marks.passed ≡ 0 }
 {
-    let Ok((events, cells)) = board.close(alloc, pass) else {
+    let Ok((events, cells)) = board.close(alloc, pass, Vec::new(alloc)) else {
         panic!(rt; "no memory")
     };
     is_as_wanted(rt, events.as_slice(), cells.as_slice(), want, given);
@@ -123,29 +125,13 @@ fn judge_both<R: Abort>(
     requires q { IsPassOf (shape_of (λ t. t.kind) (λ t. t.times) (λ t. t.total)) (gives_of (λ job input value. value ≡ job.0)) board q }
     requires head { ((view p).worker ≡ 0) × ((view q).worker ≡ 1) }
     requires hands { (view p).hands ≡ (1, Out) ∷ [] }
+    requires passed { (view p).marks.passed ≡ 0 }
 {
     board.join(&mut p, q);
-    let Ok((events, cells)) = board.close(alloc, p) else {
+    let Ok((events, cells)) = board.close(alloc, p, Vec::new(alloc)) else {
         panic!(rt; "no memory")
     };
     is_as_wanted(rt, events.as_slice(), cells.as_slice(), want, given);
-}
-
-// A second pass, of worker 1.
-fn second<J: Job + Drop, H: Handler + Drop>(
-    alloc: Global,
-    board: &Board<J, H>,
-    p: &mut Pass<J, H>,
-) -> Result<Pass<J, H>, AllocError>
-    requires p { IsPassOf (shape_of H.kind H.times H.total) (gives_of J.gives) board.now p.old }
-    requires head { (view p.old).worker ≡ 0 }
-    requires hands { (view p.old).hands ≡ [] }
-    ensures p { IsPassOf (shape_of H.kind H.times H.total) (gives_of J.gives) board.now p.new × ((view p.new).worker ≡ 0) }
-    ensures hands { IfOk result (λ q. (view p.new).hands ≡ (1, Out) ∷ []) }
-    ensures q { IfOk result (λ q. IsPassOf (shape_of H.kind H.times H.total) (gives_of J.gives) board.now q × ((view q).worker ≡ 1)) }
-{
-    let q = board.split(alloc, p, 1)?;
-    Ok(q)
 }
 
 const fn start(worker: u8, blk: Blk) -> Event {

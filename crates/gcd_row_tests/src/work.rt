@@ -6,10 +6,11 @@ ghost use Rattle.gcd_machine.specs.Stands.{StandsFor};
 ghost use Rattle.gcd_plan.specs.PlanView.{PlanView};
 ghost use Rattle.gcd_plan.specs.declared.numbers.Run.TheVariants.{Block};
 ghost use Rattle.gcd_row.specs.Opening.{AreFirst, AreHandlersOf, tallies_for};
-ghost use Rattle.gcd_row.specs.Passes.{IsPassOf, HasSameNumbers, slots, terms_of, view, machine_of};
+ghost use Rattle.gcd_row.specs.Passes.{IsPassOf, IsGathered, HasSameNumbers, slots, terms_of, view, machine_of};
 ghost use Rattle.gcd_row.specs.Shapes.{shape_of, gives_of};
 ghost use Rattle.gcd_row.specs.Views.{held_run};
 ghost use Rattle.gcd_row.specs.declared.cell.Cell.TheVariants.{Body, Done};
+ghost use Rattle.gcd_row.specs.declared.view.Standing.TheVariants.{Out};
 
 use gcd_event::Event;
 use gcd_jobs::{Handler, Job, Tally};
@@ -61,6 +62,24 @@ pub fn tallies_of(alloc: Global, plan: &Plan) -> Result<Vec<Tally>, AllocError>
     Ok(tallies)
 }
 
+// A second pass, of worker 1.
+pub fn second<J: Job + Drop, H: Handler + Drop>(
+    alloc: Global,
+    board: &Board<J, H>,
+    p: &mut Pass<J, H>,
+) -> Result<Pass<J, H>, AllocError>
+    requires p { IsPassOf (shape_of H.kind H.times H.total) (gives_of J.gives) board.now p.old }
+    requires head { (view p.old).worker ≡ 0 }
+    requires hands { (view p.old).hands ≡ [] }
+    requires two { (terms_of board.now).limits.workers ≡ 2 }
+    ensures p { IsPassOf (shape_of H.kind H.times H.total) (gives_of J.gives) board.now p.new × ((view p.new).worker ≡ 0) × ((view p.new).marks ≡ (view p.old).marks) × ((view p.new).seen ≡ (view p.old).seen) }
+    ensures hands { IfOk result (λ q. (view p.new).hands ≡ (1, Out) ∷ []) }
+    ensures q { IfOk result (λ q. IsPassOf (shape_of H.kind H.times H.total) (gives_of J.gives) board.now q × ((view q).worker ≡ 1)) }
+{
+    let q = board.split(alloc, p, 1)?;
+    Ok(q)
+}
+
 // Puts the Start of a block; where it is placed the pass has the block's body.
 pub fn begin<J: Job + Drop, H: Handler + Drop>(
     board: &Board<J, H>,
@@ -71,6 +90,7 @@ pub fn begin<J: Job + Drop, H: Handler + Drop>(
     requires first { AreFirst (shape_of H.kind H.times H.total) (terms_of board.now).plan (terms_of board.now).cells }
     ensures pass { IsPassOf (shape_of H.kind H.times H.total) (gives_of J.gives) board.now pass.new }
     ensures numbers { HasSameNumbers (view pass.old) (view pass.new) }
+    ensures gathered { (journal : List Event) → IsGathered (view pass.old) journal → IsGathered (view pass.new) journal }
     ensures run { IfOk result (λ _. held_run (view pass.new) ≡ Some (Block b)) }
     ensures body { IfOk result (λ _. (job : J) × (slots pass.new ≡ (b.0, Body job) ∷ [])) }
 {
@@ -98,6 +118,7 @@ pub fn act<J: Job + Drop, H: Handler + Drop>(
     requires pass { IsPassOf (shape_of H.kind H.times H.total) (gives_of J.gives) board.now pass.old }
     ensures pass { IsPassOf (shape_of H.kind H.times H.total) (gives_of J.gives) board.now pass.new }
     ensures numbers { HasSameNumbers (view pass.old) (view pass.new) }
+    ensures gathered { (journal : List Event) → IsGathered (view pass.old) journal → IsGathered (view pass.new) journal }
     ensures run { held_run (view pass.new) ≡ held_run (view pass.old) }
     ensures slots { slots pass.new ≡ slots pass.old }
 {
@@ -120,6 +141,7 @@ pub fn run_body<J: Job + Drop, H: Handler + Drop>(
     requires body { (job : J) × (slots pass.old ≡ (b.0, Body job) ∷ []) }
     ensures pass { IsPassOf (shape_of H.kind H.times H.total) (gives_of J.gives) board.now pass.new }
     ensures numbers { HasSameNumbers (view pass.old) (view pass.new) }
+    ensures gathered { (journal : List Event) → IsGathered (view pass.old) journal → IsGathered (view pass.new) journal }
     ensures run { held_run (view pass.new) ≡ Some (Block b) }
     ensures done { slots pass.new ≡ (b.0, Done result) ∷ [] }
 {
@@ -139,6 +161,7 @@ pub fn end<J: Job + Drop, H: Handler + Drop>(
     requires done { slots pass.old ≡ (b.0, Done value) ∷ [] }
     ensures pass { IsPassOf (shape_of H.kind H.times H.total) (gives_of J.gives) board.now pass.new }
     ensures numbers { HasSameNumbers (view pass.old) (view pass.new) }
+    ensures gathered { (journal : List Event) → IsGathered (view pass.old) journal → IsGathered (view pass.new) journal }
 {
     let worker = pass.worker();
     board.put(pass, Event::End { worker, blk: b })

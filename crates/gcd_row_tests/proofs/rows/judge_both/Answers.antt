@@ -1,4 +1,4 @@
-use Rattle.std.proofs.Common.{ap, sym, ◌∙◌, ◌≡◌, ◌∷◌, []}
+use Rattle.std.proofs.Common.{ap, sym, ◌∙◌, ◌≡◌, ◌∷◌, [], take}
 use Rattle.gcd_row.specs.Views.{standing_of}
 use Rattle.gcd_row.specs.Passes.{view}
 use Rattle.gcd_row.specs.declared.view.Standing.TheVariants.{Out, Back}
@@ -12,3 +12,6 @@ pub close-requires-clause-all_in : goal.close-requires-clause-all_in
 close-requires-clause-all_in g c = λ w is.
     let hands : (view c.join.new.pass).hands ≡ (1, Back) ∷ (1, Out) ∷ [] = ap (λ v. v.hands) c.join.ensures.view.is ∙ (λ i. (c.requires.head.1 i, Back) ∷ c.requires.hands i) in
     never_out w (sym (ap (λ h. standing_of h w) hands) ∙ is)
+
+pub close-requires-clause-journal : goal.close-requires-clause-journal
+close-requires-clause-journal g c = c.new.ensures.items ∙ sym (ap (λ n. take n (view c.join.new.pass).seen) (ap (λ v. v.marks.passed) c.join.ensures.view.is ∙ c.requires.passed))

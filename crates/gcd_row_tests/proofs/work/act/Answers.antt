@@ -3,6 +3,7 @@ use Rattle.gcd_event.specs.declared.event.Event.TheVariants.{Act as Acted}
 use Rattle.gcd_row.specs.Shapes.{shape_of, gives_of}
 use Rattle.gcd_row.specs.Passes.{view, slots}
 use Rattle.gcd_row.proofs.AfterPut.{nothing_back, unparked, kept, same_numbers}
+use Rattle.gcd_row.proofs.Gathered.{gathered_after}
 use Rattle.gcd_row_tests.proofs.work.act.Goals as goal
 
 pub put-requires-clause-cell : goal.put-requires-clause-cell
@@ -22,3 +23,6 @@ returns-clause-slots g c = let v = view c.args.pass.now in
 
 pub returns-clause-numbers : goal.returns-clause-numbers
 returns-clause-numbers g c = same_numbers (Acted c.worker-worker.result c.args.run c.args.index) (view c.args.pass.now) (view c.put.new.pass) c.put.result c.put.ensures.view
+
+pub returns-clause-gathered : goal.returns-clause-gathered
+returns-clause-gathered g c = gathered_after (Acted c.worker-worker.result c.args.run c.args.index) (view c.args.pass.now) (view c.put.new.pass) c.put.result c.put.ensures.view c.requires.pass.may_read

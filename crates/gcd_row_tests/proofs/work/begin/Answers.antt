@@ -5,6 +5,7 @@ use Rattle.gcd_row.specs.Opening.{AreFirst}
 use Rattle.gcd_row.specs.Shapes.{shape_of, gives_of}
 use Rattle.gcd_row.specs.Passes.{view, slots}
 use Rattle.gcd_row.proofs.AfterPut.{nothing_back, took, found_body, body_of_cell, same_numbers}
+use Rattle.gcd_row.proofs.Gathered.{gathered_after}
 use Rattle.gcd_row_tests.proofs.work.begin.Goals as goal
 
 pub put-requires-clause-cell : goal.put-requires-clause-cell
@@ -13,6 +14,9 @@ put-requires-clause-cell g c = let v = view c.args.pass.now in
 
 pub returns-in-Placed-clause-numbers : goal.returns-in-Placed-clause-numbers
 returns-in-Placed-clause-numbers g c = same_numbers (Start c.worker-worker.result c.args.b) (view c.args.pass.now) (view c.put.new.pass) c.put.result c.put.ensures.view
+
+pub returns-in-Placed-clause-gathered : goal.returns-in-Placed-clause-gathered
+returns-in-Placed-clause-gathered g c = gathered_after (Start c.worker-worker.result c.args.b) (view c.args.pass.now) (view c.put.new.pass) c.put.result c.put.ensures.view c.requires.pass.may_read
 
 pub returns-in-Placed-clause-run : goal.returns-in-Placed-clause-run
 returns-in-Placed-clause-run g c =

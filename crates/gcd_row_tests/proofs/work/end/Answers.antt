@@ -5,6 +5,7 @@ use Rattle.gcd_row.specs.Shapes.{shape_of}
 use Rattle.gcd_row.specs.Passes.{view, slots}
 use Rattle.gcd_row.specs.declared.cell.Cell.TheVariants.{Done}
 use Rattle.gcd_row.proofs.AfterPut.{its_back, ready_at_end, same_numbers}
+use Rattle.gcd_row.proofs.Gathered.{gathered_after}
 use Rattle.gcd_row_tests.proofs.work.end.Goals as goal
 
 pub put-requires-clause-cell : goal.put-requires-clause-cell
@@ -14,3 +15,6 @@ put-requires-clause-cell g c = let v = view c.args.pass.now in
 
 pub returns-clause-numbers : goal.returns-clause-numbers
 returns-clause-numbers g c = same_numbers (End c.worker-worker.result c.args.b) (view c.args.pass.now) (view c.put.new.pass) c.put.result c.put.ensures.view
+
+pub returns-clause-gathered : goal.returns-clause-gathered
+returns-clause-gathered g c = gathered_after (End c.worker-worker.result c.args.b) (view c.args.pass.now) (view c.put.new.pass) c.put.result c.put.ensures.view c.requires.pass.may_read

@@ -6,4 +6,4 @@ pub load_word-requires-clause-word : goal.load_word-requires-clause-word
 load_word-requires-clause-word g c = omega (arith, c.args.self.now.sized)
 
 pub load_word-requires-clause-keeps : goal.load_word-requires-clause-keeps
-load_word-requires-clause-keeps g c = ends _ _ c.args.self.now.table.shared.key _ _ _ _ c.requires.live c.requires.full
+load_word-requires-clause-keeps g c = ends _ _ c.args.self.now.table.shared.key _ _ _ _ c.requires.may c.requires.full

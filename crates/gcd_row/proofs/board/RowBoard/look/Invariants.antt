@@ -1,4 +1,3 @@
-use Rattle.gcd_plan.specs.Limits.{max_events}
 use Rattle.std.proofs.Common.{◌≡◌, ◌-◌, length}
 use Rattle.gcd_row.specs.Views.{seeing}
 use Rattle.gcd_row.specs.Passes.{IsPassOf, Ahead, slots, view}
@@ -14,4 +13,4 @@ invariant-loop-n g l = record {
 }
 
 abbrev pub decreases-loop-n : goal.decreases-loop-n
-decreases-loop-n g l = max_events - l.n
+decreases-loop-n g l = l.most - l.n

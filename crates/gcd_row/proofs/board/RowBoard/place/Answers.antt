@@ -1,17 +1,38 @@
-use Rattle.std.proofs.Common.{refl, arith}
-use Rattle.gcd_row.proofs.Passing.{valid_plan, lays, sees_another, places_own}
+use Rattle.std.proofs.Common.{arith, refl, sym, subst, ap, length, None, ◌<◌, ◌≡◌, ◌∙◌, ◌+◌, ◌++◌, ◌∷◌, [], ℕ}
+use Rattle.gcd_event.specs.declared.event.Event.{Event}
+use Rattle.gcd_event.specs.Words.{word_of}
+use Rattle.gcd_history.specs.History.{why}
+use Rattle.gcd_machine.specs.Stands.{StandsFor}
+use Rattle.gcd_row.specs.Ring.{lap}
+use Rattle.gcd_row.specs.Passes.{view}
+use Rattle.gcd_row.proofs.Onward.{placed_here}
+use Rattle.gcd_row.proofs.Passing.{sees_another, places_own, lays, valid_plan}
 use Rattle.gcd_row.proofs.board.RowBoard.place.Goals as goal
 
-pub write-requires-clause-valid : goal.write-requires-clause-valid
-write-requires-clause-valid g c = valid_plan _ _ c.args.self.now c.args.pass.now c.requires.pass
+pub write-found-requires-clause-valid : goal.write-found-requires-clause-valid
+write-found-requires-clause-valid g c = valid_plan _ _ c.args.self.now c.args.pass.now c.requires.pass
 
-pub write-requires-clause-slot : goal.write-requires-clause-slot
-write-requires-clause-slot g c = lays _ _ c.args.self.now c.args.pass.now c.args.e c.requires.pass c.requires.event.0 c.requires.event.1 c.requires.cell
+pub write-found-requires-clause-slot : goal.write-found-requires-clause-slot
+write-found-requires-clause-slot g c = lays _ _ c.args.self.now c.args.pass.now c.args.e c.requires.pass c.requires.event.0 c.requires.event.1 c.requires.cell
 
-pub returns-in-Some-clause-pass : goal.returns-in-Some-clause-pass
-returns-in-Some-clause-pass g c = let s = c.in-Some.ensures in
-    sees_another _ _ c.args.self.now c.args.pass.now _ c.in-Some.x c.requires.pass s.view (omega (arith, c.requires.place)) c.write.ensures.board refl s.slot (c.apply.ensures.stands _ _ c.requires.pass.stands s.view.may)
+pub returns-then-found-old-clause-pass : goal.returns-then-found-old-clause-pass
+returns-then-found-old-clause-pass g c =
+    let w = c.write-found.ensures.won c.if-found-old.true in
+    let v = view c.args.pass.now in
+    places_own _ _ c.args.self.now c.args.pass.now _ c.args.e c.requires.pass w.0 (subst (λ t. length v.seen < t.limits.most) (sym c.requires.pass.terms) (omega (arith, c.requires.place))) c.write-found.ensures.board (record { number = refl; passed = refl; floor = refl; upto = refl; beneath = refl }) c.requires.event.0 c.requires.event.1 w.1
+    (c.apply.ensures.stands _ _ c.requires.pass.stands c.requires.event.1)
 
-pub returns-in-None-clause-pass : goal.returns-in-None-clause-pass
-returns-in-None-clause-pass g c = let s = c.in-None.ensures in
-    places_own _ _ c.args.self.now c.args.pass.now _ c.args.e c.requires.pass s.view.0 (omega (arith, c.requires.place)) c.write.ensures.board refl c.requires.event.0 c.requires.event.1 s.view.1 (c.apply-in-None.ensures.stands _ _ c.requires.pass.stands c.requires.event.1)
+pub returns-then-found-old-clause-view : goal.returns-then-found-old-clause-view
+returns-then-found-old-clause-view g c =
+    let w = c.write-found.ensures.won c.if-found-old.true in
+    let v = view c.args.pass.now in
+    placed_here c.args.e v _ c.args.n c.requires.place.0 (subst (λ t. c.args.n < t.limits.most) (sym c.requires.pass.terms) c.requires.place.1) c.requires.event.0 c.requires.event.1 w.0
+
+pub returns-clause-pass : goal.returns-clause-pass
+returns-clause-pass g c =
+    let l = c.write-found.ensures.lost c.if-found-old.false in
+    let f = l.1 in
+    let v = view c.args.pass.now in
+    let same = c.event_of.ensures f.0 f.1 (f.2 ∙ ap (λ (k : ℕ). word_of f.0 + lap k) (sym c.requires.place.0)) in
+    sees_another _ _ c.args.self.now c.args.pass.now _ f.0 c.requires.pass f.3 (subst (λ t. length v.seen < t.limits.most) (sym c.requires.pass.terms) (omega (arith, c.requires.place))) c.write-found.ensures.board (record { number = refl; passed = refl; floor = refl; upto = refl; beneath = refl }) l.0
+    (subst (λ (e : Event). StandsFor c.apply-2.new.self v.terms.plan (v.seen ++ e ∷ [])) same (c.apply-2.ensures.stands _ _ c.requires.pass.stands (subst (λ (e : Event). why v.terms.plan v.seen e ≡ None) (sym same) f.3.may)))

@@ -1,7 +1,6 @@
-use Rattle.gcd_plan.specs.Limits.{max_events}
-use Rattle.std.proofs.Common.{◌≡◌, ◌-◌, length}
+use Rattle.std.proofs.Common.{◌≡◌, ◌≤◌, ◌-◌, length}
 use Rattle.gcd_row.specs.Lying.{GivesBack}
-use Rattle.gcd_row.specs.Views.{seeing}
+use Rattle.gcd_row.specs.Views.{knowing, known}
 use Rattle.gcd_row.specs.Passes.{IsPassOf, Ahead, slots, view}
 use Rattle.gcd_row.proofs.board.RowBoard.put.Given as goal
 
@@ -10,10 +9,11 @@ invariant-loop-n g l = record {
   place : l.n ≡ length (view l.pass).seen;
   of : IsPassOf g.S.Slot.shape g.S.Slot.gives l.self l.pass;
   same : slots l.pass ≡ slots l.fn.pass;
-  known : view l.pass ≡ seeing (view l.fn.pass) (view l.pass).seen;
+  is_known : view l.pass ≡ knowing (view l.fn.pass) (view l.pass).seen (known (view l.fn.pass) (view l.pass));
   ahead : Ahead (view l.fn.pass) (view l.pass).seen;
+  loads : (view l.fn.pass).marks.loads ≤ (view l.pass).marks.loads;
   back : GivesBack g.S.Slot.shape (view l.pass).terms (view l.pass).seen l.e (slots l.pass);
 }
 
 abbrev pub decreases-loop-n : goal.decreases-loop-n
-decreases-loop-n g l = max_events - l.n
+decreases-loop-n g l = l.most - l.n

@@ -5,10 +5,10 @@ use Rattle.gcd_row.proofs.Merging.{new_pass}
 use Rattle.gcd_row.proofs.board.RowBoard.split.Goals as goal
 
 pub load-requires : goal.load-requires
-load-requires g c = (search rules, omega (arith, c.args.self.now.sized), learns_unused _ _ c.args.self.now.table.shared.key _ _ _ _ c.requires.pass.unspent)
+load-requires g c = (search rules, omega (arith, c.args.self.now.sized), learns_unused _ _ c.args.self.now.table.shared.key _ _ _ _ c.requires.pass.may_read)
 
 pub returns-clause-new : goal.returns-clause-new
 returns-clause-new g c =
     let me = c.cut-seat.ensures.new.1 ∙ ap (λ m. (newcomer m.0 c.args.worker, [])) c.load.ensures.2.0 in
     let none = c.load.ensures.2.1 c.requires.head c.args.worker (λ z. omega arith) c.requires.number.2 in
-    (new_pass _ _ c.args.self.now c.args.pass.now _ c.args.worker c.requires.pass none (c.cut-seat.ensures.new.0 ∙ c.load.ensures.0) me refl c.in_ok-machine.ensures, ap (λ m. m.0) me)
+    (new_pass _ _ c.args.self.now c.args.pass.now _ c.args.worker c.requires.pass none (c.cut-seat.ensures.new.0 ∙ c.load.ensures.0) me refl c.in_ok-machine.ensures (omega (arith, c.requires.number, c.args.self.now.bounds)) refl refl refl refl, ap (λ m. m.0) me)
