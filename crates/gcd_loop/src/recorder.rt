@@ -73,7 +73,14 @@ pub trait Recorder<D> {
         ensures kept { (a : Self) → kept most plan.now desk.now a self.old → kept most plan.now desk.now a self.new };
 
     /// Records an event of the outside, where it may come next.
-    fn put(&mut self, plan: &Plan, most: u32, desk: &D, e: Event) -> Result<Put, Self::Fault>
+    fn put<R: Wait>(
+        &mut self,
+        rt: &R,
+        plan: &Plan,
+        most: u32,
+        desk: &D,
+        e: Event,
+    ) -> Result<Put, Self::Fault>
         requires ready { ready most plan.now desk.now self.old }
         requires room { HasRoom most plan.now (seen self.old) }
         requires outside { IsOutside e }

@@ -36,7 +36,8 @@ pub enum Turn {
 
 // Puts an event of the outside.
 #[inline(always)]
-fn put<D, T: Recorder<D>>(
+fn put<D, T: Recorder<D>, R: Wait>(
+    rt: &R,
     plan: &Plan,
     most: u32,
     desk: &D,
@@ -51,7 +52,7 @@ fn put<D, T: Recorder<D>>(
     ensures said { OnOk result (WasPut most plan.now e (T.seen run.old) (T.seen run.new)) }
     ensures kept { (a : T) → T.kept most plan.now desk.now a run.old → T.kept most plan.now desk.now a run.new }
 {
-    match run.put(plan, most, desk, e)? {
+    match run.put(rt, plan, most, desk, e)? {
         Put::Placed => Ok(Turn::Placed),
         Put::Barred => Ok(Turn::Waited),
         Put::Later => Ok(Turn::Waited),
@@ -60,7 +61,8 @@ fn put<D, T: Recorder<D>>(
 
 // Puts the first of the news, and settles it, unless it is to be put again.
 #[inline(always)]
-fn tell<D, T: Recorder<D>>(
+fn tell<D, T: Recorder<D>, R: Wait>(
+    rt: &R,
     plan: &Plan,
     most: u32,
     desk: &D,
@@ -75,7 +77,7 @@ fn tell<D, T: Recorder<D>>(
     ensures said { OnOk result (WasTold most plan.now e (T.seen run.old) (T.seen run.new) outlook.old outlook.new) }
     ensures kept { (a : T) → T.kept most plan.now desk.now a run.old → T.kept most plan.now desk.now a run.new }
 {
-    match run.put(plan, most, desk, e)? {
+    match run.put(rt, plan, most, desk, e)? {
         Put::Placed => {
             outlook.settle();
             Ok(Turn::Placed)
@@ -91,7 +93,8 @@ fn tell<D, T: Recorder<D>>(
 /// Worker 0 listens or waits: the end of a turn in which nothing was done, so neither stopped nor over.
 /// Where the poller fails a Halt is put.
 #[inline(always)]
-pub fn idle<D, T: Recorder<D>, P: Poller, C: Clock>(
+pub fn idle<D, T: Recorder<D>, P: Poller, C: Clock, R: Wait>(
+    rt: &R,
     plan: &Plan,
     most: u32,
     desk: &D,
@@ -114,7 +117,7 @@ pub fn idle<D, T: Recorder<D>, P: Poller, C: Clock>(
 {
     match outlook.idle(plan, run.machine(), poller, clock, left) {
         None => Ok(Turn::Waited),
-        Some(e) => put(plan, most, desk, run, e),
+        Some(e) => put(rt, plan, most, desk, run, e),
     }
 }
 
@@ -146,7 +149,7 @@ fn rest<D, T: Recorder<D>, P: Poller, C: Clock, R: Wait>(
 {
     match run.rest(rt, plan, most, desk)? {
         Step::Placed => Ok(Turn::Placed),
-        Step::Waited => idle(plan, most, desk, run, outlook, poller, clock, left),
+        Step::Waited => idle(rt, plan, most, desk, run, outlook, poller, clock, left),
         Step::Stopped => Ok(Turn::Stopped { left }),
         Step::Over => Ok(Turn::Over),
     }
@@ -237,8 +240,8 @@ fn answer<D, T: Recorder<D>, P: Poller, C: Clock, R: Wait>(
 {
     match outlook.ask(plan, most, run.machine(), poller, clock) {
         Ask::Leave => Ok(Turn::Over),
-        Ask::Told(e) => tell(plan, most, desk, run, outlook, e),
-        Ask::Put(e) => put(plan, most, desk, run, e),
+        Ask::Told(e) => tell(rt, plan, most, desk, run, outlook, e),
+        Ask::Put(e) => put(rt, plan, most, desk, run, e),
         Ask::Work { chosen, left } => act(
             rt, plan, most, desk, run, outlook, poller, clock, chosen, left,
         ),

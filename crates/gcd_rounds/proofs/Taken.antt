@@ -199,7 +199,7 @@ module _ {H : Type 0} (kind : H → Kind) (times total : H → ℕ) (plan : Plan
     pub total_fits : folded (kind x) (total x) value < 2 ^ 64
 
   pub taking_fits : (h : List Event) (w : ℕ) (s : Obj) (handlers : List H) (x : H) (value : ℕ) → IsPlan plan → IsLawful plan (h ++ Deliver w s ∷ [])
-      → length h + 2 < 2 ^ 32 → is_source plan s.0 ≡ true → slice_get handlers (sources_before plan s.0) ≡ Some x
+      → length h + 1 < 2 ^ 32 → is_source plan s.0 ≡ true → slice_get handlers (sources_before plan s.0) ≡ Some x
       → value ≡ last_data_of plan (h ++ Deliver w s ∷ []) s.0 → HaveTaken kind times total plan h handlers → Fits x value
   taking_fits h w s handlers x value valid lawful room source at handed took =
       let over = deliver_hands_over plan h w s in

@@ -12,5 +12,5 @@ pub record WasRecorded {H : Type 0} (kind : H → Kind) (times total : H → ℕ
   pub history : List Event
   pub stands : StandsFor m plan (history ++ e ∷ [])
   pub own : m.plan ≡ plan
-  pub room : length history + 2 < 2 ^ 32
+  pub room : length history + 1 < 2 ^ 32
   pub taken : HaveTaken kind times total plan history handlers

@@ -33,10 +33,10 @@ abbrev pub HaveTaken : {H : Type 0} → (kind : H → Kind) → (times total : H
 HaveTaken kind times total plan h handlers = AreHandlers kind times total plan (delivery_count_of h) (received_of plan h) handlers
 
 -- a run so far: the machine stands for its journal, whose workers are those of the run, and which follows the choice of one who
--- is alone; and the handlers took what was handed over; the machine counts events in 32 bits
+-- is alone; and the handlers took what was handed over; the limit of events is a number of 32 bits, as the machine's count is
 pub record IsRun {J H : Type 0} (kind : H → Kind) (times total : H → ℕ) (plan : PlanView) (r : Running J H) : Type 0 where
   pub some : 0 < r.terms.workers
-  pub countable : r.terms.most + 1 < 2 ^ 32
+  pub countable : r.terms.most < 2 ^ 32
   pub own : r.machine.plan ≡ plan
   pub stands : StandsFor r.machine plan r.journal.items
   pub few : length r.journal.items ≤ r.terms.most

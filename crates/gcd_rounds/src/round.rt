@@ -62,7 +62,15 @@ impl<J: Job + Drop, H: Handler + Drop> Recorder<Global> for Round<J, H> {
         let _ = desk;
     }
 
-    fn put(&mut self, plan: &Plan, most: u32, desk: &Global, e: Event) -> Result<Put, AllocError> {
+    fn put<R: Wait>(
+        &mut self,
+        rt: &R,
+        plan: &Plan,
+        most: u32,
+        desk: &Global,
+        e: Event,
+    ) -> Result<Put, AllocError> {
+        let _ = rt;
         let _ = most;
         let _ = desk;
         self.run.put(plan, e)

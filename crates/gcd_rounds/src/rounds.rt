@@ -72,7 +72,7 @@ fn close_round<
         → OnOk result (IsGoing most P.tells C.tells plan.now stood before early (P.state poller.new) (C.state clock.new) round.new.run.journal.items outlook.new) }
 {
     if !end_round(rt, alloc, plan, round)? {
-        idle(plan, most, &alloc, round, outlook, poller, clock, left)?;
+        idle(rt, plan, most, &alloc, round, outlook, poller, clock, left)?;
     }
     Ok(())
 }
@@ -161,7 +161,6 @@ fn ran<R: Threads + Wait + Sync, J: Job + Drop + Send, H: Handler + Drop, P: Pol
     poller: &mut P,
     clock: &mut C,
 ) -> Result<RoundsEnd<H>, AllocError>
-    requires most { most + 1 < 2 ^ 32 }
     requires jobs { length jobs.items ≡ length plan.now.blocks }
     requires handlers { AreHandlers H.kind H.times H.total plan.now (λ s. 0) (λ s. 0) handlers.items }
     requires workers { 0 < workers }
@@ -197,8 +196,8 @@ fn ran<R: Threads + Wait + Sync, J: Job + Drop + Send, H: Handler + Drop, P: Pol
 }
 
 /// Runs the plan by so many workers, round after round, until the run is quiescent, halted or full, which is at `most` events. Conditions:
-/// `most` is below 4,294,967,295; one job for each block, main's first; one handler for each source, by number, of the source's kind,
-/// which has taken nothing; 1 to 64 workers; and the poller watches no feed yet. The `Err` comes only where memory runs out.
+/// one job for each block, main's first; one handler for each source, by number, of the source's kind, which has taken nothing; 1 to
+/// 64 workers; and the poller watches no feed yet. The `Err` comes only where memory runs out.
 pub fn run_rounds<
     R: Threads + Wait + Sync,
     J: Job + Drop + Send,
@@ -216,7 +215,6 @@ pub fn run_rounds<
     poller: &mut P,
     clock: &mut C,
 ) -> Result<RoundsEnd<H>, RoundsFault>
-    requires most { most + 1 < 2 ^ 32 }
     requires jobs { length jobs.items ≡ length plan.now.blocks }
     requires handlers { AreHandlers H.kind H.times H.total plan.now (λ s. 0) (λ s. 0) handlers.items }
     requires workers { 0 < workers × workers ≤ max_workers }

@@ -80,7 +80,6 @@ impl<J: Job + Drop, H: Handler + Drop> Running<J, H> {
         handlers: Vec<H>,
         workers: u8,
     ) -> Result<Running<J, H>, AllocError>
-        requires most { most + 1 < 2 ^ 32 }
         requires jobs { length jobs.items ≡ length plan.now.blocks }
         requires handlers { AreHandlers H.kind H.times H.total plan.now (λ s. 0) (λ s. 0) handlers.items }
         requires workers { 0 < workers }

@@ -12,7 +12,7 @@ returns-clause-run g c =
     let empty = c.new-journal.ensures.items in
     record {
       some = c.requires.workers;
-      countable = c.requires.most;
+      countable = omega (arith, c.ranges.most);
       own = c.in_ok-machine.ensures.plan;
       stands = rw empty c.in_ok-machine.ensures.stands;
       few = rw empty (omega arith);
