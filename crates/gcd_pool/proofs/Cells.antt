@@ -15,15 +15,16 @@ use Rattle.gcd_event.specs.declared.event.Event.{Event}
 use Rattle.gcd_history.specs.Sources.{joined}
 use Rattle.gcd_history.specs.History.{IsLawful, delivery_count_of, received_of, last_data_of}
 use Rattle.gcd_team.proofs.Totals.{totals_fit}
-use Rattle.gcd_row.specs.Shapes.{body, handler, shape_of, gives_of}
+use Rattle.gcd_row.specs.Shapes.{Shape, body, handler, shape_of, gives_of}
 use Rattle.gcd_row.specs.Lying.{slot_of, HasSlots, HasSlot, IsServed, IsUntaken}
 use Rattle.gcd_row.specs.Views.{held_run}
 use Rattle.gcd_row.proofs.Totals.{earlier_and_last}
-use Rattle.gcd_row.specs.Passes.{IsPassOf, slots, view}
+use Rattle.gcd_row.specs.Passes.{IsPassOf, slots, terms_of, view}
 use Rattle.gcd_row.specs.declared.board.RowBoard.{RowBoard}
 use Rattle.gcd_row.specs.declared.cell.Cell.{Cell}
 use Rattle.gcd_row.specs.declared.cell.Cell.TheVariants.{Body, Done, Handler, Away}
 use Rattle.gcd_row.specs.declared.pass.RowPass.{RowPass}
+use Rattle.gcd_row.specs.declared.view.Terms.{Terms}
 use Rattle.gcd_pool.specs.Hands.{IsFresh}
 
 -- a handler that takes what the last Deliver handed over
@@ -44,6 +45,12 @@ takes_fit plan h s kind times total value valid lawful few at u is =
       total_fits = omega (arith, sum, fit.total, most);
       served = record { all_times = u.once_fewer; all_data = sum };
     }
+
+-- a row takes fewer than 2^32 events
+pub few_events : {S : Type 0} (shape : S → Shape) (gives : S → ℕ → Type 0) (b : RowBoard S) (p : RowPass S) (most : ℕ) → IsPassOf shape gives b p → most ≡ (terms_of b).limits.most → most < 2 ^ 32 → length (view p).seen ≤ max_events
+few_events {S} shape gives b p most is limit low =
+    let same : (view p).terms.limits.most ≡ (terms_of b).limits.most = ap (λ (t : Terms S). t.limits.most) is.terms in
+    omega (arith, is.few, same, limit, low)
 
 module _ {J H : Type 0} (kind : H → Kind) (times total : H → ℕ) (gives : J → ℕ → ℕ → Type 0) where
   body_cell : (c : Cell J H) → shape_of kind times total c ≡ body → (job : J) × (c ≡ Body job)

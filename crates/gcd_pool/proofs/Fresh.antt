@@ -5,6 +5,7 @@ use Rattle.std.proofs.lemmas.Option.{same_Some, slice_get_cases}
 use Rattle.gcd_plan.specs.PlanView.{PlanView}
 use Rattle.gcd_plan.specs.Validity.{IsPlan}
 use Rattle.gcd_plan.specs.declared.numbers.Blk.{Blk}
+use Rattle.gcd_plan.specs.declared.numbers.Obj.{Obj}
 use Rattle.gcd_plan.specs.declared.numbers.Run.{Run}
 use Rattle.gcd_plan.specs.declared.numbers.Run.TheVariants.{Block, Source}
 use Rattle.gcd_event.specs.declared.event.Event.{Event}
@@ -27,7 +28,7 @@ use Rattle.gcd_row.specs.Plays.{Turned}
 use Rattle.gcd_row.specs.declared.view.Terms.{Terms}
 use Rattle.gcd_row.proofs.Holding.{handler_of_source}
 use Rattle.gcd_row.proofs.Totals.{earlier_now, earlier_waits}
-use Rattle.gcd_row.proofs.Running.{known_run, taken_known, taken_not_given, taken_source, none_some}
+use Rattle.gcd_row.proofs.Running.{known_run, source_slot, taken_known, taken_not_given, taken_source, none_some}
 use Rattle.gcd_event.specs.Owners.{ended}
 use Rattle.gcd_pool.specs.Hands.{IsUncalled, IsFreshCell, IsFreshAt}
 
@@ -40,6 +41,11 @@ first_there xs i low = ⊎_elim
 head_of : {S : Type 0} → S → List (ℕ × S) → S
 head_of x [] = x
 head_of x (y ∷ ys) = y.1
+
+-- the slot at the front
+front_of : {S : Type 0} → ℕ → S → List (ℕ × S) → ℕ
+front_of k x [] = k
+front_of k x (y ∷ ys) = y.0
 
 -- the cell at the front of two equal lists
 pub same_cell : {S : Type 0} → (k n : ℕ) (x y : S) (l : List (ℕ × S)) → ◌≡◌ {A = List (ℕ × S)} ((k, x) ∷ l) ((n, y) ∷ []) → x ≡ y
@@ -142,6 +148,26 @@ module _ {S : Type 0} (shape : S → Shape) (gives : S → ℕ → Type 0) (t : 
           let runs : q ≡ r = same_Some q r (sym ((what_is_held_after t.plan h e).took q is) ∙ held) in
           let cell : y.0 ≡ x = same_cell (slot_of t.plan q) (slot_of t.plan r) y.0 x c (sym y.1 ∙ here) in
           subst (λ (k : Run). IsFreshCell shape t.plan (h ++ e ∷ []) k x) runs (subst (IsFreshCell shape t.plan (h ++ e ∷ []) q) cell (taken_is_fresh h e q y.0 lawful may cells is y.2))
+
+  -- what is ready to be given back stays so while others go on
+  pub back_ahead : (h g : List Event) (w : ℕ) (e : Event) (c : List (ℕ × S)) → IsLawful t.plan g → StartsWith g h → of_worker w g ≡ of_worker w h → HasSlots shape gives t h (held_by t.plan h w) c → GivesBack shape t h e c → GivesBack shape t g e c
+  unfolding front_of
+  back_ahead h g w e c lawful s own has back = λ r gave. let b = back r gave in (b.0, b.1, ready r b.0 b.1 b.2)
+    where
+      held_source : (u : Obj) (y : S) → c ≡ (slot_of t.plan (Source u), y) ∷ [] → (o : Option Run) → held_by t.plan h w ≡ o → HasSlots shape gives t h o c → held_by t.plan h w ≡ Some (Source u)
+      held_source u y here None held empty = absurd (nil_cons (sym empty ∙ here))
+        where
+          nil_cons : {A : Type 0} {a : A} → [] ≡ a ∷ [] → ⊥
+          nil_cons z = cc
+      held_source u y here (Some q) held had =
+          held ∙ ap Some (source_slot t.plan q u had.known (first_slot (slot_of t.plan q) (slot_of t.plan (Source u)) had.cell y (sym had.here ∙ here)))
+        where
+          first_slot : (k n : ℕ) (a d : S) → ◌≡◌ {A = List (ℕ × S)} ((k, a) ∷ []) ((n, d) ∷ []) → k ≡ n
+          first_slot k n a d same = ap (λ (l : List (ℕ × S)). front_of k a l) same
+
+      ready : (q : Run) (y : S) → c ≡ (slot_of t.plan q, y) ∷ [] → IsReadyFor shape t.plan h e q y → IsReadyFor shape t.plan g e q y
+      ready (Block b) y here old = old
+      ready (Source u) y here old = ready_ahead shape t.plan h g w e (Source u) y lawful s own (held_source u y here (held_by t.plan h w) refl has) old
 
   -- who gave its run back holds none
   pub fresh_given : (h : List Event) (e : Event) (q : Run) (d : List (ℕ × S)) → given t.plan e ≡ Some q → IsFreshAt shape t.plan (h ++ e ∷ []) (worker_of e) d

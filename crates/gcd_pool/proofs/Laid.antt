@@ -11,7 +11,7 @@ use Rattle.gcd_steal.specs.declared.deque.Deque.{Deque}
 use Rattle.gcd_pool.specs.Placing.{SaysBegun, SaysRecorded}
 use Rattle.gcd_pool.specs.Turns.{FoundNone, HasLaidDown, LaysFoundDown, SaysOut}
 use Rattle.gcd_pool.specs.declared.turn.Turn.{Turn}
-use Rattle.gcd_pool.specs.declared.turn.Turn.TheVariants.{Left, Placed, Ended, Out, Waited, Rested}
+use Rattle.gcd_pool.specs.declared.turn.Turn.TheVariants.{Left, Placed, Ended, Out, Waited, Rested, Stopped}
 
 -- with the same deque it has pushed the same
 pub same_deque : (b c : Bench) → c.deque ≡ b.deque → (own_account c).sent ≡ (own_account b).sent
@@ -28,6 +28,7 @@ none_after a b c Ended same none = none
 none_after a b c (Out node) same none = none ∙ same
 none_after a b c Waited same none = none
 none_after a b c Rested same none = none
+none_after a b c Stopped same none = none
 
 pub lays_after : (a b c : Bench) (turn : Turn) → (own_account b).sent ≡ (own_account a).sent → LaysFoundDown b c turn → LaysFoundDown a c turn
 lays_after a b c turn same lays = ⊎_elim
@@ -58,6 +59,7 @@ out_further (Out node) n a b c m out =
     (out.0, (out.1.0 ++ first.0, out.1.1 ∙ ap (λ (h : History). out.1.0 ++ h) first.1 ∙ sym (append_assoc out.1.0 first.0 (sight_of a).seen)), out.2)
 out_further Waited n a b c m out = tt
 out_further Rested n a b c m out = tt
+out_further Stopped n a b c m out = tt
 
 -- who begins with a Drain in hand does not answer so
 pub with_drain : {S : Type 0} → (t : Turn) (v w : View S) (b c : Bench) → ((n : Obj) → SaysBegun n t v w) → SaysOut t b c
@@ -71,6 +73,7 @@ with_drain (Out node) v w b c says = absurd (two_apart ((says (record { 0 = 0 })
     two_apart x y = absurd (omega (arith, ap (λ (o : Obj). o.0) x, ap (λ (o : Obj). o.0) y))
 with_drain Waited v w b c says = tt
 with_drain Rested v w b c says = tt
+with_drain Stopped v w b c says = tt
 
 pub recorded_out : {S : Type 0} → (e : Event) (t : Turn) (v w : View S) (b c : Bench) → SaysRecorded e t v w → SaysOut t b c
 unfolding SaysRecorded SaysOut
@@ -80,6 +83,7 @@ recorded_out e Ended v w b c says = tt
 recorded_out e (Out node) v w b c says = absurd says
 recorded_out e Waited v w b c says = tt
 recorded_out e Rested v w b c says = absurd says
+recorded_out e Stopped v w b c says = tt
 
 pub leaves_out : (b c : Bench) → SaysOut Left b c
 unfolding SaysOut

@@ -10,6 +10,9 @@ pub mod Placing
 pub mod Splices
 pub mod Teams
 pub mod Recording
+pub mod Outcomes
 pub mod EndPuts
 pub mod Exits
 pub mod Laid
+pub mod Stops
+pub mod Ends

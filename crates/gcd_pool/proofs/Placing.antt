@@ -18,7 +18,7 @@ use Rattle.gcd_pool.specs.Duties.{begun_on, node_of_run}
 use Rattle.gcd_pool.specs.Hands.{GoesOn}
 use Rattle.gcd_pool.specs.Placing.{HasPlaced, HasPlacedNone, SaysBegun, SaysPlaced, SaysRecorded, SaysRested}
 use Rattle.gcd_pool.specs.declared.turn.Turn.{Turn}
-use Rattle.gcd_pool.specs.declared.turn.Turn.TheVariants.{Left, Placed, Ended, Out, Waited, Rested}
+use Rattle.gcd_pool.specs.declared.turn.Turn.TheVariants.{Left, Placed, Ended, Out, Waited, Rested, Stopped}
 
 -- an event that begins a run on a node begins a run
 begun_run : (plan : PlanView) (h : List Event) (e : Event) (n : Obj) → begun_on plan h e ≡ Some n → (r : Run) × (begun e ≡ Some r)
@@ -50,6 +50,9 @@ module _ {S : Type 0} where
   some_as e v u w go one two =
       subst (λ (x : View S). of_worker x.worker w.seen ≡ of_worker x.worker u.seen ++ e ∷ []) go.is two ∙ ap (λ (l : List Event). l ++ e ∷ []) one
 
+  pub one_further : (e : Event) (v u w : View S) → GoesOn v u → HasPlacedNone v u → HasPlaced e u w → HasPlaced e v w
+  one_further e v u w go one two = some_as e v u w go one two
+
   pub quiet_further : (v u w : View S) → GoesOn v u → HasPlacedNone v u → HasPlacedNone u w → HasPlacedNone v w
   quiet_further v u w go one two = none_as v u w go one two
 
@@ -61,6 +64,7 @@ module _ {S : Type 0} where
   placed_further (Out node) v u w go one two = none_as v u w go one two
   placed_further Waited v u w go one two = none_as v u w go one two
   placed_further Rested v u w go one two = none_as v u w go one two
+  placed_further Stopped v u w go one two = none_as v u w go one two
 
   pub recorded_further : (e : Event) (t : Turn) (v u w : View S) → GoesOn v u → HasPlacedNone v u → SaysRecorded e t u w → SaysRecorded e t v w
   unfolding SaysRecorded
@@ -70,6 +74,7 @@ module _ {S : Type 0} where
   recorded_further e (Out node) v u w go one two = two
   recorded_further e Waited v u w go one two = (none_as v u w go one two.0, two.1)
   recorded_further e Rested v u w go one two = two
+  recorded_further e Stopped v u w go one two = none_as v u w go one two
 
   -- ## An event that is recorded
 
@@ -93,6 +98,10 @@ module _ {S : Type 0} where
   unfolding SaysRecorded
   waits_barred e v w at y says = (says.0.ahead.own, (y, subst (λ (x : View S). Rattle.gcd_history.specs.History.why x.terms.plan w.seen e ≡ Some y) (Rattle.std.proofs.Common.sym says.0.is) says.3))
 
+  pub stops : (e : Event) (v w : View S) → HasPlacedNone v w → SaysRecorded e Stopped v w
+  unfolding SaysRecorded
+  stops e v w none = none
+
   pub recorded_placed : (e : Event) (t : Turn) (v w : View S) → SaysRecorded e t v w → SaysPlaced t v w
   unfolding SaysRecorded SaysPlaced
   recorded_placed e Left v w says = says
@@ -101,6 +110,7 @@ module _ {S : Type 0} where
   recorded_placed e (Out node) v w says = absurd says
   recorded_placed e Waited v w says = says.0
   recorded_placed e Rested v w says = absurd says
+  recorded_placed e Stopped v w says = says
 
   pub recorded_rests : (e : Event) (t : Turn) (v w : View S) → SaysRecorded e t v w → SaysRested t w
   unfolding SaysRecorded SaysRested
@@ -110,6 +120,7 @@ module _ {S : Type 0} where
   recorded_rests e (Out node) v w says = absurd says
   recorded_rests e Waited v w says = tt
   recorded_rests e Rested v w says = absurd says
+  recorded_rests e Stopped v w says = tt
 
   -- ## A run that begins
 
@@ -120,6 +131,10 @@ module _ {S : Type 0} where
   pub begins_none : (n : Obj) (v w : View S) → HasPlacedNone v w → SaysBegun n Waited v w
   unfolding SaysBegun
   begins_none n v w none = none
+
+  pub begins_stopped : (n : Obj) (v w : View S) → HasPlacedNone v w → SaysBegun n Stopped v w
+  unfolding SaysBegun
+  begins_stopped n v w none = none
 
   pub begins_out : (n : Obj) (v w : View S) → HasPlacedNone v w → SaysBegun n (Out n) v w
   unfolding SaysBegun
@@ -133,6 +148,7 @@ module _ {S : Type 0} where
   begun_placed n (Out node) v w says = says.1
   begun_placed n Waited v w says = says
   begun_placed n Rested v w says = absurd says
+  begun_placed n Stopped v w says = says
 
   pub begun_rests : (n : Obj) (t : Turn) (v w : View S) → SaysBegun n t v w → SaysRested t w
   unfolding SaysBegun SaysRested
@@ -142,6 +158,7 @@ module _ {S : Type 0} where
   begun_rests n (Out node) v w says = tt
   begun_rests n Waited v w says = tt
   begun_rests n Rested v w says = absurd says
+  begun_rests n Stopped v w says = tt
 
   -- ## A turn that does nothing
 

@@ -12,19 +12,20 @@ use Rattle.gcd_team.proofs.Own.{own_events_tell_what_is_held}
 use Rattle.gcd_team.proofs.TeamLaws.{givings_are_the_holders}
 use Rattle.gcd_row.specs.Shapes.{Shape}
 use Rattle.gcd_row.specs.Lying.{slot_of, HasSlots, GivesBack}
-use Rattle.gcd_row.specs.Views.{seeing, held_run}
+use Rattle.gcd_row.specs.Views.{held_run, knowing, known}
 use Rattle.gcd_row.specs.Plays.{Turned}
 use Rattle.gcd_row.specs.Passes.{IsPassOf, Ahead, IsPlaced, Looks, Says, SaysSlots, slots, view}
 use Rattle.gcd_row.specs.declared.board.RowBoard.{RowBoard}
 use Rattle.gcd_row.specs.declared.pass.RowPass.{RowPass}
 use Rattle.gcd_row.specs.declared.put.Put.{Put}
-use Rattle.gcd_row.specs.declared.put.Put.TheVariants.{Placed, Barred, Full}
+use Rattle.gcd_row.specs.declared.put.Put.TheVariants.{Placed, Barred, Held, Full}
+use Rattle.gcd_row.specs.declared.view.Marks.{Marks}
 use Rattle.gcd_row.specs.declared.view.View.{View}
 use Rattle.gcd_row.proofs.Fronts.{starts_refl, starts_trans, starts_more}
 use Rattle.gcd_row.proofs.Passing.{lawful_seen, valid_plan}
 use Rattle.gcd_event.specs.Owners.{ended}
 use Rattle.gcd_pool.specs.Hands.{GoesOn, IsFresh, IsFreshAt, IsSettled}
-use Rattle.gcd_pool.proofs.Fresh.{back_of_fresh, fresh_ahead, fresh_given, fresh_own, given_is_ended, ready_ahead}
+use Rattle.gcd_pool.proofs.Fresh.{back_ahead, back_of_fresh, fresh_ahead, fresh_given, fresh_own, given_is_ended, ready_ahead}
 
 -- ## Going on
 
@@ -37,12 +38,25 @@ module _ {S : Type 0} where
 
   pub goes_further : (v u w : View S) → GoesOn v u → GoesOn u w → GoesOn v w
   goes_further v u w a b = record {
-    is = b.is ∙ ap (λ (x : View S). seeing x w.seen) a.is;
+    is = b.is ∙ ap (λ (x : View S). knowing x w.seen w.marks) a.is;
     more = starts_trans w.seen u.seen v.seen b.more a.more;
   }
 
+  pub goes_worker : (v w : View S) → GoesOn v w → w.worker ≡ v.worker
+  goes_worker v w go = ap (λ (x : View S). x.worker) go.is
+
+  -- what it knows of the passed words is what it knows
+  pub knows_marks : (v w : View S) (m : Marks) → w ≡ knowing v w.seen m → w ≡ knowing v w.seen w.marks
+  knows_marks v w m is = is ∙ ap (λ (k : Marks). knowing v w.seen k) (sym (ap (λ (x : View S). x.marks) is))
+
   pub looks_goes_on : (v w : View S) → Looks v w → GoesOn v w
-  looks_goes_on v w l = record { is = l.is; more = l.ahead.more }
+  looks_goes_on v w l = record { is = knows_marks v w (known v w) l.is; more = l.ahead.more }
+
+  -- it knows something else of the passed words, and nothing more
+  pub passing_goes_on : (v w : View S) → w ≡ knowing v v.seen w.marks → GoesOn v w
+  passing_goes_on v w is =
+      let seen : w.seen ≡ v.seen = ap (λ (x : View S). x.seen) is in
+      record { is = is ∙ ap (λ (l : List Event). knowing v l w.marks) (sym seen); more = subst (λ (l : List Event). StartsWith l v.seen) (sym seen) (starts_refl v.seen) }
 
   pub placed_seen : (e : Event) (v w : View S) (n : ℕ) (p : IsPlaced e v w n) → w.seen ≡ p.history ++ e ∷ []
   placed_seen e v w n p = ap (λ (x : View S). x.seen) p.is
@@ -51,23 +65,24 @@ module _ {S : Type 0} where
   says_goes_on e v w (Placed n) p =
       let seen : w.seen ≡ p.history ++ e ∷ [] = placed_seen e v w n p in
       record {
-        is = p.is ∙ ap (λ (l : List Event). seeing v l) (sym seen);
+        is = knows_marks v w (known v w) (p.is ∙ ap (λ (l : List Event). knowing v l (known v w)) (sym seen));
         more = subst (λ (l : List Event). StartsWith l v.seen) (sym seen) (starts_trans (p.history ++ e ∷ []) p.history v.seen (starts_more p.history e) p.ahead.more);
       }
   says_goes_on e v w (Barred at y) p = looks_goes_on v w p.0
-  says_goes_on e v w Full p = record { is = p.0; more = p.1.more }
+  says_goes_on e v w (Held by passed) p = looks_goes_on v w p.0.looks
+  says_goes_on e v w Full p = record { is = knows_marks v w (known v w) p.0; more = p.1.more }
 
 module _ {S : Type 0} (shape : S → Shape) (gives : S → ℕ → Type 0) (b : RowBoard S) where
   -- the history that a pass has seen is lawful
-  lawful_as : (v : View S) (q : RowPass S) → IsPassOf shape gives b q → view q ≡ seeing v (view q).seen → IsLawful v.terms.plan (view q).seen
+  lawful_as : (v : View S) (q : RowPass S) → IsPassOf shape gives b q → view q ≡ knowing v (view q).seen (view q).marks → IsLawful v.terms.plan (view q).seen
   lawful_as v q is same = subst (λ (x : View S). IsLawful x.terms.plan (view q).seen) same (lawful_seen shape gives b q is)
 
-  fresh_as : (v w : View S) (c : List (ℕ × S)) → w ≡ seeing v w.seen → IsFreshAt shape v.terms.plan w.seen v.worker c → IsFresh shape w c
+  fresh_as : (v w : View S) (c : List (ℕ × S)) → w ≡ knowing v w.seen w.marks → IsFreshAt shape v.terms.plan w.seen v.worker c → IsFresh shape w c
   fresh_as v w c same fresh = subst (λ (x : View S). IsFreshAt shape x.terms.plan w.seen x.worker c) (sym same) fresh
 
   -- ## The cell that was not used
 
-  ahead_fresh : (p q : RowPass S) → IsPassOf shape gives b q → view q ≡ seeing (view p) (view q).seen → Ahead (view p) (view q).seen → slots q ≡ slots p → IsFresh shape (view p) (slots p) → IsFresh shape (view q) (slots q)
+  pub ahead_fresh : (p q : RowPass S) → IsPassOf shape gives b q → view q ≡ knowing (view p) (view q).seen (view q).marks → Ahead (view p) (view q).seen → slots q ≡ slots p → IsFresh shape (view p) (slots p) → IsFresh shape (view q) (slots q)
   ahead_fresh p q is same ahead slots_same fresh =
       let v = view p in
       fresh_as v (view q) (slots q) same
@@ -75,7 +90,7 @@ module _ {S : Type 0} (shape : S → Shape) (gives : S → ℕ → Type 0) (b : 
       (fresh_ahead shape v.terms.plan v.seen (view q).seen v.worker (slots p) (lawful_as v q is same) ahead.more ahead.own fresh))
 
   pub looks_fresh : (p q : RowPass S) → IsPassOf shape gives b q → Looks (view p) (view q) → slots q ≡ slots p → IsFresh shape (view p) (slots p) → IsFresh shape (view q) (slots q)
-  looks_fresh p q is l same fresh = ahead_fresh p q is l.is l.ahead same fresh
+  looks_fresh p q is l same fresh = ahead_fresh p q is (looks_goes_on (view p) (view q) l).is l.ahead same fresh
 
   placed_fresh : (p q : RowPass S) (e : Event) (n : ℕ) → IsPassOf shape gives b q → worker_of e ≡ (view p).worker → length (view p).terms.plan.blocks ≤ length (view p).terms.cells
       → (s : IsPlaced e (view p) (view q) n) → Turned shape gives (view p).terms s.history e (slots p) (slots q) → IsFresh shape (view p) (slots p) → IsFresh shape (view q) (slots q)
@@ -103,8 +118,9 @@ module _ {S : Type 0} (shape : S → Shape) (gives : S → ℕ → Type 0) (b : 
       subst (λ (l : List Event). Turned shape gives v.terms l e (slots p) (slots q)) one
       (subst (λ (x : View S). Turned shape gives x.terms t.0 e (slots p) (slots q)) go.is t.2) in
       placed_fresh p q e n is mine cells s turned fresh
-  says_fresh p q e (Barred at y) is mine cells s t fresh = ahead_fresh p q is s.0.is s.0.ahead t fresh
-  says_fresh p q e Full is mine cells s t fresh = ahead_fresh p q is s.0 s.1 t fresh
+  says_fresh p q e (Barred at y) is mine cells s t fresh = looks_fresh p q is s.0 t fresh
+  says_fresh p q e (Held by passed) is mine cells s t fresh = looks_fresh p q is s.0.looks t fresh
+  says_fresh p q e Full is mine cells s t fresh = ahead_fresh p q is (knows_marks (view p) (view q) (known (view p) (view q)) s.0) s.1 t fresh
 
   -- ## The cell that is ready
 
@@ -113,18 +129,28 @@ module _ {S : Type 0} (shape : S → Shape) (gives : S → ℕ → Type 0) (b : 
       let same : s.run ≡ r = same_Some s.run r (sym (given_is_ended v.terms.plan e s.run s.ends) ∙ gave) in
       subst (λ (k : Run). (x : S) × (c ≡ (slot_of v.terms.plan k, x) ∷ []) × Rattle.gcd_row.specs.Lying.IsReadyFor shape v.terms.plan v.seen e k x) same (s.cell, s.here, s.ready)
 
-  pub settled_waits : (p q : RowPass S) (e : Event) → IsPassOf shape gives b q → Looks (view p) (view q) → slots q ≡ slots p → IsSettled shape (view p) e (slots p) → IsSettled shape (view q) e (slots q)
-  settled_waits p q e is l same s =
+  pub settled_ahead : (p q : RowPass S) (e : Event) → IsPassOf shape gives b q → view q ≡ knowing (view p) (view q).seen (view q).marks → Ahead (view p) (view q).seen → slots q ≡ slots p → IsSettled shape (view p) e (slots p) → IsSettled shape (view q) e (slots q)
+  settled_ahead p q e is goes ahead same s =
       let v = view p in
       let w_seen = (view q).seen in
-      subst (λ (x : View S). IsSettled shape x e (slots q)) (sym l.is) (record {
+      subst (λ (x : View S). IsSettled shape x e (slots q)) (sym goes) (record {
         run = s.run;
-        held = own_events_tell_what_is_held v.terms.plan w_seen v.seen v.worker l.ahead.own ∙ s.held;
+        held = own_events_tell_what_is_held v.terms.plan w_seen v.seen v.worker ahead.own ∙ s.held;
         ends = s.ends;
         cell = s.cell;
         here = same ∙ s.here;
-        ready = ready_ahead shape v.terms.plan v.seen w_seen v.worker e s.run s.cell (lawful_as v q is l.is) l.ahead.more l.ahead.own s.held s.ready;
+        ready = ready_ahead shape v.terms.plan v.seen w_seen v.worker e s.run s.cell (lawful_as v q is goes) ahead.more ahead.own s.held s.ready;
       })
+
+  -- what is ready to be given back stays so while others go on
+  pub gives_ahead : (p q : RowPass S) (e : Event) → IsPassOf shape gives b p → IsPassOf shape gives b q → view q ≡ knowing (view p) (view q).seen (view q).marks → Ahead (view p) (view q).seen → slots q ≡ slots p
+      → GivesBack shape (view p).terms (view p).seen e (slots p) → GivesBack shape (view q).terms (view q).seen e (slots q)
+  gives_ahead p q e was is goes ahead same back =
+      let v = view p in
+      let w_seen = (view q).seen in
+      subst (λ (x : View S). GivesBack shape x.terms w_seen e (slots q)) (sym goes)
+      (subst (λ (c : List (ℕ × S)). GivesBack shape v.terms w_seen e c) (sym same)
+      (back_ahead shape gives v.terms v.seen w_seen v.worker e (slots p) (lawful_as v q is goes) ahead.more ahead.own was.has back))
 
   pub settled_placed : (p q : RowPass S) (e : Event) (n : ℕ) → worker_of e ≡ (view p).worker → Says e (view p) (view q) (Placed n) → IsSettled shape (view p) e (slots p) → IsFresh shape (view q) (slots q)
   settled_placed p q e n mine says s =

@@ -1,13 +1,13 @@
 -- What worker 0's calls on the row are to its loop.
-use Rattle.std.proofs.Common.{◌≡◌, ◌≤◌, ◌∙◌, ℕ, Bool, true, List, [], ◌∷◌, Some, None, Option, length, ap, sym, subst, refl, IsTrue}
+use Rattle.std.proofs.Common.{◌≡◌, ◌≤◌, ◌∙◌, ℕ, Bool, true, false, List, [], ◌∷◌, Some, None, Option, length, ap, sym, subst, refl, IsTrue}
 use Rattle.std.specs.List.{list_all}
+use Rattle.std.specs.Prelude.{Result, Ok, Err, OnOk}
 use Rattle.std.proofs.lemmas.Bool.{and_from, and_parts}
-use Rattle.gcd_plan.specs.Limits.{max_events}
 use Rattle.gcd_plan.specs.PlanView.{PlanView}
 use Rattle.gcd_plan.specs.declared.why.Why.{Why}
 use Rattle.gcd_event.specs.declared.event.Event.{Event}
 use Rattle.gcd_event.specs.declared.event.Event.TheVariants.{Start, Act as Acted, Wake, End, Deliver, DeliverEnd, Tick, Ready, FeedEnd, Misuse, Halt, Expire}
-use Rattle.gcd_history.specs.Choice.{is_work}
+use Rattle.gcd_history.specs.Choice.{is_work, worker_of}
 use Rattle.gcd_history.specs.History.{choice_of, why}
 use Rattle.gcd_loop.specs.Followed.{FollowsChoice}
 use Rattle.gcd_loop.proofs.Follows.{follows_only}
@@ -18,22 +18,29 @@ use Rattle.gcd_loop.specs.declared.recorder.Step.{Step}
 use Rattle.gcd_loop.specs.declared.recorder.Step.TheVariants.{Placed as StepPlaced, Waited as StepWaited, Stopped, Over}
 use Rattle.gcd_loop.proofs.Steps.{grown}
 use Rattle.gcd_row.specs.Shapes.{Shape}
-use Rattle.gcd_row.specs.Views.{seeing}
-use Rattle.gcd_row.specs.Passes.{IsPassOf, Looks, slots, view, machine_of}
+use Rattle.gcd_row.specs.Views.{knowing, seeing}
+use Rattle.gcd_row.specs.Passes.{Ahead, IsPassOf, Looks, slots, view, machine_of}
 use Rattle.gcd_row.specs.Passes as row
 use Rattle.gcd_row.specs.declared.pass.RowPass.{RowPass}
+use Rattle.gcd_row.specs.declared.board.RowBoard.{RowBoard}
+use Rattle.gcd_row.specs.declared.put.Put.{Put}
 use Rattle.gcd_row.specs.declared.put.Put.TheVariants.{Placed, Barred, Full}
+use Rattle.gcd_row.specs.declared.view.Terms.{Terms}
 use Rattle.gcd_row.specs.declared.view.View.{View}
-use Rattle.gcd_pool.specs.Hands.{GoesOn, IsFresh, Serving}
+use Rattle.gcd_pool.specs.Hands.{GoesOn, IsFresh, IsHandOf, Serving}
 use Rattle.gcd_outer.specs.Outside.{ClockState}
 use Rattle.gcd_outer.specs.Tells.{PollerState}
 use Rattle.gcd_pool.specs.Leads.{IsHead, Leads, Led}
+use Rattle.gcd_pool.specs.Outcomes.{HasWaited, WasPut}
 use Rattle.gcd_pool.specs.Works.{AddsNone, AddsOnly, AddsWork, is_own_work}
 use Rattle.gcd_pool.specs.declared.hand.Hand.{Hand}
 use Rattle.gcd_pool.specs.declared.hand.Pool.{Pool}
-use Rattle.gcd_pool.proofs.Puts.{placed_seen}
-use Rattle.gcd_pool.proofs.Serves.{looks_ready, serves_further, serves_pass}
-use Rattle.gcd_pool.proofs.Works.{ahead_adds, looks_adds, still_all}
+use Rattle.gcd_row.proofs.Fronts.{starts_trans}
+use Rattle.gcd_team.specs.Team.{of_worker}
+use Rattle.gcd_pool.proofs.Puts.{ahead_fresh, looks_fresh, placed_seen, says_fresh, says_goes_on}
+use Rattle.gcd_pool.proofs.Told.{to_lead}
+use Rattle.gcd_pool.proofs.Serves.{looks_serves, passing_fresh, serves_further, serves_nothing}
+use Rattle.gcd_pool.proofs.Works.{ahead_adds, ahead_adds_none, none_then, says_only, still_all}
 
 -- what worker 0 adds of its own, and what others add, is work
 own_is_work : (e : Event) → is_own_work 0 e ≡ true → is_work e ≡ true
@@ -67,18 +74,56 @@ module _ {S : Type 0} where
     work = all_work a.rest (subst (λ (n : ℕ). list_all (is_own_work n) a.rest ≡ true) head a.work);
   }
 
-  pub says_placed : (e : Event) (v w : View S) (n : ℕ) → v.worker ≡ 0 → row.Says e v w (Placed n) → Says max_events v.terms.plan e v.seen w.seen PutPlaced
-  says_placed e v w n head p = record {
-    front = p.history;
-    grown = adds_grows v (seeing v p.history) head (ahead_adds v (seeing v p.history) refl p.ahead);
-    is = placed_seen e v w n p;
+  ahead_grows : (v : View S) (h : List Event) → v.worker ≡ 0 → Ahead v h → Grows v.seen h
+  ahead_grows v h head a = adds_grows v (seeing v h) head (ahead_adds v (seeing v h) refl a)
+
+  ahead_further : (v u : View S) (h : List Event) → u.worker ≡ v.worker → Ahead v u.seen → Ahead u h → Ahead v h
+  ahead_further v u h same a c = record {
+    more = starts_trans h u.seen v.seen c.more a.more;
+    own = subst (λ (n : ℕ). of_worker n h ≡ of_worker n u.seen) same c.own ∙ a.own;
   }
 
-  pub says_barred : (e : Event) (v w : View S) (at : ℕ) (y : Why) → v.worker ≡ 0 → row.Says e v w (Barred at y) → Says max_events v.terms.plan e v.seen w.seen PutBarred
-  says_barred e v w at y head s = (adds_grows v w head (looks_adds v w s.0), λ may. barred (why v.terms.plan w.seen e) y may s.3)
+-- what has come of an event that was put until no passed word held it
+module _ {S : Type 0} (shape : S → Shape) (gives : S → ℕ → Type 0) (b : RowBoard S) (e : Event) (p q : RowPass S) where
+  waited_worker : (u : RowPass S) → HasWaited p u → (view u).worker ≡ (view p).worker
+  waited_worker u w = ap (λ (x : View S). x.worker) w.is
 
-  pub says_full : (e : Event) (v w : View S) → v.worker ≡ 0 → row.Says e v w Full → Says max_events v.terms.plan e v.seen w.seen Later
-  says_full e v w head s = (adds_grows v w head (ahead_adds v w s.0 s.1), λ halt. s.2)
+  waited_terms : (u : RowPass S) → HasWaited p u → (view u).terms ≡ (view p).terms
+  waited_terms u w = ap (λ (x : View S). x.terms) w.is
+
+  put_grows : (u : RowPass S) (h : List Event) → HasWaited p u → (view p).worker ≡ 0 → Ahead (view u) h → Grows (view p).seen h
+  put_grows u h w head a = ahead_grows (view p) h head (ahead_further (view p) (view u) h (waited_worker u w) w.ahead a)
+
+  pub put_placed : (n : ℕ) → WasPut shape gives b e p q (Placed n) → (view p).worker ≡ 0 → Says (view p).terms.limits.most (view p).terms.plan e (view p).seen (view q).seen PutPlaced
+  put_placed n w head = record {
+    front = w.says.history;
+    grown = put_grows w.last w.says.history w.waited head w.says.ahead;
+    is = placed_seen e (view w.last) (view q) n w.says;
+  }
+
+  pub put_barred : (at : ℕ) (y : Why) → WasPut shape gives b e p q (Barred at y) → (view p).worker ≡ 0 → Says (view p).terms.limits.most (view p).terms.plan e (view p).seen (view q).seen PutBarred
+  put_barred at y w head = (
+    put_grows w.last (view q).seen w.waited head w.says.0.ahead,
+    λ may. barred (why (view p).terms.plan (view q).seen e) y may (subst (λ (t : Terms S). why t.plan (view q).seen e ≡ Some y) (waited_terms w.last w.waited) w.says.3),
+  )
+
+  pub put_full : WasPut shape gives b e p q Full → (view p).worker ≡ 0 → Says (view p).terms.limits.most (view p).terms.plan e (view p).seen (view q).seen Later
+  put_full w head = (
+    put_grows w.last (view q).seen w.waited head w.says.1,
+    λ halt. subst (λ (t : Terms S). length (view q).seen ≡ t.limits.most) (waited_terms w.last w.waited) w.says.2,
+  )
+
+-- what is always so is so where it is Ok
+pub on_ok : {T E : Type 0} → (r : Result T E) (P : Type 0) → P → OnOk r P
+on_ok (Ok x) P is = is
+on_ok (Err x) P is = tt
+
+-- what is said where it is done, where it is not
+pub never : {A : Type 0} → false ≡ true → A
+never is = absurd (cc)
+
+pub never_ok : {T E A : Type 0} {e : E} {x : T} → Err e ≡ Ok x → A
+never_ok is = absurd (cc)
 
 -- what is said where no turn is stopped
 pub after_weaker : (A B C D E : Type 0) (s : Step) → (A → C) → (B → D) → After A ⊥ B s → After C E D s
@@ -97,16 +142,19 @@ module _ {S : Type 0} (shape : S → Shape) (gives : S → ℕ → Type 0) (most
     ready = record { of = serving.of; fresh = fresh };
     head = ap (λ (x : View S). x.worker) serving.view.is ∙ is.head;
     plan_is = is.plan_is;
-    most_is = is.most_is;
+    most_is = is.most_is ∙ sym (ap (λ (x : View S). x.terms.limits.most) serving.view.is);
   }
 
-  pub looked : (q : RowPass S) → IsPassOf shape gives pool.board.now q → Looks (view a.pass) (view q) → slots q ≡ slots a.pass → IsHead shape gives most plan pool (record { pass = q; bench = a.bench })
-  looked q pass looks same = record {
-    ready = looks_ready shape gives pool a q is.ready pass looks same;
-    head = ap (λ (x : View S). x.worker) looks.is ∙ is.head;
-    plan_is = is.plan_is;
-    most_is = is.most_is;
-  }
+  pub looked : (q : RowPass S) → IsPassOf shape gives pool.board.now q → Looks (view a.pass) (view q) → slots q ≡ slots a.pass → IsHead shape gives most plan pool (record { pass = q; bench = a.bench; journal = a.journal })
+  looked q pass looks same =
+      still_head (record { pass = q; bench = a.bench; journal = a.journal }) (looks_serves shape gives pool a q is.ready.of pass looks) (looks_fresh shape gives pool.board.now a.pass q pass looks same is.ready.fresh)
+
+  -- it has gathered, and seen no more
+  pub passed_head : (b : Hand S) → Serving shape gives pool a b → view b.pass ≡ knowing (view a.pass) (view a.pass).seen (view b.pass).marks → slots b.pass ≡ slots a.pass → IsHead shape gives most plan pool b
+  passed_head b serving same slots_same = still_head b serving (passing_fresh shape gives pool a.pass b.pass same slots_same is.ready.fresh)
+
+  pub same_limit : (b : Hand S) → Serving shape gives pool a b → most ≡ (view b.pass).terms.limits.most
+  same_limit b serving = is.most_is ∙ sym (ap (λ (x : View S). x.terms.limits.most) serving.view.is)
 
   -- ## What no step changes
 
@@ -127,17 +175,21 @@ module _ {S : Type 0} (shape : S → Shape) (gives : S → ℕ → Type 0) (most
         (kept.follows alone (still_all 0 (view a.pass) (view b.pass) serving.view.more all) follows);
   }
 
-  pub pass_serves : (q : RowPass S) → IsPassOf shape gives pool.board.now q → GoesOn (view a.pass) (view q) → Serving shape gives pool a (record { pass = q; bench = a.bench })
-  pass_serves q pass go = serves_pass shape gives pool a q is.ready.of pass go
+  pub passed_leads : (first b : Hand S) → Serving shape gives pool a b → view b.pass ≡ knowing (view a.pass) (view a.pass).seen (view b.pass).marks → Leads shape gives plan pool first a → Leads shape gives plan pool first b
+  passed_leads first b serving same kept = look_leads first b serving (record { none = λ all. ap (λ (x : View S). x.seen) same }) kept
 
-  pub put_head : (q : RowPass S) → IsPassOf shape gives pool.board.now q → GoesOn (view a.pass) (view q) → IsFresh shape (view q) (slots q) → IsHead shape gives most plan pool (record { pass = q; bench = a.bench })
-  put_head q pass go fresh = still_head (record { pass = q; bench = a.bench }) (serves_pass shape gives pool a q is.ready.of pass go) fresh
+  -- what it chose before that it may record still
+  pub passed_chosen : (b : Hand S) (e : Event) → Serving shape gives pool a b → view b.pass ≡ knowing (view a.pass) (view a.pass).seen (view b.pass).marks → slots b.pass ≡ slots a.pass → choice_of plan (view a.pass).seen 0 0 ≡ Some e
+      → (worker_of e ≡ (view b.pass).worker) × (why (view b.pass).terms.plan (view b.pass).seen e ≡ None) × (is_work e ≡ true)
+  passed_chosen b e serving same slots_same chosen =
+      let head = passed_head b serving same slots_same in
+      to_lead shape gives pool.board.now b.pass head.ready.of.pass plan e (sym head.plan_is ∙ head.ready.of.plan) head.head (subst (λ (h : List Event). choice_of plan h 0 0 ≡ Some e) (sym (ap (λ (x : View S). x.seen) same)) chosen)
 
   hand_sight : (b : Hand S) → Serving shape gives pool a b → IsSight most plan (view b.pass).seen (machine_of b.pass)
   hand_sight b serving =
       let m = machine_of b.pass in
       let stands = subst (λ (q : PlanView). Rattle.gcd_machine.specs.Stands.StandsFor m q (view b.pass).seen) (sym serving.of.plan ∙ is.plan_is) serving.of.pass.stands in
-      record { own = Rattle.gcd_machine.proofs.Shown.plan_stands m plan (view b.pass).seen stands; stands = stands; few = subst (λ (n : ℕ). length (view b.pass).seen ≤ n) (sym is.most_is) serving.of.pass.few }
+      record { own = Rattle.gcd_machine.proofs.Shown.plan_stands m plan (view b.pass).seen stands; stands = stands; few = subst (λ (n : ℕ). length (view b.pass).seen ≤ n) (sym (same_limit b serving)) serving.of.pass.few }
 
   pub worked : (b : Hand S) → Serving shape gives pool a b → AddsWork (view a.pass) (view b.pass) → IsGrown most plan (view a.pass).seen (view b.pass).seen
   worked b serving adds =
@@ -146,6 +198,15 @@ module _ {S : Type 0} (shape : S → Shape) (gives : S → ℕ → Type 0) (most
   pub plan_after : (b : Hand S) → Serving shape gives pool a b → (view b.pass).terms.plan ≡ plan
   plan_after b serving = sym serving.of.plan ∙ is.plan_is
 
--- who knows more of when a team has one hand
-pub led_where : {S P C : Type 0} → (p c : Bool) (poller : P → PollerState) (clock : C → ClockState) (A B : Type 0) (old new : Hand S × P × C) → (B → A) → Led p c poller clock A old new → Led p c poller clock B old new
-led_where p c poller clock A B old new more led = record { led = led.led; follows = λ alone. led.follows (more alone); kept = led.kept }
+pub leads_nowhere : {S : Type 0} → (shape : S → Shape) (gives : S → ℕ → Type 0) (plan : PlanView) (pool : Pool S) (a : Hand S) → IsHandOf shape gives pool a → Leads shape gives plan pool a a
+leads_nowhere shape gives plan pool a of = record { serving = serves_nothing shape gives pool a of; follows = λ alone all follows. follows }
+
+-- who knows more of when a team has one hand, and of when worker 0 is done
+pub led_where : {S P C : Type 0} → (p c : Bool) (poller : P → PollerState) (clock : C → ClockState) (A B D E : Type 0) (old new : Hand S × P × C) → (B → A) → (E → D) → Led p c poller clock A D old new → Led p c poller clock B E old new
+led_where p c poller clock A B D E old new more done led = record {
+  led = λ is. led.led (done is);
+  ended = λ is. led.ended (done is);
+  whole = λ is. led.whole (done is);
+  follows = λ alone. led.follows (more alone);
+  kept = led.kept;
+}

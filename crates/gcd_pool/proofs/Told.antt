@@ -1,7 +1,6 @@
 -- What a pass's machine tells of what the pass has seen.
-use Rattle.std.proofs.Common.{◌≡◌, ℕ, ◌≤◌, true, List, length, Some, None, sym, ◌∙◌, subst}
+use Rattle.std.proofs.Common.{◌≡◌, ℕ, ◌≤◌, Bool, true, List, length, Some, None, sym, ap, ◌∙◌, subst}
 use Rattle.gcd_plan.specs.Kinds.{is_node}
-use Rattle.gcd_plan.specs.Limits.{max_events}
 use Rattle.gcd_plan.specs.PlanView.{PlanView}
 use Rattle.gcd_plan.specs.declared.numbers.Obj.{Obj}
 use Rattle.gcd_event.specs.declared.event.Event.{Event}
@@ -14,9 +13,10 @@ use Rattle.gcd_refinement.specs.MachineView.{MachineView}
 use Rattle.gcd_machine.specs.Stands.{StandsFor}
 use Rattle.gcd_machine.proofs.Shown.{plan_stands}
 use Rattle.gcd_row.specs.Shapes.{Shape}
-use Rattle.gcd_row.specs.Passes.{IsPassOf, view, machine_of, worker_number}
+use Rattle.gcd_row.specs.Passes.{IsPassOf, terms_of, view, machine_of, worker_number}
 use Rattle.gcd_row.specs.declared.board.RowBoard.{RowBoard}
 use Rattle.gcd_row.specs.declared.pass.RowPass.{RowPass}
+use Rattle.gcd_row.specs.declared.view.Terms.{Terms}
 use Rattle.gcd_row.proofs.Passing.{lawful_seen, valid_plan}
 use Rattle.gcd_machine.specs.Begins.{begin_of}
 use Rattle.gcd_pool.specs.Duties.{Chooses, IsDuty, begun_on}
@@ -52,14 +52,17 @@ module _ {S : Type 0} (shape : S → Shape) (gives : S → ℕ → Type 0) (b : 
       (it.by ∙ worker ∙ is.number, it.permitted, it.work)
 
   -- what it has seen is within the row's limit
-  within : (most : ℕ) → most ≡ max_events → length (view p).seen ≤ most
-  within most limit = subst (λ (n : ℕ). length (view p).seen ≤ n) (sym limit) is.few
+  own_limit : (most : ℕ) → most ≡ (terms_of b).limits.most → most ≡ (view p).terms.limits.most
+  own_limit most limit = limit ∙ sym (ap (λ (t : Terms S). t.limits.most) is.terms)
 
-  pub to_record : (m : MachineView) (most w from : ℕ) (e : Event) → m ≡ machine_of p → most ≡ max_events → w ≡ worker_number p → ((plan : PlanView) (h : List Event) → StandsFor m plan h → length h ≤ most → IsDuty most plan h w from (Record e))
+  within : (most : ℕ) → most ≡ (terms_of b).limits.most → length (view p).seen ≤ most
+  within most limit = subst (λ (n : ℕ). length (view p).seen ≤ n) (sym (own_limit most limit)) is.few
+
+  pub to_record : (m : MachineView) (most w from : ℕ) (e : Event) → m ≡ machine_of p → most ≡ (terms_of b).limits.most → w ≡ worker_number p → ((plan : PlanView) (h : List Event) → StandsFor m plan h → length h ≤ most → IsDuty most plan h w from (Record e))
       → (worker_of e ≡ (view p).worker) × (why (view p).terms.plan (view p).seen e ≡ None) × (is_work e ≡ true)
   to_record m most w from e machine limit worker tells = chosen most w from e worker (tells (view p).terms.plan (view p).seen (stands_as m machine) (within most limit)).0
 
-  pub to_begin : (m : MachineView) (most w from : ℕ) (n : Obj) (e : Event) → m ≡ machine_of p → most ≡ max_events → w ≡ worker_number p → ((plan : PlanView) (h : List Event) → StandsFor m plan h → length h ≤ most → IsDuty most plan h w from (Begin n e))
+  pub to_begin : (m : MachineView) (most w from : ℕ) (n : Obj) (e : Event) → m ≡ machine_of p → most ≡ (terms_of b).limits.most → w ≡ worker_number p → ((plan : PlanView) (h : List Event) → StandsFor m plan h → length h ≤ most → IsDuty most plan h w from (Begin n e))
       → (is_node (view p).terms.plan n.0 ≡ true) × (begun_on (view p).terms.plan (view p).seen e ≡ Some n) × (worker_of e ≡ (view p).worker) × (why (view p).terms.plan (view p).seen e ≡ None) × (is_work e ≡ true)
   to_begin m most w from n e machine limit worker tells =
       let v = view p in
@@ -85,17 +88,24 @@ module _ {S : Type 0} (shape : S → Shape) (gives : S → ℕ → Type 0) (b : 
       (begun_node v.terms.plan v.seen e n (valid_plan shape gives b p is) may on, on)
 
   -- a run that it has seen to end
-  pub to_leave : (m : MachineView) (most w from : ℕ) (exit : Exit) → m ≡ machine_of p → most ≡ max_events → ((plan : PlanView) (h : List Event) → StandsFor m plan h → length h ≤ most → IsDuty most plan h w from (Leave exit))
-      → HasEnded max_events (view p).terms.plan (view p).seen
+  pub to_leave : (m : MachineView) (most w from : ℕ) (exit : Exit) → m ≡ machine_of p → most ≡ (terms_of b).limits.most → ((plan : PlanView) (h : List Event) → StandsFor m plan h → length h ≤ most → IsDuty most plan h w from (Leave exit))
+      → HasEnded (view p).terms.limits.most (view p).terms.plan (view p).seen
   to_leave m most w from exit machine limit tells =
       let v = view p in
-      subst (λ (n : ℕ). HasEnded n v.terms.plan v.seen) limit (exit_ended most v.terms.plan v.seen exit (tells v.terms.plan v.seen (stands_as m machine) (within most limit)))
+      subst (λ (n : ℕ). HasEnded n v.terms.plan v.seen) (own_limit most limit) (exit_ended most v.terms.plan v.seen exit (tells v.terms.plan v.seen (stands_as m machine) (within most limit)))
 
   -- a run that goes on, in which nothing of its own is permitted
-  pub to_rest : (m : MachineView) (most w from : ℕ) → m ≡ machine_of p → most ≡ max_events → w ≡ worker_number p → ((plan : PlanView) (h : List Event) → StandsFor m plan h → length h ≤ most → IsDuty most plan h w from Rest)
+  pub to_rest : (m : MachineView) (most w from : ℕ) → m ≡ machine_of p → most ≡ (terms_of b).limits.most → w ≡ worker_number p → ((plan : PlanView) (h : List Event) → StandsFor m plan h → length h ≤ most → IsDuty most plan h w from Rest)
       → SaysRested Rested (view p)
   to_rest m most w from machine limit worker tells =
       let v = view p in
       let duty = tells v.terms.plan v.seen (stands_as m machine) (within most limit) in
       rests v duty.0
       (subst (HasNoChoice v.terms.plan v.seen) (worker ∙ is.number) (no_choice_is_none v.terms.plan v.seen w from (valid_plan shape gives b p is) duty.1))
+
+  -- one that was looked at
+  pub to_end : (m : MachineView) (most : ℕ) (ended : Bool) → m ≡ machine_of p → most ≡ (terms_of b).limits.most → ((plan : PlanView) (h : List Event) → StandsFor m plan h → length h ≤ most → ended ≡ true → HasEnded most plan h) → ended ≡ true
+      → HasEnded (view p).terms.limits.most (view p).terms.plan (view p).seen
+  to_end m most ended machine limit tells yes_ended =
+      let v = view p in
+      subst (λ (n : ℕ). HasEnded n v.terms.plan v.seen) (own_limit most limit) (tells v.terms.plan v.seen (stands_as m machine) (within most limit) yes_ended)

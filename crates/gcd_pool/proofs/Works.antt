@@ -12,7 +12,7 @@ use Rattle.gcd_team.proofs.Own.{none_of_worker}
 use Rattle.gcd_row.specs.Views.{seeing}
 use Rattle.gcd_row.specs.Passes.{Ahead, Looks, Says}
 use Rattle.gcd_row.specs.declared.put.Put.{Put}
-use Rattle.gcd_row.specs.declared.put.Put.TheVariants.{Placed, Barred, Full}
+use Rattle.gcd_row.specs.declared.put.Put.TheVariants.{Placed, Barred, Held, Full}
 use Rattle.gcd_row.specs.declared.view.View.{View}
 use Rattle.gcd_event.specs.Owners.{ended}
 use Rattle.gcd_pool.specs.Works.{AddsNone, AddsOnly, AddsWork, is_own_work}
@@ -53,16 +53,16 @@ module _ {S : Type 0} where
     work = all_further (is_own_work v.worker) a.rest b.rest a.work (subst (λ (n : ℕ). list_all (is_own_work n) b.rest ≡ true) a.worker b.work);
   }
 
-  pub ahead_adds : (v w : View S) → w ≡ seeing v w.seen → Ahead v w.seen → AddsWork v w
-  ahead_adds v w is a = record {
-    worker = ap (λ (x : View S). x.worker) is;
+  pub ahead_adds : (v w : View S) → w.worker ≡ v.worker → Ahead v w.seen → AddsWork v w
+  ahead_adds v w same a = record {
+    worker = same;
     rest = a.more.0;
     split = a.more.1;
     work = none_own v.worker a.more.0 (none_of_worker v.worker v.seen a.more.0 (sym (ap (of_worker v.worker) a.more.1) ∙ a.own));
   }
 
   pub looks_adds : (v w : View S) → Looks v w → AddsWork v w
-  looks_adds v w l = ahead_adds v w l.is l.ahead
+  looks_adds v w l = ahead_adds v w (ap (λ (x : View S). x.worker) l.is) l.ahead
 
   pub says_adds : (e : Event) (v w : View S) (r : Put) → is_work e ≡ true → Says e v w r → AddsWork v w
   says_adds e v w (Placed n) work p =
@@ -75,7 +75,8 @@ module _ {S : Type 0} where
             (and_from (not (is_of v.worker e) || is_work e) true (ap (λ (b : Bool). not (is_of v.worker e) || b) work ∙ or_right (not (is_of v.worker e))) refl);
       }
   says_adds e v w (Barred at y) work p = looks_adds v w p.0
-  says_adds e v w Full work p = ahead_adds v w p.0 p.1
+  says_adds e v w (Held by passed) work p = looks_adds v w p.0.looks
+  says_adds e v w Full work p = ahead_adds v w (ap (λ (x : View S). x.worker) p.0) p.1
 
 pub ended_is_work : (e : Event) (r : Run) → ended e ≡ Some r → is_work e ≡ true
 ended_is_work (End w b) r is = refl
@@ -107,8 +108,14 @@ module _ {S : Type 0} where
       let parts = all_front (is_of v.worker) v.seen rest (sym (ap (list_all (is_of v.worker)) split) ∙ all) in
       split ∙ ap (λ (l : List Event). v.seen ++ l) (all_filter v.worker rest parts.1 none) ∙ append-nil v.seen
 
+  pub ahead_adds_none : (v w : View S) → Ahead v w.seen → AddsNone v w
+  ahead_adds_none v w a = record { none = λ all. ahead_none v w.seen a all }
+
   pub looks_none : (v w : View S) → Looks v w → AddsNone v w
-  looks_none v w l = record { none = λ all. ahead_none v w.seen l.ahead all }
+  looks_none v w l = ahead_adds_none v w l.ahead
+
+  pub none_only : (e : Event) (v w : View S) → AddsNone v w → AddsOnly e v w
+  none_only e v w a = record { only = λ all. inl (a.none all) }
 
   pub says_only : (e : Event) (v w : View S) (r : Put) → Says e v w r → AddsOnly e v w
   says_only e v w (Placed n) p = record {
@@ -117,8 +124,9 @@ module _ {S : Type 0} where
         let parts = all_front (is_of v.worker) p.history (e ∷ []) (sym (ap (list_all (is_of v.worker)) is) ∙ all) in
         inr (is ∙ ap (λ (l : List Event). l ++ e ∷ []) (ahead_none v p.history p.ahead parts.0));
   }
-  says_only e v w (Barred at y) p = record { only = λ all. inl (ahead_none v w.seen p.0.ahead all) }
-  says_only e v w Full p = record { only = λ all. inl (ahead_none v w.seen p.1 all) }
+  says_only e v w (Barred at y) p = none_only e v w (looks_none v w p.0)
+  says_only e v w (Held by passed) p = none_only e v w (looks_none v w p.0.looks)
+  says_only e v w Full p = none_only e v w (ahead_adds_none v w p.1)
 
   -- what is seen later has what was seen before
   pub still_all : (n : ℕ) (u w : View S) → StartsWith w.seen u.seen → list_all (is_of n) w.seen ≡ true → list_all (is_of n) u.seen ≡ true

@@ -1,6 +1,5 @@
 -- What a worker of a pool has, and what serving comes to.
 use Rattle.std.specs.Prelude.{◌≡◌, ◌≤◌, ℕ, List, ◌∷◌, [], length, Some}
-use Rattle.gcd_plan.specs.Limits.{max_events}
 use Rattle.gcd_plan.specs.PlanView.{PlanView}
 use Rattle.gcd_plan.specs.declared.kind.Kind.{Kind}
 use Rattle.gcd_plan.specs.declared.numbers.Run.{Run}
@@ -11,8 +10,8 @@ use Rattle.gcd_history.specs.Ends.{HasEnded}
 use Rattle.gcd_team.specs.Team.{StartsWith, held_by}
 use Rattle.gcd_row.specs.Shapes.{Shape, body, handler}
 use Rattle.gcd_row.specs.Lying.{slot_of, IsUntaken, IsReadyFor}
-use Rattle.gcd_row.specs.Views.{held_run, seeing}
-use Rattle.gcd_row.specs.Passes.{IsPassOf, slots, terms_of, view}
+use Rattle.gcd_row.specs.Views.{held_run, knowing}
+use Rattle.gcd_row.specs.Passes.{IsGathered, IsPassOf, slots, terms_of, view}
 use Rattle.gcd_row.specs.declared.view.View.{View}
 use Rattle.gcd_steal.specs.Racks.{IsBenchOf, number_of, plan_of}
 use Rattle.gcd_pool.specs.declared.hand.Hand.{Hand}
@@ -61,19 +60,25 @@ pub record IsSamePool {S : Type 0} (p q : Pool S) : Type 0 where
   pub rack : q.rack.now ≡ p.rack.now
   pub plan : q.plan.now ≡ p.plan.now
 
--- what calls leave of what a pass knows: it has seen no less, and the rest is as it was
+-- what calls leave of what a pass knows: it has seen no less, may know other passed words, its own among them, and the rest is as it was
 pub record GoesOn {S : Type 0} (v w : View S) : Type 0 where
-  pub is : w ≡ seeing v w.seen
+  pub is : w ≡ knowing v w.seen w.marks
   pub more : StartsWith w.seen v.seen
 
+-- the journal of worker 0 is what its pass has seen up to its passed word
+abbrev pub IsGatheredBy : {S : Type 0} → View S → List Event → Type 0
+IsGatheredBy v journal = v.worker ≡ 0 → IsGathered v journal
+
 module _ {S : Type 0} (shape : S → Shape) (gives : S → ℕ → Type 0) where
-  -- a hand of the pool: a pass of its board and a bench of its rack, which are of one plan, with a cell for each block
+  -- a hand of the pool: a pass of its board and a bench of its rack, which are of one plan, with a cell for each block; worker 0's has
+  -- for its journal what its pass has seen up to its passed word
   pub record IsHandOf (pool : Pool S) (hand : Hand S) : Type 0 where
     pub pass : IsPassOf shape gives pool.board.now hand.pass
     pub bench : IsBenchOf pool.rack.now hand.bench
     pub rack : plan_of pool.rack.now ≡ (view hand.pass).terms.plan
     pub plan : pool.plan.now ≡ (view hand.pass).terms.plan
     pub cells : length (view hand.pass).terms.plan.blocks ≤ length (view hand.pass).terms.cells
+    pub gathered : IsGatheredBy (view hand.pass) hand.journal.items
 
   -- a hand between two turns
   pub record IsReady (pool : Pool S) (hand : Hand S) : Type 0 where
@@ -90,4 +95,4 @@ module _ {S : Type 0} (shape : S → Shape) (gives : S → ℕ → Type 0) where
   -- less, and has seen that the run has ended
   pub record Served (pool : Pool S) (old new : Hand S) : Type 0 where
     pub serving : Serving pool old new
-    pub ended : HasEnded max_events (Rattle.gcd_row.specs.Passes.view new.pass).terms.plan (Rattle.gcd_row.specs.Passes.view new.pass).seen
+    pub ended : HasEnded (Rattle.gcd_row.specs.Passes.view new.pass).terms.limits.most (Rattle.gcd_row.specs.Passes.view new.pass).terms.plan (Rattle.gcd_row.specs.Passes.view new.pass).seen

@@ -2,8 +2,8 @@
 use Rattle.std.proofs.Common.{◌≡◌, ◌≤◌, ◌∙◌, ℕ, Bool, true, List, length, sym, subst}
 use Rattle.std.specs.List.{list_all}
 use Rattle.gcd_event.specs.declared.event.Event.{Event}
-use Rattle.gcd_plan.specs.Limits.{max_events}
 use Rattle.gcd_plan.specs.PlanView.{PlanView}
+use Rattle.gcd_history.specs.Ends.{HasEnded}
 use Rattle.gcd_loop.specs.Followed.{FollowsChoice}
 use Rattle.gcd_team.specs.Held.{is_of}
 use Rattle.gcd_loop.specs.Going.{IsRunOn}
@@ -24,7 +24,7 @@ pub record IsHead {S : Type 0} (shape : S → Shape) (gives : S → ℕ → Type
   pub ready : IsReady shape gives pool hand
   pub head : (view hand.pass).worker ≡ 0
   pub plan_is : pool.plan.now ≡ plan
-  pub most_is : most ≡ max_events
+  pub most_is : most ≡ (view hand.pass).terms.limits.most
 
 -- so its machine stands for what it has seen
 pub head_sight : {S : Type 0} (shape : S → Shape) (gives : S → ℕ → Type 0) (most : ℕ) (plan : PlanView) (pool : Pool S) (hand : Hand S) → IsHead shape gives most plan pool hand → IsSight most plan (view hand.pass).seen (machine_of hand.pass)
@@ -46,11 +46,13 @@ pub record Leads {S : Type 0} (shape : S → Shape) (gives : S → ℕ → Type 
   pub serving : Serving shape gives pool old new
   pub follows : pool.alone ≡ true → Follows plan (view old.pass).seen (view new.pass).seen
 
--- Worker 0 has led: the run has ended; what poller and clock said since stands in what it has seen since; and alone it follows its
--- choice.
-pub record Led {S P C : Type 0} (poller_tells clock_tells : Bool) (poller : P → PollerState) (clock : C → ClockState) (alone : Type 0) (old new : Hand S × P × C) : Type 0 where
-  pub led : (view old.0.pass).worker ≡ 0
-      → IsRunOn max_events (view old.0.pass).terms.plan (view old.0.pass).seen (view new.0.pass).seen (record { tells = poller_tells; before = poller old.1; after = poller new.1 })
+-- Worker 0 has led. Where it is done, the run has ended, what poller and clock said since stands in what it has seen since, and all that
+-- it has seen is in its journal. Done or not, alone it follows its choice.
+pub record Led {S P C : Type 0} (poller_tells clock_tells : Bool) (poller : P → PollerState) (clock : C → ClockState) (alone done : Type 0) (old new : Hand S × P × C) : Type 0 where
+  pub led : done → (view old.0.pass).worker ≡ 0
+      → IsRunOn (view old.0.pass).terms.limits.most (view old.0.pass).terms.plan (view old.0.pass).seen (view new.0.pass).seen (record { tells = poller_tells; before = poller old.1; after = poller new.1 })
       (record { tells = clock_tells; before = clock old.2; after = clock new.2 })
+  pub ended : done → HasEnded (view new.0.pass).terms.limits.most (view new.0.pass).terms.plan (view new.0.pass).seen
+  pub whole : done → (view old.0.pass).worker ≡ 0 → new.0.journal.items ≡ (view new.0.pass).seen
   pub follows : alone → (view old.0.pass).worker ≡ 0 → Follows (view old.0.pass).terms.plan (view old.0.pass).seen (view new.0.pass).seen
   pub kept : (view old.0.pass).worker ≡ 0 → KeepsListens poller_tells (poller old.1) (poller new.1)

@@ -11,7 +11,7 @@ use Rattle.gcd_history.specs.Laws.{HasNoChoice}
 use Rattle.gcd_team.specs.Team.{of_worker}
 use Rattle.gcd_row.specs.declared.view.View.{View}
 use Rattle.gcd_pool.specs.declared.turn.Turn.{Turn}
-use Rattle.gcd_pool.specs.declared.turn.Turn.TheVariants.{Left, Placed, Ended, Out, Waited, Rested}
+use Rattle.gcd_pool.specs.declared.turn.Turn.TheVariants.{Left, Placed, Ended, Out, Waited, Rested, Stopped}
 
 module _ {S : Type 0} where
   -- the worker has placed this event behind its own, and no other
@@ -30,6 +30,7 @@ module _ {S : Type 0} where
   SaysPlaced (Out node) v w = HasPlacedNone v w
   SaysPlaced Waited v w = HasPlacedNone v w
   SaysPlaced Rested v w = HasPlacedNone v w
+  SaysPlaced Stopped v w = HasPlacedNone v w
 
   -- a worker that rests has seen that the run goes on, and that no event of its own is permitted
   unfoldable pub SaysRested : Turn → View S → Type 0
@@ -38,10 +39,11 @@ module _ {S : Type 0} where
   SaysRested Ended v = Unit {0}
   SaysRested (Out node) v = Unit {0}
   SaysRested Waited v = Unit {0}
+  SaysRested Stopped v = Unit {0}
   SaysRested Rested v = IsGoingOn v.terms.plan v.seen × HasNoChoice v.terms.plan v.seen v.worker
 
   -- of an event that was to be recorded: it was placed, and ends no run (`Placed`) or one (`Ended`); or none was, since the run has
-  -- ended (`Left`), or since the event is not permitted any more (`Waited`)
+  -- ended (`Left`), since the event is not permitted any more (`Waited`), or since memory was refused to the journal (`Stopped`)
   unfoldable pub SaysRecorded : Event → Turn → View S → View S → Type 0
   SaysRecorded e Left v w = HasPlacedNone v w
   SaysRecorded e Placed v w = HasPlaced e v w × (ended e ≡ None)
@@ -49,8 +51,9 @@ module _ {S : Type 0} where
   SaysRecorded e (Out node) v w = ⊥
   SaysRecorded e Waited v w = HasPlacedNone v w × ((y : Why) × (why w.terms.plan w.seen e ≡ Some y))
   SaysRecorded e Rested v w = ⊥
+  SaysRecorded e Stopped v w = HasPlacedNone v w
 
-  -- of a run that was to begin: an event that begins one was placed (`Placed`); or none was (`Waited`), or this node's Drain is out
+  -- of a run that was to begin: an event that begins one was placed (`Placed`); or none was (`Waited`, `Stopped`), or this node's Drain is out
   unfoldable pub SaysBegun : Obj → Turn → View S → View S → Type 0
   SaysBegun n Left v w = ⊥
   SaysBegun n Placed v w = (e : Event) × HasPlaced e v w × ((r : Run) × (begun e ≡ Some r))
@@ -58,3 +61,4 @@ module _ {S : Type 0} where
   SaysBegun n (Out node) v w = (node ≡ n) × HasPlacedNone v w
   SaysBegun n Waited v w = HasPlacedNone v w
   SaysBegun n Rested v w = ⊥
+  SaysBegun n Stopped v w = HasPlacedNone v w

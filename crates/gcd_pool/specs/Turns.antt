@@ -1,6 +1,5 @@
 -- What a turn of a worker comes to.
 use Rattle.std.specs.Prelude.{◌≡◌, ◌⊎◌, ℕ, List, ◌∷◌, []}
-use Rattle.gcd_plan.specs.Limits.{max_events}
 use Rattle.gcd_history.specs.Ends.{HasEnded}
 use Rattle.gcd_row.specs.Shapes.{Shape}
 use Rattle.gcd_row.specs.declared.view.View.{View}
@@ -13,16 +12,18 @@ use Rattle.gcd_steal.specs.declared.drain.Drain.{Drain}
 use Rattle.gcd_steal.specs.declared.places.Sight.{Sight}
 use Rattle.gcd_pool.specs.Hands.{IsFresh}
 use Rattle.gcd_pool.specs.declared.turn.Turn.{Turn}
-use Rattle.gcd_pool.specs.declared.turn.Turn.TheVariants.{Left, Placed, Ended, Out, Waited, Rested}
+use Rattle.gcd_pool.specs.declared.turn.Turn.TheVariants.{Left, Placed, Ended, Out, Waited, Rested, Stopped}
 
--- a worker that leaves has seen that the run has ended; else the run that it holds is as it was taken
+-- a worker that leaves has seen that the run has ended; of one that was stopped nothing is said; else the run that it holds is as it
+-- was taken
 abbrev pub AfterTurn : {S : Type 0} → (S → Shape) → Turn → View S → List (ℕ × S) → Type 0
-AfterTurn shape Left v cells = HasEnded max_events v.terms.plan v.seen
+AfterTurn shape Left v cells = HasEnded v.terms.limits.most v.terms.plan v.seen
 AfterTurn shape Placed v cells = IsFresh shape v cells
 AfterTurn shape Ended v cells = IsFresh shape v cells
 AfterTurn shape (Out node) v cells = IsFresh shape v cells
 AfterTurn shape Waited v cells = IsFresh shape v cells
 AfterTurn shape Rested v cells = IsFresh shape v cells
+AfterTurn shape Stopped v cells = Unit {0}
 
 -- a call that answers that a node's Drain is out has written to that node's place, after all that the bench had seen, and the
 -- Drain did not sleep there then
@@ -33,6 +34,7 @@ SaysOut Ended b c = Unit {0}
 SaysOut (Out node) b c = (v : Sight) × Since v.seen (sight_of b).seen × Misses node.0 v (sight_of c)
 SaysOut Waited b c = Unit {0}
 SaysOut Rested b c = Unit {0}
+SaysOut Stopped b c = Unit {0}
 
 -- the Drain was laid into its sleeping place, or put at the back of the bench's own deque
 abbrev pub IsLaidDown : Bench → Drain → Bench → Type 0
@@ -53,6 +55,7 @@ FoundNone b c Ended = ⊥
 FoundNone b c (Out node) = (own_account c).sent ≡ (own_account b).sent
 FoundNone b c Waited = ⊥
 FoundNone b c Rested = ⊥
+FoundNone b c Stopped = ⊥
 
 -- a call that looks for a Drain leaves none in hand
 abbrev pub LaysFoundDown : Bench → Bench → Turn → Type 0

@@ -1,5 +1,5 @@
 // What a worker does with a Drain.
-ghost use Rattle.std.specs.Prelude.{◌≡◌, ◌<◌, ◌≤◌, true, length, None, Some, IsTrue, MatchBool};
+ghost use Rattle.std.specs.Prelude.{◌≡◌, ◌<◌, true, length, None, Some, IsTrue};
 ghost use Rattle.gcd_history.specs.Choice.{is_work, worker_of};
 ghost use Rattle.gcd_history.specs.History.{why};
 ghost use Rattle.gcd_plan.specs.Kinds.{is_node};
@@ -8,11 +8,13 @@ ghost use Rattle.gcd_row.specs.Passes.{IsPassOf, Says, SaysSlots, slots, view};
 ghost use Rattle.gcd_steal.specs.Drains.{node_of};
 ghost use Rattle.gcd_steal.specs.Racks.{IsBenchOf, IsRackDrain, number_of};
 ghost use Rattle.gcd_pool.specs.Duties.{begun_on};
-ghost use Rattle.gcd_pool.specs.Hands.{GoesOn, IsFresh, IsReady, Serving};
-ghost use Rattle.gcd_pool.specs.Placing.{HasPlaced, HasPlacedNone, SaysBegun};
+ghost use Rattle.gcd_pool.specs.Hands.{IsHandOf, IsReady, Serving};
+ghost use Rattle.gcd_pool.specs.Outcomes.{SaysOutcome};
+ghost use Rattle.gcd_pool.specs.Placing.{SaysBegun};
 ghost use Rattle.gcd_pool.specs.Turns.{AfterTurn, IsLaidDown, LaysFoundDown, SaysOut};
 ghost use Rattle.gcd_pool.specs.Works.{AddsWork};
 
+use crate::easing::{Outcome, put_chosen_through};
 use crate::finding::find_drain;
 use crate::hand::{Hand, Pool};
 use crate::run_cells::RunCells;
@@ -24,8 +26,8 @@ use gcd_row::{Put, RowBoard, RowPass, Slot};
 use gcd_steal::{Bench, Drain, Rack};
 use std::sync::Wait;
 
-/// Puts an event that begins a run on a node, by who holds the node's Drain, and answers as [`RowBoard::put`]. Conditions: the event is a
-/// Start or a Deliver of the pass's worker, and it begins its run on the Drain's node.
+/// Puts an event that begins a run on a node once, by who holds the node's Drain, and answers as [`RowBoard::put`]: it may answer
+/// [`Put::Held`]. Conditions: the event is a Start or a Deliver of the pass's worker, and it begins its run on the Drain's node.
 pub fn begin<S: Slot>(board: &RowBoard<S>, pass: &mut RowPass<S>, _drain: &Drain, e: Event) -> Put
     requires pass { IsPassOf S.shape S.gives board.now pass.old }
     requires worker { worker_of e ≡ (view pass.old).worker }
@@ -37,18 +39,24 @@ pub fn begin<S: Slot>(board: &RowBoard<S>, pass: &mut RowPass<S>, _drain: &Drain
     board.put(pass, e)
 }
 
-// The same for an event that the pass's machine permits: it is not judged again before the first exchange.
+// Puts one that the pass's machine permits until no passed word holds it. It is not judged again before the first exchange.
 #[inline(always)]
-fn put_begin<S: Slot>(board: &RowBoard<S>, pass: &mut RowPass<S>, _drain: &Drain, e: Event) -> Put
-    requires pass { IsPassOf S.shape S.gives board.now pass.old }
-    requires worker { worker_of e ≡ (view pass.old).worker }
-    requires begins { begun_on (view pass.old).terms.plan (view pass.old).seen e ≡ Some (node_of _drain.now) }
-    requires may { why (view pass.old).terms.plan (view pass.old).seen e ≡ None }
-    ensures pass { IsPassOf S.shape S.gives board.now pass.new }
-    ensures view { Says e (view pass.old) (view pass.new) result }
-    ensures slots { SaysSlots S.shape S.gives e (slots pass.old) (slots pass.new) (view pass.new) result }
+fn put_begin<S: Slot, R: Wait>(
+    rt: &R,
+    pool: &Pool<S>,
+    hand: &mut Hand<S>,
+    _drain: &Drain,
+    e: Event,
+) -> Outcome
+    requires ready { IsReady S.shape S.gives pool.now hand.old }
+    requires worker { worker_of e ≡ (view hand.old.pass).worker }
+    requires begins { begun_on (view hand.old.pass).terms.plan (view hand.old.pass).seen e ≡ Some (node_of _drain.now) }
+    requires may { why (view hand.old.pass).terms.plan (view hand.old.pass).seen e ≡ None }
+    ensures serving { Serving S.shape S.gives pool.now hand.old hand.new }
+    ensures said { SaysOutcome S.shape S.gives pool.now.board.now e hand.old.pass hand.new.pass result }
+    ensures bench { hand.new.bench ≡ hand.old.bench }
 {
-    board.put_chosen(pass, e)
+    put_chosen_through(rt, pool, hand, e)
 }
 
 // Puts the Drain at the back of the bench's own deque, or else into its sleeping place.
@@ -82,26 +90,31 @@ fn lay_down(rack: &Rack, bench: &mut Bench, drain: Drain, more: bool)
     }
 }
 
-// Puts an event that the pass's machine permits, and that begins a run on the Drain's node. Whether it was placed.
+// Puts an event that the pass's machine permits, and that begins a run on the Drain's node.
 #[inline(always)]
-fn begins_run<S: Slot>(board: &RowBoard<S>, pass: &mut RowPass<S>, drain: &Drain, e: Event) -> bool
-    requires pass { IsPassOf S.shape S.gives board.now pass.old }
-    requires worker { worker_of e ≡ (view pass.old).worker }
-    requires begins { begun_on (view pass.old).terms.plan (view pass.old).seen e ≡ Some (node_of drain.now) }
-    requires may { why (view pass.old).terms.plan (view pass.old).seen e ≡ None }
+fn begins_run<S: Slot, R: Wait>(
+    rt: &R,
+    pool: &Pool<S>,
+    hand: &mut Hand<S>,
+    drain: &Drain,
+    e: Event,
+) -> Turn
+    requires ready { IsReady S.shape S.gives pool.now hand.old }
+    requires worker { worker_of e ≡ (view hand.old.pass).worker }
+    requires begins { begun_on (view hand.old.pass).terms.plan (view hand.old.pass).seen e ≡ Some (node_of drain.now) }
+    requires may { why (view hand.old.pass).terms.plan (view hand.old.pass).seen e ≡ None }
     requires work { is_work e ≡ true }
-    requires cells { length (view pass.old).terms.plan.blocks ≤ length (view pass.old).terms.cells }
-    requires fresh { IsFresh S.shape (view pass.old) (slots pass.old) }
-    ensures pass { IsPassOf S.shape S.gives board.now pass.new }
-    ensures view { GoesOn (view pass.old) (view pass.new) }
-    ensures work { AddsWork (view pass.old) (view pass.new) }
-    ensures placed { MatchBool result (HasPlaced e (view pass.old) (view pass.new)) (HasPlacedNone (view pass.old) (view pass.new)) }
-    ensures fresh { IsFresh S.shape (view pass.new) (slots pass.new) }
+    ensures serving { Serving S.shape S.gives pool.now hand.old hand.new }
+    ensures work { AddsWork (view hand.old.pass) (view hand.new.pass) }
+    ensures begun { (node : Obj) → SaysBegun node result (view hand.old.pass) (view hand.new.pass) }
+    ensures after { AfterTurn S.shape result (view hand.new.pass) (slots hand.new.pass) }
+    ensures bench { hand.new.bench ≡ hand.old.bench }
 {
-    match put_begin(board, pass, drain, e) {
-        Put::Placed(_) => true,
-        Put::Barred { .. } => false,
-        Put::Full => false,
+    match put_begin(rt, pool, hand, drain, e) {
+        Outcome::Placed => Turn::Placed,
+        Outcome::Barred => Turn::Waited,
+        Outcome::Full => Turn::Waited,
+        Outcome::Stopped => Turn::Stopped,
     }
 }
 
@@ -122,7 +135,13 @@ fn others_may_begin(plan: &Plan, alone: bool, machine: &Machine, node: Obj) -> b
 
 // Begins the run of this event on the Drain's node, and lays the Drain down.
 #[inline(always)]
-fn begin_with<S: Slot>(pool: &Pool<S>, hand: &mut Hand<S>, drain: Drain, e: Event) -> Turn
+fn begin_with<S: Slot, R: Wait>(
+    rt: &R,
+    pool: &Pool<S>,
+    hand: &mut Hand<S>,
+    drain: Drain,
+    e: Event,
+) -> Turn
     requires ready { IsReady S.shape S.gives pool.now hand.old }
     requires drain { IsRackDrain pool.now.rack.now drain }
     requires worker { worker_of e ≡ (view hand.old.pass).worker }
@@ -136,18 +155,19 @@ fn begin_with<S: Slot>(pool: &Pool<S>, hand: &mut Hand<S>, drain: Drain, e: Even
     ensures laid { IsLaidDown hand.old.bench drain hand.new.bench }
 {
     let node = drain.node();
-    if begins_run(pool.board, &mut hand.pass, &drain, e) {
+    let turn = begins_run(rt, pool, hand, &drain, e);
+    if let Turn::Placed = turn {
         let more = others_may_begin(pool.plan, pool.alone, hand.pass.machine(), node);
         lay_down(pool.rack, &mut hand.bench, drain, more);
-        Turn::Placed
+        turn
     } else {
         pool.rack.sleep(&mut hand.bench, drain);
-        Turn::Waited
+        turn
     }
 }
 
 // Begins what may begin on the Drain's node, and lays the Drain down.
-fn begin_any<S: Slot>(pool: &Pool<S>, hand: &mut Hand<S>, drain: Drain) -> Turn
+fn begin_any<S: Slot, R: Wait>(rt: &R, pool: &Pool<S>, hand: &mut Hand<S>, drain: Drain) -> Turn
     requires ready { IsReady S.shape S.gives pool.now hand.old }
     requires drain { IsRackDrain pool.now.rack.now drain }
     ensures serving { Serving S.shape S.gives pool.now hand.old hand.new }
@@ -158,7 +178,7 @@ fn begin_any<S: Slot>(pool: &Pool<S>, hand: &mut Hand<S>, drain: Drain) -> Turn
 {
     let worker = hand.pass.worker();
     match hand.pass.machine().begin_on(worker, drain.node()) {
-        Some(e) => begin_with(pool, hand, drain, e),
+        Some(e) => begin_with(rt, pool, hand, drain, e),
         None => {
             pool.rack.sleep(&mut hand.bench, drain);
             Turn::Waited
@@ -170,8 +190,9 @@ fn begin_any<S: Slot>(pool: &Pool<S>, hand: &mut Hand<S>, drain: Drain) -> Turn
 /// the node's own from its sleeping place. It answers [`Turn::Placed`] where a run began on that Drain's node; the Drain is then at the
 /// back of the bench's deque, where another block waits on a concurrent queue, the team has another hand and the deque has room, and
 /// sleeps else. [`Turn::Waited`] where nothing may begin there, another event came first, or the row is full; the Drain sleeps then.
-/// [`Turn::Out`] where it finds none: the node's Drain is with another worker, which begins what may begin there. Conditions: the node is
-/// a queue or source of the plan, and the run that the hand holds, if any, is as it was taken.
+/// [`Turn::Out`] where it finds none: the node's Drain is with another worker, which begins what may begin there. [`Turn::Stopped`] where
+/// the run can't go on; the Drain sleeps then. Conditions: the node is a queue or source of the plan, and the run that the
+/// hand holds, if any, is as it was taken.
 pub fn begin_near<S: RunCells, R: Wait>(
     rt: &R,
     pool: &Pool<S>,
@@ -188,7 +209,7 @@ pub fn begin_near<S: RunCells, R: Wait>(
     ensures laid { LaysFoundDown hand.old.bench hand.new.bench result }
 {
     match find_drain(rt, pool.rack, &mut hand.bench, node) {
-        Some(drain) => begin_any(pool, hand, drain),
+        Some(drain) => begin_any(rt, pool, hand, drain),
         None => Turn::Out(node),
     }
 }
@@ -216,7 +237,7 @@ pub fn begin_chosen<S: RunCells, R: Wait>(
     ensures laid { LaysFoundDown hand.old.bench hand.new.bench result }
 {
     match pool.rack.wake(&mut hand.bench, node) {
-        Some(drain) => begin_with(pool, hand, drain, e),
+        Some(drain) => begin_with(rt, pool, hand, drain, e),
         None => begin_near(rt, pool, hand, node),
     }
 }

@@ -1,5 +1,5 @@
 // What a worker has to do next, as its machine tells it.
-ghost use Rattle.std.specs.Prelude.{◌≡◌, ◌<◌, ◌≤◌, ℕ, List, None, Some, length, MatchOption};
+ghost use Rattle.std.specs.Prelude.{◌≡◌, ◌<◌, ◌≤◌, ℕ, true, List, None, Some, length, MatchOption};
 ghost use Rattle.gcd_plan.specs.PlanView.{PlanView};
 ghost use Rattle.gcd_plan.specs.declared.numbers.Run.TheVariants.{Block};
 ghost use Rattle.gcd_event.specs.Owners.{begun};
@@ -84,6 +84,19 @@ pub fn exit_of(machine: &Machine) -> Exit
     match end_of(machine) {
         Some(exit) => exit,
         None => Exit::Full,
+    }
+}
+
+// Whether the run, of at most so many events, has ended.
+pub fn has_ended(most: u32, machine: &Machine) -> bool
+    ensures { (plan : PlanView) (h : List Event) → StandsFor machine.now plan h → length h ≤ most → result ≡ true → HasEnded most plan h }
+{
+    if machine.len() >= most {
+        return true;
+    }
+    match end_of(machine) {
+        Some(_) => true,
+        None => false,
     }
 }
 

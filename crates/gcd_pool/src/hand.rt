@@ -5,9 +5,17 @@ ghost use Rattle.gcd_row.specs.Passes.{IsPassOf, view};
 ghost use Rattle.gcd_steal.specs.Racks.{IsBenchOf};
 ghost use Rattle.gcd_pool.specs.Hands.{IsPool, IsReady, IsSamePool};
 
+use gcd_event::Event;
 use gcd_plan::Plan;
 use gcd_row::{RowBoard, RowPass, Slot};
 use gcd_steal::{Bench, Rack};
+use std::alloc::Global;
+use std::sync::atomic::{AtomicBool, AtomicU64, Ordering};
+
+// The bit of a worker, 0 to 63.
+fn bit_of(worker: u8) -> u64 {
+    1 << (worker % 64)
+}
 
 /// What the workers of a run share: the board, the rack and the plan of both. Threads share it by `&`.
 #[derive(Drop)]
@@ -20,6 +28,11 @@ pub struct Pool<'a, S: Slot> {
     pub plan: &'a Plan,
     // Whether the team has one hand alone: then nobody else begins anything, and no Drain is pushed.
     pub(crate) alone: bool,
+    // Set where memory was refused to worker 0's journal, or a worker's thread was never made, and nowhere else: then nobody waits any
+    // more.
+    stopped: AtomicBool,
+    // Which workers have begun to serve or to lead, a bit for each.
+    begun: AtomicU64,
 }
 
 impl<'a, S: Slot> Pool<'a, S> {
@@ -35,6 +48,8 @@ impl<'a, S: Slot> Pool<'a, S> {
             rack,
             plan,
             alone: false,
+            stopped: AtomicBool::new(false),
+            begun: AtomicU64::new(0),
         }
     }
 
@@ -48,7 +63,29 @@ impl<'a, S: Slot> Pool<'a, S> {
             rack: self.rack,
             plan: self.plan,
             alone: hands == 1,
+            stopped: AtomicBool::new(false),
+            begun: AtomicU64::new(0),
         }
+    }
+
+    // Memory was refused to worker 0's journal, or a worker's thread was never made.
+    pub(crate) fn stop(&self) {
+        self.stopped.store(true, Ordering::SeqCst);
+    }
+
+    // Whether it was.
+    pub(crate) fn is_stopped(&self) -> bool {
+        self.stopped.load(Ordering::SeqCst)
+    }
+
+    // The worker has begun to serve, or to lead.
+    pub(crate) fn begin_serving(&self, worker: u8) {
+        self.begun.fetch_or(bit_of(worker), Ordering::SeqCst);
+    }
+
+    // Whether the worker has.
+    pub(crate) fn has_begun(&self, worker: u8) -> bool {
+        self.begun.load(Ordering::SeqCst) & bit_of(worker) != 0
     }
 }
 
@@ -60,19 +97,26 @@ pub struct Hand<S> {
     pub pass: RowPass<S>,
     /// Its bench.
     pub bench: Bench,
+    /// The events that worker 0 has gathered, the oldest first: those that its pass has seen up to its passed word. A helper's is empty.
+    pub journal: Vec<Event>,
 }
 
 impl<S: Slot> Hand<S> {
     /// The hand of a worker that has no event yet. Conditions: the pass is of the pool's board, the bench
-    /// of its rack, and both are of its plan.
-    pub fn new(_pool: &Pool<S>, pass: RowPass<S>, bench: Bench) -> Hand<S>
+    /// of its rack, and both are of its plan; and worker 0's pass has passed nothing on, so its journal is empty.
+    pub fn new(alloc: Global, _pool: &Pool<S>, pass: RowPass<S>, bench: Bench) -> Hand<S>
         requires pool { IsPool _pool.now }
         requires pass { IsPassOf S.shape S.gives _pool.now.board.now pass }
         requires bench { IsBenchOf _pool.now.rack.now bench }
         requires none { of_worker (view pass).worker (view pass).seen ≡ [] }
+        requires passed { (view pass).worker ≡ 0 → (view pass).marks.passed ≡ 0 }
         ensures ready { IsReady S.shape S.gives _pool.now result }
-        ensures parts { result ≡ record { pass = pass; bench = bench } }
+        ensures parts { (result.pass ≡ pass) × (result.bench ≡ bench) × (result.journal.items ≡ []) }
     {
-        Hand { pass, bench }
+        Hand {
+            pass,
+            bench,
+            journal: Vec::new(alloc),
+        }
     }
 }

@@ -11,6 +11,9 @@ const FIRST_SLEEP: u64 = 50;
 
 const LONGEST_SLEEP: u64 = 250;
 
+// How many of the longest sleeps are a long wait: ten seconds of them.
+const LONG_WAIT: u32 = 40_000;
+
 /// How a worker passes time while nothing comes: it spins, then yields its processor, then sleeps, at first 50 microseconds and
 /// each time twice as long, at most 250. Nobody has to wake it.
 #[derive(Drop)]
@@ -18,6 +21,8 @@ pub struct Idle {
     backoff: Backoff,
     parker: Parker,
     micros: u64,
+    // How often it slept longest since something came.
+    sleeps: u32,
     ghost bounded: { micros ≤ 250 },
 }
 
@@ -30,6 +35,7 @@ impl Idle {
             backoff: Backoff::new(),
             parker: Parker::new(),
             micros: FIRST_SLEEP,
+            sleeps: 0,
         }
     }
 
@@ -39,6 +45,7 @@ impl Idle {
     {
         self.backoff.reset();
         self.micros = FIRST_SLEEP;
+        self.sleeps = 0;
     }
 
     /// Spins, yields, or sleeps for at most 250 microseconds.
@@ -48,9 +55,17 @@ impl Idle {
         if self.backoff.is_completed() {
             self.parker
                 .park_timeout(rt, Duration::from_micros(self.micros));
+            if self.micros == LONGEST_SLEEP {
+                self.sleeps = self.sleeps.saturating_add(1);
+            }
             self.micros = (self.micros * 2).min(LONGEST_SLEEP);
         } else {
             self.backoff.snooze();
         }
+    }
+
+    // Whether nothing has come for about ten seconds.
+    pub(crate) fn has_waited_long(&self) -> bool {
+        self.sleeps >= LONG_WAIT
     }
 }

@@ -1,21 +1,21 @@
 // Worker 0 of a pool, which alone has poller and clock.
-ghost use Rattle.std.specs.Prelude.{◌≡◌, ◌≤◌, true, false, ℕ, List, length, None};
+ghost use Rattle.std.specs.Prelude.{◌≡◌, true, false, ℕ, List, None, IfOk, OnOk};
 ghost use Rattle.gcd_event.specs.declared.event.Event.{Event};
 ghost use Rattle.gcd_history.specs.Choice.{is_work, worker_of};
 ghost use Rattle.gcd_history.specs.Ends.{HasEnded};
 ghost use Rattle.gcd_history.specs.History.{why};
-ghost use Rattle.gcd_plan.specs.Limits.{max_events};
-ghost use Rattle.gcd_plan.specs.PlanView.{PlanView};
 ghost use Rattle.gcd_loop.specs.Recorded.{After, Says};
-ghost use Rattle.gcd_row.specs.Passes.{IsPassOf, slots, view};
+ghost use Rattle.gcd_row.specs.Passes.{slots, view};
+ghost use Rattle.gcd_row.specs.Views.{knowing};
 ghost use Rattle.gcd_row.specs.declared.view.View.{View};
-ghost use Rattle.gcd_pool.specs.Hands.{GoesOn, IsFresh, IsReady, Served, Serving};
+ghost use Rattle.gcd_pool.specs.Hands.{IsFresh, IsHandOf, IsReady, Serving};
 ghost use Rattle.gcd_pool.specs.Leads.{Led};
 ghost use Rattle.gcd_pool.specs.Turns.{AfterTurn};
 ghost use Rattle.gcd_pool.specs.Works.{AddsOnly, AddsWork};
 
 use crate::drains::begin_chosen;
 use crate::duty::node_of_begin;
+use crate::easing::{Outcome, pass_many, pass_seen, put_through};
 use crate::hand::{Hand, Pool};
 use crate::idle::Idle;
 use crate::own::record_own;
@@ -28,44 +28,48 @@ use gcd_loop::{Backoff, Recorder, Step, run_turns};
 use gcd_machine::Machine;
 use gcd_outer::{Clock, Poller};
 use gcd_plan::Plan;
-use gcd_row::{Put, RowBoard, RowPass, Slot};
-use std::convert::Infallible;
+use gcd_row::Slot;
+use std::alloc::AllocError;
 use std::sync::Wait;
 
-// Puts an event of the outside.
+// Puts an event of the outside: where a passed word holds it, as often as it takes. An `Err` where the team was stopped.
 #[inline(always)]
-fn put_outside<S: Slot>(board: &RowBoard<S>, pass: &mut RowPass<S>, e: Event) -> gcd_loop::Put
-    requires pass { IsPassOf S.shape S.gives board.now pass.old }
+fn put_outside<S: Slot, R: Wait>(
+    rt: &R,
+    pool: &Pool<S>,
+    hand: &mut Hand<S>,
+    e: Event,
+) -> Result<gcd_loop::Put, AllocError>
+    requires ready { IsReady S.shape S.gives pool.now hand.old }
     requires worker { worker_of e ≡ 0 }
     requires outside { is_work e ≡ false }
-    requires head { (view pass.old).worker ≡ 0 }
-    requires cells { length (view pass.old).terms.plan.blocks ≤ length (view pass.old).terms.cells }
-    requires fresh { IsFresh S.shape (view pass.old) (slots pass.old) }
-    ensures pass { IsPassOf S.shape S.gives board.now pass.new }
-    ensures view { GoesOn (view pass.old) (view pass.new) }
-    ensures fresh { IsFresh S.shape (view pass.new) (slots pass.new) }
-    ensures only { AddsOnly e (view pass.old) (view pass.new) }
-    ensures said { Says max_events (view pass.old).terms.plan e (view pass.old).seen (view pass.new).seen result }
+    requires head { (view hand.old.pass).worker ≡ 0 }
+    ensures serving { Serving S.shape S.gives pool.now hand.old hand.new }
+    ensures fresh { OnOk result (IsFresh S.shape (view hand.new.pass) (slots hand.new.pass)) }
+    ensures only { AddsOnly e (view hand.old.pass) (view hand.new.pass) }
+    ensures said { IfOk result (Says (view hand.old.pass).terms.limits.most (view hand.old.pass).terms.plan e (view hand.old.pass).seen (view hand.new.pass).seen) }
 {
-    match board.put(pass, e) {
-        Put::Placed(_) => gcd_loop::Put::Placed,
-        Put::Barred { .. } => gcd_loop::Put::Barred,
-        Put::Full => gcd_loop::Put::Later,
+    match put_through(rt, pool, hand, e) {
+        Outcome::Placed => Ok(gcd_loop::Put::Placed),
+        Outcome::Barred => Ok(gcd_loop::Put::Barred),
+        Outcome::Full => Ok(gcd_loop::Put::Later),
+        Outcome::Stopped => Err(AllocError),
     }
 }
 
-// What a worker's turn is to the loop.
+// What a worker's turn is to the loop. An `Err` where the team was stopped.
 #[inline(always)]
-fn step_of<S: Slot>(turn: Turn) -> Step
-    ensures { (v : View S) (cells : List (ℕ × S)) → AfterTurn S.shape turn v cells → After (IsFresh S.shape v cells) ⊥ (HasEnded max_events v.terms.plan v.seen) result }
+fn step_of<S: Slot>(turn: Turn) -> Result<Step, AllocError>
+    ensures { (v : View S) (cells : List (ℕ × S)) → AfterTurn S.shape turn v cells → IfOk result (After (IsFresh S.shape v cells) ⊥ (HasEnded v.terms.limits.most v.terms.plan v.seen)) }
 {
     match turn {
-        Turn::Left => Step::Over,
-        Turn::Placed => Step::Placed,
-        Turn::Ended => Step::Placed,
-        Turn::Out(_) => Step::Waited,
-        Turn::Waited => Step::Waited,
-        Turn::Rested => Step::Waited,
+        Turn::Left => Ok(Step::Over),
+        Turn::Placed => Ok(Step::Placed),
+        Turn::Ended => Ok(Step::Placed),
+        Turn::Out(_) => Ok(Step::Waited),
+        Turn::Waited => Ok(Step::Waited),
+        Turn::Rested => Ok(Step::Waited),
+        Turn::Stopped => Err(AllocError),
     }
 }
 
@@ -106,7 +110,7 @@ fn lead_any<S: RunCells, R: Wait>(rt: &R, pool: &Pool<S>, hand: &mut Hand<S>, e:
 }
 
 impl<'a, S: RunCells> Recorder<Pool<'a, S>> for Hand<S> {
-    type Fault = Infallible;
+    type Fault = AllocError;
 
     ghost use Rattle.gcd_row.specs.Passes.{machine_of, view};
     ghost use Rattle.gcd_pool.specs.Hands.{IsHandOf};
@@ -144,16 +148,20 @@ impl<'a, S: RunCells> Recorder<Pool<'a, S>> for Hand<S> {
     }
 
     #[inline(always)]
-    fn put(
+    fn put<R: Wait>(
         &mut self,
+        rt: &R,
         plan: &Plan,
         most: u32,
         desk: &Pool<'a, S>,
         e: Event,
-    ) -> Result<gcd_loop::Put, Infallible> {
+    ) -> Result<gcd_loop::Put, AllocError> {
         let _ = plan;
         let _ = most;
-        Ok(put_outside(desk.board, &mut self.pass, e))
+        if !pass_many(desk, self) {
+            return Err(AllocError);
+        }
+        put_outside(rt, desk, self, e)
     }
 
     #[inline(always)]
@@ -164,10 +172,13 @@ impl<'a, S: RunCells> Recorder<Pool<'a, S>> for Hand<S> {
         most: u32,
         desk: &Pool<'a, S>,
         e: Event,
-    ) -> Result<Step, Infallible> {
+    ) -> Result<Step, AllocError> {
         let _ = plan;
         let _ = most;
-        Ok(step_of::<S>(lead_any(rt, desk, self, e)))
+        if !pass_many(desk, self) {
+            return Err(AllocError);
+        }
+        step_of::<S>(lead_any(rt, desk, self, e))
     }
 
     #[inline(always)]
@@ -177,11 +188,16 @@ impl<'a, S: RunCells> Recorder<Pool<'a, S>> for Hand<S> {
         plan: &Plan,
         most: u32,
         desk: &Pool<'a, S>,
-    ) -> Result<Step, Infallible> {
+    ) -> Result<Step, AllocError> {
         let _ = rt;
         let _ = plan;
         let _ = most;
-        let _ = desk;
+        if desk.is_stopped() {
+            return Err(AllocError);
+        }
+        if !pass_many(desk, self) {
+            return Err(AllocError);
+        }
         Ok(Step::Waited)
     }
 }
@@ -198,24 +214,43 @@ impl Backoff for Idle {
     }
 }
 
-// Worker 0 leads, from its first turn to the end.
+// Worker 0 gathers all that it has seen. False where memory was refused to its journal: nobody waits for it any more then.
+fn gather_all<S: Slot>(pool: &Pool<S>, hand: &mut Hand<S>) -> bool
+    requires of { IsHandOf S.shape S.gives pool.now hand.old }
+    requires head { (view hand.old.pass).worker ≡ 0 }
+    ensures serving { Serving S.shape S.gives pool.now hand.old hand.new }
+    ensures view { view hand.new.pass ≡ knowing (view hand.old.pass) (view hand.old.pass).seen (view hand.new.pass).marks }
+    ensures whole { result ≡ true → hand.new.journal.items ≡ (view hand.new.pass).seen }
+{
+    if pass_seen(pool, hand) {
+        return true;
+    }
+    pool.stop();
+    false
+}
+
+// Worker 0 leads, from its first turn to the end. False where memory was refused to its journal, or the team was stopped.
 fn lead_to_the_end<S: RunCells, P: Poller, C: Clock, R: Wait>(
     rt: &R,
     pool: &Pool<S>,
     hand: &mut Hand<S>,
     poller: &mut P,
     clock: &mut C,
-)
+) -> bool
     requires ready { IsReady S.shape S.gives pool.now hand.old }
     requires head { (view hand.old.pass).worker ≡ 0 }
-    ensures served { Served S.shape S.gives pool.now hand.old hand.new }
-    ensures led { Led P.tells C.tells P.state C.state (pool.now.alone ≡ true) (hand.old, poller.old, clock.old) (hand.new, poller.new, clock.new) }
+    ensures served { Serving S.shape S.gives pool.now hand.old hand.new }
+    ensures led { Led P.tells C.tells P.state C.state (pool.now.alone ≡ true) (result ≡ true) (hand.old, poller.old, clock.old) (hand.new, poller.new, clock.new) }
 {
+    pool.begin_serving(0);
     let mut idle = Idle::new();
     let most = pool.board.most();
     match run_turns(rt, pool.plan, most, pool, hand, &mut idle, poller, clock) {
-        Ok(()) => {}
-        Err(never) => match never {},
+        Ok(()) => gather_all(pool, hand),
+        Err(_) => {
+            pool.stop();
+            false
+        }
     }
 }
 
@@ -225,7 +260,7 @@ pub struct Worker0;
 impl<'a, S: RunCells, P: Poller, C: Clock> Leader<Hand<S>, Pool<'a, S>, P, C> for Worker0 {
     ghost use Rattle.gcd_pool.specs.Leads.{Led};
 
-    ghost led = { λ pool old new. Led P.tells C.tells P.state C.state (pool.alone ≡ true) old new };
+    ghost led = { λ pool old new done. Led P.tells C.tells P.state C.state (pool.alone ≡ true) (done ≡ true) old new };
 
     fn lead<R: Wait>(
         rt: &R,
@@ -233,11 +268,11 @@ impl<'a, S: RunCells, P: Poller, C: Clock> Leader<Hand<S>, Pool<'a, S>, P, C> fo
         poller: &mut P,
         clock: &mut C,
         hand: &mut Hand<S>,
-    ) {
+    ) -> bool {
         if hand.pass.worker() == 0 {
-            lead_to_the_end(rt, shared, hand, poller, clock);
+            lead_to_the_end(rt, shared, hand, poller, clock)
         } else {
-            serve_to_the_end(rt, shared, hand);
+            serve_to_the_end(rt, shared, hand)
         }
     }
 }

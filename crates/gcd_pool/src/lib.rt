@@ -2,8 +2,8 @@
 //! clock. (This project's own rules: libdispatch's pool of threads promises an order of blocks, and not which thread runs one.)
 //!
 //! A [`Pool`] is what the workers of a run share: the row of events (`gcd_row`), the rack of Drains (`gcd_steal`) and the plan of
-//! both. Each worker has a [`Hand`]: a pass of the row and a bench of the rack. A helper goes from turn to turn. It looks at the row,
-//! asks [`duty_of`] what there is to do by what it has seen, and does it:
+//! both. Each worker has a [`Hand`]: a pass of the row and a bench of the rack, and worker 0's has its journal. A helper goes from turn to
+//! turn. It looks at the row, asks [`duty_of`] what there is to do by what it has seen, and does it:
 //!
 //! | duty | what the helper does |
 //! |---|---|
@@ -14,11 +14,25 @@
 //!
 //! A helper that has no run begins none, and waits, while others' runs begin and end within about a microsecond.
 //!
-//! Worker 0 ([`Worker0`]) looks, asks its outlook (`gcd_turn`), and puts what was told, a Tick, an Expire or a Halt; or else it does what its machine
-//! chooses, as a helper does, and polls or waits only where that is nothing. Where it is the team's only hand it needs no Drain and
+//! Worker 0 ([`Worker0`]) looks, asks its outlook (`gcd_turn`), and puts what was told, a Tick, an Expire or a Halt; or else it does what its
+//! machine chooses, as a helper does, and polls or waits only where that is nothing. Where it is the team's only hand it needs no Drain and
 //! pushes none: it records at once what its machine chose, whatever the number of the rack's benches.
 //!
 //! No worker holds a Drain from one turn to the next, so one that leaves, or whose run is parked, keeps none from the others.
+//!
+//! # Writing over what was seen
+//!
+//! The row is a ring of 4,096 cells: an event is put into the cell of the one 4,096 places before it, and not before each worker has
+//! passed that one on. A helper passes on what it has seen after each look. Worker 0 first gathers it into the journal of its hand: where
+//! a thousand events have come since it last did, where an event that it puts is held by its own passed word, and at the end, with which
+//! its journal is all that it has seen. A worker whose event is held by another's passed word waits for that worker.
+//!
+//! So a body must not wait for another worker's body. A worker in a long body passes nothing on: once 4,096 further events stand the others
+//! wait till it has ended.
+//!
+//! Where memory is refused to worker 0's journal the team stops, and also where no thread was made for a worker: that is taken to be so
+//! where a worker that has not begun holds an event for ten seconds. Worker 0 leaves then, each helper that is held leaves
+//! ([`Turn::Stopped`]), and each other once it has nothing to do, whatever it has seen. [`pool_run`] answers an `Err`.
 //!
 //! # Contract
 //!
@@ -29,24 +43,25 @@
 //! | [`begin_near`], [`take_turn`] | the hand is still one of the pool; what it adds is work of its worker; a Drain that was found is laid down, asleep or at the back of the bench's deque (`LaysDown`) |
 //! | [`take_turn`], [`free_turn`] | of the worker's own events exactly one is new where the answer is `Placed` or `Ended`, with which no run or one ends, and else none (`SaysPlaced` of `specs/Placing`); where it is `Rested` the run goes on and no event of the worker is permitted (`SaysRested`); where it is `Out` the call wrote to the place of that node's Drain, which did not sleep there (`SaysOut`) |
 //! | [`begin_near`] | it answers `Placed`, with an event that begins a run, `Waited` or `Out`, of the node that was asked for (`SaysBegun`, `SaysOut`) |
-//! | [`record_own`] | it answers `Placed` or `Ended` where this event is the one that is new; `Left` where the run has ended, and `Waited` where the event is not permitted any more, and none is new (`SaysRecorded`) |
-//! | [`Shared::serve`] of a [`Pool`] | the hand is still one of the pool, of the same worker and bench (`Serving` of `specs/Hands`), and has seen that the run has ended (`Served`) |
-//! | [`Leader::lead`] of [`Worker0`] | the same; and where its poller watches feeds of active sources alone, what poller and clock said stands in what it has seen since, whatever stood in the row before (`Led` of `specs/Leads`, by `IsRunOn` of `gcd_loop`) |
-//! | [`run_in_threads`] | helpers serve in threads while worker 0 leads; what each did, place by place |
-//! | [`pool_run`] | each hand has served, worker 0 has led, and how the run has ended is what worker 0 has seen; a team of one runs with no thread, and where each event of the row is worker 0's that hand follows its choice (`Follows`) |
+//! | [`record_own`] | it answers `Placed` or `Ended` where this event is the one that is new; `Left` where the run has ended, `Waited` where the event is not permitted any more, and `Stopped` where the team was stopped, and none is new (`SaysRecorded`) |
+//! | [`Shared::serve`] of a [`Pool`] | the hand is still one of the pool, of the same worker and bench, and has seen no less (`Serving` of `specs/Hands`) |
+//! | [`Leader::lead`] of [`Worker0`] | the same; and where it answers true the hand has seen that the run has ended, all that it has seen is in its journal, and where its poller watches feeds of active sources alone, what poller and clock said stands in what it has seen since, whatever stood in the row before (`Led` of `specs/Leads`, by `IsRunOn` of `gcd_loop`) |
+//! | [`run_in_threads`] | helpers serve in threads while worker 0 leads; what each did, place by place, and what worker 0 answers |
+//! | [`pool_run`] | worker 0 has led, and an `Ok` says how the run has ended that it has seen, and that each hand has seen the run to end (`Served`), with the whole run in worker 0's journal; the hands come back either way, still of the pool; a team of one runs with no thread, and where each event of the row is worker 0's that hand follows its choice (`Follows`) |
 //!
-//! No call takes memory.
+//! Worker 0's journal alone takes memory.
 //!
 //! # What it does not say
 //!
-//! That a helper ever places an event, that it has a thread of its own, or that it returns: each turn promises what it leaves, and
-//! serving ends only where the run has. Nor why a [`take_turn`], [`free_turn`] or [`begin_near`] answers `Waited`, with which no event of
-//! the worker is new. That [`begin_near`] and [`take_turn`] lay a Drain that they find down is a clause (`LaysDown` of `specs/Turns`); no
-//! clause follows a Drain from there.
+//! That a helper ever places an event, that it has a thread of its own, or that it returns: each turn promises what it leaves. Nor when a
+//! team stops, nor that an `Err` comes of memory or of a thread alone: the flag that tells so is a plain word. Nor why a [`take_turn`],
+//! [`free_turn`] or [`begin_near`] answers `Waited`, with which no event of the worker is new. That [`begin_near`] and [`take_turn`] lay a
+//! Drain that they find down is a clause (`LaysDown` of `specs/Turns`); no clause follows a Drain from there.
 #![tactic(auto)]
 
 mod drains;
 mod duty;
+mod easing;
 mod finding;
 mod hand;
 mod idle;

@@ -1,28 +1,66 @@
 // A run of a pool: helpers in threads, and worker 0.
-ghost use Rattle.std.specs.Prelude.{◌≡◌, ◌<◌, ℕ, List, All, length, slice_index_or, vec_len};
+ghost use Rattle.std.specs.Prelude.{◌≡◌, ◌<◌, ◌≤◌, ℕ, List, All, Ok, IfOk, OnOk, length, slice_index_or, vec_len};
 ghost use Rattle.gcd_event.specs.declared.event.Event.{Event};
 ghost use Rattle.gcd_history.specs.Ends.{HasEnded};
 ghost use Rattle.gcd_machine.specs.Stands.{StandsFor};
-ghost use Rattle.gcd_plan.specs.Limits.{max_events};
 ghost use Rattle.gcd_plan.specs.PlanView.{PlanView};
-ghost use Rattle.gcd_row.specs.Passes.{view, machine_of};
+ghost use Rattle.gcd_row.specs.Passes.{machine_of, terms_of, view};
 ghost use Rattle.gcd_row.specs.Shapes.{shape_of, gives_of};
 ghost use Rattle.gcd_row.specs.declared.cell.Cell.{Cell};
+ghost use Rattle.gcd_pool.specs.declared.duty.Exit.{Exit};
 ghost use Rattle.gcd_pool.specs.declared.hand.Hand.{Hand};
 ghost use Rattle.gcd_pool.specs.Duties.{HasExit};
 ghost use Rattle.gcd_pool.specs.Each.{Each};
-ghost use Rattle.gcd_pool.specs.Hands.{IsReady, Served};
+ghost use Rattle.gcd_pool.specs.Hands.{IsHandOf, IsReady, Served, Serving};
 ghost use Rattle.gcd_pool.specs.Leads.{Led};
 
-use crate::duty::{Exit, exit_of};
+use crate::duty::{Exit, exit_of, has_ended};
 use crate::hand::{Hand, Pool};
 use crate::lead::Worker0;
 use crate::team::run_hands;
 use gcd_jobs::{Handler, Job};
 use gcd_outer::{Clock, Poller};
-use gcd_row::Cell;
+use gcd_row::{Cell, Slot};
+use std::alloc::AllocError;
 use std::sync::Wait;
 use std::thread::Threads;
+
+// Looks until it has seen that the run has ended.
+fn see_the_end<S: Slot, R: Wait>(rt: &R, pool: &Pool<S>, hand: &mut Hand<S>)
+    requires { IsHandOf S.shape S.gives pool.now hand.old }
+    ensures { Served S.shape S.gives pool.now hand.old hand.new }
+{
+    let most = pool.board.most();
+    for _ in rt.forever() {
+        if has_ended(most, hand.pass.machine()) {
+            return;
+        }
+        pool.board.look(&mut hand.pass);
+    }
+    unreachable!()
+}
+
+// The hands from the second on do.
+fn see_the_rest<S: Slot, R: Wait>(rt: &R, pool: &Pool<S>, hands: &mut [Hand<S>])
+    requires { All (IsHandOf S.shape S.gives pool.now) hands.old }
+    ensures first { (d : Hand S) → slice_index_or hands.new 0 d ≡ slice_index_or hands.old 0 d }
+    ensures rest { (k : ℕ) (d : Hand S) → 1 ≤ k → k < length hands.old → Served S.shape S.gives pool.now (slice_index_or hands.old k d) (slice_index_or hands.new k d) }
+{
+    for k in 1..hands.len() {
+        see_the_end(rt, pool, &mut hands[k]);
+    }
+}
+
+// Each hand but the first, which has, looks until it has seen that the run has ended. One look does, since all that worker 0 has seen was
+// placed by then.
+fn see_the_ends<S: Slot, R: Wait>(rt: &R, pool: &Pool<S>, hands: &mut Vec<Hand<S>>)
+    requires { All (IsHandOf S.shape S.gives pool.now) hands.old.items }
+    ensures count { length hands.new.items ≡ length hands.old.items }
+    ensures first { (d : Hand S) → slice_index_or hands.new.items 0 d ≡ slice_index_or hands.old.items 0 d }
+    ensures rest { (k : ℕ) (d : Hand S) → 1 ≤ k → k < length hands.old.items → Served S.shape S.gives pool.now (slice_index_or hands.old.items k d) (slice_index_or hands.new.items k d) }
+{
+    see_the_rest(rt, pool, hands.as_mut_slice());
+}
 
 // How the run has ended that the first of these hands has seen to end.
 fn exit_of_first<S>(hands: &Vec<Hand<S>>) -> Exit
@@ -36,7 +74,10 @@ fn exit_of_first<S>(hands: &Vec<Hand<S>>) -> Exit
 /// Runs a pool: worker 0, the first hand, leads with poller and clock, while the other hands serve in threads of their own, until
 /// each has seen that the run has ended. A team of one needs no thread, and pushes no Drain, whatever the
 /// number of the rack's benches: where each event of the row is worker 0's, that is what its machine chooses. How the run has ended
-/// is what worker 0 has seen, and that is the whole of the row: nothing can follow it but a Halt, which worker 0 alone can put.
+/// is what worker 0 has seen, and that is the whole of the row: nothing can follow it but a Halt, which worker 0 alone can put. It has
+/// all that in its journal then. An `Err` comes only where memory was refused to that journal, or where no thread was made for a worker:
+/// worker 0 leaves, the others leave when they have nothing to do or are held, and of the run nothing is said but that each hand is one of
+/// the pool still.
 pub fn pool_run<
     J: Job + Drop + Send,
     H: Handler + Drop + Send,
@@ -49,22 +90,27 @@ pub fn pool_run<
     mut hands: Vec<Hand<Cell<J, H>>>,
     poller: &mut P,
     clock: &mut C,
-) -> (Exit, Vec<Hand<Cell<J, H>>>)
+) -> (Result<Exit, AllocError>, Vec<Hand<Cell<J, H>>>)
     requires some { 0 < vec_len hands }
     requires hands { All (IsReady (shape_of H.kind H.times H.total) (gives_of J.gives) pool.now) hands.items }
     ensures count { length result.1.items ≡ length hands.items }
-    ensures hands { Each (Served (shape_of H.kind H.times H.total) (gives_of J.gives) pool.now) hands.items result.1.items }
-    ensures led { (d : Hand (Cell J H)) → Led P.tells C.tells P.state C.state (length hands.items ≡ 1) (slice_index_or hands.items 0 d, poller.old, clock.old) (slice_index_or result.1.items 0 d, poller.new, clock.new) }
-    ensures exit { (d : Hand (Cell J H)) → HasExit max_events pool.now.plan.now (view (slice_index_or result.1.items 0 d).pass).seen result.0 }
+    ensures hands { Each (Serving (shape_of H.kind H.times H.total) (gives_of J.gives) pool.now) hands.items result.1.items }
+    ensures served { OnOk result.0 (Each (Served (shape_of H.kind H.times H.total) (gives_of J.gives) pool.now) hands.items result.1.items) }
+    ensures led { (d : Hand (Cell J H)) → Led P.tells C.tells P.state C.state (length hands.items ≡ 1) ((exit : Exit) × (result.0 ≡ Ok exit)) (slice_index_or hands.items 0 d, poller.old, clock.old) (slice_index_or result.1.items 0 d, poller.new, clock.new) }
+    ensures exit { (d : Hand (Cell J H)) → IfOk result.0 (HasExit (terms_of pool.now.board.now).limits.most pool.now.plan.now (view (slice_index_or result.1.items 0 d).pass).seen) }
 {
     let team = pool.for_hands(hands.len());
-    run_hands::<Hand<Cell<J, H>>, Pool<Cell<J, H>>, Worker0, P, C, R>(
+    let done = run_hands::<Hand<Cell<J, H>>, Pool<Cell<J, H>>, Worker0, P, C, R>(
         rt,
         &team,
         hands.as_mut_slice(),
         poller,
         clock,
     );
+    if !done {
+        return (Err(AllocError), hands);
+    }
+    see_the_ends(rt, &team, &mut hands);
     let exit = exit_of_first(&hands);
-    (exit, hands)
+    (Ok(exit), hands)
 }

@@ -44,6 +44,8 @@ impl<J: Job + Drop, H: Handler + Drop> RunCells for Cell<J, H> {
 
     fn call_handler(board: &RowBoard<Cell<J, H>>, pass: &mut RowPass<Cell<J, H>>, s: Obj) {
         let value = pass.machine().data_of(s);
+        // The row takes fewer than 2^32 events, so what the handler counts fits.
+        let _most = board.most();
         let mut handler = board.take_handler(pass, s);
         handler.take(value);
         board.give_handler(pass, s, handler);

@@ -1,16 +1,20 @@
 // The turns of a helper.
-ghost use Rattle.std.specs.Prelude.{◌≡◌};
+ghost use Rattle.std.specs.Prelude.{◌≡◌, ℕ, true, List, MatchOption};
+ghost use Rattle.gcd_history.specs.Ends.{HasEnded};
 ghost use Rattle.gcd_row.specs.Passes.{slots, view};
-ghost use Rattle.gcd_pool.specs.Hands.{IsFresh, IsReady, Served, Serving};
+ghost use Rattle.gcd_row.specs.declared.view.View.{View};
+ghost use Rattle.gcd_pool.specs.Hands.{IsFresh, IsReady, Serving};
 ghost use Rattle.gcd_pool.specs.Placing.{HasPlacedNone, SaysPlaced, SaysRested};
 ghost use Rattle.gcd_pool.specs.Turns.{AfterTurn, SaysOut};
 
+use crate::easing::pass_seen;
 use crate::hand::{Hand, Pool};
 use crate::idle::Idle;
 use crate::run_cells::RunCells;
 use crate::team::Shared;
 use crate::turn::{Turn, take_turn};
 use gcd_plan::Plan;
+use gcd_row::Slot;
 use std::hint;
 use std::sync::Wait;
 
@@ -60,6 +64,7 @@ impl Watch {
     fn after<R: Wait>(&mut self, rt: &R, turn: Turn) {
         match turn {
             Turn::Left => {}
+            Turn::Stopped => {}
             Turn::Placed => {
                 self.free = false;
                 self.idle.reset();
@@ -107,7 +112,8 @@ fn are_quick<S: RunCells>(pool: &Pool<S>, hand: &mut Hand<S>, seen: u32) -> bool
 }
 
 /// A turn of a helper that has no run, and that had seen so many events when it last looked. It looks again
-/// after about a microsecond. Where three events or more have come since, the others' runs are so short that it leaves the row to them,
+/// after about a microsecond, and lets others write over what it has seen ([`Turn::Stopped`] where it has worker 0's pass, and memory
+/// was refused to its journal). Where three events or more have come since, the others' runs are so short that it leaves the row to them,
 /// and answers [`Turn::Waited`]: each event goes through the one row, and one who begins there too only slows the others. Else it is
 /// [`take_turn`]. Condition: the run that the hand holds, if any, is as it was taken.
 pub fn free_turn<S: RunCells, R: Wait>(
@@ -124,20 +130,28 @@ pub fn free_turn<S: RunCells, R: Wait>(
     ensures out { SaysOut result hand.old.bench hand.new.bench }
     ensures after { AfterTurn S.shape result (view hand.new.pass) (slots hand.new.pass) }
 {
-    if are_quick(pool, hand, seen) {
+    let quick = are_quick(pool, hand, seen);
+    if !pass_seen(pool, hand) {
+        return Turn::Stopped;
+    }
+    if quick {
         Turn::Waited
     } else {
         take_turn(rt, pool, hand, from)
     }
 }
 
-// One turn: it looks, and does what there is to do. A turn that finds nothing new after one with nothing to do only waits.
+// One turn: it looks, lets others write over what it has seen, and does what there is to do. A turn that finds nothing new after one with
+// nothing to do only waits.
 fn step<S: RunCells, R: Wait>(rt: &R, pool: &Pool<S>, hand: &mut Hand<S>, watch: &mut Watch) -> Turn
     requires { IsReady S.shape S.gives pool.now hand.old }
     ensures serving { Serving S.shape S.gives pool.now hand.old hand.new }
     ensures after { AfterTurn S.shape result (view hand.new.pass) (slots hand.new.pass) }
 {
     let seen = pool.board.look(&mut hand.pass);
+    if !pass_seen(pool, hand) {
+        return Turn::Stopped;
+    }
     watch.look(seen);
     if watch.resting {
         return Turn::Rested;
@@ -148,16 +162,56 @@ fn step<S: RunCells, R: Wait>(rt: &R, pool: &Pool<S>, hand: &mut Hand<S>, watch:
     take_turn(rt, pool, hand, watch.from)
 }
 
-// Turn by turn, until the run has ended.
-pub fn serve_to_the_end<S: RunCells, R: Wait>(rt: &R, pool: &Pool<S>, hand: &mut Hand<S>)
-    requires { IsReady S.shape S.gives pool.now hand.old }
-    ensures { Served S.shape S.gives pool.now hand.old hand.new }
+// Nothing was placed, though the worker may come again.
+fn is_idle(turn: Turn) -> bool {
+    match turn {
+        Turn::Left => false,
+        Turn::Placed => false,
+        Turn::Ended => false,
+        Turn::Out(_) => true,
+        Turn::Waited => true,
+        Turn::Rested => true,
+        Turn::Stopped => false,
+    }
+}
+
+// How serving ends after a turn: true where the worker has seen that the run has ended, and false where the team was stopped. None where
+// the next turn comes: who places events goes on till there is none, or a passed word holds it.
+fn left_by<S: Slot>(pool: &Pool<S>, turn: Turn) -> Option<bool>
+    ensures { (v : View S) (cells : List (ℕ × S)) → AfterTurn S.shape turn v cells
+        → MatchOption result (IsFresh S.shape v cells) (λ ended. ended ≡ true → HasEnded v.terms.limits.most v.terms.plan v.seen) }
 {
+    if is_idle(turn) {
+        if pool.is_stopped() {
+            return Some(false);
+        }
+    }
+    match turn {
+        Turn::Left => Some(true),
+        Turn::Placed => None,
+        Turn::Ended => None,
+        Turn::Out(_) => None,
+        Turn::Waited => None,
+        Turn::Rested => None,
+        Turn::Stopped => {
+            pool.stop();
+            Some(false)
+        }
+    }
+}
+
+// Turn by turn, until the run has ended, which it answers, or the team was stopped.
+pub fn serve_to_the_end<S: RunCells, R: Wait>(rt: &R, pool: &Pool<S>, hand: &mut Hand<S>) -> bool
+    requires { IsReady S.shape S.gives pool.now hand.old }
+    ensures serving { Serving S.shape S.gives pool.now hand.old hand.new }
+    ensures ended { result ≡ true → HasEnded (view hand.new.pass).terms.limits.most (view hand.new.pass).terms.plan (view hand.new.pass).seen }
+{
+    pool.begin_serving(hand.pass.worker());
     let mut watch = Watch::new(first_node(pool.plan, hand.pass.worker()));
     for _ in rt.forever() {
         let turn = step(rt, pool, hand, &mut watch);
-        if let Turn::Left = turn {
-            return;
+        if let Some(ended) = left_by(pool, turn) {
+            return ended;
         }
         watch.after(rt, turn);
     }
@@ -165,11 +219,11 @@ pub fn serve_to_the_end<S: RunCells, R: Wait>(rt: &R, pool: &Pool<S>, hand: &mut
 }
 
 impl<S: RunCells> Shared<Hand<S>> for Pool<'_, S> {
-    ghost use Rattle.gcd_pool.specs.Hands.{IsReady, Served};
+    ghost use Rattle.gcd_pool.specs.Hands.{IsReady, Serving};
 
     ghost ready = { IsReady S.shape S.gives };
 
-    ghost served = { Served S.shape S.gives };
+    ghost served = { Serving S.shape S.gives };
 
     fn serve<R: Wait>(&self, rt: &R, hand: &mut Hand<S>) {
         serve_to_the_end(rt, self, hand);

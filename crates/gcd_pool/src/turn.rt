@@ -29,13 +29,17 @@ pub enum Turn {
     Waited,
     /// None was placed: no event of the worker is permitted, though the run goes on.
     Rested,
+    /// None was placed, and the worker leaves: memory was refused to the journal of worker 0, or no thread was made for a worker, so the
+    /// run can't go on. Of the run that the worker holds nothing is said.
+    Stopped,
 }
 
 /// Does what the worker has to do by what it has seen, its nodes from number `from` on: what [`duty_of`] says.
 /// It answers [`Turn::Left`] where the worker has seen that the run has ended, and [`Turn::Rested`] where there is nothing to do. An
 /// event that begins no run on a node is put by [`record_own`]. One that begins a run is put once where the Drain of its node sleeps:
 /// [`Turn::Placed`], or [`Turn::Waited`] where another event came first or the row is full. Where that Drain does not sleep this is
-/// [`begin_near`](crate::begin_near). Condition: the run that the hand holds, if any, is as it was taken.
+/// [`begin_near`](crate::begin_near). Where a passed word holds the event each of them waits, and answers [`Turn::Stopped`] where the run
+/// can't go on. Condition: the run that the hand holds, if any, is as it was taken.
 pub fn take_turn<S: RunCells, R: Wait>(
     rt: &R,
     pool: &Pool<S>,

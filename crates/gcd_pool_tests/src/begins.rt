@@ -10,7 +10,7 @@ use super::boards::{board_of, next_bench, pool_of, rack_of};
 use super::hiring::team_of;
 use super::numbers::jobs_of;
 use super::plans::{SIGNALS, plan_of_meeting, plan_of_signals};
-use gcd_plan::{Kind, Obj, Plan};
+use gcd_plan::{Kind, MAX_EVENTS, Obj, Plan};
 use gcd_pool::{Hand, Pool, RunCells, Turn, begin_near, free_turn, take_turn};
 use gcd_steal::{Bench, Rack};
 use std::alloc::Global;
@@ -85,7 +85,7 @@ static QUICK: [Row; 4] = [
     (1, Step::Free(2), Turn::Placed, true),
 ];
 
-// A block waits, and a worker sees no more until the row is full.
+// A block waits, and a worker sees no more until the row is full, of a board that takes so many events.
 static FULL: [Row; 4] = [
     (0, Step::Turns(2), Turn::Placed, false),
     (1, Step::Look, Turn::Rested, false),
@@ -299,13 +299,15 @@ fn last_hand<S: RunCells + Drop, R: Abort>(
     hand
 }
 
-// Two workers make the steps. Each bench may push one Drain.
-fn play<R: Wait + Abort>(rt: &R, alloc: Global, plan: &Plan, rows: &[Row]) {
+// Two workers make the steps on a board for at most so many events. Each bench may push one Drain.
+fn play<R: Wait + Abort>(rt: &R, alloc: Global, plan: &Plan, most: u32, rows: &[Row])
+    requires { 0 < most }
+{
     let Ok(jobs) = jobs_of(alloc, plan) else {
         panic!(rt; "no memory")
     };
     let (rack, benches) = rack_of(rt, alloc, plan, 2, 1);
-    let (board, head) = board_of(rt, alloc, plan, jobs);
+    let (board, head) = board_of(rt, alloc, plan, jobs, 2, most);
     let pool = pool_of(&board, &rack, plan);
     let mut hands = team_of(rt, alloc, &pool, head, benches, 2);
     let mut second = last_hand(rt, &pool, &mut hands);
@@ -316,10 +318,10 @@ fn play<R: Wait + Abort>(rt: &R, alloc: Global, plan: &Plan, rows: &[Row]) {
 #[test]
 fn no_drain_is_lost_at_a_begin(rt: HostRuntime) -> Result<(), Fail> {
     let plan = plan_of_meeting(rt.alloc(), Kind::Concurrent, 4)?;
-    play(&rt, rt.alloc(), &plan, &MEETING);
-    play(&rt, rt.alloc(), &plan, &CHOICE);
-    play(&rt, rt.alloc(), &plan, &QUICK);
+    play(&rt, rt.alloc(), &plan, MAX_EVENTS, &MEETING);
+    play(&rt, rt.alloc(), &plan, MAX_EVENTS, &CHOICE);
+    play(&rt, rt.alloc(), &plan, MAX_EVENTS, &QUICK);
     let plan = plan_of_signals(rt.alloc())?;
-    play(&rt, rt.alloc(), &plan, &FULL);
+    play(&rt, rt.alloc(), &plan, SIGNALS + 2, &FULL);
     Ok(())
 }

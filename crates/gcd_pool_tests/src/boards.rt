@@ -37,17 +37,21 @@ fn tallies_of(alloc: Global, plan: &Plan) -> Result<Vec<Tally>, AllocError>
     Ok(tallies)
 }
 
-/// A board of the plan with these jobs, and worker 0's pass.
+/// A board of the plan with these jobs, for so many workers and at most so many events, and worker 0's pass.
 pub fn board_of<J: Job + Drop, R: Abort>(
     rt: &R,
     alloc: Global,
     plan: &Plan,
     jobs: Vec<J>,
+    workers: u8,
+    most: u32,
 ) -> (Board<J, Tally>, Pass<J, Tally>)
+    requires limits { (0 < workers) × (workers ≤ max_workers) × (0 < most) }
     ensures plan { (terms_of result.0).plan ≡ plan.now }
+    ensures limits { (terms_of result.0).limits ≡ record { workers = workers; most = most } }
     ensures first { AreFirst (shape_of (λ t. t.kind) (λ t. t.times) (λ t. t.total)) (terms_of result.0).plan (terms_of result.0).cells }
     ensures pass { IsPassOf (shape_of (λ t. t.kind) (λ t. t.times) (λ t. t.total)) (gives_of J.gives) result.0 result.1 }
-    ensures view { ((view result.1).worker ≡ 0) × ((view result.1).hands ≡ []) × ((view result.1).seen ≡ []) }
+    ensures view { ((view result.1).worker ≡ 0) × ((view result.1).hands ≡ []) × ((view result.1).seen ≡ []) × ((view result.1).marks.passed ≡ 0) }
 {
     if jobs.len() != plan.blocks() as usize {
         panic!(rt; "a job for each block")
@@ -55,7 +59,7 @@ pub fn board_of<J: Job + Drop, R: Abort>(
     let Ok(tallies) = tallies_of(alloc, plan) else {
         panic!(rt; "no memory")
     };
-    let Ok(made) = Board::new(alloc, plan, jobs, tallies) else {
+    let Ok(made) = Board::new(alloc, plan, jobs, tallies, workers, most) else {
         panic!(rt; "no memory")
     };
     made

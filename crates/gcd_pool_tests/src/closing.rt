@@ -2,7 +2,7 @@
 ghost use Rattle.std.specs.Prelude.{◌≡◌, ◌≢◌, ℕ, List, Some, [], IfOk};
 ghost use Rattle.gcd_event.specs.declared.event.Event.{Event};
 ghost use Rattle.gcd_machine.specs.Stands.{StandsFor};
-ghost use Rattle.gcd_row.specs.Passes.{IsPassOf, view};
+ghost use Rattle.gcd_row.specs.Passes.{IsGathered, IsPassOf, view};
 ghost use Rattle.gcd_row.specs.Views.{standing_of};
 ghost use Rattle.gcd_row.specs.declared.view.Standing.TheVariants.{Out};
 
@@ -52,19 +52,21 @@ fn judge<R: Abort>(rt: &R, alloc: Global, plan: &Plan, events: &[Event]) {
     }
 }
 
-/// Closes the board. The journal, which is one of a run that drained, and the cells.
+/// Closes the board, of whose events these were gathered. The journal, which is one of a run that drained, and the cells.
 pub fn closed<S: Slot + Drop, R: Abort>(
     rt: &R,
     alloc: Global,
     plan: &Plan,
     board: RowBoard<S>,
     pass: RowPass<S>,
+    gathered: Vec<Event>,
 ) -> (Vec<Event>, Vec<S>)
     requires pass { IsPassOf S.shape S.gives board pass }
     requires worker { (view pass).worker ≡ 0 }
     requires back { (w : ℕ) → standing_of (view pass).hands w ≢ Some Out }
+    requires gathered { IsGathered (view pass) gathered.items }
 {
-    let Ok((events, cells)) = board.close(alloc, pass) else {
+    let Ok((events, cells)) = board.close(alloc, pass, gathered) else {
         panic!(rt; "no memory")
     };
     judge(rt, alloc, plan, events.as_slice());

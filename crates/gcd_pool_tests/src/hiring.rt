@@ -1,7 +1,7 @@
 // The hands of a team, before a run and after it.
-ghost use Rattle.std.specs.Prelude.{◌≡◌, ◌≢◌, ◌+◌, ◌<◌, ◌≤◌, ℕ, [], Some, None, All, length, slice_index_or};
-ghost use Rattle.gcd_plan.specs.Limits.{max_workers};
-ghost use Rattle.gcd_row.specs.Passes.{IsPassOf, view};
+ghost use Rattle.std.specs.Prelude.{◌≡◌, ◌≢◌, ◌+◌, ◌<◌, ◌≤◌, ℕ, List, [], Some, None, All, length, slice_index_or};
+ghost use Rattle.gcd_event.specs.declared.event.Event.{Event};
+ghost use Rattle.gcd_row.specs.Passes.{IsGathered, IsPassOf, terms_of, view};
 ghost use Rattle.gcd_row.specs.Views.{standing_of};
 ghost use Rattle.gcd_row.specs.declared.view.Standing.TheVariants.{Out};
 ghost use Rattle.gcd_steal.specs.Racks.{IsBenchOf};
@@ -9,6 +9,7 @@ ghost use Rattle.gcd_pool.specs.Hands.{IsPool, IsReady};
 ghost use Rattle.gcd_pool.specs.declared.hand.Hand.{Hand};
 
 use super::boards::next_bench;
+use gcd_event::Event;
 use gcd_pool::{Hand, Pool};
 use gcd_row::{RowBoard, RowPass, Slot};
 use gcd_steal::Bench;
@@ -29,13 +30,14 @@ fn hire<S: Slot + Drop, R: Abort>(
     requires pass { IsPassOf S.shape S.gives pool.now.board.now head.old }
     requires worker { (view head.old).worker ≡ 0 }
     requires bench { IsBenchOf pool.now.rack.now bench }
-    requires number { (0 < number) × (number < max_workers) }
+    requires number { (0 < number) × (number < (terms_of pool.now.board.now).limits.workers) }
     requires home { standing_of (view head.old).hands 0 ≡ None }
     requires none { (w : ℕ) → number ≤ w → standing_of (view head.old).hands w ≡ None }
     requires hands { All (IsReady S.shape S.gives pool.now) hands.old.items }
     ensures pass { IsPassOf S.shape S.gives pool.now.board.now head.new }
     ensures worker { (view head.new).worker ≡ 0 }
     ensures seen { (view head.new).seen ≡ (view head.old).seen }
+    ensures passed { (view head.new).marks.passed ≡ (view head.old).marks.passed }
     ensures home { standing_of (view head.new).hands 0 ≡ None }
     ensures none { (w : ℕ) → number + 1 ≤ w → standing_of (view head.new).hands w ≡ None }
     ensures hands { All (IsReady S.shape S.gives pool.now) hands.new.items }
@@ -43,7 +45,7 @@ fn hire<S: Slot + Drop, R: Abort>(
     let Ok(pass) = pool.board.split(alloc, head, number) else {
         panic!(rt; "no memory")
     };
-    let Ok(()) = hands.push(Hand::new(pool, pass, bench)) else {
+    let Ok(()) = hands.push(Hand::new(alloc, pool, pass, bench)) else {
         panic!(rt; "no memory")
     };
 }
@@ -61,11 +63,12 @@ fn hire_all<S: Slot + Drop, R: Abort>(
     requires pass { IsPassOf S.shape S.gives pool.now.board.now head.old }
     requires worker { (view head.old).worker ≡ 0 }
     requires benches { All (λ b. IsBenchOf pool.now.rack.now b) benches.old.items }
-    requires workers { (0 < workers) × (workers ≤ max_workers) }
+    requires workers { (0 < workers) × (workers ≤ (terms_of pool.now.board.now).limits.workers) }
     requires none { (view head.old).hands ≡ [] }
     ensures pass { IsPassOf S.shape S.gives pool.now.board.now head.new }
     ensures worker { (view head.new).worker ≡ 0 }
     ensures seen { (view head.new).seen ≡ (view head.old).seen }
+    ensures passed { (view head.new).marks.passed ≡ (view head.old).marks.passed }
     ensures benches { All (λ b. IsBenchOf pool.now.rack.now b) benches.new.items }
     ensures home { standing_of (view head.new).hands 0 ≡ None }
     ensures none { (w : ℕ) → workers ≤ w → standing_of (view head.new).hands w ≡ None }
@@ -90,9 +93,9 @@ pub fn team_of<S: Slot + Drop, R: Abort>(
 ) -> Vec<Hand<S>>
     requires pool { IsPool pool.now }
     requires pass { IsPassOf S.shape S.gives pool.now.board.now head }
-    requires head { ((view head).worker ≡ 0) × ((view head).hands ≡ []) × ((view head).seen ≡ []) }
+    requires head { ((view head).worker ≡ 0) × ((view head).hands ≡ []) × ((view head).seen ≡ []) × ((view head).marks.passed ≡ 0) }
     requires benches { All (λ b. IsBenchOf pool.now.rack.now b) benches.items }
-    requires workers { (0 < workers) × (workers ≤ max_workers) }
+    requires workers { (0 < workers) × (workers ≤ (terms_of pool.now.board.now).limits.workers) }
     ensures some { 0 < length result.items }
     ensures hands { All (IsReady S.shape S.gives pool.now) result.items }
     ensures worker { (d : Hand S) → (view (slice_index_or result.items 0 d).pass).worker ≡ 0 }
@@ -101,7 +104,7 @@ pub fn team_of<S: Slot + Drop, R: Abort>(
 {
     let mut hands = hire_all(rt, alloc, pool, &mut head, &mut benches, workers);
     let bench = next_bench(rt, pool.rack, &mut benches);
-    let Ok(()) = hands.insert(0, Hand::new(pool, head, bench)) else {
+    let Ok(()) = hands.insert(0, Hand::new(alloc, pool, head, bench)) else {
         panic!(rt; "no memory")
     };
     hands
@@ -120,7 +123,14 @@ fn last_pass<S: Slot + Drop, R: Abort>(
     ensures worker { (view result).worker ≡ number }
 {
     let _ = board;
-    let Some(Hand { pass, bench: _ }) = hands.pop() else {
+    let Some(
+        Hand {
+            pass,
+            bench: _,
+            journal: _,
+        },
+    ) = hands.pop()
+    else {
         panic!(rt; "a hand for each worker")
     };
     if pass.worker() != number {
@@ -146,31 +156,35 @@ fn take_in<S: Slot + Drop>(
     ensures worker { (view head.new).worker ≡ 0 }
     ensures home { standing_of (view head.new).hands 0 ≢ Some Out }
     ensures back { (w : ℕ) → number ≤ w → standing_of (view head.new).hands w ≢ Some Out }
+    ensures gathered { (journal : List Event) → IsGathered (view head.old) journal → IsGathered (view head.new) journal }
 {
     let _ = number;
     board.join(head, other);
 }
 
-/// Takes the passes of a team into worker 0's, which had seen all that the others saw.
+/// Takes the passes of a team into worker 0's, which had seen all that the others saw. That pass, and what was gathered of it.
 pub fn gather<S: Slot + Drop, R: Abort>(
     rt: &R,
     board: &RowBoard<S>,
     mut hands: Vec<Hand<S>>,
     workers: u8,
-) -> RowPass<S>
+) -> (RowPass<S>, Vec<Event>)
     requires some { 0 < length hands.items }
     requires hands { All (λ h. IsPassOf S.shape S.gives board.now h.pass) hands.items }
     requires worker { (d : Hand S) → (view (slice_index_or hands.items 0 d).pass).worker ≡ 0 }
     requires home { (d : Hand S) → standing_of (view (slice_index_or hands.items 0 d).pass).hands 0 ≡ None }
     requires none { (d : Hand S) (w : ℕ) → workers ≤ w → standing_of (view (slice_index_or hands.items 0 d).pass).hands w ≡ None }
     requires workers { 0 < workers }
-    ensures pass { IsPassOf S.shape S.gives board.now result }
-    ensures worker { (view result).worker ≡ 0 }
-    ensures back { (w : ℕ) → standing_of (view result).hands w ≢ Some Out }
+    requires gathered { (d : Hand S) → IsGathered (view (slice_index_or hands.items 0 d).pass) (slice_index_or hands.items 0 d).journal.items }
+    ensures pass { IsPassOf S.shape S.gives board.now result.0 }
+    ensures worker { (view result.0).worker ≡ 0 }
+    ensures back { (w : ℕ) → standing_of (view result.0).hands w ≢ Some Out }
+    ensures gathered { IsGathered (view result.0) result.1.items }
 {
     let Hand {
         pass: mut head,
         bench: _,
+        journal,
     } = hands.remove(0);
     let seen = head.machine().len();
     for step in 1..workers {
@@ -180,5 +194,5 @@ pub fn gather<S: Slot + Drop, R: Abort>(
     }
     assert!(rt; hands.is_empty());
     assert!(rt; head.machine().len() == seen);
-    head
+    (head, journal)
 }

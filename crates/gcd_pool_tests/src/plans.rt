@@ -110,8 +110,8 @@ pub fn plan_of_meeting(alloc: Global, kind: Kind, count: u32) -> Result<Plan, Fa
     Ok(Plan::of_parts(parts).ok_or("valid")?)
 }
 
-/// How often `main` signals in a plan that fills the row.
-pub const SIGNALS: u32 = 65_533;
+/// How often `main` signals in a plan that fills the row of a board for two events more.
+pub const SIGNALS: u32 = 1_000;
 
 // `main` submits a block to a queue, and then signals until no event more has room.
 fn signal_acts(alloc: Global) -> Result<Vec<Act>, AllocError> {
@@ -123,7 +123,7 @@ fn signal_acts(alloc: Global) -> Result<Vec<Act>, AllocError> {
     Ok(acts)
 }
 
-/// A plan that fills the row while a block waits on a queue.
+/// A plan that fills such a row while a block waits on a queue.
 pub fn plan_of_signals(alloc: Global) -> Result<Plan, Fail> {
     let mut objects = Vec::new(alloc);
     objects.push(ObjPart::new(alloc, "root", Kind::Concurrent)?)?;

@@ -1,6 +1,6 @@
 // What workers share with no Drains: the row alone keeps its workers apart.
 ghost use Rattle.gcd_row.specs.Passes.{slots, view};
-ghost use Rattle.gcd_pool.specs.Hands.{IsReady, Served, Serving};
+ghost use Rattle.gcd_pool.specs.Hands.{IsReady, Serving};
 ghost use Rattle.gcd_pool.specs.Turns.{AfterTurn};
 
 use gcd_pool::{Duty, Hand, Idle, Pool, RunCells, Shared, Turn, duty_of, record_own};
@@ -47,15 +47,18 @@ fn pass_time<R: Wait>(rt: &R, idle: &mut Idle, turn: Turn) {
     }
 }
 
-// Turn by turn, until the run has ended.
+// Turn by turn, until the run has ended. The runs are shorter than a lap of the ring, so no event is held and none is gathered.
 fn serve_to_the_end<S: RunCells, R: Wait>(rt: &R, pool: &Pool<S>, hand: &mut Hand<S>)
     requires { IsReady S.shape S.gives pool.now hand.old }
-    ensures { Served S.shape S.gives pool.now hand.old hand.new }
+    ensures { Serving S.shape S.gives pool.now hand.old hand.new }
 {
     let mut idle = Idle::new();
     for _ in rt.forever() {
         let turn = step(rt, pool, hand);
         if let Turn::Left = turn {
+            return;
+        }
+        if let Turn::Stopped = turn {
             return;
         }
         pass_time(rt, &mut idle, turn);
@@ -64,11 +67,11 @@ fn serve_to_the_end<S: RunCells, R: Wait>(rt: &R, pool: &Pool<S>, hand: &mut Han
 }
 
 impl<S: RunCells> Shared<Hand<S>> for RowAlone<'_, '_, S> {
-    ghost use Rattle.gcd_pool.specs.Hands.{IsReady, Served};
+    ghost use Rattle.gcd_pool.specs.Hands.{IsReady, Serving};
 
     ghost ready = { λ row. IsReady S.shape S.gives row.pool.now };
 
-    ghost served = { λ row. Served S.shape S.gives row.pool.now };
+    ghost served = { λ row. Serving S.shape S.gives row.pool.now };
 
     fn serve<R: Wait>(&self, rt: &R, hand: &mut Hand<S>) {
         serve_to_the_end(rt, self.pool, hand);

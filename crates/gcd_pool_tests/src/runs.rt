@@ -2,7 +2,7 @@
 ghost use Rattle.std.specs.Prelude.{◌≡◌, ◌<◌, All, length};
 ghost use Rattle.gcd_row.specs.Shapes.{shape_of, gives_of};
 ghost use Rattle.gcd_pool.specs.Each.{Each};
-ghost use Rattle.gcd_pool.specs.Hands.{IsReady, Served};
+ghost use Rattle.gcd_pool.specs.Hands.{IsReady, Serving};
 
 use super::boards::{board_of, pool_of, rack_of, workers_of};
 use super::closing::{are_chosen, closed};
@@ -12,7 +12,7 @@ use super::plans::{plan_of_each_kind, plan_of_limits, plan_of_two_queues};
 use gcd_event::Event;
 use gcd_jobs::{Job, Tally};
 use gcd_outer::{JumpClock, ListPoller};
-use gcd_plan::Plan;
+use gcd_plan::{MAX_EVENTS, Plan};
 use gcd_pool::{Exit, Hand, Pool, pool_run};
 use gcd_row::Cell;
 use std::alloc::Global;
@@ -31,13 +31,17 @@ fn lead<J: Job + Drop + Send, R: Threads + Wait + Abort + Sync>(
     requires some { 0 < length hands.items }
     requires hands { All (IsReady (shape_of (λ t. t.kind) (λ t. t.times) (λ t. t.total)) (gives_of J.gives) pool.now) hands.items }
     ensures count { length result.1.items ≡ length hands.items }
-    ensures hands { Each (Served (shape_of (λ t. t.kind) (λ t. t.times) (λ t. t.total)) (gives_of J.gives) pool.now) hands.items result.1.items }
+    ensures hands { Each (Serving (shape_of (λ t. t.kind) (λ t. t.times) (λ t. t.total)) (gives_of J.gives) pool.now) hands.items result.1.items }
 {
     let Ok(mut poller) = ListPoller::new(alloc, Vec::new(alloc), 0, 0) else {
         panic!(rt; "no memory")
     };
     let mut clock = JumpClock::new(0);
-    pool_run(rt, pool, hands, &mut poller, &mut clock)
+    let (exit, hands) = pool_run(rt, pool, hands, &mut poller, &mut clock);
+    let Ok(exit) = exit else {
+        panic!(rt; "no memory")
+    };
+    (exit, hands)
 }
 
 /// Runs the plan with these jobs by so many workers, over a rack of so many benches. How the run ended, the journal and the cells.
@@ -51,12 +55,12 @@ pub fn run_of<J: Job + Drop + Send, R: Threads + Wait + Abort + Sync>(
 ) -> (Exit, Vec<Event>, Vec<Cell<J, Tally>>) {
     let workers = workers_of(rt, workers);
     let (rack, benches) = rack_of(rt, alloc, plan, benches, 4_096);
-    let (board, head) = board_of(rt, alloc, plan, jobs);
+    let (board, head) = board_of(rt, alloc, plan, jobs, workers, MAX_EVENTS);
     let pool = pool_of(&board, &rack, plan);
     let hands = team_of(rt, alloc, &pool, head, benches, workers);
     let (exit, hands) = lead(rt, alloc, &pool, hands);
-    let head = gather(rt, &board, hands, workers);
-    let (events, cells) = closed(rt, alloc, plan, board, head);
+    let (head, gathered) = gather(rt, &board, hands, workers);
+    let (events, cells) = closed(rt, alloc, plan, board, head, gathered);
     (exit, events, cells)
 }
 

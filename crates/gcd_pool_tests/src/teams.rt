@@ -3,7 +3,7 @@ ghost use Rattle.std.specs.Prelude.{◌≡◌, ◌<◌, ◌≤◌, All, length};
 ghost use Rattle.gcd_row.specs.Shapes.{shape_of, gives_of};
 ghost use Rattle.gcd_steal.specs.Limits.{max_pushes};
 ghost use Rattle.gcd_pool.specs.Each.{Each};
-ghost use Rattle.gcd_pool.specs.Hands.{IsReady, Served};
+ghost use Rattle.gcd_pool.specs.Hands.{IsReady, Serving};
 
 use super::boards::{board_of, pool_of, rack_of, workers_of};
 use super::closing::closed;
@@ -12,7 +12,7 @@ use super::numbers::{are_right, jobs_of};
 use super::plans::plan_of_each_kind;
 use super::rows::RowAlone;
 use gcd_jobs::{Job, Tally};
-use gcd_plan::Plan;
+use gcd_plan::{MAX_EVENTS, Plan};
 use gcd_pool::{Hand, Pool, Shared, serve_all};
 use gcd_row::Cell;
 use std::alloc::Global;
@@ -43,7 +43,7 @@ fn serve_row<J: Job + Drop + Send, R: Threads + Wait + Sync>(
 ) -> Vec<Hand<Cell<J, Tally>>>
     requires { All (IsReady (shape_of (λ t. t.kind) (λ t. t.times) (λ t. t.total)) (gives_of J.gives) pool.now) hands.items }
     ensures count { length result.items ≡ length hands.items }
-    ensures hands { Each (Served (shape_of (λ t. t.kind) (λ t. t.times) (λ t. t.total)) (gives_of J.gives) pool.now) hands.items result.items }
+    ensures hands { Each (Serving (shape_of (λ t. t.kind) (λ t. t.times) (λ t. t.total)) (gives_of J.gives) pool.now) hands.items result.items }
 {
     let row = RowAlone { pool };
     serve_at(rt, &row, hands)
@@ -58,7 +58,7 @@ fn serve<J: Job + Drop + Send, R: Threads + Wait + Sync>(
 ) -> Vec<Hand<Cell<J, Tally>>>
     requires { All (IsReady (shape_of (λ t. t.kind) (λ t. t.times) (λ t. t.total)) (gives_of J.gives) pool.now) hands.items }
     ensures count { length result.items ≡ length hands.items }
-    ensures hands { Each (Served (shape_of (λ t. t.kind) (λ t. t.times) (λ t. t.total)) (gives_of J.gives) pool.now) hands.items result.items }
+    ensures hands { Each (Serving (shape_of (λ t. t.kind) (λ t. t.times) (λ t. t.total)) (gives_of J.gives) pool.now) hands.items result.items }
 {
     if with_drains {
         serve_at(rt, pool, hands)
@@ -81,12 +81,12 @@ fn serve_plan<J: Job + Drop + Send, R: Threads + Wait + Abort + Sync>(
 {
     let workers = workers_of(rt, workers);
     let (rack, benches) = rack_of(rt, alloc, plan, workers, most);
-    let (board, head) = board_of(rt, alloc, plan, jobs);
+    let (board, head) = board_of(rt, alloc, plan, jobs, workers, MAX_EVENTS);
     let pool = pool_of(&board, &rack, plan);
     let hands = team_of(rt, alloc, &pool, head, benches, workers);
     let hands = serve(rt, &pool, hands, with_drains);
-    let head = gather(rt, &board, hands, workers);
-    let (_events, cells) = closed(rt, alloc, plan, board, head);
+    let (head, gathered) = gather(rt, &board, hands, workers);
+    let (_events, cells) = closed(rt, alloc, plan, board, head, gathered);
     cells
 }
 

@@ -1,31 +1,55 @@
 use Rattle.std.proofs.Common.{subst}
-use Rattle.gcd_row.specs.Passes.{Says, view}
-use Rattle.gcd_row.specs.declared.put.Put.{Put}
-use Rattle.gcd_pool.proofs.Placing.{put_barred}
-use Rattle.gcd_pool.proofs.Puts.{says_fresh}
-use Rattle.gcd_pool.proofs.Works.{says_adds}
+use Rattle.gcd_row.specs.Passes.{view}
+use Rattle.gcd_pool.specs.Outcomes.{SaysOutcome}
+use Rattle.gcd_pool.specs.declared.easing.Outcome.{Outcome}
+use Rattle.gcd_pool.proofs.Outcomes.{barred_none, full_none, outcome_adds, outcome_fresh, placed_one, waited_quiet}
+use Rattle.gcd_pool.proofs.Placing.{begins_none, begins_one, begins_stopped}
 use Rattle.gcd_pool.proofs.drains.begins_run.Goals as goal
 
-pub returns-in-Placed-clause-fresh : goal.returns-in-Placed-clause-fresh
-returns-in-Placed-clause-fresh g c = says_fresh g.S.Slot.shape g.S.Slot.gives c.args.board.now c.args.pass.now c.put_begin.new.pass c.args.e c.put_begin.result c.put_begin.ensures.pass c.requires.worker c.requires.cells c.put_begin.ensures.view c.put_begin.ensures.slots c.requires.fresh
-
 pub returns-in-Placed-clause-work : goal.returns-in-Placed-clause-work
-returns-in-Placed-clause-work g c = says_adds c.args.e (view c.args.pass.now) (view c.put_begin.new.pass) c.put_begin.result c.requires.work c.put_begin.ensures.view
-
-pub returns-in-Barred-clause-fresh : goal.returns-in-Barred-clause-fresh
-returns-in-Barred-clause-fresh g c = says_fresh g.S.Slot.shape g.S.Slot.gives c.args.board.now c.args.pass.now c.put_begin.new.pass c.args.e c.put_begin.result c.put_begin.ensures.pass c.requires.worker c.requires.cells c.put_begin.ensures.view c.put_begin.ensures.slots c.requires.fresh
+returns-in-Placed-clause-work g c = outcome_adds g.S.Slot.shape g.S.Slot.gives c.args.pool.now.board.now c.args.e c.args.hand.now.pass c.put_begin.new.hand.pass c.put_begin.result c.requires.work c.put_begin.ensures.said
 
 pub returns-in-Barred-clause-work : goal.returns-in-Barred-clause-work
-returns-in-Barred-clause-work g c = says_adds c.args.e (view c.args.pass.now) (view c.put_begin.new.pass) c.put_begin.result c.requires.work c.put_begin.ensures.view
-
-pub returns-in-Full-clause-fresh : goal.returns-in-Full-clause-fresh
-returns-in-Full-clause-fresh g c = says_fresh g.S.Slot.shape g.S.Slot.gives c.args.board.now c.args.pass.now c.put_begin.new.pass c.args.e c.put_begin.result c.put_begin.ensures.pass c.requires.worker c.requires.cells c.put_begin.ensures.view c.put_begin.ensures.slots c.requires.fresh
+returns-in-Barred-clause-work g c = outcome_adds g.S.Slot.shape g.S.Slot.gives c.args.pool.now.board.now c.args.e c.args.hand.now.pass c.put_begin.new.hand.pass c.put_begin.result c.requires.work c.put_begin.ensures.said
 
 pub returns-in-Full-clause-work : goal.returns-in-Full-clause-work
-returns-in-Full-clause-work g c = says_adds c.args.e (view c.args.pass.now) (view c.put_begin.new.pass) c.put_begin.result c.requires.work c.put_begin.ensures.view
+returns-in-Full-clause-work g c = outcome_adds g.S.Slot.shape g.S.Slot.gives c.args.pool.now.board.now c.args.e c.args.hand.now.pass c.put_begin.new.hand.pass c.put_begin.result c.requires.work c.put_begin.ensures.said
 
-pub returns-in-Barred-clause-placed : goal.returns-in-Barred-clause-placed
-returns-in-Barred-clause-placed g c =
-    let v = view c.args.pass.now in
-    let w = view c.put_begin.new.pass in
-    put_barred c.args.e v w _ _ (subst (λ (r : Put). Says c.args.e v w r) c.in-Barred.is c.put_begin.ensures.view)
+pub returns-in-Stopped-clause-work : goal.returns-in-Stopped-clause-work
+returns-in-Stopped-clause-work g c = outcome_adds g.S.Slot.shape g.S.Slot.gives c.args.pool.now.board.now c.args.e c.args.hand.now.pass c.put_begin.new.hand.pass c.put_begin.result c.requires.work c.put_begin.ensures.said
+
+pub returns-in-Placed-clause-after : goal.returns-in-Placed-clause-after
+returns-in-Placed-clause-after g c =
+    outcome_fresh g.S.Slot.shape g.S.Slot.gives c.args.pool.now.board.now c.args.e c.args.hand.now.pass c.put_begin.new.hand.pass c.put_begin.result c.put_begin.ensures.serving.of.pass
+    c.requires.worker c.requires.ready.of.cells c.put_begin.ensures.said c.requires.ready.fresh
+
+pub returns-in-Barred-clause-after : goal.returns-in-Barred-clause-after
+returns-in-Barred-clause-after g c =
+    outcome_fresh g.S.Slot.shape g.S.Slot.gives c.args.pool.now.board.now c.args.e c.args.hand.now.pass c.put_begin.new.hand.pass c.put_begin.result c.put_begin.ensures.serving.of.pass
+    c.requires.worker c.requires.ready.of.cells c.put_begin.ensures.said c.requires.ready.fresh
+
+pub returns-in-Full-clause-after : goal.returns-in-Full-clause-after
+returns-in-Full-clause-after g c =
+    outcome_fresh g.S.Slot.shape g.S.Slot.gives c.args.pool.now.board.now c.args.e c.args.hand.now.pass c.put_begin.new.hand.pass c.put_begin.result c.put_begin.ensures.serving.of.pass
+    c.requires.worker c.requires.ready.of.cells c.put_begin.ensures.said c.requires.ready.fresh
+
+pub returns-in-Placed-clause-begun : goal.returns-in-Placed-clause-begun
+returns-in-Placed-clause-begun g c = λ node.
+    let v = view c.args.hand.now.pass in
+    let said = subst (λ (o : Outcome). SaysOutcome g.S.Slot.shape g.S.Slot.gives c.args.pool.now.board.now c.args.e c.args.hand.now.pass c.put_begin.new.hand.pass o) c.in-Placed.is c.put_begin.ensures.said in
+    begins_one v.terms.plan v.seen c.args.e _ node v (view c.put_begin.new.hand.pass) c.requires.begins (placed_one g.S.Slot.shape g.S.Slot.gives c.args.pool.now.board.now c.args.e c.args.hand.now.pass c.put_begin.new.hand.pass said)
+
+pub returns-in-Barred-clause-begun : goal.returns-in-Barred-clause-begun
+returns-in-Barred-clause-begun g c = λ node.
+    let said = subst (λ (o : Outcome). SaysOutcome g.S.Slot.shape g.S.Slot.gives c.args.pool.now.board.now c.args.e c.args.hand.now.pass c.put_begin.new.hand.pass o) c.in-Barred.is c.put_begin.ensures.said in
+    begins_none node (view c.args.hand.now.pass) (view c.put_begin.new.hand.pass) (barred_none g.S.Slot.shape g.S.Slot.gives c.args.pool.now.board.now c.args.e c.args.hand.now.pass c.put_begin.new.hand.pass said)
+
+pub returns-in-Full-clause-begun : goal.returns-in-Full-clause-begun
+returns-in-Full-clause-begun g c = λ node.
+    let said = subst (λ (o : Outcome). SaysOutcome g.S.Slot.shape g.S.Slot.gives c.args.pool.now.board.now c.args.e c.args.hand.now.pass c.put_begin.new.hand.pass o) c.in-Full.is c.put_begin.ensures.said in
+    begins_none node (view c.args.hand.now.pass) (view c.put_begin.new.hand.pass) (full_none g.S.Slot.shape g.S.Slot.gives c.args.pool.now.board.now c.args.e c.args.hand.now.pass c.put_begin.new.hand.pass said)
+
+pub returns-in-Stopped-clause-begun : goal.returns-in-Stopped-clause-begun
+returns-in-Stopped-clause-begun g c = λ node.
+    let said = subst (λ (o : Outcome). SaysOutcome g.S.Slot.shape g.S.Slot.gives c.args.pool.now.board.now c.args.e c.args.hand.now.pass c.put_begin.new.hand.pass o) c.in-Stopped.is c.put_begin.ensures.said in
+    begins_stopped node (view c.args.hand.now.pass) (view c.put_begin.new.hand.pass) (waited_quiet c.args.hand.now.pass c.put_begin.new.hand.pass said)

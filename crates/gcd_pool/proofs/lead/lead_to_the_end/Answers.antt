@@ -1,4 +1,5 @@
-use Rattle.std.proofs.Common.{ℕ, subst, refl}
+use Rattle.std.proofs.Common.{◌≡◌, ◌∙◌, ℕ, List, ap, sym, subst, refl}
+use Rattle.gcd_event.specs.declared.event.Event.{Event}
 use Rattle.gcd_plan.specs.PlanView.{PlanView}
 use Rattle.gcd_history.specs.Ends.{HasEnded}
 use Rattle.gcd_loop.specs.Going.{IsRunOn}
@@ -6,38 +7,71 @@ use Rattle.gcd_outer.specs.Outside.{ClockState, Seen}
 use Rattle.gcd_outer.specs.Tells.{PollerState}
 use Rattle.gcd_row.specs.Passes.{view}
 use Rattle.gcd_pool.specs.Leads.{Follows}
-use Rattle.gcd_pool.proofs.Serves.{serves_nothing}
+use Rattle.gcd_pool.proofs.Recording.{leads_nowhere, never}
+use Rattle.gcd_pool.proofs.Serves.{most_of_hand, serves_further}
 use Rattle.gcd_pool.proofs.lead.lead_to_the_end.Goals as goal
 
 pub run_turns-requires-clause-ready : goal.run_turns-requires-clause-ready
-run_turns-requires-clause-ready g c = record { ready = c.requires.ready; head = c.requires.head; plan_is = refl; most_is = c.most-most.ensures }
+run_turns-requires-clause-ready g c = record {
+  ready = c.requires.ready;
+  head = c.requires.head;
+  plan_is = refl;
+  most_is = c.most-most.ensures ∙ sym (most_of_hand g.S.Slot.shape g.S.Slot.gives c.args.pool.now c.args.hand.now c.requires.ready.of);
+}
 
 pub run_turns-requires-clause-unstopped : goal.run_turns-requires-clause-unstopped
 run_turns-requires-clause-unstopped g c = λ hand stopped. stopped
 
+pub gather_all-requires-clause-head : goal.gather_all-requires-clause-head
+gather_all-requires-clause-head g c =
+    let kept = c.run_turns.ensures.kept c.args.hand.now (leads_nowhere g.S.Slot.shape g.S.Slot.gives c.args.pool.now.plan.now c.args.pool.now c.args.hand.now c.requires.ready.of) in
+    ap (λ x. x.worker) kept.serving.view.is ∙ c.requires.head
+
+pub returns-in-Ok-clause-served : goal.returns-in-Ok-clause-served
+returns-in-Ok-clause-served g c =
+    let kept = c.run_turns.ensures.kept c.args.hand.now (leads_nowhere g.S.Slot.shape g.S.Slot.gives c.args.pool.now.plan.now c.args.pool.now c.args.hand.now c.requires.ready.of) in
+    serves_further g.S.Slot.shape g.S.Slot.gives c.args.pool.now c.args.hand.now c.run_turns.new.run c.gather_all.new.hand kept.serving c.gather_all.ensures.serving
+
 pub returns-clause-served : goal.returns-clause-served
 returns-clause-served g c =
-    let pool = c.args.pool.now in
+    (c.run_turns.ensures.kept c.args.hand.now (leads_nowhere g.S.Slot.shape g.S.Slot.gives c.args.pool.now.plan.now c.args.pool.now c.args.hand.now c.requires.ready.of)).serving
+
+pub returns-in-Ok-clause-led : goal.returns-in-Ok-clause-led
+returns-in-Ok-clause-led g c =
     let old = c.args.hand.now in
-    let new = c.run_turns.new.run in
-    let serving = (c.run_turns.ensures.kept old (record { serving = serves_nothing g.S.Slot.shape g.S.Slot.gives pool old c.requires.ready.of; follows = λ alone all follows. follows })).serving in
+    let mid = c.run_turns.new.run in
+    let new = c.gather_all.new.hand in
+    let kept = c.run_turns.ensures.kept old (leads_nowhere g.S.Slot.shape g.S.Slot.gives c.args.pool.now.plan.now c.args.pool.now old c.requires.ready.of) in
+    let seen : (view new.pass).seen ≡ (view mid.pass).seen = ap (λ x. x.seen) c.gather_all.ensures.view in
+    let poller : Seen PollerState = record { tells = g.P.Poller.tells; before = g.P.Poller.state c.args.poller.now; after = g.P.Poller.state c.run_turns.new.poller } in
+    let clock : Seen ClockState = record { tells = g.C.Clock.tells; before = g.C.Clock.state c.args.clock.now; after = g.C.Clock.state c.run_turns.new.clock } in
     record {
-      serving = serving;
-      ended = subst (λ (n : ℕ). HasEnded n (view new.pass).terms.plan (view new.pass).seen) c.most-most.ensures
-          (subst (λ (q : PlanView). HasEnded c.most-most.result q (view new.pass).seen) serving.of.plan c.in-Ok.ensures.run_on.ended);
+      led = λ done head.
+          subst (λ (k : List Event). IsRunOn (view old.pass).terms.limits.most (view old.pass).terms.plan (view old.pass).seen k poller clock) (sym seen)
+          (subst (λ (n : ℕ). IsRunOn n (view old.pass).terms.plan (view old.pass).seen (view mid.pass).seen poller clock)
+          (c.most-most.ensures ∙ sym (most_of_hand g.S.Slot.shape g.S.Slot.gives c.args.pool.now old c.requires.ready.of))
+          (subst (λ (q : PlanView). IsRunOn c.most-most.result q (view old.pass).seen (view mid.pass).seen poller clock) c.requires.ready.of.plan c.in-Ok.ensures.run_on));
+      ended = λ done.
+          subst (λ v. HasEnded v.terms.limits.most v.terms.plan v.seen) (sym c.gather_all.ensures.view)
+          (subst (λ (n : ℕ). HasEnded n (view mid.pass).terms.plan (view mid.pass).seen)
+          (c.most-most.ensures ∙ sym (most_of_hand g.S.Slot.shape g.S.Slot.gives c.args.pool.now mid kept.serving.of))
+          (subst (λ (q : PlanView). HasEnded c.most-most.result q (view mid.pass).seen) kept.serving.of.plan c.in-Ok.ensures.run_on.ended));
+      whole = λ done head. c.gather_all.ensures.whole done;
+      follows = λ alone head.
+          subst (λ (k : List Event). Follows (view old.pass).terms.plan (view old.pass).seen k) (sym seen)
+          (subst (λ (q : PlanView). Follows q (view old.pass).seen (view mid.pass).seen) c.requires.ready.of.plan (kept.follows alone));
+      kept = λ head. c.run_turns.ensures.listens;
     }
 
 pub returns-clause-led : goal.returns-clause-led
 returns-clause-led g c =
     let old = c.args.hand.now in
-    let new = c.run_turns.new.run in
-    let poller : Seen PollerState = record { tells = g.P.Poller.tells; before = g.P.Poller.state c.args.poller.now; after = g.P.Poller.state c.run_turns.new.poller } in
-    let clock : Seen ClockState = record { tells = g.C.Clock.tells; before = g.C.Clock.state c.args.clock.now; after = g.C.Clock.state c.run_turns.new.clock } in
+    let mid = c.run_turns.new.run in
+    let kept = c.run_turns.ensures.kept old (leads_nowhere g.S.Slot.shape g.S.Slot.gives c.args.pool.now.plan.now c.args.pool.now old c.requires.ready.of) in
     record {
-      led = λ head. subst (λ (n : ℕ). IsRunOn n (view old.pass).terms.plan (view old.pass).seen (view new.pass).seen poller clock) c.most-most.ensures
-          (subst (λ (q : PlanView). IsRunOn c.most-most.result q (view old.pass).seen (view new.pass).seen poller clock) c.requires.ready.of.plan c.in-Ok.ensures.run_on);
-      follows = λ alone head.
-          subst (λ (q : PlanView). Follows q (view old.pass).seen (view new.pass).seen) c.requires.ready.of.plan
-          ((c.run_turns.ensures.kept old (record { serving = serves_nothing g.S.Slot.shape g.S.Slot.gives c.args.pool.now old c.requires.ready.of; follows = λ alone all follows. follows })).follows alone);
+      led = λ done. never done;
+      ended = λ done. never done;
+      whole = λ done. never done;
+      follows = λ alone head. subst (λ (q : PlanView). Follows q (view old.pass).seen (view mid.pass).seen) c.requires.ready.of.plan (kept.follows alone);
       kept = λ head. c.run_turns.ensures.listens;
     }

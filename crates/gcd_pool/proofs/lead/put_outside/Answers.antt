@@ -1,33 +1,35 @@
 use Rattle.std.proofs.Common.{◌∙◌, sym}
-use Rattle.gcd_row.specs.Passes.{view}
-use Rattle.gcd_pool.proofs.Puts.{says_fresh}
-use Rattle.gcd_pool.proofs.Recording.{says_barred, says_full, says_placed}
-use Rattle.gcd_pool.proofs.Works.{says_only}
+use Rattle.gcd_pool.proofs.Outcomes.{outcome_fresh, outcome_only}
+use Rattle.gcd_pool.proofs.Recording.{put_barred, put_full, put_placed}
+use Rattle.gcd_pool.specs.declared.easing.Outcome.TheVariants.{Placed, Barred, Full, Stopped}
 use Rattle.gcd_pool.proofs.lead.put_outside.Goals as goal
 
 pub returns-in-Placed-clause-fresh : goal.returns-in-Placed-clause-fresh
-returns-in-Placed-clause-fresh g c = says_fresh g.S.Slot.shape g.S.Slot.gives c.args.board.now c.args.pass.now c.put.new.pass c.args.e c.put.result c.put.ensures.pass (c.requires.worker ∙ sym c.requires.head) c.requires.cells c.put.ensures.view c.put.ensures.slots c.requires.fresh
+returns-in-Placed-clause-fresh g c = outcome_fresh g.S.Slot.shape g.S.Slot.gives c.args.pool.now.board.now c.args.e c.args.hand.now.pass c.put_through.new.hand.pass Placed c.put_through.ensures.serving.of.pass (c.requires.worker ∙ sym c.requires.head) c.requires.ready.of.cells c.in-Placed.ensures.said c.requires.ready.fresh
 
 pub returns-in-Barred-clause-fresh : goal.returns-in-Barred-clause-fresh
-returns-in-Barred-clause-fresh g c = says_fresh g.S.Slot.shape g.S.Slot.gives c.args.board.now c.args.pass.now c.put.new.pass c.args.e c.put.result c.put.ensures.pass (c.requires.worker ∙ sym c.requires.head) c.requires.cells c.put.ensures.view c.put.ensures.slots c.requires.fresh
+returns-in-Barred-clause-fresh g c = outcome_fresh g.S.Slot.shape g.S.Slot.gives c.args.pool.now.board.now c.args.e c.args.hand.now.pass c.put_through.new.hand.pass Barred c.put_through.ensures.serving.of.pass (c.requires.worker ∙ sym c.requires.head) c.requires.ready.of.cells c.in-Barred.ensures.said c.requires.ready.fresh
 
 pub returns-in-Full-clause-fresh : goal.returns-in-Full-clause-fresh
-returns-in-Full-clause-fresh g c = says_fresh g.S.Slot.shape g.S.Slot.gives c.args.board.now c.args.pass.now c.put.new.pass c.args.e c.put.result c.put.ensures.pass (c.requires.worker ∙ sym c.requires.head) c.requires.cells c.put.ensures.view c.put.ensures.slots c.requires.fresh
+returns-in-Full-clause-fresh g c = outcome_fresh g.S.Slot.shape g.S.Slot.gives c.args.pool.now.board.now c.args.e c.args.hand.now.pass c.put_through.new.hand.pass Full c.put_through.ensures.serving.of.pass (c.requires.worker ∙ sym c.requires.head) c.requires.ready.of.cells c.in-Full.ensures.said c.requires.ready.fresh
 
 pub returns-in-Placed-clause-said : goal.returns-in-Placed-clause-said
-returns-in-Placed-clause-said g c = says_placed c.args.e (view c.args.pass.now) (view c.put.new.pass) _ c.requires.head c.in-Placed.ensures.view
+returns-in-Placed-clause-said g c = put_placed g.S.Slot.shape g.S.Slot.gives c.args.pool.now.board.now c.args.e c.args.hand.now.pass c.put_through.new.hand.pass c.in-Placed.ensures.said.0 c.in-Placed.ensures.said.1 c.requires.head
 
 pub returns-in-Barred-clause-said : goal.returns-in-Barred-clause-said
-returns-in-Barred-clause-said g c = says_barred c.args.e (view c.args.pass.now) (view c.put.new.pass) _ _ c.requires.head c.in-Barred.ensures.view
+returns-in-Barred-clause-said g c = put_barred g.S.Slot.shape g.S.Slot.gives c.args.pool.now.board.now c.args.e c.args.hand.now.pass c.put_through.new.hand.pass c.in-Barred.ensures.said.0 c.in-Barred.ensures.said.1.0 c.in-Barred.ensures.said.1.1 c.requires.head
 
 pub returns-in-Full-clause-said : goal.returns-in-Full-clause-said
-returns-in-Full-clause-said g c = says_full c.args.e (view c.args.pass.now) (view c.put.new.pass) c.requires.head c.in-Full.ensures.view
+returns-in-Full-clause-said g c = put_full g.S.Slot.shape g.S.Slot.gives c.args.pool.now.board.now c.args.e c.args.hand.now.pass c.put_through.new.hand.pass c.in-Full.ensures.said c.requires.head
 
 pub returns-in-Placed-clause-only : goal.returns-in-Placed-clause-only
-returns-in-Placed-clause-only g c = says_only c.args.e (view c.args.pass.now) (view c.put.new.pass) c.put.result c.put.ensures.view
+returns-in-Placed-clause-only g c = outcome_only g.S.Slot.shape g.S.Slot.gives c.args.pool.now.board.now c.args.e c.args.hand.now.pass c.put_through.new.hand.pass Placed c.in-Placed.ensures.said
 
 pub returns-in-Barred-clause-only : goal.returns-in-Barred-clause-only
-returns-in-Barred-clause-only g c = says_only c.args.e (view c.args.pass.now) (view c.put.new.pass) c.put.result c.put.ensures.view
+returns-in-Barred-clause-only g c = outcome_only g.S.Slot.shape g.S.Slot.gives c.args.pool.now.board.now c.args.e c.args.hand.now.pass c.put_through.new.hand.pass Barred c.in-Barred.ensures.said
 
 pub returns-in-Full-clause-only : goal.returns-in-Full-clause-only
-returns-in-Full-clause-only g c = says_only c.args.e (view c.args.pass.now) (view c.put.new.pass) c.put.result c.put.ensures.view
+returns-in-Full-clause-only g c = outcome_only g.S.Slot.shape g.S.Slot.gives c.args.pool.now.board.now c.args.e c.args.hand.now.pass c.put_through.new.hand.pass Full c.in-Full.ensures.said
+
+pub returns-in-Stopped-clause-only : goal.returns-in-Stopped-clause-only
+returns-in-Stopped-clause-only g c = outcome_only g.S.Slot.shape g.S.Slot.gives c.args.pool.now.board.now c.args.e c.args.hand.now.pass c.put_through.new.hand.pass Stopped c.in-Stopped.ensures.said

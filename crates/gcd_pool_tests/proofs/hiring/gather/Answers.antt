@@ -8,6 +8,7 @@ loop-step-init g c = record {
   some = search rules;
   pass = search rules;
   worker = search rules;
+  gathered = search rules;
   hands = search rules;
   home = search rules;
   back = search rules;

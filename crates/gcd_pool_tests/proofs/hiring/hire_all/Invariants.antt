@@ -12,6 +12,7 @@ invariant-loop-number g l = record {
   pass : IsPassOf g.S.Slot.shape g.S.Slot.gives l.pool.board.now l.head;
   worker : (view l.head).worker ≡ 0;
   seen : (view l.head).seen ≡ (view l.initial.head).seen;
+  passed : (view l.head).marks.passed ≡ (view l.initial.head).marks.passed;
   benches : All (λ b. IsBenchOf l.pool.rack.now b) l.benches.items;
   home : standing_of (view l.head).hands 0 ≡ None;
   none : (w : ℕ) → l.number ≤ w → standing_of (view l.head).hands w ≡ None;

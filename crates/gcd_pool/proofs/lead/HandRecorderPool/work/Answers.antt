@@ -1,51 +1,40 @@
-use Rattle.std.proofs.Common.{ℕ, sym, subst}
-use Rattle.gcd_plan.specs.Limits.{max_events}
-use Rattle.gcd_plan.specs.PlanView.{PlanView}
-use Rattle.gcd_row.specs.Passes.{slots, view}
-use Rattle.gcd_history.specs.Ends.{HasEnded}
-use Rattle.gcd_pool.specs.Hands.{IsFresh, IsHandOf}
-use Rattle.gcd_pool.specs.Leads.{IsHead}
-use Rattle.gcd_pool.proofs.Recording.{after_weaker, leads_further, plan_after, plan_of_head, still_head, worked}
-use Rattle.gcd_pool.proofs.Told.{to_lead}
+use Rattle.std.proofs.Common.{◌≡◌, List, Some, ap, sym, subst}
+use Rattle.gcd_event.specs.declared.event.Event.{Event}
+use Rattle.gcd_history.specs.History.{choice_of}
+use Rattle.gcd_loop.specs.Recorded.{IsGrown}
+use Rattle.gcd_row.specs.Passes.{view}
+use Rattle.gcd_pool.proofs.Recording.{leads_further, on_ok, passed_chosen, passed_head, passed_leads, worked}
 use Rattle.gcd_pool.proofs.lead.HandRecorderPool.work.Goals as goal
 
 pub lead_any-requires-clause-worker : goal.lead_any-requires-clause-worker
 lead_any-requires-clause-worker g c =
-    (to_lead g.S.Slot.shape g.S.Slot.gives c.args.desk.now.board.now c.args.self.now.pass c.requires.ready.ready.of.pass c.args.plan.now c.args.e
-    (sym (plan_of_head g.S.Slot.shape g.S.Slot.gives c.args.most c.args.plan.now c.args.desk.now c.args.self.now c.requires.ready)) c.requires.ready.head c.requires.chosen).0
+    (passed_chosen g.S.Slot.shape g.S.Slot.gives c.args.most c.args.plan.now c.args.desk.now c.args.self.now c.requires.ready c.pass_many.new.hand c.args.e
+    c.pass_many.ensures.serving c.pass_many.ensures.view c.pass_many.ensures.slots c.requires.chosen).0
 
 pub lead_any-requires-clause-may : goal.lead_any-requires-clause-may
 lead_any-requires-clause-may g c =
-    (to_lead g.S.Slot.shape g.S.Slot.gives c.args.desk.now.board.now c.args.self.now.pass c.requires.ready.ready.of.pass c.args.plan.now c.args.e
-    (sym (plan_of_head g.S.Slot.shape g.S.Slot.gives c.args.most c.args.plan.now c.args.desk.now c.args.self.now c.requires.ready)) c.requires.ready.head c.requires.chosen).1
+    (passed_chosen g.S.Slot.shape g.S.Slot.gives c.args.most c.args.plan.now c.args.desk.now c.args.self.now c.requires.ready c.pass_many.new.hand c.args.e
+    c.pass_many.ensures.serving c.pass_many.ensures.view c.pass_many.ensures.slots c.requires.chosen).1
 
 pub lead_any-requires-clause-work : goal.lead_any-requires-clause-work
 lead_any-requires-clause-work g c =
-    (to_lead g.S.Slot.shape g.S.Slot.gives c.args.desk.now.board.now c.args.self.now.pass c.requires.ready.ready.of.pass c.args.plan.now c.args.e
-    (sym (plan_of_head g.S.Slot.shape g.S.Slot.gives c.args.most c.args.plan.now c.args.desk.now c.args.self.now c.requires.ready)) c.requires.ready.head c.requires.chosen).2
-
-pub returns-clause-after : goal.returns-clause-after
-returns-clause-after g c =
-    let most = c.args.most in
-    let plan = c.args.plan.now in
-    let pool = c.args.desk.now in
-    let new = c.lead_any.new.hand in
-    let v = view new.pass in
-    after_weaker (IsFresh g.S.Slot.shape v (slots new.pass)) (HasEnded max_events v.terms.plan v.seen)
-    (IsHead g.S.Slot.shape g.S.Slot.gives most plan pool new) (HasEnded most plan v.seen × IsHandOf g.S.Slot.shape g.S.Slot.gives pool new) _ c.step_of.result
-    (λ fresh. still_head g.S.Slot.shape g.S.Slot.gives most plan pool c.args.self.now c.requires.ready new c.lead_any.ensures.serving fresh)
-    (λ ended. (
-      subst (λ (n : ℕ). HasEnded n plan v.seen) (sym c.requires.ready.most_is) (subst (λ (q : PlanView). HasEnded max_events q v.seen)
-          (plan_after g.S.Slot.shape g.S.Slot.gives most plan pool c.args.self.now c.requires.ready new c.lead_any.ensures.serving) ended),
-      c.lead_any.ensures.serving.of,
-    ))
-    (c.step_of.ensures v (slots new.pass) c.lead_any.ensures.after)
+    (passed_chosen g.S.Slot.shape g.S.Slot.gives c.args.most c.args.plan.now c.args.desk.now c.args.self.now c.requires.ready c.pass_many.new.hand c.args.e
+    c.pass_many.ensures.serving c.pass_many.ensures.view c.pass_many.ensures.slots c.requires.chosen).2
 
 pub returns-clause-grown : goal.returns-clause-grown
 returns-clause-grown g c =
-    worked g.S.Slot.shape g.S.Slot.gives c.args.most c.args.plan.now c.args.desk.now c.args.self.now c.requires.ready c.lead_any.new.hand c.lead_any.ensures.serving c.lead_any.ensures.work
+    let most = c.args.most in let plan = c.args.plan.now in let pool = c.args.desk.now in let mid = c.pass_many.new.hand in let new = c.lead_any.new.hand in
+    on_ok c.step_of.result (IsGrown most plan (view c.args.self.now.pass).seen (view new.pass).seen)
+    (subst (λ (h : List Event). IsGrown most plan h (view new.pass).seen) (ap (λ x. x.seen) c.pass_many.ensures.view)
+    (worked g.S.Slot.shape g.S.Slot.gives most plan pool mid
+    (passed_head g.S.Slot.shape g.S.Slot.gives most plan pool c.args.self.now c.requires.ready mid c.pass_many.ensures.serving c.pass_many.ensures.view c.pass_many.ensures.slots) new
+    c.lead_any.ensures.serving c.lead_any.ensures.work))
 
 pub returns-clause-kept : goal.returns-clause-kept
 returns-clause-kept g c = λ first kept.
-    leads_further g.S.Slot.shape g.S.Slot.gives c.args.most c.args.plan.now c.args.desk.now c.args.self.now c.requires.ready first c.lead_any.new.hand c.args.e
-    c.lead_any.ensures.serving c.lead_any.ensures.only (λ work. c.requires.chosen) kept
+    let most = c.args.most in let plan = c.args.plan.now in let pool = c.args.desk.now in let mid = c.pass_many.new.hand in
+    leads_further g.S.Slot.shape g.S.Slot.gives most plan pool mid
+    (passed_head g.S.Slot.shape g.S.Slot.gives most plan pool c.args.self.now c.requires.ready mid c.pass_many.ensures.serving c.pass_many.ensures.view c.pass_many.ensures.slots) first c.lead_any.new.hand c.args.e
+    c.lead_any.ensures.serving c.lead_any.ensures.only
+    (λ work. subst (λ (h : List Event). choice_of plan h 0 0 ≡ Some c.args.e) (sym (ap (λ x. x.seen) c.pass_many.ensures.view)) c.requires.chosen)
+    (passed_leads g.S.Slot.shape g.S.Slot.gives most plan pool c.args.self.now c.requires.ready first mid c.pass_many.ensures.serving c.pass_many.ensures.view kept)

@@ -5,7 +5,7 @@ use Rattle.gcd_row.specs.Lying.{IsServed}
 use Rattle.gcd_row.specs.Passes.{view}
 use Rattle.gcd_row.specs.Shapes.{shape_of, gives_of}
 use Rattle.gcd_row.proofs.Passing.{lawful_seen, valid_plan}
-use Rattle.gcd_pool.proofs.Cells.{handler_here, source_known, takes_fit}
+use Rattle.gcd_pool.proofs.Cells.{few_events, handler_here, source_known, takes_fit}
 use Rattle.gcd_pool.proofs.Told.{machine_plan, stands_as}
 use Rattle.gcd_pool.proofs.run_cells.CellRunCells.call_handler.Goals as goal
 
@@ -25,8 +25,9 @@ take-requires-clause-times_fit g c =
     let shape = shape_of g.H.Handler.kind g.H.Handler.times g.H.Handler.total in
     let gives = gives_of g.J.Job.gives in
     let h = c.take_handler-handler.result in
+    let few = few_events shape gives c.args.board.now c.args.pass.now c.most-most.result c.requires.pass c.most-most.ensures c.most-most.type_inv in
     (takes_fit v.terms.plan v.seen c.args.s.0 (g.H.Handler.kind h) (g.H.Handler.times h) (g.H.Handler.total h) c.data_of-value.result
-    (valid_plan shape gives c.args.board.now c.args.pass.now c.requires.pass) (lawful_seen shape gives c.args.board.now c.args.pass.now c.requires.pass) c.requires.pass.few
+    (valid_plan shape gives c.args.board.now c.args.pass.now c.requires.pass) (lawful_seen shape gives c.args.board.now c.args.pass.now c.requires.pass) few
     c.take_handler-handler.ensures.kind c.take_handler-handler.ensures.untaken
     (c.data_of-value.ensures v.terms.plan v.seen (stands_as shape gives c.args.board.now c.args.pass.now c.requires.pass c.machine.result.now c.machine.ensures))).times_fit
 
@@ -36,8 +37,9 @@ take-requires-clause-total_fits g c =
     let shape = shape_of g.H.Handler.kind g.H.Handler.times g.H.Handler.total in
     let gives = gives_of g.J.Job.gives in
     let h = c.take_handler-handler.result in
+    let few = few_events shape gives c.args.board.now c.args.pass.now c.most-most.result c.requires.pass c.most-most.ensures c.most-most.type_inv in
     (takes_fit v.terms.plan v.seen c.args.s.0 (g.H.Handler.kind h) (g.H.Handler.times h) (g.H.Handler.total h) c.data_of-value.result
-    (valid_plan shape gives c.args.board.now c.args.pass.now c.requires.pass) (lawful_seen shape gives c.args.board.now c.args.pass.now c.requires.pass) c.requires.pass.few
+    (valid_plan shape gives c.args.board.now c.args.pass.now c.requires.pass) (lawful_seen shape gives c.args.board.now c.args.pass.now c.requires.pass) few
     c.take_handler-handler.ensures.kind c.take_handler-handler.ensures.untaken
     (c.data_of-value.ensures v.terms.plan v.seen (stands_as shape gives c.args.board.now c.args.pass.now c.requires.pass c.machine.result.now c.machine.ensures))).total_fits
 
@@ -47,8 +49,9 @@ give_handler-requires-clause-served g c =
     let shape = shape_of g.H.Handler.kind g.H.Handler.times g.H.Handler.total in
     let gives = gives_of g.J.Job.gives in
     let h = c.take_handler-handler.result in
+    let few = few_events shape gives c.args.board.now c.args.pass.now c.most-most.result c.requires.pass c.most-most.ensures c.most-most.type_inv in
     let fit = takes_fit v.terms.plan v.seen c.args.s.0 (g.H.Handler.kind h) (g.H.Handler.times h) (g.H.Handler.total h) c.data_of-value.result
-    (valid_plan shape gives c.args.board.now c.args.pass.now c.requires.pass) (lawful_seen shape gives c.args.board.now c.args.pass.now c.requires.pass) c.requires.pass.few
+    (valid_plan shape gives c.args.board.now c.args.pass.now c.requires.pass) (lawful_seen shape gives c.args.board.now c.args.pass.now c.requires.pass) few
     c.take_handler-handler.ensures.kind c.take_handler-handler.ensures.untaken
     (c.data_of-value.ensures v.terms.plan v.seen (stands_as shape gives c.args.board.now c.args.pass.now c.requires.pass c.machine.result.now c.machine.ensures)) in
     subst (λ x. IsServed x.terms.plan x.seen c.args.s.0 (g.H.Handler.times c.take.new.self) (g.H.Handler.total c.take.new.self)) (sym c.take_handler-handler.ensures.view)

@@ -1,0 +1,205 @@
+-- What a pass is after an event was put until no passed word holds it.
+use Rattle.std.proofs.Common.{◌≡◌, ℕ, ◌≤◌, true, List, [], ◌∷◌, ◌++◌, length, Some, None, sym, refl, ap, ◌∙◌, subst}
+use Rattle.gcd_plan.specs.declared.numbers.Run.{Run}
+use Rattle.gcd_plan.specs.declared.why.Why.{Why}
+use Rattle.gcd_event.specs.Owners.{ended}
+use Rattle.gcd_event.specs.declared.event.Event.{Event}
+use Rattle.gcd_history.specs.Choice.{is_work, worker_of}
+use Rattle.gcd_team.specs.Team.{of_worker}
+use Rattle.gcd_row.specs.Shapes.{Shape}
+use Rattle.gcd_row.specs.Lying.{GivesBack}
+use Rattle.gcd_row.specs.Views.{knowing}
+use Rattle.gcd_row.specs.Passes.{Ahead, IsPassOf, Looks, Says, SaysSlots, slots, view}
+use Rattle.gcd_row.specs.declared.board.RowBoard.{RowBoard}
+use Rattle.gcd_row.specs.declared.pass.RowPass.{RowPass}
+use Rattle.gcd_row.specs.declared.put.Put.{Put}
+use Rattle.gcd_row.specs.declared.put.Put.TheVariants.{Placed as PutPlaced, Barred as PutBarred, Full as PutFull}
+use Rattle.gcd_row.specs.declared.view.Terms.{Terms}
+use Rattle.gcd_row.specs.declared.view.View.{View}
+use Rattle.gcd_row.proofs.Fronts.{starts_refl, starts_trans}
+use Rattle.gcd_pool.specs.Hands.{GoesOn, IsFresh, IsSettled}
+use Rattle.gcd_pool.specs.Outcomes.{HasWaited, SaysOutcome, WasPut}
+use Rattle.gcd_pool.specs.Placing.{HasPlaced, HasPlacedNone, SaysRecorded}
+use Rattle.gcd_pool.specs.Works.{AddsNone, AddsOnly, AddsWork}
+use Rattle.gcd_pool.specs.declared.easing.Outcome.{Outcome}
+use Rattle.gcd_pool.specs.declared.easing.Outcome.TheVariants.{Placed, Barred, Full, Stopped}
+use Rattle.gcd_pool.specs.declared.turn.Turn.{Turn}
+use Rattle.gcd_pool.specs.declared.turn.Turn.TheVariants.{Left, Waited, Placed as TurnPlaced, Ended, Stopped as TurnStopped}
+use Rattle.gcd_pool.proofs.Placing.{leaves_barred, leaves_full, one_further, put_barred, quiet_further, recorded_further, records, records_end, stops, waits_barred}
+use Rattle.gcd_pool.proofs.Puts.{ahead_fresh, gives_ahead, goes_further, looks_goes_on, passing_goes_on, says_fresh, says_goes_on, settled_ahead, settled_placed}
+use Rattle.gcd_pool.proofs.Works.{adds_further, ahead_adds, ahead_adds_none, none_further, none_only, none_then, says_adds, says_only}
+
+-- ## It has waited
+
+module _ {S : Type 0} where
+  pub waits_nowhere : (p : RowPass S) → HasWaited p p
+  waits_nowhere p = record { is = refl; ahead = record { more = starts_refl (view p).seen; own = refl }; same = refl }
+
+  pub looks_waits : (p q : RowPass S) → Looks (view p) (view q) → slots q ≡ slots p → HasWaited p q
+  looks_waits p q looks same = record { is = (looks_goes_on (view p) (view q) looks).is; ahead = looks.ahead; same = same }
+
+  -- it knows something else of the passed words, and nothing more
+  pub passing_waits : (p q : RowPass S) → view q ≡ knowing (view p) (view p).seen (view q).marks → slots q ≡ slots p → HasWaited p q
+  passing_waits p q is same =
+      let go = passing_goes_on (view p) (view q) is in
+      record { is = go.is; ahead = record { more = go.more; own = ap (λ (x : View S). of_worker (view p).worker x.seen) is }; same = same }
+
+  pub waits_further : (p q r : RowPass S) → HasWaited p q → HasWaited q r → HasWaited p r
+  waits_further p q r one two = record {
+    is = two.is ∙ ap (λ (x : View S). knowing x (view r).seen (view r).marks) one.is;
+    ahead = record {
+      more = starts_trans (view r).seen (view q).seen (view p).seen two.ahead.more one.ahead.more;
+      own = subst (λ (x : View S). of_worker x.worker (view r).seen ≡ of_worker x.worker (view q).seen) one.is two.ahead.own ∙ one.ahead.own;
+    };
+    same = two.same ∙ one.same;
+  }
+
+  pub waited_goes : (p q : RowPass S) → HasWaited p q → GoesOn (view p) (view q)
+  waited_goes p q w = record { is = w.is; more = w.ahead.more }
+
+  pub waited_worker : (p q : RowPass S) → HasWaited p q → (view q).worker ≡ (view p).worker
+  waited_worker p q w = ap (λ (x : View S). x.worker) w.is
+
+  pub waited_adds : (p q : RowPass S) → HasWaited p q → AddsWork (view p) (view q)
+  waited_adds p q w = ahead_adds (view p) (view q) (waited_worker p q w) w.ahead
+
+  pub waited_none : (p q : RowPass S) → HasWaited p q → AddsNone (view p) (view q)
+  waited_none p q w = ahead_adds_none (view p) (view q) w.ahead
+
+  pub waited_quiet : (p q : RowPass S) → HasWaited p q → HasPlacedNone (view p) (view q)
+  waited_quiet p q w = w.ahead.own
+
+  waited_terms : (p q : RowPass S) → HasWaited p q → (view q).terms ≡ (view p).terms
+  waited_terms p q w = ap (λ (x : View S). x.terms) w.is
+
+module _ {S : Type 0} (shape : S → Shape) (gives : S → ℕ → Type 0) (b : RowBoard S) where
+  pub waited_fresh : (p q : RowPass S) → IsPassOf shape gives b q → HasWaited p q → IsFresh shape (view p) (slots p) → IsFresh shape (view q) (slots q)
+  waited_fresh p q is w fresh = ahead_fresh shape gives b p q is w.is w.ahead w.same fresh
+
+  pub waited_settled : (p q : RowPass S) (e : Event) → IsPassOf shape gives b q → HasWaited p q → IsSettled shape (view p) e (slots p) → IsSettled shape (view q) e (slots q)
+  waited_settled p q e is w settled = settled_ahead shape gives b p q e is w.is w.ahead w.same settled
+
+  pub waited_gives : (p q : RowPass S) (e : Event) → IsPassOf shape gives b p → IsPassOf shape gives b q → HasWaited p q → GivesBack shape (view p).terms (view p).seen e (slots p) → GivesBack shape (view q).terms (view q).seen e (slots q)
+  waited_gives p q e was is w back = gives_ahead shape gives b p q e was is w.is w.ahead w.same back
+
+  -- ## The last put
+
+  -- the first put is the last one
+  pub put_at_once : (e : Event) (p q : RowPass S) (said : Put) → IsPassOf shape gives b p → Says e (view p) (view q) said → SaysSlots shape gives e (slots p) (slots q) (view q) said → WasPut shape gives b e p q said
+  put_at_once e p q said is says cells = record { last = p; of = is; waited = waits_nowhere p; says = says; slots_say = cells }
+
+  pub put_after : (e : Event) (p q r : RowPass S) (said : Put) → HasWaited p q → WasPut shape gives b e q r said → WasPut shape gives b e p r said
+  put_after e p q r said w x = record { last = x.last; of = x.of; waited = waits_further p q x.last w x.waited; says = x.says; slots_say = x.slots_say }
+
+  -- what `put` answers after the pass has waited
+  pub put_then : (e : Event) (p q r : RowPass S) (said : Put) → HasWaited p q → IsPassOf shape gives b q → Says e (view q) (view r) said → SaysSlots shape gives e (slots q) (slots r) (view r) said → WasPut shape gives b e p r said
+  put_then e p q r said w is says cells = put_after e p q r said w (put_at_once e q r said is says cells)
+
+  pub outcome_after : (e : Event) (p q r : RowPass S) (o : Outcome) → HasWaited p q → SaysOutcome shape gives b e q r o → SaysOutcome shape gives b e p r o
+  outcome_after e p q r Placed w x = (x.0, put_after e p q r (PutPlaced x.0) w x.1)
+  outcome_after e p q r Barred w x = (x.0, (x.1.0, put_after e p q r (PutBarred x.0 x.1.0) w x.1.1))
+  outcome_after e p q r Full w x = put_after e p q r PutFull w x
+  outcome_after e p q r Stopped w x = waits_further p q r w x
+
+  -- ## What it is then
+
+  pub put_goes : (e : Event) (p q : RowPass S) (said : Put) → WasPut shape gives b e p q said → GoesOn (view p) (view q)
+  put_goes e p q said x = goes_further (view p) (view x.last) (view q) (waited_goes p x.last x.waited) (says_goes_on e (view x.last) (view q) said x.says)
+
+  pub outcome_goes : (e : Event) (p q : RowPass S) (o : Outcome) → SaysOutcome shape gives b e p q o → GoesOn (view p) (view q)
+  outcome_goes e p q Placed x = put_goes e p q (PutPlaced x.0) x.1
+  outcome_goes e p q Barred x = put_goes e p q (PutBarred x.0 x.1.0) x.1.1
+  outcome_goes e p q Full x = put_goes e p q PutFull x
+  outcome_goes e p q Stopped x = waited_goes p q x
+
+  pub put_adds : (e : Event) (p q : RowPass S) (said : Put) → is_work e ≡ true → WasPut shape gives b e p q said → AddsWork (view p) (view q)
+  put_adds e p q said work x = adds_further (view p) (view x.last) (view q) (waited_adds p x.last x.waited) (says_adds e (view x.last) (view q) said work x.says)
+
+  pub outcome_adds : (e : Event) (p q : RowPass S) (o : Outcome) → is_work e ≡ true → SaysOutcome shape gives b e p q o → AddsWork (view p) (view q)
+  outcome_adds e p q Placed work x = put_adds e p q (PutPlaced x.0) work x.1
+  outcome_adds e p q Barred work x = put_adds e p q (PutBarred x.0 x.1.0) work x.1.1
+  outcome_adds e p q Full work x = put_adds e p q PutFull work x
+  outcome_adds e p q Stopped work x = waited_adds p q x
+
+  pub put_only : (e : Event) (p q : RowPass S) (said : Put) → WasPut shape gives b e p q said → AddsOnly e (view p) (view q)
+  put_only e p q said x =
+      none_then e (view p) (view x.last) (view q) (waited_worker p x.last x.waited) (says_goes_on e (view x.last) (view q) said x.says).more (waited_none p x.last x.waited)
+      (says_only e (view x.last) (view q) said x.says)
+
+  pub outcome_only : (e : Event) (p q : RowPass S) (o : Outcome) → SaysOutcome shape gives b e p q o → AddsOnly e (view p) (view q)
+  outcome_only e p q Placed x = put_only e p q (PutPlaced x.0) x.1
+  outcome_only e p q Barred x = put_only e p q (PutBarred x.0 x.1.0) x.1.1
+  outcome_only e p q Full x = put_only e p q PutFull x
+  outcome_only e p q Stopped x = none_only e (view p) (view q) (waited_none p q x)
+
+  pub put_fresh : (e : Event) (p q : RowPass S) (said : Put) → IsPassOf shape gives b q → worker_of e ≡ (view p).worker → length (view p).terms.plan.blocks ≤ length (view p).terms.cells
+      → WasPut shape gives b e p q said → IsFresh shape (view p) (slots p) → IsFresh shape (view q) (slots q)
+  put_fresh e p q said is mine cells x fresh =
+      says_fresh shape gives b x.last q e said is (mine ∙ sym (waited_worker p x.last x.waited))
+      (subst (λ (t : Terms S). length t.plan.blocks ≤ length t.cells) (sym (waited_terms p x.last x.waited)) cells) x.says x.slots_say
+      (waited_fresh p x.last x.of x.waited fresh)
+
+  pub outcome_fresh : (e : Event) (p q : RowPass S) (o : Outcome) → IsPassOf shape gives b q → worker_of e ≡ (view p).worker → length (view p).terms.plan.blocks ≤ length (view p).terms.cells
+      → SaysOutcome shape gives b e p q o → IsFresh shape (view p) (slots p) → IsFresh shape (view q) (slots q)
+  outcome_fresh e p q Placed is mine cells x fresh = put_fresh e p q (PutPlaced x.0) is mine cells x.1 fresh
+  outcome_fresh e p q Barred is mine cells x fresh = put_fresh e p q (PutBarred x.0 x.1.0) is mine cells x.1.1 fresh
+  outcome_fresh e p q Full is mine cells x fresh = put_fresh e p q PutFull is mine cells x fresh
+  outcome_fresh e p q Stopped is mine cells x fresh = waited_fresh p q is x fresh
+
+  -- ## What it has placed
+
+  pub placed_one : (e : Event) (p q : RowPass S) → SaysOutcome shape gives b e p q Placed → HasPlaced e (view p) (view q)
+  placed_one e p q x =
+      let last = x.1.last in
+      one_further e (view p) (view last) (view q) (waited_goes p last x.1.waited) (waited_quiet p last x.1.waited) x.1.says.own
+
+  pub barred_none : (e : Event) (p q : RowPass S) → SaysOutcome shape gives b e p q Barred → HasPlacedNone (view p) (view q)
+  barred_none e p q x =
+      let put = x.1.1 in
+      quiet_further (view p) (view put.last) (view q) (waited_goes p put.last put.waited) (waited_quiet p put.last put.waited) (put_barred e (view put.last) (view q) x.0 x.1.0 put.says)
+
+  pub full_none : (e : Event) (p q : RowPass S) → SaysOutcome shape gives b e p q Full → HasPlacedNone (view p) (view q)
+  full_none e p q x = quiet_further (view p) (view x.last) (view q) (waited_goes p x.last x.waited) (waited_quiet p x.last x.waited) x.says.1.own
+
+  recorded_then : (e : Event) (p q : RowPass S) (said : Put) (t : Turn) → (x : WasPut shape gives b e p q said) → SaysRecorded e t (view x.last) (view q) → SaysRecorded e t (view p) (view q)
+  recorded_then e p q said t x recorded = recorded_further e t (view p) (view x.last) (view q) (waited_goes p x.last x.waited) (waited_quiet p x.last x.waited) recorded
+
+  pub outcome_records : (e : Event) (p q : RowPass S) → SaysOutcome shape gives b e p q Placed → ended e ≡ None → SaysRecorded e TurnPlaced (view p) (view q)
+  outcome_records e p q x ends = recorded_then e p q (PutPlaced x.0) TurnPlaced x.1 (records e (view x.1.last) (view q) x.0 x.1.says ends)
+
+  pub outcome_ends : (e : Event) (r : Run) (p q : RowPass S) → SaysOutcome shape gives b e p q Placed → ended e ≡ Some r → SaysRecorded e Ended (view p) (view q)
+  outcome_ends e r p q x ends = recorded_then e p q (PutPlaced x.0) Ended x.1 (records_end e r (view x.1.last) (view q) x.0 x.1.says ends)
+
+  pub outcome_leaves : (e : Event) (p q : RowPass S) → SaysOutcome shape gives b e p q Full → SaysRecorded e Left (view p) (view q)
+  outcome_leaves e p q x = recorded_then e p q PutFull Left x (leaves_full e (view x.last) (view q) x.says)
+
+  pub barred_leaves : (e : Event) (p q : RowPass S) → SaysOutcome shape gives b e p q Barred → SaysRecorded e Left (view p) (view q)
+  barred_leaves e p q x = recorded_then e p q (PutBarred x.0 x.1.0) Left x.1.1 (leaves_barred e (view x.1.1.last) (view q) x.0 x.1.0 x.1.1.says)
+
+  pub barred_waits : (e : Event) (p q : RowPass S) → SaysOutcome shape gives b e p q Barred → SaysRecorded e Waited (view p) (view q)
+  barred_waits e p q x = recorded_then e p q (PutBarred x.0 x.1.0) Waited x.1.1 (waits_barred e (view x.1.1.last) (view q) x.0 x.1.0 x.1.1.says)
+
+  pub outcome_stops : (e : Event) (p q : RowPass S) → SaysOutcome shape gives b e p q Stopped → SaysRecorded e TurnStopped (view p) (view q)
+  outcome_stops e p q x = stops e (view p) (view q) (waited_quiet p q x)
+
+  -- ## How full the row is
+
+  pub full_length : (e : Event) (p q : RowPass S) → SaysOutcome shape gives b e p q Full → length (view q).seen ≡ (view q).terms.limits.most
+  full_length e p q x = x.says.2 ∙ sym (ap (λ (y : View S). y.terms.limits.most) x.says.0)
+
+  -- ## An end
+
+  pub outcome_settled : (e : Event) (p q : RowPass S) → IsPassOf shape gives b q → SaysOutcome shape gives b e p q Barred → IsSettled shape (view p) e (slots p) → IsSettled shape (view q) e (slots q)
+  outcome_settled e p q is x settled =
+      let put = x.1.1 in
+      waited_settled put.last q e is (looks_waits put.last q put.says.0 put.slots_say) (waited_settled p put.last e put.of put.waited settled)
+
+  pub outcome_ended : (e : Event) (p q : RowPass S) → worker_of e ≡ (view p).worker → SaysOutcome shape gives b e p q Placed → IsSettled shape (view p) e (slots p) → IsFresh shape (view q) (slots q)
+  outcome_ended e p q mine x settled =
+      let put = x.1 in
+      settled_placed shape gives b put.last q e x.0 (mine ∙ sym (waited_worker p put.last put.waited)) put.says (waited_settled p put.last e put.of put.waited settled)
+
+  pub barred_adds_none : (e : Event) (p q : RowPass S) → SaysOutcome shape gives b e p q Barred → AddsNone (view p) (view q)
+  barred_adds_none e p q x =
+      let put = x.1.1 in
+      waited_none p q (waits_further p put.last q put.waited (looks_waits put.last q put.says.0 put.slots_say))

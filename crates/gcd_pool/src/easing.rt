@@ -1,0 +1,155 @@
+// Letting others write over what was seen, and putting an event until no passed word holds it.
+ghost use Rattle.std.specs.Prelude.{◌≡◌, true, None};
+ghost use Rattle.gcd_history.specs.Choice.{worker_of};
+ghost use Rattle.gcd_history.specs.History.{why};
+ghost use Rattle.gcd_row.specs.Lying.{GivesBack};
+ghost use Rattle.gcd_row.specs.Passes.{slots, view};
+ghost use Rattle.gcd_row.specs.Views.{knowing};
+ghost use Rattle.gcd_pool.specs.Hands.{IsHandOf, Serving};
+ghost use Rattle.gcd_pool.specs.Outcomes.{SaysOutcome};
+
+use crate::hand::{Hand, Pool};
+use crate::idle::Idle;
+use gcd_event::Event;
+use gcd_row::{Put, Slot};
+use std::sync::Wait;
+
+// What comes of an event that is put until no passed word holds it.
+#[derive(Clone, Copy, Debug, PartialEq, Eq)]
+pub enum Outcome {
+    // It stands.
+    Placed,
+    // It may not come next.
+    Barred,
+    // The row is full.
+    Full,
+    // Memory was refused to the journal, or no thread was made for a worker.
+    Stopped,
+}
+
+// How many events worker 0 sees before it gathers them.
+const GATHERED_AT_ONCE: u32 = 1024;
+
+// Lets others write over what the hand's pass has seen: worker 0 gathers it into its journal, and a helper passes on. False where
+// memory was refused to the journal, which is then as it was.
+#[inline(always)]
+pub fn pass_seen<S: Slot>(pool: &Pool<S>, hand: &mut Hand<S>) -> bool
+    requires of { IsHandOf S.shape S.gives pool.now hand.old }
+    ensures serving { Serving S.shape S.gives pool.now hand.old hand.new }
+    ensures view { view hand.new.pass ≡ knowing (view hand.old.pass) (view hand.old.pass).seen (view hand.new.pass).marks }
+    ensures slots { slots hand.new.pass ≡ slots hand.old.pass }
+    ensures bench { hand.new.bench ≡ hand.old.bench }
+    ensures whole { result ≡ true → (view hand.old.pass).worker ≡ 0 → hand.new.journal.items ≡ (view hand.old.pass).seen }
+{
+    if hand.pass.worker() == 0 {
+        match pool.board.gather(&mut hand.pass, &mut hand.journal) {
+            Ok(()) => true,
+            Err(_) => false,
+        }
+    } else {
+        pool.board.pass_on(&mut hand.pass);
+        true
+    }
+}
+
+// Worker 0 gathers where many events have come since it last did.
+#[inline(always)]
+pub fn pass_many<S: Slot>(pool: &Pool<S>, hand: &mut Hand<S>) -> bool
+    requires of { IsHandOf S.shape S.gives pool.now hand.old }
+    ensures serving { Serving S.shape S.gives pool.now hand.old hand.new }
+    ensures view { view hand.new.pass ≡ knowing (view hand.old.pass) (view hand.old.pass).seen (view hand.new.pass).marks }
+    ensures slots { slots hand.new.pass ≡ slots hand.old.pass }
+    ensures bench { hand.new.bench ≡ hand.old.bench }
+{
+    let gathered = hand.journal.len() as u64;
+    if u64::from(hand.pass.machine().len()).saturating_sub(gathered) < u64::from(GATHERED_AT_ONCE) {
+        return true;
+    }
+    pass_seen(pool, hand)
+}
+
+// Lets the cell of the next event go, which the worker `by` holds: where that is the hand's own, others may write over what it has
+// seen; else it waits for that worker. False where the team was stopped: memory was refused to the journal, its own or worker 0's, or
+// no thread was made for a worker. The last is taken to be so where a worker that has not begun to serve holds the cell for ten seconds.
+fn let_go<S: Slot, R: Wait>(
+    rt: &R,
+    pool: &Pool<S>,
+    hand: &mut Hand<S>,
+    by: u8,
+    idle: &mut Idle,
+) -> bool
+    requires of { IsHandOf S.shape S.gives pool.now hand.old }
+    ensures serving { Serving S.shape S.gives pool.now hand.old hand.new }
+    ensures view { view hand.new.pass ≡ knowing (view hand.old.pass) (view hand.old.pass).seen (view hand.new.pass).marks }
+    ensures slots { slots hand.new.pass ≡ slots hand.old.pass }
+    ensures bench { hand.new.bench ≡ hand.old.bench }
+{
+    if by == hand.pass.worker() {
+        return pass_seen(pool, hand);
+    }
+    if pool.is_stopped() {
+        return false;
+    }
+    if idle.has_waited_long() && !pool.has_begun(by) {
+        pool.stop();
+        return false;
+    }
+    idle.pause(rt);
+    true
+}
+
+// Puts the event until no passed word holds it. Where its own does, the hand lets others write over what it has seen; where another's
+// does, it waits for that worker. It is stopped where memory was refused to the journal, its own or worker 0's, or where no thread was
+// made for a worker.
+pub fn put_through<S: Slot, R: Wait>(
+    rt: &R,
+    pool: &Pool<S>,
+    hand: &mut Hand<S>,
+    e: Event,
+) -> Outcome
+    requires of { IsHandOf S.shape S.gives pool.now hand.old }
+    requires worker { worker_of e ≡ (view hand.old.pass).worker }
+    requires cell { GivesBack S.shape (view hand.old.pass).terms (view hand.old.pass).seen e (slots hand.old.pass) }
+    ensures serving { Serving S.shape S.gives pool.now hand.old hand.new }
+    ensures said { SaysOutcome S.shape S.gives pool.now.board.now e hand.old.pass hand.new.pass result }
+    ensures bench { hand.new.bench ≡ hand.old.bench }
+{
+    let mut idle = Idle::new();
+    for _ in rt.forever() {
+        match pool.board.put(&mut hand.pass, e) {
+            Put::Placed(_) => return Outcome::Placed,
+            Put::Barred { .. } => return Outcome::Barred,
+            Put::Full => return Outcome::Full,
+            Put::Held { by, .. } => {
+                if !let_go(rt, pool, hand, by, &mut idle) {
+                    return Outcome::Stopped;
+                }
+            }
+        }
+    }
+    unreachable!()
+}
+
+// The same for an event that the pass's machine permits: it is not judged again before the first exchange.
+#[inline(always)]
+pub fn put_chosen_through<S: Slot, R: Wait>(
+    rt: &R,
+    pool: &Pool<S>,
+    hand: &mut Hand<S>,
+    e: Event,
+) -> Outcome
+    requires of { IsHandOf S.shape S.gives pool.now hand.old }
+    requires worker { worker_of e ≡ (view hand.old.pass).worker }
+    requires may { why (view hand.old.pass).terms.plan (view hand.old.pass).seen e ≡ None }
+    requires cell { GivesBack S.shape (view hand.old.pass).terms (view hand.old.pass).seen e (slots hand.old.pass) }
+    ensures serving { Serving S.shape S.gives pool.now hand.old hand.new }
+    ensures said { SaysOutcome S.shape S.gives pool.now.board.now e hand.old.pass hand.new.pass result }
+    ensures bench { hand.new.bench ≡ hand.old.bench }
+{
+    match pool.board.put_chosen(&mut hand.pass, e) {
+        Put::Placed(_) => Outcome::Placed,
+        Put::Barred { .. } => Outcome::Barred,
+        Put::Full => Outcome::Full,
+        Put::Held { .. } => put_through(rt, pool, hand, e),
+    }
+}
