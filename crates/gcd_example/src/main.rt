@@ -14,6 +14,7 @@ mod reading;
 
 use crate::plan::{READINGS, STATIONS, plan_of_stations};
 use crate::reading::jobs_of_readings;
+use gcd_plan::MAX_EVENTS;
 use gcd_workers::{JobsRefused, run_jobs};
 use std::alloc::{AllocError, Global};
 use std::fmt::Write;
@@ -47,7 +48,8 @@ fn text<R: Threads + Wait + Sync>(rt: &R, alloc: Global) -> Result<String, Alloc
     let Some(plan) = plan_of_stations(alloc)? else {
         return String::from_str(alloc, "the parts are no plan\n");
     };
-    match run_jobs(rt, alloc, &plan, jobs_of_readings(alloc)?, WORKERS) {
+    let jobs = jobs_of_readings(alloc)?;
+    match run_jobs(rt, alloc, &plan, WORKERS, MAX_EVENTS, jobs) {
         Ok(run) => lines_of(alloc, &run.values),
         Err(JobsRefused::OutOfMemory) => Err(AllocError),
         Err(refusal) => format!(in alloc; "{refusal}\n"),

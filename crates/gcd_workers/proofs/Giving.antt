@@ -3,7 +3,6 @@ use Rattle.std.proofs.Common.{◌≡◌, ◌<◌, ◌≤◌, ◌+◌, ◌∙◌,
 use Rattle.std.specs.Prelude.{slice_get}
 use Rattle.std.proofs.lemmas.Bool.{cases_lt}
 use Rattle.std.proofs.lemmas.List.{length_push}
-use Rattle.gcd_plan.specs.Limits.{max_events}
 use Rattle.gcd_plan.specs.PlanView.{PlanView}
 use Rattle.gcd_plan.specs.declared.numbers.Blk.{Blk}
 use Rattle.gcd_plan.specs.declared.numbers.Run.TheVariants.{Block}
@@ -129,12 +128,14 @@ module _ {J : Type 0} where
         }
 
     -- what the loop promises of a run, in the words of one who has jobs
-    pub runs_jobs : (plan mine own : PlanView) (jobs : List J) (m n : ℕ) {poller : Seen PollerState} {clock : Seen ClockState} (seen h : List Event)
-        (values : List (Option ℕ)) (state : State) → own ≡ mine → mine ≡ plan → h ≡ seen → 0 < m → m ≤ n → RunsPlan max_events own m poller clock seen
-        → HasState mine seen state → AreGiven gives mine jobs seen values → RunsJobs gives plan jobs n h values state
-    runs_jobs plan mine own jobs m n {poller} {clock} seen h values state board is same low more ran has given =
-        let run = subst (λ (q : PlanView). RunsPlan max_events q m poller clock seen) board ran in
-        let all : RunsJobs gives mine jobs n seen values state = record {
+    pub runs_jobs : (most limit : ℕ) (plan mine own : PlanView) (jobs : List J) (m n : ℕ) {poller : Seen PollerState} {clock : Seen ClockState}
+        (seen h : List Event) (values : List (Option ℕ)) (state : State) → limit ≡ most → own ≡ mine → mine ≡ plan → h ≡ seen → 0 < m → m ≤ n
+        → RunsPlan limit own m poller clock seen → HasState mine seen state → AreGiven gives mine jobs seen values
+        → RunsJobs gives most plan jobs n h values state
+    runs_jobs most limit plan mine own jobs m n {poller} {clock} seen h values state limit_is board is same low more ran has given =
+        let here : RunsPlan most own m poller clock seen = subst (λ (k : ℕ). RunsPlan k own m poller clock seen) limit_is ran in
+        let run = subst (λ (q : PlanView). RunsPlan most q m poller clock seen) board here in
+        let all : RunsJobs gives most mine jobs n seen values state = record {
           lawful = run.lawful;
           ended = run.ended;
           state_is = has;
@@ -143,5 +144,5 @@ module _ {J : Type 0} where
           chosen = λ one. run.chosen (omega (arith, low, more, one));
           given = given;
         } in
-        subst (λ (q : PlanView). RunsJobs gives q jobs n h values state) is
-        (subst (λ (l : List Event). RunsJobs gives mine jobs n l values state) (sym same) all)
+        subst (λ (q : PlanView). RunsJobs gives most q jobs n h values state) is
+        (subst (λ (l : List Event). RunsJobs gives most mine jobs n l values state) (sym same) all)

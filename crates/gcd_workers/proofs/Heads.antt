@@ -3,11 +3,11 @@ use Rattle.std.proofs.Common.{◌≡◌, ◌≢◌, ◌<◌, ◌≤◌, ◌+◌,
 use Rattle.std.proofs.lemmas.Bool.{cases_lt, ne_eqb}
 use Rattle.gcd_history.specs.Choice.{worker_of}
 use Rattle.gcd_team.specs.Held.{is_of}
-use Rattle.gcd_plan.specs.Limits.{max_events}
 use Rattle.gcd_history.specs.Ends.{HasEnded}
 use Rattle.gcd_team.specs.Team.{of_worker}
 use Rattle.gcd_row.specs.Plays.{KnowsFresh}
-use Rattle.gcd_row.specs.Views.{standing_of, lending, seeing}
+use Rattle.gcd_row.specs.Views.{standing_of, lending, knowing}
+use Rattle.gcd_row.specs.declared.view.Marks.{Marks}
 use Rattle.gcd_row.specs.declared.view.Standing.{Standing}
 use Rattle.gcd_row.specs.declared.view.Standing.TheVariants.{Out, Back}
 use Rattle.gcd_row.specs.declared.view.View.{View}
@@ -74,9 +74,9 @@ head_back m n v u low head worker hands = record {
   };
 }
 
--- what it has seen does not matter
-pub head_seeing : {S : Type 0} → (m n : ℕ) (v u : View S) → u ≡ seeing v u.seen → IsHead m n v → IsHead m n u
-head_seeing {S} m n v u is head =
+-- what it has seen, and what it knows of the passed words, does not matter
+pub head_knowing : {S : Type 0} → (m n : ℕ) (v u : View S) (k : Marks) → u ≡ knowing v u.seen k → IsHead m n v → IsHead m n u
+head_knowing {S} m n v u k is head =
     let hands : u.hands ≡ v.hands = ap (λ (x : View S). x.hands) is in
     record {
       worker = ap (λ (x : View S). x.worker) is ∙ head.worker;
@@ -84,7 +84,7 @@ head_seeing {S} m n v u is head =
     }
 
 -- all hands are back, and no event is of a number that was never given out
-pub has_led : {S : Type 0} → (n : ℕ) (v : View S) → 0 < n → IsHead n n v → KnowsFresh v → HasEnded max_events v.terms.plan v.seen → HasLed n v
+pub has_led : {S : Type 0} → (n : ℕ) (v : View S) → 0 < n → IsHead n n v → KnowsFresh v → HasEnded v.terms.limits.most v.terms.plan v.seen → HasLed n v
 unfolding of_worker
 has_led n v some head fresh ended = record {
   worker = head.worker;

@@ -1,24 +1,25 @@
 -- A hand more, and the hands after their service.
-use Rattle.std.proofs.Common.{◌≡◌, ◌<◌, ◌+◌, ◌∙◌, ℕ, suc, List, [], ◌∷◌, ◌++◌, length, ap, sym, subst, arith}
+use Rattle.std.proofs.Common.{◌≡◌, ◌<◌, ◌+◌, ◌∙◌, ℕ, suc, Bool, List, [], ◌∷◌, ◌++◌, length, ap, sym, subst, arith}
 use Rattle.std.specs.Prelude.{All, slice_index_or}
 use Rattle.std.specs.List.{ShiftedDown}
-use Rattle.gcd_plan.specs.Limits.{max_events}
 use Rattle.gcd_history.specs.Ends.{HasEnded}
 use Rattle.gcd_team.specs.Team.{of_worker}
 use Rattle.gcd_event.specs.declared.event.Event.{Event}
+use Rattle.gcd_outer.specs.Outside.{ClockState}
+use Rattle.gcd_outer.specs.Tells.{PollerState}
 use Rattle.gcd_row.proofs.Fronts.{own_nothing}
-use Rattle.gcd_row.specs.Passes.{terms_of, view}
+use Rattle.gcd_row.specs.Passes.{IsGathered, terms_of, view}
 use Rattle.gcd_row.specs.Shapes.{Shape}
 use Rattle.gcd_row.specs.declared.pass.RowPass.{RowPass}
 use Rattle.gcd_row.specs.declared.view.Terms.{Terms}
 use Rattle.gcd_row.specs.declared.view.View.{View}
-use Rattle.gcd_steal.specs.declared.bench.Bench.{Bench}
 use Rattle.gcd_pool.specs.Each.{Each}
 use Rattle.gcd_pool.specs.Hands.{IsReady, Served}
+use Rattle.gcd_pool.specs.Leads.{Led}
 use Rattle.gcd_pool.specs.declared.hand.Hand.{Hand}
 use Rattle.gcd_pool.specs.declared.hand.Pool.{Pool}
 use Rattle.gcd_workers.specs.Teams.{EachFrom, IsHead, IsPassAt, IsReadyAt}
-use Rattle.gcd_workers.proofs.Heads.{head_seeing}
+use Rattle.gcd_workers.proofs.Heads.{head_knowing}
 use Rattle.gcd_workers.proofs.Places.{each_push}
 
 -- an empty history has no event of a worker
@@ -45,14 +46,23 @@ module _ {S : Type 0} (shape : S → Shape) (gives : S → ℕ → Type 0) where
       let s = served 0 d some in
       let same = sym count in
       subst (λ (n : ℕ). IsHead 1 n (view (slice_index_or new 0 d).pass)) same
-      (head_seeing 1 (length old) (view (slice_index_or old 0 d).pass) (view (slice_index_or new 0 d).pass) s.serving.view.is (head d))
+      (head_knowing 1 (length old) (view (slice_index_or old 0 d).pass) (view (slice_index_or new 0 d).pass)
+      (view (slice_index_or new 0 d).pass).marks s.serving.view.is (head d))
 
   -- and has seen that the run has ended
   pub ended_after : (pool : Pool S) (old new : List (Hand S)) → 0 < length old → Each (Served shape gives pool) old new
-      → (d : Hand S) → HasEnded max_events (terms_of pool.board.now).plan (view (slice_index_or new 0 d).pass).seen
+      → (d : Hand S) → HasEnded (terms_of pool.board.now).limits.most (terms_of pool.board.now).plan (view (slice_index_or new 0 d).pass).seen
   ended_after pool old new some served d =
       let s = served 0 d some in
-      subst (λ (t : Terms S). HasEnded max_events t.plan (view (slice_index_or new 0 d).pass).seen) s.serving.of.pass.terms s.ended
+      subst (λ (t : Terms S). HasEnded t.limits.most t.plan (view (slice_index_or new 0 d).pass).seen) s.serving.of.pass.terms s.ended
+
+  -- and its journal is what was gathered of that
+  pub gathered_after : (pool : Pool S) (old new : List (Hand S)) → 0 < length old → Each (Served shape gives pool) old new
+      → ((d : Hand S) → IsHead 1 (length old) (view (slice_index_or old 0 d).pass))
+      → (d : Hand S) → IsGathered (view (slice_index_or new 0 d).pass) (slice_index_or new 0 d).journal.items
+  gathered_after pool old new some served head d =
+      let s = served 0 d some in
+      s.serving.of.gathered (ap (λ (v : View S). v.worker) s.serving.view.is ∙ (head d).worker)
 
   -- the hand of the next number
   pub hired : (pool : Pool S) (n : ℕ) (hands : List (Hand S)) (hand : Hand S) → IsReady shape gives pool hand
@@ -61,14 +71,25 @@ module _ {S : Type 0} (shape : S → Shape) (gives : S → ℕ → Type 0) where
       let place : n ≡ 1 + length hands = omega (arith, count) in
       each_push (IsReadyAt shape gives pool) 1 hands hand each (record { ready = ready; worker = worker ∙ place })
 
+-- where worker 0 has led to the end, nothing more is asked
+pub led_to_the_end : {S P C : Type 0} {poller_tells clock_tells : Bool} {poller : P → PollerState} {clock : C → ClockState} {alone done : Type 0}
+    (old new : Hand S × P × C) → done → Led poller_tells clock_tells poller clock alone done old new
+    → Led poller_tells clock_tells poller clock alone (Unit {0}) old new
+led_to_the_end old new is led = record {
+  led = λ all head. led.led is head;
+  ended = λ all. led.ended is;
+  whole = λ all head. led.whole is head;
+  follows = led.follows;
+  kept = led.kept;
+}
+
 -- what holds of the first holds of what lies at place 0
 pub first_has : {T : Type 0} → (P : T → Type 0) {xs rest : List T} {x : T} (d : T) → xs ≡ x ∷ rest → P x → P (slice_index_or xs 0 d)
 first_has {T} P d is holds = subst (λ (l : List T). P (slice_index_or l 0 d)) (sym is) holds
 
 -- what holds of a pass holds of that of the hand that is made of it
-pub pass_has : {S : Type 0} → (P : View S → Type 0) {pass : RowPass S} {bench : Bench} (hand : Hand S)
-    → hand ≡ record { pass = pass; bench = bench } → P (view pass) → P (view hand.pass)
-pass_has {S} P hand is holds = subst (λ (h : Hand S). P (view h.pass)) (sym is) holds
+pub pass_has : {S : Type 0} → (P : View S → Type 0) {pass : RowPass S} (hand : Hand S) → hand.pass ≡ pass → P (view pass) → P (view hand.pass)
+pass_has {S} P hand is holds = subst (λ (p : RowPass S). P (view p)) (sym is) holds
 
 -- what holds of all holds of the rest
 pub all_rest : {T : Type 0} → (P : T → Type 0) (x : T) (xs : List T) → All P (x ∷ xs) → All P xs

@@ -12,6 +12,10 @@ use Rattle.gcd_pool.specs.declared.hand.Pool.{Pool}
 pub plan_along : {S : Type 0} {a b : RowBoard S} → a ≡ b → (terms_of a).plan ≡ (terms_of b).plan
 plan_along {S} is = ap (λ (b : RowBoard S). (terms_of b).plan) is
 
+-- and has one limit of workers and of events
+pub limits_along : {S : Type 0} {a b : RowBoard S} → a ≡ b → (terms_of a).limits ≡ (terms_of b).limits
+limits_along {S} is = ap (λ (b : RowBoard S). (terms_of b).limits) is
+
 -- what workers share of a board and a rack of one plan
 pub pool_of : {S : Type 0} (pool : Pool S) (board : RowBoard S) (rack : Rack) (plan : PlanView) → pool.board.now ≡ board → pool.rack.now ≡ rack
     → pool.plan.now ≡ plan → (terms_of board).plan ≡ plan → plan_of rack ≡ plan

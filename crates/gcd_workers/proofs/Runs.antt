@@ -2,7 +2,6 @@
 use Rattle.std.proofs.Common.{◌≡◌, ◌<◌, ◌≤◌, ℕ, zero, suc, true, false, List, [], ◌∷◌, refl, ap, sym, subst, arith, eq-eqb}
 use Rattle.std.specs.List.{list_all}
 use Rattle.std.proofs.lemmas.Bool.{and_from}
-use Rattle.gcd_plan.specs.Limits.{max_events}
 use Rattle.gcd_plan.specs.PlanView.{PlanView}
 use Rattle.gcd_event.specs.declared.event.Event.{Event}
 use Rattle.gcd_history.specs.Choice.{worker_of}
@@ -29,6 +28,7 @@ use Rattle.gcd_row.specs.declared.view.View.{View}
 use Rattle.gcd_pool.specs.Leads.{Follows}
 use Rattle.gcd_workers.specs.Ran.{RunsOverFiles}
 use Rattle.gcd_workers.specs.Teams.{HasLed}
+use Rattle.gcd_workers.proofs.Wholes.{few_pass}
 
 -- each event of the first of the workers is of number 0
 all_of_first : (h : List Event) → IsOfWorkers 1 h → list_all (is_of 0) h ≡ true
@@ -40,23 +40,24 @@ all_of_first (e ∷ h) by =
 
 module _ {S : Type 0} (shape : S → Shape) (gives : S → ℕ → Type 0) where
   -- a pass's machine stands for what the pass has seen
-  pass_sight : (b : RowBoard S) (p : RowPass S) → IsPassOf shape gives b p → IsSight max_events (terms_of b).plan (view p).seen (machine_of p)
+  pass_sight : (b : RowBoard S) (p : RowPass S) → IsPassOf shape gives b p → IsSight (terms_of b).limits.most (terms_of b).plan (view p).seen (machine_of p)
   pass_sight b p pass =
       let plan_is : (view p).terms.plan ≡ (terms_of b).plan = ap (λ (t : Terms S). t.plan) pass.terms in
       let stands : StandsFor (machine_of p) (terms_of b).plan (view p).seen = subst (λ (q : PlanView). StandsFor (machine_of p) q (view p).seen) plan_is pass.stands in
-      record { own = plan_stands (machine_of p) (terms_of b).plan (view p).seen stands; stands = stands; few = pass.few }
+      record { own = plan_stands (machine_of p) (terms_of b).plan (view p).seen stands; stands = stands; few = few_pass shape gives b p pass }
 
   -- worker 0's pass, which knows all that came since the board was new, shows what the run promises
   pub team_ran : (b : RowBoard S) (n : ℕ) (old last : View S) (p : RowPass S) (poller : Seen PollerState) (clock : Seen ClockState)
       → IsPassOf shape gives b p → HasLed n (view p) → old.terms ≡ terms_of b → old.seen ≡ [] → (view p).seen ≡ last.seen
-      → IsRunOn max_events old.terms.plan old.seen last.seen poller clock → (n ≡ 1 → Follows old.terms.plan old.seen last.seen)
-      → ((s : ℕ) → poller.before.watched s ≡ false) → RunsPlan max_events (terms_of b).plan n poller clock (view p).seen
+      → IsRunOn old.terms.limits.most old.terms.plan old.seen last.seen poller clock → (n ≡ 1 → Follows old.terms.plan old.seen last.seen)
+      → ((s : ℕ) → poller.before.watched s ≡ false) → RunsPlan (terms_of b).limits.most (terms_of b).plan n poller clock (view p).seen
   team_ran b n old last p poller clock pass led terms none same on follows unwatched =
       let plan_is : old.terms.plan ≡ (terms_of b).plan = ap (λ (t : Terms S). t.plan) terms in
-      let from_none : IsRunOn max_events old.terms.plan [] last.seen poller clock = subst (λ (h : List Event). IsRunOn max_events old.terms.plan h last.seen poller clock) none on in
-      let to_seen : IsRunOn max_events old.terms.plan [] (view p).seen poller clock = subst (λ (k : List Event). IsRunOn max_events old.terms.plan [] k poller clock) (sym same) from_none in
-      let whole : IsRunOn max_events (terms_of b).plan [] (view p).seen poller clock = subst (λ (q : PlanView). IsRunOn max_events q [] (view p).seen poller clock) plan_is to_seen in
-      runs_plan max_events (terms_of b).plan n (view p).seen (machine_of p) poller clock (pass_sight b p pass) led.by
+      let most = (terms_of b).limits.most in
+      let here : IsRunOn most (terms_of b).plan old.seen last.seen poller clock = subst (λ (t : Terms S). IsRunOn t.limits.most t.plan old.seen last.seen poller clock) terms on in
+      let from_none : IsRunOn most (terms_of b).plan [] last.seen poller clock = subst (λ (h : List Event). IsRunOn most (terms_of b).plan h last.seen poller clock) none here in
+      let whole : IsRunOn most (terms_of b).plan [] (view p).seen poller clock = subst (λ (k : List Event). IsRunOn most (terms_of b).plan [] k poller clock) (sym same) from_none in
+      runs_plan most (terms_of b).plan n (view p).seen (machine_of p) poller clock (pass_sight b p pass) led.by
       (λ (one : n ≡ 1).
       let by : IsOfWorkers 1 last.seen = subst (IsOfWorkers 1) same (subst (λ (m : ℕ). IsOfWorkers m (view p).seen) one led.by) in
       let first : FollowsChoice old.terms.plan old.seen = subst (FollowsChoice old.terms.plan) (sym none) (follows_none old.terms.plan) in
@@ -78,11 +79,12 @@ runs_by_more most plan m n poller clock h some more run = record {
 }
 
 -- the run, with the values that its board told
-pub runs_over_files : (plan own : PlanView) (workers : ℕ) (files : List (List ℕ)) (poller : Seen PollerState) (clock : Seen ClockState)
-    (seen h : List Event) (given : List ℕ) (state : State) → own ≡ plan → h ≡ seen
-    → RunsPlan max_events own workers poller clock seen → HasState plan seen state → AreValues plan files seen given
-    → RunsOverFiles max_events plan workers files poller clock h given state
-runs_over_files plan own workers files poller clock seen h given state is same run has are =
-    let all : RunsOverFiles max_events plan workers files poller clock seen given state =
-    record { run = subst (λ (q : PlanView). RunsPlan max_events q workers poller clock seen) is run; state_is = has; values = are } in
-    subst (λ (l : List Event). RunsOverFiles max_events plan workers files poller clock l given state) (sym same) all
+pub runs_over_files : (most limit : ℕ) (plan own : PlanView) (workers : ℕ) (files : List (List ℕ)) (poller : Seen PollerState)
+    (clock : Seen ClockState) (seen h : List Event) (given : List ℕ) (state : State) → limit ≡ most → own ≡ plan → h ≡ seen
+    → RunsPlan limit own workers poller clock seen → HasState plan seen state → AreValues plan files seen given
+    → RunsOverFiles most plan workers files poller clock h given state
+runs_over_files most limit plan own workers files poller clock seen h given state limit_is is same run has are =
+    let here : RunsPlan most own workers poller clock seen = subst (λ (n : ℕ). RunsPlan n own workers poller clock seen) limit_is run in
+    let all : RunsOverFiles most plan workers files poller clock seen given state =
+    record { run = subst (λ (q : PlanView). RunsPlan most q workers poller clock seen) is here; state_is = has; values = are } in
+    subst (λ (l : List Event). RunsOverFiles most plan workers files poller clock l given state) (sym same) all

@@ -1,6 +1,6 @@
 -- What a run of a caller's own jobs leaves.
 use Rattle.std.specs.Prelude.{◌≡◌, ◌<◌, ◌≤◌, ◌⊎◌, ℕ, true, false, List, length, Option, Some, None, slice_get}
-use Rattle.gcd_plan.specs.Limits.{max_events, max_workers}
+use Rattle.gcd_plan.specs.Limits.{max_workers}
 use Rattle.gcd_plan.specs.PlanView.{PlanView}
 use Rattle.gcd_event.specs.declared.event.Event.{Event}
 use Rattle.gcd_history.specs.Ends.{HasEnded, HasState}
@@ -30,14 +30,15 @@ pub record AreGiven {J : Type 0} (gives : J → ℕ → ℕ → Type 0) (plan : 
   pub ended : (b : ℕ) → b < length plan.blocks → is_ended h b ≡ true → IsGiven gives jobs values b
   pub others : (b : ℕ) → b < length plan.blocks → is_ended h b ≡ false → slice_get values b ≡ Some None
 
--- The run of a plan with these jobs by so many workers: its journal is lawful and has ended, in this state; each event is of one of the
--- workers, and with one worker each event of a worker is what that worker chooses at its place; and these are the values of the blocks.
-pub record RunsJobs {J : Type 0} (gives : J → ℕ → ℕ → Type 0) (plan : PlanView) (jobs : List J) (workers : ℕ) (h : List Event)
+-- The run of a plan with these jobs by so many workers, of at most `most` events: its journal is lawful and has ended, in this state; each
+-- event is of one of the workers, and with one worker each event of a worker is what that worker chooses at its place; and these are the
+-- values of the blocks.
+pub record RunsJobs {J : Type 0} (gives : J → ℕ → ℕ → Type 0) (most : ℕ) (plan : PlanView) (jobs : List J) (workers : ℕ) (h : List Event)
     (values : List (Option ℕ)) (state : State) : Type 0 where
   pub lawful : IsLawful plan h
-  pub ended : HasEnded max_events plan h
+  pub ended : HasEnded most plan h
   pub state_is : HasState plan h state
-  pub few : length h ≤ max_events
+  pub few : length h ≤ most
   pub by : IsOfWorkers workers h
   pub chosen : workers ≡ 1 → FollowsChoice plan h
   pub given : AreGiven gives plan jobs h values

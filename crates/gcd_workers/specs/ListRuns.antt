@@ -1,5 +1,5 @@
 -- What holds of a run that one worker keeps in a list, after each of its steps.
-use Rattle.std.specs.Prelude.{◌≡◌, ◌≤◌, ◌<◌, ◌+◌, ◌^◌, ℕ, List, Some, None, IsTrue, length}
+use Rattle.std.specs.Prelude.{◌≡◌, ◌≤◌, ◌<◌, ℕ, List, Some, None, IsTrue, length}
 use Rattle.gcd_plan.specs.PlanView.{PlanView}
 use Rattle.gcd_event.specs.declared.event.Event.{Event}
 use Rattle.gcd_history.specs.Choice.{is_work, worker_of}
@@ -15,7 +15,6 @@ pub record IsListRun (most : ℕ) (plan : PlanView) (files : List (List ℕ)) (h
   pub own : m.plan ≡ plan
   pub stands : StandsFor m plan h
   pub few : length h ≤ most
-  pub small : most + 1 < 2 ^ 32
   pub alone : IsAllWorker0 h
   pub chosen : FollowsChoice plan h
   pub values : AreValues plan files h given

@@ -1,6 +1,5 @@
 -- The hands of a team, and what worker 0 has given out.
 use Rattle.std.specs.Prelude.{◌≡◌, ◌≢◌, ◌<◌, ◌≤◌, ◌+◌, ℕ, List, [], length, Some, None, slice_index_or}
-use Rattle.gcd_plan.specs.Limits.{max_events}
 use Rattle.gcd_history.specs.Ends.{HasEnded}
 use Rattle.gcd_loop.specs.Followed.{IsOfWorkers}
 use Rattle.gcd_row.specs.Passes.{IsPassOf, view}
@@ -43,11 +42,12 @@ pub record IsHead {S : Type 0} (m n : ℕ) (v : View S) : Type 0 where
 pub record HasLed {S : Type 0} (workers : ℕ) (v : View S) : Type 0 where
   pub worker : v.worker ≡ 0
   pub home : (w : ℕ) → standing_of v.hands w ≢ Some Out
-  pub ended : HasEnded max_events v.terms.plan v.seen
+  pub ended : HasEnded v.terms.limits.most v.terms.plan v.seen
   pub by : IsOfWorkers workers v.seen
 
--- worker 0's pass of a new board: no number was given out, and nothing has come
+-- worker 0's pass of a new board: no number was given out, nothing has come, and nothing was passed
 pub record IsNew {S : Type 0} (v : View S) : Type 0 where
   pub worker : v.worker ≡ 0
   pub hands : v.hands ≡ []
   pub none : v.seen ≡ []
+  pub passed : v.marks.passed ≡ 0

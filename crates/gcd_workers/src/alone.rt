@@ -1,5 +1,5 @@
 // A run by worker 0 alone.
-ghost use Rattle.std.specs.Prelude.{◌≡◌, ◌<◌, ◌+◌, ◌^◌, ℕ, false, length, IfOk};
+ghost use Rattle.std.specs.Prelude.{◌≡◌, ◌<◌, ℕ, false, length, IfOk};
 ghost use Rattle.gcd_jobs.specs.Contents.{contents};
 ghost use Rattle.gcd_machine.specs.Stands.{StandsFor};
 ghost use Rattle.gcd_turn.specs.Asked.{KeepsListens};
@@ -13,7 +13,7 @@ use gcd_plan::Plan;
 use std::alloc::{AllocError, Global};
 use std::sync::Wait;
 
-/// Runs the plan by worker 0 alone, turn by turn, until the run is quiescent, halted, or has `most` events.
+/// Runs the plan by worker 0 alone, turn by turn, until the run is quiescent, halted, or has `most` events, at least 1.
 /// One thread keeps the list of events, so it makes no row. `files` are the contents of the plan's files, in their order; the poller
 /// watches no feed yet. A turn costs what the machine's choice costs, the block's value, and a look at each live feed. The list begins
 /// with room for four events a block, and grows. An `Err` comes only where memory runs out, before the first event or at an event
@@ -28,7 +28,7 @@ pub fn run_alone<R: Wait, P: Poller, C: Clock>(
     poller: &mut P,
     clock: &mut C,
 ) -> Result<Outcome, AllocError>
-    requires most { most + 1 < 2 ^ 32 }
+    requires most { 0 < most }
     requires files { length files.now ≡ length plan.now.files }
     requires unwatched { (feed : ℕ) → (P.state poller.old).watched feed ≡ false }
     ensures ran { IfOk result (λ o. RunsOverFiles most plan.now 1 (contents files.now)

@@ -1,19 +1,23 @@
 // What a team has seen, when its run has ended.
-ghost use Rattle.std.specs.Prelude.{◌≡◌, ◌<◌, ◌≤◌, ◌∷◌, [], ℕ, false, All, IfOk, length, slice_index_or};
-ghost use Rattle.gcd_plan.specs.Limits.{max_events, max_workers};
+ghost use Rattle.std.specs.Prelude.{◌≡◌, ◌<◌, ◌≤◌, ◌∷◌, [], ℕ, List, false, All, IfOk, length, slice_index_or};
+ghost use Rattle.gcd_event.specs.declared.event.Event.{Event};
+ghost use Rattle.gcd_plan.specs.Limits.{max_workers};
 ghost use Rattle.gcd_history.specs.Ends.{HasEnded};
-ghost use Rattle.gcd_row.specs.Passes.{IsPassOf, terms_of, view};
+ghost use Rattle.gcd_row.specs.Passes.{IsGathered, IsPassOf, terms_of, view};
 ghost use Rattle.gcd_row.specs.Shapes.{gives_of, shape_of};
 ghost use Rattle.gcd_row.specs.declared.cell.Cell.{Cell};
 ghost use Rattle.gcd_row.specs.declared.view.Standing.TheVariants.{Back};
 ghost use Rattle.gcd_steal.specs.Racks.{IsBenchOf};
 ghost use Rattle.gcd_loop.specs.Ran.{RunsPlan};
-ghost use Rattle.gcd_pool.specs.Hands.{IsPool};
+ghost use Rattle.gcd_pool.specs.Each.{Each};
+ghost use Rattle.gcd_pool.specs.Hands.{IsPool, IsReady, Served};
+ghost use Rattle.gcd_pool.specs.Leads.{Led};
 ghost use Rattle.gcd_turn.specs.Asked.{KeepsListens};
 ghost use Rattle.gcd_pool.specs.declared.hand.Hand.{Hand};
 ghost use Rattle.gcd_workers.specs.Teams.{EachFrom, HasLed, IsHead, IsNew, IsPassAt, IsReadyAt};
 
 use crate::team::hands_of;
+use gcd_event::Event;
 use gcd_jobs::{Handler, Job};
 use gcd_outer::{Clock, Poller};
 use gcd_pool::{Hand, Pool, pool_run};
@@ -23,39 +27,47 @@ use std::alloc::{AllocError, Global};
 use std::sync::Wait;
 use std::thread::Threads;
 
-// Takes a hand's pass into worker 0's, which has seen all already.
+// Takes a hand's pass into worker 0's, which has seen all already. What was gathered of it stays so.
 fn take_in<S: Slot>(board: &RowBoard<S>, pass: &mut RowPass<S>, hand: Hand<S>)
     requires pass { IsPassOf S.shape S.gives board.now pass.old }
     requires hand { IsPassOf S.shape S.gives board.now hand.pass }
     requires worker { (view pass.old).worker ≡ 0 }
-    requires ended { HasEnded max_events (terms_of board.now).plan (view pass.old).seen }
+    requires ended { HasEnded (terms_of board.now).limits.most (terms_of board.now).plan (view pass.old).seen }
     ensures pass { IsPassOf S.shape S.gives board.now pass.new }
     ensures worker { (view pass.new).worker ≡ 0 }
     ensures seen { (view pass.new).seen ≡ (view pass.old).seen }
     ensures hands { (view pass.new).hands ≡ ((view hand.pass).worker, Back) ∷ (view pass.old).hands }
+    ensures gathered { (journal : List Event) → IsGathered (view pass.old) journal → IsGathered (view pass.new) journal }
 {
     let Hand {
         pass: other,
         bench: _,
+        journal: _,
     } = hand;
     board.join(pass, other);
 }
 
-// Takes the passes of all hands into worker 0's, the first.
-fn take_all<S: Slot>(board: &RowBoard<S>, mut hands: Vec<Hand<S>>) -> RowPass<S>
+// Takes the passes of all hands into worker 0's, the first. That pass, and what was gathered of it.
+fn take_all<S: Slot>(board: &RowBoard<S>, mut hands: Vec<Hand<S>>) -> (RowPass<S>, Vec<Event>)
     requires some { 0 < length hands.items }
     requires hands { EachFrom (IsPassAt S.shape S.gives board.now) 0 hands.items }
     requires head { (d : Hand S) → IsHead 1 (length hands.items) (view (slice_index_or hands.items 0 d).pass) }
-    requires ended { (d : Hand S) → HasEnded max_events (terms_of board.now).plan (view (slice_index_or hands.items 0 d).pass).seen }
-    ensures pass { IsPassOf S.shape S.gives board.now result }
-    ensures head { IsHead (length hands.items) (length hands.items) (view result) }
-    ensures seen { (d : Hand S) → (view result).seen ≡ (view (slice_index_or hands.items 0 d).pass).seen }
+    requires ended { (d : Hand S) → HasEnded (terms_of board.now).limits.most (terms_of board.now).plan (view (slice_index_or hands.items 0 d).pass).seen }
+    requires gathered { (d : Hand S) → IsGathered (view (slice_index_or hands.items 0 d).pass) (slice_index_or hands.items 0 d).journal.items }
+    ensures pass { IsPassOf S.shape S.gives board.now result.0 }
+    ensures head { IsHead (length hands.items) (length hands.items) (view result.0) }
+    ensures seen { (d : Hand S) → (view result.0).seen ≡ (view (slice_index_or hands.items 0 d).pass).seen }
+    ensures gathered { IsGathered (view result.0) result.1.items }
 {
-    let Hand { mut pass, bench: _ } = hands.remove(0);
+    let Hand {
+        mut pass,
+        bench: _,
+        journal,
+    } = hands.remove(0);
     for hand in hands {
         take_in(board, &mut pass, hand);
     }
-    pass
+    (pass, journal)
 }
 
 // Looks at the row once more: an event of a number that was never given out is not there.
@@ -63,16 +75,46 @@ fn look_round<S: Slot>(board: &RowBoard<S>, pass: &mut RowPass<S>, workers: u8)
     requires pass { IsPassOf S.shape S.gives board.now pass.old }
     requires head { IsHead workers workers (view pass.old) }
     requires some { 0 < workers }
-    requires ended { HasEnded max_events (terms_of board.now).plan (view pass.old).seen }
+    requires ended { HasEnded (terms_of board.now).limits.most (terms_of board.now).plan (view pass.old).seen }
     ensures pass { IsPassOf S.shape S.gives board.now pass.new }
     ensures seen { (view pass.new).seen ≡ (view pass.old).seen }
     ensures led { HasLed workers (view pass.new) }
+    ensures gathered { (journal : List Event) → IsGathered (view pass.old) journal → IsGathered (view pass.new) journal }
 {
     let _ = workers;
     board.look(pass);
 }
 
-// Runs the pool of the hands to the end. What worker 0 has seen then is the whole row.
+// Runs the pool of the hands, which come back where the run has ended. An `Err` comes where memory was refused to worker 0's journal, or
+// no thread was made for a worker.
+fn lead<
+    J: Job + Drop + Send,
+    H: Handler + Drop + Send,
+    R: Threads + Wait + Sync,
+    P: Poller,
+    C: Clock,
+>(
+    rt: &R,
+    pool: &Pool<Cell<J, H>>,
+    hands: Vec<Hand<Cell<J, H>>>,
+    poller: &mut P,
+    clock: &mut C,
+) -> Result<Vec<Hand<Cell<J, H>>>, AllocError>
+    requires some { 0 < length hands.items }
+    requires hands { All (IsReady (shape_of H.kind H.times H.total) (gives_of J.gives) pool.now) hands.items }
+    ensures count { IfOk result (λ after. length after.items ≡ length hands.items) }
+    ensures served { IfOk result (λ after. Each (Served (shape_of H.kind H.times H.total) (gives_of J.gives) pool.now) hands.items after.items) }
+    ensures led { IfOk result (λ after. (d : Hand (Cell J H)) → Led P.tells C.tells P.state C.state (length hands.items ≡ 1) (Unit {0}) (slice_index_or hands.items 0 d, poller.old, clock.old) (slice_index_or after.items 0 d, poller.new, clock.new)) }
+    ensures kept { (d : Hand (Cell J H)) → (view (slice_index_or hands.items 0 d).pass).worker ≡ 0 → KeepsListens P.tells (P.state poller.old) (P.state poller.new) }
+{
+    let (exit, after) = pool_run(rt, pool, hands, poller, clock);
+    match exit {
+        Ok(_) => Ok(after),
+        Err(AllocError) => Err(AllocError),
+    }
+}
+
+// Runs the pool of the hands to the end. What worker 0 has seen then is the whole row. Its pass, and what was gathered of it.
 fn run_team<
     J: Job + Drop + Send,
     H: Handler + Drop + Send,
@@ -85,30 +127,35 @@ fn run_team<
     hands: Vec<Hand<Cell<J, H>>>,
     poller: &mut P,
     clock: &mut C,
-) -> Pass<J, H>
+) -> Result<(Pass<J, H>, Vec<Event>), AllocError>
     requires some { (0 < length hands.items) × (length hands.items ≤ max_workers) }
     requires hands { EachFrom (IsReadyAt (shape_of H.kind H.times H.total) (gives_of J.gives) pool.now) 0 hands.items }
     requires head { (d : Hand (Cell J H)) → IsHead 1 (length hands.items) (view (slice_index_or hands.items 0 d).pass) }
     requires none { (d : Hand (Cell J H)) → (view (slice_index_or hands.items 0 d).pass).seen ≡ [] }
     requires unwatched { (feed : ℕ) → (P.state poller.old).watched feed ≡ false }
-    ensures pass { IsPassOf (shape_of H.kind H.times H.total) (gives_of J.gives) pool.now.board.now result }
-    ensures led { HasLed (length hands.items) (view result) }
-    ensures ran { RunsPlan max_events (terms_of pool.now.board.now).plan (length hands.items)
+    ensures pass { IfOk result (λ r. IsPassOf (shape_of H.kind H.times H.total) (gives_of J.gives) pool.now.board.now r.0) }
+    ensures led { IfOk result (λ r. HasLed (length hands.items) (view r.0)) }
+    ensures gathered { IfOk result (λ r. IsGathered (view r.0) r.1.items) }
+    ensures ran { IfOk result (λ r. RunsPlan (terms_of pool.now.board.now).limits.most (terms_of pool.now.board.now).plan (length hands.items)
         (record { tells = P.tells; before = P.state poller.old; after = P.state poller.new })
-        (record { tells = C.tells; before = C.state clock.old; after = C.state clock.new }) (view result).seen }
+        (record { tells = C.tells; before = C.state clock.old; after = C.state clock.new }) (view r.0).seen) }
     ensures kept { KeepsListens P.tells (P.state poller.old) (P.state poller.new) }
 {
     let workers = hands.len() as u8;
-    let (_exit, hands) = pool_run(rt, pool, hands, poller, clock);
-    let mut pass = take_all(pool.board, hands);
+    let hands = lead(rt, pool, hands, poller, clock)?;
+    let (mut pass, journal) = take_all(pool.board, hands);
     look_round(pool.board, &mut pass, workers);
-    pass
+    Ok((pass, journal))
 }
 
 /// Runs a pool whose board has just been made, by a worker for each bench, until the run is quiescent, halted or full. `pass` is worker
-/// 0's, and `benches` are those of the pool's rack, 1 to 64. What the pass that it leaves has seen is the whole row, which promises what a
-/// run of any engine does (`RunsPlan`); no other pass is out, so the board may be closed with it. The poller watches no feed yet. An `Err`
-/// comes only where memory runs out, before the first event.
+/// 0's, and `benches` are those of the pool's rack, 1 to 64 and as many as the board was made for: a worker of the board without a
+/// bench would pass nothing on, and hold the others for ever after 4,096 events. What the pass that it leaves has seen is the whole row,
+/// which promises what a run of any engine does (`RunsPlan`), over the board's limit of events; no other pass is out, and the journal
+/// beside it is what was gathered of it, so the board may be closed with both. The poller watches no feed yet. An `Err` comes only where
+/// memory runs out, before the first event or where worker 0 gathers what it has seen, so in the midst of the run too, or where the
+/// system makes no thread for a worker on whom all others wait: blocks may have run then, all threads have ended, and of the run
+/// nothing is left; the poller listens where it did (`kept`).
 pub fn run_pool<
     J: Job + Drop + Send,
     H: Handler + Drop + Send,
@@ -123,21 +170,23 @@ pub fn run_pool<
     mut benches: Vec<Bench>,
     poller: &mut P,
     clock: &mut C,
-) -> Result<Pass<J, H>, AllocError>
+) -> Result<(Pass<J, H>, Vec<Event>), AllocError>
     requires pool { IsPool pool.now }
     requires pass { IsPassOf (shape_of H.kind H.times H.total) (gives_of J.gives) pool.now.board.now pass }
     requires new { IsNew (view pass) }
     requires benches { All (IsBenchOf pool.now.rack.now) benches.items }
     requires count { (0 < length benches.items) × (length benches.items ≤ max_workers) }
+    requires workers { (terms_of pool.now.board.now).limits.workers ≡ length benches.items }
     requires unwatched { (feed : ℕ) → (P.state poller.old).watched feed ≡ false }
-    ensures pass { IfOk result (λ p. IsPassOf (shape_of H.kind H.times H.total) (gives_of J.gives) pool.now.board.now p) }
-    ensures led { IfOk result (λ p. HasLed (length benches.items) (view p)) }
-    ensures ran { IfOk result (λ p. RunsPlan max_events (terms_of pool.now.board.now).plan (length benches.items)
+    ensures pass { IfOk result (λ r. IsPassOf (shape_of H.kind H.times H.total) (gives_of J.gives) pool.now.board.now r.0) }
+    ensures led { IfOk result (λ r. HasLed (length benches.items) (view r.0)) }
+    ensures gathered { IfOk result (λ r. IsGathered (view r.0) r.1.items) }
+    ensures ran { IfOk result (λ r. RunsPlan (terms_of pool.now.board.now).limits.most (terms_of pool.now.board.now).plan (length benches.items)
         (record { tells = P.tells; before = P.state poller.old; after = P.state poller.new })
-        (record { tells = C.tells; before = C.state clock.old; after = C.state clock.new }) (view p).seen) }
+        (record { tells = C.tells; before = C.state clock.old; after = C.state clock.new }) (view r.0).seen) }
     ensures kept { KeepsListens P.tells (P.state poller.old) (P.state poller.new) }
 {
     let first = benches.remove(0);
     let hands = hands_of(alloc, pool, pass, first, benches)?;
-    Ok(run_team(rt, pool, hands, poller, clock))
+    run_team(rt, pool, hands, poller, clock)
 }

@@ -22,7 +22,10 @@ pub enum JobsRefused {
     JobCount,
     /// The number of workers is 0, or greater than `MAX_WORKERS` of `gcd_plan`.
     WorkerCount,
-    /// Memory ran out, before the first event or after the last.
+    /// The number of events that there may be is 0.
+    EventCount,
+    /// Memory ran out: before the first event, after the last, or where the journal had to grow in the midst of the run, and then some
+    /// jobs have run. Or the system made no thread for a worker for ten seconds, while all others waited for it.
     OutOfMemory,
 }
 
@@ -31,6 +34,7 @@ impl fmt::Display for JobsRefused {
         match self {
             JobsRefused::JobCount => write!(f, "the number of jobs is not that of the blocks"),
             JobsRefused::WorkerCount => write!(f, "the number of workers is 0 or above 64"),
+            JobsRefused::EventCount => write!(f, "the number of events is 0"),
             JobsRefused::OutOfMemory => write!(f, "out of memory"),
         }
     }

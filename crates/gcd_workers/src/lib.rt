@@ -4,8 +4,13 @@
 //! [`run_workers`] runs a plan's works over its files by so many workers. With one asked for, worker 0 runs it alone
 //! ([`run_alone`]): one thread keeps the list of events. With more, every plan has a team: a job for each block and a tally for
 //! each source go into a board (`gcd_row`), a rack of Drains (`gcd_steal`) and a hand for each worker that there can be work for
-//! are made, and the pool of them (`gcd_pool`) runs until the run has ended. Then what the helpers have seen is joined into what
-//! worker 0 has seen, and the board is closed. Both are the loop of `gcd_loop`, over a recorder each, and leave an [`Outcome`].
+//! are made, and the pool of them (`gcd_pool`) runs until the run has ended. The board is made for as many workers as there are hands, since
+//! one that never passes on what it has seen would hold the others. Worker 0 gathers the journal from the board as the run goes. Then what
+//! the helpers have seen is joined into what worker 0 has seen, and the board is closed, with that journal. Both are the loop of
+//! `gcd_loop`, over a recorder each, and leave an [`Outcome`].
+//!
+//! Each of them runs until the run is quiescent or halted, or has so many events as its caller allows, `most`, which may be any number up
+//! to `MAX_EVENTS` of `gcd_plan`. Nothing of that size is taken at once: the journal grows with the run.
 //!
 //! A caller with jobs of its own calls [`run_jobs`], which makes all that a run by a team needs, with the outside in memory: no feed is
 //! told of, and time jumps. (The crate `gcd_example` is such a caller.) One who has feeds or a clock too makes board and rack itself, and
@@ -15,24 +20,29 @@
 //! |---|---|
 //! | [`team_size`] | how many of so many workers there can be work for, at least 1 |
 //! | [`tallies_of`] | a tally for each source, which a board asks for beside the jobs, or out of memory |
-//! | [`run_pool`] | worker 0's pass of a run that has ended, with which the board may be closed (`HasLed`, `RunsPlan`), or out of memory |
-//! | [`run_jobs`] | the journal, the blocks' values and the state of a run of the caller's own jobs (`RunsJobs`), or why there is none: another number of jobs, no number of workers, out of memory |
+//! | [`run_pool`] | worker 0's pass of a run that has ended, and the journal of what was gathered of it, with which the board may be closed (`HasLed`, `RunsPlan`, `IsGathered`), or out of memory |
+//! | [`run_jobs`] | the journal, the blocks' values and the state of a run of the caller's own jobs (`RunsJobs`), or why there is none: another number of jobs, no number of workers, no event, out of memory |
 //! | [`run_alone`], [`run_board`], [`run_workers`] | the journal, the blocks' values and the state of a run of the plan's works over its files (`RunsOverFiles`), or out of memory |
 //!
 //! | clause of the last three | says |
 //! |---|---|
-//! | `ran` (`RunsOverFiles`) | where memory sufficed: the journal is lawful and has ended, in the state told; each event is of one of the workers, and with one of them each event of a worker is what worker 0 chooses at its place; what poller and clock said stands in it (`RunsPlan` of `gcd_loop`); and the values are those of the blocks that have ended, and else 0 |
+//! | `ran` (`RunsOverFiles`) | where memory sufficed: the journal is lawful, has at most `most` events, and has ended, in the state told; each event is of one of the workers, and with one of them each event of a worker is what worker 0 chooses at its place; what poller and clock said stands in it (`RunsPlan` of `gcd_loop`); and the values are those of the blocks that have ended, and else 0 |
 //! | `stands` | the machine that is left stands for the journal |
 //! | `kept` | no listen was made, and the poller's count of faults did not fall; this holds where memory runs out too |
 //!
 //! | clause of `run_jobs` | says |
 //! |---|---|
-//! | `ran` (`RunsJobs`) | where it is run: the journal is lawful and has ended, in the state told; whose its events are, as above; and a block has a value exactly where its End stands, which is one that its own job may give (`AreGiven`) |
-//! | `job_count`, `worker_count` | it is refused by that name exactly where there is not one job for each block; and where else the number of workers is 0 or above 64 |
+//! | `ran` (`RunsJobs`) | where it is run: the journal is lawful, has at most `most` events, and has ended, in the state told; whose its events are, as above; and a block has a value exactly where its End stands, which is one that its own job may give (`AreGiven`) |
+//! | `job_count`, `worker_count`, `event_count` | it is refused by that name exactly where there is not one job for each block; where else the number of workers is 0 or above 64; and where else there may be no event |
 //!
 //! A run by worker 0 alone takes memory before its first event, and where its list has to grow; what is left of it at a refusal
-//! is nothing. So with a given clock and poller its journal is exact. A team takes memory before the first event and after the last,
-//! and none between. Which worker does what is left to the threads, so the journal differs from run to run; each is lawful.
+//! is nothing. So with a given clock and poller its journal is exact. A team takes memory before the first event, after the last, and where
+//! worker 0 gathers what it has seen, which it does each time that about 1,024 events more have come. So both
+//! may be refused memory in the midst of a run. So may a team be refused a thread for one of its workers: that worker sees nothing, and
+//! once the others have waited ten seconds for it the run is given up, as where memory is refused. Blocks have run then, poller and clock
+//! have told what they have told, and nothing is left of the run: no journal, no value and no state. A team's threads have ended, each
+//! with what it did. The poller listens where it did before. Which worker of a team does what is left to the threads, so the journal
+//! differs from run to run; each is lawful.
 //!
 //! It waits for others, so nothing says that it returns: a clock may stand still, and a poller may tell for ever of feeds that are no
 //! longer live. No clause says that a helper ever places an event.

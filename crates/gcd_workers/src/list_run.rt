@@ -1,5 +1,5 @@
 // A run that one worker keeps in a list, as far as it has come.
-ghost use Rattle.std.specs.Prelude.{◌≡◌, ◌<◌, ◌+◌, ◌^◌, ◌++◌, ◌∷◌, [], List, length, IfOk, OnOk};
+ghost use Rattle.std.specs.Prelude.{◌≡◌, ◌<◌, ◌++◌, ◌∷◌, [], List, length, IfOk, OnOk};
 ghost use Rattle.gcd_event.specs.declared.event.Event.{Event};
 ghost use Rattle.gcd_history.specs.Values.{value_of};
 ghost use Rattle.gcd_jobs.specs.BlockValues.{AreValues};
@@ -62,7 +62,6 @@ impl ListRun {
         most: u32,
         files: &[Vec<u8>],
     ) -> Result<ListRun, AllocError>
-        requires { most + 1 < 2 ^ 32 }
         ensures journal { IfOk result (λ r. r.journal.items ≡ []) }
         ensures run { IfOk result (λ r. IsListRun most plan.now (contents files.now) r.journal.items r.values.items r.machine) }
     {
@@ -142,13 +141,15 @@ impl<'a> Recorder<Files<'a>> for ListRun {
     }
 
     #[inline(always)]
-    fn put(
+    fn put<R: Wait>(
         &mut self,
+        rt: &R,
         plan: &Plan,
         most: u32,
         desk: &Files<'a>,
         e: Event,
     ) -> Result<Put, AllocError> {
+        let _ = rt;
         if self.machine.permits(e).is_some() {
             return Ok(Put::Barred);
         }

@@ -1,6 +1,7 @@
 // The board of a run: a job for each block, and a tally for each source.
-ghost use Rattle.std.specs.Prelude.{◌≡◌, ◌++◌, ◌≤◌, [], IfOk, OnOk, length};
+ghost use Rattle.std.specs.Prelude.{◌≡◌, ◌++◌, ◌<◌, ◌≤◌, [], IfOk, OnOk, length};
 ghost use Rattle.gcd_jobs.specs.Contents.{contents};
+ghost use Rattle.gcd_plan.specs.Limits.{max_workers};
 ghost use Rattle.gcd_row.specs.Opening.{AreHandlersOf, tallies_for};
 ghost use Rattle.gcd_row.specs.Passes.{IsPassOf, terms_of, view};
 ghost use Rattle.gcd_workers.specs.Teams.{IsNew};
@@ -54,13 +55,17 @@ pub fn tallies_of(alloc: Global, plan: &Plan) -> Result<Vec<Tally>, AllocError>
     Ok(tallies)
 }
 
-// A board of the plan's works over the files, and worker 0's pass.
+// A board of the plan's works over the files, for so many workers and at most so many events, and worker 0's pass.
 pub fn open_board<'a>(
     alloc: Global,
     plan: &Plan,
+    workers: u8,
+    most: u32,
     files: &'a [Vec<u8>],
 ) -> Result<(WorkBoard<'a>, WorkPass<'a>), AllocError>
+    requires { (0 < workers) × (workers ≤ max_workers) × (0 < most) }
     ensures plan { IfOk result (λ made. (terms_of made.0).plan ≡ plan.now) }
+    ensures limits { IfOk result (λ made. (terms_of made.0).limits ≡ record { workers = workers; most = most }) }
     ensures works { IfOk result (λ made. GiveWorks plan.now (contents files.now) (terms_of made.0).cells) }
     ensures cells { IfOk result (λ made. length (terms_of made.0).plan.blocks ≤ length (terms_of made.0).cells) }
     ensures pass { IfOk result (λ made. IsPassOf work_shape work_gives made.0 made.1) }
@@ -68,5 +73,5 @@ pub fn open_board<'a>(
 {
     let jobs = jobs_of(alloc, plan, files)?;
     let tallies = tallies_of(alloc, plan)?;
-    Ok(Board::new(alloc, plan, jobs, tallies)?)
+    Ok(Board::new(alloc, plan, jobs, tallies, workers, most)?)
 }

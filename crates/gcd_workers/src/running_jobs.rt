@@ -5,7 +5,7 @@ ghost use Rattle.gcd_plan.specs.PlanView.{PlanView};
 ghost use Rattle.gcd_event.specs.declared.event.Event.{Event};
 ghost use Rattle.gcd_history.specs.Ends.{HasState};
 ghost use Rattle.gcd_machine.specs.Stands.{StandsFor};
-ghost use Rattle.gcd_row.specs.Passes.{IsPassOf, terms_of, view};
+ghost use Rattle.gcd_row.specs.Passes.{IsGathered, IsPassOf, terms_of, view};
 ghost use Rattle.gcd_row.specs.Shapes.{gives_of};
 ghost use Rattle.gcd_row.specs.Views.{standing_of};
 ghost use Rattle.gcd_row.specs.declared.cell.Cell.TheVariants.{Done};
@@ -20,6 +20,7 @@ use crate::hiring::team_size;
 use crate::jobs_run::{JobsRefused, JobsRun};
 use crate::opening::tallies_of;
 use crate::workers::MOST_PUSHES;
+use gcd_event::Event;
 use gcd_jobs::{Job, Tally};
 use gcd_machine::Machine;
 use gcd_outer::{JumpClock, ListPoller, Poller};
@@ -31,21 +32,25 @@ use std::alloc::{AllocError, Global};
 use std::sync::Wait;
 use std::thread::Threads;
 
-// A board of the jobs, and worker 0's pass.
+// A board of the jobs, for so many workers and at most so many events, and worker 0's pass.
 fn open<J: Job + Drop>(
     alloc: Global,
     plan: &Plan,
+    workers: u8,
+    most: u32,
     jobs: Vec<J>,
 ) -> Result<(Board<J, Tally>, Pass<J, Tally>), AllocError>
-    requires { length jobs.items ≡ length plan.now.blocks }
+    requires limits { (0 < workers) × (workers ≤ max_workers) × (0 < most) }
+    requires jobs { length jobs.items ≡ length plan.now.blocks }
     ensures plan { IfOk result (λ made. (terms_of made.0).plan ≡ plan.now) }
+    ensures limits { IfOk result (λ made. (terms_of made.0).limits ≡ record { workers = workers; most = most }) }
     ensures jobs { IfOk result (λ made. AreLaid jobs.items (terms_of made.0).cells) }
     ensures cells { IfOk result (λ made. length (terms_of made.0).plan.blocks ≤ length (terms_of made.0).cells) }
     ensures pass { IfOk result (λ made. IsPassOf tally_shape (gives_of J.gives) made.0 made.1) }
     ensures new { IfOk result (λ made. IsNew (view made.1)) }
 {
     let tallies = tallies_of(alloc, plan)?;
-    Ok(Board::new(alloc, plan, jobs, tallies)?)
+    Ok(Board::new(alloc, plan, jobs, tallies, workers, most)?)
 }
 
 // What the slot of a block has: the value that its job gave, where the block has ended.
@@ -82,21 +87,23 @@ fn values_of<J>(
     Ok(values)
 }
 
-// Closes the board of a run that has ended.
+// Closes the board of a run that has ended. `gathered` is what was gathered of its events.
 fn close<J: Job + Drop>(
     alloc: Global,
     board: Board<J, Tally>,
     pass: Pass<J, Tally>,
+    gathered: Vec<Event>,
 ) -> Result<JobsRun, AllocError>
     requires pass { IsPassOf tally_shape (gives_of J.gives) board pass }
     requires head { (view pass).worker ≡ 0 }
     requires all_in { (w : ℕ) → standing_of (view pass).hands w ≢ Some Out }
+    requires gathered { IsGathered (view pass) gathered.items }
     ensures journal { IfOk result (λ run. run.journal.items ≡ (view pass).seen) }
     ensures state { IfOk result (λ run. HasState (terms_of board).plan (view pass).seen run.state) }
     ensures values { IfOk result (λ run. (jobs : List J) → length jobs ≡ length (terms_of board).plan.blocks → AreLaid jobs (terms_of board).cells
         → AreGiven J.gives (terms_of board).plan jobs (view pass).seen run.values.items) }
 {
-    let Ok((journal, cells, machine)) = board.close_whole(alloc, pass) else {
+    let Ok((journal, cells, machine)) = board.close_whole(alloc, pass, gathered) else {
         return Err(AllocError);
     };
     let values = values_of(alloc, &machine, &cells)?;
@@ -112,10 +119,11 @@ fn run_benches<J: Job + Drop + Send, R: Threads + Wait + Sync>(
     rt: &R,
     alloc: Global,
     plan: &Plan,
+    workers: u8,
+    most: u32,
     jobs: Vec<J>,
     rack: &Rack,
     benches: Vec<Bench>,
-    workers: u8,
     poller: &mut ListPoller,
 ) -> Result<JobsRun, AllocError>
     requires jobs { length jobs.items ≡ length plan.now.blocks }
@@ -123,15 +131,17 @@ fn run_benches<J: Job + Drop + Send, R: Threads + Wait + Sync>(
     requires benches { All (IsBenchOf rack.now) benches.items }
     requires count { (0 < length benches.items) × (length benches.items ≤ workers) }
     requires workers { workers ≤ max_workers }
+    requires most { 0 < most }
     requires unwatched { (feed : ℕ) → (⟦<ListPoller as Poller>⟧.state poller.old).watched feed ≡ false }
-    ensures { IfOk result (λ run. RunsJobs J.gives plan.now jobs.items workers run.journal.items run.values.items run.state) }
+    ensures { IfOk result (λ run. RunsJobs J.gives most plan.now jobs.items workers run.journal.items run.values.items run.state) }
 {
     let _ = workers;
-    let (board, pass) = open(alloc, plan, jobs)?;
+    let (board, pass) = open(alloc, plan, benches.len() as u8, most, jobs)?;
     let pool = Pool::new(&board, rack, plan);
     let mut clock = JumpClock::new(0);
-    let last = run_pool(rt, alloc, &pool, pass, benches, poller, &mut clock)?;
-    let run = close(alloc, board, last)?;
+    let (last, gathered) = run_pool(rt, alloc, &pool, pass, benches, poller, &mut clock)?;
+    drop(pool);
+    let run = close(alloc, board, last, gathered)?;
     Ok(run)
 }
 
@@ -151,22 +161,34 @@ fn run_team<J: Job + Drop + Send, R: Threads + Wait + Sync>(
     rt: &R,
     alloc: Global,
     plan: &Plan,
-    jobs: Vec<J>,
     workers: u8,
+    most: u32,
+    jobs: Vec<J>,
 ) -> Result<JobsRun, AllocError>
     requires jobs { length jobs.items ≡ length plan.now.blocks }
     requires workers { (0 < workers) × (workers ≤ max_workers) }
-    ensures { IfOk result (λ run. RunsJobs J.gives plan.now jobs.items workers run.journal.items run.values.items run.state) }
+    requires most { 0 < most }
+    ensures { IfOk result (λ run. RunsJobs J.gives most plan.now jobs.items workers run.journal.items run.values.items run.state) }
 {
     let mut poller = silent_poller(alloc, plan)?;
     let (rack, benches) = Rack::new(alloc, plan, team_size(plan, workers), MOST_PUSHES)?;
-    run_benches(rt, alloc, plan, jobs, &rack, benches, workers, &mut poller)
+    run_benches(
+        rt,
+        alloc,
+        plan,
+        workers,
+        most,
+        jobs,
+        &rack,
+        benches,
+        &mut poller,
+    )
 }
 
-/// Runs a caller's own jobs: the plan by at most so many workers, until the run is quiescent, halted or full. There is one job for each
-/// block, by number, so the first is `main`'s; it runs at most once, at the input 0, where its block comes to its end, and a block has a value
-/// exactly where it has ended. Each source's handler is a tally, of which nothing is told. Board, rack, tallies, poller and clock are
-/// made by the call, and dropped.
+/// Runs a caller's own jobs: the plan by at most so many workers, until the run is quiescent or halted, or has `most` events. With
+/// `MAX_EVENTS` there is no limit but that of all runs. There is one job for each block, by number, so the first is `main`'s; it runs at
+/// most once, at the input 0, where its block comes to its end, and a block has a value exactly where it has ended. Each source's handler
+/// is a tally, of which nothing is told. Board, rack, tallies, poller and clock are made by the call, and dropped.
 ///
 /// The outside is in memory. No feed is told of: a read source delivers nothing, and its feed ends after as many empty answers as
 /// after which worker 0 gives a silent feed up. Time jumps: each due time comes as soon as worker 0 has nothing else to do, so a run
@@ -174,19 +196,22 @@ fn run_team<J: Job + Drop + Send, R: Threads + Wait + Sync>(
 /// board and rack itself, and calls [`run_pool`](crate::run_pool).
 ///
 /// The first refusal that applies is told: [`JobsRefused::JobCount`] exactly where the number of jobs is not that of the plan's blocks,
-/// [`JobsRefused::WorkerCount`] exactly where else the number of workers is 0 or greater than `MAX_WORKERS`, which is 64, and
-/// [`JobsRefused::OutOfMemory`] only where memory runs out, before the first event or after the last. Each leaves nothing of a run,
-/// and the jobs are dropped.
+/// [`JobsRefused::WorkerCount`] exactly where else the number of workers is 0 or greater than `MAX_WORKERS`, which is 64,
+/// [`JobsRefused::EventCount`] exactly where else `most` is 0, and [`JobsRefused::OutOfMemory`] only where memory runs out, or the system
+/// makes no thread for a worker on whom all others wait. Each leaves nothing of a run, and the jobs are dropped; but the last may come in
+/// the midst of a run, and then some jobs have run.
 pub fn run_jobs<J: Job + Drop + Send, R: Threads + Wait + Sync>(
     rt: &R,
     alloc: Global,
     plan: &Plan,
-    jobs: Vec<J>,
     workers: u8,
+    most: u32,
+    jobs: Vec<J>,
 ) -> Result<JobsRun, JobsRefused>
     ensures job_count { IsErrOf result JobsRefused.JobCount ↔ (length jobs.items ≢ length plan.now.blocks) }
     ensures worker_count { IsErrOf result JobsRefused.WorkerCount ↔ ((length jobs.items ≡ length plan.now.blocks) × IsNoTeam workers) }
-    ensures ran { IfOk result (λ run. RunsJobs J.gives plan.now jobs.items workers run.journal.items run.values.items run.state) }
+    ensures event_count { IsErrOf result JobsRefused.EventCount ↔ ((length jobs.items ≡ length plan.now.blocks) × (0 < workers) × (workers ≤ max_workers) × (most ≡ 0)) }
+    ensures ran { IfOk result (λ run. RunsJobs J.gives most plan.now jobs.items workers run.journal.items run.values.items run.state) }
 {
     if jobs.len() != plan.blocks() as usize {
         return Err(JobsRefused::JobCount);
@@ -197,7 +222,10 @@ pub fn run_jobs<J: Job + Drop + Send, R: Threads + Wait + Sync>(
     if u32::from(workers) > MAX_WORKERS {
         return Err(JobsRefused::WorkerCount);
     }
-    match run_team(rt, alloc, plan, jobs, workers) {
+    if most == 0 {
+        return Err(JobsRefused::EventCount);
+    }
+    match run_team(rt, alloc, plan, workers, most, jobs) {
         Ok(run) => Ok(run),
         Err(AllocError) => Err(JobsRefused::OutOfMemory),
     }

@@ -1,7 +1,7 @@
 // The hands of a team.
 ghost use Rattle.std.specs.Prelude.{◌≡◌, ◌+◌, ◌<◌, ◌≤◌, [], All, IfOk, OnOk, length, slice_index_or};
 ghost use Rattle.gcd_plan.specs.Limits.{max_workers};
-ghost use Rattle.gcd_row.specs.Passes.{IsPassOf, view};
+ghost use Rattle.gcd_row.specs.Passes.{IsPassOf, terms_of, view};
 ghost use Rattle.gcd_steal.specs.Racks.{IsBenchOf};
 ghost use Rattle.gcd_pool.specs.Hands.{IsPool};
 ghost use Rattle.gcd_pool.specs.declared.hand.Hand.{Hand};
@@ -25,17 +25,19 @@ fn add_hand<S: Slot>(
     requires pass { IsPassOf S.shape S.gives pool.now.board.now pass.old }
     requires head { IsHead 1 number (view pass.old) }
     requires none { (view pass.old).seen ≡ [] }
+    requires passed { (view pass.old).marks.passed ≡ 0 }
     requires bench { IsBenchOf pool.now.rack.now bench }
-    requires number { (0 < number) × (number < max_workers) × (length hands.old.items + 1 ≡ number) }
+    requires number { (0 < number) × (number < (terms_of pool.now.board.now).limits.workers) × (length hands.old.items + 1 ≡ number) }
     requires hands { EachFrom (IsReadyAt S.shape S.gives pool.now) 1 hands.old.items }
     ensures pass { OnOk result (IsPassOf S.shape S.gives pool.now.board.now pass.new) }
     ensures none { OnOk result ((view pass.new).seen ≡ []) }
+    ensures passed { OnOk result ((view pass.new).marks.passed ≡ 0) }
     ensures head { OnOk result (IsHead 1 (number + 1) (view pass.new)) }
     ensures count { OnOk result (length hands.new.items ≡ number) }
     ensures hands { OnOk result (EachFrom (IsReadyAt S.shape S.gives pool.now) 1 hands.new.items) }
 {
     let other = pool.board.split(alloc, pass, number)?;
-    hands.push(Hand::new(pool, other, bench))?;
+    hands.push(Hand::new(alloc, pool, other, bench))?;
     Ok(())
 }
 
@@ -51,11 +53,14 @@ fn add_hands<S: Slot>(
     requires pass { IsPassOf S.shape S.gives pool.now.board.now pass.old }
     requires head { IsHead 1 1 (view pass.old) }
     requires none { (view pass.old).seen ≡ [] }
+    requires passed { (view pass.old).marks.passed ≡ 0 }
     requires benches { All (IsBenchOf pool.now.rack.now) benches.items }
     requires few { length benches.items < max_workers }
+    requires workers { length benches.items < (terms_of pool.now.board.now).limits.workers }
     requires hands { hands.old.items ≡ [] }
     ensures pass { OnOk result (IsPassOf S.shape S.gives pool.now.board.now pass.new) }
     ensures none { OnOk result ((view pass.new).seen ≡ []) }
+    ensures passed { OnOk result ((view pass.new).marks.passed ≡ 0) }
     ensures head { OnOk result (IsHead 1 (length benches.items + 1) (view pass.new)) }
     ensures count { OnOk result (length hands.new.items ≡ length benches.items) }
     ensures hands { OnOk result (EachFrom (IsReadyAt S.shape S.gives pool.now) 1 hands.new.items) }
@@ -80,9 +85,11 @@ pub fn hands_of<S: Slot>(
     requires pass { IsPassOf S.shape S.gives pool.now.board.now pass }
     requires head { IsHead 1 1 (view pass) }
     requires none { (view pass).seen ≡ [] }
+    requires passed { (view pass).marks.passed ≡ 0 }
     requires first { IsBenchOf pool.now.rack.now first }
     requires others { All (IsBenchOf pool.now.rack.now) others.items }
     requires few { length others.items < max_workers }
+    requires workers { length others.items < (terms_of pool.now.board.now).limits.workers }
     ensures count { IfOk result (λ hands. length hands.items ≡ length others.items + 1) }
     ensures hands { IfOk result (λ hands. EachFrom (IsReadyAt S.shape S.gives pool.now) 0 hands.items) }
     ensures head { IfOk result (λ hands. (d : Hand S) → IsHead 1 (length others.items + 1) (view (slice_index_or hands.items 0 d).pass)) }
@@ -90,6 +97,6 @@ pub fn hands_of<S: Slot>(
 {
     let mut hands = Vec::new(alloc);
     add_hands(alloc, pool, &mut pass, others, &mut hands)?;
-    hands.insert(0, Hand::new(pool, pass, first))?;
+    hands.insert(0, Hand::new(alloc, pool, pass, first))?;
     Ok(hands)
 }

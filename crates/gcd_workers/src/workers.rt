@@ -1,12 +1,12 @@
 // A run by several workers.
 ghost use Rattle.std.specs.Prelude.{◌≡◌, ◌≤◌, ◌<◌, ℕ, All, true, false, [], replicate, length, IfOk};
-ghost use Rattle.gcd_plan.specs.Limits.{max_events, max_workers};
+ghost use Rattle.gcd_plan.specs.Limits.{max_workers};
 ghost use Rattle.gcd_history.specs.Ends.{HasState};
 ghost use Rattle.gcd_jobs.specs.BlockValues.{AreValues};
 ghost use Rattle.gcd_jobs.specs.Contents.{contents};
 ghost use Rattle.gcd_machine.specs.Stands.{StandsFor};
 ghost use Rattle.gcd_pool.specs.Hands.{IsPool};
-ghost use Rattle.gcd_row.specs.Passes.{IsPassOf, terms_of, view};
+ghost use Rattle.gcd_row.specs.Passes.{IsGathered, IsPassOf, terms_of, view};
 ghost use Rattle.gcd_steal.specs.Racks.{IsBenchOf, plan_of};
 ghost use Rattle.gcd_turn.specs.Asked.{KeepsListens};
 ghost use Rattle.gcd_workers.specs.Ran.{RunsOverFiles};
@@ -19,8 +19,9 @@ use crate::hiring::team_size;
 use crate::opening::{WorkBoard, WorkCell, WorkPass, open_board};
 use crate::outcome::Outcome;
 use crate::values::note_all;
+use gcd_event::Event;
 use gcd_outer::{Clock, Poller};
-use gcd_plan::{MAX_EVENTS, Plan};
+use gcd_plan::Plan;
 use gcd_pool::Pool;
 use gcd_steal::{Bench, Rack};
 use std::alloc::{AllocError, Global};
@@ -30,18 +31,20 @@ use std::thread::Threads;
 // How many Drains a bench may push; from then on they sleep.
 pub const MOST_PUSHES: u32 = 4_096;
 
-// Closes the board of a run that has ended.
+// Closes the board of a run that has ended. `gathered` is what was gathered of its events.
 fn close<'a>(
     alloc: Global,
     plan: &Plan,
     files: &'a [Vec<u8>],
     board: WorkBoard<'a>,
     pass: WorkPass<'a>,
+    gathered: Vec<Event>,
     mut values: Vec<u64>,
     workers: u8,
 ) -> Result<Outcome, AllocError>
     requires pass { IsPassOf work_shape work_gives board pass }
     requires led { HasLed workers (view pass) }
+    requires gathered { IsGathered (view pass) gathered.items }
     requires plan { (terms_of board).plan ≡ plan.now }
     requires works { GiveWorks plan.now (contents files.now) (terms_of board).cells }
     requires zeros { values.items ≡ replicate (length plan.now.blocks) 0 }
@@ -52,7 +55,7 @@ fn close<'a>(
 {
     let _ = workers;
     let state = pass.machine().state();
-    let Ok((journal, cells, machine)) = board.close_whole(alloc, pass) else {
+    let Ok((journal, cells, machine)) = board.close_whole(alloc, pass, gathered) else {
         return Err(AllocError);
     };
     note_all(plan, files, &cells, &journal, &mut values);
@@ -65,15 +68,17 @@ fn close<'a>(
 }
 
 /// Runs the plan over a rack, by at most so many workers, one for each bench: its works over the files lie in
-/// a board of their own. An `Err` comes only where memory runs out.
+/// a board of their own, which is made for as many workers as there are benches, and for `most` events. An `Err` comes only where memory
+/// runs out, or a worker has no thread.
 pub fn run_board<R: Threads + Wait + Sync, P: Poller, C: Clock>(
     rt: &R,
     alloc: Global,
     plan: &Plan,
+    workers: u8,
+    most: u32,
     files: &[Vec<u8>],
     rack: &Rack,
     benches: Vec<Bench>,
-    workers: u8,
     poller: &mut P,
     clock: &mut C,
 ) -> Result<Outcome, AllocError>
@@ -81,8 +86,9 @@ pub fn run_board<R: Threads + Wait + Sync, P: Poller, C: Clock>(
     requires benches { All (IsBenchOf rack.now) benches.items }
     requires count { (0 < length benches.items) × (length benches.items ≤ workers) }
     requires workers { workers ≤ max_workers }
+    requires most { 0 < most }
     requires unwatched { (feed : ℕ) → (P.state poller.old).watched feed ≡ false }
-    ensures ran { IfOk result (λ o. RunsOverFiles max_events plan.now workers (contents files.now)
+    ensures ran { IfOk result (λ o. RunsOverFiles most plan.now workers (contents files.now)
         (record { tells = P.tells; before = P.state poller.old; after = P.state poller.new })
         (record { tells = C.tells; before = C.state clock.old; after = C.state clock.new })
         o.journal.items o.values.items o.state) }
@@ -90,31 +96,35 @@ pub fn run_board<R: Threads + Wait + Sync, P: Poller, C: Clock>(
     ensures kept { KeepsListens P.tells (P.state poller.old) (P.state poller.new) }
 {
     let values = Vec::from_elem(alloc, 0, plan.blocks() as usize)?;
-    let (board, pass) = open_board(alloc, plan, files)?;
+    let (board, pass) = open_board(alloc, plan, benches.len() as u8, most, files)?;
     let pool = Pool::new(&board, rack, plan);
-    let last = run_pool(rt, alloc, &pool, pass, benches, poller, clock)?;
-    let outcome = close(alloc, plan, files, board, last, values, workers)?;
+    let (last, gathered) = run_pool(rt, alloc, &pool, pass, benches, poller, clock)?;
+    drop(pool);
+    let outcome = close(alloc, plan, files, board, last, gathered, values, workers)?;
     Ok(outcome)
 }
 
-/// Runs the plan by at most so many workers, 1 to 64, until the run is quiescent, halted or full. With one
+/// Runs the plan by at most so many workers, 1 to 64, until the run is quiescent or halted, or has `most` events, at least 1. With one
 /// asked for, worker 0 runs it alone ([`run_alone`]). With more, every plan has a team over row, rack and pool, of as many hands as
 /// [`team_size`] says: worker 0, which alone has poller and clock, and helpers in threads of their own. `files` are the contents of the
-/// plan's files, in their order; the poller watches no feed yet. An `Err` comes only where memory runs out: it leaves nothing of the run,
-/// and the poller listens where it did (`kept`). By a team that is before the first event or after the last.
+/// plan's files, in their order; the poller watches no feed yet. An `Err` comes only where memory runs out, or the system makes no thread
+/// for a worker on whom all others wait (`gcd_pool`), and that may be in the midst of the run: blocks may have run then, what poller and
+/// clock have told is told, and nothing is left of the run. The threads have ended, and the poller listens where it did (`kept`).
 pub fn run_workers<R: Threads + Wait + Sync, P: Poller, C: Clock>(
     rt: &R,
     alloc: Global,
     plan: &Plan,
-    files: &[Vec<u8>],
     workers: u8,
+    most: u32,
+    files: &[Vec<u8>],
     poller: &mut P,
     clock: &mut C,
 ) -> Result<Outcome, AllocError>
     requires files { length files.now ≡ length plan.now.files }
     requires workers { (0 < workers) × (workers ≤ max_workers) }
+    requires most { 0 < most }
     requires unwatched { (feed : ℕ) → (P.state poller.old).watched feed ≡ false }
-    ensures ran { IfOk result (λ o. RunsOverFiles max_events plan.now workers (contents files.now)
+    ensures ran { IfOk result (λ o. RunsOverFiles most plan.now workers (contents files.now)
         (record { tells = P.tells; before = P.state poller.old; after = P.state poller.new })
         (record { tells = C.tells; before = C.state clock.old; after = C.state clock.new })
         o.journal.items o.values.items o.state) }
@@ -122,10 +132,10 @@ pub fn run_workers<R: Threads + Wait + Sync, P: Poller, C: Clock>(
     ensures kept { KeepsListens P.tells (P.state poller.old) (P.state poller.new) }
 {
     if workers == 1 {
-        return run_alone(rt, alloc, plan, MAX_EVENTS, files, poller, clock);
+        return run_alone(rt, alloc, plan, most, files, poller, clock);
     }
     let (rack, benches) = Rack::new(alloc, plan, team_size(plan, workers), MOST_PUSHES)?;
     run_board(
-        rt, alloc, plan, files, &rack, benches, workers, poller, clock,
+        rt, alloc, plan, workers, most, files, &rack, benches, poller, clock,
     )
 }

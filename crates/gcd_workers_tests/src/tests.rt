@@ -1,6 +1,7 @@
 mod alone;
 mod jobs;
 mod plans;
+mod ring;
 
 use gcd_event::Event;
 use gcd_history::State;
@@ -24,16 +25,17 @@ fn files_of(alloc: Global, bytes: &[u8]) -> Result<Vec<Vec<u8>>, AllocError> {
     Ok(files)
 }
 
-// A run of the plan by a team of so many hands.
+// A run of the plan by a team of so many hands, of at most so many events.
 fn run_of<R: Threads + Wait + Sync>(
     rt: &R,
     alloc: Global,
     plan: &Plan,
     hands: u8,
+    most: u32,
 ) -> Result<Outcome, Fail> {
     let files = files_of(alloc, LOG)?;
-    if files.len() != plan.files().len() || hands == 0 || hands > 64 {
-        return Err(Fail::from("another number of files or hands"));
+    if files.len() != plan.files().len() || hands == 0 || hands > 64 || most == 0 {
+        return Err(Fail::from("another number of files or hands, or no event"));
     }
     let (rack, benches) = Rack::new(alloc, plan, hands, 1_024)?;
     let mut poller = ListPoller::new(alloc, Vec::new(alloc), 4, 100)?;
@@ -42,10 +44,11 @@ fn run_of<R: Threads + Wait + Sync>(
         rt,
         alloc,
         plan,
+        hands,
+        most,
         &files,
         &rack,
         benches,
-        hands,
         &mut poller,
         &mut clock,
     )?)
@@ -57,7 +60,7 @@ fn journal_of<R: Threads + Wait + Sync>(
     alloc: Global,
     plan: &Plan,
 ) -> Result<Vec<Event>, Fail> {
-    Ok(run_of(rt, alloc, plan, 1)?.journal)
+    Ok(run_of(rt, alloc, plan, 1, MAX_EVENTS)?.journal)
 }
 
 // The journal of worker 0 alone.
@@ -102,7 +105,7 @@ fn ends_right(
     plan: &Plan,
     hands: u8,
 ) -> Result<(), Fail> {
-    let run = run_of(rt, alloc, plan, hands)?;
+    let run = run_of(rt, alloc, plan, hands, MAX_EVENTS)?;
     check_end(rt, &run, plan, hands);
     Ok(())
 }

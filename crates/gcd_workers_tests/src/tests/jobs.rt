@@ -3,7 +3,7 @@ mod rows;
 mod square;
 
 use crate::tests::plans::plan_of_queues;
-use gcd_plan::{BlkPart, How, Kind, ObjPart, Parts, Plan};
+use gcd_plan::{BlkPart, How, Kind, MAX_EVENTS, ObjPart, Parts, Plan};
 use gcd_workers::{JobsRefused, JobsRun, run_jobs};
 use rows::{Refusal, Row, refusals, rows};
 use square::squares;
@@ -54,8 +54,9 @@ fn run_of<R: Threads + Wait + Sync>(
     plan: &Plan,
     jobs: u32,
     workers: u8,
+    most: u32,
 ) -> Result<Result<JobsRun, JobsRefused>, AllocError> {
-    Ok(run_jobs(rt, alloc, plan, squares(alloc, 10, jobs)?, workers))
+    Ok(run_jobs(rt, alloc, plan, workers, most, squares(alloc, 10, jobs)?))
 }
 
 fn is_told(rt: &impl Abort, row: &Row, run: &JobsRun) {
@@ -69,7 +70,7 @@ fn is_told(rt: &impl Abort, row: &Row, run: &JobsRun) {
 fn jobs_run_in_blocks_with_the_outside_in_memory(rt: HostRuntime) -> Result<(), Fail> {
     for row in rows() {
         let plan = plan_of(rt.alloc(), row)?;
-        let Ok(run) = run_of(&rt, rt.alloc(), &plan, plan.blocks(), 1)? else {
+        let Ok(run) = run_of(&rt, rt.alloc(), &plan, plan.blocks(), 1, MAX_EVENTS)? else {
             return Err(Fail::from("refused"));
         };
         is_told(&rt, row, &run);
@@ -92,7 +93,7 @@ fn are_squares(values: &[Option<u64>], blocks: u32) -> bool {
 fn teams_give_each_block_the_value_of_its_job(rt: HostRuntime) -> Result<(), Fail> {
     let plan = plan_of_queues(rt.alloc(), 7, 20, How::Bytes)?;
     for workers in [1, 2, 4] {
-        let Ok(run) = run_of(&rt, rt.alloc(), &plan, plan.blocks(), workers)? else {
+        let Ok(run) = run_of(&rt, rt.alloc(), &plan, plan.blocks(), workers, MAX_EVENTS)? else {
             return Err(Fail::from("refused"));
         };
         assert!(&rt;
@@ -110,7 +111,7 @@ fn refusal_of<R: Threads + Wait + Sync>(
     plan: &Plan,
     row: &Refusal,
 ) -> Result<Option<JobsRefused>, AllocError> {
-    Ok(run_of(rt, alloc, plan, row.jobs, row.workers)?.err())
+    Ok(run_of(rt, alloc, plan, row.jobs, row.workers, row.most)?.err())
 }
 
 #[test]
@@ -120,9 +121,10 @@ fn the_first_refusal_that_applies_is_told(rt: HostRuntime) -> Result<(), Fail> {
         let refusal = refusal_of(&rt, rt.alloc(), &plan, row)?;
         assert!(&rt;
             refusal == row.refusal,
-            "{} jobs, {} workers",
+            "{} jobs, {} workers, {} events",
             row.jobs,
-            row.workers
+            row.workers,
+            row.most
         );
     }
     Ok(())

@@ -114,3 +114,44 @@ pub fn plan_of_queues(alloc: Global, serial: u32, wide: u32, how: How) -> Result
     }
     plan_of(alloc, objects, acts, 1 + 3 * serial + wide, how)
 }
+
+// How often each block of a plan of signals makes one.
+const SIGNALS: u32 = 2_500;
+
+/// The events of a plan of signals: four blocks start, signal and end, three of which `main` submits.
+pub const SIGNALLED: u32 = 4 * SIGNALS + 11;
+
+// A block that makes these acts, and then signals.
+fn signalling(alloc: Global, name: &str, first: &[Act]) -> Result<BlkPart, AllocError> {
+    let mut block = BlkPart::new(alloc, name)?;
+    block.acts.extend_from_slice(first)?;
+    for _ in 0..SIGNALS {
+        block.acts.push(Act::Signal(Obj(1)))?;
+    }
+    Ok(block)
+}
+
+/// `main` and three blocks on `root`, each of which signals a semaphore many times. It has few parts, so little memory is taken for it.
+pub fn plan_of_signals(alloc: Global) -> Result<Plan, Fail> {
+    let mut objects = Vec::new(alloc);
+    objects.push(ObjPart::new(alloc, "root", Kind::Concurrent)?)?;
+    objects.push(ObjPart::new(alloc, "semaphore", Kind::Semaphore(0))?)?;
+    let root = Obj(0);
+    let submits = [
+        Act::Async(root, Blk(1)),
+        Act::Async(root, Blk(2)),
+        Act::Async(root, Blk(3)),
+    ];
+    let mut blocks = Vec::new(alloc);
+    blocks.push(signalling(alloc, "main", &submits)?)?;
+    for name in ["b1", "b2", "b3"] {
+        blocks.push(signalling(alloc, name, &[])?)?;
+    }
+    let parts = Parts {
+        objects,
+        blocks,
+        files: Vec::new(alloc),
+        until: 1000,
+    };
+    Ok(Plan::of_parts(parts).ok_or("valid")?)
+}

@@ -1,6 +1,7 @@
+use Rattle.std.proofs.Common.{ap}
 use Rattle.gcd_row.specs.Passes.{view}
-use Rattle.gcd_workers.proofs.Heads.{has_led, head_seeing}
-use Rattle.gcd_workers.proofs.Wholes.{ended_of, seen_whole}
+use Rattle.gcd_workers.proofs.Heads.{has_led, head_knowing}
+use Rattle.gcd_workers.proofs.Wholes.{ended_of, gathered_same, seen_whole}
 use Rattle.gcd_workers.proofs.gather.look_round.Goals as goal
 
 pub returns-clause-seen : goal.returns-clause-seen
@@ -13,4 +14,11 @@ returns-clause-led g c =
     let p = c.look.new.pass in
     let same = seen_whole g.S.Slot.shape g.S.Slot.gives c.args.board.now (view c.args.pass.now) p c.look.ensures.pass c.requires.head.worker c.requires.ended c.look.ensures.view.ahead in
     let ended = ended_of g.S.Slot.shape g.S.Slot.gives c.args.board.now p c.look.ensures.pass (view c.args.pass.now).seen same c.requires.ended in
-    has_led n (view p) c.requires.some (head_seeing n n (view c.args.pass.now) (view p) c.look.ensures.view.is c.requires.head) c.look.ensures.view.fresh ended
+    has_led n (view p) c.requires.some (head_knowing n n (view c.args.pass.now) (view p) _ c.look.ensures.view.is c.requires.head) c.look.ensures.view.fresh ended
+
+pub returns-clause-gathered : goal.returns-clause-gathered
+returns-clause-gathered g c = λ journal is.
+    let v = view c.args.pass.now in
+    let p = c.look.new.pass in
+    let seen = seen_whole g.S.Slot.shape g.S.Slot.gives c.args.board.now v p c.look.ensures.pass c.requires.head.worker c.requires.ended c.look.ensures.view.ahead in
+    gathered_same v (view p) journal seen (ap (λ w. w.marks.passed) c.look.ensures.view.is) is

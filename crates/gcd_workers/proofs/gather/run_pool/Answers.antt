@@ -1,6 +1,5 @@
 use Rattle.std.proofs.Common.{◌≡◌, ℕ, length, sym, subst, arith}
-use Rattle.std.specs.Prelude.{slice_index_or}
-use Rattle.gcd_plan.specs.Limits.{max_events}
+use Rattle.std.specs.Prelude.{IfOk, slice_index_or}
 use Rattle.gcd_outer.specs.Outside.{ClockState, Seen}
 use Rattle.gcd_outer.specs.Tells.{PollerState}
 use Rattle.gcd_loop.specs.Ran.{RunsPlan}
@@ -34,7 +33,7 @@ returns-clause-led g c =
     let count = c.in_ok-hands.ensures.count in
     let fewer = c.remove-first.ensures.len in
     let same : length c.in_ok-hands.hands.items ≡ length c.args.benches.items = omega (arith, count, fewer) in
-    subst (λ (n : ℕ). HasLed n (view c.run_team.result)) same c.run_team.ensures.led
+    subst (λ (n : ℕ). IfOk c.run_team.result (λ r. HasLed n (view r.0))) same c.run_team.ensures.led
 
 pub returns-clause-ran : goal.returns-clause-ran
 returns-clause-ran g c =
@@ -43,4 +42,5 @@ returns-clause-ran g c =
     let same : length c.in_ok-hands.hands.items ≡ length c.args.benches.items = omega (arith, count, fewer) in
     let told : Seen PollerState = record { tells = g.P.Poller.tells; before = g.P.Poller.state c.args.poller.now; after = g.P.Poller.state c.run_team.new.poller } in
     let timed : Seen ClockState = record { tells = g.C.Clock.tells; before = g.C.Clock.state c.args.clock.now; after = g.C.Clock.state c.run_team.new.clock } in
-    subst (λ (n : ℕ). RunsPlan max_events (terms_of c.args.pool.now.board.now).plan n told timed (view c.run_team.result).seen) same c.run_team.ensures.ran
+    let board = terms_of c.args.pool.now.board.now in
+    subst (λ (n : ℕ). IfOk c.run_team.result (λ r. RunsPlan board.limits.most board.plan n told timed (view r.0).seen)) same c.run_team.ensures.ran

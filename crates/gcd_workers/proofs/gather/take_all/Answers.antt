@@ -17,6 +17,7 @@ loop-hand-init g c = record {
   head = search rules;
   seen = refl;
   ended = search rules;
+  gathered = search rules;
 }
 
 pub take_in-requires-clause-hand : goal.take_in-requires-clause-hand
@@ -59,4 +60,5 @@ loop-hand-preserved g c =
           (head_back n all (view at.pass) (view c.take_in.new.pass) low i.head c.take_in.ensures.worker hands);
       seen = c.take_in.ensures.seen ∙ i.seen;
       ended = i.ended;
+      gathered = c.take_in.ensures.gathered _ i.gathered;
     }

@@ -1,8 +1,7 @@
 use Rattle.std.proofs.Common.{◌≡◌, ◌+◌, suc, length}
 use Rattle.std.specs.Vec.Iter.{into_iter_items, into_iter_len}
-use Rattle.gcd_plan.specs.Limits.{max_events}
 use Rattle.gcd_history.specs.Ends.{HasEnded}
-use Rattle.gcd_row.specs.Passes.{IsPassOf, terms_of, view}
+use Rattle.gcd_row.specs.Passes.{IsGathered, IsPassOf, terms_of, view}
 use Rattle.gcd_workers.specs.Teams.{EachFrom, IsHead, IsPassAt}
 use Rattle.gcd_workers.proofs.gather.take_all.Given as goal
 
@@ -14,5 +13,6 @@ invariant-loop-hand g l = record {
   pass : IsPassOf g.S.Slot.shape g.S.Slot.gives l.board l.pass;
   head : IsHead (suc (length l.yielded)) (length l.fn.hands.items) (view l.pass);
   seen : (view l.pass).seen ≡ (view l.initial.pass).seen;
-  ended : HasEnded max_events (terms_of l.board).plan (view l.initial.pass).seen;
+  ended : HasEnded (terms_of l.board).limits.most (terms_of l.board).plan (view l.initial.pass).seen;
+  gathered : IsGathered (view l.pass) l.journal.items;
 }

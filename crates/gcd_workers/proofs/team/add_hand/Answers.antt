@@ -13,6 +13,12 @@ new-requires-clause-none g c =
     let other = view c.in_ok-other.other in
     nothing_own other.worker other.seen (ap (λ v. v.seen) c.in_ok-other.ensures.new.1 ∙ c.requires.none)
 
+pub new-requires-clause-passed : goal.new-requires-clause-passed
+new-requires-clause-passed g c = λ zero. ap (λ v. v.marks.passed) c.in_ok-other.ensures.new.1
+
+pub returns-clause-passed : goal.returns-clause-passed
+returns-clause-passed g c = ap (λ v. v.marks.passed) c.in_ok-other.ensures.lent ∙ c.requires.passed
+
 pub returns-clause-none : goal.returns-clause-none
 returns-clause-none g c = ap (λ v. v.seen) c.in_ok-other.ensures.lent ∙ c.requires.none
 
@@ -24,5 +30,5 @@ pub returns-clause-hands : goal.returns-clause-hands
 returns-clause-hands g c =
     subst (EachFrom (IsReadyAt g.S.Slot.shape g.S.Slot.gives c.args.pool.now) 1) (sym c.in_ok-push.ensures.items)
     (hired g.S.Slot.shape g.S.Slot.gives c.args.pool.now c.args.number c.args.hands.now.items c.new.result c.new.ensures.ready
-    (ap (λ h. (view h.pass).worker) c.new.ensures.parts ∙ ap (λ v. v.worker) c.in_ok-other.ensures.new.1)
+    (ap (λ p. (view p).worker) c.new.ensures.parts.0 ∙ ap (λ v. v.worker) c.in_ok-other.ensures.new.1)
     c.requires.number.2 c.requires.hands)

@@ -26,6 +26,7 @@ loop-bench-preserved g c =
       benches = all_rest (IsBenchOf c.args.pool.now.rack.now) x rest (subst (All (IsBenchOf c.args.pool.now.rack.now)) steps i.benches);
       pass = c.in_ok-add_hand.ensures.pass;
       none = c.in_ok-add_hand.ensures.none;
+      passed = c.in_ok-add_hand.ensures.passed;
       head = c.in_ok-add_hand.ensures.head;
       hands = c.in_ok-add_hand.ensures.hands;
     }

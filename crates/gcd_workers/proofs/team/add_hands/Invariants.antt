@@ -15,6 +15,7 @@ invariant-loop-bench g l = record {
   benches : All (IsBenchOf l.pool.rack.now) (into_iter_items l.bench-iterator);
   pass : IsPassOf g.S.Slot.shape g.S.Slot.gives l.pool.board.now l.pass;
   none : (view l.pass).seen ≡ [];
+  passed : (view l.pass).marks.passed ≡ 0;
   head : IsHead 1 l.number (view l.pass);
   hands : EachFrom (IsReadyAt g.S.Slot.shape g.S.Slot.gives l.pool) 1 l.hands.items;
 }

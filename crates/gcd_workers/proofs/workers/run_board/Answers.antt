@@ -1,12 +1,11 @@
-use Rattle.std.proofs.Common.{◌∙◌, ℕ, length, ap}
+use Rattle.std.proofs.Common.{◌∙◌, ℕ, length, ap, arith}
 use Rattle.std.specs.Prelude.{replicate}
 use Rattle.gcd_outer.specs.Outside.{ClockState, Seen}
 use Rattle.gcd_outer.specs.Tells.{PollerState}
 use Rattle.gcd_jobs.specs.Contents.{contents}
-use Rattle.gcd_plan.specs.Limits.{max_events}
 use Rattle.gcd_row.specs.Passes.{terms_of, view}
 use Rattle.gcd_workers.proofs.Heads.{led_by_more}
-use Rattle.gcd_workers.proofs.Pools.{plan_along, pool_of}
+use Rattle.gcd_workers.proofs.Pools.{limits_along, plan_along, pool_of}
 use Rattle.gcd_workers.proofs.Runs.{runs_by_more, runs_over_files}
 use Rattle.gcd_workers.proofs.workers.run_board.Goals as goal
 
@@ -15,6 +14,12 @@ run_pool-requires-clause-pool g c = λ lifetimes outlive.
     let made = c.new-pool in
     pool_of made.result c.in_ok-board.board c.args.rack.now c.args.plan.now made.ensures.board made.ensures.rack made.ensures.plan
     c.in_ok-board.ensures.plan c.requires.rack c.in_ok-board.ensures.cells
+
+pub run_pool-requires-clause-workers : goal.run_pool-requires-clause-workers
+run_pool-requires-clause-workers g c = λ lifetimes outlive.
+    let limits = limits_along c.new-pool.ensures.board ∙ c.in_ok-board.ensures.limits in
+    let workers = ap (λ l. l.workers) limits in
+    omega (arith, workers)
 
 pub close-requires-clause-led : goal.close-requires-clause-led
 close-requires-clause-led g c =
@@ -31,7 +36,9 @@ returns-clause-ran g c =
     let own = (terms_of c.new-pool.result.board.now).plan in
     let is = plan_along c.new-pool.ensures.board ∙ c.in_ok-board.ensures.plan in
     let seen = (view c.in_ok-last.last).seen in
-    let run = runs_by_more max_events own (length c.args.benches.items) c.args.workers told timed seen c.requires.count.0 c.requires.count.1 c.in_ok-last.ensures.ran in
-    runs_over_files c.args.plan.now own c.args.workers (contents c.args.files.now) told timed seen
+    let limit = (terms_of c.new-pool.result.board.now).limits.most in
+    let limit_is = ap (λ l. l.most) (limits_along c.new-pool.ensures.board ∙ c.in_ok-board.ensures.limits) in
+    let run = runs_by_more limit own (length c.args.benches.items) c.args.workers told timed seen c.requires.count.0 c.requires.count.1 c.in_ok-last.ensures.ran in
+    runs_over_files c.args.most limit c.args.plan.now own c.args.workers (contents c.args.files.now) told timed seen
     c.in_ok-outcome.outcome.journal.items c.in_ok-outcome.outcome.values.items c.in_ok-outcome.outcome.state
-    is c.in_ok-outcome.ensures.journal run c.in_ok-outcome.ensures.state c.in_ok-outcome.ensures.values
+    limit_is is c.in_ok-outcome.ensures.journal run c.in_ok-outcome.ensures.state c.in_ok-outcome.ensures.values

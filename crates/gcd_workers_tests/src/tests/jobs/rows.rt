@@ -1,6 +1,6 @@
 use gcd_event::Event;
 use gcd_history::State;
-use gcd_plan::{Act, Blk, Kind, Obj, Run};
+use gcd_plan::{Act, Blk, Kind, MAX_EVENTS, Obj, Run};
 use gcd_workers::JobsRefused;
 
 // A plan with one object, and the acts of its two blocks; and what one worker's run of it leaves.
@@ -14,10 +14,11 @@ pub struct Row {
     pub state: State,
 }
 
-// How many jobs and workers a plan of three blocks is run by, and why it is not run.
+// How many jobs and workers a plan of three blocks is run by, and for how many events, and why it is not run.
 pub struct Refusal {
     pub jobs: u32,
     pub workers: u8,
+    pub most: u32,
     pub refusal: Option<JobsRefused>,
 }
 
@@ -209,45 +210,77 @@ static ROWS: [Row; 5] = [
     },
 ];
 
-static REFUSALS: [Refusal; 8] = [
+static REFUSALS: [Refusal; 12] = [
     Refusal {
         jobs: 2,
         workers: 1,
+        most: MAX_EVENTS,
         refusal: Some(JobsRefused::JobCount),
     },
     Refusal {
         jobs: 4,
         workers: 1,
+        most: MAX_EVENTS,
         refusal: Some(JobsRefused::JobCount),
     },
     Refusal {
         jobs: 0,
         workers: 0,
+        most: MAX_EVENTS,
         refusal: Some(JobsRefused::JobCount),
     },
     Refusal {
         jobs: 3,
         workers: 0,
+        most: MAX_EVENTS,
         refusal: Some(JobsRefused::WorkerCount),
     },
     Refusal {
         jobs: 3,
         workers: 65,
+        most: MAX_EVENTS,
         refusal: Some(JobsRefused::WorkerCount),
     },
     Refusal {
         jobs: 3,
         workers: 255,
+        most: MAX_EVENTS,
         refusal: Some(JobsRefused::WorkerCount),
     },
     Refusal {
         jobs: 3,
         workers: 1,
+        most: MAX_EVENTS,
         refusal: None,
     },
     Refusal {
         jobs: 3,
         workers: 64,
+        most: MAX_EVENTS,
+        refusal: None,
+    },
+    Refusal {
+        jobs: 4,
+        workers: 1,
+        most: 0,
+        refusal: Some(JobsRefused::JobCount),
+    },
+    Refusal {
+        jobs: 3,
+        workers: 65,
+        most: 0,
+        refusal: Some(JobsRefused::WorkerCount),
+    },
+    Refusal {
+        jobs: 3,
+        workers: 4,
+        most: 0,
+        refusal: Some(JobsRefused::EventCount),
+    },
+    Refusal {
+        jobs: 3,
+        workers: 4,
+        most: 1,
         refusal: None,
     },
 ];

@@ -13,7 +13,6 @@ returns-clause-run c =
       own = c.in_ok-machine.ensures.plan;
       stands = rw empty c.in_ok-machine.ensures.stands;
       few = rw empty (omega arith);
-      small = c.requires;
       alone = rw empty alone_none;
       chosen = rw empty (follows_none plan);
       values = rw (empty, zeros, c.blocks-count.ensures.count) (no_values plan (contents c.args.files.now));

@@ -19,7 +19,6 @@ returns-clause-run c =
       own = c.apply.ensures.plan ∙ run.own;
       stands = c.apply.ensures.stands plan h run.stands next.permitted;
       few = omega (arith, length_push h e, next.room);
-      small = run.small;
       alone = alone_more h e run.alone next.by;
       chosen = follows_more plan h e run.chosen next.chosen;
       values = c.note_end.ensures.values h run.values;
