@@ -41,15 +41,22 @@ fn plan_of(alloc: Global, script: &[u8]) -> Option<Plan> {
     parse(alloc, script).ok()
 }
 
-// Why a run of the script ended as it did.
-fn say_run<R: Eprint>(rt: &R, alloc: Global, name: &str, script: &[u8], events: &[Event]) {
+// Why a run of the script, of at most so many events, ended as it did.
+fn say_run<R: Eprint>(
+    rt: &R,
+    alloc: Global,
+    most: u32,
+    name: &str,
+    script: &[u8],
+    events: &[Event],
+) {
     let Some(plan) = plan_of(alloc, script) else {
         return;
     };
     if events.len() > MAX_EVENTS as usize {
         return;
     }
-    if let Ok(said) = why_run(alloc, &plan, name, script, events) {
+    if let Ok(said) = why_run(alloc, &plan, most, name, script, events) {
         for sentence in said.as_slice() {
             say(rt, sentence);
         }
@@ -67,7 +74,7 @@ fn say_journal<R: Eprint>(
     events: &[Event],
 ) {
     if at.1 == 1 {
-        if let Ok(sentence) = why_journal(alloc, plan, name, text, at.0) {
+        if let Ok(sentence) = why_journal(alloc, plan, MAX_EVENTS, name, text, at.0) {
             say(rt, &sentence);
         }
         return;
@@ -121,13 +128,13 @@ fn say_request<R: Eprint + Files>(
     if ended.at.is_some() {
         return say_refused(rt, alloc, request, ended, shelf);
     }
-    let name = match request {
-        Request::Run(request) => request.script,
-        Request::Check(request) => request.script,
+    let (name, most) = match request {
+        Request::Run(request) => (request.script, request.most),
+        Request::Check(request) => (request.script, MAX_EVENTS),
         Request::Big(_) => return,
     };
     if let Some(script) = shelf.kept(0) {
-        say_run(rt, alloc, name, script, &ended.journal);
+        say_run(rt, alloc, most, name, script, &ended.journal);
     }
 }
 

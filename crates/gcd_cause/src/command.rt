@@ -1,7 +1,7 @@
 // Why words name no command.
 
 use crate::shown::Shown;
-use gcd_plan::{MAX_BLOCKS, MAX_WORKERS};
+use gcd_plan::{MAX_BLOCKS, MAX_EVENTS, MAX_WORKERS};
 use std::fmt;
 
 /// Why words name no command.
@@ -59,9 +59,10 @@ pub enum WordsCause<'a> {
 }
 
 const HELP: &str =
-    "gcd run SCRIPT [--workers N] [--journal] [--listen ADDR]: runs the queue script under the path SCRIPT\n\
+    "gcd run SCRIPT [--workers N] [--journal] [--most N] [--listen ADDR]: runs the queue script under the path SCRIPT\n\
     \x20 --workers N: by at most N workers, 1 to 64; 1 where it is absent\n\
     \x20 --journal: the run's journal is written before the report\n\
+    \x20 --most N: the run ends after N events, 1 to 4294967295; 4294967295 where it is absent\n\
     \x20 --listen ADDR: connections for feeds with the path tcp are accepted at this address, as 127.0.0.1:8080; port 0 takes a free one\n\
     gcd check SCRIPT JOURNAL: judges the journal under the path JOURNAL as a run of the script\n\
     gcd big N [--workers W]: runs the large script with N blocks, 1 to 16384\n\
@@ -162,7 +163,10 @@ fn is_version(word: &str) -> bool {
 // Whether the command has the option.
 fn has_option(command: &str, option: &str) -> bool {
     if command == "run" {
-        return option == "--workers" || option == "--journal" || option == "--listen";
+        return option == "--workers"
+            || option == "--journal"
+            || option == "--most"
+            || option == "--listen";
     }
     command == "big" && option == "--workers"
 }
@@ -184,6 +188,13 @@ fn bad_value<'a>(option: &'a str, value: &'a str) -> Option<WordsCause<'a>> {
             high: MAX_WORKERS,
         });
     }
+    if option == "--most" && !is_number(value, MAX_EVENTS) {
+        return Some(WordsCause::NoNumber {
+            what: "number of events",
+            word: value,
+            high: MAX_EVENTS,
+        });
+    }
     None
 }
 
@@ -195,6 +206,7 @@ struct Reading<'a> {
     owed: Option<&'a str>,
     workers: bool,
     journal: bool,
+    most: bool,
     listen: bool,
 }
 
@@ -205,6 +217,8 @@ impl<'a> Reading<'a> {
             std::mem::replace(&mut self.workers, true)
         } else if option == "--journal" {
             std::mem::replace(&mut self.journal, true)
+        } else if option == "--most" {
+            std::mem::replace(&mut self.most, true)
         } else {
             std::mem::replace(&mut self.listen, true)
         };
@@ -312,6 +326,7 @@ pub fn why_words<'a>(words: &[&'a str]) -> WordsCause<'a> {
         owed: None,
         workers: false,
         journal: false,
+        most: false,
         listen: false,
     };
     for word in after {

@@ -1,6 +1,6 @@
 // Why a text is no journal.
 
-use gcd_plan::{Blk, MAX_ACTS, MAX_EVENTS, MAX_TIME, MAX_VALUE, MAX_WORKERS, Obj, Plan, Run};
+use gcd_plan::{Blk, MAX_ACTS, MAX_TIME, MAX_VALUE, MAX_WORKERS, Obj, Plan, Run};
 use gcd_text::{cut_at, number, printable};
 use std::alloc::{AllocError, Global};
 use std::fmt;
@@ -96,8 +96,10 @@ pub enum JournalCause<'a> {
         told: &'a str,
         events: u32,
     },
-    /// One event too many.
-    TooMany,
+    /// One event more than the journal may have.
+    TooMany {
+        most: u32,
+    },
     /// It is right as a line.
     Unclear,
 }
@@ -130,7 +132,7 @@ impl<'a> fmt::Display for JournalCause<'a> {
                 f,
                 "'events {told}' stands where 'events {events}' is asked"
             ),
-            JournalCause::TooMany => write!(f, "a journal has at most 65535 events"),
+            JournalCause::TooMany { most } => { write!(f, "a journal has at most {most} events") }
             JournalCause::Unclear => write!(f, "the line is no event's"),
         }
     }
@@ -306,12 +308,13 @@ fn misfit<'a>(plan: &Plan, shape: &Shape, words: &[&'a str]) -> Option<JournalCa
     None
 }
 
-// What is wrong with a line, after so many events.
+// What is wrong with a line, after so many events of the most that the journal may have.
 fn cause_at<'a>(
     alloc: Global,
     plan: &Plan,
     line: &'a str,
     events: u32,
+    most: u32,
 ) -> Result<JournalCause<'a>, AllocError> {
     let mut words = Vec::new(alloc);
     for word in line.split(' ') {
@@ -337,7 +340,7 @@ fn cause_at<'a>(
             told: *told,
             events,
         },
-        _ if events >= MAX_EVENTS => JournalCause::TooMany,
+        _ if events >= most => JournalCause::TooMany { most },
         _ => JournalCause::Unclear,
     })
 }
@@ -354,10 +357,12 @@ fn rest_after(text: &[u8], lines: u32) -> &[u8] {
     rest
 }
 
-/// Why the text is no journal of the plan at that line, as the reader told it. An `Err` comes only where memory runs out.
+/// Why the text is no journal of the plan, of at most `most` events, at that line, as the reader told it. An `Err` comes only where
+/// memory runs out.
 pub fn cause_of_journal<'a>(
     alloc: Global,
     plan: &Plan,
+    most: u32,
     text: &'a [u8],
     line: u32,
 ) -> Result<JournalCause<'a>, AllocError> {
@@ -373,7 +378,7 @@ pub fn cause_of_journal<'a>(
     };
     match printable(bytes) {
         Some("") => Ok(JournalCause::Empty),
-        Some(line) => cause_at(alloc, plan, line, events),
+        Some(line) => cause_at(alloc, plan, line, events, most),
         None => Ok(bad_byte(bytes)),
     }
 }

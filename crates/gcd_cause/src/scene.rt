@@ -431,7 +431,7 @@ fn object_of(act: Act) -> Option<Obj> {
 }
 
 // The wait at a group or semaphore that the act begins, with its limit where it has one: so many milliseconds from now, and no later
-// than the last due time.
+// than `until`.
 fn begun_wait(act: Act, now: u32, until: u32) -> Option<(Obj, Option<u32>)> {
     match act {
         Act::GroupWait(o) | Act::Wait(o) => Some((o, None)),

@@ -74,11 +74,19 @@ module _ (most : ℕ) (look : Look) (line rest : List ℕ) (count : ℕ) (withou
 
 -- ## The events of a text
 
+-- a line that is read makes the rest shorter
+pub line_length : (look : Look) (text more : List ℕ) (e : Event) → LineSpells look text more e → length more < length text
+line_length look text more e line =
+    let long = ap length line.cut in
+    let joined = length-append line.line (10 ∷ more) in
+    omega arith
+
 -- what is read so far
 pub record HasRead (most : ℕ) (plan : PlanView) (text : List ℕ) (h : List Event) (rest : List ℕ) : Type 0 where
   pub front : text ≡ flat_map (event_line plan) h ++ rest
   pub spoken : AreSpoken plan h
   pub few : length h ≤ most
+  pub near : length h + length rest ≤ length text
 
 spoken_push : (plan : PlanView) (h : List Event) (e : Event) → AreSpoken plan h → IsSpoken plan e → AreSpoken plan (h ++ e ∷ [])
 spoken_push plan [] e all one zero f at = let same : e ≡ f = cc in subst (IsSpoken plan) same one
@@ -87,7 +95,7 @@ spoken_push plan (d ∷ h) e all one zero f at = all zero f at
 spoken_push plan (d ∷ h) e all one (suc i) f at = spoken_push plan h e (λ j g is. all (suc j) g is) one i f at
 
 pub nothing_read : (most : ℕ) (plan : PlanView) (text : List ℕ) → HasRead most plan text [] text
-nothing_read most plan text = record { front = refl; spoken = λ i e at. cc; few = omega arith }
+nothing_read most plan text = record { front = refl; spoken = λ i e at. cc; few = omega arith; near = omega arith }
 
 module _ (most : ℕ) (plan : PlanView) (look : Look) (valid : IsPlan plan) (knows : IsLookUp plan look) where
   -- a line that spells an event is the event's
@@ -107,6 +115,11 @@ module _ (most : ℕ) (plan : PlanView) (look : Look) (valid : IsPlan plan) (kno
         front = read.front ∙ ap (λ l. flat_map (event_line plan) h ++ l) cut ∙ sym (append_assoc (flat_map (event_line plan) h) (event_line plan e) more) ∙ ap (λ l. l ++ more) (sym pushed);
         spoken = spoken_push plan h e read.spoken its.0;
         few = let long = length-append h (e ∷ []) in omega arith;
+        near =
+            let near = read.near in
+            let long = length-append h (e ∷ []) in
+            let shorter = line_length look rest more e line in
+            omega arith;
       }
 
   pub whole_journal : (text : List ℕ) (h : List Event) (rest : List ℕ) → HasRead most plan text h rest → BeginsWith rest (count_line (length h)) → IsJournal most plan text h
@@ -142,10 +155,3 @@ module _ (most : ℕ) (plan : PlanView) (look : Look) (valid : IsPlan plan) (kno
         omega arith;
     no_count = fault.no_count;
   }
-
--- a line that is read makes the rest shorter
-pub line_length : (look : Look) (text more : List ℕ) (e : Event) → LineSpells look text more e → length more < length text
-line_length look text more e line =
-    let long = ap length line.cut in
-    let joined = length-append line.line (10 ∷ more) in
-    omega arith

@@ -28,7 +28,7 @@ pub record MayNote (plan : PlanView) (m : MachineView) (totals : List Total) (e 
   pub stands : StandsFor m plan (history ++ e ∷ [])
   pub permitted : why plan history e ≡ None
   pub totals_are : AreTotals plan history totals
-  pub room : length history + 2 < 2 ^ 32
+  pub room : length history + 1 < 2 ^ 32
 
 -- the values are those of the blocks that have ended
 abbrev pub AreValues : (value : ℕ → ℕ) → List ℕ → List Event → Type 0

@@ -1,5 +1,5 @@
 // Judges the events of a run.
-ghost use Rattle.std.specs.Prelude.{◌≡◌, ◌+◌, ◌<◌, ◌^◌, [], length, IfOk, IfErr};
+ghost use Rattle.std.specs.Prelude.{◌≡◌, ◌<◌, ◌^◌, [], length, IfOk, IfErr};
 ghost use Rattle.gcd_machine.specs.Stands.{StandsFor};
 ghost use Rattle.gcd_journal.specs.Judged.{IsLawfulWith, IsFaultOf};
 
@@ -32,7 +32,7 @@ impl From<AllocError> for CheckFault {
 /// `Unlawful` at exactly the first that is not. No event after it is looked at. `Memory` comes only where memory runs out for the
 /// machine, which is taken at the begin. It costs what the machine's steps cost.
 pub fn check(alloc: Global, plan: &Plan, events: &[Event]) -> Result<State, CheckFault>
-    requires { length events.now + 2 < 2 ^ 32 }
+    requires { length events.now < 2 ^ 32 }
     ensures lawful { IfOk result (IsLawfulWith plan.now events.now) }
     ensures fault { IfErr result (IsFaultOf plan.now events.now) }
 {
@@ -43,7 +43,7 @@ pub fn check(alloc: Global, plan: &Plan, events: &[Event]) -> Result<State, Chec
 // Lets a machine that has taken nothing take the events as long as each is permitted.
 fn judged(plan: &Plan, machine: &mut Machine, events: &[Event]) -> Result<State, CheckFault>
     requires begin { StandsFor machine.old plan.now [] }
-    requires few { length events.now + 2 < 2 ^ 32 }
+    requires few { length events.now < 2 ^ 32 }
     ensures lawful { IfOk result (IsLawfulWith plan.now events.now) }
     ensures fault { IfErr result (IsFaultOf plan.now events.now) }
 {

@@ -1,8 +1,8 @@
 // Reads a journal.
-ghost use Rattle.std.specs.Prelude.{◌≡◌, ◌≢◌, ◌+◌, ◌<◌, ◌^◌, ◌∷◌, ◌++◌, [], codes, IfErr, IfOk, OnOk, MatchBool};
+ghost use Rattle.std.specs.Prelude.{◌≡◌, ◌≢◌, ◌∷◌, ◌++◌, [], codes, IfErr, IfOk, OnOk, MatchBool};
 ghost use Rattle.std.specs.Fmt.{decimal};
 ghost use Rattle.gcd_text.specs.Fields.{IsWithout};
-ghost use Rattle.gcd_journal.specs.Journals.{IsJournal, IsRefusal};
+ghost use Rattle.gcd_journal.specs.Journals.{IsJournal, IsNear, IsRefusal};
 ghost use Rattle.gcd_journal.specs.Named.{look_of};
 ghost use Rattle.gcd_journal.specs.NextLine.{IsNext};
 
@@ -18,8 +18,8 @@ use std::alloc::{AllocError, Global};
 #[derive(Clone, Copy, Debug, PartialEq, Eq)]
 pub enum JournalFault {
     /// The line, from 1, is the first at fault: it is neither one event's line more nor the line `events N` with the number
-    /// of events before it.
-    Refused { line: u32 },
+    /// of events before it. It is one of 64 bits, since 2 ^ 32 - 1 events may stand before it.
+    Refused { line: u64 },
     /// Memory ran out.
     Memory,
 }
@@ -98,16 +98,16 @@ fn add(events: &mut Vec<Event>, e: Event) -> Result<(), AllocError>
 /// The events of a journal of the plan, at most `most`: those of the text's front up to its line `events N`, after which nothing is read.
 /// `Refused` names exactly the first line at fault: one that is no event's line with fitting fields and names of the plan, a
 /// line `events N` with another number, an event more than `most`, a line that lacks its end, or the line after the last.
-/// `Memory` comes only where memory runs out. A name costs one look-up.
+/// The line is at most one past the text's bytes. `Memory` comes only where memory runs out. A name costs one look-up.
 pub fn read_journal(
     alloc: Global,
     plan: &Plan,
     most: u32,
     bytes: &[u8],
 ) -> Result<Vec<Event>, JournalFault>
-    requires { most + 1 < 2 ^ 32 }
     ensures journal { IfOk result (λ events. IsJournal most plan.now bytes.now events.items) }
     ensures fault { IfErr result (IsRefusal most plan.now bytes.now) }
+    ensures near { IfErr result (IsNear bytes.now) }
 {
     let names = Names::new(alloc, plan)?;
     let mut events = Vec::new(alloc);
@@ -120,7 +120,7 @@ pub fn read_journal(
             }
             Line::Count => return Ok(events),
             Line::Fault => {
-                let line = events.len() as u32 + 1;
+                let line = events.len() as u64 + 1;
                 return Err(JournalFault::Refused { line });
             }
         }

@@ -1,5 +1,5 @@
 // Writes the report of a run.
-ghost use Rattle.std.specs.Prelude.{◌≡◌, ◌+◌, ◌-◌, ◌<◌, ◌^◌, ◌++◌, [], ℕ, List, codes, length, slice_get, IfOk, OnErr, OnOk};
+ghost use Rattle.std.specs.Prelude.{◌≡◌, ◌-◌, ◌<◌, ◌^◌, ◌++◌, [], ℕ, List, codes, length, slice_get, IfOk, OnErr, OnOk};
 ghost use Rattle.std.specs.Option.{option_map_or};
 ghost use Rattle.std.specs.List.{flat_map, range_with_len};
 ghost use Rattle.std.specs.Fmt.{decimal};
@@ -418,7 +418,7 @@ fn report_of(
     events: &[Event],
 ) -> Result<Vec<u8>, AllocError>
     requires lawful { IsLawful plan.now events.now }
-    requires few { length events.now + 2 < 2 ^ 32 }
+    requires few { length events.now < 2 ^ 32 }
     requires values { length values.now ≡ length plan.now.blocks }
     ensures { (value : ℕ → ℕ) (state : State) → HasState plan.now events.now state → AreValues value values.now events.now
         → IfOk result (λ text. text.items ≡ report_by plan.now value state events.now) }
@@ -437,7 +437,7 @@ fn report_on(
 ) -> Result<Vec<u8>, AllocError>
     requires stands { StandsFor machine.now plan.now events.now }
     requires lawful { IsLawful plan.now events.now }
-    requires few { length events.now + 2 < 2 ^ 32 }
+    requires few { length events.now < 2 ^ 32 }
     requires values { length values.now ≡ length plan.now.blocks }
     ensures { (value : ℕ → ℕ) (state : State) → HasState plan.now events.now state → AreValues value values.now events.now
         → IfOk result (λ text. text.items ≡ report_by plan.now value state events.now) }
@@ -459,7 +459,7 @@ pub fn write_report(
     into: &mut Vec<u8>,
 ) -> Result<(), AllocError>
     requires lawful { IsLawful plan.now events.now }
-    requires few { length events.now + 2 < 2 ^ 32 }
+    requires few { length events.now < 2 ^ 32 }
     requires values { length values.now ≡ length plan.now.blocks }
     ensures ok { (value : ℕ → ℕ) (state : State) → HasState plan.now events.now state → AreValues value values.now events.now
         → OnOk result (into.new.items ≡ into.old.items ++ report_by plan.now value state events.now) }
@@ -482,7 +482,7 @@ pub fn write_report_by(
 ) -> Result<(), AllocError>
     requires stands { StandsFor machine.now plan.now events.now }
     requires lawful { IsLawful plan.now events.now }
-    requires few { length events.now + 2 < 2 ^ 32 }
+    requires few { length events.now < 2 ^ 32 }
     requires values { length values.now ≡ length plan.now.blocks }
     ensures ok { (value : ℕ → ℕ) (state : State) → HasState plan.now events.now state → AreValues value values.now events.now
         → OnOk result (into.new.items ≡ into.old.items ++ report_by plan.now value state events.now) }

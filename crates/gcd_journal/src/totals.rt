@@ -79,7 +79,7 @@ fn no_totals(alloc: Global, objects: u32) -> Result<Vec<Total>, AllocError>
 /// Takes the events, which are lawful. It costs what the machine's steps cost.
 pub fn replayed(alloc: Global, plan: &Plan, events: &[Event]) -> Result<Replay, AllocError>
     requires lawful { IsLawful plan.now events.now }
-    requires few { length events.now + 2 < 2 ^ 32 }
+    requires few { length events.now < 2 ^ 32 }
     ensures stands { IfOk result (λ r. StandsFor r.machine plan.now events.now) }
     ensures totals { IfOk result (λ r. AreTotals plan.now events.now r.totals.items) }
 {
@@ -109,7 +109,7 @@ fn has_source(plan: &Plan) -> bool
 /// steps cost.
 pub fn totals_by(alloc: Global, plan: &Plan, events: &[Event]) -> Result<Vec<Total>, AllocError>
     requires lawful { IsLawful plan.now events.now }
-    requires few { length events.now + 2 < 2 ^ 32 }
+    requires few { length events.now < 2 ^ 32 }
     ensures { IfOk result (λ t. AreTotals plan.now events.now t.items) }
 {
     if !has_source(plan) {

@@ -1,6 +1,6 @@
 // Journals by rows: what the reader and the checker say of each, and what is written again.
 
-ghost use Rattle.std.specs.Prelude.{◌≡◌, ◌+◌, ◌<◌, ◌≤◌, ◌^◌, length, IfOk};
+ghost use Rattle.std.specs.Prelude.{◌≡◌, ◌<◌, ◌≤◌, ◌^◌, length, IfOk};
 ghost use Rattle.gcd_history.specs.History.{IsLawful};
 ghost use Rattle.gcd_machine.specs.Stands.{StandsFor};
 ghost use Rattle.gcd_journal.specs.Spoken.{AreSpoken};
@@ -22,6 +22,9 @@ use std::fmt::Write;
 use std::test::Fail;
 use std::time::Instant;
 use table::{SEMAPHORE, Setting, reports, rows, settings};
+
+// How many events the longest journal has, which may have no more.
+const MOST: u32 = 65_535;
 
 // How many lines the file has.
 const LINES: Work = Work {
@@ -159,7 +162,7 @@ fn report_on(
 ) -> Result<Vec<u8>, AllocError>
     requires stands { StandsFor machine.now plan.now events.now }
     requires lawful { IsLawful plan.now events.now }
-    requires few { length events.now + 2 < 2 ^ 32 }
+    requires few { length events.now < 2 ^ 32 }
     requires values { length values.now ≡ length plan.now.blocks }
 {
     let mut text = Vec::new(alloc);
@@ -175,7 +178,7 @@ fn report_by(
     events: &[Event],
 ) -> Result<Vec<u8>, AllocError>
     requires lawful { IsLawful plan.now events.now }
-    requires few { length events.now + 2 < 2 ^ 32 }
+    requires few { length events.now < 2 ^ 32 }
     requires values { length values.now ≡ length plan.now.blocks }
 {
     let replay = replayed(alloc, plan, events)?;
@@ -224,7 +227,7 @@ fn reports_are_written(rt: HostRuntime) -> Result<(), Fail> {
 // A semaphore, which `main` signals as often as the longest journal has room for.
 fn longest_plan(alloc: Global) -> Result<Plan, Fail> {
     let mut acts = Vec::new(alloc);
-    for _ in 2..MAX_EVENTS {
+    for _ in 2..MOST {
         acts.push(Act::Signal(Obj(1)))?;
     }
     let mut main = BlkPart::new(alloc, "main")?;
@@ -240,7 +243,7 @@ fn longest_plan(alloc: Global) -> Result<Plan, Fail> {
 
 fn longest_text(alloc: Global) -> Result<String, AllocError> {
     let mut text = String::from_str(alloc, "start 0 main\n")?;
-    for index in 0..MAX_EVENTS - 2 {
+    for index in 0..MOST - 2 {
         write!(text, "act 0 main {index}\n")?;
     }
     text.push_str("end 0 main\nevents 65535\n")?;
@@ -252,9 +255,18 @@ fn longest_events(alloc: Global, plan: &Plan, text: &[u8]) -> Result<Vec<Event>,
     ensures spoken { IfOk result (λ events. AreSpoken plan.now events.items) }
     ensures few { IfOk result (λ events. length events.items ≤ 65535) }
 {
-    match read_journal(alloc, plan, MAX_EVENTS, text) {
+    match read_journal(alloc, plan, MOST, text) {
         Ok(events) => Ok(events),
         Err(_) => Err(Fail::from("no journal")),
+    }
+}
+
+// The line at which it is refused where a journal may have one event less: that of the last.
+fn line_past_the_most(alloc: Global, plan: &Plan, text: &[u8]) -> Option<u64> {
+    match read_journal(alloc, plan, MOST - 1, text) {
+        Err(JournalFault::Refused { line }) => Some(line),
+        Err(JournalFault::Memory) => None,
+        Ok(_) => None,
     }
 }
 
@@ -277,6 +289,8 @@ fn longest_journal(rt: HostRuntime) -> Result<(), Fail> {
     write_journal(rt.alloc(), &plan, events, &mut written)?;
     let wrote = began.elapsed(&rt)?.as_micros();
     assert_eq!(rt; written.as_slice(), text.as_bytes());
+    let line = line_past_the_most(rt.alloc(), &plan, text.as_bytes());
+    assert_eq!(rt; line, Some(65_535));
     println!(rt; "read {bytes} bytes in {read} us")?;
     println!(rt; "check {bytes} bytes in {checked} us")?;
     println!(rt; "write {bytes} bytes in {wrote} us")?;

@@ -4,6 +4,7 @@ use Rattle.std.specs.Prelude.{Ok, Err, Contains, IsTrue}
 use Rattle.std.proofs.lemmas.Bool.{false≢true}
 use Rattle.std.proofs.lemmas.List.{reverse-append, reverse-reverse}
 use Rattle.std.proofs.lemmas.List.Elements.{Contains-append_right}
+use Rattle.gcd_plan.specs.Limits.{max_events}
 use Rattle.gcd_plan.specs.PlanView.{PlanView}
 use Rattle.gcd_event.specs.declared.event.Event.{Event}
 use Rattle.gcd_event.specs.declared.event.Event.TheVariants.{Halt}
@@ -53,9 +54,9 @@ unfolding ends_in_halt
 halted_has_halt h is = subst (λ (l : List Event). Contains l Halt) (reverse-reverse h) (halt_at_front (reverse h) is)
 
 -- where the poller did not fail, no run is halted
-unhalted : (seen : InputsSeen) (sink : SinkSeen) → NothingFailed seen sink → (plan : PlanView) (workers : ℕ) (h : List Event) (state : State)
-    → Ran seen.poller seen.clock plan workers h state → state ≢ Halted
-unhalted seen sink works plan workers h state r halted =
+unhalted : (seen : InputsSeen) (sink : SinkSeen) → NothingFailed seen sink → (plan : PlanView) (workers most : ℕ) (h : List Event) (state : State)
+    → Ran seen.poller seen.clock plan workers most h state → state ≢ Halted
+unhalted seen sink works plan workers most h state r halted =
     works.poller_works (r.run.heard.faults.halts (halted_has_halt h (subst (HasState plan h) halted r.over.state_is)))
 
 -- ## What is told of a run
@@ -149,7 +150,7 @@ module _ (seen : InputsSeen) (sink : SinkSeen) (words : List Bytes) (result : En
       t.state,
       inl (runs_script seen sink words result calls made asked other those end asks ready is t took answers),
       answers.status_is ∙ ap (λ (e : End). status_code e.status) t.end_is,
-      unhalted seen sink works other asked.workers t.h t.state t.ran,
+      unhalted seen sink works other asked.workers asked.most t.h t.state t.ran,
     )
 
     large_ended : (count workers : ℕ) → Asks words (big count workers) → (calls : Calls) → Made seen calls → (end : End)
@@ -160,7 +161,7 @@ module _ (seen : InputsSeen) (sink : SinkSeen) (words : List Bytes) (result : En
           t.state,
           inr (runs_large seen sink words result calls made count workers end asks is ends took answers),
           answers.status_is ∙ ap (λ (e : End). status_code e.status) t.end_is,
-          unhalted seen sink works ends.plan workers t.h t.state t.ran,
+          unhalted seen sink works ends.plan workers max_events t.h t.state t.ran,
         )
 
     -- a check to its end

@@ -1,7 +1,6 @@
 -- What the turns saw of the poller, said of a call that first listened.
 use Rattle.std.proofs.Common.{◌≡◌, ◌∙◌, ◌+◌, ◌++◌, ◌≤◌, ◌<◌, ℕ, true, Bool, List, drop, length, [], append-nil, refl, sym, subst, inl, inr}
 use Rattle.std.specs.Prelude.{Contains}
-use Rattle.gcd_plan.specs.Limits.{max_events}
 use Rattle.gcd_plan.specs.PlanView.{PlanView, path_of}
 use Rattle.gcd_event.specs.declared.event.Event.{Event}
 use Rattle.gcd_outer.specs.Outside.{Bytes, ClockState, Rises, Seen}
@@ -87,11 +86,11 @@ listening_more tells a b now n addresses before listens added = record {
 }
 
 -- what is told of a run, said of a call that first listened
-pub tells_since : (a b now : PollerState) (tells : Bool) → SameHearing a b tells → (clock : Seen ClockState) (plan : PlanView) (workers : ℕ)
+pub tells_since : (a b now : PollerState) (tells : Bool) → SameHearing a b tells → (clock : Seen ClockState) (plan : PlanView) (workers most : ℕ)
     (text : State → List Event → Bytes) (end : End)
-    → TellsRun (record { tells = tells; before = a; after = now }) clock plan workers text end
-    → TellsRun (record { tells = tells; before = b; after = now }) clock plan workers text end
-tells_since a b now tells same clock plan workers text end t = record {
+    → TellsRun (record { tells = tells; before = a; after = now }) clock plan workers most text end
+    → TellsRun (record { tells = tells; before = b; after = now }) clock plan workers most text end
+tells_since a b now tells same clock plan workers most text end t = record {
   h = t.h;
   state = t.state;
   ran = record {
@@ -102,7 +101,7 @@ tells_since a b now tells same clock plan workers text end t = record {
       by = t.ran.run.by;
       chosen = t.ran.run.chosen;
       timely = t.ran.run.timely;
-      heard = heard_since max_events a b now tells same plan [] t.h t.ran.run.heard;
+      heard = heard_since most a b now tells same plan [] t.h t.ran.run.heard;
     };
     over = t.ran.over;
   };

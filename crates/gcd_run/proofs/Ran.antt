@@ -1,6 +1,5 @@
 -- What a run over its files promises, as a run that is over.
 use Rattle.std.proofs.Common.{◌≡◌, ℕ, List, subst, inl, inr}
-use Rattle.gcd_plan.specs.Limits.{max_events}
 use Rattle.gcd_plan.specs.PlanView.{PlanView}
 use Rattle.gcd_event.specs.declared.event.Event.{Event}
 use Rattle.gcd_history.specs.Ends.{HasEnded, HasState, IsFull, IsGoingOn}
@@ -26,10 +25,10 @@ full_of most plan h state is ended live =
       going_on = going;
     }
 
-pub ran_is : (plan : PlanView) (workers : ℕ) (files : List Bytes) (poller : Seen PollerState) (clock : Seen ClockState) (h : List Event)
-    (given : List ℕ) (state : State) → RunsOverFiles max_events plan workers files poller clock h given state
-    → Ran poller clock plan workers h state
-ran_is plan workers files poller clock h given state r = record {
+pub ran_is : (plan : PlanView) (workers most : ℕ) (files : List Bytes) (poller : Seen PollerState) (clock : Seen ClockState) (h : List Event)
+    (given : List ℕ) (state : State) → RunsOverFiles most plan workers files poller clock h given state
+    → Ran poller clock plan workers most h state
+ran_is plan workers most files poller clock h given state r = record {
   run = r.run;
-  over = record { state_is = r.state_is; full = full_of max_events plan h state r.state_is r.run.ended };
+  over = record { state_is = r.state_is; full = full_of most plan h state r.state_is r.run.ended };
 }

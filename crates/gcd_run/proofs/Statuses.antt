@@ -1,6 +1,7 @@
 -- What the answer's status says, by the way in which the call ends.
 use Rattle.std.proofs.lemmas.Option.{same_Some}
 use Rattle.std.proofs.Common.{◌≡◌, ◌∙◌, ◌+◌, ◌==◌, if◌then◌else◌, ℕ, List, [], Option, Some, None, length, ap, subst, refl, sym, inl, inr}
+use Rattle.gcd_plan.specs.Limits.{max_events}
 use Rattle.gcd_plan.specs.PlanView.{PlanView}
 use Rattle.gcd_event.specs.declared.event.Event.{Event}
 use Rattle.gcd_history.specs.declared.state.State.{State}
@@ -104,7 +105,7 @@ module _ (seen : InputsSeen) (sink : SinkSeen) (words : List Bytes) (result : En
     -- a run of a script, as it was told
     pub runs_script : (asked : RunAsked) (plan : PlanView) (contents : List Bytes) (end : End) → Asks words (run asked)
         → IsReady seen.shelf asked.script plan contents → calls ≡ with_listen (length plan.files + 1) asked.listen
-        → (t : TellsRun seen.poller seen.clock plan asked.workers (run_text asked.journal plan contents) end) → Took sink end.text
+        → (t : TellsRun seen.poller seen.clock plan asked.workers asked.most (run_text asked.journal plan contents) end) → Took sink end.text
         → Answers result end end.status → RunsScript seen sink words result t.state
     runs_script asked plan contents end asks ready calls_are t took answers =
         let journal_is : result.journal.items ≡ t.h = answers.journal_is ∙ ap (λ (e : End). e.journal) t.end_is in
@@ -115,7 +116,7 @@ module _ (seen : InputsSeen) (sink : SinkSeen) (words : List Bytes) (result : En
           asks = asks;
           ready = ready;
           made = subst (Made seen) calls_are made;
-          ran = subst (λ h. Ran seen.poller seen.clock plan asked.workers h t.state) (sym journal_is) t.ran;
+          ran = subst (λ h. Ran seen.poller seen.clock plan asked.workers asked.most h t.state) (sym journal_is) t.ran;
           at_is = answers.at_is ∙ ap (λ (e : End). e.at) t.end_is;
           written = subst (λ h. Took sink (run_text asked.journal plan contents t.state h)) (sym journal_is)
               (subst (λ (e : End). Took sink e.text) t.end_is took);
@@ -136,7 +137,7 @@ module _ (seen : InputsSeen) (sink : SinkSeen) (words : List Bytes) (result : En
           asks = asks;
           large = ends.large;
           made = subst (Made seen) calls_are made;
-          ran = subst (λ h. Ran seen.poller seen.clock ends.plan workers h t.state) (sym journal_is) t.ran;
+          ran = subst (λ h. Ran seen.poller seen.clock ends.plan workers max_events h t.state) (sym journal_is) t.ran;
           at_is = answers.at_is ∙ ap (λ (e : End). e.at) t.end_is;
           written = subst (λ h. Took sink (large_text count ends.plan ends.contents t.state h)) (sym journal_is)
               (subst (λ (e : End). Took sink e.text) t.end_is took);
@@ -145,7 +146,7 @@ module _ (seen : InputsSeen) (sink : SinkSeen) (words : List Bytes) (result : En
     -- a run of a script says its state
     says_script : (asked : RunAsked) (plan : PlanView) (contents : List Bytes) (end : End) → Asks words (run asked)
         → IsReady seen.shelf asked.script plan contents → calls ≡ with_listen (length plan.files + 1) asked.listen
-        → TellsRun seen.poller seen.clock plan asked.workers (run_text asked.journal plan contents) end → Written end
+        → TellsRun seen.poller seen.clock plan asked.workers asked.most (run_text asked.journal plan contents) end → Written end
     says_script asked plan contents end asks ready calls_are t = λ took answers.
         subst (λ (e : End). Says seen sink words result e.status) (sym t.end_is)
         (says_run t.state (inl (runs_script asked plan contents end asks ready calls_are t took answers)))

@@ -32,7 +32,7 @@ plain_end status text = record { status = status; journal = []; at = None; text 
 -- the words name no command
 abbrev pub usage_text : Bytes
 usage_text =
-    codes "usage: gcd run SCRIPT [--workers N] [--journal] [--listen ADDR] | gcd check SCRIPT JOURNAL | gcd big N [--workers W]\n"
+    codes "usage: gcd run SCRIPT [--workers N] [--journal] [--most N] [--listen ADDR] | gcd check SCRIPT JOURNAL | gcd big N [--workers W]\n"
 
 abbrev pub usage_end : End
 usage_end = plain_end NoCommand usage_text

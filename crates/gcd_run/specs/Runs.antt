@@ -22,24 +22,24 @@ use Rattle.gcd_run.specs.declared.stop.Stop.TheVariants.{Unread, Memory}
 -- ## A run
 
 -- the run is over: it is halted, full or quiescent, as its state says
-pub record IsOver (plan : PlanView) (h : List Event) (state : State) : Type 0 where
+pub record IsOver (most : ℕ) (plan : PlanView) (h : List Event) (state : State) : Type 0 where
   pub state_is : HasState plan h state
-  pub full : state ≡ Live → IsFull max_events plan h
+  pub full : state ≡ Live → IsFull most plan h
 
--- A plan has run by so many workers, and this is the run's whole journal: it is lawful; with one worker each event of a worker is
+-- A plan has run by so many workers, with at most so many events, and this is the run's whole journal: it is lawful; with one worker each event of a worker is
 -- what that worker chooses; no Tick is ahead of the clock, and moments waited for are due times; what the poller told stands in
 -- it, in order, and it is halted just where the poller failed (`RunsPlan` says all this); and it is over, in this state.
-pub record Ran (poller : Seen PollerState) (clock : Seen ClockState) (plan : PlanView) (workers : ℕ) (h : List Event) (state : State)
+pub record Ran (poller : Seen PollerState) (clock : Seen ClockState) (plan : PlanView) (workers most : ℕ) (h : List Event) (state : State)
     : Type 0 where
-  pub run : RunsPlan max_events plan workers poller clock h
-  pub over : IsOver plan h state
+  pub run : RunsPlan most plan workers poller clock h
+  pub over : IsOver most plan h state
 
 -- a plan has run over these contents of its files, and this is told of the run, by its journal and its state
-pub record TellsRun (poller : Seen PollerState) (clock : Seen ClockState) (plan : PlanView) (workers : ℕ)
+pub record TellsRun (poller : Seen PollerState) (clock : Seen ClockState) (plan : PlanView) (workers most : ℕ)
     (text : State → List Event → Bytes) (end : End) : Type 0 where
   pub h : List Event
   pub state : State
-  pub ran : Ran poller clock plan workers h state
+  pub ran : Ran poller clock plan workers most h state
   pub end_is : end ≡ ran_end state h (text state h)
 
 -- ## `run`
@@ -59,7 +59,7 @@ pub data RunEnds (seen : InputsSeen) (asked : RunAsked) (calls : Calls) (end : E
   stopped : (stop : Stop) → StopsRun seen asked calls stop → stop_end stop ≡ Some end → RunEnds seen asked calls end
   ran : (plan : PlanView) (contents : List Bytes) → IsReady seen.shelf asked.script plan contents
       → calls ≡ with_listen (length plan.files + 1) asked.listen
-      → TellsRun seen.poller seen.clock plan asked.workers (run_text asked.journal plan contents) end → RunEnds seen asked calls end
+      → TellsRun seen.poller seen.clock plan asked.workers asked.most (run_text asked.journal plan contents) end → RunEnds seen asked calls end
 
 -- The calls of `run` up to some step: a load of the script; one of each file of its plan, up to some file; a listen, only where
 -- one is asked for and all files are loaded.
@@ -84,9 +84,9 @@ pub record IsLarge (count : ℕ) (plan : PlanView) (contents : List Bytes) : Typ
   pub script : IsLargeScript count plan
   pub contents_are : contents ≡ map (λ file. large_file) plan.files
 
--- `big`: its plan ran
+-- `big`: its plan ran, with as many events as a run can have
 pub record BigEnds (poller : Seen PollerState) (clock : Seen ClockState) (count workers : ℕ) (end : End) : Type 0 where
   pub plan : PlanView
   pub contents : List Bytes
   pub large : IsLarge count plan contents
-  pub tells : TellsRun poller clock plan workers (large_text count plan contents) end
+  pub tells : TellsRun poller clock plan workers max_events (large_text count plan contents) end

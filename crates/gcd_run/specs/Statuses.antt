@@ -1,5 +1,6 @@
 -- What each status of a call says.
 use Rattle.std.specs.Prelude.{◌≡◌, ◌+◌, ◌⊎◌, ℕ, List, [], Option, Some, None, length}
+use Rattle.gcd_plan.specs.Limits.{max_events}
 use Rattle.gcd_plan.specs.PlanView.{PlanView}
 use Rattle.gcd_event.specs.declared.event.Event.{Event}
 use Rattle.gcd_history.specs.Ends.{HasState}
@@ -36,7 +37,7 @@ pub record RunsScript (seen : InputsSeen) (sink : SinkSeen) (words : List Bytes)
   pub asks : Asks words (run asked)
   pub ready : IsReady seen.shelf asked.script plan contents
   pub made : Made seen (with_listen (length plan.files + 1) asked.listen)
-  pub ran : Ran seen.poller seen.clock plan asked.workers result.journal.items state
+  pub ran : Ran seen.poller seen.clock plan asked.workers asked.most result.journal.items state
   pub at_is : result.at ≡ None
   pub written : Took sink (run_text asked.journal plan contents state result.journal.items)
 
@@ -49,7 +50,7 @@ pub record RunsLarge (seen : InputsSeen) (sink : SinkSeen) (words : List Bytes) 
   pub asks : Asks words (big count workers)
   pub large : IsLarge count plan contents
   pub made : Made seen (only_loads 0)
-  pub ran : Ran seen.poller seen.clock plan workers result.journal.items state
+  pub ran : Ran seen.poller seen.clock plan workers max_events result.journal.items state
   pub at_is : result.at ≡ None
   pub written : Took sink (large_text count plan contents state result.journal.items)
 

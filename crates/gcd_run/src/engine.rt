@@ -23,23 +23,26 @@ pub fn journal_of(run: Outcome) -> Vec<Event>
     run.journal
 }
 
-/// Runs the plan over its files by so many workers. An `Err` comes where memory runs out.
+/// Runs the plan over its files by so many workers, until it has come to its end or has `most` events. An `Err` comes where memory
+/// runs out.
 pub fn run_by<R: Threads + Wait + Sync, P: Poller, C: Clock>(
     rt: &R,
     alloc: Global,
     plan: &Plan,
-    files: &[Vec<u8>],
     workers: u8,
+    most: u32,
+    files: &[Vec<u8>],
     poller: &mut P,
     clock: &mut C,
 ) -> Result<Outcome, AllocError>
     requires files { length files.now ≡ length plan.now.files }
     requires workers { (0 < workers) × (workers ≤ max_workers) }
+    requires most { 0 < most }
     requires unwatched { (feed : ℕ) → (P.state poller.old).watched feed ≡ false }
-    ensures ran { IfOk result (λ o. Ran (seen_by P.tells P.state poller.old poller.new) (seen_by C.tells C.state clock.old clock.new) plan.now workers o.journal.items o.state) }
+    ensures ran { IfOk result (λ o. Ran (seen_by P.tells P.state poller.old poller.new) (seen_by C.tells C.state clock.old clock.new) plan.now workers most o.journal.items o.state) }
     ensures values { IfOk result (λ o. AreValues plan.now (contents files.now) o.journal.items o.values.items) }
     ensures stands { IfOk result (λ o. StandsFor o.machine plan.now o.journal.items) }
     ensures kept { KeepsListens P.tells (P.state poller.old) (P.state poller.new) }
 {
-    run_workers(rt, alloc, plan, files, workers, poller, clock)
+    run_workers(rt, alloc, plan, workers, most, files, poller, clock)
 }

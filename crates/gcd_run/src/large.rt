@@ -16,7 +16,7 @@ use crate::engine::{journal_of, run_by};
 use crate::story::{Story, bytes_of};
 use gcd_journal::write_last_line;
 use gcd_outer::{Clock, Poller};
-use gcd_plan::Plan;
+use gcd_plan::{MAX_EVENTS, Plan};
 use gcd_script::{ParseFault, big_text, parse};
 use gcd_words::BigRequest;
 use gcd_workers::Outcome;
@@ -117,7 +117,16 @@ pub fn tell_large<R: Threads + Wait + Sync, P: Poller, C: Clock>(
 {
     let plan = large_plan(alloc, u32::from(request.count))?;
     let files = large_files(alloc, &plan)?;
-    let run = run_by(rt, alloc, &plan, &files, request.workers, poller, clock)?;
+    let run = run_by(
+        rt,
+        alloc,
+        &plan,
+        request.workers,
+        MAX_EVENTS,
+        &files,
+        poller,
+        clock,
+    )?;
     let story = story_of(alloc, &plan, run, request.count)?;
     Ok(story)
 }

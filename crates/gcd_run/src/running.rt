@@ -114,13 +114,14 @@ fn story_of(
     Story::ran(state, journal_of(run), text)
 }
 
-// The plan runs over its files. An `Err` comes where memory runs out.
+// The plan runs over its files, with at most so many events. An `Err` comes where memory runs out.
 fn run_plan<R: Threads + Wait + Sync, P: Poller, C: Clock>(
     rt: &R,
     alloc: Global,
     plan: &Plan,
-    files: &[Vec<u8>],
     workers: u8,
+    most: u32,
+    files: &[Vec<u8>],
     with_journal: bool,
     poller: &mut P,
     clock: &mut C,
@@ -128,11 +129,12 @@ fn run_plan<R: Threads + Wait + Sync, P: Poller, C: Clock>(
     requires valid { IsPlan plan.now }
     requires files { length files.now ≡ length plan.now.files }
     requires workers { (0 < workers) × (workers ≤ max_workers) }
+    requires most { (0 < most) × (most ≤ max_events) }
     requires unwatched { (feed : ℕ) → (P.state poller.old).watched feed ≡ false }
-    ensures told { IfOk result (λ s. TellsRun (seen_by P.tells P.state poller.old poller.new) (seen_by C.tells C.state clock.old clock.new) plan.now workers (run_text with_journal plan.now (map (λ f. f.items) files.now)) (end_of s)) }
+    ensures told { IfOk result (λ s. TellsRun (seen_by P.tells P.state poller.old poller.new) (seen_by C.tells C.state clock.old clock.new) plan.now workers most (run_text with_journal plan.now (map (λ f. f.items) files.now)) (end_of s)) }
     ensures kept { KeepsListens P.tells (P.state poller.old) (P.state poller.new) }
 {
-    let run = run_by(rt, alloc, plan, files, workers, poller, clock)?;
+    let run = run_by(rt, alloc, plan, workers, most, files, poller, clock)?;
     let story = story_of(alloc, plan, run, with_journal)?;
     Ok(story)
 }
@@ -148,6 +150,7 @@ fn run_script<R: Threads + Wait + Sync, S: Shelf, P: Poller, C: Clock>(
 ) -> Result<Story, Stop>
     requires unwatched { (feed : ℕ) → (P.state poller.old).watched feed ≡ false }
     requires workers { (0 < request.workers) × (request.workers ≤ max_workers) }
+    requires most { (0 < request.most) × (request.most ≤ max_events) }
     ensures told { IfOk result (λ s. SomeCalls (record { shelf = shelf_seen S.tells S.content S.loads S.faults shelf.old shelf.new; poller = seen_by P.tells P.state poller.old poller.new; clock = seen_by C.tells C.state clock.old clock.new }) (λ calls. RunEnds (record { shelf = shelf_seen S.tells S.content S.loads S.faults shelf.old shelf.new; poller = seen_by P.tells P.state poller.old poller.new; clock = seen_by C.tells C.state clock.old clock.new }) (run_asked request.entry) calls (end_of s))) }
     ensures stopped { IfErr result (λ stop. SomeCalls (record { shelf = shelf_seen S.tells S.content S.loads S.faults shelf.old shelf.new; poller = seen_by P.tells P.state poller.old poller.new; clock = seen_by C.tells C.state clock.old clock.new }) (λ calls. StopsRun (record { shelf = shelf_seen S.tells S.content S.loads S.faults shelf.old shelf.new; poller = seen_by P.tells P.state poller.old poller.new; clock = seen_by C.tells C.state clock.old clock.new }) (run_asked request.entry) calls stop)) }
 {
@@ -157,8 +160,9 @@ fn run_script<R: Threads + Wait + Sync, S: Shelf, P: Poller, C: Clock>(
         rt,
         alloc,
         &plan,
-        &files,
         request.workers,
+        request.most,
+        &files,
         request.journal,
         poller,
         clock,
@@ -179,6 +183,7 @@ pub fn tell_run<R: Threads + Wait + Sync, S: Shelf, P: Poller, C: Clock>(
 ) -> Result<Story, AllocError>
     requires unwatched { (feed : ℕ) → (P.state poller.old).watched feed ≡ false }
     requires workers { (0 < request.workers) × (request.workers ≤ max_workers) }
+    requires most { (0 < request.most) × (request.most ≤ max_events) }
     ensures told { IfOk result (λ s. SomeCalls (record { shelf = shelf_seen S.tells S.content S.loads S.faults shelf.old shelf.new; poller = seen_by P.tells P.state poller.old poller.new; clock = seen_by C.tells C.state clock.old clock.new }) (λ calls. RunEnds (record { shelf = shelf_seen S.tells S.content S.loads S.faults shelf.old shelf.new; poller = seen_by P.tells P.state poller.old poller.new; clock = seen_by C.tells C.state clock.old clock.new }) (run_asked request.entry) calls (end_of s))) }
     ensures wanting { OnErr result (SomeCalls (record { shelf = shelf_seen S.tells S.content S.loads S.faults shelf.old shelf.new; poller = seen_by P.tells P.state poller.old poller.new; clock = seen_by C.tells C.state clock.old clock.new }) (RunCalls (record { shelf = shelf_seen S.tells S.content S.loads S.faults shelf.old shelf.new; poller = seen_by P.tells P.state poller.old poller.new; clock = seen_by C.tells C.state clock.old clock.new }) (run_asked request.entry))) }
 {

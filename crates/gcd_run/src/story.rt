@@ -58,7 +58,7 @@ impl Story {
         Story::plain(
             alloc,
             Status::NoCommand,
-            "usage: gcd run SCRIPT [--workers N] [--journal] [--listen ADDR] | gcd check SCRIPT JOURNAL | gcd big N [--workers W]\n",
+            "usage: gcd run SCRIPT [--workers N] [--journal] [--most N] [--listen ADDR] | gcd check SCRIPT JOURNAL | gcd big N [--workers W]\n",
         )
     }
 

@@ -83,7 +83,7 @@ fn call<R: Threads + Wait + Sync, S: Shelf, K: Sink, P: Poller, C: Clock>(
     }
 }
 
-/// Does what the words ask for: `run SCRIPT [--workers N] [--journal] [--listen ADDR]`, `check SCRIPT JOURNAL`,
+/// Does what the words ask for: `run SCRIPT [--workers N] [--journal] [--most N] [--listen ADDR]`, `check SCRIPT JOURNAL`,
 /// `big N [--workers W]`. They are the words after the program's name; scripts, files and journals are names on the shelf.
 ///
 /// | [`Status`], code | comes | text |
@@ -96,7 +96,7 @@ fn call<R: Threads + Wait + Sync, S: Shelf, K: Sink, P: Poller, C: Clock>(
 /// | `Unread`, 5 | the shelf or the poller failed in the call, or the shelf tells and lacks a name | `read fault`, after a run as the report's last line |
 /// | `CutOff`, 6 | the sink failed in the call | a proper prefix of the text |
 /// | `NoMemory`, 7 | memory ran out | nothing |
-/// | `Full`, 8 | the run has as many events as it may have, and goes on | the report |
+/// | `Full`, 8 | the run has as many events as it may have, `--most`, and goes on | the report |
 /// | `JournalRefused`, 9 | `check`: the text is no journal or is too long, and `at` is the line and 1; or an event is not permitted, and `at` is its index and 2 | `journal refused: line L`, `journal refused: event I` |
 ///
 /// Each is judged at its step, where no earlier step ended the call. No feed of the poller is watched yet. `journal` is that of

@@ -83,19 +83,13 @@ fn refusal(alloc: Global, stop: Stop) -> Result<Answer, AllocError> {
 }
 
 // The word of a state.
-fn state_word(state: State, events: usize) -> &'static str {
+fn state_word(state: State) -> &'static str {
     match state {
         State::Drained => "drained",
         State::Stuck => "stuck",
         State::Misused => "misuse",
         State::Halted => "halted",
-        State::Live => {
-            if events < MAX_EVENTS as usize {
-                "open"
-            } else {
-                "full"
-            }
-        }
+        State::Live => "open",
     }
 }
 
@@ -109,7 +103,7 @@ fn notes_of(
     requires { length events.now ≤ max_events }
 {
     let mut notes = Vec::new(alloc);
-    for sentence in why_run(alloc, plan, "", script, events)? {
+    for sentence in why_run(alloc, plan, MAX_EVENTS, "", script, events)? {
         let Sentence {
             file: _,
             line,
@@ -132,7 +126,7 @@ fn picture(alloc: Global, loaded: &Loaded, is_trace: bool) -> Result<String, All
         plan,
         marks: marks.as_slice(),
         events,
-        state: state_word(loaded.state, events.len()),
+        state: state_word(loaded.state),
         notes: notes.as_slice(),
         lines: &lines,
     };

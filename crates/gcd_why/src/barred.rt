@@ -1,5 +1,5 @@
 // The first event that is not permitted.
-ghost use Rattle.std.specs.Prelude.{◌+◌, ◌<◌, ◌^◌, [], length, IfOk, MatchOption};
+ghost use Rattle.std.specs.Prelude.{◌<◌, ◌^◌, [], length, IfOk, MatchOption};
 ghost use Rattle.gcd_history.specs.History.{IsLawful};
 ghost use Rattle.gcd_machine.specs.Stands.{StandsFor};
 ghost use Rattle.gcd_why.specs.Barred.{IsBarred};
@@ -19,7 +19,7 @@ pub fn find_barred(
     events: &[Event],
 ) -> Result<Option<Barred>, AllocError>
     requires begin { StandsFor machine.old plan.now [] }
-    requires few { length events.now + 2 < 2 ^ 32 }
+    requires few { length events.now < 2 ^ 32 }
     ensures { IfOk result (λ found. MatchOption found
         (IsLawful plan.now events.now)
         (λ b. IsBarred plan.now events.now b.index b.event b.reason)) }

@@ -1,5 +1,5 @@
 // Why an event of a journal is refused.
-ghost use Rattle.std.specs.Prelude.{◌≡◌, ◌+◌, ◌<◌, ◌^◌, [], length, IfOk, MatchOption};
+ghost use Rattle.std.specs.Prelude.{◌≡◌, ◌<◌, ◌^◌, [], length, IfOk, MatchOption};
 ghost use Rattle.gcd_history.specs.History.{IsLawful};
 ghost use Rattle.gcd_machine.specs.Stands.{StandsFor};
 ghost use Rattle.gcd_why.specs.Barred.{IsBarred};
@@ -55,7 +55,7 @@ fn say_by<'a>(
     scene: &mut Scene,
 ) -> Result<Option<EventSentence<'a>>, AllocError>
     requires begin { StandsFor machine.old plan.now [] }
-    requires few { length events.now + 2 < 2 ^ 32 }
+    requires few { length events.now < 2 ^ 32 }
     ensures { IfOk result (λ found. MatchOption found
         (IsLawful plan.now events.now)
         (λ s. IsBarred plan.now events.now s.barred.index s.barred.event s.barred.reason)) }
@@ -82,7 +82,7 @@ pub fn why_event<'a>(
     file: &'a str,
     events: &[Event],
 ) -> Result<Option<EventSentence<'a>>, AllocError>
-    requires few { length events.now + 2 < 2 ^ 32 }
+    requires few { length events.now < 2 ^ 32 }
     ensures { IfOk result (λ found. MatchOption found
         (IsLawful plan.now events.now)
         (λ s. IsBarred plan.now events.now s.barred.index s.barred.event s.barred.reason)) }

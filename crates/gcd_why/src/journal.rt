@@ -6,11 +6,12 @@ use gcd_cause::cause_of_journal;
 use gcd_plan::Plan;
 use std::alloc::{AllocError, Global};
 
-/// Says why a text, under this name, is no journal of the plan at that line, which the reader told. Line 0 is the text as a whole.
-/// An `Err` comes only where memory runs out.
+/// Says why a text, under this name, is no journal of the plan, of at most `most` events, at that line, which the reader told. Line 0
+/// is the text as a whole. An `Err` comes only where memory runs out.
 pub fn why_journal<'a>(
     alloc: Global,
     plan: &Plan,
+    most: u32,
     file: &'a str,
     text: &[u8],
     line: u32,
@@ -18,6 +19,6 @@ pub fn why_journal<'a>(
     ensures file { IfOk result (λ s. s.file.now ≡ file.now) }
     ensures line { IfOk result (λ s. s.line ≡ line) }
 {
-    let cause = cause_of_journal(alloc, plan, text, line)?;
+    let cause = cause_of_journal(alloc, plan, most, text, line)?;
     Sentence::of(alloc, file, line, cause)
 }

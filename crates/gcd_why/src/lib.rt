@@ -6,7 +6,7 @@
 //! | [`why_script`] | why the script is refused at that line with that code, which the parser told |
 //! | [`why_journal`] | why the text is no journal at that line, which the reader told |
 //! | [`why_event`] | which event is the first that is not permitted, the reason that the definitions give it (`why`), and what is in the way |
-//! | [`why_run`] | of a stuck run what each block waits for, down to the cause; of a drained one what never came; of a misuse the act and the rule; of a full one how far it came |
+//! | [`why_run`] | of a stuck run what each block waits for, down to the cause; of a drained one what never came; of a misuse the act and the rule; of a full one how far it came, and how to let it go on |
 //! | [`why_words`] | which word of a command line is refused |
 //! | [`Unread`], [`CUT_OFF`], [`NO_MEMORY`] | what could not be read; that standard output cannot be written; that memory ran out |
 //!

@@ -1,5 +1,5 @@
 // Why a run ended as it did.
-ghost use Rattle.std.specs.Prelude.{◌+◌, ◌<◌, ◌^◌, [], length};
+ghost use Rattle.std.specs.Prelude.{◌<◌, ◌^◌, [], length};
 ghost use Rattle.gcd_machine.specs.Stands.{StandsFor};
 
 use crate::barred::find_barred;
@@ -21,6 +21,7 @@ const MAX_SAID: usize = 200;
 #[derive(Drop)]
 struct Saying<'a> {
     alloc: Global,
+    most: u32,
     file: &'a str,
     places: Places,
     said: Vec<Sentence<'a>>,
@@ -156,7 +157,7 @@ impl<'a> Saying<'a> {
         self.add(line, text)
     }
 
-    // How far a run came that was cut off.
+    // How far a run came that has as many events as it may have.
     fn full(&mut self, sight: Sight) -> Result<(), AllocError> {
         let (mut ended, mut open, mut left) = (0u32, 0u32, 0u32);
         for b in 0..sight.plan.blocks() {
@@ -168,11 +169,21 @@ impl<'a> Saying<'a> {
                 left = left.saturating_add(1);
             }
         }
-        let time = sight.scene.time;
+        let (most, time) = (self.most, sight.scene.time);
+        let more = more_words(most);
         let text = format!(in self.alloc;
-            "the run has {MAX_EVENTS} events, the most that one may have, and goes on: {ended} blocks have ended, {open} are open, {left} wait for their start, at {time} ms"
+            "the run has {most} events, the most that it may have (--most {most}), and goes on: {ended} blocks have ended, {open} are open, {left} wait for their start, at {time} ms{more}"
         )?;
         self.add(0, text)
+    }
+}
+
+// How to let a run have more events than these, where one may.
+fn more_words(most: u32) -> &'static str {
+    if most < MAX_EVENTS {
+        "; a greater --most lets it go on"
+    } else {
+        ""
     }
 }
 
@@ -221,7 +232,7 @@ fn say_state(
         }
         State::Halted => Ok(()),
         State::Live => {
-            if events.len() < MAX_EVENTS as usize {
+            if events.len() < saying.most as usize {
                 Ok(())
             } else {
                 saying.full(sight)
@@ -239,7 +250,7 @@ fn say_by(
     scene: &mut Scene,
 ) -> Result<(), AllocError>
     requires begin { StandsFor machine.old plan.now [] }
-    requires few { length events.now + 2 < 2 ^ 32 }
+    requires few { length events.now < 2 ^ 32 }
 {
     if find_barred(plan, machine, scene, events)?.is_some() {
         return Ok(());
@@ -256,19 +267,22 @@ fn say_by(
 /// Says why a run of the plan ended as it did, by its events; the script's name and text give the lines. Of a stuck run it says of
 /// each parked block, and of each that is submitted and has not started, what it waits for, down to the cause, and of a cycle that
 /// it is one; of a stuck or drained run also which notify blocks never came, and what was never delivered; of a misuse the act and
-/// the rule that it breaks; of a full run how far it came. Nothing of events that are not lawful, and no more than 200 sentences.
-/// An `Err` comes only where memory runs out.
+/// the rule that it breaks; of a run that goes on and has `most` events, the most that it may have, how far it came, and that a
+/// greater `--most` lets it go on. Nothing of events that are not lawful, and no more than 200 sentences. An `Err`
+/// comes only where memory runs out.
 pub fn why_run<'a>(
     alloc: Global,
     plan: &Plan,
+    most: u32,
     file: &'a str,
     text: &[u8],
     events: &[Event],
 ) -> Result<Vec<Sentence<'a>>, AllocError>
-    requires few { length events.now + 2 < 2 ^ 32 }
+    requires few { length events.now < 2 ^ 32 }
 {
     let mut saying = Saying {
         alloc,
+        most,
         file,
         places: Places::of(alloc, plan, text)?,
         said: Vec::new(alloc),
@@ -278,6 +292,7 @@ pub fn why_run<'a>(
     say_by(plan, &mut saying, events, &mut machine, &mut scene)?;
     let Saying {
         alloc: _,
+        most: _,
         file: _,
         places: _,
         said,

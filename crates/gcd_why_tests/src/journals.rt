@@ -11,9 +11,15 @@ use std::test::Fail;
 // A journal, and what is said of it.
 type Row = (&'static str, &'static str);
 
-// What is said of the journal, with what the reader tells.
-fn said_of(rt: &impl Abort, alloc: Global, plan: &Plan, text: &str) -> Result<String, Fail> {
-    match read_journal(alloc, plan, MAX_EVENTS, text.as_bytes()) {
+// What is said of the journal, which may have so many events, with what the reader tells.
+fn said_of(
+    rt: &impl Abort,
+    alloc: Global,
+    plan: &Plan,
+    most: u32,
+    text: &str,
+) -> Result<String, Fail> {
+    match read_journal(alloc, plan, most, text.as_bytes()) {
         Ok(events) => {
             assert!(rt; events.len() < 1_000);
             match why_event(alloc, plan, "j", &events)? {
@@ -25,20 +31,27 @@ fn said_of(rt: &impl Abort, alloc: Global, plan: &Plan, text: &str) -> Result<St
             }
         }
         Err(JournalFault::Refused { line }) => {
-            let said = why_journal(alloc, plan, "j", text.as_bytes(), line)?;
+            assert!(rt; line < 1_000);
+            let said = why_journal(alloc, plan, most, "j", text.as_bytes(), line as u32)?;
             Ok(format!(in alloc; "{said}")?)
         }
         Err(JournalFault::Memory) => Ok(String::from_str(alloc, "out of memory")?),
     }
 }
 
-fn are_said(rt: &impl Abort, alloc: Global, script: &str, rows: &[Row]) -> Result<(), Fail> {
+fn are_said(
+    rt: &impl Abort,
+    alloc: Global,
+    most: u32,
+    script: &str,
+    rows: &[Row],
+) -> Result<(), Fail> {
     assert!(rt; script.len() < 10_000);
     let Ok(plan) = parse(alloc, script.as_bytes()) else {
         panic!(rt; "no script");
     };
     for (text, want) in rows {
-        let said = said_of(rt, alloc, &plan, text)?;
+        let said = said_of(rt, alloc, &plan, most, text)?;
         assert_eq!(rt; said.as_str(), *want);
     }
     Ok(())
@@ -108,6 +121,12 @@ static LINES: [Row; 16] = [
     ),
     ("start 0 main\r\n", "j:1: column 13 holds the byte 13"),
 ];
+
+// Of journals that may have two events.
+static LONGER: [Row; 1] = [(
+    "start 0 main\nact 0 main 0\nact 0 main 1\nevents 3\n",
+    "j:3: a journal has at most 2 events",
+)];
 
 static BEGINS: [Row; 9] = [
     (
@@ -272,26 +291,27 @@ static CAME: [Row; 1] = [(
 
 #[test]
 fn lines(rt: HostRuntime) -> Result<(), Fail> {
-    are_said(&rt, rt.alloc(), WAITS, &LINES)
+    are_said(&rt, rt.alloc(), MAX_EVENTS, WAITS, &LINES)?;
+    are_said(&rt, rt.alloc(), 2, WAITS, &LONGER)
 }
 
 #[test]
 fn limits(rt: HostRuntime) -> Result<(), Fail> {
-    are_said(&rt, rt.alloc(), LIMITED, &LIMITS)?;
-    are_said(&rt, rt.alloc(), SIGNALLED, &CAME)
+    are_said(&rt, rt.alloc(), MAX_EVENTS, LIMITED, &LIMITS)?;
+    are_said(&rt, rt.alloc(), MAX_EVENTS, SIGNALLED, &CAME)
 }
 
 #[test]
 fn begins(rt: HostRuntime) -> Result<(), Fail> {
-    are_said(&rt, rt.alloc(), WAITS, &BEGINS)
+    are_said(&rt, rt.alloc(), MAX_EVENTS, WAITS, &BEGINS)
 }
 
 #[test]
 fn goings(rt: HostRuntime) -> Result<(), Fail> {
-    are_said(&rt, rt.alloc(), WAITS, &GOINGS)
+    are_said(&rt, rt.alloc(), MAX_EVENTS, WAITS, &GOINGS)
 }
 
 #[test]
 fn holds(rt: HostRuntime) -> Result<(), Fail> {
-    are_said(&rt, rt.alloc(), HELD, &HOLDS)
+    are_said(&rt, rt.alloc(), MAX_EVENTS, HELD, &HOLDS)
 }

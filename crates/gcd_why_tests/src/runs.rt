@@ -12,27 +12,33 @@ use std::test::Fail;
 // A script, a journal of it, and what is said: the sentences, each with an end.
 type Row = (&'static str, &'static str, &'static str);
 
-// What is said of the run.
-fn said_of(rt: &impl Abort, alloc: Global, script: &str, journal: &str) -> Result<String, Fail> {
+// What is said of the run, which may have so many events.
+fn said_of(
+    rt: &impl Abort,
+    alloc: Global,
+    most: u32,
+    script: &str,
+    journal: &str,
+) -> Result<String, Fail> {
     assert!(rt; script.len() < 10_000);
     let Ok(plan) = parse(alloc, script.as_bytes()) else {
         panic!(rt; "no script");
     };
-    let Ok(events) = read_journal(alloc, &plan, MAX_EVENTS, journal.as_bytes()) else {
+    let Ok(events) = read_journal(alloc, &plan, most, journal.as_bytes()) else {
         panic!(rt; "no journal");
     };
     assert!(rt; events.len() < 1_000);
     let mut text = String::new(alloc);
-    for sentence in why_run(alloc, &plan, "s", script.as_bytes(), &events)?.as_slice() {
+    for sentence in why_run(alloc, &plan, most, "s", script.as_bytes(), &events)?.as_slice() {
         let line = format!(in alloc; "{sentence}\n")?;
         text.push_str(line.as_str())?;
     }
     Ok(text)
 }
 
-fn are_said(rt: &impl Abort, alloc: Global, rows: &[Row]) -> Result<(), Fail> {
+fn are_said(rt: &impl Abort, alloc: Global, most: u32, rows: &[Row]) -> Result<(), Fail> {
     for (script, journal, want) in rows {
-        let said = said_of(rt, alloc, script, journal)?;
+        let said = said_of(rt, alloc, most, script, journal)?;
         assert_eq!(rt; said.as_str(), *want);
     }
     Ok(())
@@ -119,6 +125,20 @@ static LEFT: [Row; 4] = [
     ),
 ];
 
+// Of runs that may have three events.
+static FULL: [Row; 2] = [
+    (
+        "block b\nmain\nasync root b\n",
+        "start 0 main\nact 0 main 0\nend 0 main\nevents 3\n",
+        "s: the run has 3 events, the most that it may have (--most 3), and goes on: 1 blocks have ended, 0 are open, 1 wait for their start, at 0 ms; a greater --most lets it go on\n",
+    ),
+    (
+        "block b\nmain\nasync root b\n",
+        "start 0 main\nact 0 main 0\nevents 2\n",
+        "",
+    ),
+];
+
 static MISUSES: [Row; 8] = [
     (
         "queue q serial\nmain\nresume q\n",
@@ -164,15 +184,16 @@ static MISUSES: [Row; 8] = [
 
 #[test]
 fn stuck(rt: HostRuntime) -> Result<(), Fail> {
-    are_said(&rt, rt.alloc(), &STUCK)
+    are_said(&rt, rt.alloc(), MAX_EVENTS, &STUCK)
 }
 
 #[test]
 fn left(rt: HostRuntime) -> Result<(), Fail> {
-    are_said(&rt, rt.alloc(), &LEFT)
+    are_said(&rt, rt.alloc(), MAX_EVENTS, &LEFT)?;
+    are_said(&rt, rt.alloc(), 3, &FULL)
 }
 
 #[test]
 fn misuses(rt: HostRuntime) -> Result<(), Fail> {
-    are_said(&rt, rt.alloc(), &MISUSES)
+    are_said(&rt, rt.alloc(), MAX_EVENTS, &MISUSES)
 }

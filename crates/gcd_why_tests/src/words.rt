@@ -23,7 +23,7 @@ fn are_said(rt: &impl Abort, alloc: Global, rows: &[Row]) -> Result<(), Fail> {
     Ok(())
 }
 
-static ROWS: [Row; 15] = [
+static ROWS: [Row; 20] = [
     ("", "gcd: no command is named: run, check or big"),
     ("walk s", "gcd: 'walk' is no command: run, check or big"),
     (
@@ -40,6 +40,7 @@ static ROWS: [Row; 15] = [
         "gcd: 'check' has no option '--workers'",
     ),
     ("run s --workers", "gcd: no value follows '--workers'"),
+    ("run s --most", "gcd: no value follows '--most'"),
     (
         "run s --workers 65",
         "gcd: '65' is no number of workers: a number from 1 to 64",
@@ -48,6 +49,16 @@ static ROWS: [Row; 15] = [
         "run s --workers=0",
         "gcd: '0' is no number of workers: a number from 1 to 64",
     ),
+    (
+        "run s --most 0",
+        "gcd: '0' is no number of events: a number from 1 to 4294967295",
+    ),
+    (
+        "run s --most=4294967296",
+        "gcd: '4294967296' is no number of events: a number from 1 to 4294967295",
+    ),
+    ("run s --most 2 --most 3", "gcd: '--most' stands twice"),
+    ("check s j --most 2", "gcd: 'check' has no option '--most'"),
     ("run s --journal --journal", "gcd: '--journal' stands twice"),
     ("run s --journal=yes", "gcd: '--journal' takes no value"),
     (
@@ -73,6 +84,7 @@ fn calls_for_help(rt: HostRuntime) -> Result<(), Fail> {
         "big N",
         "--workers",
         "--journal",
+        "--most",
         "--listen",
     ] {
         assert!(rt; help.as_str().contains(word), "{word}");

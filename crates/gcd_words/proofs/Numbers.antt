@@ -20,11 +20,11 @@ digits_from (d ∷ ds) e =
     (ltb-true _ _ parts.0, digits_from ds parts.1)
 
 -- the text's number, by what `parse` gives
-pub number_read : {E : Type 0} (text : Text) (r : Result ℕ E) → ParsesUnsigned 16 10 text r → result_unwrap_or r 0 ≡ number_or_zero text
+pub number_read : {E : Type 0} (text : Text) (r : Result ℕ E) → ParsesUnsigned 32 10 text r → result_unwrap_or r 0 ≡ number_or_zero text
 unfolding number_or_zero
 number_read text (Ok n) h =
     let ds = without_leading_plus text in
-    rw (lt-ltb 0 (length ds) h.0.0.0, digits_pass ds h.0.0.1, lt-ltb (digits_value 10 ds) 65536 h.0.1) h.1
+    rw (lt-ltb 0 (length ds) h.0.0.0, digits_pass ds h.0.0.1, lt-ltb (digits_value 10 ds) 4294967296 h.0.1) h.1
 number_read text (Err e) h = go (is_number (without_leading_plus text)) refl
   where
     go : (b : Bool) → is_number (without_leading_plus text) ≡ b → 0 ≡ number_or_zero text

@@ -5,15 +5,17 @@ use Rattle.std.specs.Option.{option_map_or}
 use Rattle.std.specs.Str.{bytes_eq}
 use Rattle.std.specs.Str.Parse.{digits_value, without_leading_plus}
 use Rattle.std.specs.Char.{digit_value}
-use Rattle.gcd_plan.specs.Limits.{max_workers}
+use Rattle.gcd_plan.specs.Limits.{max_workers, max_events}
 use Rattle.clap.specs.Words.{Row, Text, first_of, subcommand_of, fault_of, Kinds, takes}
 use Rattle.gcd_words.specs.CommandLine.{gcd_app, max_big}
 
--- a run of the script of this name, by so many workers; with its journal or not; with the address to listen at, if any
+-- a run of the script of this name, by so many workers and of at most so many events; with its journal or not; with the address to
+-- listen at, if any
 pub record RunAsked : Type 0 where
   pub script : Text
   pub workers : ℕ
   pub journal : Bool
+  pub most : ℕ
   pub listen : Option Text
 
 -- what is asked: a run, the judgement of a journal, or a run of the large script
@@ -22,11 +24,11 @@ pub data Asked : Type 0 where
   check : (script journal : Text) → Asked
   big : (count workers : ℕ) → Asked
 
--- the text is a number below 2 ^ 16
+-- the text is a number below 2 ^ 32
 abbrev pub is_number : Text → Bool
-is_number ds = nat_lt 0 (length ds) && list_all (λ d. nat_lt (digit_value d) 10) ds && nat_lt (digits_value 10 ds) 65536
+is_number ds = nat_lt 0 (length ds) && list_all (λ d. nat_lt (digit_value d) 10) ds && nat_lt (digits_value 10 ds) 4294967296
 
--- the number that a text spells, or 0 where it spells none below 2 ^ 16; `clap` has refused such a text
+-- the number that a text spells, or 0 where it spells none below 2 ^ 32; `clap` has refused such a text
 unfoldable pub number_or_zero : Text → ℕ
 number_or_zero text =
     let ds = without_leading_plus text in
@@ -44,12 +46,17 @@ within most text = min (max (number_or_zero text) 1) most
 abbrev pub workers_in : List Row → ℕ
 workers_in rows = option_map_or (within max_workers) (first_of (codes "workers") rows) 1
 
+-- how many events a run may have: as many as a run can have where the option is absent
+abbrev pub most_in : List Row → ℕ
+most_in rows = option_map_or (within max_events) (first_of (codes "most") rows) max_events
+
 -- what `run` asks for
 abbrev pub run_in : List Row → Asked
 run_in rows = run (record {
   script = value_in (codes "SCRIPT") rows;
   workers = workers_in rows;
   journal = bytes_eq (value_in (codes "journal") rows) (codes "true");
+  most = most_in rows;
   listen = first_of (codes "listen") rows;
 })
 
@@ -69,7 +76,7 @@ asked_by (name, rows) =
 
 -- its numbers are in their ranges
 abbrev pub IsInRange : Asked → Type 0
-IsInRange (run asked) = (0 < asked.workers) × (asked.workers ≤ max_workers)
+IsInRange (run asked) = (0 < asked.workers) × (asked.workers ≤ max_workers) × (0 < asked.most) × (asked.most ≤ max_events)
 IsInRange (check script journal) = Unit {0}
 IsInRange (big count workers) = (0 < count) × (count ≤ max_big) × (0 < workers) × (workers ≤ max_workers)
 

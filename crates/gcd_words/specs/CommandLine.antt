@@ -2,7 +2,7 @@
 use Rattle.std.specs.Prelude.{ℕ, Some, [], ◌-◌, true, pos, codes}
 use Rattle.clap.specs.Words.{App, Rule, Text, new_app, new_rule, with_rule, with_subcommand}
 use Rattle.clap.specs.declared.builder.action.ArgAction.TheVariants.{SetTrue}
-use Rattle.gcd_plan.specs.Limits.{max_workers, max_blocks}
+use Rattle.gcd_plan.specs.Limits.{max_workers, max_blocks, max_events}
 use Rattle.clap.specs.declared.builder.value_parser.ValueParser.TheVariants as vp
 
 -- an argument that stands by its place and has to be there
@@ -21,6 +21,10 @@ max_big = max_blocks - 1
 abbrev pub workers_rule : Rule
 workers_rule = record (option_rule (codes "workers")) { parser = Some (vp.Signed (pos 1) (pos max_workers)) }
 
+-- an option with a limit of events
+abbrev pub most_rule : Rule
+most_rule = record (option_rule (codes "most")) { parser = Some (vp.Signed (pos 1) (pos max_events)) }
+
 -- the number of blocks of the large script
 abbrev pub count_rule : Rule
 count_rule = record (required_rule (codes "N")) { parser = Some (vp.Signed (pos 1) (pos max_big)) }
@@ -29,11 +33,11 @@ count_rule = record (required_rule (codes "N")) { parser = Some (vp.Signed (pos 
 abbrev pub journal_rule : Rule
 journal_rule = record (option_rule (codes "journal")) { action = Some SetTrue }
 
--- `run SCRIPT [--workers N] [--journal] [--listen ADDR]`
+-- `run SCRIPT [--workers N] [--journal] [--most N] [--listen ADDR]`
 unfoldable pub run_app : App
 run_app =
-    with_rule (with_rule (with_rule (with_rule (new_app (codes "run"))
-    (required_rule (codes "SCRIPT"))) workers_rule) journal_rule) (option_rule (codes "listen"))
+    with_rule (with_rule (with_rule (with_rule (with_rule (new_app (codes "run"))
+    (required_rule (codes "SCRIPT"))) workers_rule) journal_rule) most_rule) (option_rule (codes "listen"))
 
 -- `check SCRIPT JOURNAL`
 unfoldable pub check_app : App

@@ -7,7 +7,7 @@ use Rattle.gcd_words.specs.declared.request.RunRequest.{RunRequest}
 
 -- what a request to run asks for
 abbrev pub run_asked : RunRequest → RunAsked
-run_asked r = record { script = r.script.now; workers = r.workers; journal = r.journal; listen = option_map (λ t. t.now) r.listen }
+run_asked r = record { script = r.script.now; workers = r.workers; journal = r.journal; most = r.most; listen = option_map (λ t. t.now) r.listen }
 
 -- what a request asks for
 abbrev pub asked_of : Request → Asked

@@ -2,10 +2,10 @@
 ghost use Rattle.std.specs.Prelude.{◌≡◌, IfOk, false};
 ghost use Rattle.clap.specs.Words.{app_of, rule_of, with_rule};
 ghost use Rattle.clap.specs.declared.builder.command.Command.TheViews.{out-Command};
-ghost use Rattle.gcd_words.specs.CommandLine.{run_app, check_app, big_app, gcd_app, workers_rule, count_rule, journal_rule, required_rule, option_rule};
+ghost use Rattle.gcd_words.specs.CommandLine.{run_app, check_app, big_app, gcd_app, workers_rule, most_rule, count_rule, journal_rule, required_rule, option_rule};
 
 use clap::{Arg, ArgAction, Command, value_parser};
-use gcd_plan::{MAX_BLOCKS, MAX_WORKERS};
+use gcd_plan::{MAX_BLOCKS, MAX_EVENTS, MAX_WORKERS};
 use std::alloc::{AllocError, Global};
 
 /// The most blocks of the large script: `main` is none of them.
@@ -32,6 +32,15 @@ fn workers<'a>(alloc: Global) -> Arg<'a>
     Arg::new(alloc, "workers")
         .long("workers")
         .value_parser(value_parser!(u8).range(1..=i64::from(MAX_WORKERS)))
+}
+
+fn most<'a>(alloc: Global) -> Arg<'a>
+    ensures rule { rule_of result ≡ most_rule }
+    ensures local { result.global ≡ false }
+{
+    Arg::new(alloc, "most")
+        .long("most")
+        .value_parser(value_parser!(u32).range(1..=i64::from(MAX_EVENTS)))
 }
 
 fn count<'a>(alloc: Global) -> Arg<'a>
@@ -69,6 +78,7 @@ fn run<'a>(alloc: Global) -> Result<Command<'a>, AllocError>
     let command = with(Command::new(alloc, "run"), required(alloc, "SCRIPT"))?;
     let command = with(command, workers(alloc))?;
     let command = with(command, journal(alloc))?;
+    let command = with(command, most(alloc))?;
     with(command, option(alloc, "listen"))
 }
 

@@ -2,7 +2,7 @@
 //!
 //! | command | what it asks for ([`Request`]) |
 //! |---|---|
-//! | `run SCRIPT [--workers N] [--journal] [--listen ADDR]` | a run of the script; N from 1 to 64, 1 where it is absent |
+//! | `run SCRIPT [--workers N] [--journal] [--most N] [--listen ADDR]` | a run of the script; by at most N workers, from 1 to 64, 1 where it is absent; of at most N events, from 1 to 4,294,967,295, which is the number where it is absent |
 //! | `check SCRIPT JOURNAL` | the judgement of a journal |
 //! | `big N [--workers W]` | a run of the large script with N blocks, from 1 to 16,384 |
 //!

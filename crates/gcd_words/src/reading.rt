@@ -1,25 +1,25 @@
 // Reading the words.
 ghost use Rattle.std.specs.Prelude.{◌≡◌, ◌<◌, ◌≤◌, IfOk, IfSome, is_some, map, option_map, true};
 ghost use Rattle.clap.specs.Words.{first_of, found_of, rows_of, subcommand_rows_of};
-ghost use Rattle.gcd_plan.specs.Limits.{max_workers};
-ghost use Rattle.gcd_words.specs.Asked.{AreTaken, IsInRange, asked_by, big_in, check_in, number_or_zero, request_of, run_in, value_in, within, workers_in};
+ghost use Rattle.gcd_plan.specs.Limits.{max_events, max_workers};
+ghost use Rattle.gcd_words.specs.Asked.{AreTaken, IsInRange, asked_by, big_in, check_in, number_or_zero, request_of, most_in, run_in, value_in, within, workers_in};
 ghost use Rattle.gcd_words.specs.Requests.{asked_of};
 
 use crate::command_line::{MAX_BIG, gcd};
 use crate::request::{BigRequest, CheckRequest, Request, RunRequest};
 use clap::ArgMatches;
 use clap::error::ErrorKind;
-use gcd_plan::MAX_WORKERS;
+use gcd_plan::{MAX_EVENTS, MAX_WORKERS};
 use std::alloc::{AllocError, Global};
 
-fn number(text: &str) -> u16
+fn number(text: &str) -> u32
     ensures { result ≡ number_or_zero text.now }
 {
-    text.parse::<u16>().unwrap_or(0)
+    text.parse::<u32>().unwrap_or(0)
 }
 
 // The number of a text that the parser has found in the range.
-fn in_range(text: &str, most: u16) -> u16
+fn in_range(text: &str, most: u32) -> u32
     requires { 0 < most }
     ensures value { result ≡ within most text.now }
     ensures some { 0 < result }
@@ -41,8 +41,19 @@ fn workers(found: &ArgMatches) -> u8
     ensures few { result ≤ max_workers }
 {
     match first(found, "workers") {
-        Some(text) => in_range(text, MAX_WORKERS as u16) as u8,
+        Some(text) => in_range(text, MAX_WORKERS) as u8,
         None => 1,
+    }
+}
+
+fn most(found: &ArgMatches) -> u32
+    ensures value { result ≡ most_in (rows_of (found_of found.now)) }
+    ensures some { 0 < result }
+    ensures few { result ≤ max_events }
+{
+    match first(found, "most") {
+        Some(text) => in_range(text, MAX_EVENTS),
+        None => MAX_EVENTS,
     }
 }
 
@@ -63,6 +74,7 @@ fn run<'a>(found: &ArgMatches<'a>) -> Request<'a>
         script: value(found, "SCRIPT"),
         workers: workers(found),
         journal: value(found, "journal") == "true",
+        most: most(found),
         listen: first(found, "listen"),
     })
 }
@@ -82,7 +94,7 @@ fn big<'a>(found: &ArgMatches<'a>) -> Request<'a>
     ensures range { IsInRange (asked_of result) }
 {
     Request::Big(BigRequest {
-        count: in_range(value(found, "N"), MAX_BIG),
+        count: in_range(value(found, "N"), MAX_BIG as u32) as u16,
         workers: workers(found),
     })
 }

@@ -9,6 +9,8 @@ pub struct RunRequest<'a> {
     pub workers: u8,
     /// Whether the journal is written before the report.
     pub journal: bool,
+    /// How many events it may have, from 1 to 4,294,967,295.
+    pub most: u32,
     /// The address at which connections are accepted, if one is given.
     pub listen: Option<&'a str>,
 }
@@ -34,7 +36,7 @@ pub struct BigRequest {
 /// What the words ask for.
 #[derive(Clone, Copy, Debug, PartialEq, Eq)]
 pub enum Request<'a> {
-    /// `run SCRIPT [--workers N] [--journal] [--listen ADDR]`
+    /// `run SCRIPT [--workers N] [--journal] [--most N] [--listen ADDR]`
     Run(RunRequest<'a>),
     /// `check SCRIPT JOURNAL`
     Check(CheckRequest<'a>),

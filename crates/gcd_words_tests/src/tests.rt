@@ -3,14 +3,13 @@ use std::alloc::Global;
 use std::process::Abort;
 use std::test::Fail;
 
-const fn run<'a>(workers: u8, journal: bool, listen: Option<&'a str>) -> Option<Request<'a>> {
-    Some(Request::Run(RunRequest {
-        script: "s",
-        workers,
-        journal,
-        listen,
-    }))
-}
+const RUN: RunRequest = RunRequest {
+    script: "s",
+    workers: 1,
+    journal: false,
+    most: 4_294_967_295,
+    listen: None,
+};
 
 fn is_read_as(
     rt: &impl Abort,
@@ -33,21 +32,62 @@ fn words_ask_for_commands(rt: HostRuntime) -> Result<(), Fail> {
         count: 16384,
         workers: 2,
     };
-    let rows: [(&[&str], Option<Request>); 13] = [
-        (&["run", "s"], run(1, false, None)),
+    let team = RunRequest {
+        workers: 64,
+        journal: true,
+        ..RUN
+    };
+    let listening = RunRequest {
+        listen: Some("[::1]:0"),
+        ..RUN
+    };
+    let short = RunRequest { most: 1, ..RUN };
+    let limited = RunRequest {
+        workers: 2,
+        journal: true,
+        most: 65_536,
+        listen: Some("[::1]:0"),
+        ..RUN
+    };
+    let rows: [(&[&str], Option<Request>); 21] = [
+        (&["run", "s"], Some(Request::Run(RUN))),
         (
             &["run", "s", "--workers", "64", "--journal"],
-            run(64, true, None),
+            Some(Request::Run(team)),
         ),
         (
             &["run", "--listen", "[::1]:0", "s"],
-            run(1, false, Some("[::1]:0")),
+            Some(Request::Run(listening)),
+        ),
+        (&["run", "s", "--most", "1"], Some(Request::Run(short))),
+        (
+            &["run", "s", "--most", "4294967295"],
+            Some(Request::Run(RUN)),
+        ),
+        (
+            &[
+                "run",
+                "s",
+                "--workers",
+                "2",
+                "--journal",
+                "--most",
+                "65536",
+                "--listen",
+                "[::1]:0",
+            ],
+            Some(Request::Run(limited)),
         ),
         (&["check", "s", "j"], Some(Request::Check(check))),
         (&["big", "16384", "--workers", "2"], Some(Request::Big(big))),
         (&[], None),
         (&["run"], None),
         (&["run", "s", "--workers", "65"], None),
+        (&["run", "s", "--most", "0"], None),
+        (&["run", "s", "--most", "4294967296"], None),
+        (&["run", "s", "--most", "x"], None),
+        (&["run", "s", "--most"], None),
+        (&["check", "s", "j", "--most", "1"], None),
         (&["run", "s", "t"], None),
         (&["big", "0"], None),
         (&["big", "16385"], None),

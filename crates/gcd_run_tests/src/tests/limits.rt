@@ -2,7 +2,7 @@
 
 use super::cases::{Case, RUN};
 use super::journals::LONGER;
-use super::{answers_from, is_answered};
+use super::{answers_from, are_answered, is_answered};
 use gcd_outer::MapShelf;
 use gcd_run::Status;
 use std::alloc::{AllocError, Global};
@@ -17,17 +17,95 @@ fn repeated(alloc: Global, first: &str, line: &str, count: u32) -> Result<String
     Ok(script)
 }
 
+// Its events are one for each act, and two of `main`.
 const LONG: Case = Case {
-    what: "as many events as a run may have",
+    what: "a run that nothing limits",
+    events: Some(65_536),
+    ..RUN
+};
+
+const WHOLE: Case = Case {
+    what: "a run of as many events as are asked for at most",
+    words: &["run", "s", "--most", "65535"],
     events: Some(65_535),
     ..RUN
 };
 
 const FULL: Case = Case {
-    what: "one event more",
+    what: "a run of one event more",
+    words: &["run", "s", "--most", "65535"],
     status: Status::Full,
     events: Some(65_535),
     text: "full\n",
+    ..RUN
+};
+
+// A run of five events.
+const WORKED: &str = "file log log.txt\nqueue q serial\nblock b1 lines log\nmain\nasync q b1";
+
+// What may stand after `--most`.
+static MOST: [Case; 8] = [
+    Case {
+        what: "three events at most",
+        words: &["run", "s", "--most", "3"],
+        script: WORKED,
+        status: Status::Full,
+        events: Some(3),
+        text: "full\n",
+        ..RUN
+    },
+    Case {
+        what: "three events at most, by a team",
+        words: &["run", "s", "--workers", "4", "--most", "3"],
+        script: WORKED,
+        status: Status::Full,
+        events: Some(3),
+        text: "full\n",
+        ..RUN
+    },
+    Case {
+        what: "one event at most",
+        words: &["run", "s", "--journal", "--most", "1"],
+        script: WORKED,
+        status: Status::Full,
+        events: Some(1),
+        text: "start 0 main\nevents 1\nfull\n",
+        ..RUN
+    },
+    Case {
+        what: "as many events as a run can have",
+        words: &["run", "s", "--most", "4294967295"],
+        script: WORKED,
+        events: Some(5),
+        text: "b1 = 3\ndrained\n",
+        ..RUN
+    },
+    Case {
+        what: "no event at most",
+        words: &["run", "s", "--most", "0"],
+        ..NO_NUMBER
+    },
+    Case {
+        what: "more events than a run can have",
+        words: &["run", "s", "--most", "4294967296"],
+        ..NO_NUMBER
+    },
+    Case {
+        what: "a limit that is no number",
+        words: &["run", "s", "--most", "x"],
+        ..NO_NUMBER
+    },
+    Case {
+        what: "a limit that is left out",
+        words: &["run", "s", "--most"],
+        ..NO_NUMBER
+    },
+];
+
+const NO_NUMBER: Case = Case {
+    status: Status::NoCommand,
+    events: Some(0),
+    text: "usage: gcd run SCRIPT [--workers N] [--journal] [--most N] [--listen ADDR] | gcd check SCRIPT JOURNAL | gcd big N [--workers W]\n",
     ..RUN
 };
 
@@ -148,9 +226,10 @@ fn declarations(alloc: Global, line: &str, path: &str, count: u32) -> Result<Str
 #[test]
 fn keeps_to_the_limits(rt: HostRuntime) -> Result<(), Fail> {
     for (first, line, count, case) in [
-        ("semaphore s 0\nmain\n", "signal s\n", 65_533, LONG),
+        ("semaphore s 0\nmain\n", "signal s\n", 65_533, WHOLE),
         ("semaphore s 0\nmain\n", "signal s\n", 65_534, FULL),
-        ("queue q serial\nmain\n", "activate q\n", 65_534, FULL),
+        ("semaphore s 0\nmain\n", "signal s\n", 65_534, LONG),
+        ("queue q serial\nmain\n", "activate q\n", 65_534, LONG),
         ("semaphore s 0\nmain\n", "signal s\n", 65_536, TOO_LONG),
     ] {
         let script = repeated(rt.alloc(), first, line, count)?;
@@ -167,7 +246,7 @@ fn keeps_to_the_limits(rt: HostRuntime) -> Result<(), Fail> {
         let script = declarations(rt.alloc(), line, path, count)?;
         is_answered(&rt, rt.alloc(), &case, script.as_bytes())?;
     }
-    Ok(())
+    are_answered(&rt, rt.alloc(), &MOST)
 }
 
 #[test]

@@ -154,6 +154,7 @@ pub static SOURCES_AND_FEEDS: [Case; 8] = [
     },
     Case {
         what: "a handler merges into its own source",
+        words: &["run", "s", "--most", "65535"],
         script: "source s add on root\nhandler s\nmerge s 1\nmain\nactivate s\nmerge s 1",
         status: Status::Full,
         events: Some(65535),
@@ -199,7 +200,7 @@ pub static SOURCES_AND_FEEDS: [Case; 8] = [
         words: &["big", "0"],
         script: "",
         status: Status::NoCommand,
-        text: "usage: gcd run SCRIPT [--workers N] [--journal] [--listen ADDR] | gcd check SCRIPT JOURNAL | gcd big N [--workers W]\n",
+        text: "usage: gcd run SCRIPT [--workers N] [--journal] [--most N] [--listen ADDR] | gcd check SCRIPT JOURNAL | gcd big N [--workers W]\n",
         ..RUN
     },
     Case {
@@ -207,7 +208,7 @@ pub static SOURCES_AND_FEEDS: [Case; 8] = [
         words: &["big", "16385"],
         script: "",
         status: Status::NoCommand,
-        text: "usage: gcd run SCRIPT [--workers N] [--journal] [--listen ADDR] | gcd check SCRIPT JOURNAL | gcd big N [--workers W]\n",
+        text: "usage: gcd run SCRIPT [--workers N] [--journal] [--most N] [--listen ADDR] | gcd check SCRIPT JOURNAL | gcd big N [--workers W]\n",
         ..RUN
     },
 ];

@@ -30,3 +30,6 @@ returns-in-Fault-clause-fault c =
     fault_is_refused c.args.most c.args.plan.now (look_of c.in_ok-names.names.runs) c.in_ok-names.ensures.valid c.in_ok-names.ensures.known
     c.args.bytes.now c.lines.events.items c.lines.rest.now (c.len-in-Fault.result + 1) c.lines.invariant
     (subst (λ n. IsFault c.args.most (look_of c.in_ok-names.names.runs) c.lines.rest.now n) same c.in-Fault.ensures) (omega arith)
+
+pub returns-in-Fault-clause-near : goal.returns-in-Fault-clause-near
+returns-in-Fault-clause-near c = let near = c.lines.invariant.near in omega arith

@@ -8,7 +8,7 @@ pub returns-clause-ran : goal.returns-clause-ran
 returns-clause-ran g c =
     IfOk-weaker c.run_workers.result _ _
     (λ o r.
-    ran_is c.args.plan.now c.args.workers (contents c.args.files.now)
+    ran_is c.args.plan.now c.args.workers c.args.most (contents c.args.files.now)
     (seen_by g.P.Poller.tells g.P.Poller.state c.args.poller.now c.run_workers.new.poller)
     (seen_by g.C.Clock.tells g.C.Clock.state c.args.clock.now c.run_workers.new.clock) o.journal.items o.values.items o.state r)
     c.run_workers.ensures.ran

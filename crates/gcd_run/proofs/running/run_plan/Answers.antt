@@ -1,11 +1,11 @@
-use Rattle.std.proofs.Common.{map}
+use Rattle.std.proofs.Common.{map, arith}
 use Rattle.gcd_run.proofs.running.run_plan.Goals as goal
 
 pub story_of-requires-clause-lawful : goal.story_of-requires-clause-lawful
 story_of-requires-clause-lawful g c = c.in_ok-run.ensures.ran.run.lawful
 
 pub story_of-requires-clause-few : goal.story_of-requires-clause-few
-story_of-requires-clause-few g c = c.in_ok-run.ensures.ran.run.few
+story_of-requires-clause-few g c = omega (arith, c.in_ok-run.ensures.ran.run.few, c.requires.most.1)
 
 pub returns-clause-told : goal.returns-clause-told
 returns-clause-told g c =
