@@ -6,6 +6,8 @@ mod given;
 #[cfg(test)]
 mod held;
 #[cfg(test)]
+mod long;
+#[cfg(test)]
 mod rounds;
 #[cfg(test)]
 mod small;

@@ -170,7 +170,7 @@ fn ran<R: Threads + Wait + Sync>(
     workers: u8,
 ) -> Result<RoundsEnd<Tally>, Fail>
     requires { 0 < workers × workers ≤ 64 }
-    ensures { IfOk result (λ end. length end.journal.items ≤ 65535) }
+    ensures { IfOk result (λ end. length end.journal.items ≤ 4294967295) }
 {
     let jobs = jobs_of(alloc, plan, files)?;
     let tallies = tallies_of(alloc, plan)?;

@@ -5,7 +5,7 @@ use crate::given::{files_of, plan_of, poller_of};
 use gcd_history::State;
 use gcd_journal::check;
 use gcd_outer::JumpClock;
-use gcd_plan::Plan;
+use gcd_plan::{MAX_EVENTS, Plan};
 use gcd_workers::{Outcome, run_workers, team_size};
 use std::alloc::Global;
 use std::process::Abort;
@@ -60,12 +60,21 @@ fn ran<R: Threads + Wait + Sync>(
     workers: u8,
 ) -> Result<Outcome, Fail>
     requires { 0 < workers × workers ≤ 64 }
-    ensures { IfOk result (λ run. length run.journal.items ≤ 65535) }
+    ensures { IfOk result (λ run. length run.journal.items ≤ 4294967295) }
 {
     let files = files_of(alloc, plan, b"a\nbb\nccc\n")?;
     let mut poller = poller_of(alloc, false, None)?;
     let mut clock = JumpClock::new(0);
-    Ok(run_workers(rt, alloc, plan, &files, workers, &mut poller, &mut clock)?)
+    Ok(run_workers(
+        rt,
+        alloc,
+        plan,
+        workers,
+        MAX_EVENTS,
+        &files,
+        &mut poller,
+        &mut clock,
+    )?)
 }
 
 // So many workers leave a journal that the rules permit, at whose end all is done, and the blocks' values.
