@@ -9,7 +9,7 @@ import time
 from pathlib import Path
 
 TOP = Path(__file__).resolve().parent.parent
-USAGE = b"usage: gcd run SCRIPT [--workers N] [--journal] [--listen ADDR] | gcd check SCRIPT JOURNAL | gcd big N [--workers W]\n"
+USAGE = b"usage: gcd run SCRIPT [--workers N] [--journal] [--most N] [--listen ADDR] | gcd check SCRIPT JOURNAL | gcd big N [--workers W]\n"
 
 NAME = rb"(?:main|root|[a-z][a-z0-9_]{0,31})"
 EVENT = (

@@ -61,13 +61,18 @@ def at_the_limits(chance):
     return text_of(lines + ["main"] + acts), 0
 
 
-def past_the_events(chance):
-    """As many acts as there may be, all of which are come to: there are too few events for them."""
+def many_events(chance):
+    """As many acts as there may be, all of which are come to: the row's cells are used some twenty times."""
     script, _ = at_the_limits(chance)
     idle = script.index("block idle\n")
     main = script.index("main\n", idle)
     left = script[idle:main].removeprefix("block idle\n")
-    return script[:idle] + "block idle\n" + script[main:] + left, 8
+    return script[:idle] + "block idle\n" + script[main:] + left, 0
+
+
+def past_the_events(chance):
+    """The same with a limit of events: there are too few for all acts."""
+    return many_events(chance)[0], 8
 
 
 def all_parked(_):
@@ -107,7 +112,7 @@ def ping_pong(_):
     return text_of([*lines, "block y", *["wait m", "signal n"] * 5000, "main", "async root x", "async root y"]), 0
 
 
-SCRIPTS = [at_the_limits, past_the_events, all_parked, all_expire, none_starts, hand_over_hand, ping_pong]
+SCRIPTS = [at_the_limits, many_events, past_the_events, all_parked, all_expire, none_starts, hand_over_hand, ping_pong]
 
 
 def value_lines(script):
@@ -128,7 +133,8 @@ def try_script(part, program, room, make, workers, seed, seconds=120):
     at, values = value_lines(script)
     with open(f"{room}/script", "w", encoding="ascii") as it:
         it.write(script)
-    answer = call(program, ["run", "script", "--journal", "--workers", str(workers)], room, seconds)
+    limit = ["--most", "65535"] if make is past_the_events else []
+    answer = call(program, ["run", "script", "--journal", *limit, "--workers", str(workers)], room, seconds)
     why = why_not("run", answer, 8) or (None if answer.status == status else f"status {status} is wanted")
     case = f"{make.__name__}, {workers} workers, seed {seed}"
     if why or at:
