@@ -1,5 +1,5 @@
 -- What holds of a run by rounds after each of its steps.
-use Rattle.std.specs.Prelude.{◌≡◌, ◌≤◌, ◌<◌, ◌+◌, ◌^◌, [], ℕ, false, List, Option, Some, None, IsTrue, length, map, slice_get}
+use Rattle.std.specs.Prelude.{◌≡◌, ◌≤◌, ◌<◌, ◌^◌, [], ℕ, false, List, Option, Some, None, IsTrue, length, map, slice_get}
 use Rattle.std.proofs.Common.{subst}
 use Rattle.std.specs.List.{range_with_len}
 use Rattle.gcd_plan.specs.PlanView.{PlanView}

@@ -1,5 +1,5 @@
 // A run by rounds, as far as it has come.
-ghost use Rattle.std.specs.Prelude.{◌≡◌, ◌<◌, ◌+◌, ◌^◌, ◌++◌, ◌∷◌, [], ℕ, List, Some, true, false, OnOk, IfOk, length, map};
+ghost use Rattle.std.specs.Prelude.{◌≡◌, ◌<◌, ◌++◌, ◌∷◌, [], ℕ, List, Some, true, false, OnOk, IfOk, length, map};
 ghost use Rattle.gcd_plan.specs.PlanView.{PlanView};
 ghost use Rattle.gcd_event.specs.declared.event.Event.{Event};
 ghost use Rattle.gcd_event.specs.declared.event.Event.TheVariants.{End};

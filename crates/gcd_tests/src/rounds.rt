@@ -6,7 +6,7 @@ use gcd_history::State;
 use gcd_jobs::Tally;
 use gcd_journal::check;
 use gcd_outer::JumpClock;
-use gcd_plan::{MAX_EVENTS, Plan};
+use gcd_plan::Plan;
 use gcd_rounds::{RoundsEnd, run_rounds};
 use gcd_script::big_text;
 use gcd_workers::{Outcome, run_alone};
@@ -15,6 +15,9 @@ use std::process::Abort;
 use std::sync::Wait;
 use std::test::Fail;
 use std::thread::Threads;
+
+// How many events a run of these tests may have.
+const MAX_EVENTS: u32 = 65_535;
 
 // A script; whether the poller tells of its feed, and the poll that fails; and by how much the clock steps.
 #[derive(Clone, Copy)]
@@ -170,7 +173,7 @@ fn ran<R: Threads + Wait + Sync>(
     workers: u8,
 ) -> Result<RoundsEnd<Tally>, Fail>
     requires { 0 < workers × workers ≤ 64 }
-    ensures { IfOk result (λ end. length end.journal.items ≤ 4294967295) }
+    ensures { IfOk result (λ end. length end.journal.items ≤ 65535) }
 {
     let jobs = jobs_of(alloc, plan, files)?;
     let tallies = tallies_of(alloc, plan)?;
