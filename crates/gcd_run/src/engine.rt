@@ -24,7 +24,7 @@ pub fn journal_of(run: Outcome) -> Vec<Event>
 }
 
 /// Runs the plan over its files by so many workers, until it has come to its end or has `most` events. An `Err` comes where memory
-/// runs out.
+/// runs out, or the system makes no thread for a worker of a long run.
 pub fn run_by<R: Threads + Wait + Sync, P: Poller, C: Clock>(
     rt: &R,
     alloc: Global,

@@ -23,7 +23,7 @@ pub enum Status {
     Unread,
     /// The sink failed: it took a proper prefix of the text.
     CutOff,
-    /// Memory ran out.
+    /// Memory ran out, or the system made no thread for a worker of a long run.
     NoMemory,
     /// The run has as many events as a run may have, and goes on.
     Full,

@@ -95,7 +95,7 @@ fn call<R: Threads + Wait + Sync, S: Shelf, K: Sink, P: Poller, C: Clock>(
 /// | `Misused`, 4 | the run's last event is a misuse | the report |
 /// | `Unread`, 5 | the shelf or the poller failed in the call, or the shelf tells and lacks a name | `read fault`, after a run as the report's last line |
 /// | `CutOff`, 6 | the sink failed in the call | a proper prefix of the text |
-/// | `NoMemory`, 7 | memory ran out | nothing |
+/// | `NoMemory`, 7 | memory ran out, or the system made no thread for a worker of a long run | nothing |
 /// | `Full`, 8 | the run has as many events as it may have, `--most`, and goes on | the report |
 /// | `JournalRefused`, 9 | `check`: the text is no journal or is too long, and `at` is the line and 1; or an event is not permitted, and `at` is its index and 2 | `journal refused: line L`, `journal refused: event I` |
 ///
