@@ -1,5 +1,5 @@
 // Where a node's Drain lies after a worker has tried to begin a run with it.
-ghost use Rattle.std.specs.Prelude.{◌≡◌, All, IsTrue};
+ghost use Rattle.std.specs.Prelude.{◌≡◌, ◌<◌, All, IsTrue};
 ghost use Rattle.gcd_plan.specs.Kinds.{is_node};
 ghost use Rattle.gcd_row.specs.Passes.{slots, view};
 ghost use Rattle.gcd_steal.specs.Racks.{IsBenchOf, number_of, plan_of};
@@ -136,6 +136,9 @@ fn goes_on<S: RunCells, R: Abort>(rt: &R, pool: &Pool<S>, hand: &Hand<S>, turn: 
     let _ = hand;
     if let Turn::Left = turn {
         panic!(rt; "a worker left")
+    }
+    if let Turn::Stopped = turn {
+        panic!(rt; "a worker was stopped")
     }
 }
 

@@ -59,6 +59,7 @@ pub fn run_of<J: Job + Drop + Send, R: Threads + Wait + Abort + Sync>(
     let pool = pool_of(&board, &rack, plan);
     let hands = team_of(rt, alloc, &pool, head, benches, workers);
     let (exit, hands) = lead(rt, alloc, &pool, hands);
+    drop(pool);
     let (head, gathered) = gather(rt, &board, hands, workers);
     let (events, cells) = closed(rt, alloc, plan, board, head, gathered);
     (exit, events, cells)

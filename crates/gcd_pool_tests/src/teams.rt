@@ -85,6 +85,7 @@ fn serve_plan<J: Job + Drop + Send, R: Threads + Wait + Abort + Sync>(
     let pool = pool_of(&board, &rack, plan);
     let hands = team_of(rt, alloc, &pool, head, benches, workers);
     let hands = serve(rt, &pool, hands, with_drains);
+    drop(pool);
     let (head, gathered) = gather(rt, &board, hands, workers);
     let (_events, cells) = closed(rt, alloc, plan, board, head, gathered);
     cells

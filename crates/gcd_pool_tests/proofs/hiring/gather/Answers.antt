@@ -14,6 +14,17 @@ loop-step-init g c = record {
   back = search rules;
 }
 
+pub loop-step-preserved : goal.loop-step-preserved
+loop-step-preserved g c = record {
+  some = search rules;
+  pass = search rules;
+  worker = search rules;
+  gathered = c.take_in.ensures.gathered _ c.loop-step.invariant.gathered;
+  hands = search rules;
+  home = search rules;
+  back = search rules;
+}
+
 pub take_in-requires-clause-back : goal.take_in-requires-clause-back
 take_in-requires-clause-back g c w above = c.loop-step.invariant.back w (omega (arith, above))
 
