@@ -246,6 +246,11 @@ fn keeps_to_the_limits(rt: HostRuntime) -> Result<(), Fail> {
         let script = declarations(rt.alloc(), line, path, count)?;
         is_answered(&rt, rt.alloc(), &case, script.as_bytes())?;
     }
+    Ok(())
+}
+
+#[test]
+fn a_run_has_as_many_events_as_are_asked_for(rt: HostRuntime) -> Result<(), Fail> {
     are_answered(&rt, rt.alloc(), &MOST)
 }
 
