@@ -224,7 +224,7 @@ fn declarations(alloc: Global, line: &str, path: &str, count: u32) -> Result<Str
 }
 
 #[test]
-fn keeps_to_the_limits(rt: HostRuntime) -> Result<(), Fail> {
+fn runs_of_many_events(rt: HostRuntime) -> Result<(), Fail> {
     for (first, line, count, case) in [
         ("semaphore s 0\nmain\n", "signal s\n", 65_533, WHOLE),
         ("semaphore s 0\nmain\n", "signal s\n", 65_534, FULL),
@@ -235,6 +235,16 @@ fn keeps_to_the_limits(rt: HostRuntime) -> Result<(), Fail> {
         let script = repeated(rt.alloc(), first, line, count)?;
         is_answered(&rt, rt.alloc(), &case, script.as_bytes())?;
     }
+    Ok(())
+}
+
+#[test]
+fn a_run_has_as_many_events_as_are_asked_for(rt: HostRuntime) -> Result<(), Fail> {
+    are_answered(&rt, rt.alloc(), &MOST)
+}
+
+#[test]
+fn keeps_to_the_limits(rt: HostRuntime) -> Result<(), Fail> {
     for (line, path, count, case) in [
         ("block b", "", 16_384, MANY_BLOCKS),
         ("block b", "", 16_385, BLOCK_TOO_MANY),
@@ -247,11 +257,6 @@ fn keeps_to_the_limits(rt: HostRuntime) -> Result<(), Fail> {
         is_answered(&rt, rt.alloc(), &case, script.as_bytes())?;
     }
     Ok(())
-}
-
-#[test]
-fn a_run_has_as_many_events_as_are_asked_for(rt: HostRuntime) -> Result<(), Fail> {
-    are_answered(&rt, rt.alloc(), &MOST)
 }
 
 #[test]
