@@ -1,15 +1,18 @@
 #!/usr/bin/env python3
 """Memory is refused, one allocation after the other, and then each with all later ones."""
 
-import os
 import subprocess
 import sys
+from pathlib import Path
 
 from common import TOP, Part, call, words_of
 from refused import FOLDER, call_refusing, each_refused, is_same
 
 CASES = TOP / "examples"
-TESTS = ["run", "check", "large_script", "team"]
+
+# Tests over an outside in memory, of these crates. The last is a run of ten thousand events by four workers, whose journal grows as it goes.
+TESTS = [("gcd_run_tests", f"tests::memory::a_{name}_answers_whole_or_nothing") for name in ("run", "check", "large_script", "team")]
+TESTS += [("gcd_workers_tests", "tests::ring::a_long_run_by_a_team_is_whole_or_refused")]
 
 # A name, the words, and whether the run has a feed or an address: the system's own tables for these are made in the run, and what
 # fails in them is a fault of the poller, so that `read fault` is an answer too.
@@ -64,9 +67,9 @@ def try_call(part, program, case, words, is_outside):
 
 
 def try_test(part, tests, name):
-    """One test of gcd_run over an outside in memory: it fails by an error while it makes that outside, and never after. How many
+    """One test over an outside in memory: it fails by an error while it makes that outside, and never after. How many
     allocations were refused before the call, and how many within."""
-    words, refused = [f"tests::memory::a_{name}_answers_whole_or_nothing"], [0, 0]
+    words, refused = [name], [0, 0]
     if call(tests, words).status != 0:
         part.refuse(name, "with ample memory", call(tests, words))
     for later in (False, True):
@@ -82,19 +85,18 @@ def try_test(part, tests, name):
     return refused
 
 
-def built_tests():
-    """The proved tests of gcd_run, from gcd_run_tests, which are built where they are not there."""
-    tests = TOP / "crates/gcd_run_tests/out/gcd_run_tests_tests"
+def built_tests(crates, name):
+    """The proved tests of a crate, which are built where they are not there."""
+    tests = crates / name / f"out/{name}_tests"
     if not tests.exists() and subprocess.run(["rt", "test"], cwd=tests.parent.parent, stdout=sys.stderr).returncode:
         sys.exit(70)
     return tests
 
 
 def main():
-    words = words_of(__doc__, ("--tests", str, None, "other tests of gcd_run than the ones that rt test builds"))
+    words = words_of(__doc__, ("--crates", Path, TOP / "crates", "the folder of the crates whose tests are run"))
     part = Part("memory, over an outside in memory")
-    tests = os.path.abspath(words.tests or built_tests())
-    counts = [try_test(part, tests, name) for name in TESTS]
+    counts = [try_test(part, built_tests(words.crates.resolve(), crate), name) for crate, name in TESTS]
     before, within = (sum(count[k] for count in counts) for k in (0, 1))
     part.tell(
         f"{within} refusals within {len(TESTS)} calls: nothing is written and there is no journal, or the answer is whole"
