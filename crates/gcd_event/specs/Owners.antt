@@ -16,7 +16,7 @@ worker_of (DeliverEnd w s) = w
 worker_of (Tick t) = 0
 worker_of (Ready s n) = 0
 worker_of (FeedEnd s) = 0
-worker_of (Misuse w r i c) = w
+worker_of (Misuse w c r i) = w
 worker_of Halt = 0
 worker_of (Expire b) = 0
 
@@ -31,7 +31,7 @@ begun (DeliverEnd w s) = None
 begun (Tick t) = None
 begun (Ready s n) = None
 begun (FeedEnd s) = None
-begun (Misuse w r i c) = None
+begun (Misuse w c r i) = None
 begun Halt = None
 begun (Expire b) = None
 
@@ -46,6 +46,6 @@ ended (DeliverEnd w s) = Some (Source s)
 ended (Tick t) = None
 ended (Ready s n) = None
 ended (FeedEnd s) = None
-ended (Misuse w r i c) = None
+ended (Misuse w c r i) = None
 ended Halt = None
 ended (Expire b) = None

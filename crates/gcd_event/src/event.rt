@@ -57,9 +57,9 @@ pub enum Event {
     /// The run's act of this index is a misuse with this code, and ends the run of the plan.
     Misuse {
         worker: u8,
+        code: u8,
         run: Run,
         index: u32,
-        code: u8,
     },
     /// The outside failed, which ends the run of the plan.
     Halt,

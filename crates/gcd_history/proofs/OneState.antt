@@ -21,7 +21,7 @@ after_halt : (past : List Event) → halt_last past ≡ true → halted_after pa
 after_halt past h = or_right (misuse_last past) (halt_last past) h
 
 not_both : (past : List Event) → misuse_last past ≡ true → halt_last past ≡ true → ⊥
-not_both (Misuse w r i c ∷ past) h k = both_ways false refl k
+not_both (Misuse w c r i ∷ past) h k = both_ways false refl k
 not_both past h k = both_ways false refl h
 
 misused_is_halted : (h : List Event) → ends_in_misuse h ≡ true → is_halted h ≡ true

@@ -47,7 +47,7 @@ unfolding words words_of_history
 no_such_block = refl
 
 -- the act is a misuse now, and the misuse's code is another
-misuse_or_act : told busy (Acted 0 (run 0) 8 ∷ Misuse 0 (run 0) 8 2 ∷ Misuse 0 (run 0) 8 1 ∷ []) ≡ Some IsMisuse ∷ Some NotMisuse ∷ None ∷ []
+misuse_or_act : told busy (Acted 0 (run 0) 8 ∷ Misuse 0 2 (run 0) 8 ∷ Misuse 0 1 (run 0) 8 ∷ []) ≡ Some IsMisuse ∷ Some NotMisuse ∷ None ∷ []
 unfolding words words_of_history
 misuse_or_act = refl
 
@@ -94,11 +94,11 @@ unfolding words words_of_history
 excluded_first = refl
 
 -- not own before not next
-not_own_first : told begun (Acted 1 (run 0) 1 ∷ End 1 (b 0) ∷ DeliverEnd 0 (o 2) ∷ Misuse 1 (run 0) 1 1 ∷ []) ≡ Some NotOwn ∷ Some NotOwn ∷ Some NotOwn ∷ Some NotOwn ∷ []
+not_own_first : told begun (Acted 1 (run 0) 1 ∷ End 1 (b 0) ∷ DeliverEnd 0 (o 2) ∷ Misuse 1 1 (run 0) 1 ∷ []) ≡ Some NotOwn ∷ Some NotOwn ∷ Some NotOwn ∷ Some NotOwn ∷ []
 unfolding words words_of_history
 not_own_first = refl
 
 -- not next before is misuse, and before not misuse
-not_next_first : told begun (Acted 0 (run 0) 8 ∷ Misuse 0 (run 0) 1 1 ∷ []) ≡ Some NotNext ∷ Some NotNext ∷ []
+not_next_first : told begun (Acted 0 (run 0) 8 ∷ Misuse 0 1 (run 0) 1 ∷ []) ≡ Some NotNext ∷ Some NotNext ∷ []
 unfolding words words_of_history
 not_next_first = refl

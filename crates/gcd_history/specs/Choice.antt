@@ -26,7 +26,7 @@ end_of w (Source s) = DeliverEnd w s
 abbrev pub next_events : PlanView → List Event → ℕ → Run → List Event
 next_events plan past w run =
     Acted w run (acts_done past run)
-    ∷ map (Misuse w run (acts_done past run)) (option_to_list (misuse_at plan past run (acts_done past run)))
+    ∷ map (λ c. Misuse w c run (acts_done past run)) (option_to_list (misuse_at plan past run (acts_done past run)))
     ++ end_of w run ∷ []
 
 -- the next event of an open run, where worker w has it
@@ -76,7 +76,7 @@ is_work (DeliverEnd w s) = true
 is_work (Tick t) = false
 is_work (Ready s n) = false
 is_work (FeedEnd s) = false
-is_work (Misuse w r i c) = true
+is_work (Misuse w c r i) = true
 is_work Halt = false
 is_work (Expire b) = false
 

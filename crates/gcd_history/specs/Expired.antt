@@ -25,7 +25,7 @@ expires past (DeliverEnd w s) position = false
 expires past (Tick t) position = false
 expires past (Ready s n) position = false
 expires past (FeedEnd s) position = false
-expires past (Misuse w r i c) position = false
+expires past (Misuse w c r i) position = false
 expires past Halt position = false
 
 -- the wait of the act at this position has expired: an Expire of its block stands after the act and before the block's next act

@@ -74,7 +74,7 @@ stuck_lines plan Live h = []
 
 -- `misuse R I Mk`, for a Misuse: the run's name, the act's index and the code
 abbrev pub misuse_line : PlanView → Event → List ℕ
-misuse_line plan (Misuse w run i c) =
+misuse_line plan (Misuse w c run i) =
     codes "misuse " ++ (name_of_run plan run ++ (codes " " ++ (decimal i ++ (codes " M" ++ (decimal c ++ line_end)))))
 misuse_line plan _ = []
 

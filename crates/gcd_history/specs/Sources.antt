@@ -72,7 +72,7 @@ input plan past (DeliverEnd w t) s = []
 input plan past (Tick t) s = due_inputs plan past s (now past) t
 input plan past (Ready t n) s = if t.0 == s then n ∷ [] else []
 input plan past (FeedEnd t) s = []
-input plan past (Misuse w r i c) s = []
+input plan past (Misuse w c r i) s = []
 input plan past Halt s = []
 input plan past (Expire b) s = []
 

@@ -98,7 +98,7 @@ end_fits plan h (DeliverEnd w s) permitted = tt
 end_fits plan h (Tick t) permitted = tt
 end_fits plan h (Ready s n) permitted = tt
 end_fits plan h (FeedEnd s) permitted = tt
-end_fits plan h (Misuse w r i c) permitted = tt
+end_fits plan h (Misuse w c r i) permitted = tt
 end_fits plan h Halt permitted = tt
 end_fits plan h (Expire b) permitted = tt
 
@@ -113,7 +113,7 @@ ended_block (DeliverEnd w s) b is = cc
 ended_block (Tick t) b is = cc
 ended_block (Ready s n) b is = cc
 ended_block (FeedEnd s) b is = cc
-ended_block (Misuse w r i c) b is = cc
+ended_block (Misuse w c r i) b is = cc
 ended_block Halt b is = cc
 ended_block (Expire c) b is = cc
 

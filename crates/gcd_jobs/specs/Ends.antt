@@ -15,6 +15,6 @@ EndFits plan (DeliverEnd w s) = Unit {0}
 EndFits plan (Tick t) = Unit {0}
 EndFits plan (Ready s n) = Unit {0}
 EndFits plan (FeedEnd s) = Unit {0}
-EndFits plan (Misuse w r i c) = Unit {0}
+EndFits plan (Misuse w c r i) = Unit {0}
 EndFits plan Halt = Unit {0}
 EndFits plan (Expire b) = Unit {0}

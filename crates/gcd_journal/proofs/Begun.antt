@@ -20,7 +20,7 @@ delivery_begins (DeliverEnd w t) s is = cc
 delivery_begins (Tick t) s is = cc
 delivery_begins (Ready t n) s is = cc
 delivery_begins (FeedEnd t) s is = cc
-delivery_begins (Misuse w r i c) s is = cc
+delivery_begins (Misuse w c r i) s is = cc
 delivery_begins Halt s is = cc
 delivery_begins (Expire b) s is = cc
 
@@ -35,7 +35,7 @@ block_begins (DeliverEnd w t) b is s = refl
 block_begins (Tick t) b is s = refl
 block_begins (Ready t n) b is s = refl
 block_begins (FeedEnd t) b is s = refl
-block_begins (Misuse w r i c) b is s = refl
+block_begins (Misuse w c r i) b is s = refl
 block_begins Halt b is s = refl
 block_begins (Expire c) b is s = refl
 
@@ -50,6 +50,6 @@ none_begins (DeliverEnd w t) is s = refl
 none_begins (Tick t) is s = refl
 none_begins (Ready t n) is s = refl
 none_begins (FeedEnd t) is s = refl
-none_begins (Misuse w r i c) is s = refl
+none_begins (Misuse w c r i) is s = refl
 none_begins Halt is s = refl
 none_begins (Expire b) is s = refl

@@ -46,7 +46,7 @@ known_named plan (DeliverEnd w s) h = (and_parts (is_worker w) (is_source plan s
 known_named plan (Tick t) h = tt
 known_named plan (Ready s n) h = source_of_feed plan s.0 (and_parts (is_feed plan s.0) _ h).0
 known_named plan (FeedEnd s) h = source_of_feed plan s.0 h
-known_named plan (Misuse w run i c) h =
+known_named plan (Misuse w c run i) h =
     (and_parts (is_run_of plan run) (is_index i && is_code c) (and_parts (is_worker w) (is_run_of plan run && (is_index i && is_code c)) h).1).0
 known_named plan Halt h = tt
 known_named plan (Expire b) h = h

@@ -28,7 +28,7 @@ fields_of_text plan (DeliverEnd w s) plain = fields_joined _ _ plain
 fields_of_text plan (Tick t) plain = fields_joined _ _ plain
 fields_of_text plan (Ready s n) plain = fields_joined _ _ plain
 fields_of_text plan (FeedEnd s) plain = fields_joined _ _ plain
-fields_of_text plan (Misuse w run i c) plain = fields_joined _ _ plain
+fields_of_text plan (Misuse w c run i) plain = fields_joined _ _ plain
 fields_of_text plan Halt plain = fields_joined _ _ plain
 fields_of_text plan (Expire b) plain = fields_joined _ _ plain
 

@@ -33,7 +33,7 @@ fields_of_event plan (DeliverEnd w s) = codes "deliver_end" ∷ decimal w ∷ na
 fields_of_event plan (Tick t) = codes "tick" ∷ decimal t ∷ []
 fields_of_event plan (Ready s n) = codes "ready" ∷ name_of_obj plan s.0 ∷ decimal n ∷ []
 fields_of_event plan (FeedEnd s) = codes "feed_end" ∷ name_of_obj plan s.0 ∷ []
-fields_of_event plan (Misuse w run i c) = codes "misuse" ∷ decimal w ∷ name_of_run plan run ∷ decimal i ∷ (77 ∷ decimal c) ∷ []
+fields_of_event plan (Misuse w c run i) = codes "misuse" ∷ decimal w ∷ name_of_run plan run ∷ decimal i ∷ (77 ∷ decimal c) ∷ []
 fields_of_event plan Halt = codes "halt" ∷ []
 fields_of_event plan (Expire b) = codes "expire" ∷ name_of_blk plan b.0 ∷ []
 
@@ -52,7 +52,7 @@ line_of_text plan (DeliverEnd w s) = simp append_assoc
 line_of_text plan (Tick t) = refl
 line_of_text plan (Ready s n) = simp append_assoc
 line_of_text plan (FeedEnd s) = refl
-line_of_text plan (Misuse w run i c) = simp append_assoc
+line_of_text plan (Misuse w c run i) = simp append_assoc
 line_of_text plan Halt = refl
 line_of_text plan (Expire b) = refl
 
@@ -82,7 +82,7 @@ plain_fields plan (Ready s n) valid spoken =
     (all_plain (decimal n) [] (plain_decimal n (let f = spoken.fits in omega arith)) refl))
 plain_fields plan (FeedEnd s) valid spoken =
     all_plain (codes "feed_end") (name_of_obj plan s.0 ∷ []) refl (all_plain (name_of_obj plan s.0) [] (plain_name plan (Source s) valid spoken.named) refl)
-plain_fields plan (Misuse w run i c) valid spoken =
+plain_fields plan (Misuse w c run i) valid spoken =
     plain_turn plan (codes "misuse") w run (decimal i ∷ (77 ∷ decimal c) ∷ []) valid refl (let f = spoken.fits in omega arith) spoken.named
     (all_plain (decimal i) ((77 ∷ decimal c) ∷ []) (plain_decimal i (let f = spoken.fits in omega arith))
     (all_plain (77 ∷ decimal c) [] (plain_decimal c (let f = spoken.fits in omega arith)) refl))
@@ -116,7 +116,7 @@ module _ (plan : PlanView) (look : Look) (known : (run : Run) → is_run_of plan
   spells (Tick t) spoken = rw (number_read 1 max_time t spoken.fits.0 spoken.fits.1 (omega arith)) refl
   spells (Ready s n) spoken = rw (source_read s spoken.named, number_read 1 max_value n spoken.fits.1 spoken.fits.2 (omega arith)) refl
   spells (FeedEnd s) spoken = rw (source_read s spoken.named) refl
-  spells (Misuse w run i c) spoken =
+  spells (Misuse w c run i) spoken =
       rw (worker_read w spoken.fits.0, known run spoken.named, number_read 0 (max_acts - 1) i (omega arith) (let f = spoken.fits in omega arith) (omega arith), number_read 1 8 c spoken.fits.3 spoken.fits.4 (omega arith)) refl
   spells Halt spoken = refl
   spells (Expire b) spoken = rw (block_read b spoken.named) refl

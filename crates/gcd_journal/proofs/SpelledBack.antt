@@ -191,7 +191,7 @@ module _ (plan : PlanView) (look : Look) (valid : IsPlan plan) (sound : (name : 
   five_back : (kind a b c d : List ℕ) (e : Event) → by_five look kind a b c d ≡ Some e → Spells plan e (kind ∷ a ∷ b ∷ c ∷ d ∷ [])
   five_back kind a b c d e h = elim (guarded (bytes_eq kind (codes "misuse")) _ None e h) [
     | inl is ↦
-        let parts = both_there (λ (turn : ℕ × Run) (what : ℕ × ℕ). Misuse turn.0 turn.1 what.0 what.1) (turn_in look a b) (of_both (λ (i : ℕ) (k : ℕ). (i, k)) (index_in c) (code_in d)) e is.1 in
+        let parts = both_there (λ (turn : ℕ × Run) (what : ℕ × ℕ). Misuse turn.0 what.1 turn.1 what.0) (turn_in look a b) (of_both (λ (i : ℕ) (k : ℕ). (i, k)) (index_in c) (code_in d)) e is.1 in
         let turn = run_turn a b parts.0 parts.2 in
         let what = both_there (λ (i : ℕ) (k : ℕ). (i, k)) (index_in c) (code_in d) parts.1 parts.3 in
         let index = is_index c what.0 what.2 in

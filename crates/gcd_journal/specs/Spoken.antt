@@ -18,7 +18,7 @@ IsNamed plan (DeliverEnd w s) = IsTrue (is_run_of plan (Source s))
 IsNamed plan (Tick t) = Unit {0}
 IsNamed plan (Ready s n) = IsTrue (is_run_of plan (Source s))
 IsNamed plan (FeedEnd s) = IsTrue (is_run_of plan (Source s))
-IsNamed plan (Misuse w run i c) = IsTrue (is_run_of plan run)
+IsNamed plan (Misuse w c run i) = IsTrue (is_run_of plan run)
 IsNamed plan Halt = Unit {0}
 IsNamed plan (Expire b) = IsTrue (is_run_of plan (Block b))
 

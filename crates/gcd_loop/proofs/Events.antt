@@ -24,7 +24,7 @@ untold (DeliverEnd w s) work = refl
 untold (Tick t) work = refl
 untold (Ready s n) work = cc
 untold (FeedEnd s) work = cc
-untold (Misuse w r i c) work = refl
+untold (Misuse w c r i) work = refl
 untold Halt work = refl
 untold (Expire b) work = refl
 
@@ -47,7 +47,7 @@ told_outside (DeliverEnd w s) told = cc
 told_outside (Tick t) told = cc
 told_outside (Ready s n) told = record { by = refl; no_work = refl }
 told_outside (FeedEnd s) told = record { by = refl; no_work = refl }
-told_outside (Misuse w r i c) told = cc
+told_outside (Misuse w c r i) told = cc
 told_outside Halt told = cc
 told_outside (Expire b) told = cc
 
@@ -64,7 +64,7 @@ put_is_outside plan h start present p q (DeliverEnd w s) put = absurd put
 put_is_outside plan h start present p q (Tick t) put = record { by = refl; no_work = refl }
 put_is_outside plan h start present p q (Ready s n) put = absurd put
 put_is_outside plan h start present p q (FeedEnd s) put = absurd put
-put_is_outside plan h start present p q (Misuse w r i k) put = absurd put
+put_is_outside plan h start present p q (Misuse w k r i) put = absurd put
 put_is_outside plan h start present p q Halt put = record { by = refl; no_work = refl }
 put_is_outside plan h start present p q (Expire b) put = record { by = refl; no_work = refl }
 
@@ -94,6 +94,6 @@ tick_time (DeliverEnd w s) = 0
 tick_time (Tick t) = t
 tick_time (Ready s n) = 0
 tick_time (FeedEnd s) = 0
-tick_time (Misuse w r i c) = 0
+tick_time (Misuse w c r i) = 0
 tick_time Halt = 0
 tick_time (Expire b) = 0

@@ -77,7 +77,7 @@ module _ (most : ℕ) (pt ct : Bool) (plan : PlanView) (stood : List Event) (bef
       (going_on most pt ct plan stood before early p q c d h o o l put.1 going)
   going_put p q c d h k o (Ready s n) r lawful few put said l going = absurd put
   going_put p q c d h k o (FeedEnd s) r lawful few put said l going = absurd put
-  going_put p q c d h k o (Misuse w i j x) r lawful few put said l going = absurd put
+  going_put p q c d h k o (Misuse w x i j) r lawful few put said l going = absurd put
   going_put p q c d h k o Halt r lawful few put said l going =
       going_halt most pt ct plan stood before early p q c d h k o o r lawful few said l put going
   going_put p q c d h k o (Expire b) r lawful few put said l going =

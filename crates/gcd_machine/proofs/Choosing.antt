@@ -45,7 +45,7 @@ known_worker plan (Wake w b) known work = (and_parts (is_worker w) _ known).0
 known_worker plan (End w b) known work = (and_parts (is_worker w) _ known).0
 known_worker plan (Deliver w s) known work = (and_parts (is_worker w) _ known).0
 known_worker plan (DeliverEnd w s) known work = (and_parts (is_worker w) _ known).0
-known_worker plan (Misuse w run i c) known work = (and_parts (is_worker w) _ known).0
+known_worker plan (Misuse w c run i) known work = (and_parts (is_worker w) _ known).0
 known_worker plan e known work = absurd (both_ways false refl work)
 
 -- a number past the last worker's
@@ -111,7 +111,7 @@ end_of_own w (Source s) = by_itself w
 
 act_of_own : (m : MachineView) (w : ℕ) (run : Run) (act : Act) → is_by w (act_event_at m w run act) ≡ true
 act_of_own m w run act =
-    elim (misuse_by m act) as (λ o. is_by w (option_map_or (Misuse w run (done_at m run)) o (Acted w run (done_at m run))) ≡ true) [
+    elim (misuse_by m act) as (λ o. is_by w (option_map_or (λ c. Misuse w c run (done_at m run)) o (Acted w run (done_at m run))) ≡ true) [
       | None ↦ by_itself w
       | Some code ↦ by_itself w
     ]

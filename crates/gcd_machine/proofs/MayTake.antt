@@ -147,7 +147,7 @@ module _ (past : List Event) (m : MachineView) (t : IsTied m.plan past m) (room 
       let known = and_parts (is_feed m.plan s.0) _ (allowed m.plan past (Ready s n) may).known in
       can_merge past m t room s n (has_object is_read_kind m.plan s.0 known.0) (leb-true n max_value (and_parts (ltb 0 n) _ known.1).1)
   can_change (FeedEnd s) may = can_cancel past m t room (FeedEnd s) s (t.lawful, may) refl (has_object is_read_kind m.plan s.0 (allowed m.plan past (FeedEnd s) may).known)
-  can_change (Misuse w run i c) may = tt
+  can_change (Misuse w c run i) may = tt
   can_change Halt may = tt
   can_change (Expire b) may = can_expire past m t room b may
 

@@ -62,18 +62,18 @@ next_is_act m w r i next there proper =
     let follows : next_act_at m r ≡ Some act.0 = ap (act_at m.plan r) (sym next) ∙ act.1 in
     let fine : misuse_by m act.0 ≡ None = sym (misuse_now m r i act.0 act.1) ∙ proper in
     ap (Acted w r) next
-    ∙ sym (with_act m w r act.0 follows ∙ ap (λ o. option_map_or (Misuse w r (done_at m r)) o (Acted w r (done_at m r))) fine)
+    ∙ sym (with_act m w r act.0 follows ∙ ap (λ o. option_map_or (λ c. Misuse w c r (done_at m r)) o (Acted w r (done_at m r))) fine)
 
 -- one that is next, and a misuse
-next_is_misuse : (m : MachineView) (w : ℕ) (r : Run) (i c : ℕ) → i ≡ done_at m r → misuse_of_run m r i ≡ Some c → Misuse w r i c ≡ own_event_at m w r
+next_is_misuse : (m : MachineView) (w : ℕ) (r : Run) (i c : ℕ) → i ≡ done_at m r → misuse_of_run m r i ≡ Some c → Misuse w c r i ≡ own_event_at m w r
 next_is_misuse m w r i c next code =
-    elim (act_at m.plan r i) as (λ o. act_at m.plan r i ≡ o → Misuse w r i c ≡ own_event_at m w r) [
+    elim (act_at m.plan r i) as (λ o. act_at m.plan r i ≡ o → Misuse w c r i ≡ own_event_at m w r) [
       | None ↦ λ none. let no_code : misuse_of_run m r i ≡ None = ap (option_and_then (misuse_by m)) none in cc
       | Some act ↦ λ at.
           let follows : next_act_at m r ≡ Some act = ap (act_at m.plan r) (sym next) ∙ at in
           let wrong : misuse_by m act ≡ Some c = sym (misuse_now m r i act at) ∙ code in
-          ap (λ n. Misuse w r n c) next
-          ∙ sym (with_act m w r act follows ∙ ap (λ o. option_map_or (Misuse w r (done_at m r)) o (Acted w r (done_at m r))) wrong)
+          ap (λ n. Misuse w c r n) next
+          ∙ sym (with_act m w r act follows ∙ ap (λ o. option_map_or (λ c. Misuse w c r (done_at m r)) o (Acted w r (done_at m r))) wrong)
     ] refl
 
 -- none is left
@@ -100,11 +100,11 @@ own_only m past w own (Acted v r i) tied at may work by =
     let next : i ≡ done_at m r = facts.next ∙ sym (done_is m.plan past m r tied.blocks tied.handlers) in
     let proper : misuse_of_run m r i ≡ None = misuse_at_is m past r i tied ∙ none_from_is_some (misuse_at m.plan past r i) facts.proper in
     of_own m v w r own (Acted v r i) by same (next_is_act m v r i next facts.there proper)
-own_only m past w own (Misuse v r i c) tied at may work by =
+own_only m past w own (Misuse v c r i) tied at may work by =
     let facts = at_misuse m.plan past v r i c may in
     let same = only_run m.plan past m w r own tied.workers at (subst (λ k. has_run m.plan past k r ≡ true) by facts.own) in
     let next : i ≡ done_at m r = facts.next ∙ sym (done_is m.plan past m r tied.blocks tied.handlers) in
-    of_own m v w r own (Misuse v r i c) by same (next_is_misuse m v r i c next (misuse_at_is m past r i tied ∙ facts.code))
+    of_own m v w r own (Misuse v c r i) by same (next_is_misuse m v r i c next (misuse_at_is m past r i tied ∙ facts.code))
 own_only m past w own (End v b) tied at may work by =
     let facts = at_end m.plan past v b may in
     let same = only_run m.plan past m w (Block b) own tied.workers at (subst (λ k. has_run m.plan past k (Block b) ≡ true) by facts.own) in

@@ -33,7 +33,7 @@ tick_stepped m t = simp units
 pub ready_stepped : (m : MachineView) (s : Obj) (n : ℕ) → (n == 0) ≡ false → stepped m (Ready s n) ≡ after m.plan m (Ready s n)
 ready_stepped m s n some = rw some (simp units)
 
-pub misuse_stepped : (m : MachineView) (w : ℕ) (run : Run) (i c : ℕ) → stepped m (Misuse w run i c) ≡ after m.plan m (Misuse w run i c)
+pub misuse_stepped : (m : MachineView) (w : ℕ) (run : Run) (i c : ℕ) → stepped m (Misuse w c run i) ≡ after m.plan m (Misuse w c run i)
 misuse_stepped m w run i c = simp units
 
 pub halt_stepped : (m : MachineView) → stepped m Halt ≡ after m.plan m Halt

@@ -88,7 +88,7 @@ module _ (past : List Event) (m : MachineView) (t : IsTied m.plan past m) where
       let some = ltb-true 0 n (and_parts (ltb 0 n) _ (and_parts (is_feed m.plan s.0) _ known).1).0 in
       ready_stepped m s n (ne_eqb n 0 (λ none. omega (arith, some, none)))
   stepped_here (FeedEnd s) may = feed_end_stepped m s
-  stepped_here (Misuse w run i c) may = misuse_stepped m w run i c
+  stepped_here (Misuse w c run i) may = misuse_stepped m w run i c
   stepped_here Halt may = halt_stepped m
   stepped_here (Expire b) may = expire_stepped m b
 

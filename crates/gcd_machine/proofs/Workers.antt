@@ -54,7 +54,7 @@ left_is m past run tied = ap (λ n. is_some (act_at m.plan run n)) (done_is m.pl
 
 ends : (past : List Event) → (ends_in_misuse past || ends_in_halt past) ≡ is_halted past
 ends [] = refl
-ends (Misuse w run i c ∷ past) = refl
+ends (Misuse w c run i ∷ past) = refl
 ends (Halt ∷ past) = refl
 ends (e ∷ past) = refl
 

@@ -24,7 +24,7 @@ use Rattle.gcd_machine.specs.Judged.{done_at, next_act_at, misuse_by, is_busy_at
 -- the act, which is the run's next, as an act or as a misuse
 abbrev pub act_event_at : MachineView → ℕ → Run → Act → Event
 act_event_at m w run act =
-    option_map_or (Misuse w run (done_at m run)) (misuse_by m act) (Acted w run (done_at m run))
+    option_map_or (λ c. Misuse w c run (done_at m run)) (misuse_by m act) (Acted w run (done_at m run))
 
 -- the next event of the run, which worker w has: its next act, or its end
 abbrev pub own_event_at : MachineView → ℕ → Run → Event

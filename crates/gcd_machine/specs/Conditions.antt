@@ -433,7 +433,7 @@ CanChange m (DeliverEnd w s) = CanEndDelivery m w s
 CanChange m (Tick t) = CanTick m t
 CanChange m (Ready s n) = CanMerge m s n
 CanChange m (FeedEnd s) = CanCancel m s
-CanChange m (Misuse w run i c) = Unit {0}
+CanChange m (Misuse w c run i) = Unit {0}
 CanChange m Halt = Unit {0}
 CanChange m (Expire b) = CanExpire m b
 

@@ -163,7 +163,7 @@ fault_at m (DeliverEnd w s) =
 fault_at m (Tick t) = if may_tick_at m t then None else Some NotDue
 fault_at m (Ready s n) = if live_at m s.0 then None else Some NotLive
 fault_at m (FeedEnd s) = if live_at m s.0 then None else Some NotLive
-fault_at m (Misuse w run i c) =
+fault_at m (Misuse w c run i) =
     first_of ((NotOwn, not (is_own_at m w run)) ∷ (NotNext, not (is_next_at m run i))
     ∷ (NotMisuse, not (option_map_or (λ code. code == c) (misuse_of_run m run i) false)) ∷ [])
 fault_at m Halt = None

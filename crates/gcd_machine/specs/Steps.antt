@@ -363,7 +363,7 @@ changed m (DeliverEnd w s) = delivery_ended m w s
 changed m (Tick t) = come_to m t
 changed m (Ready s n) = merged m s n
 changed m (FeedEnd s) = cancelled m s
-changed m (Misuse w run i c) = record m { misused = true }
+changed m (Misuse w c run i) = record m { misused = true }
 changed m Halt = record m { halted = true }
 changed m (Expire b) = expired m b
 

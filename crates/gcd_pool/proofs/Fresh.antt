@@ -201,6 +201,6 @@ module _ {S : Type 0} (shape : S → Shape) (gives : S → ℕ → Type 0) (t : 
   back_of_fresh h (Tick n) c valid lawful may ends has fresh = λ r gave. absurd (none_some None r refl gave)
   back_of_fresh h (Ready s n) c valid lawful may ends has fresh = λ r gave. absurd (none_some None r refl gave)
   back_of_fresh h (FeedEnd s) c valid lawful may ends has fresh = λ r gave. absurd (none_some None r refl gave)
-  back_of_fresh h (Misuse w r i k) c valid lawful may ends has fresh = λ q gave. absurd (none_some None q refl gave)
+  back_of_fresh h (Misuse w k r i) c valid lawful may ends has fresh = λ q gave. absurd (none_some None q refl gave)
   back_of_fresh h Halt c valid lawful may ends has fresh = λ r gave. absurd (none_some None r refl gave)
   back_of_fresh h (Expire b) c valid lawful may ends has fresh = λ r gave. absurd (none_some None r refl gave)

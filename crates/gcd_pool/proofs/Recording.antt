@@ -53,7 +53,7 @@ own_is_work (DeliverEnd w s) h = refl
 own_is_work (Tick t) h = cc
 own_is_work (Ready s n) h = cc
 own_is_work (FeedEnd s) h = cc
-own_is_work (Misuse w r i c) h = refl
+own_is_work (Misuse w c r i) h = refl
 own_is_work Halt h = cc
 own_is_work (Expire b) h = cc
 

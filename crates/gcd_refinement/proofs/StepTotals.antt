@@ -48,7 +48,7 @@ summed f g h (x ∷ xs) same =
 -- what goes on has not ended
 pub no_misuse_yet : (past : List Event) → is_halted past ≡ false → ends_in_misuse past ≡ false
 no_misuse_yet [] h = refl
-no_misuse_yet (Misuse w r i c ∷ past) h = cc
+no_misuse_yet (Misuse w c r i ∷ past) h = cc
 no_misuse_yet (e ∷ past) h = refl
 
 pub no_halt_yet : (past : List Event) → is_halted past ≡ false → ends_in_halt past ≡ false
@@ -57,7 +57,7 @@ no_halt_yet (Halt ∷ past) h = cc
 no_halt_yet (e ∷ past) h = refl
 
 pub is_misuse_last : (e : Event) (past : List Event) → is_misuse e ≡ ends_in_misuse (e ∷ past)
-is_misuse_last (Misuse w r i c) past = refl
+is_misuse_last (Misuse w c r i) past = refl
 is_misuse_last e past = refl
 
 pub is_halt_last : (e : Event) (past : List Event) → is_halt e ≡ ends_in_halt (e ∷ past)

@@ -86,7 +86,7 @@ begun v (DeliverEnd w s) = v.lists
 begun v (Tick t) = v.lists
 begun v (Ready s n) = v.lists
 begun v (FeedEnd s) = v.lists
-begun v (Misuse w run i c) = v.lists
+begun v (Misuse w c run i) = v.lists
 begun v Halt = v.lists
 begun v (Expire b) = v.lists
 
@@ -140,7 +140,7 @@ tree_after plan v (DeliverEnd w s) = closed v.tree (Some s)
 tree_after plan v (Tick t) = v.tree
 tree_after plan v (Ready s n) = v.tree
 tree_after plan v (FeedEnd s) = v.tree
-tree_after plan v (Misuse w run i c) = v.tree
+tree_after plan v (Misuse w c run i) = v.tree
 tree_after plan v Halt = v.tree
 tree_after plan v (Expire b) = v.tree
 
@@ -195,7 +195,7 @@ drains_after plan v (DeliverEnd w s) = v.drains
 drains_after plan v (Tick t) = v.drains
 drains_after plan v (Ready s n) = v.drains
 drains_after plan v (FeedEnd s) = v.drains
-drains_after plan v (Misuse w run i c) = v.drains
+drains_after plan v (Misuse w c run i) = v.drains
 drains_after plan v Halt = v.drains
 drains_after plan v (Expire b) = v.drains
 
@@ -251,7 +251,7 @@ groups_after plan v (DeliverEnd w s) = v.groups
 groups_after plan v (Tick t) = v.groups
 groups_after plan v (Ready s n) = v.groups
 groups_after plan v (FeedEnd s) = v.groups
-groups_after plan v (Misuse w run i c) = v.groups
+groups_after plan v (Misuse w c run i) = v.groups
 groups_after plan v Halt = v.groups
 groups_after plan v (Expire b) = v.groups
 
@@ -298,7 +298,7 @@ semas_after plan v (DeliverEnd w s) = v.semas
 semas_after plan v (Tick t) = v.semas
 semas_after plan v (Ready s n) = v.semas
 semas_after plan v (FeedEnd s) = v.semas
-semas_after plan v (Misuse w run i c) = v.semas
+semas_after plan v (Misuse w c run i) = v.semas
 semas_after plan v Halt = v.semas
 semas_after plan v (Expire b) = semas_expired v.semas (reason_at v.waits b.0)
 
@@ -346,7 +346,7 @@ waits_after plan v (DeliverEnd w s) = v.waits
 waits_after plan v (Tick t) = v.waits
 waits_after plan v (Ready s n) = v.waits
 waits_after plan v (FeedEnd s) = v.waits
-waits_after plan v (Misuse w run i c) = v.waits
+waits_after plan v (Misuse w c run i) = v.waits
 waits_after plan v Halt = v.waits
 waits_after plan v (Expire b) = with_expired v.waits b.0
 
@@ -426,7 +426,7 @@ asleep_after plan v (DeliverEnd w s) = v.sleepers
 asleep_after plan v (Tick t) = v.sleepers
 asleep_after plan v (Ready s n) = v.sleepers
 asleep_after plan v (FeedEnd s) = v.sleepers
-asleep_after plan v (Misuse w run i c) = v.sleepers
+asleep_after plan v (Misuse w c run i) = v.sleepers
 asleep_after plan v Halt = v.sleepers
 asleep_after plan v (Expire b) = removed v.sleepers (bed_of (reason_at v.waits b.0)) b
 
@@ -453,7 +453,7 @@ woken wakeable (DeliverEnd w s) = wakeable
 woken wakeable (Tick t) = wakeable
 woken wakeable (Ready s n) = wakeable
 woken wakeable (FeedEnd s) = wakeable
-woken wakeable (Misuse w run i c) = wakeable
+woken wakeable (Misuse w c run i) = wakeable
 woken wakeable Halt = wakeable
 woken wakeable (Expire b) = wakeable
 
@@ -501,7 +501,7 @@ values_after plan v (DeliverEnd w s) = v.sources
 values_after plan v (Tick t) = v.sources
 values_after plan v (Ready s n) = with_pending v.sources s.0 (merged_at v.sources s.0 n)
 values_after plan v (FeedEnd s) = v.sources
-values_after plan v (Misuse w run i c) = v.sources
+values_after plan v (Misuse w c run i) = v.sources
 values_after plan v Halt = v.sources
 values_after plan v (Expire b) = v.sources
 
@@ -519,7 +519,7 @@ ticked timers (DeliverEnd w s) = timers
 ticked timers (Tick t) = record timers { moment = t }
 ticked timers (Ready s n) = timers
 ticked timers (FeedEnd s) = timers
-ticked timers (Misuse w run i c) = timers
+ticked timers (Misuse w c run i) = timers
 ticked timers Halt = timers
 ticked timers (Expire b) = timers
 
@@ -610,7 +610,7 @@ blocks_by plan v (DeliverEnd w s) = v.blocks
 blocks_by plan v (Tick t) = v.blocks
 blocks_by plan v (Ready s n) = v.blocks
 blocks_by plan v (FeedEnd s) = v.blocks
-blocks_by plan v (Misuse w run i c) = v.blocks
+blocks_by plan v (Misuse w c run i) = v.blocks
 blocks_by plan v Halt = v.blocks
 blocks_by plan v (Expire b) = v.blocks
 
@@ -627,7 +627,7 @@ ended_after v (DeliverEnd w s) = v.ended
 ended_after v (Tick t) = v.ended
 ended_after v (Ready s n) = v.ended
 ended_after v (FeedEnd s) = v.ended
-ended_after v (Misuse w run i c) = v.ended
+ended_after v (Misuse w c run i) = v.ended
 ended_after v Halt = v.ended
 ended_after v (Expire b) = v.ended
 
@@ -656,7 +656,7 @@ handlers_after v (DeliverEnd w s) = v.handlers
 handlers_after v (Tick t) = v.handlers
 handlers_after v (Ready s n) = v.handlers
 handlers_after v (FeedEnd s) = v.handlers
-handlers_after v (Misuse w run i c) = v.handlers
+handlers_after v (Misuse w c run i) = v.handlers
 handlers_after v Halt = v.handlers
 handlers_after v (Expire b) = v.handlers
 
@@ -714,7 +714,7 @@ busy_at_event plan v (DeliverEnd w s) = v.busy
 busy_at_event plan v (Tick t) = marked_by v.timers t v.busy
 busy_at_event plan v (Ready s n) = slice_set v.busy s.0 true
 busy_at_event plan v (FeedEnd s) = v.busy
-busy_at_event plan v (Misuse w run i c) = v.busy
+busy_at_event plan v (Misuse w c run i) = v.busy
 busy_at_event plan v Halt = v.busy
 busy_at_event plan v (Expire b) = v.busy
 

@@ -76,7 +76,7 @@ ahead_at_event plan v (DeliverEnd w s) = v.ahead
 ahead_at_event plan v (Tick t) = map (still_ahead t) v.ahead
 ahead_at_event plan v (Ready s n) = v.ahead
 ahead_at_event plan v (FeedEnd s) = v.ahead
-ahead_at_event plan v (Misuse w run i c) = v.ahead
+ahead_at_event plan v (Misuse w c run i) = v.ahead
 ahead_at_event plan v Halt = v.ahead
 ahead_at_event plan v (Expire b) = v.ahead
 
@@ -91,7 +91,7 @@ ripe_at_event plan v (DeliverEnd w s) = v.ripe
 ripe_at_event plan v (Tick t) = map (is_ripe_by v t) (range_with_len 0 (length v.ripe))
 ripe_at_event plan v (Ready s n) = v.ripe
 ripe_at_event plan v (FeedEnd s) = v.ripe
-ripe_at_event plan v (Misuse w run i c) = v.ripe
+ripe_at_event plan v (Misuse w c run i) = v.ripe
 ripe_at_event plan v Halt = v.ripe
 ripe_at_event plan v (Expire b) = v.ripe
 

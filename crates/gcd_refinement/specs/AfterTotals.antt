@@ -25,7 +25,7 @@ workers_after plan v (DeliverEnd w s) = slice_set v.workers w None
 workers_after plan v (Tick t) = v.workers
 workers_after plan v (Ready s n) = v.workers
 workers_after plan v (FeedEnd s) = v.workers
-workers_after plan v (Misuse w run i c) = v.workers
+workers_after plan v (Misuse w c run i) = v.workers
 workers_after plan v Halt = v.workers
 workers_after plan v (Expire b) = v.workers
 
@@ -39,7 +39,7 @@ running_after plan v (DeliverEnd w s) = v.running - 1
 running_after plan v (Tick t) = v.running
 running_after plan v (Ready s n) = v.running
 running_after plan v (FeedEnd s) = v.running
-running_after plan v (Misuse w run i c) = v.running
+running_after plan v (Misuse w c run i) = v.running
 running_after plan v Halt = v.running
 running_after plan v (Expire b) = v.running
 
@@ -53,7 +53,7 @@ is_end (DeliverEnd w s) = false
 is_end (Tick t) = false
 is_end (Ready s n) = false
 is_end (FeedEnd s) = false
-is_end (Misuse w run i c) = false
+is_end (Misuse w c run i) = false
 is_end Halt = false
 is_end (Expire b) = false
 
@@ -83,7 +83,7 @@ is_misuse (DeliverEnd w s) = false
 is_misuse (Tick t) = false
 is_misuse (Ready s n) = false
 is_misuse (FeedEnd s) = false
-is_misuse (Misuse w run i c) = true
+is_misuse (Misuse w c run i) = true
 is_misuse Halt = false
 is_misuse (Expire b) = false
 
@@ -97,6 +97,6 @@ is_halt (DeliverEnd w s) = false
 is_halt (Tick t) = false
 is_halt (Ready s n) = false
 is_halt (FeedEnd s) = false
-is_halt (Misuse w run i c) = false
+is_halt (Misuse w c run i) = false
 is_halt Halt = true
 is_halt (Expire b) = false

@@ -85,7 +85,7 @@ calls plan c (DeliverEnd w s) = None
 calls plan c (Tick t) = None
 calls plan c (Ready s n) = None
 calls plan c (FeedEnd s) = None
-calls plan c (Misuse w run i k) = None
+calls plan c (Misuse w k run i) = None
 calls plan c Halt = None
 calls plan c (Expire b) = None
 
@@ -131,7 +131,7 @@ wait_if test plan past (DeliverEnd w s) = []
 wait_if test plan past (Tick t) = []
 wait_if test plan past (Ready s n) = []
 wait_if test plan past (FeedEnd s) = []
-wait_if test plan past (Misuse w run i c) = []
+wait_if test plan past (Misuse w c run i) = []
 wait_if test plan past Halt = []
 wait_if test plan past (Expire b) = []
 

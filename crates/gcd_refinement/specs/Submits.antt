@@ -59,7 +59,7 @@ lessened plan v (DeliverEnd w s) = None
 lessened plan v (Tick t) = None
 lessened plan v (Ready s n) = None
 lessened plan v (FeedEnd s) = None
-lessened plan v (Misuse w run i c) = None
+lessened plan v (Misuse w c run i) = None
 lessened plan v Halt = None
 lessened plan v (Expire b) = None
 
@@ -229,6 +229,6 @@ come_by plan v (DeliverEnd w s) = []
 come_by plan v (Tick t) = []
 come_by plan v (Ready s n) = []
 come_by plan v (FeedEnd s) = []
-come_by plan v (Misuse w run i c) = []
+come_by plan v (Misuse w c run i) = []
 come_by plan v Halt = []
 come_by plan v (Expire b) = b ∷ []

@@ -63,7 +63,7 @@ acts_wait plan h (DeliverEnd v s) w b lawful may held other = refl
 acts_wait plan h (Tick t) w b lawful may held other = refl
 acts_wait plan h (Ready s n) w b lawful may held other = refl
 acts_wait plan h (FeedEnd s) w b lawful may held other = refl
-acts_wait plan h (Misuse v r i c) w b lawful may held other = refl
+acts_wait plan h (Misuse v c r i) w b lawful may held other = refl
 acts_wait plan h Halt w b lawful may held other = refl
 acts_wait plan h (Expire c) w b lawful may held other = refl
 

@@ -42,6 +42,6 @@ ends_none (DeliverEnd w s) other b = refl
 ends_none (Tick t) other b = refl
 ends_none (Ready s n) other b = refl
 ends_none (FeedEnd s) other b = refl
-ends_none (Misuse w r i x) other b = refl
+ends_none (Misuse w x r i) other b = refl
 ends_none Halt other b = refl
 ends_none (Expire c) other b = refl

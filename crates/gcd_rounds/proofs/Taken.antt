@@ -152,7 +152,7 @@ module _ {H : Type 0} (kind : H → Kind) (times total : H → ℕ) (plan : Plan
       untaken (Tick t) other s it = cc
       untaken (Ready t n) other s it = cc
       untaken (FeedEnd t) other s it = cc
-      untaken (Misuse w r i c) other s it = cc
+      untaken (Misuse w c r i) other s it = cc
       untaken Halt other s it = cc
       untaken (Expire b) other s it = cc
 

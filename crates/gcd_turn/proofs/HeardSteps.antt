@@ -61,7 +61,7 @@ is_told (DeliverEnd w s) = false
 is_told (Tick t) = false
 is_told (Ready s n) = true
 is_told (FeedEnd s) = true
-is_told (Misuse w r i c) = false
+is_told (Misuse w c r i) = false
 is_told Halt = false
 is_told (Expire b) = false
 
@@ -75,7 +75,7 @@ no_ready (DeliverEnd w t) s h = refl
 no_ready (Tick t) s h = refl
 no_ready (Ready t n) s h = cc
 no_ready (FeedEnd t) s h = refl
-no_ready (Misuse w r i c) s h = refl
+no_ready (Misuse w c r i) s h = refl
 no_ready Halt s h = refl
 no_ready (Expire b) s h = refl
 
@@ -103,7 +103,7 @@ feed_ended_by (DeliverEnd w s) = 0
 feed_ended_by (Tick t) = 0
 feed_ended_by (Ready s n) = 0
 feed_ended_by (FeedEnd s) = s.0
-feed_ended_by (Misuse w r i c) = 0
+feed_ended_by (Misuse w c r i) = 0
 feed_ended_by Halt = 0
 feed_ended_by (Expire b) = 0
 

@@ -64,7 +64,7 @@ IsPut plan h start present old new (DeliverEnd w s) = ⊥
 IsPut plan h start present old new (Tick t) = IsDueTick plan h start present t × HasNotFailed old new
 IsPut plan h start present old new (Ready s n) = ⊥
 IsPut plan h start present old new (FeedEnd s) = ⊥
-IsPut plan h start present old new (Misuse w r i c) = ⊥
+IsPut plan h start present old new (Misuse w c r i) = ⊥
 IsPut plan h start present old new Halt = HasFailed old new
 IsPut plan h start present old new (Expire b) = (expiry_of plan h ≡ Some (Expire b)) × HasNotFailed old new
 

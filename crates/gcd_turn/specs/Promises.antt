@@ -26,7 +26,7 @@ ready_by s (DeliverEnd w t) = []
 ready_by s (Tick t) = []
 ready_by s (Ready t n) = if t.0 == s then n ∷ [] else []
 ready_by s (FeedEnd t) = []
-ready_by s (Misuse w r i c) = []
+ready_by s (Misuse w c r i) = []
 ready_by s Halt = []
 ready_by s (Expire b) = []
 

@@ -84,7 +84,7 @@ told_all files t h cells lawful works rest i e at = go e at (end_fits t.plan (ta
     go (Tick s) is fits = tt
     go (Ready s n) is fits = tt
     go (FeedEnd s) is fits = tt
-    go (Misuse w r j k) is fits = tt
+    go (Misuse w k r j) is fits = tt
     go Halt is fits = tt
     go (Expire b) is fits = tt
 

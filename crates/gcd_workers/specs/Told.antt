@@ -42,7 +42,7 @@ IsTold plan files cells (DeliverEnd w s) = Unit {0}
 IsTold plan files cells (Tick t) = Unit {0}
 IsTold plan files cells (Ready s n) = Unit {0}
 IsTold plan files cells (FeedEnd s) = Unit {0}
-IsTold plan files cells (Misuse w r i c) = Unit {0}
+IsTold plan files cells (Misuse w c r i) = Unit {0}
 IsTold plan files cells Halt = Unit {0}
 IsTold plan files cells (Expire b) = Unit {0}
 
