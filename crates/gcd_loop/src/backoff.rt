@@ -19,7 +19,6 @@ impl Backoff for NoBackoff {
     fn reset(&mut self) {}
 
     #[inline(always)]
-    fn pause<R: Wait>(&mut self, rt: &R) {
-        let _ = rt;
+    fn pause<R: Wait>(&mut self, _rt: &R) {
     }
 }

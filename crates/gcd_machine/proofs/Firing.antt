@@ -20,7 +20,7 @@ use Rattle.gcd_lists.specs.ListsView.{list_at}
 use Rattle.gcd_group.specs.GroupsView.{GroupsView, count_at, due_at, with_one_less}
 use Rattle.gcd_refinement.specs.MachineView.{MachineView, idle, block_at}
 use Rattle.gcd_refinement.specs.declared.progress.BlockProgress.{BlockProgress}
-use Rattle.gcd_refinement.specs.Ties.{GroupsAre, told}
+use Rattle.gcd_refinement.specs.Ties.{GroupsAre, notify_submission}
 use Rattle.gcd_refinement.specs.Submits.{sleepers_at}
 use Rattle.gcd_refinement.specs.After.{with_block, with_wakeable, all_fired, all_woken}
 use Rattle.gcd_refinement.specs.AfterLimits.{without_limit, without_ripe}
@@ -86,19 +86,19 @@ notify_plain plan (e ∷ past) g =
     ]
 
 -- so what is told of a list of them is what is sent
-as_sent : (home : ℕ → Obj) (v : MachineView) (ws : List (Blk × Bool)) → HasHomes v home → list_all (λ s. not s.barrier) (map (told v) ws) ≡ true → map (told v) ws ≡ map (sent home) ws
+as_sent : (home : ℕ → Obj) (v : MachineView) (ws : List (Blk × Bool)) → HasHomes v home → list_all (λ s. not s.barrier) (map (notify_submission v) ws) ≡ true → map (notify_submission v) ws ≡ map (sent home) ws
 as_sent home v [] homes plain = refl
 as_sent home v (w ∷ ws) homes plain =
-    let parts = and_parts (not w.1) (list_all (λ s. not s.barrier) (map (told v) ws)) plain in
+    let parts = and_parts (not w.1) (list_all (λ s. not s.barrier) (map (notify_submission v) ws)) plain in
     let rest = as_sent home v ws homes parts.1 in
     let flag = not-true w.1 parts.0 in
-    ap (λ h. to h w.0 w.1 ∷ map (told v) ws) (homes w.0.0)
-    ∙ (ap (λ t. to (home w.0.0) w.0 t ∷ map (told v) ws) flag ∙ ap (λ l. sent home w ∷ l) rest)
+    ap (λ h. to h w.0 w.1 ∷ map (notify_submission v) ws) (homes w.0.0)
+    ∙ (ap (λ t. to (home w.0.0) w.0 t ∷ map (notify_submission v) ws) flag ∙ ap (λ l. sent home w ∷ l) rest)
   where
     to : Obj → Blk → Bool → Submission
     to n b t = record { blk = b; node = Some n; barrier = t }
 
-pub told_is_sent : (plan : PlanView) (past : List Event) (v : MachineView) (g : ℕ) → GroupsAre plan past v → map (told v) (list_at v.groups.notify g) ≡ map (sent (λ k. (block_at v k).home)) (list_at v.groups.notify g)
+pub told_is_sent : (plan : PlanView) (past : List Event) (v : MachineView) (g : ℕ) → GroupsAre plan past v → map (notify_submission v) (list_at v.groups.notify g) ≡ map (sent (λ k. (block_at v k).home)) (list_at v.groups.notify g)
 told_is_sent plan past v g groups =
     as_sent (λ k. (block_at v k).home) v (list_at v.groups.notify g) (λ k. refl) (ap (list_all (λ s. not s.barrier)) (groups.notify g) ∙ notify_plain plan past g)
 

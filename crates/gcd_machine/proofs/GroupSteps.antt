@@ -18,7 +18,7 @@ use Rattle.gcd_group.specs.GroupsView.{GroupsView, count_at, entered_at, due_at,
 use Rattle.gcd_history.specs.declared.submission.Submission.{Submission}
 use Rattle.gcd_refinement.specs.MachineView.{MachineView, idle, block_at}
 use Rattle.gcd_refinement.specs.declared.progress.BlockProgress.{BlockProgress}
-use Rattle.gcd_refinement.specs.Ties.{GroupsAre, told}
+use Rattle.gcd_refinement.specs.Ties.{GroupsAre, notify_submission}
 use Rattle.gcd_refinement.specs.Submits.{sleepers_at}
 use Rattle.gcd_refinement.specs.After.{with_block, with_wakeable, all_fired, all_woken, after}
 use Rattle.gcd_refinement.specs.AfterLimits.{without_limit, without_ripe}
@@ -92,7 +92,7 @@ none_registered : (plan : PlanView) (past : List Event) (v : MachineView) (g : �
 none_registered plan past v g groups empty =
     no_told (list_at v.groups.notify g) (groups.notify g ∙ none_waits plan past g (sym (groups.counts g) ∙ eqb-true (count_at v.groups g) 0 empty))
   where
-    no_told : (ws : List (Blk × Bool)) → map (told v) ws ≡ [] → ws ≡ []
+    no_told : (ws : List (Blk × Bool)) → map (notify_submission v) ws ≡ [] → ws ≡ []
     no_told [] h = refl
     no_told (w ∷ ws) h = cc
 

@@ -29,7 +29,7 @@ use Rattle.gcd_lists.specs.ListsView.{list_at, barrier_in, place_of}
 use Rattle.gcd_lists.proofs.Places.{place_of_none}
 use Rattle.gcd_refinement.specs.MachineView.{MachineView}
 use Rattle.gcd_refinement.specs.Bounds.{place_in}
-use Rattle.gcd_refinement.specs.Ties.{told}
+use Rattle.gcd_refinement.specs.Ties.{notify_submission}
 use Rattle.gcd_refinement.specs.Stands.{IsTied}
 use Rattle.gcd_refinement.proofs.PlacesAre.{uncounted}
 
@@ -168,5 +168,5 @@ module _ (past : List Event) (m : MachineView) (t : IsTied m.plan past m) where
   few_waiting g low =
       let few = few_notified m.plan past g t.valid t.lawful low in
       let same = ap length (t.groups.notify g) in
-      let long = length-map (list_at m.groups.notify g) (told m) in
+      let long = length-map (list_at m.groups.notify g) (notify_submission m) in
       omega (arith, few, same, long)

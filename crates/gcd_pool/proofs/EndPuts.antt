@@ -13,8 +13,8 @@ use Rattle.gcd_row.specs.declared.pass.RowPass.{RowPass}
 use Rattle.gcd_pool.specs.Hands.{IsSettled}
 use Rattle.gcd_pool.specs.Outcomes.{SaysOutcome}
 use Rattle.gcd_pool.specs.Works.{WasEndPut}
-use Rattle.gcd_pool.specs.declared.easing.Outcome.{Outcome}
-use Rattle.gcd_pool.specs.declared.easing.Outcome.TheVariants.{Placed, Barred, Full, Stopped}
+use Rattle.gcd_pool.specs.declared.putting.Outcome.{Outcome}
+use Rattle.gcd_pool.specs.declared.putting.Outcome.TheVariants.{Placed, Barred, Full, Stopped}
 use Rattle.gcd_pool.specs.declared.turn.Turn.TheVariants.{Left, Ended, Stopped as TurnStopped}
 use Rattle.gcd_pool.proofs.Outcomes.{barred_adds_none, barred_leaves, barred_none, full_length, outcome_adds, outcome_ended, outcome_ends, outcome_goes, outcome_leaves, outcome_only, outcome_settled, outcome_stops}
 use Rattle.gcd_pool.proofs.Works.{ended_is_work}

@@ -21,8 +21,8 @@ use Rattle.gcd_pool.specs.Hands.{GoesOn, IsFresh, IsSettled}
 use Rattle.gcd_pool.specs.Outcomes.{HasWaited, SaysOutcome, WasPut}
 use Rattle.gcd_pool.specs.Placing.{HasPlaced, HasPlacedNone, SaysRecorded}
 use Rattle.gcd_pool.specs.Works.{AddsNone, AddsOnly, AddsWork}
-use Rattle.gcd_pool.specs.declared.easing.Outcome.{Outcome}
-use Rattle.gcd_pool.specs.declared.easing.Outcome.TheVariants.{Placed, Barred, Full, Stopped}
+use Rattle.gcd_pool.specs.declared.putting.Outcome.{Outcome}
+use Rattle.gcd_pool.specs.declared.putting.Outcome.TheVariants.{Placed, Barred, Full, Stopped}
 use Rattle.gcd_pool.specs.declared.turn.Turn.{Turn}
 use Rattle.gcd_pool.specs.declared.turn.Turn.TheVariants.{Left, Waited, Placed as TurnPlaced, Ended, Stopped as TurnStopped}
 use Rattle.gcd_pool.proofs.Placing.{leaves_barred, leaves_full, one_further, put_barred, quiet_further, recorded_further, records, records_end, stops, waits_barred}

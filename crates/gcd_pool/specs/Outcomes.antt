@@ -9,8 +9,8 @@ use Rattle.gcd_row.specs.declared.board.RowBoard.{RowBoard}
 use Rattle.gcd_row.specs.declared.pass.RowPass.{RowPass}
 use Rattle.gcd_row.specs.declared.put.Put.{Put}
 use Rattle.gcd_row.specs.declared.put.Put.TheVariants.{Placed as PutPlaced, Barred as PutBarred, Full as PutFull}
-use Rattle.gcd_pool.specs.declared.easing.Outcome.{Outcome}
-use Rattle.gcd_pool.specs.declared.easing.Outcome.TheVariants.{Placed, Barred, Full, Stopped}
+use Rattle.gcd_pool.specs.declared.putting.Outcome.{Outcome}
+use Rattle.gcd_pool.specs.declared.putting.Outcome.TheVariants.{Placed, Barred, Full, Stopped}
 
 module _ {S : Type 0} where
   -- nothing of its own has come, and it has the slots that it had

@@ -14,7 +14,7 @@ ghost use Rattle.gcd_pool.specs.Placing.{SaysBegun};
 ghost use Rattle.gcd_pool.specs.Turns.{AfterTurn, IsLaidDown, LaysFoundDown, SaysOut};
 ghost use Rattle.gcd_pool.specs.Works.{AddsWork};
 
-use crate::easing::{Outcome, put_chosen_through};
+use crate::putting::{Outcome, put_chosen_through};
 use crate::finding::find_drain;
 use crate::hand::{Hand, Pool};
 use crate::run_cells::RunCells;

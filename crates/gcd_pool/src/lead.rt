@@ -15,7 +15,7 @@ ghost use Rattle.gcd_pool.specs.Works.{AddsOnly, AddsWork};
 
 use crate::drains::begin_chosen;
 use crate::duty::node_of_begin;
-use crate::easing::{Outcome, pass_many, pass_seen, put_through};
+use crate::putting::{Outcome, pass_many, pass_seen, put_through};
 use crate::hand::{Hand, Pool};
 use crate::idle::Idle;
 use crate::own::record_own;
@@ -141,9 +141,7 @@ impl<'a, S: RunCells> Recorder<Pool<'a, S>> for Hand<S> {
     }
 
     #[inline(always)]
-    fn look(&mut self, plan: &Plan, most: u32, desk: &Pool<'a, S>) {
-        let _ = plan;
-        let _ = most;
+    fn look(&mut self, _plan: &Plan, _most: u32, desk: &Pool<'a, S>) {
         desk.board.look(&mut self.pass);
     }
 
@@ -151,13 +149,11 @@ impl<'a, S: RunCells> Recorder<Pool<'a, S>> for Hand<S> {
     fn put<R: Wait>(
         &mut self,
         rt: &R,
-        plan: &Plan,
-        most: u32,
+        _plan: &Plan,
+        _most: u32,
         desk: &Pool<'a, S>,
         e: Event,
     ) -> Result<gcd_loop::Put, AllocError> {
-        let _ = plan;
-        let _ = most;
         if !pass_many(desk, self) {
             return Err(AllocError);
         }
@@ -168,13 +164,11 @@ impl<'a, S: RunCells> Recorder<Pool<'a, S>> for Hand<S> {
     fn work<R: Wait>(
         &mut self,
         rt: &R,
-        plan: &Plan,
-        most: u32,
+        _plan: &Plan,
+        _most: u32,
         desk: &Pool<'a, S>,
         e: Event,
     ) -> Result<Step, AllocError> {
-        let _ = plan;
-        let _ = most;
         if !pass_many(desk, self) {
             return Err(AllocError);
         }
@@ -184,14 +178,11 @@ impl<'a, S: RunCells> Recorder<Pool<'a, S>> for Hand<S> {
     #[inline(always)]
     fn rest<R: Wait>(
         &mut self,
-        rt: &R,
-        plan: &Plan,
-        most: u32,
+        _rt: &R,
+        _plan: &Plan,
+        _most: u32,
         desk: &Pool<'a, S>,
     ) -> Result<Step, AllocError> {
-        let _ = rt;
-        let _ = plan;
-        let _ = most;
         if desk.is_stopped() {
             return Err(AllocError);
         }

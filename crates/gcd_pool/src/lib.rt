@@ -61,7 +61,7 @@
 
 mod drains;
 mod duty;
-mod easing;
+mod putting;
 mod finding;
 mod hand;
 mod idle;

@@ -14,7 +14,7 @@ ghost use Rattle.gcd_pool.specs.Placing.{SaysRecorded};
 ghost use Rattle.gcd_pool.specs.Turns.{AfterTurn};
 ghost use Rattle.gcd_pool.specs.Works.{AddsOnly, AddsWork, WasEndPut};
 
-use crate::easing::{Outcome, put_chosen_through, put_through};
+use crate::putting::{Outcome, put_chosen_through, put_through};
 use crate::hand::{Hand, Pool};
 use crate::run_cells::RunCells;
 use crate::turn::Turn;

@@ -127,13 +127,11 @@ fn lies_in_deque<R: Abort>(rt: &R, rack: &Rack, bench: &mut Bench, queue: Obj) -
 }
 
 // The run has not ended for the worker.
-fn goes_on<S: RunCells, R: Abort>(rt: &R, pool: &Pool<S>, hand: &Hand<S>, turn: Turn)
-    requires of { IsHandOf S.shape S.gives pool.now hand.now }
-    requires after { AfterTurn S.shape turn (view hand.now.pass) (slots hand.now.pass) }
-    ensures { IsReady S.shape S.gives pool.now hand.now }
+fn goes_on<S: RunCells, R: Abort>(rt: &R, _pool: &Pool<S>, _hand: &Hand<S>, turn: Turn)
+    requires of { IsHandOf S.shape S.gives _pool.now _hand.now }
+    requires after { AfterTurn S.shape turn (view _hand.now.pass) (slots _hand.now.pass) }
+    ensures { IsReady S.shape S.gives _pool.now _hand.now }
 {
-    let _ = pool;
-    let _ = hand;
     if let Turn::Left = turn {
         panic!(rt; "a worker left")
     }
@@ -288,14 +286,13 @@ fn make_all<S: RunCells, R: Wait + Abort>(
 // The last hand that is left.
 fn last_hand<S: RunCells + Drop, R: Abort>(
     rt: &R,
-    pool: &Pool<S>,
+    _pool: &Pool<S>,
     hands: &mut Vec<Hand<S>>,
 ) -> Hand<S>
-    requires { All (IsReady S.shape S.gives pool.now) hands.old.items }
-    ensures others { All (IsReady S.shape S.gives pool.now) hands.new.items }
-    ensures hand { IsReady S.shape S.gives pool.now result }
+    requires { All (IsReady S.shape S.gives _pool.now) hands.old.items }
+    ensures others { All (IsReady S.shape S.gives _pool.now) hands.new.items }
+    ensures hand { IsReady S.shape S.gives _pool.now result }
 {
-    let _ = pool;
     let Some(hand) = hands.pop() else {
         panic!(rt; "two hands")
     };

@@ -100,12 +100,11 @@ pub fn rack_of<R: Abort>(
 }
 
 /// The last bench that is left.
-pub fn next_bench<R: Abort>(rt: &R, rack: &Rack, benches: &mut Vec<Bench>) -> Bench
-    requires { All (λ b. IsBenchOf rack.now b) benches.old.items }
-    ensures others { All (λ b. IsBenchOf rack.now b) benches.new.items }
-    ensures bench { IsBenchOf rack.now result }
+pub fn next_bench<R: Abort>(rt: &R, _rack: &Rack, benches: &mut Vec<Bench>) -> Bench
+    requires { All (λ b. IsBenchOf _rack.now b) benches.old.items }
+    ensures others { All (λ b. IsBenchOf _rack.now b) benches.new.items }
+    ensures bench { IsBenchOf _rack.now result }
 {
-    let _ = rack;
     let Some(bench) = benches.pop() else {
         panic!(rt; "a bench for each worker")
     };

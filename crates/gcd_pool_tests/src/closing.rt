@@ -15,11 +15,10 @@ use std::alloc::Global;
 use std::process::Abort;
 
 // Takes the event, if it may come next.
-fn takes(plan: &Plan, machine: &mut Machine, e: Event) -> bool
-    requires { (h : List Event) × StandsFor machine.old plan.now h }
-    ensures { (h : List Event) × StandsFor machine.new plan.now h }
+fn takes(_plan: &Plan, machine: &mut Machine, e: Event) -> bool
+    requires { (h : List Event) × StandsFor machine.old _plan.now h }
+    ensures { (h : List Event) × StandsFor machine.new _plan.now h }
 {
-    let _ = plan;
     if machine.len() >= MAX_EVENTS {
         return false;
     }

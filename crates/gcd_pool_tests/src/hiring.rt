@@ -113,16 +113,15 @@ pub fn team_of<S: Slot + Drop, R: Abort>(
 // The pass of the last hand, which is that of the worker of this number.
 fn last_pass<S: Slot + Drop, R: Abort>(
     rt: &R,
-    board: &RowBoard<S>,
+    _board: &RowBoard<S>,
     hands: &mut Vec<Hand<S>>,
     number: u8,
 ) -> RowPass<S>
-    requires { All (λ h. IsPassOf S.shape S.gives board.now h.pass) hands.old.items }
-    ensures others { All (λ h. IsPassOf S.shape S.gives board.now h.pass) hands.new.items }
-    ensures pass { IsPassOf S.shape S.gives board.now result }
+    requires { All (λ h. IsPassOf S.shape S.gives _board.now h.pass) hands.old.items }
+    ensures others { All (λ h. IsPassOf S.shape S.gives _board.now h.pass) hands.new.items }
+    ensures pass { IsPassOf S.shape S.gives _board.now result }
     ensures worker { (view result).worker ≡ number }
 {
-    let _ = board;
     let Some(
         Hand {
             pass,
@@ -144,21 +143,20 @@ fn take_in<S: Slot + Drop>(
     board: &RowBoard<S>,
     head: &mut RowPass<S>,
     other: RowPass<S>,
-    number: u8,
+    _number: u8,
 )
     requires pass { IsPassOf S.shape S.gives board.now head.old }
     requires other { IsPassOf S.shape S.gives board.now other }
-    requires worker { ((view head.old).worker ≡ 0) × ((view other).worker ≡ number) }
-    requires number { 0 < number }
+    requires worker { ((view head.old).worker ≡ 0) × ((view other).worker ≡ _number) }
+    requires number { 0 < _number }
     requires home { standing_of (view head.old).hands 0 ≢ Some Out }
-    requires back { (w : ℕ) → number < w → standing_of (view head.old).hands w ≢ Some Out }
+    requires back { (w : ℕ) → _number < w → standing_of (view head.old).hands w ≢ Some Out }
     ensures pass { IsPassOf S.shape S.gives board.now head.new }
     ensures worker { (view head.new).worker ≡ 0 }
     ensures home { standing_of (view head.new).hands 0 ≢ Some Out }
-    ensures back { (w : ℕ) → number ≤ w → standing_of (view head.new).hands w ≢ Some Out }
+    ensures back { (w : ℕ) → _number ≤ w → standing_of (view head.new).hands w ≢ Some Out }
     ensures gathered { (journal : List Event) → IsGathered (view head.old) journal → IsGathered (view head.new) journal }
 {
-    let _ = number;
     board.join(head, other);
 }
 

@@ -24,7 +24,7 @@ use Rattle.gcd_refinement.specs.MachineView.{idle, undelivered, machine_of, bloc
 use Rattle.gcd_refinement.specs.declared.progress.BlockProgress.{BlockProgress}
 use Rattle.gcd_refinement.specs.declared.progress.HandlerProgress.{HandlerProgress}
 use Rattle.gcd_refinement.specs.Shape.{PartsFit, OwnFit}
-use Rattle.gcd_refinement.specs.Ties.{ReferencesAre, ListsAre, TreeIs, HoldsAre, DrainsAre, GroupsAre, SemasAre, WaitsAre, SourcesAre, TimersAre, WorkersAre, BlocksAre, HandlersAre, LimitsAre, MarksAre, TotalsAre, told, is_run}
+use Rattle.gcd_refinement.specs.Ties.{ReferencesAre, ListsAre, TreeIs, HoldsAre, DrainsAre, GroupsAre, SemasAre, WaitsAre, SourcesAre, TimersAre, WorkersAre, BlocksAre, HandlersAre, LimitsAre, MarksAre, TotalsAre, notify_submission, is_run}
 use Rattle.gcd_refinement.specs.Sleepers.{limit_ahead, may_expire}
 use Rattle.gcd_refinement.proofs.StepMarks.{no_value}
 use Rattle.gcd_plan.specs.Limits.{max_workers}
@@ -140,7 +140,7 @@ groups_begin plan =
       entered = λ g. let r = get_or-replicate_same {A = ℕ} n g 0 in omega (arith, r);
       empty = λ g p low. absurd (omega (arith, low));
       emptied = λ g. let r = get_or-replicate_same {A = ℕ} n g 0 in omega (arith, r);
-      notify = λ g. ap (map (told (machine_of plan))) (get_or-replicate_same n g []);
+      notify = λ g. ap (map (notify_submission (machine_of plan))) (get_or-replicate_same n g []);
       fired = λ g. get_or-replicate_same n g 0;
     }
 

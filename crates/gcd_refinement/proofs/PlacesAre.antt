@@ -23,16 +23,16 @@ use Rattle.gcd_lists.proofs.Places.{place_of_is, place_of_none}
 use Rattle.gcd_refinement.specs.MachineView.{MachineView}
 use Rattle.gcd_refinement.specs.Shape.{PartsFit}
 use Rattle.gcd_refinement.specs.Bounds.{place_in, PlacesAre}
-use Rattle.gcd_refinement.specs.Ties.{ListsAre, GroupsAre, WaitsAre, WakesAre, waiter, told}
+use Rattle.gcd_refinement.specs.Ties.{ListsAre, GroupsAre, WaitsAre, WakesAre, waiter, notify_submission}
 use Rattle.gcd_refinement.proofs.Awake.{awake_from, called_from}
 
 -- ## A submitted block waits in no notify list
 
 -- a block that is not counted is not in the list
-pub uncounted : (v : MachineView) (b : ℕ) (xs : List (Blk × Bool)) → count_by (is_of b) (map (told v) xs) ≡ 0 → barrier_in b xs ≡ None
+pub uncounted : (v : MachineView) (b : ℕ) (xs : List (Blk × Bool)) → count_by (is_of b) (map (notify_submission v) xs) ≡ 0 → barrier_in b xs ≡ None
 uncounted v b [] none = refl
 uncounted v b (x ∷ xs) none =
-    let c = count_by-cons (is_of b) (told v x) (map (told v) xs) in
+    let c = count_by-cons (is_of b) (notify_submission v x) (map (notify_submission v) xs) in
     ⊎_elim
     (λ (here : (x.0.0 == b) ≡ true). let one = ap (λ u. cond {A = ℕ} u 1 0) here in absurd (omega (arith, c, one, none)))
     (λ (other : (x.0.0 == b) ≡ false).

@@ -27,7 +27,7 @@ use Rattle.gcd_group.specs.GroupsView.{count_at, emptied_at}
 use Rattle.gcd_refinement.specs.MachineView.{MachineView, block_at}
 use Rattle.gcd_refinement.specs.Shape.{PartsFit, OwnFit}
 use Rattle.gcd_refinement.specs.Sleepers.{group_of}
-use Rattle.gcd_refinement.specs.Ties.{GroupsAre, BlocksAre, told}
+use Rattle.gcd_refinement.specs.Ties.{GroupsAre, BlocksAre, notify_submission}
 use Rattle.gcd_refinement.specs.After.{groups_after, after}
 use Rattle.gcd_refinement.proofs.Members.{is_group}
 use Rattle.gcd_refinement.proofs.StepGroups.{fits_at, counts_step, end_counts}
@@ -96,7 +96,7 @@ rests_at : (plan : PlanView) (past : List Event) (v : MachineView) (k : ℕ) →
 rests_at plan past v k ties long =
     let low = ties.emptied k in
     record {
-      listed = λ zero_now. nothing_mapped (told v) (list_at v.groups.notify k) (ties.notify k ∙ none_waits plan past k (sym (ties.counts k) ∙ zero_now));
+      listed = λ zero_now. nothing_mapped (notify_submission v) (list_at v.groups.notify k) (ties.notify k ∙ none_waits plan past k (sym (ties.counts k) ∙ zero_now));
       due = ties.fired k;
       low = omega (arith, low, long);
     }
@@ -123,27 +123,27 @@ told_eq w p q same = ap (told_to w) same
 
 -- what waited is told as before
 was_told : (plan : PlanView) (past : List Event) (e : Event) (v : MachineView) (k : ℕ) (act : Option Act) → IsPlan plan → IsLawful plan (e ∷ past) → PartsFit plan v → GroupsAre plan past v → act_of plan e ≡ act
-    → ((b : ℕ) → home_of (after plan v e).blocks b ≡ homed b act (home_of v.blocks b)) → map (told (after plan v e)) (list_at v.groups.notify k) ≡ map (told v) (list_at v.groups.notify k)
+    → ((b : ℕ) → home_of (after plan v e).blocks b ≡ homed b act (home_of v.blocks b)) → map (notify_submission (after plan v e)) (list_at v.groups.notify k) ≡ map (notify_submission v) (list_at v.groups.notify k)
 was_told plan past e v k (Some (Notify g q b)) valid lawful fit ties at homes =
     ⊎_elim
     (λ (low : k < length plan.objects).
-    retold b.0 (told (after plan v e)) (told v) (list_at v.groups.notify k)
+    retold b.0 (notify_submission (after plan v e)) (notify_submission v) (list_at v.groups.notify k)
     (λ w other. told_eq w (home_of (after plan v e).blocks w.0.0) (home_of v.blocks w.0.0) (homes w.0.0 ∙ ap (λ t. cond t q (home_of v.blocks w.0.0)) (ne_eqb b.0 w.0.0 other)))
     (λ w. refl)
     (ap (count_by (is_of b.0)) (ties.notify k) ∙ unregistered plan past e g q b k valid lawful at low))
     (λ (high : length plan.objects ≤ k).
     let long = fit.notify in
     let none : list_at v.groups.notify k ≡ [] = get_or_past v.groups.notify.lists k [] (omega (arith, high, long)) in
-    ap (map (told (after plan v e))) none ∙ ap (map (told v)) (sym none))
+    ap (map (notify_submission (after plan v e))) none ∙ ap (map (notify_submission v)) (sym none))
     (cases_lt k (length plan.objects))
 was_told plan past e v k _ valid lawful fit ties at homes =
-    all_same (told (after plan v e)) (told v) (list_at v.groups.notify k) (λ w. told_eq w (home_of (after plan v e).blocks w.0.0) (home_of v.blocks w.0.0) (homes w.0.0))
+    all_same (notify_submission (after plan v e)) (notify_submission v) (list_at v.groups.notify k) (λ w. told_eq w (home_of (after plan v e).blocks w.0.0) (home_of v.blocks w.0.0) (homes w.0.0))
 
 -- what is registered is told as the history has it
-now_told : (v : MachineView) (blocks : ℕ → Obj) (k : ℕ) (act : Option Act) → ((b : ℕ) → (block_at v b).home ≡ homed b act (blocks b)) → map (told v) (told_by k act) ≡ registered k act
+now_told : (v : MachineView) (blocks : ℕ → Obj) (k : ℕ) (act : Option Act) → ((b : ℕ) → (block_at v b).home ≡ homed b act (blocks b)) → map (notify_submission v) (told_by k act) ≡ registered k act
 now_told v blocks k (Some (Notify g q b)) homes =
     let home : (block_at v b.0).home ≡ q = homes b.0 ∙ ap (λ t. cond t q (blocks b.0)) (eq-eqb b.0 b.0 refl) in
-    elim (g.0 == k) as (λ t. map (told v) (cond t ((b, false) ∷ []) []) ≡ cond t (on_node q b false) []) [
+    elim (g.0 == k) as (λ t. map (notify_submission v) (cond t ((b, false) ∷ []) []) ≡ cond t (on_node q b false) []) [
       | true ↦ ap (λ s. s ∷ []) (told_eq (b, false) (block_at v b.0).home q home)
       | false ↦ refl
     ]
@@ -188,8 +188,8 @@ empty_by now was new old len p above low few stays before beyond =
 
 -- ## The step
 
-mapped : (v : MachineView) (n : ℕ) (xs ys : List (Blk × Bool)) → map (told v) (cond (n == 0) [] (xs ++ ys)) ≡ cond (n == 0) [] (map (told v) xs ++ map (told v) ys)
-mapped v n xs ys = elim (n == 0) as (λ t. map (told v) (cond t [] (xs ++ ys)) ≡ cond t [] (map (told v) xs ++ map (told v) ys)) [ true ↦ refl | false ↦ map-append (told v) xs ys ]
+mapped : (v : MachineView) (n : ℕ) (xs ys : List (Blk × Bool)) → map (notify_submission v) (cond (n == 0) [] (xs ++ ys)) ≡ cond (n == 0) [] (map (notify_submission v) xs ++ map (notify_submission v) ys)
+mapped v n xs ys = elim (n == 0) as (λ t. map (notify_submission v) (cond t [] (xs ++ ys)) ≡ cond t [] (map (notify_submission v) xs ++ map (notify_submission v) ys)) [ true ↦ refl | false ↦ map-append (notify_submission v) xs ys ]
 
 pub groups_step : (plan : PlanView) (past : List Event) (e : Event) (v : MachineView) → IsPlan plan → IsLawful plan (e ∷ past) → PartsFit plan v → OwnFit plan v → GroupsAre plan past v → BlocksAre plan past v → v.len ≡ length past
     → GroupsAre plan (e ∷ past) (after plan v e)
@@ -215,10 +215,10 @@ groups_step plan past e v valid lawful fit own ties blocks long =
       emptied = λ g. let m = (moves_at plan past e v g valid lawful fit own ties blocks long).low in omega (arith, m, long);
       notify = λ k.
           let m = moves_at plan past e v k valid lawful fit own ties blocks long in
-          ap (map (told (after plan v e))) m.list
+          ap (map (notify_submission (after plan v e))) m.list
           ∙ (mapped (after plan v e) (count_at (groups_after plan v e) k) (list_at v.groups.notify k) (told_by k (act_of plan e))
-          ∙ (ap (λ n. cond (n == 0) [] (map (told (after plan v e)) (list_at v.groups.notify k) ++ map (told (after plan v e)) (told_by k (act_of plan e)))) (next.counts k)
-          ∙ (ap (λ l. cond (count plan (e ∷ past) k == 0) [] (l ++ map (told (after plan v e)) (told_by k (act_of plan e)))) (was_told plan past e v k (act_of plan e) valid lawful fit ties refl homes ∙ ties.notify k)
+          ∙ (ap (λ n. cond (n == 0) [] (map (notify_submission (after plan v e)) (list_at v.groups.notify k) ++ map (notify_submission (after plan v e)) (told_by k (act_of plan e)))) (next.counts k)
+          ∙ (ap (λ l. cond (count plan (e ∷ past) k == 0) [] (l ++ map (notify_submission (after plan v e)) (told_by k (act_of plan e)))) (was_told plan past e v k (act_of plan e) valid lawful fit ties refl homes ∙ ties.notify k)
           ∙ ap (λ l. cond (count plan (e ∷ past) k == 0) [] (notify_blocks plan past k ++ l)) (now_told (after plan v e) (home_of v.blocks) k (act_of plan e) homes))));
       fired = λ k. (moves_at plan past e v k valid lawful fit own ties blocks long).due;
     }

@@ -19,7 +19,7 @@ use Rattle.gcd_group.specs.GroupsView.{count_at}
 use Rattle.gcd_sema.specs.SemasView.{has_value_at}
 use Rattle.gcd_source.specs.SourcesView.{is_cancelled_at}
 use Rattle.gcd_refinement.specs.MachineView.{MachineView, block_at}
-use Rattle.gcd_refinement.specs.Ties.{told}
+use Rattle.gcd_refinement.specs.Ties.{notify_submission}
 
 -- ## Groups
 
@@ -83,7 +83,7 @@ at_cancel plan v (Some s) =
 -- the notify blocks of a group that is emptied, in the order of registration
 abbrev pub at_empty : MachineView → Option Obj → List Submission
 at_empty v None = []
-at_empty v (Some g) = map (told v) (list_at v.groups.notify g.0)
+at_empty v (Some g) = map (notify_submission v) (list_at v.groups.notify g.0)
 
 -- the notify block that the act registers at an empty group
 abbrev pub at_notify : MachineView → Option Act → List Submission

@@ -67,8 +67,8 @@ pub record DrainsAre (plan : PlanView) (past : List Event) (v : MachineView) : T
   pub barriers : (n : ℕ) → barriers_at v.drains n ≡ count_by (is_barrier_on plan past n) (open_runs past)
 
 -- a notify block as the history has it: it goes to its home
-abbrev pub told : MachineView → Blk × Bool → Submission
-told v w = record { blk = w.0; node = Some (block_at v w.0.0).home; barrier = w.1 }
+abbrev pub notify_submission : MachineView → Blk × Bool → Submission
+notify_submission v w = record { blk = w.0; node = Some (block_at v w.0.0).home; barrier = w.1 }
 
 -- what groups count, when they were empty, and the notify blocks that have not fired, of which none is due
 pub record GroupsAre (plan : PlanView) (past : List Event) (v : MachineView) : Type 0 where
@@ -77,7 +77,7 @@ pub record GroupsAre (plan : PlanView) (past : List Event) (v : MachineView) : T
       → entered_at v.groups g + count_by (λ e. leaves g (act_of plan e)) past ≡ count_by (λ e. enters g (act_of plan e)) past
   pub empty : (g p : ℕ) → p < length past → is_empty_since v.groups g (p + 1) ≡ is_empty_above plan past g p
   pub emptied : (g : ℕ) → emptied_at v.groups g ≤ length past
-  pub notify : (g : ℕ) → map (told v) (list_at v.groups.notify g) ≡ notify_blocks plan past g
+  pub notify : (g : ℕ) → map (notify_submission v) (list_at v.groups.notify g) ≡ notify_blocks plan past g
   pub fired : (g : ℕ) → due_at v.groups g ≡ 0
 
 -- signals, and of each wait whether it has expired

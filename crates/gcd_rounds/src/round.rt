@@ -56,37 +56,28 @@ impl<J: Job + Drop, H: Handler + Drop> Recorder<Global> for Round<J, H> {
         &self.run.machine
     }
 
-    fn look(&mut self, plan: &Plan, most: u32, desk: &Global) {
-        let _ = plan;
-        let _ = most;
-        let _ = desk;
+    fn look(&mut self, _plan: &Plan, _most: u32, _desk: &Global) {
     }
 
     fn put<R: Wait>(
         &mut self,
-        rt: &R,
+        _rt: &R,
         plan: &Plan,
-        most: u32,
-        desk: &Global,
+        _most: u32,
+        _desk: &Global,
         e: Event,
     ) -> Result<Put, AllocError> {
-        let _ = rt;
-        let _ = most;
-        let _ = desk;
         self.run.put(plan, e)
     }
 
     fn work<R: Wait>(
         &mut self,
-        rt: &R,
+        _rt: &R,
         plan: &Plan,
-        most: u32,
-        desk: &Global,
+        _most: u32,
+        _desk: &Global,
         e: Event,
     ) -> Result<Step, AllocError> {
-        let _ = rt;
-        let _ = most;
-        let _ = desk;
         if follow(&mut self.run, plan, e, &mut self.kept)? {
             return Ok(Step::Placed);
         }
@@ -95,15 +86,11 @@ impl<J: Job + Drop, H: Handler + Drop> Recorder<Global> for Round<J, H> {
 
     fn rest<R: Wait>(
         &mut self,
-        rt: &R,
-        plan: &Plan,
-        most: u32,
-        desk: &Global,
+        _rt: &R,
+        _plan: &Plan,
+        _most: u32,
+        _desk: &Global,
     ) -> Result<Step, AllocError> {
-        let _ = rt;
-        let _ = plan;
-        let _ = most;
-        let _ = desk;
         Ok(Step::Stopped)
     }
 }

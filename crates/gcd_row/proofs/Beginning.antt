@@ -106,7 +106,7 @@ module _ {S : Type 0} (shape : S → Shape) (gives : S → ℕ → Type 0) where
         };
         knows = record {
           seen = λ by u e. subst (λ (x : View S). StartsWith [] x.seen) (one v u by e).1 (starts_nil []);
-          told = λ by u e. subst (λ (x : View S). StartsWith [] x.told) (one v u by e).1 (starts_nil []);
+          relayed = λ by u e. subst (λ (x : View S). StartsWith [] x.relayed) (one v u by e).1 (starts_nil []);
           fits = λ by u e live. subst (Fits t []) (one v u by e).1 (record { terms = refl; own = refl });
           alone = λ i j a b at_a at_b _ _ _. (one v a i at_a).0 ∙ sym (one v b j at_b).0;
           head = λ by u e live zero_is. subst (Heads [] (v ∷ [])) (one v u by e).1 (record {

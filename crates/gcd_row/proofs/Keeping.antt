@@ -51,7 +51,7 @@ module _ {S : Type 0} (t : Terms S) where
     hands = refl;
     more = starts_refl v.seen;
     seen = k.seen id v at;
-    told = k.told id v at;
+    relayed = k.relayed id v at;
     own = (k.fits id v at live).own;
     whole = inl refl;
   }
@@ -70,7 +70,7 @@ module _ {S : Type 0} (t : Terms S) where
         hands = refl;
         more = starts_more v.seen e;
         seen = begins;
-        told = k.told id v at;
+        relayed = k.relayed id v at;
         own = between v.worker log (v.seen ++ e ∷ []) v.seen begins (starts_more v.seen e) (k.fits id v at live).own;
         whole = inl refl;
       }
@@ -88,7 +88,7 @@ module _ {S : Type 0} (t : Terms S) where
         hands = refl;
         more = starts_more v.seen e;
         seen = subst (λ (h : List Event). StartsWith (log ++ e ∷ []) (h ++ e ∷ [])) (sym all) (starts_refl (log ++ e ∷ []));
-        told = starts_trans (log ++ e ∷ []) log v.told (starts_more log e) (k.told id v at);
+        relayed = starts_trans (log ++ e ∷ []) log v.relayed (starts_more log e) (k.relayed id v at);
         own = subst (λ (h : List Event). of_worker v.worker (log ++ e ∷ []) ≡ of_worker v.worker (h ++ e ∷ [])) (sym all) refl;
         whole = inr (ap (λ (h : List Event). h ++ e ∷ []) all);
       }
@@ -173,7 +173,7 @@ module _ {S : Type 0} (shape : S → Shape) (gives : S → ℕ → Type 0) (key 
         keeps,
         tt,
         stays s k j id v v at ok (idle t k.history s.views id v v.marks at k.knows live) refl (k.passed.pair id v at),
-        (refl, (λ news. absurd (off (is_news (length v.seen) (get_or s.words j 0)) all.0 news)), λ _. (record { same = refl; told = subst (λ (h : List Event). StartsWith h v.told) (sym all.1) (k.knows.told id v at); fresh = knows_fresh t k.history s.views id v at k.knows live }, all.2)),
+        (refl, (λ news. absurd (off (is_news (length v.seen) (get_or s.words j 0)) all.0 news)), λ _. (record { same = refl; relayed = subst (λ (h : List Event). StartsWith h v.relayed) (sym all.1) (k.knows.relayed id v at); fresh = knows_fresh t k.history s.views id v at k.knows live }, all.2)),
       ))
       (λ (next : (e : Event) × (later : List Event) × (is_news (length v.seen) (get_or s.words j 0) ≡ true) × (k.history ≡ v.seen ++ e ∷ later) × (get_or s.words j 0 ≡ word_of e + lap (length v.seen)) × (why t.plan v.seen e ≡ None)). (
         saw v next.0,
@@ -192,7 +192,7 @@ module _ {S : Type 0} (shape : S → Shape) (gives : S → ℕ → Type 0) (key 
         keeps,
         tt,
         stays s k i id m.0 m.0 at ok (idle t k.history s.views id m.0 m.0.marks at k.knows live) refl (k.passed.pair id m.0 at),
-        (refl, record { same = refl; told = subst (λ (h : List Event). StartsWith h m.0.told) (sym all) (k.knows.told id m.0 at); fresh = knows_fresh t k.history s.views id m.0 at k.knows live }),
+        (refl, record { same = refl; relayed = subst (λ (h : List Event). StartsWith h m.0.relayed) (sym all) (k.knows.relayed id m.0 at); fresh = knows_fresh t k.history s.views id m.0 at k.knows live }),
       )
 
   pub tells_again : (n id i : ℕ) (m : Me S (View S)) → MayRead m.0 → Allows (Holds shape gives key) n id m i (λ x. x) (Reread (step n i 0 0 none) m)
@@ -371,17 +371,17 @@ module _ {S : Type 0} (shape : S → Shape) (gives : S → ℕ → Type 0) (key 
           λ b is. let same : j ≡ b = omega (arith, place, is) in subst (λ (c : ℕ). Asks v c x (knowing v v.seen (asked v.terms.limits v.marks j x lets))) same (record {
             view = refl;
             slow = omega (arith, slow, begins);
-            ends = λ le. (subst (λ (h : List Event). StartsWith h v.told) (sym (starts_whole k.history v.seen (k.knows.seen id v at) (omega (arith, slow, le)))) (k.knows.told id v at), knows_fresh t k.history s.views id v at k.knows live);
+            ends = λ le. (subst (λ (h : List Event). StartsWith h v.relayed) (sym (starts_whole k.history v.seen (k.knows.seen id v at) (omega (arith, slow, le)))) (k.knows.relayed id v at), knows_fresh t k.history s.views id v at k.knows live);
             mine = λ is. sym here ∙ ap (passed_word s.words) is ∙ k.passed.mine id v at live;
           }),
         ),
       )
 
-  -- a load at which the pass compares what it has seen with what it was told of
+  -- a load at which the pass compares what it has seen with what was relayed to it
   pub compares : (n id i : ℕ) (m : Me S (View S)) → MayRead m.0 → Allows (Holds shape gives key) n id m i (λ x. x) (Compared (step n i 0 0 none) m)
   compares n id i m ok s k wide at fits64 =
       let live = ok.unspent in
-      let seen = k.knows.seen id m.0 at in let told = k.knows.told id m.0 at in let f = k.knows.fits id m.0 at live in (
+      let seen = k.knows.seen id m.0 at in let relayed = k.knows.relayed id m.0 at in let f = k.knows.fits id m.0 at live in (
         m.0,
         keeps,
         tt,
@@ -389,8 +389,8 @@ module _ {S : Type 0} (shape : S → Shape) (gives : S → ℕ → Type 0) (key 
         (
           refl,
           record {
-            told_first = λ le. starts_shorter k.history m.0.told m.0.seen told seen le;
-            seen_first = λ le. let begins = starts_shorter k.history m.0.seen m.0.told seen told le in (begins, sym (between m.0.worker k.history m.0.told m.0.seen told begins f.own) ∙ f.own);
+            relayed_first = λ le. starts_shorter k.history m.0.relayed m.0.seen relayed seen le;
+            seen_first = λ le. let begins = starts_shorter k.history m.0.seen m.0.relayed seen relayed le in (begins, sym (between m.0.worker k.history m.0.relayed m.0.seen relayed begins f.own) ∙ f.own);
           },
         ),
       )
@@ -425,7 +425,7 @@ module _ {S : Type 0} (shape : S → Shape) (gives : S → ℕ → Type 0) (key 
       let w : View S = hearing v u in
       let later : List (View S) = set s.views id w in
       let theirs : get_elem? s.views far ≡ some u = sym (set_else s.views id far w apart) ∙ at_far in
-      let g : Grows k.history k.history v w = record { live = live; grows = starts_refl k.history; others = λ n ne. refl; terms = refl; spent = live; worker = refl; hands = refl; more = starts_refl v.seen; seen = k.knows.seen id v at; told = k.knows.seen far u theirs; own = (k.knows.fits id v at live).own; whole = inl refl } in
+      let g : Grows k.history k.history v w = record { live = live; grows = starts_refl k.history; others = λ n ne. refl; terms = refl; spent = live; worker = refl; hands = refl; more = starts_refl v.seen; seen = k.knows.seen id v at; relayed = k.knows.seen far u theirs; own = (k.knows.fits id v at live).own; whole = inl refl } in
       record { history = k.history; valid = k.valid; bounds = k.bounds; ring = k.ring; lawful = k.lawful; slots = k.slots; passed = wiped_passed t k.history s.words later far u (passed_on s k id v w at ok g refl (k.passed.pair id v at)) at_far gone_now; knows = wiped t k.history later far u (grown t k.history k.history s.views id v w at k.knows g) at_far gone_now }
 
   pub joins : (id : ℕ) (v : View S) (far : ℕ) (u : View S) → v.spent ≡ false → v.worker ≡ 0 → u.spent ≡ false → u.marks.passed ≡ gone → Joins (Holds shape gives key) id v far u (merging v u) spent_view

@@ -36,10 +36,10 @@ module _ {S : Type 0} where
       (let t = mine.seen_first le in record { more = t.0; own = t.1 }) (stays_ahead u)))
 
 module _ {S : Type 0} (shape : S → Shape) (gives : S → ℕ → Type 0) (b : RowBoard S) where
-  -- a pass whose view changes in nothing but what it was told of and the numbers that it gave out
-  pub same_pass : (p q : RowPass S) (told : List Event) (hands : List (ℕ × Standing)) → IsPassOf shape gives b p → q.seat.table_id ≡ p.seat.table_id → q.number ≡ p.number → q.machine ≡ p.machine → slots q ≡ slots p
-      → q.passed ≡ p.passed → q.floor ≡ p.floor → q.upto ≡ p.upto → q.beneath ≡ p.beneath → view q ≡ record { terms = (view p).terms; spent = (view p).spent; worker = (view p).worker; seen = (view p).seen; told = told; hands = hands; marks = (view p).marks } → IsPassOf shape gives b q
-  same_pass p q told hands is table number machine has own floor upto beneath now = record {
+  -- a pass whose view changes in nothing but what was relayed to it and the numbers that it gave out
+  pub same_pass : (p q : RowPass S) (relayed : List Event) (hands : List (ℕ × Standing)) → IsPassOf shape gives b p → q.seat.table_id ≡ p.seat.table_id → q.number ≡ p.number → q.machine ≡ p.machine → slots q ≡ slots p
+      → q.passed ≡ p.passed → q.floor ≡ p.floor → q.upto ≡ p.upto → q.beneath ≡ p.beneath → view q ≡ record { terms = (view p).terms; spent = (view p).spent; worker = (view p).worker; seen = (view p).seen; relayed = relayed; hands = hands; marks = (view p).marks } → IsPassOf shape gives b q
+  same_pass p q relayed hands is table number machine has own floor upto beneath now = record {
     table = table ∙ is.table;
     terms = ap (λ (x : View S). x.terms) now ∙ is.terms;
     may_read = subst (λ (x : View S). MayRead x) (sym now) (record { unspent = is.may_read.unspent; number = is.may_read.number; passed = is.may_read.passed });

@@ -97,7 +97,7 @@ module _ {S : Type 0} where
   looks_on v u w is a l = record {
     is = l.is ∙ ap (λ (y : View S). knowing y w.seen (known y w)) is;
     ahead = further v u w is a l.ahead;
-    told = subst (StartsWith w.seen) (ap (λ (y : View S). y.told) is) l.told;
+    relayed = subst (StartsWith w.seen) (ap (λ (y : View S). y.relayed) is) l.relayed;
     fresh = l.fresh;
   }
 

@@ -70,7 +70,7 @@ module _ {S : Type 0} (p : Terms S) (log : List Event) (views : List (View S)) (
   pub cuts : Knows p log cut
   cuts = let f = k.fits id v at live in record {
     seen = λ j u e. cases (StartsWith log u.seen) j u e (λ _ is. subst (λ (x : View S). StartsWith log x.seen) is (k.seen id v at)) (λ _ is. subst (λ (x : View S). StartsWith log x.seen) is (k.seen id v at)) (λ _ was. k.seen j u was);
-    told = λ j u e. cases (StartsWith log u.told) j u e (λ _ is. subst (λ (x : View S). StartsWith log x.told) is (k.told id v at)) (λ _ is. subst (λ (x : View S). StartsWith log x.told) is (starts_nil log)) (λ _ was. k.told j u was);
+    relayed = λ j u e. cases (StartsWith log u.relayed) j u e (λ _ is. subst (λ (x : View S). StartsWith log x.relayed) is (k.relayed id v at)) (λ _ is. subst (λ (x : View S). StartsWith log x.relayed) is (starts_nil log)) (λ _ was. k.relayed j u was);
     fits = λ j u e alive. cases (Fits p log u) j u e
         (λ _ is. subst (λ (x : View S). Fits p log x) is (record { terms = f.terms; own = f.own }))
         (λ _ is. subst (λ (x : View S). Fits p log x) is (record { terms = f.terms; own = heads.home n (λ one. some_not_none (standing_of v.hands n) Out one unused) }))
@@ -165,7 +165,7 @@ module _ {S : Type 0} (p : Terms S) (log : List Event) (views : List (View S)) (
   pub joins_known : Knows p log joined
   joins_known = let f = k.fits id v at live in record {
     seen = λ j x e. which (StartsWith log x.seen) j x e (λ is. subst (λ (y : View S). StartsWith log y.seen) is (starts_nil log)) (λ _ is. subst (λ (y : View S). StartsWith log y.seen) is all_of) (λ _ _ was. k.seen j x was);
-    told = λ j x e. which (StartsWith log x.told) j x e (λ is. subst (λ (y : View S). StartsWith log y.told) is (starts_nil log)) (λ _ is. subst (λ (y : View S). StartsWith log y.told) is (k.told id v at)) (λ _ _ was. k.told j x was);
+    relayed = λ j x e. which (StartsWith log x.relayed) j x e (λ is. subst (λ (y : View S). StartsWith log y.relayed) is (starts_nil log)) (λ _ is. subst (λ (y : View S). StartsWith log y.relayed) is (k.relayed id v at)) (λ _ _ was. k.relayed j x was);
     fits = λ j x e fine. alive_which (Fits p log x) j x e fine
         (λ _ is. subst (λ (y : View S). Fits p log y) is (record { terms = f.terms; own = between v.worker log both.seen v.seen all_of left f.own }))
         (λ _ _ was. k.fits j x was fine);
@@ -188,14 +188,14 @@ module _ {S : Type 0} (p : Terms S) (log : List Event) (views : List (View S)) (
   }
 
 -- a note is added, which only says what a pass has seen
-pub noted : {S : Type 0} (p : Terms S) (log : List Event) (views : List (View S)) (x : View S) → Knows p log views → x.spent ≡ true → StartsWith log x.seen → StartsWith log x.told → Knows p log (views ++ x ∷ [])
+pub noted : {S : Type 0} (p : Terms S) (log : List Event) (views : List (View S)) (x : View S) → Knows p log views → x.spent ≡ true → StartsWith log x.seen → StartsWith log x.relayed → Knows p log (views ++ x ∷ [])
 noted {S} p log views x k gone s t =
     let cases : (Q : Type 0) (j : ℕ) (u : View S) → get_elem? (views ++ x ∷ []) j ≡ some u → (x ≡ u → Q) → (get_elem? views j ≡ some u → Q) → Q =
     λ Q j u e new old. ⊎_elim (λ (was : get_elem? views j ≡ some u). old was) (λ (r : (j ≡ length views) × (x ≡ u)). new r.1) (at_end views x u j e) in
     let dead : (Q : Type 0) (u : View S) → x ≡ u → u.spent ≡ false → Q = λ Q u is alive. absurd (off u.spent (ap (λ (y : View S). y.spent) (sym is) ∙ gone) alive) in
     record {
       seen = λ j u e. cases (StartsWith log u.seen) j u e (λ is. subst (λ (y : View S). StartsWith log y.seen) is s) (λ was. k.seen j u was);
-      told = λ j u e. cases (StartsWith log u.told) j u e (λ is. subst (λ (y : View S). StartsWith log y.told) is t) (λ was. k.told j u was);
+      relayed = λ j u e. cases (StartsWith log u.relayed) j u e (λ is. subst (λ (y : View S). StartsWith log y.relayed) is t) (λ was. k.relayed j u was);
       fits = λ j u e alive. cases (Fits p log u) j u e (λ is. dead (Fits p log u) u is alive) (λ was. k.fits j u was alive);
       alone = λ i j a b at_a at_b live_a live_b same. cases (i ≡ j) i a at_a (λ is. dead (i ≡ j) a is live_a) (λ was_a. cases (i ≡ j) j b at_b (λ is. dead (i ≡ j) b is live_b) (λ was_b. k.alone i j a b was_a was_b live_a live_b same));
       head = λ j u e alive zero_is. cases (Heads log (views ++ x ∷ []) u) j u e (λ is. dead (Heads log (views ++ x ∷ []) u) u is alive)
@@ -213,7 +213,7 @@ wiped {S} p log views far u k at gone =
     let dead : (Q : Type 0) (x : View S) → spent_view ≡ x → x.spent ≡ false → Q = λ Q x is alive. absurd (off x.spent (ap (λ (y : View S). y.spent) (sym is)) alive) in
     record {
       seen = λ j x e. cases (StartsWith log x.seen) j x e (λ is. subst (λ (y : View S). StartsWith log y.seen) is (starts_nil log)) (λ was. k.seen j x was);
-      told = λ j x e. cases (StartsWith log x.told) j x e (λ is. subst (λ (y : View S). StartsWith log y.told) is (starts_nil log)) (λ was. k.told j x was);
+      relayed = λ j x e. cases (StartsWith log x.relayed) j x e (λ is. subst (λ (y : View S). StartsWith log y.relayed) is (starts_nil log)) (λ was. k.relayed j x was);
       fits = λ j x e alive. cases (Fits p log x) j x e (λ is. dead (Fits p log x) x is alive) (λ was. k.fits j x was alive);
       alone = λ i j a b at_a at_b live_a live_b same. cases (i ≡ j) i a at_a (λ is. dead (i ≡ j) a is live_a) (λ was_a. cases (i ≡ j) j b at_b (λ is. dead (i ≡ j) b is live_b) (λ was_b. k.alone i j a b was_a was_b live_a live_b same));
       head = λ j x e alive zero_is. cases (Heads log later x) j x e (λ is. dead (Heads log later x) x is alive)

@@ -76,7 +76,7 @@ module _ {S : Type 0} where
       let floor : w.marks.floor ≡ u.marks.floor = ap (λ (y : View S). y.marks.floor) now in
       record {
         knew = knew_on v u w (asked u.terms.limits u.marks k x false) s.knew now refl refl;
-        told = subst (λ (y : View S). Rattle.gcd_team.specs.Team.StartsWith y.seen y.told) is ended.0;
+        relayed = subst (λ (y : View S). Rattle.gcd_team.specs.Team.StartsWith y.seen y.relayed) is ended.0;
         fresh = subst (λ (y : View S). Rattle.gcd_row.specs.Plays.KnowsFresh y) is ended.1;
         holder = record {
           worker = lt;

@@ -39,7 +39,7 @@ pub record Grows {S : Type 0} (log next : List Event) (v w : View S) : Type 0 wh
   pub hands : w.hands ≡ v.hands
   pub more : StartsWith w.seen v.seen
   pub seen : StartsWith next w.seen
-  pub told : StartsWith next w.told
+  pub relayed : StartsWith next w.relayed
   pub own : of_worker v.worker next ≡ of_worker v.worker w.seen
   pub whole : (next ≡ log) ⊎ (w.seen ≡ next)
 
@@ -102,7 +102,7 @@ module _ {S : Type 0} (p : Terms S) (log next : List Event) (views : List (View 
   pub grown : Knows p next later
   grown = record {
     seen = λ j u e. cases (StartsWith next u.seen) j u e (λ _ is. subst (λ (x : View S). StartsWith next x.seen) is g.seen) (λ _ was. starts_trans next log u.seen g.grows (k.seen j u was));
-    told = λ j u e. cases (StartsWith next u.told) j u e (λ _ is. subst (λ (x : View S). StartsWith next x.told) is g.told) (λ _ was. starts_trans next log u.told g.grows (k.told j u was));
+    relayed = λ j u e. cases (StartsWith next u.relayed) j u e (λ _ is. subst (λ (x : View S). StartsWith next x.relayed) is g.relayed) (λ _ was. starts_trans next log u.relayed g.grows (k.relayed j u was));
     fits = λ j u e live. cases (Fits p next u) j u e (λ _ is. fits_one u is live) (λ ne was. fits_other j u ne was live);
     alone = λ i j a b at_a at_b live_a live_b same. cases (i ≡ j) i a at_a
         (λ here is_a. cases (i ≡ j) j b at_b (λ there is_b. here ∙ sym there) (λ ne was. here ∙ alone_one j b ne was live_b (ap (λ (x : View S). x.worker) is_a ∙ same)))

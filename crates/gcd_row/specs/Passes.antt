@@ -78,12 +78,12 @@ module _ {S : Type 0} where
     pub may : why v.terms.plan v.seen event ≡ None
     pub other : worker_of event ≢ v.worker
 
-  -- it has seen the row as it was at a moment of the call: no less than it had seen or was told of before, nothing more of its
+  -- it has seen the row as it was at a moment of the call: no less than it had seen or than was relayed to it before, nothing more of its
   -- own, and nothing of a number that was never given out
   pub record Looks (v w : View S) : Type 0 where
     pub is : w ≡ knowing v w.seen (known v w)
     pub ahead : Ahead v w.seen
-    pub told : StartsWith w.seen v.told
+    pub relayed : StartsWith w.seen v.relayed
     pub fresh : KnowsFresh w
 
   -- its event stands behind the history h, which is longer only by others' events
@@ -115,7 +115,7 @@ module _ {S : Type 0} where
   -- a passed word does not let the next event be written, and the row was what the pass has seen when it was loaded
   pub record IsHeldAt (v w : View S) (by passed : ℕ) : Type 0 where
     pub knew : Knew v w
-    pub told : StartsWith v.seen v.told
+    pub relayed : StartsWith v.seen v.relayed
     pub fresh : KnowsFresh v
     pub holder : IsHolder v w by passed
 

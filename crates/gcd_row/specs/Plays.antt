@@ -28,19 +28,19 @@ module _ {S : Type 0} where
   abbrev pub KnowsFresh : View S → Type 0
   KnowsFresh v = v.worker ≡ 0 → (w : ℕ) → w ≢ 0 → standing_of v.hands w ≡ None → of_worker w v.seen ≡ []
 
-  -- the row is what the pass has seen, so it begins with what the pass was told of
+  -- the row is what the pass has seen, so it begins with what was relayed to the pass
   pub record EndsHere (v w : View S) : Type 0 where
     pub same : w ≡ v
-    pub told : StartsWith v.seen v.told
+    pub relayed : StartsWith v.seen v.relayed
     pub fresh : KnowsFresh v
 
   abbrev pub Found : View S → ℕ → View S → Type 0
   Found v n w = (e : Event) × IsFitting e × (n ≡ word_of e + lap (length v.seen)) × SeesMore v e w
 
-  -- the shorter of what was seen and what was told of begins the longer, which has no more events of the pass's worker
+  -- the shorter of what was seen and what was relayed begins the longer, which has no more events of the pass's worker
   pub record Compares (v : View S) : Type 0 where
-    pub told_first : length v.told ≤ length v.seen → StartsWith v.seen v.told
-    pub seen_first : length v.seen ≤ length v.told → StartsWith v.told v.seen × (of_worker v.worker v.told ≡ of_worker v.worker v.seen)
+    pub relayed_first : length v.relayed ≤ length v.seen → StartsWith v.seen v.relayed
+    pub seen_first : length v.seen ≤ length v.relayed → StartsWith v.relayed v.seen × (of_worker v.worker v.relayed ≡ of_worker v.worker v.seen)
 
   -- what a pass has after its own event: the slot of the run that it took, with what lay there; none where it gave a run back
   pub record Turned (shape : S → Shape) (gives : S → ℕ → Type 0) (t : Terms S) (h : List Event) (e : Event) (c d : List (ℕ × S)) : Type 0 where
@@ -68,7 +68,7 @@ module _ {S : Type 0} where
   pub record Asks (v : View S) (k x : ℕ) (w : View S) : Type 0 where
     pub view : w ≡ knowing v v.seen (asked v.terms.limits v.marks k x (nat_lt (length v.seen) (x + 4096)))
     pub slow : length v.seen ≤ x + 4096
-    pub ends : x + 4096 ≤ length v.seen → StartsWith v.seen v.told × KnowsFresh v
+    pub ends : x + 4096 ≤ length v.seen → StartsWith v.seen v.relayed × KnowsFresh v
     pub mine : k ≡ v.worker → x ≡ v.marks.passed
 
   -- a load of a passed word
@@ -87,7 +87,7 @@ module _ {S : Type 0} where
   abbrev pub Ended : Step S → Me S (View S) → ℕ → Me S (View S) → Type 0
   Ended st m n k = (k ≡ m) × EndsHere m.0 k.0
 
-  -- any load, of a pass that was told of another
+  -- any load, of a pass to which another relayed what it has seen
   abbrev pub Compared : Step S → Me S (View S) → ℕ → Me S (View S) → Type 0
   Compared st m n k = (k ≡ m) × Compares m.0
 

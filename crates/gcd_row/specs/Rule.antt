@@ -36,7 +36,7 @@ module _ {S : Type 0} where
   -- what the passes know of the history
   pub record Knows (t : Terms S) (h : List Event) (views : List (View S)) : Type 0 where
     pub seen : (by : ℕ) (v : View S) → get_elem? views by ≡ some v → StartsWith h v.seen
-    pub told : (by : ℕ) (v : View S) → get_elem? views by ≡ some v → StartsWith h v.told
+    pub relayed : (by : ℕ) (v : View S) → get_elem? views by ≡ some v → StartsWith h v.relayed
     pub fits : (by : ℕ) (v : View S) → get_elem? views by ≡ some v → v.spent ≡ false → Fits t h v
     -- no two passes are of one worker
     pub alone : (i j : ℕ) (v u : View S) → get_elem? views i ≡ some v → get_elem? views j ≡ some u → v.spent ≡ false → u.spent ≡ false → v.worker ≡ u.worker → i ≡ j

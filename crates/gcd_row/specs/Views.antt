@@ -42,7 +42,7 @@ module _ {S : Type 0} where
 
   -- what worker 0's first pass knows
   abbrev pub opening_view : Copies S → View S
-  opening_view k = record { terms = given_terms k; spent = false; worker = 0; seen = []; told = []; hands = []; marks = first_marks }
+  opening_view k = record { terms = given_terms k; spent = false; worker = 0; seen = []; relayed = []; hands = []; marks = first_marks }
 
   -- what a pass that was joined is left with
   abbrev pub spent_view : View S
@@ -51,7 +51,7 @@ module _ {S : Type 0} where
     spent = true;
     worker = 0;
     seen = [];
-    told = [];
+    relayed = [];
     hands = [];
     marks = no_marks;
   }
@@ -62,7 +62,7 @@ module _ {S : Type 0} where
 
   -- a pass that has seen this history, and knows this of the passed words
   abbrev pub knowing : View S → List Event → Marks → View S
-  knowing v h m = record { terms = v.terms; spent = v.spent; worker = v.worker; seen = h; told = v.told; hands = v.hands; marks = m }
+  knowing v h m = record { terms = v.terms; spent = v.spent; worker = v.worker; seen = h; relayed = v.relayed; hands = v.hands; marks = m }
 
   -- its own passed word as v knows it, and what w knows of the others
   abbrev pub known : View S → View S → Marks
@@ -78,20 +78,20 @@ module _ {S : Type 0} where
 
   -- worker 0's pass, which has given out the number w
   abbrev pub lending : View S → ℕ → View S
-  lending v w = record { terms = v.terms; spent = v.spent; worker = v.worker; seen = v.seen; told = v.told; hands = (w, Out) ∷ v.hands; marks = v.marks }
+  lending v w = record { terms = v.terms; spent = v.spent; worker = v.worker; seen = v.seen; relayed = v.relayed; hands = (w, Out) ∷ v.hands; marks = v.marks }
 
   -- the new pass of worker w, which begins with what worker 0's has seen
   abbrev pub newcomer : View S → ℕ → View S
-  newcomer v w = record { terms = v.terms; spent = false; worker = w; seen = v.seen; told = []; hands = []; marks = passing v.marks 0 }
+  newcomer v w = record { terms = v.terms; spent = false; worker = w; seen = v.seen; relayed = []; hands = []; marks = passing v.marks 0 }
 
-  -- a pass that was told what another has seen
+  -- a pass to which another relayed what it has seen
   abbrev pub hearing : View S → View S → View S
-  hearing v u = record { terms = v.terms; spent = v.spent; worker = v.worker; seen = v.seen; told = u.seen; hands = v.hands; marks = v.marks }
+  hearing v u = record { terms = v.terms; spent = v.spent; worker = v.worker; seen = v.seen; relayed = u.seen; hands = v.hands; marks = v.marks }
 
   -- worker 0's pass, which has taken in another
   abbrev pub merging : View S → View S → View S
-  merging v u = record { terms = v.terms; spent = v.spent; worker = v.worker; seen = longer v.seen u.seen; told = v.told; hands = (u.worker, Back) ∷ v.hands; marks = v.marks }
+  merging v u = record { terms = v.terms; spent = v.spent; worker = v.worker; seen = longer v.seen u.seen; relayed = v.relayed; hands = (u.worker, Back) ∷ v.hands; marks = v.marks }
 
   -- what a pass has seen, and nothing else
   abbrev pub note : View S → View S
-  note v = record { terms = v.terms; spent = true; worker = v.worker; seen = v.seen; told = []; hands = []; marks = no_marks }
+  note v = record { terms = v.terms; spent = true; worker = v.worker; seen = v.seen; relayed = []; hands = []; marks = no_marks }

@@ -62,8 +62,8 @@
 //! is the next event's, whatever words the two have: as the pass's own passed word stands, the cell has that event or the next, and their
 //! lap bits differ. That a held event is held by a word loaded in the call is said by a count of such loads in the view, and by what the
 //! last of them found. That `look` sees the row as it is at a moment of the call is said by what a
-//! pass was *told*: a beginning of the history that another has seen, which is then in what it sees. A helper is told of no other
-//! before its join, and for it this rests on the form of `load_word` and `exchange_word` (`src/words.rt`), by which alone `look`
+//! pass had *relayed* to it: a beginning of the history that another has seen, which is then in what it sees. None is relayed to a
+//! helper before its join, and for it this rests on the form of `load_word` and `exchange_word` (`src/words.rt`), by which alone `look`
 //! and `put` read a word of the row: they are proved over every rule of a table and every kind of step, and say what that kind says
 //! of the word and of the number found there, so that number can only come from a step on that word in the call.
 //!

@@ -40,7 +40,7 @@ impl<S> Play<S, View<S>> for End {
     ghost then = { Ended };
 }
 
-// A load by a pass that was told of another.
+// A load by a pass to which another relayed what it has seen.
 pub struct Compare;
 
 impl<S> Play<S, View<S>> for Compare {

@@ -37,15 +37,14 @@ pub(crate) fn take_farther(machine: &mut Machine, mut other: Machine)
 
 impl<S: Slot> RowBoard<S> {
     // Splits off a seat for this worker.
-    fn cut<N: Numbered>(&self, seat: &mut Seat<S, View<S>>, worker: u8) -> Seat<S, View<S>>
+    fn cut<N: Numbered>(&self, seat: &mut Seat<S, View<S>>, _worker: u8) -> Seat<S, View<S>>
         requires board { seat.old.table_id ≡ self.now.table.shared.table_id }
         requires head { (seat.old.me.0.spent ≡ false) × (seat.old.me.0.worker ≡ 0) }
-        requires number { (worker ≢ 0) × (worker < self.now.table.shared.key.limits.workers) × (standing_of seat.old.me.0.hands worker ≡ None) }
-        requires picked { N.number ≡ worker }
-        ensures seat { (seat.new.table_id ≡ seat.old.table_id) × (seat.new.me ≡ (lending seat.old.me.0 worker, seat.old.me.1)) }
-        ensures new { (result.table_id ≡ seat.old.table_id) × (result.me ≡ (newcomer seat.old.me.0 worker, [])) }
+        requires number { (_worker ≢ 0) × (_worker < self.now.table.shared.key.limits.workers) × (standing_of seat.old.me.0.hands _worker ≡ None) }
+        requires picked { N.number ≡ _worker }
+        ensures seat { (seat.new.table_id ≡ seat.old.table_id) × (seat.new.me ≡ (lending seat.old.me.0 _worker, seat.old.me.1)) }
+        ensures new { (result.table_id ≡ seat.old.table_id) × (result.me ≡ (newcomer seat.old.me.0 _worker, [])) }
     {
-        let _ = worker;
         self.table.shared.split_seat::<Cut<N>>(seat)
     }
 
@@ -88,14 +87,14 @@ impl<S: Slot> RowBoard<S> {
         requires other { IsPassOf S.shape S.gives self.now other.old }
         ensures pass { IsPassOf S.shape S.gives self.now pass.new × (slots pass.new ≡ slots pass.old) }
         ensures other { IsPassOf S.shape S.gives self.now other.new × (slots other.new ≡ slots other.old) }
-        ensures told { view pass.new ≡ hearing (view pass.old) (view other.old) }
+        ensures relayed { view pass.new ≡ hearing (view pass.old) (view other.old) }
         ensures same { view other.new ≡ view other.old }
     {
         let note = self.table.shared.split_seat::<Tell>(&mut other.seat);
         self.table.shared.join_seat::<Tell>(&mut pass.seat, note);
     }
 
-    // Compares what a pass has seen with what it was told of.
+    // Compares what a pass has seen with what was relayed to it.
     fn compare(&self, pass: &mut RowPass<S>)
         requires { IsPassOf S.shape S.gives self.now pass.old }
         ensures pass { IsPassOf S.shape S.gives self.now pass.new × (slots pass.new ≡ slots pass.old) }

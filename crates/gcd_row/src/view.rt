@@ -57,8 +57,8 @@ pub struct View<S> {
     pub worker: u8,
     /// A beginning of the row's history, with all events of its worker.
     pub seen: LinkedList<Event>,
-    /// A beginning of the history that it was told of.
-    pub told: LinkedList<Event>,
+    /// A beginning of the history that another pass relayed to it.
+    pub relayed: LinkedList<Event>,
     /// At worker 0: each number that was given out, the last change first.
     pub hands: LinkedList<(u8, Standing)>,
     pub marks: Marks,

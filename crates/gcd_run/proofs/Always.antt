@@ -20,7 +20,7 @@ use Rattle.gcd_run.specs.Calls.{Calls, InputsSeen, Made, only_loads}
 use Rattle.gcd_run.specs.Checks.{CheckEnds}
 use Rattle.gcd_run.specs.End.{End, lawful_end, read_fault, stop_end, unlawful_end, usage_end}
 use Rattle.gcd_run.specs.Ends.{AskedEnds, CallEnds, HasStatus, IsWritten}
-use Rattle.gcd_run.specs.Ends.CallEnds.{told, wanting}
+use Rattle.gcd_run.specs.Ends.CallEnds.{reported, wanting}
 use Rattle.gcd_run.specs.Ends.IsWritten.{whole, cut_off}
 use Rattle.gcd_run.specs.Loads.{IsReady, StopsReady}
 use Rattle.gcd_run.specs.Loads.StopsReady.{at_script, at_file}
@@ -175,7 +175,7 @@ module _ (seen : InputsSeen) (sink : SinkSeen) (words : List Bytes) (result : En
         (is_judged seen tells c.script c.journal works.shelf_works c.plan c.text c.declares c.holds n end ends)
 
   pub always : CallEnds seen sink words result → Always seen sink words result
-  always (told end calls made ends written) = record {
+  always (reported end calls made ends written) = record {
     usage = λ none.
         let usage : (calls ≡ only_loads 0) × (end ≡ usage_end) = told_as None calls end none ends in
         written_as usage_end end usage.1 written;

@@ -14,7 +14,7 @@ use Rattle.gcd_run.specs.Checks.CheckEnds.{stopped as check_stopped, judged}
 use Rattle.gcd_run.specs.Checks.IsJudged.{lawful, unlawful}
 use Rattle.gcd_run.specs.End.{End, read_fault, refused_end, no_journal_end, run_text, large_text, lawful_text, stop_end}
 use Rattle.gcd_run.specs.Ends.{AskedEnds, Answers, CallEnds, HasStatus}
-use Rattle.gcd_run.specs.Ends.CallEnds.{told, wanting}
+use Rattle.gcd_run.specs.Ends.CallEnds.{reported, wanting}
 use Rattle.gcd_run.specs.Ends.IsWritten.{whole, cut_off}
 use Rattle.gcd_run.specs.Loads.{IsPlanOf, IsReady}
 use Rattle.gcd_run.specs.Runs.{BigEnds, Ran, TellsRun}
@@ -215,16 +215,16 @@ module _ (seen : InputsSeen) (sink : SinkSeen) (words : List Bytes) (result : En
 
   -- the status that the call answers says what it says
   pub says : CallEnds seen sink words result → (s : Status) → HasStatus result s → Says seen sink words result s
-  says (told end calls made ends (whole took answers)) s has =
+  says (reported end calls made ends (whole took answers)) s has =
       subst (Says seen sink words result) (one_status end.status s answers.status_is has)
       (says_asked calls made (request_of words) end refl ends took answers)
-  says (told end calls made ends (cut_off took failed answers)) s has =
+  says (reported end calls made ends (cut_off took failed answers)) s has =
       subst (Says seen sink words result) (one_status CutOff s answers.status_is has)
       (record {
         end = end;
         calls = calls;
         made = made;
-        told = ends;
+        reported = ends;
         failed = failed;
         prefix = took;
         journal_is = answers.journal_is;

@@ -30,7 +30,7 @@ stops_calls seen asked calls stop (wanting plan contents ready stop_is is) = of_
 -- the calls of a run
 pub run_calls : (seen : InputsSeen) (asked : RunAsked) (calls : Calls) (end : End) → RunEnds seen asked calls end → RunCalls seen asked calls
 run_calls seen asked calls end (stopped stop why is) = stops_calls seen asked calls stop why
-run_calls seen asked calls end (ran plan contents ready is told) = of_run plan ready.plan_is is
+run_calls seen asked calls end (ran plan contents ready is reported) = of_run plan ready.plan_is is
 
 -- the loads of a check
 pub stops_count : (shelf : ShelfSeen) (script journal : Bytes) (n : ℕ) (stop : Stop) → StopsCheck shelf script journal n stop → IsCheckCount n
@@ -44,7 +44,7 @@ check_count shelf script journal n end (judged plan h plan_is read is two) = inr
 -- what is told of a request, said of the words that ask for it
 pub told_of_words : (seen : InputsSeen) (words : List Bytes) (o : Option Asked) (calls : Calls) (end : End) → o ≡ request_of words
     → AskedEnds seen o calls end → WordsEnd seen words calls end
-told_of_words seen words o calls end asked told = subst (λ (p : Option Asked). AskedEnds seen p calls end) asked told
+told_of_words seen words o calls end asked reported = subst (λ (p : Option Asked). AskedEnds seen p calls end) asked reported
 
 pub calls_of_words : (seen : InputsSeen) (words : List Bytes) (o : Option Asked) (calls : Calls) → o ≡ request_of words
     → AskedCalls seen o calls → WordsCall seen words calls

@@ -69,7 +69,7 @@ pub record IsWanting (sink : SinkSeen) (result : Ended) : Type 0 where
 
 -- how the call ends: something is told at the words, or memory ran out at some step
 pub data CallEnds (seen : InputsSeen) (sink : SinkSeen) (words : List Bytes) (result : Ended) : Type 0 where
-  told : (end : End) (calls : Calls) → Made seen calls → WordsEnd seen words calls end → IsWritten sink end result
+  reported : (end : End) (calls : Calls) → Made seen calls → WordsEnd seen words calls end → IsWritten sink end result
       → CallEnds seen sink words result
   wanting : (calls : Calls) → Made seen calls → WordsCall seen words calls → IsWanting sink result
       → CallEnds seen sink words result

@@ -119,7 +119,7 @@ pub record IsCutOff (seen : InputsSeen) (sink : SinkSeen) (words : List Bytes) (
   pub end : End
   pub calls : Calls
   pub made : Made seen calls
-  pub told : WordsEnd seen words calls end
+  pub reported : WordsEnd seen words calls end
   pub failed : SinkFailed sink
   pub prefix : TookFront sink end.text
   pub journal_is : result.journal.items ≡ end.journal

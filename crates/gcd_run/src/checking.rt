@@ -57,7 +57,7 @@ fn check_journal<S: Shelf>(
     request: CheckRequest,
     shelf: &mut S,
 ) -> Result<Story, Stop>
-    ensures told { IfOk result (λ s. SomeLoads (shelf_seen S.tells S.content S.loads S.faults shelf.old shelf.new) (λ n. CheckEnds (shelf_seen S.tells S.content S.loads S.faults shelf.old shelf.new) request.entry.script.now request.entry.journal.now n (end_of s))) }
+    ensures reported { IfOk result (λ s. SomeLoads (shelf_seen S.tells S.content S.loads S.faults shelf.old shelf.new) (λ n. CheckEnds (shelf_seen S.tells S.content S.loads S.faults shelf.old shelf.new) request.entry.script.now request.entry.journal.now n (end_of s))) }
     ensures stopped { IfErr result (λ stop. SomeLoads (shelf_seen S.tells S.content S.loads S.faults shelf.old shelf.new) (λ n. StopsCheck (shelf_seen S.tells S.content S.loads S.faults shelf.old shelf.new) request.entry.script.now request.entry.journal.now n stop)) }
 {
     let plan = load_plan(alloc, shelf, request.script)?;
@@ -74,7 +74,7 @@ pub fn tell_check<S: Shelf>(
     request: CheckRequest,
     shelf: &mut S,
 ) -> Result<Story, AllocError>
-    ensures told { IfOk result (λ s. SomeLoads (shelf_seen S.tells S.content S.loads S.faults shelf.old shelf.new) (λ n. CheckEnds (shelf_seen S.tells S.content S.loads S.faults shelf.old shelf.new) request.entry.script.now request.entry.journal.now n (end_of s))) }
+    ensures reported { IfOk result (λ s. SomeLoads (shelf_seen S.tells S.content S.loads S.faults shelf.old shelf.new) (λ n. CheckEnds (shelf_seen S.tells S.content S.loads S.faults shelf.old shelf.new) request.entry.script.now request.entry.journal.now n (end_of s))) }
     ensures wanting { OnErr result (SomeLoads (shelf_seen S.tells S.content S.loads S.faults shelf.old shelf.new) IsCheckCount) }
 {
     match check_journal(alloc, request, shelf) {

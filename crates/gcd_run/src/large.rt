@@ -112,7 +112,7 @@ pub fn tell_large<R: Threads + Wait + Sync, P: Poller, C: Clock>(
     requires unwatched { (feed : ℕ) → (P.state poller.old).watched feed ≡ false }
     requires count { (0 < request.count) × (request.count < max_blocks) }
     requires workers { (0 < request.workers) × (request.workers ≤ max_workers) }
-    ensures told { IfOk result (λ s. BigEnds (seen_by P.tells P.state poller.old poller.new) (seen_by C.tells C.state clock.old clock.new) request.count request.workers (end_of s)) }
+    ensures reported { IfOk result (λ s. BigEnds (seen_by P.tells P.state poller.old poller.new) (seen_by C.tells C.state clock.old clock.new) request.count request.workers (end_of s)) }
     ensures kept { KeepsListens P.tells (P.state poller.old) (P.state poller.new) }
 {
     let plan = large_plan(alloc, u32::from(request.count))?;

@@ -131,7 +131,7 @@ fn run_plan<R: Threads + Wait + Sync, P: Poller, C: Clock>(
     requires workers { (0 < workers) × (workers ≤ max_workers) }
     requires most { (0 < most) × (most ≤ max_events) }
     requires unwatched { (feed : ℕ) → (P.state poller.old).watched feed ≡ false }
-    ensures told { IfOk result (λ s. TellsRun (seen_by P.tells P.state poller.old poller.new) (seen_by C.tells C.state clock.old clock.new) plan.now workers most (run_text with_journal plan.now (map (λ f. f.items) files.now)) (end_of s)) }
+    ensures reported { IfOk result (λ s. TellsRun (seen_by P.tells P.state poller.old poller.new) (seen_by C.tells C.state clock.old clock.new) plan.now workers most (run_text with_journal plan.now (map (λ f. f.items) files.now)) (end_of s)) }
     ensures kept { KeepsListens P.tells (P.state poller.old) (P.state poller.new) }
 {
     let run = run_by(rt, alloc, plan, workers, most, files, poller, clock)?;
@@ -151,7 +151,7 @@ fn run_script<R: Threads + Wait + Sync, S: Shelf, P: Poller, C: Clock>(
     requires unwatched { (feed : ℕ) → (P.state poller.old).watched feed ≡ false }
     requires workers { (0 < request.workers) × (request.workers ≤ max_workers) }
     requires most { (0 < request.most) × (request.most ≤ max_events) }
-    ensures told { IfOk result (λ s. SomeCalls (record { shelf = shelf_seen S.tells S.content S.loads S.faults shelf.old shelf.new; poller = seen_by P.tells P.state poller.old poller.new; clock = seen_by C.tells C.state clock.old clock.new }) (λ calls. RunEnds (record { shelf = shelf_seen S.tells S.content S.loads S.faults shelf.old shelf.new; poller = seen_by P.tells P.state poller.old poller.new; clock = seen_by C.tells C.state clock.old clock.new }) (run_asked request.entry) calls (end_of s))) }
+    ensures reported { IfOk result (λ s. SomeCalls (record { shelf = shelf_seen S.tells S.content S.loads S.faults shelf.old shelf.new; poller = seen_by P.tells P.state poller.old poller.new; clock = seen_by C.tells C.state clock.old clock.new }) (λ calls. RunEnds (record { shelf = shelf_seen S.tells S.content S.loads S.faults shelf.old shelf.new; poller = seen_by P.tells P.state poller.old poller.new; clock = seen_by C.tells C.state clock.old clock.new }) (run_asked request.entry) calls (end_of s))) }
     ensures stopped { IfErr result (λ stop. SomeCalls (record { shelf = shelf_seen S.tells S.content S.loads S.faults shelf.old shelf.new; poller = seen_by P.tells P.state poller.old poller.new; clock = seen_by C.tells C.state clock.old clock.new }) (λ calls. StopsRun (record { shelf = shelf_seen S.tells S.content S.loads S.faults shelf.old shelf.new; poller = seen_by P.tells P.state poller.old poller.new; clock = seen_by C.tells C.state clock.old clock.new }) (run_asked request.entry) calls stop)) }
 {
     let (plan, files) = load_all(alloc, shelf, request.script)?;
@@ -184,7 +184,7 @@ pub fn tell_run<R: Threads + Wait + Sync, S: Shelf, P: Poller, C: Clock>(
     requires unwatched { (feed : ℕ) → (P.state poller.old).watched feed ≡ false }
     requires workers { (0 < request.workers) × (request.workers ≤ max_workers) }
     requires most { (0 < request.most) × (request.most ≤ max_events) }
-    ensures told { IfOk result (λ s. SomeCalls (record { shelf = shelf_seen S.tells S.content S.loads S.faults shelf.old shelf.new; poller = seen_by P.tells P.state poller.old poller.new; clock = seen_by C.tells C.state clock.old clock.new }) (λ calls. RunEnds (record { shelf = shelf_seen S.tells S.content S.loads S.faults shelf.old shelf.new; poller = seen_by P.tells P.state poller.old poller.new; clock = seen_by C.tells C.state clock.old clock.new }) (run_asked request.entry) calls (end_of s))) }
+    ensures reported { IfOk result (λ s. SomeCalls (record { shelf = shelf_seen S.tells S.content S.loads S.faults shelf.old shelf.new; poller = seen_by P.tells P.state poller.old poller.new; clock = seen_by C.tells C.state clock.old clock.new }) (λ calls. RunEnds (record { shelf = shelf_seen S.tells S.content S.loads S.faults shelf.old shelf.new; poller = seen_by P.tells P.state poller.old poller.new; clock = seen_by C.tells C.state clock.old clock.new }) (run_asked request.entry) calls (end_of s))) }
     ensures wanting { OnErr result (SomeCalls (record { shelf = shelf_seen S.tells S.content S.loads S.faults shelf.old shelf.new; poller = seen_by P.tells P.state poller.old poller.new; clock = seen_by C.tells C.state clock.old clock.new }) (RunCalls (record { shelf = shelf_seen S.tells S.content S.loads S.faults shelf.old shelf.new; poller = seen_by P.tells P.state poller.old poller.new; clock = seen_by C.tells C.state clock.old clock.new }) (run_asked request.entry))) }
 {
     match run_script(rt, alloc, request, shelf, poller, clock) {

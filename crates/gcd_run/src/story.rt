@@ -110,7 +110,7 @@ impl Story {
         journal: Vec<Event>,
         text: Result<Vec<u8>, AllocError>,
     ) -> Result<Self, AllocError>
-        ensures { (told : List ℕ) → IfOk text (λ t. t.items ≡ told) → IfOk result (λ s. end_of s ≡ ran_end state journal.items told) }
+        ensures { (reported : List ℕ) → IfOk text (λ t. t.items ≡ reported) → IfOk result (λ s. end_of s ≡ ran_end state journal.items reported) }
     {
         Ok(Story {
             status: Status::of(state),

@@ -154,10 +154,10 @@ impl Deque {
     }
 }
 
-fn split_pass<N: OfRack>(worker: &mut Owner, rack: &RackId) -> Pass
+fn split_pass<N: OfRack>(worker: &mut Owner, _rack: &RackId) -> Pass
     requires owner { (worker_view worker.old).owns ≡ true }
-    requires rack { (worker_view worker.old).fresh ≡ false → (worker_view worker.old).rack ≡ rack.now }
-    requires picked { N.rack ≡ rack.now }
+    requires rack { (worker_view worker.old).fresh ≡ false → (worker_view worker.old).rack ≡ _rack.now }
+    requires picked { N.rack ≡ _rack.now }
     ensures worker { (worker_deque worker.new ≡ worker_deque worker.old)
         × (worker_flavor worker.new ≡ worker_flavor worker.old)
         × (worker_capacity worker.old ≤ worker_capacity worker.new)
@@ -165,9 +165,8 @@ fn split_pass<N: OfRack>(worker: &mut Owner, rack: &RackId) -> Pass
     ensures pass { IsPassOf (worker_deque worker.old) result }
     ensures old { worker_view worker.new
         ≡ account false true rack.now (worker_view worker.old).sent (worker_view worker.old).took }
-    ensures new { view result ≡ account false false rack.now [] [] }
+    ensures new { view result ≡ account false false _rack.now [] [] }
 {
-    let _ = rack;
     worker.another::<NewPass<N>>()
 }
 

@@ -24,12 +24,11 @@ enum Call {
 }
 
 // What is held after a Drain came or did not, and whether one of the node came.
-fn after(rack: &Rack, held: Option<Drain>, came: Option<Drain>, node: Obj) -> (Option<Drain>, bool)
-    requires held { IfSome held (λ d. IsRackDrain rack.now d) }
-    requires came { IfSome came (λ d. IsRackDrain rack.now d) }
-    ensures { IfSome result.0 (λ d. IsRackDrain rack.now d) }
+fn after(_rack: &Rack, held: Option<Drain>, came: Option<Drain>, node: Obj) -> (Option<Drain>, bool)
+    requires held { IfSome held (λ d. IsRackDrain _rack.now d) }
+    requires came { IfSome came (λ d. IsRackDrain _rack.now d) }
+    ensures { IfSome result.0 (λ d. IsRackDrain _rack.now d) }
 {
-    let _ = rack;
     match came {
         Some(drain) => {
             let right = drain.node() == node;
@@ -110,12 +109,11 @@ fn two_come_back(rack: &Rack, plan: &Plan, bench: &mut Bench) -> Option<bool>
 }
 
 // The last bench of the list.
-fn last_bench(rack: &Rack, benches: &mut Vec<Bench>) -> Option<Bench>
-    requires { All (λ b. IsBenchOf rack.now b) benches.old.items }
-    ensures others { All (λ b. IsBenchOf rack.now b) benches.new.items }
-    ensures last { IfSome result (λ b. IsBenchOf rack.now b) }
+fn last_bench(_rack: &Rack, benches: &mut Vec<Bench>) -> Option<Bench>
+    requires { All (λ b. IsBenchOf _rack.now b) benches.old.items }
+    ensures others { All (λ b. IsBenchOf _rack.now b) benches.new.items }
+    ensures last { IfSome result (λ b. IsBenchOf _rack.now b) }
 {
-    let _ = rack;
     benches.pop()
 }
 

@@ -15,7 +15,7 @@ use Rattle.gcd_jobs.specs.declared.tally.Tally.{Tally}
 use Rattle.gcd_row.specs.Opening.{first_cells, object_cells}
 use Rattle.gcd_row.specs.declared.cell.Cell.{Cell}
 use Rattle.gcd_row.specs.declared.cell.Cell.TheVariants.{Body}
-use Rattle.gcd_workers.specs.Told.{AreJobs, GiveWorks}
+use Rattle.gcd_workers.specs.EndedValues.{AreJobs, GiveWorks}
 
 pub no_jobs : (plan : PlanView) (files : List (List ℕ)) → AreJobs plan files 0 []
 no_jobs plan files = record {

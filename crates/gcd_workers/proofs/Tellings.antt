@@ -31,7 +31,7 @@ use Rattle.gcd_row.specs.declared.view.Terms.{Terms}
 use Rattle.gcd_jobs.specs.Ends.{EndFits}
 use Rattle.gcd_jobs.proofs.ValuesMore.{end_fits}
 use Rattle.gcd_workers.proofs.Wholes.{lawful_pass}
-use Rattle.gcd_workers.specs.Told.{AreTold, GiveWorks, IsTold, WorkCell, work_gives, work_shape}
+use Rattle.gcd_workers.specs.EndedValues.{HaveTheirValues, GiveWorks, HasItsValue, WorkCell, work_gives, work_shape}
 
 ended_at : (h : List Event) (i w : ℕ) (c : Blk) → slice_get h i ≡ Some (End w c) → is_ended h c.0 ≡ true
 unfolding is_ended
@@ -57,10 +57,10 @@ elem_of (y ∷ ys) zero x at = cc
 elem_of (y ∷ ys) (suc i) x at = elem_of ys i x at
 
 -- the value of its work lies in the slot of a block that has ended
-told_end : (files : List (List ℕ)) (t : Terms WorkCell) (h : List Event) (cells : List WorkCell) (w i : ℕ) (c : Blk) → IsLawful t.plan h
+value_at_end : (files : List (List ℕ)) (t : Terms WorkCell) (h : List Event) (cells : List WorkCell) (w i : ℕ) (c : Blk) → IsLawful t.plan h
     → GiveWorks t.plan files t.cells → AtRest work_shape work_gives t h cells → slice_get h i ≡ Some (End w c) → c.0 < length t.plan.blocks
     → slice_get cells c.0 ≡ Some (Done (value_of t.plan files c.0))
-told_end files t h cells w i c lawful works rest at within =
+value_at_end files t h cells w i c lawful works rest at within =
     let ended : is_ended h c.0 ≡ true = ended_at h i w c at in
     let width = rest.width in
     let here = slice_get_some cells c.0 (omega (arith, width, within)) in
@@ -69,16 +69,16 @@ told_end files t h cells w i c lawful works rest at within =
     let is : BodyLies work_shape work_gives first.0 true here.0 = subst (λ (b : Bool). BodyLies work_shape work_gives first.0 b here.0) ended lies in
     here.1 ∙ ap Some (is_done here.0 is.0 is.1 ∙ ap Done (first.2 is.0 is.2))
 
-pub told_all : (files : List (List ℕ)) (t : Terms WorkCell) (h : List Event) (cells : List WorkCell) → IsLawful t.plan h
-    → GiveWorks t.plan files t.cells → AtRest work_shape work_gives t h cells → AreTold t.plan files cells h
+pub values_of_all : (files : List (List ℕ)) (t : Terms WorkCell) (h : List Event) (cells : List WorkCell) → IsLawful t.plan h
+    → GiveWorks t.plan files t.cells → AtRest work_shape work_gives t h cells → HaveTheirValues t.plan files cells h
 unfolding IsLawful
-told_all files t h cells lawful works rest i e at = go e at (end_fits t.plan (take i h) e (lawful i e at))
+values_of_all files t h cells lawful works rest i e at = go e at (end_fits t.plan (take i h) e (lawful i e at))
   where
-    go : (x : Event) → slice_get h i ≡ Some x → EndFits t.plan x → IsTold t.plan files cells x
+    go : (x : Event) → slice_get h i ≡ Some x → EndFits t.plan x → HasItsValue t.plan files cells x
     go (Start w b) is fits = tt
     go (Acted w r j) is fits = tt
     go (Wake w b) is fits = tt
-    go (End w b) is fits = (fits, told_end files t h cells w i b lawful works rest is fits)
+    go (End w b) is fits = (fits, value_at_end files t h cells w i b lawful works rest is fits)
     go (Deliver w s) is fits = tt
     go (DeliverEnd w s) is fits = tt
     go (Tick s) is fits = tt
@@ -93,12 +93,12 @@ pub at_place : {A : Type 0} (xs : List A) (i : ℕ) (x : A) → slice_get xs i �
 at_place xs i x at d = same_Some (get_or xs i d) x (sym (slice_get-get_or xs i d (slice_get_within xs i x at)) ∙ at)
 
 -- the same of a board that is closed, with the plan that it was made of
-pub told_at_end : (plan : PlanView) (files : List (List ℕ)) (b : RowBoard WorkCell) (p : RowPass WorkCell) (cells : List WorkCell)
+pub values_at_rest : (plan : PlanView) (files : List (List ℕ)) (b : RowBoard WorkCell) (p : RowPass WorkCell) (cells : List WorkCell)
     → IsPassOf work_shape work_gives b p → (terms_of b).plan ≡ plan → GiveWorks plan files (terms_of b).cells
-    → AtRest work_shape work_gives (view p).terms (view p).seen cells → AreTold plan files cells (view p).seen
-told_at_end plan files b p cells pass is works rest =
-    subst (λ (k : PlanView). AreTold k files cells (view p).seen) is
-    (told_all files (terms_of b) (view p).seen cells (lawful_pass work_shape work_gives b p pass)
+    → AtRest work_shape work_gives (view p).terms (view p).seen cells → HaveTheirValues plan files cells (view p).seen
+values_at_rest plan files b p cells pass is works rest =
+    subst (λ (k : PlanView). HaveTheirValues k files cells (view p).seen) is
+    (values_of_all files (terms_of b) (view p).seen cells (lawful_pass work_shape work_gives b p pass)
     (subst (λ (k : PlanView). GiveWorks k files (terms_of b).cells) (sym is) works)
     (subst (λ (t : Terms WorkCell). AtRest work_shape work_gives t (view p).seen cells) pass.terms rest))
 

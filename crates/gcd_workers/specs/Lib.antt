@@ -2,4 +2,4 @@ pub mod JobsRuns
 pub mod ListRuns
 pub mod Ran
 pub mod Teams
-pub mod Told
+pub mod EndedValues

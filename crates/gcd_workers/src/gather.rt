@@ -71,17 +71,16 @@ fn take_all<S: Slot>(board: &RowBoard<S>, mut hands: Vec<Hand<S>>) -> (RowPass<S
 }
 
 // Looks at the row once more: an event of a number that was never given out is not there.
-fn look_round<S: Slot>(board: &RowBoard<S>, pass: &mut RowPass<S>, workers: u8)
+fn look_round<S: Slot>(board: &RowBoard<S>, pass: &mut RowPass<S>, _workers: u8)
     requires pass { IsPassOf S.shape S.gives board.now pass.old }
-    requires head { IsHead workers workers (view pass.old) }
-    requires some { 0 < workers }
+    requires head { IsHead _workers _workers (view pass.old) }
+    requires some { 0 < _workers }
     requires ended { HasEnded (terms_of board.now).limits.most (terms_of board.now).plan (view pass.old).seen }
     ensures pass { IsPassOf S.shape S.gives board.now pass.new }
     ensures seen { (view pass.new).seen ≡ (view pass.old).seen }
-    ensures led { HasLed workers (view pass.new) }
+    ensures led { HasLed _workers (view pass.new) }
     ensures gathered { (journal : List Event) → IsGathered (view pass.old) journal → IsGathered (view pass.new) journal }
 {
-    let _ = workers;
     board.look(pass);
 }
 

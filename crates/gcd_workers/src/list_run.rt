@@ -134,22 +134,18 @@ impl<'a> Recorder<Files<'a>> for ListRun {
     }
 
     #[inline(always)]
-    fn look(&mut self, plan: &Plan, most: u32, desk: &Files<'a>) {
-        let _ = plan;
-        let _ = most;
-        let _ = desk;
+    fn look(&mut self, _plan: &Plan, _most: u32, _desk: &Files<'a>) {
     }
 
     #[inline(always)]
     fn put<R: Wait>(
         &mut self,
-        rt: &R,
+        _rt: &R,
         plan: &Plan,
         most: u32,
         desk: &Files<'a>,
         e: Event,
     ) -> Result<Put, AllocError> {
-        let _ = rt;
         if self.machine.permits(e).is_some() {
             return Ok(Put::Barred);
         }
@@ -160,13 +156,12 @@ impl<'a> Recorder<Files<'a>> for ListRun {
     #[inline(always)]
     fn work<R: Wait>(
         &mut self,
-        rt: &R,
+        _rt: &R,
         plan: &Plan,
         most: u32,
         desk: &Files<'a>,
         e: Event,
     ) -> Result<Step, AllocError> {
-        let _ = rt;
         self.record(plan, most, desk.all, e)?;
         Ok(Step::Placed)
     }
@@ -174,15 +169,11 @@ impl<'a> Recorder<Files<'a>> for ListRun {
     #[inline(always)]
     fn rest<R: Wait>(
         &mut self,
-        rt: &R,
-        plan: &Plan,
-        most: u32,
-        desk: &Files<'a>,
+        _rt: &R,
+        _plan: &Plan,
+        _most: u32,
+        _desk: &Files<'a>,
     ) -> Result<Step, AllocError> {
-        let _ = rt;
-        let _ = plan;
-        let _ = most;
-        let _ = desk;
         Ok(Step::Waited)
     }
 }

@@ -5,7 +5,7 @@ ghost use Rattle.gcd_plan.specs.Limits.{max_workers};
 ghost use Rattle.gcd_row.specs.Opening.{AreHandlersOf, tallies_for};
 ghost use Rattle.gcd_row.specs.Passes.{IsPassOf, terms_of, view};
 ghost use Rattle.gcd_workers.specs.Teams.{IsNew};
-ghost use Rattle.gcd_workers.specs.Told.{AreJobs, GiveWorks, work_gives, work_shape};
+ghost use Rattle.gcd_workers.specs.EndedValues.{AreJobs, GiveWorks, work_gives, work_shape};
 
 use gcd_jobs::{FileJob, Tally};
 use gcd_plan::{Blk, Kind, Obj, Plan};

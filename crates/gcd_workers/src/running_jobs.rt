@@ -119,7 +119,7 @@ fn run_benches<J: Job + Drop + Send, R: Threads + Wait + Sync>(
     rt: &R,
     alloc: Global,
     plan: &Plan,
-    workers: u8,
+    _workers: u8,
     most: u32,
     jobs: Vec<J>,
     rack: &Rack,
@@ -129,13 +129,12 @@ fn run_benches<J: Job + Drop + Send, R: Threads + Wait + Sync>(
     requires jobs { length jobs.items ≡ length plan.now.blocks }
     requires rack { plan_of rack.now ≡ plan.now }
     requires benches { All (IsBenchOf rack.now) benches.items }
-    requires count { (0 < length benches.items) × (length benches.items ≤ workers) }
-    requires workers { workers ≤ max_workers }
+    requires count { (0 < length benches.items) × (length benches.items ≤ _workers) }
+    requires workers { _workers ≤ max_workers }
     requires most { 0 < most }
     requires unwatched { (feed : ℕ) → (⟦<ListPoller as Poller>⟧.state poller.old).watched feed ≡ false }
-    ensures { IfOk result (λ run. RunsJobs J.gives most plan.now jobs.items workers run.journal.items run.values.items run.state) }
+    ensures { IfOk result (λ run. RunsJobs J.gives most plan.now jobs.items _workers run.journal.items run.values.items run.state) }
 {
-    let _ = workers;
     let (board, pass) = open(alloc, plan, benches.len() as u8, most, jobs)?;
     let pool = Pool::new(&board, rack, plan);
     let mut clock = JumpClock::new(0);

@@ -4,7 +4,7 @@ ghost use Rattle.gcd_event.specs.declared.event.Event.{Event};
 ghost use Rattle.gcd_jobs.specs.BlockValues.{AreValues};
 ghost use Rattle.gcd_jobs.specs.Contents.{contents};
 ghost use Rattle.gcd_row.specs.declared.cell.Cell.TheVariants.{Done};
-ghost use Rattle.gcd_workers.specs.Told.{AreTold, IsTold};
+ghost use Rattle.gcd_workers.specs.EndedValues.{HaveTheirValues, HasItsValue};
 
 use crate::opening::WorkCell;
 use gcd_event::Event;
@@ -24,15 +24,13 @@ fn value_in(cell: &WorkCell) -> u64
 }
 
 // The values after one more event: an End gives its block a value.
-fn note_end(plan: &Plan, files: &[Vec<u8>], cells: &[WorkCell], e: Event, values: &mut Vec<u64>)
-    requires count { length values.old.items ≡ length plan.now.blocks }
-    requires cells { length plan.now.blocks ≤ length cells.now }
-    requires told { IsTold plan.now (contents files.now) cells.now e }
-    ensures { (h : List Event) → AreValues plan.now (contents files.now) h values.old.items
-        → AreValues plan.now (contents files.now) (h ++ e ∷ []) values.new.items }
+fn note_end(_plan: &Plan, _files: &[Vec<u8>], cells: &[WorkCell], e: Event, values: &mut Vec<u64>)
+    requires count { length values.old.items ≡ length _plan.now.blocks }
+    requires cells { length _plan.now.blocks ≤ length cells.now }
+    requires valued { HasItsValue _plan.now (contents _files.now) cells.now e }
+    ensures { (h : List Event) → AreValues _plan.now (contents _files.now) h values.old.items
+        → AreValues _plan.now (contents _files.now) (h ++ e ∷ []) values.new.items }
 {
-    let _ = plan;
-    let _ = files;
     match e.ended() {
         Some(Run::Block(blk)) => {
             values[blk.0 as usize] = value_in(&cells[blk.0 as usize]);
@@ -52,7 +50,7 @@ pub fn note_all(
 )
     requires zeros { values.old.items ≡ replicate (length plan.now.blocks) 0 }
     requires cells { length plan.now.blocks ≤ length cells.now }
-    requires told { AreTold plan.now (contents files.now) cells.now journal.now }
+    requires valued { HaveTheirValues plan.now (contents files.now) cells.now journal.now }
     ensures { AreValues plan.now (contents files.now) journal.now values.new.items }
 {
     for e in journal {

@@ -11,7 +11,7 @@ ghost use Rattle.gcd_steal.specs.Racks.{IsBenchOf, plan_of};
 ghost use Rattle.gcd_turn.specs.Asked.{KeepsListens};
 ghost use Rattle.gcd_workers.specs.Ran.{RunsOverFiles};
 ghost use Rattle.gcd_workers.specs.Teams.{HasLed, IsHead};
-ghost use Rattle.gcd_workers.specs.Told.{GiveWorks, work_gives, work_shape};
+ghost use Rattle.gcd_workers.specs.EndedValues.{GiveWorks, work_gives, work_shape};
 
 use crate::alone::run_alone;
 use crate::gather::run_pool;
@@ -40,10 +40,10 @@ fn close<'a>(
     pass: WorkPass<'a>,
     gathered: Vec<Event>,
     mut values: Vec<u64>,
-    workers: u8,
+    _workers: u8,
 ) -> Result<Outcome, AllocError>
     requires pass { IsPassOf work_shape work_gives board pass }
-    requires led { HasLed workers (view pass) }
+    requires led { HasLed _workers (view pass) }
     requires gathered { IsGathered (view pass) gathered.items }
     requires plan { (terms_of board).plan ≡ plan.now }
     requires works { GiveWorks plan.now (contents files.now) (terms_of board).cells }
@@ -53,7 +53,6 @@ fn close<'a>(
     ensures state { IfOk result (λ o. HasState plan.now (view pass.entry).seen o.state) }
     ensures values { IfOk result (λ o. AreValues plan.now (contents files.now) (view pass.entry).seen o.values.items) }
 {
-    let _ = workers;
     let state = pass.machine().state();
     let Ok((journal, cells, machine)) = board.close_whole(alloc, pass, gathered) else {
         return Err(AllocError);

@@ -1,7 +1,7 @@
 use Rattle.std.proofs.Common.{subst}
 use Rattle.gcd_row.specs.Passes.{view}
 use Rattle.gcd_pool.specs.Outcomes.{SaysOutcome}
-use Rattle.gcd_pool.specs.declared.easing.Outcome.{Outcome}
+use Rattle.gcd_pool.specs.declared.putting.Outcome.{Outcome}
 use Rattle.gcd_pool.proofs.Outcomes.{barred_none, full_none, outcome_adds, outcome_fresh, placed_one, waited_quiet}
 use Rattle.gcd_pool.proofs.Placing.{begins_none, begins_one, begins_stopped}
 use Rattle.gcd_pool.proofs.drains.begins_run.Goals as goal

@@ -1,6 +1,6 @@
 use Rattle.std.proofs.Common.{subst, sym, ◌∙◌}
 use Rattle.gcd_pool.specs.Outcomes.{SaysOutcome}
-use Rattle.gcd_pool.specs.declared.easing.Outcome.{Outcome}
+use Rattle.gcd_pool.specs.declared.putting.Outcome.{Outcome}
 use Rattle.gcd_pool.proofs.EndPuts.{end_barred, end_full, end_halted, end_placed, end_stopped}
 use Rattle.gcd_pool.proofs.own.end_said.Goals as goal
 

@@ -1,6 +1,6 @@
 use Rattle.std.proofs.Common.{inr, subst}
 use Rattle.gcd_pool.specs.Outcomes.{SaysOutcome}
-use Rattle.gcd_pool.specs.declared.easing.Outcome.{Outcome}
+use Rattle.gcd_pool.specs.declared.putting.Outcome.{Outcome}
 use Rattle.gcd_pool.proofs.Outcomes.{barred_waits, full_length, outcome_adds, outcome_fresh, outcome_leaves, outcome_only, outcome_records, outcome_stops}
 use Rattle.gcd_pool.proofs.Puts.{fresh_gives}
 use Rattle.gcd_pool.proofs.own.go_on.Goals as goal

@@ -29,8 +29,8 @@ returns-in_err-journal-clause-stopped g c =
     handed_on _ c.from_residual-in_err-journal.result stop c.from_residual-in_err-journal.ensures.1
     (record { loads = 2; made = two; is = at_journal c.in_ok-plan.plan plan_is why refl })
 
-pub returns-in-Ok-clause-told : goal.returns-in-Ok-clause-told
-returns-in-Ok-clause-told g c =
+pub returns-in-Ok-clause-reported : goal.returns-in-Ok-clause-reported
+returns-in-Ok-clause-reported g c =
     let seen : g.row.S.Denot → g.row.S.Denot → ShelfSeen =
     shelf_seen g.S.Shelf.tells g.S.Shelf.content g.S.Shelf.loads g.S.Shelf.faults in
     let before = c.args.shelf.now in

@@ -9,6 +9,6 @@ use Rattle.gcd_run.proofs.large.story_of.Goals as goal
 
 pub returns : goal.returns
 returns c =
-    let told = codes "blocks " ++ (decimal c.args.count ++ (line_end ++ (codes "total " ++ (decimal (sum c.args.run.values.items) ++ (line_end ++ last_line c.args.plan.now c.args.run.state c.args.run.journal.items))))) in
-    subst (λ (j : List Event). IfOk c.ran.result (λ s. end_of s ≡ ran_end c.args.run.state j told)) c.journal_of.ensures
-    (c.ran.ensures told c.text_of-text.ensures)
+    let reported = codes "blocks " ++ (decimal c.args.count ++ (line_end ++ (codes "total " ++ (decimal (sum c.args.run.values.items) ++ (line_end ++ last_line c.args.plan.now c.args.run.state c.args.run.journal.items))))) in
+    subst (λ (j : List Event). IfOk c.ran.result (λ s. end_of s ≡ ran_end c.args.run.state j reported)) c.journal_of.ensures
+    (c.ran.ensures reported c.text_of-text.ensures)

@@ -18,8 +18,8 @@ story_of-requires-clause-spoken g c = lawful_spoken _ _ c.in_ok-plan.ensures.val
 pub story_of-requires-clause-few : goal.story_of-requires-clause-few
 story_of-requires-clause-few g c = omega (arith, c.in_ok-run.ensures.values.count, c.in_ok-plan.ensures.valid.few_blocks)
 
-pub returns-clause-told : goal.returns-clause-told
-returns-clause-told g c =
+pub returns-clause-reported : goal.returns-clause-reported
+returns-clause-reported g c =
     let v = rw (c.deref.ensures.value, c.in_ok-files.ensures) at c.in_ok-run.ensures.values in
     let plan = c.in_ok-plan.plan in
     let contents = map (λ file. large_file) plan.files in

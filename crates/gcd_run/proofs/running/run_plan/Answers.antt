@@ -7,8 +7,8 @@ story_of-requires-clause-lawful g c = c.in_ok-run.ensures.ran.run.lawful
 pub story_of-requires-clause-few : goal.story_of-requires-clause-few
 story_of-requires-clause-few g c = omega (arith, c.in_ok-run.ensures.ran.run.few, c.requires.most.1)
 
-pub returns-clause-told : goal.returns-clause-told
-returns-clause-told g c =
+pub returns-clause-reported : goal.returns-clause-reported
+returns-clause-reported g c =
     let r = c.in_ok-run.ensures.ran in
     record {
       h = c.in_ok-run.run'.journal.items;

@@ -34,8 +34,8 @@ run_plan-requires-clause-files g c = λ lifetimes outlive.
     ∙ sym (length-map c.in_ok-plan.files.items (λ f. f.items))
     ∙ loaded_count _ c.in_ok-plan.plan.files _ c.in_ok-plan.ensures.ready.loaded
 
-pub returns-in-Ok-clause-told : goal.returns-in-Ok-clause-told
-returns-in-Ok-clause-told g c =
+pub returns-in-Ok-clause-reported : goal.returns-in-Ok-clause-reported
+returns-in-Ok-clause-reported g c =
     let state = g.P.Poller.state in
     let listened = c.in_ok-listen_at.ensures.listened in
     let same : SameHearing (state c.listen_at.new.poller) (state c.args.poller.now) g.P.Poller.tells = record {
@@ -44,7 +44,7 @@ returns-in-Ok-clause-told g c =
       watched = c.listen_at.ensures.unwatched;
       faults = listened.faults;
     } in
-    let told = rw (c.deref.ensures.value) at c.in-Ok.ensures.told in
+    let reported = rw (c.deref.ensures.value) at c.in-Ok.ensures.reported in
     record {
       calls = with_listen (length c.in_ok-plan.plan.files + 1) _;
       made = record {
@@ -53,7 +53,7 @@ returns-in-Ok-clause-told g c =
             listened.listening c.run_plan.ensures.kept.listens c.run_plan.ensures.kept.addresses;
       };
       is = ran c.in_ok-plan.plan (map (λ f. f.items) c.in_ok-plan.files.items) c.in_ok-plan.ensures.ready refl
-          (tells_since (state c.listen_at.new.poller) (state c.args.poller.now) (state c.run_plan.new.poller) g.P.Poller.tells same _ _ _ _ _ _ told);
+          (tells_since (state c.listen_at.new.poller) (state c.args.poller.now) (state c.run_plan.new.poller) g.P.Poller.tells same _ _ _ _ _ _ reported);
     }
 
 pub returns-clause-stopped : goal.returns-clause-stopped

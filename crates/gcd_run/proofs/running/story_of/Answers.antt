@@ -7,6 +7,6 @@ use Rattle.gcd_run.proofs.running.story_of.Goals as goal
 
 pub returns : goal.returns
 returns c = λ contents state values.
-    let told = run_text c.args.with_journal c.args.plan.now contents c.args.run.state c.args.run.journal.items in
-    subst (λ (j : List Event). IfOk c.ran.result (λ s. end_of s ≡ ran_end c.args.run.state j told)) c.journal_of.ensures
-    (c.ran.ensures told (c.text_of-text.ensures contents c.args.run.state state values))
+    let reported = run_text c.args.with_journal c.args.plan.now contents c.args.run.state c.args.run.journal.items in
+    subst (λ (j : List Event). IfOk c.ran.result (λ s. end_of s ≡ ran_end c.args.run.state j reported)) c.journal_of.ensures
+    (c.ran.ensures reported (c.text_of-text.ensures contents c.args.run.state state values))

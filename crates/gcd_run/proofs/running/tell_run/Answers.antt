@@ -4,8 +4,8 @@ use Rattle.gcd_run.proofs.Loading.{on_any_err}
 use Rattle.gcd_run.proofs.Stories.{stops_calls}
 use Rattle.gcd_run.proofs.running.tell_run.Goals as goal
 
-pub returns-in-Err-clause-told : goal.returns-in-Err-clause-told
-returns-in-Err-clause-told g c =
+pub returns-in-Err-clause-reported : goal.returns-in-Err-clause-reported
+returns-in-Err-clause-reported g c =
     let why = c.in-Err.ensures.stopped in
     IfOk-weaker c.stopped.result _ _ (λ s is. record { calls = why.calls; made = why.made; is = stopped c.in-Err.stop why.is is }) c.stopped.ensures
 

@@ -1,5 +1,5 @@
 use Rattle.std.proofs.Common.{append-nil, refl, rules, sym}
-use Rattle.gcd_run.specs.Ends.CallEnds.{told, wanting}
+use Rattle.gcd_run.specs.Ends.CallEnds.{reported, wanting}
 use Rattle.gcd_run.specs.Stories.{end_of}
 use Rattle.gcd_run.specs.declared.status.Status.TheVariants.{NoCommand}
 use Rattle.gcd_run.proofs.Statuses.{says}
@@ -8,8 +8,8 @@ use Rattle.gcd_run.proofs.top.call.Goals as goal
 
 pub returns-in-Ok-clause-ended : goal.returns-in-Ok-clause-ended
 returns-in-Ok-clause-ended g c =
-    let t = c.in-Ok.ensures.told in
-    told (end_of c.in-Ok.story) t.calls t.made t.is c.write_story.ensures
+    let t = c.in-Ok.ensures.reported in
+    reported (end_of c.in-Ok.story) t.calls t.made t.is c.write_story.ensures
 
 pub returns-in-Err-clause-ended : goal.returns-in-Err-clause-ended
 returns-in-Err-clause-ended g c =
@@ -19,8 +19,8 @@ returns-in-Err-clause-ended g c =
 
 pub returns-in-Ok-clause-named : goal.returns-in-Ok-clause-named
 returns-in-Ok-clause-named g c = λ status words_taken.
-    let t = c.in-Ok.ensures.told in
-    let usage = says _ _ _ _ (told (end_of c.in-Ok.story) t.calls t.made t.is c.write_story.ensures) NoCommand status in
+    let t = c.in-Ok.ensures.reported in
+    let usage = says _ _ _ _ (reported (end_of c.in-Ok.story) t.calls t.made t.is c.write_story.ensures) NoCommand status in
     none_taken usage.no_command (c.in-Ok.ensures.taken words_taken)
 
 pub returns-in-Err-clause-named : goal.returns-in-Err-clause-named

@@ -15,8 +15,8 @@ returns-in_err-read_words-clause-wanting g c = on_any_err c.from_residual.result
       is = inl refl;
     })
 
-pub returns-in-None-clause-told : goal.returns-in-None-clause-told
-returns-in-None-clause-told g c =
+pub returns-in-None-clause-reported : goal.returns-in-None-clause-reported
+returns-in-None-clause-reported g c =
     let asked = rw (c.in-None.is) at c.in_ok-read_words.ensures.exact in
     IfOk-weaker c.usage.result _ _
     (λ s is. record {
@@ -34,12 +34,12 @@ returns-in-None-clause-wanting g c = on_any_err c.usage.result
       is = inl refl;
     })
 
-pub returns-in-Some-Run-clause-told : goal.returns-in-Some-Run-clause-told
-returns-in-Some-Run-clause-told g c =
+pub returns-in-Some-Run-clause-reported : goal.returns-in-Some-Run-clause-reported
+returns-in-Some-Run-clause-reported g c =
     let asked = rw (c.in-Some-Run.is, c.in-Some-Run.field-0-is) at c.in_ok-read_words.ensures.exact in
     IfOk-weaker c.tell_run.result _ _
     (λ s t. record { calls = t.calls; made = t.made; is = told_of_words _ _ _ _ _ asked t.is })
-    c.tell_run.ensures.told
+    c.tell_run.ensures.reported
 
 pub returns-in-Some-Run-clause-wanting : goal.returns-in-Some-Run-clause-wanting
 returns-in-Some-Run-clause-wanting g c =
@@ -48,8 +48,8 @@ returns-in-Some-Run-clause-wanting g c =
     (λ t. record { calls = t.calls; made = t.made; is = calls_of_words _ _ _ _ asked t.is })
     c.tell_run.ensures.wanting
 
-pub returns-in-Some-Check-clause-told : goal.returns-in-Some-Check-clause-told
-returns-in-Some-Check-clause-told g c =
+pub returns-in-Some-Check-clause-reported : goal.returns-in-Some-Check-clause-reported
+returns-in-Some-Check-clause-reported g c =
     let asked = rw (c.in-Some-Check.is, c.in-Some-Check.field-0-is) at c.in_ok-read_words.ensures.exact in
     IfOk-weaker c.tell_check.result _ _
     (λ s t. record {
@@ -57,7 +57,7 @@ returns-in-Some-Check-clause-told g c =
       made = record { loads = t.made; listens = quiet g.P.Poller.tells (g.P.Poller.state c.args.poller.now) };
       is = told_of_words _ _ _ _ _ asked (record { loads = t.loads; calls_are = refl; ends = t.is });
     })
-    c.tell_check.ensures.told
+    c.tell_check.ensures.reported
 
 pub returns-in-Some-Check-clause-wanting : goal.returns-in-Some-Check-clause-wanting
 returns-in-Some-Check-clause-wanting g c =
@@ -70,8 +70,8 @@ returns-in-Some-Check-clause-wanting g c =
     })
     c.tell_check.ensures.wanting
 
-pub returns-in-Some-Big-clause-told : goal.returns-in-Some-Big-clause-told
-returns-in-Some-Big-clause-told g c =
+pub returns-in-Some-Big-clause-reported : goal.returns-in-Some-Big-clause-reported
+returns-in-Some-Big-clause-reported g c =
     let asked = rw (c.in-Some-Big.is, c.in-Some-Big.field-0-is) at c.in_ok-read_words.ensures.exact in
     IfOk-weaker c.tell_large.result _ _
     (λ s t. record {
@@ -82,7 +82,7 @@ returns-in-Some-Big-clause-told g c =
       };
       is = told_of_words _ _ _ _ _ asked (refl, t);
     })
-    c.tell_large.ensures.told
+    c.tell_large.ensures.reported
 
 pub returns-in-Some-Big-clause-wanting : goal.returns-in-Some-Big-clause-wanting
 returns-in-Some-Big-clause-wanting g c = on_any_err c.tell_large.result

@@ -10,7 +10,7 @@ returns-clause-seen g c =
 
 pub returns-clause-led : goal.returns-clause-led
 returns-clause-led g c =
-    let n = c.args.workers in
+    let n = c.args._workers in
     let p = c.look.new.pass in
     let same = seen_whole g.S.Slot.shape g.S.Slot.gives c.args.board.now (view c.args.pass.now) p c.look.ensures.pass c.requires.head.worker c.requires.ended c.look.ensures.view.ahead in
     let ended = ended_of g.S.Slot.shape g.S.Slot.gives c.args.board.now p c.look.ensures.pass (view c.args.pass.now).seen same c.requires.ended in

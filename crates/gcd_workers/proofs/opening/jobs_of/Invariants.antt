@@ -1,5 +1,5 @@
 use Rattle.gcd_jobs.specs.Contents.{contents}
-use Rattle.gcd_workers.specs.Told.{AreJobs}
+use Rattle.gcd_workers.specs.EndedValues.{AreJobs}
 use Rattle.gcd_workers.proofs.opening.jobs_of.Given as goal
 
 abbrev pub invariant-loop-number : goal.invariant-loop-number

@@ -1,6 +1,6 @@
 use Rattle.std.proofs.Common.{sym, subst}
 use Rattle.gcd_jobs.specs.Contents.{contents}
-use Rattle.gcd_workers.specs.Told.{GiveWorks}
+use Rattle.gcd_workers.specs.EndedValues.{GiveWorks}
 use Rattle.gcd_workers.proofs.Jobs.{give_works}
 use Rattle.gcd_workers.proofs.opening.open_board.Goals as goal
 

@@ -31,6 +31,6 @@ returns g c =
     let count = c.requires.jobs ∙ ap (λ (p : PlanView). length p.blocks) (sym c.in_ok-board.ensures.plan) in
     let limit_is = ap (λ l. l.most) (limits_along c.new-pool.ensures.board ∙ c.in_ok-board.ensures.limits) in
     runs_jobs g.J.Job.gives c.args.most (terms_of c.new-pool.result.board.now).limits.most c.args.plan.now (terms_of board).plan (terms_of c.new-pool.result.board.now).plan c.args.jobs.items
-    (length c.args.benches.items) c.args.workers (view c.in_ok-last.last).seen run.journal.items run.values.items run.state
+    (length c.args.benches.items) c.args._workers (view c.in_ok-last.last).seen run.journal.items run.values.items run.state
     limit_is (plan_along c.new-pool.ensures.board) c.in_ok-board.ensures.plan c.in_ok-run.ensures.journal c.requires.count.0 c.requires.count.1
     c.in_ok-last.ensures.ran c.in_ok-run.ensures.state (c.in_ok-run.ensures.values c.args.jobs.items count c.in_ok-board.ensures.jobs)

@@ -10,9 +10,9 @@ use Rattle.gcd_workers.proofs.values.note_all.Goals as goal
 pub loop-e-init : goal.loop-e-init
 loop-e-init c = subst (AreValues c.args.plan.now (contents c.args.files.now) []) (sym c.requires.zeros) (no_values c.args.plan.now (contents c.args.files.now))
 
-pub note_end-requires-clause-told : goal.note_end-requires-clause-told
-note_end-requires-clause-told c =
-    c.requires.told c.loop-e.e-index _ (slice_get-get_or c.args.journal.now c.loop-e.e-index _ c.loop-e-test.true)
+pub note_end-requires-clause-valued : goal.note_end-requires-clause-valued
+note_end-requires-clause-valued c =
+    c.requires.valued c.loop-e.e-index _ (slice_get-get_or c.args.journal.now c.loop-e.e-index _ c.loop-e-test.true)
 
 pub loop-e-preserved : goal.loop-e-preserved
 loop-e-preserved c =

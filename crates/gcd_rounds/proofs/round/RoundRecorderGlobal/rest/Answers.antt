@@ -5,5 +5,5 @@ use Rattle.gcd_rounds.proofs.round.RoundRecorderGlobal.rest.Goals as goal
 
 pub returns-clause-grown : goal.returns-clause-grown
 returns-clause-grown g c =
-    let most = c.args.most in let plan = c.args.plan.now in let r = c.args.self.now.run in let ready = c.requires.ready in
+    let most = c.args._most in let plan = c.args._plan.now in let r = c.args.self.now.run in let ready = c.requires.ready in
     grown_same most plan r.journal.items r.journal.items r.machine (run_sight g.H.Handler.kind g.H.Handler.times g.H.Handler.total most plan r ready.run ready.limit) refl

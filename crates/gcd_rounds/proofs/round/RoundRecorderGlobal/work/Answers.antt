@@ -21,14 +21,14 @@ follow-requires-clause-work g c = (choice_is_permitted c.args.plan.now c.args.se
 
 pub returns-then-branch-clause-grown : goal.returns-then-branch-clause-grown
 returns-then-branch-clause-grown g c =
-    let most = c.args.most in let plan = c.args.plan.now in let r = c.follow.new.run in
+    let most = c.args._most in let plan = c.args.plan.now in let r = c.follow.new.run in
     let limit : r.terms.most ≡ most = ap (λ t. t.most) c.follow.ensures.terms ∙ c.requires.ready.limit in
     grown most plan c.args.self.now.run.journal.items r.journal.items r.machine
     (run_sight g.H.Handler.kind g.H.Handler.times g.H.Handler.total most plan r c.in_ok-follow.ensures.run limit) c.in_ok-follow.ensures.grows
 
 pub returns-clause-grown : goal.returns-clause-grown
 returns-clause-grown g c =
-    let most = c.args.most in let plan = c.args.plan.now in let r = c.follow.new.run in
+    let most = c.args._most in let plan = c.args.plan.now in let r = c.follow.new.run in
     let limit : r.terms.most ≡ most = ap (λ t. t.most) c.follow.ensures.terms ∙ c.requires.ready.limit in
     grown most plan c.args.self.now.run.journal.items r.journal.items r.machine
     (run_sight g.H.Handler.kind g.H.Handler.times g.H.Handler.total most plan r c.in_ok-follow.ensures.run limit) c.in_ok-follow.ensures.grows

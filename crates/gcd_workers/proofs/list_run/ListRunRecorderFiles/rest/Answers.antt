@@ -6,8 +6,8 @@ use Rattle.gcd_workers.proofs.list_run.ListRunRecorderFiles.rest.Goals as goal
 
 pub returns-clause-grown : goal.returns-clause-grown
 returns-clause-grown g c =
-    let plan = c.args.plan.now in
-    let most = c.args.most in
+    let plan = c.args._plan.now in
+    let most = c.args._most in
     let run = c.args.self.now in
     grown_same most plan run.journal.items run.journal.items run.machine
-    (list_sight most plan (contents c.args.desk.now.all.now) run.journal.items run.values.items run.machine c.requires.ready) refl
+    (list_sight most plan (contents c.args._desk.now.all.now) run.journal.items run.values.items run.machine c.requires.ready) refl

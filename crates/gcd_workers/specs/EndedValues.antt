@@ -32,20 +32,20 @@ GiveWorks plan files cells = (b : ℕ) → b < length plan.blocks
     → (first : WorkCell) × (slice_get cells b ≡ Some first) × ((v : ℕ) → work_gives first v → v ≡ value_of plan files b)
 
 -- where the event ends a block, that is one of the plan, and the value of its work lies in its slot
-abbrev pub IsTold : PlanView → (files : List (List ℕ)) → List WorkCell → Event → Type 0
-IsTold plan files cells (Start w b) = Unit {0}
-IsTold plan files cells (Acted w r i) = Unit {0}
-IsTold plan files cells (Wake w b) = Unit {0}
-IsTold plan files cells (End w b) = (b.0 < length plan.blocks) × (slice_get cells b.0 ≡ Some (Done (value_of plan files b.0)))
-IsTold plan files cells (Deliver w s) = Unit {0}
-IsTold plan files cells (DeliverEnd w s) = Unit {0}
-IsTold plan files cells (Tick t) = Unit {0}
-IsTold plan files cells (Ready s n) = Unit {0}
-IsTold plan files cells (FeedEnd s) = Unit {0}
-IsTold plan files cells (Misuse w c r i) = Unit {0}
-IsTold plan files cells Halt = Unit {0}
-IsTold plan files cells (Expire b) = Unit {0}
+abbrev pub HasItsValue : PlanView → (files : List (List ℕ)) → List WorkCell → Event → Type 0
+HasItsValue plan files cells (Start w b) = Unit {0}
+HasItsValue plan files cells (Acted w r i) = Unit {0}
+HasItsValue plan files cells (Wake w b) = Unit {0}
+HasItsValue plan files cells (End w b) = (b.0 < length plan.blocks) × (slice_get cells b.0 ≡ Some (Done (value_of plan files b.0)))
+HasItsValue plan files cells (Deliver w s) = Unit {0}
+HasItsValue plan files cells (DeliverEnd w s) = Unit {0}
+HasItsValue plan files cells (Tick t) = Unit {0}
+HasItsValue plan files cells (Ready s n) = Unit {0}
+HasItsValue plan files cells (FeedEnd s) = Unit {0}
+HasItsValue plan files cells (Misuse w c r i) = Unit {0}
+HasItsValue plan files cells Halt = Unit {0}
+HasItsValue plan files cells (Expire b) = Unit {0}
 
 -- so it is at each event
-abbrev pub AreTold : PlanView → (files : List (List ℕ)) → List WorkCell → List Event → Type 0
-AreTold plan files cells h = (i : ℕ) (e : Event) → slice_get h i ≡ Some e → IsTold plan files cells e
+abbrev pub HaveTheirValues : PlanView → (files : List (List ℕ)) → List WorkCell → List Event → Type 0
+HaveTheirValues plan files cells h = (i : ℕ) (e : Event) → slice_get h i ≡ Some e → HasItsValue plan files cells e

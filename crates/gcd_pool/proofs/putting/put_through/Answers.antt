@@ -3,7 +3,7 @@ use Rattle.gcd_row.specs.declared.put.Put.TheVariants.{Barred}
 use Rattle.gcd_pool.specs.declared.hand.Hand.{Hand}
 use Rattle.gcd_pool.proofs.Outcomes.{looks_waits, passing_waits, put_then, waited_gives, waits_further}
 use Rattle.gcd_pool.proofs.Serves.{looks_serves, serves_further}
-use Rattle.gcd_pool.proofs.easing.put_through.Goals as goal
+use Rattle.gcd_pool.proofs.putting.put_through.Goals as goal
 
 pub returns-in-Barred-clause-said : goal.returns-in-Barred-clause-said
 returns-in-Barred-clause-said g c = (

@@ -1,5 +1,5 @@
 use Rattle.gcd_pool.proofs.Outcomes.{looks_waits, outcome_after, waited_gives}
-use Rattle.gcd_pool.proofs.easing.put_chosen_through.Goals as goal
+use Rattle.gcd_pool.proofs.putting.put_chosen_through.Goals as goal
 
 pub put_through-requires-clause-cell : goal.put_through-requires-clause-cell
 put_through-requires-clause-cell g c =
