@@ -43,7 +43,7 @@ module _ {S : Type 0} where
   SaysRested Rested v = IsGoingOn v.terms.plan v.seen × HasNoChoice v.terms.plan v.seen v.worker
 
   -- of an event that was to be recorded: it was placed, and ends no run (`Placed`) or one (`Ended`); or none was, since the run has
-  -- ended (`Left`), since the event is not permitted any more (`Waited`), or since memory was refused to the journal (`Stopped`)
+  -- ended (`Left`), since the event is not permitted any more (`Waited`), or since the team was stopped (`Stopped`)
   unfoldable pub SaysRecorded : Event → Turn → View S → View S → Type 0
   SaysRecorded e Left v w = HasPlacedNone v w
   SaysRecorded e Placed v w = HasPlaced e v w × (ended e ≡ None)
@@ -53,7 +53,8 @@ module _ {S : Type 0} where
   SaysRecorded e Rested v w = ⊥
   SaysRecorded e Stopped v w = HasPlacedNone v w
 
-  -- of a run that was to begin: an event that begins one was placed (`Placed`); or none was (`Waited`, `Stopped`), or this node's Drain is out
+  -- of a run that was to begin: an event that begins one was placed (`Placed`); or none was (`Waited`, `Stopped`), or this node's
+  -- Drain is out
   unfoldable pub SaysBegun : Obj → Turn → View S → View S → Type 0
   SaysBegun n Left v w = ⊥
   SaysBegun n Placed v w = (e : Event) × HasPlaced e v w × ((r : Run) × (begun e ≡ Some r))

@@ -1,5 +1,5 @@
 // Letting others write over what was seen, and putting an event until no passed word holds it.
-ghost use Rattle.std.specs.Prelude.{◌≡◌, true, None};
+ghost use Rattle.std.specs.Prelude.{◌≡◌, ◌<◌, ◌+◌, length, true, None};
 ghost use Rattle.gcd_history.specs.Choice.{worker_of};
 ghost use Rattle.gcd_history.specs.History.{why};
 ghost use Rattle.gcd_row.specs.Lying.{GivesBack};
@@ -39,6 +39,7 @@ pub fn pass_seen<S: Slot>(pool: &Pool<S>, hand: &mut Hand<S>) -> bool
     ensures view { view hand.new.pass ≡ knowing (view hand.old.pass) (view hand.old.pass).seen (view hand.new.pass).marks }
     ensures slots { slots hand.new.pass ≡ slots hand.old.pass }
     ensures bench { hand.new.bench ≡ hand.old.bench }
+    ensures passed { result ≡ true → (view hand.new.pass).marks.passed ≡ length (view hand.old.pass).seen }
     ensures whole { result ≡ true → (view hand.old.pass).worker ≡ 0 → hand.new.journal.items ≡ (view hand.old.pass).seen }
 {
     if hand.pass.worker() == 0 {
@@ -52,7 +53,8 @@ pub fn pass_seen<S: Slot>(pool: &Pool<S>, hand: &mut Hand<S>) -> bool
     }
 }
 
-// Worker 0 gathers where many events have come since it last did.
+// Worker 0 gathers where many events have come since it last did. False where memory was refused to its journal, which is then as it
+// was.
 #[inline(always)]
 pub fn pass_many<S: Slot>(pool: &Pool<S>, hand: &mut Hand<S>) -> bool
     requires of { IsHandOf S.shape S.gives pool.now hand.old }
@@ -60,6 +62,7 @@ pub fn pass_many<S: Slot>(pool: &Pool<S>, hand: &mut Hand<S>) -> bool
     ensures view { view hand.new.pass ≡ knowing (view hand.old.pass) (view hand.old.pass).seen (view hand.new.pass).marks }
     ensures slots { slots hand.new.pass ≡ slots hand.old.pass }
     ensures bench { hand.new.bench ≡ hand.old.bench }
+    ensures few { result ≡ true → (view hand.old.pass).worker ≡ 0 → length (view hand.new.pass).seen < (view hand.new.pass).marks.passed + 1024 }
 {
     let gathered = hand.journal.len() as u64;
     if u64::from(hand.pass.machine().len()).saturating_sub(gathered) < u64::from(GATHERED_AT_ONCE) {

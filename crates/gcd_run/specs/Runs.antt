@@ -26,9 +26,10 @@ pub record IsOver (most : ℕ) (plan : PlanView) (h : List Event) (state : State
   pub state_is : HasState plan h state
   pub full : state ≡ Live → IsFull most plan h
 
--- A plan has run by so many workers, with at most so many events, and this is the run's whole journal: it is lawful; with one worker each event of a worker is
--- what that worker chooses; no Tick is ahead of the clock, and moments waited for are due times; what the poller told stands in
--- it, in order, and it is halted just where the poller failed (`RunsPlan` says all this); and it is over, in this state.
+-- A plan has run by so many workers, with at most so many events, and this is the run's whole journal: it is lawful; with one
+-- worker each event of a worker is what that worker chooses; no Tick is ahead of the clock, and moments waited for are due times;
+-- what the poller told stands in it, in order, and it is halted just where the poller failed (`RunsPlan` says all this); and it is
+-- over, in this state.
 pub record Ran (poller : Seen PollerState) (clock : Seen ClockState) (plan : PlanView) (workers most : ℕ) (h : List Event) (state : State)
     : Type 0 where
   pub run : RunsPlan most plan workers poller clock h
