@@ -93,23 +93,18 @@ fn first_lap<J: Job + Drop, H: Handler + Drop, R: Abort>(
     go_on(rt, board, p, 0, 4_095);
 }
 
-// The next event is held by each worker in turn, until both have passed what lies in its cell.
+// The next event is held by worker 0, until it gathers what it has seen, and then by number 1, which has passed nothing on.
 fn both_hold<J: Job + Drop, H: Handler + Drop, R: Abort>(
     rt: &R,
     board: &Board<J, H>,
     p: &mut Pass<J, H>,
-    q: &mut Pass<J, H>,
     journal: &mut Vec<Event>,
 )
     requires p { IsPassOf (shape_of H.kind H.times H.total) (gives_of J.gives) board.now p.old }
     requires head { (view p.old).worker ≡ 0 }
-    requires q { IsPassOf (shape_of H.kind H.times H.total) (gives_of J.gives) board.now q.old }
-    requires helper { (view q.old).worker ≡ 1 }
     requires journal { IsGathered (view p.old) journal.old.items }
     ensures p { IsPassOf (shape_of H.kind H.times H.total) (gives_of J.gives) board.now p.new }
     ensures head { ((view p.new).worker ≡ 0) × ((view p.new).hands ≡ (view p.old).hands) }
-    ensures q { IsPassOf (shape_of H.kind H.times H.total) (gives_of J.gives) board.now q.new }
-    ensures helper { (view q.new).worker ≡ 1 }
     ensures journal { IsGathered (view p.new) journal.new.items }
 {
     let block = Run::Block(MAIN);
@@ -118,6 +113,26 @@ fn both_hold<J: Job + Drop, H: Handler + Drop, R: Abort>(
     let Ok(()) = board.gather(p, journal) else {
         panic!(rt; "no memory")
     };
+    let theirs = Some(Put::Held { by: 1, passed: 0 });
+    assert_eq!(rt; act(board, p, block, 4_095), theirs);
+}
+
+// It is held still, until worker 1 has passed on what lies in its cell.
+fn one_lets_go<J: Job + Drop, H: Handler + Drop, R: Abort>(
+    rt: &R,
+    board: &Board<J, H>,
+    p: &mut Pass<J, H>,
+    q: &mut Pass<J, H>,
+)
+    requires p { IsPassOf (shape_of H.kind H.times H.total) (gives_of J.gives) board.now p.old }
+    requires q { IsPassOf (shape_of H.kind H.times H.total) (gives_of J.gives) board.now q.old }
+    requires helper { (view q.old).worker ≡ 1 }
+    ensures p { IsPassOf (shape_of H.kind H.times H.total) (gives_of J.gives) board.now p.new × HasSameNumbers (view p.old) (view p.new) }
+    ensures gathered { (journal : List Event) → IsGathered (view p.old) journal → IsGathered (view p.new) journal }
+    ensures q { IsPassOf (shape_of H.kind H.times H.total) (gives_of J.gives) board.now q.new }
+    ensures helper { (view q.new).worker ≡ 1 }
+{
+    let block = Run::Block(MAIN);
     let theirs = Some(Put::Held { by: 1, passed: 0 });
     assert_eq!(rt; act(board, p, block, 4_095), theirs);
     assert_eq!(rt; board.look(q), 4_096);
@@ -158,7 +173,24 @@ fn the_ring_waits_for_both(rt: HostRuntime) -> Result<(), Fail> {
     let mut q = second(rt.alloc(), &board, &mut p)?;
     let mut journal = Vec::new(rt.alloc());
     first_lap(&rt, &board, &mut p);
-    both_hold(&rt, &board, &mut p, &mut q, &mut journal);
+    both_hold(&rt, &board, &mut p, &mut journal);
+    one_lets_go(&rt, &board, &mut p, &mut q);
+    go_on(&rt, &board, &mut p, 4_096, 5_000);
+    judge(&rt, rt.alloc(), board, p, q, journal);
+    Ok(())
+}
+
+// A number that was not given out holds the ring as one whose worker has passed nothing on, and lets go once its pass has.
+#[test]
+fn the_ring_waits_for_a_number_that_is_given_out_late(rt: HostRuntime) -> Result<(), Fail> {
+    let (board, mut p) = opened(rt.alloc())?;
+    let mut journal = Vec::new(rt.alloc());
+    first_lap(&rt, &board, &mut p);
+    both_hold(&rt, &board, &mut p, &mut journal);
+    let Ok(mut q) = second(rt.alloc(), &board, &mut p) else {
+        panic!(&rt; "no memory")
+    };
+    one_lets_go(&rt, &board, &mut p, &mut q);
     go_on(&rt, &board, &mut p, 4_096, 5_000);
     judge(&rt, rt.alloc(), board, p, q, journal);
     Ok(())

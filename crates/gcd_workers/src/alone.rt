@@ -1,24 +1,26 @@
 // A run by worker 0 alone.
-ghost use Rattle.std.specs.Prelude.{◌≡◌, ◌<◌, ℕ, false, length, IfOk};
+ghost use Rattle.std.specs.Prelude.{◌≡◌, ◌<◌, ℕ, false, length, IfOk, IsErrOf};
 ghost use Rattle.gcd_jobs.specs.Contents.{contents};
 ghost use Rattle.gcd_machine.specs.Stands.{StandsFor};
 ghost use Rattle.gcd_turn.specs.Asked.{KeepsListens};
 ghost use Rattle.gcd_workers.specs.Ran.{RunsOverFiles};
+ghost use Rattle.gcd_workers.specs.declared.refused.RunRefused.{RunRefused};
 
 use crate::list_run::{Files, ListRun};
 use crate::outcome::Outcome;
+use crate::refused::RunRefused;
 use gcd_loop::{NoBackoff, run_turns};
 use gcd_outer::{Clock, Poller};
 use gcd_plan::Plan;
-use std::alloc::{AllocError, Global};
+use std::alloc::Global;
 use std::sync::Wait;
 
 /// Runs the plan by worker 0 alone, turn by turn, until the run is quiescent, halted, or has `most` events, at least 1.
 /// One thread keeps the list of events, so it makes no row. `files` are the contents of the plan's files, in their order; the poller
 /// watches no feed yet. A turn costs what the machine's choice costs, the block's value, and a look at each live feed. The list begins
-/// with room for four events a block, and grows. An `Err` comes only where memory runs out, before the first event or at an event
-/// for which there is no room: it leaves nothing of the run, and the poller listens where it did (`kept`); what the poller has told
-/// is told.
+/// with room for four events a block, and grows. An `Err` comes only where memory runs out: [`RunRefused::BeforeTheRun`] before the
+/// first turn, with poller and clock as they were (`before`), and [`RunRefused::InTheRun`] at an event for which there is no room. It
+/// leaves nothing of the run, and the poller listens where it did (`kept`); what the poller has told is told.
 pub fn run_alone<R: Wait, P: Poller, C: Clock>(
     rt: &R,
     alloc: Global,
@@ -27,7 +29,7 @@ pub fn run_alone<R: Wait, P: Poller, C: Clock>(
     files: &[Vec<u8>],
     poller: &mut P,
     clock: &mut C,
-) -> Result<Outcome, AllocError>
+) -> Result<Outcome, RunRefused>
     requires most { 0 < most }
     requires files { length files.now ≡ length plan.now.files }
     requires unwatched { (feed : ℕ) → (P.state poller.old).watched feed ≡ false }
@@ -37,9 +39,12 @@ pub fn run_alone<R: Wait, P: Poller, C: Clock>(
         o.journal.items o.values.items o.state) }
     ensures stands { IfOk result (λ o. StandsFor o.machine plan.now o.journal.items) }
     ensures kept { KeepsListens P.tells (P.state poller.old) (P.state poller.new) }
+    ensures before { IsErrOf result RunRefused.BeforeTheRun → (poller.new ≡ poller.old) × (clock.new ≡ clock.old) }
 {
-    let mut run = ListRun::new(alloc, plan, most, files)?;
-    run_turns(
+    let Ok(mut run) = ListRun::new(alloc, plan, most, files) else {
+        return Err(RunRefused::BeforeTheRun);
+    };
+    let Ok(()) = run_turns(
         rt,
         plan,
         most,
@@ -48,7 +53,9 @@ pub fn run_alone<R: Wait, P: Poller, C: Clock>(
         &mut NoBackoff,
         poller,
         clock,
-    )?;
+    ) else {
+        return Err(RunRefused::InTheRun);
+    };
     let state = run.machine.state();
     Ok(Outcome {
         journal: run.journal,

@@ -1,5 +1,5 @@
 // What a team has seen, when its run has ended.
-ghost use Rattle.std.specs.Prelude.{◌≡◌, ◌<◌, ◌≤◌, ◌∷◌, [], ℕ, List, false, All, IfOk, length, slice_index_or};
+ghost use Rattle.std.specs.Prelude.{◌≡◌, ◌<◌, ◌≤◌, ◌∷◌, [], ℕ, List, false, All, IfOk, IsErrOf, length, slice_index_or};
 ghost use Rattle.gcd_event.specs.declared.event.Event.{Event};
 ghost use Rattle.gcd_plan.specs.Limits.{max_workers};
 ghost use Rattle.gcd_history.specs.Ends.{HasEnded};
@@ -14,8 +14,10 @@ ghost use Rattle.gcd_pool.specs.Hands.{IsPool, IsReady, Served};
 ghost use Rattle.gcd_pool.specs.Leads.{Led};
 ghost use Rattle.gcd_turn.specs.Asked.{KeepsListens};
 ghost use Rattle.gcd_pool.specs.declared.hand.Hand.{Hand};
+ghost use Rattle.gcd_workers.specs.declared.refused.RunRefused.{RunRefused};
 ghost use Rattle.gcd_workers.specs.Teams.{EachFrom, HasLed, IsHead, IsNew, IsPassAt, IsReadyAt};
 
+use crate::refused::RunRefused;
 use crate::team::hands_of;
 use gcd_event::Event;
 use gcd_jobs::{Handler, Job};
@@ -151,10 +153,11 @@ fn run_team<
 /// 0's, and `benches` are those of the pool's rack, 1 to 64 and as many as the board was made for: a worker of the board without a
 /// bench would pass nothing on, and hold the others for ever after 4,096 events. What the pass that it leaves has seen is the whole row,
 /// which promises what a run of any engine does (`RunsPlan`), over the board's limit of events; no other pass is out, and the journal
-/// beside it is what was gathered of it, so the board may be closed with both. The poller watches no feed yet. An `Err` comes only where
-/// memory runs out, before the first event or where worker 0 gathers what it has seen, so in the midst of the run too, or where the
-/// system makes no thread for a worker on whom all others wait: blocks may have run then, all threads have ended, and of the run
-/// nothing is left; the poller listens where it did (`kept`).
+/// beside it is what was gathered of it, so the board may be closed with both. The poller watches no feed yet. An `Err` is
+/// [`RunRefused::BeforeTheRun`] where memory runs out before the first turn, with poller and clock as they were (`before`), and
+/// [`RunRefused::InTheRun`] where it is refused to worker 0, which gathers what it has seen, or the system makes no thread for a worker
+/// on whom all others wait: blocks may have run then. All threads have ended, and of the run nothing is left; the poller listens where
+/// it did (`kept`).
 pub fn run_pool<
     J: Job + Drop + Send,
     H: Handler + Drop + Send,
@@ -169,7 +172,7 @@ pub fn run_pool<
     mut benches: Vec<Bench>,
     poller: &mut P,
     clock: &mut C,
-) -> Result<(Pass<J, H>, Vec<Event>), AllocError>
+) -> Result<(Pass<J, H>, Vec<Event>), RunRefused>
     requires pool { IsPool pool.now }
     requires pass { IsPassOf (shape_of H.kind H.times H.total) (gives_of J.gives) pool.now.board.now pass }
     requires new { IsNew (view pass) }
@@ -184,8 +187,14 @@ pub fn run_pool<
         (record { tells = P.tells; before = P.state poller.old; after = P.state poller.new })
         (record { tells = C.tells; before = C.state clock.old; after = C.state clock.new }) (view r.0).seen) }
     ensures kept { KeepsListens P.tells (P.state poller.old) (P.state poller.new) }
+    ensures before { IsErrOf result RunRefused.BeforeTheRun → (poller.new ≡ poller.old) × (clock.new ≡ clock.old) }
 {
     let first = benches.remove(0);
-    let hands = hands_of(alloc, pool, pass, first, benches)?;
-    run_team(rt, pool, hands, poller, clock)
+    let Ok(hands) = hands_of(alloc, pool, pass, first, benches) else {
+        return Err(RunRefused::BeforeTheRun);
+    };
+    match run_team(rt, pool, hands, poller, clock) {
+        Ok(last) => Ok(last),
+        Err(AllocError) => Err(RunRefused::InTheRun),
+    }
 }

@@ -29,14 +29,15 @@
 //! | `ran` (`RunsOverFiles`) | where memory sufficed: the journal is lawful, has at most `most` events, and has ended, in the state told; each event is of one of the workers, and with one of them each event of a worker is what worker 0 chooses at its place; what poller and clock said stands in it (`RunsPlan` of `gcd_loop`); and the values are those of the blocks that have ended, and else 0 |
 //! | `stands` | the machine that is left stands for the journal |
 //! | `kept` | no listen was made, and the poller's count of faults did not fall; this holds where memory runs out too |
+//! | `before` | where the answer is [`RunRefused::BeforeTheRun`], poller and clock are as they were; [`run_pool`] has it too |
 //!
 //! | clause of `run_jobs` | says |
 //! |---|---|
 //! | `ran` (`RunsJobs`) | where it is run: the journal is lawful, has at most `most` events, and has ended, in the state told; whose its events are, as above; and a block has a value exactly where its End stands, which is one that its own job may give (`AreGiven`) |
 //! | `job_count`, `worker_count`, `event_count` | it is refused by that name exactly where there is not one job for each block; where else the number of workers is 0 or above 64; and where else there may be no event |
 //!
-//! A run by worker 0 alone takes memory before its first event, and where its list has to grow; what is left of it at a refusal
-//! is nothing. So with a given clock and poller its journal is exact. A team takes memory before the first event, after the last, and where
+//! A run by worker 0 alone takes memory before its first turn, and where its list has to grow; what is left of it at a refusal
+//! is nothing, and which of the two it was is told ([`RunRefused`]). So with a given clock and poller its journal is exact. A team takes memory before the first turn, after the last, and where
 //! worker 0 gathers what it has seen, which it does each time that about 1,024 events more have come. So both
 //! may be refused memory in the midst of a run. So may a team be refused a thread for one of its workers: that worker sees nothing, and
 //! once the others have waited ten seconds for it the run is given up, as where memory is refused. Blocks have run then, poller and clock
@@ -55,6 +56,7 @@ mod jobs_run;
 mod list_run;
 mod opening;
 mod outcome;
+mod refused;
 mod running_jobs;
 mod team;
 mod values;
@@ -66,5 +68,6 @@ pub use hiring::team_size;
 pub use jobs_run::{JobsRefused, JobsRun};
 pub use opening::tallies_of;
 pub use outcome::Outcome;
+pub use refused::RunRefused;
 pub use running_jobs::run_jobs;
 pub use workers::{run_board, run_workers};

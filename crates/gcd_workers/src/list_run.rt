@@ -134,8 +134,7 @@ impl<'a> Recorder<Files<'a>> for ListRun {
     }
 
     #[inline(always)]
-    fn look(&mut self, _plan: &Plan, _most: u32, _desk: &Files<'a>) {
-    }
+    fn look(&mut self, _plan: &Plan, _most: u32, _desk: &Files<'a>) {}
 
     #[inline(always)]
     fn put<R: Wait>(

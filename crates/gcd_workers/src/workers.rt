@@ -1,5 +1,6 @@
 // A run by several workers.
-ghost use Rattle.std.specs.Prelude.{◌≡◌, ◌≤◌, ◌<◌, ℕ, All, true, false, [], replicate, length, IfOk};
+ghost use Rattle.std.specs.Prelude.{◌≡◌, ◌≤◌, ◌<◌, ℕ, All, true, false, [], replicate, length, IfOk, IsErrOf};
+ghost use Rattle.gcd_workers.specs.declared.refused.RunRefused.{RunRefused};
 ghost use Rattle.gcd_plan.specs.Limits.{max_workers};
 ghost use Rattle.gcd_history.specs.Ends.{HasState};
 ghost use Rattle.gcd_jobs.specs.BlockValues.{AreValues};
@@ -18,6 +19,7 @@ use crate::gather::run_pool;
 use crate::hiring::team_size;
 use crate::opening::{WorkBoard, WorkCell, WorkPass, open_board};
 use crate::outcome::Outcome;
+use crate::refused::RunRefused;
 use crate::values::note_all;
 use gcd_event::Event;
 use gcd_outer::{Clock, Poller};
@@ -67,8 +69,8 @@ fn close<'a>(
 }
 
 /// Runs the plan over a rack, by at most so many workers, one for each bench: its works over the files lie in
-/// a board of their own, which is made for as many workers as there are benches, and for `most` events. An `Err` comes only where memory
-/// runs out, or a worker has no thread.
+/// a board of their own, which is made for as many workers as there are benches, and for `most` events. An `Err` is that of
+/// [`run_pool`], or comes where memory runs out before it, which is before the run too, or at the end, when the board is closed.
 pub fn run_board<R: Threads + Wait + Sync, P: Poller, C: Clock>(
     rt: &R,
     alloc: Global,
@@ -80,7 +82,7 @@ pub fn run_board<R: Threads + Wait + Sync, P: Poller, C: Clock>(
     benches: Vec<Bench>,
     poller: &mut P,
     clock: &mut C,
-) -> Result<Outcome, AllocError>
+) -> Result<Outcome, RunRefused>
     requires rack { plan_of rack.now ≡ plan.now }
     requires benches { All (IsBenchOf rack.now) benches.items }
     requires count { (0 < length benches.items) × (length benches.items ≤ workers) }
@@ -93,22 +95,30 @@ pub fn run_board<R: Threads + Wait + Sync, P: Poller, C: Clock>(
         o.journal.items o.values.items o.state) }
     ensures stands { IfOk result (λ o. StandsFor o.machine plan.now o.journal.items) }
     ensures kept { KeepsListens P.tells (P.state poller.old) (P.state poller.new) }
+    ensures before { IsErrOf result RunRefused.BeforeTheRun → (poller.new ≡ poller.old) × (clock.new ≡ clock.old) }
 {
-    let values = Vec::from_elem(alloc, 0, plan.blocks() as usize)?;
-    let (board, pass) = open_board(alloc, plan, benches.len() as u8, most, files)?;
+    let Ok(values) = Vec::from_elem(alloc, 0, plan.blocks() as usize) else {
+        return Err(RunRefused::BeforeTheRun);
+    };
+    let Ok((board, pass)) = open_board(alloc, plan, benches.len() as u8, most, files) else {
+        return Err(RunRefused::BeforeTheRun);
+    };
     let pool = Pool::new(&board, rack, plan);
     let (last, gathered) = run_pool(rt, alloc, &pool, pass, benches, poller, clock)?;
     drop(pool);
-    let outcome = close(alloc, plan, files, board, last, gathered, values, workers)?;
-    Ok(outcome)
+    match close(alloc, plan, files, board, last, gathered, values, workers) {
+        Ok(outcome) => Ok(outcome),
+        Err(AllocError) => Err(RunRefused::InTheRun),
+    }
 }
 
 /// Runs the plan by at most so many workers, 1 to 64, until the run is quiescent or halted, or has `most` events, at least 1. With one
 /// asked for, worker 0 runs it alone ([`run_alone`]). With more, every plan has a team over row, rack and pool, of as many hands as
 /// [`team_size`] says: worker 0, which alone has poller and clock, and helpers in threads of their own. `files` are the contents of the
 /// plan's files, in their order; the poller watches no feed yet. An `Err` comes only where memory runs out, or the system makes no thread
-/// for a worker on whom all others wait (`gcd_pool`), and that may be in the midst of the run: blocks may have run then, what poller and
-/// clock have told is told, and nothing is left of the run. The threads have ended, and the poller listens where it did (`kept`).
+/// for a worker on whom all others wait (`gcd_pool`). Before the first turn that is [`RunRefused::BeforeTheRun`], with poller and clock as
+/// they were (`before`), and from then on [`RunRefused::InTheRun`]: blocks may have run then, and what poller and clock have told is told.
+/// Nothing is left of the run; the threads have ended, and the poller listens where it did (`kept`).
 pub fn run_workers<R: Threads + Wait + Sync, P: Poller, C: Clock>(
     rt: &R,
     alloc: Global,
@@ -118,7 +128,7 @@ pub fn run_workers<R: Threads + Wait + Sync, P: Poller, C: Clock>(
     files: &[Vec<u8>],
     poller: &mut P,
     clock: &mut C,
-) -> Result<Outcome, AllocError>
+) -> Result<Outcome, RunRefused>
     requires files { length files.now ≡ length plan.now.files }
     requires workers { (0 < workers) × (workers ≤ max_workers) }
     requires most { 0 < most }
@@ -129,11 +139,14 @@ pub fn run_workers<R: Threads + Wait + Sync, P: Poller, C: Clock>(
         o.journal.items o.values.items o.state) }
     ensures stands { IfOk result (λ o. StandsFor o.machine plan.now o.journal.items) }
     ensures kept { KeepsListens P.tells (P.state poller.old) (P.state poller.new) }
+    ensures before { IsErrOf result RunRefused.BeforeTheRun → (poller.new ≡ poller.old) × (clock.new ≡ clock.old) }
 {
     if workers == 1 {
         return run_alone(rt, alloc, plan, most, files, poller, clock);
     }
-    let (rack, benches) = Rack::new(alloc, plan, team_size(plan, workers), MOST_PUSHES)?;
+    let Ok((rack, benches)) = Rack::new(alloc, plan, team_size(plan, workers), MOST_PUSHES) else {
+        return Err(RunRefused::BeforeTheRun);
+    };
     run_board(
         rt, alloc, plan, workers, most, files, &rack, benches, poller, clock,
     )

@@ -1,11 +1,15 @@
 // Runs of jobs of a type of their own.
 mod rows;
+mod slow;
 mod square;
 
-use crate::tests::plans::plan_of_queues;
-use gcd_plan::{BlkPart, How, Kind, MAX_EVENTS, ObjPart, Parts, Plan};
+use crate::tests::plans::{SIGNALLED, plan_of_queues, plan_of_signals};
+use gcd_event::Event;
+use gcd_history::State;
+use gcd_plan::{Blk, BlkPart, How, Kind, MAX_EVENTS, ObjPart, Parts, Plan};
 use gcd_workers::{JobsRefused, JobsRun, run_jobs};
 use rows::{Refusal, Row, refusals, rows};
+use slow::counts;
 use square::squares;
 use std::alloc::{AllocError, Global};
 use std::process::Abort;
@@ -126,6 +130,57 @@ fn the_first_refusal_that_applies_is_told(rt: HostRuntime) -> Result<(), Fail> {
             row.workers,
             row.most
         );
+    }
+    Ok(())
+}
+
+// How far the second job of a plan of signals counts: some milliseconds, in which the others make more events than the row has cells.
+const FAR: u64 = 400_000;
+
+// Whether a helper ended the block.
+fn is_ended_by_a_helper(journal: &[Event], block: Blk) -> bool {
+    journal.iter().any(|event| match event {
+        Event::End { worker, blk } => *worker > 0 && *blk == block,
+        _ => false,
+    })
+}
+
+// A run of the plan of signals in which b1 takes long: it is whole, and b1 has its value. Whether a helper ran b1.
+fn long_block_ends<R: Abort + Threads + Wait + Sync>(
+    rt: &R,
+    alloc: Global,
+    plan: &Plan,
+    workers: u8,
+) -> Result<bool, Fail> {
+    let jobs = counts(alloc, FAR, plan.blocks())?;
+    let Ok(run) = run_jobs(rt, alloc, plan, workers, MAX_EVENTS, jobs) else {
+        return Err(Fail::from("refused"));
+    };
+    assert!(rt;
+        run.journal.len() == SIGNALLED as usize,
+        "{workers} workers"
+    );
+    assert!(rt; run.state == State::Drained, "{workers} workers");
+    let wanted = [Some(0), Some(FAR), Some(0), Some(0)];
+    assert!(rt;
+        run.values.as_slice() == wanted.as_slice(),
+        "{workers} workers"
+    );
+    Ok(is_ended_by_a_helper(run.journal.as_slice(), Blk(1)))
+}
+
+// A worker in a long body passes nothing on, so the others wait for it at the end of the row's lap; then all goes on.
+#[test]
+fn a_helper_in_a_long_block_holds_the_others_and_lets_them_go(rt: HostRuntime) -> Result<(), Fail> {
+    let plan = plan_of_signals(rt.alloc())?;
+    for workers in [2, 4] {
+        let mut by_helpers = 0_u32;
+        for _ in 0..10 {
+            if long_block_ends(&rt, rt.alloc(), &plan, workers)? {
+                by_helpers = by_helpers.saturating_add(1);
+            }
+        }
+        assert!(&rt; by_helpers > 0, "{workers} workers");
     }
     Ok(())
 }
