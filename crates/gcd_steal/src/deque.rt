@@ -164,7 +164,7 @@ fn split_pass<N: OfRack>(worker: &mut Owner, _rack: &RackId) -> Pass
         × (worker_index worker.new ≡ worker_index worker.old) }
     ensures pass { IsPassOf (worker_deque worker.old) result }
     ensures old { worker_view worker.new
-        ≡ account false true rack.now (worker_view worker.old).sent (worker_view worker.old).took }
+        ≡ account false true _rack.now (worker_view worker.old).sent (worker_view worker.old).took }
     ensures new { view result ≡ account false false _rack.now [] [] }
 {
     worker.another::<NewPass<N>>()

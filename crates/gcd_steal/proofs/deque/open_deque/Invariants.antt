@@ -1,4 +1,4 @@
 use Rattle.gcd_steal.proofs.deque.open_deque.Given as goal
 
 abbrev pub ghosts-split_pass : goal.ghosts-split_pass
-ghosts-split_pass a = record { rack = a.rack.now }
+ghosts-split_pass a = record { rack = a._rack.now }
