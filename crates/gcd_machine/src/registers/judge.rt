@@ -321,7 +321,7 @@ impl Registers {
         requires shape { IsShaped self.now }
         requires worker { worker < max_workers }
         requires run { is_run_of self.now.plan run ≡ true }
-        ensures { result ≡ fault_at self.now (Event.Misuse worker run index code) }
+        ensures { result ≡ fault_at self.now (Event.Misuse worker code run index) }
     {
         if !self.is_own(worker, run) {
             Some(Why::NotOwn)
