@@ -19,6 +19,5 @@ impl Backoff for NoBackoff {
     fn reset(&mut self) {}
 
     #[inline(always)]
-    fn pause<R: Wait>(&mut self, _rt: &R) {
-    }
+    fn pause<R: Wait>(&mut self, _rt: &R) {}
 }

@@ -37,7 +37,7 @@ pub enum Step {
     Over,
 }
 
-/// What keeps the events of a run for worker 0, who has a desk `D` beside it. A run has at most `most`
+/// What keeps the events of a run for worker 0, with what it shares, `D`, beside it. A run has at most `most`
 /// events. Of an `Err` nothing but `kept` is said.
 pub trait Recorder<D> {
     /// Why it may not go on: out of memory, or never.
@@ -66,11 +66,11 @@ pub trait Recorder<D> {
         ensures { result.now ≡ sight self.now };
 
     /// Sees what others have recorded.
-    fn look(&mut self, plan: &Plan, most: u32, desk: &D)
-        requires ready { ready most plan.now desk.now self.old }
-        ensures ready { ready most plan.now desk.now self.new }
+    fn look(&mut self, plan: &Plan, most: u32, shared: &D)
+        requires ready { ready most plan.now shared.now self.old }
+        ensures ready { ready most plan.now shared.now self.new }
         ensures grows { Grows (seen self.old) (seen self.new) }
-        ensures kept { (a : Self) → kept most plan.now desk.now a self.old → kept most plan.now desk.now a self.new };
+        ensures kept { (a : Self) → kept most plan.now shared.now a self.old → kept most plan.now shared.now a self.new };
 
     /// Records an event of the outside, where it may come next.
     fn put<R: Wait>(
@@ -78,15 +78,15 @@ pub trait Recorder<D> {
         rt: &R,
         plan: &Plan,
         most: u32,
-        desk: &D,
+        shared: &D,
         e: Event,
     ) -> Result<Put, Self::Fault>
-        requires ready { ready most plan.now desk.now self.old }
+        requires ready { ready most plan.now shared.now self.old }
         requires room { HasRoom most plan.now (seen self.old) }
         requires outside { IsOutside e }
-        ensures ready { OnOk result (ready most plan.now desk.now self.new) }
+        ensures ready { OnOk result (ready most plan.now shared.now self.new) }
         ensures said { IfOk result (Says most plan.now e (seen self.old) (seen self.new)) }
-        ensures kept { (a : Self) → kept most plan.now desk.now a self.old → kept most plan.now desk.now a self.new };
+        ensures kept { (a : Self) → kept most plan.now shared.now a self.old → kept most plan.now shared.now a self.new };
 
     /// Does what worker 0 chooses, the nodes from number 0 on, or other work.
     fn work<R: Wait>(
@@ -94,17 +94,17 @@ pub trait Recorder<D> {
         rt: &R,
         plan: &Plan,
         most: u32,
-        desk: &D,
+        shared: &D,
         e: Event,
     ) -> Result<Step, Self::Fault>
-        requires ready { ready most plan.now desk.now self.old }
+        requires ready { ready most plan.now shared.now self.old }
         requires room { HasRoom most plan.now (seen self.old) }
         requires chosen { choice_of plan.now (seen self.old) 0 0 ≡ Some e }
-        ensures after { IfOk result (After (ready most plan.now desk.now self.new)
-            (stopped most plan.now desk.now self.new × (seen self.new ≡ seen self.old))
-            (HasEnded most plan.now (seen self.new) × left most plan.now desk.now self.new)) }
+        ensures after { IfOk result (After (ready most plan.now shared.now self.new)
+            (stopped most plan.now shared.now self.new × (seen self.new ≡ seen self.old))
+            (HasEnded most plan.now (seen self.new) × left most plan.now shared.now self.new)) }
         ensures grown { OnOk result (IsGrown most plan.now (seen self.old) (seen self.new)) }
-        ensures kept { (a : Self) → kept most plan.now desk.now a self.old → kept most plan.now desk.now a self.new };
+        ensures kept { (a : Self) → kept most plan.now shared.now a self.old → kept most plan.now shared.now a self.new };
 
     /// Worker 0 has no choice: what others have done, or do now. Where that is nothing, worker 0 listens or waits.
     fn rest<R: Wait>(
@@ -112,17 +112,17 @@ pub trait Recorder<D> {
         rt: &R,
         plan: &Plan,
         most: u32,
-        desk: &D,
+        shared: &D,
     ) -> Result<Step, Self::Fault>
-        requires ready { ready most plan.now desk.now self.old }
+        requires ready { ready most plan.now shared.now self.old }
         requires room { HasRoom most plan.now (seen self.old) }
         requires none { choice_of plan.now (seen self.old) 0 0 ≡ None }
-        ensures after { IfOk result (After (ready most plan.now desk.now self.new)
-            (stopped most plan.now desk.now self.new × (seen self.new ≡ seen self.old))
-            (HasEnded most plan.now (seen self.new) × left most plan.now desk.now self.new)) }
+        ensures after { IfOk result (After (ready most plan.now shared.now self.new)
+            (stopped most plan.now shared.now self.new × (seen self.new ≡ seen self.old))
+            (HasEnded most plan.now (seen self.new) × left most plan.now shared.now self.new)) }
         ensures none { IfOk result (λ step. step ≡ Step.Waited → seen self.new ≡ seen self.old) }
         ensures grown { OnOk result (IsGrown most plan.now (seen self.old) (seen self.new)) }
-        ensures kept { (a : Self) → kept most plan.now desk.now a self.old → kept most plan.now desk.now a self.new };
+        ensures kept { (a : Self) → kept most plan.now shared.now a self.old → kept most plan.now shared.now a self.new };
 
     /// The machine stands for what is seen.
     ghost stands: { (most : ℕ) (plan : PlanView) (d : D) (r : Self) → ready most plan d r → IsSight most plan (seen r) (sight r) };

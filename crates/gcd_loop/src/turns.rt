@@ -40,19 +40,19 @@ fn put<D, T: Recorder<D>, R: Wait>(
     rt: &R,
     plan: &Plan,
     most: u32,
-    desk: &D,
+    shared: &D,
     run: &mut T,
     e: Event,
 ) -> Result<Turn, T::Fault>
-    requires ready { T.ready most plan.now desk.now run.old }
+    requires ready { T.ready most plan.now shared.now run.old }
     requires room { HasRoom most plan.now (T.seen run.old) }
     requires outside { IsOutside e }
-    ensures ready { OnOk result (T.ready most plan.now desk.now run.new) }
-    ensures after { IfOk result (AfterTurn (T.ready most plan.now desk.now run.new) (λ left. ⊥) ⊥) }
+    ensures ready { OnOk result (T.ready most plan.now shared.now run.new) }
+    ensures after { IfOk result (AfterTurn (T.ready most plan.now shared.now run.new) (λ left. ⊥) ⊥) }
     ensures said { OnOk result (WasPut most plan.now e (T.seen run.old) (T.seen run.new)) }
-    ensures kept { (a : T) → T.kept most plan.now desk.now a run.old → T.kept most plan.now desk.now a run.new }
+    ensures kept { (a : T) → T.kept most plan.now shared.now a run.old → T.kept most plan.now shared.now a run.new }
 {
-    match run.put(rt, plan, most, desk, e)? {
+    match run.put(rt, plan, most, shared, e)? {
         Put::Placed => Ok(Turn::Placed),
         Put::Barred => Ok(Turn::Waited),
         Put::Later => Ok(Turn::Waited),
@@ -65,19 +65,19 @@ fn tell<D, T: Recorder<D>, R: Wait>(
     rt: &R,
     plan: &Plan,
     most: u32,
-    desk: &D,
+    shared: &D,
     run: &mut T,
     outlook: &mut Outlook,
     e: Event,
 ) -> Result<Turn, T::Fault>
-    requires ready { T.ready most plan.now desk.now run.old }
+    requires ready { T.ready most plan.now shared.now run.old }
     requires room { HasRoom most plan.now (T.seen run.old) }
     requires outside { IsOutside e }
-    ensures after { IfOk result (AfterTurn (T.ready most plan.now desk.now run.new) (λ left. ⊥) ⊥) }
+    ensures after { IfOk result (AfterTurn (T.ready most plan.now shared.now run.new) (λ left. ⊥) ⊥) }
     ensures said { OnOk result (WasTold most plan.now e (T.seen run.old) (T.seen run.new) outlook.old outlook.new) }
-    ensures kept { (a : T) → T.kept most plan.now desk.now a run.old → T.kept most plan.now desk.now a run.new }
+    ensures kept { (a : T) → T.kept most plan.now shared.now a run.old → T.kept most plan.now shared.now a run.new }
 {
-    match run.put(rt, plan, most, desk, e)? {
+    match run.put(rt, plan, most, shared, e)? {
         Put::Placed => {
             outlook.settle();
             Ok(Turn::Placed)
@@ -97,19 +97,19 @@ pub fn idle<D, T: Recorder<D>, P: Poller, C: Clock, R: Wait>(
     rt: &R,
     plan: &Plan,
     most: u32,
-    desk: &D,
+    shared: &D,
     run: &mut T,
     outlook: &mut Outlook,
     poller: &mut P,
     clock: &mut C,
     left: Option<u32>,
 ) -> Result<Turn, T::Fault>
-    requires ready { T.ready most plan.now desk.now run.old }
+    requires ready { T.ready most plan.now shared.now run.old }
     requires room { HasRoom most plan.now (T.seen run.old) }
     requires idle { MayIdle plan.now (T.seen run.old) outlook.old.news (P.state poller.old) left }
-    ensures ready { OnOk result (T.ready most plan.now desk.now run.new) }
-    ensures after { IfOk result (AfterTurn (T.ready most plan.now desk.now run.new) (λ left. ⊥) ⊥) }
-    ensures kept { (a : T) → T.kept most plan.now desk.now a run.old → T.kept most plan.now desk.now a run.new }
+    ensures ready { OnOk result (T.ready most plan.now shared.now run.new) }
+    ensures after { IfOk result (AfterTurn (T.ready most plan.now shared.now run.new) (λ left. ⊥) ⊥) }
+    ensures kept { (a : T) → T.kept most plan.now shared.now a run.old → T.kept most plan.now shared.now a run.new }
     ensures listens { KeepsListens P.tells (P.state poller.old) (P.state poller.new) }
     ensures going { (stood : List Event) (before : PollerState) (early : ClockState)
         → IsGoing most P.tells C.tells plan.now stood before early (P.state poller.old) (C.state clock.old) (T.seen run.old) outlook.old
@@ -117,7 +117,7 @@ pub fn idle<D, T: Recorder<D>, P: Poller, C: Clock, R: Wait>(
 {
     match outlook.idle(plan, run.machine(), poller, clock, left) {
         None => Ok(Turn::Waited),
-        Some(e) => put(rt, plan, most, desk, run, e),
+        Some(e) => put(rt, plan, most, shared, run, e),
     }
 }
 
@@ -127,29 +127,29 @@ fn rest<D, T: Recorder<D>, P: Poller, C: Clock, R: Wait>(
     rt: &R,
     plan: &Plan,
     most: u32,
-    desk: &D,
+    shared: &D,
     run: &mut T,
     outlook: &mut Outlook,
     poller: &mut P,
     clock: &mut C,
     left: Option<u32>,
 ) -> Result<Turn, T::Fault>
-    requires ready { T.ready most plan.now desk.now run.old }
+    requires ready { T.ready most plan.now shared.now run.old }
     requires room { HasRoom most plan.now (T.seen run.old) }
     requires idle { MayIdle plan.now (T.seen run.old) outlook.old.news (P.state poller.old) left }
     requires none { choice_of plan.now (T.seen run.old) 0 0 ≡ None }
-    ensures after { IfOk result (AfterTurn (T.ready most plan.now desk.now run.new)
-        (IsStopped most plan.now (T.stopped most plan.now desk.now run.new) (T.seen run.new) outlook.new.news (P.state poller.new))
-        (HasEnded most plan.now (T.seen run.new) × T.left most plan.now desk.now run.new)) }
-    ensures kept { (a : T) → T.kept most plan.now desk.now a run.old → T.kept most plan.now desk.now a run.new }
+    ensures after { IfOk result (AfterTurn (T.ready most plan.now shared.now run.new)
+        (IsStopped most plan.now (T.stopped most plan.now shared.now run.new) (T.seen run.new) outlook.new.news (P.state poller.new))
+        (HasEnded most plan.now (T.seen run.new) × T.left most plan.now shared.now run.new)) }
+    ensures kept { (a : T) → T.kept most plan.now shared.now a run.old → T.kept most plan.now shared.now a run.new }
     ensures listens { KeepsListens P.tells (P.state poller.old) (P.state poller.new) }
     ensures going { (stood : List Event) (before : PollerState) (early : ClockState)
         → IsGoing most P.tells C.tells plan.now stood before early (P.state poller.old) (C.state clock.old) (T.seen run.old) outlook.old
         → OnOk result (IsGoing most P.tells C.tells plan.now stood before early (P.state poller.new) (C.state clock.new) (T.seen run.new) outlook.new) }
 {
-    match run.rest(rt, plan, most, desk)? {
+    match run.rest(rt, plan, most, shared)? {
         Step::Placed => Ok(Turn::Placed),
-        Step::Waited => idle(rt, plan, most, desk, run, outlook, poller, clock, left),
+        Step::Waited => idle(rt, plan, most, shared, run, outlook, poller, clock, left),
         Step::Stopped => Ok(Turn::Stopped { left }),
         Step::Over => Ok(Turn::Over),
     }
@@ -161,21 +161,21 @@ fn work<D, T: Recorder<D>, R: Wait>(
     rt: &R,
     plan: &Plan,
     most: u32,
-    desk: &D,
+    shared: &D,
     run: &mut T,
     e: Event,
     left: Option<u32>,
 ) -> Result<Turn, T::Fault>
-    requires ready { T.ready most plan.now desk.now run.old }
+    requires ready { T.ready most plan.now shared.now run.old }
     requires room { HasRoom most plan.now (T.seen run.old) }
     requires chosen { choice_of plan.now (T.seen run.old) 0 0 ≡ Some e }
-    ensures after { IfOk result (AfterTurn (T.ready most plan.now desk.now run.new)
-        (λ more. (more ≡ left) × T.stopped most plan.now desk.now run.new × (T.seen run.new ≡ T.seen run.old))
-        (HasEnded most plan.now (T.seen run.new) × T.left most plan.now desk.now run.new)) }
+    ensures after { IfOk result (AfterTurn (T.ready most plan.now shared.now run.new)
+        (λ more. (more ≡ left) × T.stopped most plan.now shared.now run.new × (T.seen run.new ≡ T.seen run.old))
+        (HasEnded most plan.now (T.seen run.new) × T.left most plan.now shared.now run.new)) }
     ensures grown { OnOk result (IsGrown most plan.now (T.seen run.old) (T.seen run.new)) }
-    ensures kept { (a : T) → T.kept most plan.now desk.now a run.old → T.kept most plan.now desk.now a run.new }
+    ensures kept { (a : T) → T.kept most plan.now shared.now a run.old → T.kept most plan.now shared.now a run.new }
 {
-    match run.work(rt, plan, most, desk, e)? {
+    match run.work(rt, plan, most, shared, e)? {
         Step::Placed => Ok(Turn::Placed),
         Step::Waited => Ok(Turn::Waited),
         Step::Stopped => Ok(Turn::Stopped { left }),
@@ -189,7 +189,7 @@ fn act<D, T: Recorder<D>, P: Poller, C: Clock, R: Wait>(
     rt: &R,
     plan: &Plan,
     most: u32,
-    desk: &D,
+    shared: &D,
     run: &mut T,
     outlook: &mut Outlook,
     poller: &mut P,
@@ -197,22 +197,22 @@ fn act<D, T: Recorder<D>, P: Poller, C: Clock, R: Wait>(
     chosen: Option<Event>,
     left: Option<u32>,
 ) -> Result<Turn, T::Fault>
-    requires ready { T.ready most plan.now desk.now run.old }
+    requires ready { T.ready most plan.now shared.now run.old }
     requires room { HasRoom most plan.now (T.seen run.old) }
     requires idle { MayIdle plan.now (T.seen run.old) outlook.old.news (P.state poller.old) left }
     requires chosen { choice_of plan.now (T.seen run.old) 0 0 ≡ chosen }
-    ensures after { IfOk result (AfterTurn (T.ready most plan.now desk.now run.new)
-        (IsStopped most plan.now (T.stopped most plan.now desk.now run.new) (T.seen run.new) outlook.new.news (P.state poller.new))
-        (HasEnded most plan.now (T.seen run.new) × T.left most plan.now desk.now run.new)) }
-    ensures kept { (a : T) → T.kept most plan.now desk.now a run.old → T.kept most plan.now desk.now a run.new }
+    ensures after { IfOk result (AfterTurn (T.ready most plan.now shared.now run.new)
+        (IsStopped most plan.now (T.stopped most plan.now shared.now run.new) (T.seen run.new) outlook.new.news (P.state poller.new))
+        (HasEnded most plan.now (T.seen run.new) × T.left most plan.now shared.now run.new)) }
+    ensures kept { (a : T) → T.kept most plan.now shared.now a run.old → T.kept most plan.now shared.now a run.new }
     ensures listens { KeepsListens P.tells (P.state poller.old) (P.state poller.new) }
     ensures going { (stood : List Event) (before : PollerState) (early : ClockState)
         → IsGoing most P.tells C.tells plan.now stood before early (P.state poller.old) (C.state clock.old) (T.seen run.old) outlook.old
         → OnOk result (IsGoing most P.tells C.tells plan.now stood before early (P.state poller.new) (C.state clock.new) (T.seen run.new) outlook.new) }
 {
     match chosen {
-        Some(e) => work(rt, plan, most, desk, run, e, left),
-        None => rest(rt, plan, most, desk, run, outlook, poller, clock, left),
+        Some(e) => work(rt, plan, most, shared, run, e, left),
+        None => rest(rt, plan, most, shared, run, outlook, poller, clock, left),
     }
 }
 
@@ -222,17 +222,17 @@ fn answer<D, T: Recorder<D>, P: Poller, C: Clock, R: Wait>(
     rt: &R,
     plan: &Plan,
     most: u32,
-    desk: &D,
+    shared: &D,
     run: &mut T,
     outlook: &mut Outlook,
     poller: &mut P,
     clock: &mut C,
 ) -> Result<Turn, T::Fault>
-    requires ready { T.ready most plan.now desk.now run.old }
-    ensures after { IfOk result (AfterTurn (T.ready most plan.now desk.now run.new)
-        (IsStopped most plan.now (T.stopped most plan.now desk.now run.new) (T.seen run.new) outlook.new.news (P.state poller.new))
-        (HasEnded most plan.now (T.seen run.new) × T.left most plan.now desk.now run.new)) }
-    ensures kept { (a : T) → T.kept most plan.now desk.now a run.old → T.kept most plan.now desk.now a run.new }
+    requires ready { T.ready most plan.now shared.now run.old }
+    ensures after { IfOk result (AfterTurn (T.ready most plan.now shared.now run.new)
+        (IsStopped most plan.now (T.stopped most plan.now shared.now run.new) (T.seen run.new) outlook.new.news (P.state poller.new))
+        (HasEnded most plan.now (T.seen run.new) × T.left most plan.now shared.now run.new)) }
+    ensures kept { (a : T) → T.kept most plan.now shared.now a run.old → T.kept most plan.now shared.now a run.new }
     ensures listens { KeepsListens P.tells (P.state poller.old) (P.state poller.new) }
     ensures going { (stood : List Event) (before : PollerState) (early : ClockState)
         → IsGoing most P.tells C.tells plan.now stood before early (P.state poller.old) (C.state clock.old) (T.seen run.old) outlook.old
@@ -240,10 +240,10 @@ fn answer<D, T: Recorder<D>, P: Poller, C: Clock, R: Wait>(
 {
     match outlook.ask(plan, most, run.machine(), poller, clock) {
         Ask::Leave => Ok(Turn::Over),
-        Ask::Told(e) => tell(rt, plan, most, desk, run, outlook, e),
-        Ask::Put(e) => put(rt, plan, most, desk, run, e),
+        Ask::Told(e) => tell(rt, plan, most, shared, run, outlook, e),
+        Ask::Put(e) => put(rt, plan, most, shared, run, e),
         Ask::Work { chosen, left } => act(
-            rt, plan, most, desk, run, outlook, poller, clock, chosen, left,
+            rt, plan, most, shared, run, outlook, poller, clock, chosen, left,
         ),
     }
 }
@@ -256,24 +256,24 @@ pub fn take_turn<D, T: Recorder<D>, P: Poller, C: Clock, R: Wait>(
     rt: &R,
     plan: &Plan,
     most: u32,
-    desk: &D,
+    shared: &D,
     run: &mut T,
     outlook: &mut Outlook,
     poller: &mut P,
     clock: &mut C,
 ) -> Result<Turn, T::Fault>
-    requires ready { T.ready most plan.now desk.now run.old }
-    ensures after { IfOk result (AfterTurn (T.ready most plan.now desk.now run.new)
-        (IsStopped most plan.now (T.stopped most plan.now desk.now run.new) (T.seen run.new) outlook.new.news (P.state poller.new))
-        (HasEnded most plan.now (T.seen run.new) × T.left most plan.now desk.now run.new)) }
-    ensures kept { (a : T) → T.kept most plan.now desk.now a run.old → T.kept most plan.now desk.now a run.new }
+    requires ready { T.ready most plan.now shared.now run.old }
+    ensures after { IfOk result (AfterTurn (T.ready most plan.now shared.now run.new)
+        (IsStopped most plan.now (T.stopped most plan.now shared.now run.new) (T.seen run.new) outlook.new.news (P.state poller.new))
+        (HasEnded most plan.now (T.seen run.new) × T.left most plan.now shared.now run.new)) }
+    ensures kept { (a : T) → T.kept most plan.now shared.now a run.old → T.kept most plan.now shared.now a run.new }
     ensures listens { KeepsListens P.tells (P.state poller.old) (P.state poller.new) }
     ensures going { (stood : List Event) (before : PollerState) (early : ClockState)
         → IsGoing most P.tells C.tells plan.now stood before early (P.state poller.old) (C.state clock.old) (T.seen run.old) outlook.old
         → OnOk result (IsGoing most P.tells C.tells plan.now stood before early (P.state poller.new) (C.state clock.new) (T.seen run.new) outlook.new) }
 {
-    run.look(plan, most, desk);
-    answer(rt, plan, most, desk, run, outlook, poller, clock)
+    run.look(plan, most, shared);
+    answer(rt, plan, most, shared, run, outlook, poller, clock)
 }
 
 // Turn by turn, until the run has ended.
@@ -281,25 +281,25 @@ fn go_on<D, T: Recorder<D>, N: Backoff, P: Poller, C: Clock, R: Wait>(
     rt: &R,
     plan: &Plan,
     most: u32,
-    desk: &D,
+    shared: &D,
     run: &mut T,
     outlook: &mut Outlook,
     backoff: &mut N,
     poller: &mut P,
     clock: &mut C,
 ) -> Result<(), T::Fault>
-    requires ready { T.ready most plan.now desk.now run.old }
-    requires unstopped { (r : T) → T.stopped most plan.now desk.now r → ⊥ }
+    requires ready { T.ready most plan.now shared.now run.old }
+    requires unstopped { (r : T) → T.stopped most plan.now shared.now r → ⊥ }
     ensures ended { OnOk result (HasEnded most plan.now (T.seen run.new)) }
-    ensures left { OnOk result (T.left most plan.now desk.now run.new) }
-    ensures kept { (a : T) → T.kept most plan.now desk.now a run.old → T.kept most plan.now desk.now a run.new }
+    ensures left { OnOk result (T.left most plan.now shared.now run.new) }
+    ensures kept { (a : T) → T.kept most plan.now shared.now a run.old → T.kept most plan.now shared.now a run.new }
     ensures listens { KeepsListens P.tells (P.state poller.old) (P.state poller.new) }
     ensures going { (stood : List Event) (before : PollerState) (early : ClockState)
         → IsGoing most P.tells C.tells plan.now stood before early (P.state poller.old) (C.state clock.old) (T.seen run.old) outlook.old
         → OnOk result (IsGoing most P.tells C.tells plan.now stood before early (P.state poller.new) (C.state clock.new) (T.seen run.new) outlook.new) }
 {
     for _ in rt.forever() {
-        match take_turn(rt, plan, most, desk, run, outlook, poller, clock)? {
+        match take_turn(rt, plan, most, shared, run, outlook, poller, clock)? {
             Turn::Placed => backoff.reset(),
             Turn::Waited => backoff.pause(rt),
             Turn::Stopped { .. } => unreachable!(),
@@ -315,19 +315,19 @@ pub fn run_turns<D, T: Recorder<D>, N: Backoff, P: Poller, C: Clock, R: Wait>(
     rt: &R,
     plan: &Plan,
     most: u32,
-    desk: &D,
+    shared: &D,
     run: &mut T,
     backoff: &mut N,
     poller: &mut P,
     clock: &mut C,
 ) -> Result<(), T::Fault>
-    requires ready { T.ready most plan.now desk.now run.old }
-    requires unstopped { (r : T) → T.stopped most plan.now desk.now r → ⊥ }
+    requires ready { T.ready most plan.now shared.now run.old }
+    requires unstopped { (r : T) → T.stopped most plan.now shared.now r → ⊥ }
     ensures run_on { OnOk result (IsRunOn most plan.now (T.seen run.old) (T.seen run.new)
         (record { tells = P.tells; before = P.state poller.old; after = P.state poller.new })
         (record { tells = C.tells; before = C.state clock.old; after = C.state clock.new })) }
-    ensures left { OnOk result (T.left most plan.now desk.now run.new) }
-    ensures kept { (a : T) → T.kept most plan.now desk.now a run.old → T.kept most plan.now desk.now a run.new }
+    ensures left { OnOk result (T.left most plan.now shared.now run.new) }
+    ensures kept { (a : T) → T.kept most plan.now shared.now a run.old → T.kept most plan.now shared.now a run.new }
     ensures listens { KeepsListens P.tells (P.state poller.old) (P.state poller.new) }
 {
     let mut outlook = Outlook::new(clock);
@@ -335,7 +335,7 @@ pub fn run_turns<D, T: Recorder<D>, N: Backoff, P: Poller, C: Clock, R: Wait>(
         rt,
         plan,
         most,
-        desk,
+        shared,
         run,
         &mut outlook,
         backoff,

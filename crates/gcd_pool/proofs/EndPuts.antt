@@ -11,16 +11,16 @@ use Rattle.gcd_row.specs.Passes.{IsPassOf, slots, view, machine_of}
 use Rattle.gcd_row.specs.declared.board.RowBoard.{RowBoard}
 use Rattle.gcd_row.specs.declared.pass.RowPass.{RowPass}
 use Rattle.gcd_pool.specs.Hands.{IsSettled}
-use Rattle.gcd_pool.specs.Outcomes.{SaysOutcome}
+use Rattle.gcd_pool.specs.Throughs.{SaysThrough}
 use Rattle.gcd_pool.specs.Works.{WasEndPut}
-use Rattle.gcd_pool.specs.declared.putting.Outcome.{Outcome}
-use Rattle.gcd_pool.specs.declared.putting.Outcome.TheVariants.{Placed, Barred, Full, Stopped}
+use Rattle.gcd_pool.specs.declared.putting.Through.{Through}
+use Rattle.gcd_pool.specs.declared.putting.Through.TheVariants.{Placed, Barred, Full, Stopped}
 use Rattle.gcd_pool.specs.declared.turn.Turn.TheVariants.{Left, Ended, Stopped as TurnStopped}
-use Rattle.gcd_pool.proofs.Outcomes.{barred_adds_none, barred_leaves, barred_none, full_length, outcome_adds, outcome_ended, outcome_ends, outcome_goes, outcome_leaves, outcome_only, outcome_settled, outcome_stops}
+use Rattle.gcd_pool.proofs.Throughs.{barred_adds_none, barred_leaves, barred_none, full_length, outcome_adds, outcome_ended, outcome_ends, outcome_goes, outcome_leaves, outcome_only, outcome_settled, outcome_stops}
 use Rattle.gcd_pool.proofs.Works.{ended_is_work}
 
 module _ {S : Type 0} (shape : S → Shape) (gives : S → ℕ → Type 0) (board : RowBoard S) (before after : RowPass S) (e : Event) (is : IsPassOf shape gives board after) (settled : IsSettled shape (view before) e (slots before)) where
-  pub end_placed : SaysOutcome shape gives board e before after Placed → worker_of e ≡ (view before).worker → WasEndPut shape e before after (Some Ended)
+  pub end_placed : SaysThrough shape gives board e before after Placed → worker_of e ≡ (view before).worker → WasEndPut shape e before after (Some Ended)
   end_placed said mine = record {
     goes = outcome_goes shape gives board e before after Placed said;
     work = outcome_adds shape gives board e before after Placed (ended_is_work e settled.run settled.ends) said;
@@ -29,7 +29,7 @@ module _ {S : Type 0} (shape : S → Shape) (gives : S → ℕ → Type 0) (boar
     says = outcome_ended shape gives board e before after mine said settled;
   }
 
-  pub end_full : SaysOutcome shape gives board e before after Full → WasEndPut shape e before after (Some Left)
+  pub end_full : SaysThrough shape gives board e before after Full → WasEndPut shape e before after (Some Left)
   end_full said = record {
     goes = outcome_goes shape gives board e before after Full said;
     work = outcome_adds shape gives board e before after Full (ended_is_work e settled.run settled.ends) said;
@@ -38,7 +38,7 @@ module _ {S : Type 0} (shape : S → Shape) (gives : S → ℕ → Type 0) (boar
     says = inr (inr (full_length shape gives board e before after said));
   }
 
-  pub end_stopped : SaysOutcome shape gives board e before after Stopped → WasEndPut shape e before after (Some TurnStopped)
+  pub end_stopped : SaysThrough shape gives board e before after Stopped → WasEndPut shape e before after (Some TurnStopped)
   end_stopped said = record {
     goes = outcome_goes shape gives board e before after Stopped said;
     work = outcome_adds shape gives board e before after Stopped (ended_is_work e settled.run settled.ends) said;
@@ -47,7 +47,7 @@ module _ {S : Type 0} (shape : S → Shape) (gives : S → ℕ → Type 0) (boar
     says = tt;
   }
 
-  pub end_halted : (m : MachineView) → SaysOutcome shape gives board e before after Barred → m ≡ machine_of after
+  pub end_halted : (m : MachineView) → SaysThrough shape gives board e before after Barred → m ≡ machine_of after
       → ((plan : PlanView) (h : List Event) → StandsFor m plan h → true ≡ is_halted h) → WasEndPut shape e before after (Some Left)
   end_halted m said same tells = record {
     goes = outcome_goes shape gives board e before after Barred said;
@@ -57,7 +57,7 @@ module _ {S : Type 0} (shape : S → Shape) (gives : S → ℕ → Type 0) (boar
     says = inr (inl (sym (tells (view after).terms.plan (view after).seen (subst (λ (x : MachineView). StandsFor x (view after).terms.plan (view after).seen) (sym same) is.stands))));
   }
 
-  pub end_barred : SaysOutcome shape gives board e before after Barred → WasEndPut shape e before after None
+  pub end_barred : SaysThrough shape gives board e before after Barred → WasEndPut shape e before after None
   end_barred said = record {
     goes = outcome_goes shape gives board e before after Barred said;
     work = outcome_adds shape gives board e before after Barred (ended_is_work e settled.run settled.ends) said;

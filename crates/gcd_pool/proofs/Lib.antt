@@ -10,7 +10,7 @@ pub mod Placing
 pub mod Splices
 pub mod Teams
 pub mod Recording
-pub mod Outcomes
+pub mod Throughs
 pub mod EndPuts
 pub mod Exits
 pub mod Laid

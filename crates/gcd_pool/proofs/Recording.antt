@@ -31,7 +31,7 @@ use Rattle.gcd_pool.specs.Hands.{GoesOn, IsFresh, IsHandOf, Serving}
 use Rattle.gcd_outer.specs.Outside.{ClockState}
 use Rattle.gcd_outer.specs.Tells.{PollerState}
 use Rattle.gcd_pool.specs.Leads.{IsHead, Leads, Led}
-use Rattle.gcd_pool.specs.Outcomes.{HasWaited, WasPut}
+use Rattle.gcd_pool.specs.Throughs.{HasWaited, WasPut}
 use Rattle.gcd_pool.specs.Works.{AddsNone, AddsOnly, AddsWork, is_own_work}
 use Rattle.gcd_pool.specs.declared.hand.Hand.{Hand}
 use Rattle.gcd_pool.specs.declared.hand.Pool.{Pool}

@@ -2,7 +2,7 @@ pub mod Duties
 pub mod Each
 pub mod Hands
 pub mod Turns
-pub mod Outcomes
+pub mod Throughs
 pub mod Placing
 pub mod Works
 pub mod Leads

@@ -9,14 +9,14 @@ ghost use Rattle.gcd_steal.specs.Drains.{node_of};
 ghost use Rattle.gcd_steal.specs.Racks.{IsBenchOf, IsRackDrain, number_of};
 ghost use Rattle.gcd_pool.specs.Duties.{begun_on};
 ghost use Rattle.gcd_pool.specs.Hands.{IsHandOf, IsReady, Serving};
-ghost use Rattle.gcd_pool.specs.Outcomes.{SaysOutcome};
+ghost use Rattle.gcd_pool.specs.Throughs.{SaysThrough};
 ghost use Rattle.gcd_pool.specs.Placing.{SaysBegun};
 ghost use Rattle.gcd_pool.specs.Turns.{AfterTurn, IsLaidDown, LaysFoundDown, SaysOut};
 ghost use Rattle.gcd_pool.specs.Works.{AddsWork};
 
-use crate::putting::{Outcome, put_chosen_through};
 use crate::finding::find_drain;
 use crate::hand::{Hand, Pool};
+use crate::putting::{Through, put_chosen_through};
 use crate::run_cells::RunCells;
 use crate::turn::Turn;
 use gcd_event::Event;
@@ -47,13 +47,13 @@ fn put_begin<S: Slot, R: Wait>(
     hand: &mut Hand<S>,
     _drain: &Drain,
     e: Event,
-) -> Outcome
+) -> Through
     requires ready { IsReady S.shape S.gives pool.now hand.old }
     requires worker { worker_of e ≡ (view hand.old.pass).worker }
     requires begins { begun_on (view hand.old.pass).terms.plan (view hand.old.pass).seen e ≡ Some (node_of _drain.now) }
     requires may { why (view hand.old.pass).terms.plan (view hand.old.pass).seen e ≡ None }
     ensures serving { Serving S.shape S.gives pool.now hand.old hand.new }
-    ensures said { SaysOutcome S.shape S.gives pool.now.board.now e hand.old.pass hand.new.pass result }
+    ensures said { SaysThrough S.shape S.gives pool.now.board.now e hand.old.pass hand.new.pass result }
     ensures bench { hand.new.bench ≡ hand.old.bench }
 {
     put_chosen_through(rt, pool, hand, e)
@@ -111,10 +111,10 @@ fn begins_run<S: Slot, R: Wait>(
     ensures bench { hand.new.bench ≡ hand.old.bench }
 {
     match put_begin(rt, pool, hand, drain, e) {
-        Outcome::Placed => Turn::Placed,
-        Outcome::Barred => Turn::Waited,
-        Outcome::Full => Turn::Waited,
-        Outcome::Stopped => Turn::Stopped,
+        Through::Placed => Turn::Placed,
+        Through::Barred => Turn::Waited,
+        Through::Full => Turn::Waited,
+        Through::Stopped => Turn::Stopped,
     }
 }
 

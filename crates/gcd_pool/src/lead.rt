@@ -15,10 +15,10 @@ ghost use Rattle.gcd_pool.specs.Works.{AddsOnly, AddsWork};
 
 use crate::drains::begin_chosen;
 use crate::duty::node_of_begin;
-use crate::putting::{Outcome, pass_many, pass_seen, put_through};
 use crate::hand::{Hand, Pool};
 use crate::idle::Idle;
 use crate::own::record_own;
+use crate::putting::{Through, pass_many, pass_seen, put_through};
 use crate::run_cells::RunCells;
 use crate::serve::serve_to_the_end;
 use crate::team::Leader;
@@ -50,10 +50,10 @@ fn put_outside<S: Slot, R: Wait>(
     ensures said { IfOk result (Says (view hand.old.pass).terms.limits.most (view hand.old.pass).terms.plan e (view hand.old.pass).seen (view hand.new.pass).seen) }
 {
     match put_through(rt, pool, hand, e) {
-        Outcome::Placed => Ok(gcd_loop::Put::Placed),
-        Outcome::Barred => Ok(gcd_loop::Put::Barred),
-        Outcome::Full => Ok(gcd_loop::Put::Later),
-        Outcome::Stopped => Err(AllocError),
+        Through::Placed => Ok(gcd_loop::Put::Placed),
+        Through::Barred => Ok(gcd_loop::Put::Barred),
+        Through::Full => Ok(gcd_loop::Put::Later),
+        Through::Stopped => Err(AllocError),
     }
 }
 
@@ -141,8 +141,8 @@ impl<'a, S: RunCells> Recorder<Pool<'a, S>> for Hand<S> {
     }
 
     #[inline(always)]
-    fn look(&mut self, _plan: &Plan, _most: u32, desk: &Pool<'a, S>) {
-        desk.board.look(&mut self.pass);
+    fn look(&mut self, _plan: &Plan, _most: u32, shared: &Pool<'a, S>) {
+        shared.board.look(&mut self.pass);
     }
 
     #[inline(always)]
@@ -151,13 +151,13 @@ impl<'a, S: RunCells> Recorder<Pool<'a, S>> for Hand<S> {
         rt: &R,
         _plan: &Plan,
         _most: u32,
-        desk: &Pool<'a, S>,
+        shared: &Pool<'a, S>,
         e: Event,
     ) -> Result<gcd_loop::Put, AllocError> {
-        if !pass_many(desk, self) {
+        if !pass_many(shared, self) {
             return Err(AllocError);
         }
-        put_outside(rt, desk, self, e)
+        put_outside(rt, shared, self, e)
     }
 
     #[inline(always)]
@@ -166,13 +166,13 @@ impl<'a, S: RunCells> Recorder<Pool<'a, S>> for Hand<S> {
         rt: &R,
         _plan: &Plan,
         _most: u32,
-        desk: &Pool<'a, S>,
+        shared: &Pool<'a, S>,
         e: Event,
     ) -> Result<Step, AllocError> {
-        if !pass_many(desk, self) {
+        if !pass_many(shared, self) {
             return Err(AllocError);
         }
-        step_of::<S>(lead_any(rt, desk, self, e))
+        step_of::<S>(lead_any(rt, shared, self, e))
     }
 
     #[inline(always)]
@@ -181,12 +181,12 @@ impl<'a, S: RunCells> Recorder<Pool<'a, S>> for Hand<S> {
         _rt: &R,
         _plan: &Plan,
         _most: u32,
-        desk: &Pool<'a, S>,
+        shared: &Pool<'a, S>,
     ) -> Result<Step, AllocError> {
-        if desk.is_stopped() {
+        if shared.is_stopped() {
             return Err(AllocError);
         }
-        if !pass_many(desk, self) {
+        if !pass_many(shared, self) {
             return Err(AllocError);
         }
         Ok(Step::Waited)

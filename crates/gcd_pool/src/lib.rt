@@ -61,12 +61,12 @@
 
 mod drains;
 mod duty;
-mod putting;
 mod finding;
 mod hand;
 mod idle;
 mod lead;
 mod own;
+mod putting;
 mod run;
 mod run_cells;
 mod serve;

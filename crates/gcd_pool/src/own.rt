@@ -9,13 +9,13 @@ ghost use Rattle.gcd_row.specs.Passes.{IsPassOf, slots, view};
 ghost use Rattle.gcd_row.specs.declared.board.RowBoard.{RowBoard};
 ghost use Rattle.gcd_row.specs.declared.pass.RowPass.{RowPass};
 ghost use Rattle.gcd_pool.specs.Hands.{IsFresh, IsHandOf, IsReady, IsSettled, Serving};
-ghost use Rattle.gcd_pool.specs.Outcomes.{SaysOutcome};
+ghost use Rattle.gcd_pool.specs.Throughs.{SaysThrough};
 ghost use Rattle.gcd_pool.specs.Placing.{SaysRecorded};
 ghost use Rattle.gcd_pool.specs.Turns.{AfterTurn};
 ghost use Rattle.gcd_pool.specs.Works.{AddsOnly, AddsWork, WasEndPut};
 
-use crate::putting::{Outcome, put_chosen_through, put_through};
 use crate::hand::{Hand, Pool};
+use crate::putting::{Through, put_chosen_through, put_through};
 use crate::run_cells::RunCells;
 use crate::turn::Turn;
 use gcd_event::Event;
@@ -25,16 +25,16 @@ use std::sync::Wait;
 
 // What has come of an end that was put. None where another event barred it and the run is not halted.
 #[inline(always)]
-fn end_said<S: Slot>(pass: &RowPass<S>, said: Outcome) -> Option<Turn>
+fn end_said<S: Slot>(pass: &RowPass<S>, said: Through) -> Option<Turn>
     ensures { (board : RowBoard S) (before : RowPass S) (e : Event) → IsPassOf S.shape S.gives board pass.now
-        → SaysOutcome S.shape S.gives board e before pass.now said → worker_of e ≡ (view before).worker
+        → SaysThrough S.shape S.gives board e before pass.now said → worker_of e ≡ (view before).worker
         → IsSettled S.shape (view before) e (slots before) → WasEndPut S.shape e before pass.now result }
 {
     match said {
-        Outcome::Placed => Some(Turn::Ended),
-        Outcome::Full => Some(Turn::Left),
-        Outcome::Stopped => Some(Turn::Stopped),
-        Outcome::Barred => {
+        Through::Placed => Some(Turn::Ended),
+        Through::Full => Some(Turn::Left),
+        Through::Stopped => Some(Turn::Stopped),
+        Through::Barred => {
             if pass.machine().is_halted() {
                 Some(Turn::Left)
             } else {
@@ -152,10 +152,10 @@ fn go_on<S: Slot, R: Wait>(rt: &R, pool: &Pool<S>, hand: &mut Hand<S>, e: Event)
     ensures after { AfterTurn S.shape result (view hand.new.pass) (slots hand.new.pass) }
 {
     match put_chosen_through(rt, pool, hand, e) {
-        Outcome::Placed => Turn::Placed,
-        Outcome::Full => Turn::Left,
-        Outcome::Barred => Turn::Waited,
-        Outcome::Stopped => Turn::Stopped,
+        Through::Placed => Turn::Placed,
+        Through::Full => Turn::Left,
+        Through::Barred => Turn::Waited,
+        Through::Stopped => Turn::Stopped,
     }
 }
 

@@ -6,7 +6,7 @@ ghost use Rattle.gcd_row.specs.Lying.{GivesBack};
 ghost use Rattle.gcd_row.specs.Passes.{slots, view};
 ghost use Rattle.gcd_row.specs.Views.{knowing};
 ghost use Rattle.gcd_pool.specs.Hands.{IsHandOf, Serving};
-ghost use Rattle.gcd_pool.specs.Outcomes.{SaysOutcome};
+ghost use Rattle.gcd_pool.specs.Throughs.{SaysThrough};
 
 use crate::hand::{Hand, Pool};
 use crate::idle::Idle;
@@ -16,7 +16,7 @@ use std::sync::Wait;
 
 // What comes of an event that is put until no passed word holds it.
 #[derive(Clone, Copy, Debug, PartialEq, Eq)]
-pub enum Outcome {
+pub enum Through {
     // It stands.
     Placed,
     // It may not come next.
@@ -109,23 +109,23 @@ pub fn put_through<S: Slot, R: Wait>(
     pool: &Pool<S>,
     hand: &mut Hand<S>,
     e: Event,
-) -> Outcome
+) -> Through
     requires of { IsHandOf S.shape S.gives pool.now hand.old }
     requires worker { worker_of e ≡ (view hand.old.pass).worker }
     requires cell { GivesBack S.shape (view hand.old.pass).terms (view hand.old.pass).seen e (slots hand.old.pass) }
     ensures serving { Serving S.shape S.gives pool.now hand.old hand.new }
-    ensures said { SaysOutcome S.shape S.gives pool.now.board.now e hand.old.pass hand.new.pass result }
+    ensures said { SaysThrough S.shape S.gives pool.now.board.now e hand.old.pass hand.new.pass result }
     ensures bench { hand.new.bench ≡ hand.old.bench }
 {
     let mut idle = Idle::new();
     for _ in rt.forever() {
         match pool.board.put(&mut hand.pass, e) {
-            Put::Placed(_) => return Outcome::Placed,
-            Put::Barred { .. } => return Outcome::Barred,
-            Put::Full => return Outcome::Full,
+            Put::Placed(_) => return Through::Placed,
+            Put::Barred { .. } => return Through::Barred,
+            Put::Full => return Through::Full,
             Put::Held { by, .. } => {
                 if !let_go(rt, pool, hand, by, &mut idle) {
-                    return Outcome::Stopped;
+                    return Through::Stopped;
                 }
             }
         }
@@ -140,19 +140,19 @@ pub fn put_chosen_through<S: Slot, R: Wait>(
     pool: &Pool<S>,
     hand: &mut Hand<S>,
     e: Event,
-) -> Outcome
+) -> Through
     requires of { IsHandOf S.shape S.gives pool.now hand.old }
     requires worker { worker_of e ≡ (view hand.old.pass).worker }
     requires may { why (view hand.old.pass).terms.plan (view hand.old.pass).seen e ≡ None }
     requires cell { GivesBack S.shape (view hand.old.pass).terms (view hand.old.pass).seen e (slots hand.old.pass) }
     ensures serving { Serving S.shape S.gives pool.now hand.old hand.new }
-    ensures said { SaysOutcome S.shape S.gives pool.now.board.now e hand.old.pass hand.new.pass result }
+    ensures said { SaysThrough S.shape S.gives pool.now.board.now e hand.old.pass hand.new.pass result }
     ensures bench { hand.new.bench ≡ hand.old.bench }
 {
     match pool.board.put_chosen(&mut hand.pass, e) {
-        Put::Placed(_) => Outcome::Placed,
-        Put::Barred { .. } => Outcome::Barred,
-        Put::Full => Outcome::Full,
+        Put::Placed(_) => Through::Placed,
+        Put::Barred { .. } => Through::Barred,
+        Put::Full => Through::Full,
         Put::Held { .. } => put_through(rt, pool, hand, e),
     }
 }

@@ -7,9 +7,9 @@ ghost use Rattle.gcd_pool.specs.Hands.{IsFresh, IsReady, Serving};
 ghost use Rattle.gcd_pool.specs.Placing.{HasPlacedNone, SaysPlaced, SaysRested};
 ghost use Rattle.gcd_pool.specs.Turns.{AfterTurn, SaysOut};
 
-use crate::putting::pass_seen;
 use crate::hand::{Hand, Pool};
 use crate::idle::Idle;
+use crate::putting::pass_seen;
 use crate::run_cells::RunCells;
 use crate::team::Shared;
 use crate::turn::{Turn, take_turn};

@@ -56,15 +56,14 @@ impl<J: Job + Drop, H: Handler + Drop> Recorder<Global> for Round<J, H> {
         &self.run.machine
     }
 
-    fn look(&mut self, _plan: &Plan, _most: u32, _desk: &Global) {
-    }
+    fn look(&mut self, _plan: &Plan, _most: u32, _shared: &Global) {}
 
     fn put<R: Wait>(
         &mut self,
         _rt: &R,
         plan: &Plan,
         _most: u32,
-        _desk: &Global,
+        _shared: &Global,
         e: Event,
     ) -> Result<Put, AllocError> {
         self.run.put(plan, e)
@@ -75,7 +74,7 @@ impl<J: Job + Drop, H: Handler + Drop> Recorder<Global> for Round<J, H> {
         _rt: &R,
         plan: &Plan,
         _most: u32,
-        _desk: &Global,
+        _shared: &Global,
         e: Event,
     ) -> Result<Step, AllocError> {
         if follow(&mut self.run, plan, e, &mut self.kept)? {
@@ -89,7 +88,7 @@ impl<J: Job + Drop, H: Handler + Drop> Recorder<Global> for Round<J, H> {
         _rt: &R,
         _plan: &Plan,
         _most: u32,
-        _desk: &Global,
+        _shared: &Global,
     ) -> Result<Step, AllocError> {
         Ok(Step::Stopped)
     }

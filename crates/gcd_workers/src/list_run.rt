@@ -134,7 +134,7 @@ impl<'a> Recorder<Files<'a>> for ListRun {
     }
 
     #[inline(always)]
-    fn look(&mut self, _plan: &Plan, _most: u32, _desk: &Files<'a>) {}
+    fn look(&mut self, _plan: &Plan, _most: u32, _shared: &Files<'a>) {}
 
     #[inline(always)]
     fn put<R: Wait>(
@@ -142,13 +142,13 @@ impl<'a> Recorder<Files<'a>> for ListRun {
         _rt: &R,
         plan: &Plan,
         most: u32,
-        desk: &Files<'a>,
+        shared: &Files<'a>,
         e: Event,
     ) -> Result<Put, AllocError> {
         if self.machine.permits(e).is_some() {
             return Ok(Put::Barred);
         }
-        self.record(plan, most, desk.all, e)?;
+        self.record(plan, most, shared.all, e)?;
         Ok(Put::Placed)
     }
 
@@ -158,10 +158,10 @@ impl<'a> Recorder<Files<'a>> for ListRun {
         _rt: &R,
         plan: &Plan,
         most: u32,
-        desk: &Files<'a>,
+        shared: &Files<'a>,
         e: Event,
     ) -> Result<Step, AllocError> {
-        self.record(plan, most, desk.all, e)?;
+        self.record(plan, most, shared.all, e)?;
         Ok(Step::Placed)
     }
 
@@ -171,7 +171,7 @@ impl<'a> Recorder<Files<'a>> for ListRun {
         _rt: &R,
         _plan: &Plan,
         _most: u32,
-        _desk: &Files<'a>,
+        _shared: &Files<'a>,
     ) -> Result<Step, AllocError> {
         Ok(Step::Waited)
     }

@@ -156,7 +156,7 @@ fn silent_poller(alloc: Global, plan: &Plan) -> Result<ListPoller, AllocError>
 }
 
 // Runs as many jobs as there are blocks by a team of so many workers.
-fn run_team<J: Job + Drop + Send, R: Threads + Wait + Sync>(
+fn run_jobs_by_team<J: Job + Drop + Send, R: Threads + Wait + Sync>(
     rt: &R,
     alloc: Global,
     plan: &Plan,
@@ -224,7 +224,7 @@ pub fn run_jobs<J: Job + Drop + Send, R: Threads + Wait + Sync>(
     if most == 0 {
         return Err(JobsRefused::EventCount);
     }
-    match run_team(rt, alloc, plan, workers, most, jobs) {
+    match run_jobs_by_team(rt, alloc, plan, workers, most, jobs) {
         Ok(run) => Ok(run),
         Err(AllocError) => Err(JobsRefused::OutOfMemory),
     }

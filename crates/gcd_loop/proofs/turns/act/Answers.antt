@@ -6,7 +6,7 @@ use Rattle.gcd_loop.proofs.turns.act.Goals as goal
 
 pub returns-in-Some-clause-after : goal.returns-in-Some-clause-after
 returns-in-Some-clause-after g c =
-    let most = c.args.most in let plan = c.args.plan.now in let d = c.args.desk.now in let r = c.work.new.run in
+    let most = c.args.most in let plan = c.args.plan.now in let d = c.args.shared.now in let r = c.work.new.run in
     ok_work most plan (g.T.Recorder.ready most plan d r) (g.T.Recorder.stopped most plan d r) (HasEnded most plan (g.T.Recorder.seen r) × g.T.Recorder.left most plan d r)
     (g.T.Recorder.seen c.args.run.now) (g.T.Recorder.seen r) c.args.outlook.now.news (g.P.Poller.state c.args.poller.now) c.args.left
     c.requires.room c.requires.idle c.work.result c.work.ensures.after

@@ -9,7 +9,7 @@ pub returns-in-Leave-clause-going : goal.returns-in-Leave-clause-going
 returns-in-Leave-clause-going g c = λ stood before early going.
     let pt = g.P.Poller.tells in let ct = g.C.Clock.tells in let plan = c.args.plan.now in
     let h = g.T.Recorder.seen c.args.run.now in
-    let sight = g.met.T.Recorder.stands c.args.most plan c.args.desk.now c.args.run.now c.requires.ready in
+    let sight = g.met.T.Recorder.stands c.args.most plan c.args.shared.now c.args.run.now c.requires.ready in
     let asked = c.in-Leave.ensures.asked h (rw c.machine.ensures sight.stands) sight.few in
     let p = g.P.Poller.state c.args.poller.now in let q = g.P.Poller.state c.ask.new.poller in
     let a = g.C.Clock.state c.args.clock.now in let b = g.C.Clock.state c.ask.new.clock in
@@ -22,7 +22,7 @@ pub returns-in-Told-clause-going : goal.returns-in-Told-clause-going
 returns-in-Told-clause-going g c = λ stood before early going.
     let pt = g.P.Poller.tells in let ct = g.C.Clock.tells in let plan = c.args.plan.now in
     let h = g.T.Recorder.seen c.args.run.now in
-    let sight = g.met.T.Recorder.stands c.args.most plan c.args.desk.now c.args.run.now c.requires.ready in
+    let sight = g.met.T.Recorder.stands c.args.most plan c.args.shared.now c.args.run.now c.requires.ready in
     let asked = c.in-Told.ensures.asked h (rw c.machine.ensures sight.stands) sight.few in
     let p = g.P.Poller.state c.args.poller.now in let q = g.P.Poller.state c.ask.new.poller in
     let a = g.C.Clock.state c.args.clock.now in let b = g.C.Clock.state c.ask.new.clock in
@@ -39,7 +39,7 @@ pub returns-in-Put-clause-going : goal.returns-in-Put-clause-going
 returns-in-Put-clause-going g c = λ stood before early going.
     let pt = g.P.Poller.tells in let ct = g.C.Clock.tells in let plan = c.args.plan.now in
     let h = g.T.Recorder.seen c.args.run.now in
-    let sight = g.met.T.Recorder.stands c.args.most plan c.args.desk.now c.args.run.now c.requires.ready in
+    let sight = g.met.T.Recorder.stands c.args.most plan c.args.shared.now c.args.run.now c.requires.ready in
     let asked = c.in-Put.ensures.asked h (rw c.machine.ensures sight.stands) sight.few in
     let p = g.P.Poller.state c.args.poller.now in let q = g.P.Poller.state c.ask.new.poller in
     let a = g.C.Clock.state c.args.clock.now in let b = g.C.Clock.state c.ask.new.clock in
@@ -54,7 +54,7 @@ pub returns-in-Work-clause-going : goal.returns-in-Work-clause-going
 returns-in-Work-clause-going g c = λ stood before early going.
     let pt = g.P.Poller.tells in let ct = g.C.Clock.tells in let plan = c.args.plan.now in
     let h = g.T.Recorder.seen c.args.run.now in
-    let sight = g.met.T.Recorder.stands c.args.most plan c.args.desk.now c.args.run.now c.requires.ready in
+    let sight = g.met.T.Recorder.stands c.args.most plan c.args.shared.now c.args.run.now c.requires.ready in
     let asked = c.in-Work.ensures.asked h (rw c.machine.ensures sight.stands) sight.few in
     let p = g.P.Poller.state c.args.poller.now in let q = g.P.Poller.state c.ask.new.poller in
     let a = g.C.Clock.state c.args.clock.now in let b = g.C.Clock.state c.ask.new.clock in
@@ -68,20 +68,20 @@ returns-in-Work-clause-going g c = λ stood before early going.
 
 pub returns-in-Leave-clause-after : goal.returns-in-Leave-clause-after
 returns-in-Leave-clause-after g c =
-    let most = c.args.most in let plan = c.args.plan.now in let d = c.args.desk.now in let r = c.args.run.now in
+    let most = c.args.most in let plan = c.args.plan.now in let d = c.args.shared.now in let r = c.args.run.now in
     let sight = g.met.T.Recorder.stands most plan d r c.requires.ready in
     ((c.in-Leave.ensures.asked (g.T.Recorder.seen r) (rw c.machine.ensures sight.stands) sight.few).0, g.met.T.Recorder.leaves most plan d r c.requires.ready)
 
 pub returns-in-Told-clause-after : goal.returns-in-Told-clause-after
 returns-in-Told-clause-after g c =
-    let most = c.args.most in let plan = c.args.plan.now in let d = c.args.desk.now in let r = c.tell.new.run in
+    let most = c.args.most in let plan = c.args.plan.now in let d = c.args.shared.now in let r = c.tell.new.run in
     ok_plain (g.T.Recorder.ready most plan d r)
     (IsStopped most plan (g.T.Recorder.stopped most plan d r) (g.T.Recorder.seen r) c.tell.new.outlook.news (g.P.Poller.state c.ask.new.poller))
     (HasEnded most plan (g.T.Recorder.seen r) × g.T.Recorder.left most plan d r) c.tell.result c.tell.ensures.after
 
 pub returns-in-Put-clause-after : goal.returns-in-Put-clause-after
 returns-in-Put-clause-after g c =
-    let most = c.args.most in let plan = c.args.plan.now in let d = c.args.desk.now in let r = c.put.new.run in
+    let most = c.args.most in let plan = c.args.plan.now in let d = c.args.shared.now in let r = c.put.new.run in
     ok_plain (g.T.Recorder.ready most plan d r)
     (IsStopped most plan (g.T.Recorder.stopped most plan d r) (g.T.Recorder.seen r) c.args.outlook.now.news (g.P.Poller.state c.ask.new.poller))
     (HasEnded most plan (g.T.Recorder.seen r) × g.T.Recorder.left most plan d r) c.put.result c.put.ensures.after

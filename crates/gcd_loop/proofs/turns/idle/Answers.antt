@@ -10,7 +10,7 @@ pub returns-in-None-clause-going : goal.returns-in-None-clause-going
 returns-in-None-clause-going g c = λ stood before early going.
     let pt = g.P.Poller.tells in let ct = g.C.Clock.tells in let plan = c.args.plan.now in
     let h = g.T.Recorder.seen c.args.run.now in
-    let sight = g.met.T.Recorder.stands c.args.most plan c.args.desk.now c.args.run.now c.requires.ready in
+    let sight = g.met.T.Recorder.stands c.args.most plan c.args.shared.now c.args.run.now c.requires.ready in
     let p = g.P.Poller.state c.args.poller.now in let q = g.P.Poller.state c.idle.new.poller in
     let a = g.C.Clock.state c.args.clock.now in let b = g.C.Clock.state c.idle.new.clock in
     going_on c.args.most pt ct plan stood before early p q a b h c.args.outlook.now c.idle.new.self
@@ -22,7 +22,7 @@ pub returns-in-Some-clause-going : goal.returns-in-Some-clause-going
 returns-in-Some-clause-going g c = λ stood before early going.
     let pt = g.P.Poller.tells in let ct = g.C.Clock.tells in let plan = c.args.plan.now in
     let h = g.T.Recorder.seen c.args.run.now in let k = g.T.Recorder.seen c.put.new.run in
-    let sight = g.met.T.Recorder.stands c.args.most plan c.args.desk.now c.args.run.now c.requires.ready in
+    let sight = g.met.T.Recorder.stands c.args.most plan c.args.shared.now c.args.run.now c.requires.ready in
     let p = g.P.Poller.state c.args.poller.now in let q = g.P.Poller.state c.idle.new.poller in
     let a = g.C.Clock.state c.args.clock.now in let b = g.C.Clock.state c.idle.new.clock in
     on_ok_weaker c.put.result

@@ -9,14 +9,14 @@ use Rattle.gcd_loop.proofs.turns.rest.Goals as goal
 
 pub returns-in-Waited-clause-after : goal.returns-in-Waited-clause-after
 returns-in-Waited-clause-after g c =
-    let most = c.args.most in let plan = c.args.plan.now in let d = c.args.desk.now in let r = c.idle.new.run in
+    let most = c.args.most in let plan = c.args.plan.now in let d = c.args.shared.now in let r = c.idle.new.run in
     ok_plain (g.T.Recorder.ready most plan d r)
     (IsStopped most plan (g.T.Recorder.stopped most plan d r) (g.T.Recorder.seen r) c.idle.new.outlook.news (g.P.Poller.state c.idle.new.poller))
     (HasEnded most plan (g.T.Recorder.seen r) × g.T.Recorder.left most plan d r) c.idle.result c.idle.ensures.after
 
 pub returns-in-Stopped-clause-after : goal.returns-in-Stopped-clause-after
 returns-in-Stopped-clause-after g c =
-    let most = c.args.most in let plan = c.args.plan.now in let d = c.args.desk.now in let r = c.rest.new.self in
+    let most = c.args.most in let plan = c.args.plan.now in let d = c.args.shared.now in let r = c.rest.new.self in
     let h = g.T.Recorder.seen c.args.run.now in let k = g.T.Recorder.seen r in
     let stopped = g.T.Recorder.stopped most plan d r in
     let after = subst (λ (s : Step). After (g.T.Recorder.ready most plan d r) (stopped × (k ≡ h)) (HasEnded most plan k × g.T.Recorder.left most plan d r) s)

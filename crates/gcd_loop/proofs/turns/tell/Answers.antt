@@ -9,7 +9,7 @@ pub returns-in-Placed-clause-said : goal.returns-in-Placed-clause-said
 returns-in-Placed-clause-said g c =
     let plan = c.args.plan.now in
     let h = g.T.Recorder.seen c.args.run.now in let k = g.T.Recorder.seen c.put.new.self in
-    let sight = g.met.T.Recorder.stands c.args.most plan c.args.desk.now c.put.new.self c.in_ok-put.ensures.ready in
+    let sight = g.met.T.Recorder.stands c.args.most plan c.args.shared.now c.put.new.self c.in_ok-put.ensures.ready in
     record {
       answer = Placed;
       said = subst (λ (r : Put). Says c.args.most plan c.args.e h k r) c.in-Placed.is c.in_ok-put.ensures.said;
@@ -22,7 +22,7 @@ pub returns-in-Barred-clause-said : goal.returns-in-Barred-clause-said
 returns-in-Barred-clause-said g c =
     let plan = c.args.plan.now in
     let h = g.T.Recorder.seen c.args.run.now in let k = g.T.Recorder.seen c.put.new.self in
-    let sight = g.met.T.Recorder.stands c.args.most plan c.args.desk.now c.put.new.self c.in_ok-put.ensures.ready in
+    let sight = g.met.T.Recorder.stands c.args.most plan c.args.shared.now c.put.new.self c.in_ok-put.ensures.ready in
     record {
       answer = Barred;
       said = subst (λ (r : Put). Says c.args.most plan c.args.e h k r) c.in-Barred.is c.in_ok-put.ensures.said;
@@ -35,7 +35,7 @@ pub returns-in-Later-clause-said : goal.returns-in-Later-clause-said
 returns-in-Later-clause-said g c =
     let plan = c.args.plan.now in
     let h = g.T.Recorder.seen c.args.run.now in let k = g.T.Recorder.seen c.put.new.self in
-    let sight = g.met.T.Recorder.stands c.args.most plan c.args.desk.now c.put.new.self c.in_ok-put.ensures.ready in
+    let sight = g.met.T.Recorder.stands c.args.most plan c.args.shared.now c.put.new.self c.in_ok-put.ensures.ready in
     record {
       answer = Later;
       said = subst (λ (r : Put). Says c.args.most plan c.args.e h k r) c.in-Later.is c.in_ok-put.ensures.said;

@@ -1,7 +1,7 @@
 use Rattle.std.proofs.Common.{◌∙◌, sym}
-use Rattle.gcd_pool.proofs.Outcomes.{outcome_fresh, outcome_only}
+use Rattle.gcd_pool.proofs.Throughs.{outcome_fresh, outcome_only}
 use Rattle.gcd_pool.proofs.Recording.{put_barred, put_full, put_placed}
-use Rattle.gcd_pool.specs.declared.putting.Outcome.TheVariants.{Placed, Barred, Full, Stopped}
+use Rattle.gcd_pool.specs.declared.putting.Through.TheVariants.{Placed, Barred, Full, Stopped}
 use Rattle.gcd_pool.proofs.lead.put_outside.Goals as goal
 
 pub returns-in-Placed-clause-fresh : goal.returns-in-Placed-clause-fresh

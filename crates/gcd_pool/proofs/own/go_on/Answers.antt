@@ -1,7 +1,7 @@
 use Rattle.std.proofs.Common.{inr, subst}
-use Rattle.gcd_pool.specs.Outcomes.{SaysOutcome}
-use Rattle.gcd_pool.specs.declared.putting.Outcome.{Outcome}
-use Rattle.gcd_pool.proofs.Outcomes.{barred_waits, full_length, outcome_adds, outcome_fresh, outcome_leaves, outcome_only, outcome_records, outcome_stops}
+use Rattle.gcd_pool.specs.Throughs.{SaysThrough}
+use Rattle.gcd_pool.specs.declared.putting.Through.{Through}
+use Rattle.gcd_pool.proofs.Throughs.{barred_waits, full_length, outcome_adds, outcome_fresh, outcome_leaves, outcome_only, outcome_records, outcome_stops}
 use Rattle.gcd_pool.proofs.Puts.{fresh_gives}
 use Rattle.gcd_pool.proofs.own.go_on.Goals as goal
 
@@ -44,25 +44,25 @@ returns-in-Barred-clause-after g c =
 
 pub returns-in-Full-clause-after : goal.returns-in-Full-clause-after
 returns-in-Full-clause-after g c =
-    let said = subst (λ (o : Outcome). SaysOutcome g.S.Slot.shape g.S.Slot.gives c.args.pool.now.board.now c.args.e c.args.hand.now.pass c.put_chosen_through.new.hand.pass o) c.in-Full.is c.put_chosen_through.ensures.said in
+    let said = subst (λ (o : Through). SaysThrough g.S.Slot.shape g.S.Slot.gives c.args.pool.now.board.now c.args.e c.args.hand.now.pass c.put_chosen_through.new.hand.pass o) c.in-Full.is c.put_chosen_through.ensures.said in
     inr (inr (full_length g.S.Slot.shape g.S.Slot.gives c.args.pool.now.board.now c.args.e c.args.hand.now.pass c.put_chosen_through.new.hand.pass said))
 
 pub returns-in-Placed-clause-recorded : goal.returns-in-Placed-clause-recorded
 returns-in-Placed-clause-recorded g c =
-    let said = subst (λ (o : Outcome). SaysOutcome g.S.Slot.shape g.S.Slot.gives c.args.pool.now.board.now c.args.e c.args.hand.now.pass c.put_chosen_through.new.hand.pass o) c.in-Placed.is c.put_chosen_through.ensures.said in
+    let said = subst (λ (o : Through). SaysThrough g.S.Slot.shape g.S.Slot.gives c.args.pool.now.board.now c.args.e c.args.hand.now.pass c.put_chosen_through.new.hand.pass o) c.in-Placed.is c.put_chosen_through.ensures.said in
     outcome_records g.S.Slot.shape g.S.Slot.gives c.args.pool.now.board.now c.args.e c.args.hand.now.pass c.put_chosen_through.new.hand.pass said c.requires.ends_none
 
 pub returns-in-Full-clause-recorded : goal.returns-in-Full-clause-recorded
 returns-in-Full-clause-recorded g c =
-    let said = subst (λ (o : Outcome). SaysOutcome g.S.Slot.shape g.S.Slot.gives c.args.pool.now.board.now c.args.e c.args.hand.now.pass c.put_chosen_through.new.hand.pass o) c.in-Full.is c.put_chosen_through.ensures.said in
+    let said = subst (λ (o : Through). SaysThrough g.S.Slot.shape g.S.Slot.gives c.args.pool.now.board.now c.args.e c.args.hand.now.pass c.put_chosen_through.new.hand.pass o) c.in-Full.is c.put_chosen_through.ensures.said in
     outcome_leaves g.S.Slot.shape g.S.Slot.gives c.args.pool.now.board.now c.args.e c.args.hand.now.pass c.put_chosen_through.new.hand.pass said
 
 pub returns-in-Barred-clause-recorded : goal.returns-in-Barred-clause-recorded
 returns-in-Barred-clause-recorded g c =
-    let said = subst (λ (o : Outcome). SaysOutcome g.S.Slot.shape g.S.Slot.gives c.args.pool.now.board.now c.args.e c.args.hand.now.pass c.put_chosen_through.new.hand.pass o) c.in-Barred.is c.put_chosen_through.ensures.said in
+    let said = subst (λ (o : Through). SaysThrough g.S.Slot.shape g.S.Slot.gives c.args.pool.now.board.now c.args.e c.args.hand.now.pass c.put_chosen_through.new.hand.pass o) c.in-Barred.is c.put_chosen_through.ensures.said in
     barred_waits g.S.Slot.shape g.S.Slot.gives c.args.pool.now.board.now c.args.e c.args.hand.now.pass c.put_chosen_through.new.hand.pass said
 
 pub returns-in-Stopped-clause-recorded : goal.returns-in-Stopped-clause-recorded
 returns-in-Stopped-clause-recorded g c =
-    let said = subst (λ (o : Outcome). SaysOutcome g.S.Slot.shape g.S.Slot.gives c.args.pool.now.board.now c.args.e c.args.hand.now.pass c.put_chosen_through.new.hand.pass o) c.in-Stopped.is c.put_chosen_through.ensures.said in
+    let said = subst (λ (o : Through). SaysThrough g.S.Slot.shape g.S.Slot.gives c.args.pool.now.board.now c.args.e c.args.hand.now.pass c.put_chosen_through.new.hand.pass o) c.in-Stopped.is c.put_chosen_through.ensures.said in
     outcome_stops g.S.Slot.shape g.S.Slot.gives c.args.pool.now.board.now c.args.e c.args.hand.now.pass c.put_chosen_through.new.hand.pass said

@@ -1,4 +1,4 @@
-use Rattle.gcd_pool.proofs.Outcomes.{looks_waits, outcome_after, waited_gives}
+use Rattle.gcd_pool.proofs.Throughs.{looks_waits, outcome_after, waited_gives}
 use Rattle.gcd_pool.proofs.putting.put_chosen_through.Goals as goal
 
 pub put_through-requires-clause-cell : goal.put_through-requires-clause-cell

@@ -1,7 +1,7 @@
 use Rattle.std.proofs.Common.{◌∙◌}
 use Rattle.gcd_row.specs.declared.put.Put.TheVariants.{Barred}
 use Rattle.gcd_pool.specs.declared.hand.Hand.{Hand}
-use Rattle.gcd_pool.proofs.Outcomes.{looks_waits, passing_waits, put_then, waited_gives, waits_further}
+use Rattle.gcd_pool.proofs.Throughs.{looks_waits, passing_waits, put_then, waited_gives, waits_further}
 use Rattle.gcd_pool.proofs.Serves.{looks_serves, serves_further}
 use Rattle.gcd_pool.proofs.putting.put_through.Goals as goal
 

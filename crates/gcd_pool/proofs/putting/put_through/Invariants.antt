@@ -2,7 +2,7 @@ use Rattle.std.proofs.Common.{◌≡◌}
 use Rattle.gcd_row.specs.Lying.{GivesBack}
 use Rattle.gcd_row.specs.Passes.{slots, view}
 use Rattle.gcd_pool.specs.Hands.{Serving}
-use Rattle.gcd_pool.specs.Outcomes.{HasWaited}
+use Rattle.gcd_pool.specs.Throughs.{HasWaited}
 use Rattle.gcd_pool.proofs.putting.put_through.Given as goal
 
 abbrev pub invariant-loop : goal.invariant-loop

@@ -10,4 +10,4 @@ returns-clause-grown g c =
     let most = c.args._most in
     let run = c.args.self.now in
     grown_same most plan run.journal.items run.journal.items run.machine
-    (list_sight most plan (contents c.args._desk.now.all.now) run.journal.items run.values.items run.machine c.requires.ready) refl
+    (list_sight most plan (contents c.args._shared.now.all.now) run.journal.items run.values.items run.machine c.requires.ready) refl

@@ -17,5 +17,5 @@ returns-clause-grown g c =
     let new = c.record.new.self in
     let choice = choice_is_permitted plan h 0 0 c.args.e c.requires.chosen in
     grown most plan h new.journal.items new.machine
-    (list_sight most plan (contents c.args.desk.now.all.now) new.journal.items new.values.items new.machine c.record.ensures.run)
+    (list_sight most plan (contents c.args.shared.now.all.now) new.journal.items new.values.items new.machine c.record.ensures.run)
     (grows_one h new.journal.items c.args.e c.in_ok-record.ensures.journal choice.work)

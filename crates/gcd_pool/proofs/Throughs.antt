@@ -18,11 +18,11 @@ use Rattle.gcd_row.specs.declared.view.Terms.{Terms}
 use Rattle.gcd_row.specs.declared.view.View.{View}
 use Rattle.gcd_row.proofs.Fronts.{starts_refl, starts_trans}
 use Rattle.gcd_pool.specs.Hands.{GoesOn, IsFresh, IsSettled}
-use Rattle.gcd_pool.specs.Outcomes.{HasWaited, SaysOutcome, WasPut}
+use Rattle.gcd_pool.specs.Throughs.{HasWaited, SaysThrough, WasPut}
 use Rattle.gcd_pool.specs.Placing.{HasPlaced, HasPlacedNone, SaysRecorded}
 use Rattle.gcd_pool.specs.Works.{AddsNone, AddsOnly, AddsWork}
-use Rattle.gcd_pool.specs.declared.putting.Outcome.{Outcome}
-use Rattle.gcd_pool.specs.declared.putting.Outcome.TheVariants.{Placed, Barred, Full, Stopped}
+use Rattle.gcd_pool.specs.declared.putting.Through.{Through}
+use Rattle.gcd_pool.specs.declared.putting.Through.TheVariants.{Placed, Barred, Full, Stopped}
 use Rattle.gcd_pool.specs.declared.turn.Turn.{Turn}
 use Rattle.gcd_pool.specs.declared.turn.Turn.TheVariants.{Left, Waited, Placed as TurnPlaced, Ended, Stopped as TurnStopped}
 use Rattle.gcd_pool.proofs.Placing.{leaves_barred, leaves_full, one_further, put_barred, quiet_further, recorded_further, records, records_end, stops, waits_barred}
@@ -95,7 +95,7 @@ module _ {S : Type 0} (shape : S → Shape) (gives : S → ℕ → Type 0) (b : 
   pub put_then : (e : Event) (p q r : RowPass S) (said : Put) → HasWaited p q → IsPassOf shape gives b q → Says e (view q) (view r) said → SaysSlots shape gives e (slots q) (slots r) (view r) said → WasPut shape gives b e p r said
   put_then e p q r said w is says cells = put_after e p q r said w (put_at_once e q r said is says cells)
 
-  pub outcome_after : (e : Event) (p q r : RowPass S) (o : Outcome) → HasWaited p q → SaysOutcome shape gives b e q r o → SaysOutcome shape gives b e p r o
+  pub outcome_after : (e : Event) (p q r : RowPass S) (o : Through) → HasWaited p q → SaysThrough shape gives b e q r o → SaysThrough shape gives b e p r o
   outcome_after e p q r Placed w x = (x.0, put_after e p q r (PutPlaced x.0) w x.1)
   outcome_after e p q r Barred w x = (x.0, (x.1.0, put_after e p q r (PutBarred x.0 x.1.0) w x.1.1))
   outcome_after e p q r Full w x = put_after e p q r PutFull w x
@@ -106,7 +106,7 @@ module _ {S : Type 0} (shape : S → Shape) (gives : S → ℕ → Type 0) (b : 
   pub put_goes : (e : Event) (p q : RowPass S) (said : Put) → WasPut shape gives b e p q said → GoesOn (view p) (view q)
   put_goes e p q said x = goes_further (view p) (view x.last) (view q) (waited_goes p x.last x.waited) (says_goes_on e (view x.last) (view q) said x.says)
 
-  pub outcome_goes : (e : Event) (p q : RowPass S) (o : Outcome) → SaysOutcome shape gives b e p q o → GoesOn (view p) (view q)
+  pub outcome_goes : (e : Event) (p q : RowPass S) (o : Through) → SaysThrough shape gives b e p q o → GoesOn (view p) (view q)
   outcome_goes e p q Placed x = put_goes e p q (PutPlaced x.0) x.1
   outcome_goes e p q Barred x = put_goes e p q (PutBarred x.0 x.1.0) x.1.1
   outcome_goes e p q Full x = put_goes e p q PutFull x
@@ -115,7 +115,7 @@ module _ {S : Type 0} (shape : S → Shape) (gives : S → ℕ → Type 0) (b : 
   pub put_adds : (e : Event) (p q : RowPass S) (said : Put) → is_work e ≡ true → WasPut shape gives b e p q said → AddsWork (view p) (view q)
   put_adds e p q said work x = adds_further (view p) (view x.last) (view q) (waited_adds p x.last x.waited) (says_adds e (view x.last) (view q) said work x.says)
 
-  pub outcome_adds : (e : Event) (p q : RowPass S) (o : Outcome) → is_work e ≡ true → SaysOutcome shape gives b e p q o → AddsWork (view p) (view q)
+  pub outcome_adds : (e : Event) (p q : RowPass S) (o : Through) → is_work e ≡ true → SaysThrough shape gives b e p q o → AddsWork (view p) (view q)
   outcome_adds e p q Placed work x = put_adds e p q (PutPlaced x.0) work x.1
   outcome_adds e p q Barred work x = put_adds e p q (PutBarred x.0 x.1.0) work x.1.1
   outcome_adds e p q Full work x = put_adds e p q PutFull work x
@@ -126,7 +126,7 @@ module _ {S : Type 0} (shape : S → Shape) (gives : S → ℕ → Type 0) (b : 
       none_then e (view p) (view x.last) (view q) (waited_worker p x.last x.waited) (says_goes_on e (view x.last) (view q) said x.says).more (waited_none p x.last x.waited)
       (says_only e (view x.last) (view q) said x.says)
 
-  pub outcome_only : (e : Event) (p q : RowPass S) (o : Outcome) → SaysOutcome shape gives b e p q o → AddsOnly e (view p) (view q)
+  pub outcome_only : (e : Event) (p q : RowPass S) (o : Through) → SaysThrough shape gives b e p q o → AddsOnly e (view p) (view q)
   outcome_only e p q Placed x = put_only e p q (PutPlaced x.0) x.1
   outcome_only e p q Barred x = put_only e p q (PutBarred x.0 x.1.0) x.1.1
   outcome_only e p q Full x = put_only e p q PutFull x
@@ -139,8 +139,8 @@ module _ {S : Type 0} (shape : S → Shape) (gives : S → ℕ → Type 0) (b : 
       (subst (λ (t : Terms S). length t.plan.blocks ≤ length t.cells) (sym (waited_terms p x.last x.waited)) cells) x.says x.slots_say
       (waited_fresh p x.last x.of x.waited fresh)
 
-  pub outcome_fresh : (e : Event) (p q : RowPass S) (o : Outcome) → IsPassOf shape gives b q → worker_of e ≡ (view p).worker → length (view p).terms.plan.blocks ≤ length (view p).terms.cells
-      → SaysOutcome shape gives b e p q o → IsFresh shape (view p) (slots p) → IsFresh shape (view q) (slots q)
+  pub outcome_fresh : (e : Event) (p q : RowPass S) (o : Through) → IsPassOf shape gives b q → worker_of e ≡ (view p).worker → length (view p).terms.plan.blocks ≤ length (view p).terms.cells
+      → SaysThrough shape gives b e p q o → IsFresh shape (view p) (slots p) → IsFresh shape (view q) (slots q)
   outcome_fresh e p q Placed is mine cells x fresh = put_fresh e p q (PutPlaced x.0) is mine cells x.1 fresh
   outcome_fresh e p q Barred is mine cells x fresh = put_fresh e p q (PutBarred x.0 x.1.0) is mine cells x.1.1 fresh
   outcome_fresh e p q Full is mine cells x fresh = put_fresh e p q PutFull is mine cells x fresh
@@ -148,58 +148,58 @@ module _ {S : Type 0} (shape : S → Shape) (gives : S → ℕ → Type 0) (b : 
 
   -- ## What it has placed
 
-  pub placed_one : (e : Event) (p q : RowPass S) → SaysOutcome shape gives b e p q Placed → HasPlaced e (view p) (view q)
+  pub placed_one : (e : Event) (p q : RowPass S) → SaysThrough shape gives b e p q Placed → HasPlaced e (view p) (view q)
   placed_one e p q x =
       let last = x.1.last in
       one_further e (view p) (view last) (view q) (waited_goes p last x.1.waited) (waited_quiet p last x.1.waited) x.1.says.own
 
-  pub barred_none : (e : Event) (p q : RowPass S) → SaysOutcome shape gives b e p q Barred → HasPlacedNone (view p) (view q)
+  pub barred_none : (e : Event) (p q : RowPass S) → SaysThrough shape gives b e p q Barred → HasPlacedNone (view p) (view q)
   barred_none e p q x =
       let put = x.1.1 in
       quiet_further (view p) (view put.last) (view q) (waited_goes p put.last put.waited) (waited_quiet p put.last put.waited) (put_barred e (view put.last) (view q) x.0 x.1.0 put.says)
 
-  pub full_none : (e : Event) (p q : RowPass S) → SaysOutcome shape gives b e p q Full → HasPlacedNone (view p) (view q)
+  pub full_none : (e : Event) (p q : RowPass S) → SaysThrough shape gives b e p q Full → HasPlacedNone (view p) (view q)
   full_none e p q x = quiet_further (view p) (view x.last) (view q) (waited_goes p x.last x.waited) (waited_quiet p x.last x.waited) x.says.1.own
 
   recorded_then : (e : Event) (p q : RowPass S) (said : Put) (t : Turn) → (x : WasPut shape gives b e p q said) → SaysRecorded e t (view x.last) (view q) → SaysRecorded e t (view p) (view q)
   recorded_then e p q said t x recorded = recorded_further e t (view p) (view x.last) (view q) (waited_goes p x.last x.waited) (waited_quiet p x.last x.waited) recorded
 
-  pub outcome_records : (e : Event) (p q : RowPass S) → SaysOutcome shape gives b e p q Placed → ended e ≡ None → SaysRecorded e TurnPlaced (view p) (view q)
+  pub outcome_records : (e : Event) (p q : RowPass S) → SaysThrough shape gives b e p q Placed → ended e ≡ None → SaysRecorded e TurnPlaced (view p) (view q)
   outcome_records e p q x ends = recorded_then e p q (PutPlaced x.0) TurnPlaced x.1 (records e (view x.1.last) (view q) x.0 x.1.says ends)
 
-  pub outcome_ends : (e : Event) (r : Run) (p q : RowPass S) → SaysOutcome shape gives b e p q Placed → ended e ≡ Some r → SaysRecorded e Ended (view p) (view q)
+  pub outcome_ends : (e : Event) (r : Run) (p q : RowPass S) → SaysThrough shape gives b e p q Placed → ended e ≡ Some r → SaysRecorded e Ended (view p) (view q)
   outcome_ends e r p q x ends = recorded_then e p q (PutPlaced x.0) Ended x.1 (records_end e r (view x.1.last) (view q) x.0 x.1.says ends)
 
-  pub outcome_leaves : (e : Event) (p q : RowPass S) → SaysOutcome shape gives b e p q Full → SaysRecorded e Left (view p) (view q)
+  pub outcome_leaves : (e : Event) (p q : RowPass S) → SaysThrough shape gives b e p q Full → SaysRecorded e Left (view p) (view q)
   outcome_leaves e p q x = recorded_then e p q PutFull Left x (leaves_full e (view x.last) (view q) x.says)
 
-  pub barred_leaves : (e : Event) (p q : RowPass S) → SaysOutcome shape gives b e p q Barred → SaysRecorded e Left (view p) (view q)
+  pub barred_leaves : (e : Event) (p q : RowPass S) → SaysThrough shape gives b e p q Barred → SaysRecorded e Left (view p) (view q)
   barred_leaves e p q x = recorded_then e p q (PutBarred x.0 x.1.0) Left x.1.1 (leaves_barred e (view x.1.1.last) (view q) x.0 x.1.0 x.1.1.says)
 
-  pub barred_waits : (e : Event) (p q : RowPass S) → SaysOutcome shape gives b e p q Barred → SaysRecorded e Waited (view p) (view q)
+  pub barred_waits : (e : Event) (p q : RowPass S) → SaysThrough shape gives b e p q Barred → SaysRecorded e Waited (view p) (view q)
   barred_waits e p q x = recorded_then e p q (PutBarred x.0 x.1.0) Waited x.1.1 (waits_barred e (view x.1.1.last) (view q) x.0 x.1.0 x.1.1.says)
 
-  pub outcome_stops : (e : Event) (p q : RowPass S) → SaysOutcome shape gives b e p q Stopped → SaysRecorded e TurnStopped (view p) (view q)
+  pub outcome_stops : (e : Event) (p q : RowPass S) → SaysThrough shape gives b e p q Stopped → SaysRecorded e TurnStopped (view p) (view q)
   outcome_stops e p q x = stops e (view p) (view q) (waited_quiet p q x)
 
   -- ## How full the row is
 
-  pub full_length : (e : Event) (p q : RowPass S) → SaysOutcome shape gives b e p q Full → length (view q).seen ≡ (view q).terms.limits.most
+  pub full_length : (e : Event) (p q : RowPass S) → SaysThrough shape gives b e p q Full → length (view q).seen ≡ (view q).terms.limits.most
   full_length e p q x = x.says.2 ∙ sym (ap (λ (y : View S). y.terms.limits.most) x.says.0)
 
   -- ## An end
 
-  pub outcome_settled : (e : Event) (p q : RowPass S) → IsPassOf shape gives b q → SaysOutcome shape gives b e p q Barred → IsSettled shape (view p) e (slots p) → IsSettled shape (view q) e (slots q)
+  pub outcome_settled : (e : Event) (p q : RowPass S) → IsPassOf shape gives b q → SaysThrough shape gives b e p q Barred → IsSettled shape (view p) e (slots p) → IsSettled shape (view q) e (slots q)
   outcome_settled e p q is x settled =
       let put = x.1.1 in
       waited_settled put.last q e is (looks_waits put.last q put.says.0 put.slots_say) (waited_settled p put.last e put.of put.waited settled)
 
-  pub outcome_ended : (e : Event) (p q : RowPass S) → worker_of e ≡ (view p).worker → SaysOutcome shape gives b e p q Placed → IsSettled shape (view p) e (slots p) → IsFresh shape (view q) (slots q)
+  pub outcome_ended : (e : Event) (p q : RowPass S) → worker_of e ≡ (view p).worker → SaysThrough shape gives b e p q Placed → IsSettled shape (view p) e (slots p) → IsFresh shape (view q) (slots q)
   outcome_ended e p q mine x settled =
       let put = x.1 in
       settled_placed shape gives b put.last q e x.0 (mine ∙ sym (waited_worker p put.last put.waited)) put.says (waited_settled p put.last e put.of put.waited settled)
 
-  pub barred_adds_none : (e : Event) (p q : RowPass S) → SaysOutcome shape gives b e p q Barred → AddsNone (view p) (view q)
+  pub barred_adds_none : (e : Event) (p q : RowPass S) → SaysThrough shape gives b e p q Barred → AddsNone (view p) (view q)
   barred_adds_none e p q x =
       let put = x.1.1 in
       waited_none p q (waits_further p put.last q put.waited (looks_waits put.last q put.says.0 put.slots_say))

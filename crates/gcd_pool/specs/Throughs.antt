@@ -9,8 +9,8 @@ use Rattle.gcd_row.specs.declared.board.RowBoard.{RowBoard}
 use Rattle.gcd_row.specs.declared.pass.RowPass.{RowPass}
 use Rattle.gcd_row.specs.declared.put.Put.{Put}
 use Rattle.gcd_row.specs.declared.put.Put.TheVariants.{Placed as PutPlaced, Barred as PutBarred, Full as PutFull}
-use Rattle.gcd_pool.specs.declared.putting.Outcome.{Outcome}
-use Rattle.gcd_pool.specs.declared.putting.Outcome.TheVariants.{Placed, Barred, Full, Stopped}
+use Rattle.gcd_pool.specs.declared.putting.Through.{Through}
+use Rattle.gcd_pool.specs.declared.putting.Through.TheVariants.{Placed, Barred, Full, Stopped}
 
 module _ {S : Type 0} where
   -- nothing of its own has come, and it has the slots that it had
@@ -28,8 +28,8 @@ module _ {S : Type 0} where
     pub slots_say : SaysSlots shape gives e (slots last) (slots q) (view q) said
 
   -- the last put placed the event, or it was barred, or the row was full; or the worker was stopped
-  abbrev pub SaysOutcome : (S → Shape) → (S → ℕ → Type 0) → RowBoard S → Event → RowPass S → RowPass S → Outcome → Type 0
-  SaysOutcome shape gives board e p q Placed = (n : ℕ) × WasPut shape gives board e p q (PutPlaced n)
-  SaysOutcome shape gives board e p q Barred = (at : ℕ) × ((y : Why) × WasPut shape gives board e p q (PutBarred at y))
-  SaysOutcome shape gives board e p q Full = WasPut shape gives board e p q PutFull
-  SaysOutcome shape gives board e p q Stopped = HasWaited p q
+  abbrev pub SaysThrough : (S → Shape) → (S → ℕ → Type 0) → RowBoard S → Event → RowPass S → RowPass S → Through → Type 0
+  SaysThrough shape gives board e p q Placed = (n : ℕ) × WasPut shape gives board e p q (PutPlaced n)
+  SaysThrough shape gives board e p q Barred = (at : ℕ) × ((y : Why) × WasPut shape gives board e p q (PutBarred at y))
+  SaysThrough shape gives board e p q Full = WasPut shape gives board e p q PutFull
+  SaysThrough shape gives board e p q Stopped = HasWaited p q
