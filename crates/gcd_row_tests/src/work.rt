@@ -73,6 +73,7 @@ pub fn second<J: Job + Drop, H: Handler + Drop>(
     requires hands { (view p.old).hands ≡ [] }
     requires two { (terms_of board.now).limits.workers ≡ 2 }
     ensures p { IsPassOf (shape_of H.kind H.times H.total) (gives_of J.gives) board.now p.new × ((view p.new).worker ≡ 0) × ((view p.new).marks ≡ (view p.old).marks) × ((view p.new).seen ≡ (view p.old).seen) }
+    ensures gathered { (journal : List Event) → IsGathered (view p.old) journal → IsGathered (view p.new) journal }
     ensures hands { IfOk result (λ q. (view p.new).hands ≡ (1, Out) ∷ []) }
     ensures q { IfOk result (λ q. IsPassOf (shape_of H.kind H.times H.total) (gives_of J.gives) board.now q × ((view q).worker ≡ 1)) }
 {

@@ -2,4 +2,5 @@ use Rattle.gcd_row_tests.proofs.ring.the_ring_waits_for_a_number_that_is_given_o
 
 pub judge-requires-clause-journal : goal.judge-requires-clause-journal
 judge-requires-clause-journal g c =
-    c.go_on.ensures.gathered c.both_hold.new.journal.items (c.one_lets_go.ensures.gathered c.both_hold.new.journal.items c.both_hold.ensures.journal)
+    let journal = c.both_hold.new.journal.items in
+    c.go_on.ensures.gathered journal (c.one_lets_go.ensures.gathered journal (c.second.ensures.gathered journal c.both_hold.ensures.journal))

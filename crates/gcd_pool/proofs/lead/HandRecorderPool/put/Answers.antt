@@ -4,7 +4,7 @@ use Rattle.gcd_pool.proofs.lead.HandRecorderPool.put.Goals as goal
 
 pub returns-clause-kept : goal.returns-clause-kept
 returns-clause-kept g c = λ first kept.
-    let most = c.args.most in let plan = c.args.plan.now in let pool = c.args.shared.now in let mid = c.pass_many.new.hand in
+    let most = c.args._most in let plan = c.args._plan.now in let pool = c.args.shared.now in let mid = c.pass_many.new.hand in
     leads_further g.S.Slot.shape g.S.Slot.gives most plan pool mid
     (passed_head g.S.Slot.shape g.S.Slot.gives most plan pool c.args.self.now c.requires.ready mid c.pass_many.ensures.serving c.pass_many.ensures.view c.pass_many.ensures.slots) first c.put_outside.new.hand c.args.e
     c.put_outside.ensures.serving (λ alone. c.put_outside.ensures.only) (λ work. absurd (both_ways _ c.requires.outside.no_work work))

@@ -8,22 +8,22 @@ use Rattle.gcd_pool.proofs.lead.HandRecorderPool.work.Goals as goal
 
 pub lead_any-requires-clause-worker : goal.lead_any-requires-clause-worker
 lead_any-requires-clause-worker g c =
-    (passed_chosen g.S.Slot.shape g.S.Slot.gives c.args.most c.args.plan.now c.args.shared.now c.args.self.now c.requires.ready c.pass_many.new.hand c.args.e
+    (passed_chosen g.S.Slot.shape g.S.Slot.gives c.args._most c.args._plan.now c.args.shared.now c.args.self.now c.requires.ready c.pass_many.new.hand c.args.e
     c.pass_many.ensures.serving c.pass_many.ensures.view c.pass_many.ensures.slots c.requires.chosen).0
 
 pub lead_any-requires-clause-may : goal.lead_any-requires-clause-may
 lead_any-requires-clause-may g c =
-    (passed_chosen g.S.Slot.shape g.S.Slot.gives c.args.most c.args.plan.now c.args.shared.now c.args.self.now c.requires.ready c.pass_many.new.hand c.args.e
+    (passed_chosen g.S.Slot.shape g.S.Slot.gives c.args._most c.args._plan.now c.args.shared.now c.args.self.now c.requires.ready c.pass_many.new.hand c.args.e
     c.pass_many.ensures.serving c.pass_many.ensures.view c.pass_many.ensures.slots c.requires.chosen).1
 
 pub lead_any-requires-clause-work : goal.lead_any-requires-clause-work
 lead_any-requires-clause-work g c =
-    (passed_chosen g.S.Slot.shape g.S.Slot.gives c.args.most c.args.plan.now c.args.shared.now c.args.self.now c.requires.ready c.pass_many.new.hand c.args.e
+    (passed_chosen g.S.Slot.shape g.S.Slot.gives c.args._most c.args._plan.now c.args.shared.now c.args.self.now c.requires.ready c.pass_many.new.hand c.args.e
     c.pass_many.ensures.serving c.pass_many.ensures.view c.pass_many.ensures.slots c.requires.chosen).2
 
 pub returns-clause-grown : goal.returns-clause-grown
 returns-clause-grown g c =
-    let most = c.args.most in let plan = c.args.plan.now in let pool = c.args.shared.now in let mid = c.pass_many.new.hand in let new = c.lead_any.new.hand in
+    let most = c.args._most in let plan = c.args._plan.now in let pool = c.args.shared.now in let mid = c.pass_many.new.hand in let new = c.lead_any.new.hand in
     on_ok c.step_of.result (IsGrown most plan (view c.args.self.now.pass).seen (view new.pass).seen)
     (subst (λ (h : List Event). IsGrown most plan h (view new.pass).seen) (ap (λ x. x.seen) c.pass_many.ensures.view)
     (worked g.S.Slot.shape g.S.Slot.gives most plan pool mid
@@ -32,7 +32,7 @@ returns-clause-grown g c =
 
 pub returns-clause-kept : goal.returns-clause-kept
 returns-clause-kept g c = λ first kept.
-    let most = c.args.most in let plan = c.args.plan.now in let pool = c.args.shared.now in let mid = c.pass_many.new.hand in
+    let most = c.args._most in let plan = c.args._plan.now in let pool = c.args.shared.now in let mid = c.pass_many.new.hand in
     leads_further g.S.Slot.shape g.S.Slot.gives most plan pool mid
     (passed_head g.S.Slot.shape g.S.Slot.gives most plan pool c.args.self.now c.requires.ready mid c.pass_many.ensures.serving c.pass_many.ensures.view c.pass_many.ensures.slots) first c.lead_any.new.hand c.args.e
     c.lead_any.ensures.serving c.lead_any.ensures.only
