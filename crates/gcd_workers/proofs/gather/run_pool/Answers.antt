@@ -1,5 +1,5 @@
 use Rattle.std.proofs.Common.{◌≡◌, ℕ, length, sym, subst, arith}
-use Rattle.std.specs.Prelude.{IfOk, slice_index_or}
+use Rattle.std.specs.Prelude.{slice_index_or}
 use Rattle.gcd_outer.specs.Outside.{ClockState, Seen}
 use Rattle.gcd_outer.specs.Tells.{PollerState}
 use Rattle.gcd_loop.specs.Ran.{RunsPlan}
@@ -25,22 +25,22 @@ hands_of-requires-clause-head g c = head_first (view c.args.pass) c.requires.new
 
 pub run_team-requires-clause-head : goal.run_team-requires-clause-head
 run_team-requires-clause-head g c = λ lifetimes outlive d.
-    let count = c.in_ok-hands.ensures.count in
-    subst (λ (n : ℕ). IsHead 1 n (view (slice_index_or c.in_ok-hands.hands.items 0 d).pass)) (sym count) (c.in_ok-hands.ensures.head d)
+    let count = c.in-Ok.ensures.count in
+    subst (λ (n : ℕ). IsHead 1 n (view (slice_index_or c.in-Ok.hands.items 0 d).pass)) (sym count) (c.in-Ok.ensures.head d)
 
-pub returns-clause-led : goal.returns-clause-led
-returns-clause-led g c =
-    let count = c.in_ok-hands.ensures.count in
+pub returns-in-Ok-run_team-clause-led : goal.returns-in-Ok-run_team-clause-led
+returns-in-Ok-run_team-clause-led g c =
+    let count = c.in-Ok.ensures.count in
     let fewer = c.remove-first.ensures.len in
-    let same : length c.in_ok-hands.hands.items ≡ length c.args.benches.items = omega (arith, count, fewer) in
-    subst (λ (n : ℕ). IfOk c.run_team.result (λ r. HasLed n (view r.0))) same c.run_team.ensures.led
+    let same : length c.in-Ok.hands.items ≡ length c.args.benches.items = omega (arith, count, fewer) in
+    subst (λ (n : ℕ). HasLed n (view c.in-Ok-run_team.last.0)) same c.in-Ok-run_team.ensures.led
 
-pub returns-clause-ran : goal.returns-clause-ran
-returns-clause-ran g c =
-    let count = c.in_ok-hands.ensures.count in
+pub returns-in-Ok-run_team-clause-ran : goal.returns-in-Ok-run_team-clause-ran
+returns-in-Ok-run_team-clause-ran g c =
+    let count = c.in-Ok.ensures.count in
     let fewer = c.remove-first.ensures.len in
-    let same : length c.in_ok-hands.hands.items ≡ length c.args.benches.items = omega (arith, count, fewer) in
+    let same : length c.in-Ok.hands.items ≡ length c.args.benches.items = omega (arith, count, fewer) in
     let told : Seen PollerState = record { tells = g.P.Poller.tells; before = g.P.Poller.state c.args.poller.now; after = g.P.Poller.state c.run_team.new.poller } in
     let timed : Seen ClockState = record { tells = g.C.Clock.tells; before = g.C.Clock.state c.args.clock.now; after = g.C.Clock.state c.run_team.new.clock } in
     let board = terms_of c.args.pool.now.board.now in
-    subst (λ (n : ℕ). IfOk c.run_team.result (λ r. RunsPlan board.limits.most board.plan n told timed (view r.0).seen)) same c.run_team.ensures.ran
+    subst (λ (n : ℕ). RunsPlan board.limits.most board.plan n told timed (view c.in-Ok-run_team.last.0).seen) same c.in-Ok-run_team.ensures.ran

@@ -12,12 +12,12 @@ use Rattle.gcd_workers.proofs.workers.run_board.Goals as goal
 pub run_pool-requires-clause-pool : goal.run_pool-requires-clause-pool
 run_pool-requires-clause-pool g c = λ lifetimes outlive.
     let made = c.new-pool in
-    pool_of made.result c.in_ok-board.board c.args.rack.now c.args.plan.now made.ensures.board made.ensures.rack made.ensures.plan
-    c.in_ok-board.ensures.plan c.requires.rack c.in_ok-board.ensures.cells
+    pool_of made.result c.in-Ok-open_board.board c.args.rack.now c.args.plan.now made.ensures.board made.ensures.rack made.ensures.plan
+    c.in-Ok-open_board.ensures.plan c.requires.rack c.in-Ok-open_board.ensures.cells
 
 pub run_pool-requires-clause-workers : goal.run_pool-requires-clause-workers
 run_pool-requires-clause-workers g c = λ lifetimes outlive.
-    let limits = limits_along c.new-pool.ensures.board ∙ c.in_ok-board.ensures.limits in
+    let limits = limits_along c.new-pool.ensures.board ∙ c.in-Ok-open_board.ensures.limits in
     let workers = ap (λ l. l.workers) limits in
     omega (arith, workers)
 
@@ -27,18 +27,18 @@ close-requires-clause-led g c =
 
 pub close-requires-clause-zeros : goal.close-requires-clause-zeros
 close-requires-clause-zeros g c =
-    c.in_ok-values.ensures.items_if_clones_equal (λ y is. is) ∙ ap (λ (n : ℕ). replicate n 0) c.blocks-2.ensures.count
+    c.in-Ok.ensures.items_if_clones_equal (λ y is. is) ∙ ap (λ (n : ℕ). replicate n 0) c.blocks-2.ensures.count
 
-pub returns-clause-ran : goal.returns-clause-ran
-returns-clause-ran g c =
+pub returns-in-Ok-close-clause-ran : goal.returns-in-Ok-close-clause-ran
+returns-in-Ok-close-clause-ran g c =
     let told : Seen PollerState = record { tells = g.P.Poller.tells; before = g.P.Poller.state c.args.poller.now; after = g.P.Poller.state c.run_pool.new.poller } in
     let timed : Seen ClockState = record { tells = g.C.Clock.tells; before = g.C.Clock.state c.args.clock.now; after = g.C.Clock.state c.run_pool.new.clock } in
     let own = (terms_of c.new-pool.result.board.now).plan in
-    let is = plan_along c.new-pool.ensures.board ∙ c.in_ok-board.ensures.plan in
+    let is = plan_along c.new-pool.ensures.board ∙ c.in-Ok-open_board.ensures.plan in
     let seen = (view c.in_ok-last.last).seen in
     let limit = (terms_of c.new-pool.result.board.now).limits.most in
-    let limit_is = ap (λ l. l.most) (limits_along c.new-pool.ensures.board ∙ c.in_ok-board.ensures.limits) in
+    let limit_is = ap (λ l. l.most) (limits_along c.new-pool.ensures.board ∙ c.in-Ok-open_board.ensures.limits) in
     let run = runs_by_more limit own (length c.args.benches.items) c.args.workers told timed seen c.requires.count.0 c.requires.count.1 c.in_ok-last.ensures.ran in
     runs_over_files c.args.most limit c.args.plan.now own c.args.workers (contents c.args.files.now) told timed seen
-    c.in_ok-outcome.outcome.journal.items c.in_ok-outcome.outcome.values.items c.in_ok-outcome.outcome.state
-    limit_is is c.in_ok-outcome.ensures.journal run c.in_ok-outcome.ensures.state c.in_ok-outcome.ensures.values
+    c.in-Ok-close.outcome.journal.items c.in-Ok-close.outcome.values.items c.in-Ok-close.outcome.state
+    limit_is is c.in-Ok-close.ensures.journal run c.in-Ok-close.ensures.state c.in-Ok-close.ensures.values
