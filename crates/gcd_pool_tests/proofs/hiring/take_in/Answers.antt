@@ -13,4 +13,4 @@ returns-clause-gathered g c = λ journal is.
 pub returns-clause-back : goal.returns-clause-back
 returns-clause-back g c =
     let old = (view c.args.head.now).hands in
-    back_next c.args.number old (view c.join.new.pass).hands (ap (λ v. v.hands) c.join.ensures.view.is ∙ ap (λ (n : ℕ). (n, Back) ∷ old) c.requires.worker.1) c.requires.back
+    back_next c.args._number old (view c.join.new.pass).hands (ap (λ v. v.hands) c.join.ensures.view.is ∙ ap (λ (n : ℕ). (n, Back) ∷ old) c.requires.worker.1) c.requires.back
