@@ -44,5 +44,6 @@ pub fn run_by<R: Threads + Wait + Sync, P: Poller, C: Clock>(
     ensures stands { IfOk result (λ o. StandsFor o.machine plan.now o.journal.items) }
     ensures kept { KeepsListens P.tells (P.state poller.old) (P.state poller.new) }
 {
-    run_workers(rt, alloc, plan, workers, most, files, poller, clock)
+    let outcome = run_workers(rt, alloc, plan, workers, most, files, poller, clock)?;
+    Ok(outcome)
 }
