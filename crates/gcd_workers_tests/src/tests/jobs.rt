@@ -9,7 +9,7 @@ use gcd_history::State;
 use gcd_plan::{Blk, BlkPart, How, Kind, MAX_EVENTS, ObjPart, Parts, Plan};
 use gcd_workers::{JobsRefused, JobsRun, run_jobs};
 use rows::{Refusal, Row, refusals, rows};
-use slow::counts;
+use slow::pauses;
 use square::squares;
 use std::alloc::{AllocError, Global};
 use std::process::Abort;
@@ -134,7 +134,7 @@ fn the_first_refusal_that_applies_is_told(rt: HostRuntime) -> Result<(), Fail> {
     Ok(())
 }
 
-// How far the second job of a plan of signals counts: some milliseconds, in which the others make more events than the row has cells.
+// How often the second job of a plan of signals pauses: some milliseconds, in which the others make more events than the row has cells.
 const FAR: u64 = 400_000;
 
 // Whether a helper ended the block.
@@ -152,7 +152,7 @@ fn long_block_ends<R: Abort + Threads + Wait + Sync>(
     plan: &Plan,
     workers: u8,
 ) -> Result<bool, Fail> {
-    let jobs = counts(alloc, FAR, plan.blocks())?;
+    let jobs = pauses(alloc, FAR, plan.blocks())?;
     let Ok(run) = run_jobs(rt, alloc, plan, workers, MAX_EVENTS, jobs) else {
         return Err(Fail::from("refused"));
     };

@@ -3,32 +3,31 @@ ghost use Rattle.std.specs.Prelude.{◌≡◌};
 
 use gcd_jobs::Job;
 use std::alloc::{AllocError, Global};
+use std::hint;
 
-/// It counts to its number, one after the other.
+/// It pauses as often as its number says, and gives that.
 #[derive(Drop)]
-pub struct Count {
+pub struct Pauses {
     pub to: u64,
 }
 
-impl Job for Count {
+impl Job for Pauses {
     ghost gives = { λ job input value. value ≡ job.to };
 
     fn run(self, _input: u64) -> u64 {
-        let mut count = 0;
-        while count < self.to {
-            std::hint::spin_loop();
-            count += 1;
+        for _ in 0..self.to {
+            hint::spin_loop();
         }
-        count
+        self.to
     }
 }
 
-/// So many jobs, of which the second counts far.
-pub fn counts(alloc: Global, far: u64, count: u32) -> Result<Vec<Count>, AllocError> {
+/// So many jobs, of which the second takes long.
+pub fn pauses(alloc: Global, far: u64, count: u32) -> Result<Vec<Pauses>, AllocError> {
     let mut jobs = Vec::new(alloc);
     for number in 0..count {
         let to = if number == 1 { far } else { 0 };
-        jobs.push(Count { to })?;
+        jobs.push(Pauses { to })?;
     }
     Ok(jobs)
 }
