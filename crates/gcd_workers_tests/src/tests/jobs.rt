@@ -9,7 +9,7 @@ use gcd_history::State;
 use gcd_plan::{Blk, BlkPart, How, Kind, MAX_EVENTS, ObjPart, Parts, Plan};
 use gcd_workers::{JobsRefused, JobsRun, run_jobs};
 use rows::{Refusal, Row, refusals, rows};
-use slow::pauses;
+use slow::pausing_jobs;
 use square::squares;
 use std::alloc::{AllocError, Global};
 use std::process::Abort;
@@ -152,7 +152,7 @@ fn long_block_ends<R: Abort + Threads + Wait + Sync>(
     plan: &Plan,
     workers: u8,
 ) -> Result<bool, Fail> {
-    let jobs = pauses(alloc, FAR, plan.blocks())?;
+    let jobs = pausing_jobs(alloc, FAR, plan.blocks())?;
     let Ok(run) = run_jobs(rt, alloc, plan, workers, MAX_EVENTS, jobs) else {
         return Err(Fail::from("refused"));
     };

@@ -23,7 +23,7 @@ impl Job for Pauses {
 }
 
 /// So many jobs, of which the second takes long.
-pub fn pauses(alloc: Global, far: u64, count: u32) -> Result<Vec<Pauses>, AllocError> {
+pub fn pausing_jobs(alloc: Global, far: u64, count: u32) -> Result<Vec<Pauses>, AllocError> {
     let mut jobs = Vec::new(alloc);
     for number in 0..count {
         let to = if number == 1 { far } else { 0 };
