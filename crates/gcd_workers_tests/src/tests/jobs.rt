@@ -3,10 +3,10 @@ mod rows;
 mod slow;
 mod square;
 
-use crate::tests::plans::{SIGNALLED, plan_of_queues, plan_of_signals};
+use crate::tests::plans::{LONG, plan_of_a_long_block, plan_of_queues};
 use gcd_event::Event;
 use gcd_history::State;
-use gcd_plan::{Blk, BlkPart, How, Kind, MAX_EVENTS, ObjPart, Parts, Plan};
+use gcd_plan::{Blk, BlkPart, How, Kind, MAX_EVENTS, ObjPart, Parts, Plan, Run};
 use gcd_workers::{JobsRefused, JobsRun, run_jobs};
 use rows::{Refusal, Row, refusals, rows};
 use slow::pausing_jobs;
@@ -134,53 +134,51 @@ fn the_first_refusal_that_applies_is_told(rt: HostRuntime) -> Result<(), Fail> {
     Ok(())
 }
 
-// How often the second job of a plan of signals pauses: some milliseconds, in which the others make more events than the row has cells.
-const FAR: u64 = 400_000;
+// How often the long job pauses: some ten milliseconds, in which the others may make more events than the row has cells.
+const FAR: u64 = 1_000_000;
 
-// Whether a helper ended the block.
-fn is_ended_by_a_helper(journal: &[Event], block: Blk) -> bool {
-    journal.iter().any(|event| match event {
-        Event::End { worker, blk } => *worker > 0 && *blk == block,
+// How many events stand between the last act of b1 and its end.
+fn events_beside(journal: &[Event]) -> usize {
+    let run = Run::Block(Blk(1));
+    let acted = journal.iter().position(|event| match event {
+        Event::Act { run: of, .. } => *of == run,
         _ => false,
-    })
+    });
+    let ended = journal.iter().position(|event| event.ended() == Some(run));
+    ended.unwrap_or(0).saturating_sub(acted.unwrap_or(0))
 }
 
-// A run of the plan of signals in which b1 takes long: it is whole, and b1 has its value. Whether a helper ran b1.
+// A run of the plan of a long block is whole. How many events stand beside the block's job.
 fn long_block_ends<R: Abort + Threads + Wait + Sync>(
     rt: &R,
     alloc: Global,
     plan: &Plan,
     workers: u8,
-) -> Result<bool, Fail> {
+) -> Result<usize, Fail> {
     let jobs = pausing_jobs(alloc, FAR, plan.blocks())?;
     let Ok(run) = run_jobs(rt, alloc, plan, workers, MAX_EVENTS, jobs) else {
         return Err(Fail::from("refused"));
     };
-    assert!(rt;
-        run.journal.len() == SIGNALLED as usize,
-        "{workers} workers"
-    );
+    assert!(rt; run.journal.len() == LONG as usize, "{workers} workers");
     assert!(rt; run.state == State::Drained, "{workers} workers");
-    let wanted = [Some(0), Some(FAR), Some(0), Some(0)];
+    let wanted = [Some(0), Some(FAR)];
     assert!(rt;
         run.values.as_slice() == wanted.as_slice(),
         "{workers} workers"
     );
-    Ok(is_ended_by_a_helper(run.journal.as_slice(), Blk(1)))
+    Ok(events_beside(run.journal.as_slice()))
 }
 
 // A worker in a long body passes nothing on, so the others wait for it at the end of the row's lap; then all goes on.
 #[test]
-fn a_helper_in_a_long_block_holds_the_others_and_lets_them_go(rt: HostRuntime) -> Result<(), Fail> {
-    let plan = plan_of_signals(rt.alloc())?;
+fn a_worker_in_a_long_block_holds_the_others_and_lets_them_go(rt: HostRuntime) -> Result<(), Fail> {
+    let plan = plan_of_a_long_block(rt.alloc())?;
     for workers in [2, 4] {
-        let mut by_helpers = 0_u32;
-        for _ in 0..10 {
-            if long_block_ends(&rt, rt.alloc(), &plan, workers)? {
-                by_helpers = by_helpers.saturating_add(1);
-            }
+        let mut most = 0;
+        for _ in 0..20 {
+            most = most.max(long_block_ends(&rt, rt.alloc(), &plan, workers)?);
         }
-        assert!(&rt; by_helpers > 0, "{workers} workers");
+        assert!(&rt; most > 4_000, "{workers} workers, {most} events beside");
     }
     Ok(())
 }

@@ -155,3 +155,36 @@ pub fn plan_of_signals(alloc: Global) -> Result<Plan, Fail> {
     };
     Ok(Plan::of_parts(parts).ok_or("valid")?)
 }
+
+// How often `main` signals beside a long block.
+const BESIDE: u32 = 5_000;
+
+/// The events of a plan of a long block: those of `main`, which submits b1, waits and signals, and those of b1, which signals once.
+pub const LONG: u32 = BESIDE + 8;
+
+/// `main` submits b1 to `root` and waits until that has started; then it makes more events than the row has cells, while the job of b1
+/// runs on another worker.
+pub fn plan_of_a_long_block(alloc: Global) -> Result<Plan, Fail> {
+    let mut objects = Vec::new(alloc);
+    objects.push(ObjPart::new(alloc, "root", Kind::Concurrent)?)?;
+    objects.push(ObjPart::new(alloc, "started", Kind::Semaphore(0))?)?;
+    objects.push(ObjPart::new(alloc, "other", Kind::Semaphore(0))?)?;
+    let mut main = BlkPart::new(alloc, "main")?;
+    main.acts.push(Act::Async(Obj(0), Blk(1)))?;
+    main.acts.push(Act::Wait(Obj(1)))?;
+    for _ in 0..BESIDE {
+        main.acts.push(Act::Signal(Obj(2)))?;
+    }
+    let mut long = BlkPart::new(alloc, "b1")?;
+    long.acts.push(Act::Signal(Obj(1)))?;
+    let mut blocks = Vec::new(alloc);
+    blocks.push(main)?;
+    blocks.push(long)?;
+    let parts = Parts {
+        objects,
+        blocks,
+        files: Vec::new(alloc),
+        until: 1000,
+    };
+    Ok(Plan::of_parts(parts).ok_or("valid")?)
+}
