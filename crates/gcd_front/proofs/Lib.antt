@@ -1,0 +1,4 @@
+mod Lists
+mod Queueing
+mod Noting
+mod Hearing
