@@ -1,5 +1,5 @@
 #!/usr/bin/env bash
-# Times the calls of crates/gcd_machine over the histories of four plans, and measures what a machine takes.
+# Times the calls of crates/gcd_machine over the histories of five plans, and measures what a machine takes.
 #
 # The program is bench/machine, whose files end in .txt, since the gate proves each file that ends in .rt or .antt. It is
 # proved and built in a folder of its own, beside copies of the crates with what earlier checks left. It prints for each plan
@@ -13,7 +13,7 @@ mkdir "$folder/crates"
 cp -r --reflink=auto bench/machine "$folder/crates/bench_machine"
 find "$folder/crates/bench_machine" -name '*.txt' | while read -r file; do mv "$file" "${file%.txt}"; done
 cp HANDLES "$folder/"
-for crate in plan event history bits soonest objects lists tree hold drain group sema sync source timer refinement machine; do
+for crate in text plan event history bits soonest objects lists tree hold drain group sema blockobj source timer jobs apply sync refinement machine; do
     cp -r --reflink=auto "crates/gcd_$crate" "$folder/crates/"
     grep "^gcd_$crate:" crates.txt
 done >"$folder/crates.txt"
@@ -22,7 +22,7 @@ cd "$folder/crates/bench_machine"
 rt run >"$folder/times" 2>"$folder/log" || { tail -20 "$folder/log" >&2; exit 1; }
 {
     echo 'plan events permitted chosen apply permits choose'
-    grep -E '^(large|chain|group|timers) ' "$folder/times"
+    grep -E '^(large|chain|group|timers|strip) ' "$folder/times"
 } | column -t
 "${CC:-gcc}" -O2 -shared -fPIC -o "$folder/held.so" "$OLDPWD/bench/machine.c" -ldl
 LD_PRELOAD="$folder/held.so" out/bench_machine 2>"$folder/held" >"$folder/times"

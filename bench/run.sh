@@ -1,7 +1,7 @@
 #!/usr/bin/env bash
 # Times whole runs of the proved program, as processes: the large script with 16,384 blocks, made in memory; a script of as many blocks
-# on seven queues that do nothing; and the same where each block counts the lines of one file of 4,096 bytes. Best of ninety-nine, in
-# milliseconds.
+# on seven queues that do nothing; the same where each block counts the lines of one file of 4,096 bytes; and a strip of as many blocks,
+# which one `apply` submits to a concurrent queue. Best of ninety-nine, in milliseconds.
 #
 #   start    the program with no words: it prints how it is called
 #   reading  the script is read: `check` over an empty journal, less the start
@@ -26,6 +26,7 @@ script_of() {
 }
 script_of "" >idle
 script_of " lines f" >lines
+printf '%s\n' "file f f.txt" "queue q concurrent" "strip part bytes f 1 16384" "main" "apply q part" >"strip"
 awk 'BEGIN { for (i = 0; i < 512; i++) print "seven77" }' >f.txt
 : >journal
 
@@ -46,7 +47,7 @@ tell() { printf '%8.1f  %s\n' "$(awk "BEGIN { print $1 / 1000 }")" "$2"; }
 
 start=$(best)
 tell "$start" "start"
-for script in idle lines; do
+for script in idle lines strip; do
     check=$(best check "$script" journal)
     run=$(best run "$script")
     [ "$(tail -1 told)" = drained ] || { echo "the script $script does not drain" >&2; exit 1; }

@@ -1,7 +1,8 @@
 #!/usr/bin/env bash
 # Times whole runs of the proved program by several workers, as processes: the large script, written to a file, by 1, 2, 4 and 64
 # workers, beside its shape in peers that keep a journal (bench/peers), where their packages are there (Debian's libtbb-dev and
-# libboost-dev); and 64 blocks that each count the words of 16 MiB on a concurrent queue, by 1 and by 4.
+# libboost-dev); 64 blocks that each count the words of 16 MiB on a concurrent queue, by 1 and by 4; and the words of 16 MiB once, in
+# 64 parts, which `apply` submits to a concurrent queue, by 1 and by 4.
 #
 #   whole  nanoseconds a block of a call, with its start, the reading of the script and the writing of the report; best of 25
 #   run    the same less a call that only reads the script (`check` over an empty journal)
@@ -42,6 +43,7 @@ awk 'BEGIN {
     print "main"
     for (b = 1; b <= 64; b++) print "async q b" b
 }' >heavy
+printf '%s\n' "file f f.txt" "queue q concurrent" "strip part words f 262144 64" "main" "apply q part" >parts
 awk 'BEGIN { for (i = 0; i < 2097152; i++) print "seven77" }' >f.txt
 : >journal
 
@@ -74,7 +76,14 @@ read=$(best 25 check script journal)
             'BEGIN { printf "%s %.0f %.0f%s\n", workers, whole * 1000 / 16384, (whole - reading) * 1000 / 16384, theirs }'
     done
 } | column -t
-one=$(best 3 run heavy)
-[ "$(tail -1 told)" = drained ] || { echo "the heavy script does not drain" >&2; exit 1; }
-four=$(best 3 run heavy --workers 4)
-awk -v one="$one" -v four="$four" 'BEGIN { printf "64 heavy blocks: %.0f ms by 1 worker, %.0f by 4, %.2f times as fast\n", one / 1000, four / 1000, one / four }'
+# How much faster four workers are than one on a script: its file, and what it is.
+faster() {
+    local one four
+    one=$(best 3 run "$1")
+    [ "$(tail -1 told)" = drained ] || { echo "the script $1 does not drain" >&2; exit 1; }
+    four=$(best 3 run "$1" --workers 4)
+    awk -v one="$one" -v four="$four" -v what="$2" \
+        'BEGIN { printf "%s: %.0f ms by 1 worker, %.0f by 4, %.2f times as fast\n", what, one / 1000, four / 1000, one / four }'
+}
+faster heavy "64 heavy blocks"
+faster parts "64 parts of one file"

@@ -31,11 +31,17 @@ MORE_SCRIPTS = [
     b"source n replace on root\nblock b\nmerge n 5\nmain\nmerge n 3\nmerge n 0\nactivate n\nsync root b\nmerge n 4\n",
     b"source t timer 1 2 on root\nhandler t\nretain t\nuntil 9\nmain\nactivate t\n",
     b"source r read text.txt on root\nsource v read log.txt on root\nblock c\ncancelled r c\nmain\nresume r\nactivate v\n",
+    b"file f notes.txt\nqueue q concurrent\nstrip a sum f 50 9\nstrip e bytes f 1 0\nblock b\napply q a\nintake q 3\nmain\nasync root b\n"
+    b"apply root e\n",
+    b"file f log.txt\nqueue q serial\nblock a lines f\nblock b words f\nblock c bytes f\nblock d\nmain\ncancel_block b\n"
+    b"notify_block b q c\nasync q a\nasync q b\nnotify_block a root d\nwait_block b\nwait_block d\n",
 ]
 WORDS = sorted(set(grammar.DECLARATIONS) | set(grammar.ACTS))
 WORDS += "serial concurrent inactive on root main add or replace timer read bytes lines words sum count tcp q r s t f a b g 0 1 7 007 -1".split()
+WORDS += "a.0 a.1 +1 +2".split()
 WORDS += "log.txt text.txt nowhere 2147483647 2147483648 16777216 86400000 99999999999999999999 q q s b #".split()
-EVENTS = "start act wake end deliver deliver_end tick ready feed_end misuse halt expire events main b1 q s r M1 M9".split()
+EVENTS = "start act wake end deliver deliver_end tick ready feed_end misuse halt expire accept shut events main b1 q s r M1 M9".split()
+EVENTS += "a.0 a.1 +1 +2".split()
 EVENTS += "0 0 0 1 63 64 00 4294967296".split()
 OPTIONS = ["run", "check", "big", "script", "journal", "--workers", "--journal", "--listen", "--help", "-h", "--", "-", "", "=", "1", "0"]
 OPTIONS += ["64", "65", "+4", "007", "-1", "16384", "16385", "99999999999999999999", "--workers=4", "--journal=1"]
@@ -128,8 +134,10 @@ def word_for(chance, ask, declared):
     if ask in grammar.KINDS:
         kinds = grammar.KINDS[ask]
         return chance.choice([name for name, kind in declared.items() if kind in kinds] or [None])
-    if ask == "#day":
+    if ask in ("#day", "#intake", "#part"):
         return str(chance.randint(1, 20))
+    if ask == "#parts":
+        return str(chance.choice([0, 1, 2, 3, 10]))
     if ask in grammar.NUMBERS:
         return str(chance.choice([0, 1, 2, 3, 10, 65, 200]))
     return chance.choice(["log.txt", "text.txt", "notes.txt", "empty"]) if ask == "path" else ask
@@ -140,13 +148,13 @@ def line_of(chance, first, declared, submitted):
     form = chance.choice((grammar.DECLARATIONS | grammar.ACTS)[first])
     words, own = [first], f"{first[0]}{len(declared)}"
     for ask in form.split():
-        left = {name: kind for name, kind in declared.items() if ask != "B" or name not in submitted}
+        left = {name: kind for name, kind in declared.items() if ask not in ("B", "L") or name not in submitted}
         words.append(own if ask == "+" else word_for(chance, ask, left))
     if None in words:
         return None
     if "+" in form:
         declared[own] = words[2] if first == "source" else first
-    if form.endswith("B"):
+    if form.endswith(("B", "L")):
         submitted.add(words[-1])
     return " ".join(words)
 
@@ -154,7 +162,8 @@ def line_of(chance, first, declared, submitted):
 def made(chance):
     """A script of good lines: objects and files, then blocks and handlers with acts, and main with more acts."""
     declared, submitted, handled, lines = {"root": "root"}, set(), set(), ["until 40"]
-    firsts = chance.choices(["queue", "queue", "group", "semaphore", "source", "source", "file"], k=chance.randint(1, 9))
+    firsts = chance.choices(["queue", "queue", "group", "semaphore", "source", "source", "file", "file", "strip"], k=chance.randint(1, 9))
+    firsts += chance.choice([[], [], ["intake"]])
     bodies = chance.choices(["block", "block", "block", "handler", "cancelled"], k=chance.randint(0, 9)) + ["main"]
     for first in firsts + bodies:
         line = line_of(chance, first, declared, submitted)
@@ -164,7 +173,7 @@ def made(chance):
         lines.append(line)
         acts = sorted(set(grammar.ACTS) - (grammar.NOT_IN_HANDLERS if first == "handler" else set()))
         for _ in range(chance.randint(0, 9 if first == "main" else 3) if first in ("block", "handler", "main") else 0):
-            lines.append(line_of(chance, chance.choice(acts + ["activate", "async"] * (first != "handler")), declared, submitted))
+            lines.append(line_of(chance, chance.choice(acts + ["activate", "async", "apply"] * (first != "handler")), declared, submitted))
     return "".join(f"{line}\n" for line in lines if line).encode()
 
 
@@ -207,15 +216,18 @@ def judge_script(desk, text, workers):
 
 
 def judge_values(desk, reader, answer):
-    """Each block that has ended has its value, and no other has."""
+    """Each block that has ended and is not cancelled has its value, and no other has."""
     contents = {}
     for name, path in reader.paths.items():
         with open(os.path.join(desk.folder, path), "rb") as it:
             contents[name] = it.read()
-    ended = re.findall(rb"(?m)^end [0-9]+ ([a-z0-9_]+)$", answer.text)
+    ended = re.findall(rb"(?m)^end [0-9]+ ([a-z0-9_.+]+)$", answer.text)
     ended = {name.decode() for name in ended if name.decode() in reader.works}
-    told = {name.decode(): int(value) for name, value in re.findall(rb"(?m)^([a-z0-9_]+) = ([0-9]+)$", answer.text)}
-    wanted = {name: grammar.value_of(reader.works[name], contents) for name in ended}
+    cancelled = {name.decode() for name in re.findall(rb"(?m)^([a-z0-9_.+]+) cancelled$", answer.text)}
+    if not cancelled <= ended & reader.cancelled:
+        return "only a block that has ended, and that an act cancels, is told as cancelled"
+    told = {name.decode(): int(value) for name, value in re.findall(rb"(?m)^([a-z0-9_.+]+) = ([0-9]+)$", answer.text)}
+    wanted = {name: grammar.value_of(reader.works[name], contents) for name in ended - cancelled}
     return None if told == wanted else f"the values are {wanted}"
 
 

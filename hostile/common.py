@@ -11,14 +11,14 @@ from pathlib import Path
 TOP = Path(__file__).resolve().parent.parent
 USAGE = b"usage: gcd run SCRIPT [--workers N] [--journal] [--most N] [--listen ADDR] | gcd check SCRIPT JOURNAL | gcd big N [--workers W]\n"
 
-NAME = rb"(?:main|root|[a-z][a-z0-9_]{0,31})"
+NAME = rb"(?:\+[0-9]+|[a-z][a-z0-9_]{0,31}(?:\.[0-9]+)?)"
 EVENT = (
     rb"(?:(?:start|wake|end|deliver|deliver_end) [0-9]+ %b|act [0-9]+ %b [0-9]+|tick [0-9]+|ready %b [0-9]+|feed_end %b"
-    rb"|misuse [0-9]+ %b [0-9]+ M[1-8]|expire %b|halt)\n" % ((NAME,) * 6)
+    rb"|misuse [0-9]+ %b [0-9]+ M[1-8]|expire %b|accept %b [0-9]+|shut|halt)\n" % ((NAME,) * 7)
 )
 JOURNAL = rb"(?:(?:%b)*events [0-9]+\n)?" % EVENT
 REPORT = (
-    rb"(?:%b = [0-9]+\n)*(?:%b received [0-9]+ in [0-9]+ pending [0-9]+\n)*" % (NAME, NAME)
+    rb"(?:%b (?:= [0-9]+|cancelled)\n)*(?:%b received [0-9]+ in [0-9]+ pending [0-9]+\n)*" % (NAME, NAME)
 )
 WAITS = rb"(?:%b waits for %b\n)*(?:%b not started\n)*" % (NAME, NAME, NAME)
 LAST = {

@@ -11,11 +11,13 @@ SOURCES = {"add", "or", "replace", "timer", "read"}
 OBJECTS = {"queue", "group", "semaphore"} | SOURCES
 NODES = {"queue"} | SOURCES
 KINDS = {"Q": QUEUES, "T": QUEUES, "G": {"group"}, "X": {"semaphore"}, "O": NODES, "S": SOURCES, "M": {"add", "or", "replace"}}
-KINDS |= {"A": OBJECTS, "B": {"block"}, "C": {"block"}, "F": {"file"}}
+KINDS |= {"A": OBJECTS, "B": {"block"}, "C": {"block"}, "F": {"file"}, "L": {"strip"}}
 NUMBERS = {"#day": DAY, "#wait": WAIT, "#large": LARGE, "#byte": (0, 255), "#place": MEBIBYTES}
+NUMBERS |= {"#intake": (1, 4096), "#part": (1, 16_777_216), "#parts": (0, 16_384)}
+WORKS = ("bytes", "lines", "words", "sum")
 
-# The words after the first, a form each: a capital stands for a used name of that kind (B: and this line submits it), `+` for the
-# name that is declared, `#` for a number, `path` for a path; what else stands there is that word.
+# The words after the first, a form each: a capital stands for a used name of that kind (B: and this line submits it; L: and it applies
+# it), `+` for the name that is declared, `#` for a number, `path` for a path; what else stands there is that word.
 DECLARATIONS = {
     "file": ["+ path"],
     "queue": [f"+ {kind}{on}{still}" for kind in ("serial", "concurrent") for on in ("", " on T") for still in ("", " inactive")],
@@ -25,7 +27,9 @@ DECLARATIONS = {
     "cancelled": ["S B"],
     "until": ["#day"],
     "block": ["+"]
-    + [f"+ {work} F{part}" for work in ("bytes", "lines", "words", "sum", "count #byte") for part in ("", " #place #place")],
+    + [f"+ {work} F{part}" for work in (*WORKS, "count #byte") for part in ("", " #place #place")],
+    "intake": ["Q #intake"],
+    "strip": [f"+ {work} F #part #parts" for work in WORKS],
     "handler": ["S"],
     "main": [""],
 }
@@ -34,7 +38,9 @@ ACTS |= {word: ["G Q B"] for word in ("group_async", "notify")}
 ACTS |= {"enter": ["G"], "leave": ["G"], "group_wait": ["G"], "signal": ["X"], "wait": ["X"], "target": ["O T"]}
 ACTS |= {"suspend": ["O"], "resume": ["O"], "activate": ["O"], "merge": ["M #large"], "cancel": ["S"]}
 ACTS |= {"retain": ["A"], "release": ["A"], "wait_for": ["X #wait"], "group_wait_for": ["G #wait"]}
+ACTS |= {"apply": ["Q L"], "cancel_block": ["C"], "wait_block": ["C"], "notify_block": ["C Q B"]}
 NOT_IN_HANDLERS = {"async", "barrier", "sync", "barrier_sync", "group_async", "notify", "group_wait", "wait", "wait_for", "group_wait_for"}
+NOT_IN_HANDLERS |= {"apply", "wait_block", "notify_block"}
 
 
 def fits(form, words):
@@ -57,8 +63,9 @@ class Reader:
         self.kinds = {"root": "root"}
         self.counts = dict.fromkeys(MOST, 0)
         self.submitted, self.handlers, self.cancellations = set(), set(), set()
+        self.applied, self.cancelled = set(), set()
         self.body = self.until = None
-        self.has_main = False
+        self.has_main = self.has_intake = False
         self.paths, self.works = {}, {}
 
     def codes_of(self, first, form, words):
@@ -73,7 +80,7 @@ class Reader:
                     codes.add(3)
                 elif self.kinds[word] not in KINDS[ask]:
                     codes.add(4)
-                elif ask == "B" and word in self.submitted:
+                elif (ask == "B" and word in self.submitted) or (ask == "L" and word in self.applied):
                     codes.add(6)
             elif ask in NUMBERS:
                 least, most = NUMBERS[ask]
@@ -84,7 +91,7 @@ class Reader:
     def other_codes(self, first, words):
         """The codes that the line's first word and its place decide."""
         codes = set()
-        if first == "until" and self.until is not None:
+        if (first == "until" and self.until is not None) or (first == "intake" and self.has_intake):
             codes.add(2)
         if first == "main" and self.has_main:
             codes.add(9)
@@ -94,19 +101,21 @@ class Reader:
             codes.add(6)
         if self.body == "handler" and first in NOT_IN_HANDLERS:
             codes.add(7)
-        counted = self.counted(first)
-        if counted and self.counts[counted] == MOST[counted]:
+        counted, more = self.counted(first, words)
+        if counted and self.counts[counted] + more > MOST[counted]:
             codes.add(8)
         return codes
 
     @staticmethod
-    def counted(first):
-        """What the line is one more of."""
+    def counted(first, words):
+        """What the line is more of, and how many."""
         if first in ACTS:
-            return "act"
+            return "act", 1
         if first in ("queue", "group", "semaphore", "source"):
-            return "object"
-        return first if first in ("file", "block") else None
+            return "object", 1
+        if first in ("intake", "strip"):
+            return "block", int(words[-1]) if NUMBER.fullmatch(words[-1]) else 0
+        return (first, 1) if first in ("file", "block") else (None, 0)
 
     def take(self, first, form, words):
         """The line is a good one."""
@@ -115,17 +124,25 @@ class Reader:
                 self.kinds[word] = words[1] if first == "source" else first
             elif ask == "B":
                 self.submitted.add(word)
+            elif ask == "L":
+                self.applied.add(word)
         if first == "file":
             self.paths[words[0]] = words[1]
         if first == "block" and len(words) > 1:
             self.works[words[0]] = words[1:]
-        counted = self.counted(first)
+        if first == "strip":
+            self.works |= strip_works(*words)
+        if first == "cancel_block":
+            self.cancelled.add(words[0])
+        counted, more = self.counted(first, words)
         if counted:
-            self.counts[counted] += 1
+            self.counts[counted] += more
         if first in DECLARATIONS:
             self.body = first if first in ("block", "handler", "main") else None
         if first == "main":
             self.has_main = True
+        if first == "intake":
+            self.has_intake = True
         if first == "until":
             self.until = int(words[0])
         if first == "handler":
@@ -153,6 +170,12 @@ class Reader:
             return min(codes)
         self.take(first, form, rest)
         return None
+
+
+def strip_works(name, work, file, length, count):
+    """The works of the blocks of a strip, by their names."""
+    places = [min(int(length) * i, 16_777_216) for i in range(int(count))]
+    return {f"{name}.{i}": [work, file, str(place), length] for i, place in enumerate(places)}
 
 
 def value_of(work, contents):

@@ -112,7 +112,23 @@ def ping_pong(_):
     return text_of([*lines, "block y", *["wait m", "signal n"] * 5000, "main", "async root x", "async root y"]), 0
 
 
-SCRIPTS = [at_the_limits, many_events, past_the_events, all_parked, all_expire, none_starts, hand_over_hand, ping_pong]
+def one_strip(_):
+    """A strip of as many blocks as there may be, each of which counts four bytes: workers share it."""
+    return text_of(["file f f2.txt", "queue q concurrent", f"strip b bytes f 4 {BLOCKS}", "main", "apply q b"]), 0
+
+
+def all_cancelled(_):
+    """Eight thousand blocks that are cancelled before they are submitted, and as many that follow them."""
+    lines = [f"queue q{k} concurrent" for k in range(7)]
+    acts = []
+    for b in range(8_000):
+        lines += [f"block c{b}", f"wait_block c{b - 1}"] if b else ["block c0"]
+        lines += [f"block n{b}"]
+        acts += [f"cancel_block c{b}", f"notify_block c{b} q{b % 7} n{b}", f"async q{(b + 1) % 7} c{b}"]
+    return text_of([*lines, "main", *acts]), 0
+
+
+SCRIPTS = [at_the_limits, many_events, past_the_events, all_parked, all_expire, none_starts, hand_over_hand, ping_pong, one_strip, all_cancelled]
 
 
 def value_lines(script):
@@ -139,7 +155,7 @@ def try_script(part, program, room, make, workers, seed, seconds=120):
     case = f"{make.__name__}, {workers} workers, seed {seed}"
     if why or at:
         part.refuse(case, why or f"the script is no script at {at}", answer)
-    told = set(re.findall(rb"(?m)^b[0-9a-z]+ = [0-9]+$", answer.text))
+    told = set(re.findall(rb"(?m)^b[0-9a-z.]+ = [0-9]+$", answer.text))
     if told - values or (status == 0 and told != values):
         part.refuse(case, "other values are wanted", answer)
     with open(f"{room}/journal", "wb") as it:

@@ -28,7 +28,7 @@ fn block_of(run: Run) -> Option<Blk> {
     }
 }
 
-// Waits for the end of a block that it submitted.
+// Waits for the end of a block.
 fn for_block(alloc: Global, sight: Sight, b: Blk) -> Result<Link, AllocError> {
     let name = sight.name_of_block(b);
     Ok(linked(format!(in alloc; "waits for {name}")?, Some(b)))
@@ -59,6 +59,22 @@ fn for_group(alloc: Global, sight: Sight, g: Obj) -> Result<Link, AllocError> {
     Ok(linked(words, None))
 }
 
+// Waits for the ends of all blocks of a strip.
+fn for_strip(alloc: Global, sight: Sight, a: u32) -> Result<Link, AllocError> {
+    let name = sight.name_of_strip(a);
+    let (next, left) = sight.left_of_strip(a);
+    match next {
+        Some(b) => {
+            let block = sight.name_of_block(b);
+            let words = format!(in alloc;
+                "waits for strip {name}, of which {left} blocks have not ended, and so for {block}"
+            )?;
+            Ok(linked(words, Some(b)))
+        }
+        None => Ok(linked(format!(in alloc; "waits for strip {name}")?, None)),
+    }
+}
+
 // Waits for its turn at a semaphore.
 fn for_semaphore(alloc: Global, sight: Sight, s: Obj) -> Result<Link, AllocError> {
     let name = sight.name_of_object(s);
@@ -82,6 +98,7 @@ fn parked(alloc: Global, sight: Sight, reason: Reason) -> Result<Link, AllocErro
     match reason {
         Reason::Block(b) => for_block(alloc, sight, b),
         Reason::Group(g, _) => for_group(alloc, sight, g),
+        Reason::Strip(a) => for_strip(alloc, sight, a),
         Reason::Rank(s, _) => for_semaphore(alloc, sight, s),
     }
 }
@@ -210,6 +227,11 @@ fn not_submitted(alloc: Global, sight: Sight, b: Blk) -> Result<Link, AllocError
         let count = now.enters.saturating_add(now.members);
         let words = format!(in alloc; "is not submitted: group {name} still counts {count}")?;
         return Ok(linked(words, None));
+    }
+    if let Some(first) = sight.scene.block(b).after {
+        let name = sight.name_of_block(first);
+        let words = format!(in alloc; "is not submitted before the end of {name}")?;
+        return Ok(linked(words, Some(first)));
     }
     Ok(linked(String::from_str(alloc, "is not submitted")?, None))
 }

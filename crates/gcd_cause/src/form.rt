@@ -33,7 +33,7 @@ pub fn is_declaration(first: &str) -> bool {
     DECLARATIONS.iter().any(|word| *word == first)
 }
 
-static DECLARATIONS: [&str; 10] = [
+static DECLARATIONS: [&str; 12] = [
     "file",
     "queue",
     "group",
@@ -44,6 +44,8 @@ static DECLARATIONS: [&str; 10] = [
     "block",
     "handler",
     "main",
+    "intake",
+    "strip",
 ];
 
 /// All forms; those of one first word stand together.
@@ -68,7 +70,7 @@ pub fn is_first(word: &str) -> bool {
 
 const NO: Role = Role::Nothing;
 
-static FORMS: [Form; 40] = [
+static FORMS: [Form; 46] = [
     Form {
         first: "file",
         shape: "F PATH",
@@ -193,6 +195,23 @@ static FORMS: [Form; 40] = [
         roles: [NO, NO, NO, NO, NO, NO],
     },
     Form {
+        first: "intake",
+        shape: "Q N",
+        roles: [Role::Queue, Role::Intake, NO, NO, NO, NO],
+    },
+    Form {
+        first: "strip",
+        shape: "A W F LEN N",
+        roles: [
+            Role::New,
+            Role::Work,
+            Role::File,
+            Role::Part,
+            Role::Parts,
+            NO,
+        ],
+    },
+    Form {
         first: "async",
         shape: "Q B",
         roles: [Role::Queue, Role::Block, NO, NO, NO, NO],
@@ -296,5 +315,25 @@ static FORMS: [Form; 40] = [
         first: "release",
         shape: "O",
         roles: [Role::Object, NO, NO, NO, NO, NO],
+    },
+    Form {
+        first: "apply",
+        shape: "Q A",
+        roles: [Role::Queue, Role::Strip, NO, NO, NO, NO],
+    },
+    Form {
+        first: "cancel_block",
+        shape: "B",
+        roles: [Role::Block, NO, NO, NO, NO, NO],
+    },
+    Form {
+        first: "wait_block",
+        shape: "B",
+        roles: [Role::Block, NO, NO, NO, NO, NO],
+    },
+    Form {
+        first: "notify_block",
+        shape: "B Q C",
+        roles: [Role::Block, Role::Queue, Role::Block, NO, NO, NO],
     },
 ];

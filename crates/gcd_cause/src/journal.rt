@@ -1,6 +1,6 @@
 // Why a text is no journal.
 
-use gcd_plan::{Blk, MAX_ACTS, MAX_TIME, MAX_VALUE, MAX_WORKERS, Obj, Plan, Run};
+use gcd_plan::{Blk, MAX_ACTS, MAX_SENDERS, MAX_TIME, MAX_VALUE, MAX_WORKERS, Obj, Plan, Run};
 use gcd_text::{cut_at, number, printable};
 use std::alloc::{AllocError, Global};
 use std::fmt;
@@ -11,12 +11,16 @@ pub enum Field {
     Worker,
     /// A block's name.
     Block,
+    /// That of a block other than `main`.
+    OtherBlock,
     /// A source's.
     Source,
     /// A block's or a source's.
     Run,
     /// The index of an act.
     Index,
+    /// The number of a sender.
+    Sender,
     Time,
     Bytes,
     /// The code of a misuse, after an `M`.
@@ -33,9 +37,11 @@ impl Field {
         match self {
             Field::Worker => "a worker, 0 to 63,",
             Field::Block => "a block of the plan",
+            Field::OtherBlock => "a block of the plan other than main",
             Field::Source => "a source of the plan",
             Field::Run => "a block or source of the plan",
             Field::Index => "an index, 0 to 65534,",
+            Field::Sender => "a sender, 0 to 63,",
             Field::Time => "a time, 1 to 86400000,",
             Field::Bytes => "a number of bytes, 1 to 2147483647,",
             Field::Code => "a code, M1 to M8,",
@@ -49,10 +55,11 @@ impl Field {
         match self {
             Field::Worker => Some((0, MAX_WORKERS - 1)),
             Field::Index => Some((0, MAX_ACTS - 1)),
+            Field::Sender => Some((0, MAX_SENDERS - 1)),
             Field::Time => Some((1, MAX_TIME)),
             Field::Bytes => Some((1, MAX_VALUE)),
             Field::Code => Some((1, 8)),
-            Field::Block | Field::Source | Field::Run => None,
+            Field::Block | Field::OtherBlock | Field::Source | Field::Run => None,
             Field::Count | Field::Nothing => None,
         }
     }
@@ -148,7 +155,7 @@ struct Shape {
 
 const NO: Field = Field::Nothing;
 
-static SHAPES: [Shape; 13] = [
+static SHAPES: [Shape; 15] = [
     Shape {
         first: "start",
         shape: " W B",
@@ -210,6 +217,16 @@ static SHAPES: [Shape; 13] = [
         asked: [Field::Block, NO, NO, NO],
     },
     Shape {
+        first: "accept",
+        shape: " B S",
+        asked: [Field::OtherBlock, Field::Sender, NO, NO],
+    },
+    Shape {
+        first: "shut",
+        shape: "",
+        asked: [NO, NO, NO, NO],
+    },
+    Shape {
         first: "events",
         shape: " N",
         asked: [Field::Count, NO, NO, NO],
@@ -263,16 +280,18 @@ fn is_within(word: &[u8], low: u32, high: u32) -> bool {
 fn fits(plan: &Plan, field: Field, word: &str) -> bool {
     match field {
         Field::Block => matches!(run_named(plan, word), Some(Run::Block(_))),
+        Field::OtherBlock => matches!(run_named(plan, word), Some(Run::Block(b)) if b.0 > 0),
         Field::Source => matches!(run_named(plan, word), Some(Run::Source(_))),
         Field::Run => run_named(plan, word).is_some(),
         Field::Code => match word.as_bytes().strip_prefix(b"M".as_slice()) {
             Some(digits) => is_within(digits, 1, 8),
             None => false,
         },
-        Field::Worker | Field::Index | Field::Time | Field::Bytes => match field.range() {
-            Some((low, high)) => is_within(word.as_bytes(), low, high),
-            None => true,
-        },
+        Field::Worker | Field::Index | Field::Sender | Field::Time | Field::Bytes =>
+            match field.range() {
+                Some((low, high)) => is_within(word.as_bytes(), low, high),
+                None => true,
+            },
         Field::Count | Field::Nothing => true,
     }
 }

@@ -3,6 +3,7 @@
 use crate::form::is_declaration;
 use crate::lines::{Lines, Words};
 use crate::role::Role;
+use gcd_text::number;
 use std::alloc::{AllocError, Global};
 
 /// What a declared name stands for.
@@ -16,6 +17,7 @@ pub enum What {
     Timer,
     Feed,
     Block,
+    Strip,
 }
 
 impl What {
@@ -30,6 +32,7 @@ impl What {
             What::Timer => "a timer",
             What::Feed => "a read source",
             What::Block => "a block",
+            What::Strip => "a strip",
         }
     }
 
@@ -41,7 +44,8 @@ impl What {
     fn is_source(self) -> bool {
         match self {
             What::MergeSource | What::Timer | What::Feed => true,
-            What::File | What::Queue | What::Group | What::Semaphore | What::Block => false,
+            What::File | What::Queue | What::Group | What::Semaphore => false,
+            What::Block | What::Strip => false,
         }
     }
 
@@ -49,7 +53,7 @@ impl What {
         match self {
             What::Queue | What::Group | What::Semaphore => true,
             What::MergeSource | What::Timer | What::Feed => true,
-            What::File | What::Block => false,
+            What::File | What::Block | What::Strip => false,
         }
     }
 
@@ -65,10 +69,12 @@ impl What {
             Role::MergeSource => self == What::MergeSource,
             Role::Object => self.is_object(),
             Role::Block => self == What::Block,
+            Role::Strip => self == What::Strip,
             Role::New | Role::Path | Role::Nothing => true,
             Role::On | Role::Inactive | Role::Read | Role::Timer | Role::Count => true,
             Role::QueueKind | Role::MergeKind | Role::Work => true,
             Role::Byte | Role::Extent | Role::Time | Role::Limit | Role::Value => true,
+            Role::Intake | Role::Part | Role::Parts => true,
         }
     }
 }
@@ -106,6 +112,8 @@ fn kind_of(words: Words) -> Option<What> {
         Some(source_kind(words.get(1)))
     } else if words.first == "block" {
         Some(What::Block)
+    } else if words.first == "strip" {
+        Some(What::Strip)
     } else {
         None
     }
@@ -216,9 +224,44 @@ pub fn first_line(text: &[u8], above: u32, first: &str, name: Option<&str>) -> O
     None
 }
 
+/// How many blocks a line of these words makes: one, or those of an intake or a strip.
+pub fn blocks_made(words: Words) -> u32 {
+    if words.first == "block" {
+        return 1;
+    }
+    let count = if words.first == "intake" {
+        words.get(1)
+    } else if words.first == "strip" {
+        words.get(4)
+    } else {
+        "0"
+    };
+    match number(count.as_bytes()) {
+        Some(made) => u32::try_from(made).unwrap_or(0),
+        None => 0,
+    }
+}
+
+/// The first line above that number which applies the strip.
+pub fn application(text: &[u8], above: u32, strip: &str) -> Option<u32> {
+    let mut at = 0u32;
+    for line in Lines::of(text) {
+        at = at.saturating_add(1);
+        if at >= above {
+            return None;
+        }
+        if let Some(words) = Words::of(line) {
+            if words.first == "apply" && words.get(1) == strip {
+                return Some(at);
+            }
+        }
+    }
+    None
+}
+
 /// The block that a line of these words submits; None where it submits none.
 pub fn submitted_by<'a>(words: Words<'a>) -> Option<&'a str> {
-    if words.first == "group_async" || words.first == "notify" {
+    if words.first == "group_async" || words.first == "notify" || words.first == "notify_block" {
         return Some(words.get(2));
     }
     if words.first == "async" || words.first == "barrier" || words.first == "sync" {

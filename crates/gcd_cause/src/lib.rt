@@ -43,7 +43,7 @@ pub use misuses::{code_name, misuse_words};
 pub use naming::{ActWords, EventWords, act_at, kind_of, why_name};
 pub use places::Places;
 pub use reasons::in_the_way;
-pub use scene::{Place, Scene};
+pub use scene::{BlockNow, Place, Scene};
 pub use script::cause_of_script;
 pub use script_cause::ScriptCause;
 pub use shown::Shown;

@@ -5,7 +5,7 @@ use crate::sight::Sight;
 use gcd_plan::{Act, Obj, Run};
 use std::alloc::{AllocError, Global};
 
-// The objects that an act names; twice the same where it names one.
+// The objects that an act names; twice the same where it names one, and `root`, which is always there, where it names none.
 fn named(act: Act) -> (Obj, Obj) {
     match act {
         Act::Async(q, _) | Act::Barrier(q, _) | Act::Sync(q, _) | Act::BarrierSync(q, _) => (q, q),
@@ -16,6 +16,8 @@ fn named(act: Act) -> (Obj, Obj) {
         Act::Target(o, t) => (o, t),
         Act::Merge(o, _) | Act::Cancel(o) => (o, o),
         Act::Retain(o) | Act::Release(o) => (o, o),
+        Act::Apply(q, _) | Act::NotifyBlock(_, q, _) => (q, q),
+        Act::CancelBlock(_) | Act::WaitBlock(_) => (Obj(0), Obj(0)),
     }
 }
 

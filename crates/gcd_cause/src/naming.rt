@@ -22,6 +22,22 @@ pub fn block_name(plan: &Plan, b: Blk) -> &str {
     }
 }
 
+/// The name of a strip.
+pub fn strip_name(plan: &Plan, a: u32) -> &str {
+    match plan.strips().get(a as usize) {
+        Some(strip) => strip.name.as_str(),
+        None => "?",
+    }
+}
+
+/// The blocks of a strip: the number of the first, and how many there are; none where the plan has it not.
+pub fn strip_span(plan: &Plan, a: u32) -> (u32, u32) {
+    match plan.strips().get(a as usize) {
+        Some(strip) => (strip.first, strip.count),
+        None => (0, 0),
+    }
+}
+
 /// The name of a block or source.
 pub fn run_name(plan: &Plan, run: Run) -> &str {
     match run {
@@ -109,41 +125,67 @@ fn act_word(act: Act) -> &'static str {
         Act::Cancel(_) => "cancel",
         Act::Retain(_) => "retain",
         Act::Release(_) => "release",
+        Act::Apply(..) => "apply",
+        Act::CancelBlock(_) => "cancel_block",
+        Act::WaitBlock(_) => "wait_block",
+        Act::NotifyBlock(..) => "notify_block",
     }
+}
+
+// The first word and one name.
+fn write_one<W: fmt::Write>(f: &mut fmt::Formatter<W>, word: &str, name: &str) -> fmt::Result {
+    write!(f, "{word} {name}")
+}
+
+// The first word and two names.
+fn write_two<W: fmt::Write>(
+    f: &mut fmt::Formatter<W>,
+    word: &str,
+    first: &str,
+    second: &str,
+) -> fmt::Result {
+    write!(f, "{word} {first} {second}")
+}
+
+// The first word and three names.
+fn write_three<W: fmt::Write>(
+    f: &mut fmt::Formatter<W>,
+    word: &str,
+    first: &str,
+    second: &str,
+    third: &str,
+) -> fmt::Result {
+    write!(f, "{word} {first} {second} {third}")
 }
 
 impl<'a> fmt::Display for ActWords<'a> {
     fn fmt<W: fmt::Write>(&self, f: &mut fmt::Formatter<W>) -> fmt::Result {
-        let word = act_word(self.act);
+        let (plan, word) = (self.plan, act_word(self.act));
         match self.act {
             Act::Async(q, b) | Act::Barrier(q, b) | Act::Sync(q, b) | Act::BarrierSync(q, b) => {
-                let (queue, block) = (object_name(self.plan, q), block_name(self.plan, b));
-                write!(f, "{word} {queue} {block}")
+                write_two(f, word, object_name(plan, q), block_name(plan, b))
             }
             Act::GroupAsync(g, q, b) | Act::Notify(g, q, b) => {
-                let (group, queue) = (object_name(self.plan, g), object_name(self.plan, q));
-                let block = block_name(self.plan, b);
-                write!(f, "{word} {group} {queue} {block}")
+                let (group, queue) = (object_name(plan, g), object_name(plan, q));
+                write_three(f, word, group, queue, block_name(plan, b))
             }
             Act::Enter(o) | Act::Leave(o) | Act::GroupWait(o) | Act::Signal(o) | Act::Wait(o) => {
-                let object = object_name(self.plan, o);
-                write!(f, "{word} {object}")
+                write_one(f, word, object_name(plan, o))
             }
             Act::Suspend(o) | Act::Resume(o) | Act::Activate(o) | Act::Cancel(o) => {
-                let object = object_name(self.plan, o);
-                write!(f, "{word} {object}")
+                write_one(f, word, object_name(plan, o))
             }
-            Act::Retain(o) | Act::Release(o) => {
-                let object = object_name(self.plan, o);
-                write!(f, "{word} {object}")
-            }
-            Act::Target(o, t) => {
-                let (object, target) = (object_name(self.plan, o), object_name(self.plan, t));
-                write!(f, "{word} {object} {target}")
-            }
+            Act::Retain(o) | Act::Release(o) => write_one(f, word, object_name(plan, o)),
+            Act::Target(o, t) => write_two(f, word, object_name(plan, o), object_name(plan, t)),
             Act::Merge(o, n) | Act::WaitFor(o, n) | Act::GroupWaitFor(o, n) => {
-                let object = object_name(self.plan, o);
+                let object = object_name(plan, o);
                 write!(f, "{word} {object} {n}")
+            }
+            Act::Apply(q, a) => write_two(f, word, object_name(plan, q), strip_name(plan, a)),
+            Act::CancelBlock(b) | Act::WaitBlock(b) => write_one(f, word, block_name(plan, b)),
+            Act::NotifyBlock(b, q, c) => {
+                let (first, queue) = (block_name(plan, b), object_name(plan, q));
+                write_three(f, word, first, queue, block_name(plan, c))
             }
         }
     }
@@ -188,10 +230,7 @@ impl<'a> fmt::Display for EventWords<'a> {
                 let name = object_name(plan, src);
                 write!(f, "ready {name} {bytes}")
             }
-            Event::FeedEnd { src } => {
-                let name = object_name(plan, src);
-                write!(f, "feed_end {name}")
-            }
+            Event::FeedEnd { src } => write_one(f, "feed_end", object_name(plan, src)),
             Event::Misuse {
                 worker,
                 run,
@@ -202,10 +241,12 @@ impl<'a> fmt::Display for EventWords<'a> {
                 write!(f, " {index} M{code}")
             }
             Event::Halt => write!(f, "halt"),
-            Event::Expire { blk } => {
+            Event::Expire { blk } => write_one(f, "expire", block_name(plan, blk)),
+            Event::Accept { blk, sender } => {
                 let name = block_name(plan, blk);
-                write!(f, "expire {name}")
+                write!(f, "accept {name} {sender}")
             }
+            Event::Shut => write!(f, "shut"),
         }
     }
 }

@@ -1,6 +1,7 @@
 // On which line of a script an act stands.
 
 use crate::form::is_declaration;
+use crate::known::blocks_made;
 use crate::lines::{Lines, Words};
 use crate::scene::Place;
 use gcd_plan::{Blk, Obj, Plan, Run};
@@ -11,6 +12,7 @@ use std::alloc::{AllocError, Global};
 pub struct Places {
     acts: Vec<(Place, u32)>,
     objects: Vec<u32>,
+    intake: u32,
 }
 
 // The source of that name.
@@ -33,15 +35,10 @@ struct Reading {
 
 // The body after a line that declares something.
 fn declared(plan: &Plan, words: Words, reading: Reading) -> Reading {
-    if words.first == "block" {
-        let number = reading.blocks.saturating_add(1);
-        return Reading {
-            body: Some(Run::Block(Blk(number))),
-            acts: 0,
-            blocks: number,
-        };
-    }
-    let body = if words.first == "main" {
+    let blocks = reading.blocks.saturating_add(blocks_made(words));
+    let body = if words.first == "block" {
+        Some(Run::Block(Blk(blocks)))
+    } else if words.first == "main" {
         Some(Run::Block(Blk(0)))
     } else if words.first == "handler" {
         source_named(plan, words.get(0))
@@ -51,7 +48,7 @@ fn declared(plan: &Plan, words: Words, reading: Reading) -> Reading {
     Reading {
         body,
         acts: 0,
-        blocks: reading.blocks,
+        blocks,
     }
 }
 
@@ -74,7 +71,7 @@ impl Places {
             acts: 0,
             blocks: 0,
         };
-        let mut at = 0u32;
+        let (mut at, mut intake) = (0u32, 0u32);
         for line in Lines::of(text) {
             at = at.saturating_add(1);
             let Some(words) = Words::of(line) else {
@@ -82,6 +79,9 @@ impl Places {
             };
             if is_object(words) {
                 objects.push(at)?;
+            }
+            if words.first == "intake" {
+                intake = at;
             }
             if is_declaration(words.first) {
                 reading = declared(plan, words, reading);
@@ -91,7 +91,11 @@ impl Places {
                 reading.acts = index.saturating_add(1);
             }
         }
-        Ok(Places { acts, objects })
+        Ok(Places {
+            acts,
+            objects,
+            intake,
+        })
     }
 
     /// The line of an act; 0 where there is none.
@@ -105,6 +109,11 @@ impl Places {
             }
         }
         0
+    }
+
+    /// The line that declares the intake; 0 where there is none.
+    pub fn line_of_intake(&self) -> u32 {
+        self.intake
     }
 
     /// The line that declares an object; 0 where there is none.

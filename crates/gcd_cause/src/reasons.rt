@@ -40,13 +40,20 @@ fn no_such(alloc: Global, sight: Sight, event: Event) -> Result<String, AllocErr
             )
         }
         Event::Expire { .. } => String::from_str(alloc, "the plan has no such block"),
+        Event::Accept { blk, .. } => {
+            if sight.is_of_intake(blk) {
+                return String::from_str(alloc, "a number is out of its range");
+            }
+            let name = sight.name_of_block(blk);
+            format!(in alloc; "{name} is no block of an intake")
+        }
         Event::Deliver { .. } | Event::DeliverEnd { .. } | Event::Misuse { .. } => {
             String::from_str(
                 alloc,
                 "the plan has no such source, or a number is out of its range",
             )
         }
-        Event::Tick { .. } | Event::Halt => {
+        Event::Tick { .. } | Event::Halt | Event::Shut => {
             String::from_str(alloc, "a number is out of its range")
         }
     }
@@ -60,7 +67,7 @@ fn worker_of(event: Event) -> u8 {
         Event::Deliver { worker, .. } | Event::DeliverEnd { worker, .. } => worker,
         Event::Misuse { worker, .. } => worker,
         Event::Tick { .. } | Event::Ready { .. } | Event::FeedEnd { .. } | Event::Halt => 0,
-        Event::Expire { .. } => 0,
+        Event::Expire { .. } | Event::Accept { .. } | Event::Shut => 0,
     }
 }
 
@@ -73,8 +80,8 @@ fn run_of(event: Event) -> Option<Run> {
         Event::Act { run, .. } | Event::Misuse { run, .. } => Some(run),
         Event::Deliver { src, .. } | Event::DeliverEnd { src, .. } => Some(Run::Source(src)),
         Event::Ready { src, .. } | Event::FeedEnd { src } => Some(Run::Source(src)),
-        Event::Expire { blk } => Some(Run::Block(blk)),
-        Event::Tick { .. } | Event::Halt => None,
+        Event::Expire { blk } | Event::Accept { blk, .. } => Some(Run::Block(blk)),
+        Event::Tick { .. } | Event::Halt | Event::Shut => None,
     }
 }
 
@@ -89,6 +96,25 @@ fn busy(alloc: Global, sight: Sight, worker: u8) -> Result<String, AllocError> {
     }
 }
 
+// The block is not submitted, with what would submit it where that is known.
+fn unsubmitted(alloc: Global, sight: Sight, b: Blk) -> Result<String, AllocError> {
+    let (name, block) = (sight.name_of_block(b), sight.scene.block(b));
+    if let Some(g) = block.notify {
+        let now = sight.scene.object(g);
+        let count = now.enters.saturating_add(now.members);
+        let group = sight.name_of_object(g);
+        return format!(in alloc; "{name} is not submitted: group {group} still counts {count}");
+    }
+    if let Some(first) = block.after {
+        let first = sight.name_of_block(first);
+        return format!(in alloc; "{name} is not submitted: {first} has not ended");
+    }
+    if sight.is_of_intake(b) {
+        return format!(in alloc; "{name} is not accepted");
+    }
+    format!(in alloc; "{name} is not submitted")
+}
+
 // The block is not there to be started, or nothing to be delivered.
 fn unready(alloc: Global, sight: Sight, run: Run) -> Result<String, AllocError> {
     let name = sight.name_of(run);
@@ -97,15 +123,7 @@ fn unready(alloc: Global, sight: Sight, run: Run) -> Result<String, AllocError> 
             if sight.is_started(b) {
                 return format!(in alloc; "{name} has started already");
             }
-            match sight.scene.block(b).notify {
-                Some(g) => {
-                    let now = sight.scene.object(g);
-                    let count = now.enters.saturating_add(now.members);
-                    let group = sight.name_of_object(g);
-                    format!(in alloc; "{name} is not submitted: group {group} still counts {count}")
-                }
-                None => format!(in alloc; "{name} is not submitted"),
-            }
+            unsubmitted(alloc, sight, b)
         }
         Run::Source(s) => {
             if sight.scene.object(s).is_cancelled {
@@ -176,6 +194,10 @@ pub fn awaited_words(alloc: Global, sight: Sight, reason: Reason) -> Result<Stri
             let count = now.enters.saturating_add(now.members);
             format!(in alloc; "group {name}, which counts {count}")
         }
+        Reason::Strip(a) => {
+            let (name, (_, left)) = (sight.name_of_strip(a), sight.left_of_strip(a));
+            format!(in alloc; "strip {name}, of which {left} blocks have not ended")
+        }
         Reason::Rank(s, rank) => {
             let name = sight.name_of_object(s);
             let (first, now) = (sight.first_value(s), sight.scene.object(s));
@@ -219,6 +241,11 @@ fn not_own(alloc: Global, sight: Sight, run: Run, worker: u8) -> Result<String, 
 // The act is not the next, or one is left.
 fn not_next(alloc: Global, sight: Sight, run: Run, event: Event) -> Result<String, AllocError> {
     let name = sight.name_of(run);
+    if let Run::Block(b) = run {
+        if sight.is_cancelled(b) {
+            return format!(in alloc; "{name} is cancelled, and makes no act");
+        }
+    }
     let made = sight.scene.made(run);
     if let Some(act) = act_at(sight.plan, run, made) {
         let words = ActWords {
@@ -240,6 +267,7 @@ fn not_next(alloc: Global, sight: Sight, run: Run, event: Event) -> Result<Strin
         Event::FeedEnd { .. } | Event::Halt | Event::Expire { .. } => {
             format!(in alloc; "{name} has made its acts")
         }
+        Event::Accept { .. } | Event::Shut => format!(in alloc; "{name} has made its acts"),
     }
 }
 
@@ -277,6 +305,7 @@ fn misused(alloc: Global, sight: Sight, event: Event) -> Result<String, AllocErr
         Event::Deliver { .. } | Event::DeliverEnd { .. } => return no_act(alloc),
         Event::Tick { .. } | Event::Ready { .. } | Event::FeedEnd { .. } => return no_act(alloc),
         Event::Halt | Event::Expire { .. } => return no_act(alloc),
+        Event::Accept { .. } | Event::Shut => return no_act(alloc),
     };
     match code_now(sight, worker, run, index) {
         Some(code) => {
@@ -313,6 +342,31 @@ fn not_live(alloc: Global, sight: Sight, run: Run) -> Result<String, AllocError>
         format!(in alloc; "{name} is cancelled")
     } else {
         format!(in alloc; "{name} is inactive")
+    }
+}
+
+// The intake takes no block any more.
+fn not_open(alloc: Global, sight: Sight) -> Result<String, AllocError> {
+    if sight.plan.intake().is_none() {
+        return String::from_str(alloc, "the plan has no intake");
+    }
+    if sight.scene.is_shut {
+        return String::from_str(alloc, "the intake is shut");
+    }
+    String::from_str(alloc, "all blocks of the intake are accepted")
+}
+
+// What is in the way of the Accept of a block.
+fn unaccepted(alloc: Global, sight: Sight, barred: Barred) -> Result<String, AllocError> {
+    if barred.reason == Why::NoSuch {
+        return no_such(alloc, sight, barred.event);
+    }
+    match sight.machine.next_intake() {
+        Some(next) => {
+            let name = sight.name_of_block(next);
+            format!(in alloc; "the next block of the intake is {name}")
+        }
+        None => not_open(alloc, sight),
     }
 }
 
@@ -403,6 +457,12 @@ pub fn in_the_way(
     }
     if let Event::Tick { at } = barred.event {
         return not_due(alloc, sight, at);
+    }
+    if let Event::Accept { .. } = barred.event {
+        return unaccepted(alloc, sight, barred);
+    }
+    if let Event::Shut = barred.event {
+        return not_open(alloc, sight);
     }
     match run_of(barred.event) {
         Some(run) => of_run(alloc, sight, barred, run),

@@ -41,6 +41,8 @@ pub enum Role {
     Object,
     /// A block's.
     Block,
+    /// A strip's.
+    Strip,
     /// A number from 0 to 255.
     Byte,
     /// A number of bytes of a file.
@@ -51,6 +53,12 @@ pub enum Role {
     Limit,
     /// A number up to the greatest value.
     Value,
+    /// How many blocks an intake has.
+    Intake,
+    /// How many bytes a part of a file has.
+    Part,
+    /// How many blocks a strip has.
+    Parts,
     /// No word: the form has fewer.
     Nothing,
 }
@@ -78,7 +86,9 @@ impl Role {
             Role::MergeSource => "a source of merged values",
             Role::Object => "an object other than root",
             Role::Block => "a block",
+            Role::Strip => "a strip",
             Role::Byte | Role::Extent | Role::Time | Role::Limit | Role::Value => "a number",
+            Role::Intake | Role::Part | Role::Parts => "a number",
             Role::Nothing => "nothing",
         }
     }
@@ -96,8 +106,9 @@ impl Role {
             Role::Work => Some(WORKS.as_slice()),
             Role::New | Role::Path | Role::Nothing => None,
             Role::File | Role::Queue | Role::Node | Role::Group | Role::Semaphore => None,
-            Role::Source | Role::MergeSource | Role::Object | Role::Block => None,
+            Role::Source | Role::MergeSource | Role::Object | Role::Block | Role::Strip => None,
             Role::Byte | Role::Extent | Role::Time | Role::Limit | Role::Value => None,
+            Role::Intake | Role::Part | Role::Parts => None,
         }
     }
 
@@ -109,11 +120,14 @@ impl Role {
             Role::Time => Some((1, gcd_plan::MAX_TIME)),
             Role::Limit => Some((0, gcd_plan::MAX_TIME)),
             Role::Value => Some((0, gcd_plan::MAX_VALUE)),
+            Role::Intake => Some((1, gcd_plan::MAX_INTAKE)),
+            Role::Part => Some((1, gcd_plan::MAX_FILE_BYTES)),
+            Role::Parts => Some((0, gcd_plan::MAX_BLOCKS - 1)),
             Role::New | Role::Path | Role::Nothing => None,
             Role::On | Role::Inactive | Role::Read | Role::Timer | Role::Count => None,
             Role::QueueKind | Role::MergeKind | Role::Work => None,
             Role::File | Role::Queue | Role::Node | Role::Group | Role::Semaphore => None,
-            Role::Source | Role::MergeSource | Role::Object | Role::Block => None,
+            Role::Source | Role::MergeSource | Role::Object | Role::Block | Role::Strip => None,
         }
     }
 
@@ -121,11 +135,12 @@ impl Role {
     pub fn is_used_name(self) -> bool {
         match self {
             Role::File | Role::Queue | Role::Node | Role::Group | Role::Semaphore => true,
-            Role::Source | Role::MergeSource | Role::Object | Role::Block => true,
+            Role::Source | Role::MergeSource | Role::Object | Role::Block | Role::Strip => true,
             Role::New | Role::Path | Role::Nothing => false,
             Role::On | Role::Inactive | Role::Read | Role::Timer | Role::Count => false,
             Role::QueueKind | Role::MergeKind | Role::Work => false,
             Role::Byte | Role::Extent | Role::Time | Role::Limit | Role::Value => false,
+            Role::Intake | Role::Part | Role::Parts => false,
         }
     }
 }

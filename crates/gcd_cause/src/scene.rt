@@ -1,7 +1,7 @@
 // What events have made of a plan's objects and blocks, so far as sentences tell it. Nothing is judged by it: which event may come,
 // and why not, the machine says.
 
-use crate::naming::act_at;
+use crate::naming::{act_at, strip_span};
 use gcd_event::Event;
 use gcd_plan::{Act, Blk, Obj, Plan, Run};
 use std::alloc::{AllocError, Global};
@@ -47,7 +47,7 @@ pub struct ObjectNow {
 pub struct BlockNow {
     /// How many acts its run has made.
     pub made: u32,
-    /// The act that submits it, or registers it with a group.
+    /// The act that submits it, or registers it with a group or at a block.
     pub by: Option<Place>,
     /// The node on which it stands, once it is submitted.
     pub node: Option<Obj>,
@@ -56,7 +56,9 @@ pub struct BlockNow {
     pub group: Option<Obj>,
     /// The group at which it is registered.
     pub notify: Option<Obj>,
-    /// The last wait that it began: the object for which it waits, and the limit, if the wait has one.
+    /// The block at whose end it is registered.
+    pub after: Option<Blk>,
+    /// The last wait at a group or semaphore that it began: the object for which it waits, and the limit, if the wait has one.
     pub wait: Option<(Obj, Option<u32>)>,
     /// Whether that wait has expired.
     pub has_expired: bool,
@@ -71,6 +73,8 @@ pub struct Scene {
     pub having: Vec<(u8, Run)>,
     /// Journal time.
     pub time: u32,
+    /// Whether the intake is shut.
+    pub is_shut: bool,
 }
 
 // An object before anything has happened.
@@ -102,6 +106,7 @@ const FIRST_BLOCK: BlockNow = BlockNow {
     is_barrier: false,
     group: None,
     notify: None,
+    after: None,
     wait: None,
     has_expired: false,
 };
@@ -140,6 +145,7 @@ impl Scene {
             blocks,
             having: Vec::new(alloc),
             time: 0,
+            is_shut: false,
         })
     }
 
@@ -293,8 +299,32 @@ impl Scene {
         }
     }
 
+    // The act registers the block at the end of another.
+    fn follow(&mut self, first: Blk, b: Blk) {
+        if let Some(now) = self.blocks.get_mut(b.0 as usize) {
+            now.after = Some(first);
+        }
+    }
+
+    // The act submits the blocks of the strip to the node.
+    fn apply(&mut self, plan: &Plan, by: Place, node: Obj, a: u32) {
+        let (first, count) = strip_span(plan, a);
+        for place in 0..count {
+            self.submit(by, node, Blk(first.saturating_add(place)), false);
+        }
+    }
+
+    // The block, which comes from outside, stands on the queue of the intake.
+    fn accept(&mut self, plan: &Plan, b: Blk) {
+        if let Some((queue, _, _)) = plan.intake() {
+            if let Some(now) = self.blocks.get_mut(b.0 as usize) {
+                now.node = Some(queue);
+            }
+        }
+    }
+
     // What an act on blocks does.
-    fn submitted(&mut self, by: Place, act: Act) {
+    fn submitted(&mut self, plan: &Plan, by: Place, act: Act) {
         match act {
             Act::Async(q, b) | Act::Sync(q, b) => self.submit(by, q, b, false),
             Act::Barrier(q, b) | Act::BarrierSync(q, b) => self.submit(by, q, b, true),
@@ -306,6 +336,12 @@ impl Scene {
                 self.submit(by, q, b, false);
                 self.register(g, b);
             }
+            Act::NotifyBlock(first, q, b) => {
+                self.submit(by, q, b, false);
+                self.follow(first, b);
+            }
+            Act::Apply(q, a) => self.apply(plan, by, q, a),
+            Act::CancelBlock(_) | Act::WaitBlock(_) => {}
             Act::Enter(_) | Act::Leave(_) | Act::GroupWait(_) | Act::GroupWaitFor(..) => {}
             Act::Signal(_) | Act::Wait(_) | Act::WaitFor(..) => {}
             Act::Suspend(_) | Act::Resume(_) | Act::Activate(_) | Act::Target(..) => {}
@@ -313,7 +349,7 @@ impl Scene {
         }
     }
 
-    // The run, which parks, begins this wait, or one without a limit for the end of a block.
+    // The run, which parks, begins this wait, or one without a limit for the end of a block or of a strip.
     fn wait(&mut self, run: Run, wait: Option<(Obj, Option<u32>)>) {
         if let Run::Block(b) = run {
             if let Some(now) = self.blocks.get_mut(b.0 as usize) {
@@ -359,7 +395,7 @@ impl Scene {
             let wait = begun_wait(act, self.time, plan.until());
             self.wait(by.run, wait);
         }
-        self.submitted(by, act);
+        self.submitted(plan, by, act);
         let is_source = match object_of(act) {
             Some(o) => o.0 < plan.objects() && plan.kind(o).is_source(),
             None => false,
@@ -412,12 +448,14 @@ impl Scene {
             Event::Misuse { .. } => {}
             Event::Halt => {}
             Event::Expire { blk } => self.expire(blk),
+            Event::Accept { blk, .. } => self.accept(plan, blk),
+            Event::Shut => self.is_shut = true,
         }
         Ok(())
     }
 }
 
-// The object that an act changes; None for one that submits a block alone.
+// The object that an act changes; None for one that has to do with blocks alone.
 fn object_of(act: Act) -> Option<Obj> {
     match act {
         Act::Async(..) | Act::Barrier(..) | Act::Sync(..) | Act::BarrierSync(..) => None,
@@ -427,6 +465,7 @@ fn object_of(act: Act) -> Option<Obj> {
         Act::Suspend(o) | Act::Resume(o) | Act::Activate(o) => Some(o),
         Act::Target(o, _) | Act::Merge(o, _) | Act::Cancel(o) => Some(o),
         Act::Retain(o) | Act::Release(o) => Some(o),
+        Act::Apply(..) | Act::CancelBlock(_) | Act::WaitBlock(_) | Act::NotifyBlock(..) => None,
     }
 }
 
@@ -443,6 +482,7 @@ fn begun_wait(act: Act, now: u32, until: u32) -> Option<(Obj, Option<u32>)> {
         Act::Signal(_) | Act::Suspend(_) | Act::Resume(_) | Act::Activate(_) => None,
         Act::Target(..) | Act::Merge(..) | Act::Cancel(_) => None,
         Act::Retain(_) | Act::Release(_) => None,
+        Act::Apply(..) | Act::CancelBlock(_) | Act::WaitBlock(_) | Act::NotifyBlock(..) => None,
     }
 }
 
@@ -492,6 +532,7 @@ fn after_act(now: ObjectNow, by: Place, act: Act, is_source: bool) -> ObjectNow 
         Act::GroupWait(_) | Act::GroupWaitFor(..) | Act::Merge(..) => {}
         Act::Async(..) | Act::Barrier(..) | Act::Sync(..) | Act::BarrierSync(..) => {}
         Act::GroupAsync(..) | Act::Notify(..) => {}
+        Act::Apply(..) | Act::CancelBlock(_) | Act::WaitBlock(_) | Act::NotifyBlock(..) => {}
     }
     after
 }

@@ -1,7 +1,7 @@
 // Why a script is refused.
 
 use crate::form::{Form, form_of, is_declaration, is_first};
-use crate::known::{Body, Known, declared_from, first_line, submission, submitted_by};
+use crate::known::{Body, Known, application, declared_from, first_line, submission, submitted_by};
 use crate::lines::{Words, line_at};
 use crate::role::Role;
 use crate::script_cause::ScriptCause;
@@ -73,11 +73,15 @@ fn no_form<'a>(words: Words<'a>, body: Body<'a>) -> ScriptCause<'a> {
     ScriptCause::Coded { code: 1 }
 }
 
-// Code 2: the declared name, or a second `until`.
+// Code 2: the declared name, or a second `until` or `intake`.
 fn bad_name<'a>(text: &[u8], line: u32, words: Words<'a>, known: &Known<'a>) -> ScriptCause<'a> {
     if words.first == "until" {
         let earlier = first_line(text, line, "until", None).unwrap_or(0);
         return ScriptCause::SecondUntil { earlier };
+    }
+    if words.first == "intake" {
+        let earlier = first_line(text, line, "intake", None).unwrap_or(0);
+        return ScriptCause::SecondIntake { earlier };
     }
     let name = words.get(0);
     if name == "root" || name == "main" {
@@ -200,6 +204,11 @@ fn repeated<'a>(text: &[u8], line: u32, words: Words<'a>) -> ScriptCause<'a> {
         let earlier = first_line(text, line, "handler", Some(source)).unwrap_or(0);
         return ScriptCause::SecondHandler { source, earlier };
     }
+    if words.first == "apply" {
+        let strip = words.get(1);
+        let earlier = application(text, line, strip).unwrap_or(0);
+        return ScriptCause::AppliedTwice { strip, earlier };
+    }
     if let Some(block) = submitted_by(words) {
         if let Some(earlier) = submission(text, line, block) {
             return ScriptCause::SubmittedTwice { block, earlier };
@@ -239,7 +248,7 @@ fn past_limit<'a>(words: Words<'a>, known: &Known<'a>) -> ScriptCause<'a> {
         }
         return limit("file", MAX_FILES);
     }
-    if words.first == "block" {
+    if words.first == "block" || words.first == "intake" || words.first == "strip" {
         return limit("block", MAX_BLOCKS - 1);
     }
     if is_declaration(words.first) {

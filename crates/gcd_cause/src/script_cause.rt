@@ -49,6 +49,10 @@ pub enum ScriptCause<'a> {
     SecondUntil {
         earlier: u32,
     },
+    /// A second `intake`.
+    SecondIntake {
+        earlier: u32,
+    },
     /// The name is none: too long, or a byte that no name has there.
     IllFormedName {
         name: &'a str,
@@ -106,6 +110,11 @@ pub enum ScriptCause<'a> {
     /// An earlier line submits the block.
     SubmittedTwice {
         block: &'a str,
+        earlier: u32,
+    },
+    /// An earlier line applies the strip.
+    AppliedTwice {
+        strip: &'a str,
         earlier: u32,
     },
     /// The source has a handler already.
@@ -197,6 +206,9 @@ fn write_name<W: fmt::Write>(f: &mut fmt::Formatter<W>, cause: ScriptCause) -> f
         ScriptCause::SecondUntil { earlier } => {
             write!(f, "a second 'until': line {earlier} has the first")
         }
+        ScriptCause::SecondIntake { earlier } => {
+            write!(f, "a second 'intake': line {earlier} has the first")
+        }
         ScriptCause::IllFormedName { name } => write!(
             f,
             "'{name}' is no name: 1 to 32 small letters, digits and _, the first a letter"
@@ -280,6 +292,9 @@ fn write_whole<W: fmt::Write>(f: &mut fmt::Formatter<W>, cause: ScriptCause) -> 
     match cause {
         ScriptCause::SubmittedTwice { block, earlier } => {
             write!(f, "line {earlier} submits '{block}' already")
+        }
+        ScriptCause::AppliedTwice { strip, earlier } => {
+            write!(f, "line {earlier} applies '{strip}' already")
         }
         ScriptCause::SecondHandler { source, earlier } => {
             write!(f, "'{source}' has a handler already, on line {earlier}")

@@ -1,6 +1,8 @@
 // A place of a run: the machine that stands there, and what the events before it have made.
 
-use crate::naming::{act_at, acts_of, block_name, kind_of, object_name, run_name};
+use crate::naming::{
+    act_at, acts_of, block_name, kind_of, object_name, run_name, strip_name, strip_span,
+};
 use crate::scene::Scene;
 use gcd_event::Event;
 use gcd_machine::Machine;
@@ -23,6 +25,10 @@ impl<'a> Sight<'a> {
         block_name(self.plan, b)
     }
 
+    pub fn name_of_strip(self, a: u32) -> &'a str {
+        strip_name(self.plan, a)
+    }
+
     pub fn name_of(self, run: Run) -> &'a str {
         run_name(self.plan, run)
     }
@@ -35,6 +41,35 @@ impl<'a> Sight<'a> {
     /// Whether the block has ended.
     pub fn is_ended(self, b: Blk) -> bool {
         b.0 < self.machine.blocks() && self.machine.is_ended(b)
+    }
+
+    /// Whether the block is cancelled.
+    pub fn is_cancelled(self, b: Blk) -> bool {
+        b.0 < self.machine.blocks() && self.machine.is_cancelled(b)
+    }
+
+    /// Whether the block is one of the intake's.
+    pub fn is_of_intake(self, b: Blk) -> bool {
+        match self.plan.intake() {
+            Some((_, first, count)) => first <= b.0 && b.0 - first < count,
+            None => false,
+        }
+    }
+
+    /// The first block of the strip that has not ended, and how many have not.
+    pub fn left_of_strip(self, a: u32) -> (Option<Blk>, u32) {
+        let (first, count) = strip_span(self.plan, a);
+        let (mut found, mut left) = (None, 0u32);
+        for place in 0..count {
+            let b = Blk(first.saturating_add(place));
+            if !self.is_ended(b) {
+                left = left.saturating_add(1);
+                if found.is_none() {
+                    found = Some(b);
+                }
+            }
+        }
+        (found, left)
     }
 
     /// What the block waits for, where it is parked.
@@ -174,10 +209,11 @@ impl<'a> Sight<'a> {
         None
     }
 
-    /// The first block that has the act still before it, and has not ended.
+    /// The first block that has the act still before it, and has not ended; a cancelled block makes none.
     pub fn left_to(self, act: Act) -> Option<Blk> {
         for b in 0..self.plan.blocks() {
-            if !self.is_ended(Blk(b)) && self.is_left(Run::Block(Blk(b)), act) {
+            let is_over = self.is_ended(Blk(b)) || self.is_cancelled(Blk(b));
+            if !is_over && self.is_left(Run::Block(Blk(b)), act) {
                 return Some(Blk(b));
             }
         }

@@ -3,7 +3,7 @@ use Rattle.std.specs.Prelude.{ℕ, Option, Some, None}
 use Rattle.gcd_plan.specs.declared.numbers.Run.{Run}
 use Rattle.gcd_plan.specs.declared.numbers.Run.TheVariants.{Block, Source}
 use Rattle.gcd_event.specs.declared.event.Event.{Event}
-use Rattle.gcd_event.specs.declared.event.Event.TheVariants.{Start, Act as Acted, Wake, End, Deliver, DeliverEnd, Tick, Ready, FeedEnd, Misuse, Halt, Expire}
+use Rattle.gcd_event.specs.declared.event.Event.TheVariants.{Start, Act as Acted, Wake, End, Deliver, DeliverEnd, Tick, Ready, FeedEnd, Misuse, Halt, Expire, Accept, Shut}
 
 -- the event's worker; those of the outside are worker 0's
 abbrev pub worker_of : Event → ℕ
@@ -19,6 +19,8 @@ worker_of (FeedEnd s) = 0
 worker_of (Misuse w c r i) = w
 worker_of Halt = 0
 worker_of (Expire b) = 0
+worker_of (Accept b s) = 0
+worker_of Shut = 0
 
 -- the run that the event begins
 abbrev pub begun : Event → Option Run
@@ -34,6 +36,8 @@ begun (FeedEnd s) = None
 begun (Misuse w c r i) = None
 begun Halt = None
 begun (Expire b) = None
+begun (Accept b s) = None
+begun Shut = None
 
 -- the run that the event ends
 abbrev pub ended : Event → Option Run
@@ -49,3 +53,5 @@ ended (FeedEnd s) = None
 ended (Misuse w c r i) = None
 ended Halt = None
 ended (Expire b) = None
+ended (Accept b s) = None
+ended Shut = None

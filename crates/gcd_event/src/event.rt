@@ -3,11 +3,12 @@ ghost use Rattle.std.specs.Prelude.{IsTrue, ◌↔◌, ◌≡◌};
 ghost use Rattle.gcd_event.specs.Owners.{begun, ended, worker_of};
 
 use gcd_plan::{
-    Blk, MAX_ACTS, MAX_BLOCKS, MAX_OBJECTS, MAX_TIME, MAX_VALUE, MAX_WORKERS, MisuseCode, Obj, Run,
+    Blk, MAX_ACTS, MAX_BLOCKS, MAX_OBJECTS, MAX_SENDERS, MAX_TIME, MAX_VALUE, MAX_WORKERS,
+    MisuseCode, Obj, Run,
 };
 
-/// What happened, in one atomic step. Tick, Ready, FeedEnd, Halt and Expire are worker 0's (this project's own rule:
-/// libdispatch keeps no journal).
+/// What happened, in one atomic step. Tick, Ready, FeedEnd, Halt, Expire, Accept and Shut are worker 0's (this project's own
+/// rule: libdispatch keeps no journal).
 #[derive(Clone, Copy, Debug, PartialEq, Eq)]
 pub enum Event {
     /// The worker started the block (dispatch_async(3)).
@@ -68,6 +69,13 @@ pub enum Event {
     Expire {
         blk: Blk,
     },
+    /// A job that this sender, from 0, gave from outside was accepted as the block of the intake (this project's own rule).
+    Accept {
+        blk: Blk,
+        sender: u8,
+    },
+    /// The intake is shut: no job is accepted any more (this project's own rule).
+    Shut,
 }
 
 impl Event {
@@ -75,7 +83,8 @@ impl Event {
 
     /// Whether the event's fields are in their ranges: a worker below [`MAX_WORKERS`], a block below [`MAX_BLOCKS`], a
     /// source from 1 to below [`MAX_OBJECTS`], an index below [`MAX_ACTS`], a time from 1 to [`MAX_TIME`], bytes from 1 to
-    /// [`MAX_VALUE`], a code from 1 to [`MisuseCode::LAST`].
+    /// [`MAX_VALUE`], a code from 1 to [`MisuseCode::LAST`], a sender below [`MAX_SENDERS`]; an accepted block is not block 0,
+    /// `main`.
     pub fn fits(&self) -> bool
         ensures { IsTrue result ↔ IsFitting self.now }
     {
@@ -105,10 +114,12 @@ impl Event {
             }
             Event::Halt => true,
             Event::Expire { blk } => is_block(*blk),
+            Event::Accept { blk, sender } => 1 <= blk.0 && is_block(*blk) && is_sender(*sender),
+            Event::Shut => true,
         }
     }
 
-    /// The event's worker; those of the outside (Tick, Ready, FeedEnd, Halt, Expire) are worker 0's.
+    /// The event's worker; those of the outside (Tick, Ready, FeedEnd, Halt, Expire, Accept, Shut) are worker 0's.
     #[inline(always)]
     pub fn worker(&self) -> u8
         ensures { result ≡ worker_of self.now }
@@ -122,7 +133,7 @@ impl Event {
             Event::DeliverEnd { worker, .. } => worker,
             Event::Misuse { worker, .. } => worker,
             Event::Tick { .. } | Event::Ready { .. } | Event::FeedEnd { .. } | Event::Halt => 0,
-            Event::Expire { .. } => 0,
+            Event::Expire { .. } | Event::Accept { .. } | Event::Shut => 0,
         }
     }
 
@@ -137,7 +148,7 @@ impl Event {
             Event::Act { .. } | Event::Wake { .. } => None,
             Event::End { .. } | Event::DeliverEnd { .. } | Event::Misuse { .. } => None,
             Event::Tick { .. } | Event::Ready { .. } | Event::FeedEnd { .. } | Event::Halt => None,
-            Event::Expire { .. } => None,
+            Event::Expire { .. } | Event::Accept { .. } | Event::Shut => None,
         }
     }
 
@@ -152,17 +163,23 @@ impl Event {
             Event::Start { .. } | Event::Act { .. } | Event::Wake { .. } => None,
             Event::Deliver { .. } | Event::Misuse { .. } => None,
             Event::Tick { .. } | Event::Ready { .. } | Event::FeedEnd { .. } | Event::Halt => None,
-            Event::Expire { .. } => None,
+            Event::Expire { .. } | Event::Accept { .. } | Event::Shut => None,
         }
     }
 }
 
-ghost use Rattle.gcd_event.specs.Fits.{IsWorker, IsBlock, IsSource, IsRun, IsIndex};
+ghost use Rattle.gcd_event.specs.Fits.{IsWorker, IsSender, IsBlock, IsSource, IsRun, IsIndex};
 
 fn is_worker(worker: u8) -> bool
     ensures { IsTrue result ↔ IsWorker worker }
 {
     u32::from(worker) < MAX_WORKERS
+}
+
+fn is_sender(sender: u8) -> bool
+    ensures { IsTrue result ↔ IsSender sender }
+{
+    u32::from(sender) < MAX_SENDERS
 }
 
 fn is_block(b: Blk) -> bool

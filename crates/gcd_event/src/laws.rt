@@ -5,7 +5,6 @@ ghost use Rattle.gcd_event.specs.Fits.{IsFitting};
 ghost use Rattle.gcd_event.specs.Words.{word_of};
 
 /// Two fitting events that have one word are one event (this project's own rule).
-#[tactic(auto, using(crate::proofs::WordLemmas::same_from_word))]
 pub fn words_are_injective()
     ensures { (a b : Event) → IsFitting a → IsFitting b → word_of a ≡ word_of b → a ≡ b }
 {}

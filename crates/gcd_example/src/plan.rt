@@ -57,5 +57,7 @@ pub fn plan_of_stations(alloc: Global) -> Result<Option<Plan>, AllocError> {
         blocks: blocks(alloc)?,
         files: Vec::new(alloc),
         until: 1_000,
+        intake: None,
+        strips: Vec::new(alloc),
     }))
 }

@@ -1,6 +1,8 @@
 pub mod Lists
 pub mod LawfulLemmas
 pub mod Reasons
+pub mod OpenIntake
+pub mod MadeBlocks
 pub mod Fitting
 mod Samples
 mod SampleLaws
@@ -9,6 +11,10 @@ mod RowsObjects
 mod RowsGroups
 mod RowsSources
 mod RowsReplace
+mod RowsStrips
+mod RowsBlocks
+mod RowsIntake
+mod RowsOfBlockLaws
 mod RowsLimits
 mod RowsForged
 mod RowsReasons
@@ -16,6 +22,7 @@ mod RowsValues
 mod RowsOfLaws
 pub mod RunsOpen
 pub mod StartedOnce
+pub mod CancelledStays
 pub mod Sums
 pub mod SubmittedOnce
 pub mod InOrder
@@ -43,3 +50,9 @@ pub mod OneState
 pub mod Counts
 pub mod FeedsDie
 mod NotEmpty
+pub mod CancelledBlocks
+pub mod AcceptedInOrder
+pub mod StripsRun
+pub mod NotifiedOnce
+pub mod PublicBlockLaws
+pub mod AcceptsStay

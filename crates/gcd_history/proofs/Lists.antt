@@ -154,6 +154,13 @@ any_map p f (x ∷ xs) h =
     ⊎_elim (λ here. or_left (p (f x)) (list_any p (map f xs)) here) (λ later. or_right (p (f x)) (list_any p (map f xs)) (any_map p f xs later))
     (or_cases (p (f x)) (list_any (λ y. p (f y)) xs) h)
 
+-- a wider test
+pub all_wider : {X : Type 0} → (p q : X → Bool) (xs : List X) → ((x : X) → p x ≡ true → q x ≡ true) → list_all p xs ≡ true → list_all q xs ≡ true
+all_wider p q [] wider h = refl
+all_wider p q (x ∷ xs) wider h =
+    let parts = and_parts (p x) (list_all p xs) h in
+    and_from (q x) (list_all q xs) (wider x parts.0) (all_wider p q xs wider parts.1)
+
 pub all_flat : {X Y : Type 0} → (p : Y → Bool) (f : X → List Y) (xs : List X) → ((x : X) → list_all p (f x) ≡ true) → list_all p (flat_map f xs) ≡ true
 all_flat p f [] h = refl
 all_flat p f (x ∷ xs) h = list_all-append p (f x) (flat_map f xs) ∙ and_from (list_all p (f x)) (list_all p (flat_map f xs)) (h x) (all_flat p f xs h)

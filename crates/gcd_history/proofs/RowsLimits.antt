@@ -125,7 +125,7 @@ abbrev expired_once : List Event
 expired_once = journal_with expiring (Tick 20 ∷ Expire (b 0) ∷ [])
 
 expiring_plan : IsPlan expiring
-expiring_plan = plan_from expiring refl refl refl refl
+expiring_plan = plan_from expiring refl refl refl refl refl refl
 
 expiring_lawful : IsLawful expiring expired_once
 unfolding words
@@ -133,7 +133,7 @@ expiring_lawful = lawful_row expiring expired_once refl
 
 expiring_drained : IsDrained expiring expired_once
 unfolding words words_of_history
-expiring_drained = drained_row expiring expired_once expiring_plan expiring_lawful refl refl refl refl refl refl refl
+expiring_drained = drained_row expiring expired_once expiring_plan expiring_lawful refl refl refl refl refl refl refl refl
 
 -- event 4 is the Wake of main, whose wait is over since event 3, its Expire, though it has not passed, and never does
 expiring_premise : (slice_get expired_once 4 ≡ Some (Wake 0 (b 0)))

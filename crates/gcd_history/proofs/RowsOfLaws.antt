@@ -28,7 +28,7 @@ abbrev one_async : PlanView
 one_async = plan_of (serial (codes "q") 0 ∷ []) (Async (o 1) (b 1) ∷ []) (block (codes "b1") [] ∷ [])
 
 once_plan : IsPlan one_async
-once_plan = plan_from one_async refl refl refl refl
+once_plan = plan_from one_async refl refl refl refl refl refl
 
 once_lawful : IsLawful one_async whole
 unfolding words
@@ -36,7 +36,7 @@ once_lawful = lawful_row one_async whole refl
 
 once_drained : IsDrained one_async whole
 unfolding words words_of_history
-once_drained = drained_row one_async whole once_plan once_lawful refl refl refl refl refl refl refl
+once_drained = drained_row one_async whole once_plan once_lawful refl refl refl refl refl refl refl refl
 
 -- event 3 is the Start of b1, which is submitted then and has not started; it starts once, and ends once
 once_premise : (slice_get whole 3 ≡ Some (Start 0 (b 1)))
@@ -56,7 +56,7 @@ once_refused = (refl, refl)
 
 -- queue q serial; queue r serial; block b3; block b1; sync r b3; block b2; main; async q b1; async q b2
 order_plan : IsPlan sync_apart
-order_plan = plan_from sync_apart refl refl refl refl
+order_plan = plan_from sync_apart refl refl refl refl refl refl
 
 order_lawful : IsLawful sync_apart (journal sync_apart)
 unfolding words
@@ -95,7 +95,7 @@ abbrev two_open : List Event
 two_open = Start 0 (b 0) ∷ Acted 0 (run 0) 0 ∷ Acted 0 (run 0) 1 ∷ Acted 0 (run 0) 2 ∷ End 0 (b 0) ∷ Start 0 (b 1) ∷ Start 1 (b 3) ∷ []
 
 exclusion_plan : IsPlan beneath_and_beside
-exclusion_plan = plan_from beneath_and_beside refl refl refl refl
+exclusion_plan = plan_from beneath_and_beside refl refl refl refl refl refl
 
 exclusion_lawful : IsLawful beneath_and_beside two_open
 unfolding words
@@ -133,7 +133,7 @@ barrier_open = Start 0 (b 0) ∷ Acted 0 (run 0) 0 ∷ Acted 0 (run 0) 1 ∷ Act
     ∷ Start 0 (b 1) ∷ End 0 (b 1) ∷ Start 0 (b 2) ∷ Start 1 (b 4) ∷ []
 
 barrier_plan : IsPlan with_barrier
-barrier_plan = plan_from with_barrier refl refl refl refl
+barrier_plan = plan_from with_barrier refl refl refl refl refl refl
 
 barrier_lawful : IsLawful with_barrier barrier_open
 unfolding words
@@ -161,7 +161,7 @@ far_above = plan_of (serial (codes "g") 0 ∷ serial (codes "p") 1 ∷ serial (c
     (block (codes "b1") [] ∷ [])
 
 free_plan : IsPlan far_above
-free_plan = plan_from far_above refl refl refl refl
+free_plan = plan_from far_above refl refl refl refl refl refl
 
 free_lawful : IsLawful far_above (journal far_above)
 unfolding words
@@ -195,7 +195,7 @@ waits_thrice = plan_of (semaphore (codes "s") 0 ∷ group (codes "g") ∷ serial
     (block (codes "x") [] ∷ block (codes "y") [] ∷ block (codes "z") (Signal (o 1) ∷ []) ∷ [])
 
 waits_plan : IsPlan waits_thrice
-waits_plan = plan_from waits_thrice refl refl refl refl
+waits_plan = plan_from waits_thrice refl refl refl refl refl refl
 
 waits_lawful : IsLawful waits_thrice (journal waits_thrice)
 unfolding words
@@ -203,7 +203,7 @@ waits_lawful = lawful_row waits_thrice (journal waits_thrice) refl
 
 waits_drained : IsDrained waits_thrice (journal waits_thrice)
 unfolding words words_of_history
-waits_drained = drained_row waits_thrice (journal waits_thrice) waits_plan waits_lawful refl refl refl refl refl refl refl
+waits_drained = drained_row waits_thrice (journal waits_thrice) waits_plan waits_lawful refl refl refl refl refl refl refl refl
 
 -- events 4, 9 and 15 are Wakes of main, for the end of x, for group g and for the first wait on s
 waits_premise : (map (slice_get (journal waits_thrice)) (4 ∷ 9 ∷ 15 ∷ []) ≡ Some (Wake 0 (b 0)) ∷ Some (Wake 0 (b 0)) ∷ Some (Wake 0 (b 0)) ∷ [])
@@ -236,7 +236,7 @@ delivered_twice = Start 0 (b 0) ∷ Acted 0 (run 0) 0 ∷ Acted 0 (run 0) 1 ∷ 
     ∷ Deliver 0 (o 1) ∷ Start 1 (b 1) ∷ Acted 1 (run 1) 0 ∷ End 1 (b 1) ∷ DeliverEnd 0 (o 1) ∷ Deliver 0 (o 1) ∷ DeliverEnd 0 (o 1) ∷ []
 
 merged_plan : IsPlan (merged_twice Add)
-merged_plan = plan_from (merged_twice Add) refl refl refl refl
+merged_plan = plan_from (merged_twice Add) refl refl refl refl refl refl
 
 merged_lawful : IsLawful (merged_twice Add) delivered_twice
 unfolding words
@@ -276,7 +276,7 @@ replace_premise = (refl, refl, refl, refl)
 
 -- queue t serial; queue q serial; block b1; target q t; block b2; block c; main; async q b1; async q b2; async t c
 tree_plan : IsPlan moved
-tree_plan = plan_from moved refl refl refl refl
+tree_plan = plan_from moved refl refl refl refl refl refl
 
 tree_lawful : IsLawful moved (journal moved)
 unfolding words
@@ -315,7 +315,7 @@ delivers_refused = refl
 
 -- main is open, worker 1 has started w and waits for g, which is empty for a moment at event 5
 facts_plan : IsPlan emptied_once
-facts_plan = plan_from emptied_once refl refl refl refl
+facts_plan = plan_from emptied_once refl refl refl refl refl refl
 
 abbrev emptied : List Event
 emptied = waits_from_the_start ++ Acted 0 (run 0) 2 ∷ Acted 0 (run 0) 3 ∷ []
@@ -353,7 +353,7 @@ abbrev fed : List Event
 fed = Start 0 (b 0) ∷ Acted 0 (run 0) 0 ∷ Ready (o 1) 4 ∷ Acted 0 (run 0) 1 ∷ End 0 (b 0) ∷ []
 
 fed_plan : IsPlan reads_once
-fed_plan = plan_from reads_once refl refl refl refl
+fed_plan = plan_from reads_once refl refl refl refl refl refl
 
 fed_lawful : IsLawful reads_once fed
 unfolding words

@@ -8,9 +8,10 @@ use Rattle.gcd_plan.specs.declared.numbers.Blk.{Blk}
 use Rattle.gcd_plan.specs.declared.numbers.Run.{Run}
 use Rattle.gcd_plan.specs.declared.numbers.Run.TheVariants.{Block, Source}
 use Rattle.gcd_event.specs.declared.event.Event.{Event}
-use Rattle.gcd_event.specs.declared.event.Event.TheVariants.{Start, Act as Acted, Wake, End, Deliver, DeliverEnd, Tick, Ready, FeedEnd, Misuse, Halt, Expire}
+use Rattle.gcd_event.specs.declared.event.Event.TheVariants.{Start, Act as Acted, Wake, End, Deliver, DeliverEnd, Tick, Ready, FeedEnd, Misuse, Halt, Expire, Accept, Shut}
 use Rattle.gcd_event.specs.Owners.{worker_of as worker_by}
 use Rattle.gcd_history.specs.Runs.{open_runs, acts_done, is_ended}
+use Rattle.gcd_history.specs.Intake.{is_intake_open}
 use Rattle.gcd_history.specs.Submitted.{submitted}
 use Rattle.gcd_history.specs.Parked.{has_run}
 use Rattle.gcd_history.specs.Due.{next_due}
@@ -79,18 +80,22 @@ is_work (FeedEnd s) = false
 is_work (Misuse w c r i) = true
 is_work Halt = false
 is_work (Expire b) = false
+is_work (Accept b s) = false
+is_work Shut = false
 
 -- the event's worker; those of the outside are worker 0's
 abbrev pub worker_of : Event → ℕ
 worker_of e = worker_by e
 
--- not halted, no event of any worker and no Expire is permitted, no due time is left, and no read source is live
+-- not halted, no event of any worker and no Expire is permitted, no due time is left, no read source is live, and no intake is
+-- open
 pub record IsQuiescent (plan : PlanView) (past : List Event) : Type 0 where
   pub goes_on : is_halted past ≡ false
   pub no_work : (e : Event) → is_work e ≡ true → permitted plan past e ≡ false
   pub no_expiry : (b : Blk) → permitted plan past (Expire b) ≡ false
   pub no_time : next_due plan past ≡ None
   pub no_feed : (s : ℕ) → is_live_feed plan past s ≡ false
+  pub no_intake : is_intake_open plan past ≡ false
 
 -- each block that was submitted has ended
 abbrev pub all_ended : PlanView → List Event → Bool

@@ -23,7 +23,8 @@ ends_in_misuse h = permitted.ends_in_misuse (reverse h)
 unfoldable pub ends_in_halt : List Event → Bool
 ends_in_halt h = permitted.ends_in_halt (reverse h)
 
--- not halted, no event of any worker and no Expire is permitted, no due time is left, and no read source is live
+-- not halted, no event of any worker and no Expire is permitted, no due time is left, no read source is live, and no intake is
+-- open
 unfoldable pub IsQuiescent : PlanView → List Event → Type 0
 IsQuiescent plan h = choice.IsQuiescent plan (reverse h)
 

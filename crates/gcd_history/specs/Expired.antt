@@ -4,7 +4,7 @@ use Rattle.std.specs.Prelude.{ℕ, ◌==◌, Bool, false, ◌||◌, if◌then◌
 use Rattle.std.specs.Option.{option_map_or}
 use Rattle.gcd_plan.specs.declared.numbers.Run.TheVariants.{Block}
 use Rattle.gcd_event.specs.declared.event.Event.{Event}
-use Rattle.gcd_event.specs.declared.event.Event.TheVariants.{Start, Act as Acted, Wake, End, Deliver, DeliverEnd, Tick, Ready, FeedEnd, Misuse, Halt, Expire}
+use Rattle.gcd_event.specs.declared.event.Event.TheVariants.{Start, Act as Acted, Wake, End, Deliver, DeliverEnd, Tick, Ready, FeedEnd, Misuse, Halt, Expire, Accept, Shut}
 use Rattle.gcd_history.specs.Runs.{same_run}
 
 -- the position of block b's last act
@@ -27,6 +27,8 @@ expires past (Ready s n) position = false
 expires past (FeedEnd s) position = false
 expires past (Misuse w c r i) position = false
 expires past Halt position = false
+expires past (Accept c s) position = false
+expires past Shut position = false
 
 -- the wait of the act at this position has expired: an Expire of its block stands after the act and before the block's next act
 abbrev pub has_expired : List Event → (position : ℕ) → Bool

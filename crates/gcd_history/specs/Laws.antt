@@ -1,23 +1,26 @@
 -- What holds of every lawful history, the oldest event first (this project's own rule, where a definition names no page).
-use Rattle.std.specs.Prelude.{◌≡◌, ◌≤◌, ◌<◌, ◌+◌, ◌-◌, length, ℕ, ◌==◌, Bool, true, false, ◌||◌, List, [], take, Option, Some, None, unwrap_or, slice_get, count_by, IsTrue, AllPairs}
+use Rattle.std.specs.Prelude.{◌≡◌, ◌≤◌, ◌<◌, ◌+◌, ◌-◌, ◌&&◌, length, ℕ, ◌==◌, Bool, true, false, ◌||◌, if◌then◌else◌, List, [], ◌∷◌, ◌++◌, take, drop, Option, Some, None, unwrap_or, slice_get, count_by, IsTrue, All, AllPairs}
+use Rattle.std.specs.List.{list_any, filter_map}
 use Rattle.gcd_plan.specs.PlanView.{PlanView}
 use Rattle.gcd_plan.specs.Chains.{is_in}
+use Rattle.gcd_plan.specs.Made.{strip_blocks, intake_blocks}
 use Rattle.gcd_plan.specs.Kinds.{is_exclusive, has_barriers, has_kind, is_replace_kind}
 use Rattle.gcd_plan.specs.declared.act.Act.{Act}
-use Rattle.gcd_plan.specs.declared.act.Act.TheVariants.{Async, Barrier, Sync, BarrierSync, GroupAsync, Notify, Enter, Leave, GroupWait, GroupWaitFor, Signal, Wait, WaitFor, Suspend, Resume, Activate, Target, Merge, Cancel, Retain, Release}
+use Rattle.gcd_plan.specs.declared.act.Act.TheVariants.{Async, Barrier, Sync, BarrierSync, GroupAsync, Notify, Enter, Leave, GroupWait, GroupWaitFor, Signal, Wait, WaitFor, Suspend, Resume, Activate, Target, Merge, Cancel, Retain, Release, Apply, CancelBlock, WaitBlock, NotifyBlock}
 use Rattle.gcd_plan.specs.declared.numbers.Run.{Run}
 use Rattle.gcd_plan.specs.declared.numbers.Blk.{Blk}
 use Rattle.gcd_plan.specs.declared.numbers.Obj.{Obj}
 use Rattle.gcd_plan.specs.declared.numbers.Run.TheVariants.{Block, Source}
 use Rattle.gcd_plan.specs.declared.reason.Reason.{Reason}
 use Rattle.gcd_event.specs.declared.event.Event.{Event}
-use Rattle.gcd_event.specs.declared.event.Event.TheVariants.{Start, Wake, Deliver}
+use Rattle.gcd_event.specs.declared.event.Event.TheVariants.{Start, Act as Acted, Wake, End, Deliver, DeliverEnd, Tick, Ready, FeedEnd, Misuse, Halt, Expire, Accept, Shut}
 use Rattle.gcd_history.specs.declared.state.State.{State}
 use Rattle.gcd_history.specs.declared.submission.Submission.{Submission}
-use Rattle.gcd_history.specs.Runs.{starts, ends, act_of}
+use Rattle.gcd_history.specs.Runs.{starts, ends, act_of, act_at, same_run}
+use Rattle.gcd_history.specs.Intake.{accepted}
 use Rattle.gcd_history.specs.Semas.{wait_count}
 use Rattle.gcd_history.specs.Permitted.{is_on}
-use Rattle.gcd_history.specs.History.{is_started, is_submitted, submitted_of, chain_of_run, is_free, awaited_of, is_over, has_expired, semaphore_wait_expired, expiry_of, inputs_of, new_inputs_of, received_of, pending_of, merged_of, is_open, OverlapAt, Overlap, node_of, is_active, chain_of, node_of_run, is_barrier_on, group_wait_passes, semaphore_wait_passes, why, choice_of, running_of, next_due_of, is_live_feed}
+use Rattle.gcd_history.specs.History.{is_started, is_submitted, submitted_of, chain_of_run, is_free, awaited_of, is_over, has_expired, semaphore_wait_expired, expiry_of, inputs_of, new_inputs_of, received_of, pending_of, merged_of, is_open, OverlapAt, Overlap, node_of, is_active, chain_of, node_of_run, is_barrier_on, group_wait_passes, semaphore_wait_passes, why, choice_of, running_of, next_due_of, is_live_feed, is_block_cancelled, is_ended, is_intake_open}
 use Rattle.gcd_history.specs.Choice.{is_work, worker_of}
 use Rattle.gcd_history.specs.Ends.{is_halted, HasState}
 use Rattle.gcd_history.specs.Sources.{joined}
@@ -101,6 +104,10 @@ waits_for g (Some (Merge o n)) = false
 waits_for g (Some (Cancel o)) = false
 waits_for g (Some (Retain o)) = false
 waits_for g (Some (Release o)) = false
+waits_for g (Some (Apply q a)) = false
+waits_for g (Some (CancelBlock b)) = false
+waits_for g (Some (WaitBlock b)) = false
+waits_for g (Some (NotifyBlock b q c)) = false
 
 -- each wait on a group has passed or expired (dispatch_group_wait(3))
 abbrev pub GroupWaitsEnd : PlanView → List Event → Type 0
@@ -186,8 +193,8 @@ pub record HasSomeState (plan : PlanView) (h : List Event) : Type 0 where
   pub state : State
   pub come_to : HasState plan h state
 
--- nothing goes on: not halted, no run is open and unparked, worker 0 has no choice, no wait may expire, no due time is left, and
--- no read source is live (this project's own rule)
+-- nothing goes on: not halted, no run is open and unparked, worker 0 has no choice, no wait may expire, no due time is left, no
+-- read source is live, and no intake is open (this project's own rule)
 pub record IsAtRest (plan : PlanView) (h : List Event) : Type 0 where
   pub unhalted : is_halted h ≡ false
   pub idle : running_of plan h ≡ 0
@@ -195,3 +202,58 @@ pub record IsAtRest (plan : PlanView) (h : List Event) : Type 0 where
   pub no_expiry : expiry_of plan h ≡ None
   pub no_time : next_due_of plan h ≡ None
   pub no_feed : (s : ℕ) → is_live_feed plan h s ≡ false
+  pub no_intake : is_intake_open plan h ≡ false
+
+-- ## Blocks that a plan makes, and cancelled blocks
+
+-- block b starts once and ends once among the events from one position on and before another
+pub record RunsBetween (h : List Event) (from to : ℕ) (b : Blk) : Type 0 where
+  pub starts_once : count_by (starts b.0) (drop from (take to h)) ≡ 1
+  pub ends_once : count_by (ends b.0) (drop from (take to h)) ≡ 1
+
+-- where a Wake of the block that applied a strip stands after that act, each block of the strip has started once and ended once
+-- after the act and before the Wake (dispatch_apply(3))
+abbrev pub AppliedStripsHaveRun : PlanView → List Event → Type 0
+AppliedStripsHaveRun plan h =
+    (i k w v n a : ℕ) (b : Blk) (q : Obj) → slice_get h i ≡ Some (Acted w (Block b) n) → act_at plan (Block b) n ≡ Some (Apply q a)
+    → slice_get h k ≡ Some (Wake v b) → i < k → All (RunsBetween h i k) (strip_blocks plan a)
+
+-- no act of a cancelled block stands (dispatch_block_cancel(3))
+abbrev pub CancelledBlocksDoNothing : PlanView → List Event → Type 0
+CancelledBlocksDoNothing plan h =
+    (i w n : ℕ) (b : Blk) → slice_get h i ≡ Some (Acted w (Block b) n) → is_block_cancelled plan h b.0 ≡ false
+
+-- the End of a cancelled block may follow its Start at once (dispatch_block_cancel(3))
+abbrev pub CancelledBlocksMayEnd : PlanView → List Event → Type 0
+CancelledBlocksMayEnd plan h =
+    (w : ℕ) (b : Blk) → IsTrue (is_block_cancelled plan h b.0) → why plan h (Start w b) ≡ None
+    → why plan (h ++ Start w b ∷ []) (End w b) ≡ None
+
+-- the event records act n of the run
+abbrev pub records : Run → ℕ → Event → Bool
+records run n (Acted w r i) = same_run r run && i == n
+records run n (Start w b) = false
+records run n (Wake w b) = false
+records run n (End w b) = false
+records run n (Deliver w s) = false
+records run n (DeliverEnd w s) = false
+records run n (Tick t) = false
+records run n (Ready s m) = false
+records run n (FeedEnd s) = false
+records run n (Misuse w c r i) = false
+records run n Halt = false
+records run n (Expire b) = false
+records run n (Accept b s) = false
+records run n Shut = false
+
+-- the block of a notify_block act is submitted once where that act and the End that it waits for both stand, and else never
+-- (dispatch_block_notify(3))
+abbrev pub NotifiedOnce : PlanView → List Event → Type 0
+NotifiedOnce plan h =
+    (run : Run) (n : ℕ) (b c : Blk) (q : Obj) → act_at plan run n ≡ Some (NotifyBlock b q c)
+    → count_by (λ s. s.blk.0 == c.0) (submitted_of plan h) ≡ (if list_any (records run n) h && is_ended h b.0 then 1 else 0)
+
+-- the blocks of the intake are accepted in order, each once, and none after the Shut (this project's own rule)
+pub record AcceptsInOrder (plan : PlanView) (h : List Event) : Type 0 where
+  pub in_order : filter_map accepted h ≡ take (length (filter_map accepted h)) (intake_blocks plan)
+  pub before_shut : (i k s : ℕ) (b : Blk) → slice_get h i ≡ Some (Accept b s) → slice_get h k ≡ Some Shut → i < k

@@ -1,16 +1,17 @@
 -- Which blocks are parked, what they wait for, and which runs a worker has (dispatch_sync(3), dispatch_group_wait(3),
--- dispatch_semaphore_wait(3)).
+-- dispatch_semaphore_wait(3), dispatch_apply(3), dispatch_block_wait(3)).
 use Rattle.std.specs.Prelude.{ℕ, ◌+◌, ◌==◌, Bool, false, ◌&&◌, ◌||◌, if◌then◌else◌, List, [], ◌∷◌, length, Option, Some, None, is_some, is_none, count_by}
 use Rattle.std.specs.Option.{option_map_or}
-use Rattle.std.specs.List.{list_any}
+use Rattle.std.specs.List.{list_any, list_all}
 use Rattle.gcd_plan.specs.Acts.{parks}
 use Rattle.gcd_plan.specs.PlanView.{PlanView}
+use Rattle.gcd_plan.specs.Made.{strip_blocks}
 use Rattle.gcd_plan.specs.declared.act.Act.{Act}
-use Rattle.gcd_plan.specs.declared.act.Act.TheVariants.{Async, Barrier, Sync, BarrierSync, GroupAsync, Notify, Enter, Leave, GroupWait, GroupWaitFor, Signal, Wait, WaitFor, Suspend, Resume, Activate, Target, Merge, Cancel, Retain, Release}
+use Rattle.gcd_plan.specs.declared.act.Act.TheVariants.{Async, Barrier, Sync, BarrierSync, GroupAsync, Notify, Enter, Leave, GroupWait, GroupWaitFor, Signal, Wait, WaitFor, Suspend, Resume, Activate, Target, Merge, Cancel, Retain, Release, Apply, CancelBlock, WaitBlock, NotifyBlock}
 use Rattle.gcd_plan.specs.declared.numbers.Run.{Run}
 use Rattle.gcd_plan.specs.declared.numbers.Run.TheVariants.{Block}
 use Rattle.gcd_plan.specs.declared.reason.Reason.{Reason}
-use Rattle.gcd_plan.specs.declared.reason.Reason.TheVariants.{Block as EndOf, Group, Rank}
+use Rattle.gcd_plan.specs.declared.reason.Reason.TheVariants.{Block as EndOf, Group, Strip, Rank}
 use Rattle.gcd_event.specs.declared.event.Event.{Event}
 use Rattle.gcd_event.specs.declared.event.Event.TheVariants.{Act as Acted, Wake}
 use Rattle.gcd_history.specs.Runs.{same_run, opens, is_open, open_runs, act_at, last_worker, is_ended}
@@ -19,7 +20,7 @@ use Rattle.gcd_history.specs.Groups.{group_passes}
 use Rattle.gcd_history.specs.Semas.{wait_count, passes, is_expired_wait}
 
 -- what the act, recorded after past, makes its block wait for (dispatch_sync(3), dispatch_barrier_sync(3),
--- dispatch_group_wait(3), dispatch_semaphore_wait(3))
+-- dispatch_group_wait(3), dispatch_semaphore_wait(3), dispatch_apply(3), dispatch_block_wait(3))
 abbrev pub awaited_by : PlanView → List Event → Option Act → Option Reason
 awaited_by plan past None = None
 awaited_by plan past (Some (Async q b)) = None
@@ -43,6 +44,10 @@ awaited_by plan past (Some (Merge s n)) = None
 awaited_by plan past (Some (Cancel s)) = None
 awaited_by plan past (Some (Retain o)) = None
 awaited_by plan past (Some (Release o)) = None
+awaited_by plan past (Some (Apply q a)) = Some (Strip a)
+awaited_by plan past (Some (CancelBlock b)) = None
+awaited_by plan past (Some (WaitBlock b)) = Some (EndOf b)
+awaited_by plan past (Some (NotifyBlock b q c)) = None
 
 -- the act parks its block until a Wake
 abbrev pub is_parking : Option Act → Bool
@@ -77,18 +82,20 @@ has_run plan past w run =
 unfoldable pub is_busy : PlanView → List Event → ℕ → Bool
 is_busy plan past w = list_any (has_run plan past w) (open_runs past)
 
--- what is waited for has come: the block has ended, or the wait passes (dispatch_sync(3), dispatch_group_wait(3),
--- dispatch_semaphore_wait(3))
+-- what is waited for has come: the block has ended, the wait passes, or all blocks of the strip have ended (dispatch_sync(3),
+-- dispatch_block_wait(3), dispatch_group_wait(3), dispatch_apply(3), dispatch_semaphore_wait(3))
 unfoldable pub has_come : PlanView → List Event → Reason → Bool
 has_come plan past (EndOf b) = is_ended past b.0
 has_come plan past (Group g position) = group_passes plan past g.0 position
+has_come plan past (Strip a) = list_all (λ b. is_ended past b.0) (strip_blocks plan a)
 has_come plan past (Rank s k) = passes plan past s.0 k
 
--- the wait has expired; a wait for the end of a block has no limit, and never does (dispatch_group_wait(3),
+-- the wait has expired; a wait for the end of a block or of a strip has no limit, and never does (dispatch_group_wait(3),
 -- dispatch_semaphore_wait(3))
 unfoldable pub has_run_out : PlanView → List Event → Reason → Bool
 has_run_out plan past (EndOf b) = false
 has_run_out plan past (Group g position) = has_expired past position
+has_run_out plan past (Strip a) = false
 has_run_out plan past (Rank s k) = is_expired_wait plan past s.0 k
 
 -- the wait is over: what is waited for has come, or the wait has expired

@@ -1,19 +1,21 @@
 -- The report of a run: results, sources, waits and the end, a line each (this project's own rule).
-use Rattle.std.specs.Prelude.{ℕ, ◌-◌, ◌&&◌, not, if◌then◌else◌, List, [], ◌∷◌, ◌++◌, length, slice_get, is_some, codes}
+use Rattle.std.specs.Prelude.{ℕ, Bool, true, false, ◌-◌, ◌&&◌, not, if◌then◌else◌, List, [], ◌∷◌, ◌++◌, length, slice_get, sum_by, is_some, codes}
 use Rattle.std.specs.Option.{option_map_or}
-use Rattle.std.specs.List.{flat_map, range_with_len}
+use Rattle.std.specs.List.{flat_map, filter_map, range_with_len}
 use Rattle.std.specs.Fmt.{decimal}
-use Rattle.gcd_plan.specs.PlanView.{PlanView, work_of, name_of_obj, name_of_blk}
+use Rattle.gcd_plan.specs.PlanView.{PlanView, work_of, name_of_obj, name_of_blk, name_of_strip}
 use Rattle.gcd_plan.specs.Kinds.{is_source}
+use Rattle.gcd_plan.specs.declared.numbers.Blk.{Blk}
 use Rattle.gcd_plan.specs.declared.numbers.Run.{Run}
 use Rattle.gcd_plan.specs.declared.numbers.Run.TheVariants.{Block, Source}
 use Rattle.gcd_plan.specs.declared.reason.Reason.{Reason}
-use Rattle.gcd_plan.specs.declared.reason.Reason.TheVariants.{Block as EndOf, Group, Rank}
+use Rattle.gcd_plan.specs.declared.reason.Reason.TheVariants.{Block as EndOf, Group, Strip, Rank}
 use Rattle.gcd_event.specs.declared.event.Event.{Event}
 use Rattle.gcd_event.specs.declared.event.Event.TheVariants.{Misuse}
 use Rattle.gcd_history.specs.declared.state.State.{State}
 use Rattle.gcd_history.specs.declared.state.State.TheVariants.{Drained, Stuck, Misused, Halted, Live}
-use Rattle.gcd_history.specs.History.{is_submitted, is_started, is_ended, awaited_of, received_of, delivery_count_of, pending_of}
+use Rattle.gcd_history.specs.History.{is_block_cancelled, is_submitted, is_started, is_ended, awaited_of, received_of, delivery_count_of, pending_of}
+use Rattle.gcd_history.specs.Intake.{accepted_of}
 use Rattle.gcd_history.specs.Values.{value_of}
 
 -- the byte at the end of a line
@@ -25,11 +27,16 @@ abbrev pub name_of_run : PlanView → Run → List ℕ
 name_of_run plan (Block b) = name_of_blk plan b.0
 name_of_run plan (Source s) = name_of_obj plan s.0
 
--- `NAME = VALUE`, for a block with work that has ended
+-- what follows the name in a block's line: `= VALUE`, or that it is cancelled
+abbrev pub outcome : (cancelled : Bool) → ℕ → List ℕ
+outcome true value = codes " cancelled"
+outcome false value = codes " = " ++ decimal value
+
+-- `NAME = VALUE`, for a block with work that has ended; `NAME cancelled` where it is cancelled
 abbrev pub result_line : PlanView → (value : ℕ → ℕ) → List Event → ℕ → List ℕ
 result_line plan value h b =
     if is_some (work_of plan b) && is_ended h b
-    then name_of_blk plan b ++ (codes " = " ++ (decimal (value b) ++ line_end))
+    then name_of_blk plan b ++ (outcome (is_block_cancelled plan h b) (value b) ++ line_end)
     else []
 
 -- what follows the name in a source's line
@@ -46,10 +53,11 @@ source_line plan h s =
     then name_of_obj plan s ++ source_counts plan h s
     else []
 
--- the name of the block, group or semaphore that is waited for
+-- the name of the block, group, strip or semaphore that is waited for
 abbrev pub awaited_name : PlanView → Reason → List ℕ
 awaited_name plan (EndOf b) = name_of_blk plan b.0
 awaited_name plan (Group g position) = name_of_obj plan g.0
+awaited_name plan (Strip a) = name_of_strip plan a
 awaited_name plan (Rank s k) = name_of_obj plan s.0
 
 -- `NAME waits for X`, for a parked block
@@ -97,3 +105,22 @@ report_by plan value state h =
 -- the report over the files, by number
 abbrev pub report_text : PlanView → (files : List (List ℕ)) → State → List Event → List ℕ
 report_text plan files state h = report_by plan (value_of plan files) state h
+
+-- the blocks that were accepted of sender s, in order
+abbrev pub blocks_of_sender : List Event → ℕ → List Blk
+blocks_of_sender h s = filter_map (accepted_of s) h
+
+-- the value of the block, where it has ended
+abbrev pub ended_value : (value : ℕ → ℕ) → List Event → Blk → ℕ
+ended_value value h b = if is_ended h b.0 then value b.0 else 0
+
+-- `sender S accepted K total T`: how many blocks were accepted of sender s, and the values of those that have ended, in one
+abbrev pub sender_line : (value : ℕ → ℕ) → List Event → ℕ → List ℕ
+sender_line value h s =
+    codes "sender " ++ (decimal s
+    ++ (codes " accepted " ++ (decimal (length (blocks_of_sender h s))
+    ++ (codes " total " ++ (decimal (sum_by (ended_value value h) (blocks_of_sender h s)) ++ line_end)))))
+
+-- what is told of a run with so many senders: a line for each, and the end
+unfoldable pub front_text : PlanView → (senders : ℕ) → (value : ℕ → ℕ) → State → List Event → List ℕ
+front_text plan senders value state h = flat_map (sender_line value h) (range_with_len 0 senders) ++ last_line plan state h

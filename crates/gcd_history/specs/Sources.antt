@@ -6,10 +6,10 @@ use Rattle.gcd_plan.specs.PlanView.{PlanView, kind_of}
 use Rattle.gcd_plan.specs.Kinds.{has_kind, is_read_kind}
 use Rattle.gcd_plan.specs.KindValues.{folded, has_effect}
 use Rattle.gcd_plan.specs.declared.act.Act.{Act}
-use Rattle.gcd_plan.specs.declared.act.Act.TheVariants.{Async, Barrier, Sync, BarrierSync, GroupAsync, Notify, Enter, Leave, GroupWait, GroupWaitFor, Signal, Wait, WaitFor, Suspend, Resume, Activate, Target, Merge, Cancel, Retain, Release}
+use Rattle.gcd_plan.specs.declared.act.Act.TheVariants.{Async, Barrier, Sync, BarrierSync, GroupAsync, Notify, Enter, Leave, GroupWait, GroupWaitFor, Signal, Wait, WaitFor, Suspend, Resume, Activate, Target, Merge, Cancel, Retain, Release, Apply, CancelBlock, WaitBlock, NotifyBlock}
 use Rattle.gcd_plan.specs.declared.kind.Kind.{Kind}
 use Rattle.gcd_event.specs.declared.event.Event.{Event}
-use Rattle.gcd_event.specs.declared.event.Event.TheVariants.{Start, Act as Acted, Wake, End, Deliver, DeliverEnd, Tick, Ready, FeedEnd, Misuse, Halt, Expire}
+use Rattle.gcd_event.specs.declared.event.Event.TheVariants.{Start, Act as Acted, Wake, End, Deliver, DeliverEnd, Tick, Ready, FeedEnd, Misuse, Halt, Expire, Accept, Shut}
 use Rattle.gcd_history.specs.Runs.{act_at}
 use Rattle.gcd_history.specs.Holds.{is_active}
 use Rattle.gcd_history.specs.Submitted.{is_cancelled}
@@ -55,6 +55,10 @@ merged_by plan s (Some (Merge t n)) = if t.0 == s && has_effect_at plan s n then
 merged_by plan s (Some (Cancel o)) = []
 merged_by plan s (Some (Retain o)) = []
 merged_by plan s (Some (Release o)) = []
+merged_by plan s (Some (Apply q a)) = []
+merged_by plan s (Some (CancelBlock b)) = []
+merged_by plan s (Some (WaitBlock b)) = []
+merged_by plan s (Some (NotifyBlock b q c)) = []
 
 -- 1 for each due time of timer s after from, up to the tick
 abbrev pub due_inputs : PlanView → List Event → ℕ → (from to : ℕ) → List ℕ
@@ -75,6 +79,8 @@ input plan past (FeedEnd t) s = []
 input plan past (Misuse w c r i) s = []
 input plan past Halt s = []
 input plan past (Expire b) s = []
+input plan past (Accept b n) s = []
+input plan past Shut s = []
 
 -- the event is a Deliver of source s
 abbrev pub delivers : ℕ → Event → Bool

@@ -5,7 +5,7 @@ ghost use Rattle.gcd_plan.specs.Validity.{IsPlan};
 ghost use Rattle.gcd_event.specs.declared.event.Event.{Event};
 ghost use Rattle.gcd_history.specs.History.{IsLawful, running_of};
 ghost use Rattle.gcd_history.specs.Ends.{is_halted};
-ghost use Rattle.gcd_history.specs.Facts.{HasOneRun, GivesToFree, OpenOnce, RunsGoOn, IsFreeWorker, FreeWorkersAreAlike, MayWakeUntilWoken, WakesArePermitted, AllFit, OnlyActiveMove, TargetsChangeAlone, StaysActive, StaysCancelled, FeedsDie, DeadFeedsStay, DeadFeedsAreSilent};
+ghost use Rattle.gcd_history.specs.Facts.{HasOneRun, GivesToFree, OpenOnce, RunsGoOn, IsFreeWorker, FreeWorkersAreAlike, MayWakeUntilWoken, WakesArePermitted, AllFit, OnlyActiveMove, TargetsChangeAlone, StaysActive, StaysCancelled, FeedsDie, DeadFeedsStay, DeadFeedsAreSilent, AcceptsStayPermitted};
 
 /// A worker has at most one run that is open and not parked, and each Start, Wake and Deliver finds its worker without one
 /// (this project's own rule).
@@ -72,4 +72,10 @@ pub fn dead_feeds_stay_dead()
     ensures stay { (plan : PlanView) (h later : List Event) → IsLawful plan (h ++ later) → DeadFeedsStay plan h later }
     ensures silent { (plan : PlanView) (h later : List Event) → IsLawful plan (h ++ later)
         → DeadFeedsAreSilent plan h later }
+{}
+
+/// An Accept that may come may still come after any events that are not an Accept or a Shut, as long as these do not halt the
+/// run (this project's own rule).
+pub fn accepts_stay_permitted()
+    ensures { (plan : PlanView) (h later : List Event) → AcceptsStayPermitted plan h later }
 {}

@@ -9,7 +9,7 @@ ghost use Rattle.gcd_history.specs.History.{IsLawful, why, choice_of};
 ghost use Rattle.gcd_history.specs.Ends.{HasEnded, IsDrained, IsQuiescent, IsHalted, HasState};
 ghost use Rattle.gcd_history.specs.declared.state.State.{State};
 ghost use Rattle.gcd_history.specs.Values.{words_begun, begins_word};
-ghost use Rattle.gcd_history.specs.Laws.{RunsOnce, StartsAfterSubmission, AllEndOnce, IsSubmittedOnce, StartsInOrder, BeginsFree, WakesHaveCause, NoneParked, WaitsAreOver, GroupWaitsEnd, SemaphoreWaitsEnd, IsConserved, LastsAreKept, RunsExclude, BlocksOfOneNodeApart, BarriersExclude, DeliversAlone, TreeStands, IsChoiceOf, HasNoChoice, HasSomeState, IsAtRest};
+ghost use Rattle.gcd_history.specs.Laws.{RunsOnce, StartsAfterSubmission, AllEndOnce, IsSubmittedOnce, StartsInOrder, BeginsFree, WakesHaveCause, NoneParked, WaitsAreOver, GroupWaitsEnd, SemaphoreWaitsEnd, IsConserved, LastsAreKept, RunsExclude, BlocksOfOneNodeApart, BarriersExclude, DeliversAlone, TreeStands, IsChoiceOf, HasNoChoice, HasSomeState, IsAtRest, AppliedStripsHaveRun, CancelledBlocksDoNothing, CancelledBlocksMayEnd, NotifiedOnce, AcceptsInOrder};
 
 /// Each block starts at most once, after its submission, and ends at most once; where the run is drained each submitted
 /// block has ended exactly once (dispatch_async(3)).
@@ -63,7 +63,8 @@ pub fn runs_begin_free()
 
 /// A Wake stands only where what its block waits for had come, or where its wait had expired; where the run is drained no block
 /// is parked, and whatever a block has waited for has come, or its wait has expired, so every group wait and every semaphore
-/// wait has passed or expired (dispatch_sync(3), dispatch_group_wait(3), dispatch_semaphore_wait(3)).
+/// wait has passed or expired (dispatch_sync(3), dispatch_block_wait(3), dispatch_apply(3), dispatch_group_wait(3),
+/// dispatch_semaphore_wait(3)).
 pub fn wakes_have_causes()
     ensures cause { (plan : PlanView) (h : List Event) → IsLawful plan h → WakesHaveCause plan h }
     ensures none { (plan : PlanView) (h : List Event) → IsLawful plan h → IsDrained plan h
@@ -90,6 +91,29 @@ pub fn tree_stands_under_open_runs()
     ensures { (plan : PlanView) (h : List Event) → IsPlan plan → IsLawful plan h → TreeStands plan h }
 {}
 
+/// Where a Wake of the block that applied a strip stands after that act, each block of the strip has started once and ended
+/// once after the act and before the Wake (dispatch_apply(3)).
+pub fn applied_strips_have_run()
+    ensures { (plan : PlanView) (h : List Event) → IsPlan plan → IsLawful plan h → AppliedStripsHaveRun plan h }
+{}
+
+/// No act of a cancelled block stands, and its End may follow its Start at once (dispatch_block_cancel(3)).
+pub fn cancelled_blocks_do_nothing()
+    ensures nothing { (plan : PlanView) (h : List Event) → IsLawful plan h → CancelledBlocksDoNothing plan h }
+    ensures ends { (plan : PlanView) (h : List Event) → CancelledBlocksMayEnd plan h }
+{}
+
+/// The block of a `notify_block` act is submitted once where that act and the End that it waits for both stand, and else never
+/// (dispatch_block_notify(3)).
+pub fn ends_notify_once()
+    ensures { (plan : PlanView) (h : List Event) → IsPlan plan → IsLawful plan h → NotifiedOnce plan h }
+{}
+
+/// The blocks of the intake are accepted in order, each once, and none after the Shut (this project's own rule).
+pub fn blocks_are_accepted_in_order()
+    ensures { (plan : PlanView) (h : List Event) → IsLawful plan h → AcceptsInOrder plan h }
+{}
+
 /// What a worker chooses is an event of its own that is permitted; of a valid plan it chooses none exactly where no event of
 /// its own is permitted, whatever the history is and from whatever node on it looks (this project's own rule).
 pub fn choices_are_complete()
@@ -99,8 +123,8 @@ pub fn choices_are_complete()
         → HasNoChoice plan h w }
 {}
 
-/// A history is quiescent exactly where it is at rest: no run is open and unparked, worker 0 has no choice, no due time is
-/// left and no read source is live (this project's own rule).
+/// A history is quiescent exactly where it is at rest: no run is open and unparked, worker 0 has no choice, no wait may expire,
+/// no due time is left, no read source is live and no intake is open (this project's own rule).
 pub fn quiescent_is_at_rest()
     ensures quiescent { (plan : PlanView) (h : List Event) → IsPlan plan → IsLawful plan h → IsAtRest plan h
         → IsQuiescent plan h }

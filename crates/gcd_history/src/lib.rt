@@ -8,7 +8,7 @@
 //! | `History` | what may come next (`why`, `IsPermitted`, `IsLawful`, `choice_of`), and what is open, parked, submitted, held, due and pending then |
 //! | `Ends` | how a history ends: `IsHalted`, `IsQuiescent`, `IsDrained`, `IsStuck`, `IsFull`, `HasState` |
 //! | `Values` | what a block's work computes: `value_of` |
-//! | `Report`, `JournalText` | the texts of a run: `report_text`, `journal_text` |
+//! | `Report`, `JournalText` | the texts of a run: `report_text`, `front_text`, `journal_text` |
 //! | `Laws`, `Facts` | what the laws and facts below say |
 //! | the others | the same words by recursion, over the events in reverse, the newest first: `e ∷ past` is past, followed by e |
 //!
@@ -20,8 +20,8 @@
 //! lines; where these name none it is this project's own rule.
 //!
 //! A definition that sorts acts, events, kinds or states names each variant, so that the compiler refuses a new one until
-//! someone decides what it is. A test for one or two variants (`starts`, `retains`, `hold_after`) passes over all others: that
-//! is its meaning. So do the three walks `acts_done`, `last_worker` and `parked_by`, which ask `opens` of each other event,
+//! someone decides what it is. A test for one or two variants (`starts`, `retains`, `accepts`, `hold_after`) passes over all
+//! others: that is its meaning. So do the three walks `acts_done`, `last_worker` and `parked_by`, which ask `opens` of each other event,
 //! and the two walks `last_act` and `last_limit`, which look for acts.
 //!
 //! Worked rows (`proofs/Rows*`) are computed with each check: `proofs/Lib.antt` names their files, so a row that does not hold
@@ -39,6 +39,10 @@
 //! | [`laws::deliveries_exclude_each_other`] | a delivery begins where no run of its source is open |
 //! | [`laws::runs_begin_free`] | what begins, begins with its whole chain free |
 //! | [`laws::wakes_have_causes`] | a parked block wakes only when what it waits for has come, or its wait has expired |
+//! | [`laws::applied_strips_have_run`] | where the block that applied a strip has woken, each block of the strip has run in between |
+//! | [`laws::cancelled_blocks_do_nothing`] | a cancelled block makes no act, and may end at once |
+//! | [`laws::ends_notify_once`] | the block of a `notify_block` is submitted once after the End that it waits for |
+//! | [`laws::blocks_are_accepted_in_order`] | the intake's blocks are accepted in order, and none after the Shut |
 //! | [`laws::merged_data_is_conserved`] | what was merged was handed over, or is pending |
 //! | [`laws::tree_stands_under_open_runs`] | targets lead to root, and stand still under an open run |
 //! | [`laws::choices_are_complete`] | in any history of a valid plan a worker has a choice exactly where an event of its own is permitted |
@@ -50,6 +54,7 @@
 //! | [`facts::free_workers_are_alike`] | what is permitted to one free worker is permitted to every other |
 //! | [`facts::wakes_stay_due`] | a block that may wake may wake until its Wake |
 //! | [`facts::lawful_events_fit`] | each event of a lawful history fits |
+//! | [`facts::accepts_stay_permitted`] | an Accept that may come may come after events of others |
 //! | [`facts::targets_change_alone`] | only what was created active moves, and nothing is open beneath what has moved |
 //!
 //! Nothing here says that a run exists, that a worker does anything, or which of several lawful histories comes.

@@ -2,7 +2,7 @@
 use Rattle.std.specs.Prelude.{◌<◌, length}
 use Rattle.gcd_plan.specs.PlanView.{PlanView}
 use Rattle.gcd_event.specs.declared.event.Event.{Event}
-use Rattle.gcd_event.specs.declared.event.Event.TheVariants.{Start, Act as Acted, Wake, End, Deliver, DeliverEnd, Tick, Ready, FeedEnd, Misuse, Halt, Expire}
+use Rattle.gcd_event.specs.declared.event.Event.TheVariants.{Start, Act as Acted, Wake, End, Deliver, DeliverEnd, Tick, Ready, FeedEnd, Misuse, Halt, Expire, Accept, Shut}
 
 -- the block that the event ends is one of the plan's
 abbrev pub EndFits : PlanView → Event → Type 0
@@ -18,3 +18,5 @@ EndFits plan (FeedEnd s) = Unit {0}
 EndFits plan (Misuse w c r i) = Unit {0}
 EndFits plan Halt = Unit {0}
 EndFits plan (Expire b) = Unit {0}
+EndFits plan (Accept b s) = Unit {0}
+EndFits plan Shut = Unit {0}

@@ -1,6 +1,7 @@
 pub mod Begun
 pub mod Cuts
 pub mod NamesApart
+pub mod PlainNames
 pub mod LookUp
 pub mod Numbers
 pub mod Spelled

@@ -1,32 +1,30 @@
--- The names of a valid plan's blocks and sources: they are apart, and have plain bytes.
-use Rattle.std.proofs.Common.{◌≡◌, ℕ, zero, suc, ◌+◌, ◌<◌, ◌≤◌, ◌==◌, true, false, List, [], ◌∷◌, ◌++◌, length, map, Some, refl, ap, sym, ◌∙◌, arith}
-use Rattle.std.specs.List.{slice_get, list_all}
+-- The names of a valid plan's blocks and sources are apart.
+use Rattle.std.proofs.Common.{◌≡◌, ℕ, zero, suc, ◌+◌, ◌<◌, ◌≤◌, true, false, List, [], ◌++◌, length, map, Some, refl, ap, sym, ◌∙◌, arith}
+use Rattle.std.specs.List.{slice_get}
 use Rattle.std.specs.Option.{option_map, option_map_or}
 use Rattle.std.specs.Str.{bytes_eq}
-use Rattle.std.proofs.lemmas.Bool.{and_parts, ltb-true, false≢true, eqb-true, false_from_ne_true}
+use Rattle.std.proofs.lemmas.Bool.{ltb-true, false≢true}
 use Rattle.std.proofs.lemmas.Option.{slice_get-map}
-use Rattle.std.proofs.lemmas.List.{length-map}
+use Rattle.std.proofs.lemmas.List.{length-map, length-append}
 use Rattle.std.proofs.lemmas.Slice.Eq.{bytes_eq-Decides}
 use Rattle.gcd_plan.specs.PlanView.{PlanView}
 use Rattle.gcd_plan.specs.Kinds.{is_source, is_source_kind}
-use Rattle.gcd_plan.specs.Names.{is_name, is_name_byte, begins_with_letter}
 use Rattle.gcd_plan.specs.Limits.{max_blocks, max_objects}
-use Rattle.gcd_plan.specs.Validity.{IsPlan, names_of}
+use Rattle.gcd_plan.specs.Validity.{IsPlan, declared_names, names_of}
 use Rattle.gcd_event.specs.Fits.{IsRun}
 use Rattle.gcd_plan.specs.declared.numbers.Blk.{Blk}
 use Rattle.gcd_plan.specs.declared.numbers.Obj.{Obj}
 use Rattle.gcd_plan.specs.declared.numbers.Run.{Run}
 use Rattle.gcd_plan.specs.declared.numbers.Run.TheVariants.{Block, Source}
 use Rattle.gcd_plan.proofs.Places.{slice_get-append_left, slice_get_some}
-use Rattle.gcd_plan.proofs.Quantifiers.{list_all_get}
 use Rattle.gcd_history.specs.Permitted.{is_run_of}
 use Rattle.gcd_history.specs.Report.{name_of_run}
 use Rattle.gcd_history.proofs.Fitting.{has_object}
-use Rattle.gcd_journal.proofs.Cuts.{is_plain, one_place, get_second}
+use Rattle.gcd_journal.proofs.Cuts.{one_place, get_second}
 
 -- the place of a run's name among the names of the plan
 place_of : PlanView → Run → ℕ
-place_of plan (Block b) = length plan.files + (length plan.objects + b.0)
+place_of plan (Block b) = (length plan.files + (length plan.objects + length plan.strips)) + b.0
 place_of plan (Source s) = length plan.files + s.0
 
 named : {A : Type 0} (name : A → List ℕ) (xs : List A) (i : ℕ) → i < length xs → slice_get (map name xs) i ≡ Some (option_map_or name (slice_get xs i) [])
@@ -34,27 +32,36 @@ named name xs i within =
     let found = slice_get_some xs i within in
     slice_get-map name xs i ∙ ap (option_map name) found.1 ∙ ap (λ o. Some (option_map_or name o [])) (sym found.1)
 
+count_declared : (plan : PlanView) → length (declared_names plan) ≡ length plan.files + (length plan.objects + length plan.strips)
+count_declared plan =
+    let files = length-map plan.files (λ f. f.name) in
+    let objects = length-map plan.objects (λ o. o.name) in
+    let strips = length-map plan.strips (λ s. s.name) in
+    let inner = length-append (map (λ o. o.name) plan.objects) (map (λ s. s.name) plan.strips) in
+    let outer = length-append (map (λ f. f.name) plan.files) (map (λ o. o.name) plan.objects ++ map (λ s. s.name) plan.strips) in
+    omega (arith, files, objects, strips, inner, outer)
+
 at_place : (plan : PlanView) (run : Run) → is_run_of plan run ≡ true → slice_get (names_of plan) (place_of plan run) ≡ Some (name_of_run plan run)
 unfolding place_of
 at_place plan (Block b) h =
-    let files = map (λ f. f.name) plan.files in
-    let objects = map (λ o. o.name) plan.objects in
+    let declared = declared_names plan in
     let blocks = map (λ b. b.name) plan.blocks in
     let within : b.0 < length plan.blocks = ltb-true b.0 (length plan.blocks) h in
-    let few = length-map plan.files (λ f. f.name) in
-    let some = length-map plan.objects (λ o. o.name) in
-    get_second files (objects ++ blocks) (length plan.objects + b.0) (length plan.files + (length plan.objects + b.0)) (omega arith)
-    ∙ get_second objects blocks b.0 (length plan.objects + b.0) (omega arith)
+    let count = count_declared plan in
+    get_second declared blocks b.0 ((length plan.files + (length plan.objects + length plan.strips)) + b.0) (omega (arith, count))
     ∙ named (λ b. b.name) plan.blocks b.0 within
 at_place plan (Source s) h =
     let files = map (λ f. f.name) plan.files in
     let objects = map (λ o. o.name) plan.objects in
+    let strips = map (λ s. s.name) plan.strips in
     let blocks = map (λ b. b.name) plan.blocks in
     let within : s.0 < length plan.objects = has_object is_source_kind plan s.0 h in
     let few = length-map plan.files (λ f. f.name) in
     let some = length-map plan.objects (λ o. o.name) in
-    get_second files (objects ++ blocks) s.0 (length plan.files + s.0) (omega arith)
-    ∙ slice_get-append_left objects blocks s.0 (omega arith)
+    let count = count_declared plan in
+    slice_get-append_left (declared_names plan) blocks (length plan.files + s.0) (omega (arith, count, within))
+    ∙ get_second files (objects ++ strips) s.0 (length plan.files + s.0) (omega (arith, few))
+    ∙ slice_get-append_left objects strips s.0 (omega (arith, some, within))
     ∙ named (λ o. o.name) plan.objects s.0 within
 
 same_block : (b c : Blk) → b.0 ≡ c.0 → b ≡ c
@@ -79,27 +86,6 @@ runs_apart plan r q valid h k same =
     let other : bytes_eq name (name_of_run plan q) ≡ true = (bytes_eq-Decides name (name_of_run plan q)).1 same in
     same_place plan r q h k
     (one_place (bytes_eq name) (names_of plan) (place_of plan r) (place_of plan q) name (name_of_run plan q) (valid.names_apart name) (at_place plan r h) (at_place plan q k) own other)
-
--- a byte of a name is plain
-other_byte : (c d : ℕ) → is_name_byte c ≡ true → is_name_byte d ≡ false → (c == d) ≡ false
-other_byte c d h none = false_from_ne_true (c == d) (λ same. false≢true (sym none ∙ ap is_name_byte (sym (eqb-true c d same)) ∙ h))
-
-plain_byte : (c : ℕ) → is_name_byte c ≡ true → is_plain c ≡ true
-plain_byte c h = rw (other_byte c 32 h refl, other_byte c 10 h refl) refl
-
-plain_bytes : (name : List ℕ) → list_all is_name_byte name ≡ true → list_all is_plain name ≡ true
-plain_bytes [] h = refl
-plain_bytes (c ∷ name) h =
-    let parts = and_parts (is_name_byte c) (list_all is_name_byte name) h in
-    rw (plain_byte c parts.0) (plain_bytes name parts.1)
-
--- a name is plain
-pub plain_name : (plan : PlanView) (run : Run) → IsPlan plan → is_run_of plan run ≡ true → list_all is_plain (name_of_run plan run) ≡ true
-plain_name plan run valid h =
-    let name = name_of_run plan run in
-    let is : is_name name ≡ true = list_all_get is_name (names_of plan) (place_of plan run) name valid.names (at_place plan run h) in
-    let first = and_parts (begins_with_letter name) _ is in
-    plain_bytes name (and_parts _ (list_all is_name_byte name) first.1).1
 
 -- ## The numbers of a plan's runs
 

@@ -6,7 +6,7 @@ use Rattle.std.proofs.lemmas.Bool.{and_from}
 use Rattle.gcd_plan.specs.PlanView.{PlanView}
 use Rattle.gcd_plan.specs.Validity.{IsPlan}
 use Rattle.gcd_event.specs.declared.event.Event.{Event}
-use Rattle.gcd_event.specs.declared.event.Event.TheVariants.{Start, Act as Acted, Wake, End, Deliver, DeliverEnd, Tick, Ready, FeedEnd, Misuse, Halt, Expire}
+use Rattle.gcd_event.specs.declared.event.Event.TheVariants.{Start, Act as Acted, Wake, End, Deliver, DeliverEnd, Tick, Ready, FeedEnd, Misuse, Halt, Expire, Accept, Shut}
 use Rattle.gcd_history.specs.JournalText.{event_line, count_line, journal_text}
 use Rattle.gcd_text.specs.Fields.{fields_of}
 use Rattle.gcd_journal.specs.Spoken.{IsSpoken, AreSpoken}
@@ -31,6 +31,8 @@ fields_of_text plan (FeedEnd s) plain = fields_joined _ _ plain
 fields_of_text plan (Misuse w c run i) plain = fields_joined _ _ plain
 fields_of_text plan Halt plain = fields_joined _ _ plain
 fields_of_text plan (Expire b) plain = fields_joined _ _ plain
+fields_of_text plan (Accept b s) plain = fields_joined _ _ plain
+fields_of_text plan Shut plain = fields_joined _ _ plain
 
 -- the text of the line `events N`
 abbrev pub count_text : ℕ → List ℕ

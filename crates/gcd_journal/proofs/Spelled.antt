@@ -1,9 +1,9 @@
 -- The fields of an event's line spell the event, and nothing else spells it.
-use Rattle.std.proofs.Common.{◌≡◌, ℕ, ◌-◌, ◌^◌, ◌<◌, ◌≤◌, true, List, [], ◌∷◌, ◌++◌, Some, None, refl, ap, arith, codes, append_assoc}
+use Rattle.std.proofs.Common.{◌≡◌, ℕ, ◌-◌, ◌==◌, ◌^◌, ◌<◌, ◌≤◌, true, false, List, [], ◌∷◌, ◌++◌, Some, None, refl, ap, arith, codes, append_assoc}
 use Rattle.std.specs.List.{join_with_byte, list_all}
 use Rattle.std.specs.Fmt.{decimal}
-use Rattle.std.proofs.lemmas.Bool.{and_from}
-use Rattle.gcd_plan.specs.Limits.{max_workers, max_acts, max_time, max_value}
+use Rattle.std.proofs.lemmas.Bool.{and_from, ne_eqb}
+use Rattle.gcd_plan.specs.Limits.{max_workers, max_senders, max_acts, max_time, max_value}
 use Rattle.gcd_plan.specs.PlanView.{PlanView, name_of_blk, name_of_obj}
 use Rattle.gcd_plan.specs.Validity.{IsPlan}
 use Rattle.gcd_plan.specs.declared.numbers.Blk.{Blk}
@@ -11,7 +11,7 @@ use Rattle.gcd_plan.specs.declared.numbers.Obj.{Obj}
 use Rattle.gcd_plan.specs.declared.numbers.Run.{Run}
 use Rattle.gcd_plan.specs.declared.numbers.Run.TheVariants.{Block, Source}
 use Rattle.gcd_event.specs.declared.event.Event.{Event}
-use Rattle.gcd_event.specs.declared.event.Event.TheVariants.{Start, Act as Acted, Wake, End, Deliver, DeliverEnd, Tick, Ready, FeedEnd, Misuse, Halt, Expire}
+use Rattle.gcd_event.specs.declared.event.Event.TheVariants.{Start, Act as Acted, Wake, End, Deliver, DeliverEnd, Tick, Ready, FeedEnd, Misuse, Halt, Expire, Accept, Shut}
 use Rattle.gcd_history.specs.Permitted.{is_run_of}
 use Rattle.gcd_history.specs.Report.{name_of_run}
 use Rattle.gcd_history.specs.JournalText.{event_line}
@@ -19,7 +19,7 @@ use Rattle.gcd_journal.specs.Spoken.{IsSpoken}
 use Rattle.gcd_journal.specs.Spelling.{Look, number_in, worker_in, event_in}
 use Rattle.gcd_text.specs.Fields.{fields_of}
 use Rattle.gcd_journal.proofs.Cuts.{is_plain, some_field}
-use Rattle.gcd_journal.proofs.NamesApart.{plain_name}
+use Rattle.gcd_journal.proofs.PlainNames.{plain_name}
 use Rattle.gcd_journal.proofs.Numbers.{reads, plain_decimal}
 
 -- the fields of an event's line
@@ -36,6 +36,8 @@ fields_of_event plan (FeedEnd s) = codes "feed_end" ∷ name_of_obj plan s.0 ∷
 fields_of_event plan (Misuse w c run i) = codes "misuse" ∷ decimal w ∷ name_of_run plan run ∷ decimal i ∷ (77 ∷ decimal c) ∷ []
 fields_of_event plan Halt = codes "halt" ∷ []
 fields_of_event plan (Expire b) = codes "expire" ∷ name_of_blk plan b.0 ∷ []
+fields_of_event plan (Accept b s) = codes "accept" ∷ name_of_blk plan b.0 ∷ decimal s ∷ []
+fields_of_event plan Shut = codes "shut" ∷ []
 
 -- the text of a line is its fields, joined by spaces
 abbrev pub text_of : PlanView → Event → List ℕ
@@ -55,6 +57,8 @@ line_of_text plan (FeedEnd s) = refl
 line_of_text plan (Misuse w c run i) = simp append_assoc
 line_of_text plan Halt = refl
 line_of_text plan (Expire b) = refl
+line_of_text plan (Accept b s) = simp append_assoc
+line_of_text plan Shut = refl
 
 -- the fields are plain
 all_plain : (a : List ℕ) (more : List (List ℕ)) → list_all is_plain a ≡ true → list_all (list_all is_plain) more ≡ true → list_all (list_all is_plain) (a ∷ more) ≡ true
@@ -89,6 +93,11 @@ plain_fields plan (Misuse w c run i) valid spoken =
 plain_fields plan Halt valid spoken = refl
 plain_fields plan (Expire b) valid spoken =
     all_plain (codes "expire") (name_of_blk plan b.0 ∷ []) refl (all_plain (name_of_blk plan b.0) [] (plain_name plan (Block b) valid spoken.named) refl)
+plain_fields plan (Accept b s) valid spoken =
+    all_plain (codes "accept") (name_of_blk plan b.0 ∷ decimal s ∷ []) refl
+    (all_plain (name_of_blk plan b.0) (decimal s ∷ []) (plain_name plan (Block b) valid spoken.named)
+    (all_plain (decimal s) [] (plain_decimal s (let f = spoken.fits in omega arith)) refl))
+plain_fields plan Shut valid spoken = refl
 
 -- ## What the fields of an event spell
 
@@ -120,6 +129,10 @@ module _ (plan : PlanView) (look : Look) (known : (run : Run) → is_run_of plan
       rw (worker_read w spoken.fits.0, known run spoken.named, number_read 0 (max_acts - 1) i (omega arith) (let f = spoken.fits in omega arith) (omega arith), number_read 1 8 c spoken.fits.3 spoken.fits.4 (omega arith)) refl
   spells Halt spoken = refl
   spells (Expire b) spoken = rw (block_read b spoken.named) refl
+  spells (Accept b s) spoken =
+      let other : (b.0 == 0) ≡ false = ne_eqb b.0 0 (λ main. let f = spoken.fits in omega arith) in
+      rw (block_read b spoken.named, other, number_read 0 (max_senders - 1) s (omega arith) (let f = spoken.fits in omega arith) (omega arith)) refl
+  spells Shut spoken = refl
 
 -- six fields and more spell nothing
 pub six_spell_nothing : (look : Look) (kind a b c d rest : List ℕ) → event_in look (kind ∷ a ∷ b ∷ c ∷ d ∷ fields_of rest) ≡ None

@@ -2,9 +2,9 @@
 use Rattle.std.proofs.Common.{◌≡◌, ℕ, ◌-◌, ◌<◌, ◌≤◌, ◌==◌, Bool, true, false, List, [], ◌∷◌, Option, Some, None, option_and_then, refl, ap, sym, ◌∙◌, subst, arith, if◌then◌else◌, inl, inr, ◌⊎◌, codes}
 use Rattle.std.specs.Fmt.{decimal}
 use Rattle.std.specs.Str.{bytes_eq}
-use Rattle.std.proofs.lemmas.Bool.{eqb-true}
+use Rattle.std.proofs.lemmas.Bool.{eqb-true, eqb-false}
 use Rattle.std.proofs.lemmas.Slice.Eq.{bytes_eq-Decides}
-use Rattle.gcd_plan.specs.Limits.{max_workers, max_acts, max_time, max_value}
+use Rattle.gcd_plan.specs.Limits.{max_workers, max_senders, max_acts, max_time, max_value}
 use Rattle.gcd_plan.specs.PlanView.{PlanView, name_of_blk, name_of_obj}
 use Rattle.gcd_plan.specs.Validity.{IsPlan}
 use Rattle.gcd_plan.specs.declared.numbers.Blk.{Blk}
@@ -12,11 +12,11 @@ use Rattle.gcd_plan.specs.declared.numbers.Obj.{Obj}
 use Rattle.gcd_plan.specs.declared.numbers.Run.{Run}
 use Rattle.gcd_plan.specs.declared.numbers.Run.TheVariants.{Block, Source}
 use Rattle.gcd_event.specs.declared.event.Event.{Event}
-use Rattle.gcd_event.specs.declared.event.Event.TheVariants.{Start, Act as Acted, Wake, End, Deliver, DeliverEnd, Tick, Ready, FeedEnd, Misuse, Halt, Expire}
+use Rattle.gcd_event.specs.declared.event.Event.TheVariants.{Start, Act as Acted, Wake, End, Deliver, DeliverEnd, Tick, Ready, FeedEnd, Misuse, Halt, Expire, Accept, Shut}
 use Rattle.gcd_history.specs.Permitted.{is_run_of}
 use Rattle.gcd_history.specs.Report.{name_of_run}
 use Rattle.gcd_journal.specs.Spoken.{IsSpoken}
-use Rattle.gcd_journal.specs.Spelling.{Look, number_in, worker_in, index_in, time_in, bytes_in, code_in, block_of_run, block_in, source_of_run, source_in, of_both, block_event, source_event, turn_event, turn_in, by_one, by_two, by_three, by_four, by_five, event_in}
+use Rattle.gcd_journal.specs.Spelling.{Look, number_in, worker_in, index_in, sender_in, time_in, bytes_in, code_in, block_of_run, block_in, other_block_of_run, other_block_in, source_of_run, source_in, of_both, block_event, source_event, turn_event, turn_in, by_one, by_two, by_three, by_four, by_five, event_in}
 use Rattle.gcd_journal.proofs.NamesApart.{run_fits}
 use Rattle.gcd_journal.proofs.Numbers.{read_back}
 use Rattle.gcd_journal.proofs.Spelled.{fields_of_event}
@@ -44,6 +44,18 @@ is_block_name None b h = cc
 is_block_name (Some (Block c)) b h = let same : c ≡ b = cc in ap (λ d. Some (Block d)) same
 is_block_name (Some (Source t)) b h = cc
 
+is_other_name : (o : Option Run) (b : Blk) → option_and_then other_block_of_run o ≡ Some b → (o ≡ Some (Block b)) × (1 ≤ b.0)
+is_other_name None b h = cc
+is_other_name (Some (Block c)) b h = of_main (c.0 == 0) refl h
+  where
+    of_main : (t : Bool) → (c.0 == 0) ≡ t → (if t then None else Some c) ≡ Some b → (Some (Block c) ≡ Some (Block b)) × (1 ≤ b.0)
+    of_main true is at = cc
+    of_main false is at =
+        let same : c ≡ b = cc in
+        let other = eqb-false c.0 0 is in
+        (ap (λ d. Some (Block d)) same, subst (λ (d : Blk). 1 ≤ d.0) same (omega (arith, other)))
+is_other_name (Some (Source t)) b h = cc
+
 is_code : (field : List ℕ) (k : ℕ) → code_in field ≡ Some k → (field ≡ 77 ∷ decimal k) × (1 ≤ k) × (k ≤ 8)
 is_code [] k h = cc
 is_code (c ∷ digits) k h = of_first (c == 77) refl h
@@ -68,6 +80,9 @@ module _ (plan : PlanView) (look : Look) (valid : IsPlan plan) (sound : (name : 
   is_index : (field : List ℕ) (i : ℕ) → index_in field ≡ Some i → (field ≡ decimal i) × (i < max_acts)
   is_index field i h = let back = read_back 0 (max_acts - 1) field i h in (back.0, omega (arith, back.2))
 
+  is_sender : (field : List ℕ) (s : ℕ) → sender_in field ≡ Some s → (field ≡ decimal s) × (s < max_senders)
+  is_sender field s h = let back = read_back 0 (max_senders - 1) field s h in (back.0, omega (arith, back.2))
+
   -- a worker and a run
   run_turn : (a b : List ℕ) (turn : ℕ × Run) → turn_in look a b ≡ Some turn → (a ≡ decimal turn.0) × (turn.0 < max_workers) × (is_run_of plan turn.1 ≡ true) × (name_of_run plan turn.1 ≡ b)
   run_turn a b turn h =
@@ -79,11 +94,16 @@ module _ (plan : PlanView) (look : Look) (valid : IsPlan plan) (sound : (name : 
       (worker.0 ∙ ap decimal w, subst (λ n. n < max_workers) w worker.1, ap (is_run_of plan) (sym r) ∙ named.0, ap (name_of_run plan) (sym r) ∙ named.1)
 
   one_back : (kind : List ℕ) (e : Event) → by_one kind ≡ Some e → Spells plan e (kind ∷ [])
-  one_back kind e h = elim (guarded (bytes_eq kind (codes "halt")) (Some Halt) None e h) [
+  one_back kind e h = elim (guarded (bytes_eq kind (codes "halt")) (Some Halt) _ e h) [
     | inl is ↦
         let same : Halt ≡ e = cc in
         subst (λ f. Spells plan f (kind ∷ [])) same (record { fits = tt; named = tt }, ap (λ k. k ∷ []) (same_text kind (codes "halt") is.0))
-    | inr is ↦ cc
+    | inr other ↦ elim (guarded (bytes_eq kind (codes "shut")) (Some Shut) None e other.1) [
+      | inl is ↦
+          let same : Shut ≡ e = let made = is.1 in cc in
+          subst (λ f. Spells plan f (kind ∷ [])) same (record { fits = tt; named = tt }, ap (λ k. k ∷ []) (same_text kind (codes "shut") is.0))
+      | inr none ↦ let never = none.1 in cc
+    ]
   ]
 
   two_back : (kind a : List ℕ) (e : Event) → by_two look kind a ≡ Some e → Spells plan e (kind ∷ a ∷ [])
@@ -170,10 +190,19 @@ module _ (plan : PlanView) (look : Look) (valid : IsPlan plan) (sound : (name : 
         let back = read_back 1 max_value b parts.1 parts.3 in
         subst (λ f. Spells plan f (kind ∷ a ∷ b ∷ [])) parts.4
         (record { fits = (run_fits plan (Source parts.0) valid named.0, back.1, back.2); named = named.0 }, three_fields _ _ _ _ _ _ (same_text kind (codes "ready") is.0) named.1 (sym back.0))
-    | inr other ↦
-        let parts = then_there (λ (turn : ℕ × Run). turn_event kind turn.0 turn.1) (turn_in look a b) e other.1 in
-        let turn = run_turn a b parts.0 parts.1 in
-        turn_back kind a b parts.0.0 parts.0.1 e parts.2 turn.0 turn.1 turn.2 turn.3
+    | inr other ↦ elim (guarded (bytes_eq kind (codes "accept")) _ _ e other.1) [
+      | inl is ↦
+          let parts = both_there (λ c s. Accept c s) (other_block_in look a) (sender_in b) e is.1 in
+          let block = is_other_name (look a) parts.0 parts.2 in
+          let named = sound a (Block parts.0) block.0 in
+          let sender = is_sender b parts.1 parts.3 in
+          subst (λ f. Spells plan f (kind ∷ a ∷ b ∷ [])) parts.4
+          (record { fits = (block.1, run_fits plan (Block parts.0) valid named.0, sender.1); named = named.0 }, three_fields _ _ _ _ _ _ (same_text kind (codes "accept") is.0) named.1 (sym sender.0))
+      | inr more ↦
+          let parts = then_there (λ (turn : ℕ × Run). turn_event kind turn.0 turn.1) (turn_in look a b) e more.1 in
+          let turn = run_turn a b parts.0 parts.1 in
+          turn_back kind a b parts.0.0 parts.0.1 e parts.2 turn.0 turn.1 turn.2 turn.3
+    ]
   ]
 
   four_back : (kind a b c : List ℕ) (e : Event) → by_four look kind a b c ≡ Some e → Spells plan e (kind ∷ a ∷ b ∷ c ∷ [])

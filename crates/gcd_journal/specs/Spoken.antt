@@ -3,7 +3,7 @@ use Rattle.std.specs.Prelude.{◌≡◌, ℕ, List, Some, slice_get, IsTrue}
 use Rattle.gcd_plan.specs.PlanView.{PlanView}
 use Rattle.gcd_plan.specs.declared.numbers.Run.TheVariants.{Block, Source}
 use Rattle.gcd_event.specs.declared.event.Event.{Event}
-use Rattle.gcd_event.specs.declared.event.Event.TheVariants.{Start, Act as Acted, Wake, End, Deliver, DeliverEnd, Tick, Ready, FeedEnd, Misuse, Halt, Expire}
+use Rattle.gcd_event.specs.declared.event.Event.TheVariants.{Start, Act as Acted, Wake, End, Deliver, DeliverEnd, Tick, Ready, FeedEnd, Misuse, Halt, Expire, Accept, Shut}
 use Rattle.gcd_event.specs.Fits.{IsFitting}
 use Rattle.gcd_history.specs.Permitted.{is_run_of}
 
@@ -21,6 +21,8 @@ IsNamed plan (FeedEnd s) = IsTrue (is_run_of plan (Source s))
 IsNamed plan (Misuse w c run i) = IsTrue (is_run_of plan run)
 IsNamed plan Halt = Unit {0}
 IsNamed plan (Expire b) = IsTrue (is_run_of plan (Block b))
+IsNamed plan (Accept b s) = IsTrue (is_run_of plan (Block b))
+IsNamed plan Shut = Unit {0}
 
 -- the event has a line: its fields are in their ranges, and the plan has what it names
 pub record IsSpoken (plan : PlanView) (e : Event) : Type 0 where

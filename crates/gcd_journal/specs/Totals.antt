@@ -1,8 +1,8 @@
 -- What the deliveries of a plan's sources handed over, and what a report is made from.
-use Rattle.std.specs.Prelude.{◌≡◌, ℕ, ◌+◌, ◌*◌, ◌^◌, ◌<◌, ◌≤◌, List, [], ◌∷◌, ◌++◌, length, Some, None, true, slice_get, slice_index_or}
+use Rattle.std.specs.Prelude.{◌≡◌, ℕ, ◌+◌, ◌*◌, ◌^◌, ◌<◌, ◌≤◌, List, [], ◌∷◌, ◌++◌, length, Some, None, true, false, slice_get, slice_index_or}
 use Rattle.gcd_plan.specs.PlanView.{PlanView}
 use Rattle.gcd_event.specs.declared.event.Event.{Event}
-use Rattle.gcd_history.specs.History.{why, is_ended, received_of, delivery_count_of}
+use Rattle.gcd_history.specs.History.{why, is_block_cancelled, is_ended, received_of, delivery_count_of}
 use Rattle.gcd_refinement.specs.MachineView.{MachineView}
 use Rattle.gcd_machine.specs.Stands.{StandsFor}
 use Rattle.gcd_journal.specs.declared.totals.Total.{Total}
@@ -30,6 +30,7 @@ pub record MayNote (plan : PlanView) (m : MachineView) (totals : List Total) (e 
   pub totals_are : AreTotals plan history totals
   pub room : length history + 1 < 2 ^ 32
 
--- the values are those of the blocks that have ended
-abbrev pub AreValues : (value : ℕ → ℕ) → List ℕ → List Event → Type 0
-AreValues value values h = (b : ℕ) → is_ended h b ≡ true → slice_get values b ≡ Some (value b)
+-- the values are those of the blocks that have ended, but for cancelled ones
+abbrev pub AreValues : PlanView → (value : ℕ → ℕ) → List ℕ → List Event → Type 0
+AreValues plan value values h =
+    (b : ℕ) → is_ended h b ≡ true → is_block_cancelled plan h b ≡ false → slice_get values b ≡ Some (value b)

@@ -106,6 +106,17 @@ fn push_expire(line: &mut Vec<u8>, name: &str) -> Result<(), AllocError>
     line.extend_from_slice(b"\n")
 }
 
+// Adds the line of a block that is accepted of a sender.
+fn push_accept(line: &mut Vec<u8>, name: &str, sender: u8) -> Result<(), AllocError>
+    ensures { OnOk result (line.new.items ≡ line.old.items ++ (codes "accept " ++ (name.now ++ (codes " " ++ (decimal sender ++ line_end))))) }
+{
+    line.extend_from_slice(b"accept ")?;
+    line.extend_from_slice(name.as_bytes())?;
+    line.extend_from_slice(b" ")?;
+    push_number(line, u64::from(sender))?;
+    line.extend_from_slice(b"\n")
+}
+
 // Adds a line of one word and a number.
 fn push_number_line(line: &mut Vec<u8>, kind: &[u8], number: u64) -> Result<(), AllocError>
     ensures { OnOk result (line.new.items ≡ line.old.items ++ (kind.now ++ (decimal number ++ line_end))) }
@@ -146,6 +157,8 @@ pub fn push_event(line: &mut Vec<u8>, plan: &Plan, e: Event) -> Result<(), Alloc
         } => push_misuse(line, worker, name_of(plan, run), index, code),
         Event::Halt => line.extend_from_slice(b"halt\n"),
         Event::Expire { blk } => push_expire(line, plan.name_of_blk(blk)),
+        Event::Accept { blk, sender } => push_accept(line, plan.name_of_blk(blk), sender),
+        Event::Shut => line.extend_from_slice(b"shut\n"),
     }
 }
 

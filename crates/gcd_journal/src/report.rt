@@ -3,12 +3,12 @@ ghost use Rattle.std.specs.Prelude.{◌≡◌, ◌-◌, ◌<◌, ◌^◌, ◌++�
 ghost use Rattle.std.specs.Option.{option_map_or};
 ghost use Rattle.std.specs.List.{flat_map, range_with_len};
 ghost use Rattle.std.specs.Fmt.{decimal};
-ghost use Rattle.gcd_plan.specs.PlanView.{PlanView, name_of_obj, name_of_blk};
+ghost use Rattle.gcd_plan.specs.PlanView.{PlanView, name_of_obj, name_of_blk, name_of_strip};
 ghost use Rattle.gcd_event.specs.declared.event.Event.{Event};
 ghost use Rattle.gcd_history.specs.declared.state.State.{State};
 ghost use Rattle.gcd_history.specs.Ends.{HasState};
 ghost use Rattle.gcd_history.specs.History.{IsLawful, is_submitted};
-ghost use Rattle.gcd_history.specs.Report.{line_end, awaited_name, result_line, source_line, wait_line, unstarted_line, stuck_lines, misuse_line, last_line, report_by};
+ghost use Rattle.gcd_history.specs.Report.{line_end, outcome, awaited_name, result_line, source_line, wait_line, unstarted_line, stuck_lines, misuse_line, last_line, report_by};
 ghost use Rattle.gcd_machine.specs.Stands.{StandsFor};
 ghost use Rattle.gcd_journal.specs.Spoken.{AreSpoken, IsNamed};
 ghost use Rattle.gcd_journal.specs.Totals.{AreTotals, AreValues};
@@ -22,13 +22,28 @@ use gcd_plan::{Blk, Obj, Plan, Reason};
 use itoa::Buffer;
 use std::alloc::{AllocError, Global};
 
-// `NAME = VALUE`.
-fn push_result(text: &mut Vec<u8>, name: &str, value: u64) -> Result<(), AllocError>
-    ensures { OnOk result (text.new.items ≡ text.old.items ++ (name.now ++ (codes " = " ++ (decimal value ++ line_end)))) }
+// ` = VALUE`, or ` cancelled`.
+fn push_outcome(text: &mut Vec<u8>, cancelled: bool, value: u64) -> Result<(), AllocError>
+    ensures { OnOk result (text.new.items ≡ text.old.items ++ outcome cancelled value) }
+{
+    if cancelled {
+        return text.extend_from_slice(b" cancelled");
+    }
+    text.extend_from_slice(b" = ")?;
+    push_number(text, value)
+}
+
+// `NAME = VALUE`, or `NAME cancelled`.
+fn push_result(
+    text: &mut Vec<u8>,
+    name: &str,
+    cancelled: bool,
+    value: u64,
+) -> Result<(), AllocError>
+    ensures { OnOk result (text.new.items ≡ text.old.items ++ (name.now ++ (outcome cancelled value ++ line_end))) }
 {
     text.extend_from_slice(name.as_bytes())?;
-    text.extend_from_slice(b" = ")?;
-    push_number(text, value)?;
+    push_outcome(text, cancelled, value)?;
     text.extend_from_slice(b"\n")
 }
 
@@ -43,7 +58,7 @@ fn push_result_line(
     requires block { b.0 < length plan.now.blocks }
     requires own { machine.now.plan ≡ plan.now }
     requires values { length values.now ≡ length plan.now.blocks }
-    ensures { (h : List Event) (value : ℕ → ℕ) → StandsFor machine.now plan.now h → AreValues value values.now h
+    ensures { (h : List Event) (value : ℕ → ℕ) → StandsFor machine.now plan.now h → AreValues plan.now value values.now h
         → OnOk result (text.new.items ≡ text.old.items ++ result_line plan.now value h b.0) }
 {
     if plan.work(b).is_none() {
@@ -52,7 +67,8 @@ fn push_result_line(
     if !machine.is_ended(b) {
         return Ok(());
     }
-    push_result(text, plan.name_of_blk(b), values[b.0 as usize])
+    let value = values[b.0 as usize];
+    push_result(text, plan.name_of_blk(b), machine.is_cancelled(b), value)
 }
 
 // Adds a number in decimal digits, however large.
@@ -133,6 +149,17 @@ fn name_of_any_block(plan: &Plan, b: Blk) -> &str
     }
 }
 
+// The same of a strip.
+fn name_of_any_strip(plan: &Plan, a: u32) -> &str
+    ensures { result.now ≡ name_of_strip plan.now a }
+{
+    if (a as usize) < plan.strips().len() {
+        plan.name_of_strip(a)
+    } else {
+        ""
+    }
+}
+
 // The name of what is waited for.
 fn awaited_name(plan: &Plan, reason: Reason) -> &str
     ensures { result.now ≡ awaited_name plan.now reason }
@@ -140,6 +167,7 @@ fn awaited_name(plan: &Plan, reason: Reason) -> &str
     match reason {
         Reason::Block(b) => name_of_any_block(plan, b),
         Reason::Group(g, _) => name_of_any(plan, g),
+        Reason::Strip(a) => name_of_any_strip(plan, a),
         Reason::Rank(s, _) => name_of_any(plan, s),
     }
 }
@@ -219,7 +247,7 @@ fn push_results(
 ) -> Result<(), AllocError>
     requires own { machine.now.plan ≡ plan.now }
     requires values { length values.now ≡ length plan.now.blocks }
-    ensures { (h : List Event) (value : ℕ → ℕ) → StandsFor machine.now plan.now h → AreValues value values.now h
+    ensures { (h : List Event) (value : ℕ → ℕ) → StandsFor machine.now plan.now h → AreValues plan.now value values.now h
         → OnOk result (text.new.items ≡ text.old.items ++ flat_map (result_line plan.now value h) (range_with_len 0 (length plan.now.blocks))) }
 {
     for b in 0..plan.blocks() {
@@ -334,6 +362,8 @@ fn push_misuse_line(text: &mut Vec<u8>, plan: &Plan, e: Event) -> Result<(), All
         Event::FeedEnd { .. } => Ok(()),
         Event::Halt => Ok(()),
         Event::Expire { .. } => Ok(()),
+        Event::Accept { .. } => Ok(()),
+        Event::Shut => Ok(()),
     }
 }
 
@@ -380,7 +410,7 @@ pub fn push_report(
     requires stands { StandsFor machine.now plan.now events.now }
     requires totals { AreTotals plan.now events.now totals.now }
     requires values { length values.now ≡ length plan.now.blocks }
-    ensures { (value : ℕ → ℕ) (state : State) → HasState plan.now events.now state → AreValues value values.now events.now
+    ensures { (value : ℕ → ℕ) (state : State) → HasState plan.now events.now state → AreValues plan.now value values.now events.now
         → OnOk result (text.new.items ≡ text.old.items ++ report_by plan.now value state events.now) }
 {
     push_results(text, plan, machine, values)?;
@@ -402,7 +432,7 @@ fn report_by(
     requires stands { StandsFor machine.now plan.now events.now }
     requires totals { AreTotals plan.now events.now totals.now }
     requires values { length values.now ≡ length plan.now.blocks }
-    ensures { (value : ℕ → ℕ) (state : State) → HasState plan.now events.now state → AreValues value values.now events.now
+    ensures { (value : ℕ → ℕ) (state : State) → HasState plan.now events.now state → AreValues plan.now value values.now events.now
         → IfOk result (λ text. text.items ≡ report_by plan.now value state events.now) }
 {
     let mut text = Vec::new(alloc);
@@ -420,7 +450,7 @@ fn report_of(
     requires lawful { IsLawful plan.now events.now }
     requires few { length events.now < 2 ^ 32 }
     requires values { length values.now ≡ length plan.now.blocks }
-    ensures { (value : ℕ → ℕ) (state : State) → HasState plan.now events.now state → AreValues value values.now events.now
+    ensures { (value : ℕ → ℕ) (state : State) → HasState plan.now events.now state → AreValues plan.now value values.now events.now
         → IfOk result (λ text. text.items ≡ report_by plan.now value state events.now) }
 {
     let replay = replayed(alloc, plan, events)?;
@@ -439,17 +469,17 @@ fn report_on(
     requires lawful { IsLawful plan.now events.now }
     requires few { length events.now < 2 ^ 32 }
     requires values { length values.now ≡ length plan.now.blocks }
-    ensures { (value : ℕ → ℕ) (state : State) → HasState plan.now events.now state → AreValues value values.now events.now
+    ensures { (value : ℕ → ℕ) (state : State) → HasState plan.now events.now state → AreValues plan.now value values.now events.now
         → IfOk result (λ text. text.items ≡ report_by plan.now value state events.now) }
 {
     let totals = totals_by(alloc, plan, events)?;
     report_by(alloc, plan, machine, &totals, values, events)
 }
 
-/// Adds the report of a run of the plan to the text: a line for each block with a work that has ended, with its value, by
-/// number; a line for each source; where the run is stuck a line for each parked block and for each block that has not
-/// started; and how it ended. `values` has a value for each block, `main` first; those of blocks that have not ended are not
-/// read. Where memory runs out the text is as before. It takes the events by a machine, and looks at each block and object
+/// Adds the report of a run of the plan to the text: a line for each block with a work that has ended, with its value, or that it
+/// is cancelled, by number; a line for each source; where the run is stuck a line for each parked block and for each block that has not
+/// started; and how it ended. `values` has a value for each block, `main` first; those of blocks that have not ended, or are
+/// cancelled, are not read. Where memory runs out the text is as before. It takes the events by a machine, and looks at each block and object
 /// once.
 pub fn write_report(
     alloc: Global,
@@ -461,7 +491,7 @@ pub fn write_report(
     requires lawful { IsLawful plan.now events.now }
     requires few { length events.now < 2 ^ 32 }
     requires values { length values.now ≡ length plan.now.blocks }
-    ensures ok { (value : ℕ → ℕ) (state : State) → HasState plan.now events.now state → AreValues value values.now events.now
+    ensures ok { (value : ℕ → ℕ) (state : State) → HasState plan.now events.now state → AreValues plan.now value values.now events.now
         → OnOk result (into.new.items ≡ into.old.items ++ report_by plan.now value state events.now) }
     ensures err { OnErr result (into.new.items ≡ into.old.items) }
 {
@@ -484,7 +514,7 @@ pub fn write_report_by(
     requires lawful { IsLawful plan.now events.now }
     requires few { length events.now < 2 ^ 32 }
     requires values { length values.now ≡ length plan.now.blocks }
-    ensures ok { (value : ℕ → ℕ) (state : State) → HasState plan.now events.now state → AreValues value values.now events.now
+    ensures ok { (value : ℕ → ℕ) (state : State) → HasState plan.now events.now state → AreValues plan.now value values.now events.now
         → OnOk result (into.new.items ≡ into.old.items ++ report_by plan.now value state events.now) }
     ensures err { OnErr result (into.new.items ≡ into.old.items) }
 {

@@ -2,11 +2,11 @@
 ghost use Rattle.std.specs.Prelude.{◌≡◌, ◌≤◌, ◌∷◌, IfSome, Some, option_and_then};
 ghost use Rattle.gcd_journal.specs.Named.{look_of};
 ghost use Rattle.gcd_text.specs.Fields.{fields_of};
-ghost use Rattle.gcd_journal.specs.Spelling.{number_in, worker_in, index_in, time_in, bytes_in, code_in, block_in, source_in, of_both, turn_in, block_event, source_event, turn_event, place_in, misuse_in, by_one, by_two, by_three, by_four, by_five, event_in};
+ghost use Rattle.gcd_journal.specs.Spelling.{number_in, worker_in, index_in, sender_in, time_in, bytes_in, code_in, block_in, other_block_in, source_in, of_both, turn_in, block_event, source_event, turn_event, place_in, misuse_in, by_one, by_two, by_three, by_four, by_five, event_in};
 
 use crate::names::Names;
 use gcd_event::Event;
-use gcd_plan::{Blk, MAX_ACTS, MAX_TIME, MAX_VALUE, MAX_WORKERS, Obj, Run};
+use gcd_plan::{Blk, MAX_ACTS, MAX_SENDERS, MAX_TIME, MAX_VALUE, MAX_WORKERS, Obj, Run};
 use gcd_text::{cut_at, number};
 
 // The number that the field writes, where it is in this range.
@@ -41,6 +41,13 @@ fn index_in(field: &[u8]) -> Option<u32>
     number_in(field, 0, MAX_ACTS - 1)
 }
 
+fn sender_in(field: &[u8]) -> Option<u8>
+    ensures { result ≡ sender_in field.now }
+{
+    let sender = number_in(field, 0, MAX_SENDERS - 1)?;
+    Some(sender as u8)
+}
+
 fn code_in(field: &[u8]) -> Option<u8>
     ensures { result ≡ code_in field.now }
 {
@@ -57,6 +64,21 @@ fn block_in(names: &Names, field: &[u8]) -> Option<Blk>
 {
     match names.run(field)? {
         Run::Block(b) => Some(b),
+        Run::Source(_) => None,
+    }
+}
+
+// The block that has the name, where it is not `main`.
+fn other_block_in(names: &Names, field: &[u8]) -> Option<Blk>
+    ensures { result ≡ other_block_in (look_of names.now.runs) field.now }
+{
+    match names.run(field)? {
+        Run::Block(b) => {
+            if b.0 == 0 {
+                return None;
+            }
+            Some(b)
+        }
         Run::Source(_) => None,
     }
 }
@@ -83,6 +105,8 @@ fn by_one(kind: &[u8]) -> Option<Event>
 {
     if kind == b"halt".as_slice() {
         Some(Event::Halt)
+    } else if kind == b"shut".as_slice() {
+        Some(Event::Shut)
     } else {
         None
     }
@@ -166,6 +190,14 @@ fn ready_in(names: &Names, a: &[u8], b: &[u8]) -> Option<Event>
     Some(Event::Ready { src, bytes })
 }
 
+fn accept_in(names: &Names, a: &[u8], b: &[u8]) -> Option<Event>
+    ensures { result ≡ of_both (λ c s. Event.Accept c s) (other_block_in (look_of names.now.runs) a.now) (sender_in b.now) }
+{
+    let blk = other_block_in(names, a)?;
+    let sender = sender_in(b)?;
+    Some(Event::Accept { blk, sender })
+}
+
 fn work_in(names: &Names, kind: &[u8], a: &[u8], b: &[u8]) -> Option<Event>
     ensures { result ≡ option_and_then (λ turn. turn_event kind.now turn.0 turn.1) (turn_in (look_of names.now.runs) a.now b.now) }
 {
@@ -178,6 +210,8 @@ fn by_three(names: &Names, kind: &[u8], a: &[u8], b: &[u8]) -> Option<Event>
 {
     if kind == b"ready".as_slice() {
         ready_in(names, a, b)
+    } else if kind == b"accept".as_slice() {
+        accept_in(names, a, b)
     } else {
         work_in(names, kind, a, b)
     }

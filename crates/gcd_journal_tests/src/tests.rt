@@ -15,7 +15,8 @@ use gcd_journal::{
 };
 use gcd_machine::Machine;
 use gcd_plan::{
-    Act, BlkPart, FilePart, How, Kind, MAX_EVENTS, Obj, ObjPart, Parts, Plan, WHOLE_FILE, Work,
+    Act, BlkPart, FilePart, How, Kind, MAX_EVENTS, Obj, ObjPart, Parts, Plan, StripPart,
+    WHOLE_FILE, Work,
 };
 use std::alloc::{AllocError, Global};
 use std::fmt::Write;
@@ -58,7 +59,57 @@ fn blocks(alloc: Global, setting: &Setting) -> Result<Vec<BlkPart>, AllocError> 
         }
         blocks.push(part)?;
     }
+    add_made(alloc, setting, &mut blocks)?;
     Ok(blocks)
+}
+
+// The blocks of the intake, and behind them those of the strip, each of which counts four bytes of the file.
+fn add_made(alloc: Global, setting: &Setting, blocks: &mut Vec<BlkPart>) -> Result<(), AllocError> {
+    for number in 0..setting.intake {
+        let name = format!(in alloc; "+{}", u64::from(number) + 1)?;
+        blocks.push(BlkPart::new(alloc, name.as_str())?)?;
+    }
+    for index in 0..setting.strip {
+        let name = format!(in alloc; "a.{index}")?;
+        let mut part = BlkPart::new(alloc, name.as_str())?;
+        part.work = Some(Work {
+            how: How::Bytes,
+            file: 0,
+            start: index.saturating_mul(4),
+            len: 4,
+        });
+        blocks.push(part)?;
+    }
+    Ok(())
+}
+
+// How many blocks are declared.
+fn declared(setting: &Setting) -> u32 {
+    u32::try_from(setting.blocks.len()).unwrap_or(u32::MAX)
+}
+
+// The strip, whose blocks stand behind those that are declared.
+fn strips(alloc: Global, setting: &Setting) -> Result<Vec<StripPart>, AllocError> {
+    let mut strips = Vec::new(alloc);
+    if setting.strip > 0 {
+        strips.push(StripPart {
+            name: String::from_str(alloc, "a")?,
+            how: How::Bytes,
+            file: 0,
+            len: 4,
+            first: declared(setting),
+            count: setting.strip,
+        })?;
+    }
+    Ok(strips)
+}
+
+// The intake on object 1.
+fn intake(setting: &Setting) -> Option<(Obj, u32, u32)> {
+    if setting.intake == 0 {
+        return None;
+    }
+    Some((Obj(1), declared(setting), setting.intake))
 }
 
 // One file.
@@ -77,6 +128,8 @@ fn plan_of(alloc: Global, setting: &Setting) -> Result<Plan, Fail> {
         blocks: blocks(alloc, setting)?,
         files: files(alloc)?,
         until: 1000,
+        intake: intake(setting),
+        strips: strips(alloc, setting)?,
     };
     Ok(Plan::of_parts(parts).ok_or("no valid plan")?)
 }
@@ -237,6 +290,8 @@ fn longest_plan(alloc: Global) -> Result<Plan, Fail> {
         blocks: vec![in alloc; main]?,
         files: Vec::new(alloc),
         until: 1000,
+        intake: None,
+        strips: Vec::new(alloc),
     };
     Ok(Plan::of_parts(parts).ok_or("no valid plan")?)
 }

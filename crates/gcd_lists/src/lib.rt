@@ -10,6 +10,7 @@
 //! | `Lists::new` | lists of the plan's objects and blocks, all empty; or out of memory | |
 //! | `Lists::of` | so many lists for so many blocks, all empty; or out of memory | |
 //! | `copied` | the same lists once more; or out of memory | |
+//! | `len` | how many lists there are | |
 //! | `push` | | the block behind all that wait on the object, nothing else changed |
 //! | `push_span` | | so many blocks that follow each other in their numbers behind all that wait on the object, none as a barrier |
 //! | `first` | the first of the object's list; None exactly where it is empty | |

@@ -96,6 +96,14 @@ impl Lists {
         })
     }
 
+    /// How many lists there are. (This project's own rule.)
+    #[inline(always)]
+    pub fn len(&self) -> usize
+        ensures { result ≡ length self.now.lists }
+    {
+        self.heads.len()
+    }
+
     /// The block waits on the object from now on, behind all that wait there, as a barrier or not (dispatch_async(3),
     /// dispatch_barrier_async(3)). It waits nowhere before: [`Lists::place`] is the test. So no more wait there than there
     /// are blocks.

@@ -3,10 +3,11 @@ use Rattle.std.proofs.Common.{◌≡◌, ℕ, Bool, true, false, List, [], ◌�
 use Rattle.std.proofs.lemmas.Option.{same_Some}
 use Rattle.gcd_plan.specs.PlanView.{PlanView}
 use Rattle.gcd_event.specs.declared.event.Event.{Event}
-use Rattle.gcd_event.specs.declared.event.Event.TheVariants.{Start, Act as Acted, Wake, End, Deliver, DeliverEnd, Tick, Ready, FeedEnd, Misuse, Halt, Expire}
+use Rattle.gcd_event.specs.declared.event.Event.TheVariants.{Start, Act as Acted, Wake, End, Deliver, DeliverEnd, Tick, Ready, FeedEnd, Misuse, Halt, Expire, Accept, Shut}
 use Rattle.gcd_history.specs.Choice.{is_work}
 use Rattle.gcd_history.specs.Ends.{is_halted}
 use Rattle.gcd_history.specs.History.{why}
+use Rattle.gcd_history.specs.Intake.{accepted}
 use Rattle.gcd_outer.specs.Tells.{PollerState}
 use Rattle.gcd_outer.specs.declared.tell.Tell.{Tell}
 use Rattle.gcd_turn.specs.Asked.{IsPut}
@@ -27,6 +28,8 @@ untold (FeedEnd s) work = cc
 untold (Misuse w c r i) work = refl
 untold Halt work = refl
 untold (Expire b) work = refl
+untold (Accept b s) work = refl
+untold Shut work = refl
 
 pick_is_told : (b : Bool) (t : Tell) (e : Event) → (if b then FeedEnd (record { 0 = t.feed }) else Ready (record { 0 = t.feed }) t.bytes) ≡ e
     → is_told e ≡ true
@@ -50,6 +53,8 @@ told_outside (FeedEnd s) told = record { by = refl; no_work = refl }
 told_outside (Misuse w c r i) told = cc
 told_outside Halt told = cc
 told_outside (Expire b) told = cc
+told_outside (Accept b s) told = cc
+told_outside Shut told = cc
 
 pub first_is_outside : (news : List Tell) (e : Event) → first_event news ≡ Some e → IsOutside e
 first_is_outside news e first = told_outside e (first_is_told news e first)
@@ -67,9 +72,47 @@ put_is_outside plan h start present p q (FeedEnd s) put = absurd put
 put_is_outside plan h start present p q (Misuse w k r i) put = absurd put
 put_is_outside plan h start present p q Halt put = record { by = refl; no_work = refl }
 put_is_outside plan h start present p q (Expire b) put = record { by = refl; no_work = refl }
+put_is_outside plan h start present p q (Accept b s) put = absurd put
+put_is_outside plan h start present p q Shut put = absurd put
 
 pub halt_is_outside : IsOutside Halt
 halt_is_outside = record { by = refl; no_work = refl }
+
+pub shut_is_outside : IsOutside Shut
+shut_is_outside = record { by = refl; no_work = refl }
+
+-- an event of a worker, and one that a poller told, accepts no job
+pub work_accepts_none : (e : Event) → is_work e ≡ true → accepted e ≡ None
+work_accepts_none (Start w b) work = refl
+work_accepts_none (Acted w r i) work = refl
+work_accepts_none (Wake w b) work = refl
+work_accepts_none (End w b) work = refl
+work_accepts_none (Deliver w s) work = refl
+work_accepts_none (DeliverEnd w s) work = refl
+work_accepts_none (Tick t) work = refl
+work_accepts_none (Ready s n) work = refl
+work_accepts_none (FeedEnd s) work = refl
+work_accepts_none (Misuse w c r i) work = refl
+work_accepts_none Halt work = refl
+work_accepts_none (Expire b) work = refl
+work_accepts_none (Accept b s) work = cc
+work_accepts_none Shut work = refl
+
+pub told_accepts_none : (e : Event) → is_told e ≡ true → accepted e ≡ None
+told_accepts_none (Start w b) told = refl
+told_accepts_none (Acted w r i) told = refl
+told_accepts_none (Wake w b) told = refl
+told_accepts_none (End w b) told = refl
+told_accepts_none (Deliver w s) told = refl
+told_accepts_none (DeliverEnd w s) told = refl
+told_accepts_none (Tick t) told = refl
+told_accepts_none (Ready s n) told = refl
+told_accepts_none (FeedEnd s) told = refl
+told_accepts_none (Misuse w c r i) told = refl
+told_accepts_none Halt told = refl
+told_accepts_none (Expire b) told = refl
+told_accepts_none (Accept b s) told = cc
+told_accepts_none Shut told = refl
 
 pub halt_may_come : (plan : PlanView) (h : List Event) → is_halted h ≡ false → why plan h Halt ≡ None
 unfolding why is_halted
@@ -97,3 +140,5 @@ tick_time (FeedEnd s) = 0
 tick_time (Misuse w c r i) = 0
 tick_time Halt = 0
 tick_time (Expire b) = 0
+tick_time (Accept b s) = 0
+tick_time Shut = 0

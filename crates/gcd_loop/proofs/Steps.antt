@@ -5,7 +5,7 @@ use Rattle.std.proofs.lemmas.Bool.{both_ways}
 use Rattle.std.proofs.lemmas.Result.{IfOk-weaker}
 use Rattle.gcd_plan.specs.PlanView.{PlanView}
 use Rattle.gcd_event.specs.declared.event.Event.{Event}
-use Rattle.gcd_event.specs.declared.event.Event.TheVariants.{Start, Act as Acted, Wake, End, Deliver, DeliverEnd, Tick, Ready, FeedEnd, Misuse, Halt, Expire}
+use Rattle.gcd_event.specs.declared.event.Event.TheVariants.{Start, Act as Acted, Wake, End, Deliver, DeliverEnd, Tick, Ready, FeedEnd, Misuse, Halt, Expire, Accept, Shut}
 use Rattle.gcd_history.specs.Choice.{is_work}
 use Rattle.gcd_history.specs.Ends.{HasEnded, is_halted}
 use Rattle.gcd_history.specs.History.{IsLawful, is_active}
@@ -24,11 +24,12 @@ use Rattle.gcd_turn.proofs.Promised.{are_told}
 use Rattle.gcd_turn.proofs.TimeSteps.{is_timely, time_on, time_waited}
 use Rattle.gcd_loop.specs.Going.{AfterTurn, IsGoing, IsRunOn, IsStopped, IsTrueTo, WatchesActive}
 use Rattle.gcd_loop.specs.Recorded.{Grows, IsGrown, IsSight, Says}
-use Rattle.gcd_loop.specs.Followed.{FollowsChoice, IsOfWorkers}
+use Rattle.gcd_loop.specs.Followed.{AcceptsNone, FollowsChoice, IsOfWorkers}
 use Rattle.gcd_loop.specs.Ran.{RunsPlan}
 use Rattle.gcd_loop.specs.declared.recorder.Put.{Put}
 use Rattle.gcd_loop.specs.declared.turns.Turn.{Turn}
 use Rattle.gcd_loop.specs.declared.turns.Turn.TheVariants.{Placed, Waited, Stopped, Over}
+use Rattle.gcd_loop.proofs.Follows.{accepts_none_first}
 use Rattle.gcd_loop.proofs.Goings.{Listens, going_expire, going_halt, going_on, going_tick, keeps_same}
 
 pub sight_lawful : (most : ℕ) (plan : PlanView) (h : List Event) (m : MachineView) → IsSight most plan h m → IsLawful plan h
@@ -83,6 +84,8 @@ module _ (most : ℕ) (pt ct : Bool) (plan : PlanView) (stood : List Event) (bef
   going_put p q c d h k o (Expire b) r lawful few put said l going =
       going_expire most pt ct plan stood before early q d h k o b r lawful few said
       (going_on most pt ct plan stood before early p q c d h o o l put.1 going)
+  going_put p q c d h k o (Accept b s) r lawful few put said l going = absurd put
+  going_put p q c d h k o Shut r lawful few put said l going = absurd put
 
 -- ## Before the first turn, and after the last
 
@@ -133,6 +136,7 @@ going_first most pt ct plan h p early c o active news empties len since reached 
     stops = λ rose. absurd (omega (arith, rose));
   };
   kept = keeps_same pt p;
+  uncalled = accepts_none_first;
 }
 
 pub run_on : (most : ℕ) (pt ct : Bool) (plan : PlanView) (h k : List Event) (p q : PollerState) (c d : ClockState) (o : OutlookView) → HasEnded most plan k
@@ -147,6 +151,7 @@ run_on most pt ct plan h k p q c d o ended goes = record {
         split = going.split;
         heard = record { told = λ tells. are_told plan h going.placed (record { tells = pt; before = p; after = q }) o (going.heard tells); faults = going.faults };
         timely = is_timely plan h going.placed (record { tells = ct; before = c; after = d }) o.start going.timely;
+        uncalled = going.uncalled;
       };
 }
 
@@ -209,11 +214,12 @@ grown most plan h k m sight grows = record { grows = grows; lawful = sight_lawfu
 
 -- at the first beginning what is true to the rest is true to all
 pub true_to_all : (most : ℕ) (plan : PlanView) (stood h : List Event) (poller : Seen PollerState) (clock : Seen ClockState) → stood ≡ []
-    → IsTrueTo most plan stood h poller clock → IsHeard most plan [] h poller × IsTimely plan [] h clock
+    → IsTrueTo most plan stood h poller clock → IsHeard most plan [] h poller × IsTimely plan [] h clock × AcceptsNone h
 true_to_all most plan stood h poller clock none t =
     let all : t.placed ≡ h = ap (λ (l : List Event). l ++ t.placed) (sym none) ∙ sym t.split in (
       subst (λ (l : List Event). IsHeard most plan [] l poller) all (subst (λ (l : List Event). IsHeard most plan l t.placed poller) none t.heard),
       subst (λ (l : List Event). IsTimely plan [] l clock) all (subst (λ (l : List Event). IsTimely plan l t.placed clock) none t.timely),
+      subst AcceptsNone all t.uncalled,
     )
 
 -- nothing more is seen
@@ -233,6 +239,7 @@ runs_plan most plan workers h m poller clock sight by chosen unwatched on =
       few = sight.few;
       by = by;
       chosen = chosen;
+      uncalled = all.2;
       timely = all.1;
       heard = all.0;
     }

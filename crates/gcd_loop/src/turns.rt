@@ -216,7 +216,7 @@ fn act<D, T: Recorder<D>, P: Poller, C: Clock, R: Wait>(
     }
 }
 
-// Does what the outlook asks for.
+// Does what the outlook asks for. There are no outside callers, so an open intake is shut.
 #[inline(always)]
 fn answer<D, T: Recorder<D>, P: Poller, C: Clock, R: Wait>(
     rt: &R,
@@ -241,6 +241,7 @@ fn answer<D, T: Recorder<D>, P: Poller, C: Clock, R: Wait>(
     match outlook.ask(plan, most, run.machine(), poller, clock) {
         Ask::Leave => Ok(Turn::Over),
         Ask::Told(e) => tell(rt, plan, most, shared, run, outlook, e),
+        Ask::Open { .. } => put(rt, plan, most, shared, run, Event::Shut),
         Ask::Put(e) => put(rt, plan, most, shared, run, e),
         Ask::Work { chosen, left } => act(
             rt, plan, most, shared, run, outlook, poller, clock, chosen, left,

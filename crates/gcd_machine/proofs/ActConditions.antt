@@ -1,20 +1,20 @@
 -- What an act asks: its effect may be had, its block may be parked, and its run may count it.
-use Rattle.std.proofs.Common.{◌≡◌, ℕ, ◌+◌, ◌^◌, ◌<◌, ◌==◌, ltb, ◌≤◌, Bool, true, false, not, ◌&&◌, cond, List, [], ◌∷◌, length, ◌++◌, min, Option, Some, None, is_none, refl, ap, sym, ◌∙◌, subst, arith, eq-eqb, ne_eqb}
+use Rattle.std.proofs.Common.{◌≡◌, ℕ, ◌+◌, ◌^◌, ◌<◌, ◌==◌, ltb, leb, ◌≤◌, Bool, true, false, not, ◌&&◌, cond, List, [], ◌∷◌, length, ◌++◌, min, Option, Some, None, is_none, refl, ap, sym, ◌∙◌, subst, arith, eq-eqb, ne_eqb}
 use Rattle.std.specs.List.{list_any}
 use Rattle.std.proofs.lemmas.Bool.{and_parts, ltb-true, leb-true, or_parts, both_ways}
 use Rattle.std.proofs.lemmas.List.{get_or-set_same, length-append}
 use Rattle.std.proofs.lemmas.Option.{same_Some}
 use Rattle.gcd_plan.specs.PlanView.{PlanView}
 use Rattle.gcd_plan.specs.Kinds.{has_kind, is_queue, is_queue_kind, is_node_kind, is_source_kind, is_merge_kind, is_group_kind, is_semaphore_kind}
-use Rattle.gcd_plan.specs.Validity.{is_act, is_submittable, is_held_object}
+use Rattle.gcd_plan.specs.Validity.{is_act, is_declared, is_held_object}
 use Rattle.gcd_plan.specs.declared.act.Act.{Act}
-use Rattle.gcd_plan.specs.declared.act.Act.TheVariants.{Async, Barrier, Sync, BarrierSync, GroupAsync, Notify, Enter, Leave, GroupWait, GroupWaitFor, Signal, Wait, WaitFor, Suspend, Resume, Activate, Target, Merge, Cancel, Retain, Release}
+use Rattle.gcd_plan.specs.declared.act.Act.TheVariants.{Async, Barrier, Sync, BarrierSync, GroupAsync, Notify, Enter, Leave, GroupWait, GroupWaitFor, Signal, Wait, WaitFor, Suspend, Resume, Activate, Target, Merge, Cancel, Retain, Release, Apply, CancelBlock, WaitBlock, NotifyBlock}
 use Rattle.gcd_plan.specs.declared.numbers.Blk.{Blk}
 use Rattle.gcd_plan.specs.declared.numbers.Obj.{Obj}
 use Rattle.gcd_plan.specs.declared.numbers.Run.{Run}
 use Rattle.gcd_plan.specs.declared.numbers.Run.TheVariants.{Block, Source}
 use Rattle.gcd_plan.specs.declared.reason.Reason.{Reason}
-use Rattle.gcd_plan.specs.declared.reason.Reason.TheVariants.{Block as EndOf, Group as Empty, Rank}
+use Rattle.gcd_plan.specs.declared.reason.Reason.TheVariants.{Block as EndOf, Group as Empty, Strip, Rank}
 use Rattle.gcd_event.specs.declared.event.Event.{Event}
 use Rattle.gcd_event.specs.declared.event.Event.TheVariants.{Act as Acted}
 use Rattle.gcd_history.specs.Runs.{open_runs, is_open, act_at, act_of}
@@ -38,13 +38,15 @@ use Rattle.gcd_refinement.proofs.Proper.{proper, proper_parts}
 use Rattle.gcd_refinement.proofs.StepWaits.{unparked}
 use Rattle.gcd_refinement.proofs.LimitRoom.{room_of_limit}
 use Rattle.gcd_refinement.proofs.Tied.{tied_step}
-use Rattle.gcd_machine.specs.Conditions.{CanKeepLimit, CanBeAhead, CanSetFree, CanPark, CanLayDown, CanSubmit, CanSignal, CanRetain, CanRelease, CanHaveEffect, CanCall, CanWaitForGroup, CanWaitForSemaphore, CanParkBy, CanParkIn, CanCount, CanAct}
-use Rattle.gcd_machine.proofs.NewBlocks.{unsubmitted, by_act, by_notify, nowhere}
-use Rattle.gcd_machine.proofs.GroupConditions.{can_let_go, can_submit, can_wake_at, position_low, can_enter, can_submit_member, can_leave_by_act, can_register}
+use Rattle.gcd_machine.specs.Conditions.{CanKeepLimit, CanBeAhead, CanSetFree, CanPark, CanLayDown, CanSubmit, CanSignal, CanRetain, CanRelease, CanHaveEffect, CanCall, CanWaitForGroup, CanWaitForSemaphore, CanWaitForStrip, CanWaitForBlock, CanSubmitStrip, CanParkBy, CanParkIn, CanCount, CanAct}
+use Rattle.gcd_blockobj.specs.MarkRoom.{mark_room}
+use Rattle.gcd_refinement.proofs.MarkRoom.{room_of_act}
+use Rattle.gcd_machine.proofs.NewBlocks.{unsubmitted, by_act, by_strip, by_notify, by_end_notify, nowhere}
+use Rattle.gcd_machine.proofs.GroupConditions.{can_let_go, can_submit, can_wake_at, position_low, can_enter, can_submit_member, can_leave_by_act, can_register, can_tell_of}
 use Rattle.gcd_machine.proofs.ActivityConditions.{can_activate, can_resume, can_suspend, can_cancel, can_merge}
 use Rattle.gcd_machine.proofs.TargetConditions.{can_target}
 use Rattle.gcd_plan.specs.Limits.{max_workers, max_value}
-use Rattle.gcd_refinement.proofs.StepCaller.{submittable_within}
+use Rattle.gcd_refinement.proofs.StepCaller.{declared_within}
 
 -- a block whose run goes on waits for nothing
 awake_now : (plan : PlanView) (past : List Event) (run : Run) → parked_by plan past run ≡ None → awaited plan past run ≡ None
@@ -162,10 +164,36 @@ module _ (past : List Event) (m : MachineView) (t : IsTied m.plan past m) (room 
         parks = can_park w b (Rank s (waits_at m.semas s.0 + 1)) (limit_in_view m (Some act)) worker block (omega (arith, semaphore, objects), omega arith) (can_keep b i act at block);
       }
 
+  -- a block that applies a strip waits for it
+  can_wait_for_strip : (w : ℕ) (b : Blk) (a : ℕ) → CanSetFree m w → b.0 < length m.plan.blocks → a < length m.plan.strips → CanWaitForStrip m w b a
+  can_wait_for_strip w b a worker block strip =
+      let appliers = t.own.appliers in
+      let strips = t.parts.wait_strips in
+      record {
+        strip = omega (arith, strip, appliers);
+        over = can_let_go past m t room b block;
+        parks = can_park w b (Strip a) None worker block (omega (arith, strip, strips)) (λ end is. cc);
+      }
+
+  can_wait_for_block : (w : ℕ) (b c : Blk) → has_run m.plan past w (Block b) ≡ true → CanSetFree m w → b.0 < length m.plan.blocks → c.0 < length m.plan.blocks → mark_room m.plan ≡ length m.plan.blocks → CanWaitForBlock m w b c
+  can_wait_for_block w b c own worker block awaited whole =
+      let ended = t.own.ended in
+      let waiters = t.own.waiters in
+      let waiting = t.own.waiter_blocks in
+      let reasons = t.parts.reasons in
+      record {
+        known = omega (arith, awaited, ended);
+        awaited = omega (arith, awaited, waiters, whole);
+        waiting = omega (arith, block, waiting, whole);
+        waits_for_none = t.places.patient b.0 (t.waits.reasons b.0 ∙ awake_now m.plan past (Block b) (unparked m.plan past w (Block b) own));
+        over = can_let_go past m t room b block;
+        parks = can_park w b (EndOf c) None worker block (omega (arith, awaited, reasons)) (λ end is. cc);
+      }
+
   can_park_by : (w : ℕ) (b : Blk) (i : ℕ) (act : Act) → IsLawful m.plan (Acted w (Block b) i ∷ past) → act_at m.plan (Block b) i ≡ Some act → has_run m.plan past w (Block b) ≡ true → CanSetFree m w → b.0 < length m.plan.blocks → is_act m.plan act ≡ true
       → CanParkBy m w b act
-  can_park_by w b i (Sync q c) lawful at own worker block fits = can_call w b c worker block (submittable_within m.plan c (and_parts (is_queue m.plan q.0) _ fits).1)
-  can_park_by w b i (BarrierSync q c) lawful at own worker block fits = can_call w b c worker block (submittable_within m.plan c (and_parts (is_queue m.plan q.0) _ fits).1)
+  can_park_by w b i (Sync q c) lawful at own worker block fits = can_call w b c worker block (declared_within m.plan c (and_parts (is_queue m.plan q.0) _ fits).1)
+  can_park_by w b i (BarrierSync q c) lawful at own worker block fits = can_call w b c worker block (declared_within m.plan c (and_parts (is_queue m.plan q.0) _ fits).1)
   can_park_by w b i (GroupWait g) lawful at own worker block fits = can_wait_for_group w b i (GroupWait g) g at own worker block (has_object is_group_kind m.plan g.0 fits)
   can_park_by w b i (GroupWaitFor g ms) lawful at own worker block fits =
       can_wait_for_group w b i (GroupWaitFor g ms) g at own worker block (has_object is_group_kind m.plan g.0 (and_parts (has_kind is_group_kind m.plan g.0) _ fits).0)
@@ -175,6 +203,8 @@ module _ (past : List Event) (m : MachineView) (t : IsTied m.plan past m) (room 
   can_park_by w b i (WaitFor s ms) lawful at own worker block fits =
       let low = has_object is_semaphore_kind m.plan s.0 (and_parts (has_kind is_semaphore_kind m.plan s.0) _ fits).0 in
       can_wait_for_semaphore w b i (WaitFor s ms) s at own worker block low (has_room (Acted w (Block b) i) s lawful (ap (semas_by m.semas) at) low)
+  can_park_by w b i (Apply q a) lawful at own worker block fits = can_wait_for_strip w b a worker block (ltb-true a (length m.plan.strips) (and_parts (is_queue m.plan q.0) _ fits).1)
+  can_park_by w b i (WaitBlock c) lawful at own worker block fits = can_wait_for_block w b c own worker block (declared_within m.plan c fits) (room_of_act m.plan (Block b) i (WaitBlock c) at refl)
   can_park_by w b i act lawful at own worker block fits = tt
 
   can_park_in : (w : ℕ) (run : Run) (i : ℕ) (act : Act) → IsLawful m.plan (Acted w run i ∷ past) → act_at m.plan run i ≡ Some act → has_run m.plan past w run ≡ true → CanSetFree m w → is_run_of m.plan run ≡ true → is_act m.plan act ≡ true → CanParkIn m w run act
@@ -208,9 +238,9 @@ module _ (past : List Event) (m : MachineView) (t : IsTied m.plan past m) (room 
 
   -- ## Effects
 
-  can_submit_by_act : (e : Event) (n : Obj) (b : Blk) (barrier : Bool) → IsLawful m.plan (e ∷ past) → submitted_by (act_of m.plan e) ≡ on_node n b barrier → is_queue m.plan n.0 ≡ true → is_submittable m.plan b ≡ true → CanSubmit m n b
+  can_submit_by_act : (e : Event) (n : Obj) (b : Blk) (barrier : Bool) → IsLawful m.plan (e ∷ past) → submitted_by m.plan (act_of m.plan e) ≡ on_node n b barrier → is_queue m.plan n.0 ≡ true → is_declared m.plan b ≡ true → CanSubmit m n b
   can_submit_by_act e n b barrier lawful is node block =
-      can_submit past m t room n b (has_object is_queue_kind m.plan n.0 node) (submittable_within m.plan b block)
+      can_submit past m t room n b (has_object is_queue_kind m.plan n.0 node) (declared_within m.plan b block)
       (nowhere past m t b.0 (unsubmitted m.plan past e b.0 t.valid lawful (by_act m.plan past e n b barrier is)))
 
   held_low : (o : Obj) → is_held_object m.plan o ≡ true → o.0 < length m.plan.objects
@@ -219,27 +249,50 @@ module _ (past : List Event) (m : MachineView) (t : IsTied m.plan past m) (room 
   counted_low : (o : Obj) → (ltb 0 o.0 && ltb o.0 (length m.plan.objects)) ≡ true → (0 < o.0) × (o.0 < length m.plan.objects)
   counted_low o fits = let parts = and_parts (ltb 0 o.0) _ fits in (ltb-true 0 o.0 parts.0, ltb-true o.0 (length m.plan.objects) parts.1)
 
+  -- the blocks of a strip are of the plan, and were not submitted
+  can_submit_strip : (e : Event) (q : Obj) (a : ℕ) → IsLawful m.plan (e ∷ past) → act_of m.plan e ≡ Some (Apply q a) → q.0 < length m.plan.objects → CanSubmitStrip m q a
+  can_submit_strip e q a lawful at node =
+      let lists = t.parts.lists in
+      let listed = t.parts.list_blocks in
+      let blocks = t.own.blocks in
+      let busy = t.own.busy in
+      let left = t.small.left in
+      let few = t.valid.few_blocks in
+      record {
+        blocks = λ s of.
+            let among = leb-true (s.first + s.count) (length m.plan.blocks) (and_parts (leb 1 s.first) _ (t.valid.strips a s of).among).1 in
+            record {
+              node = omega (arith, node, lists);
+              listed = omega (arith, among, listed);
+              short = omega (arith, among, few);
+              nowhere = λ b low high. nowhere past m t b (unsubmitted m.plan past e b t.valid lawful (by_strip m.plan past e q a s b at of low high));
+              blocks = omega (arith, among, blocks);
+              marked = omega (arith, node, busy);
+              room = omega (arith, left, among, few);
+            };
+      }
+
   have_effect : (w : ℕ) (run : Run) (i : ℕ) (act : Act) → IsLawful m.plan (Acted w run i ∷ past) → act_at m.plan run i ≡ Some act → is_act m.plan act ≡ true → CanHaveEffect m act
   have_effect w run i (Async q b) lawful at fits =
       let parts = and_parts (is_queue m.plan q.0) _ fits in
-      can_submit_by_act (Acted w run i) q b false lawful (ap submitted_by at) parts.0 parts.1
+      can_submit_by_act (Acted w run i) q b false lawful (ap (submitted_by m.plan) at) parts.0 parts.1
   have_effect w run i (Barrier q b) lawful at fits =
       let parts = and_parts (is_queue m.plan q.0) _ fits in
-      can_submit_by_act (Acted w run i) q b true lawful (ap submitted_by at) parts.0 parts.1
+      can_submit_by_act (Acted w run i) q b true lawful (ap (submitted_by m.plan) at) parts.0 parts.1
   have_effect w run i (Sync q b) lawful at fits =
       let parts = and_parts (is_queue m.plan q.0) _ fits in
-      can_submit_by_act (Acted w run i) q b false lawful (ap submitted_by at) parts.0 parts.1
+      can_submit_by_act (Acted w run i) q b false lawful (ap (submitted_by m.plan) at) parts.0 parts.1
   have_effect w run i (BarrierSync q b) lawful at fits =
       let parts = and_parts (is_queue m.plan q.0) _ fits in
-      can_submit_by_act (Acted w run i) q b true lawful (ap submitted_by at) parts.0 parts.1
+      can_submit_by_act (Acted w run i) q b true lawful (ap (submitted_by m.plan) at) parts.0 parts.1
   have_effect w run i (GroupAsync g q b) lawful at fits =
       let group = and_parts (has_kind is_group_kind m.plan g.0) _ fits in
       let parts = and_parts (is_queue m.plan q.0) _ group.1 in
-      can_submit_member past m t room g q b (has_object is_group_kind m.plan g.0 group.0) (can_submit_by_act (Acted w run i) q b false lawful (ap submitted_by at) parts.0 parts.1)
+      can_submit_member past m t room g q b (has_object is_group_kind m.plan g.0 group.0) (can_submit_by_act (Acted w run i) q b false lawful (ap (submitted_by m.plan) at) parts.0 parts.1)
   have_effect w run i (Notify g q b) lawful at fits =
       let group = and_parts (has_kind is_group_kind m.plan g.0) _ fits in
       let parts = and_parts (is_queue m.plan q.0) _ group.1 in
-      can_register past m t room g q b (by_notify m.plan past (Acted w run i) g q b t.valid lawful at) (has_object is_group_kind m.plan g.0 group.0) (has_object is_queue_kind m.plan q.0 parts.0) (submittable_within m.plan b parts.1)
+      can_register past m t room g q b (by_notify m.plan past (Acted w run i) g q b t.valid lawful at) (has_object is_group_kind m.plan g.0 group.0) (has_object is_queue_kind m.plan q.0 parts.0) (declared_within m.plan b parts.1)
   have_effect w run i (Enter g) lawful at fits = can_enter past m t room g (has_object is_group_kind m.plan g.0 fits)
   have_effect w run i (Leave g) lawful at fits = can_leave_by_act past m t room (Acted w run i) g lawful at (has_object is_group_kind m.plan g.0 fits)
   have_effect w run i (GroupWait g) lawful at fits = tt
@@ -256,6 +309,14 @@ module _ (past : List Event) (m : MachineView) (t : IsTied m.plan past m) (room 
       can_merge past m t room s n (has_object is_merge_kind m.plan s.0 parts.0) (leb-true n max_value parts.1)
   have_effect w run i (Cancel s) lawful at fits = can_cancel past m t room (Acted w run i) s lawful (ap cancelled_by at) (has_object is_source_kind m.plan s.0 fits)
   have_effect w run i (Retain o) lawful at fits = let low = counted_low o fits in can_retain (Acted w run i) o lawful at low.0 low.1
+  have_effect w run i (Apply q a) lawful at fits = can_submit_strip (Acted w run i) q a lawful at (has_object is_queue_kind m.plan q.0 (and_parts (is_queue m.plan q.0) _ fits).0)
+  have_effect w run i (CancelBlock c) lawful at fits = tt
+  have_effect w run i (WaitBlock c) lawful at fits = tt
+  have_effect w run i (NotifyBlock c q d) lawful at fits =
+      let parts = and_parts (is_declared m.plan c) _ fits in
+      let rest = and_parts (is_queue m.plan q.0) _ parts.1 in
+      let whole = room_of_act m.plan run i (NotifyBlock c q d) at refl in
+      can_tell_of past m t room c q d (by_end_notify m.plan past (Acted w run i) c q d t.valid lawful at) whole (declared_within m.plan c parts.0) (has_object is_queue_kind m.plan q.0 rest.0) (declared_within m.plan d rest.1)
   have_effect w run i (Release o) lawful at fits = let low = counted_low o fits in can_release (Acted w run i) o lawful at low.0 low.1
 
   -- ## The act

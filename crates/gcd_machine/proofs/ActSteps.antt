@@ -4,7 +4,7 @@ use Rattle.std.proofs.Common.{◌≡◌, ℕ, ◌<◌, ◌==◌, true, false, Li
 use Rattle.gcd_plan.specs.PlanView.{PlanView}
 use Rattle.gcd_plan.specs.Validity.{is_handler_act}
 use Rattle.gcd_plan.specs.declared.act.Act.{Act}
-use Rattle.gcd_plan.specs.declared.act.Act.TheVariants.{Async, Barrier, Sync, BarrierSync, GroupAsync, Notify, Enter, Leave, GroupWait, GroupWaitFor, Signal, Wait, WaitFor, Suspend, Resume, Activate, Target, Merge, Cancel, Retain, Release}
+use Rattle.gcd_plan.specs.declared.act.Act.TheVariants.{Async, Barrier, Sync, BarrierSync, GroupAsync, Notify, Enter, Leave, GroupWait, GroupWaitFor, Signal, Wait, WaitFor, Suspend, Resume, Activate, Target, Merge, Cancel, Retain, Release, Apply, CancelBlock, WaitBlock, NotifyBlock}
 use Rattle.gcd_plan.specs.declared.numbers.Blk.{Blk}
 use Rattle.gcd_plan.specs.declared.numbers.Obj.{Obj}
 use Rattle.gcd_plan.specs.declared.numbers.Run.{Run}
@@ -15,11 +15,14 @@ use Rattle.gcd_history.specs.Runs.{act_at}
 use Rattle.gcd_group.specs.GroupsView.{count_at}
 use Rattle.gcd_sema.specs.SemasView.{has_value_at}
 use Rattle.gcd_refinement.specs.MachineView.{MachineView}
-use Rattle.gcd_refinement.specs.Ties.{GroupsAre}
+use Rattle.gcd_blockobj.specs.MarkRoom.{mark_room}
+use Rattle.gcd_refinement.specs.Ties.{GroupsAre, BlockMarksAre}
 use Rattle.gcd_refinement.specs.After.{after}
 use Rattle.gcd_machine.specs.Steps.{acted, act_taken, stepped}
 use Rattle.gcd_machine.proofs.Activations.{units, counted, activated_is, resumed_is, cancelled_is}
 use Rattle.gcd_machine.proofs.GroupSteps.{leave_stepped, notify_stepped}
+use Rattle.gcd_machine.proofs.StripSteps.{apply_stepped}
+use Rattle.gcd_machine.proofs.BlockSteps.{wait_block_stepped, notify_block_stepped}
 
 -- the event's steps make what it changes
 abbrev pub IsStepped : MachineView → ℕ → Run → ℕ → Type 0
@@ -75,43 +78,53 @@ limited_group_wait_stepped m w b i g ms at =
 pub record HasPlaces (m : MachineView) (act : Act) : Type 0 where
   pub leave : (g : Obj) → act ≡ Leave g → g.0 < length m.groups.due
   pub notify : (g q : Obj) (c : Blk) → act ≡ Notify g q c → (g.0 < length m.groups.notify.lists) × (g.0 < length m.groups.due) × (c.0 < length m.blocks)
+  pub apply : (q : Obj) (a : ℕ) → act ≡ Apply q a → q.0 < length m.lists.lists
+  pub notify_block : (c : Blk) (q : Obj) (d : Blk) → act ≡ NotifyBlock c q d → d.0 < length m.blocks
+  pub kept : length m.marks.ended ≡ mark_room m.plan
+  pub listed : length m.marks.ended ≡ length m.marks.notify.lists
 
-pub block_stepped : (plan : PlanView) (past : List Event) (m : MachineView) (w : ℕ) (b : Blk) (i : ℕ) (act : Act) → GroupsAre plan past m → HasPlaces m act → act_at m.plan (Block b) i ≡ Some act → IsStepped m w (Block b) i
-block_stepped plan past m w b i (Async q c) groups low at = rw at (simp units)
-block_stepped plan past m w b i (Barrier q c) groups low at = rw at (simp units)
-block_stepped plan past m w b i (Sync q c) groups low at = rw at (simp units)
-block_stepped plan past m w b i (BarrierSync q c) groups low at = rw at (simp units)
-block_stepped plan past m w b i (GroupAsync g q c) groups low at = rw at (simp units)
-block_stepped plan past m w b i (Notify g q c) groups low at =
+pub block_stepped : (plan : PlanView) (past : List Event) (m : MachineView) (w : ℕ) (b : Blk) (i : ℕ) (act : Act) → GroupsAre plan past m → BlockMarksAre m.plan past m → HasPlaces m act → act_at m.plan (Block b) i ≡ Some act → IsStepped m w (Block b) i
+block_stepped plan past m w b i (Async q c) groups marks low at = rw at (simp units)
+block_stepped plan past m w b i (Barrier q c) groups marks low at = rw at (simp units)
+block_stepped plan past m w b i (Sync q c) groups marks low at = rw at (simp units)
+block_stepped plan past m w b i (BarrierSync q c) groups marks low at = rw at (simp units)
+block_stepped plan past m w b i (GroupAsync g q c) groups marks low at = rw at (simp units)
+block_stepped plan past m w b i (Notify g q c) groups marks low at =
     let places = low.notify g q c refl in
     notify_stepped plan past m w b i g q c groups places.0 places.1 places.2 at
-block_stepped plan past m w b i (Enter g) groups low at = rw at (simp units)
-block_stepped plan past m w b i (Leave g) groups low at = leave_stepped plan past m w (Block b) i g groups (low.leave g refl) at
-block_stepped plan past m w b i (GroupWait g) groups low at = group_wait_stepped m w b i g at
-block_stepped plan past m w b i (GroupWaitFor g ms) groups low at = limited_group_wait_stepped m w b i g ms at
-block_stepped plan past m w b i (Wait s) groups low at = wait_stepped m w b i s at
-block_stepped plan past m w b i (WaitFor s ms) groups low at = limited_wait_stepped m w b i s ms at
-block_stepped plan past m w b i (Signal s) groups low at = rw at (simp units)
-block_stepped plan past m w b i (Suspend o) groups low at = rw at (simp units)
-block_stepped plan past m w b i (Resume o) groups low at = resume_stepped m w (Block b) i o at
-block_stepped plan past m w b i (Activate o) groups low at = activate_stepped m w (Block b) i o at
-block_stepped plan past m w b i (Target o t) groups low at = rw at (simp units)
-block_stepped plan past m w b i (Merge s n) groups low at = rw at (simp units)
-block_stepped plan past m w b i (Cancel s) groups low at = cancel_stepped m w (Block b) i s at
-block_stepped plan past m w b i (Retain o) groups low at = rw at (simp units)
-block_stepped plan past m w b i (Release o) groups low at = rw at (simp units)
+block_stepped plan past m w b i (Enter g) groups marks low at = rw at (simp units)
+block_stepped plan past m w b i (Leave g) groups marks low at = leave_stepped plan past m w (Block b) i g groups (low.leave g refl) at
+block_stepped plan past m w b i (GroupWait g) groups marks low at = group_wait_stepped m w b i g at
+block_stepped plan past m w b i (GroupWaitFor g ms) groups marks low at = limited_group_wait_stepped m w b i g ms at
+block_stepped plan past m w b i (Wait s) groups marks low at = wait_stepped m w b i s at
+block_stepped plan past m w b i (WaitFor s ms) groups marks low at = limited_wait_stepped m w b i s ms at
+block_stepped plan past m w b i (Signal s) groups marks low at = rw at (simp units)
+block_stepped plan past m w b i (Suspend o) groups marks low at = rw at (simp units)
+block_stepped plan past m w b i (Resume o) groups marks low at = resume_stepped m w (Block b) i o at
+block_stepped plan past m w b i (Activate o) groups marks low at = activate_stepped m w (Block b) i o at
+block_stepped plan past m w b i (Target o t) groups marks low at = rw at (simp units)
+block_stepped plan past m w b i (Merge s n) groups marks low at = rw at (simp units)
+block_stepped plan past m w b i (Cancel s) groups marks low at = cancel_stepped m w (Block b) i s at
+block_stepped plan past m w b i (Retain o) groups marks low at = rw at (simp units)
+block_stepped plan past m w b i (Release o) groups marks low at = rw at (simp units)
+block_stepped plan past m w b i (Apply q a) groups marks low at = apply_stepped m w b i q a (low.apply q a refl) at
+block_stepped plan past m w b i (CancelBlock c) groups marks low at = rw at (simp units)
+block_stepped plan past m w b i (WaitBlock c) groups marks low at = wait_block_stepped m w b i c at
+block_stepped plan past m w b i (NotifyBlock c q d) groups marks low at =
+    notify_block_stepped m.plan past m w b i c q d marks low.kept low.listed (low.notify_block c q d refl) at
 
 -- a handler submits no block, and waits for nothing
-pub handler_stepped : (plan : PlanView) (past : List Event) (m : MachineView) (w : ℕ) (t : Obj) (i : ℕ) (act : Act) → GroupsAre plan past m → HasPlaces m act → is_handler_act act ≡ true → act_at m.plan (Source t) i ≡ Some act → IsStepped m w (Source t) i
-handler_stepped plan past m w t i (Enter g) groups low may at = rw at (simp units)
-handler_stepped plan past m w t i (Leave g) groups low may at = leave_stepped plan past m w (Source t) i g groups (low.leave g refl) at
-handler_stepped plan past m w t i (Signal s) groups low may at = rw at (simp units)
-handler_stepped plan past m w t i (Suspend o) groups low may at = rw at (simp units)
-handler_stepped plan past m w t i (Resume o) groups low may at = resume_stepped m w (Source t) i o at
-handler_stepped plan past m w t i (Activate o) groups low may at = activate_stepped m w (Source t) i o at
-handler_stepped plan past m w t i (Target o n) groups low may at = rw at (simp units)
-handler_stepped plan past m w t i (Merge s n) groups low may at = rw at (simp units)
-handler_stepped plan past m w t i (Cancel s) groups low may at = cancel_stepped m w (Source t) i s at
-handler_stepped plan past m w t i (Retain o) groups low may at = rw at (simp units)
-handler_stepped plan past m w t i (Release o) groups low may at = rw at (simp units)
-handler_stepped plan past m w t i act groups low may at = cc
+pub handler_stepped : (plan : PlanView) (past : List Event) (m : MachineView) (w : ℕ) (t : Obj) (i : ℕ) (act : Act) → GroupsAre plan past m → BlockMarksAre m.plan past m → HasPlaces m act → is_handler_act act ≡ true → act_at m.plan (Source t) i ≡ Some act → IsStepped m w (Source t) i
+handler_stepped plan past m w t i (Enter g) groups marks low may at = rw at (simp units)
+handler_stepped plan past m w t i (Leave g) groups marks low may at = leave_stepped plan past m w (Source t) i g groups (low.leave g refl) at
+handler_stepped plan past m w t i (Signal s) groups marks low may at = rw at (simp units)
+handler_stepped plan past m w t i (Suspend o) groups marks low may at = rw at (simp units)
+handler_stepped plan past m w t i (Resume o) groups marks low may at = resume_stepped m w (Source t) i o at
+handler_stepped plan past m w t i (Activate o) groups marks low may at = activate_stepped m w (Source t) i o at
+handler_stepped plan past m w t i (Target o n) groups marks low may at = rw at (simp units)
+handler_stepped plan past m w t i (Merge s n) groups marks low may at = rw at (simp units)
+handler_stepped plan past m w t i (Cancel s) groups marks low may at = cancel_stepped m w (Source t) i s at
+handler_stepped plan past m w t i (Retain o) groups marks low may at = rw at (simp units)
+handler_stepped plan past m w t i (Release o) groups marks low may at = rw at (simp units)
+handler_stepped plan past m w t i (CancelBlock c) groups marks low may at = rw at (simp units)
+handler_stepped plan past m w t i act groups marks low may at = cc

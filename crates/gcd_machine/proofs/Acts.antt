@@ -1,19 +1,21 @@
 -- The conditions of an act stand once it is counted and its run is parked.
-use Rattle.std.proofs.Common.{◌≡◌, ℕ, ◌+◌, List, Option, length, get_or, set, refl, ap, sym, ◌∙◌, subst, arith}
+use Rattle.std.proofs.Common.{◌≡◌, ℕ, ◌+◌, ◌==◌, true, false, cond, List, Option, Some, None, length, get_or, set, refl, ap, sym, ◌∙◌, subst, arith}
 use Rattle.std.proofs.lemmas.List.{length-set}
 use Rattle.gcd_plan.specs.declared.act.Act.{Act}
-use Rattle.gcd_plan.specs.declared.act.Act.TheVariants.{Async, Barrier, Sync, BarrierSync, GroupAsync, Notify, Enter, Leave, GroupWait, GroupWaitFor, Signal, Wait, WaitFor, Suspend, Resume, Activate, Target, Merge, Cancel, Retain, Release}
+use Rattle.gcd_plan.specs.declared.act.Act.TheVariants.{Async, Barrier, Sync, BarrierSync, GroupAsync, Notify, Enter, Leave, GroupWait, GroupWaitFor, Signal, Wait, WaitFor, Suspend, Resume, Activate, Target, Merge, Cancel, Retain, Release, Apply, CancelBlock, WaitBlock, NotifyBlock}
 use Rattle.gcd_plan.specs.declared.numbers.Blk.{Blk}
 use Rattle.gcd_plan.specs.declared.numbers.Obj.{Obj}
 use Rattle.gcd_plan.specs.declared.numbers.Run.{Run}
 use Rattle.gcd_plan.specs.declared.numbers.Run.TheVariants.{Block, Source}
 use Rattle.gcd_plan.specs.declared.reason.Reason.{Reason}
+use Rattle.gcd_plan.specs.declared.reason.Reason.TheVariants.{Strip}
+use Rattle.gcd_apply.specs.StripsView.{left_at}
 use Rattle.gcd_refinement.specs.MachineView.{MachineView, idle, block_at}
 use Rattle.gcd_refinement.specs.declared.progress.BlockProgress.{BlockProgress}
 use Rattle.gcd_refinement.specs.declared.progress.HandlerProgress.{HandlerProgress}
 use Rattle.gcd_refinement.specs.After.{handled}
-use Rattle.gcd_machine.specs.Steps.{acted, called_by, parked_in}
-use Rattle.gcd_machine.specs.Conditions.{CanPark, CanLayDown, CanWakeAt, CanSubmit, HaveHomes, CanComeEmpty, CanEnter, CanMakeActive, CanMakeCancelled, CanCall, CanWaitForGroup, CanWaitForSemaphore, CanHaveEffect, CanParkIn, CanDo}
+use Rattle.gcd_machine.specs.Steps.{acted, called_by, let_go, parked, parked_in}
+use Rattle.gcd_machine.specs.Conditions.{CanPark, CanLayDown, CanWakeAt, CanSubmit, HaveHomes, CanComeEmpty, CanEnter, CanMakeActive, CanMakeCancelled, CanCall, CanWaitForGroup, CanWaitForSemaphore, CanWaitForStrip, CanWaitForBlock, CanSubmitStrip, HaveHomesAtEnd, CanHaveEffect, CanParkIn, CanDo}
 use Rattle.gcd_machine.proofs.Kept.{homes_kept}
 
 -- ## Another record of blocks, as long and with the same homes, and of handlers
@@ -24,6 +26,13 @@ with_noted m blocks handlers = record m { blocks = blocks; handlers = handlers }
 module _ (m : MachineView) (blocks : List BlockProgress) (handlers : List HandlerProgress) (long : length blocks ≡ length m.blocks) where
   submit_noted : {q : Obj} {b : Blk} → CanSubmit m q b → CanSubmit (with_noted m blocks handlers) q b
   submit_noted can = record { node = can.node; listed = can.listed; nowhere = can.nowhere; blk = omega (arith, long, can.blk); marked = can.marked; room = can.room }
+
+  strip_noted : {q : Obj} {a : ℕ} → CanSubmitStrip m q a → CanSubmitStrip (with_noted m blocks handlers) q a
+  strip_noted can = record {
+    blocks = λ s is.
+        let span = can.blocks s is in
+        record { node = span.node; listed = span.listed; short = span.short; nowhere = span.nowhere; blocks = omega (arith, long, span.blocks); marked = span.marked; room = span.room };
+  }
 
   wakes_noted : {o : Obj} → CanWakeAt m o → CanWakeAt (with_noted m blocks handlers) o
   wakes_noted can = record { object = can.object; blocks = can.blocks; ripe = can.ripe }
@@ -67,6 +76,23 @@ module _ (m : MachineView) (blocks : List BlockProgress) (handlers : List Handle
     parks = park_noted can.parks;
   }
 
+  strip_wait_noted : {w : ℕ} {b : Blk} {a : ℕ} → CanWaitForStrip m w b a → CanWaitForStrip (with_noted m blocks handlers) w b a
+  strip_wait_noted can = record {
+    strip = can.strip;
+    over = record { wakeable = can.over.wakeable; ripe = can.over.ripe };
+    parks = park_noted can.parks;
+  }
+
+  block_wait_noted : {w : ℕ} {b c : Blk} → CanWaitForBlock m w b c → CanWaitForBlock (with_noted m blocks handlers) w b c
+  block_wait_noted can = record {
+    known = can.known;
+    awaited = can.awaited;
+    waiting = can.waiting;
+    waits_for_none = can.waits_for_none;
+    over = record { wakeable = can.over.wakeable; ripe = can.over.ripe };
+    parks = park_noted can.parks;
+  }
+
   call_noted : {w : ℕ} {b c : Blk} → CanCall m w b c → CanCall (with_noted m blocks handlers) w b c
   call_noted can = record { called = omega (arith, long, can.called); parks = park_noted can.parks }
 
@@ -78,6 +104,8 @@ module _ (m : MachineView) (blocks : List BlockProgress) (handlers : List Handle
   park_by_noted w (Block b) (GroupWaitFor g ms) can = group_wait_noted can
   park_by_noted w (Block b) (Wait s) can = wait_noted can
   park_by_noted w (Block b) (WaitFor s ms) can = wait_noted can
+  park_by_noted w (Block b) (Apply q a) can = strip_wait_noted can
+  park_by_noted w (Block b) (WaitBlock c) can = block_wait_noted can
   park_by_noted w (Block b) act can = can
 
   module _ (homes : (c : ℕ) → (get_or blocks c idle).home ≡ (block_at m c).home) where
@@ -87,6 +115,15 @@ module _ (m : MachineView) (blocks : List BlockProgress) (handlers : List Handle
       nowhere = have.nowhere;
       listed = have.listed;
       blocks = have.blocks ∙ sym long;
+      marked = have.marked;
+    }
+
+    end_homes_noted : HaveHomesAtEnd m → HaveHomesAtEnd (with_noted m blocks handlers)
+    end_homes_noted have = record {
+      homes = λ c. rw (homes c) (have.homes c);
+      nowhere = have.nowhere;
+      listed = have.listed;
+      blocks = omega (arith, long, have.blocks);
       marked = have.marked;
     }
 
@@ -128,6 +165,19 @@ module _ (m : MachineView) (blocks : List BlockProgress) (handlers : List Handle
     }
     effect_noted (Retain o) can = record { object = can.object; live = can.live; room = can.room }
     effect_noted (Release o) can = record { object = can.object; live = can.live }
+    effect_noted (Apply q a) can = strip_noted can
+    effect_noted (CancelBlock c) can = tt
+    effect_noted (WaitBlock c) can = tt
+    effect_noted (NotifyBlock c q d) can = record {
+      awaited = can.awaited;
+      waiting = can.waiting;
+      waits_for_none = can.waits_for_none;
+      homes = end_homes_noted can.homes;
+      home = can.home;
+      blk = omega (arith, long, can.blk);
+      nowhere = can.nowhere;
+      room = can.room;
+    }
 
 -- ## An act that is counted
 
@@ -149,6 +199,18 @@ effect_counted m (Source s) act can = effect_noted m m.blocks (handled m (Source
 submit_called : (m : MachineView) (w : ℕ) (b c : Blk) (q : Obj) → CanSubmit m q c → CanSubmit (called_by m w b c) q c
 submit_called m w b c q can = record { node = can.node; listed = can.listed; nowhere = can.nowhere; blk = rw length-set can.blk; marked = can.marked; room = can.room }
 
+-- and who waits for a strip may submit it
+submit_applied : (m : MachineView) (w : ℕ) (b : Blk) (q : Obj) (a : ℕ) → CanSubmitStrip m q a → CanSubmitStrip (parked_in m w (Block b) (Apply q a)) q a
+submit_applied m w b q a can =
+    elim (left_at m.strips a == 0) as (λ t. CanSubmitStrip (parked (cond t (let_go m b) (record m { appliers = set m.appliers a (Some b) })) w b (Strip a) None) q a) [
+      | true ↦ record {
+        blocks = λ s is. let span = can.blocks s is in record { node = span.node; listed = span.listed; short = span.short; nowhere = span.nowhere; blocks = span.blocks; marked = span.marked; room = span.room };
+      }
+      | false ↦ record {
+        blocks = λ s is. let span = can.blocks s is in record { node = span.node; listed = span.listed; short = span.short; nowhere = span.nowhere; blocks = span.blocks; marked = span.marked; room = span.room };
+      }
+    ]
+
 pub effect_parked : (m : MachineView) (w : ℕ) (run : Run) (act : Act) → CanHaveEffect m act → CanHaveEffect (parked_in m w run act) act
 effect_parked m w (Source s) act can = can
 effect_parked m w (Block b) (Sync q c) can = submit_called m w b c q can
@@ -157,6 +219,8 @@ effect_parked m w (Block b) (GroupWait g) can = tt
 effect_parked m w (Block b) (GroupWaitFor g ms) can = tt
 effect_parked m w (Block b) (Wait s) can = tt
 effect_parked m w (Block b) (WaitFor s ms) can = tt
+effect_parked m w (Block b) (Apply q a) can = submit_applied m w b q a can
+effect_parked m w (Block b) (WaitBlock c) can = tt
 effect_parked m w (Block b) act can = can
 
 -- what the run needs for the act, once it is counted, and parked

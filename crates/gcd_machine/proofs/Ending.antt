@@ -1,7 +1,6 @@
 -- Whether anything can come any more, and whether a block is left, as what a machine keeps tells it.
-use Rattle.std.proofs.Common.{◌≡◌, ℕ, ◌==◌, Bool, true, false, not, ◌&&◌, ◌||◌, ◌↔◌, cond, List, [], ◌∷◌, None, is_none, count_by, refl, ap, sym, ◌∙◌, arith, get_or, zero, suc}
-use Rattle.std.specs.List.{list_all}
-use Rattle.std.proofs.lemmas.Bool.{and_from, and_parts, eqb-true, eq-eqb, ne_eqb, not-true}
+use Rattle.std.proofs.Common.{◌≡◌, ℕ, ◌==◌, Bool, true, false, not, ◌||◌, ◌↔◌, cond, List, [], ◌∷◌, None, is_none, count_by, refl, ap, sym, ◌∙◌, arith, get_or, zero, suc}
+use Rattle.std.proofs.lemmas.Bool.{and_from, and_parts, eqb-true, eq-eqb, not-true}
 use Rattle.gcd_plan.specs.PlanView.{PlanView}
 use Rattle.gcd_event.specs.declared.event.Event.{Event}
 use Rattle.gcd_history.specs.Runs.{is_ended}
@@ -16,10 +15,13 @@ use Rattle.gcd_history.proofs.Quiet.{AtRest, quiescent_from_rest, rest_from_quie
 use Rattle.gcd_refinement.specs.MachineView.{MachineView, is_ripe_at, next_due_in}
 use Rattle.gcd_refinement.specs.Stands.{IsTied}
 use Rattle.gcd_refinement.proofs.NextDue.{next_due_is}
+use Rattle.gcd_machine.specs.Judged.{is_intake_open_at}
 use Rattle.gcd_machine.specs.Chosen.{choice_by, is_quiescent_at}
 use Rattle.gcd_machine.proofs.Choosing.{choice_is}
+use Rattle.gcd_machine.proofs.IntakeTold.{open_is}
 use Rattle.gcd_machine.proofs.Expiries.{expires_is, none_from_unripe}
 use Rattle.gcd_machine.proofs.Judges.{of_plan}
+use Rattle.gcd_machine.proofs.Waits.{none_left}
 use Rattle.gcd_machine.proofs.Workers.{over_is}
 
 -- ## Live feeds
@@ -44,6 +46,7 @@ none_counted (flag ∷ flags) none =
 -- the tests, one by one
 record Tests (m : MachineView) : Type 0 where
   going : (m.misused || m.halted) ≡ false
+  no_intake : is_intake_open_at m ≡ false
   idle : m.running ≡ 0
   no_feed : count_by (λ b. b) m.live ≡ 0
   no_expiry : count_by (λ b. b) m.ripe ≡ 0
@@ -53,12 +56,14 @@ record Tests (m : MachineView) : Type 0 where
 tests_from : (m : MachineView) → is_quiescent_at m ≡ true → Tests m
 tests_from m quiet =
     let one = and_parts (not (m.misused || m.halted)) _ quiet in
-    let two = and_parts (m.running == 0) _ one.1 in
+    let shut = and_parts (not (is_intake_open_at m)) _ one.1 in
+    let two = and_parts (m.running == 0) _ shut.1 in
     let three = and_parts (count_by (λ b. b) m.live == 0) _ two.1 in
     let four = and_parts (count_by (λ b. b) m.ripe == 0) _ three.1 in
     let five = and_parts (is_none (next_due_in m)) (is_none (choice_by m 0 0)) four.1 in
     record {
       going = not-true (m.misused || m.halted) one.0;
+      no_intake = not-true (is_intake_open_at m) shut.0;
       idle = eqb-true m.running 0 two.0;
       no_feed = eqb-true (count_by (λ b. b) m.live) 0 three.0;
       no_expiry = eqb-true (count_by (λ b. b) m.ripe) 0 four.0;
@@ -71,7 +76,8 @@ tests_to m tests =
     let none = and_from (is_none (next_due_in m)) (is_none (choice_by m 0 0)) (ap is_none tests.no_time) (ap is_none tests.no_choice) in
     let unripe = and_from (count_by (λ b. b) m.ripe == 0) _ (eq-eqb (count_by (λ b. b) m.ripe) 0 tests.no_expiry) none in
     let still = and_from (count_by (λ b. b) m.live == 0) _ (eq-eqb (count_by (λ b. b) m.live) 0 tests.no_feed) unripe in
-    and_from (not (m.misused || m.halted)) _ (ap not tests.going) (and_from (m.running == 0) _ (eq-eqb m.running 0 tests.idle) still)
+    let rests = and_from (m.running == 0) _ (eq-eqb m.running 0 tests.idle) still in
+    and_from (not (m.misused || m.halted)) _ (ap not tests.going) (and_from (not (is_intake_open_at m)) _ (ap not tests.no_intake) rests)
 
 rests : (plan : PlanView) (past : List Event) (m : MachineView) → IsTied plan past m → Tests m → AtRest plan past
 rests plan past m tied tests = record {
@@ -81,6 +87,7 @@ rests plan past m tied tests = record {
   no_expiry = none_from_unripe plan past m tied (none_set m.ripe tests.no_expiry);
   no_time = sym (next_due_is plan past m tied) ∙ tests.no_time;
   no_feed = λ s. sym (tied.totals.live s) ∙ none_set m.live tests.no_feed s;
+  no_intake = sym (open_is plan past m tied) ∙ tests.no_intake;
 }
 
 unripe : (plan : PlanView) (past : List Event) (m : MachineView) → IsTied plan past m → is_halted past ≡ false → ((b : Blk) → permitted plan past (Expire b) ≡ false) → (b : ℕ) → is_ripe_at m b ≡ false
@@ -91,6 +98,7 @@ tests_at_rest : (plan : PlanView) (past : List Event) (m : MachineView) → IsTi
 tests_at_rest plan past m tied quiet =
     let rest = rest_from_quiescent plan past tied.valid tied.lawful quiet in record {
       going = over_is plan past m tied.totals ∙ rest.goes_on;
+      no_intake = open_is plan past m tied ∙ rest.no_intake;
       idle = tied.totals.running ∙ rest.idle;
       no_feed = none_counted m.live (λ s. tied.totals.live s ∙ rest.no_feed s);
       no_expiry = none_counted m.ripe (unripe plan past m tied quiet.goes_on quiet.no_expiry);
@@ -106,20 +114,6 @@ quiet_is plan past m tied = (
 )
 
 -- ## Blocks that are left
-
-none_left : {X : Type 0} (p : X → Bool) (xs : List X) → (count_by (λ x. not (p x)) xs == 0) ≡ list_all p xs
-none_left p [] = refl
-none_left p (x ∷ xs) =
-    let split = count_by-cons (λ y. not (p y)) x xs in
-    elim (p x) as (λ v. p x ≡ v → (count_by (λ y. not (p y)) (x ∷ xs) == 0) ≡ (v && list_all p xs)) [
-      | true ↦ λ passes.
-          let here : ◌≡◌ {A = ℕ} (cond (not (p x)) 1 0) 0 = ap (λ v. cond (not v) 1 0) passes in
-          let same : count_by (λ y. not (p y)) (x ∷ xs) ≡ count_by (λ y. not (p y)) xs = omega (arith, split, here) in
-          ap (λ n. n == 0) same ∙ none_left p xs
-      | false ↦ λ fails.
-          let here : ◌≡◌ {A = ℕ} (cond (not (p x)) 1 0) 1 = ap (λ v. cond (not v) 1 0) fails in
-          ne_eqb (count_by (λ y. not (p y)) (x ∷ xs)) 0 (λ none. omega (arith, split, here, none))
-    ] refl
 
 -- no block is left exactly where each that was submitted has ended
 pub left_none_is : (plan : PlanView) (past : List Event) (m : MachineView) → IsTied plan past m → (m.left == 0) ≡ all_ended plan past

@@ -22,7 +22,8 @@ use Rattle.gcd_refinement.specs.MachineView.{MachineView, idle, block_at}
 use Rattle.gcd_refinement.specs.declared.progress.BlockProgress.{BlockProgress}
 use Rattle.gcd_refinement.specs.Ties.{GroupsAre, notify_submission}
 use Rattle.gcd_refinement.specs.Submits.{sleepers_at}
-use Rattle.gcd_refinement.specs.After.{with_block, with_wakeable, all_fired, all_woken}
+use Rattle.gcd_refinement.specs.After.{with_block, noted, with_wakeable, all_fired}
+use Rattle.gcd_refinement.specs.AfterSleepers.{all_woken}
 use Rattle.gcd_refinement.specs.AfterLimits.{without_limit, without_ripe}
 use Rattle.gcd_machine.specs.Steps.{submitted, fired_at, all_let_go, all_fired_at, emptied}
 use Rattle.gcd_machine.proofs.Activations.{all_submitted}
@@ -50,6 +51,14 @@ submitted_home m n b home homes k = kept_home m.blocks b.0 k (λ (x : BlockProgr
 -- a notify block goes to its home, and is no barrier
 abbrev pub sent : (ℕ → Obj) → Blk × Bool → Submission
 sent home w = record { blk = w.0; node = Some (home w.0.0); barrier = false }
+
+-- all that are sent keep the homes
+pub sent_homes : (blocks : List BlockProgress) (home : ℕ → Obj) (ws : List (Blk × Bool)) (k : ℕ)
+    → (get_or (fold noted blocks (map (sent home) ws)) k idle).home ≡ (get_or blocks k idle).home
+sent_homes blocks home [] k = refl
+sent_homes blocks home (w ∷ ws) k =
+    sent_homes (noted blocks (sent home w)) home ws k
+    ∙ kept_home blocks w.0.0 k (λ (x : BlockProgress). record x { node = Some (home w.0.0); barrier = false }) (λ x. refl)
 
 one_later : (a n : ℕ) → a + 1 + n ≡ a + suc n
 one_later a n = omega arith
@@ -86,7 +95,7 @@ notify_plain plan (e ∷ past) g =
     ]
 
 -- so what is told of a list of them is what is sent
-as_sent : (home : ℕ → Obj) (v : MachineView) (ws : List (Blk × Bool)) → HasHomes v home → list_all (λ s. not s.barrier) (map (notify_submission v) ws) ≡ true → map (notify_submission v) ws ≡ map (sent home) ws
+pub as_sent : (home : ℕ → Obj) (v : MachineView) (ws : List (Blk × Bool)) → HasHomes v home → list_all (λ s. not s.barrier) (map (notify_submission v) ws) ≡ true → map (notify_submission v) ws ≡ map (sent home) ws
 as_sent home v [] homes plain = refl
 as_sent home v (w ∷ ws) homes plain =
     let parts = and_parts (not w.1) (list_all (λ s. not s.barrier) (map (notify_submission v) ws)) plain in

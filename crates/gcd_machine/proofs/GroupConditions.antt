@@ -17,8 +17,10 @@ use Rattle.gcd_refinement.specs.Stands.{IsTied}
 use Rattle.gcd_refinement.proofs.Members.{is_group}
 use Rattle.gcd_refinement.proofs.StepGroups.{fits_at, end_counts}
 use Rattle.gcd_refinement.proofs.StepSubmits.{counts_of}
-use Rattle.gcd_machine.specs.Conditions.{CanLetGo, CanWakeAt, CanSubmit, HaveHomes, CanComeEmpty, CanLeave, CanLeaveByAct, CanEnter, CanSubmitMember, CanRegister}
-use Rattle.gcd_machine.proofs.NewBlocks.{IsNew, notified_nowhere, of_no_group, new_nowhere, few_waiting}
+use Rattle.gcd_machine.specs.Conditions.{CanLetGo, CanWakeAt, CanSubmit, HaveHomes, CanComeEmpty, CanLeave, CanLeaveTold, CanLeaveByAct, HaveHomesAtEnd, CanTell, CanTellOf, CanEnter, CanSubmitMember, CanRegister}
+use Rattle.gcd_blockobj.specs.MarkRoom.{mark_room}
+use Rattle.gcd_refinement.proofs.MarkRoom.{room_low}
+use Rattle.gcd_machine.proofs.NewBlocks.{IsNew, notified_nowhere, told_nowhere, of_no_group, of_no_block, waits_apart, new_nowhere, few_waiting, few_ending}
 
 module _ (past : List Event) (m : MachineView) (t : IsTied m.plan past m) (room : length past + 1 < 2 ^ 32) where
   -- ## Submissions
@@ -49,6 +51,50 @@ module _ (past : List Event) (m : MachineView) (t : IsTied m.plan past m) (room 
         listed = t.parts.notify_blocks ∙ sym t.parts.list_blocks;
         blocks = t.parts.notify_blocks ∙ sym t.own.blocks;
         marked = t.own.busy ∙ sym lists;
+      }
+
+  -- ## Ends of blocks
+
+  pub have_homes_at_end : HaveHomesAtEnd m
+  have_homes_at_end =
+      let lists = t.parts.lists in
+      let listed = t.parts.list_blocks in
+      let told = t.parts.told_blocks in
+      let blocks = t.own.blocks in
+      let few = room_low m.plan in
+      record {
+        homes = λ b. let low = t.own.homes b in omega (arith, low, lists);
+        nowhere = told_nowhere past m t;
+        listed = omega (arith, listed, told, few);
+        blocks = omega (arith, blocks, told, few);
+        marked = t.own.busy ∙ sym lists;
+      }
+
+  pub can_tell : (c : Blk) → CanTell m c
+  can_tell c =
+      let left = t.small.left in
+      let waiting = few_ending past m t c.0 in
+      let few = t.valid.few_blocks in
+      record { homes = have_homes_at_end; room = omega (arith, left, waiting, few) }
+
+  pub can_tell_of : (c : Blk) (q : Obj) (d : Blk) → IsNew m.plan past d.0 → mark_room m.plan ≡ length m.plan.blocks → c.0 < length m.plan.blocks → q.0 < length m.plan.objects → d.0 < length m.plan.blocks → CanTellOf m c q d
+  can_tell_of c q d new whole known home block =
+      let told = t.parts.told in
+      let told_blocks = t.parts.told_blocks in
+      let lists = t.parts.lists in
+      let blocks = t.own.blocks in
+      let left = t.small.left in
+      let waiting = few_ending past m t c.0 in
+      let few = t.valid.few_blocks in
+      record {
+        awaited = omega (arith, known, told, whole);
+        waiting = omega (arith, block, told_blocks, whole);
+        waits_for_none = of_no_block past m t d.0 new;
+        homes = have_homes_at_end;
+        home = omega (arith, home, lists);
+        blk = omega (arith, block, blocks);
+        nowhere = new_nowhere past m t d.0 new;
+        room = omega (arith, left, waiting, few);
       }
 
   -- ## Groups
@@ -113,6 +159,18 @@ module _ (past : List Event) (m : MachineView) (t : IsTied m.plan past m) (room 
 
   pub can_leave : (w : ℕ) (b : Blk) (g : Obj) → IsLawful m.plan (End w b ∷ past) → (block_at m b.0).group ≡ Some g → CanLeave m g
   can_leave w b g lawful of = record { counted = counted_beside w b g lawful of; comes_empty = can_come_empty g (t.own.groups b.0 g of) }
+
+  pub can_leave_told : (w : ℕ) (b : Blk) (g : Obj) → IsLawful m.plan (End w b ∷ past) → (block_at m b.0).group ≡ Some g → CanLeaveTold m b g
+  can_leave_told w b g lawful of =
+      let left = t.small.left in
+      let told = few_ending past m t b.0 in
+      let waiting = few_waiting past m t g.0 (t.own.groups b.0 g of) in
+      let few = t.valid.few_blocks in
+      record {
+        leaves = can_leave w b g lawful of;
+        apart = waits_apart past m t;
+        room = omega (arith, left, told, waiting, few);
+      }
 
   pub can_register : (g q : Obj) (b : Blk) → IsNew m.plan past b.0 → g.0 < length m.plan.objects → q.0 < length m.plan.objects → b.0 < length m.plan.blocks → CanRegister m g q b
   can_register g q b new group home block =

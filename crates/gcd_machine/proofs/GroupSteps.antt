@@ -20,7 +20,8 @@ use Rattle.gcd_refinement.specs.MachineView.{MachineView, idle, block_at}
 use Rattle.gcd_refinement.specs.declared.progress.BlockProgress.{BlockProgress}
 use Rattle.gcd_refinement.specs.Ties.{GroupsAre, notify_submission}
 use Rattle.gcd_refinement.specs.Submits.{sleepers_at}
-use Rattle.gcd_refinement.specs.After.{with_block, with_wakeable, all_fired, all_woken, after}
+use Rattle.gcd_refinement.specs.After.{with_block, with_wakeable, all_fired, after}
+use Rattle.gcd_refinement.specs.AfterSleepers.{all_woken}
 use Rattle.gcd_refinement.specs.AfterLimits.{without_limit, without_ripe}
 use Rattle.gcd_refinement.proofs.StepSubmits.{none_waits}
 use Rattle.gcd_machine.specs.Steps.{acted, act_taken, all_fired_at, emptied, stepped}

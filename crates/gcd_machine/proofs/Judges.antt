@@ -7,7 +7,8 @@ use Rattle.gcd_plan.specs.declared.numbers.Run.TheVariants.{Block, Source}
 use Rattle.gcd_plan.specs.declared.why.Why.{Why}
 use Rattle.gcd_plan.specs.declared.why.Why.TheVariants.{Over, NoSuch, Busy, Unready, NotOwn, NotNext, IsMisuse, NotParked, Waiting, NotDue, NotLive, NotMisuse, Came}
 use Rattle.gcd_event.specs.declared.event.Event.{Event}
-use Rattle.gcd_event.specs.declared.event.Event.TheVariants.{Start, Act as Acted, Wake, End, Deliver, DeliverEnd, Tick, Ready, FeedEnd, Misuse, Halt, Expire}
+use Rattle.gcd_event.specs.declared.event.Event.TheVariants.{Start, Act as Acted, Wake, End, Deliver, DeliverEnd, Tick, Ready, FeedEnd, Misuse, Halt, Expire, Accept, Shut}
+use Rattle.gcd_history.specs.Intake.{is_intake_open}
 use Rattle.gcd_history.specs.Parked.{has_run, is_busy, is_parked}
 use Rattle.gcd_history.specs.Sources.{is_pending, is_live_feed}
 use Rattle.gcd_history.specs.Due.{is_at_limit, may_tick}
@@ -92,6 +93,9 @@ fault_is m past (Expire b) tied =
     ap (λ u. first_of ((NotParked, u) ∷ (NotDue, not (is_at_limit_at m b.0)) ∷ (Came, may_wake_at m b.0) ∷ [])) (parked_is m.plan past m b.0 tied)
     ∙ (ap (λ u. first_of ((NotParked, not (is_parked m.plan past b.0)) ∷ (NotDue, not u) ∷ (Came, may_wake_at m b.0) ∷ [])) (limit_is m.plan past m b.0 tied)
     ∙ ap (λ u. first_of ((NotParked, not (is_parked m.plan past b.0)) ∷ (NotDue, not (is_at_limit m.plan past b.0)) ∷ (Came, u) ∷ [])) (wake_is m.plan past m b.0 tied))
+fault_is m past (Accept b s) tied =
+    ap (λ o. first_of ((NotLive, is_none o) ∷ (NotNext, not (option_map_or (λ c. c.0 == b.0) o false)) ∷ [])) tied.intake.next
+fault_is m past Shut tied = ap (λ u. cond u None (Some NotLive)) tied.intake.is_open ∙ turned NotLive (is_intake_open m.plan past)
 
 -- ## The whole
 

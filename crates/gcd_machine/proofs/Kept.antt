@@ -5,12 +5,13 @@ use Rattle.std.proofs.lemmas.List.{length-set, get_or_read, get_or-set_same, get
 use Rattle.gcd_plan.specs.declared.numbers.Blk.{Blk}
 use Rattle.gcd_plan.specs.declared.numbers.Obj.{Obj}
 use Rattle.gcd_lists.specs.ListsView.{list_at, place_of}
+use Rattle.gcd_blockobj.specs.MarksView.{MarksView, with_ended}
 use Rattle.gcd_group.specs.GroupsView.{GroupsView, count_at, due_at, with_notify, with_one_less, with_entered}
 use Rattle.gcd_refinement.specs.MachineView.{MachineView, idle, block_at}
 use Rattle.gcd_refinement.specs.declared.progress.BlockProgress.{BlockProgress}
 use Rattle.gcd_refinement.specs.After.{with_block}
-use Rattle.gcd_machine.specs.Steps.{all_let_go, closed_block, caller_let_go, set_free, run_closed, made_cancelled}
-use Rattle.gcd_machine.specs.Conditions.{CanLetGo, CanBegin, CanCloseOn, CanSubmit, HaveHomes, CanFire, CanEmpty, CanComeEmpty, CanLeave, CanRegister, CanStart, CanCloseBlock, CanEnd}
+use Rattle.gcd_machine.specs.Steps.{all_let_go, closed_block, set_free, run_closed, made_cancelled}
+use Rattle.gcd_machine.specs.Conditions.{CanBegin, CanCloseOn, CanSubmit, HaveHomes, CanFire, CanEmpty, CanComeEmpty, CanLeave, CanRegister, CanStart, CanCloseBlock}
 use Rattle.gcd_machine.proofs.Places.{waits_as_before}
 
 -- ## Blocks
@@ -44,8 +45,8 @@ written_few xs i n =
 -- ## A block that starts or ends
 
 -- whether a run may open says nothing of blocks
-begin_kept : {m : MachineView} {n : Obj} {barrier : Bool} (blocks : List BlockProgress) → CanBegin m n barrier → CanBegin (record m { blocks = blocks }) n barrier
-begin_kept blocks can = record {
+begin_kept : {m : MachineView} {n : Obj} {barrier : Bool} (blocks : List BlockProgress) (marks : MarksView) → CanBegin m n barrier → CanBegin (record m { blocks = blocks; marks = marks }) n barrier
+begin_kept blocks marks can = record {
   list = can.list;
   opens = record { node = can.opens.node; still = can.opens.still; runs = can.opens.runs };
   fenced = can.fenced;
@@ -60,15 +61,15 @@ begin_kept blocks can = record {
   };
 }
 
-pub may_begin : (m : MachineView) {w : ℕ} {b : Blk} {read : BlockProgress} (blocks : List BlockProgress) → read ≡ get_or m.blocks b.0 read → CanStart m w b
-    → (n : Obj) → read.node ≡ Some n → CanBegin (record m { blocks = blocks }) n read.barrier
-may_begin m {w} {b} {read} blocks is can = λ n at.
+pub may_begin : (m : MachineView) {w : ℕ} {b : Blk} {read : BlockProgress} (blocks : List BlockProgress) (marks : MarksView) → read ≡ get_or m.blocks b.0 read → CanStart m w b
+    → (n : Obj) → read.node ≡ Some n → CanBegin (record m { blocks = blocks; marks = marks }) n read.barrier
+may_begin m {w} {b} {read} blocks marks is can = λ n at.
     let same = block_read m b is can.blk in
-    begin_kept blocks (subst (λ (r : BlockProgress). CanBegin m n r.barrier) (sym same) (can.node n (ap (λ (r : BlockProgress). r.node) (sym same) ∙ at)))
+    begin_kept blocks marks (subst (λ (r : BlockProgress). CanBegin m n r.barrier) (sym same) (can.node n (ap (λ (r : BlockProgress). r.node) (sym same) ∙ at)))
 
-pub may_close : (m : MachineView) {w : ℕ} {b : Blk} {read : BlockProgress} (ended : List Bool) (left : ℕ) → read ≡ get_or m.blocks b.0 read → CanCloseBlock m w b
-    → (n : Obj) → read.node ≡ Some n → CanCloseOn (record m { ended = ended; left = left }) n read.barrier
-may_close m {w} {b} {read} ended left is can = λ n at.
+pub may_close : (m : MachineView) {w : ℕ} {b : Blk} {read : BlockProgress} (ended : List Bool) (left : ℕ) (marks : MarksView) → read ≡ get_or m.blocks b.0 read → CanCloseBlock m w b
+    → (n : Obj) → read.node ≡ Some n → CanCloseOn (record m { ended = ended; left = left; marks = marks }) n read.barrier
+may_close m {w} {b} {read} ended left marks is can = λ n at.
     let same = block_read m b is can.blk in
     let on : CanCloseOn m n read.barrier = subst (λ (r : BlockProgress). CanCloseOn m n r.barrier) (sym same) (can.node n (ap (λ (r : BlockProgress). r.node) (sym same) ∙ at)) in
     record {
@@ -126,44 +127,9 @@ pub same_closed : (m : MachineView) (w : ℕ) (b : Blk) → SameForGroups m (clo
 same_closed m w b = at (block_at m b.0).node
   where
     at : (node : Option Obj)
-        → SameForGroups m (set_free (run_closed (record m { ended = set m.ended b.0 true; left = m.left - 1 }) node (block_at m b.0).barrier) w)
+        → SameForGroups m (set_free (run_closed (record m { ended = set m.ended b.0 true; left = m.left - 1; marks = with_ended m.marks b.0 }) node (block_at m b.0).barrier) w)
     at None = record { groups = refl; sleepers = refl; lists = refl; blocks = refl; busy = refl; len = refl; wakeable = refl; ripe = refl; left = omega arith }
     at (Some n) = record { groups = refl; sleepers = refl; lists = refl; blocks = refl; busy = refl; len = refl; wakeable = refl; ripe = refl; left = omega arith }
-
-pub same_let_go : (m : MachineView) (caller : Option Blk) → SameForGroups m (caller_let_go m caller)
-same_let_go m None = record { groups = refl; sleepers = refl; lists = refl; blocks = refl; busy = refl; len = refl; wakeable = refl; ripe = refl; left = omega arith }
-same_let_go m (Some b) = record {
-  groups = refl;
-  sleepers = refl;
-  lists = refl;
-  blocks = refl;
-  busy = refl;
-  len = refl;
-  wakeable = length-set m.wakeable b.0 true;
-  ripe = length-set m.ripe b.0 false;
-  left = omega arith;
-}
-
--- the caller and the group of a block that ends
-pub may_let_go : (m : MachineView) {k : MachineView} {w : ℕ} {b : Blk} {read : BlockProgress} → read ≡ get_or m.blocks b.0 read → k ≡ closed_block m w b
-    → CanEnd m w b → (c : Blk) → read.caller ≡ Some c → CanLetGo k c
-may_let_go m {k} {w} {b} {read} read_is is can = λ c at.
-    let same = block_read m b read_is can.closes.blk in
-    let within = can.caller c (ap (λ (r : BlockProgress). r.caller) (sym same) ∙ at) in
-    let long = same_closed m w b in
-    subst (λ n. CanLetGo n c) (sym is)
-    (record {
-      wakeable = omega (arith, within.wakeable, long.wakeable);
-      ripe = omega (arith, within.ripe, long.ripe);
-    })
-
-pub may_leave : (m : MachineView) {k l : MachineView} {w : ℕ} {b : Blk} {read : BlockProgress} → read ≡ get_or m.blocks b.0 read → k ≡ closed_block m w b
-    → l ≡ caller_let_go k read.caller → CanEnd m w b → (g : Obj) → read.group ≡ Some g → CanLeave l g
-may_leave m {k} {l} {w} {b} {read} read_is closed_is is can = λ g at.
-    let same = block_read m b read_is can.closes.blk in
-    let now = can.group g (ap (λ (r : BlockProgress). r.group) (sym same) ∙ at) in
-    subst (λ n. CanLeave n g) (sym (is ∙ ap (λ n. caller_let_go n read.caller) closed_is))
-    (leave_same (same_let_go (closed_block m w b) read.caller) (leave_same (same_closed m w b) now))
 
 -- a group that may come empty, in other groups with the same notify blocks
 may_come_empty : {m : MachineView} {g : Obj} (groups : GroupsView) → groups.notify ≡ m.groups.notify → length groups.counts ≡ length m.groups.counts

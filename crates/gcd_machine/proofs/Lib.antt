@@ -2,14 +2,19 @@ pub mod Places
 pub mod Turns
 pub mod Ripening
 pub mod Kept
+pub mod Telling
+pub mod EndKept
 pub mod ExpirySteps
 pub mod Acts
 pub mod Opened
 pub mod Activations
 pub mod Firing
 pub mod PlainSteps
+pub mod EndWaits
 pub mod EndSteps
 pub mod GroupSteps
+pub mod StripSteps
+pub mod BlockSteps
 pub mod ActSteps
 pub mod Stepped
 pub mod KindsTold
@@ -21,6 +26,7 @@ pub mod ActivityConditions
 pub mod TargetConditions
 pub mod ActConditions
 pub mod Waits
+pub mod IntakeTold
 pub mod Sleeping
 pub mod ExpiryConditions
 pub mod MayTake

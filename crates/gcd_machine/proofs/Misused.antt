@@ -8,10 +8,10 @@ use Rattle.gcd_plan.proofs.Options.{option_map_or-map}
 use Rattle.gcd_plan.proofs.Sums.{count_by-map}
 use Rattle.gcd_plan.specs.PlanView.{PlanView, ObjView}
 use Rattle.gcd_plan.specs.Kinds.{has_kind, is_source, is_queue, is_queue_kind, is_node_kind, is_source_kind, is_merge_kind, is_group_kind, is_semaphore_kind}
-use Rattle.gcd_plan.specs.Validity.{is_act, is_submittable, is_held_object}
+use Rattle.gcd_plan.specs.Validity.{is_act, is_declared, is_held_object}
 use Rattle.gcd_plan.specs.declared.kind.Kind.{Kind}
 use Rattle.gcd_plan.specs.declared.act.Act.{Act}
-use Rattle.gcd_plan.specs.declared.act.Act.TheVariants.{Async, Barrier, Sync, BarrierSync, GroupAsync, Notify, Enter, Leave, GroupWait, GroupWaitFor, Signal, Wait, WaitFor, Suspend, Resume, Activate, Target, Merge, Cancel, Retain, Release}
+use Rattle.gcd_plan.specs.declared.act.Act.TheVariants.{Async, Barrier, Sync, BarrierSync, GroupAsync, Notify, Enter, Leave, GroupWait, GroupWaitFor, Signal, Wait, WaitFor, Suspend, Resume, Activate, Target, Merge, Cancel, Retain, Release, Apply, CancelBlock, WaitBlock, NotifyBlock}
 use Rattle.gcd_plan.specs.declared.numbers.Obj.{Obj}
 use Rattle.gcd_plan.specs.declared.numbers.Run.{Run}
 use Rattle.gcd_event.specs.declared.event.Event.{Event}
@@ -53,16 +53,16 @@ numbered_low plan o h = and_from (nat_lt o (length plan.objects)) true (and_part
 
 -- an act of the plan names objects of the plan
 pub named_low : (plan : PlanView) (act : Act) → is_act plan act ≡ true → list_all (λ k. nat_lt k (length plan.objects)) (named act) ≡ true
-named_low plan (Async q b) h = one_low is_queue_kind plan q.0 (and_parts (is_queue plan q.0) (is_submittable plan b) h).0
-named_low plan (Barrier q b) h = one_low is_queue_kind plan q.0 (and_parts (is_queue plan q.0) (is_submittable plan b) h).0
-named_low plan (Sync q b) h = one_low is_queue_kind plan q.0 (and_parts (is_queue plan q.0) (is_submittable plan b) h).0
-named_low plan (BarrierSync q b) h = one_low is_queue_kind plan q.0 (and_parts (is_queue plan q.0) (is_submittable plan b) h).0
+named_low plan (Async q b) h = one_low is_queue_kind plan q.0 (and_parts (is_queue plan q.0) (is_declared plan b) h).0
+named_low plan (Barrier q b) h = one_low is_queue_kind plan q.0 (and_parts (is_queue plan q.0) (is_declared plan b) h).0
+named_low plan (Sync q b) h = one_low is_queue_kind plan q.0 (and_parts (is_queue plan q.0) (is_declared plan b) h).0
+named_low plan (BarrierSync q b) h = one_low is_queue_kind plan q.0 (and_parts (is_queue plan q.0) (is_declared plan b) h).0
 named_low plan (GroupAsync g q b) h =
-    let parts = and_parts (has_kind is_group_kind plan g.0) (is_queue plan q.0 && is_submittable plan b) h in
-    two_low is_group_kind is_queue_kind plan g.0 q.0 parts.0 (and_parts (is_queue plan q.0) (is_submittable plan b) parts.1).0
+    let parts = and_parts (has_kind is_group_kind plan g.0) (is_queue plan q.0 && is_declared plan b) h in
+    two_low is_group_kind is_queue_kind plan g.0 q.0 parts.0 (and_parts (is_queue plan q.0) (is_declared plan b) parts.1).0
 named_low plan (Notify g q b) h =
-    let parts = and_parts (has_kind is_group_kind plan g.0) (is_queue plan q.0 && is_submittable plan b) h in
-    two_low is_group_kind is_queue_kind plan g.0 q.0 parts.0 (and_parts (is_queue plan q.0) (is_submittable plan b) parts.1).0
+    let parts = and_parts (has_kind is_group_kind plan g.0) (is_queue plan q.0 && is_declared plan b) h in
+    two_low is_group_kind is_queue_kind plan g.0 q.0 parts.0 (and_parts (is_queue plan q.0) (is_declared plan b) parts.1).0
 named_low plan (Enter g) h = one_low is_group_kind plan g.0 h
 named_low plan (Leave g) h = one_low is_group_kind plan g.0 h
 named_low plan (GroupWait g) h = one_low is_group_kind plan g.0 h
@@ -80,6 +80,10 @@ named_low plan (Merge s n) h = one_low is_merge_kind plan s.0 (and_parts (has_ki
 named_low plan (Cancel s) h = one_low is_source_kind plan s.0 h
 named_low plan (Retain o) h = numbered_low plan o.0 h
 named_low plan (Release o) h = numbered_low plan o.0 h
+named_low plan (Apply q a) h = one_low is_queue_kind plan q.0 (and_parts (is_queue plan q.0) _ h).0
+named_low plan (CancelBlock c) h = refl
+named_low plan (WaitBlock c) h = refl
+named_low plan (NotifyBlock c q d) h = one_low is_queue_kind plan q.0 (and_parts (is_queue plan q.0) _ (and_parts (is_declared plan c) _ h).1).0
 
 -- tests that agree within a bound
 any_low : (p q : ℕ → Bool) (n : ℕ) (xs : List ℕ) → ((o : ℕ) → o < n → p o ≡ q o) → list_all (λ k. nat_lt k n) xs ≡ true → list_any p xs ≡ list_any q xs

@@ -6,7 +6,8 @@ use Rattle.gcd_lists.specs.ListsView.{ListsView, list_at}
 use Rattle.gcd_tree.specs.TreeView.{TreeView}
 use Rattle.gcd_drain.specs.DrainsView.{DrainsView, barriers_at, with_barriers}
 use Rattle.gcd_refinement.specs.MachineView.{MachineView}
-use Rattle.gcd_refinement.specs.After.{popped, opened, barrier_began, pending_in, stays_busy}
+use Rattle.gcd_refinement.specs.After.{opened, barrier_began, pending_in, stays_busy}
+use Rattle.gcd_refinement.specs.AfterSleepers.{popped}
 use Rattle.gcd_machine.specs.Steps.{begun_on}
 use Rattle.gcd_machine.proofs.Turns.{rest_back}
 

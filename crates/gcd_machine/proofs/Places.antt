@@ -5,7 +5,7 @@ use Rattle.gcd_plan.specs.declared.numbers.Blk.{Blk}
 use Rattle.gcd_plan.specs.declared.numbers.Obj.{Obj}
 use Rattle.gcd_lists.specs.ListsView.{ListsView, list_at, place_of}
 use Rattle.gcd_lists.proofs.Places.{place_pushed, place_popped, place_first}
-use Rattle.gcd_refinement.specs.After.{popped, pushed_on}
+use Rattle.gcd_refinement.specs.AfterSleepers.{popped, pushed_on}
 
 -- a block that another follows onto a node waits where it waited
 pub waits_as_before : (lists : ListsView) (n : Obj) (b : Blk) (barrier : Bool) (c : ℕ) → b.0 ≢ c → place_of (pushed_on lists n b barrier) c ≡ place_of lists c

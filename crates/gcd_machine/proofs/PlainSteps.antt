@@ -4,7 +4,7 @@ use Rattle.std.proofs.Common.{◌≡◌, ℕ, ◌==◌, false, Some, None, refl}
 use Rattle.gcd_plan.specs.declared.numbers.Blk.{Blk}
 use Rattle.gcd_plan.specs.declared.numbers.Obj.{Obj}
 use Rattle.gcd_plan.specs.declared.numbers.Run.{Run}
-use Rattle.gcd_event.specs.declared.event.Event.TheVariants.{Start, Wake, Deliver, DeliverEnd, Tick, Ready, FeedEnd, Misuse, Halt, Expire}
+use Rattle.gcd_event.specs.declared.event.Event.TheVariants.{Start, Wake, Deliver, DeliverEnd, Tick, Ready, FeedEnd, Misuse, Halt, Expire, Accept, Shut}
 use Rattle.gcd_refinement.specs.MachineView.{MachineView, block_at}
 use Rattle.gcd_refinement.specs.After.{after}
 use Rattle.gcd_machine.specs.Steps.{stepped}
@@ -41,6 +41,16 @@ halt_stepped m = simp units
 
 pub expire_stepped : (m : MachineView) (b : Blk) → stepped m (Expire b) ≡ after m.plan m (Expire b)
 expire_stepped m b = simp units
+
+pub accept_stepped : (m : MachineView) (b : Blk) (s : ℕ) → stepped m (Accept b s) ≡ after m.plan m (Accept b s)
+accept_stepped m b s =
+    elim m.plan.intake as (λ o. m.plan.intake ≡ o → stepped m (Accept b s) ≡ after m.plan m (Accept b s)) [
+      | None ↦ λ e. rw e (simp units)
+      | Some i ↦ λ e. rw e (simp units)
+    ] refl
+
+pub shut_stepped : (m : MachineView) → stepped m Shut ≡ after m.plan m Shut
+shut_stepped m = simp units
 
 pub feed_end_stepped : (m : MachineView) (s : Obj) → stepped m (FeedEnd s) ≡ after m.plan m (FeedEnd s)
 feed_end_stepped m s = rw cancelled_is (simp units)

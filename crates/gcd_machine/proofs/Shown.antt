@@ -13,19 +13,21 @@ use Rattle.gcd_history.specs.declared.submission.Submission.{Submission}
 use Rattle.gcd_history.specs.Runs.{act_of}
 use Rattle.gcd_history.specs.Parked as parked
 use Rattle.gcd_history.specs.Permitted as permitted
-use Rattle.gcd_history.specs.History.{why, IsLawful, running_of, next_due_of, is_live_feed, first_waiting_of, node_of, is_started, is_ended, awaited_of, last_data_of, pending_of, parks}
+use Rattle.gcd_history.specs.History.{why, IsLawful, running_of, next_due_of, is_live_feed, first_waiting_of, node_of, is_started, is_ended, awaited_of, last_data_of, pending_of, parks, is_block_cancelled, is_intake_open, next_of_intake}
 use Rattle.gcd_history.specs.Ends.{is_halted}
 use Rattle.gcd_history.proofs.LawfulLemmas.{lawful_none, lawful_more}
 use Rattle.gcd_timer.specs.TimersView.{is_due_at, due_count_at}
 use Rattle.gcd_refinement.specs.MachineView.{MachineView, block_at, ended_at, handler_at, live_at, next_due_in}
 use Rattle.gcd_refinement.specs.After.{pending_in}
 use Rattle.gcd_refinement.specs.Stands.{IsTied}
-use Rattle.gcd_refinement.specs.Ties.{waiter}
+use Rattle.gcd_refinement.specs.Ties.{next_in, waiter}
+use Rattle.gcd_blockobj.specs.MarksView.{is_cancelled_at}
 use Rattle.gcd_machine.specs.Conditions.{HasPending}
-use Rattle.gcd_machine.specs.Judged.{first_waiting_at, why_by}
+use Rattle.gcd_machine.specs.Judged.{first_waiting_at, is_intake_open_at, why_by}
 use Rattle.gcd_machine.specs.Stands.{StandsFor}
 use Rattle.gcd_machine.proofs.Starts.{first_is}
 use Rattle.gcd_refinement.proofs.NextDue.{next_due_is}
+use Rattle.gcd_machine.proofs.IntakeTold.{open_is, next_in_is}
 use Rattle.gcd_machine.proofs.Waits.{pending_is}
 use Rattle.gcd_machine.proofs.Workers.{over_is}
 use Rattle.gcd_machine.proofs.Judges.{why_is}
@@ -85,6 +87,18 @@ started_stands m plan h b stands = (tied_by m plan h stands).blocks.started b
 pub ended_stands : (m : MachineView) (plan : PlanView) (h : List Event) (b : ℕ) → StandsFor m plan h → ended_at m b ≡ is_ended h b
 unfolding is_ended
 ended_stands m plan h b stands = (tied_by m plan h stands).blocks.ended b
+
+pub cancelled_stands : (m : MachineView) (plan : PlanView) (h : List Event) (b : ℕ) → StandsFor m plan h → is_cancelled_at m.marks b ≡ is_block_cancelled plan h b
+unfolding is_block_cancelled
+cancelled_stands m plan h b stands = (tied_by m plan h stands).block_marks.cancelled b
+
+pub open_stands : (m : MachineView) (plan : PlanView) (h : List Event) → StandsFor m plan h → is_intake_open_at m ≡ is_intake_open plan h
+unfolding is_intake_open
+open_stands m plan h stands = open_is plan (reverse h) m (tied_by m plan h stands)
+
+pub next_intake_stands : (m : MachineView) (plan : PlanView) (h : List Event) → StandsFor m plan h → next_in m.plan m ≡ next_of_intake plan h
+unfolding next_of_intake
+next_intake_stands m plan h stands = next_in_is plan (reverse h) m (tied_by m plan h stands)
 
 pub parks_stands : (m : MachineView) (plan : PlanView) (h : List Event) (e : Event) → StandsFor m plan h → parked.is_parking (act_of m.plan e) ≡ parks plan e
 unfolding parks

@@ -10,7 +10,7 @@ use Rattle.gcd_plan.specs.declared.numbers.Blk.{Blk}
 use Rattle.gcd_plan.specs.declared.numbers.Obj.{Obj}
 use Rattle.gcd_plan.specs.declared.numbers.Run.TheVariants.{Block}
 use Rattle.gcd_plan.specs.declared.reason.Reason.{Reason}
-use Rattle.gcd_plan.specs.declared.reason.Reason.TheVariants.{Block as EndOf, Group as Empty, Rank}
+use Rattle.gcd_plan.specs.declared.reason.Reason.TheVariants.{Block as EndOf, Group as Empty, Strip, Rank}
 use Rattle.gcd_event.specs.declared.event.Event.{Event}
 use Rattle.gcd_history.specs.Expired.{has_expired}
 use Rattle.gcd_history.specs.Groups.{is_empty_above}
@@ -19,7 +19,7 @@ use Rattle.gcd_lists.specs.ListsView.{barrier_in, list_at, place_from, place_of}
 use Rattle.gcd_lists.proofs.Places.{in_list_of_place}
 use Rattle.gcd_refinement.specs.MachineView.{MachineView}
 use Rattle.gcd_refinement.specs.Sleepers.{sema_sleepers, group_sleepers}
-use Rattle.gcd_refinement.specs.After.{bed_of}
+use Rattle.gcd_refinement.specs.AfterSleepers.{bed_of}
 use Rattle.gcd_refinement.specs.Stands.{IsTied}
 use Rattle.gcd_refinement.proofs.Waiters.{sema_sleeper_parked, sleeps_at_sema}
 use Rattle.gcd_refinement.proofs.GroupSleepers.{sleeper_parked, sleeps_from}
@@ -64,6 +64,7 @@ asleep_there plan past v b (Empty g p) o t is waits bed =
     let parts = not_empty_yet (has_expired past p) (is_empty_above plan past g.0 p) waits in
     subst (λ (n : Obj). (list_any (λ c. c.0 == b.0) (sema_sleepers plan past n.0) || list_any (λ c. c.0 == b.0) (group_sleepers plan past n.0)) ≡ true) (same_Some g o bed)
     (or_right (list_any (λ c. c.0 == b.0) (sema_sleepers plan past g.0)) (list_any (λ c. c.0 == b.0) (group_sleepers plan past g.0)) (sleeps_from plan past b g p is parts.0 parts.1))
+asleep_there plan past v b (Strip a) o t is waits bed = cc
 asleep_there plan past v b (Rank s k) o t is waits bed =
     subst (λ (n : Obj). (list_any (λ c. c.0 == b.0) (sema_sleepers plan past n.0) || list_any (λ c. c.0 == b.0) (group_sleepers plan past n.0)) ≡ true) (same_Some s o bed)
     (or_left (list_any (λ c. c.0 == b.0) (sema_sleepers plan past s.0)) (list_any (λ c. c.0 == b.0) (group_sleepers plan past s.0)) (sleeps_at_sema plan past b s k t.valid is waits))

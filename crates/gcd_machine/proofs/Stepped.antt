@@ -1,16 +1,16 @@
 -- The private steps of a machine together make what an event changes, where the machine is tied to a history after which the
 -- event is permitted.
-use Rattle.std.proofs.Common.{◌≡◌, ℕ, ◌<◌, ◌==◌, ltb, true, false, not, List, length, Some, None, is_some, refl, ap, sym, subst, arith, ne_eqb}
+use Rattle.std.proofs.Common.{◌≡◌, ℕ, ◌<◌, ◌==◌, ltb, true, false, not, List, Some, None, is_some, refl, ap, sym, ◌∙◌, subst, arith, ne_eqb}
 use Rattle.std.proofs.lemmas.Bool.{and_parts, ltb-true, eqb-true}
 use Rattle.gcd_plan.specs.PlanView.{PlanView}
-use Rattle.gcd_plan.specs.Kinds.{has_kind, is_group_kind, is_queue}
-use Rattle.gcd_plan.specs.Validity.{is_act}
+use Rattle.gcd_plan.specs.Kinds.{has_kind, is_group_kind, is_queue, is_queue_kind}
+use Rattle.gcd_plan.specs.Validity.{is_act, is_declared}
 use Rattle.gcd_plan.specs.declared.act.Act.{Act}
 use Rattle.gcd_plan.specs.declared.numbers.Blk.{Blk}
 use Rattle.gcd_plan.specs.declared.numbers.Run.{Run}
 use Rattle.gcd_plan.specs.declared.numbers.Run.TheVariants.{Block, Source}
 use Rattle.gcd_event.specs.declared.event.Event.{Event}
-use Rattle.gcd_event.specs.declared.event.Event.TheVariants.{Start, Act as Acted, Wake, End, Deliver, DeliverEnd, Tick, Ready, FeedEnd, Misuse, Halt, Expire}
+use Rattle.gcd_event.specs.declared.event.Event.TheVariants.{Start, Act as Acted, Wake, End, Deliver, DeliverEnd, Tick, Ready, FeedEnd, Misuse, Halt, Expire, Accept, Shut}
 use Rattle.gcd_history.specs.Runs.{act_at, is_ended}
 use Rattle.gcd_history.specs.Submitted.{submitted, submission_of}
 use Rattle.gcd_history.specs.Permitted.{why, is_feed}
@@ -24,8 +24,9 @@ use Rattle.gcd_history.proofs.SubmittedOnNodes.{act_fits}
 use Rattle.gcd_refinement.specs.MachineView.{MachineView}
 use Rattle.gcd_refinement.specs.Stands.{IsTied}
 use Rattle.gcd_refinement.specs.After.{after}
+use Rattle.gcd_refinement.proofs.StepCaller.{declared_within}
 use Rattle.gcd_machine.specs.Steps.{stepped}
-use Rattle.gcd_machine.proofs.PlainSteps.{start_stepped, wake_stepped, deliver_stepped, deliver_end_stepped, tick_stepped, ready_stepped, misuse_stepped, halt_stepped, expire_stepped, feed_end_stepped}
+use Rattle.gcd_machine.proofs.PlainSteps.{start_stepped, wake_stepped, deliver_stepped, deliver_end_stepped, tick_stepped, ready_stepped, misuse_stepped, halt_stepped, expire_stepped, accept_stepped, shut_stepped, feed_end_stepped}
 use Rattle.gcd_machine.proofs.EndSteps.{end_stepped}
 use Rattle.gcd_machine.proofs.ActSteps.{HasPlaces, block_stepped, handler_stepped}
 
@@ -54,20 +55,31 @@ module _ (past : List Event) (m : MachineView) (t : IsTied m.plan past m) where
       let due = t.parts.due in
       let lists = t.parts.notify in
       let blocks = t.own.blocks in
+      let nodes = t.parts.lists in
       record {
         leave = λ g is. let low = has_object is_group_kind m.plan g.0 (subst (λ a. is_act m.plan a ≡ true) is fits) in omega (arith, low, due);
         notify = λ g q c is.
             let parts = and_parts (has_kind is_group_kind m.plan g.0) _ (subst (λ a. is_act m.plan a ≡ true) is fits) in
             let low = has_object is_group_kind m.plan g.0 parts.0 in
-            let blk = ltb-true c.0 (length m.plan.blocks) (and_parts (ltb 0 c.0) _ (and_parts (is_queue m.plan q.0) _ parts.1).1).1 in
+            let blk = declared_within m.plan c (and_parts (is_queue m.plan q.0) _ parts.1).1 in
             (omega (arith, low, lists), omega (arith, low, due), omega (arith, blk, blocks));
+        apply = λ q a is.
+            let parts = and_parts (is_queue m.plan q.0) _ (subst (λ a. is_act m.plan a ≡ true) is fits) in
+            let low = has_object is_queue_kind m.plan q.0 parts.0 in
+            omega (arith, low, nodes);
+        notify_block = λ c q d is.
+            let parts = and_parts (is_declared m.plan c) _ (subst (λ a. is_act m.plan a ≡ true) is fits) in
+            let low = declared_within m.plan d (and_parts (is_queue m.plan q.0) _ parts.1).1 in
+            omega (arith, low, blocks);
+        kept = t.parts.ended_blocks;
+        listed = t.parts.ended_blocks ∙ sym t.parts.told;
       }
 
   act_stepped : (w : ℕ) (run : Run) (i : ℕ) (act : Act) → act_at m.plan run i ≡ Some act → stepped m (Acted w run i) ≡ after m.plan m (Acted w run i)
-  act_stepped w (Block b) i act at = block_stepped m.plan past m w b i act t.groups (places_of act (act_fits m.plan (Block b) i act t.valid at)) at
+  act_stepped w (Block b) i act at = block_stepped m.plan past m w b i act t.groups t.block_marks (places_of act (act_fits m.plan (Block b) i act t.valid at)) at
   act_stepped w (Source s) i act at =
       let fits = handler_act m.plan s i act t.valid at in
-      handler_stepped m.plan past m w s i act t.groups (places_of act fits.1) fits.0 at
+      handler_stepped m.plan past m w s i act t.groups t.block_marks (places_of act fits.1) fits.0 at
 
   pub stepped_here : (e : Event) → why m.plan past e ≡ None → stepped m e ≡ after m.plan m e
   stepped_here (Start w b) may = start_stepped m w b
@@ -79,7 +91,8 @@ module _ (past : List Event) (m : MachineView) (t : IsTied m.plan past m) where
   stepped_here (Wake w b) may = wake_stepped m w b
   stepped_here (End w b) may =
       let due = t.parts.due in
-      end_stepped m.plan past m w b t.groups (λ g is. let low = t.own.groups b.0 g is in omega (arith, low, due)) (left_at_end w b may)
+      let long = t.parts.ended_blocks ∙ sym t.parts.told in
+      end_stepped m.plan past m w b t.groups t.block_marks long (λ g is. let low = t.own.groups b.0 g is in omega (arith, low, due)) (left_at_end w b may)
   stepped_here (Deliver w s) may = deliver_stepped m w s
   stepped_here (DeliverEnd w s) may = deliver_end_stepped m w s
   stepped_here (Tick u) may = tick_stepped m u
@@ -91,6 +104,8 @@ module _ (past : List Event) (m : MachineView) (t : IsTied m.plan past m) where
   stepped_here (Misuse w c run i) may = misuse_stepped m w run i c
   stepped_here Halt may = halt_stepped m
   stepped_here (Expire b) may = expire_stepped m b
+  stepped_here (Accept b s) may = accept_stepped m b s
+  stepped_here Shut may = shut_stepped m
 
 -- whatever the plan is called
 pub stepped_is : (plan : PlanView) (past : List Event) (m : MachineView) (e : Event) → IsTied plan past m → why plan past e ≡ None → stepped m e ≡ after plan m e

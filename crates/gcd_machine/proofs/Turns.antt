@@ -10,7 +10,8 @@ use Rattle.gcd_lists.specs.ListsView.{ListsView, list_at, place_of}
 use Rattle.gcd_group.specs.GroupsView.{GroupsView, due_at, with_fired, fires_at}
 use Rattle.gcd_refinement.specs.MachineView.{MachineView, block_at, idle}
 use Rattle.gcd_refinement.specs.declared.progress.BlockProgress.{BlockProgress}
-use Rattle.gcd_refinement.specs.After.{popped, with_block, fired_times}
+use Rattle.gcd_refinement.specs.After.{with_block, fired_times}
+use Rattle.gcd_refinement.specs.AfterSleepers.{popped}
 use Rattle.gcd_machine.specs.Steps.{all_over, let_go, all_let_go, submitted, fired_at, all_fired_at}
 use Rattle.gcd_machine.specs.Conditions.{CanWakeAt, CanSubmit, HaveHomes, CanFire}
 use Rattle.gcd_machine.proofs.Places.{waits_as_before, waited_before, first_waits}
@@ -86,6 +87,15 @@ wake_end m o none =
     ∙ (ap (λ ws. with_sleepers m (set lists o.0 ws) []) (sym empty)
     ∙ ap (λ l. with_sleepers m l []) (set-get_or lists o.0 []))
 
+pub wake_over : {m first : MachineView} {o : Obj} {rest : ListsView} → None ≡ slice_get (list_at m.sleepers o.0) 0 → rest ≡ popped m.sleepers (Some o) → Waking m first o
+    → ◌≡◌ {A = MachineView} (record m { sleepers = rest }) (all_let_go first o)
+wake_over {m} {first} {o} {rest} none rest_is waking =
+    let lists = m.sleepers.lists in
+    let empty = none_first (list_at m.sleepers o.0) (sym none) in
+    let back = ap (λ ws. set lists o.0 (drop 1 ws)) empty ∙ (ap (set lists o.0) (sym empty) ∙ set-get_or lists o.0 []) in
+    ap (λ (l : ListsView). record m { sleepers = l }) rest_is
+    ∙ (ap (λ l. record m { sleepers = record m.sleepers { lists = l } }) back ∙ (sym (wake_end m o (sym none)) ∙ waking.same))
+
 -- ## Notify blocks
 
 -- one notify block less is due
@@ -155,7 +165,7 @@ fire_same m g b f =
     a ∙ (b1 ∙ (c ∙ (d ∙ e)))
 
 -- the homes stand, whatever is noted of a block but its home
-home_kept : (blocks : List BlockProgress) (b c : ℕ) (n : Option Obj) (barrier : Bool)
+pub home_kept : (blocks : List BlockProgress) (b c : ℕ) (n : Option Obj) (barrier : Bool)
     → (get_or (with_block blocks b (λ x. record x { node = n; barrier = barrier })) c idle).home ≡ (get_or blocks c idle).home
 home_kept blocks b c n barrier =
     ⊎_elim

@@ -1,15 +1,17 @@
 -- Which parked blocks may go on, and when time may move, as what a machine keeps tells it.
-use Rattle.std.proofs.Common.{◌≡◌, ⊎_elim, ℕ, ◌+◌, ◌-◌, ◌<◌, ◌≤◌, ◌==◌, nat_le, nat_lt, false, not, ◌&&◌, ◌||◌, Bool, true, List, take, count_by, Option, Some, None, is_some, is_none, refl, ap, sym, ◌∙◌, arith}
-use Rattle.std.specs.List.{slice_index_or}
+use Rattle.std.proofs.Common.{◌≡◌, ⊎_elim, ℕ, ◌+◌, ◌-◌, ◌<◌, ◌≤◌, ◌==◌, nat_le, nat_lt, false, not, ◌&&◌, ◌||◌, Bool, true, cond, List, [], ◌∷◌, take, count_by, Option, Some, None, is_some, is_none, refl, ap, sym, ◌∙◌, arith}
+use Rattle.std.specs.List.{slice_index_or, list_all}
 use Rattle.std.specs.Option.{option_map_or}
 use Rattle.std.proofs.lemmas.Bool.{cases_eq, cases_lt, eq-eqb, ne_eqb, lt-ltb, ltb-true, false_from_ne_true, or_left, or_right}
 use Rattle.std.proofs.lemmas.List.{take-map}
 use Rattle.gcd_plan.specs.PlanView.{PlanView}
+use Rattle.gcd_plan.specs.Made.{strip_blocks}
 use Rattle.gcd_plan.specs.declared.numbers.Blk.{Blk}
 use Rattle.gcd_plan.specs.declared.numbers.Run.TheVariants.{Block}
 use Rattle.gcd_plan.specs.declared.reason.Reason.{Reason}
-use Rattle.gcd_plan.specs.declared.reason.Reason.TheVariants.{Block as EndOf, Group as Empty, Rank}
+use Rattle.gcd_plan.specs.declared.reason.Reason.TheVariants.{Block as EndOf, Group as Empty, Strip, Rank}
 use Rattle.gcd_event.specs.declared.event.Event.{Event}
+use Rattle.gcd_history.specs.Runs.{is_ended}
 use Rattle.gcd_history.specs.Expired.{has_expired}
 use Rattle.gcd_history.specs.Groups.{is_empty_above}
 use Rattle.gcd_history.specs.Semas.{waits_on, unexpired, is_expired_wait, passes}
@@ -18,7 +20,7 @@ use Rattle.gcd_history.specs.Timers.{now}
 use Rattle.gcd_history.specs.Due.{limit, is_at_limit, next_due, may_tick}
 use Rattle.gcd_history.specs.Sources.{pending, is_pending}
 use Rattle.gcd_plan.proofs.Mapped.{get_or-mapped}
-use Rattle.gcd_plan.proofs.Sums.{count_by-map}
+use Rattle.gcd_plan.proofs.Sums.{count_by-map, count_by-cons}
 use Rattle.gcd_sema.specs.SemasView.{expiries_at, is_expired_at, is_passed_at}
 use Rattle.gcd_sync.specs.WaitsView.{reason_at, has_come_in, has_expired_at}
 use Rattle.gcd_source.specs.SourcesView.{pending_at, is_cancelled_at}
@@ -50,6 +52,21 @@ passed_is plan past v s k tied =
     ∙ count_by-map not (has_expired past) (take k (waits_on plan past s))) in
     rw (expired, left, first, signals) refl
 
+-- none is counted that fails a test exactly where all pass it
+pub none_left : {X : Type 0} (p : X → Bool) (xs : List X) → (count_by (λ x. not (p x)) xs == 0) ≡ list_all p xs
+none_left p [] = refl
+none_left p (x ∷ xs) =
+    let split = count_by-cons (λ y. not (p y)) x xs in
+    elim (p x) as (λ v. p x ≡ v → (count_by (λ y. not (p y)) (x ∷ xs) == 0) ≡ (v && list_all p xs)) [
+      | true ↦ λ passes.
+          let here : ◌≡◌ {A = ℕ} (cond (not (p x)) 1 0) 0 = ap (λ v. cond (not v) 1 0) passes in
+          let same : count_by (λ y. not (p y)) (x ∷ xs) ≡ count_by (λ y. not (p y)) xs = omega (arith, split, here) in
+          ap (λ n. n == 0) same ∙ none_left p xs
+      | false ↦ λ fails.
+          let here : ◌≡◌ {A = ℕ} (cond (not (p x)) 1 0) 1 = ap (λ v. cond (not v) 1 0) fails in
+          ne_eqb (count_by (λ y. not (p y)) (x ∷ xs)) 0 (λ none. omega (arith, split, here, none))
+    ] refl
+
 -- what a block is parked for has come, or its wait has expired
 empty_or_expired : (empty out : Bool) → (empty || out) ≡ ((not out && empty) || out)
 empty_or_expired true true = refl
@@ -58,12 +75,14 @@ empty_or_expired false true = refl
 empty_or_expired false false = refl
 
 over_in : (plan : PlanView) (past : List Event) (v : MachineView) (b : Blk) (why : Reason) → IsTied plan past v → awaited plan past (Block b) ≡ Some why
-    → (has_come_in v.groups v.semas v.ended why || has_run_out plan past why) ≡ is_over plan past why
+    → (has_come_in v.groups v.semas v.strips v.ended why || has_run_out plan past why) ≡ is_over plan past why
 unfolding has_come has_run_out
 over_in plan past v b (EndOf c) tied is = ap (λ u. u || false) (tied.blocks.ended c.0)
 over_in plan past v b (Empty g p) tied is =
     ap (λ u. u || has_expired past p) (tied.groups.empty g.0 p (parked_since plan past b g p is))
     ∙ empty_or_expired (is_empty_above plan past g.0 p) (has_expired past p)
+over_in plan past v b (Strip a) tied is =
+    ap (λ n. n == 0 || false) (tied.strips.left a) ∙ ap (λ u. u || false) (none_left (λ c. is_ended past c.0) (strip_blocks plan a))
 over_in plan past v b (Rank s k) tied is = ap (λ u. u || is_expired_wait plan past s.0 k) (passed_is plan past v s.0 k tied)
 
 pub wake_is : (plan : PlanView) (past : List Event) (v : MachineView) (b : ℕ) → IsTied plan past v → may_wake_at v b ≡ may_wake plan past b
@@ -71,10 +90,10 @@ unfolding may_wake
 wake_is plan past v b tied =
     let run = Block (record { 0 = b }) in
     let same : reason_at v.waits b ≡ awaited plan past run = tied.waits.reasons b in
-    ap (λ o. option_map_or (λ why. has_come_in v.groups v.semas v.ended why || has_expired_at v.waits b) o false) same
-    ∙ (ap (λ t. option_map_or (λ why. has_come_in v.groups v.semas v.ended why || t) (awaited plan past run) false) (tied.waits.expired b)
+    ap (λ o. option_map_or (λ why. has_come_in v.groups v.semas v.strips v.ended why || has_expired_at v.waits b) o false) same
+    ∙ (ap (λ t. option_map_or (λ why. has_come_in v.groups v.semas v.strips v.ended why || t) (awaited plan past run) false) (tied.waits.expired b)
     ∙ elim (awaited plan past run) as (λ o. awaited plan past run ≡ o
-    → option_map_or (λ why. has_come_in v.groups v.semas v.ended why || option_map_or (has_run_out plan past) o false) o false ≡ option_map_or (is_over plan past) o false) [
+    → option_map_or (λ why. has_come_in v.groups v.semas v.strips v.ended why || option_map_or (has_run_out plan past) o false) o false ≡ option_map_or (is_over plan past) o false) [
       | None ↦ λ is. refl
       | Some why ↦ λ is. over_in plan past v (record { 0 = b }) why tied is
     ] refl)

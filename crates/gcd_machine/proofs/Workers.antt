@@ -1,5 +1,5 @@
 -- Who has which run, and what is left of it, as what a machine keeps tells it.
-use Rattle.std.proofs.Common.{◌≡◌, ℕ, ◌==◌, true, false, ◌&&◌, ◌||◌, List, [], ◌∷◌, Some, None, is_some, refl, ap, sym, ◌∙◌}
+use Rattle.std.proofs.Common.{◌≡◌, ℕ, ◌==◌, true, false, ◌&&◌, ◌||◌, cond, List, [], ◌∷◌, Some, None, is_some, refl, ap, sym, ◌∙◌}
 use Rattle.std.specs.List.{list_any}
 use Rattle.gcd_plan.specs.PlanView.{PlanView}
 use Rattle.gcd_plan.specs.declared.numbers.Run.{Run}
@@ -7,6 +7,7 @@ use Rattle.gcd_plan.specs.declared.numbers.Run.TheVariants.{Block, Source}
 use Rattle.gcd_event.specs.declared.event.Event.{Event}
 use Rattle.gcd_event.specs.declared.event.Event.TheVariants.{Misuse, Halt}
 use Rattle.gcd_history.specs.Runs.{open_runs, acts_done, act_at}
+use Rattle.gcd_history.specs.Cancelled.{act_due}
 use Rattle.gcd_history.specs.Parked.{has_run, is_busy}
 use Rattle.gcd_history.specs.Permitted.{ends_in_misuse, ends_in_halt, is_halted, is_next, has_act_left}
 use Rattle.gcd_history.proofs.Lists.{none_passes}
@@ -16,8 +17,8 @@ use Rattle.gcd_history.proofs.RunsOpen.{same_run-refl}
 use Rattle.gcd_history.proofs.StartedOnce.{open_from_has_run}
 use Rattle.gcd_refinement.specs.MachineView.{MachineView, at_worker}
 use Rattle.gcd_refinement.specs.Stands.{IsTied}
-use Rattle.gcd_refinement.specs.Ties.{is_run, WorkersAre, BlocksAre, HandlersAre, TotalsAre}
-use Rattle.gcd_machine.specs.Judged.{done_at, next_act_at, is_next_at, is_busy_at, is_own_at}
+use Rattle.gcd_refinement.specs.Ties.{is_run, WorkersAre, BlocksAre, HandlersAre, BlockMarksAre, TotalsAre}
+use Rattle.gcd_machine.specs.Judged.{done_at, act_due_at, next_act_at, is_next_at, is_busy_at, is_own_at}
 
 -- ## Workers
 
@@ -42,13 +43,22 @@ pub done_is : (plan : PlanView) (past : List Event) (v : MachineView) (run : Run
 done_is plan past v (Block b) blocks handlers = blocks.done b.0
 done_is plan past v (Source s) blocks handlers = handlers.done s.0
 
+-- the act of a run, which is none of a cancelled block
+pub due_is : (m : MachineView) (past : List Event) (run : Run) (i : ℕ) → BlockMarksAre m.plan past m → act_due_at m run i ≡ act_due m.plan past run i
+due_is m past (Block b) i marks = ap (λ v. cond v None (act_at m.plan (Block b) i)) (marks.cancelled b.0)
+due_is m past (Source s) i marks = refl
+
 pub next_is : (m : MachineView) (past : List Event) (run : Run) (i : ℕ) → IsTied m.plan past m → is_next_at m run i ≡ is_next m.plan past run i
 unfolding is_next
-next_is m past run i tied = ap (λ n. i == n && is_some (act_at m.plan run i)) (done_is m.plan past m run tied.blocks tied.handlers)
+next_is m past run i tied =
+    ap (λ n. i == n && is_some (act_due_at m run i)) (done_is m.plan past m run tied.blocks tied.handlers)
+    ∙ ap (λ o. i == acts_done past run && is_some o) (due_is m past run i tied.block_marks)
 
 pub left_is : (m : MachineView) (past : List Event) (run : Run) → IsTied m.plan past m → is_some (next_act_at m run) ≡ has_act_left m.plan past run
 unfolding has_act_left
-left_is m past run tied = ap (λ n. is_some (act_at m.plan run n)) (done_is m.plan past m run tied.blocks tied.handlers)
+left_is m past run tied =
+    ap (λ n. is_some (act_due_at m run n)) (done_is m.plan past m run tied.blocks tied.handlers)
+    ∙ ap is_some (due_is m past run (acts_done past run) tied.block_marks)
 
 -- ## The end of the run
 

@@ -17,7 +17,7 @@ use Rattle.gcd_lists.specs.ListsView.{list_at}
 use Rattle.gcd_drain.specs.Rule.{is_fenced_at}
 use Rattle.gcd_drain.specs.Shut.{is_shut_by}
 use Rattle.gcd_refinement.specs.MachineView.{MachineView, block_at, at_worker, busy_at, next_due_in}
-use Rattle.gcd_machine.specs.Judged.{done_at, next_act_at, misuse_by, is_busy_at, is_pending_at}
+use Rattle.gcd_machine.specs.Judged.{done_at, next_act_at, misuse_by, is_busy_at, is_pending_at, is_intake_open_at}
 
 -- ## Of its own run
 
@@ -99,7 +99,7 @@ expiry_by m = if m.misused || m.halted then None else option_map expire_event (n
 abbrev pub is_quiescent_at : MachineView → Bool
 is_quiescent_at m =
     not (m.misused || m.halted)
-    && (m.running == 0 && (count_by (λ b. b) m.live == 0 && (count_by (λ b. b) m.ripe == 0 && (is_none (next_due_in m) && is_none (choice_by m 0 0)))))
+    && (not (is_intake_open_at m) && (m.running == 0 && (count_by (λ b. b) m.live == 0 && (count_by (λ b. b) m.ripe == 0 && (is_none (next_due_in m) && is_none (choice_by m 0 0))))))
 
 -- how far the run has come; where nothing can come and no block is left it is drained, and else stuck
 abbrev pub state_by : MachineView → State

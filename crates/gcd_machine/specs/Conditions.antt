@@ -1,16 +1,16 @@
 -- When each private step of a machine may be made: what its parts and arrays ask, of the state before the step.
-use Rattle.std.specs.Prelude.{◌≡◌, ◌<◌, ◌≤◌, ℕ, ◌+◌, ◌^◌, Bool, true, false, length, Some, None, Option, is_some, sum, option_map}
-use Rattle.gcd_plan.specs.PlanView.{cancel_block}
+use Rattle.std.specs.Prelude.{◌≡◌, ◌<◌, ◌≤◌, ℕ, ◌+◌, ◌^◌, Bool, true, false, length, Some, None, Option, is_some, sum, option_map, slice_get}
+use Rattle.gcd_plan.specs.PlanView.{IntakeView, StripView, cancel_block}
 use Rattle.gcd_plan.specs.declared.act.Act.{Act}
-use Rattle.gcd_plan.specs.declared.act.Act.TheVariants.{Async, Barrier, Sync, BarrierSync, GroupAsync, Notify, Enter, Leave, GroupWait, GroupWaitFor, Signal, Wait, WaitFor, Suspend, Resume, Activate, Target, Merge, Cancel, Retain, Release}
+use Rattle.gcd_plan.specs.declared.act.Act.TheVariants.{Async, Barrier, Sync, BarrierSync, GroupAsync, Notify, Enter, Leave, GroupWait, GroupWaitFor, Signal, Wait, WaitFor, Suspend, Resume, Activate, Target, Merge, Cancel, Retain, Release, Apply, CancelBlock, WaitBlock, NotifyBlock}
 use Rattle.gcd_plan.specs.declared.numbers.Blk.{Blk}
 use Rattle.gcd_plan.specs.declared.numbers.Obj.{Obj}
 use Rattle.gcd_plan.specs.declared.numbers.Run.{Run}
 use Rattle.gcd_plan.specs.declared.numbers.Run.TheVariants.{Block, Source}
 use Rattle.gcd_plan.specs.declared.reason.Reason.{Reason}
-use Rattle.gcd_plan.specs.declared.reason.Reason.TheVariants.{Block as EndOf, Group as Empty, Rank}
+use Rattle.gcd_plan.specs.declared.reason.Reason.TheVariants.{Block as EndOf, Group as Empty, Strip, Rank}
 use Rattle.gcd_event.specs.declared.event.Event.{Event}
-use Rattle.gcd_event.specs.declared.event.Event.TheVariants.{Start, Act as Acted, Wake, End, Deliver, DeliverEnd, Tick, Ready, FeedEnd, Misuse, Halt, Expire}
+use Rattle.gcd_event.specs.declared.event.Event.TheVariants.{Start, Act as Acted, Wake, End, Deliver, DeliverEnd, Tick, Ready, FeedEnd, Misuse, Halt, Expire, Accept, Shut}
 use Rattle.gcd_history.specs.Runs.{act_at}
 use Rattle.gcd_lists.specs.ListsView.{place_of, list_at}
 use Rattle.gcd_tree.specs.TreeView.{open_on_at, has_mover_at, is_node_at, would_cycle_at, has_child_at, open_beneath_at}
@@ -21,8 +21,9 @@ use Rattle.gcd_sema.specs.SemasView.{waits_at, signals_at, room_at, is_expired_a
 use Rattle.gcd_source.specs.SourcesView.{pending_at, is_cancelled_at, merged_at}
 use Rattle.gcd_timer.specs.TimersView.{due_count_at, activated_at, cancelled_at}
 use Rattle.gcd_sync.specs.WaitsView.{Fits, reason_at, limit_at}
-use Rattle.gcd_refinement.specs.MachineView.{MachineView, block_at, handler_at, refs_at}
-use Rattle.gcd_refinement.specs.After.{bed_of}
+use Rattle.gcd_refinement.specs.MachineView.{MachineView, block_at, handler_at, refs_at, applier_at}
+use Rattle.gcd_refinement.specs.Submits.{done_by}
+use Rattle.gcd_refinement.specs.AfterSleepers.{bed_of}
 use Rattle.gcd_refinement.specs.AfterLimits.{limit_in_view}
 
 -- ## Workers and wakes
@@ -116,6 +117,20 @@ pub record CanSubmit (m : MachineView) (n : Obj) (b : Blk) : Type 0 where
   pub marked : n.0 < length m.busy
   pub room : m.left + 1 < 2 ^ 32
 
+-- so many blocks from the first on, which wait nowhere, may wait on the node
+pub record CanSubmitSpan (m : MachineView) (n : Obj) (first count : ℕ) : Type 0 where
+  pub node : n.0 < length m.lists.lists
+  pub listed : first + count ≤ m.lists.blocks
+  pub short : first + count < 2 ^ 32
+  pub nowhere : (b : ℕ) → first ≤ b → b < first + count → place_of m.lists b ≡ None
+  pub blocks : first + count ≤ length m.blocks
+  pub marked : n.0 < length m.busy
+  pub room : m.left + count < 2 ^ 32
+
+-- the blocks of strip a may wait on the node
+pub record CanSubmitStrip (m : MachineView) (n : Obj) (a : ℕ) : Type 0 where
+  pub blocks : (s : StripView) → slice_get m.plan.strips a ≡ Some s → CanSubmitSpan m n s.first s.count
+
 -- ## Groups
 
 -- each notify block has a home, and waits on no node
@@ -176,6 +191,54 @@ pub record CanRegister (m : MachineView) (g : Obj) (q : Obj) (b : Blk) : Type 0 
   pub nowhere : place_of m.lists b.0 ≡ None
   pub fired : due_at m.groups g.0 ≡ 0
   pub room : m.left + (length (list_at m.groups.notify g.0) + 1) < 2 ^ 32
+
+-- ## Ends of blocks
+
+-- each block that is to be submitted after the end of another has a home, and waits on no node
+pub record HaveHomesAtEnd (m : MachineView) : Type 0 where
+  pub homes : (b : ℕ) → (block_at m b).home.0 < length m.lists.lists
+  pub nowhere : (b : ℕ) → is_some (place_of m.marks.notify b) ≡ true → place_of m.lists b ≡ None
+  pub listed : m.marks.notify.blocks ≤ m.lists.blocks
+  pub blocks : m.marks.notify.blocks ≤ length m.blocks
+  pub marked : length m.busy ≡ length m.lists.lists
+
+-- the notify blocks of block c may be submitted
+pub record CanTell (m : MachineView) (c : Blk) : Type 0 where
+  pub homes : HaveHomesAtEnd m
+  pub room : m.left + length (list_at m.marks.notify c.0) < 2 ^ 32
+
+-- block d, which is told of no block and waits nowhere, may be told of block c at q
+pub record CanTellOf (m : MachineView) (c : Blk) (q : Obj) (d : Blk) : Type 0 where
+  pub awaited : c.0 < length m.marks.notify.lists
+  pub waiting : d.0 < m.marks.notify.blocks
+  pub waits_for_none : place_of m.marks.notify d.0 ≡ None
+  pub homes : HaveHomesAtEnd m
+  pub home : q.0 < length m.lists.lists
+  pub blk : d.0 < length m.blocks
+  pub nowhere : place_of m.lists d.0 ≡ None
+  pub room : m.left + (length (list_at m.marks.notify c.0) + 1) < 2 ^ 32
+
+-- each block that waits for the end of another may wake
+pub record CanLetWaitersGo (m : MachineView) : Type 0 where
+  pub blocks : m.waiters.blocks ≤ length m.wakeable
+  pub ripe : m.waiters.blocks ≤ length m.ripe
+
+-- the block that applied the strip may wake, if there is one
+pub record CanLetApplierGo (m : MachineView) (last : Option ℕ) : Type 0 where
+  pub strip : (a : ℕ) → last ≡ Some a → a < length m.appliers
+  pub applier : (a : ℕ) (c : Blk) → last ≡ Some a → applier_at m a ≡ Some c → CanLetGo m c
+
+-- group g may count one less once the notify blocks of block b are submitted, which are none of its own
+pub record CanLeaveTold (m : MachineView) (b : Blk) (g : Obj) : Type 0 where
+  pub leaves : CanLeave m g
+  pub apart : (c : ℕ) → is_some (place_of m.marks.notify c) ≡ true → place_of m.groups.notify c ≡ None
+  pub room : m.left + length (list_at m.marks.notify b.0) + length (list_at m.groups.notify g.0) < 2 ^ 32
+
+-- whoever waits for the end of block b may wake
+pub record CanEndWaits (m : MachineView) (b : Blk) (called_by : Option Blk) : Type 0 where
+  pub caller : (c : Blk) → called_by ≡ Some c → CanLetGo m c
+  pub waiters : CanLetWaitersGo m
+  pub applier : CanLetApplierGo m (done_by m b)
 
 -- ## Semaphores
 
@@ -277,6 +340,10 @@ CanHaveEffect m (Merge s n) = CanMerge m s n
 CanHaveEffect m (Cancel s) = CanCancel m s
 CanHaveEffect m (Retain o) = CanRetain m o
 CanHaveEffect m (Release o) = CanRelease m o
+CanHaveEffect m (Apply q a) = CanSubmitStrip m q a
+CanHaveEffect m (CancelBlock c) = Unit {0}
+CanHaveEffect m (WaitBlock c) = Unit {0}
+CanHaveEffect m (NotifyBlock c q d) = CanTellOf m c q d
 
 -- block b may wait for the end of block c
 pub record CanCall (m : MachineView) (w : ℕ) (b : Blk) (c : Blk) : Type 0 where
@@ -299,6 +366,21 @@ pub record CanWaitForSemaphore (m : MachineView) (w : ℕ) (b : Blk) (s : Obj) (
   pub sleeps : CanLayDown m s b
   pub ahead : (end : ℕ) → limit ≡ Some end → CanBeAhead m b end
   pub parks : CanPark m w b (Rank s (waits_at m.semas s.0 + 1)) limit
+
+-- block b may wait for the blocks of strip a
+pub record CanWaitForStrip (m : MachineView) (w : ℕ) (b : Blk) (a : ℕ) : Type 0 where
+  pub strip : a < length m.appliers
+  pub over : CanLetGo m b
+  pub parks : CanPark m w b (Strip a) None
+
+-- block b, which waits for the end of no block by an act of its own, may wait for that of block c
+pub record CanWaitForBlock (m : MachineView) (w : ℕ) (b : Blk) (c : Blk) : Type 0 where
+  pub known : c.0 < length m.ended
+  pub awaited : c.0 < length m.waiters.lists
+  pub waiting : b.0 < m.waiters.blocks
+  pub waits_for_none : place_of m.waiters b.0 ≡ None
+  pub over : CanLetGo m b
+  pub parks : CanPark m w b (EndOf c) None
 
 -- block b may be parked where the act waits for something
 abbrev pub CanParkBy : MachineView → ℕ → Blk → Act → Type 0
@@ -323,6 +405,10 @@ CanParkBy m w b (Merge s n) = Unit {0}
 CanParkBy m w b (Cancel s) = Unit {0}
 CanParkBy m w b (Retain o) = Unit {0}
 CanParkBy m w b (Release o) = Unit {0}
+CanParkBy m w b (Apply q a) = CanWaitForStrip m w b a
+CanParkBy m w b (CancelBlock c) = Unit {0}
+CanParkBy m w b (WaitBlock c) = CanWaitForBlock m w b c
+CanParkBy m w b (NotifyBlock c q d) = Unit {0}
 
 -- the same of a run; a handler waits for nothing
 abbrev pub CanParkIn : MachineView → ℕ → Run → Act → Type 0
@@ -399,8 +485,9 @@ pub record CanCloseBlock (m : MachineView) (w : ℕ) (b : Blk) : Type 0 where
 -- worker w may end block b
 pub record CanEnd (m : MachineView) (w : ℕ) (b : Blk) : Type 0 where
   pub closes : CanCloseBlock m w b
-  pub caller : (c : Blk) → (block_at m b.0).caller ≡ Some c → CanLetGo m c
-  pub group : (g : Obj) → (block_at m b.0).group ≡ Some g → CanLeave m g
+  pub tells : CanTell m b
+  pub waits : CanEndWaits m b (block_at m b.0).caller
+  pub group : (g : Obj) → (block_at m b.0).group ≡ Some g → CanLeaveTold m b g
 
 -- worker w may hand what is pending at source s to its handler
 pub record CanDeliver (m : MachineView) (w : ℕ) (s : Obj) : Type 0 where
@@ -422,6 +509,11 @@ pub record CanTick (m : MachineView) (t : ℕ) : Type 0 where
   pub limits : length m.ahead ≤ length m.ripe
   pub marked : length m.busy ≡ length m.timers.kinds
 
+-- one block more of the intake may be accepted: block b
+pub record CanAccept (m : MachineView) (b : Blk) : Type 0 where
+  pub room : m.accepted + 1 < 2 ^ 32
+  pub submits : (i : IntakeView) → m.plan.intake ≡ Some i → CanSubmit m i.queue b
+
 -- what the event changes beside the number of events may be changed
 abbrev pub CanChange : MachineView → Event → Type 0
 CanChange m (Start w b) = CanStart m w b
@@ -436,6 +528,8 @@ CanChange m (FeedEnd s) = CanCancel m s
 CanChange m (Misuse w c run i) = Unit {0}
 CanChange m Halt = Unit {0}
 CanChange m (Expire b) = CanExpire m b
+CanChange m (Accept b s) = CanAccept m b
+CanChange m Shut = Unit {0}
 
 -- the event may be taken
 pub record CanTake (m : MachineView) (e : Event) : Type 0 where

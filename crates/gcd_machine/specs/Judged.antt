@@ -8,7 +8,7 @@ use Rattle.gcd_plan.specs.Kinds.{has_kind, is_semaphore_kind, is_node}
 use Rattle.gcd_plan.specs.StartRule.{first_of}
 use Rattle.gcd_plan.specs.MisuseCodes.{code_of}
 use Rattle.gcd_plan.specs.declared.act.Act.{Act}
-use Rattle.gcd_plan.specs.declared.act.Act.TheVariants.{Async, Barrier, Sync, BarrierSync, GroupAsync, Notify, Enter, Leave, GroupWait, GroupWaitFor, Signal, Wait, WaitFor, Suspend, Resume, Activate, Target, Merge, Cancel, Retain, Release}
+use Rattle.gcd_plan.specs.declared.act.Act.TheVariants.{Async, Barrier, Sync, BarrierSync, GroupAsync, Notify, Enter, Leave, GroupWait, GroupWaitFor, Signal, Wait, WaitFor, Suspend, Resume, Activate, Target, Merge, Cancel, Retain, Release, Apply, CancelBlock, WaitBlock, NotifyBlock}
 use Rattle.gcd_plan.specs.declared.misuse_code.MisuseCode.TheVariants.{OverResume, UnbalancedLeave, TargetCycle, TargetAfterActivation, TargetWhileTargeted, UseAfterRelease, ReleaseWhileSuspended, ReleaseBelowFirstValue}
 use Rattle.gcd_plan.specs.declared.numbers.Blk.{Blk}
 use Rattle.gcd_plan.specs.declared.numbers.Obj.{Obj}
@@ -17,7 +17,7 @@ use Rattle.gcd_plan.specs.declared.numbers.Run.TheVariants.{Block, Source}
 use Rattle.gcd_plan.specs.declared.why.Why.{Why}
 use Rattle.gcd_plan.specs.declared.why.Why.TheVariants.{Over, NoSuch, Busy, Unready, NotOwn, NotNext, IsMisuse, NotParked, Waiting, NotDue, NotLive, NotMisuse, Came}
 use Rattle.gcd_event.specs.declared.event.Event.{Event}
-use Rattle.gcd_event.specs.declared.event.Event.TheVariants.{Start, Act as Acted, Wake, End, Deliver, DeliverEnd, Tick, Ready, FeedEnd, Misuse, Halt, Expire}
+use Rattle.gcd_event.specs.declared.event.Event.TheVariants.{Start, Act as Acted, Wake, End, Deliver, DeliverEnd, Tick, Ready, FeedEnd, Misuse, Halt, Expire, Accept, Shut}
 use Rattle.gcd_history.specs.Runs.{act_at}
 use Rattle.gcd_history.specs.Misuses.{named, first_code}
 use Rattle.gcd_history.specs.Permitted.{is_known}
@@ -30,7 +30,8 @@ use Rattle.gcd_sync.specs.WaitsView.{reason_at, limit_at, may_wake_in}
 use Rattle.gcd_source.specs.SourcesView.{pending_at, is_cancelled_at}
 use Rattle.gcd_drain.specs.Rule.{start_fault_of, run_fault_of}
 use Rattle.gcd_refinement.specs.MachineView.{MachineView, block_at, handler_at, at_worker, refs_at, live_at, next_due_in}
-use Rattle.gcd_refinement.specs.Ties.{is_run}
+use Rattle.gcd_blockobj.specs.MarksView.{is_cancelled_at as is_block_cancelled_at}
+use Rattle.gcd_refinement.specs.Ties.{is_run, next_in}
 use Rattle.gcd_refinement.specs.After.{has_due}
 
 -- ## Runs
@@ -40,13 +41,22 @@ abbrev pub done_at : MachineView → Run → ℕ
 done_at m (Block b) = (block_at m b.0).done
 done_at m (Source s) = (handler_at m s.0).done
 
+-- the run is a cancelled block's
+abbrev pub is_cancelled_run_at : MachineView → Run → Bool
+is_cancelled_run_at m (Block b) = is_block_cancelled_at m.marks b.0
+is_cancelled_run_at m (Source s) = false
+
+-- the act of the run at i; a cancelled block has none
+abbrev pub act_due_at : MachineView → Run → ℕ → Option Act
+act_due_at m run i = if is_cancelled_run_at m run then None else act_at m.plan run i
+
 -- the run's next act, if one is left
 abbrev pub next_act_at : MachineView → Run → Option Act
-next_act_at m run = act_at m.plan run (done_at m run)
+next_act_at m run = act_due_at m run (done_at m run)
 
 -- the act at i is the run's next
 abbrev pub is_next_at : MachineView → Run → ℕ → Bool
-is_next_at m run i = i == done_at m run && is_some (act_at m.plan run i)
+is_next_at m run i = i == done_at m run && is_some (act_due_at m run i)
 
 -- worker w has a run
 abbrev pub is_busy_at : MachineView → ℕ → Bool
@@ -70,10 +80,10 @@ is_held_node_at m o = is_node m.plan o && (nat_lt 0 (hold_at m.holds o) || not (
 abbrev pub is_below_first_at : MachineView → ℕ → Bool
 is_below_first_at m s = has_kind is_semaphore_kind m.plan s && is_below_first_in m.semas s
 
--- the other object of an act that names two
-abbrev pub second_of : Option Obj → List ℕ
-second_of None = []
-second_of (Some o) = o.0 ∷ []
+-- the object, if there is one
+abbrev pub named_by : Option Obj → List ℕ
+named_by None = []
+named_by (Some o) = o.0 ∷ []
 
 -- what may be wrong with the act beside a name that is released: each code with its test, the lowest first
 abbrev pub act_misuses_at : MachineView → Act → List (ℕ × Bool)
@@ -105,6 +115,10 @@ act_misuses_at m (Release o) =
     (code_of ReleaseWhileSuspended, refs_at m o.0 == 1 && is_held_node_at m o.0)
     ∷ (code_of ReleaseBelowFirstValue, refs_at m o.0 == 1 && is_below_first_at m o.0)
     ∷ []
+act_misuses_at m (Apply q a) = []
+act_misuses_at m (CancelBlock c) = []
+act_misuses_at m (WaitBlock c) = []
+act_misuses_at m (NotifyBlock c q d) = []
 
 -- the code of the misuse, if the act is one now
 abbrev pub misuse_by : MachineView → Act → Option ℕ
@@ -142,11 +156,19 @@ may_tick_at m t =
 
 -- block b is parked, and what it waits for has come, or its wait has expired
 abbrev pub may_wake_at : MachineView → ℕ → Bool
-may_wake_at m b = may_wake_in m.waits m.groups m.semas m.ended b
+may_wake_at m b = may_wake_in m.waits m.groups m.semas m.strips m.ended b
 
 -- block b is parked with a limit, and time has come to it
 abbrev pub is_at_limit_at : MachineView → ℕ → Bool
 is_at_limit_at m b = option_map_or (λ end. nat_le end m.timers.moment) (limit_at m.waits b) false
+
+-- the plan has an intake, and it is not shut
+abbrev pub is_intake_open_at : MachineView → Bool
+is_intake_open_at m = is_some m.plan.intake && not m.shut
+
+-- the next block of the intake is another one than b
+abbrev pub is_not_next_in : MachineView → ℕ → Bool
+is_not_next_in m b = not (option_map_or (λ c. c.0 == b) (next_in m.plan m) false)
 
 -- why an event that the plan knows may not come next, if the run goes on
 abbrev pub fault_at : MachineView → Event → Option Why
@@ -169,6 +191,8 @@ fault_at m (Misuse w c run i) =
 fault_at m Halt = None
 fault_at m (Expire b) =
     first_of ((NotParked, is_none (reason_at m.waits b.0)) ∷ (NotDue, not (is_at_limit_at m b.0)) ∷ (Came, may_wake_at m b.0) ∷ [])
+fault_at m (Accept b s) = first_of ((NotLive, is_none (next_in m.plan m)) ∷ (NotNext, is_not_next_in m b.0) ∷ [])
+fault_at m Shut = if is_intake_open_at m then None else Some NotLive
 
 -- the first reason why the event may not come next
 abbrev pub why_by : MachineView → Event → Option Why

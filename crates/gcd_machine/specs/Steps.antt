@@ -1,30 +1,35 @@
 -- What each private step of a machine changes. The steps of one event together make `after` of gcd_refinement.
-use Rattle.std.specs.Prelude.{ℕ, ◌+◌, ◌-◌, ◌==◌, Bool, true, false, not, ◌&&◌, if◌then◌else◌, List, [], length, take, map, fold, Option, Some, None, slice_set}
+use Rattle.std.specs.Prelude.{ℕ, ◌+◌, ◌-◌, ◌==◌, Bool, true, false, not, ◌&&◌, if◌then◌else◌, List, [], ◌++◌, length, take, map, fold, Option, Some, None, slice_get, slice_set}
 use Rattle.std.specs.Option.{option_map_or}
 use Rattle.std.specs.List.{range_with_len}
 use Rattle.gcd_plan.specs.PlanView.{cancel_block}
 use Rattle.gcd_plan.specs.Kinds.{has_kind, is_read_kind}
 use Rattle.gcd_plan.specs.declared.act.Act.{Act}
-use Rattle.gcd_plan.specs.declared.act.Act.TheVariants.{Async, Barrier, Sync, BarrierSync, GroupAsync, Notify, Enter, Leave, GroupWait, GroupWaitFor, Signal, Wait, WaitFor, Suspend, Resume, Activate, Target, Merge, Cancel, Retain, Release}
+use Rattle.gcd_plan.specs.declared.act.Act.TheVariants.{Async, Barrier, Sync, BarrierSync, GroupAsync, Notify, Enter, Leave, GroupWait, GroupWaitFor, Signal, Wait, WaitFor, Suspend, Resume, Activate, Target, Merge, Cancel, Retain, Release, Apply, CancelBlock, WaitBlock, NotifyBlock}
 use Rattle.gcd_plan.specs.declared.numbers.Blk.{Blk}
 use Rattle.gcd_plan.specs.declared.numbers.Obj.{Obj}
 use Rattle.gcd_plan.specs.declared.numbers.Run.{Run}
 use Rattle.gcd_plan.specs.declared.numbers.Run.TheVariants.{Block, Source}
 use Rattle.gcd_plan.specs.declared.reason.Reason.{Reason}
-use Rattle.gcd_plan.specs.declared.reason.Reason.TheVariants.{Block as EndOf, Group as Empty, Rank}
+use Rattle.gcd_plan.specs.declared.reason.Reason.TheVariants.{Block as EndOf, Group as Empty, Strip, Rank}
 use Rattle.gcd_event.specs.declared.event.Event.{Event}
-use Rattle.gcd_event.specs.declared.event.Event.TheVariants.{Start, Act as Acted, Wake, End, Deliver, DeliverEnd, Tick, Ready, FeedEnd, Misuse, Halt, Expire}
+use Rattle.gcd_event.specs.declared.event.Event.TheVariants.{Start, Act as Acted, Wake, End, Deliver, DeliverEnd, Tick, Ready, FeedEnd, Misuse, Halt, Expire, Accept, Shut}
 use Rattle.gcd_history.specs.Runs.{act_at}
-use Rattle.gcd_lists.specs.ListsView.{list_at}
+use Rattle.gcd_lists.specs.ListsView.{list_at, span}
 use Rattle.gcd_group.specs.GroupsView.{count_at, entered_at, due_at, with_one_more, with_one_less, with_entered, with_notify}
 use Rattle.gcd_sema.specs.SemasView.{waits_at, signals_at, has_value_at, with_wait, with_signals}
 use Rattle.gcd_sync.specs.WaitsView.{reason_at, with_parked, with_woken, with_expired}
 use Rattle.gcd_hold.specs.HoldsView.{hold_at, is_active_at, with_hold, with_active}
 use Rattle.gcd_source.specs.SourcesView.{is_cancelled_at, merged_at, with_pending, with_cancelled as with_cancelled_source}
 use Rattle.gcd_timer.specs.TimersView.{with_activated, with_cancelled as with_cancelled_timer, marked_by}
-use Rattle.gcd_refinement.specs.MachineView.{MachineView, block_at, refs_at}
-use Rattle.gcd_refinement.specs.Submits.{sleepers_at}
-use Rattle.gcd_refinement.specs.After.{popped, pushed_on, opened, closed, targeted, barrier_began, barrier_ended, with_block, with_wakeable, handled, delivered as delivery, stays_busy, unmarked, all_fired, semas_expired, bed_of, removed}
+use Rattle.gcd_apply.specs.StripsView.{left_at, with_done}
+use Rattle.gcd_blockobj.specs.MarksView.{has_ended_at, with_cancelled as with_cancelled_block, with_begun, with_ended, with_notify as with_block_notify}
+use Rattle.gcd_refinement.specs.MachineView.{MachineView, block_at, ended_at, refs_at, applier_at}
+use Rattle.gcd_refinement.specs.declared.progress.BlockProgress.{BlockProgress}
+use Rattle.gcd_refinement.specs.Submits.{sleepers_at, done_by}
+use Rattle.gcd_refinement.specs.After.{opened, closed, targeted, barrier_began, barrier_ended, with_block, with_wakeable, handled, delivered as delivery, stays_busy, unmarked, all_fired, semas_expired}
+use Rattle.gcd_refinement.specs.AfterSleepers.{popped, pushed_on, bed_of, removed, none_waiting}
+use Rattle.gcd_refinement.specs.AfterStrips.{all_told}
 use Rattle.gcd_refinement.specs.AfterLimits.{laid_ahead, laid_ripe, still_ahead, is_ripe_by, without_limit, without_ripe, limit_in_view}
 
 -- ## Workers
@@ -69,6 +74,23 @@ submitted m n b barrier = record m {
   busy = slice_set m.busy n.0 true;
   left = m.left + 1;
 }
+
+-- the block is noted as submitted on the node, and not as a barrier
+abbrev pub noted_on : Obj → List BlockProgress → ℕ → List BlockProgress
+noted_on n blocks b = with_block blocks b (λ x. record x { node = Some n; barrier = false })
+
+-- so many blocks from the first on wait behind all others on the node, in the order of their numbers
+abbrev pub span_submitted : MachineView → Obj → (first count : ℕ) → MachineView
+span_submitted m n first count = record m {
+  lists = record m.lists { lists = slice_set m.lists.lists n.0 (list_at m.lists n.0 ++ span first count) };
+  blocks = fold (noted_on n) m.blocks (range_with_len first count);
+  busy = if count == 0 then m.busy else slice_set m.busy n.0 true;
+  left = m.left + count;
+}
+
+-- the blocks of strip a wait behind all others on the node
+abbrev pub strip_submitted : MachineView → Obj → (a : ℕ) → MachineView
+strip_submitted m n a = option_map_or (λ s. span_submitted m n s.first s.count) (slice_get m.plan.strips a) m
 
 -- ## Wakes
 
@@ -133,6 +155,16 @@ waited_for_semaphore m w b s limit =
     parked (record (if has_value_at m.semas s.0 then let_go m b else limited (laid_down m s b) b limit) {
       semas = with_wait m.semas s.0;
     }) w b (Rank s (waits_at m.semas s.0 + 1)) limit
+
+-- block b waits for the blocks of strip a, or may wake at once where each has ended
+abbrev pub waited_for_strip : MachineView → ℕ → Blk → (a : ℕ) → MachineView
+waited_for_strip m w b a =
+    parked (if left_at m.strips a == 0 then let_go m b else record m { appliers = slice_set m.appliers a (Some b) }) w b (Strip a) None
+
+-- block b waits for the end of block c, or may wake at once where that has come
+abbrev pub waited_for_block : MachineView → ℕ → Blk → Blk → MachineView
+waited_for_block m w b c =
+    parked (if ended_at m c.0 then let_go m b else record m { waiters = pushed_on m.waiters (record { 0 = c.0 }) b false }) w b (EndOf c) None
 
 -- ## Activation and cancellation
 
@@ -209,12 +241,25 @@ left_group m g =
     then emptied (record m { groups = with_one_less m.groups g.0 (m.len + 1) }) g
     else record m { groups = with_one_less m.groups g.0 (m.len + 1) }
 
+-- ## Ends of blocks
+
+-- the notify blocks of block c are submitted, where it has ended
+abbrev pub told_at : MachineView → Blk → MachineView
+told_at m c =
+    if has_ended_at m.marks c.0
+    then record (fold fired_at m (map (λ w. w.0) (list_at m.marks.notify c.0))) { marks = all_told m.marks c.0 }
+    else m
+
+-- each block that waits for the end of block b by an act of its own may wake
+abbrev pub waiters_let_go : MachineView → Blk → MachineView
+waiters_let_go m b = record (all_over m (map (λ w. w.0) (list_at m.waiters b.0))) { waiters = none_waiting m.waiters b }
+
 -- ## Events
 
 -- worker w has started block b
 abbrev pub started : MachineView → ℕ → Blk → MachineView
 started m w b =
-    let noted : MachineView = record m { blocks = with_block m.blocks b.0 (λ x. record x { started = true }) } in
+    let noted : MachineView = record m { blocks = with_block m.blocks b.0 (λ x. record x { started = true }); marks = with_begun m.marks b.0 } in
     taken_up (run_begun noted (block_at m b.0).node (block_at m b.0).barrier) w (Block b)
 
 -- worker w goes on with block b
@@ -232,19 +277,35 @@ expired m b = let_go (wait_ended (record m { waits = with_expired m.waits b.0 })
 -- block b is over: its run has closed on its node, if it has one, and worker w is free
 abbrev pub closed_block : MachineView → ℕ → Blk → MachineView
 closed_block m w b =
-    let over : MachineView = record m { ended = slice_set m.ended b.0 true; left = m.left - 1 } in
+    let over : MachineView = record m { ended = slice_set m.ended b.0 true; left = m.left - 1; marks = with_ended m.marks b.0 } in
     set_free (run_closed over (block_at m b.0).node (block_at m b.0).barrier) w
 
 -- whoever waits for the end of block b may wake
 abbrev pub caller_let_go : MachineView → Option Blk → MachineView
 caller_let_go m caller = option_map_or (let_go m) caller m
 
+-- the block that applied the strip may wake, if there is one
+abbrev pub applier_let_go : MachineView → Option ℕ → MachineView
+applier_let_go m None = m
+applier_let_go m (Some a) = caller_let_go (record m { appliers = slice_set m.appliers a None }) (applier_at m a)
+
+-- one block more of a strip has ended, if block b is of one; with the last the block that applied the strip may wake
+abbrev pub strip_ended : MachineView → Blk → MachineView
+strip_ended m b =
+    let woken_for : MachineView = applier_let_go m (done_by m b) in
+    record woken_for { strips = with_done woken_for.strips b.0 }
+
+-- whoever waits for the end of block b may wake: its caller, those that wait by an act of their own, and where it is the last of a
+-- strip the one that applied that
+abbrev pub waits_ended : MachineView → Blk → Option Blk → MachineView
+waits_ended m b caller = strip_ended (waiters_let_go (caller_let_go m caller) b) b
+
 -- the group that counted the block has one member less, if there is one
 abbrev pub member_left : MachineView → Option Obj → MachineView
 member_left m group = option_map_or (left_group m) group m
 
 abbrev pub ended : MachineView → ℕ → Blk → MachineView
-ended m w b = member_left (caller_let_go (closed_block m w b) (block_at m b.0).caller) (block_at m b.0).group
+ended m w b = member_left (waits_ended (told_at (closed_block m w b) b) b (block_at m b.0).caller) (block_at m b.0).group
 
 -- worker w has handed what is pending at source s to its handler
 abbrev pub delivered : MachineView → ℕ → Obj → MachineView
@@ -259,6 +320,14 @@ delivered m w s =
 -- worker w has ended the run of the handler of source s
 abbrev pub delivery_ended : MachineView → ℕ → Obj → MachineView
 delivery_ended m w s = set_free (record m { tree = closed m.tree (Some s) }) w
+
+-- block b of the intake is submitted on the intake's queue
+abbrev pub accepted : MachineView → Blk → MachineView
+accepted m b = option_map_or (λ i. submitted m i.queue b false) m.plan.intake m
+
+-- one block more of the intake is accepted
+abbrev pub accepted_one : MachineView → Blk → MachineView
+accepted_one m b = accepted (record m { accepted = m.accepted + 1 }) b
 
 -- ## Acts of a block and of a handler
 
@@ -277,6 +346,14 @@ registered m g q b =
       blocks = with_block m.blocks b.0 (λ x. record x { home = q });
       groups = with_notify m.groups g.0 b;
     }) g
+
+-- block d goes to q once block c has ended, at once where it has
+abbrev pub told_of : MachineView → Blk → Obj → Blk → MachineView
+told_of m c q d =
+    told_at (record m {
+      blocks = with_block m.blocks d.0 (λ x. record x { home = q });
+      marks = with_block_notify m.marks c.0 d;
+    }) c
 
 -- group g is left once more
 abbrev pub left_by_act : MachineView → Obj → MachineView
@@ -313,6 +390,10 @@ effect_of m (Merge s n) = merged m s n
 effect_of m (Cancel s) = cancelled m s
 effect_of m (Retain o) = record m { refs = slice_set m.refs o.0 (refs_at m o.0 + 1) }
 effect_of m (Release o) = record m { refs = slice_set m.refs o.0 (refs_at m o.0 - 1) }
+effect_of m (Apply q a) = strip_submitted m q a
+effect_of m (CancelBlock c) = record m { marks = with_cancelled_block m.marks c.0 }
+effect_of m (WaitBlock c) = m
+effect_of m (NotifyBlock c q d) = told_of m c q d
 
 -- block b is parked where the act, which it makes, waits for something
 abbrev pub parked_by_act : MachineView → ℕ → Blk → Act → MachineView
@@ -337,6 +418,10 @@ parked_by_act m w b (Merge s n) = m
 parked_by_act m w b (Cancel s) = m
 parked_by_act m w b (Retain o) = m
 parked_by_act m w b (Release o) = m
+parked_by_act m w b (Apply q a) = waited_for_strip m w b a
+parked_by_act m w b (CancelBlock c) = m
+parked_by_act m w b (WaitBlock c) = waited_for_block m w b c
+parked_by_act m w b (NotifyBlock c q d) = m
 
 abbrev pub parked_in : MachineView → ℕ → Run → Act → MachineView
 parked_in m w (Block b) act = parked_by_act m w b act
@@ -366,6 +451,8 @@ changed m (FeedEnd s) = cancelled m s
 changed m (Misuse w c run i) = record m { misused = true }
 changed m Halt = record m { halted = true }
 changed m (Expire b) = expired m b
+changed m (Accept b s) = accepted_one m b
+changed m Shut = record m { shut = true }
 
 abbrev pub stepped : MachineView → Event → MachineView
 stepped m e = record (changed m e) { len = m.len + 1 }

@@ -16,6 +16,8 @@
 //! | `len`, `running` | how many events came, how many runs are open and not parked |
 //! | `next_due`, `is_live_feed`, `next_live_feed`, `data_of`, `pending_of` | due times of timers and limits of waits, live feeds, what sources handed over and have pending |
 //! | `first_waiting`, `node_of`, `is_started`, `is_ended`, `awaited`, `parks` | what waits on an object; of a block where it was submitted, whether it has started and ended, what it waits for; whether an act parks its block |
+//! | `is_cancelled` | whether a block is cancelled: its run has no act and no work |
+//! | `intake_open`, `next_intake` | whether blocks may be accepted from outside, and which one is next |
 //! | `objects`, `blocks` | the plan's numbers, for the conditions of the calls |
 //! | [`laws::histories_are_lawful`] | the histories that a machine stands for are lawful, of its own plan, which is valid |
 //!

@@ -5,7 +5,7 @@ ghost use Rattle.gcd_plan.specs.PlanView.{PlanView};
 ghost use Rattle.gcd_event.specs.declared.event.Event.{Event};
 ghost use Rattle.gcd_history.specs.Choice.{is_work, worker_of};
 ghost use Rattle.gcd_history.specs.Ends.{HasState, IsQuiescent, is_halted};
-ghost use Rattle.gcd_history.specs.History.{awaited_of, choice_of, expiry_of, last_data_of, first_waiting_of, is_ended, is_live_feed, is_started, next_due_of, node_of, parks, pending_of, running_of, why};
+ghost use Rattle.gcd_history.specs.History.{awaited_of, choice_of, expiry_of, last_data_of, first_waiting_of, next_of_intake, is_block_cancelled, is_ended, is_intake_open, is_live_feed, is_started, next_due_of, node_of, parks, pending_of, running_of, why};
 ghost use Rattle.gcd_machine.specs.Begins.{begin_of};
 ghost use Rattle.gcd_machine.specs.Stands.{MayApply, StandsFor};
 
@@ -137,8 +137,8 @@ impl Machine {
         self.registers.state()
     }
 
-    /// Whether nothing but a halt can come any more, and the run is not halted. It costs a constant number of steps where a run
-    /// is open and not parked, a read source is live, a wait may expire or a due time is left, and else as much as one
+    /// Whether nothing but a halt can come any more, and the run is not halted. It costs a constant number of steps where the
+    /// intake is open, a run is open and not parked, a read source is live, a wait may expire or a due time is left, and else as much as one
     /// [`Machine::choose`].
     pub fn is_quiescent(&self) -> bool
         ensures { (plan : PlanView) (h : List Event) → StandsFor self.now plan h → IsTrue result ↔ IsQuiescent plan h }
@@ -228,13 +228,39 @@ impl Machine {
         self.registers.is_ended(b)
     }
 
-    /// What the block waits for: the end of a block, a moment at which a group is empty, or its turn at a semaphore. None
-    /// exactly where it is not parked (dispatch_sync(3), dispatch_group_wait(3), dispatch_semaphore_wait(3)).
+    /// What the block waits for: the end of a block, a moment at which a group is empty, the ends of a strip's blocks, or its turn at a
+    /// semaphore. None exactly where it is not parked (dispatch_sync(3), dispatch_block_wait(3), dispatch_group_wait(3),
+    /// dispatch_apply(3), dispatch_semaphore_wait(3)).
     pub fn awaited(&self, b: Blk) -> Option<Reason>
         requires { b.0 < length self.now.plan.blocks }
         ensures { (plan : PlanView) (h : List Event) → StandsFor self.now plan h → result ≡ awaited_of plan h b.0 }
     {
         self.registers.awaited(b)
+    }
+
+    /// Whether the block is cancelled: it was cancelled before it started, so it starts and ends in its turn, with no act and no work
+    /// (dispatch_block_testcancel(3)).
+    #[inline(always)]
+    pub fn is_cancelled(&self, b: Blk) -> bool
+        ensures { (plan : PlanView) (h : List Event) → StandsFor self.now plan h → result ≡ is_block_cancelled plan h b.0 }
+    {
+        self.registers.is_cancelled(b)
+    }
+
+    /// Whether the plan has an intake, and it is not shut (this project's own rule).
+    #[inline(always)]
+    pub fn intake_open(&self) -> bool
+        ensures { (plan : PlanView) (h : List Event) → StandsFor self.now plan h → result ≡ is_intake_open plan h }
+    {
+        self.registers.intake_open()
+    }
+
+    /// The block of the intake that is accepted next: the lowest that is not accepted. None exactly where the intake is not open, or
+    /// all its blocks are accepted (this project's own rule).
+    pub fn next_intake(&self) -> Option<Blk>
+        ensures { (plan : PlanView) (h : List Event) → StandsFor self.now plan h → result ≡ next_of_intake plan h }
+    {
+        self.registers.next_intake()
     }
 
     /// What the last delivery of the source handed over, 0 before one (dispatch_source_get_data(3)).
@@ -254,7 +280,7 @@ impl Machine {
     }
 
     /// Whether the event is an act that parks its block (dispatch_sync(3), dispatch_barrier_sync(3),
-    /// dispatch_semaphore_wait(3), dispatch_group_wait(3)).
+    /// dispatch_semaphore_wait(3), dispatch_group_wait(3), dispatch_apply(3), dispatch_block_wait(3)).
     pub fn parks(&self, e: Event) -> bool
         ensures { (plan : PlanView) (h : List Event) → StandsFor self.now plan h → result ≡ parks plan e }
     {

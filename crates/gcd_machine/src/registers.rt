@@ -8,8 +8,10 @@ mod answers;
 mod choose;
 mod copy;
 mod dues;
+mod ends;
 mod events;
 mod groups;
+mod intake;
 mod judge;
 mod kinds;
 mod limits;
@@ -19,15 +21,18 @@ mod nodes;
 mod plan;
 mod progress;
 mod runs;
+mod strips;
 mod work;
 
+use gcd_apply::Strips;
 use gcd_bits::BitSet;
+use gcd_blockobj::Marks;
 use gcd_drain::Drains;
 use gcd_group::Groups;
 use gcd_hold::Holds;
 use gcd_lists::Lists;
 use gcd_objects::Objects;
-use gcd_plan::{Plan, Run};
+use gcd_plan::{Blk, Plan, Run};
 use gcd_refinement::{BlockProgress, HandlerProgress};
 use gcd_sema::Semas;
 use gcd_soonest::Times;
@@ -38,7 +43,7 @@ use gcd_tree::Tree;
 use std::marker::Model;
 use std::sync::Arc;
 
-/// All that a machine keeps: the plan, which its copies share, the ten parts and its own arrays. No array grows.
+/// All that a machine keeps: the plan, which its copies share, the twelve parts and its own arrays. No array grows.
 #[derive(Debug, Drop)]
 pub struct Registers {
     pub plan: Arc<Plan>,
@@ -54,6 +59,15 @@ pub struct Registers {
     pub timers: Timers,
     // the blocks that sleep at each semaphore and group
     pub sleepers: Lists,
+    // the blocks that wait for the end of each by an act of their own; of no block where no act of the plan needs marks
+    pub waiters: Lists,
+    // by strip: the block that applied it and waits
+    pub appliers: Vec<Option<Blk>>,
+    pub strips: Strips,
+    pub marks: Marks,
+    // how many blocks of the intake are accepted, and whether it is shut
+    pub accepted: u32,
+    pub shut: bool,
     // by block
     pub blocks: Vec<BlockProgress>,
     pub ended: Vec<bool>,
@@ -80,6 +94,17 @@ pub struct Registers {
     // how many events have come
     pub len: u32,
 }
+
+// The parts and arrays in groups, as they are made.
+type EndParts = (Lists, Vec<Option<Blk>>, Strips, Marks);
+
+type NodeParts = (Objects, Lists, Tree, Holds, Drains);
+
+type EventParts = (Groups, Semas, Waits, Sources, Timers);
+
+type BlockArrays = (Vec<BlockProgress>, Vec<bool>, BitSet, Times, BitSet);
+
+type RunArrays = (Vec<HandlerProgress>, BitSet, BitSet, Vec<Option<Run>>);
 
 impl Model for Registers {
     ghost use Rattle.gcd_refinement.specs.MachineView.{MachineView};

@@ -1,12 +1,17 @@
 ghost use Rattle.std.specs.Prelude.{◌≡◌, []};
 ghost use Rattle.gcd_machine.specs.Stands.{StandsFor};
 
+mod block_acts;
 mod limits;
 mod rows;
 
+use block_acts::BLOCK_ACTS;
 use gcd_event::Event;
 use gcd_machine::Machine;
-use gcd_plan::{Act, Blk, BlkPart, Kind, MAX_OBJECTS, Obj, ObjPart, Parts, Plan, Reason, Run, Why};
+use gcd_plan::{
+    Act, Blk, BlkPart, FilePart, How, Kind, MAX_OBJECTS, Obj, ObjPart, Parts, Plan, Reason, Run,
+    StripPart, Why, Work,
+};
 use limits::LIMITS;
 use rows::{B1, B2, CHAIN, MAIN, O1, O2, O3, ROWS, Row, Told};
 use std::alloc::{AllocError, Global};
@@ -66,12 +71,75 @@ fn block(alloc: Global, row: &Row, b: u32, name: &str) -> Result<BlkPart, AllocE
     Ok(part)
 }
 
+// The length of each part of the strip.
+const PART: u32 = 4;
+
+// The place of the block in the span, from 0; None exactly where it is not of it.
+fn place_in(b: u32, span: Option<(u32, u32)>) -> Option<u32> {
+    let (first, count) = span?;
+    let place = b.wrapping_sub(first);
+    if place < count { Some(place) } else { None }
+}
+
+// The span of the intake.
+fn intake_span(row: &Row) -> Option<(u32, u32)> {
+    let (_, first, count) = row.intake?;
+    Some((first, count))
+}
+
+// The block of this number, which the intake or the strip may make.
+fn any_block(alloc: Global, row: &Row, b: u32) -> Result<BlkPart, AllocError> {
+    if let Some(place) = place_in(b, intake_span(row)) {
+        let name = format!(in alloc; "+{}", place.wrapping_add(1))?;
+        return BlkPart::new(alloc, name.as_str());
+    }
+    if let Some(place) = place_in(b, row.strip) {
+        let name = format!(in alloc; "s.{place}")?;
+        let mut part = BlkPart::new(alloc, name.as_str())?;
+        part.work = Some(Work {
+            how: How::Bytes,
+            file: 0,
+            start: place.wrapping_mul(PART),
+            len: PART,
+        });
+        return Ok(part);
+    }
+    let name = format!(in alloc; "b{}", b.wrapping_sub(1))?;
+    block(alloc, row, b, name.as_str())
+}
+
+fn files(alloc: Global, row: &Row) -> Result<Vec<FilePart>, AllocError> {
+    let mut files = Vec::new(alloc);
+    if row.strip.is_some() {
+        files.push(FilePart {
+            name: String::from_str(alloc, "f")?,
+            path: String::from_str(alloc, "f")?,
+            line: 1,
+        })?;
+    }
+    Ok(files)
+}
+
+fn strips(alloc: Global, row: &Row) -> Result<Vec<StripPart>, AllocError> {
+    let mut strips = Vec::new(alloc);
+    if let Some((first, count)) = row.strip {
+        strips.push(StripPart {
+            name: String::from_str(alloc, "s")?,
+            how: How::Bytes,
+            file: 0,
+            len: PART,
+            first,
+            count,
+        })?;
+    }
+    Ok(strips)
+}
+
 fn blocks(alloc: Global, row: &Row) -> Result<Vec<BlkPart>, AllocError> {
     let mut blocks = Vec::new(alloc);
     blocks.push(block(alloc, row, 0, "main")?)?;
     for b in 0..row.blocks {
-        let name = format!(in alloc; "b{b}")?;
-        blocks.push(block(alloc, row, b.wrapping_add(1), name.as_str())?)?;
+        blocks.push(any_block(alloc, row, b.wrapping_add(1))?)?;
     }
     Ok(blocks)
 }
@@ -80,8 +148,10 @@ fn plan_of(alloc: Global, row: &Row, objects: Vec<ObjPart>) -> Result<Plan, Fail
     let parts = Parts {
         objects,
         blocks: blocks(alloc, row)?,
-        files: Vec::new(alloc),
+        files: files(alloc, row)?,
         until: row.until,
+        intake: row.intake,
+        strips: strips(alloc, row)?,
     };
     Ok(Plan::of_parts(parts).ok_or("no valid plan")?)
 }
@@ -115,6 +185,8 @@ fn word(alloc: Global, e: Event) -> Result<String, AllocError> {
         } => format!(in alloc; "misuse {worker} {} {index} M{code}", run_name(alloc, run)?),
         Event::Halt => format!(in alloc; "halt"),
         Event::Expire { blk } => format!(in alloc; "expire b{}", blk.0),
+        Event::Accept { blk, sender } => format!(in alloc; "accept b{} {sender}", blk.0),
+        Event::Shut => format!(in alloc; "shut"),
     }
 }
 
@@ -191,6 +263,9 @@ fn ends_as_told(rt: &impl Abort, row: &Row, m: &Machine) {
     assert_eq!(rt; data(m), row.data, "{what}");
     assert!(rt; awaited(m) == row.awaited, "{what}");
     assert!(rt; m.expiry() == row.expiry, "{what}");
+    assert!(rt; m.is_cancelled(B2) == row.cancelled, "{what}");
+    assert!(rt; m.intake_open() == row.open, "{what}");
+    assert!(rt; m.next_intake() == row.next, "{what}");
     if row.told.is_some() {
         assert!(rt; summary(m) == row.told, "{what}");
     }
@@ -240,6 +315,14 @@ fn rows_are_recorded_as_told(rt: HostRuntime) -> Result<(), Fail> {
 #[test]
 fn limits_are_kept_as_told(rt: HostRuntime) -> Result<(), Fail> {
     for row in LIMITS.iter() {
+        check_row(&rt, rt.alloc(), row)?;
+    }
+    Ok(())
+}
+
+#[test]
+fn blocks_as_objects_strips_and_the_intake_are_as_told(rt: HostRuntime) -> Result<(), Fail> {
+    for row in BLOCK_ACTS.iter() {
         check_row(&rt, rt.alloc(), row)?;
     }
     Ok(())

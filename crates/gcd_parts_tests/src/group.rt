@@ -29,6 +29,8 @@ fn new_plan(alloc: Global) -> Result<Plan, Fail> {
         blocks: idle_blocks(alloc)?,
         files: Vec::new(alloc),
         until: 1,
+        intake: None,
+        strips: Vec::new(alloc),
     };
     Ok(Plan::of_parts(parts).ok_or("a valid plan")?)
 }

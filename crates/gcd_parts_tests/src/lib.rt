@@ -4,6 +4,8 @@
 #[cfg(test)]
 mod bits;
 #[cfg(test)]
+mod blockobj;
+#[cfg(test)]
 mod drain;
 #[cfg(test)]
 mod group;
@@ -19,6 +21,8 @@ mod sema;
 mod soonest;
 #[cfg(test)]
 mod source;
+#[cfg(test)]
+mod strips;
 #[cfg(test)]
 mod sync;
 #[cfg(test)]

@@ -38,6 +38,8 @@ fn new_plan(alloc: Global) -> Result<Plan, Fail> {
         blocks,
         files: Vec::new(alloc),
         until: 1,
+        intake: None,
+        strips: Vec::new(alloc),
     };
     Ok(Plan::of_parts(parts).ok_or("a valid plan")?)
 }

@@ -17,6 +17,8 @@ fn parts(alloc: Global) -> Result<Parts, AllocError> {
         blocks: vec![in alloc; main]?,
         files: Vec::new(alloc),
         until: 1,
+        intake: None,
+        strips: Vec::new(alloc),
     })
 }
 

@@ -33,6 +33,8 @@ fn parts(alloc: Global) -> Result<Parts, AllocError> {
         blocks: vec![in alloc; main]?,
         files: Vec::new(alloc),
         until: 1,
+        intake: None,
+        strips: Vec::new(alloc),
     })
 }
 
@@ -218,6 +220,8 @@ fn acts_may_wait_where_there_is_a_semaphore(rt: HostRuntime) -> Result<(), Fail>
         blocks: vec![in alloc; BlkPart::new(alloc, "main")?]?,
         files: Vec::new(alloc),
         until: 1,
+        intake: None,
+        strips: Vec::new(alloc),
     };
     let plan = Plan::of_parts(without).ok_or("a valid plan")?;
     assert!(rt; !has_awaited(&plan));

@@ -1,20 +1,64 @@
 ghost use Rattle.std.specs.Prelude.{◌≡◌, length};
 
+use gcd_apply::Strips;
 use gcd_group::Groups;
-use gcd_plan::{Act, Blk, BlkPart, Kind, Obj, ObjPart, Parts, Plan, Reason};
+use gcd_plan::{
+    Act, Blk, BlkPart, FilePart, How, Kind, Obj, ObjPart, Parts, Plan, Reason, StripPart, Work,
+};
 use gcd_sema::Semas;
 use gcd_sync::{Waits, limit_room};
 use std::alloc::{AllocError, Global};
 use std::process::Abort;
 use std::test::Fail;
 
-// `root`, a group, a semaphore of first value 1 and another group, and `main`, which waits
-// for the semaphore five times, with three blocks.
-fn parts(alloc: Global) -> Result<Parts, AllocError> {
-    let root = ObjPart::new(alloc, "root", Kind::Concurrent)?;
-    let group = ObjPart::new(alloc, "g", Kind::Group)?;
-    let sema = ObjPart::new(alloc, "s", Kind::Semaphore(1))?;
-    let other = ObjPart::new(alloc, "h", Kind::Group)?;
+// A strip of two blocks, from block 4 on.
+fn strip(alloc: Global) -> Result<StripPart, AllocError> {
+    Ok(StripPart {
+        name: String::from_str(alloc, "t")?,
+        how: How::Lines,
+        file: 0,
+        len: 8,
+        first: 4,
+        count: 2,
+    })
+}
+
+// A block of that strip.
+fn piece(alloc: Global, name: &str, start: u32) -> Result<BlkPart, AllocError> {
+    let mut block = BlkPart::new(alloc, name)?;
+    block.work = Some(Work {
+        how: How::Lines,
+        file: 0,
+        start,
+        len: 8,
+    });
+    Ok(block)
+}
+
+fn file(alloc: Global) -> Result<FilePart, AllocError> {
+    Ok(FilePart {
+        name: String::from_str(alloc, "f")?,
+        path: String::from_str(alloc, "f.txt")?,
+        line: 1,
+    })
+}
+
+// `root`, a group, a semaphore of first value 1 and another group.
+fn objects(alloc: Global) -> Result<Vec<ObjPart>, AllocError> {
+    let mut objects = Vec::new(alloc);
+    for (name, kind) in [
+        ("root", Kind::Concurrent),
+        ("g", Kind::Group),
+        ("s", Kind::Semaphore(1)),
+        ("h", Kind::Group),
+    ] {
+        objects.push(ObjPart::new(alloc, name, kind)?)?;
+    }
+    Ok(objects)
+}
+
+// `main`, which waits for the semaphore five times.
+fn main_block(alloc: Global) -> Result<BlkPart, AllocError> {
     let mut main = BlkPart::new(alloc, "main")?;
     main.acts = vec![in alloc;
         Act::Wait(Obj(2)),
@@ -23,14 +67,38 @@ fn parts(alloc: Global) -> Result<Parts, AllocError> {
         Act::WaitFor(Obj(2), 9),
         Act::Wait(Obj(2)),
     ]?;
-    let a = BlkPart::new(alloc, "a")?;
-    let b = BlkPart::new(alloc, "b")?;
-    let c = BlkPart::new(alloc, "c")?;
+    Ok(main)
+}
+
+// `main`, three blocks, and the two of the strip.
+fn blocks(alloc: Global) -> Result<Vec<BlkPart>, AllocError> {
+    let mut blocks = Vec::new(alloc);
+    blocks.push(main_block(alloc)?)?;
+    for name in ["a", "b", "c"] {
+        blocks.push(BlkPart::new(alloc, name)?)?;
+    }
+    for (name, start) in [("t.0", 0), ("t.1", 8)] {
+        blocks.push(piece(alloc, name, start)?)?;
+    }
+    Ok(blocks)
+}
+
+fn files(alloc: Global) -> Result<Vec<FilePart>, AllocError> {
+    Ok(vec![in alloc; file(alloc)?]?)
+}
+
+fn strips(alloc: Global) -> Result<Vec<StripPart>, AllocError> {
+    Ok(vec![in alloc; strip(alloc)?]?)
+}
+
+fn parts(alloc: Global) -> Result<Parts, AllocError> {
     Ok(Parts {
-        objects: vec![in alloc; root, group, sema, other]?,
-        blocks: vec![in alloc; main, a, b, c]?,
-        files: Vec::new(alloc),
+        objects: objects(alloc)?,
+        blocks: blocks(alloc)?,
+        files: files(alloc)?,
         until: 1,
+        intake: None,
+        strips: strips(alloc)?,
     })
 }
 
@@ -39,17 +107,21 @@ fn parts(alloc: Global) -> Result<Parts, AllocError> {
 struct World {
     objects: u32,
     blocks: u32,
+    strip_count: usize,
     // Of how many blocks limits are kept.
     room: u32,
     waits: Waits,
     groups: Groups,
     semas: Semas,
+    strips: Strips,
     ended: Vec<bool>,
     ghost blocks_fit: { length waits.reasons ≡ blocks },
     ghost room_fits: { length waits.limits ≡ room },
     ghost objects_fit: { waits.objects ≡ objects },
     ghost groups_fit: { length groups.counts ≡ objects },
     ghost semas_fit: { length semas.waits ≡ objects },
+    ghost strips_fit: { length strips.left ≡ strip_count },
+    ghost waits_fit: { waits.strips ≡ strip_count },
     ghost ended_fit: { length ended.items ≡ blocks },
 }
 
@@ -57,10 +129,12 @@ fn new_world(alloc: Global, plan: &Plan) -> Result<World, AllocError> {
     Ok(World {
         objects: plan.objects(),
         blocks: plan.blocks(),
+        strip_count: plan.strips().len(),
         room: limit_room(plan),
         waits: Waits::new(alloc, plan)?.copied(alloc)?,
         groups: Groups::new(alloc, plan)?,
         semas: Semas::new(alloc, plan)?,
+        strips: Strips::new(alloc, plan)?,
         ended: vec![in alloc; false; plan.blocks() as usize]?,
     })
 }
@@ -76,6 +150,7 @@ enum Call {
     MayWake(Blk, bool),
     Woken(Blk),
     Ends(Blk),
+    StripEnds(Blk),
     Enter(Obj, u32),
     Leave(Obj, u32),
     Wait(Obj, u32),
@@ -83,7 +158,7 @@ enum Call {
     WaitExpires(Obj, u32),
 }
 
-static CALLS: [Call; 83] = [
+static CALLS: [Call; 92] = [
     // A block waits for the end of a block, and of no other.
     Call::Reason(Blk(0), None),
     Call::Park(Blk(0), Reason::Block(Blk(1))),
@@ -174,6 +249,16 @@ static CALLS: [Call; 83] = [
     Call::MayWake(Blk(3), false),
     Call::Signal(Obj(2)),
     Call::MayWake(Blk(3), true),
+    // A block waits for both blocks of a strip.
+    Call::Woken(Blk(3)),
+    Call::Park(Blk(3), Reason::Strip(0)),
+    Call::Reason(Blk(3), Some(Reason::Strip(0))),
+    Call::MayWake(Blk(3), false),
+    Call::StripEnds(Blk(5)),
+    Call::MayWake(Blk(3), false),
+    Call::StripEnds(Blk(4)),
+    Call::MayWake(Blk(3), true),
+    Call::Limit(Blk(3), None),
 ];
 
 // Parks a block for what is of the plan, at a position that has one after it, or for a rank from 1.
@@ -182,6 +267,7 @@ fn park(rt: &impl Abort, world: &mut World, blk: Blk, why: Reason) {
     match why {
         Reason::Block(b) => assert!(rt; b.0 < world.blocks),
         Reason::Group(g, position) => assert!(rt; g.0 < world.objects && position < 1000),
+        Reason::Strip(a) => assert!(rt; (a as usize) < world.strip_count),
         Reason::Rank(s, rank) => assert!(rt; s.0 < world.objects && rank > 0),
     }
     world.waits.park(blk, why);
@@ -192,6 +278,7 @@ fn park_until(rt: &impl Abort, world: &mut World, blk: Blk, why: Reason, at: u32
     match why {
         Reason::Block(b) => assert!(rt; b.0 < world.blocks),
         Reason::Group(g, position) => assert!(rt; g.0 < world.objects && position < 1000),
+        Reason::Strip(a) => assert!(rt; (a as usize) < world.strip_count),
         Reason::Rank(s, rank) => assert!(rt; s.0 < world.objects && rank > 0),
     }
     world.waits.park_until(blk, why, at);
@@ -221,9 +308,13 @@ fn reason(rt: &impl Abort, world: &World, blk: Blk) -> Option<Reason> {
 fn may_wake(rt: &impl Abort, world: &World, blk: Blk) -> bool {
     assert!(rt; blk.0 < world.blocks);
     assert!(rt; world.waits.reason(blk).is_some());
-    world
-        .waits
-        .may_wake(&world.groups, &world.semas, &world.ended, blk)
+    world.waits.may_wake(
+        &world.groups,
+        &world.semas,
+        &world.strips,
+        &world.ended,
+        blk,
+    )
 }
 
 fn woken(rt: &impl Abort, world: &mut World, blk: Blk) {
@@ -234,6 +325,11 @@ fn woken(rt: &impl Abort, world: &mut World, blk: Blk) {
 fn ends(rt: &impl Abort, world: &mut World, blk: Blk) {
     assert!(rt; blk.0 < world.blocks);
     world.ended[blk.0 as usize] = true;
+}
+
+fn strip_ends(rt: &impl Abort, world: &mut World, blk: Blk) {
+    assert!(rt; world.strips.strip_of(blk).is_some());
+    world.strips.done(blk);
 }
 
 fn enter(rt: &impl Abort, world: &mut World, g: Obj, at: u32) {
@@ -281,6 +377,7 @@ fn play(rt: &impl Abort, world: &mut World, call: &Call) {
         Call::MayWake(blk, answer) => assert_eq!(rt; may_wake(rt, world, *blk), *answer, "{blk:?}"),
         Call::Woken(blk) => woken(rt, world, *blk),
         Call::Ends(blk) => ends(rt, world, *blk),
+        Call::StripEnds(blk) => strip_ends(rt, world, *blk),
         Call::Enter(g, at) => enter(rt, world, *g, *at),
         Call::Leave(g, at) => leave(rt, world, *g, *at),
         Call::Wait(s, rank) => assert_eq!(rt; wait(rt, world, *s), *rank, "{s:?}"),
@@ -290,11 +387,24 @@ fn play(rt: &impl Abort, world: &mut World, call: &Call) {
 }
 
 // The plan of those parts, but that `main` has these acts.
-fn plan_with(alloc: Global, acts: &[Act]) -> Result<Plan, Fail> {
-    let mut parts = parts(alloc)?;
+// `main` with these acts, and a block.
+fn two_blocks(alloc: Global, acts: &[Act]) -> Result<Vec<BlkPart>, AllocError> {
     let mut main = BlkPart::new(alloc, "main")?;
     main.acts = Vec::from_slice(alloc, acts)?;
-    parts.blocks = vec![in alloc; main, BlkPart::new(alloc, "a")?]?;
+    let mut blocks = vec![in alloc; main]?;
+    blocks.push(BlkPart::new(alloc, "a")?)?;
+    Ok(blocks)
+}
+
+fn plan_with(alloc: Global, acts: &[Act]) -> Result<Plan, Fail> {
+    let parts = Parts {
+        objects: objects(alloc)?,
+        blocks: two_blocks(alloc, acts)?,
+        files: Vec::new(alloc),
+        until: 1,
+        intake: None,
+        strips: Vec::new(alloc),
+    };
     Ok(Plan::of_parts(parts).ok_or("a valid plan")?)
 }
 
@@ -307,7 +417,7 @@ fn limits_are_kept_where_an_act_has_one(rt: HostRuntime) -> Result<(), Fail> {
     assert_eq!(rt; limit_room(&plan_with(alloc, &limited)?), 2);
     assert_eq!(rt;
         limit_room(&Plan::of_parts(parts(alloc)?).ok_or("a valid plan")?),
-        4
+        6
     );
     Ok(())
 }

@@ -24,6 +24,8 @@ fn parts(alloc: Global, until: u32) -> Result<Parts, AllocError> {
         blocks: vec![in alloc; main]?,
         files: Vec::new(alloc),
         until,
+        intake: None,
+        strips: Vec::new(alloc),
     })
 }
 

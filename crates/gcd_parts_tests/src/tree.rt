@@ -22,6 +22,8 @@ fn plan_of(alloc: Global, targets: &[u32]) -> Result<Plan, Fail> {
         blocks: vec![in alloc; main]?,
         files: Vec::new(alloc),
         until: 1,
+        intake: None,
+        strips: Vec::new(alloc),
     };
     Ok(Plan::of_parts(parts).ok_or("a valid plan")?)
 }

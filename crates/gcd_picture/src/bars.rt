@@ -1,5 +1,6 @@
 // The stretches of all runs, in the order in which a page shows them.
 
+use crate::cancelled::Cancelled;
 use crate::queues::Queues;
 use crate::showing::Showing;
 use gcd_event::Event;
@@ -16,6 +17,8 @@ pub struct Bar {
     pub node: Option<Obj>,
     /// Whether it is a barrier there.
     pub is_barrier: bool,
+    /// Whether it is of a block that is cancelled, which does nothing.
+    pub is_cancelled: bool,
     /// The worker that has it.
     pub worker: u8,
     /// The place of the event that takes it.
@@ -50,7 +53,15 @@ impl Bar {
     /// What kind of run it is of, in a word.
     pub fn kind(&self) -> &'static str {
         match self.run {
-            Run::Block(_) => { if self.is_barrier { "barrier" } else { "block" } }
+            Run::Block(_) => {
+                if self.is_cancelled {
+                    "cancelled"
+                } else if self.is_barrier {
+                    "barrier"
+                } else {
+                    "block"
+                }
+            }
             Run::Source(_) => "delivery",
         }
     }
@@ -60,6 +71,7 @@ fn add_bars(
     bars: &mut Vec<Bar>,
     mark: &Mark,
     queues: &Queues,
+    cancelled: &Cancelled,
     events: &[Event],
 ) -> Result<(), AllocError> {
     for (index, stretch) in mark.stretches.iter().enumerate() {
@@ -67,6 +79,7 @@ fn add_bars(
             run: mark.run,
             node: queues.of(mark.run),
             is_barrier: queues.is_barrier(mark.run),
+            is_cancelled: cancelled.has(mark.run),
             worker: stretch.worker,
             from: stretch.from,
             to: stretch.to,
@@ -79,9 +92,10 @@ fn add_bars(
 /// The stretches of all marks, in the order of their first places; an `Err` comes only where memory runs out.
 pub fn bars_of(alloc: Global, showing: Showing) -> Result<Vec<Bar>, AllocError> {
     let queues = Queues::new(alloc, showing.plan)?;
+    let cancelled = Cancelled::new(alloc, showing.plan, showing.events)?;
     let mut bars = Vec::new(alloc);
     for mark in showing.marks {
-        add_bars(&mut bars, mark, &queues, showing.events)?;
+        add_bars(&mut bars, mark, &queues, &cancelled, showing.events)?;
     }
     bars.sort_by_key(|bar| bar.from)?;
     Ok(bars)

@@ -52,15 +52,13 @@ pub struct Frame {
 
 // Whether the event is told in the row of the outside.
 fn is_outside(event: &Event) -> bool {
-    matches!(
-        event,
-        Event::Tick { .. }
-            | Event::Ready { .. }
-            | Event::FeedEnd { .. }
-            | Event::Halt
-            | Event::Expire { .. }
-            | Event::Misuse { .. }
-    )
+    match event {
+        Event::Tick { .. } | Event::Ready { .. } | Event::FeedEnd { .. } => true,
+        Event::Halt | Event::Expire { .. } | Event::Misuse { .. } => true,
+        Event::Accept { .. } | Event::Shut => true,
+        Event::Start { .. } | Event::Act { .. } | Event::Wake { .. } | Event::End { .. } => false,
+        Event::Deliver { .. } | Event::DeliverEnd { .. } => false,
+    }
 }
 
 /// How many workers have a bar, up to the highest; 1 at least.

@@ -101,6 +101,32 @@ static SIGNS: [(&str, &str); 10] = [
     ("<path class=\"halt\" d=\"M10 0V14\"/>", "halt"),
 ];
 
+// The sign of a block that is cancelled, and that of a job from outside.
+static CANCELLED: (&str, &str) = (
+    "<rect class=\"cancelled\" width=\"20\" height=\"14\" rx=\"2\" fill=\"#555\"/>",
+    "cancelled",
+);
+
+static ACCEPT: (&str, &str) = (
+    "<path class=\"accept\" d=\"M10 0V14\"/>",
+    "job from outside",
+);
+
+// What each kind of line means; of cancelled blocks and of jobs from outside only where there may be any.
+fn push_signs(into: &mut String, drawing: Drawing, pen: &mut Pen) -> Result<(), AllocError> {
+    let width = drawing.frame.texts();
+    for (swatch, word) in &SIGNS {
+        push_entry(into, pen, width, swatch, word)?;
+    }
+    if drawing.bars.iter().any(|bar| bar.is_cancelled) {
+        push_entry(into, pen, width, CANCELLED.0, CANCELLED.1)?;
+    }
+    if drawing.showing.plan.intake().is_some() {
+        push_entry(into, pen, width, ACCEPT.0, ACCEPT.1)?;
+    }
+    Ok(())
+}
+
 /// Adds the legend, from this height on, and gives the height of the page.
 pub fn push_legend(
     alloc: Global,
@@ -112,8 +138,6 @@ pub fn push_legend(
     push_nodes(alloc, into, drawing, &mut pen)?;
     pen.x = 12;
     pen.y = pen.y.saturating_add(22);
-    for (swatch, word) in &SIGNS {
-        push_entry(into, &mut pen, drawing.frame.texts(), swatch, word)?;
-    }
+    push_signs(into, drawing, &mut pen)?;
     Ok(pen.y.saturating_add(26))
 }

@@ -11,6 +11,7 @@
 #![tactic(auto)]
 
 mod bars;
+mod cancelled;
 mod drawing;
 mod ending;
 mod escape;

@@ -37,6 +37,14 @@ pub fn node_name(plan: &Plan, node: Option<Obj>) -> &str {
     }
 }
 
+/// The name of a strip; `?` where the plan has it not.
+pub fn strip_name(plan: &Plan, a: u32) -> &str {
+    match plan.strips().get(a as usize) {
+        Some(strip) => strip.name.as_str(),
+        None => "?",
+    }
+}
+
 /// The path of a read source's feed; empty for any other object.
 pub fn feed_path(plan: &Plan, s: Obj) -> &str {
     if s.0 < plan.objects() {
@@ -46,7 +54,8 @@ pub fn feed_path(plan: &Plan, s: Obj) -> &str {
     }
 }
 
-/// What a run waits for that this event parks: a block's name, or a group or a semaphore with its name; empty where it parks none.
+/// What a run waits for that this event parks: a block's name, or a group, a semaphore or a strip with its name; empty where it parks
+/// none.
 pub fn awaited_text(alloc: Global, plan: &Plan, event: Event) -> Result<String, AllocError> {
     let Event::Act { run, index, .. } = event else {
         return Ok(String::new(alloc));
@@ -55,7 +64,7 @@ pub fn awaited_text(alloc: Global, plan: &Plan, event: Event) -> Result<String, 
         return Ok(String::new(alloc));
     };
     match act {
-        Act::Sync(_, b) | Act::BarrierSync(_, b) => {
+        Act::Sync(_, b) | Act::BarrierSync(_, b) | Act::WaitBlock(b) => {
             String::from_str(alloc, run_name(plan, Run::Block(b)))
         }
         Act::GroupWait(g) | Act::GroupWaitFor(g, _) => {
@@ -66,6 +75,10 @@ pub fn awaited_text(alloc: Global, plan: &Plan, event: Event) -> Result<String, 
             let name = object_name(plan, s);
             format!(in alloc; "semaphore {name}")
         }
+        Act::Apply(_, a) => {
+            let name = strip_name(plan, a);
+            format!(in alloc; "strip {name}")
+        }
         Act::Async(..) | Act::Barrier(..) | Act::GroupAsync(..) | Act::Notify(..) => Ok(String::new(
             alloc,
         )),
@@ -74,6 +87,7 @@ pub fn awaited_text(alloc: Global, plan: &Plan, event: Event) -> Result<String, 
             alloc,
         )),
         Act::Cancel(_) | Act::Retain(_) | Act::Release(_) => Ok(String::new(alloc)),
+        Act::CancelBlock(_) | Act::NotifyBlock(..) => Ok(String::new(alloc)),
     }
 }
 

@@ -32,6 +32,11 @@ fn words_of(
             let name = run_name(plan, Run::Block(blk));
             Ok(Some(("expiry", format!(in alloc; "{name}: time is up")?)))
         }
+        Event::Accept { blk, sender } => {
+            let name = run_name(plan, Run::Block(blk));
+            Ok(Some(("accept", format!(in alloc; "{name} from sender {sender}")?)))
+        }
+        Event::Shut => Ok(Some(("accept", String::from_str(alloc, "intake shut")?))),
         Event::Misuse {
             run,
             index,
@@ -56,6 +61,7 @@ fn path_of(plan: &Plan, event: Event) -> &str {
         Event::Start { .. } | Event::Act { .. } | Event::Wake { .. } | Event::End { .. } => "",
         Event::Deliver { .. } | Event::DeliverEnd { .. } | Event::Misuse { .. } => "",
         Event::Tick { .. } | Event::Halt | Event::Expire { .. } => "",
+        Event::Accept { .. } | Event::Shut => "",
     }
 }
 
@@ -104,7 +110,7 @@ fn push_outside(
     into.push_str("</title></path>\n")
 }
 
-/// Adds the lines of ticks, of what came on feeds, of waits that expired and of a halt, and their words.
+/// Adds the lines of ticks, of what came on feeds, of jobs from outside, of waits that expired and of a halt, and their words.
 pub fn push_marks(alloc: Global, into: &mut String, drawing: Drawing) -> Result<(), AllocError> {
     let mut rows = Rows::new(alloc, 1)?;
     for (place, event) in drawing.showing.events.iter().enumerate() {

@@ -29,6 +29,7 @@ text{fill:#222}
 .block{stroke:#555;stroke-width:.6}
 .barrier{stroke:#000;stroke-width:1.8}
 .delivery{stroke:#000;stroke-width:1.8}
+.cancelled{stroke:#555;stroke-width:.6;fill-opacity:.12}
 .thin{stroke-width:.15}
 .barrier.thin,.delivery.thin{stroke-width:.6}
 .open{fill-opacity:.45;stroke-dasharray:3 2}
@@ -40,6 +41,8 @@ path.tick{stroke:#1f6fb4;stroke-dasharray:1 3}
 text.tick{fill:#1f6fb4}
 path.ready{stroke:#2a8a3e;stroke-dasharray:1 3}
 text.ready{fill:#2a8a3e}
+path.accept{stroke:#7a4fb0;stroke-dasharray:1 3}
+text.accept{fill:#7a4fb0}
 path.expiry{stroke:#b36b00;stroke-dasharray:1 3}
 text.expiry{fill:#b36b00}
 path.halt{stroke:#000;stroke-width:2}
@@ -152,11 +155,12 @@ fn page_of(alloc: Global, drawing: Drawing) -> Result<String, AllocError> {
 }
 
 /// The picture of a run, as a page of SVG: a lane for each worker, on it a bar for each stretch of a run, in the colour of its
-/// node, and beneath it the times in which runs of the lane are parked, with what they wait for; lines for ticks, for what came on
-/// feeds, for waits that expired and for a halt, and a cross for a misuse; barriers and deliveries have a thick edge, and those of deliveries are round;
-/// the state to which the run has come, why, and which blocks have not started; and what the colours and lines mean. The axis is
-/// the place in the journal, from 0: the page is as wide as the journal is long, and the names of its lanes are repeated. A text
-/// that has no room is cut, or left to what is shown where the bar or line is pointed at. An `Err` comes only where memory runs out.
+/// node, and beneath it the times in which runs of the lane are parked, with what they wait for; lines for ticks, for what came
+/// on feeds, for jobs from outside, for waits that expired and for a halt, and a cross for a misuse; barriers and deliveries have
+/// a thick edge, those of deliveries are round, and those of cancelled blocks are nearly white; the state to which the run has
+/// come, why, and which blocks have not started; and what the colours and lines mean. The axis is the place in the journal, from
+/// 0: the page is as wide as the journal is long, and the names of its lanes are repeated. A text that has no room is cut, or
+/// left to what is shown where the bar or line is pointed at. An `Err` comes only where memory runs out.
 pub fn svg(alloc: Global, showing: Showing) -> Result<String, AllocError> {
     let bars = bars_of(alloc, showing)?;
     let lanes = lanes_of(&bars);

@@ -3,8 +3,8 @@
 use gcd_plan::{Act, Blk, Obj, Plan, Run};
 use std::alloc::{AllocError, Global};
 
-/// The queue of each block, by number: the one to which the plan submits it, and None for `main`, which it submits to none; and
-/// whether it is a barrier there.
+/// The queue of each block, by number: the one to which the plan submits it, and None for `main`, which it submits to none, and for
+/// a block that nothing submits; and whether it is a barrier there.
 #[derive(Drop)]
 pub struct Queues {
     blocks: Vec<Option<Obj>>,
@@ -21,6 +21,7 @@ fn barrier_of(act: Act) -> Option<Blk> {
         Act::Signal(_) | Act::Wait(_) | Act::WaitFor(..) => None,
         Act::Suspend(_) | Act::Resume(_) | Act::Activate(_) | Act::Target(..) => None,
         Act::Merge(..) | Act::Cancel(_) | Act::Retain(_) | Act::Release(_) => None,
+        Act::Apply(..) | Act::CancelBlock(_) | Act::WaitBlock(_) | Act::NotifyBlock(..) => None,
     }
 }
 
@@ -32,15 +33,44 @@ fn put_barrier(barriers: &mut [bool], barrier: Option<Blk>) {
     }
 }
 
-// The queue to which the act submits a block, and the block.
-fn submitted(act: Act) -> Option<(Obj, Blk)> {
+// Blocks that follow one another, which the plan submits to one queue.
+#[derive(Clone, Copy)]
+struct Span {
+    queue: Obj,
+    first: u32,
+    count: u32,
+}
+
+fn one(queue: Obj, b: Blk) -> Span {
+    Span {
+        queue,
+        first: b.0,
+        count: 1,
+    }
+}
+
+// The blocks of a strip, on the queue to which they are applied.
+fn strip(plan: &Plan, queue: Obj, a: u32) -> Option<Span> {
+    let strip = plan.strips().get(a as usize)?;
+    Some(Span {
+        queue,
+        first: strip.first,
+        count: strip.count,
+    })
+}
+
+// What the act submits, and to which queue.
+fn submitted(plan: &Plan, act: Act) -> Option<Span> {
     match act {
-        Act::Async(q, b) => Some((q, b)),
-        Act::Barrier(q, b) => Some((q, b)),
-        Act::Sync(q, b) => Some((q, b)),
-        Act::BarrierSync(q, b) => Some((q, b)),
-        Act::GroupAsync(_, q, b) => Some((q, b)),
-        Act::Notify(_, q, b) => Some((q, b)),
+        Act::Async(q, b) => Some(one(q, b)),
+        Act::Barrier(q, b) => Some(one(q, b)),
+        Act::Sync(q, b) => Some(one(q, b)),
+        Act::BarrierSync(q, b) => Some(one(q, b)),
+        Act::GroupAsync(_, q, b) => Some(one(q, b)),
+        Act::Notify(_, q, b) => Some(one(q, b)),
+        Act::NotifyBlock(_, q, c) => Some(one(q, c)),
+        Act::Apply(q, a) => strip(plan, q, a),
+        Act::CancelBlock(_) | Act::WaitBlock(_) => None,
         Act::Enter(_) | Act::Leave(_) | Act::GroupWait(_) | Act::GroupWaitFor(..) => None,
         Act::Signal(_) | Act::Wait(_) | Act::WaitFor(..) => None,
         Act::Suspend(_) | Act::Resume(_) | Act::Activate(_) | Act::Target(..) => None,
@@ -49,18 +79,30 @@ fn submitted(act: Act) -> Option<(Obj, Blk)> {
 }
 
 // The queue to which a source's cancellation block is submitted, and the block.
-fn cancelled(plan: &Plan, s: Obj) -> Option<(Obj, Blk)> {
+fn cancelled(plan: &Plan, s: Obj) -> Option<Span> {
     if s.0 < plan.objects() {
-        plan.cancel_block(s).map(|b| (plan.first_target(s), b))
+        plan.cancel_block(s).map(|b| one(plan.first_target(s), b))
     } else {
         None
     }
 }
 
-fn put(blocks: &mut [Option<Obj>], submission: Option<(Obj, Blk)>) {
-    if let Some((queue, b)) = submission {
-        if let Some(place) = blocks.get_mut(b.0 as usize) {
-            *place = Some(queue);
+// The blocks of the intake, on its queue.
+fn intake(plan: &Plan) -> Option<Span> {
+    let (queue, first, count) = plan.intake()?;
+    Some(Span {
+        queue,
+        first,
+        count,
+    })
+}
+
+fn put(blocks: &mut [Option<Obj>], span: Option<Span>) {
+    if let Some(span) = span {
+        for at in 0..span.count {
+            if let Some(place) = blocks.get_mut(span.first.saturating_add(at) as usize) {
+                *place = Some(span.queue);
+            }
         }
     }
 }
@@ -72,10 +114,11 @@ impl Queues {
         let mut barriers = vec![in alloc; false; plan.blocks() as usize]?;
         for b in 0..plan.blocks() {
             for act in plan.acts(Run::Block(Blk(b))) {
-                put(&mut blocks, submitted(*act));
+                put(&mut blocks, submitted(plan, *act));
                 put_barrier(&mut barriers, barrier_of(*act));
             }
         }
+        put(&mut blocks, intake(plan));
         for s in 0..plan.objects() {
             put(&mut blocks, cancelled(plan, Obj(s)));
         }

@@ -2,8 +2,8 @@
 ghost use Rattle.std.specs.Prelude.{length};
 ghost use Rattle.std.specs.Iterator.{at_most};
 
-use gcd_plan::{Obj, Plan, Run};
-use gcd_text::{first_word, next_line, printable};
+use gcd_plan::{MAX_BLOCKS, Obj, Plan, Run};
+use gcd_text::{first_word, next_line, number, printable};
 use std::alloc::{AllocError, Global};
 
 // The lines of a text, from the first on, each without its end.
@@ -32,7 +32,7 @@ struct Body {
 const NONE: Body = Body { line: 0, above: 0 };
 
 // The words that begin a line which is no act.
-static DECLARATIONS: [&str; 10] = [
+static DECLARATIONS: [&str; 12] = [
     "file",
     "queue",
     "group",
@@ -43,9 +43,11 @@ static DECLARATIONS: [&str; 10] = [
     "block",
     "handler",
     "main",
+    "intake",
+    "strip",
 ];
 
-/// The lines of a script's blocks, handlers and acts, from 1.
+/// The lines of a script's blocks, handlers and acts, from 1; that of a block of an intake or a strip is theirs.
 #[derive(Drop)]
 pub struct ScriptLines {
     blocks: Vec<Body>,
@@ -79,6 +81,29 @@ fn words_of(line: &[u8]) -> Option<(&str, &str)> {
     }
 }
 
+// The word of a line behind its first one, at this place from 0; empty where it has fewer.
+fn word_at(rest: &str, place: usize) -> &str {
+    rest.split_whitespace().nth(place).unwrap_or("")
+}
+
+// How many blocks a line of these words makes: one, or those of an intake or a strip.
+fn blocks_made(first: &str, rest: &str) -> usize {
+    if first == "block" {
+        return 1;
+    }
+    let count = if first == "intake" {
+        word_at(rest, 1)
+    } else if first == "strip" {
+        word_at(rest, 4)
+    } else {
+        "0"
+    };
+    match number(count.as_bytes()) {
+        Some(made) => made.min(u64::from(MAX_BLOCKS)) as usize,
+        None => 0,
+    }
+}
+
 impl ScriptLines {
     /// The lines of no script: each is 0.
     pub fn none(alloc: Global) -> ScriptLines {
@@ -100,31 +125,30 @@ impl ScriptLines {
         for line in Lines(text) {
             at = at.saturating_add(1);
             if let Some((first, rest)) = words_of(line) {
-                if first == "block" {
+                let made = blocks_made(first, rest);
+                for _ in 0..made {
                     blocks = blocks.saturating_add(1);
+                    let body = lines.body_at(at);
+                    put(&mut lines.blocks, blocks, body);
                 }
-                lines.take(plan, at, blocks, first, rest)?;
+                lines.take(plan, at, first, rest)?;
             }
         }
         Ok(lines)
     }
 
-    // Takes a line of these words, down to which so many blocks are declared.
-    fn take(
-        &mut self,
-        plan: &Plan,
-        line: u32,
-        blocks: usize,
-        first: &str,
-        rest: &str,
-    ) -> Result<(), AllocError> {
-        let body = Body {
+    // A body that this line opens.
+    fn body_at(&self, line: u32) -> Body {
+        Body {
             line,
             above: self.acts.len(),
-        };
-        if first == "block" {
-            put(&mut self.blocks, blocks, body);
-        } else if first == "main" {
+        }
+    }
+
+    // Takes a line of these words, whose blocks are taken already.
+    fn take(&mut self, plan: &Plan, line: u32, first: &str, rest: &str) -> Result<(), AllocError> {
+        let body = self.body_at(line);
+        if first == "main" {
             put(&mut self.blocks, 0, body);
         } else if first == "handler" {
             if let Some((name, _)) = first_word(rest) {

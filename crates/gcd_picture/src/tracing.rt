@@ -190,6 +190,11 @@ fn moment_of(
             let name = run_name(plan, Run::Block(blk));
             ("outside", format!(in alloc; "{name}: time is up")?)
         }
+        Event::Accept { blk, sender } => {
+            let name = run_name(plan, Run::Block(blk));
+            ("outside", format!(in alloc; "{name} from sender {sender}")?)
+        }
+        Event::Shut => ("outside", String::from_str(alloc, "intake shut")?),
         Event::Start { .. } | Event::Wake { .. } | Event::End { .. } => return Ok(None),
         Event::Deliver { .. } | Event::DeliverEnd { .. } => return Ok(None),
     };
@@ -205,7 +210,7 @@ fn line_of(showing: Showing, event: Event) -> u32 {
         Event::Start { .. } | Event::Wake { .. } | Event::End { .. } => 0,
         Event::Deliver { .. } | Event::DeliverEnd { .. } | Event::Tick { .. } => 0,
         Event::Ready { .. } | Event::FeedEnd { .. } | Event::Halt => 0,
-        Event::Expire { .. } => 0,
+        Event::Expire { .. } | Event::Accept { .. } | Event::Shut => 0,
     }
 }
 
@@ -249,10 +254,10 @@ fn push_ending(into: &mut String, showing: Showing) -> Result<(), AllocError> {
 
 /// The run in the trace event format, which the viewers of browsers and Perfetto open: a complete event for each stretch of a run,
 /// or one that only begins where nothing gives the run back, whose thread is the worker, whose category is what kind of run it is
-/// (`block`, `barrier`, `delivery`), and whose times are places in the journal; an asynchronous event for each time in which a run is
+/// (`block`, `barrier`, `cancelled`, `delivery`), and whose times are places in the journal; an asynchronous event for each time in which a run is
 /// parked, which stays open where the run has not gone on; a flow from each block's submission to its start; an instant for each
-/// act, for each tick, for what came on feeds, for each wait that expired, for a misuse and a halt, and for the state to which the run
-/// has come. What stands in the script has its line. An `Err` comes only where memory runs out.
+/// act, for each tick, for what came on feeds, for each job from outside and the end of them, for each wait that expired, for a misuse
+/// and a halt, and for the state to which the run has come. What stands in the script has its line. An `Err` comes only where memory runs out.
 pub fn trace(alloc: Global, showing: Showing) -> Result<String, AllocError> {
     let bars = bars_of(alloc, showing)?;
     let submissions = Submissions::new(alloc, showing.plan, showing.events)?;

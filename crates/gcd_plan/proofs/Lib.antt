@@ -5,6 +5,9 @@ pub mod Options
 pub mod Mapped
 pub mod Apart
 pub mod Walks
+pub mod MadeBlocks
+pub mod Submits
+pub mod Spans
 pub mod Valid
 mod Having
 mod NamesApart

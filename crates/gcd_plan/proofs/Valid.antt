@@ -18,14 +18,14 @@ acts_seen p =
 
 -- how often a block stands among those that the plan submits
 pub submissions_counted : (p : Parts) (b : ℕ) → count_by (λ c. c.0 == b) (submitted_blocks (view_of p))
-    ≡ sum_by (λ q. count_by (λ c. c.0 == b) (blocks_of q.acts.items)) p.blocks.items
-    + sum_by (λ o. count_by (λ c. c.0 == b) (blocks_of o.handler.items ++ option_to_list o.cancel)) p.objects.items
+    ≡ sum_by (λ q. count_by (λ c. c.0 == b) (blocks_of (view_of p) q.acts.items)) p.blocks.items
+    + sum_by (λ o. count_by (λ c. c.0 == b) (blocks_of (view_of p) o.handler.items ++ option_to_list o.cancel)) p.objects.items
 submissions_counted p b =
     let is_b : Blk → Bool = λ c. c.0 == b in
-    let own : BlkView → List Blk = λ q. blocks_of q.acts in
-    let others : ObjView → List Blk = λ o. blocks_of o.handler ++ option_to_list o.cancel in
+    let own : BlkView → List Blk = λ q. blocks_of (view_of p) q.acts in
+    let others : ObjView → List Blk = λ o. blocks_of (view_of p) o.handler ++ option_to_list o.cancel in
     sum_by-append (λ c. cond (is_b c) 1 0) (flat_map own (map blk_view p.blocks.items)) (flat_map others (map obj_view p.objects.items))
     ∙ ap (λ n. n + count_by is_b (flat_map others (map obj_view p.objects.items)))
     (count_by-flat_map is_b own (map blk_view p.blocks.items) ∙ sum_by-map (λ q. count_by is_b (own q)) blk_view p.blocks.items)
-    ∙ ap (λ n. sum_by (λ q. count_by is_b (blocks_of q.acts.items)) p.blocks.items + n)
+    ∙ ap (λ n. sum_by (λ q. count_by is_b (blocks_of (view_of p) q.acts.items)) p.blocks.items + n)
     (count_by-flat_map is_b others (map obj_view p.objects.items) ∙ sum_by-map (λ o. count_by is_b (others o)) obj_view p.objects.items)

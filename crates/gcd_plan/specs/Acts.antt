@@ -1,10 +1,10 @@
 -- What is said of an act by itself.
 use Rattle.std.specs.Prelude.{Bool, true, false}
 use Rattle.gcd_plan.specs.declared.act.Act.{Act}
-use Rattle.gcd_plan.specs.declared.act.Act.TheVariants.{Async, Barrier, Sync, BarrierSync, GroupAsync, Notify, Enter, Leave, GroupWait, GroupWaitFor, Signal, Wait, WaitFor, Suspend, Resume, Activate, Target, Merge, Cancel, Retain, Release}
+use Rattle.gcd_plan.specs.declared.act.Act.TheVariants.{Async, Barrier, Sync, BarrierSync, GroupAsync, Notify, Enter, Leave, GroupWait, GroupWaitFor, Signal, Wait, WaitFor, Suspend, Resume, Activate, Target, Merge, Cancel, Retain, Release, Apply, CancelBlock, WaitBlock, NotifyBlock}
 
 -- the act parks its block until a Wake (dispatch_sync(3), dispatch_barrier_sync(3), dispatch_group_wait(3),
--- dispatch_semaphore_wait(3))
+-- dispatch_semaphore_wait(3), dispatch_apply(3), dispatch_block_wait(3))
 abbrev pub parks : Act → Bool
 parks (Async q b) = false
 parks (Barrier q b) = false
@@ -27,3 +27,7 @@ parks (Merge s n) = false
 parks (Cancel s) = false
 parks (Retain o) = false
 parks (Release o) = false
+parks (Apply q a) = true
+parks (CancelBlock b) = false
+parks (WaitBlock b) = true
+parks (NotifyBlock b q c) = false

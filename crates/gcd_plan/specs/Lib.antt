@@ -5,6 +5,7 @@ pub mod Kinds
 pub mod Chains
 pub mod Names
 pub mod Acts
+pub mod Made
 pub mod Validity
 pub mod Breaks
 pub mod Checked

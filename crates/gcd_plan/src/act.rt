@@ -1,7 +1,7 @@
 // What a block or a handler does, step by step.
 ghost use Rattle.std.specs.Prelude.{◌≡◌};
 ghost use Rattle.gcd_plan.specs.Acts.{parks};
-ghost use Rattle.gcd_plan.specs.Validity.{block_of, is_handler_act};
+ghost use Rattle.gcd_plan.specs.Validity.{block_of, strip_of, is_handler_act};
 
 use crate::numbers::{Blk, Obj};
 
@@ -50,21 +50,32 @@ pub enum Act {
     Retain(Obj),
     /// Gives a reference on the object back (dispatch_release(3)).
     Release(Obj),
+    /// Submits the blocks of the strip of this number to the queue, in order, and waits for the ends of all of them
+    /// (dispatch_apply(3)).
+    Apply(Obj, u32),
+    /// Cancels the block, which does nothing any more; a block that has started goes on (dispatch_block_cancel(3)).
+    CancelBlock(Blk),
+    /// Waits for the end of the block (dispatch_block_wait(3)).
+    WaitBlock(Blk),
+    /// Submits the second block to the queue once the first has ended: first, queue, second (dispatch_block_notify(3)).
+    NotifyBlock(Blk, Obj, Blk),
 }
 
 impl Act {
     /// Whether the act parks its block until a Wake: a call that waits, even where what it waits for has come (dispatch_sync(3),
-    /// dispatch_barrier_sync(3), dispatch_group_wait(3), dispatch_semaphore_wait(3)).
+    /// dispatch_barrier_sync(3), dispatch_group_wait(3), dispatch_semaphore_wait(3), dispatch_apply(3), dispatch_block_wait(3)).
     pub fn parks(self) -> bool
         ensures { result ≡ parks self }
     {
         match self {
             Act::Sync(..) | Act::BarrierSync(..) | Act::GroupWait(_) | Act::Wait(_) => true,
             Act::GroupWaitFor(..) | Act::WaitFor(..) => true,
+            Act::Apply(..) | Act::WaitBlock(_) => true,
             Act::Async(..) | Act::Barrier(..) | Act::GroupAsync(..) | Act::Notify(..) => false,
             Act::Enter(_) | Act::Leave(_) | Act::Signal(_) => false,
             Act::Suspend(_) | Act::Resume(_) | Act::Activate(_) | Act::Target(..) => false,
             Act::Merge(..) | Act::Cancel(_) | Act::Retain(_) | Act::Release(_) => false,
+            Act::CancelBlock(_) | Act::NotifyBlock(..) => false,
         }
     }
 
@@ -77,14 +88,17 @@ impl Act {
             Act::GroupAsync(..) | Act::Notify(..) => false,
             Act::GroupWait(_) | Act::Wait(_) => false,
             Act::GroupWaitFor(..) | Act::WaitFor(..) => false,
+            Act::Apply(..) | Act::WaitBlock(_) | Act::NotifyBlock(..) => false,
             Act::Enter(_) | Act::Leave(_) | Act::Signal(_) => true,
             Act::Suspend(_) | Act::Resume(_) | Act::Activate(_) | Act::Target(..) => true,
             Act::Merge(..) | Act::Cancel(_) => true,
             Act::Retain(_) | Act::Release(_) => true,
+            Act::CancelBlock(_) => true,
         }
     }
 
-    /// The block that the act submits; None exactly where it submits none.
+    /// The block that the act submits by itself; None exactly where it submits none, or the blocks of a strip
+    /// ([`Act::strip`]).
     pub fn block(self) -> Option<Blk>
         ensures { result ≡ block_of self }
     {
@@ -93,10 +107,28 @@ impl Act {
                 Some(b)
             }
             Act::GroupAsync(_, _, b) | Act::Notify(_, _, b) => Some(b),
+            Act::NotifyBlock(_, _, c) => Some(c),
             Act::Enter(_) | Act::Leave(_) | Act::GroupWait(_) | Act::Signal(_) => None,
             Act::Wait(_) | Act::GroupWaitFor(..) | Act::WaitFor(..) => None,
             Act::Suspend(_) | Act::Resume(_) | Act::Activate(_) | Act::Target(..) => None,
             Act::Merge(..) | Act::Cancel(_) | Act::Retain(_) | Act::Release(_) => None,
+            Act::Apply(..) | Act::CancelBlock(_) | Act::WaitBlock(_) => None,
+        }
+    }
+
+    /// The number of the strip whose blocks the act submits; None exactly where it submits no strip (dispatch_apply(3)).
+    pub fn strip(self) -> Option<u32>
+        ensures { result ≡ strip_of self }
+    {
+        match self {
+            Act::Apply(_, a) => Some(a),
+            Act::Async(..) | Act::Barrier(..) | Act::Sync(..) | Act::BarrierSync(..) => None,
+            Act::GroupAsync(..) | Act::Notify(..) | Act::NotifyBlock(..) => None,
+            Act::Enter(_) | Act::Leave(_) | Act::GroupWait(_) | Act::Signal(_) => None,
+            Act::Wait(_) | Act::GroupWaitFor(..) | Act::WaitFor(..) => None,
+            Act::Suspend(_) | Act::Resume(_) | Act::Activate(_) | Act::Target(..) => None,
+            Act::Merge(..) | Act::Cancel(_) | Act::Retain(_) | Act::Release(_) => None,
+            Act::CancelBlock(_) | Act::WaitBlock(_) => None,
         }
     }
 }

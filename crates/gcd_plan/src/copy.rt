@@ -1,8 +1,8 @@
 // A plan once more.
 ghost use Rattle.std.specs.Prelude.{◌≡◌, map, IfOk};
-ghost use Rattle.gcd_plan.specs.PlanView.{obj_view, blk_view, file_view, view_of};
+ghost use Rattle.gcd_plan.specs.PlanView.{obj_view, blk_view, file_view, strip_view, view_of};
 
-use crate::parts::{BlkPart, FilePart, ObjPart, Parts};
+use crate::parts::{BlkPart, FilePart, ObjPart, Parts, StripPart};
 use std::alloc::{AllocError, Global};
 
 fn copied_object(alloc: Global, o: &ObjPart) -> Result<ObjPart, AllocError>
@@ -39,6 +39,19 @@ fn copied_file(f: &FilePart) -> Result<FilePart, AllocError>
     })
 }
 
+fn copied_strip(s: &StripPart) -> Result<StripPart, AllocError>
+    ensures { IfOk result (λ p. strip_view p ≡ strip_view s.now) }
+{
+    Ok(StripPart {
+        name: s.name.clone()?,
+        how: s.how,
+        file: s.file,
+        len: s.len,
+        first: s.first,
+        count: s.count,
+    })
+}
+
 fn copied_objects(alloc: Global, objects: &[ObjPart]) -> Result<Vec<ObjPart>, AllocError>
     ensures { IfOk result (λ v. map obj_view v.items ≡ map obj_view objects.now) }
 {
@@ -69,6 +82,16 @@ fn copied_files(alloc: Global, files: &[FilePart]) -> Result<Vec<FilePart>, Allo
     Ok(v)
 }
 
+fn copied_strips(alloc: Global, strips: &[StripPart]) -> Result<Vec<StripPart>, AllocError>
+    ensures { IfOk result (λ v. map strip_view v.items ≡ map strip_view strips.now) }
+{
+    let mut v = Vec::with_capacity(alloc, strips.len())?;
+    for s in strips {
+        v.push(copied_strip(s)?)?;
+    }
+    Ok(v)
+}
+
 /// The same parts once more.
 pub fn copied_parts(alloc: Global, parts: &Parts) -> Result<Parts, AllocError>
     ensures { IfOk result (λ p. view_of p ≡ view_of parts.now) }
@@ -78,5 +101,7 @@ pub fn copied_parts(alloc: Global, parts: &Parts) -> Result<Parts, AllocError>
         blocks: copied_blocks(alloc, &parts.blocks)?,
         files: copied_files(alloc, &parts.files)?,
         until: parts.until,
+        intake: parts.intake,
+        strips: copied_strips(alloc, &parts.strips)?,
     })
 }

@@ -2,11 +2,12 @@
 ghost use Rattle.std.specs.Prelude.{◌≡◌};
 ghost use Rattle.gcd_plan.specs.PlanView.{view_of, kind_of};
 ghost use Rattle.gcd_plan.specs.Kinds.{has_kind, is_queue_kind, is_node_kind, is_source_kind, is_group_kind, is_semaphore_kind, is_merge_kind, is_queue};
-ghost use Rattle.gcd_plan.specs.Validity.{is_submittable, is_held_object, is_act};
+ghost use Rattle.gcd_plan.specs.Validity.{is_declared, is_held_object, is_act};
 
 use crate::act::Act;
 use crate::kind::Kind;
 use crate::limits::{MAX_TIME, MAX_VALUE};
+use crate::made::is_made;
 use crate::numbers::{Blk, Obj};
 use crate::parts::Parts;
 
@@ -59,11 +60,11 @@ fn is_held_object(parts: &Parts, o: Obj) -> bool
     o.0 > 0 && is_node(parts, o)
 }
 
-/// Whether the block is one of the plan's, and not main.
-pub fn is_submittable(parts: &Parts, b: Blk) -> bool
-    ensures { result ≡ is_submittable (view_of parts.now) b }
+/// Whether the block is one of the plan's, not main, and not of the intake or of a strip.
+pub fn is_declared(parts: &Parts, b: Blk) -> bool
+    ensures { result ≡ is_declared (view_of parts.now) b }
 {
-    b.0 > 0 && (b.0 as usize) < parts.blocks.len()
+    b.0 > 0 && (b.0 as usize) < parts.blocks.len() && !is_made(parts, b)
 }
 
 fn is_counted(parts: &Parts, o: Obj) -> bool
@@ -75,7 +76,13 @@ fn is_counted(parts: &Parts, o: Obj) -> bool
 fn is_submission(parts: &Parts, q: Obj, b: Blk) -> bool
     ensures { result ≡ is_act (view_of parts.now) (Act.Async q b) }
 {
-    is_queue(parts, q) && is_submittable(parts, b)
+    is_queue(parts, q) && is_declared(parts, b)
+}
+
+fn is_apply(parts: &Parts, q: Obj, a: u32) -> bool
+    ensures { result ≡ is_act (view_of parts.now) (Act.Apply q a) }
+{
+    is_queue(parts, q) && (a as usize) < parts.strips.len()
 }
 
 /// Whether what the act names is of the kinds that it asks, and its value is in range.
@@ -98,5 +105,8 @@ pub fn is_act(parts: &Parts, act: Act) -> bool
         Act::Merge(s, n) => is_merge_source(parts, s) && n <= MAX_VALUE,
         Act::Cancel(s) => is_source(parts, s),
         Act::Retain(o) | Act::Release(o) => is_counted(parts, o),
+        Act::Apply(q, a) => is_apply(parts, q, a),
+        Act::CancelBlock(b) | Act::WaitBlock(b) => is_declared(parts, b),
+        Act::NotifyBlock(b, q, c) => is_declared(parts, b) && is_submission(parts, q, c),
     }
 }

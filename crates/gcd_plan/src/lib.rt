@@ -14,7 +14,8 @@
 //! | `Plan::copied` | the same plan once more, or out of memory |
 //! | `Plan::kinds` | the kinds of all objects, or out of memory |
 //! | `objects`, `blocks`, `kind`, `first_target`, .. | what the plan holds, exactly |
-//! | `Act::block`, `parks`, `is_for_handlers` | the block that an act submits; whether it waits; whether a handler may have it |
+//! | `Plan::intake`, `strips` | where callers from outside hand in closures; the strips of dispatch_apply(3) |
+//! | `Act::block`, `strip`, `parks`, `is_for_handlers` | the block, or the strip, that an act submits; whether it waits; whether a handler may have it |
 //! | `Kind::folded` | two values in one, as the kind folds them |
 //! | `is_name`, `is_path` | the tests of names and paths |
 //! | `MAX_OBJECTS`, `MAX_BLOCKS`, .. | how much plans, scripts and runs may hold |
@@ -37,6 +38,9 @@ mod kind;
 mod kinds_valid;
 mod limits;
 mod limits_valid;
+mod made;
+mod made_names;
+mod made_valid;
 mod misuse_code;
 mod names_once;
 mod names_valid;
@@ -55,13 +59,14 @@ mod work;
 pub use act::Act;
 pub use kind::Kind;
 pub use limits::{
-    DEFAULT_UNTIL, MAX_ACTS, MAX_BLOCKS, MAX_EVENTS, MAX_FILE_BYTES, MAX_FILES, MAX_NAME_BYTES,
-    MAX_OBJECTS, MAX_PATH_BYTES, MAX_SCRIPT_BYTES, MAX_TIME, MAX_VALUE, MAX_WORKERS,
+    DEFAULT_UNTIL, MAX_ACTS, MAX_BLOCKS, MAX_EVENTS, MAX_FILE_BYTES, MAX_FILES, MAX_INTAKE,
+    MAX_NAME_BYTES, MAX_OBJECTS, MAX_PATH_BYTES, MAX_SCRIPT_BYTES, MAX_SENDERS, MAX_STRIPS,
+    MAX_TIME, MAX_VALUE, MAX_WORKERS,
 };
 pub use misuse_code::MisuseCode;
 pub use names_valid::{is_name, is_path};
 pub use numbers::{Blk, Obj, Run};
-pub use parts::{BlkPart, FilePart, ObjPart, Parts};
+pub use parts::{BlkPart, FilePart, ObjPart, Parts, StripPart};
 pub use parts_fault::PartsFault;
 pub use plan::Plan;
 pub use reason::Reason;

@@ -18,6 +18,15 @@ pub const MAX_EVENTS: u32 = 4_294_967_295;
 /// The most workers of a run.
 pub const MAX_WORKERS: u32 = 64;
 
+/// The most blocks of an intake.
+pub const MAX_INTAKE: u32 = 4_096;
+
+/// The most strips in a plan: as many as numbers count.
+pub const MAX_STRIPS: u32 = 4_294_967_295;
+
+/// The most senders of jobs to an intake.
+pub const MAX_SENDERS: u32 = 64;
+
 /// The greatest first value of a semaphore, merged value, and number of bytes that come on a feed at once.
 pub const MAX_VALUE: u32 = 2_147_483_647;
 

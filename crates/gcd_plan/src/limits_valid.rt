@@ -6,7 +6,7 @@ ghost use Rattle.gcd_plan.specs.PlanView.{view_of};
 ghost use Rattle.gcd_plan.specs.Validity.{act_count};
 ghost use Rattle.gcd_plan.specs.WithinLimits.{IsWithinLimits};
 
-use crate::limits::{MAX_ACTS, MAX_BLOCKS, MAX_FILES, MAX_OBJECTS};
+use crate::limits::{MAX_ACTS, MAX_BLOCKS, MAX_FILES, MAX_OBJECTS, MAX_STRIPS};
 use crate::parts::{BlkPart, ObjPart, Parts};
 use crate::parts_fault::PartsFault;
 
@@ -65,6 +65,9 @@ pub fn check_limits(parts: &Parts) -> Result<(), PartsFault>
     }
     if parts.files.len() > MAX_FILES as usize {
         return Err(PartsFault::TooManyFiles);
+    }
+    if parts.strips.len() > MAX_STRIPS as usize {
+        return Err(PartsFault::TooManyStrips);
     }
     if !has_few_acts(parts) {
         return Err(PartsFault::TooManyActs);

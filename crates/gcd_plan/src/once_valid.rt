@@ -5,47 +5,52 @@ ghost use Rattle.std.specs.Option.{option_map_or, option_to_list};
 ghost use Rattle.std.specs.Str.{bytes_eq};
 ghost use Rattle.gcd_plan.specs.Limits.{max_acts, max_objects};
 ghost use Rattle.gcd_plan.specs.PlanView.{view_of, first_target};
-ghost use Rattle.gcd_plan.specs.Chains.{chain_by, is_in};
-ghost use Rattle.gcd_plan.specs.Validity.{block_of, blocks_of, reaches_root};
+ghost use Rattle.gcd_plan.specs.Checked.{submits};
+ghost use Rattle.gcd_plan.specs.Validity.{blocks_of, reaches_root};
 
 use crate::act::Act;
+use crate::made::is_of_strip_at;
 use crate::numbers::Blk;
 use crate::parts::{BlkPart, FilePart, ObjPart, Parts};
 
-fn submits(act: Act, b: Blk) -> bool
-    ensures { result ≡ option_map_or (λ c. c.0 == b.0) (block_of act) false }
+#[tactic(auto, using(crate::proofs::Submits::alone))]
+fn submits(parts: &Parts, act: Act, b: Blk) -> bool
+    ensures { result ≡ submits (view_of parts.now) b.0 act }
 {
-    match act.block() {
-        Some(c) => c.0 == b.0,
+    if let Some(c) = act.block() {
+        return c.0 == b.0;
+    }
+    match act.strip() {
+        Some(a) => is_of_strip_at(parts, a, b),
         None => false,
     }
 }
 
 /// How many of the acts submit the block.
-pub fn submissions_in(acts: &[Act], b: Blk) -> usize
-    ensures count { result ≡ count_by (λ c. c.0 == b.0) (blocks_of acts.now) }
+pub fn submissions_in(parts: &Parts, acts: &[Act], b: Blk) -> usize
+    ensures count { result ≡ count_by (λ c. c.0 == b.0) (blocks_of (view_of parts.now) acts.now) }
     ensures few { result ≤ length acts.now }
 {
-    acts_submitting(acts, b)
+    acts_submitting(parts, acts, b)
 }
 
-fn acts_submitting(acts: &[Act], b: Blk) -> usize
-    ensures count { result ≡ count_by (λ act. option_map_or (λ c. c.0 == b.0) (block_of act) false) acts.now }
+fn acts_submitting(parts: &Parts, acts: &[Act], b: Blk) -> usize
+    ensures count { result ≡ count_by (submits (view_of parts.now) b.0) acts.now }
     ensures few { result ≤ length acts.now }
 {
-    acts.iter().filter(|act| submits(**act, b)).count()
+    acts.iter().filter(|act| submits(parts, **act, b)).count()
 }
 
 /// How many acts of the blocks submit the block.
 #[tactic(auto, using(std::proofs::lemmas::List::Sums::sum_by_more_le))]
-pub fn block_submissions(blocks: &[BlkPart], b: Blk) -> usize
+pub fn block_submissions(parts: &Parts, blocks: &[BlkPart], b: Blk) -> usize
     requires { sum_by (λ p. length p.acts.items) blocks.now ≤ max_acts }
-    ensures count { result ≡ sum_by (λ p. count_by (λ c. c.0 == b.0) (blocks_of p.acts.items)) blocks.now }
+    ensures count { result ≡ sum_by (λ p. count_by (λ c. c.0 == b.0) (blocks_of (view_of parts.now) p.acts.items)) blocks.now }
     ensures few { result ≤ max_acts }
 {
     let mut total = 0;
     for p in blocks {
-        total += submissions_in(&p.acts, b);
+        total += submissions_in(parts, &p.acts, b);
     }
     total
 }
@@ -61,24 +66,24 @@ fn cancels(cancel: Option<Blk>, b: Blk) -> usize
 }
 
 /// How often the object submits the block: by its handler's acts, and as its cancellation block.
-pub fn submissions_of(o: &ObjPart, b: Blk) -> usize
+pub fn submissions_of(parts: &Parts, o: &ObjPart, b: Blk) -> usize
     requires { length o.now.handler.items < max_acts + max_objects }
-    ensures count { result ≡ count_by (λ c. c.0 == b.0) (blocks_of o.now.handler.items ++ option_to_list o.now.cancel) }
+    ensures count { result ≡ count_by (λ c. c.0 == b.0) (blocks_of (view_of parts.now) o.now.handler.items ++ option_to_list o.now.cancel) }
     ensures few { result ≤ length o.now.handler.items + 1 }
 {
-    submissions_in(&o.handler, b) + cancels(o.cancel, b)
+    submissions_in(parts, &o.handler, b) + cancels(o.cancel, b)
 }
 
 /// How often the objects submit the block.
 #[tactic(auto, using(std::proofs::lemmas::List::Sums::sum_by_more_le))]
-pub fn object_submissions(objects: &[ObjPart], b: Blk) -> usize
+pub fn object_submissions(parts: &Parts, objects: &[ObjPart], b: Blk) -> usize
     requires { sum_by (λ o. length o.handler.items + 1) objects.now ≤ max_acts + max_objects }
-    ensures count { result ≡ sum_by (λ o. count_by (λ c. c.0 == b.0) (blocks_of o.handler.items ++ option_to_list o.cancel)) objects.now }
+    ensures count { result ≡ sum_by (λ o. count_by (λ c. c.0 == b.0) (blocks_of (view_of parts.now) o.handler.items ++ option_to_list o.cancel)) objects.now }
     ensures few { result ≤ max_acts + max_objects }
 {
     let mut total = 0;
     for o in objects {
-        total += submissions_of(o, b);
+        total += submissions_of(parts, o, b);
     }
     total
 }

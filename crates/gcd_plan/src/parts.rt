@@ -1,12 +1,14 @@
 // The lists that a plan is made of.
 ghost use Rattle.std.specs.Prelude.{◌≡◌, not, IfOk, [], None};
-ghost use Rattle.gcd_plan.specs.PlanView.{obj_view, blk_view};
+ghost use Rattle.gcd_plan.specs.Made.{strip_work};
+ghost use Rattle.gcd_plan.specs.PlanView.{obj_view, blk_view, strip_view};
 ghost use Rattle.gcd_plan.specs.Kinds.{is_source_kind};
 
 use crate::act::Act;
 use crate::kind::Kind;
+use crate::limits::MAX_FILE_BYTES;
 use crate::numbers::{Blk, Obj};
-use crate::work::Work;
+use crate::work::{How, Work};
 use std::alloc::{AllocError, Global};
 
 /// What is declared of an object. Where its kind has no such thing, `target` is `Obj(0)`, `active` is true, `path` and
@@ -91,6 +93,39 @@ pub struct FilePart {
     pub line: u32,
 }
 
+/// What is declared of a strip: blocks that count one part of a file after the other (dispatch_apply(3)).
+#[derive(Debug, Drop)]
+pub struct StripPart {
+    /// The name by which texts call it.
+    pub name: String,
+    /// What each block counts; it is not [`How::Count`].
+    pub how: How,
+    /// The file's number, from 0.
+    pub file: u32,
+    /// The bytes of a part, from 1 to [`crate::MAX_FILE_BYTES`].
+    pub len: u32,
+    /// The number of its first block, from 1.
+    pub first: u32,
+    /// How many blocks it has.
+    pub count: u32,
+}
+
+impl StripPart {
+    /// The work of the strip's block at this place, from 0: it counts the file's part of this place, or no byte where the part
+    /// begins past [`crate::MAX_FILE_BYTES`] (dispatch_apply(3)).
+    pub fn work(&self, place: u32) -> Work
+        ensures { result ≡ strip_work (strip_view self.now) place }
+    {
+        let start = u64::from(self.len) * u64::from(place);
+        Work {
+            how: self.how,
+            file: self.file,
+            start: start.min(u64::from(MAX_FILE_BYTES)) as u32,
+            len: self.len,
+        }
+    }
+}
+
 /// The lists that a plan is made of, by number. Object 0 is the queue `root`, block 0 is `main`.
 #[derive(Debug, Drop)]
 pub struct Parts {
@@ -102,4 +137,9 @@ pub struct Parts {
     pub files: Vec<FilePart>,
     /// The last due time of timers and limit of waits, in milliseconds from 1 to [`crate::MAX_TIME`].
     pub until: u32,
+    /// Where callers from outside may hand in closures: the queue, the number of the first of the intake's blocks, from 1, and
+    /// how many there are, from 1 to [`crate::MAX_INTAKE`].
+    pub intake: Option<(Obj, u32, u32)>,
+    /// The strips (dispatch_apply(3)).
+    pub strips: Vec<StripPart>,
 }

@@ -3,8 +3,8 @@
 use crate::numbers::{Blk, Obj};
 use std::fmt;
 
-/// The rule that parts break, and the part at fault. Objects, blocks and files are told by their number in the parts, and
-/// an act by its place in its body; all count from 0.
+/// The rule that parts break, and the part at fault. Objects, blocks, files and strips are told by their number in the parts,
+/// and an act by its place in its body; all count from 0.
 #[derive(Clone, Copy, Debug, PartialEq, Eq)]
 pub enum PartsFault {
     /// Object 0 is missing, or is not the queue `root`: concurrent, its own target, active, and with nothing else.
@@ -25,13 +25,13 @@ pub enum PartsFault {
     UntilOutOfRange,
     /// The object's name is ill-formed ([`crate::is_name`]).
     ObjectNameIllFormed(Obj),
-    /// The block's name is ill-formed ([`crate::is_name`]).
+    /// The block's name is ill-formed ([`crate::is_name`]), and the block is not one of the intake or of a strip.
     BlockNameIllFormed(Blk),
     /// The file's name is ill-formed ([`crate::is_name`]).
     FileNameIllFormed(u32),
     /// The object's name is a file's or an earlier object's too.
     ObjectNameTaken(Obj),
-    /// The block's name is a file's, an object's or an earlier block's too.
+    /// The block's name is a file's, an object's, a strip's or an earlier block's too.
     BlockNameTaken(Blk),
     /// The file's name is an earlier file's too.
     FileNameTaken(u32),
@@ -55,7 +55,7 @@ pub enum PartsFault {
     /// What this act of the source's handler names is not of the kind that it asks, or its value is above
     /// [`crate::MAX_VALUE`].
     HandlerActUnfit(Obj, usize),
-    /// The cancellation block of the source is `main` or is not there.
+    /// The cancellation block of the source is `main`, is not there, or is one of the intake or of a strip.
     CancelOutOfRange(Obj),
     /// The block's work names a file that is not there, or its range passes [`crate::MAX_FILE_BYTES`].
     WorkOutOfRange(Blk),
@@ -67,6 +67,30 @@ pub enum PartsFault {
     SubmittedTwice(Blk),
     /// Following the targets from the object never ends at `root`.
     NeverReachesRoot(Obj),
+    /// There are more than [`crate::MAX_STRIPS`] strips.
+    TooManyStrips,
+    /// The strip's name is ill-formed ([`crate::is_name`]).
+    StripNameIllFormed(u32),
+    /// The strip's name is a file's, an object's or an earlier strip's too.
+    StripNameTaken(u32),
+    /// What the intake submits to is no queue.
+    IntakeOnNoQueue,
+    /// The intake has no block, or more than [`crate::MAX_INTAKE`].
+    IntakeCountOutOfRange,
+    /// `main` is among the blocks of the intake, or they are not all there.
+    IntakeBlocksMissing,
+    /// The block is one of the intake, and its name is not `+` with its place from 1, or it has an act or a work.
+    IntakeBlockUnfit(Blk),
+    /// The strip counts the bytes of one value, its file is not there, or its parts have no byte or more than
+    /// [`crate::MAX_FILE_BYTES`].
+    StripUnfit(u32),
+    /// `main` is among the blocks of the strip, or they are not all there.
+    StripBlocksMissing(u32),
+    /// The block is one of the strip, and its name is not the strip's with `.` and its place from 0, its work is not that of its
+    /// place, or it has an act.
+    StripBlockUnfit(u32, Blk),
+    /// The block is one of two strips, or of a strip and the intake.
+    MadeTwice(Blk),
 }
 
 /// One plain sentence, as "block 3: it is submitted more than once". The numbers are those of the parts, and count from 0, as
@@ -96,11 +120,24 @@ impl fmt::Display for PartsFault {
             PartsFault::BlockNameIllFormed(b)
             | PartsFault::BlockNameTaken(b)
             | PartsFault::WorkOutOfRange(b)
+            | PartsFault::IntakeBlockUnfit(b)
+            | PartsFault::MadeTwice(b)
             | PartsFault::SubmittedTwice(b) => write!(f, "block {}: {what}", b.0),
             PartsFault::BlockActUnfit(b, act) => write!(f, "block {}: act {act} {what}", b.0),
             PartsFault::FileNameIllFormed(file)
             | PartsFault::FileNameTaken(file)
             | PartsFault::FilePathIllFormed(file) => write!(f, "file {file}: {what}"),
+            PartsFault::IntakeOnNoQueue | PartsFault::IntakeCountOutOfRange => f.write_str(what),
+            PartsFault::IntakeBlocksMissing | PartsFault::TooManyStrips => f.write_str(what),
+            PartsFault::StripNameIllFormed(strip)
+            | PartsFault::StripNameTaken(strip)
+            | PartsFault::StripUnfit(strip)
+            | PartsFault::StripBlocksMissing(strip) => write!(f, "strip {strip}: {what}"),
+            PartsFault::StripBlockUnfit(strip, b) => write!(
+                f,
+                "strip {strip}: block {} {what}",
+                b.0
+            ),
         }
     }
 }
@@ -122,7 +159,7 @@ impl PartsFault {
             PartsFault::FileNameIllFormed(_) => "its name is ill-formed",
             PartsFault::ObjectNameTaken(_) => "its name is a file's or an earlier object's",
             PartsFault::BlockNameTaken(_) =>
-                "its name is a file's, an object's or an earlier block's",
+                "its name is a file's, an object's, a strip's or an earlier block's",
             PartsFault::FileNameTaken(_) => "its name is an earlier file's",
             PartsFault::KindOutOfRange(_) => "a number of its kind is out of range",
             PartsFault::PathUnfit(_) => "its path does not fit its kind",
@@ -133,12 +170,27 @@ impl PartsFault {
             PartsFault::ActiveSource(_) => "it is a source and active at the start",
             PartsFault::HandlerActBarred(..) => "submits a block or waits",
             PartsFault::HandlerActUnfit(..) => UNFIT,
-            PartsFault::CancelOutOfRange(_) => "its cancellation block is main or not there",
+            PartsFault::CancelOutOfRange(_) =>
+                "its cancellation block is main, not there, or of the intake or a strip",
             PartsFault::WorkOutOfRange(_) => "its work reads no file of the plan, or too far",
             PartsFault::BlockActUnfit(..) => UNFIT,
             PartsFault::FilePathIllFormed(_) => "its path is ill-formed",
             PartsFault::SubmittedTwice(_) => "it is submitted more than once",
             PartsFault::NeverReachesRoot(_) => "its targets never lead to root",
+            PartsFault::TooManyStrips => "there are more strips than a plan may have",
+            PartsFault::StripNameIllFormed(_) => "its name is ill-formed",
+            PartsFault::StripNameTaken(_) =>
+                "its name is a file's, an object's or an earlier strip's",
+            PartsFault::IntakeOnNoQueue => "the intake is on no queue",
+            PartsFault::IntakeCountOutOfRange => "the intake has no block or more than it may have",
+            PartsFault::IntakeBlocksMissing =>
+                "the blocks of the intake are not all there, or main is one",
+            PartsFault::IntakeBlockUnfit(_) => "it is not as the intake makes it",
+            PartsFault::StripUnfit(_) =>
+                "it counts what no strip may count, or its parts are out of range",
+            PartsFault::StripBlocksMissing(_) => "its blocks are not all there, or main is one",
+            PartsFault::StripBlockUnfit(..) => "is not as the strip makes it",
+            PartsFault::MadeTwice(_) => "it is of two strips, or of a strip and the intake",
         }
     }
 }

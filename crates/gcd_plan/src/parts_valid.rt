@@ -5,17 +5,17 @@ ghost use Rattle.std.specs.Option.{option_map_or};
 ghost use Rattle.gcd_plan.specs.Breaks.{Breaks, Has};
 ghost use Rattle.gcd_plan.specs.Checked.{AllHave};
 ghost use Rattle.gcd_plan.specs.Kinds.{is_source_kind, is_node_kind};
-ghost use Rattle.gcd_plan.specs.PlanView.{view_of, obj_view, blk_view, file_view};
-ghost use Rattle.gcd_plan.specs.Validity.{is_kind, has_path, has_queue_fields, has_no_fields, has_source_fields, is_object, is_work, is_block, is_file, is_handler_act, is_act, is_submittable};
+ghost use Rattle.gcd_plan.specs.PlanView.{view_of, obj_view, blk_view, file_view, strip_view};
+ghost use Rattle.gcd_plan.specs.Validity.{is_kind, has_path, has_queue_fields, has_no_fields, has_source_fields, is_object, is_work, is_block, is_file, is_handler_act, is_act, is_declared};
 ghost use Rattle.gcd_plan.specs.WithinLimits.{IsWithinLimits};
 
 use crate::act::Act;
 use crate::kind::Kind;
-use crate::kinds_valid::{is_act, is_queue, is_submittable};
+use crate::kinds_valid::{is_act, is_declared, is_queue};
 use crate::limits::{MAX_FILE_BYTES, MAX_TIME, MAX_VALUE};
 use crate::names_valid::is_path;
 use crate::numbers::{Blk, Obj};
-use crate::parts::{BlkPart, FilePart, ObjPart, Parts};
+use crate::parts::{BlkPart, FilePart, ObjPart, Parts, StripPart};
 use crate::parts_fault::PartsFault;
 use crate::work::Work;
 
@@ -64,6 +64,14 @@ pub fn file_at(parts: &Parts, f: u32) -> &FilePart
     ensures { slice_get (view_of parts.now).files f ≡ Some (file_view result.now) }
 {
     &parts.files[f as usize]
+}
+
+/// The strip of this number.
+pub fn strip_at(parts: &Parts, a: u32) -> &StripPart
+    requires { a < length parts.now.strips.items }
+    ensures { slice_get (view_of parts.now).strips a ≡ Some (strip_view result.now) }
+{
+    &parts.strips[a as usize]
 }
 
 // The place of the first act that a handler may not have.
@@ -149,7 +157,7 @@ fn check_source(parts: &Parts, s: Obj, object: &ObjPart) -> Result<(), PartsFaul
     if object.active {
         return Err(PartsFault::ActiveSource(s));
     }
-    if !object.cancel.map_or(true, |b| is_submittable(parts, b)) {
+    if !object.cancel.map_or(true, |b| is_declared(parts, b)) {
         return Err(PartsFault::CancelOutOfRange(s));
     }
     check_handler(parts, s, object)

@@ -1,15 +1,15 @@
 // A valid plan.
 ghost use Rattle.std.specs.Prelude.{◌≡◌, ◌<◌, ◌≤◌, ◌^◌, ◌↔◌, IfOk, IfSome, IsSome, IsNone, length, map, option_map, slice_get, Some};
 ghost use Rattle.gcd_plan.specs.Breaks.{Breaks};
-ghost use Rattle.gcd_plan.specs.Limits.{max_files};
-ghost use Rattle.gcd_plan.specs.PlanView.{kind_of, first_target, starts_active, acts_of, work_of, cancel_block, path_of, name_of_obj, name_of_blk, IsRun, file_view, view_of};
+ghost use Rattle.gcd_plan.specs.Limits.{max_files, max_strips};
+ghost use Rattle.gcd_plan.specs.PlanView.{kind_of, first_target, starts_active, acts_of, work_of, cancel_block, path_of, name_of_obj, name_of_blk, name_of_strip, IsRun, file_view, intake_view, strip_view, view_of};
 ghost use Rattle.gcd_plan.specs.Validity.{IsPlan};
 
 use crate::act::Act;
 use crate::held::Held;
 use crate::kind::Kind;
 use crate::numbers::{Blk, Obj, Run};
-use crate::parts::{FilePart, Parts};
+use crate::parts::{FilePart, Parts, StripPart};
 use crate::parts_fault::PartsFault;
 use crate::validity::fault_of;
 use crate::work::Work;
@@ -153,6 +153,22 @@ impl Plan {
         &self.held.parts().files
     }
 
+    /// The intake: its queue, the number of the first of its blocks, and how many there are, 1 to [`crate::MAX_INTAKE`]; None
+    /// exactly where the plan has none. It takes no memory (this project's own rule).
+    pub fn intake(&self) -> Option<(Obj, u32, u32)>
+        ensures { option_map intake_view result ≡ self.now.intake }
+    {
+        self.held.parts().intake
+    }
+
+    /// The strips, by number, in no new memory (dispatch_apply(3)).
+    pub fn strips(&self) -> &[StripPart]
+        ensures strips { map strip_view result.now ≡ self.now.strips }
+        ensures few { length result.now ≤ max_strips }
+    {
+        &self.held.parts().strips
+    }
+
     /// The path of a read source's feed; empty for every other object.
     pub fn path_of(&self, s: Obj) -> &str
         requires { s.0 < length self.now.objects }
@@ -175,6 +191,14 @@ impl Plan {
         ensures { result.now ≡ name_of_blk self.now b.0 }
     {
         self.held.parts().blocks[b.0 as usize].name.as_str()
+    }
+
+    /// The name of a strip (dispatch_apply(3)).
+    pub fn name_of_strip(&self, a: u32) -> &str
+        requires { a < length self.now.strips }
+        ensures { result.now ≡ name_of_strip self.now a }
+    {
+        self.held.parts().strips[a as usize].name.as_str()
     }
 
     /// The number of the script's line that declares a file.

@@ -16,7 +16,7 @@ fn submissions(parts: &Parts, b: Blk) -> usize
     requires { IsWithinLimits parts.now }
     ensures { result ≡ count_by (λ c. c.0 == b.0) (submitted_blocks (view_of parts.now)) }
 {
-    block_submissions(&parts.blocks, b) + object_submissions(&parts.objects, b)
+    block_submissions(parts, &parts.blocks, b) + object_submissions(parts, &parts.objects, b)
 }
 
 /// Ok where each block of the parts is submitted at most once.

@@ -10,7 +10,10 @@ ghost use Rattle.gcd_plan.specs.WithinLimits.{IsWithinLimits};
 use crate::kind::Kind;
 use crate::limits::MAX_TIME;
 use crate::limits_valid::check_limits;
-use crate::names_once::{check_block_names, check_file_names, check_object_names};
+use crate::made_valid::{check_apart, check_intake, check_strips};
+use crate::names_once::{
+    check_block_names, check_file_names, check_object_names, check_strip_names,
+};
 use crate::numbers::Obj;
 use crate::once_valid::reaches_root;
 use crate::parts::{BlkPart, ObjPart, Parts};
@@ -124,10 +127,14 @@ fn check_parts(parts: &Parts) -> Result<(), PartsFault>
     check_until(parts)?;
     check_file_names(parts)?;
     check_object_names(parts)?;
+    check_strip_names(parts)?;
     check_block_names(parts)?;
     check_objects(parts)?;
     check_blocks(parts)?;
     check_files(parts)?;
+    check_apart(parts)?;
+    check_intake(parts)?;
+    check_strips(parts)?;
     check_targets(parts)?;
     check_submissions(parts)?;
     Ok(())

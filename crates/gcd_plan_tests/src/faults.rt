@@ -151,7 +151,7 @@ static NAMES: [Row; 6] = [
     },
     Row {
         fault: PartsFault::BlockNameTaken(Blk(2)),
-        says: "block 2: its name is a file's, an object's or an earlier block's",
+        says: "block 2: its name is a file's, an object's, a strip's or an earlier block's",
         block: "g",
         ..SOUND
     },
@@ -232,7 +232,7 @@ static BODIES: [Row; 7] = [
     },
     Row {
         fault: PartsFault::CancelOutOfRange(Obj(2)),
-        says: "object 2: its cancellation block is main or not there",
+        says: "object 2: its cancellation block is main, not there, or of the intake or a strip",
         cancel: Some(Blk(4)),
         ..SOUND_SOURCE
     },
@@ -332,6 +332,8 @@ fn parts(alloc: Global, row: &Row) -> Result<Parts, AllocError> {
         blocks: blocks(alloc, row)?,
         files: files(alloc, row)?,
         until: row.until,
+        intake: None,
+        strips: Vec::new(alloc),
     })
 }
 

@@ -249,6 +249,8 @@ fn parts(alloc: Global, case: &Case) -> Result<Parts, AllocError> {
         blocks: vec![in alloc; main, counts]?,
         files: vec![in alloc; log]?,
         until: case.until,
+        intake: None,
+        strips: Vec::new(alloc),
     })
 }
 

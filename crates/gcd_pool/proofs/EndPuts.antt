@@ -1,5 +1,5 @@
 -- What has come of an end that was put.
-use Rattle.std.proofs.Common.{◌≡◌, ℕ, ◌∙◌, true, List, Some, None, sym, subst, inl, inr}
+use Rattle.std.proofs.Common.{◌≡◌, ℕ, true, List, Some, None, sym, subst, inl, inr}
 use Rattle.gcd_plan.specs.PlanView.{PlanView}
 use Rattle.gcd_event.specs.declared.event.Event.{Event}
 use Rattle.gcd_history.specs.Choice.{worker_of}
@@ -13,7 +13,6 @@ use Rattle.gcd_row.specs.declared.pass.RowPass.{RowPass}
 use Rattle.gcd_pool.specs.Hands.{IsSettled}
 use Rattle.gcd_pool.specs.Throughs.{SaysThrough}
 use Rattle.gcd_pool.specs.Works.{WasEndPut}
-use Rattle.gcd_pool.specs.declared.putting.Through.{Through}
 use Rattle.gcd_pool.specs.declared.putting.Through.TheVariants.{Placed, Barred, Full, Stopped}
 use Rattle.gcd_pool.specs.declared.turn.Turn.TheVariants.{Left, Ended, Stopped as TurnStopped}
 use Rattle.gcd_pool.proofs.Throughs.{barred_adds_none, barred_leaves, barred_none, full_length, outcome_adds, outcome_ended, outcome_ends, outcome_goes, outcome_leaves, outcome_only, outcome_settled, outcome_stops}

@@ -5,7 +5,7 @@ use Rattle.gcd_history.specs.Ends.{HasEnded}
 use Rattle.gcd_row.specs.Passes.{view}
 use Rattle.gcd_row.specs.Shapes.{Shape}
 use Rattle.gcd_pool.specs.Each.{Each}
-use Rattle.gcd_pool.specs.Hands.{IsHandOf, Served, Serving}
+use Rattle.gcd_pool.specs.Hands.{Served, Serving}
 use Rattle.gcd_pool.specs.declared.hand.Hand.{Hand}
 use Rattle.gcd_pool.specs.declared.hand.Pool.{Pool}
 use Rattle.gcd_pool.proofs.Serves.{serves_further}

@@ -9,11 +9,11 @@ use Rattle.gcd_plan.specs.declared.numbers.Obj.{Obj}
 use Rattle.gcd_plan.specs.declared.numbers.Run.{Run}
 use Rattle.gcd_plan.specs.declared.numbers.Run.TheVariants.{Block, Source}
 use Rattle.gcd_event.specs.declared.event.Event.{Event}
-use Rattle.gcd_event.specs.declared.event.Event.TheVariants.{Start, Act as Acted, Wake, End, Deliver, DeliverEnd, Tick, Ready, FeedEnd, Misuse, Halt, Expire}
+use Rattle.gcd_event.specs.declared.event.Event.TheVariants.{Start, Act as Acted, Wake, End, Deliver, DeliverEnd, Tick, Ready, FeedEnd, Misuse, Halt, Expire, Accept, Shut}
 use Rattle.gcd_history.specs.Choice.{worker_of}
 use Rattle.gcd_history.specs.Runs.{act_at}
 use Rattle.gcd_history.specs.Parked.{is_parking}
-use Rattle.gcd_history.specs.History.{why, parks, IsLawful, is_ended, delivery_count_of, received_of}
+use Rattle.gcd_history.specs.History.{why, parks, IsLawful, is_ended, delivery_count_of, received_of, is_block_cancelled}
 use Rattle.gcd_history.proofs.LawfulLemmas.{lawful_more}
 use Rattle.gcd_team.specs.Held.{taken, given}
 use Rattle.gcd_team.specs.Team.{of_worker, held_by, StartsWith}
@@ -114,7 +114,7 @@ module _ {S : Type 0} (shape : S → Shape) (gives : S → ℕ → Type 0) (t : 
       let was : is_ended h b.0 ≡ false = sym ((cells_stay t.plan h e).bodies b not_given) ∙ unended in
       let known : b.0 < length t.plan.blocks = known_run t.plan (Block b) (taken_known t.plan h e (Block b) took may) in
       let first = first_there t.cells b.0 (omega (arith, known, cells)) in
-      (subst (λ (n : Bool). BodyLies shape gives first.0 n y) was (lies first.0 first.1)).0
+      (subst (λ (n : Bool). BodyLies shape gives first.0 n (is_block_cancelled t.plan h b.0) y) was (lies first.0 first.1)).0
 
   taken_is_fresh : (h : List Event) (e : Event) (r : Run) (y : S) → IsLawful t.plan h → why t.plan h e ≡ None → length t.plan.blocks ≤ length t.cells → taken e ≡ Some r → Lies shape gives t h r y → IsFreshCell shape t.plan (h ++ e ∷ []) r y
   taken_is_fresh h e (Block b) y lawful may cells took lies = body_is_fresh h e b y lawful may cells took lies
@@ -204,3 +204,5 @@ module _ {S : Type 0} (shape : S → Shape) (gives : S → ℕ → Type 0) (t : 
   back_of_fresh h (Misuse w k r i) c valid lawful may ends has fresh = λ q gave. absurd (none_some None q refl gave)
   back_of_fresh h Halt c valid lawful may ends has fresh = λ r gave. absurd (none_some None r refl gave)
   back_of_fresh h (Expire b) c valid lawful may ends has fresh = λ r gave. absurd (none_some None r refl gave)
+  back_of_fresh h (Accept b s) c valid lawful may ends has fresh = λ r gave. absurd (none_some None r refl gave)
+  back_of_fresh h Shut c valid lawful may ends has fresh = λ r gave. absurd (none_some None r refl gave)

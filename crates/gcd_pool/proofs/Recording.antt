@@ -6,7 +6,7 @@ use Rattle.std.proofs.lemmas.Bool.{and_from, and_parts}
 use Rattle.gcd_plan.specs.PlanView.{PlanView}
 use Rattle.gcd_plan.specs.declared.why.Why.{Why}
 use Rattle.gcd_event.specs.declared.event.Event.{Event}
-use Rattle.gcd_event.specs.declared.event.Event.TheVariants.{Start, Act as Acted, Wake, End, Deliver, DeliverEnd, Tick, Ready, FeedEnd, Misuse, Halt, Expire}
+use Rattle.gcd_event.specs.declared.event.Event.TheVariants.{Start, Act as Acted, Wake, End, Deliver, DeliverEnd, Tick, Ready, FeedEnd, Misuse, Halt, Expire, Accept, Shut}
 use Rattle.gcd_history.specs.Choice.{is_work, worker_of}
 use Rattle.gcd_history.specs.History.{choice_of, why}
 use Rattle.gcd_loop.specs.Followed.{FollowsChoice}
@@ -20,14 +20,12 @@ use Rattle.gcd_loop.proofs.Steps.{grown}
 use Rattle.gcd_row.specs.Shapes.{Shape}
 use Rattle.gcd_row.specs.Views.{knowing, seeing}
 use Rattle.gcd_row.specs.Passes.{Ahead, IsPassOf, Looks, slots, view, machine_of}
-use Rattle.gcd_row.specs.Passes as row
 use Rattle.gcd_row.specs.declared.pass.RowPass.{RowPass}
 use Rattle.gcd_row.specs.declared.board.RowBoard.{RowBoard}
-use Rattle.gcd_row.specs.declared.put.Put.{Put}
 use Rattle.gcd_row.specs.declared.put.Put.TheVariants.{Placed, Barred, Full}
 use Rattle.gcd_row.specs.declared.view.Terms.{Terms}
 use Rattle.gcd_row.specs.declared.view.View.{View}
-use Rattle.gcd_pool.specs.Hands.{GoesOn, IsFresh, IsHandOf, Serving}
+use Rattle.gcd_pool.specs.Hands.{IsFresh, IsHandOf, Serving}
 use Rattle.gcd_outer.specs.Outside.{ClockState}
 use Rattle.gcd_outer.specs.Tells.{PollerState}
 use Rattle.gcd_pool.specs.Leads.{IsHead, Leads, Led}
@@ -37,10 +35,10 @@ use Rattle.gcd_pool.specs.declared.hand.Hand.{Hand}
 use Rattle.gcd_pool.specs.declared.hand.Pool.{Pool}
 use Rattle.gcd_row.proofs.Fronts.{starts_trans}
 use Rattle.gcd_team.specs.Team.{of_worker}
-use Rattle.gcd_pool.proofs.Puts.{ahead_fresh, looks_fresh, placed_seen, says_fresh, says_goes_on}
+use Rattle.gcd_pool.proofs.Puts.{looks_fresh, placed_seen}
 use Rattle.gcd_pool.proofs.Told.{to_lead}
 use Rattle.gcd_pool.proofs.Serves.{looks_serves, passing_fresh, serves_further, serves_nothing}
-use Rattle.gcd_pool.proofs.Works.{ahead_adds, ahead_adds_none, none_then, says_only, still_all}
+use Rattle.gcd_pool.proofs.Works.{ahead_adds, still_all}
 
 -- what worker 0 adds of its own, and what others add, is work
 own_is_work : (e : Event) → is_own_work 0 e ≡ true → is_work e ≡ true
@@ -56,6 +54,8 @@ own_is_work (FeedEnd s) h = cc
 own_is_work (Misuse w c r i) h = refl
 own_is_work Halt h = cc
 own_is_work (Expire b) h = cc
+own_is_work (Accept b s) h = cc
+own_is_work Shut h = cc
 
 all_work : (rest : List Event) → list_all (is_own_work 0) rest ≡ true → list_all is_work rest ≡ true
 all_work [] h = refl

@@ -1,7 +1,6 @@
 -- What a pass is after an event was put until no passed word holds it.
-use Rattle.std.proofs.Common.{◌≡◌, ℕ, ◌≤◌, true, List, [], ◌∷◌, ◌++◌, length, Some, None, sym, refl, ap, ◌∙◌, subst}
+use Rattle.std.proofs.Common.{◌≡◌, ℕ, ◌≤◌, true, length, Some, None, sym, refl, ap, ◌∙◌, subst}
 use Rattle.gcd_plan.specs.declared.numbers.Run.{Run}
-use Rattle.gcd_plan.specs.declared.why.Why.{Why}
 use Rattle.gcd_event.specs.Owners.{ended}
 use Rattle.gcd_event.specs.declared.event.Event.{Event}
 use Rattle.gcd_history.specs.Choice.{is_work, worker_of}
@@ -9,7 +8,7 @@ use Rattle.gcd_team.specs.Team.{of_worker}
 use Rattle.gcd_row.specs.Shapes.{Shape}
 use Rattle.gcd_row.specs.Lying.{GivesBack}
 use Rattle.gcd_row.specs.Views.{knowing}
-use Rattle.gcd_row.specs.Passes.{Ahead, IsPassOf, Looks, Says, SaysSlots, slots, view}
+use Rattle.gcd_row.specs.Passes.{IsPassOf, Looks, Says, SaysSlots, slots, view}
 use Rattle.gcd_row.specs.declared.board.RowBoard.{RowBoard}
 use Rattle.gcd_row.specs.declared.pass.RowPass.{RowPass}
 use Rattle.gcd_row.specs.declared.put.Put.{Put}
@@ -27,7 +26,7 @@ use Rattle.gcd_pool.specs.declared.turn.Turn.{Turn}
 use Rattle.gcd_pool.specs.declared.turn.Turn.TheVariants.{Left, Waited, Placed as TurnPlaced, Ended, Stopped as TurnStopped}
 use Rattle.gcd_pool.proofs.Placing.{leaves_barred, leaves_full, one_further, put_barred, quiet_further, recorded_further, records, records_end, stops, waits_barred}
 use Rattle.gcd_pool.proofs.Puts.{ahead_fresh, gives_ahead, goes_further, looks_goes_on, passing_goes_on, says_fresh, says_goes_on, settled_ahead, settled_placed}
-use Rattle.gcd_pool.proofs.Works.{adds_further, ahead_adds, ahead_adds_none, none_further, none_only, none_then, says_adds, says_only}
+use Rattle.gcd_pool.proofs.Works.{adds_further, ahead_adds, ahead_adds_none, none_only, none_then, says_adds, says_only}
 
 -- ## It has waited
 

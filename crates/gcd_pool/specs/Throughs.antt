@@ -1,5 +1,5 @@
 -- What comes of an event that is put until no passed word holds it.
-use Rattle.std.specs.Prelude.{◌≡◌, ℕ, List}
+use Rattle.std.specs.Prelude.{◌≡◌, ℕ}
 use Rattle.gcd_plan.specs.declared.why.Why.{Why}
 use Rattle.gcd_event.specs.declared.event.Event.{Event}
 use Rattle.gcd_row.specs.Shapes.{Shape}

@@ -8,13 +8,13 @@
 //! | duty | what the helper does |
 //! |---|---|
 //! | `Leave` | it leaves: it has seen that the run is quiescent, halted or full |
-//! | `Record` | it puts the event. Before an End it runs the body, before a DeliverEnd it calls the handler ([`RunCells`]), and it puts that event until it stands or the run is halted or full |
+//! | `Record` | it puts the event. Before an End it runs the body, unless the block is cancelled, before a DeliverEnd it calls the handler ([`RunCells`]), and it puts that event until it stands or the run is halted or full |
 //! | `Begin` | it wakes the Drain of the event's node, and puts the event with it ([`begin`]). Where that Drain does not sleep it takes another: the front of its own deque, or else of another's from the next number on and round, or else the node's own if it sleeps by now; with that it begins what may begin on that Drain's node ([`gcd_machine::Machine::begin_on`]). Then it lays the Drain down: at the back of its deque where a block waits on a concurrent queue and the team has another hand, and else asleep |
 //! | `Rest` | it waits ([`Idle`]), and asks again once the row has grown |
 //!
 //! A helper that has no run begins none, and waits, while others' runs begin and end within about a microsecond.
 //!
-//! Worker 0 ([`Worker0`]) looks, asks its outlook (`gcd_turn`), and puts what was told, a Tick, an Expire or a Halt; or else it does what its
+//! Worker 0 ([`Worker0`]) looks, asks its outlook (`gcd_turn`), and puts what was told, a Shut, a Tick, an Expire or a Halt; or else it does what its
 //! machine chooses, as a helper does, and polls or waits only where that is nothing. Where it is the team's only hand it needs no Drain and
 //! pushes none: it records at once what its machine chose, whatever the number of the rack's benches.
 //!

@@ -86,7 +86,7 @@ fn put_end<S: Slot, R: Wait>(rt: &R, pool: &Pool<S>, hand: &mut Hand<S>, e: Even
     }
 }
 
-// Runs the block whose run the pass holds, and records its end.
+// Runs the block whose run the pass holds, unless that is cancelled, and records its end.
 #[inline(always)]
 fn end_block<S: RunCells, R: Wait>(
     rt: &R,
@@ -159,12 +159,12 @@ fn go_on<S: Slot, R: Wait>(rt: &R, pool: &Pool<S>, hand: &mut Hand<S>, e: Event)
     }
 }
 
-/// Records what the worker's machine chose, an event that begins no run on a node. Before the end of a run the
-/// worker runs its body, or calls its handler; it puts the end until that stands ([`Turn::Ended`]), or until the row is full or the run
+/// Records what the worker's machine chose, an event that begins no run on a node. Before the end of a run the worker runs its body, unless
+/// the block is cancelled, or calls its handler; it puts the end until that stands ([`Turn::Ended`]), or until the row is full or the run
 /// halted ([`Turn::Left`]). It puts another event once: [`Turn::Placed`], [`Turn::Waited`] where one that came first bars it, or
 /// [`Turn::Left`] where the row is full. Where a passed word holds the event it waits, and [`Turn::Stopped`] is answered where the run
-/// can't go on. Conditions: the event is one of the hand's worker, none of the outside, and the worker's machine
-/// permits it; and the run that the hand holds, if any, is as it was taken.
+/// can't go on. Conditions: the event is one of the hand's worker, none of the outside, and the worker's machine permits it; and the run
+/// that the hand holds, if any, is as it was taken.
 #[inline(always)]
 pub fn record_own<S: RunCells, R: Wait>(
     rt: &R,

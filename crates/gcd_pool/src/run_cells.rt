@@ -15,7 +15,8 @@ use gcd_row::{Cell, RowBoard, RowPass, Slot};
 
 /// What a worker does with the cell of a run before the run's end.
 pub trait RunCells: Slot {
-    /// Runs the body of the block whose run the pass holds, and lays its value into the slot (dispatch_async(3)).
+    /// Runs the body of the block whose run the pass holds, and lays its value into the slot (dispatch_async(3)). Of a cancelled block
+    /// the body is dropped, and 0 is laid there: it does not run (dispatch_block_cancel(3)).
     fn run_body(board: &RowBoard<Self>, pass: &mut RowPass<Self>, b: Blk)
         requires pass { IsPassOf Self.shape Self.gives board.now pass.old }
         requires run { held_run (view pass.old) ≡ Some (Block b) }
@@ -38,6 +39,10 @@ pub trait RunCells: Slot {
 
 impl<J: Job + Drop, H: Handler + Drop> RunCells for Cell<J, H> {
     fn run_body(board: &RowBoard<Cell<J, H>>, pass: &mut RowPass<Cell<J, H>>, b: Blk) {
+        if pass.machine().is_cancelled(b) {
+            board.give_done(pass, b, 0);
+            return;
+        }
         let job = board.take_body(pass, b);
         board.give_done(pass, b, job.run(0));
     }

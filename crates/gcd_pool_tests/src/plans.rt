@@ -58,6 +58,8 @@ pub fn plan_of_each_kind(alloc: Global) -> Result<Plan, Fail> {
         blocks: blocks(alloc)?,
         files: Vec::new(alloc),
         until: 1000,
+        intake: None,
+        strips: Vec::new(alloc),
     };
     Ok(Plan::of_parts(parts).ok_or("valid")?)
 }
@@ -106,6 +108,8 @@ pub fn plan_of_meeting(alloc: Global, kind: Kind, count: u32) -> Result<Plan, Fa
         blocks: meeting_blocks(alloc, kind, count)?,
         files: Vec::new(alloc),
         until: 1000,
+        intake: None,
+        strips: Vec::new(alloc),
     };
     Ok(Plan::of_parts(parts).ok_or("valid")?)
 }
@@ -139,6 +143,8 @@ pub fn plan_of_signals(alloc: Global) -> Result<Plan, Fail> {
         blocks,
         files: Vec::new(alloc),
         until: 1000,
+        intake: None,
+        strips: Vec::new(alloc),
     };
     Ok(Plan::of_parts(parts).ok_or("valid")?)
 }
@@ -175,6 +181,8 @@ pub fn plan_of_two_queues(alloc: Global) -> Result<Plan, Fail> {
         blocks,
         files: Vec::new(alloc),
         until: 1000,
+        intake: None,
+        strips: Vec::new(alloc),
     };
     Ok(Plan::of_parts(parts).ok_or("valid")?)
 }
@@ -225,6 +233,8 @@ pub fn plan_of_limits(alloc: Global) -> Result<Plan, Fail> {
         blocks: limit_blocks(alloc)?,
         files: Vec::new(alloc),
         until: 1000,
+        intake: None,
+        strips: Vec::new(alloc),
     };
     Ok(Plan::of_parts(parts).ok_or("valid")?)
 }

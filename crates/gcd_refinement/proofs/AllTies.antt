@@ -6,7 +6,7 @@ use Rattle.gcd_event.specs.declared.event.Event.{Event}
 use Rattle.gcd_history.specs.Permitted.{IsLawful}
 use Rattle.gcd_refinement.specs.MachineView.{MachineView, machine_of}
 use Rattle.gcd_refinement.specs.Shape.{PartsFit, OwnFit}
-use Rattle.gcd_refinement.specs.Ties.{ReferencesAre, ListsAre, TreeIs, HoldsAre, DrainsAre, GroupsAre, SemasAre, WaitsAre, SourcesAre, TimersAre, WorkersAre, BlocksAre, HandlersAre, WakesAre, LimitsAre, MarksAre, TotalsAre}
+use Rattle.gcd_refinement.specs.Ties.{ReferencesAre, ListsAre, TreeIs, HoldsAre, DrainsAre, GroupsAre, SemasAre, WaitsAre, SourcesAre, TimersAre, WorkersAre, BlocksAre, HandlersAre, WakesAre, WaitersAre, StripsAre, BlockMarksAre, IntakeIs, LimitsAre, MarksAre, TotalsAre}
 use Rattle.gcd_refinement.specs.After.{after}
 use Rattle.gcd_refinement.proofs.Beginning.{parts_begin, own_begin, references_begin, lists_begin, tree_begin, holds_begin, drains_begin, groups_begin, semas_begin, waits_begin, sources_begin, timers_begin, workers_begin, blocks_begin, handlers_begin, limits_begin, marks_begin, totals_begin}
 use Rattle.gcd_refinement.proofs.StepReferences.{references_step}
@@ -24,6 +24,10 @@ use Rattle.gcd_refinement.proofs.StepBlocks.{blocks_step}
 use Rattle.gcd_refinement.proofs.StepHandlers.{handlers_step}
 use Rattle.gcd_refinement.proofs.Awake.{wakes_begin}
 use Rattle.gcd_refinement.proofs.StepWakes.{wakes_step}
+use Rattle.gcd_refinement.proofs.StepStrips.{strips_begin, strips_step}
+use Rattle.gcd_refinement.proofs.StepWaiters.{waiters_begin, waiters_step}
+use Rattle.gcd_refinement.proofs.StepBlockMarks.{block_marks_begin, block_marks_step}
+use Rattle.gcd_refinement.proofs.StepIntake.{intake_begin, intake_step}
 use Rattle.gcd_refinement.proofs.StepLimits.{limits_step}
 use Rattle.gcd_refinement.proofs.StepMarks.{marks_step}
 use Rattle.gcd_refinement.proofs.StepFeeds.{totals_step}
@@ -48,6 +52,10 @@ pub record AllTies (plan : PlanView) (past : List Event) (v : MachineView) : Typ
   pub blocks : BlocksAre plan past v
   pub handlers : HandlersAre plan past v
   pub wakes : WakesAre plan past v
+  pub waiters : WaitersAre plan past v
+  pub strips : StripsAre plan past v
+  pub block_marks : BlockMarksAre plan past v
+  pub intake : IntakeIs plan past v
   pub limits : LimitsAre plan past v
   pub marks : MarksAre plan past v
   pub totals : TotalsAre plan past v
@@ -71,6 +79,10 @@ ties_begin plan valid = record {
   blocks = blocks_begin plan;
   handlers = handlers_begin plan;
   wakes = wakes_begin plan;
+  waiters = waiters_begin plan;
+  strips = strips_begin plan;
+  block_marks = block_marks_begin plan;
+  intake = intake_begin plan;
   limits = limits_begin plan;
   marks = marks_begin plan;
   totals = totals_begin plan valid;
@@ -78,19 +90,19 @@ ties_begin plan valid = record {
 
 pub ties_step : (plan : PlanView) (past : List Event) (e : Event) (v : MachineView) → IsPlan plan → IsLawful plan (e ∷ past) → AllTies plan past v → AllTies plan (e ∷ past) (after plan v e)
 ties_step plan past e v valid lawful t =
-    let blocks = blocks_step plan past e v valid lawful t.parts t.own t.groups t.sources t.blocks in
+    let blocks = blocks_step plan past e v valid lawful t.parts t.own t.groups t.sources t.block_marks t.blocks in
     let workers = workers_step plan past e v lawful t.own t.workers in
     let sources = sources_step plan past e v valid lawful t.parts t.own t.holds t.sources t.timers in
     let parts = parts_step plan v e t.parts in
     let own = own_step plan past e v valid lawful t.own blocks workers in
     let waits = waits_step plan past e v lawful t.parts t.same_plan t.totals.len t.timers.moment t.semas t.waits in
-    let wakes = wakes_step plan past e v valid lawful t.parts t.own t.semas t.groups t.blocks t.waits t.wakes in
+    let wakes = wakes_step plan past e v valid lawful t.parts t.own t.semas t.groups t.blocks t.waits t.waiters t.strips t.wakes in
     record {
       same_plan = t.same_plan;
       parts = parts;
       own = own;
       references = references_step plan past e v valid lawful t.parts.refs t.references;
-      lists = lists_step plan past e v valid lawful t.parts t.own t.groups t.blocks t.sources t.lists;
+      lists = lists_step plan past e v valid lawful t.parts t.own t.groups t.blocks t.sources t.block_marks t.lists;
       tree = tree_step plan past e v valid lawful t.parts t.own t.blocks t.tree;
       holds = holds_step plan past e v valid lawful t.parts t.holds;
       drains = drains_step plan past e v lawful t.parts t.own t.blocks t.drains;
@@ -103,9 +115,13 @@ ties_step plan past e v valid lawful t =
       blocks = blocks;
       handlers = handlers_step plan past e v lawful t.own t.sources t.handlers;
       wakes = wakes;
+      waiters = waiters_step plan past e v valid lawful t.parts t.own t.blocks t.strips t.waiters;
+      strips = strips_step plan past e v valid lawful t.parts t.strips;
+      block_marks = block_marks_step plan past e v valid lawful t.parts t.own t.block_marks;
+      intake = intake_step plan past e v lawful t.intake;
       limits = limits_step plan past e v lawful t.parts t.own parts own t.timers t.waits waits t.wakes wakes t.limits;
-      marks = marks_step plan past e v valid lawful t.parts t.own t.groups t.blocks t.sources sources t.lists t.marks;
-      totals = totals_step plan past e v valid lawful t.parts t.own t.holds t.groups t.blocks t.sources t.totals;
+      marks = marks_step plan past e v valid lawful t.parts t.own t.groups t.blocks t.sources t.block_marks sources t.lists t.marks;
+      totals = totals_step plan past e v valid lawful t.parts t.own t.holds t.groups t.blocks t.sources t.block_marks t.totals;
     }
 
 -- the view after a history

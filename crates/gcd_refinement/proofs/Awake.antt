@@ -1,5 +1,5 @@
 -- A block that is not parked, or may wake, sleeps nowhere; and nobody sleeps at the outset.
-use Rattle.std.proofs.Common.{◌≡◌, ℕ, suc, ◌+◌, ◌==◌, Bool, true, false, cond, List, [], ◌∷◌, ◌++◌, length, map, get_or, Some, None, option_map, refl, ap, sym, ◌∙◌}
+use Rattle.std.proofs.Common.{◌≡◌, ℕ, suc, ◌+◌, ◌==◌, Bool, true, false, ◌||◌, cond, List, [], ◌∷◌, ◌++◌, length, map, get_or, Some, None, option_map, refl, ap, sym, ◌∙◌}
 use Rattle.std.specs.Option.{option_or}
 use Rattle.std.proofs.Math.Seq.{drop-nil}
 use Rattle.std.proofs.lemmas.Bool.{both_ways, false_from_ne_true, or_left, or_right}
@@ -8,17 +8,19 @@ use Rattle.gcd_plan.specs.PlanView.{PlanView}
 use Rattle.gcd_plan.specs.Validity.{IsPlan}
 use Rattle.gcd_plan.specs.declared.numbers.Blk.{Blk}
 use Rattle.gcd_plan.specs.declared.numbers.Run.TheVariants.{Block}
+use Rattle.gcd_plan.specs.declared.reason.Reason.TheVariants.{Block as EndOf}
 use Rattle.gcd_event.specs.declared.event.Event.{Event}
 use Rattle.gcd_history.specs.Semas.{first_value, signal_count}
-use Rattle.gcd_history.specs.Parked.{awaited, is_over, may_wake}
+use Rattle.gcd_history.specs.Parked.{awaited, has_come, has_run_out, is_over, may_wake}
 use Rattle.gcd_history.specs.Permitted.{IsLawful}
 use Rattle.gcd_history.proofs.Woken.{came}
 use Rattle.gcd_lists.specs.ListsView.{list_at, barrier_in, place_from, place_of}
 use Rattle.gcd_sync.specs.WaitsView.{reason_at}
 use Rattle.gcd_refinement.specs.MachineView.{MachineView, machine_of, is_wakeable_at}
-use Rattle.gcd_refinement.specs.Ties.{WaitsAre, WakesAre}
+use Rattle.gcd_refinement.specs.Ties.{WaitsAre, WakesAre, WaitersAre}
 use Rattle.gcd_refinement.proofs.StepSleepers.{blocks_at}
 use Rattle.gcd_refinement.proofs.Among.{among}
+use Rattle.gcd_refinement.proofs.Called.{waiter_parked}
 use Rattle.gcd_refinement.proofs.Asleep.{asleep_parked}
 use Rattle.gcd_plan.proofs.Places.{get_or-replicate_same}
 
@@ -61,6 +63,29 @@ called_from plan past v b valid lawful ties may =
     (false_from_ne_true (among blk (blocks_at v.sleepers k)) (λ h.
     let asleep = asleep_parked plan past blk k valid lawful (ap (among blk) (sym (ties.of_sema k)) ∙ h) in
     both_ways (is_over plan past asleep.why) asleep.waits (came plan past b asleep.why asleep.is (sym (ties.wakeable b) ∙ may)))))
+
+-- ## Who waits for an end
+
+-- a block that is not parked waits for no end
+pub patient_from : (plan : PlanView) (past : List Event) (v : MachineView) (b : ℕ) → IsLawful plan past → WaitsAre plan past v → WaitersAre plan past v → reason_at v.waits b ≡ None → place_of v.waiters b ≡ None
+patient_from plan past v b lawful waits ties none =
+    let blk : Blk = record { 0 = b } in
+    nowhere_in 0 v.waiters.lists b (λ k.
+    not_in blk (list_at v.waiters k)
+    (false_from_ne_true (among blk (map (λ w. w.0) (list_at v.waiters k))) (λ h.
+    let waiting = waiter_parked plan past blk (record { 0 = k }) lawful (ap (among blk) (sym (ties.of_block k)) ∙ h) in
+    none-some (EndOf (record { 0 = k })) (sym (sym (waits.reasons b) ∙ none) ∙ waiting.is))))
+
+-- nor does one that may wake
+pub released_from : (plan : PlanView) (past : List Event) (v : MachineView) (b : ℕ) → IsLawful plan past → WakesAre plan past v → WaitersAre plan past v → is_wakeable_at v b ≡ true → place_of v.waiters b ≡ None
+unfolding has_come has_run_out
+released_from plan past v b lawful wakes ties may =
+    let blk : Blk = record { 0 = b } in
+    nowhere_in 0 v.waiters.lists b (λ k.
+    not_in blk (list_at v.waiters k)
+    (false_from_ne_true (among blk (map (λ w. w.0) (list_at v.waiters k))) (λ h.
+    let waiting = waiter_parked plan past blk (record { 0 = k }) lawful (ap (among blk) (sym (ties.of_block k)) ∙ h) in
+    both_ways (is_over plan past (EndOf (record { 0 = k }))) (ap (λ u. u || false) waiting.goes) (came plan past b (EndOf (record { 0 = k })) waiting.is (sym (wakes.wakeable b) ∙ may)))))
 
 -- ## The outset
 

@@ -19,6 +19,8 @@ use Rattle.gcd_history.specs.Due.{limit, is_at_limit}
 use Rattle.gcd_history.specs.Sources.{is_live_feed}
 use Rattle.gcd_history.specs.Tree.{Aim}
 use Rattle.gcd_history.proofs.SubmittedOnce.{object_fields}
+use Rattle.gcd_plan.specs.declared.numbers.Blk.{Blk}
+use Rattle.gcd_blockobj.specs.MarkRoom.{mark_room}
 use Rattle.gcd_sync.specs.LimitRoom.{limit_room}
 use Rattle.gcd_refinement.specs.MachineView.{idle, undelivered, machine_of, block_at, handler_at, at_worker}
 use Rattle.gcd_refinement.specs.declared.progress.BlockProgress.{BlockProgress}
@@ -70,6 +72,14 @@ parts_begin plan =
       until = refl;
       activations = length-replicate n None;
       cancellations = length-replicate n None;
+      wait_strips = refl;
+      strips = length-map plan.strips (λ s. s.count);
+      strip_blocks = refl;
+      cancelled_blocks = length-replicate (mark_room plan) false;
+      began_blocks = length-replicate (mark_room plan) false;
+      ended_blocks = length-replicate (mark_room plan) false;
+      told = length-replicate (mark_room plan) [];
+      told_blocks = refl;
     }
 
 idle_at : (plan : PlanView) (b : ℕ) → block_at (machine_of plan) b ≡ idle
@@ -85,6 +95,10 @@ own_begin plan valid =
     record {
       sleepers = length-replicate n [];
       sleeper_blocks = refl;
+      waiters = length-replicate (mark_room plan) [];
+      waiter_blocks = refl;
+      appliers = length-replicate (length plan.strips) None;
+      applied_by = λ a b at. absurd (some_none b (sym at ∙ get_or-replicate_same {A = Option Blk} (length plan.strips) a None));
       blocks = length-replicate m idle;
       ended = length-replicate m false;
       wakeable = length-replicate m false;

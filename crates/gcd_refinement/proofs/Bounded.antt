@@ -241,4 +241,5 @@ numbers_small plan past v valid lawful t =
       handler_acts = m.handler_acts;
       running = m.running;
       left = left_small plan past v valid lawful t;
+      accepted = t.intake.few;
     }

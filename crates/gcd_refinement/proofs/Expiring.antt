@@ -2,16 +2,17 @@
 use Rattle.std.proofs.Common.{◌≡◌, ℕ, ◌+◌, ◌-◌, nat_le, Bool, true, false, ◌||◌, cond, List, [], ◌∷◌, ◌++◌, length, Option, Some, None, refl, ap, sym, ◌∙◌, subst, arith, eq-eqb}
 use Rattle.std.specs.List.{slice_get}
 use Rattle.std.specs.Option.{option_map_or}
+use Rattle.std.proofs.lemmas.Bool.{both_ways}
 use Rattle.std.proofs.lemmas.Option.{same_Some, slice_get_within}
 use Rattle.gcd_plan.specs.PlanView.{PlanView}
 use Rattle.gcd_plan.specs.declared.act.Act.{Act}
-use Rattle.gcd_plan.specs.declared.act.Act.TheVariants.{Sync, BarrierSync, GroupWait, GroupWaitFor, Wait, WaitFor}
+use Rattle.gcd_plan.specs.declared.act.Act.TheVariants.{GroupWait, GroupWaitFor, Wait, WaitFor}
 use Rattle.gcd_plan.specs.declared.numbers.Blk.{Blk}
 use Rattle.gcd_plan.specs.declared.numbers.Obj.{Obj}
 use Rattle.gcd_plan.specs.declared.numbers.Run.{Run}
 use Rattle.gcd_plan.specs.declared.numbers.Run.TheVariants.{Block}
 use Rattle.gcd_plan.specs.declared.reason.Reason.{Reason}
-use Rattle.gcd_plan.specs.declared.reason.Reason.TheVariants.{Block as EndOf, Group as Empty, Rank}
+use Rattle.gcd_plan.specs.declared.reason.Reason.TheVariants.{Block as EndOf, Group as Empty, Strip, Rank}
 use Rattle.gcd_event.specs.declared.event.Event.{Event}
 use Rattle.gcd_event.specs.declared.event.Event.TheVariants.{Act as Acted, Wake, Expire}
 use Rattle.gcd_history.specs.Runs.{same_run, opens, act_at, act_of}
@@ -29,10 +30,12 @@ use Rattle.gcd_refinement.proofs.Expiries.{expires_own, not_expired_yet, may_exp
 
 -- ## The act that began a wait
 
--- the position of the act that began the wait; a wait for the end of a block never expires, and has none here
+-- the position of the act that began the wait; a wait for the end of a block, or for the blocks of a strip, never expires, and has
+-- none here
 abbrev pub act_of_wait : PlanView → List Event → Reason → Option ℕ
 act_of_wait plan past (EndOf b) = None
 act_of_wait plan past (Empty g position) = Some position
+act_of_wait plan past (Strip a) = None
 act_of_wait plan past (Rank s k) = slice_get (waits_on plan past s.0) (k - 1)
 
 -- a wait has run out where that act's has expired
@@ -40,12 +43,14 @@ run_out_is : (plan : PlanView) (past : List Event) (r : Reason) → has_run_out 
 unfolding has_run_out
 run_out_is plan past (EndOf b) = refl
 run_out_is plan past (Empty g position) = refl
+run_out_is plan past (Strip a) = refl
 run_out_is plan past (Rank s k) = refl
 
 -- what is given stays the same act's
 begun_kept : (plan : PlanView) (e : Event) (past : List Event) (r : Reason) → IsGiven plan past r → act_of_wait plan (e ∷ past) r ≡ act_of_wait plan past r
 begun_kept plan e past (EndOf b) given = refl
 begun_kept plan e past (Empty g position) given = refl
+begun_kept plan e past (Strip a) given = refl
 begun_kept plan e past (Rank s k) given =
     let long = waits_long plan past s.0 in
     let low = given.0 in
@@ -58,6 +63,7 @@ begun_kept plan e past (Rank s k) given =
 abbrev pub IsActOf : PlanView → List Event → Reason → ℕ → Type 0
 IsActOf plan past (EndOf b) position = Unit {0}
 IsActOf plan past (Empty g p) position = act_of_wait plan past (Empty g p) ≡ Some position
+IsActOf plan past (Strip a) position = Unit {0}
 IsActOf plan past (Rank s k) position = act_of_wait plan past (Rank s k) ≡ Some position
 
 -- the block's last act began its wait
@@ -70,6 +76,7 @@ pub record Begun (plan : PlanView) (past : List Event) (b : Blk) (r : Reason) : 
 act_kept : (plan : PlanView) (e : Event) (past : List Event) (r : Reason) (p : ℕ) → IsActOf plan past r p → IsActOf plan (e ∷ past) r p
 act_kept plan e past (EndOf c) p was = tt
 act_kept plan e past (Empty g position) p was = was
+act_kept plan e past (Strip a) p was = tt
 act_kept plan e past (Rank s k) p was =
     let xs = waits_on plan past s.0 in
     slice_get-append_left xs (cond (waits s.0 (act_of plan e)) (length past ∷ []) []) (k - 1) (slice_get_within xs (k - 1) p was) ∙ was
@@ -95,6 +102,7 @@ act_new plan past w i q (Some (WaitFor s ms)) r at h =
 act_new plan past w i q (Some (GroupWait g)) r at h = subst (λ x. IsActOf plan (Acted w q i ∷ past) x (length past)) (same_Some (Empty g (length past)) r h) refl
 act_new plan past w i q (Some (GroupWaitFor g ms)) r at h = subst (λ x. IsActOf plan (Acted w q i ∷ past) x (length past)) (same_Some (Empty g (length past)) r h) refl
 act_new plan past w i q act (EndOf c) at h = tt
+act_new plan past w i q act (Strip a) at h = tt
 act_new plan past w i q act r at h = cc
 
 begun_on : (plan : PlanView) (e : Event) (past : List Event) (b : Blk) (r : Reason) → last_act (e ∷ past) b.0 ≡ last_act past b.0 → Begun plan past b r → Begun plan (e ∷ past) b r
@@ -125,6 +133,7 @@ begun plan past b r is = begun_by plan past b r (parked_facts plan past b r is).
 pub parked_last : (plan : PlanView) (past : List Event) (b : Blk) (r : Reason) (p : ℕ) → awaited plan past (Block b) ≡ Some r → act_of_wait plan past r ≡ Some p → last_act past b.0 ≡ Some p
 parked_last plan past b (EndOf c) p is at = cc
 parked_last plan past b (Empty g position) p is at = let one = begun plan past b (Empty g position) is in one.last ∙ (sym one.begun ∙ at)
+parked_last plan past b (Strip a) p is at = cc
 parked_last plan past b (Rank s k) p is at = let one = begun plan past b (Rank s k) is in one.last ∙ (sym one.begun ∙ at)
 
 -- ## What an event does to a wait
@@ -155,33 +164,52 @@ run_out_new plan past w i q r h = by_act r (act_new plan past w i q (act_at plan
     by_act : (r : Reason) → IsActOf plan now r (length past) → has_run_out plan now r ≡ false
     by_act (EndOf c) new = run_out_is plan now (EndOf c)
     by_act (Empty g p) new = run_out_is plan now (Empty g p) ∙ unexpired (act_of_wait plan now (Empty g p)) new
+    by_act (Strip a) new = run_out_is plan now (Strip a)
     by_act (Rank s k) new = run_out_is plan now (Rank s k) ∙ unexpired (act_of_wait plan now (Rank s k)) new
 
 -- ## An Expire
 
-call_unlimited : (plan : PlanView) (past : List Event) (act : Option Act) (c : Blk) → awaited_by plan past act ≡ Some (EndOf c) → limit_by plan past act ≡ None
-call_unlimited plan past (Some (Sync q b)) c h = refl
-call_unlimited plan past (Some (BarrierSync q b)) c h = refl
-call_unlimited plan past act c h = cc
+-- a wait for an end, or for the blocks of a strip, never expires
+abbrev is_unlimited : Reason → Bool
+is_unlimited (EndOf c) = true
+is_unlimited (Empty g position) = false
+is_unlimited (Strip a) = true
+is_unlimited (Rank s k) = false
 
--- a wait for an end has no limit
-no_limit : (plan : PlanView) (past : List Event) (b c : Blk) → parked_by plan past (Block b) ≡ Some (EndOf c) → last_limit plan past b.0 ≡ None
-no_limit plan [] b c h = refl
-no_limit plan (Acted w q i ∷ past) b c h =
-    elim (same_run q (Block b)) as (λ v. cond v (awaited_by plan past (act_at plan q i)) (parked_by plan past (Block b)) ≡ Some (EndOf c) → cond v (limit_by plan past (act_at plan q i)) (last_limit plan past b.0) ≡ None) [
-      | true ↦ λ now. call_unlimited plan past (act_at plan q i) c now
-      | false ↦ λ before. no_limit plan past b c before
+act_unlimited : (plan : PlanView) (past : List Event) (act : Option Act) (r : Reason) → is_unlimited r ≡ true → awaited_by plan past act ≡ Some r → limit_by plan past act ≡ None
+act_unlimited plan past (Some (GroupWaitFor g ms)) r never h = absurd (both_ways (is_unlimited r) (ap is_unlimited (sym (same_Some (Empty g (length past)) r h))) never)
+act_unlimited plan past (Some (WaitFor s ms)) r never h = absurd (both_ways (is_unlimited r) (ap is_unlimited (sym (same_Some (Rank s (wait_count plan past s.0 + 1)) r h))) never)
+act_unlimited plan past act r never h = refl
+
+-- so it has no limit
+no_limit : (plan : PlanView) (past : List Event) (b : Blk) (r : Reason) → is_unlimited r ≡ true → parked_by plan past (Block b) ≡ Some r → last_limit plan past b.0 ≡ None
+no_limit plan [] b r never h = refl
+no_limit plan (Acted w q i ∷ past) b r never h =
+    elim (same_run q (Block b)) as (λ v. cond v (awaited_by plan past (act_at plan q i)) (parked_by plan past (Block b)) ≡ Some r → cond v (limit_by plan past (act_at plan q i)) (last_limit plan past b.0) ≡ None) [
+      | true ↦ λ now. act_unlimited plan past (act_at plan q i) r never now
+      | false ↦ λ before. no_limit plan past b r never before
     ] h
-no_limit plan (Wake w d ∷ past) b c h =
-    elim (same_run (Block d) (Block b)) as (λ v. cond v None (parked_by plan past (Block b)) ≡ Some (EndOf c) → last_limit plan past b.0 ≡ None) [
+no_limit plan (Wake w d ∷ past) b r never h =
+    elim (same_run (Block d) (Block b)) as (λ v. cond v None (parked_by plan past (Block b)) ≡ Some r → last_limit plan past b.0 ≡ None) [
       | true ↦ λ now. cc
-      | false ↦ λ before. no_limit plan past b c before
+      | false ↦ λ before. no_limit plan past b r never before
     ] h
-no_limit plan (e ∷ past) b c h =
-    elim (opens e (Block b)) as (λ v. cond v None (parked_by plan past (Block b)) ≡ Some (EndOf c) → last_limit plan past b.0 ≡ None) [
+no_limit plan (e ∷ past) b r never h =
+    elim (opens e (Block b)) as (λ v. cond v None (parked_by plan past (Block b)) ≡ Some r → last_limit plan past b.0 ≡ None) [
       | true ↦ λ now. cc
-      | false ↦ λ before. no_limit plan past b c before
+      | false ↦ λ before. no_limit plan past b r never before
     ] h
+
+no_limit_comes : (plan : PlanView) (past : List Event) (b : Blk) (r : Reason) → is_unlimited r ≡ true → awaited plan past (Block b) ≡ Some r → is_at_limit plan past b.0 ≡ true → ⊥
+unfolding is_at_limit
+no_limit_comes plan past b r never is at_limit =
+    let none : limit plan past b.0 ≡ None = ap (λ o. cond (is_parked plan past b.0) o None) (no_limit plan past b r never (parked_facts plan past b r is).by) ∙ either_same (is_parked plan past b.0) in
+    let never_ever : false ≡ true = sym (ap (λ o. option_map_or (λ end. nat_le end (now past)) o false) none) ∙ at_limit in
+    both_ways false refl never_ever
+  where
+    either_same : (v : Bool) → cond {A = Option ℕ} v None None ≡ None
+    either_same true = refl
+    either_same false = refl
 
 -- the wait that an Expire ends
 pub record ExpiresNow (plan : PlanView) (past : List Event) (b : Blk) : Type 0 where
@@ -193,14 +221,8 @@ pub record ExpiresNow (plan : PlanView) (past : List Event) (b : Blk) : Type 0 w
   pub last : last_act past b.0 ≡ Some position
 
 by_reason : (plan : PlanView) (past : List Event) (b : Blk) (r : Reason) → awaited plan past (Block b) ≡ Some r → is_over plan past r ≡ false → is_at_limit plan past b.0 ≡ true → ExpiresNow plan past b
-unfolding is_at_limit
-by_reason plan past b (EndOf c) is waits at_limit =
-    let none : limit plan past b.0 ≡ None = ap (λ o. cond (is_parked plan past b.0) o None) (no_limit plan past b c (parked_facts plan past b (EndOf c) is).by) ∙ either_same (is_parked plan past b.0) in
-    let never : false ≡ true = sym (ap (λ o. option_map_or (λ end. nat_le end (now past)) o false) none) ∙ at_limit in cc
-  where
-    either_same : (v : Bool) → cond {A = Option ℕ} v None None ≡ None
-    either_same true = refl
-    either_same false = refl
+by_reason plan past b (EndOf c) is waits at_limit = absurd (no_limit_comes plan past b (EndOf c) refl is at_limit)
+by_reason plan past b (Strip a) is waits at_limit = absurd (no_limit_comes plan past b (Strip a) refl is at_limit)
 by_reason plan past b (Empty g p) is waits at_limit =
     let one = begun plan past b (Empty g p) is in record { why = Empty g p; is = is; waits = waits; position = one.position; begun = one.begun; last = one.last }
 by_reason plan past b (Rank s k) is waits at_limit =

@@ -19,7 +19,7 @@ use Rattle.gcd_sync.specs.WaitsView.{reason_at}
 use Rattle.gcd_refinement.specs.MachineView.{MachineView}
 use Rattle.gcd_refinement.specs.Sleepers.{waits_for_group, unexpired_blocks, group_sleepers}
 use Rattle.gcd_refinement.specs.Ties.{WaitsAre}
-use Rattle.gcd_refinement.specs.After.{pushed_on, asleep, asleep_by_handler, bed_of, removed}
+use Rattle.gcd_refinement.specs.AfterSleepers.{pushed_on, asleep, asleep_by_handler, bed_of, removed}
 use Rattle.gcd_refinement.proofs.Expiries.{not_expired_yet}
 use Rattle.gcd_refinement.proofs.GroupSleepers.{sleeper_parked}
 use Rattle.gcd_refinement.proofs.StepSleepers.{blocks_at, pushed_here, pushed_there, popped_there, removed_at, either_same}

@@ -1,10 +1,10 @@
 -- To which queue a notify block goes: only its registration says it.
-use Rattle.std.proofs.Common.{◌≡◌, ℕ, zero, suc, ◌+◌, ◌<◌, ◌==◌, true, false, cond, List, [], ◌∷◌, length, get_or, Option, Some, refl, ap, ◌∙◌, arith}
+use Rattle.std.proofs.Common.{◌≡◌, ℕ, zero, suc, ◌+◌, ◌<◌, ◌==◌, true, false, cond, List, [], ◌∷◌, length, get_or, Option, Some, refl, ap, sym, ◌∙◌, subst}
 use Rattle.std.specs.List.{fold}
 use Rattle.std.proofs.lemmas.List.{length-set}
 use Rattle.gcd_plan.specs.PlanView.{PlanView}
 use Rattle.gcd_plan.specs.declared.act.Act.{Act}
-use Rattle.gcd_plan.specs.declared.act.Act.TheVariants.{Sync, BarrierSync, GroupAsync, Notify}
+use Rattle.gcd_plan.specs.declared.act.Act.TheVariants.{Sync, BarrierSync, GroupAsync, Notify, NotifyBlock}
 use Rattle.gcd_plan.specs.declared.numbers.Blk.{Blk}
 use Rattle.gcd_plan.specs.declared.numbers.Obj.{Obj}
 use Rattle.gcd_plan.specs.declared.numbers.Run.{Run}
@@ -57,22 +57,31 @@ counted_long blocks (Source s) act = refl
 -- the queue of block k after the act
 abbrev pub homed : ℕ → Option Act → Obj → Obj
 homed k (Some (Notify g q c)) h = cond (c.0 == k) q h
+homed k (Some (NotifyBlock b q c)) h = cond (c.0 == k) q h
 homed k _ h = h
 
-arranged_home : (blocks : List BlockProgress) (act : Option Act) (k : ℕ) → ((g q : Obj) (c : Blk) → act ≡ Some (Notify g q c) → c.0 < length blocks) → home_of (arranged blocks act) k ≡ homed k act (home_of blocks k)
+-- the block that the act registers is below n
+pub record Registers (act : Option Act) (n : ℕ) : Type 0 where
+  pub at_group : (g q : Obj) (c : Blk) → act ≡ Some (Notify g q c) → c.0 < n
+  pub at_block : (b : Blk) (q : Obj) (c : Blk) → act ≡ Some (NotifyBlock b q c) → c.0 < n
+
+arranged_home : (blocks : List BlockProgress) (act : Option Act) (k : ℕ) → Registers act (length blocks) → home_of (arranged blocks act) k ≡ homed k act (home_of blocks k)
 arranged_home blocks (Some (GroupAsync g q c)) k low = kept_home blocks c.0 k (λ (x : BlockProgress). record x { group = Some g }) (λ x. refl)
 arranged_home blocks (Some (Notify g q c)) k low =
-    ap (λ (x : BlockProgress). x.home) (entry_set blocks c.0 k (record (get_or blocks c.0 idle) { home = q }) idle (low g q c refl))
+    ap (λ (x : BlockProgress). x.home) (entry_set blocks c.0 k (record (get_or blocks c.0 idle) { home = q }) idle (low.at_group g q c refl))
+    ∙ elim (c.0 == k) as (λ v. (cond v (record (get_or blocks c.0 idle) { home = q }) (get_or blocks k idle)).home ≡ cond v q (home_of blocks k)) [ true ↦ refl | false ↦ refl ]
+arranged_home blocks (Some (NotifyBlock b q c)) k low =
+    ap (λ (x : BlockProgress). x.home) (entry_set blocks c.0 k (record (get_or blocks c.0 idle) { home = q }) idle (low.at_block b q c refl))
     ∙ elim (c.0 == k) as (λ v. (cond v (record (get_or blocks c.0 idle) { home = q }) (get_or blocks k idle)).home ≡ cond v q (home_of blocks k)) [ true ↦ refl | false ↦ refl ]
 arranged_home blocks _ k low = refl
 
-homes_by : (plan : PlanView) (v : MachineView) (e : Event) (k : ℕ) → ((g q : Obj) (c : Blk) → act_of plan e ≡ Some (Notify g q c) → c.0 < length v.blocks) → home_of (blocks_by plan v e) k ≡ homed k (act_of plan e) (home_of v.blocks k)
+homes_by : (plan : PlanView) (v : MachineView) (e : Event) (k : ℕ) → Registers (act_of plan e) (length v.blocks) → home_of (blocks_by plan v e) k ≡ homed k (act_of plan e) (home_of v.blocks k)
 homes_by plan v (Start w b) k low = kept_home v.blocks b.0 k (λ (x : BlockProgress). record x { started = true }) (λ x. refl)
 homes_by plan v (Acted w run i) k low =
-    arranged_home (counted v.blocks run (act_at plan run i)) (act_at plan run i) k (λ g q c at. let l = low g q c at in let n = counted_long v.blocks run (act_at plan run i) in omega (arith, l, n))
+    arranged_home (counted v.blocks run (act_at plan run i)) (act_at plan run i) k (subst (Registers (act_at plan run i)) (sym (counted_long v.blocks run (act_at plan run i))) low)
     ∙ ap (homed k (act_at plan run i)) (counted_home v.blocks run (act_at plan run i) k)
 homes_by plan v e k low = refl
 
-pub homes_after : (plan : PlanView) (v : MachineView) (e : Event) (k : ℕ) → ((g q : Obj) (c : Blk) → act_of plan e ≡ Some (Notify g q c) → c.0 < length v.blocks)
+pub homes_after : (plan : PlanView) (v : MachineView) (e : Event) (k : ℕ) → Registers (act_of plan e) (length v.blocks)
     → home_of (blocks_after plan v e) k ≡ homed k (act_of plan e) (home_of v.blocks k)
 homes_after plan v e k low = noted_home (submits plan v e) (blocks_by plan v e) k ∙ homes_by plan v e k low

@@ -1,5 +1,5 @@
 -- Whom an event takes from the sleepers, their wait is over by it.
-use Rattle.std.proofs.Common.{◌≡◌, ◌⊎◌, inl, inr, ⊎_elim, ℕ, ◌<◌, ◌≤◌, ◌==◌, Bool, true, false, not, cond, List, [], ◌∷◌, ◌++◌, length, map, drop, take, Option, Some, None, refl, ap, sym, ◌∙◌, option_to_list}
+use Rattle.std.proofs.Common.{◌≡◌, ◌⊎◌, inl, inr, ⊎_elim, ℕ, ◌<◌, ◌≤◌, ◌==◌, Bool, true, false, not, cond, List, [], ◌∷◌, ◌++◌, length, map, drop, take, Option, Some, None, refl, ap, sym, ◌∙◌}
 use Rattle.std.proofs.Math.ListN.{get_or-eq_default}
 use Rattle.std.proofs.lemmas.Bool.{cases_eq, cases_lt, cases_Bool, both_ways, eqb-true, or_left, or_cases}
 use Rattle.std.proofs.lemmas.Map.Views.{any-filter_same}
@@ -18,9 +18,9 @@ use Rattle.gcd_lists.specs.ListsView.{ListsView}
 use Rattle.gcd_group.specs.GroupsView.{count_at}
 use Rattle.gcd_sema.specs.SemasView.{has_value_at}
 use Rattle.gcd_sync.specs.WaitsView.{reason_at}
-use Rattle.gcd_refinement.specs.MachineView.{MachineView, block_at}
-use Rattle.gcd_refinement.specs.Submits.{emptied_by, sleepers_at, come_to_run, signalled, come_by}
-use Rattle.gcd_refinement.specs.After.{popped, pushed_on, removed, bed_of, asleep, asleep_by_handler, asleep_after, sleepers_after}
+use Rattle.gcd_refinement.specs.MachineView.{MachineView}
+use Rattle.gcd_refinement.specs.Submits.{emptied_by, sleepers_at, come_to_run, signalled, let_go_by, come_by}
+use Rattle.gcd_refinement.specs.AfterSleepers.{popped, pushed_on, removed, bed_of, asleep, asleep_by_handler, asleep_after, sleepers_after}
 use Rattle.gcd_refinement.proofs.Members.{is_group}
 use Rattle.gcd_refinement.proofs.StepSleepers.{blocks_at, pushed_here, pushed_there, popped_here, popped_there, removed_here, removed_there, woken_at}
 use Rattle.gcd_refinement.proofs.Among.{among, itself}
@@ -109,7 +109,7 @@ signalled_in plan w run i v b h =
     (any_right (λ k. k.0 == b.0) (come_to_run v run (act_at plan run i)) (signalled v (act_at plan run i)) h)
 
 emptied_in : (plan : PlanView) (e : Event) (v : MachineView) (b : Blk) → among b (sleepers_at v (emptied_by plan v e)) ≡ true → among b (come_by plan v e) ≡ true
-emptied_in plan (End w c) v b h = any_right (λ k. k.0 == b.0) (option_to_list (block_at v c.0).caller) (sleepers_at v (emptied_by plan v (End w c))) h
+emptied_in plan (End w c) v b h = any_right (λ k. k.0 == b.0) (let_go_by v c) (sleepers_at v (emptied_by plan v (End w c))) h
 emptied_in plan (Acted w run i) v b h = any_right (λ k. k.0 == b.0) (come_to_run v run (act_at plan run i) ++ signalled v (act_at plan run i)) (sleepers_at v (emptied_by plan v (Acted w run i))) h
 emptied_in plan e v b h = cc
 

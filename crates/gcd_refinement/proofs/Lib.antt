@@ -1,5 +1,6 @@
 pub mod Writes
 pub mod LimitRoom
+pub mod MarkRoom
 pub mod Proper
 pub mod StepReferences
 pub mod StepHolds
@@ -18,6 +19,9 @@ pub mod StepTargets
 pub mod StepDrains
 pub mod GroupMoves
 pub mod Homes
+pub mod StepCaller
+pub mod Registered
+pub mod Unregistered
 pub mod StepTold
 pub mod DueTimes
 pub mod StepSources
@@ -49,10 +53,15 @@ pub mod StepSleepers
 pub mod GroupAsleep
 pub mod LetGo
 pub mod StepAsleep
+pub mod StripBlocks
+pub mod StepStrips
+pub mod StripSleepers
+pub mod StepWaiters
+pub mod StepBlockMarks
+pub mod StepIntake
 pub mod StepWakeable
 pub mod StepWakes
 pub mod StepLimits
-pub mod StepCaller
 pub mod Awake
 pub mod AllTies
 pub mod PlacesAre

@@ -12,7 +12,7 @@ use Rattle.gcd_event.specs.declared.event.Event.{Event}
 use Rattle.gcd_history.specs.declared.submission.Submission.{Submission}
 use Rattle.gcd_history.specs.Runs.{act_of, is_ended}
 use Rattle.gcd_history.specs.Groups.{member_of}
-use Rattle.gcd_history.specs.Submitted.{submitted, submission_of, new_submissions, submitted_by, at_cancel, at_empty, cancels}
+use Rattle.gcd_history.specs.Submitted.{submitted, submission_of, new_submissions, submitted_by, accepted_by, at_cancel, at_end, at_empty, cancels}
 use Rattle.gcd_history.specs.Permitted.{IsLawful}
 use Rattle.gcd_history.proofs.Lists.{find_from_any, any_from_find, any_left, any_right}
 use Rattle.gcd_plan.proofs.Sums.{count_by-cons, count_by-append, count_by_some}
@@ -35,15 +35,24 @@ is_of : ℕ → Submission → Bool
 is_of b s = s.blk.0 == b
 
 -- what a grouping act submits
-grouped_any : (b : ℕ) (act : Option Act) → is_some (grouped b act) ≡ true → list_any (λ s. s.blk.0 == b) (submitted_by act) ≡ true
-grouped_any b (Some (GroupAsync g q c)) h =
+grouped_any : (plan : PlanView) (b : ℕ) (act : Option Act) → is_some (grouped b act) ≡ true → list_any (λ s. s.blk.0 == b) (submitted_by plan act) ≡ true
+grouped_any plan b (Some (GroupAsync g q c)) h =
     elim (c.0 == b) as (λ v. is_some (cond v (Some g) None) ≡ true → (v || false) ≡ true) [ true ↦ λ k. refl | false ↦ λ k. cc ] h
-grouped_any b _ h = cc
+grouped_any plan b _ h = cc
+
+-- what the act itself submits is among what its event does
+pub own_any : (plan : PlanView) (past : List Event) (e : Event) (p : Submission → Bool) → list_any p (submitted_by plan (act_of plan e)) ≡ true → list_any p (new_submissions plan past e) ≡ true
+own_any plan past e p h =
+    let own = submitted_by plan (act_of plan e) in
+    let one = own ++ accepted_by plan e in
+    let two = one ++ at_cancel plan past (cancels plan e) in
+    let three = two ++ flat_map (at_end plan past e) (range_with_len 0 (length plan.blocks)) in
+    any_left p three (flat_map (at_empty plan past e) (range_with_len 0 (length plan.objects)))
+    (any_left p two (flat_map (at_end plan past e) (range_with_len 0 (length plan.blocks)))
+    (any_left p one (at_cancel plan past (cancels plan e)) (any_left p own (accepted_by plan e) h)))
 
 submits_any : (plan : PlanView) (past : List Event) (e : Event) (b : ℕ) → is_some (grouped b (act_of plan e)) ≡ true → list_any (λ s. s.blk.0 == b) (new_submissions plan past e) ≡ true
-submits_any plan past e b h =
-    any_left (λ s. s.blk.0 == b) (submitted_by (act_of plan e) ++ at_cancel plan past (cancels plan e)) (flat_map (at_empty plan past e) (range_with_len 0 (length plan.objects)))
-    (any_left (λ s. s.blk.0 == b) (submitted_by (act_of plan e)) (at_cancel plan past (cancels plan e)) (grouped_any b (act_of plan e) h))
+submits_any plan past e b h = own_any plan past e (λ s. s.blk.0 == b) (grouped_any plan b (act_of plan e) h)
 
 -- a member is submitted
 pub member_submitted : (plan : PlanView) (past : List Event) (b : ℕ) → is_some (group_of plan past b) ≡ true → is_some (submission_of plan past b) ≡ true

@@ -4,7 +4,7 @@ use Rattle.std.specs.List.{count_by, cons_option, filter_map}
 use Rattle.std.proofs.lemmas.Bool.{eqb-true, both_ways, false_from_ne_true, and_parts}
 use Rattle.gcd_plan.specs.PlanView.{PlanView}
 use Rattle.gcd_plan.specs.Kinds.{has_kind, is_group_kind, is_queue}
-use Rattle.gcd_plan.specs.Validity.{IsPlan, is_act, is_submittable}
+use Rattle.gcd_plan.specs.Validity.{IsPlan, is_act, is_declared}
 use Rattle.gcd_plan.specs.declared.act.Act.{Act}
 use Rattle.gcd_plan.specs.declared.act.Act.TheVariants.{GroupAsync, Enter}
 use Rattle.gcd_event.specs.declared.event.Event.{Event}
@@ -18,7 +18,7 @@ no_member plan g (Some (GroupAsync h q b)) fits none =
     ap (λ v. cond v (Some b.0) None)
     (false_from_ne_true (h.0 == g) (λ same.
     both_ways (has_kind is_group_kind plan g) none
-    (subst (λ n. has_kind is_group_kind plan n ≡ true) (eqb-true h.0 g same) (and_parts (has_kind is_group_kind plan h.0) (is_queue plan q.0 && is_submittable plan b) (fits (GroupAsync h q b) refl)).0)))
+    (subst (λ n. has_kind is_group_kind plan n ≡ true) (eqb-true h.0 g same) (and_parts (has_kind is_group_kind plan h.0) (is_queue plan q.0 && is_declared plan b) (fits (GroupAsync h q b) refl)).0)))
 no_member plan g _ fits none = refl
 
 no_enter : (plan : PlanView) (g : ℕ) (act : Option Act) → ((a : Act) → act ≡ Some a → is_act plan a ≡ true) → has_kind is_group_kind plan g ≡ false → enters g act ≡ false

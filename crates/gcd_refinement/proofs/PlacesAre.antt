@@ -12,7 +12,7 @@ use Rattle.gcd_plan.specs.declared.numbers.Obj.{Obj}
 use Rattle.gcd_event.specs.declared.event.Event.{Event}
 use Rattle.gcd_history.specs.declared.submission.Submission.{Submission}
 use Rattle.gcd_history.specs.Runs.{is_started}
-use Rattle.gcd_history.specs.Submitted.{submitted, submission_of, notify_blocks}
+use Rattle.gcd_history.specs.Submitted.{submitted, submission_of, notify_blocks, end_notify_blocks}
 use Rattle.gcd_history.specs.Permitted.{IsLawful, waits_on}
 use Rattle.gcd_history.proofs.Lists.{any_from_find}
 use Rattle.gcd_plan.proofs.Sums.{count_by-cons, count_by_some}
@@ -23,8 +23,9 @@ use Rattle.gcd_lists.proofs.Places.{place_of_is, place_of_none}
 use Rattle.gcd_refinement.specs.MachineView.{MachineView}
 use Rattle.gcd_refinement.specs.Shape.{PartsFit}
 use Rattle.gcd_refinement.specs.Bounds.{place_in, PlacesAre}
-use Rattle.gcd_refinement.specs.Ties.{ListsAre, GroupsAre, WaitsAre, WakesAre, waiter, notify_submission}
-use Rattle.gcd_refinement.proofs.Awake.{awake_from, called_from}
+use Rattle.gcd_refinement.specs.Ties.{ListsAre, GroupsAre, WaitsAre, WakesAre, WaitersAre, BlockMarksAre, waiter, notify_submission}
+use Rattle.gcd_refinement.proofs.Awake.{awake_from, called_from, patient_from, released_from}
+use Rattle.gcd_refinement.proofs.MarkRoom.{room_low}
 
 -- ## A submitted block waits in no notify list
 
@@ -55,6 +56,23 @@ unregistered_from plan past v b valid lawful fit groups some =
     let long = fit.notify in
     ap (barrier_in b) (get_or-eq_default v.groups.notify.lists [] (omega (arith, high, long))))
     (cases_lt k (length plan.objects)))
+
+pub untold_from : (plan : PlanView) (past : List Event) (v : MachineView) (b : ℕ) → IsPlan plan → IsLawful plan past → PartsFit plan v → BlockMarksAre plan past v → is_some (submission_of plan past b) ≡ true
+    → place_of v.marks.notify b ≡ None
+untold_from plan past v b valid lawful fit marks some =
+    let once = kept_once plan past valid lawful b in
+    let one = count_by_some (is_of b) (submitted plan past) (any_from_find (is_of b) (submitted plan past) some) in
+    place_of_none v.marks.notify b (λ k.
+    ⊎_elim
+    (λ (low : k < length plan.blocks).
+    let term = term_within (λ c. count_by (is_of b) (end_notify_blocks plan past c)) (length plan.blocks) k low in
+    let same = ap (count_by (is_of b)) (marks.notify k) in
+    uncounted v b (list_at v.marks.notify k) (omega (arith, once, one, term, same)))
+    (λ (high : length plan.blocks ≤ k).
+    let long = fit.told in
+    let room = room_low plan in
+    ap (barrier_in b) (get_or-eq_default v.marks.notify.lists [] (omega (arith, high, long, room))))
+    (cases_lt k (length plan.blocks)))
 
 -- ## Where a submitted block waits
 
@@ -162,10 +180,14 @@ waiting_from plan past v b valid lawful lists =
 
 -- ## All places
 
-pub places_are : (plan : PlanView) (past : List Event) (v : MachineView) → IsPlan plan → IsLawful plan past → PartsFit plan v → ListsAre plan past v → GroupsAre plan past v → WaitsAre plan past v → WakesAre plan past v → PlacesAre plan past v
-places_are plan past v valid lawful fit lists groups waits wakes = record {
+pub places_are : (plan : PlanView) (past : List Event) (v : MachineView) → IsPlan plan → IsLawful plan past → PartsFit plan v → ListsAre plan past v → GroupsAre plan past v → WaitsAre plan past v → WakesAre plan past v → WaitersAre plan past v → BlockMarksAre plan past v
+    → PlacesAre plan past v
+places_are plan past v valid lawful fit lists groups waits wakes waiters marks = record {
   waiting = λ b. waiting_from plan past v b valid lawful lists;
   awake = λ b none. awake_from plan past v b valid lawful waits wakes none;
   called = λ b may. called_from plan past v b valid lawful wakes may;
   unregistered = λ b some. unregistered_from plan past v b valid lawful fit groups some;
+  patient = λ b none. patient_from plan past v b lawful waits waiters none;
+  released = λ b may. released_from plan past v b lawful wakes waiters may;
+  untold = λ b some. untold_from plan past v b valid lawful fit marks some;
 }

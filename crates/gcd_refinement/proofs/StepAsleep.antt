@@ -33,7 +33,7 @@ use Rattle.gcd_refinement.specs.Shape.{PartsFit, OwnFit}
 use Rattle.gcd_refinement.specs.Sleepers.{waits_for_group, wait_if, unexpired_blocks, sema_waits, sema_sleepers, group_waits, group_sleepers}
 use Rattle.gcd_refinement.specs.Ties.{GroupsAre, SemasAre, WaitsAre, BlocksAre, WakesAre}
 use Rattle.gcd_refinement.specs.Submits.{emptied_by}
-use Rattle.gcd_refinement.specs.After.{bed_of, asleep_after, sleepers_after}
+use Rattle.gcd_refinement.specs.AfterSleepers.{bed_of, asleep_after, sleepers_after}
 use Rattle.gcd_refinement.proofs.Members.{is_group}
 use Rattle.gcd_refinement.proofs.StepGroups.{adds}
 use Rattle.gcd_refinement.proofs.Waiters.{all_counted, sema_sleeper_parked}

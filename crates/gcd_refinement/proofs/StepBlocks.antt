@@ -1,5 +1,5 @@
 -- What each block has come to after an event.
-use Rattle.std.proofs.Common.{◌≡◌, ℕ, zero, suc, ◌+◌, ◌<◌, ◌≤◌, ◌==◌, ltb, true, false, ◌||◌, cond, List, [], ◌∷◌, length, get_or, find, Option, Some, None, refl, ap, sym, ◌∙◌, subst, arith, ⊎_elim, eq-eqb, ne_eqb, option_map}
+use Rattle.std.proofs.Common.{◌≡◌, ℕ, zero, suc, ◌+◌, ◌<◌, ◌≤◌, ◌==◌, true, false, ◌||◌, cond, List, [], ◌∷◌, length, get_or, find, Option, Some, None, refl, ap, sym, ◌∙◌, subst, arith, ⊎_elim, eq-eqb, ne_eqb, option_map}
 use Rattle.std.specs.List.{fold, count_by, slice_get}
 use Rattle.std.specs.Option.{option_map_or, option_and_then, option_or}
 use Rattle.std.proofs.lemmas.Bool.{cases_eq, cases_lt, and_parts, ltb-true}
@@ -8,9 +8,9 @@ use Rattle.std.proofs.lemmas.List.Folds.{find-append}
 use Rattle.std.proofs.lemmas.Option.{slice_get_within, same_Some}
 use Rattle.gcd_plan.specs.PlanView.{PlanView, BlkView}
 use Rattle.gcd_plan.specs.Kinds.{has_kind, is_group_kind, is_queue}
-use Rattle.gcd_plan.specs.Validity.{IsPlan, is_submittable, is_act, block_of}
+use Rattle.gcd_plan.specs.Validity.{IsPlan, is_declared, is_act, block_of}
 use Rattle.gcd_plan.specs.declared.act.Act.{Act}
-use Rattle.gcd_plan.specs.declared.act.Act.TheVariants.{Async, Barrier, Sync, BarrierSync, GroupAsync, Notify}
+use Rattle.gcd_plan.specs.declared.act.Act.TheVariants.{Async, Barrier, Sync, BarrierSync, GroupAsync, Notify, NotifyBlock}
 use Rattle.gcd_plan.specs.declared.numbers.Blk.{Blk}
 use Rattle.gcd_plan.specs.declared.numbers.Obj.{Obj}
 use Rattle.gcd_plan.specs.declared.numbers.Run.{Run}
@@ -31,11 +31,12 @@ use Rattle.gcd_refinement.specs.MachineView.{MachineView, idle, block_at, ended_
 use Rattle.gcd_refinement.specs.declared.progress.BlockProgress.{BlockProgress}
 use Rattle.gcd_refinement.specs.Shape.{PartsFit, OwnFit}
 use Rattle.gcd_refinement.specs.Sleepers.{grouped, group_of, called_by, caller_of}
-use Rattle.gcd_refinement.specs.Ties.{GroupsAre, BlocksAre, SourcesAre}
+use Rattle.gcd_refinement.specs.Ties.{GroupsAre, BlocksAre, SourcesAre, BlockMarksAre}
 use Rattle.gcd_refinement.specs.Submits.{submits}
 use Rattle.gcd_refinement.specs.After.{with_block, noted, arranged, called, counted, blocks_by, ended_after, after}
 use Rattle.gcd_refinement.proofs.Writes.{entry_set}
 use Rattle.gcd_refinement.proofs.Homes.{counted_long}
+use Rattle.gcd_refinement.proofs.StepCaller.{declared_within}
 use Rattle.gcd_refinement.proofs.StepSubmits.{submits_are}
 use Rattle.gcd_refinement.proofs.StepWaits.{known_block}
 
@@ -62,6 +63,7 @@ keeps f b k change x same = elim (b == k) as (λ u. f (cond u (change x) x) ≡ 
 abbrev arrange : ℕ → Option Act → BlockProgress → BlockProgress
 arrange k (Some (GroupAsync g q c)) x = on_block c.0 k (λ y. record y { group = Some g }) x
 arrange k (Some (Notify g q c)) x = on_block c.0 k (λ y. record y { home = q }) x
+arrange k (Some (NotifyBlock b q c)) x = on_block c.0 k (λ y. record y { home = q }) x
 arrange k _ x = x
 
 abbrev call : ℕ → Blk → Option Act → BlockProgress → BlockProgress
@@ -85,11 +87,13 @@ Names act n = (a : Act) (c : Blk) → act ≡ Some a → block_of a ≡ Some c �
 arranged_long : (blocks : List BlockProgress) (act : Option Act) → length (arranged blocks act) ≡ length blocks
 arranged_long blocks (Some (GroupAsync g q c)) = length-set blocks c.0 (record (get_or blocks c.0 idle) { group = Some g })
 arranged_long blocks (Some (Notify g q c)) = length-set blocks c.0 (record (get_or blocks c.0 idle) { home = q })
+arranged_long blocks (Some (NotifyBlock b q c)) = length-set blocks c.0 (record (get_or blocks c.0 idle) { home = q })
 arranged_long blocks _ = refl
 
 arranged_is : (blocks : List BlockProgress) (act : Option Act) (k : ℕ) → Names act (length blocks) → get_or (arranged blocks act) k idle ≡ arrange k act (get_or blocks k idle)
 arranged_is blocks (Some (GroupAsync g q c)) k low = written blocks c.0 k (λ (y : BlockProgress). record y { group = Some g }) (low (GroupAsync g q c) c refl refl)
 arranged_is blocks (Some (Notify g q c)) k low = written blocks c.0 k (λ (y : BlockProgress). record y { home = q }) (low (Notify g q c) c refl refl)
+arranged_is blocks (Some (NotifyBlock b q c)) k low = written blocks c.0 k (λ (y : BlockProgress). record y { home = q }) (low (NotifyBlock b q c) c refl refl)
 arranged_is blocks _ k low = refl
 
 called_is : (blocks : List BlockProgress) (b : Blk) (act : Option Act) (k : ℕ) → Names act (length blocks) → get_or (called blocks b act) k idle ≡ call k b act (get_or blocks k idle)
@@ -104,8 +108,8 @@ counted_is blocks (Block b) act k own low =
     ∙ ap (call k b act) (written blocks b.0 k (λ (y : BlockProgress). record y { done = y.done + 1 }) (own b refl))
 counted_is blocks (Source s) act k own low = refl
 
-low_of : (plan : PlanView) (b c : Blk) → is_submittable plan b ≡ true → Some b ≡ Some c → c.0 < length plan.blocks
-low_of plan b c fits of = subst (λ k. k.0 < length plan.blocks) (same_Some b c of) (ltb-true b.0 (length plan.blocks) (and_parts (ltb 0 b.0) _ fits).1)
+low_of : (plan : PlanView) (b c : Blk) → is_declared plan b ≡ true → Some b ≡ Some c → c.0 < length plan.blocks
+low_of plan b c fits of = subst (λ k. k.0 < length plan.blocks) (same_Some b c of) (declared_within plan b fits)
 
 named_low : (plan : PlanView) (a : Act) (c : Blk) → is_act plan a ≡ true → block_of a ≡ Some c → c.0 < length plan.blocks
 named_low plan (Async q b) c fits of = low_of plan b c (and_parts (is_queue plan q.0) _ fits).1 of
@@ -114,6 +118,7 @@ named_low plan (Sync q b) c fits of = low_of plan b c (and_parts (is_queue plan 
 named_low plan (BarrierSync q b) c fits of = low_of plan b c (and_parts (is_queue plan q.0) _ fits).1 of
 named_low plan (GroupAsync g q b) c fits of = low_of plan b c (and_parts (is_queue plan q.0) _ (and_parts (has_kind is_group_kind plan g.0) _ fits).1).1 of
 named_low plan (Notify g q b) c fits of = low_of plan b c (and_parts (is_queue plan q.0) _ (and_parts (has_kind is_group_kind plan g.0) _ fits).1).1 of
+named_low plan (NotifyBlock b q d) c fits of = low_of plan d c (and_parts (is_queue plan q.0) _ (and_parts (is_declared plan b) _ fits).1).1 of
 named_low plan a c fits of = cc
 
 block_by : (plan : PlanView) (past : List Event) (e : Event) (v : MachineView) (k : ℕ) → IsPlan plan → IsLawful plan (e ∷ past) → OwnFit plan v → get_or (blocks_by plan v e) k idle ≡ by_event plan e k (block_at v k)
@@ -181,6 +186,7 @@ arrange_keeps : {X : Type 0} (f : BlockProgress → X) → ((y : BlockProgress) 
     → f (arrange k act x) ≡ f x
 arrange_keeps f group home k (Some (GroupAsync g q c)) x = keeps f c.0 k (λ (y : BlockProgress). record y { group = Some g }) x (λ y. group y g)
 arrange_keeps f group home k (Some (Notify g q c)) x = keeps f c.0 k (λ (y : BlockProgress). record y { home = q }) x (λ y. home y q)
+arrange_keeps f group home k (Some (NotifyBlock b q c)) x = keeps f c.0 k (λ (y : BlockProgress). record y { home = q }) x (λ y. home y q)
 arrange_keeps f group home k _ x = refl
 
 call_keeps : {X : Type 0} (f : BlockProgress → X) → ((y : BlockProgress) (b : Blk) → f (record y { caller = Some b }) ≡ f y) → (k : ℕ) (b : Blk) (act : Option Act) (x : BlockProgress) → f (call k b act x) ≡ f x
@@ -225,6 +231,7 @@ done_by plan past e k x lawful tie = tie
 arrange_group : (k : ℕ) (act : Option Act) (x : BlockProgress) → (arrange k act x).group ≡ option_or (grouped k act) x.group
 arrange_group k (Some (GroupAsync g q c)) x = elim (c.0 == k) as (λ u. (cond u (record x { group = Some g }) x).group ≡ option_or (cond u (Some g) None) x.group) [ true ↦ refl | false ↦ refl ]
 arrange_group k (Some (Notify g q c)) x = keeps (λ (y : BlockProgress). y.group) c.0 k (λ (y : BlockProgress). record y { home = q }) x (λ y. refl)
+arrange_group k (Some (NotifyBlock b q c)) x = keeps (λ (y : BlockProgress). y.group) c.0 k (λ (y : BlockProgress). record y { home = q }) x (λ y. refl)
 arrange_group k _ x = refl
 
 group_by : (plan : PlanView) (past : List Event) (e : Event) (k : ℕ) (x : BlockProgress) → x.group ≡ group_of plan past k → (by_event plan e k x).group ≡ group_of plan (e ∷ past) k
@@ -326,10 +333,10 @@ ended_step plan past (End w c) v b lawful own tie =
     ∙ elim (c.0 == b) as (λ u. cond u true (ended_at v b) ≡ (u || is_ended past b)) [ true ↦ refl | false ↦ tie ]
 ended_step plan past e v b lawful own tie = tie
 
-pub blocks_step : (plan : PlanView) (past : List Event) (e : Event) (v : MachineView) → IsPlan plan → IsLawful plan (e ∷ past) → PartsFit plan v → OwnFit plan v → GroupsAre plan past v → SourcesAre plan past v → BlocksAre plan past v
+pub blocks_step : (plan : PlanView) (past : List Event) (e : Event) (v : MachineView) → IsPlan plan → IsLawful plan (e ∷ past) → PartsFit plan v → OwnFit plan v → GroupsAre plan past v → SourcesAre plan past v → BlockMarksAre plan past v → BlocksAre plan past v
     → BlocksAre plan (e ∷ past) (after plan v e)
-blocks_step plan past e v valid lawful fit own groups sources ties =
-    let same = submits_are plan past e v valid lawful fit own groups ties sources in
+blocks_step plan past e v valid lawful fit own groups sources marks ties =
+    let same = submits_are plan past e v valid lawful fit own groups ties sources marks in
     let by : (b : ℕ) → get_or (blocks_by plan v e) b idle ≡ by_event plan e b (block_at v b) = λ b. block_by plan past e v b valid lawful own in
     record {
       node = λ b.

@@ -1,5 +1,5 @@
 -- Who waits for the end of each block after an event.
-use Rattle.std.proofs.Common.{◌≡◌, ⊎_elim, ℕ, ◌+◌, ◌<◌, ◌≤◌, ◌==◌, nat_lt, Bool, true, false, cond, List, [], ◌∷◌, length, set, get_or, Option, Some, None, refl, ap, sym, ◌∙◌, subst, arith, eq-eqb, ne_eqb}
+use Rattle.std.proofs.Common.{◌≡◌, ⊎_elim, ℕ, ◌+◌, ◌<◌, ◌≤◌, ◌==◌, nat_lt, Bool, true, false, not, cond, List, [], ◌∷◌, length, set, get_or, Option, Some, None, refl, ap, sym, ◌∙◌, subst, arith, eq-eqb, ne_eqb}
 use Rattle.std.specs.List.{fold, slice_index_or}
 use Rattle.std.specs.Option.{option_or}
 use Rattle.std.proofs.Math.ListN.{get_or-eq_default}
@@ -7,9 +7,10 @@ use Rattle.std.proofs.lemmas.Bool.{cases_eq, cases_lt, and_parts, ltb-true}
 use Rattle.std.proofs.lemmas.List.{length-set, get_or-set_same, get_or-set_other}
 use Rattle.gcd_plan.specs.PlanView.{PlanView}
 use Rattle.gcd_plan.specs.Kinds.{is_queue}
-use Rattle.gcd_plan.specs.Validity.{IsPlan, is_act, is_submittable}
+use Rattle.gcd_plan.specs.Made.{is_made}
+use Rattle.gcd_plan.specs.Validity.{IsPlan, is_act, is_declared}
 use Rattle.gcd_plan.specs.declared.act.Act.{Act}
-use Rattle.gcd_plan.specs.declared.act.Act.TheVariants.{Sync, BarrierSync, GroupAsync, Notify}
+use Rattle.gcd_plan.specs.declared.act.Act.TheVariants.{Sync, BarrierSync, GroupAsync, Notify, NotifyBlock}
 use Rattle.gcd_plan.specs.declared.numbers.Blk.{Blk}
 use Rattle.gcd_plan.specs.declared.numbers.Run.TheVariants.{Block, Source}
 use Rattle.gcd_event.specs.declared.event.Event.{Event}
@@ -69,11 +70,13 @@ noted_keep blocks (s ∷ subs) b =
 arranged_keep : (blocks : List BlockProgress) (act : Option Act) (b : ℕ) → caller_at (arranged blocks act) b ≡ caller_at blocks b
 arranged_keep blocks (Some (GroupAsync g q c)) b = write_keeps (λ x. x.caller) blocks c.0 b (λ x. record x { group = Some g }) (λ x. refl)
 arranged_keep blocks (Some (Notify g q c)) b = write_keeps (λ x. x.caller) blocks c.0 b (λ x. record x { home = q }) (λ x. refl)
+arranged_keep blocks (Some (NotifyBlock d q c)) b = write_keeps (λ x. x.caller) blocks c.0 b (λ x. record x { home = q }) (λ x. refl)
 arranged_keep blocks _ b = refl
 
 -- the block that is called is of the plan
-pub submittable_within : (plan : PlanView) (c : Blk) → is_submittable plan c ≡ true → c.0 < length plan.blocks
-submittable_within plan c h = ltb-true c.0 (length plan.blocks) (and_parts (nat_lt 0 c.0) (nat_lt c.0 (length plan.blocks)) h).1
+pub declared_within : (plan : PlanView) (c : Blk) → is_declared plan c ≡ true → c.0 < length plan.blocks
+declared_within plan c h =
+    ltb-true c.0 (length plan.blocks) (and_parts (nat_lt c.0 (length plan.blocks)) (not (is_made plan c.0)) (and_parts (nat_lt 0 c.0) _ h).1).0
 
 or_cond : (t : Bool) (d : Blk) (o : Option Blk) → cond t (Some d) o ≡ option_or (cond t (Some d) None) o
 or_cond true d o = refl
@@ -82,10 +85,10 @@ or_cond false d o = refl
 called_at : (plan : PlanView) (blocks : List BlockProgress) (d : Blk) (act : Option Act) (c : ℕ) → length blocks ≡ length plan.blocks → ((a : Act) → act ≡ Some a → is_act plan a ≡ true)
     → caller_at (called blocks d act) c ≡ option_or (called_by c d act) (caller_at blocks c)
 called_at plan blocks d (Some (Sync q k)) c long fits =
-    let low = submittable_within plan k (and_parts (is_queue plan q.0) (is_submittable plan k) (fits (Sync q k) refl)).1 in
+    let low = declared_within plan k (and_parts (is_queue plan q.0) (is_declared plan k) (fits (Sync q k) refl)).1 in
     write_sets (λ x. x.caller) blocks k.0 c (λ x. record x { caller = Some d }) (Some d) (omega (arith, low, long)) (λ x. refl) ∙ or_cond (k.0 == c) d (caller_at blocks c)
 called_at plan blocks d (Some (BarrierSync q k)) c long fits =
-    let low = submittable_within plan k (and_parts (is_queue plan q.0) (is_submittable plan k) (fits (BarrierSync q k) refl)).1 in
+    let low = declared_within plan k (and_parts (is_queue plan q.0) (is_declared plan k) (fits (BarrierSync q k) refl)).1 in
     write_sets (λ x. x.caller) blocks k.0 c (λ x. record x { caller = Some d }) (Some d) (omega (arith, low, long)) (λ x. refl) ∙ or_cond (k.0 == c) d (caller_at blocks c)
 called_at plan blocks d _ c long fits = refl
 

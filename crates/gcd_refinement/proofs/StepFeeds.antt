@@ -14,7 +14,7 @@ use Rattle.gcd_history.specs.Permitted.{IsLawful}
 use Rattle.gcd_history.proofs.Reasons.{allowed}
 use Rattle.gcd_refinement.specs.MachineView.{MachineView, live_at}
 use Rattle.gcd_refinement.specs.Shape.{PartsFit, OwnFit}
-use Rattle.gcd_refinement.specs.Ties.{HoldsAre, GroupsAre, SourcesAre, BlocksAre, TotalsAre}
+use Rattle.gcd_refinement.specs.Ties.{HoldsAre, GroupsAre, SourcesAre, BlockMarksAre, BlocksAre, TotalsAre}
 use Rattle.gcd_refinement.specs.Submits.{activated_by, newly_cancelled}
 use Rattle.gcd_refinement.specs.After.{after}
 use Rattle.gcd_refinement.specs.AfterTotals.{live_begun, live_ended, live_after, is_misuse, is_halt}
@@ -125,11 +125,11 @@ live_step plan past e v valid lawful fit own holds sources tie s =
 
 -- ## The step
 
-pub totals_step : (plan : PlanView) (past : List Event) (e : Event) (v : MachineView) → IsPlan plan → IsLawful plan (e ∷ past) → PartsFit plan v → OwnFit plan v → HoldsAre plan past v → GroupsAre plan past v → BlocksAre plan past v → SourcesAre plan past v
+pub totals_step : (plan : PlanView) (past : List Event) (e : Event) (v : MachineView) → IsPlan plan → IsLawful plan (e ∷ past) → PartsFit plan v → OwnFit plan v → HoldsAre plan past v → GroupsAre plan past v → BlocksAre plan past v → SourcesAre plan past v → BlockMarksAre plan past v
     → TotalsAre plan past v → TotalsAre plan (e ∷ past) (after plan v e)
-totals_step plan past e v valid lawful fit own holds groups blocks sources ties =
+totals_step plan past e v valid lawful fit own holds groups blocks sources block_marks ties =
     let goes_on = (allowed plan past e lawful.1).goes_on in
-    let same = submits_are plan past e v valid lawful fit own groups blocks sources in
+    let same = submits_are plan past e v valid lawful fit own groups blocks sources block_marks in
     let len = ties.len in
     record {
       running = running_step plan past e v lawful ties.running;

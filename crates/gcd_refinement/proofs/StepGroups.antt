@@ -5,7 +5,7 @@ use Rattle.std.proofs.lemmas.Bool.{cases_eq, and_parts, both_ways}
 use Rattle.std.proofs.lemmas.List.Sums.{length-filter}
 use Rattle.gcd_plan.specs.PlanView.{PlanView}
 use Rattle.gcd_plan.specs.Kinds.{has_kind, is_group_kind, is_queue}
-use Rattle.gcd_plan.specs.Validity.{IsPlan, is_submittable}
+use Rattle.gcd_plan.specs.Validity.{IsPlan, is_declared}
 use Rattle.gcd_plan.specs.declared.act.Act.{Act}
 use Rattle.gcd_plan.specs.declared.act.Act.TheVariants.{GroupAsync, Enter, Leave, Notify}
 use Rattle.gcd_plan.specs.declared.numbers.Blk.{Blk}
@@ -125,7 +125,7 @@ fits_at plan past e v valid lawful fit ties =
     let wide = fit.entered in
     record {
       joined = λ g q b at.
-          let low = has_object is_group_kind plan g.0 (and_parts (has_kind is_group_kind plan g.0) (is_queue plan q.0 && is_submittable plan b) (recorded_fits plan e (GroupAsync g q b) valid at)).0 in
+          let low = has_object is_group_kind plan g.0 (and_parts (has_kind is_group_kind plan g.0) (is_queue plan q.0 && is_declared plan b) (recorded_fits plan e (GroupAsync g q b) valid at)).0 in
           omega (arith, low, long);
       come = λ g at. let low = has_object is_group_kind plan g.0 (recorded_fits plan e (Enter g) valid at) in (omega (arith, low, long), omega (arith, low, wide));
       gone = λ g at.

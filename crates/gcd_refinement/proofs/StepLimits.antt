@@ -10,7 +10,7 @@ use Rattle.std.proofs.lemmas.List.Folds.{list_any-append}
 use Rattle.std.proofs.lemmas.List.FromFn.{get_or-map-range_with_len}
 use Rattle.gcd_plan.specs.PlanView.{PlanView}
 use Rattle.gcd_plan.specs.declared.act.Act.{Act}
-use Rattle.gcd_plan.specs.declared.act.Act.TheVariants.{Sync, BarrierSync, GroupWait, GroupWaitFor, Wait, WaitFor}
+use Rattle.gcd_plan.specs.declared.act.Act.TheVariants.{Sync, BarrierSync, GroupWait, GroupWaitFor, Wait, WaitFor, Apply, WaitBlock}
 use Rattle.gcd_plan.specs.declared.numbers.Blk.{Blk}
 use Rattle.gcd_plan.specs.declared.numbers.Run.TheVariants.{Block, Source}
 use Rattle.gcd_plan.specs.declared.reason.Reason.{Reason}
@@ -25,9 +25,10 @@ use Rattle.gcd_history.specs.Facts.{wakes}
 use Rattle.gcd_history.proofs.Reasons.{at_act, at_wake, at_tick}
 use Rattle.gcd_group.specs.GroupsView.{count_at}
 use Rattle.gcd_sema.specs.SemasView.{has_value_at}
+use Rattle.gcd_apply.specs.StripsView.{left_at}
 use Rattle.gcd_sync.specs.LimitRoom.{limit_room}
 use Rattle.gcd_sync.specs.WaitsView.{WaitsView, limit_at}
-use Rattle.gcd_refinement.specs.MachineView.{MachineView, ahead_at, is_ripe_at}
+use Rattle.gcd_refinement.specs.MachineView.{MachineView, ended_at, ahead_at, is_ripe_at}
 use Rattle.gcd_refinement.specs.Shape.{PartsFit, OwnFit}
 use Rattle.gcd_refinement.specs.Sleepers.{if_ahead, limit_ahead, may_expire}
 use Rattle.gcd_refinement.specs.Ties.{TimersAre, WaitsAre, WakesAre, LimitsAre}
@@ -195,6 +196,8 @@ goes_to_sleep v b act none = by act none
     by (Some (GroupWaitFor g ms)) k = either (count_at v.groups g.0 == 0) k
     by (Some (Wait s)) k = either (has_value_at v.semas s.0) k
     by (Some (WaitFor s ms)) k = either (has_value_at v.semas s.0) k
+    by (Some (Apply q a)) k = either (left_at v.strips a == 0) k
+    by (Some (WaitBlock c)) k = either (ended_at v c.0) k
     by _ k = refl
 
 -- the limit with which the act parks its block
@@ -205,6 +208,8 @@ parked_limit v b (Some (GroupWait g)) room none = option_set v.waits.limits b.0 
 parked_limit v b (Some (GroupWaitFor g ms)) room none = option_set v.waits.limits b.0 (limit_in_view v (Some (GroupWaitFor g ms))) room
 parked_limit v b (Some (Wait s)) room none = option_set v.waits.limits b.0 None room
 parked_limit v b (Some (WaitFor s ms)) room none = option_set v.waits.limits b.0 (limit_in_view v (Some (WaitFor s ms))) room
+parked_limit v b (Some (Apply q a)) room none = option_set v.waits.limits b.0 None room
+parked_limit v b (Some (WaitBlock c)) room none = option_set v.waits.limits b.0 None room
 parked_limit v b _ room none = none
 
 other_limit : (v : MachineView) (c : Blk) (b : ℕ) (why : Option Reason) (end : Option ℕ) → (c.0 ≡ b → ⊥) → limit_at (parked_for v.waits (Block c) why end) b ≡ limit_at v.waits b

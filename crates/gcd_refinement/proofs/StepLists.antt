@@ -31,9 +31,10 @@ use Rattle.gcd_history.proofs.SubmittedOnNodes.{on_a_node, submitted_fit}
 use Rattle.gcd_lists.specs.ListsView.{ListsView, list_at}
 use Rattle.gcd_refinement.specs.MachineView.{MachineView, block_at}
 use Rattle.gcd_refinement.specs.Shape.{PartsFit, OwnFit}
-use Rattle.gcd_refinement.specs.Ties.{ListsAre, GroupsAre, BlocksAre, SourcesAre, waiter}
+use Rattle.gcd_refinement.specs.Ties.{ListsAre, GroupsAre, BlocksAre, SourcesAre, BlockMarksAre, waiter}
 use Rattle.gcd_refinement.specs.Submits.{submits}
-use Rattle.gcd_refinement.specs.After.{popped, pushed, lists_after, after}
+use Rattle.gcd_refinement.specs.After.{pushed, lists_after, after}
+use Rattle.gcd_refinement.specs.AfterSleepers.{popped}
 use Rattle.gcd_refinement.proofs.Writes.{entry_set}
 use Rattle.gcd_refinement.proofs.StepSubmits.{submits_are}
 
@@ -240,8 +241,8 @@ lists_by plan past (Start w b) v n valid lawful fit own blocks same ties =
     ∙ ap (λ l. map waiter (filter (waits_on (Start w b ∷ past) n) (submitted plan past ++ l))) same)
 lists_by plan past e v n valid lawful fit own blocks same ties = more_lists plan past e v n valid lawful fit same ties
 
-pub lists_step : (plan : PlanView) (past : List Event) (e : Event) (v : MachineView) → IsPlan plan → IsLawful plan (e ∷ past) → PartsFit plan v → OwnFit plan v → GroupsAre plan past v → BlocksAre plan past v → SourcesAre plan past v
+pub lists_step : (plan : PlanView) (past : List Event) (e : Event) (v : MachineView) → IsPlan plan → IsLawful plan (e ∷ past) → PartsFit plan v → OwnFit plan v → GroupsAre plan past v → BlocksAre plan past v → SourcesAre plan past v → BlockMarksAre plan past v
     → ListsAre plan past v → ListsAre plan (e ∷ past) (after plan v e)
-lists_step plan past e v valid lawful fit own groups blocks sources ties =
-    let same = submits_are plan past e v valid lawful fit own groups blocks sources in
+lists_step plan past e v valid lawful fit own groups blocks sources block_marks ties =
+    let same = submits_are plan past e v valid lawful fit own groups blocks sources block_marks in
     record { waiting = λ n. lists_by plan past e v n valid lawful fit own blocks same ties }

@@ -34,8 +34,9 @@ use Rattle.gcd_timer.specs.TimersView.{due_count_at, comes_by}
 use Rattle.gcd_timer.proofs.Marks.{count_kept}
 use Rattle.gcd_refinement.specs.MachineView.{MachineView, block_at, handler_at, busy_at}
 use Rattle.gcd_refinement.specs.Shape.{PartsFit, OwnFit}
-use Rattle.gcd_refinement.specs.Ties.{ListsAre, GroupsAre, BlocksAre, SourcesAre, MarksAre, waiter}
-use Rattle.gcd_refinement.specs.After.{popped, pushed, begun, lists_after, pending_in, ticked, marked, stays_busy, unmarked, busy_by, busy_at_event, after}
+use Rattle.gcd_refinement.specs.Ties.{ListsAre, GroupsAre, BlocksAre, SourcesAre, BlockMarksAre, MarksAre, waiter}
+use Rattle.gcd_refinement.specs.After.{pushed, begun, lists_after, pending_in, ticked, marked, stays_busy, unmarked, busy_by, busy_at_event, after}
+use Rattle.gcd_refinement.specs.AfterSleepers.{popped}
 use Rattle.gcd_refinement.proofs.Writes.{entry_set}
 use Rattle.gcd_refinement.proofs.StepLists.{is_within, node_within, pushed_all, new_fit, lists_step}
 use Rattle.gcd_refinement.proofs.StepSubmits.{submits_are}
@@ -282,12 +283,12 @@ begun_long v (Start w b) = by (block_at v b.0).node
     by (Some n) = length-set v.lists.lists n.0 (drop 1 (list_at v.lists n.0))
 begun_long v e = refl
 
-pub marks_step : (plan : PlanView) (past : List Event) (e : Event) (v : MachineView) → IsPlan plan → IsLawful plan (e ∷ past) → PartsFit plan v → OwnFit plan v → GroupsAre plan past v → BlocksAre plan past v → SourcesAre plan past v → SourcesAre plan (e ∷ past) (after plan v e) → ListsAre plan past v
+pub marks_step : (plan : PlanView) (past : List Event) (e : Event) (v : MachineView) → IsPlan plan → IsLawful plan (e ∷ past) → PartsFit plan v → OwnFit plan v → GroupsAre plan past v → BlocksAre plan past v → SourcesAre plan past v → BlockMarksAre plan past v → SourcesAre plan (e ∷ past) (after plan v e) → ListsAre plan past v
     → MarksAre plan past v → MarksAre plan (e ∷ past) (after plan v e)
-marks_step plan past e v valid lawful fit own groups blocks sources sources_now lists ties =
+marks_step plan past e v valid lawful fit own groups blocks sources block_marks sources_now lists ties =
     let new = new_submissions plan past e in
-    let same = submits_are plan past e v valid lawful fit own groups blocks sources in
-    let next = lists_step plan past e v valid lawful fit own groups blocks sources lists in
+    let same = submits_are plan past e v valid lawful fit own groups blocks sources block_marks in
+    let next = lists_step plan past e v valid lawful fit own groups blocks sources block_marks lists in
     let fits = new_fit plan past e valid in
     record {
       idle = λ o off.

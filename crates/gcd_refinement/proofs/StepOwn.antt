@@ -1,16 +1,16 @@
 -- The machine's own arrays after an event: their lengths, and that what they name is of the plan.
-use Rattle.std.proofs.Common.{◌≡◌, ℕ, ◌+◌, ◌<◌, ◌==◌, ltb, Bool, true, false, not, ◌&&◌, cond, List, [], ◌∷◌, ◌++◌, length, drop, get_or, set, Option, Some, None, refl, ap, sym, ◌∙◌, subst, arith, ⊎_elim}
+use Rattle.std.proofs.Common.{◌≡◌, ◌⊎◌, inl, inr, ℕ, zero, suc, ◌+◌, ◌<◌, ◌==◌, ltb, Bool, true, false, not, ◌&&◌, cond, List, [], ◌∷◌, ◌++◌, length, drop, get_or, set, Option, Some, None, refl, ap, sym, ◌∙◌, subst, ⊎_elim}
 use Rattle.std.specs.List.{fold, range_with_len}
 use Rattle.std.specs.Option.{option_and_then, option_or}
-use Rattle.std.proofs.lemmas.Bool.{and_parts, or_cases, ltb-true}
+use Rattle.std.proofs.lemmas.Bool.{and_parts, or_cases}
 use Rattle.std.proofs.lemmas.List.{length-set, length-map}
 use Rattle.std.proofs.lemmas.List.FromFn.{length-range_with_len}
 use Rattle.std.proofs.lemmas.Option.{same_Some}
 use Rattle.gcd_plan.specs.PlanView.{PlanView}
 use Rattle.gcd_plan.specs.Kinds.{has_kind, is_group_kind, is_queue, is_queue_kind, is_source, is_read_kind}
-use Rattle.gcd_plan.specs.Validity.{IsPlan, is_act, is_submittable}
+use Rattle.gcd_plan.specs.Validity.{IsPlan, is_act, is_declared}
 use Rattle.gcd_plan.specs.declared.act.Act.{Act}
-use Rattle.gcd_plan.specs.declared.act.Act.TheVariants.{Sync, BarrierSync, GroupAsync, Notify, GroupWait, GroupWaitFor, Signal, Wait, WaitFor}
+use Rattle.gcd_plan.specs.declared.act.Act.TheVariants.{Sync, BarrierSync, GroupAsync, Notify, GroupWait, GroupWaitFor, Signal, Wait, WaitFor, Apply, WaitBlock, NotifyBlock}
 use Rattle.gcd_plan.specs.declared.numbers.Blk.{Blk}
 use Rattle.gcd_plan.specs.declared.numbers.Obj.{Obj}
 use Rattle.gcd_plan.specs.declared.numbers.Run.{Run}
@@ -32,16 +32,20 @@ use Rattle.gcd_lists.specs.ListsView.{ListsView, list_at, without}
 use Rattle.gcd_group.specs.GroupsView.{count_at}
 use Rattle.gcd_sema.specs.SemasView.{has_value_at}
 use Rattle.gcd_sync.specs.WaitsView.{reason_at}
-use Rattle.gcd_refinement.specs.MachineView.{MachineView, handler_at, idle}
+use Rattle.gcd_apply.specs.StripsView.{left_at}
+use Rattle.gcd_refinement.specs.MachineView.{MachineView, handler_at, applier_at, ended_at, idle}
 use Rattle.gcd_refinement.specs.declared.progress.BlockProgress.{BlockProgress}
 use Rattle.gcd_refinement.specs.Shape.{OwnFit}
 use Rattle.gcd_refinement.specs.Sleepers.{grouped, group_of, called_by, calls, caller_of}
 use Rattle.gcd_refinement.specs.Ties.{BlocksAre, WorkersAre, is_run}
-use Rattle.gcd_refinement.specs.Submits.{submits, emptied_by, come_by, activated_by, newly_cancelled}
-use Rattle.gcd_refinement.specs.After.{popped, pushed_on, bed_of, removed, asleep, asleep_by_handler, asleep_after, all_woken, with_wakeable, woken, noted, blocks_by, delivered, handlers_after, marked, busy_at_event, ended_after, after}
+use Rattle.gcd_refinement.specs.Submits.{submits, emptied_by, done_by, come_by, activated_by, newly_cancelled}
+use Rattle.gcd_refinement.specs.After.{with_wakeable, woken, noted, blocks_by, delivered, handlers_after, marked, busy_at_event, ended_after, after}
+use Rattle.gcd_refinement.specs.AfterSleepers.{popped, pushed_on, bed_of, removed, asleep, asleep_by_handler, asleep_after, all_woken, waiting_by, waiters_after, applied_by, none_applying, appliers_after}
 use Rattle.gcd_refinement.specs.AfterLimits.{laid_ahead, laid_ripe, still_ahead, is_ripe_by, limit_asleep, ahead_at_event, ripe_at_event, without_limit, without_ripe}
 use Rattle.gcd_refinement.specs.AfterTotals.{workers_after, live_begun, live_ended, live_after}
+use Rattle.gcd_refinement.proofs.Writes.{entry_cleared}
 use Rattle.gcd_refinement.proofs.Homes.{home_of, homed, homes_after}
+use Rattle.gcd_refinement.proofs.Registered.{registers_at}
 use Rattle.gcd_refinement.proofs.StepBlocks.{by_long}
 use Rattle.gcd_refinement.proofs.StepLists.{node_within}
 use Rattle.gcd_refinement.proofs.StepMarks.{event_long, marked_long}
@@ -60,7 +64,7 @@ node_known plan past b q valid at =
 
 grouped_known : (plan : PlanView) (act : Act) (b : ℕ) (g : Obj) → is_act plan act ≡ true → grouped b (Some act) ≡ Some g → g.0 < length plan.objects
 grouped_known plan (GroupAsync h q c) b g fits at =
-    let low = has_object is_group_kind plan h.0 (and_parts (has_kind is_group_kind plan h.0) (is_queue plan q.0 && is_submittable plan c) fits).0 in
+    let low = has_object is_group_kind plan h.0 (and_parts (has_kind is_group_kind plan h.0) (is_queue plan q.0 && is_declared plan c) fits).0 in
     elim (c.0 == b) as (λ t. cond t (Some h) None ≡ Some g → g.0 < length plan.objects) [ true ↦ λ k. subst (λ o. o.0 < length plan.objects) (same_Some h g k) low | false ↦ λ k. cc ] at
 grouped_known plan act b g fits at = cc
 
@@ -140,6 +144,32 @@ asleep_alike v b act = same_lists v.sleepers
 handler_alike : (v : MachineView) (act : Option Act) → Alike v.sleepers (asleep_by_handler v act)
 handler_alike v (Some (Signal s)) = popped_alike v.sleepers s
 handler_alike v act = same_lists v.sleepers
+
+waiting_alike : (v : MachineView) (b : Blk) (act : Option Act) → Alike v.waiters (waiting_by v b act)
+waiting_alike v b (Some (WaitBlock c)) = slept_alike (ended_at v c.0) v.waiters (record { 0 = c.0 }) b
+waiting_alike v b act = same_lists v.waiters
+
+waiters_alike : (plan : PlanView) (v : MachineView) (e : Event) → Alike v.waiters (waiters_after plan v e)
+waiters_alike plan v (Acted w (Block b) i) = waiting_alike v b (act_at plan (Block b) i)
+waiters_alike plan v (Acted w (Source s) i) = same_lists v.waiters
+waiters_alike plan v (End w b) = record { lists = length-set v.waiters.lists b.0 []; blocks = refl }
+waiters_alike plan v e = same_lists v.waiters
+
+applied_long : (v : MachineView) (b : Blk) (act : Option Act) → length (applied_by v b act) ≡ length v.appliers
+applied_long v b (Some (Apply q a)) =
+    elim (left_at v.strips a == 0) as (λ t. length (cond t v.appliers (set v.appliers a (Some b))) ≡ length v.appliers) [ true ↦ refl | false ↦ length-set v.appliers a (Some b) ]
+applied_long v b act = refl
+
+appliers_long : (plan : PlanView) (v : MachineView) (e : Event) → length (appliers_after plan v e) ≡ length v.appliers
+appliers_long plan v (Acted w (Block b) i) = applied_long v b (act_at plan (Block b) i)
+appliers_long plan v (Acted w (Source s) i) = refl
+appliers_long plan v (End w b) =
+    by (done_by v b)
+  where
+    by : (o : Option ℕ) → length (none_applying v.appliers o) ≡ length v.appliers
+    by None = refl
+    by (Some a) = length-set v.appliers a None
+appliers_long plan v e = refl
 
 removed_alike : (a : ListsView) (o : Option Obj) (b : Blk) → Alike a (removed a o b)
 removed_alike a None b = same_lists a
@@ -235,14 +265,48 @@ live_long plan v e =
 
 home_known : (plan : PlanView) (e : Event) (b : ℕ) (h : Obj) (act : Option Act) → IsPlan plan → act_of plan e ≡ act → h.0 < length plan.objects → (homed b act h).0 < length plan.objects
 home_known plan e b h (Some (Notify g q c)) valid at low =
-    let queue = has_object is_queue_kind plan q.0 (and_parts (is_queue plan q.0) (is_submittable plan c) (and_parts (has_kind is_group_kind plan g.0) (is_queue plan q.0 && is_submittable plan c) (recorded_fits plan e (Notify g q c) valid at)).1).0 in
+    let queue = has_object is_queue_kind plan q.0 (and_parts (is_queue plan q.0) (is_declared plan c) (and_parts (has_kind is_group_kind plan g.0) (is_queue plan q.0 && is_declared plan c) (recorded_fits plan e (Notify g q c) valid at)).1).0 in
+    elim (c.0 == b) as (λ t. (cond t q h).0 < length plan.objects) [ true ↦ queue | false ↦ low ]
+home_known plan e b h (Some (NotifyBlock d q c)) valid at low =
+    let queue = has_object is_queue_kind plan q.0 (and_parts (is_queue plan q.0) (is_declared plan c) (and_parts (is_declared plan d) (is_queue plan q.0 && is_declared plan c) (recorded_fits plan e (NotifyBlock d q c) valid at)).1).0 in
     elim (c.0 == b) as (λ t. (cond t q h).0 < length plan.objects) [ true ↦ queue | false ↦ low ]
 home_known plan e b h act valid at low = low
+
+-- who applied a strip is of the plan
+set_some : (xs : List (Option Blk)) (i k : ℕ) (c b : Blk) → get_or (set xs i (Some c)) k None ≡ Some b → (get_or xs k None ≡ Some b) ⊎ (c ≡ b)
+set_some [] i k c b at = inl at
+set_some (x ∷ xs) zero zero c b at = inr (same_Some c b at)
+set_some (x ∷ xs) zero (suc k) c b at = inl at
+set_some (x ∷ xs) (suc i) zero c b at = inl at
+set_some (x ∷ xs) (suc i) (suc k) c b at = set_some xs i k c b at
+
+applied_known : (plan : PlanView) (past : List Event) (e : Event) (v : MachineView) (a : ℕ) (b : Blk) → IsLawful plan (e ∷ past) → ((k : ℕ) (c : Blk) → applier_at v k ≡ Some c → c.0 < length plan.blocks) → get_or (appliers_after plan v e) a None ≡ Some b
+    → b.0 < length plan.blocks
+applied_known plan past (Acted w (Block c) i) v a b lawful own at =
+    by (act_at plan (Block c) i) at
+  where
+    by : (act : Option Act) → get_or (applied_by v c act) a None ≡ Some b → b.0 < length plan.blocks
+    by (Some (Apply q k)) at =
+        elim (left_at v.strips k == 0) as (λ t. get_or (cond t v.appliers (set v.appliers k (Some c))) a None ≡ Some b → b.0 < length plan.blocks) [
+          | true ↦ λ old. own a b old
+          | false ↦ λ new. ⊎_elim (λ old. own a b old) (λ same. subst (λ d. d.0 < length plan.blocks) same (known_block plan past w c i lawful)) (set_some v.appliers k a c b new)
+        ] at
+    by act at = own a b at
+applied_known plan past (End w c) v a b lawful own at =
+    by (done_by v c) at
+  where
+    by : (o : Option ℕ) → get_or (none_applying v.appliers o) a None ≡ Some b → b.0 < length plan.blocks
+    by None at = own a b at
+    by (Some k) at =
+        elim (k == a) as (λ t. cond t None (get_or v.appliers a None) ≡ Some b → b.0 < length plan.blocks) [ true ↦ λ none. cc | false ↦ λ old. own a b old ] (sym (entry_cleared v.appliers k a None) ∙ at)
+applied_known plan past (Acted w (Source s) i) v a b lawful own at = own a b at
+applied_known plan past e v a b lawful own at = own a b at
 
 -- what the arrays name follows from the ties after the event
 pub own_step : (plan : PlanView) (past : List Event) (e : Event) (v : MachineView) → IsPlan plan → IsLawful plan (e ∷ past) → OwnFit plan v → BlocksAre plan (e ∷ past) (after plan v e) → WorkersAre plan (e ∷ past) (after plan v e) → OwnFit plan (after plan v e)
 own_step plan past e v valid lawful own blocks workers =
     let sleepers = woken_alike v.sleepers (asleep_after plan v e) (emptied_by plan v e) (event_alike plan v e) in
+    let waiters = waiters_alike plan v e in
     let wide = own.blocks in
     record {
       sleepers = sleepers.lists ∙ own.sleepers;
@@ -260,15 +324,14 @@ own_step plan past e v valid lawful own blocks workers =
       groups = λ b g at. group_known plan (e ∷ past) b g valid (sym (blocks.group b) ∙ at);
       homes = λ b.
           subst (λ (o : Obj). o.0 < length plan.objects)
-          (sym (homes_after plan v e b (λ g q c at. let l = notified plan e g q c valid at in omega (arith, l, wide))))
+          (sym (homes_after plan v e b (registers_at plan e (length v.blocks) valid wide)))
           (home_known plan e b (home_of v.blocks b) (act_of plan e) valid refl (own.homes b));
+      waiters = waiters.lists ∙ own.waiters;
+      waiter_blocks = waiters.blocks ∙ own.waiter_blocks;
+      appliers = appliers_long plan v e ∙ own.appliers;
+      applied_by = λ a b at. applied_known plan past e v a b lawful own.applied_by at;
       callers = λ b c at. caller_known plan (e ∷ past) b c lawful (sym (blocks.caller b) ∙ at);
       runs = λ w run at.
           let has : has_run plan (e ∷ past) w run ≡ true = workers.runs w run ∙ (ap (is_run run) at ∙ same_run-refl run) in
           open_known plan (e ∷ past) run lawful (open_from_has_run plan (e ∷ past) w run has);
     }
-  where
-    notified : (plan : PlanView) (e : Event) (g q : Obj) (c : Blk) → IsPlan plan → act_of plan e ≡ Some (Notify g q c) → c.0 < length plan.blocks
-    notified plan e g q c valid at =
-        let fits = (and_parts (is_queue plan q.0) (is_submittable plan c) (and_parts (has_kind is_group_kind plan g.0) (is_queue plan q.0 && is_submittable plan c) (recorded_fits plan e (Notify g q c) valid at)).1).1 in
-        ltb-true c.0 (length plan.blocks) (and_parts (ltb 0 c.0) (ltb c.0 (length plan.blocks)) fits).1

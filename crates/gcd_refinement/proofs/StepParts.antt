@@ -1,10 +1,11 @@
 -- The lengths and fixed contents of the parts after an event: no word of a part changes them.
 use Rattle.std.proofs.Common.{◌≡◌, ℕ, zero, suc, ◌+◌, ◌-◌, ◌==◌, Bool, true, false, cond, List, [], ◌∷◌, ◌++◌, length, drop, get_or, set, Option, Some, None, refl, ◌∙◌}
 use Rattle.std.specs.List.{fold}
+use Rattle.std.specs.Option.{option_map_or}
 use Rattle.std.proofs.lemmas.List.{length-set}
 use Rattle.gcd_plan.specs.PlanView.{PlanView}
 use Rattle.gcd_plan.specs.declared.act.Act.{Act}
-use Rattle.gcd_plan.specs.declared.act.Act.TheVariants.{GroupAsync, Notify, Enter, Leave, Signal, Wait, WaitFor, Suspend, Resume, Activate, Target, Merge, Retain, Release}
+use Rattle.gcd_plan.specs.declared.act.Act.TheVariants.{GroupAsync, Notify, Enter, Leave, Signal, Wait, WaitFor, Suspend, Resume, Activate, Target, Merge, Retain, Release, CancelBlock, NotifyBlock}
 use Rattle.gcd_plan.specs.declared.numbers.Blk.{Blk}
 use Rattle.gcd_plan.specs.declared.numbers.Obj.{Obj}
 use Rattle.gcd_plan.specs.declared.numbers.Run.{Run}
@@ -23,13 +24,17 @@ use Rattle.gcd_drain.specs.DrainsView.{DrainsView, barriers_at}
 use Rattle.gcd_group.specs.GroupsView.{GroupsView, count_at, entered_at, due_at, with_one_more, with_one_less, with_entered, with_notify, with_fired}
 use Rattle.gcd_sema.specs.SemasView.{SemasView, signals_at, expiries_at}
 use Rattle.gcd_sync.specs.WaitsView.{WaitsView, reason_at}
+use Rattle.gcd_apply.specs.StripsView.{StripsView, left_at, strip_at, with_done}
+use Rattle.gcd_blockobj.specs.MarksView.{MarksView, has_begun_at, has_ended_at, with_notify as with_told, with_ended}
 use Rattle.gcd_source.specs.SourcesView.{SourcesView, merged_at}
 use Rattle.gcd_timer.specs.TimersView.{TimersView}
 use Rattle.gcd_refinement.specs.MachineView.{MachineView, block_at}
 use Rattle.gcd_refinement.specs.Shape.{PartsFit}
 use Rattle.gcd_refinement.specs.Submits.{submits, activated_by, newly_cancelled}
 use Rattle.gcd_refinement.specs.AfterLimits.{limit_in_view}
-use Rattle.gcd_refinement.specs.After.{refs_by, popped, pushed, begun, opened, closed, targeted, tree_after, holds_by, barrier_began, barrier_ended, drains_after, fired_times, groups_by, member_ended, groups_after, semas_by, semas_expired, semas_after, parked_for, awaited_in_view, waits_after, source_cancelled, merged_by, values_after, ticked, activated, timer_cancelled, after}
+use Rattle.gcd_refinement.specs.After.{refs_by, pushed, begun, opened, closed, targeted, tree_after, holds_by, barrier_began, barrier_ended, drains_after, fired_times, groups_by, member_ended, groups_after, semas_by, semas_expired, semas_after, parked_for, awaited_in_view, waits_after, source_cancelled, merged_by, values_after, ticked, activated, timer_cancelled, after}
+use Rattle.gcd_refinement.specs.AfterSleepers.{popped}
+use Rattle.gcd_refinement.specs.AfterStrips.{strips_after, all_told, marks_by, marks_after}
 use Rattle.gcd_refinement.proofs.StepLists.{pushed_long}
 use Rattle.gcd_refinement.proofs.StepMarks.{begun_long}
 
@@ -259,9 +264,10 @@ record WaitsAlike (a b : WaitsView) : Type 0 where
   limits : length b.limits ≡ length a.limits
   expired : length b.expired ≡ length a.expired
   objects : b.objects ≡ a.objects
+  strips : b.strips ≡ a.strips
 
 waits_same : (a : WaitsView) → WaitsAlike a a
-waits_same a = record { reasons = refl; limits = refl; expired = refl; objects = refl }
+waits_same a = record { reasons = refl; limits = refl; expired = refl; objects = refl; strips = refl }
 
 waits_parked : (a : WaitsView) (run : Run) (why : Option Reason) (limit : Option ℕ) → WaitsAlike a (parked_for a run why limit)
 waits_parked a (Block b) (Some why) limit = record {
@@ -269,6 +275,7 @@ waits_parked a (Block b) (Some why) limit = record {
   limits = length-set a.limits b.0 limit;
   expired = length-set a.expired b.0 false;
   objects = refl;
+  strips = refl;
 }
 waits_parked a (Block b) None limit = waits_same a
 waits_parked a (Source s) why limit = waits_same a
@@ -280,8 +287,9 @@ waits_alike plan v (Wake w b) = record {
   limits = length-set v.waits.limits b.0 None;
   expired = length-set v.waits.expired b.0 false;
   objects = refl;
+  strips = refl;
 }
-waits_alike plan v (Expire b) = record { reasons = refl; limits = refl; expired = length-set v.waits.expired b.0 true; objects = refl }
+waits_alike plan v (Expire b) = record { reasons = refl; limits = refl; expired = length-set v.waits.expired b.0 true; objects = refl; strips = refl }
 waits_alike plan v e = waits_same v.waits
 
 record SourcesAlike (a b : SourcesView) : Type 0 where
@@ -324,6 +332,60 @@ timers_off : (a b : TimersView) (o : Option Obj) → TimersAlike a b → TimersA
 timers_off a b None alike = alike
 timers_off a b (Some o) alike = record { kinds = alike.kinds; until = alike.until; activated = alike.activated; cancelled = length-set b.cancelled o.0 (Some b.moment) ∙ alike.cancelled }
 
+-- ## Strips and marks
+
+record StripsAlike (a b : StripsView) : Type 0 where
+  left : length b.left ≡ length a.left
+  blocks : b.of_block ≡ a.of_block
+
+strips_done : (a : StripsView) (b : ℕ) → StripsAlike a (with_done a b)
+strips_done a b =
+    elim (strip_at a b) as (λ o. StripsAlike a (option_map_or (λ s. record a { left = set a.left s (left_at a s - 1) }) o a)) [
+      | None ↦ record { left = refl; blocks = refl }
+      | Some s ↦ record { left = length-set a.left s (left_at a s - 1); blocks = refl }
+    ]
+
+strips_alike : (v : MachineView) (e : Event) → StripsAlike v.strips (strips_after v e)
+strips_alike v (End w b) = strips_done v.strips b.0
+strips_alike v e = record { left = refl; blocks = refl }
+
+pub record BlocksMarkedAlike (a b : MarksView) : Type 0 where
+  pub cancelled : length b.cancelled ≡ length a.cancelled
+  pub began : length b.began ≡ length a.began
+  pub ended : length b.ended ≡ length a.ended
+  pub lists : length b.notify.lists ≡ length a.notify.lists
+  pub blocks : b.notify.blocks ≡ a.notify.blocks
+
+marked_same : (a : MarksView) → BlocksMarkedAlike a a
+marked_same a = record { cancelled = refl; began = refl; ended = refl; lists = refl; blocks = refl }
+
+marked_told : (a b : MarksView) (k : ℕ) → BlocksMarkedAlike a b → BlocksMarkedAlike a (all_told b k)
+marked_told a b k alike = record { cancelled = alike.cancelled; began = alike.began; ended = alike.ended; lists = length-set b.notify.lists k [] ∙ alike.lists; blocks = alike.blocks }
+
+marked_noted : (a : MarksView) (c : ℕ) (d : Blk) → BlocksMarkedAlike a (with_told a c d)
+marked_noted a c d = record { cancelled = refl; began = refl; ended = refl; lists = length-set a.notify.lists c (list_at a.notify c ++ (d, false) ∷ []); blocks = refl }
+
+marked_by_act : (a : MarksView) (act : Option Act) → BlocksMarkedAlike a (marks_by a act)
+marked_by_act a (Some (CancelBlock c)) =
+    elim (has_begun_at a c.0) as (λ t. BlocksMarkedAlike a (cond t a (record a { cancelled = set a.cancelled c.0 true }))) [
+      | true ↦ marked_same a
+      | false ↦ record { cancelled = length-set a.cancelled c.0 true; began = refl; ended = refl; lists = refl; blocks = refl }
+    ]
+marked_by_act a (Some (NotifyBlock c q d)) =
+    let one = with_told a c.0 d in
+    elim (has_ended_at one c.0) as (λ t. BlocksMarkedAlike a (cond t (all_told one c.0) one)) [
+      | true ↦ marked_told a one c.0 (marked_noted a c.0 d)
+      | false ↦ marked_noted a c.0 d
+    ]
+marked_by_act a act = marked_same a
+
+pub marked_alike : (plan : PlanView) (v : MachineView) (e : Event) → BlocksMarkedAlike v.marks (marks_after plan v e)
+marked_alike plan v (Start w b) = record { cancelled = refl; began = length-set v.marks.began b.0 true; ended = refl; lists = refl; blocks = refl }
+marked_alike plan v (Acted w run i) = marked_by_act v.marks (act_at plan run i)
+marked_alike plan v (End w b) =
+    marked_told v.marks (with_ended v.marks b.0) b.0 (record { cancelled = refl; began = refl; ended = length-set v.marks.ended b.0 true; lists = refl; blocks = refl })
+marked_alike plan v e = marked_same v.marks
+
 -- ## The step
 
 pub parts_step : (plan : PlanView) (v : MachineView) (e : Event) → PartsFit plan v → PartsFit plan (after plan v e)
@@ -334,6 +396,8 @@ parts_step plan v e fit =
     let groups = groups_alike plan v e in
     let semas = semas_alike plan v e in
     let waits = waits_alike plan v e in
+    let strips = strips_alike v e in
+    let marked = marked_alike plan v e in
     let sources = sources_alike v.sources (values_after plan v e) (cancels plan e) (values_alike plan v e) in
     let timers = timers_off v.timers (activated (ticked v.timers e) (activated_by v (act_of plan e))) (newly_cancelled v (cancels plan e)) (timers_on v.timers (ticked v.timers e) (activated_by v (act_of plan e)) (timers_ticked v.timers e)) in
     record {
@@ -370,4 +434,12 @@ parts_step plan v e fit =
       until = timers.until ∙ fit.until;
       activations = timers.activated ∙ fit.activations;
       cancellations = timers.cancelled ∙ fit.cancellations;
+      wait_strips = waits.strips ∙ fit.wait_strips;
+      strips = strips.left ∙ fit.strips;
+      strip_blocks = strips.blocks ∙ fit.strip_blocks;
+      cancelled_blocks = marked.cancelled ∙ fit.cancelled_blocks;
+      began_blocks = marked.began ∙ fit.began_blocks;
+      ended_blocks = marked.ended ∙ fit.ended_blocks;
+      told = marked.lists ∙ fit.told;
+      told_blocks = marked.blocks ∙ fit.told_blocks;
     }

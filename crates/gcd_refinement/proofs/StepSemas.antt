@@ -15,7 +15,7 @@ use Rattle.gcd_plan.specs.declared.numbers.Blk.{Blk}
 use Rattle.gcd_plan.specs.declared.numbers.Obj.{Obj}
 use Rattle.gcd_plan.specs.declared.numbers.Run.TheVariants.{Block}
 use Rattle.gcd_plan.specs.declared.reason.Reason.{Reason}
-use Rattle.gcd_plan.specs.declared.reason.Reason.TheVariants.{Block as EndOf, Group as Empty, Rank}
+use Rattle.gcd_plan.specs.declared.reason.Reason.TheVariants.{Block as EndOf, Group as Empty, Strip, Rank}
 use Rattle.gcd_event.specs.declared.event.Event.{Event}
 use Rattle.gcd_event.specs.declared.event.Event.TheVariants.{Act as Acted, Expire}
 use Rattle.gcd_history.specs.Runs.{act_at, act_of}
@@ -90,6 +90,7 @@ signals_kept : (semas : SemasView) (r : Option Reason) (s : ℕ) → signals_at 
 signals_kept semas None s = refl
 signals_kept semas (Some (EndOf b)) s = refl
 signals_kept semas (Some (Empty g p)) s = refl
+signals_kept semas (Some (Strip a)) s = refl
 signals_kept semas (Some (Rank t k)) s = refl
 
 -- flags that stay
@@ -151,6 +152,7 @@ waits_expired : (plan : PlanView) (past : List Event) (c : Blk) (v : MachineView
     → expiries_at (semas_expired v.semas (Some r)) s ≡ map (has_expired (Expire c ∷ past)) (waits_on plan past s)
 waits_expired plan past c v s (EndOf b) valid ties is = ties.waits s ∙ flags_kept plan past c (EndOf b) (record { 0 = s }) is (λ k same. both_ways false refl (ap of_sema same))
 waits_expired plan past c v s (Empty g p) valid ties is = ties.waits s ∙ flags_kept plan past c (Empty g p) (record { 0 = s }) is (λ k same. both_ways false refl (ap of_sema same))
+waits_expired plan past c v s (Strip a) valid ties is = ties.waits s ∙ flags_kept plan past c (Strip a) (record { 0 = s }) is (λ k same. both_ways false refl (ap of_sema same))
 waits_expired plan past c v s (Rank t k) valid ties is =
     let now = set (expiries_at v.semas t.0) (k - 1) true in
     ⊎_elim

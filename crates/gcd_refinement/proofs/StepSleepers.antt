@@ -16,7 +16,7 @@ use Rattle.gcd_lists.specs.ListsView.{ListsView, list_at, without}
 use Rattle.gcd_group.specs.GroupsView.{count_at}
 use Rattle.gcd_sema.specs.SemasView.{left_at, passes_at, has_value_at}
 use Rattle.gcd_refinement.specs.MachineView.{MachineView}
-use Rattle.gcd_refinement.specs.After.{popped, pushed_on, removed, asleep, asleep_by_handler, all_woken}
+use Rattle.gcd_refinement.specs.AfterSleepers.{popped, pushed_on, removed, asleep, asleep_by_handler, all_woken}
 use Rattle.gcd_refinement.proofs.KindsSleep.{semaphore_is_no_group}
 use Rattle.gcd_refinement.proofs.Members.{is_group}
 

@@ -1,29 +1,34 @@
 -- What an event submits, told by the view, is what the history says.
-use Rattle.std.proofs.Common.{◌≡◌, ℕ, zero, suc, ◌+◌, ◌<◌, ◌≤◌, ◌==◌, false, ◌&&◌, cond, List, [], ◌∷◌, ◌++◌, length, Option, Some, None, refl, ap, sym, ◌∙◌, arith, ⊎_elim, eq-eqb, ne_eqb}
+use Rattle.std.proofs.Common.{◌≡◌, ℕ, zero, suc, ◌+◌, ◌<◌, ◌≤◌, ◌==◌, true, false, ◌&&◌, ◌||◌, cond, List, [], ◌∷◌, ◌++◌, length, map, Option, Some, None, refl, ap, sym, ◌∙◌, arith, ⊎_elim, eq-eqb, ne_eqb}
 use Rattle.std.specs.List.{flat_map, range_with_len}
 use Rattle.std.specs.Option.{option_map_or}
-use Rattle.std.proofs.lemmas.Bool.{cases_eq, and_parts}
+use Rattle.std.proofs.lemmas.Bool.{cases_eq, and_parts, eqb-true, or_cases, ltb-true}
 use Rattle.std.proofs.lemmas.List.{append-nil, append_assoc}
 use Rattle.gcd_plan.specs.PlanView.{PlanView, cancel_block}
 use Rattle.gcd_plan.specs.Kinds.{has_kind, is_group_kind, is_queue}
-use Rattle.gcd_plan.specs.Validity.{IsPlan, is_submittable}
+use Rattle.gcd_plan.specs.Validity.{IsPlan, is_declared}
 use Rattle.gcd_plan.specs.declared.act.Act.{Act}
-use Rattle.gcd_plan.specs.declared.act.Act.TheVariants.{Notify, Leave}
+use Rattle.gcd_plan.specs.declared.act.Act.TheVariants.{Notify, Leave, NotifyBlock}
 use Rattle.gcd_plan.specs.declared.numbers.Blk.{Blk}
 use Rattle.gcd_plan.specs.declared.numbers.Obj.{Obj}
 use Rattle.gcd_event.specs.declared.event.Event.{Event}
 use Rattle.gcd_event.specs.declared.event.Event.TheVariants.{End}
-use Rattle.gcd_history.specs.Runs.{act_of}
+use Rattle.gcd_history.specs.Runs.{act_of, is_ended}
 use Rattle.gcd_history.specs.Groups.{count, leaves, enters}
-use Rattle.gcd_history.specs.Submitted.{on_node, submitted_by, cancels, registered, notify_blocks, new_submissions, at_cancel as at_cancel_of, at_empty as at_empty_of}
-use Rattle.gcd_history.specs.Permitted.{IsLawful}
+use Rattle.gcd_history.specs.Submitted.{on_node, submitted_by, accepted_by, cancels, registered, notify_blocks, registered_at_end, end_notify_blocks, new_submissions, at_cancel as at_cancel_of, at_end as at_end_of, at_empty as at_empty_of}
+use Rattle.gcd_history.specs.Permitted.{IsLawful, is_worker, has_block}
 use Rattle.gcd_history.proofs.Fitting.{has_object}
+use Rattle.gcd_history.proofs.Reasons.{allowed}
 use Rattle.gcd_history.proofs.SubmittedOnNodes.{recorded_fits}
+use Rattle.gcd_lists.specs.ListsView.{list_at}
 use Rattle.gcd_group.specs.GroupsView.{count_at}
+use Rattle.gcd_blockobj.specs.MarksView.{has_ended_at}
 use Rattle.gcd_refinement.specs.MachineView.{MachineView, block_at}
 use Rattle.gcd_refinement.specs.Shape.{PartsFit, OwnFit}
-use Rattle.gcd_refinement.specs.Ties.{GroupsAre, BlocksAre, SourcesAre}
-use Rattle.gcd_refinement.specs.Submits.{left_by, last_of, emptied_by, at_cancel, at_empty, at_notify, submits}
+use Rattle.gcd_refinement.specs.Ties.{GroupsAre, BlocksAre, SourcesAre, BlockMarksAre, notify_submission}
+use Rattle.gcd_refinement.specs.Submits.{left_by, last_of, emptied_by, at_cancel, at_end, at_told, at_empty, at_notify, submits}
+use Rattle.gcd_refinement.proofs.MarkRoom.{room_at}
+use Rattle.gcd_refinement.proofs.StepCaller.{declared_within}
 use Rattle.gcd_refinement.proofs.Members.{is_group}
 use Rattle.gcd_refinement.proofs.StepGroups.{CountsAre, counts_step, acts_count, end_counts, adds}
 
@@ -120,7 +125,7 @@ act_fires plan past e v (Some (Leave g)) valid ties at by =
     one_fires plan past e v g low ties (λ k. ap (registered k) at) (λ k. let b = by k in omega (arith, b))
     ∙ sym (append-nil (at_empty v (last_of v (Some g))))
 act_fires plan past e v (Some (Notify g q b)) valid ties at by =
-    let low = has_object is_group_kind plan g.0 (and_parts (has_kind is_group_kind plan g.0) (is_queue plan q.0 && is_submittable plan b) (recorded_fits plan e (Notify g q b) valid at)).0 in
+    let low = has_object is_group_kind plan g.0 (and_parts (has_kind is_group_kind plan g.0) (is_queue plan q.0 && is_declared plan b) (recorded_fits plan e (Notify g q b) valid at)).0 in
     notify_fires plan past e v g q b low ties at (λ k. let c = by k in omega (arith, c))
 act_fires plan past e v _ valid ties at by =
     nowhere (at_empty_of plan past e) 0 (length plan.objects) (λ k low. fires_new plan past e k (λ z. let c = by k in omega (arith, c, z)) (ap (registered k) at))
@@ -146,6 +151,64 @@ fires plan past e v valid lawful fit own ties blocks =
     act_fires plan past e v (act_of plan e) valid ties refl
     (acts_count plan past e v valid lawful fit (counts_of plan past v ties) refl (counts_step plan past e v valid lawful fit own (counts_of plan past v ties) blocks))
 
+-- ## What an end tells
+
+-- a block that has ended has no notify block
+pub none_told : (plan : PlanView) (past : List Event) (b : ℕ) → is_ended past b ≡ true → end_notify_blocks plan past b ≡ []
+none_told plan [] b h = refl
+none_told plan (e ∷ past) b h = ap (λ v. cond v [] (end_notify_blocks plan past b ++ registered_at_end b (act_of plan e))) h
+
+-- a block that had ended, or has not, tells what the act registers there, if it has ended
+tells_new : (plan : PlanView) (past : List Event) (e : Event) (b : ℕ) → (is_ended (e ∷ past) b ≡ true → is_ended past b ≡ true) → registered_at_end b (act_of plan e) ≡ [] → at_end_of plan past e b ≡ []
+tells_new plan past e b was none =
+    elim (is_ended (e ∷ past) b) as (λ v. is_ended (e ∷ past) b ≡ v → cond v (end_notify_blocks plan past b ++ registered_at_end b (act_of plan e)) [] ≡ []) [
+      | true ↦ λ h. ap (λ l. l ++ registered_at_end b (act_of plan e)) (none_told plan past b (was h)) ∙ none
+      | false ↦ λ h. refl
+    ] refl
+
+-- a block that ends tells all its blocks
+end_tells : (plan : PlanView) (past : List Event) (w : ℕ) (d : Blk) (v : MachineView) → d.0 < length plan.blocks → BlockMarksAre plan past v
+    → flat_map (at_end_of plan past (End w d)) (range_with_len 0 (length plan.blocks)) ≡ map (notify_submission v) (list_at v.marks.notify d.0)
+end_tells plan past w d v low marks =
+    only_at (at_end_of plan past (End w d)) 0 (length plan.blocks) d.0 (omega arith) (omega (arith, low))
+    (λ k other. tells_new plan past (End w d) k (λ h. ⊎_elim (λ same. absurd (other (sym (eqb-true d.0 k same)))) (λ old. old) (or_cases (d.0 == k) (is_ended past k) h)) refl)
+    ∙ (ap (λ u. cond (u || is_ended past d.0) (end_notify_blocks plan past d.0 ++ []) []) (eq-eqb d.0 d.0 refl)
+    ∙ (append-nil (end_notify_blocks plan past d.0) ∙ sym (marks.notify d.0)))
+
+-- what is known of the block at which an act registers another
+abbrev Noted : PlanView → List Event → MachineView → Option Act → Type 0
+Noted plan past v act = (c : Blk) (q : Obj) (d : Blk) → act ≡ Some (NotifyBlock c q d) → (c.0 < length plan.blocks) × (has_ended_at v.marks c.0 ≡ is_ended past c.0)
+
+act_tells : (plan : PlanView) (past : List Event) (e : Event) (v : MachineView) (act : Option Act) → act_of plan e ≡ act → ((k : ℕ) → is_ended (e ∷ past) k ≡ is_ended past k) → Noted plan past v act
+    → flat_map (at_end_of plan past e) (range_with_len 0 (length plan.blocks)) ≡ at_told v act
+act_tells plan past e v (Some (NotifyBlock c q d)) at same noted =
+    let known = noted c q d refl in
+    let here : registered_at_end c.0 (act_of plan e) ≡ on_node q d false = ap (registered_at_end c.0) at ∙ ap (λ t. cond t (on_node q d false) []) (eq-eqb c.0 c.0 refl) in
+    only_at (at_end_of plan past e) 0 (length plan.blocks) c.0 (omega arith) (omega (arith, known.0))
+    (λ k other. tells_new plan past e k (λ h. sym (same k) ∙ h) (ap (registered_at_end k) at ∙ ap (λ t. cond t (on_node q d false) []) (ne_eqb c.0 k (λ i. other (sym i)))))
+    ∙ (ap (λ t. cond t (end_notify_blocks plan past c.0 ++ registered_at_end c.0 (act_of plan e)) []) (same c.0)
+    ∙ (elim (is_ended past c.0) as (λ t. is_ended past c.0 ≡ t → cond t (end_notify_blocks plan past c.0 ++ registered_at_end c.0 (act_of plan e)) [] ≡ cond t (on_node q d false) []) [
+      | true ↦ λ h. ap (λ l. l ++ registered_at_end c.0 (act_of plan e)) (none_told plan past c.0 h) ∙ here
+      | false ↦ λ h. refl
+    ] refl
+    ∙ ap (λ t. cond t (on_node q d false) []) (sym known.1)))
+act_tells plan past e v _ at same noted =
+    nowhere (at_end_of plan past e) 0 (length plan.blocks) (λ k low. tells_new plan past e k (λ h. sym (same k) ∙ h) (ap (registered_at_end k) at))
+
+-- the act is of the plan, and marks are kept
+noted_at : (plan : PlanView) (past : List Event) (e : Event) (v : MachineView) → IsPlan plan → BlockMarksAre plan past v → Noted plan past v (act_of plan e)
+noted_at plan past e v valid marks c q d at =
+    let low = declared_within plan c (and_parts (is_declared plan c) _ (recorded_fits plan e (NotifyBlock c q d) valid at)).0 in
+    let room = room_at plan e (NotifyBlock c q d) at refl in
+    (low, marks.ended c.0 (omega (arith, low, room)))
+
+tells : (plan : PlanView) (past : List Event) (e : Event) (v : MachineView) → IsPlan plan → IsLawful plan (e ∷ past) → BlockMarksAre plan past v
+    → flat_map (at_end_of plan past e) (range_with_len 0 (length plan.blocks)) ≡ at_end v e ++ at_told v (act_of plan e)
+tells plan past (End w d) v valid lawful marks =
+    let known = ltb-true d.0 (length plan.blocks) (and_parts (is_worker w) (has_block plan d.0) (allowed plan past (End w d) lawful.1).known).1 in
+    end_tells plan past w d v known marks ∙ sym (append-nil (map (notify_submission v) (list_at v.marks.notify d.0)))
+tells plan past e v valid lawful marks = act_tells plan past e v (act_of plan e) refl (λ k. refl) (noted_at plan past e v valid marks)
+
 -- ## All together
 
 cancel_same : (plan : PlanView) (past : List Event) (v : MachineView) (o : Option Obj) → SourcesAre plan past v → at_cancel plan v o ≡ at_cancel_of plan past o
@@ -154,8 +217,15 @@ cancel_same plan past v (Some s) ties = ap (λ t. cond t [] (option_map_or (λ b
 
 -- the view tells what the event submits
 pub submits_are : (plan : PlanView) (past : List Event) (e : Event) (v : MachineView) → IsPlan plan → IsLawful plan (e ∷ past) → PartsFit plan v → OwnFit plan v → GroupsAre plan past v → BlocksAre plan past v
-    → SourcesAre plan past v → submits plan v e ≡ new_submissions plan past e
-submits_are plan past e v valid lawful fit own groups blocks sources =
-    append_assoc (submitted_by (act_of plan e) ++ at_cancel plan v (cancels plan e)) (at_empty v (emptied_by plan v e)) (at_notify v (act_of plan e))
-    ∙ (ap (λ l. (submitted_by (act_of plan e) ++ l) ++ (at_empty v (emptied_by plan v e) ++ at_notify v (act_of plan e))) (cancel_same plan past v (cancels plan e) sources)
-    ∙ ap (λ l. (submitted_by (act_of plan e) ++ at_cancel_of plan past (cancels plan e)) ++ l) (sym (fires plan past e v valid lawful fit own groups blocks)))
+    → SourcesAre plan past v → BlockMarksAre plan past v → submits plan v e ≡ new_submissions plan past e
+submits_are plan past e v valid lawful fit own groups blocks sources marks =
+    let first = submitted_by plan (act_of plan e) ++ accepted_by plan e in
+    let ends = at_end v e in
+    let told = at_told v (act_of plan e) in
+    let empties = at_empty v (emptied_by plan v e) in
+    let fired = at_notify v (act_of plan e) in
+    append_assoc (((first ++ at_cancel plan v (cancels plan e)) ++ ends) ++ told) empties fired
+    ∙ (ap (λ l. l ++ (empties ++ fired)) (append_assoc (first ++ at_cancel plan v (cancels plan e)) ends told)
+    ∙ (ap (λ l. ((first ++ l) ++ (ends ++ told)) ++ (empties ++ fired)) (cancel_same plan past v (cancels plan e) sources)
+    ∙ (ap (λ l. ((first ++ at_cancel_of plan past (cancels plan e)) ++ l) ++ (empties ++ fired)) (sym (tells plan past e v valid lawful marks))
+    ∙ ap (λ l. ((first ++ at_cancel_of plan past (cancels plan e)) ++ flat_map (at_end_of plan past e) (range_with_len 0 (length plan.blocks))) ++ l) (sym (fires plan past e v valid lawful fit own groups blocks)))))

@@ -1,20 +1,21 @@
 -- Which parked blocks may wake after an event: those that might before and were not woken, and those whose wait it ends.
-use Rattle.std.proofs.Common.{◌≡◌, ⊎_elim, ℕ, zero, suc, ◌+◌, ◌<◌, ◌==◌, nat_lt, Bool, true, false, not, ◌&&◌, ◌||◌, cond, List, [], ◌∷◌, ◌++◌, length, drop, take, set, get_or, Option, Some, None, refl, ap, sym, ◌∙◌, subst, arith, eq-eqb, option_to_list}
+use Rattle.std.proofs.Common.{◌≡◌, ⊎_elim, ℕ, zero, suc, ◌+◌, ◌<◌, ◌==◌, nat_lt, Bool, true, false, not, ◌&&◌, ◌||◌, cond, List, [], ◌∷◌, ◌++◌, length, map, drop, take, set, get_or, Option, Some, None, refl, ap, sym, ◌∙◌, subst, arith, eq-eqb, option_to_list}
 use Rattle.std.specs.List.{fold, slice_get, slice_index_or}
-use Rattle.std.specs.Option.{option_map_or}
+use Rattle.std.specs.Option.{option_map_or, option_and_then}
 use Rattle.std.proofs.lemmas.Bool.{cases_Bool, both_ways, not-true, lt-ltb, and_parts, or_left, or_right, false_from_ne_true}
 use Rattle.std.proofs.lemmas.List.{length-set}
+use Rattle.std.proofs.lemmas.Option.{same_Some}
 use Rattle.gcd_plan.specs.PlanView.{PlanView}
 use Rattle.gcd_plan.specs.Kinds.{has_kind, is_group_kind, is_semaphore_kind}
 use Rattle.gcd_plan.specs.Validity.{IsPlan}
 use Rattle.gcd_plan.specs.declared.act.Act.{Act}
-use Rattle.gcd_plan.specs.declared.act.Act.TheVariants.{GroupWait, GroupWaitFor, Signal, Wait, WaitFor}
+use Rattle.gcd_plan.specs.declared.act.Act.TheVariants.{GroupWait, GroupWaitFor, Signal, Wait, WaitFor, Apply, WaitBlock}
 use Rattle.gcd_plan.specs.declared.numbers.Blk.{Blk}
 use Rattle.gcd_plan.specs.declared.numbers.Obj.{Obj}
 use Rattle.gcd_plan.specs.declared.numbers.Run.{Run}
 use Rattle.gcd_plan.specs.declared.numbers.Run.TheVariants.{Block, Source}
 use Rattle.gcd_plan.specs.declared.reason.Reason.{Reason}
-use Rattle.gcd_plan.specs.declared.reason.Reason.TheVariants.{Block as EndOf, Group as Empty, Rank}
+use Rattle.gcd_plan.specs.declared.reason.Reason.TheVariants.{Block as EndOf, Group as Empty, Strip, Rank}
 use Rattle.gcd_event.specs.declared.event.Event.{Event}
 use Rattle.gcd_event.specs.declared.event.Event.TheVariants.{Act as Acted, Wake, End, Expire}
 use Rattle.gcd_history.specs.Runs.{act_at, act_of, is_ended}
@@ -26,18 +27,20 @@ use Rattle.gcd_history.specs.Permitted.{IsLawful}
 use Rattle.gcd_history.specs.Facts.{wakes}
 use Rattle.gcd_history.proofs.StartedOnce.{at_its_end, open_not_ended}
 use Rattle.gcd_history.proofs.SubmittedOnNodes.{recorded_fits}
+use Rattle.gcd_lists.specs.ListsView.{list_at}
+use Rattle.gcd_apply.specs.StripsView.{strip_of, left_at}
 use Rattle.gcd_group.specs.GroupsView.{count_at}
 use Rattle.gcd_sema.specs.SemasView.{has_value_at}
-use Rattle.gcd_refinement.specs.MachineView.{MachineView, block_at}
+use Rattle.gcd_refinement.specs.MachineView.{MachineView, block_at, ended_at, applier_at}
 use Rattle.gcd_refinement.specs.Shape.{PartsFit, OwnFit}
-use Rattle.gcd_refinement.specs.Sleepers.{caller_of, waits_for_group, unexpired_blocks, sema_waits}
-use Rattle.gcd_refinement.specs.Ties.{GroupsAre, SemasAre, WaitsAre, BlocksAre, WakesAre}
-use Rattle.gcd_refinement.specs.Submits.{emptied_by, sleepers_at, come_at_once, come_to_run, signalled, come_by}
+use Rattle.gcd_refinement.specs.Sleepers.{caller_of, waits_for_group, is_done, unexpired_blocks, sema_waits}
+use Rattle.gcd_refinement.specs.Ties.{GroupsAre, SemasAre, WaitsAre, BlocksAre, WakesAre, WaitersAre, StripsAre}
+use Rattle.gcd_refinement.specs.Submits.{emptied_by, sleepers_at, come_at_once, come_to_run, signalled, done_by, let_go_by, come_by}
 use Rattle.gcd_refinement.specs.After.{with_wakeable, woken}
 use Rattle.gcd_refinement.proofs.Writes.{entry_within}
 use Rattle.gcd_refinement.proofs.Members.{is_group}
 use Rattle.gcd_refinement.proofs.ParkedNew.{now_parked, still_parked}
-use Rattle.gcd_refinement.proofs.Called.{awaited_from_caller}
+use Rattle.gcd_refinement.proofs.Called.{awaited_from_caller, waiter_parked}
 use Rattle.gcd_refinement.proofs.Expiring.{expires_now, expired_now}
 use Rattle.gcd_refinement.proofs.SemaEnds.{signal_over, begun_over}
 use Rattle.gcd_refinement.proofs.Among.{among, split, alone}
@@ -45,6 +48,10 @@ use Rattle.gcd_refinement.proofs.GroupSleepers.{parked_since, not_over, sleeper_
 use Rattle.gcd_refinement.proofs.KindsSleep.{group_is_no_semaphore}
 use Rattle.gcd_refinement.proofs.NoCount.{no_count}
 use Rattle.gcd_refinement.proofs.Emptied.{is_emptied, emptied_is}
+use Rattle.gcd_refinement.proofs.StripBlocks.{is_its_strip, strip_at_is}
+use Rattle.gcd_refinement.proofs.StepStrips.{end_within}
+use Rattle.gcd_refinement.proofs.StripSleepers.{strip_sleeper_parked}
+use Rattle.gcd_refinement.proofs.StepWaiters.{done_is, done_after}
 use Rattle.gcd_refinement.proofs.StepAsleep.{value_is, sema_tie, group_tie, waits_count}
 
 -- what stands before the event
@@ -58,6 +65,8 @@ pub record Before (plan : PlanView) (past : List Event) (e : Event) (v : Machine
   pub blocks : BlocksAre plan past v
   pub waits : WaitsAre plan past v
   pub wakes : WakesAre plan past v
+  pub waiters : WaitersAre plan past v
+  pub strips : StripsAre plan past v
 
 -- ## Truth values and lists
 
@@ -178,6 +187,45 @@ caller_wakes plan past w c v b bf any =
           (or_left (is_ended (End w c ∷ past) c.0) false (or_left (c.0 == c.0) (is_ended past c.0) (eq-eqb c.0 c.0 refl)))
     ] refl any
 
+waiter_wakes : (plan : PlanView) (past : List Event) (w : ℕ) (c : Blk) (v : MachineView) (b : Blk) → Before plan past (End w c) v → among b (map (λ k. k.0) (list_at v.waiters c.0)) ≡ true → may_wake plan (End w c ∷ past) b.0 ≡ true
+unfolding has_come has_run_out
+waiter_wakes plan past w c v b bf any =
+    let waits = waiter_parked plan past b c bf.lawful.0 (ap (among b) (sym (bf.waiters.of_block c.0)) ∙ any) in
+    may_from plan (End w c ∷ past) b (EndOf c) (still_parked plan past (End w c) b (EndOf c) bf.lawful waits.is (ap (λ u. u || false) waits.goes))
+    (or_left (is_ended (End w c ∷ past) c.0) false (or_left (c.0 == c.0) (is_ended past c.0) (eq-eqb c.0 c.0 refl)))
+
+-- what is known of the strip of which the block that ends is the last
+record IsLast (plan : PlanView) (v : MachineView) (c : Blk) (a : ℕ) : Type 0 where
+  own : is_its_strip plan c.0 a ≡ true
+  one : (left_at v.strips a == 1) ≡ true
+
+last_of_strip : (plan : PlanView) (v : MachineView) (c : Blk) (a : ℕ) → PartsFit plan v → c.0 < length plan.blocks → done_by v c ≡ Some a → IsLast plan v c a
+last_of_strip plan v c a fit low at =
+    by (strip_of plan c.0) refl (ap (option_and_then (λ k. cond (left_at v.strips k == 1) (Some k) None)) (sym (strip_at_is plan v c.0 fit low)) ∙ at)
+  where
+    by : (o : Option ℕ) → strip_of plan c.0 ≡ o → option_and_then (λ k. cond (left_at v.strips k == 1) (Some k) None) o ≡ Some a → IsLast plan v c a
+    by None is h = cc
+    by (Some k) is h =
+        elim (left_at v.strips k == 1) as (λ t. (left_at v.strips k == 1) ≡ t → cond t (Some k) None ≡ Some a → IsLast plan v c a) [
+          | true ↦ λ one j.
+              let same : k ≡ a = same_Some k a j in
+              record { own = ap (λ o. option_map_or (λ n. n == a) o false) is ∙ eq-eqb k a same; one = subst (λ n. (left_at v.strips n == 1) ≡ true) same one }
+          | false ↦ λ more j. cc
+        ] refl h
+
+applier_wakes : (plan : PlanView) (past : List Event) (w : ℕ) (c : Blk) (v : MachineView) (b : Blk) → Before plan past (End w c) v → among b (option_to_list (option_and_then (applier_at v) (done_by v c))) ≡ true → may_wake plan (End w c ∷ past) b.0 ≡ true
+unfolding has_come has_run_out
+applier_wakes plan past w c v b bf any =
+    elim (done_by v c) as (λ o. done_by v c ≡ o → among b (option_to_list (option_and_then (applier_at v) o)) ≡ true → may_wake plan (End w c ∷ past) b.0 ≡ true) [
+      | None ↦ λ at h. cc
+      | Some a ↦ λ at h.
+          let last = last_of_strip plan v c a bf.fit (end_within plan past w c bf.lawful) at in
+          let slept = strip_sleeper_parked plan past b a bf.lawful.0 (ap (among b) (sym (bf.waiters.of_strip a)) ∙ h) in
+          let done : is_done plan (End w c ∷ past) a ≡ true =
+          done_after plan past w c v a bf.valid bf.lawful bf.strips ∙ or_left (is_its_strip plan c.0 a && left_at v.strips a == 1) (is_done plan past a) (ap (λ t. t && left_at v.strips a == 1) last.own ∙ last.one) in
+          may_from plan (End w c ∷ past) b (Strip a) (still_parked plan past (End w c) b (Strip a) bf.lawful slept.is (ap (λ u. u || false) slept.on)) (or_left (is_done plan (End w c ∷ past) a) false done)
+    ] refl any
+
 -- ## What the event ends, of waits for a semaphore
 
 signal_wakes : (plan : PlanView) (past : List Event) (e : Event) (v : MachineView) (b : Blk) (act : Option Act) → Before plan past e v → act_of plan e ≡ act → among b (signalled v act) ≡ true → may_wake plan (e ∷ past) b.0 ≡ true
@@ -220,12 +268,27 @@ none_wakes plan past w d i v b g act bf at by is any =
     may_from plan (e ∷ past) b (Empty g (length past)) (parks_here plan past w d i b act (Empty g (length past)) bf.lawful at by one.1)
     (empty_now plan past e g (length past) (omega arith) (ap (λ n. n == 0) (sym counted) ∙ one.0))
 
+-- what has come is over
+strip_over : (plan : PlanView) (past : List Event) (w : ℕ) (d : Blk) (i a : ℕ) → is_done plan past a ≡ true → is_over plan (Acted w (Block d) i ∷ past) (Strip a) ≡ true
+unfolding has_come has_run_out
+strip_over plan past w d i a done = or_left (is_done plan past a) false done
+
+end_over : (plan : PlanView) (past : List Event) (w : ℕ) (d : Blk) (i : ℕ) (c : Blk) → is_ended past c.0 ≡ true → is_over plan (Acted w (Block d) i ∷ past) (EndOf c) ≡ true
+unfolding has_come has_run_out
+end_over plan past w d i c ended = or_left (is_ended past c.0) false ended
+
 once_wakes : (plan : PlanView) (past : List Event) (w : ℕ) (d : Blk) (i : ℕ) (v : MachineView) (b : Blk) (act : Option Act) → Before plan past (Acted w (Block d) i) v → act_at plan (Block d) i ≡ act → among b (come_at_once v d act) ≡ true
     → may_wake plan (Acted w (Block d) i ∷ past) b.0 ≡ true
 once_wakes plan past w d i v b (Some (Wait s)) bf at any = value_wakes plan past w d i v b s (Some (Wait s)) bf at refl (eq-eqb s.0 s.0 refl) any
 once_wakes plan past w d i v b (Some (WaitFor s ms)) bf at any = value_wakes plan past w d i v b s (Some (WaitFor s ms)) bf at refl (eq-eqb s.0 s.0 refl) any
 once_wakes plan past w d i v b (Some (GroupWait g)) bf at any = none_wakes plan past w d i v b g (Some (GroupWait g)) bf at refl (eq-eqb g.0 g.0 refl) any
 once_wakes plan past w d i v b (Some (GroupWaitFor g ms)) bf at any = none_wakes plan past w d i v b g (Some (GroupWaitFor g ms)) bf at refl (eq-eqb g.0 g.0 refl) any
+once_wakes plan past w d i v b (Some (Apply q a)) bf at any =
+    let one = one_or_none (left_at v.strips a == 0) d b any in
+    may_from plan (Acted w (Block d) i ∷ past) b (Strip a) (parks_here plan past w d i b (Some (Apply q a)) (Strip a) bf.lawful at refl one.1) (strip_over plan past w d i a (sym (done_is plan past v a bf.strips) ∙ one.0))
+once_wakes plan past w d i v b (Some (WaitBlock c)) bf at any =
+    let one = one_or_none (ended_at v c.0) d b any in
+    may_from plan (Acted w (Block d) i ∷ past) b (EndOf c) (parks_here plan past w d i b (Some (WaitBlock c)) (EndOf c) bf.lawful at refl one.1) (end_over plan past w d i c (sym (bf.blocks.ended c.0) ∙ one.0))
 once_wakes plan past w d i v b _ bf at any = cc
 
 run_wakes : (plan : PlanView) (past : List Event) (w : ℕ) (run : Run) (i : ℕ) (v : MachineView) (b : Blk) → Before plan past (Acted w run i) v → among b (come_to_run v run (act_at plan run i)) ≡ true → may_wake plan (Acted w run i ∷ past) b.0 ≡ true
@@ -243,10 +306,16 @@ expire_wakes plan past b v bf =
 -- whose wait the event ends may wake
 pub come_may : (plan : PlanView) (past : List Event) (e : Event) (v : MachineView) (b : Blk) → Before plan past e v → among b (come_by plan v e) ≡ true → may_wake plan (e ∷ past) b.0 ≡ true
 come_may plan past (End w c) v b bf any =
+    let caller = option_to_list (block_at v c.0).caller in
+    let waiters = map (λ k. k.0) (list_at v.waiters c.0) in
     ⊎_elim
-    (λ h. caller_wakes plan past w c v b bf h)
+    (λ h.
+    ⊎_elim
+    (λ k. ⊎_elim (λ m. caller_wakes plan past w c v b bf m) (λ m. waiter_wakes plan past w c v b bf m) (split b caller waiters k))
+    (λ k. applier_wakes plan past w c v b bf k)
+    (split b (caller ++ waiters) (option_to_list (option_and_then (applier_at v) (done_by v c))) h))
     (λ h. emptied_wakes plan past (End w c) v b bf h)
-    (split b (option_to_list (block_at v c.0).caller) (sleepers_at v (emptied_by plan v (End w c))) any)
+    (split b (let_go_by v c) (sleepers_at v (emptied_by plan v (End w c))) any)
 come_may plan past (Acted w run i) v b bf any =
     ⊎_elim
     (λ h.

@@ -1,35 +1,37 @@
 -- How an event changes each part of the view: by the part's own words where it has one. A misuse and a halt change the flags
 -- and the length alone.
-use Rattle.std.specs.Prelude.{ℕ, zero, suc, ◌+◌, ◌-◌, ◌==◌, nat_lt, Bool, true, false, ◌||◌, if◌then◌else◌, List, [], ◌∷◌, ◌++◌, length, drop, fold, Option, Some, None, slice_index, slice_index_or, slice_set}
+use Rattle.std.specs.Prelude.{ℕ, zero, suc, ◌+◌, ◌-◌, ◌==◌, nat_lt, Bool, true, false, ◌||◌, if◌then◌else◌, List, length, fold, Option, Some, None, slice_index, slice_index_or, slice_set}
 use Rattle.std.specs.Option.{option_map_or}
 use Rattle.gcd_plan.specs.PlanView.{PlanView}
 use Rattle.gcd_plan.specs.declared.act.Act.{Act}
-use Rattle.gcd_plan.specs.declared.act.Act.TheVariants.{Async, Barrier, Sync, BarrierSync, GroupAsync, Notify, Enter, Leave, GroupWait, GroupWaitFor, Signal, Wait, WaitFor, Suspend, Resume, Activate, Target, Merge, Cancel, Retain, Release}
+use Rattle.gcd_plan.specs.declared.act.Act.TheVariants.{Async, Barrier, Sync, BarrierSync, GroupAsync, Notify, Enter, Leave, GroupWait, GroupWaitFor, Signal, Wait, WaitFor, Suspend, Resume, Activate, Target, Merge, Cancel, Retain, Release, Apply, CancelBlock, WaitBlock, NotifyBlock}
 use Rattle.gcd_plan.specs.declared.numbers.Blk.{Blk}
 use Rattle.gcd_plan.specs.declared.numbers.Obj.{Obj}
 use Rattle.gcd_plan.specs.declared.numbers.Run.{Run}
 use Rattle.gcd_plan.specs.declared.numbers.Run.TheVariants.{Block, Source}
 use Rattle.gcd_plan.specs.declared.reason.Reason.{Reason}
-use Rattle.gcd_plan.specs.declared.reason.Reason.TheVariants.{Block as EndOf, Group as Empty, Rank}
+use Rattle.gcd_plan.specs.declared.reason.Reason.TheVariants.{Block as EndOf, Group as Empty, Strip, Rank}
 use Rattle.gcd_event.specs.declared.event.Event.{Event}
-use Rattle.gcd_event.specs.declared.event.Event.TheVariants.{Start, Act as Acted, Wake, End, Deliver, DeliverEnd, Tick, Ready, FeedEnd, Misuse, Halt, Expire}
+use Rattle.gcd_event.specs.declared.event.Event.TheVariants.{Start, Act as Acted, Wake, End, Deliver, DeliverEnd, Tick, Ready, FeedEnd, Misuse, Halt, Expire, Accept, Shut}
 use Rattle.gcd_history.specs.declared.submission.Submission.{Submission}
 use Rattle.gcd_history.specs.Runs.{act_at, act_of}
 use Rattle.gcd_history.specs.Submitted.{cancels}
-use Rattle.gcd_lists.specs.ListsView.{ListsView, list_at, without}
+use Rattle.gcd_lists.specs.ListsView.{ListsView, list_at}
 use Rattle.gcd_tree.specs.TreeView.{TreeView, open_on_at, with_target, with_request, with_open, settled}
 use Rattle.gcd_hold.specs.HoldsView.{HoldsView, hold_at, with_hold, with_active}
 use Rattle.gcd_drain.specs.DrainsView.{DrainsView, barriers_at, with_barriers}
-use Rattle.gcd_group.specs.GroupsView.{GroupsView, count_at, entered_at, due_at, with_one_more, with_one_less, with_entered, with_notify, with_fired}
-use Rattle.gcd_sema.specs.SemasView.{SemasView, signals_at, waits_at, has_value_at, with_signals, with_wait, with_expired as with_expired_wait}
+use Rattle.gcd_group.specs.GroupsView.{GroupsView, entered_at, due_at, with_one_more, with_one_less, with_entered, with_notify, with_fired}
+use Rattle.gcd_sema.specs.SemasView.{SemasView, signals_at, waits_at, with_signals, with_wait, with_expired as with_expired_wait}
 use Rattle.gcd_sync.specs.WaitsView.{WaitsView, reason_at, with_parked, with_woken, with_expired}
 use Rattle.gcd_source.specs.SourcesView.{SourcesView, pending_at, merged_at, with_pending, with_cancelled as with_cancelled_source}
 use Rattle.gcd_timer.specs.TimersView.{TimersView, due_count_at, with_activated, with_cancelled as with_cancelled_timer, marked_by}
 use Rattle.gcd_refinement.specs.MachineView.{MachineView, idle, undelivered, block_at, handler_at}
 use Rattle.gcd_refinement.specs.declared.progress.BlockProgress.{BlockProgress}
 use Rattle.gcd_refinement.specs.declared.progress.HandlerProgress.{HandlerProgress}
-use Rattle.gcd_refinement.specs.Submits.{emptied_by, submits, activated_by, newly_cancelled, come_by}
+use Rattle.gcd_refinement.specs.Submits.{submits, activated_by, newly_cancelled, come_by}
 use Rattle.gcd_refinement.specs.AfterLimits.{limit_in_view, ahead_after, ripe_after}
+use Rattle.gcd_refinement.specs.AfterSleepers.{popped, pushed_on, sleepers_after, waiters_after, appliers_after}
+use Rattle.gcd_refinement.specs.AfterStrips.{strips_after, marks_after, accepted_after, shut_after}
 use Rattle.gcd_refinement.specs.AfterTotals.{workers_after, running_after, left_after, live_after, is_misuse, is_halt}
 
 -- ## References
@@ -57,20 +59,15 @@ refs_by refs (Some (Merge s n)) = refs
 refs_by refs (Some (Cancel s)) = refs
 refs_by refs (Some (Retain o)) = slice_set refs o.0 (slice_index refs o.0 + 1)
 refs_by refs (Some (Release o)) = slice_set refs o.0 (slice_index refs o.0 - 1)
+refs_by refs (Some (Apply q a)) = refs
+refs_by refs (Some (CancelBlock c)) = refs
+refs_by refs (Some (WaitBlock c)) = refs
+refs_by refs (Some (NotifyBlock c q d)) = refs
 
 abbrev pub refs_after : PlanView → MachineView → Event → List ℕ
 refs_after plan v e = refs_by v.refs (act_of plan e)
 
 -- ## Lists
-
--- the lists without the first that waits on the node, if there is one
-abbrev pub popped : ListsView → Option Obj → ListsView
-popped lists None = lists
-popped lists (Some n) = record lists { lists = slice_set lists.lists n.0 (drop 1 (list_at lists n.0)) }
-
--- the lists with the block behind all that wait on the node
-abbrev pub pushed_on : ListsView → Obj → Blk → Bool → ListsView
-pushed_on lists n b barrier = record lists { lists = slice_set lists.lists n.0 (list_at lists n.0 ++ (b, barrier) ∷ []) }
 
 abbrev pub pushed : ListsView → Submission → ListsView
 pushed lists s = option_map_or (λ n. pushed_on lists n s.blk s.barrier) s.node lists
@@ -89,6 +86,8 @@ begun v (FeedEnd s) = v.lists
 begun v (Misuse w c run i) = v.lists
 begun v Halt = v.lists
 begun v (Expire b) = v.lists
+begun v (Accept b s) = v.lists
+begun v Shut = v.lists
 
 abbrev pub lists_after : PlanView → MachineView → Event → ListsView
 lists_after plan v e = fold pushed (begun v e) (submits plan v e)
@@ -129,6 +128,10 @@ targeted tree (Some (Merge s n)) = tree
 targeted tree (Some (Cancel s)) = tree
 targeted tree (Some (Retain o)) = tree
 targeted tree (Some (Release o)) = tree
+targeted tree (Some (Apply q a)) = tree
+targeted tree (Some (CancelBlock c)) = tree
+targeted tree (Some (WaitBlock c)) = tree
+targeted tree (Some (NotifyBlock c q d)) = tree
 
 abbrev pub tree_after : PlanView → MachineView → Event → TreeView
 tree_after plan v (Start w b) = opened v.tree (block_at v b.0).node
@@ -143,6 +146,8 @@ tree_after plan v (FeedEnd s) = v.tree
 tree_after plan v (Misuse w c run i) = v.tree
 tree_after plan v Halt = v.tree
 tree_after plan v (Expire b) = v.tree
+tree_after plan v (Accept b s) = v.tree
+tree_after plan v Shut = v.tree
 
 -- ## Holds
 
@@ -170,6 +175,10 @@ holds_by holds (Some (Merge s n)) = holds
 holds_by holds (Some (Cancel s)) = holds
 holds_by holds (Some (Retain o)) = holds
 holds_by holds (Some (Release o)) = holds
+holds_by holds (Some (Apply q a)) = holds
+holds_by holds (Some (CancelBlock c)) = holds
+holds_by holds (Some (WaitBlock c)) = holds
+holds_by holds (Some (NotifyBlock c q d)) = holds
 
 abbrev pub holds_after : PlanView → MachineView → Event → HoldsView
 holds_after plan v e = holds_by v.holds (act_of plan e)
@@ -198,6 +207,8 @@ drains_after plan v (FeedEnd s) = v.drains
 drains_after plan v (Misuse w c run i) = v.drains
 drains_after plan v Halt = v.drains
 drains_after plan v (Expire b) = v.drains
+drains_after plan v (Accept b s) = v.drains
+drains_after plan v Shut = v.drains
 
 -- ## Groups
 
@@ -235,6 +246,10 @@ groups_by groups at (Some (Merge s n)) = groups
 groups_by groups at (Some (Cancel s)) = groups
 groups_by groups at (Some (Retain o)) = groups
 groups_by groups at (Some (Release o)) = groups
+groups_by groups at (Some (Apply q a)) = groups
+groups_by groups at (Some (CancelBlock c)) = groups
+groups_by groups at (Some (WaitBlock c)) = groups
+groups_by groups at (Some (NotifyBlock c q d)) = groups
 
 -- a member of the group has ended, if there is one
 abbrev pub member_ended : GroupsView → (at : ℕ) → Option Obj → GroupsView
@@ -254,6 +269,8 @@ groups_after plan v (FeedEnd s) = v.groups
 groups_after plan v (Misuse w c run i) = v.groups
 groups_after plan v Halt = v.groups
 groups_after plan v (Expire b) = v.groups
+groups_after plan v (Accept b s) = v.groups
+groups_after plan v Shut = v.groups
 
 -- ## Semaphores
 
@@ -280,12 +297,17 @@ semas_by semas (Some (Merge s n)) = semas
 semas_by semas (Some (Cancel s)) = semas
 semas_by semas (Some (Retain o)) = semas
 semas_by semas (Some (Release o)) = semas
+semas_by semas (Some (Apply q a)) = semas
+semas_by semas (Some (CancelBlock c)) = semas
+semas_by semas (Some (WaitBlock c)) = semas
+semas_by semas (Some (NotifyBlock c q d)) = semas
 
 -- the wait for this has expired, where it is one on a semaphore
 abbrev pub semas_expired : SemasView → Option Reason → SemasView
 semas_expired semas None = semas
 semas_expired semas (Some (EndOf b)) = semas
 semas_expired semas (Some (Empty g position)) = semas
+semas_expired semas (Some (Strip a)) = semas
 semas_expired semas (Some (Rank s k)) = with_expired_wait semas s.0 k
 
 abbrev pub semas_after : PlanView → MachineView → Event → SemasView
@@ -301,6 +323,8 @@ semas_after plan v (FeedEnd s) = v.semas
 semas_after plan v (Misuse w c run i) = v.semas
 semas_after plan v Halt = v.semas
 semas_after plan v (Expire b) = semas_expired v.semas (reason_at v.waits b.0)
+semas_after plan v (Accept b s) = v.semas
+semas_after plan v Shut = v.semas
 
 -- ## Parked blocks
 
@@ -328,6 +352,10 @@ awaited_in_view v (Some (Merge s n)) = None
 awaited_in_view v (Some (Cancel s)) = None
 awaited_in_view v (Some (Retain o)) = None
 awaited_in_view v (Some (Release o)) = None
+awaited_in_view v (Some (Apply q a)) = Some (Strip a)
+awaited_in_view v (Some (CancelBlock c)) = None
+awaited_in_view v (Some (WaitBlock c)) = Some (EndOf c)
+awaited_in_view v (Some (NotifyBlock c q d)) = None
 
 -- with this limit, or without one
 abbrev pub parked_for : WaitsView → Run → Option Reason → (limit : Option ℕ) → WaitsView
@@ -349,94 +377,8 @@ waits_after plan v (FeedEnd s) = v.waits
 waits_after plan v (Misuse w c run i) = v.waits
 waits_after plan v Halt = v.waits
 waits_after plan v (Expire b) = with_expired v.waits b.0
-
--- the blocks that sleep at an object, behind which a block goes to sleep where what it waits for has not come
-abbrev pub asleep : MachineView → Blk → Option Act → ListsView
-asleep v b None = v.sleepers
-asleep v b (Some (Async q c)) = v.sleepers
-asleep v b (Some (Barrier q c)) = v.sleepers
-asleep v b (Some (Sync q c)) = v.sleepers
-asleep v b (Some (BarrierSync q c)) = v.sleepers
-asleep v b (Some (GroupAsync g q c)) = v.sleepers
-asleep v b (Some (Notify g q c)) = v.sleepers
-asleep v b (Some (Enter g)) = v.sleepers
-asleep v b (Some (Leave g)) = v.sleepers
-asleep v b (Some (GroupWait g)) = if count_at v.groups g.0 == 0 then v.sleepers else pushed_on v.sleepers g b false
-asleep v b (Some (GroupWaitFor g ms)) = if count_at v.groups g.0 == 0 then v.sleepers else pushed_on v.sleepers g b false
-asleep v b (Some (Signal s)) = popped v.sleepers (Some s)
-asleep v b (Some (Wait s)) = if has_value_at v.semas s.0 then v.sleepers else pushed_on v.sleepers s b false
-asleep v b (Some (WaitFor s ms)) = if has_value_at v.semas s.0 then v.sleepers else pushed_on v.sleepers s b false
-asleep v b (Some (Suspend o)) = v.sleepers
-asleep v b (Some (Resume o)) = v.sleepers
-asleep v b (Some (Activate o)) = v.sleepers
-asleep v b (Some (Target o t)) = v.sleepers
-asleep v b (Some (Merge s n)) = v.sleepers
-asleep v b (Some (Cancel s)) = v.sleepers
-asleep v b (Some (Retain o)) = v.sleepers
-asleep v b (Some (Release o)) = v.sleepers
-
--- a handler waits for nothing, but may signal
-abbrev pub asleep_by_handler : MachineView → Option Act → ListsView
-asleep_by_handler v None = v.sleepers
-asleep_by_handler v (Some (Async q b)) = v.sleepers
-asleep_by_handler v (Some (Barrier q b)) = v.sleepers
-asleep_by_handler v (Some (Sync q b)) = v.sleepers
-asleep_by_handler v (Some (BarrierSync q b)) = v.sleepers
-asleep_by_handler v (Some (GroupAsync g q b)) = v.sleepers
-asleep_by_handler v (Some (Notify g q b)) = v.sleepers
-asleep_by_handler v (Some (Enter g)) = v.sleepers
-asleep_by_handler v (Some (Leave g)) = v.sleepers
-asleep_by_handler v (Some (GroupWait g)) = v.sleepers
-asleep_by_handler v (Some (GroupWaitFor g ms)) = v.sleepers
-asleep_by_handler v (Some (Signal s)) = popped v.sleepers (Some s)
-asleep_by_handler v (Some (Wait s)) = v.sleepers
-asleep_by_handler v (Some (WaitFor s ms)) = v.sleepers
-asleep_by_handler v (Some (Suspend o)) = v.sleepers
-asleep_by_handler v (Some (Resume o)) = v.sleepers
-asleep_by_handler v (Some (Activate o)) = v.sleepers
-asleep_by_handler v (Some (Target o t)) = v.sleepers
-asleep_by_handler v (Some (Merge s n)) = v.sleepers
-asleep_by_handler v (Some (Cancel s)) = v.sleepers
-asleep_by_handler v (Some (Retain o)) = v.sleepers
-asleep_by_handler v (Some (Release o)) = v.sleepers
-
-abbrev pub asleep_by : MachineView → Run → Option Act → ListsView
-asleep_by v (Block b) act = asleep v b act
-asleep_by v (Source s) act = asleep_by_handler v act
-
--- the object at which a block sleeps that waits for this
-abbrev pub bed_of : Option Reason → Option Obj
-bed_of None = None
-bed_of (Some (EndOf b)) = None
-bed_of (Some (Empty g position)) = Some g
-bed_of (Some (Rank s k)) = Some s
-
--- the lists without block b, which is on the object's, if there is one
-abbrev pub removed : ListsView → Option Obj → Blk → ListsView
-removed lists None b = lists
-removed lists (Some o) b = record lists { lists = slice_set lists.lists o.0 (without b.0 (list_at lists o.0)) }
-
-abbrev pub asleep_after : PlanView → MachineView → Event → ListsView
-asleep_after plan v (Start w b) = v.sleepers
-asleep_after plan v (Acted w run i) = asleep_by v run (act_at plan run i)
-asleep_after plan v (Wake w b) = v.sleepers
-asleep_after plan v (End w b) = v.sleepers
-asleep_after plan v (Deliver w s) = v.sleepers
-asleep_after plan v (DeliverEnd w s) = v.sleepers
-asleep_after plan v (Tick t) = v.sleepers
-asleep_after plan v (Ready s n) = v.sleepers
-asleep_after plan v (FeedEnd s) = v.sleepers
-asleep_after plan v (Misuse w c run i) = v.sleepers
-asleep_after plan v Halt = v.sleepers
-asleep_after plan v (Expire b) = removed v.sleepers (bed_of (reason_at v.waits b.0)) b
-
--- nobody sleeps at the object any more, if there is one
-abbrev pub all_woken : ListsView → Option Obj → ListsView
-all_woken sleepers None = sleepers
-all_woken sleepers (Some g) = record sleepers { lists = slice_set sleepers.lists g.0 [] }
-
-abbrev pub sleepers_after : PlanView → MachineView → Event → ListsView
-sleepers_after plan v e = all_woken (asleep_after plan v e) (emptied_by plan v e)
+waits_after plan v (Accept b s) = v.waits
+waits_after plan v Shut = v.waits
 
 -- the block may wake
 abbrev pub with_wakeable : List Bool → Blk → List Bool
@@ -456,6 +398,8 @@ woken wakeable (FeedEnd s) = wakeable
 woken wakeable (Misuse w c run i) = wakeable
 woken wakeable Halt = wakeable
 woken wakeable (Expire b) = wakeable
+woken wakeable (Accept b s) = wakeable
+woken wakeable Shut = wakeable
 
 abbrev pub wakeable_after : PlanView → MachineView → Event → List Bool
 wakeable_after plan v e = fold with_wakeable (woken v.wakeable e) (come_by plan v e)
@@ -490,6 +434,10 @@ merged_by sources (Some (Merge s n)) = with_pending sources s.0 (merged_at sourc
 merged_by sources (Some (Cancel s)) = sources
 merged_by sources (Some (Retain o)) = sources
 merged_by sources (Some (Release o)) = sources
+merged_by sources (Some (Apply q a)) = sources
+merged_by sources (Some (CancelBlock c)) = sources
+merged_by sources (Some (WaitBlock c)) = sources
+merged_by sources (Some (NotifyBlock c q d)) = sources
 
 abbrev pub values_after : PlanView → MachineView → Event → SourcesView
 values_after plan v (Start w b) = v.sources
@@ -504,6 +452,8 @@ values_after plan v (FeedEnd s) = v.sources
 values_after plan v (Misuse w c run i) = v.sources
 values_after plan v Halt = v.sources
 values_after plan v (Expire b) = v.sources
+values_after plan v (Accept b s) = v.sources
+values_after plan v Shut = v.sources
 
 abbrev pub sources_after : PlanView → MachineView → Event → SourcesView
 sources_after plan v e = source_cancelled (values_after plan v e) (cancels plan e)
@@ -522,6 +472,8 @@ ticked timers (FeedEnd s) = timers
 ticked timers (Misuse w c run i) = timers
 ticked timers Halt = timers
 ticked timers (Expire b) = timers
+ticked timers (Accept b s) = timers
+ticked timers Shut = timers
 
 abbrev pub activated : TimersView → Option Obj → TimersView
 activated timers None = timers
@@ -569,6 +521,10 @@ arranged blocks (Some (Merge s n)) = blocks
 arranged blocks (Some (Cancel s)) = blocks
 arranged blocks (Some (Retain o)) = blocks
 arranged blocks (Some (Release o)) = blocks
+arranged blocks (Some (Apply q a)) = blocks
+arranged blocks (Some (CancelBlock c)) = blocks
+arranged blocks (Some (WaitBlock c)) = blocks
+arranged blocks (Some (NotifyBlock c q d)) = with_block blocks d.0 (λ x. record x { home = q })
 
 -- block b waits for the end of the block that it submits
 abbrev pub called : List BlockProgress → Blk → Option Act → List BlockProgress
@@ -594,6 +550,10 @@ called blocks b (Some (Merge s n)) = blocks
 called blocks b (Some (Cancel s)) = blocks
 called blocks b (Some (Retain o)) = blocks
 called blocks b (Some (Release o)) = blocks
+called blocks b (Some (Apply q a)) = blocks
+called blocks b (Some (CancelBlock c)) = blocks
+called blocks b (Some (WaitBlock c)) = blocks
+called blocks b (Some (NotifyBlock c q d)) = blocks
 
 -- block b has made one act more
 abbrev pub counted : List BlockProgress → Run → Option Act → List BlockProgress
@@ -613,6 +573,8 @@ blocks_by plan v (FeedEnd s) = v.blocks
 blocks_by plan v (Misuse w c run i) = v.blocks
 blocks_by plan v Halt = v.blocks
 blocks_by plan v (Expire b) = v.blocks
+blocks_by plan v (Accept b s) = v.blocks
+blocks_by plan v Shut = v.blocks
 
 abbrev pub blocks_after : PlanView → MachineView → Event → List BlockProgress
 blocks_after plan v e = fold noted (blocks_by plan v e) (submits plan v e)
@@ -630,6 +592,8 @@ ended_after v (FeedEnd s) = v.ended
 ended_after v (Misuse w c run i) = v.ended
 ended_after v Halt = v.ended
 ended_after v (Expire b) = v.ended
+ended_after v (Accept b s) = v.ended
+ended_after v Shut = v.ended
 
 -- ## Handlers
 
@@ -659,6 +623,8 @@ handlers_after v (FeedEnd s) = v.handlers
 handlers_after v (Misuse w c run i) = v.handlers
 handlers_after v Halt = v.handlers
 handlers_after v (Expire b) = v.handlers
+handlers_after v (Accept b s) = v.handlers
+handlers_after v Shut = v.handlers
 
 -- ## Marks
 
@@ -699,6 +665,10 @@ busy_by busy (Some (Merge s n)) = if n == 0 then busy else slice_set busy s.0 tr
 busy_by busy (Some (Cancel s)) = busy
 busy_by busy (Some (Retain o)) = busy
 busy_by busy (Some (Release o)) = busy
+busy_by busy (Some (Apply q a)) = busy
+busy_by busy (Some (CancelBlock c)) = busy
+busy_by busy (Some (WaitBlock c)) = busy
+busy_by busy (Some (NotifyBlock c q d)) = busy
 
 -- object s is a timer with a due time that no delivery took
 abbrev pub has_due : TimersView → List HandlerProgress → ℕ → Bool
@@ -717,6 +687,8 @@ busy_at_event plan v (FeedEnd s) = v.busy
 busy_at_event plan v (Misuse w c run i) = v.busy
 busy_at_event plan v Halt = v.busy
 busy_at_event plan v (Expire b) = v.busy
+busy_at_event plan v (Accept b s) = v.busy
+busy_at_event plan v Shut = v.busy
 
 abbrev pub busy_after : PlanView → MachineView → Event → List Bool
 busy_after plan v e = fold marked (busy_at_event plan v e) (submits plan v e)
@@ -738,6 +710,12 @@ after plan v e = record {
   sources = sources_after plan v e;
   timers = timers_after plan v e;
   sleepers = sleepers_after plan v e;
+  waiters = waiters_after plan v e;
+  appliers = appliers_after plan v e;
+  strips = strips_after v e;
+  marks = marks_after plan v e;
+  accepted = accepted_after v e;
+  shut = shut_after v e;
   blocks = blocks_after plan v e;
   ended = ended_after v e;
   wakeable = wakeable_after plan v e;

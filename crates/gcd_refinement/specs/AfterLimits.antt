@@ -4,11 +4,11 @@ use Rattle.std.specs.Option.{option_map_or}
 use Rattle.std.specs.List.{range_with_len}
 use Rattle.gcd_plan.specs.PlanView.{PlanView}
 use Rattle.gcd_plan.specs.declared.act.Act.{Act}
-use Rattle.gcd_plan.specs.declared.act.Act.TheVariants.{Async, Barrier, Sync, BarrierSync, GroupAsync, Notify, Enter, Leave, GroupWait, GroupWaitFor, Signal, Wait, WaitFor, Suspend, Resume, Activate, Target, Merge, Cancel, Retain, Release}
+use Rattle.gcd_plan.specs.declared.act.Act.TheVariants.{Async, Barrier, Sync, BarrierSync, GroupAsync, Notify, Enter, Leave, GroupWait, GroupWaitFor, Signal, Wait, WaitFor, Suspend, Resume, Activate, Target, Merge, Cancel, Retain, Release, Apply, CancelBlock, WaitBlock, NotifyBlock}
 use Rattle.gcd_plan.specs.declared.numbers.Blk.{Blk}
 use Rattle.gcd_plan.specs.declared.numbers.Run.TheVariants.{Block, Source}
 use Rattle.gcd_event.specs.declared.event.Event.{Event}
-use Rattle.gcd_event.specs.declared.event.Event.TheVariants.{Start, Act as Acted, Wake, End, Deliver, DeliverEnd, Tick, Ready, FeedEnd, Misuse, Halt, Expire}
+use Rattle.gcd_event.specs.declared.event.Event.TheVariants.{Start, Act as Acted, Wake, End, Deliver, DeliverEnd, Tick, Ready, FeedEnd, Misuse, Halt, Expire, Accept, Shut}
 use Rattle.gcd_history.specs.Runs.{act_at}
 use Rattle.gcd_refinement.specs.MachineView.{MachineView, ahead_at, is_ripe_at}
 use Rattle.gcd_refinement.specs.Sleepers.{if_ahead}
@@ -38,6 +38,10 @@ limit_in_view v (Some (Merge s n)) = None
 limit_in_view v (Some (Cancel s)) = None
 limit_in_view v (Some (Retain o)) = None
 limit_in_view v (Some (Release o)) = None
+limit_in_view v (Some (Apply q a)) = None
+limit_in_view v (Some (CancelBlock c)) = None
+limit_in_view v (Some (WaitBlock c)) = None
+limit_in_view v (Some (NotifyBlock c q d)) = None
 
 -- the limit of block b's wait is ahead, where it has one that is above the time
 abbrev pub laid_ahead : MachineView → Blk → Option ℕ → List (Option ℕ)
@@ -79,6 +83,8 @@ ahead_at_event plan v (FeedEnd s) = v.ahead
 ahead_at_event plan v (Misuse w c run i) = v.ahead
 ahead_at_event plan v Halt = v.ahead
 ahead_at_event plan v (Expire b) = v.ahead
+ahead_at_event plan v (Accept b s) = v.ahead
+ahead_at_event plan v Shut = v.ahead
 
 abbrev pub ripe_at_event : PlanView → MachineView → Event → List Bool
 ripe_at_event plan v (Start w b) = v.ripe
@@ -94,6 +100,8 @@ ripe_at_event plan v (FeedEnd s) = v.ripe
 ripe_at_event plan v (Misuse w c run i) = v.ripe
 ripe_at_event plan v Halt = v.ripe
 ripe_at_event plan v (Expire b) = v.ripe
+ripe_at_event plan v (Accept b s) = v.ripe
+ripe_at_event plan v Shut = v.ripe
 
 -- the wait of block b is over
 abbrev pub without_limit : List (Option ℕ) → Blk → List (Option ℕ)

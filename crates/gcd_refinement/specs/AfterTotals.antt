@@ -6,7 +6,7 @@ use Rattle.gcd_plan.specs.declared.numbers.Obj.{Obj}
 use Rattle.gcd_plan.specs.declared.numbers.Run.{Run}
 use Rattle.gcd_plan.specs.declared.numbers.Run.TheVariants.{Block, Source}
 use Rattle.gcd_event.specs.declared.event.Event.{Event}
-use Rattle.gcd_event.specs.declared.event.Event.TheVariants.{Start, Act as Acted, Wake, End, Deliver, DeliverEnd, Tick, Ready, FeedEnd, Misuse, Halt, Expire}
+use Rattle.gcd_event.specs.declared.event.Event.TheVariants.{Start, Act as Acted, Wake, End, Deliver, DeliverEnd, Tick, Ready, FeedEnd, Misuse, Halt, Expire, Accept, Shut}
 use Rattle.gcd_history.specs.Runs.{act_at, act_of}
 use Rattle.gcd_history.specs.Submitted.{cancels}
 use Rattle.gcd_history.specs.Parked.{is_parking}
@@ -28,6 +28,8 @@ workers_after plan v (FeedEnd s) = v.workers
 workers_after plan v (Misuse w c run i) = v.workers
 workers_after plan v Halt = v.workers
 workers_after plan v (Expire b) = v.workers
+workers_after plan v (Accept b s) = v.workers
+workers_after plan v Shut = v.workers
 
 abbrev pub running_after : PlanView → MachineView → Event → ℕ
 running_after plan v (Start w b) = v.running + 1
@@ -42,6 +44,8 @@ running_after plan v (FeedEnd s) = v.running
 running_after plan v (Misuse w c run i) = v.running
 running_after plan v Halt = v.running
 running_after plan v (Expire b) = v.running
+running_after plan v (Accept b s) = v.running
+running_after plan v Shut = v.running
 
 abbrev pub is_end : Event → Bool
 is_end (Start w b) = false
@@ -56,6 +60,8 @@ is_end (FeedEnd s) = false
 is_end (Misuse w c run i) = false
 is_end Halt = false
 is_end (Expire b) = false
+is_end (Accept b s) = false
+is_end Shut = false
 
 abbrev pub left_after : PlanView → MachineView → Event → ℕ
 left_after plan v e = v.left + length (submits plan v e) - (if is_end e then 1 else 0)
@@ -86,6 +92,8 @@ is_misuse (FeedEnd s) = false
 is_misuse (Misuse w c run i) = true
 is_misuse Halt = false
 is_misuse (Expire b) = false
+is_misuse (Accept b s) = false
+is_misuse Shut = false
 
 abbrev pub is_halt : Event → Bool
 is_halt (Start w b) = false
@@ -100,3 +108,5 @@ is_halt (FeedEnd s) = false
 is_halt (Misuse w c run i) = false
 is_halt Halt = true
 is_halt (Expire b) = false
+is_halt (Accept b s) = false
+is_halt Shut = false

@@ -1,6 +1,7 @@
 -- What the parts' calls ask beside the shape: that no number is too large, and that a block waits at one place at a time. All
 -- of it follows from the ties.
 use Rattle.std.specs.Prelude.{◌≡◌, ◌≤◌, ◌+◌, ◌-◌, ◌*◌, ℕ, Bool, true, List, length, Option, Some, None, is_some, if◌then◌else◌, sum, option_map, option_and_then}
+use Rattle.std.specs.Option.{option_map_or}
 use Rattle.gcd_plan.specs.PlanView.{PlanView}
 use Rattle.gcd_plan.specs.declared.numbers.Obj.{Obj}
 use Rattle.gcd_plan.specs.declared.reason.Reason.TheVariants.{Rank}
@@ -41,6 +42,7 @@ pub record NumbersAreSmall (plan : PlanView) (past : List Event) (v : MachineVie
   pub handler_acts : (s : ℕ) → (handler_at v s).done ≤ length past
   pub running : v.running ≤ length past
   pub left : v.left ≤ length plan.blocks
+  pub accepted : v.accepted ≤ option_map_or (λ i. i.count) plan.intake 0
 
 -- the place of what is submitted and not started
 abbrev pub place_in : List Event → Submission → Option (Obj × Bool)
@@ -52,3 +54,6 @@ pub record PlacesAre (plan : PlanView) (past : List Event) (v : MachineView) : T
   pub awake : (b : ℕ) → reason_at v.waits b ≡ None → place_of v.sleepers b ≡ None
   pub called : (b : ℕ) → is_wakeable_at v b ≡ true → place_of v.sleepers b ≡ None
   pub unregistered : (b : ℕ) → is_some (submission_of plan past b) ≡ true → place_of v.groups.notify b ≡ None
+  pub patient : (b : ℕ) → reason_at v.waits b ≡ None → place_of v.waiters b ≡ None
+  pub released : (b : ℕ) → is_wakeable_at v b ≡ true → place_of v.waiters b ≡ None
+  pub untold : (b : ℕ) → is_some (submission_of plan past b) ≡ true → place_of v.marks.notify b ≡ None

@@ -2,6 +2,7 @@
 use Rattle.std.specs.Prelude.{ℕ, Bool, false, List, [], length, replicate, Option, None, slice_index, slice_index_or}
 use Rattle.gcd_plan.specs.PlanView.{PlanView}
 use Rattle.gcd_plan.specs.Limits.{max_workers}
+use Rattle.gcd_plan.specs.declared.numbers.Blk.{Blk}
 use Rattle.gcd_plan.specs.declared.numbers.Run.{Run}
 use Rattle.gcd_refinement.specs.declared.progress.BlockProgress.{BlockProgress}
 use Rattle.gcd_refinement.specs.declared.progress.HandlerProgress.{HandlerProgress}
@@ -16,9 +17,14 @@ use Rattle.gcd_sync.specs.WaitsView.{WaitsView, waits_of}
 use Rattle.gcd_source.specs.SourcesView.{SourcesView, sources_of}
 use Rattle.gcd_timer.specs.TimersView.{TimersView, timers_of, next_due_at}
 use Rattle.gcd_soonest.specs.Least.{earlier, least}
+use Rattle.gcd_apply.specs.StripsView.{StripsView, strips_of}
+use Rattle.gcd_blockobj.specs.MarkRoom.{mark_room}
+use Rattle.gcd_blockobj.specs.MarksView.{MarksView, marks_of}
 
 -- the plan; the parts: references, what waits on nodes, targets, holds, barriers, groups, semaphores, parked blocks, sources, timers;
--- by semaphore and group the blocks that sleep there; by block what it has come to, whether it has ended, and whether what it
+-- by semaphore and group the blocks that sleep there; where marks are kept, by block those that wait for its end by an act of their
+-- own; by strip the block that applied it and sleeps; how many blocks of each strip have not ended; what is kept of blocks as
+-- objects; how many blocks of the intake are accepted, and whether it is shut; by block what it has come to, whether it has ended, and whether what it
 -- is parked for has come or its wait has expired, where limits are kept the limit of its wait if that is not over and the limit is
 -- ahead, and whether its wait may expire; by object what is kept of a source, whether it has to be looked at, and whether it is a live read source;
 -- by worker the run that it has; how many runs are open and not parked, and how many blocks are submitted and not ended;
@@ -36,6 +42,12 @@ pub record MachineView : Type 0 where
   pub sources : SourcesView
   pub timers : TimersView
   pub sleepers : ListsView
+  pub waiters : ListsView
+  pub appliers : List (Option Blk)
+  pub strips : StripsView
+  pub marks : MarksView
+  pub accepted : ℕ
+  pub shut : Bool
   pub blocks : List BlockProgress
   pub ended : List Bool
   pub wakeable : List Bool
@@ -91,6 +103,10 @@ busy_at v o = slice_index_or v.busy o false
 abbrev pub live_at : MachineView → ℕ → Bool
 live_at v s = slice_index_or v.live s false
 
+-- the block that applied strip a and sleeps
+abbrev pub applier_at : MachineView → ℕ → Option Blk
+applier_at v a = slice_index_or v.appliers a None
+
 -- the run that worker w has
 abbrev pub at_worker : MachineView → ℕ → Option Run
 at_worker v w = slice_index_or v.workers w None
@@ -102,6 +118,10 @@ refs_at v o = slice_index v.refs o
 -- nothing waits on any object of the plan
 abbrev pub lists_of : PlanView → ListsView
 lists_of plan = record { lists = replicate (length plan.objects) []; blocks = length plan.blocks }
+
+-- nobody waits for the end of a block of which marks are kept
+abbrev pub waiters_of : PlanView → ListsView
+waiters_of plan = record { lists = replicate (mark_room plan) []; blocks = mark_room plan }
 
 -- the view that a new machine has: nothing has happened, and main is submitted
 abbrev pub machine_of : PlanView → MachineView
@@ -118,6 +138,12 @@ machine_of plan = record {
   sources = sources_of plan;
   timers = timers_of plan;
   sleepers = lists_of plan;
+  waiters = waiters_of plan;
+  appliers = replicate (length plan.strips) None;
+  strips = strips_of plan;
+  marks = marks_of plan;
+  accepted = 0;
+  shut = false;
   blocks = replicate (length plan.blocks) idle;
   ended = replicate (length plan.blocks) false;
   wakeable = replicate (length plan.blocks) false;

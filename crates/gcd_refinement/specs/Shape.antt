@@ -9,8 +9,10 @@ use Rattle.gcd_plan.specs.declared.numbers.Obj.{Obj}
 use Rattle.gcd_plan.specs.declared.numbers.Run.{Run}
 use Rattle.gcd_sema.specs.SemasView.{wait_acts}
 use Rattle.gcd_sync.specs.LimitRoom.{limit_room}
+use Rattle.gcd_apply.specs.StripsView.{strip_of, strip_room}
+use Rattle.gcd_blockobj.specs.MarkRoom.{mark_room}
 use Rattle.gcd_history.specs.Permitted.{is_run_of}
-use Rattle.gcd_refinement.specs.MachineView.{MachineView, block_at, at_worker}
+use Rattle.gcd_refinement.specs.MachineView.{MachineView, block_at, at_worker, applier_at}
 use Rattle.gcd_plan.specs.Limits.{max_workers}
 
 -- the parts have an entry for each object or block, and the kinds that the plan says
@@ -48,11 +50,22 @@ pub record PartsFit (plan : PlanView) (v : MachineView) : Type 0 where
   pub until : v.timers.until ≡ plan.until
   pub activations : length v.timers.activated ≡ length plan.objects
   pub cancellations : length v.timers.cancelled ≡ length plan.objects
+  pub wait_strips : v.waits.strips ≡ length plan.strips
+  pub strips : length v.strips.left ≡ length plan.strips
+  pub strip_blocks : v.strips.of_block ≡ map (strip_of plan) (range_with_len 0 (strip_room plan))
+  pub cancelled_blocks : length v.marks.cancelled ≡ mark_room plan
+  pub began_blocks : length v.marks.began ≡ mark_room plan
+  pub ended_blocks : length v.marks.ended ≡ mark_room plan
+  pub told : length v.marks.notify.lists ≡ mark_room plan
+  pub told_blocks : v.marks.notify.blocks ≡ mark_room plan
 
 -- so have the machine's own arrays, and what they name is of the plan
 pub record OwnFit (plan : PlanView) (v : MachineView) : Type 0 where
   pub sleepers : length v.sleepers.lists ≡ length plan.objects
   pub sleeper_blocks : v.sleepers.blocks ≡ length plan.blocks
+  pub waiters : length v.waiters.lists ≡ mark_room plan
+  pub waiter_blocks : v.waiters.blocks ≡ mark_room plan
+  pub appliers : length v.appliers ≡ length plan.strips
   pub blocks : length v.blocks ≡ length plan.blocks
   pub ended : length v.ended ≡ length plan.blocks
   pub wakeable : length v.wakeable ≡ length plan.blocks
@@ -66,4 +79,5 @@ pub record OwnFit (plan : PlanView) (v : MachineView) : Type 0 where
   pub groups : (b : ℕ) (g : Obj) → (block_at v b).group ≡ Some g → g.0 < length plan.objects
   pub homes : (b : ℕ) → (block_at v b).home.0 < length plan.objects
   pub callers : (b : ℕ) (c : Blk) → (block_at v b).caller ≡ Some c → c.0 < length plan.blocks
+  pub applied_by : (a : ℕ) (b : Blk) → applier_at v a ≡ Some b → b.0 < length plan.blocks
   pub runs : (w : ℕ) (run : Run) → at_worker v w ≡ Some run → is_run_of plan run ≡ true

@@ -1,17 +1,20 @@
 -- What a history says that the parts do not ask of it, for the machine's own arrays: which group counts a block, who waits for
--- its end, which blocks sleep at a semaphore or a group, their wait neither passed nor expired, and which limits are ahead.
+-- its end and for the blocks of a strip, which blocks sleep at a semaphore or a group, their wait neither passed nor expired, and
+-- which limits are ahead.
 -- Histories are the newest event first.
 use Rattle.std.specs.Prelude.{ℕ, ◌+◌, ◌==◌, nat_lt, Bool, false, not, ◌&&◌, if◌then◌else◌, List, [], ◌∷◌, ◌++◌, length, map, filter, drop, Option, Some, None, option_and_then}
 use Rattle.std.specs.Option.{option_or}
+use Rattle.std.specs.List.{list_all}
+use Rattle.gcd_plan.specs.Made.{strip_blocks}
 use Rattle.gcd_plan.specs.PlanView.{PlanView}
 use Rattle.gcd_plan.specs.declared.act.Act.{Act}
-use Rattle.gcd_plan.specs.declared.act.Act.TheVariants.{Async, Barrier, Sync, BarrierSync, GroupAsync, Notify, Enter, Leave, GroupWait, GroupWaitFor, Signal, Wait, WaitFor, Suspend, Resume, Activate, Target, Merge, Cancel, Retain, Release}
+use Rattle.gcd_plan.specs.declared.act.Act.TheVariants.{Async, Barrier, Sync, BarrierSync, GroupAsync, Notify, Enter, Leave, GroupWait, GroupWaitFor, Signal, Wait, WaitFor, Suspend, Resume, Activate, Target, Merge, Cancel, Retain, Release, Apply, CancelBlock, WaitBlock, NotifyBlock}
 use Rattle.gcd_plan.specs.declared.numbers.Blk.{Blk}
 use Rattle.gcd_plan.specs.declared.numbers.Obj.{Obj}
 use Rattle.gcd_plan.specs.declared.numbers.Run.TheVariants.{Block, Source}
 use Rattle.gcd_event.specs.declared.event.Event.{Event}
-use Rattle.gcd_event.specs.declared.event.Event.TheVariants.{Start, Act as Acted, Wake, End, Deliver, DeliverEnd, Tick, Ready, FeedEnd, Misuse, Halt, Expire}
-use Rattle.gcd_history.specs.Runs.{act_at, act_of}
+use Rattle.gcd_event.specs.declared.event.Event.TheVariants.{Start, Act as Acted, Wake, End, Deliver, DeliverEnd, Tick, Ready, FeedEnd, Misuse, Halt, Expire, Accept, Shut}
+use Rattle.gcd_history.specs.Runs.{act_at, act_of, is_ended}
 use Rattle.gcd_history.specs.Expired.{has_expired}
 use Rattle.gcd_history.specs.Groups.{count}
 use Rattle.gcd_history.specs.Parked.{may_wake}
@@ -43,6 +46,10 @@ grouped b (Some (Merge s n)) = None
 grouped b (Some (Cancel s)) = None
 grouped b (Some (Retain o)) = None
 grouped b (Some (Release o)) = None
+grouped b (Some (Apply q a)) = None
+grouped b (Some (CancelBlock c)) = None
+grouped b (Some (WaitBlock c)) = None
+grouped b (Some (NotifyBlock c q d)) = None
 
 -- the group that counts block b, until its end
 abbrev pub group_of : PlanView → List Event → ℕ → Option Obj
@@ -73,6 +80,10 @@ called_by c b (Some (Merge s n)) = None
 called_by c b (Some (Cancel s)) = None
 called_by c b (Some (Retain o)) = None
 called_by c b (Some (Release o)) = None
+called_by c b (Some (Apply q a)) = None
+called_by c b (Some (CancelBlock e)) = None
+called_by c b (Some (WaitBlock e)) = None
+called_by c b (Some (NotifyBlock e q d)) = None
 
 abbrev pub calls : PlanView → ℕ → Event → Option Blk
 calls plan c (Start w b) = None
@@ -88,11 +99,105 @@ calls plan c (FeedEnd s) = None
 calls plan c (Misuse w k run i) = None
 calls plan c Halt = None
 calls plan c (Expire b) = None
+calls plan c (Accept b s) = None
+calls plan c Shut = None
 
 -- the block that has waited for the end of block c, or still does
 abbrev pub caller_of : PlanView → List Event → ℕ → Option Blk
 caller_of plan [] c = None
 caller_of plan (e ∷ past) c = option_or (calls plan c e) (caller_of plan past c)
+
+-- the act waits for the end of block c, which it did not submit
+abbrev pub waits_for_end : ℕ → Option Act → Bool
+waits_for_end c None = false
+waits_for_end c (Some (Async q d)) = false
+waits_for_end c (Some (Barrier q d)) = false
+waits_for_end c (Some (Sync q d)) = false
+waits_for_end c (Some (BarrierSync q d)) = false
+waits_for_end c (Some (GroupAsync g q d)) = false
+waits_for_end c (Some (Notify g q d)) = false
+waits_for_end c (Some (Enter g)) = false
+waits_for_end c (Some (Leave g)) = false
+waits_for_end c (Some (GroupWait g)) = false
+waits_for_end c (Some (GroupWaitFor g ms)) = false
+waits_for_end c (Some (Signal s)) = false
+waits_for_end c (Some (Wait s)) = false
+waits_for_end c (Some (WaitFor s ms)) = false
+waits_for_end c (Some (Suspend o)) = false
+waits_for_end c (Some (Resume o)) = false
+waits_for_end c (Some (Activate o)) = false
+waits_for_end c (Some (Target o t)) = false
+waits_for_end c (Some (Merge s n)) = false
+waits_for_end c (Some (Cancel s)) = false
+waits_for_end c (Some (Retain o)) = false
+waits_for_end c (Some (Release o)) = false
+waits_for_end c (Some (Apply q a)) = false
+waits_for_end c (Some (CancelBlock d)) = false
+waits_for_end c (Some (WaitBlock d)) = d.0 == c
+waits_for_end c (Some (NotifyBlock d q e)) = false
+
+-- the act applies strip a
+abbrev pub applies : ℕ → Option Act → Bool
+applies a None = false
+applies a (Some (Async q d)) = false
+applies a (Some (Barrier q d)) = false
+applies a (Some (Sync q d)) = false
+applies a (Some (BarrierSync q d)) = false
+applies a (Some (GroupAsync g q d)) = false
+applies a (Some (Notify g q d)) = false
+applies a (Some (Enter g)) = false
+applies a (Some (Leave g)) = false
+applies a (Some (GroupWait g)) = false
+applies a (Some (GroupWaitFor g ms)) = false
+applies a (Some (Signal s)) = false
+applies a (Some (Wait s)) = false
+applies a (Some (WaitFor s ms)) = false
+applies a (Some (Suspend o)) = false
+applies a (Some (Resume o)) = false
+applies a (Some (Activate o)) = false
+applies a (Some (Target o t)) = false
+applies a (Some (Merge s n)) = false
+applies a (Some (Cancel s)) = false
+applies a (Some (Retain o)) = false
+applies a (Some (Release o)) = false
+applies a (Some (Apply q c)) = c == a
+applies a (Some (CancelBlock c)) = false
+applies a (Some (WaitBlock c)) = false
+applies a (Some (NotifyBlock c q d)) = false
+
+-- the block whose act the event is, where the act passes the test
+abbrev pub block_if : (Option Act → Bool) → PlanView → Event → List Blk
+block_if test plan (Start w b) = []
+block_if test plan (Acted w (Block b) i) = if test (act_at plan (Block b) i) then b ∷ [] else []
+block_if test plan (Acted w (Source s) i) = []
+block_if test plan (Wake w b) = []
+block_if test plan (End w b) = []
+block_if test plan (Deliver w s) = []
+block_if test plan (DeliverEnd w s) = []
+block_if test plan (Tick t) = []
+block_if test plan (Ready s n) = []
+block_if test plan (FeedEnd s) = []
+block_if test plan (Misuse w c run i) = []
+block_if test plan Halt = []
+block_if test plan (Expire b) = []
+block_if test plan (Accept b s) = []
+block_if test plan Shut = []
+
+-- the blocks that wait for the end of block c, which has not come
+abbrev pub end_waiters : PlanView → List Event → ℕ → List Blk
+end_waiters plan [] c = []
+end_waiters plan (e ∷ past) c =
+    if is_ended (e ∷ past) c then [] else end_waiters plan past c ++ block_if (waits_for_end c) plan e
+
+-- all blocks of strip a have ended
+abbrev pub is_done : PlanView → List Event → ℕ → Bool
+is_done plan past a = list_all (λ b. is_ended past b.0) (strip_blocks plan a)
+
+-- the blocks that wait for the blocks of strip a, which have not all ended: one at most
+abbrev pub strip_sleepers : PlanView → List Event → ℕ → List Blk
+strip_sleepers plan [] a = []
+strip_sleepers plan (e ∷ past) a =
+    if is_done plan (e ∷ past) a then [] else strip_sleepers plan past a ++ block_if (applies a) plan e
 
 -- the act waits for group g
 abbrev pub waits_for_group : ℕ → Option Act → Bool
@@ -118,6 +223,10 @@ waits_for_group g (Some (Merge s n)) = false
 waits_for_group g (Some (Cancel s)) = false
 waits_for_group g (Some (Retain o)) = false
 waits_for_group g (Some (Release o)) = false
+waits_for_group g (Some (Apply q a)) = false
+waits_for_group g (Some (CancelBlock c)) = false
+waits_for_group g (Some (WaitBlock c)) = false
+waits_for_group g (Some (NotifyBlock c q d)) = false
 
 -- the wait that the event after past begins, where its act passes the test: the position of the act, and its block
 abbrev pub wait_if : (Option Act → Bool) → PlanView → List Event → Event → List (ℕ × Blk)
@@ -134,6 +243,8 @@ wait_if test plan past (FeedEnd s) = []
 wait_if test plan past (Misuse w c run i) = []
 wait_if test plan past Halt = []
 wait_if test plan past (Expire b) = []
+wait_if test plan past (Accept b s) = []
+wait_if test plan past Shut = []
 
 -- the blocks of these waits that have not expired
 abbrev pub unexpired_blocks : List Event → List (ℕ × Blk) → List Blk

@@ -1,24 +1,26 @@
 -- What an event submits, empties and wakes, told by the view that stands before it.
-use Rattle.std.specs.Prelude.{◌==◌, false, if◌then◌else◌, List, [], ◌∷◌, ◌++◌, map, take, Option, Some, None, option_to_list}
+use Rattle.std.specs.Prelude.{ℕ, ◌==◌, false, if◌then◌else◌, List, [], ◌∷◌, ◌++◌, map, take, Option, Some, None, option_to_list, option_and_then}
 use Rattle.std.specs.Option.{option_map_or}
 use Rattle.gcd_plan.specs.PlanView.{PlanView, cancel_block}
 use Rattle.gcd_plan.specs.declared.act.Act.{Act}
-use Rattle.gcd_plan.specs.declared.act.Act.TheVariants.{Async, Barrier, Sync, BarrierSync, GroupAsync, Notify, Enter, Leave, GroupWait, GroupWaitFor, Signal, Wait, WaitFor, Suspend, Resume, Activate, Target, Merge, Cancel, Retain, Release}
+use Rattle.gcd_plan.specs.declared.act.Act.TheVariants.{Async, Barrier, Sync, BarrierSync, GroupAsync, Notify, Enter, Leave, GroupWait, GroupWaitFor, Signal, Wait, WaitFor, Suspend, Resume, Activate, Target, Merge, Cancel, Retain, Release, Apply, CancelBlock, WaitBlock, NotifyBlock}
 use Rattle.gcd_plan.specs.declared.numbers.Blk.{Blk}
 use Rattle.gcd_plan.specs.declared.numbers.Obj.{Obj}
 use Rattle.gcd_plan.specs.declared.numbers.Run.{Run}
 use Rattle.gcd_plan.specs.declared.numbers.Run.TheVariants.{Block, Source}
 use Rattle.gcd_event.specs.declared.event.Event.{Event}
-use Rattle.gcd_event.specs.declared.event.Event.TheVariants.{Start, Act as Acted, Wake, End, Deliver, DeliverEnd, Tick, Ready, FeedEnd, Misuse, Halt, Expire}
+use Rattle.gcd_event.specs.declared.event.Event.TheVariants.{Start, Act as Acted, Wake, End, Deliver, DeliverEnd, Tick, Ready, FeedEnd, Misuse, Halt, Expire, Accept, Shut}
 use Rattle.gcd_history.specs.declared.submission.Submission.{Submission}
 use Rattle.gcd_history.specs.Runs.{act_at, act_of}
-use Rattle.gcd_history.specs.Submitted.{on_node, submitted_by, cancels}
+use Rattle.gcd_history.specs.Submitted.{on_node, submitted_by, accepted_by, cancels}
 use Rattle.gcd_lists.specs.ListsView.{list_at}
 use Rattle.gcd_hold.specs.HoldsView.{hold_at, is_active_at}
 use Rattle.gcd_group.specs.GroupsView.{count_at}
 use Rattle.gcd_sema.specs.SemasView.{has_value_at}
 use Rattle.gcd_source.specs.SourcesView.{is_cancelled_at}
-use Rattle.gcd_refinement.specs.MachineView.{MachineView, block_at}
+use Rattle.gcd_apply.specs.StripsView.{left_at, strip_at}
+use Rattle.gcd_blockobj.specs.MarksView.{has_ended_at}
+use Rattle.gcd_refinement.specs.MachineView.{MachineView, block_at, ended_at, applier_at}
 use Rattle.gcd_refinement.specs.Ties.{notify_submission}
 
 -- ## Groups
@@ -47,6 +49,10 @@ left_by (Some (Merge s n)) = None
 left_by (Some (Cancel s)) = None
 left_by (Some (Retain o)) = None
 left_by (Some (Release o)) = None
+left_by (Some (Apply q a)) = None
+left_by (Some (CancelBlock c)) = None
+left_by (Some (WaitBlock c)) = None
+left_by (Some (NotifyBlock c q d)) = None
 
 -- the group that counts one less after the event: that of a block which ends, or the one that an act leaves
 abbrev pub lessened : PlanView → MachineView → Event → Option Obj
@@ -62,6 +68,8 @@ lessened plan v (FeedEnd s) = None
 lessened plan v (Misuse w c run i) = None
 lessened plan v Halt = None
 lessened plan v (Expire b) = None
+lessened plan v (Accept b s) = None
+lessened plan v Shut = None
 
 -- the group, where it counts just one
 abbrev pub last_of : MachineView → Option Obj → Option Obj
@@ -109,12 +117,65 @@ at_notify v (Some (Merge s n)) = []
 at_notify v (Some (Cancel s)) = []
 at_notify v (Some (Retain o)) = []
 at_notify v (Some (Release o)) = []
+at_notify v (Some (Apply q a)) = []
+at_notify v (Some (CancelBlock c)) = []
+at_notify v (Some (WaitBlock c)) = []
+at_notify v (Some (NotifyBlock c q d)) = []
 
--- what the event submits, in order; at most one of the four is not empty
+-- the notify blocks of a block that ends, in the order of registration
+abbrev pub at_end : MachineView → Event → List Submission
+at_end v (Start w b) = []
+at_end v (Acted w run i) = []
+at_end v (Wake w b) = []
+at_end v (End w b) = map (notify_submission v) (list_at v.marks.notify b.0)
+at_end v (Deliver w s) = []
+at_end v (DeliverEnd w s) = []
+at_end v (Tick t) = []
+at_end v (Ready s n) = []
+at_end v (FeedEnd s) = []
+at_end v (Misuse w c run i) = []
+at_end v Halt = []
+at_end v (Expire b) = []
+at_end v (Accept b s) = []
+at_end v Shut = []
+
+-- the notify block that the act registers at a block that has ended
+abbrev pub at_told : MachineView → Option Act → List Submission
+at_told v None = []
+at_told v (Some (Async q d)) = []
+at_told v (Some (Barrier q d)) = []
+at_told v (Some (Sync q d)) = []
+at_told v (Some (BarrierSync q d)) = []
+at_told v (Some (GroupAsync g q d)) = []
+at_told v (Some (Notify g q d)) = []
+at_told v (Some (Enter g)) = []
+at_told v (Some (Leave g)) = []
+at_told v (Some (GroupWait g)) = []
+at_told v (Some (GroupWaitFor g ms)) = []
+at_told v (Some (Signal s)) = []
+at_told v (Some (Wait s)) = []
+at_told v (Some (WaitFor s ms)) = []
+at_told v (Some (Suspend o)) = []
+at_told v (Some (Resume o)) = []
+at_told v (Some (Activate o)) = []
+at_told v (Some (Target o t)) = []
+at_told v (Some (Merge s n)) = []
+at_told v (Some (Cancel s)) = []
+at_told v (Some (Retain o)) = []
+at_told v (Some (Release o)) = []
+at_told v (Some (Apply q a)) = []
+at_told v (Some (CancelBlock c)) = []
+at_told v (Some (WaitBlock c)) = []
+at_told v (Some (NotifyBlock c q d)) = if has_ended_at v.marks c.0 then on_node q d false else []
+
+-- what the event submits, in order; all but one of the seven are empty, but that an End may have notify blocks of both kinds
 abbrev pub submits : PlanView → MachineView → Event → List Submission
 submits plan v e =
-    submitted_by (act_of plan e)
+    submitted_by plan (act_of plan e)
+    ++ accepted_by plan e
     ++ at_cancel plan v (cancels plan e)
+    ++ at_end v e
+    ++ at_told v (act_of plan e)
     ++ at_empty v (emptied_by plan v e)
     ++ at_notify v (act_of plan e)
 
@@ -148,6 +209,10 @@ activated_by v (Some (Merge s n)) = None
 activated_by v (Some (Cancel s)) = None
 activated_by v (Some (Retain o)) = None
 activated_by v (Some (Release o)) = None
+activated_by v (Some (Apply q a)) = None
+activated_by v (Some (CancelBlock c)) = None
+activated_by v (Some (WaitBlock c)) = None
+activated_by v (Some (NotifyBlock c q d)) = None
 
 -- the source that the event cancels, where it was not cancelled before
 abbrev pub newly_cancelled : MachineView → Option Obj → Option Obj
@@ -161,7 +226,8 @@ abbrev pub sleepers_at : MachineView → Option Obj → List Blk
 sleepers_at v None = []
 sleepers_at v (Some o) = map (λ w. w.0) (list_at v.sleepers o.0)
 
--- block b, where its act waits for what has come already: a semaphore with a value above 0, or an empty group
+-- block b, where its act waits for what has come already: a semaphore with a value above 0, an empty group, the blocks of a strip of
+-- which none is left, or the end of a block that has ended
 abbrev pub come_at_once : MachineView → Blk → Option Act → List Blk
 come_at_once v b None = []
 come_at_once v b (Some (Async q c)) = []
@@ -185,6 +251,10 @@ come_at_once v b (Some (Merge s n)) = []
 come_at_once v b (Some (Cancel s)) = []
 come_at_once v b (Some (Retain o)) = []
 come_at_once v b (Some (Release o)) = []
+come_at_once v b (Some (Apply q a)) = if left_at v.strips a == 0 then b ∷ [] else []
+come_at_once v b (Some (CancelBlock c)) = []
+come_at_once v b (Some (WaitBlock c)) = if ended_at v c.0 then b ∷ [] else []
+come_at_once v b (Some (NotifyBlock c q d)) = []
 
 abbrev pub come_to_run : MachineView → Run → Option Act → List Blk
 come_to_run v (Block b) act = come_at_once v b act
@@ -214,6 +284,22 @@ signalled v (Some (Merge s n)) = []
 signalled v (Some (Cancel s)) = []
 signalled v (Some (Retain o)) = []
 signalled v (Some (Release o)) = []
+signalled v (Some (Apply q a)) = []
+signalled v (Some (CancelBlock c)) = []
+signalled v (Some (WaitBlock c)) = []
+signalled v (Some (NotifyBlock c q d)) = []
+
+-- the strip of which block b is the last that has not ended
+abbrev pub done_by : MachineView → Blk → Option ℕ
+done_by v b = option_and_then (λ a. if left_at v.strips a == 1 then Some a else None) (strip_at v.strips b.0)
+
+-- who waits for the end of block b: the one that submitted it and waits, those that wait for it, and where it is the last of a
+-- strip the one that applied that
+abbrev pub let_go_by : MachineView → Blk → List Blk
+let_go_by v b =
+    option_to_list (block_at v b.0).caller
+    ++ map (λ w. w.0) (list_at v.waiters b.0)
+    ++ option_to_list (option_and_then (applier_at v) (done_by v b))
 
 -- the blocks that may wake after the event, and might not before
 abbrev pub come_by : PlanView → MachineView → Event → List Blk
@@ -223,7 +309,7 @@ come_by plan v (Acted w run i) =
     ++ signalled v (act_at plan run i)
     ++ sleepers_at v (emptied_by plan v (Acted w run i))
 come_by plan v (Wake w b) = []
-come_by plan v (End w b) = option_to_list (block_at v b.0).caller ++ sleepers_at v (emptied_by plan v (End w b))
+come_by plan v (End w b) = let_go_by v b ++ sleepers_at v (emptied_by plan v (End w b))
 come_by plan v (Deliver w s) = []
 come_by plan v (DeliverEnd w s) = []
 come_by plan v (Tick t) = []
@@ -232,3 +318,5 @@ come_by plan v (FeedEnd s) = []
 come_by plan v (Misuse w c run i) = []
 come_by plan v Halt = []
 come_by plan v (Expire b) = b ∷ []
+come_by plan v (Accept b s) = []
+come_by plan v Shut = []

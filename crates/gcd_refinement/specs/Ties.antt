@@ -1,8 +1,10 @@
 -- What each part of the view is of a plan and a history, the newest event first: one record for each part. Each clause is for
 -- every number, of the plan or not, but where it says so.
-use Rattle.std.specs.Prelude.{◌≡◌, ◌≤◌, ◌<◌, ℕ, ◌+◌, Bool, false, not, List, ◌++◌, length, map, filter, Option, Some, None, count_by, option_and_then}
+use Rattle.std.specs.Prelude.{◌≡◌, ◌≤◌, ◌<◌, ℕ, ◌+◌, nat_lt, Bool, false, not, ◌&&◌, if◌then◌else◌, List, ◌++◌, length, map, filter, Option, Some, None, is_some, count_by, option_and_then, option_to_list}
 use Rattle.std.specs.Option.{option_map_or}
+use Rattle.std.specs.List.{list_any}
 use Rattle.gcd_plan.specs.PlanView.{PlanView}
+use Rattle.gcd_plan.specs.Made.{is_within, strip_blocks}
 use Rattle.gcd_plan.specs.declared.numbers.Blk.{Blk}
 use Rattle.gcd_plan.specs.declared.numbers.Run.{Run}
 use Rattle.gcd_plan.specs.declared.numbers.Run.TheVariants.{Block, Source}
@@ -10,7 +12,9 @@ use Rattle.gcd_event.specs.declared.event.Event.{Event}
 use Rattle.gcd_history.specs.declared.submission.Submission.{Submission}
 use Rattle.gcd_history.specs.Runs.{same_run, open_runs, act_of, acts_done, is_started, is_ended}
 use Rattle.gcd_history.specs.Groups.{enters, leaves, count, is_empty_above}
-use Rattle.gcd_history.specs.Submitted.{submitted, submission_of, is_cancelled, notify_blocks}
+use Rattle.gcd_history.specs.Submitted.{submitted, submission_of, is_cancelled, notify_blocks, end_notify_blocks}
+use Rattle.gcd_history.specs.Cancelled.{is_block_cancelled}
+use Rattle.gcd_history.specs.Intake.{shuts, is_accepted, is_intake_open, next_of_intake}
 use Rattle.gcd_history.specs.Tree.{Aim, aim, open_on}
 use Rattle.gcd_history.specs.Holds.{hold, is_active}
 use Rattle.gcd_history.specs.Semas as semas
@@ -28,10 +32,13 @@ use Rattle.gcd_drain.specs.DrainsView.{barriers_at}
 use Rattle.gcd_group.specs.GroupsView.{count_at, entered_at, emptied_at, due_at, is_empty_since}
 use Rattle.gcd_sema.specs.SemasView.{signals_at, expiries_at}
 use Rattle.gcd_sync.specs.WaitsView.{reason_at, limit_at, has_expired_at}
-use Rattle.gcd_source.specs.SourcesView.{pending_at, is_cancelled_at}
+use Rattle.gcd_source.specs.SourcesView.{pending_at, is_cancelled_at as is_source_cancelled_at}
 use Rattle.gcd_timer.specs.TimersView.{activated_at, cancelled_at, due_count_at}
-use Rattle.gcd_refinement.specs.MachineView.{MachineView, block_at, ended_at, is_wakeable_at, ahead_at, is_ripe_at, handler_at, busy_at, at_worker, refs_at, live_at}
-use Rattle.gcd_refinement.specs.Sleepers.{group_of, caller_of, sema_sleepers, group_sleepers, limit_ahead, may_expire}
+use Rattle.gcd_apply.specs.StripsView.{left_at}
+use Rattle.gcd_blockobj.specs.MarkRoom.{mark_room}
+use Rattle.gcd_blockobj.specs.MarksView.{is_cancelled_at, has_begun_at, has_ended_at}
+use Rattle.gcd_refinement.specs.MachineView.{MachineView, block_at, ended_at, is_wakeable_at, ahead_at, is_ripe_at, handler_at, busy_at, at_worker, refs_at, live_at, applier_at}
+use Rattle.gcd_refinement.specs.Sleepers.{group_of, caller_of, sema_sleepers, group_sleepers, end_waiters, strip_sleepers, limit_ahead, may_expire}
 
 -- ## The parts
 
@@ -94,7 +101,7 @@ pub record WaitsAre (plan : PlanView) (past : List Event) (v : MachineView) : Ty
 -- cancelled sources, and what is pending: of a timer the due times that no delivery took; of the others none are due, so that
 -- none are taken
 pub record SourcesAre (plan : PlanView) (past : List Event) (v : MachineView) : Type 0 where
-  pub cancelled : (s : ℕ) → is_cancelled_at v.sources s ≡ is_cancelled plan past s
+  pub cancelled : (s : ℕ) → is_source_cancelled_at v.sources s ≡ is_cancelled plan past s
   pub pending : (s : ℕ)
       → pending_at v.sources s + due_count_at v.timers s ≡ (handler_at v s).taken + pending plan past s
   pub taken : (s : ℕ) → (handler_at v s).taken ≤ due_count_at v.timers s
@@ -136,6 +143,40 @@ pub record HandlersAre (plan : PlanView) (past : List Event) (v : MachineView) :
 pub record WakesAre (plan : PlanView) (past : List Event) (v : MachineView) : Type 0 where
   pub wakeable : (b : ℕ) → is_wakeable_at v b ≡ may_wake plan past b
   pub of_sema : (s : ℕ) → map (λ w. w.0) (list_at v.sleepers s) ≡ sema_sleepers plan past s ++ group_sleepers plan past s
+
+-- who waits for the end of a block by an act of its own, and who applied a strip, where that has not come
+pub record WaitersAre (plan : PlanView) (past : List Event) (v : MachineView) : Type 0 where
+  pub of_block : (c : ℕ) → map (λ w. w.0) (list_at v.waiters c) ≡ end_waiters plan past c
+  pub of_strip : (a : ℕ) → option_to_list (applier_at v a) ≡ strip_sleepers plan past a
+
+-- how many blocks of each strip have not ended
+pub record StripsAre (plan : PlanView) (past : List Event) (v : MachineView) : Type 0 where
+  pub left : (a : ℕ) → left_at v.strips a ≡ count_by (λ b. not (is_ended past b.0)) (strip_blocks plan a)
+
+-- which blocks are cancelled; where marks are kept, which have started and ended; and the notify blocks of blocks that have not
+-- ended, of which none is due
+pub record BlockMarksAre (plan : PlanView) (past : List Event) (v : MachineView) : Type 0 where
+  pub cancelled : (b : ℕ) → is_cancelled_at v.marks b ≡ is_block_cancelled plan past b
+  pub began : (b : ℕ) → b < mark_room plan → has_begun_at v.marks b ≡ is_started past b
+  pub ended : (b : ℕ) → b < mark_room plan → has_ended_at v.marks b ≡ is_ended past b
+  pub notify : (b : ℕ) → map (notify_submission v) (list_at v.marks.notify b) ≡ end_notify_blocks plan past b
+
+-- the next block of the intake, told by how many are accepted
+abbrev pub next_in : PlanView → MachineView → Option Blk
+next_in plan v =
+    option_and_then (λ i. if not v.shut && nat_lt v.accepted i.count then Some (record { 0 = i.first + v.accepted }) else None) plan.intake
+
+-- the blocks of the intake that are accepted, told by how many they are
+abbrev pub is_taken : PlanView → MachineView → ℕ → Bool
+is_taken plan v b = option_map_or (λ i. is_within b (record { first = i.first; count = v.accepted })) plan.intake false
+
+-- whether the intake is shut, which of its blocks are accepted, whether it is open, and the next of its blocks
+pub record IntakeIs (plan : PlanView) (past : List Event) (v : MachineView) : Type 0 where
+  pub shut : v.shut ≡ list_any shuts past
+  pub taken : (b : ℕ) → is_accepted past b ≡ is_taken plan v b
+  pub few : v.accepted ≤ option_map_or (λ i. i.count) plan.intake 0
+  pub is_open : (is_some plan.intake && not v.shut) ≡ is_intake_open plan past
+  pub next : next_in plan v ≡ next_of_intake plan past
 
 -- which limits are ahead, and which waits may expire
 pub record LimitsAre (plan : PlanView) (past : List Event) (v : MachineView) : Type 0 where

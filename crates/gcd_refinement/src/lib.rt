@@ -3,13 +3,14 @@
 //!
 //! | file of specs/ | words |
 //! |---|---|
-//! | `MachineView` | the state: the views of the ten parts, and the machine's own arrays; `machine_of`, the state of a new machine |
+//! | `MachineView` | the state: the views of the twelve parts, and the machine's own arrays; `machine_of`, the state of a new machine |
 //! | `Ties` | what each part of the state is of a plan and a history, a record for each part |
 //! | `Shape`, `Bounds` | how long the arrays are; how large the numbers, and where blocks wait |
 //! | `Stands` | `IsTied`: all of these at once |
 //! | `Submits`, `After` | what an event submits, empties and wakes; `after`, the state after an event |
 //! | `AfterLimits`, `AfterTotals` | what an event makes of the limits of waits; of the numbers and flags, and of who has which run |
-//! | `Sleepers` | words of histories that no part asks: who waits for a block's end, who sleeps at an object |
+//! | `AfterSleepers`, `AfterStrips` | what it makes of who sleeps where; of strips, of blocks as objects and of the intake |
+//! | `Sleepers` | words of histories that no part asks: who waits for a block's end or a strip's, who sleeps at an object |
 //!
 //! `proofs/Tied` has the three sentences on which the machine stands: a new machine's state is tied to the empty history
 //! (`tied_begin`), an event that is permitted keeps the tie (`tied_step`), and so each lawful history of a valid plan has a

@@ -15,9 +15,10 @@ pub struct BlockProgress {
     pub done: u32,
     /// The group that counts it until its end (dispatch_group_async(3)).
     pub group: Option<Obj>,
-    /// The queue to which it goes once the group at which it waits is empty (dispatch_group_notify(3)).
+    /// The queue to which it goes once the group at which it waits is empty, or the block for whose end it waits has ended
+    /// (dispatch_group_notify(3), dispatch_block_notify(3)).
     pub home: Obj,
-    /// The block that waits for its end (dispatch_sync(3), dispatch_barrier_sync(3)).
+    /// The block that submitted it and waits for its end (dispatch_sync(3), dispatch_barrier_sync(3)).
     pub caller: Option<Blk>,
 }
 

@@ -1,5 +1,5 @@
 -- An End that is kept back may come until its own worker records something.
-use Rattle.std.proofs.Common.{suc, ◌≡◌, ◌<◌, ◌+◌, ◌∙◌, ◌==◌, ℕ, true, false, cond, List, [], ◌∷◌, ◌++◌, length, reverse, Some, None, is_some, ap, sym, subst, arith, ⊎_elim, refl}
+use Rattle.std.proofs.Common.{suc, ◌≡◌, ◌<◌, ◌+◌, ◌∙◌, ◌==◌, ℕ, Bool, true, false, cond, if◌then◌else◌, List, [], ◌∷◌, ◌++◌, length, reverse, Some, None, is_some, ap, sym, subst, arith, ⊎_elim, refl}
 use Rattle.std.specs.Prelude.{slice_get}
 use Rattle.std.proofs.lemmas.Bool.{eq-eqb, eqb-true, ne_eqb}
 use Rattle.std.proofs.lemmas.Option.{slice_get_within}
@@ -7,15 +7,18 @@ use Rattle.gcd_plan.specs.PlanView.{PlanView}
 use Rattle.gcd_plan.specs.declared.numbers.Blk.{Blk}
 use Rattle.gcd_plan.specs.declared.numbers.Run.TheVariants.{Block}
 use Rattle.gcd_event.specs.declared.event.Event.{Event}
-use Rattle.gcd_event.specs.declared.event.Event.TheVariants.{Start, Act as Acted, Wake, End, Deliver, DeliverEnd, Tick, Ready, FeedEnd, Misuse, Halt, Expire}
+use Rattle.gcd_event.specs.declared.event.Event.TheVariants.{Start, Act as Acted, Wake, End, Deliver, DeliverEnd, Tick, Ready, FeedEnd, Misuse, Halt, Expire, Accept, Shut}
 use Rattle.gcd_history.specs.Choice.{worker_of}
 use Rattle.gcd_history.specs.Ends.{is_halted}
 use Rattle.gcd_history.specs.Runs.{act_at, acts_done, same_run}
 use Rattle.gcd_history.specs.Permitted.{has_act_left}
-use Rattle.gcd_history.specs.History.{IsLawful, choice_of, has_run, is_ended, why}
+use Rattle.gcd_history.specs.Cancelled.{is_block_cancelled as is_cancelled_after}
+use Rattle.gcd_history.specs.History.{IsLawful, choice_of, has_run, is_block_cancelled, is_ended, is_started, why}
+use Rattle.gcd_history.proofs.CancelledStays.{kept_once_begun}
 use Rattle.gcd_history.proofs.Lists.{reverse_push}
 use Rattle.gcd_history.proofs.Reasons.{allowed, at_end}
 use Rattle.gcd_team.specs.Team.{held_by}
+use Rattle.gcd_team.proofs.CancelledRuns.{begun_where_held}
 use Rattle.gcd_team.proofs.Handing.{held_cells_wait}
 use Rattle.gcd_team.proofs.Homes.{what_is_held_after}
 use Rattle.gcd_team.proofs.TeamLaws.{held_runs_are_apart, held_runs_are_open, own_events_are_the_holders, takings_find_nobody}
@@ -25,13 +28,15 @@ use Rattle.gcd_rounds.proofs.AtPlaces.{at_push}
 
 -- ## One End
 
--- an End that may come is one at which its worker stands
-pub end_is_next : (plan : PlanView) (h : List Event) (e : Ending) → IsLawful plan h → why plan h (End e.worker e.blk) ≡ None → IsAtEnd plan h e
+-- an End that may come, of a block that is not cancelled, is one at which its worker stands
+pub end_is_next : (plan : PlanView) (h : List Event) (e : Ending) → IsLawful plan h → why plan h (End e.worker e.blk) ≡ None
+    → is_block_cancelled plan h e.blk.0 ≡ false → IsAtEnd plan h e
 unfolding why
-end_is_next plan h e lawful may = record {
+end_is_next plan h e lawful may works = record {
   known = (allowed plan (reverse h) (End e.worker e.blk) may).known;
   held = own_events_are_the_holders plan h lawful (End e.worker e.blk) (Block e.blk) (eq-eqb e.blk.0 e.blk.0 refl) may;
   done = (at_end plan (reverse h) e.worker e.blk may).made;
+  works = works;
 }
 
 -- and it may come, as long as the history is not halted
@@ -66,19 +71,28 @@ acts_wait plan h (FeedEnd s) w b lawful may held other = refl
 acts_wait plan h (Misuse v c r i) w b lawful may held other = refl
 acts_wait plan h Halt w b lawful may held other = refl
 acts_wait plan h (Expire c) w b lawful may held other = refl
+acts_wait plan h (Accept c s) w b lawful may held other = refl
+acts_wait plan h Shut w b lawful may held other = refl
 
 -- the events of others leave it there
 pub end_waits : (plan : PlanView) (h : List Event) (e : Event) (x : Ending) → IsLawful plan h → why plan h e ≡ None → (x.worker ≡ worker_of e → ⊥)
     → IsAtEnd plan h x → IsAtEnd plan (h ++ e ∷ []) x
-unfolding has_act_left
-end_waits plan h e x lawful may other at = record {
-  known = at.known;
-  held = (what_is_held_after plan h e).others x.worker (ne_eqb (worker_of e) x.worker (λ same. other (sym same))) ∙ at.held;
-  done =
-      ap (λ (past : List Event). has_act_left plan past (Block x.blk)) (reverse_push h e)
-      ∙ ap (λ (n : ℕ). is_some (act_at plan (Block x.blk) n)) (acts_wait plan h e x.worker x.blk lawful may at.held (λ same. other (sym same)))
-      ∙ at.done;
-}
+unfolding has_act_left is_started is_block_cancelled
+end_waits plan h e x lawful may other at =
+    let past : List Event = reverse h in
+    let begun = begun_where_held plan h x.worker x.blk lawful at.held in
+    let same : is_cancelled_after plan (e ∷ past) x.blk.0 ≡ is_cancelled_after plan past x.blk.0 = kept_once_begun plan e past x.blk.0 begun in
+    record {
+      known = at.known;
+      held = (what_is_held_after plan h e).others x.worker (ne_eqb (worker_of e) x.worker (λ same. other (sym same))) ∙ at.held;
+      done =
+          ap (λ (l : List Event). has_act_left plan l (Block x.blk)) (reverse_push h e)
+          ∙ ap (λ (v : Bool). is_some (if v then None else act_at plan (Block x.blk) (acts_done (e ∷ past) (Block x.blk)))) same
+          ∙ ap (λ (n : ℕ). is_some (if is_cancelled_after plan past x.blk.0 then None else act_at plan (Block x.blk) n))
+          (acts_wait plan h e x.worker x.blk lawful may at.held (λ same. other (sym same)))
+          ∙ at.done;
+      works = ap (λ (l : List Event). is_cancelled_after plan l x.blk.0) (reverse_push h e) ∙ same ∙ at.works;
+    }
 
 -- a block at its End has not ended
 pub end_is_open : (plan : PlanView) (h : List Event) (x : Ending) → IsLawful plan h → IsAtEnd plan h x → is_ended h x.blk.0 ≡ false

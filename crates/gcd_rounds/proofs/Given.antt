@@ -1,7 +1,7 @@
 -- The values and jobs of the blocks, a step on.
-use Rattle.std.proofs.Common.{suc, zero, ◌≡◌, ◌≢◌, ◌<◌, ◌∙◌, ◌==◌, ◌||◌, ℕ, Bool, false, List, [], ◌∷◌, ◌++◌, length, Option, Some, None, refl, ap, sym, subst, arith, ⊎_elim, replicate}
+use Rattle.std.proofs.Common.{suc, zero, ◌≡◌, ◌≢◌, ◌<◌, ◌∙◌, ◌==◌, ℕ, true, false, not, List, [], ◌∷◌, ◌++◌, length, Option, Some, None, ap, sym, subst, arith, ⊎_elim, replicate}
 use Rattle.std.specs.Prelude.{map, option_map, slice_get, slice_set}
-use Rattle.std.proofs.lemmas.Bool.{both_ways, cases_eq, eq-eqb, ne_eqb, or_parts}
+use Rattle.std.proofs.lemmas.Bool.{both_ways, cases_eq, eq-eqb, or_parts}
 use Rattle.std.proofs.lemmas.List.{length-set, length-replicate, length_push, get_or-replicate}
 use Rattle.std.proofs.lemmas.Option.{same_Some, slice_get-get_or, slice_get-map}
 use Rattle.gcd_plan.specs.PlanView.{PlanView}
@@ -9,8 +9,9 @@ use Rattle.gcd_plan.proofs.Places.{slice_get-append_seam, slice_get_some}
 use Rattle.gcd_event.specs.declared.event.Event.{Event}
 use Rattle.gcd_event.specs.declared.event.Event.TheVariants.{End}
 use Rattle.gcd_history.specs.Runs.{ends}
-use Rattle.gcd_history.specs.History.{is_ended, why}
-use Rattle.gcd_history.proofs.Lists.{reverse_push}
+use Rattle.gcd_history.specs.History.{IsLawful, is_block_cancelled, is_ended, why}
+use Rattle.gcd_jobs.specs.BlockValues.{has_given}
+use Rattle.gcd_jobs.proofs.ValuesMore.{ended_push, given_kept, given_of_other, given_of_own}
 use Rattle.gcd_turn.proofs.HistoryMore.{unhalted_before}
 use Rattle.gcd_rounds.specs.declared.kept.Done.{Done}
 use Rattle.gcd_rounds.specs.declared.kept.Ending.{Ending}
@@ -18,11 +19,6 @@ use Rattle.gcd_rounds.specs.Kept.{HasValue}
 use Rattle.gcd_rounds.specs.Ran.{AreGiven, IsGiven}
 use Rattle.gcd_rounds.specs.Running.{AllWait, GoesOn, IsKept}
 use Rattle.gcd_rounds.proofs.AtPlaces.{at_front, set_here, set_other}
-
--- a block has ended after one more event where this ends it, or it had
-pub ended_push : (h : List Event) (e : Event) (b : ℕ) → is_ended (h ++ e ∷ []) b ≡ (ends b e || is_ended h b)
-unfolding is_ended
-ended_push h e b = rw reverse_push refl
 
 -- the run went on before an event
 pub went_on : (most : ℕ) (plan : PlanView) (h : List Event) (e : Event) → why plan h e ≡ None → GoesOn most (h ++ e ∷ []) → GoesOn most h
@@ -37,35 +33,35 @@ pub given_first : {J : Type 0} (gives : J → ℕ → ℕ → Type 0) (plan : Pl
 unfolding is_ended
 given_first gives plan jobs = record {
   count = length-replicate (length plan.blocks) 0;
-  ended = λ b ended. cc;
-  others = λ b low not_yet.
+  ended = λ b gave. cc;
+  others = λ b low lacks.
       slice_get-get_or (replicate (length plan.blocks) 0) b 0 (omega (arith, length-replicate {A = ℕ} (length plan.blocks) 0))
       ∙ ap Some (get_or-replicate (length plan.blocks) b 0 0 low);
 }
 
--- an event that ends no block
-pub given_same : {J : Type 0} (gives : J → ℕ → ℕ → Type 0) (plan : PlanView) (jobs : List J) (h : List Event) (e : Event) (values : List ℕ)
-    → ((b : ℕ) → ends b e ≡ false) → AreGiven gives plan jobs h values → AreGiven gives plan jobs (h ++ e ∷ []) values
-given_same gives plan jobs h e values none given =
-    let same : (b : ℕ) → is_ended (h ++ e ∷ []) b ≡ is_ended h b = λ b. ended_push h e b ∙ ap (λ (v : Bool). v || is_ended h b) (none b) in
+-- an event that ends no block but a cancelled one
+pub given_same : {J : Type 0} (gives : J → ℕ → ℕ → Type 0) (plan : PlanView) (jobs : List J) (h : List Event) (e : Event) (values : List ℕ) → IsLawful plan h
+    → ((b : ℕ) → ends b e ≡ true → is_block_cancelled plan h b ≡ true) → AreGiven gives plan jobs h values → AreGiven gives plan jobs (h ++ e ∷ []) values
+given_same gives plan jobs h e values lawful only given =
+    let same : (b : ℕ) → has_given plan (h ++ e ∷ []) b ≡ has_given plan h b = λ b. given_kept plan h e b lawful (only b) in
     record {
       count = given.count;
-      ended = λ b ended. given.ended b (sym (same b) ∙ ended);
-      others = λ b low not_yet. given.others b low (sym (same b) ∙ not_yet);
+      ended = λ b gave. given.ended b (sym (same b) ∙ gave);
+      others = λ b low lacks. given.others b low (sym (same b) ∙ lacks);
     }
 
--- an End gives its block a value
+-- the End of a block that is not cancelled gives it a value
 pub given_end : {J : Type 0} (gives : J → ℕ → ℕ → Type 0) (plan : PlanView) (jobs : List J) (h : List Event) (done : Done) (values : List ℕ)
-    → done.ending.blk.0 < length plan.blocks → HasValue gives jobs done → AreGiven gives plan jobs h values
+    → done.ending.blk.0 < length plan.blocks → is_block_cancelled plan h done.ending.blk.0 ≡ false → HasValue gives jobs done → AreGiven gives plan jobs h values
     → AreGiven gives plan jobs (h ++ End done.ending.worker done.ending.blk ∷ []) (slice_set values done.ending.blk.0 done.value)
-given_end gives plan jobs h done values within has given =
+given_end gives plan jobs h done values within works has given =
     let c : ℕ = done.ending.blk.0 in
-    let step : (b : ℕ) → is_ended (h ++ End done.ending.worker done.ending.blk ∷ []) b ≡ ((c == b) || is_ended h b) =
-    λ b. ended_push h (End done.ending.worker done.ending.blk) b in
+    let after : List Event = h ++ End done.ending.worker done.ending.blk ∷ [] in
+    let other : (b : ℕ) → c ≢ b → has_given plan after b ≡ has_given plan h b = given_of_other plan h done.ending.worker done.ending.blk in
     let count : length values ≡ length plan.blocks = given.count in
     record {
       count = length-set values c done.value ∙ count;
-      ended = λ b ended.
+      ended = λ b gave.
           ⊎_elim
           (λ (same : c ≡ b). subst (IsGiven gives jobs (slice_set values c done.value)) same (record {
             job = has.job;
@@ -75,7 +71,7 @@ given_end gives plan jobs h done values within has given =
             given = has.given;
           }))
           (λ (differ : c ≢ b).
-          let was : IsGiven gives jobs values b = given.ended b (sym (ap (λ (t : Bool). t || is_ended h b) (ne_eqb c b differ)) ∙ sym (step b) ∙ ended) in
+          let was : IsGiven gives jobs values b = given.ended b (sym (other b differ) ∙ gave) in
           record {
             job = was.job;
             value = was.value;
@@ -84,9 +80,14 @@ given_end gives plan jobs h done values within has given =
             given = was.given;
           })
           (cases_eq c b);
-      others = λ b low not_yet.
-          let parts = or_parts (c == b) (is_ended h b) (sym (step b) ∙ not_yet) in
-          set_other values c b done.value 0 (λ e. both_ways _ parts.0 (eq-eqb c b (sym e))) (given.others b low parts.1);
+      others = λ b low lacks.
+          ⊎_elim
+          (λ (same : c ≡ b).
+          let gave : has_given plan after c ≡ true =
+          given_of_own plan h done.ending.worker done.ending.blk ∙ ap not works in
+          absurd (both_ways (has_given plan after c) (ap (has_given plan after) same ∙ lacks) gave))
+          (λ (differ : c ≢ b). set_other values c b done.value 0 (λ e. differ (sym e)) (given.others b low (sym (other b differ) ∙ lacks)))
+          (cases_eq c b);
     }
 
 -- ## Jobs
@@ -100,11 +101,11 @@ wait_first most plan jobs count on b low not_yet unkept =
       at = slice_get-map Some jobs b ∙ ap (λ o. option_map Some o) found.1;
     }
 
--- an event that ends no block
+-- an event more
 pub wait_same : {J : Type 0} (most : ℕ) (plan : PlanView) (first : List J) (h : List Event) (e : Event) (jobs : List (Option J)) (kept : List Ending)
-    → why plan h e ≡ None → ((b : ℕ) → ends b e ≡ false) → AllWait most plan first h jobs kept → AllWait most plan first (h ++ e ∷ []) jobs kept
-wait_same most plan first h e jobs kept may none wait on b low not_yet unkept =
-    wait (went_on most plan h e may on) b low (sym (ended_push h e b ∙ ap (λ (v : Bool). v || is_ended h b) (none b)) ∙ not_yet) unkept
+    → why plan h e ≡ None → AllWait most plan first h jobs kept → AllWait most plan first (h ++ e ∷ []) jobs kept
+wait_same most plan first h e jobs kept may wait on b low not_yet unkept =
+    wait (went_on most plan h e may on) b low (or_parts (ends b e) (is_ended h b) (sym (ended_push h e b) ∙ not_yet)).1 unkept
 
 -- an End that is kept back
 pub wait_keep : {J : Type 0} (most : ℕ) (plan : PlanView) (first : List J) (h : List Event) (x : Ending) (jobs : List (Option J)) (kept : List Ending)

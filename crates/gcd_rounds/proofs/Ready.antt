@@ -1,5 +1,5 @@
 -- The values and jobs of a run, a step on.
-use Rattle.std.proofs.Common.{◌≡◌, ◌<◌, ◌+◌, ◌∙◌, ℕ, List, [], ◌∷◌, ◌++◌, length, Option, Some, None, ap, sym, subst, arith, refl, ⊎_elim}
+use Rattle.std.proofs.Common.{◌≡◌, ◌<◌, ◌+◌, ◌∙◌, ℕ, false, List, [], ◌∷◌, ◌++◌, length, Option, Some, None, ap, sym, subst, arith, refl, ⊎_elim}
 use Rattle.std.specs.Prelude.{Vec, slice_get}
 use Rattle.std.specs.declared.alloc.Global.{Global}
 use Rattle.std.proofs.lemmas.Bool.{and_parts, ltb-true}
@@ -9,7 +9,7 @@ use Rattle.gcd_plan.specs.PlanView.{PlanView}
 use Rattle.gcd_plan.specs.declared.kind.Kind.{Kind}
 use Rattle.gcd_event.specs.declared.event.Event.{Event}
 use Rattle.gcd_event.specs.declared.event.Event.TheVariants.{End}
-use Rattle.gcd_history.specs.History.{IsLawful}
+use Rattle.gcd_history.specs.History.{IsLawful, is_block_cancelled}
 use Rattle.gcd_history.specs.Permitted.{is_worker, has_block}
 use Rattle.gcd_machine.proofs.Shown.{lawful_stands}
 use Rattle.gcd_turn.proofs.HistoryMore.{unhalted_before}
@@ -60,16 +60,17 @@ module _ {J H : Type 0} (gives : J → ℕ → ℕ → Type 0) (kind : H → Kin
   -- ## An End that comes next
 
   at_end : (r : Running J H) (x : Ending) → IsNext r.terms.most plan r.terms.workers r.journal.items (End x.worker x.blk) → IsRun kind times total plan r
-      → IsAtEnd plan r.journal.items x
-  at_end r x next run = end_is_next plan r.journal.items x (lawful_stands r.machine plan r.journal.items run.stands) next.permitted
+      → is_block_cancelled plan r.journal.items x.blk.0 ≡ false → IsAtEnd plan r.journal.items x
+  at_end r x next run works = end_is_next plan r.journal.items x (lawful_stands r.machine plan r.journal.items run.stands) next.permitted works
 
   -- the job of its block lies where it was handed in
   pub job_waits : (r : Running J H) (x : Ending) (ends : List Ending) → IsNext r.terms.most plan r.terms.workers r.journal.items (End x.worker x.blk)
-      → IsRun kind times total plan r → AreReady gives plan r ends → EndBefore x.worker ends → Waits r.terms.jobs.value.items r.jobs.items x.blk.0
-  job_waits r x ends next run ready before =
+      → IsRun kind times total plan r → is_block_cancelled plan r.journal.items x.blk.0 ≡ false → AreReady gives plan r ends → EndBefore x.worker ends
+      → Waits r.terms.jobs.value.items r.jobs.items x.blk.0
+  job_waits r x ends next run works ready before =
       let h : List Event = r.journal.items in
       let lawful : IsLawful plan h = lawful_stands r.machine plan h run.stands in
-      let at = at_end r x next run in
+      let at = at_end r x next run works in
       ready.wait (record { unhalted = unhalted_before plan h (End x.worker x.blk) next.permitted; room = next.room }) x.blk.0
       (end_within plan h x at) (end_is_open plan h x lawful at)
       (λ is.
@@ -80,9 +81,9 @@ module _ {J H : Type 0} (gives : J → ℕ → ℕ → Type 0) (kind : H → Kin
   -- it is kept back with this job
   pub ready_kept : (r : Running J H) (later : Vec (Option J) Global) (x : Ending) (kept more : List (Kept J))
       → WasKept r.jobs.items later.items x kept more → IsNext r.terms.most plan r.terms.workers r.journal.items (End x.worker x.blk)
-      → IsRun kind times total plan r → AreReady gives plan r (endings_of kept) → EndBefore x.worker (endings_of kept)
+      → IsRun kind times total plan r → is_block_cancelled plan r.journal.items x.blk.0 ≡ false → AreReady gives plan r (endings_of kept) → EndBefore x.worker (endings_of kept)
       → AreReady gives plan (record r { jobs = later }) (endings_of more)
-  ready_kept r later x kept more was next run ready before =
+  ready_kept r later x kept more was next run works ready before =
       let h : List Event = r.journal.items in
       let long : length later.items ≡ length r.jobs.items = ap length was.taken ∙ length-set r.jobs.items x.blk.0 None in
       subst (AreReady gives plan (record r { jobs = later }))
@@ -91,15 +92,15 @@ module _ {J H : Type 0} (gives : J → ℕ → ℕ → Type 0) (kind : H → Kin
         given = ready.given;
         count = long ∙ ready.count;
         wait = rw was.taken (wait_keep r.terms.most plan r.terms.jobs.value.items h x r.jobs.items (endings_of kept) ready.wait);
-        kept = kept_more plan r.terms.workers h x (endings_of kept) (at_end r x next run) next.below before (λ one. next.chosen one refl) ready.kept;
+        kept = kept_more plan r.terms.workers h x (endings_of kept) (at_end r x next run works) next.below before (λ one. next.chosen one refl) ready.kept;
       })
 
   pub jobs_kept : (r : Running J H) (later : Vec (Option J) Global) (x : Ending) (kept more : List (Kept J))
       → WasKept r.jobs.items later.items x kept more → IsNext r.terms.most plan r.terms.workers r.journal.items (End x.worker x.blk)
-      → IsRun kind times total plan r → AreReady gives plan r (endings_of kept) → EndBefore x.worker (endings_of kept)
+      → IsRun kind times total plan r → is_block_cancelled plan r.journal.items x.blk.0 ≡ false → AreReady gives plan r (endings_of kept) → EndBefore x.worker (endings_of kept)
       → HaveJobs r.terms.jobs.value.items kept → HaveJobs r.terms.jobs.value.items more
-  jobs_kept r later x kept more was next run ready before jobs =
-      let waits = job_waits r x (endings_of kept) next run ready before in
+  jobs_kept r later x kept more was next run works ready before jobs =
+      let waits = job_waits r x (endings_of kept) next run works ready before in
       let same : waits.job ≡ was.job = same_Some waits.job was.job (same_Some (Some waits.job) (Some was.job) (sym waits.at ∙ was.at)) in
       let it : Kept J = record { ending = x; job = was.job } in
       subst (HaveJobs r.terms.jobs.value.items) (sym was.added) (λ i k at.

@@ -17,7 +17,7 @@ use Rattle.gcd_plan.specs.declared.numbers.Run.{Run}
 use Rattle.gcd_plan.specs.declared.numbers.Run.TheVariants.{Source}
 use Rattle.gcd_plan.proofs.Sums.{count_by-map, count_by_push}
 use Rattle.gcd_event.specs.declared.event.Event.{Event}
-use Rattle.gcd_event.specs.declared.event.Event.TheVariants.{Start, Act as Acted, Wake, End, Deliver, DeliverEnd, Tick, Ready, FeedEnd, Misuse, Halt, Expire}
+use Rattle.gcd_event.specs.declared.event.Event.TheVariants.{Start, Act as Acted, Wake, End, Deliver, DeliverEnd, Tick, Ready, FeedEnd, Misuse, Halt, Expire, Accept, Shut}
 use Rattle.gcd_history.specs.History.{IsLawful, delivery_count_of, last_data_of, received_of, why}
 use Rattle.gcd_history.specs.Permitted.{is_worker}
 use Rattle.gcd_history.proofs.LawfulLemmas.{lawful_next}
@@ -155,6 +155,8 @@ module _ {H : Type 0} (kind : H → Kind) (times total : H → ℕ) (plan : Plan
       untaken (Misuse w c r i) other s it = cc
       untaken Halt other s it = cc
       untaken (Expire b) other s it = cc
+      untaken (Accept b n) other s it = cc
+      untaken Shut other s it = cc
 
   -- the handler of the source takes what a Deliver hands over
   pub taken_more : (h : List Event) (w : ℕ) (s : Obj) (handlers : List H) (x y : H) (value : ℕ) → is_source plan s.0 ≡ true

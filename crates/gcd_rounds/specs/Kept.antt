@@ -4,7 +4,7 @@ use Rattle.gcd_plan.specs.PlanView.{PlanView}
 use Rattle.gcd_plan.specs.declared.numbers.Run.TheVariants.{Block}
 use Rattle.gcd_event.specs.declared.event.Event.{Event}
 use Rattle.gcd_event.specs.declared.event.Event.TheVariants.{End}
-use Rattle.gcd_history.specs.History.{choice_of}
+use Rattle.gcd_history.specs.History.{choice_of, is_block_cancelled}
 use Rattle.gcd_history.specs.Permitted.{has_act_left, is_known}
 use Rattle.gcd_team.specs.Team.{held_by}
 use Rattle.gcd_rounds.specs.declared.kept.Done.{Done}
@@ -27,11 +27,12 @@ pub record WasKept {J : Type 0} (jobs later : List (Option J)) (ending : Ending)
 abbrev pub endings_of : {J : Type 0} → List (Kept J) → List Ending
 endings_of kept = map (λ k. k.ending) kept
 
--- the worker holds the block, which has no act left: this End comes next of it
+-- the worker holds the block, which has no act left: this End comes next of it; and the block is not cancelled, so its job runs first
 pub record IsAtEnd (plan : PlanView) (h : List Event) (e : Ending) : Type 0 where
   pub known : is_known plan (End e.worker e.blk) ≡ true
   pub held : held_by plan h e.worker ≡ Some (Block e.blk)
   pub done : has_act_left plan (reverse h) (Block e.blk) ≡ false
+  pub works : is_block_cancelled plan h e.blk.0 ≡ false
 
 -- the Ends that are kept back, of workers below this number, in the order of the workers; a worker who is alone chooses its End
 pub record AreKept (plan : PlanView) (workers : ℕ) (h : List Event) (ends : List Ending) : Type 0 where

@@ -5,7 +5,7 @@ use Rattle.gcd_plan.specs.Kinds.{is_source}
 use Rattle.gcd_plan.specs.PlanView.{PlanView, kind_of}
 use Rattle.gcd_plan.specs.declared.kind.Kind.{Kind}
 use Rattle.gcd_event.specs.declared.event.Event.{Event}
-use Rattle.gcd_history.specs.History.{is_ended}
+use Rattle.gcd_jobs.specs.BlockValues.{has_given}
 
 -- the value of block b is one that its job may give at 0
 pub record IsGiven {J : Type 0} (gives : J → ℕ → ℕ → Type 0) (jobs : List J) (values : List ℕ) (b : ℕ) : Type 0 where
@@ -15,11 +15,11 @@ pub record IsGiven {J : Type 0} (gives : J → ℕ → ℕ → Type 0) (jobs : L
   pub value_of : slice_get values b ≡ Some value
   pub given : gives job 0 value
 
--- for each block a value that its job may give at 0 where its End stands, and else 0
+-- for each block a value that its job may give at 0 where it has ended and is not cancelled, and else 0
 pub record AreGiven {J : Type 0} (gives : J → ℕ → ℕ → Type 0) (plan : PlanView) (jobs : List J) (h : List Event) (values : List ℕ) : Type 0 where
   pub count : length values ≡ length plan.blocks
-  pub ended : (b : ℕ) → is_ended h b ≡ true → IsGiven gives jobs values b
-  pub others : (b : ℕ) → b < length plan.blocks → is_ended h b ≡ false → slice_get values b ≡ Some 0
+  pub ended : (b : ℕ) → has_given plan h b ≡ true → IsGiven gives jobs values b
+  pub others : (b : ℕ) → b < length plan.blocks → has_given plan h b ≡ false → slice_get values b ≡ Some 0
 
 -- how many sources have a lower number
 abbrev pub sources_before : PlanView → ℕ → ℕ

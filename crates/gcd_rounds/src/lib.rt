@@ -6,10 +6,12 @@
 //!
 //! | | |
 //! |---|---|
-//! | worker 0 | records what the outside asks for (`gcd_turn`) before each of its own events, and what it chooses, the nodes from number 0 on, until it has no choice or that is the End of a block; this End is kept back |
+//! | worker 0 | records what the outside asks for (`gcd_turn`) before each of its own events, and what it chooses, the nodes from number 0 on, until it has no choice or that is the End of a block that is not cancelled; this End is kept back |
 //! | the other workers | one after the other, do so without the outside, as long as the run is neither halted nor full |
 //! | jobs | those of the Ends that were kept back run by one parallel map; then these Ends are recorded in the order of the workers, as long as the run is neither halted nor full |
 //! | the outside | where nobody recorded or kept back anything since worker 0 last asked, it polls or waits |
+//!
+//! The End of a cancelled block is recorded at once: it does no work, and its job is dropped (dispatch_block_cancel(3)).
 //!
 //! The turns of worker 0 are those of every engine (`gcd_loop`): a run by rounds is what records their events, and stops a turn where
 //! the round is to end. A handler takes what is handed over as its Deliver is recorded, on the caller's thread. One worker asks clock
@@ -18,7 +20,7 @@
 //! | clause | says, where memory sufficed |
 //! |---|---|
 //! | `ran` (`RunsPlan` of `gcd_loop`) | the journal is lawful and has ended, of at most `most` events; its workers are below the number of workers; with one worker each event of a worker is what that worker chooses at its place; what poller and clock said stands in it (`IsHeard`, `IsTimely`) |
-//! | `values` (`AreGiven`) | for each block a value that its job may give at 0 where its End stands, and else 0 |
+//! | `values` (`AreGiven`) | for each block a value that its job may give at 0 where it has ended and is not cancelled, and else 0 |
 //! | `handlers` (`AreHandlers`) | the handler of each source took as many values as it has Delivers, and what these handed over |
 //! | `listens`, `addresses`, `poller_faults` | no listen was made, and the poller's count of faults did not fall; these hold where memory runs out too |
 //!

@@ -30,7 +30,7 @@ use std::thread::Threads;
 pub struct RoundsEnd<H> {
     /// All events, in order.
     pub journal: Vec<Event>,
-    /// For each block, main's first, the value that its job gave where its End stands, and else 0.
+    /// For each block, main's first, the value that its job gave where it has ended and is not cancelled, and else 0.
     pub values: Vec<u64>,
     /// The handler of each source, by the number of the source.
     pub handlers: Vec<H>,

@@ -4,6 +4,7 @@ ghost use Rattle.gcd_plan.specs.PlanView.{PlanView};
 ghost use Rattle.gcd_event.specs.declared.event.Event.{Event};
 ghost use Rattle.gcd_event.specs.declared.event.Event.TheVariants.{End};
 ghost use Rattle.gcd_history.specs.Choice.{worker_of};
+ghost use Rattle.gcd_history.specs.History.{is_block_cancelled};
 ghost use Rattle.gcd_history.specs.Runs.{ends};
 ghost use Rattle.gcd_machine.specs.Stands.{StandsFor};
 ghost use Rattle.gcd_loop.specs.Recorded.{IsOutside, Says};
@@ -119,7 +120,7 @@ impl<J: Job + Drop, H: Handler + Drop> Running<J, H> {
         self.machine.is_halted() || self.machine.len() >= self.terms.most
     }
 
-    // Records an event that may come next.
+    // Records an event that may come next. It ends no block but a cancelled one, where the values are to stay right.
     pub(crate) fn record(&mut self, plan: &Plan, e: Event) -> Result<(), AllocError>
         requires next { IsNext self.old.terms.most plan.now self.old.terms.workers self.old.journal.items e }
         requires run { IsRun H.kind H.times H.total plan.now self.old }
@@ -128,7 +129,8 @@ impl<J: Job + Drop, H: Handler + Drop> Running<J, H> {
         ensures jobs { self.new.jobs ≡ self.old.jobs }
         ensures journal { OnOk result (self.new.journal.items ≡ self.old.journal.items ++ e ∷ []) }
         ensures run { OnOk result (IsRun H.kind H.times H.total plan.now self.new) }
-        ensures ready { (kept : List Ending) → ((b : ℕ) → ends b e ≡ false) → EndOthers (worker_of e) kept
+        ensures ready { (kept : List Ending) → ((b : ℕ) → ends b e ≡ true → is_block_cancelled plan.now self.old.journal.items b ≡ true)
+            → EndOthers (worker_of e) kept
             → AreReady J.gives plan.now self.old kept → OnOk result (AreReady J.gives plan.now self.new kept) }
     {
         self.journal.push(e)?;

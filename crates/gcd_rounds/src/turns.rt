@@ -1,6 +1,13 @@
 // The turns of the workers in a round.
-ghost use Rattle.std.specs.Prelude.{◌≡◌, ◌<◌, ◌+◌, [], ℕ, Ok, Option, true, false, OnOk, IsTrue, length};
+ghost use Rattle.std.specs.Prelude.{◌≡◌, ◌<◌, ◌+◌, [], ℕ, List, Ok, Option, true, false, IfSome, IfNone, OnOk, IsTrue, length};
+ghost use Rattle.gcd_plan.specs.PlanView.{PlanView};
+ghost use Rattle.gcd_event.specs.declared.event.Event.{Event};
+ghost use Rattle.gcd_event.specs.declared.event.Event.TheVariants.{End};
 ghost use Rattle.gcd_history.specs.Choice.{is_work, worker_of};
+ghost use Rattle.gcd_history.specs.History.{is_block_cancelled};
+ghost use Rattle.gcd_history.specs.Runs.{ends};
+ghost use Rattle.gcd_jobs.specs.Ends.{EndFits};
+ghost use Rattle.gcd_machine.specs.Stands.{StandsFor};
 ghost use Rattle.gcd_loop.specs.Recorded.{Grows};
 ghost use Rattle.gcd_rounds.specs.Kept.{EndBefore, HaveJobs, endings_of};
 ghost use Rattle.gcd_rounds.specs.Running.{AreReady, IsNext, IsRun};
@@ -9,11 +16,30 @@ use crate::kept::{Ending, Kept, keep};
 use crate::running::Running;
 use gcd_event::Event;
 use gcd_jobs::{Handler, Job};
+use gcd_machine::Machine;
 use gcd_plan::Plan;
 use std::alloc::AllocError;
 use std::sync::Wait;
 
-// The worker records what it chose, or keeps it back where it is the End of a block. Whether its turn goes on.
+// The End of a block whose job has to run first: of any block but a cancelled one.
+fn end_with_work(machine: &Machine, e: Event) -> Option<Ending>
+    requires { EndFits machine.now.plan e }
+    ensures end { IfSome result (λ x. e ≡ End x.worker x.blk) }
+    ensures works { (plan : PlanView) (h : List Event) → StandsFor machine.now plan h
+        → IfSome result (λ x. is_block_cancelled plan h x.blk.0 ≡ false) }
+    ensures none { (plan : PlanView) (h : List Event) → StandsFor machine.now plan h
+        → IfNone result ((b : ℕ) → ends b e ≡ true → is_block_cancelled plan h b ≡ true) }
+{
+    let Event::End { worker, blk } = e else {
+        return None;
+    };
+    if machine.is_cancelled(blk) {
+        return None;
+    }
+    Some(Ending { worker, blk })
+}
+
+// The worker records what it chose, or keeps it back where it is the End of a block that is not cancelled. Whether its turn goes on.
 pub(crate) fn follow<J: Job + Drop, H: Handler + Drop>(
     run: &mut Running<J, H>,
     plan: &Plan,
@@ -35,15 +61,15 @@ pub(crate) fn follow<J: Job + Drop, H: Handler + Drop>(
     ensures stopped { result ≡ Ok false → run.new.journal ≡ run.old.journal }
     ensures grows { OnOk result (Grows run.old.journal.items run.new.journal.items) }
 {
-    if let Event::End { worker, blk } = e {
-        keep(&mut run.jobs, Ending { worker, blk }, kept)?;
+    if let Some(ending) = end_with_work(&run.machine, e) {
+        keep(&mut run.jobs, ending, kept)?;
         return Ok(false);
     }
     run.record(plan, e)?;
     Ok(true)
 }
 
-// The worker records what it chooses, or keeps it back where it is the End of a block. Whether its turn goes on.
+// The worker records what it chooses, or keeps it back where it is the End of a block that is not cancelled. Whether its turn goes on.
 fn choose<J: Job + Drop, H: Handler + Drop>(
     run: &mut Running<J, H>,
     plan: &Plan,

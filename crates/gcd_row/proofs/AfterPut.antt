@@ -12,7 +12,7 @@ use Rattle.gcd_plan.specs.declared.numbers.Run.TheVariants.{Block}
 use Rattle.gcd_event.specs.declared.event.Event.{Event}
 use Rattle.gcd_event.specs.declared.event.Event.TheVariants.{Act as Acted, End}
 use Rattle.gcd_history.specs.Choice.{worker_of}
-use Rattle.gcd_history.specs.History.{IsLawful, is_ended, parks}
+use Rattle.gcd_history.specs.History.{IsLawful, is_ended, parks, is_block_cancelled}
 use Rattle.gcd_team.specs.Held.{taken, given}
 use Rattle.gcd_team.specs.Team.{held_by}
 use Rattle.gcd_team.proofs.Handing.{cells_stay, held_cells_wait}
@@ -99,7 +99,7 @@ module _ {S : Type 0} (shape : S → Shape) (gives : S → ℕ → Type 0) (b : 
       let now : is_ended (k.before ++ e ∷ []) blk.0 ≡ false = (held_cells_wait t.plan (k.before ++ e ∷ []) lawful).bodies (view q).worker blk held in
       let kept : is_ended (k.before ++ e ∷ []) blk.0 ≡ is_ended k.before blk.0 = (cells_stay t.plan k.before e).bodies blk (λ gave. none_some (given t.plan e) (Block blk) (taken_not_given t.plan e (Block blk) is) gave) in
       let f = first.first (Block blk) (subst (λ (o : Option Run). HasSlots shape gives t (view q).seen o (slots q)) k.held of.has).known in
-      (subst (λ (x : Bool). BodyLies shape gives f.0 x k.cell) (sym kept ∙ now) (k.lay f.0 (get_slice t.cells blk.0 f.0 f.1))).0
+      (subst (λ (x : Bool). BodyLies shape gives f.0 x (is_block_cancelled t.plan k.before blk.0) k.cell) (sym kept ∙ now) (k.lay f.0 (get_slice t.cells blk.0 f.0 f.1))).0
 
   -- where its event neither takes a run nor gives one back, the pass has what it had
   pub record Kept (p q : RowPass S) : Type 0 where

@@ -11,7 +11,7 @@ use Rattle.gcd_plan.specs.Validity.{IsPlan}
 use Rattle.gcd_plan.specs.declared.numbers.Run.{Run}
 use Rattle.gcd_plan.specs.declared.numbers.Run.TheVariants.{Block, Source}
 use Rattle.gcd_event.specs.Words.{word_of}
-use Rattle.gcd_history.specs.History.{is_ended}
+use Rattle.gcd_history.specs.History.{is_block_cancelled, is_ended}
 use Rattle.gcd_history.proofs.LawfulLemmas.{lawful_none}
 use Rattle.gcd_team.specs.Team.{StartsWith}
 use Rattle.gcd_team.proofs.TeamLaws.{nothing_is_held_first}
@@ -71,7 +71,7 @@ module _ {S : Type 0} where
 module _ {S : Type 0} (shape : S → Shape) (gives : S → ℕ → Type 0) where
   first_lies : (t : Terms S) (r : Run) (c : S) → get_elem? t.cells (slot_of t.plan r) ≡ some c → shape c ≡ first_shape t.plan r → Lies shape gives t [] r c
   first_lies t (Block b) c at is = λ first first_at. let same : c ≡ first = same_cell t.cells b.0 c first at first_at in
-      subst (λ n. BodyLies shape gives first n c) (sym (not_ended b.0)) (is, λ v may. subst (λ (x : S). gives x v) same may)
+      subst (λ (n : Bool). BodyLies shape gives first n (is_block_cancelled t.plan [] b.0) c) (sym (not_ended b.0)) (is, λ v may. subst (λ (x : S). gives x v) same may)
   first_lies t (Source s) c at is = is
 
   pub opens : (key : Copies S) (words : List ℕ) (cells : List S) → key.cells.value.items ≡ cells → IsPlan key.plan.value → AreFirst shape key.plan.value cells → 0 < key.limits.workers → key.limits.workers ≤ 64 → key.limits.most < 4294967296 → AreFirstWords key.limits.workers words → Holds shape gives key (opening words cells (opening_view key))

@@ -14,7 +14,9 @@ use Rattle.gcd_event.specs.declared.event.Event.{Event}
 use Rattle.gcd_event.specs.declared.event.Event.TheVariants.{Deliver}
 use Rattle.gcd_history.specs.Choice.{worker_of}
 use Rattle.gcd_history.specs.Runs.{ends}
-use Rattle.gcd_history.specs.History.{why, IsLawful, is_ended, delivery_count_of, received_of}
+use Rattle.gcd_history.specs.History.{why, IsLawful, is_block_cancelled, is_ended, delivery_count_of, received_of}
+use Rattle.gcd_history.proofs.CancelledStays.{begun_where_ended, cancelled_kept, cancelled_kept_on}
+use Rattle.gcd_history.proofs.LawfulLemmas.{lawful_front}
 use Rattle.gcd_team.specs.Held.{is_of, taken, given}
 use Rattle.gcd_team.specs.Team.{of_worker, held_by, StartsWith}
 use Rattle.gcd_team.specs.TeamFacts.{SourceWaits, IsNobodys}
@@ -27,6 +29,7 @@ use Rattle.gcd_row.specs.Lying.{slot_of, source_shape, IsUntaken, IsServed, Body
 use Rattle.gcd_row.specs.Plays.{Turned}
 use Rattle.gcd_row.specs.declared.view.Terms.{Terms}
 use Rattle.gcd_row.proofs.Totals.{earlier_now, earlier_waits}
+use Rattle.gcd_team.proofs.CancelledRuns.{begun_where_held, cancelled_at_taking}
 use Rattle.gcd_row.proofs.Running.{known_run, taken_known, given_known, given_not_taken, taken_source, source_slot, none_some}
 
 abbrev pub head_of : {S : Type 0} → ℕ → S → List (ℕ × S) → ℕ × S
@@ -71,21 +74,31 @@ handler_waits plan h later s (handler kind times total) w x = (
 handler_waits plan h later s away w x = tt
 
 module _ {S : Type 0} (shape : S → Shape) (gives : S → ℕ → Type 0) (t : Terms S) where
+  -- what lies in the slot of a block stays right while the block does not end
+  body_stays : (h : List Event) (e : Event) (b : Blk) (first c : S) (n : Bool) → IsLawful t.plan h → is_ended h b.0 ≡ n
+      → BodyLies shape gives first n (is_block_cancelled t.plan h b.0) c → BodyLies shape gives first n (is_block_cancelled t.plan (h ++ e ∷ []) b.0) c
+  body_stays h e b first c false lawful ended lies = lies
+  body_stays h e b first c true lawful ended lies =
+      subst (λ (v : Bool). BodyLies shape gives first true v c) (sym (cancelled_kept t.plan h e b.0 (begun_where_ended t.plan h b.0 lawful ended))) lies
+
   -- what lies at a slot whose run nobody holds, and which the event does not take, stays right
   pub lies_stay : (h : List Event) (e : Event) (r : Run) (c : S) → IsLawful t.plan h → why t.plan h e ≡ None → IsNobodys t.plan h r → (taken e ≡ Some r → ⊥) → Lies shape gives t h r c → Lies shape gives t (h ++ e ∷ []) r c
   lies_stay h e (Block b) c lawful may nobodys not_taken old =
       let not_given : given t.plan e ≡ Some (Block b) → ⊥ = λ is. nobodys (worker_of e) (givings_are_the_holders t.plan h lawful e (Block b) is may) in
-      λ first at. subst (λ (n : Bool). BodyLies shape gives first n c) (sym ((cells_stay t.plan h e).bodies b not_given)) (old first at)
+      λ first at. subst (λ (n : Bool). BodyLies shape gives first n (is_block_cancelled t.plan (h ++ e ∷ []) b.0) c) (sym ((cells_stay t.plan h e).bodies b not_given))
+      (body_stays h e b first c (is_ended h b.0) lawful refl (old first at))
   lies_stay h e (Source s) c lawful may nobodys not_taken old = old ∙ sym (same_source_shape t.plan h (e ∷ []) s.0 ((cells_stay t.plan h e).handlers s not_taken))
 
   -- what a holder has of its run stays right after a permitted event
   may_stay : (h : List Event) (e : Event) (w : ℕ) (r : Run) (c : S) → IsLawful t.plan h → why t.plan h e ≡ None → held_by t.plan h w ≡ Some r → MayHold shape gives t h r c → MayHold shape gives t (h ++ e ∷ []) r c
-  may_stay h e w (Block b) c lawful may held old = old
+  may_stay h e w (Block b) c lawful may held old = λ first at.
+      subst (BodyHeld shape gives first c (shape c)) (sym (cancelled_kept t.plan h e b.0 (begun_where_held t.plan h w b lawful held))) (old first at)
   may_stay h e w (Source s) c lawful may held old = handler_waits t.plan h (e ∷ []) s.0 (shape c) ((held_cells_wait t.plan h lawful).handlers w s e held may) old
 
   -- and after any events of others
   may_wait : (h later : List Event) (w : ℕ) (r : Run) (c : S) → IsLawful t.plan (h ++ later) → of_worker w later ≡ [] → held_by t.plan h w ≡ Some r → MayHold shape gives t h r c → MayHold shape gives t (h ++ later) r c
-  may_wait h later w (Block b) c lawful none held old = old
+  may_wait h later w (Block b) c lawful none held old = λ first at.
+      subst (BodyHeld shape gives first c (shape c)) (sym (cancelled_kept_on t.plan h later b.0 (begun_where_held t.plan h w b (lawful_front t.plan h later lawful) held))) (old first at)
   may_wait h later w (Source s) c lawful none held old = handler_waits t.plan h later s.0 (shape c) ((cells_wait t.plan h later lawful).handlers w s held none) old
 
   -- what is had of a run has to do with the slot's run alone
@@ -118,11 +131,13 @@ module _ {S : Type 0} (shape : S → Shape) (gives : S → ℕ → Type 0) (t : 
 
   -- what lay at home may be held
   taken_may : (h : List Event) (e : Event) (r : Run) (y : S) → taken e ≡ Some r → why t.plan h e ≡ None → Lies shape gives t h r y → MayHold shape gives t (h ++ e ∷ []) r y
-  taken_may h e (Block b) y is may lies = λ first at. go first (is_ended h b.0) (lies first at)
+  taken_may h e (Block b) y is may lies = λ first at.
+      subst (BodyHeld shape gives first y (shape y)) (sym (cancelled_at_taking t.plan h e (Block b) b.0 is)) (go first (is_ended h b.0) (is_block_cancelled t.plan h b.0) (lies first at))
     where
-      go : (first : S) (n : Bool) → BodyLies shape gives first n y → BodyHeld shape gives first y (shape y)
-      go first false l = subst (BodyHeld shape gives first y) (sym l.0) l.1
-      go first true l = subst (BodyHeld shape gives first y) (sym l.1) l.2
+      go : (first : S) (n marked : Bool) → BodyLies shape gives first n marked y → BodyHeld shape gives first y (shape y) marked
+      go first false marked l = subst (λ (s : Shape). BodyHeld shape gives first y s marked) (sym l.0) l.1
+      go first true false l = subst (λ (s : Shape). BodyHeld shape gives first y s false) (sym l.1) l.2
+      go first true true l = subst (λ (s : Shape). BodyHeld shape gives first y s true) (sym l) refl
   taken_may h e (Source s) y is may lies =
       let d = taken_source e s is in
       let it = handler_of_source t.plan h s.0 (taken_known t.plan h e (Source s) is may) in
@@ -174,12 +189,17 @@ module _ {S : Type 0} (shape : S → Shape) (gives : S → ℕ → Type 0) (t : 
       one_cell : (k : ℕ) (x y : S) → ◌≡◌ {A = List (ℕ × S)} ((k, x) ∷ []) ((k, y) ∷ []) → x ≡ y
       one_cell k x y same = ap (λ (l : List (ℕ × S)). (head_of k x l).1) same
 
-      body_lies : (b : Blk) (x : S) (first : S) → (n : Bool) → BodyHeld shape gives first x (shape x) → IsReadyBody shape n x → BodyLies shape gives first n x
-      body_lies b x first false m ready = (ready, subst (BodyHeld shape gives first x) ready m)
-      body_lies b x first true m ready = (ready.0, ready.1, subst (BodyHeld shape gives first x) ready.1 m)
+      body_lies : (x first : S) → (n marked : Bool) → BodyHeld shape gives first x (shape x) marked → IsReadyBody shape n x → BodyLies shape gives first n marked x
+      body_lies x first false marked m ready = (ready, subst (λ (s : Shape). BodyHeld shape gives first x s marked) ready m)
+      body_lies x first true false m ready = (ready.0, ready.1, subst (λ (s : Shape). BodyHeld shape gives first x s false) ready.1 m)
+      body_lies x first true true m ready = ready.1 ∙ ap done (subst (λ (s : Shape). BodyHeld shape gives first x s true) ready.1 m)
 
       lies : (q : Run) → given t.plan e ≡ Some q → (x : S) → MayHold shape gives t h q x → Rattle.gcd_row.specs.Lying.IsReadyFor shape t.plan h e q x → Lies shape gives t (h ++ e ∷ []) q x
-      lies (Block b) is x m ready = λ first at. subst (λ (n : Bool). BodyLies shape gives first n x) (sym (bodies_come_back t.plan h lawful e b is may)) (body_lies b x first (ends b.0 e) (m first at) ready)
+      lies (Block b) is x m ready = λ first at.
+          let marked = cancelled_kept t.plan h e b.0 (begun_where_held t.plan h (worker_of e) b lawful (givings_are_the_holders t.plan h lawful e (Block b) is may)) in
+          subst (λ (n : Bool). BodyLies shape gives first n (is_block_cancelled t.plan (h ++ e ∷ []) b.0) x) (sym (bodies_come_back t.plan h lawful e b is may))
+          (subst (λ (v : Bool). BodyLies shape gives first (ends b.0 e) v x) (sym marked)
+          (body_lies x first (ends b.0 e) (is_block_cancelled t.plan h b.0) (m first at) ready))
       lies (Source s) is x m ready =
           let none = given_not_taken t.plan e (Source s) is in
           let source : is_source t.plan s.0 ≡ true = given_known t.plan h e (Source s) is may in

@@ -18,6 +18,7 @@ pub mod FirstCells
 pub mod Ending
 pub mod Merging
 pub mod SourceSlots
+pub mod BodySlots
 pub mod AfterPut
 pub mod Gathered
 pub mod Tallies

@@ -20,6 +20,8 @@ merged_thrice kind = record {
   blocks = record { name = []; acts = Activate (record { 0 = 1 }) ∷ Merge (record { 0 = 1 }) 3 ∷ Merge (record { 0 = 1 }) 6 ∷ Merge (record { 0 = 1 }) 12 ∷ []; work = None } ∷ [];
   files = [];
   until = 1000;
+  intake = None;
+  strips = [];
 }
 
 -- worker 1 delivers what the first two merges made, and, after the third, delivers again

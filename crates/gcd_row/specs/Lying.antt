@@ -8,7 +8,7 @@ use Rattle.gcd_plan.specs.declared.numbers.Run.{Run}
 use Rattle.gcd_plan.specs.declared.numbers.Run.TheVariants.{Block, Source}
 use Rattle.gcd_event.specs.declared.event.Event.{Event}
 use Rattle.gcd_history.specs.Runs.{ends}
-use Rattle.gcd_history.specs.History.{is_ended, delivery_count_of, received_of}
+use Rattle.gcd_history.specs.History.{is_block_cancelled, is_ended, delivery_count_of, received_of}
 use Rattle.gcd_team.specs.Held.{given}
 use Rattle.gcd_row.specs.Shapes.{Shape, body, done, handler, away}
 use Rattle.gcd_row.specs.Totals.{received_earlier}
@@ -49,28 +49,31 @@ HandlerHeld plan h s (handler kind times total) =
 HandlerHeld plan h s away = Unit {0}
 
 module _ {S : Type 0} (shape : S → Shape) (gives : S → ℕ → Type 0) where
-  -- what lies in the slot of a block in which `first` was put: its body, which gives only what the first may, and where the
-  -- block has ended a value that the first may give
-  abbrev pub BodyLies : (first : S) → (ended : Bool) → S → Type 0
-  BodyLies first false c = (shape c ≡ body) × ((v : ℕ) → gives c v → gives first v)
-  BodyLies first true c = (v : ℕ) × (shape c ≡ done v) × gives first v
+  -- what lies in the slot of a block in which `first` was put: its body, which gives only what the first may; where the block has
+  -- ended a value that the first may give; and 0 where a cancelled one has ended
+  abbrev pub BodyLies : (first : S) → (ended cancelled : Bool) → S → Type 0
+  BodyLies first false cancelled c = (shape c ≡ body) × ((v : ℕ) → gives c v → gives first v)
+  BodyLies first true false c = (v : ℕ) × (shape c ≡ done v) × gives first v
+  BodyLies first true true c = shape c ≡ done 0
 
   -- what lies in the slot of a run that nobody holds
   abbrev pub Lies : Terms S → List Event → Run → S → Type 0
-  Lies t h (Block b) c = (first : S) → slice_get t.cells b.0 ≡ Some first → BodyLies first (is_ended h b.0) c
+  Lies t h (Block b) c = (first : S) → slice_get t.cells b.0 ≡ Some first → BodyLies first (is_ended h b.0) (is_block_cancelled t.plan h b.0) c
   Lies t h (Source s) c = shape c ≡ source_shape t.plan h s.0
 
   -- what the holder of a block has of it: its body, which gives only what the first may, a value that the first may give, or
-  -- nothing
-  abbrev pub BodyHeld : (first : S) → S → Shape → Type 0
-  BodyHeld first c body = (v : ℕ) → gives c v → gives first v
-  BodyHeld first c (done v) = gives first v
-  BodyHeld first c (handler kind times total) = ⊥
-  BodyHeld first c away = Unit {0}
+  -- nothing; of a cancelled block its body or 0
+  abbrev pub BodyHeld : (first : S) → S → Shape → (cancelled : Bool) → Type 0
+  BodyHeld first c body cancelled = (v : ℕ) → gives c v → gives first v
+  BodyHeld first c (done v) false = gives first v
+  BodyHeld first c (done v) true = v ≡ 0
+  BodyHeld first c (handler kind times total) cancelled = ⊥
+  BodyHeld first c away false = Unit {0}
+  BodyHeld first c away true = ⊥
 
   -- the cell that its holder has of the run
   abbrev pub MayHold : Terms S → List Event → Run → S → Type 0
-  MayHold t h (Block b) c = (first : S) → slice_get t.cells b.0 ≡ Some first → BodyHeld first c (shape c)
+  MayHold t h (Block b) c = (first : S) → slice_get t.cells b.0 ≡ Some first → BodyHeld first c (shape c) (is_block_cancelled t.plan h b.0)
   MayHold t h (Source s) c = HandlerHeld t.plan h s.0 (shape c)
 
   -- the one slot that a holder has, the run's

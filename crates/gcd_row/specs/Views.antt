@@ -2,6 +2,7 @@
 use Rattle.std.specs.Prelude.{ℕ, suc, min, ◌==◌, Bool, cond, nat_lt, true, false, List, [], ◌∷◌, ◌++◌, length, Option, Some, None}
 use Rattle.gcd_plan.specs.declared.numbers.Run.{Run}
 use Rattle.gcd_event.specs.declared.event.Event.{Event}
+use Rattle.gcd_history.specs.History.{is_block_cancelled}
 use Rattle.gcd_team.specs.Team.{held_by}
 use Rattle.gcd_row.specs.declared.view.Copies.{Copies}
 use Rattle.gcd_row.specs.declared.view.Limits.{Limits}
@@ -47,7 +48,7 @@ module _ {S : Type 0} where
   -- what a pass that was joined is left with
   abbrev pub spent_view : View S
   spent_view = record {
-    terms = record { plan = record { objects = []; blocks = []; files = []; until = 0 }; cells = []; limits = record { workers = 0; most = 0 } };
+    terms = record { plan = record { objects = []; blocks = []; files = []; until = 0; intake = None; strips = [] }; cells = []; limits = record { workers = 0; most = 0 } };
     spent = true;
     worker = 0;
     seen = [];
@@ -59,6 +60,10 @@ module _ {S : Type 0} where
   -- the run that the pass holds: open, not parked, and started, woken or delivered last by its worker
   abbrev pub held_run : View S → Option Run
   held_run v = held_by v.terms.plan v.seen v.worker
+
+  -- a cancel_block of block b stands before its Start, as far as the pass has seen
+  abbrev pub knows_cancelled : View S → ℕ → Bool
+  knows_cancelled v b = is_block_cancelled v.terms.plan v.seen b
 
   -- a pass that has seen this history, and knows this of the passed words
   abbrev pub knowing : View S → List Event → Marks → View S

@@ -1,5 +1,5 @@
 // Taking and giving what lies in the slot of the run that a pass holds.
-ghost use Rattle.std.specs.Prelude.{◌≡◌, ◌≢◌, ℕ, ◌∷◌, [], Some};
+ghost use Rattle.std.specs.Prelude.{◌≡◌, ◌≢◌, ℕ, true, false, ◌∷◌, [], Some};
 ghost use Rattle.gcd_history.specs.History.{delivery_count_of};
 ghost use Rattle.gcd_plan.specs.PlanView.{kind_of};
 ghost use Rattle.gcd_plan.specs.declared.numbers.Run.{Run};
@@ -7,7 +7,7 @@ ghost use Rattle.gcd_plan.specs.declared.numbers.Run.TheVariants.{Block, Source}
 ghost use Rattle.gcd_row.specs.Lying.{MayHold, IsUntaken, IsServed, slot_of};
 ghost use Rattle.gcd_row.specs.Passes.{IsPassOf, slots, view};
 ghost use Rattle.gcd_row.specs.Shapes.{shape_of, gives_of, MayGive};
-ghost use Rattle.gcd_row.specs.Views.{held_run};
+ghost use Rattle.gcd_row.specs.Views.{held_run, knows_cancelled};
 ghost use Rattle.gcd_row.specs.declared.cell.Cell.TheVariants.{Body, Done, Handler, Away};
 
 use crate::board::RowBoard;
@@ -35,12 +35,13 @@ impl<S: Slot> RowBoard<S> {
 
 impl<J: Job + Drop, H: Handler + Drop> RowBoard<Cell<J, H>> {
     /// Takes the body of the block whose run the pass holds, to run it; the slot is then `Away`. Conditions: the block is open
-    /// and not parked, its last Start or Wake is the pass's own, and its body is in the slot. The body may give only what the job
-    /// may that was handed in for the block.
+    /// and not parked, its last Start or Wake is the pass's own, it is not cancelled (dispatch_block_cancel(3)), and its body is in
+    /// the slot. The body may give only what the job may that was handed in for the block.
     #[inline(always)]
     pub fn take_body(&self, pass: &mut Pass<J, H>, b: Blk) -> J
         requires pass { IsPassOf (shape_of H.kind H.times H.total) (gives_of J.gives) self.now pass.old }
         requires run { held_run (view pass.old) ≡ Some (Block b) }
+        requires uncancelled { knows_cancelled (view pass.old) b.0 ≡ false }
         requires body { (job : J) × (slots pass.old ≡ (b.0, Body job) ∷ []) }
         ensures pass { IsPassOf (shape_of H.kind H.times H.total) (gives_of J.gives) self.now pass.new }
         ensures view { view pass.new ≡ view pass.old }
@@ -69,19 +70,23 @@ impl<J: Job + Drop, H: Handler + Drop> RowBoard<Cell<J, H>> {
         let _away = self.change(pass, b.0 as usize, Cell::Body(job));
     }
 
-    /// Gives the value that a block's body gave into its slot, before the block's End. Conditions: the pass holds the block's run,
-    /// its slot is `Away`, and the job that was handed in for the block may give the value at 0.
+    /// Gives the value that a block's body gave into its slot, before the block's End. Conditions: the pass holds the block's run;
+    /// of a block that is not cancelled the slot is `Away`, and the job that was handed in for the block may give the value at 0; of
+    /// a cancelled block (dispatch_block_cancel(3)) its body is in the slot, and the value is 0. The body of a cancelled block is
+    /// dropped: it has not run, and never will.
     #[inline(always)]
     pub fn give_done(&self, pass: &mut Pass<J, H>, b: Blk, value: u64)
         requires pass { IsPassOf (shape_of H.kind H.times H.total) (gives_of J.gives) self.now pass.old }
         requires run { held_run (view pass.old) ≡ Some (Block b) }
-        requires away { slots pass.old ≡ (b.0, Away) ∷ [] }
-        requires gives { MayGive J.gives (view pass.old).terms b.0 value }
+        requires away { knows_cancelled (view pass.old) b.0 ≡ false → slots pass.old ≡ (b.0, Away) ∷ [] }
+        requires gives { knows_cancelled (view pass.old) b.0 ≡ false → MayGive J.gives (view pass.old).terms b.0 value }
+        requires body { knows_cancelled (view pass.old) b.0 ≡ true → (job : J) × (slots pass.old ≡ (b.0, Body job) ∷ []) }
+        requires zero { knows_cancelled (view pass.old) b.0 ≡ true → value ≡ 0 }
         ensures pass { IsPassOf (shape_of H.kind H.times H.total) (gives_of J.gives) self.now pass.new }
         ensures view { view pass.new ≡ view pass.old }
         ensures done { slots pass.new ≡ (b.0, Done value) ∷ [] }
     {
-        let _away = self.change(pass, b.0 as usize, Cell::Done(value));
+        let _before = self.change(pass, b.0 as usize, Cell::Done(value));
     }
 
     /// Takes the handler of the source whose run the pass holds, to call it; the slot is then `Away`. Conditions: the pass's own

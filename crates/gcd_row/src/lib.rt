@@ -11,8 +11,8 @@
 //!
 //! A [`Pass`] is what one worker has of the board: a beginning of the row's history, which it has *seen*, a machine that stands for that,
 //! what it knows of the passed words, and the slot of the run that its worker *holds*, the one that it started, woke or had delivered and
-//! that is open and not parked. That a block's body is with one worker at a time is libdispatch's rule (dispatch_async(3)); row and slots
-//! are this project's own. Worker 0 *gathers* what it passes into a journal; the others just pass on.
+//! that is open and not parked. That a block's body is with one worker at a time is libdispatch's rule (dispatch_async(3)), and that the
+//! body of a cancelled block is with none (dispatch_block_cancel(3)); row and slots are this project's own. Worker 0 *gathers* what it passes into a journal; the others just pass on.
 //!
 //! # The rule
 //!
@@ -23,7 +23,7 @@
 //! | the cells | word 0 is 0, and the cells hold the last 4,096 events of a lawful history of the plan, each with the bit of its lap, and 0 where there is none yet; it has no more events than the board was made for |
 //! | the passed words | the history is at most 4,096 events longer than each; that of a worker is gone, 0, or at most what its pass has seen; each pass knows its own, and of those below a number that they are at least another, its *pair* |
 //! | the passes | each has seen a beginning of that history, with all events of its own worker; no two are of one worker; worker 0's knows which numbers are out, and no event is of a number that was never given out; some pass has seen all |
-//! | the slots | the slot of a run that nobody holds is at home: a block's has its body, which gives only what the job that was handed in may, and where the block has ended a value that this job may give; a source's has its handler, with the times and the total of all its Delivers |
+//! | the slots | the slot of a run that nobody holds is at home: a block's has its body, which gives only what the job that was handed in may, and where the block has ended a value that this job may give, or 0 where it is cancelled; a source's has its handler, with the times and the total of all its Delivers |
 //!
 //! The kinds of step are a load and an exchange of a cell, a load of a passed word, a store of one's own, plain reading and writing of
 //! a slot that one holds, and splitting and joining a seat. An exchange rests on its caller's own pair.

@@ -30,6 +30,8 @@ fn parts(alloc: Global) -> Result<Parts, AllocError> {
         blocks: vec![in alloc; main]?,
         files: Vec::new(alloc),
         until: 1000,
+        intake: None,
+        strips: Vec::new(alloc),
     })
 }
 

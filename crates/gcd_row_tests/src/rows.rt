@@ -18,14 +18,12 @@ const MAIN: Blk = Blk(0);
 
 const B1: Blk = Blk(1);
 
-// A plan of `main`, a serial queue and a block, which `main` submits to the queue where that is asked for.
-fn parts(alloc: Global, submits: bool) -> Result<Parts, AllocError> {
+// A plan of `main`, which makes these acts, a serial queue and a block.
+fn parts(alloc: Global, acts: &[Act]) -> Result<Parts, AllocError> {
     let mut objects = vec![in alloc; ObjPart::new(alloc, "root", Kind::Concurrent)?]?;
     objects.push(ObjPart::new(alloc, "q", Kind::Serial)?)?;
     let mut main = BlkPart::new(alloc, "main")?;
-    if submits {
-        main.acts.push(Act::Async(Obj(1), B1))?;
-    }
+    main.acts.extend_from_slice(acts)?;
     let mut blocks = vec![in alloc; main]?;
     blocks.push(BlkPart::new(alloc, "b1")?)?;
     Ok(Parts {
@@ -33,20 +31,22 @@ fn parts(alloc: Global, submits: bool) -> Result<Parts, AllocError> {
         blocks,
         files: Vec::new(alloc),
         until: 1000,
+        intake: None,
+        strips: Vec::new(alloc),
     })
 }
 
 // A board of such a plan, and worker 0's pass.
-fn opened(alloc: Global, submits: bool) -> Result<(Board<Fixed, Tally>, Pass<Fixed, Tally>), Fail>
+fn opened(alloc: Global, acts: &[Act]) -> Result<(Board<Fixed, Tally>, Pass<Fixed, Tally>), Fail>
     ensures two { IfOk result (λ made. (terms_of made.0).limits.workers ≡ 2) }
     ensures first { IfOk result (λ made. AreFirst (shape_of (λ t. t.kind) (λ t. t.times) (λ t. t.total)) (terms_of made.0).plan (terms_of made.0).cells) }
     ensures pass { IfOk result (λ made. IsPassOf (shape_of (λ t. t.kind) (λ t. t.times) (λ t. t.total)) (gives_of (λ job input value. value ≡ job.0)) made.0 made.1) }
     ensures view { IfOk result (λ made. ((view made.1).worker ≡ 0) × ((view made.1).hands ≡ []) × ((view made.1).marks.passed ≡ 0)) }
 {
-    let plan = Plan::of_parts(parts(alloc, submits)?).ok_or("valid")?;
+    let plan = Plan::of_parts(parts(alloc, acts)?).ok_or("valid")?;
     let jobs = jobs_of(alloc, &plan)?;
     let tallies = tallies_of(alloc, &plan)?;
-    Ok(Board::new(alloc, &plan, jobs, tallies, 2, 5)?)
+    Ok(Board::new(alloc, &plan, jobs, tallies, 2, 6)?)
 }
 
 // The second Start of `main` comes too late, and each pass sees what the other has placed.
@@ -142,9 +142,17 @@ const fn ended(worker: u8, blk: Blk) -> Event {
     Event::End { worker, blk }
 }
 
+const fn acted(index: u32) -> Event {
+    Event::Act {
+        worker: 0,
+        run: Run::Block(MAIN),
+        index,
+    }
+}
+
 #[test]
 fn a_second_start_is_barred(rt: HostRuntime) -> Result<(), Fail> {
-    let (board, mut p) = opened(rt.alloc(), false)?;
+    let (board, mut p) = opened(rt.alloc(), &[])?;
     let mut q = second(rt.alloc(), &board, &mut p)?;
     share(&rt, &board, &mut p, &mut q);
     let want = [start(0, MAIN), ended(0, MAIN)];
@@ -178,20 +186,57 @@ fn run_alone<J: Job + Drop, H: Handler + Drop, R: Abort>(
 
 #[test]
 fn one_pass_runs_a_script(rt: HostRuntime) -> Result<(), Fail> {
-    let (board, mut p) = opened(rt.alloc(), true)?;
+    let (board, mut p) = opened(rt.alloc(), &[Act::Async(Obj(1), B1)])?;
     run_alone(&rt, &board, &mut p);
-    let act = Event::Act {
-        worker: 0,
-        run: Run::Block(MAIN),
-        index: 0,
-    };
     let want = [
         start(0, MAIN),
-        act,
+        acted(0),
         ended(0, MAIN),
         start(0, B1),
         ended(0, B1),
     ];
     judge(&rt, rt.alloc(), board, p, &want, (1, 10));
+    Ok(())
+}
+
+// Worker 0 runs `main`, which submits the block and cancels it, and the block, which does nothing.
+fn run_cancelled<J: Job + Drop, H: Handler + Drop, R: Abort>(
+    rt: &R,
+    board: &Board<J, H>,
+    p: &mut Pass<J, H>,
+)
+    requires p { IsPassOf (shape_of H.kind H.times H.total) (gives_of J.gives) board.now p.old }
+    requires first { AreFirst (shape_of H.kind H.times H.total) (terms_of board.now).plan (terms_of board.now).cells }
+    ensures p { IsPassOf (shape_of H.kind H.times H.total) (gives_of J.gives) board.now p.new × HasSameNumbers (view p.old) (view p.new) }
+{
+    let Ok(_place) = begin(board, p, MAIN) else {
+        panic!(rt; "the Start of main")
+    };
+    assert_eq!(rt; act(board, p, Run::Block(MAIN), 0), Some(Put::Placed(1)));
+    assert_eq!(rt; act(board, p, Run::Block(MAIN), 1), Some(Put::Placed(2)));
+    let value = run_body(board, p, MAIN);
+    assert_eq!(rt; end(board, p, MAIN, value), Put::Placed(3));
+    let Ok(place) = begin(board, p, B1) else {
+        panic!(rt; "the Start of the block")
+    };
+    assert_eq!(rt; place, 4);
+    let value = run_body(board, p, B1);
+    assert_eq!(rt; end(board, p, B1, value), Put::Placed(5));
+}
+
+#[test]
+fn a_cancelled_block_leaves_0(rt: HostRuntime) -> Result<(), Fail> {
+    let acts = [Act::Async(Obj(1), B1), Act::CancelBlock(B1)];
+    let (board, mut p) = opened(rt.alloc(), &acts)?;
+    run_cancelled(&rt, &board, &mut p);
+    let want = [
+        start(0, MAIN),
+        acted(0),
+        acted(1),
+        ended(0, MAIN),
+        start(0, B1),
+        ended(0, B1),
+    ];
+    judge(&rt, rt.alloc(), board, p, &want, (1, 0));
     Ok(())
 }

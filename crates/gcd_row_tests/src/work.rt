@@ -1,7 +1,7 @@
 // What the workers of the tests do.
 ghost use Rattle.std.specs.Prelude.{◌≡◌, ◌∷◌, ◌++◌, [], List, Some, None, IfOk, OnOk, length};
 ghost use Rattle.gcd_event.specs.declared.event.Event.{Event};
-ghost use Rattle.gcd_history.specs.History.{parks};
+ghost use Rattle.gcd_history.specs.History.{is_block_cancelled, parks};
 ghost use Rattle.gcd_machine.specs.Stands.{StandsFor};
 ghost use Rattle.gcd_plan.specs.PlanView.{PlanView};
 ghost use Rattle.gcd_plan.specs.declared.numbers.Run.TheVariants.{Block};
@@ -131,7 +131,14 @@ pub fn act<J: Job + Drop, H: Handler + Drop>(
     Some(board.put(pass, event))
 }
 
-// Runs the body that the pass has, and lays down its value.
+// Whether the block is cancelled, as the machine of the pass tells.
+fn is_cancelled<J: Job + Drop, H: Handler + Drop>(pass: &Pass<J, H>, b: Blk) -> bool
+    ensures { (plan : PlanView) (h : List Event) → StandsFor (machine_of pass.now) plan h → result ≡ is_block_cancelled plan h b.0 }
+{
+    pass.machine().is_cancelled(b)
+}
+
+// Runs the body that the pass has, unless its block is cancelled, and lays down its value.
 pub fn run_body<J: Job + Drop, H: Handler + Drop>(
     board: &Board<J, H>,
     pass: &mut Pass<J, H>,
@@ -146,6 +153,10 @@ pub fn run_body<J: Job + Drop, H: Handler + Drop>(
     ensures run { held_run (view pass.new) ≡ Some (Block b) }
     ensures done { slots pass.new ≡ (b.0, Done result) ∷ [] }
 {
+    if is_cancelled(pass, b) {
+        board.give_done(pass, b, 0);
+        return 0;
+    }
     let value = board.take_body(pass, b).run(0);
     board.give_done(pass, b, value);
     value

@@ -100,6 +100,7 @@ tells_since a b now tells same clock plan workers most text end t = record {
       few = t.ran.run.few;
       by = t.ran.run.by;
       chosen = t.ran.run.chosen;
+      uncalled = t.ran.run.uncalled;
       timely = t.ran.run.timely;
       heard = heard_since most a b now tells same plan [] t.h t.ran.run.heard;
     };

@@ -1,6 +1,7 @@
 pub mod Loading
 pub mod Hearing
 pub mod Stories
+pub mod Pages
 pub mod Statuses
 pub mod Ran
 pub mod Totals

@@ -17,6 +17,7 @@ use Rattle.gcd_run.specs.Ends.{AskedEnds, Answers, CallEnds, HasStatus}
 use Rattle.gcd_run.specs.Ends.CallEnds.{reported, wanting}
 use Rattle.gcd_run.specs.Ends.IsWritten.{whole, cut_off}
 use Rattle.gcd_run.specs.Loads.{IsPlanOf, IsReady}
+use Rattle.gcd_run.specs.Pages.{KeepsPages}
 use Rattle.gcd_run.specs.Runs.{BigEnds, Ran, TellsRun}
 use Rattle.gcd_run.specs.Runs.RunEnds.{stopped, ran}
 use Rattle.gcd_run.specs.StatusCodes.{status_code, status_of}
@@ -27,6 +28,7 @@ use Rattle.gcd_run.specs.declared.status.Status.TheVariants.{Drained, Stuck, NoC
 use Rattle.gcd_run.specs.declared.stop.Stop.{Stop}
 use Rattle.gcd_run.specs.declared.stop.Stop.TheVariants.{Unread as CantRead, Script, Journal, Memory}
 use Rattle.gcd_run.specs.declared.story.Ended.{Ended}
+use Rattle.gcd_run.proofs.Pages.{pages_kept}
 
 -- the status of a code
 abbrev status_named : ℕ → Option Status
@@ -117,6 +119,7 @@ module _ (seen : InputsSeen) (sink : SinkSeen) (words : List Bytes) (result : En
           ready = ready;
           made = subst (Made seen) calls_are made;
           ran = subst (λ h. Ran seen.poller seen.clock plan asked.workers asked.most h t.state) (sym journal_is) t.ran;
+          pages = subst (KeepsPages plan contents) (sym journal_is) (pages_kept plan contents t.h ready.plan_is.valid t.ran.run.lawful);
           at_is = answers.at_is ∙ ap (λ (e : End). e.at) t.end_is;
           written = subst (λ h. Took sink (run_text asked.journal plan contents t.state h)) (sym journal_is)
               (subst (λ (e : End). Took sink e.text) t.end_is took);

@@ -6,8 +6,8 @@ use Rattle.std.proofs.lemmas.Option.{same_Some, slice_get-get_or, slice_get_with
 use Rattle.std.proofs.lemmas.List.FromFn.{get_or-map-range_with_len, length-map-range_with_len, map-range_with_len_more}
 use Rattle.gcd_plan.specs.PlanView.{PlanView}
 use Rattle.gcd_event.specs.declared.event.Event.{Event}
-use Rattle.gcd_history.specs.History.{is_ended}
 use Rattle.gcd_history.specs.Values.{value_of}
+use Rattle.gcd_jobs.specs.BlockValues.{has_given}
 use Rattle.gcd_outer.specs.Outside.{Bytes}
 use Rattle.gcd_run.specs.End.{total_of}
 
@@ -21,8 +21,8 @@ got xs k x d at = same_Some _ _ (sym (slice_get-get_or xs k d (slice_get_within 
 
 -- the values of a run, added up
 pub total_is : (plan : PlanView) (contents : List Bytes) (h : List Event) (given : List ℕ) → length given ≡ length plan.blocks
-    → ((b : ℕ) → is_ended h b ≡ true → slice_get given b ≡ Some (value_of plan contents b))
-    → ((b : ℕ) → b < length plan.blocks → is_ended h b ≡ false → slice_get given b ≡ Some 0)
+    → ((b : ℕ) → has_given plan h b ≡ true → slice_get given b ≡ Some (value_of plan contents b))
+    → ((b : ℕ) → b < length plan.blocks → has_given plan h b ≡ false → slice_get given b ≡ Some 0)
     → sum given ≡ total_of plan contents h
 unfolding total_of
 total_is plan contents h given long values others =
@@ -30,15 +30,15 @@ total_is plan contents h given long values others =
     (λ k d within. at k d (omega (arith, long, within)) ∙ sym (get_or-map-range_with_len _ 0 (length plan.blocks) k k d (omega (arith, long, within)) (zero-add k))))
   where
     value : ℕ → ℕ
-    value b = if is_ended h b then value_of plan contents b else 0
+    value b = if has_given plan h b then value_of plan contents b else 0
 
-    by : (k d : ℕ) (ended : Bool) → is_ended h k ≡ ended → k < length plan.blocks
+    by : (k d : ℕ) (ended : Bool) → has_given plan h k ≡ ended → k < length plan.blocks
         → get_or given k d ≡ (if ended then value_of plan contents k else 0)
     by k d true is within = got given k _ d (values k is)
     by k d false is within = got given k 0 d (others k within is)
 
-    at : (k d : ℕ) → k < length plan.blocks → get_or given k d ≡ (if is_ended h k then value_of plan contents k else 0)
-    at k d within = by k d (is_ended h k) refl within
+    at : (k d : ℕ) → k < length plan.blocks → get_or given k d ≡ (if has_given plan h k then value_of plan contents k else 0)
+    at k d within = by k d (has_given plan h k) refl within
 
 -- a list of one value, as long as another list
 pub all_same : {A B : Type 0} (x : B) (xs : List A) → map (λ a. x) xs ≡ replicate (length xs) x

@@ -4,12 +4,12 @@ use Rattle.std.specs.List.{range_with_len}
 use Rattle.std.specs.Fmt.{decimal}
 use Rattle.gcd_plan.specs.PlanView.{PlanView}
 use Rattle.gcd_event.specs.declared.event.Event.{Event}
-use Rattle.gcd_history.specs.History.{is_ended}
 use Rattle.gcd_history.specs.JournalText.{journal_text}
 use Rattle.gcd_history.specs.Report.{last_line, line_end, report_text}
 use Rattle.gcd_history.specs.Values.{value_of}
 use Rattle.gcd_history.specs.declared.state.State.{State}
 use Rattle.gcd_history.specs.declared.state.State.TheVariants.{Drained as RunDrained, Stuck as RunStuck, Misused as RunMisused, Halted as RunHalted, Live as RunLive}
+use Rattle.gcd_jobs.specs.BlockValues.{has_given}
 use Rattle.gcd_outer.specs.Outside.{Bytes}
 use Rattle.gcd_run.specs.StatusCodes.{status_of}
 use Rattle.gcd_run.specs.declared.status.Status.{Status}
@@ -79,9 +79,9 @@ ran_end state h text = record { status = status_of state; journal = h; at = None
 unfoldable pub large_file : Bytes
 large_file = map (λ i. (7 * i + 3) % 256) (range_with_len 0 4096)
 
--- the values of the blocks that have ended, added up
+-- the values of the blocks that have ended and are not cancelled, added up
 unfoldable pub total_of : PlanView → (contents : List Bytes) → List Event → ℕ
-total_of plan contents h = sum (map (λ b. if is_ended h b then value_of plan contents b else 0) (range_with_len 0 (length plan.blocks)))
+total_of plan contents h = sum (map (λ b. if has_given plan h b then value_of plan contents b else 0) (range_with_len 0 (length plan.blocks)))
 
 -- `blocks N` and `total S`, and then the report's last line
 abbrev pub large_text : (count : ℕ) → PlanView → (contents : List Bytes) → State → List Event → Bytes

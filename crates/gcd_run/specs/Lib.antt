@@ -4,6 +4,7 @@ pub mod Stories
 pub mod Calls
 pub mod Loads
 pub mod Runs
+pub mod Pages
 pub mod Listens
 pub mod Checks
 pub mod Ends

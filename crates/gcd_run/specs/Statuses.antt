@@ -15,6 +15,7 @@ use Rattle.gcd_run.specs.Checks.{IsJournalAt, StopsCheck}
 use Rattle.gcd_run.specs.End.{End, usage_text, read_fault, refused_end, no_journal_end, run_text, large_text, lawful_text, unlawful_text}
 use Rattle.gcd_run.specs.Ends.{WordsEnd, IsWanting}
 use Rattle.gcd_run.specs.Loads.{IsPlanOf, IsReady}
+use Rattle.gcd_run.specs.Pages.{KeepsPages}
 use Rattle.gcd_run.specs.Runs.{IsLarge, Ran, StopsRun}
 use Rattle.gcd_run.specs.declared.status.Status.{Status}
 use Rattle.gcd_run.specs.declared.status.Status.TheVariants.{Drained, Stuck, NoCommand, ScriptRefused, Misused, Unread, CutOff, NoMemory, Full, JournalRefused}
@@ -29,7 +30,8 @@ Asks words asked = request_of words ≡ Some asked
 -- ## A run
 
 -- `run`: the script is a script of this plan, which is valid, and it and each file of it was loaded once; the journal of the
--- answer is that of the run, which has come to this state; and the sink took the journal, where it is asked for, and the report
+-- answer is that of the run, which has come to this state, and keeps the pages of strips and block objects; and the sink took the
+-- journal, where it is asked for, and the report
 pub record RunsScript (seen : InputsSeen) (sink : SinkSeen) (words : List Bytes) (result : Ended) (state : State) : Type 0 where
   pub asked : RunAsked
   pub plan : PlanView
@@ -38,6 +40,7 @@ pub record RunsScript (seen : InputsSeen) (sink : SinkSeen) (words : List Bytes)
   pub ready : IsReady seen.shelf asked.script plan contents
   pub made : Made seen (with_listen (length plan.files + 1) asked.listen)
   pub ran : Ran seen.poller seen.clock plan asked.workers asked.most result.journal.items state
+  pub pages : KeepsPages plan contents result.journal.items
   pub at_is : result.at ≡ None
   pub written : Took sink (run_text asked.journal plan contents state result.journal.items)
 

@@ -1,11 +1,12 @@
 // The command that runs a script.
 ghost use Rattle.std.specs.Prelude.{◌≡◌, ◌++◌, ◌+◌, ◌≤◌, ◌<◌, ℕ, List, true, false, length, map, option_map, slice_get, Some, if◌then◌else◌, [], IfOk, IfErr, OnOk, OnErr};
-ghost use Rattle.gcd_history.specs.History.{IsLawful, is_ended};
+ghost use Rattle.gcd_history.specs.History.{IsLawful};
 ghost use Rattle.gcd_plan.specs.Limits.{max_events, max_workers};
 ghost use Rattle.gcd_plan.specs.Validity.{IsPlan};
 ghost use Rattle.gcd_history.specs.JournalText.{journal_text};
 ghost use Rattle.gcd_history.specs.Ends.{HasState};
 ghost use Rattle.gcd_history.specs.Values.{value_of};
+ghost use Rattle.gcd_jobs.specs.BlockValues.{has_given};
 ghost use Rattle.gcd_history.specs.declared.state.State.{State};
 ghost use Rattle.gcd_machine.specs.Stands.{StandsFor};
 ghost use Rattle.gcd_outer.specs.Outside.{shelf_seen};
@@ -77,7 +78,7 @@ fn text_of(
     requires count { length run.now.values.items ≡ length plan.now.blocks }
     requires stands { StandsFor run.now.machine plan.now run.now.journal.items }
     ensures { (contents : List (List ℕ)) (state : State) → HasState plan.now run.now.journal.items state
-        → ((b : ℕ) → is_ended run.now.journal.items b ≡ true → slice_get run.now.values.items b ≡ Some (value_of plan.now contents b))
+        → ((b : ℕ) → has_given plan.now run.now.journal.items b ≡ true → slice_get run.now.values.items b ≡ Some (value_of plan.now contents b))
         → IfOk result (λ text. text.items ≡ run_text with_journal plan.now contents state run.now.journal.items) }
 {
     let mut text = Vec::new(alloc);
@@ -106,7 +107,7 @@ fn story_of(
     requires count { length run.values.items ≡ length plan.now.blocks }
     requires stands { StandsFor run.machine plan.now run.journal.items }
     ensures { (contents : List (List ℕ)) → HasState plan.now run.journal.items run.state
-        → ((b : ℕ) → is_ended run.journal.items b ≡ true → slice_get run.values.items b ≡ Some (value_of plan.now contents b))
+        → ((b : ℕ) → has_given plan.now run.journal.items b ≡ true → slice_get run.values.items b ≡ Some (value_of plan.now contents b))
         → IfOk result (λ s. end_of s ≡ ran_end run.state run.journal.items (run_text with_journal plan.now contents run.state run.journal.items)) }
 {
     let text = text_of(alloc, plan, &run, with_journal);

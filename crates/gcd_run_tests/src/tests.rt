@@ -5,6 +5,7 @@ mod hostile;
 mod journals;
 mod large;
 mod limits;
+mod made_blocks;
 mod memory;
 mod outside;
 mod subjects;
@@ -17,6 +18,9 @@ use gcd_run::gcd_main;
 use hostile::{FAILURES, MALFORMED};
 use journals::{FORGED, NO_JOURNALS, TREES};
 use large::{LARGE, LARGE_SCRIPTS, large_bytes};
+use made_blocks::{
+    BLOCK_OBJECTS, INTAKES, MADE_BLOCKS_JUDGED, ORDERED_BLOCK_OBJECTS, REFUSED_FORMS, STRIPS,
+};
 use std::alloc::{AllocError, Global};
 use std::process::Abort;
 use std::sync::Wait;
@@ -65,6 +69,8 @@ fn shelf_of(alloc: Global, case: &Case, script: &[u8]) -> Result<MapShelf, Alloc
     }
     shelf.put("e", b"")?;
     shelf.put("f.txt", b"a\n")?;
+    shelf.put("abc.txt", b"abc")?;
+    shelf.put("ten.txt", b"0123456789")?;
     // The file of the large script, where it is named.
     if case.script.starts_with("file data ") {
         shelf.put("data", &large_bytes(alloc)?)?;
@@ -151,6 +157,16 @@ fn waits_with_a_limit_expire(rt: HostRuntime) -> Result<(), Fail> {
 }
 
 #[test]
+fn strips_and_block_objects_follow_the_pages(rt: HostRuntime) -> Result<(), Fail> {
+    are_answered(&rt, rt.alloc(), &STRIPS)?;
+    are_answered(&rt, rt.alloc(), &BLOCK_OBJECTS)?;
+    are_answered(&rt, rt.alloc(), &ORDERED_BLOCK_OBJECTS)?;
+    are_answered(&rt, rt.alloc(), &INTAKES)?;
+    are_answered(&rt, rt.alloc(), &MADE_BLOCKS_JUDGED)?;
+    are_answered(&rt, rt.alloc(), &REFUSED_FORMS)
+}
+
+#[test]
 fn each_failure_has_its_status(rt: HostRuntime) -> Result<(), Fail> {
     are_answered(&rt, rt.alloc(), &FAILURES)?;
     are_answered(&rt, rt.alloc(), &MALFORMED)?;
@@ -224,4 +240,11 @@ fn teams_follow_the_pages(rt: HostRuntime) -> Result<(), Fail> {
 fn teams_wait_with_a_limit(rt: HostRuntime) -> Result<(), Fail> {
     end_alike(&rt, rt.alloc(), &LIMITED_WAITS)?;
     end_alike(&rt, rt.alloc(), &LIMITED_GROUP_WAITS)
+}
+
+#[test]
+fn teams_share_strips_and_cancel_blocks(rt: HostRuntime) -> Result<(), Fail> {
+    end_alike(&rt, rt.alloc(), &STRIPS)?;
+    end_alike(&rt, rt.alloc(), &BLOCK_OBJECTS)?;
+    end_alike(&rt, rt.alloc(), &INTAKES)
 }

@@ -13,7 +13,8 @@ use Rattle.gcd_plan.specs.Kinds.{is_queue_kind}
 use Rattle.gcd_plan.specs.Limits.{max_blocks, max_acts, max_file_bytes}
 use Rattle.gcd_plan.specs.Names.{is_name, is_letter, is_name_byte}
 use Rattle.gcd_plan.specs.PlanView.{PlanView, BlkView}
-use Rattle.gcd_plan.specs.Validity.{act_count, submitted_blocks, block_of, root_view}
+use Rattle.gcd_plan.specs.Validity.{act_count, submitted_blocks, block_of, strip_of, root_view}
+use Rattle.gcd_plan.specs.Made.{strip_blocks}
 use Rattle.gcd_plan.specs.declared.act.Act.{Act}
 use Rattle.gcd_plan.specs.declared.act.Act.TheVariants.{Async, Barrier}
 use Rattle.gcd_plan.specs.declared.kind.Kind.TheVariants.{Serial, Concurrent}
@@ -37,11 +38,11 @@ use Rattle.gcd_script.specs.Codes.{refusal_code}
 use Rattle.gcd_script.specs.Drafts.{DraftView, empty_draft, counted, new_block}
 use Rattle.gcd_script.specs.Faults.{is_skipped, line_meant, after_line, going_on, draft_after, ended, fault_of}
 use Rattle.gcd_script.specs.Forms.{form_of}
-use Rattle.gcd_script.specs.Judged.{judged, line_of, is_free, has_room, is_untaken}
+use Rattle.gcd_script.specs.Judged.{judged, line_of, is_free, is_unapplied, has_room, is_untaken}
 use Rattle.gcd_script.specs.Keywords.{counts}
 use Rattle.gcd_script.specs.Lines.{words_of, is_printable}
 use Rattle.gcd_script.specs.Meant.{Meant, meant, then_meant, both, must}
-use Rattle.gcd_script.specs.Names.{meaning_of, is_unused}
+use Rattle.gcd_script.specs.Names.{meaning_among, meaning_of, is_unused}
 use Rattle.gcd_script.specs.Sound.{IsDraft, IsBody}
 use Rattle.gcd_script.specs.Words.{number, file, block, queue, as_file, as_block, as_object}
 use Rattle.gcd_script.proofs.BigWords.{block_words, block_prints, act_words, name_prints, joined_prints, decimal_pass, is_solid, AllPrint, lines_again}
@@ -262,12 +263,13 @@ record IsVerb (verb : List ℕ) (make : Obj → Blk → Act) : Type 0 where
   kept : (words : List (List ℕ)) → is_skipped (verb ∷ words) ≡ false
   form : (d : DraftView) (q name : List ℕ) → form_of d (verb ∷ q ∷ name ∷ []) ≡ act_line d.body (meant (λ (o, c). make o c) (both (queue d.plan q) (block d.plan name)))
   submits : (o : Obj) (c : Blk) → block_of (make o c) ≡ Some c
+  applies : (o : Obj) (c : Blk) → strip_of (make o c) ≡ None
 
 async_verb : IsVerb (codes "async") Async
-async_verb = record { prints = refl; solid = refl; some = refl; kept = λ words. refl; form = λ d q name. refl; submits = λ o c. refl }
+async_verb = record { prints = refl; solid = refl; some = refl; kept = λ words. refl; form = λ d q name. refl; submits = λ o c. refl; applies = λ o c. refl }
 
 barrier_verb : IsVerb (codes "barrier") Barrier
-barrier_verb = record { prints = refl; solid = refl; some = refl; kept = λ words. refl; form = λ d q name. refl; submits = λ o c. refl }
+barrier_verb = record { prints = refl; solid = refl; some = refl; kept = λ words. refl; form = λ d q name. refl; submits = λ o c. refl; applies = λ o c. refl }
 
 module _ (n a : ℕ) (d : DraftView) (has : HasActs n a d) (room : a < n) (few : n < max_blocks) (verb : List ℕ) (make : Obj → Blk → Act) (is : IsVerb verb make) where
   abbrev i : ℕ
@@ -300,7 +302,10 @@ module _ (n a : ℕ) (d : DraftView) (has : HasActs n a d) (room : a < n) (few :
   free = ap not (any_counts (λ (c : Blk). c.0 == i) (submitted_blocks d.plan) ∙ ap (ltb 0) (has.idle i (omega arith)))
 
   untaken : is_untaken d own_line ≡ true
-  untaken = ap (λ o. option_map_or (is_free d.plan) o true) (is.submits q_is.0 (record { 0 = i })) ∙ free
+  untaken =
+      and_from (option_map_or (is_free d.plan) (block_of act) true) (option_map_or (is_unapplied d.plan) (strip_of act) true)
+      (ap (λ o. option_map_or (is_free d.plan) o true) (is.submits q_is.0 (record { 0 = i })) ∙ free)
+      (ap (λ o. option_map_or (is_unapplied d.plan) o true) (is.applies q_is.0 (record { 0 = i })))
 
   act_room : has_room d.plan own_line ≡ true
   act_room = lt-ltb (act_count d.plan) max_acts (omega (arith, has.acts))
@@ -326,7 +331,9 @@ module _ (n a : ℕ) (d : DraftView) (has : HasActs n a d) (room : a < n) (few :
       (is.kept (big_queue i ∷ big_name i ∷ [])) act_means
 
   main_inside : 0 < length d.plan.blocks
-  main_inside = subst (λ o. IfSome o (IsBody d.plan)) has.body has.sound.body
+  main_inside =
+      let inside : IsBody d.plan (run.Block (record { 0 = 0 })) = subst (λ o. IfSome o (IsBody d.plan)) has.body has.sound.body in
+      inside.0
 
   main_at : (b : BlkView) × (slice_get d.plan.blocks 0 ≡ Some b)
   main_at = slice_get_some d.plan.blocks 0 main_inside
@@ -339,7 +346,7 @@ module _ (n a : ℕ) (d : DraftView) (has : HasActs n a d) (room : a < n) (few :
 
   same_names : (name : List ℕ) → meaning_of new name ≡ meaning_of d.plan name
   same_names name =
-      sym (same_meanings d.plan new refl refl (sym (block_acts.same_map d.plan has.sound.valid (record { 0 = 0 }) main_at.0 main_at.1 act (λ blk. blk.name) refl)) name)
+      sym (same_meanings d.plan new refl refl refl (sym (block_acts.same_map d.plan has.sound.valid (record { 0 = 0 }) main_at.0 main_at.1 act (λ blk. blk.name) refl)) name)
 
   new_sound : IsDraft (counted (record d { plan = new }))
   new_sound =
@@ -349,7 +356,10 @@ module _ (n a : ℕ) (d : DraftView) (has : HasActs n a d) (room : a < n) (few :
   new_idle : (j : ℕ) → i < j → count_by (λ (c : Blk). c.0 == j) (submitted_blocks new) ≡ 0
   new_idle j above =
       let more = block_acts.submitted d.plan has.sound.valid (record { 0 = 0 }) main_at.0 main_at.1 act j in
-      let own = ap (λ o. count_by (λ (c : Blk). c.0 == j) (option_to_list o)) (is.submits q_is.0 (record { 0 = i })) in
+      let own =
+      ap (λ o. count_by (λ (c : Blk). c.0 == j) (option_to_list o ++ option_map_or (strip_blocks d.plan) (strip_of act) [])) (is.submits q_is.0 (record { 0 = i }))
+      ∙ ap (λ t. count_by (λ (c : Blk). c.0 == j) (option_to_list (Some (record { 0 = i })) ++ option_map_or (strip_blocks d.plan) t [])) (is.applies q_is.0 (record { 0 = i }))
+      in
       let one = one_count (record { 0 = i }) j in
       let other : ◌≡◌ {A = ℕ} (cond (i == j) 1 0) 0 = ap (λ t. cond t 1 0) (ne_eqb i j (λ same. omega arith)) in
       let before = has.idle j (omega arith) in
@@ -407,6 +417,8 @@ head_draft = record {
     blocks = new_block (codes "main") None ∷ [];
     files = record { name = codes "data"; path = codes "data"; line = 1 } ∷ [];
     until = 1000;
+    intake = None;
+    strips = [];
   };
   body = None;
   has_main = false;
@@ -415,18 +427,18 @@ head_draft = record {
 }
 
 head_read : (rest : List (List ℕ)) → draft_after empty_draft (big_head ++ rest) ≡ draft_after head_draft rest
-unfolding head_draft
+unfolding head_draft meaning_of
 head_read rest = refl
 
 head_has : HasBlocks 0 head_draft
-unfolding head_draft
+unfolding head_draft meaning_of
 head_has = record {
   sound = lines_sound big_head empty_draft head_draft empty_sound refl;
   first = refl;
   file_known = refl;
   queues = six (λ q. (o : Obj) × (queue head_draft.plan q ≡ Ok o)) (record { 0 = 1 }, refl) (record { 0 = 2 }, refl) (record { 0 = 3 }, refl) (record { 0 = 4 }, refl) (record { 0 = 5 }, refl) (record { 0 = 6 }, refl);
   known_blocks = λ j low high. absurd (omega arith);
-  unknown = λ j above below. refl;
+  unknown = λ j above below. ap (λ t. cond (t && true) (meaning_among head_draft.plan (big_name j)) None) (name_formed j below);
   blocks = refl;
   acts = refl;
   idle = λ j. refl;

@@ -12,7 +12,7 @@ use Rattle.gcd_plan.specs.Kinds.{is_source, is_source_kind, is_queue}
 use Rattle.gcd_plan.specs.Limits.{max_acts}
 use Rattle.gcd_plan.specs.Names.{is_name}
 use Rattle.gcd_plan.specs.PlanView.{PlanView, ObjView, BlkView, first_target}
-use Rattle.gcd_plan.specs.Validity.{IsPlan, names_of, root_view, blocks_of, submitted_blocks, act_count, is_act, is_handler_act, is_object, is_block, is_submittable, is_kind, has_path, has_fields, has_source_fields}
+use Rattle.gcd_plan.specs.Validity.{IsPlan, declared_names, root_view, blocks_of, submitted_blocks, act_count, is_act, is_handler_act, is_object, is_block, is_declared, is_kind, has_path, has_fields, has_source_fields}
 use Rattle.gcd_plan.specs.declared.act.Act.{Act}
 use Rattle.gcd_plan.specs.declared.kind.Kind.{Kind}
 use Rattle.gcd_plan.specs.declared.kind.Kind.TheVariants.{Serial, Concurrent, Group, Semaphore, Add, Or, Replace, Timer, Read}
@@ -22,6 +22,7 @@ use Rattle.gcd_plan.proofs.Sums.{count_by-flat_map, count_by-append}
 use Rattle.gcd_script.specs.Changes.{with_object_at}
 use Rattle.gcd_script.proofs.BlockActs.{set_all}
 use Rattle.gcd_script.proofs.Growth.{Grows, list_all_map, object_grows, block_grows}
+use Rattle.gcd_script.proofs.MadeKept.{intake_stays, strips_stay}
 use Rattle.gcd_script.proofs.Targets.{same_targets_reach}
 
 -- the first element stays where a later one changes
@@ -37,8 +38,8 @@ pub record Keeps (old new : ObjView) : Type 0 where
   pub same_target : new.target ≡ old.target
 
 -- the blocks that an object submits
-abbrev pub own_of : ObjView → List Blk
-own_of o = blocks_of o.handler ++ option_to_list o.cancel
+abbrev pub own_of : PlanView → ObjView → List Blk
+own_of plan o = blocks_of plan o.handler ++ option_to_list o.cancel
 
 module _ (plan : PlanView) (valid : IsPlan plan) (s : ℕ) (above : 0 < s) (object : ObjView) (stands : slice_get plan.objects s ≡ Some object) (changed : ObjView) (keeps : Keeps object changed) where
   abbrev pub new : PlanView
@@ -71,6 +72,8 @@ module _ (plan : PlanView) (valid : IsPlan plan) (s : ℕ) (above : 0 < s) (obje
     objects = let same = same_length in omega arith;
     blocks = omega arith;
     files = omega arith;
+    strips = omega arith;
+    declared = λ b within other. other;
   }
 
   target_or : (o : Option ObjView) → option_map_or (λ (obj : ObjView). obj.target.0) o 0 ≡ option_map_or (λ (t : Obj). t.0) (option_map (λ (obj : ObjView). obj.target) o) 0
@@ -83,19 +86,19 @@ module _ (plan : PlanView) (valid : IsPlan plan) (s : ℕ) (above : 0 < s) (obje
       ∙ ap (λ v. option_map_or (λ (t : Obj). t.0) v 0) (same_read (λ obj. obj.target) keeps.same_target o)
       ∙ sym (target_or (slice_get plan.objects o))
 
-  same_names : names_of new ≡ names_of plan
-  same_names = ap (λ xs. map (λ f. f.name) plan.files ++ (xs ++ map (λ b. b.name) plan.blocks)) (same_map (λ obj. obj.name) keeps.same_name)
+  same_names : declared_names new ≡ declared_names plan
+  same_names = ap (λ xs. map (λ f. f.name) plan.files ++ (xs ++ map (λ s. s.name) plan.strips)) (same_map (λ obj. obj.name) keeps.same_name)
 
   -- the blocks that the new plan submits
-  pub more_submitted : (q : ℕ) → count_by (λ (c : Blk). c.0 == q) (submitted_blocks new) + count_by (λ (c : Blk). c.0 == q) (own_of object) ≡ count_by (λ (c : Blk). c.0 == q) (submitted_blocks plan) + count_by (λ (c : Blk). c.0 == q) (own_of changed)
+  pub more_submitted : (q : ℕ) → count_by (λ (c : Blk). c.0 == q) (submitted_blocks new) + count_by (λ (c : Blk). c.0 == q) (own_of plan object) ≡ count_by (λ (c : Blk). c.0 == q) (submitted_blocks plan) + count_by (λ (c : Blk). c.0 == q) (own_of plan changed)
   more_submitted q =
       let p = λ (c : Blk). c.0 == q in
-      let of_blocks = flat_map (λ (b : BlkView). blocks_of b.acts) plan.blocks in
-      let counted = λ (obj : ObjView). count_by p (own_of obj) in
-      let old_split = count_by-append p of_blocks (flat_map own_of plan.objects) in
-      let new_split = count_by-append p of_blocks (flat_map own_of new.objects) in
-      let old_sum = count_by-flat_map p own_of plan.objects in
-      let new_sum = count_by-flat_map p own_of new.objects in
+      let of_blocks = flat_map (λ (b : BlkView). blocks_of plan b.acts) plan.blocks in
+      let counted = λ (obj : ObjView). count_by p (own_of plan obj) in
+      let old_split = count_by-append p of_blocks (flat_map (own_of plan) plan.objects) in
+      let new_split = count_by-append p of_blocks (flat_map (own_of plan) new.objects) in
+      let old_sum = count_by-flat_map p (own_of plan) plan.objects in
+      let new_sum = count_by-flat_map p (own_of plan) new.objects in
       let set_sum = sum_by-set counted plan.objects s changed object within in
       let before : counted (get_or plan.objects s object) ≡ counted object = ap counted old_object in
       omega arith
@@ -116,11 +119,16 @@ module _ (plan : PlanView) (valid : IsPlan plan) (s : ℕ) (above : 0 < s) (obje
     few_objects = let same = same_length in omega (arith, valid.few_objects);
     few_blocks = valid.few_blocks;
     few_files = valid.few_files;
+    few_strips = valid.few_strips;
     few_acts = few;
     until_low = valid.until_low;
     until_high = valid.until_high;
     names = subst (λ xs. list_all is_name xs ≡ true) (sym same_names) valid.names;
-    names_apart = λ q. subst (λ xs. count_by (bytes_eq q) xs ≤ 1) (sym same_names) (valid.names_apart q);
+    block_names = valid.block_names;
+    names_apart = λ q. subst (λ xs. count_by (bytes_eq q) (xs ++ map (λ b. b.name) plan.blocks) ≤ 1) (sym same_names) (valid.names_apart q);
+    intake = intake_stays plan new grows (λ b block made at. at) valid.intake;
+    strips = strips_stay plan new grows (λ b block made at. at) valid.strips;
+    apart = valid.apart;
     objects = set_all (is_object new) plan.objects s changed (list_all_map (is_object plan) (is_object new) (object_grows plan new grows) plan.objects valid.objects) (object_grows plan new grows changed fits);
     blocks = list_all_map (is_block plan) (is_block new) (block_grows plan new grows) plan.blocks valid.blocks;
     files = valid.files;
@@ -160,7 +168,7 @@ pub source_stands : (plan : PlanView) → IsPlan plan → (s : ℕ) → is_sourc
 source_stands plan valid s h = found_source plan s (slice_get plan.objects s) refl (source_above plan.objects s valid.root h) h
 
 -- a source with other acts and another cancellation block is an object of the plan where these fit
-pub still_object : (plan : PlanView) (o : ObjView) (acts : List Act) (cancel : Option Blk) → is_source_kind o.kind ≡ true → is_object plan o ≡ true → list_all (λ act. is_handler_act act && is_act plan act) acts ≡ true → option_map_or (is_submittable plan) cancel true ≡ true → is_object plan (record o { handler = acts; cancel = cancel }) ≡ true
+pub still_object : (plan : PlanView) (o : ObjView) (acts : List Act) (cancel : Option Blk) → is_source_kind o.kind ≡ true → is_object plan o ≡ true → list_all (λ act. is_handler_act act && is_act plan act) acts ≡ true → option_map_or (is_declared plan) cancel true ≡ true → is_object plan (record o { handler = acts; cancel = cancel }) ≡ true
 still_object plan o acts cancel source is handled cancelled =
     let changed : ObjView = record o { handler = acts; cancel = cancel } in
     let kind = and_parts (is_kind o.kind) (has_path o.kind o.path && has_fields plan o.kind o) is in
@@ -171,16 +179,16 @@ still_object plan o acts cancel source is handled cancelled =
     let now : has_source_fields plan changed ≡ true =
     and_from (is_queue plan o.target.0) _ target.0
     (and_from (not o.active) _ active.0
-    (and_from (list_all (λ act. is_handler_act act && is_act plan act) acts) (option_map_or (is_submittable plan) cancel true) handled cancelled))
+    (and_from (list_all (λ act. is_handler_act act && is_act plan act) acts) (option_map_or (is_declared plan) cancel true) handled cancelled))
     in
     and_from (is_kind o.kind) _ kind.0 (and_from (has_path o.kind o.path) _ path.0 (source_fields plan o.kind changed source ∙ now))
 
 -- what a source's fields say of its handler and its cancellation block
-pub own_fields : (plan : PlanView) (o : ObjView) → is_source_kind o.kind ≡ true → is_object plan o ≡ true → (list_all (λ act. is_handler_act act && is_act plan act) o.handler ≡ true) × (option_map_or (is_submittable plan) o.cancel true ≡ true)
+pub own_fields : (plan : PlanView) (o : ObjView) → is_source_kind o.kind ≡ true → is_object plan o ≡ true → (list_all (λ act. is_handler_act act && is_act plan act) o.handler ≡ true) × (option_map_or (is_declared plan) o.cancel true ≡ true)
 own_fields plan o source is =
     let kind = and_parts (is_kind o.kind) (has_path o.kind o.path && has_fields plan o.kind o) is in
     let path = and_parts (has_path o.kind o.path) (has_fields plan o.kind o) kind.1 in
     let fields = sym (source_fields plan o.kind o source) ∙ path.1 in
     let target = and_parts (is_queue plan o.target.0) _ fields in
     let active = and_parts (not o.active) _ target.1 in
-    and_parts (list_all (λ act. is_handler_act act && is_act plan act) o.handler) (option_map_or (is_submittable plan) o.cancel true) active.1
+    and_parts (list_all (λ act. is_handler_act act && is_act plan act) o.handler) (option_map_or (is_declared plan) o.cancel true) active.1

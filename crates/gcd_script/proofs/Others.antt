@@ -4,11 +4,11 @@ use Rattle.std.specs.Option.{option_map_or}
 use Rattle.gcd_plan.specs.PlanView.{PlanView}
 use Rattle.gcd_plan.specs.declared.numbers.Run.{Run}
 use Rattle.gcd_script.specs.declared.keyword.Keyword.{Keyword}
-use Rattle.gcd_script.specs.declared.keyword.Keyword.TheVariants.{File, Queue, Group, Semaphore, Source, Cancelled, Until, Block, Handler, Main, Submit, GroupSubmit, OneObject, Limited, Target, Merge}
+use Rattle.gcd_script.specs.declared.keyword.Keyword.TheVariants.{File, Queue, Group, Semaphore, Source, Cancelled, Until, Block, Handler, Main, Submit, GroupSubmit, OneObject, Limited, Target, Merge, Intake, Strip, Apply, OneBlock, NotifyBlock}
 use Rattle.gcd_script.specs.declared.keyword.GroupSubmission.{GroupSubmission}
 use Rattle.gcd_script.specs.declared.refusal.Refusal.TheVariants.{NoForm}
 use Rattle.gcd_script.specs.Acts.{act_line, group_submit_act}
-use Rattle.gcd_script.specs.Declarations.{queue_line, source_line, block_line}
+use Rattle.gcd_script.specs.Declarations.{queue_line, source_line, block_line, strip_line}
 use Rattle.gcd_script.specs.Drafts.{DraftView}
 use Rattle.gcd_script.specs.Forms.{line_by}
 use Rattle.gcd_script.specs.Judged.{judged, line_of}
@@ -54,6 +54,15 @@ block_many plan (a ∷ b ∷ c ∷ e ∷ f ∷ []) many = absurd (omega arith)
 block_many plan (a ∷ b ∷ c ∷ e ∷ f ∷ g ∷ []) many = absurd (omega arith)
 block_many plan (a ∷ b ∷ c ∷ e ∷ f ∷ g ∷ h ∷ more) many = refl
 
+pub strip_other : (plan : PlanView) (words : List (List ℕ)) → (length words < 5) ⊎ (6 ≤ length words) → strip_line plan words ≡ Err NoForm
+strip_other plan [] other = refl
+strip_other plan (a ∷ []) other = refl
+strip_other plan (a ∷ b ∷ []) other = refl
+strip_other plan (a ∷ b ∷ c ∷ []) other = refl
+strip_other plan (a ∷ b ∷ c ∷ e ∷ []) other = refl
+strip_other plan (a ∷ b ∷ c ∷ e ∷ f ∷ []) other = ⊎_elim (λ (l : 5 < 5). absurd (omega arith)) (λ (m : 6 ≤ 5). absurd (omega arith)) other
+strip_other plan (a ∷ b ∷ c ∷ e ∷ f ∷ g ∷ more) other = refl
+
 pub group_other : (plan : PlanView) (how : GroupSubmission) (words : List (List ℕ)) → (length words < 3) ⊎ (4 ≤ length words) → group_submit_act plan how words ≡ Err NoForm
 group_other plan how [] other = refl
 group_other plan how (a ∷ []) other = refl
@@ -84,6 +93,11 @@ seven d (OneObject what) a b c e f g h more = no_act d.body
 seven d (Limited what) a b c e f g h more = no_act d.body
 seven d Target a b c e f g h more = no_act d.body
 seven d Merge a b c e f g h more = no_act d.body
+seven d Intake a b c e f g h more = refl
+seven d Strip a b c e f g h more = refl
+seven d Apply a b c e f g h more = no_act d.body
+seven d (OneBlock what) a b c e f g h more = no_act d.body
+seven d NotifyBlock a b c e f g h more = no_act d.body
 
 many_words : (d : DraftView) (keyword : Keyword) (words : List (List ℕ)) → 6 < length words → line_by d words keyword ≡ Err NoForm
 many_words d keyword [] many = absurd (omega arith)

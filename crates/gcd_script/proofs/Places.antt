@@ -1,6 +1,7 @@
 -- Names by their places: what a new name changes.
-use Rattle.std.proofs.Common.{ℕ, suc, ◌≡◌, ◌<◌, ◌≤◌, ◌+◌, Bool, true, false, cond, List, [], ◌∷◌, ◌++◌, length, Some, None, count_by, refl, sym, ap, ◌∙◌, arith, add-zero}
-use Rattle.std.specs.List.{position_from}
+use Rattle.std.proofs.Common.{ℕ, suc, ◌≡◌, ◌<◌, ◌≤◌, ◌+◌, ◌-◌, Bool, true, false, cond, List, [], ◌∷◌, ◌++◌, length, Some, None, count_by, refl, sym, ap, ◌∙◌, arith, add-zero}
+use Rattle.std.specs.List.{list_any, position_from, slice_get}
+use Rattle.std.proofs.lemmas.Bool.{or_parts}
 use Rattle.std.specs.Option.{option_or}
 use Rattle.std.specs.Str.{bytes_eq}
 use Rattle.std.proofs.lemmas.List.Sums.{sum_by-cons}
@@ -45,6 +46,35 @@ module _ {X : Type 0} (t : X → Bool) where
         | false ↦ λ h. let later = from_within (i + 1) xs k h in (omega arith, omega arith)
       ] h
 
+  -- no place where none passes
+  from_nobody : (i : ℕ) (xs : List X) → list_any t xs ≡ false → position_from t i xs ≡ None
+  from_nobody i [] h = refl
+  from_nobody i (x ∷ xs) h =
+      let parts = or_parts (t x) (list_any t xs) h in
+      ap (λ v. cond v (Some i) (position_from t (i + 1) xs)) parts.0 ∙ from_nobody (i + 1) xs parts.1
+
+  -- elements more, of which none passes
+  from_before : (i : ℕ) (xs ys : List X) → list_any t ys ≡ false → position_from t i (xs ++ ys) ≡ position_from t i xs
+  from_before i [] ys h = from_nobody i ys h
+  from_before i (x ∷ xs) ys h = ap (λ o. cond (t x) (Some i) o) (from_before (i + 1) xs ys h)
+
+  -- the element at the place passes
+  from_stands : (i : ℕ) (xs : List X) (k : ℕ) → position_from t i xs ≡ Some (i + k) → (x : X) × (slice_get xs k ≡ Some x) × (t x ≡ true)
+  from_stands i [] k h = cc
+  from_stands i (x ∷ xs) k h =
+      elim (t x) as (λ v. t x ≡ v → cond v (Some i) (position_from t (i + 1) xs) ≡ Some (i + k) → (y : X) × (slice_get (x ∷ xs) k ≡ Some y) × (t y ≡ true)) [
+        | true ↦ λ e h.
+            let same : i ≡ i + k = cc in
+            let none : 0 ≡ k = omega (arith, same) in
+            (x, ap (slice_get (x ∷ xs)) (sym none), e)
+        | false ↦ λ e h.
+            let within = from_within (i + 1) xs (i + k) h in
+            let above : k ≡ suc (k - 1) = omega (arith, within.0) in
+            let at : i + k ≡ i + 1 + (k - 1) = omega (arith, within.0) in
+            let later = from_stands (i + 1) xs (k - 1) (h ∙ ap (λ n. Some n) at) in
+            (later.0, ap (slice_get (x ∷ xs)) above ∙ later.1, later.2)
+      ] refl h
+
 -- the place of a name in a list with one name more at its end
 pub place_push : (q : List ℕ) (names : List (List ℕ)) (name : List ℕ) → place_of q (names ++ name ∷ []) ≡ option_or (place_of q names) (cond (bytes_eq q name) (Some (length names)) None)
 place_push q names name =
@@ -64,3 +94,13 @@ place_above q first names i other h =
     let found : position_from (bytes_eq q) (0 + 1) names ≡ Some i = sym (ap (λ v. cond v (Some 0) (position_from (bytes_eq q) (0 + 1) names)) other) ∙ h in
     let within = from_within (bytes_eq q) (0 + 1) names i found in
     omega arith
+
+-- the name stands at its place
+pub place_stands : (q : List ℕ) (names : List (List ℕ)) (i : ℕ) → place_of q names ≡ Some i → slice_get names i ≡ Some q
+place_stands q names i h =
+    let there = from_stands (bytes_eq q) 0 names i (h ∙ ap (λ n. Some n) (omega arith)) in
+    there.1 ∙ ap (λ x. Some x) (sym (same_bytes q there.0 there.2))
+
+-- the place stays where names follow that are others
+pub place_before : (q : List ℕ) (names more : List (List ℕ)) → list_any (bytes_eq q) more ≡ false → place_of q (names ++ more) ≡ place_of q names
+place_before q names more others = from_before (bytes_eq q) 0 names more others

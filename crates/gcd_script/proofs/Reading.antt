@@ -7,7 +7,7 @@ use Rattle.gcd_plan.specs.Validity.{IsPlan}
 use Rattle.gcd_script.specs.declared.fault.ParseFault.{ParseFault}
 use Rattle.gcd_script.specs.declared.fault.ParseFault.TheVariants.{Refused, Memory}
 use Rattle.gcd_script.specs.declared.line.Line.{Line}
-use Rattle.gcd_script.specs.declared.line.Line.TheVariants.{DeclareFile, DeclareObject, DeclareBlock, SetUntil, SetCancel, OpenHandler, OpenMain, AddAct}
+use Rattle.gcd_script.specs.declared.line.Line.TheVariants.{DeclareFile, DeclareObject, DeclareBlock, SetUntil, SetCancel, OpenHandler, OpenMain, AddAct, DeclareIntake, DeclareStrip}
 use Rattle.gcd_script.specs.declared.refusal.Refusal.{Refusal}
 use Rattle.gcd_script.specs.declared.refusal.Refusal.TheVariants.{NoForm, NotOneMain}
 use Rattle.gcd_script.specs.Changes.{change, after}
@@ -82,6 +82,8 @@ change_lines (SetCancel s b) d = refl
 change_lines (OpenHandler s) d = refl
 change_lines OpenMain d = refl
 change_lines (AddAct run act) d = refl
+change_lines (DeclareIntake queue count) d = refl
+change_lines (DeclareStrip name how file len count) d = refl
 
 -- the lines of a text that are left lead where all of them lead
 abbrev pub Leads : (bytes : List ℕ) → DraftView → (rest : List ℕ) → Type 0

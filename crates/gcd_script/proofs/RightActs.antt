@@ -5,7 +5,7 @@ use Rattle.std.proofs.lemmas.Bool.{and_parts, and_from, lt-ltb}
 use Rattle.gcd_plan.specs.Kinds.{has_kind, is_queue, is_queue_kind, is_node_kind, is_group_kind, is_semaphore_kind, is_merge_kind}
 use Rattle.gcd_plan.specs.Limits.{max_value, max_time}
 use Rattle.gcd_plan.specs.PlanView.{PlanView}
-use Rattle.gcd_plan.specs.Validity.{IsPlan, is_act, is_submittable}
+use Rattle.gcd_plan.specs.Validity.{IsPlan, is_act, is_declared}
 use Rattle.gcd_plan.specs.declared.act.Act.{Act}
 use Rattle.gcd_plan.specs.declared.act.Act.TheVariants as act
 use Rattle.gcd_plan.specs.declared.numbers.Blk.{Blk}
@@ -19,30 +19,32 @@ use Rattle.gcd_script.specs.declared.keyword.LimitedWait.{LimitedWait}
 use Rattle.gcd_script.specs.declared.keyword.LimitedWait.TheVariants.{WaitFor, GroupWaitFor}
 use Rattle.gcd_script.specs.declared.keyword.ObjectAct.{ObjectAct}
 use Rattle.gcd_script.specs.declared.keyword.ObjectAct.TheVariants.{Enter, Leave, GroupWait, Signal, Wait, Suspend, Resume, Activate, Cancel, Retain, Release}
+use Rattle.gcd_script.specs.declared.keyword.BlockAct.{BlockAct}
+use Rattle.gcd_script.specs.declared.keyword.BlockAct.TheVariants.{CancelBlock, WaitBlock}
 use Rattle.gcd_script.specs.declared.line.Line.{Line}
 use Rattle.gcd_script.specs.declared.line.Line.TheVariants.{AddAct}
 use Rattle.gcd_script.specs.declared.refusal.Refusal.TheVariants.{NoForm}
-use Rattle.gcd_script.specs.Acts.{act_line, submitting, submit_act, group_submitting, group_submit_act, asked_of, acting, object_act, waited_of, waiting, limited_act, target_act, merge_act}
+use Rattle.gcd_script.specs.Acts.{act_line, submitting, submit_act, group_submitting, group_submit_act, asked_of, acting, object_act, waited_of, waiting, limited_act, target_act, merge_act, apply_act, acting_on, block_act, notify_block_act}
 use Rattle.gcd_script.specs.Asked.{asks}
 use Rattle.gcd_script.specs.Drafts.{DraftView}
 use Rattle.gcd_script.specs.Meant.{Meant, both}
 use Rattle.gcd_script.specs.Sound.{Fits}
-use Rattle.gcd_script.specs.Words.{number, block, queue, object, object_but_root}
+use Rattle.gcd_script.specs.Words.{number, block, queue, strip, object, object_but_root}
 use Rattle.gcd_script.proofs.Inversions.{made_of, both_are, in_range}
-use Rattle.gcd_script.proofs.Known.{block_submittable, object_asked, object_above}
+use Rattle.gcd_script.proofs.Known.{block_declared, strip_within, object_asked, object_above}
 use Rattle.gcd_script.proofs.Targets.{has_kind_within}
 
-submitting_fits : (plan : PlanView) (how : Submission) (q : Obj) (b : Blk) → is_queue plan q.0 ≡ true → is_submittable plan b ≡ true → is_act plan (submitting how q b) ≡ true
-submitting_fits plan Async q b on is = and_from (is_queue plan q.0) (is_submittable plan b) on is
-submitting_fits plan Barrier q b on is = and_from (is_queue plan q.0) (is_submittable plan b) on is
-submitting_fits plan Sync q b on is = and_from (is_queue plan q.0) (is_submittable plan b) on is
-submitting_fits plan BarrierSync q b on is = and_from (is_queue plan q.0) (is_submittable plan b) on is
+submitting_fits : (plan : PlanView) (how : Submission) (q : Obj) (b : Blk) → is_queue plan q.0 ≡ true → is_declared plan b ≡ true → is_act plan (submitting how q b) ≡ true
+submitting_fits plan Async q b on is = and_from (is_queue plan q.0) (is_declared plan b) on is
+submitting_fits plan Barrier q b on is = and_from (is_queue plan q.0) (is_declared plan b) on is
+submitting_fits plan Sync q b on is = and_from (is_queue plan q.0) (is_declared plan b) on is
+submitting_fits plan BarrierSync q b on is = and_from (is_queue plan q.0) (is_declared plan b) on is
 
-group_submitting_fits : (plan : PlanView) (how : GroupSubmission) (g q : Obj) (b : Blk) → has_kind is_group_kind plan g.0 ≡ true → is_queue plan q.0 ≡ true → is_submittable plan b ≡ true → is_act plan (group_submitting how g q b) ≡ true
+group_submitting_fits : (plan : PlanView) (how : GroupSubmission) (g q : Obj) (b : Blk) → has_kind is_group_kind plan g.0 ≡ true → is_queue plan q.0 ≡ true → is_declared plan b ≡ true → is_act plan (group_submitting how g q b) ≡ true
 group_submitting_fits plan GroupAsync g q b of on is =
-    and_from (has_kind is_group_kind plan g.0) (is_queue plan q.0 && is_submittable plan b) of (and_from (is_queue plan q.0) (is_submittable plan b) on is)
+    and_from (has_kind is_group_kind plan g.0) (is_queue plan q.0 && is_declared plan b) of (and_from (is_queue plan q.0) (is_declared plan b) on is)
 group_submitting_fits plan Notify g q b of on is =
-    and_from (has_kind is_group_kind plan g.0) (is_queue plan q.0 && is_submittable plan b) of (and_from (is_queue plan q.0) (is_submittable plan b) on is)
+    and_from (has_kind is_group_kind plan g.0) (is_queue plan q.0 && is_declared plan b) of (and_from (is_queue plan q.0) (is_declared plan b) on is)
 
 referred_fits : (plan : PlanView) (o : Obj) → ltb 0 o.0 ≡ true → has_kind (λ kind. true) plan o.0 ≡ true → (ltb 0 o.0 && ltb o.0 (length plan.objects)) ≡ true
 referred_fits plan o above is =
@@ -75,7 +77,7 @@ module _ (plan : PlanView) (valid : IsPlan plan) where
       let m = made_of (λ (o, c). submitting how o c) (both (queue plan q) (block plan b)) a h in
       let p = both_are (queue plan q) (block plan b) m.0.0 m.0.1 m.1 in
       subst (λ x. is_act plan x ≡ true) m.2
-      (submitting_fits plan how m.0.0 m.0.1 (object_asked plan is_queue_kind q m.0.0 p.0) (block_submittable plan valid b m.0.1 p.1))
+      (submitting_fits plan how m.0.0 m.0.1 (object_asked plan is_queue_kind q m.0.0 p.0) (block_declared plan valid b m.0.1 p.1))
   submit_fits how _ a h = cc
 
   pub group_submit_fits : (how : GroupSubmission) (words : List (List ℕ)) (a : Act) → group_submit_act plan how words ≡ Ok a → is_act plan a ≡ true
@@ -85,7 +87,7 @@ module _ (plan : PlanView) (valid : IsPlan plan) where
       let inner = both_are (queue plan q) (block plan b) m.0.1.0 m.0.1.1 outer.1 in
       subst (λ x. is_act plan x ≡ true) m.2
       (group_submitting_fits plan how m.0.0 m.0.1.0 m.0.1.1 (object_asked plan is_group_kind g m.0.0 outer.0)
-      (object_asked plan is_queue_kind q m.0.1.0 inner.0) (block_submittable plan valid b m.0.1.1 inner.1))
+      (object_asked plan is_queue_kind q m.0.1.0 inner.0) (block_declared plan valid b m.0.1.1 inner.1))
   group_submit_fits how _ a h = cc
 
   pub object_act_fits : (what : ObjectAct) (words : List (List ℕ)) (a : Act) → object_act plan what words ≡ Ok a → is_act plan a ≡ true
@@ -122,6 +124,35 @@ module _ (plan : PlanView) (valid : IsPlan plan) where
       subst (λ x. is_act plan x ≡ true) m.2
       (and_from (has_kind is_merge_kind plan m.0.0.0) (leb m.0.1 max_value) (object_asked plan is_merge_kind s m.0.0 p.0) low.1)
   merge_fits _ a h = cc
+
+  pub apply_fits : (words : List (List ℕ)) (a : Act) → apply_act plan words ≡ Ok a → is_act plan a ≡ true
+  apply_fits (q ∷ s ∷ []) a h =
+      let m = made_of (λ (o, n). act.Apply o n) (both (queue plan q) (strip plan s)) a h in
+      let p = both_are (queue plan q) (strip plan s) m.0.0 m.0.1 m.1 in
+      subst (λ x. is_act plan x ≡ true) m.2
+      (and_from (is_queue plan m.0.0.0) (ltb m.0.1 (length plan.strips)) (object_asked plan is_queue_kind q m.0.0 p.0)
+      (lt-ltb m.0.1 (length plan.strips) (strip_within plan s m.0.1 p.1)))
+  apply_fits _ a h = cc
+
+  acting_on_fits : (what : BlockAct) (b : Blk) → is_declared plan b ≡ true → is_act plan (acting_on what b) ≡ true
+  acting_on_fits CancelBlock b is = is
+  acting_on_fits WaitBlock b is = is
+
+  pub block_act_fits : (what : BlockAct) (words : List (List ℕ)) (a : Act) → block_act plan what words ≡ Ok a → is_act plan a ≡ true
+  block_act_fits what (b ∷ []) a h =
+      let m = made_of (acting_on what) (block plan b) a h in
+      subst (λ x. is_act plan x ≡ true) m.2 (acting_on_fits what m.0 (block_declared plan valid b m.0 m.1))
+  block_act_fits what _ a h = cc
+
+  pub notify_block_fits : (words : List (List ℕ)) (a : Act) → notify_block_act plan words ≡ Ok a → is_act plan a ≡ true
+  notify_block_fits (b ∷ q ∷ c ∷ []) a h =
+      let m = made_of (λ (awaited, (o, noted)). act.NotifyBlock awaited o noted) (both (block plan b) (both (queue plan q) (block plan c))) a h in
+      let outer = both_are (block plan b) (both (queue plan q) (block plan c)) m.0.0 m.0.1 m.1 in
+      let inner = both_are (queue plan q) (block plan c) m.0.1.0 m.0.1.1 outer.1 in
+      subst (λ x. is_act plan x ≡ true) m.2
+      (and_from (is_declared plan m.0.0) (is_queue plan m.0.1.0.0 && is_declared plan m.0.1.1) (block_declared plan valid b m.0.0 outer.0)
+      (and_from (is_queue plan m.0.1.0.0) (is_declared plan m.0.1.1) (object_asked plan is_queue_kind q m.0.1.0 inner.0) (block_declared plan valid c m.0.1.1 inner.1)))
+  notify_block_fits _ a h = cc
 
 body_of : (body : Option Run) (run : Run) → option_map_or Ok body (Err NoForm) ≡ Ok run → body ≡ Some run
 body_of None run h = cc

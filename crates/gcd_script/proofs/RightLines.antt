@@ -2,12 +2,12 @@
 use Rattle.std.proofs.Common.{ℕ, zero, suc, count_by, ◌≡◌, ◌<◌, ◌≤◌, ◌+◌, true, false, not, cond, ltb, leb, List, [], ◌∷◌, length, Option, Some, None, Ok, Err, IfSome, option_map, slice_get, codes, refl, sym, ap, ◌∙◌, subst, lit≤, arith}
 use Rattle.std.specs.Option.{option_map_or}
 use Rattle.std.specs.Str.{bytes_eq}
-use Rattle.std.proofs.lemmas.Bool.{and_parts, ltb-true, leb-true}
+use Rattle.std.proofs.lemmas.Bool.{and_parts, ltb-true, leb-true, false_from_ne_true}
 use Rattle.std.proofs.lemmas.List.{length_push, length-set}
 use Rattle.gcd_plan.specs.Kinds.{is_source, is_source_kind}
-use Rattle.gcd_plan.specs.Limits.{max_files, max_objects, max_blocks, max_acts, max_time}
+use Rattle.gcd_plan.specs.Limits.{max_files, max_objects, max_blocks, max_acts, max_time, max_strips}
 use Rattle.gcd_plan.specs.PlanView.{PlanView, BlkView}
-use Rattle.gcd_plan.specs.Validity.{reaches_root, act_count}
+use Rattle.gcd_plan.specs.Validity.{reaches_root, act_count, has_name, IsPlan}
 use Rattle.gcd_plan.specs.declared.act.Act.{Act}
 use Rattle.gcd_plan.specs.declared.numbers.Blk.{Blk}
 use Rattle.gcd_plan.specs.declared.numbers.Obj.{Obj}
@@ -15,11 +15,11 @@ use Rattle.gcd_plan.specs.declared.numbers.Run.{Run}
 use Rattle.gcd_plan.specs.declared.numbers.Run.TheVariants as run
 use Rattle.gcd_plan.proofs.Places.{slice_get_some}
 use Rattle.gcd_script.specs.declared.keyword.Keyword.{Keyword}
-use Rattle.gcd_script.specs.declared.keyword.Keyword.TheVariants.{File, Queue, Group, Semaphore, Source, Cancelled, Until, Block, Handler, Main, Submit, GroupSubmit, OneObject, Limited, Target, Merge}
+use Rattle.gcd_script.specs.declared.keyword.Keyword.TheVariants.{File, Queue, Group, Semaphore, Source, Cancelled, Until, Block, Handler, Main, Submit, GroupSubmit, OneObject, Limited, Target, Merge, Intake, Strip, Apply, OneBlock, NotifyBlock}
 use Rattle.gcd_script.specs.declared.line.Line.{Line}
-use Rattle.gcd_script.specs.declared.line.Line.TheVariants.{DeclareFile, DeclareObject, DeclareBlock, SetUntil, SetCancel, OpenHandler, OpenMain, AddAct}
+use Rattle.gcd_script.specs.declared.line.Line.TheVariants.{DeclareFile, DeclareObject, DeclareBlock, SetUntil, SetCancel, OpenHandler, OpenMain, AddAct, DeclareIntake, DeclareStrip}
 use Rattle.gcd_script.specs.declared.refusal.Refusal.TheVariants.{NoForm, Repeated, InHandler, PastLimit}
-use Rattle.gcd_script.specs.Acts.{submit_act, group_submit_act, object_act, limited_act, target_act, merge_act}
+use Rattle.gcd_script.specs.Acts.{submit_act, group_submit_act, object_act, limited_act, target_act, merge_act, apply_act, block_act, notify_block_act}
 use Rattle.gcd_script.specs.Changes.{change, new_object}
 use Rattle.gcd_script.specs.Drafts.{DraftView, empty_draft, new_block}
 use Rattle.gcd_script.specs.Forms.{line_by, form_of}
@@ -32,10 +32,16 @@ use Rattle.gcd_script.proofs.Inserts.{fit_from}
 use Rattle.gcd_script.proofs.Inversions.{follows}
 use Rattle.gcd_script.proofs.ObjectChanges.{source_stands}
 use Rattle.gcd_script.proofs.Places.{same_bytes}
-use Rattle.gcd_script.proofs.RightActs.{act_fits, submit_fits, group_submit_fits, object_act_fits, limited_fits, target_fits, merge_fits}
-use Rattle.gcd_script.proofs.RightWords.{file_fits, queue_fits, group_fits, semaphore_fits, source_fits, cancelled_fits, until_fits, block_fits, handler_fits, main_fits}
+use Rattle.gcd_script.proofs.RightActs.{act_fits, submit_fits, group_submit_fits, object_act_fits, limited_fits, target_fits, merge_fits, apply_fits, block_act_fits, notify_block_fits}
+use Rattle.gcd_script.proofs.RightWords.{file_fits, queue_fits, group_fits, semaphore_fits, source_fits, cancelled_fits, until_fits, block_fits, intake_fits, strip_fits, handler_fits, main_fits}
 use Rattle.gcd_script.proofs.SourceChanges as source_changes
 use Rattle.gcd_script.proofs.Valid.{file_valid, object_valid, block_valid, until_valid}
+use Rattle.gcd_plan.specs.Made.{is_made, is_within, spans, intake_span, strip_span}
+use Rattle.gcd_plan.proofs.Spans.{Maker, by_intake, by_strip, maker, among_from, intake_of_plan, no_span_past}
+use Rattle.gcd_plan.proofs.MadeBlocks.{within_parts}
+use Rattle.gcd_script.proofs.Makes.{intake_valid}
+use Rattle.gcd_script.proofs.StripMakes.{strip_valid}
+use Rattle.gcd_script.proofs.Submitted.{any_counts}
 
 module _ (d : DraftView) (sound : IsDraft d) where
   keyword_fits : (words : List (List ℕ)) (keyword : Keyword) (line : Line (List ℕ)) → line_by d words keyword ≡ Ok line → Fits d line
@@ -56,6 +62,11 @@ module _ (d : DraftView) (sound : IsDraft d) where
   keyword_fits words (Limited what) line h = act_fits d (limited_act d.plan what words) line (limited_fits d.plan sound.valid what words) h
   keyword_fits words Target line h = act_fits d (target_act d.plan words) line (target_fits d.plan sound.valid words) h
   keyword_fits words Merge line h = act_fits d (merge_act d.plan words) line (merge_fits d.plan sound.valid words) h
+  keyword_fits words Intake line h = intake_fits d sound words line h
+  keyword_fits words Strip line h = strip_fits d sound words line h
+  keyword_fits words Apply line h = act_fits d (apply_act d.plan words) line (apply_fits d.plan sound.valid words) h
+  keyword_fits words (OneBlock what) line h = act_fits d (block_act d.plan what words) line (block_act_fits d.plan sound.valid what words) h
+  keyword_fits words NotifyBlock line h = act_fits d (notify_block_act d.plan words) line (notify_block_fits d.plan sound.valid words) h
 
   form_fits : (words : List (List ℕ)) (line : Line (List ℕ)) → form_of d words ≡ Ok line → Fits d line
   form_fits [] line h = cc
@@ -90,7 +101,7 @@ module _ (d : DraftView) (sound : IsDraft d) where
 
 -- a body of a plan stays one where the plan grows
 body_grows : (old new : PlanView) → Grows old new → (r : Run) → IsBody old r → IsBody new r
-body_grows old new grows (run.Block b) inside = omega (arith, grows.blocks)
+body_grows old new grows (run.Block b) inside = (omega (arith, inside.0, grows.blocks), grows.declared b.0 inside.0 inside.1)
 body_grows old new grows (run.Source s) is = has_kind_grows old new grows is_source_kind s.0 is
 
 bodies_grow : (old new : PlanView) → Grows old new → (body : Option Run) → IfSome body (IsBody old) → IfSome body (IsBody new)
@@ -102,6 +113,26 @@ main_within : (blocks : List BlkView) → option_map (λ (b : BlkView). b.name) 
 main_within [] h = cc
 main_within (b ∷ blocks) h = omega arith
 
+-- no block past the plan's is made, nor is main
+not_past : (plan : PlanView) → IsPlan plan → (b : ℕ) → length plan.blocks ≤ b → is_made plan b ≡ false
+not_past plan valid b past =
+    let none = no_span_past plan valid.intake valid.strips b past in
+    any_counts (is_within b) (spans plan) ∙ ap (ltb 0) none
+
+main_not_made : (plan : PlanView) → IsPlan plan → is_made plan 0 ≡ false
+main_not_made plan valid =
+    false_from_ne_true (is_made plan 0) (λ made. first (maker plan 0 made))
+  where
+    first : Maker plan 0 → ⊥
+    first (by_intake i is within) =
+        let low = among_from plan (intake_span i) (intake_of_plan plan valid i is).among in
+        let parts = within_parts 0 (intake_span i) within in
+        absurd (omega (arith, low.0, parts.0))
+    first (by_strip a s is within) =
+        let low = among_from plan (strip_span s) (valid.strips a s is).among in
+        let parts = within_parts 0 (strip_span s) within in
+        absurd (omega (arith, low.0, parts.0))
+
 below : (m n : ℕ) → ltb m n ≡ true → m < n
 below m n h = ltb-true m n h
 
@@ -109,9 +140,9 @@ module _ (d : DraftView) (sound : IsDraft d) where
   -- an act of a body
   act_sound : (r : Run) (a : Act) → IsRight d (AddAct r a) → IsDraft (change (AddAct r a) d)
   act_sound (run.Block b) a right =
-      let inside : b.0 < length d.plan.blocks = subst (λ o. IfSome o (IsBody d.plan)) right.fits.0 sound.body in
-      let at = slice_get_some d.plan.blocks b.0 inside in
-      let valid = block_acts.act_valid d.plan sound.valid b at.0 at.1 a right.fits.1 right.untaken (below (act_count d.plan) max_acts right.room) in
+      let inside : IsBody d.plan (run.Block b) = subst (λ o. IfSome o (IsBody d.plan)) right.fits.0 sound.body in
+      let at = slice_get_some d.plan.blocks b.0 inside.0 in
+      let valid = block_acts.act_valid d.plan sound.valid b at.0 at.1 a right.fits.1 right.untaken inside.1 (below (act_count d.plan) max_acts right.room) in
       let grows = block_acts.grows d.plan sound.valid b at.0 at.1 a in
       subst (λ p. IsDraft (record d { plan = p })) (sym (block_acts.is_new d.plan sound.valid b at.0 at.1 a))
       (record { valid = valid; body = bodies_grow d.plan _ grows d.body sound.body; marks = sound.marks })
@@ -149,7 +180,7 @@ module _ (d : DraftView) (sound : IsDraft d) where
   }
   change_sound (DeclareBlock name work) right = record {
     valid = block_valid d.plan sound.valid name work (fit_from d.plan name right.fits.0) (below (length d.plan.blocks) max_blocks right.room) right.fits.1;
-    body = let more = length_push d.plan.blocks (new_block name work) in omega arith;
+    body = let more = length_push d.plan.blocks (new_block name work) in (omega (arith, more), not_past d.plan sound.valid (length d.plan.blocks) (omega arith));
     marks = sound.marks;
   }
   change_sound (SetUntil ms) right =
@@ -157,8 +188,23 @@ module _ (d : DraftView) (sound : IsDraft d) where
       record { valid = until_valid d.plan sound.valid ms (leb-true 1 ms range.0) (leb-true ms max_time range.1); body = tt; marks = sound.marks }
   change_sound (SetCancel s b) right = cancel_sound s b right
   change_sound (OpenHandler s) right = record { valid = sound.valid; body = right.fits; marks = length-set d.handlers s.0 true ∙ sound.marks }
-  change_sound OpenMain right = record { valid = sound.valid; body = main_within d.plan.blocks sound.valid.main; marks = sound.marks }
+  change_sound OpenMain right = record { valid = sound.valid; body = (main_within d.plan.blocks sound.valid.main, main_not_made d.plan sound.valid); marks = sound.marks }
   change_sound (AddAct r a) right = act_sound r a right
+  change_sound (DeclareIntake queue count) right =
+      let room = leb-true (length d.plan.blocks + count) max_blocks right.room in
+      record {
+        valid = intake_valid d.plan sound.valid queue count right.fits.0 right.fits.1 right.fits.2 right.fits.3 room;
+        body = tt;
+        marks = sound.marks;
+      }
+  change_sound (DeclareStrip name how file len count) right =
+      let room = and_parts (leb (length d.plan.blocks + count) max_blocks) (ltb (length d.plan.strips) max_strips) right.room in
+      record {
+        valid = strip_valid d.plan sound.valid name how file len count (fit_from d.plan name right.fits.0) right.fits.1 right.fits.2 right.fits.3 right.fits.4
+            (leb-true (length d.plan.blocks + count) max_blocks room.0) (below (length d.plan.strips) max_strips room.1);
+        body = tt;
+        marks = sound.marks;
+      }
 
 -- the draft before the first line: its names are apart, and root reaches root
 apart_names : (q : List ℕ) → count_by (bytes_eq q) (codes "root" ∷ codes "main" ∷ []) ≤ 1
@@ -172,6 +218,10 @@ root_reaches : (o : ℕ) → o < 1 → reaches_root empty_draft.plan o ≡ true
 root_reaches zero h = refl
 root_reaches (suc o) h = absurd (omega arith)
 
+main_named : (b : ℕ) → b < 1 → has_name empty_draft.plan b ≡ true
+main_named zero h = refl
+main_named (suc b) h = absurd (omega arith)
+
 pub empty_sound : IsDraft empty_draft
 empty_sound = record {
   valid = record {
@@ -181,11 +231,16 @@ empty_sound = record {
     few_objects = lit≤ tt;
     few_blocks = lit≤ tt;
     few_files = lit≤ tt;
+    few_strips = lit≤ tt;
     few_acts = lit≤ tt;
     until_low = lit≤ tt;
     until_high = lit≤ tt;
     names = refl;
+    block_names = main_named;
     names_apart = apart_names;
+    intake = tt;
+    strips = λ a s at. cc;
+    apart = λ b. lit≤ tt;
     objects = refl;
     blocks = refl;
     files = refl;

@@ -1,22 +1,22 @@
 -- The words of a line that mean something name what is there: what each form gives fits the draft.
-use Rattle.std.proofs.Common.{ℕ, ◌≡◌, Bool, true, false, not, ◌&&◌, ltb, leb, List, [], ◌∷◌, length, Some, None, Ok, codes, refl, subst}
+use Rattle.std.proofs.Common.{ℕ, ◌≡◌, Bool, true, false, not, ◌&&◌, ltb, leb, List, [], ◌∷◌, length, Some, None, Ok, codes, refl, subst, ◌-◌, is_none}
 use Rattle.std.specs.Str.{bytes_eq}
-use Rattle.std.proofs.lemmas.Bool.{and_parts, and_from, lt-ltb}
+use Rattle.std.proofs.lemmas.Bool.{and_parts, and_from, lt-ltb, leb-true}
 use Rattle.gcd_plan.specs.Kinds.{is_queue, is_queue_kind, is_source_kind, is_merge_kind}
-use Rattle.gcd_plan.specs.Limits.{max_value, max_time, max_file_bytes}
+use Rattle.gcd_plan.specs.Limits.{max_blocks, max_intake, max_value, max_time, max_file_bytes}
 use Rattle.gcd_plan.specs.Names.{is_path}
 use Rattle.gcd_plan.specs.PlanView.{PlanView}
-use Rattle.gcd_plan.specs.Validity.{is_object, is_work}
+use Rattle.gcd_plan.specs.Validity.{is_object, is_strip_how, is_work}
 use Rattle.gcd_plan.specs.declared.kind.Kind.{Kind}
 use Rattle.gcd_plan.specs.declared.kind.Kind.TheVariants.{Serial, Concurrent, Group, Semaphore, Add, Or, Replace, Timer, Read}
 use Rattle.gcd_plan.specs.declared.numbers.Obj.{Obj}
 use Rattle.gcd_plan.specs.declared.work.How.{How}
 use Rattle.gcd_plan.specs.declared.work.Work.{Work}
 use Rattle.gcd_script.specs.declared.line.Line.{Line}
-use Rattle.gcd_script.specs.declared.line.Line.TheVariants.{DeclareFile, DeclareObject, DeclareBlock, SetUntil, SetCancel, OpenHandler, OpenMain}
+use Rattle.gcd_script.specs.declared.line.Line.TheVariants.{DeclareFile, DeclareObject, DeclareBlock, SetUntil, SetCancel, OpenHandler, OpenMain, DeclareIntake, DeclareStrip}
 use Rattle.gcd_script.specs.declared.refusal.Refusal.TheVariants.{NoForm, BadName}
 use Rattle.gcd_script.specs.Changes.{new_object}
-use Rattle.gcd_script.specs.Declarations.{root, one_of, file_line, object_line, queue_line, group_line, semaphore_line, source_line, cancelled_line, until_line, work, work_line, range, whole, counting, block_line, handler_line, main_line}
+use Rattle.gcd_script.specs.Declarations.{root, one_of, file_line, object_line, queue_line, group_line, semaphore_line, source_line, cancelled_line, until_line, work, work_line, range, whole, counting, block_line, intake_line, strip_line, handler_line, main_line}
 use Rattle.gcd_script.specs.Drafts.{DraftView}
 use Rattle.gcd_script.specs.Keywords.{queue_kinds, merge_kinds, counts}
 use Rattle.gcd_script.specs.Meant.{Meant, meant, both, must}
@@ -24,7 +24,7 @@ use Rattle.gcd_script.specs.Names.{is_unused}
 use Rattle.gcd_script.specs.Sound.{IsDraft, Fits}
 use Rattle.gcd_script.specs.Words.{new_name, path, number, file, block, queue, source}
 use Rattle.gcd_script.proofs.Inversions.{made_of, both_are, held, passed, in_range, one_is}
-use Rattle.gcd_script.proofs.Known.{file_within, block_submittable, object_asked}
+use Rattle.gcd_script.proofs.Known.{file_within, block_declared, object_asked}
 use Rattle.gcd_script.proofs.Targets.{root_is_queue}
 
 -- an object is a queue, or has nothing beside its kind, or is a source
@@ -171,7 +171,7 @@ module _ (d : DraftView) (sound : IsDraft d) where
   cancelled_fits (s ∷ b ∷ []) line h =
       let m = made_of (λ (o, c). SetCancel o c) (both (source d.plan s) (block d.plan b)) line h in
       let p = both_are (source d.plan s) (block d.plan b) m.0.0 m.0.1 m.1 in
-      subst (Fits d) m.2 (object_asked d.plan is_source_kind s m.0.0 p.0, block_submittable d.plan sound.valid b m.0.1 p.1)
+      subst (Fits d) m.2 (object_asked d.plan is_source_kind s m.0.0 p.0, block_declared d.plan sound.valid b m.0.1 p.1)
   cancelled_fits _ line h = cc
 
   pub until_fits : (words : List (List ℕ)) (line : Line (List ℕ)) → until_line d.has_until words ≡ Ok line → Fits d line
@@ -221,6 +221,37 @@ module _ (d : DraftView) (sound : IsDraft d) where
       work_fits b (counting v) f (range from len) line (range_fits from len)
       (passed (bytes_eq count (codes "count")) (work_line d.plan b (work (counting v) (file d.plan f) (range from len))) line h)
   block_fits _ line h = cc
+
+  pub intake_fits : (words : List (List ℕ)) (line : Line (List ℕ)) → intake_line d.plan words ≡ Ok line → Fits d line
+  intake_fits (q ∷ n ∷ []) line h =
+      let what = both (queue d.plan q) (number 1 max_intake n) in
+      let m = made_of (λ (first, (o, count)). DeclareIntake o count) (both (must (is_none d.plan.intake) BadName) what) line h in
+      let outer = both_are (must (is_none d.plan.intake) BadName) what m.0.0 m.0.1 m.1 in
+      let inner = both_are (queue d.plan q) (number 1 max_intake n) m.0.1.0 m.0.1.1 outer.1 in
+      let range = and_parts (leb 1 m.0.1.1) (leb m.0.1.1 max_intake) (in_range 1 max_intake n m.0.1.1 inner.1) in
+      subst (Fits d) m.2
+      (held (is_none d.plan.intake) BadName m.0.0 outer.0, object_asked d.plan is_queue_kind q m.0.1.0 inner.0, leb-true 1 m.0.1.1 range.0, leb-true m.0.1.1 max_intake range.1)
+  intake_fits _ line h = cc
+
+  pub strip_fits : (words : List (List ℕ)) (line : Line (List ℕ)) → strip_line d.plan words ≡ Ok line → Fits d line
+  strip_fits (a ∷ w ∷ f ∷ len ∷ n ∷ []) line h =
+      let numbers = both (number 1 max_file_bytes len) (number 0 (max_blocks - 1) n) in
+      let rest = both (file d.plan f) numbers in
+      let what = both (one_of counts w) rest in
+      let m = made_of (λ (fits, (how, (from, (bytes, count)))). DeclareStrip a how from bytes count) (both (new_name d.plan a) what) line h in
+      let outer = both_are (new_name d.plan a) what m.0.0 m.0.1 m.1 in
+      let second = both_are (one_of counts w) rest m.0.1.0 m.0.1.1 outer.1 in
+      let third = both_are (file d.plan f) numbers m.0.1.1.0 m.0.1.1.1 second.1 in
+      let last = both_are (number 1 max_file_bytes len) (number 0 (max_blocks - 1) n) m.0.1.1.1.0 m.0.1.1.1.1 third.1 in
+      let range = and_parts (leb 1 m.0.1.1.1.0) (leb m.0.1.1.1.0 max_file_bytes) (in_range 1 max_file_bytes len m.0.1.1.1.0 last.0) in
+      subst (Fits d) m.2 (
+        held (is_unused d.plan a) BadName m.0.0 outer.0,
+        one_is (λ how. is_strip_how how ≡ true) counts w m.0.1.0 (refl, (refl, (refl, (refl, tt)))) second.0,
+        file_within d.plan f m.0.1.1.0 third.0,
+        leb-true 1 m.0.1.1.1.0 range.0,
+        leb-true m.0.1.1.1.0 max_file_bytes range.1,
+      )
+  strip_fits _ line h = cc
 
   pub handler_fits : (words : List (List ℕ)) (line : Line (List ℕ)) → handler_line d.plan words ≡ Ok line → Fits d line
   handler_fits (s ∷ []) line h =

@@ -1,43 +1,38 @@
 -- One act more in a source's handler, and a source's cancellation block.
 use Rattle.std.proofs.Common.{ℕ, ◌≡◌, ◌<◌, ◌+◌, ◌==◌, Bool, true, ◌&&◌, List, [], ◌∷◌, ◌++◌, length, map, Option, Some, None, is_none, option_to_list, count_by, refl, sym, ap, ◌∙◌, arith}
-use Rattle.std.specs.List.{flat_map}
-use Rattle.std.specs.Option.{option_map_or, option_and_then}
+use Rattle.std.specs.Option.{option_and_then}
 use Rattle.std.proofs.lemmas.Bool.{and_from}
 use Rattle.std.proofs.lemmas.List.{append-nil, length_push}
 use Rattle.std.proofs.lemmas.List.Concat.{flat_map-append}
 use Rattle.gcd_plan.specs.Limits.{max_acts}
 use Rattle.gcd_plan.specs.PlanView.{PlanView, ObjView, cancel_block}
-use Rattle.gcd_plan.specs.Validity.{IsPlan, block_of, blocks_of, submitted_blocks, act_count, is_act, is_handler_act, is_object, is_submittable}
+use Rattle.gcd_plan.specs.Validity.{IsPlan, blocks_by, blocks_of, submitted_blocks, act_count, is_act, is_handler_act, is_object, is_declared}
 use Rattle.gcd_plan.specs.declared.act.Act.{Act}
 use Rattle.gcd_plan.specs.declared.numbers.Blk.{Blk}
 use Rattle.gcd_plan.specs.declared.numbers.Obj.{Obj}
 use Rattle.gcd_plan.proofs.Sums.{count_by-append}
 use Rattle.gcd_plan.proofs.Quantifiers.{list_all_get, list_all_push}
 use Rattle.gcd_script.specs.Changes.{with_object_at, object_with_act, with_cancel}
-use Rattle.gcd_script.specs.Judged.{is_free}
+use Rattle.gcd_script.specs.Judged.{is_free, is_untaken_by}
 use Rattle.gcd_script.proofs.Growth.{Grows}
 use Rattle.gcd_script.proofs.ObjectChanges as change
 use Rattle.gcd_script.proofs.ObjectChanges.{StandsAsSource, Keeps, own_of, own_fields, still_object}
-use Rattle.gcd_script.proofs.Submitted.{once_more}
+use Rattle.gcd_script.proofs.Submitted.{act_once, once_more}
 
 none_is : {X : Type 0} (o : Option X) → is_none o ≡ true → o ≡ None
 none_is None h = refl
 none_is (Some x) h = cc
 
-submits : Act → List Blk
-submits act = option_to_list (block_of act)
-
 -- the blocks that a handler submits with one act more
-joined : (acts : List Act) (act : Act) (rest : List Blk) (p : Blk → Bool) → count_by p (blocks_of (acts ++ act ∷ []) ++ rest) ≡ count_by p (blocks_of acts ++ rest) + count_by p (option_to_list (block_of act))
-unfolding submits
-joined acts act rest p =
-    let more : blocks_of (acts ++ act ∷ []) ≡ blocks_of acts ++ submits act =
-    flat_map-append submits acts (act ∷ []) ∙ ap (λ xs. flat_map submits acts ++ xs) (append-nil (submits act))
+joined : (plan : PlanView) (acts : List Act) (act : Act) (rest : List Blk) (p : Blk → Bool) → count_by p (blocks_of plan (acts ++ act ∷ []) ++ rest) ≡ count_by p (blocks_of plan acts ++ rest) + count_by p (blocks_by plan act)
+joined plan acts act rest p =
+    let more : blocks_of plan (acts ++ act ∷ []) ≡ blocks_of plan acts ++ blocks_by plan act =
+    flat_map-append (blocks_by plan) acts (act ∷ []) ∙ ap (λ xs. blocks_of plan acts ++ xs) (append-nil (blocks_by plan act))
     in
     let whole = ap (λ xs. count_by p (xs ++ rest)) more in
-    let front = count_by-append p (blocks_of acts ++ submits act) rest in
-    let own = count_by-append p (blocks_of acts) (submits act) in
-    let old = count_by-append p (blocks_of acts) rest in
+    let front = count_by-append p (blocks_of plan acts ++ blocks_by plan act) rest in
+    let own = count_by-append p (blocks_of plan acts) (blocks_by plan act) in
+    let old = count_by-append p (blocks_of plan acts) rest in
     omega arith
 
 module _ (plan : PlanView) (valid : IsPlan plan) (s : Obj) (at : StandsAsSource plan s.0) where
@@ -66,10 +61,10 @@ module _ (plan : PlanView) (valid : IsPlan plan) (s : Obj) (at : StandsAsSource 
     pub act_names : map (λ (o : ObjView). o.name) act_new.objects ≡ map (λ (o : ObjView). o.name) plan.objects
     act_names = change.same_map plan valid s.0 at.above at.object at.stands fuller keeps_act (λ obj. obj.name) refl
 
-    pub act_submitted : (q : ℕ) → count_by (λ (c : Blk). c.0 == q) (submitted_blocks act_new) ≡ count_by (λ (c : Blk). c.0 == q) (submitted_blocks plan) + count_by (λ (c : Blk). c.0 == q) (option_to_list (block_of act))
+    pub act_submitted : (q : ℕ) → count_by (λ (c : Blk). c.0 == q) (submitted_blocks act_new) ≡ count_by (λ (c : Blk). c.0 == q) (submitted_blocks plan) + count_by (λ (c : Blk). c.0 == q) (blocks_by plan act)
     act_submitted q =
         let more = change.more_submitted plan valid s.0 at.above at.object at.stands fuller keeps_act q in
-        let one = joined at.object.handler act (option_to_list at.object.cancel) (λ (c : Blk). c.0 == q) in
+        let one = joined plan at.object.handler act (option_to_list at.object.cancel) (λ (c : Blk). c.0 == q) in
         omega arith
 
     pub act_acts : act_count act_new ≡ act_count plan + 1
@@ -78,14 +73,14 @@ module _ (plan : PlanView) (valid : IsPlan plan) (s : Obj) (at : StandsAsSource 
         let one = length_push at.object.handler act in
         omega arith
 
-    pub act_valid : is_handler_act act ≡ true → is_act plan act ≡ true → option_map_or (is_free plan) (block_of act) true ≡ true → act_count plan < max_acts → IsPlan act_new
+    pub act_valid : is_handler_act act ≡ true → is_act plan act ≡ true → is_untaken_by plan act ≡ true → act_count plan < max_acts → IsPlan act_new
     act_valid handles fits fresh room =
         let own = own_fields plan at.object at.kind own_valid in
         let handled = list_all_push (λ a. is_handler_act a && is_act plan a) at.object.handler act own.0 (and_from (is_handler_act act) (is_act plan act) handles fits) in
         change.changed_valid plan valid s.0 at.above at.object at.stands fuller keeps_act
         (still_object plan at.object (at.object.handler ++ act ∷ []) at.object.cancel at.kind own_valid handled own.1)
         (let more = act_acts in omega arith)
-        (λ q. let more = act_submitted q in let once = once_more plan valid (block_of act) fresh q in omega arith)
+        (λ q. let more = act_submitted q in let once = act_once plan valid act fits fresh q in omega arith)
 
   module _ (b : Blk) (lacks : is_none (cancel_block plan s.0) ≡ true) where
     abbrev cancelled : ObjView
@@ -113,15 +108,15 @@ module _ (plan : PlanView) (valid : IsPlan plan) (s : Obj) (at : StandsAsSource 
     cancel_submitted q =
         let p = λ (c : Blk). c.0 == q in
         let more = change.more_submitted plan valid s.0 at.above at.object at.stands cancelled keeps_cancel q in
-        let old = count_by-append p (blocks_of at.object.handler) (option_to_list at.object.cancel) in
+        let old = count_by-append p (blocks_of plan at.object.handler) (option_to_list at.object.cancel) in
         let none = ap (λ o. count_by p (option_to_list o)) no_cancel in
-        let now = count_by-append p (blocks_of at.object.handler) (option_to_list (Some b)) in
+        let now = count_by-append p (blocks_of plan at.object.handler) (option_to_list (Some b)) in
         omega arith
 
     pub cancel_acts : act_count cancel_new ≡ act_count plan
     cancel_acts = let more = change.more_acts plan valid s.0 at.above at.object at.stands cancelled keeps_cancel in omega arith
 
-    pub cancel_valid : is_submittable plan b ≡ true → is_free plan b ≡ true → IsPlan cancel_new
+    pub cancel_valid : is_declared plan b ≡ true → is_free plan b ≡ true → IsPlan cancel_new
     cancel_valid fits fresh =
         let own = own_fields plan at.object at.kind own_valid in
         change.changed_valid plan valid s.0 at.above at.object at.stands cancelled keeps_cancel

@@ -1,14 +1,19 @@
 -- Which blocks are submitted, and what one submission more changes.
-use Rattle.std.proofs.Common.{ℕ, ◌≡◌, ◌<◌, ◌≤◌, ◌+◌, ◌==◌, Bool, true, false, not, ◌||◌, cond, ltb, List, [], ◌∷◌, length, set, Option, Some, None, option_to_list, get_or, count_by, refl, sym, ap, ◌∙◌, subst, zero-add, arith}
+use Rattle.std.proofs.Common.{ℕ, ◌≡◌, ◌<◌, ◌≤◌, ◌+◌, ◌==◌, Bool, true, false, not, ◌||◌, cond, ltb, List, [], ◌∷◌, length, set, Option, Some, None, option_to_list, get_or, count_by, refl, sym, ap, ◌∙◌, subst, ⊎_elim, zero-add, arith}
 use Rattle.std.specs.List.{list_any}
 use Rattle.std.specs.Option.{option_map_or}
-use Rattle.std.proofs.lemmas.Bool.{eqb-true, eqb-false, lt-ltb}
+use Rattle.std.proofs.lemmas.Bool.{and_parts, cases_Bool, eqb-true, eqb-false, lt-ltb}
 use Rattle.std.proofs.lemmas.List.{get_or-set_same, get_or-set_other}
 use Rattle.gcd_plan.specs.PlanView.{PlanView}
-use Rattle.gcd_plan.specs.Validity.{IsPlan, submitted_blocks}
+use Rattle.gcd_plan.specs.Validity.{IsPlan, block_of, strip_of, blocks_by, is_act, submitted_blocks}
+use Rattle.gcd_plan.specs.Checked.{submits}
+use Rattle.gcd_plan.specs.Made.{is_of_strip, strip_blocks}
+use Rattle.gcd_plan.specs.declared.act.Act.{Act}
 use Rattle.gcd_plan.specs.declared.numbers.Blk.{Blk}
-use Rattle.gcd_plan.proofs.Sums.{count_by-cons, count_by_none}
-use Rattle.gcd_script.specs.Judged.{is_free}
+use Rattle.gcd_plan.proofs.Submits.{act_counted, blocks_counted}
+use Rattle.gcd_plan.proofs.Sums.{count_by-append, count_by-cons, count_by_none}
+use Rattle.gcd_script.specs.Judged.{is_free, is_unapplied, is_untaken_by}
+use Rattle.gcd_script.proofs.Applied.{unapplied_free}
 
 -- something passes where it is counted
 pub any_counts : {X : Type 0} (p : X → Bool) (xs : List X) → list_any p xs ≡ ltb 0 (count_by p xs)
@@ -46,6 +51,35 @@ once_more plan valid (Some c) free q =
           omega arith
       | false ↦ λ e one. omega arith
     ] refl one
+
+-- the blocks of an act that is not taken, each once
+pub act_once : (plan : PlanView) → IsPlan plan → (act : Act) → is_act plan act ≡ true → is_untaken_by plan act ≡ true → (q : ℕ) → count_by (λ (d : Blk). d.0 == q) (submitted_blocks plan) + count_by (λ (d : Blk). d.0 == q) (blocks_by plan act) ≤ 1
+act_once plan valid act fits untaken q =
+    let free = and_parts (option_map_or (is_free plan) (block_of act) true) (option_map_or (is_unapplied plan) (strip_of act) true) untaken in
+    let few = once_more plan valid (block_of act) free.0 q in
+    let counted = act_counted plan q act in
+    let split = count_by-append (λ (d : Blk). d.0 == q) (option_to_list (block_of act)) (option_map_or (strip_blocks plan) (strip_of act) []) in
+    ⊎_elim
+    (λ (in_strip : option_map_or (λ a. is_of_strip plan a q) (strip_of act) false ≡ true).
+    let none = strip_none plan valid (strip_of act) free.1 q in_strip in
+    let one = cond_le (submits plan q act) in
+    omega (arith, counted, none, one))
+    (λ (out : option_map_or (λ a. is_of_strip plan a q) (strip_of act) false ≡ false).
+    let none = strip_out plan (strip_of act) q out in
+    omega (arith, few, split, none))
+    (cases_Bool (option_map_or (λ a. is_of_strip plan a q) (strip_of act) false))
+  where
+    cond_le : (v : Bool) → cond v 1 0 ≤ 1
+    cond_le true = omega arith
+    cond_le false = omega arith
+
+    strip_none : (plan : PlanView) → IsPlan plan → (o : Option ℕ) → option_map_or (is_unapplied plan) o true ≡ true → (q : ℕ) → option_map_or (λ a. is_of_strip plan a q) o false ≡ true → count_by (λ (d : Blk). d.0 == q) (submitted_blocks plan) ≡ 0
+    strip_none plan valid None free q found = cc
+    strip_none plan valid (Some a) free q found = unapplied_free plan valid a q found free
+
+    strip_out : (plan : PlanView) (o : Option ℕ) (q : ℕ) → option_map_or (λ a. is_of_strip plan a q) o false ≡ false → count_by (λ (d : Blk). d.0 == q) (option_map_or (strip_blocks plan) o []) ≡ 0
+    strip_out plan None q out = refl
+    strip_out plan (Some a) q out = blocks_counted plan a q ∙ ap (λ v. cond v 1 0) out
 
 -- flags of submitted blocks after one submission more
 pub flag_after : (flags : List Bool) (old new : List Blk) (c : Blk) → ((b : ℕ) → get_or flags b false ≡ list_any (λ (d : Blk). d.0 == b) old) → c.0 < length flags → ((q : ℕ) → count_by (λ (d : Blk). d.0 == q) new ≡ count_by (λ (d : Blk). d.0 == q) old + count_by (λ (d : Blk). d.0 == q) (option_to_list (Some c))) → (q : ℕ) → get_or (set flags c.0 true) q false ≡ list_any (λ (d : Blk). d.0 == q) new

@@ -1,27 +1,30 @@
 -- What is declared keeps a plan valid.
-use Rattle.std.proofs.Common.{ℕ, ◌≡◌, ◌<◌, ◌≤◌, ◌==◌, Bool, true, false, List, [], ◌∷◌, ◌++◌, length, Option, Some, None, is_none, option_map, option_to_list, slice_get, count_by, codes, refl, sym, ap, ◌∙◌, subst, arith}
+use Rattle.std.proofs.Common.{ℕ, ◌≡◌, ◌<◌, ◌≤◌, ◌==◌, ◌||◌, ⊎_elim, Bool, true, false, List, [], ◌∷◌, ◌++◌, length, Option, Some, None, is_none, option_map, option_to_list, slice_get, count_by, codes, refl, sym, ap, ◌∙◌, subst, arith}
 use Rattle.std.specs.List.{flat_map}
 use Rattle.std.specs.Option.{option_map_or}
-use Rattle.std.proofs.lemmas.Bool.{and_from}
+use Rattle.std.proofs.lemmas.Bool.{and_from, cases_lt, or_right}
 use Rattle.std.proofs.lemmas.List.{append-nil, length_push}
 use Rattle.std.proofs.lemmas.List.Concat.{flat_map-append}
 use Rattle.std.proofs.lemmas.List.Sums.{sum_by_push}
 use Rattle.gcd_plan.specs.Limits.{max_objects, max_blocks, max_files, max_time}
 use Rattle.gcd_plan.specs.Kinds.{is_queue_kind}
 use Rattle.gcd_plan.specs.Names.{is_name, is_path}
-use Rattle.gcd_plan.specs.PlanView.{PlanView, ObjView, BlkView, FileView}
-use Rattle.gcd_plan.specs.Validity.{IsPlan, root_view, names_of, blocks_of, submitted_blocks, is_object, is_block, is_work, is_file}
+use Rattle.gcd_plan.specs.PlanView.{PlanView, ObjView, BlkView, FileView, name_of_blk}
+use Rattle.gcd_plan.specs.Made.{is_made}
+use Rattle.gcd_plan.specs.Validity.{IsPlan, root_view, names_of, has_name, blocks_of, submitted_blocks, is_object, is_block, is_work, is_file}
 use Rattle.gcd_plan.specs.declared.kind.Kind.{Kind}
 use Rattle.gcd_plan.specs.declared.numbers.Blk.{Blk}
 use Rattle.gcd_plan.specs.declared.numbers.Obj.{Obj}
 use Rattle.gcd_plan.specs.declared.work.Work.{Work}
-use Rattle.gcd_plan.proofs.Places.{slice_get_kept}
+use Rattle.gcd_plan.proofs.Places.{slice_get_kept, slice_get-append_left, slice_get-append_seam}
 use Rattle.gcd_plan.proofs.Quantifiers.{list_all_push}
 use Rattle.gcd_script.specs.Changes.{new_file, new_object, with_file, with_object, with_block}
 use Rattle.gcd_script.specs.Drafts.{new_block}
 use Rattle.gcd_script.proofs.Growth.{Grows, list_all_map, object_grows, block_grows}
-use Rattle.gcd_script.proofs.Inserts.{IsFit, list_all_insert, apart_insert, fit_is_new, file_inserts, object_inserts, block_inserts}
+use Rattle.gcd_script.proofs.Inserts.{IsFit, block_names, inserts_before, list_all_insert, apart_insert, fit_is_new, file_inserts, object_inserts, block_inserts}
+use Rattle.gcd_script.proofs.MadeKept.{intake_stays, strips_stay}
 use Rattle.gcd_script.proofs.Targets.{first_kept, one_more_reaches, target_is_queue, has_kind_within}
+use Rattle.gcd_script.specs.Judged.{applied_strips, strips_of}
 
 -- kinds stay where objects are added
 kinds_kept : (objects more : List ObjView) (o : ℕ) (kind : Kind) → option_map (λ (obj : ObjView). obj.kind) (slice_get objects o) ≡ Some kind → option_map (λ (obj : ObjView). obj.kind) (slice_get (objects ++ more) o) ≡ Some kind
@@ -44,20 +47,33 @@ module _ (plan : PlanView) where
   -- an object or a block with no act submits nothing
   pub object_submits : (name : List ℕ) (kind : Kind) (target : Obj) (active : Bool) (path : List ℕ) → submitted_blocks (with_object (new_object name kind target active path) plan) ≡ submitted_blocks plan
   object_submits name kind target active path =
-      let own = λ (o : ObjView). blocks_of o.handler ++ option_to_list o.cancel in
-      ap (λ xs. flat_map (λ (b : BlkView). blocks_of b.acts) plan.blocks ++ xs)
+      let own = λ (o : ObjView). blocks_of plan o.handler ++ option_to_list o.cancel in
+      ap (λ xs. flat_map (λ (b : BlkView). blocks_of plan b.acts) plan.blocks ++ xs)
       (flat_map-append own plan.objects (new_object name kind target active path ∷ []) ∙ append-nil (flat_map own plan.objects))
 
   pub block_submits : (name : List ℕ) (work : Option Work) → submitted_blocks (with_block (new_block name work) plan) ≡ submitted_blocks plan
   block_submits name work =
-      let own = λ (b : BlkView). blocks_of b.acts in
-      ap (λ xs. xs ++ flat_map (λ (o : ObjView). blocks_of o.handler ++ option_to_list o.cancel) plan.objects)
+      let own = λ (b : BlkView). blocks_of plan b.acts in
+      ap (λ xs. xs ++ flat_map (λ (o : ObjView). blocks_of plan o.handler ++ option_to_list o.cancel) plan.objects)
       (flat_map-append own plan.blocks (new_block name work ∷ []) ∙ append-nil (flat_map own plan.blocks))
+
+  -- and applies no strip
+  pub block_applies : (name : List ℕ) (work : Option Work) → applied_strips (with_block (new_block name work) plan) ≡ applied_strips plan
+  block_applies name work =
+      let own = λ (b : BlkView). strips_of b.acts in
+      flat_map-append own plan.blocks (new_block name work ∷ []) ∙ append-nil (flat_map own plan.blocks)
 
 module _ (plan : PlanView) (valid : IsPlan plan) where
   -- one file more
   file_grows : (file : FileView) → Grows plan (with_file file plan)
-  file_grows file = record { kinds = λ o kind h. h; objects = omega arith; blocks = omega arith; files = let more = length_push plan.files file in omega arith }
+  file_grows file = record {
+    kinds = λ o kind h. h;
+    objects = omega arith;
+    blocks = omega arith;
+    files = let more = length_push plan.files file in omega arith;
+    strips = omega arith;
+    declared = λ b within other. other;
+  }
 
   pub file_valid : (number : ℕ) (name path : List ℕ) → IsFit plan name → length plan.files < max_files → is_path path ≡ true → IsPlan (with_file (new_file number name path) plan)
   file_valid number name path fit few is_it =
@@ -72,14 +88,19 @@ module _ (plan : PlanView) (valid : IsPlan plan) where
         few_objects = valid.few_objects;
         few_blocks = valid.few_blocks;
         few_files = omega arith;
+        few_strips = valid.few_strips;
         few_acts = valid.few_acts;
         until_low = valid.until_low;
         until_high = valid.until_high;
         names = list_all_insert is_name inserts fit.formed valid.names;
-        names_apart = apart_insert name (names_of plan) (names_of new) inserts (fit_is_new plan name fit) valid.names_apart;
+        block_names = valid.block_names;
+        names_apart = apart_insert name (names_of plan) (names_of new) (inserts_before inserts (block_names plan)) (fit_is_new plan name fit) valid.names_apart;
         objects = list_all_map (is_object plan) (is_object new) (object_grows plan new (file_grows file)) plan.objects valid.objects;
         blocks = list_all_map (is_block plan) (is_block new) (block_grows plan new (file_grows file)) plan.blocks valid.blocks;
         files = list_all_push is_file plan.files file valid.files is_it;
+        intake = intake_stays plan new (file_grows file) (λ b block made at. at) valid.intake;
+        strips = strips_stay plan new (file_grows file) (λ b block made at. at) valid.strips;
+        apart = valid.apart;
         once = valid.once;
         targets = valid.targets;
       }
@@ -91,6 +112,8 @@ module _ (plan : PlanView) (valid : IsPlan plan) where
     objects = let more = length_push plan.objects object in omega arith;
     blocks = omega arith;
     files = omega arith;
+    strips = omega arith;
+    declared = λ b within other. other;
   }
 
   pub object_valid : (name : List ℕ) (kind : Kind) (target : Obj) (active : Bool) (path : List ℕ) → IsFit plan name → length plan.objects < max_objects → is_object plan (new_object name kind target active path) ≡ true → IsPlan (with_object (new_object name kind target active path) plan)
@@ -109,11 +132,16 @@ module _ (plan : PlanView) (valid : IsPlan plan) where
         few_objects = omega arith;
         few_blocks = valid.few_blocks;
         few_files = valid.few_files;
+        few_strips = valid.few_strips;
         few_acts = omega (arith, valid.few_acts);
         until_low = valid.until_low;
         until_high = valid.until_high;
         names = list_all_insert is_name inserts fit.formed valid.names;
-        names_apart = apart_insert name (names_of plan) (names_of new) inserts (fit_is_new plan name fit) valid.names_apart;
+        block_names = valid.block_names;
+        names_apart = apart_insert name (names_of plan) (names_of new) (inserts_before inserts (block_names plan)) (fit_is_new plan name fit) valid.names_apart;
+        intake = intake_stays plan new grows (λ b block made at. at) valid.intake;
+        strips = strips_stay plan new grows (λ b block made at. at) valid.strips;
+        apart = valid.apart;
         objects = list_all_push (is_object new) plan.objects object (list_all_map (is_object plan) (is_object new) (object_grows plan new grows) plan.objects valid.objects) (object_grows plan new grows object is_it);
         blocks = list_all_map (is_block plan) (is_block new) (block_grows plan new grows) plan.blocks valid.blocks;
         files = valid.files;
@@ -128,7 +156,26 @@ module _ (plan : PlanView) (valid : IsPlan plan) where
     objects = omega arith;
     blocks = let more = length_push plan.blocks (new_block name work) in omega arith;
     files = omega arith;
+    strips = omega arith;
+    declared = λ b within other. other;
   }
+
+  -- each block has its name
+  block_more_named : (name : List ℕ) (work : Option Work) → is_name name ≡ true → (b : ℕ) → b < length (with_block (new_block name work) plan).blocks → has_name (with_block (new_block name work) plan) b ≡ true
+  block_more_named name work formed b within =
+      let block = new_block name work in
+      let new = with_block block plan in
+      let more = length_push plan.blocks block in
+      ⊎_elim
+      (λ old.
+      ap (λ o. is_made plan b || is_name (option_map_or (λ (v : BlkView). v.name) o [])) (slice_get-append_left plan.blocks (block ∷ []) b old) ∙ valid.block_names b old)
+      (λ past.
+      let last : b ≡ length plan.blocks = omega (arith, more, within, past) in
+      or_right (is_made plan b) (is_name (name_of_blk new b))
+      (ap (λ k. is_name (name_of_blk new k)) last
+      ∙ ap (λ o. is_name (option_map_or (λ (v : BlkView). v.name) o [])) (slice_get-append_seam plan.blocks block [])
+      ∙ formed))
+      (cases_lt b (length plan.blocks))
 
   pub block_valid : (name : List ℕ) (work : Option Work) → IsFit plan name → length plan.blocks < max_blocks → option_map_or (is_work plan) work true ≡ true → IsPlan (with_block (new_block name work) plan)
   block_valid name work fit few readable =
@@ -145,11 +192,16 @@ module _ (plan : PlanView) (valid : IsPlan plan) where
         few_objects = valid.few_objects;
         few_blocks = omega arith;
         few_files = valid.few_files;
+        few_strips = valid.few_strips;
         few_acts = omega (arith, valid.few_acts);
         until_low = valid.until_low;
         until_high = valid.until_high;
-        names = list_all_insert is_name inserts fit.formed valid.names;
+        names = valid.names;
+        block_names = block_more_named name work fit.formed;
         names_apart = apart_insert name (names_of plan) (names_of new) inserts (fit_is_new plan name fit) valid.names_apart;
+        intake = intake_stays plan new grows (λ b v made at. slice_get_kept plan.blocks (block ∷ []) b v at) valid.intake;
+        strips = strips_stay plan new grows (λ b v made at. slice_get_kept plan.blocks (block ∷ []) b v at) valid.strips;
+        apart = valid.apart;
         objects = list_all_map (is_object plan) (is_object new) (object_grows plan new grows) plan.objects valid.objects;
         blocks = list_all_push (is_block new) plan.blocks block (list_all_map (is_block plan) (is_block new) (block_grows plan new grows) plan.blocks valid.blocks) (and_from (option_map_or (is_work new) work true) true readable refl);
         files = valid.files;
@@ -159,7 +211,7 @@ module _ (plan : PlanView) (valid : IsPlan plan) where
 
   -- another last due time
   until_grows : (ms : ℕ) → Grows plan (record plan { until = ms })
-  until_grows ms = record { kinds = λ o kind h. h; objects = omega arith; blocks = omega arith; files = omega arith }
+  until_grows ms = record { kinds = λ o kind h. h; objects = omega arith; blocks = omega arith; files = omega arith; strips = omega arith; declared = λ b within other. other }
 
   pub until_valid : (ms : ℕ) → 1 ≤ ms → ms ≤ max_time → IsPlan (record plan { until = ms })
   until_valid ms low high =
@@ -171,11 +223,16 @@ module _ (plan : PlanView) (valid : IsPlan plan) where
         few_objects = valid.few_objects;
         few_blocks = valid.few_blocks;
         few_files = valid.few_files;
+        few_strips = valid.few_strips;
         few_acts = valid.few_acts;
         until_low = low;
         until_high = high;
         names = valid.names;
+        block_names = valid.block_names;
         names_apart = valid.names_apart;
+        intake = intake_stays plan new (until_grows ms) (λ b block made at. at) valid.intake;
+        strips = strips_stay plan new (until_grows ms) (λ b block made at. at) valid.strips;
+        apart = valid.apart;
         objects = list_all_map (is_object plan) (is_object new) (object_grows plan new (until_grows ms)) plan.objects valid.objects;
         blocks = list_all_map (is_block plan) (is_block new) (block_grows plan new (until_grows ms)) plan.blocks valid.blocks;
         files = valid.files;

@@ -17,6 +17,8 @@ use Rattle.gcd_script.specs.declared.keyword.LimitedWait.{LimitedWait}
 use Rattle.gcd_script.specs.declared.keyword.LimitedWait.TheVariants.{WaitFor, GroupWaitFor}
 use Rattle.gcd_script.specs.declared.keyword.ObjectAct.{ObjectAct}
 use Rattle.gcd_script.specs.declared.keyword.ObjectAct.TheVariants.{Enter, Leave, GroupWait, Signal, Wait, Suspend, Resume, Activate, Cancel, Retain, Release}
+use Rattle.gcd_script.specs.declared.keyword.BlockAct.{BlockAct}
+use Rattle.gcd_script.specs.declared.keyword.BlockAct.TheVariants.{CancelBlock, WaitBlock}
 use Rattle.gcd_script.specs.declared.line.Line.{Line}
 use Rattle.gcd_script.specs.declared.line.Line.TheVariants.{AddAct}
 use Rattle.gcd_script.specs.declared.names.Asked.{Asked}
@@ -24,7 +26,7 @@ use Rattle.gcd_script.specs.declared.names.Asked.TheVariants.{Source, Node, Grou
 use Rattle.gcd_script.specs.Asked.{asks}
 use Rattle.gcd_script.specs.declared.refusal.Refusal.TheVariants.{NoForm}
 use Rattle.gcd_script.specs.Meant.{Meant, meant, both}
-use Rattle.gcd_script.specs.Words.{number, block, queue, object, object_but_root}
+use Rattle.gcd_script.specs.Words.{number, block, queue, strip, object, object_but_root}
 
 -- an act of the open body
 abbrev pub act_line : Option Run → Meant Act → Meant (Line (List ℕ))
@@ -113,3 +115,24 @@ target_act plan _ = Err NoForm
 abbrev pub merge_act : PlanView → List (List ℕ) → Meant Act
 merge_act plan (s ∷ n ∷ []) = meant (λ (o, v). act.Merge o v) (both (object plan (asks MergeSource) s) (number 0 max_value n))
 merge_act plan _ = Err NoForm
+
+-- `apply Q A` (dispatch_apply(3))
+abbrev pub apply_act : PlanView → List (List ℕ) → Meant Act
+apply_act plan (q ∷ a ∷ []) = meant (λ (o, n). act.Apply o n) (both (queue plan q) (strip plan a))
+apply_act plan _ = Err NoForm
+
+-- the act on one block
+abbrev pub acting_on : BlockAct → Blk → Act
+acting_on CancelBlock b = act.CancelBlock b
+acting_on WaitBlock b = act.WaitBlock b
+
+-- `cancel_block B`, `wait_block B`
+abbrev pub block_act : PlanView → BlockAct → List (List ℕ) → Meant Act
+block_act plan what (b ∷ []) = meant (acting_on what) (block plan b)
+block_act plan what _ = Err NoForm
+
+-- `notify_block B Q C`
+abbrev pub notify_block_act : PlanView → List (List ℕ) → Meant Act
+notify_block_act plan (b ∷ q ∷ c ∷ []) =
+    meant (λ (awaited, (o, noted)). act.NotifyBlock awaited o noted) (both (block plan b) (both (queue plan q) (block plan c)))
+notify_block_act plan _ = Err NoForm

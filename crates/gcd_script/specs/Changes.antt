@@ -2,15 +2,17 @@
 -- a handler and `main` open one.
 use Rattle.std.specs.Prelude.{ℕ, ◌+◌, Bool, true, false, List, [], ◌∷◌, ◌++◌, length, Some, None, slice_get, slice_set}
 use Rattle.std.specs.Option.{option_map_or}
-use Rattle.gcd_plan.specs.PlanView.{PlanView, ObjView, BlkView, FileView}
+use Rattle.gcd_plan.specs.PlanView.{PlanView, ObjView, BlkView, FileView, IntakeView, StripView}
+use Rattle.gcd_plan.specs.Made.{made_by_intake, made_by_strip}
 use Rattle.gcd_plan.specs.declared.act.Act.{Act}
 use Rattle.gcd_plan.specs.declared.kind.Kind.{Kind}
 use Rattle.gcd_plan.specs.declared.numbers.Blk.{Blk}
 use Rattle.gcd_plan.specs.declared.numbers.Obj.{Obj}
 use Rattle.gcd_plan.specs.declared.numbers.Run.{Run}
 use Rattle.gcd_plan.specs.declared.numbers.Run.TheVariants.{Block, Source}
+use Rattle.gcd_plan.specs.declared.work.How.{How}
 use Rattle.gcd_script.specs.declared.line.Line.{Line}
-use Rattle.gcd_script.specs.declared.line.Line.TheVariants.{DeclareFile, DeclareObject, DeclareBlock, SetUntil, SetCancel, OpenHandler, OpenMain, AddAct}
+use Rattle.gcd_script.specs.declared.line.Line.TheVariants.{DeclareFile, DeclareObject, DeclareBlock, SetUntil, SetCancel, OpenHandler, OpenMain, AddAct, DeclareIntake, DeclareStrip}
 use Rattle.gcd_script.specs.Drafts.{DraftView, new_block, counted}
 
 -- a file as it is declared on the line of this number
@@ -59,6 +61,23 @@ with_act act (Source s) plan = with_object_at s.0 (object_with_act act) plan
 abbrev pub with_cancel : (s : Obj) → (b : Blk) → PlanView → PlanView
 with_cancel s b plan = with_object_at s.0 (λ object. record object { cancel = Some b }) plan
 
+-- an intake as it is declared: its blocks come behind the others
+abbrev pub new_intake : (queue : Obj) → (count : ℕ) → PlanView → IntakeView
+new_intake queue count plan = record { queue = queue; first = length plan.blocks; count = count }
+
+-- the same of a strip (dispatch_apply(3))
+abbrev pub new_strip : (name : List ℕ) → How → (file len count : ℕ) → PlanView → StripView
+new_strip name how file len count plan =
+    record { name = name; how = how; file = file; len = len; first = length plan.blocks; count = count }
+
+-- a plan with an intake and its blocks
+abbrev pub with_intake : IntakeView → PlanView → PlanView
+with_intake i plan = record plan { blocks = plan.blocks ++ made_by_intake i; intake = Some i }
+
+-- a plan with one more strip and its blocks
+abbrev pub with_strip : StripView → PlanView → PlanView
+with_strip s plan = record plan { blocks = plan.blocks ++ made_by_strip s; strips = plan.strips ++ s ∷ [] }
+
 -- a draft with this plan, in which no body is open
 abbrev pub closed : PlanView → DraftView → DraftView
 closed plan draft = record draft { plan = plan; body = None }
@@ -79,6 +98,8 @@ change (SetCancel s b) d = closed (with_cancel s b d.plan) d
 change (OpenHandler s) d = record d { body = Some (Source s); handlers = slice_set d.handlers s.0 true }
 change OpenMain d = record d { body = Some (Block (record { 0 = 0 })); has_main = true }
 change (AddAct run act) d = record d { plan = with_act act run d.plan }
+change (DeclareIntake queue count) d = closed (with_intake (new_intake queue count d.plan) d.plan) d
+change (DeclareStrip name how file len count) d = closed (with_strip (new_strip name how file len count d.plan) d.plan) d
 
 -- the draft after a right line, which is counted
 abbrev pub after : Line (List ℕ) → DraftView → DraftView

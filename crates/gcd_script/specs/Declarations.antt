@@ -1,9 +1,9 @@
 -- What the lines that declare something mean, by the words after the first. Each definition has
 -- an equation for each number of words that its form may have; words of another number are no form.
-use Rattle.std.specs.Prelude.{ℕ, ◌&&◌, not, Bool, true, false, if◌then◌else◌, List, [], ◌∷◌, Some, None, Ok, Err, codes}
+use Rattle.std.specs.Prelude.{ℕ, ◌-◌, ◌&&◌, not, Bool, true, false, if◌then◌else◌, List, [], ◌∷◌, Some, None, is_none, Ok, Err, codes}
 use Rattle.std.specs.Option.{option_map_or}
 use Rattle.std.specs.Str.{bytes_eq}
-use Rattle.gcd_plan.specs.Limits.{max_value, max_time, max_file_bytes}
+use Rattle.gcd_plan.specs.Limits.{max_value, max_time, max_file_bytes, max_intake, max_blocks}
 use Rattle.gcd_plan.specs.PlanView.{PlanView}
 use Rattle.gcd_plan.specs.declared.kind.Kind.{Kind}
 use Rattle.gcd_plan.specs.declared.kind.Kind.TheVariants.{Group, Semaphore, Timer, Read}
@@ -12,7 +12,7 @@ use Rattle.gcd_plan.specs.declared.work.How.{How}
 use Rattle.gcd_plan.specs.declared.work.How.TheVariants.{Count}
 use Rattle.gcd_plan.specs.declared.work.Work.{Work}
 use Rattle.gcd_script.specs.declared.line.Line.{Line}
-use Rattle.gcd_script.specs.declared.line.Line.TheVariants.{DeclareFile, DeclareObject, DeclareBlock, SetUntil, SetCancel, OpenHandler, OpenMain}
+use Rattle.gcd_script.specs.declared.line.Line.TheVariants.{DeclareFile, DeclareObject, DeclareBlock, SetUntil, SetCancel, OpenHandler, OpenMain, DeclareIntake, DeclareStrip}
 use Rattle.gcd_script.specs.declared.refusal.Refusal.TheVariants.{NoForm, BadName, NotOneMain}
 use Rattle.gcd_script.specs.Keywords.{pick, queue_kinds, merge_kinds, counts}
 use Rattle.gcd_script.specs.Meant.{Meant, meant, both, given, must}
@@ -114,6 +114,21 @@ block_line plan (b ∷ w ∷ f ∷ from ∷ len ∷ []) = work_line plan b (work
 block_line plan (b ∷ count ∷ v ∷ f ∷ from ∷ len ∷ []) =
     given (bytes_eq count (codes "count")) (work_line plan b (work (counting v) (file plan f) (range from len)))
 block_line plan _ = Err NoForm
+
+-- `intake Q N`; a second one is refused as a name that is taken
+abbrev pub intake_line : PlanView → List (List ℕ) → Meant (Line (List ℕ))
+intake_line plan (q ∷ n ∷ []) =
+    meant (λ (first, (o, count)). DeclareIntake o count)
+    (both (must (is_none plan.intake) BadName) (both (queue plan q) (number 1 max_intake n)))
+intake_line plan _ = Err NoForm
+
+-- `strip A W F LEN N` (dispatch_apply(3))
+abbrev pub strip_line : PlanView → List (List ℕ) → Meant (Line (List ℕ))
+strip_line plan (a ∷ w ∷ f ∷ len ∷ n ∷ []) =
+    meant (λ (fits, (how, (from, (bytes, count)))). DeclareStrip a how from bytes count)
+    (both (new_name plan a)
+    (both (one_of counts w) (both (file plan f) (both (number 1 max_file_bytes len) (number 0 (max_blocks - 1) n)))))
+strip_line plan _ = Err NoForm
 
 -- `handler S`
 abbrev pub handler_line : PlanView → List (List ℕ) → Meant (Line (List ℕ))

@@ -29,7 +29,7 @@ new_block name work = record { name = name; acts = []; work = work }
 abbrev pub empty_draft : DraftView
 empty_draft = record {
   lines = 0;
-  plan = record { objects = root_view ∷ []; blocks = new_block (codes "main") None ∷ []; files = []; until = default_until };
+  plan = record { objects = root_view ∷ []; blocks = new_block (codes "main") None ∷ []; files = []; until = default_until; intake = None; strips = [] };
   body = None;
   has_main = false;
   has_until = false;

@@ -7,7 +7,8 @@ use Rattle.gcd_plan.specs.declared.kind.Kind.TheVariants.{Serial, Concurrent, Ad
 use Rattle.gcd_plan.specs.declared.work.How.{How}
 use Rattle.gcd_plan.specs.declared.work.How.TheVariants.{Bytes, Lines, Words, Sum}
 use Rattle.gcd_script.specs.declared.keyword.Keyword.{Keyword}
-use Rattle.gcd_script.specs.declared.keyword.Keyword.TheVariants.{File, Queue, Group, Semaphore, Source, Cancelled, Until, Block, Handler, Main, Submit, GroupSubmit, OneObject, Limited, Target, Merge}
+use Rattle.gcd_script.specs.declared.keyword.Keyword.TheVariants.{File, Queue, Group, Semaphore, Source, Cancelled, Until, Block, Handler, Main, Submit, GroupSubmit, OneObject, Limited, Target, Merge, Intake, Strip, Apply, OneBlock, NotifyBlock}
+use Rattle.gcd_script.specs.declared.keyword.BlockAct.TheVariants.{CancelBlock, WaitBlock}
 use Rattle.gcd_script.specs.declared.keyword.Submission.TheVariants.{Async, Barrier, Sync, BarrierSync}
 use Rattle.gcd_script.specs.declared.keyword.GroupSubmission.TheVariants.{GroupAsync, Notify}
 use Rattle.gcd_script.specs.declared.keyword.LimitedWait.TheVariants.{WaitFor, GroupWaitFor}
@@ -32,6 +33,8 @@ declarations =
     ∷ (codes "block", Block)
     ∷ (codes "handler", Handler)
     ∷ (codes "main", Main)
+    ∷ (codes "intake", Intake)
+    ∷ (codes "strip", Strip)
     ∷ []
 
 -- the first words of acts on more than one thing
@@ -47,6 +50,10 @@ acts =
     ∷ (codes "group_wait_for", Limited GroupWaitFor)
     ∷ (codes "target", Target)
     ∷ (codes "merge", Merge)
+    ∷ (codes "apply", Apply)
+    ∷ (codes "cancel_block", OneBlock CancelBlock)
+    ∷ (codes "wait_block", OneBlock WaitBlock)
+    ∷ (codes "notify_block", NotifyBlock)
     ∷ []
 
 -- the first words of acts on one object

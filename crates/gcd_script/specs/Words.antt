@@ -10,7 +10,7 @@ use Rattle.gcd_plan.specs.declared.kind.Kind.{Kind}
 use Rattle.gcd_plan.specs.declared.numbers.Blk.{Blk}
 use Rattle.gcd_plan.specs.declared.numbers.Obj.{Obj}
 use Rattle.gcd_script.specs.declared.meaning.Meaning.{Meaning}
-use Rattle.gcd_script.specs.declared.meaning.Meaning.TheVariants.{File, Object, Block}
+use Rattle.gcd_script.specs.declared.meaning.Meaning.TheVariants.{File, Object, Block, Strip}
 use Rattle.gcd_script.specs.declared.refusal.Refusal.TheVariants.{NoForm, BadName, UnknownName, OtherKind, BadNumber}
 use Rattle.gcd_script.specs.Meant.{Meant, must, then_meant}
 use Rattle.gcd_script.specs.Names.{meaning_of, is_unused}
@@ -41,18 +41,28 @@ abbrev pub as_file : Meaning → Meant ℕ
 as_file (File f) = Ok f
 as_file (Object o) = Err OtherKind
 as_file (Block b) = Err OtherKind
+as_file (Strip a) = Err OtherKind
 
 -- that it is a block's
 abbrev pub as_block : Meaning → Meant Blk
 as_block (File f) = Err OtherKind
 as_block (Object o) = Err OtherKind
 as_block (Block b) = Ok b
+as_block (Strip a) = Err OtherKind
+
+-- that it is a strip's
+abbrev pub as_strip : Meaning → Meant ℕ
+as_strip (File f) = Err OtherKind
+as_strip (Object o) = Err OtherKind
+as_strip (Block b) = Err OtherKind
+as_strip (Strip a) = Ok a
 
 -- that it is an object's, of such a kind
 abbrev pub as_object : PlanView → (Kind → Bool) → Meaning → Meant Obj
 as_object plan asked (File f) = Err OtherKind
 as_object plan asked (Object o) = if has_kind asked plan o.0 then Ok o else Err OtherKind
 as_object plan asked (Block b) = Err OtherKind
+as_object plan asked (Strip a) = Err OtherKind
 
 -- a file's name
 abbrev pub file : PlanView → List ℕ → Meant ℕ
@@ -61,6 +71,10 @@ file plan word = then_meant as_file (known plan word)
 -- a block's name
 abbrev pub block : PlanView → List ℕ → Meant Blk
 block plan word = then_meant as_block (known plan word)
+
+-- a strip's name
+abbrev pub strip : PlanView → List ℕ → Meant ℕ
+strip plan word = then_meant as_strip (known plan word)
 
 -- the name of an object of such a kind
 abbrev pub object : PlanView → (Kind → Bool) → List ℕ → Meant Obj

@@ -1,10 +1,10 @@
 // What the lines of acts mean, by the words after the first.
 ghost use Rattle.std.specs.Prelude.{◌≡◌, [], ◌∷◌, map};
 ghost use Rattle.gcd_plan.specs.PlanView.{view_of};
-ghost use Rattle.gcd_script.specs.Acts.{submitting, group_submitting, asked_of, acting, waited_of, waiting};
+ghost use Rattle.gcd_script.specs.Acts.{submitting, group_submitting, asked_of, acting, waited_of, waiting, acting_on};
 
 use crate::draft::Draft;
-use crate::keyword::{GroupSubmission, LimitedWait, ObjectAct, Submission};
+use crate::keyword::{BlockAct, GroupSubmission, LimitedWait, ObjectAct, Submission};
 use crate::line::Line;
 use crate::meant::{Meant, both};
 use crate::names::Asked;
@@ -100,8 +100,20 @@ impl LimitedWait {
     }
 }
 
+impl BlockAct {
+    // The act on its block.
+    fn act(self, block: Blk) -> Act
+        ensures { result ≡ acting_on self block }
+    {
+        match self {
+            BlockAct::CancelBlock => Act::CancelBlock(block),
+            BlockAct::WaitBlock => Act::WaitBlock(block),
+        }
+    }
+}
+
 impl<'a> Draft<'a> {
-    ghost use Rattle.gcd_script.specs.Acts.{act_line, submit_act, group_submit_act, object_act, limited_act, target_act, merge_act};
+    ghost use Rattle.gcd_script.specs.Acts.{act_line, submit_act, group_submit_act, object_act, limited_act, target_act, merge_act, apply_act, block_act, notify_block_act};
     ghost use Rattle.gcd_script.specs.Agreement.{DraftAgrees};
     ghost use Rattle.gcd_script.specs.Meant.{meant};
     ghost use Rattle.gcd_script.specs.Views.{line_view};
@@ -221,5 +233,53 @@ impl<'a> Draft<'a> {
             }
             _ => Err(Refusal::NoForm),
         }
+    }
+
+    /// `apply Q A` (dispatch_apply(3)).
+    pub fn apply_act(&self, words: &[&str]) -> Meant<Act>
+        requires { DraftAgrees self.now }
+        ensures { result ≡ apply_act (view_of self.now.parts) (map (λ w. w.now) words.now) }
+    {
+        match *words {
+            [queue, strip] => {
+                let (queue, strip) = both(self.object(Asked::Queue, queue), self.strip(strip))?;
+                Ok(Act::Apply(queue, strip))
+            }
+            _ => Err(Refusal::NoForm),
+        }
+    }
+
+    /// `cancel_block B` (dispatch_block_cancel(3)), `wait_block B` (dispatch_block_wait(3)).
+    pub fn block_act(&self, what: BlockAct, words: &[&str]) -> Meant<Act>
+        requires { DraftAgrees self.now }
+        ensures { result ≡ block_act (view_of self.now.parts) what (map (λ w. w.now) words.now) }
+    {
+        match *words {
+            [block] => {
+                let block = self.block(block)?;
+                Ok(what.act(block))
+            }
+            _ => Err(Refusal::NoForm),
+        }
+    }
+
+    /// `notify_block B Q C` (dispatch_block_notify(3)).
+    pub fn notify_block_act(&self, words: &[&str]) -> Meant<Act>
+        requires { DraftAgrees self.now }
+        ensures { result ≡ notify_block_act (view_of self.now.parts) (map (λ w. w.now) words.now) }
+    {
+        match *words {
+            [awaited, queue, noted] => self.noted(awaited, queue, noted),
+            _ => Err(Refusal::NoForm),
+        }
+    }
+
+    fn noted(&self, awaited: &str, queue: &str, noted: &str) -> Meant<Act>
+        requires { DraftAgrees self.now }
+        ensures { result ≡ notify_block_act (view_of self.now.parts) (awaited.now ∷ queue.now ∷ noted.now ∷ []) }
+    {
+        let submitted = both(self.object(Asked::Queue, queue), self.block(noted));
+        let (awaited, (queue, noted)) = both(self.block(awaited), submitted)?;
+        Ok(Act::NotifyBlock(awaited, queue, noted))
     }
 }

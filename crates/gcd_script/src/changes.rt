@@ -1,25 +1,16 @@
 // What a right line adds to a draft.
 ghost use Rattle.std.specs.Prelude.{◌≡◌, ◌<◌, ◌+◌, OnOk, true, false, [], ◌∷◌, ◌++◌, Some, None, length, slice_set, IfSome, vec_len};
-ghost use Rattle.gcd_script.specs.Agreement.{flags_with};
 ghost use Rattle.gcd_plan.specs.Limits.{max_blocks, max_files, max_objects};
 ghost use Rattle.gcd_plan.specs.PlanView.{view_of};
 
 use crate::additions::{declare, push_act, push_block, push_file, push_object, set_cancel};
 use crate::draft::Draft;
+use crate::flags::{add_flags, mark, mark_strip, mark_strip_blocks};
 use crate::line::Line;
+use crate::made::{push_intake, push_strip};
 use crate::meaning::Meaning;
-use gcd_plan::{Act, Blk, Kind, Obj, Parts, Run, Work};
+use gcd_plan::{Act, Blk, How, Kind, Obj, Parts, Run, Work};
 use std::alloc::{AllocError, Global};
-
-// Marks a block as submitted.
-fn mark(submitted: &mut Vec<bool>, block: Option<Blk>)
-    requires { IfSome block (λ b. b.0 < vec_len submitted.old) }
-    ensures { submitted.new.items ≡ flags_with submitted.old.items block }
-{
-    if let Some(b) = block {
-        submitted[b.0 as usize] = true;
-    }
-}
 
 impl<'a> Draft<'a> {
     ghost use Rattle.gcd_script.specs.Agreement.{DraftAgrees};
@@ -27,7 +18,7 @@ impl<'a> Draft<'a> {
     ghost use Rattle.gcd_script.specs.Names.{is_unused};
     ghost use Rattle.gcd_script.specs.Sound.{IsDraft, IsRight};
     ghost use Rattle.gcd_script.specs.Views.{draft_view, line_view};
-    ghost use Rattle.gcd_script.specs.declared.line.Line.TheVariants.{DeclareFile, DeclareObject, DeclareBlock, SetCancel, OpenHandler, AddAct};
+    ghost use Rattle.gcd_script.specs.declared.line.Line.TheVariants.{DeclareFile, DeclareObject, DeclareBlock, SetCancel, OpenHandler, AddAct, DeclareIntake, DeclareStrip};
 
     /// Adds what a right line declares, and counts the line. After an error the draft is of no use.
     pub fn add(&mut self, alloc: Global, line: &Line<&'a str>) -> Result<(), AllocError>
@@ -44,6 +35,7 @@ impl<'a> Draft<'a> {
     }
 
     // The same without the count.
+    #[tactic(auto, unfolding(crate::specs::Names::meaning_of))]
     fn change(&mut self, alloc: Global, line: &Line<&'a str>) -> Result<(), AllocError>
         requires agrees { DraftAgrees self.old }
         requires sound { IsDraft (draft_view self.old) }
@@ -76,6 +68,14 @@ impl<'a> Draft<'a> {
                 Ok(())
             }
             Line::AddAct(run, act) => self.add_act(run, act),
+            Line::DeclareIntake { queue, count } => self.add_intake(alloc, queue, count),
+            Line::DeclareStrip {
+                name,
+                how,
+                file,
+                len,
+                count,
+            } => self.add_strip(alloc, name, how, file, len, count),
         }
     }
 
@@ -168,9 +168,48 @@ impl<'a> Draft<'a> {
         ensures view { OnOk result (draft_view self.new ≡ change (AddAct run act) (draft_view self.old)) }
         ensures agrees { OnOk result (DraftAgrees self.new) }
     {
-        push_act(&mut self.parts, run, act)?;
         mark(&mut self.submitted, act.block());
+        mark_strip_blocks(&mut self.submitted, &self.parts, act.strip());
+        mark_strip(&mut self.applied, act.strip());
+        push_act(&mut self.parts, run, act)?;
         self.acts += 1;
+        Ok(())
+    }
+
+    fn add_intake(&mut self, alloc: Global, queue: Obj, count: u32) -> Result<(), AllocError>
+        requires agrees { DraftAgrees self.old }
+        requires sound { IsDraft (draft_view self.old) }
+        requires right { IsRight (draft_view self.old) (DeclareIntake queue count) }
+        ensures view { OnOk result (draft_view self.new ≡ change (DeclareIntake queue count) (draft_view self.old)) }
+        ensures agrees { OnOk result (DraftAgrees self.new) }
+    {
+        push_intake(alloc, &mut self.parts, queue, count)?;
+        add_flags(&mut self.submitted, count)?;
+        self.body = None;
+        Ok(())
+    }
+
+    fn add_strip(
+        &mut self,
+        alloc: Global,
+        name: &'a str,
+        how: How,
+        file: u32,
+        len: u32,
+        count: u32,
+    ) -> Result<(), AllocError>
+        requires agrees { DraftAgrees self.old }
+        requires sound { IsDraft (draft_view self.old) }
+        requires right { IsRight (draft_view self.old) (DeclareStrip name.now how file len count) }
+        ensures view { OnOk result (draft_view self.new ≡ change (DeclareStrip name.now how file len count) (draft_view self.old)) }
+        ensures agrees { OnOk result (DraftAgrees self.new) }
+    {
+        let strip = self.parts.strips.len() as u32;
+        push_strip(alloc, &mut self.parts, name, how, file, len, count)?;
+        add_flags(&mut self.submitted, count)?;
+        self.applied.push(false)?;
+        declare(&mut self.meanings, name, Meaning::Strip(strip))?;
+        self.body = None;
         Ok(())
     }
 

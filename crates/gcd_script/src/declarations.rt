@@ -1,11 +1,12 @@
 // What the lines that declare something mean, by the words after the first.
-ghost use Rattle.std.specs.Prelude.{◌≡◌, [], ◌∷◌, map};
-ghost use Rattle.gcd_plan.specs.Limits.{max_time, max_value};
+ghost use Rattle.std.specs.Prelude.{◌≡◌, ◌-◌, [], ◌∷◌, is_none, map};
+ghost use Rattle.gcd_plan.specs.Limits.{max_blocks, max_file_bytes, max_time, max_value};
 ghost use Rattle.gcd_plan.specs.PlanView.{view_of};
 ghost use Rattle.gcd_plan.specs.declared.kind.Kind.TheVariants.{Semaphore, Timer, Read};
-ghost use Rattle.gcd_script.specs.Declarations.{root};
+ghost use Rattle.gcd_script.specs.Declarations.{one_of, root};
+ghost use Rattle.gcd_script.specs.Keywords.{counts};
 ghost use Rattle.gcd_script.specs.Meant.{meant, both};
-ghost use Rattle.gcd_script.specs.Words.{path, number, queue};
+ghost use Rattle.gcd_script.specs.Words.{file, path, number, queue};
 
 use crate::draft::Draft;
 use crate::line::Line;
@@ -13,13 +14,15 @@ use crate::meant::{Meant, both, must};
 use crate::names::Asked;
 use crate::refusal::Refusal;
 use crate::words::{count, counting, merge_kind, number, path, queue_kind, range, work};
-use gcd_plan::{Kind, MAX_TIME, MAX_VALUE, Obj, WHOLE_FILE, Work};
+use gcd_plan::{
+    How, Kind, MAX_BLOCKS, MAX_FILE_BYTES, MAX_INTAKE, MAX_TIME, MAX_VALUE, Obj, WHOLE_FILE, Work,
+};
 
 const ROOT: Obj = Obj(0);
 
 impl<'a> Draft<'a> {
     ghost use Rattle.gcd_script.specs.Agreement.{DraftAgrees};
-    ghost use Rattle.gcd_script.specs.Declarations.{file_line, object_line, queue_line, group_line, semaphore_line, source_line, cancelled_line, until_line, work_line, block_line, handler_line, main_line};
+    ghost use Rattle.gcd_script.specs.Declarations.{file_line, object_line, queue_line, group_line, semaphore_line, source_line, cancelled_line, until_line, work_line, block_line, intake_line, strip_line, handler_line, main_line};
     ghost use Rattle.gcd_script.specs.Views.{line_view};
 
     /// `file F PATH`.
@@ -241,6 +244,90 @@ impl<'a> Draft<'a> {
             }
             _ => Err(Refusal::NoForm),
         }
+    }
+
+    /// `intake Q N`.
+    pub fn intake_line(&self, words: &[&'a str]) -> Meant<Line<&'a str>>
+        requires { DraftAgrees self.now }
+        ensures { meant line_view result ≡ intake_line (view_of self.now.parts) (map (λ w. w.now) words.now) }
+    {
+        match *words {
+            [queue, count] => self.intake_of(queue, count),
+            _ => Err(Refusal::NoForm),
+        }
+    }
+
+    fn intake_of(&self, queue: &str, blocks: &str) -> Meant<Line<&'a str>>
+        requires { DraftAgrees self.now }
+        ensures { meant line_view result ≡ intake_line (view_of self.now.parts) (queue.now ∷ blocks.now ∷ []) }
+    {
+        let first = must(self.has_no_intake(), Refusal::BadName);
+        let what = both(
+            self.object(Asked::Queue, queue),
+            number(1, MAX_INTAKE, blocks),
+        );
+        let ((), (queue, count)) = both(first, what)?;
+        Ok(Line::DeclareIntake { queue, count })
+    }
+
+    // Whether no line declares an intake.
+    fn has_no_intake(&self) -> bool
+        ensures { result ≡ is_none (view_of self.now.parts).intake }
+    {
+        self.parts.intake.is_none()
+    }
+
+    /// `strip A W F LEN N` (dispatch_apply(3)).
+    pub fn strip_line(&self, words: &[&'a str]) -> Meant<Line<&'a str>>
+        requires { DraftAgrees self.now }
+        ensures { meant line_view result ≡ strip_line (view_of self.now.parts) (map (λ w. w.now) words.now) }
+    {
+        match *words {
+            [name, how, file, len, count] => self.named_strip(name, how, file, len, count),
+            _ => Err(Refusal::NoForm),
+        }
+    }
+
+    // What the blocks of a strip count, of which file, how many bytes each, and how many blocks there are.
+    fn strip_parts(
+        &self,
+        how: &str,
+        from: &str,
+        len: &str,
+        blocks: &str,
+    ) -> Meant<(How, (u32, (u32, u32)))>
+        requires { DraftAgrees self.now }
+        ensures { result ≡ both (one_of counts how.now)
+            (both (file (view_of self.now.parts) from.now)
+            (both (number 1 max_file_bytes len.now) (number 0 (max_blocks - 1) blocks.now))) }
+    {
+        let parts = both(
+            number(1, MAX_FILE_BYTES, len),
+            number(0, MAX_BLOCKS - 1, blocks),
+        );
+        both(count(how), both(self.file(from), parts))
+    }
+
+    fn named_strip(
+        &self,
+        name: &'a str,
+        how: &str,
+        file: &str,
+        len: &str,
+        blocks: &str,
+    ) -> Meant<Line<&'a str>>
+        requires { DraftAgrees self.now }
+        ensures { meant line_view result ≡ strip_line (view_of self.now.parts) (name.now ∷ how.now ∷ file.now ∷ len.now ∷ blocks.now ∷ []) }
+    {
+        let what = self.strip_parts(how, file, len, blocks);
+        let ((), (how, (file, (len, count)))) = both(self.new_name(name), what)?;
+        Ok(Line::DeclareStrip {
+            name,
+            how,
+            file,
+            len,
+            count,
+        })
     }
 
     /// `handler S` (dispatch_source_set_event_handler(3)).

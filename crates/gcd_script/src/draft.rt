@@ -10,7 +10,7 @@ use std::alloc::{AllocError, Global};
 use std::collections::HashMap;
 
 /// What the lines so far declare: the parts of the plan and the open body, and beside them what each name means, which
-/// blocks are submitted and how many acts there are.
+/// blocks are submitted, which strips are applied and how many acts there are.
 #[derive(Drop)]
 pub struct Draft<'a> {
     pub lines: u32,
@@ -21,6 +21,7 @@ pub struct Draft<'a> {
     pub handlers: Vec<bool>,
     pub meanings: HashMap<&'a str, Meaning>,
     pub submitted: Vec<bool>,
+    pub applied: Vec<bool>,
     pub acts: usize,
 }
 
@@ -45,6 +46,7 @@ impl<'a> Draft<'a> {
             handlers: vec![in alloc; false]?,
             meanings,
             submitted: vec![in alloc; false]?,
+            applied: Vec::new(alloc),
             acts: 0,
         })
     }
@@ -67,5 +69,7 @@ fn first_parts(alloc: Global) -> Result<Parts, AllocError>
         blocks: vec![in alloc; BlkPart::new(alloc, "main")?]?,
         files: Vec::new(alloc),
         until: DEFAULT_UNTIL,
+        intake: None,
+        strips: Vec::new(alloc),
     })
 }

@@ -9,7 +9,7 @@ use crate::keyword::Keyword;
 use crate::line::Line;
 use crate::meant::Meant;
 use crate::refusal::Refusal;
-use gcd_plan::{Act, Blk, MAX_ACTS, MAX_BLOCKS, MAX_FILES, MAX_OBJECTS, Obj, Run};
+use gcd_plan::{Act, Blk, MAX_ACTS, MAX_BLOCKS, MAX_FILES, MAX_OBJECTS, MAX_STRIPS, Obj, Run};
 
 // Whether the body may have the act.
 fn may_have(run: Run, act: Act) -> bool
@@ -34,17 +34,20 @@ fn is_allowed(line: &Line<&str>) -> bool
         Line::OpenHandler(_) => true,
         Line::OpenMain => true,
         Line::AddAct(run, act) => may_have(run, act),
+        Line::DeclareIntake { .. } => true,
+        Line::DeclareStrip { .. } => true,
     }
 }
 
 impl<'a> Draft<'a> {
-    ghost use Rattle.std.specs.Prelude.{is_none, true};
+    ghost use Rattle.std.specs.Prelude.{◌+◌, is_none, length, nat_le, true};
     ghost use Rattle.std.specs.Option.{option_map_or};
     ghost use Rattle.gcd_plan.specs.PlanView.{cancel_block};
-    ghost use Rattle.gcd_plan.specs.Validity.{block_of};
+    ghost use Rattle.gcd_plan.specs.Limits.{max_blocks};
+    ghost use Rattle.gcd_plan.specs.Validity.{block_of, strip_of};
     ghost use Rattle.gcd_script.specs.Agreement.{DraftAgrees};
     ghost use Rattle.gcd_script.specs.Forms.{line_by, form_of};
-    ghost use Rattle.gcd_script.specs.Judged.{is_free, is_untaken, has_room, line_of};
+    ghost use Rattle.gcd_script.specs.Judged.{is_free, is_unapplied, is_untaken_by, is_untaken, has_room, line_of};
     ghost use Rattle.gcd_script.specs.Meant.{meant};
     ghost use Rattle.gcd_script.specs.Views.{draft_view};
 
@@ -70,6 +73,11 @@ impl<'a> Draft<'a> {
             Keyword::Limited(what) => self.act_line(self.limited_act(what, words)),
             Keyword::Target => self.act_line(self.target_act(words)),
             Keyword::Merge => self.act_line(self.merge_act(words)),
+            Keyword::Intake => self.intake_line(words),
+            Keyword::Strip => self.strip_line(words),
+            Keyword::Apply => self.act_line(self.apply_act(words)),
+            Keyword::OneBlock(what) => self.act_line(self.block_act(what, words)),
+            Keyword::NotifyBlock => self.act_line(self.notify_block_act(words)),
         }
     }
 
@@ -103,6 +111,40 @@ impl<'a> Draft<'a> {
         }
     }
 
+    // Whether no earlier line applies the strip.
+    fn is_unapplied(&self, a: u32) -> bool
+        requires { DraftAgrees self.now }
+        ensures { result ≡ is_unapplied (view_of self.now.parts) a }
+    {
+        !self.applied.get(a as usize).copied().unwrap_or(false)
+    }
+
+    // The same of the strip that an act applies, if it applies one (dispatch_apply(3)).
+    fn applies_free(&self, act: Act) -> bool
+        requires { DraftAgrees self.now }
+        ensures { result ≡ option_map_or (is_unapplied (view_of self.now.parts)) (strip_of act) true }
+    {
+        match act.strip() {
+            Some(a) => self.is_unapplied(a),
+            None => true,
+        }
+    }
+
+    // Whether what the act takes is not taken.
+    fn is_untaken_by(&self, act: Act) -> bool
+        requires { DraftAgrees self.now }
+        ensures { result ≡ is_untaken_by (view_of self.now.parts) act }
+    {
+        self.submits_free(act) && self.applies_free(act)
+    }
+
+    // Whether there is room for so many blocks more.
+    fn has_block_room(&self, count: u32) -> bool
+        ensures { result ≡ nat_le (length (view_of self.now.parts).blocks + count) max_blocks }
+    {
+        count <= MAX_BLOCKS && self.parts.blocks.len() <= (MAX_BLOCKS - count) as usize
+    }
+
     // Whether the source has no cancellation block yet.
     fn lacks_cancel(&self, s: Obj) -> bool
         ensures { result ≡ is_none (cancel_block (view_of self.now.parts) s.0) }
@@ -126,7 +168,9 @@ impl<'a> Draft<'a> {
             Line::SetCancel { source, block } => self.is_free(block) && self.lacks_cancel(source),
             Line::OpenHandler(s) => !self.handlers.get(s.0 as usize).copied().unwrap_or(false),
             Line::OpenMain => true,
-            Line::AddAct(_, act) => self.submits_free(act),
+            Line::AddAct(_, act) => self.is_untaken_by(act),
+            Line::DeclareIntake { .. } => true,
+            Line::DeclareStrip { .. } => true,
         }
     }
 
@@ -144,6 +188,10 @@ impl<'a> Draft<'a> {
             Line::OpenHandler(_) => true,
             Line::OpenMain => true,
             Line::AddAct(..) => self.acts < MAX_ACTS as usize,
+            Line::DeclareIntake { count, .. } => self.has_block_room(count),
+            Line::DeclareStrip { count, .. } => {
+                self.has_block_room(count) && self.parts.strips.len() < MAX_STRIPS as usize
+            }
         }
     }
 

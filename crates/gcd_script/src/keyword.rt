@@ -37,6 +37,25 @@ pub enum Keyword {
     Target,
     /// `merge` (dispatch_source_merge_data(3)).
     Merge,
+    /// `intake`: blocks for closures from outside.
+    Intake,
+    /// `strip`: blocks that count one part of a file after the other (dispatch_apply(3)).
+    Strip,
+    /// `apply` (dispatch_apply(3)).
+    Apply,
+    /// An act on one block.
+    OneBlock(BlockAct),
+    /// `notify_block` (dispatch_block_notify(3)).
+    NotifyBlock,
+}
+
+/// What an act does with one block.
+#[derive(Clone, Copy)]
+pub enum BlockAct {
+    /// `cancel_block` (dispatch_block_cancel(3)).
+    CancelBlock,
+    /// `wait_block` (dispatch_block_wait(3)).
+    WaitBlock,
 }
 
 /// How an act submits a block to a queue.
@@ -163,6 +182,10 @@ fn declaration(word: &str) -> Option<Keyword>
         Some(Keyword::Handler)
     } else if word == "main" {
         Some(Keyword::Main)
+    } else if word == "intake" {
+        Some(Keyword::Intake)
+    } else if word == "strip" {
+        Some(Keyword::Strip)
     } else {
         None
     }
@@ -192,6 +215,14 @@ fn act(word: &str) -> Option<Keyword>
         Some(Keyword::Target)
     } else if word == "merge" {
         Some(Keyword::Merge)
+    } else if word == "apply" {
+        Some(Keyword::Apply)
+    } else if word == "cancel_block" {
+        Some(Keyword::OneBlock(BlockAct::CancelBlock))
+    } else if word == "wait_block" {
+        Some(Keyword::OneBlock(BlockAct::WaitBlock))
+    } else if word == "notify_block" {
+        Some(Keyword::NotifyBlock)
     } else {
         None
     }

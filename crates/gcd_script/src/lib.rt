@@ -30,6 +30,8 @@
 //! | `cancelled S B` | B is the cancellation block of the source S, and so is submitted (dispatch_source_set_cancel_handler(3)) |
 //! | `until MS` | the last due time of timers and limit of waits, 1 to `MAX_TIME`; 1000 when absent |
 //! | `block B`, `block B W F`, `block B W F FROM LEN`, `block B count V F`, `block B count V F FROM LEN` | W is `bytes`, `lines`, `words` or `sum`, F a file, V 0 to 255, FROM and LEN at most `MAX_FILE_BYTES` |
+//! | `intake Q N` | N blocks for closures from outside, named `+1` to `+N`, 1 to `MAX_INTAKE`, on the queue Q |
+//! | `strip A W F LEN N` | N blocks named `A.0` to `A.(N-1)`, N below `MAX_BLOCKS`: `A.i` has the work W over LEN bytes of F, 1 to `MAX_FILE_BYTES`, from LEN * i on (dispatch_apply(3)) |
 //! | `handler S` | the acts of the source S (dispatch_source_set_event_handler(3)) |
 //! | `main` | the acts of `main` |
 //!
@@ -48,17 +50,24 @@
 //! | `merge S N` | an add, or or replace source, N 0 to `MAX_VALUE` | yes |
 //! | `cancel S` | a source | yes |
 //! | `retain O`, `release O` | any object but `root` | yes |
+//! | `apply Q A` | a queue, a strip (dispatch_apply(3)) | no |
+//! | `cancel_block B` | a block (dispatch_block_cancel(3)) | yes |
+//! | `wait_block B` | a block (dispatch_block_wait(3)) | no |
+//! | `notify_block B Q C` | a block, a queue, a block (dispatch_block_notify(3)) | no |
+//!
+//! The blocks of an intake and of strips come behind the blocks above the line. No line can name them, since `+1` and `A.0` are
+//! no names.
 //!
 //! | code | [`Refusal`] | where |
 //! |---|---|---|
 //! | 1 | `NoForm` | the line has another byte, or is of no form, or is an act outside a body |
-//! | 2 | `BadName` | the declared name is ill-formed, reserved or taken, or it is a second `until` |
+//! | 2 | `BadName` | the declared name is ill-formed, reserved or taken, or it is a second `until` or `intake` |
 //! | 3 | `UnknownName` | a used name is not declared above |
 //! | 4 | `OtherKind` | a used name is of another kind than the form asks |
 //! | 5 | `BadNumber` | a word in a number's place is no number, or out of its range |
-//! | 6 | `Repeated` | the block is submitted above, or the source has a handler or a cancellation block already |
+//! | 6 | `Repeated` | the block is submitted above, or the strip applied, or the source has a handler or a cancellation block already |
 //! | 7 | `InHandler` | the act is not allowed in a handler |
-//! | 8 | `PastLimit` | the line is one more than `MAX_FILES`, `MAX_OBJECTS`, `MAX_BLOCKS` or `MAX_ACTS` of `gcd_plan` allows |
+//! | 8 | `PastLimit` | with what the line adds there are more than `MAX_FILES`, `MAX_OBJECTS`, `MAX_BLOCKS`, `MAX_STRIPS` or `MAX_ACTS` of `gcd_plan` allow |
 //! | 9 | `NotOneMain` | it is a second `main`; or there is none, and the line is the number of lines plus one |
 //!
 //! Where words have no fault of their own the codes 6 to 8 are judged: they exceed those of words, so the lowest is told.
@@ -75,10 +84,12 @@ mod changes;
 mod declarations;
 mod draft;
 mod fault;
+mod flags;
 mod judge;
 mod keyword;
 pub mod laws;
 mod line;
+mod made;
 mod meaning;
 mod meant;
 mod names;

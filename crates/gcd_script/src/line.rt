@@ -1,6 +1,6 @@
 // What a line does.
 
-use gcd_plan::{Act, Blk, Kind, Obj, Run, Work};
+use gcd_plan::{Act, Blk, How, Kind, Obj, Run, Work};
 
 /// What a line of one of the forms does, with what its words mean. New names and paths are texts `N`.
 #[derive(Clone, Copy)]
@@ -35,6 +35,19 @@ pub enum Line<N> {
     OpenHandler(Obj),
     /// `main`: the acts of `main` follow.
     OpenMain,
+    /// `intake Q N`: so many blocks for closures from outside, on the queue.
+    DeclareIntake {
+        queue: Obj,
+        count: u32,
+    },
+    /// `strip A W F LEN N`: so many blocks, each with the work over the next LEN bytes of the file (dispatch_apply(3)).
+    DeclareStrip {
+        name: N,
+        how: How,
+        file: u32,
+        len: u32,
+        count: u32,
+    },
     /// An act of that body.
     AddAct(Run, Act),
 }

@@ -11,4 +11,6 @@ pub enum Meaning {
     Object(Obj),
     /// A block.
     Block(Blk),
+    /// A strip, by its number from 0 (dispatch_apply(3)).
+    Strip(u32),
 }

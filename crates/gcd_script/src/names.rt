@@ -45,7 +45,7 @@ impl<'a> Draft<'a> {
     ghost use Rattle.gcd_script.specs.Agreement.{DraftAgrees};
     ghost use Rattle.gcd_script.specs.Asked.{asks};
     ghost use Rattle.gcd_script.specs.Names.{is_unused};
-    ghost use Rattle.gcd_script.specs.Words.{new_name, known, as_object, file, block, object, object_but_root};
+    ghost use Rattle.gcd_script.specs.Words.{new_name, known, as_object, file, block, strip, object, object_but_root};
 
     // Whether a line may declare the name.
     fn is_unused(&self, name: &str) -> bool
@@ -72,6 +72,7 @@ impl<'a> Draft<'a> {
             Some(Meaning::File(file)) => Ok(file),
             Some(Meaning::Object(_)) => Err(Refusal::OtherKind),
             Some(Meaning::Block(_)) => Err(Refusal::OtherKind),
+            Some(Meaning::Strip(_)) => Err(Refusal::OtherKind),
             None => Err(Refusal::UnknownName),
         }
     }
@@ -85,6 +86,21 @@ impl<'a> Draft<'a> {
             Some(Meaning::File(_)) => Err(Refusal::OtherKind),
             Some(Meaning::Object(_)) => Err(Refusal::OtherKind),
             Some(Meaning::Block(block)) => Ok(block),
+            Some(Meaning::Strip(_)) => Err(Refusal::OtherKind),
+            None => Err(Refusal::UnknownName),
+        }
+    }
+
+    /// A strip's number, by its name (dispatch_apply(3)).
+    pub fn strip(&self, name: &str) -> Meant<u32>
+        requires { DraftAgrees self.now }
+        ensures { result ≡ strip (view_of self.now.parts) name.now }
+    {
+        match self.meaning(name) {
+            Some(Meaning::File(_)) => Err(Refusal::OtherKind),
+            Some(Meaning::Object(_)) => Err(Refusal::OtherKind),
+            Some(Meaning::Block(_)) => Err(Refusal::OtherKind),
+            Some(Meaning::Strip(strip)) => Ok(strip),
             None => Err(Refusal::UnknownName),
         }
     }
@@ -114,6 +130,7 @@ impl<'a> Draft<'a> {
                 }
             }
             Some(Meaning::Block(_)) => Err(Refusal::OtherKind),
+            Some(Meaning::Strip(_)) => Err(Refusal::OtherKind),
             None => Err(Refusal::UnknownName),
         }
     }

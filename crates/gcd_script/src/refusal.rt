@@ -7,7 +7,7 @@ ghost use Rattle.gcd_script.specs.Codes.{refusal_code};
 pub enum Refusal {
     /// The line has a byte other than 32 to 126, or is of no form, or is an act outside a body.
     NoForm,
-    /// The declared name is ill-formed, reserved or taken; or it is a second `until`.
+    /// The declared name is ill-formed, reserved or taken; or it is a second `until` or `intake`.
     BadName,
     /// A used name is not declared on an earlier line.
     UnknownName,
@@ -15,11 +15,11 @@ pub enum Refusal {
     OtherKind,
     /// A word in a number's place is no number, or out of its range.
     BadNumber,
-    /// An earlier line submits the block, or the source has a handler or a cancellation block already.
+    /// An earlier line submits the block or applies the strip, or the source has a handler or a cancellation block already.
     Repeated,
     /// The act is not allowed in a handler: it submits a block or waits.
     InHandler,
-    /// The line passes a limit on files, objects, blocks or acts; or a script or a file has more bytes than it may.
+    /// The line passes a limit on files, objects, blocks, strips or acts; or a script or a file has more bytes than it may.
     PastLimit,
     /// It is a second `main`; or there is none, and the line is the number of lines plus one.
     NotOneMain,

@@ -8,7 +8,7 @@ use std::time::Instant;
 
 // What is answered to a text.
 #[derive(Clone, Copy, Debug, PartialEq, Eq)]
-enum Answer {
+pub enum Answer {
     // how many objects, blocks and files the plan has, `root` and `main` among them
     Plan(u32, u32, usize),
     // the line and the code
@@ -16,7 +16,7 @@ enum Answer {
     Memory,
 }
 
-fn answer_of(rt: &impl Abort, alloc: Global, text: &str) -> Answer {
+pub fn answer_of(rt: &impl Abort, alloc: Global, text: &str) -> Answer {
     assert!(rt; text.len() < 10_000_000);
     match parse(alloc, text.as_bytes()) {
         Ok(plan) => Answer::Plan(plan.objects(), plan.blocks(), plan.files().len()),

@@ -36,6 +36,10 @@ fn awaited(act: Act) -> Option<Obj>
         Act::Cancel(_) => None,
         Act::Retain(_) => None,
         Act::Release(_) => None,
+        Act::Apply(_, _) => None,
+        Act::CancelBlock(_) => None,
+        Act::WaitBlock(_) => None,
+        Act::NotifyBlock(_, _, _) => None,
     }
 }
 

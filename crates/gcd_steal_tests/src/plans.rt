@@ -19,6 +19,8 @@ fn parts(alloc: Global, queues: u32) -> Result<Parts, AllocError> {
         blocks: vec![in alloc; main]?,
         files: Vec::new(alloc),
         until: 1000,
+        intake: None,
+        strips: Vec::new(alloc),
     })
 }
 

@@ -4,23 +4,23 @@ use Rattle.std.proofs.lemmas.Bool.{cases_eq, cases_lt}
 use Rattle.std.proofs.lemmas.List.{length-set, length-replicate, get_or-set_same, get_or-set_other, get_or_past}
 use Rattle.std.proofs.lemmas.Option.{none-some}
 use Rattle.gcd_plan.specs.declared.reason.Reason.{Reason}
-use Rattle.gcd_plan.specs.declared.reason.Reason.TheVariants.{Block, Group, Rank}
+use Rattle.gcd_plan.specs.declared.reason.Reason.TheVariants.{Block, Group, Strip, Rank}
 use Rattle.gcd_plan.proofs.Places.{get_or-replicate_same}
 use Rattle.gcd_sync.specs.WaitsView.{WaitsView, reason_at, limit_at, has_expired_at, Fits, AllFit}
 
-abbrev seen : List (Option Reason) → List (Option ℕ) → List Bool → ℕ → WaitsView
-seen reasons limits expired objects = record { reasons = reasons; limits = limits; expired = expired; objects = objects }
+abbrev seen : List (Option Reason) → List (Option ℕ) → List Bool → (objects strips : ℕ) → WaitsView
+seen reasons limits expired objects strips = record { reasons = reasons; limits = limits; expired = expired; objects = objects; strips = strips }
 
 -- before the first event none is parked
-module _ (n room objects : ℕ) (reasons : List (Option Reason)) (limits : List (Option ℕ)) (expired : List Bool)
+module _ (n room objects strips : ℕ) (reasons : List (Option Reason)) (limits : List (Option ℕ)) (expired : List Bool)
     (reasons_are : reasons ≡ replicate n None) (limits_are : limits ≡ replicate room None) (expired_are : expired ≡ replicate n false) where
   long : length reasons ≡ n
   long = ap length reasons_are ∙ length-replicate n None
 
-  none_at : (b : ℕ) → reason_at (seen reasons limits expired objects) b ≡ None
+  none_at : (b : ℕ) → reason_at (seen reasons limits expired objects strips) b ≡ None
   none_at b = ap (λ xs. get_or xs b None) reasons_are ∙ get_or-replicate_same n b None
 
-  pub none_fit : AllFit (seen reasons limits expired objects)
+  pub none_fit : AllFit (seen reasons limits expired objects strips)
   none_fit = record {
     fits = λ b why found. absurd (none-some why (sym (none_at b) ∙ found));
     expired = ap length expired_are ∙ length-replicate n false ∙ sym long;
@@ -29,25 +29,26 @@ module _ (n room objects : ℕ) (reasons : List (Option Reason)) (limits : List 
   }
 
 -- where the blocks are as many, the same fits
-fits_still : (before after : WaitsView) → length after.reasons ≡ length before.reasons → after.objects ≡ before.objects → (why : Reason)
-    → Fits before why → Fits after why
-fits_still before after same objects (Block b) fits = subst (λ n. b.0 < n) (sym same) fits
-fits_still before after same objects (Group g position) fits = (subst (λ n. g.0 < n) (sym objects) fits.0, fits.1)
-fits_still before after same objects (Rank s rank) fits = (subst (λ n. s.0 < n) (sym objects) fits.0, fits.1)
+fits_still : (before after : WaitsView) → length after.reasons ≡ length before.reasons → after.objects ≡ before.objects → after.strips ≡ before.strips
+    → (why : Reason) → Fits before why → Fits after why
+fits_still before after same objects strips (Block b) fits = subst (λ n. b.0 < n) (sym same) fits
+fits_still before after same objects strips (Group g position) fits = (subst (λ n. g.0 < n) (sym objects) fits.0, fits.1)
+fits_still before after same objects strips (Strip a) fits = subst (λ n. a < n) (sym strips) fits
+fits_still before after same objects strips (Rank s rank) fits = (subst (λ n. s.0 < n) (sym objects) fits.0, fits.1)
 
-module _ (reasons : List (Option Reason)) (limits : List (Option ℕ)) (expired : List Bool) (objects b : ℕ) (all : AllFit (seen reasons limits expired objects))
+module _ (reasons : List (Option Reason)) (limits : List (Option ℕ)) (expired : List Bool) (objects strips b : ℕ) (all : AllFit (seen reasons limits expired objects strips))
     (within : b < length reasons) where
   -- one block waits for what fits from now on, or for nothing, and has no limit then
-  module _ (reason : Option Reason) (limit : Option ℕ) (fits : IfSome reason (Fits (seen reasons limits expired objects))) (bare : reason ≡ None → limit ≡ None) where
+  module _ (reason : Option Reason) (limit : Option ℕ) (fits : IfSome reason (Fits (seen reasons limits expired objects strips))) (bare : reason ≡ None → limit ≡ None) where
     abbrev after : WaitsView
-    after = seen (set reasons b reason) (set limits b limit) (set expired b false) objects
+    after = seen (set reasons b reason) (set limits b limit) (set expired b false) objects strips
 
-    fits_as_before : (x : ℕ) (why : Reason) → reason_at after x ≡ Some why → Fits (seen reasons limits expired objects) why
+    fits_as_before : (x : ℕ) (why : Reason) → reason_at after x ≡ Some why → Fits (seen reasons limits expired objects strips) why
     fits_as_before x why found =
         elim (cases_eq x b) [
           | inl at ↦
               let here = subst (λ y. reason_at after y ≡ Some why) at found in
-              subst (λ o. IfSome o (Fits (seen reasons limits expired objects))) (sym (get_or-set_same reasons b reason None within) ∙ here) fits
+              subst (λ o. IfSome o (Fits (seen reasons limits expired objects strips))) (sym (get_or-set_same reasons b reason None within) ∙ here) fits
           | inr apart ↦ all.fits x why (sym (get_or-set_other reasons b x reason None apart) ∙ found)
         ]
 
@@ -77,25 +78,25 @@ module _ (reasons : List (Option Reason)) (limits : List (Option ℕ)) (expired 
         ]
 
     -- each reason fits still
-    one_changed : AllFit (seen (set reasons b reason) (set limits b limit) (set expired b false) objects)
+    one_changed : AllFit (seen (set reasons b reason) (set limits b limit) (set expired b false) objects strips)
     one_changed = record {
-      fits = λ x why found. fits_still (seen reasons limits expired objects) after (length-set reasons b reason) refl why (fits_as_before x why found);
+      fits = λ x why found. fits_still (seen reasons limits expired objects strips) after (length-set reasons b reason) refl refl why (fits_as_before x why found);
       expired = length-set expired b false ∙ all.expired ∙ sym (length-set reasons b reason);
       awake = awake_still;
       kept = kept_still;
     }
 
     -- the same, as the arrays are seen
-    pub changed_fit : (kept : List (Option ℕ)) → kept ≡ set limits b limit → (flags : List Bool) → flags ≡ set expired b false → AllFit (seen (set reasons b reason) kept flags objects)
+    pub changed_fit : (kept : List (Option ℕ)) → kept ≡ set limits b limit → (flags : List Bool) → flags ≡ set expired b false → AllFit (seen (set reasons b reason) kept flags objects strips)
     changed_fit kept kept_is flags is =
-        subst (λ ls. AllFit (seen (set reasons b reason) ls flags objects)) (sym kept_is)
-        (subst (λ xs. AllFit (seen (set reasons b reason) (set limits b limit) xs objects)) (sym is) one_changed)
+        subst (λ ls. AllFit (seen (set reasons b reason) ls flags objects strips)) (sym kept_is)
+        (subst (λ xs. AllFit (seen (set reasons b reason) (set limits b limit) xs objects strips)) (sym is) one_changed)
 
 -- what the arrays are seen as has the blocks, and asks the same of reasons
-pub within_view : {reasons : List (Option Reason)} {limits : List (Option ℕ)} {expired : List Bool} {objects : ℕ} {v : WaitsView} → seen reasons limits expired objects ≡ v
+pub within_view : {reasons : List (Option Reason)} {limits : List (Option ℕ)} {expired : List Bool} {objects strips : ℕ} {v : WaitsView} → seen reasons limits expired objects strips ≡ v
     → (b : ℕ) → b < length v.reasons → b < length reasons
 within_view is b lt = subst (λ w. b < length w.reasons) (sym is) lt
 
-pub fits_view : {reasons : List (Option Reason)} {limits : List (Option ℕ)} {expired : List Bool} {objects : ℕ} {v : WaitsView} → seen reasons limits expired objects ≡ v
-    → (why : Reason) → Fits v why → Fits (seen reasons limits expired objects) why
+pub fits_view : {reasons : List (Option Reason)} {limits : List (Option ℕ)} {expired : List Bool} {objects strips : ℕ} {v : WaitsView} → seen reasons limits expired objects strips ≡ v
+    → (why : Reason) → Fits v why → Fits (seen reasons limits expired objects strips) why
 fits_view is why fits = subst (λ w. Fits w why) (sym is) fits

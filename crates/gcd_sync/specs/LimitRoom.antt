@@ -4,7 +4,7 @@ use Rattle.std.specs.Prelude.{ℕ, Bool, true, false, if◌then◌else◌, lengt
 use Rattle.std.specs.List.{list_any}
 use Rattle.gcd_plan.specs.PlanView.{PlanView, BlkView}
 use Rattle.gcd_plan.specs.declared.act.Act.{Act}
-use Rattle.gcd_plan.specs.declared.act.Act.TheVariants.{Async, Barrier, Sync, BarrierSync, GroupAsync, Notify, Enter, Leave, GroupWait, GroupWaitFor, Signal, Wait, WaitFor, Suspend, Resume, Activate, Target, Merge, Cancel, Retain, Release}
+use Rattle.gcd_plan.specs.declared.act.Act.TheVariants.{Async, Barrier, Sync, BarrierSync, GroupAsync, Notify, Enter, Leave, GroupWait, GroupWaitFor, Signal, Wait, WaitFor, Suspend, Resume, Activate, Target, Merge, Cancel, Retain, Release, Apply, CancelBlock, WaitBlock, NotifyBlock}
 
 -- the act waits with a limit
 abbrev pub has_limit : Act → Bool
@@ -29,6 +29,10 @@ has_limit (Merge s n) = false
 has_limit (Cancel s) = false
 has_limit (Retain o) = false
 has_limit (Release o) = false
+has_limit (Apply q a) = false
+has_limit (CancelBlock b) = false
+has_limit (WaitBlock b) = false
+has_limit (NotifyBlock b q c) = false
 
 -- an act of the block waits with a limit
 abbrev pub has_limits : BlkView → Bool

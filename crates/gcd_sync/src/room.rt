@@ -32,6 +32,10 @@ fn has_limit(act: Act) -> bool
         Act::Cancel(_) => false,
         Act::Retain(_) => false,
         Act::Release(_) => false,
+        Act::Apply(_, _) => false,
+        Act::CancelBlock(_) => false,
+        Act::WaitBlock(_) => false,
+        Act::NotifyBlock(_, _, _) => false,
     }
 }
 

@@ -4,6 +4,7 @@ ghost use Rattle.gcd_sync.specs.WaitsView.{waits_of, reason_at, limit_at, has_ex
 
 use crate::limit::Limit;
 use crate::room::limit_room;
+use gcd_apply::Strips;
 use gcd_bits::BitSet;
 use gcd_group::Groups;
 use gcd_plan::{Blk, Plan, Reason};
@@ -12,7 +13,7 @@ use std::alloc::{AllocError, Global};
 use std::marker::Model;
 
 /// What each block of a plan waits for, where it is parked, until when, and whether its wait has expired (dispatch_sync(3),
-/// dispatch_group_wait(3), dispatch_semaphore_wait(3)). Contracts see it as plain lists by block (`WaitsView`).
+/// dispatch_group_wait(3), dispatch_semaphore_wait(3), dispatch_apply(3), dispatch_block_wait(3)). Contracts see it as plain lists by block (`WaitsView`).
 #[derive(Debug, Drop)]
 pub struct Waits {
     reasons: Vec<Option<Reason>>,
@@ -20,6 +21,7 @@ pub struct Waits {
     limits: Vec<Limit>,
     expired: BitSet,
     objects: u32,
+    strips: usize,
 }
 
 impl Model for Waits {
@@ -27,9 +29,9 @@ impl Model for Waits {
 
     ghost Value = { WaitsView };
 
-    ghost view = { λ w. record { reasons = w.reasons.items; limits = w.limits.items; expired = w.expired; objects = w.objects } };
+    ghost view = { λ w. record { reasons = w.reasons.items; limits = w.limits.items; expired = w.expired; objects = w.objects; strips = w.strips } };
 
-    ghost invariant = { λ w. AllFit (record { reasons = w.reasons.items; limits = w.limits.items; expired = w.expired; objects = w.objects }) };
+    ghost invariant = { λ w. AllFit (record { reasons = w.reasons.items; limits = w.limits.items; expired = w.expired; objects = w.objects; strips = w.strips }) };
 }
 
 // The block's place says this from now on, where there is one.
@@ -66,6 +68,7 @@ impl Waits {
             limits: vec![in alloc; Limit::NONE; limit_room(plan) as usize]?,
             expired: BitSet::new(alloc, plan.blocks())?,
             objects: plan.objects(),
+            strips: plan.strips().len(),
         })
     }
 
@@ -78,6 +81,7 @@ impl Waits {
             limits: Vec::from_slice(alloc, &self.limits)?,
             expired: self.expired.copied(alloc)?,
             objects: self.objects,
+            strips: self.strips,
         })
     }
 
@@ -148,20 +152,29 @@ impl Waits {
     }
 
     /// Whether the parked block may wake: what it waits for has come, or its wait has expired. It has come where the block has
-    /// ended, as the list says, which has a flag for each block, main's first; where the group was empty at some position
-    /// above that of the wait; or where the semaphore's wait of that rank passes (dispatch_sync(3), dispatch_group_wait(3),
-    /// dispatch_semaphore_wait(3)). [`Waits::reason`] tells whether it is parked. Groups and semaphores are those of the same
-    /// plan.
-    pub fn may_wake(&self, groups: &Groups, semas: &Semas, ended: &[bool], blk: Blk) -> bool
+    /// ended, as the list says, which has a flag for each block, main's first (dispatch_sync(3), dispatch_block_wait(3)); where the
+    /// group was empty at some position above that of the wait (dispatch_group_wait(3)); where all blocks of the strip have
+    /// ended (dispatch_apply(3)); or where the semaphore's wait of that rank passes (dispatch_semaphore_wait(3)).
+    /// [`Waits::reason`] tells whether it is parked. Groups, semaphores and strips are those of the same plan.
+    pub fn may_wake(
+        &self,
+        groups: &Groups,
+        semas: &Semas,
+        strips: &Strips,
+        ended: &[bool],
+        blk: Blk,
+    ) -> bool
         requires blk { blk.0 < length self.now.reasons }
         requires parked { is_some (reason_at self.now blk.0) ≡ true }
         requires groups_of_the_plan { length groups.now.counts ≡ self.now.objects }
         requires semas_of_the_plan { length semas.now.waits ≡ self.now.objects }
+        requires strips_of_the_plan { length strips.now.left ≡ self.now.strips }
         requires flags { length ended.now ≡ length self.now.reasons }
-        ensures { result ≡ may_wake_in self.now groups.now semas.now ended.now blk.0 }
+        ensures { result ≡ may_wake_in self.now groups.now semas.now strips.now ended.now blk.0 }
     {
         match self.reasons[blk.0 as usize] {
-            Some(why) => self.has_come(groups, semas, ended, why) || self.expired.has(blk.0),
+            Some(why) => self.has_come(groups, semas, strips, ended, why)
+                || self.expired.has(blk.0),
             None => false,
         }
     }
@@ -177,16 +190,24 @@ impl Waits {
     }
 
     // Whether what is waited for has come.
-    fn has_come(&self, groups: &Groups, semas: &Semas, ended: &[bool], why: Reason) -> bool
+    fn has_come(
+        &self,
+        groups: &Groups,
+        semas: &Semas,
+        strips: &Strips,
+        ended: &[bool],
+        why: Reason,
+    ) -> bool
         requires why { Fits self.now why }
         requires groups_of_the_plan { length groups.now.counts ≡ self.now.objects }
         requires semas_of_the_plan { length semas.now.waits ≡ self.now.objects }
         requires flags { length ended.now ≡ length self.now.reasons }
-        ensures { result ≡ has_come_in groups.now semas.now ended.now why }
+        ensures { result ≡ has_come_in groups.now semas.now strips.now ended.now why }
     {
         match why {
             Reason::Block(blk) => ended[blk.0 as usize],
             Reason::Group(group, position) => groups.empty_since(group, position + 1),
+            Reason::Strip(a) => strips.left(a) == 0,
             Reason::Rank(sema, rank) => semas.passed(sema, rank),
         }
     }

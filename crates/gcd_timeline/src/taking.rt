@@ -19,7 +19,7 @@ pub fn taken(event: Event) -> Option<Run>
         Event::Act { .. } | Event::Misuse { .. } => None,
         Event::End { .. } | Event::DeliverEnd { .. } => None,
         Event::Tick { .. } | Event::Ready { .. } | Event::FeedEnd { .. } | Event::Halt => None,
-        Event::Expire { .. } => None,
+        Event::Expire { .. } | Event::Accept { .. } | Event::Shut => None,
     }
 }
 
@@ -40,6 +40,7 @@ pub fn given(plan: &Plan, event: Event) -> Option<Run>
         Event::Start { .. } | Event::Wake { .. } | Event::Deliver { .. } => None,
         Event::Tick { .. } | Event::Ready { .. } | Event::FeedEnd { .. } => None,
         Event::Misuse { .. } | Event::Halt | Event::Expire { .. } => None,
+        Event::Accept { .. } | Event::Shut => None,
     }
 }
 

@@ -18,7 +18,7 @@ struct Row {
     nowhere: &'static [&'static str],
 }
 
-static ROWS: [Row; 4] = [
+static ROWS: [Row; 6] = [
     // b1 waits for a block of its own queue: the wait stays open, and b2 has not started.
     Row {
         script: "queue q serial\nblock b2\nblock b1\nsync q b2\nmain\nasync q b1\n",
@@ -98,6 +98,48 @@ static ROWS: [Row; 4] = [
             "\"ts\":2,\"cat\":\"act\",\"name\":\"merge s 5\",\"args\":{\"line\":8}},\n",
         ],
         nowhere: &[],
+    },
+    // Blocks of a strip are submitted by the act that applies it, and have its line; a cancelled block is told as such.
+    Row {
+        script: "file f p\nqueue q serial\nstrip a bytes f 4 2\nblock b\nmain\ncancel_block b\nasync q b\napply q a\n",
+        journal: "start 0 main\nact 0 main 0\nact 0 main 1\nact 0 main 2\nstart 0 b\nend 0 b\nstart 0 a.0\nend 0 a.0\nstart 0 a.1\nend 0 a.1\nwake 0 main\nend 0 main\nevents 12\n",
+        state: "drained",
+        note: (0, ""),
+        page: &[
+            "<rect class=\"cancelled\" x=\"192.0\" y=\"58\" width=\"24.0\" height=\"20\" rx=\"2\" fill=\"#fdb462\"><title>b, cancelled on q, worker 0, events 4 to 5, line 4</title>",
+            "<title>a.0, block on q, worker 0, events 6 to 7, line 3</title>",
+            "<title>main waits for strip a</title></path>\n",
+            ">cancelled</text>\n",
+        ],
+        trace: &[
+            "\"cat\":\"cancelled\",\"name\":\"b\",\"args\":{\"queue\":\"q\",\"line\":4}},\n",
+            "\"ts\":3,\"cat\":\"act\",\"name\":\"apply q a\",\"args\":{\"line\":8}},\n",
+            "{\"ph\":\"s\",\"pid\":1,\"tid\":0,\"ts\":3,\"id\":2,\"cat\":\"submission\",\"name\":\"submits a.1\"},\n",
+        ],
+        nowhere: &["job from outside"],
+    },
+    // Jobs from outside and the end of the intake are lines across the lanes.
+    Row {
+        script: "queue q serial\nintake q 2\nmain\n",
+        journal: "accept +1 3\nstart 0 main\nend 0 main\nshut\nstart 0 +1\nend 0 +1\nevents 6\n",
+        state: "drained",
+        note: (0, ""),
+        page: &[
+            "<path class=\"accept\" d=\"M96.0 ",
+            "<title>event 0: +1 from sender 3 </title></path>\n",
+            ">+1 from sender 3</text>\n",
+            ">intake shut</text>\n",
+            "<title>+1, block on q, worker 0, events 4 to 5, line 2</title>",
+            ">job from outside</text>\n",
+            ">not submitted: 1</text>\n",
+            ">+2 on q</text>\n",
+        ],
+        trace: &[
+            "{\"ph\":\"i\",\"s\":\"g\",\"pid\":1,\"tid\":0,\"ts\":0,\"cat\":\"outside\",\"name\":\"+1 from sender 3\"},\n",
+            "\"ts\":3,\"cat\":\"outside\",\"name\":\"intake shut\"},\n",
+            "{\"ph\":\"s\",\"pid\":1,\"tid\":0,\"ts\":0,\"id\":1,\"cat\":\"submission\",\"name\":\"submits +1\"},\n",
+        ],
+        nowhere: &[">cancelled</text>"],
     },
 ];
 

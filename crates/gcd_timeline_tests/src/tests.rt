@@ -201,6 +201,8 @@ fn plan_of(alloc: Global, acts: &[Act]) -> Result<Option<Plan>, AllocError> {
         blocks: blocks(alloc, acts)?,
         files: Vec::new(alloc),
         until: 1000,
+        intake: None,
+        strips: Vec::new(alloc),
     }))
 }
 

@@ -19,6 +19,8 @@ fn plan_of(alloc: Global) -> Result<Option<Plan>, AllocError> {
         blocks,
         files: Vec::new(alloc),
         until: 1000,
+        intake: None,
+        strips: Vec::new(alloc),
     }))
 }
 

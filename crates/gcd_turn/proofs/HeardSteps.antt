@@ -10,7 +10,7 @@ use Rattle.std.proofs.lemmas.Option.{same_Some}
 use Rattle.gcd_plan.specs.Limits.{max_value}
 use Rattle.gcd_plan.specs.PlanView.{PlanView, path_of}
 use Rattle.gcd_event.specs.declared.event.Event.{Event}
-use Rattle.gcd_event.specs.declared.event.Event.TheVariants.{Start, Act as Acted, Wake, End, Deliver, DeliverEnd, Tick, Ready, FeedEnd, Misuse, Halt, Expire}
+use Rattle.gcd_event.specs.declared.event.Event.TheVariants.{Start, Act as Acted, Wake, End, Deliver, DeliverEnd, Tick, Ready, FeedEnd, Misuse, Halt, Expire, Accept, Shut}
 use Rattle.gcd_history.specs.History.{is_live_feed, why}
 use Rattle.gcd_outer.specs.Tells.{PollerState}
 use Rattle.gcd_outer.specs.declared.limits.TheConstants.{MAX_TELL_BYTES}
@@ -64,6 +64,8 @@ is_told (FeedEnd s) = true
 is_told (Misuse w c r i) = false
 is_told Halt = false
 is_told (Expire b) = false
+is_told (Accept b n) = false
+is_told Shut = false
 
 no_ready : (e : Event) (s : ℕ) → is_told e ≡ false → ready_by s e ≡ []
 no_ready (Start w b) s h = refl
@@ -78,6 +80,8 @@ no_ready (FeedEnd t) s h = refl
 no_ready (Misuse w c r i) s h = refl
 no_ready Halt s h = refl
 no_ready (Expire b) s h = refl
+no_ready (Accept b n) s h = refl
+no_ready Shut s h = refl
 
 no_end : (e : Event) (s : ℕ) → is_told e ≡ false → e ≡ FeedEnd (record { 0 = s }) → ⊥
 no_end e s h same = both_ways _ h (ap is_told same)
@@ -106,6 +110,8 @@ feed_ended_by (FeedEnd s) = s.0
 feed_ended_by (Misuse w c r i) = 0
 feed_ended_by Halt = 0
 feed_ended_by (Expire b) = 0
+feed_ended_by (Accept b n) = 0
+feed_ended_by Shut = 0
 
 first_end : (plan : PlanView) (stood placed : List Event) (before now : PollerState) (A : List (List Tell)) (t : Tell) (rest : List Tell) (s : ℕ)
     → t.ended ≡ true → (t.bytes == 0) ≡ true → why plan (stood ++ placed) (FeedEnd (record { 0 = t.feed })) ≡ None

@@ -1,4 +1,5 @@
 mod Expiries
+mod LaterSteps
 pub mod FeedSteps
 pub mod HeardPolls
 pub mod HeardSteps

@@ -1,10 +1,10 @@
 -- What worker 0 is asked to do next.
-use Rattle.std.specs.Prelude.{◌≡◌, ◌≤◌, ◌<◌, ◌+◌, ◌⊎◌, ℕ, Bool, true, List, [], Option, Some, None, IsSome, max, min}
+use Rattle.std.specs.Prelude.{◌≡◌, ◌≤◌, ◌<◌, ◌+◌, ◌⊎◌, ℕ, Bool, true, false, List, [], Option, Some, None, IsSome, max, min}
 use Rattle.gcd_plan.specs.PlanView.{PlanView}
 use Rattle.gcd_event.specs.declared.event.Event.{Event}
-use Rattle.gcd_event.specs.declared.event.Event.TheVariants.{Start, Act as Acted, Wake, End, Deliver, DeliverEnd, Tick, Ready, FeedEnd, Misuse, Halt, Expire}
+use Rattle.gcd_event.specs.declared.event.Event.TheVariants.{Start, Act as Acted, Wake, End, Deliver, DeliverEnd, Tick, Ready, FeedEnd, Misuse, Halt, Expire, Accept, Shut}
 use Rattle.gcd_history.specs.Ends.{HasEnded}
-use Rattle.gcd_history.specs.History.{choice_of, expiry_of, is_live_feed, next_due_of}
+use Rattle.gcd_history.specs.History.{choice_of, expiry_of, is_intake_open, is_live_feed, next_due_of}
 use Rattle.gcd_machine.specs.Stands.{StandsFor}
 use Rattle.gcd_refinement.specs.MachineView.{MachineView}
 use Rattle.gcd_outer.specs.Outside.{ClockState, Rises}
@@ -13,7 +13,7 @@ use Rattle.gcd_outer.specs.declared.tell.Tell.{Tell}
 use Rattle.gcd_turn.specs.Promises.{later_by}
 use Rattle.gcd_turn.specs.Turns.{HasRoom, OutlookView, first_event}
 use Rattle.gcd_turn.specs.declared.ask.Ask.{Ask}
-use Rattle.gcd_turn.specs.declared.ask.Ask.TheVariants.{Leave, Told, Put, Work}
+use Rattle.gcd_turn.specs.declared.ask.Ask.TheVariants.{Leave, Told, Open, Put, Work}
 
 -- each live feed is watched
 abbrev pub AllWatched : PlanView → List Event → PollerState → Type 0
@@ -67,6 +67,8 @@ IsPut plan h start present old new (FeedEnd s) = ⊥
 IsPut plan h start present old new (Misuse w c r i) = ⊥
 IsPut plan h start present old new Halt = HasFailed old new
 IsPut plan h start present old new (Expire b) = (expiry_of plan h ≡ Some (Expire b)) × HasNotFailed old new
+IsPut plan h start present old new (Accept b s) = ⊥
+IsPut plan h start present old new Shut = ⊥
 
 -- worker 0 may listen or wait: there is no news, each live feed is watched, so long is the next due time ahead, and no wait may
 -- expire
@@ -76,13 +78,33 @@ pub record MayIdle (plan : PlanView) (h : List Event) (news : List Tell) (poller
   pub left_is : IsLeft plan h left
   pub no_expiry : expiry_of plan h ≡ None
 
--- what is asked at a history, which may have `most` events: to leave where it has ended, and only there; else to put a Halt, the
--- first of the news, a Tick or an Expire; or to work, on what worker 0 chooses
+-- the intake is open, there is no news, each live feed is watched, and this is what worker 0 chooses
+pub record MayTakeIn (plan : PlanView) (h : List Event) (news : List Tell) (poller : PollerState) (chosen : Option Event) : Type 0 where
+  pub intake : is_intake_open plan h ≡ true
+  pub no_news : news ≡ []
+  pub watched : AllWatched plan h poller
+  pub choice : choice_of plan h 0 0 ≡ chosen
+
+-- what is asked at a history, which may have `most` events: to leave where it has ended, and only there; else to put a Halt where
+-- the poller failed, or the first of the news; to see to the intake, where it is open; and only where it is not, to put a Tick or an
+-- Expire, or to work, on what worker 0 chooses
 abbrev pub IsAsked : (most : ℕ) → PlanView → List Event → OutlookView → (present : ℕ) → (old new : PollerState) → Ask → Type 0
 IsAsked most plan h o present old new Leave = HasEnded most plan h × HasNotFailed old new
 IsAsked most plan h o present old new (Told e) = HasRoom most plan h × (first_event o.news ≡ Some e) × HasNotFailed old new
-IsAsked most plan h o present old new (Put e) = HasRoom most plan h × IsPut plan h o.start present old new e
-IsAsked most plan h o present old new (Work chosen left) = HasRoom most plan h × MayIdle plan h o.news new left × HasNotFailed old new × (choice_of plan h 0 0 ≡ chosen)
+IsAsked most plan h o present old new (Open chosen) = HasRoom most plan h × MayTakeIn plan h o.news new chosen × HasNotFailed old new
+IsAsked most plan h o present old new (Put e) =
+    HasRoom most plan h × IsPut plan h o.start present old new e × (HasFailed old new ⊎ (is_intake_open plan h ≡ false))
+IsAsked most plan h o present old new (Work chosen left) =
+    HasRoom most plan h × MayIdle plan h o.news new left × HasNotFailed old new × (choice_of plan h 0 0 ≡ chosen) × (is_intake_open plan h ≡ false)
+
+-- what is asked in the later steps, where there is no news: to put a Tick or an Expire, or to work, on what worker 0 chooses
+abbrev pub IsAskedOn : (most : ℕ) → PlanView → List Event → OutlookView → (present : ℕ) → (old new : PollerState) → Ask → Type 0
+IsAskedOn most plan h o present old new Leave = ⊥
+IsAskedOn most plan h o present old new (Told e) = ⊥
+IsAskedOn most plan h o present old new (Open chosen) = ⊥
+IsAskedOn most plan h o present old new (Put e) = HasRoom most plan h × IsPut plan h o.start present old new e
+IsAskedOn most plan h o present old new (Work chosen left) =
+    HasRoom most plan h × MayIdle plan h o.news new left × HasNotFailed old new × (choice_of plan h 0 0 ≡ chosen)
 
 -- the clock was waited on for the next due time at the history, or not at all
 abbrev pub WaitedFor : PlanView → List Event → (start : ℕ) → ClockState → ClockState → Type 0

@@ -5,7 +5,7 @@ use Rattle.std.specs.List.{list_all, flat_map}
 use Rattle.gcd_plan.specs.PlanView.{PlanView, path_of}
 use Rattle.gcd_plan.specs.declared.numbers.Obj.{Obj}
 use Rattle.gcd_event.specs.declared.event.Event.{Event}
-use Rattle.gcd_event.specs.declared.event.Event.TheVariants.{Start, Act as Acted, Wake, End, Deliver, DeliverEnd, Tick, Ready, FeedEnd, Misuse, Halt, Expire}
+use Rattle.gcd_event.specs.declared.event.Event.TheVariants.{Start, Act as Acted, Wake, End, Deliver, DeliverEnd, Tick, Ready, FeedEnd, Misuse, Halt, Expire, Accept, Shut}
 use Rattle.gcd_history.specs.Ends.{IsHalted}
 use Rattle.gcd_history.specs.History.{is_live_feed, next_due_of}
 use Rattle.gcd_outer.specs.Outside.{ClockState, Rises, Seen}
@@ -29,6 +29,8 @@ ready_by s (FeedEnd t) = []
 ready_by s (Misuse w c r i) = []
 ready_by s Halt = []
 ready_by s (Expire b) = []
+ready_by s (Accept b n) = []
+ready_by s Shut = []
 
 -- the numbers of the Readys of source s, in order
 abbrev pub readies_of : ℕ → List Event → List ℕ

@@ -1,8 +1,8 @@
 -- What a turn does with the clock.
-use Rattle.std.specs.Prelude.{◌≡◌, ◌<◌, ℕ, List, Option, Some, None, min}
+use Rattle.std.specs.Prelude.{◌≡◌, ◌<◌, ℕ, true, false, List, Option, Some, None, min}
 use Rattle.gcd_plan.specs.PlanView.{PlanView}
 use Rattle.gcd_event.specs.declared.event.Event.{Event}
-use Rattle.gcd_history.specs.History.{running_of}
+use Rattle.gcd_history.specs.History.{is_intake_open, running_of}
 use Rattle.gcd_turn.specs.Asked.{IsDueTick, IsLeft}
 use Rattle.gcd_turn.specs.declared.limits.TheConstants.{POLL_WAIT}
 use Rattle.gcd_turn.specs.declared.steps.Time.{Time}
@@ -13,7 +13,7 @@ abbrev pub IsTime : PlanView → List Event → (start present : ℕ) → Time �
 IsTime plan h start present (Tick t) = IsDueTick plan h start present t
 IsTime plan h start present (Left left) = IsLeft plan h left
 
--- so long a poll waits at most, where nothing runs
+-- so long a poll waits at most, where nothing runs and no intake is open
 abbrev pub longest_wait : Option ℕ → ℕ
 longest_wait None = POLL_WAIT
 longest_wait (Some ms) = min ms POLL_WAIT
@@ -21,4 +21,5 @@ longest_wait (Some ms) = min ms POLL_WAIT
 -- how long a poll waits
 pub record IsPollWait (plan : PlanView) (h : List Event) (left : Option ℕ) (wait : ℕ) : Type 0 where
   pub running : 0 < running_of plan h → wait ≡ 0
-  pub resting : running_of plan h ≡ 0 → wait ≡ longest_wait left
+  pub intake : is_intake_open plan h ≡ true → wait ≡ 0
+  pub resting : running_of plan h ≡ 0 → is_intake_open plan h ≡ false → wait ≡ longest_wait left

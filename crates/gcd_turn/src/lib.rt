@@ -11,15 +11,17 @@
 //! | `ask` | 1. the run has ended | [`Ask::Leave`]: it is quiescent, halted or full, which is at `most` events |
 //! | | 2. each live feed that is not watched is watched, by number | at a fault [`Ask::Put`] of a Halt |
 //! | | 3. news | [`Ask::Told`]: the first piece, as a Ready or a FeedEnd; then, placed or barred, [`Outlook::settle`] |
-//! | | 4. a due time is left: the clock is asked | [`Ask::Put`] of a Tick where one has come |
-//! | | 5. a wait may expire | [`Ask::Put`] of the Expire of the lowest-numbered block whose wait may |
-//! | | 6. the engine's: what worker 0 chooses | [`Ask::Work`], with that choice and the milliseconds to the next due time |
-//! | `idle` | 7. where a feed is live, one poll | a Halt at a fault; else what came is news |
-//! | | 8. else, where a due time is left and nothing runs, a wait for it | |
+//! | | 4. the intake is open | [`Ask::Open`]: to take in a job of an outside caller, or to record a Shut; where neither comes, `ask_on` |
+//! | `ask_on`, and `ask` by it | 5. a due time is left: the clock is asked | [`Ask::Put`] of a Tick where one has come |
+//! | | 6. a wait may expire | [`Ask::Put`] of the Expire of the lowest-numbered block whose wait may |
+//! | | 7. the engine's: what worker 0 chooses | [`Ask::Work`], with that choice and the milliseconds to the next due time |
+//! | `idle` | 8. where a feed is live, one poll | a Halt at a fault; else what came is news |
+//! | | 9. else, where a due time is left, nothing runs and no intake is open, a wait for it | |
 //!
 //! Due times are those of timers, and the limits of waits that are not over.
 //!
-//! A poll waits 10 milliseconds, not past the next due time, and not at all where a run is open and not parked. An empty
+//! A poll waits 10 milliseconds, not past the next due time, and not at all where a run is open and not parked or the intake is
+//! open. An empty
 //! answer to a wait counts; [`EMPTY_ANSWERS`] of them in a row, while the history does not grow and nothing runs, end each
 //! live feed.
 //!

@@ -4,12 +4,13 @@ ghost use Rattle.gcd_plan.specs.PlanView.{PlanView};
 ghost use Rattle.gcd_event.specs.declared.event.Event.{Event};
 ghost use Rattle.gcd_event.specs.declared.event.Event.TheVariants.{Halt};
 ghost use Rattle.gcd_history.specs.Ends.{is_halted};
+ghost use Rattle.gcd_history.specs.History.{choice_of};
 ghost use Rattle.gcd_machine.specs.Stands.{StandsFor};
 ghost use Rattle.gcd_outer.specs.Tells.{PollerState};
-ghost use Rattle.gcd_turn.specs.Asked.{AllWatched, HasFailed, HasNotFailed, KeepsListens, HasWatched, IsAsked, WaitedFor};
+ghost use Rattle.gcd_turn.specs.Asked.{AllWatched, HasFailed, HasNotFailed, KeepsListens, HasWatched, IsAsked, IsAskedOn, WaitedFor};
 ghost use Rattle.gcd_turn.specs.Hearing.{Heard};
 ghost use Rattle.gcd_turn.specs.declared.limits.TheConstants.{EMPTY_ANSWERS};
-ghost use Rattle.gcd_turn.specs.Turns.{counted, news_of, row_with};
+ghost use Rattle.gcd_turn.specs.Turns.{HasRoom, counted, news_of, row_with};
 
 use crate::ask::Ask;
 use crate::limits::EMPTY_ANSWERS;
@@ -68,9 +69,9 @@ impl Outlook {
 
     /// The first steps of a turn: it leaves where the run has ended, which may have
     /// `most` events; it watches what is live; and it
-    /// gives the first of what was told, a Tick that is due, the Expire of a wait that may expire, or else what worker 0 chooses.
-    /// The clock is asked only where there is no news and a due time is left, and the machine for a choice once, and once more
-    /// only where the run is quiescent.
+    /// gives the first of what was told, where the intake is open asks to see to that, and else goes on as [`Outlook::ask_on`] does.
+    /// The clock is asked only where there is no news, no intake is open and a due time is left, and the machine for a choice once,
+    /// and once more only where the run is quiescent.
     #[inline(always)]
     pub fn ask<P: Poller, C: Clock>(
         &self,
@@ -100,6 +101,31 @@ impl Outlook {
         if let Some(tell) = self.news.first() {
             return Ask::Told(event_of(tell));
         }
+        if machine.intake_open() {
+            return Ask::Open { chosen };
+        }
+        self.ask_on(plan, machine, clock, chosen)
+    }
+
+    /// The later steps of a turn, where there is no news, and nothing came of an intake that is open: it gives a Tick that is due, the
+    /// Expire of a wait that may expire, or else what worker 0 chooses, which is `chosen`. The clock is asked only where a due time
+    /// is left.
+    #[inline(always)]
+    pub fn ask_on<C: Clock>(
+        &self,
+        plan: &Plan,
+        machine: &Machine,
+        clock: &mut C,
+        chosen: Option<Event>,
+    ) -> Ask
+        requires no_news { self.now.news ≡ [] }
+        requires chosen { (h : List Event) → StandsFor machine.now plan.now h → choice_of plan.now h 0 0 ≡ chosen }
+        ensures asked { (most : ℕ) (h : List Event) (old new : PollerState) → StandsFor machine.now plan.now h → HasRoom most plan.now h
+            → AllWatched plan.now h new → HasNotFailed old new
+            → IsAskedOn most plan.now h self.now (C.state clock.new).present old new result }
+        ensures goes_on { (C.state clock.old).present ≤ (C.state clock.new).present }
+        ensures waited { C.tells ≡ true → (C.state clock.new).waited ≡ (C.state clock.old).waited }
+    {
         match next_time(self.start, plan, machine, clock) {
             Time::Tick(at) => Ask::Put(Event::Tick { at }),
             Time::Left(left) => match machine.expiry() {
@@ -188,8 +214,8 @@ impl Outlook {
     }
 
     /// The last steps of a turn, where worker 0 has no choice: it polls where a feed is live, and
-    /// else waits for the next due time, where there is one and no run is open and unparked. `left` is how many milliseconds
-    /// that is ahead. Some is a Halt, to be recorded: the poller failed.
+    /// else waits for the next due time, where there is one, no run is open and unparked, and no intake is open. `left` is how many
+    /// milliseconds that is ahead. Some is a Halt, to be recorded: the poller failed.
     pub fn idle<P: Poller, C: Clock>(
         &mut self,
         plan: &Plan,

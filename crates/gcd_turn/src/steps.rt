@@ -163,11 +163,14 @@ pub(crate) fn next_time<C: Clock>(start: u64, plan: &Plan, machine: &Machine, cl
     Time::Tick(passed.min(u64::from(plan.until())) as u32)
 }
 
-// How long a poll waits, in milliseconds: not at all where something runs, and else not past the next due time.
+// How long a poll waits, in milliseconds: not at all where something runs or the intake is open, and else not past the next due time.
 pub(crate) fn poll_wait(machine: &Machine, left: Option<u32>) -> u32
     ensures { (plan : PlanView) (h : List Event) → StandsFor machine.now plan h → IsPollWait plan h left result }
 {
     if machine.running() > 0 {
+        return 0;
+    }
+    if machine.intake_open() {
         return 0;
     }
     match left {
@@ -176,13 +179,16 @@ pub(crate) fn poll_wait(machine: &Machine, left: Option<u32>) -> u32
     }
 }
 
-// Waits for the next due time, where there is one and nothing runs.
+// Waits for the next due time, where there is one, nothing runs and no intake is open.
 pub(crate) fn wait<C: Clock>(start: u64, machine: &Machine, clock: &mut C)
     ensures goes_on { (C.state clock.old).present ≤ (C.state clock.new).present }
     ensures waited { (plan : PlanView) (h : List Event) → StandsFor machine.now plan h → C.tells ≡ true
         → WaitedFor plan h start (C.state clock.old) (C.state clock.new) }
 {
     if machine.running() > 0 {
+        return;
+    }
+    if machine.intake_open() {
         return;
     }
     if let Some(due) = machine.next_due() {

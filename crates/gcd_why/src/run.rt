@@ -5,7 +5,7 @@ ghost use Rattle.gcd_machine.specs.Stands.{StandsFor};
 use crate::barred::find_barred;
 use crate::sentence::Sentence;
 use gcd_cause::{
-    ActWords, Place, Places, Scene, Sight, act_at, chain, code_name, hold_words, kind_of,
+    ActWords, BlockNow, Place, Places, Scene, Sight, act_at, chain, code_name, hold_words, kind_of,
     misuse_words,
 };
 use gcd_event::Event;
@@ -45,7 +45,7 @@ impl<'a> Saying<'a> {
         self.said.len() >= MAX_SAID
     }
 
-    // The act by which a block is parked, or was submitted.
+    // The line of the act by which a block is parked, or was submitted; of the intake, where it came from outside.
     fn line_of_block(&self, sight: Sight, b: Blk) -> u32 {
         let now = sight.scene.block(b);
         if sight.awaited(b).is_some() {
@@ -53,6 +53,9 @@ impl<'a> Saying<'a> {
                 run: Run::Block(b),
                 index: now.made.saturating_sub(1),
             }));
+        }
+        if sight.is_of_intake(b) {
+            return self.places.line_of_intake();
         }
         self.places.line_of(now.by)
     }
@@ -96,19 +99,15 @@ impl<'a> Saying<'a> {
 
     // That a notify block never came.
     fn note_block(&mut self, sight: Sight, b: Blk) -> Result<(), AllocError> {
-        let now = sight.scene.block(b);
-        let Some(g) = now.notify else {
-            return Ok(());
-        };
         if sight.is_submitted(b) {
             return Ok(());
         }
-        let (name, group) = (sight.name_of_block(b), sight.name_of_object(g));
-        let state = sight.scene.object(g);
-        let count = state.enters.saturating_add(state.members);
-        let text = format!(in self.alloc;
-            "note: {name} was never submitted: group {group} still counts {count}"
-        )?;
+        let now = sight.scene.block(b);
+        let Some(cause) = unnotified(self.alloc, sight, now)? else {
+            return Ok(());
+        };
+        let (name, cause) = (sight.name_of_block(b), cause.as_str());
+        let text = format!(in self.alloc; "note: {name} was never submitted: {cause}")?;
         let line = self.places.line_of(now.by);
         self.add(line, text)
     }
@@ -176,6 +175,22 @@ impl<'a> Saying<'a> {
         )?;
         self.add(0, text)
     }
+}
+
+// What a notify block still waits for; None for any other block.
+fn unnotified(alloc: Global, sight: Sight, now: BlockNow) -> Result<Option<String>, AllocError> {
+    if let Some(g) = now.notify {
+        let (group, state) = (sight.name_of_object(g), sight.scene.object(g));
+        let count = state.enters.saturating_add(state.members);
+        let text = format!(in alloc; "group {group} still counts {count}")?;
+        return Ok(Some(text));
+    }
+    if let Some(first) = now.after {
+        let block = sight.name_of_block(first);
+        let text = format!(in alloc; "{block} has not ended")?;
+        return Ok(Some(text));
+    }
+    Ok(None)
 }
 
 // How to let a run have more events than these, where one may.

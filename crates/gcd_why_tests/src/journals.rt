@@ -281,6 +281,68 @@ static LIMITS: [Row; 9] = [
     ),
 ];
 
+// An intake and a strip, a block that is cancelled, and one that follows it.
+const MADE: &str =
+    "file f p\nqueue q serial\nqueue c concurrent\nintake q 2\nstrip a bytes f 4 2\nsemaphore s 0\n\
+    block b\nsignal s\nblock n\nmain\nasync q b\ncancel_block b\nnotify_block b q n\napply c a\n";
+
+static MADE_BLOCKS: [Row; 12] = [
+    (
+        "accept +2 0\nevents 1\n",
+        "j:1: event 0, accept +2 0, may not come here: the next block of the intake is +1 (NotNext)",
+    ),
+    (
+        "accept b 0\nevents 1\n",
+        "j:1: event 0, accept b 0, may not come here: b is no block of an intake (NoSuch)",
+    ),
+    (
+        "shut\naccept +1 0\nevents 2\n",
+        "j:2: event 1, accept +1 0, may not come here: the intake is shut (NotLive)",
+    ),
+    (
+        "accept +1 0\naccept +2 0\naccept +2 0\nevents 3\n",
+        "j:3: event 2, accept +2 0, may not come here: all blocks of the intake are accepted (NotLive)",
+    ),
+    (
+        "shut\nshut\nevents 2\n",
+        "j:2: event 1, shut, may not come here: the intake is shut (NotLive)",
+    ),
+    (
+        "start 0 +1\nevents 1\n",
+        "j:1: event 0, start 0 +1, may not come here: +1 is not accepted (Unready)",
+    ),
+    (
+        "start 0 main\nact 0 main 0\nact 0 main 1\nact 0 main 2\nstart 1 n\nevents 5\n",
+        "j:5: event 4, start 1 n, may not come here: n is not submitted: b has not ended (Unready)",
+    ),
+    (
+        "start 0 main\nact 0 main 0\nact 0 main 1\nstart 1 b\nact 1 b 0\nevents 5\n",
+        "j:5: event 4, act 1 b 0, may not come here: b is cancelled, and makes no act (NotNext)",
+    ),
+    (
+        "start 0 main\nact 0 main 0\nact 0 main 1\nact 0 main 2\nact 0 main 3\nstart 1 a.0\nend 1 a.0\nwake 0 main\nevents 8\n",
+        "j:8: event 7, wake 0 main, may not come here: main waits for strip a, of which 1 blocks have not ended (Waiting)",
+    ),
+    (
+        "accept main 0\nevents 1\n",
+        "j:1: 'main' stands where a block of the plan other than main is asked (word 2)",
+    ),
+    (
+        "accept +1 64\nevents 1\n",
+        "j:1: '64' stands where a sender, 0 to 63, is asked (word 3)",
+    ),
+    (
+        "accept +1\nevents 1\n",
+        "j:1: the line is not 'accept B S', with one space between its words and none at its ends",
+    ),
+];
+
+// Of a plan without an intake.
+static NO_INTAKE: [Row; 1] = [(
+    "shut\nevents 1\n",
+    "j:1: event 0, shut, may not come here: the plan has no intake (NotLive)",
+)];
+
 // A signal that comes before the limit's moment has been told.
 const SIGNALLED: &str = "semaphore s 0\nblock b\nsignal s\nmain\nasync root b\nwait_for s 5\n";
 
@@ -299,6 +361,12 @@ fn lines(rt: HostRuntime) -> Result<(), Fail> {
 fn limits(rt: HostRuntime) -> Result<(), Fail> {
     are_said(&rt, rt.alloc(), MAX_EVENTS, LIMITED, &LIMITS)?;
     are_said(&rt, rt.alloc(), MAX_EVENTS, SIGNALLED, &CAME)
+}
+
+#[test]
+fn made_blocks(rt: HostRuntime) -> Result<(), Fail> {
+    are_said(&rt, rt.alloc(), MAX_EVENTS, MADE, &MADE_BLOCKS)?;
+    are_said(&rt, rt.alloc(), MAX_EVENTS, WAITS, &NO_INTAKE)
 }
 
 #[test]

@@ -125,6 +125,40 @@ static LEFT: [Row; 4] = [
     ),
 ];
 
+// Strips, block objects and an intake.
+static MADE_BLOCKS: [Row; 6] = [
+    (
+        "file f p\nqueue q serial\nstrip a bytes f 4 2\nblock b\napply q a\nmain\nasync q b\n",
+        "start 0 main\nact 0 main 0\nend 0 main\nstart 0 b\nact 0 b 0\nevents 5\n",
+        "s:5: b waits for strip a, of which 2 blocks have not ended, and so for a.0, which waits at the serial queue q for the end of b: a cycle\ns:5: a.0 waits at the serial queue q for the end of b, which waits for strip a, of which 2 blocks have not ended, and so for a.0: a cycle\ns:5: a.1 waits on q behind a.0, which waits at the serial queue q for the end of b, which waits for strip a, of which 2 blocks have not ended, and so for a.0: a cycle\n",
+    ),
+    (
+        "block b\nmain\nwait_block b\n",
+        "start 0 main\nact 0 main 0\nevents 2\n",
+        "s:3: main waits for b, which is not submitted\n",
+    ),
+    (
+        "block b\nblock c\nmain\nnotify_block b root c\nwait_block c\n",
+        "start 0 main\nact 0 main 0\nact 0 main 1\nevents 3\n",
+        "s:5: main waits for c, which is not submitted before the end of b, which is not submitted\ns:4: note: c was never submitted: b has not ended\n",
+    ),
+    (
+        "queue q serial inactive\nsemaphore s 0\nblock b\nsignal s\nmain\ncancel_block b\nasync q b\nwait s\n",
+        "start 0 main\nact 0 main 0\nact 0 main 1\nact 0 main 2\nevents 4\n",
+        "s:8: main waits for semaphore s: first value 0, signals 0, waits 1, and no signal is left to come\ns:7: b waits on q: the serial queue q is inactive\n",
+    ),
+    (
+        "queue q serial inactive\nintake q 1\nmain\n",
+        "accept +1 0\nshut\nstart 0 main\nend 0 main\nevents 4\n",
+        "s:2: +1 waits on q: the serial queue q is inactive\n",
+    ),
+    (
+        "block b\nblock c\nmain\nnotify_block b root c\n",
+        "start 0 main\nact 0 main 0\nend 0 main\nevents 3\n",
+        "s:4: note: c was never submitted: b has not ended\n",
+    ),
+];
+
 // Of runs that may have three events.
 static FULL: [Row; 2] = [
     (
@@ -191,6 +225,11 @@ fn stuck(rt: HostRuntime) -> Result<(), Fail> {
 fn left(rt: HostRuntime) -> Result<(), Fail> {
     are_said(&rt, rt.alloc(), MAX_EVENTS, &LEFT)?;
     are_said(&rt, rt.alloc(), 3, &FULL)
+}
+
+#[test]
+fn made_blocks(rt: HostRuntime) -> Result<(), Fail> {
+    are_said(&rt, rt.alloc(), MAX_EVENTS, &MADE_BLOCKS)
 }
 
 #[test]

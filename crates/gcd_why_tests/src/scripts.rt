@@ -199,6 +199,66 @@ static WHOLE: [Row; 14] = [
     ("main\n", "a script"),
 ];
 
+// Strips, an intake, and acts on blocks.
+static MADE_BLOCKS: [Row; 14] = [
+    (
+        "queue q serial\nintake q 2\nintake q 3\nmain\n",
+        "s:3: a second 'intake': line 2 has the first",
+    ),
+    (
+        "queue q serial\nintake q 0\nmain\n",
+        "s:2: 0 is out of its range, 1 to 4096 (word 3)",
+    ),
+    (
+        "file f p\nstrip a bytes f 4\nmain\n",
+        "s:2: 'strip' has 4 words after it here, and may be: strip A W F LEN N",
+    ),
+    (
+        "file f p\nstrip a count f 4 3\nmain\n",
+        "s:2: 'count' stands where 'bytes', 'lines', 'words' or 'sum' is asked (word 3)",
+    ),
+    (
+        "file f p\nstrip a bytes f 0 3\nmain\n",
+        "s:2: 0 is out of its range, 1 to 16777216 (word 5)",
+    ),
+    (
+        "file f p\nstrip a bytes f 4 16385\nmain\n",
+        "s:2: 16385 is out of its range, 0 to 16384 (word 6)",
+    ),
+    (
+        "file f p\nblock b\nstrip a bytes f 4 16384\nmain\n",
+        "s:3: one block too many: a script has at most 16384",
+    ),
+    (
+        "file f p\nstrip a bytes f 4 3\nmain\napply root a\napply root a\n",
+        "s:5: line 4 applies 'a' already",
+    ),
+    (
+        "file f p\nstrip a bytes f 4 3\nmain\nasync root a\n",
+        "s:4: 'a' is a strip (line 2), and a block is asked (word 3)",
+    ),
+    (
+        "block b\nmain\napply root b\n",
+        "s:3: 'b' is a block (line 1), and a strip is asked (word 3)",
+    ),
+    (
+        "file f p\nstrip a bytes f 4 3\nmain\ncancel_block a.0\n",
+        "s:4: 'a.0' is not declared on an earlier line (word 2)",
+    ),
+    (
+        "block b\nblock c\nmain\nasync root c\nnotify_block b root c\n",
+        "s:5: line 4 submits 'c' already",
+    ),
+    (
+        "block b\nsource s add on root\nhandler s\nwait_block b\nmain\n",
+        "s:4: 'wait_block' may not stand in a handler, and that of 's' is open: a handler submits no block and waits for nothing",
+    ),
+    (
+        "block b\nwait_block main\nmain\n",
+        "s:2: 'main' is no name that a line may use (word 2)",
+    ),
+];
+
 #[test]
 fn forms(rt: HostRuntime) -> Result<(), Fail> {
     are_said(&rt, rt.alloc(), &FORMS)
@@ -212,6 +272,11 @@ fn names(rt: HostRuntime) -> Result<(), Fail> {
 #[test]
 fn whole_lines(rt: HostRuntime) -> Result<(), Fail> {
     are_said(&rt, rt.alloc(), &WHOLE)
+}
+
+#[test]
+fn made_blocks(rt: HostRuntime) -> Result<(), Fail> {
+    are_said(&rt, rt.alloc(), &MADE_BLOCKS)
 }
 
 // What no parser tells: a script and a file that are too long, and a 65th file.

@@ -1,7 +1,7 @@
 -- What a run of a caller's own jobs leaves, of the cells at its end.
-use Rattle.std.proofs.Common.{◌≡◌, ◌<◌, ◌≤◌, ◌+◌, ◌∙◌, ℕ, Bool, true, false, List, [], ◌∷◌, ◌++◌, length, Option, Some, None, ap, sym, subst, arith, ⊎_elim}
+use Rattle.std.proofs.Common.{◌≡◌, ◌<◌, ◌≤◌, ◌+◌, ◌∙◌, ℕ, Bool, true, false, not, List, [], ◌∷◌, ◌++◌, length, Option, Some, None, ap, sym, subst, arith, ⊎_elim}
 use Rattle.std.specs.Prelude.{slice_get}
-use Rattle.std.proofs.lemmas.Bool.{cases_lt}
+use Rattle.std.proofs.lemmas.Bool.{and_parts, cases_lt, not-true}
 use Rattle.std.proofs.lemmas.List.{length_push}
 use Rattle.gcd_plan.specs.PlanView.{PlanView}
 use Rattle.gcd_plan.specs.declared.numbers.Blk.{Blk}
@@ -9,13 +9,14 @@ use Rattle.gcd_plan.specs.declared.numbers.Run.TheVariants.{Block}
 use Rattle.gcd_plan.proofs.Places.{slice_get_some, slice_get-append_left, slice_get-append_seam}
 use Rattle.gcd_event.specs.declared.event.Event.{Event}
 use Rattle.gcd_history.specs.Ends.{HasState}
-use Rattle.gcd_history.specs.History.{IsLawful, is_ended}
+use Rattle.gcd_history.specs.History.{IsLawful, is_block_cancelled, is_ended}
 use Rattle.gcd_history.specs.declared.state.State.{State}
 use Rattle.gcd_machine.proofs.Shown.{plan_stands}
 use Rattle.gcd_machine.specs.Stands.{StandsFor}
 use Rattle.gcd_refinement.specs.MachineView.{MachineView}
 use Rattle.gcd_outer.specs.Outside.{ClockState, Seen}
 use Rattle.gcd_outer.specs.Tells.{PollerState}
+use Rattle.gcd_jobs.specs.BlockValues.{has_given}
 use Rattle.gcd_jobs.specs.declared.tally.Tally.{Tally}
 use Rattle.gcd_loop.specs.Ran.{RunsPlan}
 use Rattle.gcd_row.specs.Lying.{BodyLies}
@@ -38,10 +39,10 @@ module _ {J : Type 0} where
   jobs_laid plan jobs tallies b job at = body_at jobs (object_cells plan.objects tallies) b job at
 
   -- the value of one block more
-  pub taken_push : (h : List Event) (cells : List (Cell J Tally)) (n : ℕ) (values : List (Option ℕ)) (cell : Cell J Tally) (v : Option ℕ) (t : Bool)
-      → t ≡ is_ended h n → slice_get cells n ≡ Some cell → ((x : ℕ) → t ≡ true → cell ≡ Done x → v ≡ Some x) → (t ≡ false → v ≡ None)
-      → AreTaken h cells n values → AreTaken h cells (n + 1) (values ++ v ∷ [])
-  taken_push h cells n values cell v t test at gave lacks taken =
+  pub taken_push : (plan : PlanView) (h : List Event) (cells : List (Cell J Tally)) (n : ℕ) (values : List (Option ℕ)) (cell : Cell J Tally) (v : Option ℕ) (t : Bool)
+      → t ≡ has_given plan h n → slice_get cells n ≡ Some cell → ((x : ℕ) → t ≡ true → cell ≡ Done x → v ≡ Some x) → (t ≡ false → v ≡ None)
+      → AreTaken plan h cells n values → AreTaken plan h cells (n + 1) (values ++ v ∷ [])
+  taken_push plan h cells n values cell v t test at gave lacks taken =
       let count = taken.count in
       let long = length_push values v in
       let seam : slice_get (values ++ v ∷ []) (length values) ≡ Some v = slice_get-append_seam values v [] in
@@ -53,7 +54,7 @@ module _ {J : Type 0} where
             (λ (early : b < n). slice_get-append_left values (v ∷ []) b (omega (arith, count, early)) ∙ taken.ended b x early ended lies)
             (λ (late : n ≤ b).
             let same : n ≡ b = omega (arith, low, late) in
-            let own : is_ended h n ≡ true = ap (is_ended h) same ∙ ended in
+            let own : has_given plan h n ≡ true = ap (has_given plan h) same ∙ ended in
             let cell_is : Some cell ≡ Some (Done x) = sym at ∙ ap (slice_get cells) same ∙ lies in
             let done_is : cell ≡ Done x = cc in
             subst (λ (k : ℕ). slice_get (values ++ v ∷ []) k ≡ Some (Some x)) same (here ∙ ap Some (gave x (test ∙ own) done_is)))
@@ -63,7 +64,7 @@ module _ {J : Type 0} where
             (λ (early : b < n). slice_get-append_left values (v ∷ []) b (omega (arith, count, early)) ∙ taken.others b early not_yet)
             (λ (late : n ≤ b).
             let same : n ≡ b = omega (arith, low, late) in
-            let own : is_ended h n ≡ false = ap (is_ended h) same ∙ not_yet in
+            let own : has_given plan h n ≡ false = ap (has_given plan h) same ∙ not_yet in
             subst (λ (k : ℕ). slice_get (values ++ v ∷ []) k ≡ Some None) same (here ∙ ap Some (lacks (test ∙ own))))
             (cases_lt b n);
       }
@@ -75,24 +76,28 @@ module _ {J : Type 0} where
   is_done Away v is = absurd (cc)
 
   module _ (gives : J → ℕ → ℕ → Type 0) where
-    -- a value that its job may give lies in the slot of a block that has ended
+    -- a value that its job may give lies in the slot of a block that has given one
     given_at : (t : Terms (Cell J Tally)) (h : List Event) (cells : List (Cell J Tally)) (jobs : List J) (values : List (Option ℕ)) (b : ℕ)
         → IsLawful t.plan h → AtRest tally_shape (gives_of gives) t h cells → AreLaid jobs t.cells → length jobs ≡ length t.plan.blocks
-        → AreTaken h cells (length t.plan.blocks) values → b < length t.plan.blocks → is_ended h b ≡ true → IsGiven gives jobs values b
-    given_at t h cells jobs values b lawful rest laid count taken low ended =
+        → AreTaken t.plan h cells (length t.plan.blocks) values → b < length t.plan.blocks → has_given t.plan h b ≡ true → IsGiven gives jobs values b
+    given_at t h cells jobs values b lawful rest laid count taken low gave =
+        let parts = and_parts (is_ended h b) (not (is_block_cancelled t.plan h b)) gave in
+        let ended : is_ended h b ≡ true = parts.0 in
+        let live : is_block_cancelled t.plan h b ≡ false = not-true (is_block_cancelled t.plan h b) parts.1 in
         let width = rest.width in
         let blk : Blk = record { 0 = b } in
         let job = slice_get_some jobs b (omega (arith, count, low)) in
         let here = slice_get_some cells b (omega (arith, width, low)) in
         let first : Cell J Tally = Body job.0 in
         let lies = rest.lie (Block blk) here.0 low (ended_is_nobodys t.plan h blk lawful ended) (elem_of cells b here.0 here.1) first (laid b job.0 job.1) in
-        let is : BodyLies tally_shape (gives_of gives) first true here.0 =
-        subst (λ (e : Bool). BodyLies tally_shape (gives_of gives) first e here.0) ended lies in
+        let is : BodyLies tally_shape (gives_of gives) first true false here.0 =
+        subst (λ (m : Bool). BodyLies tally_shape (gives_of gives) first true m here.0) live
+        (subst (λ (e : Bool). BodyLies tally_shape (gives_of gives) first e (is_block_cancelled t.plan h b) here.0) ended lies) in
         record {
           job = job.0;
           value = is.0;
           job_of = job.1;
-          value_of = taken.ended b is.0 low ended (here.1 ∙ ap Some (is_done here.0 is.0 is.1));
+          value_of = taken.ended b is.0 low gave (here.1 ∙ ap Some (is_done here.0 is.0 is.1));
           given = is.2;
         }
 
@@ -115,12 +120,14 @@ module _ {J : Type 0} where
     pub given_at_end : (b : RowBoard (Cell J Tally)) (p : RowPass (Cell J Tally)) (m : MachineView) (cells : List (Cell J Tally)) (jobs : List J)
         (values : List (Option ℕ)) → IsPassOf tally_shape (gives_of gives) b p → StandsFor m (view p).terms.plan (view p).seen
         → AtRest tally_shape (gives_of gives) (view p).terms (view p).seen cells → AreLaid jobs (terms_of b).cells
-        → length jobs ≡ length (terms_of b).plan.blocks → AreTaken (view p).seen cells (length m.plan.blocks) values
+        → length jobs ≡ length (terms_of b).plan.blocks → AreTaken (view p).terms.plan (view p).seen cells (length m.plan.blocks) values
         → AreGiven gives (terms_of b).plan jobs (view p).seen values
     given_at_end b p m cells jobs values pass stands at_rest laid count taken_by =
         let lawful = lawful_pass tally_shape (gives_of gives) b p pass in
         let rest = subst (λ (t : Terms (Cell J Tally)). AtRest tally_shape (gives_of gives) t (view p).seen cells) pass.terms at_rest in
-        let taken = subst (λ (k : PlanView). AreTaken (view p).seen cells (length k.blocks) values) (machine_plan b p m pass stands) taken_by in
+        let own : (view p).terms.plan ≡ (terms_of b).plan = ap (λ (t : Terms (Cell J Tally)). t.plan) pass.terms in
+        let taken = subst (λ (q : PlanView). AreTaken q (view p).seen cells (length (terms_of b).plan.blocks) values) own
+        (subst (λ (k : PlanView). AreTaken (view p).terms.plan (view p).seen cells (length k.blocks) values) (machine_plan b p m pass stands) taken_by) in
         record {
           count = taken.count;
           ended = λ k low ended. given_at (terms_of b) (view p).seen cells jobs values k lawful rest laid count taken low ended;
@@ -142,6 +149,7 @@ module _ {J : Type 0} where
           few = run.few;
           by = λ i e at. let by = run.by i e at in omega (arith, more, by);
           chosen = λ one. run.chosen (omega (arith, low, more, one));
+          uncalled = run.uncalled;
           given = given;
         } in
         subst (λ (q : PlanView). RunsJobs gives most q jobs n h values state) is

@@ -74,6 +74,7 @@ runs_by_more most plan m n poller clock h some more run = record {
   few = run.few;
   by = λ i e at. let low = run.by i e at in omega (arith, more, low);
   chosen = λ one. run.chosen (omega (arith, some, more, one));
+  uncalled = run.uncalled;
   timely = run.timely;
   heard = run.heard;
 }

@@ -1,6 +1,7 @@
 -- What the cells at the end tell of each block that has ended.
-use Rattle.std.proofs.Common.{◌≡◌, ◌<◌, ◌≤◌, ◌∙◌, ℕ, zero, suc, Bool, true, List, [], ◌∷◌, length, Some, refl, ap, sym, subst, arith, reverse, take, eq-eqb, get_or}
+use Rattle.std.proofs.Common.{◌≡◌, ◌<◌, ◌≤◌, ◌∙◌, ℕ, zero, suc, Bool, true, false, if◌then◌else◌, List, [], ◌∷◌, length, Some, refl, ap, sym, subst, arith, reverse, take, drop, eq-eqb, get_or}
 use Rattle.std.specs.Prelude.{slice_get, slice_index_or}
+use Rattle.std.proofs.lemmas.List.{take-append-drop}
 use Rattle.std.proofs.lemmas.Option.{slice_get-get_or, same_Some, slice_get_within}
 use mathlib.Core.Option.{some}
 use lib.ListN.{get_elem?}
@@ -11,16 +12,17 @@ use Rattle.gcd_plan.specs.declared.numbers.Blk.{Blk}
 use Rattle.gcd_plan.specs.declared.numbers.Run.TheVariants.{Block}
 use Rattle.gcd_plan.proofs.Places.{slice_get_some}
 use Rattle.gcd_event.specs.declared.event.Event.{Event}
-use Rattle.gcd_event.specs.declared.event.Event.TheVariants.{Start, Act as Acted, Wake, End, Deliver, DeliverEnd, Tick, Ready, FeedEnd, Misuse, Halt, Expire}
+use Rattle.gcd_event.specs.declared.event.Event.TheVariants.{Start, Act as Acted, Wake, End, Deliver, DeliverEnd, Tick, Ready, FeedEnd, Misuse, Halt, Expire, Accept, Shut}
 use Rattle.gcd_history.specs.Runs.{ends}
 use Rattle.gcd_history.specs.Runs.{is_ended as is_ended_after}
-use Rattle.gcd_history.specs.History.{IsLawful, has_run, is_ended}
+use Rattle.gcd_history.specs.History.{IsLawful, has_run, is_block_cancelled, is_ended}
 use Rattle.gcd_history.specs.Values.{value_of}
 use Rattle.gcd_history.proofs.Lists.{list_any-reverse}
-use Rattle.gcd_history.proofs.LawfulLemmas.{lawful_after}
+use Rattle.gcd_history.proofs.CancelledStays.{cancelled_kept_on}
+use Rattle.gcd_history.proofs.LawfulLemmas.{lawful_after, lawful_take}
 use Rattle.gcd_history.proofs.StartedOnce.{open_from_has_run, open_not_ended}
 use Rattle.gcd_team.specs.TeamFacts.{IsNobodys}
-use Rattle.gcd_team.proofs.TeamLaws.{held_runs_are_open}
+use Rattle.gcd_team.proofs.TeamLaws.{givings_are_the_holders, held_runs_are_open}
 use Rattle.gcd_row.specs.Lying.{BodyLies}
 use Rattle.gcd_row.specs.Passes.{AtRest, IsPassOf, terms_of, view}
 use Rattle.gcd_row.specs.declared.board.RowBoard.{RowBoard}
@@ -28,6 +30,8 @@ use Rattle.gcd_row.specs.declared.pass.RowPass.{RowPass}
 use Rattle.gcd_row.specs.Shapes.{done}
 use Rattle.gcd_row.specs.declared.cell.Cell.TheVariants.{Body, Done, Handler, Away}
 use Rattle.gcd_row.specs.declared.view.Terms.{Terms}
+use Rattle.gcd_team.proofs.CancelledRuns.{begun_where_held}
+use Rattle.gcd_jobs.specs.BlockValues.{value_at_end}
 use Rattle.gcd_jobs.specs.Ends.{EndFits}
 use Rattle.gcd_jobs.proofs.ValuesMore.{end_fits}
 use Rattle.gcd_workers.proofs.Wholes.{lawful_pass}
@@ -56,29 +60,52 @@ elem_of [] i x at = absurd (cc)
 elem_of (y ∷ ys) zero x at = cc
 elem_of (y ∷ ys) (suc i) x at = elem_of ys i x at
 
--- the value of its work lies in the slot of a block that has ended
-value_at_end : (files : List (List ℕ)) (t : Terms WorkCell) (h : List Event) (cells : List WorkCell) (w i : ℕ) (c : Blk) → IsLawful t.plan h
+-- whether a block is cancelled does not change from its End on
+cancelled_at_end : (plan : PlanView) (h : List Event) (w i : ℕ) (c : Blk) → IsLawful plan h → slice_get h i ≡ Some (End w c)
+    → is_block_cancelled plan h c.0 ≡ is_block_cancelled plan (take i h) c.0
+unfolding IsLawful
+cancelled_at_end plan h w i c lawful at =
+    let front : IsLawful plan (take i h) = lawful_take plan h i lawful in
+    let held = givings_are_the_holders plan (take i h) front (End w c) (Block c) refl (lawful i (End w c) at) in
+    ap (λ (l : List Event). is_block_cancelled plan l c.0) (sym (take-append-drop i h))
+    ∙ cancelled_kept_on plan (take i h) (drop i h) c.0 (begun_where_held plan (take i h) w c front held)
+
+-- what lies in the slot of a block that has ended, by whether it is cancelled
+done_at_end : (files : List (List ℕ)) (plan : PlanView) (h : List Event) (c : Blk) (first cell : WorkCell) (marked : Bool) → is_block_cancelled plan h c.0 ≡ marked
+    → ((v : ℕ) → work_gives first v → v ≡ value_of plan files c.0) → BodyLies work_shape work_gives first true marked cell
+    → cell ≡ Done (value_at_end plan files h c.0)
+done_at_end files plan h c first cell false at works lies =
+    is_done cell lies.0 lies.1 ∙ ap Done (works lies.0 lies.2)
+    ∙ ap (λ (t : Bool). let given : WorkCell = Done (if t then 0 else value_of plan files c.0) in given) (sym at)
+done_at_end files plan h c first cell true at works lies =
+    is_done cell 0 lies ∙ ap (λ (t : Bool). let given : WorkCell = Done (if t then 0 else value_of plan files c.0) in given) (sym at)
+
+-- what it comes to lies in the slot of a block that has ended
+lies_at_end : (files : List (List ℕ)) (t : Terms WorkCell) (h : List Event) (cells : List WorkCell) (w i : ℕ) (c : Blk) → IsLawful t.plan h
     → GiveWorks t.plan files t.cells → AtRest work_shape work_gives t h cells → slice_get h i ≡ Some (End w c) → c.0 < length t.plan.blocks
-    → slice_get cells c.0 ≡ Some (Done (value_of t.plan files c.0))
-value_at_end files t h cells w i c lawful works rest at within =
+    → slice_get cells c.0 ≡ Some (Done (value_at_end t.plan files (take i h) c.0))
+lies_at_end files t h cells w i c lawful works rest at within =
     let ended : is_ended h c.0 ≡ true = ended_at h i w c at in
     let width = rest.width in
     let here = slice_get_some cells c.0 (omega (arith, width, within)) in
     let first = works c.0 within in
     let lies = rest.lie (Block c) here.0 within (ended_is_nobodys t.plan h c lawful ended) (elem_of cells c.0 here.0 here.1) first.0 first.1 in
-    let is : BodyLies work_shape work_gives first.0 true here.0 = subst (λ (b : Bool). BodyLies work_shape work_gives first.0 b here.0) ended lies in
-    here.1 ∙ ap Some (is_done here.0 is.0 is.1 ∙ ap Done (first.2 is.0 is.2))
+    let marked : Bool = is_block_cancelled t.plan (take i h) c.0 in
+    let is : BodyLies work_shape work_gives first.0 true marked here.0 =
+    subst (λ (m : Bool). BodyLies work_shape work_gives first.0 true m here.0) (cancelled_at_end t.plan h w i c lawful at)
+    (subst (λ (b : Bool). BodyLies work_shape work_gives first.0 b (is_block_cancelled t.plan h c.0) here.0) ended lies) in
+    here.1 ∙ ap Some (done_at_end files t.plan (take i h) c first.0 here.0 marked refl first.2 is)
 
 pub values_of_all : (files : List (List ℕ)) (t : Terms WorkCell) (h : List Event) (cells : List WorkCell) → IsLawful t.plan h
     → GiveWorks t.plan files t.cells → AtRest work_shape work_gives t h cells → HaveTheirValues t.plan files cells h
 unfolding IsLawful
 values_of_all files t h cells lawful works rest i e at = go e at (end_fits t.plan (take i h) e (lawful i e at))
   where
-    go : (x : Event) → slice_get h i ≡ Some x → EndFits t.plan x → HasItsValue t.plan files cells x
+    go : (x : Event) → slice_get h i ≡ Some x → EndFits t.plan x → HasItsValue t.plan files cells (take i h) x
     go (Start w b) is fits = tt
     go (Acted w r j) is fits = tt
     go (Wake w b) is fits = tt
-    go (End w b) is fits = (fits, value_at_end files t h cells w i b lawful works rest is fits)
+    go (End w b) is fits = (fits, lies_at_end files t h cells w i b lawful works rest is fits)
     go (Deliver w s) is fits = tt
     go (DeliverEnd w s) is fits = tt
     go (Tick s) is fits = tt
@@ -87,6 +114,8 @@ values_of_all files t h cells lawful works rest i e at = go e at (end_fits t.pla
     go (Misuse w k r j) is fits = tt
     go Halt is fits = tt
     go (Expire b) is fits = tt
+    go (Accept b s) is fits = tt
+    go Shut is fits = tt
 
 -- what lies at a place
 pub at_place : {A : Type 0} (xs : List A) (i : ℕ) (x : A) → slice_get xs i ≡ Some x → (d : A) → slice_index_or xs i d ≡ x
@@ -101,6 +130,11 @@ values_at_rest plan files b p cells pass is works rest =
     (values_of_all files (terms_of b) (view p).seen cells (lawful_pass work_shape work_gives b p pass)
     (subst (λ (k : PlanView). GiveWorks k files (terms_of b).cells) (sym is) works)
     (subst (λ (t : Terms WorkCell). AtRest work_shape work_gives t (view p).seen cells) pass.terms rest))
+
+-- what the pass of such a board has seen is lawful
+pub lawful_at_rest : (plan : PlanView) (b : RowBoard WorkCell) (p : RowPass WorkCell) → IsPassOf work_shape work_gives b p → (terms_of b).plan ≡ plan
+    → IsLawful plan (view p).seen
+lawful_at_rest plan b p pass is = subst (λ (k : PlanView). IsLawful k (view p).seen) is (lawful_pass work_shape work_gives b p pass)
 
 -- there is a cell for each block
 pub wide_at_end : (plan : PlanView) (b : RowBoard WorkCell) (p : RowPass WorkCell) (cells : List WorkCell)

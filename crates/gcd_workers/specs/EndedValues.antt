@@ -1,9 +1,10 @@
 -- What the cells of a board of jobs tell of the values of blocks.
-use Rattle.std.specs.Prelude.{◌≡◌, ◌<◌, ℕ, List, length, Some, slice_get}
+use Rattle.std.specs.Prelude.{◌≡◌, ◌<◌, ℕ, List, length, Some, slice_get, take}
 use Rattle.gcd_plan.specs.PlanView.{PlanView}
 use Rattle.gcd_event.specs.declared.event.Event.{Event}
-use Rattle.gcd_event.specs.declared.event.Event.TheVariants.{Start, Act as Acted, Wake, End, Deliver, DeliverEnd, Tick, Ready, FeedEnd, Misuse, Halt, Expire}
+use Rattle.gcd_event.specs.declared.event.Event.TheVariants.{Start, Act as Acted, Wake, End, Deliver, DeliverEnd, Tick, Ready, FeedEnd, Misuse, Halt, Expire, Accept, Shut}
 use Rattle.gcd_history.specs.Values.{value_of}
+use Rattle.gcd_jobs.specs.BlockValues.{value_at_end}
 use Rattle.gcd_jobs.specs.Jobs.{job_value}
 use Rattle.gcd_jobs.specs.declared.file_job.FileJob.{FileJob}
 use Rattle.gcd_jobs.specs.declared.tally.Tally.{Tally}
@@ -31,21 +32,24 @@ abbrev pub GiveWorks : PlanView → (files : List (List ℕ)) → List WorkCell 
 GiveWorks plan files cells = (b : ℕ) → b < length plan.blocks
     → (first : WorkCell) × (slice_get cells b ≡ Some first) × ((v : ℕ) → work_gives first v → v ≡ value_of plan files b)
 
--- where the event ends a block, that is one of the plan, and the value of its work lies in its slot
-abbrev pub HasItsValue : PlanView → (files : List (List ℕ)) → List WorkCell → Event → Type 0
-HasItsValue plan files cells (Start w b) = Unit {0}
-HasItsValue plan files cells (Acted w r i) = Unit {0}
-HasItsValue plan files cells (Wake w b) = Unit {0}
-HasItsValue plan files cells (End w b) = (b.0 < length plan.blocks) × (slice_get cells b.0 ≡ Some (Done (value_of plan files b.0)))
-HasItsValue plan files cells (Deliver w s) = Unit {0}
-HasItsValue plan files cells (DeliverEnd w s) = Unit {0}
-HasItsValue plan files cells (Tick t) = Unit {0}
-HasItsValue plan files cells (Ready s n) = Unit {0}
-HasItsValue plan files cells (FeedEnd s) = Unit {0}
-HasItsValue plan files cells (Misuse w c r i) = Unit {0}
-HasItsValue plan files cells Halt = Unit {0}
-HasItsValue plan files cells (Expire b) = Unit {0}
+-- where the event, which comes after this history, ends a block, that is one of the plan, and what it comes to lies in its slot: the
+-- value of its work, or 0 where it is cancelled
+abbrev pub HasItsValue : PlanView → (files : List (List ℕ)) → List WorkCell → List Event → Event → Type 0
+HasItsValue plan files cells h (Start w b) = Unit {0}
+HasItsValue plan files cells h (Acted w r i) = Unit {0}
+HasItsValue plan files cells h (Wake w b) = Unit {0}
+HasItsValue plan files cells h (End w b) = (b.0 < length plan.blocks) × (slice_get cells b.0 ≡ Some (Done (value_at_end plan files h b.0)))
+HasItsValue plan files cells h (Deliver w s) = Unit {0}
+HasItsValue plan files cells h (DeliverEnd w s) = Unit {0}
+HasItsValue plan files cells h (Tick t) = Unit {0}
+HasItsValue plan files cells h (Ready s n) = Unit {0}
+HasItsValue plan files cells h (FeedEnd s) = Unit {0}
+HasItsValue plan files cells h (Misuse w c r i) = Unit {0}
+HasItsValue plan files cells h Halt = Unit {0}
+HasItsValue plan files cells h (Expire b) = Unit {0}
+HasItsValue plan files cells h (Accept b s) = Unit {0}
+HasItsValue plan files cells h Shut = Unit {0}
 
 -- so it is at each event
 abbrev pub HaveTheirValues : PlanView → (files : List (List ℕ)) → List WorkCell → List Event → Type 0
-HaveTheirValues plan files cells h = (i : ℕ) (e : Event) → slice_get h i ≡ Some e → HasItsValue plan files cells e
+HaveTheirValues plan files cells h = (i : ℕ) (e : Event) → slice_get h i ≡ Some e → HasItsValue plan files cells (take i h) e

@@ -4,10 +4,11 @@ use Rattle.gcd_plan.specs.Limits.{max_workers}
 use Rattle.gcd_plan.specs.PlanView.{PlanView}
 use Rattle.gcd_event.specs.declared.event.Event.{Event}
 use Rattle.gcd_history.specs.Ends.{HasEnded, HasState}
-use Rattle.gcd_history.specs.History.{IsLawful, is_ended}
+use Rattle.gcd_history.specs.History.{IsLawful}
 use Rattle.gcd_history.specs.declared.state.State.{State}
+use Rattle.gcd_jobs.specs.BlockValues.{has_given}
 use Rattle.gcd_jobs.specs.declared.tally.Tally.{Tally}
-use Rattle.gcd_loop.specs.Followed.{FollowsChoice, IsOfWorkers}
+use Rattle.gcd_loop.specs.Followed.{AcceptsNone, FollowsChoice, IsOfWorkers}
 use Rattle.gcd_row.specs.Shapes.{Shape, shape_of}
 use Rattle.gcd_row.specs.declared.cell.Cell.{Cell}
 use Rattle.gcd_row.specs.declared.cell.Cell.TheVariants.{Body, Done}
@@ -24,15 +25,15 @@ pub record IsGiven {J : Type 0} (gives : J → ℕ → ℕ → Type 0) (jobs : L
   pub value_of : slice_get values b ≡ Some (Some value)
   pub given : gives job 0 value
 
--- for each block a value that its job may give where its End stands, and else none
+-- for each block a value that its job may give where it has ended and is not cancelled, and else none
 pub record AreGiven {J : Type 0} (gives : J → ℕ → ℕ → Type 0) (plan : PlanView) (jobs : List J) (h : List Event) (values : List (Option ℕ)) : Type 0 where
   pub count : length values ≡ length plan.blocks
-  pub ended : (b : ℕ) → b < length plan.blocks → is_ended h b ≡ true → IsGiven gives jobs values b
-  pub others : (b : ℕ) → b < length plan.blocks → is_ended h b ≡ false → slice_get values b ≡ Some None
+  pub ended : (b : ℕ) → b < length plan.blocks → has_given plan h b ≡ true → IsGiven gives jobs values b
+  pub others : (b : ℕ) → b < length plan.blocks → has_given plan h b ≡ false → slice_get values b ≡ Some None
 
 -- The run of a plan with these jobs by so many workers, of at most `most` events: its journal is lawful and has ended, in this state; each
--- event is of one of the workers, and with one worker each event of a worker is what that worker chooses at its place; and these are the
--- values of the blocks.
+-- event is of one of the workers, and with one worker each event of a worker is what that worker chooses at its place; no job of an outside
+-- caller is accepted, since there are none; and these are the values of the blocks.
 pub record RunsJobs {J : Type 0} (gives : J → ℕ → ℕ → Type 0) (most : ℕ) (plan : PlanView) (jobs : List J) (workers : ℕ) (h : List Event)
     (values : List (Option ℕ)) (state : State) : Type 0 where
   pub lawful : IsLawful plan h
@@ -41,6 +42,7 @@ pub record RunsJobs {J : Type 0} (gives : J → ℕ → ℕ → Type 0) (most : 
   pub few : length h ≤ most
   pub by : IsOfWorkers workers h
   pub chosen : workers ≡ 1 → FollowsChoice plan h
+  pub uncalled : AcceptsNone h
   pub given : AreGiven gives plan jobs h values
 
 module _ {J : Type 0} where
@@ -52,8 +54,8 @@ module _ {J : Type 0} where
   abbrev pub AreLaid : (jobs : List J) (cells : List (Cell J Tally)) → Type 0
   AreLaid jobs cells = (b : ℕ) (job : J) → slice_get jobs b ≡ Some job → slice_get cells b ≡ Some (Body job)
 
-  -- the values of the first n blocks are what their slots have where they have ended, and else none
-  pub record AreTaken (h : List Event) (cells : List (Cell J Tally)) (n : ℕ) (values : List (Option ℕ)) : Type 0 where
+  -- the values of the first n blocks are what their slots have where they have ended and are not cancelled, and else none
+  pub record AreTaken (plan : PlanView) (h : List Event) (cells : List (Cell J Tally)) (n : ℕ) (values : List (Option ℕ)) : Type 0 where
     pub count : length values ≡ n
-    pub ended : (b v : ℕ) → b < n → is_ended h b ≡ true → slice_get cells b ≡ Some (Done v) → slice_get values b ≡ Some (Some v)
-    pub others : (b : ℕ) → b < n → is_ended h b ≡ false → slice_get values b ≡ Some None
+    pub ended : (b v : ℕ) → b < n → has_given plan h b ≡ true → slice_get cells b ≡ Some (Done v) → slice_get values b ≡ Some (Some v)
+    pub others : (b : ℕ) → b < n → has_given plan h b ≡ false → slice_get values b ≡ Some None

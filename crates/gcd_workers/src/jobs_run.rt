@@ -9,7 +9,7 @@ use std::fmt;
 pub struct JobsRun {
     /// All events, in order.
     pub journal: Vec<Event>,
-    /// For each block, by number, the value that its job gave where the block has ended, and else None.
+    /// For each block, by number, the value that its job gave where the block has ended and is not cancelled, and else None.
     pub values: Vec<Option<u64>>,
     /// How far the run has come.
     pub state: State,

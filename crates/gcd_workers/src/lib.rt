@@ -26,14 +26,14 @@
 //!
 //! | clause of the last three | says |
 //! |---|---|
-//! | `ran` (`RunsOverFiles`) | where memory sufficed: the journal is lawful, has at most `most` events, and has ended, in the state told; each event is of one of the workers, and with one of them each event of a worker is what worker 0 chooses at its place; what poller and clock said stands in it (`RunsPlan` of `gcd_loop`); and the values are those of the blocks that have ended, and else 0 |
+//! | `ran` (`RunsOverFiles`) | where memory sufficed: the journal is lawful, has at most `most` events, and has ended, in the state told; each event is of one of the workers, and with one of them each event of a worker is what worker 0 chooses at its place; no job of an outside caller is accepted, since there are none, and what poller and clock said stands in it (`RunsPlan` of `gcd_loop`); and the values are those of the works of the blocks that have ended and are not cancelled, and else 0 |
 //! | `stands` | the machine that is left stands for the journal |
 //! | `kept` | no listen was made, and the poller's count of faults did not fall; this holds where memory runs out too |
 //! | `before` | where the answer is [`RunRefused::BeforeTheRun`], poller and clock are as they were; [`run_pool`] has it too |
 //!
 //! | clause of `run_jobs` | says |
 //! |---|---|
-//! | `ran` (`RunsJobs`) | where it is run: the journal is lawful, has at most `most` events, and has ended, in the state told; whose its events are, as above; and a block has a value exactly where its End stands, which is one that its own job may give (`AreGiven`) |
+//! | `ran` (`RunsJobs`) | where it is run: the journal is lawful, has at most `most` events, and has ended, in the state told; whose its events are, as above; and a block has a value exactly where it has ended and is not cancelled, which is one that its own job may give (`AreGiven`) |
 //! | `job_count`, `worker_count`, `event_count` | it is refused by that name exactly where there is not one job for each block; where else the number of workers is 0 or above 64; and where else there may be no event |
 //!
 //! A run by worker 0 alone takes memory before its first turn, and where its list has to grow; what is left of it at a refusal

@@ -2,9 +2,10 @@
 ghost use Rattle.std.specs.Prelude.{◌≡◌, ◌<◌, ◌++◌, ◌∷◌, [], List, length, IfOk, OnOk};
 ghost use Rattle.gcd_event.specs.declared.event.Event.{Event};
 ghost use Rattle.gcd_history.specs.Values.{value_of};
-ghost use Rattle.gcd_jobs.specs.BlockValues.{AreValues};
+ghost use Rattle.gcd_jobs.specs.BlockValues.{AreValues, value_at_end};
 ghost use Rattle.gcd_jobs.specs.Contents.{contents};
 ghost use Rattle.gcd_jobs.specs.Ends.{EndFits};
+ghost use Rattle.gcd_machine.specs.Stands.{StandsFor};
 ghost use Rattle.gcd_workers.specs.ListRuns.{IsListRun, IsNext};
 
 use gcd_event::Event;
@@ -37,17 +38,32 @@ fn block_value(plan: &Plan, files: &[Vec<u8>], b: Blk) -> u64
     FileJob::new(files, plan.work(b)).run(0)
 }
 
-// The values after one more event: an End gives its block a value.
+// What a block comes to at its End: the value of its work, which is not computed of a cancelled block: that comes to 0
+// (dispatch_block_cancel(3)).
 #[inline(always)]
-fn note_end(plan: &Plan, files: &[Vec<u8>], e: Event, values: &mut Vec<u64>)
+fn value_at_end(plan: &Plan, files: &[Vec<u8>], machine: &Machine, b: Blk) -> u64
+    requires own { machine.now.plan ≡ plan.now }
+    requires within { b.0 < length plan.now.blocks }
+    ensures { (h : List Event) → StandsFor machine.now plan.now h → result ≡ value_at_end plan.now (contents files.now) h b.0 }
+{
+    if machine.is_cancelled(b) {
+        return 0;
+    }
+    block_value(plan, files, b)
+}
+
+// The values after one more event, of the machine before it: an End gives its block a value.
+#[inline(always)]
+fn note_end(plan: &Plan, files: &[Vec<u8>], machine: &Machine, e: Event, values: &mut Vec<u64>)
+    requires own { machine.now.plan ≡ plan.now }
     requires count { length values.old.items ≡ length plan.now.blocks }
     requires ends { EndFits plan.now e }
-    ensures values { (h : List Event) → AreValues plan.now (contents files.now) h values.old.items
+    ensures values { (h : List Event) → StandsFor machine.now plan.now h → AreValues plan.now (contents files.now) h values.old.items
         → AreValues plan.now (contents files.now) (h ++ e ∷ []) values.new.items }
 {
     match e.ended() {
         Some(Run::Block(blk)) => {
-            values[blk.0 as usize] = block_value(plan, files, blk);
+            values[blk.0 as usize] = value_at_end(plan, files, machine, blk);
         }
         Some(Run::Source(_)) => {}
         None => {}
@@ -92,7 +108,7 @@ impl ListRun {
         ensures run { IsListRun most plan.now (contents files.now) self.new.journal.items self.new.values.items self.new.machine }
     {
         self.journal.push(e)?;
-        note_end(plan, files, e, &mut self.values);
+        note_end(plan, files, &self.machine, e, &mut self.values);
         self.machine.apply(e);
         Ok(())
     }

@@ -8,7 +8,7 @@ use gcd_machine::Machine;
 pub struct Outcome {
     /// All events, in order.
     pub journal: Vec<Event>,
-    /// For each block the value of its work where it has ended, and else 0.
+    /// For each block the value of its work where it has ended and is not cancelled, and else 0.
     pub values: Vec<u64>,
     /// How far the run has come.
     pub state: State,

@@ -4,6 +4,7 @@ ghost use Rattle.gcd_plan.specs.Limits.{max_workers};
 ghost use Rattle.gcd_plan.specs.PlanView.{PlanView};
 ghost use Rattle.gcd_event.specs.declared.event.Event.{Event};
 ghost use Rattle.gcd_history.specs.Ends.{HasState};
+ghost use Rattle.gcd_jobs.specs.BlockValues.{has_given};
 ghost use Rattle.gcd_machine.specs.Stands.{StandsFor};
 ghost use Rattle.gcd_row.specs.Passes.{IsGathered, IsPassOf, terms_of, view};
 ghost use Rattle.gcd_row.specs.Shapes.{gives_of};
@@ -53,12 +54,20 @@ fn open<J: Job + Drop>(
     Ok(Board::new(alloc, plan, jobs, tallies, workers, most)?)
 }
 
-// What the slot of a block has: the value that its job gave, where the block has ended.
-fn value_in<J>(cell: &Cell<J, Tally>, ended: bool) -> Option<u64>
-    ensures ended { (v : ℕ) → ended ≡ true → cell.now ≡ Done v → result ≡ Some v }
-    ensures other { ended ≡ false → result ≡ None }
+// Whether a block has given its value: it has ended, and is not cancelled.
+fn has_given(machine: &Machine, b: Blk) -> bool
+    requires { b.0 < length machine.now.plan.blocks }
+    ensures { (plan : PlanView) (h : List Event) → StandsFor machine.now plan h → result ≡ has_given plan h b.0 }
 {
-    if !ended {
+    machine.is_ended(b) && !machine.is_cancelled(b)
+}
+
+// What the slot of a block has: the value that its job gave, where it gave one.
+fn value_in<J>(cell: &Cell<J, Tally>, given: bool) -> Option<u64>
+    ensures ended { (v : ℕ) → given ≡ true → cell.now ≡ Done v → result ≡ Some v }
+    ensures other { given ≡ false → result ≡ None }
+{
+    if !given {
         return None;
     }
     match cell {
@@ -77,12 +86,12 @@ fn values_of<J>(
 ) -> Result<Vec<Option<u64>>, AllocError>
     requires { length machine.now.plan.blocks ≤ length cells.now }
     ensures { IfOk result (λ values. (plan : PlanView) (h : List Event) → StandsFor machine.now plan h
-        → AreTaken h cells.now (length machine.now.plan.blocks) values.items) }
+        → AreTaken plan h cells.now (length machine.now.plan.blocks) values.items) }
 {
     let mut values = Vec::with_capacity(alloc, machine.blocks() as usize)?;
     for number in 0..machine.blocks() {
-        let ended = machine.is_ended(Blk(number));
-        values.push(value_in(&cells[number as usize], ended))?;
+        let given = has_given(machine, Blk(number));
+        values.push(value_in(&cells[number as usize], given))?;
     }
     Ok(values)
 }
@@ -186,7 +195,8 @@ fn run_jobs_by_team<J: Job + Drop + Send, R: Threads + Wait + Sync>(
 
 /// Runs a caller's own jobs: the plan by at most so many workers, until the run is quiescent or halted, or has `most` events. With
 /// `MAX_EVENTS` there is no limit but that of all runs. There is one job for each block, by number, so the first is `main`'s; it runs at
-/// most once, at the input 0, where its block comes to its end, and a block has a value exactly where it has ended. Each source's handler
+/// most once, at the input 0, where its block comes to its end, and never where its block is cancelled (dispatch_block_cancel(3)). A block
+/// has a value exactly where it has ended and is not cancelled. There are no outside callers: an intake is shut at once. Each source's handler
 /// is a tally, of which nothing is told. Board, rack, tallies, poller and clock are made by the call, and dropped.
 ///
 /// The outside is in memory. No feed is told of: a read source delivers nothing, and its feed ends after as many empty answers as

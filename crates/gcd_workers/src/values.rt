@@ -1,8 +1,10 @@
 // The values of blocks, of a journal and the cells at its end.
 ghost use Rattle.std.specs.Prelude.{◌≡◌, ◌≤◌, ◌++◌, ◌∷◌, [], ℕ, List, length, replicate};
 ghost use Rattle.gcd_event.specs.declared.event.Event.{Event};
+ghost use Rattle.gcd_history.specs.History.{IsLawful};
 ghost use Rattle.gcd_jobs.specs.BlockValues.{AreValues};
 ghost use Rattle.gcd_jobs.specs.Contents.{contents};
+ghost use Rattle.gcd_jobs.specs.Ends.{EndFits};
 ghost use Rattle.gcd_row.specs.declared.cell.Cell.TheVariants.{Done};
 ghost use Rattle.gcd_workers.specs.EndedValues.{HaveTheirValues, HasItsValue};
 
@@ -27,8 +29,9 @@ fn value_in(cell: &WorkCell) -> u64
 fn note_end(_plan: &Plan, _files: &[Vec<u8>], cells: &[WorkCell], e: Event, values: &mut Vec<u64>)
     requires count { length values.old.items ≡ length _plan.now.blocks }
     requires cells { length _plan.now.blocks ≤ length cells.now }
-    requires valued { HasItsValue _plan.now (contents _files.now) cells.now e }
-    ensures { (h : List Event) → AreValues _plan.now (contents _files.now) h values.old.items
+    requires ends { EndFits _plan.now e }
+    ensures { (h : List Event) → IsLawful _plan.now h → HasItsValue _plan.now (contents _files.now) cells.now h e
+        → AreValues _plan.now (contents _files.now) h values.old.items
         → AreValues _plan.now (contents _files.now) (h ++ e ∷ []) values.new.items }
 {
     match e.ended() {
@@ -40,7 +43,7 @@ fn note_end(_plan: &Plan, _files: &[Vec<u8>], cells: &[WorkCell], e: Event, valu
     }
 }
 
-// The values after all events: each block that has ended has what lies in its slot.
+// The values after all events, a lawful history: each block that has ended has what lies in its slot.
 pub fn note_all(
     plan: &Plan,
     files: &[Vec<u8>],
@@ -50,6 +53,7 @@ pub fn note_all(
 )
     requires zeros { values.old.items ≡ replicate (length plan.now.blocks) 0 }
     requires cells { length plan.now.blocks ≤ length cells.now }
+    requires lawful { IsLawful plan.now journal.now }
     requires valued { HaveTheirValues plan.now (contents files.now) cells.now journal.now }
     ensures { AreValues plan.now (contents files.now) journal.now values.new.items }
 {

@@ -1,5 +1,6 @@
 mod alone;
 mod jobs;
+mod made;
 mod plans;
 mod ring;
 

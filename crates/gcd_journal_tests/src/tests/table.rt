@@ -3,11 +3,14 @@
 use gcd_plan::{Act, Blk, Kind, Obj};
 
 // The name, the kind and the target of each object beside `root`, the number of one that is created inactive, 0 for none, and
-// the name and the acts of each block, `main` first.
+// the name and the acts of each block, `main` first; behind these stand the blocks of an intake and of a strip.
 pub struct Setting {
     pub inactive: u32,
     // a block that counts the lines of a file, 0 for none
     pub worker: u32,
+    // how many blocks an intake on object 1 has, 0 for no intake, and how many the strip `a` has, 0 for no strip
+    pub intake: u32,
+    pub strip: u32,
     pub objects: &'static [(&'static str, Kind, u32)],
     pub blocks: &'static [(&'static str, &'static [Act])],
 }
@@ -26,17 +29,22 @@ pub const B3: Blk = Blk(3);
 
 // One block on a serial queue; a block and a barrier on `root`, on a concurrent queue, and on two of them beneath a serial one;
 // a queue that is suspended far below; a queue whose target changes; misuses of a queue; a source; a group wait; a call into the
-// own queue, a wait on a group and one on a semaphore that do not pass.
-static PLANS: [Setting; 15] = [
+// own queue, a wait on a group and one on a semaphore that do not pass, waits with a limit; an intake; a strip; a block that is
+// cancelled; a wait for a block that is not submitted; a strip on an inactive queue.
+static PLANS: [Setting; 20] = [
     Setting {
         inactive: 0,
         worker: 1,
+        intake: 0,
+        strip: 0,
         objects: &[("q", Kind::Serial, 0)],
         blocks: &[("main", &[Act::Async(O1, B1)]), ("b1", &[])],
     },
     Setting {
         inactive: 0,
         worker: 0,
+        intake: 0,
+        strip: 0,
         objects: &[],
         blocks: &[
             ("main", &[Act::Async(Obj(0), B1), Act::Barrier(Obj(0), B2)]),
@@ -47,6 +55,8 @@ static PLANS: [Setting; 15] = [
     Setting {
         inactive: 0,
         worker: 0,
+        intake: 0,
+        strip: 0,
         objects: &[("q", Kind::Concurrent, 0)],
         blocks: &[
             ("main", &[Act::Async(O1, B1), Act::Barrier(O1, B2)]),
@@ -57,6 +67,8 @@ static PLANS: [Setting; 15] = [
     Setting {
         inactive: 0,
         worker: 0,
+        intake: 0,
+        strip: 0,
         objects: &[
             ("t", Kind::Serial, 0),
             ("c", Kind::Concurrent, 1),
@@ -71,6 +83,8 @@ static PLANS: [Setting; 15] = [
     Setting {
         inactive: 0,
         worker: 0,
+        intake: 0,
+        strip: 0,
         objects: &[
             ("g", Kind::Serial, 0),
             ("p", Kind::Serial, 1),
@@ -87,6 +101,8 @@ static PLANS: [Setting; 15] = [
     Setting {
         inactive: 0,
         worker: 0,
+        intake: 0,
+        strip: 0,
         objects: &[("t", Kind::Serial, 0), ("q", Kind::Serial, 0)],
         blocks: &[
             (
@@ -101,6 +117,8 @@ static PLANS: [Setting; 15] = [
     Setting {
         inactive: 1,
         worker: 0,
+        intake: 0,
+        strip: 0,
         objects: &[("q", Kind::Serial, 0)],
         blocks: &[
             ("main", &[Act::Activate(O1), Act::Target(O1, Obj(0))]),
@@ -110,6 +128,8 @@ static PLANS: [Setting; 15] = [
     Setting {
         inactive: 0,
         worker: 0,
+        intake: 0,
+        strip: 0,
         objects: &[("q", Kind::Serial, 0)],
         blocks: &[
             ("main", &[Act::Release(O1), Act::Async(O1, B1)]),
@@ -119,18 +139,24 @@ static PLANS: [Setting; 15] = [
     Setting {
         inactive: 0,
         worker: 0,
+        intake: 0,
+        strip: 0,
         objects: &[("q", Kind::Serial, 0)],
         blocks: &[("main", &[Act::Suspend(O1), Act::Release(O1)]), ("b", &[])],
     },
     Setting {
         inactive: 0,
         worker: 0,
+        intake: 0,
+        strip: 0,
         objects: &[("s", Kind::Add, 0), ("g", Kind::Group, 0)],
         blocks: &[("main", &[Act::Merge(O1, 5), Act::Activate(O1)])],
     },
     Setting {
         inactive: 0,
         worker: 0,
+        intake: 0,
+        strip: 0,
         objects: &[("g", Kind::Group, 0), ("q", Kind::Serial, 0)],
         blocks: &[
             (
@@ -148,6 +174,8 @@ static PLANS: [Setting; 15] = [
     Setting {
         inactive: 0,
         worker: 0,
+        intake: 0,
+        strip: 0,
         objects: &[("q", Kind::Serial, 0)],
         blocks: &[
             ("main", &[Act::Async(O1, B2)]),
@@ -158,18 +186,24 @@ static PLANS: [Setting; 15] = [
     Setting {
         inactive: 0,
         worker: 0,
+        intake: 0,
+        strip: 0,
         objects: &[("g", Kind::Group, 0)],
         blocks: &[("main", &[Act::Enter(O1), Act::GroupWait(O1)])],
     },
     Setting {
         inactive: 0,
         worker: 0,
+        intake: 0,
+        strip: 0,
         objects: &[("s", Kind::Semaphore(0), 0)],
         blocks: &[("main", &[Act::Wait(O1)])],
     },
     Setting {
         inactive: 0,
         worker: 0,
+        intake: 0,
+        strip: 0,
         objects: &[("s", Kind::Semaphore(0), 0), ("g", Kind::Group, 0)],
         blocks: &[(
             "main",
@@ -180,18 +214,63 @@ static PLANS: [Setting; 15] = [
             ],
         )],
     },
+    Setting {
+        inactive: 0,
+        worker: 0,
+        intake: 2,
+        strip: 0,
+        objects: &[("q", Kind::Serial, 0)],
+        blocks: &[("main", &[])],
+    },
+    Setting {
+        inactive: 0,
+        worker: 0,
+        intake: 0,
+        strip: 2,
+        objects: &[("q", Kind::Concurrent, 0)],
+        blocks: &[("main", &[Act::Apply(O1, 0)])],
+    },
+    Setting {
+        inactive: 0,
+        worker: 1,
+        intake: 0,
+        strip: 0,
+        objects: &[("q", Kind::Serial, 0)],
+        blocks: &[
+            ("main", &[Act::Async(O1, B1), Act::CancelBlock(B1)]),
+            ("b1", &[]),
+        ],
+    },
+    Setting {
+        inactive: 0,
+        worker: 0,
+        intake: 0,
+        strip: 0,
+        objects: &[],
+        blocks: &[("main", &[Act::WaitBlock(B1)]), ("b1", &[])],
+    },
+    Setting {
+        inactive: 1,
+        worker: 0,
+        intake: 0,
+        strip: 2,
+        objects: &[("q", Kind::Concurrent, 0)],
+        blocks: &[("main", &[Act::Apply(O1, 0)])],
+    },
 ];
 
 // A semaphore.
 pub const SEMAPHORE: Setting = Setting {
     inactive: 0,
     worker: 0,
+    intake: 0,
+    strip: 0,
     objects: &[("s", Kind::Semaphore(0), 0)],
     blocks: &[],
 };
 
 // The plan's number, a journal, what is said of it, and whether it is a journal and nothing follows it.
-static ROWS: [(usize, &str, &str, bool); 48] = [
+static ROWS: [(usize, &str, &str, bool); 62] = [
     (
         0,
         "start 0 main; act 0 main 0; end 0 main; start 0 b1; end 0 b1; events 5; ",
@@ -425,10 +504,44 @@ static ROWS: [(usize, &str, &str, bool); 48] = [
         "line 4",
         false,
     ),
+    (
+        15,
+        "accept +1 0; accept +2 63; shut; start 0 main; end 0 main; start 0 +1; end 0 +1; start 0 +2; end 0 +2; events 9; ",
+        "lawful 9 Drained",
+        true,
+    ),
+    (
+        15,
+        "start 0 main; end 0 main; events 2; ",
+        "lawful 2 Live",
+        true,
+    ),
+    (15, "accept main 0; events 1; ", "line 1", false),
+    (15, "accept +1 64; events 1; ", "line 1", false),
+    (15, "accept +1; events 1; ", "line 1", false),
+    (15, "accept +3 0; events 1; ", "line 1", false),
+    (15, "accept q 0; events 1; ", "line 1", false),
+    (15, "shut 0; events 1; ", "line 1", false),
+    (15, "accept +2 0; events 1; ", "event 0", true),
+    (
+        16,
+        "start 0 main; act 0 main 0; start 0 a.0; start 1 a.1; end 1 a.1; end 0 a.0; wake 0 main; end 0 main; events 8; ",
+        "lawful 8 Drained",
+        true,
+    ),
+    (16, "accept a.0 0; events 1; ", "event 0", true),
+    (16, "shut; events 1; ", "event 0", true),
+    (16, "start 0 a; events 1; ", "line 1", false),
+    (
+        17,
+        "start 0 main; act 0 main 0; act 0 main 1; end 0 main; start 0 b1; end 0 b1; events 6; ",
+        "lawful 6 Drained",
+        true,
+    ),
 ];
 
 // The plan's number, a journal, and the report of its events where block b has the value 3 * b.
-static REPORTS: [(usize, &str, &str); 11] = [
+static REPORTS: [(usize, &str, &str); 16] = [
     (
         0,
         "start 0 main; act 0 main 0; end 0 main; start 0 b1; end 0 b1; events 5; ",
@@ -483,6 +596,31 @@ static REPORTS: [(usize, &str, &str); 11] = [
         14,
         "start 0 main; act 0 main 0; tick 5; expire main; wake 0 main; act 0 main 1; act 0 main 2; expire main; wake 0 main; end 0 main; events 10; ",
         "drained; ",
+    ),
+    (
+        16,
+        "start 0 main; act 0 main 0; start 0 a.0; start 1 a.1; end 1 a.1; end 0 a.0; wake 0 main; end 0 main; events 8; ",
+        "a.0 = 3; a.1 = 6; drained; ",
+    ),
+    (
+        17,
+        "start 0 main; act 0 main 0; act 0 main 1; end 0 main; start 0 b1; end 0 b1; events 6; ",
+        "b1 cancelled; drained; ",
+    ),
+    (
+        17,
+        "start 0 main; act 0 main 0; start 1 b1; act 0 main 1; end 0 main; end 1 b1; events 6; ",
+        "b1 = 3; drained; ",
+    ),
+    (
+        18,
+        "start 0 main; act 0 main 0; events 2; ",
+        "main waits for b1; stuck; ",
+    ),
+    (
+        19,
+        "start 0 main; act 0 main 0; events 2; ",
+        "main waits for a; a.0 not started; a.1 not started; stuck; ",
     ),
 ];
 

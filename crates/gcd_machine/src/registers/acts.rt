@@ -1,8 +1,8 @@
 // One act more.
 ghost use Rattle.std.specs.Prelude.{◌≡◌, ℕ, Some};
 ghost use Rattle.gcd_history.specs.Runs.{act_at};
-ghost use Rattle.gcd_machine.specs.Steps.{acted, act_made, act_taken, parked_in, parked_by_act, effect_of, called_by, waited_for_group, waited_for_semaphore, laid_down, limited};
-ghost use Rattle.gcd_machine.specs.Conditions.{CanAct, CanDo, CanCount, CanParkIn, CanParkBy, CanHaveEffect, CanCall, CanWaitForGroup, CanWaitForSemaphore, CanBeAhead, CanLayDown, CanLetGo};
+ghost use Rattle.gcd_machine.specs.Steps.{acted, act_made, act_taken, parked_in, parked_by_act, effect_of, called_by, waited_for_group, waited_for_semaphore, waited_for_strip, waited_for_block, laid_down, limited};
+ghost use Rattle.gcd_machine.specs.Conditions.{CanAct, CanDo, CanCount, CanParkIn, CanParkBy, CanHaveEffect, CanCall, CanWaitForGroup, CanWaitForSemaphore, CanWaitForStrip, CanWaitForBlock, CanBeAhead, CanLayDown, CanLetGo};
 
 use super::Registers;
 use gcd_plan::{Act, Blk, Obj, Reason, Run};
@@ -70,10 +70,13 @@ impl Registers {
             Act::WaitFor(s, ms) => {
                 self.wait_for_semaphore(worker, blk, s, Some(self.limit_of(ms)))
             }
+            Act::Apply(_, a) => self.wait_for_strip(worker, blk, a),
+            Act::WaitBlock(other) => self.wait_for_block(worker, blk, other),
             Act::Async(..) | Act::Barrier(..) | Act::GroupAsync(..) | Act::Notify(..) => {}
             Act::Enter(_) | Act::Leave(_) | Act::Signal(_) => {}
             Act::Suspend(_) | Act::Resume(_) | Act::Activate(_) | Act::Target(..) => {}
             Act::Merge(..) | Act::Cancel(_) | Act::Retain(_) | Act::Release(_) => {}
+            Act::CancelBlock(_) | Act::NotifyBlock(..) => {}
         }
     }
 
@@ -113,6 +116,32 @@ impl Registers {
         self.park(worker, blk, Reason::Rank(s, rank), limit);
     }
 
+    // The block waits for the ends of all blocks of the strip, which it submits (dispatch_apply(3)).
+    fn wait_for_strip(&mut self, worker: u8, blk: Blk, a: u32)
+        requires { CanWaitForStrip self.old worker blk a }
+        ensures { self.new ≡ waited_for_strip self.old worker blk a }
+    {
+        if self.strips.left(a) == 0 {
+            self.let_go(blk);
+        } else {
+            self.appliers[a as usize] = Some(blk);
+        }
+        self.park(worker, blk, Reason::Strip(a), None);
+    }
+
+    // The block waits for the end of the other (dispatch_block_wait(3)).
+    fn wait_for_block(&mut self, worker: u8, blk: Blk, other: Blk)
+        requires { CanWaitForBlock self.old worker blk other }
+        ensures { self.new ≡ waited_for_block self.old worker blk other }
+    {
+        if self.ended[other.0 as usize] {
+            self.let_go(blk);
+        } else {
+            self.waiters.push(Obj(other.0), blk, false);
+        }
+        self.park(worker, blk, Reason::Block(other), None);
+    }
+
     // The block sleeps at the object, with this limit or without one.
     fn sleep(&mut self, o: Obj, blk: Blk, limit: Option<u32>)
         requires sleeps { CanLayDown self.old o blk }
@@ -148,6 +177,10 @@ impl Registers {
             Act::Cancel(s) => self.cancel(s),
             Act::Retain(o) => self.refs.retain(o),
             Act::Release(o) => self.refs.release(o),
+            Act::Apply(q, a) => self.submit_strip(q, a),
+            Act::CancelBlock(b) => self.marks.cancel(b),
+            Act::WaitBlock(_) => {}
+            Act::NotifyBlock(b, q, c) => self.tell_of(b, q, c),
         }
     }
 }

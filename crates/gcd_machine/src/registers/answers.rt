@@ -1,6 +1,7 @@
 // What a machine tells of what it keeps.
 ghost use Rattle.std.specs.Prelude.{◌≡◌, ◌<◌, ◌-◌, ◌^◌, find, length, option_map};
 ghost use Rattle.std.specs.List.{range_with_len};
+ghost use Rattle.gcd_blockobj.specs.MarksView.{is_cancelled_at as is_block_cancelled_at};
 ghost use Rattle.gcd_sync.specs.WaitsView.{reason_at};
 ghost use Rattle.gcd_history.specs.Runs.{act_of};
 ghost use Rattle.gcd_history.specs.Parked.{is_parking};
@@ -68,6 +69,14 @@ impl Registers {
         self.ended[blk.0 as usize]
     }
 
+    /// Whether the block is cancelled (dispatch_block_testcancel(3)).
+    #[inline(always)]
+    pub fn is_cancelled(&self, blk: Blk) -> bool
+        ensures { result ≡ is_block_cancelled_at self.now.marks blk.0 }
+    {
+        self.marks.is_cancelled(blk)
+    }
+
     /// What the block waits for, where it is parked.
     pub fn awaited(&self, blk: Blk) -> Option<Reason>
         requires shape { IsShaped self.now }
@@ -125,6 +134,7 @@ impl Registers {
             Event::Deliver { .. } | Event::DeliverEnd { .. } => false,
             Event::Tick { .. } | Event::Ready { .. } | Event::FeedEnd { .. } => false,
             Event::Misuse { .. } | Event::Halt | Event::Expire { .. } => false,
+            Event::Accept { .. } | Event::Shut => false,
         }
     }
 }

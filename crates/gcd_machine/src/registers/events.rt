@@ -39,6 +39,8 @@ impl Registers {
             Event::Misuse { .. } => self.misused = true,
             Event::Halt => self.halted = true,
             Event::Expire { blk } => self.expire(blk),
+            Event::Accept { blk, .. } => self.accept(blk),
+            Event::Shut => self.shut = true,
         }
     }
 
@@ -50,6 +52,7 @@ impl Registers {
     {
         let progress = self.blocks[blk.0 as usize];
         self.blocks[blk.0 as usize].started = true;
+        self.marks.began(blk);
         self.begin_run(progress.node, progress.barrier);
         self.take_up(worker, Run::Block(blk));
     }
@@ -72,7 +75,8 @@ impl Registers {
     {
         let progress = self.blocks[blk.0 as usize];
         self.close_block(worker, blk);
-        self.let_caller_go(progress.caller);
+        self.tell(blk);
+        self.end_waits(blk, progress.caller);
         self.leave_group(progress.group);
     }
 
@@ -85,6 +89,7 @@ impl Registers {
         let progress = self.blocks[blk.0 as usize];
         self.ended[blk.0 as usize] = true;
         self.left -= 1;
+        self.marks.ended(blk);
         self.close_run(progress.node, progress.barrier);
         self.set_free(worker);
     }

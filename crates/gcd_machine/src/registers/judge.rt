@@ -1,16 +1,19 @@
 // What may come next.
-ghost use Rattle.std.specs.Prelude.{◌≡◌, ◌<◌, ◌||◌, true, length};
+ghost use Rattle.std.specs.Prelude.{◌≡◌, ◌<◌, ◌||◌, is_some, true, length};
 ghost use Rattle.gcd_plan.specs.Limits.{max_workers};
 ghost use Rattle.gcd_plan.specs.Kinds.{is_source};
 ghost use Rattle.gcd_history.specs.Permitted.{is_known, is_run_of, is_worker};
 ghost use Rattle.gcd_event.specs.declared.event.Event.{Event};
+ghost use Rattle.gcd_sync.specs.WaitsView.{reason_at};
 ghost use Rattle.gcd_refinement.specs.MachineView.{live_at};
-ghost use Rattle.gcd_machine.specs.Judged.{block_fault_at, fault_at, is_at_limit_at, is_pending_at, may_tick_at, source_fault_at, why_by};
+ghost use Rattle.gcd_machine.specs.Judged.{block_fault_at, fault_at, is_at_limit_at, is_pending_at, may_tick_at, may_wake_at, source_fault_at, why_by};
 ghost use Rattle.gcd_machine.specs.Stands.{IsShaped};
 
 use super::Registers;
 use gcd_event::Event;
-use gcd_plan::{Blk, MAX_ACTS, MAX_TIME, MAX_VALUE, MAX_WORKERS, MisuseCode, Obj, Run, Why};
+use gcd_plan::{
+    Blk, MAX_ACTS, MAX_SENDERS, MAX_TIME, MAX_VALUE, MAX_WORKERS, MisuseCode, Obj, Run, Why,
+};
 
 // Whether it is a worker's number.
 pub fn is_worker(worker: u8) -> bool
@@ -69,6 +72,9 @@ impl Registers {
                 && code <= MisuseCode::LAST,
             Event::Halt => true,
             Event::Expire { blk } => self.has_block(blk),
+            Event::Accept { blk, sender } => self.is_made_by_intake(blk)
+                && u32::from(sender) < MAX_SENDERS,
+            Event::Shut => true,
         }
     }
 
@@ -96,6 +102,8 @@ impl Registers {
             } => self.misuse_fault(worker, run, index, code),
             Event::Halt => None,
             Event::Expire { blk } => self.expire_fault(blk),
+            Event::Accept { blk, sender } => self.accept_fault(blk, sender),
+            Event::Shut => self.shut_fault(),
         }
     }
 
@@ -155,14 +163,23 @@ impl Registers {
             Some(Why::Busy)
         } else if self.waits.reason(blk).is_none() {
             Some(Why::NotParked)
-        } else if self
-            .waits
-            .may_wake(&self.groups, &self.semas, &self.ended, blk)
-        {
+        } else if self.may_wake(blk) {
             None
         } else {
             Some(Why::Waiting)
         }
+    }
+
+    // Whether what the parked block waits for has come, or its wait has expired (dispatch_sync(3), dispatch_apply(3),
+    // dispatch_block_wait(3), dispatch_group_wait(3), dispatch_semaphore_wait(3)).
+    fn may_wake(&self, blk: Blk) -> bool
+        requires shape { IsShaped self.now }
+        requires blk { blk.0 < length self.now.plan.blocks }
+        requires parked { is_some (reason_at self.now.waits blk.0) ≡ true }
+        ensures { result ≡ may_wake_at self.now blk.0 }
+    {
+        self.waits
+            .may_wake(&self.groups, &self.semas, &self.strips, &self.ended, blk)
     }
 
     fn end_fault(&self, worker: u8, blk: Blk) -> Option<Why>
@@ -274,10 +291,7 @@ impl Registers {
             Some(Why::NotParked)
         } else if !self.is_at_limit(blk) {
             Some(Why::NotDue)
-        } else if self
-            .waits
-            .may_wake(&self.groups, &self.semas, &self.ended, blk)
-        {
+        } else if self.may_wake(blk) {
             Some(Why::Came)
         } else {
             None
@@ -333,6 +347,34 @@ impl Registers {
                 Some(_) => Some(Why::NotMisuse),
                 None => Some(Why::NotMisuse),
             }
+        }
+    }
+
+    // Why the block may not be accepted from outside.
+    fn accept_fault(&self, blk: Blk, sender: u8) -> Option<Why>
+        requires { IsShaped self.now }
+        ensures { result ≡ fault_at self.now (Event.Accept blk sender) }
+    {
+        match self.next_intake() {
+            None => Some(Why::NotLive),
+            Some(next) => {
+                if next.0 == blk.0 {
+                    None
+                } else {
+                    Some(Why::NotNext)
+                }
+            }
+        }
+    }
+
+    // Why the intake may not be shut.
+    fn shut_fault(&self) -> Option<Why>
+        ensures { result ≡ fault_at self.now Event.Shut }
+    {
+        if self.intake_open() {
+            None
+        } else {
+            Some(Why::NotLive)
         }
     }
 }

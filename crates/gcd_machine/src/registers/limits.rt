@@ -113,6 +113,7 @@ impl Registers {
                 }
                 Reason::Group(g, _) => self.sleepers.remove(g, blk),
                 Reason::Block(_) => {}
+                Reason::Strip(_) => {}
             },
             None => {}
         }

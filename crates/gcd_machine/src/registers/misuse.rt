@@ -1,43 +1,48 @@
 // Which acts are misuses (dispatch_object(3)).
-ghost use Rattle.std.specs.Prelude.{◌≡◌, ◌<◌, ◌∷◌, true, length};
+ghost use Rattle.std.specs.Prelude.{◌≡◌, ◌<◌, ◌++◌, Some, true, length};
 ghost use Rattle.std.specs.List.{list_any};
 ghost use Rattle.gcd_plan.specs.Validity.{is_act};
 ghost use Rattle.gcd_plan.specs.declared.act.Act.{Act};
+ghost use Rattle.gcd_plan.specs.declared.numbers.Obj.{Obj};
 ghost use Rattle.gcd_history.specs.Misuses.{named, first_code};
 ghost use Rattle.gcd_history.specs.Permitted.{is_run_of};
-ghost use Rattle.gcd_machine.specs.Judged.{act_misuses_at, is_below_first_at, is_held_node_at, is_released_at, misuse_by, misuse_of_run, second_of};
+ghost use Rattle.gcd_machine.specs.Judged.{act_misuses_at, is_below_first_at, is_held_node_at, is_released_at, misuse_by, misuse_of_run, named_by};
 ghost use Rattle.gcd_machine.specs.Stands.{IsShaped};
 
 use super::Registers;
 use gcd_plan::{Act, MisuseCode, Obj, Run};
 
-// The objects that the act names: one, and of some acts another.
+// The objects that the act names: one, of some acts another, and of some none.
 #[inline(always)]
-fn named(act: Act) -> (Obj, Option<Obj>)
-    ensures { named act ≡ result.0.0 ∷ second_of result.1 }
+fn named(act: Act) -> (Option<Obj>, Option<Obj>)
+    ensures { named act ≡ named_by result.0 ++ named_by result.1 }
 {
     match act {
-        Act::Async(q, _) => (q, None),
-        Act::Barrier(q, _) => (q, None),
-        Act::Sync(q, _) => (q, None),
-        Act::BarrierSync(q, _) => (q, None),
-        Act::GroupAsync(g, q, _) => (g, Some(q)),
-        Act::Notify(g, q, _) => (g, Some(q)),
-        Act::Enter(g) => (g, None),
-        Act::Leave(g) => (g, None),
-        Act::GroupWait(g) => (g, None),
-        Act::GroupWaitFor(g, _) => (g, None),
-        Act::Signal(s) => (s, None),
-        Act::Wait(s) => (s, None),
-        Act::WaitFor(s, _) => (s, None),
-        Act::Suspend(o) => (o, None),
-        Act::Resume(o) => (o, None),
-        Act::Activate(o) => (o, None),
-        Act::Target(o, t) => (o, Some(t)),
-        Act::Merge(s, _) => (s, None),
-        Act::Cancel(s) => (s, None),
-        Act::Retain(o) => (o, None),
-        Act::Release(o) => (o, None),
+        Act::Async(q, _) => (Some(q), None),
+        Act::Barrier(q, _) => (Some(q), None),
+        Act::Sync(q, _) => (Some(q), None),
+        Act::BarrierSync(q, _) => (Some(q), None),
+        Act::GroupAsync(g, q, _) => (Some(g), Some(q)),
+        Act::Notify(g, q, _) => (Some(g), Some(q)),
+        Act::Enter(g) => (Some(g), None),
+        Act::Leave(g) => (Some(g), None),
+        Act::GroupWait(g) => (Some(g), None),
+        Act::GroupWaitFor(g, _) => (Some(g), None),
+        Act::Signal(s) => (Some(s), None),
+        Act::Wait(s) => (Some(s), None),
+        Act::WaitFor(s, _) => (Some(s), None),
+        Act::Suspend(o) => (Some(o), None),
+        Act::Resume(o) => (Some(o), None),
+        Act::Activate(o) => (Some(o), None),
+        Act::Target(o, t) => (Some(o), Some(t)),
+        Act::Merge(s, _) => (Some(s), None),
+        Act::Cancel(s) => (Some(s), None),
+        Act::Retain(o) => (Some(o), None),
+        Act::Release(o) => (Some(o), None),
+        Act::Apply(q, _) => (Some(q), None),
+        Act::CancelBlock(_) => (None, None),
+        Act::WaitBlock(_) => (None, None),
+        Act::NotifyBlock(_, q, _) => (Some(q), None),
     }
 }
 
@@ -83,10 +88,20 @@ impl Registers {
         ensures { result ≡ list_any (is_released_at self.now) (named act) }
     {
         let (first, second) = named(act);
-        if self.is_released(first) {
+        if self.has_released(first) {
             return true;
         }
-        match second {
+        self.has_released(second)
+    }
+
+    // Whether the object, if there is one, is released.
+    #[inline(always)]
+    fn has_released(&self, named: Option<Obj>) -> bool
+        requires shape { IsShaped self.now }
+        requires object { (o : Obj) → named ≡ Some o → o.0 < length self.now.plan.objects }
+        ensures { result ≡ list_any (is_released_at self.now) (named_by named) }
+    {
+        match named {
             Some(o) => self.is_released(o),
             None => false,
         }
@@ -109,6 +124,7 @@ impl Registers {
             Act::Signal(_) | Act::Wait(_) | Act::Suspend(_) | Act::Activate(_) => None,
             Act::Merge(..) | Act::Cancel(_) | Act::Retain(_) => None,
             Act::GroupWaitFor(..) | Act::WaitFor(..) => None,
+            Act::Apply(..) | Act::CancelBlock(_) | Act::WaitBlock(_) | Act::NotifyBlock(..) => None,
         }
     }
 

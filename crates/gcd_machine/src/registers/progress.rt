@@ -15,6 +15,9 @@ impl Registers {
         if self.is_over() {
             return false;
         }
+        if self.intake_open() {
+            return false;
+        }
         if self.running > 0 {
             return false;
         }

@@ -4,7 +4,7 @@ ghost use Rattle.gcd_plan.specs.Limits.{max_workers};
 ghost use Rattle.gcd_history.specs.Permitted.{is_run_of};
 ghost use Rattle.gcd_history.specs.Runs.{same_run};
 ghost use Rattle.gcd_refinement.specs.MachineView.{at_worker};
-ghost use Rattle.gcd_machine.specs.Judged.{done_at, is_busy_at, is_next_at, is_own_at, next_act_at};
+ghost use Rattle.gcd_machine.specs.Judged.{done_at, act_due_at, is_busy_at, is_cancelled_run_at, is_next_at, is_own_at, next_act_at};
 ghost use Rattle.gcd_machine.specs.Stands.{IsShaped};
 
 use super::Registers;
@@ -71,6 +71,29 @@ impl Registers {
         }
     }
 
+    // Whether the run is a cancelled block's (dispatch_block_cancel(3)).
+    #[inline(always)]
+    fn is_cancelled_run(&self, run: Run) -> bool
+        ensures { result ≡ is_cancelled_run_at self.now run }
+    {
+        match run {
+            Run::Block(blk) => self.marks.is_cancelled(blk),
+            Run::Source(_) => false,
+        }
+    }
+
+    // The act of the run of this index; a cancelled block has none (dispatch_block_cancel(3)).
+    #[inline(always)]
+    fn act_due(&self, run: Run, index: u32) -> Option<Act>
+        ensures { result ≡ act_due_at self.now run index }
+    {
+        if self.is_cancelled_run(run) {
+            None
+        } else {
+            self.act_at(run, index)
+        }
+    }
+
     /// The run's next act, if one is left.
     #[inline(always)]
     pub fn next_act(&self, run: Run) -> Option<Act>
@@ -78,7 +101,7 @@ impl Registers {
         requires run { is_run_of self.now.plan run ≡ true }
         ensures { result ≡ next_act_at self.now run }
     {
-        self.act_at(run, self.done(run))
+        self.act_due(run, self.done(run))
     }
 
     /// Whether the act at the index is the run's next.
@@ -87,6 +110,6 @@ impl Registers {
         requires run { is_run_of self.now.plan run ≡ true }
         ensures { result ≡ is_next_at self.now run index }
     {
-        index == self.done(run) && self.act_at(run, index).is_some()
+        index == self.done(run) && self.act_due(run, index).is_some()
     }
 }

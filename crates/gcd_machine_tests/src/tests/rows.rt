@@ -66,6 +66,10 @@ pub struct Row {
     pub acts: &'static [(Run, Act)],
     // the cancellation block of object 1
     pub cancel: Option<Blk>,
+    // where blocks come from outside: the queue, the first block and how many there are
+    pub intake: Option<(Obj, u32, u32)>,
+    // the blocks of a strip: the first and how many there are
+    pub strip: Option<(u32, u32)>,
     pub until: u32,
     pub from: u32,
     pub most: usize,
@@ -80,6 +84,11 @@ pub struct Row {
     pub awaited: Option<Reason>,
     // the Expire that worker 0 would record
     pub expiry: Option<Event>,
+    // whether block 2 is cancelled
+    pub cancelled: bool,
+    // whether the intake is open, and its next block
+    pub open: bool,
+    pub next: Option<Blk>,
     pub told: Option<Told>,
 }
 
@@ -91,6 +100,8 @@ pub const PLAIN: Row = Row {
     blocks: 0,
     acts: &[],
     cancel: None,
+    intake: None,
+    strip: None,
     until: DEFAULT_UNTIL,
     from: 0,
     most: 100,
@@ -101,6 +112,9 @@ pub const PLAIN: Row = Row {
     data: 0,
     awaited: None,
     expiry: None,
+    cancelled: false,
+    open: false,
+    next: None,
     told: None,
 };
 

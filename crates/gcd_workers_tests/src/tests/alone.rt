@@ -24,10 +24,10 @@ fn objects(alloc: Global, row: &Row) -> Result<Vec<ObjPart>, AllocError> {
     Ok(objects)
 }
 
-// `main`, which makes the row's act, and a block that counts the lines of the file.
+// `main`, which makes the row's acts, and a block that counts the lines of the file.
 fn blocks(alloc: Global, row: &Row) -> Result<Vec<BlkPart>, AllocError> {
     let mut main = BlkPart::new(alloc, "main")?;
-    main.acts.push(row.act)?;
+    main.acts.extend_from_slice(row.acts)?;
     let mut block = BlkPart::new(alloc, "b1")?;
     block.work = Some(Work {
         how: How::Lines,
@@ -57,6 +57,8 @@ fn plan_of(alloc: Global, row: &Row) -> Result<Plan, Fail> {
         blocks: blocks(alloc, row)?,
         files: file_parts(alloc)?,
         until: 21,
+        intake: None,
+        strips: Vec::new(alloc),
     };
     Ok(Plan::of_parts(parts).ok_or("no valid plan")?)
 }

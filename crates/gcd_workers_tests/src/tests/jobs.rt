@@ -47,6 +47,8 @@ fn plan_of(alloc: Global, row: &Row) -> Result<Plan, Fail> {
         blocks: blocks(alloc, row)?,
         files: Vec::new(alloc),
         until: 21,
+        intake: None,
+        strips: Vec::new(alloc),
     };
     Ok(Plan::of_parts(parts).ok_or("no valid plan")?)
 }

@@ -2,7 +2,7 @@
 ghost use Rattle.std.specs.Prelude.{◌<◌};
 
 use gcd_plan::{
-    Act, Blk, BlkPart, FilePart, How, Kind, Obj, ObjPart, Parts, Plan, WHOLE_FILE, Work,
+    Act, Blk, BlkPart, FilePart, How, Kind, Obj, ObjPart, Parts, Plan, StripPart, WHOLE_FILE, Work,
 };
 use std::alloc::{AllocError, Global};
 use std::test::Fail;
@@ -79,6 +79,8 @@ fn plan_of(
         blocks: blocks(alloc, acts, count, how)?,
         files: file_parts(alloc)?,
         until: 1000,
+        intake: None,
+        strips: Vec::new(alloc),
     };
     Ok(Plan::of_parts(parts).ok_or("valid")?)
 }
@@ -152,8 +154,94 @@ pub fn plan_of_signals(alloc: Global) -> Result<Plan, Fail> {
         blocks,
         files: Vec::new(alloc),
         until: 1000,
+        intake: None,
+        strips: Vec::new(alloc),
     };
     Ok(Plan::of_parts(parts).ok_or("valid")?)
+}
+
+// `root` alone.
+fn root_alone(alloc: Global) -> Result<Vec<ObjPart>, AllocError> {
+    let mut objects = Vec::new(alloc);
+    objects.push(ObjPart::new(alloc, "root", Kind::Concurrent)?)?;
+    Ok(objects)
+}
+
+// The parts of a strip: each counts a byte of the file.
+fn strip_blocks(alloc: Global, count: u32) -> Result<Vec<BlkPart>, AllocError> {
+    let mut main = BlkPart::new(alloc, "main")?;
+    main.acts.push(Act::Apply(Obj(0), 0))?;
+    let mut blocks = Vec::new(alloc);
+    blocks.push(main)?;
+    for index in 0..count {
+        let name = format!(in alloc; "s.{index}")?;
+        let mut block = BlkPart::new(alloc, name.as_str())?;
+        block.work = Some(Work {
+            how: How::Bytes,
+            file: 0,
+            start: index,
+            len: 1,
+        });
+        blocks.push(block)?;
+    }
+    Ok(blocks)
+}
+
+/// `main`, which applies a strip of so many blocks to `root`. Each counts one byte of the file, in order.
+pub fn plan_of_a_strip(alloc: Global, count: u32) -> Result<Plan, Fail> {
+    let mut strips = Vec::new(alloc);
+    strips.push(StripPart {
+        name: String::from_str(alloc, "s")?,
+        how: How::Bytes,
+        file: 0,
+        len: 1,
+        first: 1,
+        count,
+    })?;
+    let parts = Parts {
+        objects: root_alone(alloc)?,
+        blocks: strip_blocks(alloc, count)?,
+        files: file_parts(alloc)?,
+        until: 1000,
+        intake: None,
+        strips,
+    };
+    Ok(Plan::of_parts(parts).ok_or("valid")?)
+}
+
+/// `main`, which does nothing, and an intake of so many blocks on `root`.
+pub fn plan_of_an_intake(alloc: Global, count: u32) -> Result<Plan, Fail>
+    requires { count < 10000 }
+{
+    let mut blocks = Vec::new(alloc);
+    blocks.push(BlkPart::new(alloc, "main")?)?;
+    for number in 1..count + 1 {
+        let name = format!(in alloc; "+{number}")?;
+        blocks.push(BlkPart::new(alloc, name.as_str())?)?;
+    }
+    let parts = Parts {
+        objects: root_alone(alloc)?,
+        blocks,
+        files: file_parts(alloc)?,
+        until: 1000,
+        intake: Some((Obj(0), 1, count)),
+        strips: Vec::new(alloc),
+    };
+    Ok(Plan::of_parts(parts).ok_or("valid")?)
+}
+
+/// Six blocks on a serial queue, of which `main` cancels each second one while the queue is suspended.
+pub fn plan_with_cancelled_blocks(alloc: Global) -> Result<Plan, Fail> {
+    let mut acts = Vec::new(alloc);
+    acts.push(Act::Suspend(SERIAL))?;
+    for number in 1..7 {
+        acts.push(Act::Async(SERIAL, Blk(number)))?;
+    }
+    for number in [2, 4, 6] {
+        acts.push(Act::CancelBlock(Blk(number)))?;
+    }
+    acts.push(Act::Resume(SERIAL))?;
+    plan_of(alloc, objects(alloc)?, acts, 7, How::Bytes)
 }
 
 // How often `main` signals beside a long block.
@@ -185,6 +273,8 @@ pub fn plan_of_a_long_block(alloc: Global) -> Result<Plan, Fail> {
         blocks,
         files: Vec::new(alloc),
         until: 1000,
+        intake: None,
+        strips: Vec::new(alloc),
     };
     Ok(Plan::of_parts(parts).ok_or("valid")?)
 }

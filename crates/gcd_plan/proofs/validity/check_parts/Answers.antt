@@ -12,11 +12,15 @@ returns-clause-fits c =
       new = record {
         files = c.in_ok-check_file_names.ensures.fits;
         objects = c.in_ok-check_object_names.ensures.fits;
+        strips = c.in_ok-check_strip_names.ensures.fits;
         blocks = c.in_ok-check_block_names.ensures.fits;
       };
       objects = c.in_ok-check_objects.ensures.fits;
       blocks = c.in_ok-check_blocks.ensures.fits;
       files = c.in_ok-check_files.ensures.fits;
+      intake = c.in_ok-check_intake.ensures.fits;
+      strips = c.in_ok-check_strips.ensures.fits;
+      apart = c.in_ok-check_apart.ensures.fits;
       targets = c.in_ok-check_targets.ensures.fits;
       once = c.in_ok-check_submissions.ensures.fits;
     })

@@ -1,4 +1,4 @@
-use Rattle.std.proofs.Common.{ap, sym, ◌∙◌, ◌≡◌, take}
+use Rattle.std.proofs.Common.{ap, sym, ◌∙◌, take}
 use Rattle.std.proofs.lemmas.Option.{none-some}
 use Rattle.gcd_row.specs.Views.{standing_of}
 use Rattle.gcd_row.specs.Passes.{view}

@@ -1,4 +1,4 @@
-use Rattle.std.proofs.Common.{refl, ap, sym, subst, ◌≡◌, ◌∙◌, ◌∷◌, []}
+use Rattle.std.proofs.Common.{refl, ap, sym, subst, ◌∙◌, ◌∷◌, []}
 use Rattle.gcd_event.specs.declared.event.Event.TheVariants.{Start}
 use Rattle.gcd_plan.specs.declared.numbers.Run.TheVariants.{Block}
 use Rattle.gcd_row.specs.Opening.{AreFirst}

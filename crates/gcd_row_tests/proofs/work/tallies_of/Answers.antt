@@ -1,4 +1,4 @@
-use Rattle.std.proofs.Common.{◌≡◌, subst, sym, map, filter, take}
+use Rattle.std.proofs.Common.{◌≡◌, subst, sym}
 use Rattle.std.specs.Prelude.{All}
 use Rattle.gcd_row.proofs.Tallies.{tallies_on, fresh_on}
 use Rattle.gcd_row_tests.proofs.work.tallies_of.Goals as goal

@@ -1,4 +1,4 @@
-use Rattle.std.proofs.Common.{◌≡◌, ℕ, map, filter, take}
+use Rattle.std.proofs.Common.{◌≡◌, map, filter, take}
 use Rattle.std.specs.Prelude.{All}
 use Rattle.gcd_plan.specs.Kinds.{is_source_kind}
 use Rattle.gcd_row_tests.proofs.work.tallies_of.Given as goal

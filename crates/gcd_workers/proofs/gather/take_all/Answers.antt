@@ -5,20 +5,23 @@ use Rattle.gcd_row.specs.Passes.{view}
 use Rattle.gcd_row.specs.declared.view.Standing.TheVariants.{Back}
 use Rattle.gcd_workers.specs.Teams.{EachFrom, IsHead, IsPassAt}
 use Rattle.gcd_workers.proofs.Heads.{head_back}
-use Rattle.gcd_workers.proofs.Places.{each_first, each_rest}
+use Rattle.gcd_workers.proofs.Places.{each_first, each_rest, each_tail}
 use Rattle.gcd_workers.proofs.gather.take_all.Goals as goal
 
 pub loop-hand-init : goal.loop-hand-init
-loop-hand-init g c = record {
-  len = search rules;
-  count = search rules;
-  each = search rules;
-  pass = search rules;
-  head = search rules;
-  seen = refl;
-  ended = search rules;
-  gathered = search rules;
-}
+loop-hand-init g c =
+    let P = IsPassAt g.S.Slot.shape g.S.Slot.gives c.args.board.now in
+    let left = c.into_iter-hand-iterator.ensures.into_iter_gives.0 ∙ c.remove-pass.ensures.items in
+    record {
+      len = search rules;
+      count = search rules;
+      each = subst (EachFrom P 1) (sym left) (each_tail P c.args.hands.items c.requires.hands);
+      pass = search rules;
+      head = search rules;
+      seen = refl;
+      ended = search rules;
+      gathered = search rules;
+    }
 
 pub take_in-requires-clause-hand : goal.take_in-requires-clause-hand
 take_in-requires-clause-hand g c =

@@ -12,10 +12,10 @@ loop-number-preserved g c = λ plan h stands.
     let low : n < length cells = omega arith in
     let at = slice_get-get_or cells n cell low ∙ ap Some (sym c.index-cells-number.is) in
     rw c.in_ok-push.ensures.items
-    (taken_push h cells n c.loop-number.values.items cell c.value_in.result c.is_ended-ended.result (c.is_ended-ended.ensures plan h stands) at
+    (taken_push plan h cells n c.loop-number.values.items cell c.value_in.result c.has_given-given.result (c.has_given-given.ensures plan h stands) at
     c.value_in.ensures.ended c.value_in.ensures.other (c.loop-number.invariant plan h stands))
 
 pub returns : goal.returns
 returns g c = λ plan h stands.
     let all : c.loop-number.number ≡ length c.args.machine.now.plan.blocks = omega arith in
-    subst (λ (n : ℕ). AreTaken h c.args.cells.now n c.loop-number.values.items) all (c.loop-number.invariant plan h stands)
+    subst (λ (n : ℕ). AreTaken plan h c.args.cells.now n c.loop-number.values.items) all (c.loop-number.invariant plan h stands)

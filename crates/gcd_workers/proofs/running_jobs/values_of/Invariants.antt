@@ -6,4 +6,4 @@ use Rattle.gcd_workers.specs.JobsRuns.{AreTaken}
 use Rattle.gcd_workers.proofs.running_jobs.values_of.Given as goal
 
 abbrev pub invariant-loop-number : goal.invariant-loop-number
-invariant-loop-number g l = (plan : PlanView) (h : List Event) → StandsFor l.machine plan h → AreTaken h l.cells l.number l.values.items
+invariant-loop-number g l = (plan : PlanView) (h : List Event) → StandsFor l.machine plan h → AreTaken plan h l.cells l.number l.values.items

@@ -2,11 +2,11 @@ use gcd_event::Event;
 use gcd_history::State;
 use gcd_plan::{Act, Blk, Kind, Obj, Run};
 
-// A plan with one object, of which `main` makes one act; what is told of the object; and what the run leaves.
+// A plan with one object, and the acts of `main`; what is told of the object; and what the run leaves.
 pub struct Row {
     pub what: &'static str,
     pub kind: Kind,
-    pub act: Act,
+    pub acts: &'static [Act],
     pub feed: &'static [(u32, bool)],
     pub failing_poll: Option<u64>,
     pub journal: &'static [Event],
@@ -20,11 +20,11 @@ const B1: Blk = Blk(1);
 
 const O1: Obj = Obj(1);
 
-static ROWS: [Row; 5] = [
+static ROWS: [Row; 6] = [
     Row {
         what: "a block on a serial queue",
         kind: Kind::Serial,
-        act: Act::Async(O1, B1),
+        acts: &[Act::Async(O1, B1)],
         feed: &[],
         failing_poll: None,
         journal: &[
@@ -48,12 +48,43 @@ static ROWS: [Row; 5] = [
         state: State::Drained,
     },
     Row {
+        what: "a cancelled block",
+        kind: Kind::Serial,
+        acts: &[Act::Async(O1, B1), Act::CancelBlock(B1)],
+        feed: &[],
+        failing_poll: None,
+        journal: &[
+            Event::Start {
+                worker: 0,
+                blk: MAIN,
+            },
+            Event::Act {
+                worker: 0,
+                run: Run::Block(MAIN),
+                index: 0,
+            },
+            Event::Act {
+                worker: 0,
+                run: Run::Block(MAIN),
+                index: 1,
+            },
+            Event::End {
+                worker: 0,
+                blk: MAIN,
+            },
+            Event::Start { worker: 0, blk: B1 },
+            Event::End { worker: 0, blk: B1 },
+        ],
+        values: &[0, 0],
+        state: State::Drained,
+    },
+    Row {
         what: "a timer",
         kind: Kind::Timer {
             start: 10,
             every: 50,
         },
-        act: Act::Activate(O1),
+        acts: &[Act::Activate(O1)],
         feed: &[],
         failing_poll: None,
         journal: &[
@@ -80,7 +111,7 @@ static ROWS: [Row; 5] = [
     Row {
         what: "a wait whose limit comes",
         kind: Kind::Semaphore(0),
-        act: Act::WaitFor(O1, 10),
+        acts: &[Act::WaitFor(O1, 10)],
         feed: &[],
         failing_poll: None,
         journal: &[
@@ -110,7 +141,7 @@ static ROWS: [Row; 5] = [
     Row {
         what: "a feed",
         kind: Kind::Read,
-        act: Act::Activate(O1),
+        acts: &[Act::Activate(O1)],
         feed: &[(4, false), (6, false), (0, true)],
         failing_poll: None,
         journal: &[
@@ -141,7 +172,7 @@ static ROWS: [Row; 5] = [
     Row {
         what: "a feed that fails",
         kind: Kind::Read,
-        act: Act::Activate(O1),
+        acts: &[Act::Activate(O1)],
         feed: &[(4, false)],
         failing_poll: Some(1),
         journal: &[

@@ -30,7 +30,37 @@ const ROOT: Obj = Obj(0);
 
 const O1: Obj = Obj(1);
 
-static ROWS: [Row; 5] = [
+static ROWS: [Row; 6] = [
+    Row {
+        what: "a cancelled block has no value, and makes no act",
+        kind: Kind::Serial,
+        main: &[Act::Async(O1, B1), Act::CancelBlock(B1)],
+        block: &[Act::Suspend(O1)],
+        journal: &[
+            Event::Start {
+                worker: 0,
+                blk: MAIN,
+            },
+            Event::Act {
+                worker: 0,
+                run: Run::Block(MAIN),
+                index: 0,
+            },
+            Event::Act {
+                worker: 0,
+                run: Run::Block(MAIN),
+                index: 1,
+            },
+            Event::End {
+                worker: 0,
+                blk: MAIN,
+            },
+            Event::Start { worker: 0, blk: B1 },
+            Event::End { worker: 0, blk: B1 },
+        ],
+        values: &[Some(100), None],
+        state: State::Drained,
+    },
     Row {
         what: "a block that waits for ever has no value",
         kind: Kind::Semaphore(0),

@@ -1,15 +1,24 @@
 use Rattle.std.proofs.Common.{◌≡◌, get_or, subst}
-use Rattle.gcd_machine.proofs.Kept.{may_let_go, may_leave}
+use Rattle.gcd_machine.proofs.EndKept.{may_tell, may_end_waits, may_leave, end_is}
 use Rattle.gcd_machine.proofs.registers.Registers.end.Goals as goal
 
-pub let_caller_go-requires : goal.let_caller_go-requires
-let_caller_go-requires c =
+pub tell-requires : goal.tell-requires
+tell-requires c = may_tell c.args.self.now c.close_block.ensures c.requires
+
+pub end_waits-requires : goal.end_waits-requires
+end_waits-requires c =
     let read = c.index-progress.result.now in
     let is = subst (λ m. read ≡ get_or m.blocks c.args.blk.0 read) c.self.view_is c.index-progress.ensures in
-    may_let_go c.args.self.now is c.close_block.ensures c.requires
+    may_end_waits c.args.self.now is c.close_block.ensures c.tell.ensures.told c.requires
 
 pub leave_group-requires : goal.leave_group-requires
 leave_group-requires c =
     let read = c.index-progress.result.now in
     let is = subst (λ m. read ≡ get_or m.blocks c.args.blk.0 read) c.self.view_is c.index-progress.ensures in
-    may_leave c.args.self.now is c.close_block.ensures c.let_caller_go.ensures c.requires
+    may_leave c.args.self.now is c.close_block.ensures c.tell.ensures.leaves c.end_waits.ensures c.requires
+
+pub returns : goal.returns
+returns c =
+    let read = c.index-progress.result.now in
+    let is = subst (λ m. read ≡ get_or m.blocks c.args.blk.0 read) c.self.view_is c.index-progress.ensures in
+    end_is c.args.self.now is c.close_block.ensures c.tell.ensures.told c.end_waits.ensures c.leave_group.ensures c.requires

@@ -1,4 +1,4 @@
-use Rattle.std.proofs.Common.{arith}
+use Rattle.std.proofs.Common.{arith, refl}
 use Rattle.gcd_event.specs.declared.event.Event.TheVariants.{End}
 use Rattle.gcd_machine.proofs.Shown.{lawful_stands}
 use Rattle.gcd_rounds.proofs.EndsKept.{kept_rest, kept_waits}
@@ -20,7 +20,7 @@ returns-clause-ready g c = λ rest others has ready.
     let count = ready.given.count in
     let within = c.requires.within in
     record {
-      given = rw (more, event, terms, values) (given_end g.J.Job.gives plan self.terms.jobs.value.items h c.args.done self.values.items (omega (arith, count, within)) has ready.given);
+      given = rw (more, event, terms, values) (given_end g.J.Job.gives plan self.terms.jobs.value.items h c.args.done self.values.items (omega (arith, count, within)) (ready.kept.at_end 0 x refl).works has ready.given);
       count = rw jobs ready.count;
       wait = rw (more, event, terms, jobs) (wait_end self.terms.most plan self.terms.jobs.value.items h x self.jobs.items rest next.permitted ready.wait);
       kept = rw (more, event, terms) (kept_waits plan self.terms.workers h (End x.worker x.blk) rest (lawful_stands self.machine plan h c.requires.run.stands)

@@ -55,7 +55,7 @@ returns-clause-run g c =
     }
 
 pub returns-clause-ready : goal.returns-clause-ready
-returns-clause-ready g c = λ kept none others ready.
+returns-clause-ready g c = λ kept only others ready.
     let plan = c.args.plan.now in
     let self = c.args.self.now in
     let h = self.journal.items in
@@ -63,8 +63,8 @@ returns-clause-ready g c = λ kept none others ready.
     let next = c.requires.next in
     let more = c.in_ok-push.ensures.items in
     record {
-      given = rw more (given_same g.J.Job.gives plan self.terms.jobs.value.items h e self.values.items none ready.given);
+      given = rw more (given_same g.J.Job.gives plan self.terms.jobs.value.items h e self.values.items (lawful_stands self.machine plan h c.requires.run.stands) only ready.given);
       count = ready.count;
-      wait = rw more (wait_same self.terms.most plan self.terms.jobs.value.items h e self.jobs.items kept next.permitted none ready.wait);
+      wait = rw more (wait_same self.terms.most plan self.terms.jobs.value.items h e self.jobs.items kept next.permitted ready.wait);
       kept = rw more (kept_waits plan self.terms.workers h e kept (lawful_stands self.machine plan h c.requires.run.stands) next.permitted next.below others ready.kept);
     }

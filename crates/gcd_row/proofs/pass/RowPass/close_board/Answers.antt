@@ -1,11 +1,19 @@
 use Rattle.std.proofs.Common.{arith, ◌≡◌, ◌≤◌, ◌<◌, ◌+◌, ◌∷◌, [], ◌++◌, List, ℕ, length, get_or, add-one, sym, ap, subst, ◌∙◌, take}
-use Rattle.std.proofs.lemmas.List.{take_all}
+use Rattle.std.proofs.lemmas.List.{take_all, length-take}
 use Rattle.std.specs.Mem.Slots.{slots_items}
 use Rattle.gcd_event.specs.declared.event.Event.{Event}
 use Rattle.gcd_row.specs.Ring.{lap}
 use Rattle.gcd_row.specs.Passes.{view, AtRest}
 use Rattle.gcd_row.proofs.Ending.{closes, event_at, at_value}
 use Rattle.gcd_row.proofs.pass.RowPass.close_board.Goals as goal
+
+pub push_reserved-requires : goal.push_reserved-requires
+push_reserved-requires g c =
+    let v = view c.args.self in let old = c.loop-i.invariant in
+    let len : c.len-n.result ≡ length v.seen = c.len-n.ensures v.terms.plan v.seen c.requires.pass.stands in
+    let read = ap length old.read ∙ length-take c.loop-i.i v.seen in
+    let before = ap length c.requires.journal ∙ length-take v.marks.passed v.seen in
+    grind (arith, len, read, before, old.low, old.room, c.requires.pass.passed, c.reserve.ensures.ok, c.is_err.ensures, c.if-is_err.false)
 
 pub event_of-requires : goal.event_of-requires
 event_of-requires g c =

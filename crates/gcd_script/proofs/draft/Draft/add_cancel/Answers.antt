@@ -9,5 +9,5 @@ returns-clause-agrees c =
     let old = c.args.self.now in
     let right = c.requires.right in
     rw c.set_cancel.ensures
-    (cancelled_agrees (look_up old.meanings) old.submitted.items old.acts (view_of old.parts) c.requires.agrees c.requires.sound.valid
+    (cancelled_agrees (look_up old.meanings) old.submitted.items old.applied.items old.acts (view_of old.parts) c.requires.agrees c.requires.sound.valid
     c.args.source c.args.block right.fits.0 (and_parts _ _ right.untaken).1 right.fits.1)

@@ -9,6 +9,6 @@ pub returns-clause-agrees : goal.returns-clause-agrees
 returns-clause-agrees c =
     let old = c.args.self.now in
     let same = c.len-file.ensures ∙ seen_length file_view old.parts.files in
-    subst (AgreeWithPlan (look_up c.declare.new.meanings) old.submitted.items old.acts) (sym c.in_ok-push_file.ensures)
-    (file_agrees (look_up old.meanings) (look_up c.declare.new.meanings) old.submitted.items old.acts (view_of old.parts) c.requires.agrees
+    subst (AgreeWithPlan (look_up c.declare.new.meanings) old.submitted.items old.applied.items old.acts) (sym c.in_ok-push_file.ensures)
+    (file_agrees (look_up old.meanings) (look_up c.declare.new.meanings) old.submitted.items old.applied.items old.acts (view_of old.parts) c.requires.agrees
     (old.lines + 1) c.args.name.now c.args.path.now c.requires.unused c.len-file.result same c.in_ok-declare.ensures)

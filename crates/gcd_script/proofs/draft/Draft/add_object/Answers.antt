@@ -9,6 +9,6 @@ pub returns-clause-agrees : goal.returns-clause-agrees
 returns-clause-agrees c =
     let old = c.args.self.now in
     let same = c.len.ensures ∙ seen_length obj_view old.parts.objects in
-    subst (AgreeWithPlan (look_up c.declare.new.meanings) old.submitted.items old.acts) (sym c.in_ok-push_object.ensures)
-    (object_agrees (look_up old.meanings) (look_up c.declare.new.meanings) old.submitted.items old.acts (view_of old.parts) c.requires.agrees
+    subst (AgreeWithPlan (look_up c.declare.new.meanings) old.submitted.items old.applied.items old.acts) (sym c.in_ok-push_object.ensures)
+    (object_agrees (look_up old.meanings) (look_up c.declare.new.meanings) old.submitted.items old.applied.items old.acts (view_of old.parts) c.requires.agrees
     c.args.name.now c.args.kind c.args.target c.args.active c.args.path.now c.requires.unused c.len.result same c.in_ok-declare.ensures)

@@ -1,0 +1,8 @@
+use Rattle.gcd_script.specs.Agreement.{look_up}
+use Rattle.gcd_script.proofs.Empty.{empty_agrees, finds_nothing}
+use Rattle.gcd_script.proofs.draft.Draft.new.Goals as goal
+
+pub returns-clause-agrees : goal.returns-clause-agrees
+returns-clause-agrees c =
+    rw (c.in_ok-vec-2.ensures.items, c.new.ensures.items, c.in_ok-first_parts.ensures)
+    (empty_agrees (look_up c.new-meanings.result) (look_up c.declare.new.meanings) (finds_nothing c.new-meanings.result c.new-meanings.ensures.empty) c.in_ok-declare.ensures)

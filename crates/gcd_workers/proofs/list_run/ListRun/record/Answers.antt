@@ -21,5 +21,5 @@ returns-clause-run c =
       few = omega (arith, length_push h e, next.room);
       alone = alone_more h e run.alone next.by;
       chosen = follows_more plan h e run.chosen next.chosen;
-      values = c.note_end.ensures.values h run.values;
+      values = c.note_end.ensures.values h run.stands run.values;
     })

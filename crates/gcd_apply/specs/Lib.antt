@@ -1,0 +1,2 @@
+pub mod StripsView
+pub mod StripValues

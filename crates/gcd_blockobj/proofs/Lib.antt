@@ -1,0 +1,2 @@
+pub mod AnyTaken
+pub mod AnyMark

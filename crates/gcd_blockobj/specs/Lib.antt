@@ -1,0 +1,2 @@
+pub mod MarkRoom
+pub mod MarksView

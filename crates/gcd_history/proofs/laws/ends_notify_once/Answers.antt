@@ -1,0 +1,5 @@
+use Rattle.gcd_history.proofs.PublicBlockLaws.{notified_once}
+use Rattle.gcd_history.proofs.laws.ends_notify_once.Goals as goal
+
+pub returns : goal.returns
+returns c = notified_once
