@@ -25,6 +25,7 @@ pub mod StartedOnce
 pub mod CancelledStays
 pub mod Sums
 pub mod SubmittedOnce
+pub mod IntakeBlocks
 pub mod InOrder
 pub mod PublicLaws
 pub mod PublicFacts

@@ -468,7 +468,7 @@ not_main plan c fine =
     ap (λ v. 0 + cond v 1 0) (ne_eqb c.0 0 (λ same. omega arith))
 
 -- the block is none that an act may submit
-record Apart (plan : PlanView) (b : ℕ) : Type 0 where
+pub record Apart (plan : PlanView) (b : ℕ) : Type 0 where
   declared : (c : Blk) → is_declared plan c ≡ true → count_by (has_number b) (c ∷ []) ≡ 0
   strips : (a : ℕ) → count_by (has_number b) (strip_blocks plan a) ≡ 0
 
@@ -517,7 +517,7 @@ object_gives_no plan b apart valid k obj at =
     omega arith
 
 -- the plan submits the block nowhere
-nowhere : (plan : PlanView) (b : ℕ) → Apart plan b → IsPlan plan → count_by (has_number b) (submitted_blocks plan) ≡ 0
+pub nowhere : (plan : PlanView) (b : ℕ) → Apart plan b → IsPlan plan → count_by (has_number b) (submitted_blocks plan) ≡ 0
 nowhere plan b apart valid =
     let of_blocks = flat_map (λ blk. blocks_of plan blk.acts) plan.blocks in
     let of_objects = flat_map (λ obj. blocks_of plan obj.handler ++ option_to_list obj.cancel) plan.objects in
@@ -539,7 +539,7 @@ not_beyond plan b valid high = record {
 }
 
 -- and no block of the intake
-not_of_intake : (plan : PlanView) (b : ℕ) → IsPlan plan → is_of_intake plan b ≡ true → Apart plan b
+pub not_of_intake : (plan : PlanView) (b : ℕ) → IsPlan plan → is_of_intake plan b ≡ true → Apart plan b
 not_of_intake plan b valid of = record {
   declared = λ c fine.
       let other = not-true (is_made plan c.0) (and_parts (ltb c.0 (length plan.blocks)) _ (and_parts (ltb 0 c.0) _ fine).1).1 in

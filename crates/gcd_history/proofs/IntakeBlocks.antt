@@ -1,0 +1,42 @@
+-- A block of the intake is submitted by its Accept alone, so it has begun only where it is accepted.
+use Rattle.std.proofs.Common.{◌≡◌, ⊎_elim, ℕ, ◌+◌, ◌≤◌, Bool, true, false, cond, ◌==◌, List, [], ◌∷◌, length, count_by, refl, ap, ◌∙◌, arith, is_some}
+use Rattle.std.specs.List.{list_any}
+use Rattle.std.proofs.lemmas.Bool.{cases_Bool, ne_eqb, or_cases}
+use Rattle.gcd_plan.specs.PlanView.{PlanView}
+use Rattle.gcd_plan.specs.Made.{is_of_intake}
+use Rattle.gcd_plan.specs.Validity.{IsPlan}
+use Rattle.gcd_event.specs.declared.event.Event.{Event}
+use Rattle.gcd_history.specs.Runs.{is_started}
+use Rattle.gcd_history.specs.Intake.{accepts, is_accepted}
+use Rattle.gcd_history.specs.Submitted.{submitted, submission_of}
+use Rattle.gcd_history.specs.Permitted.{IsLawful}
+use Rattle.gcd_plan.proofs.Sums.{count_by-cons, count_by_none}
+use Rattle.gcd_history.proofs.Lists.{any_from_find}
+use Rattle.gcd_history.proofs.MadeBlocks.{intake_inside}
+use Rattle.gcd_history.proofs.SubmittedOnce.{is_of, made_by, block_gives, plan_gives, kept_within, nowhere, not_of_intake}
+use Rattle.gcd_history.proofs.StartedOnce.{submitted_from_started}
+
+counted : {X : Type 0} → (p : X → Bool) (xs : List X) → list_any p xs ≡ true → 1 ≤ count_by p xs
+counted p [] any = cc
+counted p (x ∷ xs) any =
+    ⊎_elim
+    (λ (now : p x ≡ true). let step : count_by p (x ∷ xs) ≡ 1 + count_by p xs = count_by-cons p x xs ∙ ap (λ v. cond {A = ℕ} v 1 0 + count_by p xs) now in omega (arith, step))
+    (λ (later : list_any p xs ≡ true). let step = count_by-cons p x xs in let more = counted p xs later in omega (arith, step, more))
+    (or_cases (p x) (list_any p xs) any)
+
+submitted_accepted : (plan : PlanView) (past : List Event) → IsPlan plan → IsLawful plan past → (b : ℕ) → is_of_intake plan b ≡ true → is_some (submission_of plan past b) ≡ true → is_accepted past b ≡ true
+submitted_accepted plan past valid h b of some =
+    let one = counted (is_of b) (submitted plan past) (any_from_find (is_of b) (submitted plan past) some) in
+    let kept = kept_within plan past valid h b in
+    let all = plan_gives plan past b (made_by plan past b) (block_gives plan past b) in
+    let none = nowhere plan b (not_of_intake plan b valid of) valid in
+    let behind = (intake_inside plan b valid of).behind in
+    let zero : cond {A = ℕ} (0 == b) 1 0 ≡ 0 = ap (λ v. cond {A = ℕ} v 1 0) (ne_eqb 0 b (λ same. omega (arith, same, behind))) in
+    ⊎_elim
+    (λ yes. yes)
+    (λ no. let nothing = count_by_none (accepts b) past no in absurd (omega (arith, one, kept, all, none, zero, nothing)))
+    (cases_Bool (is_accepted past b))
+
+-- and begins where it is
+pub started_accepted : (plan : PlanView) (past : List Event) → IsPlan plan → IsLawful plan past → (b : ℕ) → is_of_intake plan b ≡ true → is_started past b ≡ true → is_accepted past b ≡ true
+started_accepted plan past valid h b of begun = submitted_accepted plan past valid h b of (submitted_from_started plan past h b begun)
