@@ -4,12 +4,15 @@
 //! | trait | call | what it promises |
 //! |---|---|---|
 //! | `Job` | `run(self, input)` | gives a value that the job may give at the input (`gives`); it can be called once |
+//! | `Admits` | `admit(sent)` | the job that runs what a caller from outside sent (`Sent` of `gcd_front`): at 0 it gives only what that may give |
 //! | `Handler` | `take(&mut self, value)` | keeps the kind, raises the times by one, folds the value into the total |
 //!
 //! | type | its model | what its calls give |
 //! |---|---|---|
 //! | `FileJob` | the files as lists of bytes and the work, or nothing | the work's value over the files (`work_value` of `gcd_history`), or 0 |
 //! | `Tally` | its kind, times and total | `new`: times and total 0 |
+//! | `Option` of a job | the job, or none | what the job may give, or 0 |
+//! | `Nobody` | one value, of which none is ever sent | 0: the type of what is sent where a run has no outside callers, which a `FileJob` and an `Option` of any job admit |
 //!
 //! Values are folded by bitwise or at an or source, to the newest at a replace source, and else by addition (`folded` of
 //! `gcd_plan`). A work that names no file of the list, or whose range has no byte, counts nothing and gives 0. No call takes
@@ -18,15 +21,19 @@
 //! Nothing is said of when a job runs, or on which thread. bench/works.sh times the works.
 #![tactic(auto)]
 
+mod admits;
 mod file_job;
 mod handler;
 mod job;
+mod nobody;
 mod tally;
 mod works;
 
+pub use admits::Admits;
 pub use file_job::FileJob;
 pub use handler::Handler;
 pub use job::Job;
+pub use nobody::Nobody;
 pub use tally::Tally;
 
 #[cfg(test)]

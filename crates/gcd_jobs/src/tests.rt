@@ -1,7 +1,8 @@
 ghost use Rattle.std.specs.Prelude.{◌≡◌, ◌+◌, ◌<◌, ◌^◌};
 ghost use Rattle.gcd_plan.specs.KindValues.{folded};
 
-use crate::{FileJob, Handler, Job, Tally};
+use crate::{Admits, FileJob, Handler, Job, Tally};
+use gcd_front::Sent;
 use gcd_plan::{How, Kind, MAX_FILE_BYTES, WHOLE_FILE, Work};
 use std::alloc::{AllocError, Global};
 use std::test::Fail;
@@ -69,6 +70,48 @@ fn jobs_over_shared_files_give_the_values_of_their_works(rt: HostRuntime) -> Res
     }
     assert_eq!(rt; run_block(nothing), 0, "no work");
     Ok(())
+}
+
+// A number that a caller sends.
+#[derive(Drop)]
+struct Told(u64);
+
+impl Sent for Told {
+    ghost gives = { λ told value. value ≡ told.0 };
+
+    fn call(self) -> u64 {
+        self.0
+    }
+}
+
+// The job of a block that gives what was sent.
+#[derive(Drop)]
+struct Called(Told);
+
+impl Job for Called {
+    ghost gives = { λ job input value. value ≡ job.0.0 };
+
+    fn run(self, _input: u64) -> u64 {
+        self.0.call()
+    }
+}
+
+impl Admits<Told> for Called {
+    fn admit(sent: Told) -> Called {
+        Called(sent)
+    }
+}
+
+// What becomes of what a caller sent, whatever it is and whatever jobs the blocks have.
+fn run_sent<S: Sent, J: Admits<S> + Drop + Send>(sent: S) -> u64
+    ensures { S.gives sent result }
+{
+    run_block(J::admit(sent))
+}
+
+#[test]
+fn an_admitted_job_gives_what_was_sent(rt: HostRuntime) {
+    assert_eq!(rt; run_sent::<Told, Called>(Told(7)), 7);
 }
 
 // What a worker does at a delivery, with a handler of any kind.

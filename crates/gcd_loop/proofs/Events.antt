@@ -6,6 +6,7 @@ use Rattle.gcd_event.specs.declared.event.Event.{Event}
 use Rattle.gcd_event.specs.declared.event.Event.TheVariants.{Start, Act as Acted, Wake, End, Deliver, DeliverEnd, Tick, Ready, FeedEnd, Misuse, Halt, Expire, Accept, Shut}
 use Rattle.gcd_history.specs.Choice.{is_work}
 use Rattle.gcd_history.specs.Ends.{is_halted}
+use Rattle.gcd_history.specs.Facts.{is_of_callers}
 use Rattle.gcd_history.specs.History.{why}
 use Rattle.gcd_history.specs.Intake.{accepted}
 use Rattle.gcd_outer.specs.Tells.{PollerState}
@@ -48,8 +49,8 @@ told_outside (End w b) told = cc
 told_outside (Deliver w s) told = cc
 told_outside (DeliverEnd w s) told = cc
 told_outside (Tick t) told = cc
-told_outside (Ready s n) told = record { by = refl; no_work = refl }
-told_outside (FeedEnd s) told = record { by = refl; no_work = refl }
+told_outside (Ready s n) told = record { by = refl; no_work = refl; uncalled = refl }
+told_outside (FeedEnd s) told = record { by = refl; no_work = refl; uncalled = refl }
 told_outside (Misuse w c r i) told = cc
 told_outside Halt told = cc
 told_outside (Expire b) told = cc
@@ -66,22 +67,43 @@ put_is_outside plan h start present p q (Wake w b) put = absurd put
 put_is_outside plan h start present p q (End w b) put = absurd put
 put_is_outside plan h start present p q (Deliver w s) put = absurd put
 put_is_outside plan h start present p q (DeliverEnd w s) put = absurd put
-put_is_outside plan h start present p q (Tick t) put = record { by = refl; no_work = refl }
+put_is_outside plan h start present p q (Tick t) put = record { by = refl; no_work = refl; uncalled = refl }
 put_is_outside plan h start present p q (Ready s n) put = absurd put
 put_is_outside plan h start present p q (FeedEnd s) put = absurd put
 put_is_outside plan h start present p q (Misuse w k r i) put = absurd put
-put_is_outside plan h start present p q Halt put = record { by = refl; no_work = refl }
-put_is_outside plan h start present p q (Expire b) put = record { by = refl; no_work = refl }
+put_is_outside plan h start present p q Halt put = record { by = refl; no_work = refl; uncalled = refl }
+put_is_outside plan h start present p q (Expire b) put = record { by = refl; no_work = refl; uncalled = refl }
 put_is_outside plan h start present p q (Accept b s) put = absurd put
 put_is_outside plan h start present p q Shut put = absurd put
 
 pub halt_is_outside : IsOutside Halt
-halt_is_outside = record { by = refl; no_work = refl }
+halt_is_outside = record { by = refl; no_work = refl; uncalled = refl }
 
-pub shut_is_outside : IsOutside Shut
-shut_is_outside = record { by = refl; no_work = refl }
+-- nobody told it, and it is neither a Halt nor a Tick
+pub record IsPlain (e : Event) : Type 0 where
+  pub untold : is_told e ≡ false
+  pub no_halt : e ≡ Halt → ⊥
+  pub no_tick : (t : ℕ) → e ≡ Tick t → ⊥
 
--- an event of a worker, and one that a poller told, accepts no job
+pub called_is_plain : (e : Event) → is_of_callers e ≡ true → IsPlain e
+called_is_plain (Accept b s) called = record {
+  untold = refl;
+  no_halt = λ (halt : Accept b s ≡ Halt). cc;
+  no_tick = λ t (tick : Accept b s ≡ Tick t). cc;
+}
+called_is_plain Shut called = record {
+  untold = refl;
+  no_halt = λ (halt : Shut ≡ Halt). cc;
+  no_tick = λ t (tick : Shut ≡ Tick t). cc;
+}
+called_is_plain e called = cc
+
+-- an event that is not of outside callers accepts no job
+pub uncalled_accepts_none : (e : Event) → is_of_callers e ≡ false → accepted e ≡ None
+uncalled_accepts_none (Accept b s) uncalled = cc
+uncalled_accepts_none e uncalled = refl
+
+-- an event of a worker accepts no job
 pub work_accepts_none : (e : Event) → is_work e ≡ true → accepted e ≡ None
 work_accepts_none (Start w b) work = refl
 work_accepts_none (Acted w r i) work = refl
@@ -97,22 +119,6 @@ work_accepts_none Halt work = refl
 work_accepts_none (Expire b) work = refl
 work_accepts_none (Accept b s) work = cc
 work_accepts_none Shut work = refl
-
-pub told_accepts_none : (e : Event) → is_told e ≡ true → accepted e ≡ None
-told_accepts_none (Start w b) told = refl
-told_accepts_none (Acted w r i) told = refl
-told_accepts_none (Wake w b) told = refl
-told_accepts_none (End w b) told = refl
-told_accepts_none (Deliver w s) told = refl
-told_accepts_none (DeliverEnd w s) told = refl
-told_accepts_none (Tick t) told = refl
-told_accepts_none (Ready s n) told = refl
-told_accepts_none (FeedEnd s) told = refl
-told_accepts_none (Misuse w c r i) told = refl
-told_accepts_none Halt told = refl
-told_accepts_none (Expire b) told = refl
-told_accepts_none (Accept b s) told = cc
-told_accepts_none Shut told = refl
 
 pub halt_may_come : (plan : PlanView) (h : List Event) → is_halted h ≡ false → why plan h Halt ≡ None
 unfolding why is_halted

@@ -6,11 +6,10 @@ use Rattle.std.proofs.lemmas.List.{length_push}
 use Rattle.gcd_plan.specs.PlanView.{PlanView}
 use Rattle.gcd_plan.specs.declared.numbers.Blk.{Blk}
 use Rattle.gcd_event.specs.declared.event.Event.{Event}
-use Rattle.gcd_event.specs.declared.event.Event.TheVariants.{Tick, Halt, Expire, Shut}
+use Rattle.gcd_event.specs.declared.event.Event.TheVariants.{Tick, Halt, Expire}
 use Rattle.gcd_history.specs.Choice.{is_work}
 use Rattle.gcd_history.specs.Ends.{is_halted}
 use Rattle.gcd_history.specs.History.{why, IsLawful}
-use Rattle.gcd_history.specs.Intake.{accepted}
 use Rattle.gcd_history.proofs.LawfulLemmas.{lawful_front, lawful_next}
 use Rattle.gcd_outer.specs.Outside.{ClockState}
 use Rattle.gcd_outer.specs.Tells.{PollerState}
@@ -23,11 +22,10 @@ use Rattle.gcd_turn.proofs.HeardSteps.{heard_barred, heard_grown, heard_told, is
 use Rattle.gcd_turn.proofs.Promised.{faults_halted, faults_more, faults_same}
 use Rattle.gcd_turn.proofs.TimeSteps.{time_more}
 use Rattle.gcd_loop.specs.Going.{IsGoing}
-use Rattle.gcd_loop.specs.Recorded.{Grows, IsPlaced, Says, after_put}
+use Rattle.gcd_loop.specs.Recorded.{Grows, IsAdmitted, IsPlaced, Says, after_put}
 use Rattle.gcd_loop.specs.declared.recorder.Put.{Put}
 use Rattle.gcd_loop.specs.declared.recorder.Put.TheVariants.{Placed, Barred, Later}
-use Rattle.gcd_loop.proofs.Events.{first_is_told, halt_barred, tick_time, told_accepts_none, untold, work_accepts_none}
-use Rattle.gcd_loop.proofs.Follows.{accepts_none_more, accepts_none_work}
+use Rattle.gcd_loop.proofs.Events.{called_is_plain, first_is_told, halt_barred, tick_time, untold}
 
 pub keeps_same : (tells : Bool) (p : PollerState) → KeepsListens tells p p
 keeps_same tells p = record { faults = omega arith; listens = λ told. refl; addresses = λ told. refl }
@@ -93,14 +91,13 @@ module _ (most : ℕ) (pt ct : Bool) (plan : PlanView) (stood : List Event) (bef
         timely = t.timely;
         faults = faults_same most stood g.placed before p q same g.faults;
         kept = keeps_through pt before p q g.kept l.kept;
-        uncalled = g.uncalled;
       }
 
-  -- an event was placed that is no Halt, and accepts no job
+  -- an event was placed that is no Halt
   going_one : (p : PollerState) (c : ClockState) (h : List Event) (o u : OutlookView) (e : Event) → (g : IsGoing most pt ct plan stood before early p c h o)
-      → why plan h e ≡ None → length h < most → (e ≡ Halt → ⊥) → accepted e ≡ None → IsTold (g.placed ++ e ∷ []) p c u
+      → why plan h e ≡ None → length h < most → (e ≡ Halt → ⊥) → IsTold (g.placed ++ e ∷ []) p c u
       → IsGoing most pt ct plan stood before early p c (h ++ e ∷ []) u
-  going_one p c h o u e g permitted room other none t = record {
+  going_one p c h o u e g permitted room other t = record {
     placed = g.placed ++ e ∷ [];
     split = ap (λ (l : List Event). l ++ e ∷ []) g.split ∙ sym (more_at stood g.placed e);
     heard = t.heard;
@@ -108,13 +105,12 @@ module _ (most : ℕ) (pt ct : Bool) (plan : PlanView) (stood : List Event) (bef
     faults = faults_more most plan stood g.placed e before p (subst (λ (l : List Event). why plan l e ≡ None) g.split permitted)
         (subst (λ (l : List Event). length l < most) g.split room) other g.faults;
     kept = g.kept;
-    uncalled = accepts_none_more g.placed e g.uncalled none;
   }
 
   going_work : (p : PollerState) (c : ClockState) (h : List Event) (o : OutlookView) (e : Event) → why plan h e ≡ None → length h < most → is_work e ≡ true
       → IsGoing most pt ct plan stood before early p c h o → IsGoing most pt ct plan stood before early p c (h ++ e ∷ []) o
   going_work p c h o e permitted room work g =
-      going_one p c h o o e g permitted room (λ (halt : e ≡ Halt). both_ways (is_work e) (ap is_work halt) work) (work_accepts_none e work)
+      going_one p c h o o e g permitted room (λ (halt : e ≡ Halt). both_ways (is_work e) (ap is_work halt) work)
       (told_one g.placed p c o e (subst (λ (l : List Event). why plan l e ≡ None) g.split permitted) (untold e work)
       (λ t (tick : e ≡ Tick t). absurd (both_ways (is_work e) (ap is_work tick) work)) (told_in p c h o g))
 
@@ -150,13 +146,13 @@ module _ (most : ℕ) (pt ct : Bool) (plan : PlanView) (stood : List Event) (bef
     front_few : length pl.front ≤ most
     front_few = let room = front_room in omega (arith, room)
 
-    -- nobody told it, it is no Halt, and it accepts no job
-    placed_untold : (p : PollerState) (c : ClockState) (o : OutlookView) → (e ≡ Halt → ⊥) → accepted e ≡ None → is_told e ≡ false → ((t : ℕ) → e ≡ Tick t → o.start + t ≤ c.present)
+    -- nobody told it, and it is no Halt
+    placed_untold : (p : PollerState) (c : ClockState) (o : OutlookView) → (e ≡ Halt → ⊥) → is_told e ≡ false → ((t : ℕ) → e ≡ Tick t → o.start + t ≤ c.present)
         → IsGoing most pt ct plan stood before early p c h o → IsGoing most pt ct plan stood before early p c k o
-    placed_untold p c o other none told tick going =
+    placed_untold p c o other told tick going =
         let g = going_grown p c h pl.front o front_lawful front_few pl.grown going in
         subst (λ (l : List Event). IsGoing most pt ct plan stood before early p c l o) (sym pl.is)
-        (going_one p c pl.front o o e g front_may front_room other none
+        (going_one p c pl.front o o e g front_may front_room other
         (told_one g.placed p c o e (subst (λ (l : List Event). why plan l e ≡ None) g.split front_may) told tick (told_in p c pl.front o g)))
 
     -- it is the first of the news
@@ -167,35 +163,36 @@ module _ (most : ℕ) (pt ct : Bool) (plan : PlanView) (stood : List Event) (bef
         let told = first_is_told o.news e first in
         subst (λ (l : List Event). IsGoing most pt ct plan stood before early p c l (record o { news = drop 1 o.news })) (sym pl.is)
         (going_one p c pl.front o (record o { news = drop 1 o.news }) e g front_may front_room
-        (λ (halt : e ≡ Halt). both_ways (is_told e) (ap is_told halt) told) (told_accepts_none e told)
+        (λ (halt : e ≡ Halt). both_ways (is_told e) (ap is_told halt) told)
         (record {
           heard = λ tells. heard_told plan stood g.placed e before p o o.news first (subst (λ (l : List Event). why plan l e ≡ None) g.split front_may) (g.heard tells);
           timely = time_more ct plan stood g.placed e early c o.start (λ t (tick : e ≡ Tick t). absurd (both_ways (is_told e) (ap is_told tick) told)) g.timely;
         }))
 
-  -- nobody told it, it is no Halt and accepts no job, and no Tick ahead of the clock
+  -- nobody told it, it is no Halt, and no Tick ahead of the clock
   going_untold : (p : PollerState) (c : ClockState) (h k : List Event) (o : OutlookView) (e : Event) (r : Put) → IsLawful plan k → length k ≤ most
-      → (e ≡ Halt → ⊥) → accepted e ≡ None → is_told e ≡ false → ((t : ℕ) → e ≡ Tick t → o.start + t ≤ c.present) → Says most plan e h k r
+      → (e ≡ Halt → ⊥) → is_told e ≡ false → ((t : ℕ) → e ≡ Tick t → o.start + t ≤ c.present) → Says most plan e h k r
       → IsGoing most pt ct plan stood before early p c h o → IsGoing most pt ct plan stood before early p c k o
-  going_untold p c h k o e Placed lawful few other none told tick said going = placed_untold h k lawful few e said p c o other none told tick going
-  going_untold p c h k o e Barred lawful few other none told tick said going = going_grown p c h k o lawful few said.0 going
-  going_untold p c h k o e Later lawful few other none told tick said going = going_grown p c h k o lawful few said.0 going
+  going_untold p c h k o e Placed lawful few other told tick said going = placed_untold h k lawful few e said p c o other told tick going
+  going_untold p c h k o e Barred lawful few other told tick said going = going_grown p c h k o lawful few said.0 going
+  going_untold p c h k o e Later lawful few other told tick said going = going_grown p c h k o lawful few said.0 going
 
   pub going_tick : (p : PollerState) (c : ClockState) (h k : List Event) (o : OutlookView) (t : ℕ) (r : Put) → IsLawful plan k → length k ≤ most → o.start + t ≤ c.present → Says most plan (Tick t) h k r
       → IsGoing most pt ct plan stood before early p c h o → IsGoing most pt ct plan stood before early p c k o
   going_tick p c h k o t r lawful few due said going =
-      going_untold p c h k o (Tick t) r lawful few (λ (halt : Tick t ≡ Halt). cc) refl refl
+      going_untold p c h k o (Tick t) r lawful few (λ (halt : Tick t ≡ Halt). cc) refl
       (λ x (tick : Tick t ≡ Tick x). let same : t ≡ x = ap tick_time tick in omega (arith, same, due)) said going
 
   pub going_expire : (p : PollerState) (c : ClockState) (h k : List Event) (o : OutlookView) (b : Blk) (r : Put) → IsLawful plan k → length k ≤ most → Says most plan (Expire b) h k r
       → IsGoing most pt ct plan stood before early p c h o → IsGoing most pt ct plan stood before early p c k o
   going_expire p c h k o b r lawful few said going =
-      going_untold p c h k o (Expire b) r lawful few (λ (halt : Expire b ≡ Halt). cc) refl refl (λ x (tick : Expire b ≡ Tick x). cc) said going
+      going_untold p c h k o (Expire b) r lawful few (λ (halt : Expire b ≡ Halt). cc) refl (λ x (tick : Expire b ≡ Tick x). cc) said going
 
-  pub going_shut : (p : PollerState) (c : ClockState) (h k : List Event) (o : OutlookView) (r : Put) → IsLawful plan k → length k ≤ most → Says most plan Shut h k r
+  pub going_admitted : (p : PollerState) (c : ClockState) (h k : List Event) (o : OutlookView) (r : Put) → IsLawful plan k → length k ≤ most → IsAdmitted most plan h k r
       → IsGoing most pt ct plan stood before early p c h o → IsGoing most pt ct plan stood before early p c k o
-  going_shut p c h k o r lawful few said going =
-      going_untold p c h k o Shut r lawful few (λ (halt : Shut ≡ Halt). cc) refl refl (λ x (tick : Shut ≡ Tick x). cc) said going
+  going_admitted p c h k o r lawful few was going =
+      let plain = called_is_plain was.event was.called in
+      going_untold p c h k o was.event r lawful few plain.no_halt plain.untold (λ t tick. absurd (plain.no_tick t tick)) was.said going
 
   pub going_told : (p : PollerState) (c : ClockState) (h k : List Event) (o u : OutlookView) (e : Event) (r : Put) → IsLawful plan k → length k ≤ most → first_event o.news ≡ Some e → Says most plan e h k r
       → u ≡ after_put r o → IsGoing most pt ct plan stood before early p c h o → IsGoing most pt ct plan stood before early p c k u
@@ -211,7 +208,6 @@ module _ (most : ℕ) (pt ct : Bool) (plan : PlanView) (stood : List Event) (bef
         timely = g.timely;
         faults = g.faults;
         kept = g.kept;
-        uncalled = g.uncalled;
       })
   going_told p c h k o u e Later lawful few first said kept going =
       subst (λ (x : OutlookView). IsGoing most pt ct plan stood before early p c k x) (sym kept) (going_grown p c h k o lawful few said.0 going)
@@ -234,7 +230,6 @@ module _ (most : ℕ) (pt ct : Bool) (plan : PlanView) (stood : List Event) (bef
           stops = λ rose. subst (λ (x : List Event). (is_halted x ≡ true) ⊎ (length x ≡ most)) split over;
         };
         kept = keeps_through pt before p q going.kept l.kept;
-        uncalled = accepts_none_work going.placed g.rest going.uncalled g.work;
       }
 
   -- a Halt stands
@@ -253,7 +248,6 @@ module _ (most : ℕ) (pt ct : Bool) (plan : PlanView) (stood : List Event) (bef
         timely = t.timely;
         faults = faults_halted most stood placed before p q going.kept.faults failed;
         kept = keeps_through pt before p q going.kept l.kept;
-        uncalled = accepts_none_more placed Halt (accepts_none_work going.placed g.rest going.uncalled g.work) refl;
       }
 
   pub going_halt : (p q : PollerState) (c d : ClockState) (h k : List Event) (o u : OutlookView) (r : Put) → IsLawful plan k → length k ≤ most → Says most plan Halt h k r → Listens h p q c d o u → HasFailed p q

@@ -24,12 +24,11 @@ use Rattle.gcd_turn.proofs.Promised.{are_told}
 use Rattle.gcd_turn.proofs.TimeSteps.{is_timely, time_on, time_waited}
 use Rattle.gcd_loop.specs.Going.{AfterTurn, IsGoing, IsRunOn, IsStopped, IsTrueTo, WatchesActive}
 use Rattle.gcd_loop.specs.Recorded.{Grows, IsGrown, IsSight, Says}
-use Rattle.gcd_loop.specs.Followed.{AcceptsNone, FollowsChoice, IsOfWorkers}
+use Rattle.gcd_loop.specs.Followed.{FollowsChoice, IsOfWorkers}
 use Rattle.gcd_loop.specs.Ran.{RunsPlan}
 use Rattle.gcd_loop.specs.declared.recorder.Put.{Put}
 use Rattle.gcd_loop.specs.declared.turns.Turn.{Turn}
 use Rattle.gcd_loop.specs.declared.turns.Turn.TheVariants.{Placed, Waited, Stopped, Over}
-use Rattle.gcd_loop.proofs.Follows.{accepts_none_first}
 use Rattle.gcd_loop.proofs.Goings.{Listens, going_expire, going_halt, going_on, going_tick, keeps_same}
 
 pub sight_lawful : (most : ℕ) (plan : PlanView) (h : List Event) (m : MachineView) → IsSight most plan h m → IsLawful plan h
@@ -44,6 +43,15 @@ module _ (most : ℕ) (pt ct : Bool) (plan : PlanView) (stood : List Event) (bef
     heard = λ placed split tells hd. heard stood placed before (subst (StandsFor m plan) split stands) tells hd;
     timely = λ placed split t. time_on ct plan stood placed early c d o.start on waited t;
     kept = kept;
+  }
+
+  -- what `ask_on` does
+  pub later_listens : (h : List Event) (p : PollerState) (c d : ClockState) (o : OutlookView)
+      → c.present ≤ d.present → (ct ≡ true → d.waited ≡ c.waited) → Listens most pt ct plan stood before early h p p c d o o
+  later_listens h p c d o on waited = record {
+    heard = λ placed split tells hd. hd;
+    timely = λ placed split t. time_on ct plan stood placed early c d o.start on waited t;
+    kept = keeps_same pt p;
   }
 
   -- what `idle` does
@@ -136,7 +144,6 @@ going_first most pt ct plan h p early c o active news empties len since reached 
     stops = λ rose. absurd (omega (arith, rose));
   };
   kept = keeps_same pt p;
-  uncalled = accepts_none_first;
 }
 
 pub run_on : (most : ℕ) (pt ct : Bool) (plan : PlanView) (h k : List Event) (p q : PollerState) (c d : ClockState) (o : OutlookView) → HasEnded most plan k
@@ -151,7 +158,6 @@ run_on most pt ct plan h k p q c d o ended goes = record {
         split = going.split;
         heard = record { told = λ tells. are_told plan h going.placed (record { tells = pt; before = p; after = q }) o (going.heard tells); faults = going.faults };
         timely = is_timely plan h going.placed (record { tells = ct; before = c; after = d }) o.start going.timely;
-        uncalled = going.uncalled;
       };
 }
 
@@ -214,12 +220,11 @@ grown most plan h k m sight grows = record { grows = grows; lawful = sight_lawfu
 
 -- at the first beginning what is true to the rest is true to all
 pub true_to_all : (most : ℕ) (plan : PlanView) (stood h : List Event) (poller : Seen PollerState) (clock : Seen ClockState) → stood ≡ []
-    → IsTrueTo most plan stood h poller clock → IsHeard most plan [] h poller × IsTimely plan [] h clock × AcceptsNone h
+    → IsTrueTo most plan stood h poller clock → IsHeard most plan [] h poller × IsTimely plan [] h clock
 true_to_all most plan stood h poller clock none t =
     let all : t.placed ≡ h = ap (λ (l : List Event). l ++ t.placed) (sym none) ∙ sym t.split in (
       subst (λ (l : List Event). IsHeard most plan [] l poller) all (subst (λ (l : List Event). IsHeard most plan l t.placed poller) none t.heard),
       subst (λ (l : List Event). IsTimely plan [] l clock) all (subst (λ (l : List Event). IsTimely plan l t.placed clock) none t.timely),
-      subst AcceptsNone all t.uncalled,
     )
 
 -- nothing more is seen
@@ -228,10 +233,10 @@ grown_same most plan h k m sight same =
     subst (λ (l : List Event). IsGrown most plan h l) (sym same) (record { grows = grows_none h; lawful = sight_lawful most plan h m sight; few = sight.few })
 
 -- what an engine promises of a run from its first event on, by a poller that watched no feed
-pub runs_plan : (most : ℕ) (plan : PlanView) (workers : ℕ) (h : List Event) (m : MachineView) (poller : Seen PollerState) (clock : Seen ClockState)
-    → IsSight most plan h m → IsOfWorkers workers h → (workers ≡ 1 → FollowsChoice plan h) → ((s : ℕ) → poller.before.watched s ≡ false)
-    → IsRunOn most plan [] h poller clock → RunsPlan most plan workers poller clock h
-runs_plan most plan workers h m poller clock sight by chosen unwatched on =
+pub runs_plan : (most : ℕ) (plan : PlanView) (workers : ℕ) (calls : List Event → Type 0) (h : List Event) (m : MachineView) (poller : Seen PollerState) (clock : Seen ClockState)
+    → IsSight most plan h m → IsOfWorkers workers h → (workers ≡ 1 → FollowsChoice plan h) → calls h → ((s : ℕ) → poller.before.watched s ≡ false)
+    → IsRunOn most plan [] h poller clock → RunsPlan most plan workers calls poller clock h
+runs_plan most plan workers calls h m poller clock sight by chosen called unwatched on =
     let all = true_to_all most plan [] h poller clock refl (on.true_to (λ s w. absurd (both_ways (poller.before.watched s) (unwatched s) w))) in
     record {
       lawful = sight_lawful most plan h m sight;
@@ -239,7 +244,7 @@ runs_plan most plan workers h m poller clock sight by chosen unwatched on =
       few = sight.few;
       by = by;
       chosen = chosen;
-      uncalled = all.2;
+      called = called;
       timely = all.1;
       heard = all.0;
     }

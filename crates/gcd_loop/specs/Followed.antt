@@ -1,4 +1,4 @@
--- Whose the events of a history are, that none comes of an outside caller, and that they follow worker 0's choice.
+-- Whose the events of a history are, whether any comes of an outside caller, and that they follow worker 0's choice.
 use Rattle.std.specs.Prelude.{◌≡◌, ◌<◌, ℕ, List, None, Some, slice_get, take, IsTrue}
 use Rattle.gcd_plan.specs.PlanView.{PlanView}
 use Rattle.gcd_event.specs.declared.event.Event.{Event}

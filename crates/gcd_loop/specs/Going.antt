@@ -12,12 +12,11 @@ use Rattle.gcd_turn.specs.Hearing.{Heard}
 use Rattle.gcd_turn.specs.Promises.{HaltsAtFaults, IsHeard, IsTimely}
 use Rattle.gcd_turn.specs.Timing.{TimeKept}
 use Rattle.gcd_turn.specs.Turns.{HasRoom, OutlookView}
-use Rattle.gcd_loop.specs.Followed.{AcceptsNone}
 use Rattle.gcd_loop.specs.declared.turns.Turn.{Turn}
 use Rattle.gcd_loop.specs.declared.turns.Turn.TheVariants.{Placed, Waited, Stopped, Over}
 
 -- what is seen is what stood and what was placed since, in which stands what poller and clock said since these states, as far
--- as the turns have come, and nothing of an outside caller
+-- as the turns have come
 pub record IsGoing (most : ℕ) (poller_tells clock_tells : Bool) (plan : PlanView) (stood : List Event) (before : PollerState) (early : ClockState)
     (poller : PollerState) (clock : ClockState) (h : List Event) (o : OutlookView) : Type 0 where
   pub placed : List Event
@@ -26,7 +25,6 @@ pub record IsGoing (most : ℕ) (poller_tells clock_tells : Bool) (plan : PlanVi
   pub timely : TimeKept clock_tells plan stood placed early clock o.start
   pub faults : HaltsAtFaults most stood placed before poller
   pub kept : KeepsListens poller_tells before poller
-  pub uncalled : AcceptsNone placed
 
 -- the recorder stopped a turn: there is room for an event, and worker 0 may listen or wait
 pub record IsStopped (most : ℕ) (plan : PlanView) (stopped : Type 0) (h : List Event) (news : List Tell) (poller : PollerState) (left : Option ℕ) : Type 0 where
@@ -45,14 +43,12 @@ AfterTurn ready stopped ended Over = ended
 abbrev pub WatchesActive : PlanView → List Event → PollerState → Type 0
 WatchesActive plan h poller = (s : ℕ) → poller.watched s ≡ true → is_active plan h s ≡ true
 
--- what stood is the beginning of what is seen, and what poller and clock said since stands in the rest, which accepts no job of
--- an outside caller
+-- what stood is the beginning of what is seen, and what poller and clock said since stands in the rest
 pub record IsTrueTo (most : ℕ) (plan : PlanView) (stood h : List Event) (poller : Seen PollerState) (clock : Seen ClockState) : Type 0 where
   pub placed : List Event
   pub split : h ≡ stood ++ placed
   pub heard : IsHeard most plan stood placed poller
   pub timely : IsTimely plan stood placed clock
-  pub uncalled : AcceptsNone placed
 
 -- what stood was run on to the end
 pub record IsRunOn (most : ℕ) (plan : PlanView) (stood h : List Event) (poller : Seen PollerState) (clock : Seen ClockState) : Type 0 where

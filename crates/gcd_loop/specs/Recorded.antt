@@ -1,10 +1,11 @@
 -- What a recorder says of its steps. Others may have recorded events of workers meanwhile.
-use Rattle.std.specs.Prelude.{◌≡◌, ◌≤◌, ℕ, true, false, List, [], ◌∷◌, ◌++◌, None, length, drop}
+use Rattle.std.specs.Prelude.{◌≡◌, ◌≤◌, ℕ, true, false, List, [], ◌∷◌, ◌++◌, Option, Some, None, length, drop}
 use Rattle.std.specs.List.{list_all}
 use Rattle.gcd_plan.specs.PlanView.{PlanView}
 use Rattle.gcd_event.specs.declared.event.Event.{Event}
 use Rattle.gcd_event.specs.declared.event.Event.TheVariants.{Halt}
 use Rattle.gcd_history.specs.Choice.{is_work, worker_of}
+use Rattle.gcd_history.specs.Facts.{is_of_callers}
 use Rattle.gcd_history.specs.History.{IsLawful, why}
 use Rattle.gcd_machine.specs.Stands.{StandsFor}
 use Rattle.gcd_refinement.specs.MachineView.{MachineView}
@@ -20,10 +21,11 @@ pub record IsSight (most : ℕ) (plan : PlanView) (h : List Event) (m : MachineV
   pub stands : StandsFor m plan h
   pub few : length h ≤ most
 
--- an event of the outside: it is worker 0's
+-- an event of poller or clock: it is worker 0's, and not of outside callers
 pub record IsOutside (e : Event) : Type 0 where
   pub by : worker_of e ≡ 0
   pub no_work : is_work e ≡ false
+  pub uncalled : is_of_callers e ≡ false
 
 -- more is seen: events of workers
 pub record Grows (h k : List Event) : Type 0 where
@@ -42,6 +44,17 @@ abbrev pub Says : (most : ℕ) → PlanView → Event → List Event → List Ev
 Says most plan e h k PutPlaced = IsPlaced e h k
 Says most plan e h k Barred = Grows h k × (why plan k e ≡ None → ⊥)
 Says most plan e h k Later = Grows h k × (e ≡ Halt → length k ≡ most)
+
+-- an Accept or a Shut was put
+pub record IsAdmitted (most : ℕ) (plan : PlanView) (h k : List Event) (answer : Put) : Type 0 where
+  pub event : Event
+  pub called : is_of_callers event ≡ true
+  pub said : Says most plan event h k answer
+
+-- what `admit` says: an Accept or a Shut was put, or none was, and nothing more is seen
+abbrev pub Admits : (most : ℕ) → PlanView → (h k : List Event) → Option Put → Type 0
+Admits most plan h k None = k ≡ h
+Admits most plan h k (Some answer) = IsAdmitted most plan h k answer
 
 -- after a step the next may come, or the turn is stopped, or the run has ended
 abbrev pub After : (ready stopped ended : Type 0) → Step → Type 0

@@ -7,7 +7,7 @@
 //!
 //! | clause of `run_turns` | says |
 //! |---|---|
-//! | `run_on` (`IsRunOn`) | where memory sufficed: the run has ended; and on any beginning of which the poller watches active feeds alone, what poller and clock said since stands in what came since, which accepts no job of an outside caller |
+//! | `run_on` (`IsRunOn`) | where memory sufficed: the run has ended; and on any beginning of which the poller watches active feeds alone, what poller and clock said since stands in what came since |
 //! | `left` | where memory sufficed: what the recorder says of a run that has ended |
 //! | `kept` | what no step of the recorder changes |
 //! | `listens` | no listen was made, and the poller's count of faults did not fall, where memory runs out too |
@@ -16,12 +16,13 @@
 //! |---|---|
 //! | `Recorded` | what a recorder says of its steps |
 //! | `Going` | what holds between the turns, and what they come to |
-//! | `Followed` | whose the events of a history are, that none comes of an outside caller, and that they are worker 0's choice |
+//! | `Followed` | whose the events of a history are, whether any comes of an outside caller, and that they are worker 0's choice |
 //! | `Ran` | what a run by any engine promises: `RunsPlan` |
 //!
-//! An event that a poller told, a Tick, a Halt, an Expire and a Shut are the events of the outside. A run has at most `most` events.
-//! There are no outside callers: where a plan has an intake, worker 0 shuts it in its first turn in which nothing is told, and no
-//! job is ever accepted.
+//! An event that a poller told, a Tick, a Halt and an Expire are the events of the outside; an Accept and a Shut are those of the intake.
+//! A run has at most `most` events. Where the intake is open, and nothing is told, the recorder sees to it ([`Recorder::admit`]), and
+//! where it has nothing to put now, the turn goes on. What holds of the jobs that are accepted is the recorder's to say; one without
+//! outside callers shuts the intake, and no job is ever accepted (`AcceptsNone`).
 #![tactic(auto)]
 
 mod backoff;

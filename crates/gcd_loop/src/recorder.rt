@@ -1,19 +1,19 @@
 // What keeps the events of a run, as the loop of worker 0 sees it.
-ghost use Rattle.std.specs.Prelude.{◌≡◌, Some, None, ℕ, List, OnOk, IfOk};
+ghost use Rattle.std.specs.Prelude.{◌≡◌, Some, None, true, ℕ, List, OnOk, IfOk};
 ghost use Rattle.gcd_plan.specs.PlanView.{PlanView};
 ghost use Rattle.gcd_event.specs.declared.event.Event.{Event};
 ghost use Rattle.gcd_history.specs.Ends.{HasEnded};
-ghost use Rattle.gcd_history.specs.History.{choice_of};
+ghost use Rattle.gcd_history.specs.History.{choice_of, is_intake_open};
 ghost use Rattle.gcd_refinement.specs.MachineView.{MachineView};
 ghost use Rattle.gcd_turn.specs.Turns.{HasRoom};
-ghost use Rattle.gcd_loop.specs.Recorded.{After, Grows, IsGrown, IsOutside, IsSight, Says};
+ghost use Rattle.gcd_loop.specs.Recorded.{Admits, After, Grows, IsGrown, IsOutside, IsSight, Says};
 
 use gcd_event::Event;
 use gcd_machine::Machine;
 use gcd_plan::Plan;
 use std::sync::Wait;
 
-/// What putting an event of the outside comes to.
+/// What putting an event that is no worker's comes to.
 #[derive(Clone, Copy, Debug, PartialEq, Eq)]
 pub enum Put {
     /// It stands behind what is seen then, but for itself.
@@ -72,7 +72,7 @@ pub trait Recorder<D> {
         ensures grows { Grows (seen self.old) (seen self.new) }
         ensures kept { (a : Self) → kept most plan.now shared.now a self.old → kept most plan.now shared.now a self.new };
 
-    /// Records an event of the outside, where it may come next.
+    /// Records an event of poller or clock, where it may come next.
     fn put<R: Wait>(
         &mut self,
         rt: &R,
@@ -86,6 +86,22 @@ pub trait Recorder<D> {
         requires outside { IsOutside e }
         ensures ready { OnOk result (ready most plan.now shared.now self.new) }
         ensures said { IfOk result (Says most plan.now e (seen self.old) (seen self.new)) }
+        ensures kept { (a : Self) → kept most plan.now shared.now a self.old → kept most plan.now shared.now a self.new };
+
+    /// Sees to the intake, which is open: it puts an Accept, for the next job of an outside caller, or a Shut, where none comes any
+    /// more. None where there is nothing to put now: the turn goes on then.
+    fn admit<R: Wait>(
+        &mut self,
+        rt: &R,
+        plan: &Plan,
+        most: u32,
+        shared: &D,
+    ) -> Result<Option<Put>, Self::Fault>
+        requires ready { ready most plan.now shared.now self.old }
+        requires room { HasRoom most plan.now (seen self.old) }
+        requires open { is_intake_open plan.now (seen self.old) ≡ true }
+        ensures ready { OnOk result (ready most plan.now shared.now self.new) }
+        ensures said { IfOk result (Admits most plan.now (seen self.old) (seen self.new)) }
         ensures kept { (a : Self) → kept most plan.now shared.now a self.old → kept most plan.now shared.now a self.new };
 
     /// Does what worker 0 chooses, the nodes from number 0 on, or other work.

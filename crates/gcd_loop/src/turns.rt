@@ -5,7 +5,7 @@ ghost use Rattle.gcd_history.specs.Ends.{HasEnded};
 ghost use Rattle.gcd_history.specs.History.{choice_of};
 ghost use Rattle.gcd_outer.specs.Outside.{ClockState};
 ghost use Rattle.gcd_outer.specs.Tells.{PollerState};
-ghost use Rattle.gcd_turn.specs.Asked.{KeepsListens, MayIdle};
+ghost use Rattle.gcd_turn.specs.Asked.{KeepsListens, MayIdle, MayTakeIn};
 ghost use Rattle.gcd_turn.specs.Turns.{HasRoom};
 ghost use Rattle.gcd_loop.specs.Going.{AfterTurn, IsGoing, IsRunOn, IsStopped};
 ghost use Rattle.gcd_loop.specs.Recorded.{IsGrown, IsOutside, WasPut, WasTold};
@@ -216,7 +216,76 @@ fn act<D, T: Recorder<D>, P: Poller, C: Clock, R: Wait>(
     }
 }
 
-// Does what the outlook asks for. There are no outside callers, so an open intake is shut.
+// The later steps of a turn, where nothing came of an intake that is open.
+#[inline(always)]
+fn later<D, T: Recorder<D>, P: Poller, C: Clock, R: Wait>(
+    rt: &R,
+    plan: &Plan,
+    most: u32,
+    shared: &D,
+    run: &mut T,
+    outlook: &mut Outlook,
+    poller: &mut P,
+    clock: &mut C,
+    chosen: Option<Event>,
+) -> Result<Turn, T::Fault>
+    requires ready { T.ready most plan.now shared.now run.old }
+    requires room { HasRoom most plan.now (T.seen run.old) }
+    requires may { MayTakeIn plan.now (T.seen run.old) outlook.old.news (P.state poller.old) chosen }
+    ensures after { IfOk result (AfterTurn (T.ready most plan.now shared.now run.new)
+        (IsStopped most plan.now (T.stopped most plan.now shared.now run.new) (T.seen run.new) outlook.new.news (P.state poller.new))
+        (HasEnded most plan.now (T.seen run.new) × T.left most plan.now shared.now run.new)) }
+    ensures kept { (a : T) → T.kept most plan.now shared.now a run.old → T.kept most plan.now shared.now a run.new }
+    ensures listens { KeepsListens P.tells (P.state poller.old) (P.state poller.new) }
+    ensures going { (stood : List Event) (before : PollerState) (early : ClockState)
+        → IsGoing most P.tells C.tells plan.now stood before early (P.state poller.old) (C.state clock.old) (T.seen run.old) outlook.old
+        → OnOk result (IsGoing most P.tells C.tells plan.now stood before early (P.state poller.new) (C.state clock.new) (T.seen run.new) outlook.new) }
+{
+    match outlook.ask_on(plan, run.machine(), clock, chosen) {
+        Ask::Leave => unreachable!(),
+        Ask::Told(_) => unreachable!(),
+        Ask::Open { .. } => unreachable!(),
+        Ask::Put(due) => put(rt, plan, most, shared, run, due),
+        Ask::Work { chosen, left } => act(
+            rt, plan, most, shared, run, outlook, poller, clock, chosen, left,
+        ),
+    }
+}
+
+// The intake is open: the recorder sees to it, and where nothing comes of that the turn goes on.
+#[inline(always)]
+fn admit<D, T: Recorder<D>, P: Poller, C: Clock, R: Wait>(
+    rt: &R,
+    plan: &Plan,
+    most: u32,
+    shared: &D,
+    run: &mut T,
+    outlook: &mut Outlook,
+    poller: &mut P,
+    clock: &mut C,
+    chosen: Option<Event>,
+) -> Result<Turn, T::Fault>
+    requires ready { T.ready most plan.now shared.now run.old }
+    requires room { HasRoom most plan.now (T.seen run.old) }
+    requires may { MayTakeIn plan.now (T.seen run.old) outlook.old.news (P.state poller.old) chosen }
+    ensures after { IfOk result (AfterTurn (T.ready most plan.now shared.now run.new)
+        (IsStopped most plan.now (T.stopped most plan.now shared.now run.new) (T.seen run.new) outlook.new.news (P.state poller.new))
+        (HasEnded most plan.now (T.seen run.new) × T.left most plan.now shared.now run.new)) }
+    ensures kept { (a : T) → T.kept most plan.now shared.now a run.old → T.kept most plan.now shared.now a run.new }
+    ensures listens { KeepsListens P.tells (P.state poller.old) (P.state poller.new) }
+    ensures going { (stood : List Event) (before : PollerState) (early : ClockState)
+        → IsGoing most P.tells C.tells plan.now stood before early (P.state poller.old) (C.state clock.old) (T.seen run.old) outlook.old
+        → OnOk result (IsGoing most P.tells C.tells plan.now stood before early (P.state poller.new) (C.state clock.new) (T.seen run.new) outlook.new) }
+{
+    match run.admit(rt, plan, most, shared)? {
+        Some(Put::Placed) => Ok(Turn::Placed),
+        Some(Put::Barred) => Ok(Turn::Waited),
+        Some(Put::Later) => Ok(Turn::Waited),
+        None => later(rt, plan, most, shared, run, outlook, poller, clock, chosen),
+    }
+}
+
+// Does what the outlook asks for.
 #[inline(always)]
 fn answer<D, T: Recorder<D>, P: Poller, C: Clock, R: Wait>(
     rt: &R,
@@ -241,7 +310,7 @@ fn answer<D, T: Recorder<D>, P: Poller, C: Clock, R: Wait>(
     match outlook.ask(plan, most, run.machine(), poller, clock) {
         Ask::Leave => Ok(Turn::Over),
         Ask::Told(e) => tell(rt, plan, most, shared, run, outlook, e),
-        Ask::Open { .. } => put(rt, plan, most, shared, run, Event::Shut),
+        Ask::Open { chosen } => admit(rt, plan, most, shared, run, outlook, poller, clock, chosen),
         Ask::Put(e) => put(rt, plan, most, shared, run, e),
         Ask::Work { chosen, left } => act(
             rt, plan, most, shared, run, outlook, poller, clock, chosen, left,

@@ -48,6 +48,7 @@ module _ {J H : Type 0} (gives : J → ℕ → ℕ → Type 0) (kind : H → Kin
     room = on.room;
     below = ready.kept.below 0 x refl;
     chosen = λ one work. ready.kept.chosen one 0 x refl;
+    no_job = refl;
   }
 
   -- and its block has a value

@@ -8,8 +8,9 @@ use Rattle.gcd_event.specs.declared.event.Event.{Event}
 use Rattle.gcd_history.specs.Choice.{is_work, worker_of}
 use Rattle.gcd_history.specs.Ends.{is_halted}
 use Rattle.gcd_history.specs.History.{choice_of, delivery_count_of, is_ended, received_of, why}
+use Rattle.gcd_history.specs.Intake.{accepted}
 use Rattle.gcd_machine.specs.Stands.{StandsFor}
-use Rattle.gcd_loop.specs.Followed.{FollowsChoice, IsOfWorkers}
+use Rattle.gcd_loop.specs.Followed.{AcceptsNone, FollowsChoice, IsOfWorkers}
 use Rattle.gcd_loop.specs.Recorded.{IsSight}
 use Rattle.gcd_rounds.specs.declared.kept.Ending.{Ending}
 use Rattle.gcd_rounds.specs.declared.round.Round.{Round}
@@ -17,12 +18,14 @@ use Rattle.gcd_rounds.specs.declared.running.Running.{Running}
 use Rattle.gcd_rounds.specs.Kept.{AreKept, EndBefore, HaveJobs, endings_of}
 use Rattle.gcd_rounds.specs.Ran.{AreGiven, AreHandlers, sources_before}
 
--- the event may come next, is of one of the workers, and the choice of one who is alone; and there is room for it
+-- the event may come next, is of one of the workers, and the choice of one who is alone; there is room for it; and it accepts no job of
+-- an outside caller
 pub record IsNext (most : ℕ) (plan : PlanView) (workers : ℕ) (h : List Event) (e : Event) : Type 0 where
   pub permitted : why plan h e ≡ None
   pub room : length h < most
   pub below : worker_of e < workers
   pub chosen : workers ≡ 1 → IsTrue (is_work e) → choice_of plan h 0 0 ≡ Some e
+  pub no_job : accepted e ≡ None
 
 -- the places of the handlers, by object
 abbrev pub places_of : PlanView → List ℕ
@@ -33,7 +36,7 @@ abbrev pub HaveTaken : {H : Type 0} → (kind : H → Kind) → (times total : H
 HaveTaken kind times total plan h handlers = AreHandlers kind times total plan (delivery_count_of h) (received_of plan h) handlers
 
 -- a run so far: the machine stands for its journal, whose workers are those of the run, and which follows the choice of one who
--- is alone; and the handlers took what was handed over; the limit of events is a number of 32 bits, as the machine's count is
+-- is alone; no job of an outside caller is accepted; and the handlers took what was handed over; the limit of events is a number of 32 bits, as the machine's count is
 pub record IsRun {J H : Type 0} (kind : H → Kind) (times total : H → ℕ) (plan : PlanView) (r : Running J H) : Type 0 where
   pub some : 0 < r.terms.workers
   pub countable : r.terms.most < 2 ^ 32
@@ -42,6 +45,7 @@ pub record IsRun {J H : Type 0} (kind : H → Kind) (times total : H → ℕ) (p
   pub few : length r.journal.items ≤ r.terms.most
   pub by : IsOfWorkers r.terms.workers r.journal.items
   pub chosen : r.terms.workers ≡ 1 → FollowsChoice plan r.journal.items
+  pub uncalled : AcceptsNone r.journal.items
   pub places : r.places.items ≡ places_of plan
   pub taken : HaveTaken kind times total plan r.journal.items r.handlers.items
 

@@ -19,7 +19,7 @@
 //!
 //! | clause | says, where memory sufficed |
 //! |---|---|
-//! | `ran` (`RunsPlan` of `gcd_loop`) | the journal is lawful and has ended, of at most `most` events; its workers are below the number of workers; with one worker each event of a worker is what that worker chooses at its place; what poller and clock said stands in it (`IsHeard`, `IsTimely`) |
+//! | `ran` (`RunsPlan` of `gcd_loop`) | the journal is lawful and has ended, of at most `most` events; its workers are below the number of workers; with one worker each event of a worker is what that worker chooses at its place; no job of an outside caller is accepted, since there are none; what poller and clock said stands in it (`IsHeard`, `IsTimely`) |
 //! | `values` (`AreGiven`) | for each block a value that its job may give at 0 where it has ended and is not cancelled, and else 0 |
 //! | `handlers` (`AreHandlers`) | the handler of each source took as many values as it has Delivers, and what these handed over |
 //! | `listens`, `addresses`, `poller_faults` | no listen was made, and the poller's count of faults did not fall; these hold where memory runs out too |

@@ -69,6 +69,18 @@ impl<J: Job + Drop, H: Handler + Drop> Recorder<Global> for Round<J, H> {
         self.run.put(plan, e)
     }
 
+    // There are no outside callers.
+    fn admit<R: Wait>(
+        &mut self,
+        _rt: &R,
+        plan: &Plan,
+        _most: u32,
+        _shared: &Global,
+    ) -> Result<Option<Put>, AllocError> {
+        let put = self.run.put(plan, Event::Shut)?;
+        Ok(Some(put))
+    }
+
     fn work<R: Wait>(
         &mut self,
         _rt: &R,

@@ -8,6 +8,7 @@ ghost use Rattle.gcd_outer.specs.Outside.{ClockState};
 ghost use Rattle.gcd_outer.specs.Tells.{PollerState};
 ghost use Rattle.gcd_turn.specs.Asked.{KeepsListens, MayIdle};
 ghost use Rattle.gcd_turn.specs.Turns.{HasRoom};
+ghost use Rattle.gcd_loop.specs.Followed.{AcceptsNone};
 ghost use Rattle.gcd_loop.specs.Going.{IsGoing};
 ghost use Rattle.gcd_loop.specs.Ran.{RunsPlan};
 ghost use Rattle.gcd_rounds.specs.Ran.{AreGiven, AreHandlers};
@@ -165,7 +166,7 @@ fn ran<R: Threads + Wait + Sync, J: Job + Drop + Send, H: Handler + Drop, P: Pol
     requires handlers { AreHandlers H.kind H.times H.total plan.now (λ s. 0) (λ s. 0) handlers.items }
     requires workers { 0 < workers }
     requires unwatched { (feed : ℕ) → (P.state poller.old).watched feed ≡ false }
-    ensures ran { IfOk result (λ end. RunsPlan most plan.now workers
+    ensures ran { IfOk result (λ end. RunsPlan most plan.now workers AcceptsNone
         (record { tells = P.tells; before = P.state poller.old; after = P.state poller.new })
         (record { tells = C.tells; before = C.state clock.old; after = C.state clock.new })
         end.journal.items) }
@@ -219,7 +220,7 @@ pub fn run_rounds<
     requires handlers { AreHandlers H.kind H.times H.total plan.now (λ s. 0) (λ s. 0) handlers.items }
     requires workers { 0 < workers × workers ≤ max_workers }
     requires unwatched { (feed : ℕ) → (P.state poller.old).watched feed ≡ false }
-    ensures ran { IfOk result (λ end. RunsPlan most plan.now workers
+    ensures ran { IfOk result (λ end. RunsPlan most plan.now workers AcceptsNone
         (record { tells = P.tells; before = P.state poller.old; after = P.state poller.new })
         (record { tells = C.tells; before = C.state clock.old; after = C.state clock.new })
         end.journal.items) }

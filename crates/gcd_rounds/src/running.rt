@@ -1,13 +1,14 @@
 // A run by rounds, as far as it has come.
-ghost use Rattle.std.specs.Prelude.{◌≡◌, ◌<◌, ◌++◌, ◌∷◌, [], ℕ, List, Some, true, false, OnOk, IfOk, length, map};
+ghost use Rattle.std.specs.Prelude.{◌≡◌, ◌<◌, ◌++◌, ◌∷◌, [], ℕ, List, Some, None, true, false, OnOk, IfOk, length, map};
 ghost use Rattle.gcd_plan.specs.PlanView.{PlanView};
 ghost use Rattle.gcd_event.specs.declared.event.Event.{Event};
 ghost use Rattle.gcd_event.specs.declared.event.Event.TheVariants.{End};
-ghost use Rattle.gcd_history.specs.Choice.{worker_of};
+ghost use Rattle.gcd_history.specs.Choice.{is_work, worker_of};
 ghost use Rattle.gcd_history.specs.History.{is_block_cancelled};
+ghost use Rattle.gcd_history.specs.Intake.{accepted};
 ghost use Rattle.gcd_history.specs.Runs.{ends};
 ghost use Rattle.gcd_machine.specs.Stands.{StandsFor};
-ghost use Rattle.gcd_loop.specs.Recorded.{IsOutside, Says};
+ghost use Rattle.gcd_loop.specs.Recorded.{Says};
 ghost use Rattle.gcd_rounds.specs.declared.kept.Ending.{Ending};
 ghost use Rattle.gcd_rounds.specs.Handing.{WasRecorded};
 ghost use Rattle.gcd_rounds.specs.Kept.{EndOthers, HasValue};
@@ -139,9 +140,11 @@ impl<J: Job + Drop, H: Handler + Drop> Running<J, H> {
         Ok(())
     }
 
-    // Records an event of the outside, or drops it where it may not come next. No End is kept back.
+    // Records an event that is no worker's and accepts no job, or drops it where it may not come next. No End is kept back.
     pub(crate) fn put(&mut self, plan: &Plan, e: Event) -> Result<Put, AllocError>
-        requires outside { IsOutside e }
+        requires by { worker_of e ≡ 0 }
+        requires no_work { is_work e ≡ false }
+        requires no_job { accepted e ≡ None }
         requires room { length self.old.journal.items < self.old.terms.most }
         requires run { IsRun H.kind H.times H.total plan.now self.old }
         requires ready { AreReady J.gives plan.now self.old [] }

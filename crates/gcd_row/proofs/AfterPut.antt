@@ -10,8 +10,9 @@ use Rattle.gcd_plan.specs.declared.numbers.Blk.{Blk}
 use Rattle.gcd_plan.specs.declared.numbers.Run.{Run}
 use Rattle.gcd_plan.specs.declared.numbers.Run.TheVariants.{Block}
 use Rattle.gcd_event.specs.declared.event.Event.{Event}
-use Rattle.gcd_event.specs.declared.event.Event.TheVariants.{Act as Acted, End}
+use Rattle.gcd_event.specs.declared.event.Event.TheVariants.{Act as Acted, End, Accept}
 use Rattle.gcd_history.specs.Choice.{worker_of}
+use Rattle.gcd_history.specs.Intake.{accepted}
 use Rattle.gcd_history.specs.History.{IsLawful, is_ended, parks, is_block_cancelled}
 use Rattle.gcd_team.specs.Held.{taken, given}
 use Rattle.gcd_team.specs.Team.{held_by}
@@ -19,11 +20,15 @@ use Rattle.gcd_team.proofs.Handing.{cells_stay, held_cells_wait}
 use Rattle.gcd_team.proofs.Own.{own_events_tell_what_is_held}
 use Rattle.gcd_team.proofs.Homes.{what_is_held_after}
 use Rattle.gcd_row.specs.Shapes.{Shape, body, done, shape_of}
+use Rattle.gcd_row.specs.Jobs.{Jobs, May, held_jobs}
 use Rattle.gcd_row.specs.Lying.{slot_of, BodyLies, Lies, HasSlot, HasSlots, IsReadyBody, IsReadyFor, GivesBack}
-use Rattle.gcd_row.specs.Opening.{AreFirst}
 use Rattle.gcd_row.specs.Views.{held_run, knowing, known}
+use Rattle.gcd_row.specs.Plays.{front_cell, HandsOn, IsLaid}
 use Rattle.gcd_row.specs.Passes.{IsPassOf, Ahead, IsPlaced, Says, SaysSlots, HasSameNumbers, view, slots}
 use Rattle.gcd_row.specs.declared.put.Put.{Put}
+use Rattle.gcd_row.specs.declared.view.Handed.{Handed}
+use Rattle.gcd_row.specs.declared.view.Next.{Next}
+use Rattle.gcd_row.specs.declared.view.Next.TheVariants.{First, Laid}
 use Rattle.gcd_row.specs.declared.board.RowBoard.{RowBoard}
 use Rattle.gcd_row.specs.declared.cell.Cell.{Cell}
 use Rattle.gcd_row.specs.declared.cell.Cell.TheVariants.{Body, Done, Handler, Away}
@@ -60,6 +65,23 @@ same_numbers {S} e v w (Barred at y) says = record { worker = ap (λ (x : View S
 same_numbers {S} e v w (Held by passed) says = record { worker = ap (λ (x : View S). x.worker) says.0.looks.is; hands = ap (λ (x : View S). x.hands) says.0.looks.is; passed = ap (λ (x : View S). x.marks.passed) says.0.looks.is }
 same_numbers {S} e v w Full says = record { worker = ap (λ (x : View S). x.worker) says.0; hands = ap (λ (x : View S). x.hands) says.0; passed = ap (λ (x : View S). x.marks.passed) says.0 }
 
+-- with an Accept the body that was laid into the block's slot last is its job
+pub placed_job : {S : Type 0} (b : Blk) (s : ℕ) (v w : View S) (n : ℕ) (c : S) → v.handed.next ≡ Laid c → IsPlaced (Accept b s) v w n → w.handed ≡ record { placed = (b.0, c) ∷ v.handed.placed; next = First }
+placed_job {S} b s v w n c laid placed =
+    let on = placed.handed in
+    on.1 ∙ ap (λ (x : S). record { placed = (b.0, x) ∷ v.handed.placed; next = First }) (subst (λ (next : Next S). IsLaid next on.0) laid on.2)
+
+-- and with every other answer worker 0 has handed in what it had
+handed_by : {S : Type 0} (o : Option Blk) (n m : Handed S) → o ≡ None → HandsOn o n m → m ≡ n
+handed_by None n m is same = same
+handed_by (Some b) n m is on = absurd (cc)
+
+pub handed_kept : {S : Type 0} (e : Event) (v w : View S) (r : Put) → accepted e ≡ None → Says e v w r → w.handed ≡ v.handed
+handed_kept {S} e v w (Placed n) nothing says = handed_by (accepted e) v.handed w.handed nothing says.handed
+handed_kept {S} e v w (Barred at y) nothing says = ap (λ (x : View S). x.handed) says.0.is
+handed_kept {S} e v w (Held by passed) nothing says = ap (λ (x : View S). x.handed) says.0.looks.is
+handed_kept {S} e v w Full nothing says = ap (λ (x : View S). x.handed) says.0
+
 -- what is at a place of a list
 pub get_slice : {A : Type 0} (l : List A) (k : ℕ) (a : A) → get_elem? l k ≡ some a → slice_get l k ≡ Some a
 get_slice [] k a e = absurd (some-ne-none a (sym e))
@@ -77,7 +99,8 @@ module _ {S : Type 0} (shape : S → Shape) (gives : S → ℕ → Type 0) (b : 
     pub seen : (view q).seen ≡ before ++ e ∷ []
     pub cell : S
     pub here : slots q ≡ (slot_of (view q).terms.plan r, cell) ∷ []
-    pub lay : Lies shape gives (view q).terms before r cell
+    pub lay : Lies shape gives (held_jobs (view q)) before r cell
+    pub noted : (view q).first ≡ Some cell
 
   pub took : (p q : RowPass S) (e : Event) (r : Run) (n : ℕ) → IsPassOf shape gives b q → worker_of e ≡ (view p).worker → taken e ≡ Some r → IsPlaced e (view p) (view q) n → SaysSlots shape gives e (slots p) (slots q) (view q) (Placed n) → Took p q e r
   took p q e r n of mine is placed says =
@@ -85,21 +108,21 @@ module _ {S : Type 0} (shape : S → Shape) (gives : S → ℕ → Type 0) (b : 
       let t = (view q).terms in
       let worker : (view q).worker ≡ worker_of e = ap (λ (x : View S). x.worker) placed.is ∙ sym mine in
       let held : held_run (view q) ≡ Some r = ap (λ (h : List Event). held_by t.plan h (view q).worker) says.1 ∙ ap (held_by t.plan (says.0 ++ e ∷ [])) worker ∙ (what_is_held_after t.plan says.0 e).took r is in
-      let has : HasSlot shape gives t (view q).seen r (slots q) = subst (λ (o : Option Run). HasSlots shape gives t (view q).seen o (slots q)) held of.has in
+      let jobs : Jobs S = held_jobs (view q) in
+      let has : HasSlot shape gives jobs (view q).seen r (slots q) = subst (λ (o : Option Run). HasSlots shape gives jobs (view q).seen o (slots q)) held of.has in
       let y = turned.took r is in
       let same : y.0 ≡ has.cell = sym (head_same (slot_of t.plan r) (slot_of t.plan r) has.cell y.0 (slots p) (sym has.here ∙ y.1)) in
-      record { held = held; before = says.0; seen = says.1; cell = has.cell; here = has.here; lay = subst (Lies shape gives t says.0 r) same y.2 }
+      record { held = held; before = says.0; seen = says.1; cell = has.cell; here = has.here; lay = subst (Lies shape gives jobs says.0 r) same y.2; noted = says.3 r is ∙ ap front_cell has.here }
 
   -- a Start and a Wake find the block's body
-  pub found_body : (p q : RowPass S) (e : Event) (blk : Blk) → IsPassOf shape gives b q → AreFirst shape (view q).terms.plan (view q).terms.cells → taken e ≡ Some (Block blk) → (k : Took p q e (Block blk)) → shape k.cell ≡ body
-  found_body p q e blk of first is k =
+  pub found_body : (p q : RowPass S) (e : Event) (blk : Blk) → IsPassOf shape gives b q → taken e ≡ Some (Block blk) → (k : Took p q e (Block blk)) → shape k.cell ≡ body
+  found_body p q e blk of is k =
       let t = (view q).terms in
       let lawful : IsLawful t.plan (k.before ++ e ∷ []) = subst (IsLawful t.plan) k.seen (lawful_seen shape gives b q of) in
       let held : held_by t.plan (k.before ++ e ∷ []) (view q).worker ≡ Some (Block blk) = sym (ap (λ (h : List Event). held_by t.plan h (view q).worker) k.seen) ∙ k.held in
       let now : is_ended (k.before ++ e ∷ []) blk.0 ≡ false = (held_cells_wait t.plan (k.before ++ e ∷ []) lawful).bodies (view q).worker blk held in
       let kept : is_ended (k.before ++ e ∷ []) blk.0 ≡ is_ended k.before blk.0 = (cells_stay t.plan k.before e).bodies blk (λ gave. none_some (given t.plan e) (Block blk) (taken_not_given t.plan e (Block blk) is) gave) in
-      let f = first.first (Block blk) (subst (λ (o : Option Run). HasSlots shape gives t (view q).seen o (slots q)) k.held of.has).known in
-      (subst (λ (x : Bool). BodyLies shape gives f.0 x (is_block_cancelled t.plan k.before blk.0) k.cell) (sym kept ∙ now) (k.lay f.0 (get_slice t.cells blk.0 f.0 f.1))).0
+      (subst (λ (x : Bool). BodyLies shape gives (May gives (held_jobs (view q)) blk.0) x (is_block_cancelled t.plan k.before blk.0) k.cell) (sym kept ∙ now) k.lay).0
 
   -- where its event neither takes a run nor gives one back, the pass has what it had
   pub record Kept (p q : RowPass S) : Type 0 where

@@ -1,5 +1,5 @@
 -- The rule holds of a new board.
-use Rattle.std.proofs.Common.{◌≡◌, ◌+◌, ◌<◌, ◌≤◌, inl, inr, Bool, cond, lt-ltb, le-ltb, ◌++◌, ℕ, zero, suc, List, [], ◌∷◌, length, get_or, map, sym, refl, ap, ◌∙◌, subst, arith, false, Some, None, Option}
+use Rattle.std.proofs.Common.{◌≡◌, ◌+◌, ◌<◌, ◌≤◌, inl, inr, Bool, cond, lt-ltb, le-ltb, ◌++◌, ℕ, zero, suc, List, [], ◌∷◌, length, get_or, map, sym, refl, ap, ◌∙◌, subst, arith, true, false, Some, None, Option}
 use Rattle.std.specs.Prelude.{slice_get}
 use mathlib.Core.Logic.{dite}
 use native.Mathlib.Decide.{dec_le}
@@ -7,21 +7,23 @@ use mathlib.Core.Option.{some, some-injective, some-ne-none}
 use lib.ListN.{get_elem?}
 use Rattle.atomic_table.specs.Table.{opening}
 use Rattle.atomic_table.proofs.Lists.{at_map}
+use Rattle.gcd_plan.specs.Made.{is_of_intake}
 use Rattle.gcd_plan.specs.Validity.{IsPlan}
 use Rattle.gcd_plan.specs.declared.numbers.Run.{Run}
 use Rattle.gcd_plan.specs.declared.numbers.Run.TheVariants.{Block, Source}
 use Rattle.gcd_event.specs.Words.{word_of}
 use Rattle.gcd_history.specs.History.{is_block_cancelled, is_ended}
 use Rattle.gcd_history.proofs.LawfulLemmas.{lawful_none}
-use Rattle.gcd_team.specs.Team.{StartsWith}
+use Rattle.gcd_team.specs.Team.{StartsWith, held_by}
 use Rattle.gcd_team.proofs.TeamLaws.{nothing_is_held_first}
 use Rattle.gcd_machine.specs.Stands.{StandsFor}
 use Rattle.gcd_row.specs.Ring.{AreFirstWords, first_word, passed_word, gone}
 use Rattle.gcd_row.specs.Shapes.{Shape}
+use Rattle.gcd_row.specs.Jobs.{May, placed_at, jobs_of, held_jobs}
 use Rattle.gcd_row.specs.Lying.{slot_of, BodyLies, Lies, HasSlots}
-use Rattle.gcd_row.specs.Views.{given_terms, opening_view, held_run}
+use Rattle.gcd_row.specs.Views.{IsBack, given_terms, none_handed, opening_view, held_run}
 use Rattle.gcd_row.specs.Opening.{first_shape, AreFirst}
-use Rattle.gcd_row.specs.Rule.{Fits, Heads, Holds}
+use Rattle.gcd_row.specs.Rule.{Fits, Heads, KnowsJobs, Holds}
 use Rattle.gcd_row.specs.Passes.{IsPassOf, MayRead, view, slots, terms_of}
 use Rattle.gcd_row.specs.declared.view.Copies.{Copies}
 use Rattle.gcd_row.specs.declared.view.Terms.{Terms}
@@ -29,6 +31,9 @@ use Rattle.gcd_row.specs.declared.view.View.{View}
 use Rattle.gcd_row.specs.declared.board.RowBoard.{RowBoard}
 use Rattle.gcd_row.specs.declared.pass.RowPass.{RowPass}
 use Rattle.gcd_row.proofs.Fronts.{starts_nil, own_nothing}
+use Rattle.gcd_row.proofs.Jobs.{intake_job, plain_job}
+use Rattle.gcd_row.proofs.Landing.{first_laid}
+use Rattle.gcd_row.proofs.Running.{none_some}
 use Rattle.gcd_row.proofs.RowWords.{at_front, at_next}
 use Rattle.gcd_row.proofs.Passing.{nothing_beneath}
 
@@ -69,9 +74,18 @@ module _ {S : Type 0} where
   same_cell (x ∷ xs) (suc k) c first e f = same_cell xs k c first e f
 
 module _ {S : Type 0} (shape : S → Shape) (gives : S → ℕ → Type 0) where
-  first_lies : (t : Terms S) (r : Run) (c : S) → get_elem? t.cells (slot_of t.plan r) ≡ some c → shape c ≡ first_shape t.plan r → Lies shape gives t [] r c
-  first_lies t (Block b) c at is = λ first first_at. let same : c ≡ first = same_cell t.cells b.0 c first at first_at in
-      subst (λ (n : Bool). BodyLies shape gives first n (is_block_cancelled t.plan [] b.0) c) (sym (not_ended b.0)) (is, λ v may. subst (λ (x : S). gives x v) same may)
+  first_lies : (t : Terms S) (r : Run) (c : S) → get_elem? t.cells (slot_of t.plan r) ≡ some c → shape c ≡ first_shape t.plan r → Lies shape gives (jobs_of t (placed_at [])) [] r c
+  first_lies t (Block b) c at is =
+      subst (λ (n : Bool). BodyLies shape gives (May gives (jobs_of t (placed_at [])) b.0) n (is_block_cancelled t.plan [] b.0) c) (sym (not_ended b.0)) (
+        is,
+        λ v may job job_at. elim (is_of_intake t.plan b.0) as (λ of. is_of_intake t.plan b.0 ≡ of → gives job v) [
+          | true ↦ λ of. absurd (none_is (sym (intake_job t (placed_at []) b.0 of) ∙ job_at))
+          | false ↦ λ other. subst (λ (x : S). gives x v) (same_cell t.cells b.0 c job at (sym (plain_job t (placed_at []) b.0 other) ∙ job_at)) may
+        ] refl,
+      )
+    where
+      none_is : {A : Type 0} {a : A} → None ≡ Some a → ⊥
+      none_is z = cc
   first_lies t (Source s) c at is = is
 
   pub opens : (key : Copies S) (words : List ℕ) (cells : List S) → key.cells.value.items ≡ cells → IsPlan key.plan.value → AreFirst shape key.plan.value cells → 0 < key.limits.workers → key.limits.workers ≤ 64 → key.limits.most < 4294967296 → AreFirstWords key.limits.workers words → Holds shape gives key (opening words cells (opening_view key))
@@ -99,9 +113,14 @@ module _ {S : Type 0} (shape : S → Shape) (gives : S → ℕ → Type 0) where
           beyond = high;
         };
         lawful = lawful_none t.plan;
+        handed = none_handed;
+        jobs = λ by u e live. subst (KnowsJobs gives t none_handed) (one v u by e).1 (record { mine = λ _. refl; held = λ b is. absurd (none_some (held_by t.plan [] 0) (Block b) (nothing_is_held_first t.plan 0) is) });
         slots = record {
           width = length-map cells ∙ first.width;
-          home = λ r known _. let it = first.first r known in
+          laid = λ b c _ is. first_laid is;
+          placed = λ b c is. absurd (cc);
+          accepted = λ b is. absurd (cc);
+          home = λ r known _ _. let it = first.first r known in
               (it.0, at_map some cells (slot_of t.plan r) it.0 it.1, first_lies t r it.0 (subst (λ (l : List S). get_elem? l (slot_of t.plan r) ≡ some it.0) (sym are) it.1) it.2);
         };
         knows = record {
@@ -132,7 +151,8 @@ module _ {S : Type 0} (shape : S → Shape) (gives : S → ℕ → Type 0) where
         beneath = nothing_beneath p.beneath (map word_of (view p).seen) beneath;
         number = number ∙ sym (ap (λ (x : View S). x.worker) is);
         few = omega (arith, ap (λ (x : View S). length x.seen) is);
-        has = subst (λ (x : View S). HasSlots shape gives x.terms x.seen (held_run x) (slots p)) (sym is)
-            (subst (λ (o : Option Run). HasSlots shape gives (terms_of b) [] o (slots p)) (sym (nothing_is_held_first (terms_of b).plan 0)) (ap (λ m. m.1) me));
+        has = subst (λ (x : View S). HasSlots shape gives (held_jobs x) x.seen (held_run x) (slots p)) (sym is)
+            (subst (λ (o : Option Run). HasSlots shape gives (jobs_of (terms_of b) (λ k. None)) [] o (slots p)) (sym (nothing_is_held_first (terms_of b).plan 0)) (ap (λ m. m.1) me));
+        back = subst (λ (x : View S). IsBack x.handed.next) (sym is) tt;
         stands = subst (λ (x : View S). StandsFor p.machine x.terms.plan x.seen) (sym is) stands;
       }

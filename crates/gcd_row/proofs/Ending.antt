@@ -11,16 +11,20 @@ use Rattle.gcd_event.specs.Words.{word_of}
 use Rattle.gcd_history.specs.Facts.{AllFit}
 use Rattle.gcd_history.proofs.PublicFacts.{all_fit}
 use Rattle.gcd_row.specs.Shapes.{Shape}
+use Rattle.gcd_row.specs.Jobs.{Jobs, placed_at, jobs_of, placed_jobs}
 use Rattle.gcd_row.specs.Lying.{slot_of, Lies}
-use Rattle.gcd_row.specs.Views.{given_terms, standing_of}
+use Rattle.gcd_row.specs.Views.{IsBack, given_terms, standing_of}
 use Rattle.gcd_row.specs.Rule.{Knows, Holds}
 use Rattle.gcd_row.specs.Passes.{AtRest, MayRead}
 use Rattle.gcd_row.specs.Ring.{lap}
 use Rattle.gcd_row.proofs.RowWords.{rereads}
 use Rattle.gcd_row.specs.declared.view.Copies.{Copies}
+use Rattle.gcd_row.specs.declared.view.Handed.{Handed}
 use Rattle.gcd_row.specs.declared.view.Standing.TheVariants.{Out}
 use Rattle.gcd_row.specs.declared.view.Terms.{Terms}
 use Rattle.gcd_row.specs.declared.view.View.{View}
+use Rattle.gcd_row.proofs.Jobs.{intake_job}
+use Rattle.gcd_row.proofs.Landing.{out_back}
 use Rattle.gcd_row.proofs.Seen.{at_once}
 
 module _ {S : Type 0} where
@@ -31,26 +35,31 @@ module _ {S : Type 0} where
       ap (λ (x : View S). x.seen) (sym (at_once views id w.1 v (subst (λ (n : ℕ). get_elem? views n ≡ some w.1) here w.2) at)) ∙ w.4)
       (λ ne. absurd (all_in w.1.worker ((k.head id v at live head_is).out w.0 w.1 w.2 w.3 ne)))
 
-pub record Closes {S : Type 0} (shape : S → Shape) (gives : S → ℕ → Type 0) (t : Terms S) (h : List Event) (from : ℕ) (ws : List ℕ) (xs : List S) : Type 0 where
+pub record Closes {S : Type 0} (shape : S → Shape) (gives : S → ℕ → Type 0) (t : Jobs S) (h : List Event) (from : ℕ) (ws : List ℕ) (xs : List S) : Type 0 where
   pub words : (i : ℕ) → from ≤ i → i < length h → get_or ws (suc (i % 4096)) 0 ≡ get_or (map word_of h) i 0 + lap i
   pub fit : AllFit h
   pub rest : AtRest shape gives t h xs
 
-pub closes : {S : Type 0} (shape : S → Shape) (gives : S → ℕ → Type 0) (key : Copies S) (id : ℕ) (v : View S) (ws : List ℕ) (xs : List S) → Final (Seen (Holds shape gives key) id v) ws xs → MayRead v → v.worker ≡ 0 → ((w : ℕ) → standing_of v.hands w ≢ Some Out) → Closes shape gives v.terms v.seen v.marks.passed ws xs
-closes {S} shape gives key id v ws xs f ok head_is all_in =
+pub closes : {S : Type 0} (shape : S → Shape) (gives : S → ℕ → Type 0) (key : Copies S) (id : ℕ) (v : View S) (ws : List ℕ) (xs : List S) → Final (Seen (Holds shape gives key) id v) ws xs → MayRead v → v.worker ≡ 0 → ((w : ℕ) → standing_of v.hands w ≢ Some Out) → IsBack v.handed.next → Closes shape gives (placed_jobs v) v.seen v.marks.passed ws xs
+closes {S} shape gives key id v ws xs f ok head_is all_in home =
     let live = ok.unspent in
     let s = f.0 in let k = f.1.0 in let t : Terms S = given_terms key in
     let all : v.seen ≡ k.history = all_seen t k.history s.views id v f.1.1 k.knows live head_is all_in in
     let terms : v.terms ≡ t = (k.knows.fits id v f.1.1 live).terms in
-    let at_rest : AtRest shape gives t k.history xs = record {
+    let mine : v.handed ≡ k.handed = (k.jobs id v f.1.1 live).mine head_is in
+    let back : IsBack k.handed.next = subst (λ (n : Handed S). IsBack n.next) mine home in
+    let jobs : Jobs S = jobs_of t (placed_at k.handed.placed) in
+    let at_rest : AtRest shape gives jobs k.history xs = record {
       width = sym f.3 ∙ k.slots.width;
-      lie = λ r c known nobodys at. let there = k.slots.home r known nobodys in subst (Lies shape gives t k.history r) (some-injective there.0 c (sym (f.4 (slot_of t.plan r) there.0 there.1) ∙ at)) there.2;
+      lie = λ r c known nobodys at. let there = k.slots.home r known nobodys (λ o. out_back k.handed.next back o.out) in subst (Lies shape gives jobs k.history r) (some-injective there.0 c (sym (f.4 (slot_of t.plan r) there.0 there.1) ∙ at)) there.2;
+      job = λ b of stands. let was = k.slots.accepted b stands in (was.0, intake_job t (placed_at k.handed.placed) b of ∙ was.1);
     } in
     record {
       fit = subst AllFit (sym all) (all_fit t.plan k.history k.valid k.lawful);
       words = λ i le lt. let slow = k.passed.slow v.worker ok.number in let mine = k.passed.mine id v f.1.1 live in
           ap (λ (l : List ℕ). get_or l (suc (i % 4096)) 0) (sym f.2) ∙ rereads t.limits.most s.words k.history v.seen i k.ring (k.knows.seen id v f.1.1) lt (omega (arith, slow, mine, le));
-      rest = subst (λ (q : Terms S). AtRest shape gives q v.seen xs) (sym terms) (subst (λ (h : List Event). AtRest shape gives t h xs) (sym all) at_rest);
+      rest = subst (λ (n : Handed S). AtRest shape gives (jobs_of v.terms (placed_at n.placed)) v.seen xs) (sym mine)
+          (subst (λ (q : Terms S). AtRest shape gives (jobs_of q (placed_at k.handed.placed)) v.seen xs) (sym terms) (subst (λ (h : List Event). AtRest shape gives jobs h xs) (sym all) at_rest));
     }
 
 -- the event at a place of a history

@@ -25,9 +25,9 @@ use Rattle.gcd_team.proofs.TeamLaws.{nothing_is_held_first, takings_find_nobody,
 use Rattle.gcd_team.proofs.Handing.{cells_stay, held_cells_wait, bodies_come_back, deliver_hands_over}
 use Rattle.gcd_team.proofs.Homes.{what_is_held_after}
 use Rattle.gcd_row.specs.Shapes.{Shape, body, done, handler, away}
-use Rattle.gcd_row.specs.Lying.{slot_of, source_shape, IsUntaken, IsServed, BodyLies, Lies, BodyHeld, HandlerHeld, MayHold, HasSlot, HasSlots, IsReadyBody, GivesBack}
+use Rattle.gcd_row.specs.Jobs.{Jobs, May}
+use Rattle.gcd_row.specs.Lying.{slot_of, source_shape, IsUntaken, IsServed, BodyLies, Lies, BodyHeld, HandlerHeld, MayHold, HasSlot, HasSlots, IsReadyBody, IsReadyFor, GivesBackBy}
 use Rattle.gcd_row.specs.Plays.{Turned}
-use Rattle.gcd_row.specs.declared.view.Terms.{Terms}
 use Rattle.gcd_row.proofs.Totals.{earlier_now, earlier_waits}
 use Rattle.gcd_team.proofs.CancelledRuns.{begun_where_held, cancelled_at_taking}
 use Rattle.gcd_row.proofs.Running.{known_run, taken_known, given_known, given_not_taken, taken_source, source_slot, none_some}
@@ -73,32 +73,32 @@ handler_waits plan h later s (handler kind times total) w x = (
 )
 handler_waits plan h later s away w x = tt
 
-module _ {S : Type 0} (shape : S → Shape) (gives : S → ℕ → Type 0) (t : Terms S) where
+module _ {S : Type 0} (shape : S → Shape) (gives : S → ℕ → Type 0) (t : Jobs S) where
   -- what lies in the slot of a block stays right while the block does not end
-  body_stays : (h : List Event) (e : Event) (b : Blk) (first c : S) (n : Bool) → IsLawful t.plan h → is_ended h b.0 ≡ n
-      → BodyLies shape gives first n (is_block_cancelled t.plan h b.0) c → BodyLies shape gives first n (is_block_cancelled t.plan (h ++ e ∷ []) b.0) c
-  body_stays h e b first c false lawful ended lies = lies
-  body_stays h e b first c true lawful ended lies =
-      subst (λ (v : Bool). BodyLies shape gives first true v c) (sym (cancelled_kept t.plan h e b.0 (begun_where_ended t.plan h b.0 lawful ended))) lies
+  body_stays : (h : List Event) (e : Event) (b : Blk) (may : ℕ → Type 0) (c : S) (n : Bool) → IsLawful t.plan h → is_ended h b.0 ≡ n
+      → BodyLies shape gives may n (is_block_cancelled t.plan h b.0) c → BodyLies shape gives may n (is_block_cancelled t.plan (h ++ e ∷ []) b.0) c
+  body_stays h e b may c false lawful ended lies = lies
+  body_stays h e b may c true lawful ended lies =
+      subst (λ (v : Bool). BodyLies shape gives may true v c) (sym (cancelled_kept t.plan h e b.0 (begun_where_ended t.plan h b.0 lawful ended))) lies
 
   -- what lies at a slot whose run nobody holds, and which the event does not take, stays right
   pub lies_stay : (h : List Event) (e : Event) (r : Run) (c : S) → IsLawful t.plan h → why t.plan h e ≡ None → IsNobodys t.plan h r → (taken e ≡ Some r → ⊥) → Lies shape gives t h r c → Lies shape gives t (h ++ e ∷ []) r c
   lies_stay h e (Block b) c lawful may nobodys not_taken old =
       let not_given : given t.plan e ≡ Some (Block b) → ⊥ = λ is. nobodys (worker_of e) (givings_are_the_holders t.plan h lawful e (Block b) is may) in
-      λ first at. subst (λ (n : Bool). BodyLies shape gives first n (is_block_cancelled t.plan (h ++ e ∷ []) b.0) c) (sym ((cells_stay t.plan h e).bodies b not_given))
-      (body_stays h e b first c (is_ended h b.0) lawful refl (old first at))
+      subst (λ (n : Bool). BodyLies shape gives (May gives t b.0) n (is_block_cancelled t.plan (h ++ e ∷ []) b.0) c) (sym ((cells_stay t.plan h e).bodies b not_given))
+      (body_stays h e b (May gives t b.0) c (is_ended h b.0) lawful refl old)
   lies_stay h e (Source s) c lawful may nobodys not_taken old = old ∙ sym (same_source_shape t.plan h (e ∷ []) s.0 ((cells_stay t.plan h e).handlers s not_taken))
 
   -- what a holder has of its run stays right after a permitted event
   may_stay : (h : List Event) (e : Event) (w : ℕ) (r : Run) (c : S) → IsLawful t.plan h → why t.plan h e ≡ None → held_by t.plan h w ≡ Some r → MayHold shape gives t h r c → MayHold shape gives t (h ++ e ∷ []) r c
-  may_stay h e w (Block b) c lawful may held old = λ first at.
-      subst (BodyHeld shape gives first c (shape c)) (sym (cancelled_kept t.plan h e b.0 (begun_where_held t.plan h w b lawful held))) (old first at)
+  may_stay h e w (Block b) c lawful may held old =
+      subst (BodyHeld shape gives (May gives t b.0) c (shape c)) (sym (cancelled_kept t.plan h e b.0 (begun_where_held t.plan h w b lawful held))) old
   may_stay h e w (Source s) c lawful may held old = handler_waits t.plan h (e ∷ []) s.0 (shape c) ((held_cells_wait t.plan h lawful).handlers w s e held may) old
 
   -- and after any events of others
   may_wait : (h later : List Event) (w : ℕ) (r : Run) (c : S) → IsLawful t.plan (h ++ later) → of_worker w later ≡ [] → held_by t.plan h w ≡ Some r → MayHold shape gives t h r c → MayHold shape gives t (h ++ later) r c
-  may_wait h later w (Block b) c lawful none held old = λ first at.
-      subst (BodyHeld shape gives first c (shape c)) (sym (cancelled_kept_on t.plan h later b.0 (begun_where_held t.plan h w b (lawful_front t.plan h later lawful) held))) (old first at)
+  may_wait h later w (Block b) c lawful none held old =
+      subst (BodyHeld shape gives (May gives t b.0) c (shape c)) (sym (cancelled_kept_on t.plan h later b.0 (begun_where_held t.plan h w b (lawful_front t.plan h later lawful) held))) old
   may_wait h later w (Source s) c lawful none held old = handler_waits t.plan h later s.0 (shape c) ((cells_wait t.plan h later lawful).handlers w s held none) old
 
   -- what is had of a run has to do with the slot's run alone
@@ -131,13 +131,13 @@ module _ {S : Type 0} (shape : S → Shape) (gives : S → ℕ → Type 0) (t : 
 
   -- what lay at home may be held
   taken_may : (h : List Event) (e : Event) (r : Run) (y : S) → taken e ≡ Some r → why t.plan h e ≡ None → Lies shape gives t h r y → MayHold shape gives t (h ++ e ∷ []) r y
-  taken_may h e (Block b) y is may lies = λ first at.
-      subst (BodyHeld shape gives first y (shape y)) (sym (cancelled_at_taking t.plan h e (Block b) b.0 is)) (go first (is_ended h b.0) (is_block_cancelled t.plan h b.0) (lies first at))
+  taken_may h e (Block b) y is may lies =
+      subst (BodyHeld shape gives (May gives t b.0) y (shape y)) (sym (cancelled_at_taking t.plan h e (Block b) b.0 is)) (go (May gives t b.0) (is_ended h b.0) (is_block_cancelled t.plan h b.0) lies)
     where
-      go : (first : S) (n marked : Bool) → BodyLies shape gives first n marked y → BodyHeld shape gives first y (shape y) marked
-      go first false marked l = subst (λ (s : Shape). BodyHeld shape gives first y s marked) (sym l.0) l.1
-      go first true false l = subst (λ (s : Shape). BodyHeld shape gives first y s false) (sym l.1) l.2
-      go first true true l = subst (λ (s : Shape). BodyHeld shape gives first y s true) (sym l) refl
+      go : (come : ℕ → Type 0) (n marked : Bool) → BodyLies shape gives come n marked y → BodyHeld shape gives come y (shape y) marked
+      go come false marked l = subst (λ (s : Shape). BodyHeld shape gives come y s marked) (sym l.0) l.1
+      go come true false l = subst (λ (s : Shape). BodyHeld shape gives come y s false) (sym l.1) l.2
+      go come true true l = subst (λ (s : Shape). BodyHeld shape gives come y s true) (sym l) refl
   taken_may h e (Source s) y is may lies =
       let d = taken_source e s is in
       let it = handler_of_source t.plan h s.0 (taken_known t.plan h e (Source s) is may) in
@@ -150,23 +150,26 @@ module _ {S : Type 0} (shape : S → Shape) (gives : S → ℕ → Type 0) (t : 
   rest_none h None c empty = ap rest empty
   rest_none h (Some r) c had = ap rest had.here
 
-  -- after the pass's own event
-  pub has_own : (h : List Event) (e : Event) (c d : List (ℕ × S)) → IsLawful t.plan h → why t.plan h e ≡ None → Turned shape gives t h e c d → HasSlots shape gives t h (held_by t.plan h (worker_of e)) c → HasSlots shape gives t (h ++ e ∷ []) (held_by t.plan (h ++ e ∷ []) (worker_of e)) d
-  has_own h e c d lawful may turned old = by_taken (taken e) refl
+  -- after the pass's own event, before which it knew the jobs so
+  pub has_own : (jobs : ℕ → Option S) (h : List Event) (e : Event) (c d : List (ℕ × S)) → IsLawful t.plan h → why t.plan h e ≡ None → Turned shape gives t h e c d → (taken e ≡ None → jobs ≡ t.job)
+      → HasSlots shape gives (record { plan = t.plan; job = jobs }) h (held_by t.plan h (worker_of e)) c → HasSlots shape gives t (h ++ e ∷ []) (held_by t.plan (h ++ e ∷ []) (worker_of e)) d
+  has_own jobs h e c d lawful may turned same old = by_taken (taken e) refl
     where
       by_given : taken e ≡ None → (o : Option Run) → given t.plan e ≡ o → HasSlots shape gives t (h ++ e ∷ []) (held_by t.plan (h ++ e ∷ []) (worker_of e)) d
       by_given untaken None is = subst (HasSlots shape gives t (h ++ e ∷ []) (held_by t.plan (h ++ e ∷ []) (worker_of e))) (sym (turned.same untaken is))
-          (has_stays h e (worker_of e) c lawful may ((what_is_held_after t.plan h e).same untaken is (worker_of e)) old)
+          (has_stays h e (worker_of e) c lawful may ((what_is_held_after t.plan h e).same untaken is (worker_of e))
+          (subst (λ (f : ℕ → Option S). HasSlots shape gives (record { plan = t.plan; job = f }) h (held_by t.plan h (worker_of e)) c) (same untaken) old))
       by_given untaken (Some r) is =
           let mine : held_by t.plan h (worker_of e) ≡ Some r = givings_are_the_holders t.plan h lawful e r is may in
-          let had : HasSlot shape gives t h r c = subst (λ (o : Option Run). HasSlots shape gives t h o c) mine old in
+          let before : Jobs S = record { plan = t.plan; job = jobs } in
+          let had : HasSlot shape gives before h r c = subst (λ (o : Option Run). HasSlots shape gives before h o c) mine old in
           subst (λ (o : Option Run). HasSlots shape gives t (h ++ e ∷ []) o d) (sym ((what_is_held_after t.plan h e).gave r is)) (turned.gave r is ∙ ap rest had.here)
 
       by_taken : (o : Option Run) → taken e ≡ o → HasSlots shape gives t (h ++ e ∷ []) (held_by t.plan (h ++ e ∷ []) (worker_of e)) d
       by_taken None is = by_given is (given t.plan e) refl
       by_taken (Some r) is =
           let idle = (takings_find_nobody t.plan h lawful e r is may).idle in
-          let empty : c ≡ [] = subst (λ (o : Option Run). HasSlots shape gives t h o c) idle old in
+          let empty : c ≡ [] = subst (λ (o : Option Run). HasSlots shape gives (record { plan = t.plan; job = jobs }) h o c) idle old in
           let y = turned.took r is in
           subst (λ (o : Option Run). HasSlots shape gives t (h ++ e ∷ []) o d) (sym ((what_is_held_after t.plan h e).took r is))
           (record {
@@ -177,7 +180,7 @@ module _ {S : Type 0} (shape : S → Shape) (gives : S → ℕ → Type 0) (t : 
           })
 
   -- the cell of a run that the event gives back lies right after it
-  pub lays_back : (h : List Event) (e : Event) (c : List (ℕ × S)) → IsLawful t.plan h → why t.plan h e ≡ None → HasSlots shape gives t h (held_by t.plan h (worker_of e)) c → GivesBack shape t h e c
+  pub lays_back : (h : List Event) (e : Event) (c : List (ℕ × S)) → IsLawful t.plan h → why t.plan h e ≡ None → HasSlots shape gives t h (held_by t.plan h (worker_of e)) c → GivesBackBy shape t.plan h e c
       → (r : Run) → given t.plan e ≡ Some r → (x : S) × (c ≡ (slot_of t.plan r, x) ∷ []) × Lies shape gives t (h ++ e ∷ []) r x
   lays_back h e c lawful may old back r is =
       let mine : held_by t.plan h (worker_of e) ≡ Some r = givings_are_the_holders t.plan h lawful e r is may in
@@ -189,17 +192,17 @@ module _ {S : Type 0} (shape : S → Shape) (gives : S → ℕ → Type 0) (t : 
       one_cell : (k : ℕ) (x y : S) → ◌≡◌ {A = List (ℕ × S)} ((k, x) ∷ []) ((k, y) ∷ []) → x ≡ y
       one_cell k x y same = ap (λ (l : List (ℕ × S)). (head_of k x l).1) same
 
-      body_lies : (x first : S) → (n marked : Bool) → BodyHeld shape gives first x (shape x) marked → IsReadyBody shape n x → BodyLies shape gives first n marked x
-      body_lies x first false marked m ready = (ready, subst (λ (s : Shape). BodyHeld shape gives first x s marked) ready m)
-      body_lies x first true false m ready = (ready.0, ready.1, subst (λ (s : Shape). BodyHeld shape gives first x s false) ready.1 m)
-      body_lies x first true true m ready = ready.1 ∙ ap done (subst (λ (s : Shape). BodyHeld shape gives first x s true) ready.1 m)
+      body_lies : (x : S) (come : ℕ → Type 0) → (n marked : Bool) → BodyHeld shape gives come x (shape x) marked → IsReadyBody shape n x → BodyLies shape gives come n marked x
+      body_lies x come false marked m ready = (ready, subst (λ (s : Shape). BodyHeld shape gives come x s marked) ready m)
+      body_lies x come true false m ready = (ready.0, ready.1, subst (λ (s : Shape). BodyHeld shape gives come x s false) ready.1 m)
+      body_lies x come true true m ready = ready.1 ∙ ap done (subst (λ (s : Shape). BodyHeld shape gives come x s true) ready.1 m)
 
-      lies : (q : Run) → given t.plan e ≡ Some q → (x : S) → MayHold shape gives t h q x → Rattle.gcd_row.specs.Lying.IsReadyFor shape t.plan h e q x → Lies shape gives t (h ++ e ∷ []) q x
-      lies (Block b) is x m ready = λ first at.
+      lies : (q : Run) → given t.plan e ≡ Some q → (x : S) → MayHold shape gives t h q x → IsReadyFor shape t.plan h e q x → Lies shape gives t (h ++ e ∷ []) q x
+      lies (Block b) is x m ready =
           let marked = cancelled_kept t.plan h e b.0 (begun_where_held t.plan h (worker_of e) b lawful (givings_are_the_holders t.plan h lawful e (Block b) is may)) in
-          subst (λ (n : Bool). BodyLies shape gives first n (is_block_cancelled t.plan (h ++ e ∷ []) b.0) x) (sym (bodies_come_back t.plan h lawful e b is may))
-          (subst (λ (v : Bool). BodyLies shape gives first (ends b.0 e) v x) (sym marked)
-          (body_lies x first (ends b.0 e) (is_block_cancelled t.plan h b.0) (m first at) ready))
+          subst (λ (n : Bool). BodyLies shape gives (May gives t b.0) n (is_block_cancelled t.plan (h ++ e ∷ []) b.0) x) (sym (bodies_come_back t.plan h lawful e b is may))
+          (subst (λ (v : Bool). BodyLies shape gives (May gives t b.0) (ends b.0 e) v x) (sym marked)
+          (body_lies x (May gives t b.0) (ends b.0 e) (is_block_cancelled t.plan h b.0) m ready))
       lies (Source s) is x m ready =
           let none = given_not_taken t.plan e (Source s) is in
           let source : is_source t.plan s.0 ≡ true = given_known t.plan h e (Source s) is may in
@@ -207,7 +210,7 @@ module _ {S : Type 0} (shape : S → Shape) (gives : S → ℕ → Type 0) (t : 
           ready.1 ∙ sym (kind_shape t.plan h s.0 ready.0 source held.0) ∙ sym (same_source_shape t.plan h (e ∷ []) s.0 ((cells_stay t.plan h e).handlers s (λ took. none_some (taken e) (Source s) none took)))
 
   -- what is ready to be given back stays so while others go on
-  pub back_waits : (h : List Event) (e x : Event) (w : ℕ) (c : List (ℕ × S)) → IsLawful t.plan h → why t.plan h x ≡ None → HasSlots shape gives t h (held_by t.plan h w) c → GivesBack shape t h e c → GivesBack shape t (h ++ x ∷ []) e c
+  pub back_waits : (h : List Event) (e x : Event) (w : ℕ) (c : List (ℕ × S)) → IsLawful t.plan h → why t.plan h x ≡ None → HasSlots shape gives t h (held_by t.plan h w) c → GivesBackBy shape t.plan h e c → GivesBackBy shape t.plan (h ++ x ∷ []) e c
   back_waits h e x w c lawful may old back r is = let b = back r is in (b.0, b.1, ready r b.0 b.1 b.2)
     where
       held_source : (s : Obj) (y : S) → c ≡ (slot_of t.plan (Source s), y) ∷ [] → (o : Option Run) → held_by t.plan h w ≡ o → HasSlots shape gives t h o c → held_by t.plan h w ≡ Some (Source s)
@@ -221,7 +224,7 @@ module _ {S : Type 0} (shape : S → Shape) (gives : S → ℕ → Type 0) (t : 
           first_same : (k n : ℕ) (a b : S) → ◌≡◌ {A = List (ℕ × S)} ((k, a) ∷ []) ((n, b) ∷ []) → k ≡ n
           first_same k n a b same = ap (λ (l : List (ℕ × S)). (head_of k a l).0) same
 
-      ready : (q : Run) (y : S) → c ≡ (slot_of t.plan q, y) ∷ [] → Rattle.gcd_row.specs.Lying.IsReadyFor shape t.plan h e q y → Rattle.gcd_row.specs.Lying.IsReadyFor shape t.plan (h ++ x ∷ []) e q y
+      ready : (q : Run) (y : S) → c ≡ (slot_of t.plan q, y) ∷ [] → IsReadyFor shape t.plan h e q y → IsReadyFor shape t.plan (h ++ x ∷ []) e q y
       ready (Block b) y here old_ready = old_ready
       ready (Source s) y here old_ready =
           let waits = (held_cells_wait t.plan h lawful).handlers w s x (held_source s y here (held_by t.plan h w) refl old) may in

@@ -1,5 +1,5 @@
 -- Each step keeps the rule.
-use Rattle.std.proofs.Common.{◌≡◌, ◌≢◌, ℕ, suc, ◌+◌, ◌%◌, ◌<◌, ◌≤◌, ◌⊎◌, Bool, cond, min, map, length-append, get_or-set_other, get_or-set_same, ne_eqb, inl, inr, ⊎_elim, eqb, ltb, false, true, append_assoc, List, [], ◌∷◌, ◌++◌, length, get_or, set, sym, refl, ap, ◌∙◌, subst, arith, None, Some}
+use Rattle.std.proofs.Common.{◌≡◌, ◌≢◌, ℕ, suc, ◌+◌, ◌%◌, ◌<◌, ◌≤◌, ◌⊎◌, Bool, cond, min, map, length-append, get_or-set_other, get_or-set_same, ne_eqb, inl, inr, ⊎_elim, eqb, ltb, false, true, append_assoc, List, [], ◌∷◌, ◌++◌, length, get_or, set, sym, refl, ap, ◌∙◌, subst, arith, None, Some, Option as Maybe, is_some}
 use Rattle.std.proofs.lemmas.List.{set-get_or}
 use mathlib.Core.Logic.{dite}
 use mathlib.Core.Option.{Option, none, some}
@@ -9,22 +9,27 @@ use prog.Atomic.{either}
 use Rattle.atomic_table.specs.Table.{State, Me, step, Act, keeps, gives as act_gives, Valid, carried_after, homes_after, stepped, Allows, Splits, Joins}
 use Rattle.atomic_table.proofs.Lists.{exchanged, set_again, set_else}
 use Rattle.gcd_plan.specs.declared.numbers.Run.{Run}
+use Rattle.gcd_plan.specs.declared.numbers.Run.TheVariants.{Block, Source}
 use Rattle.gcd_event.specs.declared.event.Event.{Event}
 use Rattle.gcd_event.specs.Words.{word_of}
 use Rattle.gcd_event.proofs.WordLemmas.{same_from_word}
 use Rattle.gcd_history.specs.Choice.{worker_of}
-use Rattle.gcd_history.specs.History.{why, IsLawful}
+use Rattle.gcd_history.specs.History.{why, IsLawful, is_ended, is_block_cancelled}
 use Rattle.gcd_history.proofs.LawfulLemmas.{lawful_more, lawful_front}
 use Rattle.gcd_history.proofs.Fitting.{permitted_fits}
-use Rattle.gcd_team.specs.Held.{given}
+use Rattle.gcd_team.specs.Held.{taken, given}
 use Rattle.gcd_team.specs.Team.{of_worker, held_by, StartsWith}
+use Rattle.gcd_team.proofs.Own.{own_events_tell_what_is_held}
+use Rattle.gcd_team.proofs.TeamLaws.{givings_are_the_holders}
 use Rattle.gcd_row.specs.Shapes.{Shape}
+use Rattle.gcd_row.specs.Jobs.{May, placed_at, jobs_of, held_jobs}
 use Rattle.gcd_row.specs.Lying.{slot_of, Lies, HasSlots}
-use Rattle.gcd_row.specs.Views.{given_terms, standing_of, spent_view, saw, knowing, asked, passing, lending, newcomer, merging, note, hearing}
+use Rattle.gcd_row.specs.Views.{IsBack, given_terms, standing_of, spent_view, saw, noting, knowing, asked, passing, lending, newcomer, merging, note, hearing}
 use Rattle.gcd_row.specs.Ring.{IsRing, is_news, lap, under, passed_word, gone}
-use Rattle.gcd_row.specs.Rule.{Knows, PassedWords, Homes, Kept, Holds}
-use Rattle.gcd_row.specs.Plays.{KnowsFresh, Found, Turned, LaysBack, Looked, Tried, Ended, Compared, Unused, PutDown, Asks, Asked, PassedOn, Reread}
+use Rattle.gcd_row.specs.Rule.{Knows, KnowsJobs, PassedWords, Homes, Kept, Holds}
+use Rattle.gcd_row.specs.Plays.{first_after, front_cell, KnowsFresh, Found, Turned, Wins, LaysBack, Looked, Tried, Ended, Compared, Unused, PutDown, Asks, Asked, PassedOn, Reread}
 use Rattle.gcd_row.specs.Passes.{MayRead}
+use Rattle.gcd_row.specs.declared.view.Handed.{Handed}
 use Rattle.gcd_row.specs.declared.view.Limits.{Limits}
 use Rattle.gcd_row.specs.declared.view.Marks.{Marks}
 use Rattle.gcd_row.specs.declared.view.View.{View}
@@ -35,7 +40,11 @@ use Rattle.gcd_row.proofs.RowWords.{finds, places, rereads, under_is_old, all_wo
 use Rattle.gcd_row.proofs.Marking.{moved}
 use Rattle.gcd_row.proofs.Parted.{cut_passing, joins_passing, noted_passed, wiped_passed}
 use Rattle.gcd_row.proofs.Seen.{Grows, grown}
-use Rattle.gcd_row.proofs.Parting.{cuts, joins_known, noted, wiped}
+use Rattle.gcd_row.proofs.Parting.{both_own, cuts, joins_known, noted, wiped}
+use Rattle.gcd_row.proofs.Accepted.{callers_first}
+use Rattle.gcd_row.proofs.Handing.{Handing, handing, knows_own, all_know}
+use Rattle.gcd_row.proofs.Holding.{holds_nothing}
+use Rattle.gcd_row.proofs.Jobs.{lies_more, knows_on, knows_none, Live, live_set, live_more, spent_says}
 use Rattle.gcd_row.proofs.Landing.{Landing, lands, rests_there}
 
 module _ {S : Type 0} (t : Terms S) where
@@ -76,12 +85,12 @@ module _ {S : Type 0} (t : Terms S) where
       }
 
   -- a pass that places its event behind all
-  adds : (log : List Event) (views : List (View S)) (id : ℕ) (v : View S) (e : Event) → get_elem? views id ≡ some v → Knows t log views → v.spent ≡ false → v.seen ≡ log → worker_of e ≡ v.worker → Grows log (log ++ e ∷ []) v (saw v e)
-  adds log views id v e at k live all mine =
+  adds : (log : List Event) (views : List (View S)) (id : ℕ) (v : View S) (e : Event) → get_elem? views id ≡ some v → Knows t log views → v.spent ≡ false → v.seen ≡ log → worker_of e ≡ v.worker → (c : Maybe S) (n : Handed S) → Grows log (log ++ e ∷ []) v (noting (saw v e) c n)
+  adds log views id v e at k live all mine c n =
       record {
         live = live;
         grows = starts_more log e;
-        others = λ n ne. own_same n log e (λ (same : worker_of e ≡ n). ne (sym same ∙ mine));
+        others = λ x ne. own_same x log e (λ (same : worker_of e ≡ x). ne (sym same ∙ mine));
         terms = refl;
         spent = live;
         worker = refl;
@@ -116,7 +125,7 @@ module _ {S : Type 0} (shape : S → Shape) (gives : S → ℕ → Type 0) (key 
   few s k h le = omega (arith, le, k.bounds.2)
 
   -- what is kept of the passed words where these stay as they are
-  passed_on : (s : State S (View S)) (k : Kept shape gives t s.words s.homes s.views) (id : ℕ) (v w : View S) → get_elem? s.views id ≡ some v → MayRead v → Grows k.history k.history v w → w.marks.passed ≡ v.marks.passed
+  pub passed_on : (s : State S (View S)) (k : Kept shape gives t s.words s.homes s.views) (id : ℕ) (v w : View S) → get_elem? s.views id ≡ some v → MayRead v → Grows k.history k.history v w → w.marks.passed ≡ v.marks.passed
       → ((n : ℕ) → n < w.marks.upto → w.marks.floor ≤ passed_word s.words n) → PassedWords t k.history s.words (set s.views id w)
   passed_on s k id v w at ok g same pair = moved t k.history k.history s.words s.words s.views id v w at k.knows k.passed (record {
     live = ok.unspent;
@@ -133,10 +142,16 @@ module _ {S : Type 0} (shape : S → Shape) (gives : S → ℕ → Type 0) (key 
     few = few s k w.seen (omega (arith, starts_length k.history w.seen g.seen, in_room s k));
   })
 
+  -- what is known of jobs, where the pass has noted nothing
+  knows_still : (s : State S (View S)) (k : Kept shape gives t s.words s.homes s.views) (id : ℕ) (v w : View S) → get_elem? s.views id ≡ some v → Grows k.history k.history v w → w.first ≡ v.first → w.handed ≡ v.handed → KnowsJobs gives t k.handed w
+  knows_still s k id v w at g first handed =
+      let own : of_worker v.worker w.seen ≡ of_worker v.worker v.seen = sym g.own ∙ (k.knows.fits id v at g.live).own in
+      knows_on gives t k.handed v w g.worker g.terms first handed (ap (held_by t.plan w.seen) g.worker ∙ own_events_tell_what_is_held t.plan w.seen v.seen v.worker own) (k.jobs id v at g.live)
+
   -- the words stay as they are, and the pass has seen what it has seen or one event more
   stays : (s : State S (View S)) (k : Kept shape gives t s.words s.homes s.views) (i id : ℕ) (v w : View S) → get_elem? s.views id ≡ some v → MayRead v → Grows k.history k.history v w → w.marks.passed ≡ v.marks.passed
-      → ((n : ℕ) → n < w.marks.upto → w.marks.floor ≤ passed_word s.words n) → Kept shape gives t (set s.words i (get_or s.words i 0)) s.homes (set s.views id w)
-  stays s k i id v w at ok g same pair = subst (λ (ws : List ℕ). Kept shape gives t ws s.homes (set s.views id w)) (sym (set-get_or s.words i 0)) (record {
+      → ((n : ℕ) → n < w.marks.upto → w.marks.floor ≤ passed_word s.words n) → w.first ≡ v.first → w.handed ≡ v.handed → Kept shape gives t (set s.words i (get_or s.words i 0)) s.homes (set s.views id w)
+  stays s k i id v w at ok g same pair first handed = subst (λ (ws : List ℕ). Kept shape gives t ws s.homes (set s.views id w)) (sym (set-get_or s.words i 0)) (record {
     history = k.history;
     valid = k.valid;
     bounds = k.bounds;
@@ -144,6 +159,8 @@ module _ {S : Type 0} (shape : S → Shape) (gives : S → ℕ → Type 0) (key 
     lawful = k.lawful;
     knows = grown t k.history k.history s.views id v w at k.knows g;
     passed = passed_on s k id v w at ok g same pair;
+    handed = k.handed;
+    jobs = live_set (KnowsJobs gives t k.handed) s.views id w (λ _. knows_still s k id v w at g first handed) k.jobs;
     slots = k.slots;
   })
 
@@ -172,14 +189,14 @@ module _ {S : Type 0} (shape : S → Shape) (gives : S → ℕ → Type 0) (key 
         v,
         keeps,
         tt,
-        stays s k j id v v at ok (idle t k.history s.views id v v.marks at k.knows live) refl (k.passed.pair id v at),
+        stays s k j id v v at ok (idle t k.history s.views id v v.marks at k.knows live) refl (k.passed.pair id v at) refl refl,
         (refl, (λ news. absurd (off (is_news (length v.seen) (get_or s.words j 0)) all.0 news)), λ _. (record { same = refl; relayed = subst (λ (h : List Event). StartsWith h v.relayed) (sym all.1) (k.knows.relayed id v at); fresh = knows_fresh t k.history s.views id v at k.knows live }, all.2)),
       ))
       (λ (next : (e : Event) × (later : List Event) × (is_news (length v.seen) (get_or s.words j 0) ≡ true) × (k.history ≡ v.seen ++ e ∷ later) × (get_or s.words j 0 ≡ word_of e + lap (length v.seen)) × (why t.plan v.seen e ≡ None)). (
         saw v next.0,
         keeps,
         tt,
-        stays s k j id v (saw v next.0) at ok (learns t k.history s.views id v next.0 next.1 at k.knows live next.3) refl (k.passed.pair id v at),
+        stays s k j id v (saw v next.0) at ok (learns t k.history s.views id v next.0 next.1 at k.knows live next.3) refl (k.passed.pair id v at) refl refl,
         (refl, (λ _. found s k id v at live next.0 next.1 next.3 (get_or s.words j 0) next.4 next.5), λ old. absurd (off (is_news (length v.seen) (get_or s.words j 0)) old next.2)),
       ))
       (finds t.plan t.limits.most s.words k.history v.seen k.valid k.ring k.lawful (k.knows.seen id v at) (omega (arith, near s k id v at ok, ok.passed))))
@@ -191,7 +208,7 @@ module _ {S : Type 0} (shape : S → Shape) (gives : S → ℕ → Type 0) (key 
         m.0,
         keeps,
         tt,
-        stays s k i id m.0 m.0 at ok (idle t k.history s.views id m.0 m.0.marks at k.knows live) refl (k.passed.pair id m.0 at),
+        stays s k i id m.0 m.0 at ok (idle t k.history s.views id m.0 m.0.marks at k.knows live) refl (k.passed.pair id m.0 at) refl refl,
         (refl, record { same = refl; relayed = subst (λ (h : List Event). StartsWith h m.0.relayed) (sym all) (k.knows.relayed id m.0 at); fresh = knows_fresh t k.history s.views id m.0 at k.knows live }),
       )
 
@@ -201,31 +218,52 @@ module _ {S : Type 0} (shape : S → Shape) (gives : S → ℕ → Type 0) (key 
         v,
         keeps,
         tt,
-        stays s k i id v v at ok (idle t k.history s.views id v v.marks at k.knows ok.unspent) refl (k.passed.pair id v at),
+        stays s k i id v v at ok (idle t k.history s.views id v v.marks at k.knows ok.unspent) refl (k.passed.pair id v at) refl refl,
         (refl, λ j below lt place. ap (λ (y : ℕ). get_or s.words y 0) place ∙ rereads t.limits.most s.words k.history v.seen j k.ring (k.knows.seen id v at) lt (omega (arith, near s k id v at ok, below))),
       )
 
-  pub tries : (n id i : ℕ) (m : Me S (View S)) (e : Event) (old new : ℕ) (said : Option S) → MayRead m.0 → i ≡ suc (length m.0.seen % 4096) → length m.0.seen < t.limits.most → worker_of e ≡ m.0.worker → why m.0.terms.plan m.0.seen e ≡ None → LaysBack shape gives e m
+  -- what the pass lays back lies right by the rule
+  lays_there : (e : Event) (v : View S) (c : List (ℕ × S)) (n : Handed S) → IsLawful t.plan v.seen → v.terms ≡ t → worker_of e ≡ v.worker → why t.plan v.seen e ≡ None → KnowsJobs gives t n v → LaysBack shape gives e (v, c)
+      → (r : Run) → given t.plan e ≡ Some r → (x : S) × (c ≡ (slot_of t.plan r, x) ∷ []) × Lies shape gives (jobs_of t (placed_at n.placed)) (v.seen ++ e ∷ []) r x
+  lays_there e v c n lawful terms mine may knows back r gave =
+      let back' : (r : Run) → given t.plan e ≡ Some r → (x : S) × (c ≡ (slot_of t.plan r, x) ∷ []) × Lies shape gives (jobs_of t (λ b. v.first)) (v.seen ++ e ∷ []) r x =
+      subst (λ (q : Terms S). (r : Run) → given q.plan e ≡ Some r → (x : S) × (c ≡ (slot_of q.plan r, x) ∷ []) × Lies shape gives (jobs_of q (λ b. v.first)) (v.seen ++ e ∷ []) r x) terms back in
+      let b = back' r gave in (b.0, b.1, by_rule r gave b.0 b.2)
+    where
+      by_rule : (r : Run) → given t.plan e ≡ Some r → (x : S) → Lies shape gives (jobs_of t (λ b. v.first)) (v.seen ++ e ∷ []) r x → Lies shape gives (jobs_of t (placed_at n.placed)) (v.seen ++ e ∷ []) r x
+      by_rule (Block b) gave x lies =
+          let held = ap (held_by t.plan v.seen) (sym mine) ∙ givings_are_the_holders t.plan v.seen lawful e (Block b) gave may in
+          lies_more shape gives (May gives (jobs_of t (λ k. v.first)) b.0) (May gives (jobs_of t (placed_at n.placed)) b.0) (is_ended (v.seen ++ e ∷ []) b.0) (is_block_cancelled t.plan (v.seen ++ e ∷ []) b.0) x
+          (λ y. subst (λ (q : Terms S). May gives (jobs_of q (λ k. v.first)) b.0 y → May gives (jobs_of t (placed_at n.placed)) b.0 y) terms (knows.held b held y)) lies
+      by_rule (Source s) gave x lies = lies
+
+  untaken_first : (e : Event) (first : Maybe S) (d : List (ℕ × S)) → taken e ≡ None → first_after e first d ≡ first
+  untaken_first e first d nothing = ap (λ (o : Maybe Run). cond (is_some o) (front_cell d) first) nothing
+
+  pub tries : (n id i : ℕ) (m : Me S (View S)) (e : Event) (old new : ℕ) (said : Option S) → MayRead m.0 → i ≡ suc (length m.0.seen % 4096) → length m.0.seen < t.limits.most → worker_of e ≡ m.0.worker → why m.0.terms.plan m.0.seen e ≡ None → LaysBack shape gives e m → IsBack m.0.handed.next
       → old ≡ under (map word_of m.0.seen) → new ≡ word_of e + lap (length m.0.seen) → m.0.marks.upto ≡ 64 → length m.0.seen < m.0.marks.floor + 4096
       → Allows (Holds shape gives key) n id m i (λ x. either (eqb x old) new x) (Tried shape gives (step n i old new said) m)
-  tries n id i m e old new said ok place room mine may back is_old is_word upto near_pair s k wide at fits64 =
+  tries n id i m e old new said ok place room mine may back home is_old is_word upto near_pair s k wide at fits64 =
       let v : View S = m.0 in
       let live = ok.unspent in
       let then : ℕ → Me S (View S) → Type 0 = Tried shape gives (step n i old new said) m in
       let j : ℕ = suc (length m.0.seen % 4096) in
       let f = k.knows.fits id m.0 at live in
       let may' : why t.plan m.0.seen e ≡ None = subst (λ (q : Terms S). why q.plan m.0.seen e ≡ None) f.terms may in
-      let back' : (r : Run) → given t.plan e ≡ Some r → (x : S) × (m.1 ≡ (slot_of t.plan r, x) ∷ []) × Lies shape gives t (m.0.seen ++ e ∷ []) r x =
-      subst (λ (q : Terms S). (r : Run) → given q.plan e ≡ Some r → (x : S) × (m.1 ≡ (slot_of q.plan r, x) ∷ []) × Lies shape gives q (m.0.seen ++ e ∷ []) r x) f.terms back in
+      let knows = k.jobs id m.0 at live in
       let P : ℕ → Type 0 = λ y. Goes s y id m then (either (eqb (get_or s.words y 0) old) new (get_or s.words y 0)) in
       subst P (sym place) (⊎_elim
       (λ (all : (is_news (length v.seen) (get_or s.words j 0) ≡ false) × (v.seen ≡ k.history) × (get_or s.words j 0 ≡ under (map word_of v.seen))).
-      let l : Landing shape gives t m.0.seen e s.homes m.1 = lands shape gives t m.0.seen e s.homes m.1 (subst (IsLawful t.plan) (sym all.1) k.lawful) may' (subst (λ (h : List Event). Homes shape gives t h s.homes) (sym all.1) k.slots) back' in
+      let lawful : IsLawful t.plan m.0.seen = subst (IsLawful t.plan) (sym all.1) k.lawful in
+      let l : Landing shape gives t m.0.seen e k.handed m.0.first s.homes m.1 = lands shape gives t m.0.seen e k.handed m.0.first s.homes m.1 k.valid lawful may' (λ of. subst (λ (x : Handed S). IsBack x.next) (knows.mine (sym mine ∙ callers_first e of)) home)
+      (subst (λ (h : List Event). Homes shape gives t h k.handed s.homes) (sym all.1) k.slots) (lays_there e m.0 m.1 k.handed lawful f.terms mine may' knows back) in
+      let own : Handing gives t m.0.seen e k.handed l.handed k.valid lawful may' l.hands m.0 = handing gives t m.0.seen e k.handed l.handed k.valid lawful may' l.hands m.0 mine knows in
+      let w : View S = noting (saw v e) l.noted own.handed in
       exchanged (get_or s.words j 0) old new (Goes s j id m then)
       (λ hit.
       let longer : length (k.history ++ e ∷ []) ≡ suc (length v.seen) = omega (arith, length-append k.history (e ∷ []), ap length all.1) in
       let more : length (v.seen ++ e ∷ []) ≡ suc (length v.seen) = omega (arith, length-append v.seen (e ∷ [])) in (
-        saw m.0 e,
+        w,
         l.act,
         l.valid,
         record {
@@ -235,8 +273,12 @@ module _ {S : Type 0} (shape : S → Shape) (gives : S → ℕ → Type 0) (key 
           ring = subst (λ (x : ℕ). IsRing t.limits.most (set s.words j x) (map word_of (k.history ++ e ∷ []))) (sym is_word)
               (subst (λ (h : List Event). IsRing t.limits.most (set s.words (suc (length h % 4096)) (word_of e + lap (length h))) (map word_of (k.history ++ e ∷ []))) (sym all.1) (places t.limits.most s.words k.history e k.ring (omega (arith, room, ap length all.1))));
           lawful = lawful_more t.plan k.history e k.lawful (subst (λ (h : List Event). why t.plan h e ≡ None) all.1 may');
-          knows = grown t k.history (k.history ++ e ∷ []) s.views id m.0 (saw m.0 e) at k.knows (adds t k.history s.views id m.0 e at k.knows live all.1 mine);
-          passed = moved t k.history (k.history ++ e ∷ []) s.words (set s.words j new) s.views id v (saw v e) at k.knows k.passed (record {
+          knows = grown t k.history (k.history ++ e ∷ []) s.views id m.0 w at k.knows (adds t k.history s.views id m.0 e at k.knows live all.1 mine l.noted own.handed);
+          handed = l.handed;
+          jobs = all_know gives t m.0.seen e k.handed l.handed k.valid lawful may' l.hands s.views id m.0 w at (subst (λ (h : List Event). Knows t h s.views) (sym all.1) k.knows) live own.else
+              (knows_own gives t m.0.seen e k.handed l.handed k.valid lawful may' l.hands m.0 l.noted own.handed refl mine f.terms (λ nothing. l.finds ∙ untaken_first e m.0.first (carried_after m.1 l.act) nothing) l.knows own.mine knows)
+              k.jobs;
+          passed = moved t k.history (k.history ++ e ∷ []) s.words (set s.words j new) s.views id v w at k.knows k.passed (record {
             live = live;
             spent = live;
             worker = refl;
@@ -250,11 +292,12 @@ module _ {S : Type 0} (shape : S → Shape) (gives : S → ℕ → Type 0) (key 
             rests = inr (omega (arith, ok.passed, more));
             few = few s k (v.seen ++ e ∷ []) (omega (arith, more, room));
           });
-          slots = subst (λ (h : List Event). Homes shape gives t (h ++ e ∷ []) (homes_after s.homes m.1 l.act)) all.1 l.landed;
+          slots = subst (λ (h : List Event). Homes shape gives t (h ++ e ∷ []) l.handed (homes_after s.homes m.1 l.act)) all.1 l.landed;
         },
         (
           (λ _ x fx says. let same : e ≡ x = same_from_word e x (permitted_fits t.plan m.0.seen e k.valid may') fx (omega (arith, is_word, says)) in
-              (ap (saw m.0) same, subst (λ (y : Event). Turned shape gives m.0.terms m.0.seen y m.1 (carried_after m.1 l.act)) same (subst (λ (q : Terms S). Turned shape gives q m.0.seen e m.1 (carried_after m.1 l.act)) (sym f.terms) l.turned))),
+              subst (λ (y : Event). Wins shape gives y m.0 m.1 w (carried_after m.1 l.act)) same
+              (record { view = refl; first = l.finds; handed = own.on; turned = subst (λ (q : Terms S). Turned shape gives (jobs_of q (λ b. l.noted)) m.0.seen e m.1 (carried_after m.1 l.act)) (sym f.terms) l.turned })),
           λ ne. absurd (ne hit),
         ),
       ))
@@ -270,7 +313,7 @@ module _ {S : Type 0} (shape : S → Shape) (gives : S → ℕ → Type 0) (key 
         saw m.0 next.0,
         keeps,
         tt,
-        stays s k j id m.0 (saw m.0 next.0) at ok (learns t k.history s.views id m.0 next.0 next.1 at k.knows live next.3) refl (k.passed.pair id v at),
+        stays s k j id m.0 (saw m.0 next.0) at ok (learns t k.history s.views id m.0 next.0 next.1 at k.knows live next.3) refl (k.passed.pair id v at) refl refl,
         ((λ hit. absurd (miss hit)), λ ne. (refl, found s k id m.0 at live next.0 next.1 next.3 (get_or s.words j 0) next.4 next.5)),
       )))
       (finds t.plan t.limits.most s.words k.history v.seen k.valid k.ring k.lawful (k.knows.seen id v at) (omega (arith, near s k id v at ok, ok.passed))))
@@ -315,6 +358,8 @@ module _ {S : Type 0} (shape : S → Shape) (gives : S → ℕ → Type 0) (key 
             rests = rests;
             few = few s k v.seen (omega (arith, begins, in_room s k));
           });
+          handed = k.handed;
+          jobs = live_set (KnowsJobs gives t k.handed) s.views id w (λ _. knows_still s k id v w at (idle t k.history s.views id v (passing v.marks x) at k.knows ok.unspent) refl refl) k.jobs;
           slots = k.slots;
         }),
         (refl, refl),
@@ -365,7 +410,7 @@ module _ {S : Type 0} (shape : S → Shape) (gives : S → ℕ → Type 0) (key 
         w,
         keeps,
         tt,
-        stays s k i id v w at ok (idle t k.history s.views id v marks at k.knows live) (asked_passed v.terms.limits v.marks j x lets) (pair lets),
+        stays s k i id v w at ok (idle t k.history s.views id v marks at k.knows live) (asked_passed v.terms.limits v.marks j x lets) (pair lets) refl refl,
         (
           refl,
           λ b is. let same : j ≡ b = omega (arith, place, is) in subst (λ (c : ℕ). Asks v c x (knowing v v.seen (asked v.terms.limits v.marks j x lets))) same (record {
@@ -385,7 +430,7 @@ module _ {S : Type 0} (shape : S → Shape) (gives : S → ℕ → Type 0) (key 
         m.0,
         keeps,
         tt,
-        stays s k i id m.0 m.0 at ok (idle t k.history s.views id m.0 m.0.marks at k.knows live) refl (k.passed.pair id m.0 at),
+        stays s k i id m.0 m.0 at ok (idle t k.history s.views id m.0 m.0.marks at k.knows live) refl (k.passed.pair id m.0 at) refl refl,
         (
           refl,
           record {
@@ -400,12 +445,25 @@ module _ {S : Type 0} (shape : S → Shape) (gives : S → ℕ → Type 0) (key 
     m.0,
     keeps,
     tt,
-    stays s k i id m.0 m.0 at ok (idle t k.history s.views id m.0 m.0.marks at k.knows live) refl (k.passed.pair id m.0 at),
+    stays s k i id m.0 m.0 at ok (idle t k.history s.views id m.0 m.0.marks at k.knows live) refl (k.passed.pair id m.0 at) refl refl,
     (refl, knows_fresh t k.history s.views id m.0 at k.knows live),
   )
 
   pub splits : (id : ℕ) (v : View S) (w : ℕ) → v.spent ≡ false → v.worker ≡ 0 → w ≢ 0 → w < t.limits.workers → standing_of v.hands w ≡ None → Splits (Holds shape gives key) id v (lending v w) (newcomer v w)
-  splits id v w live head_is nz below unused s k at = record { history = k.history; valid = k.valid; bounds = k.bounds; ring = k.ring; lawful = k.lawful; slots = k.slots; knows = cuts t k.history s.views id v w at k.knows live head_is nz unused; passed = cut_passing t k.history s.words s.views id v w at k.knows k.passed live head_is nz below unused }
+  splits id v w live head_is nz below unused s k at = record {
+    history = k.history;
+    valid = k.valid;
+    bounds = k.bounds;
+    ring = k.ring;
+    lawful = k.lawful;
+    handed = k.handed;
+    slots = k.slots;
+    jobs = live_more (KnowsJobs gives t k.handed) (set s.views id (lending v w)) (newcomer v w)
+        (λ _. knows_none gives t k.handed (newcomer v w) nz (holds_nothing t.plan v.seen w (own_none w k.history v.seen (k.knows.seen id v at) ((k.knows.head id v at live head_is).fresh w nz unused))))
+        (live_set (KnowsJobs gives t k.handed) s.views id (lending v w) (λ _. knows_on gives t k.handed v (lending v w) refl refl refl refl refl (k.jobs id v at live)) k.jobs);
+    knows = cuts t k.history s.views id v w at k.knows live head_is nz unused;
+    passed = cut_passing t k.history s.words s.views id v w at k.knows k.passed live head_is nz below unused;
+  }
 
   pub notes : (id : ℕ) (v : View S) → Splits (Holds shape gives key) id v v (note v)
   notes id v s k at = record {
@@ -414,6 +472,9 @@ module _ {S : Type 0} (shape : S → Shape) (gives : S → ℕ → Type 0) (key 
     bounds = k.bounds;
     ring = k.ring;
     lawful = k.lawful;
+    handed = k.handed;
+    jobs = subst (λ (vs : List (View S)). Live (KnowsJobs gives t k.handed) (vs ++ note v ∷ [])) (sym (set_again s.views id v at))
+        (live_more (KnowsJobs gives t k.handed) s.views (note v) (spent_says (KnowsJobs gives t k.handed) (note v) refl) k.jobs);
     slots = k.slots;
     passed = subst (λ (vs : List (View S)). PassedWords t k.history s.words (vs ++ note v ∷ [])) (sym (set_again s.views id v at)) (noted_passed t k.history s.words s.views (note v) k.passed refl refl);
     knows = subst (λ (vs : List (View S)). Knows t k.history (vs ++ note v ∷ [])) (sym (set_again s.views id v at)) (noted t k.history s.views (note v) k.knows refl (k.knows.seen id v at) (starts_nil k.history));
@@ -426,20 +487,46 @@ module _ {S : Type 0} (shape : S → Shape) (gives : S → ℕ → Type 0) (key 
       let later : List (View S) = set s.views id w in
       let theirs : get_elem? s.views far ≡ some u = sym (set_else s.views id far w apart) ∙ at_far in
       let g : Grows k.history k.history v w = record { live = live; grows = starts_refl k.history; others = λ n ne. refl; terms = refl; spent = live; worker = refl; hands = refl; more = starts_refl v.seen; seen = k.knows.seen id v at; relayed = k.knows.seen far u theirs; own = (k.knows.fits id v at live).own; whole = inl refl } in
-      record { history = k.history; valid = k.valid; bounds = k.bounds; ring = k.ring; lawful = k.lawful; slots = k.slots; passed = wiped_passed t k.history s.words later far u (passed_on s k id v w at ok g refl (k.passed.pair id v at)) at_far gone_now; knows = wiped t k.history later far u (grown t k.history k.history s.views id v w at k.knows g) at_far gone_now }
+      record {
+        history = k.history;
+        valid = k.valid;
+        bounds = k.bounds;
+        ring = k.ring;
+        lawful = k.lawful;
+        handed = k.handed;
+        slots = k.slots;
+        jobs = live_set (KnowsJobs gives t k.handed) later far spent_view (spent_says (KnowsJobs gives t k.handed) spent_view refl)
+            (live_set (KnowsJobs gives t k.handed) s.views id w (λ _. knows_still s k id v w at g refl refl) k.jobs);
+        passed = wiped_passed t k.history s.words later far u (passed_on s k id v w at ok g refl (k.passed.pair id v at)) at_far gone_now;
+        knows = wiped t k.history later far u (grown t k.history k.history s.views id v w at k.knows g) at_far gone_now;
+      }
 
   pub joins : (id : ℕ) (v : View S) (far : ℕ) (u : View S) → v.spent ≡ false → v.worker ≡ 0 → u.spent ≡ false → u.marks.passed ≡ gone → Joins (Holds shape gives key) id v far u (merging v u) spent_view
   joins id v far u live head_is alive stored s k at apart at_far =
       let theirs : get_elem? s.views far ≡ some u = sym (set_else s.views id far (merging v u) apart) ∙ at_far in
-      record { history = k.history; valid = k.valid; bounds = k.bounds; ring = k.ring; lawful = k.lawful; slots = k.slots; knows = joins_known t k.history s.views id v at k.knows live head_is far u apart theirs alive; passed = joins_passing t k.history s.words s.views id v at k.knows k.passed live head_is far u apart theirs alive stored }
+      let w : View S = merging v u in
+      let own = both_own t k.history s.views id v at k.knows live head_is far u apart theirs alive in
+      record {
+        history = k.history;
+        valid = k.valid;
+        bounds = k.bounds;
+        ring = k.ring;
+        lawful = k.lawful;
+        handed = k.handed;
+        slots = k.slots;
+        jobs = live_set (KnowsJobs gives t k.handed) (set s.views id w) far spent_view (spent_says (KnowsJobs gives t k.handed) spent_view refl)
+            (live_set (KnowsJobs gives t k.handed) s.views id w (λ _. knows_on gives t k.handed v w refl refl refl refl (own_events_tell_what_is_held t.plan w.seen v.seen v.worker own) (k.jobs id v at live)) k.jobs);
+        knows = joins_known t k.history s.views id v at k.knows live head_is far u apart theirs alive;
+        passed = joins_passing t k.history s.words s.views id v at k.knows k.passed live head_is far u apart theirs alive stored;
+      }
 
   -- a pass may put down what it has of the run that it holds
-  pub puts_down : (n id i : ℕ) (m : Me S (View S)) → MayRead m.0 → HasSlots shape gives m.0.terms m.0.seen (held_by m.0.terms.plan m.0.seen m.0.worker) m.1 → Allows (Holds shape gives key) n id m i (λ x. x) (PutDown (step n i 0 0 none) m)
+  pub puts_down : (n id i : ℕ) (m : Me S (View S)) → MayRead m.0 → HasSlots shape gives (held_jobs m.0) m.0.seen (held_by m.0.terms.plan m.0.seen m.0.worker) m.1 → Allows (Holds shape gives key) n id m i (λ x. x) (PutDown (step n i 0 0 none) m)
   puts_down n id i m ok has s k wide at fits64 =
       let live = ok.unspent in
       let g = idle t k.history s.views id m.0 m.0.marks at k.knows live in
       let f = k.knows.fits id m.0 at live in
-      let has' : HasSlots shape gives t m.0.seen (held_by t.plan m.0.seen m.0.worker) m.1 = subst (λ (q : Terms S). HasSlots shape gives q m.0.seen (held_by q.plan m.0.seen m.0.worker) m.1) f.terms has in (
+      let has' : HasSlots shape gives (jobs_of t (λ b. m.0.first)) m.0.seen (held_by t.plan m.0.seen m.0.worker) m.1 = subst (λ (q : Terms S). HasSlots shape gives (jobs_of q (λ b. m.0.first)) m.0.seen (held_by q.plan m.0.seen m.0.worker) m.1) f.terms has in (
         m.0,
         act_gives,
         tt,
@@ -451,7 +538,9 @@ module _ {S : Type 0} (shape : S → Shape) (gives : S → ℕ → Type 0) (key 
           lawful = k.lawful;
           knows = grown t k.history k.history s.views id m.0 m.0 at k.knows g;
           passed = subst (λ (ws : List ℕ). PassedWords t k.history ws (set s.views id m.0)) (sym (set-get_or s.words i 0)) (passed_on s k id m.0 m.0 at ok g refl (k.passed.pair id m.0 at));
-          slots = rests_there shape gives t k.history m.0.worker m.0.seen s.homes m.1 f.own has' k.slots;
+          handed = k.handed;
+          jobs = live_set (KnowsJobs gives t k.handed) s.views id m.0 (λ _. k.jobs id m.0 at live) k.jobs;
+          slots = rests_there shape gives t (jobs_of t (λ b. m.0.first)) k.history k.handed m.0.worker m.0.seen s.homes m.1 refl k.valid k.lawful f.own has' k.slots;
         },
         (refl, refl),
       )

@@ -6,11 +6,15 @@ pub mod Scanning
 pub mod Seen
 pub mod Totals
 mod RowsOfTotals
+pub mod Accepted
 pub mod Running
 pub mod Holding
 pub mod Landing
 pub mod Parting
+pub mod Handing
+pub mod Jobs
 pub mod Keeping
+pub mod Laying
 pub mod Onward
 pub mod Passing
 pub mod Beginning

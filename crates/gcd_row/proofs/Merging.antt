@@ -9,8 +9,9 @@ use Rattle.gcd_machine.specs.Stands.{StandsFor}
 use Rattle.gcd_machine.proofs.Shown.{lawful_stands}
 use Rattle.gcd_team.specs.Team.{of_worker, held_by}
 use Rattle.gcd_row.specs.Shapes.{Shape}
+use Rattle.gcd_row.specs.Jobs.{held_jobs}
 use Rattle.gcd_row.specs.Lying.{HasSlots}
-use Rattle.gcd_row.specs.Views.{held_run, longer, merging, hearing, newcomer}
+use Rattle.gcd_row.specs.Views.{IsBack, held_run, longer, merging, hearing, newcomer}
 use Rattle.gcd_row.specs.Plays.{Compares}
 use Rattle.gcd_row.specs.Passes.{IsPassOf, MayRead, Ahead, Merges, view, slots}
 use Rattle.gcd_row.specs.declared.board.RowBoard.{RowBoard}
@@ -38,7 +39,7 @@ module _ {S : Type 0} where
 module _ {S : Type 0} (shape : S → Shape) (gives : S → ℕ → Type 0) (b : RowBoard S) where
   -- a pass whose view changes in nothing but what was relayed to it and the numbers that it gave out
   pub same_pass : (p q : RowPass S) (relayed : List Event) (hands : List (ℕ × Standing)) → IsPassOf shape gives b p → q.seat.table_id ≡ p.seat.table_id → q.number ≡ p.number → q.machine ≡ p.machine → slots q ≡ slots p
-      → q.passed ≡ p.passed → q.floor ≡ p.floor → q.upto ≡ p.upto → q.beneath ≡ p.beneath → view q ≡ record { terms = (view p).terms; spent = (view p).spent; worker = (view p).worker; seen = (view p).seen; relayed = relayed; hands = hands; marks = (view p).marks } → IsPassOf shape gives b q
+      → q.passed ≡ p.passed → q.floor ≡ p.floor → q.upto ≡ p.upto → q.beneath ≡ p.beneath → view q ≡ record { terms = (view p).terms; spent = (view p).spent; worker = (view p).worker; seen = (view p).seen; relayed = relayed; hands = hands; marks = (view p).marks; first = (view p).first; handed = (view p).handed } → IsPassOf shape gives b q
   same_pass p q relayed hands is table number machine has own floor upto beneath now = record {
     table = table ∙ is.table;
     terms = ap (λ (x : View S). x.terms) now ∙ is.terms;
@@ -49,7 +50,8 @@ module _ {S : Type 0} (shape : S → Shape) (gives : S → ℕ → Type 0) (b : 
     upto = upto ∙ is.upto ∙ sym (ap (λ (x : View S). x.marks.upto) now);
     beneath = same_beneath p.beneath q.beneath (view p).seen (view q).seen is.beneath beneath (ap (λ (x : View S). x.seen) now);
     few = subst (λ (x : View S). length x.seen ≤ x.terms.limits.most) (sym now) is.few;
-    has = subst (λ (x : View S). HasSlots shape gives x.terms x.seen (held_run x) (slots q)) (sym now) (subst (HasSlots shape gives (view p).terms (view p).seen (held_run (view p))) (sym has) is.has);
+    has = subst (λ (x : View S). HasSlots shape gives (held_jobs x) x.seen (held_run x) (slots q)) (sym now) (subst (HasSlots shape gives (held_jobs (view p)) (view p).seen (held_run (view p))) (sym has) is.has);
+    back = subst (λ (x : View S). IsBack x.handed.next) (sym now) is.back;
     stands = subst (λ (x : View S). StandsFor q.machine x.terms.plan x.seen) (sym now) (subst (λ m. StandsFor m (view p).terms.plan (view p).seen) (sym machine) is.stands);
   }
 
@@ -68,8 +70,9 @@ module _ {S : Type 0} (shape : S → Shape) (gives : S → ℕ → Type 0) (b : 
         upto = upto ∙ is.upto ∙ sym (ap (λ (x : View S). x.marks.upto) now);
         beneath = same_beneath p.beneath q.beneath (view p).seen (view q).seen is.beneath beneath (ap (λ (x : View S). x.seen) now);
         few = subst (λ (x : View S). length x.seen ≤ x.terms.limits.most) (sym now) is.few;
-        has = subst (λ (x : View S). HasSlots shape gives x.terms x.seen (held_run x) (slots q)) (sym now)
-            (subst (λ (o : Option Run). HasSlots shape gives (view p).terms (view p).seen o (slots q)) (sym (holds_nothing (view p).terms.plan (view p).seen w none)) empty);
+        back = subst (λ (x : View S). IsBack x.handed.next) (sym now) tt;
+        has = subst (λ (x : View S). HasSlots shape gives (held_jobs x) x.seen (held_run x) (slots q)) (sym now)
+            (subst (λ (o : Option Run). HasSlots shape gives (held_jobs (newcomer (view p) w)) (view p).seen o (slots q)) (sym (holds_nothing (view p).terms.plan (view p).seen w none)) empty);
         stands = subst (λ (x : View S). StandsFor q.machine x.terms.plan x.seen) (sym now) (subst (λ m. StandsFor m (view p).terms.plan (view p).seen) (sym machine) is.stands);
       }
 
@@ -96,9 +99,10 @@ module _ {S : Type 0} (shape : S → Shape) (gives : S → ℕ → Type 0) (b : 
         upto = upto ∙ is.upto ∙ sym (ap (λ (x : View S). x.marks.upto) now);
         beneath = nothing_beneath q.beneath (map word_of (view q).seen) beneath;
         few = subst (λ (x : View S). length x.seen ≤ x.terms.limits.most) (sym now) (few_longer v.terms.limits.most v.seen (view o).seen is.few (subst (λ (q : Terms S). length (view o).seen ≤ q.limits.most) (other.terms ∙ sym is.terms) other.few));
-        has = subst (λ (x : View S). HasSlots shape gives x.terms x.seen (held_run x) (slots q)) (sym now)
-            (subst (HasSlots shape gives v.terms h (held_by v.terms.plan h v.worker)) (sym has)
-            (has_ahead shape gives v.terms v.seen h v.worker (slots p) (lawful_stands q.machine v.terms.plan h stands) ahead.more ahead.own is.has));
+        back = subst (λ (x : View S). IsBack x.handed.next) (sym now) is.back;
+        has = subst (λ (x : View S). HasSlots shape gives (held_jobs x) x.seen (held_run x) (slots q)) (sym now)
+            (subst (HasSlots shape gives (held_jobs v) h (held_by v.terms.plan h v.worker)) (sym has)
+            (has_ahead shape gives (held_jobs v) v.seen h v.worker (slots p) (lawful_stands q.machine v.terms.plan h stands) ahead.more ahead.own is.has));
         stands = subst (λ (x : View S). StandsFor q.machine x.terms.plan x.seen) (sym now) stands;
       }
 

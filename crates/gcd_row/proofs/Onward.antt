@@ -3,14 +3,16 @@ use Rattle.std.proofs.Common.{◌≡◌, ◌≢◌, ℕ, Some, Option, ◌+◌, 
 use Rattle.gcd_event.specs.declared.event.Event.{Event}
 use Rattle.gcd_history.specs.Choice.{worker_of}
 use Rattle.gcd_history.specs.History.{why}
-use Rattle.gcd_team.specs.Held.{is_of}
+use Rattle.gcd_history.specs.Intake.{accepted}
+use Rattle.gcd_team.specs.Held.{is_of, taken}
 use Rattle.gcd_team.specs.Team.{of_worker, StartsWith}
+use Rattle.gcd_row.specs.declared.view.Handed.{Handed}
 use Rattle.gcd_row.specs.declared.view.Marks.{Marks}
 use Rattle.gcd_row.specs.declared.view.View.{View}
 use Rattle.gcd_row.specs.declared.put.Put.{Put}
 use Rattle.gcd_row.specs.declared.put.Put.TheVariants.{Placed, Barred, Held, Full}
-use Rattle.gcd_row.specs.Views.{saw, seeing, knowing, known, passing}
-use Rattle.gcd_row.specs.Plays.{SeesMore}
+use Rattle.gcd_row.specs.Views.{saw, seeing, noting, knowing, known, passing}
+use Rattle.gcd_row.specs.Plays.{SeesMore, HandsOn}
 use Rattle.gcd_row.specs.Passes.{Ahead, Learnt, LearntOn, Looks, IsHolder, IsPlaced, Says, Knew, Turns}
 use Rattle.gcd_row.proofs.Fronts.{starts_refl, starts_trans, starts_more, own_more}
 
@@ -80,8 +82,9 @@ module _ {S : Type 0} where
       )
 
   -- the event that was placed at once
-  pub placed_here : (e : Event) (v w : View S) (n : ℕ) → n ≡ length v.seen → n < v.terms.limits.most → worker_of e ≡ v.worker → why v.terms.plan v.seen e ≡ None → w ≡ saw v e → IsPlaced e v w n
-  placed_here e v w n len room mine may is =
+  pub placed_here : (e : Event) (v w : View S) (n : ℕ) → n ≡ length v.seen → n < v.terms.limits.most → worker_of e ≡ v.worker → why v.terms.plan v.seen e ≡ None
+      → w ≡ noting (saw v e) w.first w.handed → (taken e ≡ None → w.first ≡ v.first) → HandsOn (accepted e) v.handed w.handed → IsPlaced e v w n
+  placed_here e v w n len room mine may is first handed =
       let w_seen : w.seen ≡ v.seen ++ e ∷ [] = ap (λ (y : View S). y.seen) is in
       record {
         history = v.seen;
@@ -89,7 +92,9 @@ module _ {S : Type 0} where
         place = len;
         room = room;
         may = may;
-        is = is ∙ (λ i. knowing v (v.seen ++ e ∷ []) (known v (sym is i)));
+        is = is ∙ (λ i. noting (knowing v (v.seen ++ e ∷ []) (known v (sym is i))) w.first w.handed);
+        first = first;
+        handed = handed;
         own = ap (of_worker v.worker) w_seen ∙ own_more v.worker v.seen e mine;
       }
 
@@ -120,7 +125,9 @@ module _ {S : Type 0} where
     place = p.place;
     room = subst (λ (y : View S). n < y.terms.limits.most) is p.room;
     may = subst (λ (y : View S). why y.terms.plan p.history e ≡ None) is p.may;
-    is = p.is ∙ ap (λ (y : View S). knowing y (p.history ++ e ∷ []) (known y w)) is;
+    is = p.is ∙ ap (λ (y : View S). noting (knowing y (p.history ++ e ∷ []) (known y w)) w.first w.handed) is;
+    first = λ untaken. p.first untaken ∙ ap (λ (y : View S). y.first) is;
+    handed = subst (λ (x : Handed S). HandsOn (accepted e) x w.handed) (ap (λ (y : View S). y.handed) is) p.handed;
     own = subst (λ (k : ℕ). of_worker k w.seen ≡ of_worker k u.seen ++ e ∷ []) (ap (λ (y : View S). y.worker) is) p.own ∙ ap (λ (k : List Event). k ++ e ∷ []) a.own;
   }
   says_on e v u w (Barred at y) is a few p = (looks_on v u w is a p.0, p.1, subst (λ (z : View S). at < z.terms.limits.most) is p.2, subst (λ (z : View S). why z.terms.plan w.seen e ≡ Some y) is p.3)

@@ -159,6 +159,10 @@ module _ {S : Type 0} (p : Terms S) (log : List Event) (views : List (View S)) (
         (λ ne_id ne_far was. standing_other v.hands u.worker Back x.worker (λ same. ne_far (k.alone j far x u was at_far fine alive (sym same))) ∙ hd.out j x was fine nz);
   }
 
+  -- it has seen no event more of its own
+  pub both_own : of_worker v.worker both.seen ≡ of_worker v.worker v.seen
+  both_own = let own = (k.fits id v at live).own in sym (between v.worker log both.seen v.seen all_of left own) ∙ own
+
   stands : get_elem? joined id ≡ some both
   stands = set_else (set views id both) far id spent_view (λ e. apart (sym e)) ∙ set_here views id both (at_short views id v at)
 

@@ -3,6 +3,7 @@ pub use Rattle.gcd_history.specs.History
 pub use Rattle.gcd_team.specs.Team
 pub mod Shapes
 pub mod Totals
+pub mod Jobs
 pub mod Lying
 pub mod Views
 pub mod Ring

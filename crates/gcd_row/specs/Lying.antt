@@ -1,5 +1,5 @@
 -- What lies in the slots of a board: at home while nobody holds the slot's run, and with the pass that holds it.
-use Rattle.std.specs.Prelude.{◌≡◌, ℕ, ◌+◌, Bool, true, false, List, [], ◌∷◌, length, Option, Some, None, slice_get, if◌then◌else◌, ◌⊎◌}
+use Rattle.std.specs.Prelude.{◌≡◌, ℕ, ◌+◌, Bool, true, false, List, [], ◌∷◌, length, Option, Some, None, if◌then◌else◌, ◌⊎◌}
 use Rattle.std.specs.Option.{option_map_or}
 use Rattle.gcd_plan.specs.PlanView.{PlanView, kind_of, IsRun}
 use Rattle.gcd_plan.specs.Kinds.{is_source_kind}
@@ -11,6 +11,7 @@ use Rattle.gcd_history.specs.Runs.{ends}
 use Rattle.gcd_history.specs.History.{is_block_cancelled, is_ended, delivery_count_of, received_of}
 use Rattle.gcd_team.specs.Held.{given}
 use Rattle.gcd_row.specs.Shapes.{Shape, body, done, handler, away}
+use Rattle.gcd_row.specs.Jobs.{Jobs, May}
 use Rattle.gcd_row.specs.Totals.{received_earlier}
 use Rattle.gcd_row.specs.declared.view.Terms.{Terms}
 
@@ -49,42 +50,42 @@ HandlerHeld plan h s (handler kind times total) =
 HandlerHeld plan h s away = Unit {0}
 
 module _ {S : Type 0} (shape : S → Shape) (gives : S → ℕ → Type 0) where
-  -- what lies in the slot of a block in which `first` was put: its body, which gives only what the first may; where the block has
-  -- ended a value that the first may give; and 0 where a cancelled one has ended
-  abbrev pub BodyLies : (first : S) → (ended cancelled : Bool) → S → Type 0
-  BodyLies first false cancelled c = (shape c ≡ body) × ((v : ℕ) → gives c v → gives first v)
-  BodyLies first true false c = (v : ℕ) × (shape c ≡ done v) × gives first v
-  BodyLies first true true c = shape c ≡ done 0
+  -- what lies in the slot of a block whose job may give these values: its body, which gives these alone; where the block has ended
+  -- one of these; and 0 where a cancelled one has ended
+  abbrev pub BodyLies : (may : ℕ → Type 0) → (ended cancelled : Bool) → S → Type 0
+  BodyLies may false cancelled c = (shape c ≡ body) × ((v : ℕ) → gives c v → may v)
+  BodyLies may true false c = (v : ℕ) × (shape c ≡ done v) × may v
+  BodyLies may true true c = shape c ≡ done 0
 
   -- what lies in the slot of a run that nobody holds
-  abbrev pub Lies : Terms S → List Event → Run → S → Type 0
-  Lies t h (Block b) c = (first : S) → slice_get t.cells b.0 ≡ Some first → BodyLies first (is_ended h b.0) (is_block_cancelled t.plan h b.0) c
+  abbrev pub Lies : Jobs S → List Event → Run → S → Type 0
+  Lies t h (Block b) c = BodyLies (May gives t b.0) (is_ended h b.0) (is_block_cancelled t.plan h b.0) c
   Lies t h (Source s) c = shape c ≡ source_shape t.plan h s.0
 
-  -- what the holder of a block has of it: its body, which gives only what the first may, a value that the first may give, or
+  -- what the holder of a block has of it, whose job may give these values: its body, which gives these alone, one of these, or
   -- nothing; of a cancelled block its body or 0
-  abbrev pub BodyHeld : (first : S) → S → Shape → (cancelled : Bool) → Type 0
-  BodyHeld first c body cancelled = (v : ℕ) → gives c v → gives first v
-  BodyHeld first c (done v) false = gives first v
-  BodyHeld first c (done v) true = v ≡ 0
-  BodyHeld first c (handler kind times total) cancelled = ⊥
-  BodyHeld first c away false = Unit {0}
-  BodyHeld first c away true = ⊥
+  abbrev pub BodyHeld : (may : ℕ → Type 0) → S → Shape → (cancelled : Bool) → Type 0
+  BodyHeld may c body cancelled = (v : ℕ) → gives c v → may v
+  BodyHeld may c (done v) false = may v
+  BodyHeld may c (done v) true = v ≡ 0
+  BodyHeld may c (handler kind times total) cancelled = ⊥
+  BodyHeld may c away false = Unit {0}
+  BodyHeld may c away true = ⊥
 
   -- the cell that its holder has of the run
-  abbrev pub MayHold : Terms S → List Event → Run → S → Type 0
-  MayHold t h (Block b) c = (first : S) → slice_get t.cells b.0 ≡ Some first → BodyHeld first c (shape c) (is_block_cancelled t.plan h b.0)
+  abbrev pub MayHold : Jobs S → List Event → Run → S → Type 0
+  MayHold t h (Block b) c = BodyHeld (May gives t b.0) c (shape c) (is_block_cancelled t.plan h b.0)
   MayHold t h (Source s) c = HandlerHeld t.plan h s.0 (shape c)
 
   -- the one slot that a holder has, the run's
-  pub record HasSlot (t : Terms S) (h : List Event) (r : Run) (slots : List (ℕ × S)) : Type 0 where
+  pub record HasSlot (t : Jobs S) (h : List Event) (r : Run) (slots : List (ℕ × S)) : Type 0 where
     pub known : IsRun t.plan r
     pub cell : S
     pub here : slots ≡ (slot_of t.plan r, cell) ∷ []
     pub may : MayHold t h r cell
 
   -- what a pass has by the run that its worker holds
-  abbrev pub HasSlots : Terms S → List Event → Option Run → List (ℕ × S) → Type 0
+  abbrev pub HasSlots : Jobs S → List Event → Option Run → List (ℕ × S) → Type 0
   HasSlots t h None slots = slots ≡ []
   HasSlots t h (Some r) slots = HasSlot t h r slots
 
@@ -100,5 +101,8 @@ module _ {S : Type 0} (shape : S → Shape) where
   IsReadyFor plan h e (Source s) c = (kind : Kind) × (shape c ≡ handler kind (delivery_count_of h s.0) (received_of plan h s.0))
 
   -- the pass has the slot of the run that the event gives back, with what the event asks there
+  abbrev pub GivesBackBy : PlanView → List Event → Event → List (ℕ × S) → Type 0
+  GivesBackBy plan h e slots = (r : Run) → given plan e ≡ Some r → (c : S) × (slots ≡ (slot_of plan r, c) ∷ []) × IsReadyFor plan h e r c
+
   abbrev pub GivesBack : Terms S → List Event → Event → List (ℕ × S) → Type 0
-  GivesBack t h e slots = (r : Run) → given t.plan e ≡ Some r → (c : S) × (slots ≡ (slot_of t.plan r, c) ∷ []) × IsReadyFor t.plan h e r c
+  GivesBack t = GivesBackBy t.plan

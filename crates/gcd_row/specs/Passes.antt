@@ -1,22 +1,27 @@
 -- What the calls of a board ask of a pass, and what they do to it.
-use Rattle.std.specs.Prelude.{◌≡◌, ◌≢◌, ◌<◌, ◌≤◌, ◌+◌, ℕ, Option, false, List, [], ◌∷◌, ◌++◌, map, length, take, Some, None, IfSome}
+use Rattle.std.specs.Prelude.{◌≡◌, ◌≢◌, ◌<◌, ◌≤◌, ◌+◌, ℕ, Option, false, List, [], ◌∷◌, ◌++◌, map, length, take, Some, None, IfSome, true}
+use Rattle.std.specs.List.{list_any}
 use mathlib.Core.Option.{some}
 use lib.ListN.{get_elem?}
 use Rattle.gcd_plan.specs.PlanView.{IsRun}
+use Rattle.gcd_plan.specs.Made.{is_of_intake}
 use Rattle.gcd_plan.specs.declared.numbers.Run.{Run}
 use Rattle.gcd_event.specs.declared.event.Event.{Event}
 use Rattle.gcd_event.specs.Words.{word_of}
 use Rattle.gcd_history.specs.Choice.{worker_of}
 use Rattle.gcd_history.specs.History.{why}
+use Rattle.gcd_history.specs.Intake.{accepts, accepted}
 use Rattle.gcd_refinement.specs.MachineView.{MachineView}
 use Rattle.gcd_machine.specs.Stands.{StandsFor}
+use Rattle.gcd_team.specs.Held.{taken}
 use Rattle.gcd_team.specs.Team.{of_worker, StartsWith}
 use Rattle.gcd_team.specs.TeamFacts.{IsNobodys}
 use Rattle.gcd_row.specs.Ring.{under}
 use Rattle.gcd_row.specs.Shapes.{Shape}
+use Rattle.gcd_row.specs.Jobs.{Jobs, held_jobs}
 use Rattle.gcd_row.specs.Lying.{slots_of, slot_of, Lies, HasSlots}
-use Rattle.gcd_row.specs.Views.{given_terms, held_run, knowing, known, seeing, hearing, merging}
-use Rattle.gcd_row.specs.Plays.{KnowsFresh, Turned}
+use Rattle.gcd_row.specs.Views.{IsBack, given_terms, held_run, knowing, known, noting, seeing, hearing, merging}
+use Rattle.gcd_row.specs.Plays.{KnowsFresh, HandsOn, Turned, front_cell}
 use Rattle.gcd_row.specs.declared.view.Terms.{Terms}
 use Rattle.gcd_row.specs.declared.view.View.{View}
 use Rattle.gcd_row.specs.declared.pass.RowPass.{RowPass}
@@ -62,7 +67,8 @@ module _ {S : Type 0} where
     pub upto : p.upto ≡ (view p).marks.upto
     pub beneath : IfSome p.beneath (λ x. x ≡ under (map word_of (view p).seen))
     pub few : length (view p).seen ≤ (view p).terms.limits.most
-    pub has : HasSlots shape gives (view p).terms (view p).seen (held_run (view p)) (slots p)
+    pub has : HasSlots shape gives (held_jobs (view p)) (view p).seen (held_run (view p)) (slots p)
+    pub back : IsBack (view p).handed.next
     pub stands : StandsFor (machine_of p) (view p).terms.plan (view p).seen
 
   -- it has seen no less, and nothing more of its own
@@ -93,7 +99,9 @@ module _ {S : Type 0} where
     pub place : n ≡ length history
     pub room : n < v.terms.limits.most
     pub may : why v.terms.plan history e ≡ None
-    pub is : w ≡ knowing v (history ++ e ∷ []) (known v w)
+    pub is : w ≡ noting (knowing v (history ++ e ∷ []) (known v w)) w.first w.handed
+    pub first : taken e ≡ None → w.first ≡ v.first
+    pub handed : HandsOn (accepted e) v.handed w.handed
     pub own : of_worker v.worker w.seen ≡ of_worker v.worker v.seen ++ e ∷ []
 
   -- it knows something else of the passed words, and nothing more
@@ -132,9 +140,10 @@ module _ {S : Type 0} where
   Says e v w (Held by passed) = IsHeld v w by passed × (why v.terms.plan w.seen e ≡ None)
   Says e v w Full = (w ≡ knowing v w.seen (known v w)) × Ahead v w.seen × (length w.seen ≡ v.terms.limits.most)
 
-  -- the slots that a pass has after `put`: with the event the run's slot comes or goes, and with no other answer
+  -- the slots that a pass has after `put`: with the event the run's slot comes or goes, and with no other answer. Where it comes the
+  -- pass notes what lay there
   abbrev pub SaysSlots : (S → Shape) → (S → ℕ → Type 0) → Event → List (ℕ × S) → List (ℕ × S) → View S → Put → Type 0
-  SaysSlots shape gives e c d w (Placed n) = (h : List Event) × (w.seen ≡ h ++ e ∷ []) × Turned shape gives w.terms h e c d
+  SaysSlots shape gives e c d w (Placed n) = (h : List Event) × (w.seen ≡ h ++ e ∷ []) × Turned shape gives (held_jobs w) h e c d × ((r : Run) → taken e ≡ Some r → w.first ≡ front_cell d)
   SaysSlots shape gives e c d w (Barred at y) = d ≡ c
   SaysSlots shape gives e c d w (Held by passed) = d ≡ c
   SaysSlots shape gives e c d w Full = d ≡ c
@@ -146,10 +155,12 @@ module _ {S : Type 0} where
     pub mine : Ahead v w.seen
     pub theirs : Ahead u w.seen
 
-  -- at the end, the cells of the runs that nobody holds are as they lie after the history
-  pub record AtRest (shape : S → Shape) (gives : S → ℕ → Type 0) (t : Terms S) (h : List Event) (cells : List S) : Type 0 where
+  -- at the end, the cells of the runs that nobody holds are as they lie after the history, and each accepted block of the intake has
+  -- a job
+  pub record AtRest (shape : S → Shape) (gives : S → ℕ → Type 0) (t : Jobs S) (h : List Event) (cells : List S) : Type 0 where
     pub width : length cells ≡ slots_of t.plan
     pub lie : (r : Run) (c : S) → IsRun t.plan r → IsNobodys t.plan h r → get_elem? cells (slot_of t.plan r) ≡ some c → Lies shape gives t h r c
+    pub job : (b : ℕ) → is_of_intake t.plan b ≡ true → list_any (accepts b) h ≡ true → (c : S) × (t.job b ≡ Some c)
 
   -- it has the same number and passed word, and the same numbers are out
   pub record HasSameNumbers (v w : View S) : Type 0 where

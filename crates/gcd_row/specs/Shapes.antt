@@ -1,7 +1,7 @@
 -- What lies in a slot, and what a cell of jobs and handlers is of that.
-use Rattle.std.specs.Prelude.{◌≡◌, ℕ, Some, slice_get}
+use Rattle.std.specs.Prelude.{◌≡◌, ℕ}
 use Rattle.gcd_plan.specs.declared.kind.Kind.{Kind}
-use Rattle.gcd_row.specs.declared.view.Terms.{Terms}
+use Rattle.gcd_row.specs.Jobs.{Jobs, May}
 use Rattle.gcd_row.specs.declared.cell.Cell.{Cell}
 use Rattle.gcd_row.specs.declared.cell.Cell.TheVariants.{Body, Done, Handler, Away}
 
@@ -25,6 +25,6 @@ gives_of gives (Done value) v = value ≡ v
 gives_of gives (Handler h) v = ⊥
 gives_of gives Away v = ⊥
 
--- the job that was handed in for block b may give the value at 0
-abbrev pub MayGive : {J H : Type 0} → (J → ℕ → ℕ → Type 0) → Terms (Cell J H) → (b v : ℕ) → Type 0
-MayGive {J} {H} gives t b v = (first : Cell J H) → slice_get t.cells b ≡ Some first → gives_of gives first v
+-- the job of block b may give the value at 0
+abbrev pub MayGive : {J H : Type 0} → (J → ℕ → ℕ → Type 0) → Jobs (Cell J H) → (b v : ℕ) → Type 0
+MayGive gives t b v = May (gives_of gives) t b v

@@ -5,8 +5,11 @@ use Rattle.gcd_event.specs.declared.event.Event.{Event}
 use Rattle.gcd_history.specs.History.{is_block_cancelled}
 use Rattle.gcd_team.specs.Team.{held_by}
 use Rattle.gcd_row.specs.declared.view.Copies.{Copies}
+use Rattle.gcd_row.specs.declared.view.Handed.{Handed}
 use Rattle.gcd_row.specs.declared.view.Limits.{Limits}
 use Rattle.gcd_row.specs.declared.view.Marks.{Marks}
+use Rattle.gcd_row.specs.declared.view.Next.{Next}
+use Rattle.gcd_row.specs.declared.view.Next.TheVariants.{First, Out as NextOut, Laid}
 use Rattle.gcd_row.specs.declared.view.Terms.{Terms}
 use Rattle.gcd_row.specs.declared.view.Standing.{Standing}
 use Rattle.gcd_row.specs.declared.view.Standing.TheVariants.{Out, Back}
@@ -37,13 +40,23 @@ abbrev pub passing : Marks → ℕ → Marks
 passing m x = record { passed = x; floor = m.floor; upto = m.upto; loads = m.loads; held = m.held }
 
 module _ {S : Type 0} where
+  -- nothing was handed in
+  abbrev pub none_handed : Handed S
+  none_handed = record { placed = []; next = First }
+
+  -- worker 0 does not have the slot of the next block
+  abbrev pub IsBack : Next S → Type 0
+  IsBack First = Unit {0}
+  IsBack NextOut = ⊥
+  IsBack (Laid c) = Unit {0}
+
   -- the terms of the plan and the cells that were copied
   abbrev pub given_terms : Copies S → Terms S
   given_terms k = record { plan = k.plan.value; cells = k.cells.value.items; limits = k.limits }
 
   -- what worker 0's first pass knows
   abbrev pub opening_view : Copies S → View S
-  opening_view k = record { terms = given_terms k; spent = false; worker = 0; seen = []; relayed = []; hands = []; marks = first_marks }
+  opening_view k = record { terms = given_terms k; spent = false; worker = 0; seen = []; relayed = []; hands = []; marks = first_marks; first = None; handed = none_handed }
 
   -- what a pass that was joined is left with
   abbrev pub spent_view : View S
@@ -55,6 +68,8 @@ module _ {S : Type 0} where
     relayed = [];
     hands = [];
     marks = no_marks;
+    first = None;
+    handed = none_handed;
   }
 
   -- the run that the pass holds: open, not parked, and started, woken or delivered last by its worker
@@ -67,7 +82,7 @@ module _ {S : Type 0} where
 
   -- a pass that has seen this history, and knows this of the passed words
   abbrev pub knowing : View S → List Event → Marks → View S
-  knowing v h m = record { terms = v.terms; spent = v.spent; worker = v.worker; seen = h; relayed = v.relayed; hands = v.hands; marks = m }
+  knowing v h m = record { terms = v.terms; spent = v.spent; worker = v.worker; seen = h; relayed = v.relayed; hands = v.hands; marks = m; first = v.first; handed = v.handed }
 
   -- its own passed word as v knows it, and what w knows of the others
   abbrev pub known : View S → View S → Marks
@@ -81,22 +96,30 @@ module _ {S : Type 0} where
   abbrev pub saw : View S → Event → View S
   saw v e = seeing v (v.seen ++ e ∷ [])
 
+  -- a pass that has found this in the slot that it took last, and has handed in this
+  abbrev pub noting : View S → Option S → Handed S → View S
+  noting v c n = record { terms = v.terms; spent = v.spent; worker = v.worker; seen = v.seen; relayed = v.relayed; hands = v.hands; marks = v.marks; first = c; handed = n }
+
+  -- worker 0's pass, of which this is true of the slot of the next block
+  abbrev pub turning : View S → Next S → View S
+  turning v next = noting v v.first (record { placed = v.handed.placed; next = next })
+
   -- worker 0's pass, which has given out the number w
   abbrev pub lending : View S → ℕ → View S
-  lending v w = record { terms = v.terms; spent = v.spent; worker = v.worker; seen = v.seen; relayed = v.relayed; hands = (w, Out) ∷ v.hands; marks = v.marks }
+  lending v w = record { terms = v.terms; spent = v.spent; worker = v.worker; seen = v.seen; relayed = v.relayed; hands = (w, Out) ∷ v.hands; marks = v.marks; first = v.first; handed = v.handed }
 
   -- the new pass of worker w, which begins with what worker 0's has seen
   abbrev pub newcomer : View S → ℕ → View S
-  newcomer v w = record { terms = v.terms; spent = false; worker = w; seen = v.seen; relayed = []; hands = []; marks = passing v.marks 0 }
+  newcomer v w = record { terms = v.terms; spent = false; worker = w; seen = v.seen; relayed = []; hands = []; marks = passing v.marks 0; first = None; handed = none_handed }
 
   -- a pass to which another relayed what it has seen
   abbrev pub hearing : View S → View S → View S
-  hearing v u = record { terms = v.terms; spent = v.spent; worker = v.worker; seen = v.seen; relayed = u.seen; hands = v.hands; marks = v.marks }
+  hearing v u = record { terms = v.terms; spent = v.spent; worker = v.worker; seen = v.seen; relayed = u.seen; hands = v.hands; marks = v.marks; first = v.first; handed = v.handed }
 
   -- worker 0's pass, which has taken in another
   abbrev pub merging : View S → View S → View S
-  merging v u = record { terms = v.terms; spent = v.spent; worker = v.worker; seen = longer v.seen u.seen; relayed = v.relayed; hands = (u.worker, Back) ∷ v.hands; marks = v.marks }
+  merging v u = record { terms = v.terms; spent = v.spent; worker = v.worker; seen = longer v.seen u.seen; relayed = v.relayed; hands = (u.worker, Back) ∷ v.hands; marks = v.marks; first = v.first; handed = v.handed }
 
   -- what a pass has seen, and nothing else
   abbrev pub note : View S → View S
-  note v = record { terms = v.terms; spent = true; worker = v.worker; seen = v.seen; relayed = []; hands = []; marks = no_marks }
+  note v = record { terms = v.terms; spent = true; worker = v.worker; seen = v.seen; relayed = []; hands = []; marks = no_marks; first = None; handed = none_handed }

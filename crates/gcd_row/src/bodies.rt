@@ -4,6 +4,7 @@ ghost use Rattle.gcd_history.specs.History.{delivery_count_of};
 ghost use Rattle.gcd_plan.specs.PlanView.{kind_of};
 ghost use Rattle.gcd_plan.specs.declared.numbers.Run.{Run};
 ghost use Rattle.gcd_plan.specs.declared.numbers.Run.TheVariants.{Block, Source};
+ghost use Rattle.gcd_row.specs.Jobs.{held_jobs};
 ghost use Rattle.gcd_row.specs.Lying.{MayHold, IsUntaken, IsServed, slot_of};
 ghost use Rattle.gcd_row.specs.Passes.{IsPassOf, slots, view};
 ghost use Rattle.gcd_row.specs.Shapes.{shape_of, gives_of, MayGive};
@@ -22,7 +23,7 @@ impl<S: Slot> RowBoard<S> {
     fn change(&self, pass: &mut RowPass<S>, slot: usize, cell: S) -> S
         requires pass { IsPassOf S.shape S.gives self.now pass.old }
         requires here { (c : S) × (slots pass.old ≡ (slot, c) ∷ []) }
-        requires may { (r : Run) → held_run (view pass.old) ≡ Some r → MayHold S.shape S.gives (view pass.old).terms (view pass.old).seen r cell }
+        requires may { (r : Run) → held_run (view pass.old) ≡ Some r → MayHold S.shape S.gives (held_jobs (view pass.old)) (view pass.old).seen r cell }
         ensures pass { IsPassOf S.shape S.gives self.now pass.new }
         ensures view { view pass.new ≡ view pass.old }
         ensures machine { pass.new.machine ≡ pass.old.machine }
@@ -36,7 +37,8 @@ impl<S: Slot> RowBoard<S> {
 impl<J: Job + Drop, H: Handler + Drop> RowBoard<Cell<J, H>> {
     /// Takes the body of the block whose run the pass holds, to run it; the slot is then `Away`. Conditions: the block is open
     /// and not parked, its last Start or Wake is the pass's own, it is not cancelled (dispatch_block_cancel(3)), and its body is in
-    /// the slot. The body may give only what the job may that was handed in for the block.
+    /// the slot. The body may give only what the block's job may: the one that was handed in for it, and of a block of the intake what
+    /// lay in its slot at its Start.
     #[inline(always)]
     pub fn take_body(&self, pass: &mut Pass<J, H>, b: Blk) -> J
         requires pass { IsPassOf (shape_of H.kind H.times H.total) (gives_of J.gives) self.now pass.old }
@@ -47,7 +49,7 @@ impl<J: Job + Drop, H: Handler + Drop> RowBoard<Cell<J, H>> {
         ensures view { view pass.new ≡ view pass.old }
         ensures body { slots pass.old ≡ (b.0, Body result) ∷ [] }
         ensures away { slots pass.new ≡ (b.0, Away) ∷ [] }
-        ensures gives { (v : ℕ) → J.gives result 0 v → MayGive J.gives (view pass.old).terms b.0 v }
+        ensures gives { (v : ℕ) → J.gives result 0 v → MayGive J.gives (held_jobs (view pass.old)) b.0 v }
     {
         match self.change(pass, b.0 as usize, Cell::Away) {
             Cell::Body(job) => job,
@@ -56,13 +58,13 @@ impl<J: Job + Drop, H: Handler + Drop> RowBoard<Cell<J, H>> {
     }
 
     /// Gives the body of a block back into its slot, before an act that parks it. Conditions: the pass holds the block's run, its
-    /// slot is `Away`, and the body may give only what the job may that was handed in for the block.
+    /// slot is `Away`, and the body may give only what the block's job may.
     #[inline(always)]
     pub fn give_body(&self, pass: &mut Pass<J, H>, b: Blk, job: J)
         requires pass { IsPassOf (shape_of H.kind H.times H.total) (gives_of J.gives) self.now pass.old }
         requires run { held_run (view pass.old) ≡ Some (Block b) }
         requires away { slots pass.old ≡ (b.0, Away) ∷ [] }
-        requires gives { (v : ℕ) → J.gives job 0 v → MayGive J.gives (view pass.old).terms b.0 v }
+        requires gives { (v : ℕ) → J.gives job 0 v → MayGive J.gives (held_jobs (view pass.old)) b.0 v }
         ensures pass { IsPassOf (shape_of H.kind H.times H.total) (gives_of J.gives) self.now pass.new }
         ensures view { view pass.new ≡ view pass.old }
         ensures body { slots pass.new ≡ (b.0, Body job) ∷ [] }
@@ -71,15 +73,15 @@ impl<J: Job + Drop, H: Handler + Drop> RowBoard<Cell<J, H>> {
     }
 
     /// Gives the value that a block's body gave into its slot, before the block's End. Conditions: the pass holds the block's run;
-    /// of a block that is not cancelled the slot is `Away`, and the job that was handed in for the block may give the value at 0; of
-    /// a cancelled block (dispatch_block_cancel(3)) its body is in the slot, and the value is 0. The body of a cancelled block is
-    /// dropped: it has not run, and never will.
+    /// of a block that is not cancelled the slot is `Away`, and the block's job may give the value at 0; of a cancelled block
+    /// (dispatch_block_cancel(3)) its body is in the slot, and the value is 0. The body of a cancelled block is dropped: it has not
+    /// run, and never will.
     #[inline(always)]
     pub fn give_done(&self, pass: &mut Pass<J, H>, b: Blk, value: u64)
         requires pass { IsPassOf (shape_of H.kind H.times H.total) (gives_of J.gives) self.now pass.old }
         requires run { held_run (view pass.old) ≡ Some (Block b) }
         requires away { knows_cancelled (view pass.old) b.0 ≡ false → slots pass.old ≡ (b.0, Away) ∷ [] }
-        requires gives { knows_cancelled (view pass.old) b.0 ≡ false → MayGive J.gives (view pass.old).terms b.0 value }
+        requires gives { knows_cancelled (view pass.old) b.0 ≡ false → MayGive J.gives (held_jobs (view pass.old)) b.0 value }
         requires body { knows_cancelled (view pass.old) b.0 ≡ true → (job : J) × (slots pass.old ≡ (b.0, Body job) ∷ []) }
         requires zero { knows_cancelled (view pass.old) b.0 ≡ true → value ≡ 0 }
         ensures pass { IsPassOf (shape_of H.kind H.times H.total) (gives_of J.gives) self.now pass.new }

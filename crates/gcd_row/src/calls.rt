@@ -135,7 +135,8 @@ impl<S: Slot> RowBoard<S> {
     /// block's body in the slot; before an End, the value; before a DeliverEnd, the handler with all Delivers of its source.
     ///
     /// - `Placed(n)`: the event is event n, and the last that the pass has seen. With a Start, Wake or Deliver the pass has
-    ///   the run's slot, with what lay there; with an act that parks, an End or a DeliverEnd the slot is given back.
+    ///   the run's slot, with what lay there, and notes that; with an act that parks, an End or a DeliverEnd the slot is given back;
+    ///   with an Accept the body that lies in the block's slot is the block's job from then on, and worker 0's pass notes it.
     /// - `Barred`: the row was what the pass has seen now, `at` events, after which the event is not permitted for that reason.
     /// - `Held`: the row was what the pass has seen now, after which the event is permitted; but its cell still has the event a lap
     ///   ago, number `passed`, and the passed word of the worker `by`, loaded in this call, is that number. Those of workers below

@@ -14,6 +14,11 @@
 //! that is open and not parked. That a block's body is with one worker at a time is libdispatch's rule (dispatch_async(3)), and that the
 //! body of a cancelled block is with none (dispatch_block_cancel(3)); row and slots are this project's own. Worker 0 *gathers* what it passes into a journal; the others just pass on.
 //!
+//! The *job* of a block is the one that the board was made with. Of a block of the intake it is the body that lay in its slot at its
+//! Accept: before that worker 0 may lay others there, one after the other, and nobody else takes it, since such a block starts only
+//! where it is accepted. So worker 0 takes that slot by a load, lays a body there, and lays the slot down by a second load, and a pass
+//! has one slot at most between two calls. A worker that starts the block notes the body that it finds there.
+//!
 //! # The rule
 //!
 //! Between any two steps of any number of passes (`specs/Rule`):
@@ -23,10 +28,12 @@
 //! | the cells | word 0 is 0, and the cells hold the last 4,096 events of a lawful history of the plan, each with the bit of its lap, and 0 where there is none yet; it has no more events than the board was made for |
 //! | the passed words | the history is at most 4,096 events longer than each; that of a worker is gone, 0, or at most what its pass has seen; each pass knows its own, and of those below a number that they are at least another, its *pair* |
 //! | the passes | each has seen a beginning of that history, with all events of its own worker; no two are of one worker; worker 0's knows which numbers are out, and no event is of a number that was never given out; some pass has seen all |
-//! | the slots | the slot of a run that nobody holds is at home: a block's has its body, which gives only what the job that was handed in may, and where the block has ended a value that this job may give, or 0 where it is cancelled; a source's has its handler, with the times and the total of all its Delivers |
+//! | the slots | the slot of a run that nobody holds is at home, unless worker 0 is about to lay a body there: a block's has its body, which gives only what the block's job may, and where the block has ended a value that this job may give, or 0 where it is cancelled; a source's has its handler, with the times and the total of all its Delivers |
+//! | the jobs | worker 0's pass knows the job of each block of the intake that is accepted, and what it laid into the slot of the next, which lies there; what a pass noted at the Start of the block that it holds gives only what the block's job may |
 //!
 //! The kinds of step are a load and an exchange of a cell, a load of a passed word, a store of one's own, plain reading and writing of
-//! a slot that one holds, and splitting and joining a seat. An exchange rests on its caller's own pair.
+//! a slot that one holds, two loads by which worker 0 takes the slot of the intake's next block and lays it down, and splitting and
+//! joining a seat. An exchange rests on its caller's own pair.
 //!
 //! # Calls
 //!
@@ -43,6 +50,7 @@
 //! | [`RowBoard::split`] | a pass for a new number, or out of memory | `lending`, `newcomer` |
 //! | [`RowBoard::join`] | worker 0's pass has taken in another | `Merges` |
 //! | [`RowBoard::take_body`], [`RowBoard::give_body`], [`RowBoard::give_done`] | a block's body or value, from the slot of the run that the pass holds and into it | `MayGive` |
+//! | [`RowBoard::place_body`] | what lay in the slot of the intake's next block, where the job lies then; with the block's Accept it is the block's job | `turning`, `IsLaid`, `HandsOn` |
 //! | [`RowBoard::take_handler`], [`RowBoard::give_handler`] | the same of a source's handler | `IsUntaken`, `IsServed` |
 //! | [`RowBoard::close`], [`RowBoard::close_whole`] | the journal with the rest of the whole history, and all slots, or out of memory; the second also gives the machine | `AtRest` |
 //! | [`RowPass::machine`], [`RowPass::worker`] | the machine, which stands for what the pass has seen, and the number | |
@@ -58,7 +66,7 @@
 //!
 //! Over `atomic_table`, whose steps may assume the rule and have to keep it. `specs/Plays` says what each step tells; of each there
 //! is one lemma that it keeps the rule (`proofs/Keeping`), over lemmas on one part of the rule each: cells (`RowWords`), passed words
-//! (`Marking`, `Parted`), views (`Seen`, `Parting`), slots (`Holding`, `Landing`). An exchange that finds the word of the event a lap ago
+//! (`Marking`, `Parted`), views (`Seen`, `Parting`), jobs (`Jobs`, `Handing`), slots (`Holding`, `Landing`, `Laying`). An exchange that finds the word of the event a lap ago
 //! is the next event's, whatever words the two have: as the pass's own passed word stands, the cell has that event or the next, and their
 //! lap bits differ. That a held event is held by a word loaded in the call is said by a count of such loads in the view, and by what the
 //! last of them found. That `look` sees the row as it is at a moment of the call is said by what a
@@ -74,6 +82,7 @@
 //!
 //! - That an event of a worker is ever placed: others may always come before it, and a worker that does not pass on may hold it for ever.
 //! - What lies in the slot of a run that is open and not parked when the board is closed.
+//! - Which body becomes the job of a block of the intake into whose slot nothing was laid.
 #![tactic(auto)]
 
 mod board;
@@ -85,6 +94,7 @@ mod gathering;
 mod make;
 mod pairs;
 mod pass;
+mod placing;
 mod plays;
 mod put;
 mod shares;
@@ -97,4 +107,4 @@ pub use cell::{Cell, Slot};
 pub use pass::{Pass, RowPass};
 pub use plays::Lawful;
 pub use put::Put;
-pub use view::{Copies, Limits, Marks, Standing, Terms, View};
+pub use view::{Copies, Handed, Limits, Marks, Next, Standing, Terms, View};

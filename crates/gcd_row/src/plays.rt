@@ -1,6 +1,6 @@
 // The rule of a board's table, and what each kind of step tells.
 ghost use Rattle.std.specs.Prelude.{ℕ};
-ghost use Rattle.gcd_row.specs.Plays.{Looked, Tried, Ended, Compared, Unused, PutDown, Asked, PassedOn, Reread};
+ghost use Rattle.gcd_row.specs.Plays.{Looked, Tried, Ended, Compared, Unused, PutDown, Asked, PassedOn, Reread, Reached, LaidThere};
 ghost use Rattle.gcd_row.specs.Rule.{Holds};
 ghost use Rattle.gcd_row.specs.Views.{opening_view, spent_view, lending, newcomer, merging, note, hearing};
 
@@ -59,6 +59,20 @@ pub struct Down;
 
 impl<S> Play<S, View<S>> for Down {
     ghost then = { PutDown };
+}
+
+// A load by worker 0's pass that takes the slot of the intake's next block.
+pub struct Reach;
+
+impl<S: Slot> Play<S, View<S>> for Reach {
+    ghost then = { Reached S.shape };
+}
+
+// A load by worker 0's pass that lays down what it has of that block.
+pub struct Lay;
+
+impl<S> Play<S, View<S>> for Lay {
+    ghost then = { LaidThere };
 }
 
 // A load of a passed word.

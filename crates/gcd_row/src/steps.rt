@@ -8,9 +8,9 @@ ghost use Rattle.gcd_history.specs.Choice.{worker_of};
 ghost use Rattle.gcd_history.specs.History.{why};
 ghost use Rattle.gcd_plan.specs.Validity.{IsPlan};
 ghost use Rattle.gcd_row.specs.Passes.{MayRead};
-ghost use Rattle.gcd_row.specs.Plays.{Asks, SeesMore, EndsHere, Found, Turned, LaysBack};
+ghost use Rattle.gcd_row.specs.Plays.{Asks, SeesMore, EndsHere, Found, Wins, LaysBack};
 ghost use Rattle.gcd_row.specs.Ring.{IsWord, is_news, lap, under, gone};
-ghost use Rattle.gcd_row.specs.Views.{knowing, passing, saw};
+ghost use Rattle.gcd_row.specs.Views.{IsBack, knowing, passing};
 
 use crate::board::RowBoard;
 use crate::cell::Slot;
@@ -98,9 +98,10 @@ impl<S: Slot> RowBoard<S> {
         requires pair { (seat.old.me.0.marks.upto ≡ 64) × (n < seat.old.me.0.marks.floor + 4096) }
         requires valid { IsPlan seat.old.me.0.terms.plan }
         requires slot { LaysBack S.shape S.gives e seat.old.me }
+        requires back { IsBack seat.old.me.0.handed.next }
         requires event { (worker_of e ≡ seat.old.me.0.worker) × (why seat.old.me.0.terms.plan seat.old.me.0.seen e ≡ None) }
         ensures board { seat.new.table_id ≡ seat.old.table_id }
-        ensures won { result ≡ old → (seat.new.me.0 ≡ saw seat.old.me.0 e) × Turned S.shape S.gives seat.old.me.0.terms seat.old.me.0.seen e seat.old.me.1 seat.new.me.1 }
+        ensures won { result ≡ old → Wins S.shape S.gives e seat.old.me.0 seat.old.me.1 seat.new.me.0 seat.new.me.1 }
         ensures lost { result ≢ old → (seat.new.me.1 ≡ seat.old.me.1) × Found seat.old.me.0 result seat.new.me.0 }
     {
         let new = lapped(to_word(e), n);

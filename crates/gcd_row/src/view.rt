@@ -48,6 +48,23 @@ pub struct Marks {
     pub held: Option<(u8, u64)>,
 }
 
+/// What lies in the slot of the block of the intake that is accepted next.
+pub enum Next<S> {
+    /// What lay there at first.
+    First,
+    /// Nothing: worker 0 has the slot, to lay a body there.
+    Out,
+    /// What worker 0 laid there last.
+    Laid(S),
+}
+
+/// What worker 0 has handed in for the blocks of the intake.
+pub struct Handed<S> {
+    /// What lay in a block's slot at its Accept, with the block's number, the last first.
+    pub placed: LinkedList<(u16, S)>,
+    pub next: Next<S>,
+}
+
 /// What a pass knows of its board.
 pub struct View<S> {
     pub terms: Terms<S>,
@@ -62,4 +79,8 @@ pub struct View<S> {
     /// At worker 0: each number that was given out, the last change first.
     pub hands: LinkedList<(u8, Standing)>,
     pub marks: Marks,
+    /// What it found in the slot of the run that it took last.
+    pub first: Option<S>,
+    /// At worker 0: what it has handed in.
+    pub handed: Handed<S>,
 }

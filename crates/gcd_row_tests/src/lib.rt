@@ -2,6 +2,8 @@
 #![tactic(auto)]
 
 #[cfg(test)]
+mod intake;
+#[cfg(test)]
 mod ring;
 #[cfg(test)]
 mod rows;

@@ -1,5 +1,4 @@
 // A ring that is written again: two passes, and more events than it has cells.
-ghost use Rattle.gcd_row.specs.Opening.{AreFirst};
 ghost use Rattle.gcd_row.specs.Passes.{IsPassOf, IsGathered, HasSameNumbers, terms_of, view};
 ghost use Rattle.gcd_row.specs.Shapes.{shape_of, gives_of};
 ghost use Rattle.gcd_row.specs.declared.view.Standing.TheVariants.{Out};
@@ -38,7 +37,6 @@ fn parts(alloc: Global) -> Result<Parts, AllocError> {
 // A board of that plan for two workers and as many events as a row can have, and worker 0's pass.
 fn opened(alloc: Global) -> Result<(Board<Fixed, Tally>, Pass<Fixed, Tally>), Fail>
     ensures two { IfOk result (λ made. (terms_of made.0).limits.workers ≡ 2) }
-    ensures first { IfOk result (λ made. AreFirst (shape_of (λ t. t.kind) (λ t. t.times) (λ t. t.total)) (terms_of made.0).plan (terms_of made.0).cells) }
     ensures pass { IfOk result (λ made. IsPassOf (shape_of (λ t. t.kind) (λ t. t.times) (λ t. t.total)) (gives_of (λ job input value. value ≡ job.0)) made.0 made.1) }
     ensures view { IfOk result (λ made. ((view made.1).worker ≡ 0) × ((view made.1).hands ≡ [])) }
     ensures gathered { IfOk result (λ made. IsGathered (view made.1) []) }
@@ -85,7 +83,6 @@ fn first_lap<J: Job + Drop, H: Handler + Drop, R: Abort>(
     p: &mut Pass<J, H>,
 )
     requires p { IsPassOf (shape_of H.kind H.times H.total) (gives_of J.gives) board.now p.old }
-    requires first { AreFirst (shape_of H.kind H.times H.total) (terms_of board.now).plan (terms_of board.now).cells }
     ensures p { IsPassOf (shape_of H.kind H.times H.total) (gives_of J.gives) board.now p.new × HasSameNumbers (view p.old) (view p.new) }
     ensures gathered { (journal : List Event) → IsGathered (view p.old) journal → IsGathered (view p.new) journal }
 {

@@ -1,5 +1,4 @@
 // Two passes at a board, and one that runs the first script.
-ghost use Rattle.gcd_row.specs.Opening.{AreFirst};
 ghost use Rattle.gcd_row.specs.Passes.{IsPassOf, HasSameNumbers, terms_of, view};
 ghost use Rattle.std.specs.Prelude.{◌≡◌, ◌∷◌, [], IfOk};
 ghost use Rattle.gcd_row.specs.Shapes.{shape_of, gives_of};
@@ -39,7 +38,6 @@ fn parts(alloc: Global, acts: &[Act]) -> Result<Parts, AllocError> {
 // A board of such a plan, and worker 0's pass.
 fn opened(alloc: Global, acts: &[Act]) -> Result<(Board<Fixed, Tally>, Pass<Fixed, Tally>), Fail>
     ensures two { IfOk result (λ made. (terms_of made.0).limits.workers ≡ 2) }
-    ensures first { IfOk result (λ made. AreFirst (shape_of (λ t. t.kind) (λ t. t.times) (λ t. t.total)) (terms_of made.0).plan (terms_of made.0).cells) }
     ensures pass { IfOk result (λ made. IsPassOf (shape_of (λ t. t.kind) (λ t. t.times) (λ t. t.total)) (gives_of (λ job input value. value ≡ job.0)) made.0 made.1) }
     ensures view { IfOk result (λ made. ((view made.1).worker ≡ 0) × ((view made.1).hands ≡ []) × ((view made.1).marks.passed ≡ 0)) }
 {
@@ -58,7 +56,6 @@ fn share<J: Job + Drop, H: Handler + Drop, R: Abort>(
 )
     requires p { IsPassOf (shape_of H.kind H.times H.total) (gives_of J.gives) board.now p.old }
     requires q { IsPassOf (shape_of H.kind H.times H.total) (gives_of J.gives) board.now q.old }
-    requires first { AreFirst (shape_of H.kind H.times H.total) (terms_of board.now).plan (terms_of board.now).cells }
     ensures p { IsPassOf (shape_of H.kind H.times H.total) (gives_of J.gives) board.now p.new × HasSameNumbers (view p.old) (view p.new) }
     ensures q { IsPassOf (shape_of H.kind H.times H.total) (gives_of J.gives) board.now q.new × HasSameNumbers (view q.old) (view q.new) }
 {
@@ -112,7 +109,7 @@ fn judge<R: Abort>(
 }
 
 // Joins the second pass into the first, and closes the board.
-fn judge_both<R: Abort>(
+pub fn judge_both<R: Abort>(
     rt: &R,
     alloc: Global,
     board: Board<Fixed, Tally>,
@@ -167,7 +164,6 @@ fn run_alone<J: Job + Drop, H: Handler + Drop, R: Abort>(
     p: &mut Pass<J, H>,
 )
     requires p { IsPassOf (shape_of H.kind H.times H.total) (gives_of J.gives) board.now p.old }
-    requires first { AreFirst (shape_of H.kind H.times H.total) (terms_of board.now).plan (terms_of board.now).cells }
     ensures p { IsPassOf (shape_of H.kind H.times H.total) (gives_of J.gives) board.now p.new × HasSameNumbers (view p.old) (view p.new) }
 {
     let Ok(_place) = begin(board, p, MAIN) else {
@@ -206,7 +202,6 @@ fn run_cancelled<J: Job + Drop, H: Handler + Drop, R: Abort>(
     p: &mut Pass<J, H>,
 )
     requires p { IsPassOf (shape_of H.kind H.times H.total) (gives_of J.gives) board.now p.old }
-    requires first { AreFirst (shape_of H.kind H.times H.total) (terms_of board.now).plan (terms_of board.now).cells }
     ensures p { IsPassOf (shape_of H.kind H.times H.total) (gives_of J.gives) board.now p.new × HasSameNumbers (view p.old) (view p.new) }
 {
     let Ok(_place) = begin(board, p, MAIN) else {

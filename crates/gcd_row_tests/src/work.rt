@@ -5,7 +5,7 @@ ghost use Rattle.gcd_history.specs.History.{is_block_cancelled, parks};
 ghost use Rattle.gcd_machine.specs.Stands.{StandsFor};
 ghost use Rattle.gcd_plan.specs.PlanView.{PlanView};
 ghost use Rattle.gcd_plan.specs.declared.numbers.Run.TheVariants.{Block};
-ghost use Rattle.gcd_row.specs.Opening.{AreFirst, AreHandlersOf, tallies_for};
+ghost use Rattle.gcd_row.specs.Opening.{AreHandlersOf, tallies_for};
 ghost use Rattle.gcd_row.specs.Passes.{IsPassOf, IsGathered, HasSameNumbers, slots, terms_of, view, machine_of};
 ghost use Rattle.gcd_row.specs.Shapes.{shape_of, gives_of};
 ghost use Rattle.gcd_row.specs.Views.{held_run};
@@ -88,7 +88,6 @@ pub fn begin<J: Job + Drop, H: Handler + Drop>(
     b: Blk,
 ) -> Result<u32, Put>
     requires pass { IsPassOf (shape_of H.kind H.times H.total) (gives_of J.gives) board.now pass.old }
-    requires first { AreFirst (shape_of H.kind H.times H.total) (terms_of board.now).plan (terms_of board.now).cells }
     ensures pass { IsPassOf (shape_of H.kind H.times H.total) (gives_of J.gives) board.now pass.new }
     ensures numbers { HasSameNumbers (view pass.old) (view pass.new) }
     ensures gathered { (journal : List Event) → IsGathered (view pass.old) journal → IsGathered (view pass.new) journal }

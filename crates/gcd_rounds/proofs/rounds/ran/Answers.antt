@@ -2,7 +2,7 @@ use Rattle.std.proofs.Common.{◌≡◌, ◌∙◌, [], ℕ, List, ap, subst, sy
 use Rattle.gcd_event.specs.declared.event.Event.{Event}
 use Rattle.gcd_outer.specs.Outside.{ClockState, Seen}
 use Rattle.gcd_outer.specs.Tells.{PollerState}
-use Rattle.gcd_loop.specs.Followed.{FollowsChoice, IsOfWorkers}
+use Rattle.gcd_loop.specs.Followed.{AcceptsNone, FollowsChoice, IsOfWorkers}
 use Rattle.gcd_loop.specs.Ran.{RunsPlan}
 use Rattle.gcd_loop.proofs.Steps.{going_first, run_on, runs_plan}
 use Rattle.gcd_rounds.specs.Running.{turn_sight}
@@ -18,11 +18,12 @@ returns-clause-ran g c =
     let workers : o.run.terms.workers ≡ c.args.workers = ap (λ t. t.workers) c.go_round-gone.ensures.terms ∙ c.in_ok-run.ensures.workers in
     let seen : Seen PollerState = record { tells = pt; before = p; after = q } in
     let read : Seen ClockState = record { tells = ct; before = a; after = b } in
-    subst (λ (j : List Event). RunsPlan most plan c.args.workers seen read j) (ap (λ v. v.items) (sym c.end_of-end.ensures.journal))
-    (runs_plan most plan c.args.workers h o.run.machine seen read
+    subst (λ (j : List Event). RunsPlan most plan c.args.workers AcceptsNone seen read j) (ap (λ v. v.items) (sym c.end_of-end.ensures.journal))
+    (runs_plan most plan c.args.workers AcceptsNone h o.run.machine seen read
     (turn_sight g.J.Job.gives g.H.Handler.kind g.H.Handler.times g.H.Handler.total most plan o ready)
     (subst (λ (n : ℕ). IsOfWorkers n h) workers ready.run.by)
     (subst (λ (n : ℕ). n ≡ 1 → FollowsChoice plan h) workers ready.run.chosen)
+    ready.run.uncalled
     c.requires.unwatched
     (run_on most pt ct plan [] h p q a b c.go_round-gone.new.outlook c.in_ok-gone.ensures.ended
     (λ active. c.in_ok-gone.ensures.going [] p a (rw c.in_ok-run.ensures.journal

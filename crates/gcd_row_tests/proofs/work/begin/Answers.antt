@@ -1,7 +1,6 @@
-use Rattle.std.proofs.Common.{refl, ap, sym, subst, ◌∙◌, ◌∷◌, []}
+use Rattle.std.proofs.Common.{refl, ap, ◌∙◌, ◌∷◌, []}
 use Rattle.gcd_event.specs.declared.event.Event.TheVariants.{Start}
 use Rattle.gcd_plan.specs.declared.numbers.Run.TheVariants.{Block}
-use Rattle.gcd_row.specs.Opening.{AreFirst}
 use Rattle.gcd_row.specs.Shapes.{shape_of, gives_of}
 use Rattle.gcd_row.specs.Passes.{view, slots}
 use Rattle.gcd_row.proofs.AfterPut.{nothing_back, took, found_body, body_of_cell, same_numbers}
@@ -28,6 +27,6 @@ returns-in-Placed-clause-body g c =
     let k = took (shape_of g.H.Handler.kind g.H.Handler.times g.H.Handler.total) (gives_of g.J.Job.gives) c.args.board.now c.args.pass.now c.put.new.pass (Start c.worker-worker.result c.args.b) (Block c.args.b) c.in-Placed.n
     c.put.ensures.pass (c.worker-worker.ensures ∙ c.requires.pass.number) refl c.in-Placed.ensures.view c.in-Placed.ensures.slots in
     let is = found_body (shape_of g.H.Handler.kind g.H.Handler.times g.H.Handler.total) (gives_of g.J.Job.gives) c.args.board.now c.args.pass.now c.put.new.pass (Start c.worker-worker.result c.args.b) c.args.b
-    c.put.ensures.pass (subst (λ t. AreFirst (shape_of g.H.Handler.kind g.H.Handler.times g.H.Handler.total) t.plan t.cells) (sym c.put.ensures.pass.terms) c.requires.first) refl k in
+    c.put.ensures.pass refl k in
     let j = body_of_cell g.H.Handler.kind g.H.Handler.times g.H.Handler.total k.cell is in
     (j.0, k.here ∙ ap (λ x. (c.args.b.0, x) ∷ []) j.1)

@@ -1,5 +1,6 @@
 use Rattle.std.proofs.Common.{◌∙◌, ap, subst, sym}
 use Rattle.std.proofs.lemmas.Bool.{both_ways}
+use Rattle.gcd_row.specs.Jobs.{held_jobs}
 use Rattle.gcd_row.specs.Passes.{view}
 use Rattle.gcd_row.specs.Shapes.{MayGive}
 use Rattle.gcd_row.specs.Views.{knows_cancelled}
@@ -22,7 +23,7 @@ take_body-requires-clause-uncancelled g c =
 
 pub give_done-requires-2-clause-gives : goal.give_done-requires-2-clause-gives
 give_done-requires-2-clause-gives g c = λ works.
-    subst (λ v. MayGive g.J.Job.gives v.terms c.args.b.0 c.run-value.result) (sym c.take_body.ensures.view) (c.take_body.ensures.gives c.run-value.result c.run-value.ensures)
+    subst (λ v. MayGive g.J.Job.gives (held_jobs v) c.args.b.0 c.run-value.result) (sym c.take_body.ensures.view) (c.take_body.ensures.gives c.run-value.result c.run-value.ensures)
 
 pub give_done-requires-2-clause-body : goal.give_done-requires-2-clause-body
 give_done-requires-2-clause-body g c = λ marked.

@@ -1,5 +1,6 @@
 use Rattle.std.proofs.Common.{◌≡◌, ◌+◌, ◌∙◌, ℕ, Ok, ap, arith, subst}
 use Rattle.gcd_history.proofs.PublicLaws.{choice_is_permitted}
+use Rattle.gcd_loop.proofs.Events.{work_accepts_none}
 use Rattle.gcd_loop.proofs.Steps.{grown}
 use Rattle.gcd_rounds.specs.Kept.{EndBefore, endings_of}
 use Rattle.gcd_rounds.specs.Running.{run_sight}
@@ -14,6 +15,7 @@ follow-requires-clause-next g c =
       room = omega (arith, room, limit);
       below = rw choice.by c.requires.ready.run.some;
       chosen = λ one work. c.requires.chosen;
+      no_job = work_accepts_none c.args.e choice.work;
     }
 
 pub follow-requires-clause-work : goal.follow-requires-clause-work

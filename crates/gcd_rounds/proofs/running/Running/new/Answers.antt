@@ -1,6 +1,6 @@
 use Rattle.std.proofs.Common.{◌∙◌, ap, arith, length, Some}
 use Rattle.std.proofs.lemmas.List.{length-map}
-use Rattle.gcd_loop.proofs.Follows.{follows_none, workers_none}
+use Rattle.gcd_loop.proofs.Follows.{accepts_none_first, follows_none, workers_none}
 use Rattle.gcd_rounds.proofs.EndsKept.{none_kept}
 use Rattle.gcd_rounds.proofs.Given.{given_first, wait_first}
 use Rattle.gcd_rounds.proofs.Taken.{taken_first}
@@ -18,6 +18,7 @@ returns-clause-run g c =
       few = rw empty (omega arith);
       by = rw empty (workers_none c.args.workers);
       chosen = λ one. rw empty (follows_none plan);
+      uncalled = rw empty accepts_none_first;
       places = c.in_ok-places.ensures;
       taken = rw empty (taken_first g.H.Handler.kind g.H.Handler.times g.H.Handler.total plan c.args.handlers.items c.requires.handlers);
     }

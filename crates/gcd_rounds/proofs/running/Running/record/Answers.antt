@@ -1,7 +1,7 @@
 use Rattle.std.proofs.Common.{◌∙◌, arith}
 use Rattle.std.proofs.lemmas.List.{length_push}
 use Rattle.gcd_machine.proofs.Shown.{lawful_stands}
-use Rattle.gcd_loop.proofs.Follows.{follows_more, workers_more}
+use Rattle.gcd_loop.proofs.Follows.{accepts_none_more, follows_more, workers_more}
 use Rattle.gcd_rounds.proofs.EndsKept.{kept_waits}
 use Rattle.gcd_rounds.proofs.Given.{given_same, wait_same}
 use Rattle.gcd_rounds.proofs.running.Running.record.Goals as goal
@@ -50,6 +50,7 @@ returns-clause-run g c =
       few = let room = next.room in rw more (omega (arith, length_push h e, room));
       by = rw more (workers_more workers h e run.by next.below);
       chosen = λ one. rw more (follows_more plan h e (run.chosen one) (next.chosen one));
+      uncalled = rw more (accepts_none_more h e run.uncalled next.no_job);
       places = run.places;
       taken = rw more (c.hand_over.ensures h stands run.taken);
     }

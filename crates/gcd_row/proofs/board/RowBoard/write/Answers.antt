@@ -18,7 +18,7 @@ exchange_word-requires-clause-word g c = omega (arith, c.args.self.now.sized, c.
 
 pub exchange_word-requires-clause-keeps : goal.exchange_word-requires-clause-keeps
 exchange_word-requires-clause-keeps g c =
-    tries _ _ c.args.self.now.table.shared.key _ _ _ _ c.args.e _ _ none c.requires.may (omega (arith, c.requires.place, c.cell_of.ensures)) (omega (arith, c.requires.place)) c.requires.event.0 c.requires.event.1 c.requires.slot c.requires.old
+    tries _ _ c.args.self.now.table.shared.key _ _ _ _ c.args.e _ _ none c.requires.may (omega (arith, c.requires.place, c.cell_of.ensures)) (omega (arith, c.requires.place)) c.requires.event.0 c.requires.event.1 c.requires.slot c.requires.back c.requires.old
     (c.lapped-new.ensures ∙ ap (λ (k : ℕ). k + lap c.args.n) c.to_word.ensures.exact ∙ ap (λ (k : ℕ). word_of c.args.e + lap k) c.requires.place.0) c.requires.pair.0 (omega (arith, c.requires.place, c.requires.pair))
 
 pub returns-clause-won : goal.returns-clause-won

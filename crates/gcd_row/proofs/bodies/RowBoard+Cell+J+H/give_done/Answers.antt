@@ -1,4 +1,5 @@
 use Rattle.std.proofs.Common.{refl}
+use Rattle.gcd_row.specs.Jobs.{held_jobs}
 use Rattle.gcd_row.specs.Passes.{view}
 use Rattle.gcd_row.specs.Shapes.{shape_of, gives_of}
 use Rattle.gcd_row.specs.Views.{held_run}
@@ -14,5 +15,5 @@ change-before-requires-clause-here g c =
 pub change-before-requires-clause-may : goal.change-before-requires-clause-may
 change-before-requires-clause-may g c =
     let v = view c.args.pass.now in
-    done_may (shape_of g.H.Handler.kind g.H.Handler.times g.H.Handler.total) (gives_of g.J.Job.gives) v.terms v.seen c.args.b (held_run v) c.requires.run
+    done_may (shape_of g.H.Handler.kind g.H.Handler.times g.H.Handler.total) (gives_of g.J.Job.gives) (held_jobs v) v.seen c.args.b (held_run v) c.requires.run
     (Done c.args.value) c.args.value refl c.requires.gives c.requires.zero

@@ -1,4 +1,5 @@
 use Rattle.std.proofs.Common.{◌∷◌, [], ◌∙◌, ap, refl}
+use Rattle.gcd_row.specs.Jobs.{held_jobs}
 use Rattle.gcd_row.specs.Passes.{view}
 use Rattle.gcd_row.specs.Shapes.{shape_of, gives_of}
 use Rattle.gcd_row.specs.Views.{held_run}
@@ -9,7 +10,7 @@ use Rattle.gcd_row.proofs.bodies.RowBoard+Cell+J+H.take_body.Goals as goal
 pub change-requires-clause-may : goal.change-requires-clause-may
 change-requires-clause-may g c =
     let v = view c.args.pass.now in
-    away_may (shape_of g.H.Handler.kind g.H.Handler.times g.H.Handler.total) (gives_of g.J.Job.gives) v.terms v.seen c.args.b (held_run v) c.requires.run
+    away_may (shape_of g.H.Handler.kind g.H.Handler.times g.H.Handler.total) (gives_of g.J.Job.gives) (held_jobs v) v.seen c.args.b (held_run v) c.requires.run
     Away refl c.requires.uncancelled
 
 pub returns-clause-gives : goal.returns-clause-gives

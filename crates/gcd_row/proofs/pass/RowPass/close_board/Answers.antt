@@ -2,6 +2,7 @@ use Rattle.std.proofs.Common.{arith, ◌≡◌, ◌≤◌, ◌<◌, ◌+◌, ◌
 use Rattle.std.proofs.lemmas.List.{take_all, length-take}
 use Rattle.std.specs.Mem.Slots.{slots_items}
 use Rattle.gcd_event.specs.declared.event.Event.{Event}
+use Rattle.gcd_row.specs.Jobs.{placed_jobs}
 use Rattle.gcd_row.specs.Ring.{lap}
 use Rattle.gcd_row.specs.Passes.{view, AtRest}
 use Rattle.gcd_row.proofs.Ending.{closes, event_at, at_value}
@@ -18,7 +19,7 @@ push_reserved-requires g c =
 pub event_of-requires : goal.event_of-requires
 event_of-requires g c =
     let p = c.args.self in let v = view p in let r = c.close_with-closed.result in let q = c.requires.pass in let i = c.loop-i.i in
-    let z = closes _ _ c.args.board.table.shared.key p.seat.id v (slots_items r.words) (slots_items r.slots) c.close_with-closed.ensures.values.2 q.may_read c.requires.head c.requires.all_in in
+    let z = closes _ _ c.args.board.table.shared.key p.seat.id v (slots_items r.words) (slots_items r.slots) c.close_with-closed.ensures.values.2 q.may_read c.requires.head c.requires.all_in q.back in
     let len : c.len-n.result ≡ length v.seen = c.len-n.ensures v.terms.plan v.seen q.stands in
     let lt : i < length v.seen = omega (arith, len) in
     let a = event_at v.seen i z.fit lt in
@@ -27,7 +28,7 @@ event_of-requires g c =
 pub loop-i-preserved : goal.loop-i-preserved
 loop-i-preserved g c =
     let p = c.args.self in let v = view p in let r = c.close_with-closed.result in let q = c.requires.pass in let i = c.loop-i.i in let old = c.loop-i.invariant in
-    let z = closes _ _ c.args.board.table.shared.key p.seat.id v (slots_items r.words) (slots_items r.slots) c.close_with-closed.ensures.values.2 q.may_read c.requires.head c.requires.all_in in
+    let z = closes _ _ c.args.board.table.shared.key p.seat.id v (slots_items r.words) (slots_items r.slots) c.close_with-closed.ensures.values.2 q.may_read c.requires.head c.requires.all_in q.back in
     let len : c.len-n.result ≡ length v.seen = c.len-n.ensures v.terms.plan v.seen q.stands in
     let lt : i < length v.seen = omega (arith, len) in
     let a = event_at v.seen i z.fit lt in
@@ -49,5 +50,5 @@ returns-clause-events g c =
 pub returns-clause-cells : goal.returns-clause-cells
 returns-clause-cells g c =
     let p = c.args.self in let v = view p in let r = c.close_with-closed.result in let q = c.requires.pass in
-    let z = closes _ _ c.args.board.table.shared.key p.seat.id v (slots_items r.words) (slots_items r.slots) c.close_with-closed.ensures.values.2 q.may_read c.requires.head c.requires.all_in in
-    subst (AtRest g.S.Slot.shape g.S.Slot.gives v.terms v.seen) (sym c.take_all.ensures) z.rest
+    let z = closes _ _ c.args.board.table.shared.key p.seat.id v (slots_items r.words) (slots_items r.slots) c.close_with-closed.ensures.values.2 q.may_read c.requires.head c.requires.all_in q.back in
+    subst (AtRest g.S.Slot.shape g.S.Slot.gives (placed_jobs v) v.seen) (sym c.take_all.ensures) z.rest
