@@ -17,6 +17,7 @@ use Rattle.gcd_history.specs.History.{IsLawful, delivery_count_of, received_of, 
 use Rattle.gcd_team.proofs.Totals.{totals_fit}
 use Rattle.gcd_row.specs.Shapes.{Shape, body, handler, shape_of, gives_of}
 use Rattle.gcd_row.specs.Lying.{slot_of, HasSlots, HasSlot, IsServed, IsUntaken}
+use Rattle.gcd_row.specs.Jobs.{held_jobs}
 use Rattle.gcd_row.specs.Views.{held_run}
 use Rattle.gcd_row.proofs.Totals.{earlier_and_last}
 use Rattle.gcd_row.specs.Passes.{IsPassOf, slots, terms_of, view}
@@ -63,8 +64,8 @@ module _ {J H : Type 0} (kind : H → Kind) (times total : H → ℕ) (gives : J
       → (job : J) × (slots p ≡ (n.0, Body job) ∷ [])
   body_here b p n is held fresh =
       let v = view p in
-      let had : HasSlot (shape_of kind times total) (gives_of gives) v.terms v.seen (Block n) (slots p) =
-      subst (λ (o : Option Run). HasSlots (shape_of kind times total) (gives_of gives) v.terms v.seen o (slots p)) held is.has in
+      let had : HasSlot (shape_of kind times total) (gives_of gives) (held_jobs v) v.seen (Block n) (slots p) =
+      subst (λ (o : Option Run). HasSlots (shape_of kind times total) (gives_of gives) (held_jobs v) v.seen o (slots p)) held is.has in
       let job = body_cell had.cell (fresh (Block n) had.cell held had.here) in
       (job.0, had.here ∙ ap (λ (c : Cell J H). (n.0, c) ∷ []) job.1)
 
@@ -78,8 +79,8 @@ module _ {J H : Type 0} (kind : H → Kind) (times total : H → ℕ) (gives : J
       → (h : H) × (slots p ≡ (slot_of (view p).terms.plan (Source s), Handler h) ∷ []) × (times h ≢ delivery_count_of (view p).seen s.0)
   handler_here b p s is held fresh =
       let v = view p in
-      let had : HasSlot (shape_of kind times total) (gives_of gives) v.terms v.seen (Source s) (slots p) =
-      subst (λ (o : Option Run). HasSlots (shape_of kind times total) (gives_of gives) v.terms v.seen o (slots p)) held is.has in
+      let had : HasSlot (shape_of kind times total) (gives_of gives) (held_jobs v) v.seen (Source s) (slots p) =
+      subst (λ (o : Option Run). HasSlots (shape_of kind times total) (gives_of gives) (held_jobs v) v.seen o (slots p)) held is.has in
       let it = fresh (Source s) had.cell held had.here in
       let h = handler_cell had.cell it.kind it.times it.total it.is in
       let once : times h.0 + 1 ≡ delivery_count_of v.seen s.0 = ap (λ (n : ℕ). n + 1) h.2 ∙ it.untaken.once_fewer in
@@ -89,6 +90,6 @@ module _ {J H : Type 0} (kind : H → Kind) (times total : H → ℕ) (gives : J
   pub source_known : (b : RowBoard (Cell J H)) (p : RowPass (Cell J H)) (s : Obj) → IsPassOf (shape_of kind times total) (gives_of gives) b p → held_run (view p) ≡ Some (Source s) → s.0 < length (view p).terms.plan.objects
   source_known b p s is held =
       let v = view p in
-      let had : HasSlot (shape_of kind times total) (gives_of gives) v.terms v.seen (Source s) (slots p) =
-      subst (λ (o : Option Run). HasSlots (shape_of kind times total) (gives_of gives) v.terms v.seen o (slots p)) held is.has in
+      let had : HasSlot (shape_of kind times total) (gives_of gives) (held_jobs v) v.seen (Source s) (slots p) =
+      subst (λ (o : Option Run). HasSlots (shape_of kind times total) (gives_of gives) (held_jobs v) v.seen o (slots p)) held is.has in
       had.known

@@ -1,7 +1,7 @@
 -- The cell of the run that a worker holds, as events come.
-use Rattle.std.proofs.Common.{◌≡◌, ℕ, ◌<◌, ◌≤◌, ⊎_elim, Bool, true, false, List, [], ◌∷◌, ◌++◌, length, Some, None, Option, sym, refl, ap, ◌∙◌, subst, arith}
+use Rattle.std.proofs.Common.{◌≡◌, ℕ, Bool, true, false, List, [], ◌∷◌, ◌++◌, Some, None, Option, sym, refl, ap, ◌∙◌, subst}
 use Rattle.std.specs.Prelude.{slice_get}
-use Rattle.std.proofs.lemmas.Option.{same_Some, slice_get_cases}
+use Rattle.std.proofs.lemmas.Option.{same_Some}
 use Rattle.gcd_plan.specs.PlanView.{PlanView}
 use Rattle.gcd_plan.specs.Validity.{IsPlan}
 use Rattle.gcd_plan.specs.declared.numbers.Blk.{Blk}
@@ -23,20 +23,14 @@ use Rattle.gcd_team.proofs.TeamLaws.{givings_are_the_holders, parking_acts_are_b
 use Rattle.gcd_team.proofs.Handing.{cells_stay, held_cells_wait, deliver_hands_over}
 use Rattle.gcd_team.proofs.Homes.{what_is_held_after}
 use Rattle.gcd_row.specs.Shapes.{Shape, body, handler}
-use Rattle.gcd_row.specs.Lying.{slot_of, BodyLies, Lies, HasSlots, IsReadyFor, GivesBack}
+use Rattle.gcd_row.specs.Lying.{slot_of, BodyLies, Lies, HasSlots, IsReadyFor, GivesBackBy}
 use Rattle.gcd_row.specs.Plays.{Turned}
-use Rattle.gcd_row.specs.declared.view.Terms.{Terms}
+use Rattle.gcd_row.specs.Jobs.{Jobs, May}
 use Rattle.gcd_row.proofs.Holding.{handler_of_source}
 use Rattle.gcd_row.proofs.Totals.{earlier_now, earlier_waits}
-use Rattle.gcd_row.proofs.Running.{known_run, source_slot, taken_known, taken_not_given, taken_source, none_some}
+use Rattle.gcd_row.proofs.Running.{source_slot, taken_known, taken_not_given, taken_source, none_some}
 use Rattle.gcd_event.specs.Owners.{ended}
 use Rattle.gcd_pool.specs.Hands.{IsUncalled, IsFreshCell, IsFreshAt}
-
-first_there : {A : Type 0} → (xs : List A) (i : ℕ) → i < length xs → (x : A) × (slice_get xs i ≡ Some x)
-first_there xs i low = ⊎_elim
-    (λ there. (there.0, there.2))
-    (λ past. absurd (omega (arith, low, past.0)))
-    (slice_get_cases xs i).1
 
 head_of : {S : Type 0} → S → List (ℕ × S) → S
 head_of x [] = x
@@ -103,22 +97,20 @@ given_is_ended plan (End w b) r is = is
 given_is_ended plan (DeliverEnd w s) r is = is
 given_is_ended plan e r is = absurd (cc)
 
-module _ {S : Type 0} (shape : S → Shape) (gives : S → ℕ → Type 0) (t : Terms S) where
+module _ {S : Type 0} (shape : S → Shape) (gives : S → ℕ → Type 0) (t : Jobs S) where
   -- the body that is taken did not run
-  body_is_fresh : (h : List Event) (e : Event) (b : Blk) (y : S) → IsLawful t.plan h → why t.plan h e ≡ None → length t.plan.blocks ≤ length t.cells → taken e ≡ Some (Block b) → Lies shape gives t h (Block b) y → shape y ≡ body
-  body_is_fresh h e b y lawful may cells took lies =
+  body_is_fresh : (h : List Event) (e : Event) (b : Blk) (y : S) → IsLawful t.plan h → why t.plan h e ≡ None → taken e ≡ Some (Block b) → Lies shape gives t h (Block b) y → shape y ≡ body
+  body_is_fresh h e b y lawful may took lies =
       let after : IsLawful t.plan (h ++ e ∷ []) = lawful_more t.plan h e lawful may in
       let held : held_by t.plan (h ++ e ∷ []) (worker_of e) ≡ Some (Block b) = (what_is_held_after t.plan h e).took (Block b) took in
       let unended : is_ended (h ++ e ∷ []) b.0 ≡ false = (held_cells_wait t.plan (h ++ e ∷ []) after).bodies (worker_of e) b held in
       let not_given : given t.plan e ≡ Some (Block b) → ⊥ = λ gave. none_some (given t.plan e) (Block b) (taken_not_given t.plan e (Block b) took) gave in
       let was : is_ended h b.0 ≡ false = sym ((cells_stay t.plan h e).bodies b not_given) ∙ unended in
-      let known : b.0 < length t.plan.blocks = known_run t.plan (Block b) (taken_known t.plan h e (Block b) took may) in
-      let first = first_there t.cells b.0 (omega (arith, known, cells)) in
-      (subst (λ (n : Bool). BodyLies shape gives first.0 n (is_block_cancelled t.plan h b.0) y) was (lies first.0 first.1)).0
+      (subst (λ (n : Bool). BodyLies shape gives (May gives t b.0) n (is_block_cancelled t.plan h b.0) y) was lies).0
 
-  taken_is_fresh : (h : List Event) (e : Event) (r : Run) (y : S) → IsLawful t.plan h → why t.plan h e ≡ None → length t.plan.blocks ≤ length t.cells → taken e ≡ Some r → Lies shape gives t h r y → IsFreshCell shape t.plan (h ++ e ∷ []) r y
-  taken_is_fresh h e (Block b) y lawful may cells took lies = body_is_fresh h e b y lawful may cells took lies
-  taken_is_fresh h e (Source s) y lawful may cells took lies =
+  taken_is_fresh : (h : List Event) (e : Event) (r : Run) (y : S) → IsLawful t.plan h → why t.plan h e ≡ None → taken e ≡ Some r → Lies shape gives t h r y → IsFreshCell shape t.plan (h ++ e ∷ []) r y
+  taken_is_fresh h e (Block b) y lawful may took lies = body_is_fresh h e b y lawful may took lies
+  taken_is_fresh h e (Source s) y lawful may took lies =
       let d = taken_source e s took in
       let it = handler_of_source t.plan h s.0 (taken_known t.plan h e (Source s) took may) in
       let over = deliver_hands_over t.plan h d.0 s in
@@ -132,8 +124,8 @@ module _ {S : Type 0} (shape : S → Shape) (gives : S → ℕ → Type 0) (t : 
       })
 
   -- after the worker's own event
-  pub fresh_own : (h : List Event) (e : Event) (c d : List (ℕ × S)) → IsLawful t.plan h → why t.plan h e ≡ None → length t.plan.blocks ≤ length t.cells → Turned shape gives t h e c d → IsFreshAt shape t.plan h (worker_of e) c → IsFreshAt shape t.plan (h ++ e ∷ []) (worker_of e) d
-  fresh_own h e c d lawful may cells turned old = by_taken (taken e) refl
+  pub fresh_own : (h : List Event) (e : Event) (c d : List (ℕ × S)) → IsLawful t.plan h → why t.plan h e ≡ None → Turned shape gives t h e c d → IsFreshAt shape t.plan h (worker_of e) c → IsFreshAt shape t.plan (h ++ e ∷ []) (worker_of e) d
+  fresh_own h e c d lawful may turned old = by_taken (taken e) refl
     where
       by_given : taken e ≡ None → (o : Option Run) → given t.plan e ≡ o → IsFreshAt shape t.plan (h ++ e ∷ []) (worker_of e) d
       by_given untaken None is = λ r x held here.
@@ -147,10 +139,10 @@ module _ {S : Type 0} (shape : S → Shape) (gives : S → ℕ → Type 0) (t : 
           let y = turned.took q is in
           let runs : q ≡ r = same_Some q r (sym ((what_is_held_after t.plan h e).took q is) ∙ held) in
           let cell : y.0 ≡ x = same_cell (slot_of t.plan q) (slot_of t.plan r) y.0 x c (sym y.1 ∙ here) in
-          subst (λ (k : Run). IsFreshCell shape t.plan (h ++ e ∷ []) k x) runs (subst (IsFreshCell shape t.plan (h ++ e ∷ []) q) cell (taken_is_fresh h e q y.0 lawful may cells is y.2))
+          subst (λ (k : Run). IsFreshCell shape t.plan (h ++ e ∷ []) k x) runs (subst (IsFreshCell shape t.plan (h ++ e ∷ []) q) cell (taken_is_fresh h e q y.0 lawful may is y.2))
 
   -- what is ready to be given back stays so while others go on
-  pub back_ahead : (h g : List Event) (w : ℕ) (e : Event) (c : List (ℕ × S)) → IsLawful t.plan g → StartsWith g h → of_worker w g ≡ of_worker w h → HasSlots shape gives t h (held_by t.plan h w) c → GivesBack shape t h e c → GivesBack shape t g e c
+  pub back_ahead : (h g : List Event) (w : ℕ) (e : Event) (c : List (ℕ × S)) → IsLawful t.plan g → StartsWith g h → of_worker w g ≡ of_worker w h → HasSlots shape gives t h (held_by t.plan h w) c → GivesBackBy shape t.plan h e c → GivesBackBy shape t.plan g e c
   unfolding front_of
   back_ahead h g w e c lawful s own has back = λ r gave. let b = back r gave in (b.0, b.1, ready r b.0 b.1 b.2)
     where
@@ -188,7 +180,7 @@ module _ {S : Type 0} (shape : S → Shape) (gives : S → ℕ → Type 0) (t : 
   parked_is_ready h w (Source u) (Source s) i x valid gave fresh =
       absurd (none_some None (Source s) refl (sym (ap (λ (p : Bool). Rattle.std.specs.Prelude.cond p (Some (Source u)) None) (parking_acts_are_blocks t.plan valid w i u)) ∙ gave))
 
-  pub back_of_fresh : (h : List Event) (e : Event) (c : List (ℕ × S)) → IsPlan t.plan → IsLawful t.plan h → why t.plan h e ≡ None → ended e ≡ None → HasSlots shape gives t h (held_by t.plan h (worker_of e)) c → IsFreshAt shape t.plan h (worker_of e) c → GivesBack shape t h e c
+  pub back_of_fresh : (h : List Event) (e : Event) (c : List (ℕ × S)) → IsPlan t.plan → IsLawful t.plan h → why t.plan h e ≡ None → ended e ≡ None → HasSlots shape gives t h (held_by t.plan h (worker_of e)) c → IsFreshAt shape t.plan h (worker_of e) c → GivesBackBy shape t.plan h e c
   back_of_fresh h (Acted w q i) c valid lawful may ends has fresh = λ r gave.
       let mine : held_by t.plan h w ≡ Some r = givings_are_the_holders t.plan h lawful (Acted w q i) r gave may in
       let had = subst (λ (o : Option Run). HasSlots shape gives t h o c) mine has in

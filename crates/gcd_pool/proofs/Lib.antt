@@ -1,3 +1,6 @@
+pub mod Admitting
+pub mod Accepting
+pub mod Leading
 pub mod Begun
 pub mod Fresh
 pub mod Puts

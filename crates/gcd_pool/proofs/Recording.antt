@@ -1,7 +1,7 @@
 -- What worker 0's calls on the row are to its loop.
 use Rattle.std.proofs.Common.{◌≡◌, ◌≤◌, ◌∙◌, ℕ, Bool, true, false, List, [], ◌∷◌, Some, None, Option, length, ap, sym, subst, refl, IsTrue}
 use Rattle.std.specs.List.{list_all}
-use Rattle.std.specs.Prelude.{Result, Ok, Err, OnOk}
+use Rattle.std.specs.Prelude.{Result, Ok, Err, IfOk, OnOk}
 use Rattle.std.proofs.lemmas.Bool.{and_from, and_parts}
 use Rattle.gcd_plan.specs.PlanView.{PlanView}
 use Rattle.gcd_plan.specs.declared.why.Why.{Why}
@@ -9,10 +9,12 @@ use Rattle.gcd_event.specs.declared.event.Event.{Event}
 use Rattle.gcd_event.specs.declared.event.Event.TheVariants.{Start, Act as Acted, Wake, End, Deliver, DeliverEnd, Tick, Ready, FeedEnd, Misuse, Halt, Expire, Accept, Shut}
 use Rattle.gcd_history.specs.Choice.{is_work, worker_of}
 use Rattle.gcd_history.specs.History.{choice_of, why}
+use Rattle.gcd_history.specs.Intake.{accepted}
 use Rattle.gcd_loop.specs.Followed.{FollowsChoice}
 use Rattle.gcd_loop.proofs.Follows.{follows_only}
 use Rattle.gcd_team.specs.Held.{is_of}
 use Rattle.gcd_loop.specs.Recorded.{After, Grows, IsGrown, IsSight, Says}
+use Rattle.gcd_loop.specs.declared.recorder.Put.{Put as LoopPut}
 use Rattle.gcd_loop.specs.declared.recorder.Put.TheVariants.{Placed as PutPlaced, Barred as PutBarred, Later}
 use Rattle.gcd_loop.specs.declared.recorder.Step.{Step}
 use Rattle.gcd_loop.specs.declared.recorder.Step.TheVariants.{Placed as StepPlaced, Waited as StepWaited, Stopped, Over}
@@ -23,11 +25,14 @@ use Rattle.gcd_row.specs.Passes.{Ahead, IsPassOf, Looks, slots, view, machine_of
 use Rattle.gcd_row.specs.declared.pass.RowPass.{RowPass}
 use Rattle.gcd_row.specs.declared.board.RowBoard.{RowBoard}
 use Rattle.gcd_row.specs.declared.put.Put.TheVariants.{Placed, Barred, Full}
+use Rattle.gcd_row.specs.Plays.{HandsOn}
+use Rattle.gcd_row.specs.declared.view.Handed.{Handed}
 use Rattle.gcd_row.specs.declared.view.Terms.{Terms}
 use Rattle.gcd_row.specs.declared.view.View.{View}
 use Rattle.gcd_pool.specs.Hands.{IsFresh, IsHandOf, Serving}
 use Rattle.gcd_outer.specs.Outside.{ClockState}
 use Rattle.gcd_outer.specs.Tells.{PollerState}
+use Rattle.gcd_pool.specs.Admitted.{HandedOn}
 use Rattle.gcd_pool.specs.Leads.{IsHead, Leads, Led}
 use Rattle.gcd_pool.specs.Throughs.{HasWaited, WasPut}
 use Rattle.gcd_pool.specs.Works.{AddsNone, AddsOnly, AddsWork, is_own_work}
@@ -75,7 +80,7 @@ module _ {S : Type 0} where
   }
 
   ahead_grows : (v : View S) (h : List Event) → v.worker ≡ 0 → Ahead v h → Grows v.seen h
-  ahead_grows v h head a = adds_grows v (seeing v h) head (ahead_adds v (seeing v h) refl a)
+  ahead_grows v h head a = adds_grows v (seeing v h) head (ahead_adds v (seeing v h) refl refl a)
 
   ahead_further : (v u : View S) (h : List Event) → u.worker ≡ v.worker → Ahead v u.seen → Ahead u h → Ahead v h
   ahead_further v u h same a c = record {
@@ -117,6 +122,21 @@ module _ {S : Type 0} (shape : S → Shape) (gives : S → ℕ → Type 0) (b : 
 pub on_ok : {T E : Type 0} → (r : Result T E) (P : Type 0) → P → OnOk r P
 on_ok (Ok x) P is = is
 on_ok (Err x) P is = tt
+
+-- what holds of each answer, holds of what it says
+pub if_ok : {T E : Type 0} → (P Q : T → Type 0) (r : Result T E) → ((x : T) → P x → Q x) → IfOk r P → IfOk r Q
+if_ok P Q (Ok x) f is = f x is
+if_ok P Q (Err e) f is = tt
+
+-- what was handed in since worker 0 gathered was handed in since before that
+handed_as : {S : Type 0} (e : Event) (v u w : View S) (r : LoopPut) → u.handed ≡ v.handed → u.terms ≡ v.terms → HandedOn e u w r → HandedOn e v w r
+handed_as {S} e v u w PutPlaced same terms handed = subst (λ (n : Handed S). HandsOn (accepted e) n w.handed) same handed
+handed_as e v u w PutBarred same terms handed = handed ∙ same
+handed_as e v u w Later same terms handed = (handed.0 ∙ same, handed.1 ∙ ap (λ t. t.limits.most) terms)
+
+pub handed_since : {S E : Type 0} (e : Event) (v u w : View S) (r : Result LoopPut E) → u ≡ knowing v v.seen u.marks → IfOk r (HandedOn e u w) → IfOk r (HandedOn e v w)
+handed_since {S} e v u w r same handed =
+    if_ok (HandedOn e u w) (HandedOn e v w) r (λ answer. handed_as e v u w answer (ap (λ (x : View S). x.handed) same) (ap (λ (x : View S). x.terms) same)) handed
 
 -- what is said where it is done, where it is not
 pub never : {A : Type 0} → false ≡ true → A

@@ -1,9 +1,10 @@
 -- What a pass is after an event was put until no passed word holds it.
-use Rattle.std.proofs.Common.{◌≡◌, ℕ, ◌≤◌, true, length, Some, None, sym, refl, ap, ◌∙◌, subst}
+use Rattle.std.proofs.Common.{◌≡◌, ℕ, true, List, length, Some, None, sym, refl, ap, ◌∙◌, subst}
 use Rattle.gcd_plan.specs.declared.numbers.Run.{Run}
 use Rattle.gcd_event.specs.Owners.{ended}
 use Rattle.gcd_event.specs.declared.event.Event.{Event}
 use Rattle.gcd_history.specs.Choice.{is_work, worker_of}
+use Rattle.gcd_history.specs.Intake.{accepted}
 use Rattle.gcd_team.specs.Team.{of_worker}
 use Rattle.gcd_row.specs.Shapes.{Shape}
 use Rattle.gcd_row.specs.Lying.{GivesBack}
@@ -13,7 +14,8 @@ use Rattle.gcd_row.specs.declared.board.RowBoard.{RowBoard}
 use Rattle.gcd_row.specs.declared.pass.RowPass.{RowPass}
 use Rattle.gcd_row.specs.declared.put.Put.{Put}
 use Rattle.gcd_row.specs.declared.put.Put.TheVariants.{Placed as PutPlaced, Barred as PutBarred, Full as PutFull}
-use Rattle.gcd_row.specs.declared.view.Terms.{Terms}
+use Rattle.gcd_row.specs.Plays.{HandsOn}
+use Rattle.gcd_row.specs.declared.view.Handed.{Handed}
 use Rattle.gcd_row.specs.declared.view.View.{View}
 use Rattle.gcd_row.proofs.Fronts.{starts_refl, starts_trans}
 use Rattle.gcd_pool.specs.Hands.{GoesOn, IsFresh, IsSettled}
@@ -25,7 +27,7 @@ use Rattle.gcd_pool.specs.declared.putting.Through.TheVariants.{Placed, Barred, 
 use Rattle.gcd_pool.specs.declared.turn.Turn.{Turn}
 use Rattle.gcd_pool.specs.declared.turn.Turn.TheVariants.{Left, Waited, Placed as TurnPlaced, Ended, Stopped as TurnStopped}
 use Rattle.gcd_pool.proofs.Placing.{leaves_barred, leaves_full, one_further, put_barred, quiet_further, recorded_further, records, records_end, stops, waits_barred}
-use Rattle.gcd_pool.proofs.Puts.{ahead_fresh, gives_ahead, goes_further, looks_goes_on, passing_goes_on, says_fresh, says_goes_on, settled_ahead, settled_placed}
+use Rattle.gcd_pool.proofs.Puts.{ahead_fresh, gives_ahead, goes_further, knowing_goes_on, looks_is, passing_goes_on, says_fresh, says_goes_on, settled_ahead, settled_placed}
 use Rattle.gcd_pool.proofs.Works.{adds_further, ahead_adds, ahead_adds_none, none_only, none_then, says_adds, says_only}
 
 -- ## It has waited
@@ -35,13 +37,14 @@ module _ {S : Type 0} where
   waits_nowhere p = record { is = refl; ahead = record { more = starts_refl (view p).seen; own = refl }; same = refl }
 
   pub looks_waits : (p q : RowPass S) → Looks (view p) (view q) → slots q ≡ slots p → HasWaited p q
-  looks_waits p q looks same = record { is = (looks_goes_on (view p) (view q) looks).is; ahead = looks.ahead; same = same }
+  looks_waits p q looks same = record { is = looks_is (view p) (view q) looks; ahead = looks.ahead; same = same }
 
   -- it knows something else of the passed words, and nothing more
   pub passing_waits : (p q : RowPass S) → view q ≡ knowing (view p) (view p).seen (view q).marks → slots q ≡ slots p → HasWaited p q
   passing_waits p q is same =
       let go = passing_goes_on (view p) (view q) is in
-      record { is = go.is; ahead = record { more = go.more; own = ap (λ (x : View S). of_worker (view p).worker x.seen) is }; same = same }
+      let seen : (view q).seen ≡ (view p).seen = ap (λ (x : View S). x.seen) is in
+      record { is = is ∙ ap (λ (l : List Event). knowing (view p) l (view q).marks) (sym seen); ahead = record { more = go.more; own = ap (λ (x : View S). of_worker (view p).worker x.seen) is }; same = same }
 
   pub waits_further : (p q r : RowPass S) → HasWaited p q → HasWaited q r → HasWaited p r
   waits_further p q r one two = record {
@@ -54,13 +57,13 @@ module _ {S : Type 0} where
   }
 
   pub waited_goes : (p q : RowPass S) → HasWaited p q → GoesOn (view p) (view q)
-  waited_goes p q w = record { is = w.is; more = w.ahead.more }
+  waited_goes p q w = knowing_goes_on (view p) (view q) w.is w.ahead.more
 
   pub waited_worker : (p q : RowPass S) → HasWaited p q → (view q).worker ≡ (view p).worker
   waited_worker p q w = ap (λ (x : View S). x.worker) w.is
 
   pub waited_adds : (p q : RowPass S) → HasWaited p q → AddsWork (view p) (view q)
-  waited_adds p q w = ahead_adds (view p) (view q) (waited_worker p q w) w.ahead
+  waited_adds p q w = ahead_adds (view p) (view q) (waited_worker p q w) (ap (λ (x : View S). x.handed) w.is) w.ahead
 
   pub waited_none : (p q : RowPass S) → HasWaited p q → AddsNone (view p) (view q)
   waited_none p q w = ahead_adds_none (view p) (view q) w.ahead
@@ -73,13 +76,13 @@ module _ {S : Type 0} where
 
 module _ {S : Type 0} (shape : S → Shape) (gives : S → ℕ → Type 0) (b : RowBoard S) where
   pub waited_fresh : (p q : RowPass S) → IsPassOf shape gives b q → HasWaited p q → IsFresh shape (view p) (slots p) → IsFresh shape (view q) (slots q)
-  waited_fresh p q is w fresh = ahead_fresh shape gives b p q is w.is w.ahead w.same fresh
+  waited_fresh p q is w fresh = ahead_fresh shape gives b p q is (waited_goes p q w) w.ahead w.same fresh
 
   pub waited_settled : (p q : RowPass S) (e : Event) → IsPassOf shape gives b q → HasWaited p q → IsSettled shape (view p) e (slots p) → IsSettled shape (view q) e (slots q)
-  waited_settled p q e is w settled = settled_ahead shape gives b p q e is w.is w.ahead w.same settled
+  waited_settled p q e is w settled = settled_ahead shape gives b p q e is (waited_goes p q w) w.ahead w.same settled
 
   pub waited_gives : (p q : RowPass S) (e : Event) → IsPassOf shape gives b p → IsPassOf shape gives b q → HasWaited p q → GivesBack shape (view p).terms (view p).seen e (slots p) → GivesBack shape (view q).terms (view q).seen e (slots q)
-  waited_gives p q e was is w back = gives_ahead shape gives b p q e was is w.is w.ahead w.same back
+  waited_gives p q e was is w back = gives_ahead shape gives b p q e was is (waited_goes p q w) w.ahead w.same back
 
   -- ## The last put
 
@@ -131,19 +134,19 @@ module _ {S : Type 0} (shape : S → Shape) (gives : S → ℕ → Type 0) (b : 
   outcome_only e p q Full x = put_only e p q PutFull x
   outcome_only e p q Stopped x = none_only e (view p) (view q) (waited_none p q x)
 
-  pub put_fresh : (e : Event) (p q : RowPass S) (said : Put) → IsPassOf shape gives b q → worker_of e ≡ (view p).worker → length (view p).terms.plan.blocks ≤ length (view p).terms.cells
+  pub put_fresh : (e : Event) (p q : RowPass S) (said : Put) → IsPassOf shape gives b q → worker_of e ≡ (view p).worker
       → WasPut shape gives b e p q said → IsFresh shape (view p) (slots p) → IsFresh shape (view q) (slots q)
-  put_fresh e p q said is mine cells x fresh =
+  put_fresh e p q said is mine x fresh =
       says_fresh shape gives b x.last q e said is (mine ∙ sym (waited_worker p x.last x.waited))
-      (subst (λ (t : Terms S). length t.plan.blocks ≤ length t.cells) (sym (waited_terms p x.last x.waited)) cells) x.says x.slots_say
+      x.says x.slots_say
       (waited_fresh p x.last x.of x.waited fresh)
 
-  pub outcome_fresh : (e : Event) (p q : RowPass S) (o : Through) → IsPassOf shape gives b q → worker_of e ≡ (view p).worker → length (view p).terms.plan.blocks ≤ length (view p).terms.cells
+  pub outcome_fresh : (e : Event) (p q : RowPass S) (o : Through) → IsPassOf shape gives b q → worker_of e ≡ (view p).worker
       → SaysThrough shape gives b e p q o → IsFresh shape (view p) (slots p) → IsFresh shape (view q) (slots q)
-  outcome_fresh e p q Placed is mine cells x fresh = put_fresh e p q (PutPlaced x.0) is mine cells x.1 fresh
-  outcome_fresh e p q Barred is mine cells x fresh = put_fresh e p q (PutBarred x.0 x.1.0) is mine cells x.1.1 fresh
-  outcome_fresh e p q Full is mine cells x fresh = put_fresh e p q PutFull is mine cells x fresh
-  outcome_fresh e p q Stopped is mine cells x fresh = waited_fresh p q is x fresh
+  outcome_fresh e p q Placed is mine x fresh = put_fresh e p q (PutPlaced x.0) is mine x.1 fresh
+  outcome_fresh e p q Barred is mine x fresh = put_fresh e p q (PutBarred x.0 x.1.0) is mine x.1.1 fresh
+  outcome_fresh e p q Full is mine x fresh = put_fresh e p q PutFull is mine x fresh
+  outcome_fresh e p q Stopped is mine x fresh = waited_fresh p q is x fresh
 
   -- ## What it has placed
 
@@ -185,6 +188,18 @@ module _ {S : Type 0} (shape : S → Shape) (gives : S → ℕ → Type 0) (b : 
 
   pub full_length : (e : Event) (p q : RowPass S) → SaysThrough shape gives b e p q Full → length (view q).seen ≡ (view q).terms.limits.most
   full_length e p q x = x.says.2 ∙ sym (ap (λ (y : View S). y.terms.limits.most) x.says.0)
+
+  -- ## What worker 0 has handed in
+
+  pub placed_hands : (e : Event) (p q : RowPass S) → SaysThrough shape gives b e p q Placed → HandsOn (accepted e) (view p).handed (view q).handed
+  placed_hands e p q x =
+      subst (λ (n : Handed S). HandsOn (accepted e) n (view q).handed) (ap (λ (y : View S). y.handed) x.1.waited.is) x.1.says.handed
+
+  pub barred_hands : (e : Event) (p q : RowPass S) → SaysThrough shape gives b e p q Barred → (view q).handed ≡ (view p).handed
+  barred_hands e p q x = let put = x.1.1 in ap (λ (y : View S). y.handed) put.says.0.is ∙ ap (λ (y : View S). y.handed) put.waited.is
+
+  pub full_hands : (e : Event) (p q : RowPass S) → SaysThrough shape gives b e p q Full → ((view q).handed ≡ (view p).handed) × (length (view q).seen ≡ (view p).terms.limits.most)
+  full_hands e p q x = (ap (λ (y : View S). y.handed) x.says.0 ∙ ap (λ (y : View S). y.handed) x.waited.is, x.says.2 ∙ ap (λ (y : View S). y.terms.limits.most) x.waited.is)
 
   -- ## An end
 

@@ -1,16 +1,21 @@
 -- What calls add to the row.
-use Rattle.std.proofs.Common.{◌≡◌, ℕ, Bool, true, false, not, ◌||◌, cond, List, [], ◌∷◌, ◌++◌, filter, Some, sym, refl, ap, ◌∙◌, subst, append-nil, append_assoc, ◌⊎◌, inl, inr}
+use Rattle.std.proofs.Common.{◌≡◌, ℕ, Bool, true, false, not, ◌||◌, cond, List, [], ◌∷◌, ◌++◌, filter, Option, Some, None, sym, refl, ap, ◌∙◌, subst, append-nil, append_assoc, ◌⊎◌, inl, inr}
 use Rattle.std.specs.List.{list_all}
 use Rattle.std.proofs.lemmas.Bool.{and_from}
+use Rattle.gcd_plan.specs.declared.numbers.Blk.{Blk}
 use Rattle.gcd_plan.specs.declared.numbers.Run.{Run}
 use Rattle.gcd_event.specs.declared.event.Event.{Event}
 use Rattle.gcd_event.specs.declared.event.Event.TheVariants.{End, DeliverEnd}
 use Rattle.gcd_history.specs.Choice.{is_work}
+use Rattle.gcd_history.specs.Intake.{accepted}
+use Rattle.gcd_loop.proofs.Events.{work_accepts_none}
 use Rattle.gcd_team.specs.Held.{is_of}
 use Rattle.gcd_team.specs.Team.{of_worker, StartsWith}
 use Rattle.gcd_team.proofs.Own.{none_of_worker}
 use Rattle.gcd_row.specs.Views.{seeing}
 use Rattle.gcd_row.specs.Passes.{Ahead, Looks, Says}
+use Rattle.gcd_row.specs.Plays.{HandsOn}
+use Rattle.gcd_row.specs.declared.view.Handed.{Handed}
 use Rattle.gcd_row.specs.declared.put.Put.{Put}
 use Rattle.gcd_row.specs.declared.put.Put.TheVariants.{Placed, Barred, Held, Full}
 use Rattle.gcd_row.specs.declared.view.View.{View}
@@ -36,6 +41,11 @@ none_own w (e ∷ rest) none =
       | false ↦ λ h. none_own w rest h
     ] none
 
+-- with an event that accepts none nothing is handed in
+pub none_handed_in : {S : Type 0} → (o : Option Blk) (n m : Handed S) → o ≡ None → HandsOn o n m → m ≡ n
+none_handed_in None n m none on = on
+none_handed_in (Some b) n m none on = cc
+
 module _ {S : Type 0} where
   pub adds_nothing : (v w : View S) → w ≡ v → AddsWork v w
   adds_nothing v w same = record {
@@ -43,6 +53,7 @@ module _ {S : Type 0} where
     rest = [];
     split = ap (λ (x : View S). x.seen) same ∙ sym (append-nil v.seen);
     work = refl;
+    handed = ap (λ (x : View S). x.handed) same;
   }
 
   pub adds_further : (v u w : View S) → AddsWork v u → AddsWork u w → AddsWork v w
@@ -51,32 +62,35 @@ module _ {S : Type 0} where
     rest = a.rest ++ b.rest;
     split = b.split ∙ ap (λ (l : List Event). l ++ b.rest) a.split ∙ append_assoc v.seen a.rest b.rest;
     work = all_further (is_own_work v.worker) a.rest b.rest a.work (subst (λ (n : ℕ). list_all (is_own_work n) b.rest ≡ true) a.worker b.work);
+    handed = b.handed ∙ a.handed;
   }
 
-  pub ahead_adds : (v w : View S) → w.worker ≡ v.worker → Ahead v w.seen → AddsWork v w
-  ahead_adds v w same a = record {
+  pub ahead_adds : (v w : View S) → w.worker ≡ v.worker → w.handed ≡ v.handed → Ahead v w.seen → AddsWork v w
+  ahead_adds v w same handed a = record {
     worker = same;
     rest = a.more.0;
     split = a.more.1;
     work = none_own v.worker a.more.0 (none_of_worker v.worker v.seen a.more.0 (sym (ap (of_worker v.worker) a.more.1) ∙ a.own));
+    handed = handed;
   }
 
   pub looks_adds : (v w : View S) → Looks v w → AddsWork v w
-  looks_adds v w l = ahead_adds v w (ap (λ (x : View S). x.worker) l.is) l.ahead
+  looks_adds v w l = ahead_adds v w (ap (λ (x : View S). x.worker) l.is) (ap (λ (x : View S). x.handed) l.is) l.ahead
 
   pub says_adds : (e : Event) (v w : View S) (r : Put) → is_work e ≡ true → Says e v w r → AddsWork v w
   says_adds e v w (Placed n) work p =
-      let before = ahead_adds v (seeing v p.history) refl p.ahead in
+      let before = ahead_adds v (seeing v p.history) refl refl p.ahead in
       record {
         worker = ap (λ (x : View S). x.worker) p.is;
         rest = before.rest ++ e ∷ [];
         split = ap (λ (x : View S). x.seen) p.is ∙ ap (λ (l : List Event). l ++ e ∷ []) before.split ∙ append_assoc v.seen before.rest (e ∷ []);
         work = all_further (is_own_work v.worker) before.rest (e ∷ []) before.work
             (and_from (not (is_of v.worker e) || is_work e) true (ap (λ (b : Bool). not (is_of v.worker e) || b) work ∙ or_right (not (is_of v.worker e))) refl);
+        handed = none_handed_in (accepted e) v.handed w.handed (work_accepts_none e work) p.handed;
       }
   says_adds e v w (Barred at y) work p = looks_adds v w p.0
   says_adds e v w (Held by passed) work p = looks_adds v w p.0.looks
-  says_adds e v w Full work p = ahead_adds v w (ap (λ (x : View S). x.worker) p.0) p.1
+  says_adds e v w Full work p = ahead_adds v w (ap (λ (x : View S). x.worker) p.0) (ap (λ (x : View S). x.handed) p.0) p.1
 
 pub ended_is_work : (e : Event) (r : Run) → ended e ≡ Some r → is_work e ≡ true
 ended_is_work (End w b) r is = refl

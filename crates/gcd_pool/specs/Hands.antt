@@ -10,7 +10,7 @@ use Rattle.gcd_history.specs.Ends.{HasEnded}
 use Rattle.gcd_team.specs.Team.{StartsWith, held_by}
 use Rattle.gcd_row.specs.Shapes.{Shape, body, handler}
 use Rattle.gcd_row.specs.Lying.{slot_of, IsUntaken, IsReadyFor}
-use Rattle.gcd_row.specs.Views.{held_run, knowing}
+use Rattle.gcd_row.specs.Views.{held_run, knowing, noting}
 use Rattle.gcd_row.specs.Passes.{IsGathered, IsPassOf, slots, terms_of, view}
 use Rattle.gcd_row.specs.declared.view.View.{View}
 use Rattle.gcd_steal.specs.Racks.{IsBenchOf, number_of, plan_of}
@@ -60,9 +60,10 @@ pub record IsSamePool {S : Type 0} (p q : Pool S) : Type 0 where
   pub rack : q.rack.now ≡ p.rack.now
   pub plan : q.plan.now ≡ p.plan.now
 
--- what calls leave of what a pass knows: it has seen no less, may know other passed words, its own among them, and the rest is as it was
+-- what calls leave of what a pass knows: it has seen no less, may know other passed words, its own among them, and may have noted what it
+-- found in a slot and what it has handed in; the rest is as it was
 pub record GoesOn {S : Type 0} (v w : View S) : Type 0 where
-  pub is : w ≡ knowing v w.seen w.marks
+  pub is : w ≡ noting (knowing v w.seen w.marks) w.first w.handed
   pub more : StartsWith w.seen v.seen
 
 -- the journal of worker 0 is what its pass has seen up to its passed word

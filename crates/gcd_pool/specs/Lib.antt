@@ -1,3 +1,4 @@
+pub mod Admitted
 pub mod Duties
 pub mod Each
 pub mod Hands

@@ -17,12 +17,13 @@ use Rattle.gcd_pool.specs.declared.turn.Turn.{Turn}
 abbrev pub is_own_work : ℕ → Event → Bool
 is_own_work w e = not (is_of w e) || is_work e
 
--- the pass has seen no less, and what it added of its own are events of a worker
+-- the pass has seen no less, what it added of its own are events of a worker, and it has handed in nothing
 pub record AddsWork {S : Type 0} (v w : View S) : Type 0 where
   pub worker : w.worker ≡ v.worker
   pub rest : List Event
   pub split : w.seen ≡ v.seen ++ rest
   pub work : list_all (is_own_work v.worker) rest ≡ true
+  pub handed : w.handed ≡ v.handed
 
 -- where each event that is seen is the worker's own, nothing has come
 pub record AddsNone {S : Type 0} (v w : View S) : Type 0 where

@@ -1,15 +1,16 @@
-// Worker 0 of a pool, which alone has poller and clock.
-ghost use Rattle.std.specs.Prelude.{◌≡◌, true, false, ℕ, List, None, IfOk, OnOk};
+// What worker 0 of a pool does with its hand.
+ghost use Rattle.std.specs.Prelude.{◌≡◌, true, false, ℕ, List, None, Some, IfOk, OnOk};
 ghost use Rattle.gcd_event.specs.declared.event.Event.{Event};
 ghost use Rattle.gcd_history.specs.Choice.{is_work, worker_of};
 ghost use Rattle.gcd_history.specs.Ends.{HasEnded};
-ghost use Rattle.gcd_history.specs.History.{why};
-ghost use Rattle.gcd_loop.specs.Recorded.{After, Says};
+ghost use Rattle.gcd_history.specs.History.{choice_of, why};
+ghost use Rattle.gcd_loop.specs.Recorded.{After, Grows, IsGrown, Says};
 ghost use Rattle.gcd_row.specs.Passes.{slots, view};
 ghost use Rattle.gcd_row.specs.Views.{knowing};
 ghost use Rattle.gcd_row.specs.declared.view.View.{View};
 ghost use Rattle.gcd_pool.specs.Hands.{IsFresh, IsHandOf, IsReady, Serving};
-ghost use Rattle.gcd_pool.specs.Leads.{Led};
+ghost use Rattle.gcd_pool.specs.Admitted.{HandedOn};
+ghost use Rattle.gcd_pool.specs.Leads.{IsHead, Leads};
 ghost use Rattle.gcd_pool.specs.Turns.{AfterTurn};
 ghost use Rattle.gcd_pool.specs.Works.{AddsOnly, AddsWork};
 
@@ -20,13 +21,9 @@ use crate::idle::Idle;
 use crate::own::record_own;
 use crate::putting::{Through, pass_many, pass_seen, put_through};
 use crate::run_cells::RunCells;
-use crate::serve::serve_to_the_end;
-use crate::team::Leader;
 use crate::turn::Turn;
 use gcd_event::Event;
-use gcd_loop::{Backoff, Recorder, Step, run_turns};
-use gcd_machine::Machine;
-use gcd_outer::{Clock, Poller};
+use gcd_loop::{Backoff, Step};
 use gcd_plan::Plan;
 use gcd_row::Slot;
 use std::alloc::AllocError;
@@ -48,6 +45,7 @@ fn put_outside<S: Slot, R: Wait>(
     ensures fresh { OnOk result (IsFresh S.shape (view hand.new.pass) (slots hand.new.pass)) }
     ensures only { AddsOnly e (view hand.old.pass) (view hand.new.pass) }
     ensures said { IfOk result (Says (view hand.old.pass).terms.limits.most (view hand.old.pass).terms.plan e (view hand.old.pass).seen (view hand.new.pass).seen) }
+    ensures handed { IfOk result (HandedOn e (view hand.old.pass) (view hand.new.pass)) }
 {
     match put_through(rt, pool, hand, e) {
         Through::Placed => Ok(gcd_loop::Put::Placed),
@@ -109,88 +107,88 @@ fn lead_any<S: RunCells, R: Wait>(rt: &R, pool: &Pool<S>, hand: &mut Hand<S>, e:
     }
 }
 
-impl<'a, S: RunCells> Recorder<Pool<'a, S>> for Hand<S> {
-    type Fault = AllocError;
+// Sees what the other workers have recorded.
+#[inline(always)]
+pub(crate) fn look_on<S: Slot>(pool: &Pool<S>, hand: &mut Hand<S>, _plan: &Plan, _most: u32)
+    requires head { IsHead S.shape S.gives _most _plan.now pool.now hand.old }
+    ensures head { IsHead S.shape S.gives _most _plan.now pool.now hand.new }
+    ensures grows { Grows (view hand.old.pass).seen (view hand.new.pass).seen }
+    ensures handed { (view hand.new.pass).handed ≡ (view hand.old.pass).handed }
+    ensures kept { (a : Hand S) → Leads S.shape S.gives _plan.now pool.now a hand.old → Leads S.shape S.gives _plan.now pool.now a hand.new }
+{
+    pool.board.look(&mut hand.pass);
+}
 
-    ghost use Rattle.gcd_row.specs.Passes.{machine_of, view};
-    ghost use Rattle.gcd_pool.specs.Hands.{IsHandOf};
-    ghost use Rattle.gcd_pool.specs.Leads.{IsHead, Leads, head_left, head_sight};
-
-    ghost seen = { λ hand. (view hand.pass).seen };
-
-    ghost sight = { λ hand. machine_of hand.pass };
-
-    ghost ready = { λ most plan pool hand. IsHead S.shape S.gives most plan pool hand };
-
-    ghost kept = { λ most plan pool a b. Leads S.shape S.gives plan pool a b };
-
-    ghost left = { λ most plan pool hand. IsHandOf S.shape S.gives pool hand };
-
-    // It stops no turn.
-    ghost stopped = { λ most plan pool hand. ⊥ };
-
-    ghost stands = { λ most plan pool hand is. head_sight S.shape S.gives most plan pool hand is };
-
-    ghost leaves = { λ most plan pool hand is. head_left S.shape S.gives most plan pool hand is };
-
-    #[inline(always)]
-    fn machine(&self) -> &Machine
-        ensures { result.now ≡ machine_of self.now.pass }
-    {
-        self.pass.machine()
+// Puts an event that is no worker's.
+#[inline(always)]
+pub(crate) fn put_on<S: Slot, R: Wait>(
+    rt: &R,
+    pool: &Pool<S>,
+    hand: &mut Hand<S>,
+    _plan: &Plan,
+    _most: u32,
+    e: Event,
+) -> Result<gcd_loop::Put, AllocError>
+    requires head { IsHead S.shape S.gives _most _plan.now pool.now hand.old }
+    requires by { worker_of e ≡ 0 }
+    requires no_work { is_work e ≡ false }
+    ensures head { OnOk result (IsHead S.shape S.gives _most _plan.now pool.now hand.new) }
+    ensures said { IfOk result (Says _most _plan.now e (view hand.old.pass).seen (view hand.new.pass).seen) }
+    ensures handed { IfOk result (HandedOn e (view hand.old.pass) (view hand.new.pass)) }
+    ensures kept { (a : Hand S) → Leads S.shape S.gives _plan.now pool.now a hand.old → Leads S.shape S.gives _plan.now pool.now a hand.new }
+{
+    if !pass_many(pool, hand) {
+        return Err(AllocError);
     }
+    put_outside(rt, pool, hand, e)
+}
 
-    #[inline(always)]
-    fn look(&mut self, _plan: &Plan, _most: u32, shared: &Pool<'a, S>) {
-        shared.board.look(&mut self.pass);
+// Records what worker 0's machine chose, or begins that run.
+#[inline(always)]
+pub(crate) fn work_on<S: RunCells, R: Wait>(
+    rt: &R,
+    pool: &Pool<S>,
+    hand: &mut Hand<S>,
+    _plan: &Plan,
+    _most: u32,
+    e: Event,
+) -> Result<Step, AllocError>
+    requires head { IsHead S.shape S.gives _most _plan.now pool.now hand.old }
+    requires chosen { choice_of _plan.now (view hand.old.pass).seen 0 0 ≡ Some e }
+    ensures after { IfOk result (After (IsHead S.shape S.gives _most _plan.now pool.now hand.new) ⊥
+        (HasEnded _most _plan.now (view hand.new.pass).seen × IsHandOf S.shape S.gives pool.now hand.new)) }
+    ensures grown { OnOk result (IsGrown _most _plan.now (view hand.old.pass).seen (view hand.new.pass).seen) }
+    ensures handed { (view hand.new.pass).handed ≡ (view hand.old.pass).handed }
+    ensures kept { (a : Hand S) → Leads S.shape S.gives _plan.now pool.now a hand.old → Leads S.shape S.gives _plan.now pool.now a hand.new }
+{
+    if !pass_many(pool, hand) {
+        return Err(AllocError);
     }
+    step_of::<S>(lead_any(rt, pool, hand, e))
+}
 
-    #[inline(always)]
-    fn put<R: Wait>(
-        &mut self,
-        rt: &R,
-        _plan: &Plan,
-        _most: u32,
-        shared: &Pool<'a, S>,
-        e: Event,
-    ) -> Result<gcd_loop::Put, AllocError> {
-        if !pass_many(shared, self) {
-            return Err(AllocError);
-        }
-        put_outside(rt, shared, self, e)
+// Worker 0 has no choice. An `Err` where the team was stopped.
+#[inline(always)]
+pub(crate) fn rest_on<S: Slot>(
+    pool: &Pool<S>,
+    hand: &mut Hand<S>,
+    _plan: &Plan,
+    _most: u32,
+) -> Result<Step, AllocError>
+    requires head { IsHead S.shape S.gives _most _plan.now pool.now hand.old }
+    ensures head { IsHead S.shape S.gives _most _plan.now pool.now hand.new }
+    ensures waited { IfOk result (λ step. step ≡ Step.Waited) }
+    ensures same { (view hand.new.pass).seen ≡ (view hand.old.pass).seen }
+    ensures handed { (view hand.new.pass).handed ≡ (view hand.old.pass).handed }
+    ensures kept { (a : Hand S) → Leads S.shape S.gives _plan.now pool.now a hand.old → Leads S.shape S.gives _plan.now pool.now a hand.new }
+{
+    if pool.is_stopped() {
+        return Err(AllocError);
     }
-
-    #[inline(always)]
-    fn work<R: Wait>(
-        &mut self,
-        rt: &R,
-        _plan: &Plan,
-        _most: u32,
-        shared: &Pool<'a, S>,
-        e: Event,
-    ) -> Result<Step, AllocError> {
-        if !pass_many(shared, self) {
-            return Err(AllocError);
-        }
-        step_of::<S>(lead_any(rt, shared, self, e))
+    if !pass_many(pool, hand) {
+        return Err(AllocError);
     }
-
-    #[inline(always)]
-    fn rest<R: Wait>(
-        &mut self,
-        _rt: &R,
-        _plan: &Plan,
-        _most: u32,
-        shared: &Pool<'a, S>,
-    ) -> Result<Step, AllocError> {
-        if shared.is_stopped() {
-            return Err(AllocError);
-        }
-        if !pass_many(shared, self) {
-            return Err(AllocError);
-        }
-        Ok(Step::Waited)
-    }
+    Ok(Step::Waited)
 }
 
 impl Backoff for Idle {
@@ -206,7 +204,7 @@ impl Backoff for Idle {
 }
 
 // Worker 0 gathers all that it has seen. False where memory was refused to its journal: nobody waits for it any more then.
-fn gather_all<S: Slot>(pool: &Pool<S>, hand: &mut Hand<S>) -> bool
+pub(crate) fn gather_all<S: Slot>(pool: &Pool<S>, hand: &mut Hand<S>) -> bool
     requires of { IsHandOf S.shape S.gives pool.now hand.old }
     requires head { (view hand.old.pass).worker ≡ 0 }
     ensures serving { Serving S.shape S.gives pool.now hand.old hand.new }
@@ -218,52 +216,4 @@ fn gather_all<S: Slot>(pool: &Pool<S>, hand: &mut Hand<S>) -> bool
     }
     pool.stop();
     false
-}
-
-// Worker 0 leads, from its first turn to the end. False where memory was refused to its journal, or the team was stopped.
-fn lead_to_the_end<S: RunCells, P: Poller, C: Clock, R: Wait>(
-    rt: &R,
-    pool: &Pool<S>,
-    hand: &mut Hand<S>,
-    poller: &mut P,
-    clock: &mut C,
-) -> bool
-    requires ready { IsReady S.shape S.gives pool.now hand.old }
-    requires head { (view hand.old.pass).worker ≡ 0 }
-    ensures served { Serving S.shape S.gives pool.now hand.old hand.new }
-    ensures led { Led P.tells C.tells P.state C.state (pool.now.alone ≡ true) (result ≡ true) (hand.old, poller.old, clock.old) (hand.new, poller.new, clock.new) }
-{
-    pool.begin_serving(0);
-    let mut idle = Idle::new();
-    let most = pool.board.most();
-    match run_turns(rt, pool.plan, most, pool, hand, &mut idle, poller, clock) {
-        Ok(()) => gather_all(pool, hand),
-        Err(_) => {
-            pool.stop();
-            false
-        }
-    }
-}
-
-/// Worker 0 of a pool. With the hand of another worker it serves as that helper.
-pub struct Worker0;
-
-impl<'a, S: RunCells, P: Poller, C: Clock> Leader<Hand<S>, Pool<'a, S>, P, C> for Worker0 {
-    ghost use Rattle.gcd_pool.specs.Leads.{Led};
-
-    ghost led = { λ pool old new done. Led P.tells C.tells P.state C.state (pool.alone ≡ true) (done ≡ true) old new };
-
-    fn lead<R: Wait>(
-        rt: &R,
-        shared: &Pool<'a, S>,
-        poller: &mut P,
-        clock: &mut C,
-        hand: &mut Hand<S>,
-    ) -> bool {
-        if hand.pass.worker() == 0 {
-            lead_to_the_end(rt, shared, hand, poller, clock)
-        } else {
-            serve_to_the_end(rt, shared, hand)
-        }
-    }
 }

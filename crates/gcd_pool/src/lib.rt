@@ -14,11 +14,26 @@
 //!
 //! A helper that has no run begins none, and waits, while others' runs begin and end within about a microsecond.
 //!
-//! Worker 0 ([`Worker0`]) looks, asks its outlook (`gcd_turn`), and puts what was told, a Shut, a Tick, an Expire or a Halt; or else it does what its
+//! Worker 0 ([`Worker0`]) looks, asks its outlook (`gcd_turn`), and puts what was told, an Accept, a Shut, a Tick, an Expire or a Halt; or else it does what its
 //! machine chooses, as a helper does, and polls or waits only where that is nothing. Where it is the team's only hand it needs no Drain and
 //! pushes none: it records at once what its machine chose, whatever the number of the rack's benches.
 //!
 //! No worker holds a Drain from one turn to the next, so one that leaves, or whose run is parked, keeps none from the others.
+//!
+//! # Jobs of outside callers
+//!
+//! Threads that are no workers send jobs through a front (`gcd_front`), and worker 0 alone has its intake. While the plan's intake is open
+//! and nothing is told, worker 0 sees to it before it chooses anything:
+//!
+//! | where | what worker 0 does |
+//! |---|---|
+//! | each block of the intake is accepted | it puts a Shut |
+//! | a job lies in the front | it takes it, lays it into the slot of the intake's next block ([`AdmitCells::lay`]), and puts that block's Accept, with the sender's number |
+//! | all mouths were shut, and a later take gave none | it puts a Shut |
+//! | else | nothing: its turn goes on, and it polls without waiting |
+//!
+//! So a job is dropped only where the run is halted or full as its Accept is put. A sender's jobs are accepted in their order, each once. A
+//! run without outside callers has a front without senders, whose mouths are all shut at once.
 //!
 //! # Writing over what was seen
 //!
@@ -46,8 +61,10 @@
 //! | [`record_own`] | it answers `Placed` or `Ended` where this event is the one that is new; `Left` where the run has ended, `Waited` where the event is not permitted any more, and `Stopped` where the team was stopped, and none is new (`SaysRecorded`) |
 //! | [`Shared::serve`] of a [`Pool`] | the hand is still one of the pool, of the same worker and bench, and has seen no less (`Serving` of `specs/Hands`) |
 //! | [`Leader::lead`] of [`Worker0`] | the same; and where it answers true the hand has seen that the run has ended, all that it has seen is in its journal, and where its poller watches feeds of active sources alone, what poller and clock said stands in what it has seen since, whatever stood in the row before (`Led` of `specs/Leads`, by `IsRunOn` of `gcd_loop`) |
+//! | | of each sender the jobs that were taken begin with those of the blocks that were accepted of it, in order, each of which gives only what its job may; they are all of them where the run is neither halted nor full, and where a Shut stands; no sender has another number than the front's; and a Shut stands only where each block of the intake is accepted, or all mouths were shut and all that was sent was taken (`Admitted` of `specs/Admitted`, in `LedWithFront`) |
+//! | [`AdmitCells::lay`] | the slot of the intake's next block has what gives only what the job that was sent may, and nothing else has changed |
 //! | [`run_in_threads`] | helpers serve in threads while worker 0 leads; what each did, place by place, and what worker 0 answers |
-//! | [`pool_run`] | worker 0 has led, and an `Ok` says how the run has ended that it has seen, and that each hand has seen the run to end (`Served`), with the whole run in worker 0's journal; the hands come back either way, still of the pool; a team of one runs with no thread, and where each event of the row is worker 0's that hand follows its choice (`Follows`) |
+//! | [`pool_run`] | worker 0 has led, and an `Ok` says how the run has ended that it has seen, and that each hand has seen the run to end (`Served`), with the whole run in worker 0's journal, and of the jobs of outside callers what `LedWithFront` says; the hands come back either way, still of the pool; a team of one runs with no thread, and where each event of the row is worker 0's that hand follows its choice (`Follows`) |
 //!
 //! Worker 0's journal alone takes memory.
 //!
@@ -59,10 +76,12 @@
 //! Drain that they find down is a clause (`LaysDown` of `specs/Turns`); no clause follows a Drain from there.
 #![tactic(auto)]
 
+mod admit_cells;
 mod drains;
 mod duty;
 mod finding;
 mod hand;
+mod head;
 mod idle;
 mod lead;
 mod own;
@@ -73,11 +92,12 @@ mod serve;
 mod team;
 mod turn;
 
+pub use admit_cells::AdmitCells;
 pub use drains::{begin, begin_near};
 pub use duty::{Duty, Exit, duty_of};
 pub use hand::{Hand, Pool};
+pub use head::Worker0;
 pub use idle::Idle;
-pub use lead::Worker0;
 pub use own::record_own;
 pub use run::pool_run;
 pub use run_cells::RunCells;

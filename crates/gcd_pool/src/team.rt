@@ -21,16 +21,28 @@ pub trait Shared<T> {
         ensures { Self.served self.now hand.old hand.new };
 }
 
-/// What worker 0 does with what workers share, its poller and its clock.
-pub trait Leader<T, D: Shared<T>, P: Poller, C: Clock> {
-    // what leading comes to: the hand, the poller and the clock before and after, and whether it is done
-    ghost led: { D → T × P × C → T × P × C → Bool → Type 0 };
+/// What worker 0 does with what workers share, its front and intake, its poller and its clock.
+pub trait Leader<T, D: Shared<T>, F, A, P: Poller, C: Clock> {
+    // what it asks of what it has beside its hand: of front and intake
+    ghost asks: { D → F → T → A → Type 0 };
+
+    // what leading comes to: the hand, the intake, the poller and the clock before and after, and whether it is done
+    ghost led: { D → F → T × A × P × C → T × A × P × C → Bool → Type 0 };
 
     /// What worker 0 does, to the end. False where it could not go on: memory was refused to it, or the team was stopped.
-    fn lead<R: Wait>(rt: &R, shared: &D, poller: &mut P, clock: &mut C, hand: &mut T) -> bool
-        requires { D.ready shared.now hand.old }
+    fn lead<R: Wait>(
+        rt: &R,
+        shared: &D,
+        front: &F,
+        intake: &mut A,
+        poller: &mut P,
+        clock: &mut C,
+        hand: &mut T,
+    ) -> bool
+        requires ready { D.ready shared.now hand.old }
+        requires asks { asks shared.now front.now hand.old intake.old }
         ensures served { D.served shared.now hand.old hand.new }
-        ensures led { Self.led shared.now (hand.old, poller.old, clock.old) (hand.new, poller.new, clock.new) result };
+        ensures led { led shared.now front.now (hand.old, intake.old, poller.old, clock.old) (hand.new, intake.new, poller.new, clock.new) result };
 }
 
 /// Each helper serves in a thread of its own, until all have served.
@@ -50,34 +62,48 @@ pub fn serve_all<T: Send, D: Shared<T> + Sync, R: Threads + Wait + Sync>(
 }
 
 // Worker 0 in this thread. What it answers.
-fn lead_first<T, D: Shared<T>, L: Leader<T, D, P, C>, P: Poller, C: Clock, R: Wait>(
+fn lead_first<T, D: Shared<T>, L: Leader<T, D, F, A, P, C>, F, A, P: Poller, C: Clock, R: Wait>(
     rt: &R,
     shared: &D,
+    front: &F,
+    intake: &mut A,
     poller: &mut P,
     clock: &mut C,
     hands: &mut [T],
 ) -> bool
     requires one { length hands.old ≡ 1 }
     requires hand { All (D.ready shared.now) hands.old }
+    requires asks { (d : T) → L.asks shared.now front.now (slice_index_or hands.old 0 d) intake.old }
     ensures hand { Each (D.served shared.now) hands.old hands.new }
-    ensures led { (d : T) → L.led shared.now (slice_index_or hands.old 0 d, poller.old, clock.old) (slice_index_or hands.new 0 d, poller.new, clock.new) result }
+    ensures led { (d : T) → L.led shared.now front.now (slice_index_or hands.old 0 d, intake.old, poller.old, clock.old) (slice_index_or hands.new 0 d, intake.new, poller.new, clock.new) result }
 {
-    L::lead(rt, shared, poller, clock, &mut hands[0])
+    L::lead(rt, shared, front, intake, poller, clock, &mut hands[0])
 }
 
 /// Helpers serve in threads while worker 0, the first hand, leads. What worker 0 answers.
 pub fn run_in_threads<
     T: Send,
     D: Shared<T> + Sync,
-    L: Leader<T, D, P, C>,
+    L: Leader<T, D, F, A, P, C>,
+    F,
+    A,
     P: Poller,
     C: Clock,
     R: Threads + Wait + Sync,
->(rt: &R, shared: &D, hands: &mut [T], poller: &mut P, clock: &mut C) -> bool
+>(
+    rt: &R,
+    shared: &D,
+    hands: &mut [T],
+    front: &F,
+    intake: &mut A,
+    poller: &mut P,
+    clock: &mut C,
+) -> bool
     requires some { 0 < length hands.old }
     requires hands { All (D.ready shared.now) hands.old }
+    requires asks { (d : T) → L.asks shared.now front.now (slice_index_or hands.old 0 d) intake.old }
     ensures hands { Each (D.served shared.now) hands.old hands.new }
-    ensures led { (d : T) → L.led shared.now (slice_index_or hands.old 0 d, poller.old, clock.old) (slice_index_or hands.new 0 d, poller.new, clock.new) result }
+    ensures led { (d : T) → L.led shared.now front.now (slice_index_or hands.old 0 d, intake.old, poller.old, clock.old) (slice_index_or hands.new 0 d, intake.new, poller.new, clock.new) result }
 {
     let (first, rest) = hands.split_at_mut(1);
     let both = join_mut(
@@ -87,9 +113,9 @@ pub fn run_in_threads<
             ensures { Each (D.served shared.entry.now) rest.entry.now rest.exit.now }
         { serve_all(rt, shared, rest) },
         &mut || -> bool
-            requires { (length first.now ≡ 1) × All (D.ready shared.now) first.now }
-            ensures { Each (D.served shared.entry.now) first.entry.now first.exit.now × ((d : T) → L.led shared.entry.now (slice_index_or first.entry.now 0 d, poller.entry.now, clock.entry.now) (slice_index_or first.exit.now 0 d, poller.exit.now, clock.exit.now) result) }
-        { lead_first::<T, D, L, P, C, R>(rt, shared, poller, clock, first) },
+            requires { (length first.now ≡ 1) × All (D.ready shared.now) first.now × ((d : T) → L.asks shared.now front.now (slice_index_or first.now 0 d) intake.now) }
+            ensures { Each (D.served shared.entry.now) first.entry.now first.exit.now × ((d : T) → L.led shared.entry.now front.entry.now (slice_index_or first.entry.now 0 d, intake.entry.now, poller.entry.now, clock.entry.now) (slice_index_or first.exit.now 0 d, intake.exit.now, poller.exit.now, clock.exit.now) result) }
+        { lead_first::<T, D, L, F, A, P, C, R>(rt, shared, front, intake, poller, clock, first) },
     );
     both.1
 }
@@ -98,19 +124,30 @@ pub fn run_in_threads<
 pub fn run_hands<
     T: Send,
     D: Shared<T> + Sync,
-    L: Leader<T, D, P, C>,
+    L: Leader<T, D, F, A, P, C>,
+    F,
+    A,
     P: Poller,
     C: Clock,
     R: Threads + Wait + Sync,
->(rt: &R, shared: &D, hands: &mut [T], poller: &mut P, clock: &mut C) -> bool
+>(
+    rt: &R,
+    shared: &D,
+    hands: &mut [T],
+    front: &F,
+    intake: &mut A,
+    poller: &mut P,
+    clock: &mut C,
+) -> bool
     requires some { 0 < length hands.old }
     requires hands { All (D.ready shared.now) hands.old }
+    requires asks { (d : T) → L.asks shared.now front.now (slice_index_or hands.old 0 d) intake.old }
     ensures hands { Each (D.served shared.now) hands.old hands.new }
-    ensures led { (d : T) → L.led shared.now (slice_index_or hands.old 0 d, poller.old, clock.old) (slice_index_or hands.new 0 d, poller.new, clock.new) result }
+    ensures led { (d : T) → L.led shared.now front.now (slice_index_or hands.old 0 d, intake.old, poller.old, clock.old) (slice_index_or hands.new 0 d, intake.new, poller.new, clock.new) result }
 {
     if hands.len() == 1 {
-        lead_first::<T, D, L, P, C, R>(rt, shared, poller, clock, hands)
+        lead_first::<T, D, L, F, A, P, C, R>(rt, shared, front, intake, poller, clock, hands)
     } else {
-        run_in_threads::<T, D, L, P, C, R>(rt, shared, hands, poller, clock)
+        run_in_threads::<T, D, L, F, A, P, C, R>(rt, shared, hands, front, intake, poller, clock)
     }
 }

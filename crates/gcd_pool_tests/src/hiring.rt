@@ -99,6 +99,7 @@ pub fn team_of<S: Slot + Drop, R: Abort>(
     ensures some { 0 < length result.items }
     ensures hands { All (IsReady S.shape S.gives pool.now) result.items }
     ensures worker { (d : Hand S) → (view (slice_index_or result.items 0 d).pass).worker ≡ 0 }
+    ensures unseen { (d : Hand S) → (view (slice_index_or result.items 0 d).pass).seen ≡ [] }
     ensures home { (d : Hand S) → standing_of (view (slice_index_or result.items 0 d).pass).hands 0 ≡ None }
     ensures none { (d : Hand S) (w : ℕ) → workers ≤ w → standing_of (view (slice_index_or result.items 0 d).pass).hands w ≡ None }
 {

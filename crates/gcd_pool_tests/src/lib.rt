@@ -6,6 +6,8 @@ mod begins;
 #[cfg(test)]
 mod boards;
 #[cfg(test)]
+mod callers;
+#[cfg(test)]
 mod closing;
 #[cfg(test)]
 mod hiring;

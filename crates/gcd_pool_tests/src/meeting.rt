@@ -73,7 +73,7 @@ fn jobs_of<'a>(
 }
 
 // How many blocks saw the others.
-fn met(cells: &[Cell<Meets<'_>, Tally>]) -> usize {
+fn met<J>(cells: &[Cell<J, Tally>]) -> usize {
     let mut count = 0usize;
     for cell in cells {
         if let Cell::Done(1) = cell {

@@ -30,7 +30,7 @@ pub fn jobs_of(alloc: Global, plan: &Plan) -> Result<Vec<Number>, AllocError> {
 }
 
 // Whether the cell is what its slot has at the end: a block's value, or the handler with all that was merged.
-fn is_right(slot: usize, cell: &Cell<Number, Tally>) -> bool {
+fn is_right<J>(slot: usize, cell: &Cell<J, Tally>) -> bool {
     match cell {
         Cell::Body(_) => false,
         Cell::Done(value) => slot < BLOCKS as usize && *value == slot as u64 + 1,
@@ -40,7 +40,7 @@ fn is_right(slot: usize, cell: &Cell<Number, Tally>) -> bool {
 }
 
 /// Looks at each cell of the plan of each kind.
-pub fn are_right(rt: &impl Abort, cells: &[Cell<Number, Tally>]) {
+pub fn are_right<J>(rt: &impl Abort, cells: &[Cell<J, Tally>]) {
     for (slot, cell) in cells.iter().enumerate() {
         assert!(rt; is_right(slot, cell), "slot {slot}");
     }

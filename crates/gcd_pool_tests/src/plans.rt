@@ -238,3 +238,22 @@ pub fn plan_of_limits(alloc: Global) -> Result<Plan, Fail> {
     };
     Ok(Plan::of_parts(parts).ok_or("valid")?)
 }
+
+/// A plan with a serial queue, on which an intake makes so many blocks.
+pub fn plan_of_intake(alloc: Global, count: u32) -> Result<Plan, Fail> {
+    let mut blocks = Vec::new(alloc);
+    blocks.push(BlkPart::new(alloc, "main")?)?;
+    for before in 0..count {
+        let name = format!(in alloc; "+{}", before + 1)?;
+        blocks.push(BlkPart::new(alloc, name.as_str())?)?;
+    }
+    let parts = Parts {
+        objects: meeting_queues(alloc, Kind::Serial, 1)?,
+        blocks,
+        files: Vec::new(alloc),
+        until: 1000,
+        intake: Some((Obj(1), 1, count)),
+        strips: Vec::new(alloc),
+    };
+    Ok(Plan::of_parts(parts).ok_or("valid")?)
+}

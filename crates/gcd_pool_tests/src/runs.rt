@@ -1,8 +1,13 @@
 // Runs with worker 0, its poller and its clock.
-ghost use Rattle.std.specs.Prelude.{◌≡◌, ◌<◌, All, length};
+ghost use Rattle.std.specs.Prelude.{◌≡◌, ◌<◌, ◌≤◌, [], All, length, slice_index_or};
+ghost use Rattle.gcd_front.specs.Fronts.{IsIntakeOf};
+ghost use Rattle.gcd_front.specs.Limits.{max_senders};
+ghost use Rattle.gcd_row.specs.Passes.{view};
 ghost use Rattle.gcd_row.specs.Shapes.{shape_of, gives_of};
+ghost use Rattle.gcd_row.specs.declared.cell.Cell.{Cell};
 ghost use Rattle.gcd_pool.specs.Each.{Each};
 ghost use Rattle.gcd_pool.specs.Hands.{IsReady, Serving};
+ghost use Rattle.gcd_pool.specs.declared.hand.Hand.{Hand};
 
 use super::boards::{board_of, pool_of, rack_of, workers_of};
 use super::closing::{are_chosen, closed};
@@ -10,7 +15,8 @@ use super::hiring::{gather, team_of};
 use super::numbers::{are_right, jobs_of};
 use super::plans::{plan_of_each_kind, plan_of_limits, plan_of_two_queues};
 use gcd_event::Event;
-use gcd_jobs::{Job, Tally};
+use gcd_front::{Front, Intake, Sent};
+use gcd_jobs::{Admits, Job, Nobody, Tally};
 use gcd_outer::{JumpClock, ListPoller};
 use gcd_plan::{MAX_EVENTS, Plan};
 use gcd_pool::{Exit, Hand, Pool, pool_run};
@@ -22,14 +28,20 @@ use std::test::Fail;
 use std::thread::Threads;
 
 // Worker 0 leads, and the others serve.
-fn lead<J: Job + Drop + Send, R: Threads + Wait + Abort + Sync>(
+fn lead<J: Job + Admits<X> + Drop + Send, X: Sent + Drop + Send, R: Threads + Wait + Abort + Sync>(
     rt: &R,
     alloc: Global,
     pool: &Pool<Cell<J, Tally>>,
     hands: Vec<Hand<Cell<J, Tally>>>,
+    front: &Front<X>,
+    intake: &mut Intake<X>,
 ) -> (Exit, Vec<Hand<Cell<J, Tally>>>)
     requires some { 0 < length hands.items }
     requires hands { All (IsReady (shape_of (λ t. t.kind) (λ t. t.times) (λ t. t.total)) (gives_of J.gives) pool.now) hands.items }
+    requires unseen { (d : Hand (Cell J Tally)) → (view (slice_index_or hands.items 0 d).pass).seen ≡ [] }
+    requires few { front.now.senders ≤ max_senders }
+    requires intake { IsIntakeOf front.now intake.old }
+    requires untaken { intake.old.taken ≡ [] }
     ensures count { length result.1.items ≡ length hands.items }
     ensures hands { Each (Serving (shape_of (λ t. t.kind) (λ t. t.times) (λ t. t.total)) (gives_of J.gives) pool.now) hands.items result.1.items }
 {
@@ -37,14 +49,46 @@ fn lead<J: Job + Drop + Send, R: Threads + Wait + Abort + Sync>(
         panic!(rt; "no memory")
     };
     let mut clock = JumpClock::new(0);
-    let (exit, hands) = pool_run(rt, pool, hands, &mut poller, &mut clock);
+    let (exit, hands) = pool_run(rt, pool, hands, front, intake, &mut poller, &mut clock);
     let Ok(exit) = exit else {
         panic!(rt; "no memory")
     };
     (exit, hands)
 }
 
-/// Runs the plan with these jobs by so many workers, over a rack of so many benches. How the run ended, the journal and the cells.
+/// Runs the plan with these jobs by so many workers, over a rack of so many benches, beside the outside callers of a front, of whom
+/// nothing was taken. How the run ended, the journal and the cells.
+pub fn run_beside<
+    J: Job + Admits<X> + Drop + Send,
+    X: Sent + Drop + Send,
+    R: Threads + Wait + Abort + Sync,
+>(
+    rt: &R,
+    alloc: Global,
+    plan: &Plan,
+    jobs: Vec<J>,
+    benches: u8,
+    workers: u8,
+    front: &Front<X>,
+    intake: &mut Intake<X>,
+) -> (Exit, Vec<Event>, Vec<Cell<J, Tally>>)
+    requires few { front.now.senders ≤ max_senders }
+    requires intake { IsIntakeOf front.now intake.old }
+    requires untaken { intake.old.taken ≡ [] }
+{
+    let workers = workers_of(rt, workers);
+    let (rack, benches) = rack_of(rt, alloc, plan, benches, 4_096);
+    let (board, head) = board_of(rt, alloc, plan, jobs, workers, MAX_EVENTS);
+    let pool = pool_of(&board, &rack, plan);
+    let hands = team_of(rt, alloc, &pool, head, benches, workers);
+    let (exit, hands) = lead(rt, alloc, &pool, hands, front, intake);
+    drop(pool);
+    let (head, gathered) = gather(rt, &board, hands, workers);
+    let (events, cells) = closed(rt, alloc, plan, board, head, gathered);
+    (exit, events, cells)
+}
+
+/// The same without outside callers.
 pub fn run_of<J: Job + Drop + Send, R: Threads + Wait + Abort + Sync>(
     rt: &R,
     alloc: Global,
@@ -52,17 +96,14 @@ pub fn run_of<J: Job + Drop + Send, R: Threads + Wait + Abort + Sync>(
     jobs: Vec<J>,
     benches: u8,
     workers: u8,
-) -> (Exit, Vec<Event>, Vec<Cell<J, Tally>>) {
-    let workers = workers_of(rt, workers);
-    let (rack, benches) = rack_of(rt, alloc, plan, benches, 4_096);
-    let (board, head) = board_of(rt, alloc, plan, jobs, workers, MAX_EVENTS);
-    let pool = pool_of(&board, &rack, plan);
-    let hands = team_of(rt, alloc, &pool, head, benches, workers);
-    let (exit, hands) = lead(rt, alloc, &pool, hands);
-    drop(pool);
-    let (head, gathered) = gather(rt, &board, hands, workers);
-    let (events, cells) = closed(rt, alloc, plan, board, head, gathered);
-    (exit, events, cells)
+) -> (Exit, Vec<Event>, Vec<Cell<Option<J>, Tally>>) {
+    let Ok(jobs) = jobs.into_iter().map(Some).collect(alloc) else {
+        panic!(rt; "no memory")
+    };
+    let Ok((front, _mouths, mut intake)) = Front::<Nobody>::new(alloc, 1, 0) else {
+        panic!(rt; "no memory")
+    };
+    run_beside(rt, alloc, plan, jobs, benches, workers, &front, &mut intake)
 }
 
 #[test]

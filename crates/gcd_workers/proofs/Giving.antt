@@ -1,4 +1,4 @@
--- What a run of a caller's own jobs leaves, of the cells at its end.
+-- What the cells of a board of jobs tell at its end.
 use Rattle.std.proofs.Common.{◌≡◌, ◌<◌, ◌≤◌, ◌+◌, ◌∙◌, ℕ, Bool, true, false, not, List, [], ◌∷◌, ◌++◌, length, Option, Some, None, ap, sym, subst, arith, ⊎_elim}
 use Rattle.std.specs.Prelude.{slice_get}
 use Rattle.std.proofs.lemmas.Bool.{and_parts, cases_lt, not-true}
@@ -8,30 +8,23 @@ use Rattle.gcd_plan.specs.declared.numbers.Blk.{Blk}
 use Rattle.gcd_plan.specs.declared.numbers.Run.TheVariants.{Block}
 use Rattle.gcd_plan.proofs.Places.{slice_get_some, slice_get-append_left, slice_get-append_seam}
 use Rattle.gcd_event.specs.declared.event.Event.{Event}
-use Rattle.gcd_history.specs.Ends.{HasState}
 use Rattle.gcd_history.specs.History.{IsLawful, is_block_cancelled, is_ended}
-use Rattle.gcd_history.specs.declared.state.State.{State}
-use Rattle.gcd_machine.proofs.Shown.{plan_stands}
+use Rattle.gcd_machine.proofs.Shown.{lawful_stands, plan_stands}
 use Rattle.gcd_machine.specs.Stands.{StandsFor}
 use Rattle.gcd_refinement.specs.MachineView.{MachineView}
-use Rattle.gcd_outer.specs.Outside.{ClockState, Seen}
-use Rattle.gcd_outer.specs.Tells.{PollerState}
 use Rattle.gcd_jobs.specs.BlockValues.{has_given}
 use Rattle.gcd_jobs.specs.declared.tally.Tally.{Tally}
-use Rattle.gcd_loop.specs.Ran.{RunsPlan}
+use Rattle.gcd_row.specs.Jobs.{Jobs, May, placed_jobs}
 use Rattle.gcd_row.specs.Lying.{BodyLies}
 use Rattle.gcd_row.specs.Opening.{first_cells, object_cells}
-use Rattle.gcd_row.specs.Passes.{AtRest, IsPassOf, terms_of, view}
-use Rattle.gcd_row.specs.Shapes.{done, gives_of}
-use Rattle.gcd_row.specs.declared.board.RowBoard.{RowBoard}
+use Rattle.gcd_row.specs.Passes.{AtRest, view}
+use Rattle.gcd_row.specs.Shapes.{MayGive, done, gives_of}
 use Rattle.gcd_row.specs.declared.cell.Cell.{Cell}
 use Rattle.gcd_row.specs.declared.cell.Cell.TheVariants.{Body, Done, Handler, Away}
 use Rattle.gcd_row.specs.declared.pass.RowPass.{RowPass}
-use Rattle.gcd_row.specs.declared.view.Terms.{Terms}
-use Rattle.gcd_workers.specs.JobsRuns.{AreGiven, AreLaid, AreTaken, IsGiven, RunsJobs, tally_shape}
+use Rattle.gcd_workers.specs.JobsRuns.{AreLaid, AreOfJobs, AreTaken, tally_shape}
 use Rattle.gcd_workers.proofs.Jobs.{body_at}
 use Rattle.gcd_workers.proofs.Tellings.{elem_of, ended_is_nobodys}
-use Rattle.gcd_workers.proofs.Wholes.{lawful_pass}
 
 module _ {J : Type 0} where
   -- the jobs are the first cells of a new board
@@ -77,38 +70,26 @@ module _ {J : Type 0} where
 
   module _ (gives : J → ℕ → ℕ → Type 0) where
     -- a value that its job may give lies in the slot of a block that has given one
-    given_at : (t : Terms (Cell J Tally)) (h : List Event) (cells : List (Cell J Tally)) (jobs : List J) (values : List (Option ℕ)) (b : ℕ)
-        → IsLawful t.plan h → AtRest tally_shape (gives_of gives) t h cells → AreLaid jobs t.cells → length jobs ≡ length t.plan.blocks
-        → AreTaken t.plan h cells (length t.plan.blocks) values → b < length t.plan.blocks → has_given t.plan h b ≡ true → IsGiven gives jobs values b
-    given_at t h cells jobs values b lawful rest laid count taken low gave =
+    told_at : (t : Jobs (Cell J Tally)) (h : List Event) (cells : List (Cell J Tally)) (values : List (Option ℕ)) (b : ℕ)
+        → IsLawful t.plan h → AtRest tally_shape (gives_of gives) t h cells → AreTaken t.plan h cells (length t.plan.blocks) values
+        → b < length t.plan.blocks → has_given t.plan h b ≡ true → (value : ℕ) × (slice_get values b ≡ Some (Some value)) × MayGive gives t b value
+    told_at t h cells values b lawful rest taken low gave =
         let parts = and_parts (is_ended h b) (not (is_block_cancelled t.plan h b)) gave in
         let ended : is_ended h b ≡ true = parts.0 in
         let live : is_block_cancelled t.plan h b ≡ false = not-true (is_block_cancelled t.plan h b) parts.1 in
         let width = rest.width in
         let blk : Blk = record { 0 = b } in
-        let job = slice_get_some jobs b (omega (arith, count, low)) in
+        let may : ℕ → Type 0 = May (gives_of gives) t b in
         let here = slice_get_some cells b (omega (arith, width, low)) in
-        let first : Cell J Tally = Body job.0 in
-        let lies = rest.lie (Block blk) here.0 low (ended_is_nobodys t.plan h blk lawful ended) (elem_of cells b here.0 here.1) first (laid b job.0 job.1) in
-        let is : BodyLies tally_shape (gives_of gives) first true false here.0 =
-        subst (λ (m : Bool). BodyLies tally_shape (gives_of gives) first true m here.0) live
-        (subst (λ (e : Bool). BodyLies tally_shape (gives_of gives) first e (is_block_cancelled t.plan h b) here.0) ended lies) in
-        record {
-          job = job.0;
-          value = is.0;
-          job_of = job.1;
-          value_of = taken.ended b is.0 low gave (here.1 ∙ ap Some (is_done here.0 is.0 is.1));
-          given = is.2;
-        }
+        let lies = rest.lie (Block blk) here.0 low (ended_is_nobodys t.plan h blk lawful ended) (elem_of cells b here.0 here.1) in
+        let is : BodyLies tally_shape (gives_of gives) may true false here.0 =
+        subst (λ (m : Bool). BodyLies tally_shape (gives_of gives) may true m here.0) live
+        (subst (λ (e : Bool). BodyLies tally_shape (gives_of gives) may e (is_block_cancelled t.plan h b) here.0) ended lies) in
+        (is.0, taken.ended b is.0 low gave (here.1 ∙ ap Some (is_done here.0 is.0 is.1)), is.2)
 
-    -- the machine of a pass is of the board's plan
-    machine_plan : (b : RowBoard (Cell J Tally)) (p : RowPass (Cell J Tally)) (m : MachineView) → IsPassOf tally_shape (gives_of gives) b p
-        → StandsFor m (view p).terms.plan (view p).seen → m.plan ≡ (terms_of b).plan
-    machine_plan b p m pass stands = plan_stands m (view p).terms.plan (view p).seen stands ∙ ap (λ (t : Terms (Cell J Tally)). t.plan) pass.terms
-
-    -- there is a cell for each of its blocks
+    -- there is a cell for each block of the machine's plan
     pub cells_for : (p : RowPass (Cell J Tally)) (m : MachineView) (cells : List (Cell J Tally))
-        → AtRest tally_shape (gives_of gives) (view p).terms (view p).seen cells → StandsFor m (view p).terms.plan (view p).seen
+        → AtRest tally_shape (gives_of gives) (placed_jobs (view p)) (view p).seen cells → StandsFor m (view p).terms.plan (view p).seen
         → length m.plan.blocks ≤ length cells
     cells_for p m cells rest stands =
         let width = rest.width in
@@ -116,41 +97,17 @@ module _ {J : Type 0} where
         let wide : length (view p).terms.plan.blocks ≤ length cells = omega (arith, width) in
         subst (λ (k : PlanView). length k.blocks ≤ length cells) (sym own) wide
 
-    -- of a board that is closed: the values are those of the jobs that it was made of
-    pub given_at_end : (b : RowBoard (Cell J Tally)) (p : RowPass (Cell J Tally)) (m : MachineView) (cells : List (Cell J Tally)) (jobs : List J)
-        (values : List (Option ℕ)) → IsPassOf tally_shape (gives_of gives) b p → StandsFor m (view p).terms.plan (view p).seen
-        → AtRest tally_shape (gives_of gives) (view p).terms (view p).seen cells → AreLaid jobs (terms_of b).cells
-        → length jobs ≡ length (terms_of b).plan.blocks → AreTaken (view p).terms.plan (view p).seen cells (length m.plan.blocks) values
-        → AreGiven gives (terms_of b).plan jobs (view p).seen values
-    given_at_end b p m cells jobs values pass stands at_rest laid count taken_by =
-        let lawful = lawful_pass tally_shape (gives_of gives) b p pass in
-        let rest = subst (λ (t : Terms (Cell J Tally)). AtRest tally_shape (gives_of gives) t (view p).seen cells) pass.terms at_rest in
-        let own : (view p).terms.plan ≡ (terms_of b).plan = ap (λ (t : Terms (Cell J Tally)). t.plan) pass.terms in
-        let taken = subst (λ (q : PlanView). AreTaken q (view p).seen cells (length (terms_of b).plan.blocks) values) own
-        (subst (λ (k : PlanView). AreTaken (view p).terms.plan (view p).seen cells (length k.blocks) values) (machine_plan b p m pass stands) taken_by) in
+    -- of a board that is closed: the values are those of its blocks' jobs, as worker 0's pass knows them
+    pub told_at_end : (p : RowPass (Cell J Tally)) (m : MachineView) (cells : List (Cell J Tally)) (values : List (Option ℕ))
+        → StandsFor m (view p).terms.plan (view p).seen → AtRest tally_shape (gives_of gives) (placed_jobs (view p)) (view p).seen cells
+        → AreTaken (view p).terms.plan (view p).seen cells (length m.plan.blocks) values
+        → AreOfJobs gives (placed_jobs (view p)) (view p).seen values
+    told_at_end p m cells values stands rest taken_by =
+        let plan = (view p).terms.plan in
+        let seen = (view p).seen in
+        let taken = subst (λ (k : PlanView). AreTaken plan seen cells (length k.blocks) values) (plan_stands m plan seen stands) taken_by in
         record {
           count = taken.count;
-          ended = λ k low ended. given_at (terms_of b) (view p).seen cells jobs values k lawful rest laid count taken low ended;
+          ended = λ b low gave. told_at (placed_jobs (view p)) seen cells values b (lawful_stands m plan seen stands) rest taken low gave;
           others = taken.others;
         }
-
-    -- what the loop promises of a run, in the words of one who has jobs
-    pub runs_jobs : (most limit : ℕ) (plan mine own : PlanView) (jobs : List J) (m n : ℕ) {poller : Seen PollerState} {clock : Seen ClockState}
-        (seen h : List Event) (values : List (Option ℕ)) (state : State) → limit ≡ most → own ≡ mine → mine ≡ plan → h ≡ seen → 0 < m → m ≤ n
-        → RunsPlan limit own m poller clock seen → HasState mine seen state → AreGiven gives mine jobs seen values
-        → RunsJobs gives most plan jobs n h values state
-    runs_jobs most limit plan mine own jobs m n {poller} {clock} seen h values state limit_is board is same low more ran has given =
-        let here : RunsPlan most own m poller clock seen = subst (λ (k : ℕ). RunsPlan k own m poller clock seen) limit_is ran in
-        let run = subst (λ (q : PlanView). RunsPlan most q m poller clock seen) board here in
-        let all : RunsJobs gives most mine jobs n seen values state = record {
-          lawful = run.lawful;
-          ended = run.ended;
-          state_is = has;
-          few = run.few;
-          by = λ i e at. let by = run.by i e at in omega (arith, more, by);
-          chosen = λ one. run.chosen (omega (arith, low, more, one));
-          uncalled = run.uncalled;
-          given = given;
-        } in
-        subst (λ (q : PlanView). RunsJobs gives most q jobs n h values state) is
-        (subst (λ (l : List Event). RunsJobs gives most mine jobs n l values state) (sym same) all)

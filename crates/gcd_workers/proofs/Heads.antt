@@ -74,14 +74,15 @@ head_back m n v u low head worker hands = record {
   };
 }
 
--- what it has seen, and what it knows of the passed words, does not matter
+-- nothing but its number and what it has given out matters
+pub head_same : {S : Type 0} → (m n : ℕ) (v u : View S) → u.worker ≡ v.worker → u.hands ≡ v.hands → IsHead m n v → IsHead m n u
+head_same m n v u worker hands head = record {
+  worker = worker ∙ head.worker;
+  out = subst (AreOut m n) (sym hands) head.out;
+}
+
 pub head_knowing : {S : Type 0} → (m n : ℕ) (v u : View S) (k : Marks) → u ≡ knowing v u.seen k → IsHead m n v → IsHead m n u
-head_knowing {S} m n v u k is head =
-    let hands : u.hands ≡ v.hands = ap (λ (x : View S). x.hands) is in
-    record {
-      worker = ap (λ (x : View S). x.worker) is ∙ head.worker;
-      out = subst (AreOut m n) (sym hands) head.out;
-    }
+head_knowing {S} m n v u k is head = head_same m n v u (ap (λ (x : View S). x.worker) is) (ap (λ (x : View S). x.hands) is) head
 
 -- all hands are back, and no event is of a number that was never given out
 pub has_led : {S : Type 0} → (n : ℕ) (v : View S) → 0 < n → IsHead n n v → KnowsFresh v → HasEnded v.terms.limits.most v.terms.plan v.seen → HasLed n v

@@ -5,6 +5,7 @@ use Rattle.std.specs.List.{ShiftedDown}
 use Rattle.gcd_history.specs.Ends.{HasEnded}
 use Rattle.gcd_team.specs.Team.{of_worker}
 use Rattle.gcd_event.specs.declared.event.Event.{Event}
+use Rattle.gcd_front.specs.Views.{FrontView, IntakeView}
 use Rattle.gcd_outer.specs.Outside.{ClockState}
 use Rattle.gcd_outer.specs.Tells.{PollerState}
 use Rattle.gcd_row.proofs.Fronts.{own_nothing}
@@ -15,11 +16,11 @@ use Rattle.gcd_row.specs.declared.view.Terms.{Terms}
 use Rattle.gcd_row.specs.declared.view.View.{View}
 use Rattle.gcd_pool.specs.Each.{Each}
 use Rattle.gcd_pool.specs.Hands.{IsReady, Served}
-use Rattle.gcd_pool.specs.Leads.{Led}
+use Rattle.gcd_pool.specs.Admitted.{LedWithFront}
 use Rattle.gcd_pool.specs.declared.hand.Hand.{Hand}
 use Rattle.gcd_pool.specs.declared.hand.Pool.{Pool}
 use Rattle.gcd_workers.specs.Teams.{EachFrom, IsHead, IsPassAt, IsReadyAt}
-use Rattle.gcd_workers.proofs.Heads.{head_knowing}
+use Rattle.gcd_workers.proofs.Heads.{head_same}
 use Rattle.gcd_workers.proofs.Places.{each_push}
 
 -- an empty history has no event of a worker
@@ -46,8 +47,8 @@ module _ {S : Type 0} (shape : S → Shape) (gives : S → ℕ → Type 0) where
       let s = served 0 d some in
       let same = sym count in
       subst (λ (n : ℕ). IsHead 1 n (view (slice_index_or new 0 d).pass)) same
-      (head_knowing 1 (length old) (view (slice_index_or old 0 d).pass) (view (slice_index_or new 0 d).pass)
-      (view (slice_index_or new 0 d).pass).marks s.serving.view.is (head d))
+      (head_same 1 (length old) (view (slice_index_or old 0 d).pass) (view (slice_index_or new 0 d).pass)
+      (ap (λ (v : View S). v.worker) s.serving.view.is) (ap (λ (v : View S). v.hands) s.serving.view.is) (head d))
 
   -- and has seen that the run has ended
   pub ended_after : (pool : Pool S) (old new : List (Hand S)) → 0 < length old → Each (Served shape gives pool) old new
@@ -72,15 +73,19 @@ module _ {S : Type 0} (shape : S → Shape) (gives : S → ℕ → Type 0) where
       each_push (IsReadyAt shape gives pool) 1 hands hand each (record { ready = ready; worker = worker ∙ place })
 
 -- where worker 0 has led to the end, nothing more is asked
-pub led_to_the_end : {S P C : Type 0} {poller_tells clock_tells : Bool} {poller : P → PollerState} {clock : C → ClockState} {alone done : Type 0}
-    (old new : Hand S × P × C) → done → Led poller_tells clock_tells poller clock alone done old new
-    → Led poller_tells clock_tells poller clock alone (Unit {0}) old new
+pub led_to_the_end : {S X P C : Type 0} {poller_tells clock_tells : Bool} {poller : P → PollerState} {clock : C → ClockState} {gives : S → ℕ → Type 0} {sent : X → ℕ → Type 0}
+    {f : FrontView} {alone done : Type 0} (old new : Hand S × IntakeView X × P × C) → done → LedWithFront poller_tells clock_tells poller clock gives sent f alone done old new
+    → LedWithFront poller_tells clock_tells poller clock gives sent f alone (Unit {0}) old new
 led_to_the_end old new is led = record {
-  led = λ all head. led.led is head;
-  ended = λ all. led.ended is;
-  whole = λ all head. led.whole is head;
-  follows = led.follows;
-  kept = led.kept;
+  led = record {
+    led = λ all head. led.led.led is head;
+    ended = λ all. led.led.ended is;
+    whole = λ all head. led.led.whole is head;
+    follows = led.led.follows;
+    kept = led.led.kept;
+  };
+  of_front = λ all head. led.of_front is head;
+  admitted = λ all head. led.admitted is head;
 }
 
 -- what holds of the first holds of what lies at place 0

@@ -1,6 +1,8 @@
+pub mod Callers
 pub mod Giving
 pub mod Heads
 pub mod Hires
+pub mod Intake
 pub mod Jobs
 pub mod Places
 pub mod Pools

@@ -15,7 +15,7 @@ use Rattle.gcd_outer.specs.Outside.{ClockState, Seen}
 use Rattle.gcd_outer.specs.Tells.{PollerState}
 use Rattle.gcd_loop.proofs.Follows.{follows_none}
 use Rattle.gcd_loop.proofs.Steps.{runs_plan}
-use Rattle.gcd_loop.specs.Followed.{FollowsChoice, IsOfWorkers}
+use Rattle.gcd_loop.specs.Followed.{AcceptsNone, FollowsChoice, IsOfWorkers}
 use Rattle.gcd_loop.specs.Going.{IsRunOn}
 use Rattle.gcd_loop.specs.Ran.{RunsPlan}
 use Rattle.gcd_loop.specs.Recorded.{IsSight}
@@ -47,34 +47,35 @@ module _ {S : Type 0} (shape : S → Shape) (gives : S → ℕ → Type 0) where
       record { own = plan_stands (machine_of p) (terms_of b).plan (view p).seen stands; stands = stands; few = few_pass shape gives b p pass }
 
   -- worker 0's pass, which knows all that came since the board was new, shows what the run promises
-  pub team_ran : (b : RowBoard S) (n : ℕ) (old last : View S) (p : RowPass S) (poller : Seen PollerState) (clock : Seen ClockState)
+  pub team_ran : (b : RowBoard S) (n : ℕ) (calls : List Event → Type 0) (old last : View S) (p : RowPass S) (poller : Seen PollerState) (clock : Seen ClockState)
       → IsPassOf shape gives b p → HasLed n (view p) → old.terms ≡ terms_of b → old.seen ≡ [] → (view p).seen ≡ last.seen
       → IsRunOn old.terms.limits.most old.terms.plan old.seen last.seen poller clock → (n ≡ 1 → Follows old.terms.plan old.seen last.seen)
-      → ((s : ℕ) → poller.before.watched s ≡ false) → RunsPlan (terms_of b).limits.most (terms_of b).plan n poller clock (view p).seen
-  team_ran b n old last p poller clock pass led terms none same on follows unwatched =
+      → calls (view p).seen → ((s : ℕ) → poller.before.watched s ≡ false)
+      → RunsPlan (terms_of b).limits.most (terms_of b).plan n calls poller clock (view p).seen
+  team_ran b n calls old last p poller clock pass led terms none same on follows called unwatched =
       let plan_is : old.terms.plan ≡ (terms_of b).plan = ap (λ (t : Terms S). t.plan) terms in
       let most = (terms_of b).limits.most in
       let here : IsRunOn most (terms_of b).plan old.seen last.seen poller clock = subst (λ (t : Terms S). IsRunOn t.limits.most t.plan old.seen last.seen poller clock) terms on in
       let from_none : IsRunOn most (terms_of b).plan [] last.seen poller clock = subst (λ (h : List Event). IsRunOn most (terms_of b).plan h last.seen poller clock) none here in
       let whole : IsRunOn most (terms_of b).plan [] (view p).seen poller clock = subst (λ (k : List Event). IsRunOn most (terms_of b).plan [] k poller clock) (sym same) from_none in
-      runs_plan most (terms_of b).plan n (view p).seen (machine_of p) poller clock (pass_sight b p pass) led.by
+      runs_plan most (terms_of b).plan n calls (view p).seen (machine_of p) poller clock (pass_sight b p pass) led.by
       (λ (one : n ≡ 1).
       let by : IsOfWorkers 1 last.seen = subst (IsOfWorkers 1) same (subst (λ (m : ℕ). IsOfWorkers m (view p).seen) one led.by) in
       let first : FollowsChoice old.terms.plan old.seen = subst (FollowsChoice old.terms.plan) (sym none) (follows_none old.terms.plan) in
       let chosen : FollowsChoice old.terms.plan last.seen = follows one (all_of_first last.seen by) first in
       subst (λ (q : PlanView). FollowsChoice q (view p).seen) plan_is (subst (λ (k : List Event). FollowsChoice old.terms.plan k) (sym same) chosen))
-      unwatched whole
+      called unwatched whole
 
--- what fewer workers promise more do
-pub runs_by_more : (most : ℕ) (plan : PlanView) (m n : ℕ) (poller : Seen PollerState) (clock : Seen ClockState) (h : List Event)
-    → 0 < m → m ≤ n → RunsPlan most plan m poller clock h → RunsPlan most plan n poller clock h
-runs_by_more most plan m n poller clock h some more run = record {
+-- what fewer workers promise more do, and what is known of the callers' jobs may be said otherwise
+pub runs_by_more : (most : ℕ) (plan : PlanView) (m n : ℕ) (calls others : List Event → Type 0) (poller : Seen PollerState) (clock : Seen ClockState) (h : List Event)
+    → 0 < m → m ≤ n → (calls h → others h) → RunsPlan most plan m calls poller clock h → RunsPlan most plan n others poller clock h
+runs_by_more most plan m n calls others poller clock h some more said run = record {
   lawful = run.lawful;
   ended = run.ended;
   few = run.few;
   by = λ i e at. let low = run.by i e at in omega (arith, more, low);
   chosen = λ one. run.chosen (omega (arith, some, more, one));
-  uncalled = run.uncalled;
+  called = said run.called;
   timely = run.timely;
   heard = run.heard;
 }
@@ -82,10 +83,10 @@ runs_by_more most plan m n poller clock h some more run = record {
 -- the run, with the values that its board told
 pub runs_over_files : (most limit : ℕ) (plan own : PlanView) (workers : ℕ) (files : List (List ℕ)) (poller : Seen PollerState)
     (clock : Seen ClockState) (seen h : List Event) (given : List ℕ) (state : State) → limit ≡ most → own ≡ plan → h ≡ seen
-    → RunsPlan limit own workers poller clock seen → HasState plan seen state → AreValues plan files seen given
+    → RunsPlan limit own workers AcceptsNone poller clock seen → HasState plan seen state → AreValues plan files seen given
     → RunsOverFiles most plan workers files poller clock h given state
 runs_over_files most limit plan own workers files poller clock seen h given state limit_is is same run has are =
-    let here : RunsPlan most own workers poller clock seen = subst (λ (n : ℕ). RunsPlan n own workers poller clock seen) limit_is run in
+    let here : RunsPlan most own workers AcceptsNone poller clock seen = subst (λ (n : ℕ). RunsPlan n own workers AcceptsNone poller clock seen) limit_is run in
     let all : RunsOverFiles most plan workers files poller clock seen given state =
-    record { run = subst (λ (q : PlanView). RunsPlan most q workers poller clock seen) is here; state_is = has; values = are } in
+    record { run = subst (λ (q : PlanView). RunsPlan most q workers AcceptsNone poller clock seen) is here; state_is = has; values = are } in
     subst (λ (l : List Event). RunsOverFiles most plan workers files poller clock l given state) (sym same) all

@@ -2,7 +2,8 @@
 use Rattle.std.proofs.Common.{◌≡◌, ◌≤◌, ◌<◌, ◌∙◌, ℕ, List, [], ◌∷◌, length, take, ap, subst, sym, arith}
 use Rattle.gcd_event.specs.declared.event.Event.{Event}
 use Rattle.gcd_history.specs.History.{IsLawful}
-use Rattle.gcd_machine.proofs.Shown.{lawful_stands}
+use Rattle.gcd_machine.proofs.Shown.{lawful_stands, valid_stands}
+use Rattle.gcd_plan.specs.Validity.{IsPlan}
 use Rattle.gcd_history.specs.Ends.{HasEnded}
 use Rattle.gcd_team.specs.Team.{of_worker}
 use Rattle.gcd_team.proofs.Own.{ended_histories_are_whole}
@@ -17,6 +18,10 @@ module _ {S : Type 0} (shape : S → Shape) (gives : S → ℕ → Type 0) where
   pub lawful_pass : (b : RowBoard S) (p : RowPass S) → IsPassOf shape gives b p → IsLawful (terms_of b).plan (view p).seen
   lawful_pass b p pass =
       subst (λ (t : Terms S). IsLawful t.plan (view p).seen) pass.terms (lawful_stands (machine_of p) (view p).terms.plan (view p).seen pass.stands)
+
+  -- of a plan that is valid
+  pub valid_pass : (b : RowBoard S) (p : RowPass S) → IsPassOf shape gives b p → IsPlan (view p).terms.plan
+  valid_pass b p pass = valid_stands (machine_of p) (view p).terms.plan (view p).seen pass.stands
 
   -- and has no more events than the board takes
   pub few_pass : (b : RowBoard S) (p : RowPass S) → IsPassOf shape gives b p → length (view p).seen ≤ (terms_of b).limits.most

@@ -9,7 +9,8 @@ use Rattle.gcd_history.specs.declared.state.State.{State}
 use Rattle.gcd_jobs.specs.BlockValues.{has_given}
 use Rattle.gcd_jobs.specs.declared.tally.Tally.{Tally}
 use Rattle.gcd_loop.specs.Followed.{AcceptsNone, FollowsChoice, IsOfWorkers}
-use Rattle.gcd_row.specs.Shapes.{Shape, shape_of}
+use Rattle.gcd_row.specs.Jobs.{Jobs}
+use Rattle.gcd_row.specs.Shapes.{MayGive, Shape, shape_of}
 use Rattle.gcd_row.specs.declared.cell.Cell.{Cell}
 use Rattle.gcd_row.specs.declared.cell.Cell.TheVariants.{Body, Done}
 
@@ -59,3 +60,9 @@ module _ {J : Type 0} where
     pub count : length values ≡ n
     pub ended : (b v : ℕ) → b < n → has_given plan h b ≡ true → slice_get cells b ≡ Some (Done v) → slice_get values b ≡ Some (Some v)
     pub others : (b : ℕ) → b < n → has_given plan h b ≡ false → slice_get values b ≡ Some None
+
+  -- each block of these jobs has a value that its job may give where it has ended and is not cancelled, and else none
+  pub record AreOfJobs (gives : J → ℕ → ℕ → Type 0) (t : Jobs (Cell J Tally)) (h : List Event) (values : List (Option ℕ)) : Type 0 where
+    pub count : length values ≡ length t.plan.blocks
+    pub ended : (b : ℕ) → b < length t.plan.blocks → has_given t.plan h b ≡ true → (value : ℕ) × (slice_get values b ≡ Some (Some value)) × MayGive gives t b value
+    pub others : (b : ℕ) → b < length t.plan.blocks → has_given t.plan h b ≡ false → slice_get values b ≡ Some None

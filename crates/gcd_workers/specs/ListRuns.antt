@@ -4,19 +4,22 @@ use Rattle.gcd_plan.specs.PlanView.{PlanView}
 use Rattle.gcd_event.specs.declared.event.Event.{Event}
 use Rattle.gcd_history.specs.Choice.{is_work, worker_of}
 use Rattle.gcd_history.specs.History.{choice_of, why}
+use Rattle.gcd_history.specs.Intake.{accepted}
 use Rattle.gcd_jobs.specs.BlockValues.{AreValues}
 use Rattle.gcd_machine.specs.Stands.{StandsFor}
 use Rattle.gcd_refinement.specs.MachineView.{MachineView}
 use Rattle.gcd_loop.specs.Recorded.{IsSight}
-use Rattle.gcd_loop.specs.Followed.{FollowsChoice, IsAllWorker0}
+use Rattle.gcd_loop.specs.Followed.{AcceptsNone, FollowsChoice, IsAllWorker0}
 
--- a run so far: the machine stands for its journal, of which each event is worker 0's and its choice, and these are the values
+-- a run so far: the machine stands for its journal, of which each event is worker 0's and its choice, and none accepts a job of an
+-- outside caller, and these are the values
 pub record IsListRun (most : ℕ) (plan : PlanView) (files : List (List ℕ)) (h : List Event) (given : List ℕ) (m : MachineView) : Type 0 where
   pub own : m.plan ≡ plan
   pub stands : StandsFor m plan h
   pub few : length h ≤ most
   pub alone : IsAllWorker0 h
   pub chosen : FollowsChoice plan h
+  pub uncalled : AcceptsNone h
   pub values : AreValues plan files h given
 
 -- so the machine stands for what is seen
@@ -24,9 +27,11 @@ pub list_sight : (most : ℕ) (plan : PlanView) (files : List (List ℕ)) (h : L
     → IsListRun most plan files h given m → IsSight most plan h m
 list_sight most plan files h given m run = record { own = run.own; stands = run.stands; few = run.few }
 
--- the event may come next, is worker 0's, and its choice where it is an event of a worker; and there is room for it
+-- the event may come next, is worker 0's, and its choice where it is an event of a worker; there is room for it; and it accepts no job
+-- of an outside caller
 pub record IsNext (most : ℕ) (plan : PlanView) (h : List Event) (e : Event) : Type 0 where
   pub permitted : why plan h e ≡ None
   pub room : length h < most
   pub by : worker_of e ≡ 0
   pub chosen : IsTrue (is_work e) → choice_of plan h 0 0 ≡ Some e
+  pub no_job : accepted e ≡ None

@@ -9,18 +9,22 @@ ghost use Rattle.gcd_row.specs.declared.cell.Cell.{Cell};
 ghost use Rattle.gcd_row.specs.declared.view.Standing.TheVariants.{Back};
 ghost use Rattle.gcd_steal.specs.Racks.{IsBenchOf};
 ghost use Rattle.gcd_loop.specs.Ran.{RunsPlan};
+ghost use Rattle.gcd_front.specs.Fronts.{IsIntakeOf};
+ghost use Rattle.gcd_front.specs.Limits.{max_senders};
+ghost use Rattle.gcd_pool.specs.Admitted.{Admitted, AsksOfFront, LedWithFront};
 ghost use Rattle.gcd_pool.specs.Each.{Each};
 ghost use Rattle.gcd_pool.specs.Hands.{IsPool, IsReady, Served};
-ghost use Rattle.gcd_pool.specs.Leads.{Led};
 ghost use Rattle.gcd_turn.specs.Asked.{KeepsListens};
 ghost use Rattle.gcd_pool.specs.declared.hand.Hand.{Hand};
+ghost use Rattle.gcd_workers.specs.CallersRuns.{AcceptsOf};
 ghost use Rattle.gcd_workers.specs.declared.refused.RunRefused.{RunRefused};
 ghost use Rattle.gcd_workers.specs.Teams.{EachFrom, HasLed, IsHead, IsNew, IsPassAt, IsReadyAt};
 
 use crate::refused::RunRefused;
 use crate::team::hands_of;
 use gcd_event::Event;
-use gcd_jobs::{Handler, Job};
+use gcd_front::{Front, Intake, Sent};
+use gcd_jobs::{Admits, Handler, Job};
 use gcd_outer::{Clock, Poller};
 use gcd_pool::{Hand, Pool, pool_run};
 use gcd_row::{Cell, Pass, RowBoard, RowPass, Slot};
@@ -38,6 +42,7 @@ fn take_in<S: Slot>(board: &RowBoard<S>, pass: &mut RowPass<S>, hand: Hand<S>)
     ensures pass { IsPassOf S.shape S.gives board.now pass.new }
     ensures worker { (view pass.new).worker ≡ 0 }
     ensures seen { (view pass.new).seen ≡ (view pass.old).seen }
+    ensures handed { (view pass.new).handed ≡ (view pass.old).handed }
     ensures hands { (view pass.new).hands ≡ ((view hand.pass).worker, Back) ∷ (view pass.old).hands }
     ensures gathered { (journal : List Event) → IsGathered (view pass.old) journal → IsGathered (view pass.new) journal }
 {
@@ -59,6 +64,7 @@ fn take_all<S: Slot>(board: &RowBoard<S>, mut hands: Vec<Hand<S>>) -> (RowPass<S
     ensures pass { IsPassOf S.shape S.gives board.now result.0 }
     ensures head { IsHead (length hands.items) (length hands.items) (view result.0) }
     ensures seen { (d : Hand S) → (view result.0).seen ≡ (view (slice_index_or hands.items 0 d).pass).seen }
+    ensures handed { (d : Hand S) → (view result.0).handed ≡ (view (slice_index_or hands.items 0 d).pass).handed }
     ensures gathered { IsGathered (view result.0) result.1.items }
 {
     let Hand {
@@ -80,6 +86,7 @@ fn look_round<S: Slot>(board: &RowBoard<S>, pass: &mut RowPass<S>, _workers: u8)
     requires ended { HasEnded (terms_of board.now).limits.most (terms_of board.now).plan (view pass.old).seen }
     ensures pass { IsPassOf S.shape S.gives board.now pass.new }
     ensures seen { (view pass.new).seen ≡ (view pass.old).seen }
+    ensures handed { (view pass.new).handed ≡ (view pass.old).handed }
     ensures led { HasLed _workers (view pass.new) }
     ensures gathered { (journal : List Event) → IsGathered (view pass.old) journal → IsGathered (view pass.new) journal }
 {
@@ -89,8 +96,9 @@ fn look_round<S: Slot>(board: &RowBoard<S>, pass: &mut RowPass<S>, _workers: u8)
 // Runs the pool of the hands, which come back where the run has ended. An `Err` comes where memory was refused to worker 0's journal, or
 // no thread was made for a worker.
 fn lead<
-    J: Job + Drop + Send,
+    J: Job + Admits<X> + Drop + Send,
     H: Handler + Drop + Send,
+    X: Sent + Drop + Send,
     R: Threads + Wait + Sync,
     P: Poller,
     C: Clock,
@@ -98,17 +106,20 @@ fn lead<
     rt: &R,
     pool: &Pool<Cell<J, H>>,
     hands: Vec<Hand<Cell<J, H>>>,
+    front: &Front<X>,
+    intake: &mut Intake<X>,
     poller: &mut P,
     clock: &mut C,
 ) -> Result<Vec<Hand<Cell<J, H>>>, AllocError>
     requires some { 0 < length hands.items }
     requires hands { All (IsReady (shape_of H.kind H.times H.total) (gives_of J.gives) pool.now) hands.items }
+    requires asks { (d : Hand (Cell J H)) → AsksOfFront (gives_of J.gives) X.gives front.now (slice_index_or hands.items 0 d) intake.old }
     ensures count { IfOk result (λ after. length after.items ≡ length hands.items) }
     ensures served { IfOk result (λ after. Each (Served (shape_of H.kind H.times H.total) (gives_of J.gives) pool.now) hands.items after.items) }
-    ensures led { IfOk result (λ after. (d : Hand (Cell J H)) → Led P.tells C.tells P.state C.state (length hands.items ≡ 1) (Unit {0}) (slice_index_or hands.items 0 d, poller.old, clock.old) (slice_index_or after.items 0 d, poller.new, clock.new)) }
+    ensures led { IfOk result (λ after. (d : Hand (Cell J H)) → LedWithFront P.tells C.tells P.state C.state (gives_of J.gives) X.gives front.now (length hands.items ≡ 1) (Unit {0}) (slice_index_or hands.items 0 d, intake.old, poller.old, clock.old) (slice_index_or after.items 0 d, intake.new, poller.new, clock.new)) }
     ensures kept { (d : Hand (Cell J H)) → (view (slice_index_or hands.items 0 d).pass).worker ≡ 0 → KeepsListens P.tells (P.state poller.old) (P.state poller.new) }
 {
-    let (exit, after) = pool_run(rt, pool, hands, poller, clock);
+    let (exit, after) = pool_run(rt, pool, hands, front, intake, poller, clock);
     match exit {
         Ok(_) => Ok(after),
         Err(AllocError) => Err(AllocError),
@@ -117,8 +128,9 @@ fn lead<
 
 // Runs the pool of the hands to the end. What worker 0 has seen then is the whole row. Its pass, and what was gathered of it.
 fn run_team<
-    J: Job + Drop + Send,
+    J: Job + Admits<X> + Drop + Send,
     H: Handler + Drop + Send,
+    X: Sent + Drop + Send,
     R: Threads + Wait + Sync,
     P: Poller,
     C: Clock,
@@ -126,6 +138,8 @@ fn run_team<
     rt: &R,
     pool: &Pool<Cell<J, H>>,
     hands: Vec<Hand<Cell<J, H>>>,
+    front: &Front<X>,
+    intake: &mut Intake<X>,
     poller: &mut P,
     clock: &mut C,
 ) -> Result<(Pass<J, H>, Vec<Event>), AllocError>
@@ -133,17 +147,22 @@ fn run_team<
     requires hands { EachFrom (IsReadyAt (shape_of H.kind H.times H.total) (gives_of J.gives) pool.now) 0 hands.items }
     requires head { (d : Hand (Cell J H)) → IsHead 1 (length hands.items) (view (slice_index_or hands.items 0 d).pass) }
     requires none { (d : Hand (Cell J H)) → (view (slice_index_or hands.items 0 d).pass).seen ≡ [] }
+    requires few { front.now.senders ≤ max_senders }
+    requires intake { IsIntakeOf front.now intake.old }
+    requires untaken { intake.old.taken ≡ [] }
     requires unwatched { (feed : ℕ) → (P.state poller.old).watched feed ≡ false }
     ensures pass { IfOk result (λ r. IsPassOf (shape_of H.kind H.times H.total) (gives_of J.gives) pool.now.board.now r.0) }
     ensures led { IfOk result (λ r. HasLed (length hands.items) (view r.0)) }
     ensures gathered { IfOk result (λ r. IsGathered (view r.0) r.1.items) }
-    ensures ran { IfOk result (λ r. RunsPlan (terms_of pool.now.board.now).limits.most (terms_of pool.now.board.now).plan (length hands.items)
+    ensures ran { IfOk result (λ r. RunsPlan (terms_of pool.now.board.now).limits.most (terms_of pool.now.board.now).plan (length hands.items) (AcceptsOf front.now.senders)
         (record { tells = P.tells; before = P.state poller.old; after = P.state poller.new })
         (record { tells = C.tells; before = C.state clock.old; after = C.state clock.new }) (view r.0).seen) }
+    ensures admitted { IfOk result (λ r. Admitted (gives_of J.gives) X.gives front.now (view r.0) intake.new) }
+    ensures intake { IfOk result (λ _. IsIntakeOf front.now intake.new) }
     ensures kept { KeepsListens P.tells (P.state poller.old) (P.state poller.new) }
 {
     let workers = hands.len() as u8;
-    let hands = lead(rt, pool, hands, poller, clock)?;
+    let hands = lead(rt, pool, hands, front, intake, poller, clock)?;
     let (mut pass, journal) = take_all(pool.board, hands);
     look_round(pool.board, &mut pass, workers);
     Ok((pass, journal))
@@ -151,16 +170,21 @@ fn run_team<
 
 /// Runs a pool whose board has just been made, by a worker for each bench, until the run is quiescent, halted or full. `pass` is worker
 /// 0's, and `benches` are those of the pool's rack, 1 to 64 and as many as the board was made for: a worker of the board without a
-/// bench would pass nothing on, and hold the others for ever after 4,096 events. What the pass that it leaves has seen is the whole row,
-/// which promises what a run of any engine does (`RunsPlan`), over the board's limit of events; no other pass is out, and the journal
+/// bench would pass nothing on, and hold the others for ever after 4,096 events. `intake` is that of `front`, of which nothing was taken
+/// yet: what the senders of the front send while the run is under way is run as the blocks of the plan's intake. A front without senders
+/// has no callers.
+///
+/// What the pass that it leaves has seen is the whole row, which promises what a run of any engine does (`RunsPlan`), over the board's
+/// limit of events, and of each sender's blocks which jobs they ran (`Admitted`); no other pass is out, and the journal
 /// beside it is what was gathered of it, so the board may be closed with both. The poller watches no feed yet. An `Err` is
-/// [`RunRefused::BeforeTheRun`] where memory runs out before the first turn, with poller and clock as they were (`before`), and
+/// [`RunRefused::BeforeTheRun`] where memory runs out before the first turn, with poller, clock and intake as they were (`before`), and
 /// [`RunRefused::InTheRun`] where it is refused to worker 0, which gathers what it has seen, or the system makes no thread for a worker
 /// on whom all others wait: blocks may have run then. All threads have ended, and of the run nothing is left; the poller listens where
 /// it did (`kept`).
 pub fn run_pool<
-    J: Job + Drop + Send,
+    J: Job + Admits<X> + Drop + Send,
     H: Handler + Drop + Send,
+    X: Sent + Drop + Send,
     R: Threads + Wait + Sync,
     P: Poller,
     C: Clock,
@@ -170,6 +194,8 @@ pub fn run_pool<
     pool: &Pool<Cell<J, H>>,
     pass: Pass<J, H>,
     mut benches: Vec<Bench>,
+    front: &Front<X>,
+    intake: &mut Intake<X>,
     poller: &mut P,
     clock: &mut C,
 ) -> Result<(Pass<J, H>, Vec<Event>), RunRefused>
@@ -179,21 +205,26 @@ pub fn run_pool<
     requires benches { All (IsBenchOf pool.now.rack.now) benches.items }
     requires count { (0 < length benches.items) × (length benches.items ≤ max_workers) }
     requires workers { (terms_of pool.now.board.now).limits.workers ≡ length benches.items }
+    requires few { front.now.senders ≤ max_senders }
+    requires intake { IsIntakeOf front.now intake.old }
+    requires untaken { intake.old.taken ≡ [] }
     requires unwatched { (feed : ℕ) → (P.state poller.old).watched feed ≡ false }
     ensures pass { IfOk result (λ r. IsPassOf (shape_of H.kind H.times H.total) (gives_of J.gives) pool.now.board.now r.0) }
     ensures led { IfOk result (λ r. HasLed (length benches.items) (view r.0)) }
     ensures gathered { IfOk result (λ r. IsGathered (view r.0) r.1.items) }
-    ensures ran { IfOk result (λ r. RunsPlan (terms_of pool.now.board.now).limits.most (terms_of pool.now.board.now).plan (length benches.items)
+    ensures ran { IfOk result (λ r. RunsPlan (terms_of pool.now.board.now).limits.most (terms_of pool.now.board.now).plan (length benches.items) (AcceptsOf front.now.senders)
         (record { tells = P.tells; before = P.state poller.old; after = P.state poller.new })
         (record { tells = C.tells; before = C.state clock.old; after = C.state clock.new }) (view r.0).seen) }
+    ensures admitted { IfOk result (λ r. Admitted (gives_of J.gives) X.gives front.now (view r.0) intake.new) }
+    ensures intake { IfOk result (λ _. IsIntakeOf front.now intake.new) }
     ensures kept { KeepsListens P.tells (P.state poller.old) (P.state poller.new) }
-    ensures before { IsErrOf result RunRefused.BeforeTheRun → (poller.new ≡ poller.old) × (clock.new ≡ clock.old) }
+    ensures before { IsErrOf result RunRefused.BeforeTheRun → (poller.new ≡ poller.old) × (clock.new ≡ clock.old) × (intake.new ≡ intake.old) }
 {
     let first = benches.remove(0);
     let Ok(hands) = hands_of(alloc, pool, pass, first, benches) else {
         return Err(RunRefused::BeforeTheRun);
     };
-    match run_team(rt, pool, hands, poller, clock) {
+    match run_team(rt, pool, hands, front, intake, poller, clock) {
         Ok(last) => Ok(last),
         Err(AllocError) => Err(RunRefused::InTheRun),
     }

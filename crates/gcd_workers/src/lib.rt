@@ -13,28 +13,43 @@
 //! to `MAX_EVENTS` of `gcd_plan`. Nothing of that size is taken at once: the journal grows with the run.
 //!
 //! A caller with jobs of its own calls [`run_jobs`], which makes all that a run by a team needs, with the outside in memory: no feed is
-//! told of, and time jumps. (The crate `gcd_example` is such a caller.) One who has feeds or a clock too makes board and rack itself, and
-//! calls the parts.
+//! told of, and time jumps. (The crate `gcd_example` is such a caller.) One whose jobs come from threads of its own while the queue runs
+//! makes a front (`gcd_front`) and calls [`run_front`], with a poller and a clock. (`gcd_callers_example` is such a caller.) Both lay the
+//! jobs on a board with a tally for each source. One with handlers of its own makes board and rack itself, and calls the parts.
+//!
+//! All teams take jobs from a front. Where there are no outside callers that is a front without senders, so nothing is accepted, and an
+//! intake of the plan is shut at once.
 //!
 //! | call | answer |
 //! |---|---|
 //! | [`team_size`] | how many of so many workers there can be work for, at least 1 |
 //! | [`tallies_of`] | a tally for each source, which a board asks for beside the jobs, or out of memory |
-//! | [`run_pool`] | worker 0's pass of a run that has ended, and the journal of what was gathered of it, with which the board may be closed (`HasLed`, `RunsPlan`, `IsGathered`), or out of memory |
+//! | [`run_pool`] | worker 0's pass of a run that has ended, and the journal of what was gathered of it, with which the board may be closed (`HasLed`, `RunsPlan`, `IsGathered`), and which jobs its senders' blocks have (`Admitted`), or out of memory |
 //! | [`run_jobs`] | the journal, the blocks' values and the state of a run of the caller's own jobs (`RunsJobs`), or why there is none: another number of jobs, no number of workers, no event, out of memory |
+//! | [`run_front`] | the same beside a front and its intake (`RunsFront`), or out of memory |
 //! | [`run_alone`], [`run_board`], [`run_workers`] | the journal, the blocks' values and the state of a run of the plan's works over its files (`RunsOverFiles`), or out of memory |
 //!
 //! | clause of the last three | says |
 //! |---|---|
 //! | `ran` (`RunsOverFiles`) | where memory sufficed: the journal is lawful, has at most `most` events, and has ended, in the state told; each event is of one of the workers, and with one of them each event of a worker is what worker 0 chooses at its place; no job of an outside caller is accepted, since there are none, and what poller and clock said stands in it (`RunsPlan` of `gcd_loop`); and the values are those of the works of the blocks that have ended and are not cancelled, and else 0 |
 //! | `stands` | the machine that is left stands for the journal |
-//! | `kept` | no listen was made, and the poller's count of faults did not fall; this holds where memory runs out too |
-//! | `before` | where the answer is [`RunRefused::BeforeTheRun`], poller and clock are as they were; [`run_pool`] has it too |
+//! | `kept` | no listen was made, and the poller's count of faults did not fall; this holds where memory runs out too, and for [`run_pool`] and [`run_front`] |
+//! | `before` | where the answer is [`RunRefused::BeforeTheRun`], poller and clock are as they were; [`run_pool`] and [`run_front`] have it too, of their intake as well |
 //!
 //! | clause of `run_jobs` | says |
 //! |---|---|
 //! | `ran` (`RunsJobs`) | where it is run: the journal is lawful, has at most `most` events, and has ended, in the state told; whose its events are, as above; and a block has a value exactly where it has ended and is not cancelled, which is one that its own job may give (`AreGiven`) |
 //! | `job_count`, `worker_count`, `event_count` | it is refused by that name exactly where there is not one job for each block; where else the number of workers is 0 or above 64; and where else there may be no event |
+//!
+//! | part of `RunsFront` | says |
+//! |---|---|
+//! | `run`, `state_is` | what a run of any engine promises (`RunsPlan`), and its state; each job that was accepted is of a sender of the front (`AcceptsOf`) |
+//! | `given` | a block has a value exactly where it has ended and is not cancelled; where it is not of the plan's intake, one that its own job may give |
+//! | `callers` | of each sender the jobs that the intake took begin with those of the blocks that were accepted of it, in order, a job for a block; where such a block has ended, its value is one that its caller's job may give (`OfSender`). No act cancels a block of the intake |
+//! | `all` | where a Shut stands, all jobs that were taken were accepted |
+//! | `why_shut` | where a Shut stands, each block of the intake is accepted, or all mouths were shut, and all that was sent was taken |
+//!
+//! Of what a sender sent, its account, the part that was taken is told by `settle` of the front's intake.
 //!
 //! A run by worker 0 alone takes memory before its first turn, and where its list has to grow; what is left of it at a refusal
 //! is nothing, and which of the two it was is told ([`RunRefused`]). So with a given clock and poller its journal is exact. A team takes memory before the first turn, after the last, and where
@@ -52,11 +67,14 @@
 mod alone;
 mod gather;
 mod hiring;
+mod jobs_board;
 mod jobs_run;
 mod list_run;
+mod nobodys_front;
 mod opening;
 mod outcome;
 mod refused;
+mod running_front;
 mod running_jobs;
 mod team;
 mod values;
@@ -69,5 +87,6 @@ pub use jobs_run::{JobsRefused, JobsRun};
 pub use opening::tallies_of;
 pub use outcome::Outcome;
 pub use refused::RunRefused;
+pub use running_front::run_front;
 pub use running_jobs::run_jobs;
 pub use workers::{run_board, run_workers};

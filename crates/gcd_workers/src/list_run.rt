@@ -1,10 +1,13 @@
 // A run that one worker keeps in a list, as far as it has come.
-ghost use Rattle.std.specs.Prelude.{◌≡◌, ◌<◌, ◌++◌, ◌∷◌, [], List, length, IfOk, OnOk};
+ghost use Rattle.std.specs.Prelude.{◌≡◌, ◌<◌, ◌++◌, ◌∷◌, [], false, List, None, length, IfOk, OnOk};
 ghost use Rattle.gcd_event.specs.declared.event.Event.{Event};
+ghost use Rattle.gcd_history.specs.Choice.{is_work, worker_of};
+ghost use Rattle.gcd_history.specs.Intake.{accepted};
 ghost use Rattle.gcd_history.specs.Values.{value_of};
 ghost use Rattle.gcd_jobs.specs.BlockValues.{AreValues, value_at_end};
 ghost use Rattle.gcd_jobs.specs.Contents.{contents};
 ghost use Rattle.gcd_jobs.specs.Ends.{EndFits};
+ghost use Rattle.gcd_loop.specs.Recorded.{Says};
 ghost use Rattle.gcd_machine.specs.Stands.{StandsFor};
 ghost use Rattle.gcd_workers.specs.ListRuns.{IsListRun, IsNext};
 
@@ -112,6 +115,30 @@ impl ListRun {
         self.machine.apply(e);
         Ok(())
     }
+
+    // Records an event that is no worker's and accepts no job, where it may come next.
+    #[inline(always)]
+    fn put_one(
+        &mut self,
+        plan: &Plan,
+        most: u32,
+        files: &[Vec<u8>],
+        e: Event,
+    ) -> Result<Put, AllocError>
+        requires run { IsListRun most plan.now (contents files.now) self.old.journal.items self.old.values.items self.old.machine }
+        requires room { length self.old.journal.items < most }
+        requires by { worker_of e ≡ 0 }
+        requires no_work { is_work e ≡ false }
+        requires no_job { accepted e ≡ None }
+        ensures run { IsListRun most plan.now (contents files.now) self.new.journal.items self.new.values.items self.new.machine }
+        ensures said { IfOk result (Says most plan.now e self.old.journal.items self.new.journal.items) }
+    {
+        if self.machine.permits(e).is_some() {
+            return Ok(Put::Barred);
+        }
+        self.record(plan, most, files, e)?;
+        Ok(Put::Placed)
+    }
 }
 
 // The contents of the plan's files.
@@ -161,11 +188,20 @@ impl<'a> Recorder<Files<'a>> for ListRun {
         shared: &Files<'a>,
         e: Event,
     ) -> Result<Put, AllocError> {
-        if self.machine.permits(e).is_some() {
-            return Ok(Put::Barred);
-        }
-        self.record(plan, most, shared.all, e)?;
-        Ok(Put::Placed)
+        self.put_one(plan, most, shared.all, e)
+    }
+
+    // There are no outside callers.
+    #[inline(always)]
+    fn admit<R: Wait>(
+        &mut self,
+        _rt: &R,
+        plan: &Plan,
+        most: u32,
+        shared: &Files<'a>,
+    ) -> Result<Option<Put>, AllocError> {
+        let put = self.put_one(plan, most, shared.all, Event::Shut)?;
+        Ok(Some(put))
     }
 
     #[inline(always)]

@@ -5,6 +5,7 @@ ghost use Rattle.gcd_plan.specs.Limits.{max_workers};
 ghost use Rattle.gcd_history.specs.Ends.{HasState};
 ghost use Rattle.gcd_jobs.specs.BlockValues.{AreValues};
 ghost use Rattle.gcd_jobs.specs.Contents.{contents};
+ghost use Rattle.gcd_loop.specs.Followed.{AcceptsNone};
 ghost use Rattle.gcd_machine.specs.Stands.{StandsFor};
 ghost use Rattle.gcd_pool.specs.Hands.{IsPool};
 ghost use Rattle.gcd_row.specs.Passes.{IsGathered, IsPassOf, terms_of, view};
@@ -17,6 +18,7 @@ ghost use Rattle.gcd_workers.specs.EndedValues.{GiveWorks, work_gives, work_shap
 use crate::alone::run_alone;
 use crate::gather::run_pool;
 use crate::hiring::team_size;
+use crate::nobodys_front::nobodys_front;
 use crate::opening::{WorkBoard, WorkCell, WorkPass, open_board};
 use crate::outcome::Outcome;
 use crate::refused::RunRefused;
@@ -46,6 +48,7 @@ fn close<'a>(
 ) -> Result<Outcome, AllocError>
     requires pass { IsPassOf work_shape work_gives board pass }
     requires led { HasLed _workers (view pass) }
+    requires uncalled { AcceptsNone (view pass).seen }
     requires gathered { IsGathered (view pass) gathered.items }
     requires plan { (terms_of board).plan ≡ plan.now }
     requires works { GiveWorks plan.now (contents files.now) (terms_of board).cells }
@@ -69,7 +72,8 @@ fn close<'a>(
 }
 
 /// Runs the plan over a rack, by at most so many workers, one for each bench: its works over the files lie in
-/// a board of their own, which is made for as many workers as there are benches, and for `most` events. An `Err` is that of
+/// a board of their own, which is made for as many workers as there are benches, and for `most` events. There are no outside callers, so an
+/// intake of the plan is shut at once. An `Err` is that of
 /// [`run_pool`], or comes where memory runs out before it, which is before the run too, or at the end, when the board is closed.
 pub fn run_board<R: Threads + Wait + Sync, P: Poller, C: Clock>(
     rt: &R,
@@ -100,11 +104,24 @@ pub fn run_board<R: Threads + Wait + Sync, P: Poller, C: Clock>(
     let Ok(values) = Vec::from_elem(alloc, 0, plan.blocks() as usize) else {
         return Err(RunRefused::BeforeTheRun);
     };
+    let Ok((front, mut intake)) = nobodys_front(alloc) else {
+        return Err(RunRefused::BeforeTheRun);
+    };
     let Ok((board, pass)) = open_board(alloc, plan, benches.len() as u8, most, files) else {
         return Err(RunRefused::BeforeTheRun);
     };
     let pool = Pool::new(&board, rack, plan);
-    let (last, gathered) = run_pool(rt, alloc, &pool, pass, benches, poller, clock)?;
+    let (last, gathered) = run_pool(
+        rt,
+        alloc,
+        &pool,
+        pass,
+        benches,
+        &front,
+        &mut intake,
+        poller,
+        clock,
+    )?;
     drop(pool);
     match close(alloc, plan, files, board, last, gathered, values, workers) {
         Ok(outcome) => Ok(outcome),

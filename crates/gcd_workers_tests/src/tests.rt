@@ -1,4 +1,5 @@
 mod alone;
+mod callers;
 mod jobs;
 mod made;
 mod plans;

@@ -21,17 +21,17 @@ returns-in-Stopped-clause-work g c = outcome_adds g.S.Slot.shape g.S.Slot.gives 
 pub returns-in-Placed-clause-after : goal.returns-in-Placed-clause-after
 returns-in-Placed-clause-after g c =
     outcome_fresh g.S.Slot.shape g.S.Slot.gives c.args.pool.now.board.now c.args.e c.args.hand.now.pass c.put_begin.new.hand.pass c.put_begin.result c.put_begin.ensures.serving.of.pass
-    c.requires.worker c.requires.ready.of.cells c.put_begin.ensures.said c.requires.ready.fresh
+    c.requires.worker c.put_begin.ensures.said c.requires.ready.fresh
 
 pub returns-in-Barred-clause-after : goal.returns-in-Barred-clause-after
 returns-in-Barred-clause-after g c =
     outcome_fresh g.S.Slot.shape g.S.Slot.gives c.args.pool.now.board.now c.args.e c.args.hand.now.pass c.put_begin.new.hand.pass c.put_begin.result c.put_begin.ensures.serving.of.pass
-    c.requires.worker c.requires.ready.of.cells c.put_begin.ensures.said c.requires.ready.fresh
+    c.requires.worker c.put_begin.ensures.said c.requires.ready.fresh
 
 pub returns-in-Full-clause-after : goal.returns-in-Full-clause-after
 returns-in-Full-clause-after g c =
     outcome_fresh g.S.Slot.shape g.S.Slot.gives c.args.pool.now.board.now c.args.e c.args.hand.now.pass c.put_begin.new.hand.pass c.put_begin.result c.put_begin.ensures.serving.of.pass
-    c.requires.worker c.requires.ready.of.cells c.put_begin.ensures.said c.requires.ready.fresh
+    c.requires.worker c.put_begin.ensures.said c.requires.ready.fresh
 
 pub returns-in-Placed-clause-begun : goal.returns-in-Placed-clause-begun
 returns-in-Placed-clause-begun g c = λ node.

@@ -35,12 +35,12 @@ returns-in-Stopped-clause-only g c = outcome_only g.S.Slot.shape g.S.Slot.gives 
 pub returns-in-Placed-clause-after : goal.returns-in-Placed-clause-after
 returns-in-Placed-clause-after g c =
     outcome_fresh g.S.Slot.shape g.S.Slot.gives c.args.pool.now.board.now c.args.e c.args.hand.now.pass c.put_chosen_through.new.hand.pass c.put_chosen_through.result c.put_chosen_through.ensures.serving.of.pass
-    c.requires.worker c.requires.of.cells c.put_chosen_through.ensures.said c.requires.fresh
+    c.requires.worker c.put_chosen_through.ensures.said c.requires.fresh
 
 pub returns-in-Barred-clause-after : goal.returns-in-Barred-clause-after
 returns-in-Barred-clause-after g c =
     outcome_fresh g.S.Slot.shape g.S.Slot.gives c.args.pool.now.board.now c.args.e c.args.hand.now.pass c.put_chosen_through.new.hand.pass c.put_chosen_through.result c.put_chosen_through.ensures.serving.of.pass
-    c.requires.worker c.requires.of.cells c.put_chosen_through.ensures.said c.requires.fresh
+    c.requires.worker c.put_chosen_through.ensures.said c.requires.fresh
 
 pub returns-in-Full-clause-after : goal.returns-in-Full-clause-after
 returns-in-Full-clause-after g c =

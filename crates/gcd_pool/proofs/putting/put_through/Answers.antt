@@ -1,9 +1,16 @@
 use Rattle.std.proofs.Common.{◌∙◌}
-use Rattle.gcd_row.specs.declared.put.Put.TheVariants.{Barred}
+use Rattle.gcd_row.specs.declared.put.Put.TheVariants.{Placed, Barred}
 use Rattle.gcd_pool.specs.declared.hand.Hand.{Hand}
 use Rattle.gcd_pool.proofs.Throughs.{looks_waits, passing_waits, put_then, waited_gives, waits_further}
 use Rattle.gcd_pool.proofs.Serves.{looks_serves, serves_further}
 use Rattle.gcd_pool.proofs.putting.put_through.Goals as goal
+
+pub returns-in-Placed-clause-said : goal.returns-in-Placed-clause-said
+returns-in-Placed-clause-said g c = (
+  c.in-Placed.field-0,
+  put_then g.S.Slot.shape g.S.Slot.gives c.args.pool.now.board.now c.args.e c.args.hand.now.pass c.loop.hand.pass c.put.new.pass (Placed c.in-Placed.field-0)
+      c.loop.invariant.waited c.loop.invariant.serving.of.pass c.in-Placed.ensures.view c.in-Placed.ensures.slots,
+)
 
 pub returns-in-Barred-clause-said : goal.returns-in-Barred-clause-said
 returns-in-Barred-clause-said g c = (

@@ -1,5 +1,8 @@
-use Rattle.std.proofs.Common.{arith, rules}
-use Rattle.gcd_row.specs.Passes.{view}
+use Rattle.std.proofs.Common.{arith, rules, subst, sym}
+use Rattle.std.specs.Prelude.{All}
+use Rattle.std.proofs.lemmas.List.Elements.{All-drop}
+use Rattle.gcd_row.specs.Passes.{IsPassOf, view}
+use Rattle.gcd_pool.specs.declared.hand.Hand.{Hand}
 use Rattle.gcd_pool.proofs.Teams.{all_home}
 use Rattle.gcd_pool_tests.proofs.hiring.gather.Goals as goal
 
@@ -9,7 +12,9 @@ loop-step-init g c = record {
   pass = search rules;
   worker = search rules;
   gathered = search rules;
-  hands = search rules;
+  hands =
+      let P : Hand g.row.S.Denot → Type 0 = λ h. IsPassOf g.S.Slot.shape g.S.Slot.gives c.args.board.now h.pass in
+      subst (All P) (sym c.remove-head.ensures.items) (All-drop P 1 c.args.hands.items c.requires.hands);
   home = search rules;
   back = search rules;
 }

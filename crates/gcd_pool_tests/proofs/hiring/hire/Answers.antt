@@ -1,4 +1,4 @@
-use Rattle.std.proofs.Common.{◌≡◌, ◌∙◌, Bool, cond, Some, ap, arith}
+use Rattle.std.proofs.Common.{◌∙◌, Bool, cond, Some, ap, arith}
 use Rattle.std.proofs.lemmas.Bool.{ne_eqb}
 use Rattle.gcd_row.specs.Passes.{view}
 use Rattle.gcd_row.specs.Views.{standing_of}

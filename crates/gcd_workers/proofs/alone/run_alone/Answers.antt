@@ -3,6 +3,7 @@ use Rattle.gcd_event.specs.declared.event.Event.{Event}
 use Rattle.gcd_jobs.specs.Contents.{contents}
 use Rattle.gcd_loop.proofs.Follows.{workers_of_alone}
 use Rattle.gcd_loop.proofs.Steps.{runs_plan}
+use Rattle.gcd_loop.specs.Followed.{AcceptsNone}
 use Rattle.gcd_loop.specs.Going.{IsRunOn}
 use Rattle.gcd_outer.specs.Outside.{ClockState, Seen}
 use Rattle.gcd_outer.specs.Tells.{PollerState}
@@ -21,8 +22,8 @@ returns-clause-ran g c =
     let timed : Seen ClockState = record { tells = g.C.Clock.tells; before = g.C.Clock.state c.args.clock.now; after = g.C.Clock.state c.run_turns.new.clock } in
     let on : IsRunOn most plan [] h told timed = subst (λ (stood : List Event). IsRunOn most plan stood h told timed) c.in-Ok.ensures.journal c.in-Ok-run_turns.ensures.run_on in
     record {
-      run = runs_plan most plan 1 h last.machine told timed (list_sight most plan (contents c.args.files.now) h last.values.items last.machine run)
-          (workers_of_alone 1 h (omega arith) run.alone) (λ one. run.chosen) c.requires.unwatched on;
+      run = runs_plan most plan 1 AcceptsNone h last.machine told timed (list_sight most plan (contents c.args.files.now) h last.values.items last.machine run)
+          (workers_of_alone 1 h (omega arith) run.alone) (λ one. run.chosen) run.uncalled c.requires.unwatched on;
       state_is = c.state-state.ensures plan h run.stands;
       values = run.values;
     }

@@ -8,6 +8,9 @@ pub returns-clause-seen : goal.returns-clause-seen
 returns-clause-seen g c =
     seen_whole g.S.Slot.shape g.S.Slot.gives c.args.board.now (view c.args.pass.now) c.look.new.pass c.look.ensures.pass c.requires.head.worker c.requires.ended c.look.ensures.view.ahead
 
+pub returns-clause-handed : goal.returns-clause-handed
+returns-clause-handed g c = ap (λ v. v.handed) c.look.ensures.view.is
+
 pub returns-clause-led : goal.returns-clause-led
 returns-clause-led g c =
     let n = c.args._workers in

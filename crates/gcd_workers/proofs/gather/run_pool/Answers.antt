@@ -5,6 +5,7 @@ use Rattle.gcd_outer.specs.Tells.{PollerState}
 use Rattle.gcd_loop.specs.Ran.{RunsPlan}
 use Rattle.gcd_row.specs.Passes.{terms_of, view}
 use Rattle.gcd_steal.specs.Racks.{IsBenchOf}
+use Rattle.gcd_workers.specs.CallersRuns.{AcceptsOf}
 use Rattle.gcd_workers.specs.Teams.{HasLed, IsHead}
 use Rattle.gcd_workers.proofs.Heads.{head_first}
 use Rattle.gcd_workers.proofs.Hires.{all_after, all_first}
@@ -43,4 +44,4 @@ returns-in-Ok-run_team-clause-ran g c =
     let told : Seen PollerState = record { tells = g.P.Poller.tells; before = g.P.Poller.state c.args.poller.now; after = g.P.Poller.state c.run_team.new.poller } in
     let timed : Seen ClockState = record { tells = g.C.Clock.tells; before = g.C.Clock.state c.args.clock.now; after = g.C.Clock.state c.run_team.new.clock } in
     let board = terms_of c.args.pool.now.board.now in
-    subst (λ (n : ℕ). RunsPlan board.limits.most board.plan n told timed (view c.in-Ok-run_team.last.0).seen) same c.in-Ok-run_team.ensures.ran
+    subst (λ (n : ℕ). RunsPlan board.limits.most board.plan n (AcceptsOf c.args.front.now.senders) told timed (view c.in-Ok-run_team.last.0).seen) same c.in-Ok-run_team.ensures.ran

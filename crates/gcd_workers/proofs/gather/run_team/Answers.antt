@@ -6,7 +6,9 @@ use Rattle.gcd_row.specs.Shapes.{gives_of, shape_of}
 use Rattle.gcd_history.specs.Ends.{HasEnded}
 use Rattle.gcd_outer.specs.Outside.{ClockState, Seen}
 use Rattle.gcd_outer.specs.Tells.{PollerState}
+use Rattle.gcd_workers.specs.CallersRuns.{AcceptsOf}
 use Rattle.gcd_workers.specs.Teams.{HasLed}
+use Rattle.gcd_workers.proofs.Callers.{admitted_after, asks_at_first}
 use Rattle.gcd_workers.proofs.Hires.{ended_after, gathered_after}
 use Rattle.gcd_workers.proofs.Runs.{team_ran}
 use Rattle.gcd_workers.proofs.Wholes.{some_of}
@@ -27,10 +29,29 @@ look_round-requires-clause-ended g c =
 pub returns-clause-gathered : goal.returns-clause-gathered
 returns-clause-gathered g c = c.look_round.ensures.gathered c.take_all-pass.result.1.items c.take_all-pass.ensures.gathered
 
+pub lead-requires-clause-asks : goal.lead-requires-clause-asks
+lead-requires-clause-asks g c = λ lifetimes outlive d.
+    asks_at_first (gives_of g.J.Job.gives) g.X.Sent.gives c.args.front.now (slice_index_or c.args.hands.items 0 d) c.args.intake.now
+    c.requires.few c.requires.intake (c.requires.none d) c.requires.untaken
+
+pub returns-clause-admitted : goal.returns-clause-admitted
+returns-clause-admitted g c =
+    let d = some_of c.args.hands.items c.requires.some.0 in
+    let led = c.in_ok-hands.ensures.led d in
+    admitted_after (gives_of g.J.Job.gives) g.X.Sent.gives c.args.front.now (shape_of g.H.Handler.kind g.H.Handler.times g.H.Handler.total) c.args.pool.now
+    c.args.hands.items c.in_ok-hands.hands.items c.look_round.new.pass c.lead.new.intake d c.requires.some.0 c.in_ok-hands.ensures.served c.look_round.ensures.pass
+    (c.look_round.ensures.handed ∙ c.take_all-pass.ensures.handed d) (c.look_round.ensures.seen ∙ c.take_all-pass.ensures.seen d)
+    (led.admitted tt (c.requires.head d).worker)
+
+pub returns-clause-intake : goal.returns-clause-intake
+returns-clause-intake g c =
+    let d = some_of c.args.hands.items c.requires.some.0 in
+    (c.in_ok-hands.ensures.led d).of_front tt (c.requires.head d).worker
+
 pub returns-clause-ran : goal.returns-clause-ran
 returns-clause-ran g c =
     let d = some_of c.args.hands.items c.requires.some.0 in
-    let led = c.in_ok-hands.ensures.led d in
+    let led = (c.in_ok-hands.ensures.led d).led in
     let told : Seen PollerState = record { tells = g.P.Poller.tells; before = g.P.Poller.state c.args.poller.now; after = g.P.Poller.state c.lead.new.poller } in
     let timed : Seen ClockState = record { tells = g.C.Clock.tells; before = g.C.Clock.state c.args.clock.now; after = g.C.Clock.state c.lead.new.clock } in
     let old = view (slice_index_or c.args.hands.items 0 d).pass in
@@ -38,9 +59,10 @@ returns-clause-ran g c =
     let count : c.len-workers.result ≡ length c.args.hands.items = omega arith in
     let all = subst (λ (n : ℕ). HasLed n (view c.look_round.new.pass)) count c.look_round.ensures.led in
     team_ran (shape_of g.H.Handler.kind g.H.Handler.times g.H.Handler.total) (gives_of g.J.Job.gives) c.args.pool.now.board.now (length c.args.hands.items)
-    old last c.look_round.new.pass told timed c.look_round.ensures.pass all (c.requires.hands 0 d c.requires.some.0).ready.of.pass.terms
+    (AcceptsOf c.args.front.now.senders) old last c.look_round.new.pass told timed c.look_round.ensures.pass all (c.requires.hands 0 d c.requires.some.0).ready.of.pass.terms
     (c.requires.none d) (c.look_round.ensures.seen ∙ c.take_all-pass.ensures.seen d) (led.led tt (c.requires.head d).worker)
-    (λ one. led.follows one (c.requires.head d).worker) c.requires.unwatched
+    (λ one. led.follows one (c.requires.head d).worker)
+    (returns-clause-admitted g c).senders c.requires.unwatched
 
 pub returns-clause-kept : goal.returns-clause-kept
 returns-clause-kept g c =

@@ -19,6 +19,7 @@ loop-hand-init g c =
       pass = search rules;
       head = search rules;
       seen = refl;
+      handed = refl;
       ended = search rules;
       gathered = search rules;
     }
@@ -62,6 +63,7 @@ loop-hand-preserved g c =
       head = subst (λ (m : ℕ). IsHead m all (view c.take_in.new.pass)) (sym place)
           (head_back n all (view at.pass) (view c.take_in.new.pass) low i.head c.take_in.ensures.worker hands);
       seen = c.take_in.ensures.seen ∙ i.seen;
+      handed = c.take_in.ensures.handed ∙ i.handed;
       ended = i.ended;
       gathered = c.take_in.ensures.gathered _ i.gathered;
     }

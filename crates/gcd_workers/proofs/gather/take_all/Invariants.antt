@@ -13,6 +13,7 @@ invariant-loop-hand g l = record {
   pass : IsPassOf g.S.Slot.shape g.S.Slot.gives l.board l.pass;
   head : IsHead (suc (length l.yielded)) (length l.fn.hands.items) (view l.pass);
   seen : (view l.pass).seen ≡ (view l.initial.pass).seen;
+  handed : (view l.pass).handed ≡ (view l.initial.pass).handed;
   ended : HasEnded (terms_of l.board).limits.most (terms_of l.board).plan (view l.initial.pass).seen;
   gathered : IsGathered (view l.pass) l.journal.items;
 }

@@ -16,5 +16,8 @@ returns-clause-gathered g c = λ journal is.
     let seen = seen_whole g.S.Slot.shape g.S.Slot.gives c.args.board.now v p c.join.ensures.pass c.requires.worker c.requires.ended c.join.ensures.view.mine in
     gathered_same v (view p) journal seen (ap (λ w. w.marks.passed) c.join.ensures.view.is) is
 
+pub returns-clause-handed : goal.returns-clause-handed
+returns-clause-handed g c = ap (λ v. v.handed) c.join.ensures.view.is
+
 pub returns-clause-hands : goal.returns-clause-hands
 returns-clause-hands g c = ap (λ v. v.hands) c.join.ensures.view.is

@@ -13,4 +13,4 @@ note_all-requires-clause-lawful c =
 pub note_all-requires-clause-valued : goal.note_all-requires-clause-valued
 note_all-requires-clause-valued c =
     rw (c.deref-2.ensures.value, c.deref.ensures.value, c.in-Ok.ensures.events)
-    (values_at_rest c.args.plan.now (contents c.args.files.now) c.args.board c.args.pass c.in-Ok.cells.items c.requires.pass c.requires.plan c.requires.works c.in-Ok.ensures.cells)
+    (values_at_rest c.args.plan.now (contents c.args.files.now) c.args.board c.args.pass c.in-Ok.cells.items c.requires.pass c.requires.plan c.requires.uncalled c.requires.works c.in-Ok.ensures.cells)

@@ -4,6 +4,9 @@ use Rattle.gcd_outer.specs.Outside.{ClockState, Seen}
 use Rattle.gcd_outer.specs.Tells.{PollerState}
 use Rattle.gcd_jobs.specs.Contents.{contents}
 use Rattle.gcd_row.specs.Passes.{terms_of, view}
+use Rattle.gcd_loop.specs.Followed.{AcceptsNone}
+use Rattle.gcd_workers.specs.CallersRuns.{AcceptsOf}
+use Rattle.gcd_workers.proofs.Callers.{calls_none}
 use Rattle.gcd_workers.proofs.Heads.{led_by_more}
 use Rattle.gcd_workers.proofs.Pools.{limits_along, plan_along, pool_of}
 use Rattle.gcd_workers.proofs.Runs.{runs_by_more, runs_over_files}
@@ -25,6 +28,10 @@ pub close-requires-clause-led : goal.close-requires-clause-led
 close-requires-clause-led g c =
     led_by_more (length c.args.benches.items) c.args.workers (view c.in_ok-last.last) c.requires.count.1 c.in_ok-last.ensures.led
 
+pub close-requires-clause-uncalled : goal.close-requires-clause-uncalled
+close-requires-clause-uncalled g c =
+    calls_none c.in-Ok-nobodys_front.front.senders (view c.in_ok-last.last).seen c.in-Ok-nobodys_front.ensures.senders c.in_ok-last.ensures.ran.called
+
 pub close-requires-clause-zeros : goal.close-requires-clause-zeros
 close-requires-clause-zeros g c =
     c.in-Ok.ensures.items_if_clones_equal (λ y is. is) ∙ ap (λ (n : ℕ). replicate n 0) c.blocks-2.ensures.count
@@ -38,7 +45,9 @@ returns-in-Ok-close-clause-ran g c =
     let seen = (view c.in_ok-last.last).seen in
     let limit = (terms_of c.new-pool.result.board.now).limits.most in
     let limit_is = ap (λ l. l.most) (limits_along c.new-pool.ensures.board ∙ c.in-Ok-open_board.ensures.limits) in
-    let run = runs_by_more limit own (length c.args.benches.items) c.args.workers told timed seen c.requires.count.0 c.requires.count.1 c.in_ok-last.ensures.ran in
+    let senders = c.in-Ok-nobodys_front.front.senders in
+    let run = runs_by_more limit own (length c.args.benches.items) c.args.workers (AcceptsOf senders) AcceptsNone told timed seen c.requires.count.0 c.requires.count.1
+    (calls_none senders seen c.in-Ok-nobodys_front.ensures.senders) c.in_ok-last.ensures.ran in
     runs_over_files c.args.most limit c.args.plan.now own c.args.workers (contents c.args.files.now) told timed seen
     c.in-Ok-close.outcome.journal.items c.in-Ok-close.outcome.values.items c.in-Ok-close.outcome.state
     limit_is is c.in-Ok-close.ensures.journal run c.in-Ok-close.ensures.state c.in-Ok-close.ensures.values

@@ -1,5 +1,6 @@
 use Rattle.std.proofs.Common.{◌∙◌, ap, subst, sym}
 use Rattle.std.proofs.lemmas.Bool.{both_ways}
+use Rattle.gcd_row.specs.Jobs.{held_jobs}
 use Rattle.gcd_row.specs.Passes.{view}
 use Rattle.gcd_row.specs.Shapes.{MayGive, shape_of, gives_of}
 use Rattle.gcd_row.specs.Views.{knows_cancelled}
@@ -42,7 +43,7 @@ take_body-job-requires-clause-body g c =
 
 pub give_done-requires-2-clause-gives : goal.give_done-requires-2-clause-gives
 give_done-requires-2-clause-gives g c = λ works.
-    subst (λ v. MayGive g.J.Job.gives v.terms c.args.b.0 c.run.result) (sym c.take_body-job.ensures.view) (c.take_body-job.ensures.gives c.run.result c.run.ensures)
+    subst (λ v. MayGive g.J.Job.gives (held_jobs v) c.args.b.0 c.run.result) (sym c.take_body-job.ensures.view) (c.take_body-job.ensures.gives c.run.result c.run.ensures)
 
 pub give_done-requires-2-clause-body : goal.give_done-requires-2-clause-body
 give_done-requires-2-clause-body g c = λ marked.

@@ -1,7 +1,7 @@
 use Rattle.std.proofs.Common.{arith}
 use Rattle.gcd_jobs.proofs.ValuesMore.{no_values}
 use Rattle.gcd_jobs.specs.Contents.{contents}
-use Rattle.gcd_loop.proofs.Follows.{alone_none, follows_none}
+use Rattle.gcd_loop.proofs.Follows.{accepts_none_first, alone_none, follows_none}
 use Rattle.gcd_workers.proofs.list_run.ListRun.new.Goals as goal
 
 pub returns-clause-run : goal.returns-clause-run
@@ -15,5 +15,6 @@ returns-clause-run c =
       few = rw empty (omega arith);
       alone = rw empty alone_none;
       chosen = rw empty (follows_none plan);
+      uncalled = rw empty accepts_none_first;
       values = rw (empty, zeros, c.blocks-count.ensures.count) (no_values plan (contents c.args.files.now));
     }

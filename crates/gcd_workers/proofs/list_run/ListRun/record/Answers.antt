@@ -1,7 +1,7 @@
 use Rattle.std.proofs.Common.{◌∙◌, arith}
 use Rattle.std.proofs.lemmas.List.{length_push}
 use Rattle.gcd_jobs.proofs.ValuesMore.{end_fits}
-use Rattle.gcd_loop.proofs.Follows.{alone_more, follows_more}
+use Rattle.gcd_loop.proofs.Follows.{accepts_none_more, alone_more, follows_more}
 use Rattle.gcd_workers.proofs.list_run.ListRun.record.Goals as goal
 
 pub note_end-requires-clause-ends : goal.note_end-requires-clause-ends
@@ -21,5 +21,6 @@ returns-clause-run c =
       few = omega (arith, length_push h e, next.room);
       alone = alone_more h e run.alone next.by;
       chosen = follows_more plan h e run.chosen next.chosen;
+      uncalled = accepts_none_more h e run.uncalled next.no_job;
       values = c.note_end.ensures.values h run.stands run.values;
     })

@@ -1,5 +1,6 @@
 use Rattle.gcd_history.proofs.PublicLaws.{choice_is_permitted}
 use Rattle.gcd_jobs.specs.Contents.{contents}
+use Rattle.gcd_loop.proofs.Events.{work_accepts_none}
 use Rattle.gcd_loop.proofs.Steps.{grown, grows_one}
 use Rattle.gcd_workers.specs.ListRuns.{list_sight}
 use Rattle.gcd_workers.proofs.list_run.ListRunRecorderFiles.work.Goals as goal
@@ -7,7 +8,7 @@ use Rattle.gcd_workers.proofs.list_run.ListRunRecorderFiles.work.Goals as goal
 pub record-requires-clause-next : goal.record-requires-clause-next
 record-requires-clause-next g c =
     let choice = choice_is_permitted c.args.plan.now c.args.self.now.journal.items 0 0 c.args.e c.requires.chosen in
-    record { permitted = choice.permitted; room = c.requires.room.room; by = choice.by; chosen = λ work. c.requires.chosen }
+    record { permitted = choice.permitted; room = c.requires.room.room; by = choice.by; chosen = λ work. c.requires.chosen; no_job = work_accepts_none c.args.e choice.work }
 
 pub returns-clause-grown : goal.returns-clause-grown
 returns-clause-grown g c =

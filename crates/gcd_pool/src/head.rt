@@ -1,0 +1,306 @@
+// Worker 0 of a pool, which alone has poller and clock, and the intake of the jobs of outside callers.
+ghost use Rattle.std.specs.Prelude.{◌≡◌, ◌≤◌, ◌⊎◌, true, false, ℕ, Some, None, IfOk, OnOk};
+ghost use Rattle.gcd_history.specs.History.{is_intake_open, next_of_intake};
+ghost use Rattle.gcd_loop.specs.Recorded.{Admits};
+ghost use Rattle.gcd_front.specs.Fronts.{IsIntakeOf, KnowsAll, TookAll};
+ghost use Rattle.gcd_front.specs.Limits.{max_senders};
+ghost use Rattle.gcd_plan.specs.PlanView.{PlanView};
+ghost use Rattle.gcd_row.specs.Passes.{view};
+ghost use Rattle.gcd_turn.specs.Turns.{HasRoom};
+ghost use Rattle.gcd_pool.specs.Admitted.{Admitted, AllAccepted, IsAccepted, IsLeading};
+ghost use Rattle.gcd_pool.specs.Hands.{IsReady, Serving};
+ghost use Rattle.gcd_pool.specs.Leads.{IsHead, Leads, Led};
+ghost use Rattle.gcd_pool.specs.declared.hand.Hand.{Hand};
+
+use crate::admit_cells::AdmitCells;
+use crate::hand::{Hand, Pool};
+use crate::idle::Idle;
+use crate::lead::{gather_all, look_on, put_on, rest_on, work_on};
+use crate::putting::pass_many;
+use crate::serve::serve_to_the_end;
+use crate::team::Leader;
+use gcd_event::Event;
+use gcd_front::{Front, Intake, Sent};
+use gcd_loop::{Put, Recorder, Step, run_turns};
+use gcd_machine::Machine;
+use gcd_outer::{Clock, Poller};
+use gcd_plan::{Blk, Plan};
+use std::alloc::AllocError;
+use std::sync::Wait;
+
+// The intake is shut: each of its blocks is accepted, or all mouths were shut, and all that was sent was taken.
+fn shut<S: AdmitCells<X>, X: Sent + Drop, R: Wait>(
+    rt: &R,
+    pool: &Pool<S>,
+    hand: &mut Hand<S>,
+    _front: &Front<X>,
+    _intake: &Intake<X>,
+    plan: &Plan,
+    most: u32,
+) -> Result<Option<Put>, AllocError>
+    requires leading { IsLeading S.shape S.gives X.gives most plan.now pool.now _front.now hand.old _intake.now }
+    requires room { HasRoom most plan.now (view hand.old.pass).seen }
+    requires why { AllAccepted plan.now (view hand.old.pass).seen ⊎ (KnowsAll _front.now _intake.now × TookAll _intake.now) }
+    ensures leading { OnOk result (IsLeading S.shape S.gives X.gives most plan.now pool.now _front.now hand.new _intake.now) }
+    ensures said { IfOk result (Admits most plan.now (view hand.old.pass).seen (view hand.new.pass).seen) }
+    ensures kept { (a : Hand S) → Leads S.shape S.gives plan.now pool.now a hand.old → Leads S.shape S.gives plan.now pool.now a hand.new }
+{
+    let put = put_on(rt, pool, hand, plan, most, Event::Shut)?;
+    Ok(Some(put))
+}
+
+// The job that was taken last, of this sender, becomes that of the intake's next block, and its Accept is put. Where that is barred the run
+// is halted, and where there is no room it is full: the job is dropped with the row then.
+fn accept<S: AdmitCells<X>, X: Sent + Drop, R: Wait>(
+    rt: &R,
+    pool: &Pool<S>,
+    hand: &mut Hand<S>,
+    plan: &Plan,
+    most: u32,
+    b: Blk,
+    sender: u8,
+    job: X,
+) -> Result<Option<Put>, AllocError>
+    requires head { IsHead S.shape S.gives most plan.now pool.now hand.old }
+    requires next { next_of_intake plan.now (view hand.old.pass).seen ≡ Some b }
+    ensures head { OnOk result (IsHead S.shape S.gives most plan.now pool.now hand.new) }
+    ensures accepted { IfOk result (IsAccepted S.gives X.gives most plan.now b sender job (view hand.old.pass) (view hand.new.pass)) }
+    ensures said { IfOk result (Admits most plan.now (view hand.old.pass).seen (view hand.new.pass).seen) }
+    ensures kept { (a : Hand S) → Leads S.shape S.gives plan.now pool.now a hand.old → Leads S.shape S.gives plan.now pool.now a hand.new }
+{
+    S::lay(pool.board, &mut hand.pass, b, job);
+    let put = put_on(rt, pool, hand, plan, most, Event::Accept { blk: b, sender })?;
+    Ok(Some(put))
+}
+
+// Takes in the next job, where there is a block for it; shuts the intake, where all mouths were shut and nothing was left to be taken; else
+// nothing comes of it now.
+fn take_in<S: AdmitCells<X>, X: Sent + Drop, R: Wait>(
+    rt: &R,
+    pool: &Pool<S>,
+    hand: &mut Hand<S>,
+    front: &Front<X>,
+    intake: &mut Intake<X>,
+    plan: &Plan,
+    most: u32,
+    b: Blk,
+) -> Result<Option<Put>, AllocError>
+    requires leading { IsLeading S.shape S.gives X.gives most plan.now pool.now front.now hand.old intake.old }
+    requires room { HasRoom most plan.now (view hand.old.pass).seen }
+    requires open { is_intake_open plan.now (view hand.old.pass).seen ≡ true }
+    requires next { next_of_intake plan.now (view hand.old.pass).seen ≡ Some b }
+    ensures leading { OnOk result (IsLeading S.shape S.gives X.gives most plan.now pool.now front.now hand.new intake.new) }
+    ensures said { IfOk result (Admits most plan.now (view hand.old.pass).seen (view hand.new.pass).seen) }
+    ensures kept { (a : Hand S) → Leads S.shape S.gives plan.now pool.now a hand.old → Leads S.shape S.gives plan.now pool.now a hand.new }
+{
+    let all_shut = intake.all_shut(front);
+    match intake.take(rt, front) {
+        Some((sender, _, job)) => accept(rt, pool, hand, plan, most, b, sender, job),
+        None => {
+            if all_shut {
+                return shut(rt, pool, hand, front, intake, plan, most);
+            }
+            Ok(None)
+        }
+    }
+}
+
+// Worker 0 as its loop sees it. Its fields keep their references.
+#[derive(Drop)]
+pub(crate) struct Head<'h, S, X: Drop> {
+    pub(crate) hand: &'h mut Hand<S>,
+    pub(crate) front: &'h Front<X>,
+    pub(crate) intake: &'h mut Intake<X>,
+}
+
+impl<'a, 'h, S: AdmitCells<X>, X: Sent + Drop> Recorder<Pool<'a, S>> for Head<'h, S, X> {
+    type Fault = AllocError;
+
+    ghost use Rattle.gcd_row.specs.Passes.{machine_of, view};
+    ghost use Rattle.gcd_pool.specs.Admitted.{HasLed, IsLeading, KeepsHead, leading_left, leading_sight};
+
+    ghost seen = { λ head. (view head.hand.now.pass).seen };
+
+    ghost sight = { λ head. machine_of head.hand.now.pass };
+
+    ghost ready = { λ most plan pool head. IsLeading S.shape S.gives X.gives most plan pool head.front.now head.hand.now head.intake.now };
+
+    ghost kept = { λ most plan pool a b. KeepsHead S.shape S.gives plan pool a.front.now a.hand.now b.front.now b.hand.now
+        × Rattle.std.specs.Prelude.◌≡◌ b.hand.ghost_name a.hand.ghost_name × Rattle.std.specs.Prelude.◌≡◌ b.intake.ghost_name a.intake.ghost_name };
+
+    ghost left = { λ most plan pool head. HasLed S.shape S.gives X.gives pool head.front.now head.hand.now head.intake.now };
+
+    // It stops no turn.
+    ghost stopped = { λ most plan pool head. ⊥ };
+
+    ghost stands = { λ most plan pool head is. leading_sight S.shape S.gives X.gives most plan pool head.front.now head.hand.now head.intake.now is };
+
+    ghost leaves = { λ most plan pool head is. leading_left S.shape S.gives X.gives most plan pool head.front.now head.hand.now head.intake.now is };
+
+    #[inline(always)]
+    fn machine(&self) -> &Machine
+        ensures { result.now ≡ machine_of self.now.hand.now.pass }
+    {
+        self.hand.pass.machine()
+    }
+
+    #[inline(always)]
+    fn look(&mut self, plan: &Plan, most: u32, shared: &Pool<'a, S>) {
+        look_on(shared, self.hand, plan, most);
+    }
+
+    #[inline(always)]
+    fn put<R: Wait>(
+        &mut self,
+        rt: &R,
+        plan: &Plan,
+        most: u32,
+        shared: &Pool<'a, S>,
+        e: Event,
+    ) -> Result<Put, AllocError> {
+        put_on(rt, shared, self.hand, plan, most, e)
+    }
+
+    #[inline(always)]
+    fn admit<R: Wait>(
+        &mut self,
+        rt: &R,
+        plan: &Plan,
+        most: u32,
+        shared: &Pool<'a, S>,
+    ) -> Result<Option<Put>, AllocError> {
+        if !pass_many(shared, self.hand) {
+            return Err(AllocError);
+        }
+        match self.hand.pass.machine().next_intake() {
+            None => shut(rt, shared, self.hand, self.front, self.intake, plan, most),
+            Some(b) => take_in(
+                rt,
+                shared,
+                self.hand,
+                self.front,
+                self.intake,
+                plan,
+                most,
+                b,
+            ),
+        }
+    }
+
+    #[inline(always)]
+    fn work<R: Wait>(
+        &mut self,
+        rt: &R,
+        plan: &Plan,
+        most: u32,
+        shared: &Pool<'a, S>,
+        e: Event,
+    ) -> Result<Step, AllocError> {
+        work_on(rt, shared, self.hand, plan, most, e)
+    }
+
+    #[inline(always)]
+    fn rest<R: Wait>(
+        &mut self,
+        _rt: &R,
+        plan: &Plan,
+        most: u32,
+        shared: &Pool<'a, S>,
+    ) -> Result<Step, AllocError> {
+        rest_on(shared, self.hand, plan, most)
+    }
+}
+
+// Turn by turn to the end, and all that was seen is gathered. False where memory was refused to the journal, or the team was stopped.
+fn run_head<S: AdmitCells<X>, X: Sent + Drop, P: Poller, C: Clock, R: Wait>(
+    rt: &R,
+    pool: &Pool<S>,
+    head: &mut Head<S, X>,
+    poller: &mut P,
+    clock: &mut C,
+) -> bool
+    requires ready { IsReady S.shape S.gives pool.now head.old.hand.now }
+    requires head { (view head.old.hand.now.pass).worker ≡ 0 }
+    requires few { head.old.front.now.senders ≤ max_senders }
+    requires intake { IsIntakeOf head.old.front.now head.old.intake.now }
+    requires admitted { Admitted S.gives X.gives head.old.front.now (view head.old.hand.now.pass) head.old.intake.now }
+    ensures same_hand { head.new.hand.ghost_name ≡ head.old.hand.ghost_name }
+    ensures same_intake { head.new.intake.ghost_name ≡ head.old.intake.ghost_name }
+    ensures served { Serving S.shape S.gives pool.now head.old.hand.now head.new.hand.now }
+    ensures led { Led P.tells C.tells P.state C.state (pool.now.alone ≡ true) (result ≡ true) (head.old.hand.now, poller.old, clock.old) (head.new.hand.now, poller.new, clock.new) }
+    ensures intake { result ≡ true → IsIntakeOf head.old.front.now head.new.intake.now }
+    ensures admitted { result ≡ true → Admitted S.gives X.gives head.old.front.now (view head.new.hand.now.pass) head.new.intake.now }
+{
+    let mut idle = Idle::new();
+    let most = pool.board.most();
+    match run_turns(rt, pool.plan, most, pool, head, &mut idle, poller, clock) {
+        Ok(()) => gather_all(pool, head.hand),
+        Err(_) => {
+            pool.stop();
+            false
+        }
+    }
+}
+
+// Worker 0 leads, from its first turn to the end. False where memory was refused to its journal, or the team was stopped.
+fn lead_to_the_end<S: AdmitCells<X>, X: Sent + Drop, P: Poller, C: Clock, R: Wait>(
+    rt: &R,
+    pool: &Pool<S>,
+    hand: &mut Hand<S>,
+    front: &Front<X>,
+    intake: &mut Intake<X>,
+    poller: &mut P,
+    clock: &mut C,
+) -> bool
+    requires ready { IsReady S.shape S.gives pool.now hand.old }
+    requires head { (view hand.old.pass).worker ≡ 0 }
+    requires few { front.now.senders ≤ max_senders }
+    requires intake { IsIntakeOf front.now intake.old }
+    requires admitted { Admitted S.gives X.gives front.now (view hand.old.pass) intake.old }
+    ensures served { Serving S.shape S.gives pool.now hand.old hand.new }
+    ensures led { Led P.tells C.tells P.state C.state (pool.now.alone ≡ true) (result ≡ true) (hand.old, poller.old, clock.old) (hand.new, poller.new, clock.new) }
+    ensures intake { result ≡ true → IsIntakeOf front.now intake.new }
+    ensures admitted { result ≡ true → Admitted S.gives X.gives front.now (view hand.new.pass) intake.new }
+{
+    pool.begin_serving(0);
+    let mut head = Head {
+        hand,
+        front,
+        intake,
+    };
+    run_head(rt, pool, &mut head, poller, clock)
+}
+
+/// Worker 0 of a pool. With the hand of another worker it serves as that helper.
+pub struct Worker0;
+
+impl<'a, S: AdmitCells<X>, X: Sent + Drop, P: Poller, C: Clock> Leader<
+    Hand<S>,
+    Pool<'a, S>,
+    Front<X>,
+    Intake<X>,
+    P,
+    C,
+> for Worker0 {
+    ghost use Rattle.gcd_pool.specs.Admitted.{AsksOfFront, LedWithFront};
+
+    ghost asks = { λ pool front hand intake. AsksOfFront S.gives X.gives front hand intake };
+
+    ghost led = { λ pool front old new done. LedWithFront P.tells C.tells P.state C.state S.gives X.gives front (pool.alone ≡ true) (done ≡ true) old new };
+
+    fn lead<R: Wait>(
+        rt: &R,
+        shared: &Pool<'a, S>,
+        front: &Front<X>,
+        intake: &mut Intake<X>,
+        poller: &mut P,
+        clock: &mut C,
+        hand: &mut Hand<S>,
+    ) -> bool {
+        if hand.pass.worker() == 0 {
+            lead_to_the_end(rt, shared, hand, front, intake, poller, clock)
+        } else {
+            serve_to_the_end(rt, shared, hand)
+        }
+    }
+}

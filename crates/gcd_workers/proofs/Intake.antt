@@ -1,0 +1,112 @@
+-- The blocks of the intake: no act cancels one, and one that has ended was accepted of a sender.
+use Rattle.std.proofs.Common.{◌≡◌, ◌<◌, ◌==◌, ◌∙◌, ◌||◌, ◌&&◌, not, ℕ, zero, suc, Bool, true, false, List, [], ◌∷◌, Option, Some, None, refl, ap, sym, reverse, take, eq-eqb, ne_eqb, eqb-true, if◌then◌else◌}
+use Rattle.std.specs.List.{AllZip, cons_option, filter_map, list_any}
+use Rattle.std.specs.Prelude.{nat_lt, length, slice_get}
+use Rattle.std.proofs.lemmas.Bool.{and_parts, both_ways, not-true}
+use Rattle.gcd_plan.specs.Made.{is_made, is_of_intake}
+use Rattle.gcd_plan.specs.PlanView.{PlanView}
+use Rattle.gcd_plan.specs.Validity.{IsPlan, is_declared}
+use Rattle.gcd_plan.specs.declared.act.Act.{Act}
+use Rattle.gcd_plan.specs.declared.act.Act.TheVariants.{CancelBlock}
+use Rattle.gcd_plan.specs.declared.numbers.Blk.{Blk}
+use Rattle.gcd_event.specs.declared.event.Event.{Event}
+use Rattle.gcd_event.specs.declared.event.Event.TheVariants.{Act as Acted, Accept}
+use Rattle.gcd_history.specs.Cancelled.{cancels_block, is_block_cancelled as is_cancelled_after}
+use Rattle.gcd_history.specs.History.{IsLawful, is_block_cancelled, is_ended}
+use Rattle.gcd_history.specs.Intake.{accepted, accepted_of, accepts}
+use Rattle.gcd_history.specs.Report.{blocks_of_sender}
+use Rattle.gcd_history.specs.Runs.{act_at, act_of, is_started}
+use Rattle.gcd_history.proofs.CancelledStays.{begun_where_ended}
+use Rattle.gcd_history.proofs.MadeBlocks.{intake_inside, intake_is_made}
+use Rattle.gcd_history.proofs.SubmittedOnNodes.{act_fits}
+use Rattle.gcd_loop.specs.Followed.{AcceptsNone}
+use Rattle.gcd_row.proofs.Accepted.{accept_is_next, accepts_nothing, begun_accepted, next_of}
+
+-- ## No act cancels one
+
+other_block : (plan : PlanView) (b : ℕ) (c : Blk) → is_made plan b ≡ true → is_declared plan c ≡ true → (c.0 == b) ≡ false
+other_block plan b c made declared =
+    let behind = and_parts (nat_lt 0 c.0) (nat_lt c.0 (length plan.blocks) && not (is_made plan c.0)) declared in
+    let unmade = not-true (is_made plan c.0) (and_parts (nat_lt c.0 (length plan.blocks)) (not (is_made plan c.0)) behind.1).1 in
+    ne_eqb c.0 b (λ same. both_ways (is_made plan c.0) unmade (ap (is_made plan) same ∙ made))
+
+never_cancels : (plan : PlanView) (e : Event) (b : ℕ) → IsPlan plan → is_made plan b ≡ true → cancels_block b (act_of plan e) ≡ false
+never_cancels plan (Acted w r i) b valid made = by_act (act_at plan r i) refl
+  where
+    by_act : (o : Option Act) → act_at plan r i ≡ o → cancels_block b o ≡ false
+    by_act (Some (CancelBlock c)) at = other_block plan b c made (act_fits plan r i (CancelBlock c) valid at)
+    by_act o at = refl
+never_cancels plan e b valid made = refl
+
+never_cancelled_after : (plan : PlanView) (past : List Event) (b : ℕ) → IsPlan plan → is_made plan b ≡ true → is_cancelled_after plan past b ≡ false
+never_cancelled_after plan [] b valid made = refl
+never_cancelled_after plan (e ∷ past) b valid made =
+    ap (λ v. v || (cancels_block b (act_of plan e) && not (is_started past b))) (never_cancelled_after plan past b valid made)
+    ∙ ap (λ v. v && not (is_started past b)) (never_cancels plan e b valid made)
+
+pub never_cancelled : (plan : PlanView) (h : List Event) (b : ℕ) → IsPlan plan → is_of_intake plan b ≡ true → is_block_cancelled plan h b ≡ false
+unfolding is_block_cancelled
+never_cancelled plan h b valid of = never_cancelled_after plan (reverse h) b valid (intake_is_made plan b of)
+
+-- ## What is accepted
+
+-- where each sender has no Accept, there is none
+pub none_of_any : (h : List Event) → ((s : ℕ) → blocks_of_sender h s ≡ []) → AcceptsNone h
+none_of_any [] none i f at = absurd (cc)
+none_of_any (e ∷ h) none zero f at = ap accepted (same_event e f at) ∙ head e none
+  where
+    same_event : (x y : Event) → Some x ≡ Some y → y ≡ x
+    same_event x y is = cc
+
+    some_left : {b : Blk} {bs : List Blk} → b ∷ bs ≡ [] → ⊥
+    some_left is = cc
+
+    head : (x : Event) → ((s : ℕ) → filter_map (accepted_of s) (x ∷ h) ≡ []) → accepted x ≡ None
+    head (Accept b s) nothing = absurd (some_left (sym (ap (λ v. cons_option (if v then Some b else None) (filter_map (accepted_of s) h)) (eq-eqb s s refl)) ∙ nothing s))
+    head x nothing = refl
+none_of_any (e ∷ h) none (suc i) f at = none_of_any h (λ s. rest (accepted_of s e) (filter_map (accepted_of s) h) (none s)) i f at
+  where
+    rest : (o : Option Blk) (bs : List Blk) → cons_option o bs ≡ [] → bs ≡ []
+    rest None bs is = is
+    rest (Some b) bs is = absurd (cc)
+
+none_accepted_in : (h : List Event) (b : ℕ) → AcceptsNone h → list_any (accepts b) h ≡ false
+none_accepted_in [] b none = refl
+none_accepted_in (e ∷ h) b none =
+    ap (λ v. v || list_any (accepts b) h) (accepts_nothing e b (none zero e refl)) ∙ none_accepted_in h b (λ i f at. none (suc i) f at)
+
+-- where nothing is accepted, a block that has ended is not of the intake
+pub ended_elsewhere : (plan : PlanView) (h : List Event) (b : ℕ) → IsPlan plan → IsLawful plan h → AcceptsNone h → is_ended h b ≡ true → is_of_intake plan b ≡ false
+ended_elsewhere plan h b valid lawful none ended = by_intake (is_of_intake plan b) refl
+  where
+    by_intake : (v : Bool) → is_of_intake plan b ≡ v → is_of_intake plan b ≡ false
+    by_intake false at = at
+    by_intake true at =
+        absurd (both_ways (list_any (accepts b) h) (none_accepted_in h b none) (begun_accepted plan h b valid lawful at (begun_where_ended plan h b lawful ended)))
+
+-- a block that is accepted is of the intake, and so of the plan
+pub accepted_of_intake : (plan : PlanView) (h : List Event) (i : ℕ) (b : Blk) (s : ℕ) → IsLawful plan h → slice_get h i ≡ Some (Accept b s) → is_of_intake plan b.0 ≡ true
+unfolding IsLawful
+accepted_of_intake plan h i b s lawful at = next_of plan (take i h) b (accept_is_next plan (take i h) b s (lawful i (Accept b s) at))
+
+pub accepted_within : (plan : PlanView) (b : Blk) → IsPlan plan → is_of_intake plan b.0 ≡ true → b.0 < length plan.blocks
+accepted_within plan b valid of = (intake_inside plan b.0 valid of).within
+
+-- ## The blocks of a sender, place by place
+
+module _ {X : Type 0} (P Q : X → Blk → Type 0) where
+  zip_step : (own : Bool) (b : Blk) (bs : List Blk) → (own ≡ true → (x : X) → P x b → Q x b) → ((ys : List X) → AllZip P ys bs → AllZip Q ys bs)
+      → (xs : List X) → AllZip P xs (cons_option (if own then Some b else None) bs) → AllZip Q xs (cons_option (if own then Some b else None) bs)
+  zip_step true b bs here rest [] z = absurd z
+  zip_step true b bs here rest (x ∷ xs) z = (here refl x z.0, rest xs z.1)
+  zip_step false b bs here rest xs z = rest xs z
+
+  -- what holds of each job and the block accepted for it gives what follows of the two
+  pub zip_accepted : (s : ℕ) (h : List Event) → ((i : ℕ) (b : Blk) → slice_get h i ≡ Some (Accept b s) → (x : X) → P x b → Q x b)
+      → (xs : List X) → AllZip P xs (blocks_of_sender h s) → AllZip Q xs (blocks_of_sender h s)
+  zip_accepted s [] each [] z = tt
+  zip_accepted s [] each (x ∷ xs) z = absurd z
+  zip_accepted s (Accept b t ∷ h) each xs z =
+      zip_step (t == s) b (blocks_of_sender h s) (λ own. each zero b (ap (λ k. Some (Accept b k)) (eqb-true t s own)))
+      (zip_accepted s h (λ i c at. each (suc i) c at)) xs z
+  zip_accepted s (e ∷ h) each xs z = zip_accepted s h (λ i c at. each (suc i) c at) xs z

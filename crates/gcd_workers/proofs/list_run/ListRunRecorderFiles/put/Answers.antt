@@ -1,0 +1,5 @@
+use Rattle.gcd_loop.proofs.Events.{uncalled_accepts_none}
+use Rattle.gcd_workers.proofs.list_run.ListRunRecorderFiles.put.Goals as goal
+
+pub put_one-requires-clause-no_job : goal.put_one-requires-clause-no_job
+put_one-requires-clause-no_job g c = uncalled_accepts_none c.args.e c.requires.outside.uncalled

@@ -1,0 +1,60 @@
+-- What a run beside callers from outside leaves.
+use Rattle.std.specs.Prelude.{◌≡◌, ◌<◌, ◌≤◌, ◌⊎◌, ℕ, true, false, List, [], ◌++◌, length, Option, Some, None, slice_get}
+use Rattle.std.specs.List.{AllZip, list_any}
+use Rattle.gcd_plan.specs.Made.{is_of_intake}
+use Rattle.gcd_plan.specs.PlanView.{PlanView}
+use Rattle.gcd_plan.specs.declared.numbers.Blk.{Blk}
+use Rattle.gcd_event.specs.declared.event.Event.{Event}
+use Rattle.gcd_history.specs.Ends.{HasState}
+use Rattle.gcd_history.specs.History.{is_ended}
+use Rattle.gcd_history.specs.Intake.{shuts}
+use Rattle.gcd_history.specs.Report.{blocks_of_sender}
+use Rattle.gcd_history.specs.declared.state.State.{State}
+use Rattle.gcd_front.specs.Fronts.{KnowsAll, TookAll}
+use Rattle.gcd_front.specs.Queue.{jobs_of}
+use Rattle.gcd_front.specs.Views.{FrontView, IntakeView}
+use Rattle.gcd_jobs.specs.BlockValues.{has_given}
+use Rattle.gcd_outer.specs.Outside.{ClockState, Seen}
+use Rattle.gcd_outer.specs.Tells.{PollerState}
+use Rattle.gcd_loop.specs.Ran.{RunsPlan}
+use Rattle.gcd_pool.specs.Admitted.{AllAccepted}
+use Rattle.gcd_workers.specs.JobsRuns.{IsGiven}
+
+-- each job that was accepted is of one of so many senders, numbered from 0
+abbrev pub AcceptsOf : (senders : ℕ) → List Event → Type 0
+AcceptsOf senders h = (s : ℕ) → senders ≤ s → blocks_of_sender h s ≡ []
+
+-- For each block none where it has not ended or is cancelled; where it has given a value, and is not of the intake, one that its job may
+-- give. The jobs of the intake's blocks are the callers'.
+pub record AreGivenBeside {J : Type 0} (gives : J → ℕ → ℕ → Type 0) (plan : PlanView) (jobs : List J) (h : List Event)
+    (values : List (Option ℕ)) : Type 0 where
+  pub count : length values ≡ length plan.blocks
+  pub ended : (b : ℕ) → b < length plan.blocks → is_of_intake plan b ≡ false → has_given plan h b ≡ true → IsGiven gives jobs values b
+  pub others : (b : ℕ) → b < length plan.blocks → has_given plan h b ≡ false → slice_get values b ≡ Some None
+
+module _ {X : Type 0} (sent : X → ℕ → Type 0) (h : List Event) (values : List (Option ℕ)) where
+  -- the block ran this job: where it has ended, its value is one that the job may give
+  abbrev pub RanFor : X → Blk → Type 0
+  RanFor job b = is_ended h b.0 ≡ true → (value : ℕ) × (slice_get values b.0 ≡ Some (Some value)) × sent job value
+
+  -- The jobs that were taken of a sender begin with those of the blocks that were accepted of it: in order, each job once, for the block
+  -- at its place.
+  pub record OfSender (jobs : List X) (s : ℕ) : Type 0 where
+    pub front : List X
+    pub rest : List X
+    pub split : jobs ≡ front ++ rest
+    pub given : AllZip RanFor front (blocks_of_sender h s)
+
+-- The run of a plan with these jobs, beside a front and its intake, by so many workers, of at most `most` events: it promises what a run
+-- of any engine does (`RunsPlan`), each accepted job is of a sender of the front, it has come to this state, and these are the values of
+-- its blocks. Of each sender the blocks accepted stand for the jobs that were taken first; where a Shut stands, for all of them, and then
+-- each block of the intake is accepted, or all mouths were shut and all that was sent was taken.
+pub record RunsFront {J X : Type 0} (gives : J → ℕ → ℕ → Type 0) (sent : X → ℕ → Type 0) (most : ℕ) (plan : PlanView) (jobs : List J)
+    (workers : ℕ) (f : FrontView) (i : IntakeView X) (poller : Seen PollerState) (clock : Seen ClockState) (h : List Event)
+    (values : List (Option ℕ)) (state : State) : Type 0 where
+  pub run : RunsPlan most plan workers (AcceptsOf f.senders) poller clock h
+  pub state_is : HasState plan h state
+  pub given : AreGivenBeside gives plan jobs h values
+  pub callers : (s : ℕ) → OfSender sent h values (jobs_of s i.taken) s
+  pub all : list_any shuts h ≡ true → (s : ℕ) → length (blocks_of_sender h s) ≡ length (jobs_of s i.taken)
+  pub why_shut : list_any shuts h ≡ true → AllAccepted plan h ⊎ (KnowsAll f i × TookAll i)
