@@ -5,7 +5,7 @@
 //! status is as it was.
 //!
 //! The helpers that touch the system promise nothing: no contract says what the words of a command line are, what its files
-//! hold, or with which status a program ends. So `words_of` and `status` have no clauses, and of the look-up beside the
+//! hold, or with which status a program ends. So `words_of` and `main` have no clauses, and of the look-up beside the
 //! script (`ScriptShelf` for files, `ScriptPoller` for feeds) only what each shelf and poller promises is proved. What is
 //! proved beside it is that the texts handed to `gcd_main` are the words that were read (`texts`); the rest is tried by the
 //! stored run and the examples.
@@ -31,9 +31,7 @@ use std::alloc::{AllocError, Global};
 use std::fs::File;
 use std::process::ExitCode;
 use std::rt::{Env, Files, Net};
-use std::sync::Wait;
-use std::thread::Threads;
-use std::{env, io, time};
+use std::{env, io};
 
 // The words after the program's name.
 fn words_of<R: Env + AllocGlobal>(rt: &R) -> io::Result<Vec<String>> {
@@ -76,75 +74,55 @@ fn asked<'a>(alloc: Global, words: &'a [&'a str]) -> Result<(&'a str, usize), Al
         Some(Request::Run(request)) => (request.script, 1),
         Some(Request::Check(request)) => (request.script, 2),
         Some(Request::Big(_)) => ("", 0),
+        Some(Request::Front(request)) => (request.script, 1),
         None => ("", 0),
     })
 }
 
-// Does what the words ask for, and says why it ended as it did.
-fn answer<
-    'a,
-    R: Files<File = File>
-        + Net
-        + Threads
-        + Wait
-        + Sync
-        + time::Clock
-        + Print
-        + Eprint
-        + Env
-        + AllocGlobal,
->(rt: &'a R, texts: &'a [&'a str]) -> u8 {
-    let Ok((script, keeps)) = asked(rt.alloc(), texts) else {
-        return say_status(rt, Status::NoMemory);
+// The words; none where they are no text, so that they name no command. An `Err` comes only where memory runs out.
+fn words_or_none<R: Env + AllocGlobal>(rt: &R) -> Result<Vec<String>, AllocError> {
+    match words_of(rt) {
+        Ok(words) => Ok(words),
+        Err(error) if error.kind() == io::ErrorKind::OutOfMemory => Err(AllocError),
+        Err(_) => Ok(Vec::new(rt.alloc())),
+    }
+}
+
+// What is said, and what is answered, where memory runs out before the call.
+fn without_memory<R: Eprint>(rt: &R) -> ExitCode {
+    ExitCode::from(say_status(rt, Status::NoMemory))
+}
+
+// Does what the words ask for, and says why it ended as it did. What goes to the thread of a pool beside senders is of the system's
+// runtime itself: a function for any runtime could not send its poller there.
+fn main(rt: HostRuntime) -> ExitCode {
+    let Ok(words) = words_or_none(&rt) else {
+        return without_memory(&rt);
     };
-    let mut shelf = ScriptShelf::new(rt, rt.alloc(), script, keeps);
-    let mut out = StdoutSink::new(rt);
-    let Some(mut poller) = poller_of(rt, rt.alloc(), script) else {
-        return say_status(rt, Status::NoMemory);
+    let Ok(texts) = texts(rt.alloc(), &words) else {
+        return without_memory(&rt);
     };
-    let mut clock = SystemClock::new(rt);
+    let Ok((script, keeps)) = asked(rt.alloc(), &texts) else {
+        return without_memory(&rt);
+    };
+    let mut shelf = ScriptShelf::new(&rt, rt.alloc(), script, keeps);
+    let mut out = StdoutSink::new(&rt);
+    let Some(mut poller) = poller_of(&rt, rt.alloc(), script) else {
+        return without_memory(&rt);
+    };
+    let mut clock = SystemClock::new(&rt);
     let ended = gcd_main(
-        rt,
+        &rt,
         rt.alloc(),
-        texts,
+        &texts,
         &mut shelf,
         &mut out,
         &mut poller,
         &mut clock,
     );
     match shelf.missed() {
-        Some(missed) => say_ended(rt, rt.alloc(), texts, &ended, &shelf, Some(missed)),
-        None => say_ended(rt, rt.alloc(), texts, &ended, &shelf, poller.missed()),
+        Some(missed) => say_ended(&rt, rt.alloc(), &texts, &ended, &shelf, Some(missed)),
+        None => say_ended(&rt, rt.alloc(), &texts, &ended, &shelf, poller.missed()),
     }
-    ended.status
-}
-
-fn status<
-    R: Files<File = File>
-        + Net
-        + Threads
-        + Wait
-        + Sync
-        + time::Clock
-        + Print
-        + Eprint
-        + Env
-        + AllocGlobal,
->(rt: &R) -> u8 {
-    // Words that are no text name no command.
-    let words = match words_of(rt) {
-        Ok(words) => words,
-        Err(error) if error.kind() == io::ErrorKind::OutOfMemory => {
-            return say_status(rt, Status::NoMemory);
-        }
-        Err(_) => Vec::new(rt.alloc()),
-    };
-    let Ok(texts) = texts(rt.alloc(), &words) else {
-        return say_status(rt, Status::NoMemory);
-    };
-    answer(rt, &texts)
-}
-
-fn main(rt: HostRuntime) -> ExitCode {
-    ExitCode::from(status(&rt))
+    ExitCode::from(ended.status)
 }

@@ -29,6 +29,7 @@ pub fn say_status<R: Eprint>(rt: &R, status: Status) -> u8 {
         Status::NoMemory => say_text(rt, NO_MEMORY),
         Status::Drained | Status::Stuck | Status::NoCommand | Status::ScriptRefused => {}
         Status::Misused | Status::Unread | Status::Full | Status::JournalRefused => {}
+        Status::NoIntake => {}
     }
     status.code()
 }
@@ -99,6 +100,7 @@ fn say_refused<R: Eprint + Files>(
         Request::Run(request) => (request.script, ""),
         Request::Check(CheckRequest { script, journal }) => (script, journal),
         Request::Big(_) => return,
+        Request::Front(request) => (request.script, ""),
     };
     let Some(at) = ended.at else {
         return;
@@ -132,6 +134,7 @@ fn say_request<R: Eprint + Files>(
         Request::Run(request) => (request.script, request.most),
         Request::Check(request) => (request.script, MAX_EVENTS),
         Request::Big(_) => return,
+        Request::Front(request) => (request.script, MAX_EVENTS),
     };
     if let Some(script) = shelf.kept(0) {
         say_run(rt, alloc, most, name, script, &ended.journal);

@@ -66,6 +66,7 @@ const HELP: &str =
     \x20 --listen ADDR: connections for feeds with the path tcp are accepted at this address, as 127.0.0.1:8080; port 0 takes a free one\n\
     gcd check SCRIPT JOURNAL: judges the journal under the path JOURNAL as a run of the script\n\
     gcd big N [--workers W]: runs the large script with N blocks, 1 to 16384\n\
+    gcd front SCRIPT SENDERS: runs the script, and so many threads, 1 to 8, send jobs for its intake beside it\n\
     gcd --help, gcd --version: this text; the version";
 
 impl<'a> fmt::Display for WordsCause<'a> {
@@ -73,16 +74,16 @@ impl<'a> fmt::Display for WordsCause<'a> {
         match *self {
             WordsCause::Help => write!(f, "{HELP}"),
             WordsCause::Version => write!(f, "gcd 1"),
-            WordsCause::NoWord => write!(f, "gcd: no command is named: run, check or big"),
+            WordsCause::NoWord => write!(f, "gcd: no command is named: run, check, big or front"),
             WordsCause::UnknownCommand { word } => {
                 let word = Shown(word);
-                write!(f, "gcd: '{word}' is no command: run, check or big")
+                write!(f, "gcd: '{word}' is no command: run, check, big or front")
             }
             WordsCause::EarlyOption { word } => {
                 let word = Shown(word);
                 write!(
                     f,
-                    "gcd: '{word}' stands before the command: run, check or big comes first"
+                    "gcd: '{word}' stands before the command: run, check, big or front comes first"
                 )
             }
             WordsCause::UnknownOption { command, word } => {
@@ -117,6 +118,9 @@ impl<'a> fmt::Display for WordsCause<'a> {
     }
 }
 
+// The most senders of jobs beside a run.
+const MAX_FRONT_SENDERS: u32 = 8;
+
 // A command's words: what it takes beside options.
 #[derive(Clone, Copy)]
 struct Command {
@@ -125,7 +129,7 @@ struct Command {
     count: usize,
 }
 
-static COMMANDS: [Command; 3] = [
+static COMMANDS: [Command; 4] = [
     Command {
         name: "run",
         takes: ["SCRIPT", ""],
@@ -140,6 +144,11 @@ static COMMANDS: [Command; 3] = [
         name: "big",
         takes: ["N", ""],
         count: 1,
+    },
+    Command {
+        name: "front",
+        takes: ["SCRIPT", "SENDERS"],
+        count: 2,
     },
 ];
 
@@ -262,6 +271,13 @@ impl<'a> Reading<'a> {
                 what: "number of blocks",
                 word,
                 high: MAX_BLOCKS - 1,
+            });
+        }
+        if self.command == "front" && self.taken == 2 && !is_number(word, MAX_FRONT_SENDERS) {
+            return Some(WordsCause::NoNumber {
+                what: "number of senders",
+                word,
+                high: MAX_FRONT_SENDERS,
             });
         }
         None

@@ -1,11 +1,11 @@
 -- What the call has to tell, by the way in which it ends.
-use Rattle.std.proofs.Common.{◌≡◌, ◌≢◌, ◌⊎◌, ◌∙◌, ℕ, true, List, [], ◌∷◌, ◌++◌, Option, Some, None, ⊎_elim, reverse, ap, refl, sym, subst, inl, inr, arith}
+use Rattle.std.proofs.Common.{◌≡◌, ◌≢◌, ◌⊎◌, ◌∙◌, ℕ, true, List, [], ◌∷◌, ◌++◌, ◌+◌, Option, Some, None, length, ⊎_elim, reverse, ap, refl, sym, subst, inl, inr, arith}
 use Rattle.std.specs.Prelude.{Ok, Err, Contains, IsTrue}
 use Rattle.std.proofs.lemmas.Bool.{false≢true}
 use Rattle.std.proofs.lemmas.List.{reverse-append, reverse-reverse}
 use Rattle.std.proofs.lemmas.List.Elements.{Contains-append_right}
 use Rattle.gcd_plan.specs.Limits.{max_events}
-use Rattle.gcd_plan.specs.PlanView.{PlanView}
+use Rattle.gcd_plan.specs.PlanView.{PlanView, IntakeView}
 use Rattle.gcd_event.specs.declared.event.Event.{Event}
 use Rattle.gcd_event.specs.declared.event.Event.TheVariants.{Halt}
 use Rattle.gcd_history.specs.Ends.{HasState, ends_in_halt}
@@ -13,16 +13,20 @@ use Rattle.gcd_history.specs.Permitted as permitted
 use Rattle.gcd_history.specs.declared.state.State.{State}
 use Rattle.gcd_history.specs.declared.state.State.TheVariants.{Halted}
 use Rattle.gcd_outer.specs.Outside.{Bytes, SinkSeen}
-use Rattle.gcd_words.specs.Asked.{Asked, RunAsked, request_of, run, check, big}
-use Rattle.gcd_run.specs.Always.{Always, Answers, ChecksText, Gives, HoldsScript, IsNoScript, MustStop, NothingFailed, files_at}
+use Rattle.gcd_words.specs.Asked.{Asked, RunAsked, request_of, run, check, big, front}
+use Rattle.gcd_run.specs.Always.{Always, Answers, ChecksText, Gives, HoldsScript, IsNoScript, MustStop, MustStopFront, NothingFailed, files_at}
 use Rattle.gcd_run.specs.Always.MustStop.{at_script as must_at_script, at_file as must_at_file}
+use Rattle.gcd_run.specs.Always.MustStopFront.{at_script as must_front_at_script, at_intake as must_at_intake, at_file as must_front_at_file}
 use Rattle.gcd_run.specs.Calls.{Calls, InputsSeen, Made, only_loads}
 use Rattle.gcd_run.specs.Checks.{CheckEnds}
 use Rattle.gcd_run.specs.End.{End, lawful_end, read_fault, stop_end, unlawful_end, usage_end}
 use Rattle.gcd_run.specs.Ends.{AskedEnds, CallEnds, HasStatus, IsWritten}
 use Rattle.gcd_run.specs.Ends.CallEnds.{reported, wanting}
 use Rattle.gcd_run.specs.Ends.IsWritten.{whole, cut_off}
-use Rattle.gcd_run.specs.Loads.{IsReady, StopsReady}
+use Rattle.gcd_run.specs.Fronts.{FrontEnds, StopsFront, front_workers}
+use Rattle.gcd_run.specs.Fronts.FrontEnds.{stopped as front_stopped, ran as front_ran}
+use Rattle.gcd_run.specs.Fronts.StopsFront.{at_script as front_at_script, at_intake, at_file as front_at_file, wanting as front_wanting}
+use Rattle.gcd_run.specs.Loads.{IsPlanOf, IsReady, StopsReady}
 use Rattle.gcd_run.specs.Loads.StopsReady.{at_script, at_file}
 use Rattle.gcd_run.specs.Runs.{BigEnds, Ran, RunEnds}
 use Rattle.gcd_run.specs.Runs.RunEnds.{stopped, ran}
@@ -33,7 +37,7 @@ use Rattle.gcd_run.specs.declared.status.Status.TheVariants.{Drained, JournalRef
 use Rattle.gcd_run.specs.declared.stop.Stop.{Stop}
 use Rattle.gcd_run.specs.declared.story.Ended.{Ended}
 use Rattle.gcd_run.proofs.Judging.{Comes, check_bars, check_passes, check_stops, comes_by, is_judged, untold}
-use Rattle.gcd_run.proofs.Statuses.{runs_large, runs_script}
+use Rattle.gcd_run.proofs.Statuses.{runs_beside, runs_large, runs_script}
 use Rattle.gcd_run.proofs.Told.{Fate, fate_map, file_stops, files_held, no_both, no_plan, one_plan, one_stop, same_err, script_held, script_stops}
 
 -- ## A halted journal has a Halt
@@ -54,9 +58,9 @@ unfolding ends_in_halt
 halted_has_halt h is = subst (λ (l : List Event). Contains l Halt) (reverse-reverse h) (halt_at_front (reverse h) is)
 
 -- where the poller did not fail, no run is halted
-unhalted : (seen : InputsSeen) (sink : SinkSeen) → NothingFailed seen sink → (plan : PlanView) (workers most : ℕ) (h : List Event) (state : State)
-    → Ran seen.poller seen.clock plan workers most h state → state ≢ Halted
-unhalted seen sink works plan workers most h state r halted =
+unhalted : (seen : InputsSeen) (sink : SinkSeen) → NothingFailed seen sink → (plan : PlanView) (workers most : ℕ) (calls : List Event → Type 0)
+    (h : List Event) (state : State) → Ran seen.poller seen.clock plan workers most calls h state → state ≢ Halted
+unhalted seen sink works plan workers most calls h state r halted =
     works.poller_works (r.run.heard.faults.halts (halted_has_halt h (subst (HasState plan h) halted r.over.state_is)))
 
 -- ## What is told of a run
@@ -99,6 +103,55 @@ module _ (seen : InputsSeen) (tells : seen.shelf.tells ≡ true) (name : Bytes) 
       untold found end at found_is
   run_stops asked same calls stop end expected must stop_is (ran plan contents ready is t) =
       absurd (ready_goes_on plan contents stop (subst (λ s. IsReady seen.shelf s plan contents) same ready) must)
+
+  -- the plan of a script that was read is the one that the shelf holds
+  the_plan : (plan other : PlanView) → IsPlanOf seen.shelf name plan → HoldsScript seen.shelf.content name other → plan ≡ other
+  the_plan plan other is held = one_plan seen.shelf.content name plan other (script_held seen.shelf tells name plan is.script) held
+
+  -- a plan has an intake or none
+  one_intake : {A : Type 0} (plan other : PlanView) (intake : IntakeView) → plan ≡ other → plan.intake ≡ Some intake → other.intake ≡ None → A
+  one_intake plan other intake same some none =
+      let no : plan.intake ≡ None = ap (λ (p : PlanView). p.intake) same ∙ none in absurd cc
+
+  -- a script with an intake that is ready has no cause to stop `front`
+  front_goes_on : (plan : PlanView) (contents : List Bytes) (intake : IntakeView) (stop : Stop) → IsReady seen.shelf name plan contents
+      → plan.intake ≡ Some intake → MustStopFront seen.shelf.content name stop → ⊥
+  front_goes_on plan contents intake stop ready some (must_front_at_script no_script) =
+      ready_goes_on plan contents stop ready (must_at_script no_script)
+  front_goes_on plan contents intake stop ready some (must_at_intake other held none is) =
+      one_intake plan other intake (the_plan plan other ready.plan_is held) some none
+  front_goes_on plan contents intake stop ready some (must_front_at_file other there held also is) =
+      ready_goes_on plan contents stop ready (must_at_file other held is)
+
+  -- why `front` stops is one
+  front_stops_at : (n : ℕ) (stop found : Stop) → MustStopFront seen.shelf.content name stop → StopsFront seen.shelf name n found
+      → Fate seen.shelf found (found ≡ stop)
+  front_stops_at n stop found must (front_wanting plan contents ready memory many) = inr (inl memory)
+  front_stops_at n stop found (must_front_at_script no_script) (front_at_script why one) =
+      ready_stops n stop found (must_at_script no_script) (at_script why one)
+  front_stops_at n stop found (must_front_at_script no_script) (at_intake plan plan_is none is one) =
+      absurd (no_plan seen.shelf.content name plan stop (script_held seen.shelf tells name plan plan_is.script) no_script)
+  front_stops_at n stop found (must_front_at_script no_script) (front_at_file plan intake f plan_is some stops two) =
+      absurd (no_plan seen.shelf.content name plan stop (script_held seen.shelf tells name plan plan_is.script) no_script)
+  front_stops_at n stop found (must_at_intake plan held none is) (front_at_script why one) =
+      fate_map seen.shelf found (λ no_script. absurd (no_plan seen.shelf.content name plan found held no_script)) (script_stops seen.shelf tells name found why)
+  front_stops_at n stop found (must_at_intake plan held none is) (at_intake other plan_is also found_is one) = inr (inr (found_is ∙ sym is))
+  front_stops_at n stop found (must_at_intake plan held none is) (front_at_file other intake f plan_is some stops two) =
+      one_intake other plan intake (the_plan other plan plan_is held) some none
+  front_stops_at n stop found (must_front_at_file plan intake held some is) (front_at_script why one) =
+      fate_map seen.shelf found (λ no_script. absurd (no_plan seen.shelf.content name plan found held no_script)) (script_stops seen.shelf tells name found why)
+  front_stops_at n stop found (must_front_at_file plan intake held some is) (at_intake other plan_is none found_is one) =
+      one_intake plan other intake (sym (the_plan other plan plan_is held)) some none
+  front_stops_at n stop found (must_front_at_file plan intake held some is) (front_at_file other there f plan_is also stops two) =
+      ready_stops n stop found (must_at_file plan held is) (at_file other f plan_is stops two)
+
+  -- `front` that has to stop does
+  front_stops : (senders n : ℕ) (stop : Stop) (end expected : End) → MustStopFront seen.shelf.content name stop
+      → stop_end stop ≡ Some expected → FrontEnds seen name senders n end → Comes seen expected end
+  front_stops senders n stop end expected must stop_is (front_stopped found why at) =
+      comes_by seen stop found end expected at stop_is (front_stops_at n stop found must why)
+  front_stops senders n stop end expected must stop_is (front_ran plan contents intake ready some many f) =
+      absurd (front_goes_on plan contents intake stop ready some must)
 
 -- ## The whole call
 
@@ -150,7 +203,7 @@ module _ (seen : InputsSeen) (sink : SinkSeen) (words : List Bytes) (result : En
       t.state,
       inl (runs_script seen sink words result calls made asked other those end asks ready is t took answers),
       answers.status_is ∙ ap (λ (e : End). status_code e.status) t.end_is,
-      unhalted seen sink works other asked.workers asked.most t.h t.state t.ran,
+      unhalted seen sink works other asked.workers asked.most _ t.h t.state t.ran,
     )
 
     large_ended : (count workers : ℕ) → Asks words (big count workers) → (calls : Calls) → Made seen calls → (end : End)
@@ -159,9 +212,43 @@ module _ (seen : InputsSeen) (sink : SinkSeen) (words : List Bytes) (result : En
     large_ended count workers asks calls made end is ends (whole took answers) =
         let t = ends.tells in (
           t.state,
-          inr (runs_large seen sink words result calls made count workers end asks is ends took answers),
+          inr (inl (runs_large seen sink words result calls made count workers end asks is ends took answers)),
           answers.status_is ∙ ap (λ (e : End). status_code e.status) t.end_is,
-          unhalted seen sink works ends.plan workers max_events t.h t.state t.ran,
+          unhalted seen sink works ends.plan workers max_events _ t.h t.state t.ran,
+        )
+
+    -- a run beside senders to its end
+    front_ended : seen.shelf.tells ≡ true → (script : Bytes) (senders : ℕ) (plan : PlanView) (intake : IntakeView) (contents : List Bytes)
+        → Asks words (front script senders) → HoldsScript seen.shelf.content script plan → plan.intake ≡ Some intake
+        → files_at seen.shelf.content plan.files ≡ Ok contents → (calls : Calls) → Made seen calls → (n : ℕ) (end : End) → calls ≡ only_loads n
+        → FrontEnds seen script senders n end → IsWritten sink end result → Ends
+    front_ended tells script senders plan intake contents asks held some all calls made n end is ends (cut_off took failed answers) =
+        absurd (works.sink_works failed)
+    front_ended tells script senders plan intake contents asks held some all calls made n end is (front_stopped found (front_at_script why one) at) (whole took answers) =
+        none (script_stops seen.shelf tells script found why)
+      where
+        none : Fate seen.shelf found (IsNoScript seen.shelf.content script found) → Ends
+        none (inl failed) = absurd (works.shelf_works failed.0)
+        none (inr (inl memory)) = untold found end at memory
+        none (inr (inr no_script)) = absurd (no_plan seen.shelf.content script plan found held no_script)
+    front_ended tells script senders plan intake contents asks held some all calls made n end is (front_stopped found (at_intake other plan_is none found_is one) at) (whole took answers) =
+        one_intake seen tells script plan other intake (sym (the_plan seen tells script other plan plan_is held)) some none
+    front_ended tells script senders plan intake contents asks held some all calls made n end is (front_stopped found (front_at_file other there f plan_is also stops two) at) (whole took answers) =
+        none (file_stops seen.shelf tells other.files f found stops)
+      where
+        none : Fate seen.shelf found (files_at seen.shelf.content other.files ≡ Err found) → Ends
+        none (inl failed) = absurd (works.shelf_works failed.0)
+        none (inr (inl memory)) = untold found end at memory
+        none (inr (inr is_file)) =
+            absurd (no_both all (subst (λ (p : PlanView). files_at seen.shelf.content p.files ≡ Err found) (the_plan seen tells script other plan plan_is held) is_file))
+    front_ended tells script senders plan intake contents asks held some all calls made n end is (front_stopped found (front_wanting other those ready stop_is many) at) (whole took answers) =
+        untold found end at stop_is
+    front_ended tells script senders plan intake contents asks held some all calls made n end is (front_ran other those there ready also many f) (whole took answers) =
+        let t = f.tells in (
+          t.state,
+          inr (inr (runs_beside seen sink words result calls made script senders other those there end asks ready also (is ∙ ap only_loads many) f took answers)),
+          answers.status_is ∙ ap (λ (e : End). status_code e.status) t.end_is,
+          unhalted seen sink works other front_workers max_events _ t.h t.state t.ran,
         )
 
     -- a check to its end
@@ -181,6 +268,9 @@ module _ (seen : InputsSeen) (sink : SinkSeen) (words : List Bytes) (result : En
         written_as usage_end end usage.1 written;
     run_stops = λ tells asked stop expected asks must stop_is. comes_written expected end
         (run_stops seen tells asked.script asked refl calls stop end expected must stop_is (told_as (Some (run asked)) calls end asks ends)) written;
+    front_stops = λ tells script senders stop expected asks must stop_is.
+        let only = told_as (Some (front script senders)) calls end asks ends in
+        comes_written expected end (front_stops seen tells script senders only.loads stop end expected must stop_is only.ends) written;
     check_stops = λ tells script journal stop expected asks must stop_is.
         let only = told_as (Some (check script journal)) calls end asks ends in
         comes_written expected end (check_stops seen tells script journal only.loads stop end expected must stop_is only.ends) written;
@@ -200,14 +290,19 @@ module _ (seen : InputsSeen) (sink : SinkSeen) (words : List Bytes) (result : En
     large_ends = λ works count workers asks.
         let only = told_as (Some (big count workers)) calls end asks ends in
         inr (large_ended works count workers asks calls made end only.0 only.1 written);
+    front_ends = λ tells works script senders plan intake contents asks held some all.
+        let only = told_as (Some (front script senders)) calls end asks ends in
+        inr (front_ended works tells script senders plan intake contents asks held some all calls made only.loads end only.calls_are only.ends written);
   }
   always (wanting calls made count is) = record {
     usage = λ none. inr is.status_is;
     run_stops = λ tells asked stop expected asks must stop_is. inl (inr is.status_is);
+    front_stops = λ tells script senders stop expected asks must stop_is. inl (inr is.status_is);
     check_stops = λ tells script journal stop expected asks must stop_is. inl (inr is.status_is);
     check_passes = λ tells plan h state c lawful. inl (inr is.status_is);
     check_bars = λ tells plan h index c barred. inl (inr is.status_is);
     check_ends = λ tells works c. inl is.status_is;
     run_ends = λ tells works asked plan contents asks held all. inl is.status_is;
     large_ends = λ works count workers asks. inl is.status_is;
+    front_ends = λ tells works script senders plan intake contents asks held some all. inl is.status_is;
   }

@@ -87,10 +87,10 @@ listening_more tells a b now n addresses before listens added = record {
 
 -- what is told of a run, said of a call that first listened
 pub tells_since : (a b now : PollerState) (tells : Bool) → SameHearing a b tells → (clock : Seen ClockState) (plan : PlanView) (workers most : ℕ)
-    (text : State → List Event → Bytes) (end : End)
-    → TellsRun (record { tells = tells; before = a; after = now }) clock plan workers most text end
-    → TellsRun (record { tells = tells; before = b; after = now }) clock plan workers most text end
-tells_since a b now tells same clock plan workers most text end t = record {
+    (calls : List Event → Type 0) (text : State → List Event → Bytes) (end : End)
+    → TellsRun (record { tells = tells; before = a; after = now }) clock plan workers most calls text end
+    → TellsRun (record { tells = tells; before = b; after = now }) clock plan workers most calls text end
+tells_since a b now tells same clock plan workers most calls text end t = record {
   h = t.h;
   state = t.state;
   ran = record {
@@ -100,7 +100,7 @@ tells_since a b now tells same clock plan workers most text end t = record {
       few = t.ran.run.few;
       by = t.ran.run.by;
       chosen = t.ran.run.chosen;
-      uncalled = t.ran.run.uncalled;
+      called = t.ran.run.called;
       timely = t.ran.run.timely;
       heard = heard_since most a b now tells same plan [] t.h t.ran.run.heard;
     };

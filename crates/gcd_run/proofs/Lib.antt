@@ -4,6 +4,10 @@ pub mod Stories
 pub mod Pages
 pub mod Statuses
 pub mod Ran
+pub mod Sending
+pub mod Counting
+pub mod Hears
+pub mod Lines
 pub mod Totals
 pub mod Told
 pub mod Judging

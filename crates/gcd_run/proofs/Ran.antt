@@ -7,11 +7,12 @@ use Rattle.gcd_history.specs.declared.state.State.{State}
 use Rattle.gcd_history.specs.declared.state.State.TheVariants.{Live}
 use Rattle.gcd_outer.specs.Outside.{Bytes, ClockState, Seen}
 use Rattle.gcd_outer.specs.Tells.{PollerState}
+use Rattle.gcd_loop.specs.Followed.{AcceptsNone}
 use Rattle.gcd_workers.specs.Ran.{RunsOverFiles}
 use Rattle.gcd_run.specs.Runs.{Ran}
 
 -- a run that has ended and goes on is full
-full_of : (most : ℕ) (plan : PlanView) (h : List Event) (state : State) → HasState plan h state → HasEnded most plan h → state ≡ Live → IsFull most plan h
+pub full_of : (most : ℕ) (plan : PlanView) (h : List Event) (state : State) → HasState plan h state → HasEnded most plan h → state ≡ Live → IsFull most plan h
 full_of most plan h state is ended live =
     let going : IsGoingOn plan h = subst (HasState plan h) live is in
     record {
@@ -27,7 +28,7 @@ full_of most plan h state is ended live =
 
 pub ran_is : (plan : PlanView) (workers most : ℕ) (files : List Bytes) (poller : Seen PollerState) (clock : Seen ClockState) (h : List Event)
     (given : List ℕ) (state : State) → RunsOverFiles most plan workers files poller clock h given state
-    → Ran poller clock plan workers most h state
+    → Ran poller clock plan workers most AcceptsNone h state
 ran_is plan workers most files poller clock h given state r = record {
   run = r.run;
   over = record { state_is = r.state_is; full = full_of most plan h state r.state_is r.run.ended };

@@ -2,31 +2,36 @@
 use Rattle.std.proofs.lemmas.Option.{same_Some}
 use Rattle.std.proofs.Common.{◌≡◌, ◌∙◌, ◌+◌, ◌==◌, if◌then◌else◌, ℕ, List, [], Option, Some, None, length, ap, subst, refl, sym, inl, inr}
 use Rattle.gcd_plan.specs.Limits.{max_events}
-use Rattle.gcd_plan.specs.PlanView.{PlanView}
+use Rattle.gcd_plan.specs.PlanView.{PlanView, IntakeView}
 use Rattle.gcd_event.specs.declared.event.Event.{Event}
+use Rattle.gcd_history.specs.Report.{front_text}
 use Rattle.gcd_history.specs.declared.state.State.{State}
 use Rattle.gcd_history.specs.declared.state.State.TheVariants.{Drained as RunDrained, Stuck as RunStuck, Misused as RunMisused, Halted as RunHalted, Live as RunLive}
+use Rattle.gcd_loop.specs.Followed.{AcceptsNone}
 use Rattle.gcd_outer.specs.Outside.{Bytes, SinkSeen, Took}
-use Rattle.gcd_words.specs.Asked.{Asked, RunAsked, request_of, run, check, big}
+use Rattle.gcd_workers.specs.CallersRuns.{AcceptsOf}
+use Rattle.gcd_words.specs.Asked.{Asked, RunAsked, request_of, run, check, big, front}
 use Rattle.gcd_run.specs.Calls.{Calls, InputsSeen, Made, only_loads, with_listen}
 use Rattle.gcd_run.specs.Checks.{CheckEnds, IsJournalAt, IsJudged}
 use Rattle.gcd_run.specs.Checks.CheckEnds.{stopped as check_stopped, judged}
 use Rattle.gcd_run.specs.Checks.IsJudged.{lawful, unlawful}
-use Rattle.gcd_run.specs.End.{End, read_fault, refused_end, no_journal_end, run_text, large_text, lawful_text, stop_end}
+use Rattle.gcd_run.specs.End.{End, read_fault, refused_end, no_journal_end, no_intake_end, run_text, large_text, lawful_text, stop_end}
 use Rattle.gcd_run.specs.Ends.{AskedEnds, Answers, CallEnds, HasStatus}
 use Rattle.gcd_run.specs.Ends.CallEnds.{reported, wanting}
 use Rattle.gcd_run.specs.Ends.IsWritten.{whole, cut_off}
+use Rattle.gcd_run.specs.Fronts.{FrontEnds, HearsSenders, TellsFront, front_workers}
+use Rattle.gcd_run.specs.Fronts.FrontEnds.{stopped as front_stopped, ran as front_ran}
 use Rattle.gcd_run.specs.Loads.{IsPlanOf, IsReady}
 use Rattle.gcd_run.specs.Pages.{KeepsPages}
 use Rattle.gcd_run.specs.Runs.{BigEnds, Ran, TellsRun}
 use Rattle.gcd_run.specs.Runs.RunEnds.{stopped, ran}
 use Rattle.gcd_run.specs.StatusCodes.{status_code, status_of}
-use Rattle.gcd_run.specs.Statuses.{Asks, IsLawfulTo, Judges, Runs, RunsLarge, RunsScript, Says, Stopped, StopsAt}
-use Rattle.gcd_run.specs.Statuses.StopsAt.{of_run, of_check}
+use Rattle.gcd_run.specs.Statuses.{Asks, IsLawfulTo, Judges, Runs, RunsBeside, RunsLarge, RunsScript, Says, Stopped, StopsAt}
+use Rattle.gcd_run.specs.Statuses.StopsAt.{of_run, of_check, of_front}
 use Rattle.gcd_run.specs.declared.status.Status.{Status}
-use Rattle.gcd_run.specs.declared.status.Status.TheVariants.{Drained, Stuck, NoCommand, ScriptRefused, Misused, Unread, CutOff, NoMemory, Full, JournalRefused}
+use Rattle.gcd_run.specs.declared.status.Status.TheVariants.{Drained, Stuck, NoCommand, ScriptRefused, Misused, Unread, CutOff, NoMemory, Full, JournalRefused, NoIntake}
 use Rattle.gcd_run.specs.declared.stop.Stop.{Stop}
-use Rattle.gcd_run.specs.declared.stop.Stop.TheVariants.{Unread as CantRead, Script, Journal, Memory}
+use Rattle.gcd_run.specs.declared.stop.Stop.TheVariants.{Unread as CantRead, Script, Journal, NoIntake as LacksIntake, Memory}
 use Rattle.gcd_run.specs.declared.story.Ended.{Ended}
 use Rattle.gcd_run.proofs.Pages.{pages_kept}
 
@@ -43,7 +48,8 @@ status_named n =
     else (if n == 7 then Some NoMemory
     else (if n == 8 then Some Full
     else (if n == 9 then Some JournalRefused
-    else None)))))))))
+    else (if n == 10 then Some NoIntake
+    else None))))))))))
 
 named_again : (s : Status) → status_named (status_code s) ≡ Some s
 named_again Drained = refl
@@ -56,6 +62,7 @@ named_again CutOff = refl
 named_again NoMemory = refl
 named_again Full = refl
 named_again JournalRefused = refl
+named_again NoIntake = refl
 
 -- a code is that of one status
 pub same_status : (s t : Status) → status_code s ≡ status_code t → s ≡ t
@@ -102,13 +109,15 @@ module _ (seen : InputsSeen) (sink : SinkSeen) (words : List Bytes) (result : En
         subst Written (some_end is) (λ took answers. (line, code, stopped_by (Script line code) (refused_end line code) refl why took answers))
     says_stop (Journal line) end why is =
         subst Written (some_end is) (λ took answers. inl (line, stopped_by (Journal line) (no_journal_end line) refl why took answers))
+    says_stop LacksIntake end why is =
+        subst Written (some_end is) (λ took answers. stopped_by LacksIntake no_intake_end refl why took answers)
     says_stop Memory end why is = absurd cc
 
     -- a run of a script, as it was told
     pub runs_script : (asked : RunAsked) (plan : PlanView) (contents : List Bytes) (end : End) → Asks words (run asked)
         → IsReady seen.shelf asked.script plan contents → calls ≡ with_listen (length plan.files + 1) asked.listen
-        → (t : TellsRun seen.poller seen.clock plan asked.workers asked.most (run_text asked.journal plan contents) end) → Took sink end.text
-        → Answers result end end.status → RunsScript seen sink words result t.state
+        → (t : TellsRun seen.poller seen.clock plan asked.workers asked.most AcceptsNone (run_text asked.journal plan contents) end)
+        → Took sink end.text → Answers result end end.status → RunsScript seen sink words result t.state
     runs_script asked plan contents end asks ready calls_are t took answers =
         let journal_is : result.journal.items ≡ t.h = answers.journal_is ∙ ap (λ (e : End). e.journal) t.end_is in
         record {
@@ -118,7 +127,7 @@ module _ (seen : InputsSeen) (sink : SinkSeen) (words : List Bytes) (result : En
           asks = asks;
           ready = ready;
           made = subst (Made seen) calls_are made;
-          ran = subst (λ h. Ran seen.poller seen.clock plan asked.workers asked.most h t.state) (sym journal_is) t.ran;
+          ran = subst (λ h. Ran seen.poller seen.clock plan asked.workers asked.most AcceptsNone h t.state) (sym journal_is) t.ran;
           pages = subst (KeepsPages plan contents) (sym journal_is) (pages_kept plan contents t.h ready.plan_is.valid t.ran.run.lawful);
           at_is = answers.at_is ∙ ap (λ (e : End). e.at) t.end_is;
           written = subst (λ h. Took sink (run_text asked.journal plan contents t.state h)) (sym journal_is)
@@ -140,16 +149,43 @@ module _ (seen : InputsSeen) (sink : SinkSeen) (words : List Bytes) (result : En
           asks = asks;
           large = ends.large;
           made = subst (Made seen) calls_are made;
-          ran = subst (λ h. Ran seen.poller seen.clock ends.plan workers max_events h t.state) (sym journal_is) t.ran;
+          ran = subst (λ h. Ran seen.poller seen.clock ends.plan workers max_events AcceptsNone h t.state) (sym journal_is) t.ran;
           at_is = answers.at_is ∙ ap (λ (e : End). e.at) t.end_is;
           written = subst (λ h. Took sink (large_text count ends.plan ends.contents t.state h)) (sym journal_is)
+              (subst (λ (e : End). Took sink e.text) t.end_is took);
+        }
+
+    -- a run beside senders, as it was told
+    pub runs_beside : (script : Bytes) (senders : ℕ) (plan : PlanView) (contents : List Bytes) (intake : IntakeView) (end : End)
+        → Asks words (front script senders) → IsReady seen.shelf script plan contents → plan.intake ≡ Some intake
+        → calls ≡ only_loads (length plan.files + 1) → (f : TellsFront seen.poller seen.clock plan intake senders end) → Took sink end.text
+        → Answers result end end.status → RunsBeside seen sink words result f.tells.state
+    runs_beside script senders plan contents intake end asks ready intake_is calls_are f took answers =
+        let t = f.tells in
+        let journal_is : result.journal.items ≡ t.h = answers.journal_is ∙ ap (λ (e : End). e.journal) t.end_is in
+        record {
+          script = script;
+          senders = senders;
+          plan = plan;
+          contents = contents;
+          intake = intake;
+          value = f.value;
+          asks = asks;
+          ready = ready;
+          intake_is = intake_is;
+          made = subst (Made seen) calls_are made;
+          ran = subst (λ h. Ran seen.poller seen.clock plan front_workers max_events (AcceptsOf senders) h t.state) (sym journal_is) t.ran;
+          hears = subst (HearsSenders plan intake senders f.value) (sym journal_is) f.hears;
+          pages = subst (KeepsPages plan contents) (sym journal_is) (pages_kept plan contents t.h ready.plan_is.valid t.ran.run.lawful);
+          at_is = answers.at_is ∙ ap (λ (e : End). e.at) t.end_is;
+          written = subst (λ h. Took sink (front_text plan senders f.value t.state h)) (sym journal_is)
               (subst (λ (e : End). Took sink e.text) t.end_is took);
         }
 
     -- a run of a script says its state
     says_script : (asked : RunAsked) (plan : PlanView) (contents : List Bytes) (end : End) → Asks words (run asked)
         → IsReady seen.shelf asked.script plan contents → calls ≡ with_listen (length plan.files + 1) asked.listen
-        → TellsRun seen.poller seen.clock plan asked.workers asked.most (run_text asked.journal plan contents) end → Written end
+        → TellsRun seen.poller seen.clock plan asked.workers asked.most AcceptsNone (run_text asked.journal plan contents) end → Written end
     says_script asked plan contents end asks ready calls_are t = λ took answers.
         subst (λ (e : End). Says seen sink words result e.status) (sym t.end_is)
         (says_run t.state (inl (runs_script asked plan contents end asks ready calls_are t took answers)))
@@ -159,7 +195,17 @@ module _ (seen : InputsSeen) (sink : SinkSeen) (words : List Bytes) (result : En
         → BigEnds seen.poller seen.clock count workers end → Written end
     says_large count workers end asks calls_are ends = λ took answers.
         subst (λ (e : End). Says seen sink words result e.status) (sym ends.tells.end_is)
-        (says_run ends.tells.state (inr (runs_large count workers end asks calls_are ends took answers)))
+        (says_run ends.tells.state (inr (inl (runs_large count workers end asks calls_are ends took answers))))
+
+    -- a run beside senders says its state
+    says_beside : (script : Bytes) (senders n : ℕ) (end : End) → Asks words (front script senders) → calls ≡ only_loads n
+        → FrontEnds seen script senders n end → Written end
+    says_beside script senders n end asks calls_are (front_stopped stop why is) =
+        says_stop stop end (of_front script senders n asks calls_are why) is
+    says_beside script senders n end asks calls_are (front_ran plan contents intake ready intake_is many f) = λ took answers.
+        subst (λ (e : End). Says seen sink words result e.status) (sym f.tells.end_is)
+        (says_run f.tells.state (inr (inr (runs_beside script senders plan contents intake end asks ready intake_is
+        (calls_are ∙ ap only_loads many) f took answers))))
 
     -- a journal that was judged says what was found
     judges_by : (script journal : Bytes) (plan : PlanView) (h : List Event) (claim : PlanView → List Event → Type 0) (at : Option (ℕ × ℕ))
@@ -215,6 +261,7 @@ module _ (seen : InputsSeen) (sink : SinkSeen) (words : List Bytes) (result : En
         says_check script journal n end asks calls_are (judged plan h plan_is read judged_so two) =
             says_judged script journal plan h end asks plan_is read (calls_are ∙ ap only_loads two) judged_so
     says_asked (Some (big count workers)) end asks ends = says_large count workers end asks ends.0 ends.1
+    says_asked (Some (front script senders)) end asks ends = says_beside script senders ends.loads end asks ends.calls_are ends.ends
 
   -- the status that the call answers says what it says
   pub says : CallEnds seen sink words result → (s : Status) → HasStatus result s → Says seen sink words result s

@@ -1,5 +1,5 @@
 -- What is told, and the calls that it took.
-use Rattle.std.proofs.Common.{◌≡◌, ◌∙◌, ℕ, true, is_some, List, Option, Some, None, Result, Ok, Err, option_map, ap, refl, sym, subst, inl, inr}
+use Rattle.std.proofs.Common.{◌≡◌, ◌∙◌, ◌+◌, ℕ, true, length, is_some, List, Option, Some, None, Result, Ok, Err, option_map, ap, refl, sym, subst, inl, inr, arith}
 use Rattle.std.specs.Prelude.{IfOk}
 use Rattle.std.proofs.lemmas.Bool.{both_ways}
 use Rattle.gcd_outer.specs.Outside.{Bytes, ShelfSeen}
@@ -10,6 +10,10 @@ use Rattle.gcd_run.specs.Checks.CheckEnds.{stopped as check_stopped, judged}
 use Rattle.gcd_run.specs.Checks.StopsCheck.{at_script as check_at_script, at_journal}
 use Rattle.gcd_run.specs.End.{End}
 use Rattle.gcd_run.specs.Ends.{AskedCalls, AskedEnds, WordsCall, WordsEnd}
+use Rattle.gcd_run.specs.Fronts.{FrontEnds, IsFrontCount, StopsFront}
+use Rattle.gcd_run.specs.Fronts.FrontEnds.{stopped as front_stopped, ran as front_ran}
+use Rattle.gcd_run.specs.Fronts.IsFrontCount.{of_script as count_of_script, of_files}
+use Rattle.gcd_run.specs.Fronts.StopsFront.{at_script as front_at_script, at_intake, at_file as front_at_file, wanting as front_wanting}
 use Rattle.gcd_run.specs.Loads.StopsReady.{at_script, at_file}
 use Rattle.gcd_run.specs.Runs.{RunCalls, RunEnds, StopsRun}
 use Rattle.gcd_run.specs.Runs.RunCalls.{of_script, of_file, of_listen, of_run}
@@ -31,6 +35,15 @@ stops_calls seen asked calls stop (wanting plan contents ready stop_is is) = of_
 pub run_calls : (seen : InputsSeen) (asked : RunAsked) (calls : Calls) (end : End) → RunEnds seen asked calls end → RunCalls seen asked calls
 run_calls seen asked calls end (stopped stop why is) = stops_calls seen asked calls stop why
 run_calls seen asked calls end (ran plan contents ready is reported) = of_run plan ready.plan_is is
+
+-- the loads of `front`
+pub front_stops_count : (shelf : ShelfSeen) (script : Bytes) (n : ℕ) (stop : Stop) → StopsFront shelf script n stop → IsFrontCount shelf script n
+front_stops_count shelf script n stop (front_at_script why one) = count_of_script one
+front_stops_count shelf script n stop (at_intake plan plan_is none is one) = count_of_script one
+front_stops_count shelf script n stop (front_at_file plan intake f plan_is some stops two) =
+    let within = file_within shelf plan.files f stop stops in
+    of_files plan (f + 1) plan_is (omega (arith, within)) (omega (arith, two))
+front_stops_count shelf script n stop (front_wanting plan contents ready is many) = of_files plan (length plan.files) ready.plan_is (omega arith) many
 
 -- the loads of a check
 pub stops_count : (shelf : ShelfSeen) (script journal : Bytes) (n : ℕ) (stop : Stop) → StopsCheck shelf script journal n stop → IsCheckCount n

@@ -2,7 +2,7 @@
 -- and writes, a fault of the outside and out of memory aside.
 use Rattle.std.specs.Prelude.{◌≡◌, ◌≢◌, ◌⊎◌, ℕ, true, nat_lt, if◌then◌else◌, List, [], ◌∷◌, Option, Some, None, Result, Ok, Err, length}
 use Rattle.gcd_plan.specs.Limits.{max_events, max_file_bytes, max_script_bytes}
-use Rattle.gcd_plan.specs.PlanView.{PlanView, FileView}
+use Rattle.gcd_plan.specs.PlanView.{PlanView, FileView, IntakeView}
 use Rattle.gcd_history.specs.declared.state.State.{State}
 use Rattle.gcd_history.specs.declared.state.State.TheVariants.{Halted}
 use Rattle.gcd_event.specs.declared.event.Event.{Event}
@@ -12,7 +12,7 @@ use Rattle.gcd_outer.specs.Outside.{Bytes, ShelfFailed, SinkSeen, SinkFailed}
 use Rattle.gcd_script.specs.Faults.{fault_of, IsScriptOf}
 use Rattle.gcd_script.specs.Codes.{refusal_code}
 use Rattle.gcd_script.specs.declared.refusal.Refusal.TheVariants.{PastLimit}
-use Rattle.gcd_words.specs.Asked.{RunAsked, request_of, run, check, big}
+use Rattle.gcd_words.specs.Asked.{RunAsked, request_of, run, check, big, front}
 use Rattle.gcd_run.specs.Calls.{InputsSeen, PollerFailed}
 use Rattle.gcd_run.specs.End.{End, lawful_end, read_fault, stop_end, unlawful_end, usage_end}
 use Rattle.gcd_run.specs.Ends.{HasStatus, IsWritten}
@@ -20,7 +20,7 @@ use Rattle.gcd_run.specs.StatusCodes.{status_of}
 use Rattle.gcd_run.specs.Statuses.{Asks, IsLawfulTo, Runs}
 use Rattle.gcd_run.specs.declared.status.Status.TheVariants.{Drained, NoMemory, JournalRefused}
 use Rattle.gcd_run.specs.declared.stop.Stop.{Stop}
-use Rattle.gcd_run.specs.declared.stop.Stop.TheVariants.{Unread as CantRead, Script, Journal}
+use Rattle.gcd_run.specs.declared.stop.Stop.TheVariants.{Unread as CantRead, Script, Journal, NoIntake}
 use Rattle.gcd_run.specs.declared.story.Ended.{Ended}
 
 -- ## What a content gives
@@ -56,6 +56,13 @@ pub record HoldsScript (content : Bytes → Option Bytes) (name : Bytes) (plan :
 pub data MustStop (content : Bytes → Option Bytes) (name : Bytes) (stop : Stop) : Type 0 where
   at_script : IsNoScript content name stop → MustStop content name stop
   at_file : (plan : PlanView) → HoldsScript content name plan → files_at content plan.files ≡ Err stop → MustStop content name stop
+
+-- why `front` has to stop: at the script, where that has no intake, or at a file
+pub data MustStopFront (content : Bytes → Option Bytes) (name : Bytes) (stop : Stop) : Type 0 where
+  at_script : IsNoScript content name stop → MustStopFront content name stop
+  at_intake : (plan : PlanView) → HoldsScript content name plan → plan.intake ≡ None → stop ≡ NoIntake → MustStopFront content name stop
+  at_file : (plan : PlanView) (intake : IntakeView) → HoldsScript content name plan → plan.intake ≡ Some intake
+      → files_at content plan.files ≡ Err stop → MustStopFront content name stop
 
 -- ## What a journal gives
 
@@ -117,14 +124,16 @@ pub record NothingFailed (seen : InputsSeen) (sink : SinkSeen) : Type 0 where
   pub sink_works : ¬ SinkFailed sink
 
 -- What has to come. Where the words name no command, the usage line. Where the shelf tells: where a run or a check has to stop,
--- what is told of that stop; where a check is asked for of lawful events, that they are lawful, with their state, and else the
+-- what is told of that stop, and so of `front`, which has to stop also where the script has no intake; where a check is asked for of lawful events, that they are lawful, with their state, and else the
 -- first event that is not permitted. Where moreover nothing fails, a check of a text of any kind ends with Drained or
 -- JournalRefused. And where a script and its files are told, or the large script is asked for, and nothing fails, the run comes to
--- its end and the status is that of its state, which is not halted.
+-- its end and the status is that of its state, which is not halted; that of `front` too, where the script has an intake.
 pub record Always (seen : InputsSeen) (sink : SinkSeen) (words : List Bytes) (result : Ended) : Type 0 where
   pub usage : request_of words ≡ None → Gives sink result usage_end
   pub run_stops : seen.shelf.tells ≡ true → (asked : RunAsked) (stop : Stop) (end : End) → Asks words (run asked)
       → MustStop seen.shelf.content asked.script stop → stop_end stop ≡ Some end → Answers seen sink result end
+  pub front_stops : seen.shelf.tells ≡ true → (script : Bytes) (senders : ℕ) (stop : Stop) (end : End) → Asks words (front script senders)
+      → MustStopFront seen.shelf.content script stop → stop_end stop ≡ Some end → Answers seen sink result end
   pub check_stops : seen.shelf.tells ≡ true → (script journal : Bytes) (stop : Stop) (end : End) → Asks words (check script journal)
       → MustRefuse seen.shelf.content script journal stop → stop_end stop ≡ Some end → Answers seen sink result end
   pub check_passes : seen.shelf.tells ≡ true → (plan : PlanView) (h : List Event) (state : State)
@@ -137,4 +146,8 @@ pub record Always (seen : InputsSeen) (sink : SinkSeen) (words : List Bytes) (re
       → Asks words (run asked) → HoldsScript seen.shelf.content asked.script plan → files_at seen.shelf.content plan.files ≡ Ok contents
       → HasStatus result NoMemory ⊎ ((state : State) × Runs seen sink words result state × HasStatus result (status_of state) × (state ≢ Halted))
   pub large_ends : NothingFailed seen sink → (count workers : ℕ) → Asks words (big count workers)
+      → HasStatus result NoMemory ⊎ ((state : State) × Runs seen sink words result state × HasStatus result (status_of state) × (state ≢ Halted))
+  pub front_ends : seen.shelf.tells ≡ true → NothingFailed seen sink → (script : Bytes) (senders : ℕ) (plan : PlanView) (intake : IntakeView)
+      (contents : List Bytes) → Asks words (front script senders) → HoldsScript seen.shelf.content script plan
+      → plan.intake ≡ Some intake → files_at seen.shelf.content plan.files ≡ Ok contents
       → HasStatus result NoMemory ⊎ ((state : State) × Runs seen sink words result state × HasStatus result (status_of state) × (state ≢ Halted))

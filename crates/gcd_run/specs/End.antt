@@ -13,9 +13,9 @@ use Rattle.gcd_jobs.specs.BlockValues.{has_given}
 use Rattle.gcd_outer.specs.Outside.{Bytes}
 use Rattle.gcd_run.specs.StatusCodes.{status_of}
 use Rattle.gcd_run.specs.declared.status.Status.{Status}
-use Rattle.gcd_run.specs.declared.status.Status.TheVariants.{Drained, NoCommand, ScriptRefused, Unread, JournalRefused}
+use Rattle.gcd_run.specs.declared.status.Status.TheVariants.{Drained, NoCommand, ScriptRefused, Unread, JournalRefused, NoIntake}
 use Rattle.gcd_run.specs.declared.stop.Stop.{Stop}
-use Rattle.gcd_run.specs.declared.stop.Stop.TheVariants.{Unread as CantRead, Script, Journal, Memory}
+use Rattle.gcd_run.specs.declared.stop.Stop.TheVariants.{Unread as CantRead, Script, Journal, NoIntake as LacksIntake, Memory}
 
 pub record End : Type 0 where
   pub status : Status
@@ -32,7 +32,7 @@ plain_end status text = record { status = status; journal = []; at = None; text 
 -- the words name no command
 abbrev pub usage_text : Bytes
 usage_text =
-    codes "usage: gcd run SCRIPT [--workers N] [--journal] [--most N] [--listen ADDR] | gcd check SCRIPT JOURNAL | gcd big N [--workers W]\n"
+    codes "usage: gcd run SCRIPT [--workers N] [--journal] [--most N] [--listen ADDR] | gcd check SCRIPT JOURNAL | gcd big N [--workers W] | gcd front SCRIPT SENDERS\n"
 
 abbrev pub usage_end : End
 usage_end = plain_end NoCommand usage_text
@@ -55,11 +55,16 @@ no_journal_text line = codes "journal refused: line " ++ (decimal line ++ line_e
 abbrev pub no_journal_end : (line : ℕ) → End
 no_journal_end line = record { status = JournalRefused; journal = []; at = Some (line, 1); text = no_journal_text line }
 
+-- the script has no intake
+abbrev pub no_intake_end : End
+no_intake_end = plain_end NoIntake (codes "no intake\n")
+
 -- how a call ends that stops for this cause; None where memory ran out, for then nothing is told
 abbrev pub stop_end : Stop → Option End
 stop_end CantRead = Some read_fault
 stop_end (Script line code) = Some (refused_end line code)
 stop_end (Journal line) = Some (no_journal_end line)
+stop_end LacksIntake = Some no_intake_end
 stop_end Memory = None
 
 -- ## A run

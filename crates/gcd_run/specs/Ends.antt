@@ -1,10 +1,11 @@
 -- The ways in which a call can end, one rule for each.
 use Rattle.std.specs.Prelude.{◌≡◌, ◌⊎◌, ℕ, List, [], Option, Some, None}
 use Rattle.gcd_outer.specs.Outside.{Bytes, SinkSeen, SinkFailed, Took, TookFront}
-use Rattle.gcd_words.specs.Asked.{Asked, request_of, run, check, big}
+use Rattle.gcd_words.specs.Asked.{Asked, request_of, run, check, big, front}
 use Rattle.gcd_run.specs.Calls.{Calls, InputsSeen, Made, only_loads}
 use Rattle.gcd_run.specs.Checks.{CheckEnds, IsCheckCount}
 use Rattle.gcd_run.specs.End.{End, usage_end}
+use Rattle.gcd_run.specs.Fronts.{FrontEnds, IsFrontCount}
 use Rattle.gcd_run.specs.Runs.{BigEnds, RunCalls, RunEnds}
 use Rattle.gcd_run.specs.StatusCodes.{status_code}
 use Rattle.gcd_run.specs.declared.status.Status.{Status}
@@ -17,12 +18,19 @@ pub record OnlyChecks (seen : InputsSeen) (script journal : Bytes) (calls : Call
   pub calls_are : calls ≡ only_loads loads
   pub ends : CheckEnds seen.shelf script journal loads end
 
+-- `front` makes loads alone
+pub record OnlyFronts (seen : InputsSeen) (script : Bytes) (senders : ℕ) (calls : Calls) (end : End) : Type 0 where
+  pub loads : ℕ
+  pub calls_are : calls ≡ only_loads loads
+  pub ends : FrontEnds seen script senders loads end
+
 -- what is told of a request, after these calls: a new command is a new case here
 abbrev pub AskedEnds : InputsSeen → Option Asked → Calls → End → Type 0
 AskedEnds seen None calls end = (calls ≡ only_loads 0) × (end ≡ usage_end)
 AskedEnds seen (Some (run asked)) calls end = RunEnds seen asked calls end
 AskedEnds seen (Some (check script journal)) calls end = OnlyChecks seen script journal calls end
 AskedEnds seen (Some (big count workers)) calls end = (calls ≡ only_loads 0) × BigEnds seen.poller seen.clock count workers end
+AskedEnds seen (Some (front script senders)) calls end = OnlyFronts seen script senders calls end
 
 -- what is told at these words, after these calls
 abbrev pub WordsEnd : InputsSeen → List Bytes → Calls → End → Type 0
@@ -34,12 +42,19 @@ pub record OnlyLoads (calls : Calls) : Type 0 where
   pub calls_are : calls ≡ only_loads loads
   pub few : IsCheckCount loads
 
+-- `front` makes so many loads up to some step
+pub record OnlyFrontLoads (seen : InputsSeen) (script : Bytes) (calls : Calls) : Type 0 where
+  pub loads : ℕ
+  pub calls_are : calls ≡ only_loads loads
+  pub few : IsFrontCount seen.shelf script loads
+
 -- the calls of a request up to some step; `big`, and words that name no command, make none
 abbrev pub AskedCalls : InputsSeen → Option Asked → Calls → Type 0
 AskedCalls seen None calls = calls ≡ only_loads 0
 AskedCalls seen (Some (run asked)) calls = RunCalls seen asked calls
 AskedCalls seen (Some (check script journal)) calls = OnlyLoads calls
 AskedCalls seen (Some (big count workers)) calls = calls ≡ only_loads 0
+AskedCalls seen (Some (front script senders)) calls = OnlyFrontLoads seen script calls
 
 -- the calls at these words up to some step: none before the words are read
 abbrev pub WordsCall : InputsSeen → List Bytes → Calls → Type 0

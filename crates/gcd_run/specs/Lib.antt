@@ -4,6 +4,8 @@ pub mod Stories
 pub mod Calls
 pub mod Loads
 pub mod Runs
+pub mod Senders
+pub mod Fronts
 pub mod Pages
 pub mod Listens
 pub mod Checks

@@ -11,6 +11,7 @@ use Rattle.gcd_outer.specs.Outside.{Bytes, ClockState, Seen}
 use Rattle.gcd_outer.specs.Tells.{PollerState}
 use Rattle.gcd_script.specs.BigScript.{big_script}
 use Rattle.gcd_script.specs.Faults.{IsScriptOf}
+use Rattle.gcd_loop.specs.Followed.{AcceptsNone}
 use Rattle.gcd_loop.specs.Ran.{RunsPlan}
 use Rattle.gcd_words.specs.Asked.{RunAsked}
 use Rattle.gcd_run.specs.Calls.{Calls, InputsSeen, PollerFailed, only_loads, failed_listen, with_listen}
@@ -27,20 +28,20 @@ pub record IsOver (most : ℕ) (plan : PlanView) (h : List Event) (state : State
   pub full : state ≡ Live → IsFull most plan h
 
 -- A plan has run by so many workers, with at most so many events, and this is the run's whole journal: it is lawful; with one
--- worker each event of a worker is what that worker chooses; no Tick is ahead of the clock, and moments waited for are due times;
--- what the poller told stands in it, in order, and it is halted just where the poller failed (`RunsPlan` says all this); and it is
--- over, in this state.
-pub record Ran (poller : Seen PollerState) (clock : Seen ClockState) (plan : PlanView) (workers most : ℕ) (h : List Event) (state : State)
-    : Type 0 where
-  pub run : RunsPlan most plan workers poller clock h
+-- worker each event of a worker is what that worker chooses; of the jobs of outside callers `calls` holds; no Tick is ahead of the
+-- clock, and moments waited for are due times; what the poller told stands in it, in order, and it is halted just where the poller
+-- failed (`RunsPlan` says all this); and it is over, in this state.
+pub record Ran (poller : Seen PollerState) (clock : Seen ClockState) (plan : PlanView) (workers most : ℕ) (calls : List Event → Type 0)
+    (h : List Event) (state : State) : Type 0 where
+  pub run : RunsPlan most plan workers calls poller clock h
   pub over : IsOver most plan h state
 
 -- a plan has run over these contents of its files, and this is told of the run, by its journal and its state
 pub record TellsRun (poller : Seen PollerState) (clock : Seen ClockState) (plan : PlanView) (workers most : ℕ)
-    (text : State → List Event → Bytes) (end : End) : Type 0 where
+    (calls : List Event → Type 0) (text : State → List Event → Bytes) (end : End) : Type 0 where
   pub h : List Event
   pub state : State
-  pub ran : Ran poller clock plan workers most h state
+  pub ran : Ran poller clock plan workers most calls h state
   pub end_is : end ≡ ran_end state h (text state h)
 
 -- ## `run`
@@ -60,7 +61,8 @@ pub data RunEnds (seen : InputsSeen) (asked : RunAsked) (calls : Calls) (end : E
   stopped : (stop : Stop) → StopsRun seen asked calls stop → stop_end stop ≡ Some end → RunEnds seen asked calls end
   ran : (plan : PlanView) (contents : List Bytes) → IsReady seen.shelf asked.script plan contents
       → calls ≡ with_listen (length plan.files + 1) asked.listen
-      → TellsRun seen.poller seen.clock plan asked.workers asked.most (run_text asked.journal plan contents) end → RunEnds seen asked calls end
+      → TellsRun seen.poller seen.clock plan asked.workers asked.most AcceptsNone (run_text asked.journal plan contents) end
+      → RunEnds seen asked calls end
 
 -- The calls of `run` up to some step: a load of the script; one of each file of its plan, up to some file; a listen, only where
 -- one is asked for and all files are loaded.
@@ -90,4 +92,4 @@ pub record BigEnds (poller : Seen PollerState) (clock : Seen ClockState) (count 
   pub plan : PlanView
   pub contents : List Bytes
   pub large : IsLarge count plan contents
-  pub tells : TellsRun poller clock plan workers max_events (large_text count plan contents) end
+  pub tells : TellsRun poller clock plan workers max_events AcceptsNone (large_text count plan contents) end

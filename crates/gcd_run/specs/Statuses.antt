@@ -1,26 +1,30 @@
 -- What each status of a call says.
 use Rattle.std.specs.Prelude.{◌≡◌, ◌+◌, ◌⊎◌, ℕ, List, [], Option, Some, None, length}
 use Rattle.gcd_plan.specs.Limits.{max_events}
-use Rattle.gcd_plan.specs.PlanView.{PlanView}
+use Rattle.gcd_plan.specs.PlanView.{PlanView, IntakeView}
 use Rattle.gcd_event.specs.declared.event.Event.{Event}
 use Rattle.gcd_history.specs.Ends.{HasState}
 use Rattle.gcd_history.specs.History.{IsLawful}
+use Rattle.gcd_history.specs.Report.{front_text}
 use Rattle.gcd_history.specs.declared.state.State.{State}
 use Rattle.gcd_history.specs.declared.state.State.TheVariants.{Drained as RunDrained, Stuck as RunStuck, Misused as RunMisused, Halted as RunHalted, Live as RunLive}
 use Rattle.gcd_journal.specs.Judged.{IsFirstBarred}
+use Rattle.gcd_loop.specs.Followed.{AcceptsNone}
 use Rattle.gcd_outer.specs.Outside.{Bytes, SinkSeen, SinkFailed, Took, TookFront}
-use Rattle.gcd_words.specs.Asked.{Asked, RunAsked, request_of, run, check, big}
+use Rattle.gcd_words.specs.Asked.{Asked, RunAsked, request_of, run, check, big, front}
+use Rattle.gcd_workers.specs.CallersRuns.{AcceptsOf}
 use Rattle.gcd_run.specs.Calls.{Calls, InputsSeen, Made, only_loads, with_listen}
 use Rattle.gcd_run.specs.Checks.{IsJournalAt, StopsCheck}
-use Rattle.gcd_run.specs.End.{End, usage_text, read_fault, refused_end, no_journal_end, run_text, large_text, lawful_text, unlawful_text}
+use Rattle.gcd_run.specs.End.{End, usage_text, read_fault, refused_end, no_journal_end, no_intake_end, run_text, large_text, lawful_text, unlawful_text}
 use Rattle.gcd_run.specs.Ends.{WordsEnd, IsWanting}
+use Rattle.gcd_run.specs.Fronts.{HearsSenders, StopsFront, front_workers}
 use Rattle.gcd_run.specs.Loads.{IsPlanOf, IsReady}
 use Rattle.gcd_run.specs.Pages.{KeepsPages}
 use Rattle.gcd_run.specs.Runs.{IsLarge, Ran, StopsRun}
 use Rattle.gcd_run.specs.declared.status.Status.{Status}
-use Rattle.gcd_run.specs.declared.status.Status.TheVariants.{Drained, Stuck, NoCommand, ScriptRefused, Misused, Unread, CutOff, NoMemory, Full, JournalRefused}
+use Rattle.gcd_run.specs.declared.status.Status.TheVariants.{Drained, Stuck, NoCommand, ScriptRefused, Misused, Unread, CutOff, NoMemory, Full, JournalRefused, NoIntake}
 use Rattle.gcd_run.specs.declared.stop.Stop.{Stop}
-use Rattle.gcd_run.specs.declared.stop.Stop.TheVariants.{Unread as CantRead, Script, Journal}
+use Rattle.gcd_run.specs.declared.stop.Stop.TheVariants.{Unread as CantRead, Script, Journal, NoIntake as LacksIntake}
 use Rattle.gcd_run.specs.declared.story.Ended.{Ended}
 
 -- the words ask for this
@@ -39,7 +43,7 @@ pub record RunsScript (seen : InputsSeen) (sink : SinkSeen) (words : List Bytes)
   pub asks : Asks words (run asked)
   pub ready : IsReady seen.shelf asked.script plan contents
   pub made : Made seen (with_listen (length plan.files + 1) asked.listen)
-  pub ran : Ran seen.poller seen.clock plan asked.workers asked.most result.journal.items state
+  pub ran : Ran seen.poller seen.clock plan asked.workers asked.most AcceptsNone result.journal.items state
   pub pages : KeepsPages plan contents result.journal.items
   pub at_is : result.at ≡ None
   pub written : Took sink (run_text asked.journal plan contents state result.journal.items)
@@ -53,13 +57,33 @@ pub record RunsLarge (seen : InputsSeen) (sink : SinkSeen) (words : List Bytes) 
   pub asks : Asks words (big count workers)
   pub large : IsLarge count plan contents
   pub made : Made seen (only_loads 0)
-  pub ran : Ran seen.poller seen.clock plan workers max_events result.journal.items state
+  pub ran : Ran seen.poller seen.clock plan workers max_events AcceptsNone result.journal.items state
   pub at_is : result.at ≡ None
   pub written : Took sink (large_text count plan contents state result.journal.items)
 
+-- `front`: the same of a script with an intake, with a load of it and of each file of it, beside so many senders; each accepted job is
+-- one of theirs, and the sink took a line for each sender, and the end
+pub record RunsBeside (seen : InputsSeen) (sink : SinkSeen) (words : List Bytes) (result : Ended) (state : State) : Type 0 where
+  pub script : Bytes
+  pub senders : ℕ
+  pub plan : PlanView
+  pub contents : List Bytes
+  pub intake : IntakeView
+  pub value : ℕ → ℕ
+  pub asks : Asks words (front script senders)
+  pub ready : IsReady seen.shelf script plan contents
+  pub intake_is : plan.intake ≡ Some intake
+  pub made : Made seen (only_loads (length plan.files + 1))
+  pub ran : Ran seen.poller seen.clock plan front_workers max_events (AcceptsOf senders) result.journal.items state
+  pub hears : HearsSenders plan intake senders value result.journal.items
+  pub pages : KeepsPages plan contents result.journal.items
+  pub at_is : result.at ≡ None
+  pub written : Took sink (front_text plan senders value state result.journal.items)
+
 -- a run came to this state
 abbrev pub Runs : InputsSeen → SinkSeen → List Bytes → Ended → State → Type 0
-Runs seen sink words result state = RunsScript seen sink words result state ⊎ RunsLarge seen sink words result state
+Runs seen sink words result state =
+    RunsScript seen sink words result state ⊎ (RunsLarge seen sink words result state ⊎ RunsBeside seen sink words result state)
 
 -- ## A journal
 
@@ -99,6 +123,8 @@ pub data StopsAt (seen : InputsSeen) (words : List Bytes) (calls : Calls) (stop 
   of_run : (asked : RunAsked) → Asks words (run asked) → StopsRun seen asked calls stop → StopsAt seen words calls stop
   of_check : (script journal : Bytes) (n : ℕ) → Asks words (check script journal) → calls ≡ only_loads n
       → StopsCheck seen.shelf script journal n stop → StopsAt seen words calls stop
+  of_front : (script : Bytes) (senders n : ℕ) → Asks words (front script senders) → calls ≡ only_loads n
+      → StopsFront seen.shelf script n stop → StopsAt seen words calls stop
 
 -- a command stopped for this cause, and ended so
 pub record Stopped (seen : InputsSeen) (sink : SinkSeen) (words : List Bytes) (result : Ended) (stop : Stop) (end : End) : Type 0 where
@@ -143,3 +169,4 @@ Says seen sink words result NoMemory = IsWanting sink result
 Says seen sink words result Full = Runs seen sink words result RunLive
 Says seen sink words result JournalRefused =
     ((line : ℕ) × Stopped seen sink words result (Journal line) (no_journal_end line)) ⊎ Unlawful seen sink words result
+Says seen sink words result NoIntake = Stopped seen sink words result LacksIntake no_intake_end

@@ -3,6 +3,7 @@ ghost use Rattle.std.specs.Prelude.{◌≡◌, ◌<◌, ◌≤◌, ℕ, false, l
 ghost use Rattle.gcd_plan.specs.Limits.{max_workers};
 ghost use Rattle.gcd_jobs.specs.BlockValues.{AreValues};
 ghost use Rattle.gcd_jobs.specs.Contents.{contents};
+ghost use Rattle.gcd_loop.specs.Followed.{AcceptsNone};
 ghost use Rattle.gcd_machine.specs.Stands.{StandsFor};
 ghost use Rattle.gcd_turn.specs.Asked.{KeepsListens};
 ghost use Rattle.gcd_run.specs.Calls.{seen_by};
@@ -39,7 +40,7 @@ pub fn run_by<R: Threads + Wait + Sync, P: Poller, C: Clock>(
     requires workers { (0 < workers) × (workers ≤ max_workers) }
     requires most { 0 < most }
     requires unwatched { (feed : ℕ) → (P.state poller.old).watched feed ≡ false }
-    ensures ran { IfOk result (λ o. Ran (seen_by P.tells P.state poller.old poller.new) (seen_by C.tells C.state clock.old clock.new) plan.now workers most o.journal.items o.state) }
+    ensures ran { IfOk result (λ o. Ran (seen_by P.tells P.state poller.old poller.new) (seen_by C.tells C.state clock.old clock.new) plan.now workers most AcceptsNone o.journal.items o.state) }
     ensures values { IfOk result (λ o. AreValues plan.now (contents files.now) o.journal.items o.values.items) }
     ensures stands { IfOk result (λ o. StandsFor o.machine plan.now o.journal.items) }
     ensures kept { KeepsListens P.tells (P.state poller.old) (P.state poller.new) }

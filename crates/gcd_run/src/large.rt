@@ -66,8 +66,8 @@ fn large_files(alloc: Global, plan: &Plan) -> Result<Vec<Vec<u8>>, AllocError>
     Ok(files)
 }
 
-// The values, added up.
-fn total(values: &[u64]) -> u128
+/// The values, added up.
+pub fn total(values: &[u64]) -> u128
     requires { length values.now ≤ max_blocks }
     ensures { result ≡ sum values.now }
 {

@@ -3,6 +3,7 @@ ghost use Rattle.std.specs.Prelude.{◌≡◌, ◌≤◌, ◌+◌, length, map, 
 ghost use Rattle.gcd_plan.specs.PlanView.{file_view};
 ghost use Rattle.gcd_outer.specs.Outside.{shelf_seen};
 ghost use Rattle.gcd_run.specs.Calls.{MadeLoads};
+ghost use Rattle.gcd_run.specs.Fronts.{HasIntake, StopsFront};
 ghost use Rattle.gcd_run.specs.Loads.{IsLoaded, AreLoaded, IsPlanOf, IsReady, StopsLoad, StopsScript, StopsFiles, StopsReady, SomeLoads};
 
 use crate::stop::Stop;
@@ -94,4 +95,24 @@ pub fn load_all<S: Shelf>(
     let plan = load_plan(alloc, shelf, name)?;
     let files = load_files(alloc, shelf, plan.files())?;
     Ok((plan, files))
+}
+
+/// Loads the script of this name and reads its plan, and then, where that has an intake, loads the plan's files. The number of the
+/// intake's blocks is told beside them.
+pub fn load_front<S: Shelf>(
+    alloc: Global,
+    shelf: &mut S,
+    name: &str,
+) -> Result<(Plan, Vec<Vec<u8>>, u32), Stop>
+    ensures ready { IfOk result (λ r. IsReady (shelf_seen S.tells S.content S.loads S.faults shelf.old shelf.new) name.now r.0 (map (λ c. c.items) r.1.items)) }
+    ensures intake { IfOk result (λ r. HasIntake r.0 r.2) }
+    ensures loads { IfOk result (λ r. MadeLoads (shelf_seen S.tells S.content S.loads S.faults shelf.old shelf.new) (length r.0.files + 1)) }
+    ensures stopped { IfErr result (λ stop. SomeLoads (shelf_seen S.tells S.content S.loads S.faults shelf.old shelf.new) (λ n. StopsFront (shelf_seen S.tells S.content S.loads S.faults shelf.old shelf.new) name.now n stop)) }
+{
+    let plan = load_plan(alloc, shelf, name)?;
+    let Some((_, _, blocks)) = plan.intake() else {
+        return Err(Stop::NoIntake);
+    };
+    let files = load_files(alloc, shelf, plan.files())?;
+    Ok((plan, files, blocks))
 }

@@ -8,6 +8,7 @@ ghost use Rattle.gcd_history.specs.Ends.{HasState};
 ghost use Rattle.gcd_history.specs.Values.{value_of};
 ghost use Rattle.gcd_jobs.specs.BlockValues.{has_given};
 ghost use Rattle.gcd_history.specs.declared.state.State.{State};
+ghost use Rattle.gcd_loop.specs.Followed.{AcceptsNone};
 ghost use Rattle.gcd_machine.specs.Stands.{StandsFor};
 ghost use Rattle.gcd_outer.specs.Outside.{shelf_seen};
 ghost use Rattle.gcd_turn.specs.Asked.{KeepsListens};
@@ -132,7 +133,7 @@ fn run_plan<R: Threads + Wait + Sync, P: Poller, C: Clock>(
     requires workers { (0 < workers) × (workers ≤ max_workers) }
     requires most { (0 < most) × (most ≤ max_events) }
     requires unwatched { (feed : ℕ) → (P.state poller.old).watched feed ≡ false }
-    ensures reported { IfOk result (λ s. TellsRun (seen_by P.tells P.state poller.old poller.new) (seen_by C.tells C.state clock.old clock.new) plan.now workers most (run_text with_journal plan.now (map (λ f. f.items) files.now)) (end_of s)) }
+    ensures reported { IfOk result (λ s. TellsRun (seen_by P.tells P.state poller.old poller.new) (seen_by C.tells C.state clock.old clock.new) plan.now workers most AcceptsNone (run_text with_journal plan.now (map (λ f. f.items) files.now)) (end_of s)) }
     ensures kept { KeepsListens P.tells (P.state poller.old) (P.state poller.new) }
 {
     let run = run_by(rt, alloc, plan, workers, most, files, poller, clock)?;

@@ -29,6 +29,8 @@ pub enum Status {
     Full,
     /// The journal is refused: it is none, it is longer than its limit, or an event of it is not permitted.
     JournalRefused,
+    /// The script has no intake, and a run beside senders is asked for.
+    NoIntake,
 }
 
 impl Status {
@@ -46,7 +48,7 @@ impl Status {
         }
     }
 
-    /// The number with which the program ends, from 0 to 9.
+    /// The number with which the program ends, from 0 to 10.
     pub fn code(self) -> u8
         ensures { result ≡ status_code self }
     {
@@ -61,6 +63,7 @@ impl Status {
             Status::NoMemory => 7,
             Status::Full => 8,
             Status::JournalRefused => 9,
+            Status::NoIntake => 10,
         }
     }
 }

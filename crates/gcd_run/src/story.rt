@@ -38,7 +38,7 @@ pub fn bytes_of(alloc: Global, text: &str) -> Result<Vec<u8>, AllocError>
 
 impl Story {
     ghost use Rattle.gcd_run.specs.Stories.{end_of};
-    ghost use Rattle.gcd_run.specs.End.{plain_end, usage_end, read_fault, refused_end, no_journal_end, stop_end, ran_end, lawful_end, unlawful_end};
+    ghost use Rattle.gcd_run.specs.End.{plain_end, usage_end, read_fault, refused_end, no_journal_end, no_intake_end, stop_end, ran_end, lawful_end, unlawful_end};
 
     fn plain(alloc: Global, status: Status, text: &str) -> Result<Self, AllocError>
         ensures { IfOk result (λ s. end_of s ≡ plain_end status text.now) }
@@ -58,7 +58,7 @@ impl Story {
         Story::plain(
             alloc,
             Status::NoCommand,
-            "usage: gcd run SCRIPT [--workers N] [--journal] [--most N] [--listen ADDR] | gcd check SCRIPT JOURNAL | gcd big N [--workers W]\n",
+            "usage: gcd run SCRIPT [--workers N] [--journal] [--most N] [--listen ADDR] | gcd check SCRIPT JOURNAL | gcd big N [--workers W] | gcd front SCRIPT SENDERS\n",
         )
     }
 
@@ -66,6 +66,12 @@ impl Story {
         ensures { IfOk result (λ s. end_of s ≡ read_fault) }
     {
         Story::plain(alloc, Status::Unread, "read fault\n")
+    }
+
+    fn no_intake(alloc: Global) -> Result<Self, AllocError>
+        ensures { IfOk result (λ s. end_of s ≡ no_intake_end) }
+    {
+        Story::plain(alloc, Status::NoIntake, "no intake\n")
     }
 
     fn refused(alloc: Global, line: u32, code: u8) -> Result<Self, AllocError>
@@ -100,6 +106,7 @@ impl Story {
             Stop::Unread => Story::read_fault(alloc),
             Stop::Script { line, code } => Story::refused(alloc, line, code),
             Stop::Journal { line } => Story::no_journal(alloc, line),
+            Stop::NoIntake => Story::no_intake(alloc),
             Stop::Memory => Err(AllocError),
         }
     }

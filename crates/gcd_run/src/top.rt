@@ -11,6 +11,7 @@ ghost use Rattle.gcd_run.specs.Ends.{CallEnds, HasStatus, IsWritten, WordsCall, 
 ghost use Rattle.gcd_run.specs.Stories.{end_of};
 
 use crate::checking::tell_check;
+use crate::front::tell_front;
 use crate::large::tell_large;
 use crate::running::tell_run;
 use crate::status::Status;
@@ -22,7 +23,7 @@ use std::sync::Wait;
 use std::thread::Threads;
 
 // What is told at the words. An `Err` comes where memory runs out.
-fn tell<R: Threads + Wait + Sync, S: Shelf, P: Poller, C: Clock>(
+fn tell<R: Threads + Wait + Sync, S: Shelf, P: Poller + Send, C: Clock + Send>(
     rt: &R,
     alloc: Global,
     words: &[&str],
@@ -40,6 +41,7 @@ fn tell<R: Threads + Wait + Sync, S: Shelf, P: Poller, C: Clock>(
         Some(Request::Run(request)) => tell_run(rt, alloc, request, shelf, poller, clock),
         Some(Request::Check(request)) => tell_check(alloc, request, shelf),
         Some(Request::Big(request)) => tell_large(rt, alloc, request, poller, clock),
+        Some(Request::Front(request)) => tell_front(rt, alloc, request, shelf, poller, clock),
     }
 }
 
@@ -60,7 +62,7 @@ fn write_story<K: Sink>(out: &mut K, story: Story) -> Ended
 }
 
 // The call, by the one relation of its ways to end.
-fn call<R: Threads + Wait + Sync, S: Shelf, K: Sink, P: Poller, C: Clock>(
+fn call<R: Threads + Wait + Sync, S: Shelf, K: Sink, P: Poller + Send, C: Clock + Send>(
     rt: &R,
     alloc: Global,
     words: &[&str],
@@ -84,11 +86,11 @@ fn call<R: Threads + Wait + Sync, S: Shelf, K: Sink, P: Poller, C: Clock>(
 }
 
 /// Does what the words ask for: `run SCRIPT [--workers N] [--journal] [--most N] [--listen ADDR]`, `check SCRIPT JOURNAL`,
-/// `big N [--workers W]`. They are the words after the program's name; scripts, files and journals are names on the shelf.
+/// `big N [--workers W]`, `front SCRIPT SENDERS`. They are the words after the program's name; scripts, files and journals are names on the shelf.
 ///
 /// | [`Status`], code | comes | text |
 /// |---|---|---|
-/// | `Drained`, 0 | the run drained; `check`: the events are lawful | the report; `lawful N STATE` |
+/// | `Drained`, 0 | the run drained; `check`: the events are lawful | the report, after `front` a line for each sender and its last line; `lawful N STATE` |
 /// | `Stuck`, 1 | the run is stuck | the report |
 /// | `NoCommand`, 2 | the parser of words refuses them, help among these, or they name no command | the usage line |
 /// | `ScriptRefused`, 3 | the script is no script, or it or a file of it is longer than its limit; `at` is the line and the code | `script refused: line L code C` |
@@ -98,10 +100,11 @@ fn call<R: Threads + Wait + Sync, S: Shelf, K: Sink, P: Poller, C: Clock>(
 /// | `NoMemory`, 7 | memory ran out, or the system made no thread for a worker of a long run | nothing |
 /// | `Full`, 8 | the run has as many events as it may have, `--most`, and goes on | the report |
 /// | `JournalRefused`, 9 | `check`: the text is no journal or is too long, and `at` is the line and 1; or an event is not permitted, and `at` is its index and 2 | `journal refused: line L`, `journal refused: event I` |
+/// | `NoIntake`, 10 | `front`: the script has no intake | `no intake` |
 ///
 /// Each is judged at its step, where no earlier step ended the call. No feed of the poller is watched yet. `journal` is that of
 /// the run or, for `check`, the one that was read. It may wait for others.
-pub fn gcd_main<R: Threads + Wait + Sync, S: Shelf, K: Sink, P: Poller, C: Clock>(
+pub fn gcd_main<R: Threads + Wait + Sync, S: Shelf, K: Sink, P: Poller + Send, C: Clock + Send>(
     rt: &R,
     alloc: Global,
     words: &[&str],

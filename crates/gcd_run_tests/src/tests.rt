@@ -1,6 +1,7 @@
 ghost use Rattle.std.specs.Prelude.{◌≡◌, ℕ, false, IfOk};
 
 mod cases;
+mod fronts;
 mod hostile;
 mod journals;
 mod large;
@@ -13,6 +14,7 @@ mod teams;
 mod waits;
 
 use cases::{BLOCKS, COMMANDS, Case, FAULTS, REFUSALS, RUN, SOURCES, TARGETS_AND_GROUPS};
+use fronts::FRONTS;
 use gcd_outer::{JumpClock, ListPoller, MapShelf, Poller, Tell, Told, VecSink};
 use gcd_run::gcd_main;
 use hostile::{FAILURES, MALFORMED};
@@ -164,6 +166,11 @@ fn strips_and_block_objects_follow_the_pages(rt: HostRuntime) -> Result<(), Fail
     are_answered(&rt, rt.alloc(), &INTAKES)?;
     are_answered(&rt, rt.alloc(), &MADE_BLOCKS_JUDGED)?;
     are_answered(&rt, rt.alloc(), &REFUSED_FORMS)
+}
+
+#[test]
+fn senders_hand_in_their_jobs(rt: HostRuntime) -> Result<(), Fail> {
+    are_answered(&rt, rt.alloc(), &FRONTS)
 }
 
 #[test]

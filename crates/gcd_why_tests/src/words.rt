@@ -23,12 +23,15 @@ fn are_said(rt: &impl Abort, alloc: Global, rows: &[Row]) -> Result<(), Fail> {
     Ok(())
 }
 
-static ROWS: [Row; 20] = [
-    ("", "gcd: no command is named: run, check or big"),
-    ("walk s", "gcd: 'walk' is no command: run, check or big"),
+static ROWS: [Row; 22] = [
+    ("", "gcd: no command is named: run, check, big or front"),
+    (
+        "walk s",
+        "gcd: 'walk' is no command: run, check, big or front",
+    ),
     (
         "--journal run s",
-        "gcd: '--journal' stands before the command: run, check or big comes first",
+        "gcd: '--journal' stands before the command: run, check, big or front comes first",
     ),
     ("run", "gcd: 'run' lacks its SCRIPT"),
     ("run --journal", "gcd: 'run' lacks its SCRIPT"),
@@ -65,6 +68,11 @@ static ROWS: [Row; 20] = [
         "big 16385",
         "gcd: '16385' is no number of blocks: a number from 1 to 16384",
     ),
+    (
+        "front s 9",
+        "gcd: '9' is no number of senders: a number from 1 to 8",
+    ),
+    ("front s", "gcd: 'front' lacks its SENDERS"),
 ];
 
 #[test]
@@ -82,6 +90,7 @@ fn calls_for_help(rt: HostRuntime) -> Result<(), Fail> {
         "run SCRIPT",
         "check SCRIPT JOURNAL",
         "big N",
+        "front SCRIPT SENDERS",
         "--workers",
         "--journal",
         "--most",

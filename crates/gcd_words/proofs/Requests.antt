@@ -8,12 +8,12 @@ use Rattle.clap.specs.declared.error.kind.ErrorKind.{ErrorKind}
 use Rattle.clap.specs.declared.error.kind.ErrorKind.TheVariants as kind
 use Rattle.clap.proofs.OnLiterals.{clap_on_literals}
 use Rattle.clap.proofs.WalkLemmas.{both}
-use Rattle.gcd_words.specs.CommandLine.{big_app, check_app, gcd_app, run_app}
-use Rattle.gcd_words.specs.Asked.{AreTaken, Asked, asked_by, big_in, check_in, request_of, run_in}
+use Rattle.gcd_words.specs.CommandLine.{big_app, check_app, front_app, gcd_app, run_app}
+use Rattle.gcd_words.specs.Asked.{AreTaken, Asked, asked_by, big_in, check_in, front_in, request_of, run_in}
 
 -- the command line is one of which the parser's clauses are exact
 pub gcd_is_simple : is_simple_and_free gcd_app ≡ true
-unfolding gcd_app run_app check_app big_app clap_on_literals
+unfolding gcd_app run_app check_app big_app front_app clap_on_literals
 gcd_is_simple = refl
 
 -- a name and rows that were read are those of the pair
@@ -35,9 +35,14 @@ unfolding asked_by
 as_check name rows e f = rw (e, f) refl
 
 pub as_big : (name : Text) (rows : List Row) → bytes_eq name (codes "run") ≡ false → bytes_eq name (codes "check") ≡ false
-    → asked_by (name, rows) ≡ big_in rows
+    → bytes_eq name (codes "big") ≡ true → asked_by (name, rows) ≡ big_in rows
 unfolding asked_by
-as_big name rows e f = rw (e, f) refl
+as_big name rows e f g = rw (e, f, g) refl
+
+pub as_front : (name : Text) (rows : List Row) → bytes_eq name (codes "run") ≡ false → bytes_eq name (codes "check") ≡ false
+    → bytes_eq name (codes "big") ≡ false → asked_by (name, rows) ≡ front_in rows
+unfolding asked_by
+as_front name rows e f g = rw (e, f, g) refl
 
 -- words that were taken
 pub taken : (a : App) (sub : Option (Text × List Row)) (words : List Text) → a ≡ gcd_app

@@ -7,7 +7,7 @@ use Rattle.std.specs.Str.Parse.{digits_value, without_leading_plus}
 use Rattle.std.specs.Char.{digit_value}
 use Rattle.gcd_plan.specs.Limits.{max_workers, max_events}
 use Rattle.clap.specs.Words.{Row, Text, first_of, subcommand_of, fault_of, Kinds, takes}
-use Rattle.gcd_words.specs.CommandLine.{gcd_app, max_big}
+use Rattle.gcd_words.specs.CommandLine.{gcd_app, max_big, max_front_senders}
 
 -- a run of the script of this name, by so many workers and of at most so many events; with its journal or not; with the address to
 -- listen at, if any
@@ -18,11 +18,12 @@ pub record RunAsked : Type 0 where
   pub most : ℕ
   pub listen : Option Text
 
--- what is asked: a run, the judgement of a journal, or a run of the large script
+-- what is asked: a run, the judgement of a journal, a run of the large script, or a run beside so many senders of jobs
 pub data Asked : Type 0 where
   run : RunAsked → Asked
   check : (script journal : Text) → Asked
   big : (count workers : ℕ) → Asked
+  front : (script : Text) (senders : ℕ) → Asked
 
 -- the text is a number below 2 ^ 32
 abbrev pub is_number : Text → Bool
@@ -68,17 +69,23 @@ check_in rows = check (value_in (codes "SCRIPT") rows) (value_in (codes "JOURNAL
 abbrev pub big_in : List Row → Asked
 big_in rows = big (within max_big (value_in (codes "N") rows)) (workers_in rows)
 
+-- what `front` asks for
+abbrev pub front_in : List Row → Asked
+front_in rows = front (value_in (codes "SCRIPT") rows) (within max_front_senders (value_in (codes "SENDERS") rows))
+
 -- what a command of this name with these values asks for
 unfoldable pub asked_by : Text × List Row → Asked
 asked_by (name, rows) =
     if bytes_eq name (codes "run") then run_in rows
-    else if bytes_eq name (codes "check") then check_in rows else big_in rows
+    else if bytes_eq name (codes "check") then check_in rows
+    else if bytes_eq name (codes "big") then big_in rows else front_in rows
 
 -- its numbers are in their ranges
 abbrev pub IsInRange : Asked → Type 0
 IsInRange (run asked) = (0 < asked.workers) × (asked.workers ≤ max_workers) × (0 < asked.most) × (asked.most ≤ max_events)
 IsInRange (check script journal) = Unit {0}
 IsInRange (big count workers) = (0 < count) × (count ≤ max_big) × (0 < workers) × (workers ≤ max_workers)
+IsInRange (front script senders) = (0 < senders) × (senders ≤ max_front_senders)
 
 -- nothing where there is a fault
 abbrev pub unless_faulty : Kinds → Option Asked → Option Asked

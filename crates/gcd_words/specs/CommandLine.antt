@@ -29,6 +29,14 @@ most_rule = record (option_rule (codes "most")) { parser = Some (vp.Signed (pos 
 abbrev pub count_rule : Rule
 count_rule = record (required_rule (codes "N")) { parser = Some (vp.Signed (pos 1) (pos max_big)) }
 
+-- the most senders of jobs beside a run
+abbrev pub max_front_senders : ℕ
+max_front_senders = 8
+
+-- the number of senders of jobs beside a run
+abbrev pub senders_rule : Rule
+senders_rule = record (required_rule (codes "SENDERS")) { parser = Some (vp.Signed (pos 1) (pos max_front_senders)) }
+
 -- an option without a value
 abbrev pub journal_rule : Rule
 journal_rule = record (option_rule (codes "journal")) { action = Some SetTrue }
@@ -47,10 +55,15 @@ check_app = with_rule (with_rule (new_app (codes "check")) (required_rule (codes
 unfoldable pub big_app : App
 big_app = with_rule (with_rule (new_app (codes "big")) count_rule) workers_rule
 
+-- `front SCRIPT SENDERS`
+unfoldable pub front_app : App
+front_app = with_rule (with_rule (new_app (codes "front")) (required_rule (codes "SCRIPT"))) senders_rule
+
 -- the command line without commands; no word is the program's name
 abbrev pub bare_app : App
 bare_app = record { top = record (new_app (codes "gcd")).top { no_binary_name = true }; subs = [] }
 
--- the whole command line: these three commands
+-- the whole command line: these four commands
 unfoldable pub gcd_app : App
-gcd_app = with_subcommand (with_subcommand (with_subcommand bare_app run_app.top) check_app.top) big_app.top
+gcd_app =
+    with_subcommand (with_subcommand (with_subcommand (with_subcommand bare_app run_app.top) check_app.top) big_app.top) front_app.top

@@ -2,7 +2,7 @@
 ghost use Rattle.std.specs.Prelude.{◌≡◌, IfOk, false};
 ghost use Rattle.clap.specs.Words.{app_of, rule_of, with_rule};
 ghost use Rattle.clap.specs.declared.builder.command.Command.TheViews.{out-Command};
-ghost use Rattle.gcd_words.specs.CommandLine.{run_app, check_app, big_app, gcd_app, workers_rule, most_rule, count_rule, journal_rule, required_rule, option_rule};
+ghost use Rattle.gcd_words.specs.CommandLine.{run_app, check_app, big_app, front_app, gcd_app, workers_rule, most_rule, count_rule, senders_rule, journal_rule, required_rule, option_rule};
 
 use clap::{Arg, ArgAction, Command, value_parser};
 use gcd_plan::{MAX_BLOCKS, MAX_EVENTS, MAX_WORKERS};
@@ -10,6 +10,9 @@ use std::alloc::{AllocError, Global};
 
 /// The most blocks of the large script: `main` is none of them.
 pub const MAX_BIG: u16 = (MAX_BLOCKS - 1) as u16;
+
+/// The most senders of jobs beside a run.
+pub const MAX_FRONT_SENDERS: u8 = 8;
 
 fn required<'a>(alloc: Global, id: &'a str) -> Arg<'a>
     ensures rule { rule_of result ≡ required_rule id.entry.now }
@@ -50,6 +53,15 @@ fn count<'a>(alloc: Global) -> Arg<'a>
     Arg::new(alloc, "N")
         .required(true)
         .value_parser(value_parser!(u16).range(1..=i64::from(MAX_BIG)))
+}
+
+fn senders<'a>(alloc: Global) -> Arg<'a>
+    ensures rule { rule_of result ≡ senders_rule }
+    ensures local { result.global ≡ false }
+{
+    Arg::new(alloc, "SENDERS")
+        .required(true)
+        .value_parser(value_parser!(u8).range(1..=i64::from(MAX_FRONT_SENDERS)))
 }
 
 fn journal<'a>(alloc: Global) -> Arg<'a>
@@ -98,6 +110,14 @@ fn big<'a>(alloc: Global) -> Result<Command<'a>, AllocError>
     with(command, workers(alloc))
 }
 
+fn front<'a>(alloc: Global) -> Result<Command<'a>, AllocError>
+    ensures app { IfOk result (λ c. app_of c ≡ front_app) }
+    ensures local { IfOk result (λ c. (out-Command c).has_globals ≡ false) }
+{
+    let command = with(Command::new(alloc, "front"), required(alloc, "SCRIPT"))?;
+    with(command, senders(alloc))
+}
+
 /// The whole command line.
 pub fn gcd<'a>(alloc: Global) -> Result<Command<'a>, AllocError>
     ensures { IfOk result (λ c. app_of c ≡ gcd_app) }
@@ -105,5 +125,6 @@ pub fn gcd<'a>(alloc: Global) -> Result<Command<'a>, AllocError>
     let command = Command::new(alloc, "gcd").no_binary_name(true);
     let command = command.subcommand(run(alloc)?)?;
     let command = command.subcommand(check(alloc)?)?;
-    command.subcommand(big(alloc)?)
+    let command = command.subcommand(big(alloc)?)?;
+    command.subcommand(front(alloc)?)
 }

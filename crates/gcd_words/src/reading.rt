@@ -2,11 +2,11 @@
 ghost use Rattle.std.specs.Prelude.{◌≡◌, ◌<◌, ◌≤◌, IfOk, IfSome, is_some, map, option_map, true};
 ghost use Rattle.clap.specs.Words.{first_of, found_of, rows_of, subcommand_rows_of};
 ghost use Rattle.gcd_plan.specs.Limits.{max_events, max_workers};
-ghost use Rattle.gcd_words.specs.Asked.{AreTaken, IsInRange, asked_by, big_in, check_in, number_or_zero, request_of, most_in, run_in, value_in, within, workers_in};
+ghost use Rattle.gcd_words.specs.Asked.{AreTaken, IsInRange, asked_by, big_in, check_in, front_in, number_or_zero, request_of, most_in, run_in, value_in, within, workers_in};
 ghost use Rattle.gcd_words.specs.Requests.{asked_of};
 
-use crate::command_line::{MAX_BIG, gcd};
-use crate::request::{BigRequest, CheckRequest, Request, RunRequest};
+use crate::command_line::{MAX_BIG, MAX_FRONT_SENDERS, gcd};
+use crate::request::{BigRequest, CheckRequest, FrontRequest, Request, RunRequest};
 use clap::ArgMatches;
 use clap::error::ErrorKind;
 use gcd_plan::{MAX_EVENTS, MAX_WORKERS};
@@ -99,6 +99,16 @@ fn big<'a>(found: &ArgMatches<'a>) -> Request<'a>
     })
 }
 
+fn front<'a>(found: &ArgMatches<'a>) -> Request<'a>
+    ensures asked { asked_of result ≡ front_in (rows_of (found_of found.now)) }
+    ensures range { IsInRange (asked_of result) }
+{
+    Request::Front(FrontRequest {
+        script: value(found, "SCRIPT"),
+        senders: in_range(value(found, "SENDERS"), u32::from(MAX_FRONT_SENDERS)) as u8,
+    })
+}
+
 fn asked<'a>(matches: &ArgMatches<'a>) -> Option<Request<'a>>
     ensures asked { option_map asked_of result ≡ option_map asked_by (subcommand_rows_of matches.now) }
     ensures range { IfSome result (λ r. IsInRange (asked_of r)) }
@@ -110,7 +120,10 @@ fn asked<'a>(matches: &ArgMatches<'a>) -> Option<Request<'a>>
     if name == "check" {
         return Some(check(found));
     }
-    Some(big(found))
+    if name == "big" {
+        return Some(big(found));
+    }
+    Some(front(found))
 }
 
 /// Reads the words after the program's name. The numbers of a

@@ -33,6 +33,15 @@ pub struct BigRequest {
     pub workers: u8,
 }
 
+/// A run of a script beside threads that send jobs for its intake.
+#[derive(Clone, Copy, Debug, PartialEq, Eq)]
+pub struct FrontRequest<'a> {
+    /// The name of the script on the shelf.
+    pub script: &'a str,
+    /// How many threads send jobs, from 1 to 8.
+    pub senders: u8,
+}
+
 /// What the words ask for.
 #[derive(Clone, Copy, Debug, PartialEq, Eq)]
 pub enum Request<'a> {
@@ -42,4 +51,6 @@ pub enum Request<'a> {
     Check(CheckRequest<'a>),
     /// `big N [--workers W]`
     Big(BigRequest),
+    /// `front SCRIPT SENDERS`
+    Front(FrontRequest<'a>),
 }

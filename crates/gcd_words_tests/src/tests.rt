@@ -1,4 +1,4 @@
-use gcd_words::{BigRequest, CheckRequest, Request, RunRequest, read_words};
+use gcd_words::{BigRequest, CheckRequest, FrontRequest, Request, RunRequest, read_words};
 use std::alloc::Global;
 use std::process::Abort;
 use std::test::Fail;
@@ -49,7 +49,11 @@ fn words_ask_for_commands(rt: HostRuntime) -> Result<(), Fail> {
         listen: Some("[::1]:0"),
         ..RUN
     };
-    let rows: [(&[&str], Option<Request>); 21] = [
+    let front = FrontRequest {
+        script: "s",
+        senders: 8,
+    };
+    let rows: [(&[&str], Option<Request>); 26] = [
         (&["run", "s"], Some(Request::Run(RUN))),
         (
             &["run", "s", "--workers", "64", "--journal"],
@@ -80,6 +84,7 @@ fn words_ask_for_commands(rt: HostRuntime) -> Result<(), Fail> {
         ),
         (&["check", "s", "j"], Some(Request::Check(check))),
         (&["big", "16384", "--workers", "2"], Some(Request::Big(big))),
+        (&["front", "s", "8"], Some(Request::Front(front))),
         (&[], None),
         (&["run"], None),
         (&["run", "s", "--workers", "65"], None),
@@ -91,6 +96,10 @@ fn words_ask_for_commands(rt: HostRuntime) -> Result<(), Fail> {
         (&["run", "s", "t"], None),
         (&["big", "0"], None),
         (&["big", "16385"], None),
+        (&["front", "s"], None),
+        (&["front", "s", "0"], None),
+        (&["front", "s", "9"], None),
+        (&["front", "s", "1", "--workers", "2"], None),
         (&["--help"], None),
         (&["other"], None),
     ];

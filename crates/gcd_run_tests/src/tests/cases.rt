@@ -504,7 +504,7 @@ pub static FAULTS: [Case; 11] = [
         script: "file log log.txt\nqueue q serial\nblock b1 lines log\nmain\nasync q b1",
         status: Status::NoCommand,
         events: Some(0),
-        text: "usage: gcd run SCRIPT [--workers N] [--journal] [--most N] [--listen ADDR] | gcd check SCRIPT JOURNAL | gcd big N [--workers W]\n",
+        text: "usage: gcd run SCRIPT [--workers N] [--journal] [--most N] [--listen ADDR] | gcd check SCRIPT JOURNAL | gcd big N [--workers W] | gcd front SCRIPT SENDERS\n",
         ..RUN
     },
     Case {
@@ -513,7 +513,7 @@ pub static FAULTS: [Case; 11] = [
         script: "file log log.txt\nqueue q serial\nblock b1 lines log\nmain\nasync q b1",
         status: Status::NoCommand,
         events: Some(0),
-        text: "usage: gcd run SCRIPT [--workers N] [--journal] [--most N] [--listen ADDR] | gcd check SCRIPT JOURNAL | gcd big N [--workers W]\n",
+        text: "usage: gcd run SCRIPT [--workers N] [--journal] [--most N] [--listen ADDR] | gcd check SCRIPT JOURNAL | gcd big N [--workers W] | gcd front SCRIPT SENDERS\n",
         ..RUN
     },
     Case {
@@ -522,7 +522,7 @@ pub static FAULTS: [Case; 11] = [
         script: "file log log.txt\nqueue q serial\nblock b1 lines log\nmain\nasync q b1",
         status: Status::NoCommand,
         events: Some(0),
-        text: "usage: gcd run SCRIPT [--workers N] [--journal] [--most N] [--listen ADDR] | gcd check SCRIPT JOURNAL | gcd big N [--workers W]\n",
+        text: "usage: gcd run SCRIPT [--workers N] [--journal] [--most N] [--listen ADDR] | gcd check SCRIPT JOURNAL | gcd big N [--workers W] | gcd front SCRIPT SENDERS\n",
         ..RUN
     },
     Case {
@@ -531,7 +531,7 @@ pub static FAULTS: [Case; 11] = [
         script: "file log log.txt\nqueue q serial\nblock b1 lines log\nmain\nasync q b1",
         status: Status::NoCommand,
         events: Some(0),
-        text: "usage: gcd run SCRIPT [--workers N] [--journal] [--most N] [--listen ADDR] | gcd check SCRIPT JOURNAL | gcd big N [--workers W]\n",
+        text: "usage: gcd run SCRIPT [--workers N] [--journal] [--most N] [--listen ADDR] | gcd check SCRIPT JOURNAL | gcd big N [--workers W] | gcd front SCRIPT SENDERS\n",
         ..RUN
     },
 ];

@@ -105,7 +105,7 @@ static MOST: [Case; 8] = [
 const NO_NUMBER: Case = Case {
     status: Status::NoCommand,
     events: Some(0),
-    text: "usage: gcd run SCRIPT [--workers N] [--journal] [--most N] [--listen ADDR] | gcd check SCRIPT JOURNAL | gcd big N [--workers W]\n",
+    text: "usage: gcd run SCRIPT [--workers N] [--journal] [--most N] [--listen ADDR] | gcd check SCRIPT JOURNAL | gcd big N [--workers W] | gcd front SCRIPT SENDERS\n",
     ..RUN
 };
 

@@ -200,7 +200,7 @@ pub static SOURCES_AND_FEEDS: [Case; 8] = [
         words: &["big", "0"],
         script: "",
         status: Status::NoCommand,
-        text: "usage: gcd run SCRIPT [--workers N] [--journal] [--most N] [--listen ADDR] | gcd check SCRIPT JOURNAL | gcd big N [--workers W]\n",
+        text: "usage: gcd run SCRIPT [--workers N] [--journal] [--most N] [--listen ADDR] | gcd check SCRIPT JOURNAL | gcd big N [--workers W] | gcd front SCRIPT SENDERS\n",
         ..RUN
     },
     Case {
@@ -208,7 +208,7 @@ pub static SOURCES_AND_FEEDS: [Case; 8] = [
         words: &["big", "16385"],
         script: "",
         status: Status::NoCommand,
-        text: "usage: gcd run SCRIPT [--workers N] [--journal] [--most N] [--listen ADDR] | gcd check SCRIPT JOURNAL | gcd big N [--workers W]\n",
+        text: "usage: gcd run SCRIPT [--workers N] [--journal] [--most N] [--listen ADDR] | gcd check SCRIPT JOURNAL | gcd big N [--workers W] | gcd front SCRIPT SENDERS\n",
         ..RUN
     },
 ];

@@ -53,7 +53,7 @@ returns-in-Ok-clause-reported g c =
             listened.listening c.run_plan.ensures.kept.listens c.run_plan.ensures.kept.addresses;
       };
       is = ran c.in_ok-plan.plan (map (λ f. f.items) c.in_ok-plan.files.items) c.in_ok-plan.ensures.ready refl
-          (tells_since (state c.listen_at.new.poller) (state c.args.poller.now) (state c.run_plan.new.poller) g.P.Poller.tells same _ _ _ _ _ _ reported);
+          (tells_since (state c.listen_at.new.poller) (state c.args.poller.now) (state c.run_plan.new.poller) g.P.Poller.tells same _ _ _ _ _ _ _ reported);
     }
 
 pub returns-clause-stopped : goal.returns-clause-stopped

@@ -106,3 +106,34 @@ returns-in-Some-Check-clause-taken g c = ok_anyhow _ c.tell_check.result (taken_
 
 pub returns-in-Some-Big-clause-taken : goal.returns-in-Some-Big-clause-taken
 returns-in-Some-Big-clause-taken g c = ok_anyhow _ c.tell_large.result (taken_asks asked_of _ _ c.in_ok-read_words.ensures.exact c.in_ok-read_words.ensures.taken)
+
+pub returns-in-Some-Front-clause-reported : goal.returns-in-Some-Front-clause-reported
+returns-in-Some-Front-clause-reported g c =
+    let asked = rw (c.in-Some-Front.is, c.in-Some-Front.field-0-is) at c.in_ok-read_words.ensures.exact in
+    IfOk-weaker c.tell_front.result _ _
+    (λ s t. record {
+      calls = only_loads t.loads;
+      made = record {
+        loads = t.made;
+        listens = record { listens = c.tell_front.ensures.kept.listens; added = λ yes. c.tell_front.ensures.kept.addresses yes ∙ sym (append-nil _) };
+      };
+      is = told_of_words _ _ _ _ _ asked (record { loads = t.loads; calls_are = refl; ends = t.is });
+    })
+    c.tell_front.ensures.told
+
+pub returns-in-Some-Front-clause-wanting : goal.returns-in-Some-Front-clause-wanting
+returns-in-Some-Front-clause-wanting g c =
+    let asked = rw (c.in-Some-Front.is, c.in-Some-Front.field-0-is) at c.in_ok-read_words.ensures.exact in
+    on_err_map c.tell_front.result
+    (λ t. record {
+      calls = only_loads t.loads;
+      made = record {
+        loads = t.made;
+        listens = record { listens = c.tell_front.ensures.kept.listens; added = λ yes. c.tell_front.ensures.kept.addresses yes ∙ sym (append-nil _) };
+      };
+      is = calls_of_words _ _ _ _ asked (record { loads = t.loads; calls_are = refl; few = t.is });
+    })
+    c.tell_front.ensures.wanting
+
+pub returns-in-Some-Front-clause-taken : goal.returns-in-Some-Front-clause-taken
+returns-in-Some-Front-clause-taken g c = ok_anyhow _ c.tell_front.result (taken_asks asked_of _ _ c.in_ok-read_words.ensures.exact c.in_ok-read_words.ensures.taken)

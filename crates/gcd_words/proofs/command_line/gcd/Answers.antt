@@ -8,8 +8,9 @@ pub returns : goal.returns
 unfolding gcd_app
 returns c =
     let bare : app_of c.no_binary_name-command.result ≡ bare_app = search rules in
-    IfOk-weaker c.subcommand-3.result _ _ (λ m h. h.shape c.in_ok-big.ensures.local
+    IfOk-weaker c.subcommand-4.result _ _ (λ m h. h.shape c.in_ok-front.ensures.local
+    ∙ ap₂ with_subcommand (c.in_ok-command-3.ensures.shape c.in_ok-big.ensures.local
     ∙ ap₂ with_subcommand (c.in_ok-command-2.ensures.shape c.in_ok-check.ensures.local
     ∙ ap₂ with_subcommand (c.in_ok-command.ensures.shape c.in_ok-run.ensures.local
     ∙ ap₂ with_subcommand bare (ap (λ (a : App). a.top) c.in_ok-run.ensures.app)) (ap (λ (a : App). a.top) c.in_ok-check.ensures.app))
-    (ap (λ (a : App). a.top) c.in_ok-big.ensures.app)) c.subcommand-3.ensures
+    (ap (λ (a : App). a.top) c.in_ok-big.ensures.app)) (ap (λ (a : App). a.top) c.in_ok-front.ensures.app)) c.subcommand-4.ensures
