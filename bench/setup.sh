@@ -3,7 +3,8 @@
 # crates that it stands on.
 #
 # The program's files end in .txt, since the gate proves each file that ends in .rt or .antt. `plans.rt` is bench/machine's.
-#   program NAME FOLDER DEP..    proves and builds FOLDER/crates/bench_NAME/out/bench_NAME; DEP: the libraries that it names
+#   program NAME FOLDER DEP..        proves and builds FOLDER/crates/bench_NAME/out/bench_NAME; DEP: the libraries that it names
+#   copies FROM NAME FOLDER DEP..    only makes the folder, with the program from FROM as FOLDER/crates/NAME
 #
 # What the gate or a check proved of the crates below, and left in their out/, is taken over (tools/libraries); what is lacking is
 # proved first. `rt run` runs the program once without words, which ends with status 1.
@@ -20,13 +21,13 @@ below() {
     done
 }
 
-program() {
-    local name=$1 folder=$2 crate found=
-    shift 2
+copies() {
+    local from=$1 name=$2 folder=$3 crate found=
+    shift 3
     mkdir -p "$folder/crates"
-    cp -r --reflink=auto "bench/$name" "$folder/crates/bench_$name"
-    if grep -q '^mod plans;' "bench/$name"/src/main.rt.txt; then cp bench/machine/src/plans.rt.txt "$folder/crates/bench_$name/src/"; fi
-    find "$folder/crates/bench_$name" -name '*.txt' | while read -r file; do mv "$file" "${file%.txt}"; done
+    cp -r --reflink=auto "$from" "$folder/crates/$name"
+    if grep -q '^mod plans;' "$from"/src/main.rt.txt; then cp bench/machine/src/plans.rt.txt "$folder/crates/$name/src/"; fi
+    find "$folder/crates/$name" -name '*.txt' | while read -r file; do mv "$file" "${file%.txt}"; done
     cp HANDLES "$folder/"
     below "$@"
     for crate in $found; do
@@ -34,7 +35,13 @@ program() {
         rm -rf "$folder/crates/$crate/out"
         grep -E "^$crate( [^:]*)?:" crates.txt
     done >"$folder/crates.txt"
-    echo "bench_$name: $*" >>"$folder/crates.txt"
+    echo "$name: $*" >>"$folder/crates.txt"
+}
+
+program() {
+    local name=$1 folder=$2
+    shift 2
+    copies "bench/$name" "bench_$name" "$folder" "$@"
     tools/libraries . "$folder" >/dev/null
     (cd "$folder/crates/bench_$name" && rt fmt >/dev/null && rt run --) >"$folder/log" 2>&1 || :
     [ -x "$folder/crates/bench_$name/out/bench_$name" ] || { tail -20 "$folder/log" >&2; return 1; }

@@ -43,12 +43,12 @@ WORDS += "log.txt text.txt nowhere 2147483647 2147483648 16777216 86400000 99999
 EVENTS = "start act wake end deliver deliver_end tick ready feed_end misuse halt expire accept shut events main b1 q s r M1 M9".split()
 EVENTS += "a.0 a.1 +1 +2".split()
 EVENTS += "0 0 0 1 63 64 00 4294967296".split()
-OPTIONS = ["run", "check", "big", "script", "journal", "--workers", "--journal", "--listen", "--help", "-h", "--", "-", "", "=", "1", "0"]
+OPTIONS = ["front", "run", "check", "big", "script", "journal", "--workers", "--journal", "--listen", "--help", "-h", "--", "-", "", "=", "1", "0"]
 OPTIONS += ["64", "65", "+4", "007", "-1", "16384", "16385", "99999999999999999999", "--workers=4", "--journal=1"]
 OPTIONS += ["x", "é", "\x1b", "help"]
 
 COMMANDS = [["run", "script"], ["run", "script", "--journal", "--workers", "4"], ["check", "script", "journal"], ["big", "3"]]
-COMMANDS += [["big", "3", "--workers", "64"], ["run", "script", "--listen", "127.0.0.1:0"], []]
+COMMANDS += [["big", "3", "--workers", "64"], ["run", "script", "--listen", "127.0.0.1:0"], ["front", "script", "3"], []]
 
 
 def corpus():
@@ -270,8 +270,8 @@ def judge_words(desk, words):
     desk.write("script", corpus()[0])
     desk.write("journal", b"events 0\n")
     answer = desk.call(*words)
-    for command in ("run", "check", "big"):
-        if not why_not(command, answer, 9):
+    for command in ("run", "check", "big", "front"):
+        if not why_not(command, answer):
             return None, answer
     return why_not("run", answer), answer
 

@@ -9,7 +9,7 @@ import time
 from pathlib import Path
 
 TOP = Path(__file__).resolve().parent.parent
-USAGE = b"usage: gcd run SCRIPT [--workers N] [--journal] [--most N] [--listen ADDR] | gcd check SCRIPT JOURNAL | gcd big N [--workers W]\n"
+USAGE = b"usage: gcd run SCRIPT [--workers N] [--journal] [--most N] [--listen ADDR] | gcd check SCRIPT JOURNAL | gcd big N [--workers W] | gcd front SCRIPT SENDERS\n"
 
 NAME = rb"(?:\+[0-9]+|[a-z][a-z0-9_]{0,31}(?:\.[0-9]+)?)"
 EVENT = (
@@ -32,6 +32,7 @@ REFUSED = {2: re.escape(USAGE), 3: rb"script refused: line [0-9]+ code [1-9]\n",
 BODY = {
     "run": JOURNAL + REPORT,
     "big": rb"blocks [0-9]+\ntotal [0-9]+\n",
+    "front": rb"(?:sender [0-7] accepted [0-9]+ total [0-9]+\n){1,8}",
 }
 CHECKED = {
     0: rb"lawful [0-9]+ (?:drained|stuck|misuse|halted|open)\n",
@@ -73,14 +74,18 @@ def form_of(command, status):
         return REFUSED[status]
     if command == "check":
         return CHECKED.get(status)
+    if command == "front" and status == 10:
+        return rb"no intake\n"
     if status == 5:
         return rb"(?:%b)?read fault\n" % BODY.get(command, rb"")
+    if command == "front" and status == 1:
+        return BODY[command] + rb"stuck\n"
     if status in LAST and command in BODY:
         return BODY[command] + LAST[status]
     return None
 
 
-def why_not(command, answer, most=9):
+def why_not(command, answer, most=10):
     """Why the answer is not one that the command may give where the output is not refused; None where it is."""
     if answer.status is None:
         return "it did not end in time"

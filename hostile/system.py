@@ -129,7 +129,11 @@ def calls_fail(program):
 def threads_fail(program):
     """Each thread that a team asks for is refused, alone and with all later ones: the run goes on with those that there are."""
     part, count = Part("threads are refused"), 0
-    for words in (["big", "50", "--workers", "4"], ["big", "50", "--workers", "64"], ["run", "sources/script", "--workers", "8"]):
+    beside = f"{FOLDER.name}/beside"
+    with open(beside, "w", encoding="ascii") as it:
+        it.write("queue q serial\nintake q 64\nmain\n")
+    teams = (["big", "50", "--workers", "4"], ["big", "50", "--workers", "64"], ["run", "sources/script", "--workers", "8"])
+    for words in (*teams, ["front", beside, "8"]):
         ample = call(program, words, HERE)
         for later in (False, True):
             for number, answer in each_refused(program, words, "pthread_create", later=later, error=errno.EAGAIN, folder=HERE):
