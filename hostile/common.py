@@ -43,7 +43,7 @@ CHECKED = {
 
 # What may stand on standard error: sentences, a line each. What else stands there comes of a fault of the program.
 SAID = re.compile(rb"(?:[^\x00-\x1f\x7f]+\n)*")
-NOT_SAID = re.compile(rb"(?m)^(?:error|thread|rattle|=)|panic|Sanitizer")
+NOT_SAID = re.compile(rb"(?m)^(?:error|thread|rattle|===)|panic|Sanitizer")
 
 
 class Answer:
