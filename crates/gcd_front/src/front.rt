@@ -7,18 +7,22 @@ ghost use Rattle.gcd_front.specs.Notes.{listening};
 ghost use Rattle.gcd_front.specs.Queue.{opening};
 ghost use Rattle.gcd_front.specs.Views.{new_intake};
 
+use crate::bell::Bell;
 use crate::intake::Intake;
 use crate::mouth::{Mouth, new_mouth};
 use crate::notes::{NoteSeat, Notes, make_sender, open_notes};
 use crate::queue::{JobQueue, QueuePass, make_mouth, open_queue};
 use std::alloc::{AllocError, Global};
 use std::marker::Model;
+use std::sync::Wait;
+use std::time::Duration;
 
 /// The queue by which threads that are no workers hand in jobs. Threads share it by `&`.
 pub struct Front<S: Drop> {
     pub(crate) queue: JobQueue<S>,
     pub(crate) notes: Notes<S>,
     pub(crate) senders: u8,
+    pub(crate) bell: Bell,
 }
 
 impl<S: Drop> Model for Front<S> {
@@ -40,6 +44,7 @@ impl<S: Drop> Drop for Front<S> {
             queue: _,
             notes: _,
             senders: _,
+            bell: _,
         } = self;
     }
 }
@@ -102,6 +107,7 @@ impl<S: Drop> Front<S> {
             queue,
             notes,
             senders,
+            bell: Bell::new(),
         };
         Ok((front, mouths, intake))
     }
@@ -112,5 +118,23 @@ impl<S: Drop> Front<S> {
         ensures few { result ≤ max_senders }
     {
         self.senders
+    }
+
+    /// From now on each job that is accepted, and each mouth that is shut, ends the [`Front::sleep`] that is under way, or the next
+    /// one. Who takes the jobs listens first, then takes what there is, and then sleeps: so nothing that comes is slept through.
+    /// While nobody listens a sender has one load more to make; else it may have a sleeper to wake.
+    pub fn listen(&self) {
+        self.bell.listen();
+    }
+
+    /// Nobody sleeps any more: no sender has to wake who takes the jobs.
+    pub fn ignore(&self) {
+        self.bell.ignore();
+    }
+
+    /// Sleeps for at most so long, and no longer than until a job is accepted or a mouth is shut, where the caller listens. It may
+    /// return early, so it tells nothing: [`Intake::take`] tells whether there is a job. At most one thread sleeps at a time.
+    pub fn sleep<R: Wait>(&self, rt: &R, longest: Duration) {
+        self.bell.sleep(rt, longest);
     }
 }

@@ -32,12 +32,14 @@
 //! | call | answer | steps |
 //! |---|---|---|
 //! | [`Front::new`] | a front, its mouths by number and its intake, or out of memory | all that is made |
-//! | [`Mouth::send`] | Ok(k), the job is the k-th of this sender's; Err, with the job, only where the queue held as many jobs as it has room for at a moment of the call | one exchange, after each that another won |
+//! | [`Mouth::send`] | Ok(k), the job is the k-th of this sender's; Err, with the job, only where the queue held as many jobs as it has room for at a moment of the call | one exchange, after each that another won, and a load; a wake where the intake's thread sleeps |
 //! | [`Mouth::shut`] | what is left | one store |
 //! | [`Intake::take`] | the oldest job, with its sender and its number; None only where the queue was empty at a moment of the call, and then all was taken of the senders whose accounts the intake knows | one exchange |
 //! | [`Intake::all_shut`] | true only where every mouth was shut, and the intake knows each account then; false only where a mouth was found open at a look of the call | one exchange for each mouth that it finds shut for the first time, and one for the first that is open |
 //! | [`Intake::settle`] | what was taken of the sender is how its account begins, and all of it where a `take` gave None while the intake knew the account | two loads |
 //! | [`Front::senders`], [`Mouth::sender`], [`Mouth::sent`], [`Left::sender`] | what they are called | none |
+//! | [`Front::listen`], [`Front::ignore`] | none: from now on, or no more, what comes wakes who sleeps | one store |
+//! | [`Front::sleep`] | none | a sleep, which what comes ends where it is listened to |
 //!
 //! Nothing but [`Front::new`] takes memory. A front may be shared by threads, and mouths, intake and what is left be sent to
 //! some, where the jobs may be sent.
@@ -62,8 +64,10 @@
 //!   queue, and tries again while others come before it.
 //! - That a queue with room accepts: on one thread it does, which is tested.
 //! - That a job is taken, or run: whoever takes one may drop it.
+//! - That a sleeper wakes where a job comes, or sleeps at all: that is tested.
 #![tactic(auto)]
 
+mod bell;
 mod front;
 mod intake;
 mod ledger;

@@ -78,6 +78,7 @@ impl<S: Drop> Mouth<S> {
         match push_job(rt, &front.queue, &mut self.pass, self.sender, number, job) {
             Ok(()) => {
                 self.sent = number;
+                front.bell.ring();
                 Ok(number)
             }
             Err(job) => Err(job),
@@ -98,6 +99,7 @@ impl<S: Drop> Mouth<S> {
         } = self;
         let note = shut_pass(&front.queue, &mut pass);
         lay_note(&front.notes, seat, sender, note);
+        front.bell.ring();
         Left { sender, pass }
     }
 }

@@ -7,6 +7,7 @@ use gcd_front::{Front, Intake, MAX_SENDERS, Mouth, Sent};
 use std::process::Abort;
 use std::sync::Wait;
 use std::test::Fail;
+use std::time::Duration;
 
 // A call on the front.
 #[derive(Clone, Copy)]
@@ -15,6 +16,9 @@ enum Call {
     Shut,
     AllShut,
     Take,
+    Listen,
+    // It has to end before a test may: what came since the last sleep ends it.
+    Sleep,
 }
 
 // What it answers.
@@ -28,7 +32,7 @@ enum Answer {
 }
 
 // One sender, and room for one job.
-static ONE: [(Call, Answer); 14] = [
+static ONE: [(Call, Answer); 17] = [
     (Call::Take, Answer::Nothing),
     (Call::Send(11), Answer::Accepted(1)),
     (Call::Send(12), Answer::Refused(12)),
@@ -37,8 +41,11 @@ static ONE: [(Call, Answer); 14] = [
     (Call::Send(12), Answer::Accepted(2)),
     (Call::AllShut, Answer::Is(false)),
     (Call::Take, Answer::Took(0, 2, 12)),
+    (Call::Listen, Answer::Nothing),
     (Call::Send(13), Answer::Accepted(3)),
+    (Call::Sleep, Answer::Nothing),
     (Call::Shut, Answer::Nothing),
+    (Call::Sleep, Answer::Nothing),
     (Call::AllShut, Answer::Is(true)),
     (Call::Take, Answer::Took(0, 3, 13)),
     (Call::Take, Answer::Nothing),
@@ -111,6 +118,14 @@ fn make_call<R: Wait + Abort>(
         Call::Shut => shut(front, intake, mouth.take()),
         Call::AllShut => Answer::Is(intake.all_shut(front)),
         Call::Take => take(rt, front, intake),
+        Call::Listen => {
+            front.listen();
+            Answer::Nothing
+        }
+        Call::Sleep => {
+            front.sleep(rt, Duration::from_secs(3_600));
+            Answer::Nothing
+        }
     }
 }
 

@@ -1,4 +1,4 @@
-use Rattle.std.proofs.Common.{◌≡◌, ap, ◌∙◌, refl}
+use Rattle.std.proofs.Common.{ap}
 use Rattle.gcd_front.proofs.Hearing.{mouths_of}
 use Rattle.gcd_front.proofs.front.Front.new.Goals as goal
 
