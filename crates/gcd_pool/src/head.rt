@@ -14,7 +14,7 @@ ghost use Rattle.gcd_pool.specs.declared.hand.Hand.{Hand};
 
 use crate::admit_cells::AdmitCells;
 use crate::hand::{Hand, Pool};
-use crate::idle::Idle;
+use crate::head_idle::HeadIdle;
 use crate::lead::{gather_all, look_on, put_on, rest_on, work_on};
 use crate::putting::pass_many;
 use crate::serve::serve_to_the_end;
@@ -231,7 +231,7 @@ fn run_head<S: AdmitCells<X>, X: Sent + Drop, P: Poller, C: Clock, R: Wait>(
     ensures intake { result ≡ true → IsIntakeOf head.old.front.now head.new.intake.now }
     ensures admitted { result ≡ true → Admitted S.gives X.gives head.old.front.now (view head.new.hand.now.pass) head.new.intake.now }
 {
-    let mut idle = Idle::new();
+    let mut idle = HeadIdle::new(head.front);
     let most = pool.board.most();
     match run_turns(rt, pool.plan, most, pool, head, &mut idle, poller, clock) {
         Ok(()) => gather_all(pool, head.hand),

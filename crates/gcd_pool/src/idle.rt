@@ -48,19 +48,28 @@ impl Idle {
         self.sleeps = 0;
     }
 
+    // Spins or yields. Where it is time to sleep it does neither, and says how long: at most 250 microseconds.
+    pub(crate) fn spin(&mut self) -> Option<Duration>
+        ensures { self.new.micros ≤ 250 }
+    {
+        if !self.backoff.is_completed() {
+            self.backoff.snooze();
+            return None;
+        }
+        let sleep = Duration::from_micros(self.micros);
+        if self.micros == LONGEST_SLEEP {
+            self.sleeps = self.sleeps.saturating_add(1);
+        }
+        self.micros = (self.micros * 2).min(LONGEST_SLEEP);
+        Some(sleep)
+    }
+
     /// Spins, yields, or sleeps for at most 250 microseconds.
     pub fn pause<R: Wait>(&mut self, rt: &R)
         ensures { self.new.micros ≤ 250 }
     {
-        if self.backoff.is_completed() {
-            self.parker
-                .park_timeout(rt, Duration::from_micros(self.micros));
-            if self.micros == LONGEST_SLEEP {
-                self.sleeps = self.sleeps.saturating_add(1);
-            }
-            self.micros = (self.micros * 2).min(LONGEST_SLEEP);
-        } else {
-            self.backoff.snooze();
+        if let Some(sleep) = self.spin() {
+            self.parker.park_timeout(rt, sleep);
         }
     }
 

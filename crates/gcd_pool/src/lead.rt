@@ -17,13 +17,12 @@ ghost use Rattle.gcd_pool.specs.Works.{AddsOnly, AddsWork};
 use crate::drains::begin_chosen;
 use crate::duty::node_of_begin;
 use crate::hand::{Hand, Pool};
-use crate::idle::Idle;
 use crate::own::record_own;
 use crate::putting::{Through, pass_many, pass_seen, put_through};
 use crate::run_cells::RunCells;
 use crate::turn::Turn;
 use gcd_event::Event;
-use gcd_loop::{Backoff, Step};
+use gcd_loop::Step;
 use gcd_plan::Plan;
 use gcd_row::Slot;
 use std::alloc::AllocError;
@@ -189,18 +188,6 @@ pub(crate) fn rest_on<S: Slot>(
         return Err(AllocError);
     }
     Ok(Step::Waited)
-}
-
-impl Backoff for Idle {
-    #[inline(always)]
-    fn reset(&mut self) {
-        Idle::reset(self);
-    }
-
-    #[inline(always)]
-    fn pause<R: Wait>(&mut self, rt: &R) {
-        Idle::pause(self, rt);
-    }
 }
 
 // Worker 0 gathers all that it has seen. False where memory was refused to its journal: nobody waits for it any more then.

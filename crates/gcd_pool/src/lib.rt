@@ -32,6 +32,9 @@
 //! | all mouths were shut, and a later take gave none | it puts a Shut |
 //! | else | nothing: its turn goes on, and it polls without waiting |
 //!
+//! With nothing to do worker 0 yields its processor for a while, and then sleeps as a helper does; but where the front has senders the next
+//! job that is sent, or mouth that is shut, ends that sleep. (No clause says how soon.)
+//!
 //! So a job is dropped only where the run is halted or full as its Accept is put. A sender's jobs are accepted in their order, each once. A
 //! run without outside callers has a front without senders, whose mouths are all shut at once.
 //!
@@ -82,6 +85,7 @@ mod duty;
 mod finding;
 mod hand;
 mod head;
+mod head_idle;
 mod idle;
 mod lead;
 mod own;
