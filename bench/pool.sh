@@ -8,8 +8,9 @@
 # - 16,384 blocks of 16 KiB each on 64 serial queues, and on one concurrent queue; and 64 blocks of 16 MiB each on a concurrent queue.
 #
 # Nanoseconds a block: `first` is the first run of a process, `best` the least of nine in it. Processes take turns, the peers' too; of
-# `first` the least is told, of `best` the least and the median. Memory: the most that a process had, the plan's with it. It says which
-# aims are reached, and fails only where a run is wrong.
+# `first` the least is told, of `best` the least and the median. Memory: the most that a process had, the plan's with it. What several
+# processors give at most on this machine, where some may share a core, is told by as many processes at once, each by worker 0 alone.
+# It says which aims are reached, and fails only where a run is wrong.
 set -eu -o pipefail
 cd "$(dirname "$0")/.."
 . bench/setup.sh
@@ -49,6 +50,16 @@ once() {
     echo $told | cut -d' ' -f1-5
 }
 
+# So many processes at once.
+together() {
+    local count=$1 each
+    shift
+    for each in $(seq "$count"); do once "$bench" "$@" >"$folder/at_once.$each" & done
+    wait
+    sed "s/ alone / at-once-$count /" "$folder"/at_once.*
+    rm "$folder"/at_once.*
+}
+
 for _ in 1 2 3 4 5; do
     once "$bench" large alone
     once "$bench" large hand
@@ -59,8 +70,10 @@ for _ in 1 2 3 4 5; do
     for bytes in 256 512 1024 2048 4096 16384; do
         for team in alone 2 4; do once "$bench" large "$team" "$bytes" | sed "s/^large/$bytes/"; done
     done
+    for count in 2 4; do together "$count" large alone 16384 | sed "s/^large/16384/"; done
     for plan in serial wide heavy; do
         for team in alone 4; do once "$bench" "$plan" "$team"; done
+        together 4 "$plan" alone
     done
 done >"$folder/times"
 
