@@ -6,8 +6,8 @@
 # Throughput: nanoseconds a job, from the first send to the end of the run, with the journal and the values whole; the least of nine
 # runs and their median, of five processes, which take turns with the peer's the least and the median. Delay: nanoseconds from a send
 # to the beginning of the job's body, where a sender sleeps for 20 us, and what the system adds, between two sends; the median and the
-# 99th of a hundred of all jobs of three runs, of these processes the median. Where nothing comes worker 0 sleeps for 50 to 250 us, and
-# nobody wakes it; a sender that posts to Asio wakes a thread. It says which aims are reached, and fails only where a run is wrong.
+# 99th of a hundred of all jobs of three runs, of these processes the median. It says which aims are reached, and fails only where a run is
+# wrong.
 set -eu -o pipefail
 cd "$(dirname "$0")/.."
 . bench/setup.sh
