@@ -37,7 +37,8 @@ impl<R: Wait + Input + Eprint + AllocGlobal> Callers<Line, R> for Lines {
         let Some(mouth) = mouths.first_mut() else {
             return;
         };
-        for text in rt.lines(rt.alloc()).map_while(Result::ok) {
+        for line in rt.lines(rt.alloc()) {
+            let Ok(text) = line else { return };
             if mouth.sent() >= MOST || mouth.send(rt, front, Line(text)).is_err() {
                 eprintln!(rt; "the lines after {MOST} are left unread").ok();
                 return;
