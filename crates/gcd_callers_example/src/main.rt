@@ -1,6 +1,5 @@
 //! Callers from outside: this thread, which is no worker, hands the lines of the standard input to a queue while four workers run it
 //! (`run_callers` of `gcd_workers`; dispatch_async(3)). The number of bytes of each line is written, in the order of the lines.
-//!
 //! Proved is that a job gives the number of its bytes, and that the values are those of the jobs that were taken, in order
 //! (`RunsCallers`). Which lines are read, and which text is written, is tested.
 #![tactic(auto)]
@@ -28,19 +27,20 @@ impl Sent for Line {
     }
 }
 
+// The runtime from which the lines are read.
 #[derive(Drop)]
-struct Lines;
+struct Lines(HostRuntime);
 
-impl<R: Wait + Input + Eprint + AllocGlobal> Callers<Line, R> for Lines {
-    // Sends each line, until they end, one can't be read, or there are too many.
-    fn call(&mut self, rt: &R, front: &Front<Line>, mouths: &mut [Mouth<Line>]) {
+impl Callers<Line> for Lines {
+    // Sends each line, until they end, one is not text, or there are too many.
+    fn call<R: Wait>(&mut self, rt: &R, front: &Front<Line>, mouths: &mut [Mouth<Line>]) {
         let Some(mouth) = mouths.first_mut() else {
             return;
         };
-        for line in rt.lines(rt.alloc()) {
+        for line in self.0.lines(self.0.alloc()) {
             let Ok(text) = line else { return };
             if mouth.sent() >= MOST || mouth.send(rt, front, Line(text)).is_err() {
-                eprintln!(rt; "the lines after {MOST} are left unread").ok();
+                eprintln!(self.0; "the lines after {MOST} are left unread").ok();
                 return;
             }
         }
@@ -51,7 +51,7 @@ fn main(rt: HostRuntime) -> anyhow::Result<()> {
     let Ok(plan) = gcd_script::parse(rt.alloc(), SCRIPT) else {
         anyhow::bail!("no plan")
     };
-    let run = run_callers(&rt, rt.alloc(), &plan, 4, 1, &mut Lines)?;
+    let run = run_callers(&rt, rt.alloc(), &plan, 4, 1, &mut Lines(rt))?;
     // Behind the value of `main` lie those of the lines.
     for value in run.values.iter().skip(1).flatten() {
         println!(rt; "{value}")?;

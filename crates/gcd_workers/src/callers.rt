@@ -1,5 +1,6 @@
 // Callers from outside, as what runs beside the run of a plan.
 ghost use Rattle.std.specs.Prelude.{◌≡◌, All};
+ghost use Rattle.std.specs.Thread.{IsSync};
 ghost use Rattle.gcd_front.specs.Fronts.{IsMouthOf, new_mouths};
 
 use crate::beside::Side;
@@ -7,13 +8,14 @@ use gcd_front::{Front, Mouth, Sent};
 use std::sync::Wait;
 use std::thread::Threads;
 
-/// Hands in jobs beside a run, in threads that are no workers (dispatch_async(3)). `R` is the runtime, of which a caller asks what it
-/// needs: `Input` to read what it hands in, `Threads` for more threads than this one.
-pub trait Callers<X: Sent + Drop, R> {
-    /// Sends jobs through the mouths, of which there is one for each sender, by number, and returns when there is nothing more to send.
-    /// Then the mouths are shut. They are lent, so a caller cannot keep one open; that they are this front's mouths still is all that it
-    /// promises.
-    fn call(&mut self, rt: &R, front: &Front<X>, mouths: &mut [Mouth<X>])
+/// Hands in jobs beside a run, in threads that are no workers (dispatch_async(3)).
+pub trait Callers<X: Sent + Drop> {
+    /// Sends jobs through the mouths, of which there is one for each sender, by number, in this thread and in such as it makes, and
+    /// returns when there is nothing more to send. Then the mouths are shut. They are lent, so a caller cannot keep one open; that they
+    /// are mouths of this front still is all that it promises. What it asks of a runtime beyond threads, as to read what it sends, it has
+    /// from one of its own.
+    fn call<R: Threads + Wait + Sync>(&mut self, rt: &R, front: &Front<X>, mouths: &mut [Mouth<X>])
+        requires sync { IsSync R.row }
         requires mouths { All (IsMouthOf front.now) mouths.old }
         requires new { mouths.old ≡ new_mouths front.now }
         ensures { All (IsMouthOf front.now) mouths.new };
@@ -21,8 +23,7 @@ pub trait Callers<X: Sent + Drop, R> {
 
 // What the callers need.
 #[derive(Drop)]
-pub struct CallersSide<'a, X: Drop, C, R> {
-    pub rt: &'a R,
+pub struct CallersSide<'a, X: Drop, C> {
     pub front: &'a Front<X>,
     pub mouths: &'a mut Vec<Mouth<X>>,
     pub callers: &'a mut C,
@@ -47,7 +48,7 @@ fn shut_all<X: Drop>(front: &Front<X>, mouths: &mut Vec<Mouth<X>>)
     }
 }
 
-impl<X: Sent + Drop, C: Callers<X, R>, R> Side for CallersSide<'_, X, C, R> {
+impl<X: Sent + Drop, C: Callers<X>> Side for CallersSide<'_, X, C> {
     ghost use Rattle.std.specs.Prelude.{◌≡◌, All};
     ghost use Rattle.gcd_front.specs.Fronts.{IsMouthOf, new_mouths};
 
@@ -55,10 +56,9 @@ impl<X: Sent + Drop, C: Callers<X, R>, R> Side for CallersSide<'_, X, C, R> {
 
     ghost ran = { λ old new. Unit {0} };
 
-    // The runtime is that of the callers, who stay in this thread.
-    fn run<Q: Threads + Wait + Sync>(&mut self, _rt: &Q) {
+    fn run<R: Threads + Wait + Sync>(&mut self, rt: &R) {
         self.callers
-            .call(self.rt, self.front, self.mouths.as_mut_slice());
+            .call(rt, self.front, self.mouths.as_mut_slice());
         shut_all(self.front, self.mouths);
     }
 }

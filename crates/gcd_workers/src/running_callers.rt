@@ -18,8 +18,8 @@ use std::sync::Wait;
 use std::thread::Threads;
 
 // The plan runs beside the callers, which have the front's mouths.
-fn run_with_callers<'a, X: Sent + Drop + Send, C: Callers<X, R>, R: Threads + Wait + Sync>(
-    rt: &'a R,
+fn run_with_callers<'a, X: Sent + Drop + Send, C: Callers<X>, R: Threads + Wait + Sync>(
+    rt: &R,
     alloc: Global,
     plan: &'a Plan,
     workers: u8,
@@ -37,7 +37,6 @@ fn run_with_callers<'a, X: Sent + Drop + Send, C: Callers<X, R>, R: Threads + Wa
     ensures { IfOk result (λ run. RunsCallers X.gives plan.now workers front.now.senders run.journal.items run.values.items run.state) }
 {
     let mut calling = CallersSide {
-        rt,
         front,
         mouths,
         callers,
@@ -46,7 +45,7 @@ fn run_with_callers<'a, X: Sent + Drop + Send, C: Callers<X, R>, R: Threads + Wa
 }
 
 // A run beside callers with so many mouths, of a plan whose intake has so many blocks.
-fn run_by_callers<X: Sent + Drop + Send, C: Callers<X, R>, R: Threads + Wait + Sync>(
+fn run_by_callers<X: Sent + Drop + Send, C: Callers<X>, R: Threads + Wait + Sync>(
     rt: &R,
     alloc: Global,
     plan: &Plan,
@@ -106,7 +105,7 @@ fn intake_blocks(plan: &Plan) -> Option<u32>
 /// [`CallersRefused::OutOfMemory`] only where memory runs out, or the system makes no thread for a worker on whom all others wait. Each
 /// leaves nothing of a run; but the last may come in the midst of one, and then jobs have run. The callers are called but where a
 /// refusal comes before the run.
-pub fn run_callers<X: Sent + Drop + Send, C: Callers<X, R>, R: Threads + Wait + Sync>(
+pub fn run_callers<X: Sent + Drop + Send, C: Callers<X>, R: Threads + Wait + Sync>(
     rt: &R,
     alloc: Global,
     plan: &Plan,

@@ -2,7 +2,6 @@
 ghost use Rattle.std.specs.Prelude.{◌≡◌, All};
 ghost use Rattle.gcd_front.specs.Fronts.{IsMouthOf};
 
-use super::sending::send_all;
 use super::told::Told;
 use super::{MOST_SENDERS, are_told, given};
 use crate::tests::plans::{plan_of_an_intake, plan_of_queues};
@@ -22,8 +21,25 @@ struct Counting {
     each: u64,
 }
 
+// Sends so many jobs in their order, the k-th with 1,000 times its sender's number and k more.
+fn send_numbers<R: Wait>(rt: &R, front: &Front<Told>, mouth: &mut Mouth<Told>, each: u64)
+    requires { IsMouthOf front.now mouth.old }
+    ensures { IsMouthOf front.now mouth.new }
+{
+    let first = 1_000 * u64::from(mouth.sender());
+    for k in 0..each {
+        if mouth.sent() > 1_000 {
+            return;
+        }
+        let number = first.saturating_add(k).saturating_add(1);
+        if mouth.send(rt, front, Told(number)).is_err() {
+            return;
+        }
+    }
+}
+
 // Each mouth sends so many jobs.
-fn send_by_each<R: Threads + Wait + Abort + Sync>(
+fn send_by_each<R: Threads + Wait + Sync>(
     rt: &R,
     front: &Front<Told>,
     mouths: &mut [Mouth<Told>],
@@ -35,18 +51,23 @@ fn send_by_each<R: Threads + Wait + Abort + Sync>(
     let one = |_place: usize, mouth: &mut Mouth<Told>|
         requires { IsMouthOf front.now mouth.old }
         ensures { IsMouthOf front.entry.now mouth.new }
-    { send_all(rt, front, mouth, each) };
+    { send_numbers(rt, front, mouth, each) };
     for_each_mut(rt, mouths, MOST_SENDERS, &one);
 }
 
-impl<R: Threads + Wait + Abort + Sync> Callers<Told, R> for Counting {
-    fn call(&mut self, rt: &R, front: &Front<Told>, mouths: &mut [Mouth<Told>]) {
+impl Callers<Told> for Counting {
+    fn call<R: Threads + Wait + Sync>(
+        &mut self,
+        rt: &R,
+        front: &Front<Told>,
+        mouths: &mut [Mouth<Told>],
+    ) {
         send_by_each(rt, front, mouths, self.each);
     }
 }
 
 // A run of a plan of an intake of 64 blocks beside so many senders of 20 jobs each.
-fn run_of<R: Abort + Threads + Wait + Sync>(
+fn run_of<R: Threads + Wait + Sync>(
     rt: &R,
     alloc: Global,
     senders: u8,
@@ -155,7 +176,7 @@ fn refusals() -> &'static [Refusal] {
 }
 
 // Why the plan is not run; None where it is.
-fn refusal_of<R: Abort + Threads + Wait + Sync>(
+fn refusal_of<R: Threads + Wait + Sync>(
     rt: &R,
     alloc: Global,
     plan: &Plan,

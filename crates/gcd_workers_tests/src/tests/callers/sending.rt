@@ -46,7 +46,7 @@ fn send_one<R: Wait + Abort>(rt: &R, front: &Front<Told>, mouth: &mut Mouth<Told
 }
 
 // Sends the sender's jobs in their order, the k-th with 1,000 times its number and k more.
-pub fn send_all<R: Wait + Abort>(rt: &R, front: &Front<Told>, mouth: &mut Mouth<Told>, jobs: u64)
+fn send_all<R: Wait + Abort>(rt: &R, front: &Front<Told>, mouth: &mut Mouth<Told>, jobs: u64)
     requires { IsMouthOf front.now mouth.old }
     ensures { IsMouthOf front.now mouth.new }
 {
