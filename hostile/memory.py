@@ -10,9 +10,11 @@ from refused import FOLDER, call_refusing, each_refused, is_same
 
 CASES = TOP / "examples"
 
-# Tests over an outside in memory, of these crates. The last is a run of ten thousand events by four workers, whose journal grows as it goes.
+# Tests over an outside in memory, of these crates. The last but one is a run of ten thousand events by four workers, whose journal grows as
+# it goes, and the last a run beside callers in other threads.
 TESTS = [("gcd_run_tests", f"tests::memory::a_{name}_answers_whole_or_nothing") for name in ("run", "check", "large_script", "team")]
 TESTS += [("gcd_workers_tests", "tests::ring::a_long_run_by_a_team_is_whole_or_refused")]
+TESTS += [("gcd_workers_tests", "tests::callers::called::a_run_beside_callers_is_whole_or_refused")]
 
 # A name, the words, and whether the run has a feed or an address: the system's own tables for these are made in the run, and what
 # fails in them is a fault of the poller, so that `read fault` is an answer too.

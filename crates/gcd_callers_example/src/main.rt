@@ -1,59 +1,60 @@
-//! Callers from outside, without the script language: a thread that is no worker hands the lines of the standard input to a queue while
-//! four workers run it (`Front` of `gcd_front`, `run_front` of `gcd_workers`; dispatch_async(3)). A line's value is the number of its
-//! bytes, and the values are written in the order of the lines, whichever worker came to which first.
-//!
-//! The plan has `main` and a concurrent queue with an intake of 256 blocks. Each line that is sent becomes the job of the next of these
-//! blocks. After the last line the mouth is shut, and so is the intake then: the run ends once all that was sent has run.
-//!
-//! Proved is that a job gives the number of its bytes, and, by what `run_front` promises (`RunsFront`), that the values of the blocks are
-//! those of the lines that were sent, in their order. Which lines are read, and which text is written, is tested.
-//! Where an item names no manual page, what it says is this project's own rule.
+//! Callers from outside: this thread, which is no worker, hands the lines of the standard input to a queue while four workers run it
+//! (`run_callers` of `gcd_workers`; dispatch_async(3)). The number of bytes of each line is written, in the order of the lines.
+//! Proved is that a job gives the number of its bytes, and that the values are those of the jobs that were taken, in order
+//! (`RunsCallers`). Which lines are read, and which text is written, is tested.
 #![tactic(auto)]
 
-mod line;
-mod plan;
-mod sending;
+ghost use Rattle.std.specs.Prelude.{◌≡◌, string_len};
 
-use crate::line::{Line, empty_lines};
-use crate::plan::{LINES, plan_of_lines};
-use crate::sending::run_beside;
-use gcd_front::Front;
-use gcd_workers::JobsRun;
-use std::alloc::{AllocError, Global};
-use std::fmt::Write;
-use std::io::Input;
-use std::process::ExitCode;
+use gcd_front::{Front, Mouth, Sent};
+use gcd_workers::{Callers, run_callers};
+use std::io::{Eprint, Input};
 use std::sync::Wait;
-use std::thread::Threads;
 
-// A line for each value: that of `main`, which has none of the lines, is left out.
-fn lines_of(alloc: Global, run: &JobsRun) -> Result<String, AllocError> {
-    let mut lines = String::new(alloc);
-    for value in run.values.iter().skip(1) {
-        if let Some(value) = value {
-            writeln!(lines, "{value}")?;
+// A queue, and as many lines for it as an intake can have blocks.
+const SCRIPT: &[u8] = b"queue lines concurrent\nintake lines 4096\nmain\n";
+
+const MOST: u32 = 4_096;
+
+#[derive(Drop)]
+struct Line(String);
+
+impl Sent for Line {
+    ghost gives = { λ line value. value ≡ string_len line.0 };
+
+    fn call(self) -> u64 {
+        self.0.len() as u64
+    }
+}
+
+// The runtime from which the lines are read.
+#[derive(Drop)]
+struct Lines(HostRuntime);
+
+impl Callers<Line> for Lines {
+    // Sends each line, until they end, one is not text, or there are too many.
+    fn call<R: Wait>(&mut self, rt: &R, front: &Front<Line>, mouths: &mut [Mouth<Line>]) {
+        let Some(mouth) = mouths.first_mut() else {
+            return;
+        };
+        for line in self.0.lines(self.0.alloc()) {
+            let Ok(text) = line else { return };
+            if mouth.sent() >= MOST || mouth.send(rt, front, Line(text)).is_err() {
+                eprintln!(self.0; "the lines after {MOST} are left unread").ok();
+                return;
+            }
         }
     }
-    Ok(lines)
 }
 
-// All that is written. An `Err` comes where memory runs out.
-fn text<R: Threads + Wait + Sync + Input>(rt: &R, alloc: Global) -> Result<String, AllocError> {
-    let Some(plan) = plan_of_lines(alloc)? else {
-        return String::from_str(alloc, "the parts are no plan\n");
+fn main(rt: HostRuntime) -> anyhow::Result<()> {
+    let Ok(plan) = gcd_script::parse(rt.alloc(), SCRIPT) else {
+        anyhow::bail!("no plan")
     };
-    let jobs = empty_lines(alloc, &plan)?;
-    let (front, mouths, intake) = Front::<Line>::new(alloc, LINES, 1)?;
-    let run = run_beside(rt, alloc, &plan, jobs, &front, mouths, intake)?;
-    lines_of(alloc, &run)
-}
-
-fn main(rt: HostRuntime) -> ExitCode {
-    let Ok(text) = text(&rt, rt.alloc()) else {
-        return ExitCode::from(7);
-    };
-    if print!(rt; "{text}").is_err() {
-        return ExitCode::from(6);
+    let run = run_callers(&rt, rt.alloc(), &plan, 4, 1, &mut Lines(rt))?;
+    // Behind the value of `main` lie those of the lines.
+    for value in run.values.iter().skip(1).flatten() {
+        println!(rt; "{value}")?;
     }
-    ExitCode::SUCCESS
+    Ok(())
 }

@@ -27,7 +27,7 @@ use Rattle.gcd_front.specs.Queue.{jobs_of}
 use Rattle.gcd_front.specs.Views.{FrontView, IntakeView as TakenView}
 use Rattle.gcd_workers.specs.CallersRuns.{AcceptsOf, OfSender}
 use Rattle.gcd_workers.specs.declared.jobs_run.JobsRun.{JobsRun}
-use Rattle.gcd_run.specs.Fronts.{HasIntake, HearsSenders, RanBeside, front_workers, share_of, value_in}
+use Rattle.gcd_run.specs.Fronts.{HasIntake, HearsSenders, RanBeside, front_workers, share_of, value_or_0}
 use Rattle.gcd_run.specs.Senders.{HasRun, IsTakenOf, told, told_by}
 use Rattle.gcd_run.specs.declared.front_job.Told.{Told}
 use Rattle.gcd_run.proofs.Counting.{all_shares}
@@ -70,14 +70,14 @@ told_at s n k job at =
     ap (λ (t : Told). t.0) (sym (get_or_from_slice_get (told_by s n) k job job at) ∙ get_or-map-range_with_len (told s) 1 n k (k + 1) job low (omega arith))
 
 -- the number of a value
-value_is : (values : List (Option ℕ)) (b v : ℕ) → slice_get values b ≡ Some (Some v) → value_in values b ≡ v
+value_is : (values : List (Option ℕ)) (b v : ℕ) → slice_get values b ≡ Some (Some v) → value_or_0 values b ≡ v
 value_is values b v at = ap (λ (o : Option (Option ℕ)). unwrap_or (unwrap_or o None) 0) at
 
-value_none : (values : List (Option ℕ)) (b : ℕ) → slice_get values b ≡ Some None → value_in values b ≡ 0
+value_none : (values : List (Option ℕ)) (b : ℕ) → slice_get values b ≡ Some None → value_or_0 values b ≡ 0
 value_none values b at = ap (λ (o : Option (Option ℕ)). unwrap_or (unwrap_or o None) 0) at
 
 -- past the end there is none
-value_past : (values : List (Option ℕ)) (b : ℕ) → length values ≤ b → value_in values b ≡ 0
+value_past : (values : List (Option ℕ)) (b : ℕ) → length values ≤ b → value_or_0 values b ≡ 0
 value_past [] b past = refl
 value_past (v ∷ values) zero past = absurd (omega (arith, past))
 value_past (v ∷ values) (suc b) past = value_past values b (omega (arith, past))
@@ -138,7 +138,7 @@ module _ (plan : PlanView) (blocks senders : ℕ) (f : FrontView) (i : TakenView
   few s = ⊎_elim (few_of s) (λ over. let no : length (blocks_of_sender h s) ≡ 0 = ap length (none_else s over) in omega (arith, no)) (cases_lt s senders)
 
   value_at : (s k : ℕ) (b : Blk) → s < senders → slice_get (blocks_of_sender h s) k ≡ Some b → is_ended h b.0 ≡ true
-      → value_in values b.0 ≡ 1000 * s + (k + 1)
+      → value_or_0 values b.0 ≡ 1000 * s + (k + 1)
   value_at s k b low at ended =
       let o = left.runs.callers s in
       let t = taken s low in
@@ -148,7 +148,7 @@ module _ (plan : PlanView) (blocks senders : ℕ) (f : FrontView) (i : TakenView
       let sent : slice_get (told_by s (blocks / senders)) k ≡ Some job.other = subst (λ (l : List Told). slice_get l k ≡ Some job.other) (sym t.begins) (still_there (jobs_of s i.taken) t.rest k job.other first) in
       value_is values b.0 given.0 given.1 ∙ given.2 ∙ told_at s (blocks / senders) k job.other sent
 
-  value_of : (s k : ℕ) (b : Blk) → slice_get (blocks_of_sender h s) k ≡ Some b → is_ended h b.0 ≡ true → value_in values b.0 ≡ 1000 * s + (k + 1)
+  value_of : (s k : ℕ) (b : Blk) → slice_get (blocks_of_sender h s) k ≡ Some b → is_ended h b.0 ≡ true → value_or_0 values b.0 ≡ 1000 * s + (k + 1)
   value_of s k b at ended =
       ⊎_elim
       (λ low. value_at s k b low at ended)
@@ -172,7 +172,7 @@ module _ (plan : PlanView) (blocks senders : ℕ) (f : FrontView) (i : TakenView
       left.runs.all shut s ∙ ap length (sym (t.all known.0 known.1)) ∙ length-map-range_with_len (told s) 1 (blocks / senders))
       (left.runs.why_shut shut)
 
-  hears : (intake : IntakeView) → plan.intake ≡ Some intake → intake.count ≡ blocks → HearsSenders plan intake senders (value_in values) h
+  hears : (intake : IntakeView) → plan.intake ≡ Some intake → intake.count ≡ blocks → HearsSenders plan intake senders (value_or_0 values) h
   hears intake is count = record {
     values = value_of;
     few = λ s. subst (λ n. length (blocks_of_sender h s) ≤ n / senders) (sym count) (few s);
@@ -180,7 +180,7 @@ module _ (plan : PlanView) (blocks senders : ℕ) (f : FrontView) (i : TakenView
   }
 
   -- a block that has not ended has no value
-  no_value : (b : ℕ) → is_ended h b ≡ false → value_in values b ≡ 0
+  no_value : (b : ℕ) → is_ended h b ≡ false → value_or_0 values b ≡ 0
   no_value b unended =
       ⊎_elim
       (λ low. value_none values b (left.runs.given.others b low (and_left (is_ended h b) (not (is_block_cancelled plan h b)) unended)))

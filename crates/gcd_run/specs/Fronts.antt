@@ -77,23 +77,23 @@ pub record HasIntake (plan : PlanView) (blocks : ℕ) : Type 0 where
   pub count : intake.count ≡ blocks
 
 -- the value of block b; 0 where it has none
-abbrev pub value_in : List (Option ℕ) → (b : ℕ) → ℕ
-value_in values b = unwrap_or (unwrap_or (slice_get values b) None) 0
+abbrev pub value_or_0 : List (Option ℕ) → (b : ℕ) → ℕ
+value_or_0 values b = unwrap_or (unwrap_or (slice_get values b) None) 0
 
 -- the value of the block that the event accepts of sender s, where it accepts one
 abbrev pub values_at : List (Option ℕ) → (s : ℕ) → Event → List ℕ
-values_at values s e = map (λ b. value_in values b.0) (option_to_list (accepted_of s e))
+values_at values s e = map (λ b. value_or_0 values b.0) (option_to_list (accepted_of s e))
 
 -- `sender S accepted K total T`, by the values of the blocks
 abbrev pub sender_text : List (Option ℕ) → List Event → (s : ℕ) → Bytes
 sender_text values h s =
     codes "sender " ++ (decimal s
     ++ (codes " accepted " ++ (decimal (length (blocks_of_sender h s))
-    ++ (codes " total " ++ (decimal (sum (map (λ b. value_in values b.0) (blocks_of_sender h s))) ++ line_end)))))
+    ++ (codes " total " ++ (decimal (sum (map (λ b. value_or_0 values b.0) (blocks_of_sender h s))) ++ line_end)))))
 
 -- a plan has run beside so many senders; a block that has not ended has no value
 pub record RanBeside (plan : PlanView) (blocks senders : ℕ) (poller : Seen PollerState) (clock : Seen ClockState) (run : JobsRun) : Type 0 where
   pub ran : Ran poller clock plan front_workers max_events (AcceptsOf senders) run.journal.items run.state
-  pub hears : (intake : IntakeView) → plan.intake ≡ Some intake → HearsSenders plan intake senders (value_in run.values.items) run.journal.items
+  pub hears : (intake : IntakeView) → plan.intake ≡ Some intake → HearsSenders plan intake senders (value_or_0 run.values.items) run.journal.items
   pub few : (s : ℕ) → length (blocks_of_sender run.journal.items s) ≤ max_blocks
-  pub others : (b : ℕ) → is_ended run.journal.items b ≡ false → value_in run.values.items b ≡ 0
+  pub others : (b : ℕ) → is_ended run.journal.items b ≡ false → value_or_0 run.values.items b ≡ 0

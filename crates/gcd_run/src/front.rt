@@ -13,7 +13,7 @@ ghost use Rattle.gcd_turn.specs.Asked.{KeepsListens};
 ghost use Rattle.gcd_words.specs.CommandLine.{max_front_senders};
 ghost use Rattle.gcd_run.specs.Calls.{seen_by};
 ghost use Rattle.gcd_run.specs.End.{ran_end};
-ghost use Rattle.gcd_run.specs.Fronts.{FrontEnds, HasIntake, IsFrontCount, RanBeside, StopsFront, TellsFront, sender_text, value_in, values_at};
+ghost use Rattle.gcd_run.specs.Fronts.{FrontEnds, HasIntake, IsFrontCount, RanBeside, StopsFront, TellsFront, sender_text, value_or_0, values_at};
 ghost use Rattle.gcd_run.specs.Loads.{SomeLoads};
 ghost use Rattle.gcd_run.specs.Stories.{end_of};
 
@@ -89,7 +89,7 @@ fn accepted_of(event: Event, sender: u8) -> Option<Blk>
 
 // The value of a block; 0 where it has none.
 fn value_of(values: &[Option<u64>], b: Blk) -> u64
-    ensures { result ≡ value_in values.now b.0 }
+    ensures { result ≡ value_or_0 values.now b.0 }
 {
     match values.get(b.0 as usize) {
         Some(Some(value)) => *value,
@@ -123,7 +123,7 @@ fn values_of_sender(
     values: &[Option<u64>],
     sender: u8,
 ) -> Result<Vec<u64>, AllocError>
-    ensures { IfOk result (λ made. made.items ≡ map (λ b. value_in values.now b.0) (blocks_of_sender journal.now sender)) }
+    ensures { IfOk result (λ made. made.items ≡ map (λ b. value_or_0 values.now b.0) (blocks_of_sender journal.now sender)) }
 {
     let mut made = Vec::new(alloc);
     for event in journal {
@@ -160,9 +160,9 @@ fn text_of(
     senders: u8,
 ) -> Result<Vec<u8>, AllocError>
     requires few { (s : ℕ) → length (blocks_of_sender journal.now s) ≤ max_blocks }
-    requires others { (b : ℕ) → is_ended journal.now b ≡ false → value_in values.now b ≡ 0 }
+    requires others { (b : ℕ) → is_ended journal.now b ≡ false → value_or_0 values.now b ≡ 0 }
     requires spoken { AreSpoken plan.now journal.now }
-    ensures { IfOk result (λ text. text.items ≡ front_text plan.now senders (value_in values.now) state journal.now) }
+    ensures { IfOk result (λ text. text.items ≡ front_text plan.now senders (value_or_0 values.now) state journal.now) }
 {
     let mut text = Vec::new(alloc);
     for sender in 0..senders {
@@ -175,9 +175,9 @@ fn text_of(
 // The story of a run, of which no more is kept than its journal. An `Err` comes where memory runs out.
 fn story_of(alloc: Global, plan: &Plan, run: JobsRun, senders: u8) -> Result<Story, AllocError>
     requires few { (s : ℕ) → length (blocks_of_sender run.journal.items s) ≤ max_blocks }
-    requires others { (b : ℕ) → is_ended run.journal.items b ≡ false → value_in run.values.items b ≡ 0 }
+    requires others { (b : ℕ) → is_ended run.journal.items b ≡ false → value_or_0 run.values.items b ≡ 0 }
     requires spoken { AreSpoken plan.now run.journal.items }
-    ensures { IfOk result (λ s. end_of s ≡ ran_end run.state run.journal.items (front_text plan.now senders (value_in run.values.items) run.state run.journal.items)) }
+    ensures { IfOk result (λ s. end_of s ≡ ran_end run.state run.journal.items (front_text plan.now senders (value_or_0 run.values.items) run.state run.journal.items)) }
 {
     let text = text_of(alloc, plan, run.state, &run.journal, &run.values, senders);
     Story::ran(run.state, run.journal, text)

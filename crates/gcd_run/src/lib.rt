@@ -32,7 +32,6 @@
 //! Where an item names no manual page, what it says is this project's own rule.
 #![tactic(auto)]
 
-mod beside;
 mod checking;
 mod engine;
 mod front;

@@ -6,14 +6,13 @@ ghost use Rattle.gcd_turn.specs.Asked.{KeepsListens};
 ghost use Rattle.gcd_run.specs.Calls.{seen_by};
 ghost use Rattle.gcd_run.specs.Senders.{AreSenders, EachSends, HasRun, IsSender};
 
-use crate::beside::{Side, run_beside};
 use crate::front_job::{FrontJob, Told};
 use crate::senders::{Sender, Senders};
 use gcd_front::{Front, Intake};
 use gcd_jobs::FileJob;
 use gcd_outer::{Clock, Poller};
 use gcd_plan::{Blk, MAX_EVENTS, Plan};
-use gcd_workers::{JobsRun, run_front};
+use gcd_workers::{JobsRun, Side, run_beside, run_front};
 use std::alloc::{AllocError, Global};
 use std::sync::Wait;
 use std::thread::Threads;

@@ -7,9 +7,9 @@ ghost use Rattle.gcd_run.specs.Senders.{EachSends, HasSent, IsSender, IsTakenOf,
 ghost use Rattle.gcd_run.specs.declared.front_job.Told.{Told as AnyTold};
 ghost use Rattle.gcd_run.specs.declared.senders.Sender.{Sender as AnySender};
 
-use crate::beside::Side;
 use crate::front_job::Told;
 use gcd_front::{Front, Intake, Left, MAX_SENDERS, Mouth};
+use gcd_workers::Side;
 use std::alloc::{AllocError, Global};
 use std::sync::Wait;
 use std::thread::{Threads, for_each_mut};

@@ -1,3 +1,4 @@
+pub mod CalledFor
 pub mod Callers
 pub mod Giving
 pub mod Heads

@@ -1,3 +1,4 @@
+pub mod CalledRuns
 pub mod CallersRuns
 pub mod JobsRuns
 pub mod ListRuns

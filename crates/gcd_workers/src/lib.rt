@@ -13,9 +13,12 @@
 //! to `MAX_EVENTS` of `gcd_plan`. Nothing of that size is taken at once: the journal grows with the run.
 //!
 //! A caller with jobs of its own calls [`run_jobs`], which makes all that a run by a team needs, with the outside in memory: no feed is
-//! told of, and time jumps. (The crate `gcd_example` is such a caller.) One whose jobs come from threads of its own while the queue runs
-//! makes a front (`gcd_front`) and calls [`run_front`], with a poller and a clock. (`gcd_callers_example` is such a caller.) Both lay the
-//! jobs on a board with a tally for each source. One with handlers of its own makes board and rack itself, and calls the parts.
+//! told of, and time jumps. (The crate `gcd_example` is such a caller.) One whose jobs come from threads that are no workers, while the
+//! queue runs, calls [`run_callers`]: it says in an impl of [`Callers`] what they send ([`Called`] is what a block runs then), and the
+//! call makes front and mouths too. (`gcd_callers_example` is such a caller.) One that wants both, or a poller, a clock or a limit of its
+//! own, makes a front (`gcd_front`) and calls [`run_front`]; by [`run_beside`] that runs in a thread of its own beside its senders, each a
+//! [`Side`] whose changes the caller learns. All lay the jobs on a board with a tally for each source. One with handlers of its own makes
+//! board and rack itself, and calls the parts.
 //!
 //! All teams take jobs from a front. Where there are no outside callers that is a front without senders, so nothing is accepted, and an
 //! intake of the plan is shut at once.
@@ -27,6 +30,8 @@
 //! | [`run_pool`] | worker 0's pass of a run that has ended, and the journal of what was gathered of it, with which the board may be closed (`HasLed`, `RunsPlan`, `IsGathered`), and which jobs its senders' blocks have (`Admitted`), or out of memory |
 //! | [`run_jobs`] | the journal, the blocks' values and the state of a run of the caller's own jobs (`RunsJobs`), or why there is none: another number of jobs, no number of workers, no event, out of memory |
 //! | [`run_front`] | the same beside a front and its intake (`RunsFront`), or out of memory |
+//! | [`run_callers`] | the same of a run whose work comes from its callers (`RunsCallers`), or why there is none: no intake, no number of workers or of senders, out of memory |
+//! | [`run_beside`] | nothing; each of two sides has run, and has become what its `ran` says |
 //! | [`run_alone`], [`run_board`], [`run_workers`] | the journal, the blocks' values and the state of a run of the plan's works over its files (`RunsOverFiles`), or out of memory |
 //!
 //! | clause of the last three | says |
@@ -51,6 +56,14 @@
 //!
 //! Of what a sender sent, its account, the part that was taken is told by `settle` of the front's intake.
 //!
+//! | clause of `run_callers` | says |
+//! |---|---|
+//! | `ran` (`RunsCallers`) | where it is run: there are a front with so many senders and its intake, beside which `RunsFront` holds, with a job that gives 0 for each block of the plan itself. So of each sender the blocks that were accepted ran jobs that were taken of it, in order, each once, and their values are those that these may give |
+//! | `no_intake`, `worker_count`, `sender_count` | it is refused by that name exactly where the plan has no intake; where else the number of workers is 0 or above 64; and where else that of senders is |
+//!
+//! No clause of it ties what was taken to what [`Callers::call`] sent: whose proof needs that holds what is left of each mouth against the
+//! intake (`settle`), beside [`run_front`].
+//!
 //! A run by worker 0 alone takes memory before its first turn, and where its list has to grow; what is left of it at a refusal
 //! is nothing, and which of the two it was is told ([`RunRefused`]). So with a given clock and poller its journal is exact. A team takes memory before the first turn, after the last, and where
 //! worker 0 gathers what it has seen, which it does each time that about 1,024 events more have come. So both
@@ -65,6 +78,11 @@
 #![tactic(auto)]
 
 mod alone;
+mod beside;
+mod called;
+mod called_run;
+mod callers;
+mod callers_refused;
 mod gather;
 mod hiring;
 mod jobs_board;
@@ -74,19 +92,26 @@ mod nobodys_front;
 mod opening;
 mod outcome;
 mod refused;
+mod running_callers;
 mod running_front;
 mod running_jobs;
+mod silent;
 mod team;
 mod values;
 mod workers;
 
 pub use alone::run_alone;
+pub use beside::{Side, run_beside};
+pub use called::Called;
+pub use callers::Callers;
+pub use callers_refused::CallersRefused;
 pub use gather::run_pool;
 pub use hiring::team_size;
 pub use jobs_run::{JobsRefused, JobsRun};
 pub use opening::tallies_of;
 pub use outcome::Outcome;
 pub use refused::RunRefused;
+pub use running_callers::run_callers;
 pub use running_front::run_front;
 pub use running_jobs::run_jobs;
 pub use workers::{run_board, run_workers};

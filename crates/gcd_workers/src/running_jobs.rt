@@ -1,5 +1,5 @@
 // A run of a caller's own jobs, by one call.
-ghost use Rattle.std.specs.Prelude.{◌≡◌, ◌≢◌, ◌<◌, ◌≤◌, ◌↔◌, ℕ, false, Some, IfOk, IsErrOf, length, map};
+ghost use Rattle.std.specs.Prelude.{◌≡◌, ◌≢◌, ◌<◌, ◌≤◌, ◌↔◌, Some, IfOk, IsErrOf, length, map};
 ghost use Rattle.gcd_plan.specs.Limits.{max_workers};
 ghost use Rattle.gcd_plan.specs.Validity.{IsPlan};
 ghost use Rattle.gcd_workers.specs.JobsRuns.{IsNoTeam, RunsJobs};
@@ -9,25 +9,15 @@ use crate::hiring::team_size;
 use crate::jobs_run::{JobsRefused, JobsRun};
 use crate::nobodys_front::nobodys_front;
 use crate::running_front::run_benches;
+use crate::silent::silent_poller;
 use crate::workers::MOST_PUSHES;
 use gcd_jobs::Job;
-use gcd_outer::{JumpClock, ListPoller, Poller};
-use gcd_plan::{MAX_WORKERS, Obj, Plan};
+use gcd_outer::JumpClock;
+use gcd_plan::{MAX_WORKERS, Plan};
 use gcd_steal::Rack;
 use std::alloc::{AllocError, Global};
 use std::sync::Wait;
 use std::thread::Threads;
-
-// A poller that tells nothing. It has room for the feed of each object, so no watch fails.
-fn silent_poller(alloc: Global, plan: &Plan) -> Result<ListPoller, AllocError>
-    ensures { IfOk result (λ p. (feed : ℕ) → (⟦<ListPoller as Poller>⟧.state p).watched feed ≡ false) }
-{
-    let mut bytes: usize = 0;
-    for number in 0..plan.objects() {
-        bytes = bytes.saturating_add(plan.path_of(Obj(number)).len());
-    }
-    ListPoller::new(alloc, Vec::new(alloc), plan.objects() as usize, bytes)
-}
 
 // The jobs as those of a run that nobody outside hands jobs to: such a run would have none for what nobody sends.
 fn some_of_each<J: Drop>(alloc: Global, jobs: Vec<J>) -> Result<Vec<Option<J>>, AllocError>
@@ -78,8 +68,8 @@ fn run_jobs_by_team<J: Job + Drop + Send, R: Threads + Wait + Sync>(
 ///
 /// The outside is in memory. No feed is told of: a read source delivers nothing, and its feed ends after as many empty answers as
 /// after which worker 0 gives a silent feed up. Time jumps: each due time comes as soon as worker 0 has nothing else to do, so a run
-/// waits for no timer and for no limit of a wait, and no Tick says anything of real time. A caller with feeds, a clock of its own or
-/// outside callers calls [`run_front`](crate::run_front).
+/// waits for no timer and for no limit of a wait, and no Tick says anything of real time. A caller with feeds or a clock of its own
+/// calls [`run_front`](crate::run_front), and one whose jobs come from other threads [`run_callers`](crate::run_callers).
 ///
 /// The first refusal that applies is told: [`JobsRefused::JobCount`] exactly where the number of jobs is not that of the plan's blocks,
 /// [`JobsRefused::WorkerCount`] exactly where else the number of workers is 0 or greater than `MAX_WORKERS`, which is 64,

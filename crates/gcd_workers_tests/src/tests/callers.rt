@@ -1,4 +1,5 @@
 // Runs beside senders in threads of their own.
+mod called;
 mod sending;
 mod told;
 
@@ -65,12 +66,16 @@ fn rows() -> &'static [Row] {
     &ROWS
 }
 
-// Whether each sender has so many blocks, and the k-th of them the value of its k-th job, which is 1,000 times its number and k more.
-fn are_told(run: &JobsRun, each: u64) -> bool {
-    let mut sent = [0u64; SENDERS];
+// How many senders a run here has at most.
+const MOST_SENDERS: usize = 64;
+
+// Whether each of so many senders has so many blocks, and the k-th of them the value of its k-th job, which is 1,000 times its number
+// and k more.
+fn are_told(run: &JobsRun, senders: u8, each: u64) -> bool {
+    let mut sent = [0u64; MOST_SENDERS];
     for event in &run.journal {
         if let Event::Accept { blk, sender } = event {
-            let place = *sender as usize % SENDERS;
+            let place = *sender as usize % MOST_SENDERS;
             sent[place] = sent[place].saturating_add(1);
             let value = (1_000 * u64::from(*sender)).saturating_add(sent[place]);
             if run.values.get(blk.0 as usize) != Some(&Some(value)) {
@@ -78,7 +83,17 @@ fn are_told(run: &JobsRun, each: u64) -> bool {
             }
         }
     }
-    sent == [each; SENDERS]
+    for (sender, count) in sent.iter().enumerate() {
+        let want = if sender < usize::from(senders) {
+            each
+        } else {
+            0
+        };
+        if *count != want {
+            return false;
+        }
+    }
+    true
 }
 
 // How many blocks have a value.
@@ -113,7 +128,7 @@ fn run_row<R: Abort + Threads + Wait + Sync>(rt: &R, alloc: Global, row: &Row) -
         return Err(Fail::from("no run"));
     };
     assert!(rt; run.state == State::Drained, "{what}");
-    assert!(rt; are_told(&run, row.each), "{what}");
+    assert!(rt; are_told(&run, SENDERS as u8, row.each), "{what}");
     assert!(rt;
         given(&run) == row.each.saturating_mul(2).saturating_add(1),
         "{what}"

@@ -1,5 +1,5 @@
 use Rattle.gcd_journal.proofs.LawfulSpoken.{lawful_spoken}
-use Rattle.gcd_run.specs.Fronts.{value_in}
+use Rattle.gcd_run.specs.Fronts.{value_or_0}
 use Rattle.gcd_run.proofs.front.run_plan.Goals as goal
 
 pub story_of-requires-clause-few : goal.story_of-requires-clause-few
@@ -16,7 +16,7 @@ returns-clause-told g c = λ intake is.
     let run = c.in_ok-run.run' in
     let ran = c.in_ok-run.ensures.ran in
     record {
-      value = value_in run.values.items;
+      value = value_or_0 run.values.items;
       tells = record { h = run.journal.items; state = run.state; ran = ran.ran; end_is = c.in_ok-story.ensures };
       hears = ran.hears intake is;
     }

@@ -4,7 +4,7 @@ use Rattle.gcd_event.specs.declared.event.Event.{Event}
 use Rattle.gcd_history.specs.Report.{blocks_of_sender}
 use Rattle.gcd_journal.specs.Spoken.{AreSpoken}
 use Rattle.gcd_history.specs.Report.{front_text}
-use Rattle.gcd_run.specs.Fronts.{value_in}
+use Rattle.gcd_run.specs.Fronts.{value_or_0}
 use Rattle.gcd_run.proofs.front.story_of.Goals as goal
 
 pub text_of-text-requires-clause-few : goal.text_of-text-requires-clause-few
@@ -17,4 +17,4 @@ text_of-text-requires-clause-spoken c = subst (λ (h : List Event). AreSpoken c.
 pub returns : goal.returns
 returns c =
     let told = rw (c.deref.ensures.value, c.deref-2.ensures.value) at c.text_of-text.ensures in
-    c.ran.ensures (front_text c.args.plan.now c.args.senders (value_in c.args.run.values.items) c.args.run.state c.args.run.journal.items) told
+    c.ran.ensures (front_text c.args.plan.now c.args.senders (value_or_0 c.args.run.values.items) c.args.run.state c.args.run.journal.items) told

@@ -1,7 +1,7 @@
 use Rattle.std.proofs.Common.{◌∙◌, map, ap, arith, rules}
 use Rattle.std.proofs.lemmas.List.{take_all}
 use Rattle.gcd_history.specs.Report.{blocks_of_sender}
-use Rattle.gcd_run.specs.Fronts.{value_in}
+use Rattle.gcd_run.specs.Fronts.{value_or_0}
 use Rattle.gcd_run.proofs.Lines.{values_more}
 use Rattle.gcd_run.proofs.front.values_of_sender.Goals as goal
 
@@ -13,4 +13,4 @@ loop-event-preserved c =
 pub returns : goal.returns
 returns c =
     c.loop-event.invariant
-    ∙ ap (λ l. map (λ b. value_in c.args.values.now b.0) (blocks_of_sender l c.args.sender)) (take_all c.loop-event.event-index c.args.journal.now (omega arith))
+    ∙ ap (λ l. map (λ b. value_or_0 c.args.values.now b.0) (blocks_of_sender l c.args.sender)) (take_all c.loop-event.event-index c.args.journal.now (omega arith))

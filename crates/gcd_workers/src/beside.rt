@@ -12,15 +12,16 @@ pub trait Side {
     // what running comes to: what it was and what it is
     ghost ran: { Self → Self → Type 0 };
 
-    /// Runs to the end.
+    /// Runs to the end, by a runtime that can make threads. What it asks of a runtime beyond that, as to read input, it has from one of its
+    /// own: as the second of two it stays in the thread that made it.
     fn run<R: Threads + Wait + Sync>(&mut self, rt: &R)
         requires sync { IsSync R.row }
         requires ready { Self.ready self.old }
         ensures { Self.ran self.old self.new };
 }
 
-/// Runs both: `first` in a thread of its own, or after `second` where the system makes none, and `second` in this one. So `second`
-/// may not wait for `first`.
+/// Runs both, and returns when both have ended: `first` in a thread of its own, or after `second` where the system makes none, and
+/// `second` in this one. So `second` may not wait for `first`.
 pub fn run_beside<F: Side + Send, G: Side, R: Threads + Wait + Sync>(
     rt: &R,
     first: &mut F,
