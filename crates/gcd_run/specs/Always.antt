@@ -123,12 +123,12 @@ pub record NothingFailed (seen : InputsSeen) (sink : SinkSeen) : Type 0 where
   pub poller_works : ¬ PollerFailed seen.poller
   pub sink_works : ¬ SinkFailed sink
 
--- What has to come. Where the words name no command, the usage line. Where the shelf tells: where a run or a check has to stop,
--- what is told of that stop, and so of `front`, which has to stop also where the script has no intake; where a check is asked for of
--- lawful events, that they are lawful, with their state, and else the first event that is not permitted. Where moreover nothing fails, a
--- check of a text of any kind ends with Drained or
--- JournalRefused. And where a script and its files are told, or the large script is asked for, and nothing fails, the run comes to
--- its end and the status is that of its state, which is not halted; that of `front` too, where the script has an intake.
+-- What has to come. Where the words name no command, the usage line. Where the shelf tells: where a run or a check has to stop, what is
+-- told of that stop, and so of `front`, which has to stop also where the script has no intake; where a check is asked for of lawful events,
+-- that they are lawful, with their state, and else the first event that is not permitted. Where moreover nothing fails, a check of a text
+-- of any kind ends with Drained or JournalRefused. And where a script and its files are told, or the large script is asked for, and nothing
+-- fails, the run comes to its end and the status is that of its state, which is not halted; that of `front` too, where the script has an
+-- intake.
 pub record Always (seen : InputsSeen) (sink : SinkSeen) (words : List Bytes) (result : Ended) : Type 0 where
   pub usage : request_of words ≡ None → Gives sink result usage_end
   pub run_stops : seen.shelf.tells ≡ true → (asked : RunAsked) (stop : Stop) (end : End) → Asks words (run asked)
