@@ -1,5 +1,5 @@
 pub mod CalledFor
-pub mod Callers
+pub mod Senders
 pub mod Giving
 pub mod Heads
 pub mod Hires

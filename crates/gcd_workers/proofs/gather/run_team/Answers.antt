@@ -8,7 +8,7 @@ use Rattle.gcd_outer.specs.Outside.{ClockState, Seen}
 use Rattle.gcd_outer.specs.Tells.{PollerState}
 use Rattle.gcd_workers.specs.CallersRuns.{AcceptsOf}
 use Rattle.gcd_workers.specs.Teams.{HasLed}
-use Rattle.gcd_workers.proofs.Callers.{admitted_after, asks_at_first}
+use Rattle.gcd_workers.proofs.Senders.{admitted_after, asks_at_first}
 use Rattle.gcd_workers.proofs.Hires.{ended_after, gathered_after}
 use Rattle.gcd_workers.proofs.Runs.{team_ran}
 use Rattle.gcd_workers.proofs.Wholes.{some_of}

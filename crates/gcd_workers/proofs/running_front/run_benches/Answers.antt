@@ -4,7 +4,7 @@ use Rattle.gcd_outer.specs.Outside.{ClockState, Seen}
 use Rattle.gcd_outer.specs.Tells.{PollerState}
 use Rattle.gcd_steal.specs.Racks.{IsBenchOf}
 use Rattle.gcd_steal.specs.declared.bench.Rack.{Rack}
-use Rattle.gcd_workers.proofs.Callers.{runs_front}
+use Rattle.gcd_workers.proofs.Senders.{runs_front}
 use Rattle.gcd_workers.proofs.Pools.{limits_along, pool_of}
 use Rattle.gcd_workers.proofs.running_front.run_benches.Goals as goal
 

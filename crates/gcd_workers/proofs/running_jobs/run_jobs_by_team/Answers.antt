@@ -1,5 +1,5 @@
 use Rattle.std.proofs.Common.{length, arith}
-use Rattle.gcd_workers.proofs.Callers.{runs_jobs}
+use Rattle.gcd_workers.proofs.Senders.{runs_jobs}
 use Rattle.gcd_workers.proofs.running_jobs.run_jobs_by_team.Goals as goal
 
 pub returns : goal.returns
