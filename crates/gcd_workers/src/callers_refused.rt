@@ -2,8 +2,7 @@
 use std::error::Error;
 use std::fmt;
 
-/// Why a plan is not run beside callers, or nothing is left of its run. No caller has been called but where memory ran out or a thread
-/// was refused in the midst of the run.
+/// Why a plan is not run beside callers, or nothing is left of its run. But for the last no caller has been called, and no job has run.
 #[derive(Clone, Copy, Debug, PartialEq, Eq)]
 pub enum CallersRefused {
     /// The plan has no intake.
@@ -12,8 +11,8 @@ pub enum CallersRefused {
     WorkerCount,
     /// The number of senders is 0, or greater than `MAX_SENDERS` of `gcd_front`.
     SenderCount,
-    /// Memory ran out: before the run, or in it, and then some jobs have run. Or the system made no thread for a worker for ten seconds,
-    /// while all others waited for it.
+    /// Memory ran out, before the run or in it, or the system made no thread for a worker for ten seconds, while all others waited for it.
+    /// The callers may have been called, and jobs may have run.
     OutOfMemory,
 }
 

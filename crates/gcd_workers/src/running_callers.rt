@@ -91,10 +91,10 @@ fn intake_blocks(plan: &Plan) -> Option<u32>
 /// no work of their own, and give 0 ([`Called`](crate::Called)). It returns when both have ended.
 ///
 /// The mouths are shut when [`Callers::call`] returns, and the run waits for that, unless each block of the intake has a job before. The
-/// front has room for as many jobs as the intake has blocks: so callers that send no more than that in all, which
-/// [`Mouth::sent`] tells of each, are never refused, and each of their jobs is run, if the run does not end early. What they send beyond
-/// that is refused, or accepted and never run. Where the system makes no thread the run comes after the callers, with what lies in the
-/// front then; so callers wait for no value, and give up sending in the end.
+/// front has room for as many jobs as the intake has blocks, so for all that are sent where they are no more than that in all, which
+/// [`Mouth::sent`] tells of each. That a front with room accepts, and that each job is run where the run does not end early, is tested, and
+/// no clause. What is sent beyond that is refused, or accepted and never run. Where the system makes no thread the run comes after the
+/// callers, with what lies in the front then; so callers wait for no value, and give up sending in the end.
 ///
 /// The outside is in memory, as [`run_jobs`](crate::run_jobs) has it: no feed is told of, and time jumps. A caller with feeds, with a
 /// clock, with a limit of events or with work for the plan's own blocks makes a front, and calls [`run_front`](crate::run_front).
@@ -103,8 +103,7 @@ fn intake_blocks(plan: &Plan) -> Option<u32>
 /// [`CallersRefused::WorkerCount`] exactly where else the number of workers is 0 or greater than `MAX_WORKERS`, which is 64,
 /// [`CallersRefused::SenderCount`] exactly where else the number of senders is 0 or greater than `MAX_SENDERS`, which is 64, and
 /// [`CallersRefused::OutOfMemory`] only where memory runs out, or the system makes no thread for a worker on whom all others wait. Each
-/// leaves nothing of a run; but the last may come in the midst of one, and then jobs have run. The callers are called but where a
-/// refusal comes before the run.
+/// leaves nothing of a run. With the last the callers may have been called, and jobs may have run; with the others neither.
 pub fn run_callers<X: Sent + Drop + Send, C: Callers<X>, R: Threads + Wait + Sync>(
     rt: &R,
     alloc: Global,
