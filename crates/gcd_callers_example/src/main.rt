@@ -4,7 +4,7 @@
 //! (`RunsCallers`). Which lines are read, and which text is written, is tested.
 #![tactic(auto)]
 
-ghost use Rattle.std.specs.Prelude.{◌≡◌, string_len};
+ghost use Rattle.std.specs.Prelude.{◌≡◌, Unit, string_len};
 
 use gcd_front::{Front, Mouth, Sent};
 use gcd_workers::{Callers, run_callers};
@@ -32,6 +32,7 @@ impl Sent for Line {
 struct Lines(HostRuntime);
 
 impl Callers<Line> for Lines {
+    ghost called = { λ was is mouths. Unit {0} };
     // Sends each line, until they end, one is not text, or there are too many.
     fn call<R: Wait>(&mut self, rt: &R, front: &Front<Line>, mouths: &mut [Mouth<Line>]) {
         let Some(mouth) = mouths.first_mut() else {

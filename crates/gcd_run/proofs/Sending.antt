@@ -1,13 +1,9 @@
 -- What senders hand in, one by one, and what was taken of it.
 use Rattle.std.proofs.Common.{◌≡◌, ◌+◌, ◌++◌, ℕ, zero, suc, List, [], ◌∷◌, length, map, zero-add, ap, refl, ◌∙◌, ◌<◌, sym, arith}
 use Rattle.std.proofs.lemmas.List.FromFn.{get_or-map-range_with_len, length-map-range_with_len, map-range_with_len_more}
-use mathlib.Core.Option.{some, some-ne-none}
-use lib.ListN.{get_elem?}
-use Rattle.gcd_front.specs.declared.ledger.Account.{Account}
 use Rattle.std.specs.Prelude.{slice_index_or}
 use Rattle.std.specs.List.{range_with_len}
 use Rattle.gcd_front.specs.Fronts.{new_mouths}
-use Rattle.gcd_front.specs.Queue.{HasAccount}
 use Rattle.gcd_front.specs.Views.{FrontView, MouthView, mouth_of}
 use Rattle.gcd_run.specs.Senders.{IsOpen, sender_with, told, told_by}
 use Rattle.gcd_run.specs.declared.front_job.Told.{Told}
@@ -16,16 +12,6 @@ use Rattle.gcd_run.specs.declared.senders.Sender.{Sender}
 -- one job more
 pub told_more : (s k : ℕ) → told_by s (k + 1) ≡ told_by s k ++ told s (k + 1) ∷ []
 told_more s k = map-range_with_len_more (told s) 1 k (k + 1) (omega arith)
-
--- what stands in a list stands in one that goes on
-there_still : {A : Type 0} (xs ys : List A) (i : ℕ) (x : A) → get_elem? xs i ≡ some x → get_elem? (xs ++ ys) i ≡ some x
-there_still [] ys i x at = absurd (some-ne-none x (sym at))
-there_still (y ∷ xs) ys zero x at = at
-there_still (y ∷ xs) ys (suc i) x at = there_still xs ys i x at
-
--- an account that is known stays known
-pub known_still : {S : Type 0} (s : ℕ) (old more : List (Account S)) → HasAccount s old → HasAccount s (old ++ more)
-known_still s old more (i, a, at, is) = (i, a, there_still old more i a at, is)
 
 -- ## Senders that have sent nothing
 

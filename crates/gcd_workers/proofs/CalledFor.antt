@@ -1,5 +1,5 @@
 -- Runs whose work comes from outside, and the intake that they need.
-use Rattle.std.proofs.Common.{◌≡◌, ◌∙◌, ◌<◌, ◌&&◌, ℕ, List, Option, None, Some, length, nat_le, ap, subst, sym, refl, arith}
+use Rattle.std.proofs.Common.{◌≡◌, ◌∙◌, ◌<◌, ◌&&◌, ℕ, List, Option, None, Some, length, nat_le, ap, subst, sym, arith}
 use Rattle.std.specs.Prelude.{IfSome}
 use Rattle.std.proofs.lemmas.Bool.{and_parts, leb-true}
 use Rattle.gcd_plan.specs.Kinds.{is_queue}
@@ -11,7 +11,7 @@ use Rattle.gcd_history.specs.declared.state.State.{State}
 use Rattle.gcd_front.specs.Views.{FrontView, IntakeView as TakenView}
 use Rattle.gcd_outer.specs.Outside.{ClockState, Seen}
 use Rattle.gcd_outer.specs.Tells.{PollerState}
-use Rattle.gcd_workers.specs.CalledRuns.{RunsCallers, called_gives, nothings}
+use Rattle.gcd_workers.specs.CalledRuns.{RunsCalled, called_gives, nothings}
 use Rattle.gcd_workers.specs.CallersRuns.{RunsFront}
 use Rattle.gcd_workers.specs.declared.called.Called.{Called}
 
@@ -27,16 +27,13 @@ some_blocks plan intake valid is =
     let low = leb-true 1 intake.count bounds.0 in
     (λ none. some_is_there intake (is ∙ none), omega (arith, low))
 
--- a run of jobs that do nothing, one for each block, is one whose work comes from callers
-pub runs_callers : {X : Type 0} (sent : X → ℕ → Type 0) (plan : PlanView) (workers n : ℕ) (jobs : List (Called X)) (f : FrontView) (i : TakenView X)
+-- a run of jobs that do nothing, one for each block, is one whose work comes from outside
+pub runs_called : {X : Type 0} (sent : X → ℕ → Type 0) (plan : PlanView) (workers n : ℕ) (jobs : List (Called X)) (f : FrontView) (i : TakenView X)
     (poller : Seen PollerState) (clock : Seen ClockState) (h : List Event) (values : List (Option ℕ)) (state : State) → jobs ≡ nothings n
     → n ≡ length plan.blocks → RunsFront (called_gives sent) sent max_events plan jobs workers f i poller clock h values state
-    → RunsCallers sent plan workers f.senders h values state
-runs_callers {X} sent plan workers n jobs f i poller clock h values state none count ran = record {
-  front = f;
-  intake = i;
+    → RunsCalled sent plan workers f i h values state
+runs_called {X} sent plan workers n jobs f i poller clock h values state none count ran = record {
   poller = poller;
   clock = clock;
-  of_front = refl;
   runs = subst (λ (l : List (Called X)). RunsFront (called_gives sent) sent max_events plan l workers f i poller clock h values state) (none ∙ ap nothings count) ran;
 }

@@ -5,6 +5,7 @@ pub mod Heads
 pub mod Hires
 pub mod Intake
 pub mod Jobs
+pub mod Lefts
 pub mod Places
 pub mod Pools
 pub mod Runs

@@ -4,7 +4,7 @@ ghost use Rattle.std.specs.Thread.{IsSend, IsSync};
 ghost use Rattle.gcd_front.specs.Fronts.{IsIntakeOf};
 ghost use Rattle.gcd_front.specs.Limits.{max_senders};
 ghost use Rattle.gcd_plan.specs.Limits.{max_workers};
-ghost use Rattle.gcd_workers.specs.CalledRuns.{RunsCallers, nothings};
+ghost use Rattle.gcd_workers.specs.CalledRuns.{RunsCalled, nothings};
 
 use crate::beside::Side;
 use crate::called::Called;
@@ -42,7 +42,8 @@ fn run_called<X: Sent + Drop + Send, R: Threads + Wait + Sync>(
     requires few { front.now.senders ≤ max_senders }
     requires intake { IsIntakeOf front.now intake.old }
     requires untaken { intake.old.taken ≡ [] }
-    ensures { IfOk result (λ run. RunsCallers X.gives plan.now workers front.now.senders run.journal.items run.values.items run.state) }
+    ensures intake { IfOk result (λ _. IsIntakeOf front.now intake.new) }
+    ensures ran { IfOk result (λ run. RunsCalled X.gives plan.now workers front.now intake.new run.journal.items run.values.items run.state) }
 {
     let mut poller = silent_poller(alloc, plan)?;
     let jobs = nothings(alloc, plan.blocks())?;
@@ -76,16 +77,19 @@ pub fn run_called_beside<X: Sent + Drop + Send, G: Side, R: Threads + Wait + Syn
     requires intake { IsIntakeOf front.now intake.old }
     requires untaken { intake.old.taken ≡ [] }
     requires other { G.ready other.old }
-    ensures { IfOk result (λ run. RunsCallers X.gives plan.now workers front.now.senders run.journal.items run.values.items run.state) }
+    ensures other { G.ran other.old other.new }
+    ensures intake { IfOk result (λ _. IsIntakeOf front.now intake.new) }
+    ensures ran { IfOk result (λ run. RunsCalled X.gives plan.now workers front.now intake.new run.journal.items run.values.items run.state) }
 {
     let (run, ()) = join_mut(
         rt,
         &mut ||
             requires { IsSync R.row × IsSend X.row × (0 < workers) × (workers ≤ max_workers) × (front.now.senders ≤ max_senders) × IsIntakeOf front.now intake.now × (intake.now.taken ≡ []) }
-            ensures { IfOk result (λ run. RunsCallers X.gives plan.entry.now workers front.entry.now.senders run.journal.items run.values.items run.state) }
+            ensures { IfOk result (λ run. IsIntakeOf front.entry.now intake.exit.now × RunsCalled X.gives plan.entry.now workers front.entry.now intake.exit.now run.journal.items run.values.items run.state) }
         { run_called(rt, alloc, plan, workers, front, intake) },
         &mut ||
             requires { IsSync R.row × G.ready other.now }
+            ensures { G.ran other.entry.now other.exit.now }
         { other.run(rt) },
     );
     run

@@ -58,11 +58,13 @@
 //!
 //! | clause of `run_callers` | says |
 //! |---|---|
-//! | `ran` (`RunsCallers`) | where it is run: there are a front with so many senders and its intake, beside which `RunsFront` holds, with a job that gives 0 for each block of the plan itself. So of each sender the blocks that were accepted ran jobs that were taken of it, in order, each once, and their values are those that these may give |
+//! | `ran` (`RunsCallers`) | where it is run: there are a front with so many senders, its intake, beside which `RunsFront` holds, with a job that gives 0 for each block of the plan itself (`RunsCalled`), and mouths that the callers left as they say, of whose senders the intake took what was sent first. So of each sender the blocks that were accepted ran jobs that were taken of it, in order, each once, and their values are those that these may give |
 //! | `no_intake`, `worker_count`, `sender_count` | it is refused by that name exactly where the plan has no intake; where else the number of workers is 0 or above 64; and where else that of senders is |
 //!
-//! No clause of it ties what was taken to what [`Callers::call`] sent: whose proof needs that holds what is left of each mouth against the
-//! intake (`settle`), beside [`run_front`].
+//! The callers say of themselves what calling comes to (`called` of [`Callers`]): what they were and are, and the mouths as they leave them,
+//! with all that was sent through each. `ran` says that it is so of mouths of which the intake took what it took: the jobs that were taken
+//! of a sender are how those begin that were sent through its mouth, and all of them where the intake knew that each mouth was shut, and
+//! has taken all (`IsTakenOf`), as it has where a Shut stands and not each block of the intake is accepted (`why_shut`).
 //!
 //! A run by worker 0 alone takes memory before its first turn, and where its list has to grow; what is left of it at a refusal
 //! is nothing, and which of the two it was is told ([`RunRefused`]). So with a given clock and poller its journal is exact. A team takes memory before the first turn, after the last, and where

@@ -1,17 +1,17 @@
 // A run whose work comes from callers outside, by one call.
-ghost use Rattle.std.specs.Prelude.{◌≡◌, ◌≢◌, ◌<◌, ◌≤◌, ◌↔◌, [], All, None, IfOk, IsErrOf, MatchOption};
+ghost use Rattle.std.specs.Prelude.{◌≡◌, ◌≢◌, ◌<◌, ◌≤◌, ◌↔◌, [], All, None, IfOk, IsErrOf, MatchOption, length, vec_capacity};
 ghost use Rattle.gcd_front.specs.Fronts.{IsIntakeOf, IsMouthOf, new_mouths};
 ghost use Rattle.gcd_front.specs.Limits.{max_senders};
 ghost use Rattle.gcd_plan.specs.Limits.{max_workers};
-ghost use Rattle.gcd_workers.specs.CalledRuns.{IsNoCrowd, RunsCallers};
+ghost use Rattle.gcd_workers.specs.CalledRuns.{HaveCalled, IsNoCrowd, RunsCalled, RunsCallers};
 ghost use Rattle.gcd_workers.specs.JobsRuns.{IsNoTeam};
 ghost use Rattle.gcd_workers.specs.declared.callers_refused.CallersRefused.{CallersRefused};
 
 use crate::called_run::run_called_beside;
-use crate::callers::{Callers, CallersSide};
+use crate::callers::{Callers, CallersSide, settle_all};
 use crate::callers_refused::CallersRefused;
 use crate::jobs_run::JobsRun;
-use gcd_front::{Front, Intake, MAX_SENDERS, Mouth, Sent};
+use gcd_front::{Front, Intake, Left, MAX_SENDERS, Mouth, Sent};
 use gcd_plan::{MAX_WORKERS, Plan};
 use std::alloc::{AllocError, Global};
 use std::sync::Wait;
@@ -26,6 +26,7 @@ fn run_with_callers<'a, X: Sent + Drop + Send, C: Callers<X>, R: Threads + Wait 
     front: &'a Front<X>,
     intake: &'a mut Intake<X>,
     mouths: &'a mut Vec<Mouth<X>>,
+    lefts: &'a mut Vec<Left<X>>,
     callers: &'a mut C,
 ) -> Result<JobsRun, AllocError>
     requires workers { (0 < workers) × (workers ≤ max_workers) }
@@ -34,11 +35,15 @@ fn run_with_callers<'a, X: Sent + Drop + Send, C: Callers<X>, R: Threads + Wait 
     requires untaken { intake.old.taken ≡ [] }
     requires mouths { All (IsMouthOf front.now) mouths.old.items }
     requires new { mouths.old.items ≡ new_mouths front.now }
-    ensures { IfOk result (λ run. RunsCallers X.gives plan.now workers front.now.senders run.journal.items run.values.items run.state) }
+    requires lefts { (lefts.old.items ≡ []) × (length mouths.old.items ≤ vec_capacity lefts.old) }
+    ensures intake { IfOk result (λ _. IsIntakeOf front.now intake.new) }
+    ensures ran { IfOk result (λ run. RunsCalled X.gives plan.now workers front.now intake.new run.journal.items run.values.items run.state) }
+    ensures called { HaveCalled (C.called callers.old callers.new) front.now lefts.new.items }
 {
     let mut calling = CallersSide {
         front,
         mouths,
+        lefts,
         callers,
     };
     run_called_beside(rt, alloc, plan, workers, front, intake, &mut calling)
@@ -57,10 +62,11 @@ fn run_by_callers<X: Sent + Drop + Send, C: Callers<X>, R: Threads + Wait + Sync
     requires workers { (0 < workers) × (workers ≤ max_workers) }
     requires senders { senders ≤ max_senders }
     requires blocks { 0 < blocks }
-    ensures { IfOk result (λ run. RunsCallers X.gives plan.now workers senders run.journal.items run.values.items run.state) }
+    ensures { IfOk result (λ run. RunsCallers X.gives (C.called callers.old callers.new) plan.now workers senders run.journal.items run.values.items run.state) }
 {
+    let mut lefts = Vec::with_capacity(alloc, senders as usize)?;
     let (front, mut mouths, mut intake) = Front::<X>::new(alloc, blocks, senders)?;
-    run_with_callers(
+    let run = run_with_callers(
         rt,
         alloc,
         plan,
@@ -68,8 +74,11 @@ fn run_by_callers<X: Sent + Drop + Send, C: Callers<X>, R: Threads + Wait + Sync
         &front,
         &mut intake,
         &mut mouths,
+        &mut lefts,
         callers,
-    )
+    )?;
+    settle_all(&front, &mut intake, lefts.as_mut_slice());
+    Ok(run)
 }
 
 // How many blocks the plan's intake has.
@@ -92,8 +101,8 @@ fn intake_blocks(plan: &Plan) -> Option<u32>
 ///
 /// The mouths are shut when [`Callers::call`] returns, and the run waits for that, unless each block of the intake has a job before. The
 /// front has room for as many jobs as the intake has blocks, so for all that are sent where they are no more than that in all, which
-/// [`Mouth::sent`] tells of each. That a front with room accepts, and that each job is run where the run does not end early, is tested, and
-/// no clause. What is sent beyond that is refused, or accepted and never run. Where the system makes no thread the run comes after the
+/// [`Mouth::sent`] tells of each. What the callers say of what they sent holds of what was taken (`ran`). That a front with room accepts,
+/// and that each job is run where the run does not end early, is tested, and no clause. What is sent beyond that is refused, or accepted and never run. Where the system makes no thread the run comes after the
 /// callers, with what lies in the front then; so callers wait for no value, and give up sending in the end.
 ///
 /// The outside is in memory, as [`run_jobs`](crate::run_jobs) has it: no feed is told of, and time jumps. A caller with feeds, with a
@@ -115,7 +124,7 @@ pub fn run_callers<X: Sent + Drop + Send, C: Callers<X>, R: Threads + Wait + Syn
     ensures no_intake { IsErrOf result CallersRefused.NoIntake ↔ (plan.now.intake ≡ None) }
     ensures worker_count { IsErrOf result CallersRefused.WorkerCount ↔ ((plan.now.intake ≢ None) × IsNoTeam workers) }
     ensures sender_count { IsErrOf result CallersRefused.SenderCount ↔ ((plan.now.intake ≢ None) × (0 < workers) × (workers ≤ max_workers) × IsNoCrowd senders) }
-    ensures ran { IfOk result (λ run. RunsCallers X.gives plan.now workers senders run.journal.items run.values.items run.state) }
+    ensures ran { IfOk result (λ run. RunsCallers X.gives (C.called callers.old callers.new) plan.now workers senders run.journal.items run.values.items run.state) }
 {
     let Some(blocks) = intake_blocks(plan) else {
         return Err(CallersRefused::NoIntake);

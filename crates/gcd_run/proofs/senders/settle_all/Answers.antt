@@ -8,7 +8,7 @@ use Rattle.gcd_front.specs.Views.{IntakeView, LeftView, left_of, mouth_of, with_
 use Rattle.gcd_run.specs.Senders.{IsTakenOf, told_by}
 use Rattle.gcd_run.specs.declared.front_job.Told.{Told}
 use Rattle.gcd_run.specs.declared.senders.Sender.{Sender}
-use Rattle.gcd_run.proofs.Sending.{known_still}
+use Rattle.gcd_workers.proofs.Lefts.{known_still}
 use Rattle.gcd_run.proofs.senders.settle_all.Goals as goal
 
 pub loop-place-preserved : goal.loop-place-preserved

@@ -56,6 +56,8 @@ fn send_by_each<R: Threads + Wait + Sync>(
 }
 
 impl Callers<Told> for Counting {
+    ghost called = { λ was is mouths. is ≡ was };
+
     fn call<R: Threads + Wait + Sync>(
         &mut self,
         rt: &R,
