@@ -1,7 +1,6 @@
-//! Callers from outside: this thread, which is no worker, hands the lines of the standard input to a queue while four workers run it
-//! (`run_callers` of `gcd_workers`; dispatch_async(3)). The number of bytes of each line is written, in the order of the lines.
-//! Proved is that a job gives the number of its bytes, and that the values are those of the jobs that were taken, in order
-//! (`RunsCallers`). Which lines are read, and which text is written, is tested.
+//! Callers from outside: this thread, which is no worker, hands the lines of standard input to a queue that four workers run
+//! (`run_callers` of `gcd_workers`; dispatch_async(3)), and writes the number of bytes of each, in their order. Proved: a job gives the
+//! number of its bytes, and the values are those of the jobs taken, in order. Which lines are read, and what is written, is tested.
 #![tactic(auto)]
 
 ghost use Rattle.std.specs.Prelude.{◌≡◌, Unit, string_len};
