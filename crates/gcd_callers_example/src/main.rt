@@ -3,7 +3,7 @@
 //! number of its bytes, and the values are those of the jobs taken, in order. Which lines are read, and what is written, is tested.
 #![tactic(auto)]
 
-ghost use Rattle.std.specs.Prelude.{◌≡◌, Unit, string_len};
+ghost use Rattle.std.specs.Prelude.{◌≡◌, string_len};
 
 use gcd_front::{Front, Mouth, Sent};
 use gcd_workers::{Callers, run_callers};
