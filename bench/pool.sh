@@ -60,7 +60,7 @@ together() {
     rm "$folder"/at_once.*
 }
 
-for _ in 1 2 3 4 5; do
+for _ in 1 2 3 4 5 6 7 8 9; do
     once "$bench" large alone
     once "$bench" large hand
     for team in 2 4 64; do once "$bench" large "$team"; done
