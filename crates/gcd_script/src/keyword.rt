@@ -1,5 +1,5 @@
 // The first words of lines.
-ghost use Rattle.std.specs.Prelude.{◌≡◌, Some, IfSome};
+ghost use Rattle.std.specs.Prelude.{◌≡◌, Some, IfSome, map};
 ghost use Rattle.gcd_script.specs.Keywords.{pick, declarations, acts, object_acts, keyword_of};
 
 /// What kind of line a first word begins.
@@ -158,103 +158,90 @@ fn known(word: &str, spelled: &str, keyword: Keyword) -> Option<Keyword>
     if word == spelled { Some(keyword) } else { None }
 }
 
+// What the table has beside the word; None where no row is of the word.
+fn pick<T: Copy>(rows: &[(&str, T)], word: &str) -> Option<T>
+    ensures { result ≡ pick (map (λ row. (row.0.now, row.1)) rows.now) word.now }
+{
+    for (spelled, value) in rows {
+        if word == *spelled {
+            return Some(*value);
+        }
+    }
+    None
+}
+
+// The first words of declarations.
+static DECLARATIONS: [(&str, Keyword); 12] = [
+    ("file", Keyword::File),
+    ("queue", Keyword::Queue),
+    ("group", Keyword::Group),
+    ("semaphore", Keyword::Semaphore),
+    ("source", Keyword::Source),
+    ("cancelled", Keyword::Cancelled),
+    ("until", Keyword::Until),
+    ("block", Keyword::Block),
+    ("handler", Keyword::Handler),
+    ("main", Keyword::Main),
+    ("intake", Keyword::Intake),
+    ("strip", Keyword::Strip),
+];
+
 // The same of declarations.
 fn declaration(word: &str) -> Option<Keyword>
     ensures { result ≡ pick declarations word.now }
 {
-    if word == "file" {
-        Some(Keyword::File)
-    } else if word == "queue" {
-        Some(Keyword::Queue)
-    } else if word == "group" {
-        Some(Keyword::Group)
-    } else if word == "semaphore" {
-        Some(Keyword::Semaphore)
-    } else if word == "source" {
-        Some(Keyword::Source)
-    } else if word == "cancelled" {
-        Some(Keyword::Cancelled)
-    } else if word == "until" {
-        Some(Keyword::Until)
-    } else if word == "block" {
-        Some(Keyword::Block)
-    } else if word == "handler" {
-        Some(Keyword::Handler)
-    } else if word == "main" {
-        Some(Keyword::Main)
-    } else if word == "intake" {
-        Some(Keyword::Intake)
-    } else if word == "strip" {
-        Some(Keyword::Strip)
-    } else {
-        None
-    }
+    pick(&DECLARATIONS, word)
 }
+
+// The first words of acts on more than one thing.
+static ACTS: [(&str, Keyword); 14] = [
+    ("async", Keyword::Submit(Submission::Async)),
+    ("barrier", Keyword::Submit(Submission::Barrier)),
+    ("sync", Keyword::Submit(Submission::Sync)),
+    ("barrier_sync", Keyword::Submit(Submission::BarrierSync)),
+    (
+        "group_async",
+        Keyword::GroupSubmit(GroupSubmission::GroupAsync),
+    ),
+    ("notify", Keyword::GroupSubmit(GroupSubmission::Notify)),
+    ("wait_for", Keyword::Limited(LimitedWait::WaitFor)),
+    (
+        "group_wait_for",
+        Keyword::Limited(LimitedWait::GroupWaitFor),
+    ),
+    ("target", Keyword::Target),
+    ("merge", Keyword::Merge),
+    ("apply", Keyword::Apply),
+    ("cancel_block", Keyword::OneBlock(BlockAct::CancelBlock)),
+    ("wait_block", Keyword::OneBlock(BlockAct::WaitBlock)),
+    ("notify_block", Keyword::NotifyBlock),
+];
 
 // The same of acts on more than one thing.
 fn act(word: &str) -> Option<Keyword>
     ensures { result ≡ pick acts word.now }
 {
-    if word == "async" {
-        Some(Keyword::Submit(Submission::Async))
-    } else if word == "barrier" {
-        Some(Keyword::Submit(Submission::Barrier))
-    } else if word == "sync" {
-        Some(Keyword::Submit(Submission::Sync))
-    } else if word == "barrier_sync" {
-        Some(Keyword::Submit(Submission::BarrierSync))
-    } else if word == "group_async" {
-        Some(Keyword::GroupSubmit(GroupSubmission::GroupAsync))
-    } else if word == "notify" {
-        Some(Keyword::GroupSubmit(GroupSubmission::Notify))
-    } else if word == "wait_for" {
-        Some(Keyword::Limited(LimitedWait::WaitFor))
-    } else if word == "group_wait_for" {
-        Some(Keyword::Limited(LimitedWait::GroupWaitFor))
-    } else if word == "target" {
-        Some(Keyword::Target)
-    } else if word == "merge" {
-        Some(Keyword::Merge)
-    } else if word == "apply" {
-        Some(Keyword::Apply)
-    } else if word == "cancel_block" {
-        Some(Keyword::OneBlock(BlockAct::CancelBlock))
-    } else if word == "wait_block" {
-        Some(Keyword::OneBlock(BlockAct::WaitBlock))
-    } else if word == "notify_block" {
-        Some(Keyword::NotifyBlock)
-    } else {
-        None
-    }
+    pick(&ACTS, word)
 }
+
+// The first words of acts on one object.
+static OBJECT_ACTS: [(&str, ObjectAct); 11] = [
+    ("enter", ObjectAct::Enter),
+    ("leave", ObjectAct::Leave),
+    ("group_wait", ObjectAct::GroupWait),
+    ("signal", ObjectAct::Signal),
+    ("wait", ObjectAct::Wait),
+    ("suspend", ObjectAct::Suspend),
+    ("resume", ObjectAct::Resume),
+    ("activate", ObjectAct::Activate),
+    ("cancel", ObjectAct::Cancel),
+    ("retain", ObjectAct::Retain),
+    ("release", ObjectAct::Release),
+];
 
 // The same of acts on one object.
 fn object_act(word: &str) -> Option<ObjectAct>
     ensures { result ≡ pick object_acts word.now }
 {
-    if word == "enter" {
-        Some(ObjectAct::Enter)
-    } else if word == "leave" {
-        Some(ObjectAct::Leave)
-    } else if word == "group_wait" {
-        Some(ObjectAct::GroupWait)
-    } else if word == "signal" {
-        Some(ObjectAct::Signal)
-    } else if word == "wait" {
-        Some(ObjectAct::Wait)
-    } else if word == "suspend" {
-        Some(ObjectAct::Suspend)
-    } else if word == "resume" {
-        Some(ObjectAct::Resume)
-    } else if word == "activate" {
-        Some(ObjectAct::Activate)
-    } else if word == "cancel" {
-        Some(ObjectAct::Cancel)
-    } else if word == "retain" {
-        Some(ObjectAct::Retain)
-    } else if word == "release" {
-        Some(ObjectAct::Release)
-    } else {
-        None
-    }
+    pick(&OBJECT_ACTS, word)
 }
