@@ -1,9 +1,10 @@
 // What a line does.
+ghost use Rattle.std.specs.Prelude.{◌≡◌, ⊤};
 
 use gcd_plan::{Act, Blk, How, Kind, Obj, Run, Work};
+use std::alloc::AllocError;
 
 /// What a line of one of the forms does, with what its words mean. New names and paths are texts `N`.
-#[derive(Clone, Copy)]
 pub enum Line<N> {
     /// `file F PATH`: the file is loaded whole under the path.
     DeclareFile {
@@ -51,3 +52,15 @@ pub enum Line<N> {
     /// An act of that body.
     AddAct(Run, Act),
 }
+
+impl<N: Copy> Clone for Line<N> {
+    ghost is_clone = { λ x y. y ≡ x };
+
+    ghost is_infallible = { λ _. ⊤ };
+
+    fn clone(&self) -> Result<Line<N>, AllocError> {
+        Ok(*self)
+    }
+}
+
+impl<N: Copy> Copy for Line<N> {}
