@@ -1,11 +1,12 @@
 // What the lines that declare something mean, by the words after the first.
-ghost use Rattle.std.specs.Prelude.{◌≡◌, ◌-◌, [], ◌∷◌, is_none, map};
+ghost use Rattle.std.specs.Prelude.{◌≡◌, ◌-◌, ◌&&◌, [], ◌∷◌, Ok, codes, false, is_none, map};
 ghost use Rattle.gcd_plan.specs.Limits.{max_blocks, max_file_bytes, max_time, max_value};
 ghost use Rattle.gcd_plan.specs.PlanView.{view_of};
 ghost use Rattle.gcd_plan.specs.declared.kind.Kind.TheVariants.{Semaphore, Timer, Read};
-ghost use Rattle.gcd_script.specs.Declarations.{one_of, root};
-ghost use Rattle.gcd_script.specs.Keywords.{counts};
-ghost use Rattle.gcd_script.specs.Meant.{meant, both};
+ghost use Rattle.std.specs.Str.{bytes_eq};
+ghost use Rattle.gcd_script.specs.Declarations.{one_of, root, work, counting};
+ghost use Rattle.gcd_script.specs.Keywords.{counts, queue_kinds};
+ghost use Rattle.gcd_script.specs.Meant.{meant, both, given};
 ghost use Rattle.gcd_script.specs.Words.{file, path, number, queue};
 
 use crate::draft::Draft;
@@ -15,7 +16,7 @@ use crate::names::Asked;
 use crate::refusal::Refusal;
 use crate::words::{count, counting, merge_kind, number, path, queue_kind, range, work};
 use gcd_plan::{
-    How, Kind, MAX_BLOCKS, MAX_FILE_BYTES, MAX_INTAKE, MAX_TIME, MAX_VALUE, Obj, WHOLE_FILE, Work,
+    How, Kind, MAX_BLOCKS, MAX_FILE_BYTES, MAX_INTAKE, MAX_TIME, MAX_VALUE, Obj, WHOLE_FILE,
 };
 
 const ROOT: Obj = Obj(0);
@@ -71,32 +72,77 @@ impl<'a> Draft<'a> {
         ensures { meant line_view result ≡ queue_line (view_of self.now.parts) (map (λ w. w.now) words.now) }
     {
         match *words {
-            [name, kind] => self.object_line(name, both(queue_kind(kind), Ok(ROOT)), true, ""),
-            [name, kind, inactive] => {
-                if inactive != "inactive" {
-                    return Err(Refusal::NoForm);
-                }
-                self.object_line(name, both(queue_kind(kind), Ok(ROOT)), false, "")
-            }
-            [name, kind, on, target] => {
-                if on != "on" {
-                    return Err(Refusal::NoForm);
-                }
-                let target = self.object(Asked::Queue, target);
-                self.object_line(name, both(queue_kind(kind), target), true, "")
-            }
+            [name, kind] => self.rooted_queue(name, kind, true),
+            [name, kind, inactive] => self.inactive_queue(name, kind, inactive),
+            [name, kind, on, target] => self.queue_on(name, kind, on, target),
             [name, kind, on, target, inactive] => {
-                if on != "on" {
-                    return Err(Refusal::NoForm);
-                }
-                if inactive != "inactive" {
-                    return Err(Refusal::NoForm);
-                }
-                let target = self.object(Asked::Queue, target);
-                self.object_line(name, both(queue_kind(kind), target), false, "")
+                self.inactive_queue_on(name, kind, on, target, inactive)
             }
             _ => Err(Refusal::NoForm),
         }
+    }
+
+    // A queue with a new name, on `root`.
+    fn rooted_queue(&self, name: &'a str, kind: &str, active: bool) -> Meant<Line<&'a str>>
+        requires { DraftAgrees self.now }
+        ensures { meant line_view result ≡ object_line (view_of self.now.parts) name.now (both (one_of queue_kinds kind.now) (Ok root)) active [] }
+    {
+        self.object_line(name, both(queue_kind(kind), Ok(ROOT)), active, "")
+    }
+
+    // A queue with a new name, on this target.
+    fn targeted_queue(
+        &self,
+        name: &'a str,
+        kind: &str,
+        target: &str,
+        active: bool,
+    ) -> Meant<Line<&'a str>>
+        requires { DraftAgrees self.now }
+        ensures { meant line_view result ≡ object_line (view_of self.now.parts) name.now (both (one_of queue_kinds kind.now) (queue (view_of self.now.parts) target.now)) active [] }
+    {
+        let target = self.object(Asked::Queue, target);
+        self.object_line(name, both(queue_kind(kind), target), active, "")
+    }
+
+    fn inactive_queue(&self, name: &'a str, kind: &str, inactive: &str) -> Meant<Line<&'a str>>
+        requires { DraftAgrees self.now }
+        ensures { meant line_view result ≡ queue_line (view_of self.now.parts) (name.now ∷ kind.now ∷ inactive.now ∷ []) }
+    {
+        if inactive != "inactive" {
+            return Err(Refusal::NoForm);
+        }
+        self.rooted_queue(name, kind, false)
+    }
+
+    fn queue_on(&self, name: &'a str, kind: &str, on: &str, target: &str) -> Meant<Line<&'a str>>
+        requires { DraftAgrees self.now }
+        ensures { meant line_view result ≡ queue_line (view_of self.now.parts) (name.now ∷ kind.now ∷ on.now ∷ target.now ∷ []) }
+    {
+        if on != "on" {
+            return Err(Refusal::NoForm);
+        }
+        self.targeted_queue(name, kind, target, true)
+    }
+
+    fn inactive_queue_on(
+        &self,
+        name: &'a str,
+        kind: &str,
+        on: &str,
+        target: &str,
+        inactive: &str,
+    ) -> Meant<Line<&'a str>>
+        requires { DraftAgrees self.now }
+        ensures { meant line_view result ≡ queue_line (view_of self.now.parts) (name.now ∷ kind.now ∷ on.now ∷ target.now ∷ inactive.now ∷ []) }
+    {
+        if on != "on" {
+            return Err(Refusal::NoForm);
+        }
+        if inactive != "inactive" {
+            return Err(Refusal::NoForm);
+        }
+        self.targeted_queue(name, kind, target, false)
     }
 
     /// `group G` (dispatch_group_create(3)).
@@ -128,34 +174,72 @@ impl<'a> Draft<'a> {
         ensures { meant line_view result ≡ source_line (view_of self.now.parts) (map (λ w. w.now) words.now) }
     {
         match *words {
-            [name, kind, on, target] => {
-                if on != "on" {
-                    return Err(Refusal::NoForm);
-                }
-                let target = self.object(Asked::Queue, target);
-                self.object_line(name, both(merge_kind(kind), target), false, "")
-            }
-            [name, read, feed, on, target] => {
-                if read != "read" {
-                    return Err(Refusal::NoForm);
-                }
-                if on != "on" {
-                    return Err(Refusal::NoForm);
-                }
-                self.object_line(name, self.read_kind(feed, target), false, feed)
-            }
+            [name, kind, on, target] => self.merge_source(name, kind, on, target),
+            [name, read, feed, on, target] => self.read_source(name, read, feed, on, target),
             [name, timer, start, every, on, target] => {
-                if timer != "timer" {
-                    return Err(Refusal::NoForm);
-                }
-                if on != "on" {
-                    return Err(Refusal::NoForm);
-                }
-                let target = self.object(Asked::Queue, target);
-                self.object_line(name, both(timer_kind(start, every), target), false, "")
+                self.timer_source(name, timer, timer_kind(start, every), on, target)
             }
             _ => Err(Refusal::NoForm),
         }
+    }
+
+    fn merge_source(
+        &self,
+        name: &'a str,
+        kind: &str,
+        on: &str,
+        target: &str,
+    ) -> Meant<Line<&'a str>>
+        requires { DraftAgrees self.now }
+        ensures { meant line_view result ≡ source_line (view_of self.now.parts) (name.now ∷ kind.now ∷ on.now ∷ target.now ∷ []) }
+    {
+        if on != "on" {
+            return Err(Refusal::NoForm);
+        }
+        let target = self.object(Asked::Queue, target);
+        self.object_line(name, both(merge_kind(kind), target), false, "")
+    }
+
+    fn read_source(
+        &self,
+        name: &'a str,
+        read: &str,
+        feed: &'a str,
+        on: &str,
+        target: &str,
+    ) -> Meant<Line<&'a str>>
+        requires { DraftAgrees self.now }
+        ensures { meant line_view result ≡ source_line (view_of self.now.parts) (name.now ∷ read.now ∷ feed.now ∷ on.now ∷ target.now ∷ []) }
+    {
+        if read != "read" {
+            return Err(Refusal::NoForm);
+        }
+        if on != "on" {
+            return Err(Refusal::NoForm);
+        }
+        self.object_line(name, self.read_kind(feed, target), false, feed)
+    }
+
+    fn timer_source(
+        &self,
+        name: &'a str,
+        timer: &str,
+        kind: Meant<Kind>,
+        on: &str,
+        target: &str,
+    ) -> Meant<Line<&'a str>>
+        requires { DraftAgrees self.now }
+        ensures { meant line_view result ≡ given (bytes_eq timer.now (codes "timer") && bytes_eq on.now (codes "on"))
+            (object_line (view_of self.now.parts) name.now (both kind (queue (view_of self.now.parts) target.now)) false []) }
+    {
+        if timer != "timer" {
+            return Err(Refusal::NoForm);
+        }
+        if on != "on" {
+            return Err(Refusal::NoForm);
+        }
+        let target = self.object(Asked::Queue, target);
+        self.object_line(name, both(kind, target), false, "")
     }
 
     // A read source of this feed on this target.
@@ -196,16 +280,50 @@ impl<'a> Draft<'a> {
         }
     }
 
-    // A block with a new name and a work.
-    fn work_line(&self, name: &'a str, work: Meant<Work>) -> Meant<Line<&'a str>>
+    fn plain_block(&self, name: &'a str) -> Meant<Line<&'a str>>
         requires { DraftAgrees self.now }
-        ensures { meant line_view result ≡ work_line (view_of self.now.parts) name.now work }
+        ensures { meant line_view result ≡ block_line (view_of self.now.parts) (name.now ∷ []) }
     {
+        self.new_name(name)?;
+        Ok(Line::DeclareBlock { name, work: None })
+    }
+
+    // A block with a new name and a work over this part of the file.
+    fn work_line(
+        &self,
+        name: &'a str,
+        how: Meant<How>,
+        from: &str,
+        part: Meant<(u32, u32)>,
+    ) -> Meant<Line<&'a str>>
+        requires { DraftAgrees self.now }
+        ensures { meant line_view result ≡ work_line (view_of self.now.parts) name.now (work how (file (view_of self.now.parts) from.now) part) }
+    {
+        let work = work(how, self.file(from), part);
         let ((), work) = both(self.new_name(name), work)?;
         Ok(Line::DeclareBlock {
             name,
             work: Some(work),
         })
+    }
+
+    // The same of a block whose work counts the bytes of a value.
+    fn counting_line(
+        &self,
+        name: &'a str,
+        count: &str,
+        value: &str,
+        from: &str,
+        part: Meant<(u32, u32)>,
+    ) -> Meant<Line<&'a str>>
+        requires { DraftAgrees self.now }
+        ensures { meant line_view result ≡ given (bytes_eq count.now (codes "count"))
+            (work_line (view_of self.now.parts) name.now (work (counting value.now) (file (view_of self.now.parts) from.now) part)) }
+    {
+        if count != "count" {
+            return Err(Refusal::NoForm);
+        }
+        self.work_line(name, counting(value), from, part)
     }
 
     /// `block B`, `block B W F`, `block B count V F`, `block B W F FROM LEN`, `block B count V F FROM LEN`.
@@ -214,33 +332,20 @@ impl<'a> Draft<'a> {
         ensures { meant line_view result ≡ block_line (view_of self.now.parts) (map (λ w. w.now) words.now) }
     {
         match *words {
-            [name] => {
-                self.new_name(name)?;
-                Ok(Line::DeclareBlock { name, work: None })
-            }
-            [name, how, file] => {
-                self.work_line(name, work(count(how), self.file(file), Ok((0, WHOLE_FILE))))
-            }
-            [name, count, value, file] => {
-                if count != "count" {
-                    return Err(Refusal::NoForm);
-                }
-                self.work_line(
-                    name,
-                    work(counting(value), self.file(file), Ok((0, WHOLE_FILE))),
-                )
-            }
+            [name] => self.plain_block(name),
+            [name, how, file] => self.work_line(name, count(how), file, Ok((0, WHOLE_FILE))),
+            [name, count, value, file] => self.counting_line(
+                name,
+                count,
+                value,
+                file,
+                Ok((0, WHOLE_FILE)),
+            ),
             [name, how, file, from, len] => {
-                self.work_line(name, work(count(how), self.file(file), range(from, len)))
+                self.work_line(name, count(how), file, range(from, len))
             }
             [name, count, value, file, from, len] => {
-                if count != "count" {
-                    return Err(Refusal::NoForm);
-                }
-                self.work_line(
-                    name,
-                    work(counting(value), self.file(file), range(from, len)),
-                )
+                self.counting_line(name, count, value, file, range(from, len))
             }
             _ => Err(Refusal::NoForm),
         }

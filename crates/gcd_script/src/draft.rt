@@ -3,9 +3,9 @@ ghost use Rattle.std.specs.Prelude.{◌≡◌, ◌<◌, IfOk};
 ghost use Rattle.gcd_plan.specs.PlanView.{view_of};
 ghost use Rattle.gcd_script.specs.Drafts.{empty_draft};
 
-use crate::additions::declare;
+use crate::additions::{declare, push_block, push_object};
 use crate::meaning::Meaning;
-use gcd_plan::{BlkPart, DEFAULT_UNTIL, Kind, Obj, ObjPart, Parts, Run};
+use gcd_plan::{DEFAULT_UNTIL, Kind, Obj, Parts, Run};
 use std::alloc::{AllocError, Global};
 use std::collections::HashMap;
 
@@ -64,12 +64,23 @@ impl<'a> Draft<'a> {
 fn first_parts(alloc: Global) -> Result<Parts, AllocError>
     ensures { IfOk result (λ parts. view_of parts ≡ empty_draft.plan) }
 {
-    Ok(Parts {
-        objects: vec![in alloc; ObjPart::new(alloc, "root", Kind::Concurrent)?]?,
-        blocks: vec![in alloc; BlkPart::new(alloc, "main")?]?,
+    let mut parts = Parts {
+        objects: Vec::new(alloc),
+        blocks: Vec::new(alloc),
         files: Vec::new(alloc),
         until: DEFAULT_UNTIL,
         intake: None,
         strips: Vec::new(alloc),
-    })
+    };
+    push_object(
+        alloc,
+        &mut parts,
+        "root",
+        Kind::Concurrent,
+        Obj(0),
+        true,
+        "",
+    )?;
+    push_block(alloc, &mut parts, "main", None)?;
+    Ok(parts)
 }
