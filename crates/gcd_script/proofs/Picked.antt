@@ -1,5 +1,5 @@
 -- A table that is read row by row.
-use Rattle.std.proofs.Common.{ℕ, ◌≡◌, ◌<◌, ◌+◌, Bool, true, false, List, ◌∷◌, Bor, Option, Some, if◌then◌else◌, map, length, get_or, drop, sym, ap, ◌∙◌}
+use Rattle.std.proofs.Common.{ℕ, ◌≡◌, ◌<◌, ◌+◌, Bool, List, ◌∷◌, Bor, Option, Some, if◌then◌else◌, map, length, get_or, drop, sym, ap, ◌∙◌}
 use Rattle.std.specs.Str.{bytes_eq}
 use Rattle.std.proofs.lemmas.List.{at_drop_more}
 use Rattle.gcd_script.specs.Keywords.{pick}

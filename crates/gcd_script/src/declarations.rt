@@ -1,11 +1,11 @@
 // What the lines that declare something mean, by the words after the first.
-ghost use Rattle.std.specs.Prelude.{◌≡◌, ◌-◌, ◌&&◌, [], ◌∷◌, Ok, codes, false, is_none, map};
+ghost use Rattle.std.specs.Prelude.{◌≡◌, ◌-◌, ◌&&◌, [], ◌∷◌, codes, false, is_none, map};
 ghost use Rattle.gcd_plan.specs.Limits.{max_blocks, max_file_bytes, max_time, max_value};
 ghost use Rattle.gcd_plan.specs.PlanView.{view_of};
 ghost use Rattle.gcd_plan.specs.declared.kind.Kind.TheVariants.{Semaphore, Timer, Read};
 ghost use Rattle.std.specs.Str.{bytes_eq};
 ghost use Rattle.gcd_script.specs.Declarations.{one_of, root, work, counting};
-ghost use Rattle.gcd_script.specs.Keywords.{counts, queue_kinds};
+ghost use Rattle.gcd_script.specs.Keywords.{counts};
 ghost use Rattle.gcd_script.specs.Meant.{meant, both, given};
 ghost use Rattle.gcd_script.specs.Words.{file, path, number, queue};
 
@@ -72,77 +72,32 @@ impl<'a> Draft<'a> {
         ensures { meant line_view result ≡ queue_line (view_of self.now.parts) (map (λ w. w.now) words.now) }
     {
         match *words {
-            [name, kind] => self.rooted_queue(name, kind, true),
-            [name, kind, inactive] => self.inactive_queue(name, kind, inactive),
-            [name, kind, on, target] => self.queue_on(name, kind, on, target),
+            [name, kind] => self.object_line(name, both(queue_kind(kind), Ok(ROOT)), true, ""),
+            [name, kind, inactive] => {
+                if inactive != "inactive" {
+                    return Err(Refusal::NoForm);
+                }
+                self.object_line(name, both(queue_kind(kind), Ok(ROOT)), false, "")
+            }
+            [name, kind, on, target] => {
+                if on != "on" {
+                    return Err(Refusal::NoForm);
+                }
+                let target = self.object(Asked::Queue, target);
+                self.object_line(name, both(queue_kind(kind), target), true, "")
+            }
             [name, kind, on, target, inactive] => {
-                self.inactive_queue_on(name, kind, on, target, inactive)
+                if on != "on" {
+                    return Err(Refusal::NoForm);
+                }
+                if inactive != "inactive" {
+                    return Err(Refusal::NoForm);
+                }
+                let target = self.object(Asked::Queue, target);
+                self.object_line(name, both(queue_kind(kind), target), false, "")
             }
             _ => Err(Refusal::NoForm),
         }
-    }
-
-    // A queue with a new name, on `root`.
-    fn rooted_queue(&self, name: &'a str, kind: &str, active: bool) -> Meant<Line<&'a str>>
-        requires { DraftAgrees self.now }
-        ensures { meant line_view result ≡ object_line (view_of self.now.parts) name.now (both (one_of queue_kinds kind.now) (Ok root)) active [] }
-    {
-        self.object_line(name, both(queue_kind(kind), Ok(ROOT)), active, "")
-    }
-
-    // A queue with a new name, on this target.
-    fn targeted_queue(
-        &self,
-        name: &'a str,
-        kind: &str,
-        target: &str,
-        active: bool,
-    ) -> Meant<Line<&'a str>>
-        requires { DraftAgrees self.now }
-        ensures { meant line_view result ≡ object_line (view_of self.now.parts) name.now (both (one_of queue_kinds kind.now) (queue (view_of self.now.parts) target.now)) active [] }
-    {
-        let target = self.object(Asked::Queue, target);
-        self.object_line(name, both(queue_kind(kind), target), active, "")
-    }
-
-    fn inactive_queue(&self, name: &'a str, kind: &str, inactive: &str) -> Meant<Line<&'a str>>
-        requires { DraftAgrees self.now }
-        ensures { meant line_view result ≡ queue_line (view_of self.now.parts) (name.now ∷ kind.now ∷ inactive.now ∷ []) }
-    {
-        if inactive != "inactive" {
-            return Err(Refusal::NoForm);
-        }
-        self.rooted_queue(name, kind, false)
-    }
-
-    fn queue_on(&self, name: &'a str, kind: &str, on: &str, target: &str) -> Meant<Line<&'a str>>
-        requires { DraftAgrees self.now }
-        ensures { meant line_view result ≡ queue_line (view_of self.now.parts) (name.now ∷ kind.now ∷ on.now ∷ target.now ∷ []) }
-    {
-        if on != "on" {
-            return Err(Refusal::NoForm);
-        }
-        self.targeted_queue(name, kind, target, true)
-    }
-
-    fn inactive_queue_on(
-        &self,
-        name: &'a str,
-        kind: &str,
-        on: &str,
-        target: &str,
-        inactive: &str,
-    ) -> Meant<Line<&'a str>>
-        requires { DraftAgrees self.now }
-        ensures { meant line_view result ≡ queue_line (view_of self.now.parts) (name.now ∷ kind.now ∷ on.now ∷ target.now ∷ inactive.now ∷ []) }
-    {
-        if on != "on" {
-            return Err(Refusal::NoForm);
-        }
-        if inactive != "inactive" {
-            return Err(Refusal::NoForm);
-        }
-        self.targeted_queue(name, kind, target, false)
     }
 
     /// `group G` (dispatch_group_create(3)).

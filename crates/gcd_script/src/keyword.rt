@@ -186,7 +186,7 @@ static DECLARATIONS: [(&str, Keyword); 12] = [
     ("strip", Keyword::Strip),
 ];
 
-// The same of declarations.
+// What kind of declaration the word begins; None exactly where it begins none.
 fn declaration(word: &str) -> Option<Keyword>
     ensures { result ≡ pick declarations word.now }
 {
