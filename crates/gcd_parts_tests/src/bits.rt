@@ -1,3 +1,4 @@
+use crate::plans::expect_row;
 use gcd_bits::{BitSet, SmallSet};
 use std::alloc::Global;
 use std::process::Abort;
@@ -13,7 +14,7 @@ struct Row {
     next: &'static [(u32, Option<u32>)],
 }
 
-const ROWS: [Row; 5] = [
+static ROWS: [Row; 5] = [
     Row {
         len: 0,
         set: &[],
@@ -58,41 +59,58 @@ const ROWS: [Row; 5] = [
     },
 ];
 
-fn set_at(rt: &impl Abort, set: &mut BitSet, i: u32) {
-    assert!(rt; i < set.len());
-    set.set(i);
-    assert!(rt; i < set.len());
-    assert!(rt; set.has(i), "{i}");
+fn rows() -> &'static [Row] {
+    &ROWS
 }
 
-fn clear_at(rt: &impl Abort, set: &mut BitSet, i: u32) {
-    assert!(rt; i < set.len());
-    set.clear(i);
-    assert!(rt; i < set.len());
-    assert!(rt; !set.has(i), "{i}");
+// Puts in each of the numbers, and tells whether each was in the set's room and is in the set then.
+fn set_all(set: &mut BitSet, numbers: &[u32]) -> bool {
+    for i in numbers {
+        if *i >= set.len() {
+            return false;
+        }
+        set.set(*i);
+        if *i >= set.len() || !set.has(*i) {
+            return false;
+        }
+    }
+    true
 }
 
-fn check_row(rt: &impl Abort, alloc: Global, row: &Row) -> Result<(), Fail> {
-    let mut made = BitSet::new(alloc, row.len)?;
-    for i in row.set {
-        set_at(rt, &mut made, *i);
+// Takes out each of the numbers, and tells whether each was in the set's room and is out of the set then.
+fn clear_all(set: &mut BitSet, numbers: &[u32]) -> bool {
+    for i in numbers {
+        if *i >= set.len() {
+            return false;
+        }
+        set.clear(*i);
+        if *i >= set.len() || set.has(*i) {
+            return false;
+        }
     }
-    for i in row.clear {
-        clear_at(rt, &mut made, *i);
-    }
-    let set = made.copied(alloc)?;
-    assert_eq!(rt; (set.len(), set.count()), (row.len, row.count));
-    assert_eq!(rt; set.is_empty(), row.count == 0);
+    true
+}
+
+fn is_as_told(set: &BitSet, row: &Row) -> bool {
     for (from, answer) in row.next {
-        assert_eq!(rt; set.next(*from), *answer, "{from} of {}", row.len);
+        if set.next(*from) != *answer {
+            return false;
+        }
     }
-    Ok(())
+    set.len() == row.len && set.count() == row.count && set.is_empty() == (row.count == 0)
+}
+
+fn row_is_right(alloc: Global, row: &Row) -> Result<bool, Fail> {
+    let mut made = BitSet::new(alloc, row.len)?;
+    let changed = set_all(&mut made, row.set) && clear_all(&mut made, row.clear);
+    let set = made.copied(alloc)?;
+    Ok(changed && is_as_told(&set, row))
 }
 
 #[test]
 fn numbers_come_and_go(rt: HostRuntime) -> Result<(), Fail> {
-    for row in ROWS.iter() {
-        check_row(&rt, rt.alloc(), row)?;
+    for (number, row) in rows().iter().enumerate() {
+        expect_row(&rt, number, row_is_right(rt.alloc(), row)?);
     }
     Ok(())
 }
@@ -104,28 +122,42 @@ fn a_number_is_put_in_or_out(rt: HostRuntime) -> Result<(), Fail> {
     set.put(70, true);
     set.put(3, true);
     set.put(3, false);
-    assert_eq!(rt; (set.next(0), set.count()), (Some(70), 1));
+    assert!(rt; set.next(0) == Some(70) && set.count() == 1);
     Ok(())
+}
+
+// Numbers of a small set, and whether each is in it.
+static ANSWERS: [(u32, bool); 7] = [
+    (0, true),
+    (1, false),
+    (63, false),
+    (64, true),
+    (127, false),
+    (700, true),
+    (1023, true),
+];
+
+fn answers() -> &'static [(u32, bool)] {
+    &ANSWERS
+}
+
+// Puts in each of the numbers, and tells whether a small set has room for each.
+fn set_small(set: &mut SmallSet, numbers: &[u32]) -> bool {
+    for i in numbers {
+        if *i >= 1024 {
+            return false;
+        }
+        set.set(*i);
+    }
+    true
 }
 
 #[test]
 fn a_small_set_keeps_apart_what_is_set(rt: HostRuntime) {
     let mut set = SmallSet::new();
-    for i in [0, 63, 64, 700, 1023, 64] {
-        assert!(rt; i < 1024);
-        set.set(i);
-    }
+    assert!(rt; set_small(&mut set, &[0, 63, 64, 700, 1023, 64]));
     set.clear(63);
-    for (i, answer) in [
-        (0, true),
-        (1, false),
-        (63, false),
-        (64, true),
-        (127, false),
-        (700, true),
-        (1023, true),
-    ] {
-        assert!(rt; i < 1024);
-        assert_eq!(rt; set.has(i), answer, "{i}");
+    for (row, (i, answer)) in answers().iter().enumerate() {
+        expect_row(&rt, row, *i < 1024 && set.has(*i) == *answer);
     }
 }

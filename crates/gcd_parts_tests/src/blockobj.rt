@@ -1,42 +1,39 @@
 ghost use Rattle.std.specs.Prelude.{◌≡◌, length};
 
+use crate::plans::{expect_row, main_with, or_abort, parts, plan_of};
 use gcd_blockobj::{Marks, mark_room};
-use gcd_plan::{Act, Blk, BlkPart, Kind, Obj, ObjPart, Parts, Plan};
+use gcd_plan::{Act, Blk, BlkPart, Kind, Obj, ObjPart, Plan};
 use std::alloc::{AllocError, Global};
 use std::process::Abort;
 use std::test::Fail;
 
-// `root` and an add source whose handler has these acts.
-fn objects(alloc: Global, handler: &[Act]) -> Result<Vec<ObjPart>, AllocError> {
+// An add source whose handler has these acts.
+fn source(alloc: Global, handler: &[Act]) -> Result<ObjPart, AllocError> {
     let mut source = ObjPart::new(alloc, "s", Kind::Add)?;
     source.handler = Vec::from_slice(alloc, handler)?;
-    let mut objects = Vec::new(alloc);
-    objects.push(ObjPart::new(alloc, "root", Kind::Concurrent)?)?;
-    objects.push(source)?;
+    Ok(source)
+}
+
+// `root` and that source.
+fn objects(alloc: Global, handler: &[Act]) -> Result<Vec<ObjPart>, AllocError> {
+    let mut objects = crate::plans::objects(alloc, &[("root", Kind::Concurrent)])?;
+    objects.push(source(alloc, handler)?)?;
     Ok(objects)
 }
 
 // `main` with these acts, and four blocks that do nothing.
 fn blocks(alloc: Global, acts: &[Act]) -> Result<Vec<BlkPart>, AllocError> {
-    let mut main = BlkPart::new(alloc, "main")?;
-    main.acts = Vec::from_slice(alloc, acts)?;
-    let mut blocks = vec![in alloc; main]?;
-    for name in ["b1", "b2", "b3", "b4"] {
+    let mut blocks = Vec::new(alloc);
+    blocks.push(main_with(alloc, acts)?)?;
+    for name in &["b1", "b2", "b3", "b4"] {
         blocks.push(BlkPart::new(alloc, name)?)?;
     }
     Ok(blocks)
 }
 
 fn plan_with(alloc: Global, acts: &[Act], handler: &[Act]) -> Result<Plan, Fail> {
-    let parts = Parts {
-        objects: objects(alloc, handler)?,
-        blocks: blocks(alloc, acts)?,
-        files: Vec::new(alloc),
-        until: 1,
-        intake: None,
-        strips: Vec::new(alloc),
-    };
-    Ok(Plan::of_parts(parts).ok_or("a valid plan")?)
+    let objects = objects(alloc, handler)?;
+    plan_of(parts(alloc, objects, blocks(alloc, acts)?))
 }
 
 // The marks of one plan.
@@ -49,11 +46,12 @@ struct World {
     ghost blocks_fit: { marks.notify.blocks ≡ room },
 }
 
-fn new_world(alloc: Global, plan: &Plan) -> Result<World, AllocError> {
-    Ok(World {
+fn new_world(rt: &impl Abort, alloc: Global, plan: &Plan) -> World {
+    let marks = or_abort(rt, Marks::new(alloc, plan));
+    World {
         room: mark_room(plan),
-        marks: Marks::new(alloc, plan)?.copied(alloc)?,
-    })
+        marks: or_abort(rt, marks.copied(alloc)),
+    }
 }
 
 // A call, with what it answers.
@@ -67,7 +65,7 @@ enum Call {
     Fired(Blk, Option<Blk>),
 }
 
-const CALLS: [Call; 38] = [
+static CALLS: [Call; 38] = [
     Call::IsCancelled(Blk(1), false),
     // A block is cancelled before it starts, and stays so; another is not.
     Call::Cancel(Blk(1)),
@@ -114,7 +112,7 @@ const CALLS: [Call; 38] = [
 ];
 
 // Where no act needs marks, none are kept, and nothing changes.
-const UNMARKED: [Call; 7] = [
+static UNMARKED: [Call; 7] = [
     Call::IsCancelled(Blk(1), false),
     Call::Cancel(Blk(1)),
     Call::IsCancelled(Blk(1), false),
@@ -124,67 +122,78 @@ const UNMARKED: [Call; 7] = [
     Call::Fired(Blk(1), None),
 ];
 
-fn notify(rt: &impl Abort, world: &mut World, b: Blk, c: Blk) {
-    assert!(rt; b.0 < world.room && c.0 < world.room);
+// Makes the second block wait for the first, and tells whether it waited for none before.
+fn notify(world: &mut World, b: Blk, c: Blk) -> bool {
+    if b.0 >= world.room || c.0 >= world.room {
+        return false;
+    }
     match world.marks.awaited(c) {
-        None => world.marks.notify(b, c),
-        Some(other) => panic!(rt; "{c:?} waits already for {other:?}"),
+        None => {
+            world.marks.notify(b, c);
+            true
+        }
+        Some(_) => false,
     }
 }
 
-fn awaited(rt: &impl Abort, world: &World, c: Blk) -> Option<Blk> {
-    assert!(rt; c.0 < world.room);
-    world.marks.awaited(c)
+fn is_awaited(world: &World, c: Blk, answer: Option<Blk>) -> bool {
+    c.0 < world.room && world.marks.awaited(c) == answer
 }
 
-fn is_cancelled(world: &World, b: Blk) -> bool {
-    world.marks.is_cancelled(b)
-}
-
-fn fired(world: &mut World, b: Blk) -> Option<Blk> {
-    world.marks.fired(b)
-}
-
-fn play(rt: &impl Abort, world: &mut World, call: &Call) {
+// Makes the call, and tells whether it may be made and answers so.
+fn play(world: &mut World, call: &Call) -> bool {
     match call {
-        Call::Cancel(b) => world.marks.cancel(*b),
-        Call::Began(b) => world.marks.began(*b),
-        Call::Ended(b) => world.marks.ended(*b),
-        Call::IsCancelled(b, answer) => assert_eq!(rt; is_cancelled(world, *b), *answer, "{b:?}"),
-        Call::Notify(b, c) => notify(rt, world, *b, *c),
-        Call::Awaited(c, answer) => assert_eq!(rt; awaited(rt, world, *c), *answer, "{c:?}"),
-        Call::Fired(b, answer) => assert_eq!(rt; fired(world, *b), *answer, "{b:?}"),
+        Call::Cancel(b) => {
+            world.marks.cancel(*b);
+            true
+        }
+        Call::Began(b) => {
+            world.marks.began(*b);
+            true
+        }
+        Call::Ended(b) => {
+            world.marks.ended(*b);
+            true
+        }
+        Call::IsCancelled(b, answer) => world.marks.is_cancelled(*b) == *answer,
+        Call::Notify(b, c) => notify(world, *b, *c),
+        Call::Awaited(c, answer) => is_awaited(world, *c, *answer),
+        Call::Fired(b, answer) => world.marks.fired(*b) == *answer,
     }
+}
+
+// These calls on the marks of a plan before the first event, where `main` has these acts.
+fn play_all(rt: &impl Abort, alloc: Global, acts: &[Act], calls: &[Call]) -> Result<(), Fail> {
+    let plan = plan_with(alloc, acts, &[])?;
+    let mut world = new_world(rt, alloc, &plan);
+    for (row, call) in calls.iter().enumerate() {
+        expect_row(rt, row, play(&mut world, call));
+    }
+    Ok(())
 }
 
 #[test]
 fn blocks_are_cancelled_and_told(rt: HostRuntime) -> Result<(), Fail> {
-    let plan = plan_with(rt.alloc(), &[Act::CancelBlock(Blk(1))], &[])?;
-    let mut world = new_world(rt.alloc(), &plan)?;
-    for call in CALLS.iter() {
-        play(&rt, &mut world, call);
-    }
-    Ok(())
+    play_all(&rt, rt.alloc(), &[Act::CancelBlock(Blk(1))], &CALLS)
 }
 
 #[test]
 fn no_marks_are_kept_for_nothing(rt: HostRuntime) -> Result<(), Fail> {
-    let plan = plan_with(rt.alloc(), &[], &[])?;
-    let mut world = new_world(rt.alloc(), &plan)?;
-    for call in UNMARKED.iter() {
-        play(&rt, &mut world, call);
-    }
-    Ok(())
+    play_all(&rt, rt.alloc(), &[], &UNMARKED)
 }
 
 // An act of `main` or of the handler, and of how many blocks marks are kept for it.
-const ROOMS: [(Option<Act>, Option<Act>, u32); 5] = [
+static ROOMS: [(Option<Act>, Option<Act>, u32); 5] = [
     (Some(Act::Async(Obj(0), Blk(1))), None, 0),
     (Some(Act::CancelBlock(Blk(2))), None, 5),
     (None, Some(Act::CancelBlock(Blk(2))), 5),
     (Some(Act::WaitBlock(Blk(1))), None, 5),
     (Some(Act::NotifyBlock(Blk(1), Obj(0), Blk(2))), None, 5),
 ];
+
+fn rooms() -> &'static [(Option<Act>, Option<Act>, u32)] {
+    &ROOMS
+}
 
 fn room_for(alloc: Global, act: &Option<Act>, handler: &Option<Act>) -> Result<u32, Fail> {
     let plan = plan_with(alloc, act.as_slice(), handler.as_slice())?;
@@ -193,8 +202,8 @@ fn room_for(alloc: Global, act: &Option<Act>, handler: &Option<Act>) -> Result<u
 
 #[test]
 fn marks_are_kept_where_an_act_needs_them(rt: HostRuntime) -> Result<(), Fail> {
-    for (act, handler, room) in ROOMS.iter() {
-        assert_eq!(rt; room_for(rt.alloc(), act, handler)?, *room);
+    for (row, (act, handler, room)) in rooms().iter().enumerate() {
+        expect_row(&rt, row, room_for(rt.alloc(), act, handler)? == *room);
     }
     Ok(())
 }

@@ -1,10 +1,11 @@
 ghost use Rattle.std.specs.Prelude.{◌≡◌, ◌<◌, true, length};
 ghost use Rattle.gcd_tree.specs.TreeView.{tree_of, is_node_at};
 
+use crate::plans::{expect_row, idle_blocks, object_on, or_abort, parts, plan_of};
 use gcd_drain::{Drains, Marks, is_chain_held};
 use gcd_hold::Holds;
 use gcd_lists::Lists;
-use gcd_plan::{Blk, BlkPart, Kind, Obj, ObjPart, Parts, Plan, Why};
+use gcd_plan::{Blk, Kind, Obj, ObjPart, Plan, Why};
 use gcd_tree::Tree;
 use std::alloc::{AllocError, Global};
 use std::process::Abort;
@@ -25,37 +26,28 @@ const CONCURRENT: Obj = Obj(4);
 const SOURCE: Obj = Obj(5);
 
 fn objects(alloc: Global) -> Result<Vec<ObjPart>, AllocError> {
-    let root = ObjPart::new(alloc, "root", Kind::Concurrent)?;
-    let target = ObjPart::new(alloc, "t", Kind::Serial)?;
-    let mut serial = ObjPart::new(alloc, "q", Kind::Serial)?;
-    serial.target = TARGET;
-    let mut sharing = ObjPart::new(alloc, "d", Kind::Concurrent)?;
-    sharing.target = TARGET;
-    let concurrent = ObjPart::new(alloc, "c", Kind::Concurrent)?;
-    let mut source = ObjPart::new(alloc, "s", Kind::Add)?;
-    source.target = CONCURRENT;
-    Ok(vec![in alloc; root, target, serial, sharing, concurrent, source]?)
-}
-
-// `main` and eight blocks that do nothing.
-fn idle_blocks(alloc: Global) -> Result<Vec<BlkPart>, AllocError> {
-    let mut blocks = Vec::new(alloc);
-    for name in ["main", "b1", "b2", "b3", "b4", "b5", "b6", "b7", "b8"] {
-        blocks.push(BlkPart::new(alloc, name)?)?;
+    let mut objects = Vec::new(alloc);
+    for (name, kind, target) in [
+        ("root", Kind::Concurrent, ROOT),
+        ("t", Kind::Serial, ROOT),
+        ("q", Kind::Serial, TARGET),
+        ("d", Kind::Concurrent, TARGET),
+        ("c", Kind::Concurrent, ROOT),
+        ("s", Kind::Add, CONCURRENT),
+    ] {
+        objects.push(object_on(alloc, name, kind, target)?)?;
     }
-    Ok(blocks)
+    Ok(objects)
 }
 
+// A plan of these objects, `main` and eight blocks that do nothing.
 fn new_plan(alloc: Global) -> Result<Plan, Fail> {
-    let parts = Parts {
-        objects: objects(alloc)?,
-        blocks: idle_blocks(alloc)?,
-        files: Vec::new(alloc),
-        until: 1,
-        intake: None,
-        strips: Vec::new(alloc),
-    };
-    Ok(Plan::of_parts(parts).ok_or("a valid plan")?)
+    let objects = objects(alloc)?;
+    let blocks = idle_blocks(
+        alloc,
+        &["main", "b1", "b2", "b3", "b4", "b5", "b6", "b7", "b8"],
+    )?;
+    plan_of(parts(alloc, objects, blocks))
 }
 
 // The parts of one plan, with it.
@@ -77,16 +69,17 @@ struct World {
     ghost drains_fit: { length drains.barriers ≡ objects },
 }
 
-fn new_world(alloc: Global, plan: Plan) -> Result<World, AllocError> {
-    Ok(World {
+fn new_world(rt: &impl Abort, alloc: Global, plan: Plan) -> World {
+    let drains = or_abort(rt, Drains::new(alloc, &plan));
+    World {
         objects: plan.objects(),
         blocks: plan.blocks(),
-        lists: Lists::new(alloc, &plan)?,
-        tree: Tree::new(alloc, &plan)?,
-        holds: Holds::new(alloc, &plan)?,
-        drains: Drains::new(alloc, &plan)?.copied(alloc)?,
+        lists: or_abort(rt, Lists::new(alloc, &plan)),
+        tree: or_abort(rt, Tree::new(alloc, &plan)),
+        holds: or_abort(rt, Holds::new(alloc, &plan)),
+        drains: or_abort(rt, drains.copied(alloc)),
         plan,
-    })
+    }
 }
 
 // What happens, or a call, with what it answers.
@@ -104,7 +97,7 @@ enum Call {
     IsShut(Obj, bool),
 }
 
-const CALLS: [Call; 62] = [
+static CALLS: [Call; 62] = [
     Call::MayStart(Blk(1), Some(Why::Unready)),
     Call::Submit(SERIAL, Blk(1), false),
     Call::Submit(SERIAL, Blk(2), false),
@@ -177,53 +170,79 @@ const CALLS: [Call; 62] = [
     Call::Barriers(CONCURRENT, 0),
 ];
 
-fn submit(rt: &impl Abort, world: &mut World, node: Obj, blk: Blk, barrier: bool) {
-    assert!(rt; node.0 < world.objects && blk.0 < world.blocks);
+fn calls() -> &'static [Call] {
+    &CALLS
+}
+
+// Submits the block, and tells whether it waited nowhere before.
+fn submit(world: &mut World, node: Obj, blk: Blk, barrier: bool) -> bool {
+    if node.0 >= world.objects || blk.0 >= world.blocks {
+        return false;
+    }
     match world.lists.place(blk) {
-        None => world.lists.push(node, blk, barrier),
-        Some(place) => panic!(rt; "{blk:?} waits already: {place:?}"),
+        None => {
+            world.lists.push(node, blk, barrier);
+            true
+        }
+        Some(_) => false,
     }
 }
 
-// The first block that waits on the node begins there, or a handler where none waits.
-fn begin(rt: &impl Abort, world: &mut World, node: Obj) {
-    assert!(rt; node.0 < world.objects && 0 < world.objects);
+// The first block that waits on the node begins there, or a handler where none waits, if the node is not held.
+fn begin(world: &mut World, node: Obj) -> bool {
+    if node.0 >= world.objects || world.objects == 0 {
+        return false;
+    }
     let barrier = match world.lists.pop(node) {
         Some((_, barrier)) => barrier,
         None => false,
     };
     if is_chain_held(&world.tree, &world.holds, node) {
-        panic!(rt; "{node:?} is held");
+        return false;
     }
-    assert!(rt; world.tree.open_beneath(ROOT) < 1000);
+    if world.tree.open_beneath(ROOT) >= 1000 || world.drains.barriers(node) >= 1000 {
+        return false;
+    }
     world.tree.opened(node);
-    assert!(rt; world.drains.barriers(node) < 1000);
     world.drains.began(node, barrier);
+    true
 }
 
-fn end(rt: &impl Abort, world: &mut World, node: Obj, barrier: bool) {
-    assert!(rt; node.0 < world.objects);
-    assert!(rt; world.tree.open_on(node) > 0);
+// A run ends on the node, if one is open there.
+fn end(world: &mut World, node: Obj, barrier: bool) -> bool {
+    if node.0 >= world.objects || world.tree.open_on(node) == 0 {
+        return false;
+    }
+    if barrier && world.drains.barriers(node) == 0 {
+        return false;
+    }
     world.tree.closed(node);
-    assert!(rt; !barrier || world.drains.barriers(node) > 0);
     world.drains.ended(node, barrier);
+    true
 }
 
-fn suspend(rt: &impl Abort, world: &mut World, o: Obj) {
-    assert!(rt; o.0 < world.objects);
-    assert!(rt; world.holds.hold(o) < 1000);
+fn suspend(world: &mut World, o: Obj) -> bool {
+    if o.0 >= world.objects || world.holds.hold(o) >= 1000 {
+        return false;
+    }
     world.holds.suspend(o);
+    true
 }
 
-fn resume(rt: &impl Abort, world: &mut World, o: Obj) {
-    assert!(rt; o.0 < world.objects);
-    assert!(rt; world.holds.may_resume(o));
+fn resume(world: &mut World, o: Obj) -> bool {
+    if o.0 >= world.objects || !world.holds.may_resume(o) {
+        return false;
+    }
     world.holds.resume(o);
+    true
 }
 
-fn activate(rt: &impl Abort, world: &mut World, o: Obj) {
-    assert!(rt; o.0 < world.objects);
+fn activate(world: &mut World, o: Obj) -> bool {
+    if o.0 >= world.objects {
+        return false;
+    }
     world.holds.activate(o);
+    true
 }
 
 fn is_node(world: &World, o: Obj) -> bool
@@ -233,29 +252,40 @@ fn is_node(world: &World, o: Obj) -> bool
     world.plan.kind(o).is_node()
 }
 
-fn target(rt: &impl Abort, world: &mut World, o: Obj, t: Obj) {
-    assert!(rt; o.0 < world.objects && t.0 < world.objects);
-    assert!(rt; is_node(world, o));
-    assert!(rt; !world.tree.would_cycle(o, t));
-    assert!(rt; !world.tree.has_child(o));
+// Requests the target for an object with no child.
+fn target(world: &mut World, o: Obj, t: Obj) -> bool {
+    if o.0 >= world.objects || t.0 >= world.objects || !is_node(world, o) {
+        return false;
+    }
+    if world.tree.would_cycle(o, t) || world.tree.has_child(o) {
+        return false;
+    }
     world.tree.set_target(o, t);
+    true
 }
 
-fn may_start(rt: &impl Abort, world: &World, b: Blk) -> Option<Why> {
-    assert!(rt; 0 < b.0 && b.0 < world.blocks);
+fn may_start(world: &World, b: Blk, answer: Option<Why>) -> bool {
+    if b.0 == 0 || b.0 >= world.blocks {
+        return false;
+    }
     world
         .drains
         .may_start(&world.lists, &world.tree, &world.holds, b)
+        == answer
 }
 
-fn may_run(rt: &impl Abort, world: &World, src: Obj) -> Option<Why> {
-    assert!(rt; src.0 < world.objects);
-    world.drains.may_run(&world.tree, &world.holds, src)
+fn may_run(world: &World, src: Obj, answer: Option<Why>) -> bool {
+    if src.0 >= world.objects {
+        return false;
+    }
+    world.drains.may_run(&world.tree, &world.holds, src) == answer
 }
 
-// Whether the node's chain is shut, asked of the chain, and then of what is known.
-fn is_shut(rt: &impl Abort, world: &World, node: Obj) -> bool {
-    assert!(rt; node.0 < world.objects);
+// Whether the answer is right of the chain, and again of what is known then.
+fn is_shut(world: &World, node: Obj, answer: bool) -> bool {
+    if node.0 >= world.objects {
+        return false;
+    }
     let mut marks = Marks::new();
     let shut = world
         .drains
@@ -263,41 +293,36 @@ fn is_shut(rt: &impl Abort, world: &World, node: Obj) -> bool {
     let again = world
         .drains
         .is_shut(&world.tree, &world.holds, node, &mut marks);
-    assert_eq!(rt; shut, again, "{node:?}");
-    shut
+    shut == answer && again == answer
 }
 
-fn barriers(rt: &impl Abort, world: &World, node: Obj) -> u32 {
-    assert!(rt; node.0 < world.objects);
-    world.drains.barriers(node)
+fn has_barriers(world: &World, node: Obj, answer: u32) -> bool {
+    node.0 < world.objects && world.drains.barriers(node) == answer
 }
 
-fn play(rt: &impl Abort, world: &mut World, call: &Call) {
+// Makes the call, and tells whether it may be made and answers so.
+fn play(world: &mut World, call: &Call) -> bool {
     match call {
-        Call::Submit(node, blk, barrier) => submit(rt, world, *node, *blk, *barrier),
-        Call::Begin(node) => begin(rt, world, *node),
-        Call::End(node, barrier) => end(rt, world, *node, *barrier),
-        Call::Suspend(o) => suspend(rt, world, *o),
-        Call::Resume(o) => resume(rt, world, *o),
-        Call::Activate(o) => activate(rt, world, *o),
-        Call::Target(o, t) => target(rt, world, *o, *t),
-        Call::MayStart(b, answer) => assert_eq!(rt; may_start(rt, world, *b), *answer, "{b:?}"),
-        Call::MayRun(src, answer) => assert_eq!(rt; may_run(rt, world, *src), *answer, "{src:?}"),
-        Call::Barriers(node, answer) => assert_eq!(rt; barriers(rt, world, *node), *answer),
-        Call::IsShut(node, answer) => assert_eq!(rt;
-            is_shut(rt, world, *node),
-            *answer,
-            "{node:?}"
-        ),
+        Call::Submit(node, blk, barrier) => submit(world, *node, *blk, *barrier),
+        Call::Begin(node) => begin(world, *node),
+        Call::End(node, barrier) => end(world, *node, *barrier),
+        Call::Suspend(o) => suspend(world, *o),
+        Call::Resume(o) => resume(world, *o),
+        Call::Activate(o) => activate(world, *o),
+        Call::Target(o, t) => target(world, *o, *t),
+        Call::MayStart(b, answer) => may_start(world, *b, *answer),
+        Call::MayRun(src, answer) => may_run(world, *src, *answer),
+        Call::Barriers(node, answer) => has_barriers(world, *node, *answer),
+        Call::IsShut(node, answer) => is_shut(world, *node, *answer),
     }
 }
 
 #[test]
 fn starts_and_runs_by_the_rule(rt: HostRuntime) -> Result<(), Fail> {
     let plan = new_plan(rt.alloc())?;
-    let mut world = new_world(rt.alloc(), plan)?;
-    for call in CALLS.iter() {
-        play(&rt, &mut world, call);
+    let mut world = new_world(&rt, rt.alloc(), plan);
+    for (row, call) in calls().iter().enumerate() {
+        expect_row(&rt, row, play(&mut world, call));
     }
     Ok(())
 }

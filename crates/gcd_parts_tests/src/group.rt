@@ -1,8 +1,9 @@
 ghost use Rattle.std.specs.Prelude.{◌≡◌, length};
 
+use crate::plans::{expect_row, idle_plan, or_abort};
 use gcd_group::Groups;
-use gcd_plan::{Blk, BlkPart, Kind, Obj, ObjPart, Parts, Plan};
-use std::alloc::{AllocError, Global};
+use gcd_plan::{Blk, Kind, Obj, Plan};
+use std::alloc::Global;
 use std::process::Abort;
 use std::test::Fail;
 
@@ -10,29 +11,17 @@ const G: Obj = Obj(1);
 
 const H: Obj = Obj(2);
 
-// `main` and four blocks that do nothing.
-fn idle_blocks(alloc: Global) -> Result<Vec<BlkPart>, AllocError> {
-    let mut blocks = Vec::new(alloc);
-    for name in ["main", "b1", "b2", "b3", "b4"] {
-        blocks.push(BlkPart::new(alloc, name)?)?;
-    }
-    Ok(blocks)
-}
-
-// `root` and two groups.
+// `root` and two groups, and `main` and four blocks that do nothing.
 fn new_plan(alloc: Global) -> Result<Plan, Fail> {
-    let root = ObjPart::new(alloc, "root", Kind::Concurrent)?;
-    let g = ObjPart::new(alloc, "g", Kind::Group)?;
-    let h = ObjPart::new(alloc, "h", Kind::Group)?;
-    let parts = Parts {
-        objects: vec![in alloc; root, g, h]?,
-        blocks: idle_blocks(alloc)?,
-        files: Vec::new(alloc),
-        until: 1,
-        intake: None,
-        strips: Vec::new(alloc),
-    };
-    Ok(Plan::of_parts(parts).ok_or("a valid plan")?)
+    idle_plan(
+        alloc,
+        &[
+            ("root", Kind::Concurrent),
+            ("g", Kind::Group),
+            ("h", Kind::Group),
+        ],
+        &["main", "b1", "b2", "b3", "b4"],
+    )
 }
 
 // The groups of one plan.
@@ -45,12 +34,13 @@ struct World {
     ghost blocks_fit: { groups.notify.blocks ≡ blocks },
 }
 
-fn new_world(alloc: Global, plan: &Plan) -> Result<World, AllocError> {
-    Ok(World {
+fn new_world(rt: &impl Abort, alloc: Global, plan: &Plan) -> World {
+    let groups = or_abort(rt, Groups::new(alloc, plan));
+    World {
         objects: plan.objects(),
         blocks: plan.blocks(),
-        groups: Groups::new(alloc, plan)?.copied(alloc)?,
-    })
+        groups: or_abort(rt, groups.copied(alloc)),
+    }
 }
 
 // A call, with what it answers. What changes a count is told the length of the history after its event.
@@ -67,7 +57,7 @@ enum Call {
     Fired(Obj, Option<Blk>),
 }
 
-const CALLS: [Call; 68] = [
+static CALLS: [Call; 68] = [
     // A group begins empty.
     Call::Count(G, 0),
     Call::Entered(G, 0),
@@ -145,92 +135,98 @@ const CALLS: [Call; 68] = [
     Call::Entered(G, 0),
 ];
 
-fn enter(rt: &impl Abort, world: &mut World, g: Obj, at: u32) {
-    assert!(rt; g.0 < world.objects && 0 < at);
-    assert!(rt; world.groups.count(g) < 1000);
+fn calls() -> &'static [Call] {
+    &CALLS
+}
+
+fn enter(world: &mut World, g: Obj, at: u32) -> bool {
+    if g.0 >= world.objects || at == 0 || world.groups.count(g) >= 1000 {
+        return false;
+    }
     world.groups.enter(g, at);
+    true
 }
 
-fn leave(rt: &impl Abort, world: &mut World, g: Obj, at: u32) {
-    assert!(rt; g.0 < world.objects);
-    assert!(rt; world.groups.entered(g) > 0);
+fn leave(world: &mut World, g: Obj, at: u32) -> bool {
+    if g.0 >= world.objects || world.groups.entered(g) == 0 {
+        return false;
+    }
     world.groups.leave(g, at);
+    true
 }
 
-fn added(rt: &impl Abort, world: &mut World, g: Obj, at: u32) {
-    assert!(rt; g.0 < world.objects && 0 < at);
-    assert!(rt; world.groups.count(g) < 1000);
+fn added(world: &mut World, g: Obj, at: u32) -> bool {
+    if g.0 >= world.objects || at == 0 || world.groups.count(g) >= 1000 {
+        return false;
+    }
     world.groups.added(g, at);
+    true
 }
 
-fn done(rt: &impl Abort, world: &mut World, g: Obj, at: u32) {
-    assert!(rt; g.0 < world.objects);
-    assert!(rt; world.groups.entered(g) < world.groups.count(g));
+fn done(world: &mut World, g: Obj, at: u32) -> bool {
+    if g.0 >= world.objects || world.groups.entered(g) >= world.groups.count(g) {
+        return false;
+    }
     world.groups.done(g, at);
+    true
 }
 
-fn notify_group(rt: &impl Abort, world: &World, blk: Blk) -> Option<Obj> {
-    assert!(rt; blk.0 < world.blocks);
-    world.groups.notify_group(blk)
+fn is_of_group(world: &World, blk: Blk, answer: Option<Obj>) -> bool {
+    blk.0 < world.blocks && world.groups.notify_group(blk) == answer
 }
 
-fn notify(rt: &impl Abort, world: &mut World, g: Obj, blk: Blk) {
-    assert!(rt; g.0 < world.objects && blk.0 < world.blocks);
+// The block is to be told of the group, if it is to be told of none yet.
+fn notify(world: &mut World, g: Obj, blk: Blk) -> bool {
+    if g.0 >= world.objects || blk.0 >= world.blocks {
+        return false;
+    }
     match world.groups.notify_group(blk) {
-        None => world.groups.notify(g, blk),
-        Some(group) => panic!(rt; "{blk:?} is to be told of {group:?} already"),
+        None => {
+            world.groups.notify(g, blk);
+            true
+        }
+        Some(_) => false,
     }
 }
 
-fn fired(rt: &impl Abort, world: &mut World, g: Obj) -> Option<Blk> {
-    assert!(rt; g.0 < world.objects);
-    world.groups.fired(g)
+fn fired(world: &mut World, g: Obj, answer: Option<Blk>) -> bool {
+    g.0 < world.objects && world.groups.fired(g) == answer
 }
 
-fn count(rt: &impl Abort, world: &World, g: Obj) -> u32 {
-    assert!(rt; g.0 < world.objects);
-    world.groups.count(g)
+fn has_count(world: &World, g: Obj, answer: u32) -> bool {
+    g.0 < world.objects && world.groups.count(g) == answer
 }
 
-fn entered(rt: &impl Abort, world: &World, g: Obj) -> u32 {
-    assert!(rt; g.0 < world.objects);
-    world.groups.entered(g)
+fn has_entered(world: &World, g: Obj, answer: u32) -> bool {
+    g.0 < world.objects && world.groups.entered(g) == answer
 }
 
-fn empty_since(rt: &impl Abort, world: &World, g: Obj, position: u32) -> bool {
-    assert!(rt; g.0 < world.objects);
-    world.groups.empty_since(g, position)
+fn empty_since(world: &World, g: Obj, position: u32, answer: bool) -> bool {
+    g.0 < world.objects && world.groups.empty_since(g, position) == answer
 }
 
-fn play(rt: &impl Abort, world: &mut World, call: &Call) {
+// Makes the call, and tells whether it may be made and answers so.
+fn play(world: &mut World, call: &Call) -> bool {
     match call {
-        Call::Count(g, answer) => assert_eq!(rt; count(rt, world, *g), *answer),
-        Call::Entered(g, answer) => assert_eq!(rt; entered(rt, world, *g), *answer),
-        Call::EmptySince(g, position, answer) => assert_eq!(rt;
-            empty_since(rt, world, *g, *position),
-            *answer,
-            "{position}"
-        ),
-        Call::NotifyGroup(blk, answer) => assert_eq!(rt;
-            notify_group(rt, world, *blk),
-            *answer,
-            "{blk:?}"
-        ),
-        Call::Enter(g, at) => enter(rt, world, *g, *at),
-        Call::Leave(g, at) => leave(rt, world, *g, *at),
-        Call::Added(g, at) => added(rt, world, *g, *at),
-        Call::Done(g, at) => done(rt, world, *g, *at),
-        Call::Notify(g, blk) => notify(rt, world, *g, *blk),
-        Call::Fired(g, answer) => assert_eq!(rt; fired(rt, world, *g), *answer, "{g:?}"),
+        Call::Count(g, answer) => has_count(world, *g, *answer),
+        Call::Entered(g, answer) => has_entered(world, *g, *answer),
+        Call::EmptySince(g, position, answer) => empty_since(world, *g, *position, *answer),
+        Call::NotifyGroup(blk, answer) => is_of_group(world, *blk, *answer),
+        Call::Enter(g, at) => enter(world, *g, *at),
+        Call::Leave(g, at) => leave(world, *g, *at),
+        Call::Added(g, at) => added(world, *g, *at),
+        Call::Done(g, at) => done(world, *g, *at),
+        Call::Notify(g, blk) => notify(world, *g, *blk),
+        Call::Fired(g, answer) => fired(world, *g, *answer),
     }
 }
 
 #[test]
 fn groups_count_and_tell(rt: HostRuntime) -> Result<(), Fail> {
     let plan = new_plan(rt.alloc())?;
-    let mut world = new_world(rt.alloc(), &plan)?;
-    for call in CALLS.iter() {
-        play(&rt, &mut world, call);
+    let mut world = new_world(&rt, rt.alloc(), &plan);
+    for (row, call) in calls().iter().enumerate() {
+        expect_row(&rt, row, play(&mut world, call));
     }
     Ok(())
 }

@@ -1,27 +1,24 @@
-ghost use Rattle.std.specs.Prelude.{◌≡◌, length};
+ghost use Rattle.std.specs.Prelude.{◌≡◌, ◌<◌, length};
 
+use crate::plans::{expect_row, idle_blocks, objects, or_abort, parts, plan_of};
 use gcd_hold::Holds;
-use gcd_plan::{BlkPart, Kind, Obj, ObjPart, Parts, Plan};
+use gcd_plan::{Kind, Obj, ObjPart, Plan};
 use std::alloc::{AllocError, Global};
-use std::process::Abort;
 use std::test::Fail;
 
+// A queue that is inactive.
+fn inactive(alloc: Global) -> Result<ObjPart, AllocError> {
+    let mut queue = ObjPart::new(alloc, "r", Kind::Serial)?;
+    queue.active = false;
+    Ok(queue)
+}
+
 // `root`, a queue, an inactive queue and a source, and `main`.
-fn parts(alloc: Global) -> Result<Parts, AllocError> {
-    let main = BlkPart::new(alloc, "main")?;
-    let root = ObjPart::new(alloc, "root", Kind::Concurrent)?;
-    let queue = ObjPart::new(alloc, "q", Kind::Serial)?;
-    let mut inactive = ObjPart::new(alloc, "r", Kind::Serial)?;
-    inactive.active = false;
-    let source = ObjPart::new(alloc, "s", Kind::Add)?;
-    Ok(Parts {
-        objects: vec![in alloc; root, queue, inactive, source]?,
-        blocks: vec![in alloc; main]?,
-        files: Vec::new(alloc),
-        until: 1,
-        intake: None,
-        strips: Vec::new(alloc),
-    })
+fn new_plan(alloc: Global) -> Result<Plan, Fail> {
+    let mut objects = objects(alloc, &[("root", Kind::Concurrent), ("q", Kind::Serial)])?;
+    objects.push(inactive(alloc)?)?;
+    objects.push(ObjPart::new(alloc, "s", Kind::Add)?)?;
+    plan_of(parts(alloc, objects, idle_blocks(alloc, &["main"])?))
 }
 
 // A call, with what it answers.
@@ -35,7 +32,7 @@ enum Call {
     Activate(Obj),
 }
 
-const CALLS: [Call; 34] = [
+static CALLS: [Call; 34] = [
     Call::IsFree(Obj(0), true),
     Call::IsFree(Obj(1), true),
     Call::MayResume(Obj(1), false),
@@ -74,6 +71,10 @@ const CALLS: [Call; 34] = [
     Call::Hold(Obj(0), 0),
 ];
 
+fn calls() -> &'static [Call] {
+    &CALLS
+}
+
 fn object_of(call: &Call) -> Obj {
     match call {
         Call::Hold(o, _) => *o,
@@ -86,36 +87,59 @@ fn object_of(call: &Call) -> Obj {
     }
 }
 
-fn play(rt: &impl Abort, plan: &Plan, holds: &mut Holds, call: &Call)
+fn suspend(holds: &mut Holds, o: Obj) -> bool
+    requires { o.0 < length holds.old.holds }
+    ensures { length holds.new.holds ≡ length holds.old.holds }
+{
+    if holds.hold(o) >= 1000 {
+        return false;
+    }
+    holds.suspend(o);
+    true
+}
+
+fn resume(holds: &mut Holds, o: Obj) -> bool
+    requires { o.0 < length holds.old.holds }
+    ensures { length holds.new.holds ≡ length holds.old.holds }
+{
+    if !holds.may_resume(o) {
+        return false;
+    }
+    holds.resume(o);
+    true
+}
+
+// Makes the call, and tells whether it may be made and answers so.
+fn play(plan: &Plan, holds: &mut Holds, call: &Call) -> bool
     requires { length holds.old.holds ≡ length plan.now.objects }
     ensures { length holds.new.holds ≡ length plan.now.objects }
 {
     let o = object_of(call);
-    assert!(rt; o.0 < plan.objects());
+    if o.0 >= plan.objects() {
+        return false;
+    }
     match call {
-        Call::Hold(_, answer) => assert_eq!(rt; holds.hold(o), *answer),
-        Call::IsActive(_, answer) => assert_eq!(rt; holds.is_active(o), *answer),
-        Call::IsFree(_, answer) => assert_eq!(rt; holds.is_free(o), *answer),
-        Call::MayResume(_, answer) => assert_eq!(rt; holds.may_resume(o), *answer),
-        Call::Suspend(_) => {
-            assert!(rt; holds.hold(o) < 1000);
-            holds.suspend(o);
+        Call::Hold(_, answer) => holds.hold(o) == *answer,
+        Call::IsActive(_, answer) => holds.is_active(o) == *answer,
+        Call::IsFree(_, answer) => holds.is_free(o) == *answer,
+        Call::MayResume(_, answer) => holds.may_resume(o) == *answer,
+        Call::Suspend(_) => suspend(holds, o),
+        Call::Resume(_) => resume(holds, o),
+        Call::Activate(_) => {
+            holds.activate(o);
+            true
         }
-        Call::Resume(_) => {
-            assert!(rt; holds.may_resume(o));
-            holds.resume(o);
-        }
-        Call::Activate(_) => holds.activate(o),
     }
 }
 
 #[test]
 fn holds_and_activation(rt: HostRuntime) -> Result<(), Fail> {
-    let made = Plan::of_parts(parts(rt.alloc())?).ok_or("a valid plan")?;
+    let made = new_plan(rt.alloc())?;
     let plan = &made;
-    let mut holds = Holds::new(rt.alloc(), plan)?.copied(rt.alloc())?;
-    for call in CALLS.iter() {
-        play(&rt, plan, &mut holds, call);
+    let first = or_abort(&rt, Holds::new(rt.alloc(), plan));
+    let mut holds = or_abort(&rt, first.copied(rt.alloc()));
+    for (row, call) in calls().iter().enumerate() {
+        expect_row(&rt, row, play(plan, &mut holds, call));
     }
     Ok(())
 }

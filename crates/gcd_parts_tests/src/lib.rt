@@ -16,6 +16,8 @@ mod lists;
 #[cfg(test)]
 mod objects;
 #[cfg(test)]
+mod plans;
+#[cfg(test)]
 mod sema;
 #[cfg(test)]
 mod soonest;

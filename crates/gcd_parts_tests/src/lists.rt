@@ -1,7 +1,8 @@
 ghost use Rattle.std.specs.Prelude.{◌≡◌, ◌<◌, length};
 
+use crate::plans::{expect_row, idle_plan, or_abort};
 use gcd_lists::Lists;
-use gcd_plan::{Blk, BlkPart, Kind, MAX_BLOCKS, Obj, ObjPart, Parts, Plan};
+use gcd_plan::{Blk, Kind, MAX_BLOCKS, Obj, Plan};
 use std::alloc::{AllocError, Global};
 use std::process::Abort;
 use std::test::Fail;
@@ -24,34 +25,28 @@ fn new_world(alloc: Global) -> Result<World, AllocError> {
 
 // `root` and two queues, and `main` with eleven blocks that do nothing.
 fn new_plan(alloc: Global) -> Result<Plan, Fail> {
-    let root = ObjPart::new(alloc, "root", Kind::Concurrent)?;
-    let q = ObjPart::new(alloc, "q", Kind::Serial)?;
-    let r = ObjPart::new(alloc, "r", Kind::Serial)?;
-    let mut blocks = Vec::new(alloc);
-    for name in [
-        "main", "b1", "b2", "b3", "b4", "b5", "b6", "b7", "b8", "b9", "b10", "b11",
-    ] {
-        blocks.push(BlkPart::new(alloc, name)?)?;
-    }
-    let parts = Parts {
-        objects: vec![in alloc; root, q, r]?,
-        blocks,
-        files: Vec::new(alloc),
-        until: 1,
-        intake: None,
-        strips: Vec::new(alloc),
-    };
-    Ok(Plan::of_parts(parts).ok_or("a valid plan")?)
+    idle_plan(
+        alloc,
+        &[
+            ("root", Kind::Concurrent),
+            ("q", Kind::Serial),
+            ("r", Kind::Serial),
+        ],
+        &[
+            "main", "b1", "b2", "b3", "b4", "b5", "b6", "b7", "b8", "b9", "b10", "b11",
+        ],
+    )
 }
 
 // Nothing waits on the objects of the plan, which has three, and twelve blocks.
-fn empty_world(rt: &impl Abort, alloc: Global, plan: &Plan) -> Result<World, AllocError> {
+fn empty_world(rt: &impl Abort, alloc: Global, plan: &Plan) -> World {
     if plan.objects() != 3 || plan.blocks() != 12 {
         panic!(rt; "another plan");
     }
-    Ok(World {
-        lists: Lists::new(alloc, plan)?.copied(alloc)?,
-    })
+    let lists = or_abort(rt, Lists::new(alloc, plan));
+    World {
+        lists: or_abort(rt, lists.copied(alloc)),
+    }
 }
 
 // A call, with what it answers.
@@ -63,7 +58,7 @@ enum Call {
     Place(Blk, Option<(Obj, bool)>),
 }
 
-const CALLS: [Call; 29] = [
+static CALLS: [Call; 29] = [
     Call::Place(Blk(6), Some((Obj(2), false))),
     Call::Place(Blk(9), None),
     Call::Place(Blk(11), None),
@@ -98,7 +93,7 @@ const CALLS: [Call; 29] = [
     Call::Pop(Obj(0), Some((Blk(2), true))),
 ];
 
-const IN_ORDER: [Call; 17] = [
+static IN_ORDER: [Call; 17] = [
     Call::First(Obj(1), None),
     Call::Pop(Obj(1), None),
     Call::Place(Blk(7), None),
@@ -118,53 +113,71 @@ const IN_ORDER: [Call; 17] = [
     Call::Place(Blk(9), Some((Obj(2), false))),
 ];
 
-fn place(rt: &impl Abort, world: &World, blk: Blk) -> Option<(Obj, bool)> {
-    assert!(rt; blk.0 < 12);
-    world.lists.place(blk)
+fn calls() -> &'static [Call] {
+    &CALLS
 }
 
-fn push(rt: &impl Abort, world: &mut World, node: Obj, blk: Blk, barrier: bool) {
-    assert!(rt; node.0 < 3 && blk.0 < 12);
+fn in_order() -> &'static [Call] {
+    &IN_ORDER
+}
+
+fn has_place(world: &World, blk: Blk, answer: Option<(Obj, bool)>) -> bool {
+    blk.0 < 12 && world.lists.place(blk) == answer
+}
+
+// Puts the block on the list, if it waits nowhere.
+fn push(world: &mut World, node: Obj, blk: Blk, barrier: bool) -> bool {
+    if node.0 >= 3 || blk.0 >= 12 {
+        return false;
+    }
     match world.lists.place(blk) {
-        None => world.lists.push(node, blk, barrier),
-        Some(place) => panic!(rt; "{blk:?} waits already: {place:?}"),
+        None => {
+            world.lists.push(node, blk, barrier);
+            true
+        }
+        Some(_) => false,
     }
 }
 
-fn first(rt: &impl Abort, world: &World, node: Obj) -> Option<(Blk, bool)> {
-    assert!(rt; node.0 < 3);
-    world.lists.first(node)
+fn has_first(world: &World, node: Obj, answer: Option<(Blk, bool)>) -> bool {
+    node.0 < 3 && world.lists.first(node) == answer
 }
 
-fn pop(rt: &impl Abort, world: &mut World, node: Obj) -> Option<(Blk, bool)> {
-    assert!(rt; node.0 < 3);
-    world.lists.pop(node)
+fn pops(world: &mut World, node: Obj, answer: Option<(Blk, bool)>) -> bool {
+    node.0 < 3 && world.lists.pop(node) == answer
 }
 
-fn remove(rt: &impl Abort, world: &mut World, blk: Blk) {
-    assert!(rt; blk.0 < 12);
+// Takes the block off its list, if it waits.
+fn remove(world: &mut World, blk: Blk) -> bool {
+    if blk.0 >= 12 {
+        return false;
+    }
     let Some((node, _)) = world.lists.place(blk) else {
-        panic!(rt; "{blk:?} waits nowhere");
+        return false;
     };
-    assert!(rt; node.0 < 3);
+    if node.0 >= 3 {
+        return false;
+    }
     world.lists.remove(node, blk);
+    true
 }
 
-fn play(rt: &impl Abort, world: &mut World, call: &Call) {
+// Makes the call, and tells whether it may be made and answers so.
+fn play(world: &mut World, call: &Call) -> bool {
     match call {
-        Call::Push(node, blk, barrier) => push(rt, world, *node, *blk, *barrier),
-        Call::First(node, answer) => assert_eq!(rt; first(rt, world, *node), *answer),
-        Call::Pop(node, answer) => assert_eq!(rt; pop(rt, world, *node), *answer),
-        Call::Remove(blk) => remove(rt, world, *blk),
-        Call::Place(blk, answer) => assert_eq!(rt; place(rt, world, *blk), *answer),
+        Call::Push(node, blk, barrier) => push(world, *node, *blk, *barrier),
+        Call::First(node, answer) => has_first(world, *node, *answer),
+        Call::Pop(node, answer) => pops(world, *node, *answer),
+        Call::Remove(blk) => remove(world, *blk),
+        Call::Place(blk, answer) => has_place(world, *blk, *answer),
     }
 }
 
 #[test]
 fn blocks_leave_from_anywhere(rt: HostRuntime) -> Result<(), Fail> {
     let mut world = new_world(rt.alloc())?;
-    for call in CALLS.iter() {
-        play(&rt, &mut world, call);
+    for (row, call) in calls().iter().enumerate() {
+        expect_row(&rt, row, play(&mut world, call));
     }
     Ok(())
 }
@@ -172,19 +185,19 @@ fn blocks_leave_from_anywhere(rt: HostRuntime) -> Result<(), Fail> {
 #[test]
 fn blocks_wait_in_order(rt: HostRuntime) -> Result<(), Fail> {
     let plan = new_plan(rt.alloc())?;
-    let mut world = empty_world(&rt, rt.alloc(), &plan)?;
-    for call in IN_ORDER.iter() {
-        play(&rt, &mut world, call);
+    let mut world = empty_world(&rt, rt.alloc(), &plan);
+    for (row, call) in in_order().iter().enumerate() {
+        expect_row(&rt, row, play(&mut world, call));
     }
     Ok(())
 }
 
-// The last two blocks of the largest plan come off the list in their order.
-fn last_two_come(rt: &impl Abort, lists: &mut Lists, node: Obj)
+// Whether the last two blocks of the largest plan come off the list in their order.
+fn last_two_come(lists: &mut Lists, node: Obj) -> bool
     requires { node.0 < length lists.old.lists }
 {
-    assert_eq!(rt; lists.pop(node), Some((Blk(MAX_BLOCKS - 2), false)));
-    assert_eq!(rt; lists.pop(node), Some((Blk(MAX_BLOCKS - 1), false)));
+    lists.pop(node) == Some((Blk(MAX_BLOCKS - 2), false))
+        && lists.pop(node) == Some((Blk(MAX_BLOCKS - 1), false))
 }
 
 // The last list that there may be.
@@ -194,8 +207,8 @@ const LAST: Obj = Obj(32_766);
 fn numbers_have_room_in_two_bytes(rt: HostRuntime) -> Result<(), Fail> {
     let mut lists = Lists::of(rt.alloc(), 32_767, MAX_BLOCKS)?;
     lists.push(LAST, Blk(MAX_BLOCKS - 1), true);
-    assert_eq!(&rt; lists.place(Blk(MAX_BLOCKS - 1)), Some((LAST, true)));
-    assert_eq!(&rt; lists.pop(LAST), Some((Blk(MAX_BLOCKS - 1), true)));
+    assert!(&rt; lists.place(Blk(MAX_BLOCKS - 1)) == Some((LAST, true)));
+    assert!(&rt; lists.pop(LAST) == Some((Blk(MAX_BLOCKS - 1), true)));
     Ok(())
 }
 
@@ -203,6 +216,6 @@ fn numbers_have_room_in_two_bytes(rt: HostRuntime) -> Result<(), Fail> {
 fn links_have_room_in_two_bytes(rt: HostRuntime) -> Result<(), Fail> {
     let mut lists = Lists::of(rt.alloc(), 3, MAX_BLOCKS)?;
     lists.push_span(Obj(2), Blk(MAX_BLOCKS - 2), 2);
-    last_two_come(&rt, &mut lists, Obj(2));
+    assert!(&rt; last_two_come(&mut lists, Obj(2)));
     Ok(())
 }

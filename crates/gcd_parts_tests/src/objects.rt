@@ -1,25 +1,22 @@
-ghost use Rattle.std.specs.Prelude.{◌≡◌, length};
+ghost use Rattle.std.specs.Prelude.{◌≡◌, ◌<◌, length};
 
+use crate::plans::{expect_row, idle_plan, or_abort};
 use gcd_objects::Objects;
-use gcd_plan::{BlkPart, Kind, Obj, ObjPart, Parts, Plan};
-use std::alloc::{AllocError, Global};
-use std::process::Abort;
+use gcd_plan::{Kind, Obj, Plan};
+use std::alloc::Global;
 use std::test::Fail;
 
 // `root`, a queue and a group, and `main`.
-fn parts(alloc: Global) -> Result<Parts, AllocError> {
-    let main = BlkPart::new(alloc, "main")?;
-    let root = ObjPart::new(alloc, "root", Kind::Concurrent)?;
-    let queue = ObjPart::new(alloc, "q", Kind::Serial)?;
-    let group = ObjPart::new(alloc, "g", Kind::Group)?;
-    Ok(Parts {
-        objects: vec![in alloc; root, queue, group]?,
-        blocks: vec![in alloc; main]?,
-        files: Vec::new(alloc),
-        until: 1,
-        intake: None,
-        strips: Vec::new(alloc),
-    })
+fn new_plan(alloc: Global) -> Result<Plan, Fail> {
+    idle_plan(
+        alloc,
+        &[
+            ("root", Kind::Concurrent),
+            ("q", Kind::Serial),
+            ("g", Kind::Group),
+        ],
+        &["main"],
+    )
 }
 
 // A call, with what it answers.
@@ -30,7 +27,7 @@ enum Call {
     Release(Obj),
 }
 
-const CALLS: [Call; 16] = [
+static CALLS: [Call; 16] = [
     Call::Refs(Obj(0), 1),
     Call::Refs(Obj(1), 1),
     Call::IsLive(Obj(2), true),
@@ -49,36 +46,66 @@ const CALLS: [Call; 16] = [
     Call::IsLive(Obj(1), false),
 ];
 
-fn play(rt: &impl Abort, plan: &Plan, objects: &mut Objects, call: &Call)
+fn calls() -> &'static [Call] {
+    &CALLS
+}
+
+fn object_of(call: &Call) -> Obj {
+    match call {
+        Call::Refs(o, _) => *o,
+        Call::IsLive(o, _) => *o,
+        Call::Retain(o) => *o,
+        Call::Release(o) => *o,
+    }
+}
+
+fn retain(objects: &mut Objects, o: Obj) -> bool
+    requires { o.0 < length objects.old }
+    ensures { length objects.new ≡ length objects.old }
+{
+    if !objects.is_live(o) || objects.refs(o) >= 1000 {
+        return false;
+    }
+    objects.retain(o);
+    true
+}
+
+fn release(objects: &mut Objects, o: Obj) -> bool
+    requires { o.0 < length objects.old }
+    ensures { length objects.new ≡ length objects.old }
+{
+    if !objects.is_live(o) {
+        return false;
+    }
+    objects.release(o);
+    true
+}
+
+// Makes the call, and tells whether it may be made and answers so.
+fn play(plan: &Plan, objects: &mut Objects, call: &Call) -> bool
     requires { length objects.old ≡ length plan.now.objects }
     ensures { length objects.new ≡ length plan.now.objects }
 {
-    match call {
-        Call::Refs(o, _) | Call::IsLive(o, _) | Call::Retain(o) | Call::Release(o) => {
-            assert!(rt; o.0 < plan.objects());
-        }
+    let o = object_of(call);
+    if o.0 >= plan.objects() {
+        return false;
     }
     match call {
-        Call::Refs(o, answer) => assert_eq!(rt; objects.refs(*o), *answer),
-        Call::IsLive(o, answer) => assert_eq!(rt; objects.is_live(*o), *answer),
-        Call::Retain(o) => {
-            assert!(rt; objects.is_live(*o) && objects.refs(*o) < 1000);
-            objects.retain(*o);
-        }
-        Call::Release(o) => {
-            assert!(rt; objects.is_live(*o));
-            objects.release(*o);
-        }
+        Call::Refs(_, answer) => objects.refs(o) == *answer,
+        Call::IsLive(_, answer) => objects.is_live(o) == *answer,
+        Call::Retain(_) => retain(objects, o),
+        Call::Release(_) => release(objects, o),
     }
 }
 
 #[test]
 fn references_are_counted(rt: HostRuntime) -> Result<(), Fail> {
-    let made = Plan::of_parts(parts(rt.alloc())?).ok_or("a valid plan")?;
+    let made = new_plan(rt.alloc())?;
     let plan = &made;
-    let mut objects = Objects::new(rt.alloc(), plan)?.copied(rt.alloc())?;
-    for call in CALLS.iter() {
-        play(&rt, plan, &mut objects, call);
+    let first = or_abort(&rt, Objects::new(rt.alloc(), plan));
+    let mut objects = or_abort(&rt, first.copied(rt.alloc()));
+    for (row, call) in calls().iter().enumerate() {
+        expect_row(&rt, row, play(plan, &mut objects, call));
     }
     Ok(())
 }

@@ -1,41 +1,43 @@
-ghost use Rattle.std.specs.Prelude.{◌≡◌, length};
+ghost use Rattle.std.specs.Prelude.{◌≡◌, ◌<◌, length};
 
-use gcd_plan::{Act, BlkPart, Kind, MAX_VALUE, Obj, ObjPart, Parts, Plan};
+use crate::plans::{expect_row, idle_plan, main_with, objects, or_abort, parts, plan_of};
+use gcd_plan::{Act, BlkPart, Kind, MAX_VALUE, Obj, Plan};
 use gcd_sema::{Semas, has_awaited};
-use std::alloc::{AllocError, Global};
+use std::alloc::Global;
 use std::process::Abort;
 use std::test::Fail;
 
+// What `main` does.
+static ACTS: [Act; 12] = [
+    Act::Wait(Obj(1)),
+    Act::Wait(Obj(4)),
+    Act::WaitFor(Obj(4), 0),
+    Act::Signal(Obj(4)),
+    Act::WaitFor(Obj(1), 7),
+    Act::Wait(Obj(2)),
+    Act::WaitFor(Obj(4), 5),
+    Act::Wait(Obj(1)),
+    Act::WaitFor(Obj(4), 9),
+    Act::WaitFor(Obj(4), 9),
+    Act::Wait(Obj(1)),
+    Act::Wait(Obj(4)),
+];
+
 // `root`, semaphores of first value 1, 5, 2^31 - 1 and 0, and `main`, which waits for them 4 times, once, never and 6 times.
-fn parts(alloc: Global) -> Result<Parts, AllocError> {
-    let mut main = BlkPart::new(alloc, "main")?;
-    main.acts = vec![in alloc;
-        Act::Wait(Obj(1)),
-        Act::Wait(Obj(4)),
-        Act::WaitFor(Obj(4), 0),
-        Act::Signal(Obj(4)),
-        Act::WaitFor(Obj(1), 7),
-        Act::Wait(Obj(2)),
-        Act::WaitFor(Obj(4), 5),
-        Act::Wait(Obj(1)),
-        Act::WaitFor(Obj(4), 9),
-        Act::WaitFor(Obj(4), 9),
-        Act::Wait(Obj(1)),
-        Act::Wait(Obj(4)),
-    ]?;
-    let root = ObjPart::new(alloc, "root", Kind::Concurrent)?;
-    let one = ObjPart::new(alloc, "s", Kind::Semaphore(1))?;
-    let five = ObjPart::new(alloc, "t", Kind::Semaphore(5))?;
-    let most = ObjPart::new(alloc, "u", Kind::Semaphore(MAX_VALUE))?;
-    let none = ObjPart::new(alloc, "v", Kind::Semaphore(0))?;
-    Ok(Parts {
-        objects: vec![in alloc; root, one, five, most, none]?,
-        blocks: vec![in alloc; main]?,
-        files: Vec::new(alloc),
-        until: 1,
-        intake: None,
-        strips: Vec::new(alloc),
-    })
+fn new_plan(alloc: Global) -> Result<Plan, Fail> {
+    let objects = objects(
+        alloc,
+        &[
+            ("root", Kind::Concurrent),
+            ("s", Kind::Semaphore(1)),
+            ("t", Kind::Semaphore(5)),
+            ("u", Kind::Semaphore(MAX_VALUE)),
+            ("v", Kind::Semaphore(0)),
+        ],
+    )?;
+    let mut blocks = Vec::new(alloc);
+    blocks.push(main_with(alloc, &ACTS)?)?;
+    plan_of(parts(alloc, objects, blocks))
 }
 
 // A call, with what it answers.
@@ -160,52 +162,82 @@ fn object_of(call: &Call) -> Obj {
     }
 }
 
-fn play(rt: &impl Abort, plan: &Plan, semas: &mut Semas, call: &Call)
+// Waits, and tells whether the plan had room for that wait and it got this rank.
+fn wait(semas: &mut Semas, s: Obj, rank: u32) -> bool
+    requires { s.0 < length semas.old.waits }
+    ensures { length semas.new.waits ≡ length semas.old.waits }
+{
+    semas.waits(s) < semas.room(s) && semas.wait(s) == rank
+}
+
+fn signal(semas: &mut Semas, s: Obj) -> bool
+    requires { s.0 < length semas.old.waits }
+    ensures { length semas.new.waits ≡ length semas.old.waits }
+{
+    if semas.signals(s) >= 1000 {
+        return false;
+    }
+    semas.signal(s);
+    true
+}
+
+// The wait of this rank expires, if it has begun, and neither passed nor expired yet.
+fn expire(semas: &mut Semas, s: Obj, rank: u32) -> bool
+    requires { s.0 < length semas.old.waits }
+    ensures { length semas.new.waits ≡ length semas.old.waits }
+{
+    if rank == 0 || rank > semas.waits(s) {
+        return false;
+    }
+    if semas.passed(s, rank) || semas.has_expired(s, rank) {
+        return false;
+    }
+    semas.expire(s, rank);
+    true
+}
+
+fn has_expired(semas: &Semas, s: Obj, rank: u32, answer: bool) -> bool
+    requires { s.0 < length semas.now.waits }
+{
+    if rank == 0 || rank > semas.waits(s) {
+        return false;
+    }
+    semas.has_expired(s, rank) == answer
+}
+
+// Makes the call, and tells whether it may be made and answers so.
+fn play(plan: &Plan, semas: &mut Semas, call: &Call) -> bool
     requires { length semas.old.waits ≡ length plan.now.objects }
     ensures { length semas.new.waits ≡ length plan.now.objects }
 {
     let s = object_of(call);
-    assert!(rt; s.0 < plan.objects());
+    if s.0 >= plan.objects() {
+        return false;
+    }
     match call {
-        Call::Wait(_, answer) => {
-            assert!(rt; semas.waits(s) < semas.room(s));
-            assert_eq!(rt; semas.wait(s), *answer);
-        }
-        Call::Signal(_) => {
-            assert!(rt; semas.signals(s) < 1000);
-            semas.signal(s);
-        }
-        Call::Expire(_, rank) => {
-            assert!(rt; *rank > 0 && *rank <= semas.waits(s));
-            assert!(rt; !semas.passed(s, *rank));
-            assert!(rt; !semas.has_expired(s, *rank));
-            semas.expire(s, *rank);
-        }
-        Call::HasExpired(_, rank, answer) => {
-            assert!(rt; *rank > 0 && *rank <= semas.waits(s));
-            assert_eq!(rt; semas.has_expired(s, *rank), *answer);
-        }
-        Call::Passed(_, rank, answer) => {
-            assert!(rt; *rank > 0);
-            assert_eq!(rt; semas.passed(s, *rank), *answer);
-        }
-        Call::Value(_, answer) => assert_eq!(rt; semas.value(s), *answer),
+        Call::Wait(_, rank) => wait(semas, s, *rank),
+        Call::Signal(_) => signal(semas, s),
+        Call::Expire(_, rank) => expire(semas, s, *rank),
+        Call::HasExpired(_, rank, answer) => has_expired(semas, s, *rank, *answer),
+        Call::Passed(_, rank, answer) => *rank > 0 && semas.passed(s, *rank) == *answer,
+        Call::Value(_, answer) => semas.value(s) == *answer,
         Call::Counts(_, signals, waits) => {
-            assert_eq!(rt; (semas.signals(s), semas.waits(s)), (*signals, *waits));
+            semas.signals(s) == *signals && semas.waits(s) == *waits
         }
-        Call::IsBelowFirst(_, answer) => assert_eq!(rt; semas.is_below_first(s), *answer),
-        Call::HasValue(_, answer) => assert_eq!(rt; semas.has_value(s), *answer),
-        Call::Room(_, answer) => assert_eq!(rt; semas.room(s), *answer),
+        Call::IsBelowFirst(_, answer) => semas.is_below_first(s) == *answer,
+        Call::HasValue(_, answer) => semas.has_value(s) == *answer,
+        Call::Room(_, answer) => semas.room(s) == *answer,
     }
 }
 
 // A plan's semaphores before the first event, and all of these calls on them.
 fn play_all(rt: &impl Abort, alloc: Global, calls: &[Call]) -> Result<(), Fail> {
-    let made = Plan::of_parts(parts(alloc)?).ok_or("a valid plan")?;
+    let made = new_plan(alloc)?;
     let plan = &made;
-    let mut semas = Semas::new(alloc, plan)?.copied(alloc)?;
-    for call in calls.iter() {
-        play(rt, plan, &mut semas, call);
+    let first = or_abort(rt, Semas::new(alloc, plan));
+    let mut semas = or_abort(rt, first.copied(alloc));
+    for (row, call) in calls.iter().enumerate() {
+        expect_row(rt, row, play(plan, &mut semas, call));
     }
     Ok(())
 }
@@ -213,18 +245,9 @@ fn play_all(rt: &impl Abort, alloc: Global, calls: &[Call]) -> Result<(), Fail> 
 #[test]
 fn acts_may_wait_where_there_is_a_semaphore(rt: HostRuntime) -> Result<(), Fail> {
     let alloc = rt.alloc();
-    assert!(rt; has_awaited(&Plan::of_parts(parts(alloc)?).ok_or("a valid plan")?));
-    let queue = ObjPart::new(alloc, "q", Kind::Serial)?;
-    let without = Parts {
-        objects: vec![in alloc; ObjPart::new(alloc, "root", Kind::Concurrent)?, queue]?,
-        blocks: vec![in alloc; BlkPart::new(alloc, "main")?]?,
-        files: Vec::new(alloc),
-        until: 1,
-        intake: None,
-        strips: Vec::new(alloc),
-    };
-    let plan = Plan::of_parts(without).ok_or("a valid plan")?;
-    assert!(rt; !has_awaited(&plan));
+    assert!(rt; has_awaited(&new_plan(alloc)?));
+    let objects = [("root", Kind::Concurrent), ("q", Kind::Serial)];
+    assert!(rt; !has_awaited(&idle_plan(alloc, &objects, &["main"])?));
     Ok(())
 }
 

@@ -1,6 +1,6 @@
+use crate::plans::expect_row;
 use gcd_soonest::Times;
 use std::alloc::Global;
-use std::process::Abort;
 use std::test::Fail;
 
 // Times for the numbers below `len`, the times that come and the numbers whose time goes, and then the least, and the number
@@ -15,7 +15,7 @@ struct Row {
 
 const DAY: u32 = 86_400_000;
 
-const ROWS: [Row; 8] = [
+static ROWS: [Row; 8] = [
     Row {
         len: 0,
         set: &[],
@@ -74,38 +74,52 @@ const ROWS: [Row; 8] = [
     },
 ];
 
-fn set_at(rt: &impl Abort, times: &mut Times, i: u32, time: u32) {
-    assert!(rt; i < times.len() && time < 4_294_967_295);
+fn rows() -> &'static [Row] {
+    &ROWS
+}
+
+fn set_at(times: &mut Times, i: u32, time: u32) -> bool {
+    if i >= times.len() || time == 4_294_967_295 {
+        return false;
+    }
     times.set(i, time);
+    true
 }
 
-fn clear_at(rt: &impl Abort, times: &mut Times, i: u32) {
-    assert!(rt; i < times.len());
+fn clear_at(times: &mut Times, i: u32) -> bool {
+    if i >= times.len() {
+        return false;
+    }
     times.clear(i);
+    true
 }
 
-fn time_of(rt: &impl Abort, times: &Times, i: u32) -> Option<u32> {
-    assert!(rt; i < times.len());
-    times.get(i)
-}
-
-fn check_row(rt: &impl Abort, alloc: Global, row: &Row) -> Result<(), Fail> {
-    let mut made = Times::new(alloc, row.len)?;
+// Makes the row's changes, and tells whether each may be made.
+fn change(times: &mut Times, row: &Row) -> bool {
     for (i, time) in row.set {
-        set_at(rt, &mut made, *i, *time);
+        if !set_at(times, *i, *time) {
+            return false;
+        }
     }
     for i in row.clear {
-        clear_at(rt, &mut made, *i);
+        if !clear_at(times, *i) {
+            return false;
+        }
     }
+    true
+}
+
+fn row_is_right(alloc: Global, row: &Row) -> Result<bool, Fail> {
+    let mut made = Times::new(alloc, row.len)?;
+    let changed = change(&mut made, row);
     let times = made.copied(alloc)?;
-    assert_eq!(rt; (times.least(), times.soonest()), (row.least, row.soonest));
-    Ok(())
+    Ok(changed && times.least() == row.least && times.soonest() == row.soonest)
 }
 
 #[test]
 fn the_least_is_told(rt: HostRuntime) -> Result<(), Fail> {
-    for row in ROWS.iter() {
-        check_row(&rt, rt.alloc(), row)?;
+    for (number, row) in rows().iter().enumerate() {
+        expect_row(&rt, number, row_is_right(rt.alloc(), row)?);
     }
     Ok(())
 }
@@ -120,11 +134,16 @@ fn time_at(turn: u32) -> Option<u32> {
     }
 }
 
+// The time of a number, where there is such a number.
+fn time_of(times: &Times, i: u32) -> Option<u32> {
+    if i < times.len() { times.get(i) } else { None }
+}
+
 // The least by a look at each.
-fn least_by_looks(rt: &impl Abort, times: &Times) -> Option<u32> {
+fn least_by_looks(times: &Times) -> Option<u32> {
     let mut least = None;
     for i in 0..times.len() {
-        least = match (least, time_of(rt, times, i)) {
+        least = match (least, time_of(times, i)) {
             (Some(a), Some(b)) if b < a => Some(b),
             (None, time) => time,
             (earlier, _) => earlier,
@@ -133,16 +152,20 @@ fn least_by_looks(rt: &impl Abort, times: &Times) -> Option<u32> {
     least
 }
 
-fn take_turn(rt: &impl Abort, times: &mut Times, turn: u32) {
+// Makes the turn's change, and tells whether it may be made and the least is right then, and so the number that has it.
+fn take_turn(times: &mut Times, turn: u32) -> bool {
     let i = turn.wrapping_mul(2_246_822_519) % 37;
-    match time_at(turn) {
-        Some(time) => set_at(rt, times, i, time),
-        None => clear_at(rt, times, i),
-    }
+    let changed = match time_at(turn) {
+        Some(time) => set_at(times, i, time),
+        None => clear_at(times, i),
+    };
     let least = times.least();
-    assert_eq!(rt; least, least_by_looks(rt, times), "turn {turn}");
-    if let Some(i) = times.soonest() {
-        assert_eq!(rt; time_of(rt, times, i), least, "turn {turn}");
+    if !changed || least != least_by_looks(times) {
+        return false;
+    }
+    match times.soonest() {
+        Some(i) => i < times.len() && times.get(i) == least,
+        None => true,
     }
 }
 
@@ -150,7 +173,7 @@ fn take_turn(rt: &impl Abort, times: &mut Times, turn: u32) {
 fn the_least_is_that_of_all(rt: HostRuntime) -> Result<(), Fail> {
     let mut times = Times::new(rt.alloc(), 37)?;
     for turn in 0..2_000 {
-        take_turn(&rt, &mut times, turn);
+        expect_row(&rt, turn as usize, take_turn(&mut times, turn));
     }
     Ok(())
 }

@@ -1,29 +1,29 @@
-ghost use Rattle.std.specs.Prelude.{◌≡◌, length};
+ghost use Rattle.std.specs.Prelude.{◌≡◌, ◌<◌, length};
 
-use gcd_plan::{BlkPart, Kind, Obj, ObjPart, Parts, Plan};
+use crate::plans::{expect_row, idle_blocks, objects, or_abort, parts, plan_of};
+use gcd_plan::{Kind, Obj, ObjPart, Plan};
 use gcd_source::Sources;
 use std::alloc::{AllocError, Global};
-use std::process::Abort;
 use std::test::Fail;
 
-// `root`, an add source, an or source, a read source, another add source and a replace source, and `main`.
-fn parts(alloc: Global) -> Result<Parts, AllocError> {
-    let main = BlkPart::new(alloc, "main")?;
-    let root = ObjPart::new(alloc, "root", Kind::Concurrent)?;
-    let add = ObjPart::new(alloc, "a", Kind::Add)?;
-    let or = ObjPart::new(alloc, "o", Kind::Or)?;
+fn read_source(alloc: Global) -> Result<ObjPart, AllocError> {
     let mut read = ObjPart::new(alloc, "r", Kind::Read)?;
     read.path = String::from_str(alloc, "feed")?;
-    let other = ObjPart::new(alloc, "b", Kind::Add)?;
-    let replace = ObjPart::new(alloc, "n", Kind::Replace)?;
-    Ok(Parts {
-        objects: vec![in alloc; root, add, or, read, other, replace]?,
-        blocks: vec![in alloc; main]?,
-        files: Vec::new(alloc),
-        until: 1,
-        intake: None,
-        strips: Vec::new(alloc),
-    })
+    Ok(read)
+}
+
+// `root`, an add source, an or source, a read source, another add source and a replace source, and `main`.
+fn new_plan(alloc: Global) -> Result<Plan, Fail> {
+    let first = [
+        ("root", Kind::Concurrent),
+        ("a", Kind::Add),
+        ("o", Kind::Or),
+    ];
+    let mut objects = objects(alloc, &first)?;
+    objects.push(read_source(alloc)?)?;
+    objects.push(ObjPart::new(alloc, "b", Kind::Add)?)?;
+    objects.push(ObjPart::new(alloc, "n", Kind::Replace)?)?;
+    plan_of(parts(alloc, objects, idle_blocks(alloc, &["main"])?))
 }
 
 // A call, with what it answers.
@@ -35,7 +35,7 @@ enum Call {
     Cancel(Obj),
 }
 
-const CALLS: [Call; 46] = [
+static CALLS: [Call; 46] = [
     // An add source adds.
     Call::Pending(Obj(1), 0),
     Call::Merge(Obj(1), 5),
@@ -91,6 +91,10 @@ const CALLS: [Call; 46] = [
     Call::Pending(Obj(4), 0),
 ];
 
+fn calls() -> &'static [Call] {
+    &CALLS
+}
+
 fn object_of(call: &Call) -> Obj {
     match call {
         Call::Pending(s, _) => *s,
@@ -101,32 +105,47 @@ fn object_of(call: &Call) -> Obj {
     }
 }
 
-fn play(rt: &impl Abort, plan: &Plan, sources: &mut Sources, call: &Call)
+// Merges a value, if it and what is pending are so small that their sum has room.
+fn merge(sources: &mut Sources, s: Obj, v: u64) -> bool
+    requires { s.0 < length sources.old.kinds }
+    ensures { length sources.new.kinds ≡ length sources.old.kinds }
+{
+    if sources.pending(s) >= 1000 || v >= 1000 {
+        return false;
+    }
+    sources.merge(s, v);
+    true
+}
+
+// Makes the call, and tells whether it may be made and answers so.
+fn play(plan: &Plan, sources: &mut Sources, call: &Call) -> bool
     requires { length sources.old.kinds ≡ length plan.now.objects }
     ensures { length sources.new.kinds ≡ length plan.now.objects }
 {
     let s = object_of(call);
-    assert!(rt; s.0 < plan.objects());
+    if s.0 >= plan.objects() {
+        return false;
+    }
     match call {
-        Call::Pending(_, answer) => assert_eq!(rt; sources.pending(s), *answer),
-        Call::IsCancelled(_, answer) => assert_eq!(rt; sources.is_cancelled(s), *answer),
-        Call::Merge(_, v) => {
-            assert!(rt; sources.pending(s) < 1000);
-            assert!(rt; *v < 1000);
-            sources.merge(s, *v);
+        Call::Pending(_, answer) => sources.pending(s) == *answer,
+        Call::IsCancelled(_, answer) => sources.is_cancelled(s) == *answer,
+        Call::Merge(_, v) => merge(sources, s, *v),
+        Call::Take(_, answer) => sources.take(s) == *answer,
+        Call::Cancel(_) => {
+            sources.cancel(s);
+            true
         }
-        Call::Take(_, answer) => assert_eq!(rt; sources.take(s), *answer),
-        Call::Cancel(_) => sources.cancel(s),
     }
 }
 
 #[test]
 fn merges_and_takings(rt: HostRuntime) -> Result<(), Fail> {
-    let made = Plan::of_parts(parts(rt.alloc())?).ok_or("a valid plan")?;
+    let made = new_plan(rt.alloc())?;
     let plan = &made;
-    let mut sources = Sources::new(rt.alloc(), plan)?.copied(rt.alloc())?;
-    for call in CALLS.iter() {
-        play(&rt, plan, &mut sources, call);
+    let first = or_abort(&rt, Sources::new(rt.alloc(), plan));
+    let mut sources = or_abort(&rt, first.copied(rt.alloc()));
+    for (row, call) in calls().iter().enumerate() {
+        expect_row(&rt, row, play(plan, &mut sources, call));
     }
     Ok(())
 }

@@ -1,94 +1,46 @@
 ghost use Rattle.std.specs.Prelude.{◌≡◌, length};
 
+use crate::plans::{expect_row, objects, or_abort, plan_with_strips, push_pieces, strip};
 use gcd_apply::{Strips, one_thread};
-use gcd_plan::{
-    Blk, BlkPart, FilePart, How, Kind, MAX_FILE_BYTES, ObjPart, Parts, Plan, StripPart, Work,
-};
+use gcd_plan::{Blk, BlkPart, How, Kind, MAX_FILE_BYTES, Plan, StripPart};
 use std::alloc::{AllocError, Global};
-use std::process::Abort;
 use std::test::Fail;
 
-// A block of a strip, which counts the bytes of its part.
-fn piece(alloc: Global, name: &str, how: How, start: u32, len: u32) -> Result<BlkPart, AllocError> {
-    let mut block = BlkPart::new(alloc, name)?;
-    block.work = Some(Work {
-        how,
-        file: 0,
-        start,
-        len,
-    });
-    Ok(block)
-}
-
-// `main`, the three blocks of strip `a`, a block of no strip, and the two of strip `c`.
+// `main`, the three blocks of strip `a`, which count the bytes of their parts, a block of no strip, and the two of strip `c`.
 fn blocks(alloc: Global) -> Result<Vec<BlkPart>, AllocError> {
     let mut blocks = Vec::new(alloc);
     blocks.push(BlkPart::new(alloc, "main")?)?;
-    for (name, start) in [("a.0", 0), ("a.1", 4), ("a.2", 8)] {
-        blocks.push(piece(alloc, name, How::Bytes, start, 4)?)?;
-    }
+    push_pieces(
+        alloc,
+        &mut blocks,
+        How::Bytes,
+        4,
+        &[("a.0", 0), ("a.1", 4), ("a.2", 8)],
+    )?;
     blocks.push(BlkPart::new(alloc, "b")?)?;
-    for (name, start) in [("c.0", 0), ("c.1", MAX_FILE_BYTES)] {
-        blocks.push(piece(alloc, name, How::Sum, start, MAX_FILE_BYTES)?)?;
-    }
+    push_pieces(
+        alloc,
+        &mut blocks,
+        How::Sum,
+        MAX_FILE_BYTES,
+        &[("c.0", 0), ("c.1", MAX_FILE_BYTES)],
+    )?;
     Ok(blocks)
-}
-
-fn strip(
-    alloc: Global,
-    name: &str,
-    how: How,
-    len: u32,
-    first: u32,
-    count: u32,
-) -> Result<StripPart, AllocError> {
-    Ok(StripPart {
-        name: String::from_str(alloc, name)?,
-        how,
-        file: 0,
-        len,
-        first,
-        count,
-    })
 }
 
 // Three strips, of which the second is empty.
 fn strips(alloc: Global) -> Result<Vec<StripPart>, AllocError> {
-    let a = strip(alloc, "a", How::Bytes, 4, 1, 3)?;
-    let e = strip(alloc, "e", How::Words, 1, 7, 0)?;
-    let c = strip(alloc, "c", How::Sum, MAX_FILE_BYTES, 5, 2)?;
-    Ok(vec![in alloc; a, e, c]?)
-}
-
-fn objects(alloc: Global) -> Result<Vec<ObjPart>, AllocError> {
-    Ok(vec![in alloc; ObjPart::new(alloc, "root", Kind::Concurrent)?]?)
-}
-
-fn file(alloc: Global) -> Result<FilePart, AllocError> {
-    Ok(FilePart {
-        name: String::from_str(alloc, "f")?,
-        path: String::from_str(alloc, "f.txt")?,
-        line: 1,
-    })
-}
-
-fn files(alloc: Global) -> Result<Vec<FilePart>, AllocError> {
-    Ok(vec![in alloc; file(alloc)?]?)
-}
-
-fn parts(alloc: Global) -> Result<Parts, AllocError> {
-    Ok(Parts {
-        objects: objects(alloc)?,
-        blocks: blocks(alloc)?,
-        files: files(alloc)?,
-        until: 1,
-        intake: None,
-        strips: strips(alloc)?,
-    })
+    let mut strips = Vec::new(alloc);
+    strips.push(strip(alloc, "a", How::Bytes, 4, 1, 3)?)?;
+    strips.push(strip(alloc, "e", How::Words, 1, 7, 0)?)?;
+    strips.push(strip(alloc, "c", How::Sum, MAX_FILE_BYTES, 5, 2)?)?;
+    Ok(strips)
 }
 
 fn new_plan(alloc: Global) -> Result<Plan, Fail> {
-    Ok(Plan::of_parts(parts(alloc)?).ok_or("a valid plan")?)
+    let objects = objects(alloc, &[("root", Kind::Concurrent)])?;
+    let blocks = blocks(alloc)?;
+    plan_with_strips(alloc, objects, blocks, strips(alloc)?)
 }
 
 // A call, with what it answers.
@@ -98,7 +50,7 @@ enum Call {
     Done(Blk),
 }
 
-const CALLS: [Call; 30] = [
+static CALLS: [Call; 30] = [
     Call::Left(0, 3),
     Call::Left(1, 0),
     Call::Left(2, 2),
@@ -133,48 +85,69 @@ const CALLS: [Call; 30] = [
     Call::StripOf(Blk(6), Some(2)),
 ];
 
-fn play(rt: &impl Abort, strips: &mut Strips, call: &Call) {
+fn calls() -> &'static [Call] {
+    &CALLS
+}
+
+// Makes the call, and tells whether it answers so.
+fn play(strips: &mut Strips, call: &Call) -> bool {
     match call {
-        Call::Left(a, answer) => assert_eq!(rt; strips.left(*a), *answer, "strip {a}"),
-        Call::StripOf(blk, answer) => assert_eq!(rt; strips.strip_of(*blk), *answer, "{blk:?}"),
-        Call::Done(blk) => strips.done(*blk),
+        Call::Left(a, answer) => strips.left(*a) == *answer,
+        Call::StripOf(blk, answer) => strips.strip_of(*blk) == *answer,
+        Call::Done(blk) => {
+            strips.done(*blk);
+            true
+        }
     }
 }
 
 #[test]
 fn strips_count_what_is_left(rt: HostRuntime) -> Result<(), Fail> {
     let plan = new_plan(rt.alloc())?;
-    let mut strips = Strips::new(rt.alloc(), &plan)?.copied(rt.alloc())?;
-    for call in CALLS.iter() {
-        play(&rt, &mut strips, call);
+    let first = or_abort(&rt, Strips::new(rt.alloc(), &plan));
+    let mut strips = or_abort(&rt, first.copied(rt.alloc()));
+    for (row, call) in calls().iter().enumerate() {
+        expect_row(&rt, row, play(&mut strips, call));
     }
     Ok(())
 }
 
-// Where a strip's values stand behind what the list had.
-fn values(
-    rt: &impl Abort,
-    alloc: Global,
-    plan: &Plan,
-    a: u32,
-    answer: &[u64],
-) -> Result<(), AllocError> {
+// The bytes of the one file.
+fn bytes(alloc: Global) -> Result<Vec<u8>, AllocError> {
     let mut bytes = Vec::new(alloc);
     bytes.extend_from_slice(b"0123456789")?;
-    let files = vec![in alloc; bytes]?;
-    let mut into = vec![in alloc; 7]?;
-    one_thread(plan, &files, a, &mut into)?;
-    assert!(rt; into.as_slice() == answer);
-    Ok(())
+    Ok(bytes)
+}
+
+// Whether a strip's values stand so behind what the list had.
+fn has_values(
+    alloc: Global,
+    plan: &Plan,
+    files: &[Vec<u8>],
+    a: u32,
+    answer: &[u64],
+) -> Result<bool, AllocError> {
+    let mut into = Vec::new(alloc);
+    into.push(7)?;
+    one_thread(plan, files, a, &mut into)?;
+    Ok(into.as_slice() == answer)
+}
+
+// Strips, and the values of each.
+static VALUES: [(u32, &[u64]); 4] = [(0, &[7, 4, 4, 2]), (1, &[7]), (2, &[7, 525, 0]), (3, &[7])];
+
+fn values() -> &'static [(u32, &'static [u64])] {
+    &VALUES
 }
 
 #[test]
 fn one_thread_gives_values_by_index(rt: HostRuntime) -> Result<(), Fail> {
-    let alloc = rt.alloc();
-    let plan = new_plan(alloc)?;
-    values(&rt, alloc, &plan, 0, &[7, 4, 4, 2])?;
-    values(&rt, alloc, &plan, 1, &[7])?;
-    values(&rt, alloc, &plan, 2, &[7, 525, 0])?;
-    values(&rt, alloc, &plan, 3, &[7])?;
+    let plan = new_plan(rt.alloc())?;
+    let mut files = Vec::new(rt.alloc());
+    files.push(bytes(rt.alloc())?)?;
+    for (row, (a, answer)) in values().iter().enumerate() {
+        let right = has_values(rt.alloc(), &plan, &files, *a, answer)?;
+        expect_row(&rt, row, right);
+    }
     Ok(())
 }

@@ -1,105 +1,62 @@
-ghost use Rattle.std.specs.Prelude.{◌≡◌, length};
+ghost use Rattle.std.specs.Prelude.{◌≡◌, true, length};
+ghost use Rattle.gcd_sync.specs.WaitsView.{Fits};
 
+use crate::plans::{
+    expect_row, main_with, or_abort, parts, plan_of, plan_with_strips, push_pieces, strip,
+};
 use gcd_apply::Strips;
 use gcd_group::Groups;
-use gcd_plan::{
-    Act, Blk, BlkPart, FilePart, How, Kind, Obj, ObjPart, Parts, Plan, Reason, StripPart, Work,
-};
+use gcd_plan::{Act, Blk, BlkPart, How, Kind, Obj, ObjPart, Plan, Reason, StripPart};
 use gcd_sema::Semas;
 use gcd_sync::{Waits, limit_room};
 use std::alloc::{AllocError, Global};
 use std::process::Abort;
 use std::test::Fail;
 
-// A strip of two blocks, from block 4 on.
-fn strip(alloc: Global) -> Result<StripPart, AllocError> {
-    Ok(StripPart {
-        name: String::from_str(alloc, "t")?,
-        how: How::Lines,
-        file: 0,
-        len: 8,
-        first: 4,
-        count: 2,
-    })
-}
-
-// A block of that strip.
-fn piece(alloc: Global, name: &str, start: u32) -> Result<BlkPart, AllocError> {
-    let mut block = BlkPart::new(alloc, name)?;
-    block.work = Some(Work {
-        how: How::Lines,
-        file: 0,
-        start,
-        len: 8,
-    });
-    Ok(block)
-}
-
-fn file(alloc: Global) -> Result<FilePart, AllocError> {
-    Ok(FilePart {
-        name: String::from_str(alloc, "f")?,
-        path: String::from_str(alloc, "f.txt")?,
-        line: 1,
-    })
-}
-
 // `root`, a group, a semaphore of first value 1 and another group.
 fn objects(alloc: Global) -> Result<Vec<ObjPart>, AllocError> {
-    let mut objects = Vec::new(alloc);
-    for (name, kind) in [
-        ("root", Kind::Concurrent),
-        ("g", Kind::Group),
-        ("s", Kind::Semaphore(1)),
-        ("h", Kind::Group),
-    ] {
-        objects.push(ObjPart::new(alloc, name, kind)?)?;
-    }
-    Ok(objects)
+    crate::plans::objects(
+        alloc,
+        &[
+            ("root", Kind::Concurrent),
+            ("g", Kind::Group),
+            ("s", Kind::Semaphore(1)),
+            ("h", Kind::Group),
+        ],
+    )
 }
 
-// `main`, which waits for the semaphore five times.
-fn main_block(alloc: Global) -> Result<BlkPart, AllocError> {
-    let mut main = BlkPart::new(alloc, "main")?;
-    main.acts = vec![in alloc;
-        Act::Wait(Obj(2)),
-        Act::Wait(Obj(2)),
-        Act::Wait(Obj(2)),
-        Act::WaitFor(Obj(2), 9),
-        Act::Wait(Obj(2)),
-    ]?;
-    Ok(main)
-}
+// Of `main`, which waits for the semaphore five times.
+static ACTS: [Act; 5] = [
+    Act::Wait(Obj(2)),
+    Act::Wait(Obj(2)),
+    Act::Wait(Obj(2)),
+    Act::WaitFor(Obj(2), 9),
+    Act::Wait(Obj(2)),
+];
 
 // `main`, three blocks, and the two of the strip.
 fn blocks(alloc: Global) -> Result<Vec<BlkPart>, AllocError> {
     let mut blocks = Vec::new(alloc);
-    blocks.push(main_block(alloc)?)?;
-    for name in ["a", "b", "c"] {
-        blocks.push(BlkPart::new(alloc, name)?)?;
-    }
-    for (name, start) in [("t.0", 0), ("t.1", 8)] {
-        blocks.push(piece(alloc, name, start)?)?;
-    }
+    blocks.push(main_with(alloc, &ACTS)?)?;
+    blocks.push(BlkPart::new(alloc, "a")?)?;
+    blocks.push(BlkPart::new(alloc, "b")?)?;
+    blocks.push(BlkPart::new(alloc, "c")?)?;
+    push_pieces(alloc, &mut blocks, How::Lines, 8, &[("t.0", 0), ("t.1", 8)])?;
     Ok(blocks)
 }
 
-fn files(alloc: Global) -> Result<Vec<FilePart>, AllocError> {
-    Ok(vec![in alloc; file(alloc)?]?)
-}
-
+// A strip of two blocks, from block 4 on.
 fn strips(alloc: Global) -> Result<Vec<StripPart>, AllocError> {
-    Ok(vec![in alloc; strip(alloc)?]?)
+    let mut strips = Vec::new(alloc);
+    strips.push(strip(alloc, "t", How::Lines, 8, 4, 2)?)?;
+    Ok(strips)
 }
 
-fn parts(alloc: Global) -> Result<Parts, AllocError> {
-    Ok(Parts {
-        objects: objects(alloc)?,
-        blocks: blocks(alloc)?,
-        files: files(alloc)?,
-        until: 1,
-        intake: None,
-        strips: strips(alloc)?,
-    })
+fn new_plan(alloc: Global) -> Result<Plan, Fail> {
+    let objects = objects(alloc)?;
+    let blocks = blocks(alloc)?;
+    plan_with_strips(alloc, objects, blocks, strips(alloc)?)
 }
 
 // The parts of one plan, and which of its blocks have ended.
@@ -125,18 +82,19 @@ struct World {
     ghost ended_fit: { length ended.items ≡ blocks },
 }
 
-fn new_world(alloc: Global, plan: &Plan) -> Result<World, AllocError> {
-    Ok(World {
+fn new_world(rt: &impl Abort, alloc: Global, plan: &Plan) -> World {
+    let waits = or_abort(rt, Waits::new(alloc, plan));
+    World {
         objects: plan.objects(),
         blocks: plan.blocks(),
         strip_count: plan.strips().len(),
         room: limit_room(plan),
-        waits: Waits::new(alloc, plan)?.copied(alloc)?,
-        groups: Groups::new(alloc, plan)?,
-        semas: Semas::new(alloc, plan)?,
-        strips: Strips::new(alloc, plan)?,
-        ended: vec![in alloc; false; plan.blocks() as usize]?,
-    })
+        waits: or_abort(rt, waits.copied(alloc)),
+        groups: or_abort(rt, Groups::new(alloc, plan)),
+        semas: or_abort(rt, Semas::new(alloc, plan)),
+        strips: or_abort(rt, Strips::new(alloc, plan)),
+        ended: or_abort(rt, vec![in alloc; false; plan.blocks() as usize]),
+    }
 }
 
 // A call, with what it answers; a call on a group comes with the length of the history after it.
@@ -261,173 +219,191 @@ static CALLS: [Call; 92] = [
     Call::Limit(Blk(3), None),
 ];
 
-// Parks a block for what is of the plan, at a position that has one after it, or for a rank from 1.
-fn park(rt: &impl Abort, world: &mut World, blk: Blk, why: Reason) {
-    assert!(rt; blk.0 < world.blocks);
+fn calls() -> &'static [Call] {
+    &CALLS
+}
+
+// Whether what is waited for is of the plan, at a position that has one after it, or for a rank from 1.
+fn fits(world: &World, why: Reason) -> bool
+    ensures { result ≡ true → Fits world.now.waits why }
+{
     match why {
-        Reason::Block(b) => assert!(rt; b.0 < world.blocks),
-        Reason::Group(g, position) => assert!(rt; g.0 < world.objects && position < 1000),
-        Reason::Strip(a) => assert!(rt; (a as usize) < world.strip_count),
-        Reason::Rank(s, rank) => assert!(rt; s.0 < world.objects && rank > 0),
+        Reason::Block(b) => b.0 < world.blocks,
+        Reason::Group(g, position) => g.0 < world.objects && position < 1000,
+        Reason::Strip(a) => (a as usize) < world.strip_count,
+        Reason::Rank(s, rank) => s.0 < world.objects && rank > 0,
+    }
+}
+
+fn park(world: &mut World, blk: Blk, why: Reason) -> bool {
+    if blk.0 >= world.blocks || !fits(world, why) {
+        return false;
     }
     world.waits.park(blk, why);
+    true
 }
 
-fn park_until(rt: &impl Abort, world: &mut World, blk: Blk, why: Reason, at: u32) {
-    assert!(rt; blk.0 < world.blocks && blk.0 < world.room && at < 1000);
-    match why {
-        Reason::Block(b) => assert!(rt; b.0 < world.blocks),
-        Reason::Group(g, position) => assert!(rt; g.0 < world.objects && position < 1000),
-        Reason::Strip(a) => assert!(rt; (a as usize) < world.strip_count),
-        Reason::Rank(s, rank) => assert!(rt; s.0 < world.objects && rank > 0),
+fn park_until(world: &mut World, blk: Blk, why: Reason, at: u32) -> bool {
+    if blk.0 >= world.blocks || blk.0 >= world.room || at >= 1000 || !fits(world, why) {
+        return false;
     }
     world.waits.park_until(blk, why, at);
+    true
 }
 
-fn limit(rt: &impl Abort, world: &World, blk: Blk) -> Option<u32> {
-    assert!(rt; blk.0 < world.blocks);
-    world.waits.limit(blk)
+fn has_limit(world: &World, blk: Blk, answer: Option<u32>) -> bool {
+    blk.0 < world.blocks && world.waits.limit(blk) == answer
 }
 
-fn expire(rt: &impl Abort, world: &mut World, blk: Blk) {
-    assert!(rt; blk.0 < world.blocks);
-    assert!(rt; world.waits.limit(blk).is_some());
+fn expire(world: &mut World, blk: Blk) -> bool {
+    if blk.0 >= world.blocks || world.waits.limit(blk).is_none() {
+        return false;
+    }
     world.waits.expire(blk);
+    true
 }
 
-fn has_expired(rt: &impl Abort, world: &World, blk: Blk) -> bool {
-    assert!(rt; blk.0 < world.blocks);
-    world.waits.has_expired(blk)
+fn has_expired(world: &World, blk: Blk, answer: bool) -> bool {
+    blk.0 < world.blocks && world.waits.has_expired(blk) == answer
 }
 
-fn reason(rt: &impl Abort, world: &World, blk: Blk) -> Option<Reason> {
-    assert!(rt; blk.0 < world.blocks);
-    world.waits.reason(blk)
+fn has_reason(world: &World, blk: Blk, answer: Option<Reason>) -> bool {
+    blk.0 < world.blocks && world.waits.reason(blk) == answer
 }
 
-fn may_wake(rt: &impl Abort, world: &World, blk: Blk) -> bool {
-    assert!(rt; blk.0 < world.blocks);
-    assert!(rt; world.waits.reason(blk).is_some());
+// Whether the answer is right for a block that is parked.
+fn may_wake(world: &World, blk: Blk, answer: bool) -> bool {
+    if blk.0 >= world.blocks || world.waits.reason(blk).is_none() {
+        return false;
+    }
     world.waits.may_wake(
         &world.groups,
         &world.semas,
         &world.strips,
         &world.ended,
         blk,
-    )
+    ) == answer
 }
 
-fn woken(rt: &impl Abort, world: &mut World, blk: Blk) {
-    assert!(rt; blk.0 < world.blocks);
+fn woken(world: &mut World, blk: Blk) -> bool {
+    if blk.0 >= world.blocks {
+        return false;
+    }
     world.waits.woken(blk);
+    true
 }
 
-fn ends(rt: &impl Abort, world: &mut World, blk: Blk) {
-    assert!(rt; blk.0 < world.blocks);
+fn ends(world: &mut World, blk: Blk) -> bool {
+    if blk.0 >= world.blocks {
+        return false;
+    }
     world.ended[blk.0 as usize] = true;
+    true
 }
 
-fn strip_ends(rt: &impl Abort, world: &mut World, blk: Blk) {
-    assert!(rt; world.strips.strip_of(blk).is_some());
+fn strip_ends(world: &mut World, blk: Blk) -> bool {
+    if world.strips.strip_of(blk).is_none() {
+        return false;
+    }
     world.strips.done(blk);
+    true
 }
 
-fn enter(rt: &impl Abort, world: &mut World, g: Obj, at: u32) {
-    assert!(rt; g.0 < world.objects && 0 < at);
-    assert!(rt; world.groups.count(g) < 1000);
+fn enter(world: &mut World, g: Obj, at: u32) -> bool {
+    if g.0 >= world.objects || at == 0 || world.groups.count(g) >= 1000 {
+        return false;
+    }
     world.groups.enter(g, at);
+    true
 }
 
-fn leave(rt: &impl Abort, world: &mut World, g: Obj, at: u32) {
-    assert!(rt; g.0 < world.objects);
-    assert!(rt; world.groups.entered(g) > 0);
+fn leave(world: &mut World, g: Obj, at: u32) -> bool {
+    if g.0 >= world.objects || world.groups.entered(g) == 0 {
+        return false;
+    }
     world.groups.leave(g, at);
+    true
 }
 
-fn wait(rt: &impl Abort, world: &mut World, s: Obj) -> u32 {
-    assert!(rt; s.0 < world.objects);
-    assert!(rt; world.semas.waits(s) < world.semas.room(s));
-    world.semas.wait(s)
+// Waits, and tells whether the plan had room for that wait and it got this rank.
+fn wait(world: &mut World, s: Obj, rank: u32) -> bool {
+    if s.0 >= world.objects || world.semas.waits(s) >= world.semas.room(s) {
+        return false;
+    }
+    world.semas.wait(s) == rank
 }
 
-fn wait_expires(rt: &impl Abort, world: &mut World, s: Obj, rank: u32) {
-    assert!(rt; s.0 < world.objects);
-    assert!(rt; rank > 0 && rank <= world.semas.waits(s));
-    assert!(rt; !world.semas.passed(s, rank));
-    assert!(rt; !world.semas.has_expired(s, rank));
+// The wait of this rank expires, if it has begun, and neither passed nor expired yet.
+fn wait_expires(world: &mut World, s: Obj, rank: u32) -> bool {
+    if s.0 >= world.objects || rank == 0 || rank > world.semas.waits(s) {
+        return false;
+    }
+    if world.semas.passed(s, rank) || world.semas.has_expired(s, rank) {
+        return false;
+    }
     world.semas.expire(s, rank);
+    true
 }
 
-fn signal(rt: &impl Abort, world: &mut World, s: Obj) {
-    assert!(rt; s.0 < world.objects);
-    assert!(rt; world.semas.signals(s) < 1000);
+fn signal(world: &mut World, s: Obj) -> bool {
+    if s.0 >= world.objects || world.semas.signals(s) >= 1000 {
+        return false;
+    }
     world.semas.signal(s);
+    true
 }
 
-fn play(rt: &impl Abort, world: &mut World, call: &Call) {
+// Makes the call, and tells whether it may be made and answers so.
+fn play(world: &mut World, call: &Call) -> bool {
     match call {
-        Call::Park(blk, why) => park(rt, world, *blk, *why),
-        Call::ParkUntil(blk, why, at) => park_until(rt, world, *blk, *why, *at),
-        Call::Limit(blk, answer) => assert_eq!(rt; limit(rt, world, *blk), *answer, "{blk:?}"),
-        Call::Expire(blk) => expire(rt, world, *blk),
-        Call::HasExpired(blk, answer) => {
-            assert_eq!(rt; has_expired(rt, world, *blk), *answer, "{blk:?}");
-        }
-        Call::Reason(blk, answer) => assert_eq!(rt; reason(rt, world, *blk), *answer, "{blk:?}"),
-        Call::MayWake(blk, answer) => assert_eq!(rt; may_wake(rt, world, *blk), *answer, "{blk:?}"),
-        Call::Woken(blk) => woken(rt, world, *blk),
-        Call::Ends(blk) => ends(rt, world, *blk),
-        Call::StripEnds(blk) => strip_ends(rt, world, *blk),
-        Call::Enter(g, at) => enter(rt, world, *g, *at),
-        Call::Leave(g, at) => leave(rt, world, *g, *at),
-        Call::Wait(s, rank) => assert_eq!(rt; wait(rt, world, *s), *rank, "{s:?}"),
-        Call::Signal(s) => signal(rt, world, *s),
-        Call::WaitExpires(s, rank) => wait_expires(rt, world, *s, *rank),
+        Call::Park(blk, why) => park(world, *blk, *why),
+        Call::ParkUntil(blk, why, at) => park_until(world, *blk, *why, *at),
+        Call::Limit(blk, answer) => has_limit(world, *blk, *answer),
+        Call::Expire(blk) => expire(world, *blk),
+        Call::HasExpired(blk, answer) => has_expired(world, *blk, *answer),
+        Call::Reason(blk, answer) => has_reason(world, *blk, *answer),
+        Call::MayWake(blk, answer) => may_wake(world, *blk, *answer),
+        Call::Woken(blk) => woken(world, *blk),
+        Call::Ends(blk) => ends(world, *blk),
+        Call::StripEnds(blk) => strip_ends(world, *blk),
+        Call::Enter(g, at) => enter(world, *g, *at),
+        Call::Leave(g, at) => leave(world, *g, *at),
+        Call::Wait(s, rank) => wait(world, *s, *rank),
+        Call::Signal(s) => signal(world, *s),
+        Call::WaitExpires(s, rank) => wait_expires(world, *s, *rank),
     }
 }
 
-// The plan of those parts, but that `main` has these acts.
-// `main` with these acts, and a block.
-fn two_blocks(alloc: Global, acts: &[Act]) -> Result<Vec<BlkPart>, AllocError> {
-    let mut main = BlkPart::new(alloc, "main")?;
-    main.acts = Vec::from_slice(alloc, acts)?;
-    let mut blocks = vec![in alloc; main]?;
+// A plan of those objects in which `main` has these acts, and of a block.
+fn plan_with(alloc: Global, acts: &[Act]) -> Result<Plan, Fail> {
+    let objects = objects(alloc)?;
+    let mut blocks = Vec::new(alloc);
+    blocks.push(main_with(alloc, acts)?)?;
     blocks.push(BlkPart::new(alloc, "a")?)?;
-    Ok(blocks)
+    plan_of(parts(alloc, objects, blocks))
 }
 
-fn plan_with(alloc: Global, acts: &[Act]) -> Result<Plan, Fail> {
-    let parts = Parts {
-        objects: objects(alloc)?,
-        blocks: two_blocks(alloc, acts)?,
-        files: Vec::new(alloc),
-        until: 1,
-        intake: None,
-        strips: Vec::new(alloc),
-    };
-    Ok(Plan::of_parts(parts).ok_or("a valid plan")?)
+fn room_for(alloc: Global, acts: &[Act]) -> Result<u32, Fail> {
+    Ok(limit_room(&plan_with(alloc, acts)?))
 }
 
 #[test]
 fn limits_are_kept_where_an_act_has_one(rt: HostRuntime) -> Result<(), Fail> {
     let alloc = rt.alloc();
     let waits = [Act::Wait(Obj(2)), Act::GroupWait(Obj(1))];
-    assert_eq!(rt; limit_room(&plan_with(alloc, &waits)?), 0);
+    assert!(rt; room_for(alloc, &waits)? == 0);
     let limited = [Act::Wait(Obj(2)), Act::GroupWaitFor(Obj(1), 0)];
-    assert_eq!(rt; limit_room(&plan_with(alloc, &limited)?), 2);
-    assert_eq!(rt;
-        limit_room(&Plan::of_parts(parts(alloc)?).ok_or("a valid plan")?),
-        6
-    );
+    assert!(rt; room_for(alloc, &limited)? == 2);
+    assert!(rt; limit_room(&new_plan(alloc)?) == 6);
     Ok(())
 }
 
 #[test]
 fn parked_blocks_wake(rt: HostRuntime) -> Result<(), Fail> {
-    let plan = Plan::of_parts(parts(rt.alloc())?).ok_or("a valid plan")?;
-    let mut world = new_world(rt.alloc(), &plan)?;
-    for call in CALLS.iter() {
-        play(&rt, &mut world, call);
+    let plan = new_plan(rt.alloc())?;
+    let mut world = new_world(&rt, rt.alloc(), &plan);
+    for (row, call) in calls().iter().enumerate() {
+        expect_row(&rt, row, play(&mut world, call));
     }
     Ok(())
 }

@@ -1,32 +1,32 @@
 ghost use Rattle.std.specs.Prelude.{◌≡◌, length};
 
+use crate::plans::{expect_row, idle_blocks, objects, or_abort, parts, plan_of};
 use gcd_bits::BitSet;
-use gcd_plan::{BlkPart, Kind, MAX_TIME, Obj, ObjPart, Parts, Plan};
+use gcd_plan::{Kind, MAX_TIME, Obj, Plan};
 use gcd_timer::Timers;
-use std::alloc::{AllocError, Global};
+use std::alloc::Global;
 use std::process::Abort;
 use std::test::Fail;
 
-fn timer(alloc: Global, name: &str, start: u32, every: u32) -> Result<ObjPart, AllocError> {
-    ObjPart::new(alloc, name, Kind::Timer { start, every })
-}
-
 // `root`, three timers and a queue, and `main`.
-fn parts(alloc: Global, until: u32) -> Result<Parts, AllocError> {
-    let main = BlkPart::new(alloc, "main")?;
-    let root = ObjPart::new(alloc, "root", Kind::Concurrent)?;
-    let fives = timer(alloc, "fives", 10, 5)?;
-    let nines = timer(alloc, "nines", 3, 9)?;
-    let queue = ObjPart::new(alloc, "q", Kind::Serial)?;
-    let ones = timer(alloc, "ones", 1, 1)?;
-    Ok(Parts {
-        objects: vec![in alloc; root, fives, nines, queue, ones]?,
-        blocks: vec![in alloc; main]?,
-        files: Vec::new(alloc),
-        until,
-        intake: None,
-        strips: Vec::new(alloc),
-    })
+fn new_plan(alloc: Global, until: u32) -> Result<Plan, Fail> {
+    let table = [
+        ("root", Kind::Concurrent),
+        (
+            "fives",
+            Kind::Timer {
+                start: 10,
+                every: 5,
+            },
+        ),
+        ("nines", Kind::Timer { start: 3, every: 9 }),
+        ("q", Kind::Serial),
+        ("ones", Kind::Timer { start: 1, every: 1 }),
+    ];
+    let objects = objects(alloc, &table)?;
+    let mut parts = parts(alloc, objects, idle_blocks(alloc, &["main"])?);
+    parts.until = until;
+    plan_of(parts)
 }
 
 const FIVES: Obj = Obj(1);
@@ -53,7 +53,7 @@ struct Row {
     calls: &'static [Call],
 }
 
-const ROWS: [Row; 9] = [
+static ROWS: [Row; 9] = [
     // One tick for each due time: 10, 15 and 20; 25 is past the last.
     Row {
         until: 21,
@@ -207,55 +207,86 @@ const ROWS: [Row; 9] = [
     },
 ];
 
-fn play(rt: &impl Abort, plan: &Plan, timers: &mut Timers, call: &Call)
+fn rows() -> &'static [Row] {
+    &ROWS
+}
+
+fn activate(plan: &Plan, timers: &mut Timers, s: Obj) -> bool
+    requires { length timers.old.kinds ≡ length plan.now.objects }
+    ensures kinds { timers.new.kinds ≡ timers.old.kinds }
+    ensures until { timers.new.until ≡ timers.old.until }
+{
+    if s.0 >= plan.objects() {
+        return false;
+    }
+    timers.activate(s);
+    true
+}
+
+fn cancel(plan: &Plan, timers: &mut Timers, s: Obj) -> bool
+    requires { length timers.old.kinds ≡ length plan.now.objects }
+    ensures kinds { timers.new.kinds ≡ timers.old.kinds }
+    ensures until { timers.new.until ≡ timers.old.until }
+{
+    if s.0 >= plan.objects() {
+        return false;
+    }
+    timers.cancel(s);
+    true
+}
+
+fn tick(plan: &Plan, timers: &mut Timers, t: u32) -> bool
+    requires { timers.old.until ≡ plan.now.until }
+    ensures kinds { timers.new.kinds ≡ timers.old.kinds }
+    ensures until { timers.new.until ≡ timers.old.until }
+{
+    if t < timers.moment() || t > plan.until() {
+        return false;
+    }
+    timers.tick(t);
+    true
+}
+
+// Makes the call, and tells whether it may be made and answers so.
+fn play(plan: &Plan, timers: &mut Timers, call: &Call) -> bool
     requires kinds { length timers.old.kinds ≡ length plan.now.objects }
     requires until { timers.old.until ≡ plan.now.until }
     ensures kinds { length timers.new.kinds ≡ length plan.now.objects }
     ensures until { timers.new.until ≡ plan.now.until }
 {
     match call {
-        Call::Moment(answer) => assert_eq!(rt; timers.moment(), *answer),
-        Call::NextDue(answer) => assert_eq!(rt; timers.next_due(), *answer),
-        Call::DueCount(s, answer) => {
-            assert!(rt; s.0 < plan.objects());
-            assert_eq!(rt; timers.due_count(*s), *answer);
-        }
-        Call::Activate(s) => {
-            assert!(rt; s.0 < plan.objects());
-            timers.activate(*s);
-        }
-        Call::Cancel(s) => {
-            assert!(rt; s.0 < plan.objects());
-            timers.cancel(*s);
-        }
-        Call::Tick(t) => {
-            assert!(rt; timers.moment() <= *t);
-            assert!(rt; *t <= plan.until());
-            timers.tick(*t);
-        }
+        Call::Moment(answer) => timers.moment() == *answer,
+        Call::NextDue(answer) => timers.next_due() == *answer,
+        Call::DueCount(s, answer) => s.0 < plan.objects() && timers.due_count(*s) == *answer,
+        Call::Activate(s) => activate(plan, timers, *s),
+        Call::Cancel(s) => cancel(plan, timers, *s),
+        Call::Tick(t) => tick(plan, timers, *t),
     }
 }
 
-fn play_row(rt: &impl Abort, alloc: Global, row: &Row) -> Result<(), Fail> {
-    let made = Plan::of_parts(parts(alloc, row.until)?).ok_or("a valid plan")?;
+fn row_is_right(rt: &impl Abort, alloc: Global, row: &Row) -> Result<bool, Fail> {
+    let made = new_plan(alloc, row.until)?;
     let plan = &made;
-    let mut timers = Timers::new(alloc, plan)?.copied(alloc)?;
+    let first = or_abort(rt, Timers::new(alloc, plan));
+    let mut timers = or_abort(rt, first.copied(alloc));
     for call in row.calls {
-        play(rt, plan, &mut timers, call);
+        if !play(plan, &mut timers, call) {
+            return Ok(false);
+        }
     }
-    Ok(())
+    Ok(true)
 }
 
 #[test]
 fn due_times(rt: HostRuntime) -> Result<(), Fail> {
-    for row in ROWS.iter() {
-        play_row(&rt, rt.alloc(), row)?;
+    for (number, row) in rows().iter().enumerate() {
+        expect_row(&rt, number, row_is_right(&rt, rt.alloc(), row)?);
     }
     Ok(())
 }
 
 // Ticks, each with which of the five objects are marked after it, where the queue was before.
-const TICKS: [(u32, [bool; 5]); 5] = [
+static TICKS: [(u32, [bool; 5]); 5] = [
     (2, [false, false, false, true, false]),
     (3, [false, false, true, true, false]),
     (11, [false, true, false, true, false]),
@@ -263,49 +294,66 @@ const TICKS: [(u32, [bool; 5]); 5] = [
     (21, [false, false, true, true, false]),
 ];
 
-fn is_marked(rt: &impl Abort, marks: &BitSet, i: usize) -> bool {
-    assert!(rt; i < marks.len() as usize);
-    marks.has(i as u32)
+fn ticks() -> &'static [(u32, [bool; 5])] {
+    &TICKS
 }
 
-fn tick_once(
+// Whether the first of the objects are marked so.
+fn are_marked(marks: &BitSet, answers: &[bool]) -> bool {
+    for (i, answer) in answers.iter().enumerate() {
+        if i >= marks.len() as usize || marks.has(i as u32) != *answer {
+            return false;
+        }
+    }
+    true
+}
+
+// The tick over marks where the queue has one, if it may be made.
+fn tick_marked(plan: &Plan, timers: &mut Timers, t: u32, marks: &mut BitSet) -> bool
+    requires kinds { length timers.old.kinds ≡ length plan.now.objects }
+    requires until { timers.old.until ≡ plan.now.until }
+    requires marks { length marks.old ≡ length plan.now.objects }
+    ensures kinds { length timers.new.kinds ≡ length plan.now.objects }
+    ensures until { timers.new.until ≡ plan.now.until }
+{
+    if plan.objects() != 5 {
+        return false;
+    }
+    if t < timers.moment() || t > plan.until() {
+        return false;
+    }
+    marks.set(QUEUE.0);
+    timers.tick_marked(t, marks);
+    true
+}
+
+fn tick_is_right(
     rt: &impl Abort,
     alloc: Global,
     plan: &Plan,
     timers: &mut Timers,
     tick: &(u32, [bool; 5]),
-) -> Result<(), Fail>
+) -> bool
     requires kinds { length timers.old.kinds ≡ length plan.now.objects }
     requires until { timers.old.until ≡ plan.now.until }
     ensures kinds { length timers.new.kinds ≡ length plan.now.objects }
     ensures until { timers.new.until ≡ plan.now.until }
 {
-    let mut marks = BitSet::new(alloc, plan.objects())?;
-    assert!(rt; plan.objects() == 5);
-    marks.set(QUEUE.0);
-    assert!(rt; timers.moment() <= tick.0);
-    assert!(rt; tick.0 <= plan.until());
-    timers.tick_marked(tick.0, &mut marks);
-    for (i, marked) in tick.1.iter().enumerate() {
-        assert_eq!(rt;
-            is_marked(rt, &marks, i),
-            *marked,
-            "object {i} at {}",
-            tick.0
-        );
-    }
-    Ok(())
+    let mut marks = or_abort(rt, BitSet::new(alloc, plan.objects()));
+    let ticked = tick_marked(plan, timers, tick.0, &mut marks);
+    ticked && are_marked(&marks, &tick.1)
 }
 
 #[test]
 fn a_tick_marks_the_timers_that_it_reaches(rt: HostRuntime) -> Result<(), Fail> {
-    let made = Plan::of_parts(parts(rt.alloc(), 21)?).ok_or("a valid plan")?;
+    let made = new_plan(rt.alloc(), 21)?;
     let plan = &made;
-    let mut timers = Timers::new(rt.alloc(), plan)?;
-    play(&rt, plan, &mut timers, &Call::Activate(FIVES));
-    play(&rt, plan, &mut timers, &Call::Activate(NINES));
-    for tick in TICKS.iter() {
-        tick_once(&rt, rt.alloc(), plan, &mut timers, tick)?;
+    let mut timers = or_abort(&rt, Timers::new(rt.alloc(), plan));
+    assert!(rt; activate(plan, &mut timers, FIVES));
+    assert!(rt; activate(plan, &mut timers, NINES));
+    for (row, tick) in ticks().iter().enumerate() {
+        let right = tick_is_right(&rt, rt.alloc(), plan, &mut timers, tick);
+        expect_row(&rt, row, right);
     }
     Ok(())
 }

@@ -1,31 +1,32 @@
 ghost use Rattle.std.specs.Prelude.{◌≡◌, ◌<◌, true, length};
 ghost use Rattle.gcd_tree.specs.TreeView.{tree_of, is_node_at, has_mover_at};
 
-use gcd_plan::{BlkPart, Kind, MAX_OBJECTS, Obj, ObjPart, Parts, Plan};
+use crate::plans::{idle_blocks, object_on, or_abort, parts, plan_of};
+use gcd_plan::{Kind, MAX_OBJECTS, Obj, ObjPart, Plan};
 use gcd_tree::Tree;
 use std::alloc::{AllocError, Global};
 use std::process::Abort;
 use std::test::Fail;
 
-// A plan of root and a serial queue on each of these targets.
-fn plan_of(alloc: Global, targets: &[u32]) -> Result<Plan, Fail> {
-    let mut objects = vec![in alloc; ObjPart::new(alloc, "root", Kind::Concurrent)?]?;
-    for (i, target) in targets.iter().enumerate() {
-        let name = format!(in alloc; "q{i}")?;
-        let mut queue = ObjPart::new(alloc, name.as_str(), Kind::Serial)?;
-        queue.target = Obj(*target);
-        objects.push(queue)?;
+// A serial queue on this target, named by its number.
+fn queue(alloc: Global, number: usize, target: u32) -> Result<ObjPart, AllocError> {
+    let name = format!(in alloc; "q{number}")?;
+    object_on(alloc, name.as_str(), Kind::Serial, Obj(target))
+}
+
+// Root and a serial queue on each of these targets.
+fn objects(alloc: Global, targets: &[u32]) -> Result<Vec<ObjPart>, AllocError> {
+    let mut objects = crate::plans::objects(alloc, &[("root", Kind::Concurrent)])?;
+    for (number, target) in targets.iter().enumerate() {
+        objects.push(queue(alloc, number, *target)?)?;
     }
-    let main = BlkPart::new(alloc, "main")?;
-    let parts = Parts {
-        objects,
-        blocks: vec![in alloc; main]?,
-        files: Vec::new(alloc),
-        until: 1,
-        intake: None,
-        strips: Vec::new(alloc),
-    };
-    Ok(Plan::of_parts(parts).ok_or("a valid plan")?)
+    Ok(objects)
+}
+
+// A plan of these objects, and `main`.
+fn new_plan(alloc: Global, targets: &[u32]) -> Result<Plan, Fail> {
+    let objects = objects(alloc, targets)?;
+    plan_of(parts(alloc, objects, idle_blocks(alloc, &["main"])?))
 }
 
 // The tree of a plan, with it.
@@ -39,16 +40,17 @@ struct World {
     ghost tree_fits: { length tree.targets ≡ objects },
 }
 
-fn new_world(alloc: Global, targets: &[u32]) -> Result<World, Fail> {
-    let plan = plan_of(alloc, targets)?;
+fn new_world(rt: &impl Abort, alloc: Global, targets: &[u32]) -> Result<World, Fail> {
+    let plan = new_plan(alloc, targets)?;
+    let tree = or_abort(rt, Tree::new(alloc, &plan));
     Ok(World {
         objects: plan.objects(),
-        tree: Tree::new(alloc, &plan)?.copied(alloc)?,
+        tree: or_abort(rt, tree.copied(alloc)),
         plan,
     })
 }
 
-#[derive(Clone, Copy, Debug, PartialEq, Eq)]
+#[derive(Clone, Copy)]
 enum Call {
     Set(u32, u32),
     Opened(u32),
@@ -140,7 +142,7 @@ const NEW: Row = Row {
     has_child: [true, true, false, false],
 };
 
-const ROWS: [Row; 13] = [
+static ROWS: [Row; 13] = [
     NEW,
     Row {
         what: "a run is open beneath each object of the chain",
@@ -272,68 +274,86 @@ const ROWS: [Row; 13] = [
     },
 ];
 
-fn check_object(rt: &impl Abort, world: &World, o: u32, row: &Row)
-    requires { o < 4 }
-{
-    assert!(rt; o < world.objects);
-    let at = o as usize;
-    let tree = &world.tree;
-    let what = row.what;
-    let wanted = (row.targets[at], row.moving[at], row.has_child[at]);
-    let targets = (
-        tree.target(Obj(o)).0,
-        tree.is_moving(Obj(o)),
-        tree.has_child(Obj(o)),
-    );
-    assert_eq!(rt; targets, wanted, "{what}");
-    let wanted = (row.open_on[at], row.open_beneath[at]);
-    let open = (tree.open_on(Obj(o)), tree.open_beneath(Obj(o)));
-    assert_eq!(rt; open, wanted, "{what}");
+fn rows() -> &'static [Row] {
+    &ROWS
 }
 
-fn check_row(rt: &impl Abort, alloc: Global, row: &Row) -> Result<(), Fail> {
-    let mut world = new_world(alloc, &[0, 1, 0])?;
-    let mut made = true;
-    for call in row.calls {
-        made = try_call(&mut world, *call);
+// Whether what the row tells holds of the object.
+fn is_as_told(world: &World, o: u32, row: &Row) -> bool
+    requires { o < 4 }
+{
+    if o >= world.objects {
+        return false;
     }
-    let what = row.what;
-    let wanted = row.made;
-    assert_eq!(rt; made, wanted, "{what}");
+    let at = o as usize;
+    let tree = &world.tree;
+    tree.target(Obj(o)).0 == row.targets[at]
+        && tree.is_moving(Obj(o)) == row.moving[at]
+        && tree.has_child(Obj(o)) == row.has_child[at]
+        && tree.open_on(Obj(o)) == row.open_on[at]
+        && tree.open_beneath(Obj(o)) == row.open_beneath[at]
+}
+
+fn all_as_told(world: &World, row: &Row) -> bool {
     for o in 0..4 {
-        check_object(rt, &world, o, row);
+        if !is_as_told(world, o, row) {
+            return false;
+        }
     }
-    Ok(())
+    true
+}
+
+// Makes the calls, and tells whether the conditions of the last one held.
+fn try_all(world: &mut World, calls: &[Call]) -> bool {
+    let mut made = true;
+    for call in calls {
+        made = try_call(world, *call);
+    }
+    made
+}
+
+fn row_is_right(rt: &impl Abort, alloc: Global, row: &Row) -> Result<bool, Fail> {
+    let mut world = new_world(rt, alloc, &[0, 1, 0])?;
+    let made = try_all(&mut world, row.calls);
+    Ok(made == row.made && all_as_told(&world, row))
 }
 
 #[test]
 fn targets_and_counts_row_by_row(rt: HostRuntime) -> Result<(), Fail> {
-    for row in ROWS.iter() {
-        check_row(&rt, rt.alloc(), row)?;
+    for row in rows() {
+        let what = row.what;
+        assert!(rt; row_is_right(&rt, rt.alloc(), row)?, "{what}");
     }
     Ok(())
 }
 
-fn open_beneath(rt: &impl Abort, world: &World, o: u32) -> u32 {
-    assert!(rt; o < world.objects);
-    world.tree.open_beneath(Obj(o))
+// Objects 0 to `last` each on the one before it.
+fn long_world(rt: &impl Abort, alloc: Global) -> Result<World, Fail> {
+    let mut targets = Vec::new(alloc);
+    for target in 0..MAX_OBJECTS - 1 {
+        targets.push(target)?;
+    }
+    new_world(rt, alloc, &targets)
+}
+
+// Makes the call, and tells whether its conditions held, and so many runs are open then beneath root, the middle and the last.
+fn counts(world: &mut World, call: Call, count: u32) -> bool {
+    if !try_call(world, call) || world.objects != MAX_OBJECTS {
+        return false;
+    }
+    let tree = &world.tree;
+    tree.open_beneath(Obj(0)) == count
+        && tree.open_beneath(Obj(512)) == count
+        && tree.open_beneath(Obj(MAX_OBJECTS - 1)) == count
 }
 
 #[test]
 fn counts_along_the_longest_chain(rt: HostRuntime) -> Result<(), Fail> {
-    let mut targets = Vec::new(rt.alloc());
-    for target in 0..MAX_OBJECTS - 1 {
-        targets.push(target)?;
-    }
-    let mut world = new_world(rt.alloc(), &targets)?;
+    let mut world = long_world(&rt, rt.alloc())?;
     let last = MAX_OBJECTS - 1;
-    assert_eq!(rt; world.objects, MAX_OBJECTS);
-    assert_eq!(rt; world.tree.chain(Obj(last)).count(), MAX_OBJECTS as usize);
-    for (call, count) in [(Call::Opened(last), 1), (Call::Closed(last), 0)] {
-        assert!(rt; try_call(&mut world, call));
-        for o in [0, 512, last] {
-            assert_eq!(rt; open_beneath(&rt, &world, o), count);
-        }
-    }
+    assert!(rt; world.objects == MAX_OBJECTS);
+    assert!(rt; world.tree.chain(Obj(last)).count() == MAX_OBJECTS as usize);
+    assert!(rt; counts(&mut world, Call::Opened(last), 1));
+    assert!(rt; counts(&mut world, Call::Closed(last), 0));
     Ok(())
 }

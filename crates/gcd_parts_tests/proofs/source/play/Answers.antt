@@ -1,7 +1,0 @@
-use Rattle.std.proofs.Common.{arith}
-use Rattle.gcd_source.proofs.Merges.{merged_below}
-use Rattle.gcd_parts_tests.proofs.source.play.Goals as goal
-
-pub merge-requires-clause-room : goal.merge-requires-clause-room
-merge-requires-clause-room g c =
-    omega (arith, merged_below c.args.sources.now c.object_of-s.result.0 c.in-Merge.v)
