@@ -1,6 +1,8 @@
 // Runs whose work comes from callers, by one call.
-ghost use Rattle.std.specs.Prelude.{◌≡◌, All};
-ghost use Rattle.gcd_front.specs.Fronts.{IsMouthOf};
+ghost use Rattle.std.specs.Prelude.{◌≡◌, ◌+◌, ◌*◌, ◌<◌, ◌^◌, [], All, false, true, length, map};
+ghost use Rattle.std.specs.List.{range_with_len};
+ghost use Rattle.gcd_front.specs.Fronts.{IsMouthOf, new_mouths};
+ghost use Rattle.gcd_front.specs.Views.{with_job};
 
 use super::told::Told;
 use super::{MOST_SENDERS, are_told, given};
@@ -18,45 +20,64 @@ use std::thread::{Threads, for_each_mut};
 // Senders of so many jobs each, in threads of their own where they can be made.
 #[derive(Drop)]
 struct Counting {
-    each: u64,
+    each: u16,
 }
 
-// Sends so many jobs in their order, the k-th with 1,000 times its sender's number and k more.
-fn send_numbers<R: Wait>(rt: &R, front: &Front<Told>, mouth: &mut Mouth<Told>, each: u64)
-    requires { IsMouthOf front.now mouth.old }
-    ensures { IsMouthOf front.now mouth.new }
+// Whether the job was accepted.
+fn send<R: Wait>(rt: &R, front: &Front<Told>, mouth: &mut Mouth<Told>, job: Told) -> bool
+    requires mouth { IsMouthOf front.now mouth.old }
+    requires count { length mouth.old.sent + 1 < 2 ^ 32 }
+    ensures accepted { result ≡ true → mouth.new ≡ with_job mouth.old job }
+    ensures refused { result ≡ false → mouth.new ≡ mouth.old }
+{
+    match mouth.send(rt, front, job) {
+        Ok(_) => true,
+        Err(_) => false,
+    }
+}
+
+// Sends so many jobs in their order, the k-th with 1,000 times its sender's number and k more, as long as they are accepted.
+fn send_numbers<R: Wait>(rt: &R, front: &Front<Told>, mouth: &mut Mouth<Told>, each: u16)
+    requires mouth { IsMouthOf front.now mouth.old }
+    requires none { mouth.old.sent ≡ [] }
+    ensures mouth { IsMouthOf front.now mouth.new }
+    ensures in_order { map (λ t. t.0) mouth.new.sent ≡ map (λ k. 1000 * mouth.new.sender + k) (range_with_len 1 (length mouth.new.sent)) }
 {
     let first = 1_000 * u64::from(mouth.sender());
     for k in 0..each {
-        if mouth.sent() > 1_000 {
-            return;
-        }
-        let number = first.saturating_add(k).saturating_add(1);
-        if mouth.send(rt, front, Told(number)).is_err() {
+        if !send(rt, front, mouth, Told(first + u64::from(k + 1))) {
             return;
         }
     }
 }
 
-// Each mouth sends so many jobs.
+// Each mouth of a new front sends so many jobs.
 fn send_by_each<R: Threads + Wait + Sync>(
     rt: &R,
     front: &Front<Told>,
     mouths: &mut [Mouth<Told>],
-    each: u64,
+    each: u16,
 )
-    requires { All (IsMouthOf front.now) mouths.old }
-    ensures { All (IsMouthOf front.now) mouths.new }
+    requires new { mouths.old ≡ new_mouths front.now }
+    ensures mouths { All (IsMouthOf front.now) mouths.new }
+    ensures in_order { All (λ m. map (λ t. t.0) m.sent ≡ map (λ k. 1000 * m.sender + k) (range_with_len 1 (length m.sent))) mouths.new }
 {
     let one = |_place: usize, mouth: &mut Mouth<Told>|
-        requires { IsMouthOf front.now mouth.old }
-        ensures { IsMouthOf front.entry.now mouth.new }
+        requires mouth { IsMouthOf front.now mouth.old }
+        requires none { mouth.old.sent ≡ [] }
+        ensures mouth { IsMouthOf front.entry.now mouth.new }
+        ensures in_order { map (λ t. t.0) mouth.new.sent ≡ map (λ k. 1000 * mouth.new.sender + k) (range_with_len 1 (length mouth.new.sent)) }
     { send_numbers(rt, front, mouth, each) };
     for_each_mut(rt, mouths, MOST_SENDERS, &one);
 }
 
 impl Callers<Told> for Counting {
-    ghost called = { λ was is mouths. is ≡ was };
+    ghost use Rattle.std.specs.Prelude.{◌≡◌, ◌+◌, ◌*◌, All, length, map};
+    ghost use Rattle.std.specs.List.{range_with_len};
+
+    // Nothing of the callers changes, and what went through each mouth has its numbers, in order and with none left out.
+    ghost called = { λ was is mouths. (is ≡ was)
+        × All (λ m. map (λ t. t.0) m.sent ≡ map (λ k. 1000 * m.sender + k) (range_with_len 1 (length m.sent))) mouths };
 
     fn call<R: Threads + Wait + Sync>(
         &mut self,
