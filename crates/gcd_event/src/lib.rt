@@ -26,6 +26,3 @@ mod words;
 
 pub use event::Event;
 pub use words::{of_word, to_word};
-
-#[cfg(test)]
-mod tests;

@@ -35,6 +35,3 @@ pub use handler::Handler;
 pub use job::Job;
 pub use nobody::Nobody;
 pub use tally::Tally;
-
-#[cfg(test)]
-mod tests;

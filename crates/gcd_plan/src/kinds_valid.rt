@@ -21,37 +21,55 @@ fn kind_at(parts: &Parts, o: Obj) -> Option<Kind>
 pub fn is_queue(parts: &Parts, o: Obj) -> bool
     ensures { result ≡ is_queue (view_of parts.now) o.0 }
 {
-    kind_at(parts, o).map_or(false, |kind| kind.is_queue())
+    match kind_at(parts, o) {
+        Some(kind) => kind.is_queue(),
+        None => false,
+    }
 }
 
 fn is_group(parts: &Parts, o: Obj) -> bool
     ensures { result ≡ has_kind is_group_kind (view_of parts.now) o.0 }
 {
-    kind_at(parts, o).map_or(false, |kind| kind.is_group())
+    match kind_at(parts, o) {
+        Some(kind) => kind.is_group(),
+        None => false,
+    }
 }
 
 fn is_semaphore(parts: &Parts, o: Obj) -> bool
     ensures { result ≡ has_kind is_semaphore_kind (view_of parts.now) o.0 }
 {
-    kind_at(parts, o).map_or(false, |kind| kind.is_semaphore())
+    match kind_at(parts, o) {
+        Some(kind) => kind.is_semaphore(),
+        None => false,
+    }
 }
 
 fn is_merge_source(parts: &Parts, o: Obj) -> bool
     ensures { result ≡ has_kind is_merge_kind (view_of parts.now) o.0 }
 {
-    kind_at(parts, o).map_or(false, |kind| kind.is_merge_source())
+    match kind_at(parts, o) {
+        Some(kind) => kind.is_merge_source(),
+        None => false,
+    }
 }
 
 fn is_source(parts: &Parts, o: Obj) -> bool
     ensures { result ≡ has_kind is_source_kind (view_of parts.now) o.0 }
 {
-    kind_at(parts, o).map_or(false, |kind| kind.is_source())
+    match kind_at(parts, o) {
+        Some(kind) => kind.is_source(),
+        None => false,
+    }
 }
 
 fn is_node(parts: &Parts, o: Obj) -> bool
     ensures { result ≡ has_kind is_node_kind (view_of parts.now) o.0 }
 {
-    kind_at(parts, o).map_or(false, |kind| kind.is_node())
+    match kind_at(parts, o) {
+        Some(kind) => kind.is_node(),
+        None => false,
+    }
 }
 
 fn is_held_object(parts: &Parts, o: Obj) -> bool

@@ -15,28 +15,34 @@ use crate::parts::{BlkPart, FilePart, ObjPart, Parts, StripPart};
 use crate::parts_fault::PartsFault;
 use crate::parts_valid::{block_at, file_at, object_at, strip_at};
 
+fn is_called(own: &String, name: &str) -> bool
+    ensures { result ≡ bytes_eq name.now (string_bytes own.now) }
+{
+    name == own.as_str()
+}
+
 fn is_file_name(files: &[FilePart], name: &str) -> bool
     ensures { result ≡ list_any (λ f. bytes_eq name.now (string_bytes f.name)) files.now }
 {
-    files.iter().any(|f| name == f.name.as_str())
+    files.iter().any(|f| is_called(&f.name, name))
 }
 
 fn is_object_name(objects: &[ObjPart], name: &str) -> bool
     ensures { result ≡ list_any (λ o. bytes_eq name.now (string_bytes o.name)) objects.now }
 {
-    objects.iter().any(|o| name == o.name.as_str())
+    objects.iter().any(|o| is_called(&o.name, name))
 }
 
 fn is_strip_name(strips: &[StripPart], name: &str) -> bool
     ensures { result ≡ list_any (λ s. bytes_eq name.now (string_bytes s.name)) strips.now }
 {
-    strips.iter().any(|s| name == s.name.as_str())
+    strips.iter().any(|s| is_called(&s.name, name))
 }
 
 fn is_block_name(blocks: &[BlkPart], name: &str) -> bool
     ensures { result ≡ list_any (λ b. bytes_eq name.now (string_bytes b.name)) blocks.now }
 {
-    blocks.iter().any(|b| name == b.name.as_str())
+    blocks.iter().any(|b| is_called(&b.name, name))
 }
 
 #[tactic(auto, using(crate::proofs::NamesApart::before_file))]

@@ -97,12 +97,44 @@ pub enum PartsFault {
 /// the places of acts do.
 impl fmt::Display for PartsFault {
     fn fmt<W: fmt::Write>(&self, f: &mut fmt::Formatter<W>) -> fmt::Result {
-        let what = self.what();
+        write!(f, "{}{}", self.place(), self.what())
+    }
+}
+
+// Where the fault is.
+#[derive(Clone, Copy)]
+enum Place {
+    // In no single part.
+    Lists,
+    // In the part of this number, of what the word says.
+    Part(&'static str, u32),
+    HandlerAct(Obj, usize),
+    BlockAct(Blk, usize),
+    StripBlock(u32, Blk),
+}
+
+// What a sentence begins with that tells what is wrong there.
+impl fmt::Display for Place {
+    fn fmt<W: fmt::Write>(&self, f: &mut fmt::Formatter<W>) -> fmt::Result {
         match *self {
-            PartsFault::NoRoot | PartsFault::NoMain | PartsFault::MainHasWork => f.write_str(what),
-            PartsFault::TooManyObjects | PartsFault::TooManyBlocks => f.write_str(what),
-            PartsFault::TooManyFiles | PartsFault::TooManyActs => f.write_str(what),
-            PartsFault::UntilOutOfRange => f.write_str(what),
+            Place::Lists => Ok(()),
+            Place::Part(word, n) => write!(f, "{word} {n}: "),
+            Place::HandlerAct(o, act) => write!(f, "object {}: act {act} of its handler ", o.0),
+            Place::BlockAct(b, act) => write!(f, "block {}: act {act} ", b.0),
+            Place::StripBlock(strip, b) => write!(f, "strip {strip}: block {} ", b.0),
+        }
+    }
+}
+
+impl PartsFault {
+    fn place(self) -> Place {
+        match self {
+            PartsFault::NoRoot | PartsFault::NoMain | PartsFault::MainHasWork => Place::Lists,
+            PartsFault::TooManyObjects | PartsFault::TooManyBlocks => Place::Lists,
+            PartsFault::TooManyFiles | PartsFault::TooManyActs => Place::Lists,
+            PartsFault::UntilOutOfRange | PartsFault::TooManyStrips => Place::Lists,
+            PartsFault::IntakeOnNoQueue | PartsFault::IntakeCountOutOfRange => Place::Lists,
+            PartsFault::IntakeBlocksMissing => Place::Lists,
             PartsFault::ObjectNameIllFormed(o)
             | PartsFault::ObjectNameTaken(o)
             | PartsFault::KindOutOfRange(o)
@@ -113,36 +145,28 @@ impl fmt::Display for PartsFault {
             | PartsFault::Inactive(o)
             | PartsFault::ActiveSource(o)
             | PartsFault::CancelOutOfRange(o)
-            | PartsFault::NeverReachesRoot(o) => write!(f, "object {}: {what}", o.0),
+            | PartsFault::NeverReachesRoot(o) => Place::Part("object", o.0),
             PartsFault::HandlerActBarred(o, act) | PartsFault::HandlerActUnfit(o, act) => {
-                write!(f, "object {}: act {act} of its handler {what}", o.0)
+                Place::HandlerAct(o, act)
             }
             PartsFault::BlockNameIllFormed(b)
             | PartsFault::BlockNameTaken(b)
             | PartsFault::WorkOutOfRange(b)
             | PartsFault::IntakeBlockUnfit(b)
             | PartsFault::MadeTwice(b)
-            | PartsFault::SubmittedTwice(b) => write!(f, "block {}: {what}", b.0),
-            PartsFault::BlockActUnfit(b, act) => write!(f, "block {}: act {act} {what}", b.0),
+            | PartsFault::SubmittedTwice(b) => Place::Part("block", b.0),
+            PartsFault::BlockActUnfit(b, act) => Place::BlockAct(b, act),
             PartsFault::FileNameIllFormed(file)
             | PartsFault::FileNameTaken(file)
-            | PartsFault::FilePathIllFormed(file) => write!(f, "file {file}: {what}"),
-            PartsFault::IntakeOnNoQueue | PartsFault::IntakeCountOutOfRange => f.write_str(what),
-            PartsFault::IntakeBlocksMissing | PartsFault::TooManyStrips => f.write_str(what),
+            | PartsFault::FilePathIllFormed(file) => Place::Part("file", file),
             PartsFault::StripNameIllFormed(strip)
             | PartsFault::StripNameTaken(strip)
             | PartsFault::StripUnfit(strip)
-            | PartsFault::StripBlocksMissing(strip) => write!(f, "strip {strip}: {what}"),
-            PartsFault::StripBlockUnfit(strip, b) => write!(
-                f,
-                "strip {strip}: block {} {what}",
-                b.0
-            ),
+            | PartsFault::StripBlocksMissing(strip) => Place::Part("strip", strip),
+            PartsFault::StripBlockUnfit(strip, b) => Place::StripBlock(strip, b),
         }
     }
-}
 
-impl PartsFault {
     // What is said of the part at fault.
     fn what(self) -> &'static str {
         match self {

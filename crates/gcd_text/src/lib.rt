@@ -23,6 +23,3 @@ pub use cuts::{cut_at, fields};
 pub use limits::{MAX_FIELDS, MAX_WORDS};
 pub use lines::{first_word, next_line, printable, words};
 pub use numbers::number;
-
-#[cfg(test)]
-mod tests;

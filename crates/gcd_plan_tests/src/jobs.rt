@@ -1,18 +1,19 @@
 ghost use Rattle.std.specs.Prelude.{◌≡◌, ◌+◌, ◌<◌, ◌^◌};
 ghost use Rattle.gcd_plan.specs.KindValues.{folded};
 
-use crate::{Admits, FileJob, Handler, Job, Tally};
+use gcd_jobs::{Admits, FileJob, Handler, Job, Tally};
 use gcd_front::Sent;
 use gcd_plan::{How, Kind, MAX_FILE_BYTES, WHOLE_FILE, Work};
 use std::alloc::{AllocError, Global};
+use std::process::Abort;
 use std::test::Fail;
 use std::time::Instant;
 
 // Three words; no byte; each byte between words, and each beside those.
-const FILES: [&[u8]; 3] = [b"one two\nthree\n", b"", b"\x08a\x0eb\t\x0b\x0c\r c!\x1f"];
+static FILES: [&[u8]; 3] = [b"one two\nthree\n", b"", b"\x08a\x0eb\t\x0b\x0c\r c!\x1f"];
 
 // How which range of which file is counted, and what that gives.
-const CASES: [(How, u32, u32, u32, u64, &str); 20] = [
+static CASES: [(How, u32, u32, u32, u64, &str); 20] = [
     (How::Bytes, 0, 0, WHOLE_FILE, 14, "the whole file"),
     (How::Lines, 0, 0, WHOLE_FILE, 2, "the whole file"),
     (How::Words, 0, 0, WHOLE_FILE, 3, "the whole file"),
@@ -35,6 +36,11 @@ const CASES: [(How, u32, u32, u32, u64, &str); 20] = [
     (How::Bytes, 3, 0, WHOLE_FILE, 0, "no such file"),
 ];
 
+// What the row tells is right.
+fn hold(rt: &impl Abort, row: &str, right: bool) {
+    assert!(rt; right, "{row}");
+}
+
 fn work(how: How, file: u32, start: u32, len: u32) -> Work {
     Work {
         how,
@@ -54,7 +60,7 @@ fn run_block<J: Job + Drop + Send>(job: J) -> u64
 // The files of the rows.
 fn shared_files(alloc: Global) -> Result<Vec<Vec<u8>>, AllocError> {
     let mut files = Vec::new(alloc);
-    for bytes in FILES {
+    for bytes in &FILES {
         files.push(Vec::from_slice(alloc, bytes)?)?;
     }
     Ok(files)
@@ -64,11 +70,11 @@ fn shared_files(alloc: Global) -> Result<Vec<Vec<u8>>, AllocError> {
 fn jobs_over_shared_files_give_the_values_of_their_works(rt: HostRuntime) -> Result<(), Fail> {
     let files = shared_files(rt.alloc())?;
     let nothing = FileJob::new(&files, None);
-    for (how, file, start, len, value, what) in CASES {
-        let job = FileJob::new(&files, Some(work(how, file, start, len)));
-        assert_eq!(rt; run_block(job), value, "{how:?} of {what}");
+    for (how, file, start, len, value, what) in &CASES {
+        let job = FileJob::new(&files, Some(work(*how, *file, *start, *len)));
+        hold(&rt, what, run_block(job) == *value);
     }
-    assert_eq!(rt; run_block(nothing), 0, "no work");
+    hold(&rt, "no work", run_block(nothing) == 0);
     Ok(())
 }
 
@@ -111,7 +117,7 @@ fn run_sent<S: Sent, J: Admits<S> + Drop + Send>(sent: S) -> u64
 
 #[test]
 fn an_admitted_job_gives_what_was_sent(rt: HostRuntime) {
-    assert_eq!(rt; run_sent::<Told, Called>(Told(7)), 7);
+    hold(&rt, "7", run_sent::<Told, Called>(Told(7)) == 7);
 }
 
 // What a worker does at a delivery, with a handler of any kind.
@@ -127,11 +133,11 @@ fn deliver<H: Handler + Drop + Send>(handler: &mut H, value: u64)
 
 #[test]
 fn a_tally_adds_or_joins_bit_by_bit_or_keeps_the_newest(rt: HostRuntime) {
-    for (kind, total) in [
-        (Kind::Add, 9),
-        (Kind::Or, 7),
-        (Kind::Replace, 6),
-        (Kind::Read, 9),
+    for (what, kind, total) in [
+        ("add", Kind::Add, 9),
+        ("or", Kind::Or, 7),
+        ("replace", Kind::Replace, 6),
+        ("read", Kind::Read, 9),
     ] {
         let mut tally = Tally::new(kind);
         deliver(&mut tally, 3);
@@ -141,7 +147,7 @@ fn a_tally_adds_or_joins_bit_by_bit_or_keeps_the_newest(rt: HostRuntime) {
             times: 2,
             total,
         };
-        assert_eq!(rt; tally, want, "{kind:?}");
+        hold(&rt, what, tally == want);
     }
 }
 
@@ -172,7 +178,7 @@ fn works_over_sixteen_mebibytes(rt: HostRuntime) -> Result<(), Fail> {
         let began = Instant::now(&rt)?;
         let value = job.run(0);
         let time = began.elapsed(&rt)?.as_micros();
-        assert_eq!(rt; value, want, "{name}");
+        hold(&rt, name, value == want);
         println!(rt; "{name} {want} in {time} us")?;
     }
     Ok(())
