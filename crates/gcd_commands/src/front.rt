@@ -237,12 +237,12 @@ fn front_script<R: Threads + Wait + Sync, S: Shelf, P: Poller + Send, C: Clock +
     }
 }
 
-/// Does `front SCRIPT SENDERS`: loads the script and, if its plan has an intake, each file, in order, each by one load; and runs the plan
-/// by four workers, up to as many events as a run can have, beside `senders` threads, from 1 to 8, that are no workers. Each of them
-/// sends its share of jobs for the blocks of the intake, in order, until each is accepted, and then shuts its mouth: of `senders` the one
-/// of number s sends the jobs that give 1000 s + k, for k from 1 to the number of those blocks by the number of senders
-/// (dispatch_async(3): each job is handed in by a thread that goes on). The story has the status of the state to which the run has come,
-/// the run's journal, and as its text a line for each sender and the report's last line.
+/// Does `front SCRIPT SENDERS`: loads the script and, if its plan has an intake, each file, in order, each by one load. Then four workers
+/// run the plan, up to as many events as a run can have, beside `senders` threads, from 1 to 8, that are no workers. Sender s, from 0,
+/// hands in its share of jobs for the blocks of the intake, which give 1000 s + 1, 1000 s + 2 and so on: each again until it is accepted,
+/// in order, as callers of dispatch_async(3) do. Then it shuts its mouth. A share is the number of those blocks divided by `senders`,
+/// rounded down. The story has the status of the state to which the run has come, the run's journal, and as its text a line for each
+/// sender and the report's last line.
 ///
 /// If a step cannot be taken, no later step is tried, and the story has no journal and this status:
 ///
