@@ -1,5 +1,5 @@
 -- The calls that a command took, by what it tells.
-use Rattle.std.proofs.Common.{◌≡◌, ◌∙◌, ◌+◌, ℕ, length, ap, inl, inr, arith}
+use Rattle.std.proofs.Common.{◌∙◌, ◌+◌, ℕ, length, ap, inl, inr, arith}
 use Rattle.gcd_outer.specs.Outside.{Bytes, ShelfSeen}
 use Rattle.gcd_words.specs.Asked.{RunAsked}
 use Rattle.gcd_commands.specs.Calls.{Calls, InputsSeen, only_loads}
@@ -7,8 +7,7 @@ use Rattle.gcd_commands.specs.Checks.{CheckEnds, IsCheckCount, StopsCheck}
 use Rattle.gcd_commands.specs.Checks.CheckEnds.{stopped as check_stopped, judged}
 use Rattle.gcd_commands.specs.Checks.StopsCheck.{at_script as check_at_script, at_journal}
 use Rattle.gcd_commands.specs.End.{End}
-use Rattle.gcd_commands.specs.Fronts.{FrontEnds, IsFrontCount, StopsFront}
-use Rattle.gcd_commands.specs.Fronts.FrontEnds.{stopped as front_stopped, ran as front_ran}
+use Rattle.gcd_commands.specs.Fronts.{IsFrontCount, StopsFront}
 use Rattle.gcd_commands.specs.Fronts.IsFrontCount.{of_script as count_of_script, of_files}
 use Rattle.gcd_commands.specs.Fronts.StopsFront.{at_script as front_at_script, at_intake, at_file as front_at_file, wanting as front_wanting}
 use Rattle.gcd_commands.specs.Loads.StopsReady.{at_script, at_file}

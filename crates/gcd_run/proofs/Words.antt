@@ -1,4 +1,4 @@
--- What is told of a request, said of the words that ask for it.
+-- What is told at words, by the request that they name.
 use Rattle.std.proofs.Common.{◌≡◌, ◌∙◌, true, is_some, List, Option, Some, None, Result, Ok, Err, option_map, ap, refl, sym, subst, inr}
 use Rattle.std.specs.Prelude.{IfOk}
 use Rattle.std.proofs.lemmas.Bool.{both_ways}
