@@ -17,25 +17,25 @@ use Rattle.gcd_words.specs.Asked.{Asked, RunAsked, request_of, run, check, big, 
 use Rattle.gcd_run.specs.Always.{Always, Answers, ChecksText, Gives, HoldsScript, IsNoScript, MustStop, MustStopFront, NothingFailed, files_at}
 use Rattle.gcd_run.specs.Always.MustStop.{at_script as must_at_script, at_file as must_at_file}
 use Rattle.gcd_run.specs.Always.MustStopFront.{at_script as must_front_at_script, at_intake as must_at_intake, at_file as must_front_at_file}
-use Rattle.gcd_run.specs.Calls.{Calls, InputsSeen, Made, only_loads}
-use Rattle.gcd_run.specs.Checks.{CheckEnds}
-use Rattle.gcd_run.specs.End.{End, lawful_end, read_fault, stop_end, unlawful_end, usage_end}
+use Rattle.gcd_commands.specs.Calls.{Calls, InputsSeen, Made, only_loads}
+use Rattle.gcd_commands.specs.Checks.{CheckEnds}
+use Rattle.gcd_commands.specs.End.{End, lawful_end, read_fault, stop_end, unlawful_end, usage_end}
 use Rattle.gcd_run.specs.Ends.{AskedEnds, CallEnds, HasStatus, IsWritten}
 use Rattle.gcd_run.specs.Ends.CallEnds.{reported, wanting}
 use Rattle.gcd_run.specs.Ends.IsWritten.{whole, cut_off}
-use Rattle.gcd_run.specs.Fronts.{FrontEnds, StopsFront, front_workers}
-use Rattle.gcd_run.specs.Fronts.FrontEnds.{stopped as front_stopped, ran as front_ran}
-use Rattle.gcd_run.specs.Fronts.StopsFront.{at_script as front_at_script, at_intake, at_file as front_at_file, wanting as front_wanting}
-use Rattle.gcd_run.specs.Loads.{IsPlanOf, IsReady, StopsReady}
-use Rattle.gcd_run.specs.Loads.StopsReady.{at_script, at_file}
-use Rattle.gcd_run.specs.Runs.{BigEnds, Ran, RunEnds}
-use Rattle.gcd_run.specs.Runs.RunEnds.{stopped, ran}
-use Rattle.gcd_run.specs.Runs.StopsRun.{unready, at_listen, wanting as run_wanting}
-use Rattle.gcd_run.specs.StatusCodes.{status_code, status_of}
+use Rattle.gcd_commands.specs.Fronts.{FrontEnds, StopsFront, front_workers}
+use Rattle.gcd_commands.specs.Fronts.FrontEnds.{stopped as front_stopped, ran as front_ran}
+use Rattle.gcd_commands.specs.Fronts.StopsFront.{at_script as front_at_script, at_intake, at_file as front_at_file, wanting as front_wanting}
+use Rattle.gcd_commands.specs.Loads.{IsPlanOf, IsReady, StopsReady}
+use Rattle.gcd_commands.specs.Loads.StopsReady.{at_script, at_file}
+use Rattle.gcd_commands.specs.Runs.{BigEnds, Ran, RunEnds}
+use Rattle.gcd_commands.specs.Runs.RunEnds.{stopped, ran}
+use Rattle.gcd_commands.specs.Runs.StopsRun.{unready, at_listen, wanting as run_wanting}
+use Rattle.gcd_commands.specs.StatusCodes.{status_code, status_of}
 use Rattle.gcd_run.specs.Statuses.{Asks, Runs}
-use Rattle.gcd_run.specs.declared.status.Status.TheVariants.{Drained, JournalRefused}
-use Rattle.gcd_run.specs.declared.stop.Stop.{Stop}
-use Rattle.gcd_run.specs.declared.story.Ended.{Ended}
+use Rattle.gcd_commands.specs.declared.status.Status.TheVariants.{Drained, JournalRefused}
+use Rattle.gcd_commands.specs.declared.stop.Stop.{Stop}
+use Rattle.gcd_run.specs.declared.ended.Ended.{Ended}
 use Rattle.gcd_run.proofs.Judging.{Comes, check_bars, check_passes, check_stops, comes_by, is_judged, untold}
 use Rattle.gcd_run.proofs.Statuses.{runs_beside, runs_large, runs_script}
 use Rattle.gcd_run.proofs.Told.{Fate, fate_map, file_stops, files_held, no_both, no_plan, one_plan, one_stop, same_err, script_held, script_stops}

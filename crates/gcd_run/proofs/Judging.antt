@@ -11,17 +11,17 @@ use Rattle.gcd_outer.specs.Outside.{Bytes, ShelfFailed}
 use Rattle.gcd_run.specs.Always.{HoldsJournal, HoldsScript, HoldsText, IsNoJournal, MustRefuse}
 use Rattle.gcd_run.specs.Always.IsNoJournal.{unloaded as no_journal_unloaded, refused as no_journal_refused}
 use Rattle.gcd_run.specs.Always.MustRefuse.{at_script as refuse_at_script, at_journal as refuse_at_journal}
-use Rattle.gcd_run.specs.Calls.{InputsSeen}
-use Rattle.gcd_run.specs.Checks.{CheckEnds, IsJournalAt, IsJudged, StopsCheck, StopsJournal}
-use Rattle.gcd_run.specs.Checks.CheckEnds.{stopped, judged}
-use Rattle.gcd_run.specs.Checks.IsJudged.{lawful, unlawful}
-use Rattle.gcd_run.specs.Checks.StopsCheck.{at_script, at_journal}
-use Rattle.gcd_run.specs.End.{End, lawful_end, no_journal_end, read_fault, stop_end, unlawful_end}
-use Rattle.gcd_run.specs.Loads.{IsPlanOf}
+use Rattle.gcd_commands.specs.Calls.{InputsSeen}
+use Rattle.gcd_commands.specs.Checks.{CheckEnds, IsJournalAt, IsJudged, StopsCheck, StopsJournal}
+use Rattle.gcd_commands.specs.Checks.CheckEnds.{stopped, judged}
+use Rattle.gcd_commands.specs.Checks.IsJudged.{lawful, unlawful}
+use Rattle.gcd_commands.specs.Checks.StopsCheck.{at_script, at_journal}
+use Rattle.gcd_commands.specs.End.{End, lawful_end, no_journal_end, read_fault, stop_end, unlawful_end}
+use Rattle.gcd_commands.specs.Loads.{IsPlanOf}
 use Rattle.gcd_run.specs.Statuses.{IsLawfulTo}
-use Rattle.gcd_run.specs.declared.status.Status.TheVariants.{Drained, JournalRefused}
-use Rattle.gcd_run.specs.declared.stop.Stop.{Stop}
-use Rattle.gcd_run.specs.declared.stop.Stop.TheVariants.{Unread, Journal, Memory}
+use Rattle.gcd_commands.specs.declared.status.Status.TheVariants.{Drained, JournalRefused}
+use Rattle.gcd_commands.specs.declared.stop.Stop.{Stop}
+use Rattle.gcd_commands.specs.declared.stop.Stop.TheVariants.{Unread, Journal, Memory}
 use Rattle.gcd_run.proofs.Statuses.{some_end}
 use Rattle.gcd_run.proofs.Told.{Fate, fate_map, journal_held, journal_stops, no_both, no_journal, no_plan, one_journal, one_journal_stop, one_plan, one_stop, script_held, script_stops}
 

@@ -1,14 +1,5 @@
-pub mod Loading
-pub mod Hearing
-pub mod Stories
-pub mod Pages
+pub mod Words
 pub mod Statuses
-pub mod Ran
-pub mod Sending
-pub mod Counting
-pub mod Hears
-pub mod Lines
-pub mod Totals
 pub mod Told
 pub mod Judging
 pub mod Always

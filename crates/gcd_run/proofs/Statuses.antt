@@ -11,29 +11,29 @@ use Rattle.gcd_loop.specs.Followed.{AcceptsNone}
 use Rattle.gcd_outer.specs.Outside.{Bytes, SinkSeen, Took}
 use Rattle.gcd_workers.specs.CallersRuns.{AcceptsOf}
 use Rattle.gcd_words.specs.Asked.{Asked, RunAsked, request_of, run, check, big, front}
-use Rattle.gcd_run.specs.Calls.{Calls, InputsSeen, Made, only_loads, with_listen}
-use Rattle.gcd_run.specs.Checks.{CheckEnds, IsJournalAt, IsJudged}
-use Rattle.gcd_run.specs.Checks.CheckEnds.{stopped as check_stopped, judged}
-use Rattle.gcd_run.specs.Checks.IsJudged.{lawful, unlawful}
-use Rattle.gcd_run.specs.End.{End, read_fault, refused_end, no_journal_end, no_intake_end, run_text, large_text, lawful_text, stop_end}
+use Rattle.gcd_commands.specs.Calls.{Calls, InputsSeen, Made, only_loads, with_listen}
+use Rattle.gcd_commands.specs.Checks.{CheckEnds, IsJournalAt, IsJudged}
+use Rattle.gcd_commands.specs.Checks.CheckEnds.{stopped as check_stopped, judged}
+use Rattle.gcd_commands.specs.Checks.IsJudged.{lawful, unlawful}
+use Rattle.gcd_commands.specs.End.{End, read_fault, refused_end, no_journal_end, no_intake_end, run_text, large_text, lawful_text, stop_end}
 use Rattle.gcd_run.specs.Ends.{AskedEnds, Answers, CallEnds, HasStatus}
 use Rattle.gcd_run.specs.Ends.CallEnds.{reported, wanting}
 use Rattle.gcd_run.specs.Ends.IsWritten.{whole, cut_off}
-use Rattle.gcd_run.specs.Fronts.{FrontEnds, HearsSenders, TellsFront, front_workers}
-use Rattle.gcd_run.specs.Fronts.FrontEnds.{stopped as front_stopped, ran as front_ran}
-use Rattle.gcd_run.specs.Loads.{IsPlanOf, IsReady}
-use Rattle.gcd_run.specs.Pages.{KeepsPages}
-use Rattle.gcd_run.specs.Runs.{BigEnds, Ran, TellsRun}
-use Rattle.gcd_run.specs.Runs.RunEnds.{stopped, ran}
-use Rattle.gcd_run.specs.StatusCodes.{status_code, status_of}
+use Rattle.gcd_commands.specs.Fronts.{FrontEnds, HearsSenders, TellsFront, front_workers}
+use Rattle.gcd_commands.specs.Fronts.FrontEnds.{stopped as front_stopped, ran as front_ran}
+use Rattle.gcd_commands.specs.Loads.{IsPlanOf, IsReady}
+use Rattle.gcd_commands.specs.Pages.{KeepsPages}
+use Rattle.gcd_commands.specs.Runs.{BigEnds, Ran, TellsRun}
+use Rattle.gcd_commands.specs.Runs.RunEnds.{stopped, ran}
+use Rattle.gcd_commands.specs.StatusCodes.{status_code, status_of}
 use Rattle.gcd_run.specs.Statuses.{Asks, IsLawfulTo, Judges, Runs, RunsBeside, RunsLarge, RunsScript, Says, Stopped, StopsAt}
 use Rattle.gcd_run.specs.Statuses.StopsAt.{of_run, of_check, of_front}
-use Rattle.gcd_run.specs.declared.status.Status.{Status}
-use Rattle.gcd_run.specs.declared.status.Status.TheVariants.{Drained, Stuck, NoCommand, ScriptRefused, Misused, Unread, CutOff, NoMemory, Full, JournalRefused, NoIntake}
-use Rattle.gcd_run.specs.declared.stop.Stop.{Stop}
-use Rattle.gcd_run.specs.declared.stop.Stop.TheVariants.{Unread as CantRead, Script, Journal, NoIntake as LacksIntake, Memory}
-use Rattle.gcd_run.specs.declared.story.Ended.{Ended}
-use Rattle.gcd_run.proofs.Pages.{pages_kept}
+use Rattle.gcd_commands.specs.declared.status.Status.{Status}
+use Rattle.gcd_commands.specs.declared.status.Status.TheVariants.{Drained, Stuck, NoCommand, ScriptRefused, Misused, Unread, CutOff, NoMemory, Full, JournalRefused, NoIntake}
+use Rattle.gcd_commands.specs.declared.stop.Stop.{Stop}
+use Rattle.gcd_commands.specs.declared.stop.Stop.TheVariants.{Unread as CantRead, Script, Journal, NoIntake as LacksIntake, Memory}
+use Rattle.gcd_run.specs.declared.ended.Ended.{Ended}
+use Rattle.gcd_commands.proofs.Pages.{pages_kept}
 
 -- the status of a code
 abbrev status_named : ℕ → Option Status

@@ -15,13 +15,13 @@ use Rattle.gcd_script.specs.declared.refusal.Refusal.TheVariants.{PastLimit}
 use Rattle.gcd_run.specs.Always.{HoldsJournal, HoldsScript, IsNoJournal, IsNoScript, files_at, within_limit}
 use Rattle.gcd_run.specs.Always.IsNoJournal.{unloaded as no_journal_unloaded, refused as no_journal_refused}
 use Rattle.gcd_run.specs.Always.IsNoScript.{unloaded as no_script_unloaded, refused as no_script_refused}
-use Rattle.gcd_run.specs.Checks.{IsJournalAt, StopsJournal}
-use Rattle.gcd_run.specs.Checks.StopsJournal.{unloaded as journal_unloaded, refused as journal_refused, wanting as journal_wanting}
-use Rattle.gcd_run.specs.Loads.{AreLoaded, IsLoaded, IsScript, StopsFile, StopsLoad, StopsScript}
-use Rattle.gcd_run.specs.Loads.StopsLoad.{unread, long, wanting}
-use Rattle.gcd_run.specs.Loads.StopsScript.{unloaded, refused, wanting as script_wanting}
-use Rattle.gcd_run.specs.declared.stop.Stop.{Stop}
-use Rattle.gcd_run.specs.declared.stop.Stop.TheVariants.{Unread, Script, Journal, Memory}
+use Rattle.gcd_commands.specs.Checks.{IsJournalAt, StopsJournal}
+use Rattle.gcd_commands.specs.Checks.StopsJournal.{unloaded as journal_unloaded, refused as journal_refused, wanting as journal_wanting}
+use Rattle.gcd_commands.specs.Loads.{AreLoaded, IsLoaded, IsScript, StopsFile, StopsLoad, StopsScript}
+use Rattle.gcd_commands.specs.Loads.StopsLoad.{unread, long, wanting}
+use Rattle.gcd_commands.specs.Loads.StopsScript.{unloaded, refused, wanting as script_wanting}
+use Rattle.gcd_commands.specs.declared.stop.Stop.{Stop}
+use Rattle.gcd_commands.specs.declared.stop.Stop.TheVariants.{Unread, Script, Journal, Memory}
 
 -- what became of a load that has to go so: the shelf failed, memory ran out, or it went so
 abbrev pub Fate : ShelfSeen → Stop → Type 0 → Type 0

@@ -13,15 +13,15 @@ use Rattle.gcd_script.specs.Faults.{fault_of, IsScriptOf}
 use Rattle.gcd_script.specs.Codes.{refusal_code}
 use Rattle.gcd_script.specs.declared.refusal.Refusal.TheVariants.{PastLimit}
 use Rattle.gcd_words.specs.Asked.{RunAsked, request_of, run, check, big, front}
-use Rattle.gcd_run.specs.Calls.{InputsSeen, PollerFailed}
-use Rattle.gcd_run.specs.End.{End, lawful_end, read_fault, stop_end, unlawful_end, usage_end}
+use Rattle.gcd_commands.specs.Calls.{InputsSeen, PollerFailed}
+use Rattle.gcd_commands.specs.End.{End, lawful_end, read_fault, stop_end, unlawful_end, usage_end}
 use Rattle.gcd_run.specs.Ends.{HasStatus, IsWritten}
-use Rattle.gcd_run.specs.StatusCodes.{status_of}
+use Rattle.gcd_commands.specs.StatusCodes.{status_of}
 use Rattle.gcd_run.specs.Statuses.{Asks, IsLawfulTo, Runs}
-use Rattle.gcd_run.specs.declared.status.Status.TheVariants.{Drained, NoMemory, JournalRefused}
-use Rattle.gcd_run.specs.declared.stop.Stop.{Stop}
-use Rattle.gcd_run.specs.declared.stop.Stop.TheVariants.{Unread as CantRead, Script, Journal, NoIntake}
-use Rattle.gcd_run.specs.declared.story.Ended.{Ended}
+use Rattle.gcd_commands.specs.declared.status.Status.TheVariants.{Drained, NoMemory, JournalRefused}
+use Rattle.gcd_commands.specs.declared.stop.Stop.{Stop}
+use Rattle.gcd_commands.specs.declared.stop.Stop.TheVariants.{Unread as CantRead, Script, Journal, NoIntake}
+use Rattle.gcd_run.specs.declared.ended.Ended.{Ended}
 
 -- ## What a content gives
 

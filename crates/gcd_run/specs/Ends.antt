@@ -2,15 +2,15 @@
 use Rattle.std.specs.Prelude.{◌≡◌, ◌⊎◌, ℕ, List, [], Option, Some, None}
 use Rattle.gcd_outer.specs.Outside.{Bytes, SinkSeen, SinkFailed, Took, TookFront}
 use Rattle.gcd_words.specs.Asked.{Asked, request_of, run, check, big, front}
-use Rattle.gcd_run.specs.Calls.{Calls, InputsSeen, Made, only_loads}
-use Rattle.gcd_run.specs.Checks.{CheckEnds, IsCheckCount}
-use Rattle.gcd_run.specs.End.{End, usage_end}
-use Rattle.gcd_run.specs.Fronts.{FrontEnds, IsFrontCount}
-use Rattle.gcd_run.specs.Runs.{BigEnds, RunCalls, RunEnds}
-use Rattle.gcd_run.specs.StatusCodes.{status_code}
-use Rattle.gcd_run.specs.declared.status.Status.{Status}
-use Rattle.gcd_run.specs.declared.status.Status.TheVariants.{CutOff, NoMemory}
-use Rattle.gcd_run.specs.declared.story.Ended.{Ended}
+use Rattle.gcd_commands.specs.Calls.{Calls, InputsSeen, Made, only_loads}
+use Rattle.gcd_commands.specs.Checks.{CheckEnds, IsCheckCount}
+use Rattle.gcd_commands.specs.End.{End, usage_end}
+use Rattle.gcd_commands.specs.Fronts.{FrontEnds, IsFrontCount}
+use Rattle.gcd_commands.specs.Runs.{BigEnds, RunCalls, RunEnds}
+use Rattle.gcd_commands.specs.StatusCodes.{status_code}
+use Rattle.gcd_commands.specs.declared.status.Status.{Status}
+use Rattle.gcd_commands.specs.declared.status.Status.TheVariants.{CutOff, NoMemory}
+use Rattle.gcd_run.specs.declared.ended.Ended.{Ended}
 
 -- `check` makes loads alone
 pub record OnlyChecks (seen : InputsSeen) (script journal : Bytes) (calls : Calls) (end : End) : Type 0 where

@@ -1,14 +1,3 @@
-pub mod StatusCodes
-pub mod End
-pub mod Stories
-pub mod Calls
-pub mod Loads
-pub mod Runs
-pub mod Senders
-pub mod Fronts
-pub mod Pages
-pub mod Listens
-pub mod Checks
 pub mod Ends
 pub mod Statuses
 pub mod Always

@@ -13,19 +13,19 @@ use Rattle.gcd_loop.specs.Followed.{AcceptsNone}
 use Rattle.gcd_outer.specs.Outside.{Bytes, SinkSeen, SinkFailed, Took, TookFront}
 use Rattle.gcd_words.specs.Asked.{Asked, RunAsked, request_of, run, check, big, front}
 use Rattle.gcd_workers.specs.CallersRuns.{AcceptsOf}
-use Rattle.gcd_run.specs.Calls.{Calls, InputsSeen, Made, only_loads, with_listen}
-use Rattle.gcd_run.specs.Checks.{IsJournalAt, StopsCheck}
-use Rattle.gcd_run.specs.End.{End, usage_text, read_fault, refused_end, no_journal_end, no_intake_end, run_text, large_text, lawful_text, unlawful_text}
+use Rattle.gcd_commands.specs.Calls.{Calls, InputsSeen, Made, only_loads, with_listen}
+use Rattle.gcd_commands.specs.Checks.{IsJournalAt, StopsCheck}
+use Rattle.gcd_commands.specs.End.{End, usage_text, read_fault, refused_end, no_journal_end, no_intake_end, run_text, large_text, lawful_text, unlawful_text}
 use Rattle.gcd_run.specs.Ends.{WordsEnd, IsWanting}
-use Rattle.gcd_run.specs.Fronts.{HearsSenders, StopsFront, front_workers}
-use Rattle.gcd_run.specs.Loads.{IsPlanOf, IsReady}
-use Rattle.gcd_run.specs.Pages.{KeepsPages}
-use Rattle.gcd_run.specs.Runs.{IsLarge, Ran, StopsRun}
-use Rattle.gcd_run.specs.declared.status.Status.{Status}
-use Rattle.gcd_run.specs.declared.status.Status.TheVariants.{Drained, Stuck, NoCommand, ScriptRefused, Misused, Unread, CutOff, NoMemory, Full, JournalRefused, NoIntake}
-use Rattle.gcd_run.specs.declared.stop.Stop.{Stop}
-use Rattle.gcd_run.specs.declared.stop.Stop.TheVariants.{Unread as CantRead, Script, Journal, NoIntake as LacksIntake}
-use Rattle.gcd_run.specs.declared.story.Ended.{Ended}
+use Rattle.gcd_commands.specs.Fronts.{HearsSenders, StopsFront, front_workers}
+use Rattle.gcd_commands.specs.Loads.{IsPlanOf, IsReady}
+use Rattle.gcd_commands.specs.Pages.{KeepsPages}
+use Rattle.gcd_commands.specs.Runs.{IsLarge, Ran, StopsRun}
+use Rattle.gcd_commands.specs.declared.status.Status.{Status}
+use Rattle.gcd_commands.specs.declared.status.Status.TheVariants.{Drained, Stuck, NoCommand, ScriptRefused, Misused, Unread, CutOff, NoMemory, Full, JournalRefused, NoIntake}
+use Rattle.gcd_commands.specs.declared.stop.Stop.{Stop}
+use Rattle.gcd_commands.specs.declared.stop.Stop.TheVariants.{Unread as CantRead, Script, Journal, NoIntake as LacksIntake}
+use Rattle.gcd_run.specs.declared.ended.Ended.{Ended}
 
 -- the words ask for this
 abbrev pub Asks : List Bytes → Asked → Type 0

@@ -5,16 +5,12 @@
 //! | [`gcd_main`] | does what the words ask for, and answers [`Ended`]: the number of its status, the journal, and where a script or a journal is refused the place |
 //! | [`Status`] | the ways to end by name, each with its number (`Status::code`) |
 //!
-//! `run` loads a script and reads it as a plan (`gcd_script`), loads its files in their order, lets the poller listen where an
-//! address is given, runs the plan by as many workers as are asked for, up to as many events as are asked for (`gcd_workers`), and
-//! writes the journal, where it is asked for, and the report (`gcd_journal`). `check` loads a script and a journal, of as many events as
-//! a run can have, and judges it. `big` runs the large script over a file that is made, up to as many events as a run can have. `front`
-//! loads a script, asks whether it has an intake, loads its files, and runs it by four workers (`run_front` of `gcd_workers`) beside threads
-//! that are no workers: each sends its jobs by a mouth of a front (`gcd_front`), which has room for all of them, and shuts it. A call
-//! ends at the first step that cannot go on; its text is made whole before the first byte is written.
+//! The words are read (`gcd_words`), the command that they name is done (`gcd_commands`: `run`, `check`, `big` or `front`), and the text
+//! that it tells is written. A call ends at the first step that cannot go on; its text is made whole before the first byte is written.
 //!
 //! The contract of `gcd_main` speaks of what the call saw of the shelf, the poller, the clock and the sink (`gcd_outer`),
-//! before and after.
+//! before and after. `specs/` has what states the promise (`Ends`, `Statuses`, `Always`); the words of a single command that it cites,
+//! from loads to runs and texts, stand in `specs/` of `gcd_commands`.
 //!
 //! | clause | says |
 //! |---|---|
@@ -32,20 +28,9 @@
 //! Where an item names no manual page, what it says is this project's own rule.
 #![tactic(auto)]
 
-mod checking;
-mod engine;
-mod front;
-mod front_job;
-mod large;
-mod load;
-mod pool_side;
-mod running;
-mod senders;
-mod status;
-mod stop;
-mod story;
+mod ended;
 mod top;
 
-pub use status::Status;
-pub use story::Ended;
+pub use ended::Ended;
+pub use gcd_commands::Status;
 pub use top::gcd_main;

@@ -1,21 +1,17 @@
 // The top call.
 ghost use Rattle.std.specs.Prelude.{◌≡◌, ℕ, true, false, map, is_some, IfOk, OnErr};
 ghost use Rattle.gcd_outer.specs.Outside.{shelf_seen, sink_seen};
-ghost use Rattle.gcd_run.specs.Calls.{SomeCalls, seen_by};
+ghost use Rattle.gcd_commands.specs.Calls.{SomeCalls, seen_by};
 ghost use Rattle.gcd_run.specs.Always.{Always};
 ghost use Rattle.gcd_run.specs.Statuses.{Says};
-ghost use Rattle.gcd_run.specs.declared.status.Status.{Status as AnyStatus};
-ghost use Rattle.gcd_run.specs.declared.status.Status.TheVariants.{NoCommand};
+ghost use Rattle.gcd_commands.specs.declared.status.Status.{Status as AnyStatus};
+ghost use Rattle.gcd_commands.specs.declared.status.Status.TheVariants.{NoCommand};
 ghost use Rattle.gcd_words.specs.Asked.{AreTaken, request_of};
 ghost use Rattle.gcd_run.specs.Ends.{CallEnds, HasStatus, IsWritten, WordsCall, WordsEnd};
-ghost use Rattle.gcd_run.specs.Stories.{end_of};
+ghost use Rattle.gcd_commands.specs.Stories.{end_of};
 
-use crate::checking::tell_check;
-use crate::front::tell_front;
-use crate::large::tell_large;
-use crate::running::tell_run;
-use crate::status::Status;
-use crate::story::{Ended, Story};
+use crate::ended::Ended;
+use gcd_commands::{Status, Story, tell_check, tell_front, tell_large, tell_run};
 use gcd_outer::{Clock, Poller, Shelf, Sink, write_whole};
 use gcd_words::{Request, read_words};
 use std::alloc::{AllocError, Global};

@@ -1,9 +1,9 @@
 use Rattle.std.proofs.Common.{append-nil, refl, rules, sym}
 use Rattle.gcd_run.specs.Ends.CallEnds.{reported, wanting}
-use Rattle.gcd_run.specs.Stories.{end_of}
-use Rattle.gcd_run.specs.declared.status.Status.TheVariants.{NoCommand}
+use Rattle.gcd_commands.specs.Stories.{end_of}
+use Rattle.gcd_commands.specs.declared.status.Status.TheVariants.{NoCommand}
 use Rattle.gcd_run.proofs.Statuses.{says}
-use Rattle.gcd_run.proofs.Stories.{none_taken}
+use Rattle.gcd_run.proofs.Words.{none_taken}
 use Rattle.gcd_run.proofs.top.call.Goals as goal
 
 pub returns-in-Ok-clause-ended : goal.returns-in-Ok-clause-ended

@@ -1,9 +1,9 @@
 use Rattle.std.proofs.Common.{◌∙◌, append-nil, refl, sym, inl}
 use Rattle.std.proofs.lemmas.Result.{IfOk-weaker}
-use Rattle.gcd_run.specs.Calls.{only_loads}
-use Rattle.gcd_run.proofs.Hearing.{quiet}
-use Rattle.gcd_run.proofs.Loading.{on_any_err, on_err_map}
-use Rattle.gcd_run.proofs.Stories.{calls_of_words, ok_anyhow, taken_asks, told_of_words}
+use Rattle.gcd_commands.specs.Calls.{only_loads}
+use Rattle.gcd_commands.proofs.Hearing.{quiet}
+use Rattle.gcd_commands.proofs.Loading.{on_any_err, on_err_map}
+use Rattle.gcd_run.proofs.Words.{calls_of_words, ok_anyhow, taken_asks, told_of_words}
 use Rattle.gcd_words.specs.Requests.{asked_of}
 use Rattle.gcd_run.proofs.top.tell.Goals as goal
 

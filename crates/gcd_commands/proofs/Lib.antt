@@ -1,0 +1,10 @@
+pub mod Loading
+pub mod Hearing
+pub mod Stories
+pub mod Pages
+pub mod Ran
+pub mod Sending
+pub mod Counting
+pub mod Hears
+pub mod Lines
+pub mod Totals

@@ -1,0 +1,15 @@
+use Rattle.std.proofs.lemmas.Result.{IfOk-weaker}
+use Rattle.gcd_commands.specs.Checks.CheckEnds.{stopped}
+use Rattle.gcd_commands.proofs.Loading.{on_any_err}
+use Rattle.gcd_commands.proofs.Stories.{stops_count}
+use Rattle.gcd_commands.proofs.checking.tell_check.Goals as goal
+
+pub returns-in-Err-clause-reported : goal.returns-in-Err-clause-reported
+returns-in-Err-clause-reported g c =
+    let why = c.in-Err.ensures.stopped in
+    IfOk-weaker c.stopped.result _ _ (λ s is. record { loads = why.loads; made = why.made; is = stopped c.in-Err.stop why.is is }) c.stopped.ensures
+
+pub returns-in-Err-clause-wanting : goal.returns-in-Err-clause-wanting
+returns-in-Err-clause-wanting g c =
+    let why = c.in-Err.ensures.stopped in
+    on_any_err c.stopped.result (record { loads = why.loads; made = why.made; is = stops_count _ _ _ why.loads c.in-Err.stop why.is })

@@ -1,0 +1,11 @@
+pub mod StatusCodes
+pub mod End
+pub mod Stories
+pub mod Calls
+pub mod Loads
+pub mod Runs
+pub mod Senders
+pub mod Fronts
+pub mod Pages
+pub mod Listens
+pub mod Checks

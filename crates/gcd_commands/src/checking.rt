@@ -1,0 +1,94 @@
+// The command that judges a journal.
+ghost use Rattle.std.specs.Prelude.{◌≡◌, ◌≤◌, length, IfOk, IfErr, OnErr};
+ghost use Rattle.gcd_plan.specs.Limits.{max_events};
+ghost use Rattle.gcd_outer.specs.Outside.{shelf_seen};
+ghost use Rattle.gcd_commands.specs.Calls.{MadeLoads};
+ghost use Rattle.gcd_commands.specs.Checks.{CheckEnds, IsCheckCount, IsJournalAt, IsJudged, StopsCheck, StopsJournal};
+ghost use Rattle.gcd_commands.specs.Loads.{SomeLoads};
+ghost use Rattle.gcd_commands.specs.Stories.{end_of};
+ghost use Rattle.gcd_commands.specs.declared.stop.Stop.TheVariants.{Memory};
+
+use crate::load::{load_plan, load_whole};
+use crate::stop::Stop;
+use crate::story::Story;
+use gcd_event::Event;
+use gcd_journal::{CheckFault, JournalFault, check, read_journal};
+use gcd_outer::Shelf;
+use gcd_plan::{MAX_EVENTS, MAX_FILE_BYTES, Plan};
+use gcd_words::CheckRequest;
+use std::alloc::{AllocError, Global};
+
+// The journal's text is loaded and read.
+fn load_journal<S: Shelf>(
+    alloc: Global,
+    plan: &Plan,
+    shelf: &mut S,
+    name: &str,
+) -> Result<Vec<Event>, Stop>
+    ensures read { IfOk result (λ h. IsJournalAt (shelf_seen S.tells S.content S.loads S.faults shelf.old shelf.new) name.now plan.now h.items) }
+    ensures stopped { IfErr result (StopsJournal (shelf_seen S.tells S.content S.loads S.faults shelf.old shelf.new) name.now plan.now) }
+    ensures loads { MadeLoads (shelf_seen S.tells S.content S.loads S.faults shelf.old shelf.new) 1 }
+    ensures faults { S.faults shelf.old ≤ S.faults shelf.new }
+{
+    let too_long = Stop::Journal { line: 0 };
+    let text = load_whole(alloc, shelf, name, MAX_FILE_BYTES, too_long)?;
+    match read_journal(alloc, plan, MAX_EVENTS, &text) {
+        Ok(journal) => Ok(journal),
+        Err(JournalFault::Refused { line }) => Err(Stop::Journal { line: line as u32 }),
+        Err(JournalFault::Memory) => Err(Stop::Memory),
+    }
+}
+
+// The events are judged. An `Err` comes where memory runs out.
+fn judge(alloc: Global, plan: &Plan, journal: Vec<Event>) -> Result<Story, AllocError>
+    requires few { length journal.items ≤ max_events }
+    ensures { IfOk result (λ s. IsJudged plan.now journal.items (end_of s)) }
+{
+    match check(alloc, plan, &journal) {
+        Ok(state) => Story::lawful(alloc, journal, state),
+        Err(CheckFault::Unlawful { index }) => Story::unlawful(alloc, journal, index),
+        Err(CheckFault::Memory) => Err(AllocError),
+    }
+}
+
+// `check SCRIPT JOURNAL`: the script is loaded and read, then the journal, and then its events are judged.
+fn check_journal<S: Shelf>(
+    alloc: Global,
+    request: CheckRequest,
+    shelf: &mut S,
+) -> Result<Story, Stop>
+    ensures reported { IfOk result (λ s. SomeLoads (shelf_seen S.tells S.content S.loads S.faults shelf.old shelf.new) (λ n. CheckEnds (shelf_seen S.tells S.content S.loads S.faults shelf.old shelf.new) request.entry.script.now request.entry.journal.now n (end_of s))) }
+    ensures stopped { IfErr result (λ stop. SomeLoads (shelf_seen S.tells S.content S.loads S.faults shelf.old shelf.new) (λ n. StopsCheck (shelf_seen S.tells S.content S.loads S.faults shelf.old shelf.new) request.entry.script.now request.entry.journal.now n stop)) }
+{
+    let plan = load_plan(alloc, shelf, request.script)?;
+    let journal = load_journal(alloc, &plan, shelf, request.journal)?;
+    match judge(alloc, &plan, journal) {
+        Ok(story) => Ok(story),
+        Err(AllocError) => Err(Stop::Memory),
+    }
+}
+
+/// Does `check SCRIPT JOURNAL`: loads the script and then the journal, each by one load, and judges the journal's events, of which there
+/// are at most as many as a run can have. No file of the script is loaded. The story has the journal that was read.
+///
+/// | status | cause |
+/// |---|---|
+/// | `Drained` | each event is permitted at its place; the text tells their number and their state |
+/// | `ScriptRefused` | the script is no script, or it is too long; no journal was loaded, and `at` has the line, from 1, and the code |
+/// | `JournalRefused` | the text is no journal of the plan or is too long, and `at` has the line, from 1 (0 is the journal as a whole), and 1; or an event is the first that is not permitted, and `at` has its index, from 0, and 2 |
+/// | `Unread` | the script or the journal cannot be read |
+///
+/// Returns `Err` if memory runs out, after one load or two.
+pub fn tell_check<S: Shelf>(
+    alloc: Global,
+    request: CheckRequest,
+    shelf: &mut S,
+) -> Result<Story, AllocError>
+    ensures reported { IfOk result (λ s. SomeLoads (shelf_seen S.tells S.content S.loads S.faults shelf.old shelf.new) (λ n. CheckEnds (shelf_seen S.tells S.content S.loads S.faults shelf.old shelf.new) request.entry.script.now request.entry.journal.now n (end_of s))) }
+    ensures wanting { OnErr result (SomeLoads (shelf_seen S.tells S.content S.loads S.faults shelf.old shelf.new) IsCheckCount) }
+{
+    match check_journal(alloc, request, shelf) {
+        Ok(story) => Ok(story),
+        Err(stop) => Story::stopped(alloc, stop),
+    }
+}

@@ -1,0 +1,61 @@
+//! The commands: what each of `run`, `check`, `big` and `front` does, up to the text that is to be written.
+//!
+//! | part | what it does |
+//! |---|---|
+//! | [`tell_run`] | loads a script and its files, listens if an address is given, and runs the plan |
+//! | [`tell_check`] | loads a script and a journal, and judges the journal |
+//! | [`tell_large`] | runs the large script over a file that is made |
+//! | [`tell_front`] | runs a script with an intake beside threads that send jobs for it |
+//! | [`Story`] | what each of them gives: a status, a journal, a place and a text; [`Story::usage`] is that of words that name no command |
+//! | [`Status`] | the ways to end by name, each with its number ([`Status::code`]) |
+//!
+//! `run` loads a script and reads it as a plan (`gcd_script`), loads its files in their order, lets the poller listen if an address is
+//! given, runs the plan by as many workers as are asked for, up to as many events as are asked for (`gcd_workers`), and makes the text of
+//! the journal, if it is asked for, and the report (`gcd_journal`). `check` loads a script and a journal, of as many events as a run can
+//! have, and judges it. `big` runs the large script over a file that is made, up to as many events as a run can have. `front` loads a
+//! script, asks whether it has an intake, loads its files, and runs it by four workers (`run_front` of `gcd_workers`) beside threads that
+//! are no workers: each sends its jobs by a mouth of a front (`gcd_front`), which has room for all of them, and shuts it. A command ends
+//! at the first step that cannot go on.
+//!
+//! The model of a story is an `End` (`end_of`): the same four, as plain values. The contracts speak of what the call saw of the shelf,
+//! the poller and the clock (`gcd_outer`), before and after, and of how many loads and listens it made (`Calls`).
+//!
+//! | clause | says |
+//! |---|---|
+//! | `reported` of `tell_run` (`RunEnds`) | why it stopped, and the story of that stop; or the script declares a valid plan, it and each file was loaded once, a listen was made if an address is given, the plan ran (`Ran`), and the story is that of its journal and state |
+//! | `reported` of `tell_check` (`CheckEnds`) | why it stopped, and the story of that stop; or script and journal were loaded and read, and the story says that the events are lawful, or which is the first that is not permitted |
+//! | `reported` of `tell_large` (`BigEnds`) | the plan is that of the large script with so many blocks, its files are the large file, it ran, and the story is that of its journal and state |
+//! | `told` of `tell_front` (`FrontEnds`) | as `reported` of `tell_run`; each accepted job is one of a sender, those of each sender stand in its order, a block of the intake that has ended has the value of its sender's job, and if the run has come to rest each sender's jobs are all accepted (`HearsSenders`) |
+//! | `wanting` (`RunCalls`, `IsCheckCount`, `IsFrontCount`) | if the answer is `Err`, which loads and listens may have been made |
+//! | `kept` of `tell_large`, `tell_front` | no listen was made, and the poller's count of faults did not fall |
+//!
+//! `Ran` is `RunsPlan` of `gcd_loop` and the end that the state names: a lawful journal, of at most as many events as are asked for, of
+//! these workers alone, honest to poller and clock, and with one worker the choice at each place. `proofs/Pages` shows of every lawful
+//! journal of a valid plan what it keeps of the pages of strips and block objects (`KeepsPages`).
+//!
+//! Nothing is said of a shelf or poller that tells nothing, but that a fault comes only if it failed, nothing of time, and of no cause
+//! why memory ran out. Nothing is written here: the top call (`gcd_run`) does that. By one worker the journal is exact; by more, which
+//! worker does what is left to the threads.
+//!
+//! If an item names no manual page, what it says is this project's own rule.
+#![tactic(auto)]
+
+mod checking;
+mod engine;
+mod front;
+mod front_job;
+mod large;
+mod load;
+mod pool_side;
+mod running;
+mod senders;
+mod status;
+mod stop;
+mod story;
+
+pub use checking::tell_check;
+pub use front::tell_front;
+pub use large::tell_large;
+pub use running::tell_run;
+pub use status::Status;
+pub use story::Story;

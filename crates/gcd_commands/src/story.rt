@@ -1,0 +1,171 @@
+// What a command tells.
+ghost use Rattle.std.specs.Prelude.{◌≡◌, ℕ, List, Some, IfOk};
+ghost use Rattle.gcd_commands.specs.End.{state_word};
+
+use crate::status::Status;
+use crate::stop::Stop;
+use gcd_event::Event;
+use gcd_history::State;
+use std::alloc::{AllocError, Global};
+
+/// What a command tells: how the call ends, before anything is written.
+#[derive(Drop)]
+pub struct Story {
+    /// The status with which the call ends if the text can be written.
+    pub status: Status,
+    /// The journal of the run, or the one that was judged; empty if nothing ran or was read.
+    pub journal: Vec<Event>,
+    /// If a script is refused, the line, from 1, and the code; line 0 is the script as a whole. If a journal is refused, the line
+    /// and 1, or the index of the event, from 0, and 2.
+    pub at: Option<(u32, u32)>,
+    /// The text to write, whole.
+    pub text: Vec<u8>,
+}
+
+/// The bytes of a text.
+pub fn bytes_of(alloc: Global, text: &str) -> Result<Vec<u8>, AllocError>
+    ensures { IfOk result (λ bytes. bytes.items ≡ text.now) }
+{
+    Vec::from_slice(alloc, text.as_bytes())
+}
+
+impl Story {
+    ghost use Rattle.gcd_commands.specs.Stories.{end_of};
+    ghost use Rattle.gcd_commands.specs.End.{plain_end, usage_end, read_fault, refused_end, no_journal_end, no_intake_end, stop_end, ran_end, lawful_end, unlawful_end};
+
+    fn plain(alloc: Global, status: Status, text: &str) -> Result<Self, AllocError>
+        ensures { IfOk result (λ s. end_of s ≡ plain_end status text.now) }
+    {
+        Ok(Story {
+            status,
+            journal: Vec::new(alloc),
+            at: None,
+            text: bytes_of(alloc, text)?,
+        })
+    }
+
+    /// Tells the usage line, with `NoCommand`: what a call answers if its words name no command. Returns `Err` if memory runs out.
+    pub fn usage(alloc: Global) -> Result<Self, AllocError>
+        ensures { IfOk result (λ s. end_of s ≡ usage_end) }
+    {
+        Story::plain(
+            alloc,
+            Status::NoCommand,
+            "usage: gcd run SCRIPT [--workers N] [--journal] [--most N] [--listen ADDR] | gcd check SCRIPT JOURNAL | gcd big N [--workers W] | gcd front SCRIPT SENDERS\n",
+        )
+    }
+
+    fn read_fault(alloc: Global) -> Result<Self, AllocError>
+        ensures { IfOk result (λ s. end_of s ≡ read_fault) }
+    {
+        Story::plain(alloc, Status::Unread, "read fault\n")
+    }
+
+    fn no_intake(alloc: Global) -> Result<Self, AllocError>
+        ensures { IfOk result (λ s. end_of s ≡ no_intake_end) }
+    {
+        Story::plain(alloc, Status::NoIntake, "no intake\n")
+    }
+
+    fn refused(alloc: Global, line: u32, code: u8) -> Result<Self, AllocError>
+        ensures { IfOk result (λ s. end_of s ≡ refused_end line code) }
+    {
+        let text = format!(in alloc; "script refused: line {line} code {code}\n")?;
+        Ok(Story {
+            status: Status::ScriptRefused,
+            journal: Vec::new(alloc),
+            at: Some((line, u32::from(code))),
+            text: bytes_of(alloc, text.as_str())?,
+        })
+    }
+
+    fn no_journal(alloc: Global, line: u32) -> Result<Self, AllocError>
+        ensures { IfOk result (λ s. end_of s ≡ no_journal_end line) }
+    {
+        let text = format!(in alloc; "journal refused: line {line}\n")?;
+        Ok(Story {
+            status: Status::JournalRefused,
+            journal: Vec::new(alloc),
+            at: Some((line, 1)),
+            text: bytes_of(alloc, text.as_str())?,
+        })
+    }
+
+    /// The call stopped. An `Err` comes where memory runs out.
+    pub(crate) fn stopped(alloc: Global, stop: Stop) -> Result<Self, AllocError>
+        ensures { IfOk result (λ s. stop_end stop ≡ Some (end_of s)) }
+    {
+        match stop {
+            Stop::Unread => Story::read_fault(alloc),
+            Stop::Script { line, code } => Story::refused(alloc, line, code),
+            Stop::Journal { line } => Story::no_journal(alloc, line),
+            Stop::NoIntake => Story::no_intake(alloc),
+            Stop::Memory => Err(AllocError),
+        }
+    }
+
+    /// A run that has come to this state, with what is told of it, where memory sufficed for that.
+    pub(crate) fn ran(
+        state: State,
+        journal: Vec<Event>,
+        text: Result<Vec<u8>, AllocError>,
+    ) -> Result<Self, AllocError>
+        ensures { (reported : List ℕ) → IfOk text (λ t. t.items ≡ reported) → IfOk result (λ s. end_of s ≡ ran_end state journal.items reported) }
+    {
+        Ok(Story {
+            status: Status::of(state),
+            journal,
+            at: None,
+            text: text?,
+        })
+    }
+
+    /// A journal whose events are lawful and have come to this state.
+    pub(crate) fn lawful(
+        alloc: Global,
+        journal: Vec<Event>,
+        state: State,
+    ) -> Result<Self, AllocError>
+        ensures { IfOk result (λ s. end_of s ≡ lawful_end journal.items state) }
+    {
+        let count = journal.len();
+        let word = state_word(state);
+        let text = format!(in alloc; "lawful {count} {word}\n")?;
+        Ok(Story {
+            status: Status::Drained,
+            journal,
+            at: None,
+            text: bytes_of(alloc, text.as_str())?,
+        })
+    }
+
+    /// A journal whose event at this index is the first that is not permitted.
+    pub(crate) fn unlawful(
+        alloc: Global,
+        journal: Vec<Event>,
+        index: u32,
+    ) -> Result<Self, AllocError>
+        ensures { IfOk result (λ s. end_of s ≡ unlawful_end journal.items index) }
+    {
+        let text = format!(in alloc; "journal refused: event {index}\n")?;
+        Ok(Story {
+            status: Status::JournalRefused,
+            journal,
+            at: Some((index, 2)),
+            text: bytes_of(alloc, text.as_str())?,
+        })
+    }
+}
+
+// The word of a state.
+fn state_word(state: State) -> &'static str
+    ensures { result.now ≡ state_word state }
+{
+    match state {
+        State::Drained => "drained",
+        State::Stuck => "stuck",
+        State::Misused => "misuse",
+        State::Halted => "halted",
+        State::Live => "open",
+    }
+}

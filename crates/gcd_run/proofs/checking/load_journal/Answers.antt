@@ -1,8 +1,0 @@
-use Rattle.std.proofs.Common.{refl}
-use Rattle.gcd_run.specs.Checks.StopsJournal.{refused}
-use Rattle.gcd_run.proofs.checking.load_journal.Goals as goal
-
-pub returns-in-Err-Refused-clause-stopped : goal.returns-in-Err-Refused-clause-stopped
-returns-in-Err-Refused-clause-stopped g c =
-    refused c.in_ok-text.text.items c.in-Err-Refused.line c.in_ok-text.ensures.loaded
-    (rw (c.deref.ensures.value, c.in-Err-Refused.field-0-is) at c.in-Err-Refused.ensures.fault) refl

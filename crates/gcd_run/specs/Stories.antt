@@ -1,6 +1,0 @@
--- An answer of the code as a way to end.
-use Rattle.gcd_run.specs.End.{End}
-use Rattle.gcd_run.specs.declared.story.Story.{Story}
-
-abbrev pub end_of : Story → End
-end_of s = record { status = s.status; journal = s.journal.items; at = s.at; text = s.text.items }
