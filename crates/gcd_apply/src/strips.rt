@@ -11,7 +11,7 @@ use std::alloc::{AllocError, Global};
 use std::marker::Model;
 
 /// How many blocks of each strip of a plan have not ended (dispatch_apply(3)). Contracts see it as plain lists (`StripsView`).
-#[derive(Debug, Drop)]
+#[derive(Drop)]
 pub struct Strips {
     // By strip: how many of its blocks have not ended.
     left: Vec<u32>,

@@ -7,7 +7,7 @@ use std::alloc::{AllocError, Global};
 use std::marker::Model;
 
 /// A set of numbers below a length. Contracts see it as a list of truth values, one for each number.
-#[derive(Debug, Drop)]
+#[derive(Drop)]
 pub struct BitSet {
     words: Vec<u64>,
     len: u32,

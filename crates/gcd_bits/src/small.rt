@@ -7,7 +7,7 @@ use std::marker::Model;
 
 /// A set of numbers below 1,024 in sixteen words: it takes no memory, and may be made for the length of one call. Contracts
 /// see its words, and ask by `is_in_words` which numbers are in them.
-#[derive(Debug, Drop)]
+#[derive(Drop)]
 pub struct SmallSet {
     words: [u64; 16],
 }

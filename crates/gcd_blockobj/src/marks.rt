@@ -12,7 +12,7 @@ use std::marker::Model;
 
 /// Which blocks of a plan are cancelled, and which wait for the end of another to be submitted (dispatch_block_cancel(3),
 /// dispatch_block_notify(3)). Contracts see it as plain lists by block (`MarksView`).
-#[derive(Debug, Drop)]
+#[derive(Drop)]
 pub struct Marks {
     // Each of the four is of each block, or of none where no act of the plan needs it.
     cancelled: BitSet,

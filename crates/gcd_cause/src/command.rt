@@ -5,7 +5,7 @@ use gcd_plan::{MAX_BLOCKS, MAX_EVENTS, MAX_WORKERS};
 use std::fmt;
 
 /// Why words name no command.
-#[derive(Clone, Copy, Debug, PartialEq, Eq)]
+#[derive(Clone, Copy)]
 pub enum WordsCause<'a> {
     /// A call for help.
     Help,

@@ -6,7 +6,7 @@ use std::alloc::{AllocError, Global};
 use std::fmt;
 
 /// What a line of a journal asks of a field after the first.
-#[derive(Clone, Copy, Debug, PartialEq, Eq)]
+#[derive(Clone, Copy)]
 pub enum Field {
     Worker,
     /// A block's name.

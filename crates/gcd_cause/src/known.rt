@@ -7,7 +7,7 @@ use gcd_text::number;
 use std::alloc::{AllocError, Global};
 
 /// What a declared name stands for.
-#[derive(Clone, Copy, Debug, PartialEq, Eq)]
+#[derive(Clone, Copy)]
 pub enum What {
     File,
     Queue,
@@ -120,7 +120,7 @@ fn kind_of(words: Words) -> Option<What> {
 }
 
 /// The body that is open at a line.
-#[derive(Clone, Copy, Debug, PartialEq, Eq)]
+#[derive(Clone, Copy, PartialEq, Eq)]
 pub enum Body<'a> {
     /// None: an act may not stand here.
     Closed,

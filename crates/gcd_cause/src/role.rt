@@ -1,7 +1,7 @@
 // What a form of line asks of each word.
 
 /// What a form of line asks of a word after the first.
-#[derive(Clone, Copy, Debug, PartialEq, Eq)]
+#[derive(Clone, Copy)]
 pub enum Role {
     /// A name that is declared.
     New,

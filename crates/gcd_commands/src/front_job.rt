@@ -5,7 +5,7 @@ use gcd_front::Sent;
 use gcd_jobs::{Admits, FileJob, Job};
 
 /// What a sender hands in: a job that gives this number.
-#[derive(Clone, Copy, Debug, PartialEq, Eq)]
+#[derive(Clone, Copy)]
 pub struct Told(pub u64);
 
 impl Sent for Told {

@@ -5,7 +5,7 @@ ghost use Rattle.gcd_commands.specs.StatusCodes.{status_code, status_of};
 use gcd_history::State;
 
 /// How a call ends.
-#[derive(Clone, Copy, Debug, PartialEq, Eq)]
+#[derive(Clone, Copy, Debug)]
 pub enum Status {
     /// The run drained: nothing may come next, and each block that was submitted has ended. Or the journal that was judged is
     /// lawful.

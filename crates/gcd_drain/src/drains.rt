@@ -16,7 +16,7 @@ use std::marker::Model;
 
 /// How many barriers are open on each object of a plan, and the objects' kinds (dispatch_barrier_async(3)). Contracts see
 /// them as plain lists by object (`DrainsView`).
-#[derive(Debug, Drop)]
+#[derive(Drop)]
 pub struct Drains {
     barriers: Vec<u32>,
     kinds: Vec<Kind>,

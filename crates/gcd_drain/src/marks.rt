@@ -12,7 +12,7 @@ use std::marker::Model;
 
 /// Which chains are known to be shut, and which to be open. It takes no memory, and serves while the parts stay as they are:
 /// within one choice, say. Contracts see two sets in words of bits (`MarksView`).
-#[derive(Debug, Drop)]
+#[derive(Drop)]
 pub struct Marks {
     known: SmallSet,
     shut: SmallSet,

@@ -7,7 +7,7 @@ use gcd_plan::Obj;
 use std::alloc::{AllocError, Global};
 
 /// A reading of a station. As a job it is converted to degrees Fahrenheit, without a fraction.
-#[derive(Clone, Copy, Debug)]
+#[derive(Clone, Copy)]
 pub struct Reading {
     /// The queue of its station.
     pub station: Obj,

@@ -10,7 +10,7 @@ use std::marker::Model;
 
 /// What each group of a plan counts, when it was empty, and the blocks that are to be told (dispatch_group_create(3)).
 /// Contracts see it as plain lists by object (`GroupsView`).
-#[derive(Debug, Drop)]
+#[derive(Drop)]
 pub struct Groups {
     counts: Vec<u32>,
     entered: Vec<u32>,

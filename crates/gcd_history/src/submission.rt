@@ -4,7 +4,7 @@ use gcd_plan::{Blk, Obj};
 
 /// A block that was submitted: the node on which it waits until its start, None for `main` alone, and whether it is a
 /// barrier (dispatch_async(3), dispatch_barrier_async(3)).
-#[derive(Clone, Copy, Debug, PartialEq, Eq)]
+#[derive(Clone, Copy)]
 pub struct Submission {
     /// The block.
     pub blk: Blk,

@@ -9,7 +9,7 @@ use std::marker::Model;
 
 /// The hold of each object of a plan, and whether it is active (dispatch_suspend(3), dispatch_activate(3)). Contracts see
 /// them as plain lists by object (`HoldsView`).
-#[derive(Debug, Drop)]
+#[derive(Drop)]
 pub struct Holds {
     holds: Vec<u32>,
     active: Vec<bool>,

@@ -6,7 +6,7 @@ use gcd_front::Sent;
 
 /// What a front is of that has no senders, where a run has no outside callers. Only a mouth can send one, so none is sent; it would do
 /// nothing, and give 0.
-#[derive(Clone, Copy, Debug, PartialEq, Eq)]
+#[derive(Clone, Copy)]
 pub struct Nobody;
 
 impl Sent for Nobody {

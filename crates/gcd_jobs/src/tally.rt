@@ -6,7 +6,7 @@ use gcd_plan::Kind;
 
 /// A handler that counts its deliveries and folds their values (dispatch_source_create(3)): by bitwise or where its
 /// source is an or source, to the newest where it is a replace source, and else by addition.
-#[derive(Debug, PartialEq, Eq, Drop)]
+#[derive(PartialEq, Eq, Drop)]
 pub struct Tally {
     /// The kind of its source.
     pub kind: Kind,

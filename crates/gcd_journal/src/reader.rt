@@ -15,7 +15,7 @@ use itoa::Buffer;
 use std::alloc::{AllocError, Global};
 
 /// Why a text is not read.
-#[derive(Clone, Copy, Debug, PartialEq, Eq)]
+#[derive(Clone, Copy, Debug)]
 pub enum JournalFault {
     /// The line, from 1, is the first at fault: it is neither one event's line more nor the line `events N` with the number
     /// of events before it. It is one of 64 bits, since 2 ^ 32 - 1 events may stand before it.

@@ -14,7 +14,7 @@ use gcd_plan::{Kind, Obj, Plan, Run};
 use std::alloc::{AllocError, Global};
 
 /// What the deliveries of a source handed over: their number, and their values in one.
-#[derive(Clone, Copy, Debug, PartialEq, Eq)]
+#[derive(Clone, Copy)]
 pub struct Total {
     pub times: u32,
     pub value: u128,

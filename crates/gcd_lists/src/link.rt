@@ -5,7 +5,7 @@ use gcd_plan::Blk;
 use std::marker::Model;
 
 /// A block or none, in two bytes: 0 is none, else the block's number and 1.
-#[derive(Clone, Copy, Debug)]
+#[derive(Clone, Copy)]
 pub(crate) struct Link(u16);
 
 impl Model for Link {

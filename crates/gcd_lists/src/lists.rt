@@ -18,7 +18,7 @@ const _: () = prove!(2 * size_of::<Link>() + size_of::<Place>() == 6);
 /// plain lists (`ListsView`).
 ///
 /// Each block has two links, to the block behind it and to the one before, since it waits at one place at a time.
-#[derive(Debug, Drop)]
+#[derive(Drop)]
 pub struct Lists {
     // By block: the block behind it in its list. Of a block that waits nowhere it says nothing.
     next: Vec<Link>,

@@ -6,7 +6,7 @@ use std::marker::Model;
 
 /// An object and whether a block waits there as a barrier, or none, in two bytes: 0 is none, else twice the object's number
 /// and 1, and 1 more for a barrier.
-#[derive(Clone, Copy, Debug)]
+#[derive(Clone, Copy)]
 pub(crate) struct Place(u16);
 
 impl Model for Place {

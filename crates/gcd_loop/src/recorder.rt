@@ -14,7 +14,7 @@ use gcd_plan::Plan;
 use std::sync::Wait;
 
 /// What putting an event that is no worker's comes to.
-#[derive(Clone, Copy, Debug, PartialEq, Eq)]
+#[derive(Clone, Copy, PartialEq, Eq)]
 pub enum Put {
     /// It stands behind what is seen then, but for itself.
     Placed,
@@ -25,7 +25,7 @@ pub enum Put {
 }
 
 /// What a step of the recorder comes to.
-#[derive(Clone, Copy, Debug, PartialEq, Eq)]
+#[derive(Clone, Copy)]
 pub enum Step {
     /// Something was done.
     Placed,

@@ -19,7 +19,7 @@ use gcd_turn::{Ask, Outlook};
 use std::sync::Wait;
 
 /// What a turn comes to.
-#[derive(Clone, Copy, Debug, PartialEq, Eq)]
+#[derive(Clone, Copy, PartialEq, Eq)]
 pub enum Turn {
     /// An event was placed, or other work done.
     Placed,

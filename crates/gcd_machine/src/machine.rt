@@ -17,7 +17,6 @@ use std::alloc::{AllocError, Global};
 use std::marker::Model;
 
 /// A queue machine: it stands for a plan and each history that has led to it, and tells what may come next.
-#[derive(Debug)]
 pub struct Machine {
     registers: Registers,
 }

@@ -44,7 +44,7 @@ use std::marker::Model;
 use std::sync::Arc;
 
 /// All that a machine keeps: the plan, which its copies share, the twelve parts and its own arrays. No array grows.
-#[derive(Debug, Drop)]
+#[derive(Drop)]
 pub struct Registers {
     pub plan: Arc<Plan>,
     pub refs: Objects,

@@ -7,7 +7,7 @@ use std::marker::Model;
 
 /// How many references each object of a plan has (dispatch_object(3)). Contracts see them as a list of numbers, by
 /// object.
-#[derive(Debug, Drop)]
+#[derive(Drop)]
 pub struct Objects {
     refs: Vec<u32>,
 }

@@ -3,7 +3,7 @@ ghost use Rattle.std.specs.Prelude.{◌≡◌, ◌≤◌, ◌<◌, List, ℕ, Bo
 ghost use Rattle.gcd_outer.specs.Outside.{Rises, next_count};
 
 /// Why a load gave no content.
-#[derive(Clone, Copy, Debug, PartialEq, Eq)]
+#[derive(Clone, Copy, PartialEq, Eq)]
 pub enum LoadFault {
     /// The shelf failed, and counted it.
     Failed,

@@ -1,7 +1,7 @@
 // What a poller tells of one feed.
 
 /// What came from one feed since it was last told of.
-#[derive(Clone, Copy, Debug, Default, PartialEq, Eq)]
+#[derive(Clone, Copy, Default, PartialEq, Eq)]
 pub struct Tell {
     /// The feed: the number of its source, below [`MAX_FEEDS`](crate::MAX_FEEDS).
     pub feed: u32,

@@ -6,7 +6,7 @@ use gcd_plan::Plan;
 use gcd_timeline::Mark;
 
 /// A sentence on how a run ended, and the line of the script that it is about, from 1; 0 is none.
-#[derive(Debug, Drop)]
+#[derive(Drop)]
 pub struct Note {
     /// The line; 0 where there is none.
     pub line: u32,

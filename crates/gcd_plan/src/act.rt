@@ -6,7 +6,7 @@ ghost use Rattle.gcd_plan.specs.Validity.{block_of, strip_of, is_handler_act};
 use crate::numbers::{Blk, Obj};
 
 /// One act of a block or of a source's handler.
-#[derive(Clone, Copy, Debug, PartialEq, Eq)]
+#[derive(Clone, Copy, PartialEq, Eq)]
 pub enum Act {
     /// Submits the block to the queue (dispatch_async(3)).
     Async(Obj, Blk),

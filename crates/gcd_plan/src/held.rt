@@ -9,7 +9,7 @@ use std::alloc::{AllocError, Global};
 use std::sync::Arc;
 
 /// The parts of a plan, as it keeps them.
-#[derive(Debug, Drop)]
+#[derive(Drop)]
 pub enum Held {
     /// They are this plan's alone.
     Own(Parts),

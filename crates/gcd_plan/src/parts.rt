@@ -13,7 +13,7 @@ use std::alloc::{AllocError, Global};
 
 /// What is declared of an object. Where its kind has no such thing, `target` is `Obj(0)`, `active` is true, `path` and
 /// `handler` are empty and `cancel` is None.
-#[derive(Debug, Drop)]
+#[derive(Drop)]
 pub struct ObjPart {
     /// The name by which texts call it.
     pub name: String,
@@ -58,7 +58,7 @@ impl ObjPart {
 }
 
 /// What is declared of a block.
-#[derive(Debug, Drop)]
+#[derive(Drop)]
 pub struct BlkPart {
     /// The name by which texts call it.
     pub name: String,
@@ -83,7 +83,7 @@ impl BlkPart {
 }
 
 /// What is declared of a file.
-#[derive(Debug, Drop)]
+#[derive(Drop)]
 pub struct FilePart {
     /// The name by which works call it.
     pub name: String,
@@ -94,7 +94,7 @@ pub struct FilePart {
 }
 
 /// What is declared of a strip: blocks that count one part of a file after the other (dispatch_apply(3)).
-#[derive(Debug, Drop)]
+#[derive(Drop)]
 pub struct StripPart {
     /// The name by which texts call it.
     pub name: String,
@@ -127,7 +127,7 @@ impl StripPart {
 }
 
 /// The lists that a plan is made of, by number. Object 0 is the queue `root`, block 0 is `main`.
-#[derive(Debug, Drop)]
+#[derive(Drop)]
 pub struct Parts {
     /// The objects, `root` first.
     pub objects: Vec<ObjPart>,

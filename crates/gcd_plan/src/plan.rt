@@ -18,7 +18,6 @@ use std::marker::Model;
 
 /// A valid plan: its kinds and ranges fit, its names are apart, each block is submitted at most once, and its targets
 /// lead to `root`. Contracts see it as the plain lists of its parts (`PlanView`).
-#[derive(Debug)]
 pub struct Plan {
     held: Held,
 }

@@ -3,7 +3,7 @@
 use crate::numbers::{Blk, Obj};
 
 /// What a parked block waits for.
-#[derive(Clone, Copy, Debug, PartialEq, Eq)]
+#[derive(Clone, Copy, PartialEq, Eq)]
 pub enum Reason {
     /// The end of a block: of one that it submitted (dispatch_sync(3), dispatch_barrier_sync(3)), or of another
     /// (dispatch_block_wait(3)).

@@ -14,7 +14,7 @@ use gcd_machine::Machine;
 use gcd_plan::{Blk, Obj, Run};
 
 /// How a run has ended for a worker.
-#[derive(Clone, Copy, Debug, PartialEq, Eq)]
+#[derive(Clone, Copy)]
 pub enum Exit {
     /// Nothing but a Halt can come any more, and the run is not halted.
     Quiescent,
@@ -25,7 +25,7 @@ pub enum Exit {
 }
 
 /// What a worker has to do next.
-#[derive(Clone, Copy, Debug, PartialEq, Eq)]
+#[derive(Clone, Copy)]
 pub enum Duty {
     /// To leave: the run has ended.
     Leave(Exit),

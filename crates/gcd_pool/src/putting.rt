@@ -15,7 +15,7 @@ use gcd_row::{Put, Slot};
 use std::sync::Wait;
 
 // What comes of an event that is put until no passed word holds it.
-#[derive(Clone, Copy, Debug, PartialEq, Eq)]
+#[derive(Clone, Copy)]
 pub enum Through {
     // It stands.
     Placed,

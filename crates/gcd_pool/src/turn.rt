@@ -15,7 +15,7 @@ use gcd_plan::Obj;
 use std::sync::Wait;
 
 /// What a turn of a worker comes to.
-#[derive(Clone, Copy, Debug, PartialEq, Eq)]
+#[derive(Clone, Copy, PartialEq, Eq)]
 pub enum Turn {
     /// The run has ended, and the worker has left.
     Left,

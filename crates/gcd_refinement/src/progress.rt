@@ -3,7 +3,7 @@
 use gcd_plan::{Blk, Obj};
 
 /// What a block has come to.
-#[derive(Clone, Copy, Debug, PartialEq, Eq)]
+#[derive(Clone, Copy)]
 pub struct BlockProgress {
     /// The queue or source on which it was submitted; None for `main`, and before the submission (dispatch_async(3)).
     pub node: Option<Obj>,
@@ -36,7 +36,7 @@ impl BlockProgress {
 }
 
 /// What a source's handler has come to.
-#[derive(Clone, Copy, Debug, PartialEq, Eq)]
+#[derive(Clone, Copy)]
 pub struct HandlerProgress {
     /// How many acts it has made since the last delivery, at most [`gcd_plan::MAX_ACTS`].
     pub done: u32,

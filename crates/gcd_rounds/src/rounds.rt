@@ -38,7 +38,7 @@ pub struct RoundsEnd<H> {
 }
 
 /// Why a run by rounds was given up.
-#[derive(Clone, Copy, Debug, PartialEq, Eq)]
+#[derive(Clone, Copy, Debug)]
 pub enum RoundsFault {
     /// Memory ran out. The jobs and handlers were dropped.
     Memory,

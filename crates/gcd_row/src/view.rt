@@ -5,7 +5,7 @@ use std::collections::LinkedList;
 use std::snapshot::Snapshot;
 
 /// How many workers a board is made for, and how many events it takes.
-#[derive(Clone, Copy, Debug, Drop)]
+#[derive(Clone, Copy, Drop)]
 pub struct Limits {
     pub workers: u8,
     pub most: u32,

@@ -7,7 +7,7 @@ use crate::refusal::Refusal;
 use std::alloc::AllocError;
 
 /// Why a text makes no plan.
-#[derive(Clone, Copy, Debug, PartialEq, Eq)]
+#[derive(Clone, Copy, Debug)]
 pub enum ParseFault {
     /// The text is no script: the number of its first line at fault, from 1, and the lowest code that applies to it
     /// ([`Refusal::code`]).

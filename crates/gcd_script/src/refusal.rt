@@ -3,7 +3,7 @@ ghost use Rattle.std.specs.Prelude.{◌≡◌};
 ghost use Rattle.gcd_script.specs.Codes.{refusal_code};
 
 /// Why a line of a script is refused. Where several refusals apply to a line, the one of the lowest code is told.
-#[derive(Clone, Copy, Debug, PartialEq, Eq)]
+#[derive(Clone, Copy, Debug)]
 pub enum Refusal {
     /// The line has a byte other than 32 to 126, or is of no form, or is an act outside a body.
     NoForm,

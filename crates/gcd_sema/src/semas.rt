@@ -11,7 +11,7 @@ use std::marker::Model;
 
 /// How often each semaphore of a plan was signalled, and each wait for it, beside its first value
 /// (dispatch_semaphore_create(3)). Contracts see it as plain lists by object (`SemasView`).
-#[derive(Debug, Drop)]
+#[derive(Drop)]
 pub struct Semas {
     firsts: Vec<u32>,
     signals: Vec<u32>,

@@ -13,7 +13,7 @@ const NO_TIME: u32 = u32::MAX;
 ///
 /// It is a tree in one array: a node below `len` is the lesser of its two children, and the nodes from `len` on are the
 /// times.
-#[derive(Debug, Drop)]
+#[derive(Drop)]
 pub struct Times {
     // Twice as many as there are numbers. The children of node i are 2 * i and 2 * i + 1; node 0 says nothing.
     nodes: Vec<u32>,

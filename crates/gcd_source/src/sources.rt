@@ -9,7 +9,7 @@ use std::marker::Model;
 
 /// What is pending at each source of a plan, and which are cancelled (dispatch_source_create(3)). Contracts see it as plain
 /// lists by object (`SourcesView`).
-#[derive(Debug, Drop)]
+#[derive(Drop)]
 pub struct Sources {
     kinds: Vec<Kind>,
     pending: Vec<u64>,

@@ -4,7 +4,7 @@ ghost use Rattle.std.specs.Prelude.{◌≡◌, ◌+◌, ◌<◌, ◌^◌, Some};
 use std::marker::Model;
 
 /// A time in milliseconds or none, in four bytes: 0 is none, else the time and 1.
-#[derive(Clone, Copy, Debug)]
+#[derive(Clone, Copy)]
 pub(crate) struct Limit(u32);
 
 impl Model for Limit {

@@ -14,7 +14,7 @@ use std::marker::Model;
 
 /// What each block of a plan waits for, where it is parked, until when, and whether its wait has expired (dispatch_sync(3),
 /// dispatch_group_wait(3), dispatch_semaphore_wait(3), dispatch_apply(3), dispatch_block_wait(3)). Contracts see it as plain lists by block (`WaitsView`).
-#[derive(Debug, Drop)]
+#[derive(Drop)]
 pub struct Waits {
     reasons: Vec<Option<Reason>>,
     // Of each block, or of none where no act of the plan waits with a limit.

@@ -6,7 +6,7 @@ ghost use Rattle.gcd_timer.specs.Intervals.{IsSpaced, due_times_of, last_due, is
 use gcd_plan::Kind;
 
 /// The due times of a timer, in milliseconds: `first`, and one each `every` from there on, none past `last`.
-#[derive(Clone, Copy, Debug)]
+#[derive(Clone, Copy)]
 pub struct DueTimes {
     /// The first due time, where it is not past the last; above 0.
     pub first: u64,

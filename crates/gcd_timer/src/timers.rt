@@ -13,7 +13,7 @@ use std::marker::Model;
 
 /// The time, and when each source of a plan was activated and cancelled (dispatch_source_set_timer(3)). Contracts see it as
 /// plain data (`TimersView`).
-#[derive(Debug, Drop)]
+#[derive(Drop)]
 pub struct Timers {
     clock: Clock,
     // By object: its least due time after the present.

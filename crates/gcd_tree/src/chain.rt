@@ -10,7 +10,7 @@ use std::marker::Model;
 
 /// The chain of an object: the object, its target and so on to `root` (dispatch_queue_create(3)). Contracts see it as the
 /// list of the numbers of the objects that are left, and `next` gives the first of them.
-#[derive(Debug, Drop)]
+#[derive(Drop)]
 pub struct Chain<'a> {
     targets: &'a [Obj],
     at: Obj,

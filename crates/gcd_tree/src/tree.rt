@@ -13,7 +13,7 @@ use std::marker::Model;
 /// The targets of a plan's queues and sources, the targets that wait until an object has no open run, and how many runs
 /// are open on and beneath each object (dispatch_set_target_queue(3)). Contracts see it as plain lists by object
 /// (`TreeView`).
-#[derive(Debug, Drop)]
+#[derive(Drop)]
 pub struct Tree {
     targets: Vec<Obj>,
     requests: Vec<Option<Obj>>,

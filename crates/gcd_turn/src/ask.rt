@@ -3,7 +3,7 @@
 use gcd_event::Event;
 
 /// What a turn asks of the engine, after its first steps.
-#[derive(Clone, Copy, Debug, PartialEq, Eq)]
+#[derive(Clone, Copy)]
 pub enum Ask {
     /// The run has ended: it is quiescent, halted or full.
     Leave,

@@ -15,7 +15,7 @@ use gcd_plan::Plan;
 use std::marker::Model;
 
 // Pieces of news, each bytes or an end of a feed, in order; those before `next` are settled. It takes no memory but its own.
-#[derive(Debug, Drop)]
+#[derive(Drop)]
 pub(crate) struct News {
     pieces: ArrayVec<Tell, MAX_NEWS>,
     next: usize,

@@ -25,7 +25,7 @@ use gcd_plan::Plan;
 use std::marker::Model;
 
 /// What worker 0, which alone has poller and clock, keeps of them between its turns.
-#[derive(Debug, Drop)]
+#[derive(Drop)]
 pub struct Outlook {
     // The clock's answer before the first turn.
     start: u64,

@@ -4,7 +4,7 @@ use gcd_cause::Shown;
 use std::fmt;
 
 /// What could not be read, and where it is named; `said` is what the system said, empty where it said nothing.
-#[derive(Clone, Copy, Debug, PartialEq, Eq)]
+#[derive(Clone, Copy)]
 pub enum Unread<'a> {
     /// The script, the journal or a file of the script, under this path.
     File { path: &'a str, said: &'a str },

@@ -1,7 +1,7 @@
 // What the words ask for.
 
 /// A run of a script.
-#[derive(Clone, Copy, Debug, PartialEq, Eq)]
+#[derive(Clone, Copy, PartialEq, Eq)]
 pub struct RunRequest<'a> {
     /// The name of the script on the shelf.
     pub script: &'a str,
@@ -16,7 +16,7 @@ pub struct RunRequest<'a> {
 }
 
 /// The judgement of a journal.
-#[derive(Clone, Copy, Debug, PartialEq, Eq)]
+#[derive(Clone, Copy, PartialEq, Eq)]
 pub struct CheckRequest<'a> {
     /// The name of the script on the shelf.
     pub script: &'a str,
@@ -25,7 +25,7 @@ pub struct CheckRequest<'a> {
 }
 
 /// A run of the large script.
-#[derive(Clone, Copy, Debug, PartialEq, Eq)]
+#[derive(Clone, Copy, PartialEq, Eq)]
 pub struct BigRequest {
     /// How many blocks it has beside `main`, from 1 to 16,384.
     pub count: u16,
@@ -34,7 +34,7 @@ pub struct BigRequest {
 }
 
 /// A run of a script beside threads that send jobs for its intake.
-#[derive(Clone, Copy, Debug, PartialEq, Eq)]
+#[derive(Clone, Copy, PartialEq, Eq)]
 pub struct FrontRequest<'a> {
     /// The name of the script on the shelf.
     pub script: &'a str,
@@ -43,7 +43,7 @@ pub struct FrontRequest<'a> {
 }
 
 /// What the words ask for.
-#[derive(Clone, Copy, Debug, PartialEq, Eq)]
+#[derive(Clone, Copy, PartialEq, Eq)]
 pub enum Request<'a> {
     /// `run SCRIPT [--workers N] [--journal] [--most N] [--listen ADDR]`
     Run(RunRequest<'a>),

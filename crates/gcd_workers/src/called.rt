@@ -5,7 +5,7 @@ use gcd_front::Sent;
 use gcd_jobs::{Admits, Job};
 
 /// The job of a block whose work comes from outside, if it has any: nothing of its own, or what a caller sent (dispatch_async(3)).
-#[derive(Debug, Drop)]
+#[derive(Drop)]
 pub enum Called<X> {
     /// It does nothing, and gives 0: so does a block of the plan that is not of its intake.
     Nothing,

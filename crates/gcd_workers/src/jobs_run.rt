@@ -5,7 +5,7 @@ use std::error::Error;
 use std::fmt;
 
 /// What a run of a caller's own jobs leaves.
-#[derive(Debug, Drop)]
+#[derive(Drop)]
 pub struct JobsRun {
     /// All events, in order.
     pub journal: Vec<Event>,

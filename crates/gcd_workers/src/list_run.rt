@@ -20,7 +20,7 @@ use std::alloc::{AllocError, Global};
 use std::sync::Wait;
 
 // The journal, the values of the blocks, and the machine that stands for the journal.
-#[derive(Debug, Drop)]
+#[derive(Drop)]
 pub(crate) struct ListRun {
     pub(crate) journal: Vec<Event>,
     pub(crate) values: Vec<u64>,

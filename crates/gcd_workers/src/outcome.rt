@@ -4,7 +4,7 @@ use gcd_history::State;
 use gcd_machine::Machine;
 
 /// What a run leaves, by however many workers.
-#[derive(Debug, Drop)]
+#[derive(Drop)]
 pub struct Outcome {
     /// All events, in order.
     pub journal: Vec<Event>,

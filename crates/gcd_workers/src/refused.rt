@@ -4,7 +4,7 @@ use std::error::Error;
 use std::fmt;
 
 /// Why a run leaves nothing: no journal, no value and no state.
-#[derive(Clone, Copy, Debug, PartialEq, Eq)]
+#[derive(Clone, Copy, Debug)]
 pub enum RunRefused {
     /// Memory ran out before the first turn: no block has run, and poller and clock are as they were.
     BeforeTheRun,
