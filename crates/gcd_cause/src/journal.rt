@@ -6,7 +6,7 @@ use std::alloc::{AllocError, Global};
 use std::fmt;
 
 /// What a line of a journal asks of a field after the first.
-#[derive(Clone, Copy, Debug, PartialEq, Eq)]
+#[derive(Clone, Copy)]
 pub enum Field {
     Worker,
     /// A block's name.
@@ -32,6 +32,11 @@ pub enum Field {
 }
 
 impl Field {
+    // Whether the line has no such field.
+    fn is_nothing(self) -> bool {
+        matches!(self, Field::Nothing)
+    }
+
     // In words.
     fn words(self) -> &'static str {
         match self {
@@ -233,9 +238,13 @@ static SHAPES: [Shape; 15] = [
     },
 ];
 
+fn shapes() -> &'static [Shape] {
+    &SHAPES
+}
+
 // The form of a line of this first word.
 fn shape_of(first: &str) -> Option<&'static Shape> {
-    for shape in SHAPES.as_slice() {
+    for shape in shapes() {
         if shape.first == first {
             return Some(shape);
         }
@@ -246,7 +255,7 @@ fn shape_of(first: &str) -> Option<&'static Shape> {
 fn count_of(shape: &Shape) -> usize {
     let mut count = 0usize;
     for field in shape.asked.as_slice() {
-        if *field != Field::Nothing {
+        if !field.is_nothing() {
             count = count.saturating_add(1);
         }
     }
@@ -327,6 +336,42 @@ fn misfit<'a>(plan: &Plan, shape: &Shape, words: &[&'a str]) -> Option<JournalCa
     None
 }
 
+// The words of a line, between which one space stands.
+fn words_of(alloc: Global, line: &str) -> Result<Vec<&str>, AllocError> {
+    let mut words = Vec::new(alloc);
+    for word in line.split(' ') {
+        words.push(word)?;
+    }
+    Ok(words)
+}
+
+// What is wrong with a line of these words.
+fn cause_of_words<'a>(plan: &Plan, words: &[&'a str], events: u32, most: u32) -> JournalCause<'a> {
+    let Some((first, after)) = words.split_first() else {
+        return JournalCause::Empty;
+    };
+    let Some(shape) = shape_of(*first) else {
+        return JournalCause::UnknownFirst { word: *first };
+    };
+    if after.len() != count_of(shape) {
+        return JournalCause::FieldCount {
+            first: *first,
+            shape: shape.shape,
+        };
+    }
+    if let Some(cause) = misfit(plan, shape, after) {
+        return cause;
+    }
+    match (*first == "events", after.first()) {
+        (true, Some(told)) => JournalCause::OtherCount {
+            told: *told,
+            events,
+        },
+        _ if events >= most => JournalCause::TooMany { most },
+        _ => JournalCause::Unclear,
+    }
+}
+
 // What is wrong with a line, after so many events of the most that the journal may have.
 fn cause_at<'a>(
     alloc: Global,
@@ -335,33 +380,8 @@ fn cause_at<'a>(
     events: u32,
     most: u32,
 ) -> Result<JournalCause<'a>, AllocError> {
-    let mut words = Vec::new(alloc);
-    for word in line.split(' ') {
-        words.push(word)?;
-    }
-    let Some((first, after)) = words.as_slice().split_first() else {
-        return Ok(JournalCause::Empty);
-    };
-    let Some(shape) = shape_of(*first) else {
-        return Ok(JournalCause::UnknownFirst { word: *first });
-    };
-    if after.len() != count_of(shape) {
-        return Ok(JournalCause::FieldCount {
-            first: *first,
-            shape: shape.shape,
-        });
-    }
-    if let Some(cause) = misfit(plan, shape, after) {
-        return Ok(cause);
-    }
-    Ok(match (*first == "events", after.first()) {
-        (true, Some(told)) => JournalCause::OtherCount {
-            told: *told,
-            events,
-        },
-        _ if events >= most => JournalCause::TooMany { most },
-        _ => JournalCause::Unclear,
-    })
+    let words = words_of(alloc, line)?;
+    Ok(cause_of_words(plan, words.as_slice(), events, most))
 }
 
 // What follows so many lines that have their end.
