@@ -1,7 +1,7 @@
 // What a form of line asks of each word.
 
 /// What a form of line asks of a word after the first.
-#[derive(Clone, Copy, Debug, PartialEq, Eq)]
+#[derive(Clone, Copy)]
 pub enum Role {
     /// A name that is declared.
     New,
@@ -64,6 +64,21 @@ pub enum Role {
 }
 
 impl Role {
+    /// Whether it asks for no word.
+    pub fn is_nothing(self) -> bool {
+        matches!(self, Role::Nothing)
+    }
+
+    /// Whether it asks for a path.
+    pub fn is_path(self) -> bool {
+        matches!(self, Role::Path)
+    }
+
+    /// Whether it asks for a queue, which may be `root`.
+    pub fn is_queue(self) -> bool {
+        matches!(self, Role::Queue)
+    }
+
     /// What is asked, in words.
     pub fn words(self) -> &'static str {
         match self {
