@@ -4,7 +4,7 @@ use gcd_event::Event;
 use gcd_plan::Why;
 
 /// The first event that is not permitted: its index, from 0, and the first reason why not.
-#[derive(Clone, Copy, Debug, PartialEq, Eq)]
+#[derive(Clone, Copy)]
 pub struct Barred {
     pub index: u32,
     pub event: Event,
