@@ -1,6 +1,6 @@
 // Why a line of a script is refused, in words.
 
-use crate::form::forms;
+use crate::form::{Form, forms};
 use crate::known::What;
 use crate::role::Role;
 use std::fmt;
@@ -149,19 +149,24 @@ pub enum ScriptCause<'a> {
     },
 }
 
+// A form as it is written, after what stands between it and the one before.
+fn write_shape<W: fmt::Write>(
+    f: &mut fmt::Formatter<W>,
+    between: &str,
+    form: &Form,
+) -> fmt::Result {
+    let (first, shape) = (form.first, form.shape);
+    let space = if shape.is_empty() { "" } else { " " };
+    write!(f, "{between}{first}{space}{shape}")
+}
+
 // The forms of a first word, as they are written.
 fn write_forms<W: fmt::Write>(f: &mut fmt::Formatter<W>, first: &str) -> fmt::Result {
-    let mut is_first = true;
+    let mut between = "";
     for form in forms() {
         if form.first == first {
-            let shape = form.shape;
-            let between = if is_first { "" } else { "; " };
-            if shape.is_empty() {
-                write!(f, "{between}{first}")?;
-            } else {
-                write!(f, "{between}{first} {shape}")?;
-            }
-            is_first = false;
+            write_shape(f, between, form)?;
+            between = "; ";
         }
     }
     Ok(())
