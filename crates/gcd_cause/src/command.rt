@@ -1,7 +1,7 @@
 // Why words name no command.
 
 use crate::pick::{is_among, pick};
-use crate::shown::Shown;
+use crate::shown::{Shown, write_quoted};
 use gcd_plan::{MAX_BLOCKS, MAX_EVENTS, MAX_WORKERS};
 use std::fmt;
 
@@ -70,51 +70,63 @@ const HELP: &str =
     gcd front SCRIPT SENDERS: runs the script, and so many threads, 1 to 8, send jobs for its intake beside it\n\
     gcd --help, gcd --version: this text; the version";
 
+// A sentence that begins with a word and ends in another.
+fn write_two<W: fmt::Write>(
+    f: &mut fmt::Formatter<W>,
+    first: &str,
+    between: &str,
+    last: &str,
+) -> fmt::Result {
+    let (first, last) = (Shown(first), Shown(last));
+    write!(f, "gcd: '{first}'{between}'{last}'")
+}
+
+// That the word is no number in the range.
+fn write_no_number<W: fmt::Write>(
+    f: &mut fmt::Formatter<W>,
+    word: &str,
+    what: &str,
+    high: u32,
+) -> fmt::Result {
+    let word = Shown(word);
+    write!(f, "gcd: '{word}' is no {what}: a number from 1 to {high}")
+}
+
+// What the command lacks.
+fn write_missing<W: fmt::Write>(
+    f: &mut fmt::Formatter<W>,
+    command: &str,
+    what: &str,
+) -> fmt::Result {
+    write!(f, "gcd: '{command}' lacks its {what}")
+}
+
+const NO_COMMAND: &str = "gcd: no command is named: run, check, big or front";
+
+const UNKNOWN_COMMAND: &str = " is no command: run, check, big or front";
+
+const EARLY_OPTION: &str = " stands before the command: run, check, big or front comes first";
+
 impl<'a> fmt::Display for WordsCause<'a> {
     fn fmt<W: fmt::Write>(&self, f: &mut fmt::Formatter<W>) -> fmt::Result {
         match *self {
-            WordsCause::Help => write!(f, "{HELP}"),
-            WordsCause::Version => write!(f, "gcd 1"),
-            WordsCause::NoWord => write!(f, "gcd: no command is named: run, check, big or front"),
-            WordsCause::UnknownCommand { word } => {
-                let word = Shown(word);
-                write!(f, "gcd: '{word}' is no command: run, check, big or front")
-            }
-            WordsCause::EarlyOption { word } => {
-                let word = Shown(word);
-                write!(
-                    f,
-                    "gcd: '{word}' stands before the command: run, check, big or front comes first"
-                )
-            }
+            WordsCause::Help => f.write_str(HELP),
+            WordsCause::Version => f.write_str("gcd 1"),
+            WordsCause::NoWord => f.write_str(NO_COMMAND),
+            WordsCause::UnknownCommand { word } => write_quoted(f, "gcd: ", word, UNKNOWN_COMMAND),
+            WordsCause::EarlyOption { word } => write_quoted(f, "gcd: ", word, EARLY_OPTION),
             WordsCause::UnknownOption { command, word } => {
-                let word = Shown(word);
-                write!(f, "gcd: '{command}' has no option '{word}'")
+                write_two(f, command, " has no option ", word)
             }
-            WordsCause::Twice { word } => {
-                let word = Shown(word);
-                write!(f, "gcd: '{word}' stands twice")
-            }
-            WordsCause::NoValue { word } => {
-                let word = Shown(word);
-                write!(f, "gcd: no value follows '{word}'")
-            }
-            WordsCause::WithValue { word } => {
-                let word = Shown(word);
-                write!(f, "gcd: '{word}' takes no value")
-            }
-            WordsCause::NoNumber { what, word, high } => {
-                let word = Shown(word);
-                write!(f, "gcd: '{word}' is no {what}: a number from 1 to {high}")
-            }
+            WordsCause::Twice { word } => write_quoted(f, "gcd: ", word, " stands twice"),
+            WordsCause::NoValue { word } => write_quoted(f, "gcd: no value follows ", word, ""),
+            WordsCause::WithValue { word } => write_quoted(f, "gcd: ", word, " takes no value"),
+            WordsCause::NoNumber { what, word, high } => write_no_number(f, word, what, high),
             WordsCause::TooMany { command, word } => {
-                let word = Shown(word);
-                write!(f, "gcd: '{word}' is one word too many after '{command}'")
+                write_two(f, word, " is one word too many after ", command)
             }
-            WordsCause::Missing { command, what } => {
-                write!(f, "gcd: '{command}' lacks its {what}")
-            }
-            WordsCause::Unclear => write!(f, "gcd: the words name no command"),
+            WordsCause::Missing { command, what } => write_missing(f, command, what),
+            WordsCause::Unclear => f.write_str("gcd: the words name no command"),
         }
     }
 }

@@ -1,5 +1,6 @@
 // Why a text is no journal.
 
+use crate::shown::{write_byte, write_misplaced, write_quoted};
 use gcd_plan::{Blk, MAX_ACTS, MAX_SENDERS, MAX_TIME, MAX_VALUE, MAX_WORKERS, Obj, Plan, Run};
 use gcd_text::{cut_at, number, printable};
 use std::alloc::{AllocError, Global};
@@ -119,33 +120,30 @@ pub enum JournalCause<'a> {
 impl<'a> fmt::Display for JournalCause<'a> {
     fn fmt<W: fmt::Write>(&self, f: &mut fmt::Formatter<W>) -> fmt::Result {
         match *self {
-            JournalCause::LongJournal => write!(f, "the journal has more than 16777216 bytes"),
+            JournalCause::LongJournal => f.write_str("the journal has more than 16777216 bytes"),
             JournalCause::NoCount { events } => write!(
                 f,
                 "the journal ends, and no line 'events {events}' stands after its events"
             ),
-            JournalCause::NoEnd => write!(f, "the line lacks its end, the byte 10"),
-            JournalCause::BadByte { column, byte } => {
-                write!(f, "column {column} holds the byte {byte}")
-            }
-            JournalCause::Empty => write!(f, "the line is empty"),
+            JournalCause::NoEnd => f.write_str("the line lacks its end, the byte 10"),
+            JournalCause::BadByte { column, byte } => write_byte(f, column, byte, ""),
+            JournalCause::Empty => f.write_str("the line is empty"),
             JournalCause::UnknownFirst { word } => {
-                write!(f, "no line of a journal begins with '{word}'")
+                write_quoted(f, "no line of a journal begins with ", word, "")
             }
             JournalCause::FieldCount { first, shape } => write!(
                 f,
                 "the line is not '{first}{shape}', with one space between its words and none at its ends"
             ),
             JournalCause::Misfit { place, word, asked } => {
-                let asked = asked.words();
-                write!(f, "'{word}' stands where {asked} is asked (word {place})")
+                write_misplaced(f, word, asked.words(), place)
             }
             JournalCause::OtherCount { told, events } => write!(
                 f,
                 "'events {told}' stands where 'events {events}' is asked"
             ),
             JournalCause::TooMany { most } => { write!(f, "a journal has at most {most} events") }
-            JournalCause::Unclear => write!(f, "the line is no event's"),
+            JournalCause::Unclear => f.write_str("the line is no event's"),
         }
     }
 }
