@@ -1,6 +1,7 @@
 // Why words name no command.
 
-use crate::shown::Shown;
+use crate::pick::{is_among, pick};
+use crate::shown::{Shown, write_quoted};
 use gcd_plan::{MAX_BLOCKS, MAX_EVENTS, MAX_WORKERS};
 use std::fmt;
 
@@ -69,51 +70,63 @@ const HELP: &str =
     gcd front SCRIPT SENDERS: runs the script, and so many threads, 1 to 8, send jobs for its intake beside it\n\
     gcd --help, gcd --version: this text; the version";
 
+// A sentence that begins with a word and ends in another.
+fn write_two<W: fmt::Write>(
+    f: &mut fmt::Formatter<W>,
+    first: &str,
+    between: &str,
+    last: &str,
+) -> fmt::Result {
+    let (first, last) = (Shown(first), Shown(last));
+    write!(f, "gcd: '{first}'{between}'{last}'")
+}
+
+// That the word is no number in the range.
+fn write_no_number<W: fmt::Write>(
+    f: &mut fmt::Formatter<W>,
+    word: &str,
+    what: &str,
+    high: u32,
+) -> fmt::Result {
+    let word = Shown(word);
+    write!(f, "gcd: '{word}' is no {what}: a number from 1 to {high}")
+}
+
+// What the command lacks.
+fn write_missing<W: fmt::Write>(
+    f: &mut fmt::Formatter<W>,
+    command: &str,
+    what: &str,
+) -> fmt::Result {
+    write!(f, "gcd: '{command}' lacks its {what}")
+}
+
+const NO_COMMAND: &str = "gcd: no command is named: run, check, big or front";
+
+const UNKNOWN_COMMAND: &str = " is no command: run, check, big or front";
+
+const EARLY_OPTION: &str = " stands before the command: run, check, big or front comes first";
+
 impl<'a> fmt::Display for WordsCause<'a> {
     fn fmt<W: fmt::Write>(&self, f: &mut fmt::Formatter<W>) -> fmt::Result {
         match *self {
-            WordsCause::Help => write!(f, "{HELP}"),
-            WordsCause::Version => write!(f, "gcd 1"),
-            WordsCause::NoWord => write!(f, "gcd: no command is named: run, check, big or front"),
-            WordsCause::UnknownCommand { word } => {
-                let word = Shown(word);
-                write!(f, "gcd: '{word}' is no command: run, check, big or front")
-            }
-            WordsCause::EarlyOption { word } => {
-                let word = Shown(word);
-                write!(
-                    f,
-                    "gcd: '{word}' stands before the command: run, check, big or front comes first"
-                )
-            }
+            WordsCause::Help => f.write_str(HELP),
+            WordsCause::Version => f.write_str("gcd 1"),
+            WordsCause::NoWord => f.write_str(NO_COMMAND),
+            WordsCause::UnknownCommand { word } => write_quoted(f, "gcd: ", word, UNKNOWN_COMMAND),
+            WordsCause::EarlyOption { word } => write_quoted(f, "gcd: ", word, EARLY_OPTION),
             WordsCause::UnknownOption { command, word } => {
-                let word = Shown(word);
-                write!(f, "gcd: '{command}' has no option '{word}'")
+                write_two(f, command, " has no option ", word)
             }
-            WordsCause::Twice { word } => {
-                let word = Shown(word);
-                write!(f, "gcd: '{word}' stands twice")
-            }
-            WordsCause::NoValue { word } => {
-                let word = Shown(word);
-                write!(f, "gcd: no value follows '{word}'")
-            }
-            WordsCause::WithValue { word } => {
-                let word = Shown(word);
-                write!(f, "gcd: '{word}' takes no value")
-            }
-            WordsCause::NoNumber { what, word, high } => {
-                let word = Shown(word);
-                write!(f, "gcd: '{word}' is no {what}: a number from 1 to {high}")
-            }
+            WordsCause::Twice { word } => write_quoted(f, "gcd: ", word, " stands twice"),
+            WordsCause::NoValue { word } => write_quoted(f, "gcd: no value follows ", word, ""),
+            WordsCause::WithValue { word } => write_quoted(f, "gcd: ", word, " takes no value"),
+            WordsCause::NoNumber { what, word, high } => write_no_number(f, word, what, high),
             WordsCause::TooMany { command, word } => {
-                let word = Shown(word);
-                write!(f, "gcd: '{word}' is one word too many after '{command}'")
+                write_two(f, word, " is one word too many after ", command)
             }
-            WordsCause::Missing { command, what } => {
-                write!(f, "gcd: '{command}' lacks its {what}")
-            }
-            WordsCause::Unclear => write!(f, "gcd: the words name no command"),
+            WordsCause::Missing { command, what } => write_missing(f, command, what),
+            WordsCause::Unclear => f.write_str("gcd: the words name no command"),
         }
     }
 }
@@ -121,12 +134,13 @@ impl<'a> fmt::Display for WordsCause<'a> {
 // The most senders of jobs beside a run.
 const MAX_FRONT_SENDERS: u32 = 8;
 
-// A command's words: what it takes beside options.
+// A command's words: what it takes beside options, and how many of the options it has, of the first.
 #[derive(Clone, Copy)]
 struct Command {
     name: &'static str,
     takes: [&'static str; 2],
     count: usize,
+    options: usize,
 }
 
 static COMMANDS: [Command; 4] = [
@@ -134,26 +148,34 @@ static COMMANDS: [Command; 4] = [
         name: "run",
         takes: ["SCRIPT", ""],
         count: 1,
+        options: 4,
     },
     Command {
         name: "check",
         takes: ["SCRIPT", "JOURNAL"],
         count: 2,
+        options: 0,
     },
     Command {
         name: "big",
         takes: ["N", ""],
         count: 1,
+        options: 1,
     },
     Command {
         name: "front",
         takes: ["SCRIPT", "SENDERS"],
         count: 2,
+        options: 0,
     },
 ];
 
+fn commands() -> &'static [Command] {
+    &COMMANDS
+}
+
 fn command_of(word: &str) -> Option<&'static Command> {
-    for command in COMMANDS.as_slice() {
+    for command in commands() {
         if command.name == word {
             return Some(command);
         }
@@ -161,23 +183,43 @@ fn command_of(word: &str) -> Option<&'static Command> {
     None
 }
 
-fn is_help(word: &str) -> bool {
-    word == "--help" || word == "-h"
-}
+// The options, each with its place.
+static OPTIONS: [(&str, usize); 4] = [
+    ("--workers", 0),
+    ("--journal", 1),
+    ("--most", 2),
+    ("--listen", 3),
+];
 
-fn is_version(word: &str) -> bool {
-    word == "--version" || word == "-V"
-}
-
-// Whether the command has the option.
-fn has_option(command: &str, option: &str) -> bool {
-    if command == "run" {
-        return option == "--workers"
-            || option == "--journal"
-            || option == "--most"
-            || option == "--listen";
+// The place of an option that the command has; None if it has no such option.
+fn place_of(known: &Command, option: &str) -> Option<usize> {
+    match pick(&OPTIONS, option) {
+        Some(place) if place < known.options => Some(place),
+        _ => None,
     }
-    command == "big" && option == "--workers"
+}
+
+// Whether one of the words is among those.
+fn has_one_of(words: &[&str], sought: &[&str]) -> bool {
+    for word in words {
+        if is_among(sought, *word) {
+            return true;
+        }
+    }
+    false
+}
+
+static HELP_WORDS: [&str; 2] = ["--help", "-h"];
+
+static VERSION_WORDS: [&str; 2] = ["--version", "-V"];
+
+// Whether the words call for help.
+fn is_for_help(words: &[&str]) -> bool {
+    let starts = match words.first() {
+        Some(word) => *word == "help",
+        None => false,
+    };
+    starts || has_one_of(words, &HELP_WORDS)
 }
 
 // Whether the text is a number from 1 to `high`, as the reader of the words takes it.
@@ -188,23 +230,26 @@ fn is_number(text: &str, high: u32) -> bool {
     }
 }
 
+// The options whose value is a number: what it counts, and the greatest.
+static NUMBERS: [(&str, (&str, u32)); 2] = [
+    ("--workers", ("number of workers", MAX_WORKERS)),
+    ("--most", ("number of events", MAX_EVENTS)),
+];
+
 // What is at fault with the value of an option.
-fn bad_value<'a>(option: &'a str, value: &'a str) -> Option<WordsCause<'a>> {
-    if option == "--workers" && !is_number(value, MAX_WORKERS) {
-        return Some(WordsCause::NoNumber {
-            what: "number of workers",
-            word: value,
-            high: MAX_WORKERS,
-        });
+fn bad_value<'a>(option: &str, value: &'a str) -> Option<WordsCause<'a>> {
+    match pick(&NUMBERS, option) {
+        Some((what, high)) => bad_number(what, value, high),
+        None => None,
     }
-    if option == "--most" && !is_number(value, MAX_EVENTS) {
-        return Some(WordsCause::NoNumber {
-            what: "number of events",
-            word: value,
-            high: MAX_EVENTS,
-        });
+}
+
+// What is at fault with a word that must be a number from 1 to `high`.
+fn bad_number<'a>(what: &'static str, word: &'a str, high: u32) -> Option<WordsCause<'a>> {
+    if is_number(word, high) {
+        return None;
     }
-    None
+    Some(WordsCause::NoNumber { what, word, high })
 }
 
 // The words after the command, as far as they are read.
@@ -213,43 +258,38 @@ struct Reading<'a> {
     command: &'a str,
     taken: usize,
     owed: Option<&'a str>,
-    workers: bool,
-    journal: bool,
-    most: bool,
-    listen: bool,
+    has: [bool; 4],
 }
 
 impl<'a> Reading<'a> {
-    // Notes the option; false where it stands already.
-    fn notes(&mut self, option: &str) -> bool {
-        let had = if option == "--workers" {
-            std::mem::replace(&mut self.workers, true)
-        } else if option == "--journal" {
-            std::mem::replace(&mut self.journal, true)
-        } else if option == "--most" {
-            std::mem::replace(&mut self.most, true)
-        } else {
-            std::mem::replace(&mut self.listen, true)
-        };
-        !had
+    // Notes the option of that place; false if it stands already.
+    fn notes(&mut self, place: usize) -> bool {
+        match self.has.get_mut(place) {
+            Some(has) => !std::mem::replace(has, true),
+            None => true,
+        }
     }
 
     // An option, with what stands after its `=`.
-    fn option(&mut self, option: &'a str, value: Option<&'a str>) -> Option<WordsCause<'a>> {
-        if !has_option(self.command, option) {
+    fn option(
+        &mut self,
+        known: &Command,
+        option: &'a str,
+        value: Option<&'a str>,
+    ) -> Option<WordsCause<'a>> {
+        let Some(place) = place_of(known, option) else {
             return Some(WordsCause::UnknownOption {
                 command: self.command,
                 word: option,
             });
-        }
-        if !self.notes(option) {
+        };
+        if !self.notes(place) {
             return Some(WordsCause::Twice { word: option });
         }
-        if option == "--journal" {
-            return value.map(|_| WordsCause::WithValue { word: option });
-        }
         match value {
+            Some(_) if option == "--journal" => Some(WordsCause::WithValue { word: option }),
             Some(value) => bad_value(option, value),
+            None if option == "--journal" => None,
             None => {
                 self.owed = Some(option);
                 None
@@ -266,19 +306,11 @@ impl<'a> Reading<'a> {
             });
         }
         self.taken = self.taken.saturating_add(1);
-        if self.command == "big" && !is_number(word, MAX_BLOCKS - 1) {
-            return Some(WordsCause::NoNumber {
-                what: "number of blocks",
-                word,
-                high: MAX_BLOCKS - 1,
-            });
+        if self.command == "big" {
+            return bad_number("number of blocks", word, MAX_BLOCKS - 1);
         }
-        if self.command == "front" && self.taken == 2 && !is_number(word, MAX_FRONT_SENDERS) {
-            return Some(WordsCause::NoNumber {
-                what: "number of senders",
-                word,
-                high: MAX_FRONT_SENDERS,
-            });
+        if self.command == "front" && self.taken == 2 {
+            return bad_number("number of senders", word, MAX_FRONT_SENDERS);
         }
         None
     }
@@ -296,8 +328,8 @@ impl<'a> Reading<'a> {
             return self.plain(known, word);
         }
         match word.split_once('=') {
-            Some((option, value)) => self.option(option, Some(value)),
-            None => self.option(word, None),
+            Some((option, value)) => self.option(known, option, Some(value)),
+            None => self.option(known, word, None),
         }
     }
 }
@@ -316,15 +348,29 @@ fn after_all<'a>(reading: Reading<'a>, known: &Command) -> WordsCause<'a> {
     }
 }
 
+// What is at fault with the words after a command.
+fn read<'a>(known: &Command, command: &'a str, after: &[&'a str]) -> WordsCause<'a> {
+    let mut reading = Reading {
+        command,
+        taken: 0,
+        owed: None,
+        has: [false; 4],
+    };
+    for word in after {
+        if let Some(cause) = reading.take(known, *word) {
+            return cause;
+        }
+    }
+    after_all(reading, known)
+}
+
 /// Why the words after the program's name name no command, where they name none: the first word at fault. A call for help or for
 /// the version is one too.
 pub fn why_words<'a>(words: &[&'a str]) -> WordsCause<'a> {
-    if words.iter().any(|word| is_help(*word))
-        || words.first().is_some_and(|word| *word == "help")
-    {
+    if is_for_help(words) {
         return WordsCause::Help;
     }
-    if words.iter().any(|word| is_version(*word)) {
+    if has_one_of(words, &VERSION_WORDS) {
         return WordsCause::Version;
     }
     let Some((command, after)) = words.split_first() else {
@@ -336,19 +382,5 @@ pub fn why_words<'a>(words: &[&'a str]) -> WordsCause<'a> {
     let Some(known) = command_of(*command) else {
         return WordsCause::UnknownCommand { word: *command };
     };
-    let mut reading = Reading {
-        command: *command,
-        taken: 0,
-        owed: None,
-        workers: false,
-        journal: false,
-        most: false,
-        listen: false,
-    };
-    for word in after {
-        if let Some(cause) = reading.take(known, *word) {
-            return cause;
-        }
-    }
-    after_all(reading, known)
+    read(known, *command, after)
 }

@@ -1,5 +1,6 @@
 // The forms of a script's lines.
 
+use crate::pick::pick;
 use crate::role::Role;
 
 /// A form of line: its first word, how the words after it are written, and what is asked of each of them.
@@ -15,7 +16,7 @@ impl Form {
     pub fn count(&self) -> usize {
         let mut count = 0usize;
         for role in self.roles.as_slice() {
-            if *role != Role::Nothing {
+            if !role.is_nothing() {
                 count = count.saturating_add(1);
             }
         }
@@ -28,25 +29,43 @@ impl Form {
     }
 }
 
-/// Whether a line that begins with the word declares something: every other is an act, or of no form.
-pub fn is_declaration(first: &str) -> bool {
-    DECLARATIONS.iter().any(|word| *word == first)
+/// What a line that declares something opens.
+#[derive(Clone, Copy)]
+pub enum Opening {
+    /// No body: it closes the one above.
+    Nothing,
+    /// That of a block.
+    Block,
+    /// That of `main`.
+    Main,
+    /// That of a source's handler.
+    Handler,
 }
 
-static DECLARATIONS: [&str; 12] = [
-    "file",
-    "queue",
-    "group",
-    "semaphore",
-    "source",
-    "cancelled",
-    "until",
-    "block",
-    "handler",
-    "main",
-    "intake",
-    "strip",
+static DECLARATIONS: [(&str, Opening); 12] = [
+    ("file", Opening::Nothing),
+    ("queue", Opening::Nothing),
+    ("group", Opening::Nothing),
+    ("semaphore", Opening::Nothing),
+    ("source", Opening::Nothing),
+    ("cancelled", Opening::Nothing),
+    ("until", Opening::Nothing),
+    ("block", Opening::Block),
+    ("handler", Opening::Handler),
+    ("main", Opening::Main),
+    ("intake", Opening::Nothing),
+    ("strip", Opening::Nothing),
 ];
+
+/// What a line that begins with the word opens; None if the word begins no declaration.
+pub fn opening_of(first: &str) -> Option<Opening> {
+    pick(&DECLARATIONS, first)
+}
+
+/// Whether a line that begins with the word declares something: every other is an act, or of no form.
+pub fn is_declaration(first: &str) -> bool {
+    opening_of(first).is_some()
+}
 
 /// All forms; those of one first word stand together.
 pub fn forms() -> &'static [Form] {
@@ -65,7 +84,12 @@ pub fn form_of(first: &str, count: usize) -> Option<&'static Form> {
 
 /// Whether a form begins with the word.
 pub fn is_first(word: &str) -> bool {
-    forms().iter().any(|form| form.first == word)
+    for form in forms() {
+        if form.first == word {
+            return true;
+        }
+    }
+    false
 }
 
 const NO: Role = Role::Nothing;

@@ -1,5 +1,6 @@
 // Why a text is no journal.
 
+use crate::shown::{write_byte, write_misplaced, write_quoted};
 use gcd_plan::{Blk, MAX_ACTS, MAX_SENDERS, MAX_TIME, MAX_VALUE, MAX_WORKERS, Obj, Plan, Run};
 use gcd_text::{cut_at, number, printable};
 use std::alloc::{AllocError, Global};
@@ -32,6 +33,11 @@ pub enum Field {
 }
 
 impl Field {
+    // Whether the line has no such field.
+    fn is_nothing(self) -> bool {
+        matches!(self, Field::Nothing)
+    }
+
     // In words.
     fn words(self) -> &'static str {
         match self {
@@ -114,33 +120,30 @@ pub enum JournalCause<'a> {
 impl<'a> fmt::Display for JournalCause<'a> {
     fn fmt<W: fmt::Write>(&self, f: &mut fmt::Formatter<W>) -> fmt::Result {
         match *self {
-            JournalCause::LongJournal => write!(f, "the journal has more than 16777216 bytes"),
+            JournalCause::LongJournal => f.write_str("the journal has more than 16777216 bytes"),
             JournalCause::NoCount { events } => write!(
                 f,
                 "the journal ends, and no line 'events {events}' stands after its events"
             ),
-            JournalCause::NoEnd => write!(f, "the line lacks its end, the byte 10"),
-            JournalCause::BadByte { column, byte } => {
-                write!(f, "column {column} holds the byte {byte}")
-            }
-            JournalCause::Empty => write!(f, "the line is empty"),
+            JournalCause::NoEnd => f.write_str("the line lacks its end, the byte 10"),
+            JournalCause::BadByte { column, byte } => write_byte(f, column, byte, ""),
+            JournalCause::Empty => f.write_str("the line is empty"),
             JournalCause::UnknownFirst { word } => {
-                write!(f, "no line of a journal begins with '{word}'")
+                write_quoted(f, "no line of a journal begins with ", word, "")
             }
             JournalCause::FieldCount { first, shape } => write!(
                 f,
                 "the line is not '{first}{shape}', with one space between its words and none at its ends"
             ),
             JournalCause::Misfit { place, word, asked } => {
-                let asked = asked.words();
-                write!(f, "'{word}' stands where {asked} is asked (word {place})")
+                write_misplaced(f, word, asked.words(), place)
             }
             JournalCause::OtherCount { told, events } => write!(
                 f,
                 "'events {told}' stands where 'events {events}' is asked"
             ),
             JournalCause::TooMany { most } => { write!(f, "a journal has at most {most} events") }
-            JournalCause::Unclear => write!(f, "the line is no event's"),
+            JournalCause::Unclear => f.write_str("the line is no event's"),
         }
     }
 }
@@ -233,9 +236,13 @@ static SHAPES: [Shape; 15] = [
     },
 ];
 
+fn shapes() -> &'static [Shape] {
+    &SHAPES
+}
+
 // The form of a line of this first word.
 fn shape_of(first: &str) -> Option<&'static Shape> {
-    for shape in SHAPES.as_slice() {
+    for shape in shapes() {
         if shape.first == first {
             return Some(shape);
         }
@@ -246,7 +253,7 @@ fn shape_of(first: &str) -> Option<&'static Shape> {
 fn count_of(shape: &Shape) -> usize {
     let mut count = 0usize;
     for field in shape.asked.as_slice() {
-        if *field != Field::Nothing {
+        if !field.is_nothing() {
             count = count.saturating_add(1);
         }
     }
@@ -327,6 +334,42 @@ fn misfit<'a>(plan: &Plan, shape: &Shape, words: &[&'a str]) -> Option<JournalCa
     None
 }
 
+// The words of a line, between which one space stands.
+fn words_of(alloc: Global, line: &str) -> Result<Vec<&str>, AllocError> {
+    let mut words = Vec::new(alloc);
+    for word in line.split(' ') {
+        words.push(word)?;
+    }
+    Ok(words)
+}
+
+// What is wrong with a line of these words.
+fn cause_of_words<'a>(plan: &Plan, words: &[&'a str], events: u32, most: u32) -> JournalCause<'a> {
+    let Some((first, after)) = words.split_first() else {
+        return JournalCause::Empty;
+    };
+    let Some(shape) = shape_of(*first) else {
+        return JournalCause::UnknownFirst { word: *first };
+    };
+    if after.len() != count_of(shape) {
+        return JournalCause::FieldCount {
+            first: *first,
+            shape: shape.shape,
+        };
+    }
+    if let Some(cause) = misfit(plan, shape, after) {
+        return cause;
+    }
+    match (*first == "events", after.first()) {
+        (true, Some(told)) => JournalCause::OtherCount {
+            told: *told,
+            events,
+        },
+        _ if events >= most => JournalCause::TooMany { most },
+        _ => JournalCause::Unclear,
+    }
+}
+
 // What is wrong with a line, after so many events of the most that the journal may have.
 fn cause_at<'a>(
     alloc: Global,
@@ -335,33 +378,8 @@ fn cause_at<'a>(
     events: u32,
     most: u32,
 ) -> Result<JournalCause<'a>, AllocError> {
-    let mut words = Vec::new(alloc);
-    for word in line.split(' ') {
-        words.push(word)?;
-    }
-    let Some((first, after)) = words.as_slice().split_first() else {
-        return Ok(JournalCause::Empty);
-    };
-    let Some(shape) = shape_of(*first) else {
-        return Ok(JournalCause::UnknownFirst { word: *first });
-    };
-    if after.len() != count_of(shape) {
-        return Ok(JournalCause::FieldCount {
-            first: *first,
-            shape: shape.shape,
-        });
-    }
-    if let Some(cause) = misfit(plan, shape, after) {
-        return Ok(cause);
-    }
-    Ok(match (*first == "events", after.first()) {
-        (true, Some(told)) => JournalCause::OtherCount {
-            told: *told,
-            events,
-        },
-        _ if events >= most => JournalCause::TooMany { most },
-        _ => JournalCause::Unclear,
-    })
+    let words = words_of(alloc, line)?;
+    Ok(cause_of_words(plan, words.as_slice(), events, most))
 }
 
 // What follows so many lines that have their end.

@@ -1,7 +1,8 @@
 // What the lines above a line of a script declare.
 
-use crate::form::is_declaration;
+use crate::form::{Opening, opening_of};
 use crate::lines::{Lines, Words};
+use crate::pick::pick;
 use crate::role::Role;
 use gcd_text::number;
 use std::alloc::{AllocError, Global};
@@ -38,7 +39,11 @@ impl What {
 
     /// Whether it is a file.
     pub fn is_file(self) -> bool {
-        self == What::File
+        matches!(self, What::File)
+    }
+
+    fn is_queue(self) -> bool {
+        matches!(self, What::Queue)
     }
 
     fn is_source(self) -> bool {
@@ -60,16 +65,16 @@ impl What {
     /// Whether a word of this role may name it.
     pub fn fits(self, role: Role) -> bool {
         match role {
-            Role::File => self == What::File,
-            Role::Queue => self == What::Queue,
-            Role::Node => self == What::Queue || self.is_source(),
-            Role::Group => self == What::Group,
-            Role::Semaphore => self == What::Semaphore,
+            Role::File => self.is_file(),
+            Role::Queue => self.is_queue(),
+            Role::Node => self.is_queue() || self.is_source(),
+            Role::Group => matches!(self, What::Group),
+            Role::Semaphore => matches!(self, What::Semaphore),
             Role::Source => self.is_source(),
-            Role::MergeSource => self == What::MergeSource,
+            Role::MergeSource => matches!(self, What::MergeSource),
             Role::Object => self.is_object(),
-            Role::Block => self == What::Block,
-            Role::Strip => self == What::Strip,
+            Role::Block => matches!(self, What::Block),
+            Role::Strip => matches!(self, What::Strip),
             Role::New | Role::Path | Role::Nothing => true,
             Role::On | Role::Inactive | Role::Read | Role::Timer | Role::Count => true,
             Role::QueueKind | Role::MergeKind | Role::Work => true,
@@ -87,40 +92,32 @@ pub struct Declared<'a> {
     pub line: u32,
 }
 
-// What a source's third word makes it.
-fn source_kind(word: &str) -> What {
-    if word == "timer" {
-        What::Timer
-    } else if word == "read" {
-        What::Feed
-    } else {
-        What::MergeSource
-    }
-}
+static SOURCE_KINDS: [(&str, What); 2] = [("timer", What::Timer), ("read", What::Feed)];
 
-// What a line of these words declares; None where it declares no name.
+static NAMED: [(&str, What); 7] = [
+    ("file", What::File),
+    ("queue", What::Queue),
+    ("group", What::Group),
+    ("semaphore", What::Semaphore),
+    ("source", What::MergeSource),
+    ("block", What::Block),
+    ("strip", What::Strip),
+];
+
+// What a line of these words declares; None where it declares no name. A source's third word says which kind it is.
 fn kind_of(words: Words) -> Option<What> {
-    if words.first == "file" {
-        Some(What::File)
-    } else if words.first == "queue" {
-        Some(What::Queue)
-    } else if words.first == "group" {
-        Some(What::Group)
-    } else if words.first == "semaphore" {
-        Some(What::Semaphore)
-    } else if words.first == "source" {
-        Some(source_kind(words.get(1)))
-    } else if words.first == "block" {
-        Some(What::Block)
-    } else if words.first == "strip" {
-        Some(What::Strip)
-    } else {
-        None
+    let named = pick(&NAMED, words.first);
+    if let Some(What::MergeSource) = named {
+        return match pick(&SOURCE_KINDS, words.get(1)) {
+            Some(kind) => Some(kind),
+            None => named,
+        };
     }
+    named
 }
 
 /// The body that is open at a line.
-#[derive(Clone, Copy, PartialEq, Eq)]
+#[derive(Clone, Copy)]
 pub enum Body<'a> {
     /// None: an act may not stand here.
     Closed,
@@ -130,16 +127,20 @@ pub enum Body<'a> {
     Handler(&'a str),
 }
 
+impl<'a> Body<'a> {
+    /// Whether no body is open.
+    pub fn is_closed(self) -> bool {
+        matches!(self, Body::Closed)
+    }
+}
+
 // The body after a line of these words.
 fn body_after<'a>(words: Words<'a>, before: Body<'a>) -> Body<'a> {
-    if words.first == "block" || words.first == "main" {
-        Body::Block
-    } else if words.first == "handler" {
-        Body::Handler(words.get(0))
-    } else if is_declaration(words.first) {
-        Body::Closed
-    } else {
-        before
+    match opening_of(words.first) {
+        Some(Opening::Nothing) => Body::Closed,
+        Some(Opening::Block | Opening::Main) => Body::Block,
+        Some(Opening::Handler) => Body::Handler(words.get(0)),
+        None => before,
     }
 }
 
@@ -191,99 +192,84 @@ impl<'a> Known<'a> {
     }
 }
 
-/// The first line from the line `from` on that declares the name.
-pub fn declared_from(text: &[u8], from: u32, name: &str) -> Option<u32> {
-    let mut at = 0u32;
-    for line in Lines::of(text) {
-        at = at.saturating_add(1);
-        if at >= from {
-            if let Some(words) = Words::of(line) {
-                if kind_of(words).is_some() && words.get(0) == name {
-                    return Some(at);
-                }
-            }
-        }
-    }
-    None
-}
-
-/// The first line above that number which begins with the word, and has `name` after it, where one is given.
-pub fn first_line(text: &[u8], above: u32, first: &str, name: Option<&str>) -> Option<u32> {
-    let mut at = 0u32;
-    for line in Lines::of(text) {
-        at = at.saturating_add(1);
-        if at >= above {
-            return None;
-        }
-        if let Some(words) = Words::of(line) {
-            if words.first == first && name.is_none_or(|name| words.get(0) == name) {
-                return Some(at);
-            }
-        }
-    }
-    None
-}
+// The words after the first that tell how many blocks a line of that first word makes, from 0.
+static COUNTED: [(&str, usize); 2] = [("intake", 1), ("strip", 4)];
 
 /// How many blocks a line of these words makes: one, or those of an intake or a strip.
 pub fn blocks_made(words: Words) -> u32 {
     if words.first == "block" {
         return 1;
     }
-    let count = if words.first == "intake" {
-        words.get(1)
-    } else if words.first == "strip" {
-        words.get(4)
-    } else {
-        "0"
+    let Some(place) = pick(&COUNTED, words.first) else {
+        return 0;
     };
-    match number(count.as_bytes()) {
+    match number(words.get(place).as_bytes()) {
         Some(made) => u32::try_from(made).unwrap_or(0),
         None => 0,
     }
 }
 
-/// The first line above that number which applies the strip.
-pub fn application(text: &[u8], above: u32, strip: &str) -> Option<u32> {
-    let mut at = 0u32;
-    for line in Lines::of(text) {
-        at = at.saturating_add(1);
-        if at >= above {
-            return None;
-        }
-        if let Some(words) = Words::of(line) {
-            if words.first == "apply" && words.get(1) == strip {
-                return Some(at);
-            }
-        }
-    }
-    None
-}
+// Which word after the first names the block that a line of that first word submits, from 0.
+static SUBMITTED: [(&str, usize); 8] = [
+    ("group_async", 2),
+    ("notify", 2),
+    ("notify_block", 2),
+    ("async", 1),
+    ("barrier", 1),
+    ("sync", 1),
+    ("barrier_sync", 1),
+    ("cancelled", 1),
+];
 
 /// The block that a line of these words submits; None where it submits none.
 pub fn submitted_by<'a>(words: Words<'a>) -> Option<&'a str> {
-    if words.first == "group_async" || words.first == "notify" || words.first == "notify_block" {
-        return Some(words.get(2));
+    match pick(&SUBMITTED, words.first) {
+        Some(place) => Some(words.get(place)),
+        None => None,
     }
-    if words.first == "async" || words.first == "barrier" || words.first == "sync" {
-        return Some(words.get(1));
-    }
-    if words.first == "barrier_sync" || words.first == "cancelled" {
-        return Some(words.get(1));
-    }
-    None
 }
 
-/// The first line above that number which submits the block.
-pub fn submission(text: &[u8], above: u32, block: &str) -> Option<u32> {
+/// A line that is looked for.
+#[derive(Clone, Copy)]
+pub enum Sought<'a> {
+    /// One that begins with the word.
+    First(&'a str),
+    /// One that begins with the first word, and has the second at that place after it, from 0.
+    Naming(&'a str, usize, &'a str),
+    /// One that declares the name.
+    Declaring(&'a str),
+    /// One that submits the block.
+    Submitting(&'a str),
+}
+
+impl<'a> Sought<'a> {
+    // Whether a line of these words is such a line.
+    fn is_met(self, words: Words) -> bool {
+        match self {
+            Sought::First(first) => words.first == first,
+            Sought::Naming(first, place, name) => words.first == first && words.get(place) == name,
+            Sought::Declaring(name) => words.get(0) == name && kind_of(words).is_some(),
+            Sought::Submitting(block) => match submitted_by(words) {
+                Some(submitted) => submitted == block,
+                None => false,
+            },
+        }
+    }
+}
+
+/// The first such line from the line `from` on, above the line `to`.
+pub fn line_of(text: &[u8], from: u32, to: u32, sought: Sought) -> Option<u32> {
     let mut at = 0u32;
     for line in Lines::of(text) {
         at = at.saturating_add(1);
-        if at >= above {
+        if at >= to {
             return None;
         }
-        if let Some(words) = Words::of(line) {
-            if submitted_by(words) == Some(block) {
-                return Some(at);
+        if at >= from {
+            if let Some(words) = Words::of(line) {
+                if sought.is_met(words) {
+                    return Some(at);
+                }
             }
         }
     }

@@ -26,6 +26,7 @@ mod known;
 mod lines;
 mod misuses;
 mod naming;
+mod pick;
 mod places;
 mod reasons;
 mod role;

@@ -158,6 +158,16 @@ fn write_three<W: fmt::Write>(
     write!(f, "{word} {first} {second} {third}")
 }
 
+// The first word, one name and a number.
+fn write_number<W: fmt::Write>(
+    f: &mut fmt::Formatter<W>,
+    word: &str,
+    name: &str,
+    number: u32,
+) -> fmt::Result {
+    write!(f, "{word} {name} {number}")
+}
+
 impl<'a> fmt::Display for ActWords<'a> {
     fn fmt<W: fmt::Write>(&self, f: &mut fmt::Formatter<W>) -> fmt::Result {
         let (plan, word) = (self.plan, act_word(self.act));
@@ -178,8 +188,7 @@ impl<'a> fmt::Display for ActWords<'a> {
             Act::Retain(o) | Act::Release(o) => write_one(f, word, object_name(plan, o)),
             Act::Target(o, t) => write_two(f, word, object_name(plan, o), object_name(plan, t)),
             Act::Merge(o, n) | Act::WaitFor(o, n) | Act::GroupWaitFor(o, n) => {
-                let object = object_name(plan, o);
-                write!(f, "{word} {object} {n}")
+                write_number(f, word, object_name(plan, o), n)
             }
             Act::Apply(q, a) => write_two(f, word, object_name(plan, q), strip_name(plan, a)),
             Act::CancelBlock(b) | Act::WaitBlock(b) => write_one(f, word, block_name(plan, b)),
@@ -208,14 +217,24 @@ fn write_turn<W: fmt::Write>(
     write!(f, "{word} {worker} {name}")
 }
 
+// The first word, the worker, the name and the index of an act.
+fn write_act<W: fmt::Write>(
+    f: &mut fmt::Formatter<W>,
+    word: &str,
+    worker: u8,
+    name: &str,
+    index: u32,
+) -> fmt::Result {
+    write!(f, "{word} {worker} {name} {index}")
+}
+
 impl<'a> fmt::Display for EventWords<'a> {
     fn fmt<W: fmt::Write>(&self, f: &mut fmt::Formatter<W>) -> fmt::Result {
         let plan = self.plan;
         match self.event {
             Event::Start { worker, blk } => write_turn(f, "start", worker, block_name(plan, blk)),
             Event::Act { worker, run, index } => {
-                write_turn(f, "act", worker, run_name(plan, run))?;
-                write!(f, " {index}")
+                write_act(f, "act", worker, run_name(plan, run), index)
             }
             Event::Wake { worker, blk } => write_turn(f, "wake", worker, block_name(plan, blk)),
             Event::End { worker, blk } => write_turn(f, "end", worker, block_name(plan, blk)),
@@ -227,8 +246,7 @@ impl<'a> fmt::Display for EventWords<'a> {
             }
             Event::Tick { at } => write!(f, "tick {at}"),
             Event::Ready { src, bytes } => {
-                let name = object_name(plan, src);
-                write!(f, "ready {name} {bytes}")
+                write_number(f, "ready", object_name(plan, src), bytes)
             }
             Event::FeedEnd { src } => write_one(f, "feed_end", object_name(plan, src)),
             Event::Misuse {
@@ -237,16 +255,15 @@ impl<'a> fmt::Display for EventWords<'a> {
                 index,
                 code,
             } => {
-                write_turn(f, "misuse", worker, run_name(plan, run))?;
-                write!(f, " {index} M{code}")
+                write_act(f, "misuse", worker, run_name(plan, run), index)?;
+                write!(f, " M{code}")
             }
-            Event::Halt => write!(f, "halt"),
+            Event::Halt => f.write_str("halt"),
             Event::Expire { blk } => write_one(f, "expire", block_name(plan, blk)),
             Event::Accept { blk, sender } => {
-                let name = block_name(plan, blk);
-                write!(f, "accept {name} {sender}")
+                write_number(f, "accept", block_name(plan, blk), u32::from(sender))
             }
-            Event::Shut => write!(f, "shut"),
+            Event::Shut => f.write_str("shut"),
         }
     }
 }

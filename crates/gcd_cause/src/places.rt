@@ -1,8 +1,9 @@
 // On which line of a script an act stands.
 
-use crate::form::is_declaration;
+use crate::form::{Opening, opening_of};
 use crate::known::blocks_made;
 use crate::lines::{Lines, Words};
+use crate::pick::is_among;
 use crate::scene::Place;
 use gcd_plan::{Blk, Obj, Plan, Run};
 use std::alloc::{AllocError, Global};
@@ -33,17 +34,14 @@ struct Reading {
     blocks: u32,
 }
 
-// The body after a line that declares something.
-fn declared(plan: &Plan, words: Words, reading: Reading) -> Reading {
+// The body after a line that declares something and opens that.
+fn declared(plan: &Plan, words: Words, opening: Opening, reading: Reading) -> Reading {
     let blocks = reading.blocks.saturating_add(blocks_made(words));
-    let body = if words.first == "block" {
-        Some(Run::Block(Blk(blocks)))
-    } else if words.first == "main" {
-        Some(Run::Block(Blk(0)))
-    } else if words.first == "handler" {
-        source_named(plan, words.get(0))
-    } else {
-        None
+    let body = match opening {
+        Opening::Block => Some(Run::Block(Blk(blocks))),
+        Opening::Main => Some(Run::Block(Blk(0))),
+        Opening::Handler => source_named(plan, words.get(0)),
+        Opening::Nothing => None,
     };
     Reading {
         body,
@@ -52,12 +50,11 @@ fn declared(plan: &Plan, words: Words, reading: Reading) -> Reading {
     }
 }
 
+static OBJECTS: [&str; 4] = ["queue", "group", "semaphore", "source"];
+
 // Whether the line of these words declares an object.
 fn is_object(words: Words) -> bool {
-    words.first == "queue"
-        || words.first == "group"
-        || words.first == "semaphore"
-        || words.first == "source"
+    is_among(&OBJECTS, words.first)
 }
 
 impl Places {
@@ -83,8 +80,8 @@ impl Places {
             if words.first == "intake" {
                 intake = at;
             }
-            if is_declaration(words.first) {
-                reading = declared(plan, words, reading);
+            if let Some(opening) = opening_of(words.first) {
+                reading = declared(plan, words, opening, reading);
             } else if let Some(run) = reading.body {
                 let index = reading.acts;
                 acts.push((Place { run, index }, at))?;

@@ -85,6 +85,23 @@ fn run_of(event: Event) -> Option<Run> {
     }
 }
 
+// The worker, the run and the index of an act or of its misuse; None if the event is neither.
+fn act_of(event: Event) -> Option<(u8, Run, u32)> {
+    match event {
+        Event::Act { worker, run, index } => Some((worker, run, index)),
+        Event::Misuse {
+            worker,
+            run,
+            index,
+            ..
+        } => Some((worker, run, index)),
+        Event::Start { .. } | Event::Wake { .. } | Event::End { .. } => None,
+        Event::Deliver { .. } | Event::DeliverEnd { .. } => None,
+        Event::Tick { .. } | Event::Ready { .. } | Event::FeedEnd { .. } => None,
+        Event::Halt | Event::Expire { .. } | Event::Accept { .. } | Event::Shut => None,
+    }
+}
+
 // The worker has a run already.
 fn busy(alloc: Global, sight: Sight, worker: u8) -> Result<String, AllocError> {
     match sight.scene.run_of(worker) {
@@ -254,20 +271,9 @@ fn not_next(alloc: Global, sight: Sight, run: Run, event: Event) -> Result<Strin
         };
         return format!(in alloc; "the next act of {name} is {made}, {words}");
     }
-    match event {
-        Event::Act { index, .. } | Event::Misuse { index, .. } => {
-            format!(in alloc; "{name} has no act {index}")
-        }
-        Event::Start { .. } | Event::Wake { .. } | Event::End { .. } | Event::Deliver { .. } => {
-            format!(in alloc; "{name} has made its acts")
-        }
-        Event::DeliverEnd { .. } | Event::Tick { .. } | Event::Ready { .. } => {
-            format!(in alloc; "{name} has made its acts")
-        }
-        Event::FeedEnd { .. } | Event::Halt | Event::Expire { .. } => {
-            format!(in alloc; "{name} has made its acts")
-        }
-        Event::Accept { .. } | Event::Shut => format!(in alloc; "{name} has made its acts"),
+    match act_of(event) {
+        Some((_, _, index)) => format!(in alloc; "{name} has no act {index}"),
+        None => format!(in alloc; "{name} has made its acts"),
     }
 }
 
@@ -287,25 +293,10 @@ fn code_now(sight: Sight, worker: u8, run: Run, index: u32) -> Option<u8> {
     None
 }
 
-fn no_act(alloc: Global) -> Result<String, AllocError> {
-    String::from_str(alloc, "it is no act")
-}
-
 // The act is a misuse, or one of another code, or none.
 fn misused(alloc: Global, sight: Sight, event: Event) -> Result<String, AllocError> {
-    let (worker, run, index) = match event {
-        Event::Act { worker, run, index } => (worker, run, index),
-        Event::Misuse {
-            worker,
-            run,
-            index,
-            ..
-        } => (worker, run, index),
-        Event::Start { .. } | Event::Wake { .. } | Event::End { .. } => return no_act(alloc),
-        Event::Deliver { .. } | Event::DeliverEnd { .. } => return no_act(alloc),
-        Event::Tick { .. } | Event::Ready { .. } | Event::FeedEnd { .. } => return no_act(alloc),
-        Event::Halt | Event::Expire { .. } => return no_act(alloc),
-        Event::Accept { .. } | Event::Shut => return no_act(alloc),
+    let Some((worker, run, index)) = act_of(event) else {
+        return String::from_str(alloc, "it is no act");
     };
     match code_now(sight, worker, run, index) {
         Some(code) => {

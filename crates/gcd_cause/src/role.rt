@@ -64,6 +64,21 @@ pub enum Role {
 }
 
 impl Role {
+    /// Whether it asks for no word.
+    pub fn is_nothing(self) -> bool {
+        matches!(self, Role::Nothing)
+    }
+
+    /// Whether it asks for a path.
+    pub fn is_path(self) -> bool {
+        matches!(self, Role::Path)
+    }
+
+    /// Whether it asks for a queue, which may be `root`.
+    pub fn is_queue(self) -> bool {
+        matches!(self, Role::Queue)
+    }
+
     /// What is asked, in words.
     pub fn words(self) -> &'static str {
         match self {

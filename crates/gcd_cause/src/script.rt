@@ -1,8 +1,9 @@
 // Why a script is refused.
 
 use crate::form::{Form, form_of, is_declaration, is_first};
-use crate::known::{Body, Known, application, declared_from, first_line, submission, submitted_by};
+use crate::known::{Body, Known, Sought, line_of, submitted_by};
 use crate::lines::{Words, line_at};
+use crate::pick::is_among;
 use crate::role::Role;
 use crate::script_cause::ScriptCause;
 use gcd_plan::{MAX_ACTS, MAX_BLOCKS, MAX_FILES, MAX_OBJECTS, is_name, is_path};
@@ -25,7 +26,7 @@ fn bad_byte<'a>(line: &[u8]) -> ScriptCause<'a> {
 
 // What is at fault with one word, where it must be a keyword or a path.
 fn misplaced<'a>(role: Role, place: usize, word: &'a str) -> Option<ScriptCause<'a>> {
-    if role == Role::Path {
+    if role.is_path() {
         if is_path(word.as_bytes()) {
             return None;
         }
@@ -35,7 +36,7 @@ fn misplaced<'a>(role: Role, place: usize, word: &'a str) -> Option<ScriptCause<
         });
     }
     let keywords = role.keywords()?;
-    if keywords.iter().any(|known| *known == word) {
+    if is_among(keywords, word) {
         return None;
     }
     Some(ScriptCause::Misplaced {
@@ -67,20 +68,25 @@ fn no_form<'a>(words: Words<'a>, body: Body<'a>) -> ScriptCause<'a> {
             return cause;
         }
     }
-    if form.is_act() && body == Body::Closed {
+    if form.is_act() && body.is_closed() {
         return ScriptCause::OutsideBody { act: first };
     }
     ScriptCause::Coded { code: 1 }
 }
 
+// The first line above that one which is looked for; 0 if there is none.
+fn earlier_line(text: &[u8], line: u32, sought: Sought) -> u32 {
+    line_of(text, 1, line, sought).unwrap_or(0)
+}
+
 // Code 2: the declared name, or a second `until` or `intake`.
 fn bad_name<'a>(text: &[u8], line: u32, words: Words<'a>, known: &Known<'a>) -> ScriptCause<'a> {
     if words.first == "until" {
-        let earlier = first_line(text, line, "until", None).unwrap_or(0);
+        let earlier = earlier_line(text, line, Sought::First("until"));
         return ScriptCause::SecondUntil { earlier };
     }
     if words.first == "intake" {
-        let earlier = first_line(text, line, "intake", None).unwrap_or(0);
+        let earlier = earlier_line(text, line, Sought::First("intake"));
         return ScriptCause::SecondIntake { earlier };
     }
     let name = words.get(0);
@@ -105,7 +111,7 @@ fn unknown<'a>(text: &[u8], line: u32, place: usize, name: &'a str) -> ScriptCau
     if name == "main" {
         return ScriptCause::MainNamed { place };
     }
-    match declared_from(text, line, name) {
+    match line_of(text, line, u32::MAX, Sought::Declaring(name)) {
         Some(later) => ScriptCause::DeclaredBelow { place, name, later },
         None => ScriptCause::Undeclared { place, name },
     }
@@ -141,7 +147,7 @@ fn misfit<'a>(
         return None;
     }
     let declared = known.find(name)?;
-    if name == "root" && role != Role::Queue {
+    if name == "root" && !role.is_queue() {
         return Some(ScriptCause::RootNamed { place, asked: role });
     }
     if declared.what.fits(role) {
@@ -201,20 +207,20 @@ fn bad_number<'a>(words: Words<'a>, form: &Form) -> ScriptCause<'a> {
 fn repeated<'a>(text: &[u8], line: u32, words: Words<'a>) -> ScriptCause<'a> {
     let source = words.get(0);
     if words.first == "handler" {
-        let earlier = first_line(text, line, "handler", Some(source)).unwrap_or(0);
+        let earlier = earlier_line(text, line, Sought::Naming("handler", 0, source));
         return ScriptCause::SecondHandler { source, earlier };
     }
     if words.first == "apply" {
         let strip = words.get(1);
-        let earlier = application(text, line, strip).unwrap_or(0);
+        let earlier = earlier_line(text, line, Sought::Naming("apply", 1, strip));
         return ScriptCause::AppliedTwice { strip, earlier };
     }
     if let Some(block) = submitted_by(words) {
-        if let Some(earlier) = submission(text, line, block) {
+        if let Some(earlier) = line_of(text, 1, line, Sought::Submitting(block)) {
             return ScriptCause::SubmittedTwice { block, earlier };
         }
     }
-    match first_line(text, line, "cancelled", Some(source)) {
+    match line_of(text, 1, line, Sought::Naming("cancelled", 0, source)) {
         Some(earlier) => ScriptCause::SecondCancel { source, earlier },
         None => ScriptCause::Coded { code: 6 },
     }
@@ -236,6 +242,8 @@ fn limit<'a>(what: &'static str, most: u32) -> ScriptCause<'a> {
     ScriptCause::PastLimit { what, most }
 }
 
+static BLOCK_MAKERS: [&str; 3] = ["block", "intake", "strip"];
+
 // Code 8: one more than the limit, or a file that is too long.
 fn past_limit<'a>(words: Words<'a>, known: &Known<'a>) -> ScriptCause<'a> {
     if words.first == "file" {
@@ -248,7 +256,7 @@ fn past_limit<'a>(words: Words<'a>, known: &Known<'a>) -> ScriptCause<'a> {
         }
         return limit("file", MAX_FILES);
     }
-    if words.first == "block" || words.first == "intake" || words.first == "strip" {
+    if is_among(&BLOCK_MAKERS, words.first) {
         return limit("block", MAX_BLOCKS - 1);
     }
     if is_declaration(words.first) {
@@ -259,7 +267,7 @@ fn past_limit<'a>(words: Words<'a>, known: &Known<'a>) -> ScriptCause<'a> {
 
 // Code 9: a second `main`, or none.
 fn not_one_main<'a>(text: &[u8], line: u32) -> ScriptCause<'a> {
-    match first_line(text, line, "main", None) {
+    match line_of(text, 1, line, Sought::First("main")) {
         Some(earlier) => ScriptCause::SecondMain { earlier },
         None => ScriptCause::NoMain,
     }

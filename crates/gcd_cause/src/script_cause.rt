@@ -1,8 +1,9 @@
 // Why a line of a script is refused, in words.
 
-use crate::form::forms;
+use crate::form::{Form, forms};
 use crate::known::What;
 use crate::role::Role;
+use crate::shown::{write_at_place, write_byte, write_misplaced, write_quoted};
 use std::fmt;
 
 /// Why a line of a script is refused. Places of words count from 1, the first word of the line.
@@ -149,19 +150,76 @@ pub enum ScriptCause<'a> {
     },
 }
 
+const BYTES: &str = ": a line, a comment too, holds bytes from 32 to 126 alone";
+
+const NO_BODY: &str = " stands in no body: no line 'block', 'handler' or 'main' is open above";
+
+const NO_NAME: &str = " is no name: 1 to 32 small letters, digits and _, the first a letter";
+
+const RESERVED: &str = " is known from the outset, and cannot be declared";
+
+const UNDECLARED: &str = " is not declared on an earlier line";
+
+const NO_NUMBER: &str = " is no number: digits with no sign and no leading zero";
+
+// That an earlier line begins with the word too.
+fn write_second<W: fmt::Write>(f: &mut fmt::Formatter<W>, word: &str, earlier: u32) -> fmt::Result {
+    write!(f, "a second '{word}': line {earlier} has the first")
+}
+
+// That an earlier line does it to that name.
+fn write_done<W: fmt::Write>(
+    f: &mut fmt::Formatter<W>,
+    earlier: u32,
+    does: &str,
+    name: &str,
+) -> fmt::Result {
+    write!(f, "line {earlier} {does} '{name}' already")
+}
+
+// That an earlier line gives the source what it may have once.
+fn write_had<W: fmt::Write>(
+    f: &mut fmt::Formatter<W>,
+    source: &str,
+    what: &str,
+    earlier: u32,
+) -> fmt::Result {
+    write!(f, "'{source}' has a {what} already, on line {earlier}")
+}
+
+// How many words stand after the first.
+fn write_count<W: fmt::Write>(
+    f: &mut fmt::Formatter<W>,
+    first: &str,
+    count: usize,
+    more: bool,
+) -> fmt::Result {
+    let about = if more { "more than " } else { "" };
+    let words = if count == 1 { "word" } else { "words" };
+    write!(
+        f,
+        "'{first}' has {about}{count} {words} after it here, and may be: "
+    )
+}
+
+// A form as it is written, after what stands between it and the one before.
+fn write_shape<W: fmt::Write>(
+    f: &mut fmt::Formatter<W>,
+    between: &str,
+    form: &Form,
+) -> fmt::Result {
+    let (first, shape) = (form.first, form.shape);
+    let space = if shape.is_empty() { "" } else { " " };
+    write!(f, "{between}{first}{space}{shape}")
+}
+
 // The forms of a first word, as they are written.
 fn write_forms<W: fmt::Write>(f: &mut fmt::Formatter<W>, first: &str) -> fmt::Result {
-    let mut is_first = true;
+    let mut between = "";
     for form in forms() {
         if form.first == first {
-            let shape = form.shape;
-            let between = if is_first { "" } else { "; " };
-            if shape.is_empty() {
-                write!(f, "{between}{first}")?;
-            } else {
-                write!(f, "{between}{first} {shape}")?;
-            }
-            is_first = false;
+            write_shape(f, between, form)?;
+            between = "; ";
         }
     }
     Ok(())
@@ -170,32 +228,20 @@ fn write_forms<W: fmt::Write>(f: &mut fmt::Formatter<W>, first: &str) -> fmt::Re
 // Why a form does not fit.
 fn write_form<W: fmt::Write>(f: &mut fmt::Formatter<W>, cause: ScriptCause) -> fmt::Result {
     match cause {
-        ScriptCause::BadByte { column, byte } => write!(
-            f,
-            "column {column} holds the byte {byte}: a line, a comment too, holds bytes from 32 to 126 alone"
-        ),
-        ScriptCause::UnknownFirst { word } => write!(f, "no line begins with '{word}'"),
+        ScriptCause::BadByte { column, byte } => write_byte(f, column, byte, BYTES),
+        ScriptCause::UnknownFirst { word } => write_quoted(f, "no line begins with ", word, ""),
         ScriptCause::WordCount { first, count, more } => {
-            let about = if more { "more than " } else { "" };
-            let words = if count == 1 { "word" } else { "words" };
-            write!(
-                f,
-                "'{first}' has {about}{count} {words} after it here, and may be: "
-            )?;
+            write_count(f, first, count, more)?;
             write_forms(f, first)
         }
         ScriptCause::Misplaced { place, word, asked } => {
-            let asked = asked.words();
-            write!(f, "'{word}' stands where {asked} is asked (word {place})")
+            write_misplaced(f, word, asked.words(), place)
         }
         ScriptCause::LongPath { place, bytes } => write!(
             f,
             "the path has {bytes} bytes, and a path has at most 255 (word {place})"
         ),
-        ScriptCause::OutsideBody { act } => write!(
-            f,
-            "'{act}' stands in no body: no line 'block', 'handler' or 'main' is open above"
-        ),
+        ScriptCause::OutsideBody { act } => write_quoted(f, "", act, NO_BODY),
         _ => Ok(()),
     }
 }
@@ -203,22 +249,10 @@ fn write_form<W: fmt::Write>(f: &mut fmt::Formatter<W>, cause: ScriptCause) -> f
 // Why a declared name does not fit.
 fn write_name<W: fmt::Write>(f: &mut fmt::Formatter<W>, cause: ScriptCause) -> fmt::Result {
     match cause {
-        ScriptCause::SecondUntil { earlier } => {
-            write!(f, "a second 'until': line {earlier} has the first")
-        }
-        ScriptCause::SecondIntake { earlier } => {
-            write!(f, "a second 'intake': line {earlier} has the first")
-        }
-        ScriptCause::IllFormedName { name } => write!(
-            f,
-            "'{name}' is no name: 1 to 32 small letters, digits and _, the first a letter"
-        ),
-        ScriptCause::ReservedName { name } => {
-            write!(
-                f,
-                "'{name}' is known from the outset, and cannot be declared"
-            )
-        }
+        ScriptCause::SecondUntil { earlier } => write_second(f, "until", earlier),
+        ScriptCause::SecondIntake { earlier } => write_second(f, "intake", earlier),
+        ScriptCause::IllFormedName { name } => write_quoted(f, "", name, NO_NAME),
+        ScriptCause::ReservedName { name } => write_quoted(f, "", name, RESERVED),
         ScriptCause::TakenName {
             name,
             what,
@@ -234,18 +268,14 @@ fn write_name<W: fmt::Write>(f: &mut fmt::Formatter<W>, cause: ScriptCause) -> f
 // Why a used name does not fit.
 fn write_used<W: fmt::Write>(f: &mut fmt::Formatter<W>, cause: ScriptCause) -> fmt::Result {
     match cause {
-        ScriptCause::Undeclared { place, name } => write!(
-            f,
-            "'{name}' is not declared on an earlier line (word {place})"
-        ),
+        ScriptCause::Undeclared { place, name } => write_at_place(f, name, UNDECLARED, place),
         ScriptCause::DeclaredBelow { place, name, later } => write!(
             f,
             "'{name}' is not declared on an earlier line, but on line {later} (word {place})"
         ),
-        ScriptCause::MainNamed { place } => write!(
-            f,
-            "'main' is no name that a line may use (word {place})"
-        ),
+        ScriptCause::MainNamed { place } => {
+            write_at_place(f, "main", " is no name that a line may use", place)
+        }
         ScriptCause::OtherKind {
             place,
             name,
@@ -260,8 +290,7 @@ fn write_used<W: fmt::Write>(f: &mut fmt::Formatter<W>, cause: ScriptCause) -> f
             )
         }
         ScriptCause::RootNamed { place, asked } => {
-            let asked = asked.words();
-            write!(f, "'root' stands where {asked} is asked (word {place})")
+            write_misplaced(f, "root", asked.words(), place)
         }
         _ => Ok(()),
     }
@@ -270,10 +299,7 @@ fn write_used<W: fmt::Write>(f: &mut fmt::Formatter<W>, cause: ScriptCause) -> f
 // Why a number does not fit.
 fn write_number<W: fmt::Write>(f: &mut fmt::Formatter<W>, cause: ScriptCause) -> fmt::Result {
     match cause {
-        ScriptCause::NoNumber { place, word } => write!(
-            f,
-            "'{word}' is no number: digits with no sign and no leading zero (word {place})"
-        ),
+        ScriptCause::NoNumber { place, word } => write_at_place(f, word, NO_NUMBER, place),
         ScriptCause::OutOfRange {
             place,
             word,
@@ -291,18 +317,15 @@ fn write_number<W: fmt::Write>(f: &mut fmt::Formatter<W>, cause: ScriptCause) ->
 fn write_whole<W: fmt::Write>(f: &mut fmt::Formatter<W>, cause: ScriptCause) -> fmt::Result {
     match cause {
         ScriptCause::SubmittedTwice { block, earlier } => {
-            write!(f, "line {earlier} submits '{block}' already")
+            write_done(f, earlier, "submits", block)
         }
-        ScriptCause::AppliedTwice { strip, earlier } => {
-            write!(f, "line {earlier} applies '{strip}' already")
-        }
+        ScriptCause::AppliedTwice { strip, earlier } => write_done(f, earlier, "applies", strip),
         ScriptCause::SecondHandler { source, earlier } => {
-            write!(f, "'{source}' has a handler already, on line {earlier}")
+            write_had(f, source, "handler", earlier)
         }
-        ScriptCause::SecondCancel { source, earlier } => write!(
-            f,
-            "'{source}' has a cancellation block already, on line {earlier}"
-        ),
+        ScriptCause::SecondCancel { source, earlier } => {
+            write_had(f, source, "cancellation block", earlier)
+        }
         ScriptCause::InHandler { act, source } => write!(
             f,
             "'{act}' may not stand in a handler, and that of '{source}' is open: a handler submits no block and waits for nothing"
@@ -310,14 +333,12 @@ fn write_whole<W: fmt::Write>(f: &mut fmt::Formatter<W>, cause: ScriptCause) -> 
         ScriptCause::PastLimit { what, most } => {
             write!(f, "one {what} too many: a script has at most {most}")
         }
-        ScriptCause::LongScript => write!(f, "the script has more than 1048576 bytes"),
+        ScriptCause::LongScript => f.write_str("the script has more than 1048576 bytes"),
         ScriptCause::LongFile { name, path } => {
             write!(f, "{path}, the file '{name}', has more than 16777216 bytes")
         }
-        ScriptCause::SecondMain { earlier } => {
-            write!(f, "a second 'main': line {earlier} has the first")
-        }
-        ScriptCause::NoMain => write!(f, "the script ends, and no line is 'main'"),
+        ScriptCause::SecondMain { earlier } => write_second(f, "main", earlier),
+        ScriptCause::NoMain => f.write_str("the script ends, and no line is 'main'"),
         ScriptCause::Coded { code } => write!(f, "the line is refused with code {code}"),
         _ => Ok(()),
     }

@@ -15,3 +15,46 @@ impl<'a> fmt::Display for Shown<'a> {
         Ok(())
     }
 }
+
+/// A word between quotes, and what stands before and after it.
+pub fn write_quoted<W: fmt::Write>(
+    f: &mut fmt::Formatter<W>,
+    before: &str,
+    word: &str,
+    after: &str,
+) -> fmt::Result {
+    let word = Shown(word);
+    write!(f, "{before}'{word}'{after}")
+}
+
+/// What is said of the word at that place of a line, from 1.
+pub fn write_at_place<W: fmt::Write>(
+    f: &mut fmt::Formatter<W>,
+    word: &str,
+    after: &str,
+    place: usize,
+) -> fmt::Result {
+    let word = Shown(word);
+    write!(f, "'{word}'{after} (word {place})")
+}
+
+/// That something else is asked at the place of the word.
+pub fn write_misplaced<W: fmt::Write>(
+    f: &mut fmt::Formatter<W>,
+    word: &str,
+    asked: &str,
+    place: usize,
+) -> fmt::Result {
+    let word = Shown(word);
+    write!(f, "'{word}' stands where {asked} is asked (word {place})")
+}
+
+/// Which byte stands in that column of a line, from 1, and what is said of it.
+pub fn write_byte<W: fmt::Write>(
+    f: &mut fmt::Formatter<W>,
+    column: usize,
+    byte: u8,
+    after: &str,
+) -> fmt::Result {
+    write!(f, "column {column} holds the byte {byte}{after}")
+}
