@@ -13,7 +13,7 @@
 //! given, runs the plan by as many workers as are asked for, up to as many events as are asked for (`gcd_workers`), and makes the text of
 //! the journal, if it is asked for, and the report (`gcd_journal`). `check` loads a script and a journal, of as many events as a run can
 //! have, and judges it. `big` runs the large script over a file that is made, up to as many events as a run can have. `front` loads a
-//! script, asks whether it has an intake, loads its files, and runs it by four workers (`run_front` of `gcd_workers`) beside threads that
+//! script, looks whether it has an intake, loads its files, and runs it by four workers (`run_front` of `gcd_workers`) beside threads that
 //! are no workers: each sends its jobs by a mouth of a front (`gcd_front`), which has room for all of them, and shuts it. A command ends
 //! at the first step that cannot go on.
 //!
@@ -33,9 +33,9 @@
 //! these workers alone, honest to poller and clock, and with one worker the choice at each place. `proofs/Pages` shows of every lawful
 //! journal of a valid plan what it keeps of the pages of strips and block objects (`KeepsPages`).
 //!
-//! Nothing is said of a shelf or poller that tells nothing, but that a fault comes only if it failed, nothing of time, and of no cause
-//! why memory ran out. Nothing is written here: the top call (`gcd_run`) does that. By one worker the journal is exact; by more, which
-//! worker does what is left to the threads.
+//! Of a shelf or poller that tells nothing, the clauses say only that a fault is told only if it failed. They say nothing of time, nor
+//! why memory ran out. A command writes nothing: the top call (`gcd_run`) does that. By one worker the journal is exact; by more, the
+//! threads decide which worker does what.
 //!
 //! If an item names no manual page, what it says is this project's own rule.
 #![tactic(auto)]
