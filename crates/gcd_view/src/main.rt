@@ -17,7 +17,7 @@
 //! Proved is that only events that are lawful in the plan by which they are shown are shown (`load_run`), and of what the picture is
 //! made that the marks are those of its runs (`gcd_timeline::marks`). That this is the script's plan, and these the journal's events,
 //! is tested. The real files and standard output tell nothing, so what is read and written is tried by tests over a shelf in memory
-//! and by the stored run alone.
+//! (`gcd_view_tests`) and by the stored run alone.
 //!
 //! Where an item names no manual page, what it says is this project's own rule.
 #![tactic(auto)]
@@ -34,9 +34,6 @@ use std::alloc::{AllocError, Global};
 use std::process::ExitCode;
 use std::rt::{Env, Files};
 use std::{env, io};
-
-#[cfg(test)]
-mod tests;
 
 // The words after the program's name.
 fn words_of<R: Env + AllocGlobal>(rt: &R) -> io::Result<Vec<String>> {
