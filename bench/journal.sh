@@ -2,15 +2,16 @@
 # Times the reader, the checker and the writer of crates/gcd_journal over a journal of 65,535 events, best of seven each, and
 # fails where reading and checking together take less than 40 MB/s, or writing less than 200 MB/s.
 #
-# `rt test` proves crates/gcd_journal_tests and leaves its tests as the program out/gcd_journal_tests_tests; the test that is named
-# here prints the time of one run of each, and is called seven times.
+# The tests of tests/gcd_journal_tests are proved and built (bench/setup.sh); the test that is named here prints the time of one run of each,
+# and is called seven times.
 set -eu -o pipefail
 cd "$(dirname "$0")/.."
+. bench/setup.sh
 folder=$(mktemp -d)
 trap 'rm -rf "$folder"' EXIT
-(cd crates/gcd_journal_tests && rt test >"$folder/log" 2>&1) || { tail -20 "$folder/log"; exit 1; }
+tests gcd_journal_tests "$folder/whole"
 for _ in 1 2 3 4 5 6 7; do
-    crates/gcd_journal_tests/out/gcd_journal_tests_tests tests::longest_journal | grep ' us$'
+    "$folder/whole/crates/gcd_journal_tests/out/gcd_journal_tests_tests" tests::longest_journal | grep ' us$'
 done | awk '
     { bytes = $2 }
     !($1 in best) || $5 < best[$1] { best[$1] = $5 }

@@ -2,16 +2,17 @@
 # Times how crates/gcd_script reads a script of about a mebibyte with 17,001 names, best of seven, beside a plain C loop
 # (gcc -O2) that cuts the same text into lines and words. It fails where the texts differ in length.
 #
-# `rt test` proves crates/gcd_script_tests and leaves its tests as the program out/gcd_script_tests_tests; the test that is named
-# here prints the time of one reading, and is called seven times.
+# The tests of tests/gcd_script_tests are proved and built (bench/setup.sh); the test that is named here prints the time of one run of each,
+# and is called seven times.
 set -eu -o pipefail
 cd "$(dirname "$0")/.."
+. bench/setup.sh
 folder=$(mktemp -d)
 trap 'rm -rf "$folder"' EXIT
 "${CC:-gcc}" -O2 -o "$folder/script" bench/script.c
-(cd crates/gcd_script_tests && rt test >"$folder/log" 2>&1) || { tail -20 "$folder/log"; exit 1; }
+tests gcd_script_tests "$folder/whole"
 for _ in 1 2 3 4 5 6 7; do
-    crates/gcd_script_tests/out/gcd_script_tests_tests tests::reads_a_mebibyte | grep ' us$'
+    "$folder/whole/crates/gcd_script_tests/out/gcd_script_tests_tests" tests::reads_a_mebibyte | grep ' us$'
 done | awk '!best || $4 < best { best = $4; line = $0 } END { print line }' >"$folder/ours"
 "$folder/script" >"$folder/loop"
 cat "$folder/ours" "$folder/loop"

@@ -5,6 +5,7 @@
 # The program's files end in .txt, since the gate proves each file that ends in .rt or .antt. `plans.rt` is bench/machine's.
 #   program NAME FOLDER DEP..        proves and builds FOLDER/crates/bench_NAME/out/bench_NAME; DEP: the libraries that it names
 #   copies FROM NAME FOLDER DEP..    only makes the folder, with the program from FROM as FOLDER/crates/NAME
+#   tests NAME FOLDER                proves the tests of tests/NAME, and leaves them as the program FOLDER/crates/NAME/out/NAME_tests
 #
 # What the gate or a check proved of the crates below, and left in their out/, is taken over (tools/libraries); what is lacking is
 # proved first. `rt run` runs the program once without words, which ends with status 1.
@@ -45,4 +46,11 @@ program() {
     tools/libraries . "$folder" >/dev/null
     (cd "$folder/crates/bench_$name" && rt fmt >/dev/null && rt run --) >"$folder/log" 2>&1 || :
     [ -x "$folder/crates/bench_$name/out/bench_$name" ] || { tail -20 "$folder/log" >&2; return 1; }
+}
+
+tests() {
+    local name=$1 folder=$2
+    tools/lay_whole "$folder"
+    tools/libraries . "$folder" >/dev/null
+    (cd "$folder/crates/$name" && rt test) >"$folder/log" 2>&1 || { tail -20 "$folder/log" >&2; return 1; }
 }

@@ -2,16 +2,17 @@
 # Times the works of crates/gcd_jobs beside plain C loops (gcc -O2) over the same 16 MiB text, best of seven each, and
 # fails where a value differs or where a work takes more than 1.25 times what its C loop takes.
 #
-# `rt test` proves the crate and leaves its tests as the program out/gcd_jobs_tests; the test that is named here prints
-# the time of one run of each work, and is called seven times.
+# The tests of tests/gcd_plan_tests are proved and built (bench/setup.sh); the test that is named here prints the time of one run of each,
+# and is called seven times.
 set -eu -o pipefail
 cd "$(dirname "$0")/.."
+. bench/setup.sh
 folder=$(mktemp -d)
 trap 'rm -rf "$folder"' EXIT
 "${CC:-gcc}" -O2 -o "$folder/works" bench/works.c
-(cd crates/gcd_jobs && rt test >"$folder/log" 2>&1) || { tail -20 "$folder/log"; exit 1; }
+tests gcd_plan_tests "$folder/whole"
 for _ in 1 2 3 4 5 6 7; do
-    crates/gcd_jobs/out/gcd_jobs_tests tests::works_over_sixteen_mebibytes | grep ' us$'
+    "$folder/whole/crates/gcd_plan_tests/out/gcd_plan_tests_tests" jobs::works_over_sixteen_mebibytes | grep ' us$'
 done | awk '
     !($1 in best) { names[++n] = $1; value[$1] = $2; best[$1] = $4 }
     $4 < best[$1] { best[$1] = $4 }

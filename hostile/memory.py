@@ -3,6 +3,7 @@
 
 import subprocess
 import sys
+import tempfile
 from pathlib import Path
 
 from common import TOP, Part, call, words_of
@@ -89,6 +90,13 @@ def try_test(part, tests, name):
     return refused
 
 
+def laid_crates(room):
+    """A copy of the crates in which the folders of tests/ are crates too."""
+    if subprocess.run([TOP / "tools/lay_whole", f"{room}/whole"]).returncode:
+        sys.exit(70)
+    return Path(room) / "whole/crates"
+
+
 def built_tests(crates, name):
     """The proved tests of a crate, which are built where they are not there."""
     tests = crates / name / f"out/{name}_tests"
@@ -98,9 +106,11 @@ def built_tests(crates, name):
 
 
 def main():
-    words = words_of(__doc__, ("--crates", Path, TOP / "crates", "the folder of the crates whose tests are run"))
+    words = words_of(__doc__, ("--crates", Path, None, "the folder of the crates whose tests are run, by default a copy that is made"))
     part = Part("memory, over an outside in memory")
-    counts = [try_test(part, built_tests(words.crates.resolve(), crate), name) for crate, name in TESTS]
+    with tempfile.TemporaryDirectory(prefix="memory-") as room:
+        crates = words.crates.resolve() if words.crates else laid_crates(room)
+        counts = [try_test(part, built_tests(crates, crate), name) for crate, name in TESTS]
     before, within = (sum(count[k] for count in counts) for k in (0, 1))
     part.tell(
         f"{within} refusals within {len(TESTS)} calls: nothing is written and there is no journal, or the answer is whole"
