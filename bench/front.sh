@@ -1,13 +1,17 @@
 #!/usr/bin/env bash
-# Times closures from outside: 1 and 8 senders, each in a thread of its own, hand in 4,096 jobs between them, which 1 and 4 workers run
-# on one serial queue, beside as many threads that post to a strand of Boost.Asio over as many (bench/peers/asio_front.cpp), where that
-# is there (Debian's libboost-dev). The senders begin when the run is under way.
+# Times jobs from outside: 1 and 8 senders, each in a thread of its own, send 4,096 jobs in all, which 1 and 4 workers run on one serial
+# queue. The peer is Boost.Asio, if it is installed (Debian's libboost-dev): as many threads post to a strand over as many workers
+# (bench/peers/asio_front.cpp). The senders begin once the run is under way.
 #
-# Throughput: nanoseconds a job, from the first send to the end of the run, with the journal and the values whole; the least of nine
-# runs and their median, of five processes, which take turns with the peer's the least and the median. Delay: nanoseconds from a send
-# to the beginning of the job's body, where a sender sleeps for 20 us, and what the system adds, between two sends; the median and the
-# 99th of a hundred of all jobs of three runs, of these processes the median. It says which aims are reached, and fails only where a run is
-# wrong.
+# Throughput is nanoseconds a job, from the first send to the end of the run, with the journal and the values whole. Each process gives
+# the least and the median of its nine runs. Five processes take turns with the peer's, and the least of the least times and the median of
+# the medians are printed.
+#
+# Delay is nanoseconds from a send to the beginning of the job's body. Between two sends a sender sleeps for 20 us, and as long as the
+# system adds. Each process gives the median and the 99th percentile of all jobs of three runs. The medians of these over the five
+# processes are printed.
+#
+# It says which aims are reached, and fails only if a run is wrong.
 set -eu -o pipefail
 cd "$(dirname "$0")/.."
 . bench/setup.sh
@@ -36,7 +40,7 @@ for _ in 1 2 3 4 5; do
     done
 done >"$folder/times"
 
-# number PROGRAM WHAT COLUMN PLACE: of the five numbers that it printed there, the one at this place, from the least on.
+# number PROGRAM WHAT COLUMN PLACE: prints one of the five numbers in that column of the program's lines, by its place from the least on.
 number() {
     awk -v key="$1 $2 $workers $senders" -v column="$3" '$1 " " $2 " " $3 " " $4 == key { print $column }' "$folder/times" |
         sort -n | sed -n "$4p"

@@ -1,9 +1,9 @@
 #!/usr/bin/env bash
-# Times the reader, the checker and the writer of crates/gcd_journal over a journal of 65,535 events, best of seven each, and
-# fails where reading and checking together take less than 40 MB/s, or writing less than 200 MB/s.
+# Times the reader, the checker and the writer of crates/gcd_journal over a journal of 65,535 events, the best of seven each. It fails if
+# reading and checking together do less than 40 MB/s, or writing less than 200 MB/s.
 #
-# The tests of tests/gcd_journal_tests are proved and built (bench/setup.sh); the test that is named here prints the time of one run of each,
-# and is called seven times.
+# bench/setup.sh proves and builds the tests of tests/gcd_journal_tests. The test that is named here prints the time of one run of each.
+# It is called seven times.
 set -eu -o pipefail
 cd "$(dirname "$0")/.."
 . bench/setup.sh

@@ -1,10 +1,10 @@
 #!/usr/bin/env bash
-# Times the calls of crates/gcd_machine over the histories of five plans, and measures what a machine takes.
+# Times the calls of crates/gcd_machine over the histories of five plans, and measures the memory of a machine.
 #
-# The program is bench/machine, whose files end in .txt, since the gate proves each file that ends in .rt or .antt. It is
-# proved and built in a folder of its own, beside copies of the crates with what earlier checks left. It prints for each plan
-# how many events its history has, how many of them were permitted and how many were the choice of worker 0, and nanoseconds
-# an event: of apply; of permits and apply; of choose alone.
+# The program is bench/machine. Its files end in .txt, because the gate proves each file that ends in .rt or .antt. It is proved and built
+# in a folder of its own, beside copies of the crates with what earlier checks left. For each plan it prints how many events the history
+# has, how many of them were permitted, how many were the choice of worker 0, and nanoseconds an event: of apply; of permits and apply;
+# of choose alone.
 set -eu -o pipefail
 cd "$(dirname "$0")/.."
 folder=$(mktemp -d)

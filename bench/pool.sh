@@ -1,16 +1,16 @@
 #!/usr/bin/env bash
-# Times teams, whole runs in one process from the plan to journal and values, with everything journalled:
+# Times whole runs in one process, from the plan to the journal and the values, with every event in the journal:
 #
-# - the large script, which `gcd big` runs (16,384 blocks that add up 64 bytes each, on six queues), by worker 0 alone over a list, by a
-#   team of one hand over the row, and by teams of 2, 4 and 64, beside the same script's shape in peers that keep a journal (bench/peers),
-#   where they are there: oneTBB, Boost.Asio and rayon (Debian's libtbb-dev, libboost-dev, and librust-rayon-dev with cargo);
-# - the same script where each block adds up more bytes, to tell from which size on a team is faster than one worker;
+# - the large script that `gcd big` runs: 16,384 blocks that add up 64 bytes each, on six queues. It is run by worker 0 alone over a list,
+#   by a team of one over the log that workers share, and by teams of 2, 4 and 64. Peers that keep a journal (bench/peers) run a script of
+#   this shape, if they are installed: oneTBB, Boost.Asio and rayon (Debian's libtbb-dev, libboost-dev, and librust-rayon-dev with cargo);
+# - the large script with more bytes a block, which shows from which size on a team is faster than one worker;
 # - 16,384 blocks of 16 KiB each on 64 serial queues, and on one concurrent queue; and 64 blocks of 16 MiB each on a concurrent queue.
 #
-# Nanoseconds a block: `first` is the first run of a process, `best` the least of nine in it. Processes take turns, the peers' too; of
-# `first` the least is told, of `best` the least and the median. Memory: the most that a process had, the plan's with it. What several
-# processors give at most on this machine, where some may share a core, is told by as many processes at once, each by worker 0 alone.
-# It says which aims are reached, and fails only where a run is wrong.
+# Each time is nanoseconds a block: `first` is the first run of a process, `best` its fastest of nine. Processes take turns, the peers' too.
+# Of `first` the least is printed, of `best` the least and the median. Memory is the most that a process had, its plan included. Two and
+# four processes at once, each by worker 0 alone, show what the processors of this machine give at most, of which some may share a core.
+# It says which aims are reached, and fails only if a run is wrong.
 set -eu -o pipefail
 cd "$(dirname "$0")/.."
 . bench/setup.sh
@@ -42,7 +42,7 @@ else
     echo "rayon: it is not built, so it is left out (Debian's packages librust-rayon-dev and cargo)" >&2
 fi
 
-# A process: NAME TEAM FIRST BEST BYTES. A peer tells its bytes itself, and what `peak` adds is left out.
+# Runs a process, and prints NAME TEAM FIRST BEST BYTES. A peer prints its bytes itself, and what `peak` adds is left out.
 once() {
     local told
     told=$("$folder/peak" "$@") || { echo "$*: it failed" >&2; exit 1; }
@@ -50,7 +50,7 @@ once() {
     echo $told | cut -d' ' -f1-5
 }
 
-# So many processes at once.
+# Runs as many processes at once as the first argument says.
 together() {
     local count=$1 each
     shift

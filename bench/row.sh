@@ -1,11 +1,11 @@
 #!/usr/bin/env bash
-# Times the calls of crates/gcd_row: appending to one row by 1, 2 and 4 threads, folding the events into a pass that looks, and
-# splitting off a pass of a plan with 16,384 blocks on seven queues.
+# Times the calls of crates/gcd_row, the log (row) that workers share: appending to one row by 1, 2 and 4 threads, folding the events into
+# the view of a worker (pass) that looks, and splitting off a pass of a plan with 16,384 blocks on seven queues.
 #
-# Each thread has a block of its own with as many acts as make 4,000 events in all, fewer than the row has cells, so that no thread waits for
-# another to pass on; each act merges into a source. So it judges,
-# exchanges and applies an event of its own, and reads and applies those of others. Nanoseconds an event: the least of 112 rows
-# in a process, and of three processes. A thread's start is in it. Of a split: the least of five processes with sixteen splits.
+# Each thread has a block of its own, whose acts merge into a source. All threads together make 4,000 events. That is fewer than the row has
+# cells, so no thread waits for another to read on. A thread judges, exchanges and applies its own events, and reads and applies those
+# of others. The time is nanoseconds an event, the start of the threads included: the least of 112 rows in a process, and of three
+# processes. For a split it is the least of five processes with sixteen splits each.
 set -eu -o pipefail
 cd "$(dirname "$0")/.."
 . bench/setup.sh

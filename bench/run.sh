@@ -1,7 +1,10 @@
 #!/usr/bin/env bash
-# Times whole runs of the proved program, as processes: the large script with 16,384 blocks, made in memory; a script of as many blocks
-# on seven queues that do nothing; the same where each block counts the lines of one file of 4,096 bytes; and a strip of as many blocks,
-# which one `apply` submits to a concurrent queue. Best of ninety-nine, in milliseconds.
+# Times whole runs of the proved program, each a process of its own, in milliseconds, the best of ninety-nine:
+#
+# - the large script with 16,384 blocks, made in memory;
+# - a script of as many blocks that do nothing, on seven queues;
+# - such a script whose blocks each count the lines of one file of 4,096 bytes;
+# - a strip of as many blocks, which one `apply` submits to a concurrent queue.
 #
 #   start    the program with no words: it prints how it is called
 #   reading  the script is read: `check` over an empty journal, less the start
@@ -14,7 +17,7 @@ gcd=$PWD/crates/gcd/out/gcd
 folder=$(mktemp -d)
 trap 'rm -rf "$folder"' EXIT
 cd "$folder"
-# A script whose blocks have this work.
+# Prints a script whose blocks have this work.
 script_of() {
     awk -v work="$1" 'BEGIN {
         print "file f f.txt"
@@ -30,7 +33,7 @@ printf '%s\n' "file f f.txt" "queue q concurrent" "strip part bytes f 1 16384" "
 awk 'BEGIN { for (i = 0; i < 512; i++) print "seven77" }' >f.txt
 : >journal
 
-# The least time of the call, in microseconds.
+# Prints the least time of the call, in microseconds.
 best() {
     local least= from spent
     for _ in {1..99}; do
@@ -42,7 +45,7 @@ best() {
     echo "$least"
 }
 
-# A time in milliseconds, and what it is of.
+# Prints a time, given in microseconds, in milliseconds, and what was timed.
 tell() { printf '%8.1f  %s\n' "$(awk "BEGIN { print $1 / 1000 }")" "$2"; }
 
 start=$(best)

@@ -1,9 +1,9 @@
 #!/usr/bin/env bash
-# Times how crates/gcd_script reads a script of about a mebibyte with 17,001 names, best of seven, beside a plain C loop
-# (gcc -O2) that cuts the same text into lines and words. It fails where the texts differ in length.
+# Times how crates/gcd_script reads a script of about a mebibyte with 17,001 names, the best of seven, beside a plain C loop (gcc -O2) that
+# cuts such a text into lines and words. It fails if the two texts differ in length.
 #
-# The tests of tests/gcd_script_tests are proved and built (bench/setup.sh); the test that is named here prints the time of one run of each,
-# and is called seven times.
+# bench/setup.sh proves and builds the tests of tests/gcd_script_tests. The test that is named here prints the time of one run of each.
+# It is called seven times.
 set -eu -o pipefail
 cd "$(dirname "$0")/.."
 . bench/setup.sh

@@ -1,16 +1,16 @@
 # shellcheck shell=bash
-# Read by benches whose program is a crate of its own: makes a folder that has the program, from bench/NAME, beside copies of the
-# crates that it stands on.
+# Sourced by benches whose program is a crate of its own. It makes a folder with the program, from bench/NAME, beside copies of the crates
+# that the program uses.
 #
-# The program's files end in .txt, since the gate proves each file that ends in .rt or .antt. `plans.rt` is bench/machine's.
+# The program's files end in .txt, because the gate proves each file that ends in .rt or .antt. `plans.rt` comes from bench/machine.
 #   program NAME FOLDER DEP..        proves and builds FOLDER/crates/bench_NAME/out/bench_NAME; DEP: the libraries that it names
 #   copies FROM NAME FOLDER DEP..    only makes the folder, with the program from FROM as FOLDER/crates/NAME
 #   tests NAME FOLDER                proves the tests of tests/NAME, and leaves them as the program FOLDER/crates/NAME/out/NAME_tests
 #
-# What the gate or a check proved of the crates below, and left in their out/, is taken over (tools/libraries); what is lacking is
-# proved first. `rt run` runs the program once without words, which ends with status 1.
+# Libraries that the gate or a check has proved and left in out/ are taken over (tools/libraries). Those that are missing are proved first.
+# `rt run` runs the program once without words, which ends with status 1.
 
-# The crates that these stand on, and they, without repeats.
+# Adds these crates to `found`, each once, and before each crate those that it uses.
 below() {
     local crate line
     for crate; do

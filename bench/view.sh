@@ -1,7 +1,7 @@
 #!/bin/sh
-# Takes a screenshot of each picture of examples/ by a headless Chromium (Debian's package `chromium`), to be looked at:
+# Takes a screenshot of each picture of examples/ with a headless Chromium (Debian's package `chromium`), for a person to look at:
 #   bench/view.sh FOLDER [SVG..]     FOLDER gets NAME.png for each picture; without SVG all of examples/
-# It fails where a picture is no well-formed page or the browser shows none.
+# It fails if a picture is not a well-formed page, or if the browser shows none.
 CDPATH=
 folder=${1:?where do the screenshots go?}
 shift

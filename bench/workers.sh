@@ -1,12 +1,14 @@
 #!/usr/bin/env bash
-# Times whole runs of the proved program by several workers, as processes: the large script, written to a file, by 1, 2, 4 and 64
-# workers, beside its shape in peers that keep a journal (bench/peers), where their packages are there (Debian's libtbb-dev and
-# libboost-dev); 64 blocks that each count the words of 16 MiB on a concurrent queue, by 1 and by 4; and the words of 16 MiB once, in
-# 64 parts, which `apply` submits to a concurrent queue, by 1 and by 4.
+# Times whole runs of the proved program by several workers, each a process of its own:
 #
-#   whole  nanoseconds a block of a call, with its start, the reading of the script and the writing of the report; best of 25
-#   run    the same less a call that only reads the script (`check` over an empty journal)
-#   peer   the first run of a peer's process, and its best of nine, which it measures itself: making its pool, running the blocks,
+# - the large script, written to a file, by 1, 2, 4 and 64 workers. Peers that keep a journal (bench/peers) run a script of its shape, if
+#   their packages are installed (Debian's libtbb-dev and libboost-dev);
+# - 64 blocks that each count the words of 16 MiB on a concurrent queue, by 1 worker and by 4;
+# - the words of 16 MiB once, in 64 parts, which `apply` submits to a concurrent queue, by 1 worker and by 4.
+#
+#   whole  nanoseconds a block of a call, with its start, the reading of the script and the writing of the report; the best of 25
+#   run    `whole` less a call that only reads the script (`check` over an empty journal)
+#   peer   the first run of a peer's process, and its best of nine, as it measures them itself: making its pool, running the blocks,
 #          ending the pool; each the least of five processes
 set -eu -o pipefail
 cd "$(dirname "$0")/.."
@@ -47,7 +49,7 @@ printf '%s\n' "file f f.txt" "queue q concurrent" "strip part words f 262144 64"
 awk 'BEGIN { for (i = 0; i < 2097152; i++) print "seven77" }' >f.txt
 : >journal
 
-# The least time of so many calls, in microseconds.
+# Prints the least time of a call, in microseconds; the first argument says how many calls are made.
 best() {
     local least= from spent tries=$1
     shift
@@ -76,7 +78,7 @@ read=$(best 25 check script journal)
             'BEGIN { printf "%s %.0f %.0f%s\n", workers, whole * 1000 / 16384, (whole - reading) * 1000 / 16384, theirs }'
     done
 } | column -t
-# How much faster four workers are than one on a script: its file, and what it is.
+# Prints how much faster four workers are than one. The arguments are the file of a script, and what it is called.
 faster() {
     local one four
     one=$(best 3 run "$1")

@@ -1,9 +1,9 @@
 #!/usr/bin/env bash
-# Times the works of crates/gcd_jobs beside plain C loops (gcc -O2) over the same 16 MiB text, best of seven each, and
-# fails where a value differs or where a work takes more than 1.25 times what its C loop takes.
+# Times the works of crates/gcd_jobs beside plain C loops (gcc -O2) over one text of 16 MiB, the best of seven each. It fails if a value
+# differs, or if a work takes more than 1.25 times what its C loop takes.
 #
-# The tests of tests/gcd_plan_tests are proved and built (bench/setup.sh); the test that is named here prints the time of one run of each,
-# and is called seven times.
+# bench/setup.sh proves and builds the tests of tests/gcd_plan_tests. The test that is named here prints the time of one run of each.
+# It is called seven times.
 set -eu -o pipefail
 cd "$(dirname "$0")/.."
 . bench/setup.sh

@@ -1,5 +1,5 @@
-"""That a build without proof stops where a proof would fail, and says where: tests/stops has a program over a copy of a crate, the edits
-of that copy, and rows with what the program is given, how it ends, and what it says.
+"""Shows that a build without proof stops at a place at which a proof would fail, and names the place. tests/stops has a program over a copy
+of a crate, the edits of that copy, and rows with what the program is given, how it ends, and what it says.
 """
 import os
 import shutil
@@ -16,7 +16,7 @@ def lines_of(path):
 
 
 def edited(crate, edits):
-    """Makes the changes of a file of edits, in the form of the must-fail edits, to a copy of a crate."""
+    """Applies a file of edits, in the form of the must-fail edits, to a copy of a crate."""
     lines = lines_of(edits)
     path = f"{crate}/{lines[0].removeprefix('file: ')}"
     text = "\n".join(lines_of(path)) + "\n"
@@ -29,7 +29,7 @@ def edited(crate, edits):
 
 
 def build(top, out):
-    """Builds the program over the edited copy at that path."""
+    """Builds, at that path, the program over the edited copy."""
     with tempfile.TemporaryDirectory(prefix="stops-") as room:
         shutil.copytree(f"{top}/crates/gcd_text", f"{room}/gcd_text", ignore=shutil.ignore_patterns("out"))
         edited(f"{room}/gcd_text", f"{top}/tests/stops/edits")
@@ -40,7 +40,7 @@ def build(top, out):
 
 
 def run(top, program):
-    """Runs each row, and returns what is to be said, and how many ended as they should and how many did not."""
+    """Runs each row. Returns what to print, how many rows passed and how many failed."""
     told, passed = [], 0
     for row in lines_of(f"{top}/tests/stops/rows"):
         given, status, says = (it.strip() for it in row.split("|"))
