@@ -1,14 +1,13 @@
 -- Which strip each block is of, told from the last strip to the first.
-use Rattle.std.proofs.Common.{◌≡◌, ℕ, zero, suc, ◌+◌, ◌-◌, ◌<◌, ◌≤◌, ◌==◌, leb, ltb, Bool, true, false, ◌&&◌, cond, List, [], ◌∷◌, length, map, drop, get_or, Option, None, Some, refl, sym, ap, ◌∙◌, arith, ⊎_elim, eq-eqb, ne_eqb, le-leb, lt-ltb}
+use Rattle.std.proofs.Common.{◌≡◌, ℕ, zero, suc, ◌+◌, ◌-◌, ◌<◌, ◌≤◌, ◌==◌, leb, ltb, Bool, false, ◌&&◌, cond, List, [], ◌∷◌, length, map, drop, get_or, Option, None, Some, refl, sym, ap, ◌∙◌, arith, ⊎_elim, eq-eqb, ne_eqb}
 use Rattle.std.specs.List.{position_from, range_with_len, slice_get}
 use Rattle.std.specs.Option.{option_map}
-use Rattle.std.proofs.lemmas.Bool.{cases_eq, cases_lt, and_parts, both_ways, leb-true, ltb-true, false_from_ne_true}
+use Rattle.std.proofs.lemmas.Bool.{cases_eq, and_parts, both_ways, leb-true, ltb-true, false_from_ne_true}
 use Rattle.std.proofs.lemmas.List.{ext_get_or, length-map}
 use Rattle.std.proofs.lemmas.List.FromFn.{length-map-range_with_len, get_or-map-range_with_len}
 use Rattle.gcd_plan.specs.Made.{Span, is_within, strip_span}
 use Rattle.gcd_plan.specs.PlanView.{PlanView, StripView, strip_view}
 use Rattle.gcd_plan.specs.declared.parts.StripPart.{StripPart}
-use Rattle.gcd_plan.specs.Validity.{IsPlan}
 use Rattle.gcd_apply.specs.StripsView.{strip_of, strip_room}
 
 -- ## One strip
@@ -24,26 +23,6 @@ none_between first k =
     let low = leb-true first k parts.0 in
     let high = ltb-true k first parts.1 in
     absurd (omega (arith, low, high)))
-
--- one number more is one of these
-pub one_between : {X : Type 0} (first i k : ℕ) (x y : X) → first ≤ i → cond (i == k) x (cond (is_between first i k) x y) ≡ cond (is_between first (i + 1) k) x y
-one_between first i k x y low =
-    ⊎_elim
-    (λ (same : i ≡ k).
-    let least : leb first k ≡ true = le-leb first k (omega (arith, low, same)) in
-    let most : ltb k (i + 1) ≡ true = lt-ltb k (i + 1) (omega (arith, same)) in
-    ap (λ u. cond u x (cond (is_between first i k) x y)) (eq-eqb i k same) ∙ sym (ap (λ u. cond (u && ltb k (i + 1)) x y) least ∙ ap (λ u. cond u x y) most))
-    (λ (other : i ≡ k → ⊥). ap (λ u. cond u x (cond (is_between first i k) x y)) (ne_eqb i k other) ∙ ap (λ u. cond (leb first k && u) x y) (as_before i k other))
-    (cases_eq i k)
-  where
-    as_before : (i k : ℕ) → (i ≡ k → ⊥) → ltb k i ≡ ltb k (i + 1)
-    as_before i k other =
-        ⊎_elim
-        (λ (below : k < i). lt-ltb k i below ∙ sym (lt-ltb k (i + 1) (omega (arith, below))))
-        (λ (above : i ≤ k).
-        false_from_ne_true (ltb k i) (λ h. let l = ltb-true k i h in absurd (omega (arith, l, above)))
-        ∙ sym (false_from_ne_true (ltb k (i + 1)) (λ h. let l = ltb-true k (i + 1) h in other (omega (arith, l, above)))))
-        (cases_lt k i)
 
 -- ## All strips
 
@@ -85,18 +64,6 @@ room_is plan some = ap (λ u. cond {A = ℕ} u 0 (length plan.blocks)) (ne_eqb (
 -- and where it has none, none has
 pub no_room : (plan : PlanView) → length plan.strips ≡ 0 → strip_room plan ≡ 0
 no_room plan none = ap (λ u. cond {A = ℕ} u 0 (length plan.blocks)) (eq-eqb (length plan.strips) 0 none)
-
--- a strip of the code, as the plan has it
-pub strip_there : (strips : List StripPart) (a : ℕ) (s : StripPart) → a < length strips → s ≡ get_or strips a s → slice_get (map strip_view strips) a ≡ Some (strip_view s)
-strip_there [] a s low is = absurd (omega (arith, low))
-strip_there (x ∷ xs) zero s low is = ap (λ y. Some (strip_view y)) (sym is)
-strip_there (x ∷ xs) (suc a) s low is = strip_there xs a s (omega (arith, low)) is
-
--- the blocks of a strip are the plan's
-pub strip_low : (plan : PlanView) (a : ℕ) (s : StripView) → IsPlan plan → slice_get plan.strips a ≡ Some s → s.first + s.count ≤ length plan.blocks
-strip_low plan a s valid at =
-    let strip = valid.strips a s at in
-    leb-true (s.first + s.count) (length plan.blocks) (and_parts (leb 1 s.first) (leb (s.first + s.count) (length plan.blocks)) strip.among).1
 
 -- ## The loop over the strips, from the last to the first
 

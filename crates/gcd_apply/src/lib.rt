@@ -1,4 +1,4 @@
-//! The strips of a plan: how many blocks of each have not ended, and what they give (dispatch_apply(3)).
+//! The strips of a plan: how many blocks of each have not ended (dispatch_apply(3)).
 //!
 //! A strip is a row of blocks that do the same to one part of a file after the other. Contracts see [`Strips`] as two plain
 //! lists (`StripsView`): for each strip, by number, how many of its blocks have not ended; and for each block the strip that it is
@@ -11,15 +11,12 @@
 //! | `left` | how many blocks of the strip have not ended | |
 //! | `strip_of` | the strip of the block; None exactly where it is of none | |
 //! | `done` | | one block of its strip less that has not ended |
-//! | `one_thread` | the values of a strip's blocks, in order of index, behind what the list has; or out of memory | the list as before where memory runs out |
 //!
 //! Where the plan has no strip both lists are empty. `new` and `copied` take all memory; `left`, `strip_of` and `done` take none,
 //! cannot fail, and cost the same however many strips and blocks there are. The crate knows no history: that a block has ended is for
 //! the caller to say.
 #![tactic(auto)]
 
-mod alone;
 mod strips;
 
-pub use alone::one_thread;
 pub use strips::Strips;

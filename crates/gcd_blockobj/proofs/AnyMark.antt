@@ -3,10 +3,10 @@ use Rattle.std.proofs.Common.{◌≡◌, ℕ, ◌+◌, ◌<◌, true, false, ◌
 use Rattle.std.specs.List.{list_any, slice_get}
 use Rattle.std.specs.Option.{option_map_or}
 use Rattle.std.proofs.lemmas.Bool.{or_right}
+use Rattle.gcd_facts.proofs.Lists.{any_more, any_taken}
 use Rattle.gcd_plan.specs.PlanView.{PlanView, BlkView, ObjView}
 use Rattle.gcd_plan.specs.declared.act.Act.{Act}
 use Rattle.gcd_blockobj.specs.MarkRoom.{is_of_block, block_has_one, handler_has_one}
-use Rattle.gcd_blockobj.proofs.AnyTaken.{any_more, any_taken}
 
 module _ (plan : PlanView) (b : ℕ) (acts : List Act) (lt : b < length plan.blocks) (is : acts ≡ option_map_or (λ (blk : BlkView). blk.acts) (slice_get plan.blocks b) []) where
   block_more : list_any block_has_one (take (b + 1) plan.blocks) ≡ (list_any block_has_one (take b plan.blocks) || list_any is_of_block acts)

@@ -1,2 +1,1 @@
-pub mod AnyTaken
 pub mod AnyMark

@@ -23,7 +23,8 @@
 //! Marks are kept of each block or, where no act of the plan needs them, of none; a call on a block of which none are kept
 //! changes nothing, and answers as before the first event. So a plan without such acts pays for three empty sets. `new` and
 //! `copied` take all memory; every other call takes none, cannot fail, and costs the same whatever the plan. The crate knows
-//! no history: that a block that waits here is submitted is for the caller to do.
+//! no history: that a block that waits here is submitted is for the caller to do, and so is that a cancelled block does nothing. It keeps its
+//! place in its queue, starts in its turn, and has no act and no work; its `ended` is as any other's.
 #![tactic(auto)]
 
 mod marks;

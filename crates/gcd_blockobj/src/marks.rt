@@ -4,9 +4,9 @@ ghost use Rattle.gcd_lists.specs.ListsView.{place_of};
 ghost use Rattle.gcd_blockobj.specs.MarksView.{marks_of, is_cancelled_at, with_cancelled, with_begun, with_ended, with_notify, with_fired, fires_at, awaited_by};
 
 use crate::room::mark_room;
-use gcd_bits::BitSet;
 use gcd_lists::Lists;
 use gcd_plan::{Blk, Obj, Plan};
+use gcd_sets::BitSet;
 use std::alloc::{AllocError, Global};
 use std::marker::Model;
 

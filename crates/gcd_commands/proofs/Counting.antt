@@ -12,9 +12,8 @@ use Rattle.gcd_plan.specs.declared.numbers.Blk.{Blk}
 use Rattle.gcd_event.specs.declared.event.Event.{Event}
 use Rattle.gcd_event.specs.declared.event.Event.TheVariants.{Accept}
 use Rattle.gcd_history.specs.History.{IsLawful}
-use Rattle.gcd_history.specs.Intake.{accepted, accepts}
-use Rattle.gcd_history.specs.Report.{blocks_of_sender}
-use Rattle.gcd_history.proofs.PublicBlockLaws.{accepts_in_order}
+use Rattle.gcd_history.specs.Intake.{accepted, accepts, blocks_of_sender}
+use Rattle.gcd_history.proofs.Public.BlockLaws.{accepts_in_order}
 
 -- ## Numbers, one for each sender
 

@@ -1,33 +1,32 @@
 -- What a run beside senders promises of their jobs, from what the pool has left and what was taken of each.
-use Rattle.std.proofs.Common.{◌≡◌, ◌∙◌, ◌+◌, ◌*◌, ◌/◌, ◌<◌, ◌≤◌, ◌++◌, ◌&&◌, not, ℕ, zero, suc, Bool, true, false, List, [], ◌∷◌, length, map, Option, Some, None, is_some, slice_get, unwrap_or, nat_le, reverse, ap, refl, sym, subst, arith, ⊎_elim}
+use Rattle.std.proofs.Common.{◌≡◌, ◌∙◌, ◌+◌, ◌*◌, ◌/◌, ◌<◌, ◌≤◌, ◌&&◌, not, ℕ, zero, suc, Bool, true, false, List, [], ◌∷◌, length, Option, Some, None, is_some, slice_get, unwrap_or, nat_le, reverse, ap, refl, sym, subst, arith, ⊎_elim}
 use Rattle.std.specs.Prelude.{IfSome}
-use Rattle.std.specs.List.{AllZip, list_any, range_with_len}
-use Rattle.std.proofs.lemmas.Bool.{and_left, and_parts, both_ways, cases_lt, leb-true, not-false, true_from_ne_false}
+use Rattle.std.specs.List.{AllZip, list_any}
+use Rattle.std.proofs.lemmas.Bool.{and_left, and_parts, both_ways, cases_lt, leb-true, true_from_ne_false}
 use Rattle.std.proofs.lemmas.List.{length-append}
 use Rattle.std.proofs.lemmas.List.FromFn.{get_or-map-range_with_len, length-map-range_with_len}
 use Rattle.std.proofs.lemmas.Option.{get_or_from_slice_get, slice_get_within}
 use Rattle.std.proofs.Math.Nat.{div-le_self}
 use Rattle.gcd_plan.specs.Kinds.{is_queue}
-use Rattle.gcd_plan.specs.Limits.{max_blocks, max_events, max_intake}
+use Rattle.gcd_plan.specs.Limits.{max_events, max_intake}
 use Rattle.gcd_plan.specs.PlanView.{PlanView, IntakeView}
 use Rattle.gcd_plan.specs.Validity.{IsPlan, IsIntake}
 use Rattle.gcd_plan.specs.declared.numbers.Blk.{Blk}
+use Rattle.gcd_plan.proofs.Places.{slice_get_kept}
 use Rattle.gcd_event.specs.declared.event.Event.{Event}
 use Rattle.gcd_history.specs.Ends.{IsQuiescent}
 use Rattle.gcd_history.specs.History.{is_block_cancelled, is_ended, is_intake_open}
 use Rattle.gcd_history.specs.Intake as of_intake
-use Rattle.gcd_history.specs.Report.{blocks_of_sender}
 use Rattle.gcd_history.proofs.Lists.{list_any-reverse}
-use Rattle.gcd_history.proofs.PublicLaws.{quiescent_is_rest}
+use Rattle.gcd_history.proofs.Public.Laws.{quiescent_is_rest}
 use Rattle.gcd_loop.specs.Ran.{RunsPlan}
-use Rattle.gcd_jobs.specs.BlockValues.{has_given}
 use Rattle.gcd_outer.specs.Outside.{ClockState, Seen}
 use Rattle.gcd_outer.specs.Tells.{PollerState}
 use Rattle.gcd_front.specs.Queue.{jobs_of}
 use Rattle.gcd_front.specs.Views.{FrontView, IntakeView as TakenView}
-use Rattle.gcd_workers.specs.CallersRuns.{AcceptsOf, OfSender}
+use Rattle.gcd_history.specs.Intake.{AcceptsOf, blocks_of_sender}
 use Rattle.gcd_workers.specs.declared.jobs_run.JobsRun.{JobsRun}
-use Rattle.gcd_commands.specs.Fronts.{HasIntake, HearsSenders, RanBeside, front_workers, share_of, value_or_0}
+use Rattle.gcd_commands.specs.Fronts.{HasIntake, HearsSenders, RanBeside, value_or_0}
 use Rattle.gcd_commands.specs.Senders.{HasRun, IsTakenOf, told, told_by}
 use Rattle.gcd_commands.specs.declared.front_job.Told.{Told}
 use Rattle.gcd_commands.proofs.Counting.{all_shares}
@@ -54,12 +53,6 @@ as_long r [] [] all = refl
 as_long r (x ∷ xs) (y ∷ ys) all = ap suc (as_long r xs ys all.1)
 as_long r [] (y ∷ ys) all = absurd all
 as_long r (x ∷ xs) [] all = absurd all
-
--- what stands in a list stands in one that goes on
-still_there : {X : Type 0} (xs ys : List X) (k : ℕ) (x : X) → slice_get xs k ≡ Some x → slice_get (xs ++ ys) k ≡ Some x
-still_there [] ys k x at = absurd cc
-still_there (z ∷ xs) ys zero x at = at
-still_there (z ∷ xs) ys (suc k) x at = still_there xs ys k x at
 
 -- ## Jobs
 
@@ -144,8 +137,8 @@ module _ (plan : PlanView) (blocks senders : ℕ) (f : FrontView) (i : TakenView
       let t = taken s low in
       let job = beside _ o.front (blocks_of_sender h s) k b o.given at in
       let given = job.is ended in
-      let first : slice_get (jobs_of s i.taken) k ≡ Some job.other = subst (λ (l : List Told). slice_get l k ≡ Some job.other) (sym o.split) (still_there o.front o.rest k job.other job.at) in
-      let sent : slice_get (told_by s (blocks / senders)) k ≡ Some job.other = subst (λ (l : List Told). slice_get l k ≡ Some job.other) (sym t.begins) (still_there (jobs_of s i.taken) t.rest k job.other first) in
+      let first : slice_get (jobs_of s i.taken) k ≡ Some job.other = subst (λ (l : List Told). slice_get l k ≡ Some job.other) (sym o.split) (slice_get_kept o.front o.rest k job.other job.at) in
+      let sent : slice_get (told_by s (blocks / senders)) k ≡ Some job.other = subst (λ (l : List Told). slice_get l k ≡ Some job.other) (sym t.begins) (slice_get_kept (jobs_of s i.taken) t.rest k job.other first) in
       value_is values b.0 given.0 given.1 ∙ given.2 ∙ told_at s (blocks / senders) k job.other sent
 
   value_of : (s k : ℕ) (b : Blk) → slice_get (blocks_of_sender h s) k ≡ Some b → is_ended h b.0 ≡ true → value_or_0 values b.0 ≡ 1000 * s + (k + 1)

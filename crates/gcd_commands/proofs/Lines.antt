@@ -1,26 +1,23 @@
 -- The lines of senders, one by one.
-use Rattle.std.proofs.Common.{◌≡◌, ◌∙◌, ◌+◌, ◌<◌, ◌++◌, ℕ, zero, suc, Bool, true, false, if◌then◌else◌, List, [], ◌∷◌, length, map, sum, sum_by, take, get_or, Option, Some, None, append-nil, append_assoc, zero-add, ap, refl, sym, arith, codes}
+use Rattle.std.proofs.Common.{◌≡◌, ◌∙◌, ◌+◌, ◌<◌, ◌++◌, ℕ, Bool, true, false, if◌then◌else◌, List, [], ◌∷◌, length, map, sum, sum_by, take, get_or, Option, ap, refl, sym, codes}
 use Rattle.std.specs.Prelude.{option_to_list}
 use Rattle.std.specs.Fmt.{decimal}
-use Rattle.std.specs.List.{cons_option, filter_map, flat_map, range_with_len}
+use Rattle.std.specs.List.{filter_map, flat_map, range_with_len}
 use Rattle.std.proofs.lemmas.List.{map-append, take_more}
 use Rattle.std.proofs.lemmas.List.Sums.{sum-map}
 use Rattle.std.proofs.Math.Path.{fun_ext}
 use Rattle.std.proofs.lemmas.List.Elements.{filter_map-append}
+use Rattle.gcd_facts.proofs.Options.{cons_option-nil}
 use Rattle.gcd_plan.specs.PlanView.{PlanView}
 use Rattle.gcd_plan.specs.declared.numbers.Blk.{Blk}
 use Rattle.gcd_event.specs.declared.event.Event.{Event}
 use Rattle.gcd_history.specs.History.{is_ended}
-use Rattle.gcd_history.specs.Intake.{accepted_of}
-use Rattle.gcd_history.specs.Report.{blocks_of_sender, ended_value, front_text, last_line, line_end, sender_line}
+use Rattle.gcd_history.specs.Intake.{accepted_of, blocks_of_sender}
+use Rattle.gcd_history.specs.Report.{ended_value, front_text, last_line, line_end, sender_line}
 use Rattle.gcd_history.specs.declared.state.State.{State}
 use Rattle.gcd_commands.specs.Fronts.{sender_text, value_or_0, values_at}
 
 -- ## The values of a sender
-
-one_or_none : (o : Option Blk) → cons_option o [] ≡ option_to_list o
-one_or_none None = refl
-one_or_none (Some b) = refl
 
 -- one event more
 pub values_more : (values : List (Option ℕ)) (journal : List Event) (s i : ℕ) (d : Event) (made after : List ℕ) → i < length journal
@@ -31,25 +28,11 @@ values_more values journal s i d made after within before more =
     let event : Event = get_or journal i d in
     let blocks : blocks_of_sender (take (i + 1) journal) s ≡ blocks_of_sender (take i journal) s ++ option_to_list (accepted_of s event) =
     ap (filter_map (accepted_of s)) (take_more journal i d within) ∙ filter_map-append (accepted_of s) (take i journal) (event ∷ [])
-    ∙ ap (λ l. blocks_of_sender (take i journal) s ++ l) (one_or_none (accepted_of s event)) in
+    ∙ ap (λ l. blocks_of_sender (take i journal) s ++ l) (cons_option-nil (accepted_of s event)) in
     more ∙ ap (λ l. l ++ values_at values s event) before
     ∙ sym (map-append value (blocks_of_sender (take i journal) s) (option_to_list (accepted_of s event))) ∙ ap (map value) (sym blocks)
 
 -- ## Lines
-
--- one line more
-lines_from : (f : ℕ → List ℕ) (a n : ℕ) → flat_map f (range_with_len a (n + 1)) ≡ flat_map f (range_with_len a n) ++ f (a + n)
-lines_from f a zero = append-nil (f a) ∙ ap f (omega arith)
-lines_from f a (suc n) =
-    let one : suc n + 1 ≡ suc (n + 1) = omega arith in
-    let last : (a + 1) + n ≡ a + suc n = omega arith in
-    ap (λ k. flat_map f (range_with_len a k)) one
-    ∙ ap (λ l. f a ++ l) (lines_from f (a + 1) n)
-    ∙ sym (append_assoc (f a) (flat_map f (range_with_len (a + 1) n)) (f ((a + 1) + n)))
-    ∙ ap (λ k. (f a ++ flat_map f (range_with_len (a + 1) n)) ++ f k) last
-
-pub lines_more : (f : ℕ → List ℕ) (n : ℕ) → flat_map f (range_with_len 0 (n + 1)) ≡ flat_map f (range_with_len 0 n) ++ f n
-lines_more f n = lines_from f 0 n ∙ ap (λ k. flat_map f (range_with_len 0 n) ++ f k) (zero-add n)
 
 lines_same : (f g : ℕ → List ℕ) → ((n : ℕ) → f n ≡ g n) → (ns : List ℕ) → flat_map f ns ≡ flat_map g ns
 lines_same f g same [] = refl

@@ -1,5 +1,5 @@
 -- What one load saw of a shelf, said of all loads of a call; and how many loads were made.
-use Rattle.std.proofs.Common.{None, ◌≡◌, ◌≤◌, ◌<◌, ◌∙◌, ℕ, zero, suc, List, [], ◌∷◌, ◌++◌, ◌+◌, length, map, take, get_or, Vec, Global, Option, Some, option_map, slice_get, refl, ap, sym, subst, inl, inr, arith, zero-add}
+use Rattle.std.proofs.Common.{None, ◌≡◌, ◌≤◌, ◌<◌, ◌∙◌, ℕ, zero, suc, List, [], ◌∷◌, ◌++◌, ◌+◌, length, map, take, get_or, Vec, Global, Option, Some, option_map, refl, ap, sym, subst, inl, inr, arith, zero-add}
 use Rattle.std.specs.Prelude.{Result, Ok, Err, IfErr, OnErr}
 use Rattle.std.specs.Result.{IsErrAnd}
 use Rattle.std.specs.String.{string_bytes}
@@ -86,29 +86,6 @@ next_file s files i item contents within is loaded = record {
   next = slice_get-map file_view files i ∙ ap (option_map file_view) (slice_get-get_or files i item within ∙ ap Some (sym is));
 }
 
--- a file among those that were loaded was loaded
-pub loaded_at : (s : ShelfSeen) (files : List FileView) (contents : List Bytes) (f : ℕ) (file : FileView) → AreLoaded s files contents
-    → slice_get files f ≡ Some file → (bytes : Bytes) × IsLoaded s file.path max_file_bytes bytes
-loaded_at s [] [] f file loaded at = absurd cc
-loaded_at s (one ∷ files) (bytes ∷ contents) zero file loaded at =
-    let same : one ≡ file = cc in
-    (bytes, subst (λ (x : FileView). IsLoaded s x.path max_file_bytes bytes) same loaded.0)
-loaded_at s (one ∷ files) (bytes ∷ contents) (suc f) file loaded at = loaded_at s files contents f file loaded.1 at
-loaded_at s [] (bytes ∷ contents) f file loaded at = absurd loaded
-loaded_at s (one ∷ files) [] f file loaded at = absurd loaded
-
-slice_get_before : (files : List FileView) (f g : ℕ) → f < g → slice_get (take g files) f ≡ slice_get files f
-slice_get_before files f zero before = absurd (omega arith)
-slice_get_before [] f (suc g) before = refl
-slice_get_before (file ∷ files) zero (suc g) before = refl
-slice_get_before (file ∷ files) (suc f) (suc g) before = slice_get_before files f g (omega arith)
-
--- a file before the next was loaded
-pub loaded_before : (s : ShelfSeen) (files : List FileView) (g : ℕ) (next : FileView) → IsNextFile s files g next → (f : ℕ) (file : FileView)
-    → f < g → slice_get files f ≡ Some file → (bytes : Bytes) × IsLoaded s file.path max_file_bytes bytes
-loaded_before s files g next is f file before at =
-    loaded_at s (take g files) is.contents f file is.before (slice_get_before files f g before ∙ at)
-
 -- as many contents as files
 pub loaded_count : (s : ShelfSeen) (files : List FileView) (contents : List Bytes) → AreLoaded s files contents → length contents ≡ length files
 loaded_count s [] [] loaded = refl
@@ -171,14 +148,6 @@ count_sum zero n count = ap (λ k. count_after k count) (sym (zero-add n))
 count_sum (suc m) n count =
     let e : suc (m + n) ≡ suc m + n = omega arith in
     ap next_count (count_sum m n count) ∙ ap (λ k. count_after k count) e
-
-next_few : (count : ℕ) → next_count count ≤ count + 1
-next_few count = omega arith
-
--- a count goes up by no more than the loads
-pub count_few : (n count : ℕ) → count_after n count ≤ count + n
-count_few zero count = omega arith
-count_few (suc n) count = let few = count_few n count in let one = next_few (count_after n count) in omega arith
 
 -- the first load of a call, and the loads after it
 pub made_later : (first later whole : ShelfSeen) → whole.tells ≡ first.tells → whole.tells ≡ later.tells

@@ -1,59 +1,28 @@
 -- Each lawful run of a valid plan keeps the pages of strips and block objects.
-use Rattle.std.proofs.Common.{◌≡◌, ℕ, zero, suc, ◌+◌, ◌<◌, ◌==◌, leb, ltb, Bool, true, false, not, ◌&&◌, ◌||◌, List, [], ◌∷◌, map, take, drop, reverse, Some, None, is_some, inl, inr, refl, ap, sym, ◌∙◌, subst, arith}
+use Rattle.std.proofs.Common.{◌≡◌, ℕ, zero, suc, ◌+◌, ◌<◌, leb, ltb, Bool, true, List, [], ◌∷◌, map, take, drop, Some, None, is_some, refl, ap, sym, ◌∙◌, subst, arith}
 use Rattle.std.specs.List.{All, slice_get, list_any, range_with_len}
-use Rattle.std.specs.Option.{option_map, option_map_or, option_and_then, option_to_list}
-use Rattle.std.proofs.lemmas.Bool.{and_parts, and_from, or_right, false≢true, eqb-true, cases_Bool, le-leb, lt-ltb}
-use Rattle.std.proofs.lemmas.List.Folds.{list_any_at}
+use Rattle.std.specs.Option.{option_map, option_map_or, option_and_then}
+use Rattle.std.proofs.lemmas.Bool.{and_from, or_right, le-leb, lt-ltb}
 use Rattle.std.proofs.lemmas.List.FromFn.{length-map-range_with_len}
 use Rattle.std.proofs.lemmas.Option.{same_Some, slice_get-map, slice_get_within, get_or_from_slice_get}
-use Rattle.gcd_plan.specs.Made.{is_within, is_made, intake_span, strip_block, strip_blocks, strip_span, blocks_in}
+use Rattle.gcd_facts.proofs.Lists.{any_taken}
+use Rattle.gcd_plan.specs.Made.{is_within, is_made, strip_block, strip_blocks, strip_span, blocks_in}
 use Rattle.gcd_plan.specs.PlanView.{PlanView, BlkView, StripView, work_of}
-use Rattle.gcd_plan.specs.Validity.{IsPlan, is_act}
-use Rattle.gcd_plan.specs.declared.act.Act.{Act}
-use Rattle.gcd_plan.specs.declared.act.Act.TheVariants.{CancelBlock}
+use Rattle.gcd_plan.specs.Validity.{IsPlan}
 use Rattle.gcd_plan.specs.declared.numbers.Blk.{Blk}
 use Rattle.gcd_plan.proofs.Sums.{list_any-from_count_by}
+use Rattle.gcd_plan.proofs.Spans.{made_of_strip}
 use Rattle.gcd_event.specs.declared.event.Event.{Event}
-use Rattle.gcd_history.specs.Cancelled as cancelled
-use Rattle.gcd_history.specs.History.{IsLawful, is_block_cancelled, is_ended}
+use Rattle.gcd_history.specs.History.{IsLawful, is_ended}
 use Rattle.gcd_history.specs.Laws.{RunsBetween}
-use Rattle.gcd_history.specs.Runs.{ends, act_of}
+use Rattle.gcd_history.specs.Runs.{ends}
 use Rattle.gcd_history.specs.Values.{value_of}
-use Rattle.gcd_history.proofs.Lists.{any_map, any_right, list_any-reverse}
-use Rattle.gcd_history.proofs.SubmittedOnNodes.{recorded_fits}
-use Rattle.gcd_history.proofs.PublicBlockLaws.{applied_strips_have_run, cancelled_blocks_do_nothing, cancelled_blocks_may_end, notified_once}
+use Rattle.gcd_history.proofs.Lists.{list_any-reverse}
+use Rattle.gcd_history.proofs.Public.BlockLaws.{applied_strips_have_run, cancelled_blocks_do_nothing, cancelled_blocks_may_end, notified_once}
+use Rattle.gcd_history.proofs.Blocks.Uncancelled.{uncancelled}
 use Rattle.gcd_journal.proofs.PlainNames.{block_at, get_made}
 use Rattle.gcd_outer.specs.Outside.{Bytes}
 use Rattle.gcd_commands.specs.Pages.{KeepsPages, StripsAreTold}
-
--- ## A block that the plan makes is not cancelled
-
--- no act of a valid plan cancels it
-uncancelled_by : (plan : PlanView) (act : Act) (b : ℕ) → is_act plan act ≡ true → is_made plan b ≡ true → cancelled.cancels_block b (Some act) ≡ false
-uncancelled_by plan (CancelBlock c) b fits made =
-    elim (cases_Bool (c.0 == b)) [
-      | inl same ↦
-          let apart = (and_parts _ (not (is_made plan c.0)) (and_parts _ (_ && not (is_made plan c.0)) fits).1).1 in
-          let is : is_made plan c.0 ≡ true = ap (is_made plan) (eqb-true c.0 b same) ∙ made in
-          absurd (false≢true (sym (ap not is) ∙ apart))
-      | inr other ↦ other
-    ]
-uncancelled_by plan _ b fits made = refl
-
-uncancelled_at : (plan : PlanView) (e : Event) (b : ℕ) → IsPlan plan → is_made plan b ≡ true → cancelled.cancels_block b (act_of plan e) ≡ false
-uncancelled_at plan e b valid made =
-    elim (act_of plan e) as (λ o. act_of plan e ≡ o → cancelled.cancels_block b o ≡ false) [
-      | None ↦ λ at. refl
-      | Some act ↦ λ at. uncancelled_by plan act b (recorded_fits plan e act valid at) made
-    ] refl
-
-uncancelled_after : (plan : PlanView) (past : List Event) (b : ℕ) → IsPlan plan → is_made plan b ≡ true → cancelled.is_block_cancelled plan past b ≡ false
-uncancelled_after plan [] b valid made = refl
-uncancelled_after plan (e ∷ past) b valid made = rw (uncancelled_after plan past b valid made, uncancelled_at plan e b valid made) refl
-
-uncancelled : (plan : PlanView) (h : List Event) (b : ℕ) → IsPlan plan → is_made plan b ≡ true → is_block_cancelled plan h b ≡ false
-unfolding is_block_cancelled
-uncancelled plan h b valid made = uncancelled_after plan (reverse h) b valid made
 
 -- ## A block that has run in between has ended
 
@@ -62,21 +31,12 @@ any_drop p zero xs h = h
 any_drop p (suc n) [] h = h
 any_drop p (suc n) (x ∷ xs) h = or_right (p x) (list_any p xs) (any_drop p n xs h)
 
-any_take : {A : Type 0} (p : A → Bool) (n : ℕ) (xs : List A) → list_any p (take n xs) ≡ true → list_any p xs ≡ true
-any_take p zero xs h = cc
-any_take p (suc n) [] h = h
-any_take p (suc n) (x ∷ xs) h =
-    elim (p x) as (λ v. (v || list_any p (take n xs)) ≡ true → (v || list_any p xs) ≡ true) [
-      | true ↦ λ k. refl
-      | false ↦ λ k. any_take p n xs k
-    ] h
-
 ended_between : (h : List Event) (from to : ℕ) (b : Blk) → RunsBetween h from to b → is_ended h b.0 ≡ true
 unfolding is_ended
 ended_between h from to b runs =
     let once = runs.ends_once in
     list_any-reverse (ends b.0) h
-    ∙ any_take (ends b.0) to h (any_drop (ends b.0) from (take to h) (list_any-from_count_by (ends b.0) (drop from (take to h)) (omega (arith, once))))
+    ∙ any_taken (ends b.0) to h (any_drop (ends b.0) from (take to h) (list_any-from_count_by (ends b.0) (drop from (take to h)) (omega (arith, once))))
 
 -- what holds of each holds of the one at a place
 all_get : {A : Type 0} (P : A → Type 0) (xs : List A) (i : ℕ) (x : A) → All P xs → slice_get xs i ≡ Some x → P x
@@ -88,13 +48,6 @@ all_get P xs i x all at = subst P (get_or_from_slice_get xs i x x at) (all i x (
 pub record IsStripBlock (plan : PlanView) (b : Blk) : Type 0 where
   pub made : is_made plan b.0 ≡ true
   pub works : is_some (work_of plan b.0) ≡ true
-
-strip_is_made : (plan : PlanView) (b a : ℕ) (s : StripView) → slice_get plan.strips a ≡ Some s → is_within b (strip_span s) ≡ true → is_made plan b ≡ true
-strip_is_made plan b a s at within =
-    any_right (is_within b) (map intake_span (option_to_list plan.intake)) (map strip_span plan.strips)
-    (any_map (is_within b) strip_span plan.strips
-    (list_any_at (λ t. is_within b (strip_span t)) plan.strips a s (slice_get_within plan.strips a s at)
-    (ap (λ t. is_within b (strip_span t)) (get_or_from_slice_get plan.strips a s s at) ∙ within)))
 
 blocks_from : ℕ → ℕ → List Blk
 blocks_from first count = map (λ n. record { 0 = n }) (range_with_len first count)
@@ -115,7 +68,7 @@ module _ (plan : PlanView) (valid : IsPlan plan) where
   strip_number a s b at within =
       let is = valid.strips a s at in
       record {
-        made = strip_is_made plan b a s at within;
+        made = made_of_strip plan a s at b within;
         works = ap (λ o. is_some (option_and_then (λ (c : BlkView). c.work) o)) (block_at plan (strip_span s) (strip_block s) 0 b within is.blocks);
       }
 

@@ -7,7 +7,7 @@ use Rattle.gcd_history.specs.declared.state.State.{State}
 use Rattle.gcd_history.specs.declared.state.State.TheVariants.{Live}
 use Rattle.gcd_outer.specs.Outside.{Bytes, ClockState, Seen}
 use Rattle.gcd_outer.specs.Tells.{PollerState}
-use Rattle.gcd_loop.specs.Followed.{AcceptsNone}
+use Rattle.gcd_history.specs.Intake.{AcceptsNone}
 use Rattle.gcd_workers.specs.Ran.{RunsOverFiles}
 use Rattle.gcd_commands.specs.Runs.{Ran}
 

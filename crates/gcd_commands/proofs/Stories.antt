@@ -3,17 +3,14 @@ use Rattle.std.proofs.Common.{◌∙◌, ◌+◌, ℕ, length, ap, inl, inr, ari
 use Rattle.gcd_outer.specs.Outside.{Bytes, ShelfSeen}
 use Rattle.gcd_words.specs.Asked.{RunAsked}
 use Rattle.gcd_commands.specs.Calls.{Calls, InputsSeen, only_loads}
-use Rattle.gcd_commands.specs.Checks.{CheckEnds, IsCheckCount, StopsCheck}
-use Rattle.gcd_commands.specs.Checks.CheckEnds.{stopped as check_stopped, judged}
+use Rattle.gcd_commands.specs.Checks.{IsCheckCount, StopsCheck}
 use Rattle.gcd_commands.specs.Checks.StopsCheck.{at_script as check_at_script, at_journal}
-use Rattle.gcd_commands.specs.End.{End}
 use Rattle.gcd_commands.specs.Fronts.{IsFrontCount, StopsFront}
 use Rattle.gcd_commands.specs.Fronts.IsFrontCount.{of_script as count_of_script, of_files}
 use Rattle.gcd_commands.specs.Fronts.StopsFront.{at_script as front_at_script, at_intake, at_file as front_at_file, wanting as front_wanting}
 use Rattle.gcd_commands.specs.Loads.StopsReady.{at_script, at_file}
-use Rattle.gcd_commands.specs.Runs.{RunCalls, RunEnds, StopsRun}
+use Rattle.gcd_commands.specs.Runs.{RunCalls, StopsRun}
 use Rattle.gcd_commands.specs.Runs.RunCalls.{of_script, of_file, of_listen, of_run}
-use Rattle.gcd_commands.specs.Runs.RunEnds.{stopped, ran}
 use Rattle.gcd_commands.specs.Runs.StopsRun.{unready, at_listen, wanting}
 use Rattle.gcd_commands.specs.declared.stop.Stop.{Stop}
 use Rattle.gcd_commands.proofs.Loading.{file_within}
@@ -26,11 +23,6 @@ stops_calls seen asked calls stop (unready n (at_file plan f plan_is stops two) 
 stops_calls seen asked calls stop (at_listen plan contents address ready listen failed stop_is is) =
     of_listen plan address ready.plan_is listen is
 stops_calls seen asked calls stop (wanting plan contents ready stop_is is) = of_run plan ready.plan_is is
-
--- the calls of a run
-pub run_calls : (seen : InputsSeen) (asked : RunAsked) (calls : Calls) (end : End) → RunEnds seen asked calls end → RunCalls seen asked calls
-run_calls seen asked calls end (stopped stop why is) = stops_calls seen asked calls stop why
-run_calls seen asked calls end (ran plan contents ready is reported) = of_run plan ready.plan_is is
 
 -- the loads of `front`
 pub front_stops_count : (shelf : ShelfSeen) (script : Bytes) (n : ℕ) (stop : Stop) → StopsFront shelf script n stop → IsFrontCount shelf script n
@@ -45,7 +37,3 @@ front_stops_count shelf script n stop (front_wanting plan contents ready is many
 pub stops_count : (shelf : ShelfSeen) (script journal : Bytes) (n : ℕ) (stop : Stop) → StopsCheck shelf script journal n stop → IsCheckCount n
 stops_count shelf script journal n stop (check_at_script why one) = inl one
 stops_count shelf script journal n stop (at_journal plan plan_is why two) = inr two
-
-pub check_count : (shelf : ShelfSeen) (script journal : Bytes) (n : ℕ) (end : End) → CheckEnds shelf script journal n end → IsCheckCount n
-check_count shelf script journal n end (check_stopped stop why is) = stops_count shelf script journal n stop why
-check_count shelf script journal n end (judged plan h plan_is read is two) = inr two

@@ -7,11 +7,10 @@ use Rattle.gcd_plan.specs.declared.numbers.Blk.{Blk}
 use Rattle.gcd_event.specs.declared.event.Event.{Event}
 use Rattle.gcd_history.specs.Ends.{IsQuiescent}
 use Rattle.gcd_history.specs.History.{is_ended}
-use Rattle.gcd_history.specs.Intake.{accepted_of}
-use Rattle.gcd_history.specs.Report.{blocks_of_sender, front_text, line_end}
+use Rattle.gcd_history.specs.Intake.{accepted_of, AcceptsOf, blocks_of_sender}
+use Rattle.gcd_history.specs.Report.{front_text, line_end}
 use Rattle.gcd_outer.specs.Outside.{Bytes, ClockState, Seen, ShelfSeen}
 use Rattle.gcd_outer.specs.Tells.{PollerState}
-use Rattle.gcd_workers.specs.CallersRuns.{AcceptsOf}
 use Rattle.gcd_workers.specs.declared.jobs_run.JobsRun.{JobsRun}
 use Rattle.gcd_commands.specs.Calls.{InputsSeen}
 use Rattle.gcd_commands.specs.End.{End, stop_end}

@@ -14,7 +14,7 @@ use Rattle.gcd_history.specs.Laws.{AppliedStripsHaveRun, CancelledBlocksDoNothin
 use Rattle.gcd_history.specs.Report.{line_end, result_line}
 use Rattle.gcd_history.specs.Runs.{act_at}
 use Rattle.gcd_history.specs.Values.{value_of}
-use Rattle.gcd_apply.specs.StripValues.{strip_values}
+use Rattle.gcd_jobs.specs.StripValues.{strip_values}
 use Rattle.gcd_outer.specs.Outside.{Bytes}
 
 -- strip a was applied, and its caller has gone on after that (dispatch_apply(3))

@@ -11,7 +11,7 @@ use Rattle.gcd_outer.specs.Outside.{Bytes, ClockState, Seen}
 use Rattle.gcd_outer.specs.Tells.{PollerState}
 use Rattle.gcd_script.specs.BigScript.{big_script}
 use Rattle.gcd_script.specs.Faults.{IsScriptOf}
-use Rattle.gcd_loop.specs.Followed.{AcceptsNone}
+use Rattle.gcd_history.specs.Intake.{AcceptsNone}
 use Rattle.gcd_loop.specs.Ran.{RunsPlan}
 use Rattle.gcd_words.specs.Asked.{RunAsked}
 use Rattle.gcd_commands.specs.Calls.{Calls, InputsSeen, PollerFailed, only_loads, failed_listen, with_listen}

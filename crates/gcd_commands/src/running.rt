@@ -8,7 +8,7 @@ ghost use Rattle.gcd_history.specs.Ends.{HasState};
 ghost use Rattle.gcd_history.specs.Values.{value_of};
 ghost use Rattle.gcd_jobs.specs.BlockValues.{has_given};
 ghost use Rattle.gcd_history.specs.declared.state.State.{State};
-ghost use Rattle.gcd_loop.specs.Followed.{AcceptsNone};
+ghost use Rattle.gcd_history.specs.Intake.{AcceptsNone};
 ghost use Rattle.gcd_machine.specs.Stands.{StandsFor};
 ghost use Rattle.gcd_outer.specs.Outside.{shelf_seen};
 ghost use Rattle.gcd_turn.specs.Asked.{KeepsListens};

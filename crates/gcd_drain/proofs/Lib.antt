@@ -1,4 +1,3 @@
-pub mod Begins
 pub mod Placed
 pub mod Still
 pub mod ShutChains

@@ -8,7 +8,7 @@ use Rattle.gcd_tree.specs.IsTree.{IsTree}
 use Rattle.gcd_hold.specs.HoldsView.{HoldsView}
 use Rattle.gcd_drain.specs.DrainsView.{DrainsView}
 use Rattle.gcd_drain.specs.Rule.{is_free_by, excludes_at}
-use Rattle.gcd_drain.specs.Shut.{is_shut_by, MarksView, answer_of, AreSound}
+use Rattle.gcd_drain.specs.Shut.{is_shut_by, KnownChainsView, answer_of, AreSound}
 use Rattle.gcd_tree.proofs.Chains.{chain_at-root, chain_at-next}
 
 -- two tests of which one passes at the first, or somewhere behind
@@ -59,11 +59,11 @@ module _ (drains : DrainsView) (tree : TreeView) (holds : HoldsView) where
       ∙ sym (shut-next ok o lt away ∙ ap (λ b. b || is_shut_by drains tree holds (target_at tree o)) (sym free))
 
   -- where nothing is known, what is known is so
-  pub nothing_known : (marks : MarksView) → ((o : ℕ) → answer_of marks o ≡ None) → AreSound drains tree holds marks
+  pub nothing_known : (marks : KnownChainsView) → ((o : ℕ) → answer_of marks o ≡ None) → AreSound drains tree holds marks
   nothing_known marks unknown o shut told = absurd (none-some shut (sym (unknown o) ∙ told))
 
   -- an answer that is so may be added
-  pub still_sound : (marks marks' : MarksView) (o : ℕ) (shut : Bool) → AreSound drains tree holds marks → shut ≡ is_shut_by drains tree holds o
+  pub still_sound : (marks marks' : KnownChainsView) (o : ℕ) (shut : Bool) → AreSound drains tree holds marks → shut ≡ is_shut_by drains tree holds o
       → answer_of marks' o ≡ Some shut → ((k : ℕ) → k ≢ o → answer_of marks' k ≡ answer_of marks k) → AreSound drains tree holds marks'
   still_sound marks marks' o shut sound is there others x answer told =
       elim (cases_eq x o) [

@@ -25,24 +25,26 @@
 //! | `Behind` | another block is first on its node |
 //! | `NotFree` | an object of its node's chain is inactive, has a hold above 0, or is about to change its target |
 //! | `Excluded` | a run is open beneath a serial queue or source of the chain |
-//! | `Fenced` | the node is a concurrent queue other than `root`; a barrier is open there, or it is one and a run is open there |
+//! | `Fenced` | the node is a concurrent queue other than `root`; a barrier is open there, or it is one and a run is open there. Queues that have the node as target are not asked |
 //!
 //! `may_run` tells of `NotFree` and `Excluded`, over the chain of the source. Both walk the chain at most once for
-//! freedom and once for exclusion. A caller that asks of many nodes asks `is_shut` with one [`Marks`]: each object is then
+//! freedom and once for exclusion. A caller that asks of many nodes asks `is_shut` with one [`KnownChains`]: each object is then
 //! looked at once in all, and a block that is first on its node may start exactly where the chain is not shut and the block
 //! not fenced (`proofs/Starts`). Nothing else costs more with a larger plan. `new` and `copied` take all memory, each array at
 //! once; every other call takes none and cannot fail.
 //!
-//! The rule is the plan's (`StartRule` of `gcd_plan`), and `specs/Rule` says what the parts tell it. The crate knows no
-//! history: that the parts hold what a history says is for its callers. Whether something is pending at a source is not
-//! asked here, and of `main`, which waits on no node, nothing is told.
+//! The tests of exclusion and of barriers, and the order of the reasons, are `StartRule` of `gcd_plan`. Which blocks wait in front of
+//! one is `gcd_history`'s to define, and `gcd_lists` tells it here. `specs/Rule` says what each part tells. The crate knows no history:
+//! that the parts hold what a history says is for its callers. Whether something is pending at a source is not asked here, and of
+//! `main`, which waits on no node, nothing is told. `gcd_machine` asks it before each Start and Deliver. A `Drain` of `gcd_steal` is another
+//! thing: the right of one worker to start runs on a node. It spares workers the same attempt, and no rule rests on it.
 #![tactic(auto)]
 
 mod drains;
 mod free;
-mod marks;
+mod known_chains;
 mod shut;
 
 pub use drains::Drains;
 pub use free::is_chain_held;
-pub use marks::Marks;
+pub use known_chains::KnownChains;

@@ -5,7 +5,7 @@ ghost use Rattle.gcd_drain.specs.Shut.{is_shut_by, AreSound};
 
 use crate::drains::Drains;
 use crate::free::is_free;
-use crate::marks::Marks;
+use crate::known_chains::KnownChains;
 use gcd_hold::Holds;
 use gcd_plan::Obj;
 use gcd_tree::Tree;
@@ -28,7 +28,7 @@ impl Drains {
     ///
     /// The marks say what is known of chains, and the answers of this call are added to them. So calls with the same marks
     /// look at each object at most once in all, beside one look at a mark for each call. The parts are of one plan.
-    pub fn is_shut(&self, tree: &Tree, holds: &Holds, node: Obj, marks: &mut Marks) -> bool
+    pub fn is_shut(&self, tree: &Tree, holds: &Holds, node: Obj, marks: &mut KnownChains) -> bool
         requires node { node.0 < length self.now.barriers }
         requires tree { length tree.now.targets ≡ length self.now.barriers }
         requires holds { length holds.now.holds ≡ length self.now.barriers }

@@ -10,6 +10,7 @@ use lib.ListN.{get_elem?}
 use Rattle.atomic_table.proofs.Lists.{at_longer, at_last}
 use Rattle.atomic_table.specs.Seated.{TableId}
 use Rattle.crossbeam_queue.specs.Passes.{view}
+use Rattle.gcd_facts.proofs.Elements.{only_at}
 use Rattle.gcd_front.specs.declared.front.Front.TheInside as front
 use Rattle.gcd_front.specs.declared.intake.Intake.TheInside as intake
 use Rattle.gcd_front.specs.declared.ledger.Account.{Account}
@@ -20,7 +21,6 @@ use Rattle.gcd_front.specs.Queue.{ledger, taking, hearing, jobs_of, HasAccount, 
 use Rattle.gcd_front.specs.Shapes.{front_view, intake_view, IsFront, IsIntake}
 use Rattle.gcd_front.specs.Fronts.{LearnsMore, first_mouths}
 use Rattle.gcd_front.specs.Views.{FrontId, FrontView, MouthView, IntakeView, mouth_of}
-use Rattle.gcd_front.proofs.Lists.{only_at}
 use Rattle.gcd_front.proofs.Queueing.{in_either}
 
 module _ {S : Type 0} where

@@ -1,4 +1,3 @@
-mod Lists
 mod Queueing
 mod Noting
 mod Hearing

@@ -4,7 +4,7 @@ use Rattle.std.specs.Prelude.{Option, Some, None, IfSome}
 use Rattle.std.proofs.lemmas.Option.{none-some, same_Some}
 use Rattle.std.proofs.lemmas.List.{set-get_or, length-replicate}
 use mathlib.Core.Logic.{dite}
-use mathlib.Core.Option.{some, none, some-injective, some-ne-none}
+use mathlib.Core.Option.{some, none, some-injective}
 use mathlib.Core.Option as maybe
 use native.Mathlib.Decide.{ℕ_discrete}
 use prog.Atomic.{either}
@@ -12,9 +12,10 @@ use lib.ListN.{get_elem?}
 use Rattle.atomic_table.specs.Table.{State, opening, Act, Valid, carried_after, rest, takes, gives, keeps, Allows, Splits, stepped, step}
 use Rattle.atomic_table.specs.Seated.{TableId}
 use Rattle.atomic_table.proofs.Lists.{at_set, set_here, set_else, at_longer, exchanged}
+use Rattle.gcd_facts.proofs.Elements.{at_end, only_at, in_range}
+use Rattle.gcd_facts.proofs.Truth.{not_both}
 use Rattle.gcd_front.specs.declared.notes.Sight.{Sight}
 use Rattle.gcd_front.specs.Notes.{Note, Mine, sight, listening, handed_over, relieved, hearing_next, finding_open, IsNote, HasNote, HasMouth, KnowsNotes, AtNotes, MakingTells, LayingTells, LookingTells}
-use Rattle.gcd_front.proofs.Lists.{off, at_end, only_at, in_range}
 
 -- what is told of a sender is told of each that has the word
 told_at : (P : ℕ → Type 0) (s : ℕ) → P s → (t : ℕ) → s + 1 ≡ t + 1 → P t
@@ -197,7 +198,7 @@ module _ {S : Type 0} where
     mouths = λ t is. let x = mouth_kept st.views id t v left at (λ h. h) (r.mouths t is) in (x.0, x.1, at_longer cut (right ∷ []) x.0 x.1 x.2, x.3);
     knows = λ j u e. ⊎_elim
         (λ (was : get_elem? cut j ≡ some u). ⊎_elim
-        (λ (t : (j ≡ id) × (left ≡ u)). knows_as refl t.1 (record { queue_is = k.queue_is; listens = λ h. off h refl; sender = k.sender }))
+        (λ (t : (j ≡ id) × (left ≡ u)). knows_as refl t.1 (record { queue_is = k.queue_is; listens = λ h. not_both h refl; sender = k.sender }))
         (λ (t : (j ≢ id) × (get_elem? st.views j ≡ some u)). let f = r.knows j u t.1 in record { queue_is = f.queue_is; listens = λ h. absurd (t.0 ((f.listens h).0 ∙ sym m.0)); sender = f.sender })
         (at_set st.views id j left u was))
         (λ (t : (j ≡ length cut) × (right ≡ u)). knows_as refl t.1 (record { queue_is = k.queue_is; listens = λ _. (t.0, m.1, m.2); sender = λ s h. absurd (none-some s h) }))

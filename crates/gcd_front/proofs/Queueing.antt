@@ -9,11 +9,12 @@ use native.Mathlib.Decide.{ℕ_discrete}
 use lib.ListN.{get_elem?}
 use Rattle.crossbeam_queue.specs.Fifo.{Pushes, Pops, Forks, Merges, Learns as Learnt}
 use Rattle.atomic_table.proofs.Lists.{at_set, set_again}
+use Rattle.gcd_facts.proofs.Elements.{only_at, at_end, none_there}
+use Rattle.gcd_facts.proofs.Truth.{not_both}
 use Rattle.gcd_front.specs.declared.ledger.Parcel.{Parcel}
 use Rattle.gcd_front.specs.declared.ledger.Account.{Account}
 use Rattle.gcd_front.specs.declared.ledger.Ledger.{Ledger}
 use Rattle.gcd_front.specs.Queue.{jobs_of, Numbered, ledger, opening, told, lending, newcomer, account_of, shutting, hearing, Knows, InTurn, Sends, Takes, Saw, TakenFirst, AllTaken, Learns}
-use Rattle.gcd_front.proofs.Lists.{off, only_at, at_end, none_there}
 
 some_is : {A : Type 0} {x y : A} → Some x ≡ Some y → x ≡ y
 some_is {A} {x} {y} e = same_Some x y e
@@ -161,7 +162,7 @@ module _ {S : Type 0} where
             (λ (t : (j ≢ port) × (get_elem? views j ≡ some u)). let f = r.knows j u t.1 in record { takes = λ h. absurd (t.0 ((f.takes h).0 ∙ sym my.0)); sends = sent j u f; shut = told_of j u f })
             (at_set views port j left u was))
             (λ (t : (j ≡ length cut) × (right ≡ u)). known_as (sym t.0) t.1 (record {
-              takes = λ h. off h refl;
+              takes = λ h. not_both h refl;
               sends = λ s h. let same : s ≡ r.made = sym (some_is h) ∙ my.2 in (ap (λ (b : Bool). cond b (Some (length cut)) (r.mouth s)) (eq-eqb s r.made same), omega (arith, same), sym (r.unmade s (omega (arith, same))));
               shut = λ i a h. none_there i a h;
             }))
@@ -177,7 +178,7 @@ module _ {S : Type 0} where
       (λ ne. ap (λ (b : Bool). cond b None (r.mouth t)) (ne_eqb t s ne) ∙ h) in
       let whole : told (account_of (Some s) v.sent) ≡ half = ap (λ (o : Option ℕ). told (account_of o v.sent)) (sym mine) in
       let both : (j : ℕ) → Knows r.taken items r.taker r.made mouth j (told (account_of (Some s) v.sent)) = λ j. record {
-        takes = λ h. off h refl;
+        takes = λ h. not_both h refl;
         sends = λ t h. absurd (none-some t h);
         shut = λ i a h. let o = only_at (record { sender = s; sent = v.sent }) a i h in
             subst (λ (b : Account S). (mouth b.sender ≡ None) × (b.sender < r.made) × (b.sent ≡ jobs_of b.sender (r.taken ++ items))) o.1 (ap (λ (b : Bool). cond b None (r.mouth s)) (eq-eqb s s refl), my.1, my.2);
@@ -214,7 +215,7 @@ module _ {S : Type 0} where
     senders = r.senders;
     knows = λ j u e. ⊎_elim
         (λ (was : get_elem? cut j ≡ some u). r.knows j u (subst (λ (l : List (Ledger S)). get_elem? l j ≡ some u) (set_again views port v at) was))
-        (λ (t : (j ≡ length cut) × (right ≡ u)). known_as refl t.1 (record { takes = λ h. off h refl; sends = λ s h. absurd (none-some s h); shut = k.shut }))
+        (λ (t : (j ≡ length cut) × (right ≡ u)). known_as refl t.1 (record { takes = λ h. not_both h refl; sends = λ s h. absurd (none-some s h); shut = k.shut }))
         (at_end cut right u j e);
   }
 
@@ -230,7 +231,7 @@ module _ {S : Type 0} where
         unmade = r.unmade;
         senders = r.senders;
         knows = λ j u e. ⊎_elim
-            (λ (t : (j ≡ other) × (none ≡ u)). known_as refl t.1 (record { takes = λ h. off h refl; sends = λ s h. absurd (none-some s h); shut = λ i a h. none_there i a h }))
+            (λ (t : (j ≡ other) × (none ≡ u)). known_as refl t.1 (record { takes = λ h. not_both h refl; sends = λ s h. absurd (none-some s h); shut = λ i a h. none_there i a h }))
             (λ (t : (j ≢ other) × (get_elem? cut j ≡ some u)). ⊎_elim
             (λ (q : (j ≡ port) × (both ≡ u)). known_as (sym q.0) q.1 (record { takes = k.takes; sends = k.sends; shut = λ i a h. ⊎_elim (λ (x : get_elem? v.shut i ≡ some a). k.shut i a x) (λ (x : (m : ℕ) × (get_elem? w.shut m ≡ some a)). theirs.shut x.0 a x.1) (in_either v.shut w.shut i a h) }))
             (λ (q : (j ≢ port) × (get_elem? views j ≡ some u)). r.knows j u q.1)

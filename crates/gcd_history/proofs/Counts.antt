@@ -1,7 +1,7 @@
 -- What is counted, kept and found in lists: what the lemmas of std and of the crates below lack.
 use Rattle.std.proofs.Common.{◌≡◌, ℕ, zero, suc, ◌+◌, ◌<◌, ◌≤◌, Bool, true, false, cond, List, [], ◌∷◌, length, get_or, filter, Some, None, find, refl, ap, ◌∙◌, arith, ⊎_elim}
-use Rattle.std.specs.List.{slice_get, list_any, sum_by, count_by}
-use Rattle.std.proofs.lemmas.Bool.{cases_lt, cases_eq, both_ways, false_from_ne_true, or_parts, or_from}
+use Rattle.std.specs.List.{slice_get, sum_by, count_by}
+use Rattle.std.proofs.lemmas.Bool.{cases_lt, cases_eq, both_ways, false_from_ne_true}
 use Rattle.std.proofs.lemmas.Option.{same_Some}
 use Rattle.std.proofs.lemmas.List.Sums.{sum_by-cons, get_or-le-sum_by}
 
@@ -35,27 +35,6 @@ one_place p xs i j d few within_i within_j pi pj =
     (cases_eq i j)
 
 -- ## Filters
-
--- tests that agree at each element
-pub filter_alike : {X : Type 0} (p q : X → Bool) (xs : List X) → ((x : X) → p x ≡ q x) → filter p xs ≡ filter q xs
-filter_alike p q [] same = refl
-filter_alike p q (x ∷ xs) same =
-    ap (λ v. cond v (x ∷ filter p xs) (filter p xs)) (same x) ∙ ap (λ zs. cond (q x) (x ∷ zs) zs) (filter_alike p q xs same)
-
-pub filter_twice : {X : Type 0} (p q : X → Bool) (xs : List X) → filter p (filter q xs) ≡ filter q (filter p xs)
-filter_twice p q [] = refl
-filter_twice p q (x ∷ xs) =
-    let rest = filter_twice p q xs in
-    elim (p x) as (λ v. p x ≡ v → filter p (filter q (x ∷ xs)) ≡ filter q (filter p (x ∷ xs))) [
-      | true ↦ λ e. elim (q x) as (λ v. q x ≡ v → filter p (filter q (x ∷ xs)) ≡ filter q (filter p (x ∷ xs))) [
-        | true ↦ λ f. simp (e, f, rest)
-        | false ↦ λ f. simp (e, f, rest)
-      ] refl
-      | false ↦ λ e. elim (q x) as (λ v. q x ≡ v → filter p (filter q (x ∷ xs)) ≡ filter q (filter p (x ∷ xs))) [
-        | true ↦ λ f. simp (e, f, rest)
-        | false ↦ λ f. simp (e, f, rest)
-      ] refl
-    ] refl
 
 -- the first that passes is the first of those that pass
 pub find_first : {X : Type 0} (p : X → Bool) (xs : List X) → find p xs ≡ slice_get (filter p xs) 0
@@ -91,30 +70,6 @@ count_kept p q (x ∷ xs) keeps =
           let none : ◌≡◌ {A = ℕ} (cond (p x) 1 0) 0 = ap (λ b. cond b 1 0) here in
           omega (arith, split, rest, none)
     ] refl
-
--- a filter that drops what is counted
-pub count_dropped : {X : Type 0} (p q : X → Bool) (xs : List X) → ((x : X) → p x ≡ true → q x ≡ false) → count_by p (filter q xs) ≡ 0
-count_dropped p q [] drops = refl
-count_dropped p q (x ∷ xs) drops =
-    let rest = count_dropped p q xs drops in
-    elim (q x) as (λ v. q x ≡ v → count_by p (cond v (x ∷ filter q xs) (filter q xs)) ≡ 0) [
-      | true ↦ λ e.
-          let more = sum_by-cons (λ y. cond (p y) 1 0) x (filter q xs) in
-          let here : p x ≡ false = false_from_ne_true (p x) (λ passes. both_ways (q x) (drops x passes) e) in
-          let none : ◌≡◌ {A = ℕ} (cond (p x) 1 0) 0 = ap (λ b. cond b 1 0) here in
-          omega (arith, rest, none, more)
-      | false ↦ λ e. rest
-    ] refl
-
-pub any_of_fewer : {X : Type 0} (p q : X → Bool) (xs : List X) → list_any p xs ≡ false → list_any p (filter q xs) ≡ false
-any_of_fewer p q [] none = refl
-any_of_fewer p q (x ∷ xs) none =
-    let parts = or_parts (p x) (list_any p xs) none in
-    let rest = any_of_fewer p q xs parts.1 in
-    elim (q x) as (λ v. list_any p (cond v (x ∷ filter q xs) (filter q xs)) ≡ false) [
-      | true ↦ or_from (p x) (list_any p (filter q xs)) parts.0 rest
-      | false ↦ rest
-    ]
 
 -- what is found and passes another test is counted by that
 pub counted_found : {X : Type 0} (p q : X → Bool) (xs : List X) (x : X) → find p xs ≡ Some x → q x ≡ true → 1 ≤ count_by q xs

@@ -1,12 +1,11 @@
 -- Lists: what std's lemmas lack.
-use Rattle.std.proofs.Common.{◌≡◌, ℕ, zero, suc, ◌+◌, ◌-◌, ◌<◌, Bool, true, false, ◌&&◌, ◌||◌, cond, List, [], ◌∷◌, ◌++◌, length, get_or, drop, take, filter, map, Some, None, is_some, ⊎_elim, subst, length-append, find, reverse, count_by, ◌≤◌, refl, ap, ◌∙◌, sym, arith}
+use Rattle.std.proofs.Common.{◌≡◌, ℕ, zero, suc, ◌+◌, ◌-◌, ◌<◌, Bool, true, false, ◌&&◌, ◌||◌, cond, List, [], ◌∷◌, ◌++◌, length, get_or, take, filter, map, Some, None, is_some, ⊎_elim, subst, length-append, find, reverse, count_by, ◌≤◌, refl, ap, ◌∙◌, sym, arith}
 use Rattle.std.specs.List.{list_any, list_all, AllPairs, flat_map, range_with_len}
-use Rattle.std.specs.Option.{option_or}
-use Rattle.std.proofs.lemmas.List.{take_more, drop_more, reverse-append, get_or_append_left, get_or-append_right}
+use Rattle.std.proofs.lemmas.List.{take_more, reverse-append, get_or_append_left, get_or-append_right}
 use Rattle.std.proofs.lemmas.Bool.{or_cases, or_left, or_right, and_parts, and_from, cases_lt}
 use Rattle.std.proofs.Math.Bool.{or_comm, or-false}
 use Rattle.std.proofs.lemmas.Option.{same_Some}
-use Rattle.std.proofs.lemmas.List.Folds.{find-append, list_any_at, list_any-append, list_all-append}
+use Rattle.std.proofs.lemmas.List.Folds.{find-append, list_any-append, list_all-append}
 use Rattle.gcd_plan.proofs.Sums.{count_by_none, count_by-cons, count_by-append, count_by_some}
 
 -- ## Reading at an index
@@ -178,33 +177,4 @@ find_none : {X : Type 0} → (p : X → Bool) (x : X) (xs : List X) → find p (
 find_none p x xs none =
     elim (p x) as (λ v. cond v (Some x) (find p xs) ≡ None → (v ≡ false) × (find p xs ≡ None)) [ true ↦ λ n. cc | false ↦ λ n. (refl, n) ] none
 
--- where nothing is found, each fails
-pub fails_from_find : {X : Type 0} → (p : X → Bool) (xs : List X) (k : ℕ) (d : X) → find p xs ≡ None → k < length xs → p (get_or xs k d) ≡ false
-fails_from_find p [] k d none h = absurd (omega arith)
-fails_from_find p (x ∷ xs) zero d none h = (find_none p x xs none).0
-fails_from_find p (x ∷ xs) (suc k) d none h = let l : k < length xs = omega arith in fails_from_find p xs k d (find_none p x xs none).1 l
-
--- a search over what each element of a list gives, one element on
-pub find_flat_more : {X Y : Type 0} → (p : Y → Bool) (f : X → List Y) (xs : List X) (i : ℕ) (d : X) → i < length xs → find p (flat_map f (drop i xs)) ≡ option_or (find p (f (get_or xs i d))) (find p (flat_map f (drop (i + 1) xs)))
-find_flat_more p f xs i d h = ap (λ l. find p (flat_map f l)) (drop_more xs i d h) ∙ find-append p (f (get_or xs i d)) (flat_map f (drop (i + 1) xs))
-
--- the same over the numbers up to n
-pub find_map_range_more : {Y : Type 0} → (p : Y → Bool) (f : ℕ → Y) (a n : ℕ) → a < n → find p (map f (range_with_len a (n - a))) ≡ cond (p (f a)) (Some (f a)) (find p (map f (range_with_len (a + 1) (n - (a + 1)))))
-find_map_range_more p f a n h = ap (λ l. find p (map f l)) (range_more a n h)
-
-pub find_flat_range_more : {Y : Type 0} → (p : Y → Bool) (f : ℕ → List Y) (a n : ℕ) → a < n → find p (flat_map f (range_with_len a (n - a))) ≡ option_or (find p (f a)) (find p (flat_map f (range_with_len (a + 1) (n - (a + 1)))))
-find_flat_range_more p f a n h = ap (λ l. find p (flat_map f l)) (range_more a n h) ∙ find-append p (f a) (flat_map f (range_with_len (a + 1) (n - (a + 1))))
-
 pub ruleset appended = find-append
-
--- the first is found at this step
-pub found_flat : {X Y : Type 0} → (p : Y → Bool) (f : X → List Y) (xs : List X) (i : ℕ) (d : X) (e : Y) → i < length xs → find p (f (get_or xs i d)) ≡ Some e → find p (flat_map f (drop i xs)) ≡ Some e
-found_flat p f xs i d e h found = find_flat_more p f xs i d h ∙ ap (λ o. option_or o (find p (flat_map f (drop (i + 1) xs)))) found
-
-pub found_map_range : {Y : Type 0} → (p : Y → Bool) (f : ℕ → Y) (a n : ℕ) (e : Y) → a < n → find p (f a ∷ []) ≡ Some e → find p (map f (range_with_len a (n - a))) ≡ Some e
-found_map_range p f a n e h found =
-    let split : find p (map f (range_with_len a (n - a))) ≡ option_or (find p (f a ∷ [])) (find p (map f (range_with_len (a + 1) (n - (a + 1))))) = ap (λ l. find p (map f l)) (range_more a n h) ∙ find-append p (f a ∷ []) (map f (range_with_len (a + 1) (n - (a + 1)))) in
-    split ∙ ap (λ o. option_or o (find p (map f (range_with_len (a + 1) (n - (a + 1)))))) found
-
-pub found_flat_range : {Y : Type 0} → (p : Y → Bool) (f : ℕ → List Y) (a n : ℕ) (e : Y) → a < n → find p (f a) ≡ Some e → find p (flat_map f (range_with_len a (n - a))) ≡ Some e
-found_flat_range p f a n e h found = find_flat_range_more p f a n h ∙ ap (λ o. option_or o (find p (flat_map f (range_with_len (a + 1) (n - (a + 1)))))) found

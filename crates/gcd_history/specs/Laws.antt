@@ -1,12 +1,13 @@
 -- What holds of every lawful history, the oldest event first (this project's own rule, where a definition names no page).
 use Rattle.std.specs.Prelude.{◌≡◌, ◌≤◌, ◌<◌, ◌+◌, ◌-◌, ◌&&◌, length, ℕ, ◌==◌, Bool, true, false, ◌||◌, if◌then◌else◌, List, [], ◌∷◌, ◌++◌, take, drop, Option, Some, None, unwrap_or, slice_get, count_by, IsTrue, All, AllPairs}
 use Rattle.std.specs.List.{list_any, filter_map}
+use Rattle.gcd_plan.specs.Effects.{Awaits, effects_of, goes_on, end_of_own, end_of, empty_group, turn_at, ends_of}
 use Rattle.gcd_plan.specs.PlanView.{PlanView}
 use Rattle.gcd_plan.specs.Chains.{is_in}
 use Rattle.gcd_plan.specs.Made.{strip_blocks, intake_blocks}
 use Rattle.gcd_plan.specs.Kinds.{is_exclusive, has_barriers, has_kind, is_replace_kind}
 use Rattle.gcd_plan.specs.declared.act.Act.{Act}
-use Rattle.gcd_plan.specs.declared.act.Act.TheVariants.{Async, Barrier, Sync, BarrierSync, GroupAsync, Notify, Enter, Leave, GroupWait, GroupWaitFor, Signal, Wait, WaitFor, Suspend, Resume, Activate, Target, Merge, Cancel, Retain, Release, Apply, CancelBlock, WaitBlock, NotifyBlock}
+use Rattle.gcd_plan.specs.declared.act.Act.TheVariants.{Apply, NotifyBlock}
 use Rattle.gcd_plan.specs.declared.numbers.Run.{Run}
 use Rattle.gcd_plan.specs.declared.numbers.Blk.{Blk}
 use Rattle.gcd_plan.specs.declared.numbers.Obj.{Obj}
@@ -80,34 +81,18 @@ NoneParked plan h = (b : ℕ) → awaited_of plan h b ≡ None
 abbrev pub WaitsAreOver : PlanView → List Event → Type 0
 WaitsAreOver plan h = (i b : ℕ) (awaited : Reason) → awaited_of plan (take i h) b ≡ Some awaited → is_over plan h awaited ≡ true
 
+-- it waits for the group to be empty
+abbrev pub waits_for_empty : Obj → Awaits → Bool
+waits_for_empty g goes_on = false
+waits_for_empty g (end_of_own b) = false
+waits_for_empty g (end_of b) = false
+waits_for_empty g (empty_group h) = h.0 == g.0
+waits_for_empty g (turn_at s) = false
+waits_for_empty g (ends_of a) = false
+
 -- the act waits for the group (dispatch_group_wait(3))
 abbrev pub waits_for : Obj → Option Act → Bool
-waits_for g None = false
-waits_for g (Some (Async q b)) = false
-waits_for g (Some (Barrier q b)) = false
-waits_for g (Some (Sync q b)) = false
-waits_for g (Some (BarrierSync q b)) = false
-waits_for g (Some (GroupAsync x q b)) = false
-waits_for g (Some (Notify x q b)) = false
-waits_for g (Some (Enter x)) = false
-waits_for g (Some (Leave x)) = false
-waits_for g (Some (GroupWait h)) = h.0 == g.0
-waits_for g (Some (GroupWaitFor h ms)) = h.0 == g.0
-waits_for g (Some (Signal x)) = false
-waits_for g (Some (Wait x)) = false
-waits_for g (Some (WaitFor x ms)) = false
-waits_for g (Some (Suspend o)) = false
-waits_for g (Some (Resume o)) = false
-waits_for g (Some (Activate o)) = false
-waits_for g (Some (Target o t)) = false
-waits_for g (Some (Merge o n)) = false
-waits_for g (Some (Cancel o)) = false
-waits_for g (Some (Retain o)) = false
-waits_for g (Some (Release o)) = false
-waits_for g (Some (Apply q a)) = false
-waits_for g (Some (CancelBlock b)) = false
-waits_for g (Some (WaitBlock b)) = false
-waits_for g (Some (NotifyBlock b q c)) = false
+waits_for g act = waits_for_empty g (effects_of act).awaits
 
 -- each wait on a group has passed or expired (dispatch_group_wait(3))
 abbrev pub GroupWaitsEnd : PlanView → List Event → Type 0

@@ -3,11 +3,10 @@
 use Rattle.std.specs.Prelude.{ℕ, ◌+◌, ◌==◌, Bool, false, ◌&&◌, ◌||◌, if◌then◌else◌, List, [], ◌∷◌, length, Option, Some, None, is_some, is_none, count_by}
 use Rattle.std.specs.Option.{option_map_or}
 use Rattle.std.specs.List.{list_any, list_all}
-use Rattle.gcd_plan.specs.Acts.{parks}
+use Rattle.gcd_plan.specs.Effects.{Awaits, effects_of, goes_on, end_of_own, end_of, empty_group, turn_at, ends_of, parks}
 use Rattle.gcd_plan.specs.PlanView.{PlanView}
 use Rattle.gcd_plan.specs.Made.{strip_blocks}
 use Rattle.gcd_plan.specs.declared.act.Act.{Act}
-use Rattle.gcd_plan.specs.declared.act.Act.TheVariants.{Async, Barrier, Sync, BarrierSync, GroupAsync, Notify, Enter, Leave, GroupWait, GroupWaitFor, Signal, Wait, WaitFor, Suspend, Resume, Activate, Target, Merge, Cancel, Retain, Release, Apply, CancelBlock, WaitBlock, NotifyBlock}
 use Rattle.gcd_plan.specs.declared.numbers.Run.{Run}
 use Rattle.gcd_plan.specs.declared.numbers.Run.TheVariants.{Block}
 use Rattle.gcd_plan.specs.declared.reason.Reason.{Reason}
@@ -19,35 +18,19 @@ use Rattle.gcd_history.specs.Expired.{has_expired}
 use Rattle.gcd_history.specs.Groups.{group_passes}
 use Rattle.gcd_history.specs.Semas.{wait_count, passes, is_expired_wait}
 
+-- the wait, begun after past: for a group that is empty at that position or later, or for the rank at a semaphore that comes next
+abbrev pub reason_of : PlanView → List Event → Awaits → Option Reason
+reason_of plan past goes_on = None
+reason_of plan past (end_of_own b) = Some (EndOf b)
+reason_of plan past (end_of b) = Some (EndOf b)
+reason_of plan past (empty_group g) = Some (Group g (length past))
+reason_of plan past (turn_at s) = Some (Rank s (wait_count plan past s.0 + 1))
+reason_of plan past (ends_of a) = Some (Strip a)
+
 -- what the act, recorded after past, makes its block wait for (dispatch_sync(3), dispatch_barrier_sync(3),
 -- dispatch_group_wait(3), dispatch_semaphore_wait(3), dispatch_apply(3), dispatch_block_wait(3))
 abbrev pub awaited_by : PlanView → List Event → Option Act → Option Reason
-awaited_by plan past None = None
-awaited_by plan past (Some (Async q b)) = None
-awaited_by plan past (Some (Barrier q b)) = None
-awaited_by plan past (Some (Sync q b)) = Some (EndOf b)
-awaited_by plan past (Some (BarrierSync q b)) = Some (EndOf b)
-awaited_by plan past (Some (GroupAsync g q b)) = None
-awaited_by plan past (Some (Notify g q b)) = None
-awaited_by plan past (Some (Enter g)) = None
-awaited_by plan past (Some (Leave g)) = None
-awaited_by plan past (Some (GroupWait g)) = Some (Group g (length past))
-awaited_by plan past (Some (GroupWaitFor g ms)) = Some (Group g (length past))
-awaited_by plan past (Some (Signal s)) = None
-awaited_by plan past (Some (Wait s)) = Some (Rank s (wait_count plan past s.0 + 1))
-awaited_by plan past (Some (WaitFor s ms)) = Some (Rank s (wait_count plan past s.0 + 1))
-awaited_by plan past (Some (Suspend o)) = None
-awaited_by plan past (Some (Resume o)) = None
-awaited_by plan past (Some (Activate o)) = None
-awaited_by plan past (Some (Target o t)) = None
-awaited_by plan past (Some (Merge s n)) = None
-awaited_by plan past (Some (Cancel s)) = None
-awaited_by plan past (Some (Retain o)) = None
-awaited_by plan past (Some (Release o)) = None
-awaited_by plan past (Some (Apply q a)) = Some (Strip a)
-awaited_by plan past (Some (CancelBlock b)) = None
-awaited_by plan past (Some (WaitBlock b)) = Some (EndOf b)
-awaited_by plan past (Some (NotifyBlock b q c)) = None
+awaited_by plan past act = reason_of plan past (effects_of act).awaits
 
 -- the act parks its block until a Wake
 abbrev pub is_parking : Option Act → Bool

@@ -1,7 +1,7 @@
 -- The report of a run: results, sources, waits and the end, a line each (this project's own rule).
 use Rattle.std.specs.Prelude.{ℕ, Bool, true, false, ◌-◌, ◌&&◌, not, if◌then◌else◌, List, [], ◌∷◌, ◌++◌, length, slice_get, sum_by, is_some, codes}
 use Rattle.std.specs.Option.{option_map_or}
-use Rattle.std.specs.List.{flat_map, filter_map, range_with_len}
+use Rattle.std.specs.List.{flat_map, range_with_len}
 use Rattle.std.specs.Fmt.{decimal}
 use Rattle.gcd_plan.specs.PlanView.{PlanView, work_of, name_of_obj, name_of_blk, name_of_strip}
 use Rattle.gcd_plan.specs.Kinds.{is_source}
@@ -11,11 +11,11 @@ use Rattle.gcd_plan.specs.declared.numbers.Run.TheVariants.{Block, Source}
 use Rattle.gcd_plan.specs.declared.reason.Reason.{Reason}
 use Rattle.gcd_plan.specs.declared.reason.Reason.TheVariants.{Block as EndOf, Group, Strip, Rank}
 use Rattle.gcd_event.specs.declared.event.Event.{Event}
-use Rattle.gcd_event.specs.declared.event.Event.TheVariants.{Misuse}
+use Rattle.gcd_event.specs.declared.event.Event.TheVariants.{Start, Act as Acted, Wake, End, Deliver, DeliverEnd, Tick, Ready, FeedEnd, Misuse, Halt, Expire, Accept, Shut}
 use Rattle.gcd_history.specs.declared.state.State.{State}
 use Rattle.gcd_history.specs.declared.state.State.TheVariants.{Drained, Stuck, Misused, Halted, Live}
 use Rattle.gcd_history.specs.History.{is_block_cancelled, is_submitted, is_started, is_ended, awaited_of, received_of, delivery_count_of, pending_of}
-use Rattle.gcd_history.specs.Intake.{accepted_of}
+use Rattle.gcd_history.specs.Intake.{blocks_of_sender}
 use Rattle.gcd_history.specs.Values.{value_of}
 
 -- the byte at the end of a line
@@ -84,7 +84,19 @@ stuck_lines plan Live h = []
 abbrev pub misuse_line : PlanView → Event → List ℕ
 misuse_line plan (Misuse w c run i) =
     codes "misuse " ++ (name_of_run plan run ++ (codes " " ++ (decimal i ++ (codes " M" ++ (decimal c ++ line_end)))))
-misuse_line plan _ = []
+misuse_line plan (Start w b) = []
+misuse_line plan (Acted w r i) = []
+misuse_line plan (Wake w b) = []
+misuse_line plan (End w b) = []
+misuse_line plan (Deliver w s) = []
+misuse_line plan (DeliverEnd w s) = []
+misuse_line plan (Tick t) = []
+misuse_line plan (Ready s n) = []
+misuse_line plan (FeedEnd s) = []
+misuse_line plan Halt = []
+misuse_line plan (Expire b) = []
+misuse_line plan (Accept b s) = []
+misuse_line plan Shut = []
 
 -- the last line: `drained`, `stuck`, the misuse, `read fault` after a Halt, and else `full`
 abbrev pub last_line : PlanView → State → List Event → List ℕ
@@ -105,10 +117,6 @@ report_by plan value state h =
 -- the report over the files, by number
 abbrev pub report_text : PlanView → (files : List (List ℕ)) → State → List Event → List ℕ
 report_text plan files state h = report_by plan (value_of plan files) state h
-
--- the blocks that were accepted of sender s, in order
-abbrev pub blocks_of_sender : List Event → ℕ → List Blk
-blocks_of_sender h s = filter_map (accepted_of s) h
 
 -- the value of the block, where it has ended
 abbrev pub ended_value : (value : ℕ → ℕ) → List Event → Blk → ℕ

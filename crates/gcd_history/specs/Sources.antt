@@ -2,11 +2,11 @@
 use Rattle.std.specs.Prelude.{ℕ, ◌+◌, ◌-◌, ◌==◌, Bool, false, not, ◌&&◌, if◌then◌else◌, List, [], ◌∷◌, ◌++◌, filter, map, fold, Option, Some, None, count_by}
 use Rattle.std.specs.Option.{option_map_or}
 use Rattle.std.specs.List.{range_with_len}
+use Rattle.gcd_plan.specs.Effects.{effects_of}
 use Rattle.gcd_plan.specs.PlanView.{PlanView, kind_of}
 use Rattle.gcd_plan.specs.Kinds.{has_kind, is_read_kind}
 use Rattle.gcd_plan.specs.KindValues.{folded, has_effect}
 use Rattle.gcd_plan.specs.declared.act.Act.{Act}
-use Rattle.gcd_plan.specs.declared.act.Act.TheVariants.{Async, Barrier, Sync, BarrierSync, GroupAsync, Notify, Enter, Leave, GroupWait, GroupWaitFor, Signal, Wait, WaitFor, Suspend, Resume, Activate, Target, Merge, Cancel, Retain, Release, Apply, CancelBlock, WaitBlock, NotifyBlock}
 use Rattle.gcd_plan.specs.declared.kind.Kind.{Kind}
 use Rattle.gcd_event.specs.declared.event.Event.{Event}
 use Rattle.gcd_event.specs.declared.event.Event.TheVariants.{Start, Act as Acted, Wake, End, Deliver, DeliverEnd, Tick, Ready, FeedEnd, Misuse, Halt, Expire, Accept, Shut}
@@ -33,32 +33,8 @@ has_effect_at plan s n = option_map_or (λ kind. has_effect kind n) (kind_of pla
 
 -- what the act merges into source s (dispatch_source_merge_data(3))
 abbrev pub merged_by : PlanView → ℕ → Option Act → List ℕ
-merged_by plan s None = []
-merged_by plan s (Some (Async q b)) = []
-merged_by plan s (Some (Barrier q b)) = []
-merged_by plan s (Some (Sync q b)) = []
-merged_by plan s (Some (BarrierSync q b)) = []
-merged_by plan s (Some (GroupAsync x q b)) = []
-merged_by plan s (Some (Notify x q b)) = []
-merged_by plan s (Some (Enter x)) = []
-merged_by plan s (Some (Leave x)) = []
-merged_by plan s (Some (GroupWait x)) = []
-merged_by plan s (Some (GroupWaitFor x ms)) = []
-merged_by plan s (Some (Signal x)) = []
-merged_by plan s (Some (Wait x)) = []
-merged_by plan s (Some (WaitFor x ms)) = []
-merged_by plan s (Some (Suspend o)) = []
-merged_by plan s (Some (Resume o)) = []
-merged_by plan s (Some (Activate o)) = []
-merged_by plan s (Some (Target o t)) = []
-merged_by plan s (Some (Merge t n)) = if t.0 == s && has_effect_at plan s n then n ∷ [] else []
-merged_by plan s (Some (Cancel o)) = []
-merged_by plan s (Some (Retain o)) = []
-merged_by plan s (Some (Release o)) = []
-merged_by plan s (Some (Apply q a)) = []
-merged_by plan s (Some (CancelBlock b)) = []
-merged_by plan s (Some (WaitBlock b)) = []
-merged_by plan s (Some (NotifyBlock b q c)) = []
+merged_by plan s act =
+    option_map_or (λ m. if m.0.0 == s && has_effect_at plan s m.1 then m.1 ∷ [] else []) (effects_of act).merges []
 
 -- 1 for each due time of timer s after from, up to the tick
 abbrev pub due_inputs : PlanView → List Event → ℕ → (from to : ℕ) → List ℕ
@@ -85,7 +61,19 @@ input plan past Shut s = []
 -- the event is a Deliver of source s
 abbrev pub delivers : ℕ → Event → Bool
 delivers s (Deliver w t) = t.0 == s
-delivers s _ = false
+delivers s (Start w b) = false
+delivers s (Acted w r i) = false
+delivers s (Wake w b) = false
+delivers s (End w b) = false
+delivers s (DeliverEnd w t) = false
+delivers s (Tick t) = false
+delivers s (Ready t n) = false
+delivers s (FeedEnd t) = false
+delivers s (Misuse w c r i) = false
+delivers s Halt = false
+delivers s (Expire b) = false
+delivers s (Accept b t) = false
+delivers s Shut = false
 
 -- all inputs of source s
 abbrev pub inputs : PlanView → List Event → ℕ → List ℕ
@@ -115,7 +103,19 @@ last_data plan (e ∷ past) s = if delivers s e then pending plan past s else la
 -- (dispatch_source_get_data(3))
 abbrev pub handed_by : PlanView → List Event → Event → Option ℕ
 handed_by plan past (Deliver w s) = Some (pending plan past s.0)
-handed_by plan past _ = None
+handed_by plan past (Start w b) = None
+handed_by plan past (Acted w r i) = None
+handed_by plan past (Wake w b) = None
+handed_by plan past (End w b) = None
+handed_by plan past (DeliverEnd w s) = None
+handed_by plan past (Tick t) = None
+handed_by plan past (Ready s n) = None
+handed_by plan past (FeedEnd s) = None
+handed_by plan past (Misuse w c r i) = None
+handed_by plan past Halt = None
+handed_by plan past (Expire b) = None
+handed_by plan past (Accept b s) = None
+handed_by plan past Shut = None
 
 -- how many Delivers of source s stand
 abbrev pub delivery_count : List Event → ℕ → ℕ

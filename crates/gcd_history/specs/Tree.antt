@@ -2,11 +2,11 @@
 use Rattle.std.specs.Prelude.{ℕ, ◌==◌, Bool, not, false, ◌&&◌, ◌||◌, if◌then◌else◌, List, [], ◌∷◌, length, Option, Some, None, is_some, option_and_then, option_map, unwrap_or, count_by}
 use Rattle.std.specs.Option.{option_map_or}
 use Rattle.std.specs.List.{list_any, range_with_len}
+use Rattle.gcd_plan.specs.Effects.{effects_of}
 use Rattle.gcd_plan.specs.PlanView.{PlanView, first_target}
 use Rattle.gcd_plan.specs.Kinds.{is_node}
 use Rattle.gcd_plan.specs.Chains.{chain_by, is_in}
 use Rattle.gcd_plan.specs.declared.act.Act.{Act}
-use Rattle.gcd_plan.specs.declared.act.Act.TheVariants.{Target}
 use Rattle.gcd_plan.specs.declared.numbers.Run.{Run}
 use Rattle.gcd_plan.specs.declared.numbers.Run.TheVariants.{Block, Source}
 use Rattle.gcd_event.specs.declared.event.Event.{Event}
@@ -37,8 +37,7 @@ pub record Aim : Type 0 where
 
 -- the target that the act asks for object o (dispatch_set_target_queue(3))
 abbrev pub asked : ℕ → Option Act → Option ℕ
-asked o (Some (Target p t)) = if p.0 == o then Some t.0 else None
-asked o _ = None
+asked o act = option_map_or (λ t. if t.0.0 == o then Some t.1.0 else None) (effects_of act).targets None
 
 -- the request, if there is one, is the target now
 abbrev pub settled : Option ℕ → Aim → Aim

@@ -6,10 +6,14 @@
 //! | file of specs/ | words |
 //! |---|---|
 //! | `History` | what may come next (`why`, `IsPermitted`, `IsLawful`, `choice_of`), and what is open, parked, submitted, held, due and pending then |
-//! | `Ends` | how a history ends: `IsHalted`, `IsQuiescent`, `IsDrained`, `IsStuck`, `IsFull`, `HasState` |
+//! | `Ends` | how a history ends: `IsHalted`, `IsQuiescent`, `IsDrained`, `IsStuck`, `IsFull`, `HasState`. Each is said of one history: another run of the plan may end otherwise |
 //! | `Values` | what a block's work computes: `value_of` |
 //! | `Report`, `JournalText` | the texts of a run: `report_text`, `front_text`, `journal_text` |
-//! | `Laws`, `Facts` | what the laws and facts below say |
+//! | `Tree`, `Holds`, `Submitted`, `Parked` | targets and chains; suspension and activation; submissions, notify blocks and their order; waits |
+//! | `Groups`, `Semas`, `Sources`, `Timers`, `Cancelled`, `Intake` | what groups count, semaphores let pass, sources have pending; time; cancelled blocks; blocks from outside |
+//! | `Misuses` | references, and which acts are misuses, with their codes |
+//! | `Laws`, `Facts`, `TeamFacts`, `Cells` | what the laws and facts below say |
+//! | `Team`, `Held` | which run each worker holds, told from its own events |
 //! | the others | the same words by recursion, over the events in reverse, the newest first: `e ∷ past` is past, followed by e |
 //!
 //! The words of `History`, `Ends` and the texts are `unfoldable`, and each is one line over a word of the other files at
@@ -20,12 +24,21 @@
 //! lines; where these name none it is this project's own rule.
 //!
 //! A definition that sorts acts, events, kinds or states names each variant, so that the compiler refuses a new one until
-//! someone decides what it is. A test for one or two variants (`starts`, `retains`, `accepts`, `hold_after`) passes over all
-//! others: that is its meaning. So do the three walks `acts_done`, `last_worker` and `parked_by`, which ask `opens` of each other event,
-//! and the two walks `last_act` and `last_limit`, which look for acts.
+//! someone decides what it is. What an act does is read from its row in `Effects` of `gcd_plan`. Five walks look for events of certain
+//! kinds and pass over all others: `acts_done`, `last_act` and `last_limit` look for acts, `parked_by` for acts and Wakes, and
+//! `last_worker` for what begins or wakes a run. Of the others `acts_done` and `parked_by` ask only whether they open the run.
 //!
-//! Worked rows (`proofs/Rows*`) are computed with each check: `proofs/Lib.antt` names their files, so a row that does not hold
+//! Worked rows (`proofs/Rows/`) are computed with each check: `proofs/Rows.antt` names their files, so a row that does not hold
 //! fails the crate, though no law cites it.
+//!
+//! | folder of proofs/ | what is proved there |
+//! |---|---|
+//! | `Permitted` | lawful histories; what is known where an event is permitted; choices; that nothing is left to come |
+//! | `Blocks`, `MadeBlocks` | submissions, starts, cancellation and notify blocks; blocks of the intake and of strips |
+//! | `Runs`, `Waits`, `Tree`, `Sources` | open runs, parked blocks, targets, and what sources hand over |
+//! | `HeldRuns` | which run each worker holds |
+//! | `Public` | the laws and facts over histories in order, from those by recursion |
+//! | `Rows` | the worked rows, of definitions and of each law's premise |
 //!
 //! | law, a function with an empty body | says |
 //! |---|---|
@@ -34,7 +47,8 @@
 //! | [`lawful::permitted_events_fit`] | a permitted event has its fields in their ranges |
 //! | [`laws::blocks_run_once`], [`laws::blocks_are_submitted_once`] | a block starts at most once, after its one submission, and where all is drained it has ended |
 //! | [`laws::blocks_start_in_order`] | of two submissions on one node the later starts only after the earlier has started |
-//! | [`laws::runs_exclude_each_other`], [`laws::barriers_exclude`] | beneath a serial queue or source, and beside a barrier, a run is alone |
+//! | [`laws::runs_exclude_each_other`] | beneath a serial queue or source a run is alone |
+//! | [`laws::barriers_exclude`] | a barrier is open beside no other run of its own queue |
 //! | [`laws::blocks_of_one_queue_exclude_each_other`] | so blocks of one serial queue never overlap |
 //! | [`laws::deliveries_exclude_each_other`] | a delivery begins where no run of its source is open |
 //! | [`laws::runs_begin_free`] | what begins, begins with its whole chain free |
@@ -57,6 +71,19 @@
 //! | [`facts::accepts_stay_permitted`] | an Accept that may come may come after events of others |
 //! | [`facts::targets_change_alone`] | only what was created active moves, and nothing is open beneath what has moved |
 //!
+//! | [`teams::own_events_tell_what_is_held`] | equal events of a worker tell the same of what it holds; an event changes it for its worker alone |
+//! | [`teams::held_runs_are_open`] | a worker holds exactly the run that it has, open and not parked; no two hold one; at a quiescent history nobody holds any |
+//! | [`teams::takings_find_nobody`] | a worker that takes a run held none, and nobody held that run |
+//! | [`teams::givings_are_the_holders`] | a worker that gives a run back, or makes an act of it, held it |
+//! | [`teams::cells_wait`] | others' events do not end a block, nor deliver to a source, whose run a worker holds |
+//! | [`teams::deliver_hands_over`] | a Deliver counts once and hands over what is pending; counts and totals are small |
+//! | [`teams::ended_histories_are_whole`] | nothing but a Halt can follow once a history has ended, and nothing without an event of worker 0 |
+//! | [`teams::idle_histories_wait`] | if no run is open and unparked and worker 0 has no choice, no worker has one |
+//!
+//! A worker holds a run from its Start, Wake or Deliver to the act that parks it, its End or its DeliverEnd. What it holds is told
+//! from its own events alone (`held_by` of `specs/Team`), and that is what threads which share a history rely on: each knows its own
+//! events, and only a front of the rest. So say the laws of `teams`.
+//!
 //! Nothing here says that a run exists, that a worker does anything, or which of several lawful histories comes.
 #![tactic(auto)]
 
@@ -65,6 +92,7 @@ pub mod lawful;
 pub mod laws;
 mod state;
 mod submission;
+pub mod teams;
 
 pub use state::State;
 pub use submission::Submission;

@@ -1,1 +1,2 @@
 pub mod ValuesMore
+pub mod StripValues

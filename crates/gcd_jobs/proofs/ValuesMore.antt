@@ -3,8 +3,9 @@ use Rattle.std.proofs.Common.{◌≡◌, ◌≢◌, ◌<◌, ◌∙◌, ◌==◌
 use Rattle.std.specs.Prelude.{slice_get, slice_set, replicate, reverse}
 use Rattle.std.proofs.Math.Bool.{and-false}
 use Rattle.std.proofs.lemmas.Bool.{both_ways, cases_eq, ltb-true, ne_eqb, and_parts, not-false, not-true, or_right}
-use Rattle.std.proofs.lemmas.List.{length-set, get_or-set_same, get_or-set_other, length-replicate, get_or-replicate}
+use Rattle.std.proofs.lemmas.List.{length-set, get_or-set_other, length-replicate, get_or-replicate}
 use Rattle.std.proofs.lemmas.Option.{slice_get-get_or, slice_get_within}
+use Rattle.gcd_facts.proofs.Lists.{slice_get-set_same}
 use Rattle.gcd_plan.specs.PlanView.{PlanView}
 use Rattle.gcd_plan.specs.declared.numbers.Blk.{Blk}
 use Rattle.gcd_plan.specs.declared.numbers.Obj.{Obj}
@@ -15,9 +16,10 @@ use Rattle.gcd_event.specs.declared.event.Event.TheVariants.{Start, Act as Acted
 use Rattle.gcd_history.specs.Runs.{ends}
 use Rattle.gcd_history.specs.History.{IsLawful, is_block_cancelled, is_ended, why}
 use Rattle.gcd_history.specs.Values.{value_of}
-use Rattle.gcd_history.proofs.CancelledStays.{begun_where_ended, cancelled_kept, cancelled_more, cancelled_without_act}
+use Rattle.gcd_history.proofs.Blocks.CancelledStays.{begun_where_ended, cancelled_kept, cancelled_more, cancelled_without_act}
 use Rattle.gcd_history.proofs.Lists.{reverse_push}
-use Rattle.gcd_history.proofs.Reasons.{allowed}
+use Rattle.gcd_history.proofs.Permitted.Reasons.{allowed}
+use Rattle.gcd_history.proofs.Blocks.StartedOnce.{ends_none}
 use Rattle.gcd_jobs.specs.Ends.{EndFits}
 use Rattle.gcd_jobs.specs.BlockValues.{AreValues, has_given, value_at_end}
 
@@ -73,10 +75,6 @@ values_same plan files h e given lawful none are =
       others = λ b low lacks. are.others b low (sym (same b) ∙ lacks);
     }
 
-get_set_same : {A : Type 0} (xs : List A) (i : ℕ) (v : A) → i < length xs → slice_get (slice_set xs i v) i ≡ Some v
-get_set_same xs i v h =
-    slice_get-get_or (slice_set xs i v) i v (omega (arith, length-set xs i v)) ∙ ap Some (get_or-set_same xs i v v h)
-
 get_set_other : {A : Type 0} (xs : List A) (i k : ℕ) (v : A) → k < length xs → k ≢ i → slice_get (slice_set xs i v) k ≡ slice_get xs k
 get_set_other xs i k v h differ =
     slice_get-get_or (slice_set xs i v) k v (omega (arith, length-set xs i v))
@@ -100,7 +98,7 @@ pub values_ended : (plan : PlanView) (files : List (List ℕ)) (h : List Event) 
     → AreValues plan files (h ++ End w c ∷ []) (slice_set given c.0 v)
 values_ended plan files h w c given v within is are =
     let count : length given ≡ length plan.blocks = are.count in
-    let found : slice_get (slice_set given c.0 v) c.0 ≡ Some v = get_set_same given c.0 v (omega (arith, count, within)) in
+    let found : slice_get (slice_set given c.0 v) c.0 ≡ Some v = slice_get-set_same given c.0 v (omega (arith, count, within)) in
     let After : ℕ → ℕ → Type 0 = λ k x. slice_get (slice_set given c.0 v) k ≡ Some x in
     record {
       count = length-set given c.0 v ∙ count;
@@ -125,11 +123,6 @@ values_ended plan files h w c given v within is are =
           get_set_other given c.0 b v (slice_get_within given b 0 was) (λ e. differ (sym e)) ∙ was)
           (cases_eq c.0 b);
     }
-
--- an event that is no End ends no block
-pub ends_none : (e : Event) → ((w : ℕ) (c : Blk) → e ≡ End w c → ⊥) → (b : ℕ) → ends b e ≡ false
-ends_none (End w c) other b = absurd (other w c refl)
-ends_none _ other b = refl
 
 -- before the first event no block has a value
 pub no_values : (plan : PlanView) (files : List (List ℕ)) → AreValues plan files [] (replicate (length plan.blocks) 0)

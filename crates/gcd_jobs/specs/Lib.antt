@@ -4,3 +4,4 @@ pub mod BlockValues
 pub mod Contents
 pub mod Ends
 pub mod Jobs
+pub mod StripValues

@@ -14,9 +14,15 @@
 //! | `Option` of a job | the job, or none | what the job may give, or 0 |
 //! | `Nobody` | one value, of which none is ever sent | 0: the type of what is sent where a run has no outside callers, which a `FileJob` and an `Option` of any job admit |
 //!
+//! `one_thread` gives the values of a strip's blocks, in order of index, behind what the list has (dispatch_apply(3)). If memory runs
+//! out, it answers an `Err` and the list is as before; no other call takes memory.
+//!
 //! Values are folded by bitwise or at an or source, to the newest at a replace source, and else by addition (`folded` of
-//! `gcd_plan`). A work that names no file of the list, or whose range has no byte, counts nothing and gives 0. No call takes
-//! memory, and a `FileJob` borrows its files, so that several threads can run jobs over them.
+//! `gcd_plan`). A work that names no file of the list, or whose range has no byte, counts nothing and gives 0. A `FileJob`
+//! borrows its files, so that several threads can run jobs over them.
+//!
+//! In the program's runs a `Tally` folds what each delivery of a source hands over. A cancelled block has no value (`has_given` of
+//! `specs/BlockValues`).
 //!
 //! Nothing is said of when a job runs, or on which thread. bench/works.sh times the works.
 #![tactic(auto)]
@@ -26,6 +32,7 @@ mod file_job;
 mod handler;
 mod job;
 mod nobody;
+mod strip;
 mod tally;
 mod works;
 
@@ -34,4 +41,5 @@ pub use file_job::FileJob;
 pub use handler::Handler;
 pub use job::Job;
 pub use nobody::Nobody;
+pub use strip::one_thread;
 pub use tally::Tally;

@@ -1,8 +1,7 @@
 -- Texts that are cut at bytes in one way.
-use Rattle.std.proofs.Common.{◌≡◌, ℕ, zero, suc, ◌+◌, ◌<◌, ◌≤◌, ◌==◌, not, ◌&&◌, cond, Bool, true, false, List, [], ◌∷◌, ◌++◌, length, Some, get_or, refl, ap, sym, ◌∙◌, arith, count_by, inl, inr}
+use Rattle.std.proofs.Common.{◌≡◌, ℕ, zero, suc, ◌+◌, ◌==◌, not, ◌&&◌, cond, Bool, true, false, List, [], ◌∷◌, ◌++◌, length, get_or, refl, ap, sym, ◌∙◌, arith}
 use Rattle.std.specs.List.{onto_first, join_with_byte, list_all, slice_get}
-use Rattle.std.proofs.lemmas.Bool.{and_parts, not-true, eqb-true, eqb-false, cases_order, false_from_ne_true}
-use Rattle.gcd_plan.proofs.Sums.{count_by-cons}
+use Rattle.std.proofs.lemmas.Bool.{and_parts, not-true, eqb-true, eqb-false, false_from_ne_true}
 use Rattle.gcd_text.specs.Fields.{IsWithout, fields_of}
 
 -- a byte that no field has: neither a space nor the end of a line
@@ -89,37 +88,6 @@ without_line (c ∷ text) without =
     rw other (without_line text (λ i within. without (suc i) (omega arith)))
 
 -- ## Places
-
--- what passes somewhere is counted
-counted : {A : Type 0} (p : A → Bool) (xs : List A) (i : ℕ) (x : A) → slice_get xs i ≡ Some x → p x ≡ true → 1 ≤ count_by p xs
-counted p [] i x at h = cc
-counted p (y ∷ xs) zero x at h =
-    let same : y ≡ x = cc in
-    let passes : ◌≡◌ {A = ℕ} (cond (p y) 1 0) 1 = ap (λ z. cond (p z) 1 0) same ∙ ap (λ b. cond b 1 0) h in
-    omega (arith, count_by-cons p y xs, passes)
-counted p (y ∷ xs) (suc i) x at h = omega (arith, count_by-cons p y xs, counted p xs i x at h)
-
--- and what passes at two places is counted twice
-twice : {A : Type 0} (p : A → Bool) (xs : List A) (i j : ℕ) (x y : A) → i < j → slice_get xs i ≡ Some x → slice_get xs j ≡ Some y → p x ≡ true → p y ≡ true → 2 ≤ count_by p xs
-twice p [] i j x y lt at there h k = cc
-twice p (z ∷ xs) zero zero x y lt at there h k = absurd (omega arith)
-twice p (z ∷ xs) zero (suc j) x y lt at there h k =
-    let same : z ≡ x = cc in
-    let passes : ◌≡◌ {A = ℕ} (cond (p z) 1 0) 1 = ap (λ w. cond (p w) 1 0) same ∙ ap (λ b. cond b 1 0) h in
-    omega (arith, count_by-cons p z xs, passes, counted p xs j y there k)
-twice p (z ∷ xs) (suc i) zero x y lt at there h k = absurd (omega arith)
-twice p (z ∷ xs) (suc i) (suc j) x y lt at there h k = omega (arith, count_by-cons p z xs, twice p xs i j x y (omega arith) at there h k)
-
--- what is counted at most once has one place
-pub one_place : {A : Type 0} (p : A → Bool) (xs : List A) (i j : ℕ) (x y : A) → count_by p xs ≤ 1 → slice_get xs i ≡ Some x → slice_get xs j ≡ Some y → p x ≡ true → p y ≡ true → i ≡ j
-one_place p xs i j x y few at there h k =
-    elim (cases_order i j) [
-      | inl same ↦ same
-      | inr other ↦ elim other [
-        | inl before ↦ absurd (omega (arith, twice p xs i j x y before at there h k))
-        | inr after ↦ absurd (omega (arith, twice p xs j i y x after there at k h))
-      ]
-    ]
 
 -- an element of the second of two lists
 pub get_second : {A : Type 0} (xs ys : List A) (i j : ℕ) → j ≡ length xs + i → slice_get (xs ++ ys) j ≡ slice_get ys i

@@ -14,8 +14,8 @@ use Rattle.gcd_event.specs.declared.event.Event.{Event}
 use Rattle.gcd_event.specs.declared.event.Event.TheVariants.{Start, Act as Acted, Wake, End, Deliver, DeliverEnd, Tick, Ready, FeedEnd, Misuse, Halt, Expire, Accept, Shut}
 use Rattle.gcd_history.specs.Permitted.{is_known, is_worker, is_run_of, is_index, is_code, has_block, is_feed}
 use Rattle.gcd_history.specs.History.{IsLawful, why}
-use Rattle.gcd_history.proofs.Reasons.{allowed}
-use Rattle.gcd_history.proofs.Fitting.{permitted_fits}
+use Rattle.gcd_history.proofs.Permitted.Reasons.{allowed}
+use Rattle.gcd_history.proofs.Permitted.Fitting.{permitted_fits}
 use Rattle.gcd_journal.specs.Spoken.{IsNamed, IsSpoken, AreSpoken}
 use Rattle.gcd_journal.proofs.PlainNames.{block_of_intake}
 

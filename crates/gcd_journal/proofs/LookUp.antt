@@ -8,15 +8,14 @@ use Rattle.std.proofs.lemmas.Slice.Eq.{bytes_eq-Decides}
 use Rattle.gcd_plan.specs.PlanView.{PlanView, name_of_blk, name_of_obj}
 use Rattle.gcd_plan.specs.Kinds.{is_source, is_source_kind}
 use Rattle.gcd_plan.specs.Validity.{IsPlan}
-use Rattle.gcd_plan.specs.declared.numbers.Blk.{Blk}
-use Rattle.gcd_plan.specs.declared.numbers.Obj.{Obj}
 use Rattle.gcd_plan.specs.declared.numbers.Run.{Run}
 use Rattle.gcd_plan.specs.declared.numbers.Run.TheVariants.{Block, Source}
 use Rattle.gcd_plan.proofs.Options.{some_from_is_some}
 use Rattle.gcd_plan.proofs.Quantifiers.{list_any_in_range}
+use Rattle.gcd_plan.proofs.Numbered.{same_blk, same_obj}
+use Rattle.gcd_plan.proofs.Within.{has_object}
 use Rattle.gcd_history.specs.Permitted.{is_run_of}
 use Rattle.gcd_history.specs.Report.{name_of_run}
-use Rattle.gcd_history.proofs.Fitting.{has_object}
 use Rattle.gcd_history.proofs.Lists.{found_is, find_from_any, any_left, any_right, any_map}
 use Rattle.std.specs.Option.{option_map_or}
 use Rattle.gcd_plan.specs.PlanView.{kind_of}
@@ -130,12 +129,6 @@ module _ (plan : PlanView) (old new : Look) (run : Run) (valid : IsPlan plan) (h
           | inr before ↦ learns (name_of_run plan r) ∙ ap (λ b. if b then Some run else old (name_of_run plan r)) other ∙ before
         ]
       ]
-
-same_blk : (b c : Blk) → b.0 ≡ c.0 → b ≡ c
-same_blk b c e = let made : ℕ → Blk = λ n. record { 0 = n } in ap made e
-
-same_obj : (s t : Obj) → s.0 ≡ t.0 → s ≡ t
-same_obj s t e = let made : ℕ → Obj = λ n. record { 0 = n } in ap made e
 
 -- a block's name more
 pub knows_block : (plan : PlanView) (old new : Look) (b : ℕ) (name : List ℕ) → IsPlan plan → b < length plan.blocks → KnowsUpTo plan old b 0 → name ≡ name_of_blk plan b

@@ -1,26 +1,24 @@
 -- The names of a valid plan's blocks and sources are apart.
-use Rattle.std.proofs.Common.{◌≡◌, ℕ, zero, suc, ◌+◌, ◌<◌, ◌≤◌, true, false, List, [], ◌++◌, length, map, Some, refl, ap, sym, ◌∙◌, arith}
+use Rattle.std.proofs.Common.{◌≡◌, ℕ, ◌+◌, ◌<◌, true, List, [], ◌++◌, length, map, Some, refl, ap, sym, ◌∙◌, arith}
 use Rattle.std.specs.List.{slice_get}
 use Rattle.std.specs.Option.{option_map, option_map_or}
 use Rattle.std.specs.Str.{bytes_eq}
-use Rattle.std.proofs.lemmas.Bool.{ltb-true, false≢true}
+use Rattle.std.proofs.lemmas.Bool.{ltb-true}
 use Rattle.std.proofs.lemmas.Option.{slice_get-map}
 use Rattle.std.proofs.lemmas.List.{length-map, length-append}
 use Rattle.std.proofs.lemmas.Slice.Eq.{bytes_eq-Decides}
 use Rattle.gcd_plan.specs.PlanView.{PlanView}
-use Rattle.gcd_plan.specs.Kinds.{is_source, is_source_kind}
-use Rattle.gcd_plan.specs.Limits.{max_blocks, max_objects}
+use Rattle.gcd_plan.specs.Kinds.{is_source_kind}
 use Rattle.gcd_plan.specs.Validity.{IsPlan, declared_names, names_of}
-use Rattle.gcd_event.specs.Fits.{IsRun}
-use Rattle.gcd_plan.specs.declared.numbers.Blk.{Blk}
-use Rattle.gcd_plan.specs.declared.numbers.Obj.{Obj}
+use Rattle.gcd_plan.proofs.Numbered.{same_blk, same_obj}
 use Rattle.gcd_plan.specs.declared.numbers.Run.{Run}
 use Rattle.gcd_plan.specs.declared.numbers.Run.TheVariants.{Block, Source}
 use Rattle.gcd_plan.proofs.Places.{slice_get-append_left, slice_get_some}
+use Rattle.gcd_plan.proofs.Within.{has_object}
+use Rattle.gcd_plan.proofs.Sums.{one_place}
 use Rattle.gcd_history.specs.Permitted.{is_run_of}
 use Rattle.gcd_history.specs.Report.{name_of_run}
-use Rattle.gcd_history.proofs.Fitting.{has_object}
-use Rattle.gcd_journal.proofs.Cuts.{one_place, get_second}
+use Rattle.gcd_journal.proofs.Cuts.{get_second}
 
 -- the place of a run's name among the names of the plan
 place_of : PlanView → Run → ℕ
@@ -64,19 +62,13 @@ at_place plan (Source s) h =
     ∙ slice_get-append_left objects strips s.0 (omega (arith, some, within))
     ∙ named (λ o. o.name) plan.objects s.0 within
 
-same_block : (b c : Blk) → b.0 ≡ c.0 → b ≡ c
-same_block b c e = let made : ℕ → Blk = λ n. record { 0 = n } in ap made e
-
-same_source : (s t : Obj) → s.0 ≡ t.0 → s ≡ t
-same_source s t e = let made : ℕ → Obj = λ n. record { 0 = n } in ap made e
-
 -- runs at one place are one run
 same_place : (plan : PlanView) (r q : Run) → is_run_of plan r ≡ true → is_run_of plan q ≡ true → place_of plan r ≡ place_of plan q → r ≡ q
 unfolding place_of
-same_place plan (Block b) (Block c) h k at = ap Block (same_block b c (omega arith))
+same_place plan (Block b) (Block c) h k at = ap Block (same_blk b c (omega arith))
 same_place plan (Block b) (Source s) h k at = let within = has_object is_source_kind plan s.0 k in absurd (omega arith)
 same_place plan (Source s) (Block b) h k at = let within = has_object is_source_kind plan s.0 h in absurd (omega arith)
-same_place plan (Source s) (Source t) h k at = ap Source (same_source s t (omega arith))
+same_place plan (Source s) (Source t) h k at = ap Source (same_obj s t (omega arith))
 
 -- runs of one name are one run
 pub runs_apart : (plan : PlanView) (r q : Run) → IsPlan plan → is_run_of plan r ≡ true → is_run_of plan q ≡ true → name_of_run plan r ≡ name_of_run plan q → r ≡ q
@@ -85,23 +77,4 @@ runs_apart plan r q valid h k same =
     let own : bytes_eq name name ≡ true = (bytes_eq-Decides name name).1 refl in
     let other : bytes_eq name (name_of_run plan q) ≡ true = (bytes_eq-Decides name (name_of_run plan q)).1 same in
     same_place plan r q h k
-    (one_place (bytes_eq name) (names_of plan) (place_of plan r) (place_of plan q) name (name_of_run plan q) (valid.names_apart name) (at_place plan r h) (at_place plan q k) own other)
-
--- ## The numbers of a plan's runs
-
-not_root : (plan : PlanView) (s : ℕ) → IsPlan plan → is_source plan s ≡ true → 1 ≤ s
-not_root plan zero valid h =
-    let root : is_source plan 0 ≡ false = ap (λ o. option_map_or is_source_kind (option_map (λ obj. obj.kind) o) false) valid.root in
-    absurd (false≢true (sym root ∙ h))
-not_root plan (suc s) valid h = omega arith
-
--- they fit
-pub run_fits : (plan : PlanView) (run : Run) → IsPlan plan → is_run_of plan run ≡ true → IsRun run
-run_fits plan (Block b) valid h =
-    let within : b.0 < length plan.blocks = ltb-true b.0 (length plan.blocks) h in
-    let few : length plan.blocks ≤ max_blocks = valid.few_blocks in
-    omega arith
-run_fits plan (Source s) valid h =
-    let within : s.0 < length plan.objects = has_object is_source_kind plan s.0 h in
-    let few : length plan.objects ≤ max_objects = valid.few_objects in
-    (not_root plan s.0 valid h, omega arith)
+    (one_place (bytes_eq name) (names_of plan) (place_of plan r) (place_of plan q) name (name_of_run plan q) (at_place plan r h) (at_place plan q k) own other (valid.names_apart name))

@@ -41,18 +41,12 @@ count_text n = join_with_byte 32 (codes "events" ∷ decimal n ∷ [])
 pub plain_count : (n : ℕ) → n < 2 ^ 64 → list_all (list_all is_plain) (codes "events" ∷ decimal n ∷ []) ≡ true
 plain_count n few = and_from (list_all is_plain (decimal n)) true (plain_decimal n few) refl
 
-pub line_of_count : (n : ℕ) → count_line n ≡ count_text n ++ 10 ∷ []
-line_of_count n = refl
-
 module _ (plan : PlanView) (valid : IsPlan plan) where
-  plain : (e : Event) → IsSpoken plan e → list_all (list_all is_plain) (fields_of_event plan e) ≡ true
-  plain e spoken = plain_fields plan e valid spoken
-
   pub text_line : (e : Event) → IsSpoken plan e → is_line (text_of plan e) ≡ true
-  text_line e spoken = joined_line (fields_of_event plan e) (plain e spoken)
+  text_line e spoken = joined_line (fields_of_event plan e) (plain_fields plan e valid spoken)
 
   pub read_text : (e : Event) → IsSpoken plan e → fields_of (text_of plan e) ≡ fields_of_event plan e
-  read_text e spoken = fields_of_text plan e (plain e spoken)
+  read_text e spoken = fields_of_text plan e (plain_fields plan e valid spoken)
 
   -- what follows an event's line
   pub line_and_rest : (e : Event) (x : List ℕ) → event_line plan e ++ x ≡ text_of plan e ++ 10 ∷ x

@@ -1,8 +1,8 @@
 -- The names of a valid plan's blocks and sources have plain bytes, those that it makes for an intake and for strips too.
-use Rattle.std.proofs.Common.{◌≡◌, ◌⊎◌, inl, inr, ℕ, zero, suc, ◌+◌, ◌-◌, ◌<◌, ◌≤◌, ◌==◌, ltb, leb, Bool, true, false, ◌||◌, List, [], ◌∷◌, ◌++◌, length, map, take, drop, Option, Some, None, codes, refl, ap, sym, ◌∙◌, subst, arith}
+use Rattle.std.proofs.Common.{◌≡◌, ◌⊎◌, inl, inr, ℕ, zero, suc, ◌+◌, ◌-◌, ◌<◌, ◌≤◌, ◌==◌, ltb, leb, Bool, true, false, ◌||◌, List, [], ◌∷◌, ◌++◌, length, map, take, drop, Option, Some, None, codes, refl, ap, sym, ◌∙◌, arith}
 use Rattle.std.specs.Fmt.{decimal}
 use Rattle.std.specs.List.{slice_get, list_all, list_any, range_with_len}
-use Rattle.std.specs.Option.{option_map, option_map_or, option_to_list, IfSome}
+use Rattle.std.specs.Option.{option_map, option_map_or, option_to_list}
 use Rattle.std.proofs.lemmas.Bool.{and_parts, and_from, ltb-true, leb-true, lt-ltb, false≢true, eqb-true, false_from_ne_true}
 use Rattle.std.proofs.lemmas.Option.{slice_get-map, slice_get-get_or}
 use Rattle.std.proofs.lemmas.List.Folds.{list_all-append, list_any-append}
@@ -12,15 +12,18 @@ use Rattle.gcd_plan.specs.Kinds.{is_source_kind}
 use Rattle.gcd_plan.specs.Limits.{max_blocks}
 use Rattle.gcd_plan.specs.Made.{Span, is_within, is_made, is_of_intake, intake_span, strip_span, intake_block, strip_block}
 use Rattle.gcd_plan.specs.Names.{is_name, is_name_byte, begins_with_letter}
-use Rattle.gcd_plan.specs.Validity.{IsPlan, IsIntake, HasBlocks, is_among_blocks}
+use Rattle.gcd_plan.specs.Validity.{IsPlan, HasBlocks, is_among_blocks}
 use Rattle.gcd_plan.specs.declared.numbers.Run.{Run}
 use Rattle.gcd_plan.specs.declared.numbers.Run.TheVariants.{Block, Source}
 use Rattle.gcd_plan.proofs.Places.{slice_get_some}
 use Rattle.gcd_plan.proofs.Quantifiers.{list_all_get}
-use Rattle.gcd_refinement.proofs.Kept.{slice_get-drop}
+use Rattle.gcd_plan.proofs.MadeBlocks.{within_parts}
+use Rattle.gcd_plan.proofs.Spans.{intake_of_plan}
+use Rattle.gcd_plan.proofs.Strips.{strip_named}
+use Rattle.gcd_plan.proofs.Within.{has_object}
+use Rattle.gcd_refinement.proofs.Lists.Kept.{slice_get-drop}
 use Rattle.gcd_history.specs.Permitted.{is_run_of}
 use Rattle.gcd_history.specs.Report.{name_of_run}
-use Rattle.gcd_history.proofs.Fitting.{has_object}
 use Rattle.gcd_journal.proofs.Cuts.{is_plain}
 use Rattle.gcd_journal.proofs.Numbers.{plain_decimal}
 
@@ -56,12 +59,6 @@ pub get_made : {A : Type 0} (f : ℕ → A) (a n i : ℕ) → i < n → slice_ge
 get_made f a n i within =
     slice_get-get_or (map f (range_with_len a n)) i (f a) (let long = length-map-range_with_len f a n in omega (arith, long))
     ∙ ap Some (get_or-map-range_with_len f a n i (a + i) (f a) within refl)
-
--- the numbers of a span
-pub within_parts : (b : ℕ) (span : Span) → is_within b span ≡ true → (span.first ≤ b) × (b < span.first + span.count)
-within_parts b span h =
-    let parts = and_parts (leb span.first b) (ltb b (span.first + span.count)) h in
-    (leb-true span.first b parts.0, ltb-true b (span.first + span.count) parts.1)
 
 -- the block at a number of a span, where the plan has these blocks there
 pub block_at : (plan : PlanView) (span : Span) (f : ℕ → BlkView) (a b : ℕ) → is_within b span ≡ true → HasBlocks plan span (map f (range_with_len a span.count))
@@ -102,29 +99,16 @@ either true y h = inl refl
 either false y h = inr h
 
 module _ (plan : PlanView) (valid : IsPlan plan) where
-  intake_is : (v : IntakeView) → plan.intake ≡ Some v → IsIntake plan v
-  intake_is v at = subst (λ o. IfSome o (IsIntake plan)) at valid.intake
-
   -- the names of an intake's blocks
   plain_of_intake : (b : ℕ) (v : IntakeView) → plan.intake ≡ Some v → is_within b (intake_span v) ≡ true → list_all is_plain (name_of_blk plan b) ≡ true
   plain_of_intake b v at within =
-      let is = intake_is v at in
+      let is = intake_of_plan plan valid v at in
       let parts = within_parts b (intake_span v) within in
       let end = span_end plan (intake_span v) is.among in
       let few : length plan.blocks ≤ max_blocks = valid.few_blocks in
       let k = 1 + (b - v.first) in
       ap (λ o. list_all is_plain (option_map_or (λ (c : BlkView). c.name) o [])) (block_at plan (intake_span v) intake_block 1 b within is.blocks)
       ∙ plain_decimal k (omega (arith, parts.0, parts.1, end, few))
-
-  -- a strip has a name
-  strip_name : (a : ℕ) (s : StripView) → slice_get plan.strips a ≡ Some s → is_name s.name ≡ true
-  strip_name a s at =
-      let files = map (λ f. f.name) plan.files in
-      let objects = map (λ o. o.name) plan.objects in
-      let strips = map (λ s. s.name) plan.strips in
-      let all = and_parts (list_all is_name files) (list_all is_name (objects ++ strips)) (sym (list_all-append is_name files (objects ++ strips)) ∙ valid.names) in
-      let most = and_parts (list_all is_name objects) (list_all is_name strips) (sym (list_all-append is_name objects strips) ∙ all.1) in
-      list_all_get is_name strips a s.name most.1 (slice_get-map (λ s. s.name) plan.strips a ∙ ap (option_map (λ s. s.name)) at)
 
   -- the names of a strip's blocks
   plain_of_strip : (b a : ℕ) (s : StripView) → slice_get plan.strips a ≡ Some s → is_within b (strip_span s) ≡ true → list_all is_plain (name_of_blk plan b) ≡ true
@@ -136,7 +120,7 @@ module _ (plan : PlanView) (valid : IsPlan plan) where
       let k = 0 + (b - s.first) in
       ap (λ o. list_all is_plain (option_map_or (λ (c : BlkView). c.name) o [])) (block_at plan (strip_span s) (strip_block s) 0 b within is.blocks)
       ∙ list_all-append is_plain s.name (codes "." ++ decimal k)
-      ∙ and_from (list_all is_plain s.name) _ (plain_if_name s.name (strip_name a s at)) (plain_decimal k (omega (arith, parts.0, parts.1, end, few)))
+      ∙ and_from (list_all is_plain s.name) _ (plain_if_name s.name (strip_named plan valid a s at)) (plain_decimal k (omega (arith, parts.0, parts.1, end, few)))
 
   -- the names of all blocks that the plan makes
   plain_if_made : (b : ℕ) → is_made plan b ≡ true → list_all is_plain (name_of_blk plan b) ≡ true
@@ -185,7 +169,7 @@ block_of_intake plan b valid h =
     elim plan.intake as (λ o. plan.intake ≡ o → option_map_or (λ i. is_within b (intake_span i)) o false ≡ true → ltb b (length plan.blocks) ≡ true) [
       | None ↦ λ at k. cc
       | Some i ↦ λ at k.
-          let is = intake_is plan valid i at in
+          let is = intake_of_plan plan valid i at in
           let parts = within_parts b (intake_span i) k in
           let end = span_end plan (intake_span i) is.among in
           lt-ltb b (length plan.blocks) (omega (arith, parts.1, end))

@@ -1,12 +1,12 @@
 -- A report, line by line.
-use Rattle.std.proofs.Common.{◌≡◌, ℕ, zero, suc, ◌+◌, ◌==◌, Bool, true, List, [], ◌∷◌, ◌++◌, reverse, Option, Some, None, is_some, option_and_then, refl, ap, sym, ◌∙◌, subst, arith, add-zero, add-one, append_assoc}
+use Rattle.std.proofs.Common.{◌≡◌, ℕ, ◌+◌, ◌==◌, Bool, true, List, [], ◌∷◌, ◌++◌, reverse, Option, Some, None, is_some, option_and_then, refl, ap, sym, ◌∙◌, subst, append_assoc}
 use Rattle.std.specs.List.{flat_map, range_with_len, slice_get}
 use Rattle.std.specs.Prelude.{find}
 use Rattle.std.specs.Borrow.{Bor}
 use Rattle.std.specs.Option.{option_map_or}
 use Rattle.std.proofs.lemmas.Bool.{eqb-true}
 use Rattle.std.proofs.lemmas.List.{append-nil}
-use Rattle.std.proofs.lemmas.Grind.{flat_map-append}
+use Rattle.gcd_facts.proofs.Ranges.{flat_range_more}
 use Rattle.gcd_plan.specs.PlanView.{PlanView}
 use Rattle.gcd_plan.specs.Kinds.{is_node}
 use Rattle.gcd_plan.specs.Validity.{IsPlan}
@@ -16,27 +16,12 @@ use Rattle.gcd_history.specs.declared.submission.Submission.{Submission}
 use Rattle.gcd_history.specs.History.{is_submitted, node_of}
 use Rattle.gcd_history.specs.Submitted.{submitted, submission_of, main_submission, new_submissions}
 use Rattle.gcd_history.proofs.Lists.{found_passes}
-use Rattle.gcd_history.proofs.SubmittedOnNodes.{submitted_fit, on_a_node}
-
-range_push : (a n : ℕ) → range_with_len a (suc n) ≡ range_with_len a n ++ (a + n) ∷ []
-range_push a zero = ap (λ k. k ∷ []) (sym (add-zero a))
-range_push a (suc n) =
-    let e : (a + 1) + n ≡ a + suc n = omega arith in
-    ap (λ xs. a ∷ xs) (range_push (a + 1) n ∙ ap (λ k. range_with_len (a + 1) n ++ k ∷ []) e)
-
--- one line more of a range
-flat_range_push : (f : ℕ → List ℕ) (n : ℕ) → flat_map f (range_with_len 0 (n + 1)) ≡ flat_map f (range_with_len 0 n) ++ f n
-flat_range_push f n =
-    let one : 0 + n ≡ n = omega arith in
-    rw add-one (ap (flat_map f) (range_push 0 n)
-    ∙ flat_map-append f (range_with_len 0 n) ((0 + n) ∷ [])
-    ∙ ap (λ k. flat_map f (range_with_len 0 n) ++ (f k ++ [])) one
-    ∙ ap (λ line. flat_map f (range_with_len 0 n) ++ line) (append-nil (f n)))
+use Rattle.gcd_history.proofs.Blocks.SubmittedOnNodes.{submitted_fit, on_a_node}
 
 -- a text that has grown by the lines so far, and by one more
 pub line_more : (f : ℕ → List ℕ) (n : ℕ) (began old new : List ℕ) → old ≡ began ++ flat_map f (range_with_len 0 n) → new ≡ old ++ f n → new ≡ began ++ flat_map f (range_with_len 0 (n + 1))
 line_more f n began old new before now =
-    now ∙ ap (λ l. l ++ f n) before ∙ append_assoc began (flat_map f (range_with_len 0 n)) (f n) ∙ ap (λ l. began ++ l) (sym (flat_range_push f n))
+    now ∙ ap (λ l. l ++ f n) before ∙ append_assoc began (flat_map f (range_with_len 0 n)) (f n) ∙ ap (λ l. began ++ l) (sym (flat_range_more f n))
 
 -- by none, and by all
 pub lines_none : (f : ℕ → List ℕ) (began : List ℕ) → began ≡ began ++ flat_map f (range_with_len 0 0)

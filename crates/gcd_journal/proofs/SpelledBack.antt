@@ -15,9 +15,9 @@ use Rattle.gcd_event.specs.declared.event.Event.{Event}
 use Rattle.gcd_event.specs.declared.event.Event.TheVariants.{Start, Act as Acted, Wake, End, Deliver, DeliverEnd, Tick, Ready, FeedEnd, Misuse, Halt, Expire, Accept, Shut}
 use Rattle.gcd_history.specs.Permitted.{is_run_of}
 use Rattle.gcd_history.specs.Report.{name_of_run}
+use Rattle.gcd_history.proofs.Permitted.Fitting.{run_fits}
 use Rattle.gcd_journal.specs.Spoken.{IsSpoken}
 use Rattle.gcd_journal.specs.Spelling.{Look, number_in, worker_in, index_in, sender_in, time_in, bytes_in, code_in, block_of_run, block_in, other_block_of_run, other_block_in, source_of_run, source_in, of_both, block_event, source_event, turn_event, turn_in, by_one, by_two, by_three, by_four, by_five, event_in}
-use Rattle.gcd_journal.proofs.NamesApart.{run_fits}
 use Rattle.gcd_journal.proofs.Numbers.{read_back}
 use Rattle.gcd_journal.proofs.Spelled.{fields_of_event}
 

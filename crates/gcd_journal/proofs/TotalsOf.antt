@@ -1,16 +1,16 @@
 -- What deliveries hand over, an event on.
 use Rattle.std.proofs.Common.{zero, suc, add-one, ◌≡◌, ◌≢◌, ℕ, ◌+◌, ◌*◌, ◌^◌, ◌<◌, ◌≤◌, true, false, cond, List, [], ◌∷◌, ◌++◌, length, take, reverse, Some, None, get_or, set, replicate, refl, ap, sym, ◌∙◌, subst, arith, fold, inl, inr, if◌then◌else◌}
 use Rattle.std.specs.Option.{option_map_or}
-use Rattle.std.specs.Int.Bits.{or_add_and}
 use Rattle.std.proofs.lemmas.Bool.{both_ways, cases_eq, eq-eqb, ne_eqb}
 use Rattle.std.proofs.lemmas.List.{append-nil, length-append, length-set, get_or-set_same, get_or-set_other, get_or-replicate, length-replicate, take_more, take_all}
 use Rattle.std.proofs.lemmas.List.Sums.{fold_push}
 use Rattle.gcd_plan.specs.PlanView.{PlanView, kind_of}
 use Rattle.gcd_plan.specs.KindValues.{folded}
 use Rattle.gcd_plan.specs.declared.kind.Kind.{Kind}
-use Rattle.gcd_plan.specs.declared.kind.Kind.TheVariants.{Or}
 use Rattle.gcd_plan.specs.declared.numbers.Obj.{Obj}
 use Rattle.gcd_plan.proofs.Sums.{count_by-cons}
+use Rattle.gcd_plan.proofs.Folded.{folded_low}
+use Rattle.gcd_plan.proofs.Within.{has_object}
 use Rattle.gcd_event.specs.declared.event.Event.{Event}
 use Rattle.gcd_event.specs.declared.event.Event.TheVariants.{Deliver, Halt}
 use Rattle.gcd_history.specs.Sources.{delivers, delivery_count, fold_at, handed, pending, received, last_data}
@@ -19,15 +19,10 @@ use Rattle.gcd_history.specs.History.{IsLawful, why, received_of, delivery_count
 use Rattle.gcd_history.proofs.Lists.{reverse_push}
 use Rattle.gcd_plan.specs.Kinds.{is_source, is_source_kind}
 use Rattle.gcd_plan.specs.Validity.{IsPlan}
-use Rattle.gcd_history.proofs.Fitting.{has_object}
 use Rattle.gcd_journal.specs.Spoken.{IsSpoken}
 use Rattle.gcd_journal.specs.declared.totals.Total.{Total}
 use Rattle.gcd_journal.proofs.LawfulSpoken.{permitted_spoken}
 use Rattle.gcd_journal.specs.Totals.{AreTotals, total_of, no_total}
-
-pub folded_low : (kind : Kind) (a b : ℕ) → folded kind a b ≤ a + b
-folded_low Or a b = let e = or_add_and a b in omega arith
-folded_low kind a b = omega arith
 
 count_step : (h : List Event) (e : Event) (s : ℕ) → delivery_count_of (h ++ e ∷ []) s ≡ cond (delivers s e) 1 0 + delivery_count_of h s
 unfolding delivery_count_of

@@ -5,15 +5,9 @@ use Rattle.std.proofs.lemmas.List.{get_or-set_same, get_or-set_other, length-set
 use Rattle.std.proofs.lemmas.Option.{none-some, same_Some}
 use Rattle.gcd_plan.specs.declared.numbers.Blk.{Blk}
 use Rattle.gcd_plan.specs.declared.numbers.Obj.{Obj}
+use Rattle.gcd_plan.proofs.Numbered.{same_blk}
 use Rattle.gcd_lists.specs.Links.{Hold, IsChain, AreBacked, entry, on}
 use Rattle.gcd_lists.proofs.Chains.{chain_behind}
-
--- a block by its number
-abbrev pub blk_of : ℕ → Blk
-blk_of b = record { 0 = b }
-
-pub same_blk : (a b : Blk) → a.0 ≡ b.0 → a ≡ b
-same_blk a b e = ap blk_of e
 
 -- what stands behind a block that waits waits on the same node
 pub next_waits : (links places heads lasts lists : _) (b n : ℕ) (barrier : Bool) (behind : Blk) → Hold links places heads lasts lists

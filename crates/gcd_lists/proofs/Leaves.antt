@@ -1,17 +1,17 @@
 -- A block leaves its list, wherever it stands there.
-use Rattle.std.proofs.Common.{◌≡◌, ◌≢◌, ℕ, zero, suc, ◌+◌, ◌≤◌, ◌<◌, ◌==◌, Bool, cond, List, [], ◌∷◌, length, get_or, set, drop, Option, Some, None, refl, ap, sym, ◌∙◌, subst, inl, inr, arith}
-use Rattle.std.specs.Option.{option_or, option_map}
+use Rattle.std.proofs.Common.{◌≡◌, ◌≢◌, ℕ, ◌+◌, ◌≤◌, ◌<◌, ◌==◌, Bool, cond, List, [], ◌∷◌, length, get_or, set, drop, Option, Some, None, refl, ap, sym, ◌∙◌, subst, inl, inr, arith}
 use Rattle.std.proofs.lemmas.Bool.{cases_eq, eq-eqb, ne_eqb}
 use Rattle.std.proofs.lemmas.List.{get_or-set_same, get_or-set_other, length-set}
 use Rattle.std.proofs.lemmas.Option.{none-some, same_Some}
 use Rattle.gcd_plan.specs.declared.numbers.Blk.{Blk}
 use Rattle.gcd_plan.specs.declared.numbers.Obj.{Obj}
-use Rattle.gcd_lists.specs.ListsView.{barrier_in, place_from, without}
+use Rattle.gcd_plan.proofs.Numbered.{same_blk}
+use Rattle.gcd_lists.specs.ListsView.{barrier_in, without}
 use Rattle.gcd_lists.specs.Links.{Hold, IsQueue, IsChain, IsLast, AreBacked, before_in, entry, last_at, on}
 use Rattle.gcd_lists.proofs.Places.{barrier_in_here, barrier_in_later}
 use Rattle.gcd_lists.proofs.Chains.{once_in_chain, chain_same}
 use Rattle.gcd_lists.proofs.Changes.{untouched, taken_here, taken_elsewhere}
-use Rattle.gcd_lists.proofs.Backs.{same_blk, still_waits}
+use Rattle.gcd_lists.proofs.Backs.{still_waits}
 use Rattle.gcd_lists.proofs.Held.{entry_within}
 
 -- ## A list without a block
@@ -60,15 +60,6 @@ without_shorter b (w ∷ ws) flag found =
           let is = ap length (without_later b w ws other) in
           omega (arith, is, without_shorter b ws flag (sym (barrier_in_later b w ws other) ∙ found))
     ]
-
--- and waits where it waited
-pub place_removed : (node : ℕ) (lists : List (List (Blk × Bool))) (i c b : ℕ) → c ≢ b
-    → place_from node (set lists i (without b (get_or lists i []))) c ≡ place_from node lists c
-place_removed node [] i c b ne = refl
-place_removed node (ws ∷ lists) zero c b ne =
-    ap (λ found. option_or (option_map (λ barrier. (record { 0 = node }, barrier)) found) (place_from (suc node) lists c)) (barrier_without c b ws ne)
-place_removed node (ws ∷ lists) (suc i) c b ne =
-    ap (option_or (option_map (λ barrier. (record { 0 = node }, barrier)) (barrier_in c ws))) (place_removed (suc node) lists i c b ne)
 
 -- ## Chains
 

@@ -31,6 +31,9 @@
 //!
 //! `proofs/Places` has, for proofs above, what `place_of` says of the lists, and `proofs/Leaves` and `proofs/Spans` what it
 //! says of a list without a block, and of one with a span behind it.
+//!
+//! The machine keeps such lists three times: the blocks that wait at each queue, those that sleep at a semaphore or a group, from which
+//! an expired wait is removed, and those that wait for the end of a block.
 #![tactic(auto)]
 
 mod link;

@@ -41,25 +41,6 @@ pub first_is_told : (news : List Tell) (e : Event) → first_event news ≡ Some
 first_is_told [] e first = cc
 first_is_told (t ∷ rest) e first = pick_is_told t.ended t e (same_Some (event_of t) e first)
 
-told_outside : (e : Event) → is_told e ≡ true → IsOutside e
-told_outside (Start w b) told = cc
-told_outside (Acted w r i) told = cc
-told_outside (Wake w b) told = cc
-told_outside (End w b) told = cc
-told_outside (Deliver w s) told = cc
-told_outside (DeliverEnd w s) told = cc
-told_outside (Tick t) told = cc
-told_outside (Ready s n) told = record { by = refl; no_work = refl; uncalled = refl }
-told_outside (FeedEnd s) told = record { by = refl; no_work = refl; uncalled = refl }
-told_outside (Misuse w c r i) told = cc
-told_outside Halt told = cc
-told_outside (Expire b) told = cc
-told_outside (Accept b s) told = cc
-told_outside Shut told = cc
-
-pub first_is_outside : (news : List Tell) (e : Event) → first_event news ≡ Some e → IsOutside e
-first_is_outside news e first = told_outside e (first_is_told news e first)
-
 pub put_is_outside : (plan : PlanView) (h : List Event) (start present : ℕ) (p q : PollerState) (e : Event) → IsPut plan h start present p q e → IsOutside e
 put_is_outside plan h start present p q (Start w b) put = absurd put
 put_is_outside plan h start present p q (Acted w r i) put = absurd put
@@ -75,9 +56,6 @@ put_is_outside plan h start present p q Halt put = record { by = refl; no_work =
 put_is_outside plan h start present p q (Expire b) put = record { by = refl; no_work = refl; uncalled = refl }
 put_is_outside plan h start present p q (Accept b s) put = absurd put
 put_is_outside plan h start present p q Shut put = absurd put
-
-pub halt_is_outside : IsOutside Halt
-halt_is_outside = record { by = refl; no_work = refl; uncalled = refl }
 
 -- nobody told it, and it is neither a Halt nor a Tick
 pub record IsPlain (e : Event) : Type 0 where
@@ -97,11 +75,6 @@ called_is_plain Shut called = record {
   no_tick = λ t (tick : Shut ≡ Tick t). cc;
 }
 called_is_plain e called = cc
-
--- an event that is not of outside callers accepts no job
-pub uncalled_accepts_none : (e : Event) → is_of_callers e ≡ false → accepted e ≡ None
-uncalled_accepts_none (Accept b s) uncalled = cc
-uncalled_accepts_none e uncalled = refl
 
 -- an event of a worker accepts no job
 pub work_accepts_none : (e : Event) → is_work e ≡ true → accepted e ≡ None

@@ -1,8 +1,7 @@
 -- What holds of each event of a history, an event on.
-use Rattle.std.proofs.Common.{◌≡◌, ◌<◌, ◌≤◌, ◌∙◌, ◌⊎◌, ℕ, List, [], ◌∷◌, ◌++◌, length, None, Some, IsTrue, true, ap, sym, subst, arith, append-nil, append_assoc, ⊎_elim}
+use Rattle.std.proofs.Common.{◌≡◌, ◌<◌, ◌≤◌, ◌∙◌, ◌⊎◌, ℕ, List, [], ◌∷◌, ◌++◌, length, None, Some, IsTrue, ap, sym, subst, arith, ⊎_elim}
 use Rattle.std.specs.Prelude.{slice_get, take}
-use Rattle.std.specs.List.{list_all}
-use Rattle.std.proofs.lemmas.Bool.{and_parts, cases_lt}
+use Rattle.std.proofs.lemmas.Bool.{cases_lt}
 use Rattle.std.proofs.lemmas.List.{length_push, take-append-le, take_at}
 use Rattle.std.proofs.lemmas.Option.{same_Some, slice_get_within}
 use Rattle.gcd_plan.specs.PlanView.{PlanView}
@@ -10,9 +9,8 @@ use Rattle.gcd_plan.proofs.Places.{slice_get-append_left, slice_get-append_seam}
 use Rattle.gcd_event.specs.declared.event.Event.{Event}
 use Rattle.gcd_history.specs.Choice.{is_work, worker_of}
 use Rattle.gcd_history.specs.History.{choice_of}
-use Rattle.gcd_history.specs.Intake.{accepted}
-use Rattle.gcd_loop.specs.Followed.{AcceptsNone, FollowsChoice, IsAllWorker0, IsOfWorkers}
-use Rattle.gcd_loop.proofs.Events.{work_accepts_none}
+use Rattle.gcd_history.specs.Intake.{accepted, AcceptsNone}
+use Rattle.gcd_loop.specs.Followed.{FollowsChoice, IsAllWorker0, IsOfWorkers}
 
 -- what holds of each event of a history, and of one more
 pub each_more : (P : List Event → Event → Type 0) (h : List Event) (e : Event)
@@ -40,14 +38,6 @@ alone_more h e alone by = each_more (λ k x. worker_of x ≡ 0) h e alone by
 
 pub accepts_none_more : (h : List Event) (e : Event) → AcceptsNone h → accepted e ≡ None → AcceptsNone (h ++ e ∷ [])
 accepts_none_more h e none last = each_more (λ k x. accepted x ≡ None) h e none last
-
--- nor do events of workers behind a history that accepts none
-pub accepts_none_work : (h rest : List Event) → AcceptsNone h → list_all is_work rest ≡ true → AcceptsNone (h ++ rest)
-accepts_none_work h [] none work = subst AcceptsNone (sym (append-nil h)) none
-accepts_none_work h (e ∷ rest) none work =
-    let parts = and_parts (is_work e) (list_all is_work rest) work in
-    subst AcceptsNone (append_assoc h (e ∷ []) rest)
-    (accepts_none_work (h ++ e ∷ []) rest (accepts_none_more h e none (work_accepts_none e parts.0)) parts.1)
 
 pub workers_more : (workers : ℕ) (h : List Event) (e : Event) → IsOfWorkers workers h → worker_of e < workers → IsOfWorkers workers (h ++ e ∷ [])
 workers_more workers h e by last = each_more (λ k x. worker_of x < workers) h e by last

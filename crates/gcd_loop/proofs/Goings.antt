@@ -10,7 +10,7 @@ use Rattle.gcd_event.specs.declared.event.Event.TheVariants.{Tick, Halt, Expire}
 use Rattle.gcd_history.specs.Choice.{is_work}
 use Rattle.gcd_history.specs.Ends.{is_halted}
 use Rattle.gcd_history.specs.History.{why, IsLawful}
-use Rattle.gcd_history.proofs.LawfulLemmas.{lawful_front, lawful_next}
+use Rattle.gcd_history.proofs.Permitted.Lawful.{lawful_front, lawful_next}
 use Rattle.gcd_outer.specs.Outside.{ClockState}
 use Rattle.gcd_outer.specs.Tells.{PollerState}
 use Rattle.gcd_turn.specs.Asked.{HasFailed, KeepsListens}
@@ -23,8 +23,8 @@ use Rattle.gcd_turn.proofs.Promised.{faults_halted, faults_more, faults_same}
 use Rattle.gcd_turn.proofs.TimeSteps.{time_more}
 use Rattle.gcd_loop.specs.Going.{IsGoing}
 use Rattle.gcd_loop.specs.Recorded.{Grows, IsAdmitted, IsPlaced, Says, after_put}
-use Rattle.gcd_loop.specs.declared.recorder.Put.{Put}
-use Rattle.gcd_loop.specs.declared.recorder.Put.TheVariants.{Placed, Barred, Later}
+use Rattle.gcd_loop.specs.declared.recorder.PutEnd.{PutEnd}
+use Rattle.gcd_loop.specs.declared.recorder.PutEnd.TheVariants.{Placed, Barred, Later}
 use Rattle.gcd_loop.proofs.Events.{called_is_plain, first_is_told, halt_barred, tick_time, untold}
 
 pub keeps_same : (tells : Bool) (p : PollerState) → KeepsListens tells p p
@@ -170,31 +170,31 @@ module _ (most : ℕ) (pt ct : Bool) (plan : PlanView) (stood : List Event) (bef
         }))
 
   -- nobody told it, it is no Halt, and no Tick ahead of the clock
-  going_untold : (p : PollerState) (c : ClockState) (h k : List Event) (o : OutlookView) (e : Event) (r : Put) → IsLawful plan k → length k ≤ most
+  going_untold : (p : PollerState) (c : ClockState) (h k : List Event) (o : OutlookView) (e : Event) (r : PutEnd) → IsLawful plan k → length k ≤ most
       → (e ≡ Halt → ⊥) → is_told e ≡ false → ((t : ℕ) → e ≡ Tick t → o.start + t ≤ c.present) → Says most plan e h k r
       → IsGoing most pt ct plan stood before early p c h o → IsGoing most pt ct plan stood before early p c k o
   going_untold p c h k o e Placed lawful few other told tick said going = placed_untold h k lawful few e said p c o other told tick going
   going_untold p c h k o e Barred lawful few other told tick said going = going_grown p c h k o lawful few said.0 going
   going_untold p c h k o e Later lawful few other told tick said going = going_grown p c h k o lawful few said.0 going
 
-  pub going_tick : (p : PollerState) (c : ClockState) (h k : List Event) (o : OutlookView) (t : ℕ) (r : Put) → IsLawful plan k → length k ≤ most → o.start + t ≤ c.present → Says most plan (Tick t) h k r
+  pub going_tick : (p : PollerState) (c : ClockState) (h k : List Event) (o : OutlookView) (t : ℕ) (r : PutEnd) → IsLawful plan k → length k ≤ most → o.start + t ≤ c.present → Says most plan (Tick t) h k r
       → IsGoing most pt ct plan stood before early p c h o → IsGoing most pt ct plan stood before early p c k o
   going_tick p c h k o t r lawful few due said going =
       going_untold p c h k o (Tick t) r lawful few (λ (halt : Tick t ≡ Halt). cc) refl
       (λ x (tick : Tick t ≡ Tick x). let same : t ≡ x = ap tick_time tick in omega (arith, same, due)) said going
 
-  pub going_expire : (p : PollerState) (c : ClockState) (h k : List Event) (o : OutlookView) (b : Blk) (r : Put) → IsLawful plan k → length k ≤ most → Says most plan (Expire b) h k r
+  pub going_expire : (p : PollerState) (c : ClockState) (h k : List Event) (o : OutlookView) (b : Blk) (r : PutEnd) → IsLawful plan k → length k ≤ most → Says most plan (Expire b) h k r
       → IsGoing most pt ct plan stood before early p c h o → IsGoing most pt ct plan stood before early p c k o
   going_expire p c h k o b r lawful few said going =
       going_untold p c h k o (Expire b) r lawful few (λ (halt : Expire b ≡ Halt). cc) refl (λ x (tick : Expire b ≡ Tick x). cc) said going
 
-  pub going_admitted : (p : PollerState) (c : ClockState) (h k : List Event) (o : OutlookView) (r : Put) → IsLawful plan k → length k ≤ most → IsAdmitted most plan h k r
+  pub going_admitted : (p : PollerState) (c : ClockState) (h k : List Event) (o : OutlookView) (r : PutEnd) → IsLawful plan k → length k ≤ most → IsAdmitted most plan h k r
       → IsGoing most pt ct plan stood before early p c h o → IsGoing most pt ct plan stood before early p c k o
   going_admitted p c h k o r lawful few was going =
       let plain = called_is_plain was.event was.called in
       going_untold p c h k o was.event r lawful few plain.no_halt plain.untold (λ t tick. absurd (plain.no_tick t tick)) was.said going
 
-  pub going_told : (p : PollerState) (c : ClockState) (h k : List Event) (o u : OutlookView) (e : Event) (r : Put) → IsLawful plan k → length k ≤ most → first_event o.news ≡ Some e → Says most plan e h k r
+  pub going_told : (p : PollerState) (c : ClockState) (h k : List Event) (o u : OutlookView) (e : Event) (r : PutEnd) → IsLawful plan k → length k ≤ most → first_event o.news ≡ Some e → Says most plan e h k r
       → u ≡ after_put r o → IsGoing most pt ct plan stood before early p c h o → IsGoing most pt ct plan stood before early p c k u
   going_told p c h k o u e Placed lawful few first said kept going =
       subst (λ (x : OutlookView). IsGoing most pt ct plan stood before early p c k x) (sym kept) (placed_told h k lawful few e said p c o first going)
@@ -250,7 +250,7 @@ module _ (most : ℕ) (pt ct : Bool) (plan : PlanView) (stood : List Event) (bef
         kept = keeps_through pt before p q going.kept l.kept;
       }
 
-  pub going_halt : (p q : PollerState) (c d : ClockState) (h k : List Event) (o u : OutlookView) (r : Put) → IsLawful plan k → length k ≤ most → Says most plan Halt h k r → Listens h p q c d o u → HasFailed p q
+  pub going_halt : (p q : PollerState) (c d : ClockState) (h k : List Event) (o u : OutlookView) (r : PutEnd) → IsLawful plan k → length k ≤ most → Says most plan Halt h k r → Listens h p q c d o u → HasFailed p q
       → IsGoing most pt ct plan stood before early p c h o → IsGoing most pt ct plan stood before early q d k u
   going_halt p q c d h k o u Placed lawful few said l failed going = fails_halted p q c d h k o u lawful few said l failed going
   going_halt p q c d h k o u Barred lawful few said l failed going = fails_over p q c d h k o u lawful said.0 l failed (inl (halt_barred plan k said.1)) going

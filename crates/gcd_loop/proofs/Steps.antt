@@ -10,7 +10,7 @@ use Rattle.gcd_history.specs.Choice.{is_work}
 use Rattle.gcd_history.specs.Ends.{HasEnded, is_halted}
 use Rattle.gcd_history.specs.History.{IsLawful, is_active}
 use Rattle.gcd_machine.specs.Stands.{StandsFor}
-use Rattle.gcd_machine.proofs.Shown.{lawful_stands}
+use Rattle.gcd_machine.proofs.Views.Calls.{lawful_stands}
 use Rattle.gcd_outer.specs.Outside.{ClockState, Seen}
 use Rattle.gcd_outer.specs.Tells.{PollerState}
 use Rattle.gcd_outer.specs.declared.tell.Tell.{Tell}
@@ -26,9 +26,9 @@ use Rattle.gcd_loop.specs.Going.{AfterTurn, IsGoing, IsRunOn, IsStopped, IsTrueT
 use Rattle.gcd_loop.specs.Recorded.{Grows, IsGrown, IsSight, Says}
 use Rattle.gcd_loop.specs.Followed.{FollowsChoice, IsOfWorkers}
 use Rattle.gcd_loop.specs.Ran.{RunsPlan}
-use Rattle.gcd_loop.specs.declared.recorder.Put.{Put}
-use Rattle.gcd_loop.specs.declared.turns.Turn.{Turn}
-use Rattle.gcd_loop.specs.declared.turns.Turn.TheVariants.{Placed, Waited, Stopped, Over}
+use Rattle.gcd_loop.specs.declared.recorder.PutEnd.{PutEnd}
+use Rattle.gcd_loop.specs.declared.turns.TurnEnd.{TurnEnd}
+use Rattle.gcd_loop.specs.declared.turns.TurnEnd.TheVariants.{Placed, Waited, Stopped, Over}
 use Rattle.gcd_loop.proofs.Goings.{Listens, going_expire, going_halt, going_on, going_tick, keeps_same}
 
 pub sight_lawful : (most : ℕ) (plan : PlanView) (h : List Event) (m : MachineView) → IsSight most plan h m → IsLawful plan h
@@ -71,7 +71,7 @@ module _ (most : ℕ) (pt ct : Bool) (plan : PlanView) (stood : List Event) (bef
   }
 
   -- what the outlook asks to put of itself
-  pub going_put : (p q : PollerState) (c d : ClockState) (h k : List Event) (o : OutlookView) (e : Event) (r : Put) → IsLawful plan k → length k ≤ most
+  pub going_put : (p q : PollerState) (c d : ClockState) (h k : List Event) (o : OutlookView) (e : Event) (r : PutEnd) → IsLawful plan k → length k ≤ most
       → IsPut plan h o.start d.present p q e → Says most plan e h k r → Listens most pt ct plan stood before early h p q c d o o
       → IsGoing most pt ct plan stood before early p c h o → IsGoing most pt ct plan stood before early q d k o
   going_put p q c d h k o (Start w b) r lawful few put said l going = absurd put
@@ -164,13 +164,13 @@ run_on most pt ct plan h k p q c d o ended goes = record {
 -- ## What a turn comes to
 
 -- what was put, and what came of listening, neither stops a turn nor ends the run
-after_plain : (ready : Type 0) (stopped : Option ℕ → Type 0) (ended : Type 0) (t : Turn) → AfterTurn ready (λ left. ⊥) ⊥ t → AfterTurn ready stopped ended t
+after_plain : (ready : Type 0) (stopped : Option ℕ → Type 0) (ended : Type 0) (t : TurnEnd) → AfterTurn ready (λ left. ⊥) ⊥ t → AfterTurn ready stopped ended t
 after_plain ready stopped ended Placed after = after
 after_plain ready stopped ended Waited after = after
 after_plain ready stopped ended (Stopped left) after = absurd after
 after_plain ready stopped ended Over after = absurd after
 
-pub ok_plain : {E : Type 0} (ready : Type 0) (stopped : Option ℕ → Type 0) (ended : Type 0) (r : Result Turn E)
+pub ok_plain : {E : Type 0} (ready : Type 0) (stopped : Option ℕ → Type 0) (ended : Type 0) (r : Result TurnEnd E)
     → IfOk r (AfterTurn ready (λ left. ⊥) ⊥) → IfOk r (AfterTurn ready stopped ended)
 ok_plain ready stopped ended r after = IfOk-weaker r (AfterTurn ready (λ left. ⊥) ⊥) (AfterTurn ready stopped ended) (after_plain ready stopped ended) after
 
@@ -182,7 +182,7 @@ stopped_at most plan stopped h k news p left room idle is same =
 
 -- what worker 0 did of its choice
 after_work : (most : ℕ) (plan : PlanView) (ready stopped ended : Type 0) (h k : List Event) (news : List Tell) (p : PollerState) (left : Option ℕ)
-    → HasRoom most plan h → MayIdle plan h news p left → (t : Turn) → AfterTurn ready (λ more. (more ≡ left) × stopped × (k ≡ h)) ended t
+    → HasRoom most plan h → MayIdle plan h news p left → (t : TurnEnd) → AfterTurn ready (λ more. (more ≡ left) × stopped × (k ≡ h)) ended t
     → AfterTurn ready (IsStopped most plan stopped k news p) ended t
 after_work most plan ready stopped ended h k news p left room idle Placed after = after
 after_work most plan ready stopped ended h k news p left room idle Waited after = after
@@ -191,7 +191,7 @@ after_work most plan ready stopped ended h k news p left room idle (Stopped more
 after_work most plan ready stopped ended h k news p left room idle Over after = after
 
 pub ok_work : {E : Type 0} (most : ℕ) (plan : PlanView) (ready stopped ended : Type 0) (h k : List Event) (news : List Tell) (p : PollerState) (left : Option ℕ)
-    → HasRoom most plan h → MayIdle plan h news p left → (r : Result Turn E) → IfOk r (AfterTurn ready (λ more. (more ≡ left) × stopped × (k ≡ h)) ended)
+    → HasRoom most plan h → MayIdle plan h news p left → (r : Result TurnEnd E) → IfOk r (AfterTurn ready (λ more. (more ≡ left) × stopped × (k ≡ h)) ended)
     → IfOk r (AfterTurn ready (IsStopped most plan stopped k news p) ended)
 ok_work most plan ready stopped ended h k news p left room idle r after =
     IfOk-weaker r (AfterTurn ready (λ more. (more ≡ left) × stopped × (k ≡ h)) ended) (AfterTurn ready (IsStopped most plan stopped k news p) ended)

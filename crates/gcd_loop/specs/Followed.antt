@@ -1,10 +1,9 @@
--- Whose the events of a history are, whether any comes of an outside caller, and that they follow worker 0's choice.
-use Rattle.std.specs.Prelude.{◌≡◌, ◌<◌, ℕ, List, None, Some, slice_get, take, IsTrue}
+-- Whose the events of a history are, and that they follow worker 0's choice.
+use Rattle.std.specs.Prelude.{◌≡◌, ◌<◌, ℕ, List, Some, slice_get, take, IsTrue}
 use Rattle.gcd_plan.specs.PlanView.{PlanView}
 use Rattle.gcd_event.specs.declared.event.Event.{Event}
 use Rattle.gcd_history.specs.Choice.{is_work, worker_of}
 use Rattle.gcd_history.specs.History.{choice_of}
-use Rattle.gcd_history.specs.Intake.{accepted}
 
 -- each event is of one of so many workers, numbered from 0
 abbrev pub IsOfWorkers : ℕ → List Event → Type 0
@@ -13,10 +12,6 @@ IsOfWorkers workers h = (i : ℕ) (e : Event) → slice_get h i ≡ Some e → w
 -- each event is worker 0's
 abbrev pub IsAllWorker0 : List Event → Type 0
 IsAllWorker0 h = (i : ℕ) (e : Event) → slice_get h i ≡ Some e → worker_of e ≡ 0
-
--- no event accepts a job of an outside caller
-abbrev pub AcceptsNone : List Event → Type 0
-AcceptsNone h = (i : ℕ) (e : Event) → slice_get h i ≡ Some e → accepted e ≡ None
 
 -- each event of a worker is what worker 0 chooses at its place, the nodes from number 0 on
 abbrev pub FollowsChoice : PlanView → List Event → Type 0

@@ -12,8 +12,8 @@ use Rattle.gcd_turn.specs.Hearing.{Heard}
 use Rattle.gcd_turn.specs.Promises.{HaltsAtFaults, IsHeard, IsTimely}
 use Rattle.gcd_turn.specs.Timing.{TimeKept}
 use Rattle.gcd_turn.specs.Turns.{HasRoom, OutlookView}
-use Rattle.gcd_loop.specs.declared.turns.Turn.{Turn}
-use Rattle.gcd_loop.specs.declared.turns.Turn.TheVariants.{Placed, Waited, Stopped, Over}
+use Rattle.gcd_loop.specs.declared.turns.TurnEnd.{TurnEnd}
+use Rattle.gcd_loop.specs.declared.turns.TurnEnd.TheVariants.{Placed, Waited, Stopped, Over}
 
 -- what is seen is what stood and what was placed since, in which stands what poller and clock said since these states, as far
 -- as the turns have come
@@ -33,7 +33,7 @@ pub record IsStopped (most : ℕ) (plan : PlanView) (stopped : Type 0) (h : List
   pub idle : MayIdle plan h news poller left
 
 -- after a turn the next may come, or it is stopped, or the run has ended
-abbrev pub AfterTurn : (ready : Type 0) → (stopped : Option ℕ → Type 0) → (ended : Type 0) → Turn → Type 0
+abbrev pub AfterTurn : (ready : Type 0) → (stopped : Option ℕ → Type 0) → (ended : Type 0) → TurnEnd → Type 0
 AfterTurn ready stopped ended Placed = ready
 AfterTurn ready stopped ended Waited = ready
 AfterTurn ready stopped ended (Stopped left) = stopped left

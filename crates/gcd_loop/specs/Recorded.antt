@@ -10,8 +10,8 @@ use Rattle.gcd_history.specs.History.{IsLawful, why}
 use Rattle.gcd_machine.specs.Stands.{StandsFor}
 use Rattle.gcd_refinement.specs.MachineView.{MachineView}
 use Rattle.gcd_turn.specs.Turns.{OutlookView}
-use Rattle.gcd_loop.specs.declared.recorder.Put.{Put}
-use Rattle.gcd_loop.specs.declared.recorder.Put.TheVariants.{Placed as PutPlaced, Barred, Later}
+use Rattle.gcd_loop.specs.declared.recorder.PutEnd.{PutEnd}
+use Rattle.gcd_loop.specs.declared.recorder.PutEnd.TheVariants.{Placed as PutPlaced, Barred, Later}
 use Rattle.gcd_loop.specs.declared.recorder.Step.{Step}
 use Rattle.gcd_loop.specs.declared.recorder.Step.TheVariants.{Placed, Waited, Stopped, Over}
 
@@ -40,19 +40,19 @@ pub record IsPlaced (e : Event) (h k : List Event) : Type 0 where
   pub is : k ≡ front ++ e ∷ []
 
 -- what `put` says
-abbrev pub Says : (most : ℕ) → PlanView → Event → List Event → List Event → Put → Type 0
+abbrev pub Says : (most : ℕ) → PlanView → Event → List Event → List Event → PutEnd → Type 0
 Says most plan e h k PutPlaced = IsPlaced e h k
 Says most plan e h k Barred = Grows h k × (why plan k e ≡ None → ⊥)
 Says most plan e h k Later = Grows h k × (e ≡ Halt → length k ≡ most)
 
 -- an Accept or a Shut was put
-pub record IsAdmitted (most : ℕ) (plan : PlanView) (h k : List Event) (answer : Put) : Type 0 where
+pub record IsAdmitted (most : ℕ) (plan : PlanView) (h k : List Event) (answer : PutEnd) : Type 0 where
   pub event : Event
   pub called : is_of_callers event ≡ true
   pub said : Says most plan event h k answer
 
 -- what `admit` says: an Accept or a Shut was put, or none was, and nothing more is seen
-abbrev pub Admits : (most : ℕ) → PlanView → (h k : List Event) → Option Put → Type 0
+abbrev pub Admits : (most : ℕ) → PlanView → (h k : List Event) → Option PutEnd → Type 0
 Admits most plan h k None = k ≡ h
 Admits most plan h k (Some answer) = IsAdmitted most plan h k answer
 
@@ -71,20 +71,20 @@ pub record IsGrown (most : ℕ) (plan : PlanView) (h k : List Event) : Type 0 wh
 
 -- the event was put
 pub record WasPut (most : ℕ) (plan : PlanView) (e : Event) (h k : List Event) : Type 0 where
-  pub answer : Put
+  pub answer : PutEnd
   pub said : Says most plan e h k answer
   pub lawful : IsLawful plan k
   pub few : length k ≤ most
 
 -- what is kept after what was told was put: it is dropped from the news, unless it is to be put again
-abbrev pub after_put : Put → OutlookView → OutlookView
+abbrev pub after_put : PutEnd → OutlookView → OutlookView
 after_put PutPlaced o = record o { news = drop 1 o.news }
 after_put Barred o = record o { news = drop 1 o.news }
 after_put Later o = o
 
 -- the first of the news was put
 pub record WasTold (most : ℕ) (plan : PlanView) (e : Event) (h k : List Event) (o u : OutlookView) : Type 0 where
-  pub answer : Put
+  pub answer : PutEnd
   pub said : Says most plan e h k answer
   pub kept : u ≡ after_put answer o
   pub lawful : IsLawful plan k

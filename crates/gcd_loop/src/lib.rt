@@ -30,5 +30,5 @@ mod recorder;
 mod turns;
 
 pub use backoff::{Backoff, NoBackoff};
-pub use recorder::{Put, Recorder, Step};
-pub use turns::{Turn, idle, run_turns, take_turn};
+pub use recorder::{PutEnd, Recorder, Step};
+pub use turns::{TurnEnd, idle, run_turns, take_turn};

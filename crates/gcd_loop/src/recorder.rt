@@ -15,7 +15,7 @@ use std::sync::Wait;
 
 /// What putting an event that is no worker's comes to.
 #[derive(Clone, Copy, PartialEq, Eq)]
-pub enum Put {
+pub enum PutEnd {
     /// It stands behind what is seen then, but for itself.
     Placed,
     /// It may not come next.
@@ -80,7 +80,7 @@ pub trait Recorder<D> {
         most: u32,
         shared: &D,
         e: Event,
-    ) -> Result<Put, Self::Fault>
+    ) -> Result<PutEnd, Self::Fault>
         requires ready { ready most plan.now shared.now self.old }
         requires room { HasRoom most plan.now (seen self.old) }
         requires outside { IsOutside e }
@@ -96,7 +96,7 @@ pub trait Recorder<D> {
         plan: &Plan,
         most: u32,
         shared: &D,
-    ) -> Result<Option<Put>, Self::Fault>
+    ) -> Result<Option<PutEnd>, Self::Fault>
         requires ready { ready most plan.now shared.now self.old }
         requires room { HasRoom most plan.now (seen self.old) }
         requires open { is_intake_open plan.now (seen self.old) ≡ true }

@@ -11,7 +11,7 @@ ghost use Rattle.gcd_loop.specs.Going.{AfterTurn, IsGoing, IsRunOn, IsStopped};
 ghost use Rattle.gcd_loop.specs.Recorded.{IsGrown, IsOutside, WasPut, WasTold};
 
 use crate::backoff::Backoff;
-use crate::recorder::{Put, Recorder, Step};
+use crate::recorder::{PutEnd, Recorder, Step};
 use gcd_event::Event;
 use gcd_outer::{Clock, Poller};
 use gcd_plan::Plan;
@@ -20,7 +20,7 @@ use std::sync::Wait;
 
 /// What a turn comes to.
 #[derive(Clone, Copy, PartialEq, Eq)]
-pub enum Turn {
+pub enum TurnEnd {
     /// An event was placed, or other work done.
     Placed,
     /// None was.
@@ -43,7 +43,7 @@ fn put<D, T: Recorder<D>, R: Wait>(
     shared: &D,
     run: &mut T,
     e: Event,
-) -> Result<Turn, T::Fault>
+) -> Result<TurnEnd, T::Fault>
     requires ready { T.ready most plan.now shared.now run.old }
     requires room { HasRoom most plan.now (T.seen run.old) }
     requires outside { IsOutside e }
@@ -53,9 +53,9 @@ fn put<D, T: Recorder<D>, R: Wait>(
     ensures kept { (a : T) → T.kept most plan.now shared.now a run.old → T.kept most plan.now shared.now a run.new }
 {
     match run.put(rt, plan, most, shared, e)? {
-        Put::Placed => Ok(Turn::Placed),
-        Put::Barred => Ok(Turn::Waited),
-        Put::Later => Ok(Turn::Waited),
+        PutEnd::Placed => Ok(TurnEnd::Placed),
+        PutEnd::Barred => Ok(TurnEnd::Waited),
+        PutEnd::Later => Ok(TurnEnd::Waited),
     }
 }
 
@@ -69,7 +69,7 @@ fn tell<D, T: Recorder<D>, R: Wait>(
     run: &mut T,
     outlook: &mut Outlook,
     e: Event,
-) -> Result<Turn, T::Fault>
+) -> Result<TurnEnd, T::Fault>
     requires ready { T.ready most plan.now shared.now run.old }
     requires room { HasRoom most plan.now (T.seen run.old) }
     requires outside { IsOutside e }
@@ -78,15 +78,15 @@ fn tell<D, T: Recorder<D>, R: Wait>(
     ensures kept { (a : T) → T.kept most plan.now shared.now a run.old → T.kept most plan.now shared.now a run.new }
 {
     match run.put(rt, plan, most, shared, e)? {
-        Put::Placed => {
+        PutEnd::Placed => {
             outlook.settle();
-            Ok(Turn::Placed)
+            Ok(TurnEnd::Placed)
         }
-        Put::Barred => {
+        PutEnd::Barred => {
             outlook.settle();
-            Ok(Turn::Waited)
+            Ok(TurnEnd::Waited)
         }
-        Put::Later => Ok(Turn::Waited),
+        PutEnd::Later => Ok(TurnEnd::Waited),
     }
 }
 
@@ -103,7 +103,7 @@ pub fn idle<D, T: Recorder<D>, P: Poller, C: Clock, R: Wait>(
     poller: &mut P,
     clock: &mut C,
     left: Option<u32>,
-) -> Result<Turn, T::Fault>
+) -> Result<TurnEnd, T::Fault>
     requires ready { T.ready most plan.now shared.now run.old }
     requires room { HasRoom most plan.now (T.seen run.old) }
     requires idle { MayIdle plan.now (T.seen run.old) outlook.old.news (P.state poller.old) left }
@@ -116,7 +116,7 @@ pub fn idle<D, T: Recorder<D>, P: Poller, C: Clock, R: Wait>(
         → OnOk result (IsGoing most P.tells C.tells plan.now stood before early (P.state poller.new) (C.state clock.new) (T.seen run.new) outlook.new) }
 {
     match outlook.idle(plan, run.machine(), poller, clock, left) {
-        None => Ok(Turn::Waited),
+        None => Ok(TurnEnd::Waited),
         Some(e) => put(rt, plan, most, shared, run, e),
     }
 }
@@ -133,7 +133,7 @@ fn rest<D, T: Recorder<D>, P: Poller, C: Clock, R: Wait>(
     poller: &mut P,
     clock: &mut C,
     left: Option<u32>,
-) -> Result<Turn, T::Fault>
+) -> Result<TurnEnd, T::Fault>
     requires ready { T.ready most plan.now shared.now run.old }
     requires room { HasRoom most plan.now (T.seen run.old) }
     requires idle { MayIdle plan.now (T.seen run.old) outlook.old.news (P.state poller.old) left }
@@ -148,10 +148,10 @@ fn rest<D, T: Recorder<D>, P: Poller, C: Clock, R: Wait>(
         → OnOk result (IsGoing most P.tells C.tells plan.now stood before early (P.state poller.new) (C.state clock.new) (T.seen run.new) outlook.new) }
 {
     match run.rest(rt, plan, most, shared)? {
-        Step::Placed => Ok(Turn::Placed),
+        Step::Placed => Ok(TurnEnd::Placed),
         Step::Waited => idle(rt, plan, most, shared, run, outlook, poller, clock, left),
-        Step::Stopped => Ok(Turn::Stopped { left }),
-        Step::Over => Ok(Turn::Over),
+        Step::Stopped => Ok(TurnEnd::Stopped { left }),
+        Step::Over => Ok(TurnEnd::Over),
     }
 }
 
@@ -165,7 +165,7 @@ fn work<D, T: Recorder<D>, R: Wait>(
     run: &mut T,
     e: Event,
     left: Option<u32>,
-) -> Result<Turn, T::Fault>
+) -> Result<TurnEnd, T::Fault>
     requires ready { T.ready most plan.now shared.now run.old }
     requires room { HasRoom most plan.now (T.seen run.old) }
     requires chosen { choice_of plan.now (T.seen run.old) 0 0 ≡ Some e }
@@ -176,10 +176,10 @@ fn work<D, T: Recorder<D>, R: Wait>(
     ensures kept { (a : T) → T.kept most plan.now shared.now a run.old → T.kept most plan.now shared.now a run.new }
 {
     match run.work(rt, plan, most, shared, e)? {
-        Step::Placed => Ok(Turn::Placed),
-        Step::Waited => Ok(Turn::Waited),
-        Step::Stopped => Ok(Turn::Stopped { left }),
-        Step::Over => Ok(Turn::Over),
+        Step::Placed => Ok(TurnEnd::Placed),
+        Step::Waited => Ok(TurnEnd::Waited),
+        Step::Stopped => Ok(TurnEnd::Stopped { left }),
+        Step::Over => Ok(TurnEnd::Over),
     }
 }
 
@@ -196,7 +196,7 @@ fn act<D, T: Recorder<D>, P: Poller, C: Clock, R: Wait>(
     clock: &mut C,
     chosen: Option<Event>,
     left: Option<u32>,
-) -> Result<Turn, T::Fault>
+) -> Result<TurnEnd, T::Fault>
     requires ready { T.ready most plan.now shared.now run.old }
     requires room { HasRoom most plan.now (T.seen run.old) }
     requires idle { MayIdle plan.now (T.seen run.old) outlook.old.news (P.state poller.old) left }
@@ -228,7 +228,7 @@ fn later<D, T: Recorder<D>, P: Poller, C: Clock, R: Wait>(
     poller: &mut P,
     clock: &mut C,
     chosen: Option<Event>,
-) -> Result<Turn, T::Fault>
+) -> Result<TurnEnd, T::Fault>
     requires ready { T.ready most plan.now shared.now run.old }
     requires room { HasRoom most plan.now (T.seen run.old) }
     requires may { MayTakeIn plan.now (T.seen run.old) outlook.old.news (P.state poller.old) chosen }
@@ -264,7 +264,7 @@ fn admit<D, T: Recorder<D>, P: Poller, C: Clock, R: Wait>(
     poller: &mut P,
     clock: &mut C,
     chosen: Option<Event>,
-) -> Result<Turn, T::Fault>
+) -> Result<TurnEnd, T::Fault>
     requires ready { T.ready most plan.now shared.now run.old }
     requires room { HasRoom most plan.now (T.seen run.old) }
     requires may { MayTakeIn plan.now (T.seen run.old) outlook.old.news (P.state poller.old) chosen }
@@ -278,9 +278,9 @@ fn admit<D, T: Recorder<D>, P: Poller, C: Clock, R: Wait>(
         → OnOk result (IsGoing most P.tells C.tells plan.now stood before early (P.state poller.new) (C.state clock.new) (T.seen run.new) outlook.new) }
 {
     match run.admit(rt, plan, most, shared)? {
-        Some(Put::Placed) => Ok(Turn::Placed),
-        Some(Put::Barred) => Ok(Turn::Waited),
-        Some(Put::Later) => Ok(Turn::Waited),
+        Some(PutEnd::Placed) => Ok(TurnEnd::Placed),
+        Some(PutEnd::Barred) => Ok(TurnEnd::Waited),
+        Some(PutEnd::Later) => Ok(TurnEnd::Waited),
         None => later(rt, plan, most, shared, run, outlook, poller, clock, chosen),
     }
 }
@@ -296,7 +296,7 @@ fn answer<D, T: Recorder<D>, P: Poller, C: Clock, R: Wait>(
     outlook: &mut Outlook,
     poller: &mut P,
     clock: &mut C,
-) -> Result<Turn, T::Fault>
+) -> Result<TurnEnd, T::Fault>
     requires ready { T.ready most plan.now shared.now run.old }
     ensures after { IfOk result (AfterTurn (T.ready most plan.now shared.now run.new)
         (IsStopped most plan.now (T.stopped most plan.now shared.now run.new) (T.seen run.new) outlook.new.news (P.state poller.new))
@@ -308,7 +308,7 @@ fn answer<D, T: Recorder<D>, P: Poller, C: Clock, R: Wait>(
         → OnOk result (IsGoing most P.tells C.tells plan.now stood before early (P.state poller.new) (C.state clock.new) (T.seen run.new) outlook.new) }
 {
     match outlook.ask(plan, most, run.machine(), poller, clock) {
-        Ask::Leave => Ok(Turn::Over),
+        Ask::Leave => Ok(TurnEnd::Over),
         Ask::Told(e) => tell(rt, plan, most, shared, run, outlook, e),
         Ask::Open { chosen } => admit(rt, plan, most, shared, run, outlook, poller, clock, chosen),
         Ask::Put(e) => put(rt, plan, most, shared, run, e),
@@ -331,7 +331,7 @@ pub fn take_turn<D, T: Recorder<D>, P: Poller, C: Clock, R: Wait>(
     outlook: &mut Outlook,
     poller: &mut P,
     clock: &mut C,
-) -> Result<Turn, T::Fault>
+) -> Result<TurnEnd, T::Fault>
     requires ready { T.ready most plan.now shared.now run.old }
     ensures after { IfOk result (AfterTurn (T.ready most plan.now shared.now run.new)
         (IsStopped most plan.now (T.stopped most plan.now shared.now run.new) (T.seen run.new) outlook.new.news (P.state poller.new))
@@ -370,10 +370,10 @@ fn go_on<D, T: Recorder<D>, N: Backoff, P: Poller, C: Clock, R: Wait>(
 {
     for _ in rt.forever() {
         match take_turn(rt, plan, most, shared, run, outlook, poller, clock)? {
-            Turn::Placed => backoff.reset(),
-            Turn::Waited => backoff.pause(rt),
-            Turn::Stopped { .. } => unreachable!(),
-            Turn::Over => return Ok(()),
+            TurnEnd::Placed => backoff.reset(),
+            TurnEnd::Waited => backoff.pause(rt),
+            TurnEnd::Stopped { .. } => unreachable!(),
+            TurnEnd::Over => return Ok(()),
         }
     }
     unreachable!()

@@ -25,7 +25,6 @@ mod strips;
 mod work;
 
 use gcd_apply::Strips;
-use gcd_bits::BitSet;
 use gcd_blockobj::Marks;
 use gcd_drain::Drains;
 use gcd_group::Groups;
@@ -35,7 +34,7 @@ use gcd_objects::Objects;
 use gcd_plan::{Blk, Plan, Run};
 use gcd_refinement::{BlockProgress, HandlerProgress};
 use gcd_sema::Semas;
-use gcd_soonest::Times;
+use gcd_sets::{BitSet, Times};
 use gcd_source::Sources;
 use gcd_sync::Waits;
 use gcd_timer::Timers;

@@ -1,5 +1,5 @@
 -- A table of feeds that are all alike, and one with one more at its end.
-use Rattle.std.proofs.Common.{◌≡◌, ◌++◌, ℕ, zero, suc, List, [], ◌∷◌, replicate, refl}
+use Rattle.std.proofs.Common.{◌≡◌, ℕ, zero, suc, replicate, refl}
 use Rattle.std.specs.List.{slice_get}
 use Rattle.std.specs.Option.{option_map_or}
 
@@ -8,11 +8,3 @@ pub lookup-replicate : {X Y : Type 0} (g : X → Y) (x : X) (d : Y) → g x ≡ 
 lookup-replicate g x d same zero k = refl
 lookup-replicate g x d same (suc n) zero = same
 lookup-replicate g x d same (suc n) (suc k) = lookup-replicate g x d same n k
-
--- one more at the end that gives what is given past the end
-pub lookup-append : {X Y : Type 0} (g : X → Y) (x : X) (d : Y) → g x ≡ d → (xs : List X) (k : ℕ)
-    → option_map_or g (slice_get (xs ++ x ∷ []) k) d ≡ option_map_or g (slice_get xs k) d
-lookup-append g x d same [] zero = same
-lookup-append g x d same [] (suc k) = refl
-lookup-append g x d same (y ∷ ys) zero = refl
-lookup-append g x d same (y ∷ ys) (suc k) = lookup-append g x d same ys k

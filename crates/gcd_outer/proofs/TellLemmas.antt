@@ -4,11 +4,6 @@ use Rattle.std.proofs.lemmas.Bool.Decides.{nat_tests}
 use Rattle.gcd_outer.specs.declared.tell.Tell.{Tell}
 use Rattle.gcd_outer.specs.Tells.{AreTells, ended_after, ended_by, is_allowed, given_of, allowed_of}
 
--- the feeds that have ended after one more tell at the end
-pub ended_by-append : (ended : ℕ → Bool) (ts : List Tell) (t : Tell) (feed : ℕ) → ended_by ended (ts ++ t ∷ []) feed ≡ ended_after (ended_by ended ts) t feed
-ended_by-append ended [] t feed = refl
-ended_by-append ended (u ∷ us) t feed = ended_by-append (ended_after ended u) us t feed
-
 -- the feeds that have ended after two lists, one after the other
 pub ended_by-append-list : (ended : ℕ → Bool) (ts us : List Tell) → ended_by ended (ts ++ us) ≡ ended_by (ended_by ended ts) us
 ended_by-append-list ended [] us = refl

@@ -1,11 +1,11 @@
 -- What is told of a feed by two lists of tells, or of answers, one after the other.
-use Rattle.std.proofs.Common.{◌≡◌, ◌≤◌, ◌∙◌, ◌++◌, ◌||◌, ◌&&◌, ◌==◌, ℕ, Bool, true, false, List, [], ◌∷◌, if◌then◌else◌, ap, sym, subst, append-nil, append_assoc, refl, ⊎_elim}
-use Rattle.std.specs.List.{list_all, list_any, flat_map}
-use Rattle.std.proofs.lemmas.Bool.{and_parts, eqb-true, or_cases}
+use Rattle.std.proofs.Common.{◌≡◌, ◌∙◌, ◌++◌, ◌||◌, ◌&&◌, ◌==◌, ℕ, Bool, true, false, List, [], ◌∷◌, if◌then◌else◌, ap, sym, subst, append-nil, append_assoc, refl, ⊎_elim}
+use Rattle.std.specs.List.{list_any, flat_map}
+use Rattle.std.proofs.lemmas.Bool.{eqb-true, or_cases}
 use Rattle.std.proofs.lemmas.Grind.{flat_map-append}
 use Rattle.std.proofs.lemmas.List.Folds.{list_any-append}
 use Rattle.gcd_outer.specs.declared.tell.Tell.{Tell}
-use Rattle.gcd_outer.specs.Tells.{AreTells, ended_after, has_end, is_empty_answer, is_end_told, is_named, tell_bytes, told_in, told_of}
+use Rattle.gcd_outer.specs.Tells.{AreTells, ended_after, has_end, is_end_told, is_named, tell_bytes, told_in, told_of}
 
 -- one tell and the others
 tell_step : (named ended later : Bool) (bytes ts us both : List ℕ) → both ≡ ts ++ (if later then [] else us)
@@ -40,33 +40,6 @@ pub is_end_told-append : (s : ℕ) (A B : List (List Tell)) → is_end_told s (A
 is_end_told-append s A B = list_any-append (has_end s) A B
 
 -- ## Empty answers
-
-empty_step : (named : Bool) (n : ℕ) (ended : Bool) (rest : List ℕ) → (n == 0 && (if ended then false else true)) ≡ true → rest ≡ []
-    → (if named then (if n == 0 then [] else n ∷ []) ++ (if ended then [] else rest) else rest) ≡ []
-empty_step true n true rest h none = let parts = and_parts (n == 0) false h in let bad : false ≡ true = parts.1 in cc
-empty_step true n false rest h none =
-    let parts = and_parts (n == 0) true h in
-    ap (λ (b : Bool). (if b then [] else n ∷ []) ++ rest) parts.0 ∙ none
-empty_step false n ended rest h none = none
-
-pub empty_tells_nothing : (s : ℕ) (answer : List Tell) → is_empty_answer answer ≡ true → told_in s answer ≡ []
-empty_tells_nothing s [] h = refl
-empty_tells_nothing s (t ∷ ts) h =
-    let parts = and_parts (t.bytes == 0 && (if t.ended then false else true)) (is_empty_answer ts) h in
-    empty_step (t.feed == s) t.bytes t.ended (told_in s ts) parts.0 (empty_tells_nothing s ts parts.1)
-
-no_end_step : (named : Bool) (zero : Bool) (ended later : Bool) → (zero && (if ended then false else true)) ≡ true → later ≡ false
-    → ((named && ended) || later) ≡ false
-no_end_step named true true later h none = cc
-no_end_step named false ended later h none = cc
-no_end_step true true false later h none = none
-no_end_step false true false later h none = none
-
-pub empty_ends_nothing : (s : ℕ) (answer : List Tell) → is_empty_answer answer ≡ true → has_end s answer ≡ false
-empty_ends_nothing s [] h = refl
-empty_ends_nothing s (t ∷ ts) h =
-    let parts = and_parts (t.bytes == 0 && (if t.ended then false else true)) (is_empty_answer ts) h in
-    no_end_step (t.feed == s) (t.bytes == 0) t.ended (has_end s ts) parts.0 (empty_ends_nothing s ts parts.1)
 
 -- ## Feeds of which nothing is told
 

@@ -36,6 +36,8 @@
 //!
 //! `Poller::poll` and `Clock::wait_until` alone wait for others; no proof says that they return.
 //! Nothing is said of what a file, a socket or a terminal gives or takes, nor of how long a wait is.
+//!
+//! The bytes of a read source, and its end, come from the poller.
 #![tactic(auto)]
 
 mod answer_list;

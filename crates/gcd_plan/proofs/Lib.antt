@@ -14,3 +14,7 @@ mod NamesApart
 mod Submitted
 mod Broken
 mod Planned
+pub mod Strips
+pub mod Within
+pub mod Numbered
+pub mod Folded

@@ -2,6 +2,7 @@
 use Rattle.std.proofs.Common.{◌≡◌, ℕ, zero, suc, ◌+◌, ◌<◌, ◌≤◌, ◌==◌, Bool, true, false, cond, ◌||◌, nat_le, nat_lt, List, [], ◌∷◌, ◌++◌, length, map, take, drop, get_or, Option, None, Some, refl, ap, sym, ◌∙◌, arith, ◌⊎◌, inl, inr, ⊎_elim, zero-add}
 use Rattle.std.specs.List.{count_by, list_any, range_with_len, slice_get}
 use Rattle.std.specs.Option.{option_map, option_map_or, option_to_list}
+use Rattle.std.specs.Cmp.Derive.{one_truth}
 use Rattle.std.proofs.Math.Bool.{or-false}
 use Rattle.std.proofs.Math.Seq.{drop-append_seam, take-append_seam}
 use Rattle.std.proofs.lemmas.Bool.{and_from, and_parts, cases_eq, cases_lt, eq-eqb, ne_eqb, le-leb, leb-true, lt-ltb, ltb-true, false_from_ne_true}
@@ -77,19 +78,13 @@ within_parts b span is =
 pub without : (b : ℕ) (span : Span) → ((span.first ≤ b) → (b < span.first + span.count) → ⊥) → is_within b span ≡ false
 without b span none = false_from_ne_true _ (λ is. let parts = within_parts b span is in none parts.0 parts.1)
 
-same_tests : (x y : Bool) → (x ≡ true → y ≡ true) → (y ≡ true → x ≡ true) → x ≡ y
-same_tests true true there back = refl
-same_tests true false there back = sym (there refl)
-same_tests false true there back = back refl
-same_tests false false there back = refl
-
 -- a number other than the first is within a span where it is within the rest
 within_rest : (b first n : ℕ) → (first ≡ b → ⊥)
     → is_within b (record { first = first + 1; count = n }) ≡ is_within b (record { first = first; count = suc n })
 within_rest b first n other =
     let rest : Span = record { first = first + 1; count = n } in
     let whole : Span = record { first = first; count = suc n } in
-    same_tests (is_within b rest) (is_within b whole)
+    one_truth (is_within b rest) (is_within b whole)
     (λ is. let parts = within_parts b rest is in within_from b whole (omega (arith, parts.0)) (omega (arith, parts.1)))
     (λ is. let parts = within_parts b whole is in
     within_from b rest (⊎_elim (λ low. low) (λ high. absurd (other (omega (arith, parts.0, high)))) (cases_le (first + 1) b)) (omega (arith, parts.1)))

@@ -1,6 +1,6 @@
 -- What is read of a list one element after another, and joined to a list of its own.
 use Rattle.std.proofs.Common.{◌≡◌, ℕ, zero, suc, ◌+◌, ◌<◌, List, [], ◌∷◌, ◌++◌, length, map, take, get_or, Option, Some, None, refl, ap, sym, ◌∙◌, arith}
-use Rattle.std.specs.List.{slice_get, flat_map}
+use Rattle.std.specs.List.{slice_get}
 use Rattle.std.specs.Option.{option_map, option_map_or}
 use Rattle.std.proofs.lemmas.Option.{none-some, same_Some}
 
@@ -37,8 +37,3 @@ pub get_or-mapped : {X Y : Type 0} (f : X → Y) (xs : List X) (i : ℕ) (d : Y)
 get_or-mapped f [] i d = refl
 get_or-mapped f (x ∷ xs) zero d = refl
 get_or-mapped f (x ∷ xs) (suc i) d = get_or-mapped f xs i d
-
--- what gives nothing for each element, joined end to end
-pub flat_map_none : {X Y : Type 0} (f : X → List Y) (xs : List X) → ((x : X) → f x ≡ []) → flat_map f xs ≡ []
-flat_map_none f [] none = refl
-flat_map_none f (x ∷ xs) none = ap (λ ys. ys ++ flat_map f xs) (none x) ∙ flat_map_none f xs none

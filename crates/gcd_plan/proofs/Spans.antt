@@ -1,14 +1,14 @@
 -- The blocks of the intake and of the strips in a plan: they are among the plan's, and are as these make them.
-use Rattle.std.proofs.Common.{◌≡◌, ℕ, zero, suc, ◌+◌, ◌-◌, ◌<◌, ◌≤◌, Bool, true, false, cond, nat_le, List, [], ◌∷◌, length, map, Option, None, Some, IfSome, refl, ap, sym, ◌∙◌, subst, ⊎_elim, arith}
+use Rattle.std.proofs.Common.{◌≡◌, ℕ, suc, ◌+◌, ◌-◌, ◌<◌, ◌≤◌, Bool, true, false, cond, nat_le, List, [], ◌∷◌, length, map, Option, None, Some, IfSome, refl, ap, sym, ◌∙◌, subst, ⊎_elim, arith}
 use Rattle.std.specs.List.{count_by, list_any, slice_get}
-use Rattle.std.specs.Option.{option_map_or, option_to_list}
+use Rattle.std.specs.Option.{option_to_list}
 use Rattle.std.proofs.Math.Bool.{or-false}
 use Rattle.std.proofs.lemmas.Bool.{and_parts, leb-true, or_cases, or_left, or_right}
 use Rattle.std.proofs.lemmas.List.Folds.{list_any-append}
 use Rattle.std.proofs.lemmas.Option.{same_Some}
-use Rattle.gcd_plan.specs.declared.numbers.Run.TheVariants.{Block}
+use Rattle.std.proofs.lemmas.Map.Keys.{any_passes_from_place}
 use Rattle.gcd_plan.specs.Made.{Span, is_within, spans, is_made, intake_span, strip_span, intake_block, strip_block}
-use Rattle.gcd_plan.specs.PlanView.{PlanView, BlkView, IntakeView, StripView, acts_of}
+use Rattle.gcd_plan.specs.PlanView.{PlanView, BlkView, IntakeView, StripView}
 use Rattle.gcd_plan.specs.Validity.{IsPlan, IsIntake, IsStrip, is_among_blocks}
 use Rattle.gcd_plan.proofs.MadeBlocks.{any_mapped, at_place, within_parts, without}
 use Rattle.gcd_plan.proofs.Sums.{count_by-append, count_by-cons}
@@ -66,11 +66,6 @@ strip_block_at plan s fits k below =
     let among = among_from plan (strip_span s) fits.among in
     at_place plan.blocks s.first s.count 0 (strip_block s) among.1 fits.blocks k k below (omega arith)
 
-any_at : {A : Type 0} (p : A → Bool) (xs : List A) (i : ℕ) (x : A) → slice_get xs i ≡ Some x → p x ≡ true → list_any p xs ≡ true
-any_at p [] i x at h = cc
-any_at p (y ∷ xs) zero x at h = or_left (p y) (list_any p xs) (ap p (same_Some y x at) ∙ h)
-any_at p (y ∷ xs) (suc i) x at h = or_right (p y) (list_any p xs) (any_at p xs i x at h)
-
 -- an element that passes, where one does
 pub first_any : {A : Type 0} (p : A → Bool) (xs : List A) → list_any p xs ≡ true → (i : ℕ) × (x : A) × (slice_get xs i ≡ Some x) × (p x ≡ true)
 first_any p [] h = cc
@@ -92,7 +87,7 @@ pub made_of_strip : (plan : PlanView) (a : ℕ) (s : StripView) → slice_get pl
 made_of_strip plan a s stands b within =
     list_any-append (is_within b) (map intake_span (option_to_list plan.intake)) (map strip_span plan.strips)
     ∙ or_right (list_any (is_within b) (map intake_span (option_to_list plan.intake))) _
-    (any_mapped (is_within b) strip_span plan.strips ∙ any_at (λ t. is_within b (strip_span t)) plan.strips a s stands within)
+    (any_mapped (is_within b) strip_span plan.strips ∙ any_passes_from_place (λ t. is_within b (strip_span t)) plan.strips a s stands within)
 
 -- what a block is made by: the intake, or a strip
 pub data Maker (plan : PlanView) (b : ℕ) : Type 0 where
@@ -142,8 +137,3 @@ made_stands plan valid b (by_strip a s stands within) =
 no_acts : (plan : PlanView) (valid : IsPlan plan) (b : ℕ) (by : Maker plan b) → (made_block plan valid b by).acts ≡ []
 no_acts plan valid b (by_intake i stands within) = refl
 no_acts plan valid b (by_strip a s stands within) = refl
-
-pub made_idle : (plan : PlanView) → IsPlan plan → (b : ℕ) → is_made plan b ≡ true → acts_of plan (Block (record { 0 = b })) ≡ []
-made_idle plan valid b made =
-    let by = maker plan b made in
-    ap (λ o. option_map_or (λ blk. blk.acts) o []) (made_stands plan valid b by) ∙ no_acts plan valid b by

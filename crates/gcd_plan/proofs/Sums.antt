@@ -1,9 +1,10 @@
 -- Sums and counts of lists: what std lacks.
-use Rattle.std.proofs.Common.{◌≡◌, ℕ, ◌+◌, ◌≤◌, Bool, true, false, cond, ◌||◌, List, [], ◌∷◌, ◌++◌, length, map, Option, Some, None, refl, ap, sym, ◌∙◌, arith, zero-add}
-use Rattle.std.specs.Option.{option_map_or, option_to_list}
-use Rattle.std.specs.List.{count_by, sum_by, flat_map, list_any}
+use Rattle.std.proofs.Common.{◌≡◌, ℕ, ◌+◌, ◌≤◌, Bool, true, false, cond, ◌||◌, List, [], ◌∷◌, ◌++◌, length, map, Some, refl, ap, sym, ◌∙◌, arith, zero, suc}
+use Rattle.std.specs.List.{count_by, sum_by, flat_map, list_any, slice_get}
 use Rattle.std.proofs.lemmas.Bool.{or_parts}
 use Rattle.std.proofs.lemmas.List.Sums.{sum_by-append, sum_by-cons, sum_by_push}
+use Rattle.std.proofs.lemmas.Map.Keys.{any_passes_from_place}
+use Rattle.std.proofs.lemmas.Option.{same_Some}
 
 -- ## Sums
 
@@ -59,20 +60,6 @@ pub count_by-flat_map : {A B : Type 0} (p : B → Bool) (f : A → List B) (xs :
     → count_by p (flat_map f xs) ≡ sum_by (λ x. count_by p (f x)) xs
 count_by-flat_map p f xs = sum_by-flat_map (λ y. cond (p y) 1 0) f xs
 
--- what passes among the values of a function, counted by the function's arguments
-pub count_by-found : {A B : Type 0} (p : B → Bool) (f : A → Option B) (xs : List A)
-    → count_by p (flat_map (λ x. option_to_list (f x)) xs) ≡ count_by (λ x. option_map_or p (f x) false) xs
-count_by-found p f [] = refl
-count_by-found p f (x ∷ xs) =
-    count_by-append p (option_to_list (f x)) (flat_map (λ z. option_to_list (f z)) xs)
-    ∙ ap (λ n. count_by p (option_to_list (f x)) + n) (count_by-found p f xs)
-    ∙ ap (λ n. n + count_by (λ z. option_map_or p (f z) false) xs) (one (f x))
-    ∙ sym (count_by-cons (λ z. option_map_or p (f z) false) x xs)
-  where
-    one : (o : Option _) → count_by p (option_to_list o) ≡ cond (option_map_or p o false) 1 0
-    one None = refl
-    one (Some y) = zero-add (cond (p y) 1 0)
-
 -- where none passes, none is counted
 pub count_by_none : {A : Type 0} (p : A → Bool) (xs : List A) → list_any p xs ≡ false → count_by p xs ≡ 0
 count_by_none p [] none = refl
@@ -92,7 +79,29 @@ count_by_some p (x ∷ xs) some =
       | false ↦ λ e k. let more : 1 ≤ count_by p xs = count_by_some p xs k in omega arith
     ] step some
 
--- and where one is counted, one passes
+pub count_by_at : {A : Type 0} (p : A → Bool) (xs : List A) (i : ℕ) (x : A) → slice_get xs i ≡ Some x → p x ≡ true → 1 ≤ count_by p xs
+count_by_at p xs i x at h = count_by_some p xs (any_passes_from_place p xs i x at h)
+
+-- if at most one element passes, two that pass have one place
+pub one_place : {A : Type 0} (p : A → Bool) (xs : List A) (i j : ℕ) (x y : A) → slice_get xs i ≡ Some x → slice_get xs j ≡ Some y → p x ≡ true → p y ≡ true → count_by p xs ≤ 1 → i ≡ j
+one_place p [] i j x y at there h k few = cc
+one_place p (z ∷ xs) zero zero x y at there h k few = refl
+one_place p (z ∷ xs) zero (suc j) x y at there h k few =
+    let step = count_by-cons p z xs in
+    let own : ◌≡◌ {A = ℕ} (cond (p z) 1 0) 1 = ap (λ v. cond v 1 0) (ap p (same_Some z x at) ∙ h) in
+    let rest = count_by_at p xs j y there k in
+    absurd (omega (arith, step, own, rest, few))
+one_place p (z ∷ xs) (suc i) zero x y at there h k few =
+    let step = count_by-cons p z xs in
+    let own : ◌≡◌ {A = ℕ} (cond (p z) 1 0) 1 = ap (λ v. cond v 1 0) (ap p (same_Some z y there) ∙ k) in
+    let rest = count_by_at p xs i x at h in
+    absurd (omega (arith, step, own, rest, few))
+one_place p (z ∷ xs) (suc i) (suc j) x y at there h k few =
+    let step = count_by-cons p z xs in
+    let fewer : count_by p xs ≤ 1 = omega (arith, step, few) in
+    ap suc (one_place p xs i j x y at there h k fewer)
+
+-- if one is counted, one passes
 pub list_any-from_count_by : {A : Type 0} (p : A → Bool) (xs : List A) → 1 ≤ count_by p xs → list_any p xs ≡ true
 list_any-from_count_by p [] h = absurd (omega arith)
 list_any-from_count_by p (x ∷ xs) h =

@@ -4,7 +4,7 @@ pub mod HeldParts
 pub mod Kinds
 pub mod Chains
 pub mod Names
-pub mod Acts
+pub mod Effects
 pub mod Made
 pub mod Validity
 pub mod Breaks

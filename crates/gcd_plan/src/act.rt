@@ -1,6 +1,6 @@
 // What a block or a handler does, step by step.
 ghost use Rattle.std.specs.Prelude.{◌≡◌};
-ghost use Rattle.gcd_plan.specs.Acts.{parks};
+ghost use Rattle.gcd_plan.specs.Effects.{parks};
 ghost use Rattle.gcd_plan.specs.Validity.{block_of, strip_of, is_handler_act};
 
 use crate::numbers::{Blk, Obj};

@@ -14,7 +14,7 @@
 //! | `Plan::copied` | the same plan once more, or out of memory |
 //! | `Plan::kinds` | the kinds of all objects, or out of memory |
 //! | `objects`, `blocks`, `kind`, `first_target`, .. | what the plan holds, exactly |
-//! | `Plan::intake`, `strips` | where callers from outside hand in closures; the strips of dispatch_apply(3) |
+//! | `Plan::intake`, `strips` | where callers from outside hand in closures; the strips of dispatch_apply(3). `specs/Made` says which blocks they have, and over which bytes those of a strip work |
 //! | `Act::block`, `strip`, `parks`, `is_for_handlers` | the block, or the strip, that an act submits; whether it waits; whether a handler may have it |
 //! | `Kind::folded` | two values in one, as the kind folds them |
 //! | `is_name`, `is_path` | the tests of names and paths |
@@ -28,7 +28,10 @@
 //! read through a function, `proofs/Options`, `proofs/Apart` on lists in which nothing stands twice, and `proofs/Walks` on
 //! chains.
 //!
-//! The crate says nothing of a run: when a block may start is said over histories (`gcd_history`).
+//! `IsPlan` asks that acts and cancellation blocks submit each block at most once, and that each target is a queue: no event of a run
+//! has to look at this again. It bars acts that suspend, resume, activate, retarget, retain or release `root`. `specs/Effects` says
+//! what each act does, one row an act. `chain_by` walks any targets: which chain a history has, and when a block may start,
+//! `gcd_history` says. So the crate says nothing of a run. `has_effect` says whether a merge changes anything.
 #![tactic(auto)]
 
 mod act;

@@ -13,11 +13,11 @@ use Rattle.gcd_event.specs.declared.event.Event.{Event}
 use Rattle.gcd_event.specs.declared.event.Event.TheVariants.{Accept}
 use Rattle.gcd_history.specs.Ends.{is_halted}
 use Rattle.gcd_history.specs.History.{IsLawful, is_intake_open, next_of_intake, why}
-use Rattle.gcd_history.specs.Intake.{accepts, is_accepted, is_intake_open as open_after, next_of_intake as next_after, shuts}
-use Rattle.gcd_history.proofs.AcceptsStay.{accepts_stay_permitted}
+use Rattle.gcd_history.specs.Intake.{accepts, is_accepted, is_intake_open as open_after, next_of_intake as next_after, shuts, AllAccepted}
+use Rattle.gcd_history.proofs.MadeBlocks.AcceptsStay.{accepts_stay_permitted}
 use Rattle.gcd_history.proofs.Lists.{list_any-reverse}
-use Rattle.gcd_history.proofs.MadeBlocks.{blocks_from, of_intake}
-use Rattle.gcd_history.proofs.Quiet.{none_first, none_why}
+use Rattle.gcd_history.proofs.MadeBlocks.Spans.{blocks_from, of_intake}
+use Rattle.gcd_history.proofs.Permitted.Quiet.{none_first, none_why}
 use Rattle.gcd_turn.specs.Turns.{HasRoom}
 use Rattle.gcd_front.specs.Fronts.{TakesNext}
 use Rattle.gcd_front.specs.Limits.{max_senders}
@@ -29,9 +29,9 @@ use Rattle.gcd_row.specs.declared.view.View.{View}
 use Rattle.gcd_row.specs.Views.{turning}
 use Rattle.gcd_row.proofs.Accepted.{next_of, next_unaccepted}
 use Rattle.gcd_loop.specs.Recorded.{Grows, Says}
-use Rattle.gcd_loop.specs.declared.recorder.Put.{Put}
-use Rattle.gcd_loop.specs.declared.recorder.Put.TheVariants.{Placed, Barred, Later}
-use Rattle.gcd_pool.specs.Admitted.{Admitted, AllAccepted, HandedOn, IsAccepted, IsUnderWay}
+use Rattle.gcd_loop.specs.declared.recorder.PutEnd.{PutEnd}
+use Rattle.gcd_loop.specs.declared.recorder.PutEnd.TheVariants.{Placed, Barred, Later}
+use Rattle.gcd_pool.specs.Admitted.{Admitted, HandedOn, IsAccepted, IsUnderWay}
 use Rattle.gcd_pool.proofs.Admitting.{admitted_accepted, admitted_lost, admitted_on, grows_no_call, shut_same, works_uncalled}
 
 -- ## An open intake
@@ -98,7 +98,7 @@ module _ {S X : Type 0} (gives : S → ℕ → Type 0) (sent : X → ℕ → Typ
       admitted_lost gives sent f w i j (parcel s n job) one_more over (shut_same v.seen w.seen a ∙ unshut plan v.seen is)
       (admitted_on gives sent f v w i terms placed a lawful old)
 
-  accept_keeps : (r : Put) → Says most plan (Accept b s) v.seen w.seen r → HandedOn (Accept b s) (turning v (Laid c)) w r → Admitted gives sent f w j
+  accept_keeps : (r : PutEnd) → Says most plan (Accept b s) v.seen w.seen r → HandedOn (Accept b s) (turning v (Laid c)) w r → Admitted gives sent f w j
   accept_keeps Placed said handed =
       admitted_accepted gives sent f v w i j said.front b s n job c terms
       (ap (λ (x : Handed S). x.placed) handed.1 ∙ ap (λ (x : S). (b.0, x) ∷ v.handed.placed) handed.2)
@@ -117,7 +117,7 @@ module _ {S X : Type 0} (gives : S → ℕ → Type 0) (sent : X → ℕ → Typ
       lost (ap (λ (x : Handed S). x.placed) handed.0) said.0 (λ under. let l = under.room in let same : w.terms.limits.most ≡ v.terms.limits.most = ap (λ t. t.limits.most) terms in let full = handed.1 in omega (arith, l, same, full))
 
 -- so it is for what `accept` says
-pub accepted_keeps : {S X : Type 0} (gives : S → ℕ → Type 0) (sent : X → ℕ → Type 0) (f : FrontView) (most : ℕ) (plan : PlanView) (v w : View S) (i j : IntakeView X) (b : Blk) (s n : ℕ) (job : X) (answer : Option Put) → v.terms.plan ≡ plan → v.terms.limits.most ≡ most
+pub accepted_keeps : {S X : Type 0} (gives : S → ℕ → Type 0) (sent : X → ℕ → Type 0) (f : FrontView) (most : ℕ) (plan : PlanView) (v w : View S) (i j : IntakeView X) (b : Blk) (s n : ℕ) (job : X) (answer : Option PutEnd) → v.terms.plan ≡ plan → v.terms.limits.most ≡ most
     → IsLawful w.terms.plan w.seen → f.senders ≤ max_senders → is_intake_open plan v.seen ≡ true → HasRoom most plan v.seen → next_of_intake plan v.seen ≡ Some b → TakesNext f i (parcel s n job) j
     → IsAccepted gives sent most plan b s job v w answer → Admitted gives sent f v i → Admitted gives sent f w j
 accepted_keeps gives sent f most plan v w i j b s n job answer own limit lawful few is room next took was old =

@@ -4,6 +4,7 @@ use Rattle.std.specs.List.{AllZip, cons_option, filter_map, list_all, list_any}
 use Rattle.std.proofs.lemmas.Bool.{and_from, and_parts, both_ways, not-true, or_parts}
 use Rattle.std.proofs.lemmas.List.Elements.{filter_map-append}
 use Rattle.std.proofs.lemmas.List.Folds.{list_any-append}
+use Rattle.std.proofs.Math.Bool.{or-false}
 use Rattle.gcd_plan.specs.PlanView.{PlanView}
 use Rattle.gcd_plan.specs.Made.{is_of_intake}
 use Rattle.gcd_plan.specs.declared.numbers.Blk.{Blk}
@@ -11,12 +12,12 @@ use Rattle.gcd_event.specs.declared.event.Event.{Event}
 use Rattle.gcd_event.specs.declared.event.Event.TheVariants.{Accept, Shut}
 use Rattle.gcd_history.specs.Choice.{is_work}
 use Rattle.gcd_history.specs.History.{IsLawful}
-use Rattle.gcd_history.proofs.LawfulLemmas.{lawful_next}
+use Rattle.gcd_history.proofs.Permitted.Lawful.{lawful_next}
 use Rattle.gcd_history.proofs.Lists.{any_left}
+use Rattle.gcd_history.proofs.MadeBlocks.AcceptsStay.{uncalled_accepts_none}
 use Rattle.gcd_turn.proofs.HistoryMore.{unhalted_before}
 use Rattle.gcd_history.specs.Facts.{is_of_callers}
-use Rattle.gcd_history.specs.Intake.{accepted, accepts, accepted_of, shuts}
-use Rattle.gcd_history.specs.Report.{blocks_of_sender}
+use Rattle.gcd_history.specs.Intake.{accepted, accepts, accepted_of, shuts, AllAccepted, blocks_of_sender}
 use Rattle.gcd_front.specs.Queue.{jobs_of, parcel}
 use Rattle.gcd_front.specs.Fronts.{KnowsAll, TookAll}
 use Rattle.gcd_front.specs.Views.{FrontView, IntakeView}
@@ -26,16 +27,11 @@ use Rattle.gcd_row.proofs.Jobs.{intake_job, placed_else, placed_here, same_job, 
 use Rattle.gcd_row.specs.declared.view.Terms.{Terms}
 use Rattle.gcd_row.specs.declared.view.Handed.{Handed}
 use Rattle.gcd_row.specs.declared.view.View.{View}
-use Rattle.gcd_loop.proofs.Events.{uncalled_accepts_none}
 use Rattle.gcd_loop.specs.Recorded.{Grows, IsPlaced, Says}
-use Rattle.gcd_loop.specs.declared.recorder.Put.{Put}
-use Rattle.gcd_loop.specs.declared.recorder.Put.TheVariants.{Placed, Barred, Later}
-use Rattle.gcd_pool.proofs.Works.{none_handed_in}
-use Rattle.gcd_pool.specs.Admitted.{AddsNoCall, Admitted, AllAccepted, AreTakenFor, BeginWithTaken, HandedOn, IsTakenFor, IsUnderWay}
-
-or_false : (b : Bool) → (b || false) ≡ b
-or_false true = refl
-or_false false = refl
+use Rattle.gcd_loop.specs.declared.recorder.PutEnd.{PutEnd}
+use Rattle.gcd_loop.specs.declared.recorder.PutEnd.TheVariants.{Placed, Barred, Later}
+use Rattle.gcd_row.proofs.AfterPut.{handed_by}
+use Rattle.gcd_pool.specs.Admitted.{AddsNoCall, Admitted, AreTakenFor, BeginWithTaken, HandedOn, IsTakenFor, IsUnderWay}
 
 -- a block that is accepted stays so
 accepted_on : (h k : List Event) (b : ℕ) → AddsNoCall h k → list_any (accepts b) h ≡ true → list_any (accepts b) k ≡ true
@@ -73,7 +69,7 @@ blocks_same h k s a =
 pub shut_same : (h k : List Event) → AddsNoCall h k → list_any shuts k ≡ list_any shuts h
 shut_same h k a =
     ap (list_any shuts) a.split ∙ list_any-append shuts h a.rest
-    ∙ ap (λ (b : Bool). list_any shuts h || b) (none_shut a.rest a.none) ∙ or_false (list_any shuts h)
+    ∙ ap (λ (b : Bool). list_any shuts h || b) (none_shut a.rest a.none) ∙ or-false (list_any shuts h)
 
 -- a history that is under way was so before
 pub under_way_before : (most : ℕ) (plan : PlanView) (h k rest : List Event) → k ≡ h ++ rest → IsLawful plan k → IsUnderWay most k → IsUnderWay most h
@@ -84,12 +80,6 @@ under_way_before most plan h k (e ∷ rest) split lawful on = record {
 }
 
 -- ## Lists, place by place
-
-zip_weaker : {A B : Type 0} (P Q : A → B → Type 0) (xs : List A) (ys : List B) → ((x : A) (y : B) → P x y → Q x y) → AllZip P xs ys → AllZip Q xs ys
-zip_weaker P Q [] [] f z = tt
-zip_weaker P Q [] (y ∷ ys) f z = absurd z
-zip_weaker P Q (x ∷ xs) [] f z = absurd z
-zip_weaker P Q (x ∷ xs) (y ∷ ys) f z = (f x y z.0, zip_weaker P Q xs ys f z.1)
 
 zip_last : {A B : Type 0} (P : A → B → Type 0) (xs : List A) (ys : List B) (x : A) (y : B) → AllZip P xs ys → P x y → AllZip P (xs ++ x ∷ []) (ys ++ y ∷ [])
 zip_last P [] [] x y z last = (last, tt)
@@ -329,15 +319,15 @@ module _ {S X : Type 0} (gives : S → ℕ → Type 0) (sent : X → ℕ → Typ
   quiet g same old = admitted_on gives sent f v w i terms (placed_of same) (grows_no_call v.seen w.seen g) lawful old
 
   -- an event of poller or clock
-  pub put_keeps : (e : Event) (r : Put) → is_of_callers e ≡ false → Says most plan e v.seen w.seen r → HandedOn e v w r → Admitted gives sent f v i → Admitted gives sent f w i
+  pub put_keeps : (e : Event) (r : PutEnd) → is_of_callers e ≡ false → Says most plan e v.seen w.seen r → HandedOn e v w r → Admitted gives sent f v i → Admitted gives sent f w i
   put_keeps e Placed uncalled said handed old =
-      admitted_on gives sent f v w i terms (placed_of (none_handed_in (accepted e) v.handed w.handed (uncalled_accepts_none e uncalled) handed))
+      admitted_on gives sent f v w i terms (placed_of (handed_by (accepted e) v.handed w.handed (uncalled_accepts_none e uncalled) handed))
       (outside_no_call v.seen w.seen e uncalled said) lawful old
   put_keeps e Barred uncalled said handed old = quiet said.0 handed old
   put_keeps e Later uncalled said handed old = quiet said.0 handed.0 old
 
   -- a Shut
-  pub shut_keeps : (r : Put) → Says most plan Shut v.seen w.seen r → HandedOn Shut v w r → IsUnderWay v.terms.limits.most v.seen → AllAccepted v.terms.plan v.seen ⊎ (KnowsAll f i × TookAll i)
+  pub shut_keeps : (r : PutEnd) → Says most plan Shut v.seen w.seen r → HandedOn Shut v w r → IsUnderWay v.terms.limits.most v.seen → AllAccepted v.terms.plan v.seen ⊎ (KnowsAll f i × TookAll i)
       → Admitted gives sent f v i → Admitted gives sent f w i
   shut_keeps Placed said handed on reason old =
       admitted_shut gives sent f v w i said.front terms (placed_of handed) (grows_no_call v.seen said.front said.grown) said.is on reason old

@@ -10,10 +10,10 @@ use Rattle.gcd_plan.specs.declared.numbers.Run.TheVariants.{Block, Source}
 use Rattle.gcd_event.specs.Owners.{begun}
 use Rattle.gcd_event.specs.declared.event.Event.TheVariants.{Start}
 use Rattle.gcd_history.specs.History.{why}
-use Rattle.gcd_history.proofs.Reasons.{allowed}
+use Rattle.gcd_history.proofs.Permitted.Reasons.{allowed}
 use Rattle.gcd_refinement.specs.MachineView.{MachineView}
 use Rattle.gcd_machine.specs.Stands.{StandsFor}
-use Rattle.gcd_machine.proofs.Shown.{plan_stands}
+use Rattle.gcd_machine.proofs.Views.Calls.{plan_stands}
 
 -- a block that may start is one of the machine's plan
 start_is_known : (m : MachineView) (plan : PlanView) (h : List Event) (w : ℕ) (b : Blk) → StandsFor m plan h → why plan h (Start w b) ≡ None → b.0 < length m.plan.blocks

@@ -14,7 +14,7 @@ use Rattle.gcd_plan.specs.declared.numbers.Run.TheVariants.{Block, Source}
 use Rattle.gcd_event.specs.declared.event.Event.{Event}
 use Rattle.gcd_history.specs.Sources.{joined}
 use Rattle.gcd_history.specs.History.{IsLawful, delivery_count_of, received_of, last_data_of}
-use Rattle.gcd_team.proofs.Totals.{totals_fit}
+use Rattle.gcd_history.proofs.Sources.Totals.{totals_fit}
 use Rattle.gcd_row.specs.Shapes.{Shape, body, handler, shape_of, gives_of}
 use Rattle.gcd_row.specs.Lying.{slot_of, HasSlots, HasSlot, IsServed, IsUntaken}
 use Rattle.gcd_row.specs.Jobs.{held_jobs}

@@ -1,6 +1,5 @@
 -- The cell of the run that a worker holds, as events come.
 use Rattle.std.proofs.Common.{◌≡◌, ℕ, Bool, true, false, List, [], ◌∷◌, ◌++◌, Some, None, Option, sym, refl, ap, ◌∙◌, subst}
-use Rattle.std.specs.Prelude.{slice_get}
 use Rattle.std.proofs.lemmas.Option.{same_Some}
 use Rattle.gcd_plan.specs.PlanView.{PlanView}
 use Rattle.gcd_plan.specs.Validity.{IsPlan}
@@ -14,14 +13,14 @@ use Rattle.gcd_history.specs.Choice.{worker_of}
 use Rattle.gcd_history.specs.Runs.{act_at}
 use Rattle.gcd_history.specs.Parked.{is_parking}
 use Rattle.gcd_history.specs.History.{why, parks, IsLawful, is_ended, delivery_count_of, received_of, is_block_cancelled}
-use Rattle.gcd_history.proofs.LawfulLemmas.{lawful_more}
-use Rattle.gcd_team.specs.Held.{taken, given}
-use Rattle.gcd_team.specs.Team.{of_worker, held_by, StartsWith}
-use Rattle.gcd_team.specs.TeamFacts.{SourceWaits}
-use Rattle.gcd_team.proofs.Own.{own_events_tell_what_is_held, none_of_worker}
-use Rattle.gcd_team.proofs.TeamLaws.{givings_are_the_holders, parking_acts_are_blocks, cells_wait}
-use Rattle.gcd_team.proofs.Handing.{cells_stay, held_cells_wait, deliver_hands_over}
-use Rattle.gcd_team.proofs.Homes.{what_is_held_after}
+use Rattle.gcd_history.proofs.Permitted.Lawful.{lawful_more}
+use Rattle.gcd_history.specs.Held.{taken, given}
+use Rattle.gcd_history.specs.Team.{of_worker, held_by, StartsWith}
+use Rattle.gcd_history.specs.TeamFacts.{SourceWaits}
+use Rattle.gcd_history.proofs.HeldRuns.OwnEvents.{own_events_tell_what_is_held, none_of_worker}
+use Rattle.gcd_history.proofs.Public.TeamLaws.{givings_are_the_holders, parking_acts_are_blocks, cells_wait}
+use Rattle.gcd_history.proofs.HeldRuns.Cells.{cells_stay, held_cells_wait, deliver_hands_over}
+use Rattle.gcd_history.proofs.HeldRuns.Holders.{what_is_held_after}
 use Rattle.gcd_row.specs.Shapes.{Shape, body, handler}
 use Rattle.gcd_row.specs.Lying.{slot_of, BodyLies, Lies, HasSlots, IsReadyFor, GivesBackBy}
 use Rattle.gcd_row.specs.Plays.{Turned}

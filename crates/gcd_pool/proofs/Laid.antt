@@ -1,5 +1,5 @@
 -- Where a Drain lies after a call.
-use Rattle.std.proofs.Common.{◌≡◌, ◌∙◌, ◌++◌, ◌∷◌, [], ℕ, ap, append_assoc, arith, false, inl, inr, refl, sym, ⊎_elim}
+use Rattle.std.proofs.Common.{◌≡◌, ◌∙◌, ◌++◌, ◌∷◌, ℕ, ap, append_assoc, arith, false, inl, inr, sym, ⊎_elim}
 use Rattle.gcd_event.specs.declared.event.Event.{Event}
 use Rattle.gcd_plan.specs.declared.numbers.Obj.{Obj}
 use Rattle.gcd_row.specs.declared.view.View.{View}
@@ -8,6 +8,7 @@ use Rattle.gcd_steal.specs.declared.places.Sight.{Sight}
 use Rattle.gcd_steal.specs.Racks.{own_account, sight_of}
 use Rattle.gcd_steal.specs.declared.bench.Bench.{Bench}
 use Rattle.gcd_steal.specs.declared.deque.Deque.{Deque}
+use Rattle.gcd_steal.proofs.Placing.{since_self}
 use Rattle.gcd_pool.specs.Placing.{SaysBegun, SaysRecorded}
 use Rattle.gcd_pool.specs.Turns.{FoundNone, HasLaidDown, LaysFoundDown, SaysOut}
 use Rattle.gcd_pool.specs.declared.turn.Turn.{Turn}
@@ -38,16 +39,13 @@ lays_after a b c turn same lays = ⊎_elim
 
 -- ## A Drain that is out
 
-since_refl : (h : History) → Since h h
-since_refl h = ([], refl)
-
 -- a look that missed has seen all that was seen before it
 missed_since : (n : ℕ) (v w : Sight) → Misses n v w → Since w.seen v.seen
 missed_since n v w m = (change n false ∷ m.2.0, ap (λ (x : Sight). x.seen) m.1 ∙ ap (λ (h : History). change n false ∷ h) m.2.1)
 
 pub missed_out : (n : Obj) (b c : Bench) → Misses n.0 (sight_of b) (sight_of c) → SaysOut (Out n) b c
 unfolding SaysOut
-missed_out n b c m = (sight_of b, since_refl (sight_of b).seen, m)
+missed_out n b c m = (sight_of b, since_self (sight_of b).seen, m)
 
 pub out_further : (t : Turn) (n : ℕ) (a b c : Bench) → Misses n (sight_of a) (sight_of b) → SaysOut t b c → SaysOut t a c
 unfolding SaysOut

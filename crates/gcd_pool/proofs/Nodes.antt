@@ -2,13 +2,14 @@
 use Rattle.std.proofs.Common.{◌≡◌, ℕ, Bool, true, false, not, ◌==◌, cond, List, [], ◌∷◌, reverse, Option, Some, None, is_none, find, option_map, refl, ap, ◌∙◌, subst}
 use Rattle.std.specs.List.{list_all}
 use Rattle.std.specs.Option.{option_and_then, option_map_or, option_or}
-use Rattle.std.proofs.lemmas.Bool.{and_parts, eq-eqb, eqb-true}
+use Rattle.std.proofs.lemmas.Bool.{and_parts, eq-eqb}
 use Rattle.std.proofs.lemmas.Option.{same_Some}
 use Rattle.gcd_plan.specs.PlanView.{PlanView}
 use Rattle.gcd_plan.specs.Kinds.{is_node, is_source}
 use Rattle.gcd_plan.specs.Validity.{IsPlan}
 use Rattle.gcd_plan.specs.declared.numbers.Blk.{Blk}
 use Rattle.gcd_plan.specs.declared.numbers.Obj.{Obj}
+use Rattle.gcd_plan.proofs.Numbered.{on_node}
 use Rattle.gcd_event.specs.declared.event.Event.{Event}
 use Rattle.gcd_event.specs.declared.event.Event.TheVariants.{Start, Deliver}
 use Rattle.gcd_history.specs.declared.submission.Submission.{Submission}
@@ -18,12 +19,11 @@ use Rattle.gcd_history.specs.Submitted.{submitted, submission_of}
 use Rattle.gcd_history.specs.Permitted.{first_waiting, is_on, is_worker, waits_on}
 use Rattle.gcd_history.specs.History.{why, IsLawful, first_waiting_of, node_of}
 use Rattle.gcd_history.proofs.Counts.{found_alone}
-use Rattle.gcd_history.proofs.LawfulLemmas.{lawful_after}
+use Rattle.gcd_history.proofs.Permitted.Lawful.{lawful_after}
 use Rattle.gcd_history.proofs.Lists.{found_is}
-use Rattle.gcd_history.proofs.Reasons.{allowed}
-use Rattle.gcd_history.proofs.SubmittedOnNodes.{on_a_node, source_is_node, submitted_fit}
-use Rattle.gcd_history.proofs.SubmittedOnce.{submitted_once}
-use Rattle.gcd_team.specs.Held.{given}
+use Rattle.gcd_history.proofs.Permitted.Reasons.{allowed}
+use Rattle.gcd_history.proofs.Blocks.SubmittedOnNodes.{on_a_node, source_is_node, submitted_fit}
+use Rattle.gcd_history.proofs.Blocks.SubmittedOnce.{submitted_once}
 use Rattle.gcd_machine.specs.Begins.{begin_of, deliver_of, if_permitted, start_of}
 use Rattle.gcd_pool.specs.Duties.{begun_on}
 
@@ -46,15 +46,6 @@ begun_node plan h (Deliver w s) o valid may is =
 begun_node plan h e o valid may is = absurd (cc)
 
 -- ## What begins on a node
-
-pub no_back : (plan : PlanView) (h : List Event) (e : Event) (o : Obj) → begun_on plan h e ≡ Some o → given plan e ≡ None
-no_back plan h (Start w b) o is = refl
-no_back plan h (Deliver w s) o is = refl
-no_back plan h e o is = absurd (cc)
-
-on_node : (n : ℕ) (node : Option Obj) → option_map_or (λ o. o.0 == n) node false ≡ true → node ≡ Some (record { 0 = n })
-on_node n None on = cc
-on_node n (Some o) on = ap (λ k. Some (record { 0 = k })) (eqb-true o.0 n on)
 
 waiting_node : (plan : PlanView) (past : List Event) (n : ℕ) (s : Submission) → IsPlan plan → Rattle.gcd_history.specs.Permitted.IsLawful plan past → first_waiting plan past n ≡ Some s → option_and_then (λ t. t.node) (submission_of plan past s.blk.0) ≡ Some (record { 0 = n })
 waiting_node plan past n s valid lawful found =

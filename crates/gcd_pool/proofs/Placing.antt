@@ -10,7 +10,7 @@ use Rattle.gcd_event.specs.declared.event.Event.{Event}
 use Rattle.gcd_event.specs.declared.event.Event.TheVariants.{Start, Wake, Deliver}
 use Rattle.gcd_history.specs.Ends.{IsGoingOn}
 use Rattle.gcd_history.specs.Laws.{HasNoChoice}
-use Rattle.gcd_team.specs.Team.{of_worker}
+use Rattle.gcd_history.specs.Team.{of_worker}
 use Rattle.gcd_row.specs.Passes.{Says}
 use Rattle.gcd_row.specs.declared.put.Put.TheVariants.{Placed as PutPlaced, Barred, Full}
 use Rattle.gcd_row.specs.declared.view.View.{View}
@@ -43,38 +43,32 @@ module _ {S : Type 0} where
 
   -- ## One after the other
 
-  none_as : (v u w : View S) → GoesOn v u → HasPlacedNone v u → HasPlacedNone u w → HasPlacedNone v w
-  none_as v u w go one two = subst (λ (x : View S). of_worker x.worker w.seen ≡ of_worker x.worker u.seen) go.is two ∙ one
-
-  some_as : (e : Event) (v u w : View S) → GoesOn v u → HasPlacedNone v u → HasPlaced e u w → HasPlaced e v w
-  some_as e v u w go one two =
-      subst (λ (x : View S). of_worker x.worker w.seen ≡ of_worker x.worker u.seen ++ e ∷ []) go.is two ∙ ap (λ (l : List Event). l ++ e ∷ []) one
+  pub quiet_further : (v u w : View S) → GoesOn v u → HasPlacedNone v u → HasPlacedNone u w → HasPlacedNone v w
+  quiet_further v u w go one two = subst (λ (x : View S). of_worker x.worker w.seen ≡ of_worker x.worker u.seen) go.is two ∙ one
 
   pub one_further : (e : Event) (v u w : View S) → GoesOn v u → HasPlacedNone v u → HasPlaced e u w → HasPlaced e v w
-  one_further e v u w go one two = some_as e v u w go one two
-
-  pub quiet_further : (v u w : View S) → GoesOn v u → HasPlacedNone v u → HasPlacedNone u w → HasPlacedNone v w
-  quiet_further v u w go one two = none_as v u w go one two
+  one_further e v u w go one two =
+      subst (λ (x : View S). of_worker x.worker w.seen ≡ of_worker x.worker u.seen ++ e ∷ []) go.is two ∙ ap (λ (l : List Event). l ++ e ∷ []) one
 
   pub placed_further : (t : Turn) (v u w : View S) → GoesOn v u → HasPlacedNone v u → SaysPlaced t u w → SaysPlaced t v w
   unfolding SaysPlaced
-  placed_further Left v u w go one two = none_as v u w go one two
-  placed_further Placed v u w go one two = (two.0, some_as two.0 v u w go one two.1, two.2)
-  placed_further Ended v u w go one two = (two.0, some_as two.0 v u w go one two.1, two.2)
-  placed_further (Out node) v u w go one two = none_as v u w go one two
-  placed_further Waited v u w go one two = none_as v u w go one two
-  placed_further Rested v u w go one two = none_as v u w go one two
-  placed_further Stopped v u w go one two = none_as v u w go one two
+  placed_further Left v u w go one two = quiet_further v u w go one two
+  placed_further Placed v u w go one two = (two.0, one_further two.0 v u w go one two.1, two.2)
+  placed_further Ended v u w go one two = (two.0, one_further two.0 v u w go one two.1, two.2)
+  placed_further (Out node) v u w go one two = quiet_further v u w go one two
+  placed_further Waited v u w go one two = quiet_further v u w go one two
+  placed_further Rested v u w go one two = quiet_further v u w go one two
+  placed_further Stopped v u w go one two = quiet_further v u w go one two
 
   pub recorded_further : (e : Event) (t : Turn) (v u w : View S) → GoesOn v u → HasPlacedNone v u → SaysRecorded e t u w → SaysRecorded e t v w
   unfolding SaysRecorded
-  recorded_further e Left v u w go one two = none_as v u w go one two
-  recorded_further e Placed v u w go one two = (some_as e v u w go one two.0, two.1)
-  recorded_further e Ended v u w go one two = (some_as e v u w go one two.0, two.1)
+  recorded_further e Left v u w go one two = quiet_further v u w go one two
+  recorded_further e Placed v u w go one two = (one_further e v u w go one two.0, two.1)
+  recorded_further e Ended v u w go one two = (one_further e v u w go one two.0, two.1)
   recorded_further e (Out node) v u w go one two = two
-  recorded_further e Waited v u w go one two = (none_as v u w go one two.0, two.1)
+  recorded_further e Waited v u w go one two = (quiet_further v u w go one two.0, two.1)
   recorded_further e Rested v u w go one two = two
-  recorded_further e Stopped v u w go one two = none_as v u w go one two
+  recorded_further e Stopped v u w go one two = quiet_further v u w go one two
 
   -- ## An event that is recorded
 

@@ -6,10 +6,10 @@ use Rattle.gcd_plan.specs.declared.numbers.Run.{Run}
 use Rattle.gcd_event.specs.declared.event.Event.{Event}
 use Rattle.gcd_history.specs.Choice.{worker_of}
 use Rattle.gcd_history.specs.History.{why, IsLawful}
-use Rattle.gcd_history.proofs.LawfulLemmas.{lawful_front}
-use Rattle.gcd_team.specs.Team.{held_by, StartsWith}
-use Rattle.gcd_team.proofs.Own.{own_events_tell_what_is_held}
-use Rattle.gcd_team.proofs.TeamLaws.{givings_are_the_holders}
+use Rattle.gcd_history.proofs.Permitted.Lawful.{lawful_front}
+use Rattle.gcd_history.specs.Team.{held_by, StartsWith}
+use Rattle.gcd_history.proofs.HeldRuns.OwnEvents.{own_events_tell_what_is_held}
+use Rattle.gcd_history.proofs.Public.TeamLaws.{givings_are_the_holders}
 use Rattle.gcd_row.specs.Shapes.{Shape}
 use Rattle.gcd_row.specs.Lying.{slot_of, HasSlots, GivesBack}
 use Rattle.gcd_row.specs.Jobs.{held_jobs}
@@ -21,7 +21,7 @@ use Rattle.gcd_row.specs.declared.pass.RowPass.{RowPass}
 use Rattle.gcd_row.specs.declared.put.Put.{Put}
 use Rattle.gcd_row.specs.declared.put.Put.TheVariants.{Placed, Barred, Held, Full}
 use Rattle.gcd_row.specs.declared.view.Handed.{Handed}
-use Rattle.gcd_row.specs.declared.view.Marks.{Marks}
+use Rattle.gcd_row.specs.declared.view.PassMarks.{PassMarks}
 use Rattle.gcd_row.specs.declared.view.View.{View}
 use Rattle.gcd_row.proofs.Fronts.{starts_refl, starts_trans, starts_more}
 use Rattle.gcd_row.proofs.Passing.{lawful_seen, valid_plan}
@@ -48,8 +48,8 @@ module _ {S : Type 0} where
   goes_worker v w go = ap (λ (x : View S). x.worker) go.is
 
   -- what it knows of the passed words is what it knows
-  pub knows_marks : (v w : View S) (m : Marks) → w ≡ knowing v w.seen m → w ≡ knowing v w.seen w.marks
-  knows_marks v w m is = is ∙ ap (λ (k : Marks). knowing v w.seen k) (sym (ap (λ (x : View S). x.marks) is))
+  pub knows_marks : (v w : View S) (m : PassMarks) → w ≡ knowing v w.seen m → w ≡ knowing v w.seen w.marks
+  knows_marks v w m is = is ∙ ap (λ (k : PassMarks). knowing v w.seen k) (sym (ap (λ (x : View S). x.marks) is))
 
   -- it has noted nothing
   pub knowing_goes_on : (v w : View S) → w ≡ knowing v w.seen w.marks → StartsWith w.seen v.seen → GoesOn v w
@@ -79,7 +79,7 @@ module _ {S : Type 0} where
       let seen : w.seen ≡ p.history ++ e ∷ [] = placed_seen e v w n p in
       record {
         is = p.is ∙ ap (λ (l : List Event). noting (knowing v l (known v w)) w.first w.handed) (sym seen)
-            ∙ ap (λ (k : Marks). noting (knowing v w.seen k) w.first w.handed) (sym (ap (λ (x : View S). x.marks) p.is));
+            ∙ ap (λ (k : PassMarks). noting (knowing v w.seen k) w.first w.handed) (sym (ap (λ (x : View S). x.marks) p.is));
         more = subst (λ (l : List Event). StartsWith l v.seen) (sym seen) (starts_trans (p.history ++ e ∷ []) p.history v.seen (starts_more p.history e) p.ahead.more);
       }
   says_goes_on e v w (Barred at y) p = looks_goes_on v w p.0

@@ -12,12 +12,10 @@ use Rattle.gcd_history.specs.History.{choice_of, why}
 use Rattle.gcd_history.specs.Intake.{accepted}
 use Rattle.gcd_loop.specs.Followed.{FollowsChoice}
 use Rattle.gcd_loop.proofs.Follows.{follows_only}
-use Rattle.gcd_team.specs.Held.{is_of}
-use Rattle.gcd_loop.specs.Recorded.{After, Grows, IsGrown, IsSight, Says}
-use Rattle.gcd_loop.specs.declared.recorder.Put.{Put as LoopPut}
-use Rattle.gcd_loop.specs.declared.recorder.Put.TheVariants.{Placed as PutPlaced, Barred as PutBarred, Later}
-use Rattle.gcd_loop.specs.declared.recorder.Step.{Step}
-use Rattle.gcd_loop.specs.declared.recorder.Step.TheVariants.{Placed as StepPlaced, Waited as StepWaited, Stopped, Over}
+use Rattle.gcd_history.specs.Held.{is_of}
+use Rattle.gcd_loop.specs.Recorded.{Grows, IsGrown, IsSight, Says}
+use Rattle.gcd_loop.specs.declared.recorder.PutEnd.{PutEnd}
+use Rattle.gcd_loop.specs.declared.recorder.PutEnd.TheVariants.{Placed as PutPlaced, Barred as PutBarred, Later}
 use Rattle.gcd_loop.proofs.Steps.{grown}
 use Rattle.gcd_row.specs.Shapes.{Shape}
 use Rattle.gcd_row.specs.Views.{knowing, seeing}
@@ -39,7 +37,7 @@ use Rattle.gcd_pool.specs.Works.{AddsNone, AddsOnly, AddsWork, is_own_work}
 use Rattle.gcd_pool.specs.declared.hand.Hand.{Hand}
 use Rattle.gcd_pool.specs.declared.hand.Pool.{Pool}
 use Rattle.gcd_row.proofs.Fronts.{starts_trans}
-use Rattle.gcd_team.specs.Team.{of_worker}
+use Rattle.gcd_history.specs.Team.{of_worker}
 use Rattle.gcd_pool.proofs.Puts.{looks_fresh, placed_seen}
 use Rattle.gcd_pool.proofs.Told.{to_lead}
 use Rattle.gcd_pool.proofs.Serves.{looks_serves, passing_fresh, serves_further, serves_nothing}
@@ -129,12 +127,12 @@ if_ok P Q (Ok x) f is = f x is
 if_ok P Q (Err e) f is = tt
 
 -- what was handed in since worker 0 gathered was handed in since before that
-handed_as : {S : Type 0} (e : Event) (v u w : View S) (r : LoopPut) → u.handed ≡ v.handed → u.terms ≡ v.terms → HandedOn e u w r → HandedOn e v w r
+handed_as : {S : Type 0} (e : Event) (v u w : View S) (r : PutEnd) → u.handed ≡ v.handed → u.terms ≡ v.terms → HandedOn e u w r → HandedOn e v w r
 handed_as {S} e v u w PutPlaced same terms handed = subst (λ (n : Handed S). HandsOn (accepted e) n w.handed) same handed
 handed_as e v u w PutBarred same terms handed = handed ∙ same
 handed_as e v u w Later same terms handed = (handed.0 ∙ same, handed.1 ∙ ap (λ t. t.limits.most) terms)
 
-pub handed_since : {S E : Type 0} (e : Event) (v u w : View S) (r : Result LoopPut E) → u ≡ knowing v v.seen u.marks → IfOk r (HandedOn e u w) → IfOk r (HandedOn e v w)
+pub handed_since : {S E : Type 0} (e : Event) (v u w : View S) (r : Result PutEnd E) → u ≡ knowing v v.seen u.marks → IfOk r (HandedOn e u w) → IfOk r (HandedOn e v w)
 handed_since {S} e v u w r same handed =
     if_ok (HandedOn e u w) (HandedOn e v w) r (λ answer. handed_as e v u w answer (ap (λ (x : View S). x.handed) same) (ap (λ (x : View S). x.terms) same)) handed
 
@@ -144,13 +142,6 @@ never is = absurd (cc)
 
 pub never_ok : {T E A : Type 0} {e : E} {x : T} → Err e ≡ Ok x → A
 never_ok is = absurd (cc)
-
--- what is said where no turn is stopped
-pub after_weaker : (A B C D E : Type 0) (s : Step) → (A → C) → (B → D) → After A ⊥ B s → After C E D s
-after_weaker A B C D E StepPlaced f g h = f h
-after_weaker A B C D E StepWaited f g h = f h
-after_weaker A B C D E Stopped f g h = absurd h
-after_weaker A B C D E Over f g h = g h
 
 module _ {S : Type 0} (shape : S → Shape) (gives : S → ℕ → Type 0) (most : ℕ) (plan : PlanView) (pool : Pool S) (a : Hand S) (is : IsHead shape gives most plan pool a) where
   pub plan_of_head : (view a.pass).terms.plan ≡ plan
@@ -209,7 +200,7 @@ module _ {S : Type 0} (shape : S → Shape) (gives : S → ℕ → Type 0) (most
   hand_sight b serving =
       let m = machine_of b.pass in
       let stands = subst (λ (q : PlanView). Rattle.gcd_machine.specs.Stands.StandsFor m q (view b.pass).seen) (sym serving.of.plan ∙ is.plan_is) serving.of.pass.stands in
-      record { own = Rattle.gcd_machine.proofs.Shown.plan_stands m plan (view b.pass).seen stands; stands = stands; few = subst (λ (n : ℕ). length (view b.pass).seen ≤ n) (sym (same_limit b serving)) serving.of.pass.few }
+      record { own = Rattle.gcd_machine.proofs.Views.Calls.plan_stands m plan (view b.pass).seen stands; stands = stands; few = subst (λ (n : ℕ). length (view b.pass).seen ≤ n) (sym (same_limit b serving)) serving.of.pass.few }
 
   pub worked : (b : Hand S) → Serving shape gives pool a b → AddsWork (view a.pass) (view b.pass) → IsGrown most plan (view a.pass).seen (view b.pass).seen
   worked b serving adds =

@@ -4,7 +4,7 @@ use Rattle.gcd_plan.specs.PlanView.{PlanView}
 use Rattle.gcd_event.specs.declared.event.Event.{Event}
 use Rattle.gcd_history.specs.Ends.{HasEnded}
 use Rattle.gcd_machine.specs.Stands.{StandsFor}
-use Rattle.gcd_team.specs.Team.{of_worker}
+use Rattle.gcd_history.specs.Team.{of_worker}
 use Rattle.gcd_row.specs.Shapes.{Shape}
 use Rattle.gcd_row.specs.Passes.{IsPassOf, Looks, slots, terms_of, view, machine_of}
 use Rattle.gcd_row.specs.Views.{knowing}

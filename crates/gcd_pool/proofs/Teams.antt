@@ -1,13 +1,12 @@
 -- The hands of a team, and the numbers that worker 0's pass has given out.
-use Rattle.std.proofs.Common.{◌≡◌, ◌≢◌, ◌<◌, ◌≤◌, ◌∙◌, ℕ, Bool, cond, List, [], ◌∷◌, ◌++◌, Some, refl, ap, sym, subst, arith, ⊎_elim, eq-eqb}
+use Rattle.std.proofs.Common.{◌≡◌, ◌≢◌, ◌<◌, ◌≤◌, ◌∙◌, ℕ, List, [], ◌∷◌, ◌++◌, Some, ap, sym, subst, arith, ⊎_elim, refl}
 use Rattle.std.specs.Prelude.{All}
-use Rattle.std.proofs.lemmas.Bool.{cases_lt, ne_eqb}
+use Rattle.std.proofs.lemmas.Bool.{cases_lt}
 use Rattle.std.proofs.lemmas.List.Elements.{All-append, All-cons, All-nil}
-use Rattle.gcd_event.specs.declared.event.Event.{Event}
-use Rattle.gcd_team.specs.Team.{of_worker}
 use Rattle.gcd_row.specs.Views.{standing_of}
 use Rattle.gcd_row.specs.declared.view.Standing.{Standing}
 use Rattle.gcd_row.specs.declared.view.Standing.TheVariants.{Out, Back}
+use Rattle.gcd_row.proofs.Parting.{standing_other, standing_same, back_out}
 
 -- one more at the end, and one more in front
 module _ {T : Type 0} (P : T → Type 0) (old new : List T) (x : T) where
@@ -17,20 +16,6 @@ module _ {T : Type 0} (P : T → Type 0) (old new : List T) (x : T) where
   pub all_led : new ≡ x ∷ old → All P old → P x → All P new
   all_led is all first = subst (All P) (sym is) (All-cons P x old first all)
 
--- in an empty history no event is a worker's
-pub none_own : (w : ℕ) (h : List Event) → h ≡ [] → of_worker w h ≡ []
-unfolding of_worker
-none_own w h none = ap (of_worker w) none
-
-other_standing : (m w : ℕ) (s : Standing) (hands : List (ℕ × Standing)) → m ≢ w → standing_of ((m, s) ∷ hands) w ≡ standing_of hands w
-other_standing m w s hands differ = ap (λ (b : Bool). cond b (Some s) (standing_of hands w)) (ne_eqb m w differ)
-
-same_standing : (m : ℕ) (s : Standing) (hands : List (ℕ × Standing)) → standing_of ((m, s) ∷ hands) m ≡ Some s
-same_standing m s hands = ap (λ (b : Bool). cond b (Some s) (standing_of hands m)) (eq-eqb m m refl)
-
-back_out : Some Back ≡ Some Out → ⊥
-back_out is = cc
-
 -- number n comes back: then none from n on is out, where none above n was
 pub back_next : (n : ℕ) (old new : List (ℕ × Standing)) → new ≡ (n, Back) ∷ old → ((w : ℕ) → n < w → standing_of old w ≢ Some Out) → (w : ℕ) → n ≤ w → standing_of new w ≢ Some Out
 back_next n old new is home w high out =
@@ -38,10 +23,10 @@ back_next n old new is home w high out =
     ⊎_elim
     (λ (above : n < w).
     let differ : n ≢ w = λ same. omega (arith, above, same) in
-    home w above (sym (other_standing n w Back old differ) ∙ sym here ∙ out))
+    home w above (sym (standing_other old n Back w differ) ∙ sym here ∙ out))
     (λ (below : w ≤ n).
     let same : n ≡ w = omega (arith, below, high) in
-    back_out (sym (subst (λ (k : ℕ). standing_of ((n, Back) ∷ old) k ≡ Some Back) same (same_standing n Back old)) ∙ sym here ∙ out))
+    back_out (sym (subst (λ (k : ℕ). standing_of ((n, Back) ∷ old) k ≡ Some Back) same (standing_same old n Back n refl)) ∙ sym here ∙ out))
     (cases_lt n w)
 
 -- no number is out, where none from 1 on is, nor 0

@@ -8,10 +8,10 @@ use Rattle.gcd_history.specs.Choice.{is_work, worker_of}
 use Rattle.gcd_history.specs.Ends.{HasEnded}
 use Rattle.gcd_history.specs.History.{why, choice_of}
 use Rattle.gcd_history.specs.Laws.{HasNoChoice}
-use Rattle.gcd_history.proofs.PublicLaws.{choice_is_permitted, no_choice_is_none}
+use Rattle.gcd_history.proofs.Public.Laws.{choice_is_permitted, no_choice_is_none}
 use Rattle.gcd_refinement.specs.MachineView.{MachineView}
 use Rattle.gcd_machine.specs.Stands.{StandsFor}
-use Rattle.gcd_machine.proofs.Shown.{plan_stands}
+use Rattle.gcd_machine.proofs.Views.Calls.{plan_stands}
 use Rattle.gcd_row.specs.Shapes.{Shape}
 use Rattle.gcd_row.specs.Passes.{IsPassOf, terms_of, view, machine_of, worker_number}
 use Rattle.gcd_row.specs.declared.board.RowBoard.{RowBoard}

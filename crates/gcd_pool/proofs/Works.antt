@@ -1,36 +1,26 @@
 -- What calls add to the row.
-use Rattle.std.proofs.Common.{◌≡◌, ℕ, Bool, true, false, not, ◌||◌, cond, List, [], ◌∷◌, ◌++◌, filter, Option, Some, None, sym, refl, ap, ◌∙◌, subst, append-nil, append_assoc, ◌⊎◌, inl, inr}
+use Rattle.std.proofs.Common.{◌≡◌, ℕ, Bool, true, false, not, ◌||◌, cond, List, [], ◌∷◌, ◌++◌, filter, Some, sym, refl, ap, ◌∙◌, subst, append-nil, append_assoc, ◌⊎◌, inl, inr}
 use Rattle.std.specs.List.{list_all}
 use Rattle.std.proofs.lemmas.Bool.{and_from}
-use Rattle.gcd_plan.specs.declared.numbers.Blk.{Blk}
+use Rattle.std.proofs.Math.Bool.{or-true}
 use Rattle.gcd_plan.specs.declared.numbers.Run.{Run}
 use Rattle.gcd_event.specs.declared.event.Event.{Event}
 use Rattle.gcd_event.specs.declared.event.Event.TheVariants.{End, DeliverEnd}
 use Rattle.gcd_history.specs.Choice.{is_work}
 use Rattle.gcd_history.specs.Intake.{accepted}
+use Rattle.gcd_history.proofs.Lists.{all_both}
 use Rattle.gcd_loop.proofs.Events.{work_accepts_none}
-use Rattle.gcd_team.specs.Held.{is_of}
-use Rattle.gcd_team.specs.Team.{of_worker, StartsWith}
-use Rattle.gcd_team.proofs.Own.{none_of_worker}
+use Rattle.gcd_history.specs.Held.{is_of}
+use Rattle.gcd_history.specs.Team.{of_worker, StartsWith}
+use Rattle.gcd_history.proofs.HeldRuns.OwnEvents.{none_of_worker}
 use Rattle.gcd_row.specs.Views.{seeing}
 use Rattle.gcd_row.specs.Passes.{Ahead, Looks, Says}
-use Rattle.gcd_row.specs.Plays.{HandsOn}
-use Rattle.gcd_row.specs.declared.view.Handed.{Handed}
 use Rattle.gcd_row.specs.declared.put.Put.{Put}
 use Rattle.gcd_row.specs.declared.put.Put.TheVariants.{Placed, Barred, Held, Full}
 use Rattle.gcd_row.specs.declared.view.View.{View}
 use Rattle.gcd_event.specs.Owners.{ended}
+use Rattle.gcd_row.proofs.AfterPut.{handed_by}
 use Rattle.gcd_pool.specs.Works.{AddsNone, AddsOnly, AddsWork, is_own_work}
-
-pub all_further : {A : Type 0} → (p : A → Bool) (xs ys : List A) → list_all p xs ≡ true → list_all p ys ≡ true → list_all p (xs ++ ys) ≡ true
-all_further p [] ys one two = two
-all_further p (x ∷ xs) ys one two =
-    let parts = Rattle.std.proofs.lemmas.Bool.and_parts (p x) (list_all p xs) one in
-    and_from (p x) (list_all p (xs ++ ys)) parts.0 (all_further p xs ys parts.1 two)
-
-or_right : (a : Bool) → (a || true) ≡ true
-or_right true = refl
-or_right false = refl
 
 -- where no event is its own
 none_own : (w : ℕ) (rest : List Event) → filter (is_of w) rest ≡ [] → list_all (is_own_work w) rest ≡ true
@@ -40,11 +30,6 @@ none_own w (e ∷ rest) none =
       | true ↦ λ h. cc
       | false ↦ λ h. none_own w rest h
     ] none
-
--- with an event that accepts none nothing is handed in
-pub none_handed_in : {S : Type 0} → (o : Option Blk) (n m : Handed S) → o ≡ None → HandsOn o n m → m ≡ n
-none_handed_in None n m none on = on
-none_handed_in (Some b) n m none on = cc
 
 module _ {S : Type 0} where
   pub adds_nothing : (v w : View S) → w ≡ v → AddsWork v w
@@ -61,7 +46,7 @@ module _ {S : Type 0} where
     worker = b.worker ∙ a.worker;
     rest = a.rest ++ b.rest;
     split = b.split ∙ ap (λ (l : List Event). l ++ b.rest) a.split ∙ append_assoc v.seen a.rest b.rest;
-    work = all_further (is_own_work v.worker) a.rest b.rest a.work (subst (λ (n : ℕ). list_all (is_own_work n) b.rest ≡ true) a.worker b.work);
+    work = all_both (is_own_work v.worker) a.rest b.rest a.work (subst (λ (n : ℕ). list_all (is_own_work n) b.rest ≡ true) a.worker b.work);
     handed = b.handed ∙ a.handed;
   }
 
@@ -84,9 +69,9 @@ module _ {S : Type 0} where
         worker = ap (λ (x : View S). x.worker) p.is;
         rest = before.rest ++ e ∷ [];
         split = ap (λ (x : View S). x.seen) p.is ∙ ap (λ (l : List Event). l ++ e ∷ []) before.split ∙ append_assoc v.seen before.rest (e ∷ []);
-        work = all_further (is_own_work v.worker) before.rest (e ∷ []) before.work
-            (and_from (not (is_of v.worker e) || is_work e) true (ap (λ (b : Bool). not (is_of v.worker e) || b) work ∙ or_right (not (is_of v.worker e))) refl);
-        handed = none_handed_in (accepted e) v.handed w.handed (work_accepts_none e work) p.handed;
+        work = all_both (is_own_work v.worker) before.rest (e ∷ []) before.work
+            (and_from (not (is_of v.worker e) || is_work e) true (ap (λ (b : Bool). not (is_of v.worker e) || b) work ∙ or-true (not (is_of v.worker e))) refl);
+        handed = handed_by (accepted e) v.handed w.handed (work_accepts_none e work) p.handed;
       }
   says_adds e v w (Barred at y) work p = looks_adds v w p.0
   says_adds e v w (Held by passed) work p = looks_adds v w p.0.looks

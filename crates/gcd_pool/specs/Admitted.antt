@@ -1,15 +1,13 @@
 -- What worker 0 of a pool took of outside callers, and what was accepted of it.
 use Rattle.std.specs.Prelude.{◌≡◌, ◌<◌, ◌≤◌, ◌⊎◌, ℕ, Bool, true, false, List, [], ◌++◌, Option, Some, length}
 use Rattle.std.specs.List.{AllZip, list_any}
-use Rattle.gcd_plan.specs.Made.{is_of_intake}
 use Rattle.gcd_plan.specs.PlanView.{PlanView}
 use Rattle.gcd_plan.specs.declared.numbers.Blk.{Blk}
 use Rattle.gcd_event.specs.declared.event.Event.{Event}
 use Rattle.gcd_event.specs.declared.event.Event.TheVariants.{Accept}
 use Rattle.gcd_history.specs.Ends.{is_halted}
 use Rattle.gcd_history.specs.Facts.{is_of_callers}
-use Rattle.gcd_history.specs.Intake.{accepted, accepts, shuts}
-use Rattle.gcd_history.specs.Report.{blocks_of_sender}
+use Rattle.gcd_history.specs.Intake.{AllAccepted, accepted, blocks_of_sender, shuts}
 use Rattle.gcd_front.specs.Fronts.{IsIntakeOf, KnowsAll, TookAll}
 use Rattle.gcd_front.specs.Limits.{max_senders}
 use Rattle.gcd_front.specs.Queue.{jobs_of}
@@ -22,10 +20,10 @@ use Rattle.gcd_row.specs.Views.{turning}
 use Rattle.gcd_row.specs.declared.view.Next.TheVariants.{Laid}
 use Rattle.gcd_row.specs.declared.view.View.{View}
 use Rattle.gcd_loop.specs.Recorded.{IsSight, Says}
-use Rattle.gcd_loop.specs.declared.recorder.Put.{Put}
+use Rattle.gcd_loop.specs.declared.recorder.PutEnd.{PutEnd}
 use Rattle.gcd_outer.specs.Outside.{ClockState}
 use Rattle.gcd_outer.specs.Tells.{PollerState}
-use Rattle.gcd_loop.specs.declared.recorder.Put.TheVariants.{Placed, Barred, Later}
+use Rattle.gcd_loop.specs.declared.recorder.PutEnd.TheVariants.{Placed, Barred, Later}
 use Rattle.gcd_pool.specs.Hands.{IsHandOf}
 use Rattle.gcd_pool.specs.Leads.{IsHead, Leads, Led, head_left, head_sight}
 use Rattle.gcd_pool.specs.declared.hand.Hand.{Hand}
@@ -41,10 +39,6 @@ pub record AddsNoCall (h k : List Event) : Type 0 where
 pub record IsUnderWay (most : ℕ) (h : List Event) : Type 0 where
   pub unhalted : is_halted h ≡ false
   pub room : length h < most
-
--- each block of the intake is accepted
-abbrev pub AllAccepted : PlanView → List Event → Type 0
-AllAccepted plan h = (b : ℕ) → is_of_intake plan b ≡ true → list_any (accepts b) h ≡ true
 
 module _ {S X : Type 0} (gives : S → ℕ → Type 0) (sent : X → ℕ → Type 0) where
   -- the job of the block may give only what the job of the caller may
@@ -73,7 +67,7 @@ module _ {S X : Type 0} (gives : S → ℕ → Type 0) (sent : X → ℕ → Typ
     pub why_shut : list_any shuts v.seen ≡ true → AllAccepted v.terms.plan v.seen ⊎ (KnowsAll f i × TookAll i)
 
 -- what worker 0 has handed in after an event of its own was put: with an Accept what it laid into the block's slot, and else nothing more
-abbrev pub HandedOn : {S : Type 0} → Event → View S → View S → Put → Type 0
+abbrev pub HandedOn : {S : Type 0} → Event → View S → View S → PutEnd → Type 0
 HandedOn e v w Placed = HandsOn (accepted e) v.handed w.handed
 HandedOn e v w Barred = w.handed ≡ v.handed
 HandedOn e v w Later = (w.handed ≡ v.handed) × (length w.seen ≡ v.terms.limits.most)
@@ -107,8 +101,8 @@ pub record KeepsHead {S : Type 0} (shape : S → Shape) (gives : S → ℕ → T
   pub front : g ≡ f
 
 -- the job of a sender was laid into the slot of block b, and its Accept was put
-pub record IsAccepted {S X : Type 0} (gives : S → ℕ → Type 0) (sent : X → ℕ → Type 0) (most : ℕ) (plan : PlanView) (b : Blk) (sender : ℕ) (job : X) (v w : View S) (answer : Option Put) : Type 0 where
-  pub put : Put
+pub record IsAccepted {S X : Type 0} (gives : S → ℕ → Type 0) (sent : X → ℕ → Type 0) (most : ℕ) (plan : PlanView) (b : Blk) (sender : ℕ) (job : X) (v w : View S) (answer : Option PutEnd) : Type 0 where
+  pub put : PutEnd
   pub is : answer ≡ Some put
   pub said : Says most plan (Accept b sender) v.seen w.seen put
   pub cell : S

@@ -7,7 +7,7 @@ use Rattle.gcd_plan.specs.declared.numbers.Run.TheVariants.{Block, Source}
 use Rattle.gcd_event.specs.declared.event.Event.{Event}
 use Rattle.gcd_event.specs.Owners.{ended}
 use Rattle.gcd_history.specs.Ends.{HasEnded}
-use Rattle.gcd_team.specs.Team.{StartsWith, held_by}
+use Rattle.gcd_history.specs.Team.{StartsWith, held_by}
 use Rattle.gcd_row.specs.Shapes.{Shape, body, handler}
 use Rattle.gcd_row.specs.Lying.{slot_of, IsUntaken, IsReadyFor}
 use Rattle.gcd_row.specs.Views.{held_run, knowing, noting}

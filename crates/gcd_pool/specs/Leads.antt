@@ -5,11 +5,11 @@ use Rattle.gcd_event.specs.declared.event.Event.{Event}
 use Rattle.gcd_plan.specs.PlanView.{PlanView}
 use Rattle.gcd_history.specs.Ends.{HasEnded}
 use Rattle.gcd_loop.specs.Followed.{FollowsChoice}
-use Rattle.gcd_team.specs.Held.{is_of}
+use Rattle.gcd_history.specs.Held.{is_of}
 use Rattle.gcd_loop.specs.Going.{IsRunOn}
 use Rattle.gcd_loop.specs.Recorded.{IsSight}
 use Rattle.gcd_machine.specs.Stands.{StandsFor}
-use Rattle.gcd_machine.proofs.Shown.{plan_stands}
+use Rattle.gcd_machine.proofs.Views.Calls.{plan_stands}
 use Rattle.gcd_outer.specs.Outside.{ClockState}
 use Rattle.gcd_outer.specs.Tells.{PollerState}
 use Rattle.gcd_row.specs.Passes.{view, machine_of}

@@ -3,7 +3,7 @@ use Rattle.std.specs.Prelude.{◌≡◌, ◌⊎◌, ℕ, Bool, true, not, ◌||�
 use Rattle.std.specs.List.{list_all}
 use Rattle.gcd_event.specs.declared.event.Event.{Event}
 use Rattle.gcd_history.specs.Choice.{is_work}
-use Rattle.gcd_team.specs.Held.{is_of}
+use Rattle.gcd_history.specs.Held.{is_of}
 use Rattle.gcd_row.specs.Passes.{slots, view}
 use Rattle.gcd_row.specs.Shapes.{Shape}
 use Rattle.gcd_row.specs.declared.pass.RowPass.{RowPass}

@@ -1,6 +1,6 @@
 // What workers share, and what each of them has.
 ghost use Rattle.std.specs.Prelude.{◌≡◌, true, []};
-ghost use Rattle.gcd_team.specs.Team.{of_worker};
+ghost use Rattle.gcd_history.specs.Team.{of_worker};
 ghost use Rattle.gcd_row.specs.Passes.{IsPassOf, view};
 ghost use Rattle.gcd_steal.specs.Racks.{IsBenchOf};
 ghost use Rattle.gcd_pool.specs.Hands.{IsPool, IsReady, IsSamePool};

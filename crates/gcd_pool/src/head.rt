@@ -7,7 +7,8 @@ ghost use Rattle.gcd_front.specs.Limits.{max_senders};
 ghost use Rattle.gcd_plan.specs.PlanView.{PlanView};
 ghost use Rattle.gcd_row.specs.Passes.{view};
 ghost use Rattle.gcd_turn.specs.Turns.{HasRoom};
-ghost use Rattle.gcd_pool.specs.Admitted.{Admitted, AllAccepted, IsAccepted, IsLeading};
+ghost use Rattle.gcd_history.specs.Intake.{AllAccepted};
+ghost use Rattle.gcd_pool.specs.Admitted.{Admitted, IsAccepted, IsLeading};
 ghost use Rattle.gcd_pool.specs.Hands.{IsReady, Serving};
 ghost use Rattle.gcd_pool.specs.Leads.{IsHead, Leads, Led};
 ghost use Rattle.gcd_pool.specs.declared.hand.Hand.{Hand};
@@ -21,7 +22,7 @@ use crate::serve::serve_to_the_end;
 use crate::team::Leader;
 use gcd_event::Event;
 use gcd_front::{Front, Intake, Sent};
-use gcd_loop::{Put, Recorder, Step, run_turns};
+use gcd_loop::{PutEnd, Recorder, Step, run_turns};
 use gcd_machine::Machine;
 use gcd_outer::{Clock, Poller};
 use gcd_plan::{Blk, Plan};
@@ -37,7 +38,7 @@ fn shut<S: AdmitCells<X>, X: Sent + Drop, R: Wait>(
     _intake: &Intake<X>,
     plan: &Plan,
     most: u32,
-) -> Result<Option<Put>, AllocError>
+) -> Result<Option<PutEnd>, AllocError>
     requires leading { IsLeading S.shape S.gives X.gives most plan.now pool.now _front.now hand.old _intake.now }
     requires room { HasRoom most plan.now (view hand.old.pass).seen }
     requires why { AllAccepted plan.now (view hand.old.pass).seen ⊎ (KnowsAll _front.now _intake.now × TookAll _intake.now) }
@@ -60,7 +61,7 @@ fn accept<S: AdmitCells<X>, X: Sent + Drop, R: Wait>(
     b: Blk,
     sender: u8,
     job: X,
-) -> Result<Option<Put>, AllocError>
+) -> Result<Option<PutEnd>, AllocError>
     requires head { IsHead S.shape S.gives most plan.now pool.now hand.old }
     requires next { next_of_intake plan.now (view hand.old.pass).seen ≡ Some b }
     ensures head { OnOk result (IsHead S.shape S.gives most plan.now pool.now hand.new) }
@@ -84,7 +85,7 @@ fn take_in<S: AdmitCells<X>, X: Sent + Drop, R: Wait>(
     plan: &Plan,
     most: u32,
     b: Blk,
-) -> Result<Option<Put>, AllocError>
+) -> Result<Option<PutEnd>, AllocError>
     requires leading { IsLeading S.shape S.gives X.gives most plan.now pool.now front.now hand.old intake.old }
     requires room { HasRoom most plan.now (view hand.old.pass).seen }
     requires open { is_intake_open plan.now (view hand.old.pass).seen ≡ true }
@@ -157,7 +158,7 @@ impl<'a, 'h, S: AdmitCells<X>, X: Sent + Drop> Recorder<Pool<'a, S>> for Head<'h
         most: u32,
         shared: &Pool<'a, S>,
         e: Event,
-    ) -> Result<Put, AllocError> {
+    ) -> Result<PutEnd, AllocError> {
         put_on(rt, shared, self.hand, plan, most, e)
     }
 
@@ -168,7 +169,7 @@ impl<'a, 'h, S: AdmitCells<X>, X: Sent + Drop> Recorder<Pool<'a, S>> for Head<'h
         plan: &Plan,
         most: u32,
         shared: &Pool<'a, S>,
-    ) -> Result<Option<Put>, AllocError> {
+    ) -> Result<Option<PutEnd>, AllocError> {
         if !pass_many(shared, self.hand) {
             return Err(AllocError);
         }

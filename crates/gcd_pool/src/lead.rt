@@ -35,7 +35,7 @@ fn put_outside<S: Slot, R: Wait>(
     pool: &Pool<S>,
     hand: &mut Hand<S>,
     e: Event,
-) -> Result<gcd_loop::Put, AllocError>
+) -> Result<gcd_loop::PutEnd, AllocError>
     requires ready { IsReady S.shape S.gives pool.now hand.old }
     requires worker { worker_of e ≡ 0 }
     requires outside { is_work e ≡ false }
@@ -47,9 +47,9 @@ fn put_outside<S: Slot, R: Wait>(
     ensures handed { IfOk result (HandedOn e (view hand.old.pass) (view hand.new.pass)) }
 {
     match put_through(rt, pool, hand, e) {
-        Through::Placed => Ok(gcd_loop::Put::Placed),
-        Through::Barred => Ok(gcd_loop::Put::Barred),
-        Through::Full => Ok(gcd_loop::Put::Later),
+        Through::Placed => Ok(gcd_loop::PutEnd::Placed),
+        Through::Barred => Ok(gcd_loop::PutEnd::Barred),
+        Through::Full => Ok(gcd_loop::PutEnd::Later),
         Through::Stopped => Err(AllocError),
     }
 }
@@ -127,7 +127,7 @@ pub(crate) fn put_on<S: Slot, R: Wait>(
     _plan: &Plan,
     _most: u32,
     e: Event,
-) -> Result<gcd_loop::Put, AllocError>
+) -> Result<gcd_loop::PutEnd, AllocError>
     requires head { IsHead S.shape S.gives _most _plan.now pool.now hand.old }
     requires by { worker_of e ≡ 0 }
     requires no_work { is_work e ≡ false }

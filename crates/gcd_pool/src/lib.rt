@@ -3,7 +3,8 @@
 //!
 //! A [`Pool`] is what the workers of a run share: the row of events (`gcd_row`), the rack of Drains (`gcd_steal`) and the plan of
 //! both. Each worker has a [`Hand`]: a pass of the row and a bench of the rack, and worker 0's has its journal. A helper goes from turn to
-//! turn. It looks at the row, asks [`duty_of`] what there is to do by what it has seen, and does it:
+//! turn. It looks at the row, asks [`duty_of`] what there is to do by what it has seen, and does it. A worker that has a run goes on with it
+//! before it begins another:
 //!
 //! | duty | what the helper does |
 //! |---|---|

@@ -9,30 +9,30 @@ use Rattle.gcd_refinement.specs.Shape.{PartsFit, OwnFit}
 use Rattle.gcd_refinement.specs.Ties.{ReferencesAre, ListsAre, TreeIs, HoldsAre, DrainsAre, GroupsAre, SemasAre, WaitsAre, SourcesAre, TimersAre, WorkersAre, BlocksAre, HandlersAre, WakesAre, WaitersAre, StripsAre, BlockMarksAre, IntakeIs, LimitsAre, MarksAre, TotalsAre}
 use Rattle.gcd_refinement.specs.After.{after}
 use Rattle.gcd_refinement.proofs.Beginning.{parts_begin, own_begin, references_begin, lists_begin, tree_begin, holds_begin, drains_begin, groups_begin, semas_begin, waits_begin, sources_begin, timers_begin, workers_begin, blocks_begin, handlers_begin, limits_begin, marks_begin, totals_begin}
-use Rattle.gcd_refinement.proofs.StepReferences.{references_step}
-use Rattle.gcd_refinement.proofs.StepLists.{lists_step}
-use Rattle.gcd_refinement.proofs.StepTargets.{tree_step}
-use Rattle.gcd_refinement.proofs.StepHolds.{holds_step}
-use Rattle.gcd_refinement.proofs.StepDrains.{drains_step}
-use Rattle.gcd_refinement.proofs.StepTold.{groups_step}
-use Rattle.gcd_refinement.proofs.StepSemas.{semas_step}
-use Rattle.gcd_refinement.proofs.StepWaits.{waits_step}
-use Rattle.gcd_refinement.proofs.StepSources.{sources_step}
-use Rattle.gcd_refinement.proofs.StepTimers.{timers_step}
-use Rattle.gcd_refinement.proofs.StepWorkers.{workers_step}
-use Rattle.gcd_refinement.proofs.StepBlocks.{blocks_step}
-use Rattle.gcd_refinement.proofs.StepHandlers.{handlers_step}
-use Rattle.gcd_refinement.proofs.Awake.{wakes_begin}
-use Rattle.gcd_refinement.proofs.StepWakes.{wakes_step}
-use Rattle.gcd_refinement.proofs.StepStrips.{strips_begin, strips_step}
-use Rattle.gcd_refinement.proofs.StepWaiters.{waiters_begin, waiters_step}
-use Rattle.gcd_refinement.proofs.StepBlockMarks.{block_marks_begin, block_marks_step}
-use Rattle.gcd_refinement.proofs.StepIntake.{intake_begin, intake_step}
-use Rattle.gcd_refinement.proofs.StepLimits.{limits_step}
-use Rattle.gcd_refinement.proofs.StepMarks.{marks_step}
-use Rattle.gcd_refinement.proofs.StepFeeds.{totals_step}
-use Rattle.gcd_refinement.proofs.StepParts.{parts_step}
-use Rattle.gcd_refinement.proofs.StepOwn.{own_step}
+use Rattle.gcd_refinement.proofs.Step.References.{references_step}
+use Rattle.gcd_refinement.proofs.Step.Lists.{lists_step}
+use Rattle.gcd_refinement.proofs.Step.Targets.{tree_step}
+use Rattle.gcd_refinement.proofs.Step.Holds.{holds_step}
+use Rattle.gcd_refinement.proofs.Step.Drains.{drains_step}
+use Rattle.gcd_refinement.proofs.Step.GroupTies.{groups_step}
+use Rattle.gcd_refinement.proofs.Step.Semas.{semas_step}
+use Rattle.gcd_refinement.proofs.Step.Waits.{waits_step}
+use Rattle.gcd_refinement.proofs.Step.Sources.{sources_step}
+use Rattle.gcd_refinement.proofs.Step.Timers.{timers_step}
+use Rattle.gcd_refinement.proofs.Step.Workers.{workers_step}
+use Rattle.gcd_refinement.proofs.Step.Blocks.{blocks_step}
+use Rattle.gcd_refinement.proofs.Step.Handlers.{handlers_step}
+use Rattle.gcd_refinement.proofs.Sleepers.Nowhere.{wakes_begin}
+use Rattle.gcd_refinement.proofs.Step.Wakes.{wakes_step}
+use Rattle.gcd_refinement.proofs.Step.Strips.{strips_begin, strips_step}
+use Rattle.gcd_refinement.proofs.Step.Waiters.{waiters_begin, waiters_step}
+use Rattle.gcd_refinement.proofs.Step.BlockMarks.{block_marks_begin, block_marks_step}
+use Rattle.gcd_refinement.proofs.Step.Intake.{intake_begin, intake_step}
+use Rattle.gcd_refinement.proofs.Step.Limits.{limits_step}
+use Rattle.gcd_refinement.proofs.Step.NodeMarks.{marks_step}
+use Rattle.gcd_refinement.proofs.Step.Feeds.{totals_step}
+use Rattle.gcd_refinement.proofs.Step.Parts.{parts_step}
+use Rattle.gcd_refinement.proofs.Step.OwnArrays.{own_step}
 
 pub record AllTies (plan : PlanView) (past : List Event) (v : MachineView) : Type 0 where
   pub same_plan : v.plan ≡ plan

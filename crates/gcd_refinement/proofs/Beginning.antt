@@ -18,7 +18,7 @@ use Rattle.gcd_history.specs.Parked.{awaited, is_parked, has_run, has_run_out, m
 use Rattle.gcd_history.specs.Due.{limit, is_at_limit}
 use Rattle.gcd_history.specs.Sources.{is_live_feed}
 use Rattle.gcd_history.specs.Tree.{Aim}
-use Rattle.gcd_history.proofs.SubmittedOnce.{object_fields}
+use Rattle.gcd_history.proofs.Blocks.SubmittedOnce.{object_fields}
 use Rattle.gcd_plan.specs.declared.numbers.Blk.{Blk}
 use Rattle.gcd_blockobj.specs.MarkRoom.{mark_room}
 use Rattle.gcd_sync.specs.LimitRoom.{limit_room}
@@ -28,10 +28,10 @@ use Rattle.gcd_refinement.specs.declared.progress.HandlerProgress.{HandlerProgre
 use Rattle.gcd_refinement.specs.Shape.{PartsFit, OwnFit}
 use Rattle.gcd_refinement.specs.Ties.{ReferencesAre, ListsAre, TreeIs, HoldsAre, DrainsAre, GroupsAre, SemasAre, WaitsAre, SourcesAre, TimersAre, WorkersAre, BlocksAre, HandlersAre, LimitsAre, MarksAre, TotalsAre, notify_submission, is_run}
 use Rattle.gcd_refinement.specs.Sleepers.{limit_ahead, may_expire}
-use Rattle.gcd_refinement.proofs.StepMarks.{no_value}
+use Rattle.gcd_refinement.proofs.Step.NodeMarks.{no_value}
 use Rattle.gcd_plan.specs.Limits.{max_workers}
 use Rattle.gcd_plan.proofs.Places.{get_or-replicate_same}
-use Rattle.gcd_history.proofs.TreeStands.{some_objects}
+use Rattle.gcd_history.proofs.Tree.Stands.{some_objects}
 
 -- ## The shape
 

@@ -7,9 +7,9 @@ use Rattle.gcd_history.specs.Permitted.{IsLawful}
 use Rattle.gcd_refinement.specs.MachineView.{MachineView, machine_of}
 use Rattle.gcd_refinement.specs.Stands.{IsTied}
 use Rattle.gcd_refinement.specs.After.{after}
-use Rattle.gcd_refinement.proofs.Bounded.{numbers_small}
+use Rattle.gcd_refinement.proofs.Bounds.Sums.{numbers_small}
 use Rattle.gcd_refinement.proofs.AllTies.{AllTies, ties_begin, ties_step, view_of, ties_stand}
-use Rattle.gcd_refinement.proofs.PlacesAre.{places_are}
+use Rattle.gcd_refinement.proofs.Lists.Places.{places_are}
 
 -- the ties give all the rest
 pub tied_from : (plan : PlanView) (past : List Event) (v : MachineView) → IsPlan plan → IsLawful plan past → AllTies plan past v → IsTied plan past v

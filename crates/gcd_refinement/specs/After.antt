@@ -2,9 +2,9 @@
 -- and the length alone.
 use Rattle.std.specs.Prelude.{ℕ, zero, suc, ◌+◌, ◌-◌, ◌==◌, nat_lt, Bool, true, false, ◌||◌, if◌then◌else◌, List, length, fold, Option, Some, None, slice_index, slice_index_or, slice_set}
 use Rattle.std.specs.Option.{option_map_or}
+use Rattle.gcd_plan.specs.Effects.{effects_of, Submits, nothing, at_once, strip_to, once_empty, once_ended, Awaits, goes_on, end_of_own, end_of, empty_group, turn_at, ends_of}
 use Rattle.gcd_plan.specs.PlanView.{PlanView}
 use Rattle.gcd_plan.specs.declared.act.Act.{Act}
-use Rattle.gcd_plan.specs.declared.act.Act.TheVariants.{Async, Barrier, Sync, BarrierSync, GroupAsync, Notify, Enter, Leave, GroupWait, GroupWaitFor, Signal, Wait, WaitFor, Suspend, Resume, Activate, Target, Merge, Cancel, Retain, Release, Apply, CancelBlock, WaitBlock, NotifyBlock}
 use Rattle.gcd_plan.specs.declared.numbers.Blk.{Blk}
 use Rattle.gcd_plan.specs.declared.numbers.Obj.{Obj}
 use Rattle.gcd_plan.specs.declared.numbers.Run.{Run}
@@ -37,32 +37,9 @@ use Rattle.gcd_refinement.specs.AfterTotals.{workers_after, running_after, left_
 -- ## References
 
 abbrev pub refs_by : List ℕ → Option Act → List ℕ
-refs_by refs None = refs
-refs_by refs (Some (Async q b)) = refs
-refs_by refs (Some (Barrier q b)) = refs
-refs_by refs (Some (Sync q b)) = refs
-refs_by refs (Some (BarrierSync q b)) = refs
-refs_by refs (Some (GroupAsync g q b)) = refs
-refs_by refs (Some (Notify g q b)) = refs
-refs_by refs (Some (Enter g)) = refs
-refs_by refs (Some (Leave g)) = refs
-refs_by refs (Some (GroupWait g)) = refs
-refs_by refs (Some (GroupWaitFor g ms)) = refs
-refs_by refs (Some (Signal s)) = refs
-refs_by refs (Some (Wait s)) = refs
-refs_by refs (Some (WaitFor s ms)) = refs
-refs_by refs (Some (Suspend o)) = refs
-refs_by refs (Some (Resume o)) = refs
-refs_by refs (Some (Activate o)) = refs
-refs_by refs (Some (Target o t)) = refs
-refs_by refs (Some (Merge s n)) = refs
-refs_by refs (Some (Cancel s)) = refs
-refs_by refs (Some (Retain o)) = slice_set refs o.0 (slice_index refs o.0 + 1)
-refs_by refs (Some (Release o)) = slice_set refs o.0 (slice_index refs o.0 - 1)
-refs_by refs (Some (Apply q a)) = refs
-refs_by refs (Some (CancelBlock c)) = refs
-refs_by refs (Some (WaitBlock c)) = refs
-refs_by refs (Some (NotifyBlock c q d)) = refs
+refs_by refs act =
+    option_map_or (λ o. slice_set refs o.0 (slice_index refs o.0 + 1)) (effects_of act).retains
+    (option_map_or (λ o. slice_set refs o.0 (slice_index refs o.0 - 1)) (effects_of act).releases refs)
 
 abbrev pub refs_after : PlanView → MachineView → Event → List ℕ
 refs_after plan v e = refs_by v.refs (act_of plan e)
@@ -106,32 +83,9 @@ closed tree (Some n) =
 
 -- another target: at once where no run is open on the object, and else as a request
 abbrev pub targeted : TreeView → Option Act → TreeView
-targeted tree None = tree
-targeted tree (Some (Async q b)) = tree
-targeted tree (Some (Barrier q b)) = tree
-targeted tree (Some (Sync q b)) = tree
-targeted tree (Some (BarrierSync q b)) = tree
-targeted tree (Some (GroupAsync g q b)) = tree
-targeted tree (Some (Notify g q b)) = tree
-targeted tree (Some (Enter g)) = tree
-targeted tree (Some (Leave g)) = tree
-targeted tree (Some (GroupWait g)) = tree
-targeted tree (Some (GroupWaitFor g ms)) = tree
-targeted tree (Some (Signal s)) = tree
-targeted tree (Some (Wait s)) = tree
-targeted tree (Some (WaitFor s ms)) = tree
-targeted tree (Some (Suspend o)) = tree
-targeted tree (Some (Resume o)) = tree
-targeted tree (Some (Activate o)) = tree
-targeted tree (Some (Target o t)) = if open_on_at tree o.0 == 0 then with_target tree o.0 t else with_request tree o.0 (Some t)
-targeted tree (Some (Merge s n)) = tree
-targeted tree (Some (Cancel s)) = tree
-targeted tree (Some (Retain o)) = tree
-targeted tree (Some (Release o)) = tree
-targeted tree (Some (Apply q a)) = tree
-targeted tree (Some (CancelBlock c)) = tree
-targeted tree (Some (WaitBlock c)) = tree
-targeted tree (Some (NotifyBlock c q d)) = tree
+targeted tree act =
+    option_map_or (λ t. if open_on_at tree t.0.0 == 0 then with_target tree t.0.0 t.1 else with_request tree t.0.0 (Some t.1))
+    (effects_of act).targets tree
 
 abbrev pub tree_after : PlanView → MachineView → Event → TreeView
 tree_after plan v (Start w b) = opened v.tree (block_at v b.0).node
@@ -152,33 +106,10 @@ tree_after plan v Shut = v.tree
 -- ## Holds
 
 abbrev pub holds_by : HoldsView → Option Act → HoldsView
-holds_by holds None = holds
-holds_by holds (Some (Async q b)) = holds
-holds_by holds (Some (Barrier q b)) = holds
-holds_by holds (Some (Sync q b)) = holds
-holds_by holds (Some (BarrierSync q b)) = holds
-holds_by holds (Some (GroupAsync g q b)) = holds
-holds_by holds (Some (Notify g q b)) = holds
-holds_by holds (Some (Enter g)) = holds
-holds_by holds (Some (Leave g)) = holds
-holds_by holds (Some (GroupWait g)) = holds
-holds_by holds (Some (GroupWaitFor g ms)) = holds
-holds_by holds (Some (Signal s)) = holds
-holds_by holds (Some (Wait s)) = holds
-holds_by holds (Some (WaitFor s ms)) = holds
-holds_by holds (Some (Suspend o)) = with_hold holds o.0 (hold_at holds o.0 + 1)
-holds_by holds (Some (Resume o)) =
-    if hold_at holds o.0 == 0 then with_active holds o.0 else with_hold holds o.0 (hold_at holds o.0 - 1)
-holds_by holds (Some (Activate o)) = with_active holds o.0
-holds_by holds (Some (Target o t)) = holds
-holds_by holds (Some (Merge s n)) = holds
-holds_by holds (Some (Cancel s)) = holds
-holds_by holds (Some (Retain o)) = holds
-holds_by holds (Some (Release o)) = holds
-holds_by holds (Some (Apply q a)) = holds
-holds_by holds (Some (CancelBlock c)) = holds
-holds_by holds (Some (WaitBlock c)) = holds
-holds_by holds (Some (NotifyBlock c q d)) = holds
+holds_by holds act =
+    option_map_or (λ o. with_hold holds o.0 (hold_at holds o.0 + 1)) (effects_of act).suspends
+    (option_map_or (λ o. if hold_at holds o.0 == 0 then with_active holds o.0 else with_hold holds o.0 (hold_at holds o.0 - 1))
+    (effects_of act).resumes (option_map_or (λ o. with_active holds o.0) (effects_of act).activates holds))
 
 abbrev pub holds_after : PlanView → MachineView → Event → HoldsView
 holds_after plan v e = holds_by v.holds (act_of plan e)
@@ -221,35 +152,21 @@ fired_times (suc n) groups g = fired_times n (with_fired groups g) g
 abbrev pub all_fired : GroupsView → ℕ → GroupsView
 all_fired groups g = fired_times (due_at groups g) groups g
 
+-- a notify block is registered at a group
+abbrev pub notified_groups : GroupsView → Submits → GroupsView
+notified_groups groups nothing = groups
+notified_groups groups (at_once q b barrier) = groups
+notified_groups groups (strip_to q a) = groups
+notified_groups groups (once_empty g q b) = all_fired (with_notify groups g.0 b) g.0
+notified_groups groups (once_ended c q b) = groups
+
 -- `at` is the length of the history after the event
 abbrev pub groups_by : GroupsView → (at : ℕ) → Option Act → GroupsView
-groups_by groups at None = groups
-groups_by groups at (Some (Async q b)) = groups
-groups_by groups at (Some (Barrier q b)) = groups
-groups_by groups at (Some (Sync q b)) = groups
-groups_by groups at (Some (BarrierSync q b)) = groups
-groups_by groups at (Some (GroupAsync g q b)) = with_one_more groups g.0 at
-groups_by groups at (Some (Notify g q b)) = all_fired (with_notify groups g.0 b) g.0
-groups_by groups at (Some (Enter g)) = with_entered (with_one_more groups g.0 at) g.0 (entered_at groups g.0 + 1)
-groups_by groups at (Some (Leave g)) =
-    all_fired (with_entered (with_one_less groups g.0 at) g.0 (entered_at groups g.0 - 1)) g.0
-groups_by groups at (Some (GroupWait g)) = groups
-groups_by groups at (Some (GroupWaitFor g ms)) = groups
-groups_by groups at (Some (Signal s)) = groups
-groups_by groups at (Some (Wait s)) = groups
-groups_by groups at (Some (WaitFor s ms)) = groups
-groups_by groups at (Some (Suspend o)) = groups
-groups_by groups at (Some (Resume o)) = groups
-groups_by groups at (Some (Activate o)) = groups
-groups_by groups at (Some (Target o t)) = groups
-groups_by groups at (Some (Merge s n)) = groups
-groups_by groups at (Some (Cancel s)) = groups
-groups_by groups at (Some (Retain o)) = groups
-groups_by groups at (Some (Release o)) = groups
-groups_by groups at (Some (Apply q a)) = groups
-groups_by groups at (Some (CancelBlock c)) = groups
-groups_by groups at (Some (WaitBlock c)) = groups
-groups_by groups at (Some (NotifyBlock c q d)) = groups
+groups_by groups at act =
+    option_map_or (λ j. with_one_more groups j.0.0 at) (effects_of act).joins
+    (option_map_or (λ g. with_entered (with_one_more groups g.0 at) g.0 (entered_at groups g.0 + 1)) (effects_of act).enters
+    (option_map_or (λ g. all_fired (with_entered (with_one_less groups g.0 at) g.0 (entered_at groups g.0 - 1)) g.0) (effects_of act).leaves
+    (notified_groups groups (effects_of act).submits)))
 
 -- a member of the group has ended, if there is one
 abbrev pub member_ended : GroupsView → (at : ℕ) → Option Obj → GroupsView
@@ -274,33 +191,19 @@ groups_after plan v Shut = v.groups
 
 -- ## Semaphores
 
+-- a wait at a semaphore begins
+abbrev pub waiting_at_semas : SemasView → Awaits → SemasView
+waiting_at_semas semas goes_on = semas
+waiting_at_semas semas (end_of_own b) = semas
+waiting_at_semas semas (end_of b) = semas
+waiting_at_semas semas (empty_group g) = semas
+waiting_at_semas semas (turn_at s) = with_wait semas s.0
+waiting_at_semas semas (ends_of a) = semas
+
 abbrev pub semas_by : SemasView → Option Act → SemasView
-semas_by semas None = semas
-semas_by semas (Some (Async q b)) = semas
-semas_by semas (Some (Barrier q b)) = semas
-semas_by semas (Some (Sync q b)) = semas
-semas_by semas (Some (BarrierSync q b)) = semas
-semas_by semas (Some (GroupAsync g q b)) = semas
-semas_by semas (Some (Notify g q b)) = semas
-semas_by semas (Some (Enter g)) = semas
-semas_by semas (Some (Leave g)) = semas
-semas_by semas (Some (GroupWait g)) = semas
-semas_by semas (Some (GroupWaitFor g ms)) = semas
-semas_by semas (Some (Signal s)) = with_signals semas s.0 (signals_at semas s.0 + 1)
-semas_by semas (Some (Wait s)) = with_wait semas s.0
-semas_by semas (Some (WaitFor s ms)) = with_wait semas s.0
-semas_by semas (Some (Suspend o)) = semas
-semas_by semas (Some (Resume o)) = semas
-semas_by semas (Some (Activate o)) = semas
-semas_by semas (Some (Target o t)) = semas
-semas_by semas (Some (Merge s n)) = semas
-semas_by semas (Some (Cancel s)) = semas
-semas_by semas (Some (Retain o)) = semas
-semas_by semas (Some (Release o)) = semas
-semas_by semas (Some (Apply q a)) = semas
-semas_by semas (Some (CancelBlock c)) = semas
-semas_by semas (Some (WaitBlock c)) = semas
-semas_by semas (Some (NotifyBlock c q d)) = semas
+semas_by semas act =
+    option_map_or (λ s. with_signals semas s.0 (signals_at semas s.0 + 1)) (effects_of act).signals
+    (waiting_at_semas semas (effects_of act).awaits)
 
 -- the wait for this has expired, where it is one on a semaphore
 abbrev pub semas_expired : SemasView → Option Reason → SemasView
@@ -328,34 +231,18 @@ semas_after plan v Shut = v.semas
 
 -- ## Parked blocks
 
+-- the wait, begun at the view
+abbrev pub reason_in_view : MachineView → Awaits → Option Reason
+reason_in_view v goes_on = None
+reason_in_view v (end_of_own c) = Some (EndOf c)
+reason_in_view v (end_of c) = Some (EndOf c)
+reason_in_view v (empty_group g) = Some (Empty g v.len)
+reason_in_view v (turn_at s) = Some (Rank s (waits_at v.semas s.0 + 1))
+reason_in_view v (ends_of a) = Some (Strip a)
+
 -- what the act parks its block for
 abbrev pub awaited_in_view : MachineView → Option Act → Option Reason
-awaited_in_view v None = None
-awaited_in_view v (Some (Async q b)) = None
-awaited_in_view v (Some (Barrier q b)) = None
-awaited_in_view v (Some (Sync q c)) = Some (EndOf c)
-awaited_in_view v (Some (BarrierSync q c)) = Some (EndOf c)
-awaited_in_view v (Some (GroupAsync g q b)) = None
-awaited_in_view v (Some (Notify g q b)) = None
-awaited_in_view v (Some (Enter g)) = None
-awaited_in_view v (Some (Leave g)) = None
-awaited_in_view v (Some (GroupWait g)) = Some (Empty g v.len)
-awaited_in_view v (Some (GroupWaitFor g ms)) = Some (Empty g v.len)
-awaited_in_view v (Some (Signal s)) = None
-awaited_in_view v (Some (Wait s)) = Some (Rank s (waits_at v.semas s.0 + 1))
-awaited_in_view v (Some (WaitFor s ms)) = Some (Rank s (waits_at v.semas s.0 + 1))
-awaited_in_view v (Some (Suspend o)) = None
-awaited_in_view v (Some (Resume o)) = None
-awaited_in_view v (Some (Activate o)) = None
-awaited_in_view v (Some (Target o t)) = None
-awaited_in_view v (Some (Merge s n)) = None
-awaited_in_view v (Some (Cancel s)) = None
-awaited_in_view v (Some (Retain o)) = None
-awaited_in_view v (Some (Release o)) = None
-awaited_in_view v (Some (Apply q a)) = Some (Strip a)
-awaited_in_view v (Some (CancelBlock c)) = None
-awaited_in_view v (Some (WaitBlock c)) = Some (EndOf c)
-awaited_in_view v (Some (NotifyBlock c q d)) = None
+awaited_in_view v act = reason_in_view v (effects_of act).awaits
 
 -- with this limit, or without one
 abbrev pub parked_for : WaitsView → Run → Option Reason → (limit : Option ℕ) → WaitsView
@@ -412,32 +299,8 @@ source_cancelled sources None = sources
 source_cancelled sources (Some s) = with_cancelled_source sources s.0
 
 abbrev pub merged_by : SourcesView → Option Act → SourcesView
-merged_by sources None = sources
-merged_by sources (Some (Async q b)) = sources
-merged_by sources (Some (Barrier q b)) = sources
-merged_by sources (Some (Sync q b)) = sources
-merged_by sources (Some (BarrierSync q b)) = sources
-merged_by sources (Some (GroupAsync g q b)) = sources
-merged_by sources (Some (Notify g q b)) = sources
-merged_by sources (Some (Enter g)) = sources
-merged_by sources (Some (Leave g)) = sources
-merged_by sources (Some (GroupWait g)) = sources
-merged_by sources (Some (GroupWaitFor g ms)) = sources
-merged_by sources (Some (Signal s)) = sources
-merged_by sources (Some (Wait s)) = sources
-merged_by sources (Some (WaitFor s ms)) = sources
-merged_by sources (Some (Suspend o)) = sources
-merged_by sources (Some (Resume o)) = sources
-merged_by sources (Some (Activate o)) = sources
-merged_by sources (Some (Target o t)) = sources
-merged_by sources (Some (Merge s n)) = with_pending sources s.0 (merged_at sources s.0 n)
-merged_by sources (Some (Cancel s)) = sources
-merged_by sources (Some (Retain o)) = sources
-merged_by sources (Some (Release o)) = sources
-merged_by sources (Some (Apply q a)) = sources
-merged_by sources (Some (CancelBlock c)) = sources
-merged_by sources (Some (WaitBlock c)) = sources
-merged_by sources (Some (NotifyBlock c q d)) = sources
+merged_by sources act =
+    option_map_or (λ m. with_pending sources m.0.0 (merged_at sources m.0.0 m.1)) (effects_of act).merges sources
 
 abbrev pub values_after : PlanView → MachineView → Event → SourcesView
 values_after plan v (Start w b) = v.sources
@@ -497,63 +360,32 @@ with_block blocks b change = slice_set blocks b (change (slice_index_or blocks b
 abbrev pub noted : List BlockProgress → Submission → List BlockProgress
 noted blocks s = with_block blocks s.blk.0 (λ x. record x { node = s.node; barrier = s.barrier })
 
+-- a block that is submitted later is bound for its queue
+abbrev pub housed : List BlockProgress → Submits → List BlockProgress
+housed blocks nothing = blocks
+housed blocks (at_once q b barrier) = blocks
+housed blocks (strip_to q a) = blocks
+housed blocks (once_empty g q c) = with_block blocks c.0 (λ x. record x { home = q })
+housed blocks (once_ended c q d) = with_block blocks d.0 (λ x. record x { home = q })
+
 -- what the act arranges for a block: the group that counts it, the queue to which it will go
 abbrev pub arranged : List BlockProgress → Option Act → List BlockProgress
-arranged blocks None = blocks
-arranged blocks (Some (Async q b)) = blocks
-arranged blocks (Some (Barrier q b)) = blocks
-arranged blocks (Some (Sync q b)) = blocks
-arranged blocks (Some (BarrierSync q b)) = blocks
-arranged blocks (Some (GroupAsync g q c)) = with_block blocks c.0 (λ x. record x { group = Some g })
-arranged blocks (Some (Notify g q c)) = with_block blocks c.0 (λ x. record x { home = q })
-arranged blocks (Some (Enter g)) = blocks
-arranged blocks (Some (Leave g)) = blocks
-arranged blocks (Some (GroupWait g)) = blocks
-arranged blocks (Some (GroupWaitFor g ms)) = blocks
-arranged blocks (Some (Signal s)) = blocks
-arranged blocks (Some (Wait s)) = blocks
-arranged blocks (Some (WaitFor s ms)) = blocks
-arranged blocks (Some (Suspend o)) = blocks
-arranged blocks (Some (Resume o)) = blocks
-arranged blocks (Some (Activate o)) = blocks
-arranged blocks (Some (Target o t)) = blocks
-arranged blocks (Some (Merge s n)) = blocks
-arranged blocks (Some (Cancel s)) = blocks
-arranged blocks (Some (Retain o)) = blocks
-arranged blocks (Some (Release o)) = blocks
-arranged blocks (Some (Apply q a)) = blocks
-arranged blocks (Some (CancelBlock c)) = blocks
-arranged blocks (Some (WaitBlock c)) = blocks
-arranged blocks (Some (NotifyBlock c q d)) = with_block blocks d.0 (λ x. record x { home = q })
+arranged blocks act =
+    option_map_or (λ j. with_block blocks j.1.0 (λ x. record x { group = Some j.0 })) (effects_of act).joins
+    (housed blocks (effects_of act).submits)
+
+-- block b waits for the end of the block that its act submits
+abbrev pub called_for : List BlockProgress → Blk → Awaits → List BlockProgress
+called_for blocks b goes_on = blocks
+called_for blocks b (end_of_own c) = with_block blocks c.0 (λ x. record x { caller = Some b })
+called_for blocks b (end_of c) = blocks
+called_for blocks b (empty_group g) = blocks
+called_for blocks b (turn_at s) = blocks
+called_for blocks b (ends_of a) = blocks
 
 -- block b waits for the end of the block that it submits
 abbrev pub called : List BlockProgress → Blk → Option Act → List BlockProgress
-called blocks b None = blocks
-called blocks b (Some (Async q c)) = blocks
-called blocks b (Some (Barrier q c)) = blocks
-called blocks b (Some (Sync q c)) = with_block blocks c.0 (λ x. record x { caller = Some b })
-called blocks b (Some (BarrierSync q c)) = with_block blocks c.0 (λ x. record x { caller = Some b })
-called blocks b (Some (GroupAsync g q c)) = blocks
-called blocks b (Some (Notify g q c)) = blocks
-called blocks b (Some (Enter g)) = blocks
-called blocks b (Some (Leave g)) = blocks
-called blocks b (Some (GroupWait g)) = blocks
-called blocks b (Some (GroupWaitFor g ms)) = blocks
-called blocks b (Some (Signal s)) = blocks
-called blocks b (Some (Wait s)) = blocks
-called blocks b (Some (WaitFor s ms)) = blocks
-called blocks b (Some (Suspend o)) = blocks
-called blocks b (Some (Resume o)) = blocks
-called blocks b (Some (Activate o)) = blocks
-called blocks b (Some (Target o t)) = blocks
-called blocks b (Some (Merge s n)) = blocks
-called blocks b (Some (Cancel s)) = blocks
-called blocks b (Some (Retain o)) = blocks
-called blocks b (Some (Release o)) = blocks
-called blocks b (Some (Apply q a)) = blocks
-called blocks b (Some (CancelBlock c)) = blocks
-called blocks b (Some (WaitBlock c)) = blocks
-called blocks b (Some (NotifyBlock c q d)) = blocks
+called blocks b act = called_for blocks b (effects_of act).awaits
 
 -- block b has made one act more
 abbrev pub counted : List BlockProgress → Run → Option Act → List BlockProgress
@@ -643,32 +475,8 @@ unmarked v (Some n) = slice_set v.busy n.0 (stays_busy (length (list_at v.lists 
 
 -- the source of a merge above 0 has to be looked at
 abbrev pub busy_by : List Bool → Option Act → List Bool
-busy_by busy None = busy
-busy_by busy (Some (Async q b)) = busy
-busy_by busy (Some (Barrier q b)) = busy
-busy_by busy (Some (Sync q b)) = busy
-busy_by busy (Some (BarrierSync q b)) = busy
-busy_by busy (Some (GroupAsync g q b)) = busy
-busy_by busy (Some (Notify g q b)) = busy
-busy_by busy (Some (Enter g)) = busy
-busy_by busy (Some (Leave g)) = busy
-busy_by busy (Some (GroupWait g)) = busy
-busy_by busy (Some (GroupWaitFor g ms)) = busy
-busy_by busy (Some (Signal s)) = busy
-busy_by busy (Some (Wait s)) = busy
-busy_by busy (Some (WaitFor s ms)) = busy
-busy_by busy (Some (Suspend o)) = busy
-busy_by busy (Some (Resume o)) = busy
-busy_by busy (Some (Activate o)) = busy
-busy_by busy (Some (Target o t)) = busy
-busy_by busy (Some (Merge s n)) = if n == 0 then busy else slice_set busy s.0 true
-busy_by busy (Some (Cancel s)) = busy
-busy_by busy (Some (Retain o)) = busy
-busy_by busy (Some (Release o)) = busy
-busy_by busy (Some (Apply q a)) = busy
-busy_by busy (Some (CancelBlock c)) = busy
-busy_by busy (Some (WaitBlock c)) = busy
-busy_by busy (Some (NotifyBlock c q d)) = busy
+busy_by busy act =
+    option_map_or (λ m. if m.1 == 0 then busy else slice_set busy m.0.0 true) (effects_of act).merges busy
 
 -- object s is a timer with a due time that no delivery took
 abbrev pub has_due : TimersView → List HandlerProgress → ℕ → Bool

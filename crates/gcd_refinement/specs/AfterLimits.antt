@@ -1,10 +1,10 @@
 -- How an event changes the limits of waits in the view: which are ahead, and which waits may expire.
 use Rattle.std.specs.Prelude.{ℕ, ◌+◌, ◌==◌, nat_le, nat_lt, min, Bool, true, false, ◌||◌, if◌then◌else◌, List, length, map, fold, Option, Some, None, option_and_then, slice_set}
-use Rattle.std.specs.Option.{option_map_or}
+use Rattle.std.specs.Option.{option_map_or, option_map}
 use Rattle.std.specs.List.{range_with_len}
+use Rattle.gcd_plan.specs.Effects.{effects_of}
 use Rattle.gcd_plan.specs.PlanView.{PlanView}
 use Rattle.gcd_plan.specs.declared.act.Act.{Act}
-use Rattle.gcd_plan.specs.declared.act.Act.TheVariants.{Async, Barrier, Sync, BarrierSync, GroupAsync, Notify, Enter, Leave, GroupWait, GroupWaitFor, Signal, Wait, WaitFor, Suspend, Resume, Activate, Target, Merge, Cancel, Retain, Release, Apply, CancelBlock, WaitBlock, NotifyBlock}
 use Rattle.gcd_plan.specs.declared.numbers.Blk.{Blk}
 use Rattle.gcd_plan.specs.declared.numbers.Run.TheVariants.{Block, Source}
 use Rattle.gcd_event.specs.declared.event.Event.{Event}
@@ -16,32 +16,7 @@ use Rattle.gcd_refinement.specs.Submits.{come_at_once, come_by}
 
 -- the limit of the wait that the act begins
 abbrev pub limit_in_view : MachineView → Option Act → Option ℕ
-limit_in_view v None = None
-limit_in_view v (Some (Async q b)) = None
-limit_in_view v (Some (Barrier q b)) = None
-limit_in_view v (Some (Sync q b)) = None
-limit_in_view v (Some (BarrierSync q b)) = None
-limit_in_view v (Some (GroupAsync g q b)) = None
-limit_in_view v (Some (Notify g q b)) = None
-limit_in_view v (Some (Enter g)) = None
-limit_in_view v (Some (Leave g)) = None
-limit_in_view v (Some (GroupWait g)) = None
-limit_in_view v (Some (GroupWaitFor g ms)) = Some (min (v.timers.moment + ms) v.plan.until)
-limit_in_view v (Some (Signal s)) = None
-limit_in_view v (Some (Wait s)) = None
-limit_in_view v (Some (WaitFor s ms)) = Some (min (v.timers.moment + ms) v.plan.until)
-limit_in_view v (Some (Suspend o)) = None
-limit_in_view v (Some (Resume o)) = None
-limit_in_view v (Some (Activate o)) = None
-limit_in_view v (Some (Target o t)) = None
-limit_in_view v (Some (Merge s n)) = None
-limit_in_view v (Some (Cancel s)) = None
-limit_in_view v (Some (Retain o)) = None
-limit_in_view v (Some (Release o)) = None
-limit_in_view v (Some (Apply q a)) = None
-limit_in_view v (Some (CancelBlock c)) = None
-limit_in_view v (Some (WaitBlock c)) = None
-limit_in_view v (Some (NotifyBlock c q d)) = None
+limit_in_view v act = option_map (λ ms. min (v.timers.moment + ms) v.plan.until) (effects_of act).limit
 
 -- the limit of block b's wait is ahead, where it has one that is above the time
 abbrev pub laid_ahead : MachineView → Blk → Option ℕ → List (Option ℕ)

@@ -1,8 +1,9 @@
 -- How an event changes who sleeps where: at a semaphore or a group, for the end of a block, and for the blocks of a strip.
 use Rattle.std.specs.Prelude.{ℕ, ◌==◌, Bool, false, if◌then◌else◌, List, [], ◌∷◌, ◌++◌, drop, Option, Some, None, slice_set}
+use Rattle.std.specs.Option.{option_map_or}
+use Rattle.gcd_plan.specs.Effects.{effects_of, Awaits, goes_on, end_of_own, end_of, empty_group, turn_at, ends_of}
 use Rattle.gcd_plan.specs.PlanView.{PlanView}
 use Rattle.gcd_plan.specs.declared.act.Act.{Act}
-use Rattle.gcd_plan.specs.declared.act.Act.TheVariants.{Async, Barrier, Sync, BarrierSync, GroupAsync, Notify, Enter, Leave, GroupWait, GroupWaitFor, Signal, Wait, WaitFor, Suspend, Resume, Activate, Target, Merge, Cancel, Retain, Release, Apply, CancelBlock, WaitBlock, NotifyBlock}
 use Rattle.gcd_plan.specs.declared.numbers.Blk.{Blk}
 use Rattle.gcd_plan.specs.declared.numbers.Obj.{Obj}
 use Rattle.gcd_plan.specs.declared.numbers.Run.{Run}
@@ -33,63 +34,22 @@ pushed_on lists n b barrier = record lists { lists = slice_set lists.lists n.0 (
 
 -- ## Who sleeps at an object
 
+-- block b goes to sleep behind all that sleep at the object, where what it waits for has not come
+abbrev pub asleep_for : MachineView → Blk → Awaits → ListsView
+asleep_for v b goes_on = v.sleepers
+asleep_for v b (end_of_own c) = v.sleepers
+asleep_for v b (end_of c) = v.sleepers
+asleep_for v b (empty_group g) = if count_at v.groups g.0 == 0 then v.sleepers else pushed_on v.sleepers g b false
+asleep_for v b (turn_at s) = if has_value_at v.semas s.0 then v.sleepers else pushed_on v.sleepers s b false
+asleep_for v b (ends_of a) = v.sleepers
+
 -- the blocks that sleep at an object, behind which a block goes to sleep where what it waits for has not come
 abbrev pub asleep : MachineView → Blk → Option Act → ListsView
-asleep v b None = v.sleepers
-asleep v b (Some (Async q c)) = v.sleepers
-asleep v b (Some (Barrier q c)) = v.sleepers
-asleep v b (Some (Sync q c)) = v.sleepers
-asleep v b (Some (BarrierSync q c)) = v.sleepers
-asleep v b (Some (GroupAsync g q c)) = v.sleepers
-asleep v b (Some (Notify g q c)) = v.sleepers
-asleep v b (Some (Enter g)) = v.sleepers
-asleep v b (Some (Leave g)) = v.sleepers
-asleep v b (Some (GroupWait g)) = if count_at v.groups g.0 == 0 then v.sleepers else pushed_on v.sleepers g b false
-asleep v b (Some (GroupWaitFor g ms)) = if count_at v.groups g.0 == 0 then v.sleepers else pushed_on v.sleepers g b false
-asleep v b (Some (Signal s)) = popped v.sleepers (Some s)
-asleep v b (Some (Wait s)) = if has_value_at v.semas s.0 then v.sleepers else pushed_on v.sleepers s b false
-asleep v b (Some (WaitFor s ms)) = if has_value_at v.semas s.0 then v.sleepers else pushed_on v.sleepers s b false
-asleep v b (Some (Suspend o)) = v.sleepers
-asleep v b (Some (Resume o)) = v.sleepers
-asleep v b (Some (Activate o)) = v.sleepers
-asleep v b (Some (Target o t)) = v.sleepers
-asleep v b (Some (Merge s n)) = v.sleepers
-asleep v b (Some (Cancel s)) = v.sleepers
-asleep v b (Some (Retain o)) = v.sleepers
-asleep v b (Some (Release o)) = v.sleepers
-asleep v b (Some (Apply q a)) = v.sleepers
-asleep v b (Some (CancelBlock c)) = v.sleepers
-asleep v b (Some (WaitBlock c)) = v.sleepers
-asleep v b (Some (NotifyBlock c q d)) = v.sleepers
+asleep v b act = option_map_or (λ s. popped v.sleepers (Some s)) (effects_of act).signals (asleep_for v b (effects_of act).awaits)
 
 -- a handler waits for nothing, but may signal
 abbrev pub asleep_by_handler : MachineView → Option Act → ListsView
-asleep_by_handler v None = v.sleepers
-asleep_by_handler v (Some (Async q b)) = v.sleepers
-asleep_by_handler v (Some (Barrier q b)) = v.sleepers
-asleep_by_handler v (Some (Sync q b)) = v.sleepers
-asleep_by_handler v (Some (BarrierSync q b)) = v.sleepers
-asleep_by_handler v (Some (GroupAsync g q b)) = v.sleepers
-asleep_by_handler v (Some (Notify g q b)) = v.sleepers
-asleep_by_handler v (Some (Enter g)) = v.sleepers
-asleep_by_handler v (Some (Leave g)) = v.sleepers
-asleep_by_handler v (Some (GroupWait g)) = v.sleepers
-asleep_by_handler v (Some (GroupWaitFor g ms)) = v.sleepers
-asleep_by_handler v (Some (Signal s)) = popped v.sleepers (Some s)
-asleep_by_handler v (Some (Wait s)) = v.sleepers
-asleep_by_handler v (Some (WaitFor s ms)) = v.sleepers
-asleep_by_handler v (Some (Suspend o)) = v.sleepers
-asleep_by_handler v (Some (Resume o)) = v.sleepers
-asleep_by_handler v (Some (Activate o)) = v.sleepers
-asleep_by_handler v (Some (Target o t)) = v.sleepers
-asleep_by_handler v (Some (Merge s n)) = v.sleepers
-asleep_by_handler v (Some (Cancel s)) = v.sleepers
-asleep_by_handler v (Some (Retain o)) = v.sleepers
-asleep_by_handler v (Some (Release o)) = v.sleepers
-asleep_by_handler v (Some (Apply q a)) = v.sleepers
-asleep_by_handler v (Some (CancelBlock c)) = v.sleepers
-asleep_by_handler v (Some (WaitBlock c)) = v.sleepers
-asleep_by_handler v (Some (NotifyBlock c q d)) = v.sleepers
+asleep_by_handler v act = option_map_or (λ s. popped v.sleepers (Some s)) (effects_of act).signals v.sleepers
 
 abbrev pub asleep_by : MachineView → Run → Option Act → ListsView
 asleep_by v (Block b) act = asleep v b act
@@ -134,34 +94,18 @@ sleepers_after plan v e = all_woken (asleep_after plan v e) (emptied_by plan v e
 
 -- ## Who waits for the end of a block, and for the blocks of a strip
 
+-- block b waits behind all that wait for the end of the block, where that has not ended
+abbrev pub waiting_for : MachineView → Blk → Awaits → ListsView
+waiting_for v b goes_on = v.waiters
+waiting_for v b (end_of_own c) = v.waiters
+waiting_for v b (end_of c) = if ended_at v c.0 then v.waiters else pushed_on v.waiters (record { 0 = c.0 }) b false
+waiting_for v b (empty_group g) = v.waiters
+waiting_for v b (turn_at s) = v.waiters
+waiting_for v b (ends_of a) = v.waiters
+
 -- the lists of those that wait for the ends of blocks, with block b behind all that wait for one that has not ended
 abbrev pub waiting_by : MachineView → Blk → Option Act → ListsView
-waiting_by v b None = v.waiters
-waiting_by v b (Some (Async q d)) = v.waiters
-waiting_by v b (Some (Barrier q d)) = v.waiters
-waiting_by v b (Some (Sync q d)) = v.waiters
-waiting_by v b (Some (BarrierSync q d)) = v.waiters
-waiting_by v b (Some (GroupAsync g q d)) = v.waiters
-waiting_by v b (Some (Notify g q d)) = v.waiters
-waiting_by v b (Some (Enter g)) = v.waiters
-waiting_by v b (Some (Leave g)) = v.waiters
-waiting_by v b (Some (GroupWait g)) = v.waiters
-waiting_by v b (Some (GroupWaitFor g ms)) = v.waiters
-waiting_by v b (Some (Signal s)) = v.waiters
-waiting_by v b (Some (Wait s)) = v.waiters
-waiting_by v b (Some (WaitFor s ms)) = v.waiters
-waiting_by v b (Some (Suspend o)) = v.waiters
-waiting_by v b (Some (Resume o)) = v.waiters
-waiting_by v b (Some (Activate o)) = v.waiters
-waiting_by v b (Some (Target o t)) = v.waiters
-waiting_by v b (Some (Merge s n)) = v.waiters
-waiting_by v b (Some (Cancel s)) = v.waiters
-waiting_by v b (Some (Retain o)) = v.waiters
-waiting_by v b (Some (Release o)) = v.waiters
-waiting_by v b (Some (Apply q a)) = v.waiters
-waiting_by v b (Some (CancelBlock c)) = v.waiters
-waiting_by v b (Some (WaitBlock c)) = if ended_at v c.0 then v.waiters else pushed_on v.waiters (record { 0 = c.0 }) b false
-waiting_by v b (Some (NotifyBlock c q d)) = v.waiters
+waiting_by v b act = waiting_for v b (effects_of act).awaits
 
 -- nobody waits for the end of the block any more
 abbrev pub none_waiting : ListsView → Blk → ListsView
@@ -184,34 +128,18 @@ waiters_after plan v (Expire b) = v.waiters
 waiters_after plan v (Accept b s) = v.waiters
 waiters_after plan v Shut = v.waiters
 
+-- block b waits for the strip, where a block of it has not ended
+abbrev pub applied_for : MachineView → Blk → Awaits → List (Option Blk)
+applied_for v b goes_on = v.appliers
+applied_for v b (end_of_own c) = v.appliers
+applied_for v b (end_of c) = v.appliers
+applied_for v b (empty_group g) = v.appliers
+applied_for v b (turn_at s) = v.appliers
+applied_for v b (ends_of a) = if left_at v.strips a == 0 then v.appliers else slice_set v.appliers a (Some b)
+
 -- for each strip the block that applied it and sleeps: block b, where a block of the strip has not ended
 abbrev pub applied_by : MachineView → Blk → Option Act → List (Option Blk)
-applied_by v b None = v.appliers
-applied_by v b (Some (Async q d)) = v.appliers
-applied_by v b (Some (Barrier q d)) = v.appliers
-applied_by v b (Some (Sync q d)) = v.appliers
-applied_by v b (Some (BarrierSync q d)) = v.appliers
-applied_by v b (Some (GroupAsync g q d)) = v.appliers
-applied_by v b (Some (Notify g q d)) = v.appliers
-applied_by v b (Some (Enter g)) = v.appliers
-applied_by v b (Some (Leave g)) = v.appliers
-applied_by v b (Some (GroupWait g)) = v.appliers
-applied_by v b (Some (GroupWaitFor g ms)) = v.appliers
-applied_by v b (Some (Signal s)) = v.appliers
-applied_by v b (Some (Wait s)) = v.appliers
-applied_by v b (Some (WaitFor s ms)) = v.appliers
-applied_by v b (Some (Suspend o)) = v.appliers
-applied_by v b (Some (Resume o)) = v.appliers
-applied_by v b (Some (Activate o)) = v.appliers
-applied_by v b (Some (Target o t)) = v.appliers
-applied_by v b (Some (Merge s n)) = v.appliers
-applied_by v b (Some (Cancel s)) = v.appliers
-applied_by v b (Some (Retain o)) = v.appliers
-applied_by v b (Some (Release o)) = v.appliers
-applied_by v b (Some (Apply q a)) = if left_at v.strips a == 0 then v.appliers else slice_set v.appliers a (Some b)
-applied_by v b (Some (CancelBlock c)) = v.appliers
-applied_by v b (Some (WaitBlock c)) = v.appliers
-applied_by v b (Some (NotifyBlock c q d)) = v.appliers
+applied_by v b act = applied_for v b (effects_of act).awaits
 
 -- nobody sleeps for the strip any more, if there is one
 abbrev pub none_applying : List (Option Blk) → Option ℕ → List (Option Blk)

@@ -1,8 +1,9 @@
 -- How an event changes what is kept of strips, of blocks as objects, and of the intake.
-use Rattle.std.specs.Prelude.{ℕ, ◌+◌, Bool, true, false, ◌||◌, if◌then◌else◌, [], Option, Some, None, slice_set}
+use Rattle.std.specs.Prelude.{ℕ, ◌+◌, Bool, true, false, ◌||◌, if◌then◌else◌, [], Option, slice_set}
+use Rattle.std.specs.Option.{option_map_or}
+use Rattle.gcd_plan.specs.Effects.{effects_of, Submits, nothing, at_once, strip_to, once_empty, once_ended}
 use Rattle.gcd_plan.specs.PlanView.{PlanView}
 use Rattle.gcd_plan.specs.declared.act.Act.{Act}
-use Rattle.gcd_plan.specs.declared.act.Act.TheVariants.{Async, Barrier, Sync, BarrierSync, GroupAsync, Notify, Enter, Leave, GroupWait, GroupWaitFor, Signal, Wait, WaitFor, Suspend, Resume, Activate, Target, Merge, Cancel, Retain, Release, Apply, CancelBlock, WaitBlock, NotifyBlock}
 use Rattle.gcd_event.specs.declared.event.Event.{Event}
 use Rattle.gcd_event.specs.declared.event.Event.TheVariants.{Start, Act as Acted, Wake, End, Deliver, DeliverEnd, Tick, Ready, FeedEnd, Misuse, Halt, Expire, Accept, Shut}
 use Rattle.gcd_history.specs.Runs.{act_at}
@@ -38,33 +39,17 @@ all_told marks b = record marks { notify = record marks.notify { lists = slice_s
 abbrev pub told_if_ended : MarksView → ℕ → MarksView
 told_if_ended marks b = if has_ended_at marks b then all_told marks b else marks
 
+-- a notify block is registered at the end of another
+abbrev pub marks_for : MarksView → Submits → MarksView
+marks_for marks nothing = marks
+marks_for marks (at_once q b barrier) = marks
+marks_for marks (strip_to q a) = marks
+marks_for marks (once_empty g q b) = marks
+marks_for marks (once_ended c q d) = told_if_ended (with_notify marks c.0 d) c.0
+
 abbrev pub marks_by : MarksView → Option Act → MarksView
-marks_by marks None = marks
-marks_by marks (Some (Async q d)) = marks
-marks_by marks (Some (Barrier q d)) = marks
-marks_by marks (Some (Sync q d)) = marks
-marks_by marks (Some (BarrierSync q d)) = marks
-marks_by marks (Some (GroupAsync g q d)) = marks
-marks_by marks (Some (Notify g q d)) = marks
-marks_by marks (Some (Enter g)) = marks
-marks_by marks (Some (Leave g)) = marks
-marks_by marks (Some (GroupWait g)) = marks
-marks_by marks (Some (GroupWaitFor g ms)) = marks
-marks_by marks (Some (Signal s)) = marks
-marks_by marks (Some (Wait s)) = marks
-marks_by marks (Some (WaitFor s ms)) = marks
-marks_by marks (Some (Suspend o)) = marks
-marks_by marks (Some (Resume o)) = marks
-marks_by marks (Some (Activate o)) = marks
-marks_by marks (Some (Target o t)) = marks
-marks_by marks (Some (Merge s n)) = marks
-marks_by marks (Some (Cancel s)) = marks
-marks_by marks (Some (Retain o)) = marks
-marks_by marks (Some (Release o)) = marks
-marks_by marks (Some (Apply q a)) = marks
-marks_by marks (Some (CancelBlock c)) = with_cancelled marks c.0
-marks_by marks (Some (WaitBlock c)) = marks
-marks_by marks (Some (NotifyBlock c q d)) = told_if_ended (with_notify marks c.0 d) c.0
+marks_by marks act =
+    option_map_or (λ c. with_cancelled marks c.0) (effects_of act).cancels_block (marks_for marks (effects_of act).submits)
 
 abbrev pub marks_after : PlanView → MachineView → Event → MarksView
 marks_after plan v (Start w b) = with_begun v.marks b.0

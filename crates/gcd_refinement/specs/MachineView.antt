@@ -16,7 +16,7 @@ use Rattle.gcd_sync.specs.LimitRoom.{limit_room}
 use Rattle.gcd_sync.specs.WaitsView.{WaitsView, waits_of}
 use Rattle.gcd_source.specs.SourcesView.{SourcesView, sources_of}
 use Rattle.gcd_timer.specs.TimersView.{TimersView, timers_of, next_due_at}
-use Rattle.gcd_soonest.specs.Least.{earlier, least}
+use Rattle.gcd_sets.specs.Least.{earlier, least}
 use Rattle.gcd_apply.specs.StripsView.{StripsView, strips_of}
 use Rattle.gcd_blockobj.specs.MarkRoom.{mark_room}
 use Rattle.gcd_blockobj.specs.MarksView.{MarksView, marks_of}

@@ -3,12 +3,12 @@
 -- which limits are ahead.
 -- Histories are the newest event first.
 use Rattle.std.specs.Prelude.{ℕ, ◌+◌, ◌==◌, nat_lt, Bool, false, not, ◌&&◌, if◌then◌else◌, List, [], ◌∷◌, ◌++◌, length, map, filter, drop, Option, Some, None, option_and_then}
-use Rattle.std.specs.Option.{option_or}
+use Rattle.std.specs.Option.{option_or, option_map_or}
 use Rattle.std.specs.List.{list_all}
+use Rattle.gcd_plan.specs.Effects.{effects_of, Awaits, goes_on, end_of_own, end_of, empty_group, turn_at, ends_of}
 use Rattle.gcd_plan.specs.Made.{strip_blocks}
 use Rattle.gcd_plan.specs.PlanView.{PlanView}
 use Rattle.gcd_plan.specs.declared.act.Act.{Act}
-use Rattle.gcd_plan.specs.declared.act.Act.TheVariants.{Async, Barrier, Sync, BarrierSync, GroupAsync, Notify, Enter, Leave, GroupWait, GroupWaitFor, Signal, Wait, WaitFor, Suspend, Resume, Activate, Target, Merge, Cancel, Retain, Release, Apply, CancelBlock, WaitBlock, NotifyBlock}
 use Rattle.gcd_plan.specs.declared.numbers.Blk.{Blk}
 use Rattle.gcd_plan.specs.declared.numbers.Obj.{Obj}
 use Rattle.gcd_plan.specs.declared.numbers.Run.TheVariants.{Block, Source}
@@ -24,66 +24,25 @@ use Rattle.gcd_history.specs.Semas.{first_value, signal_count, waits}
 
 -- the group to which the act adds block b
 abbrev pub grouped : ℕ → Option Act → Option Obj
-grouped b None = None
-grouped b (Some (Async q c)) = None
-grouped b (Some (Barrier q c)) = None
-grouped b (Some (Sync q c)) = None
-grouped b (Some (BarrierSync q c)) = None
-grouped b (Some (GroupAsync g q c)) = if c.0 == b then Some g else None
-grouped b (Some (Notify g q c)) = None
-grouped b (Some (Enter g)) = None
-grouped b (Some (Leave g)) = None
-grouped b (Some (GroupWait g)) = None
-grouped b (Some (GroupWaitFor g ms)) = None
-grouped b (Some (Signal s)) = None
-grouped b (Some (Wait s)) = None
-grouped b (Some (WaitFor s ms)) = None
-grouped b (Some (Suspend o)) = None
-grouped b (Some (Resume o)) = None
-grouped b (Some (Activate o)) = None
-grouped b (Some (Target o t)) = None
-grouped b (Some (Merge s n)) = None
-grouped b (Some (Cancel s)) = None
-grouped b (Some (Retain o)) = None
-grouped b (Some (Release o)) = None
-grouped b (Some (Apply q a)) = None
-grouped b (Some (CancelBlock c)) = None
-grouped b (Some (WaitBlock c)) = None
-grouped b (Some (NotifyBlock c q d)) = None
+grouped b act = option_map_or (λ j. if j.1.0 == b then Some j.0 else None) (effects_of act).joins None
 
 -- the group that counts block b, until its end
 abbrev pub group_of : PlanView → List Event → ℕ → Option Obj
 group_of plan [] b = None
 group_of plan (e ∷ past) b = option_or (grouped b (act_of plan e)) (group_of plan past b)
 
+-- block b, where it waits for the end of block c, which its act submits
+abbrev pub caller_for : ℕ → Blk → Awaits → Option Blk
+caller_for c b goes_on = None
+caller_for c b (end_of_own d) = if d.0 == c then Some b else None
+caller_for c b (end_of d) = None
+caller_for c b (empty_group g) = None
+caller_for c b (turn_at s) = None
+caller_for c b (ends_of a) = None
+
 -- the caller, where the act makes it wait for the end of block c
 abbrev pub called_by : ℕ → Blk → Option Act → Option Blk
-called_by c b None = None
-called_by c b (Some (Async q d)) = None
-called_by c b (Some (Barrier q d)) = None
-called_by c b (Some (Sync q d)) = if d.0 == c then Some b else None
-called_by c b (Some (BarrierSync q d)) = if d.0 == c then Some b else None
-called_by c b (Some (GroupAsync g q d)) = None
-called_by c b (Some (Notify g q d)) = None
-called_by c b (Some (Enter g)) = None
-called_by c b (Some (Leave g)) = None
-called_by c b (Some (GroupWait g)) = None
-called_by c b (Some (GroupWaitFor g ms)) = None
-called_by c b (Some (Signal s)) = None
-called_by c b (Some (Wait s)) = None
-called_by c b (Some (WaitFor s ms)) = None
-called_by c b (Some (Suspend o)) = None
-called_by c b (Some (Resume o)) = None
-called_by c b (Some (Activate o)) = None
-called_by c b (Some (Target o t)) = None
-called_by c b (Some (Merge s n)) = None
-called_by c b (Some (Cancel s)) = None
-called_by c b (Some (Retain o)) = None
-called_by c b (Some (Release o)) = None
-called_by c b (Some (Apply q a)) = None
-called_by c b (Some (CancelBlock e)) = None
-called_by c b (Some (WaitBlock e)) = None
-called_by c b (Some (NotifyBlock e q d)) = None
+called_by c b act = caller_for c b (effects_of act).awaits
 
 abbrev pub calls : PlanView → ℕ → Event → Option Blk
 calls plan c (Start w b) = None
@@ -107,63 +66,31 @@ abbrev pub caller_of : PlanView → List Event → ℕ → Option Blk
 caller_of plan [] c = None
 caller_of plan (e ∷ past) c = option_or (calls plan c e) (caller_of plan past c)
 
+-- it waits for the end of block c, which another act submits
+abbrev pub is_for_end : ℕ → Awaits → Bool
+is_for_end c goes_on = false
+is_for_end c (end_of_own d) = false
+is_for_end c (end_of d) = d.0 == c
+is_for_end c (empty_group g) = false
+is_for_end c (turn_at s) = false
+is_for_end c (ends_of a) = false
+
 -- the act waits for the end of block c, which it did not submit
 abbrev pub waits_for_end : ℕ → Option Act → Bool
-waits_for_end c None = false
-waits_for_end c (Some (Async q d)) = false
-waits_for_end c (Some (Barrier q d)) = false
-waits_for_end c (Some (Sync q d)) = false
-waits_for_end c (Some (BarrierSync q d)) = false
-waits_for_end c (Some (GroupAsync g q d)) = false
-waits_for_end c (Some (Notify g q d)) = false
-waits_for_end c (Some (Enter g)) = false
-waits_for_end c (Some (Leave g)) = false
-waits_for_end c (Some (GroupWait g)) = false
-waits_for_end c (Some (GroupWaitFor g ms)) = false
-waits_for_end c (Some (Signal s)) = false
-waits_for_end c (Some (Wait s)) = false
-waits_for_end c (Some (WaitFor s ms)) = false
-waits_for_end c (Some (Suspend o)) = false
-waits_for_end c (Some (Resume o)) = false
-waits_for_end c (Some (Activate o)) = false
-waits_for_end c (Some (Target o t)) = false
-waits_for_end c (Some (Merge s n)) = false
-waits_for_end c (Some (Cancel s)) = false
-waits_for_end c (Some (Retain o)) = false
-waits_for_end c (Some (Release o)) = false
-waits_for_end c (Some (Apply q a)) = false
-waits_for_end c (Some (CancelBlock d)) = false
-waits_for_end c (Some (WaitBlock d)) = d.0 == c
-waits_for_end c (Some (NotifyBlock d q e)) = false
+waits_for_end c act = is_for_end c (effects_of act).awaits
+
+-- it waits for the blocks of strip a
+abbrev pub is_for_strip : ℕ → Awaits → Bool
+is_for_strip a goes_on = false
+is_for_strip a (end_of_own b) = false
+is_for_strip a (end_of b) = false
+is_for_strip a (empty_group g) = false
+is_for_strip a (turn_at s) = false
+is_for_strip a (ends_of c) = c == a
 
 -- the act applies strip a
 abbrev pub applies : ℕ → Option Act → Bool
-applies a None = false
-applies a (Some (Async q d)) = false
-applies a (Some (Barrier q d)) = false
-applies a (Some (Sync q d)) = false
-applies a (Some (BarrierSync q d)) = false
-applies a (Some (GroupAsync g q d)) = false
-applies a (Some (Notify g q d)) = false
-applies a (Some (Enter g)) = false
-applies a (Some (Leave g)) = false
-applies a (Some (GroupWait g)) = false
-applies a (Some (GroupWaitFor g ms)) = false
-applies a (Some (Signal s)) = false
-applies a (Some (Wait s)) = false
-applies a (Some (WaitFor s ms)) = false
-applies a (Some (Suspend o)) = false
-applies a (Some (Resume o)) = false
-applies a (Some (Activate o)) = false
-applies a (Some (Target o t)) = false
-applies a (Some (Merge s n)) = false
-applies a (Some (Cancel s)) = false
-applies a (Some (Retain o)) = false
-applies a (Some (Release o)) = false
-applies a (Some (Apply q c)) = c == a
-applies a (Some (CancelBlock c)) = false
-applies a (Some (WaitBlock c)) = false
-applies a (Some (NotifyBlock c q d)) = false
+applies a act = is_for_strip a (effects_of act).awaits
 
 -- the block whose act the event is, where the act passes the test
 abbrev pub block_if : (Option Act → Bool) → PlanView → Event → List Blk
@@ -199,34 +126,18 @@ strip_sleepers plan [] a = []
 strip_sleepers plan (e ∷ past) a =
     if is_done plan (e ∷ past) a then [] else strip_sleepers plan past a ++ block_if (applies a) plan e
 
+-- it waits for group g to be empty
+abbrev pub is_for_group : ℕ → Awaits → Bool
+is_for_group g goes_on = false
+is_for_group g (end_of_own b) = false
+is_for_group g (end_of b) = false
+is_for_group g (empty_group h) = h.0 == g
+is_for_group g (turn_at s) = false
+is_for_group g (ends_of a) = false
+
 -- the act waits for group g
 abbrev pub waits_for_group : ℕ → Option Act → Bool
-waits_for_group g None = false
-waits_for_group g (Some (Async q b)) = false
-waits_for_group g (Some (Barrier q b)) = false
-waits_for_group g (Some (Sync q b)) = false
-waits_for_group g (Some (BarrierSync q b)) = false
-waits_for_group g (Some (GroupAsync h q b)) = false
-waits_for_group g (Some (Notify h q b)) = false
-waits_for_group g (Some (Enter h)) = false
-waits_for_group g (Some (Leave h)) = false
-waits_for_group g (Some (GroupWait h)) = h.0 == g
-waits_for_group g (Some (GroupWaitFor h ms)) = h.0 == g
-waits_for_group g (Some (Signal s)) = false
-waits_for_group g (Some (Wait s)) = false
-waits_for_group g (Some (WaitFor s ms)) = false
-waits_for_group g (Some (Suspend o)) = false
-waits_for_group g (Some (Resume o)) = false
-waits_for_group g (Some (Activate o)) = false
-waits_for_group g (Some (Target o t)) = false
-waits_for_group g (Some (Merge s n)) = false
-waits_for_group g (Some (Cancel s)) = false
-waits_for_group g (Some (Retain o)) = false
-waits_for_group g (Some (Release o)) = false
-waits_for_group g (Some (Apply q a)) = false
-waits_for_group g (Some (CancelBlock c)) = false
-waits_for_group g (Some (WaitBlock c)) = false
-waits_for_group g (Some (NotifyBlock c q d)) = false
+waits_for_group g act = is_for_group g (effects_of act).awaits
 
 -- the wait that the event after past begins, where its act passes the test: the position of the act, and its block
 abbrev pub wait_if : (Option Act → Bool) → PlanView → List Event → Event → List (ℕ × Blk)

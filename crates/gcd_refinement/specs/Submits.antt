@@ -1,9 +1,9 @@
 -- What an event submits, empties and wakes, told by the view that stands before it.
 use Rattle.std.specs.Prelude.{ℕ, ◌==◌, false, if◌then◌else◌, List, [], ◌∷◌, ◌++◌, map, take, Option, Some, None, option_to_list, option_and_then}
 use Rattle.std.specs.Option.{option_map_or}
+use Rattle.gcd_plan.specs.Effects.{effects_of, Submits, nothing, at_once, strip_to, once_empty, once_ended, Awaits, goes_on, end_of_own, end_of, empty_group, turn_at, ends_of}
 use Rattle.gcd_plan.specs.PlanView.{PlanView, cancel_block}
 use Rattle.gcd_plan.specs.declared.act.Act.{Act}
-use Rattle.gcd_plan.specs.declared.act.Act.TheVariants.{Async, Barrier, Sync, BarrierSync, GroupAsync, Notify, Enter, Leave, GroupWait, GroupWaitFor, Signal, Wait, WaitFor, Suspend, Resume, Activate, Target, Merge, Cancel, Retain, Release, Apply, CancelBlock, WaitBlock, NotifyBlock}
 use Rattle.gcd_plan.specs.declared.numbers.Blk.{Blk}
 use Rattle.gcd_plan.specs.declared.numbers.Obj.{Obj}
 use Rattle.gcd_plan.specs.declared.numbers.Run.{Run}
@@ -27,32 +27,7 @@ use Rattle.gcd_refinement.specs.Ties.{notify_submission}
 
 -- the group that the act leaves
 abbrev pub left_by : Option Act → Option Obj
-left_by None = None
-left_by (Some (Async q b)) = None
-left_by (Some (Barrier q b)) = None
-left_by (Some (Sync q b)) = None
-left_by (Some (BarrierSync q b)) = None
-left_by (Some (GroupAsync g q b)) = None
-left_by (Some (Notify g q b)) = None
-left_by (Some (Enter g)) = None
-left_by (Some (Leave g)) = Some g
-left_by (Some (GroupWait g)) = None
-left_by (Some (GroupWaitFor g ms)) = None
-left_by (Some (Signal s)) = None
-left_by (Some (Wait s)) = None
-left_by (Some (WaitFor s ms)) = None
-left_by (Some (Suspend o)) = None
-left_by (Some (Resume o)) = None
-left_by (Some (Activate o)) = None
-left_by (Some (Target o t)) = None
-left_by (Some (Merge s n)) = None
-left_by (Some (Cancel s)) = None
-left_by (Some (Retain o)) = None
-left_by (Some (Release o)) = None
-left_by (Some (Apply q a)) = None
-left_by (Some (CancelBlock c)) = None
-left_by (Some (WaitBlock c)) = None
-left_by (Some (NotifyBlock c q d)) = None
+left_by act = (effects_of act).leaves
 
 -- the group that counts one less after the event: that of a block which ends, or the one that an act leaves
 abbrev pub lessened : PlanView → MachineView → Event → Option Obj
@@ -93,34 +68,17 @@ abbrev pub at_empty : MachineView → Option Obj → List Submission
 at_empty v None = []
 at_empty v (Some g) = map (notify_submission v) (list_at v.groups.notify g.0)
 
+-- what is submitted at once, of a block that waits for a group to be empty
+abbrev pub at_notify_of : MachineView → Submits → List Submission
+at_notify_of v nothing = []
+at_notify_of v (at_once q b barrier) = []
+at_notify_of v (strip_to q a) = []
+at_notify_of v (once_empty g q b) = if count_at v.groups g.0 == 0 then on_node q b false else []
+at_notify_of v (once_ended c q b) = []
+
 -- the notify block that the act registers at an empty group
 abbrev pub at_notify : MachineView → Option Act → List Submission
-at_notify v None = []
-at_notify v (Some (Async q b)) = []
-at_notify v (Some (Barrier q b)) = []
-at_notify v (Some (Sync q b)) = []
-at_notify v (Some (BarrierSync q b)) = []
-at_notify v (Some (GroupAsync g q b)) = []
-at_notify v (Some (Notify g q b)) = if count_at v.groups g.0 == 0 then on_node q b false else []
-at_notify v (Some (Enter g)) = []
-at_notify v (Some (Leave g)) = []
-at_notify v (Some (GroupWait g)) = []
-at_notify v (Some (GroupWaitFor g ms)) = []
-at_notify v (Some (Signal s)) = []
-at_notify v (Some (Wait s)) = []
-at_notify v (Some (WaitFor s ms)) = []
-at_notify v (Some (Suspend o)) = []
-at_notify v (Some (Resume o)) = []
-at_notify v (Some (Activate o)) = []
-at_notify v (Some (Target o t)) = []
-at_notify v (Some (Merge s n)) = []
-at_notify v (Some (Cancel s)) = []
-at_notify v (Some (Retain o)) = []
-at_notify v (Some (Release o)) = []
-at_notify v (Some (Apply q a)) = []
-at_notify v (Some (CancelBlock c)) = []
-at_notify v (Some (WaitBlock c)) = []
-at_notify v (Some (NotifyBlock c q d)) = []
+at_notify v act = at_notify_of v (effects_of act).submits
 
 -- the notify blocks of a block that ends, in the order of registration
 abbrev pub at_end : MachineView → Event → List Submission
@@ -139,34 +97,17 @@ at_end v (Expire b) = []
 at_end v (Accept b s) = []
 at_end v Shut = []
 
+-- what is submitted at once, of a block that waits for the end of another
+abbrev pub at_told_of : MachineView → Submits → List Submission
+at_told_of v nothing = []
+at_told_of v (at_once q b barrier) = []
+at_told_of v (strip_to q a) = []
+at_told_of v (once_empty g q b) = []
+at_told_of v (once_ended c q d) = if has_ended_at v.marks c.0 then on_node q d false else []
+
 -- the notify block that the act registers at a block that has ended
 abbrev pub at_told : MachineView → Option Act → List Submission
-at_told v None = []
-at_told v (Some (Async q d)) = []
-at_told v (Some (Barrier q d)) = []
-at_told v (Some (Sync q d)) = []
-at_told v (Some (BarrierSync q d)) = []
-at_told v (Some (GroupAsync g q d)) = []
-at_told v (Some (Notify g q d)) = []
-at_told v (Some (Enter g)) = []
-at_told v (Some (Leave g)) = []
-at_told v (Some (GroupWait g)) = []
-at_told v (Some (GroupWaitFor g ms)) = []
-at_told v (Some (Signal s)) = []
-at_told v (Some (Wait s)) = []
-at_told v (Some (WaitFor s ms)) = []
-at_told v (Some (Suspend o)) = []
-at_told v (Some (Resume o)) = []
-at_told v (Some (Activate o)) = []
-at_told v (Some (Target o t)) = []
-at_told v (Some (Merge s n)) = []
-at_told v (Some (Cancel s)) = []
-at_told v (Some (Retain o)) = []
-at_told v (Some (Release o)) = []
-at_told v (Some (Apply q a)) = []
-at_told v (Some (CancelBlock c)) = []
-at_told v (Some (WaitBlock c)) = []
-at_told v (Some (NotifyBlock c q d)) = if has_ended_at v.marks c.0 then on_node q d false else []
+at_told v act = at_told_of v (effects_of act).submits
 
 -- what the event submits, in order; all but one of the seven are empty, but that an End may have notify blocks of both kinds
 abbrev pub submits : PlanView → MachineView → Event → List Submission
@@ -187,32 +128,9 @@ if_inactive v o = if is_active_at v.holds o.0 then None else Some o
 
 -- the object that the act makes active, where it was not: of an Activate, or of a Resume at hold 0
 abbrev pub activated_by : MachineView → Option Act → Option Obj
-activated_by v None = None
-activated_by v (Some (Async q b)) = None
-activated_by v (Some (Barrier q b)) = None
-activated_by v (Some (Sync q b)) = None
-activated_by v (Some (BarrierSync q b)) = None
-activated_by v (Some (GroupAsync g q b)) = None
-activated_by v (Some (Notify g q b)) = None
-activated_by v (Some (Enter g)) = None
-activated_by v (Some (Leave g)) = None
-activated_by v (Some (GroupWait g)) = None
-activated_by v (Some (GroupWaitFor g ms)) = None
-activated_by v (Some (Signal s)) = None
-activated_by v (Some (Wait s)) = None
-activated_by v (Some (WaitFor s ms)) = None
-activated_by v (Some (Suspend o)) = None
-activated_by v (Some (Resume o)) = if hold_at v.holds o.0 == 0 then if_inactive v o else None
-activated_by v (Some (Activate o)) = if_inactive v o
-activated_by v (Some (Target o t)) = None
-activated_by v (Some (Merge s n)) = None
-activated_by v (Some (Cancel s)) = None
-activated_by v (Some (Retain o)) = None
-activated_by v (Some (Release o)) = None
-activated_by v (Some (Apply q a)) = None
-activated_by v (Some (CancelBlock c)) = None
-activated_by v (Some (WaitBlock c)) = None
-activated_by v (Some (NotifyBlock c q d)) = None
+activated_by v act =
+    option_map_or (λ o. if hold_at v.holds o.0 == 0 then if_inactive v o else None) (effects_of act).resumes
+    (option_and_then (if_inactive v) (effects_of act).activates)
 
 -- the source that the event cancels, where it was not cancelled before
 abbrev pub newly_cancelled : MachineView → Option Obj → Option Obj
@@ -226,35 +144,19 @@ abbrev pub sleepers_at : MachineView → Option Obj → List Blk
 sleepers_at v None = []
 sleepers_at v (Some o) = map (λ w. w.0) (list_at v.sleepers o.0)
 
+-- block b, where what it waits for has come as the wait begins
+abbrev pub come_for : MachineView → Blk → Awaits → List Blk
+come_for v b goes_on = []
+come_for v b (end_of_own c) = []
+come_for v b (end_of c) = if ended_at v c.0 then b ∷ [] else []
+come_for v b (empty_group g) = if count_at v.groups g.0 == 0 then b ∷ [] else []
+come_for v b (turn_at s) = if has_value_at v.semas s.0 then b ∷ [] else []
+come_for v b (ends_of a) = if left_at v.strips a == 0 then b ∷ [] else []
+
 -- block b, where its act waits for what has come already: a semaphore with a value above 0, an empty group, the blocks of a strip of
 -- which none is left, or the end of a block that has ended
 abbrev pub come_at_once : MachineView → Blk → Option Act → List Blk
-come_at_once v b None = []
-come_at_once v b (Some (Async q c)) = []
-come_at_once v b (Some (Barrier q c)) = []
-come_at_once v b (Some (Sync q c)) = []
-come_at_once v b (Some (BarrierSync q c)) = []
-come_at_once v b (Some (GroupAsync g q c)) = []
-come_at_once v b (Some (Notify g q c)) = []
-come_at_once v b (Some (Enter g)) = []
-come_at_once v b (Some (Leave g)) = []
-come_at_once v b (Some (GroupWait g)) = if count_at v.groups g.0 == 0 then b ∷ [] else []
-come_at_once v b (Some (GroupWaitFor g ms)) = if count_at v.groups g.0 == 0 then b ∷ [] else []
-come_at_once v b (Some (Signal s)) = []
-come_at_once v b (Some (Wait s)) = if has_value_at v.semas s.0 then b ∷ [] else []
-come_at_once v b (Some (WaitFor s ms)) = if has_value_at v.semas s.0 then b ∷ [] else []
-come_at_once v b (Some (Suspend o)) = []
-come_at_once v b (Some (Resume o)) = []
-come_at_once v b (Some (Activate o)) = []
-come_at_once v b (Some (Target o t)) = []
-come_at_once v b (Some (Merge s n)) = []
-come_at_once v b (Some (Cancel s)) = []
-come_at_once v b (Some (Retain o)) = []
-come_at_once v b (Some (Release o)) = []
-come_at_once v b (Some (Apply q a)) = if left_at v.strips a == 0 then b ∷ [] else []
-come_at_once v b (Some (CancelBlock c)) = []
-come_at_once v b (Some (WaitBlock c)) = if ended_at v c.0 then b ∷ [] else []
-come_at_once v b (Some (NotifyBlock c q d)) = []
+come_at_once v b act = come_for v b (effects_of act).awaits
 
 abbrev pub come_to_run : MachineView → Run → Option Act → List Blk
 come_to_run v (Block b) act = come_at_once v b act
@@ -262,32 +164,7 @@ come_to_run v (Source s) act = []
 
 -- the block that a signal lets go on: the first that sleeps there
 abbrev pub signalled : MachineView → Option Act → List Blk
-signalled v None = []
-signalled v (Some (Async q b)) = []
-signalled v (Some (Barrier q b)) = []
-signalled v (Some (Sync q b)) = []
-signalled v (Some (BarrierSync q b)) = []
-signalled v (Some (GroupAsync g q b)) = []
-signalled v (Some (Notify g q b)) = []
-signalled v (Some (Enter g)) = []
-signalled v (Some (Leave g)) = []
-signalled v (Some (GroupWait g)) = []
-signalled v (Some (GroupWaitFor g ms)) = []
-signalled v (Some (Signal s)) = take 1 (sleepers_at v (Some s))
-signalled v (Some (Wait s)) = []
-signalled v (Some (WaitFor s ms)) = []
-signalled v (Some (Suspend o)) = []
-signalled v (Some (Resume o)) = []
-signalled v (Some (Activate o)) = []
-signalled v (Some (Target o t)) = []
-signalled v (Some (Merge s n)) = []
-signalled v (Some (Cancel s)) = []
-signalled v (Some (Retain o)) = []
-signalled v (Some (Release o)) = []
-signalled v (Some (Apply q a)) = []
-signalled v (Some (CancelBlock c)) = []
-signalled v (Some (WaitBlock c)) = []
-signalled v (Some (NotifyBlock c q d)) = []
+signalled v act = option_map_or (λ s. take 1 (sleepers_at v (Some s))) (effects_of act).signals []
 
 -- the strip of which block b is the last that has not ended
 abbrev pub done_by : MachineView → Blk → Option ℕ

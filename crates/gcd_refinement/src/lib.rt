@@ -14,7 +14,8 @@
 //!
 //! `proofs/Tied` has the three sentences on which the machine stands: a new machine's state is tied to the empty history
 //! (`tied_begin`), an event that is permitted keeps the tie (`tied_step`), and so each lawful history of a valid plan has a
-//! state that is tied to it (`tied_stand`).
+//! state that is tied to it (`tied_stand`). `proofs/Step` has a file for each part of the state, one event on; the other folders have
+//! what these files need: `Groups`, `Semas`, `Sleepers`, `Limits`, `Blocks`, `Lists` and `Bounds`.
 //!
 //! Histories are the newest event first here: `e ∷ past` is past, followed by e.
 #![tactic(auto)]

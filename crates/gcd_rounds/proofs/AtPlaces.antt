@@ -2,7 +2,7 @@
 use Rattle.std.proofs.Common.{◌≡◌, ◌≢◌, ◌<◌, ◌≤◌, ◌∙◌, ◌⊎◌, ℕ, List, [], ◌∷◌, ◌++◌, length, Some, ap, sym, arith, ⊎_elim, inl, inr}
 use Rattle.std.specs.Prelude.{slice_get, slice_set}
 use Rattle.std.proofs.lemmas.Bool.{cases_lt}
-use Rattle.std.proofs.lemmas.List.{length-set, get_or-set_same, get_or-set_other, length_push}
+use Rattle.std.proofs.lemmas.List.{length-set, get_or-set_other, length_push}
 use Rattle.std.proofs.lemmas.Option.{same_Some, slice_get-get_or, slice_get_within}
 use Rattle.gcd_plan.proofs.Places.{slice_get-append_left, slice_get-append_seam}
 
@@ -19,15 +19,7 @@ at_push xs x i y at =
     inr (sym same, same_Some x y (sym (slice_get-append_seam xs x []) ∙ ap (slice_get (xs ++ x ∷ [])) same ∙ at)))
     (cases_lt i (length xs))
 
--- an element of the list is at its place in a longer one
-pub at_front : {A : Type 0} (xs ys : List A) (i : ℕ) (y : A) → slice_get xs i ≡ Some y → slice_get (xs ++ ys) i ≡ Some y
-at_front xs ys i y at = slice_get-append_left xs ys i (slice_get_within xs i y at) ∙ at
-
--- what was written is read, and every other place is as it was
-pub set_here : {A : Type 0} (xs : List A) (i : ℕ) (v : A) → i < length xs → slice_get (slice_set xs i v) i ≡ Some v
-set_here xs i v h =
-    slice_get-get_or (slice_set xs i v) i v (omega (arith, length-set xs i v)) ∙ ap Some (get_or-set_same xs i v v h)
-
+-- every place but the one that was written is as it was
 pub set_other : {A : Type 0} (xs : List A) (i k : ℕ) (v y : A) → k ≢ i → slice_get xs k ≡ Some y → slice_get (slice_set xs i v) k ≡ Some y
 set_other xs i k v y differ at =
     let h : k < length xs = slice_get_within xs k y at in

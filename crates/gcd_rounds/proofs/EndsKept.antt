@@ -14,14 +14,14 @@ use Rattle.gcd_history.specs.Runs.{act_at, acts_done, same_run}
 use Rattle.gcd_history.specs.Permitted.{has_act_left}
 use Rattle.gcd_history.specs.Cancelled.{is_block_cancelled as is_cancelled_after}
 use Rattle.gcd_history.specs.History.{IsLawful, choice_of, has_run, is_block_cancelled, is_ended, is_started, why}
-use Rattle.gcd_history.proofs.CancelledStays.{kept_once_begun}
+use Rattle.gcd_history.proofs.Blocks.CancelledStays.{kept_once_begun}
 use Rattle.gcd_history.proofs.Lists.{reverse_push}
-use Rattle.gcd_history.proofs.Reasons.{allowed, at_end}
-use Rattle.gcd_team.specs.Team.{held_by}
-use Rattle.gcd_team.proofs.CancelledRuns.{begun_where_held}
-use Rattle.gcd_team.proofs.Handing.{held_cells_wait}
-use Rattle.gcd_team.proofs.Homes.{what_is_held_after}
-use Rattle.gcd_team.proofs.TeamLaws.{held_runs_are_apart, held_runs_are_open, own_events_are_the_holders, takings_find_nobody}
+use Rattle.gcd_history.proofs.Permitted.Reasons.{allowed, at_end}
+use Rattle.gcd_history.specs.Team.{held_by}
+use Rattle.gcd_history.proofs.HeldRuns.Cancelled.{begun_where_held}
+use Rattle.gcd_history.proofs.HeldRuns.Cells.{held_cells_wait}
+use Rattle.gcd_history.proofs.HeldRuns.Holders.{what_is_held_after}
+use Rattle.gcd_history.proofs.Public.TeamLaws.{held_runs_are_apart, held_runs_are_open, own_events_are_the_holders, takings_find_nobody}
 use Rattle.gcd_rounds.specs.declared.kept.Ending.{Ending}
 use Rattle.gcd_rounds.specs.Kept.{AreKept, EndBefore, EndOthers, IsAtEnd}
 use Rattle.gcd_rounds.proofs.AtPlaces.{at_push}

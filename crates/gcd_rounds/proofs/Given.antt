@@ -4,8 +4,9 @@ use Rattle.std.specs.Prelude.{map, option_map, slice_get, slice_set}
 use Rattle.std.proofs.lemmas.Bool.{both_ways, cases_eq, eq-eqb, or_parts}
 use Rattle.std.proofs.lemmas.List.{length-set, length-replicate, length_push, get_or-replicate}
 use Rattle.std.proofs.lemmas.Option.{same_Some, slice_get-get_or, slice_get-map}
+use Rattle.gcd_facts.proofs.Lists.{slice_get-set_same}
 use Rattle.gcd_plan.specs.PlanView.{PlanView}
-use Rattle.gcd_plan.proofs.Places.{slice_get-append_seam, slice_get_some}
+use Rattle.gcd_plan.proofs.Places.{slice_get-append_seam, slice_get_some, slice_get_kept}
 use Rattle.gcd_event.specs.declared.event.Event.{Event}
 use Rattle.gcd_event.specs.declared.event.Event.TheVariants.{End}
 use Rattle.gcd_history.specs.Runs.{ends}
@@ -18,7 +19,7 @@ use Rattle.gcd_rounds.specs.declared.kept.Ending.{Ending}
 use Rattle.gcd_rounds.specs.Kept.{HasValue}
 use Rattle.gcd_rounds.specs.Ran.{AreGiven, IsGiven}
 use Rattle.gcd_rounds.specs.Running.{AllWait, GoesOn, IsKept}
-use Rattle.gcd_rounds.proofs.AtPlaces.{at_front, set_here, set_other}
+use Rattle.gcd_rounds.proofs.AtPlaces.{set_other}
 
 -- the run went on before an event
 pub went_on : (most : ℕ) (plan : PlanView) (h : List Event) (e : Event) → why plan h e ≡ None → GoesOn most (h ++ e ∷ []) → GoesOn most h
@@ -67,7 +68,7 @@ given_end gives plan jobs h done values within works has given =
             job = has.job;
             value = done.value;
             job_of = has.job_of;
-            value_of = set_here values c done.value (omega (arith, count, within));
+            value_of = slice_get-set_same values c done.value (omega (arith, count, within));
             given = has.given;
           }))
           (λ (differ : c ≢ b).
@@ -111,7 +112,7 @@ wait_same most plan first h e jobs kept may wait on b low not_yet unkept =
 pub wait_keep : {J : Type 0} (most : ℕ) (plan : PlanView) (first : List J) (h : List Event) (x : Ending) (jobs : List (Option J)) (kept : List Ending)
     → AllWait most plan first h jobs kept → AllWait most plan first h (slice_set jobs x.blk.0 None) (kept ++ x ∷ [])
 wait_keep most plan first h x jobs kept wait on b low not_yet unkept =
-    let was = wait on b low not_yet (λ is. unkept (record { place = is.place; ending = is.ending; at = at_front kept (x ∷ []) is.place is.ending is.at; of = is.of })) in
+    let was = wait on b low not_yet (λ is. unkept (record { place = is.place; ending = is.ending; at = slice_get_kept kept (x ∷ []) is.place is.ending is.at; of = is.of })) in
     record {
       job = was.job;
       job_of = was.job_of;

@@ -1,13 +1,10 @@
 -- A history that grows by events of workers.
-use Rattle.std.proofs.Common.{◌≡◌, ◌∙◌, ◌++◌, ◌∷◌, [], Bool, ℕ, true, false, List, length, append-nil, append_assoc, ap, sym, refl, arith}
+use Rattle.std.proofs.Common.{◌≡◌, ◌∙◌, ◌++◌, ◌∷◌, [], Bool, true, List, length, append-nil, append_assoc, ap, sym, arith}
 use Rattle.std.specs.List.{list_all}
 use Rattle.std.proofs.lemmas.Bool.{and_from, and_parts}
 use Rattle.std.proofs.lemmas.List.{length-append}
-use Rattle.gcd_plan.specs.declared.numbers.Blk.{Blk}
 use Rattle.gcd_event.specs.declared.event.Event.{Event}
-use Rattle.gcd_event.specs.declared.event.Event.TheVariants.{Start, Act as Acted, Wake, End, Deliver, DeliverEnd, Tick, Ready, FeedEnd, Misuse, Halt, Expire, Accept, Shut}
 use Rattle.gcd_history.specs.Choice.{is_work}
-use Rattle.gcd_history.specs.Runs.{ends}
 use Rattle.gcd_loop.specs.Recorded.{Grows}
 
 all_further : (p : Event → Bool) (xs ys : List Event) → list_all p xs ≡ true → list_all p ys ≡ true → list_all p (xs ++ ys) ≡ true
@@ -30,20 +27,3 @@ none_more h (e ∷ more) same = let long = length-append h (e ∷ more) in absur
 -- a history that is as long as before is as it was
 pub grown_none : (old new : List Event) → Grows old new → length new ≡ length old → new ≡ old
 grown_none old new grown same = grown.split ∙ none_more old grown.rest (ap length (sym grown.split) ∙ same)
-
--- an event that is no End ends no block
-pub ends_none : (e : Event) → ((w : ℕ) (c : Blk) → e ≡ End w c → ⊥) → (b : ℕ) → ends b e ≡ false
-ends_none (Start w c) other b = refl
-ends_none (Acted w r i) other b = refl
-ends_none (Wake w c) other b = refl
-ends_none (End w c) other b = absurd (other w c refl)
-ends_none (Deliver w s) other b = refl
-ends_none (DeliverEnd w s) other b = refl
-ends_none (Tick t) other b = refl
-ends_none (Ready s n) other b = refl
-ends_none (FeedEnd s) other b = refl
-ends_none (Misuse w x r i) other b = refl
-ends_none Halt other b = refl
-ends_none (Expire c) other b = refl
-ends_none (Accept c s) other b = refl
-ends_none Shut other b = refl

@@ -11,7 +11,7 @@ use Rattle.gcd_event.specs.declared.event.Event.{Event}
 use Rattle.gcd_event.specs.declared.event.Event.TheVariants.{End}
 use Rattle.gcd_history.specs.History.{IsLawful, is_block_cancelled}
 use Rattle.gcd_history.specs.Permitted.{is_worker, has_block}
-use Rattle.gcd_machine.proofs.Shown.{lawful_stands}
+use Rattle.gcd_machine.proofs.Views.Calls.{lawful_stands}
 use Rattle.gcd_turn.proofs.HistoryMore.{unhalted_before}
 use Rattle.gcd_rounds.specs.declared.kept.Ending.{Ending}
 use Rattle.gcd_rounds.specs.declared.kept.Kept.{Kept}

@@ -7,6 +7,7 @@ use Rattle.std.proofs.lemmas.Bool.{and_parts, cases_eq, cases_lt}
 use Rattle.std.proofs.lemmas.List.{length-set, length_push}
 use Rattle.std.proofs.lemmas.List.FromFn.{length-map-range_with_len, get_or-map-range_with_len, map-range_with_len_more}
 use Rattle.std.proofs.lemmas.Option.{same_Some, slice_get-get_or, slice_get_within}
+use Rattle.gcd_facts.proofs.Lists.{slice_get-set_same}
 use Rattle.gcd_plan.specs.Kinds.{is_source, is_source_kind}
 use Rattle.gcd_plan.specs.KindValues.{folded}
 use Rattle.gcd_plan.specs.PlanView.{PlanView, kind_of}
@@ -20,18 +21,18 @@ use Rattle.gcd_event.specs.declared.event.Event.{Event}
 use Rattle.gcd_event.specs.declared.event.Event.TheVariants.{Start, Act as Acted, Wake, End, Deliver, DeliverEnd, Tick, Ready, FeedEnd, Misuse, Halt, Expire, Accept, Shut}
 use Rattle.gcd_history.specs.History.{IsLawful, delivery_count_of, last_data_of, received_of, why}
 use Rattle.gcd_history.specs.Permitted.{is_worker}
-use Rattle.gcd_history.proofs.LawfulLemmas.{lawful_next}
-use Rattle.gcd_history.proofs.Reasons.{allowed}
-use Rattle.gcd_team.specs.Held.{taken}
-use Rattle.gcd_team.proofs.Handing.{cells_stay, deliver_hands_over}
-use Rattle.gcd_team.proofs.Totals.{totals_fit}
+use Rattle.gcd_history.proofs.Permitted.Lawful.{lawful_next}
+use Rattle.gcd_history.proofs.Permitted.Reasons.{allowed}
+use Rattle.gcd_history.specs.Held.{taken}
+use Rattle.gcd_history.proofs.HeldRuns.Cells.{cells_stay, deliver_hands_over}
+use Rattle.gcd_history.proofs.Sources.Totals.{totals_fit}
 use Rattle.gcd_machine.specs.Stands.{StandsFor}
-use Rattle.gcd_machine.proofs.Shown.{lawful_stands, valid_stands}
+use Rattle.gcd_machine.proofs.Views.Calls.{lawful_stands, valid_stands}
 use Rattle.gcd_refinement.specs.MachineView.{MachineView}
 use Rattle.gcd_rounds.specs.Handing.{WasRecorded}
 use Rattle.gcd_rounds.specs.Ran.{AreHandlers, IsHandler, sources_before}
 use Rattle.gcd_rounds.specs.Running.{HaveTaken, places_of}
-use Rattle.gcd_rounds.proofs.AtPlaces.{set_here, set_other}
+use Rattle.gcd_rounds.proofs.AtPlaces.{set_other}
 
 -- ## Places
 
@@ -173,7 +174,7 @@ module _ {H : Type 0} (kind : H → Kind) (times total : H → ℕ) (plan : Plan
       let one : IsHandler kind times total plan (delivery_count_of (h ++ Deliver w s ∷ []) s.0) (received_of plan (h ++ Deliver w s ∷ []) s.0) s.0 (slice_set handlers place y) =
       record {
         handler = y;
-        at = set_here handlers place y (slice_get_within handlers place x at);
+        at = slice_get-set_same handlers place y (slice_get_within handlers place x at);
         kind_is = kind_was ∙ ap Some (sym same_kind);
         times_is = once_more ∙ ap (λ (n : ℕ). n + 1) (sym (ap times it) ∙ was.times_is) ∙ sym over.times;
         total_is = folded_in ∙ ap (folded (kind x) (total x)) handed

@@ -6,7 +6,7 @@ use Rattle.gcd_event.specs.declared.event.Event.{Event}
 use Rattle.gcd_event.specs.declared.event.Event.TheVariants.{End}
 use Rattle.gcd_history.specs.History.{choice_of, is_block_cancelled}
 use Rattle.gcd_history.specs.Permitted.{has_act_left, is_known}
-use Rattle.gcd_team.specs.Team.{held_by}
+use Rattle.gcd_history.specs.Team.{held_by}
 use Rattle.gcd_rounds.specs.declared.kept.Done.{Done}
 use Rattle.gcd_rounds.specs.declared.kept.Ending.{Ending}
 use Rattle.gcd_rounds.specs.declared.kept.Kept.{Kept}

@@ -8,9 +8,9 @@ use Rattle.gcd_event.specs.declared.event.Event.{Event}
 use Rattle.gcd_history.specs.Choice.{is_work, worker_of}
 use Rattle.gcd_history.specs.Ends.{is_halted}
 use Rattle.gcd_history.specs.History.{choice_of, delivery_count_of, is_ended, received_of, why}
-use Rattle.gcd_history.specs.Intake.{accepted}
+use Rattle.gcd_history.specs.Intake.{accepted, AcceptsNone}
 use Rattle.gcd_machine.specs.Stands.{StandsFor}
-use Rattle.gcd_loop.specs.Followed.{AcceptsNone, FollowsChoice, IsOfWorkers}
+use Rattle.gcd_loop.specs.Followed.{FollowsChoice, IsOfWorkers}
 use Rattle.gcd_loop.specs.Recorded.{IsSight}
 use Rattle.gcd_rounds.specs.declared.kept.Ending.{Ending}
 use Rattle.gcd_rounds.specs.declared.round.Round.{Round}

@@ -12,7 +12,7 @@ use crate::running::Running;
 use crate::turns::{follow, take_turns};
 use gcd_event::Event;
 use gcd_jobs::{Handler, Job};
-use gcd_loop::{Put, Recorder, Step};
+use gcd_loop::{PutEnd, Recorder, Step};
 use gcd_machine::Machine;
 use gcd_plan::Plan;
 use std::alloc::{AllocError, Global};
@@ -65,7 +65,7 @@ impl<J: Job + Drop, H: Handler + Drop> Recorder<Global> for Round<J, H> {
         _most: u32,
         _shared: &Global,
         e: Event,
-    ) -> Result<Put, AllocError> {
+    ) -> Result<PutEnd, AllocError> {
         self.run.put(plan, e)
     }
 
@@ -76,7 +76,7 @@ impl<J: Job + Drop, H: Handler + Drop> Recorder<Global> for Round<J, H> {
         plan: &Plan,
         _most: u32,
         _shared: &Global,
-    ) -> Result<Option<Put>, AllocError> {
+    ) -> Result<Option<PutEnd>, AllocError> {
         let put = self.run.put(plan, Event::Shut)?;
         Ok(Some(put))
     }

@@ -8,7 +8,7 @@ ghost use Rattle.gcd_outer.specs.Outside.{ClockState};
 ghost use Rattle.gcd_outer.specs.Tells.{PollerState};
 ghost use Rattle.gcd_turn.specs.Asked.{KeepsListens, MayIdle};
 ghost use Rattle.gcd_turn.specs.Turns.{HasRoom};
-ghost use Rattle.gcd_loop.specs.Followed.{AcceptsNone};
+ghost use Rattle.gcd_history.specs.Intake.{AcceptsNone};
 ghost use Rattle.gcd_loop.specs.Going.{IsGoing};
 ghost use Rattle.gcd_loop.specs.Ran.{RunsPlan};
 ghost use Rattle.gcd_rounds.specs.Ran.{AreGiven, AreHandlers};
@@ -18,7 +18,7 @@ use crate::round::{Round, end_round};
 use crate::running::Running;
 use gcd_event::Event;
 use gcd_jobs::{Handler, Job};
-use gcd_loop::{Turn, idle, take_turn};
+use gcd_loop::{TurnEnd, idle, take_turn};
 use gcd_outer::{Clock, Poller};
 use gcd_plan::Plan;
 use gcd_turn::Outlook;
@@ -99,13 +99,13 @@ fn advance<R: Threads + Wait + Sync, J: Job + Drop + Send, H: Handler + Drop, P:
         → OnOk result (IsGoing most P.tells C.tells plan.now stood before early (P.state poller.new) (C.state clock.new) round.new.run.journal.items outlook.new) }
 {
     match take_turn(rt, plan, most, &alloc, round, outlook, poller, clock)? {
-        Turn::Placed => Ok(true),
-        Turn::Waited => Ok(true),
-        Turn::Stopped { left } => {
+        TurnEnd::Placed => Ok(true),
+        TurnEnd::Waited => Ok(true),
+        TurnEnd::Stopped { left } => {
             close_round(rt, alloc, plan, most, round, outlook, poller, clock, left)?;
             Ok(true)
         }
-        Turn::Over => Ok(false),
+        TurnEnd::Over => Ok(false),
     }
 }
 

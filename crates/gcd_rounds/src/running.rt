@@ -19,7 +19,7 @@ use crate::kept::Done;
 use crate::places::{place_of, places_of};
 use gcd_event::Event;
 use gcd_jobs::{Handler, Job};
-use gcd_loop::Put;
+use gcd_loop::PutEnd;
 use gcd_machine::Machine;
 use gcd_plan::Plan;
 use std::alloc::{AllocError, Global};
@@ -141,7 +141,7 @@ impl<J: Job + Drop, H: Handler + Drop> Running<J, H> {
     }
 
     // Records an event that is no worker's and accepts no job, or drops it where it may not come next. No End is kept back.
-    pub(crate) fn put(&mut self, plan: &Plan, e: Event) -> Result<Put, AllocError>
+    pub(crate) fn put(&mut self, plan: &Plan, e: Event) -> Result<PutEnd, AllocError>
         requires by { worker_of e ≡ 0 }
         requires no_work { is_work e ≡ false }
         requires no_job { accepted e ≡ None }
@@ -154,10 +154,10 @@ impl<J: Job + Drop, H: Handler + Drop> Running<J, H> {
         ensures ready { OnOk result (AreReady J.gives plan.now self.new []) }
     {
         if self.machine.permits(e).is_some() {
-            return Ok(Put::Barred);
+            return Ok(PutEnd::Barred);
         }
         self.record(plan, e)?;
-        Ok(Put::Placed)
+        Ok(PutEnd::Placed)
     }
 
     // Records an End that was kept back first, and the value that its job gave.

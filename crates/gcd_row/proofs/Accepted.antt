@@ -16,18 +16,19 @@ use Rattle.gcd_history.specs.Choice.{worker_of}
 use Rattle.gcd_history.specs.Facts.{is_of_callers}
 use Rattle.gcd_history.specs.History.{why, IsLawful, is_started, is_ended, next_of_intake}
 use Rattle.gcd_history.specs.Intake.{accepts, accepted, is_accepted, shuts, is_intake_open, next_of_intake as next_after}
-use Rattle.gcd_history.proofs.CancelledStays.{begun_where_ended}
-use Rattle.gcd_history.proofs.IntakeBlocks.{started_accepted}
-use Rattle.gcd_history.proofs.LawfulLemmas.{lawful_after, lawful_more}
+use Rattle.gcd_history.proofs.Blocks.CancelledStays.{begun_where_ended}
+use Rattle.gcd_history.proofs.MadeBlocks.IntakeBlocks.{started_accepted}
+use Rattle.gcd_history.proofs.Permitted.Lawful.{lawful_after, lawful_more}
 use Rattle.gcd_history.proofs.Lists.{any_left, any_right, found_is, list_any-filter, list_any-reverse, reverse_push}
-use Rattle.gcd_history.proofs.MadeBlocks.{first_of_span, intake_inside}
-use Rattle.gcd_history.proofs.OpenIntake.{next_is_first, none_next}
-use Rattle.gcd_history.proofs.Reasons.{at_accept}
-use Rattle.gcd_team.specs.Held.{is_of, taken, given}
-use Rattle.gcd_team.specs.Team.{of_worker, held_by}
-use Rattle.gcd_team.specs.TeamFacts.{IsNobodys}
-use Rattle.gcd_team.proofs.CancelledRuns.{begun_where_held}
-use Rattle.gcd_team.proofs.Homes.{what_is_held_after}
+use Rattle.gcd_history.proofs.MadeBlocks.Spans.{first_of_span, intake_inside}
+use Rattle.gcd_history.proofs.MadeBlocks.OpenIntake.{next_is_first, none_next}
+use Rattle.gcd_history.proofs.Permitted.Reasons.{at_accept}
+use Rattle.gcd_history.specs.Held.{is_of, taken, given}
+use Rattle.gcd_history.specs.Team.{of_worker, held_by}
+use Rattle.gcd_history.specs.TeamFacts.{IsNobodys}
+use Rattle.gcd_history.proofs.HeldRuns.Cancelled.{begun_where_held}
+use Rattle.gcd_history.proofs.HeldRuns.Holders.{what_is_held_after}
+use Rattle.gcd_history.proofs.MadeBlocks.AcceptsStay.{next_kept}
 
 -- ## What is accepted
 
@@ -69,10 +70,6 @@ pub given_not_callers : (plan : PlanView) (e : Event) (r : Run) → given plan e
 given_not_callers plan (Accept b s) r is = cc
 given_not_callers plan Shut r is = cc
 given_not_callers plan e r is = refl
-
-pub none_accepted : (e : Event) → is_of_callers e ≡ false → accepted e ≡ None
-none_accepted (Accept b s) is = cc
-none_accepted e is = refl
 
 pub accepts_none : (e : Event) (b : ℕ) → is_of_callers e ≡ false → accepts b e ≡ false
 accepts_none (Accept c s) b is = cc
@@ -135,13 +132,6 @@ next_unended plan h b valid lawful is = by_end (is_ended h b.0) refl
     by_end : (v : Bool) → is_ended h b.0 ≡ v → is_ended h b.0 ≡ false
     by_end false at = at
     by_end true at = absurd (next_unaccepted plan h b is (begun_accepted plan h b.0 valid lawful (next_of plan h b is) (begun_where_ended plan h b.0 lawful at)))
-
--- an event that is not of callers leaves it
-next_kept : (plan : PlanView) (e : Event) (past : List Event) → is_of_callers e ≡ false → next_after plan (e ∷ past) ≡ next_after plan past
-unfolding next_after is_intake_open
-next_kept plan (Accept b s) past other = cc
-next_kept plan Shut past other = cc
-next_kept plan e past other = refl
 
 pub next_stays : (plan : PlanView) (h : List Event) (e : Event) → is_of_callers e ≡ false → next_of_intake plan (h ++ e ∷ []) ≡ next_of_intake plan h
 unfolding next_of_intake

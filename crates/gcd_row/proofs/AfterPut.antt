@@ -1,8 +1,5 @@
 -- What a caller has after its event was placed, and what it shows before one that gives a run back.
-use Rattle.std.proofs.Common.{◌≡◌, ℕ, zero, suc, Bool, false, cond, List, [], ◌∷◌, ◌++◌, Some, None, Option, sym, refl, ap, ◌∙◌, subst, eq-eqb}
-use Rattle.std.specs.Prelude.{slice_get}
-use mathlib.Core.Option.{some, some-injective, some-ne-none}
-use lib.ListN.{get_elem?}
+use Rattle.std.proofs.Common.{◌≡◌, ℕ, Bool, false, cond, List, [], ◌∷◌, ◌++◌, Some, None, Option, sym, refl, ap, ◌∙◌, subst, eq-eqb}
 use Rattle.std.proofs.lemmas.Option.{same_Some}
 use Rattle.gcd_plan.specs.PlanView.{PlanView}
 use Rattle.gcd_plan.specs.declared.kind.Kind.{Kind}
@@ -10,25 +7,22 @@ use Rattle.gcd_plan.specs.declared.numbers.Blk.{Blk}
 use Rattle.gcd_plan.specs.declared.numbers.Run.{Run}
 use Rattle.gcd_plan.specs.declared.numbers.Run.TheVariants.{Block}
 use Rattle.gcd_event.specs.declared.event.Event.{Event}
-use Rattle.gcd_event.specs.declared.event.Event.TheVariants.{Act as Acted, End, Accept}
+use Rattle.gcd_event.specs.declared.event.Event.TheVariants.{Act as Acted, End}
 use Rattle.gcd_history.specs.Choice.{worker_of}
-use Rattle.gcd_history.specs.Intake.{accepted}
 use Rattle.gcd_history.specs.History.{IsLawful, is_ended, parks, is_block_cancelled}
-use Rattle.gcd_team.specs.Held.{taken, given}
-use Rattle.gcd_team.specs.Team.{held_by}
-use Rattle.gcd_team.proofs.Handing.{cells_stay, held_cells_wait}
-use Rattle.gcd_team.proofs.Own.{own_events_tell_what_is_held}
-use Rattle.gcd_team.proofs.Homes.{what_is_held_after}
+use Rattle.gcd_history.specs.Held.{taken, given}
+use Rattle.gcd_history.specs.Team.{held_by}
+use Rattle.gcd_history.proofs.HeldRuns.Cells.{cells_stay, held_cells_wait}
+use Rattle.gcd_history.proofs.HeldRuns.OwnEvents.{own_events_tell_what_is_held}
+use Rattle.gcd_history.proofs.HeldRuns.Holders.{what_is_held_after}
 use Rattle.gcd_row.specs.Shapes.{Shape, body, done, shape_of}
 use Rattle.gcd_row.specs.Jobs.{Jobs, May, held_jobs}
 use Rattle.gcd_row.specs.Lying.{slot_of, BodyLies, Lies, HasSlot, HasSlots, IsReadyBody, IsReadyFor, GivesBack}
 use Rattle.gcd_row.specs.Views.{held_run, knowing, known}
-use Rattle.gcd_row.specs.Plays.{front_cell, HandsOn, IsLaid}
+use Rattle.gcd_row.specs.Plays.{front_cell, HandsOn}
 use Rattle.gcd_row.specs.Passes.{IsPassOf, Ahead, IsPlaced, Says, SaysSlots, HasSameNumbers, view, slots}
 use Rattle.gcd_row.specs.declared.put.Put.{Put}
 use Rattle.gcd_row.specs.declared.view.Handed.{Handed}
-use Rattle.gcd_row.specs.declared.view.Next.{Next}
-use Rattle.gcd_row.specs.declared.view.Next.TheVariants.{First, Laid}
 use Rattle.gcd_row.specs.declared.board.RowBoard.{RowBoard}
 use Rattle.gcd_row.specs.declared.cell.Cell.{Cell}
 use Rattle.gcd_row.specs.declared.cell.Cell.TheVariants.{Body, Done, Handler, Away}
@@ -65,28 +59,10 @@ same_numbers {S} e v w (Barred at y) says = record { worker = ap (λ (x : View S
 same_numbers {S} e v w (Held by passed) says = record { worker = ap (λ (x : View S). x.worker) says.0.looks.is; hands = ap (λ (x : View S). x.hands) says.0.looks.is; passed = ap (λ (x : View S). x.marks.passed) says.0.looks.is }
 same_numbers {S} e v w Full says = record { worker = ap (λ (x : View S). x.worker) says.0; hands = ap (λ (x : View S). x.hands) says.0; passed = ap (λ (x : View S). x.marks.passed) says.0 }
 
--- with an Accept the body that was laid into the block's slot last is its job
-pub placed_job : {S : Type 0} (b : Blk) (s : ℕ) (v w : View S) (n : ℕ) (c : S) → v.handed.next ≡ Laid c → IsPlaced (Accept b s) v w n → w.handed ≡ record { placed = (b.0, c) ∷ v.handed.placed; next = First }
-placed_job {S} b s v w n c laid placed =
-    let on = placed.handed in
-    on.1 ∙ ap (λ (x : S). record { placed = (b.0, x) ∷ v.handed.placed; next = First }) (subst (λ (next : Next S). IsLaid next on.0) laid on.2)
-
 -- and with every other answer worker 0 has handed in what it had
-handed_by : {S : Type 0} (o : Option Blk) (n m : Handed S) → o ≡ None → HandsOn o n m → m ≡ n
+pub handed_by : {S : Type 0} (o : Option Blk) (n m : Handed S) → o ≡ None → HandsOn o n m → m ≡ n
 handed_by None n m is same = same
 handed_by (Some b) n m is on = absurd (cc)
-
-pub handed_kept : {S : Type 0} (e : Event) (v w : View S) (r : Put) → accepted e ≡ None → Says e v w r → w.handed ≡ v.handed
-handed_kept {S} e v w (Placed n) nothing says = handed_by (accepted e) v.handed w.handed nothing says.handed
-handed_kept {S} e v w (Barred at y) nothing says = ap (λ (x : View S). x.handed) says.0.is
-handed_kept {S} e v w (Held by passed) nothing says = ap (λ (x : View S). x.handed) says.0.looks.is
-handed_kept {S} e v w Full nothing says = ap (λ (x : View S). x.handed) says.0
-
--- what is at a place of a list
-pub get_slice : {A : Type 0} (l : List A) (k : ℕ) (a : A) → get_elem? l k ≡ some a → slice_get l k ≡ Some a
-get_slice [] k a e = absurd (some-ne-none a (sym e))
-get_slice (x ∷ l) zero a e = ap Some (some-injective x a e)
-get_slice {A} (x ∷ l) (suc k) a e = get_slice l k a e
 
 head_same : {S : Type 0} (k n : ℕ) (x y : S) (c : List (ℕ × S)) → ◌≡◌ {A = List (ℕ × S)} ((k, x) ∷ []) ((n, y) ∷ c) → x ≡ y
 head_same {S} k n x y c same = ap (λ (l : List (ℕ × S)). (head_of k x l).1) same

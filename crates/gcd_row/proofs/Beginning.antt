@@ -13,9 +13,9 @@ use Rattle.gcd_plan.specs.declared.numbers.Run.{Run}
 use Rattle.gcd_plan.specs.declared.numbers.Run.TheVariants.{Block, Source}
 use Rattle.gcd_event.specs.Words.{word_of}
 use Rattle.gcd_history.specs.History.{is_block_cancelled, is_ended}
-use Rattle.gcd_history.proofs.LawfulLemmas.{lawful_none}
-use Rattle.gcd_team.specs.Team.{StartsWith, held_by}
-use Rattle.gcd_team.proofs.TeamLaws.{nothing_is_held_first}
+use Rattle.gcd_history.proofs.Permitted.Lawful.{lawful_none}
+use Rattle.gcd_history.specs.Team.{StartsWith, held_by}
+use Rattle.gcd_history.proofs.Public.TeamLaws.{nothing_is_held_first}
 use Rattle.gcd_machine.specs.Stands.{StandsFor}
 use Rattle.gcd_row.specs.Ring.{AreFirstWords, first_word, passed_word, gone}
 use Rattle.gcd_row.specs.Shapes.{Shape}

@@ -9,7 +9,7 @@ use Rattle.gcd_event.specs.declared.event.Event.{Event}
 use Rattle.gcd_event.specs.Fits.{IsFitting}
 use Rattle.gcd_event.specs.Words.{word_of}
 use Rattle.gcd_history.specs.Facts.{AllFit}
-use Rattle.gcd_history.proofs.PublicFacts.{all_fit}
+use Rattle.gcd_history.proofs.Public.Facts.{all_fit}
 use Rattle.gcd_row.specs.Shapes.{Shape}
 use Rattle.gcd_row.specs.Jobs.{Jobs, placed_at, jobs_of, placed_jobs}
 use Rattle.gcd_row.specs.Lying.{slot_of, Lies}

@@ -5,8 +5,8 @@ use Rattle.std.proofs.lemmas.List.Elements.{filter-append}
 use Rattle.std.specs.List.{filter}
 use Rattle.gcd_event.specs.declared.event.Event.{Event}
 use Rattle.gcd_history.specs.Choice.{worker_of}
-use Rattle.gcd_team.specs.Held.{is_of}
-use Rattle.gcd_team.specs.Team.{of_worker, StartsWith}
+use Rattle.gcd_history.specs.Held.{is_of}
+use Rattle.gcd_history.specs.Team.{of_worker, StartsWith}
 
 pub starts_refl : (h : List Event) → StartsWith h h
 starts_refl h = ([], sym (append-nil h))

@@ -2,7 +2,7 @@
 use Rattle.std.proofs.Common.{◌≡◌, ℕ, ◌≤◌, List, length, take, sym, ap, ◌∙◌, subst, arith}
 use Rattle.std.proofs.lemmas.List.{take-append-le, take_all}
 use Rattle.gcd_event.specs.declared.event.Event.{Event}
-use Rattle.gcd_team.specs.Team.{StartsWith}
+use Rattle.gcd_history.specs.Team.{StartsWith}
 use Rattle.gcd_row.specs.Passes.{IsGathered, MayRead, Says}
 use Rattle.gcd_row.specs.Views.{knowing, passing}
 use Rattle.gcd_row.specs.declared.put.Put.{Put}

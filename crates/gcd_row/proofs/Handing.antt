@@ -14,11 +14,11 @@ use Rattle.gcd_event.specs.declared.event.Event.{Event}
 use Rattle.gcd_history.specs.Choice.{worker_of}
 use Rattle.gcd_history.specs.History.{why, IsLawful}
 use Rattle.gcd_history.specs.Intake.{accepted}
-use Rattle.gcd_team.specs.Held.{taken, given}
-use Rattle.gcd_team.specs.Team.{held_by}
-use Rattle.gcd_team.specs.TeamFacts.{HeldAfter}
-use Rattle.gcd_team.proofs.Own.{own_events_tell_what_is_held}
-use Rattle.gcd_team.proofs.Homes.{what_is_held_after}
+use Rattle.gcd_history.specs.Held.{taken, given}
+use Rattle.gcd_history.specs.Team.{held_by}
+use Rattle.gcd_history.specs.TeamFacts.{HeldAfter}
+use Rattle.gcd_history.proofs.HeldRuns.OwnEvents.{own_events_tell_what_is_held}
+use Rattle.gcd_history.proofs.HeldRuns.Holders.{what_is_held_after}
 use Rattle.gcd_row.specs.Jobs.{May, placed_at, job_of, jobs_of, held_jobs}
 use Rattle.gcd_row.specs.Plays.{HandsOn}
 use Rattle.gcd_row.specs.Rule.{Knows, KnowsJobs}

@@ -15,22 +15,22 @@ use Rattle.gcd_event.specs.declared.event.Event.TheVariants.{Deliver}
 use Rattle.gcd_history.specs.Choice.{worker_of}
 use Rattle.gcd_history.specs.Runs.{ends}
 use Rattle.gcd_history.specs.History.{why, IsLawful, is_block_cancelled, is_ended, delivery_count_of, received_of}
-use Rattle.gcd_history.proofs.CancelledStays.{begun_where_ended, cancelled_kept, cancelled_kept_on}
-use Rattle.gcd_history.proofs.LawfulLemmas.{lawful_front}
-use Rattle.gcd_team.specs.Held.{is_of, taken, given}
-use Rattle.gcd_team.specs.Team.{of_worker, held_by, StartsWith}
-use Rattle.gcd_team.specs.TeamFacts.{SourceWaits, IsNobodys}
-use Rattle.gcd_team.proofs.Own.{own_events_tell_what_is_held, none_of_worker}
-use Rattle.gcd_team.proofs.TeamLaws.{nothing_is_held_first, takings_find_nobody, givings_are_the_holders, cells_wait}
-use Rattle.gcd_team.proofs.Handing.{cells_stay, held_cells_wait, bodies_come_back, deliver_hands_over}
-use Rattle.gcd_team.proofs.Homes.{what_is_held_after}
+use Rattle.gcd_history.proofs.Blocks.CancelledStays.{begun_where_ended, cancelled_kept, cancelled_kept_on}
+use Rattle.gcd_history.proofs.Permitted.Lawful.{lawful_front}
+use Rattle.gcd_history.specs.Held.{is_of, taken, given}
+use Rattle.gcd_history.specs.Team.{of_worker, held_by, StartsWith}
+use Rattle.gcd_history.specs.TeamFacts.{SourceWaits, IsNobodys}
+use Rattle.gcd_history.proofs.HeldRuns.OwnEvents.{own_events_tell_what_is_held, none_of_worker}
+use Rattle.gcd_history.proofs.Public.TeamLaws.{nothing_is_held_first, takings_find_nobody, givings_are_the_holders, cells_wait}
+use Rattle.gcd_history.proofs.HeldRuns.Cells.{cells_stay, held_cells_wait, bodies_come_back, deliver_hands_over}
+use Rattle.gcd_history.proofs.HeldRuns.Holders.{what_is_held_after, takes_alone}
 use Rattle.gcd_row.specs.Shapes.{Shape, body, done, handler, away}
 use Rattle.gcd_row.specs.Jobs.{Jobs, May}
 use Rattle.gcd_row.specs.Lying.{slot_of, source_shape, IsUntaken, IsServed, BodyLies, Lies, BodyHeld, HandlerHeld, MayHold, HasSlot, HasSlots, IsReadyBody, IsReadyFor, GivesBackBy}
 use Rattle.gcd_row.specs.Plays.{Turned}
 use Rattle.gcd_row.proofs.Totals.{earlier_now, earlier_waits}
-use Rattle.gcd_team.proofs.CancelledRuns.{begun_where_held, cancelled_at_taking}
-use Rattle.gcd_row.proofs.Running.{known_run, taken_known, given_known, given_not_taken, taken_source, source_slot, none_some}
+use Rattle.gcd_history.proofs.HeldRuns.Cancelled.{begun_where_held, cancelled_at_taking}
+use Rattle.gcd_row.proofs.Running.{known_run, taken_known, given_known, taken_source, source_slot, none_some}
 
 abbrev pub head_of : {S : Type 0} → ℕ → S → List (ℕ × S) → ℕ × S
 head_of k x [] = (k, x)
@@ -204,7 +204,7 @@ module _ {S : Type 0} (shape : S → Shape) (gives : S → ℕ → Type 0) (t : 
           (subst (λ (v : Bool). BodyLies shape gives (May gives t b.0) (ends b.0 e) v x) (sym marked)
           (body_lies x (May gives t b.0) (ends b.0 e) (is_block_cancelled t.plan h b.0) m ready))
       lies (Source s) is x m ready =
-          let none = given_not_taken t.plan e (Source s) is in
+          let none = takes_alone t.plan e (Source s) is in
           let source : is_source t.plan s.0 ≡ true = given_known t.plan h e (Source s) is may in
           let held : HandlerHeld t.plan h s.0 (handler ready.0 (delivery_count_of h s.0) (received_of t.plan h s.0)) = subst (HandlerHeld t.plan h s.0) ready.1 m in
           ready.1 ∙ sym (kind_shape t.plan h s.0 ready.0 source held.0) ∙ sym (same_source_shape t.plan h (e ∷ []) s.0 ((cells_stay t.plan h e).handlers s (λ took. none_some (taken e) (Source s) none took)))

@@ -1,14 +1,16 @@
 -- Which job a block has, as the rule and as passes know it.
-use Rattle.std.proofs.Common.{◌≡◌, ◌≢◌, ℕ, ⊎_elim, Bool, true, false, true≢false, cond, List, [], ◌∷◌, ◌++◌, Some, None, Option, length, set, sym, refl, ap, ◌∙◌, subst, eq-eqb, ne_eqb}
+use Rattle.std.proofs.Common.{◌≡◌, ◌≢◌, ℕ, ⊎_elim, Bool, true, false, cond, List, [], ◌∷◌, ◌++◌, Some, None, Option, length, set, sym, refl, ap, ◌∙◌, subst, eq-eqb, ne_eqb}
 use Rattle.std.specs.Prelude.{slice_get}
 use Rattle.std.proofs.lemmas.Option.{same_Some}
+use Rattle.std.proofs.lemmas.Bool.{both_ways}
 use mathlib.Core.Option.{some}
 use lib.ListN.{get_elem?}
 use Rattle.atomic_table.proofs.Lists.{at_set}
+use Rattle.gcd_facts.proofs.Elements.{at_end}
 use Rattle.gcd_plan.specs.Made.{is_of_intake}
 use Rattle.gcd_plan.specs.declared.numbers.Blk.{Blk}
 use Rattle.gcd_plan.specs.declared.numbers.Run.TheVariants.{Block}
-use Rattle.gcd_team.specs.Team.{held_by}
+use Rattle.gcd_history.specs.Team.{held_by}
 use Rattle.gcd_row.specs.Shapes.{Shape}
 use Rattle.gcd_row.specs.Jobs.{Jobs, May, placed_at, job_of, jobs_of, held_jobs}
 use Rattle.gcd_row.specs.Lying.{BodyLies}
@@ -16,7 +18,6 @@ use Rattle.gcd_row.specs.Rule.{KnowsJobs}
 use Rattle.gcd_row.specs.declared.view.Handed.{Handed}
 use Rattle.gcd_row.specs.declared.view.Terms.{Terms}
 use Rattle.gcd_row.specs.declared.view.View.{View}
-use Rattle.gcd_row.proofs.Parting.{at_end}
 
 -- ## Jobs
 
@@ -74,9 +75,6 @@ module _ {S : Type 0} (shape : S → Shape) (gives : S → ℕ → Type 0) where
 
 -- ## What passes know of them
 
-off : (b : Bool) → b ≡ true → b ≡ false → ⊥
-off b t f = true≢false (sym t ∙ f)
-
 -- what is so of each pass that is not spent
 abbrev pub Live : {S : Type 0} → (View S → Type 0) → List (View S) → Type 0
 Live {S} P views = (by : ℕ) (v : View S) → get_elem? views by ≡ some v → v.spent ≡ false → P v
@@ -96,7 +94,7 @@ module _ {S : Type 0} (P : View S → Type 0) where
 
   -- one that is spent says nothing
   pub spent_says : (w : View S) → w.spent ≡ true → w.spent ≡ false → P w
-  spent_says w is live = absurd (off w.spent is live)
+  spent_says w is live = absurd (both_ways w.spent live is)
 
 -- another pass after one of them has changed
 pub live_else : {S : Type 0} (P Q : View S → Type 0) (views : List (View S)) (id : ℕ) (w : View S) → (w.spent ≡ false → Q w) → ((by : ℕ) (v : View S) → by ≢ id → get_elem? views by ≡ some v → v.spent ≡ false → P v → Q v) → Live P views → Live Q (set views id w)

@@ -1,6 +1,7 @@
 -- Each step keeps the rule.
 use Rattle.std.proofs.Common.{◌≡◌, ◌≢◌, ℕ, suc, ◌+◌, ◌%◌, ◌<◌, ◌≤◌, ◌⊎◌, Bool, cond, min, map, length-append, get_or-set_other, get_or-set_same, ne_eqb, inl, inr, ⊎_elim, eqb, ltb, false, true, append_assoc, List, [], ◌∷◌, ◌++◌, length, get_or, set, sym, refl, ap, ◌∙◌, subst, arith, None, Some, Option as Maybe, is_some}
 use Rattle.std.proofs.lemmas.List.{set-get_or}
+use Rattle.std.proofs.lemmas.Bool.{both_ways}
 use mathlib.Core.Logic.{dite}
 use mathlib.Core.Option.{Option, none, some}
 use native.Mathlib.Decide.{ℕ_discrete, dec_le}
@@ -15,12 +16,12 @@ use Rattle.gcd_event.specs.Words.{word_of}
 use Rattle.gcd_event.proofs.WordLemmas.{same_from_word}
 use Rattle.gcd_history.specs.Choice.{worker_of}
 use Rattle.gcd_history.specs.History.{why, IsLawful, is_ended, is_block_cancelled}
-use Rattle.gcd_history.proofs.LawfulLemmas.{lawful_more, lawful_front}
-use Rattle.gcd_history.proofs.Fitting.{permitted_fits}
-use Rattle.gcd_team.specs.Held.{taken, given}
-use Rattle.gcd_team.specs.Team.{of_worker, held_by, StartsWith}
-use Rattle.gcd_team.proofs.Own.{own_events_tell_what_is_held}
-use Rattle.gcd_team.proofs.TeamLaws.{givings_are_the_holders}
+use Rattle.gcd_history.proofs.Permitted.Lawful.{lawful_more, lawful_front}
+use Rattle.gcd_history.proofs.Permitted.Fitting.{permitted_fits}
+use Rattle.gcd_history.specs.Held.{taken, given}
+use Rattle.gcd_history.specs.Team.{of_worker, held_by, StartsWith}
+use Rattle.gcd_history.proofs.HeldRuns.OwnEvents.{own_events_tell_what_is_held}
+use Rattle.gcd_history.proofs.Public.TeamLaws.{givings_are_the_holders}
 use Rattle.gcd_row.specs.Shapes.{Shape}
 use Rattle.gcd_row.specs.Jobs.{May, placed_at, jobs_of, held_jobs}
 use Rattle.gcd_row.specs.Lying.{slot_of, Lies, HasSlots}
@@ -31,7 +32,7 @@ use Rattle.gcd_row.specs.Plays.{first_after, front_cell, KnowsFresh, Found, Turn
 use Rattle.gcd_row.specs.Passes.{MayRead}
 use Rattle.gcd_row.specs.declared.view.Handed.{Handed}
 use Rattle.gcd_row.specs.declared.view.Limits.{Limits}
-use Rattle.gcd_row.specs.declared.view.Marks.{Marks}
+use Rattle.gcd_row.specs.declared.view.PassMarks.{PassMarks}
 use Rattle.gcd_row.specs.declared.view.View.{View}
 use Rattle.gcd_row.specs.declared.view.Terms.{Terms}
 use Rattle.gcd_row.specs.declared.view.Copies.{Copies}
@@ -49,7 +50,7 @@ use Rattle.gcd_row.proofs.Landing.{Landing, lands, rests_there}
 
 module _ {S : Type 0} (t : Terms S) where
   -- a pass that stays as it is, but for what it knows of the passed words
-  pub idle : (log : List Event) (views : List (View S)) (id : ℕ) (v : View S) (m : Marks) → get_elem? views id ≡ some v → Knows t log views → v.spent ≡ false → Grows log log v (knowing v v.seen m)
+  pub idle : (log : List Event) (views : List (View S)) (id : ℕ) (v : View S) (m : PassMarks) → get_elem? views id ≡ some v → Knows t log views → v.spent ≡ false → Grows log log v (knowing v v.seen m)
   idle log views id v m at k live = record {
     live = live;
     grows = starts_refl log;
@@ -174,10 +175,6 @@ module _ {S : Type 0} (shape : S → Shape) (gives : S → ℕ → Type 0) (key 
         record { view = refl; may = subst (λ (q : Terms S). why q.plan v.seen e ≡ None) (sym f.terms) may; other = λ (mine : worker_of e ≡ v.worker). own_differs v.worker v.seen e mine same; own = same }),
   )
 
-  off : (b : Bool) → b ≡ false → b ≡ true → ⊥
-  off true f t = cc
-  off false f t = cc
-
   pub looks : (n id i : ℕ) (m : Me S (View S)) → MayRead m.0 → i ≡ suc (length m.0.seen % 4096) → Allows (Holds shape gives key) n id m i (λ x. x) (Looked (step n i 0 0 none) m)
   looks n id i m ok place s k wide at fits64 =
       let v : View S = m.0 in
@@ -190,14 +187,14 @@ module _ {S : Type 0} (shape : S → Shape) (gives : S → ℕ → Type 0) (key 
         keeps,
         tt,
         stays s k j id v v at ok (idle t k.history s.views id v v.marks at k.knows live) refl (k.passed.pair id v at) refl refl,
-        (refl, (λ news. absurd (off (is_news (length v.seen) (get_or s.words j 0)) all.0 news)), λ _. (record { same = refl; relayed = subst (λ (h : List Event). StartsWith h v.relayed) (sym all.1) (k.knows.relayed id v at); fresh = knows_fresh t k.history s.views id v at k.knows live }, all.2)),
+        (refl, (λ news. absurd (both_ways (is_news (length v.seen) (get_or s.words j 0)) all.0 news)), λ _. (record { same = refl; relayed = subst (λ (h : List Event). StartsWith h v.relayed) (sym all.1) (k.knows.relayed id v at); fresh = knows_fresh t k.history s.views id v at k.knows live }, all.2)),
       ))
       (λ (next : (e : Event) × (later : List Event) × (is_news (length v.seen) (get_or s.words j 0) ≡ true) × (k.history ≡ v.seen ++ e ∷ later) × (get_or s.words j 0 ≡ word_of e + lap (length v.seen)) × (why t.plan v.seen e ≡ None)). (
         saw v next.0,
         keeps,
         tt,
         stays s k j id v (saw v next.0) at ok (learns t k.history s.views id v next.0 next.1 at k.knows live next.3) refl (k.passed.pair id v at) refl refl,
-        (refl, (λ _. found s k id v at live next.0 next.1 next.3 (get_or s.words j 0) next.4 next.5), λ old. absurd (off (is_news (length v.seen) (get_or s.words j 0)) old next.2)),
+        (refl, (λ _. found s k id v at live next.0 next.1 next.3 (get_or s.words j 0) next.4 next.5), λ old. absurd (both_ways (is_news (length v.seen) (get_or s.words j 0)) old next.2)),
       ))
       (finds t.plan t.limits.most s.words k.history v.seen k.valid k.ring k.lawful (k.knows.seen id v at) (omega (arith, near s k id v at ok, ok.passed))))
 
@@ -308,7 +305,7 @@ module _ {S : Type 0} (shape : S → Shape) (gives : S → ℕ → Type 0) (key 
       let begins = k.knows.seen id v at in
       let lawful : IsLawful t.plan v.seen = lawful_front t.plan v.seen begins.0 (subst (IsLawful t.plan) begins.1 k.lawful) in
       let stale : is_news (length v.seen) (under (map word_of v.seen)) ≡ false = subst (λ (y : ℕ). is_news y (under (map word_of v.seen)) ≡ false) (words_length v.seen) (under_is_old (map word_of v.seen) (all_words t.plan v.seen k.valid lawful)) in
-      absurd (off (is_news (length v.seen) (under (map word_of v.seen))) stale (ap (is_news (length v.seen)) (sym (hit ∙ is_old)) ∙ next.2)))
+      absurd (both_ways (is_news (length v.seen) (under (map word_of v.seen))) stale (ap (is_news (length v.seen)) (sym (hit ∙ is_old)) ∙ next.2)))
       (λ miss. (
         saw m.0 next.0,
         keeps,
@@ -375,7 +372,7 @@ module _ {S : Type 0} (shape : S → Shape) (gives : S → ℕ → Type 0) (key 
   floor_below : (j f x : ℕ) → j ≢ 0 → cond (eqb j 0) x (min f x) ≤ f
   floor_below j f x ne = subst (λ (b : Bool). cond b x (min f x) ≤ f) (sym (ne_eqb j 0 ne)) (Rattle.std.proofs.Math.Nat.min-le_left f x)
 
-  asked_passed : (l : Limits) (m : Marks) (j x : ℕ) (b : Bool) → (asked l m j x b).passed ≡ m.passed
+  asked_passed : (l : Limits) (m : PassMarks) (j x : ℕ) (b : Bool) → (asked l m j x b).passed ≡ m.passed
   asked_passed l m j x true = refl
   asked_passed l m j x false = refl
 
@@ -389,7 +386,7 @@ module _ {S : Type 0} (shape : S → Shape) (gives : S → ℕ → Type 0) (key 
       let terms : v.terms ≡ t = (k.knows.fits id v at live).terms in
       let floor : ℕ = cond (eqb j 0) x (min v.marks.floor x) in
       let lets : Bool = ltb (length v.seen) (x + 4096) in
-      let marks : Marks = asked v.terms.limits v.marks j x lets in
+      let marks : PassMarks = asked v.terms.limits v.marks j x lets in
       let w : View S = knowing v v.seen marks in
       let low : j < 64 = omega (arith, below, k.bounds.1) in
       let slow : length k.history ≤ x + 4096 = let old = k.passed.slow j low in omega (arith, old, here) in

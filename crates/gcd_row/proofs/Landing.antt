@@ -18,14 +18,15 @@ use Rattle.gcd_history.specs.Choice.{worker_of}
 use Rattle.gcd_history.specs.Facts.{is_of_callers}
 use Rattle.gcd_history.specs.History.{why, IsLawful, is_ended, is_block_cancelled, next_of_intake}
 use Rattle.gcd_history.specs.Intake.{accepts, accepted}
-use Rattle.gcd_history.proofs.LawfulLemmas.{lawful_more}
-use Rattle.gcd_team.specs.Held.{taken, given}
-use Rattle.gcd_team.specs.Team.{of_worker, held_by}
-use Rattle.gcd_team.specs.TeamFacts.{IsNobodys}
-use Rattle.gcd_team.proofs.Own.{own_events_tell_what_is_held}
-use Rattle.gcd_team.proofs.TeamLaws.{takings_find_nobody, givings_are_the_holders}
-use Rattle.gcd_team.proofs.Handing.{cells_stay, held_cells_wait}
-use Rattle.gcd_team.proofs.Homes.{comes_home, what_is_held_after}
+use Rattle.gcd_history.proofs.Permitted.Lawful.{lawful_more}
+use Rattle.gcd_history.specs.Held.{taken, given}
+use Rattle.gcd_history.specs.Team.{of_worker, held_by}
+use Rattle.gcd_history.specs.TeamFacts.{IsNobodys}
+use Rattle.gcd_history.proofs.HeldRuns.OwnEvents.{own_events_tell_what_is_held}
+use Rattle.gcd_history.proofs.Public.TeamLaws.{takings_find_nobody, givings_are_the_holders}
+use Rattle.gcd_history.proofs.HeldRuns.Cells.{cells_stay, held_cells_wait}
+use Rattle.gcd_history.proofs.HeldRuns.Holders.{comes_home, what_is_held_after, takes_alone}
+use Rattle.gcd_history.proofs.MadeBlocks.AcceptsStay.{uncalled_accepts_none}
 use Rattle.gcd_row.specs.Shapes.{Shape}
 use Rattle.gcd_row.specs.Jobs.{Jobs, May, placed_at, job_of, jobs_of}
 use Rattle.gcd_row.specs.Lying.{slot_of, BodyLies, Lies, HasSlots}
@@ -36,9 +37,9 @@ use Rattle.gcd_row.specs.declared.view.Handed.{Handed}
 use Rattle.gcd_row.specs.declared.view.Next.{Next}
 use Rattle.gcd_row.specs.declared.view.Next.TheVariants.{First, Out, Laid}
 use Rattle.gcd_row.specs.declared.view.Terms.{Terms}
-use Rattle.gcd_row.proofs.Accepted.{accepted_before, accepted_more, accepts_another, accepts_nothing, taken_not_callers, given_not_callers, none_accepted, taken_accepted, next_of, next_unaccepted, next_known, next_nobodys, next_unended, next_stays, next_was, accept_next, accept_counts, accept_callers}
+use Rattle.gcd_row.proofs.Accepted.{accepted_before, accepted_more, accepts_another, accepts_nothing, taken_not_callers, given_not_callers, taken_accepted, next_of, next_unaccepted, next_known, next_nobodys, next_unended, next_stays, next_was, accept_next, accept_counts, accept_callers}
 use Rattle.gcd_row.proofs.Jobs.{placed_here, placed_else, intake_job, same_job, same_may, lies_more, found_gives, found_lies}
-use Rattle.gcd_row.proofs.Running.{known_run, taken_known, given_known, given_not_taken, taken_not_given, same_slot, slot_below, none_some}
+use Rattle.gcd_row.proofs.Running.{known_run, taken_known, given_known, taken_not_given, same_slot, slot_below, none_some}
 use Rattle.gcd_row.proofs.Holding.{lies_stay}
 
 -- an act that keeps the slots right after one's own event, with what the pass notes then
@@ -143,7 +144,7 @@ module _ {S : Type 0} (shape : S → Shape) (gives : S → ℕ → Type 0) (t : 
       let there = old.home r known nobodys (λ o. taken_not_next r is o.block o.comes o.its) in
       let y : S = there.0 in
       let gives_none = taken_not_given t.plan e r is in
-      let accepts_none = none_accepted e (taken_not_callers e r is) in
+      let accepts_none = uncalled_accepts_none e (taken_not_callers e r is) in
       let k : ℕ = slot_of t.plan r in
       record {
         act = act_takes k y;
@@ -173,8 +174,8 @@ module _ {S : Type 0} (shape : S → Shape) (gives : S → ℕ → Type 0) (t : 
   lands_give r is back =
       let known : IsRun t.plan r = known_run t.plan r (given_known t.plan h e r is may) in
       let mine : held_by t.plan h (worker_of e) ≡ Some r = givings_are_the_holders t.plan h lawful e r is may in
-      let takes_none = given_not_taken t.plan e r is in
-      let accepts_none = none_accepted e (given_not_callers t.plan e r is) in
+      let takes_none = takes_alone t.plan e r is in
+      let accepts_none = uncalled_accepts_none e (given_not_callers t.plan e r is) in
       let k : ℕ = slot_of t.plan r in
       let after_it : homes_after homes c act_gives ≡ set homes k (some back.0) = ap (put_back homes) back.1 in
       let here : get_elem? (set homes k (some back.0)) k ≡ some (some back.0) = set_here homes k (some back.0) (omega (arith, old.width, slot_below t.plan r known)) in

@@ -13,7 +13,7 @@ use Rattle.gcd_plan.specs.declared.numbers.Blk.{Blk}
 use Rattle.gcd_plan.specs.declared.numbers.Run.{Run}
 use Rattle.gcd_plan.specs.declared.numbers.Run.TheVariants.{Block}
 use Rattle.gcd_history.specs.History.{is_block_cancelled, next_of_intake}
-use Rattle.gcd_team.specs.Team.{of_worker}
+use Rattle.gcd_history.specs.Team.{of_worker}
 use Rattle.gcd_row.specs.Shapes.{Shape, body}
 use Rattle.gcd_row.specs.Jobs.{May, placed_at, jobs_of}
 use Rattle.gcd_row.specs.Lying.{slot_of, BodyLies, Lies}

@@ -5,6 +5,7 @@ use mathlib.Core.Option.{some}
 use native.Mathlib.Decide.{ℕ_discrete}
 use lib.ListN.{get_elem?}
 use Rattle.atomic_table.proofs.Lists.{at_set, set_here, set_else}
+use Rattle.gcd_facts.proofs.Elements.{in_range}
 use Rattle.gcd_event.specs.declared.event.Event.{Event}
 use Rattle.gcd_row.specs.declared.view.View.{View}
 use Rattle.gcd_row.specs.declared.view.Terms.{Terms}
@@ -12,7 +13,7 @@ use Rattle.gcd_row.specs.declared.view.Standing.{Standing}
 use Rattle.gcd_row.specs.Ring.{passed_word, gone}
 use Rattle.gcd_row.specs.Rule.{Knows, PassedWords, Rests}
 use Rattle.gcd_row.specs.Views.{standing_of}
-use Rattle.gcd_row.proofs.Seen.{at_short, at_once, out_not_none}
+use Rattle.gcd_row.proofs.Seen.{at_once, out_not_none}
 
 -- a pass that makes a step: only its own passed word may change, and it only grows
 pub record Moves {S : Type 0} (next : List Event) (words after : List ℕ) (v w : View S) : Type 0 where
@@ -49,7 +50,7 @@ module _ {S : Type 0} (t : Terms S) (log next : List Event) (words after : List 
       (λ ne. omega (arith, g.others n ne))
 
   stands : get_elem? later id ≡ some w
-  stands = set_here views id w (at_short views id v at)
+  stands = set_here views id w (in_range views id v at)
 
   rests_mine : Rests after later v.worker
   rests_mine = ⊎_elim (λ (is : w.marks.passed ≡ gone). inl (g.mine ∙ is)) (λ (le : w.marks.passed ≤ length w.seen). inr (inr (id, w, stands, g.spent, g.worker, omega (arith, g.mine, le)))) g.rests

@@ -6,8 +6,8 @@ use Rattle.gcd_plan.specs.declared.numbers.Run.{Run}
 use Rattle.gcd_event.specs.declared.event.Event.{Event}
 use Rattle.gcd_event.specs.Words.{word_of}
 use Rattle.gcd_machine.specs.Stands.{StandsFor}
-use Rattle.gcd_machine.proofs.Shown.{lawful_stands}
-use Rattle.gcd_team.specs.Team.{of_worker, held_by}
+use Rattle.gcd_machine.proofs.Views.Calls.{lawful_stands}
+use Rattle.gcd_history.specs.Team.{of_worker, held_by}
 use Rattle.gcd_row.specs.Shapes.{Shape}
 use Rattle.gcd_row.specs.Jobs.{held_jobs}
 use Rattle.gcd_row.specs.Lying.{HasSlots}
@@ -105,10 +105,3 @@ module _ {S : Type 0} (shape : S → Shape) (gives : S → ℕ → Type 0) (b : 
             (has_ahead shape gives (held_jobs v) v.seen h v.worker (slots p) (lawful_stands q.machine v.terms.plan h stands) ahead.more ahead.own is.has));
         stands = subst (λ (x : View S). StandsFor q.machine x.terms.plan x.seen) (sym now) stands;
       }
-
--- the longer of two histories
-pub longer_second : (g h : List Event) → length g < length h → longer g h ≡ h
-longer_second g h lt = ap (λ (c : Bool). cond c h g) (lt-ltb (length g) (length h) lt)
-
-pub longer_first : (g h : List Event) → length h ≤ length g → longer g h ≡ g
-longer_first g h le = ap (λ (c : Bool). cond c h g) (le-ltb (length g) (length h) le)

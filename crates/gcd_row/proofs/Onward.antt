@@ -4,10 +4,10 @@ use Rattle.gcd_event.specs.declared.event.Event.{Event}
 use Rattle.gcd_history.specs.Choice.{worker_of}
 use Rattle.gcd_history.specs.History.{why}
 use Rattle.gcd_history.specs.Intake.{accepted}
-use Rattle.gcd_team.specs.Held.{is_of, taken}
-use Rattle.gcd_team.specs.Team.{of_worker, StartsWith}
+use Rattle.gcd_history.specs.Held.{is_of, taken}
+use Rattle.gcd_history.specs.Team.{of_worker, StartsWith}
 use Rattle.gcd_row.specs.declared.view.Handed.{Handed}
-use Rattle.gcd_row.specs.declared.view.Marks.{Marks}
+use Rattle.gcd_row.specs.declared.view.PassMarks.{PassMarks}
 use Rattle.gcd_row.specs.declared.view.View.{View}
 use Rattle.gcd_row.specs.declared.put.Put.{Put}
 use Rattle.gcd_row.specs.declared.put.Put.TheVariants.{Placed, Barred, Held, Full}
@@ -40,7 +40,7 @@ module _ {S : Type 0} where
   }
 
   -- a pass that has seen this, and whose own passed word is as v knows it
-  pub knows_as : (v w : View S) (h : List Event) (m : Marks) → w ≡ knowing v h m → m.passed ≡ v.marks.passed → w ≡ knowing v h (known v w)
+  pub knows_as : (v w : View S) (h : List Event) (m : PassMarks) → w ≡ knowing v h m → m.passed ≡ v.marks.passed → w ≡ knowing v h (known v w)
   knows_as v w h m is own =
       let same : m ≡ passing m v.marks.passed = ap (passing m) own in
       is ∙ ap (knowing v h) same ∙ ap (λ (y : View S). knowing v h (known v y)) (sym is)

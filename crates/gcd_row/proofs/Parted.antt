@@ -1,13 +1,15 @@
 -- The passed words, after a view was cut in two or took in another.
-use Rattle.std.proofs.Common.{◌≡◌, ◌≢◌, ℕ, ◌<◌, ◌≤◌, ◌⊎◌, inl, inr, ⊎_elim, Bool, true, false, true≢false, List, [], ◌∷◌, ◌++◌, length, set, sym, ap, ◌∙◌, subst, arith}
+use Rattle.std.proofs.Common.{◌≡◌, ◌≢◌, ℕ, ◌<◌, ◌≤◌, ◌⊎◌, inl, inr, ⊎_elim, true, false, List, [], ◌∷◌, ◌++◌, length, set, sym, ap, ◌∙◌, subst, arith}
 use Rattle.std.specs.Prelude.{None}
 use mathlib.Core.Logic.{dite}
 use mathlib.Core.Option.{some}
 use native.Mathlib.Decide.{ℕ_discrete}
 use lib.ListN.{get_elem?}
 use Rattle.atomic_table.proofs.Lists.{at_set, set_here, set_else, at_longer}
+use Rattle.std.proofs.lemmas.Bool.{both_ways}
+use Rattle.gcd_facts.proofs.Elements.{in_range, at_end}
 use Rattle.gcd_event.specs.declared.event.Event.{Event}
-use Rattle.gcd_team.specs.Team.{StartsWith}
+use Rattle.gcd_history.specs.Team.{StartsWith}
 use Rattle.gcd_row.specs.declared.view.View.{View}
 use Rattle.gcd_row.specs.declared.view.Terms.{Terms}
 use Rattle.gcd_row.specs.declared.view.Standing.{Standing}
@@ -16,11 +18,8 @@ use Rattle.gcd_row.specs.Ring.{passed_word, gone}
 use Rattle.gcd_row.specs.Rule.{Knows, PassedWords, Rests}
 use Rattle.gcd_row.specs.Views.{standing_of, spent_view, lending, newcomer, merging}
 use Rattle.gcd_row.proofs.Fronts.{starts_length}
-use Rattle.gcd_row.proofs.Parting.{at_end, longer_left, standing_same, standing_other, some_not_none}
-use Rattle.gcd_row.proofs.Seen.{at_short, at_once}
-
-off : (b : Bool) → b ≡ true → b ≡ false → ⊥
-off b t f = true≢false (sym t ∙ f)
+use Rattle.gcd_row.proofs.Parting.{longer_left, standing_same, standing_other, some_not_none}
+use Rattle.gcd_row.proofs.Seen.{at_once}
 
 standing_less : (l : List (ℕ × Standing)) (w : ℕ) (s : Standing) (n : ℕ) → standing_of ((w, s) ∷ l) n ≡ None → standing_of l n ≡ None
 standing_less l w s n none = dite (ℕ_discrete w n)
@@ -42,7 +41,7 @@ module _ {S : Type 0} (t : Terms S) (log : List Event) (words : List ℕ) (views
   not_head j u ne e alive zero_is = ne (k.alone j id u v e at alive live (zero_is ∙ sym head_is))
 
   here_now : get_elem? cut id ≡ some (lending v n)
-  here_now = at_longer (set views id (lending v n)) (newcomer v n ∷ []) id (lending v n) (set_here views id (lending v n) (at_short views id v at))
+  here_now = at_longer (set views id (lending v n)) (newcomer v n ∷ []) id (lending v n) (set_here views id (lending v n) (in_range views id v at))
 
   there_now : (j : ℕ) (u : View S) → j ≢ id → get_elem? views j ≡ some u → get_elem? cut j ≡ some u
   there_now j u ne e = at_longer (set views id (lending v n)) (newcomer v n ∷ []) j u (set_else views id j (lending v n) ne ∙ e)
@@ -94,7 +93,7 @@ module _ {S : Type 0} (t : Terms S) (log : List Event) (words : List ℕ) (views
       (at_set (set views id both) far j spent_view x e)
 
   alive_which : (Q : Type 0) (j : ℕ) (x : View S) → get_elem? joined j ≡ some x → x.spent ≡ false → ((j ≡ id) → both ≡ x → Q) → ((j ≢ id) → (j ≢ far) → get_elem? views j ≡ some x → Q) → Q
-  alive_which Q j x e fine here else = which Q j x e (λ is. absurd (off x.spent (ap (λ (y : View S). y.spent) (sym is)) fine)) here else
+  alive_which Q j x e fine here else = which Q j x e (λ is. absurd (both_ways x.spent fine (ap (λ (y : View S). y.spent) (sym is)))) here else
 
   left : StartsWith both.seen v.seen
   left = longer_left log v.seen u.seen (k.seen id v at) (k.seen far u at_far)
@@ -106,7 +105,7 @@ module _ {S : Type 0} (t : Terms S) (log : List Event) (words : List ℕ) (views
   other_unused m none = standing_less v.hands u.worker Back m none
 
   stands : get_elem? joined id ≡ some both
-  stands = set_else (set views id both) far id spent_view (λ e. apart (sym e)) ∙ set_here views id both (at_short views id v at)
+  stands = set_else (set views id both) far id spent_view (λ e. apart (sym e)) ∙ set_here views id both (in_range views id v at)
 
   stays : (j : ℕ) (x : View S) → j ≢ id → j ≢ far → get_elem? views j ≡ some x → get_elem? joined j ≡ some x
   stays j x ne_id ne_far e = set_else (set views id both) far j spent_view ne_far ∙ set_else views id j both ne_id ∙ e
@@ -150,7 +149,7 @@ pub noted_passed : {S : Type 0} (t : Terms S) (log : List Event) (words : List �
 noted_passed {S} t log words views x p gone_now none =
     let cases : (Q : Type 0) (j : ℕ) (u : View S) → get_elem? (views ++ x ∷ []) j ≡ some u → (x ≡ u → Q) → (get_elem? views j ≡ some u → Q) → Q =
     λ Q j u e new old. ⊎_elim (λ (was : get_elem? views j ≡ some u). old was) (λ (r : (j ≡ length views) × (x ≡ u)). new r.1) (at_end views x u j e) in
-    let dead : (Q : Type 0) (u : View S) → x ≡ u → u.spent ≡ false → Q = λ Q u is alive. absurd (off u.spent (ap (λ (y : View S). y.spent) (sym is) ∙ gone_now) alive) in
+    let dead : (Q : Type 0) (u : View S) → x ≡ u → u.spent ≡ false → Q = λ Q u is alive. absurd (both_ways u.spent alive (ap (λ (y : View S). y.spent) (sym is) ∙ gone_now)) in
     record {
       slow = p.slow;
       rests = λ m lt. ⊎_elim (λ (is : passed_word words m ≡ gone). inl is)
@@ -170,14 +169,14 @@ wiped_passed {S} t log words views far u p at gone_now =
     let later : List (View S) = set views far spent_view in
     let cases : (Q : Type 0) (j : ℕ) (x : View S) → get_elem? later j ≡ some x → (spent_view ≡ x → Q) → (get_elem? views j ≡ some x → Q) → Q =
     λ Q j x e new old. ⊎_elim (λ (r : (j ≡ far) × (spent_view ≡ x)). new r.1) (λ (r : (j ≢ far) × (get_elem? views j ≡ some x)). old r.1) (at_set views far j spent_view x e) in
-    let dead : (Q : Type 0) (x : View S) → spent_view ≡ x → x.spent ≡ false → Q = λ Q x is alive. absurd (off x.spent (ap (λ (y : View S). y.spent) (sym is)) alive) in
+    let dead : (Q : Type 0) (x : View S) → spent_view ≡ x → x.spent ≡ false → Q = λ Q x is alive. absurd (both_ways x.spent alive (ap (λ (y : View S). y.spent) (sym is))) in
     record {
       slow = p.slow;
       rests = λ m lt. ⊎_elim (λ (is : passed_word words m ≡ gone). inl is)
           (λ (r : (passed_word words m ≡ 0) ⊎ ((by : ℕ) × (x : View S) × (get_elem? views by ≡ some x) × (x.spent ≡ false) × (x.worker ≡ m) × (passed_word words m ≤ length x.seen))).
           ⊎_elim (λ (is : passed_word words m ≡ 0). inr (inl is))
           (λ (o : (by : ℕ) × (x : View S) × (get_elem? views by ≡ some x) × (x.spent ≡ false) × (x.worker ≡ m) × (passed_word words m ≤ length x.seen)).
-          inr (inr (o.0, o.1, set_else views far o.0 spent_view (λ is. off u.spent gone_now (ap (λ (y : View S). y.spent) (at_once views far u o.1 at (subst (λ (n : ℕ). get_elem? views n ≡ some o.1) is o.2)) ∙ o.3)) ∙ o.2, o.3, o.4, o.5))) r)
+          inr (inr (o.0, o.1, set_else views far o.0 spent_view (λ is. both_ways u.spent (ap (λ (y : View S). y.spent) (at_once views far u o.1 at (subst (λ (n : ℕ). get_elem? views n ≡ some o.1) is o.2)) ∙ o.3) gone_now) ∙ o.2, o.3, o.4, o.5))) r)
           (p.rests m lt);
       mine = λ j x e alive. cases (passed_word words x.worker ≡ x.marks.passed) j x e (λ is. dead (passed_word words x.worker ≡ x.marks.passed) x is alive) (λ was. p.mine j x was alive);
       pair = λ j x e m lt. cases (x.marks.floor ≤ passed_word words m) j x e (λ is. subst (λ (y : View S). y.marks.floor ≤ passed_word words m) is (omega arith)) (λ was. p.pair j x was m lt);

@@ -1,13 +1,15 @@
 -- A view that is cut in two, and two views that are joined, keep what the passes know.
-use Rattle.std.proofs.Common.{◌≡◌, ◌≢◌, ℕ, zero, suc, ◌<◌, ◌≤◌, ◌⊎◌, inl, inr, ⊎_elim, Bool, true, false, true≢false, cond, ltb, List, [], ◌∷◌, ◌++◌, length, set, sym, refl, ap, ◌∙◌, subst, arith, eq-eqb, ne_eqb, lt-ltb, le-ltb}
+use Rattle.std.proofs.Common.{◌≡◌, ◌≢◌, ℕ, ◌<◌, ◌≤◌, ⊎_elim, Bool, true, false, cond, ltb, List, [], ◌∷◌, ◌++◌, length, set, sym, ap, ◌∙◌, subst, arith, eq-eqb, ne_eqb, lt-ltb, le-ltb}
 use mathlib.Core.Logic.{dite}
-use mathlib.Core.Option.{some, some-injective, some-ne-none}
+use mathlib.Core.Option.{some}
 use native.Mathlib.Decide.{ℕ_discrete, dec_le}
 use lib.ListN.{get_elem?}
 use Rattle.atomic_table.proofs.Lists.{at_set, set_here, set_else, at_longer}
 use Rattle.std.specs.Prelude.{Some, None, Option}
+use Rattle.std.proofs.lemmas.Bool.{both_ways}
+use Rattle.gcd_facts.proofs.Elements.{in_range, at_end}
 use Rattle.gcd_event.specs.declared.event.Event.{Event}
-use Rattle.gcd_team.specs.Team.{of_worker, StartsWith}
+use Rattle.gcd_history.specs.Team.{of_worker, StartsWith}
 use Rattle.gcd_row.specs.declared.view.View.{View}
 use Rattle.gcd_row.specs.declared.view.Terms.{Terms}
 use Rattle.gcd_row.specs.declared.view.Standing.{Standing}
@@ -15,13 +17,7 @@ use Rattle.gcd_row.specs.declared.view.Standing.TheVariants.{Out, Back}
 use Rattle.gcd_row.specs.Rule.{Fits, Heads, Knows}
 use Rattle.gcd_row.specs.Views.{standing_of, spent_view, lending, newcomer, longer, merging}
 use Rattle.gcd_row.proofs.Fronts.{starts_refl, starts_nil, starts_length, starts_whole, starts_shorter, between}
-use Rattle.gcd_row.proofs.Seen.{at_short, at_once}
-
-pub at_end : {A : Type 0} (l : List A) (a b : A) (j : ℕ) → get_elem? (l ++ a ∷ []) j ≡ some b → (get_elem? l j ≡ some b) ⊎ ((j ≡ length l) × (a ≡ b))
-at_end [] a b zero e = inr (refl, some-injective a b e)
-at_end [] a b (suc j) e = absurd (some-ne-none b (sym e))
-at_end (x ∷ xs) a b zero e = inl e
-at_end (x ∷ xs) a b (suc j) e = ⊎_elim (λ (t : get_elem? xs j ≡ some b). inl t) (λ (t : (j ≡ length xs) × (a ≡ b)). inr (ap suc t.0, t.1)) (at_end xs a b j e)
+use Rattle.gcd_row.proofs.Seen.{at_once}
 
 pub standing_same : (l : List (ℕ × Standing)) (w : ℕ) (s : Standing) (n : ℕ) → w ≡ n → standing_of ((w, s) ∷ l) n ≡ Some s
 standing_same l w s n e = ap (λ (b : Bool). cond b (Some s) (standing_of l n)) (eq-eqb w n e)
@@ -29,11 +25,11 @@ standing_same l w s n e = ap (λ (b : Bool). cond b (Some s) (standing_of l n)) 
 pub standing_other : (l : List (ℕ × Standing)) (w : ℕ) (s : Standing) (n : ℕ) → w ≢ n → standing_of ((w, s) ∷ l) n ≡ standing_of l n
 standing_other l w s n e = ap (λ (b : Bool). cond b (Some s) (standing_of l n)) (ne_eqb w n e)
 
+pub back_out : Some Back ≡ Some Out → ⊥
+back_out is = cc
+
 pub some_not_none : (o : Option Standing) (s : Standing) → o ≡ Some s → o ≡ None → ⊥
 some_not_none o s it gone = cc
-
-off : (b : Bool) → b ≡ true → b ≡ false → ⊥
-off b t f = true≢false (sym t ∙ f)
 
 module _ {S : Type 0} (p : Terms S) (log : List Event) (views : List (View S)) (id : ℕ) (v : View S) (n : ℕ) (at : get_elem? views id ≡ some v) (k : Knows p log views)
     (live : v.spent ≡ false) (head_is : v.worker ≡ 0) (not_zero : n ≢ 0) (unused : standing_of v.hands n ≡ None) where
@@ -93,7 +89,7 @@ module _ {S : Type 0} (p : Terms S) (log : List Event) (views : List (View S)) (
         (λ ne was. absurd (not_head j u ne was alive zero_is));
     whole = let old = k.whole in let far = at_longer (set views id (lending v n)) (newcomer v n ∷ []) in dite (ℕ_discrete old.0 id)
         (λ is. let mine : old.1 ≡ v = at_once views id old.1 v (subst (λ (x : ℕ). get_elem? views x ≡ some old.1) is old.2) at in
-        (id, lending v n, far id (lending v n) (set_here views id (lending v n) (at_short views id v at)), live, ap (λ (x : View S). x.seen) (sym mine) ∙ old.4))
+        (id, lending v n, far id (lending v n) (set_here views id (lending v n) (in_range views id v at)), live, ap (λ (x : View S). x.seen) (sym mine) ∙ old.4))
         (λ ne. (old.0, old.1, far old.0 old.1 (set_else views id old.0 (lending v n) ne ∙ old.2), old.3, old.4));
   }
 
@@ -143,7 +139,7 @@ module _ {S : Type 0} (p : Terms S) (log : List Event) (views : List (View S)) (
       (at_set (set views id both) far j spent_view x e)
 
   alive_which : (Q : Type 0) (j : ℕ) (x : View S) → get_elem? joined j ≡ some x → x.spent ≡ false → ((j ≡ id) → (both ≡ x) → Q) → ((j ≢ id) → (j ≢ far) → get_elem? views j ≡ some x → Q) → Q
-  alive_which Q j x e fine here else = which Q j x e (λ is. absurd (off x.spent (ap (λ (y : View S). y.spent) (sym is)) fine)) here else
+  alive_which Q j x e fine here else = which Q j x e (λ is. absurd (both_ways x.spent fine (ap (λ (y : View S). y.spent) (sym is)))) here else
 
   other_head : (j : ℕ) (x : View S) → j ≢ id → get_elem? views j ≡ some x → x.spent ≡ false → x.worker ≢ 0
   other_head j x ne e fine zero_is = ne (k.alone j id x v e at fine live (zero_is ∙ sym head_is))
@@ -164,7 +160,7 @@ module _ {S : Type 0} (p : Terms S) (log : List Event) (views : List (View S)) (
   both_own = let own = (k.fits id v at live).own in sym (between v.worker log both.seen v.seen all_of left own) ∙ own
 
   stands : get_elem? joined id ≡ some both
-  stands = set_else (set views id both) far id spent_view (λ e. apart (sym e)) ∙ set_here views id both (at_short views id v at)
+  stands = set_else (set views id both) far id spent_view (λ e. apart (sym e)) ∙ set_here views id both (in_range views id v at)
 
   pub joins_known : Knows p log joined
   joins_known = let f = k.fits id v at live in record {
@@ -196,7 +192,7 @@ pub noted : {S : Type 0} (p : Terms S) (log : List Event) (views : List (View S)
 noted {S} p log views x k gone s t =
     let cases : (Q : Type 0) (j : ℕ) (u : View S) → get_elem? (views ++ x ∷ []) j ≡ some u → (x ≡ u → Q) → (get_elem? views j ≡ some u → Q) → Q =
     λ Q j u e new old. ⊎_elim (λ (was : get_elem? views j ≡ some u). old was) (λ (r : (j ≡ length views) × (x ≡ u)). new r.1) (at_end views x u j e) in
-    let dead : (Q : Type 0) (u : View S) → x ≡ u → u.spent ≡ false → Q = λ Q u is alive. absurd (off u.spent (ap (λ (y : View S). y.spent) (sym is) ∙ gone) alive) in
+    let dead : (Q : Type 0) (u : View S) → x ≡ u → u.spent ≡ false → Q = λ Q u is alive. absurd (both_ways u.spent alive (ap (λ (y : View S). y.spent) (sym is) ∙ gone)) in
     record {
       seen = λ j u e. cases (StartsWith log u.seen) j u e (λ is. subst (λ (y : View S). StartsWith log y.seen) is s) (λ was. k.seen j u was);
       relayed = λ j u e. cases (StartsWith log u.relayed) j u e (λ is. subst (λ (y : View S). StartsWith log y.relayed) is t) (λ was. k.relayed j u was);
@@ -214,7 +210,7 @@ wiped {S} p log views far u k at gone =
     let later : List (View S) = set views far spent_view in
     let cases : (Q : Type 0) (j : ℕ) (x : View S) → get_elem? later j ≡ some x → (spent_view ≡ x → Q) → (get_elem? views j ≡ some x → Q) → Q =
     λ Q j x e new old. ⊎_elim (λ (r : (j ≡ far) × (spent_view ≡ x)). new r.1) (λ (r : (j ≢ far) × (get_elem? views j ≡ some x)). old r.1) (at_set views far j spent_view x e) in
-    let dead : (Q : Type 0) (x : View S) → spent_view ≡ x → x.spent ≡ false → Q = λ Q x is alive. absurd (off x.spent (ap (λ (y : View S). y.spent) (sym is)) alive) in
+    let dead : (Q : Type 0) (x : View S) → spent_view ≡ x → x.spent ≡ false → Q = λ Q x is alive. absurd (both_ways x.spent alive (ap (λ (y : View S). y.spent) (sym is))) in
     record {
       seen = λ j x e. cases (StartsWith log x.seen) j x e (λ is. subst (λ (y : View S). StartsWith log y.seen) is (starts_nil log)) (λ was. k.seen j x was);
       relayed = λ j x e. cases (StartsWith log x.relayed) j x e (λ is. subst (λ (y : View S). StartsWith log y.relayed) is (starts_nil log)) (λ was. k.relayed j x was);
@@ -223,5 +219,5 @@ wiped {S} p log views far u k at gone =
       head = λ j x e alive zero_is. cases (Heads log later x) j x e (λ is. dead (Heads log later x) x is alive)
           (λ was. let h = k.head j x was alive zero_is in
           record { fresh = h.fresh; home = h.home; out = λ i y at_y fine nz. cases (standing_of x.hands y.worker ≡ Some Out) i y at_y (λ is. dead (standing_of x.hands y.worker ≡ Some Out) y is fine) (λ there. h.out i y there fine nz) });
-      whole = let old = k.whole in (old.0, old.1, set_else views far old.0 spent_view (λ is. off u.spent gone (ap (λ (y : View S). y.spent) (at_once views far u old.1 at (subst (λ (n : ℕ). get_elem? views n ≡ some old.1) is old.2)) ∙ old.3)) ∙ old.2, old.3, old.4);
+      whole = let old = k.whole in (old.0, old.1, set_else views far old.0 spent_view (λ is. both_ways u.spent (ap (λ (y : View S). y.spent) (at_once views far u old.1 at (subst (λ (n : ℕ). get_elem? views n ≡ some old.1) is old.2)) ∙ old.3) gone) ∙ old.2, old.3, old.4);
     }

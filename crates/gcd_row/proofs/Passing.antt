@@ -10,11 +10,11 @@ use Rattle.gcd_history.specs.Choice.{worker_of}
 use Rattle.gcd_history.specs.Facts.{AllFit}
 use Rattle.gcd_history.specs.History.{why, IsLawful}
 use Rattle.gcd_history.specs.Intake.{accepted}
-use Rattle.gcd_history.proofs.PublicFacts.{all_fit}
+use Rattle.gcd_history.proofs.Public.Facts.{all_fit}
 use Rattle.gcd_machine.specs.Stands.{StandsFor}
-use Rattle.gcd_machine.proofs.Shown.{lawful_stands, valid_stands}
-use Rattle.gcd_team.specs.Held.{taken}
-use Rattle.gcd_team.specs.Team.{held_by}
+use Rattle.gcd_machine.proofs.Views.Calls.{lawful_stands, valid_stands}
+use Rattle.gcd_history.specs.Held.{taken}
+use Rattle.gcd_history.specs.Team.{held_by}
 use Rattle.gcd_row.specs.Ring.{under}
 use Rattle.gcd_row.specs.Shapes.{Shape}
 use Rattle.gcd_row.specs.Jobs.{Jobs, job_of, jobs_of, held_jobs}

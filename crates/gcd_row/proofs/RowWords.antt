@@ -9,11 +9,11 @@ use Rattle.gcd_event.specs.Fits.{IsFitting}
 use Rattle.gcd_event.specs.Words.{word_of}
 use Rattle.gcd_event.proofs.WordLemmas.{word_bounds}
 use Rattle.gcd_history.specs.History.{why, IsLawful}
-use Rattle.gcd_history.proofs.LawfulLemmas.{lawful_next}
-use Rattle.gcd_history.proofs.Fitting.{permitted_fits}
+use Rattle.gcd_history.proofs.Permitted.Lawful.{lawful_next}
+use Rattle.gcd_history.proofs.Permitted.Fitting.{permitted_fits}
 use Rattle.gcd_history.specs.Facts.{AllFit}
-use Rattle.gcd_history.proofs.PublicFacts.{all_fit}
-use Rattle.gcd_team.specs.Team.{StartsWith}
+use Rattle.gcd_history.proofs.Public.Facts.{all_fit}
+use Rattle.gcd_history.specs.Team.{StartsWith}
 use Rattle.gcd_row.specs.Ring.{IsRing, IsWord, is_news, lap, under, passed_word}
 use Rattle.gcd_row.proofs.Fronts.{starts_next}
 

@@ -8,15 +8,15 @@ use Rattle.gcd_plan.specs.declared.numbers.Blk.{Blk}
 use Rattle.gcd_plan.specs.declared.numbers.Obj.{Obj}
 use Rattle.gcd_plan.specs.declared.numbers.Run.{Run}
 use Rattle.gcd_plan.specs.declared.numbers.Run.TheVariants.{Block, Source}
+use Rattle.gcd_plan.proofs.Within.{has_object}
 use Rattle.gcd_event.specs.declared.event.Event.{Event}
 use Rattle.gcd_event.specs.declared.event.Event.TheVariants.{Start, Act as Acted, Wake, End, Deliver, DeliverEnd}
 use Rattle.gcd_history.specs.Runs.{act_at}
 use Rattle.gcd_history.specs.Parked.{is_parking}
 use Rattle.gcd_history.specs.Permitted.{is_worker, is_index, has_block, is_run_of}
 use Rattle.gcd_history.specs.History.{why}
-use Rattle.gcd_history.proofs.Reasons.{allowed}
-use Rattle.gcd_history.proofs.Fitting.{has_object}
-use Rattle.gcd_team.specs.Held.{taken, given}
+use Rattle.gcd_history.proofs.Permitted.Reasons.{allowed}
+use Rattle.gcd_history.specs.Held.{taken, given}
 use Rattle.gcd_row.specs.Lying.{slots_of, slot_of}
 
 -- a run of a block or a source of the plan is a run of the plan
@@ -45,13 +45,6 @@ given_known plan h (Acted w q i) r is may =
 given_known plan h (End w b) r is may = subst (λ q. is_run_of plan q ≡ true) (same_Some (Block b) r is) (and_parts (is_worker w) (has_block plan b.0) (allowed plan (reverse h) (End w b) may).known).1
 given_known plan h (DeliverEnd w s) r is may = subst (λ q. is_run_of plan q ≡ true) (same_Some (Source s) r is) (and_parts (is_worker w) (is_source plan s.0) (allowed plan (reverse h) (DeliverEnd w s) may).known).1
 given_known plan h e r is may = absurd (cc)
-
--- no event takes a run and gives one back
-pub given_not_taken : (plan : PlanView) (e : Event) (r : Run) → given plan e ≡ Some r → taken e ≡ None
-given_not_taken plan (Start w b) r is = absurd (cc)
-given_not_taken plan (Wake w b) r is = absurd (cc)
-given_not_taken plan (Deliver w s) r is = absurd (cc)
-given_not_taken plan e r is = refl
 
 pub taken_not_given : (plan : PlanView) (e : Event) (r : Run) → taken e ≡ Some r → given plan e ≡ None
 taken_not_given plan (Start w b) r is = refl

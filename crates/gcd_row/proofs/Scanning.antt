@@ -2,7 +2,7 @@
 use Rattle.std.proofs.Common.{◌≡◌, ◌≢◌, ℕ, suc, ◌+◌, ◌-◌, ◌<◌, ◌≤◌, Bool, true, false, cond, min, length, sym, refl, ap, ◌∙◌, subst, arith, eqb, eq-eqb, ne_eqb, lt-ltb, le-ltb, Some}
 use mathlib.Core.Logic.{dite}
 use native.Mathlib.Decide.{ℕ_discrete}
-use Rattle.gcd_row.specs.declared.view.Marks.{Marks}
+use Rattle.gcd_row.specs.declared.view.PassMarks.{PassMarks}
 use Rattle.gcd_row.specs.declared.view.View.{View}
 use Rattle.gcd_row.specs.Views.{knowing, asked}
 use Rattle.gcd_row.specs.Plays.{Asks}
@@ -38,7 +38,7 @@ module _ {S : Type 0} where
       ((s.chain nz).0 ∙ ap (λ (b : Bool). cond {A = ℕ} b 64 k) (eq-eqb k v.terms.limits.workers is), (s.chain nz).1)
 
   -- a load more
-  knew_on : (v u w : View S) (m : Marks) → Knew v u → w ≡ knowing u u.seen m → m.passed ≡ u.marks.passed → m.loads ≡ suc u.marks.loads → Knew v w
+  knew_on : (v u w : View S) (m : PassMarks) → Knew v u → w ≡ knowing u u.seen m → m.passed ≡ u.marks.passed → m.loads ≡ suc u.marks.loads → Knew v w
   knew_on v u w m k now own more = record {
     is = knows_as v w v.seen m (now ∙ ap (λ (y : View S). knowing y y.seen m) k.is) (own ∙ ap (λ (y : View S). y.marks.passed) k.is);
     loads = let last : w.marks.loads ≡ m.loads = ap (λ (y : View S). y.marks.loads) now in omega (arith, k.loads, last, more);
@@ -76,7 +76,7 @@ module _ {S : Type 0} where
       let floor : w.marks.floor ≡ u.marks.floor = ap (λ (y : View S). y.marks.floor) now in
       record {
         knew = knew_on v u w (asked u.terms.limits u.marks k x false) s.knew now refl refl;
-        relayed = subst (λ (y : View S). Rattle.gcd_team.specs.Team.StartsWith y.seen y.relayed) is ended.0;
+        relayed = subst (λ (y : View S). Rattle.gcd_history.specs.Team.StartsWith y.seen y.relayed) is ended.0;
         fresh = subst (λ (y : View S). Rattle.gcd_row.specs.Plays.KnowsFresh y) is ended.1;
         holder = record {
           worker = lt;

@@ -1,13 +1,14 @@
 -- What the passes know, after one of them has seen more, was cut in two or took in another.
-use Rattle.std.proofs.Common.{◌≡◌, ◌≢◌, ℕ, zero, suc, ◌<◌, ◌⊎◌, ⊎_elim, false, List, [], ◌∷◌, length, set, sym, ap, ◌∙◌, subst, arith}
+use Rattle.std.proofs.Common.{◌≡◌, ◌≢◌, ℕ, ◌⊎◌, ⊎_elim, false, List, length, set, sym, ap, ◌∙◌, subst, arith}
 use mathlib.Core.Logic.{dite}
-use mathlib.Core.Option.{some, some-injective, some-ne-none}
+use mathlib.Core.Option.{some, some-injective}
 use native.Mathlib.Decide.{ℕ_discrete}
 use lib.ListN.{get_elem?}
 use Rattle.atomic_table.proofs.Lists.{at_set, set_here, set_else}
 use Rattle.std.specs.Prelude.{Some, None}
+use Rattle.gcd_facts.proofs.Elements.{in_range}
 use Rattle.gcd_event.specs.declared.event.Event.{Event}
-use Rattle.gcd_team.specs.Team.{of_worker, StartsWith}
+use Rattle.gcd_history.specs.Team.{of_worker, StartsWith}
 use Rattle.gcd_row.specs.declared.view.View.{View}
 use Rattle.gcd_row.specs.declared.view.Terms.{Terms}
 use Rattle.gcd_row.specs.declared.view.Standing.{Standing}
@@ -15,11 +16,6 @@ use Rattle.gcd_row.specs.declared.view.Standing.TheVariants.{Out}
 use Rattle.gcd_row.specs.Rule.{Fits, Heads, Knows}
 use Rattle.gcd_row.specs.Views.{standing_of}
 use Rattle.gcd_row.proofs.Fronts.{starts_trans, starts_length, starts_whole, between}
-
-pub at_short : {A : Type 0} (l : List A) (i : ℕ) (a : A) → get_elem? l i ≡ some a → i < length l
-at_short [] i a e = absurd (some-ne-none a (sym e))
-at_short (x ∷ xs) zero a e = omega arith
-at_short (x ∷ xs) (suc i) a e = let r = at_short xs i a e in omega arith
 
 pub at_once : {A : Type 0} (l : List A) (i : ℕ) (a b : A) → get_elem? l i ≡ some a → get_elem? l i ≡ some b → a ≡ b
 at_once l i a b e f = some-injective a b (sym e ∙ f)
@@ -94,9 +90,9 @@ module _ {S : Type 0} (p : Terms S) (log next : List Event) (views : List (View 
       (λ (same : next ≡ log). let old = k.whole in dite (ℕ_discrete old.0 id)
       (λ is. let mine : old.1 ≡ v = at_once views id old.1 v (subst (λ (n : ℕ). get_elem? views n ≡ some old.1) is old.2) at in
       let all : v.seen ≡ next = ap (λ (x : View S). x.seen) (sym mine) ∙ old.4 ∙ sym same in
-      (id, w, set_here views id w (at_short views id v at), g.spent, starts_whole next w.seen g.seen (omega (arith, ap length all, starts_length w.seen v.seen g.more))))
+      (id, w, set_here views id w (in_range views id v at), g.spent, starts_whole next w.seen g.seen (omega (arith, ap length all, starts_length w.seen v.seen g.more))))
       (λ ne. (old.0, old.1, set_else views id old.0 w ne ∙ old.2, old.3, old.4 ∙ sym same)))
-      (λ (all : w.seen ≡ next). (id, w, set_here views id w (at_short views id v at), g.spent, all))
+      (λ (all : w.seen ≡ next). (id, w, set_here views id w (in_range views id v at), g.spent, all))
       g.whole
 
   pub grown : Knows p next later

@@ -2,7 +2,7 @@
 use Rattle.std.proofs.Common.{◌≡◌, ℕ, [], ◌∷◌, sym, ap, ◌∙◌}
 use Rattle.gcd_plan.specs.PlanView.{PlanView}
 use Rattle.gcd_plan.specs.declared.numbers.Run.{Run}
-use Rattle.gcd_machine.proofs.Shown.{plan_stands}
+use Rattle.gcd_machine.proofs.Views.Calls.{plan_stands}
 use Rattle.gcd_row.specs.Shapes.{Shape}
 use Rattle.gcd_row.specs.Lying.{slot_of}
 use Rattle.gcd_row.specs.Passes.{IsPassOf, view, slots}

@@ -1,19 +1,17 @@
 -- What a handler has taken before the delivery that is open.
-use Rattle.std.proofs.Common.{◌≡◌, ℕ, ◌+◌, ◌<◌, Bool, true, false, cond, List, [], ◌∷◌, ◌++◌, reverse, Some, None, refl, ap, sym, ◌∙◌, arith}
-use Rattle.std.specs.Option.{option_map_or}
+use Rattle.std.proofs.Common.{◌≡◌, ℕ, ◌+◌, ◌<◌, Bool, true, false, cond, List, [], ◌∷◌, ◌++◌, reverse, refl, ap, sym, ◌∙◌, arith}
 use Rattle.std.proofs.lemmas.Bool.{eq-eqb}
 use Rattle.std.proofs.lemmas.List.{append-nil, reverse-append}
-use Rattle.std.proofs.lemmas.List.Sums.{fold_push}
 use Rattle.gcd_plan.proofs.Sums.{count_by-cons}
-use Rattle.gcd_plan.specs.PlanView.{PlanView, kind_of}
-use Rattle.gcd_plan.specs.KindValues.{folded}
+use Rattle.gcd_plan.specs.PlanView.{PlanView}
 use Rattle.gcd_plan.specs.declared.numbers.Obj.{Obj}
 use Rattle.gcd_event.specs.declared.event.Event.{Event}
 use Rattle.gcd_event.specs.declared.event.Event.TheVariants.{Deliver}
-use Rattle.gcd_history.specs.Sources.{delivers, delivery_count, fold_at, fold_of, handed, joined, last_data, pending, received}
+use Rattle.gcd_history.specs.Sources.{delivers, delivery_count, fold_at, handed, joined, last_data, pending, received}
 use Rattle.gcd_history.specs.History.{delivery_count_of, last_data_of, received_of}
 use Rattle.gcd_history.proofs.Lists.{reverse_push}
-use Rattle.gcd_team.specs.TeamFacts.{SourceWaits}
+use Rattle.gcd_history.specs.TeamFacts.{SourceWaits}
+use Rattle.gcd_history.proofs.HeldRuns.Cells.{fold_at_push}
 use Rattle.gcd_row.specs.Totals.{handed_earlier, received_earlier}
 
 -- right after a Deliver it is all that was handed over before that
@@ -57,13 +55,6 @@ earlier_waits plan h later s waits =
     let same : delivery_count (reverse later ++ reverse h) s ≡ delivery_count (reverse h) s = sym (ap (λ (l : List Event). delivery_count l s) split) ∙ waits.times in
     ap (λ (l : List Event). fold_at plan s (handed_earlier plan l s)) split
     ∙ ap (fold_at plan s) (earlier_left plan (reverse later) (reverse h) s same)
-
-fold_at_push : (plan : PlanView) (s : ℕ) (values : List ℕ) (v : ℕ) → fold_at plan s (values ++ v ∷ []) ≡ joined plan s (fold_at plan s values) v
-fold_at_push plan s values v =
-    elim (kind_of plan s) as (λ o. option_map_or (λ kind. fold_of kind (values ++ v ∷ [])) o 0 ≡ option_map_or (λ kind. folded kind (option_map_or (λ k. fold_of k values) o 0) v) o 0) [
-      | None ↦ refl
-      | Some kind ↦ fold_push (folded kind) 0 values v
-    ]
 
 joined_last : (plan : PlanView) (past : List Event) (s : ℕ) → 0 < delivery_count past s → joined plan s (fold_at plan s (handed_earlier plan past s)) (last_data plan past s) ≡ received plan past s
 joined_last plan [] s some = absurd (omega (arith, some))

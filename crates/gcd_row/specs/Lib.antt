@@ -1,6 +1,6 @@
 pub use Rattle.gcd_plan.specs.PlanView
 pub use Rattle.gcd_history.specs.History
-pub use Rattle.gcd_team.specs.Team
+pub use Rattle.gcd_history.specs.Team
 pub mod Shapes
 pub mod Totals
 pub mod Jobs

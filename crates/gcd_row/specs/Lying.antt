@@ -9,7 +9,7 @@ use Rattle.gcd_plan.specs.declared.numbers.Run.TheVariants.{Block, Source}
 use Rattle.gcd_event.specs.declared.event.Event.{Event}
 use Rattle.gcd_history.specs.Runs.{ends}
 use Rattle.gcd_history.specs.History.{is_block_cancelled, is_ended, delivery_count_of, received_of}
-use Rattle.gcd_team.specs.Held.{given}
+use Rattle.gcd_history.specs.Held.{given}
 use Rattle.gcd_row.specs.Shapes.{Shape, body, done, handler, away}
 use Rattle.gcd_row.specs.Jobs.{Jobs, May}
 use Rattle.gcd_row.specs.Totals.{received_earlier}

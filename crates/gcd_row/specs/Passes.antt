@@ -13,9 +13,9 @@ use Rattle.gcd_history.specs.History.{why}
 use Rattle.gcd_history.specs.Intake.{accepts, accepted}
 use Rattle.gcd_refinement.specs.MachineView.{MachineView}
 use Rattle.gcd_machine.specs.Stands.{StandsFor}
-use Rattle.gcd_team.specs.Held.{taken}
-use Rattle.gcd_team.specs.Team.{of_worker, StartsWith}
-use Rattle.gcd_team.specs.TeamFacts.{IsNobodys}
+use Rattle.gcd_history.specs.Held.{taken}
+use Rattle.gcd_history.specs.Team.{of_worker, StartsWith}
+use Rattle.gcd_history.specs.TeamFacts.{IsNobodys}
 use Rattle.gcd_row.specs.Ring.{under}
 use Rattle.gcd_row.specs.Shapes.{Shape}
 use Rattle.gcd_row.specs.Jobs.{Jobs, held_jobs}

@@ -9,8 +9,8 @@ use Rattle.gcd_event.specs.Words.{word_of}
 use Rattle.gcd_history.specs.Choice.{worker_of}
 use Rattle.gcd_history.specs.History.{why, next_of_intake}
 use Rattle.gcd_history.specs.Intake.{accepted}
-use Rattle.gcd_team.specs.Held.{taken, given}
-use Rattle.gcd_team.specs.Team.{of_worker, StartsWith}
+use Rattle.gcd_history.specs.Held.{taken, given}
+use Rattle.gcd_history.specs.Team.{of_worker, StartsWith}
 use Rattle.gcd_row.specs.Ring.{is_news, lap, under}
 use Rattle.gcd_row.specs.Shapes.{Shape, body}
 use Rattle.gcd_row.specs.Jobs.{Jobs, held_jobs}

@@ -15,8 +15,8 @@ use Rattle.gcd_event.specs.declared.event.Event.{Event}
 use Rattle.gcd_event.specs.Words.{word_of}
 use Rattle.gcd_history.specs.History.{IsLawful, next_of_intake}
 use Rattle.gcd_history.specs.Intake.{accepts}
-use Rattle.gcd_team.specs.Team.{of_worker, held_by, StartsWith}
-use Rattle.gcd_team.specs.TeamFacts.{IsNobodys}
+use Rattle.gcd_history.specs.Team.{of_worker, held_by, StartsWith}
+use Rattle.gcd_history.specs.TeamFacts.{IsNobodys}
 use Rattle.gcd_row.specs.Ring.{IsRing, passed_word, gone}
 use Rattle.gcd_row.specs.Shapes.{Shape}
 use Rattle.gcd_row.specs.Jobs.{May, placed_at, jobs_of, held_jobs}

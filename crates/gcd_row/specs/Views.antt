@@ -3,11 +3,11 @@ use Rattle.std.specs.Prelude.{ℕ, suc, min, ◌==◌, Bool, cond, nat_lt, true,
 use Rattle.gcd_plan.specs.declared.numbers.Run.{Run}
 use Rattle.gcd_event.specs.declared.event.Event.{Event}
 use Rattle.gcd_history.specs.History.{is_block_cancelled}
-use Rattle.gcd_team.specs.Team.{held_by}
+use Rattle.gcd_history.specs.Team.{held_by}
 use Rattle.gcd_row.specs.declared.view.Copies.{Copies}
 use Rattle.gcd_row.specs.declared.view.Handed.{Handed}
 use Rattle.gcd_row.specs.declared.view.Limits.{Limits}
-use Rattle.gcd_row.specs.declared.view.Marks.{Marks}
+use Rattle.gcd_row.specs.declared.view.PassMarks.{PassMarks}
 use Rattle.gcd_row.specs.declared.view.Next.{Next}
 use Rattle.gcd_row.specs.declared.view.Next.TheVariants.{First, Out as NextOut, Laid}
 use Rattle.gcd_row.specs.declared.view.Terms.{Terms}
@@ -24,19 +24,19 @@ abbrev pub longer : List Event → List Event → List Event
 longer a b = cond (nat_lt (length a) (length b)) b a
 
 -- what a pass knows of the passed words at first: that they are at least 0
-abbrev pub first_marks : Marks
+abbrev pub first_marks : PassMarks
 first_marks = record { passed = 0; floor = 0; upto = 64; loads = 0; held = None }
 
-abbrev pub no_marks : Marks
+abbrev pub no_marks : PassMarks
 no_marks = record { passed = 0; floor = 0; upto = 0; loads = 0; held = None }
 
 -- where the passed word of worker k is x, and those below it are known: x lets the next event be written, or it does not
-abbrev pub asked : Limits → Marks → ℕ → ℕ → Bool → Marks
+abbrev pub asked : Limits → PassMarks → ℕ → ℕ → Bool → PassMarks
 asked l m k x true = record { passed = m.passed; floor = cond (k == 0) x (min m.floor x); upto = cond (suc k == l.workers) 64 (suc k); loads = suc m.loads; held = None }
 asked l m k x false = record { passed = m.passed; floor = m.floor; upto = k; loads = suc m.loads; held = Some (k, x) }
 
 -- where the pass's own is x
-abbrev pub passing : Marks → ℕ → Marks
+abbrev pub passing : PassMarks → ℕ → PassMarks
 passing m x = record { passed = x; floor = m.floor; upto = m.upto; loads = m.loads; held = m.held }
 
 module _ {S : Type 0} where
@@ -81,11 +81,11 @@ module _ {S : Type 0} where
   knows_cancelled v b = is_block_cancelled v.terms.plan v.seen b
 
   -- a pass that has seen this history, and knows this of the passed words
-  abbrev pub knowing : View S → List Event → Marks → View S
+  abbrev pub knowing : View S → List Event → PassMarks → View S
   knowing v h m = record { terms = v.terms; spent = v.spent; worker = v.worker; seen = h; relayed = v.relayed; hands = v.hands; marks = m; first = v.first; handed = v.handed }
 
   -- its own passed word as v knows it, and what w knows of the others
-  abbrev pub known : View S → View S → Marks
+  abbrev pub known : View S → View S → PassMarks
   known v w = passing w.marks v.marks.passed
 
   -- a pass that has seen this history

@@ -107,4 +107,4 @@ pub use cell::{Cell, Slot};
 pub use pass::{Pass, RowPass};
 pub use plays::Lawful;
 pub use put::Put;
-pub use view::{Copies, Handed, Limits, Marks, Next, Standing, Terms, View};
+pub use view::{Copies, Handed, Limits, Next, PassMarks, Standing, Terms, View};

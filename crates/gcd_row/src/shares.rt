@@ -3,7 +3,7 @@ ghost use Rattle.std.specs.Prelude.{◌≡◌, ◌≢◌, ◌<◌, false, List, 
 ghost use Rattle.gcd_event.specs.declared.event.Event.{Event};
 ghost use Rattle.gcd_machine.specs.Stands.{StandsFor};
 ghost use Rattle.gcd_plan.specs.PlanView.{PlanView};
-ghost use Rattle.gcd_team.specs.Team.{of_worker};
+ghost use Rattle.gcd_history.specs.Team.{of_worker};
 ghost use Rattle.gcd_row.specs.Passes.{IsPassOf, Merges, slots, terms_of, view};
 ghost use Rattle.gcd_row.specs.Plays.{Compares};
 ghost use Rattle.gcd_row.specs.Views.{standing_of, lending, newcomer, longer, hearing};

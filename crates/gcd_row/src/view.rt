@@ -36,7 +36,7 @@ pub enum Standing {
 }
 
 /// What a pass knows of the passed words.
-pub struct Marks {
+pub struct PassMarks {
     /// Its own.
     pub passed: u64,
     /// Those of workers below `upto` are at least this.
@@ -78,7 +78,7 @@ pub struct View<S> {
     pub relayed: LinkedList<Event>,
     /// At worker 0: each number that was given out, the last change first.
     pub hands: LinkedList<(u8, Standing)>,
-    pub marks: Marks,
+    pub marks: PassMarks,
     /// What it found in the slot of the run that it took last.
     pub first: Option<S>,
     /// At worker 0: what it has handed in.

@@ -1,5 +1,5 @@
 -- What the call has to tell, by the way in which it ends.
-use Rattle.std.proofs.Common.{◌≡◌, ◌≢◌, ◌⊎◌, ◌∙◌, ℕ, true, List, [], ◌∷◌, ◌++◌, ◌+◌, Option, Some, None, length, ⊎_elim, reverse, ap, refl, sym, subst, inl, inr, arith}
+use Rattle.std.proofs.Common.{◌≡◌, ◌≢◌, ◌⊎◌, ◌∙◌, ℕ, true, List, [], ◌∷◌, ◌++◌, ◌+◌, Option, Some, None, ⊎_elim, reverse, ap, refl, sym, subst, inl, inr, arith}
 use Rattle.std.specs.Prelude.{Ok, Err, Contains, IsTrue}
 use Rattle.std.proofs.lemmas.Bool.{false≢true}
 use Rattle.std.proofs.lemmas.List.{reverse-append, reverse-reverse}

@@ -4,7 +4,7 @@ use Rattle.gcd_plan.specs.PlanView.{PlanView}
 use Rattle.gcd_plan.specs.Validity.{IsPlan}
 use Rattle.gcd_event.specs.declared.event.Event.{Event}
 use Rattle.gcd_history.specs.declared.state.State.{State}
-use Rattle.gcd_history.proofs.OneState.{one_state}
+use Rattle.gcd_history.proofs.Permitted.OneState.{one_state}
 use Rattle.gcd_journal.specs.Judged.{IsFirstBarred}
 use Rattle.gcd_journal.proofs.FirstBarred.{none_barred, one_barred}
 use Rattle.gcd_outer.specs.Outside.{Bytes, ShelfFailed}

@@ -7,9 +7,8 @@ use Rattle.gcd_event.specs.declared.event.Event.{Event}
 use Rattle.gcd_history.specs.Report.{front_text}
 use Rattle.gcd_history.specs.declared.state.State.{State}
 use Rattle.gcd_history.specs.declared.state.State.TheVariants.{Drained as RunDrained, Stuck as RunStuck, Misused as RunMisused, Halted as RunHalted, Live as RunLive}
-use Rattle.gcd_loop.specs.Followed.{AcceptsNone}
 use Rattle.gcd_outer.specs.Outside.{Bytes, SinkSeen, Took}
-use Rattle.gcd_workers.specs.CallersRuns.{AcceptsOf}
+use Rattle.gcd_history.specs.Intake.{AcceptsOf, AcceptsNone}
 use Rattle.gcd_words.specs.Asked.{Asked, RunAsked, request_of, run, check, big, front}
 use Rattle.gcd_commands.specs.Calls.{Calls, InputsSeen, Made, only_loads, with_listen}
 use Rattle.gcd_commands.specs.Checks.{CheckEnds, IsJournalAt, IsJudged}

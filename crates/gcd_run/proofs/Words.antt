@@ -1,7 +1,8 @@
 -- What is told at words, by the request that they name.
-use Rattle.std.proofs.Common.{◌≡◌, ◌∙◌, true, is_some, List, Option, Some, None, Result, Ok, Err, option_map, ap, refl, sym, subst, inr}
+use Rattle.std.proofs.Common.{◌≡◌, ◌∙◌, true, is_some, List, Option, None, Result, Ok, Err, option_map, ap, sym, subst, inr}
 use Rattle.std.specs.Prelude.{IfOk}
 use Rattle.std.proofs.lemmas.Bool.{both_ways}
+use Rattle.gcd_facts.proofs.Options.{is_some-option_map}
 use Rattle.gcd_outer.specs.Outside.{Bytes}
 use Rattle.gcd_words.specs.Asked.{AreTaken, Asked, request_of}
 use Rattle.gcd_commands.specs.Calls.{Calls, InputsSeen}
@@ -17,14 +18,10 @@ pub calls_of_words : (seen : InputsSeen) (words : List Bytes) (o : Option Asked)
     → AskedCalls seen o calls → WordsCall seen words calls
 calls_of_words seen words o calls asked is = inr (subst (λ (p : Option Asked). AskedCalls seen p calls) asked is)
 
-some_map : {A B : Type 0} (f : A → B) (o : Option A) → is_some (option_map f o) ≡ is_some o
-some_map f None = refl
-some_map f (Some x) = refl
-
 -- words that are taken ask for something
 pub taken_asks : {R : Type 0} (of : R → Asked) (r : Option R) (words : List Bytes) → option_map of r ≡ request_of words
     → (AreTaken words → is_some r ≡ true) → AreTaken words → is_some (request_of words) ≡ true
-taken_asks of r words exact taken words_taken = sym (ap is_some exact) ∙ some_map of r ∙ taken words_taken
+taken_asks of r words exact taken words_taken = sym (ap is_some exact) ∙ is_some-option_map of r ∙ taken words_taken
 
 pub none_taken : {o : Option Asked} → o ≡ None → is_some o ≡ true → ⊥
 none_taken none some = both_ways _ (ap is_some none) some

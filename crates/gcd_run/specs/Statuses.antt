@@ -9,10 +9,9 @@ use Rattle.gcd_history.specs.Report.{front_text}
 use Rattle.gcd_history.specs.declared.state.State.{State}
 use Rattle.gcd_history.specs.declared.state.State.TheVariants.{Drained as RunDrained, Stuck as RunStuck, Misused as RunMisused, Halted as RunHalted, Live as RunLive}
 use Rattle.gcd_journal.specs.Judged.{IsFirstBarred}
-use Rattle.gcd_loop.specs.Followed.{AcceptsNone}
 use Rattle.gcd_outer.specs.Outside.{Bytes, SinkSeen, SinkFailed, Took, TookFront}
 use Rattle.gcd_words.specs.Asked.{Asked, RunAsked, request_of, run, check, big, front}
-use Rattle.gcd_workers.specs.CallersRuns.{AcceptsOf}
+use Rattle.gcd_history.specs.Intake.{AcceptsOf, AcceptsNone}
 use Rattle.gcd_commands.specs.Calls.{Calls, InputsSeen, Made, only_loads, with_listen}
 use Rattle.gcd_commands.specs.Checks.{IsJournalAt, StopsCheck}
 use Rattle.gcd_commands.specs.End.{End, usage_text, read_fault, refused_end, no_journal_end, no_intake_end, run_text, large_text, lawful_text, unlawful_text}

@@ -2,7 +2,6 @@
 use Rattle.std.proofs.Common.{ℕ, zero, suc, ◌≡◌, ◌<◌, ◌+◌, ◌==◌, Bool, true, false, cond, ltb, List, [], ◌∷◌, ◌++◌, length, set, Option, Some, None, IfSome, is_none, option_to_list, slice_get, get_or, count_by, refl, sym, ap, ◌∙◌, subst, arith, map, option_map, flat_map, ◌≤◌, ◌||◌}
 use Rattle.std.specs.List.{list_any, flat_map, range_with_len}
 use Rattle.std.specs.Str.{bytes_eq}
-use Rattle.std.proofs.lemmas.Bool.{and_parts, ltb-true}
 use Rattle.std.proofs.lemmas.List.{length_push, length-set, append-nil, append_assoc}
 use Rattle.std.proofs.lemmas.List.Sums.{sum_by_push}
 use Rattle.gcd_plan.specs.Kinds.{is_queue, is_source, is_source_kind}
@@ -16,6 +15,7 @@ use Rattle.gcd_plan.specs.declared.numbers.Run.{Run}
 use Rattle.gcd_plan.specs.declared.numbers.Run.TheVariants as run
 use Rattle.gcd_plan.proofs.Places.{slice_get_some}
 use Rattle.gcd_plan.specs.declared.work.Work.{Work}
+use Rattle.gcd_plan.proofs.Within.{declared_within, act_block_within, has_object}
 use Rattle.gcd_script.specs.declared.meaning.Meaning.{Meaning}
 use Rattle.gcd_script.specs.declared.meaning.Meaning.TheVariants.{File, Object, Block, Strip}
 use Rattle.gcd_script.specs.Agreement.{AgreeWithPlan, Declares, flags_with, AreSetToo, marks_with, AreMore}
@@ -30,7 +30,7 @@ use Rattle.gcd_script.proofs.ObjectChanges.{StandsAsSource, source_stands}
 use Rattle.gcd_script.proofs.SourceChanges as source_changes
 use Rattle.gcd_script.proofs.Submitted.{flag_after, flag_same, any_counts}
 use Rattle.gcd_script.proofs.Valid.{object_submits, block_submits, block_applies}
-use Rattle.gcd_script.proofs.Applied.{act_declared, act_strip_within, handler_no_strip}
+use Rattle.gcd_script.proofs.Applied.{act_strip_within, handler_no_strip}
 use Rattle.std.specs.Option.{option_map_or}
 use Rattle.gcd_script.specs.Judged.{strips_of, applied_strips, may_have}
 use Rattle.gcd_plan.specs.Made.{is_of_strip, strip_blocks, strip_span, made_by_intake, made_by_strip, intake_block, strip_block}
@@ -47,19 +47,12 @@ use Rattle.gcd_script.proofs.MadeNames.{none_named, intake_unnamed, strip_unname
 use Rattle.std.proofs.lemmas.List.Concat.{flat_map-append}
 use Rattle.std.proofs.lemmas.List.Folds.{list_any-append}
 use Rattle.std.proofs.lemmas.Option.{same_Some}
-use Rattle.gcd_script.proofs.Targets.{has_kind_within}
+use Rattle.gcd_script.proofs.Marked.{push_unset}
 
 -- what a new look-up finds is what a name means in the new plan
 means_after : (old new : List ℕ → Option Meaning) (before after : PlanView) (name : List ℕ) (meaning : Meaning) → ((q : List ℕ) → old q ≡ meaning_of before q) → Declares old new name meaning → Declares (meaning_of before) (meaning_of after) name meaning → (q : List ℕ) → new q ≡ meaning_of after q
 means_after old new before after name meaning known adds means q =
     adds q ∙ ap (λ o. cond (bytes_eq name q) (Some meaning) o) (known q) ∙ sym (means q)
-
--- a flag more that is false
-one_more : (flags : List Bool) (b : ℕ) → get_or (flags ++ false ∷ []) b false ≡ get_or flags b false
-one_more [] zero = refl
-one_more [] (suc b) = refl
-one_more (flag ∷ flags) zero = refl
-one_more (flag ∷ flags) (suc b) = one_more flags b
 
 module _ (old new : List ℕ → Option Meaning) (flags applied : List Bool) (count : ℕ) (plan : PlanView) (agrees : AgreeWithPlan old flags applied count plan) where
   pub file_agrees : (number : ℕ) (name path : List ℕ) → is_unused plan name ≡ true → (file : ℕ) → file ≡ length plan.files → Declares old new name (File file) → AgreeWithPlan new flags applied count (with_file (new_file number name path) plan)
@@ -97,7 +90,7 @@ module _ (old new : List ℕ → Option Meaning) (flags applied : List Bool) (co
       record {
         means = means_after old new plan (with_block made plan) name (Block (record { 0 = length plan.blocks })) agrees.means (subst (λ n. Declares old new name (Block (record { 0 = n }))) same adds) (block_declares plan made (fit_from plan name unused));
         flags = length_push flags false ∙ ap (λ n. n + 1) agrees.flags ∙ sym (length_push plan.blocks made);
-        blocks = λ b. one_more flags b ∙ agrees.blocks b ∙ ap (list_any (λ (c : Blk). c.0 == b)) (sym (block_submits plan name work));
+        blocks = λ b. push_unset flags b ∙ agrees.blocks b ∙ ap (list_any (λ (c : Blk). c.0 == b)) (sym (block_submits plan name work));
         marks = agrees.marks;
         strips = λ a. agrees.strips a ∙ ap (list_any (λ c. c == a)) (sym (block_applies plan name work));
         count = omega (arith, agrees.count);
@@ -146,22 +139,14 @@ module _ (old new : List ℕ → Option Meaning) (flags flags' applied : List Bo
         flags = omega (arith, more.size, agrees.flags, longer_by);
         blocks = λ b. more.each b ∙ agrees.blocks b ∙ ap (list_any (λ (c : Blk). c.0 == b)) (sym (strip_submits plan valid name how file len n));
         marks = length_push applied false ∙ ap (λ k. k + 1) agrees.marks ∙ sym (length_push plan.strips s);
-        strips = λ a. one_more applied a ∙ agrees.strips a ∙ ap (list_any (λ c. c == a)) (sym (made_applies plan.blocks (strip_block s) (λ k. refl) 0 n));
+        strips = λ a. push_unset applied a ∙ agrees.strips a ∙ ap (list_any (λ c. c == a)) (sym (made_applies plan.blocks (strip_block s) (λ k. refl) 0 n));
         count = omega (arith, agrees.count, acts);
       }
-
--- a declared block is one of the plan's
-declared_within : (plan : PlanView) (b : Blk) → is_declared plan b ≡ true → b.0 < length plan.blocks
-declared_within plan b h = ltb-true b.0 (length plan.blocks) (and_parts (ltb b.0 (length plan.blocks)) _ (and_parts (ltb 0 b.0) _ h).1).0
 
 -- they are as many
 pub length_flags : (flags : List Bool) (o : Option Blk) → length (flags_with flags o) ≡ length flags
 length_flags flags None = refl
 length_flags flags (Some c) = length-set flags c.0 true
-
--- an act's block is one of the plan's
-pub act_block_within : (plan : PlanView) (a : Act) (c : Blk) → is_act plan a ≡ true → block_of a ≡ Some c → c.0 < length plan.blocks
-act_block_within plan a c fits is = declared_within plan c (act_declared plan a c fits is)
 
 -- flags agree with the blocks that are submitted after an act
 flags_agree : (flags : List Bool) (old new : List Blk) (o : Option Blk) → ((b : ℕ) → get_or flags b false ≡ list_any (λ (d : Blk). d.0 == b) old) → ((c : Blk) → o ≡ Some c → c.0 < length flags) → ((q : ℕ) → count_by (λ (d : Blk). d.0 == q) new ≡ count_by (λ (d : Blk). d.0 == q) old + count_by (λ (d : Blk). d.0 == q) (option_to_list o)) → (q : ℕ) → get_or (flags_with flags o) q false ≡ list_any (λ (d : Blk). d.0 == q) new
@@ -337,4 +322,4 @@ module _ (meanings : List ℕ → Option Meaning) (flags applied : List Bool) (c
 -- a body of a plan is a run
 pub body_runs : (plan : PlanView) (r : Run) → IsBody plan r → IsRun plan r
 body_runs plan (run.Block b) body = body.0
-body_runs plan (run.Source s) body = has_kind_within plan s.0 is_source_kind body
+body_runs plan (run.Source s) body = has_object is_source_kind plan s.0 body

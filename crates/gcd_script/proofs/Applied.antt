@@ -1,5 +1,5 @@
 -- The blocks of a strip that no line applies are not submitted: acts and cancellations name declared blocks, and no other strip has them.
-use Rattle.std.proofs.Common.{ltb, ℕ, zero, suc, ◌≡◌, ◌<◌, ◌≤◌, ◌==◌, Bool, true, false, not, ◌&&◌, ◌||◌, cond, List, [], ◌∷◌, ◌++◌, length, map, Option, Some, None, is_none, option_to_list, slice_get, count_by, refl, sym, ap, ◌∙◌, subst, arith}
+use Rattle.std.proofs.Common.{ltb, ℕ, ◌≡◌, ◌<◌, ◌==◌, true, false, not, ◌&&◌, ◌||◌, cond, List, [], ◌∷◌, ◌++◌, length, map, Option, Some, None, is_none, option_to_list, slice_get, count_by, refl, sym, ap, ◌∙◌, subst, arith}
 use Rattle.std.specs.List.{flat_map, list_all, list_any}
 use Rattle.std.specs.Option.{option_map_or}
 use Rattle.std.proofs.lemmas.Bool.{ltb-true, and_parts, both_ways, eqb-true, eq-eqb, false_from_ne_true, not-true, or_from, or_parts}
@@ -7,7 +7,7 @@ use Rattle.std.proofs.lemmas.List.{nil_from_length}
 use Rattle.std.proofs.lemmas.List.Folds.{list_any-append}
 use Rattle.std.proofs.lemmas.Option.{same_Some}
 use Rattle.gcd_plan.specs.Checked.{submits}
-use Rattle.gcd_plan.specs.Kinds.{has_kind, is_group_kind, is_queue}
+use Rattle.gcd_plan.specs.Kinds.{is_queue}
 use Rattle.gcd_plan.specs.Made.{is_within, is_made, is_of_strip, intake_span, strip_span}
 use Rattle.gcd_plan.specs.PlanView.{PlanView, ObjView, BlkView, StripView}
 use Rattle.gcd_plan.specs.Validity.{IsPlan, block_of, strip_of, blocks_of, submitted_blocks, is_act, is_handler_act, is_block, is_declared, is_kind, is_object, is_work, has_fields, has_path, has_source_fields}
@@ -19,41 +19,11 @@ use Rattle.gcd_plan.specs.declared.numbers.Blk.{Blk}
 use Rattle.gcd_plan.proofs.Options.{none_from_is_none}
 use Rattle.gcd_plan.proofs.Spans.{made_of_strip}
 use Rattle.gcd_plan.proofs.Submits.{acts_counted}
-use Rattle.gcd_plan.proofs.Sums.{count_by-append, count_by-cons, count_by-map}
+use Rattle.gcd_plan.proofs.Sums.{count_by-append, count_by-cons, count_by-map, one_place}
+use Rattle.gcd_plan.proofs.Within.{act_declared}
 use Rattle.gcd_script.specs.Judged.{strips_of, applied_strips, is_unapplied}
 
 -- ## What acts name
-
-one_declared : (plan : PlanView) (b c : Blk) (before : Bool) → (before && is_declared plan b) ≡ true → ◌≡◌ {A = Option Blk} (Some b) (Some c) → is_declared plan c ≡ true
-one_declared plan b c before fits submits = subst (λ d. is_declared plan d ≡ true) (same_Some b c submits) (and_parts before (is_declared plan b) fits).1
-
--- the block that an act submits by itself is declared
-pub act_declared : (plan : PlanView) (a : Act) (c : Blk) → is_act plan a ≡ true → block_of a ≡ Some c → is_declared plan c ≡ true
-act_declared plan (Async q b) c fits is = one_declared plan b c (is_queue plan q.0) fits is
-act_declared plan (Barrier q b) c fits is = one_declared plan b c (is_queue plan q.0) fits is
-act_declared plan (Sync q b) c fits is = one_declared plan b c (is_queue plan q.0) fits is
-act_declared plan (BarrierSync q b) c fits is = one_declared plan b c (is_queue plan q.0) fits is
-act_declared plan (GroupAsync g q b) c fits is = one_declared plan b c (is_queue plan q.0) (and_parts (has_kind is_group_kind plan g.0) (is_queue plan q.0 && is_declared plan b) fits).1 is
-act_declared plan (Notify g q b) c fits is = one_declared plan b c (is_queue plan q.0) (and_parts (has_kind is_group_kind plan g.0) (is_queue plan q.0 && is_declared plan b) fits).1 is
-act_declared plan (Enter g) c fits is = cc
-act_declared plan (Leave g) c fits is = cc
-act_declared plan (GroupWait g) c fits is = cc
-act_declared plan (GroupWaitFor g ms) c fits is = cc
-act_declared plan (Signal s) c fits is = cc
-act_declared plan (Wait s) c fits is = cc
-act_declared plan (WaitFor s ms) c fits is = cc
-act_declared plan (Suspend o) c fits is = cc
-act_declared plan (Resume o) c fits is = cc
-act_declared plan (Activate o) c fits is = cc
-act_declared plan (Target o t) c fits is = cc
-act_declared plan (Merge s n) c fits is = cc
-act_declared plan (Cancel s) c fits is = cc
-act_declared plan (Retain o) c fits is = cc
-act_declared plan (Release o) c fits is = cc
-act_declared plan (Apply q a) c fits is = cc
-act_declared plan (CancelBlock b) c fits is = cc
-act_declared plan (WaitBlock b) c fits is = cc
-act_declared plan (NotifyBlock b q d) c fits is = one_declared plan d c (is_queue plan q.0) (and_parts (is_declared plan b) (is_queue plan q.0 && is_declared plan d) fits).1 is
 
 -- the strip that an act applies is one of the plan's
 pub act_strip_within : (plan : PlanView) (a : Act) (n : ℕ) → is_act plan a ≡ true → strip_of a ≡ Some n → n < length plan.strips
@@ -120,38 +90,6 @@ handler_no_strip a h = (handler_idle a h).strip
 
 pub handler_no_block : (a : Act) → is_handler_act a ≡ true → block_of a ≡ None
 handler_no_block a h = (handler_idle a h).block
-
--- ## Places in a list
-
-count_at : {A : Type 0} (p : A → Bool) (xs : List A) (i : ℕ) (x : A) → slice_get xs i ≡ Some x → p x ≡ true → 1 ≤ count_by p xs
-count_at p [] i x at h = cc
-count_at p (y ∷ xs) zero x at h =
-    let step = count_by-cons p y xs in
-    let own : ◌≡◌ {A = ℕ} (cond (p y) 1 0) 1 = ap (λ v. cond v 1 0) (ap p (same_Some y x at) ∙ h) in
-    omega (arith, step, own)
-count_at p (y ∷ xs) (suc i) x at h =
-    let step = count_by-cons p y xs in
-    let rest = count_at p xs i x at h in
-    omega (arith, step, rest)
-
--- what passes at two places, where one alone does, is at one place
-one_place : {A : Type 0} (p : A → Bool) (xs : List A) (i j : ℕ) (x y : A) → slice_get xs i ≡ Some x → slice_get xs j ≡ Some y → p x ≡ true → p y ≡ true → count_by p xs ≤ 1 → i ≡ j
-one_place p [] i j x y at there h k few = cc
-one_place p (z ∷ xs) zero zero x y at there h k few = refl
-one_place p (z ∷ xs) zero (suc j) x y at there h k few =
-    let step = count_by-cons p z xs in
-    let own : ◌≡◌ {A = ℕ} (cond (p z) 1 0) 1 = ap (λ v. cond v 1 0) (ap p (same_Some z x at) ∙ h) in
-    let rest = count_at p xs j y there k in
-    absurd (omega (arith, step, own, rest, few))
-one_place p (z ∷ xs) (suc i) zero x y at there h k few =
-    let step = count_by-cons p z xs in
-    let own : ◌≡◌ {A = ℕ} (cond (p z) 1 0) 1 = ap (λ v. cond v 1 0) (ap p (same_Some z y there) ∙ k) in
-    let rest = count_at p xs i x at h in
-    absurd (omega (arith, step, own, rest, few))
-one_place p (z ∷ xs) (suc i) (suc j) x y at there h k few =
-    let step = count_by-cons p z xs in
-    let fewer : count_by p xs ≤ 1 = omega (arith, step, few) in
-    ap suc (one_place p xs i j x y at there h k fewer)
 
 -- ## The acts and the cancellation block of an object
 

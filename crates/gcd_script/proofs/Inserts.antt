@@ -3,12 +3,13 @@ use Rattle.std.proofs.Common.{ℕ, ◌≡◌, ◌≤◌, ◌+◌, Bool, true, fa
 use Rattle.std.specs.List.{list_all}
 use Rattle.std.specs.Option.{option_or}
 use Rattle.std.specs.Str.{bytes_eq}
-use Rattle.std.proofs.lemmas.Bool.{and_from, and_parts, not_from_false}
+use Rattle.std.proofs.lemmas.Bool.{and_from, and_parts, not_from_false, not-true}
 use Rattle.std.proofs.lemmas.List.{append_assoc, append-nil, map_push}
 use Rattle.gcd_plan.specs.Names.{is_name}
 use Rattle.gcd_plan.specs.PlanView.{PlanView, ObjView, BlkView, FileView, StripView}
 use Rattle.gcd_plan.specs.Validity.{declared_names, names_of}
 use Rattle.gcd_plan.proofs.Sums.{count_by-append, count_by-cons}
+use Rattle.gcd_plan.proofs.Options.{none_from_is_none}
 use Rattle.gcd_script.specs.declared.meaning.Meaning.TheVariants.{File, Object, Block, Strip}
 use Rattle.gcd_script.specs.Names.{place_of, meaning_among, meaning_of, is_unused}
 use Rattle.gcd_script.specs.Changes.{with_file, with_object, with_block}
@@ -115,21 +116,13 @@ pub no_map : {X Y : Type 0} (f : X → Y) (o : Option X) → option_map f o ≡ 
 no_map f None h = refl
 no_map f (Some x) h = cc
 
-none_from : {X : Type 0} (o : Option X) → is_none o ≡ true → o ≡ None
-none_from None h = refl
-none_from (Some x) h = cc
-
-false_from_not : (b : Bool) → not b ≡ true → b ≡ false
-false_from_not true h = cc
-false_from_not false h = refl
-
 pub fit_from : (plan : PlanView) (name : List ℕ) → is_unused plan name ≡ true → IsFit plan name
 unfolding meaning_of
 fit_from plan name h =
     let parts = and_parts (is_name name) (not (bytes_eq name (codes "main")) && is_none (meaning_of plan name)) h in
     let others = and_parts (not (bytes_eq name (codes "main"))) (is_none (meaning_of plan name)) parts.1 in
-    let free = false_from_not (bytes_eq name (codes "main")) others.0 in
-    let none = none_from (meaning_of plan name) others.1 in
+    let free = not-true (bytes_eq name (codes "main")) others.0 in
+    let none = none_from_is_none (meaning_of plan name) others.1 in
     let usable : (is_name name && not (bytes_eq name (codes "main"))) ≡ true = and_from (is_name name) (not (bytes_eq name (codes "main"))) parts.0 others.0 in
     record {
       formed = parts.0;

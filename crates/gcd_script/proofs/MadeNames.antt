@@ -6,16 +6,16 @@ use Rattle.std.specs.Str.{bytes_eq}
 use Rattle.std.proofs.lemmas.Bool.{and_parts, and_right, both_ways, cases_Bool, cases_lt, false_from_ne_true, not_from_false}
 use Rattle.std.proofs.lemmas.Fmt.{decimal_injective}
 use Rattle.std.proofs.lemmas.List.{append_cancel_left}
-use Rattle.std.proofs.lemmas.List.Folds.{list_all-append, list_all-map}
+use Rattle.std.proofs.lemmas.List.Folds.{list_all-append}
 use Rattle.std.proofs.lemmas.Option.{none-some, same_Some, slice_get_within}
 use Rattle.gcd_plan.specs.Limits.{max_name_bytes}
 use Rattle.gcd_plan.specs.Made.{intake_block, strip_block, is_made}
 use Rattle.gcd_plan.specs.Names.{begins_with_letter, is_letter, is_name, is_name_byte}
 use Rattle.gcd_plan.specs.PlanView.{PlanView, BlkView, StripView, name_of_blk}
 use Rattle.gcd_plan.specs.Validity.{IsPlan, declared_names, names_of}
-use Rattle.gcd_plan.proofs.Quantifiers.{list_all_get}
 use Rattle.gcd_plan.proofs.Spans.{Maker, by_intake, by_strip, maker, made_block, made_stands}
 use Rattle.gcd_plan.proofs.Sums.{count_by-append, count_by-cons, count_by-map}
+use Rattle.gcd_plan.proofs.Strips.{strip_named}
 use Rattle.gcd_script.proofs.Inserts.{IsFit, absent, block_names, strip_names}
 use Rattle.gcd_script.proofs.Places.{bytes_same, count_none, same_bytes}
 
@@ -211,13 +211,6 @@ front_same (x ∷ xs) (y ∷ ys) us vs p q same =
 
 name_bytes : (x : List ℕ) → is_name x ≡ true → list_all is_name_byte x ≡ true
 name_bytes x named = (and_parts (leb (length x) max_name_bytes) (list_all is_name_byte x) (and_parts (begins_with_letter x) _ named).1).1
-
--- the name of a strip of a valid plan
-pub strip_named : (plan : PlanView) → IsPlan plan → (a : ℕ) (s : StripView) → slice_get plan.strips a ≡ Some s → is_name s.name ≡ true
-strip_named plan valid a s at =
-    let outer = and_parts (list_all is_name (map (λ f. f.name) plan.files)) _ (sym (list_all-append is_name (map (λ f. f.name) plan.files) (map (λ o. o.name) plan.objects ++ strip_names plan)) ∙ valid.names) in
-    let inner = and_parts (list_all is_name (map (λ o. o.name) plan.objects)) _ (sym (list_all-append is_name (map (λ o. o.name) plan.objects) (strip_names plan)) ∙ outer.1) in
-    list_all_get (λ (t : StripView). is_name t.name) plan.strips a s (sym (list_all-map is_name (λ (t : StripView). t.name) plan.strips) ∙ inner.1) at
 
 -- the name of an intake's block is new, where the plan has no intake
 pub intake_fresh : (plan : PlanView) (valid : IsPlan plan) → plan.intake ≡ None → (k : ℕ) → count_by (bytes_eq (intake_block k).name) (names_of plan) ≡ 0

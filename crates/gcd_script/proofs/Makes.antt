@@ -1,5 +1,5 @@
 -- An intake or a strip more keeps a plan valid, and submits nothing.
-use Rattle.std.proofs.Common.{ℕ, zero, suc, ◌≡◌, ◌<◌, ◌≤◌, ◌⊎◌, inl, inr, ◌+◌, ◌==◌, Bool, true, false, ◌&&◌, ◌||◌, cond, leb, codes, List, [], ◌∷◌, ◌++◌, length, take, drop, map, Option, Some, None, is_none, option_to_list, slice_get, count_by, sum_by, refl, sym, ap, ◌∙◌, subst, ⊎_elim, arith}
+use Rattle.std.proofs.Common.{ℕ, zero, suc, ◌≡◌, ◌<◌, ◌≤◌, ◌⊎◌, inl, inr, ◌+◌, ◌==◌, Bool, true, false, ◌&&◌, ◌||◌, cond, leb, codes, List, [], ◌∷◌, ◌++◌, length, take, drop, map, Some, None, is_none, option_to_list, slice_get, count_by, sum_by, refl, sym, ap, ◌∙◌, subst, ⊎_elim, arith}
 use Rattle.std.specs.List.{flat_map, list_any, range_with_len}
 use Rattle.std.specs.Option.{option_map_or, option_map}
 use Rattle.std.specs.Str.{bytes_eq}
@@ -22,10 +22,13 @@ use Rattle.gcd_plan.proofs.MadeBlocks.{within_from, without}
 use Rattle.gcd_plan.proofs.Places.{slice_get-append_left, slice_get_kept}
 use Rattle.gcd_plan.proofs.Spans.{made_of_intake, no_span_past}
 use Rattle.gcd_plan.proofs.Sums.{count_by-cons}
+use Rattle.gcd_plan.proofs.Within.{has_main}
+use Rattle.gcd_plan.proofs.Options.{none_from_is_none}
 use Rattle.gcd_script.specs.Changes.{new_intake, with_intake}
 use Rattle.gcd_script.proofs.Growth.{Grows, list_all_map, object_grows, block_grows}
 use Rattle.gcd_script.proofs.MadeKept.{strips_stay}
 use Rattle.gcd_script.proofs.MadeNames.{all_made, apart_both, intake_fresh, made_apart, made_found, made_names}
+use Rattle.gcd_script.proofs.Valid.{first_name, first_idle}
 
 -- ## Lists
 
@@ -50,19 +53,6 @@ at_end xs made n size = ap (λ l. take n l) (drop-append_seam xs made) ∙ ap (�
 cases_le : (m k : ℕ) → (m ≤ k) ⊎ (k < m)
 cases_le m k = ⊎_elim (λ less. inr less) (λ more. inl more) (cases_lt k m)
 
--- main stands
-main_there : (blocks : List BlkView) → option_map (λ (b : BlkView). b.name) (slice_get blocks 0) ≡ Some (codes "main") → 1 ≤ length blocks
-main_there [] h = cc
-main_there (b ∷ blocks) h = omega arith
-
-first_name : (blocks more : List BlkView) (name : List ℕ) → option_map (λ (b : BlkView). b.name) (slice_get blocks 0) ≡ Some name → option_map (λ (b : BlkView). b.name) (slice_get (blocks ++ more) 0) ≡ Some name
-first_name [] more name h = cc
-first_name (b ∷ blocks) more name h = h
-
-first_idle : (blocks more : List BlkView) → option_map_or (λ (b : BlkView). is_none b.work) (slice_get blocks 0) false ≡ true → option_map_or (λ (b : BlkView). is_none b.work) (slice_get (blocks ++ more) 0) false ≡ true
-first_idle [] more h = cc
-first_idle (b ∷ blocks) more h = h
-
 -- ## What both have in common: a span of made blocks behind the others
 
 module _ (plan : PlanView) (valid : IsPlan plan) (new : PlanView) (make : ℕ → BlkView) (a n : ℕ) (idle : (k : ℕ) → (make k).acts ≡ []) (blocks : new.blocks ≡ plan.blocks ++ map make (range_with_len a n)) where
@@ -77,7 +67,7 @@ module _ (plan : PlanView) (valid : IsPlan plan) (new : PlanView) (make : ℕ �
 
   pub behind : is_among_blocks new span ≡ true
   behind =
-      let some = main_there plan.blocks valid.main in
+      let some = has_main plan.blocks valid.main in
       and_from (leb 1 (length plan.blocks)) (leb (length plan.blocks + n) (length new.blocks)) (le-leb 1 (length plan.blocks) some)
       (le-leb (length plan.blocks + n) (length new.blocks) (omega (arith, longer)))
 
@@ -142,10 +132,6 @@ module _ (plan : PlanView) (valid : IsPlan plan) (new : PlanView) (make : ℕ �
 
 -- ## An intake
 
-none_is : {X : Type 0} (o : Option X) → is_none o ≡ true → o ≡ None
-none_is None h = refl
-none_is (Some x) h = cc
-
 module _ (plan : PlanView) (valid : IsPlan plan) (queue : Obj) (n : ℕ) (none : is_none plan.intake ≡ true) (on : is_queue plan queue.0 ≡ true) (low : 1 ≤ n) (high : n ≤ max_intake) (room : length plan.blocks + n ≤ max_blocks) where
   abbrev i : IntakeView
   i = new_intake queue n plan
@@ -154,7 +140,7 @@ module _ (plan : PlanView) (valid : IsPlan plan) (queue : Obj) (n : ℕ) (none :
   intake_new = with_intake i plan
 
   no_intake : plan.intake ≡ None
-  no_intake = none_is plan.intake none
+  no_intake = none_from_is_none plan.intake none
 
   old_made : (b : ℕ) → is_made plan b ≡ list_any (is_within b) (map strip_span plan.strips)
   old_made b = ap (λ o. list_any (is_within b) (map intake_span (option_to_list o) ++ map strip_span plan.strips)) no_intake

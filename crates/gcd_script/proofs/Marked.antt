@@ -1,5 +1,6 @@
 -- Flags that are set one after the other, and flags more that are not set.
 use Rattle.std.proofs.Common.{ℕ, zero, suc, ◌≡◌, ◌<◌, ◌+◌, Bool, true, false, ◌||◌, List, [], ◌∷◌, ◌++◌, length, set, get_or, refl, sym, ap, ◌∙◌, ⊎_elim, arith}
+use Rattle.std.specs.Cmp.Derive.{one_truth}
 use Rattle.std.proofs.Math.Bool.{or-false}
 use Rattle.std.proofs.lemmas.Bool.{cases_eq, or_right}
 use Rattle.std.proofs.lemmas.List.{get_or-set_other, get_or-set_same, length-set, length_push}
@@ -18,16 +19,10 @@ none_set flags first = record {
       sym (ap (λ v. get_or flags q false || v) (without q (span_of first 0) (λ low high. absurd (omega (arith, low, high)))) ∙ or-false (get_or flags q false));
 }
 
--- tests that hold one where the other does
-alike : (x y : Bool) → (x ≡ true → y ≡ true) → (y ≡ true → x ≡ true) → x ≡ y
-alike true y there back = sym (there refl)
-alike false true there back = back refl
-alike false false there back = refl
-
 -- another number is of the longer span where it is of the shorter
 within_before : (q first k : ℕ) → (first + k ≡ q → ⊥) → is_within q (span_of first k) ≡ is_within q (span_of first (k + 1))
 within_before q first k other =
-    alike (is_within q (span_of first k)) (is_within q (span_of first (k + 1)))
+    one_truth (is_within q (span_of first k)) (is_within q (span_of first (k + 1)))
     (λ is. let parts = within_parts q (span_of first k) is in within_from q (span_of first (k + 1)) parts.0 (omega (arith, parts.1)))
     (λ is.
     let parts = within_parts q (span_of first (k + 1)) is in
@@ -52,7 +47,7 @@ one_set old flags first k before within = record {
 }
 
 -- one flag more that is not set
-push_unset : (flags : List Bool) (q : ℕ) → get_or (flags ++ false ∷ []) q false ≡ get_or flags q false
+pub push_unset : (flags : List Bool) (q : ℕ) → get_or (flags ++ false ∷ []) q false ≡ get_or flags q false
 push_unset [] zero = refl
 push_unset [] (suc q) = refl
 push_unset (flag ∷ flags) zero = refl

@@ -1,5 +1,5 @@
 -- Which words are numbers of a range.
-use Rattle.std.proofs.Common.{ℕ, ◌≡◌, ◌≢◌, ◌<◌, ◌≤◌, true, ◌&&◌, cond, leb, List, Ok, Err, decimal, sym, ap, ◌∙◌, subst, arith}
+use Rattle.std.proofs.Common.{ℕ, ◌≡◌, ◌<◌, ◌≤◌, true, ◌&&◌, cond, leb, List, Ok, Err, decimal, sym, ap, ◌∙◌, subst, arith}
 use Rattle.std.specs.Str.{bytes_eq}
 use Rattle.std.specs.Str.Parse.{digits_value}
 use Rattle.std.proofs.lemmas.Bool.{and_parts, and_from, le-leb, leb-true, false_from_ne_true}
@@ -47,7 +47,3 @@ number_low low high word n written small under =
 pub number_high : (low high : ℕ) (word : List ℕ) (n : ℕ) → word ≡ decimal n → n < number_end → high < n → number low high word ≡ Err BadNumber
 number_high low high word n written small over =
     not_number low high word (λ h. let is = ranged low high word h in let same = value_is word n written small in omega (arith, is.below))
-
-pub number_none : (low high : ℕ) (word : List ℕ) → high < number_end → ((n : ℕ) → n < number_end → word ≢ decimal n) → number low high word ≡ Err BadNumber
-number_none low high word small none =
-    not_number low high word (λ h. let is = ranged low high word h in none (digits_value 10 word) (omega (arith, is.below)) is.written)

@@ -7,7 +7,6 @@ use Rattle.gcd_plan.specs.Validity.{IsPlan}
 use Rattle.gcd_script.specs.declared.fault.ParseFault.{ParseFault}
 use Rattle.gcd_script.specs.declared.fault.ParseFault.TheVariants.{Refused, Memory}
 use Rattle.gcd_script.specs.declared.line.Line.{Line}
-use Rattle.gcd_script.specs.declared.line.Line.TheVariants.{DeclareFile, DeclareObject, DeclareBlock, SetUntil, SetCancel, OpenHandler, OpenMain, AddAct, DeclareIntake, DeclareStrip}
 use Rattle.gcd_script.specs.declared.refusal.Refusal.{Refusal}
 use Rattle.gcd_script.specs.declared.refusal.Refusal.TheVariants.{NoForm, NotOneMain}
 use Rattle.gcd_script.specs.Changes.{change, after}
@@ -71,19 +70,6 @@ lines_sound (line ∷ lines) d e sound h =
       | Ok next ↦ λ is k. lines_sound lines next e (line_sound d sound line next is) k
       | Err why ↦ λ is k. cc
     ] refl h
-
--- a change counts no line
-pub change_lines : (line : Line (List ℕ)) (d : DraftView) → (change line d).lines ≡ d.lines
-change_lines (DeclareFile name path) d = refl
-change_lines (DeclareObject name kind target active path) d = refl
-change_lines (DeclareBlock name work) d = refl
-change_lines (SetUntil ms) d = refl
-change_lines (SetCancel s b) d = refl
-change_lines (OpenHandler s) d = refl
-change_lines OpenMain d = refl
-change_lines (AddAct run act) d = refl
-change_lines (DeclareIntake queue count) d = refl
-change_lines (DeclareStrip name how file len count) d = refl
 
 -- the lines of a text that are left lead where all of them lead
 abbrev pub Leads : (bytes : List ℕ) → DraftView → (rest : List ℕ) → Type 0

@@ -11,6 +11,7 @@ use Rattle.gcd_plan.specs.declared.act.Act.TheVariants as act
 use Rattle.gcd_plan.specs.declared.numbers.Blk.{Blk}
 use Rattle.gcd_plan.specs.declared.numbers.Obj.{Obj}
 use Rattle.gcd_plan.specs.declared.numbers.Run.{Run}
+use Rattle.gcd_plan.proofs.Within.{has_object}
 use Rattle.gcd_script.specs.declared.keyword.Submission.{Submission}
 use Rattle.gcd_script.specs.declared.keyword.Submission.TheVariants.{Async, Barrier, Sync, BarrierSync}
 use Rattle.gcd_script.specs.declared.keyword.GroupSubmission.{GroupSubmission}
@@ -32,7 +33,6 @@ use Rattle.gcd_script.specs.Sound.{Fits}
 use Rattle.gcd_script.specs.Words.{number, block, queue, strip, object, object_but_root}
 use Rattle.gcd_script.proofs.Inversions.{made_of, both_are, in_range}
 use Rattle.gcd_script.proofs.Known.{block_declared, strip_within, object_asked, object_above}
-use Rattle.gcd_script.proofs.Targets.{has_kind_within}
 
 submitting_fits : (plan : PlanView) (how : Submission) (q : Obj) (b : Blk) → is_queue plan q.0 ≡ true → is_declared plan b ≡ true → is_act plan (submitting how q b) ≡ true
 submitting_fits plan Async q b on is = and_from (is_queue plan q.0) (is_declared plan b) on is
@@ -49,7 +49,7 @@ group_submitting_fits plan Notify g q b of on is =
 referred_fits : (plan : PlanView) (o : Obj) → ltb 0 o.0 ≡ true → has_kind (λ kind. true) plan o.0 ≡ true → (ltb 0 o.0 && ltb o.0 (length plan.objects)) ≡ true
 referred_fits plan o above is =
     and_from (ltb 0 o.0) (ltb o.0 (length plan.objects)) above
-    (lt-ltb o.0 (length plan.objects) (has_kind_within plan o.0 (λ kind. true) is))
+    (lt-ltb o.0 (length plan.objects) (has_object (λ kind. true) plan o.0 is))
 
 held_fits : (plan : PlanView) (o : Obj) → ltb 0 o.0 ≡ true → has_kind is_node_kind plan o.0 ≡ true → (ltb 0 o.0 && has_kind is_node_kind plan o.0) ≡ true
 held_fits plan o above is = and_from (ltb 0 o.0) (has_kind is_node_kind plan o.0) above is

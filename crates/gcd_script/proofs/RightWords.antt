@@ -12,6 +12,7 @@ use Rattle.gcd_plan.specs.declared.kind.Kind.TheVariants.{Serial, Concurrent, Gr
 use Rattle.gcd_plan.specs.declared.numbers.Obj.{Obj}
 use Rattle.gcd_plan.specs.declared.work.How.{How}
 use Rattle.gcd_plan.specs.declared.work.Work.{Work}
+use Rattle.gcd_plan.proofs.Within.{root_is_queue}
 use Rattle.gcd_script.specs.declared.line.Line.{Line}
 use Rattle.gcd_script.specs.declared.line.Line.TheVariants.{DeclareFile, DeclareObject, DeclareBlock, SetUntil, SetCancel, OpenHandler, OpenMain, DeclareIntake, DeclareStrip}
 use Rattle.gcd_script.specs.declared.refusal.Refusal.TheVariants.{NoForm, BadName}
@@ -25,7 +26,6 @@ use Rattle.gcd_script.specs.Sound.{IsDraft, Fits}
 use Rattle.gcd_script.specs.Words.{new_name, path, number, file, block, queue, source}
 use Rattle.gcd_script.proofs.Inversions.{made_of, both_are, held, passed, in_range, one_is}
 use Rattle.gcd_script.proofs.Known.{file_within, block_declared, object_asked}
-use Rattle.gcd_script.proofs.Targets.{root_is_queue}
 
 -- an object is a queue, or has nothing beside its kind, or is a source
 queue_object : (plan : PlanView) (name : List ℕ) (kind : Kind) (target : Obj) (active : Bool) → is_queue_kind kind ≡ true → is_queue plan target.0 ≡ true → is_object plan (new_object name kind target active []) ≡ true

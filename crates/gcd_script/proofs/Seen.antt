@@ -1,12 +1,7 @@
 -- Answers of std as the definitions see them.
-use Rattle.std.proofs.Common.{◌≡◌, length, map, vec_len, Bool, true, false, not, Option, is_some, is_none, sym, ap, ◌∙◌}
+use Rattle.std.proofs.Common.{◌≡◌, length, map, vec_len, sym, ◌∙◌}
 use Rattle.std.proofs.lemmas.List.{length-map}
 use Rattle.std.specs.declared.vec.Vec.{Vec}
-
--- what `is_none` answers
-pub none_answer : {X : Type 0} (o : Option X) (answer : Bool) → is_some o ≡ not answer → answer ≡ is_none o
-none_answer o true h = ap not (sym h)
-none_answer o false h = ap not (sym h)
 
 -- the length of a vector is that of the list that it is seen as
 pub seen_length : {X Y Z : Type 0} (f : X → Y) (v : Vec X Z) → vec_len v ≡ length (map f v.items)

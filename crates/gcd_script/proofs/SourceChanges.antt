@@ -1,5 +1,5 @@
 -- One act more in a source's handler, and a source's cancellation block.
-use Rattle.std.proofs.Common.{ℕ, ◌≡◌, ◌<◌, ◌+◌, ◌==◌, Bool, true, ◌&&◌, List, [], ◌∷◌, ◌++◌, length, map, Option, Some, None, is_none, option_to_list, count_by, refl, sym, ap, ◌∙◌, arith}
+use Rattle.std.proofs.Common.{ℕ, ◌≡◌, ◌<◌, ◌+◌, ◌==◌, Bool, true, ◌&&◌, List, [], ◌∷◌, ◌++◌, length, map, Some, None, is_none, option_to_list, count_by, refl, sym, ap, ◌∙◌, arith}
 use Rattle.std.specs.Option.{option_and_then}
 use Rattle.std.proofs.lemmas.Bool.{and_from}
 use Rattle.std.proofs.lemmas.List.{append-nil, length_push}
@@ -12,16 +12,13 @@ use Rattle.gcd_plan.specs.declared.numbers.Blk.{Blk}
 use Rattle.gcd_plan.specs.declared.numbers.Obj.{Obj}
 use Rattle.gcd_plan.proofs.Sums.{count_by-append}
 use Rattle.gcd_plan.proofs.Quantifiers.{list_all_get, list_all_push}
+use Rattle.gcd_plan.proofs.Options.{none_from_is_none}
 use Rattle.gcd_script.specs.Changes.{with_object_at, object_with_act, with_cancel}
 use Rattle.gcd_script.specs.Judged.{is_free, is_untaken_by}
 use Rattle.gcd_script.proofs.Growth.{Grows}
 use Rattle.gcd_script.proofs.ObjectChanges as change
-use Rattle.gcd_script.proofs.ObjectChanges.{StandsAsSource, Keeps, own_of, own_fields, still_object}
+use Rattle.gcd_script.proofs.ObjectChanges.{StandsAsSource, Keeps, own_fields, still_object}
 use Rattle.gcd_script.proofs.Submitted.{act_once, once_more}
-
-none_is : {X : Type 0} (o : Option X) → is_none o ≡ true → o ≡ None
-none_is None h = refl
-none_is (Some x) h = cc
 
 -- the blocks that a handler submits with one act more
 joined : (plan : PlanView) (acts : List Act) (act : Act) (rest : List Blk) (p : Blk → Bool) → count_by p (blocks_of plan (acts ++ act ∷ []) ++ rest) ≡ count_by p (blocks_of plan acts ++ rest) + count_by p (blocks_by plan act)
@@ -102,7 +99,7 @@ module _ (plan : PlanView) (valid : IsPlan plan) (s : Obj) (at : StandsAsSource 
     cancel_names = change.same_map plan valid s.0 at.above at.object at.stands cancelled keeps_cancel (λ obj. obj.name) refl
 
     no_cancel : at.object.cancel ≡ None
-    no_cancel = none_is at.object.cancel (ap (λ o. is_none (option_and_then (λ (obj : ObjView). obj.cancel) o)) (sym at.stands) ∙ lacks)
+    no_cancel = none_from_is_none at.object.cancel (ap (λ o. is_none (option_and_then (λ (obj : ObjView). obj.cancel) o)) (sym at.stands) ∙ lacks)
 
     pub cancel_submitted : (q : ℕ) → count_by (λ (c : Blk). c.0 == q) (submitted_blocks cancel_new) ≡ count_by (λ (c : Blk). c.0 == q) (submitted_blocks plan) + count_by (λ (c : Blk). c.0 == q) (option_to_list (Some b))
     cancel_submitted q =

@@ -1,8 +1,8 @@
 -- Which blocks are submitted, and what one submission more changes.
-use Rattle.std.proofs.Common.{ℕ, ◌≡◌, ◌<◌, ◌≤◌, ◌+◌, ◌==◌, Bool, true, false, not, ◌||◌, cond, ltb, List, [], ◌∷◌, length, set, Option, Some, None, option_to_list, get_or, count_by, refl, sym, ap, ◌∙◌, subst, ⊎_elim, zero-add, arith}
+use Rattle.std.proofs.Common.{ℕ, ◌≡◌, ◌<◌, ◌≤◌, ◌+◌, ◌==◌, Bool, true, false, ◌||◌, cond, ltb, List, [], ◌∷◌, length, set, Option, Some, None, option_to_list, get_or, count_by, refl, sym, ap, ◌∙◌, subst, ⊎_elim, zero-add, arith}
 use Rattle.std.specs.List.{list_any}
 use Rattle.std.specs.Option.{option_map_or}
-use Rattle.std.proofs.lemmas.Bool.{and_parts, cases_Bool, eqb-true, eqb-false, lt-ltb}
+use Rattle.std.proofs.lemmas.Bool.{and_parts, cases_Bool, eqb-true, eqb-false, lt-ltb, not-true}
 use Rattle.std.proofs.lemmas.List.{get_or-set_same, get_or-set_other}
 use Rattle.gcd_plan.specs.PlanView.{PlanView}
 use Rattle.gcd_plan.specs.Validity.{IsPlan, block_of, strip_of, blocks_by, is_act, submitted_blocks}
@@ -30,14 +30,10 @@ any_counts p (x ∷ xs) =
 pub one_count : (c : Blk) (q : ℕ) → count_by (λ (d : Blk). d.0 == q) (option_to_list (Some c)) ≡ cond (c.0 == q) 1 0
 one_count c q = zero-add (cond (c.0 == q) 1 0)
 
-false_from_not : (b : Bool) → not b ≡ true → b ≡ false
-false_from_not true h = cc
-false_from_not false h = refl
-
 -- a block that no line submits is counted nowhere
 pub free_count : (plan : PlanView) (c : Blk) → is_free plan c ≡ true → count_by (λ (d : Blk). d.0 == c.0) (submitted_blocks plan) ≡ 0
 free_count plan c free =
-    count_by_none (λ (d : Blk). d.0 == c.0) (submitted_blocks plan) (false_from_not (list_any (λ (d : Blk). d.0 == c.0) (submitted_blocks plan)) free)
+    count_by_none (λ (d : Blk). d.0 == c.0) (submitted_blocks plan) (not-true (list_any (λ (d : Blk). d.0 == c.0) (submitted_blocks plan)) free)
 
 -- one free block more, or none, leaves each submitted once
 pub once_more : (plan : PlanView) → IsPlan plan → (o : Option Blk) → option_map_or (is_free plan) o true ≡ true → (q : ℕ) → count_by (λ (d : Blk). d.0 == q) (submitted_blocks plan) + count_by (λ (d : Blk). d.0 == q) (option_to_list o) ≤ 1

@@ -18,12 +18,13 @@ use Rattle.gcd_plan.specs.declared.numbers.Obj.{Obj}
 use Rattle.gcd_plan.specs.declared.work.Work.{Work}
 use Rattle.gcd_plan.proofs.Places.{slice_get_kept, slice_get-append_left, slice_get-append_seam}
 use Rattle.gcd_plan.proofs.Quantifiers.{list_all_push}
+use Rattle.gcd_plan.proofs.Within.{target_is_queue, has_object}
 use Rattle.gcd_script.specs.Changes.{new_file, new_object, with_file, with_object, with_block}
 use Rattle.gcd_script.specs.Drafts.{new_block}
 use Rattle.gcd_script.proofs.Growth.{Grows, list_all_map, object_grows, block_grows}
 use Rattle.gcd_script.proofs.Inserts.{IsFit, block_names, inserts_before, list_all_insert, apart_insert, fit_is_new, file_inserts, object_inserts, block_inserts}
 use Rattle.gcd_script.proofs.MadeKept.{intake_stays, strips_stay}
-use Rattle.gcd_script.proofs.Targets.{first_kept, one_more_reaches, target_is_queue, has_kind_within}
+use Rattle.gcd_script.proofs.Targets.{first_kept, one_more_reaches}
 use Rattle.gcd_script.specs.Judged.{applied_strips, strips_of}
 
 -- kinds stay where objects are added
@@ -35,11 +36,11 @@ kinds_kept objects more o kind h =
     ] refl h
 
 -- the first of a list stays where more follow
-first_name : (blocks more : List BlkView) (name : List ℕ) → option_map (λ (b : BlkView). b.name) (slice_get blocks 0) ≡ Some name → option_map (λ (b : BlkView). b.name) (slice_get (blocks ++ more) 0) ≡ Some name
+pub first_name : (blocks more : List BlkView) (name : List ℕ) → option_map (λ (b : BlkView). b.name) (slice_get blocks 0) ≡ Some name → option_map (λ (b : BlkView). b.name) (slice_get (blocks ++ more) 0) ≡ Some name
 first_name [] more name h = cc
 first_name (b ∷ blocks) more name h = h
 
-first_idle : (blocks more : List BlkView) → option_map_or (λ (b : BlkView). is_none b.work) (slice_get blocks 0) false ≡ true → option_map_or (λ (b : BlkView). is_none b.work) (slice_get (blocks ++ more) 0) false ≡ true
+pub first_idle : (blocks more : List BlkView) → option_map_or (λ (b : BlkView). is_none b.work) (slice_get blocks 0) false ≡ true → option_map_or (λ (b : BlkView). is_none b.work) (slice_get (blocks ++ more) 0) false ≡ true
 first_idle [] more h = cc
 first_idle (b ∷ blocks) more h = h
 
@@ -146,7 +147,7 @@ module _ (plan : PlanView) (valid : IsPlan plan) where
         blocks = list_all_map (is_block plan) (is_block new) (block_grows plan new grows) plan.blocks valid.blocks;
         files = valid.files;
         once = λ b. subst (λ xs. count_by (λ (c : Blk). c.0 == b) xs ≤ 1) (sym (object_submits plan name kind target active path)) (valid.once b);
-        targets = one_more_reaches plan new object valid refl (has_kind_within plan target.0 is_queue_kind queue);
+        targets = one_more_reaches plan new object valid refl (has_object is_queue_kind plan target.0 queue);
       }
 
   -- one block more

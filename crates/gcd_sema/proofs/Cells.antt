@@ -75,43 +75,40 @@ agree_set : (s : ℕ) (xs : List ℕ) (x : ℕ) → Agree s xs (set xs s x)
 agree_set s xs x = record { long = length-set xs s x; others = λ t apart. get_or-set_other xs s t x 0 apart }
 
 module _ {f sg g l r b : List ℕ} {e : List Bool} {v : SemasView} (sh : Shows f sg g l r b e v) (s : ℕ) (lt : s < length v.waits) where
-  within : s < length f
-  within = let long = length-map-range_with_len (waits_in e b g) 0 (length f) in let same = ap (λ w. length w.waits) sh.seen in omega (arith, lt, long, same)
-
   pub in_firsts : s < length f
-  in_firsts = within
+  in_firsts = let long = length-map-range_with_len (waits_in e b g) 0 (length f) in let same = ap (λ w. length w.waits) sh.seen in omega (arith, lt, long, same)
 
   pub in_signals : s < length sg
-  in_signals = omega (arith, within, sh.cells.signals_long)
+  in_signals = omega (arith, in_firsts, sh.cells.signals_long)
 
   pub in_given : s < length g
-  in_given = omega (arith, within, sh.cells.given_long)
+  in_given = omega (arith, in_firsts, sh.cells.given_long)
 
   pub in_left : s < length l
-  in_left = omega (arith, within, sh.cells.left_long)
+  in_left = omega (arith, in_firsts, sh.cells.left_long)
 
   pub in_reached : s < length r
-  in_reached = omega (arith, within, sh.cells.reached_long)
+  in_reached = omega (arith, in_firsts, sh.cells.reached_long)
 
   pub in_bases : s < length b
-  in_bases = omega (arith, within, sh.cells.bases_long)
+  in_bases = omega (arith, in_firsts, sh.cells.bases_long)
 
   -- the cells of the semaphore end within the array
   pub cells_end : slice_index b s + slice_index g s ≤ length e
   cells_end =
-      let rises = sh.cells.apart (s + 1) (length f) (omega (arith, within)) (omega arith) in
-      let room = sh.cells.room s within in
+      let rises = sh.cells.apart (s + 1) (length f) (omega (arith, in_firsts)) (omega arith) in
+      let room = sh.cells.room s in_firsts in
       omega (arith, room, rises, sh.cells.whole)
 
   made_here : get_or (map (waits_in e b g) (range_with_len 0 (length f))) s [] ≡ waits_in e b g s
-  made_here = get_or-map-range_with_len (waits_in e b g) 0 (length f) s s [] within (omega arith)
+  made_here = get_or-map-range_with_len (waits_in e b g) 0 (length f) s s [] in_firsts (omega arith)
 
   pub waits_seen : waits_in e b g s ≡ expiries_at v s
   waits_seen = sym made_here ∙ ap (λ w. expiries_at w s) sh.seen
 
   pub room_seen : room_in b s ≡ room_at v s
   room_seen =
-      sym (get_or-map-range_with_len (room_in b) 0 (length f) s s 0 within (omega arith))
+      sym (get_or-map-range_with_len (room_in b) 0 (length f) s s 0 in_firsts (omega arith))
       ∙ ap (λ w. room_at w s) sh.seen
 
   pub passes_seen : slice_index f s + slice_index sg s ≡ passes_at v s
@@ -121,7 +118,7 @@ module _ {f sg g l r b : List ℕ} {e : List Bool} {v : SemasView} (sh : Shows f
   signals_seen = ap (λ w. signals_at w s) sh.seen
 
   pub kept_seen : IsKept (passes_at v s) (slice_index g s) (slice_index l s) (slice_index r s) (expiries_at v s)
-  kept_seen = kept_same passes_seen refl refl refl waits_seen (sh.cells.kept s within)
+  kept_seen = kept_same passes_seen refl refl refl waits_seen (sh.cells.kept s in_firsts)
 
   pub given_seen : slice_index g s ≡ waits_at v s
   given_seen = sym kept_seen.long
@@ -130,12 +127,12 @@ module _ {f sg g l r b : List ℕ} {e : List Bool} {v : SemasView} (sh : Shows f
   left_seen = kept_seen.alive
 
   pub in_next : s + 1 < length b
-  in_next = omega (arith, within, sh.cells.bases_long)
+  in_next = omega (arith, in_firsts, sh.cells.bases_long)
 
   module _ (base next : ℕ) (br : base ≡ get_or b s base) (xr : next ≡ get_or b (s + 1) next) where
     pub base_low : base ≤ next
     base_low =
-        let rises = sh.cells.apart s (s + 1) (omega arith) (omega (arith, within)) in
+        let rises = sh.cells.apart s (s + 1) (omega arith) (omega (arith, in_firsts)) in
         omega (arith, rises, get_or_read b s base in_bases br 0, get_or_read b (s + 1) next in_next xr 0)
 
     pub room_read : next - base ≡ room_at v s
@@ -146,7 +143,7 @@ module _ {f sg g l r b : List ℕ} {e : List Bool} {v : SemasView} (sh : Shows f
   room_left some = omega (arith, some, given_seen, room_seen)
 
   pub end_low : slice_index b (s + 1) ≤ length e
-  end_low = let rises = sh.cells.apart (s + 1) (length f) (omega (arith, within)) (omega arith) in omega (arith, rises, sh.cells.whole)
+  end_low = let rises = sh.cells.apart (s + 1) (length f) (omega (arith, in_firsts)) (omega arith) in omega (arith, rises, sh.cells.whole)
 
   -- other arrays that agree but at s
   module _ {sg' g' l' r' : List ℕ} {e' : List Bool} (sga : Agree s sg sg') (ga : Agree s g g') (la : Agree s l l') (ra : Agree s r r')
@@ -184,7 +181,7 @@ module _ {f sg g l r b : List ℕ} {e : List Bool} {v : SemasView} (sh : Shows f
   apart_from place y low high t apart below =
       elim (cases_lt t s) [
         | inl before ↦
-            let rises = sh.cells.apart (t + 1) s (omega (arith, before)) (omega (arith, within)) in
+            let rises = sh.cells.apart (t + 1) s (omega (arith, before)) (omega (arith, in_firsts)) in
             let room = sh.cells.room t below in
             part_before e y (slice_index b t) (slice_index b t + slice_index g t) place (omega arith) (omega (arith, rises, room, low))
         | inr behind ↦
@@ -197,7 +194,7 @@ module _ {f sg g l r b : List ℕ} {e : List Bool} {v : SemasView} (sh : Shows f
       → ((t : ℕ) → t ≢ s → t < length f → waits_in e' b g' t ≡ waits_in e b g t)
       → seen_as f sg' g' b e' ≡ with_all f sg' (set (map (waits_in e b g) (range_with_len 0 (length f))) s ws) b
   seen_with sg' g' e' ws here others =
-      ap (λ all. with_all f sg' all b) (made_changed [] (waits_in e' b g') (waits_in e b g) (length f) s ws within here others)
+      ap (λ all. with_all f sg' all b) (made_changed [] (waits_in e' b g') (waits_in e b g) (length f) s ws in_firsts here others)
 
   -- ---- a wait by its rank
 
@@ -260,7 +257,7 @@ module _ {f sg g l r b : List ℕ} {e : List Bool} {v : SemasView} (sh : Shows f
 
     pub left_fits : (last : ℕ) → last ≡ get_or l s last → last + 1 < 2 ^ 32
     left_fits last lr =
-        let low = few_left (sh.cells.kept s within) in omega (arith, low, room_left some, end_low, sh.cells.few, read_at l last in_left lr)
+        let low = few_left (sh.cells.kept s in_firsts) in omega (arith, low, room_left some, end_low, sh.cells.few, read_at l last in_left lr)
 
     pub cell_within : (p base : ℕ) → p ≡ get_or g s p → base ≡ get_or b s base → base + p < length e
     cell_within p base pr br = omega (arith, room_left some, end_low, read_at g p in_given pr, read_at b base in_bases br)
@@ -302,7 +299,7 @@ module _ {f sg g l r b : List ℕ} {e : List Bool} {v : SemasView} (sh : Shows f
           (kept_same refl
           (ap (λ n. n + 1) (sym p_is) ∙ sym (get_or-set_same g s (p + 1) 0 in_given))
           (ap (λ n. n + 1) (sym (read_at l last in_left lr)) ∙ sym (get_or-set_same l s (last + 1) 0 in_left))
-          (waited_to ∙ sym (get_or-set_same r s to 0 in_reached)) (sym waited_here) (waited (sh.cells.kept s within)));
+          (waited_to ∙ sym (get_or-set_same r s to 0 in_reached)) (sym waited_here) (waited (sh.cells.kept s in_firsts)));
       seen = subst (λ w. seen_as f sg (set g s (p + 1)) b (set e (base + p) false) ≡ with_wait w s) sh.seen
           (seen_with sg _ _ _ (waited_here ∙ ap (λ ws. ws ++ false ∷ []) (sym made_here)) waited_others);
     }
@@ -324,8 +321,8 @@ module _ {f sg g l r b : List ℕ} {e : List Bool} {v : SemasView} (sh : Shows f
         let set_is = get_or-set_same sg s (x + 1) 0 in_signals in
         record {
           cells = changed_cells (agree_set s sg (x + 1)) (agree_same s g) (agree_same s l) (agree_set s r to) refl (λ t apart below. refl)
-              (sh.cells.room s within)
-              (kept_same (omega (arith, set_is, x_is)) refl refl (sym (get_or-set_same r s to 0 in_reached)) refl (signalled (sh.cells.kept s within) to next_is));
+              (sh.cells.room s in_firsts)
+              (kept_same (omega (arith, set_is, x_is)) refl refl (sym (get_or-set_same r s to 0 in_reached)) refl (signalled (sh.cells.kept s in_firsts) to next_is));
           seen = subst (λ w. seen_as f (set sg s (x + 1)) g b e ≡ with_signals w s (signals_at w s + 1)) sh.seen
               (ap (λ i. seen_as f (set sg s (i + 1)) g b e) x_is);
         }
@@ -342,7 +339,7 @@ module _ {f sg g l r b : List ℕ} {e : List Bool} {v : SemasView} (sh : Shows f
       expired_others : (t : ℕ) → t ≢ s → t < length f → waits_in (set e (base + (rank - 1)) true) b g t ≡ waits_in e b g t
       expired_others t apart below =
           let base_is = read_at b base in_bases br in
-          let room = sh.cells.room s within in
+          let room = sh.cells.room s in_firsts in
           apart_from (base + (rank - 1)) true (omega (arith, base_is)) (omega (arith, base_is, room, (place_here rank first begun))) t apart below
 
       expired_here : waits_in (set e (base + (rank - 1)) true) b g s ≡ set (waits_in e b g s) (rank - 1) true
@@ -364,11 +361,11 @@ module _ {f sg g l r b : List ℕ} {e : List Bool} {v : SemasView} (sh : Shows f
       pub expired_shows : Shows f sg g (set l s (last - 1)) (set r s to) b (set e (base + (rank - 1)) true) (with_expired v s rank)
       expired_shows = record {
         cells = changed_cells (agree_same s sg) (agree_same s g) (agree_set s l (last - 1)) (agree_set s r to)
-            (length-set e (base + (rank - 1)) true) expired_others (sh.cells.room s within)
+            (length-set e (base + (rank - 1)) true) expired_others (sh.cells.room s in_firsts)
             (kept_same refl refl
             (ap (λ i. i - 1) (sym (read_at l last in_left lr)) ∙ sym (get_or-set_same l s (last - 1) 0 in_left))
             (sym (get_or-set_same r s to 0 in_reached)) (sym expired_here)
-            (expired (sh.cells.kept s within) (rank - 1) to expired_far (place_here rank first begun)
+            (expired (sh.cells.kept s in_firsts) (rank - 1) to expired_far (place_here rank first begun)
             (ap (λ xs. get_or xs (rank - 1) false) waits_seen ∙ unexpired) expired_next));
         seen = subst (λ w. seen_as f sg g b (set e (base + (rank - 1)) true) ≡ with_expired w s rank) sh.seen
             (seen_with sg _ _ _ (expired_here ∙ ap (λ xs. set xs (rank - 1) true) (sym made_here)) expired_others);

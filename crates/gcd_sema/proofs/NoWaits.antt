@@ -1,9 +1,11 @@
 -- Where no object is a group or a semaphore, no act of a valid plan waits for one.
-use Rattle.std.proofs.Common.{◌≡◌, ℕ, zero, suc, ◌+◌, ◌<◌, Bool, true, false, ◌||◌, cond, List, [], ◌∷◌, length, take, replicate, slice_index, count_by, Option, None, Some, refl, sym, ap, ◌∙◌, ⊎_elim, arith}
+use Rattle.std.proofs.Common.{◌≡◌, ℕ, ◌+◌, ◌<◌, Bool, true, false, ◌||◌, cond, List, [], ◌∷◌, length, take, replicate, slice_index, count_by, Option, None, Some, refl, sym, ap, ◌∙◌, arith}
 use Rattle.std.specs.List.{list_any, list_all, slice_get, flat_map}
 use Rattle.std.specs.Option.{option_map, option_map_or}
-use Rattle.std.proofs.lemmas.Bool.{or_cases, or_left, or_right, and_parts, both_ways, false_from_ne_true}
+use Rattle.std.proofs.lemmas.Bool.{or_left, or_right, and_parts, both_ways, false_from_ne_true}
 use Rattle.std.proofs.lemmas.List.{length-replicate}
+use Rattle.std.proofs.lemmas.Map.Keys.{any_passes_from_place}
+use Rattle.gcd_facts.proofs.Lists.{any_more, any_taken}
 use Rattle.gcd_plan.specs.Kinds.{has_kind, is_group_kind, is_semaphore_kind}
 use Rattle.gcd_plan.specs.PlanView.{PlanView, ObjView, BlkView, kind_of}
 use Rattle.gcd_plan.specs.Validity.{is_act, is_block, waits_on}
@@ -14,38 +16,6 @@ use Rattle.gcd_plan.proofs.Places.{get_or-replicate_same}
 use Rattle.gcd_plan.proofs.Sums.{count_by-cons, count_by-append}
 use Rattle.gcd_sema.specs.Awaited.{is_awaited, has_awaited}
 use Rattle.gcd_sema.specs.Rooms.{AreRooms}
-
--- ## Lists
-
--- one element more
-pub any_more : {X : Type 0} (p : X → Bool) (xs : List X) (i : ℕ) → i < length xs → list_any p (take (i + 1) xs) ≡ (list_any p (take i xs) || option_map_or p (slice_get xs i) false)
-any_more p [] i lt = absurd (omega (arith, lt))
-any_more p (x ∷ xs) zero lt = swap (p x)
-  where
-    swap : (v : Bool) → (v || false) ≡ (false || v)
-    swap true = refl
-    swap false = refl
-any_more p (x ∷ xs) (suc i) lt =
-    let e : suc i + 1 ≡ suc (i + 1) = omega arith in
-    ap (λ n. list_any p (take n (x ∷ xs))) e ∙ (ap (λ v. p x || v) (any_more p xs i (omega (arith, lt))) ∙ regroup (p x) (list_any p (take i xs)) (option_map_or p (slice_get xs i) false))
-  where
-    regroup : (u v w : Bool) → (u || (v || w)) ≡ ((u || v) || w)
-    regroup true v w = refl
-    regroup false v w = refl
-
--- what is among the first is among all
-pub any_taken : {X : Type 0} (p : X → Bool) (n : ℕ) (xs : List X) → list_any p (take n xs) ≡ true → list_any p xs ≡ true
-any_taken p zero [] h = h
-any_taken p (suc n) [] h = h
-any_taken p zero (x ∷ xs) h = cc
-any_taken p (suc n) (x ∷ xs) h =
-    ⊎_elim (λ here. or_left (p x) (list_any p xs) here) (λ more. or_right (p x) (list_any p xs) (any_taken p n xs more)) (or_cases (p x) (list_any p (take n xs)) h)
-
--- what stands at a place is among all
-pub found_any : {X : Type 0} (p : X → Bool) (xs : List X) (i : ℕ) (x : X) → slice_get xs i ≡ Some x → p x ≡ true → list_any p xs ≡ true
-found_any p [] i x at h = cc
-found_any p (y ∷ xs) zero x at h = let same : y ≡ x = cc in or_left (p y) (list_any p xs) (ap p same ∙ h)
-found_any p (y ∷ xs) (suc i) x at h = or_right (p y) (list_any p xs) (found_any p xs i x at h)
 
 -- ## One object more
 
@@ -72,7 +42,7 @@ module _ (plan : PlanView) (none : has_awaited plan ≡ false) where
     where
       by : (x : Option ObjView) → slice_get plan.objects o ≡ x → option_map_or test (option_map (λ (obj : ObjView). obj.kind) x) false ≡ true → ⊥
       by None at h = cc
-      by (Some obj) at h = both_ways (has_awaited plan) none (found_any is_awaited plan.objects o obj at (awaited obj.kind h))
+      by (Some obj) at h = both_ways (has_awaited plan) none (any_passes_from_place is_awaited plan.objects o obj at (awaited obj.kind h))
 
   pub no_group : (o : ℕ) → has_kind is_group_kind plan o ≡ false
   no_group o = no_such is_group_kind (λ k h. or_left (is_group_kind k) (is_semaphore_kind k) h) o

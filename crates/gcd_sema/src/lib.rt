@@ -26,6 +26,8 @@
 //! What a call names is an object of the plan. `new` and `copied` take all memory, each array at once; every other call
 //! takes none and cannot fail. It costs the same whatever the plan, but for `signal` and `expire`: these pass over the
 //! expired waits that stand next, and each of those is passed over once in a run. The crate knows no history.
+//!
+//! `is_below_first` serves the misuse of releasing a semaphore whose value is below its first.
 #![tactic(auto)]
 
 mod awaited;

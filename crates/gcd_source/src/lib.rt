@@ -19,6 +19,8 @@
 //! other call takes none, cannot fail, and costs the same whatever the plan. The crate knows no history. What is
 //! pending at a timer is not kept here: it is counted from its due times (`gcd_timer`). `proofs/Merges` has the bound
 //! by which a caller knows that a merge has room.
+//!
+//! To cancel a timer takes `Timers::cancel` of `gcd_timer` too. Whether a read source is live the machine tells.
 #![tactic(auto)]
 
 mod sources;

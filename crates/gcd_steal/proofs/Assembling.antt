@@ -2,6 +2,7 @@
 use Rattle.std.proofs.Common.{◌≡◌, ℕ, ◌<◌, List, [], ◌∷◌, length, get_or, sym, ap, ◌∙◌, subst, arith}
 use Rattle.crossbeam_deque.specs.Handles.{worker_deque, stealer_deque, IsPassOf}
 use Rattle.atomic_table.specs.Seated.{TableId}
+use Rattle.gcd_facts.proofs.Lists.{one_of}
 use Rattle.gcd_steal.specs.declared.bench.Rack.{Rack}
 use Rattle.gcd_steal.specs.declared.bench.Bench.{Bench}
 use Rattle.gcd_steal.specs.declared.deque.Account.{Account}
@@ -9,10 +10,6 @@ use Rattle.gcd_steal.specs.declared.deque.RackId.{RackId}
 use Rattle.gcd_steal.specs.declared.places.Sight.{Sight}
 use Rattle.gcd_steal.specs.Racks.{DequeStealer, DequePass, benches_of, IsIdOf, IsBenchOf, AreNumbered, IsUnused}
 use Rattle.gcd_steal.specs.Making.{IsOpened, AreOpened, KnowRack, SameButPasses, AreSame, HavePasses}
-
-one_of : {A : Type 0} (l : List A) → 0 < length l → A
-one_of [] some_in = absurd (omega arith)
-one_of (x ∷ l) some_in = x
 
 -- a deque that was opened knows its rack
 pub know_opened : (places : TableId) (rack : RackId) (most : ℕ) (thieves : List DequeStealer) (benches : List Bench) → 0 < length thieves → AreOpened places rack most thieves benches → KnowRack rack benches

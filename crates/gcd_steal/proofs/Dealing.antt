@@ -4,14 +4,16 @@ use mathlib.Core.Logic.{dite}
 use mathlib.Core.Option.{some}
 use native.Mathlib.Decide.{ℕ_discrete}
 use lib.ListN.{get_elem?}
-use Rattle.crossbeam_deque.specs.Tasks.{Pushes, Takes, Finds, FindsFew, Forks}
+use Rattle.crossbeam_deque.specs.Tasks.{Pushes, Takes, Finds, Forks}
 use Rattle.atomic_table.proofs.Lists.{at_set}
+use Rattle.std.proofs.lemmas.List.{length_push}
+use Rattle.gcd_facts.proofs.Elements.{only_at, at_end, in_range, none_there}
+use Rattle.gcd_facts.proofs.Truth.{not_both}
 use Rattle.gcd_steal.specs.declared.drain.Drain.{Drain}
 use Rattle.gcd_steal.specs.declared.deque.RackId.{RackId}
 use Rattle.gcd_steal.specs.declared.deque.Account.{Account}
 use Rattle.gcd_steal.specs.Drains.{IsOf}
 use Rattle.gcd_steal.specs.Deques.{account, taken_by, Takings, drains_of, AllOf, IsTrueOf, TakenInOrder, WasEmpty, Sends, Gets, no_rack}
-use Rattle.gcd_steal.proofs.Lists.{off, only_at, at_end, in_range, none_there, longer}
 
 drains_more : (got : Takings) (t : ℕ × Drain) → drains_of (got ++ t ∷ []) ≡ drains_of got ++ t.1 ∷ []
 drains_more [] t = refl
@@ -44,7 +46,7 @@ begins = let v = account true true no_rack [] [] in record {
   takings = [];
   whole = refl;
   right = λ i d e. none_there i d e;
-  each = λ j u e. let t = only_at v u j e in view_is (sym t.0) t.1 (record { rack = λ f. off refl f; took = refl; owner = λ _. (refl, refl) });
+  each = λ j u e. let t = only_at v u j e in view_is (sym t.0) t.1 (record { rack = λ f. not_both refl f; took = refl; owner = λ _. (refl, refl) });
   fresh = λ j u e _. (refl, refl, refl);
   passes = λ i t e. none_there i t e;
 }
@@ -63,7 +65,7 @@ sends port v d owns old right items views r at = let w = account v.fresh v.owns 
         (λ (t : (j ≢ port) × (get_elem? views j ≡ some u)). let f = r.each j u t.1 in record { rack = f.rack; took = f.took; owner = λ o. absurd (t.0 ((f.owner o).0 ∙ sym (mine.owner owns).0)) })
         (at_set views port j w u e);
     fresh = λ j u e is. ⊎_elim
-        (λ (t : (j ≡ port) × (w ≡ u)). off (ap (λ (x : Account). x.fresh) t.1 ∙ is) old)
+        (λ (t : (j ≡ port) × (w ≡ u)). not_both (ap (λ (x : Account). x.fresh) t.1 ∙ is) old)
         (λ (t : (j ≢ port) × (get_elem? views j ≡ some u)). let f = r.fresh j u t.1 is in let a = in_range views j u t.1 in let b = in_range views port v at in absurd (t.0 (omega (arith, f.1))))
         (at_set views port j w u e);
     passes = λ i t e. let h = r.passes i t e in omega (arith, length-set views port w);
@@ -86,7 +88,7 @@ taken port v x items views old r at = let w = account v.fresh v.owns v.rack v.se
         (λ (t : (j ≢ port) × (get_elem? views j ≡ some u)). let f = r.each j u t.1 in record { rack = f.rack; took = f.took ∙ sym (by_other j port r.takings x (λ s. t.0 (sym s))); owner = f.owner })
         (at_set views port j w u e);
     fresh = λ j u e is. ⊎_elim
-        (λ (t : (j ≡ port) × (w ≡ u)). off (ap (λ (y : Account). y.fresh) t.1 ∙ is) old)
+        (λ (t : (j ≡ port) × (w ≡ u)). not_both (ap (λ (y : Account). y.fresh) t.1 ∙ is) old)
         (λ (t : (j ≢ port) × (get_elem? views j ≡ some u)). let f = r.fresh j u t.1 is in absurd (omega (arith, ap length f.0)))
         (at_set views port j w u e);
     passes = λ i t e. let wide = length-set views port w in ⊎_elim
@@ -105,10 +107,6 @@ gets port v old (x ∷ y ∷ xs) items views some_in few r at = absurd (omega ar
 pub finds : (port : ℕ) (v : Account) → Finds TakenInOrder port v (WasEmpty v)
 finds port v views r at = (views, port, r, at)
 
-pub finds_few : (port : ℕ) (v : Account) → FindsFew TakenInOrder 0 port v (WasEmpty v)
-finds_few port v [] views few r at = (views, port, r, at)
-finds_few port v (x ∷ items) views few r at = absurd (omega arith)
-
 pub parts : (port : ℕ) (v : Account) (of : RackId) → v.owns ≡ true → (v.fresh ≡ false → v.rack ≡ of) → Forks TakenInOrder port v (account false v.owns of v.sent v.took) (account false false of [] [])
 parts port v of owns same items views r at = let left = account false v.owns of v.sent v.took in let right = account false false of [] [] in let mine = r.each port v at in let cut : List Account = set views port left in let now = cases v.fresh refl in record {
   rack = of;
@@ -121,16 +119,16 @@ parts port v of owns same items views r at = let left = account false v.owns of 
       (λ (t : (j ≡ port) × (left ≡ u)). view_is (sym t.0) t.1 (record { rack = λ _. refl; took = mine.took; owner = mine.owner }))
       (λ (t : (j ≢ port) × (get_elem? views j ≡ some u)). let f = r.each j u t.1 in record { rack = λ o. now.1 j u t.0 t.1 o; took = f.took; owner = f.owner })
       (at_set views port j left u was))
-      (λ (t : (j ≡ length cut) × (right ≡ u)). view_is (sym t.0) t.1 (record { rack = λ _. refl; took = sym (by_none (length cut) r.takings (λ i x at_x. let h = r.passes i x at_x in omega (arith, length-set views port left))); owner = λ o. off o refl }))
+      (λ (t : (j ≡ length cut) × (right ≡ u)). view_is (sym t.0) t.1 (record { rack = λ _. refl; took = sym (by_none (length cut) r.takings (λ i x at_x. let h = r.passes i x at_x in omega (arith, length-set views port left))); owner = λ o. not_both o refl }))
       (at_end cut right u j e);
   fresh = λ j u e is. ⊎_elim
       (λ (was : get_elem? cut j ≡ some u). ⊎_elim
-      (λ (t : (j ≡ port) × (left ≡ u)). off (ap (λ (x : Account). x.fresh) t.1 ∙ is) refl)
+      (λ (t : (j ≡ port) × (left ≡ u)). not_both (ap (λ (x : Account). x.fresh) t.1 ∙ is) refl)
       (λ (t : (j ≢ port) × (get_elem? views j ≡ some u)). let f = r.fresh j u t.1 is in let a = in_range views j u t.1 in let b = in_range views port v at in absurd (t.0 (omega (arith, f.1))))
       (at_set views port j left u was))
-      (λ (t : (j ≡ length cut) × (right ≡ u)). off (ap (λ (x : Account). x.fresh) t.1 ∙ is) refl)
+      (λ (t : (j ≡ length cut) × (right ≡ u)). not_both (ap (λ (x : Account). x.fresh) t.1 ∙ is) refl)
       (at_end cut right u j e);
-  passes = λ i t e. let h = r.passes i t e in let n = longer cut right in omega (arith, length-set views port left);
+  passes = λ i t e. let h = r.passes i t e in let n = length_push cut right in omega (arith, length-set views port left);
 } where
   cases : (b : Bool) → v.fresh ≡ b → AllOf of items × ((j : ℕ) (u : Account) → j ≢ port → get_elem? views j ≡ some u → u.fresh ≡ false → u.rack ≡ of)
   cases true is = let f = r.fresh port v at is in (subst (λ (l : List Drain). AllOf of l) (sym f.0) (λ i d e. none_there i d e), λ j u ne e _. let a = in_range views j u e in let b = in_range views port v at in absurd (ne (omega (arith, f.1))))

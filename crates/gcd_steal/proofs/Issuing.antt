@@ -8,9 +8,9 @@ use native.Mathlib.Decide.{ℕ_discrete}
 use lib.ListN.{get_elem?}
 use Rattle.atomic_table.specs.Table.{Me, Splits, Joins, Allows, keeps, opening}
 use Rattle.atomic_table.specs.Seated.{TableId}
+use Rattle.gcd_facts.proofs.Elements.{at_end, in_range}
 use Rattle.gcd_steal.specs.declared.tokens.Rights.{Rights}
 use Rattle.gcd_steal.specs.Tokens.{rights, Token, times_in, times, AreApart, IsTokenOf, AreTokens}
-use Rattle.gcd_steal.proofs.Lists.{at_end, in_range}
 
 -- ---- how often a node stands
 

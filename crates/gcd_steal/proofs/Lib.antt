@@ -1,6 +1,5 @@
-mod Lists
 mod Issuing
-mod Placing
+pub mod Placing
 mod Dealing
 mod Benching
 mod Opening

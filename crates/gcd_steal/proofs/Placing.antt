@@ -1,18 +1,19 @@
 -- Each step on the sleeping places keeps their rule.
 use Rattle.std.proofs.Common.{◌≡◌, ◌≢◌, ℕ, zero, suc, ◌+◌, ◌<◌, ⊎_elim, Bool, true, false, cond, eqb, eq-eqb, ne_eqb, List, [], ◌∷◌, ◌++◌, map, length, get_or, set, replicate, sym, refl, ap, ◌∙◌, subst, arith, length-set, get_or-set_same, get_or-set_other}
 use Rattle.std.specs.Prelude.{MatchBool}
-use Rattle.std.proofs.lemmas.List.{map-append}
+use Rattle.std.proofs.lemmas.List.{map-append, length_push}
 use mathlib.Core.Logic.{dite}
 use mathlib.Core.Option.{Option, none, some, some-injective, some-ne-none}
 use native.Mathlib.Decide.{ℕ_discrete}
 use lib.ListN.{get_elem?}
 use Rattle.atomic_table.specs.Table.{State, rest, takes, gives, keeps, Allows, Splits, opening, stepped, step}
 use Rattle.atomic_table.proofs.Lists.{at_set, set_here, set_else, set_again, some_there}
+use Rattle.gcd_facts.proofs.Elements.{only_at, at_end, in_range}
+use Rattle.gcd_facts.proofs.Truth.{not_both}
 use Rattle.gcd_steal.specs.declared.places.Change.{Change}
 use Rattle.gcd_steal.specs.declared.places.Sight.{Sight}
 use Rattle.gcd_steal.specs.Tokens.{Token, IsTokenOf, AreTokens}
 use Rattle.gcd_steal.specs.Places.{History, change, sleeps_after, Since, sight, newcomer, Log, changes_of, made_by, flag, HasToken, HoldsSlot, SawBegin, Knows, Rests, Takes, Misses, Gives, Mine, WakingTells, LayingTells}
-use Rattle.gcd_steal.proofs.Lists.{off, only_at, at_end, in_range, longer}
 
 -- ---- histories
 
@@ -30,7 +31,7 @@ flag_not : (b : Bool) → flag b ≢ 1 → b ≡ false
 flag_not true e = absurd (e refl)
 flag_not false e = refl
 
-since_self : (h : History) → Since h h
+pub since_self : (h : History) → Since h h
 since_self h = ([], refl)
 
 made_here : (seat : ℕ) (c : Change) (log : Log) → made_by seat ((seat, c) ∷ log) ≡ made_by seat log + 1
@@ -78,7 +79,7 @@ twins key id v s r at = let mine = r.knows id v at in let new = newcomer v in le
           (λ (t : get_elem? cut j ≡ some u). r.knows j u (subst (λ (l : List Sight). get_elem? l j ≡ some u) (set_again s.views id v at) t))
           (λ (t : (j ≡ length cut) × (new ≡ u)). knows_as (sym t.0) t.1 (record { tokens = mine.tokens; seen = saw_too r.log id (length cut) v.seen unmade mine.seen; did = sym unmade }))
           (at_end cut new u j e);
-      seated = λ j above. r.seated j (omega (arith, above, length-set s.views id v, longer cut new));
+      seated = λ j above. r.seated j (omega (arith, above, length-set s.views id v, length_push cut new));
     }
 
 -- ---- a write to a node's word
@@ -129,7 +130,7 @@ module _ (key : Token) (slots id node : ℕ) (v : Sight) (near : node < slots) (
   -- the place is empty, as it was
   looked : Rests key (record { words = set s.words (node + 8) 0; homes = s.homes; views = set s.views id (grown false) })
   looked = written false s.homes refl (λ j in_old sleeps. dite (ℕ_discrete node j)
-      (λ same. off sleeps (sleeps_same (changes_of r.log) node j false same))
+      (λ same. not_both sleeps (sleeps_same (changes_of r.log) node j false same))
       (λ ne. r.tokens j in_old (sym (sleeps_other (changes_of r.log) node j false ne) ∙ sleeps)))
 
 -- the token of a table is one of the table that the view names
@@ -149,7 +150,7 @@ wakes_at key slots id node me near free s r wide at _ = let v = me.0 in let n = 
       w,
       takes node b.0,
       b.1,
-      moved key slots id node v near s r wide at false none (λ e. off e refl),
+      moved key slots id node v near s r wide at false none (λ e. not_both e refl),
       told_at (λ (j : ℕ). (n ≡ 1 → Takes j me.0 w × HoldsSlot me.0.tokens j m.1) × (n ≢ 1 → Misses j me.0 w × (m.1 ≡ []))) node
           ((λ _. ((changes_of r.log, refl, since, up), (b.0, ap (λ (l : List (ℕ × Token)). (node, b.0) ∷ l) free, same_tokens key r.log id node v b.0 k b.2))), λ ne. absurd (ne full)),
     ))

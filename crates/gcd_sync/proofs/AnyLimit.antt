@@ -3,13 +3,14 @@ use Rattle.std.proofs.Common.{◌≡◌, ℕ, ◌+◌, ◌<◌, true, false, ◌
 use Rattle.std.specs.List.{list_any, list_all, slice_get}
 use Rattle.std.specs.Option.{option_map_or}
 use Rattle.std.proofs.lemmas.Bool.{or_right, and_parts, both_ways}
+use Rattle.gcd_facts.proofs.Lists.{any_more, any_taken}
 use Rattle.gcd_plan.specs.Kinds.{has_kind, is_group_kind, is_semaphore_kind}
 use Rattle.gcd_plan.specs.PlanView.{PlanView, BlkView}
 use Rattle.gcd_plan.specs.Validity.{is_act, is_block}
 use Rattle.gcd_plan.specs.declared.act.Act.{Act}
 use Rattle.gcd_plan.specs.declared.act.Act.TheVariants.{GroupWaitFor, WaitFor}
 use Rattle.gcd_sema.specs.Awaited.{has_awaited}
-use Rattle.gcd_sema.proofs.NoWaits.{any_more, any_taken, no_group, no_semaphore}
+use Rattle.gcd_sema.proofs.NoWaits.{no_group, no_semaphore}
 use Rattle.gcd_sync.specs.LimitRoom.{has_limit, has_limits, limit_room}
 
 module _ (plan : PlanView) (b : ℕ) (acts : List Act) (lt : b < length plan.blocks) (is : acts ≡ option_map_or (λ (blk : BlkView). blk.acts) (slice_get plan.blocks b) []) where

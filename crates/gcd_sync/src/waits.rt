@@ -5,10 +5,10 @@ ghost use Rattle.gcd_sync.specs.WaitsView.{waits_of, reason_at, limit_at, has_ex
 use crate::limit::Limit;
 use crate::room::limit_room;
 use gcd_apply::Strips;
-use gcd_bits::BitSet;
 use gcd_group::Groups;
 use gcd_plan::{Blk, Plan, Reason};
 use gcd_sema::Semas;
+use gcd_sets::BitSet;
 use std::alloc::{AllocError, Global};
 use std::marker::Model;
 

@@ -115,10 +115,6 @@ read-then_none first second third ts before after =
     let both : ReadTells first third (ts ++ []) = read-append first second third ts [] before after (rw append-nil before.few) in
     rw append-nil at both
 
--- no reading
-pub read-none : (slots : List Slot) → ReadTells slots slots []
-read-none slots = record { few = omega arith; tells = tt; watched = λ feed. refl; ended = λ feed. refl }
-
 -- a reading that told nothing, and one more
 pub read-after_none : (first second third : List Slot) (none ts : List Tell) → none ≡ [] → ReadTells first second none → ReadTells second third ts
     → ReadTells first third ts

@@ -1,17 +1,9 @@
 -- One place more of a range.
-use Rattle.std.proofs.Common.{◌≡◌, ℕ, zero, suc, ◌+◌, ◌-◌, ◌≤◌, [], ◌∷◌, ◌++◌, Option, Some, None, refl, ap, ◌∙◌, arith}
+use Rattle.std.proofs.Common.{◌≡◌, ℕ, ◌+◌, ◌-◌, ◌≤◌, [], ◌∷◌, ◌++◌, Option, Some, None, refl, ap, ◌∙◌, arith}
 use Rattle.std.specs.Option.{option_to_list}
 use Rattle.std.specs.List.{filter_map, range_with_len, cons_option}
 use Rattle.std.proofs.lemmas.List.Elements.{filter_map-append}
-
-pub range_more : (a n : ℕ) → range_with_len a (n + 1) ≡ range_with_len a n ++ (a + n) ∷ []
-range_more a zero = let e : a ≡ a + 0 = omega arith in ap (λ k. k ∷ []) e
-range_more a (suc n) =
-    let on : suc n + 1 ≡ suc (n + 1) = omega arith in
-    let e : a + 1 + n ≡ a + suc n = omega arith in
-    ap (range_with_len a) on
-    ∙ ap (λ xs. a ∷ xs) (range_more (a + 1) n)
-    ∙ ap (λ k. a ∷ (range_with_len (a + 1) n ++ k ∷ [])) e
+use Rattle.gcd_facts.proofs.Ranges.{range_more}
 
 pub one_of : {X : Type 0} {Y : Type 0} → (h : X → Option Y) (x : X) → filter_map h (x ∷ []) ≡ option_to_list (h x)
 one_of h x = elim (h x) as (λ v. cons_option v [] ≡ option_to_list v) [ None ↦ refl | Some y ↦ refl ]

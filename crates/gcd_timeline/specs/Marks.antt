@@ -8,7 +8,7 @@ use Rattle.gcd_plan.specs.declared.numbers.Run.{Run}
 use Rattle.gcd_event.specs.declared.event.Event.{Event}
 use Rattle.gcd_event.specs.Owners.{begun, ended, worker_of}
 use Rattle.gcd_history.specs.Runs.{same_run}
-use Rattle.gcd_team.specs.Held.{taken, given}
+use Rattle.gcd_history.specs.Held.{taken, given}
 use Rattle.gcd_timeline.specs.declared.mark.Stretch.{Stretch}
 use Rattle.gcd_timeline.specs.declared.mark.Mark.{Mark}
 

@@ -9,7 +9,7 @@
 //! The contract of [`marks`] is exact, over the plain list of the events (`specs/Marks`): at each Start and Deliver a mark, and in
 //! it a stretch for each event up to the run's end that takes it, on the lane of that event's worker, from the event's place to
 //! the place of the event that gives the run back, or the journal's length where none does. Which events take and give a run is
-//! `taken` and `given` of `gcd_team`, whose laws say that in a lawful history a worker holds a run exactly in between, and that no
+//! `taken` and `given` of `gcd_history`, whose laws say that in a lawful history a worker holds a run exactly in between, and that no
 //! two hold one. A mark costs a look at the events from its begin to its end, and once more up to where each stretch is given back.
 #![tactic(auto)]
 

@@ -1,6 +1,6 @@
 // The marks of a journal.
 ghost use Rattle.std.specs.Prelude.{◌≡◌, ◌++◌, ◌∷◌, [], ◌<◌, ◌≤◌, Some, length, map, position, slice_get, IfOk, IfSome, OnOk};
-ghost use Rattle.gcd_team.specs.Held.{given};
+ghost use Rattle.gcd_history.specs.Held.{given};
 ghost use Rattle.std.specs.Option.{option_to_list};
 ghost use Rattle.gcd_event.specs.Owners.{ended};
 ghost use Rattle.gcd_timeline.specs.Marks.{is_run, mark_view, ended_from, given_from, stretch_at, stretches_of, mark_at, marks_of};

@@ -2,7 +2,7 @@
 ghost use Rattle.std.specs.Prelude.{◌≡◌, Some};
 ghost use Rattle.gcd_history.specs.Parked.{is_parking};
 ghost use Rattle.gcd_history.specs.Runs.{act_at, same_run};
-ghost use Rattle.gcd_team.specs.Held.{taken, given};
+ghost use Rattle.gcd_history.specs.Held.{taken, given};
 ghost use Rattle.gcd_timeline.specs.Marks.{is_run};
 
 use gcd_event::Event;

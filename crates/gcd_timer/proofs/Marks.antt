@@ -7,7 +7,7 @@ use Rattle.std.proofs.lemmas.List.{ext_get_or, get_or-set_same, get_or-set_other
 use Rattle.std.proofs.lemmas.List.FromFn.{get_or-map-range_with_len, length-map-range_with_len}
 use Rattle.gcd_plan.proofs.Quantifiers.{list_any_in_range_from}
 use Rattle.gcd_plan.proofs.Sums.{count_by-append, count_by_none, count_by_some}
-use Rattle.gcd_bits.proofs.Ranges.{found_first, found_none}
+use Rattle.gcd_sets.proofs.Ranges.{found_first, found_none}
 use Rattle.gcd_timer.specs.TimersView.{TimersView, is_due_at, due_count_at, comes_by, marked_by}
 use Rattle.gcd_timer.specs.Listed.{AreMarked, next_due_of, nexts_of, is_reached, reached_marked}
 use Rattle.gcd_timer.proofs.Nexts.{next_ahead, next_read}
@@ -86,18 +86,6 @@ count_more view t s forward some =
     omega (arith, all, one)
 
 -- ## The marks
-
-pub marked_first : (t : ℕ) (nexts : List (Option ℕ)) (marks : List Bool) → AreMarked t nexts marks nexts marks
-marked_first t nexts marks = record {
-  length_kept = refl;
-  fewer = λ s e. e;
-  marked = λ s. none (get_or marks s false) (is_reached t (get_or nexts s None));
-}
-  where
-    none : (a b : Bool) → a ≡ (a || (b && not b))
-    none true b = refl
-    none false true = refl
-    none false false = refl
 
 pub marked_more : (view : TimersView) (nexts : List (Option ℕ)) (marks : List Bool) (nexts' : List (Option ℕ)) (marks' : List Bool) (s : ℕ) (next : Option ℕ)
     → AreMarked view.moment nexts marks nexts' marks' → s < length nexts' → s < length marks' → is_reached view.moment (get_or nexts' s None) ≡ true

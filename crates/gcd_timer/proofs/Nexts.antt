@@ -11,8 +11,8 @@ use Rattle.gcd_plan.proofs.Places.{get_or-replicate_same}
 use Rattle.gcd_plan.specs.PlanView.{PlanView}
 use Rattle.gcd_plan.specs.Limits.{max_time}
 use Rattle.gcd_plan.specs.KindValues.{is_on_interval}
-use Rattle.gcd_bits.proofs.Ranges.{find_none, find_first, found_first, found_none}
-use Rattle.gcd_soonest.specs.Least.{earlier, least, no_time}
+use Rattle.gcd_sets.proofs.Ranges.{find_none, find_first, found_first, found_none}
+use Rattle.gcd_sets.specs.Least.{earlier, least, no_time}
 use Rattle.gcd_timer.specs.TimersView.{TimersView, timers_of, activated_at, cancelled_at, is_due_at, with_activated, with_cancelled}
 use Rattle.gcd_timer.specs.Listed.{AreBehind, next_due_of, nexts_of, is_reached}
 

@@ -3,7 +3,7 @@ use Rattle.std.proofs.Common.{◌≡◌, ℕ, zero, suc, ◌+◌, ◌≤◌, min
 use Rattle.std.specs.List.{count_by, find, range_with_len}
 use Rattle.std.proofs.lemmas.Bool.{cases_Bool, cond-true, cond-false}
 use Rattle.std.proofs.lemmas.List.Sums.{sum_by-cons}
-use Rattle.gcd_soonest.specs.Least.{earlier}
+use Rattle.gcd_sets.specs.Least.{earlier}
 
 -- what is found is in the range
 found_from : (p : ℕ → Bool) (a n : ℕ) → (find p (range_with_len a n) ≡ None) ⊎ ((x : ℕ) × (a ≤ x) × (find p (range_with_len a n) ≡ Some x))

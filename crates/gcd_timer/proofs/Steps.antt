@@ -7,7 +7,7 @@ use Rattle.std.proofs.Math.Nat.{zero-div, zero-mod}
 use Rattle.std.proofs.lemmas.Nat.{div-add-mod', div-mul-add, mod-mul-add, mod_below}
 use Rattle.gcd_timer.specs.Intervals.{IsSpaced, falls_on, is_due_in, due_after, due_up_to}
 use Rattle.gcd_timer.specs.declared.due_times.DueTimes.{DueTimes}
-use Rattle.gcd_bits.proofs.Ranges.{find_none, find_first}
+use Rattle.gcd_sets.proofs.Ranges.{find_none, find_first}
 use Rattle.gcd_timer.proofs.Numbers.{counted}
 
 -- one number more: the quotient goes up where nothing is left over

@@ -16,9 +16,9 @@ use Rattle.gcd_plan.specs.declared.kind.Kind.TheVariants.{Timer}
 use Rattle.gcd_timer.specs.TimersView.{TimersView, is_due_at, activated_at, cancelled_at, next_due_at, due_count_at}
 use Rattle.gcd_timer.specs.Intervals.{is_due_in, last_due, due_times_of}
 use Rattle.gcd_timer.specs.Listed.{IsClock, due_times_at, next_due_of, nexts_of}
-use Rattle.gcd_soonest.specs.Least.{earlier, least}
+use Rattle.gcd_sets.specs.Least.{earlier, least}
 use Rattle.gcd_timer.specs.declared.due_times.DueTimes.{DueTimes}
-use Rattle.gcd_bits.proofs.Ranges.{find_none}
+use Rattle.gcd_sets.proofs.Ranges.{find_none}
 use Rattle.gcd_timer.proofs.Numbers.{find_either}
 
 -- no later than `until` and the cancellation

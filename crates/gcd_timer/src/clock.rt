@@ -3,7 +3,7 @@ ghost use Rattle.std.specs.Prelude.{◌≡◌, ◌<◌, ◌≤◌, IfOk, IfSome,
 ghost use Rattle.gcd_timer.specs.TimersView.{timers_of, activated_at, cancelled_at, due_count_at, with_activated, with_cancelled};
 ghost use Rattle.gcd_timer.specs.Intervals.{IsSpaced};
 ghost use Rattle.gcd_timer.specs.Listed.{due_times_at, next_due_of};
-ghost use Rattle.gcd_soonest.specs.Least.{no_time};
+ghost use Rattle.gcd_sets.specs.Least.{no_time};
 
 use crate::due_times::{DueTimes, count_of, due_times_of, last_due, next_of};
 use gcd_plan::{Kind, MAX_TIME, Obj, Plan};

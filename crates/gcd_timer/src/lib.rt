@@ -19,7 +19,7 @@
 //!
 //! No due time is kept in a list: they are counted by division, so a timer with an interval of 1 ms costs what one with
 //! two due times costs. Of each timer the next due time is kept, in a tree of which the least is read at once
-//! (`gcd_soonest`). So `next_due` costs the same however many timers there are; `activate` and `cancel` take a step for
+//! (`gcd_sets`). So `next_due` costs the same however many timers there are; `activate` and `cancel` take a step for
 //! each doubling of the objects, and a tick as many, twice, for each timer of which it reaches a due time. `new` and
 //! `copied` take all memory, each array at once; every other call takes none and cannot fail.
 //!
@@ -27,6 +27,8 @@
 //!
 //! The crate knows no history, and not whether a timer's source is held. What a timer has pending is the caller's to
 //! say: the difference of two counts.
+//!
+//! `moment` is journal time. The limits of waits are kept by `gcd_sync` and the machine.
 #![tactic(auto)]
 
 mod clock;

@@ -2,12 +2,11 @@
 ghost use Rattle.std.specs.Prelude.{◌≡◌, ◌<◌, ◌≤◌, ℕ, IfOk, IfSome, None, is_some, true, false, length, slice_index_or, slice_set};
 ghost use Rattle.gcd_timer.specs.TimersView.{timers_of, activated_at, cancelled_at, next_due_at, due_count_at, with_activated, with_cancelled, marked_by};
 ghost use Rattle.gcd_timer.specs.Listed.{AreBehind, is_reached, nexts_of, reached_marked};
-ghost use Rattle.gcd_soonest.specs.Least.{no_time};
+ghost use Rattle.gcd_sets.specs.Least.{no_time};
 
 use crate::clock::Clock;
-use gcd_bits::BitSet;
 use gcd_plan::{Obj, Plan};
-use gcd_soonest::Times;
+use gcd_sets::{BitSet, Times};
 use std::alloc::{AllocError, Global};
 use std::marker::Model;
 

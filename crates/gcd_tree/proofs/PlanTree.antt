@@ -1,8 +1,8 @@
 -- What a plan's tree has before the first event.
-use Rattle.std.proofs.Common.{◌≡◌, ℕ, zero, suc, ◌+◌, ◌*◌, ◌<◌, Bool, true, false, ◌⊎◌, inl, inr, List, [], ◌∷◌, ◌++◌, length, map, replicate, get_or, None, is_some, option_map, unwrap_or, refl, ap, sym, ◌∙◌, subst, arith, slice_get}
+use Rattle.std.proofs.Common.{◌≡◌, ℕ, zero, suc, ◌+◌, ◌*◌, ◌<◌, Bool, true, false, List, [], ◌∷◌, ◌++◌, length, map, replicate, get_or, None, is_some, option_map, unwrap_or, refl, ap, sym, ◌∙◌, subst, arith, slice_get}
 use Rattle.std.specs.Option.{option_map_or}
 use Rattle.std.specs.List.{sum, range_with_len}
-use Rattle.std.proofs.lemmas.Bool.{false≢true, true≢false, both_ways, eqb-true, and_parts}
+use Rattle.std.proofs.lemmas.Bool.{true≢false, both_ways, eqb-true, and_parts}
 use Rattle.std.proofs.lemmas.List.{length-map, length-replicate}
 use Rattle.std.proofs.lemmas.List.Folds.{sum_by-replicate}
 use Rattle.std.proofs.lemmas.List.FromFn.{fill_by_all, map-range_with_len_more}
@@ -12,9 +12,10 @@ use Rattle.gcd_plan.specs.declared.numbers.Obj.{Obj}
 use Rattle.gcd_plan.specs.declared.kind.Kind.{Kind}
 use Rattle.gcd_plan.specs.declared.kind.Kind.TheVariants.{Serial, Concurrent, Group, Semaphore, Add, Or, Replace, Timer, Read}
 use Rattle.gcd_plan.specs.PlanView.{PlanView, ObjView, first_target}
-use Rattle.gcd_plan.specs.Kinds.{is_node_kind, is_queue_kind, is_queue, is_node}
+use Rattle.gcd_plan.specs.Kinds.{is_node_kind, is_node}
 use Rattle.gcd_plan.specs.Validity.{IsPlan, is_object, has_fields, root_view}
 use Rattle.gcd_plan.specs.Chains.{chain_by, is_in}
+use Rattle.gcd_plan.proofs.Within.{target_within}
 use Rattle.gcd_tree.specs.TreeView.{TreeView, tree_of, target_at, request_at, is_moving_at, open_on_at, is_node_at, walk_next}
 use Rattle.gcd_tree.specs.IsTree.{IsTree}
 use Rattle.gcd_plan.proofs.Places.{get_or-replicate_same}
@@ -81,19 +82,6 @@ filled_nodes plan o items so_far whole =
 
 -- ---- what is valid
 
--- what the fields of an object say of its target, by kind
-target_of_kind : (plan : PlanView) (kind : Kind) (o : ObjView) → has_fields plan kind o ≡ true
-    → (is_queue plan o.target.0 ≡ true) ⊎ (o.target.0 ≡ 0)
-target_of_kind plan Serial o h = inl (and_parts _ _ h).0
-target_of_kind plan Concurrent o h = inl (and_parts _ _ h).0
-target_of_kind plan Group o h = inr (eqb-true _ _ (and_parts _ _ h).0)
-target_of_kind plan (Semaphore n) o h = inr (eqb-true _ _ (and_parts _ _ h).0)
-target_of_kind plan Add o h = inl (and_parts _ _ h).0
-target_of_kind plan Or o h = inl (and_parts _ _ h).0
-target_of_kind plan Replace o h = inl (and_parts _ _ h).0
-target_of_kind plan (Timer start every) o h = inl (and_parts _ _ h).0
-target_of_kind plan Read o h = inl (and_parts _ _ h).0
-
 plain_at_root : (plan : PlanView) (kind : Kind) (o : ObjView) → has_fields plan kind o ≡ true → is_node_kind kind ≡ false → o.target.0 ≡ 0
 plain_at_root plan Serial o h none = absurd (true≢false none)
 plain_at_root plan Concurrent o h none = absurd (true≢false none)
@@ -105,12 +93,6 @@ plain_at_root plan Replace o h none = absurd (true≢false none)
 plain_at_root plan (Timer start every) o h none = absurd (true≢false none)
 plain_at_root plan Read o h none = absurd (true≢false none)
 
-within_known : {A : Type 0} (objects : List ObjView) (f : ObjView → A) (test : A → Bool) (o : ℕ)
-    → option_map_or test (option_map f (slice_get objects o)) false ≡ true → o < length objects
-within_known [] f test o h = absurd (false≢true h)
-within_known (x ∷ xs) f test zero h = omega arith
-within_known (x ∷ xs) f test (suc o) h = let rest = within_known xs f test o h in omega arith
-
 fields_at : (plan : PlanView) → IsPlan plan → (o : ℕ) → o < length plan.objects
     → has_fields plan (get_or plan.objects o root_view).kind (get_or plan.objects o root_view) ≡ true
 fields_at plan valid o lt =
@@ -119,15 +101,6 @@ fields_at plan valid o lt =
 
 first_target_at : (plan : PlanView) (o : ℕ) → o < length plan.objects → first_target plan o ≡ (get_or plan.objects o root_view).target.0
 first_target_at plan o lt = ap (λ r. option_map_or (λ x. x.target.0) r 0) (slice_get-get_or plan.objects o root_view lt)
-
--- a plan has the first targets of its objects
-pub first_target_fits : (plan : PlanView) → IsPlan plan → (o : ℕ) → o < length plan.objects → first_target plan o < length plan.objects
-first_target_fits plan valid o lt =
-    let e = first_target_at plan o lt in
-    elim (target_of_kind plan _ (get_or plan.objects o root_view) (fields_at plan valid o lt)) [
-      | inl queue ↦ let fits = within_known plan.objects (λ x. x.kind) is_queue_kind (get_or plan.objects o root_view).target.0 queue in omega (arith, e, fits)
-      | inr zero_target ↦ omega (arith, e, zero_target, lt)
-    ]
 
 first_target_plain : (plan : PlanView) → IsPlan plan → (o : ℕ) → o < length plan.objects → is_node plan o ≡ false → first_target plan o ≡ 0
 first_target_plain plan valid o lt none =
@@ -157,8 +130,8 @@ IsTree-tree_of plan valid =
       as_many_requests = length-replicate (length plan.objects) None ∙ sym many;
       as_many_open_on = length-replicate (length plan.objects) 0 ∙ sym many;
       as_many_nodes = length-map plan.objects (λ x. is_node_kind x.kind) ∙ sym many;
-      targets_fit = λ o lt. omega (arith, many, target_at-tree_of plan o, first_target_fits plan valid o (omega (arith, lt, many)));
-      walks_fit = λ o lt. omega (arith, many, walks_all plan o, first_target_fits plan valid o (omega (arith, lt, many)));
+      targets_fit = λ o lt. omega (arith, many, target_at-tree_of plan o, target_within plan valid o (omega (arith, lt, many)));
+      walks_fit = λ o lt. omega (arith, many, walks_all plan o, target_within plan valid o (omega (arith, lt, many)));
       chains_end = λ o lt. chains_as plan valid (target_at (tree_of plan)) _ o (target_at-tree_of plan) many lt;
       walks_end = λ o lt. chains_as plan valid (walk_next (tree_of plan)) _ o (walks_all plan) many lt;
       root_stays = request_at-tree_of plan 0;

@@ -13,7 +13,7 @@
 //! | `chain` | the chain, an iterator | its length |
 //! | `would_cycle` | whether a walk from the new target reaches the object | its length |
 //! | `has_child` | whether another object has the object as target or as request | the objects |
-//! | `set_target` | a new target at once, or as a request where a run is open on the object | constant |
+//! | `set_target` | a new target at once, or as a request where a run is open on the object; it replaces an earlier request | constant |
 //! | `opened`, `closed` | one run more or less; the last close turns a request into the target | the chain's length |
 //!
 //! No call but `new` and `copied` takes memory, and none is refused: what a call needs is its condition, and another

@@ -28,9 +28,6 @@ pub begins_through : (numbers middle front : List ℕ) → Begins numbers middle
 begins_through numbers middle front outer inner =
     record { rest = inner.rest ++ outer.rest; split = outer.split ∙ ap (λ (ns : List ℕ). ns ++ outer.rest) inner.split ∙ append_assoc front inner.rest outer.rest }
 
-pub begins_all : (numbers : List ℕ) → Begins numbers numbers
-begins_all numbers = record { rest = []; split = sym (append-nil numbers) }
-
 -- ## Readys
 
 pub readies_more : (s : ℕ) (placed : List Event) (e : Event) → readies_of s (placed ++ e ∷ []) ≡ readies_of s placed ++ ready_by s e

@@ -21,8 +21,8 @@ use Rattle.gcd_history.specs.Permitted.{is_feed, is_halted as is_halted_after}
 use Rattle.gcd_history.specs.Sources.{is_live_feed as is_live_after}
 use Rattle.gcd_history.specs.Submitted.{cancels}
 use Rattle.gcd_history.proofs.Lists.{list_any-reverse, reverse_push}
-use Rattle.gcd_history.proofs.PublicLaws.{choice_is_permitted, quiescent_stands}
-use Rattle.gcd_history.proofs.Reasons.{allowed, at_feed_end, at_ready}
+use Rattle.gcd_history.proofs.Public.Laws.{choice_is_permitted, quiescent_stands}
+use Rattle.gcd_history.proofs.Permitted.Reasons.{allowed, at_feed_end, at_ready}
 use Rattle.gcd_turn.specs.Hearing.{MayEnd}
 use Rattle.gcd_turn.specs.Promises.{WasLive}
 

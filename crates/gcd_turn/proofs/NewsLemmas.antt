@@ -2,20 +2,11 @@
 use Rattle.std.proofs.Common.{◌≡◌, ◌≤◌, ◌<◌, ◌+◌, ◌∙◌, ◌++◌, ℕ, Bool, true, false, List, [], ◌∷◌, zero, suc, map, filter, if◌then◌else◌, ap, sym, refl, arith, append-nil, add-one, inl, inr}
 use Rattle.std.specs.List.{range_with_len}
 use Rattle.std.proofs.lemmas.Bool.{cases_eq}
-use Rattle.std.proofs.lemmas.Grind.{flat_map-append}
 use Rattle.std.proofs.lemmas.List.{map-append}
 use Rattle.std.proofs.lemmas.List.Elements.{filter-append}
+use Rattle.gcd_facts.proofs.Ranges.{range_push}
 use Rattle.gcd_outer.specs.declared.tell.Tell.{Tell}
-use Rattle.gcd_turn.specs.Turns.{end_of, news_by, news_of}
-
--- the news of one tell more
-pub news_more : (ts : List Tell) (t : Tell) → news_of (ts ++ t ∷ []) ≡ news_of ts ++ news_by t
-news_more ts t = flat_map-append news_by ts (t ∷ []) ∙ ap (λ (ns : List Tell). news_of ts ++ ns) (append-nil (news_by t))
-
-range_push : (a n : ℕ) → range_with_len a (suc n) ≡ range_with_len a n ++ (a + n) ∷ []
-range_push a zero = ap (λ (k : ℕ). k ∷ []) (omega arith)
-range_push a (suc n) =
-    ap (λ (ks : List ℕ). a ∷ ks) (range_push (a + 1) n ∙ ap (λ (k : ℕ). range_with_len (a + 1) n ++ k ∷ []) (omega arith))
+use Rattle.gcd_turn.specs.Turns.{end_of}
 
 -- the ends of those that pass, with one more that may
 ends_more : (p : ℕ → Bool) (n : ℕ)

@@ -1,12 +1,12 @@
 -- Due times, and what was answered.
-use Rattle.std.proofs.Common.{◌≡◌, ◌≤◌, ◌<◌, ◌+◌, ◌||◌, ℕ, true, false, List, Some, Result, Ok, Err, arith, reverse}
-use Rattle.std.specs.Prelude.{OnErr, OnOk, is_err}
+use Rattle.std.proofs.Common.{◌≡◌, ◌≤◌, ◌<◌, ◌+◌, ◌||◌, ℕ, false, List, Some, Result, Ok, Err, arith, reverse}
+use Rattle.std.specs.Prelude.{OnOk, is_err}
 use Rattle.gcd_plan.specs.PlanView.{PlanView}
 use Rattle.gcd_event.specs.declared.event.Event.{Event}
 use Rattle.gcd_history.specs.History.{next_due_of}
 use Rattle.gcd_history.specs.Timers.{is_any_due, now}
 use Rattle.gcd_history.specs.Due.{is_any_limit, next_due}
-use Rattle.gcd_refinement.proofs.NextDue.{found_low}
+use Rattle.gcd_refinement.proofs.Limits.NextDue.{found_low}
 
 -- the next due time is above 0
 pub due_is_ahead : (plan : PlanView) (h : List Event) (due : ℕ) → next_due_of plan h ≡ Some due → 0 < due
@@ -19,7 +19,3 @@ due_is_ahead plan h due is =
 pub on_ok : {A E : Type 0} → (P : Type 0) (r : Result A E) → is_err r ≡ false → OnOk r P → P
 on_ok P (Ok a) h p = p
 on_ok P (Err e) h p = cc
-
-pub on_err : {A E : Type 0} → (P : Type 0) (r : Result A E) → is_err r ≡ true → OnErr r P → P
-on_err P (Ok a) h p = cc
-on_err P (Err e) h p = p

@@ -8,6 +8,7 @@ use Rattle.clap.specs.declared.error.kind.ErrorKind.{ErrorKind}
 use Rattle.clap.specs.declared.error.kind.ErrorKind.TheVariants as kind
 use Rattle.clap.proofs.OnLiterals.{clap_on_literals}
 use Rattle.clap.proofs.WalkLemmas.{both}
+use Rattle.gcd_facts.proofs.Options.{is_some-option_map}
 use Rattle.gcd_words.specs.CommandLine.{big_app, check_app, front_app, gcd_app, run_app}
 use Rattle.gcd_words.specs.Asked.{AreTaken, Asked, asked_by, big_in, check_in, front_in, request_of, run_in}
 
@@ -81,14 +82,10 @@ pub never : (a : App) (words : List Text) (k : ErrorKind) → a ≡ gcd_app → 
     → (k ≡ kind.OutOfMemory → ⊥) → AreTaken words → false ≡ true
 never a words k is passes other t = absurd (other (passes (ap (λ x. takes x words) is ∙ t.taken)))
 
-some_map : {A B : Type 0} (f : A → B) (o : Option A) → is_some (option_map f o) ≡ is_some o
-some_map f None = refl
-some_map f (Some x) = refl
-
 -- words that name a command ask for something
 pub asks : {R : Type 0} (of : R → Asked) (a : App) (r : Option R) (sub : Option (Text × List Row)) (words : List Text) → a ≡ gcd_app
     → (is_simple a ≡ true → sub ≡ subcommand_of a words) → option_map of r ≡ option_map asked_by sub → AreTaken words → is_some r ≡ true
 asks of a r sub words is matches made t =
     let free : is_simple_and_free a ≡ true = ap is_simple_and_free is ∙ gcd_is_simple in
     let same : sub ≡ subcommand_of gcd_app words = matches (both _ _ free).0 ∙ ap (λ x. subcommand_of x words) is in
-    sym (some_map of r) ∙ ap is_some made ∙ some_map asked_by sub ∙ ap is_some same ∙ t.named
+    sym (is_some-option_map of r) ∙ ap is_some made ∙ is_some-option_map asked_by sub ∙ ap is_some same ∙ t.named

@@ -9,7 +9,7 @@ use Rattle.gcd_plan.specs.declared.numbers.Run.TheVariants.{Block}
 use Rattle.gcd_plan.proofs.Places.{slice_get_some, slice_get-append_left, slice_get-append_seam}
 use Rattle.gcd_event.specs.declared.event.Event.{Event}
 use Rattle.gcd_history.specs.History.{IsLawful, is_block_cancelled, is_ended}
-use Rattle.gcd_machine.proofs.Shown.{lawful_stands, plan_stands}
+use Rattle.gcd_machine.proofs.Views.Calls.{lawful_stands, plan_stands}
 use Rattle.gcd_machine.specs.Stands.{StandsFor}
 use Rattle.gcd_refinement.specs.MachineView.{MachineView}
 use Rattle.gcd_jobs.specs.BlockValues.{has_given}

@@ -1,31 +1,23 @@
 -- What worker 0's pass has given out, a number on.
-use Rattle.std.proofs.Common.{◌≡◌, ◌≢◌, ◌<◌, ◌≤◌, ◌+◌, ◌∙◌, ℕ, suc, Bool, cond, List, [], ◌∷◌, Option, Some, None, refl, ap, sym, subst, arith, ⊎_elim, eq-eqb}
-use Rattle.std.proofs.lemmas.Bool.{cases_lt, ne_eqb}
+use Rattle.std.proofs.Common.{◌≡◌, ◌≢◌, ◌<◌, ◌≤◌, ◌+◌, ◌∙◌, ℕ, suc, List, [], ◌∷◌, Option, Some, None, refl, ap, sym, subst, arith, ⊎_elim, eq-eqb}
+use Rattle.std.proofs.lemmas.Bool.{cases_lt}
 use Rattle.gcd_history.specs.Choice.{worker_of}
-use Rattle.gcd_team.specs.Held.{is_of}
+use Rattle.gcd_history.specs.Held.{is_of}
 use Rattle.gcd_history.specs.Ends.{HasEnded}
-use Rattle.gcd_team.specs.Team.{of_worker}
+use Rattle.gcd_history.specs.Team.{of_worker}
 use Rattle.gcd_row.specs.Plays.{KnowsFresh}
 use Rattle.gcd_row.specs.Views.{standing_of, lending, knowing}
-use Rattle.gcd_row.specs.declared.view.Marks.{Marks}
+use Rattle.gcd_row.specs.declared.view.PassMarks.{PassMarks}
 use Rattle.gcd_row.specs.declared.view.Standing.{Standing}
 use Rattle.gcd_row.specs.declared.view.Standing.TheVariants.{Out, Back}
 use Rattle.gcd_row.specs.declared.view.View.{View}
+use Rattle.gcd_row.proofs.Parting.{standing_other, standing_same, back_out}
 use Rattle.gcd_workers.specs.Teams.{AreOut, IsHead, HasLed}
 use Rattle.gcd_workers.proofs.Places.{none_at}
-
-other_standing : (m w : ℕ) (s : Standing) (hands : List (ℕ × Standing)) → m ≢ w → standing_of ((m, s) ∷ hands) w ≡ standing_of hands w
-other_standing m w s hands differ = ap (λ (b : Bool). cond b (Some s) (standing_of hands w)) (ne_eqb m w differ)
-
-same_standing : (m : ℕ) (s : Standing) (hands : List (ℕ × Standing)) → standing_of ((m, s) ∷ hands) m ≡ Some s
-same_standing m s hands = ap (λ (b : Bool). cond b (Some s) (standing_of hands m)) (eq-eqb m m refl)
 
 none_is_home : (o : Option Standing) → o ≡ None → o ≢ Some Out
 none_is_home None is out = cc
 none_is_home (Some x) is out = cc
-
-back_out : Some Back ≡ Some Out → ⊥
-back_out is = cc
 
 back_is_home : (o : Option Standing) → o ≡ Some Back → o ≢ Some Out
 back_is_home o back out = back_out (sym back ∙ out)
@@ -47,10 +39,10 @@ head_out n v some head = record {
   out = record {
     none = λ w high.
         let differ : n ≢ w = λ same. omega (arith, high, same) in
-        other_standing n w Out v.hands differ ∙ head.out.none w (omega (arith, high));
+        standing_other v.hands n Out w differ ∙ head.out.none w (omega (arith, high));
     home = λ w low out.
         let differ : n ≢ w = λ same. omega (arith, low, some, same) in
-        head.out.home w low (sym (other_standing n w Out v.hands differ) ∙ out);
+        head.out.home w low (sym (standing_other v.hands n Out w differ) ∙ out);
   };
 }
 
@@ -61,15 +53,15 @@ head_back m n v u low head worker hands = record {
   out = record {
     none = λ w high.
         let differ : m ≢ w = λ same. omega (arith, high, low, same) in
-        ap (λ (h : List (ℕ × Standing)). standing_of h w) hands ∙ other_standing m w Back v.hands differ ∙ head.out.none w high;
+        ap (λ (h : List (ℕ × Standing)). standing_of h w) hands ∙ standing_other v.hands m Back w differ ∙ head.out.none w high;
     home = λ w below.
         ⊎_elim
         (λ (under : w < m).
         let differ : m ≢ w = λ same. omega (arith, under, same) in
-        λ out. head.out.home w under (sym (other_standing m w Back v.hands differ) ∙ sym (ap (λ (h : List (ℕ × Standing)). standing_of h w) hands) ∙ out))
+        λ out. head.out.home w under (sym (standing_other v.hands m Back w differ) ∙ sym (ap (λ (h : List (ℕ × Standing)). standing_of h w) hands) ∙ out))
         (λ (over : m ≤ w).
         let same : m ≡ w = omega (arith, over, below) in
-        back_is_home (standing_of u.hands w) (ap (λ (h : List (ℕ × Standing)). standing_of h w) hands ∙ subst (λ (k : ℕ). standing_of ((m, Back) ∷ v.hands) k ≡ Some Back) same (same_standing m Back v.hands)))
+        back_is_home (standing_of u.hands w) (ap (λ (h : List (ℕ × Standing)). standing_of h w) hands ∙ subst (λ (k : ℕ). standing_of ((m, Back) ∷ v.hands) k ≡ Some Back) same (standing_same v.hands m Back m refl)))
         (cases_lt w m);
   };
 }
@@ -81,7 +73,7 @@ head_same m n v u worker hands head = record {
   out = subst (AreOut m n) (sym hands) head.out;
 }
 
-pub head_knowing : {S : Type 0} → (m n : ℕ) (v u : View S) (k : Marks) → u ≡ knowing v u.seen k → IsHead m n v → IsHead m n u
+pub head_knowing : {S : Type 0} → (m n : ℕ) (v u : View S) (k : PassMarks) → u ≡ knowing v u.seen k → IsHead m n v → IsHead m n u
 head_knowing {S} m n v u k is head = head_same m n v u (ap (λ (x : View S). x.worker) is) (ap (λ (x : View S). x.hands) is) head
 
 -- all hands are back, and no event is of a number that was never given out

@@ -3,12 +3,9 @@ use Rattle.std.proofs.Common.{◌≡◌, ◌<◌, ◌+◌, ◌∙◌, ℕ, suc, 
 use Rattle.std.specs.Prelude.{All, slice_index_or}
 use Rattle.std.specs.List.{ShiftedDown}
 use Rattle.gcd_history.specs.Ends.{HasEnded}
-use Rattle.gcd_team.specs.Team.{of_worker}
-use Rattle.gcd_event.specs.declared.event.Event.{Event}
 use Rattle.gcd_front.specs.Views.{FrontView, IntakeView}
 use Rattle.gcd_outer.specs.Outside.{ClockState}
 use Rattle.gcd_outer.specs.Tells.{PollerState}
-use Rattle.gcd_row.proofs.Fronts.{own_nothing}
 use Rattle.gcd_row.specs.Passes.{IsGathered, terms_of, view}
 use Rattle.gcd_row.specs.Shapes.{Shape}
 use Rattle.gcd_row.specs.declared.pass.RowPass.{RowPass}
@@ -22,10 +19,6 @@ use Rattle.gcd_pool.specs.declared.hand.Pool.{Pool}
 use Rattle.gcd_workers.specs.Teams.{EachFrom, IsHead, IsPassAt, IsReadyAt}
 use Rattle.gcd_workers.proofs.Heads.{head_same}
 use Rattle.gcd_workers.proofs.Places.{each_push}
-
--- an empty history has no event of a worker
-pub nothing_own : (w : ℕ) (h : List Event) → h ≡ [] → of_worker w h ≡ []
-nothing_own w h none = ap (of_worker w) none ∙ own_nothing w
 
 module _ {S : Type 0} (shape : S → Shape) (gives : S → ℕ → Type 0) where
   -- after their service the hands are of the same workers

@@ -1,52 +1,25 @@
 -- The blocks of the intake: no act cancels one, and one that has ended was accepted of a sender.
-use Rattle.std.proofs.Common.{◌≡◌, ◌<◌, ◌==◌, ◌∙◌, ◌||◌, ◌&&◌, not, ℕ, zero, suc, Bool, true, false, List, [], ◌∷◌, Option, Some, None, refl, ap, sym, reverse, take, eq-eqb, ne_eqb, eqb-true, if◌then◌else◌}
+use Rattle.std.proofs.Common.{◌≡◌, ◌<◌, ◌==◌, ◌∙◌, ◌||◌, ℕ, zero, suc, Bool, true, false, List, [], ◌∷◌, Option, Some, None, refl, ap, sym, take, eq-eqb, eqb-true, if◌then◌else◌}
 use Rattle.std.specs.List.{AllZip, cons_option, filter_map, list_any}
-use Rattle.std.specs.Prelude.{nat_lt, length, slice_get}
-use Rattle.std.proofs.lemmas.Bool.{and_parts, both_ways, not-true}
-use Rattle.gcd_plan.specs.Made.{is_made, is_of_intake}
+use Rattle.std.specs.Prelude.{length, slice_get}
+use Rattle.std.proofs.lemmas.Bool.{both_ways}
+use Rattle.gcd_plan.specs.Made.{is_of_intake}
 use Rattle.gcd_plan.specs.PlanView.{PlanView}
-use Rattle.gcd_plan.specs.Validity.{IsPlan, is_declared}
-use Rattle.gcd_plan.specs.declared.act.Act.{Act}
-use Rattle.gcd_plan.specs.declared.act.Act.TheVariants.{CancelBlock}
+use Rattle.gcd_plan.specs.Validity.{IsPlan}
 use Rattle.gcd_plan.specs.declared.numbers.Blk.{Blk}
 use Rattle.gcd_event.specs.declared.event.Event.{Event}
-use Rattle.gcd_event.specs.declared.event.Event.TheVariants.{Act as Acted, Accept}
-use Rattle.gcd_history.specs.Cancelled.{cancels_block, is_block_cancelled as is_cancelled_after}
+use Rattle.gcd_event.specs.declared.event.Event.TheVariants.{Accept}
 use Rattle.gcd_history.specs.History.{IsLawful, is_block_cancelled, is_ended}
-use Rattle.gcd_history.specs.Intake.{accepted, accepted_of, accepts}
-use Rattle.gcd_history.specs.Report.{blocks_of_sender}
-use Rattle.gcd_history.specs.Runs.{act_at, act_of, is_started}
-use Rattle.gcd_history.proofs.CancelledStays.{begun_where_ended}
-use Rattle.gcd_history.proofs.MadeBlocks.{intake_inside, intake_is_made}
-use Rattle.gcd_history.proofs.SubmittedOnNodes.{act_fits}
-use Rattle.gcd_loop.specs.Followed.{AcceptsNone}
+use Rattle.gcd_history.specs.Intake.{accepted, accepted_of, accepts, AcceptsNone, blocks_of_sender}
+use Rattle.gcd_history.proofs.Blocks.CancelledStays.{begun_where_ended}
+use Rattle.gcd_history.proofs.MadeBlocks.Spans.{intake_inside, intake_is_made}
+use Rattle.gcd_history.proofs.Blocks.Uncancelled.{uncancelled}
 use Rattle.gcd_row.proofs.Accepted.{accept_is_next, accepts_nothing, begun_accepted, next_of}
 
 -- ## No act cancels one
 
-other_block : (plan : PlanView) (b : ℕ) (c : Blk) → is_made plan b ≡ true → is_declared plan c ≡ true → (c.0 == b) ≡ false
-other_block plan b c made declared =
-    let behind = and_parts (nat_lt 0 c.0) (nat_lt c.0 (length plan.blocks) && not (is_made plan c.0)) declared in
-    let unmade = not-true (is_made plan c.0) (and_parts (nat_lt c.0 (length plan.blocks)) (not (is_made plan c.0)) behind.1).1 in
-    ne_eqb c.0 b (λ same. both_ways (is_made plan c.0) unmade (ap (is_made plan) same ∙ made))
-
-never_cancels : (plan : PlanView) (e : Event) (b : ℕ) → IsPlan plan → is_made plan b ≡ true → cancels_block b (act_of plan e) ≡ false
-never_cancels plan (Acted w r i) b valid made = by_act (act_at plan r i) refl
-  where
-    by_act : (o : Option Act) → act_at plan r i ≡ o → cancels_block b o ≡ false
-    by_act (Some (CancelBlock c)) at = other_block plan b c made (act_fits plan r i (CancelBlock c) valid at)
-    by_act o at = refl
-never_cancels plan e b valid made = refl
-
-never_cancelled_after : (plan : PlanView) (past : List Event) (b : ℕ) → IsPlan plan → is_made plan b ≡ true → is_cancelled_after plan past b ≡ false
-never_cancelled_after plan [] b valid made = refl
-never_cancelled_after plan (e ∷ past) b valid made =
-    ap (λ v. v || (cancels_block b (act_of plan e) && not (is_started past b))) (never_cancelled_after plan past b valid made)
-    ∙ ap (λ v. v && not (is_started past b)) (never_cancels plan e b valid made)
-
 pub never_cancelled : (plan : PlanView) (h : List Event) (b : ℕ) → IsPlan plan → is_of_intake plan b ≡ true → is_block_cancelled plan h b ≡ false
-unfolding is_block_cancelled
-never_cancelled plan h b valid of = never_cancelled_after plan (reverse h) b valid (intake_is_made plan b of)
+never_cancelled plan h b valid of = uncancelled plan h b valid (intake_is_made plan b of)
 
 -- ## What is accepted
 

@@ -1,5 +1,5 @@
 -- The jobs of a board, and what its first cells give.
-use Rattle.std.proofs.Common.{◌≡◌, ◌<◌, ◌≤◌, ◌+◌, ◌∙◌, ℕ, zero, suc, List, [], ◌∷◌, ◌++◌, length, map, Option, Some, refl, ap, sym, arith, ⊎_elim}
+use Rattle.std.proofs.Common.{◌≡◌, ◌<◌, ◌≤◌, ◌+◌, ◌∙◌, ℕ, zero, suc, List, [], ◌∷◌, ◌++◌, length, map, Option, Some, ap, sym, arith, ⊎_elim}
 use Rattle.std.specs.Option.{option_map_or}
 use Rattle.std.specs.Prelude.{slice_get}
 use Rattle.std.proofs.lemmas.Bool.{cases_lt}
@@ -16,12 +16,6 @@ use Rattle.gcd_row.specs.Opening.{first_cells, object_cells}
 use Rattle.gcd_row.specs.declared.cell.Cell.{Cell}
 use Rattle.gcd_row.specs.declared.cell.Cell.TheVariants.{Body}
 use Rattle.gcd_workers.specs.EndedValues.{AreJobs, GiveWorks}
-
-pub no_jobs : (plan : PlanView) (files : List (List ℕ)) → AreJobs plan files 0 []
-no_jobs plan files = record {
-  count = refl;
-  works = λ b job at. absurd (cc);
-}
 
 pub jobs_push : (plan : PlanView) (files : List (List ℕ)) (n : ℕ) (jobs : List FileJob) (job : FileJob) → job_value job ≡ value_of plan files n
     → AreJobs plan files n jobs → AreJobs plan files (n + 1) (jobs ++ job ∷ [])

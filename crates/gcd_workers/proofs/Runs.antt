@@ -8,14 +8,15 @@ use Rattle.gcd_history.specs.Choice.{worker_of}
 use Rattle.gcd_history.specs.Ends.{HasState}
 use Rattle.gcd_history.specs.declared.state.State.{State}
 use Rattle.gcd_jobs.specs.BlockValues.{AreValues}
-use Rattle.gcd_machine.proofs.Shown.{plan_stands}
+use Rattle.gcd_machine.proofs.Views.Calls.{plan_stands}
 use Rattle.gcd_machine.specs.Stands.{StandsFor}
-use Rattle.gcd_team.specs.Held.{is_of}
+use Rattle.gcd_history.specs.Held.{is_of}
 use Rattle.gcd_outer.specs.Outside.{ClockState, Seen}
 use Rattle.gcd_outer.specs.Tells.{PollerState}
 use Rattle.gcd_loop.proofs.Follows.{follows_none}
 use Rattle.gcd_loop.proofs.Steps.{runs_plan}
-use Rattle.gcd_loop.specs.Followed.{AcceptsNone, FollowsChoice, IsOfWorkers}
+use Rattle.gcd_history.specs.Intake.{AcceptsNone}
+use Rattle.gcd_loop.specs.Followed.{FollowsChoice, IsOfWorkers}
 use Rattle.gcd_loop.specs.Going.{IsRunOn}
 use Rattle.gcd_loop.specs.Ran.{RunsPlan}
 use Rattle.gcd_loop.specs.Recorded.{IsSight}

@@ -1,6 +1,5 @@
 -- What a run beside outside callers leaves.
 use Rattle.std.proofs.Common.{◌≡◌, ◌<◌, ◌≤◌, ◌∙◌, not, ℕ, true, false, List, [], map, Option, Some, ap, sym, subst, refl, arith, length, append-nil}
-use Rattle.std.specs.List.{AllZip, list_any}
 use Rattle.std.specs.Prelude.{slice_index_or}
 use Rattle.std.proofs.lemmas.Bool.{and_from, and_parts}
 use Rattle.std.proofs.lemmas.Option.{same_Some, slice_get-map}
@@ -13,22 +12,19 @@ use Rattle.gcd_plan.proofs.Places.{slice_get_some}
 use Rattle.gcd_event.specs.declared.event.Event.{Event}
 use Rattle.gcd_history.specs.Ends.{HasState}
 use Rattle.gcd_history.specs.History.{IsLawful, is_block_cancelled, is_ended}
-use Rattle.gcd_history.specs.Intake.{shuts}
-use Rattle.gcd_history.specs.Report.{blocks_of_sender}
+use Rattle.gcd_history.specs.Intake.{AcceptsOf, AcceptsNone, blocks_of_sender}
 use Rattle.gcd_history.specs.declared.state.State.{State}
 use Rattle.gcd_front.specs.Fronts.{IsIntakeOf}
 use Rattle.gcd_front.specs.Limits.{max_senders}
 use Rattle.gcd_front.specs.Queue.{jobs_of}
 use Rattle.gcd_front.specs.Views.{FrontView, IntakeView}
-use Rattle.gcd_front.specs.declared.ledger.Parcel.{Parcel}
 use Rattle.gcd_jobs.specs.BlockValues.{has_given}
 use Rattle.gcd_jobs.specs.Jobs.{gives_or_zero}
 use Rattle.gcd_jobs.specs.declared.tally.Tally.{Tally}
 use Rattle.gcd_outer.specs.Outside.{ClockState, Seen}
 use Rattle.gcd_outer.specs.Tells.{PollerState}
-use Rattle.gcd_loop.specs.Followed.{AcceptsNone}
 use Rattle.gcd_loop.specs.Ran.{RunsPlan}
-use Rattle.gcd_machine.proofs.Shown.{lawful_stands}
+use Rattle.gcd_machine.proofs.Views.Calls.{lawful_stands}
 use Rattle.gcd_row.proofs.Jobs.{plain_job}
 use Rattle.gcd_row.specs.Jobs.{placed_at, placed_jobs}
 use Rattle.gcd_row.specs.Passes.{IsPassOf, machine_of, terms_of, view}
@@ -40,45 +36,23 @@ use Rattle.gcd_row.specs.declared.pass.RowPass.{RowPass}
 use Rattle.gcd_row.specs.declared.view.Handed.{Handed}
 use Rattle.gcd_row.specs.declared.view.Terms.{Terms}
 use Rattle.gcd_row.specs.declared.view.View.{View}
-use Rattle.gcd_pool.proofs.Admitting.{admitted_on}
-use Rattle.gcd_pool.specs.Admitted.{Admitted, AreTakenFor, AsksOfFront, BeginWithTaken, IsTakenFor}
+use Rattle.gcd_row.proofs.Passing.{valid_plan}
+use Rattle.gcd_pool.proofs.Admitting.{admitted_on, none_admitted}
+use Rattle.gcd_pool.specs.Admitted.{Admitted, AsksOfFront, BeginWithTaken, IsTakenFor}
 use Rattle.gcd_pool.specs.Each.{Each}
 use Rattle.gcd_pool.specs.Hands.{Served}
 use Rattle.gcd_pool.specs.declared.hand.Hand.{Hand}
 use Rattle.gcd_pool.specs.declared.hand.Pool.{Pool}
-use Rattle.gcd_workers.specs.CallersRuns.{AcceptsOf, OfSender, RanFor, RunsFront}
+use Rattle.gcd_workers.specs.CallersRuns.{OfSender, RanFor, RunsFront}
 use Rattle.gcd_workers.specs.JobsRuns.{AreLaid, AreOfJobs, IsGiven, RunsJobs, tally_shape}
 use Rattle.gcd_workers.proofs.Intake.{accepted_of_intake, accepted_within, ended_elsewhere, never_cancelled, none_of_any, zip_accepted}
-use Rattle.gcd_workers.proofs.Wholes.{valid_pass}
 
 -- ## Before the run, and after it
 
 module _ {S X : Type 0} (gives : S → ℕ → Type 0) (sent : X → ℕ → Type 0) (f : FrontView) where
-  -- where nothing was taken, and nothing is seen, all is accepted
-  admitted_none : (v : View S) (i : IntakeView X) → v.seen ≡ [] → i.taken ≡ [] → Admitted gives sent f v i
-  admitted_none v i none untaken =
-      let all : (s : ℕ) → AreTakenFor gives sent v (jobs_of s i.taken) s = λ s.
-      subst (λ (h : List Event). AllZip (IsTakenFor gives sent v) (jobs_of s i.taken) (blocks_of_sender h s)) (sym none)
-      (subst (λ (t : List (Parcel X)). AllZip (IsTakenFor gives sent v) (jobs_of s t) []) (sym untaken) tt) in
-      record {
-        first = λ s. record {
-          front = [];
-          rest = [];
-          split = ap (jobs_of s) untaken;
-          taken = subst (λ (h : List Event). AllZip (IsTakenFor gives sent v) [] (blocks_of_sender h s)) (sym none) tt;
-        };
-        all = λ on. all;
-        senders = λ s high. ap (λ (h : List Event). blocks_of_sender h s) none;
-        shut = λ is. all;
-        why_shut = λ is. absurd (none_shut (sym (ap (list_any shuts) none) ∙ is));
-      }
-    where
-      none_shut : false ≡ true → ⊥
-      none_shut is = cc
-
   -- so it is what worker 0 asks of a front and its intake
   pub asks_at_first : (hand : Hand S) (i : IntakeView X) → f.senders ≤ max_senders → IsIntakeOf f i → (view hand.pass).seen ≡ [] → i.taken ≡ [] → AsksOfFront gives sent f hand i
-  asks_at_first hand i few of none untaken zero_is = (few, of, admitted_none (view hand.pass) i none untaken)
+  asks_at_first hand i few of none untaken zero_is = (few, of, none_admitted gives sent f (view hand.pass) i none untaken)
 
   -- a view that has seen and handed in the same says the same of what was taken
   pub admitted_same : (v w : View S) (i : IntakeView X) → w.terms ≡ v.terms → w.handed ≡ v.handed → w.seen ≡ v.seen → IsLawful w.terms.plan w.seen
@@ -170,7 +144,7 @@ module _ {J X : Type 0} (gives : J → ℕ → ℕ → Type 0) (sent : X → ℕ
       let terms : v.terms ≡ terms_of mine = pass.terms ∙ ap terms_of same in
       let own : v.terms.plan ≡ plan = ap (λ (t : Terms (Cell J Tally)). t.plan) terms ∙ plan_is in
       let here = subst (λ (t : Terms (Cell J Tally)). RunsPlan t.limits.most t.plan m (AcceptsOf f.senders) poller clock v.seen) (sym pass.terms) ran in
-      let all = runs_front_of v jobs m f i poller clock values state (valid_pass tally_shape (gives_of gives) board p pass)
+      let all = runs_front_of v jobs m f i poller clock values state (valid_plan tally_shape (gives_of gives) board p pass)
       (subst (λ (t : Terms (Cell J Tally)). AreLaid jobs t.cells) (sym terms) laid)
       (subst (λ (k : PlanView). length jobs ≡ length k.blocks) (sym own) count) are admitted here
       (subst (λ (t : Terms (Cell J Tally)). HasState t.plan v.seen state) (sym terms) has) in

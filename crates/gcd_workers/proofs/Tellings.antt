@@ -19,13 +19,13 @@ use Rattle.gcd_history.specs.Runs.{is_ended as is_ended_after}
 use Rattle.gcd_history.specs.History.{IsLawful, has_run, is_block_cancelled, is_ended}
 use Rattle.gcd_history.specs.Values.{value_of}
 use Rattle.gcd_history.proofs.Lists.{list_any-reverse}
-use Rattle.gcd_history.proofs.CancelledStays.{cancelled_kept_on}
-use Rattle.gcd_history.proofs.LawfulLemmas.{lawful_after, lawful_take}
-use Rattle.gcd_history.proofs.StartedOnce.{open_from_has_run, open_not_ended}
-use Rattle.gcd_team.specs.TeamFacts.{IsNobodys}
-use Rattle.gcd_team.proofs.TeamLaws.{givings_are_the_holders, held_runs_are_open}
-use Rattle.gcd_loop.specs.Followed.{AcceptsNone}
-use Rattle.gcd_machine.proofs.Shown.{lawful_stands}
+use Rattle.gcd_history.proofs.Blocks.CancelledStays.{cancelled_kept_on}
+use Rattle.gcd_history.proofs.Permitted.Lawful.{lawful_after, lawful_take}
+use Rattle.gcd_history.proofs.Blocks.StartedOnce.{open_from_has_run, open_not_ended}
+use Rattle.gcd_history.specs.TeamFacts.{IsNobodys}
+use Rattle.gcd_history.proofs.Public.TeamLaws.{givings_are_the_holders, held_runs_are_open}
+use Rattle.gcd_history.specs.Intake.{AcceptsNone}
+use Rattle.gcd_machine.proofs.Views.Calls.{lawful_stands}
 use Rattle.gcd_row.proofs.Jobs.{plain_job}
 use Rattle.gcd_row.specs.Jobs.{May, jobs_of, placed_at, placed_jobs}
 use Rattle.gcd_row.specs.Lying.{BodyLies}
@@ -35,12 +35,13 @@ use Rattle.gcd_row.specs.declared.pass.RowPass.{RowPass}
 use Rattle.gcd_row.specs.Shapes.{done}
 use Rattle.gcd_row.specs.declared.cell.Cell.TheVariants.{Body, Done, Handler, Away}
 use Rattle.gcd_row.specs.declared.view.Terms.{Terms}
-use Rattle.gcd_team.proofs.CancelledRuns.{begun_where_held}
+use Rattle.gcd_history.proofs.HeldRuns.Cancelled.{begun_where_held}
 use Rattle.gcd_jobs.specs.BlockValues.{value_at_end}
 use Rattle.gcd_jobs.specs.Ends.{EndFits}
 use Rattle.gcd_jobs.proofs.ValuesMore.{end_fits}
+use Rattle.gcd_row.proofs.Passing.{valid_plan}
 use Rattle.gcd_workers.proofs.Intake.{ended_elsewhere}
-use Rattle.gcd_workers.proofs.Wholes.{lawful_pass, valid_pass}
+use Rattle.gcd_workers.proofs.Wholes.{lawful_pass}
 use Rattle.gcd_workers.specs.EndedValues.{HaveTheirValues, GiveWorks, HasItsValue, WorkCell, work_gives, work_shape}
 
 ended_at : (h : List Event) (i w : ℕ) (c : Blk) → slice_get h i ≡ Some (End w c) → is_ended h c.0 ≡ true
@@ -137,7 +138,7 @@ values_at_rest plan files b p cells pass is none works rest =
     let terms : (view p).terms ≡ terms_of b = pass.terms in
     let laid = subst (λ (k : PlanView). GiveWorks k files (terms_of b).cells) (sym is) works in
     subst (λ (k : PlanView). HaveTheirValues k files cells (view p).seen) (ap (λ (t : Terms WorkCell). t.plan) terms ∙ is)
-    (values_of_all files (view p).terms (placed_at (view p).handed.placed) (view p).seen cells (valid_pass work_shape work_gives b p pass)
+    (values_of_all files (view p).terms (placed_at (view p).handed.placed) (view p).seen cells (valid_plan work_shape work_gives b p pass)
     (lawful_stands (machine_of p) (view p).terms.plan (view p).seen pass.stands) none
     (subst (λ (t : Terms WorkCell). GiveWorks t.plan files t.cells) (sym terms) laid) rest)
 

@@ -1,12 +1,11 @@
 -- What worker 0 has seen of a run that has ended does not grow.
-use Rattle.std.proofs.Common.{◌≡◌, ◌≤◌, ◌<◌, ◌∙◌, ℕ, List, [], ◌∷◌, length, take, ap, subst, sym, arith}
+use Rattle.std.proofs.Common.{◌≡◌, ◌≤◌, ◌∙◌, ℕ, List, length, take, ap, subst, sym}
 use Rattle.gcd_event.specs.declared.event.Event.{Event}
 use Rattle.gcd_history.specs.History.{IsLawful}
-use Rattle.gcd_machine.proofs.Shown.{lawful_stands, valid_stands}
-use Rattle.gcd_plan.specs.Validity.{IsPlan}
+use Rattle.gcd_machine.proofs.Views.Calls.{lawful_stands}
 use Rattle.gcd_history.specs.Ends.{HasEnded}
-use Rattle.gcd_team.specs.Team.{of_worker}
-use Rattle.gcd_team.proofs.Own.{ended_histories_are_whole}
+use Rattle.gcd_history.specs.Team.{of_worker}
+use Rattle.gcd_history.proofs.HeldRuns.OwnEvents.{ended_histories_are_whole}
 use Rattle.gcd_row.specs.Passes.{Ahead, IsGathered, IsPassOf, terms_of, view, machine_of}
 use Rattle.gcd_row.specs.Shapes.{Shape}
 use Rattle.gcd_row.specs.declared.board.RowBoard.{RowBoard}
@@ -18,10 +17,6 @@ module _ {S : Type 0} (shape : S → Shape) (gives : S → ℕ → Type 0) where
   pub lawful_pass : (b : RowBoard S) (p : RowPass S) → IsPassOf shape gives b p → IsLawful (terms_of b).plan (view p).seen
   lawful_pass b p pass =
       subst (λ (t : Terms S). IsLawful t.plan (view p).seen) pass.terms (lawful_stands (machine_of p) (view p).terms.plan (view p).seen pass.stands)
-
-  -- of a plan that is valid
-  pub valid_pass : (b : RowBoard S) (p : RowPass S) → IsPassOf shape gives b p → IsPlan (view p).terms.plan
-  valid_pass b p pass = valid_stands (machine_of p) (view p).terms.plan (view p).seen pass.stands
 
   -- and has no more events than the board takes
   pub few_pass : (b : RowBoard S) (p : RowPass S) → IsPassOf shape gives b p → length (view p).seen ≤ (terms_of b).limits.most
@@ -44,12 +39,3 @@ module _ {S : Type 0} (shape : S → Shape) (gives : S → ℕ → Type 0) where
 pub gathered_same : {S : Type 0} (v w : View S) (journal : List Event) → w.seen ≡ v.seen → w.marks.passed ≡ v.marks.passed
     → IsGathered v journal → IsGathered w journal
 gathered_same v w journal seen passed is = is ∙ ap (take v.marks.passed) (sym seen) ∙ ap (λ (n : ℕ). take n w.seen) (sym passed)
-
--- one of a list that has some
-pub some_of : {T : Type 0} → (xs : List T) → 0 < length xs → T
-some_of [] some = absurd (omega arith)
-some_of (x ∷ xs) some = x
-
--- what holds of terms holds of the same terms
-pub with_terms : {S : Type 0} → (P : Terms S → Type 0) {a b : Terms S} → a ≡ b → P a → P b
-with_terms P is holds = subst P is holds

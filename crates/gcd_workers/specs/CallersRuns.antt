@@ -1,5 +1,5 @@
 -- What a run beside callers from outside leaves.
-use Rattle.std.specs.Prelude.{◌≡◌, ◌<◌, ◌≤◌, ◌⊎◌, ℕ, true, false, List, [], ◌++◌, length, Option, Some, None, slice_get}
+use Rattle.std.specs.Prelude.{◌≡◌, ◌<◌, ◌⊎◌, ℕ, true, false, List, ◌++◌, length, Option, Some, None, slice_get}
 use Rattle.std.specs.List.{AllZip, list_any}
 use Rattle.gcd_plan.specs.Made.{is_of_intake}
 use Rattle.gcd_plan.specs.PlanView.{PlanView}
@@ -7,8 +7,7 @@ use Rattle.gcd_plan.specs.declared.numbers.Blk.{Blk}
 use Rattle.gcd_event.specs.declared.event.Event.{Event}
 use Rattle.gcd_history.specs.Ends.{HasState}
 use Rattle.gcd_history.specs.History.{is_ended}
-use Rattle.gcd_history.specs.Intake.{shuts}
-use Rattle.gcd_history.specs.Report.{blocks_of_sender}
+use Rattle.gcd_history.specs.Intake.{shuts, AllAccepted, AcceptsOf, blocks_of_sender}
 use Rattle.gcd_history.specs.declared.state.State.{State}
 use Rattle.gcd_front.specs.Fronts.{KnowsAll, TookAll}
 use Rattle.gcd_front.specs.Queue.{jobs_of}
@@ -17,12 +16,7 @@ use Rattle.gcd_jobs.specs.BlockValues.{has_given}
 use Rattle.gcd_outer.specs.Outside.{ClockState, Seen}
 use Rattle.gcd_outer.specs.Tells.{PollerState}
 use Rattle.gcd_loop.specs.Ran.{RunsPlan}
-use Rattle.gcd_pool.specs.Admitted.{AllAccepted}
 use Rattle.gcd_workers.specs.JobsRuns.{IsGiven}
-
--- each job that was accepted is of one of so many senders, numbered from 0
-abbrev pub AcceptsOf : (senders : ℕ) → List Event → Type 0
-AcceptsOf senders h = (s : ℕ) → senders ≤ s → blocks_of_sender h s ≡ []
 
 -- For each block none where it has not ended or is cancelled; where it has given a value, and is not of the intake, one that its job may
 -- give. The jobs of the intake's blocks are the callers'.

@@ -8,7 +8,8 @@ use Rattle.gcd_history.specs.History.{IsLawful}
 use Rattle.gcd_history.specs.declared.state.State.{State}
 use Rattle.gcd_jobs.specs.BlockValues.{has_given}
 use Rattle.gcd_jobs.specs.declared.tally.Tally.{Tally}
-use Rattle.gcd_loop.specs.Followed.{AcceptsNone, FollowsChoice, IsOfWorkers}
+use Rattle.gcd_history.specs.Intake.{AcceptsNone}
+use Rattle.gcd_loop.specs.Followed.{FollowsChoice, IsOfWorkers}
 use Rattle.gcd_row.specs.Jobs.{Jobs}
 use Rattle.gcd_row.specs.Shapes.{MayGive, Shape, shape_of}
 use Rattle.gcd_row.specs.declared.cell.Cell.{Cell}

@@ -4,12 +4,12 @@ use Rattle.gcd_plan.specs.PlanView.{PlanView}
 use Rattle.gcd_event.specs.declared.event.Event.{Event}
 use Rattle.gcd_history.specs.Choice.{is_work, worker_of}
 use Rattle.gcd_history.specs.History.{choice_of, why}
-use Rattle.gcd_history.specs.Intake.{accepted}
+use Rattle.gcd_history.specs.Intake.{accepted, AcceptsNone}
 use Rattle.gcd_jobs.specs.BlockValues.{AreValues}
 use Rattle.gcd_machine.specs.Stands.{StandsFor}
 use Rattle.gcd_refinement.specs.MachineView.{MachineView}
 use Rattle.gcd_loop.specs.Recorded.{IsSight}
-use Rattle.gcd_loop.specs.Followed.{AcceptsNone, FollowsChoice, IsAllWorker0}
+use Rattle.gcd_loop.specs.Followed.{FollowsChoice, IsAllWorker0}
 
 -- a run so far: the machine stands for its journal, of which each event is worker 0's and its choice, and none accepts a job of an
 -- outside caller, and these are the values

@@ -7,7 +7,7 @@ use Rattle.gcd_history.specs.declared.state.State.{State}
 use Rattle.gcd_jobs.specs.BlockValues.{AreValues}
 use Rattle.gcd_outer.specs.Outside.{ClockState, Seen}
 use Rattle.gcd_outer.specs.Tells.{PollerState}
-use Rattle.gcd_loop.specs.Followed.{AcceptsNone}
+use Rattle.gcd_history.specs.Intake.{AcceptsNone}
 use Rattle.gcd_loop.specs.Ran.{RunsPlan}
 
 -- The run of a plan over the contents of its files, by so many workers, of at most `most` events: it promises what a run of any

@@ -16,7 +16,7 @@ ghost use Rattle.gcd_pool.specs.Each.{Each};
 ghost use Rattle.gcd_pool.specs.Hands.{IsPool, IsReady, Served};
 ghost use Rattle.gcd_turn.specs.Asked.{KeepsListens};
 ghost use Rattle.gcd_pool.specs.declared.hand.Hand.{Hand};
-ghost use Rattle.gcd_workers.specs.CallersRuns.{AcceptsOf};
+ghost use Rattle.gcd_history.specs.Intake.{AcceptsOf};
 ghost use Rattle.gcd_workers.specs.declared.refused.RunRefused.{RunRefused};
 ghost use Rattle.gcd_workers.specs.Teams.{EachFrom, HasLed, IsHead, IsNew, IsPassAt, IsReadyAt};
 

@@ -77,6 +77,8 @@
 //!
 //! It waits for others, so nothing says that it returns: a clock may stand still, and a poller may tell for ever of feeds that are no
 //! longer live. No clause says that a helper ever places an event.
+//!
+//! A job that is given to `run_jobs` must not wait for the job of another block: what it waits for may be held by it (docs/rules.md).
 #![tactic(auto)]
 
 mod alone;

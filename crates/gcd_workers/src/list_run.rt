@@ -13,7 +13,7 @@ ghost use Rattle.gcd_workers.specs.ListRuns.{IsListRun, IsNext};
 
 use gcd_event::Event;
 use gcd_jobs::{FileJob, Job};
-use gcd_loop::{Put, Recorder, Step};
+use gcd_loop::{PutEnd, Recorder, Step};
 use gcd_machine::Machine;
 use gcd_plan::{Blk, Plan, Run};
 use std::alloc::{AllocError, Global};
@@ -124,7 +124,7 @@ impl ListRun {
         most: u32,
         files: &[Vec<u8>],
         e: Event,
-    ) -> Result<Put, AllocError>
+    ) -> Result<PutEnd, AllocError>
         requires run { IsListRun most plan.now (contents files.now) self.old.journal.items self.old.values.items self.old.machine }
         requires room { length self.old.journal.items < most }
         requires by { worker_of e ≡ 0 }
@@ -134,10 +134,10 @@ impl ListRun {
         ensures said { IfOk result (Says most plan.now e self.old.journal.items self.new.journal.items) }
     {
         if self.machine.permits(e).is_some() {
-            return Ok(Put::Barred);
+            return Ok(PutEnd::Barred);
         }
         self.record(plan, most, files, e)?;
-        Ok(Put::Placed)
+        Ok(PutEnd::Placed)
     }
 }
 
@@ -187,7 +187,7 @@ impl<'a> Recorder<Files<'a>> for ListRun {
         most: u32,
         shared: &Files<'a>,
         e: Event,
-    ) -> Result<Put, AllocError> {
+    ) -> Result<PutEnd, AllocError> {
         self.put_one(plan, most, shared.all, e)
     }
 
@@ -199,7 +199,7 @@ impl<'a> Recorder<Files<'a>> for ListRun {
         plan: &Plan,
         most: u32,
         shared: &Files<'a>,
-    ) -> Result<Option<Put>, AllocError> {
+    ) -> Result<Option<PutEnd>, AllocError> {
         let put = self.put_one(plan, most, shared.all, Event::Shut)?;
         Ok(Some(put))
     }

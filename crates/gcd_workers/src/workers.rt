@@ -5,7 +5,7 @@ ghost use Rattle.gcd_plan.specs.Limits.{max_workers};
 ghost use Rattle.gcd_history.specs.Ends.{HasState};
 ghost use Rattle.gcd_jobs.specs.BlockValues.{AreValues};
 ghost use Rattle.gcd_jobs.specs.Contents.{contents};
-ghost use Rattle.gcd_loop.specs.Followed.{AcceptsNone};
+ghost use Rattle.gcd_history.specs.Intake.{AcceptsNone};
 ghost use Rattle.gcd_machine.specs.Stands.{StandsFor};
 ghost use Rattle.gcd_pool.specs.Hands.{IsPool};
 ghost use Rattle.gcd_row.specs.Passes.{IsGathered, IsPassOf, terms_of, view};

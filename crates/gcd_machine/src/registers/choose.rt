@@ -12,7 +12,7 @@ ghost use Rattle.gcd_machine.specs.Stands.{IsShaped};
 
 use super::Registers;
 use super::judge::is_worker;
-use gcd_drain::Marks;
+use gcd_drain::KnownChains;
 use gcd_event::Event;
 use gcd_plan::{Act, Blk, Obj, Run};
 
@@ -46,7 +46,7 @@ impl Registers {
         if self.is_busy(worker) {
             return None;
         }
-        self.node_choice(worker, node, &mut Marks::new())
+        self.node_choice(worker, node, &mut KnownChains::new())
     }
 
     // The next event of the run, which the worker has.
@@ -169,7 +169,7 @@ impl Registers {
         requires first { first ≤ length self.now.plan.objects }
         ensures { result ≡ all_nodes_at self.now worker first }
     {
-        let mut marks = Marks::new();
+        let mut marks = KnownChains::new();
         match self.nodes_choice(worker, first, self.plan.objects(), &mut marks) {
             Some(e) => Some(e),
             None => self.nodes_choice(worker, 0, first, &mut marks),
@@ -201,9 +201,15 @@ impl Registers {
     }
 
     // The first start or delivery of the objects from `from` on, below `end`. The marks say which chains are known.
-    #[tactic(auto, using(crate::proofs::Nodes::found_within, crate::proofs::Nodes::nodes_none))]
+    #[tactic(auto, using(crate::proofs::Choice::FirstNode::found_within, crate::proofs::Choice::FirstNode::nodes_none))]
     #[inline(always)]
-    fn nodes_choice(&self, worker: u8, from: u32, end: u32, marks: &mut Marks) -> Option<Event>
+    fn nodes_choice(
+        &self,
+        worker: u8,
+        from: u32,
+        end: u32,
+        marks: &mut KnownChains,
+    ) -> Option<Event>
         requires shape { IsShaped self.now }
         requires order { from ≤ end }
         requires within { end ≤ length self.now.plan.objects }
@@ -223,7 +229,7 @@ impl Registers {
 
     // The start of the first block that waits on the object, or the source's delivery, if it may come next.
     #[inline(always)]
-    fn node_choice(&self, worker: u8, node: Obj, marks: &mut Marks) -> Option<Event>
+    fn node_choice(&self, worker: u8, node: Obj, marks: &mut KnownChains) -> Option<Event>
         requires shape { IsShaped self.now }
         requires node { node.0 < length self.now.plan.objects }
         requires sound { AreSound self.now.drains self.now.tree self.now.holds marks.old }

@@ -1,7 +1,7 @@
 // Limits of waits: which are ahead, and which waits may expire.
 ghost use Rattle.std.specs.Prelude.{◌≡◌, ◌<◌, ◌≤◌, ◌+◌, Option, ℕ, Some, IfSome, IfNone, length, min, nat_le, true, false, slice_index_or, None};
 ghost use Rattle.std.specs.Option.{option_map_or};
-ghost use Rattle.gcd_soonest.specs.Least.{earlier, least};
+ghost use Rattle.gcd_sets.specs.Least.{earlier, least};
 ghost use Rattle.gcd_refinement.specs.MachineView.{ahead_at, next_due_in};
 ghost use Rattle.gcd_refinement.specs.AfterLimits.{is_reached};
 ghost use Rattle.gcd_plan.specs.declared.reason.Reason.{Reason};

@@ -18,7 +18,6 @@ ghost use Rattle.gcd_refinement.specs.MachineView.{idle, undelivered, lists_of, 
 
 use super::{BlockArrays, EndParts, EventParts, NodeParts, Registers, RunArrays};
 use gcd_apply::Strips;
-use gcd_bits::BitSet;
 use gcd_blockobj::{Marks, mark_room};
 use gcd_drain::Drains;
 use gcd_group::Groups;
@@ -28,7 +27,7 @@ use gcd_objects::Objects;
 use gcd_plan::{Blk, MAX_WORKERS, Plan, Run};
 use gcd_refinement::{BlockProgress, HandlerProgress};
 use gcd_sema::Semas;
-use gcd_soonest::Times;
+use gcd_sets::{BitSet, Times};
 use gcd_source::Sources;
 use gcd_sync::{Waits, limit_room};
 use gcd_timer::Timers;

@@ -1,7 +1,8 @@
 use Rattle.std.proofs.Common.{arith, ◌-◌, ap, sym, ◌∙◌, length, get_or, None}
 use Rattle.std.specs.List.{slice_get}
 use Rattle.gcd_plan.specs.PlanView.{strip_view}
-use Rattle.gcd_apply.proofs.Numbering.{strip_there, strip_low, number_step, told_all}
+use Rattle.gcd_apply.proofs.Numbering.{number_step, told_all}
+use Rattle.gcd_plan.proofs.Strips.{strip_there, strip_low}
 use Rattle.gcd_apply.proofs.strips.numbers.Goals as goal
 
 pub number-requires : goal.number-requires

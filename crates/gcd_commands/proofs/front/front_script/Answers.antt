@@ -1,5 +1,4 @@
-use Rattle.std.proofs.Common.{◌+◌, ◌∙◌, map, length, ap, sym, refl}
-use Rattle.std.proofs.lemmas.List.{length-map}
+use Rattle.std.proofs.Common.{◌+◌, map, length, refl}
 use Rattle.gcd_commands.specs.Fronts.FrontEnds.{ran}
 use Rattle.gcd_commands.specs.Fronts.StopsFront.{wanting}
 use Rattle.gcd_commands.proofs.Loading.{handed_on}

@@ -1,9 +1,8 @@
-use Rattle.std.proofs.Common.{◌≡◌, ◌∙◌, ◌<◌, ◌/◌, ℕ, List, Some, length, ap, subst, sym, arith}
+use Rattle.std.proofs.Common.{◌≡◌, ◌∙◌, ◌<◌, ◌/◌, List, length, ap, subst, sym, arith}
 use Rattle.std.specs.Prelude.{slice_index_or}
-use Rattle.gcd_front.specs.Views.{left_of, mouth_of}
 use Rattle.gcd_commands.specs.Senders.{HasSent, IsTakenOf}
 use Rattle.gcd_commands.specs.declared.senders.Sender.{Sender}
-use Rattle.gcd_commands.proofs.Hears.{fits, ran_beside}
+use Rattle.gcd_commands.proofs.Hears.{ran_beside}
 use Rattle.gcd_commands.proofs.Sending.{open_at, open_count}
 use Rattle.gcd_commands.proofs.front.run_beside_senders.Goals as goal
 

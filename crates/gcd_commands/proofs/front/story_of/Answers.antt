@@ -1,7 +1,7 @@
 use Rattle.std.proofs.Common.{◌≤◌, ℕ, List, length, subst, sym}
 use Rattle.gcd_plan.specs.Limits.{max_blocks}
 use Rattle.gcd_event.specs.declared.event.Event.{Event}
-use Rattle.gcd_history.specs.Report.{blocks_of_sender}
+use Rattle.gcd_history.specs.Intake.{blocks_of_sender}
 use Rattle.gcd_journal.specs.Spoken.{AreSpoken}
 use Rattle.gcd_history.specs.Report.{front_text}
 use Rattle.gcd_commands.specs.Fronts.{value_or_0}

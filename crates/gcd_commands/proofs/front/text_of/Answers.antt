@@ -1,8 +1,9 @@
 use Rattle.std.proofs.Common.{◌≡◌, ◌∙◌, ◌++◌, ap, sym, arith}
 use Rattle.std.specs.List.{flat_map, range_with_len}
+use Rattle.gcd_facts.proofs.Ranges.{flat_range_more}
 use Rattle.gcd_history.specs.Report.{last_line}
 use Rattle.gcd_commands.specs.Fronts.{sender_text}
-use Rattle.gcd_commands.proofs.Lines.{lines_more, text_is}
+use Rattle.gcd_commands.proofs.Lines.{text_is}
 use Rattle.gcd_commands.proofs.front.text_of.Goals as goal
 
 pub add_sender-requires : goal.add_sender-requires
@@ -11,7 +12,7 @@ add_sender-requires c = record { few = c.requires.few c.loop-sender.sender }
 pub loop-sender-preserved : goal.loop-sender-preserved
 loop-sender-preserved c =
     let line = sender_text c.args.values.now c.args.journal.now in
-    c.in_ok-add_sender.ensures ∙ ap (λ l. l ++ line c.loop-sender.sender) c.loop-sender.invariant ∙ sym (lines_more line c.loop-sender.sender)
+    c.in_ok-add_sender.ensures ∙ ap (λ l. l ++ line c.loop-sender.sender) c.loop-sender.invariant ∙ sym (flat_range_more line c.loop-sender.sender)
 
 pub returns : goal.returns
 returns c =

@@ -1,6 +1,6 @@
-use Rattle.std.proofs.Common.{◌∙◌, map, ap, arith, rules}
+use Rattle.std.proofs.Common.{◌∙◌, map, ap, arith}
 use Rattle.std.proofs.lemmas.List.{take_all}
-use Rattle.gcd_history.specs.Report.{blocks_of_sender}
+use Rattle.gcd_history.specs.Intake.{blocks_of_sender}
 use Rattle.gcd_commands.specs.Fronts.{value_or_0}
 use Rattle.gcd_commands.proofs.Lines.{values_more}
 use Rattle.gcd_commands.proofs.front.values_of_sender.Goals as goal

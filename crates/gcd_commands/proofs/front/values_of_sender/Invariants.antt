@@ -1,5 +1,5 @@
 use Rattle.std.proofs.Common.{◌≡◌, map, take}
-use Rattle.gcd_history.specs.Report.{blocks_of_sender}
+use Rattle.gcd_history.specs.Intake.{blocks_of_sender}
 use Rattle.gcd_commands.specs.Fronts.{value_or_0}
 use Rattle.gcd_commands.proofs.front.values_of_sender.Given as goal
 

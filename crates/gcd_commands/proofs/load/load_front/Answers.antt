@@ -1,6 +1,6 @@
-use Rattle.std.proofs.Common.{◌≡◌, ◌+◌, ◌∙◌, Option, None, length, option_map, ap, sym, refl, arith}
+use Rattle.std.proofs.Common.{◌≡◌, ◌+◌, ◌∙◌, None, length, option_map, ap, sym, refl, arith}
 use Rattle.std.proofs.lemmas.List.{length-map}
-use Rattle.gcd_plan.specs.PlanView.{IntakeView, file_view, intake_view}
+use Rattle.gcd_plan.specs.PlanView.{file_view, intake_view}
 use Rattle.gcd_outer.specs.Outside.{ShelfSeen, shelf_seen}
 use Rattle.gcd_commands.specs.Fronts.StopsFront.{at_script, at_intake, at_file}
 use Rattle.gcd_commands.proofs.Loading.{SameShelf, are_loaded_same, file_since, handed_on, made_later, none_of, plan_since}

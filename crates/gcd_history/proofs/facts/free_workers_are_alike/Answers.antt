@@ -1,4 +1,4 @@
-use Rattle.gcd_history.proofs.PublicFacts.{free_alike, all_workers_free}
+use Rattle.gcd_history.proofs.Public.Facts.{free_alike, all_workers_free}
 use Rattle.gcd_history.proofs.facts.free_workers_are_alike.Goals as goal
 
 pub returns : goal.returns

@@ -1,4 +1,4 @@
-use Rattle.gcd_history.proofs.PublicFacts.{only_active_move, targets_change_alone}
+use Rattle.gcd_history.proofs.Public.Facts.{only_active_move, targets_change_alone}
 use Rattle.gcd_history.proofs.facts.targets_change_alone.Goals as goal
 
 pub returns : goal.returns

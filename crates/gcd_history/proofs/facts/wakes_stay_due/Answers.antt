@@ -1,4 +1,4 @@
-use Rattle.gcd_history.proofs.PublicFacts.{wakes_due, wakes_permitted}
+use Rattle.gcd_history.proofs.Public.Facts.{wakes_due, wakes_permitted}
 use Rattle.gcd_history.proofs.facts.wakes_stay_due.Goals as goal
 
 pub returns : goal.returns

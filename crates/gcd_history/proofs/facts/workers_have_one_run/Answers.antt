@@ -1,4 +1,4 @@
-use Rattle.gcd_history.proofs.PublicFacts.{has_one_run, gives_to_free}
+use Rattle.gcd_history.proofs.Public.Facts.{has_one_run, gives_to_free}
 use Rattle.gcd_history.proofs.facts.workers_have_one_run.Goals as goal
 
 pub returns : goal.returns

@@ -1,4 +1,4 @@
-use Rattle.gcd_history.proofs.LawfulLemmas.{lawful_front, lawful_take}
+use Rattle.gcd_history.proofs.Permitted.Lawful.{lawful_front, lawful_take}
 use Rattle.gcd_history.proofs.lawful.fronts_are_lawful.Goals as goal
 
 pub returns : goal.returns

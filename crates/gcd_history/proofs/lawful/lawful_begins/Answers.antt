@@ -1,4 +1,4 @@
-use Rattle.gcd_history.proofs.LawfulLemmas.{lawful_none}
+use Rattle.gcd_history.proofs.Permitted.Lawful.{lawful_none}
 use Rattle.gcd_history.proofs.lawful.lawful_begins.Goals as goal
 
 pub returns : goal.returns

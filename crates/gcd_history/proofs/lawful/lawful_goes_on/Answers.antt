@@ -1,4 +1,4 @@
-use Rattle.gcd_history.proofs.LawfulLemmas.{lawful_more}
+use Rattle.gcd_history.proofs.Permitted.Lawful.{lawful_more}
 use Rattle.gcd_history.proofs.lawful.lawful_goes_on.Goals as goal
 
 pub returns : goal.returns

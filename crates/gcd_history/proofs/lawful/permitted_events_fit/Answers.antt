@@ -1,4 +1,4 @@
-use Rattle.gcd_history.proofs.Fitting.{permitted_fits}
+use Rattle.gcd_history.proofs.Permitted.Fitting.{permitted_fits}
 use Rattle.gcd_history.proofs.lawful.permitted_events_fit.Goals as goal
 
 pub returns : goal.returns

@@ -1,4 +1,4 @@
-use Rattle.gcd_history.proofs.PublicLaws.{barriers_exclude}
+use Rattle.gcd_history.proofs.Public.Laws.{barriers_exclude}
 use Rattle.gcd_history.proofs.laws.barriers_exclude.Goals as goal
 
 pub returns : goal.returns

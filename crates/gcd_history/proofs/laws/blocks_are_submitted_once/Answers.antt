@@ -1,4 +1,4 @@
-use Rattle.gcd_history.proofs.PublicLaws.{is_submitted_once}
+use Rattle.gcd_history.proofs.Public.Laws.{is_submitted_once}
 use Rattle.gcd_history.proofs.laws.blocks_are_submitted_once.Goals as goal
 
 pub returns : goal.returns

@@ -1,4 +1,4 @@
-use Rattle.gcd_history.proofs.PublicLaws.{blocks_of_one_node_apart}
+use Rattle.gcd_history.proofs.Public.Laws.{blocks_of_one_node_apart}
 use Rattle.gcd_history.proofs.laws.blocks_of_one_queue_exclude_each_other.Goals as goal
 
 pub returns : goal.returns

@@ -1,4 +1,4 @@
-use Rattle.gcd_history.proofs.PublicLaws.{runs_once, starts_after_submission, all_end_once}
+use Rattle.gcd_history.proofs.Public.Laws.{runs_once, starts_after_submission, all_end_once}
 use Rattle.gcd_history.proofs.laws.blocks_run_once.Goals as goal
 
 pub returns : goal.returns

@@ -1,4 +1,4 @@
-use Rattle.gcd_history.proofs.PublicBlockLaws.{cancelled_blocks_do_nothing, cancelled_blocks_may_end}
+use Rattle.gcd_history.proofs.Public.BlockLaws.{cancelled_blocks_do_nothing, cancelled_blocks_may_end}
 use Rattle.gcd_history.proofs.laws.cancelled_blocks_do_nothing.Goals as goal
 
 pub returns : goal.returns

@@ -1,4 +1,4 @@
-use Rattle.gcd_history.proofs.PublicLaws.{choice_is_permitted, no_choice_is_none}
+use Rattle.gcd_history.proofs.Public.Laws.{choice_is_permitted, no_choice_is_none}
 use Rattle.gcd_history.proofs.laws.choices_are_complete.Goals as goal
 
 pub returns : goal.returns

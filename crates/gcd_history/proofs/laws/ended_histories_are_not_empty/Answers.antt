@@ -1,4 +1,4 @@
-use Rattle.gcd_history.proofs.NotEmpty.{ended_is_not_empty}
+use Rattle.gcd_history.proofs.Permitted.NotEmpty.{ended_is_not_empty}
 use Rattle.gcd_history.proofs.laws.ended_histories_are_not_empty.Goals as goal
 
 pub returns : goal.returns

@@ -1,4 +1,4 @@
-use Rattle.gcd_history.proofs.OneState.{one_state}
+use Rattle.gcd_history.proofs.Permitted.OneState.{one_state}
 use Rattle.gcd_history.proofs.laws.states_are_apart.Goals as goal
 
 pub returns : goal.returns

@@ -1,6 +1,6 @@
 use Rattle.std.proofs.Common.{◌∙◌, ap, sym, is_some}
 use Rattle.gcd_history.specs.History.{is_submitted}
-use Rattle.gcd_machine.proofs.Shown.{valid_stands}
+use Rattle.gcd_machine.proofs.Views.Calls.{valid_stands}
 use Rattle.gcd_journal.proofs.ReportLines.{main_submitted, others_submitted}
 use Rattle.gcd_journal.proofs.report.is_submitted.Goals as goal
 

@@ -2,8 +2,8 @@ use Rattle.std.proofs.Common.{◌≡◌, ◌∙◌, ◌++◌, length, ap}
 use Rattle.std.specs.List.{flat_map, range_with_len}
 use Rattle.std.proofs.lemmas.Result.{on_ok_weaker}
 use Rattle.gcd_history.specs.Report.{result_line, source_line, stuck_lines, last_line, report_by}
-use Rattle.gcd_history.proofs.OneState.{one_state}
-use Rattle.gcd_machine.proofs.Shown.{plan_stands, valid_stands, lawful_stands}
+use Rattle.gcd_history.proofs.Permitted.OneState.{one_state}
+use Rattle.gcd_machine.proofs.Views.Calls.{plan_stands, valid_stands, lawful_stands}
 use Rattle.gcd_journal.proofs.LawfulSpoken.{lawful_spoken}
 use Rattle.gcd_journal.proofs.ReportLines.{four_parts}
 use Rattle.gcd_journal.proofs.report.push_report.Goals as goal

@@ -1,5 +1,5 @@
 use Rattle.std.proofs.Common.{◌∙◌, ◌++◌, ◌∷◌, [], length, ap, arith}
-use Rattle.gcd_machine.proofs.Shown.{plan_stands, valid_stands}
+use Rattle.gcd_machine.proofs.Views.Calls.{plan_stands, valid_stands}
 use Rattle.gcd_journal.specs.declared.totals.Total.{Total}
 use Rattle.gcd_journal.proofs.TotalsOf.{delivered_source, delivery_of, other_event}
 use Rattle.gcd_journal.proofs.totals.note.Goals as goal

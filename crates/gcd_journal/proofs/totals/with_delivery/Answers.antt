@@ -1,5 +1,5 @@
 use Rattle.std.proofs.Common.{arith}
-use Rattle.gcd_journal.proofs.TotalsOf.{folded_low}
+use Rattle.gcd_plan.proofs.Folded.{folded_low}
 use Rattle.gcd_journal.proofs.totals.with_delivery.Goals as goal
 
 pub folded-requires : goal.folded-requires

@@ -1,6 +1,6 @@
 use Rattle.std.proofs.Common.{◌∙◌, refl, sym}
 use Rattle.std.proofs.lemmas.Result.{on_ok_weaker}
-use Rattle.gcd_machine.proofs.Chosen.{choice_stands}
+use Rattle.gcd_machine.proofs.Choice.Calls.{choice_stands}
 use Rattle.gcd_loop.proofs.Events.{put_is_outside}
 use Rattle.gcd_loop.proofs.Goings.{going_on}
 use Rattle.gcd_loop.proofs.Steps.{going_put, later_listens}

@@ -1,7 +1,7 @@
 use Rattle.std.proofs.Common.{subst}
 use Rattle.gcd_loop.specs.Recorded.{Says}
-use Rattle.gcd_loop.specs.declared.recorder.Put.{Put}
-use Rattle.gcd_loop.specs.declared.recorder.Put.TheVariants.{Placed, Barred, Later}
+use Rattle.gcd_loop.specs.declared.recorder.PutEnd.{PutEnd}
+use Rattle.gcd_loop.specs.declared.recorder.PutEnd.TheVariants.{Placed, Barred, Later}
 use Rattle.gcd_loop.proofs.Steps.{sight_lawful}
 use Rattle.gcd_loop.proofs.turns.put.Goals as goal
 
@@ -12,7 +12,7 @@ returns-in-Placed-clause-said g c =
     let sight = g.met.T.Recorder.stands c.args.most plan c.args.shared.now c.put.new.self c.in_ok-put.ensures.ready in
     record {
       answer = Placed;
-      said = subst (λ (r : Put). Says c.args.most plan c.args.e h k r) c.in-Placed.is c.in_ok-put.ensures.said;
+      said = subst (λ (r : PutEnd). Says c.args.most plan c.args.e h k r) c.in-Placed.is c.in_ok-put.ensures.said;
       lawful = sight_lawful c.args.most plan k (g.T.Recorder.sight c.put.new.self) sight;
       few = sight.few;
     }
@@ -24,7 +24,7 @@ returns-in-Barred-clause-said g c =
     let sight = g.met.T.Recorder.stands c.args.most plan c.args.shared.now c.put.new.self c.in_ok-put.ensures.ready in
     record {
       answer = Barred;
-      said = subst (λ (r : Put). Says c.args.most plan c.args.e h k r) c.in-Barred.is c.in_ok-put.ensures.said;
+      said = subst (λ (r : PutEnd). Says c.args.most plan c.args.e h k r) c.in-Barred.is c.in_ok-put.ensures.said;
       lawful = sight_lawful c.args.most plan k (g.T.Recorder.sight c.put.new.self) sight;
       few = sight.few;
     }
@@ -36,7 +36,7 @@ returns-in-Later-clause-said g c =
     let sight = g.met.T.Recorder.stands c.args.most plan c.args.shared.now c.put.new.self c.in_ok-put.ensures.ready in
     record {
       answer = Later;
-      said = subst (λ (r : Put). Says c.args.most plan c.args.e h k r) c.in-Later.is c.in_ok-put.ensures.said;
+      said = subst (λ (r : PutEnd). Says c.args.most plan c.args.e h k r) c.in-Later.is c.in_ok-put.ensures.said;
       lawful = sight_lawful c.args.most plan k (g.T.Recorder.sight c.put.new.self) sight;
       few = sight.few;
     }

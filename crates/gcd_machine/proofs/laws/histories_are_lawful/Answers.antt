@@ -1,4 +1,4 @@
-use Rattle.gcd_machine.proofs.Shown.{lawful_stands, plan_stands, valid_stands}
+use Rattle.gcd_machine.proofs.Views.Calls.{lawful_stands, plan_stands, valid_stands}
 use Rattle.gcd_machine.proofs.laws.histories_are_lawful.Goals as goal
 
 pub returns : goal.returns

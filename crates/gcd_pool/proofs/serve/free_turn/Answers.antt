@@ -1,5 +1,5 @@
 use Rattle.std.proofs.Common.{ap}
-use Rattle.gcd_team.specs.Team.{of_worker}
+use Rattle.gcd_history.specs.Team.{of_worker}
 use Rattle.gcd_row.specs.Passes.{view}
 use Rattle.gcd_pool.proofs.Laid.{waits_out}
 use Rattle.gcd_pool.proofs.Placing.{placed_further, quiet_further, waits_placed, waits_rested}

@@ -2,7 +2,8 @@ use Rattle.std.proofs.Common.{◌≡◌, ◌∙◌, [], ℕ, List, ap, subst, sy
 use Rattle.gcd_event.specs.declared.event.Event.{Event}
 use Rattle.gcd_outer.specs.Outside.{ClockState, Seen}
 use Rattle.gcd_outer.specs.Tells.{PollerState}
-use Rattle.gcd_loop.specs.Followed.{AcceptsNone, FollowsChoice, IsOfWorkers}
+use Rattle.gcd_history.specs.Intake.{AcceptsNone}
+use Rattle.gcd_loop.specs.Followed.{FollowsChoice, IsOfWorkers}
 use Rattle.gcd_loop.specs.Ran.{RunsPlan}
 use Rattle.gcd_loop.proofs.Steps.{going_first, run_on, runs_plan}
 use Rattle.gcd_rounds.specs.Running.{turn_sight}

@@ -2,7 +2,7 @@ use Rattle.std.proofs.Common.{◌≡◌, ◌∙◌, true, subst, sym}
 use Rattle.std.proofs.lemmas.Bool.{both_ways, eqb-true}
 use Rattle.gcd_history.specs.History.{is_block_cancelled}
 use Rattle.gcd_history.specs.Runs.{ends}
-use Rattle.gcd_rounds.proofs.Grown.{ends_none}
+use Rattle.gcd_history.proofs.Blocks.StartedOnce.{ends_none}
 use Rattle.gcd_rounds.proofs.turns.end_with_work.Goals as goal
 
 pub returns-in_default-clause-none : goal.returns-in_default-clause-none

@@ -1,7 +1,7 @@
 use Rattle.std.proofs.Common.{◌≡◌, ◌-◌, ◌∙◌, ℕ, Bool, Option, None, Some, ap, sym, arith, length}
 use Rattle.std.specs.List.{find, range_with_len}
 use Rattle.std.specs.Option.{option_map}
-use Rattle.gcd_bits.proofs.Ranges.{IsFirst, found_first, found_none}
+use Rattle.gcd_sets.proofs.Ranges.{IsFirst, found_first, found_none}
 use Rattle.gcd_history.specs.History.{is_live_feed}
 use Rattle.gcd_plan.specs.declared.numbers.Obj.{Obj}
 use Rattle.gcd_turn.proofs.steps.live_feed_from.Goals as goal

@@ -1,7 +1,7 @@
 use Rattle.std.proofs.Common.{◌<◌, length, inl, inr}
 use Rattle.std.proofs.lemmas.Bool.{both_ways, cases_lt}
-use Rattle.gcd_history.proofs.Fitting.{has_object}
 use Rattle.gcd_plan.specs.Kinds.{is_read_kind}
+use Rattle.gcd_plan.proofs.Within.{has_object}
 use Rattle.gcd_turn.proofs.HistoryMore.{live_facts}
 use Rattle.gcd_turn.proofs.steps.watch_new.Goals as goal
 

@@ -3,7 +3,7 @@ use Rattle.gcd_event.specs.declared.event.Event.{Event}
 use Rattle.gcd_jobs.specs.Contents.{contents}
 use Rattle.gcd_loop.proofs.Follows.{workers_of_alone}
 use Rattle.gcd_loop.proofs.Steps.{runs_plan}
-use Rattle.gcd_loop.specs.Followed.{AcceptsNone}
+use Rattle.gcd_history.specs.Intake.{AcceptsNone}
 use Rattle.gcd_loop.specs.Going.{IsRunOn}
 use Rattle.gcd_outer.specs.Outside.{ClockState, Seen}
 use Rattle.gcd_outer.specs.Tells.{PollerState}

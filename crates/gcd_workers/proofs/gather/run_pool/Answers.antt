@@ -5,7 +5,7 @@ use Rattle.gcd_outer.specs.Tells.{PollerState}
 use Rattle.gcd_loop.specs.Ran.{RunsPlan}
 use Rattle.gcd_row.specs.Passes.{terms_of, view}
 use Rattle.gcd_steal.specs.Racks.{IsBenchOf}
-use Rattle.gcd_workers.specs.CallersRuns.{AcceptsOf}
+use Rattle.gcd_history.specs.Intake.{AcceptsOf}
 use Rattle.gcd_workers.specs.Teams.{HasLed, IsHead}
 use Rattle.gcd_workers.proofs.Heads.{head_first}
 use Rattle.gcd_workers.proofs.Hires.{all_after, all_first}

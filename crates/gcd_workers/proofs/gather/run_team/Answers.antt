@@ -1,17 +1,17 @@
 use Rattle.std.proofs.Common.{◌≡◌, ◌∙◌, ℕ, List, length, subst, sym, arith}
 use Rattle.std.specs.Prelude.{slice_index_or}
+use Rattle.gcd_facts.proofs.Lists.{one_of}
 use Rattle.gcd_event.specs.declared.event.Event.{Event}
 use Rattle.gcd_row.specs.Passes.{terms_of, view}
 use Rattle.gcd_row.specs.Shapes.{gives_of, shape_of}
 use Rattle.gcd_history.specs.Ends.{HasEnded}
 use Rattle.gcd_outer.specs.Outside.{ClockState, Seen}
 use Rattle.gcd_outer.specs.Tells.{PollerState}
-use Rattle.gcd_workers.specs.CallersRuns.{AcceptsOf}
+use Rattle.gcd_history.specs.Intake.{AcceptsOf}
 use Rattle.gcd_workers.specs.Teams.{HasLed}
 use Rattle.gcd_workers.proofs.Senders.{admitted_after, asks_at_first}
 use Rattle.gcd_workers.proofs.Hires.{ended_after, gathered_after}
 use Rattle.gcd_workers.proofs.Runs.{team_ran}
-use Rattle.gcd_workers.proofs.Wholes.{some_of}
 use Rattle.gcd_workers.proofs.gather.run_team.Goals as goal
 
 pub take_all-pass-requires-clause-gathered : goal.take_all-pass-requires-clause-gathered
@@ -21,7 +21,7 @@ take_all-pass-requires-clause-gathered g c = λ d.
 
 pub look_round-requires-clause-ended : goal.look_round-requires-clause-ended
 look_round-requires-clause-ended g c =
-    let d = some_of c.args.hands.items c.requires.some.0 in
+    let d = one_of c.args.hands.items c.requires.some.0 in
     let board = c.args.pool.now.board.now in
     subst (λ (h : List Event). HasEnded (terms_of board).limits.most (terms_of board).plan h) (sym (c.take_all-pass.ensures.seen d))
     (ended_after (shape_of g.H.Handler.kind g.H.Handler.times g.H.Handler.total) (gives_of g.J.Job.gives) c.args.pool.now c.args.hands.items c.in_ok-hands.hands.items c.requires.some.0 c.in_ok-hands.ensures.served d)
@@ -36,7 +36,7 @@ lead-requires-clause-asks g c = λ lifetimes outlive d.
 
 pub returns-clause-admitted : goal.returns-clause-admitted
 returns-clause-admitted g c =
-    let d = some_of c.args.hands.items c.requires.some.0 in
+    let d = one_of c.args.hands.items c.requires.some.0 in
     let led = c.in_ok-hands.ensures.led d in
     admitted_after (gives_of g.J.Job.gives) g.X.Sent.gives c.args.front.now (shape_of g.H.Handler.kind g.H.Handler.times g.H.Handler.total) c.args.pool.now
     c.args.hands.items c.in_ok-hands.hands.items c.look_round.new.pass c.lead.new.intake d c.requires.some.0 c.in_ok-hands.ensures.served c.look_round.ensures.pass
@@ -45,12 +45,12 @@ returns-clause-admitted g c =
 
 pub returns-clause-intake : goal.returns-clause-intake
 returns-clause-intake g c =
-    let d = some_of c.args.hands.items c.requires.some.0 in
+    let d = one_of c.args.hands.items c.requires.some.0 in
     (c.in_ok-hands.ensures.led d).of_front tt (c.requires.head d).worker
 
 pub returns-clause-ran : goal.returns-clause-ran
 returns-clause-ran g c =
-    let d = some_of c.args.hands.items c.requires.some.0 in
+    let d = one_of c.args.hands.items c.requires.some.0 in
     let led = (c.in_ok-hands.ensures.led d).led in
     let told : Seen PollerState = record { tells = g.P.Poller.tells; before = g.P.Poller.state c.args.poller.now; after = g.P.Poller.state c.lead.new.poller } in
     let timed : Seen ClockState = record { tells = g.C.Clock.tells; before = g.C.Clock.state c.args.clock.now; after = g.C.Clock.state c.lead.new.clock } in
@@ -66,10 +66,10 @@ returns-clause-ran g c =
 
 pub returns-clause-kept : goal.returns-clause-kept
 returns-clause-kept g c =
-    let d = some_of c.args.hands.items c.requires.some.0 in
+    let d = one_of c.args.hands.items c.requires.some.0 in
     c.lead.ensures.kept d (c.requires.head d).worker
 
 pub returns-in_err-hands-clause-kept : goal.returns-in_err-hands-clause-kept
 returns-in_err-hands-clause-kept g c =
-    let d = some_of c.args.hands.items c.requires.some.0 in
+    let d = one_of c.args.hands.items c.requires.some.0 in
     c.lead.ensures.kept d (c.requires.head d).worker

@@ -1,6 +1,6 @@
 use Rattle.gcd_jobs.proofs.ValuesMore.{ended_block, none_ended, source_ended, values_ended, values_same}
 use Rattle.gcd_jobs.specs.Contents.{contents}
-use Rattle.gcd_machine.proofs.Shown.{lawful_stands}
+use Rattle.gcd_machine.proofs.Views.Calls.{lawful_stands}
 use Rattle.gcd_workers.proofs.list_run.note_end.Goals as goal
 
 pub value_at_end-requires-clause-within : goal.value_at_end-requires-clause-within

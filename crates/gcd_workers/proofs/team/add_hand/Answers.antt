@@ -1,8 +1,9 @@
 use Rattle.std.proofs.Common.{◌+◌, ◌∙◌, ap, sym, subst, arith}
+use Rattle.gcd_history.proofs.HeldRuns.OwnEvents.{none_own}
 use Rattle.gcd_row.specs.Passes.{view}
 use Rattle.gcd_workers.specs.Teams.{EachFrom, IsHead, IsReadyAt}
 use Rattle.gcd_workers.proofs.Heads.{head_out}
-use Rattle.gcd_workers.proofs.Hires.{hired, nothing_own}
+use Rattle.gcd_workers.proofs.Hires.{hired}
 use Rattle.gcd_workers.proofs.team.add_hand.Goals as goal
 
 pub split-requires-clause-number : goal.split-requires-clause-number
@@ -11,7 +12,7 @@ split-requires-clause-number g c = (c.requires.number.0, c.requires.number.1, c.
 pub new-requires-clause-none : goal.new-requires-clause-none
 new-requires-clause-none g c =
     let other = view c.in_ok-other.other in
-    nothing_own other.worker other.seen (ap (λ v. v.seen) c.in_ok-other.ensures.new.1 ∙ c.requires.none)
+    none_own other.worker other.seen (ap (λ v. v.seen) c.in_ok-other.ensures.new.1 ∙ c.requires.none)
 
 pub new-requires-clause-passed : goal.new-requires-clause-passed
 new-requires-clause-passed g c = λ zero. ap (λ v. v.marks.passed) c.in_ok-other.ensures.new.1

@@ -1,12 +1,13 @@
 use Rattle.std.proofs.Common.{◌≡◌, ◌∙◌, ◌+◌, [], length, ap, sym, subst, arith}
+use Rattle.gcd_history.proofs.HeldRuns.OwnEvents.{none_own}
 use Rattle.gcd_row.specs.Passes.{view}
 use Rattle.gcd_workers.specs.Teams.{EachFrom, IsHead, IsReadyAt}
-use Rattle.gcd_workers.proofs.Hires.{first_has, nothing_own, pass_has}
+use Rattle.gcd_workers.proofs.Hires.{first_has, pass_has}
 use Rattle.gcd_workers.proofs.Places.{each_front}
 use Rattle.gcd_workers.proofs.team.hands_of.Goals as goal
 
 pub new-requires-clause-none : goal.new-requires-clause-none
-new-requires-clause-none g c = nothing_own (view c.add_hands.new.pass).worker (view c.add_hands.new.pass).seen c.in_ok-add_hands.ensures.none
+new-requires-clause-none g c = none_own (view c.add_hands.new.pass).worker (view c.add_hands.new.pass).seen c.in_ok-add_hands.ensures.none
 
 pub new-requires-clause-passed : goal.new-requires-clause-passed
 new-requires-clause-passed g c = λ zero. c.in_ok-add_hands.ensures.passed

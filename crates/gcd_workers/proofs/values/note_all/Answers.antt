@@ -5,7 +5,7 @@ use Rattle.gcd_event.specs.declared.event.Event.{Event}
 use Rattle.gcd_jobs.specs.Contents.{contents}
 use Rattle.gcd_jobs.specs.BlockValues.{AreValues}
 use Rattle.gcd_history.specs.History.{IsLawful}
-use Rattle.gcd_history.proofs.LawfulLemmas.{lawful_take}
+use Rattle.gcd_history.proofs.Permitted.Lawful.{lawful_take}
 use Rattle.gcd_jobs.proofs.ValuesMore.{end_fits, no_values}
 use Rattle.gcd_workers.proofs.values.note_all.Goals as goal
 

@@ -4,8 +4,8 @@ use Rattle.gcd_outer.specs.Outside.{ClockState, Seen}
 use Rattle.gcd_outer.specs.Tells.{PollerState}
 use Rattle.gcd_jobs.specs.Contents.{contents}
 use Rattle.gcd_row.specs.Passes.{terms_of, view}
-use Rattle.gcd_loop.specs.Followed.{AcceptsNone}
-use Rattle.gcd_workers.specs.CallersRuns.{AcceptsOf}
+use Rattle.gcd_history.specs.Intake.{AcceptsNone}
+use Rattle.gcd_history.specs.Intake.{AcceptsOf}
 use Rattle.gcd_workers.proofs.Senders.{calls_none}
 use Rattle.gcd_workers.proofs.Heads.{led_by_more}
 use Rattle.gcd_workers.proofs.Pools.{limits_along, plan_along, pool_of}

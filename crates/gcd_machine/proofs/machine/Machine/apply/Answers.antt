@@ -2,8 +2,8 @@ use Rattle.std.proofs.Common.{ap, sym, subst, ◌∙◌}
 use Rattle.gcd_refinement.specs.MachineView.{MachineView}
 use Rattle.gcd_machine.specs.Conditions.{CanTake}
 use Rattle.gcd_machine.specs.Steps.{stepped}
-use Rattle.gcd_machine.proofs.MayTake.{may_take}
-use Rattle.gcd_machine.proofs.Applied.{next_stands, next_shaped, next_plan}
+use Rattle.gcd_machine.proofs.Conditions.All.{may_take}
+use Rattle.gcd_machine.proofs.Steps.Applied.{next_stands, next_shaped, next_plan}
 use Rattle.gcd_machine.proofs.machine.Machine.apply.Goals as goal
 
 pub apply-requires : goal.apply-requires

@@ -1,7 +1,7 @@
 use Rattle.std.proofs.Common.{ap, ◌∙◌}
 use Rattle.gcd_sync.specs.WaitsView.{reason_at}
 use Rattle.gcd_refinement.specs.MachineView.{MachineView}
-use Rattle.gcd_machine.proofs.Shown.{awaited_stands}
+use Rattle.gcd_machine.proofs.Views.Calls.{awaited_stands}
 use Rattle.gcd_machine.proofs.machine.Machine.awaited.Goals as goal
 
 pub returns : goal.returns

@@ -1,7 +1,7 @@
 use Rattle.std.proofs.Common.{ap, ◌∙◌}
 use Rattle.gcd_refinement.specs.MachineView.{MachineView}
 use Rattle.gcd_machine.specs.Chosen.{begin_by}
-use Rattle.gcd_machine.proofs.Begins.{begin_stands}
+use Rattle.gcd_machine.proofs.Choice.Begins.{begin_stands}
 use Rattle.gcd_machine.proofs.machine.Machine.begin_on.Goals as goal
 
 pub returns : goal.returns

@@ -5,8 +5,8 @@ use Rattle.gcd_history.specs.Choice.{is_work, worker_of}
 use Rattle.gcd_history.specs.History.{why}
 use Rattle.gcd_refinement.specs.MachineView.{MachineView}
 use Rattle.gcd_machine.specs.Chosen.{choice_by}
-use Rattle.gcd_machine.proofs.Choosing.{choice_own, choice_work}
-use Rattle.gcd_machine.proofs.Chosen.{choice_stands, permitted_stands}
+use Rattle.gcd_machine.proofs.Choice.Workers.{choice_own, choice_work}
+use Rattle.gcd_machine.proofs.Choice.Calls.{choice_stands, permitted_stands}
 use Rattle.gcd_machine.proofs.machine.Machine.choose.Goals as goal
 
 pub returns-clause-choice : goal.returns-clause-choice

@@ -1,6 +1,6 @@
 use Rattle.std.proofs.Common.{ap, ◌∙◌}
 use Rattle.gcd_refinement.specs.MachineView.{MachineView, handler_at}
-use Rattle.gcd_machine.proofs.Shown.{data_stands}
+use Rattle.gcd_machine.proofs.Views.Calls.{data_stands}
 use Rattle.gcd_machine.proofs.machine.Machine.data_of.Goals as goal
 
 pub returns : goal.returns

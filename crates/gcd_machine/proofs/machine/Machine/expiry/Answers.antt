@@ -1,7 +1,7 @@
 use Rattle.std.proofs.Common.{ap, ◌∙◌}
 use Rattle.gcd_refinement.specs.MachineView.{MachineView}
 use Rattle.gcd_machine.specs.Chosen.{expiry_by}
-use Rattle.gcd_machine.proofs.Chosen.{expiry_stands}
+use Rattle.gcd_machine.proofs.Choice.Calls.{expiry_stands}
 use Rattle.gcd_machine.proofs.machine.Machine.expiry.Goals as goal
 
 pub returns : goal.returns

@@ -1,7 +1,7 @@
 use Rattle.std.proofs.Common.{ap, ◌∙◌}
 use Rattle.gcd_refinement.specs.MachineView.{MachineView}
 use Rattle.gcd_machine.specs.Judged.{first_waiting_at}
-use Rattle.gcd_machine.proofs.Shown.{first_stands}
+use Rattle.gcd_machine.proofs.Views.Calls.{first_stands}
 use Rattle.gcd_machine.proofs.machine.Machine.first_waiting.Goals as goal
 
 pub returns : goal.returns

@@ -1,7 +1,7 @@
 use Rattle.std.proofs.Common.{ap, ◌∙◌}
 use Rattle.gcd_machine.specs.Judged.{is_intake_open_at}
 use Rattle.gcd_refinement.specs.MachineView.{MachineView}
-use Rattle.gcd_machine.proofs.Shown.{open_stands}
+use Rattle.gcd_machine.proofs.Views.Calls.{open_stands}
 use Rattle.gcd_machine.proofs.machine.Machine.intake_open.Goals as goal
 
 pub returns : goal.returns

@@ -1,7 +1,7 @@
 use Rattle.std.proofs.Common.{ap, ◌∙◌}
 use Rattle.gcd_blockobj.specs.MarksView.{is_cancelled_at}
 use Rattle.gcd_refinement.specs.MachineView.{MachineView}
-use Rattle.gcd_machine.proofs.Shown.{cancelled_stands}
+use Rattle.gcd_machine.proofs.Views.Calls.{cancelled_stands}
 use Rattle.gcd_machine.proofs.machine.Machine.is_cancelled.Goals as goal
 
 pub returns : goal.returns

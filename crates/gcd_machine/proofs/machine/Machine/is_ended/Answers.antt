@@ -1,6 +1,6 @@
 use Rattle.std.proofs.Common.{ap, ◌∙◌}
 use Rattle.gcd_refinement.specs.MachineView.{MachineView, ended_at}
-use Rattle.gcd_machine.proofs.Shown.{ended_stands}
+use Rattle.gcd_machine.proofs.Views.Calls.{ended_stands}
 use Rattle.gcd_machine.proofs.machine.Machine.is_ended.Goals as goal
 
 pub returns : goal.returns

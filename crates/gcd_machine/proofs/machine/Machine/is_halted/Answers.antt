@@ -1,7 +1,7 @@
 use Rattle.std.proofs.Common.{ap, ◌∙◌}
 use Rattle.gcd_refinement.specs.MachineView.{MachineView}
 use Rattle.std.specs.Prelude.{◌||◌}
-use Rattle.gcd_machine.proofs.Shown.{over_stands}
+use Rattle.gcd_machine.proofs.Views.Calls.{over_stands}
 use Rattle.gcd_machine.proofs.machine.Machine.is_halted.Goals as goal
 
 pub returns : goal.returns

@@ -1,6 +1,6 @@
 use Rattle.std.proofs.Common.{ap, ◌∙◌}
 use Rattle.gcd_refinement.specs.MachineView.{MachineView, live_at}
-use Rattle.gcd_machine.proofs.Shown.{live_stands}
+use Rattle.gcd_machine.proofs.Views.Calls.{live_stands}
 use Rattle.gcd_machine.proofs.machine.Machine.is_live_feed.Goals as goal
 
 pub returns : goal.returns

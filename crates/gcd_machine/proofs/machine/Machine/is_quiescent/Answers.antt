@@ -3,7 +3,7 @@ use Rattle.std.specs.Bool.{IsTrue}
 use Rattle.gcd_history.specs.Ends.{IsQuiescent}
 use Rattle.gcd_refinement.specs.MachineView.{MachineView}
 use Rattle.gcd_machine.specs.Chosen.{is_quiescent_at}
-use Rattle.gcd_machine.proofs.Chosen.{quiet_stands}
+use Rattle.gcd_machine.proofs.Choice.Calls.{quiet_stands}
 use Rattle.gcd_machine.proofs.machine.Machine.is_quiescent.Goals as goal
 
 pub returns : goal.returns

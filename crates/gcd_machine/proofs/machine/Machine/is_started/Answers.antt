@@ -1,6 +1,6 @@
 use Rattle.std.proofs.Common.{ap, ◌∙◌}
 use Rattle.gcd_refinement.specs.MachineView.{MachineView, block_at}
-use Rattle.gcd_machine.proofs.Shown.{started_stands}
+use Rattle.gcd_machine.proofs.Views.Calls.{started_stands}
 use Rattle.gcd_machine.proofs.machine.Machine.is_started.Goals as goal
 
 pub returns : goal.returns

@@ -1,6 +1,6 @@
 use Rattle.std.proofs.Common.{ap, ◌∙◌}
 use Rattle.gcd_refinement.specs.MachineView.{MachineView}
-use Rattle.gcd_machine.proofs.Shown.{len_stands}
+use Rattle.gcd_machine.proofs.Views.Calls.{len_stands}
 use Rattle.gcd_machine.proofs.machine.Machine.len.Goals as goal
 
 pub returns : goal.returns

@@ -1,4 +1,4 @@
-use Rattle.gcd_machine.proofs.Applied.{new_stands, new_shaped}
+use Rattle.gcd_machine.proofs.Steps.Applied.{new_stands, new_shaped}
 use Rattle.gcd_machine.proofs.machine.Machine.new.Goals as goal
 
 pub invariant_of-result : goal.invariant_of-result

@@ -1,6 +1,6 @@
 use Rattle.std.proofs.Common.{ap, ◌∙◌}
 use Rattle.gcd_refinement.specs.MachineView.{MachineView, next_due_in}
-use Rattle.gcd_machine.proofs.Shown.{next_due_stands}
+use Rattle.gcd_machine.proofs.Views.Calls.{next_due_stands}
 use Rattle.gcd_machine.proofs.machine.Machine.next_due.Goals as goal
 
 pub returns : goal.returns

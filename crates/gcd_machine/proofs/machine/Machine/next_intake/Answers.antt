@@ -1,7 +1,7 @@
 use Rattle.std.proofs.Common.{ap, ◌∙◌}
 use Rattle.gcd_refinement.specs.Ties.{next_in}
 use Rattle.gcd_refinement.specs.MachineView.{MachineView}
-use Rattle.gcd_machine.proofs.Shown.{next_intake_stands}
+use Rattle.gcd_machine.proofs.Views.Calls.{next_intake_stands}
 use Rattle.gcd_machine.proofs.machine.Machine.next_intake.Goals as goal
 
 pub returns : goal.returns

@@ -1,7 +1,7 @@
 use Rattle.std.proofs.Common.{ap, ◌∙◌, ◌-◌, length}
 use Rattle.std.specs.List.{find, range_with_len}
 use Rattle.gcd_refinement.specs.MachineView.{MachineView, live_at}
-use Rattle.gcd_machine.proofs.Shown.{next_live_stands}
+use Rattle.gcd_machine.proofs.Views.Calls.{next_live_stands}
 use Rattle.gcd_machine.proofs.machine.Machine.next_live_feed.Goals as goal
 
 pub returns : goal.returns

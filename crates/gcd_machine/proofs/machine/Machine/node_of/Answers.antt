@@ -1,6 +1,6 @@
 use Rattle.std.proofs.Common.{ap, ◌∙◌}
 use Rattle.gcd_refinement.specs.MachineView.{MachineView, block_at}
-use Rattle.gcd_machine.proofs.Shown.{node_stands}
+use Rattle.gcd_machine.proofs.Views.Calls.{node_stands}
 use Rattle.gcd_machine.proofs.machine.Machine.node_of.Goals as goal
 
 pub returns : goal.returns

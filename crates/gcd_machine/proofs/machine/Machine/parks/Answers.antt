@@ -2,7 +2,7 @@ use Rattle.std.proofs.Common.{ap, ◌∙◌}
 use Rattle.gcd_refinement.specs.MachineView.{MachineView}
 use Rattle.gcd_history.specs.Parked.{is_parking}
 use Rattle.gcd_history.specs.Runs.{act_of}
-use Rattle.gcd_machine.proofs.Shown.{parks_stands}
+use Rattle.gcd_machine.proofs.Views.Calls.{parks_stands}
 use Rattle.gcd_machine.proofs.machine.Machine.parks.Goals as goal
 
 pub returns : goal.returns

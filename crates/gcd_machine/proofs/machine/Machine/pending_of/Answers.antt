@@ -1,7 +1,7 @@
 use Rattle.std.proofs.Common.{◌<◌, ◌∙◌, length, sym, subst}
 use Rattle.gcd_refinement.specs.MachineView.{MachineView}
 use Rattle.gcd_machine.specs.Stands.{StandsFor}
-use Rattle.gcd_machine.proofs.Shown.{pending_stands, pending_has}
+use Rattle.gcd_machine.proofs.Views.Calls.{pending_stands, pending_has}
 use Rattle.gcd_machine.proofs.machine.Machine.pending_of.Goals as goal
 
 pub returns : goal.returns

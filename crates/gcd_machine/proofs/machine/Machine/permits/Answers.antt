@@ -1,7 +1,7 @@
 use Rattle.std.proofs.Common.{ap, ◌∙◌}
 use Rattle.gcd_refinement.specs.MachineView.{MachineView}
 use Rattle.gcd_machine.specs.Judged.{why_by}
-use Rattle.gcd_machine.proofs.Shown.{why_stands}
+use Rattle.gcd_machine.proofs.Views.Calls.{why_stands}
 use Rattle.gcd_machine.proofs.machine.Machine.permits.Goals as goal
 
 pub returns : goal.returns

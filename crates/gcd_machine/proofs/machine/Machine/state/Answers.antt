@@ -2,7 +2,7 @@ use Rattle.std.proofs.Common.{ap, sym, ◌∙◌, subst}
 use Rattle.gcd_history.specs.Ends.{HasState}
 use Rattle.gcd_refinement.specs.MachineView.{MachineView}
 use Rattle.gcd_machine.specs.Chosen.{state_by}
-use Rattle.gcd_machine.proofs.Chosen.{state_stands}
+use Rattle.gcd_machine.proofs.Choice.Calls.{state_stands}
 use Rattle.gcd_machine.proofs.machine.Machine.state.Goals as goal
 
 pub returns : goal.returns

@@ -1,7 +1,7 @@
 use Rattle.std.proofs.Common.{sym, subst, ◌∙◌}
 use Rattle.gcd_machine.specs.Inside.{view_of}
 use Rattle.gcd_machine.specs.Conditions.{CanAccept}
-use Rattle.gcd_machine.proofs.EndKept.{may_accept}
+use Rattle.gcd_machine.proofs.Conditions.KeptAtEnds.{may_accept}
 use Rattle.gcd_machine.proofs.registers.Registers.accept.Goals as goal
 
 pub submit-requires : goal.submit-requires

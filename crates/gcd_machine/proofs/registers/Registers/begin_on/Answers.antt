@@ -1,7 +1,7 @@
 use Rattle.std.proofs.Common.{◌∙◌, ap}
 use Rattle.gcd_machine.specs.Inside.{view_of}
 use Rattle.gcd_machine.specs.Steps.{begun_on}
-use Rattle.gcd_machine.proofs.Opened.{begun_is}
+use Rattle.gcd_machine.proofs.Steps.Opening.{begun_is}
 use Rattle.gcd_machine.proofs.registers.Registers.begin_on.Goals as goal
 
 pub returns : goal.returns

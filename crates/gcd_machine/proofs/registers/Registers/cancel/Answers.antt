@@ -1,7 +1,7 @@
 use Rattle.std.proofs.Common.{◌∙◌, sym, ap}
 use Rattle.gcd_plan.specs.PlanView.{cancel_block}
 use Rattle.gcd_source.specs.SourcesView.{is_cancelled_at}
-use Rattle.gcd_machine.proofs.Kept.{may_submit_cancelled}
+use Rattle.gcd_machine.proofs.Conditions.Kept.{may_submit_cancelled}
 use Rattle.gcd_machine.proofs.registers.Registers.cancel.Goals as goal
 
 pub submit-requires : goal.submit-requires

@@ -1,7 +1,7 @@
 use Rattle.std.proofs.Common.{sym, subst}
 use Rattle.gcd_machine.specs.Inside.{view_of}
 use Rattle.gcd_machine.specs.Conditions.{CanCloseBlock}
-use Rattle.gcd_machine.proofs.Kept.{may_close}
+use Rattle.gcd_machine.proofs.Conditions.Kept.{may_close}
 use Rattle.gcd_machine.proofs.registers.Registers.close_block.Goals as goal
 
 pub close_run-requires : goal.close_run-requires

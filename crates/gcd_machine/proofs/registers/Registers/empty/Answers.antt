@@ -1,4 +1,4 @@
-use Rattle.gcd_machine.proofs.Kept.{may_fire}
+use Rattle.gcd_machine.proofs.Conditions.Kept.{may_fire}
 use Rattle.gcd_machine.proofs.registers.Registers.empty.Goals as goal
 
 pub fire-requires : goal.fire-requires

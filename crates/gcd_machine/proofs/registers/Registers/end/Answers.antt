@@ -1,5 +1,5 @@
 use Rattle.std.proofs.Common.{◌≡◌, get_or, subst}
-use Rattle.gcd_machine.proofs.EndKept.{may_tell, may_end_waits, may_leave, end_is}
+use Rattle.gcd_machine.proofs.Conditions.KeptAtEnds.{may_tell, may_end_waits, may_leave, end_is}
 use Rattle.gcd_machine.proofs.registers.Registers.end.Goals as goal
 
 pub tell-requires : goal.tell-requires

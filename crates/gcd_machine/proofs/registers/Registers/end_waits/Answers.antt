@@ -1,4 +1,4 @@
-use Rattle.gcd_machine.proofs.EndKept.{may_let_waiters_go, may_end_in_strip}
+use Rattle.gcd_machine.proofs.Conditions.KeptAtEnds.{may_let_waiters_go, may_end_in_strip}
 use Rattle.gcd_machine.proofs.registers.Registers.end_waits.Goals as goal
 
 pub let_waiters_go-requires : goal.let_waiters_go-requires

@@ -1,7 +1,7 @@
 use Rattle.std.proofs.Common.{sym, subst}
 use Rattle.gcd_machine.specs.Inside.{view_of}
 use Rattle.gcd_machine.specs.Conditions.{CanExpire}
-use Rattle.gcd_machine.proofs.ExpirySteps.{may_end_wait}
+use Rattle.gcd_machine.proofs.Steps.Expiries.{may_end_wait}
 use Rattle.gcd_machine.proofs.registers.Registers.expire.Goals as goal
 
 pub end_wait-requires : goal.end_wait-requires

@@ -1,7 +1,7 @@
 use Rattle.std.proofs.Common.{◌≡◌, rules, sym, subst}
 use Rattle.gcd_group.specs.GroupsView.{due_at}
 use Rattle.gcd_machine.specs.Inside.{view_of}
-use Rattle.gcd_machine.proofs.Turns.{Firing, fire_turn, fire_may_submit, fire_end}
+use Rattle.gcd_machine.proofs.Steps.GroupLoops.{Firing, fire_turn, fire_may_submit, fire_end}
 use Rattle.gcd_machine.proofs.registers.Registers.fire.Goals as goal
 
 pub submit-requires : goal.submit-requires

@@ -1,5 +1,5 @@
 use Rattle.gcd_group.specs.GroupsView.{due_at}
-use Rattle.gcd_machine.proofs.Turns.{Firing}
+use Rattle.gcd_machine.proofs.Steps.GroupLoops.{Firing}
 use Rattle.gcd_machine.proofs.registers.Registers.fire.Given as goal
 
 abbrev pub invariant-loop-blk : goal.invariant-loop-blk

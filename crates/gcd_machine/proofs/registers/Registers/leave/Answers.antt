@@ -1,7 +1,7 @@
 use Rattle.std.proofs.Common.{sym, subst, ◌∙◌}
 use Rattle.gcd_machine.specs.Inside.{view_of}
 use Rattle.gcd_machine.specs.Conditions.{CanComeEmpty}
-use Rattle.gcd_machine.proofs.Kept.{may_empty}
+use Rattle.gcd_machine.proofs.Conditions.Kept.{may_empty}
 use Rattle.gcd_machine.proofs.registers.Registers.leave.Goals as goal
 
 pub empty-requires : goal.empty-requires

@@ -1,6 +1,6 @@
 use Rattle.std.proofs.Common.{sym, subst, ◌∙◌}
 use Rattle.gcd_machine.specs.Inside.{view_of}
-use Rattle.gcd_machine.proofs.Turns.{Waking, wake_turn, wake_over}
+use Rattle.gcd_machine.proofs.Steps.GroupLoops.{Waking, wake_turn, wake_over}
 use Rattle.gcd_machine.proofs.registers.Registers.let_all_go.Goals as goal
 
 pub loop-blk-preserved : goal.loop-blk-preserved

@@ -1,6 +1,6 @@
 use Rattle.std.proofs.Common.{length}
 use Rattle.gcd_lists.specs.ListsView.{list_at}
-use Rattle.gcd_machine.proofs.Turns.{Waking}
+use Rattle.gcd_machine.proofs.Steps.GroupLoops.{Waking}
 use Rattle.gcd_machine.proofs.registers.Registers.let_all_go.Given as goal
 
 abbrev pub invariant-loop-blk : goal.invariant-loop-blk

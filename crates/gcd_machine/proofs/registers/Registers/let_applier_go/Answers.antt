@@ -3,7 +3,7 @@ use Rattle.gcd_refinement.specs.MachineView.{MachineView}
 use Rattle.gcd_machine.specs.Inside.{view_of}
 use Rattle.gcd_machine.specs.Steps.{applier_let_go, caller_let_go}
 use Rattle.gcd_machine.specs.Conditions.{CanLetApplierGo}
-use Rattle.gcd_machine.proofs.EndKept.{applier_read, may_let_applier_go}
+use Rattle.gcd_machine.proofs.Conditions.KeptAtEnds.{applier_read, may_let_applier_go}
 use Rattle.gcd_machine.proofs.registers.Registers.let_applier_go.Goals as goal
 
 pub let_caller_go-requires : goal.let_caller_go-requires

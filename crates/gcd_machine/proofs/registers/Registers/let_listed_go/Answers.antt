@@ -1,6 +1,6 @@
 use Rattle.std.proofs.Common.{sym, subst, ◌∙◌}
 use Rattle.gcd_machine.specs.Inside.{view_of}
-use Rattle.gcd_machine.proofs.Telling.{Letting, let_turn, let_end}
+use Rattle.gcd_machine.proofs.Steps.EndLoops.{Letting, let_turn, let_end}
 use Rattle.gcd_machine.proofs.registers.Registers.let_listed_go.Goals as goal
 
 pub loop-waiter-preserved : goal.loop-waiter-preserved

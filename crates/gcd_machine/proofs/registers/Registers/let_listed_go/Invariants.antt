@@ -1,6 +1,6 @@
 use Rattle.std.proofs.Common.{length}
 use Rattle.gcd_lists.specs.ListsView.{list_at}
-use Rattle.gcd_machine.proofs.Telling.{Letting}
+use Rattle.gcd_machine.proofs.Steps.EndLoops.{Letting}
 use Rattle.gcd_machine.proofs.registers.Registers.let_listed_go.Given as goal
 
 abbrev pub invariant-loop-waiter : goal.invariant-loop-waiter

@@ -1,4 +1,4 @@
-use Rattle.gcd_machine.proofs.Acts.{may_park, may_have_effect}
+use Rattle.gcd_machine.proofs.Conditions.KeptAtActs.{may_park, may_have_effect}
 use Rattle.gcd_machine.proofs.registers.Registers.make.Goals as goal
 
 pub park_in-requires : goal.park_in-requires

@@ -1,5 +1,5 @@
 use Rattle.std.proofs.Common.{sym, ◌∙◌}
-use Rattle.gcd_history.proofs.SubmittedOnNodes.{act_fits}
+use Rattle.gcd_history.proofs.Blocks.SubmittedOnNodes.{act_fits}
 use Rattle.gcd_machine.proofs.registers.Registers.misuse_of_run.Goals as goal
 
 pub misuse-requires-clause-act : goal.misuse-requires-clause-act

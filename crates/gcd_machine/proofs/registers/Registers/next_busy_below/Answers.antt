@@ -1,6 +1,6 @@
 use Rattle.std.proofs.Common.{◌-◌, length, sym, ◌∙◌, arith}
 use Rattle.gcd_refinement.specs.MachineView.{busy_at}
-use Rattle.gcd_machine.proofs.Nodes.{below_none, below_some, below_past}
+use Rattle.gcd_machine.proofs.Choice.FirstNode.{below_none, below_some, below_past}
 use Rattle.gcd_machine.proofs.registers.Registers.next_busy_below.Goals as goal
 
 pub returns-in-Some : goal.returns-in-Some

@@ -2,7 +2,7 @@ use Rattle.std.proofs.Common.{◌+◌, ◌-◌, ap, sym, ◌∙◌, arith}
 use Rattle.std.specs.Option.{option_or}
 use Rattle.gcd_refinement.specs.MachineView.{busy_at}
 use Rattle.gcd_machine.specs.Chosen.{nodes_at}
-use Rattle.gcd_machine.proofs.Nodes.{found_within, nodes_step}
+use Rattle.gcd_machine.proofs.Choice.FirstNode.{found_within, nodes_step}
 use Rattle.gcd_machine.proofs.registers.Registers.nodes_choice.Goals as goal
 
 pub returns-in-Some-node_choice-clause-event : goal.returns-in-Some-node_choice-clause-event

@@ -1,7 +1,7 @@
 use Rattle.std.proofs.Common.{sym, ◌∙◌}
-use Rattle.gcd_history.proofs.SubmittedOnNodes.{act_fits}
+use Rattle.gcd_history.proofs.Blocks.SubmittedOnNodes.{act_fits}
 use Rattle.gcd_history.specs.Runs.{act_at}
-use Rattle.gcd_history.proofs.Reasons.{due_is}
+use Rattle.gcd_history.proofs.Permitted.Reasons.{due_is}
 use Rattle.gcd_machine.specs.Judged.{done_at, is_cancelled_run_at}
 use Rattle.gcd_machine.proofs.registers.Registers.own_event.Goals as goal
 

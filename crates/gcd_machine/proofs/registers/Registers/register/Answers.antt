@@ -1,7 +1,7 @@
 use Rattle.std.proofs.Common.{sym, subst}
 use Rattle.gcd_machine.specs.Inside.{view_of}
 use Rattle.gcd_machine.specs.Conditions.{CanRegister}
-use Rattle.gcd_machine.proofs.Kept.{may_register}
+use Rattle.gcd_machine.proofs.Conditions.Kept.{may_register}
 use Rattle.gcd_machine.proofs.registers.Registers.register.Goals as goal
 
 pub fire-requires : goal.fire-requires

@@ -2,7 +2,7 @@ use Rattle.std.proofs.Common.{◌≡◌, ◌<◌, length, true, sym, subst, ◌�
 use Rattle.gcd_refinement.specs.MachineView.{MachineView, ahead_at}
 use Rattle.gcd_refinement.specs.AfterLimits.{is_reached}
 use Rattle.gcd_machine.specs.Inside.{view_of}
-use Rattle.gcd_machine.proofs.Ripening.{Ripening, ripen_turn, ripen_end}
+use Rattle.gcd_machine.proofs.Steps.LimitLoop.{Ripening, ripen_turn, ripen_end}
 use Rattle.gcd_machine.proofs.registers.Registers.ripen.Goals as goal
 
 pub loop-b-preserved : goal.loop-b-preserved

@@ -1,5 +1,5 @@
 use Rattle.std.specs.List.{sum_by}
-use Rattle.gcd_machine.proofs.Ripening.{Ripening, one_if_some}
+use Rattle.gcd_machine.proofs.Steps.LimitLoop.{Ripening, one_if_some}
 use Rattle.gcd_machine.proofs.registers.Registers.ripen.Given as goal
 
 abbrev pub invariant-loop-b : goal.invariant-loop-b

@@ -1,7 +1,7 @@
 use Rattle.std.proofs.Common.{sym, subst}
 use Rattle.gcd_machine.specs.Inside.{view_of}
 use Rattle.gcd_machine.specs.Conditions.{CanStart}
-use Rattle.gcd_machine.proofs.Kept.{may_begin}
+use Rattle.gcd_machine.proofs.Conditions.Kept.{may_begin}
 use Rattle.gcd_machine.proofs.registers.Registers.start.Goals as goal
 
 pub begin_run-requires : goal.begin_run-requires

@@ -2,7 +2,7 @@ use Rattle.std.proofs.Common.{length, ap, sym, subst, ◌∙◌, arith}
 use Rattle.gcd_lists.specs.ListsView.{list_at}
 use Rattle.gcd_refinement.specs.MachineView.{MachineView}
 use Rattle.gcd_machine.specs.Inside.{view_of}
-use Rattle.gcd_machine.proofs.Telling.{Telling, tell_turn, tell_may_submit, tell_fewer, tell_end, tell_leaves}
+use Rattle.gcd_machine.proofs.Steps.EndLoops.{Telling, tell_turn, tell_may_submit, tell_fewer, tell_end, tell_leaves}
 use Rattle.gcd_machine.proofs.registers.Registers.tell.Goals as goal
 
 pub submit-requires : goal.submit-requires

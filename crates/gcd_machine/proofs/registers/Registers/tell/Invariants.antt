@@ -1,6 +1,6 @@
 use Rattle.std.proofs.Common.{length}
 use Rattle.gcd_lists.specs.ListsView.{list_at}
-use Rattle.gcd_machine.proofs.Telling.{Telling}
+use Rattle.gcd_machine.proofs.Steps.EndLoops.{Telling}
 use Rattle.gcd_machine.proofs.registers.Registers.tell.Given as goal
 
 abbrev pub invariant-loop-next : goal.invariant-loop-next

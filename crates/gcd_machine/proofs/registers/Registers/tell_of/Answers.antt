@@ -1,7 +1,7 @@
 use Rattle.std.proofs.Common.{sym, subst}
 use Rattle.gcd_machine.specs.Inside.{view_of}
 use Rattle.gcd_machine.specs.Conditions.{CanTellOf}
-use Rattle.gcd_machine.proofs.EndKept.{may_tell_of}
+use Rattle.gcd_machine.proofs.Conditions.KeptAtEnds.{may_tell_of}
 use Rattle.gcd_machine.proofs.registers.Registers.tell_of.Goals as goal
 
 pub tell-requires : goal.tell-requires

@@ -1,6 +1,6 @@
 use Rattle.std.proofs.Common.{◌<◌, ◌∙◌, length, arith}
 use Rattle.std.proofs.lemmas.List.{length-set}
-use Rattle.gcd_machine.proofs.StripSteps.{noted_more}
+use Rattle.gcd_machine.proofs.Steps.Strips.{noted_more}
 use Rattle.gcd_machine.proofs.registers.strips.note_span.Goals as goal
 
 pub loop-b-preserved : goal.loop-b-preserved

@@ -1,4 +1,4 @@
-use Rattle.gcd_loop.proofs.Events.{uncalled_accepts_none}
+use Rattle.gcd_history.proofs.MadeBlocks.AcceptsStay.{uncalled_accepts_none}
 use Rattle.gcd_rounds.proofs.round.RoundRecorderGlobal.put.Goals as goal
 
 pub put-requires-clause-no_job : goal.put-requires-clause-no_job

@@ -1,5 +1,5 @@
 use Rattle.std.proofs.Common.{◌≡◌, ◌+◌, ◌∙◌, ℕ, Ok, ap, arith, subst}
-use Rattle.gcd_history.proofs.PublicLaws.{choice_is_permitted}
+use Rattle.gcd_history.proofs.Public.Laws.{choice_is_permitted}
 use Rattle.gcd_loop.proofs.Events.{work_accepts_none}
 use Rattle.gcd_loop.proofs.Steps.{grown}
 use Rattle.gcd_rounds.specs.Kept.{EndBefore, endings_of}

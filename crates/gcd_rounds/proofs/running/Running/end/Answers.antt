@@ -1,6 +1,6 @@
 use Rattle.std.proofs.Common.{arith, refl}
 use Rattle.gcd_event.specs.declared.event.Event.TheVariants.{End}
-use Rattle.gcd_machine.proofs.Shown.{lawful_stands}
+use Rattle.gcd_machine.proofs.Views.Calls.{lawful_stands}
 use Rattle.gcd_rounds.proofs.EndsKept.{kept_rest, kept_waits}
 use Rattle.gcd_rounds.proofs.Given.{given_end, wait_end}
 use Rattle.gcd_rounds.proofs.running.Running.end.Goals as goal

@@ -1,6 +1,6 @@
 use Rattle.std.proofs.Common.{◌∙◌, arith}
 use Rattle.std.proofs.lemmas.List.{length_push}
-use Rattle.gcd_machine.proofs.Shown.{lawful_stands}
+use Rattle.gcd_machine.proofs.Views.Calls.{lawful_stands}
 use Rattle.gcd_loop.proofs.Follows.{accepts_none_more, follows_more, workers_more}
 use Rattle.gcd_rounds.proofs.EndsKept.{kept_waits}
 use Rattle.gcd_rounds.proofs.Given.{given_same, wait_same}

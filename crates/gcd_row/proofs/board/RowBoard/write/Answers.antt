@@ -1,6 +1,6 @@
 use Rattle.std.proofs.Common.{arith, ap, ◌∙◌, ◌+◌, ℕ, subst, sym}
 use mathlib.Core.Option.{none}
-use Rattle.gcd_history.proofs.Fitting.{permitted_fits}
+use Rattle.gcd_history.proofs.Permitted.Fitting.{permitted_fits}
 use Rattle.gcd_event.specs.Words.{word_of}
 use Rattle.gcd_row.specs.Ring.{IsWord, lap}
 use Rattle.gcd_row.proofs.RowWords.{event_word}

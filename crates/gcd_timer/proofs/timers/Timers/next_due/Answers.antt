@@ -1,5 +1,5 @@
 use Rattle.std.proofs.Common.{◌∙◌, ap}
-use Rattle.gcd_soonest.specs.Least.{least}
+use Rattle.gcd_sets.specs.Least.{least}
 use Rattle.gcd_timer.specs.TimersView.{next_due_at}
 use Rattle.gcd_timer.proofs.Views.{least_of_all}
 use Rattle.gcd_timer.proofs.timers.Timers.next_due.Goals as goal

@@ -1,4 +1,4 @@
-use Rattle.gcd_loop.proofs.Events.{uncalled_accepts_none}
+use Rattle.gcd_history.proofs.MadeBlocks.AcceptsStay.{uncalled_accepts_none}
 use Rattle.gcd_workers.proofs.list_run.ListRunRecorderFiles.put.Goals as goal
 
 pub put_one-requires-clause-no_job : goal.put_one-requires-clause-no_job

@@ -1,4 +1,4 @@
-use Rattle.gcd_history.proofs.PublicLaws.{choice_is_permitted}
+use Rattle.gcd_history.proofs.Public.Laws.{choice_is_permitted}
 use Rattle.gcd_jobs.specs.Contents.{contents}
 use Rattle.gcd_loop.proofs.Events.{work_accepts_none}
 use Rattle.gcd_loop.proofs.Steps.{grown, grows_one}

@@ -1,4 +1,0 @@
-pub mod Ranges
-pub mod OneWord
-pub mod Numbers
-pub mod Shown

@@ -1,0 +1,4 @@
+pub mod Laws
+pub mod Facts
+pub mod BlockLaws
+pub mod TeamLaws

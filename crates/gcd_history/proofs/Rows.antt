@@ -1,0 +1,17 @@
+mod Samples
+mod SampleLaws
+mod Order
+mod Objects
+mod Groups
+mod Sources
+mod Replace
+mod Strips
+mod Blocks
+mod Intake
+mod BlockLaws
+mod Limits
+mod Forged
+mod Reasons
+mod Values
+mod Laws
+mod HeldRuns

@@ -1,0 +1,3 @@
+pub mod TargetActs
+pub mod Stands
+pub mod MovesAlone

@@ -1,0 +1,3 @@
+pub mod StaysOver
+pub mod Woken
+pub mod Pass

@@ -1,0 +1,10 @@
+pub mod FirstNode
+pub mod Own
+pub mod IdlePermitted
+pub mod AtNodes
+pub mod Begins
+pub mod Idle
+pub mod Workers
+pub mod Expiries
+pub mod Ending
+pub mod Calls

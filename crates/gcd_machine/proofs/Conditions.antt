@@ -1,0 +1,11 @@
+pub mod Kept
+pub mod KeptAtEnds
+pub mod KeptAtActs
+pub mod Nodes
+pub mod NewBlocks
+pub mod Groups
+pub mod Activity
+pub mod Targets
+pub mod Acts
+pub mod Expiries
+pub mod All

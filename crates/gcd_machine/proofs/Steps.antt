@@ -1,0 +1,17 @@
+pub mod Places
+pub mod GroupLoops
+pub mod LimitLoop
+pub mod EndLoops
+pub mod Expiries
+pub mod Opening
+pub mod Activations
+pub mod EmptyGroups
+pub mod Plain
+pub mod EndWaits
+pub mod Ends
+pub mod Groups
+pub mod Strips
+pub mod Blocks
+pub mod Acts
+pub mod All
+pub mod Applied

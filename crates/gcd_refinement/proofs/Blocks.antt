@@ -1,0 +1,4 @@
+pub mod MarkRoom
+pub mod Registered
+pub mod Unregistered
+pub mod StripBlocks

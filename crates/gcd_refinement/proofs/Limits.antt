@@ -1,0 +1,5 @@
+pub mod LimitRoom
+pub mod Expiries
+pub mod Expiring
+pub mod DueTimes
+pub mod NextDue

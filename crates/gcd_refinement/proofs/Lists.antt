@@ -1,0 +1,4 @@
+pub mod Writes
+pub mod Kept
+pub mod Among
+pub mod Places

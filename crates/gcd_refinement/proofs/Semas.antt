@@ -1,0 +1,3 @@
+pub mod WaitRooms
+pub mod Ranks
+pub mod Ends

@@ -1,5 +1,0 @@
-use Rattle.gcd_soonest.proofs.Nodes.{len_is}
-use Rattle.gcd_soonest.proofs.times.Times.len.Goals as goal
-
-pub returns : goal.returns
-returns c = len_is c.self.invariant c.self.view_is

@@ -1,4 +1,0 @@
-pub mod Held
-pub mod Team
-pub mod TeamFacts
-pub mod Cells
