@@ -30,13 +30,15 @@ def edited(crate, edits):
 
 def build(top, out):
     """Builds, at that path, the program over the edited copy."""
+    crate = next(it for it in rtlib.crates_below(top) if it.name == "gcd_text")
     with tempfile.TemporaryDirectory(prefix="stops-") as room:
-        shutil.copytree(f"{top}/crates/gcd_text", f"{room}/gcd_text", ignore=shutil.ignore_patterns("out"))
+        shutil.copytree(crate.folder, f"{room}/gcd_text", ignore=shutil.ignore_patterns("out"))
         edited(f"{room}/gcd_text", f"{top}/tests/stops/edits")
         os.mkdir(f"{room}/src")
         shutil.copy(f"{top}/tests/stops/main.rt.txt", f"{room}/src/main.rt")
-        words = ["--crate-name", "stops", "src/main.rt", "--lib", f"gcd_text:core,arrayvec={room}/gcd_text/src/lib.rt"]
-        building.build_checked([*words, *rtlib.kit_sources(["arrayvec"])], room, out, lambda stage: None)
+        uses = dict.fromkeys(["core", *crate.of_kit])
+        words = ["--crate-name", "stops", "src/main.rt", "--lib", f"gcd_text:{','.join(uses)}={room}/gcd_text/src/lib.rt"]
+        building.build_checked([*words, *rtlib.kit_sources(crate.of_kit)], room, out, lambda stage: None)
 
 
 def run(top, program):

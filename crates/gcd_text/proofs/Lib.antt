@@ -1,3 +1,4 @@
 pub mod FirstLines
 pub mod Parts
 mod Decimals
+mod FirstPlaces
