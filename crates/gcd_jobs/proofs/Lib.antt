@@ -1,2 +1,3 @@
 pub mod ValuesMore
 pub mod StripValues
+pub mod Pieces
