@@ -1,3 +1,4 @@
 pub mod DrainsView
 pub mod Rule
 pub mod Shut
+pub mod Held

@@ -33,7 +33,7 @@ impl Model for Drains {
 }
 
 // Whether another block than b is first on the node.
-fn is_behind(lists: &Lists, node: Obj, b: Blk) -> bool
+pub(crate) fn is_behind(lists: &Lists, node: Obj, b: Blk) -> bool
     requires { node.0 < length lists.now.lists }
     ensures { result ≡ is_behind_at lists.now b.0 node.0 }
 {
@@ -74,12 +74,15 @@ impl Drains {
         self.kinds[o.0 as usize].is_exclusive() && tree.open_beneath(o) > 0
     }
 
-    // Whether an object of the node's chain excludes.
-    fn is_excluded(&self, tree: &Tree, node: Obj) -> bool
+    // Whether an object of the node's chain excludes. If no run is open, none does.
+    pub(crate) fn is_excluded(&self, tree: &Tree, node: Obj) -> bool
         requires node { node.0 < length self.now.barriers }
         requires tree { length tree.now.targets ≡ length self.now.barriers }
         ensures { result ≡ list_any (excludes_at self.now tree.now) (chain_at tree.now node.0) }
     {
+        if !tree.any_open() {
+            return false;
+        }
         for o in tree.chain(node) {
             if self.excludes(tree, o) {
                 return true;

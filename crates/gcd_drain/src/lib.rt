@@ -11,6 +11,7 @@
 //! | `copied` | the same numbers once more; or out of memory | |
 //! | `may_start` | the first reason why the block may not start, None exactly where it may | |
 //! | `may_run` | the first reason why the source's handler may not run, None exactly where it may | |
+//! | `start_fault`, `run_fault` | the same as `may_start` and `may_run`, with the set of held chains at hand | |
 //! | `is_shut` | whether the node's chain is shut: `NotFree` or `Excluded` applies to it | marks that say so |
 //! | `is_fenced` | whether the barrier rule keeps a block of the node from starting | |
 //! | `barriers` | how many barriers are open on the node | |
@@ -28,10 +29,25 @@
 //! | `Fenced` | the node is a concurrent queue other than `root`; a barrier is open there, or it is one and a run is open there. Queues that have the node as target are not asked |
 //!
 //! `may_run` tells of `NotFree` and `Excluded`, over the chain of the source. Both walk the chain at most once for
-//! freedom and once for exclusion. A caller that asks of many nodes asks `is_shut` with one [`KnownChains`]: each object is then
+//! freedom and once for exclusion. `start_fault` and `run_fault` take one look at the set for freedom. If no run is open, none of them
+//! walks for exclusion. A caller that asks of many nodes asks `is_shut` with one [`KnownChains`]: each object is then
 //! looked at once in all, and a block that is first on its node may start exactly where the chain is not shut and the block
 //! not fenced (`proofs/Starts`). Nothing else costs more with a larger plan. `new` and `copied` take all memory, each array at
 //! once; every other call takes none and cannot fail.
+//!
+//! [`HeldChains`] is the set of the objects whose chain is held, so that nobody walks a chain to learn it. Contracts see a list of truth
+//! values by object; `AreHeld` (`specs/Held`) says that the list is right for a tree and holds.
+//!
+//! | call | answer | what it leaves | cost |
+//! |---|---|---|---|
+//! | `HeldChains::new` | the held chains of a tree under holds; or out of memory | | the objects |
+//! | `copied` | the same set once more; or out of memory | | the objects / 64 |
+//! | `has` | whether the chain of the object is held | | constant |
+//! | `next_in` | the least number from one on that is in `busy` and whose chain is not held; None exactly if there is none | | a step for each word of 64 objects that it passes |
+//! | `rehold` | | the set right again after a change of one object | constant if the object's own answer stays or it never was a target, else a look at each object |
+//!
+//! A caller calls `rehold` after each call that makes one object free or not free, or gives it a target or a request. `proofs/HeldAfter` shows
+//! its condition for each such call. `proofs/Quiet` says that, if no run is open, a chain is shut exactly if it is held.
 //!
 //! The tests of exclusion and of barriers, and the order of the reasons, are `StartRule` of `gcd_plan`. Which blocks wait in front of
 //! one is `gcd_history`'s to define, and `gcd_lists` tells it here. `specs/Rule` says what each part tells. The crate knows no history:
@@ -41,10 +57,13 @@
 #![tactic(auto)]
 
 mod drains;
+mod faults;
 mod free;
+mod held_chains;
 mod known_chains;
 mod shut;
 
 pub use drains::Drains;
 pub use free::is_chain_held;
+pub use held_chains::HeldChains;
 pub use known_chains::KnownChains;

@@ -66,6 +66,10 @@ module _ {links : List (Option Blk)} {befores : List (Option Blk)} {places : Lis
   few_blocks : v.blocks ≤ max_blocks
   few_blocks = omega (arith, blocks_long, s.are.few_blocks)
 
+  -- no more lists are there than a number of a list may tell
+  pub low_node : (n : ℕ) → n < length v.lists → n < max_lists
+  low_node n node = omega (arith, node, hold.heads_long, s.are.few_lists)
+
   -- no more blocks wait on a node than there are
   pub few_wait : (n : ℕ) → length (list_at v n) ≤ v.blocks
   few_wait n = omega (arith, list_short links places heads lasts v.lists hold n, blocks_long)

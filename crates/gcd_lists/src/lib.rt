@@ -33,7 +33,7 @@
 //! says of a list without a block, and of one with a span behind it.
 //!
 //! The machine keeps such lists three times: the blocks that wait at each queue, those that sleep at a semaphore or a group, from which
-//! an expired wait is removed, and those that wait for the end of a block.
+//! an expired wait is removed, and by block those that are parked until its end.
 #![tactic(auto)]
 
 mod link;

@@ -114,6 +114,7 @@ impl Lists {
         requires waits_nowhere { place_of self.old blk.0 ≡ None }
         ensures behind { self.new ≡ record self.old { lists = slice_set self.old.lists node.0 (list_at self.old node.0 ++ (blk, barrier) ∷ []) } }
         ensures few { length (list_at self.new node.0) ≤ self.new.blocks }
+        ensures low { node.0 < max_lists }
     {
         let last = self.lasts[node.0 as usize];
         self.lasts[node.0 as usize] = blk;
@@ -135,7 +136,8 @@ impl Lists {
         requires node { node.0 < length self.old.lists }
         requires blocks { first.0 + count ≤ self.old.blocks }
         requires wait_nowhere { (b : ℕ) → first.0 ≤ b → b < first.0 + count → place_of self.old b ≡ None }
-        ensures { self.new ≡ record self.old { lists = slice_set self.old.lists node.0 (list_at self.old node.0 ++ span first.0 count) } }
+        ensures behind { self.new ≡ record self.old { lists = slice_set self.old.lists node.0 (list_at self.old node.0 ++ span first.0 count) } }
+        ensures low { node.0 < max_lists }
     {
         prove!(self.next.len() <= MAX_BLOCKS as usize);
         for b in first.0..first.0 + count {

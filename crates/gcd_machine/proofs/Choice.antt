@@ -7,4 +7,5 @@ pub mod Idle
 pub mod Workers
 pub mod Expiries
 pub mod Ending
+pub mod Calm
 pub mod Calls

@@ -16,6 +16,7 @@ use Rattle.gcd_history.specs.declared.state.State.TheVariants.{Drained, Stuck, M
 use Rattle.gcd_lists.specs.ListsView.{list_at}
 use Rattle.gcd_drain.specs.Rule.{is_fenced_at}
 use Rattle.gcd_drain.specs.Shut.{is_shut_by}
+use Rattle.gcd_drain.specs.Held.{is_chain_held_by}
 use Rattle.gcd_refinement.specs.MachineView.{MachineView, block_at, at_worker, busy_at, next_due_in}
 use Rattle.gcd_machine.specs.Judged.{done_at, next_act_at, misuse_by, is_busy_at, is_pending_at, is_intake_open_at}
 
@@ -58,6 +59,10 @@ node_at m w n =
     if is_shut_by m.drains m.tree m.holds n
     then None
     else option_or (option_map_or (start_at m w n) (slice_get (list_at m.lists n) 0) None) (deliver_at m w n)
+
+-- object n has to be looked at, and its chain is not held: nothing begins on another
+abbrev pub may_begin_at : MachineView → ℕ → Bool
+may_begin_at m n = busy_at m n && not (is_chain_held_by m.tree m.holds n)
 
 -- the first of these from object n on, among so many objects; one that is not marked has none
 abbrev pub nodes_at : MachineView → ℕ → ℕ → ℕ → Option Event

@@ -25,6 +25,7 @@ use Rattle.gcd_refinement.specs.MachineView.{MachineView, block_at, handler_at, 
 use Rattle.gcd_refinement.specs.Submits.{done_by}
 use Rattle.gcd_refinement.specs.AfterSleepers.{bed_of}
 use Rattle.gcd_refinement.specs.AfterLimits.{limit_in_view}
+use Rattle.gcd_plan.specs.Limits.{max_blocks, max_objects}
 
 -- ## Workers and wakes
 
@@ -179,6 +180,7 @@ pub record CanEnter (m : MachineView) (g : Obj) : Type 0 where
 -- the block may be submitted as a member of group g
 pub record CanSubmitMember (m : MachineView) (g : Obj) (q : Obj) (b : Blk) : Type 0 where
   pub group : CanEnter m g
+  pub low : g.0 < max_objects
   pub submits : CanSubmit m q b
 
 -- the block, which is of no group and waits nowhere, may be told of group g at q, of which no block is due
@@ -186,6 +188,7 @@ pub record CanRegister (m : MachineView) (g : Obj) (q : Obj) (b : Blk) : Type 0 
   pub group : g.0 < length m.groups.counts
   pub homes : HaveHomes m
   pub home : q.0 < length m.lists.lists
+  pub low : q.0 < max_objects
   pub blk : b.0 < length m.blocks
   pub of_no_group : place_of m.groups.notify b.0 ≡ None
   pub nowhere : place_of m.lists b.0 ≡ None
@@ -214,6 +217,7 @@ pub record CanTellOf (m : MachineView) (c : Blk) (q : Obj) (d : Blk) : Type 0 wh
   pub waits_for_none : place_of m.marks.notify d.0 ≡ None
   pub homes : HaveHomesAtEnd m
   pub home : q.0 < length m.lists.lists
+  pub low : q.0 < max_objects
   pub blk : d.0 < length m.blocks
   pub nowhere : place_of m.lists d.0 ≡ None
   pub room : m.left + (length (list_at m.marks.notify c.0) + 1) < 2 ^ 32
@@ -348,6 +352,7 @@ CanHaveEffect m (NotifyBlock c q d) = CanTellOf m c q d
 -- block b may wait for the end of block c
 pub record CanCall (m : MachineView) (w : ℕ) (b : Blk) (c : Blk) : Type 0 where
   pub called : c.0 < length m.blocks
+  pub low : b.0 < max_blocks
   pub parks : CanPark m w b (EndOf c) None
 
 -- block b may wait for group g, with this limit or without one
@@ -418,7 +423,7 @@ CanParkIn m w (Source s) act = Unit {0}
 -- the run may have made one act more
 pub record CanCountBlock (m : MachineView) (b : Blk) : Type 0 where
   pub blk : b.0 < length m.blocks
-  pub room : (block_at m b.0).done + 1 < 2 ^ 32
+  pub room : (block_at m b.0).done + 1 < 2 ^ 16
 
 pub record CanCountHandler (m : MachineView) (s : Obj) : Type 0 where
   pub source : s.0 < length m.handlers

@@ -1,5 +1,7 @@
 pub use Rattle.gcd_plan.specs.PlanView
 pub use Rattle.gcd_refinement.specs.MachineView
+pub mod Cells
+pub mod KnowsHeld
 pub mod Inside
 pub mod Stands
 pub mod Steps
@@ -7,3 +9,4 @@ pub mod Conditions
 pub mod Judged
 pub mod Begins
 pub mod Chosen
+pub mod Calm

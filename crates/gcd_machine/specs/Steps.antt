@@ -366,6 +366,14 @@ left_by_act m g =
 abbrev pub signalled_at : MachineView → Obj → MachineView
 signalled_at m s = first_let_go (record m { semas = with_signals m.semas s.0 (signals_at m.semas s.0 + 1) }) s
 
+-- one suspend more is outstanding on object o
+abbrev pub suspended : MachineView → Obj → MachineView
+suspended m o = record m { holds = with_hold m.holds o.0 (hold_at m.holds o.0 + 1) }
+
+-- object o has another target, at once or as a request
+abbrev pub retargeted : MachineView → Obj → Obj → MachineView
+retargeted m o t = record m { tree = targeted m.tree (Some (Target o t)) }
+
 -- what the act does, whoever makes it
 abbrev pub effect_of : MachineView → Act → MachineView
 effect_of m (Async q b) = submitted m q b false
@@ -382,10 +390,10 @@ effect_of m (GroupWaitFor g ms) = m
 effect_of m (Signal s) = signalled_at m s
 effect_of m (Wait s) = m
 effect_of m (WaitFor s ms) = m
-effect_of m (Suspend o) = record m { holds = with_hold m.holds o.0 (hold_at m.holds o.0 + 1) }
+effect_of m (Suspend o) = suspended m o
 effect_of m (Resume o) = resumed m o
 effect_of m (Activate o) = activated m o
-effect_of m (Target o t) = record m { tree = targeted m.tree (Some (Target o t)) }
+effect_of m (Target o t) = retargeted m o t
 effect_of m (Merge s n) = merged m s n
 effect_of m (Cancel s) = cancelled m s
 effect_of m (Retain o) = record m { refs = slice_set m.refs o.0 (refs_at m o.0 + 1) }

@@ -21,31 +21,33 @@
 //! | `objects`, `blocks` | the plan's numbers, for the conditions of the calls |
 //! | [`laws::histories_are_lawful`] | the histories that a machine stands for are lawful, of its own plan, which is valid |
 //!
-//! # Which part is asked, and which changes
+//! # What each event checks, and what it changes
 //!
-//! `may_start` and `may_run` are calls of `gcd_drain`, which ask the lists of waiting blocks (`gcd_lists`), the tree of targets
-//! (`gcd_tree`) and the holds (`gcd_hold`). `may_wake` is a call of `gcd_sync`, which asks groups, semaphores and strips.
+//! `start_fault` and `run_fault` of `gcd_drain` look at the waiting blocks (`gcd_lists`), the targets (`gcd_tree`) and the holds
+//! (`gcd_hold`). `may_wake` of `gcd_sync` looks at groups, semaphores and strips.
 //!
-//! | event | `permits` asks | `apply` changes |
+//! | event | `permits` checks | `apply` changes |
 //! |---|---|---|
-//! | Start | whether the worker is free, and `may_start`; of `main`, whether it has not started | the block leaves its list, a run opens in `gcd_tree`, a barrier in `gcd_drain`; from now on its cancellation changes nothing (`gcd_blockobj`) |
-//! | Act | whether it is the next act of the worker's run, and no misuse. A cancelled block has no next act. The chain is not asked, so a suspension stops no open run | what `Effects` of `gcd_plan` says of the act (below) |
+//! | Start | whether the worker is free, and `start_fault`; of `main`, whether it has not started | the block leaves its list, a run opens in `gcd_tree`, a barrier in `gcd_drain`; from now on its cancellation changes nothing (`gcd_blockobj`) |
+//! | Act | whether it is the next act of the worker's run, and no misuse. A cancelled block has no next act. It does not look at the chain, so a suspension stops no open run | what `Effects` of `gcd_plan` says of the act (below) |
 //! | Wake | whether the worker is free, and `may_wake` | the block is parked no longer (`gcd_sync`) |
 //! | End | whether no act of the worker's run is left | the run closes in `gcd_tree`, which may set a new target, and in `gcd_drain`. Its group, its strip, whoever waits for it and the notify blocks that become due are told, of a cancelled block as of any other |
-//! | Deliver | whether the worker is free, something is pending at the source (`gcd_source`, `gcd_timer`), it is not cancelled, and `may_run` | what is pending is handed over, and 0 is left; a run opens |
+//! | Deliver | whether the worker is free, something is pending at the source (`gcd_source`, `gcd_timer`), it is not cancelled, and `run_fault` | what is pending is handed over, and 0 is left; a run opens |
 //! | DeliverEnd | whether no act of the worker's run is left | the run closes |
 //! | Misuse | whether the next act of the worker's run is a misuse of this code | the run is over |
 //! | Tick | whether the time is above journal time, at most `until`, and has reached a due time or a limit | the time of `gcd_timer`, and with it what is due |
 //! | Expire | whether the block is parked, time has reached its limit, and what it waits for has not come: a signal or a last leave that stands before the Expire decides | the wait has expired (`gcd_sync`), and counts at its semaphore no more (`gcd_sema`) |
-//! | Ready, FeedEnd | whether the read source is live | what is pending (`gcd_source`); the source is live no longer |
-//! | Accept, Shut | whether the intake is open, and the block its next | the block waits on the intake's queue; the intake is shut |
-//! | Halt | nothing | the run is over |
+//! | Ready | whether the read source is live | the bytes told are added to what is pending (`gcd_source`) |
+//! | FeedEnd | whether the read source is live | the source is live no longer |
+//! | Accept | whether the intake is open, and the block its next | the block waits on the intake's queue |
+//! | Shut | whether the intake is open | the intake is open no longer |
+//! | Halt | only that the run is not over, as for every event | the run is over |
 //!
 //! After a Misuse or a Halt nothing is permitted.
 //!
-//! An act that submits puts its block behind all that wait on the queue, and `apply` puts all blocks of its strip there, in the order of
-//! their numbers. What waits on a queue stays in its list where the queue gets a new target. An act that waits parks its block; its limit is
-//! journal time plus the act's milliseconds, at most `until`. Blocks of `notify` (`gcd_group`) and `notify_block` (`gcd_blockobj`) are
+//! An act that submits puts its block behind all that wait on the queue, and the act `apply` puts all blocks of its strip there, in the
+//! order of their numbers. If a queue gets a new target, its waiting blocks stay in its list. An act that waits parks its block; its
+//! limit is journal time plus the act's milliseconds, at most `until`. Blocks of `notify` (`gcd_group`) and `notify_block` (`gcd_blockobj`) are
 //! submitted with the event by which they become due.
 //!
 //! `choose` records the first that is permitted of these: the next event of the worker's run, the Wake of the block with the lowest
@@ -59,8 +61,8 @@
 //!
 //! A misuse is judged here: a resume too many (code 1) and a release of what is suspended (7) by the holds, a leave without an enter (2) by
 //! the group's enters, a cycle of targets (3) and a target of what others have as target (5) by `would_cycle` and `has_child` of `gcd_tree`,
-//! a target after activation (4) by what is active, a released name (6) by the references (`gcd_objects`), and a semaphore's last release
-//! below its first value (8) by `gcd_sema`. `next_due` joins the due times of timers with the limits of waits, which `gcd_timer` does
+//! a new target of an active object that was created inactive (4) by the plan and `gcd_hold`, a released name (6) by the references
+//! (`gcd_objects`), and a semaphore's last release below its first value (8) by `gcd_sema`. `next_due` joins the due times of timers with the limits of waits, which `gcd_timer` does
 //! not know. If one End submits blocks of `notify_block` and of `notify`, those of `notify_block` come first.
 //!
 //! Every array is made by `new` with its final length. No other call but `copy` takes memory.

@@ -1,5 +1,5 @@
 // A machine that stands for a plan and what has happened so far.
-ghost use Rattle.std.specs.Prelude.{◌≡◌, ◌<◌, ◌-◌, ◌++◌, ◌∷◌, ◌↔◌, [], List, None, Option, IfOk, IfSome, IsTrue, find, length, option_map};
+ghost use Rattle.std.specs.Prelude.{◌≡◌, ◌<◌, ◌-◌, ◌++◌, ◌∷◌, ◌↔◌, [], false, List, None, Option, IfOk, IfSome, IsTrue, find, length, option_map};
 ghost use Rattle.std.specs.List.{range_with_len};
 ghost use Rattle.gcd_plan.specs.PlanView.{PlanView};
 ghost use Rattle.gcd_event.specs.declared.event.Event.{Event};
@@ -7,6 +7,7 @@ ghost use Rattle.gcd_history.specs.Choice.{is_work, worker_of};
 ghost use Rattle.gcd_history.specs.Ends.{HasState, IsQuiescent, is_halted};
 ghost use Rattle.gcd_history.specs.History.{awaited_of, choice_of, expiry_of, last_data_of, first_waiting_of, next_of_intake, is_block_cancelled, is_ended, is_intake_open, is_live_feed, is_started, next_due_of, node_of, parks, pending_of, running_of, why};
 ghost use Rattle.gcd_machine.specs.Begins.{begin_of};
+ghost use Rattle.gcd_machine.specs.Calm.{IsCalm};
 ghost use Rattle.gcd_machine.specs.Stands.{MayApply, StandsFor};
 
 use crate::registers::Registers;
@@ -127,6 +128,16 @@ impl Machine {
         ensures { (plan : PlanView) (h : List Event) → StandsFor self.now plan h → result ≡ begin_of plan h worker node.0 }
     {
         self.registers.begin(worker, node)
+    }
+
+    /// Whether nothing can come of poller, clock or outside callers: no read source is live, no due time is left, no wait may expire, and
+    /// no intake is open (this project's own rule). Where the run is halted it may answer no, though nothing can come.
+    #[inline(always)]
+    pub fn is_calm(&self) -> bool
+        ensures calm { (plan : PlanView) (h : List Event) → StandsFor self.now plan h → IsTrue result → IsCalm plan h }
+        ensures told { (plan : PlanView) (h : List Event) → StandsFor self.now plan h → is_halted h ≡ false → IsCalm plan h → IsTrue result }
+    {
+        self.registers.is_calm()
     }
 
     /// How far the run has come. It costs as much as [`Machine::is_quiescent`].

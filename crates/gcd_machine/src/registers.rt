@@ -5,6 +5,7 @@ ghost use Rattle.gcd_refinement.specs.MachineView.{machine_of};
 mod activity;
 mod acts;
 mod answers;
+mod cell;
 mod choose;
 mod copy;
 mod dues;
@@ -24,15 +25,16 @@ mod runs;
 mod strips;
 mod work;
 
+use cell::BlockCell;
 use gcd_apply::Strips;
 use gcd_blockobj::Marks;
-use gcd_drain::Drains;
+use gcd_drain::{Drains, HeldChains};
 use gcd_group::Groups;
 use gcd_hold::Holds;
 use gcd_lists::Lists;
 use gcd_objects::Objects;
 use gcd_plan::{Blk, Plan, Run};
-use gcd_refinement::{BlockProgress, HandlerProgress};
+use gcd_refinement::HandlerProgress;
 use gcd_sema::Semas;
 use gcd_sets::{BitSet, Times};
 use gcd_source::Sources;
@@ -51,6 +53,8 @@ pub struct Registers {
     pub tree: Tree,
     pub holds: Holds,
     pub drains: Drains,
+    // the objects whose chain is held, which the tree and the holds tell
+    pub held: HeldChains,
     pub groups: Groups,
     pub semas: Semas,
     pub waits: Waits,
@@ -68,7 +72,7 @@ pub struct Registers {
     pub accepted: u32,
     pub shut: bool,
     // by block
-    pub blocks: Vec<BlockProgress>,
+    pub blocks: Vec<BlockCell>,
     pub ended: Vec<bool>,
     // the parked blocks that may wake
     pub wakeable: BitSet,
@@ -101,7 +105,7 @@ type NodeParts = (Objects, Lists, Tree, Holds, Drains);
 
 type EventParts = (Groups, Semas, Waits, Sources, Timers);
 
-type BlockArrays = (Vec<BlockProgress>, Vec<bool>, BitSet, Times, BitSet);
+type BlockArrays = (Vec<BlockCell>, Vec<bool>, BitSet, Times, BitSet);
 
 type RunArrays = (Vec<HandlerProgress>, BitSet, BitSet, Vec<Option<Run>>);
 
@@ -113,4 +117,8 @@ impl Model for Registers {
     ghost use Rattle.gcd_machine.specs.Inside.{view_of};
 
     ghost view = { view_of };
+
+    ghost use Rattle.gcd_machine.specs.KnowsHeld.{KnowsHeld};
+
+    ghost invariant = { λ r. KnowsHeld r.held r.tree r.holds };
 }

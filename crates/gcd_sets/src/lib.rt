@@ -11,6 +11,7 @@
 //! | `has` | whether the number is in the set | | constant |
 //! | `count`, `is_empty` | how many numbers are in the set, whether there are none | | constant |
 //! | `next` | the least number in the set from one on; None exactly if there is none | | a step for each word that it passes, and constant if the set is empty |
+//! | `next_without` | the least number from one on that is in the set and not in another of the same length; None exactly if there is none | | a step for each word that it passes, and constant if the set is empty |
 //! | `set`, `clear`, `put` | | the number in the set, or not, as it may have been before | constant |
 //!
 //! A [`SmallSet`] has numbers below 1,024 and takes no memory at all: it serves within one call. Contracts see its words.

@@ -1,5 +1,5 @@
 // The set.
-ghost use Rattle.std.specs.Prelude.{◌≡◌, ◌+◌, ◌-◌, ◌*◌, ◌<◌, ◌≤◌, ◌==◌, true, false, None, Some, IfOk, length, replicate, slice_index_or, slice_set};
+ghost use Rattle.std.specs.Prelude.{◌≡◌, ◌+◌, ◌-◌, ◌*◌, ◌<◌, ◌≤◌, ◌==◌, ◌&&◌, not, true, false, None, Some, IfOk, length, replicate, slice_index_or, slice_set};
 ghost use Rattle.std.specs.List.{count_by, find, range_with_len};
 
 use crate::word::{has_bit, lowest_from};
@@ -105,6 +105,27 @@ impl BitSet {
         let mut start = from % 64;
         for at in from as usize / 64..self.words.len() {
             if let Some(bit) = lowest_from(self.words[at], start) {
+                return number_below(self.len, at, bit);
+            }
+            start = 0;
+        }
+        None
+    }
+
+    /// The least number from the given one on that is in this set and not in the other, which has the same length. It returns
+    /// None exactly if there is none. It takes a step for each word of 64 numbers that it passes, and none if this set is empty.
+    /// (This project's own rule.)
+    pub fn next_without(&self, other: &BitSet, from: u32) -> Option<u32>
+        requires { length other.now ≡ length self.now }
+        ensures { result ≡ find (λ i. slice_index_or self.now i false && not (slice_index_or other.now i false))
+            (range_with_len from (length self.now - from)) }
+    {
+        if self.count == 0 {
+            return None;
+        }
+        let mut start = from % 64;
+        for at in from as usize / 64..self.words.len() {
+            if let Some(bit) = lowest_from(self.words[at] & !other.words[at], start) {
                 return number_below(self.len, at, bit);
             }
             start = 0;

@@ -6,3 +6,5 @@ pub mod TreeChanges
 pub mod Runs
 pub mod PlanTree
 pub mod Chains
+pub mod Marks
+pub mod Quiet

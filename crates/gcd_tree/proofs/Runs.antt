@@ -122,6 +122,12 @@ still_root e = cc
 moving_to : (view : TreeView) (o : ℕ) (t : Obj) → slice_index_or view.requests o None ≡ Some t → walk_next view o ≡ t.0
 moving_to view o t e = ap (λ r. unwrap_or (option_map (λ y. y.0) r) (target_at view o)) e
 
+-- a request is an object
+pub request_fits : (view : TreeView) → IsTree view → (o : ℕ) (t : Obj) → o < length view.targets → slice_index_or view.requests o None ≡ Some t
+    → t.0 < length view.targets
+request_fits view tree o t lt asked =
+    let goes = moving_to view o t asked in let fits = tree.walks_fit o lt in omega (arith, goes, fits)
+
 pub counted_settled : (view : TreeView) (counts next : List ℕ) → IsCountedTree view counts → (node : ℕ) (t : Obj) → node < length view.targets
     → open_on_at view node ≡ 1 → slice_index_or view.requests node None ≡ Some t → length next ≡ length counts
     → ((x : ℕ) → x < length view.targets → slice_index next x + passes view node x ≡ slice_index counts x)

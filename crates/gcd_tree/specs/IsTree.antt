@@ -1,5 +1,5 @@
 -- What holds of every tree of targets.
-use Rattle.std.specs.Prelude.{◌≡◌, ℕ, ◌<◌, ◌≤◌, true, false, None, List, length, slice_index}
+use Rattle.std.specs.Prelude.{◌≡◌, ℕ, ◌<◌, ◌≤◌, Bool, true, false, None, List, length, slice_index, slice_index_or}
 use Rattle.gcd_plan.specs.declared.numbers.Obj.{Obj}
 use Rattle.gcd_plan.specs.Chains.{chain_by, is_in}
 use Rattle.gcd_plan.specs.Limits.{max_objects}
@@ -33,3 +33,8 @@ pub record IsTree (view : TreeView) : Type 0 where
 pub record CountBeneath (view : TreeView) (counts : List ℕ) : Type 0 where
   pub as_many : length counts ≡ length view.targets
   pub exact : (o : ℕ) → o < length view.targets → slice_index counts o ≡ open_beneath_at view o
+
+-- each object that is the target of an object is marked. An object that was one may be marked too
+pub record MarkTargets (targets : List Obj) (marks : List Bool) : Type 0 where
+  pub as_many : length marks ≡ length targets
+  pub marked : (o : ℕ) → o < length targets → slice_index_or marks (target_in targets o) false ≡ true

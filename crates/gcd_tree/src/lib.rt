@@ -8,8 +8,11 @@
 //! |---|---|---|
 //! | `Tree::new` | the first targets, no request, nothing open; or out of memory | the objects |
 //! | `copied` | the same tree once more; or out of memory | the objects |
+//! | `objects` | how many objects there are | constant |
 //! | `target`, `is_moving`, `open_on` | what the lists hold | constant |
 //! | `open_beneath` | the runs open on all objects whose chain has the object | constant |
+//! | `any_open` | whether a run is open on any object | constant |
+//! | `is_never_target` | true only if no object has, or had, the object as its target | constant |
 //! | `chain` | the chain, an iterator | its length |
 //! | `would_cycle` | whether a walk from the new target reaches the object | its length |
 //! | `has_child` | whether another object has the object as target or as request | the objects |
@@ -19,13 +22,15 @@
 //! No call but `new` and `copied` takes memory, and none is refused: what a call needs is its condition, and another
 //! call tests it.
 //!
-//! That every chain ends at `root`, and that above an open run nothing is about to move, holds of every tree
-//! (`IsTree`). The crate says nothing of histories: which acts come, and in what order, is for its callers.
+//! That every chain ends at `root`, and that no object above the one of an open run is about to move, holds of every tree
+//! (`IsTree`). `proofs/Quiet` says, for proofs above, that nothing is open on or beneath any object if nothing is open beneath
+//! `root`. The crate says nothing of histories: which acts come, and in what order, is for its callers.
 #![tactic(auto)]
 
 mod along;
 mod chain;
 mod first;
+mod flags;
 mod tree;
 
 pub use chain::Chain;

@@ -1,11 +1,13 @@
 // The tree of targets, with the runs that are open beneath each object.
-ghost use Rattle.std.specs.Prelude.{◌≡◌, ℕ, ◌+◌, ◌-◌, ◌<◌, ◌≤◌, ◌^◌, true, false, None, length, sum, All, IfOk};
+ghost use Rattle.std.specs.Prelude.{◌≡◌, ◌≢◌, ℕ, ◌+◌, ◌-◌, ◌<◌, ◌≤◌, ◌^◌, nat_lt, true, false, None, length, sum, All, IfOk};
+ghost use Rattle.gcd_plan.specs.Limits.{max_objects};
 ghost use Rattle.gcd_tree.specs.TreeView.{tree_of, target_at, is_moving_at, open_on_at, is_node_at, chain_at, has_mover_at, walk_next, would_cycle_at, is_child_of, has_child_at, open_beneath_at, with_target, with_request, with_open, settled};
 ghost use Rattle.gcd_tree.specs.IsTree.{IsTree};
 
 use crate::along::{lower_along, raise_along};
 use crate::chain::Chain;
-use crate::first::{first_targets, nodes};
+use crate::first::{first_targets, nodes_and_marks};
+use crate::flags::copied_flags;
 use gcd_plan::{Obj, Plan};
 use std::alloc::{AllocError, Global};
 use std::marker::Model;
@@ -20,11 +22,13 @@ pub struct Tree {
     open_on: Vec<u32>,
     open_beneath: Vec<u32>,
     nodes: Vec<bool>,
+    // By object: true if an object has it, or once had it, as its target.
+    marks: Vec<bool>,
 }
 
 impl Model for Tree {
     ghost use Rattle.gcd_tree.specs.TreeView.{TreeView};
-    ghost use Rattle.gcd_tree.specs.IsTree.{IsTree, CountBeneath};
+    ghost use Rattle.gcd_tree.specs.IsTree.{IsTree, CountBeneath, MarkTargets};
 
     ghost Value = { TreeView };
 
@@ -32,7 +36,7 @@ impl Model for Tree {
 
     ghost view = { view_of };
 
-    ghost invariant = { λ t. IsTree (view_of t) × CountBeneath (view_of t) t.open_beneath.items };
+    ghost invariant = { λ t. IsTree (view_of t) × CountBeneath (view_of t) t.open_beneath.items × MarkTargets t.targets.items t.marks.items };
 }
 
 impl Tree {
@@ -41,12 +45,14 @@ impl Tree {
         ensures { IfOk result (λ tree. tree ≡ tree_of plan.now) }
     {
         let count = plan.objects() as usize;
+        let (nodes, marks) = nodes_and_marks(alloc, plan)?;
         Ok(Tree {
             targets: first_targets(alloc, plan)?,
             requests: vec![in alloc; None; count]?,
             open_on: vec![in alloc; 0; count]?,
             open_beneath: vec![in alloc; 0; count]?,
-            nodes: nodes(alloc, plan)?,
+            nodes,
+            marks,
         })
     }
 
@@ -54,13 +60,24 @@ impl Tree {
     pub fn copied(&self, alloc: Global) -> Result<Tree, AllocError>
         ensures { IfOk result (λ tree. tree ≡ self.now) }
     {
+        let (nodes, marks) = copied_flags(alloc, &self.nodes, &self.marks)?;
         Ok(Tree {
             targets: Vec::from_slice(alloc, &self.targets)?,
             requests: Vec::from_slice(alloc, &self.requests)?,
             open_on: Vec::from_slice(alloc, &self.open_on)?,
             open_beneath: Vec::from_slice(alloc, &self.open_beneath)?,
-            nodes: Vec::from_slice(alloc, &self.nodes)?,
+            nodes,
+            marks,
         })
+    }
+
+    /// How many objects the tree has. (This project's own rule.)
+    #[inline(always)]
+    pub fn objects(&self) -> u32
+        ensures count { result ≡ length self.now.targets }
+        ensures few { result ≤ max_objects }
+    {
+        self.targets.len() as u32
     }
 
     /// The target of an object. A moving object keeps its old one until no run is open on it.
@@ -109,6 +126,26 @@ impl Tree {
         ensures at_root { o.0 ≡ 0 → result ≡ sum self.now.open_on }
     {
         self.open_beneath[o.0 as usize]
+    }
+
+    /// Whether a run is open on any object: beneath `root` all open runs are. Every tree is valid, and callers may take that from
+    /// here too. (This project's own rule.)
+    #[inline(always)]
+    pub fn any_open(&self) -> bool
+        ensures open { result ≡ nat_lt 0 (open_beneath_at self.now 0) }
+        ensures valid { IsTree self.now }
+    {
+        self.open_beneath[0] > 0
+    }
+
+    /// Whether no object has this one as its target, and none had it before. Of an object that lost all that had it as their
+    /// target it does not say so. (This project's own rule.)
+    #[inline(always)]
+    pub fn is_never_target(&self, o: Obj) -> bool
+        requires { o.0 < length self.now.targets }
+        ensures { result ≡ true → (p : ℕ) → p < length self.now.targets → target_at self.now p ≢ o.0 }
+    {
+        !self.marks[o.0 as usize]
     }
 
     fn walk_next(&self, o: Obj) -> Obj
@@ -185,6 +222,7 @@ impl Tree {
         // changes.
         if self.open_on[o.0 as usize] == 0 {
             self.targets[o.0 as usize] = t;
+            self.marks[t.0 as usize] = true;
         } else {
             self.requests[o.0 as usize] = Some(t);
         }
@@ -221,6 +259,7 @@ impl Tree {
         // new chain.
         if let Some(t) = self.requests[at] {
             self.targets[at] = t;
+            self.marks[t.0 as usize] = true;
             self.requests[at] = None;
         }
     }

@@ -27,13 +27,13 @@ use Rattle.gcd_machine.proofs.Views.Workers.{over_is}
 -- ## Live feeds
 
 -- where no flag is counted none is set
-none_set : (flags : List Bool) → count_by (λ b. b) flags ≡ 0 → (i : ℕ) → get_or flags i false ≡ false
+pub none_set : (flags : List Bool) → count_by (λ b. b) flags ≡ 0 → (i : ℕ) → get_or flags i false ≡ false
 none_set [] none i = refl
 none_set (true ∷ flags) none i = let c = count_by-cons (λ (b : Bool). b) true flags in absurd (omega (arith, c, none))
 none_set (false ∷ flags) none zero = refl
 none_set (false ∷ flags) none (suc i) = let c = count_by-cons (λ (b : Bool). b) false flags in none_set flags (omega (arith, c, none)) i
 
-none_counted : (flags : List Bool) → ((i : ℕ) → get_or flags i false ≡ false) → count_by (λ b. b) flags ≡ 0
+pub none_counted : (flags : List Bool) → ((i : ℕ) → get_or flags i false ≡ false) → count_by (λ b. b) flags ≡ 0
 none_counted [] none = refl
 none_counted (flag ∷ flags) none =
     let c = count_by-cons (λ (b : Bool). b) flag flags in

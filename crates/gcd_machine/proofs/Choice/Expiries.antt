@@ -19,6 +19,7 @@ use Rattle.gcd_history.specs.Permitted.{permitted, why, is_halted, has_block, re
 use Rattle.gcd_history.specs.Choice.{expire_event, expiry}
 use Rattle.gcd_history.proofs.Permitted.Quiet.{none_first}
 use Rattle.gcd_history.proofs.Permitted.Reasons.{allowed, at_expire}
+use Rattle.gcd_sets.proofs.Ranges.{found_none}
 use Rattle.gcd_refinement.specs.MachineView.{MachineView, is_ripe_at}
 use Rattle.gcd_refinement.specs.Stands.{IsTied}
 use Rattle.gcd_machine.specs.Chosen.{expiry_by, next_set}
@@ -112,3 +113,18 @@ none_from_unripe plan past m tied none =
     either_way : (over : Bool) → cond {A = Option Event} over None None ≡ None
     either_way true = refl
     either_way false = refl
+
+-- and where there is none, and the run is not over, no flag is set
+pub unripe_from_none : (plan : PlanView) (past : List Event) (m : MachineView) → IsTied plan past m → is_halted past ≡ false → expiry plan past ≡ None
+    → (b : ℕ) → is_ripe_at m b ≡ false
+unripe_from_none plan past m tied on none b =
+    let going = over_is plan past m tied.totals ∙ on in
+    let is = sym (ap (λ over. cond over None (option_map expire_event (next_set m.ripe 0))) going) ∙ (expiry_is plan past m tied ∙ none) in
+    ⊎_elim
+    (λ (low : b < length m.ripe). found_none (is_ripe_at m) 0 (length m.ripe - 0) (unmapped (next_set m.ripe 0) is) b (omega arith) (omega (arith, low)))
+    (λ (high : length m.ripe ≤ b). get_or_past m.ripe b false high)
+    (cases_lt b (length m.ripe))
+  where
+    unmapped : (o : Option ℕ) → option_map expire_event o ≡ None → o ≡ None
+    unmapped None h = refl
+    unmapped (Some n) h = cc

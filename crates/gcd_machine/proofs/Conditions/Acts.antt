@@ -1,12 +1,14 @@
 -- What an act asks: its effect may be had, its block may be parked, and its run may count it.
-use Rattle.std.proofs.Common.{◌≡◌, ℕ, ◌+◌, ◌^◌, ◌<◌, ◌==◌, ltb, leb, ◌≤◌, Bool, true, false, not, ◌&&◌, cond, List, [], ◌∷◌, length, ◌++◌, min, Option, Some, None, is_none, refl, ap, sym, ◌∙◌, subst, arith, eq-eqb, ne_eqb}
-use Rattle.std.specs.List.{list_any}
+use Rattle.std.proofs.Common.{◌≡◌, ℕ, ◌+◌, ◌^◌, ◌<◌, ◌==◌, ltb, leb, ◌≤◌, Bool, true, false, not, ◌&&◌, cond, List, [], ◌∷◌, length, ◌++◌, get_or, min, Option, Some, None, is_none, refl, ap, sym, ◌∙◌, subst, arith, eq-eqb, ne_eqb}
+use Rattle.std.specs.List.{list_any, slice_get}
 use Rattle.std.proofs.lemmas.Bool.{and_parts, ltb-true, leb-true, or_parts, both_ways}
 use Rattle.std.proofs.lemmas.List.{get_or-set_same, length-append}
-use Rattle.std.proofs.lemmas.Option.{same_Some}
-use Rattle.gcd_plan.specs.PlanView.{PlanView}
+use Rattle.std.specs.Option.{option_map_or}
+use Rattle.std.proofs.lemmas.List.Sums.{get_or-le-sum_by}
+use Rattle.std.proofs.lemmas.Option.{none-some, same_Some, slice_get_within, slice_get-get_or}
+use Rattle.gcd_plan.specs.PlanView.{PlanView, BlkView}
 use Rattle.gcd_plan.specs.Kinds.{has_kind, is_queue, is_queue_kind, is_node_kind, is_source_kind, is_merge_kind, is_group_kind, is_semaphore_kind}
-use Rattle.gcd_plan.specs.Validity.{is_act, is_declared, is_held_object}
+use Rattle.gcd_plan.specs.Validity.{IsPlan, is_act, is_declared, is_held_object}
 use Rattle.gcd_plan.specs.declared.act.Act.{Act}
 use Rattle.gcd_plan.specs.declared.act.Act.TheVariants.{Async, Barrier, Sync, BarrierSync, GroupAsync, Notify, Enter, Leave, GroupWait, GroupWaitFor, Signal, Wait, WaitFor, Suspend, Resume, Activate, Target, Merge, Cancel, Retain, Release, Apply, CancelBlock, WaitBlock, NotifyBlock}
 use Rattle.gcd_plan.specs.declared.numbers.Blk.{Blk}
@@ -18,7 +20,7 @@ use Rattle.gcd_plan.specs.declared.reason.Reason.TheVariants.{Block as EndOf, Gr
 use Rattle.gcd_plan.proofs.Within.{declared_within, has_object}
 use Rattle.gcd_event.specs.declared.event.Event.{Event}
 use Rattle.gcd_event.specs.declared.event.Event.TheVariants.{Act as Acted}
-use Rattle.gcd_history.specs.Runs.{open_runs, is_open, act_at, act_of}
+use Rattle.gcd_history.specs.Runs.{open_runs, is_open, act_at, act_of, acts_done}
 use Rattle.gcd_history.specs.Submitted.{on_node, submitted_by, cancelled_by}
 use Rattle.gcd_history.specs.Parked.{parked_by, awaited, has_run}
 use Rattle.gcd_history.specs.Misuses.{refs, is_released, named}
@@ -45,7 +47,7 @@ use Rattle.gcd_machine.proofs.Conditions.NewBlocks.{unsubmitted, by_act, by_stri
 use Rattle.gcd_machine.proofs.Conditions.Groups.{can_let_go, can_submit, can_wake_at, position_low, can_enter, can_submit_member, can_leave_by_act, can_register, can_tell_of}
 use Rattle.gcd_machine.proofs.Conditions.Activity.{can_activate, can_resume, can_suspend, can_cancel, can_merge}
 use Rattle.gcd_machine.proofs.Conditions.Targets.{can_target}
-use Rattle.gcd_plan.specs.Limits.{max_workers, max_value}
+use Rattle.gcd_plan.specs.Limits.{max_acts, max_workers, max_value}
 
 -- a block whose run goes on waits for nothing
 awake_now : (plan : PlanView) (past : List Event) (run : Run) → parked_by plan past run ≡ None → awaited plan past run ≡ None
@@ -62,6 +64,20 @@ unreleased plan past o some live none =
 above : (n : ℕ) → (n ≡ 0 → ⊥) → 0 < n
 above n h = omega (arith, h)
 
+-- a block's act has a place below the most acts of a plan
+place_low : (plan : PlanView) → IsPlan plan → (b : Blk) (i : ℕ) (act : Act) → act_at plan (Block b) i ≡ Some act → i < max_acts
+place_low plan valid b i act at = placed (slice_get plan.blocks b.0) refl at
+  where
+    placed : (o : Option BlkView) → slice_get plan.blocks b.0 ≡ o → slice_get (option_map_or (λ blk. blk.acts) o []) i ≡ Some act → i < max_acts
+    placed None is there = absurd (none-some act there)
+    placed (Some blk) is there =
+        let low = slice_get_within blk.acts i act there in
+        let within = slice_get_within plan.blocks b.0 blk is in
+        let same = ap (λ (x : BlkView). length x.acts) (same_Some (get_or plan.blocks b.0 blk) blk (sym (slice_get-get_or plan.blocks b.0 blk within) ∙ is)) in
+        let few = get_or-le-sum_by (λ (x : BlkView). length x.acts) plan.blocks b.0 blk within in
+        let all = valid.few_acts in
+        omega (arith, low, same, few, all)
+
 module _ (past : List Event) (m : MachineView) (t : IsTied m.plan past m) (room : length past + 1 < 2 ^ 32) where
   -- ## The run
 
@@ -75,13 +91,14 @@ module _ (past : List Event) (m : MachineView) (t : IsTied m.plan past m) (room 
       let is = t.totals.running in
       record { worker = omega (arith, low, workers); running = omega (arith, some, is) }
 
-  can_count : (run : Run) → is_run_of m.plan run ≡ true → CanCount m run
-  can_count (Block b) of =
+  can_count : (run : Run) (i : ℕ) (act : Act) → is_run_of m.plan run ≡ true → act_at m.plan run i ≡ Some act → i ≡ acts_done past run → CanCount m run
+  can_count (Block b) i act of at next =
       let low = ltb-true b.0 (length m.plan.blocks) of in
       let long = t.own.blocks in
-      let few = t.small.block_acts b.0 in
-      record { blk = omega (arith, low, long); room = omega (arith, few, room) }
-  can_count (Source s) of =
+      let place = place_low m.plan t.valid b i act at in
+      let done = t.blocks.done b.0 in
+      record { blk = omega (arith, low, long); room = omega (arith, place, done, next) }
+  can_count (Source s) i act of at next =
       let low = has_object is_source_kind m.plan s.0 of in
       let long = t.own.handlers in
       let few = t.small.handler_acts s.0 in
@@ -125,7 +142,8 @@ module _ (past : List Event) (m : MachineView) (t : IsTied m.plan past m) (room 
   can_call w b c worker block called =
       let long = t.own.blocks in
       let reasons = t.parts.reasons in
-      record { called = omega (arith, called, long); parks = can_park w b (EndOf c) None worker block (omega (arith, called, reasons)) (λ end is. cc) }
+      let few = t.valid.few_blocks in
+      record { called = omega (arith, called, long); low = omega (arith, block, few); parks = can_park w b (EndOf c) None worker block (omega (arith, called, reasons)) (λ end is. cc) }
 
   can_wait_for_group : (w : ℕ) (b : Blk) (i : ℕ) (act : Act) (g : Obj) → act_at m.plan (Block b) i ≡ Some act → has_run m.plan past w (Block b) ≡ true → CanSetFree m w → b.0 < length m.plan.blocks → g.0 < length m.plan.objects
       → CanWaitForGroup m w b g (limit_in_view m (Some act))
@@ -324,13 +342,13 @@ module _ (past : List Event) (m : MachineView) (t : IsTied m.plan past m) (room 
   can_act w run i lawful =
       let known = and_parts (is_worker w) _ (allowed m.plan past (Acted w run i) lawful.1).known in
       let of = (and_parts (is_run_of m.plan run) _ known.1).0 in
-      let own = (at_act m.plan past w run i lawful.1).own in
+      let facts = at_act m.plan past w run i lawful.1 in
       record {
         acts = λ act at.
             let fits = recorded_fits m.plan (Acted w run i) act t.valid at in
             record {
-              counts = can_count run of;
-              parks = can_park_in w run i act lawful at own (can_set_free w run known.0 own) of fits;
+              counts = can_count run i act of at facts.next;
+              parks = can_park_in w run i act lawful at facts.own (can_set_free w run known.0 facts.own) of fits;
               effect = have_effect w run i act lawful at fits;
             };
       }

@@ -86,12 +86,14 @@ module _ (past : List Event) (m : MachineView) (t : IsTied m.plan past m) (room 
       let left = t.small.left in
       let waiting = few_ending past m t c.0 in
       let few = t.valid.few_blocks in
+      let objects = t.valid.few_objects in
       record {
         awaited = omega (arith, known, told, whole);
         waiting = omega (arith, block, told_blocks, whole);
         waits_for_none = of_no_block past m t d.0 new;
         homes = have_homes_at_end;
         home = omega (arith, home, lists);
+        low = omega (arith, home, objects);
         blk = omega (arith, block, blocks);
         nowhere = new_nowhere past m t d.0 new;
         room = omega (arith, left, waiting, few);
@@ -138,7 +140,7 @@ module _ (past : List Event) (m : MachineView) (t : IsTied m.plan past m) (room 
       record { group = omega (arith, low, counts); room = omega (arith, few, room); position = position_low }
 
   pub can_submit_member : (g q : Obj) (b : Blk) → g.0 < length m.plan.objects → CanSubmit m q b → CanSubmitMember m g q b
-  can_submit_member g q b low submits = record { group = can_enter g low; submits = submits }
+  can_submit_member g q b low submits = let few = t.valid.few_objects in record { group = can_enter g low; low = omega (arith, low, few); submits = submits }
 
   pub can_leave_by_act : (e : Event) (g : Obj) → IsLawful m.plan (e ∷ past) → act_of m.plan e ≡ Some (Leave g) → g.0 < length m.plan.objects → CanLeaveByAct m g
   can_leave_by_act e g lawful at low = record {
@@ -180,10 +182,12 @@ module _ (past : List Event) (m : MachineView) (t : IsTied m.plan past m) (room 
       let left = t.small.left in
       let waiting = few_waiting past m t g.0 group in
       let few = t.valid.few_blocks in
+      let objects = t.valid.few_objects in
       record {
         group = omega (arith, group, counts);
         homes = have_homes;
         home = omega (arith, home, lists);
+        low = omega (arith, home, objects);
         blk = omega (arith, block, blocks);
         of_no_group = of_no_group past m t b.0 new;
         nowhere = new_nowhere past m t b.0 new;

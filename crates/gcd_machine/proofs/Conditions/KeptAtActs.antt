@@ -94,7 +94,7 @@ module _ (m : MachineView) (blocks : List BlockProgress) (handlers : List Handle
   }
 
   call_noted : {w : ℕ} {b c : Blk} → CanCall m w b c → CanCall (with_noted m blocks handlers) w b c
-  call_noted can = record { called = omega (arith, long, can.called); parks = park_noted can.parks }
+  call_noted can = record { called = omega (arith, long, can.called); low = can.low; parks = park_noted can.parks }
 
   park_by_noted : (w : ℕ) (run : Run) (act : Act) → CanParkIn m w run act → CanParkIn (with_noted m blocks handlers) w run act
   park_by_noted w (Source s) act can = tt
@@ -135,11 +135,12 @@ module _ (m : MachineView) (blocks : List BlockProgress) (handlers : List Handle
     effect_noted (Barrier q b) can = submit_noted can
     effect_noted (Sync q b) can = submit_noted can
     effect_noted (BarrierSync q b) can = submit_noted can
-    effect_noted (GroupAsync g q b) can = record { group = enter_noted can.group; submits = submit_noted can.submits }
+    effect_noted (GroupAsync g q b) can = record { group = enter_noted can.group; low = can.low; submits = submit_noted can.submits }
     effect_noted (Notify g q b) can = record {
       group = can.group;
       homes = homes_noted can.homes;
       home = can.home;
+      low = can.low;
       blk = omega (arith, long, can.blk);
       of_no_group = can.of_no_group;
       nowhere = can.nowhere;
@@ -174,6 +175,7 @@ module _ (m : MachineView) (blocks : List BlockProgress) (handlers : List Handle
       waits_for_none = can.waits_for_none;
       homes = end_homes_noted can.homes;
       home = can.home;
+      low = can.low;
       blk = omega (arith, long, can.blk);
       nowhere = can.nowhere;
       room = can.room;

@@ -1,21 +1,33 @@
 // What becomes active, and what is cancelled.
 ghost use Rattle.std.specs.Prelude.{◌≡◌};
-ghost use Rattle.gcd_machine.specs.Steps.{activated, cancelled, made_active, made_cancelled, resumed, merged};
-ghost use Rattle.gcd_machine.specs.Conditions.{CanActivate, CanCancel, CanMakeActive, CanMakeCancelled, CanResume, CanMerge};
+ghost use Rattle.gcd_tree.specs.IsTree.{IsTree};
+ghost use Rattle.gcd_machine.specs.Steps.{activated, cancelled, made_active, made_cancelled, resumed, retargeted, suspended, merged};
+ghost use Rattle.gcd_machine.specs.Conditions.{CanActivate, CanCancel, CanMakeActive, CanMakeCancelled, CanResume, CanSuspend, CanTarget, CanMerge};
 
 use super::Registers;
 use gcd_plan::Obj;
 
 impl Registers {
+    // The tree of targets is valid. It does nothing: proofs take the fact from here.
+    #[inline(always)]
+    pub fn valid_tree(&self)
+        ensures { IsTree self.now.tree }
+    {
+        self.tree.any_open();
+    }
+
     // The object is active from now on (dispatch_activate(3)).
     pub fn activate(&mut self, o: Obj)
         requires { CanActivate self.old o }
         ensures { self.new ≡ activated self.old o }
     {
-        if !self.holds.is_active(o) {
+        let begins = !self.holds.is_active(o);
+        self.valid_tree();
+        self.holds.activate(o);
+        self.held.rehold(&self.tree, &self.holds, o);
+        if begins {
             self.make_active(o);
         }
-        self.holds.activate(o);
     }
 
     // One suspend less is outstanding, or an inactive source becomes active (dispatch_resume(3)).
@@ -23,10 +35,33 @@ impl Registers {
         requires { CanResume self.old o }
         ensures { self.new ≡ resumed self.old o }
     {
-        if self.holds.hold(o) == 0 && !self.holds.is_active(o) {
+        let begins = self.holds.hold(o) == 0 && !self.holds.is_active(o);
+        self.valid_tree();
+        self.holds.resume(o);
+        self.held.rehold(&self.tree, &self.holds, o);
+        if begins {
             self.make_active(o);
         }
-        self.holds.resume(o);
+    }
+
+    // One suspend more is outstanding (dispatch_suspend(3)).
+    pub fn suspend(&mut self, o: Obj)
+        requires { CanSuspend self.old o }
+        ensures { self.new ≡ suspended self.old o }
+    {
+        self.valid_tree();
+        self.holds.suspend(o);
+        self.held.rehold(&self.tree, &self.holds, o);
+    }
+
+    // The object has another target, at once or as a request (dispatch_set_target_queue(3)).
+    pub fn set_target(&mut self, o: Obj, t: Obj)
+        requires { CanTarget self.old o t }
+        ensures { self.new ≡ retargeted self.old o t }
+    {
+        self.valid_tree();
+        self.tree.set_target(o, t);
+        self.held.rehold(&self.tree, &self.holds, o);
     }
 
     // An object that was inactive begins to be active.

@@ -50,7 +50,7 @@ impl Registers {
         ensures { self.new ≡ acted self.old run }
     {
         match run {
-            Run::Block(blk) => self.blocks[blk.0 as usize].done += 1,
+            Run::Block(blk) => self.blocks[blk.0 as usize].count_act(),
             Run::Source(src) => self.handlers[src.0 as usize].done += 1,
         }
     }
@@ -85,7 +85,7 @@ impl Registers {
         requires { CanCall self.old worker blk called }
         ensures { self.new ≡ called_by self.old worker blk called }
     {
-        self.blocks[called.0 as usize].caller = Some(blk);
+        self.blocks[called.0 as usize].call_from(blk);
         self.park(worker, blk, Reason::Block(called), None);
     }
 
@@ -169,10 +169,10 @@ impl Registers {
             Act::GroupWait(_) | Act::GroupWaitFor(..) => {}
             Act::Wait(_) | Act::WaitFor(..) => {}
             Act::Signal(s) => self.signal(s),
-            Act::Suspend(o) => self.holds.suspend(o),
+            Act::Suspend(o) => self.suspend(o),
             Act::Resume(o) => self.resume(o),
             Act::Activate(o) => self.activate(o),
-            Act::Target(o, t) => self.tree.set_target(o, t),
+            Act::Target(o, t) => self.set_target(o, t),
             Act::Merge(s, n) => self.merge(s, n),
             Act::Cancel(s) => self.cancel(s),
             Act::Retain(o) => self.refs.retain(o),

@@ -48,7 +48,7 @@ impl Registers {
         requires blk { blk.0 < length self.now.plan.blocks }
         ensures { result ≡ (block_at self.now blk.0).node }
     {
-        self.blocks[blk.0 as usize].node
+        self.blocks[blk.0 as usize].node()
     }
 
     /// Whether the block has started.
@@ -57,7 +57,7 @@ impl Registers {
         requires blk { blk.0 < length self.now.plan.blocks }
         ensures { result ≡ (block_at self.now blk.0).started }
     {
-        self.blocks[blk.0 as usize].started
+        self.blocks[blk.0 as usize].is_started()
     }
 
     /// Whether the block has ended.

@@ -5,9 +5,8 @@ ghost use Rattle.std.specs.Option.{option_map_or};
 ghost use Rattle.gcd_plan.specs.Validity.{is_act};
 ghost use Rattle.gcd_history.specs.Permitted.{is_run_of};
 ghost use Rattle.gcd_lists.specs.ListsView.{list_at};
-ghost use Rattle.gcd_drain.specs.Shut.{AreSound};
-ghost use Rattle.gcd_refinement.specs.MachineView.{busy_at};
-ghost use Rattle.gcd_machine.specs.Chosen.{act_event_at, all_nodes_at, begin_by, choice_by, deliver_at, expiry_by, idle_choice_at, main_at, next_set, node_at, nodes_at, own_event_at, start_at, wake_at};
+ghost use Rattle.gcd_drain.specs.Shut.{AreSound, is_shut_by};
+ghost use Rattle.gcd_machine.specs.Chosen.{act_event_at, all_nodes_at, begin_by, choice_by, deliver_at, expiry_by, idle_choice_at, main_at, may_begin_at, next_set, node_at, nodes_at, own_event_at, start_at, wake_at};
 ghost use Rattle.gcd_machine.specs.Stands.{IsShaped};
 
 use super::Registers;
@@ -152,7 +151,7 @@ impl Registers {
         requires { IsShaped self.now }
         ensures { result ≡ main_at self.now worker }
     {
-        if self.blocks[0].started {
+        if self.blocks[0].is_started() {
             None
         } else {
             Some(Event::Start {
@@ -176,13 +175,13 @@ impl Registers {
         }
     }
 
-    // The next object from this number on that has to be looked at.
+    // The next object from this number on that has to be looked at and whose chain is not held.
     #[inline(always)]
     fn next_busy(&self, from: u32) -> Option<u32>
         requires { IsShaped self.now }
-        ensures { result ≡ next_set self.now.busy from }
+        ensures { result ≡ find (may_begin_at self.now) (range_with_len from (length self.now.busy - from)) }
     {
-        self.busy.next(from)
+        self.held.next_in(&self.busy, from)
     }
 
     // The same below `end`.
@@ -191,7 +190,7 @@ impl Registers {
         requires shape { IsShaped self.now }
         requires order { from ≤ end }
         requires within { end ≤ length self.now.plan.objects }
-        ensures { result ≡ find (busy_at self.now) (range_with_len from (end - from)) }
+        ensures { result ≡ find (may_begin_at self.now) (range_with_len from (end - from)) }
     {
         match self.next_busy(from) {
             Some(n) if n < end => Some(n),
@@ -236,12 +235,28 @@ impl Registers {
         ensures event { result ≡ node_at self.now worker node.0 }
         ensures sound { AreSound self.now.drains self.now.tree self.now.holds marks.new }
     {
-        if self.drains.is_shut(&self.tree, &self.holds, node, marks) {
+        if self.is_shut(node, marks) {
             return None;
         }
         match self.start_choice(worker, node) {
             Some(e) => Some(e),
             None => self.deliver_choice(worker, node),
+        }
+    }
+
+    // Whether the object's chain is shut. If no run is open on any object it is just if it is held.
+    #[inline(always)]
+    fn is_shut(&self, node: Obj, marks: &mut KnownChains) -> bool
+        requires shape { IsShaped self.now }
+        requires node { node.0 < length self.now.plan.objects }
+        requires sound { AreSound self.now.drains self.now.tree self.now.holds marks.old }
+        ensures answer { result ≡ is_shut_by self.now.drains self.now.tree self.now.holds node.0 }
+        ensures sound { AreSound self.now.drains self.now.tree self.now.holds marks.new }
+    {
+        if self.tree.any_open() {
+            self.drains.is_shut(&self.tree, &self.holds, node, marks)
+        } else {
+            self.held.has(node)
         }
     }
 

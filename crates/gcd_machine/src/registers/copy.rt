@@ -14,6 +14,7 @@ impl Registers {
         ensures { IfOk result (λ r. r ≡ self.now) }
     {
         let (arrays, parts) = (self.copied_arrays(alloc)?, self.copied_parts(alloc)?);
+        let held = self.held.copied(alloc)?;
         Ok(Registers {
             plan: arrays.0,
             refs: parts.1.0,
@@ -21,6 +22,7 @@ impl Registers {
             tree: parts.1.2,
             holds: parts.1.3,
             drains: parts.1.4,
+            held,
             groups: parts.2.0,
             semas: parts.2.1,
             waits: parts.2.2,

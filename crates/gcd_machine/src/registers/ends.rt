@@ -14,7 +14,7 @@ impl Registers {
         requires { CanTellOf self.old blk queue next }
         ensures { self.new ≡ told_of self.old blk queue next }
     {
-        self.blocks[next.0 as usize].home = queue;
+        self.blocks[next.0 as usize].go_home_to(queue);
         self.marks.notify(blk, next);
         self.tell(blk);
     }
@@ -27,7 +27,7 @@ impl Registers {
         ensures leaves { (g : Obj) → CanLeaveTold self.old blk g → CanLeave self.new g }
     {
         while let Some(next) = self.marks.fired(blk) {
-            let home = self.blocks[next.0 as usize].home;
+            let home = self.blocks[next.0 as usize].home();
             self.submit(home, next, false);
         }
     }

@@ -50,10 +50,10 @@ impl Registers {
         requires { CanStart self.old worker blk }
         ensures { self.new ≡ started self.old worker blk }
     {
-        let progress = self.blocks[blk.0 as usize];
-        self.blocks[blk.0 as usize].started = true;
+        let cell = self.blocks[blk.0 as usize];
+        self.blocks[blk.0 as usize].start();
         self.marks.began(blk);
-        self.begin_run(progress.node, progress.barrier);
+        self.begin_run(cell.node(), cell.is_barrier());
         self.take_up(worker, Run::Block(blk));
     }
 
@@ -73,11 +73,11 @@ impl Registers {
         requires { CanEnd self.old worker blk }
         ensures { self.new ≡ ended self.old worker blk }
     {
-        let progress = self.blocks[blk.0 as usize];
+        let cell = self.blocks[blk.0 as usize];
         self.close_block(worker, blk);
         self.tell(blk);
-        self.end_waits(blk, progress.caller);
-        self.leave_group(progress.group);
+        self.end_waits(blk, cell.caller());
+        self.leave_group(cell.group());
     }
 
     // The block is over: its run closes on its node, if it has one, and the worker is free.
@@ -86,11 +86,11 @@ impl Registers {
         requires { CanCloseBlock self.old worker blk }
         ensures { self.new ≡ closed_block self.old worker blk }
     {
-        let progress = self.blocks[blk.0 as usize];
+        let cell = self.blocks[blk.0 as usize];
         self.ended[blk.0 as usize] = true;
         self.left -= 1;
         self.marks.ended(blk);
-        self.close_run(progress.node, progress.barrier);
+        self.close_run(cell.node(), cell.is_barrier());
         self.set_free(worker);
     }
 
@@ -116,7 +116,12 @@ impl Registers {
         requires { CanEndDelivery self.old worker src }
         ensures { self.new ≡ delivery_ended self.old worker src }
     {
+        self.valid_tree();
+        let moves = self.tree.is_moving(src);
         self.tree.closed(src);
+        if moves {
+            self.held.rehold(&self.tree, &self.holds, src);
+        }
         self.set_free(worker);
     }
 }

@@ -14,7 +14,7 @@ impl Registers {
         ensures { self.new ≡ member_submitted self.old g queue blk }
     {
         self.groups.added(g, self.len + 1);
-        self.blocks[blk.0 as usize].group = Some(g);
+        self.blocks[blk.0 as usize].join(g);
         self.submit(queue, blk, false);
     }
 
@@ -23,7 +23,7 @@ impl Registers {
         requires { CanRegister self.old g queue blk }
         ensures { self.new ≡ registered self.old g queue blk }
     {
-        self.blocks[blk.0 as usize].home = queue;
+        self.blocks[blk.0 as usize].go_home_to(queue);
         self.groups.notify(g, blk);
         self.fire(g);
     }
@@ -79,7 +79,7 @@ impl Registers {
         ensures { self.new ≡ all_fired_at self.old g }
     {
         while let Some(blk) = self.groups.fired(g) {
-            let home = self.blocks[blk.0 as usize].home;
+            let home = self.blocks[blk.0 as usize].home();
             self.submit(home, blk, false);
         }
     }

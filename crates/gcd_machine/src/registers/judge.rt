@@ -128,8 +128,8 @@ impl Registers {
     {
         if blk.0 != 0 {
             self.drains
-                .may_start(&self.lists, &self.tree, &self.holds, blk)
-        } else if self.blocks[blk.0 as usize].started {
+                .start_fault(&self.lists, &self.tree, &self.holds, &self.held, blk)
+        } else if self.blocks[blk.0 as usize].is_started() {
             Some(Why::Unready)
         } else {
             None
@@ -217,7 +217,8 @@ impl Registers {
         ensures { result ≡ source_fault_at self.now src.0 }
     {
         if self.is_pending(src) {
-            self.drains.may_run(&self.tree, &self.holds, src)
+            self.drains
+                .run_fault(&self.tree, &self.holds, &self.held, src)
         } else {
             Some(Why::Unready)
         }

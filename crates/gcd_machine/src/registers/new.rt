@@ -16,16 +16,17 @@ ghost use Rattle.gcd_blockobj.specs.MarksView.{marks_of};
 ghost use Rattle.gcd_sync.specs.LimitRoom.{limit_room};
 ghost use Rattle.gcd_refinement.specs.MachineView.{idle, undelivered, lists_of, waiters_of, machine_of};
 
+use super::cell::BlockCell;
 use super::{BlockArrays, EndParts, EventParts, NodeParts, Registers, RunArrays};
 use gcd_apply::Strips;
 use gcd_blockobj::{Marks, mark_room};
-use gcd_drain::Drains;
+use gcd_drain::{Drains, HeldChains};
 use gcd_group::Groups;
 use gcd_hold::Holds;
 use gcd_lists::Lists;
 use gcd_objects::Objects;
 use gcd_plan::{Blk, MAX_WORKERS, Plan, Run};
-use gcd_refinement::{BlockProgress, HandlerProgress};
+use gcd_refinement::HandlerProgress;
 use gcd_sema::Semas;
 use gcd_sets::{BitSet, Times};
 use gcd_source::Sources;
@@ -42,6 +43,7 @@ impl Registers {
         ensures valid { IsPlan plan.now }
     {
         let (arrays, parts) = (arrays(alloc, plan, plan.blocks())?, parts(alloc, plan)?);
+        let held = HeldChains::new(alloc, &parts.1.2, &parts.1.3)?;
         Ok(Registers {
             plan: arrays.0,
             refs: parts.1.0,
@@ -49,6 +51,7 @@ impl Registers {
             tree: parts.1.2,
             holds: parts.1.3,
             drains: parts.1.4,
+            held,
             groups: parts.2.0,
             semas: parts.2.1,
             waits: parts.2.2,
@@ -214,10 +217,10 @@ fn run_arrays(alloc: Global, plan: &Plan) -> Result<RunArrays, AllocError>
 }
 
 // So many blocks that nobody has submitted.
-fn all_idle(alloc: Global, blocks: usize) -> Result<Vec<BlockProgress>, AllocError>
+fn all_idle(alloc: Global, blocks: usize) -> Result<Vec<BlockCell>, AllocError>
     ensures { IfOk result (λ v. v.items ≡ replicate blocks idle) }
 {
-    vec![in alloc; BlockProgress::IDLE; blocks]
+    vec![in alloc; BlockCell::IDLE; blocks]
 }
 
 // So many sources at which nothing was delivered.

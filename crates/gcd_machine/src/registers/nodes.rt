@@ -54,8 +54,13 @@ impl Registers {
         requires { CanCloseOn self.old node barrier }
         ensures { self.new ≡ closed_on self.old node barrier }
     {
+        self.valid_tree();
+        let moves = self.tree.is_moving(node);
         self.tree.closed(node);
         self.drains.ended(node, barrier);
+        if moves {
+            self.held.rehold(&self.tree, &self.holds, node);
+        }
     }
 
     // The block waits on the node behind all others.
@@ -65,9 +70,7 @@ impl Registers {
         ensures { self.new ≡ submitted self.old node blk barrier }
     {
         self.lists.push(node, blk, barrier);
-        let progress = &mut self.blocks[blk.0 as usize];
-        progress.node = Some(node);
-        progress.barrier = barrier;
+        self.blocks[blk.0 as usize].submit(node, barrier);
         self.busy.set(node.0);
         self.left += 1;
     }

@@ -1,5 +1,6 @@
 // How far the run has come.
 ghost use Rattle.std.specs.Prelude.{◌≡◌};
+ghost use Rattle.gcd_machine.specs.Calm.{is_calm_at};
 ghost use Rattle.gcd_machine.specs.Chosen.{is_quiescent_at, state_by};
 ghost use Rattle.gcd_machine.specs.Stands.{IsShaped};
 
@@ -7,6 +8,18 @@ use super::Registers;
 use gcd_history::State;
 
 impl Registers {
+    /// Whether nothing can come of poller, clock or outside callers.
+    #[inline(always)]
+    pub fn is_calm(&self) -> bool
+        requires { IsShaped self.now }
+        ensures { result ≡ is_calm_at self.now }
+    {
+        !self.intake_open()
+            && self.live.is_empty()
+            && self.ripe.is_empty()
+            && self.next_due().is_none()
+    }
+
     /// Whether nothing but a halt can come any more, and the run is not over.
     pub fn is_quiescent(&self) -> bool
         requires { IsShaped self.now }

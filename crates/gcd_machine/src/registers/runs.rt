@@ -66,7 +66,7 @@ impl Registers {
         ensures { result ≡ done_at self.now run }
     {
         match run {
-            Run::Block(blk) => self.blocks[blk.0 as usize].done,
+            Run::Block(blk) => self.blocks[blk.0 as usize].done(),
             Run::Source(src) => self.handlers[src.0 as usize].done,
         }
     }

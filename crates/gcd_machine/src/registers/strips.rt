@@ -5,19 +5,18 @@ ghost use Rattle.gcd_machine.specs.Steps.{noted_on, span_submitted, strip_submit
 ghost use Rattle.gcd_machine.specs.Conditions.{CanSubmitSpan, CanSubmitStrip};
 
 use super::Registers;
+use super::cell::BlockCell;
 use gcd_plan::{Blk, Obj};
-use gcd_refinement::BlockProgress;
 
 // The blocks of the span are noted as submitted on the node, and not as barriers.
-fn note_span(blocks: &mut Vec<BlockProgress>, node: Obj, first: u32, count: u32)
+fn note_span(blocks: &mut Vec<BlockCell>, node: Obj, first: u32, count: u32)
     requires within { first + count ≤ length blocks.old.items }
     requires short { first + count < 2 ^ 32 }
+    requires node { node.0 < 65535 }
     ensures { blocks.new.items ≡ fold (noted_on node) blocks.old.items (range_with_len first count) }
 {
     for b in first..first + count {
-        let progress = &mut blocks[b as usize];
-        progress.node = Some(node);
-        progress.barrier = false;
+        blocks[b as usize].submit(node, false);
     }
 }
 

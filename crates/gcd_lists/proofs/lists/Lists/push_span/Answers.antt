@@ -1,5 +1,6 @@
 use Rattle.std.proofs.Common.{◌≡◌, ◌+◌, ◌-◌, ◌∙◌, ap, arith}
 use Rattle.gcd_lists.specs.ListsView.{span}
+use Rattle.gcd_lists.proofs.Seen.{shown, low_node}
 use Rattle.gcd_lists.proofs.Spans.{behind, none_came, next_nowhere, next_came, node_still, blocks_still}
 use Rattle.gcd_lists.proofs.lists.Lists.push_span.Goals as goal
 
@@ -24,7 +25,10 @@ loop-b-preserved c =
     next_came c.args.self.now c.loop-b.self c.push.new.self c.args.node.0 c.args.first.0 (c.loop-b.b - c.args.first.0) (record { 0 = c.loop-b.b })
     (c.loop-b.b + 1 - c.args.first.0) c.requires.node c.loop-b.invariant (omega (arith, c.loop-b.auto.b)) (omega (arith, c.loop-b.auto.b)) c.push.ensures.behind
 
-pub returns : goal.returns
-returns c =
+pub returns-clause-behind : goal.returns-clause-behind
+returns-clause-behind c =
     let end : c.loop-b.b - c.args.first.0 ≡ c.args.count = omega (arith, c.loop-b-test.false, c.loop-b.auto.b-end (omega arith)) in
     c.loop-b.invariant ∙ ap (λ k. behind c.args.self.now c.args.node.0 (span c.args.first.0 k)) end
+
+pub returns-clause-low : goal.returns-clause-low
+returns-clause-low c = low_node (shown c.self.invariant c.self.view_is) c.args.node.0 c.requires.node

@@ -6,5 +6,6 @@ use Rattle.gcd_machine.proofs.registers.Registers.close_block.Goals as goal
 
 pub close_run-requires : goal.close_run-requires
 close_run-requires c =
-    may_close (view_of c.self.inside) _ _ _ c.index-progress.ensures
-    (subst (λ m. CanCloseBlock m c.args.worker c.args.blk) (sym c.self.view_is) c.requires)
+    rw (c.node.ensures, c.is_barrier.ensures)
+    (may_close (view_of c.self.inside) _ _ _ c.index-cell.ensures
+    (subst (λ m. CanCloseBlock m c.args.worker c.args.blk) (sym c.self.view_is) c.requires))

@@ -7,18 +7,18 @@ tell-requires c = may_tell c.args.self.now c.close_block.ensures c.requires
 
 pub end_waits-requires : goal.end_waits-requires
 end_waits-requires c =
-    let read = c.index-progress.result.now in
-    let is = subst (λ m. read ≡ get_or m.blocks c.args.blk.0 read) c.self.view_is c.index-progress.ensures in
-    may_end_waits c.args.self.now is c.close_block.ensures c.tell.ensures.told c.requires
+    let read = c.index-cell.result.now in
+    let is = subst (λ m. read ≡ get_or m.blocks c.args.blk.0 read) c.self.view_is c.index-cell.ensures in
+    rw c.caller.ensures (may_end_waits c.args.self.now is c.close_block.ensures c.tell.ensures.told c.requires)
 
 pub leave_group-requires : goal.leave_group-requires
 leave_group-requires c =
-    let read = c.index-progress.result.now in
-    let is = subst (λ m. read ≡ get_or m.blocks c.args.blk.0 read) c.self.view_is c.index-progress.ensures in
-    may_leave c.args.self.now is c.close_block.ensures c.tell.ensures.leaves c.end_waits.ensures c.requires
+    let read = c.index-cell.result.now in
+    let is = subst (λ m. read ≡ get_or m.blocks c.args.blk.0 read) c.self.view_is c.index-cell.ensures in
+    rw c.group.ensures (may_leave c.args.self.now is c.close_block.ensures c.tell.ensures.leaves (rw c.caller.ensures at c.end_waits.ensures) c.requires)
 
 pub returns : goal.returns
 returns c =
-    let read = c.index-progress.result.now in
-    let is = subst (λ m. read ≡ get_or m.blocks c.args.blk.0 read) c.self.view_is c.index-progress.ensures in
-    end_is c.args.self.now is c.close_block.ensures c.tell.ensures.told c.end_waits.ensures c.leave_group.ensures c.requires
+    let read = c.index-cell.result.now in
+    let is = subst (λ m. read ≡ get_or m.blocks c.args.blk.0 read) c.self.view_is c.index-cell.ensures in
+    end_is c.args.self.now is c.close_block.ensures c.tell.ensures.told (rw c.caller.ensures at c.end_waits.ensures) (rw c.group.ensures at c.leave_group.ensures) c.requires

@@ -1,7 +1,6 @@
 use Rattle.std.proofs.Common.{◌+◌, ◌-◌, ap, sym, ◌∙◌, arith}
 use Rattle.std.specs.Option.{option_or}
-use Rattle.gcd_refinement.specs.MachineView.{busy_at}
-use Rattle.gcd_machine.specs.Chosen.{nodes_at}
+use Rattle.gcd_machine.specs.Chosen.{may_begin_at, nodes_at}
 use Rattle.gcd_machine.proofs.Choice.FirstNode.{found_within, nodes_step}
 use Rattle.gcd_machine.proofs.registers.Registers.nodes_choice.Goals as goal
 
@@ -23,7 +22,7 @@ loop-o-preserved c =
     let rest = nodes_at m w (o + 1) (c.args.end - (o + 1)) in
     let found = sym c.next_busy_below.ensures ∙ c.in-Some.is in
     let here = sym c.node_choice.ensures.event ∙ c.in_default-node_choice.is in
-    let within = found_within (busy_at m) c.loop-o.n (c.args.end - c.loop-o.n) o found in
+    let within = found_within (may_begin_at m) c.loop-o.n (c.args.end - c.loop-o.n) o found in
     record {
       order = omega (arith, within.to);
       sound = c.node_choice.ensures.sound;

@@ -6,5 +6,6 @@ use Rattle.gcd_machine.proofs.registers.Registers.register.Goals as goal
 
 pub fire-requires : goal.fire-requires
 fire-requires c =
-    may_register {m = view_of c.self.inside} c.index_mut.ensures.value c.notify.ensures
-    (subst (λ m. CanRegister m c.args.g c.args.queue c.args.blk) (sym c.self.view_is) c.requires)
+    rw c.go_home_to.ensures
+    (may_register {m = view_of c.self.inside} c.index_mut.ensures.value c.notify.ensures
+    (subst (λ m. CanRegister m c.args.g c.args.queue c.args.blk) (sym c.self.view_is) c.requires))

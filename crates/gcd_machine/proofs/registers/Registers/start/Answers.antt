@@ -6,5 +6,6 @@ use Rattle.gcd_machine.proofs.registers.Registers.start.Goals as goal
 
 pub begin_run-requires : goal.begin_run-requires
 begin_run-requires c =
-    may_begin (view_of c.self.inside) _ _ c.index-progress.ensures
-    (subst (λ m. CanStart m c.args.worker c.args.blk) (sym c.self.view_is) c.requires)
+    rw (c.node.ensures, c.is_barrier.ensures)
+    (may_begin (view_of c.self.inside) _ _ c.index-cell.ensures
+    (subst (λ m. CanStart m c.args.worker c.args.blk) (sym c.self.view_is) c.requires))

@@ -8,13 +8,13 @@ use Rattle.gcd_machine.proofs.registers.Registers.tell.Goals as goal
 pub submit-requires : goal.submit-requires
 submit-requires c =
     let telling = subst (λ m. Telling m c.args.self.now c.args.blk) (sym c.self.view_is) c.loop-next.invariant in
-    tell_may_submit {m = view_of c.self.inside} c.in-Some.ensures.value c.in-Some.ensures.within c.index.ensures telling
+    rw c.home-home.ensures (tell_may_submit {m = view_of c.self.inside} c.in-Some.ensures.value c.in-Some.ensures.within c.index.ensures telling)
 
 pub loop-next-preserved : goal.loop-next-preserved
 loop-next-preserved c =
     let telling = subst (λ m. Telling m c.args.self.now c.args.blk) (sym c.self.view_is) c.loop-next.invariant in
     let now = c.in-Some.ensures in
-    tell_turn {m = view_of c.self.inside} now.value now.rest now.gone now.within c.index.ensures c.submit.ensures telling
+    tell_turn {m = view_of c.self.inside} now.value now.rest now.gone now.within c.index.ensures (rw c.home-home.ensures at c.submit.ensures) telling
 
 pub returns-clause-told : goal.returns-clause-told
 returns-clause-told c =

@@ -8,7 +8,7 @@ loop-b-preserved c =
     let now = c.loop-b.blocks.items in
     let low : c.loop-b.b < length now = omega (arith, c.loop-b-test.true, c.requires.within, c.loop-b.invariant.long) in
     record {
-      noted = noted_more c.args.blocks.now.items now c.args.node c.args.first c.loop-b.b c.index_mut-progress.result.now c.loop-b.auto.b low c.index_mut-progress.ensures.value c.loop-b.invariant.noted;
+      noted = rw c.submit.ensures (noted_more c.args.blocks.now.items now c.args.node c.args.first c.loop-b.b c.index_mut.result.now c.loop-b.auto.b low c.index_mut.ensures.value c.loop-b.invariant.noted);
       long = length-set now c.loop-b.b _ ∙ c.loop-b.invariant.long;
       low = omega (arith, c.loop-b.auto.b);
     }

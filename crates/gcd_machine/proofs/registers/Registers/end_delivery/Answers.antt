@@ -1,0 +1,24 @@
+use Rattle.std.proofs.Common.{◌≡◌, ◌≢◌, ⊎_elim, ◌⊎◌, inl, inr, ℕ, zero, suc, ◌-◌, ◌<◌, ◌≤◌, Some, ap, sym, subst, refl, arith}
+use Rattle.gcd_tree.specs.IsTree.{IsTree}
+use Rattle.gcd_refinement.specs.MachineView.{MachineView}
+use Rattle.std.proofs.lemmas.Bool.{cases_lt}
+use Rattle.gcd_tree.specs.TreeView.{open_on_at}
+use Rattle.gcd_drain.proofs.Holding.{held_by_target}
+use Rattle.gcd_drain.proofs.HeldAfter.{held_settled}
+use Rattle.gcd_machine.proofs.registers.Registers.end_delivery.Goals as goal
+
+pub rehold-requires-clause-others : goal.rehold-requires-clause-others
+rehold-requires-clause-others c =
+    let valid = subst (λ (m : MachineView). IsTree m.tree) (sym c.self.view_is) c.valid_tree.ensures in
+    let i = c.self.inside in
+    let same = ap (λ (m : MachineView). open_on_at m.tree c.args.src.0) c.self.view_is in
+    ⊎_elim
+    (λ (more : 1 < open_on_at i.tree c.args.src.0).
+    rw (c.closed.ensures.others more) (record {
+      as_many = c.self.invariant.are.as_many;
+      others = λ p lt other. held_by_target i.tree i.holds valid i.held c.self.invariant.are p lt;
+    }))
+    (λ (few : open_on_at i.tree c.args.src.0 ≤ 1).
+    let one : open_on_at i.tree c.args.src.0 ≡ 1 = omega (arith, few, same, c.requires.closes.is_open) in
+    rw (c.closed.ensures.last one) (held_settled i.held i.tree i.holds c.self.invariant.are valid c.args.src.0 0))
+    (cases_lt 1 (open_on_at i.tree c.args.src.0))
