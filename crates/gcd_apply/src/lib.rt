@@ -1,6 +1,6 @@
 //! The strips of a plan: how many blocks of each have not ended (dispatch_apply(3)).
 //!
-//! A strip is a row of blocks that do the same to one part of a file after the other. Contracts see [`Strips`] as two plain
+//! A strip is a list of blocks that do the same, each to a part of a file of its own. Contracts see [`Strips`] as two plain
 //! lists (`StripsView`): for each strip, by number, how many of its blocks have not ended; and for each block the strip that it is
 //! of, if it is of one.
 //!

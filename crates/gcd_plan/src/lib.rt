@@ -21,7 +21,7 @@
 //! | `MAX_OBJECTS`, `MAX_BLOCKS`, .. | how much plans, scripts and runs may hold |
 //!
 //! `specs/Validity` says which parts are a plan, by `IsPlan`, and `specs/Breaks` what each [`PartsFault`] says of them.
-//! `specs/StartRule` has the rule by which a block starts over plain data, since the parts of the machine and the
+//! `specs/StartRule` has the tests of exclusion and of barriers, and the order of the reasons against a start, over plain data, since the parts of the machine and the
 //! definitions over histories both cite it, and `specs/KindValues` what a kind says of values and times. `specs/Limits` has
 //! each limit once, for all crates. Lemmas that std lacks stand here, for all crates: `proofs/Sums` on sums and counts,
 //! `proofs/Quantifiers` on tests of all or some elements, `proofs/Places` on elements by place, `proofs/Mapped` on what is

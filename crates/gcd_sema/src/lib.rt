@@ -21,7 +21,7 @@
 //! | `is_below_first` | whether the value is below the first value | |
 //!
 //! A wait is counted when it begins, whether it passes or not, until it expires; a wait that has passed does not expire. An
-//! expiry lets no other wait pass.
+//! expiry lets no other wait pass: one that did not pass before it does not pass by it.
 //!
 //! What a call names is an object of the plan. `new` and `copied` take all memory, each array at once; every other call
 //! takes none and cannot fail. It costs the same whatever the plan, but for `signal` and `expire`: these pass over the

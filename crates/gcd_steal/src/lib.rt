@@ -1,10 +1,10 @@
-//! Rights to drain nodes, in places and in stealing deques: workers share ready nodes without a lock, and no node is drained
-//! twice at once.
+//! Rights to start runs on nodes, in places and in stealing deques: workers share ready nodes without a lock, and no two of them start runs
+//! on one node at a moment.
 //!
-//! A [`Drain`] is the right to drain one node of a plan, a queue or a source. It holds the node's token, of which there is
-//! one. It sleeps in the node's place, lies in a bench's deque or is held by a worker, and it can't be copied. That one
-//! thread at a time drains a queue is libdispatch's rule (dispatch_queue_create(3)); tokens, places and deques are this
-//! project's own.
+//! A [`Drain`] is the right to start runs on one node of a plan, a queue or a source. The rules of queues do not rest on it: the machine and
+//! the row keep them. It holds the node's token, of which there is
+//! one. It sleeps in the node's place, lies in a bench's deque or is held by a worker, and it can't be copied. Tokens, places and
+//! deques are this project's own.
 //!
 //! # What is shared
 //!
