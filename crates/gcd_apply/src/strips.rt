@@ -79,7 +79,7 @@ impl Strips {
         })
     }
 
-    /// The same strips once more. It takes all the memory that they ever need: an `Err` comes only where memory runs out.
+    /// Copies the strips. The copy takes all its memory at once, so an `Err` comes only if memory runs out.
     pub fn copied(&self, alloc: Global) -> Result<Strips, AllocError>
         ensures { IfOk result (λ s. s ≡ self.now) }
     {

@@ -65,7 +65,7 @@ impl Marks {
         })
     }
 
-    /// The same marks once more. It takes all the memory that they ever need: an `Err` comes only where memory runs out.
+    /// Copies the marks. The copy takes all its memory at once, so an `Err` comes only if memory runs out.
     pub fn copied(&self, alloc: Global) -> Result<Marks, AllocError>
         ensures { IfOk result (λ m. m ≡ self.now) }
     {
@@ -87,6 +87,7 @@ impl Marks {
     }
 
     /// The block has started: from now on a cancellation changes nothing (dispatch_block_cancel(3)).
+    #[inline(always)]
     pub fn began(&mut self, b: Blk)
         ensures { self.new ≡ with_begun self.old b.0 }
     {
@@ -132,6 +133,7 @@ impl Marks {
 
     /// Takes the block that waited first for the end of this one, where that has come, and gives it: it is to be submitted, and
     /// waits for no block afterwards. None exactly where none is due, and then nothing changes (dispatch_block_notify(3)).
+    #[inline(always)]
     pub fn fired(&mut self, b: Blk) -> Option<Blk>
         ensures value { result ≡ fires_at self.old b.0 }
         ensures rest { IfSome result (λ c. self.new ≡ with_fired self.old b.0) }

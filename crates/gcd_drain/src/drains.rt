@@ -1,15 +1,12 @@
-// What a waiting block's start and a handler's run ask, and the open barriers.
-ghost use Rattle.std.specs.Prelude.{◌≡◌, ◌+◌, ◌-◌, ◌<◌, ◌^◌, true, false, Some, IfOk, length};
+// The open barriers, and what excludes and fences a node.
+ghost use Rattle.std.specs.Prelude.{◌≡◌, ◌+◌, ◌-◌, ◌<◌, ◌^◌, true, false, IfOk, length};
 ghost use Rattle.std.specs.List.{list_any};
-ghost use Rattle.gcd_plan.specs.StartRule.{first_of};
 ghost use Rattle.gcd_tree.specs.TreeView.{chain_at};
 ghost use Rattle.gcd_drain.specs.DrainsView.{drains_of, barriers_at, with_barriers};
-ghost use Rattle.gcd_drain.specs.Rule.{excludes_at, is_behind_at, is_fenced_at, place_reasons, start_fault_of, run_fault_of};
+ghost use Rattle.gcd_drain.specs.Rule.{excludes_at, is_behind_at, is_fenced_at};
 
-use crate::free::is_chain_held;
-use gcd_hold::Holds;
 use gcd_lists::Lists;
-use gcd_plan::{Blk, Kind, Obj, Plan, Why};
+use gcd_plan::{Blk, Kind, Obj, Plan};
 use gcd_tree::Tree;
 use std::alloc::{AllocError, Global};
 use std::marker::Model;
@@ -55,7 +52,7 @@ impl Drains {
         })
     }
 
-    /// The same numbers once more. It takes all the memory that the numbers ever need: an `Err` comes only where memory runs out.
+    /// Copies the numbers. The copy takes all its memory at once, so an `Err` comes only if memory runs out.
     pub fn copied(&self, alloc: Global) -> Result<Drains, AllocError>
         ensures { IfOk result (λ d. d ≡ self.now) }
     {
@@ -103,77 +100,6 @@ impl Drains {
         node.0 != 0
             && self.kinds[at].is_concurrent()
             && (self.barriers[at] > 0 || (barrier && tree.open_on(node) > 0))
-    }
-
-    // Why a block that waits at the place may not start.
-    fn place_fault(
-        &self,
-        lists: &Lists,
-        tree: &Tree,
-        holds: &Holds,
-        b: Blk,
-        place: (Obj, bool),
-    ) -> Option<Why>
-        requires node { place.0.0 < length self.now.barriers }
-        requires lists { length lists.now.lists ≡ length self.now.barriers }
-        requires tree { length tree.now.targets ≡ length self.now.barriers }
-        requires holds { length holds.now.holds ≡ length self.now.barriers }
-        ensures { result ≡ first_of (place_reasons self.now lists.now tree.now holds.now b.0 (Some place)) }
-    {
-        let (node, barrier) = place;
-        if is_behind(lists, node, b) {
-            Some(Why::Behind)
-        } else if is_chain_held(tree, holds, node) {
-            Some(Why::NotFree)
-        } else if self.is_excluded(tree, node) {
-            Some(Why::Excluded)
-        } else if self.is_fenced(tree, node, barrier) {
-            Some(Why::Fenced)
-        } else {
-            None
-        }
-    }
-
-    /// The first reason why the block may not start; None exactly where it may. `Unready`: it waits nowhere. `Behind`:
-    /// another block is first on its node. `NotFree`: an object of the node's chain is inactive, suspended or about to
-    /// move. `Excluded`: a run is open beneath a serial queue or source of the chain. `Fenced`: the node is a concurrent
-    /// queue other than `root`, and a barrier is open on it, or the block is a barrier and a run is open on it.
-    /// (dispatch_async(3), dispatch_barrier_async(3), dispatch_suspend(3), dispatch_set_target_queue(3))
-    ///
-    /// The block is not `main`, which waits on no node, and the parts are of one plan. It costs at most two walks along
-    /// the chain.
-    pub fn may_start(&self, lists: &Lists, tree: &Tree, holds: &Holds, b: Blk) -> Option<Why>
-        requires not_main { 0 < b.0 }
-        requires block { b.0 < lists.now.blocks }
-        requires lists { length lists.now.lists ≡ length self.now.barriers }
-        requires tree { length tree.now.targets ≡ length self.now.barriers }
-        requires holds { length holds.now.holds ≡ length self.now.barriers }
-        ensures { result ≡ start_fault_of self.now lists.now tree.now holds.now b.0 }
-    {
-        match lists.place(b) {
-            Some(place) => self.place_fault(lists, tree, holds, b, place),
-            None => Some(Why::Unready),
-        }
-    }
-
-    /// The first reason why the handler of a source, to which something is pending, may not run; None exactly where it
-    /// may. `NotFree`: an object of the source's chain is inactive, suspended or about to move. `Excluded`: a run is open
-    /// beneath a serial queue or source of the chain. (dispatch_source_create(3), dispatch_suspend(3))
-    ///
-    /// The parts are of one plan. It costs at most two walks along the chain.
-    pub fn may_run(&self, tree: &Tree, holds: &Holds, src: Obj) -> Option<Why>
-        requires source { src.0 < length self.now.barriers }
-        requires tree { length tree.now.targets ≡ length self.now.barriers }
-        requires holds { length holds.now.holds ≡ length self.now.barriers }
-        ensures { result ≡ run_fault_of self.now tree.now holds.now src.0 }
-    {
-        if is_chain_held(tree, holds, src) {
-            Some(Why::NotFree)
-        } else if self.is_excluded(tree, src) {
-            Some(Why::Excluded)
-        } else {
-            None
-        }
     }
 
     /// How many barriers are open on the node: as barriers submitted there, begun and not ended, whether or not the node

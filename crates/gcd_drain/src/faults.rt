@@ -24,7 +24,7 @@ fn is_held(tree: &Tree, holds: &Holds, held: &HeldChains, node: Obj) -> bool
 
 impl Drains {
     // Why a block that waits at the place may not start.
-    fn fault_at(
+    fn place_fault(
         &self,
         lists: &Lists,
         tree: &Tree,
@@ -61,7 +61,7 @@ impl Drains {
     ///
     /// The block is not `main`, which waits on no node, and the parts are of one plan. It takes one look at the set, and at most one
     /// walk along the chain. If no run is open it takes no walk.
-    pub fn start_fault(
+    pub fn may_start(
         &self,
         lists: &Lists,
         tree: &Tree,
@@ -77,7 +77,7 @@ impl Drains {
         ensures { result ≡ start_fault_of self.now lists.now tree.now holds.now b.0 }
     {
         match lists.place(b) {
-            Some(place) => self.fault_at(lists, tree, holds, held, b, place),
+            Some(place) => self.place_fault(lists, tree, holds, held, b, place),
             None => Some(Why::Unready),
         }
     }
@@ -88,7 +88,7 @@ impl Drains {
     ///
     /// The parts are of one plan. It takes one look at the set, and at most one walk along the chain. If no run is open it takes no
     /// walk.
-    pub fn run_fault(&self, tree: &Tree, holds: &Holds, held: &HeldChains, src: Obj) -> Option<Why>
+    pub fn may_run(&self, tree: &Tree, holds: &Holds, held: &HeldChains, src: Obj) -> Option<Why>
         requires source { src.0 < length self.now.barriers }
         requires tree { length tree.now.targets ≡ length self.now.barriers }
         requires held { AreHeld held.now tree.now holds.now }

@@ -11,7 +11,6 @@
 //! | `copied` | the same numbers once more; or out of memory | |
 //! | `may_start` | the first reason why the block may not start, None exactly where it may | |
 //! | `may_run` | the first reason why the source's handler may not run, None exactly where it may | |
-//! | `start_fault`, `run_fault` | the same as `may_start` and `may_run`, with the set of held chains at hand | |
 //! | `is_shut` | whether the node's chain is shut: `NotFree` or `Excluded` applies to it | marks that say so |
 //! | `is_fenced` | whether the barrier rule keeps a block of the node from starting | |
 //! | `barriers` | how many barriers are open on the node | |
@@ -28,9 +27,8 @@
 //! | `Excluded` | a run is open beneath a serial queue or source of the chain |
 //! | `Fenced` | the node is a concurrent queue other than `root`; a barrier is open there, or it is one and a run is open there. Queues that have the node as target are not asked |
 //!
-//! `may_run` tells of `NotFree` and `Excluded`, over the chain of the source. Both walk the chain at most once for
-//! freedom and once for exclusion. `start_fault` and `run_fault` take one look at the set for freedom. If no run is open, none of them
-//! walks for exclusion. A caller that asks of many nodes asks `is_shut` with one [`KnownChains`]: each object is then
+//! `may_run` tells of `NotFree` and `Excluded`, over the chain of the source. Both take one look at the set of held chains for freedom, and
+//! walk the chain at most once for exclusion. If no run is open they do not walk. A caller that asks of many nodes asks `is_shut` with one [`KnownChains`]: each object is then
 //! looked at once in all, and a block that is first on its node may start exactly where the chain is not shut and the block
 //! not fenced (`proofs/Starts`). Nothing else costs more with a larger plan. `new` and `copied` take all memory, each array at
 //! once; every other call takes none and cannot fail.
@@ -64,6 +62,5 @@ mod known_chains;
 mod shut;
 
 pub use drains::Drains;
-pub use free::is_chain_held;
 pub use held_chains::HeldChains;
 pub use known_chains::KnownChains;

@@ -51,7 +51,7 @@ impl Groups {
         })
     }
 
-    /// The same groups once more. It takes all the memory that the groups ever need: an `Err` comes only where memory runs out.
+    /// Copies the groups. The copy takes all its memory at once, so an `Err` comes only if memory runs out.
     pub fn copied(&self, alloc: Global) -> Result<Groups, AllocError>
         ensures { IfOk result (λ g. g ≡ self.now) }
     {

@@ -39,7 +39,7 @@ impl Holds {
         })
     }
 
-    /// The same lists once more. It takes all the memory that the lists ever need: an `Err` comes only where memory runs out.
+    /// Copies the lists. The copy takes all its memory at once, so an `Err` comes only if memory runs out.
     pub fn copied(&self, alloc: Global) -> Result<Holds, AllocError>
         ensures { IfOk result (λ h. h ≡ self.now) }
     {

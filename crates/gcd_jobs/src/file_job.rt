@@ -39,6 +39,7 @@ impl Job for FileJob<'_> {
 
     ghost gives = { λ job input value. value ≡ job_value job };
 
+    #[inline(always)]
     fn run(self, _input: u64) -> u64 {
         match self {
             FileJob::Nothing => 0,

@@ -83,7 +83,7 @@ impl Lists {
         })
     }
 
-    /// The same lists once more. It takes all the memory that the lists ever need: an `Err` comes only where memory runs out.
+    /// Copies the lists. The copy takes all its memory at once, so an `Err` comes only if memory runs out.
     pub fn copied(&self, alloc: Global) -> Result<Lists, AllocError>
         ensures { IfOk result (λ l. l ≡ self.now) }
     {
@@ -160,6 +160,7 @@ impl Lists {
 
     /// Takes the block that waits first off the object's list, and gives it, with whether it is a barrier; it waits
     /// nowhere afterwards. None exactly where nothing waits there, and then nothing changes. (This project's own rule.)
+    #[inline(always)]
     pub fn pop(&mut self, node: Obj) -> Option<(Blk, bool)>
         requires { node.0 < length self.old.lists }
         ensures value { result ≡ slice_get (list_at self.old node.0) 0 }

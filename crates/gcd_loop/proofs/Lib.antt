@@ -1,4 +1,5 @@
 pub mod Events
 pub mod Follows
+pub mod Rushes
 pub mod Goings
 pub mod Steps

@@ -15,9 +15,13 @@
 //! | file of specs/ | says |
 //! |---|---|
 //! | `Recorded` | what a recorder says of its steps |
+//! | `Rushed` | what it may record at the beginning of a turn: choices of worker 0, while nothing can come of the outside |
 //! | `Going` | what holds between the turns, and what they come to |
 //! | `Followed` | whose the events of a history are, whether any comes of an outside caller, and that they are worker 0's choice |
 //! | `Ran` | what a run by any engine promises: `RunsPlan` |
+//!
+//! While no read source is live, no due time is left, no wait may expire and no intake is open, a turn has nothing to ask of the outside.
+//! So a recorder may record one choice of worker 0 after another there ([`Recorder::rush`]), as the list of a run by one worker does.
 //!
 //! An event that a poller told, a Tick, a Halt and an Expire are the events of the outside; an Accept and a Shut are those of the intake.
 //! A run has at most `most` events. Where the intake is open, and nothing is told, the recorder sees to it ([`Recorder::admit`]), and

@@ -7,6 +7,7 @@ ghost use Rattle.gcd_history.specs.History.{choice_of, is_intake_open};
 ghost use Rattle.gcd_refinement.specs.MachineView.{MachineView};
 ghost use Rattle.gcd_turn.specs.Turns.{HasRoom};
 ghost use Rattle.gcd_loop.specs.Recorded.{Admits, After, Grows, IsGrown, IsOutside, IsSight, Says};
+ghost use Rattle.gcd_loop.specs.Rushed.{IsRushed};
 
 use gcd_event::Event;
 use gcd_machine::Machine;
@@ -70,6 +71,14 @@ pub trait Recorder<D> {
         requires ready { ready most plan.now shared.now self.old }
         ensures ready { ready most plan.now shared.now self.new }
         ensures grows { Grows (seen self.old) (seen self.new) }
+        ensures kept { (a : Self) → kept most plan.now shared.now a self.old → kept most plan.now shared.now a self.new };
+
+    /// Records worker 0's choices, one event after another, while poller, clock and outside callers have nothing to tell. It may record
+    /// none.
+    fn rush(&mut self, plan: &Plan, most: u32, shared: &D) -> Result<(), Self::Fault>
+        requires ready { ready most plan.now shared.now self.old }
+        ensures ready { OnOk result (ready most plan.now shared.now self.new) }
+        ensures rushed { OnOk result (IsRushed plan.now (seen self.old) (seen self.new)) }
         ensures kept { (a : Self) → kept most plan.now shared.now a self.old → kept most plan.now shared.now a self.new };
 
     /// Records an event of poller or clock, where it may come next.

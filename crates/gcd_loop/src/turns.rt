@@ -318,9 +318,10 @@ fn answer<D, T: Recorder<D>, P: Poller, C: Clock, R: Wait>(
     }
 }
 
-/// One turn: it ends at the first event that is placed, where nothing more is to be done, where the
-/// recorder stops it, or where the run has ended. Where it is stopped nothing more is seen, and once its engine has gone on by
-/// itself, and nothing came of it, worker 0 is to listen or wait ([`idle`]). An `Err` comes only of the recorder.
+/// One turn. The recorder may first record what worker 0 chooses ([`Recorder::rush`]). Then the turn ends at the first event that is
+/// placed, if nothing more is to be done, if the recorder stops it, or if the run has ended. If it is stopped nothing more is seen.
+/// Once its engine has gone on by itself after that, and nothing came of it, worker 0 is to listen or wait ([`idle`]). An `Err` comes
+/// only of the recorder.
 #[inline(always)]
 pub fn take_turn<D, T: Recorder<D>, P: Poller, C: Clock, R: Wait>(
     rt: &R,
@@ -343,6 +344,7 @@ pub fn take_turn<D, T: Recorder<D>, P: Poller, C: Clock, R: Wait>(
         → OnOk result (IsGoing most P.tells C.tells plan.now stood before early (P.state poller.new) (C.state clock.new) (T.seen run.new) outlook.new) }
 {
     run.look(plan, most, shared);
+    run.rush(plan, most, shared)?;
     answer(rt, plan, most, shared, run, outlook, poller, clock)
 }
 

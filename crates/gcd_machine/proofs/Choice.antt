@@ -8,4 +8,6 @@ pub mod Workers
 pub mod Expiries
 pub mod Ending
 pub mod Calm
+pub mod Quick
 pub mod Calls
+pub mod QuickSteps

@@ -10,3 +10,4 @@ pub mod Judged
 pub mod Begins
 pub mod Chosen
 pub mod Calm
+pub mod Quick

@@ -10,6 +10,8 @@
 //! | `permits` | the first reason why the event may not come next (`why`), or None |
 //! | `apply` | takes a permitted event: what the machine stood for, with the event |
 //! | `choose` | what a worker records next (`choice_of`), permitted and the worker's own |
+//! | `quick` | takes at once what `choose` would give, if that is the end of a block, an async of a block or, as long as no run is open on an object, the start of a block (`IsTaken`); or None, and nothing is changed |
+//! | `is_calm` | whether nothing can come of poller, clock or outside callers (`IsCalm`) |
 //! | `begin_on` | what a worker may begin on a node: a Start or a Deliver (`begin_of`) |
 //! | `expiry` | the Expire that worker 0 records (`expiry_of`), or None where no wait may expire |
 //! | `state`, `is_quiescent`, `is_halted` | how far the run has come (`HasState`), whether nothing but a halt can come, whether it is over |
@@ -23,16 +25,16 @@
 //!
 //! # What each event checks, and what it changes
 //!
-//! `start_fault` and `run_fault` of `gcd_drain` look at the waiting blocks (`gcd_lists`), the targets (`gcd_tree`) and the holds
+//! `may_start` and `may_run` of `gcd_drain` look at the waiting blocks (`gcd_lists`), the targets (`gcd_tree`) and the holds
 //! (`gcd_hold`). `may_wake` of `gcd_sync` looks at groups, semaphores and strips.
 //!
 //! | event | `permits` checks | `apply` changes |
 //! |---|---|---|
-//! | Start | whether the worker is free, and `start_fault`; of `main`, whether it has not started | the block leaves its list, a run opens in `gcd_tree`, a barrier in `gcd_drain`; from now on its cancellation changes nothing (`gcd_blockobj`) |
+//! | Start | whether the worker is free, and `may_start`; of `main`, whether it has not started | the block leaves its list, a run opens in `gcd_tree`, a barrier in `gcd_drain`; from now on its cancellation changes nothing (`gcd_blockobj`) |
 //! | Act | whether it is the next act of the worker's run, and no misuse. A cancelled block has no next act. It does not look at the chain, so a suspension stops no open run | what `Effects` of `gcd_plan` says of the act (below) |
 //! | Wake | whether the worker is free, and `may_wake` | the block is parked no longer (`gcd_sync`) |
 //! | End | whether no act of the worker's run is left | the run closes in `gcd_tree`, which may set a new target, and in `gcd_drain`. Its group, its strip, whoever waits for it and the notify blocks that become due are told, of a cancelled block as of any other |
-//! | Deliver | whether the worker is free, something is pending at the source (`gcd_source`, `gcd_timer`), it is not cancelled, and `run_fault` | what is pending is handed over, and 0 is left; a run opens |
+//! | Deliver | whether the worker is free, something is pending at the source (`gcd_source`, `gcd_timer`), it is not cancelled, and `may_run` | what is pending is handed over, and 0 is left; a run opens |
 //! | DeliverEnd | whether no act of the worker's run is left | the run closes |
 //! | Misuse | whether the next act of the worker's run is a misuse of this code | the run is over |
 //! | Tick | whether the time is above journal time, at most `until`, and has reached a due time or a limit | the time of `gcd_timer`, and with it what is due |

@@ -8,6 +8,7 @@ ghost use Rattle.gcd_history.specs.Ends.{HasState, IsQuiescent, is_halted};
 ghost use Rattle.gcd_history.specs.History.{awaited_of, choice_of, expiry_of, last_data_of, first_waiting_of, next_of_intake, is_block_cancelled, is_ended, is_intake_open, is_live_feed, is_started, next_due_of, node_of, parks, pending_of, running_of, why};
 ghost use Rattle.gcd_machine.specs.Begins.{begin_of};
 ghost use Rattle.gcd_machine.specs.Calm.{IsCalm};
+ghost use Rattle.gcd_machine.specs.Quick.{IsTaken, MayStep};
 ghost use Rattle.gcd_machine.specs.Stands.{MayApply, StandsFor};
 
 use crate::registers::Registers;
@@ -53,7 +54,7 @@ impl Machine {
         })
     }
 
-    /// The same machine once more, which shares the plan. An `Err` comes only where memory runs out.
+    /// Copies the machine. The copy shares the plan. An `Err` comes only if memory runs out.
     pub fn copy(&self, alloc: Global) -> Result<Machine, AllocError>
         ensures { IfOk result (λ m. m ≡ self.now) }
     {
@@ -109,6 +110,20 @@ impl Machine {
         ensures work { IfSome result (λ e. IsTrue (is_work e)) }
     {
         self.registers.choice(worker, from)
+    }
+
+    /// Takes what the worker records next, the objects from number 0 on, if that is the end of a block, an async of a block or, as long
+    /// as no run is open on an object, the start of a block. Otherwise it takes nothing, answers None and leaves all as it was (this
+    /// project's own rule). It costs as much as [`Machine::choose`] and [`Machine::apply`]. The contract says what it takes, and not when: it
+    /// may take nothing at any time, and a caller then asks [`Machine::choose`].
+    #[inline(always)]
+    pub fn quick(&mut self, worker: u8) -> Option<Event>
+        requires { MayStep self.old }
+        ensures plan { self.new.plan ≡ self.old.plan }
+        ensures taken { (plan : PlanView) (h : List Event) → StandsFor self.old plan h → IfSome result (λ e. IsTaken plan h worker e self.new) }
+        ensures nothing { result ≡ None → self.new ≡ self.old }
+    {
+        self.registers.quick(worker)
     }
 
     /// The Expire that worker 0 records: that of the parked block with the least number whose wait may expire. None exactly where

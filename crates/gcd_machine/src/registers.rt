@@ -21,6 +21,7 @@ mod new;
 mod nodes;
 mod plan;
 mod progress;
+mod quick;
 mod runs;
 mod strips;
 mod work;

@@ -31,7 +31,7 @@ impl Objects {
         })
     }
 
-    /// The same counts once more. It takes all the memory that the counts ever need: an `Err` comes only where memory runs out.
+    /// Copies the counts. The copy takes all its memory at once, so an `Err` comes only if memory runs out.
     pub fn copied(&self, alloc: Global) -> Result<Objects, AllocError>
         ensures { IfOk result (λ o. o ≡ self.now) }
     {

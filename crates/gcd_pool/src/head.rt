@@ -150,6 +150,12 @@ impl<'a, 'h, S: AdmitCells<X>, X: Sent + Drop> Recorder<Pool<'a, S>> for Head<'h
         look_on(shared, self.hand, plan, most);
     }
 
+    // Whatever a team records it puts into the row.
+    #[inline(always)]
+    fn rush(&mut self, _plan: &Plan, _most: u32, _shared: &Pool<'a, S>) -> Result<(), AllocError> {
+        Ok(())
+    }
+
     #[inline(always)]
     fn put<R: Wait>(
         &mut self,

@@ -22,19 +22,6 @@ pub struct BlockProgress {
     pub caller: Option<Blk>,
 }
 
-impl BlockProgress {
-    /// A block that nobody has submitted.
-    pub const IDLE: BlockProgress = BlockProgress {
-        node: None,
-        barrier: false,
-        started: false,
-        done: 0,
-        group: None,
-        home: Obj(0),
-        caller: None,
-    };
-}
-
 /// What a source's handler has come to.
 #[derive(Clone, Copy)]
 pub struct HandlerProgress {

@@ -58,6 +58,11 @@ impl<J: Job + Drop, H: Handler + Drop> Recorder<Global> for Round<J, H> {
 
     fn look(&mut self, _plan: &Plan, _most: u32, _shared: &Global) {}
 
+    // Whatever is recorded is of a round.
+    fn rush(&mut self, _plan: &Plan, _most: u32, _shared: &Global) -> Result<(), Self::Fault> {
+        Ok(())
+    }
+
     fn put<R: Wait>(
         &mut self,
         _rt: &R,

@@ -95,7 +95,7 @@ impl Semas {
         })
     }
 
-    /// The same semaphores once more. It takes all the memory that the semaphores ever need: an `Err` comes only where memory runs out.
+    /// Copies the semaphores. The copy takes all its memory at once, so an `Err` comes only if memory runs out.
     pub fn copied(&self, alloc: Global) -> Result<Semas, AllocError>
         ensures { IfOk result (λ s. s ≡ self.now) }
     {

@@ -54,7 +54,7 @@ impl BitSet {
         })
     }
 
-    /// The same set once more. It takes all the memory that the set ever needs: an `Err` comes only where memory runs out.
+    /// Copies the set. The copy takes all its memory at once, so an `Err` comes only if memory runs out.
     pub fn copied(&self, alloc: Global) -> Result<BitSet, AllocError>
         ensures { IfOk result (λ s. s ≡ self.now) }
     {
@@ -156,6 +156,7 @@ impl BitSet {
     }
 
     /// The number is in the set from now on exactly where `present` says so.
+    #[inline(always)]
     pub fn put(&mut self, i: u32, present: bool)
         requires { i < length self.old }
         ensures { self.new ≡ slice_set self.old i present }

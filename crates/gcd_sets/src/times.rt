@@ -63,7 +63,7 @@ impl Times {
         })
     }
 
-    /// The same times once more. It takes all the memory that the times ever need: an `Err` comes only where memory runs out.
+    /// Copies the times. The copy takes all its memory at once, so an `Err` comes only if memory runs out.
     pub fn copied(&self, alloc: Global) -> Result<Times, AllocError>
         ensures { IfOk result (λ t. t ≡ self.now) }
     {

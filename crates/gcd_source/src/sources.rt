@@ -47,7 +47,7 @@ impl Sources {
         })
     }
 
-    /// The same sources once more. It takes all the memory that the sources ever need: an `Err` comes only where memory runs out.
+    /// Copies the sources. The copy takes all its memory at once, so an `Err` comes only if memory runs out.
     pub fn copied(&self, alloc: Global) -> Result<Sources, AllocError>
         ensures { IfOk result (λ s. s ≡ self.now) }
     {

@@ -72,7 +72,7 @@ impl Waits {
         })
     }
 
-    /// The same parked blocks once more. It takes all the memory that they ever need: an `Err` comes only where memory runs out.
+    /// Copies the parked blocks. The copy takes all its memory at once, so an `Err` comes only if memory runs out.
     pub fn copied(&self, alloc: Global) -> Result<Waits, AllocError>
         ensures { IfOk result (λ w. w ≡ self.now) }
     {

@@ -93,7 +93,7 @@ impl Timers {
         })
     }
 
-    /// The same timers at the same time once more. It takes all the memory that the timers ever need: an `Err` comes only where memory runs out.
+    /// Copies the timers, which stay at the same time. The copy takes all its memory at once, so an `Err` comes only if memory runs out.
     pub fn copied(&self, alloc: Global) -> Result<Timers, AllocError>
         ensures { IfOk result (λ t. t ≡ self.now) }
     {

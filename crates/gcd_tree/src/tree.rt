@@ -56,7 +56,7 @@ impl Tree {
         })
     }
 
-    /// The same tree once more. It takes all the memory that the tree ever need: an `Err` comes only where memory runs out.
+    /// Copies the tree. The copy takes all its memory at once, so an `Err` comes only if memory runs out.
     pub fn copied(&self, alloc: Global) -> Result<Tree, AllocError>
         ensures { IfOk result (λ tree. tree ≡ self.now) }
     {
@@ -230,6 +230,7 @@ impl Tree {
 
     /// One run more is open on the node. No object of its chain is moving, and all open runs together, which
     /// [`Tree::open_beneath`] tells of `root`, are fewer than 2^32 - 1.
+    #[inline(always)]
     pub fn opened(&mut self, node: Obj)
         requires object { node.0 < length self.old.targets }
         requires still { has_mover_at self.old node.0 ≡ false }

@@ -1,11 +1,13 @@
 -- What holds of a run that one worker keeps in a list, after each of its steps.
-use Rattle.std.specs.Prelude.{◌≡◌, ◌≤◌, ◌<◌, ℕ, List, Some, None, IsTrue, length}
+use Rattle.std.specs.Prelude.{◌≡◌, ◌≤◌, ◌<◌, ℕ, Bool, true, false, List, [], ◌∷◌, ◌++◌, Option, Some, None, IsTrue, length}
 use Rattle.gcd_plan.specs.PlanView.{PlanView}
+use Rattle.gcd_event.specs.Owners.{ended}
 use Rattle.gcd_event.specs.declared.event.Event.{Event}
 use Rattle.gcd_history.specs.Choice.{is_work, worker_of}
 use Rattle.gcd_history.specs.History.{choice_of, why}
 use Rattle.gcd_history.specs.Intake.{accepted, AcceptsNone}
 use Rattle.gcd_jobs.specs.BlockValues.{AreValues}
+use Rattle.gcd_machine.specs.Calm.{IsCalm}
 use Rattle.gcd_machine.specs.Stands.{StandsFor}
 use Rattle.gcd_refinement.specs.MachineView.{MachineView}
 use Rattle.gcd_loop.specs.Recorded.{IsSight}
@@ -35,3 +37,27 @@ pub record IsNext (most : ℕ) (plan : PlanView) (h : List Event) (e : Event) : 
   pub by : worker_of e ≡ 0
   pub chosen : IsTrue (is_work e) → choice_of plan h 0 0 ≡ Some e
   pub no_job : accepted e ≡ None
+
+-- the event is the choice of worker 0, and stands behind the others
+pub record IsChosen (plan : PlanView) (h k : List Event) (e : Event) : Type 0 where
+  pub is : k ≡ h ++ e ∷ []
+  pub chosen : choice_of plan h 0 0 ≡ Some e
+
+-- the same. Unless it ends a run, nothing can come of the outside if nothing could
+pub record IsStep (plan : PlanView) (h k : List Event) (e : Event) : Type 0 where
+  pub chosen : IsChosen plan h k e
+  pub calm : ended e ≡ None → IsCalm plan h → IsCalm plan k
+
+-- it is so of the event that was taken, or all is as it was
+abbrev pub HasStepped : PlanView → (h k : List Event) → Option Event → Type 0
+HasStepped plan h k None = k ≡ h
+HasStepped plan h k (Some e) = IsStep plan h k e
+
+-- a choice of worker 0 is there, or all is as it was
+pub record IsOneMore (plan : PlanView) (h k : List Event) : Type 0 where
+  pub event : Event
+  pub chosen : IsChosen plan h k event
+
+abbrev pub HasChosen : PlanView → (h k : List Event) → Bool → Type 0
+HasChosen plan h k true = IsOneMore plan h k
+HasChosen plan h k false = k ≡ h

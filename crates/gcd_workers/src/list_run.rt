@@ -8,8 +8,9 @@ ghost use Rattle.gcd_jobs.specs.BlockValues.{AreValues, value_at_end};
 ghost use Rattle.gcd_jobs.specs.Contents.{contents};
 ghost use Rattle.gcd_jobs.specs.Ends.{EndFits};
 ghost use Rattle.gcd_loop.specs.Recorded.{Says};
+ghost use Rattle.gcd_loop.specs.Rushed.{IsRushed};
 ghost use Rattle.gcd_machine.specs.Stands.{StandsFor};
-ghost use Rattle.gcd_workers.specs.ListRuns.{IsListRun, IsNext};
+ghost use Rattle.gcd_workers.specs.ListRuns.{HasChosen, HasStepped, IsListRun, IsNext};
 
 use gcd_event::Event;
 use gcd_jobs::{FileJob, Job};
@@ -55,13 +56,13 @@ fn value_at_end(plan: &Plan, files: &[Vec<u8>], machine: &Machine, b: Blk) -> u6
     block_value(plan, files, b)
 }
 
-// The values after one more event, of the machine before it: an End gives its block a value.
+// The values after one more event, with the machine that has taken it: an End gives its block a value.
 #[inline(always)]
 fn note_end(plan: &Plan, files: &[Vec<u8>], machine: &Machine, e: Event, values: &mut Vec<u64>)
     requires own { machine.now.plan ≡ plan.now }
     requires count { length values.old.items ≡ length plan.now.blocks }
     requires ends { EndFits plan.now e }
-    ensures values { (h : List Event) → StandsFor machine.now plan.now h → AreValues plan.now (contents files.now) h values.old.items
+    ensures values { (h : List Event) → StandsFor machine.now plan.now (h ++ e ∷ []) → AreValues plan.now (contents files.now) h values.old.items
         → AreValues plan.now (contents files.now) (h ++ e ∷ []) values.new.items }
 {
     match e.ended() {
@@ -111,8 +112,74 @@ impl ListRun {
         ensures run { IsListRun most plan.now (contents files.now) self.new.journal.items self.new.values.items self.new.machine }
     {
         self.journal.push(e)?;
-        note_end(plan, files, &self.machine, e, &mut self.values);
         self.machine.apply(e);
+        note_end(plan, files, &self.machine, e, &mut self.values);
+        Ok(())
+    }
+
+    // Takes what worker 0 records next, if that is quick ([`Machine::quick`]). An `Err` leaves the run as it was.
+    #[inline(always)]
+    fn record_quick(
+        &mut self,
+        plan: &Plan,
+        most: u32,
+        files: &[Vec<u8>],
+    ) -> Result<Option<Event>, AllocError>
+        requires room { length self.old.journal.items < most }
+        requires run { IsListRun most plan.now (contents files.now) self.old.journal.items self.old.values.items self.old.machine }
+        ensures run { IsListRun most plan.now (contents files.now) self.new.journal.items self.new.values.items self.new.machine }
+        ensures stepped { IfOk result (HasStepped plan.now self.old.journal.items self.new.journal.items) }
+    {
+        self.journal.reserve(1)?;
+        match self.machine.quick(0) {
+            Some(e) => {
+                self.journal.push_reserved(e);
+                note_end(plan, files, &self.machine, e, &mut self.values);
+                Ok(Some(e))
+            }
+            None => Ok(None),
+        }
+    }
+
+    // Records worker 0's choice, and says whether there was one. An `Err` leaves the run as it was.
+    fn record_choice(
+        &mut self,
+        plan: &Plan,
+        most: u32,
+        files: &[Vec<u8>],
+    ) -> Result<bool, AllocError>
+        requires room { length self.old.journal.items < most }
+        requires run { IsListRun most plan.now (contents files.now) self.old.journal.items self.old.values.items self.old.machine }
+        ensures run { IsListRun most plan.now (contents files.now) self.new.journal.items self.new.values.items self.new.machine }
+        ensures chosen { IfOk result (HasChosen plan.now self.old.journal.items self.new.journal.items) }
+    {
+        match self.machine.choose(0, 0) {
+            Some(e) => {
+                self.record(plan, most, files, e)?;
+                Ok(true)
+            }
+            None => Ok(false),
+        }
+    }
+
+    // Records what worker 0 chooses, one event after another, while nothing can come of the outside. An `Err` leaves a run.
+    fn rush_on(&mut self, plan: &Plan, most: u32, files: &[Vec<u8>]) -> Result<(), AllocError>
+        requires run { IsListRun most plan.now (contents files.now) self.old.journal.items self.old.values.items self.old.machine }
+        ensures run { IsListRun most plan.now (contents files.now) self.new.journal.items self.new.values.items self.new.machine }
+        ensures rushed { OnOk result (IsRushed plan.now self.old.journal.items self.new.journal.items) }
+    {
+        let mut calm = self.machine.is_calm();
+        while calm && self.machine.len() < most {
+            match self.record_quick(plan, most, files)? {
+                Some(e) => calm = e.ended().is_none() || self.machine.is_calm(),
+                None => {
+                    if !self.record_choice(plan, most, files)? {
+                        return Ok(());
+                    }
+                    calm = self.machine.is_calm();
+                }
+            }
+        }
         Ok(())
     }
 
@@ -178,6 +245,11 @@ impl<'a> Recorder<Files<'a>> for ListRun {
 
     #[inline(always)]
     fn look(&mut self, _plan: &Plan, _most: u32, _shared: &Files<'a>) {}
+
+    #[inline(always)]
+    fn rush(&mut self, plan: &Plan, most: u32, shared: &Files<'a>) -> Result<(), AllocError> {
+        self.rush_on(plan, most, shared.all)
+    }
 
     #[inline(always)]
     fn put<R: Wait>(

@@ -1,5 +1,5 @@
 -- Whether anything can come of the outside, as what a machine keeps tells it, for each history that it stands for.
-use Rattle.std.proofs.Common.{◌≡◌, ℕ, ◌==◌, Bool, true, false, not, ◌||◌, List, reverse, None, is_none, count_by, ap, sym, ◌∙◌}
+use Rattle.std.proofs.Common.{◌≡◌, ◌==◌, true, false, not, List, reverse, None, is_none, count_by, ap, sym, ◌∙◌}
 use Rattle.std.specs.Bool.{IsTrue}
 use Rattle.std.proofs.lemmas.Bool.{and_from, and_parts, eqb-true, eq-eqb, not-true}
 use Rattle.gcd_plan.specs.PlanView.{PlanView}
@@ -14,7 +14,7 @@ use Rattle.gcd_machine.specs.Judged.{is_intake_open_at}
 use Rattle.gcd_machine.specs.Stands.{StandsFor}
 use Rattle.gcd_machine.proofs.Choice.Ending.{none_counted, none_set}
 use Rattle.gcd_machine.proofs.Choice.Expiries.{none_from_unripe, unripe_from_none}
-use Rattle.gcd_machine.proofs.Views.Calls.{over_stands, tied_by}
+use Rattle.gcd_machine.proofs.Views.Calls.{tied_by}
 use Rattle.gcd_machine.proofs.Views.Intake.{open_is}
 
 -- the tests, one by one

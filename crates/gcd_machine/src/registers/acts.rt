@@ -22,7 +22,7 @@ impl Registers {
 
     // The run makes the act.
     #[inline(always)]
-    fn make(&mut self, worker: u8, run: Run, act: Act)
+    pub fn make(&mut self, worker: u8, run: Run, act: Act)
         requires { CanDo self.old worker run act }
         ensures { self.new ≡ act_made self.old worker run act }
     {
@@ -56,6 +56,7 @@ impl Registers {
     }
 
     // Parks the block where the act waits for something.
+    #[inline(always)]
     fn park_by(&mut self, worker: u8, blk: Blk, act: Act)
         requires { CanParkBy self.old worker blk act }
         ensures { self.new ≡ parked_by_act self.old worker blk act }

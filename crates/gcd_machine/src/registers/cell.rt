@@ -1,12 +1,12 @@
-// What a block has come to, in 12 bytes.
+// The record of a block in 12 bytes.
 ghost use Rattle.std.specs.Prelude.{◌≡◌, ◌+◌, ◌<◌, ◌^◌, true, Some};
 ghost use Rattle.gcd_machine.specs.Cells.{block_of_code, object_of_code};
 
 use gcd_plan::{Blk, Obj};
 use std::marker::Model;
 
-/// What a block has come to ([`gcd_refinement::BlockProgress`]), in 12 bytes. Each number has two bytes; where there may be none, 0 stands
-/// for none, and else the number and 1.
+/// How far a block has come ([`gcd_refinement::BlockProgress`]), in 12 bytes. Each number has two bytes. If there may be no number, 0 stands
+/// for none, and the number plus 1 for the number.
 #[derive(Clone, Copy)]
 pub struct BlockCell {
     node: u16,
@@ -33,7 +33,7 @@ impl Model for BlockCell {
     ghost inverse_ok = { λ c _. cell_of_progress c };
 }
 
-// The number and 1.
+// The code of a number: the number plus 1.
 #[inline(always)]
 fn code_of(n: u32) -> u16
     requires { n < 65535 }
@@ -132,7 +132,7 @@ impl BlockCell {
         block_in(self.caller)
     }
 
-    /// It is submitted on the node, as a barrier or not.
+    /// Notes that the block was submitted on the node, as a barrier or not.
     #[inline(always)]
     pub fn submit(&mut self, node: Obj, barrier: bool)
         requires { node.0 < 65535 }
@@ -142,7 +142,7 @@ impl BlockCell {
         self.barrier = barrier;
     }
 
-    /// It has started.
+    /// Notes that the block has started.
     #[inline(always)]
     pub fn start(&mut self)
         ensures { self.new ≡ record self.old { started = true } }
@@ -150,7 +150,7 @@ impl BlockCell {
         self.started = true;
     }
 
-    /// It has made one act more.
+    /// Counts one more act.
     #[inline(always)]
     pub fn count_act(&mut self)
         requires { self.old.done + 1 < 2 ^ 16 }
@@ -159,7 +159,7 @@ impl BlockCell {
         self.done += 1;
     }
 
-    /// The group counts it.
+    /// Notes the group that counts the block.
     #[inline(always)]
     pub fn join(&mut self, group: Obj)
         requires { group.0 < 65535 }
@@ -168,7 +168,7 @@ impl BlockCell {
         self.group = code_of(group.0);
     }
 
-    /// It goes to this queue once it is due.
+    /// Notes the queue to which the block goes once it is due.
     #[inline(always)]
     pub fn go_home_to(&mut self, queue: Obj)
         requires { queue.0 < 65536 }
@@ -177,7 +177,7 @@ impl BlockCell {
         self.home = queue.0 as u16;
     }
 
-    /// This block submitted it and waits for its end.
+    /// Notes the block that submitted this one and waits for its end.
     #[inline(always)]
     pub fn call_from(&mut self, caller: Blk)
         requires { caller.0 < 65535 }

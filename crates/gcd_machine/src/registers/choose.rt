@@ -86,7 +86,7 @@ impl Registers {
 
     // What a worker without a run records next.
     #[inline(always)]
-    fn idle_choice(&self, worker: u8, from: u32) -> Option<Event>
+    pub fn idle_choice(&self, worker: u8, from: u32) -> Option<Event>
         requires { IsShaped self.now }
         ensures { result ≡ idle_choice_at self.now worker from }
     {

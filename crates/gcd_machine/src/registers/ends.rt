@@ -21,6 +21,7 @@ impl Registers {
 
     // Each block that is to be submitted once this one has ended is so, where it has, in the order of registration
     // (dispatch_block_notify(3)). A group that may be left with them may be left after them.
+    #[inline(always)]
     pub fn tell(&mut self, blk: Blk)
         requires { CanTell self.old blk }
         ensures told { self.new ≡ told_at self.old blk }

@@ -128,7 +128,7 @@ impl Registers {
     {
         if blk.0 != 0 {
             self.drains
-                .start_fault(&self.lists, &self.tree, &self.holds, &self.held, blk)
+                .may_start(&self.lists, &self.tree, &self.holds, &self.held, blk)
         } else if self.blocks[blk.0 as usize].is_started() {
             Some(Why::Unready)
         } else {
@@ -218,7 +218,7 @@ impl Registers {
     {
         if self.is_pending(src) {
             self.drains
-                .run_fault(&self.tree, &self.holds, &self.held, src)
+                .may_run(&self.tree, &self.holds, &self.held, src)
         } else {
             Some(Why::Unready)
         }

@@ -43,8 +43,7 @@ impl Registers {
         self.lists.pop(node);
         self.tree.opened(node);
         self.drains.began(node, barrier);
-        let pending = self.pending(node);
-        let stays = self.stays_busy(node, pending);
+        let stays = self.is_left_busy(node);
         self.busy.put(node.0, stays);
     }
 
@@ -82,6 +81,16 @@ impl Registers {
         ensures { result ≡ stays_busy (length (list_at self.now.lists node.0)) pending }
     {
         self.lists.first(node).is_some() || pending > 0
+    }
+
+    // Whether a block waits on the node, or something is pending there. The second is looked at only if no block waits.
+    #[inline(always)]
+    fn is_left_busy(&self, node: Obj) -> bool
+        requires list { node.0 < length self.now.lists.lists }
+        requires pending { HasPending self.now node }
+        ensures { result ≡ stays_busy (length (list_at self.now.lists node.0)) (pending_in self.now node.0) }
+    {
+        self.lists.first(node).is_some() || self.pending(node) > 0
     }
 
     // What is pending at the source, with the due times that no delivery took.

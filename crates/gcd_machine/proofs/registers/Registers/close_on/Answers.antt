@@ -1,4 +1,4 @@
-use Rattle.std.proofs.Common.{◌≡◌, ◌≢◌, ⊎_elim, ◌⊎◌, inl, inr, ℕ, zero, suc, ◌-◌, ◌<◌, ◌≤◌, Some, ap, sym, subst, refl, arith}
+use Rattle.std.proofs.Common.{◌≡◌, ⊎_elim, ◌⊎◌, ◌-◌, ◌<◌, ◌≤◌, ap, sym, subst, arith}
 use Rattle.gcd_tree.specs.IsTree.{IsTree}
 use Rattle.gcd_refinement.specs.MachineView.{MachineView}
 use Rattle.std.proofs.lemmas.Bool.{cases_lt}

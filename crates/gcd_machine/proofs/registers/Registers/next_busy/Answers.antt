@@ -1,4 +1,4 @@
-use Rattle.std.proofs.Common.{◌≡◌, ℕ, ◌-◌, ◌<◌, ◌≤◌, ◌+◌, ◌&&◌, not, false, length, ap, arith, ◌∙◌}
+use Rattle.std.proofs.Common.{ℕ, ◌-◌, ◌<◌, ◌≤◌, ◌+◌, ◌&&◌, not, false, length, ap, arith, ◌∙◌}
 use Rattle.std.specs.List.{find, range_with_len, slice_index_or}
 use Rattle.gcd_sets.proofs.Passing.{find_alike}
 use Rattle.gcd_refinement.specs.MachineView.{MachineView}

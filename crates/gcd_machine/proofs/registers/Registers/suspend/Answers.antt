@@ -1,4 +1,4 @@
-use Rattle.std.proofs.Common.{◌≡◌, ◌+◌, length, ap, sym, subst, ◌∙◌, arith, length-set}
+use Rattle.std.proofs.Common.{◌+◌, length, ap, sym, subst, ◌∙◌, arith, length-set}
 use Rattle.gcd_tree.specs.IsTree.{IsTree}
 use Rattle.gcd_hold.specs.HoldsView.{hold_at}
 use Rattle.gcd_refinement.specs.MachineView.{MachineView}

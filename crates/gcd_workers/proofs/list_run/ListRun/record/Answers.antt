@@ -15,12 +15,13 @@ returns-clause-run c =
     let next = c.requires.next in
     let run = c.requires.run in
     let more = c.in_ok-push.ensures.items in
+    let stands = c.apply.ensures.stands plan h run.stands next.permitted in
     rw more (record {
       own = c.apply.ensures.plan ∙ run.own;
-      stands = c.apply.ensures.stands plan h run.stands next.permitted;
+      stands = stands;
       few = omega (arith, length_push h e, next.room);
       alone = alone_more h e run.alone next.by;
       chosen = follows_more plan h e run.chosen next.chosen;
       uncalled = accepts_none_more h e run.uncalled next.no_job;
-      values = c.note_end.ensures.values h run.stands run.values;
+      values = c.note_end.ensures.values h stands run.values;
     })

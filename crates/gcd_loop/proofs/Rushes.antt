@@ -1,0 +1,46 @@
+-- What worker 0 does at one go: nothing, one event more, and that it is work.
+use Rattle.std.proofs.Common.{◌≡◌, ℕ, zero, suc, true, List, [], ◌∷◌, ◌++◌, take, Some, refl, ap, sym, ◌∙◌, subst}
+use Rattle.std.specs.List.{list_all, slice_get}
+use Rattle.std.proofs.lemmas.Bool.{and_from}
+use Rattle.std.proofs.lemmas.List.{append-nil, append_assoc}
+use Rattle.gcd_plan.specs.PlanView.{PlanView}
+use Rattle.gcd_event.specs.declared.event.Event.{Event}
+use Rattle.gcd_history.specs.Choice.{is_work}
+use Rattle.gcd_history.specs.History.{choice_of}
+use Rattle.gcd_history.proofs.Public.Laws.{choice_is_permitted}
+use Rattle.gcd_machine.specs.Calm.{IsCalm}
+use Rattle.gcd_loop.specs.Recorded.{Grows}
+use Rattle.gcd_loop.specs.Rushed.{IsRushed}
+use Rattle.gcd_loop.proofs.Follows.{each_more}
+
+-- nothing was done
+pub rushed_none : (plan : PlanView) (h : List Event) → IsRushed plan h h
+rushed_none plan h = record {
+  rest = [];
+  split = sym (append-nil h);
+  calm = λ i e at. cc;
+  chosen = λ i e at. cc;
+}
+
+-- one event more
+pub rushed_more : (plan : PlanView) (h k : List Event) (e : Event) → IsRushed plan h k → IsCalm plan k → choice_of plan k 0 0 ≡ Some e
+    → IsRushed plan h (k ++ e ∷ [])
+rushed_more plan h k e rushed calm chosen = record {
+  rest = rushed.rest ++ e ∷ [];
+  split = ap (λ (l : List Event). l ++ e ∷ []) rushed.split ∙ append_assoc h rushed.rest (e ∷ []);
+  calm = each_more (λ past x. IsCalm plan (h ++ past)) rushed.rest e rushed.calm (subst (IsCalm plan) rushed.split calm);
+  chosen = each_more (λ past x. choice_of plan (h ++ past) 0 0 ≡ Some x) rushed.rest e rushed.chosen
+      (subst (λ (l : List Event). choice_of plan l 0 0 ≡ Some e) rushed.split chosen);
+}
+
+all_work : (events : List Event) → ((i : ℕ) (e : Event) → slice_get events i ≡ Some e → is_work e ≡ true) → list_all is_work events ≡ true
+all_work [] each = refl
+all_work (e ∷ events) each = and_from (is_work e) (list_all is_work events) (each zero e refl) (all_work events (λ i x at. each (suc i) x at))
+
+-- what is done so are events of workers
+pub rushed_grows : (plan : PlanView) (h k : List Event) → IsRushed plan h k → Grows h k
+rushed_grows plan h k rushed = record {
+  rest = rushed.rest;
+  split = rushed.split;
+  work = all_work rushed.rest (λ i e at. (choice_is_permitted plan (h ++ take i rushed.rest) 0 0 e (rushed.chosen i e at)).work);
+}
