@@ -2,7 +2,7 @@
 
 use crate::missed::Missed;
 use crate::script_shelf::ScriptShelf;
-use gcd_event::Event;
+use gcd_event::Entry;
 use gcd_plan::{MAX_EVENTS, MAX_SCRIPT_BYTES, Plan};
 use gcd_run::{Ended, Status};
 use gcd_script::parse;
@@ -49,7 +49,7 @@ fn say_run<R: Eprint>(
     most: u32,
     name: &str,
     script: &[u8],
-    events: &[Event],
+    events: &[Entry],
 ) {
     let Some(plan) = plan_of(alloc, script) else {
         return;
@@ -72,7 +72,7 @@ fn say_journal<R: Eprint>(
     plan: &Plan,
     text: &[u8],
     at: (u32, u32),
-    events: &[Event],
+    events: &[Entry],
 ) {
     if at.1 == 1 {
         if let Ok(sentence) = why_journal(alloc, plan, MAX_EVENTS, name, text, at.0) {

@@ -4,7 +4,7 @@ use Rattle.std.specs.Prelude.{◌≡◌, ℕ, Bool, true, false, if◌then◌els
 use Rattle.gcd_plan.specs.PlanView.{PlanView}
 use Rattle.gcd_plan.specs.declared.numbers.Blk.{Blk}
 use Rattle.gcd_lists.specs.ListsView.{ListsView, list_at, place_of}
-use Rattle.gcd_blockobj.specs.MarkRoom.{mark_room}
+use Rattle.gcd_plan.specs.Needs.{mark_room}
 
 -- for each block of which marks are kept, by number: whether it was cancelled before it started, whether it has started, whether
 -- it has ended, and the blocks that are to be submitted once it has ended, the first first, each with whether it is a barrier

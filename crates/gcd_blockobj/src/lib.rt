@@ -6,7 +6,6 @@
 //!
 //! | call | answer | what it leaves |
 //! |---|---|---|
-//! | `mark_room` | of how many blocks marks are kept: of none where no act of the plan cancels a block, waits for one or asks to be told of one | |
 //! | `Marks::new` | no block cancelled, started or ended, and none to be told; or out of memory | |
 //! | `copied` | the same marks once more; or out of memory | |
 //! | `cancel` | | the block cancelled, if it has not started |
@@ -20,7 +19,7 @@
 //! A block waits for the end of one block at a time. One that waits for a block that has ended already is due at once: `fired`
 //! gives it. Those of one block come in the order of `notify`.
 //!
-//! Marks are kept of each block or, where no act of the plan needs them, of none; a call on a block of which none are kept
+//! Marks are kept of each block or, where no act of the plan needs them, of none (`Plan::mark_room`); a call on a block of which none are kept
 //! changes nothing, and answers as before the first event. So a plan without such acts pays for three empty sets. `new` and
 //! `copied` take all memory; every other call takes none, cannot fail, and costs the same whatever the plan. The crate knows
 //! no history: that a block that waits here is submitted is for the caller to do, and so is that a cancelled block does nothing. It keeps its
@@ -28,7 +27,5 @@
 #![tactic(auto)]
 
 mod marks;
-mod room;
 
 pub use marks::Marks;
-pub use room::mark_room;

@@ -3,7 +3,6 @@ ghost use Rattle.std.specs.Prelude.{◌≡◌, ◌<◌, IfOk, IfSome, None, true
 ghost use Rattle.gcd_lists.specs.ListsView.{place_of};
 ghost use Rattle.gcd_blockobj.specs.MarksView.{marks_of, is_cancelled_at, with_cancelled, with_begun, with_ended, with_notify, with_fired, fires_at, awaited_by};
 
-use crate::room::mark_room;
 use gcd_lists::Lists;
 use gcd_plan::{Blk, Obj, Plan};
 use gcd_sets::BitSet;
@@ -56,7 +55,7 @@ impl Marks {
     pub fn new(alloc: Global, plan: &Plan) -> Result<Marks, AllocError>
         ensures { IfOk result (λ m. m ≡ marks_of plan.now) }
     {
-        let room = mark_room(plan);
+        let room = plan.mark_room();
         Ok(Marks {
             cancelled: BitSet::new(alloc, room)?,
             began: BitSet::new(alloc, room)?,
@@ -111,7 +110,7 @@ impl Marks {
 
     /// The second block waits to be submitted until the first has ended, behind all that wait for that
     /// (dispatch_block_notify(3)). It waits for no block before: [`Marks::awaited`] is the test. Marks are kept of both:
-    /// [`mark_room`] tells of how many.
+    /// [`Plan::mark_room`] tells of how many.
     pub fn notify(&mut self, b: Blk, c: Blk)
         requires awaited { b.0 < length self.old.notify.lists }
         requires waiting { c.0 < self.old.notify.blocks }

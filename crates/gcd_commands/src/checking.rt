@@ -11,7 +11,7 @@ ghost use Rattle.gcd_commands.specs.declared.stop.Stop.TheVariants.{Memory};
 use crate::load::{load_plan, load_whole};
 use crate::stop::Stop;
 use crate::story::Story;
-use gcd_event::Event;
+use gcd_event::Entry;
 use gcd_journal::{CheckFault, JournalFault, check, read_journal};
 use gcd_outer::Shelf;
 use gcd_plan::{MAX_EVENTS, MAX_FILE_BYTES, Plan};
@@ -24,7 +24,7 @@ fn load_journal<S: Shelf>(
     plan: &Plan,
     shelf: &mut S,
     name: &str,
-) -> Result<Vec<Event>, Stop>
+) -> Result<Vec<Entry>, Stop>
     ensures read { IfOk result (λ h. IsJournalAt (shelf_seen S.tells S.content S.loads S.faults shelf.old shelf.new) name.now plan.now h.items) }
     ensures stopped { IfErr result (StopsJournal (shelf_seen S.tells S.content S.loads S.faults shelf.old shelf.new) name.now plan.now) }
     ensures loads { MadeLoads (shelf_seen S.tells S.content S.loads S.faults shelf.old shelf.new) 1 }
@@ -40,7 +40,7 @@ fn load_journal<S: Shelf>(
 }
 
 // The events are judged. An `Err` comes where memory runs out.
-fn judge(alloc: Global, plan: &Plan, journal: Vec<Event>) -> Result<Story, AllocError>
+fn judge(alloc: Global, plan: &Plan, journal: Vec<Entry>) -> Result<Story, AllocError>
     requires few { length journal.items ≤ max_events }
     ensures { IfOk result (λ s. IsJudged plan.now journal.items (end_of s)) }
 {

@@ -9,7 +9,7 @@ ghost use Rattle.gcd_turn.specs.Asked.{KeepsListens};
 ghost use Rattle.gcd_commands.specs.Calls.{seen_by};
 ghost use Rattle.gcd_commands.specs.Runs.{Ran};
 
-use gcd_event::Event;
+use gcd_event::Entry;
 use gcd_outer::{Clock, Poller};
 use gcd_plan::Plan;
 use gcd_workers::{Outcome, run_workers};
@@ -18,7 +18,7 @@ use std::sync::Wait;
 use std::thread::Threads;
 
 /// The journal of a run, of which no more is kept.
-pub fn journal_of(run: Outcome) -> Vec<Event>
+pub fn journal_of(run: Outcome) -> Vec<Entry>
     ensures { result.items ≡ run.journal.items }
 {
     run.journal

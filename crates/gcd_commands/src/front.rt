@@ -24,7 +24,7 @@ use crate::pool_side::run_with_senders;
 use crate::senders::{open_senders, settle_all};
 use crate::stop::Stop;
 use crate::story::Story;
-use gcd_event::Event;
+use gcd_event::{Entry, Event};
 use gcd_front::Front;
 use gcd_history::State;
 use gcd_journal::write_last_line;
@@ -100,14 +100,14 @@ fn value_of(values: &[Option<u64>], b: Blk) -> u64
 
 // Adds the value of the block that the event accepts of this sender, where it accepts one.
 fn add_value(
-    event: &Event,
+    event: &Entry,
     values: &[Option<u64>],
     sender: u8,
     made: &mut Vec<u64>,
 ) -> Result<(), AllocError>
     ensures { OnOk result (made.new.items ≡ made.old.items ++ values_at values.now sender event.now) }
 {
-    match accepted_of(*event, sender) {
+    match accepted_of(event.event(), sender) {
         None => Ok(()),
         Some(b) => {
             made.push(value_of(values, b))?;
@@ -119,7 +119,7 @@ fn add_value(
 // The values of the blocks that were accepted of this sender, in order.
 fn values_of_sender(
     alloc: Global,
-    journal: &[Event],
+    journal: &[Entry],
     values: &[Option<u64>],
     sender: u8,
 ) -> Result<Vec<u64>, AllocError>
@@ -135,7 +135,7 @@ fn values_of_sender(
 // Adds a sender's line: how many of its jobs were accepted, and their values in one.
 fn add_sender(
     alloc: Global,
-    journal: &[Event],
+    journal: &[Entry],
     values: &[Option<u64>],
     sender: u8,
     text: &mut Vec<u8>,
@@ -155,7 +155,7 @@ fn text_of(
     alloc: Global,
     plan: &Plan,
     state: State,
-    journal: &[Event],
+    journal: &[Entry],
     values: &[Option<u64>],
     senders: u8,
 ) -> Result<Vec<u8>, AllocError>

@@ -23,7 +23,7 @@ use crate::engine::{journal_of, run_by};
 use crate::load::load_all;
 use crate::stop::Stop;
 use crate::story::Story;
-use gcd_event::Event;
+use gcd_event::Entry;
 use gcd_journal::{write_journal, write_report_by};
 use gcd_outer::{Clock, Poller, Shelf};
 use gcd_plan::Plan;
@@ -52,7 +52,7 @@ fn listen_at<P: Poller>(poller: &mut P, address: Option<&str>) -> Result<(), Sto
 fn add_journal(
     alloc: Global,
     plan: &Plan,
-    journal: &[Event],
+    journal: &[Entry],
     with_journal: bool,
     text: &mut Vec<u8>,
 ) -> Result<(), AllocError>

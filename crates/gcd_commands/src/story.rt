@@ -4,7 +4,7 @@ ghost use Rattle.gcd_commands.specs.End.{state_word};
 
 use crate::status::Status;
 use crate::stop::Stop;
-use gcd_event::Event;
+use gcd_event::Entry;
 use gcd_history::State;
 use std::alloc::{AllocError, Global};
 
@@ -14,7 +14,7 @@ pub struct Story {
     /// The status with which the call ends if the text can be written.
     pub status: Status,
     /// The journal of the run, or the one that was judged; empty if nothing ran or was read.
-    pub journal: Vec<Event>,
+    pub journal: Vec<Entry>,
     /// If a script is refused, the line, from 1, and the code; line 0 is the script as a whole. If a journal is refused, the line
     /// and 1, or the index of the event, from 0, and 2.
     pub at: Option<(u32, u32)>,
@@ -107,7 +107,7 @@ impl Story {
     /// A run that has come to this state, with what is told of it, where memory sufficed for that.
     pub(crate) fn ran(
         state: State,
-        journal: Vec<Event>,
+        journal: Vec<Entry>,
         text: Result<Vec<u8>, AllocError>,
     ) -> Result<Self, AllocError>
         ensures { (reported : List ℕ) → IfOk text (λ t. t.items ≡ reported) → IfOk result (λ s. end_of s ≡ ran_end state journal.items reported) }
@@ -123,7 +123,7 @@ impl Story {
     /// A journal whose events are lawful and have come to this state.
     pub(crate) fn lawful(
         alloc: Global,
-        journal: Vec<Event>,
+        journal: Vec<Entry>,
         state: State,
     ) -> Result<Self, AllocError>
         ensures { IfOk result (λ s. end_of s ≡ lawful_end journal.items state) }
@@ -142,7 +142,7 @@ impl Story {
     /// A journal whose event at this index is the first that is not permitted.
     pub(crate) fn unlawful(
         alloc: Global,
-        journal: Vec<Event>,
+        journal: Vec<Entry>,
         index: u32,
     ) -> Result<Self, AllocError>
         ensures { IfOk result (λ s. end_of s ≡ unlawful_end journal.items index) }

@@ -9,6 +9,7 @@ use Rattle.std.proofs.lemmas.Grind.{flat_map-append}
 use Rattle.gcd_plan.specs.PlanView.{PlanView}
 use Rattle.gcd_plan.specs.Validity.{IsPlan}
 use Rattle.gcd_event.specs.declared.event.Event.{Event}
+use Rattle.gcd_event.specs.Fits.{IsFitting}
 use Rattle.gcd_history.specs.JournalText.{event_line, count_line, journal_text}
 use Rattle.gcd_text.specs.Fields.{IsWithout, fields_of}
 use Rattle.gcd_journal.specs.Spoken.{IsSpoken, AreSpoken}
@@ -103,6 +104,10 @@ module _ (most : ℕ) (plan : PlanView) (look : Look) (valid : IsPlan plan) (kno
   line_is_its line e at =
       let back = spelled_back plan look valid knows.sound (fields_of line) e at in
       (back.0, ap (join_with_byte 32) back.1 ∙ join_with_byte-slice_split 32 line)
+
+  -- an event that a line spells fits
+  pub spelled_fits : (rest more : List ℕ) (e : Event) → LineSpells look rest more e → IsFitting e
+  spelled_fits rest more e line = (line_is_its line.line e line.spells).0.fits
 
   pub one_more_read : (text : List ℕ) (h : List Event) (rest more : List ℕ) (e : Event) → HasRead most plan text h rest → LineSpells look rest more e → length h < most
       → HasRead most plan text (h ++ e ∷ []) more

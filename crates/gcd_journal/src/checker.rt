@@ -3,7 +3,7 @@ ghost use Rattle.std.specs.Prelude.{◌≡◌, ◌<◌, ◌^◌, [], length, IfO
 ghost use Rattle.gcd_machine.specs.Stands.{StandsFor};
 ghost use Rattle.gcd_journal.specs.Judged.{IsLawfulWith, IsFaultOf};
 
-use gcd_event::Event;
+use gcd_event::Entry;
 use gcd_history::State;
 use gcd_machine::Machine;
 use gcd_plan::Plan;
@@ -31,7 +31,7 @@ impl From<AllocError> for CheckFault {
 /// Judges a run of the plan by its events: the state to which they have come where each is permitted at its position, and else
 /// `Unlawful` at exactly the first that is not. No event after it is looked at. `Memory` comes only where memory runs out for the
 /// machine, which is taken at the begin. It costs what the machine's steps cost.
-pub fn check(alloc: Global, plan: &Plan, events: &[Event]) -> Result<State, CheckFault>
+pub fn check(alloc: Global, plan: &Plan, events: &[Entry]) -> Result<State, CheckFault>
     requires { length events.now < 2 ^ 32 }
     ensures lawful { IfOk result (IsLawfulWith plan.now events.now) }
     ensures fault { IfErr result (IsFaultOf plan.now events.now) }
@@ -41,19 +41,20 @@ pub fn check(alloc: Global, plan: &Plan, events: &[Event]) -> Result<State, Chec
 }
 
 // Lets a machine that has taken nothing take the events as long as each is permitted.
-fn judged(plan: &Plan, machine: &mut Machine, events: &[Event]) -> Result<State, CheckFault>
+fn judged(plan: &Plan, machine: &mut Machine, events: &[Entry]) -> Result<State, CheckFault>
     requires begin { StandsFor machine.old plan.now [] }
     requires few { length events.now < 2 ^ 32 }
     ensures lawful { IfOk result (IsLawfulWith plan.now events.now) }
     ensures fault { IfErr result (IsFaultOf plan.now events.now) }
 {
     for (index, e) in events.iter().enumerate() {
-        if machine.permits(*e).is_some() {
+        let event = e.event();
+        if machine.permits(event).is_some() {
             return Err(CheckFault::Unlawful {
                 index: index as u32,
             });
         }
-        machine.apply(*e);
+        machine.apply(event);
     }
     Ok(machine.state())
 }

@@ -1,6 +1,7 @@
 // Reads a journal.
 ghost use Rattle.std.specs.Prelude.{◌≡◌, ◌≢◌, ◌∷◌, ◌++◌, [], codes, IfErr, IfOk, OnOk, MatchBool};
 ghost use Rattle.std.specs.Fmt.{decimal};
+ghost use Rattle.gcd_event.specs.Fits.{IsFitting};
 ghost use Rattle.gcd_text.specs.Fields.{IsWithout};
 ghost use Rattle.gcd_journal.specs.Journals.{IsJournal, IsNear, IsRefusal};
 ghost use Rattle.gcd_journal.specs.Named.{look_of};
@@ -8,7 +9,7 @@ ghost use Rattle.gcd_journal.specs.NextLine.{IsNext};
 
 use crate::names::Names;
 use crate::spelling::event_in;
-use gcd_event::Event;
+use gcd_event::{Entry, Event};
 use gcd_plan::Plan;
 use gcd_text::cut_at;
 use itoa::Buffer;
@@ -88,10 +89,11 @@ fn next_line<'a>(names: &Names, text: &'a [u8], count: usize, most: u32) -> Line
 }
 
 // One event more.
-fn add(events: &mut Vec<Event>, e: Event) -> Result<(), AllocError>
+fn add(events: &mut Vec<Entry>, e: Event) -> Result<(), AllocError>
+    requires { IsFitting e }
     ensures { OnOk result (events.new.items ≡ events.old.items ++ e ∷ []) }
 {
-    events.push(e)?;
+    events.push(Entry::of(e))?;
     Ok(())
 }
 
@@ -104,7 +106,7 @@ pub fn read_journal(
     plan: &Plan,
     most: u32,
     bytes: &[u8],
-) -> Result<Vec<Event>, JournalFault>
+) -> Result<Vec<Entry>, JournalFault>
     ensures journal { IfOk result (λ events. IsJournal most plan.now bytes.now events.items) }
     ensures fault { IfErr result (IsRefusal most plan.now bytes.now) }
     ensures near { IfErr result (IsNear bytes.now) }

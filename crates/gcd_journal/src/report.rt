@@ -15,7 +15,7 @@ ghost use Rattle.gcd_journal.specs.Totals.{AreTotals, AreValues};
 
 use crate::lines::{name_of, push_number};
 use crate::totals::{Total, replayed, totals_by};
-use gcd_event::Event;
+use gcd_event::{Entry, Event};
 use gcd_history::State;
 use gcd_machine::Machine;
 use gcd_plan::{Blk, Obj, Plan, Reason};
@@ -368,13 +368,13 @@ fn push_misuse_line(text: &mut Vec<u8>, plan: &Plan, e: Event) -> Result<(), All
 }
 
 // The line of the last event, where that is a misuse.
-fn push_last_misuse(text: &mut Vec<u8>, plan: &Plan, events: &[Event]) -> Result<(), AllocError>
+fn push_last_misuse(text: &mut Vec<u8>, plan: &Plan, events: &[Entry]) -> Result<(), AllocError>
     requires { AreSpoken plan.now events.now }
     ensures { OnOk result (text.new.items ≡ text.old.items ++ option_map_or (misuse_line plan.now) (slice_get events.now (length events.now - 1)) []) }
 {
     match events.last() {
         None => Ok(()),
-        Some(e) => push_misuse_line(text, plan, *e),
+        Some(e) => push_misuse_line(text, plan, e.event()),
     }
 }
 
@@ -383,7 +383,7 @@ fn push_last(
     text: &mut Vec<u8>,
     plan: &Plan,
     state: State,
-    events: &[Event],
+    events: &[Entry],
 ) -> Result<(), AllocError>
     requires { AreSpoken plan.now events.now }
     ensures { OnOk result (text.new.items ≡ text.old.items ++ last_line plan.now state events.now) }
@@ -405,7 +405,7 @@ pub fn push_report(
     machine: &Machine,
     totals: &[Total],
     values: &[u64],
-    events: &[Event],
+    events: &[Entry],
 ) -> Result<(), AllocError>
     requires stands { StandsFor machine.now plan.now events.now }
     requires totals { AreTotals plan.now events.now totals.now }
@@ -427,7 +427,7 @@ fn report_by(
     machine: &Machine,
     totals: &[Total],
     values: &[u64],
-    events: &[Event],
+    events: &[Entry],
 ) -> Result<Vec<u8>, AllocError>
     requires stands { StandsFor machine.now plan.now events.now }
     requires totals { AreTotals plan.now events.now totals.now }
@@ -445,7 +445,7 @@ fn report_of(
     alloc: Global,
     plan: &Plan,
     values: &[u64],
-    events: &[Event],
+    events: &[Entry],
 ) -> Result<Vec<u8>, AllocError>
     requires lawful { IsLawful plan.now events.now }
     requires few { length events.now < 2 ^ 32 }
@@ -463,7 +463,7 @@ fn report_on(
     plan: &Plan,
     machine: &Machine,
     values: &[u64],
-    events: &[Event],
+    events: &[Entry],
 ) -> Result<Vec<u8>, AllocError>
     requires stands { StandsFor machine.now plan.now events.now }
     requires lawful { IsLawful plan.now events.now }
@@ -485,7 +485,7 @@ pub fn write_report(
     alloc: Global,
     plan: &Plan,
     values: &[u64],
-    events: &[Event],
+    events: &[Entry],
     into: &mut Vec<u8>,
 ) -> Result<(), AllocError>
     requires lawful { IsLawful plan.now events.now }
@@ -507,7 +507,7 @@ pub fn write_report_by(
     plan: &Plan,
     machine: &Machine,
     values: &[u64],
-    events: &[Event],
+    events: &[Entry],
     into: &mut Vec<u8>,
 ) -> Result<(), AllocError>
     requires stands { StandsFor machine.now plan.now events.now }
@@ -528,7 +528,7 @@ pub fn write_last_line(
     alloc: Global,
     plan: &Plan,
     state: State,
-    events: &[Event],
+    events: &[Entry],
     into: &mut Vec<u8>,
 ) -> Result<(), AllocError>
     requires { AreSpoken plan.now events.now }

@@ -8,7 +8,7 @@ ghost use Rattle.gcd_history.specs.History.{IsLawful, why};
 ghost use Rattle.gcd_machine.specs.Stands.{StandsFor};
 ghost use Rattle.gcd_journal.specs.Totals.{AreTotals, MayNote, no_total};
 
-use gcd_event::Event;
+use gcd_event::{Entry, Event};
 use gcd_machine::Machine;
 use gcd_plan::{Kind, Obj, Plan, Run};
 use std::alloc::{AllocError, Global};
@@ -77,7 +77,7 @@ fn no_totals(alloc: Global, objects: u32) -> Result<Vec<Total>, AllocError>
 }
 
 /// Takes the events, which are lawful. It costs what the machine's steps cost.
-pub fn replayed(alloc: Global, plan: &Plan, events: &[Event]) -> Result<Replay, AllocError>
+pub fn replayed(alloc: Global, plan: &Plan, events: &[Entry]) -> Result<Replay, AllocError>
     requires lawful { IsLawful plan.now events.now }
     requires few { length events.now < 2 ^ 32 }
     ensures stands { IfOk result (λ r. StandsFor r.machine plan.now events.now) }
@@ -86,8 +86,9 @@ pub fn replayed(alloc: Global, plan: &Plan, events: &[Event]) -> Result<Replay, 
     let mut totals = no_totals(alloc, plan.objects())?;
     let mut machine = Machine::new(alloc, plan)?;
     for e in events {
-        machine.apply(*e);
-        note(plan, &machine, *e, &mut totals);
+        let event = e.event();
+        machine.apply(event);
+        note(plan, &machine, event, &mut totals);
     }
     Ok(Replay { machine, totals })
 }
@@ -107,7 +108,7 @@ fn has_source(plan: &Plan) -> bool
 
 /// The totals of lawful events. Where no object of the plan is a source no event is looked at; else it costs what the machine's
 /// steps cost.
-pub fn totals_by(alloc: Global, plan: &Plan, events: &[Event]) -> Result<Vec<Total>, AllocError>
+pub fn totals_by(alloc: Global, plan: &Plan, events: &[Entry]) -> Result<Vec<Total>, AllocError>
     requires lawful { IsLawful plan.now events.now }
     requires few { length events.now < 2 ^ 32 }
     ensures { IfOk result (λ t. AreTotals plan.now events.now t.items) }

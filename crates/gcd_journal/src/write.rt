@@ -4,7 +4,7 @@ ghost use Rattle.gcd_history.specs.JournalText.{event_line, count_line, journal_
 ghost use Rattle.gcd_journal.specs.Spoken.{AreSpoken, IsNamed};
 
 use crate::lines::{push_count, push_event};
-use gcd_event::Event;
+use gcd_event::{Entry, Event};
 use gcd_plan::Plan;
 use std::alloc::{AllocError, Global};
 
@@ -40,7 +40,7 @@ fn add_count(line: &mut Vec<u8>, count: usize, into: &mut Vec<u8>) -> Result<(),
 pub fn write_journal(
     alloc: Global,
     plan: &Plan,
-    events: &[Event],
+    events: &[Entry],
     into: &mut Vec<u8>,
 ) -> Result<(), AllocError>
     requires { AreSpoken plan.now events.now }
@@ -59,7 +59,7 @@ pub fn write_journal(
 fn add_journal(
     alloc: Global,
     plan: &Plan,
-    events: &[Event],
+    events: &[Entry],
     into: &mut Vec<u8>,
 ) -> Result<(), AllocError>
     requires { AreSpoken plan.now events.now }
@@ -68,7 +68,7 @@ fn add_journal(
 {
     let mut line = Vec::with_capacity(alloc, 64)?;
     for e in events {
-        add_event(&mut line, plan, *e, into)?;
+        add_event(&mut line, plan, e.event(), into)?;
     }
     add_count(&mut line, events.len(), into)
 }

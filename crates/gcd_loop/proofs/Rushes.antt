@@ -33,6 +33,28 @@ rushed_more plan h k e rushed calm chosen = record {
       (subst (λ (l : List Event). choice_of plan l 0 0 ≡ Some e) rushed.split chosen);
 }
 
+-- what holds of each event of a history, and of each event behind it
+each_behind : (P : List Event → Event → Type 0) (h k : List Event)
+    → ((i : ℕ) (x : Event) → slice_get h i ≡ Some x → P (take i h) x)
+    → ((i : ℕ) (x : Event) → slice_get k i ≡ Some x → P (h ++ take i k) x)
+    → (i : ℕ) (x : Event) → slice_get (h ++ k) i ≡ Some x → P (take i (h ++ k)) x
+each_behind P [] k first later i x at = later i x at
+each_behind P (e ∷ h) k first later zero x at = first zero x at
+each_behind P (e ∷ h) k first later (suc i) x at = each_behind (λ past. P (e ∷ past)) h k (λ n. first (suc n)) later i x at
+
+-- one rush after another
+pub rushed_on : (plan : PlanView) (h k l : List Event) → IsRushed plan h k → IsRushed plan k l → IsRushed plan h l
+rushed_on plan h k l first later =
+    record {
+      rest = first.rest ++ later.rest;
+      split = later.split ∙ (ap (λ (x : List Event). x ++ later.rest) first.split ∙ append_assoc h first.rest later.rest);
+      calm = each_behind (λ past x. IsCalm plan (h ++ past)) first.rest later.rest first.calm
+          (λ i x at. subst (IsCalm plan) (ap (λ (y : List Event). y ++ take i later.rest) first.split ∙ append_assoc h first.rest (take i later.rest)) (later.calm i x at));
+      chosen = each_behind (λ past x. choice_of plan (h ++ past) 0 0 ≡ Some x) first.rest later.rest first.chosen
+          (λ i x at.
+          subst (λ (y : List Event). choice_of plan y 0 0 ≡ Some x) (ap (λ (y : List Event). y ++ take i later.rest) first.split ∙ append_assoc h first.rest (take i later.rest)) (later.chosen i x at));
+    }
+
 all_work : (events : List Event) → ((i : ℕ) (e : Event) → slice_get events i ≡ Some e → is_work e ≡ true) → list_all is_work events ≡ true
 all_work [] each = refl
 all_work (e ∷ events) each = and_from (is_work e) (list_all is_work events) (each zero e refl) (all_work events (λ i x at. each (suc i) x at))

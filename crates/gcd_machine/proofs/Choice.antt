@@ -9,5 +9,7 @@ pub mod Expiries
 pub mod Ending
 pub mod Calm
 pub mod Quick
+pub mod Slow
 pub mod Calls
 pub mod QuickSteps
+pub mod RunSteps

@@ -15,3 +15,4 @@ pub mod Blocks
 pub mod Acts
 pub mod All
 pub mod Applied
+pub mod Passing

@@ -21,11 +21,12 @@ use Rattle.gcd_sema.specs.SemasView.{waits_at, signals_at, room_at, is_expired_a
 use Rattle.gcd_source.specs.SourcesView.{pending_at, is_cancelled_at, merged_at}
 use Rattle.gcd_timer.specs.TimersView.{due_count_at, activated_at, cancelled_at}
 use Rattle.gcd_sync.specs.WaitsView.{Fits, reason_at, limit_at}
-use Rattle.gcd_refinement.specs.MachineView.{MachineView, block_at, handler_at, refs_at, applier_at}
+use Rattle.gcd_refinement.specs.MachineView.{MachineView, at_worker, block_at, handler_at, refs_at, applier_at}
 use Rattle.gcd_refinement.specs.Submits.{done_by}
 use Rattle.gcd_refinement.specs.AfterSleepers.{bed_of}
 use Rattle.gcd_refinement.specs.AfterLimits.{limit_in_view}
 use Rattle.gcd_plan.specs.Limits.{max_blocks, max_objects}
+use Rattle.gcd_machine.specs.Steps.{stepped}
 
 -- ## Workers and wakes
 
@@ -65,8 +66,8 @@ pub record CanLetGo (m : MachineView) (b : Blk) : Type 0 where
 -- blocks may sleep at the object
 pub record CanWakeAt (m : MachineView) (o : Obj) : Type 0 where
   pub object : o.0 < length m.sleepers.lists
-  pub blocks : m.sleepers.blocks ≡ length m.wakeable
-  pub ripe : m.sleepers.blocks ≡ length m.ripe
+  pub blocks : m.sleepers.blocks ≤ length m.wakeable
+  pub ripe : m.sleepers.blocks ≤ length m.ripe
 
 -- the limit of block b's wait may be ahead
 pub record CanBeAhead (m : MachineView) (b : Blk) (end : ℕ) : Type 0 where
@@ -94,14 +95,18 @@ pub record CanClose (m : MachineView) (n : Obj) : Type 0 where
   pub node : n.0 < length m.tree.targets
   pub is_open : 0 < open_on_at m.tree n.0
 
+-- the first block on the node may leave its list
+pub record CanTakeOff (m : MachineView) (n : Obj) : Type 0 where
+  pub list : n.0 < length m.lists.lists
+  pub marked : n.0 < length m.busy
+  pub pending : HasPending m n
+
 -- the run of a block, a barrier or not, may open on the node
 pub record CanBegin (m : MachineView) (n : Obj) (barrier : Bool) : Type 0 where
-  pub list : n.0 < length m.lists.lists
+  pub off : CanTakeOff m n
   pub opens : CanOpen m n
   pub fenced : n.0 < length m.drains.barriers
   pub barriers : barrier ≡ true → barriers_at m.drains n.0 + 1 < 2 ^ 32
-  pub marked : n.0 < length m.busy
-  pub pending : HasPending m n
 
 -- the run of a block, a barrier or not, is open on the node
 pub record CanCloseOn (m : MachineView) (n : Obj) (barrier : Bool) : Type 0 where
@@ -540,3 +545,23 @@ CanChange m Shut = Unit {0}
 pub record CanTake (m : MachineView) (e : Event) : Type 0 where
   pub room : m.len + 1 < 2 ^ 32
   pub changes : CanChange m e
+
+-- ## A start and an end at once
+
+-- block b may have started and be over
+pub record CanPass (m : MachineView) (b : Blk) : Type 0 where
+  pub blk : b.0 < length m.blocks
+  pub ended : b.0 < length m.ended
+  pub left : 0 < m.left
+  pub node : (n : Obj) → (block_at m b.0).node ≡ Some n → CanTakeOff m n
+
+-- worker w, which has no run, may start block b and then end it
+pub record CanRun (m : MachineView) (w : ℕ) (b : Blk) : Type 0 where
+  pub free : at_worker m w ≡ None
+  pub starts : CanTake m (Start w b)
+  pub ends : CanTake (stepped m (Start w b)) (End w b)
+
+-- some worker may
+pub record MayRun (m : MachineView) (b : Blk) : Type 0 where
+  pub worker : ℕ
+  pub can : CanRun m worker b

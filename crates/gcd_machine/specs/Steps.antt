@@ -44,14 +44,13 @@ set_free m w = record m { workers = slice_set m.workers w None; running = m.runn
 
 -- ## Runs on a node
 
+-- the first block on the node has left its list
+abbrev pub taken_off : MachineView → Obj → MachineView
+taken_off m n = record m { lists = popped m.lists (Some n); busy = unmarked m (Some n) }
+
 -- the first block on the node has left its list, and its run is open there
 abbrev pub begun_on : MachineView → Obj → (barrier : Bool) → MachineView
-begun_on m n barrier = record m {
-  lists = popped m.lists (Some n);
-  tree = opened m.tree (Some n);
-  drains = barrier_began m.drains (Some n) barrier;
-  busy = unmarked m (Some n);
-}
+begun_on m n barrier = record (taken_off m n) { tree = opened m.tree (Some n); drains = barrier_began m.drains (Some n) barrier }
 
 -- a run that was open on the node has closed
 abbrev pub closed_on : MachineView → Obj → (barrier : Bool) → MachineView
@@ -306,6 +305,13 @@ member_left m group = option_map_or (left_group m) group m
 
 abbrev pub ended : MachineView → ℕ → Blk → MachineView
 ended m w b = member_left (waits_ended (told_at (closed_block m w b) b) b (block_at m b.0).caller) (block_at m b.0).group
+
+-- block b has started and is over, and nothing that waited for its end has changed
+abbrev pub passed : MachineView → Blk → MachineView
+passed m b =
+    let noted : MachineView = record m { blocks = with_block m.blocks b.0 (λ x. record x { started = true }); marks = with_begun m.marks b.0 } in
+    let off : MachineView = option_map_or (taken_off noted) (block_at m b.0).node noted in
+    record off { ended = slice_set off.ended b.0 true; left = off.left - 1; marks = with_ended off.marks b.0 }
 
 -- worker w has handed what is pending at source s to its handler
 abbrev pub delivered : MachineView → ℕ → Obj → MachineView

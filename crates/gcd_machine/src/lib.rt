@@ -10,7 +10,8 @@
 //! | `permits` | the first reason why the event may not come next (`why`), or None |
 //! | `apply` | takes a permitted event: what the machine stood for, with the event |
 //! | `choose` | what a worker records next (`choice_of`), permitted and the worker's own |
-//! | `quick` | takes at once what `choose` would give, if that is the end of a block, an async of a block or, as long as no run is open on an object, the start of a block (`IsTaken`); or None, and nothing is changed |
+//! | `quick` | takes at once what `choose` would give, if that is the end of a block, an async of a block or, as long as no run is open on an object, the start of a block (`quick_of`, `IsTaken`); or None, and nothing is changed |
+//! | `quick_run` | takes at once the start of a block that `quick` would take and the end of it, if that is the worker's next event (`IsRunNext`, `IsRunTaken`); or None, and nothing is changed |
 //! | `is_calm` | whether nothing can come of poller, clock or outside callers (`IsCalm`) |
 //! | `begin_on` | what a worker may begin on a node: a Start or a Deliver (`begin_of`) |
 //! | `expiry` | the Expire that worker 0 records (`expiry_of`), or None where no wait may expire |

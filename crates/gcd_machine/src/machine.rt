@@ -1,6 +1,7 @@
 // A machine that stands for a plan and what has happened so far.
 ghost use Rattle.std.specs.Prelude.{◌≡◌, ◌<◌, ◌-◌, ◌++◌, ◌∷◌, ◌↔◌, [], false, List, None, Option, IfOk, IfSome, IsTrue, find, length, option_map};
 ghost use Rattle.std.specs.List.{range_with_len};
+ghost use Rattle.gcd_plan.specs.declared.numbers.Blk.{Blk};
 ghost use Rattle.gcd_plan.specs.PlanView.{PlanView};
 ghost use Rattle.gcd_event.specs.declared.event.Event.{Event};
 ghost use Rattle.gcd_history.specs.Choice.{is_work, worker_of};
@@ -8,7 +9,7 @@ ghost use Rattle.gcd_history.specs.Ends.{HasState, IsQuiescent, is_halted};
 ghost use Rattle.gcd_history.specs.History.{awaited_of, choice_of, expiry_of, last_data_of, first_waiting_of, next_of_intake, is_block_cancelled, is_ended, is_intake_open, is_live_feed, is_started, next_due_of, node_of, parks, pending_of, running_of, why};
 ghost use Rattle.gcd_machine.specs.Begins.{begin_of};
 ghost use Rattle.gcd_machine.specs.Calm.{IsCalm};
-ghost use Rattle.gcd_machine.specs.Quick.{IsTaken, MayStep};
+ghost use Rattle.gcd_machine.specs.Quick.{IsRunNext, IsRunTaken, IsTaken, MayStep, MayStepTwice, quick_of};
 ghost use Rattle.gcd_machine.specs.Stands.{MayApply, StandsFor};
 
 use crate::registers::Registers;
@@ -114,16 +115,30 @@ impl Machine {
 
     /// Takes what the worker records next, the objects from number 0 on, if that is the end of a block, an async of a block or, as long
     /// as no run is open on an object, the start of a block. Otherwise it takes nothing, answers None and leaves all as it was (this
-    /// project's own rule). It costs as much as [`Machine::choose`] and [`Machine::apply`]. The contract says what it takes, and not when: it
-    /// may take nothing at any time, and a caller then asks [`Machine::choose`].
+    /// project's own rule). It costs as much as [`Machine::choose`] and [`Machine::apply`].
     #[inline(always)]
     pub fn quick(&mut self, worker: u8) -> Option<Event>
         requires { MayStep self.old }
         ensures plan { self.new.plan ≡ self.old.plan }
+        ensures choice { (plan : PlanView) (h : List Event) → StandsFor self.old plan h → result ≡ quick_of plan h worker }
         ensures taken { (plan : PlanView) (h : List Event) → StandsFor self.old plan h → IfSome result (λ e. IsTaken plan h worker e self.new) }
         ensures nothing { result ≡ None → self.new ≡ self.old }
     {
         self.registers.quick(worker)
+    }
+
+    /// Takes at once the start of the block that the worker starts next and then its end, which is its next event, if [`Machine::quick`]
+    /// takes that start. Otherwise it takes nothing, answers None and leaves all as it was (this project's own rule). It costs as much as
+    /// [`Machine::choose`] and twice [`Machine::apply`] at most.
+    #[inline(always)]
+    pub fn quick_run(&mut self, worker: u8) -> Option<Blk>
+        requires { MayStepTwice self.old }
+        ensures plan { self.new.plan ≡ self.old.plan }
+        ensures taken { (plan : PlanView) (h : List Event) → StandsFor self.old plan h → IfSome result (λ b. IsRunTaken plan h worker b self.new) }
+        ensures none { (plan : PlanView) (h : List Event) (b : Blk) → StandsFor self.old plan h → result ≡ None → IsRunNext plan h worker b → ⊥ }
+        ensures nothing { result ≡ None → self.new ≡ self.old }
+    {
+        self.registers.quick_run(worker)
     }
 
     /// The Expire that worker 0 records: that of the parked block with the least number whose wait may expire. None exactly where

@@ -3,7 +3,7 @@
 use crate::cancelled::Cancelled;
 use crate::queues::Queues;
 use crate::showing::Showing;
-use gcd_event::Event;
+use gcd_event::{Entry, Event};
 use gcd_plan::{Obj, Run};
 use gcd_timeline::Mark;
 use std::alloc::{AllocError, Global};
@@ -30,15 +30,15 @@ pub struct Bar {
 }
 
 // Whether the event at the place is an act, and so parks the run that it gives back.
-fn is_parked_at(events: &[Event], place: usize) -> bool {
+fn is_parked_at(events: &[Entry], place: usize) -> bool {
     match events.get(place) {
-        Some(event) => matches!(event, Event::Act { .. }),
+        Some(event) => matches!(event.event(), Event::Act { .. }),
         None => false,
     }
 }
 
 // Where the run of a mark goes on after a stretch, if it is parked.
-fn parked_after(mark: &Mark, stretch: usize, events: &[Event]) -> Option<(u8, usize)> {
+fn parked_after(mark: &Mark, stretch: usize, events: &[Entry]) -> Option<(u8, usize)> {
     let current = mark.stretches.get(stretch)?;
     if !is_parked_at(events, current.to) {
         return None;
@@ -72,7 +72,7 @@ fn add_bars(
     mark: &Mark,
     queues: &Queues,
     cancelled: &Cancelled,
-    events: &[Event],
+    events: &[Entry],
 ) -> Result<(), AllocError> {
     for (index, stretch) in mark.stretches.iter().enumerate() {
         bars.push(Bar {

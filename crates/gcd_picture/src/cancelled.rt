@@ -1,6 +1,6 @@
 // Which blocks are cancelled.
 
-use gcd_event::Event;
+use gcd_event::{Entry, Event};
 use gcd_plan::{Act, Blk, Plan, Run};
 use gcd_timeline::act_at;
 use std::alloc::{AllocError, Global};
@@ -30,14 +30,15 @@ fn cancelled_by(plan: &Plan, event: Event) -> Option<Blk> {
 
 impl Cancelled {
     /// Those of the events; an `Err` comes only where memory runs out.
-    pub fn new(alloc: Global, plan: &Plan, events: &[Event]) -> Result<Cancelled, AllocError> {
+    pub fn new(alloc: Global, plan: &Plan, events: &[Entry]) -> Result<Cancelled, AllocError> {
         let mut started = vec![in alloc; false; plan.blocks() as usize]?;
         let mut blocks = vec![in alloc; false; plan.blocks() as usize]?;
-        for event in events {
+        for entry in events {
+            let event = entry.event();
             if let Event::Start { blk, .. } = event {
-                put(&mut started, *blk, true);
+                put(&mut started, blk, true);
             }
-            if let Some(b) = cancelled_by(plan, *event) {
+            if let Some(b) = cancelled_by(plan, event) {
                 if !started.get(b.0 as usize).copied().unwrap_or(true) {
                     put(&mut blocks, b, true);
                 }

@@ -4,7 +4,7 @@ use crate::bars::Bar;
 use crate::parking::Parking;
 use crate::scale::{Scale, Tenths};
 use crate::showing::Showing;
-use gcd_event::Event;
+use gcd_event::{Entry, Event};
 use std::alloc::{AllocError, Global};
 
 /// The height of a bar.
@@ -51,8 +51,8 @@ pub struct Frame {
 }
 
 // Whether the event is told in the row of the outside.
-fn is_outside(event: &Event) -> bool {
-    match event {
+fn is_outside(entry: &Entry) -> bool {
+    match entry.event() {
         Event::Tick { .. } | Event::Ready { .. } | Event::FeedEnd { .. } => true,
         Event::Halt | Event::Expire { .. } | Event::Misuse { .. } => true,
         Event::Accept { .. } | Event::Shut => true,

@@ -10,7 +10,7 @@ use crate::naming::{awaited_text, run_name};
 use crate::rows::Rows;
 use crate::scale::Tenths;
 use crate::verticals::Verticals;
-use gcd_event::Event;
+use gcd_event::{Entry, Event};
 use gcd_plan::Run;
 use std::alloc::{AllocError, Global};
 use std::fmt::Write;
@@ -144,12 +144,20 @@ fn push_wait(
     let lane = bar.worker as usize;
     let clear = verticals.beneath(lane, x, row).unwrap_or(edge);
     let room = Tenths(end.0.min(clear.0)).minus(x).minus(Tenths::pixels(4));
-    let awaited = awaited_text(alloc, drawing.showing.plan, *event)?;
+    let awaited = awaited_text(alloc, drawing.showing.plan, event.event())?;
     let awaited = awaited.as_str();
     let wait = format!(in alloc; "for {awaited}")?;
     let y = frame.row(lane, row).saturating_sub(3);
     let x = x.plus(Tenths::pixels(4));
     push_cut(into, "wait", wait.as_str(), x, y, room.0 / SMALL)
+}
+
+// The worker whose misuse ended the run.
+fn misused_by(events: &[Entry]) -> Option<u8> {
+    match events.last()?.event() {
+        Event::Misuse { worker, .. } => Some(worker),
+        _ => None,
+    }
 }
 
 /// Adds the names of the bars, and what the parked runs wait for.
@@ -158,9 +166,9 @@ pub fn push_labels(alloc: Global, into: &mut String, drawing: Drawing) -> Result
     let mut rows = Rows::new(alloc, frame.lanes)?;
     let mut verticals = Verticals::new(alloc, drawing)?;
     // The cross of a misuse is eight pixels wide to each side.
-    if let Some(Event::Misuse { worker, .. }) = drawing.showing.events.last() {
+    if let Some(worker) = misused_by(drawing.showing.events) {
         let x = frame.scale.at(events.saturating_sub(1));
-        verticals.end_above(*worker as usize, x.minus(Tenths::pixels(9)))?;
+        verticals.end_above(worker as usize, x.minus(Tenths::pixels(9)))?;
     }
     for (number, bar) in drawing.bars.iter().enumerate() {
         push_name(into, drawing, bar, &mut rows, &mut verticals)?;

@@ -6,7 +6,7 @@ use crate::escape::push_xml;
 use crate::frame::BAR;
 use crate::naming::{awaited_text, node_name, run_name};
 use crate::scale::Tenths;
-use gcd_event::Event;
+use gcd_event::Entry;
 use gcd_plan::{Plan, Run};
 use std::alloc::{AllocError, Global};
 use std::fmt::Write;
@@ -39,7 +39,7 @@ pub fn bar_width(drawing: Drawing, bar: &Bar) -> Tenths {
 }
 
 // Whether nothing gives the run of a bar back.
-fn openness(bar: &Bar, events: &[Event]) -> &'static str {
+fn openness(bar: &Bar, events: &[Entry]) -> &'static str {
     if bar.to >= events.len() { " open" } else { "" }
 }
 
@@ -130,7 +130,7 @@ fn push_parked(
         return Ok(());
     };
     push_path(into, drawing, bar, row, worker, next)?;
-    let awaited = awaited_text(alloc, plan, *event)?;
+    let awaited = awaited_text(alloc, plan, event.event())?;
     push_told(into, plan, bar, awaited.as_str(), next < events.len())
 }
 

@@ -113,11 +113,12 @@ fn push_outside(
 /// Adds the lines of ticks, of what came on feeds, of jobs from outside, of waits that expired and of a halt, and their words.
 pub fn push_marks(alloc: Global, into: &mut String, drawing: Drawing) -> Result<(), AllocError> {
     let mut rows = Rows::new(alloc, 1)?;
-    for (place, event) in drawing.showing.events.iter().enumerate() {
-        if let Some((class, words)) = words_of(alloc, drawing.showing.plan, *event)? {
+    for (place, entry) in drawing.showing.events.iter().enumerate() {
+        let event = entry.event();
+        if let Some((class, words)) = words_of(alloc, drawing.showing.plan, event)? {
             let words = words.as_str();
             if class != "misuse" {
-                push_outside(into, drawing, place, *event, class, words)?;
+                push_outside(into, drawing, place, event, class, words)?;
             }
             push_words(into, drawing, place, class, words, &mut rows)?;
         }
@@ -128,20 +129,21 @@ pub fn push_marks(alloc: Global, into: &mut String, drawing: Drawing) -> Result<
 /// Adds a cross over its bar where a misuse ended the run.
 pub fn push_misuse(alloc: Global, into: &mut String, drawing: Drawing) -> Result<(), AllocError> {
     let events = drawing.showing.events;
-    let Some(event) = events.last() else {
+    let Some(last) = events.last() else {
         return Ok(());
     };
+    let event = last.event();
     let Event::Misuse { worker, .. } = event else {
         return Ok(());
     };
     let place = events.len().saturating_sub(1);
     let x = drawing.frame.scale.at(place);
-    let y = drawing.frame.bars(*worker as usize).saturating_sub(11);
+    let y = drawing.frame.bars(worker as usize).saturating_sub(11);
     write!(
         into,
         "<path class=\"misuse\" d=\"M{x} {y}m-8 -8l16 16m0 -16l-16 16\"><title>event {place}: "
     )?;
-    if let Some((_, words)) = words_of(alloc, drawing.showing.plan, *event)? {
+    if let Some((_, words)) = words_of(alloc, drawing.showing.plan, event)? {
         push_xml(into, words.as_str())?;
     }
     into.push_str("</title></path>\n")

@@ -1,7 +1,7 @@
 // What is shown.
 
 use crate::script_lines::ScriptLines;
-use gcd_event::Event;
+use gcd_event::Entry;
 use gcd_plan::Plan;
 use gcd_timeline::Mark;
 
@@ -23,7 +23,7 @@ pub struct Showing<'a> {
     /// The marks of the events.
     pub marks: &'a [Mark],
     /// The events, from the first on.
-    pub events: &'a [Event],
+    pub events: &'a [Entry],
     /// The state to which they have come, in a word.
     pub state: &'a str,
     /// Why they have come to it.

@@ -1,6 +1,6 @@
 // By which event each block is submitted.
 
-use gcd_event::Event;
+use gcd_event::{Entry, Event};
 use gcd_plan::{Act, Blk, Obj, Plan, Run};
 use gcd_timeline::act_at;
 use std::alloc::{AllocError, Global};
@@ -67,10 +67,10 @@ fn put(places: &mut [Option<usize>], first: u32, count: u32, place: usize) {
 
 impl Submissions {
     /// Those of the events; an `Err` comes only where memory runs out.
-    pub fn new(alloc: Global, plan: &Plan, events: &[Event]) -> Result<Submissions, AllocError> {
+    pub fn new(alloc: Global, plan: &Plan, events: &[Entry]) -> Result<Submissions, AllocError> {
         let mut places = vec![in alloc; None; plan.blocks() as usize]?;
         for (place, event) in events.iter().enumerate() {
-            if let Some((first, count)) = submitted(plan, *event) {
+            if let Some((first, count)) = submitted(plan, event.event()) {
                 put(&mut places, first, count, place);
             }
         }

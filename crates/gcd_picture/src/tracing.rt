@@ -98,7 +98,7 @@ fn push_parked(
     let (Some((worker, next)), Some(event)) = (bar.parked, showing.events.get(bar.to)) else {
         return Ok(());
     };
-    let awaited = awaited_text(alloc, showing.plan, *event)?;
+    let awaited = awaited_text(alloc, showing.plan, event.event())?;
     let name = run_name(showing.plan, bar.run);
     push_end(
         into,
@@ -150,7 +150,14 @@ fn push_submission(
         return Ok(());
     };
     let name = run_name(showing.plan, Run::Block(blk));
-    push_flow(into, "\"ph\":\"s\"", submitter.worker(), by, blk.0, name)?;
+    push_flow(
+        into,
+        "\"ph\":\"s\"",
+        submitter.event().worker(),
+        by,
+        blk.0,
+        name,
+    )?;
     push_flow(
         into,
         "\"ph\":\"f\",\"bp\":\"e\"",
@@ -267,9 +274,10 @@ pub fn trace(alloc: Global, showing: Showing) -> Result<String, AllocError> {
         push_run(&mut text, showing, bar)?;
         push_parked(alloc, &mut text, showing, bar)?;
     }
-    for (place, event) in showing.events.iter().enumerate() {
-        push_moment(alloc, &mut text, showing, *event, place)?;
-        push_submission(&mut text, showing, &submissions, *event, place)?;
+    for (place, entry) in showing.events.iter().enumerate() {
+        let event = entry.event();
+        push_moment(alloc, &mut text, showing, event, place)?;
+        push_submission(&mut text, showing, &submissions, event, place)?;
     }
     push_ending(&mut text, showing)?;
     text.push_str(

@@ -7,6 +7,7 @@ pub mod Apart
 pub mod Walks
 pub mod MadeBlocks
 pub mod Submits
+pub mod Needed
 pub mod Spans
 pub mod Valid
 mod Having

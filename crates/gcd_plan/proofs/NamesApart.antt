@@ -81,7 +81,7 @@ declared_seen p test =
 
 pub before_block : (p : Parts) (test : List ℕ → Bool) (n : ℕ)
     → list_any test (names_before_block (view_of p) n)
-    ≡ (list_any test (declared_names (view_of p)) || list_any (λ b. test (string_bytes b.name)) (take n p.blocks.items))
+    ≡ (list_any test (declared_names (view_of p)) || list_any (λ b. test b.name) (take n p.blocks.items))
 before_block p test n =
     let declared = declared_names (view_of p) in
     list_any-append test declared (take n (map (λ v. v.name) (map blk_view p.blocks.items)))

@@ -1,4 +1,5 @@
 pub mod Limits
+pub mod NameBytes
 pub mod PlanView
 pub mod HeldParts
 pub mod Kinds
@@ -6,6 +7,7 @@ pub mod Chains
 pub mod Names
 pub mod Effects
 pub mod Made
+pub mod Needs
 pub mod Validity
 pub mod Breaks
 pub mod Checked

@@ -2,6 +2,7 @@
 ghost use Rattle.std.specs.Prelude.{◌≡◌, map, IfOk};
 ghost use Rattle.gcd_plan.specs.PlanView.{obj_view, blk_view, file_view, strip_view, view_of};
 
+use crate::name::Name;
 use crate::parts::{BlkPart, FilePart, ObjPart, Parts, StripPart};
 use std::alloc::{AllocError, Global};
 
@@ -23,7 +24,7 @@ fn copied_block(alloc: Global, b: &BlkPart) -> Result<BlkPart, AllocError>
     ensures { IfOk result (λ p. blk_view p ≡ blk_view b.now) }
 {
     Ok(BlkPart {
-        name: b.name.clone()?,
+        name: Name::new(alloc, b.name.as_str())?,
         acts: Vec::from_slice(alloc, &b.acts)?,
         work: b.work,
     })

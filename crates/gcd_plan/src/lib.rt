@@ -5,6 +5,7 @@
 //! | call | answer |
 //! |---|---|
 //! | `ObjPart::new`, `BlkPart::new` | an object or block of a name with nothing else declared, or out of memory |
+//! | `Name::new`, `as_str` | the name of a block, which takes no memory of its own if it is short, or out of memory; its text |
 //! | `Kind::is_queue`, `is_source`, `is_node`, `is_exclusive`, .. | what kind of object it is |
 //! | `MisuseCode::code` | the number of a code of misuse, 1 to 8 |
 //! | `Plan::of_parts` | the plan of the parts; None exactly where they are no valid plan (`IsPlan`) |
@@ -14,6 +15,7 @@
 //! | `Plan::copied` | the same plan once more, or out of memory |
 //! | `Plan::kinds` | the kinds of all objects, or out of memory |
 //! | `objects`, `blocks`, `kind`, `first_target`, .. | what the plan holds, exactly |
+//! | `Plan::mark_room`, `limit_room`, `park_room` | of how many blocks a run keeps marks, limits, and what they wait for: of each if an act of the plan needs it, otherwise of none (`specs/Needs`) |
 //! | `Plan::intake`, `strips` | where callers from outside hand in closures; the strips of dispatch_apply(3). `specs/Made` says which blocks they have, and over which bytes those of a strip work |
 //! | `Act::block`, `strip`, `parks`, `is_for_handlers` | the block, or the strip, that an act submits; whether it waits; whether a handler may have it |
 //! | `Kind::folded` | two values in one, as the kind folds them |
@@ -45,8 +47,10 @@ mod made;
 mod made_names;
 mod made_valid;
 mod misuse_code;
+mod name;
 mod names_once;
 mod names_valid;
+mod needs;
 mod numbers;
 mod once_valid;
 mod parts;
@@ -67,6 +71,7 @@ pub use limits::{
     MAX_TIME, MAX_VALUE, MAX_WORKERS,
 };
 pub use misuse_code::MisuseCode;
+pub use name::Name;
 pub use names_valid::{is_name, is_path};
 pub use numbers::{Blk, Obj, Run};
 pub use parts::{BlkPart, FilePart, ObjPart, Parts, StripPart};

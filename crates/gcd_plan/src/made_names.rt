@@ -36,15 +36,15 @@ fn is_numbered(word: &[u8], front: &[u8], mark: u8, n: u32) -> bool
 }
 
 fn has_intake_name(b: &BlkPart, k: u32) -> bool
-    ensures { IsTrue result ↔ (string_bytes b.now.name ≡ codes "+" ++ decimal k) }
+    ensures { IsTrue result ↔ (b.now.name ≡ codes "+" ++ decimal k) }
 {
-    is_marked(b.name.as_bytes(), b'+', k)
+    is_marked(b.name.as_str().as_bytes(), b'+', k)
 }
 
 fn has_strip_name(b: &BlkPart, s: &StripPart, place: u32) -> bool
-    ensures { IsTrue result ↔ (string_bytes b.now.name ≡ string_bytes s.now.name ++ (codes "." ++ decimal place)) }
+    ensures { IsTrue result ↔ (b.now.name ≡ string_bytes s.now.name ++ (codes "." ++ decimal place)) }
 {
-    is_numbered(b.name.as_bytes(), s.name.as_bytes(), b'.', place)
+    is_numbered(b.name.as_str().as_bytes(), s.name.as_bytes(), b'.', place)
 }
 
 /// Whether the block is as the intake makes its block at this place, from 1.

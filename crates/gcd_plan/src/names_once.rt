@@ -40,9 +40,9 @@ fn is_strip_name(strips: &[StripPart], name: &str) -> bool
 }
 
 fn is_block_name(blocks: &[BlkPart], name: &str) -> bool
-    ensures { result ≡ list_any (λ b. bytes_eq name.now (string_bytes b.name)) blocks.now }
+    ensures { result ≡ list_any (λ b. bytes_eq name.now b.name) blocks.now }
 {
-    blocks.iter().any(|b| is_called(&b.name, name))
+    blocks.iter().any(|b| name == b.name.as_str())
 }
 
 #[tactic(auto, using(crate::proofs::NamesApart::before_file))]

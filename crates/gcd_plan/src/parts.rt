@@ -7,6 +7,7 @@ ghost use Rattle.gcd_plan.specs.Kinds.{is_source_kind};
 use crate::act::Act;
 use crate::kind::Kind;
 use crate::limits::MAX_FILE_BYTES;
+use crate::name::Name;
 use crate::numbers::{Blk, Obj};
 use crate::work::{How, Work};
 use std::alloc::{AllocError, Global};
@@ -61,7 +62,7 @@ impl ObjPart {
 #[derive(Drop)]
 pub struct BlkPart {
     /// The name by which texts call it.
-    pub name: String,
+    pub name: Name,
     /// What it does, in order.
     pub acts: Vec<Act>,
     /// What it computes, if anything.
@@ -75,7 +76,7 @@ impl BlkPart {
         ensures { IfOk result (λ b. blk_view b ≡ record { name = name.now; acts = []; work = None }) }
     {
         Ok(BlkPart {
-            name: String::from_str(alloc, name)?,
+            name: Name::new(alloc, name)?,
             acts: Vec::new(alloc),
             work: None,
         })

@@ -1,13 +1,15 @@
 // A valid plan.
-ghost use Rattle.std.specs.Prelude.{◌≡◌, ◌<◌, ◌≤◌, ◌^◌, ◌↔◌, IfOk, IfSome, IsSome, IsNone, length, map, option_map, slice_get, Some};
+ghost use Rattle.std.specs.Prelude.{◌≡◌, ◌<◌, ◌≤◌, ◌^◌, ◌↔◌, if◌then◌else◌, IfOk, IfSome, IsSome, IsNone, length, map, option_map, slice_get, Some};
 ghost use Rattle.gcd_plan.specs.Breaks.{Breaks};
-ghost use Rattle.gcd_plan.specs.Limits.{max_files, max_strips};
+ghost use Rattle.gcd_plan.specs.Limits.{max_blocks, max_files, max_strips};
+ghost use Rattle.gcd_plan.specs.Needs.{limit_room, mark_room, park_room};
 ghost use Rattle.gcd_plan.specs.PlanView.{kind_of, first_target, starts_active, acts_of, work_of, cancel_block, path_of, name_of_obj, name_of_blk, name_of_strip, IsRun, file_view, intake_view, strip_view, view_of};
 ghost use Rattle.gcd_plan.specs.Validity.{IsPlan};
 
 use crate::act::Act;
 use crate::held::Held;
 use crate::kind::Kind;
+use crate::needs::Needs;
 use crate::numbers::{Blk, Obj, Run};
 use crate::parts::{FilePart, Parts, StripPart};
 use crate::parts_fault::PartsFault;
@@ -20,17 +22,19 @@ use std::marker::Model;
 /// lead to `root`. Contracts see it as the plain lists of its parts (`PlanView`).
 pub struct Plan {
     held: Held,
+    needs: Needs,
 }
 
 // One call drops all that a plan holds: so a crate that drops plans proves nothing of their parts.
 impl Drop for Plan {
     fn drop(self) {
-        let Plan { held: _ } = self;
+        let Plan { held: _, needs: _ } = self;
     }
 }
 
 impl Model for Plan {
     ghost use Rattle.gcd_plan.specs.HeldParts.{parts_of};
+    ghost use Rattle.gcd_plan.specs.Needs.{AreNeeds};
     ghost use Rattle.gcd_plan.specs.PlanView.{PlanView, view_of};
     ghost use Rattle.gcd_plan.specs.Validity.{IsPlan};
 
@@ -38,7 +42,7 @@ impl Model for Plan {
 
     ghost view = { λ p. view_of (parts_of p.held) };
 
-    ghost invariant = { λ p. IsPlan (view_of (parts_of p.held)) };
+    ghost invariant = { λ p. IsPlan (view_of (parts_of p.held)) × AreNeeds p.needs (view_of (parts_of p.held)) };
 }
 
 impl Plan {
@@ -47,8 +51,10 @@ impl Plan {
         requires { IsPlan (view_of parts) }
         ensures { result ≡ view_of parts }
     {
+        let needs = Needs::of(&parts);
         Plan {
             held: Held::Own(parts),
+            needs,
         }
     }
 
@@ -217,6 +223,45 @@ impl Plan {
 }
 
 impl Plan {
+    // The number of the blocks if they need it, otherwise 0.
+    fn room(&self, needed: bool) -> u32
+        ensures room { result ≡ (if needed then length self.now.blocks else 0) }
+        ensures few { result ≤ max_blocks }
+    {
+        if needed { self.blocks() } else { 0 }
+    }
+
+    /// Of how many blocks a run keeps marks: of each if an act of a block or handler cancels a block, waits for its end, or submits
+    /// another once it has ended (dispatch_block_cancel(3), dispatch_block_wait(3), dispatch_block_notify(3)), otherwise of none. It
+    /// takes one step (this project's own rule).
+    #[tactic(auto, unfolding(crate::specs::Needs::room))]
+    pub fn mark_room(&self) -> u32
+        ensures room { result ≡ mark_room self.now }
+        ensures few { result ≤ max_blocks }
+    {
+        self.room(self.needs.marks)
+    }
+
+    /// Of how many blocks a run keeps limits: of each if an act waits with one (dispatch_semaphore_wait(3), dispatch_group_wait(3)),
+    /// otherwise of none. It takes one step (this project's own rule).
+    #[tactic(auto, unfolding(crate::specs::Needs::room))]
+    pub fn limit_room(&self) -> u32
+        ensures room { result ≡ limit_room self.now }
+        ensures few { result ≤ max_blocks }
+    {
+        self.room(self.needs.limits)
+    }
+
+    /// Of how many blocks a run keeps what they wait for: of each if an act parks its block ([`Act::parks`]), otherwise of none. It
+    /// takes one step (this project's own rule).
+    #[tactic(auto, unfolding(crate::specs::Needs::room))]
+    pub fn park_room(&self) -> u32
+        ensures room { result ≡ park_room self.now }
+        ensures few { result ≤ max_blocks }
+    {
+        self.room(self.needs.parks)
+    }
+
     /// The kind of each object, by number; an `Err` comes only where memory runs out.
     pub fn kinds(&self, alloc: Global) -> Result<Vec<Kind>, AllocError>
         ensures { IfOk result (λ v. v.items ≡ map (λ o. o.kind) self.now.objects) }
@@ -233,9 +278,10 @@ impl Plan {
     pub fn share(self, alloc: Global) -> Result<Plan, AllocError>
         ensures { IfOk result (λ p. p ≡ self) }
     {
-        let Plan { held } = self;
+        let Plan { held, needs } = self;
         Ok(Plan {
             held: held.share(alloc)?,
+            needs,
         })
     }
 
@@ -246,6 +292,7 @@ impl Plan {
     {
         Ok(Plan {
             held: self.held.copied(alloc)?,
+            needs: self.needs,
         })
     }
 }

@@ -47,7 +47,7 @@ fn begins_with_root(parts: &Parts) -> bool
 }
 
 fn is_main(b: &BlkPart) -> bool
-    ensures { IsTrue result ↔ (string_bytes b.now.name ≡ codes "main") }
+    ensures { IsTrue result ↔ (b.now.name ≡ codes "main") }
 {
     b.name.as_str() == "main"
 }

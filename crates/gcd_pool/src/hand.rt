@@ -5,7 +5,7 @@ ghost use Rattle.gcd_row.specs.Passes.{IsPassOf, view};
 ghost use Rattle.gcd_steal.specs.Racks.{IsBenchOf};
 ghost use Rattle.gcd_pool.specs.Hands.{IsPool, IsReady, IsSamePool};
 
-use gcd_event::Event;
+use gcd_event::Entry;
 use gcd_plan::Plan;
 use gcd_row::{RowBoard, RowPass, Slot};
 use gcd_steal::{Bench, Rack};
@@ -98,7 +98,7 @@ pub struct Hand<S> {
     /// Its bench.
     pub bench: Bench,
     /// The events that worker 0 has gathered, the oldest first: those that its pass has seen up to its passed word. A helper's is empty.
-    pub journal: Vec<Event>,
+    pub journal: Vec<Entry>,
 }
 
 impl<S: Slot> Hand<S> {

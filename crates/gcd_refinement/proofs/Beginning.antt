@@ -20,8 +20,7 @@ use Rattle.gcd_history.specs.Sources.{is_live_feed}
 use Rattle.gcd_history.specs.Tree.{Aim}
 use Rattle.gcd_history.proofs.Blocks.SubmittedOnce.{object_fields}
 use Rattle.gcd_plan.specs.declared.numbers.Blk.{Blk}
-use Rattle.gcd_blockobj.specs.MarkRoom.{mark_room}
-use Rattle.gcd_sync.specs.LimitRoom.{limit_room}
+use Rattle.gcd_plan.specs.Needs.{limit_room, mark_room, park_room}
 use Rattle.gcd_refinement.specs.MachineView.{idle, undelivered, machine_of, block_at, handler_at, at_worker}
 use Rattle.gcd_refinement.specs.declared.progress.BlockProgress.{BlockProgress}
 use Rattle.gcd_refinement.specs.declared.progress.HandlerProgress.{HandlerProgress}
@@ -61,7 +60,7 @@ parts_begin plan =
       signals = length-replicate n 0;
       waits = length-replicate n [];
       rooms = refl;
-      reasons = length-replicate (length plan.blocks) None;
+      reasons = length-replicate (park_room plan) None;
       limits = length-replicate (limit_room plan) None;
       expired = length-replicate (length plan.blocks) false;
       wait_objects = refl;
@@ -177,7 +176,7 @@ pub waits_begin : (plan : PlanView) → WaitsAre plan [] (machine_of plan)
 waits_begin plan =
     let m = length plan.blocks in
     record {
-      reasons = λ b. get_or-replicate_same m b None ∙ sym (no_awaited plan b);
+      reasons = λ b. get_or-replicate_same (park_room plan) b None ∙ sym (no_awaited plan b);
       limits = λ b. get_or-replicate_same (limit_room plan) b None ∙ sym (no_limit plan b);
       expired = λ b. get_or-replicate_same m b false ∙ sym (none_expired plan b);
     }

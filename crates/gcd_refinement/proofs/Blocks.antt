@@ -1,4 +1,3 @@
-pub mod MarkRoom
 pub mod Registered
 pub mod Unregistered
 pub mod StripBlocks

@@ -1,4 +1,3 @@
-pub mod LimitRoom
 pub mod Expiries
 pub mod Expiring
 pub mod DueTimes

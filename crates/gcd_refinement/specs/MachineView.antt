@@ -12,13 +12,12 @@ use Rattle.gcd_hold.specs.HoldsView.{HoldsView, holds_of}
 use Rattle.gcd_drain.specs.DrainsView.{DrainsView, drains_of}
 use Rattle.gcd_group.specs.GroupsView.{GroupsView, groups_of}
 use Rattle.gcd_sema.specs.SemasView.{SemasView, semas_of}
-use Rattle.gcd_sync.specs.LimitRoom.{limit_room}
 use Rattle.gcd_sync.specs.WaitsView.{WaitsView, waits_of}
 use Rattle.gcd_source.specs.SourcesView.{SourcesView, sources_of}
 use Rattle.gcd_timer.specs.TimersView.{TimersView, timers_of, next_due_at}
 use Rattle.gcd_sets.specs.Least.{earlier, least}
 use Rattle.gcd_apply.specs.StripsView.{StripsView, strips_of}
-use Rattle.gcd_blockobj.specs.MarkRoom.{mark_room}
+use Rattle.gcd_plan.specs.Needs.{limit_room, mark_room, park_room}
 use Rattle.gcd_blockobj.specs.MarksView.{MarksView, marks_of}
 
 -- the plan; the parts: references, what waits on nodes, targets, holds, barriers, groups, semaphores, parked blocks, sources, timers;
@@ -119,6 +118,10 @@ refs_at v o = slice_index v.refs o
 abbrev pub lists_of : PlanView → ListsView
 lists_of plan = record { lists = replicate (length plan.objects) []; blocks = length plan.blocks }
 
+-- nobody sleeps at any object
+abbrev pub sleepers_of : PlanView → ListsView
+sleepers_of plan = record { lists = replicate (length plan.objects) []; blocks = park_room plan }
+
 -- nobody waits for the end of a block of which marks are kept
 abbrev pub waiters_of : PlanView → ListsView
 waiters_of plan = record { lists = replicate (mark_room plan) []; blocks = mark_room plan }
@@ -137,7 +140,7 @@ machine_of plan = record {
   waits = waits_of plan;
   sources = sources_of plan;
   timers = timers_of plan;
-  sleepers = lists_of plan;
+  sleepers = sleepers_of plan;
   waiters = waiters_of plan;
   appliers = replicate (length plan.strips) None;
   strips = strips_of plan;

@@ -8,9 +8,8 @@ use Rattle.gcd_plan.specs.declared.numbers.Blk.{Blk}
 use Rattle.gcd_plan.specs.declared.numbers.Obj.{Obj}
 use Rattle.gcd_plan.specs.declared.numbers.Run.{Run}
 use Rattle.gcd_sema.specs.SemasView.{wait_acts}
-use Rattle.gcd_sync.specs.LimitRoom.{limit_room}
 use Rattle.gcd_apply.specs.StripsView.{strip_of, strip_room}
-use Rattle.gcd_blockobj.specs.MarkRoom.{mark_room}
+use Rattle.gcd_plan.specs.Needs.{limit_room, mark_room, park_room}
 use Rattle.gcd_history.specs.Permitted.{is_run_of}
 use Rattle.gcd_refinement.specs.MachineView.{MachineView, block_at, at_worker, applier_at}
 use Rattle.gcd_plan.specs.Limits.{max_workers}
@@ -39,7 +38,7 @@ pub record PartsFit (plan : PlanView) (v : MachineView) : Type 0 where
   pub signals : length v.semas.signals ≡ length plan.objects
   pub waits : length v.semas.waits ≡ length plan.objects
   pub rooms : v.semas.rooms ≡ map (wait_acts plan) (range_with_len 0 (length plan.objects))
-  pub reasons : length v.waits.reasons ≡ length plan.blocks
+  pub reasons : length v.waits.reasons ≡ park_room plan
   pub limits : length v.waits.limits ≡ limit_room plan
   pub expired : length v.waits.expired ≡ length plan.blocks
   pub wait_objects : v.waits.objects ≡ length plan.objects
@@ -62,7 +61,7 @@ pub record PartsFit (plan : PlanView) (v : MachineView) : Type 0 where
 -- so have the machine's own arrays, and what they name is of the plan
 pub record OwnFit (plan : PlanView) (v : MachineView) : Type 0 where
   pub sleepers : length v.sleepers.lists ≡ length plan.objects
-  pub sleeper_blocks : v.sleepers.blocks ≡ length plan.blocks
+  pub sleeper_blocks : v.sleepers.blocks ≡ park_room plan
   pub waiters : length v.waiters.lists ≡ mark_room plan
   pub waiter_blocks : v.waiters.blocks ≡ mark_room plan
   pub appliers : length v.appliers ≡ length plan.strips

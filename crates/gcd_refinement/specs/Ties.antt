@@ -35,7 +35,7 @@ use Rattle.gcd_sync.specs.WaitsView.{reason_at, limit_at, has_expired_at}
 use Rattle.gcd_source.specs.SourcesView.{pending_at, is_cancelled_at as is_source_cancelled_at}
 use Rattle.gcd_timer.specs.TimersView.{activated_at, cancelled_at, due_count_at}
 use Rattle.gcd_apply.specs.StripsView.{left_at}
-use Rattle.gcd_blockobj.specs.MarkRoom.{mark_room}
+use Rattle.gcd_plan.specs.Needs.{mark_room}
 use Rattle.gcd_blockobj.specs.MarksView.{is_cancelled_at, has_begun_at, has_ended_at}
 use Rattle.gcd_refinement.specs.MachineView.{MachineView, block_at, ended_at, is_wakeable_at, ahead_at, is_ripe_at, handler_at, busy_at, at_worker, refs_at, live_at, applier_at}
 use Rattle.gcd_refinement.specs.Sleepers.{group_of, caller_of, sema_sleepers, group_sleepers, end_waiters, strip_sleepers, limit_ahead, may_expire}

@@ -16,7 +16,7 @@ ghost use Rattle.gcd_rounds.specs.Running.{AtTurn, InRound};
 
 use crate::round::{Round, end_round};
 use crate::running::Running;
-use gcd_event::Event;
+use gcd_event::Entry;
 use gcd_jobs::{Handler, Job};
 use gcd_loop::{TurnEnd, idle, take_turn};
 use gcd_outer::{Clock, Poller};
@@ -30,7 +30,7 @@ use std::thread::Threads;
 #[derive(Drop)]
 pub struct RoundsEnd<H> {
     /// All events, in order.
-    pub journal: Vec<Event>,
+    pub journal: Vec<Entry>,
     /// For each block, main's first, the value that its job gave where it has ended and is not cancelled, and else 0.
     pub values: Vec<u64>,
     /// The handler of each source, by the number of the source.

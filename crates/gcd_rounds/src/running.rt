@@ -17,7 +17,7 @@ ghost use Rattle.gcd_rounds.specs.Running.{AreReady, GoesOn, HaveTaken, IsNext, 
 
 use crate::kept::Done;
 use crate::places::{place_of, places_of};
-use gcd_event::Event;
+use gcd_event::{Entry, Event};
 use gcd_jobs::{Handler, Job};
 use gcd_loop::PutEnd;
 use gcd_machine::Machine;
@@ -38,7 +38,7 @@ pub(crate) struct Terms<J> {
 #[derive(Drop)]
 pub(crate) struct Running<J, H> {
     pub(crate) terms: Terms<J>,
-    pub(crate) journal: Vec<Event>,
+    pub(crate) journal: Vec<Entry>,
     pub(crate) machine: Machine,
     pub(crate) values: Vec<u64>,
     pub(crate) jobs: Vec<Option<J>>,
@@ -134,7 +134,7 @@ impl<J: Job + Drop, H: Handler + Drop> Running<J, H> {
             → EndOthers (worker_of e) kept
             → AreReady J.gives plan.now self.old kept → OnOk result (AreReady J.gives plan.now self.new kept) }
     {
-        self.journal.push(e)?;
+        self.journal.push(Entry::of(e))?;
         self.machine.apply(e);
         hand_over(plan, &self.machine, &self.places, &mut self.handlers, e);
         Ok(())

@@ -11,7 +11,7 @@ use crate::board::RowBoard;
 use crate::cell::Slot;
 use crate::pass::RowPass;
 use atomic_table::Closed;
-use gcd_event::Event;
+use gcd_event::Entry;
 use gcd_machine::Machine;
 use std::alloc::Global;
 
@@ -39,8 +39,8 @@ impl<S: Slot + Drop> RowBoard<S> {
         self,
         alloc: Global,
         pass: RowPass<S>,
-        journal: Vec<Event>,
-    ) -> Result<(Vec<Event>, Vec<S>), (RowBoard<S>, RowPass<S>, Vec<Event>)>
+        journal: Vec<Entry>,
+    ) -> Result<(Vec<Entry>, Vec<S>), (RowBoard<S>, RowPass<S>, Vec<Entry>)>
         requires pass { IsPassOf S.shape S.gives self pass }
         requires head { (view pass).worker ≡ 0 }
         requires all_in { (w : ℕ) → standing_of (view pass).hands w ≢ Some Out }
@@ -60,8 +60,8 @@ impl<S: Slot + Drop> RowBoard<S> {
         self,
         alloc: Global,
         pass: RowPass<S>,
-        journal: Vec<Event>,
-    ) -> Result<(Vec<Event>, Vec<S>, Machine), (RowBoard<S>, RowPass<S>, Vec<Event>)>
+        journal: Vec<Entry>,
+    ) -> Result<(Vec<Entry>, Vec<S>, Machine), (RowBoard<S>, RowPass<S>, Vec<Entry>)>
         requires pass { IsPassOf S.shape S.gives self pass }
         requires head { (view pass).worker ≡ 0 }
         requires all_in { (w : ℕ) → standing_of (view pass).hands w ≢ Some Out }

@@ -6,8 +6,8 @@ ghost use Rattle.gcd_row.specs.Views.{knowing, passing};
 use crate::board::RowBoard;
 use crate::cell::Slot;
 use crate::pass::RowPass;
-use crate::steps::event_of;
-use gcd_event::Event;
+use crate::steps::entry_of;
+use gcd_event::Entry;
 use std::alloc::AllocError;
 
 impl<S: Slot> RowBoard<S> {
@@ -41,7 +41,7 @@ impl<S: Slot> RowBoard<S> {
     }
 
     // The event n, which was seen and not passed.
-    fn event(&self, pass: &mut RowPass<S>, n: u32) -> Event
+    fn entry_at(&self, pass: &mut RowPass<S>, n: u32) -> Entry
         requires pass { IsPassOf S.shape S.gives self.now pass.old }
         requires place { ((view pass.old).marks.passed ≤ n) × (n < length (view pass.old).seen) }
         ensures pass { IsPassOf S.shape S.gives self.now pass.new }
@@ -49,11 +49,11 @@ impl<S: Slot> RowBoard<S> {
         ensures view { view pass.new ≡ view pass.old }
         ensures event { take (suc n) (view pass.old).seen ≡ take n (view pass.old).seen ++ result ∷ [] }
     {
-        event_of(n, self.reread(&mut pass.seat, n))
+        entry_of(n, self.reread(&mut pass.seat, n))
     }
 
     // Appends the events from `first` up to n.
-    fn append(&self, pass: &mut RowPass<S>, first: u32, n: u32, journal: &mut Vec<Event>)
+    fn append(&self, pass: &mut RowPass<S>, first: u32, n: u32, journal: &mut Vec<Entry>)
         requires pass { IsPassOf S.shape S.gives self.now pass.old }
         requires place { ((view pass.old).marks.passed ≤ first) × (first ≤ n) × (n ≡ length (view pass.old).seen) }
         requires journal { journal.old.items ≡ take first (view pass.old).seen }
@@ -65,7 +65,7 @@ impl<S: Slot> RowBoard<S> {
     {
         let mut i = first;
         while i < n {
-            let e = self.event(pass, i);
+            let e = self.entry_at(pass, i);
             journal.push_reserved(e);
             i += 1;
         }
@@ -74,7 +74,7 @@ impl<S: Slot> RowBoard<S> {
     /// Appends to the journal the events that the pass has seen and not passed, read from the cells, and stores the number of events
     /// that it has seen in its passed word. Conditions: worker 0's pass is given, and the journal is what it has passed. An `Err` comes
     /// only where memory runs out, and then nothing has changed. It costs a load for each event that it appends, and a store.
-    pub fn gather(&self, pass: &mut RowPass<S>, journal: &mut Vec<Event>) -> Result<(), AllocError>
+    pub fn gather(&self, pass: &mut RowPass<S>, journal: &mut Vec<Entry>) -> Result<(), AllocError>
         requires pass { IsPassOf S.shape S.gives self.now pass.old }
         requires head { (view pass.old).worker ≡ 0 }
         requires journal { IsGathered (view pass.old) journal.old.items }

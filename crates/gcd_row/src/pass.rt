@@ -7,10 +7,10 @@ use crate::cell::{Cell, Slot};
 use crate::closing::take_all;
 use crate::plays::{Down, Glue};
 use crate::shares::take_farther;
-use crate::steps::{cell_of, event_of};
+use crate::steps::{cell_of, entry_of};
 use crate::view::View;
 use atomic_table::Seat;
-use gcd_event::Event;
+use gcd_event::Entry;
 use gcd_machine::Machine;
 use std::alloc::Global;
 
@@ -107,8 +107,8 @@ impl<S: Slot + Drop> RowPass<S> {
         self,
         alloc: Global,
         board: RowBoard<S>,
-        mut journal: Vec<Event>,
-    ) -> Result<(Vec<Event>, Vec<S>, Machine), (RowBoard<S>, RowPass<S>, Vec<Event>)>
+        mut journal: Vec<Entry>,
+    ) -> Result<(Vec<Entry>, Vec<S>, Machine), (RowBoard<S>, RowPass<S>, Vec<Entry>)>
         requires pass { IsPassOf S.shape S.gives board self }
         requires head { (view self).worker ≡ 0 }
         requires all_in { (w : ℕ) → standing_of (view self).hands w ≢ Some Out }
@@ -139,7 +139,7 @@ impl<S: Slot + Drop> RowPass<S> {
         let closed = table.close_with(seat);
         let mut i = first;
         while i < n {
-            journal.push_reserved(event_of(i, closed.word(cell_of(i))));
+            journal.push_reserved(entry_of(i, closed.word(cell_of(i))));
             i += 1;
         }
         Ok((journal, take_all(closed, cells), machine))

@@ -18,7 +18,7 @@ use crate::plays::{Again, Ask, End, Lawful, Look, PassOn, Try};
 use crate::view::{Copies, View};
 use crate::words::{exchange_word, load_word};
 use atomic_table::Seat;
-use gcd_event::{Event, of_word, to_word};
+use gcd_event::{Entry, Event, of_word, to_word};
 
 // The lap bit.
 const LAP: u64 = 9_223_372_036_854_775_808;
@@ -72,6 +72,15 @@ pub fn event_of(n: u32, found: u64) -> Event
         Some(e) => e,
         None => unreachable!(),
     }
+}
+
+// The entry of the event whose word, with the lap bit of event n, was found in its cell.
+#[inline(always)]
+pub fn entry_of(n: u32, found: u64) -> Entry
+    requires { (e : Event) × IsFitting e × (found ≡ word_of e + lap n) }
+    ensures { (e : Event) → IsFitting e → found ≡ word_of e + lap n → result ≡ e }
+{
+    Entry::of_word(bare(found))
 }
 
 impl<S: Slot> RowBoard<S> {

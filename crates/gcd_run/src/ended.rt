@@ -1,6 +1,6 @@
 // The answer of the top call.
 
-use gcd_event::Event;
+use gcd_event::Entry;
 
 /// What the top call answers.
 #[derive(Drop)]
@@ -8,7 +8,7 @@ pub struct Ended {
     /// The number of the status with which the program ends ([`Status::code`]).
     pub status: u8,
     /// The journal of the run, or the one that was judged; empty where nothing ran or was read, and where memory ran out.
-    pub journal: Vec<Event>,
+    pub journal: Vec<Entry>,
     /// Where a script is refused, the line, from 1, and the code; line 0 is the script as a whole. Where a journal is refused,
     /// the line and 1, or the index of the event, from 0, and 2.
     pub at: Option<(u32, u32)>,

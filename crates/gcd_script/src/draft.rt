@@ -30,12 +30,12 @@ impl<'a> Draft<'a> {
     ghost use Rattle.gcd_script.specs.Names.{meaning_of};
     ghost use Rattle.gcd_script.specs.Views.{draft_view};
 
-    /// The draft before the first line: `root` and `main` alone.
-    pub fn new(alloc: Global) -> Result<Draft<'a>, AllocError>
+    /// The draft before the first line: `root` and `main` alone. There is room for so many names at once.
+    pub fn new(alloc: Global, names: usize) -> Result<Draft<'a>, AllocError>
         ensures view { IfOk result (λ d. draft_view d ≡ empty_draft) }
         ensures agrees { IfOk result DraftAgrees }
     {
-        let mut meanings = HashMap::new(alloc);
+        let mut meanings = HashMap::with_capacity(alloc, names)?;
         declare(&mut meanings, "root", Meaning::Object(Obj(0)))?;
         Ok(Draft {
             lines: 0,

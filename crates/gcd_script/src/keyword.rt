@@ -1,5 +1,5 @@
 // The first words of lines.
-ghost use Rattle.std.specs.Prelude.{◌≡◌, Some, IfSome, map};
+ghost use Rattle.std.specs.Prelude.{◌≡◌, Some, IfSome, map, true, codes};
 ghost use Rattle.gcd_script.specs.Keywords.{pick, declarations, acts, object_acts, keyword_of};
 
 /// What kind of line a first word begins.
@@ -137,25 +137,45 @@ impl Keyword {
     }
 }
 
-// The same of the words that most lines of a long script begin with, each at one comparison; None says nothing.
+fn is_async(word: &str) -> bool
+    ensures { result ≡ true → word.now ≡ codes "async" }
+{
+    matches!(word.as_bytes(), [b'a', b's', b'y', b'n', b'c'])
+}
+
+fn is_block(word: &str) -> bool
+    ensures { result ≡ true → word.now ≡ codes "block" }
+{
+    matches!(word.as_bytes(), [b'b', b'l', b'o', b'c', b'k'])
+}
+
+fn is_queue(word: &str) -> bool
+    ensures { result ≡ true → word.now ≡ codes "queue" }
+{
+    matches!(word.as_bytes(), [b'q', b'u', b'e', b'u', b'e'])
+}
+
+fn is_sync(word: &str) -> bool
+    ensures { result ≡ true → word.now ≡ codes "sync" }
+{
+    matches!(word.as_bytes(), [b's', b'y', b'n', b'c'])
+}
+
+// Finds the keyword of a word that begins most lines of a long script, by its bytes. It returns None for each other word, a keyword too.
 fn common(word: &str) -> Option<Keyword>
     ensures { IfSome result (λ keyword. keyword_of word.now ≡ Some keyword) }
 {
-    match word.as_bytes().first() {
-        Some(b'a') => known(word, "async", Keyword::Submit(Submission::Async)),
-        Some(b'b') => known(word, "block", Keyword::Block),
-        Some(b'q') => known(word, "queue", Keyword::Queue),
-        Some(b's') => known(word, "sync", Keyword::Submit(Submission::Sync)),
-        _ => None,
+    if is_async(word) {
+        Some(Keyword::Submit(Submission::Async))
+    } else if is_block(word) {
+        Some(Keyword::Block)
+    } else if is_queue(word) {
+        Some(Keyword::Queue)
+    } else if is_sync(word) {
+        Some(Keyword::Submit(Submission::Sync))
+    } else {
+        None
     }
-}
-
-// The keyword that a word is known for; None where it is another word.
-fn known(word: &str, spelled: &str, keyword: Keyword) -> Option<Keyword>
-    requires { keyword_of spelled.now ≡ Some keyword }
-    ensures { IfSome result (λ keyword. keyword_of word.now ≡ Some keyword) }
-{
-    if word == spelled { Some(keyword) } else { None }
 }
 
 // What the table has beside the word; None where no row is of the word.

@@ -6,20 +6,20 @@ ghost use Rattle.gcd_plan.specs.PlanView.{blk_view, strip_view, view_of};
 ghost use Rattle.gcd_script.specs.Changes.{new_intake, new_strip, with_intake, with_strip};
 ghost use Rattle.std.specs.List.{range_with_len};
 
-use gcd_plan::{BlkPart, How, Obj, Parts, StripPart};
+use gcd_plan::{BlkPart, How, Name, Obj, Parts, StripPart};
 use itoa::Buffer;
 use std::alloc::{AllocError, Global};
 
 // The text, and the number behind it in decimal.
-fn numbered(alloc: Global, front: &str, n: u32) -> Result<String, AllocError>
-    ensures { IfOk result (λ name. string_bytes name ≡ front.now ++ decimal n) }
+fn numbered(alloc: Global, front: &str, n: u32) -> Result<Name, AllocError>
+    ensures { IfOk result (λ name. name ≡ front.now ++ decimal n) }
 {
     let mut buffer = Buffer::new();
     let digits = buffer.format(n);
     let mut name = String::with_capacity(alloc, front.len() + digits.len())?;
     name.push_str(front)?;
     name.push_str(digits)?;
-    Ok(name)
+    Name::new(alloc, name.as_str())
 }
 
 // The block that an intake makes for this place, from 1.

@@ -18,6 +18,9 @@ use gcd_plan::Plan;
 use gcd_text::{first_word, next_line, printable, words};
 use std::alloc::Global;
 
+// In long scripts there is a name for about so many bytes: a line declares it, and another uses it.
+const BYTES_OF_NAME: usize = 48;
+
 // Whether the word begins with `#`.
 fn is_mark(word: &str) -> bool
     ensures { result ≡ is_mark word.now }
@@ -29,6 +32,7 @@ fn is_mark(word: &str) -> bool
 }
 
 // What a line means; None where it is skipped.
+#[inline(always)]
 fn line_meant<'a>(draft: &Draft<'a>, line: &'a [u8]) -> Meant<Option<Line<&'a str>>>
     requires { DraftAgrees draft.now }
     ensures { meant (option_map line_view) result ≡ line_meant (draft_view draft.now) line.now }
@@ -86,7 +90,7 @@ pub fn parse(alloc: Global, bytes: &[u8]) -> Result<Plan, ParseFault>
     ensures valid { IfOk result IsPlan }
     ensures refused { IfErr result (IsRefusal bytes.now) }
 {
-    let mut draft = Draft::new(alloc)?;
+    let mut draft = Draft::new(alloc, bytes.len() / BYTES_OF_NAME)?;
     let mut rest = bytes;
     while let Some((line, more)) = next_line(rest) {
         take_line(&mut draft, alloc, line)?;

@@ -1,5 +1,5 @@
 // What a form asks of one word, where nothing that is declared counts.
-ghost use Rattle.std.specs.Prelude.{◌≡◌, ◌≤◌, IfOk};
+ghost use Rattle.std.specs.Prelude.{◌≡◌, ◌≤◌, Ok, IfOk, IfSome};
 ghost use Rattle.gcd_script.specs.Declarations.{one_of, range, counting, work};
 ghost use Rattle.gcd_script.specs.Keywords.{queue_kinds, merge_kinds, counts};
 ghost use Rattle.gcd_script.specs.Words.{path, number};
@@ -72,10 +72,26 @@ pub fn merge_kind(word: &str) -> Meant<Kind>
     }
 }
 
+// Finds what the word counts, by its bytes. It returns None for each other word.
+fn known_count(word: &str) -> Option<How>
+    ensures { IfSome result (λ how. one_of counts word.now ≡ Ok how) }
+{
+    match word.as_bytes() {
+        [b'b', b'y', b't', b'e', b's'] => Some(How::Bytes),
+        [b'l', b'i', b'n', b'e', b's'] => Some(How::Lines),
+        [b'w', b'o', b'r', b'd', b's'] => Some(How::Words),
+        [b's', b'u', b'm'] => Some(How::Sum),
+        _ => None,
+    }
+}
+
 /// What a work counts, but for the bytes of a value.
 pub fn count(word: &str) -> Meant<How>
     ensures { result ≡ one_of counts word.now }
 {
+    if let Some(how) = known_count(word) {
+        return Ok(how);
+    }
     if word == "bytes" {
         Ok(How::Bytes)
     } else if word == "lines" {

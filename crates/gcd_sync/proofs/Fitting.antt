@@ -1,6 +1,6 @@
 -- That each reason fits, and that only parked blocks have a limit, from before the first event on.
-use Rattle.std.proofs.Common.{◌≡◌, ℕ, ◌<◌, ◌≤◌, Bool, false, List, length, get_or, replicate, set, Option, Some, None, IfSome, inl, inr, refl, sym, ap, ◌∙◌, subst, arith}
-use Rattle.std.proofs.lemmas.Bool.{cases_eq, cases_lt}
+use Rattle.std.proofs.Common.{◌≡◌, ℕ, ◌<◌, ◌≤◌, Bool, true, false, is_some, List, length, get_or, replicate, set, Option, Some, None, IfSome, inl, inr, refl, sym, ap, ◌∙◌, subst, arith}
+use Rattle.std.proofs.lemmas.Bool.{both_ways, cases_eq, cases_lt}
 use Rattle.std.proofs.lemmas.List.{length-set, length-replicate, get_or-set_same, get_or-set_other, get_or_past}
 use Rattle.std.proofs.lemmas.Option.{none-some}
 use Rattle.gcd_plan.specs.declared.reason.Reason.{Reason}
@@ -12,24 +12,24 @@ abbrev seen : List (Option Reason) → List (Option ℕ) → List Bool → (obje
 seen reasons limits expired objects strips = record { reasons = reasons; limits = limits; expired = expired; objects = objects; strips = strips }
 
 -- before the first event none is parked
-module _ (n room objects strips : ℕ) (reasons : List (Option Reason)) (limits : List (Option ℕ)) (expired : List Bool)
-    (reasons_are : reasons ≡ replicate n None) (limits_are : limits ≡ replicate room None) (expired_are : expired ≡ replicate n false) where
-  long : length reasons ≡ n
-  long = ap length reasons_are ∙ length-replicate n None
+module _ (n kept room objects strips : ℕ) (low : kept ≤ n) (reasons : List (Option Reason)) (limits : List (Option ℕ)) (expired : List Bool)
+    (reasons_are : reasons ≡ replicate kept None) (limits_are : limits ≡ replicate room None) (expired_are : expired ≡ replicate n false) where
+  few : length reasons ≤ length expired
+  few = omega (arith, low, ap length reasons_are, length-replicate {A = Option Reason} kept None, ap length expired_are, length-replicate n false)
 
   none_at : (b : ℕ) → reason_at (seen reasons limits expired objects strips) b ≡ None
-  none_at b = ap (λ xs. get_or xs b None) reasons_are ∙ get_or-replicate_same n b None
+  none_at b = ap (λ xs. get_or xs b None) reasons_are ∙ get_or-replicate_same kept b None
 
   pub none_fit : AllFit (seen reasons limits expired objects strips)
   none_fit = record {
     fits = λ b why found. absurd (none-some why (sym (none_at b) ∙ found));
-    expired = ap length expired_are ∙ length-replicate n false ∙ sym long;
+    expired = few;
     awake = λ b none. ap (λ xs. get_or xs b None) limits_are ∙ get_or-replicate_same room b None;
     kept = λ b none. ap (λ xs. get_or xs b false) expired_are ∙ get_or-replicate_same n b false;
   }
 
 -- where the blocks are as many, the same fits
-fits_still : (before after : WaitsView) → length after.reasons ≡ length before.reasons → after.objects ≡ before.objects → after.strips ≡ before.strips
+fits_still : (before after : WaitsView) → length after.expired ≡ length before.expired → after.objects ≡ before.objects → after.strips ≡ before.strips
     → (why : Reason) → Fits before why → Fits after why
 fits_still before after same objects strips (Block b) fits = subst (λ n. b.0 < n) (sym same) fits
 fits_still before after same objects strips (Group g position) fits = (subst (λ n. g.0 < n) (sym objects) fits.0, fits.1)
@@ -80,8 +80,8 @@ module _ (reasons : List (Option Reason)) (limits : List (Option ℕ)) (expired 
     -- each reason fits still
     one_changed : AllFit (seen (set reasons b reason) (set limits b limit) (set expired b false) objects strips)
     one_changed = record {
-      fits = λ x why found. fits_still (seen reasons limits expired objects strips) after (length-set reasons b reason) refl refl why (fits_as_before x why found);
-      expired = length-set expired b false ∙ all.expired ∙ sym (length-set reasons b reason);
+      fits = λ x why found. fits_still (seen reasons limits expired objects strips) after (length-set expired b false) refl refl why (fits_as_before x why found);
+      expired = omega (arith, length-set expired b false, all.expired, length-set reasons b reason);
       awake = awake_still;
       kept = kept_still;
     }
@@ -91,6 +91,29 @@ module _ (reasons : List (Option Reason)) (limits : List (Option ℕ)) (expired 
     changed_fit kept kept_is flags is =
         subst (λ ls. AllFit (seen (set reasons b reason) ls flags objects strips)) (sym kept_is)
         (subst (λ xs. AllFit (seen (set reasons b reason) (set limits b limit) xs objects strips)) (sym is) one_changed)
+
+-- a wait with a limit has expired
+module _ (reasons : List (Option Reason)) (limits : List (Option ℕ)) (expired : List Bool) (objects strips b : ℕ) (all : AllFit (seen reasons limits expired objects strips))
+    (limited : is_some (limit_at (seen reasons limits expired objects strips) b) ≡ true) where
+  abbrev then : WaitsView
+  then = seen reasons limits (set expired b true) objects strips
+
+  kept_then : (x : ℕ) → reason_at then x ≡ None → has_expired_at then x ≡ false
+  kept_then x none =
+      elim (cases_eq x b) [
+        | inl at ↦ absurd (both_ways (is_some (limit_at then b)) (ap is_some (all.awake b (subst (λ y. reason_at then y ≡ None) at none))) limited)
+        | inr apart ↦ get_or-set_other expired b x true false apart ∙ all.kept x none
+      ]
+
+  pub expired_fit : (flags : List Bool) → flags ≡ set expired b true → AllFit (seen reasons limits flags objects strips)
+  expired_fit flags is =
+      subst (λ xs. AllFit (seen reasons limits xs objects strips)) (sym is)
+      (record {
+        fits = λ x why found. fits_still (seen reasons limits expired objects strips) then (length-set expired b true) refl refl why (all.fits x why found);
+        expired = omega (arith, length-set expired b true, all.expired);
+        awake = all.awake;
+        kept = kept_then;
+      })
 
 -- what the arrays are seen as has the blocks, and asks the same of reasons
 pub within_view : {reasons : List (Option Reason)} {limits : List (Option ℕ)} {expired : List Bool} {objects strips : ℕ} {v : WaitsView} → seen reasons limits expired objects strips ≡ v

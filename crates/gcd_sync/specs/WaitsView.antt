@@ -8,10 +8,10 @@ use Rattle.gcd_plan.specs.declared.reason.Reason.TheVariants.{Block, Group, Stri
 use Rattle.gcd_group.specs.GroupsView.{GroupsView, is_empty_since}
 use Rattle.gcd_sema.specs.SemasView.{SemasView, is_passed_at}
 use Rattle.gcd_apply.specs.StripsView.{StripsView, left_at}
-use Rattle.gcd_sync.specs.LimitRoom.{limit_room}
+use Rattle.gcd_plan.specs.Needs.{limit_room, park_room}
 
--- for each block by number what it waits for, where it is parked, and whether the wait has expired; for each of those of which
--- limits are kept the limit of this wait, if it has one; and how many objects and strips there are; times are milliseconds
+-- for each block of which that is kept, by number, what it waits for if it is parked, and the limit of this wait if it has one; for
+-- each block whether the wait has expired; and how many objects and strips there are; times are milliseconds
 pub record WaitsView : Type 0 where
   pub reasons : List (Option Reason)
   pub limits : List (Option ℕ)
@@ -22,7 +22,7 @@ pub record WaitsView : Type 0 where
 -- a plan's blocks before the first event: none is parked
 abbrev pub waits_of : PlanView → WaitsView
 waits_of plan = record {
-  reasons = replicate (length plan.blocks) None;
+  reasons = replicate (park_room plan) None;
   limits = replicate (limit_room plan) None;
   expired = replicate (length plan.blocks) false;
   objects = length plan.objects;
@@ -42,7 +42,7 @@ has_expired_at view b = slice_index_or view.expired b false
 
 -- what is waited for is of the plan, a position of the history has one after it, and a rank is a wait's, from 1
 abbrev pub Fits : WaitsView → Reason → Type 0
-Fits view (Block b) = b.0 < length view.reasons
+Fits view (Block b) = b.0 < length view.expired
 Fits view (Group g position) = (g.0 < view.objects) × (position + 1 < 2 ^ 32)
 Fits view (Strip a) = a < view.strips
 Fits view (Rank s rank) = (s.0 < view.objects) × (1 ≤ rank)
@@ -82,6 +82,6 @@ with_expired view b = record view { expired = slice_set view.expired b true }
 -- each reason fits
 pub record AllFit (view : WaitsView) : Type 0 where
   pub fits : (b : ℕ) (why : Reason) → reason_at view b ≡ Some why → Fits view why
-  pub expired : length view.expired ≡ length view.reasons
+  pub expired : length view.reasons ≤ length view.expired
   pub awake : (b : ℕ) → reason_at view b ≡ None → limit_at view b ≡ None
   pub kept : (b : ℕ) → reason_at view b ≡ None → has_expired_at view b ≡ false

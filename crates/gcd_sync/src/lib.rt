@@ -8,7 +8,6 @@
 //!
 //! | call | answer | what it leaves |
 //! |---|---|---|
-//! | `limit_room` | of how many blocks limits are kept: of none where no act of the plan waits with one | |
 //! | `Waits::new` | no block parked; or out of memory | |
 //! | `copied` | the same parked blocks once more; or out of memory | |
 //! | `park` | | the block parked, for this reason, without a limit |
@@ -30,8 +29,6 @@
 #![tactic(auto)]
 
 mod limit;
-mod room;
 mod waits;
 
-pub use room::limit_room;
 pub use waits::Waits;

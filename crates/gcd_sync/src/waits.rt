@@ -3,7 +3,6 @@ ghost use Rattle.std.specs.Prelude.{◌≡◌, ◌+◌, ◌<◌, ◌^◌, IfOk, 
 ghost use Rattle.gcd_sync.specs.WaitsView.{waits_of, reason_at, limit_at, has_expired_at, Fits, has_come_in, may_wake_in, with_parked, with_woken, with_expired};
 
 use crate::limit::Limit;
-use crate::room::limit_room;
 use gcd_apply::Strips;
 use gcd_group::Groups;
 use gcd_plan::{Blk, Plan, Reason};
@@ -16,8 +15,9 @@ use std::marker::Model;
 /// dispatch_group_wait(3), dispatch_semaphore_wait(3), dispatch_apply(3), dispatch_block_wait(3)). Contracts see it as plain lists by block (`WaitsView`).
 #[derive(Drop)]
 pub struct Waits {
+    // Of each block, or of none if no act of the plan parks its block.
     reasons: Vec<Option<Reason>>,
-    // Of each block, or of none where no act of the plan waits with a limit.
+    // Of each block, or of none if no act of the plan waits with a limit.
     limits: Vec<Limit>,
     expired: BitSet,
     objects: u32,
@@ -64,8 +64,8 @@ impl Waits {
         ensures { IfOk result (λ w. w ≡ waits_of plan.now) }
     {
         Ok(Waits {
-            reasons: vec![in alloc; None; plan.blocks() as usize]?,
-            limits: vec![in alloc; Limit::NONE; limit_room(plan) as usize]?,
+            reasons: vec![in alloc; None; plan.park_room() as usize]?,
+            limits: vec![in alloc; Limit::NONE; plan.limit_room() as usize]?,
             expired: BitSet::new(alloc, plan.blocks())?,
             objects: plan.objects(),
             strips: plan.strips().len(),
@@ -87,7 +87,7 @@ impl Waits {
 
     /// The block is parked from now on, until [`Waits::woken`], and waits for this without a limit (dispatch_sync(3),
     /// dispatch_group_wait(3), dispatch_semaphore_wait(3)). What it waits for is of the plan, the position of a group's wait
-    /// is below 2^32 - 1, and a rank is at least 1.
+    /// is below 2^32 - 1, and a rank is at least 1. What blocks wait for is kept: [`Plan::park_room`] tells of how many.
     pub fn park(&mut self, blk: Blk, why: Reason)
         requires blk { blk.0 < length self.old.reasons }
         requires why { Fits self.old why }
@@ -100,7 +100,7 @@ impl Waits {
 
     /// The same with a limit: from this time on, in milliseconds, the wait may expire (dispatch_group_wait(3),
     /// dispatch_semaphore_wait(3)). Limits are kept of the block, as of every block where an act of the plan waits with one:
-    /// [`limit_room`] tells of how many.
+    /// [`Plan::limit_room`] tells of how many.
     pub fn park_until(&mut self, blk: Blk, why: Reason, at: u32)
         requires blk { blk.0 < length self.old.reasons }
         requires room { blk.0 < length self.old.limits }
@@ -115,16 +115,17 @@ impl Waits {
 
     /// What the block waits for; None exactly where it is not parked (this project's own rule).
     pub fn reason(&self, blk: Blk) -> Option<Reason>
-        requires { blk.0 < length self.now.reasons }
         ensures { result ≡ reason_at self.now blk.0 }
     {
-        self.reasons[blk.0 as usize]
+        match self.reasons.get(blk.0 as usize) {
+            Some(why) => *why,
+            None => None,
+        }
     }
 
     /// The limit of the block's wait; None exactly where it is not parked with one (dispatch_group_wait(3),
     /// dispatch_semaphore_wait(3)).
     pub fn limit(&self, blk: Blk) -> Option<u32>
-        requires { blk.0 < length self.now.reasons }
         ensures limit { result ≡ limit_at self.now blk.0 }
         ensures parked { IfSome result (λ at. is_some (reason_at self.now blk.0) ≡ true) }
     {
@@ -144,7 +145,7 @@ impl Waits {
     /// Whether the wait of the block has expired; false where it is not parked (dispatch_group_wait(3),
     /// dispatch_semaphore_wait(3)).
     pub fn has_expired(&self, blk: Blk) -> bool
-        requires { blk.0 < length self.now.reasons }
+        requires { blk.0 < length self.now.expired }
         ensures expired { result ≡ has_expired_at self.now blk.0 }
         ensures parked { result ≡ true → is_some (reason_at self.now blk.0) ≡ true }
     {
@@ -164,15 +165,15 @@ impl Waits {
         ended: &[bool],
         blk: Blk,
     ) -> bool
-        requires blk { blk.0 < length self.now.reasons }
+        requires blk { blk.0 < length self.now.expired }
         requires parked { is_some (reason_at self.now blk.0) ≡ true }
         requires groups_of_the_plan { length groups.now.counts ≡ self.now.objects }
         requires semas_of_the_plan { length semas.now.waits ≡ self.now.objects }
         requires strips_of_the_plan { length strips.now.left ≡ self.now.strips }
-        requires flags { length ended.now ≡ length self.now.reasons }
+        requires flags { length ended.now ≡ length self.now.expired }
         ensures { result ≡ may_wake_in self.now groups.now semas.now strips.now ended.now blk.0 }
     {
-        match self.reasons[blk.0 as usize] {
+        match self.reason(blk) {
             Some(why) => self.has_come(groups, semas, strips, ended, why)
                 || self.expired.has(blk.0),
             None => false,
@@ -201,7 +202,7 @@ impl Waits {
         requires why { Fits self.now why }
         requires groups_of_the_plan { length groups.now.counts ≡ self.now.objects }
         requires semas_of_the_plan { length semas.now.waits ≡ self.now.objects }
-        requires flags { length ended.now ≡ length self.now.reasons }
+        requires flags { length ended.now ≡ length self.now.expired }
         ensures { result ≡ has_come_in groups.now semas.now strips.now ended.now why }
     {
         match why {

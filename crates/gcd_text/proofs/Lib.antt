@@ -2,3 +2,4 @@ pub mod FirstLines
 pub mod Parts
 mod Decimals
 mod FirstPlaces
+mod Pieces

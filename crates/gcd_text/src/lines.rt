@@ -8,6 +8,9 @@ use crate::limits::MAX_WORDS;
 use arrayvec::ArrayVec;
 use memchr::memchr;
 
+// LLVM tests so many bytes at once.
+const PIECE: usize = 16;
+
 // The place of the first byte 10.
 fn end_of_line(text: &[u8]) -> Option<usize>
     ensures { result ≡ position (λ c. c == 10) text.now }
@@ -37,12 +40,40 @@ fn is_line_byte(c: u8) -> bool
 }
 
 // The loop has no early exit, so that LLVM tests several bytes at a time.
-fn is_printable(line: &[u8]) -> bool
+fn is_short_printable(line: &[u8]) -> bool
     ensures { result ≡ is_printable line.now }
 {
     let mut so_far = true;
     for c in line {
         so_far = so_far & is_line_byte(*c);
+    }
+    so_far
+}
+
+// Whether each byte of the piece can stand in a line. LLVM tests the piece without a loop.
+fn is_piece_printable(piece: &[u8; PIECE]) -> bool
+    ensures { result ≡ is_printable piece.now }
+{
+    let mut so_far = true;
+    for c in piece {
+        so_far = so_far & is_line_byte(*c);
+    }
+    so_far
+}
+
+// Whether each byte of the line can stand in one. It tests whole pieces from the start, and the last bytes as one more piece, which may
+// overlap the others.
+fn is_printable(line: &[u8]) -> bool
+    ensures { result ≡ is_printable line.now }
+{
+    let Some(last) = line.last_chunk::<PIECE>() else {
+        return is_short_printable(line);
+    };
+    let mut so_far = is_piece_printable(last);
+    let mut rest = line;
+    while let Some((piece, more)) = rest.split_first_chunk::<PIECE>() {
+        so_far = so_far & is_piece_printable(piece);
+        rest = more;
     }
     so_far
 }

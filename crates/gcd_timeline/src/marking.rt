@@ -7,38 +7,40 @@ ghost use Rattle.gcd_timeline.specs.Marks.{is_run, mark_view, ended_from, given_
 
 use crate::mark::{Mark, Stretch};
 use crate::taking::{given, is_run, taken};
-use gcd_event::Event;
+use gcd_event::{Entry, Event};
 use gcd_plan::{Plan, Run};
 use std::alloc::{AllocError, Global};
 
 // The event at a place.
-fn event_at(events: &[Event], at: usize) -> Event
+fn event_at(events: &[Entry], at: usize) -> Event
     requires { at < length events.now }
     ensures { slice_get events.now at ≡ Some result }
 {
-    events[at]
+    events[at].event()
 }
 
 // How many events come before the one that gives the run back.
-fn before_given(plan: &Plan, events: &[Event], run: Run) -> Option<usize>
+fn before_given(plan: &Plan, events: &[Entry], run: Run) -> Option<usize>
     ensures exact { result ≡ position (λ e. is_run run (given plan.now e)) events.now }
     ensures within { IfSome result (λ count. count < length events.now) }
 {
     events
         .iter()
-        .position(|event| is_run(run, given(plan, *event)))
+        .position(|event| is_run(run, given(plan, event.event())))
 }
 
 // How many events come before the one that ends the run.
-fn before_ended(events: &[Event], run: Run) -> Option<usize>
+fn before_ended(events: &[Entry], run: Run) -> Option<usize>
     ensures exact { result ≡ position (λ e. is_run run (ended e)) events.now }
     ensures within { IfSome result (λ count. count < length events.now) }
 {
-    events.iter().position(|event| is_run(run, event.ended()))
+    events
+        .iter()
+        .position(|event| is_run(run, event.event().ended()))
 }
 
 // Where the run is given back, from this place on; the number of events where it is not.
-fn given_from(plan: &Plan, events: &[Event], run: Run, from: usize) -> usize
+fn given_from(plan: &Plan, events: &[Entry], run: Run, from: usize) -> usize
     requires { from ≤ length events.now }
     ensures { result ≡ given_from plan.now events.now run from }
 {
@@ -49,7 +51,7 @@ fn given_from(plan: &Plan, events: &[Event], run: Run, from: usize) -> usize
 }
 
 // Where the run ends, from this place on; the number of events where it does not.
-fn ended_from(events: &[Event], run: Run, from: usize) -> usize
+fn ended_from(events: &[Entry], run: Run, from: usize) -> usize
     requires { from ≤ length events.now }
     ensures exact { result ≡ ended_from events.now run from }
     ensures within { result ≤ length events.now }
@@ -63,7 +65,7 @@ fn ended_from(events: &[Event], run: Run, from: usize) -> usize
 // Adds the stretch of the run that begins at this place, if one does.
 fn add_stretch(
     plan: &Plan,
-    events: &[Event],
+    events: &[Entry],
     run: Run,
     at: usize,
     into: &mut Vec<Stretch>,
@@ -86,7 +88,7 @@ fn add_stretch(
 fn stretches_of(
     alloc: Global,
     plan: &Plan,
-    events: &[Event],
+    events: &[Entry],
     run: Run,
     from: usize,
 ) -> Result<Vec<Stretch>, AllocError>
@@ -112,7 +114,7 @@ fn push_mark(into: &mut Vec<Mark>, run: Run, stretches: Vec<Stretch>) -> Result<
 fn add_mark(
     alloc: Global,
     plan: &Plan,
-    events: &[Event],
+    events: &[Entry],
     at: usize,
     into: &mut Vec<Mark>,
 ) -> Result<(), AllocError>
@@ -129,7 +131,7 @@ fn add_mark(
 /// for each event up to its end that takes it (its Start or Deliver, and each Wake), on the lane of that event's worker, up to
 /// the event that gives it back (the act that parks it, or its end), or to the number of events where none does. An `Err` comes
 /// only where memory runs out. It looks at the events of each run once for its end and once for its stretches.
-pub fn marks(alloc: Global, plan: &Plan, events: &[Event]) -> Result<Vec<Mark>, AllocError>
+pub fn marks(alloc: Global, plan: &Plan, events: &[Entry]) -> Result<Vec<Mark>, AllocError>
     ensures { IfOk result (λ marks. map mark_view marks.items ≡ marks_of plan.now events.now) }
 {
     let mut marks = Vec::new(alloc);

@@ -5,7 +5,7 @@ ghost use Rattle.gcd_plan.specs.Limits.{max_events};
 use crate::loading::{Loaded, load_run};
 use crate::request::{Request, read_words};
 use crate::stop::Stop;
-use gcd_event::Event;
+use gcd_event::Entry;
 use gcd_history::State;
 use gcd_outer::Shelf;
 use gcd_picture::{Note, ScriptLines, Showing, svg, trace};
@@ -98,7 +98,7 @@ fn notes_of(
     alloc: Global,
     plan: &Plan,
     script: &[u8],
-    events: &[Event],
+    events: &[Entry],
 ) -> Result<Vec<Note>, AllocError>
     requires { length events.now ≤ max_events }
 {

@@ -6,7 +6,7 @@ ghost use Rattle.gcd_view.specs.Loads.{IsLoaded, IsScript, IsJournalAt};
 
 use crate::request::Request;
 use crate::stop::Stop;
-use gcd_event::Event;
+use gcd_event::Entry;
 use gcd_history::State;
 use gcd_journal::{CheckFault, JournalFault, check, read_journal};
 use gcd_outer::{LoadFault, Shelf};
@@ -22,7 +22,7 @@ pub struct Loaded {
     /// The plan that the script declares.
     pub plan: Plan,
     /// The events of the journal.
-    pub events: Vec<Event>,
+    pub events: Vec<Entry>,
     /// The state to which they have come.
     pub state: State,
 }
@@ -71,7 +71,7 @@ fn load_journal<S: Shelf>(
     plan: &Plan,
     shelf: &mut S,
     name: &str,
-) -> Result<Vec<Event>, Stop>
+) -> Result<Vec<Entry>, Stop>
     ensures journal { IfOk result (λ events. IsJournalAt S.tells (S.content shelf.old) name.now plan.now events.items) }
     ensures few { IfOk result (λ events. length events.items ≤ max_events) }
 {
@@ -85,7 +85,7 @@ fn load_journal<S: Shelf>(
 }
 
 // The state to which the events have come, where each is permitted where it stands.
-fn judge(alloc: Global, plan: &Plan, events: &[Event]) -> Result<State, Stop>
+fn judge(alloc: Global, plan: &Plan, events: &[Entry]) -> Result<State, Stop>
     requires { length events.now ≤ max_events }
     ensures { IfOk result (IsLawfulWith plan.now events.now) }
 {

@@ -5,7 +5,7 @@ ghost use Rattle.gcd_machine.specs.Stands.{StandsFor};
 ghost use Rattle.gcd_why.specs.Barred.{IsBarred};
 
 use gcd_cause::{Barred, Scene};
-use gcd_event::Event;
+use gcd_event::Entry;
 use gcd_machine::Machine;
 use gcd_plan::Plan;
 use std::alloc::AllocError;
@@ -16,7 +16,7 @@ pub fn find_barred(
     plan: &Plan,
     machine: &mut Machine,
     scene: &mut Scene,
-    events: &[Event],
+    events: &[Entry],
 ) -> Result<Option<Barred>, AllocError>
     requires begin { StandsFor machine.old plan.now [] }
     requires few { length events.now < 2 ^ 32 }
@@ -25,15 +25,16 @@ pub fn find_barred(
         (λ b. IsBarred plan.now events.now b.index b.event b.reason)) }
 {
     for (index, e) in events.iter().enumerate() {
-        if let Some(reason) = machine.permits(*e) {
+        let event = e.event();
+        if let Some(reason) = machine.permits(event) {
             return Ok(Some(Barred {
                 index: index as u32,
-                event: *e,
+                event,
                 reason,
             }));
         }
-        machine.apply(*e);
-        scene.take(plan, *e)?;
+        machine.apply(event);
+        scene.take(plan, event)?;
     }
     Ok(None)
 }

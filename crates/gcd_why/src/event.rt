@@ -7,7 +7,7 @@ ghost use Rattle.gcd_why.specs.Barred.{IsBarred};
 use crate::barred::find_barred;
 use crate::sentence::Sentence;
 use gcd_cause::{Barred, EventWords, Scene, Sight, in_the_way, why_name};
-use gcd_event::Event;
+use gcd_event::{Entry, Event};
 use gcd_machine::Machine;
 use gcd_plan::Plan;
 use std::alloc::{AllocError, Global};
@@ -20,9 +20,9 @@ pub struct EventSentence<'a> {
 }
 
 // The event that stands before it.
-fn before(events: &[Event], index: u32) -> Option<Event> {
+fn before(events: &[Entry], index: u32) -> Option<Event> {
     let place = (index as usize).checked_sub(1)?;
-    events.get(place).copied()
+    Some(events.get(place)?.event())
 }
 
 // The sentence of the event, at its place.
@@ -50,7 +50,7 @@ fn say_by<'a>(
     alloc: Global,
     plan: &Plan,
     file: &'a str,
-    events: &[Event],
+    events: &[Entry],
     machine: &mut Machine,
     scene: &mut Scene,
 ) -> Result<Option<EventSentence<'a>>, AllocError>
@@ -80,7 +80,7 @@ pub fn why_event<'a>(
     alloc: Global,
     plan: &Plan,
     file: &'a str,
-    events: &[Event],
+    events: &[Entry],
 ) -> Result<Option<EventSentence<'a>>, AllocError>
     requires few { length events.now < 2 ^ 32 }
     ensures { IfOk result (λ found. MatchOption found

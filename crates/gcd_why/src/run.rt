@@ -8,7 +8,7 @@ use gcd_cause::{
     ActWords, BlockNow, Place, Places, Scene, Sight, act_at, chain, code_name, hold_words, kind_of,
     misuse_words,
 };
-use gcd_event::Event;
+use gcd_event::{Entry, Event};
 use gcd_history::State;
 use gcd_machine::Machine;
 use gcd_plan::{Blk, MAX_EVENTS, Obj, Plan, Run, Why};
@@ -223,7 +223,7 @@ fn say_state(
     saying: &mut Saying,
     sight: Sight,
     state: State,
-    events: &[Event],
+    events: &[Entry],
 ) -> Result<(), AllocError> {
     match state {
         State::Drained => saying.notes(sight),
@@ -232,18 +232,19 @@ fn say_state(
             saying.notes(sight)
         }
         State::Misused => {
-            let Some(
-                Event::Misuse {
-                    run,
-                    index,
-                    code,
-                    ..
-                },
-            ) = events.last()
+            let Some(last) = events.last() else {
+                return Ok(());
+            };
+            let Event::Misuse {
+                run,
+                index,
+                code,
+                ..
+            } = last.event()
             else {
                 return Ok(());
             };
-            saying.misused(sight, *run, *index, *code)
+            saying.misused(sight, run, index, code)
         }
         State::Halted => Ok(()),
         State::Live => {
@@ -260,7 +261,7 @@ fn say_state(
 fn say_by(
     plan: &Plan,
     saying: &mut Saying,
-    events: &[Event],
+    events: &[Entry],
     machine: &mut Machine,
     scene: &mut Scene,
 ) -> Result<(), AllocError>
@@ -291,7 +292,7 @@ pub fn why_run<'a>(
     most: u32,
     file: &'a str,
     text: &[u8],
-    events: &[Event],
+    events: &[Entry],
 ) -> Result<Vec<Sentence<'a>>, AllocError>
     requires few { length events.now < 2 ^ 32 }
 {

@@ -53,6 +53,20 @@ abbrev pub HasStepped : PlanView → (h k : List Event) → Option Event → Typ
 HasStepped plan h k None = k ≡ h
 HasStepped plan h k (Some e) = IsStep plan h k e
 
+-- two events stand behind the others, each the choice of worker 0. Between them nothing can come of the outside if nothing could before
+pub record IsTwoSteps (plan : PlanView) (h k : List Event) : Type 0 where
+  pub first : Event
+  pub second : Event
+  pub is : k ≡ (h ++ first ∷ []) ++ second ∷ []
+  pub chosen : choice_of plan h 0 0 ≡ Some first
+  pub chosen_next : choice_of plan (h ++ first ∷ []) 0 0 ≡ Some second
+  pub calm : IsCalm plan h → IsCalm plan (h ++ first ∷ [])
+
+-- two events are there, or all is as it was
+abbrev pub HasSteppedTwice : PlanView → (h k : List Event) → Bool → Type 0
+HasSteppedTwice plan h k true = IsTwoSteps plan h k
+HasSteppedTwice plan h k false = k ≡ h
+
 -- a choice of worker 0 is there, or all is as it was
 pub record IsOneMore (plan : PlanView) (h k : List Event) : Type 0 where
   pub event : Event

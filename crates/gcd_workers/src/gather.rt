@@ -22,7 +22,7 @@ ghost use Rattle.gcd_workers.specs.Teams.{EachFrom, HasLed, IsHead, IsNew, IsPas
 
 use crate::refused::RunRefused;
 use crate::team::hands_of;
-use gcd_event::Event;
+use gcd_event::Entry;
 use gcd_front::{Front, Intake, Sent};
 use gcd_jobs::{Admits, Handler, Job};
 use gcd_outer::{Clock, Poller};
@@ -55,7 +55,7 @@ fn take_in<S: Slot>(board: &RowBoard<S>, pass: &mut RowPass<S>, hand: Hand<S>)
 }
 
 // Takes the passes of all hands into worker 0's, the first. That pass, and what was gathered of it.
-fn take_all<S: Slot>(board: &RowBoard<S>, mut hands: Vec<Hand<S>>) -> (RowPass<S>, Vec<Event>)
+fn take_all<S: Slot>(board: &RowBoard<S>, mut hands: Vec<Hand<S>>) -> (RowPass<S>, Vec<Entry>)
     requires some { 0 < length hands.items }
     requires hands { EachFrom (IsPassAt S.shape S.gives board.now) 0 hands.items }
     requires head { (d : Hand S) → IsHead 1 (length hands.items) (view (slice_index_or hands.items 0 d).pass) }
@@ -142,7 +142,7 @@ fn run_team<
     intake: &mut Intake<X>,
     poller: &mut P,
     clock: &mut C,
-) -> Result<(Pass<J, H>, Vec<Event>), AllocError>
+) -> Result<(Pass<J, H>, Vec<Entry>), AllocError>
     requires some { (0 < length hands.items) × (length hands.items ≤ max_workers) }
     requires hands { EachFrom (IsReadyAt (shape_of H.kind H.times H.total) (gives_of J.gives) pool.now) 0 hands.items }
     requires head { (d : Hand (Cell J H)) → IsHead 1 (length hands.items) (view (slice_index_or hands.items 0 d).pass) }
@@ -198,7 +198,7 @@ pub fn run_pool<
     intake: &mut Intake<X>,
     poller: &mut P,
     clock: &mut C,
-) -> Result<(Pass<J, H>, Vec<Event>), RunRefused>
+) -> Result<(Pass<J, H>, Vec<Entry>), RunRefused>
     requires pool { IsPool pool.now }
     requires pass { IsPassOf (shape_of H.kind H.times H.total) (gives_of J.gives) pool.now.board.now pass }
     requires new { IsNew (view pass) }

@@ -17,7 +17,7 @@ ghost use Rattle.gcd_workers.specs.Teams.{IsNew};
 
 use crate::jobs_run::JobsRun;
 use crate::opening::tallies_of;
-use gcd_event::Event;
+use gcd_event::Entry;
 use gcd_jobs::{Job, Tally};
 use gcd_machine::Machine;
 use gcd_plan::{Blk, Plan};
@@ -92,7 +92,7 @@ pub fn close<J: Job + Drop>(
     alloc: Global,
     board: Board<J, Tally>,
     pass: Pass<J, Tally>,
-    gathered: Vec<Event>,
+    gathered: Vec<Entry>,
 ) -> Result<JobsRun, AllocError>
     requires pass { IsPassOf tally_shape (gives_of J.gives) board pass }
     requires head { (view pass).worker ≡ 0 }

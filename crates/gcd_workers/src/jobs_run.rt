@@ -1,5 +1,5 @@
 // What a run of a caller's own jobs leaves, and why there may be none.
-use gcd_event::Event;
+use gcd_event::Entry;
 use gcd_history::State;
 use std::error::Error;
 use std::fmt;
@@ -8,7 +8,7 @@ use std::fmt;
 #[derive(Drop)]
 pub struct JobsRun {
     /// All events, in order.
-    pub journal: Vec<Event>,
+    pub journal: Vec<Entry>,
     /// For each block, by number, the value that its job gave where the block has ended and is not cancelled, and else None.
     pub values: Vec<Option<u64>>,
     /// How far the run has come.

@@ -1,5 +1,5 @@
 // A run that one worker keeps in a list, as far as it has come.
-ghost use Rattle.std.specs.Prelude.{◌≡◌, ◌<◌, ◌++◌, ◌∷◌, [], false, List, None, length, IfOk, OnOk};
+ghost use Rattle.std.specs.Prelude.{◌≡◌, ◌<◌, ◌+◌, ◌++◌, ◌∷◌, [], false, true, List, None, length, IfOk, OnOk};
 ghost use Rattle.gcd_event.specs.declared.event.Event.{Event};
 ghost use Rattle.gcd_history.specs.Choice.{is_work, worker_of};
 ghost use Rattle.gcd_history.specs.Intake.{accepted};
@@ -9,10 +9,11 @@ ghost use Rattle.gcd_jobs.specs.Contents.{contents};
 ghost use Rattle.gcd_jobs.specs.Ends.{EndFits};
 ghost use Rattle.gcd_loop.specs.Recorded.{Says};
 ghost use Rattle.gcd_loop.specs.Rushed.{IsRushed};
+ghost use Rattle.gcd_machine.specs.Calm.{IsCalm};
 ghost use Rattle.gcd_machine.specs.Stands.{StandsFor};
-ghost use Rattle.gcd_workers.specs.ListRuns.{HasChosen, HasStepped, IsListRun, IsNext};
+ghost use Rattle.gcd_workers.specs.ListRuns.{HasChosen, HasStepped, HasSteppedTwice, IsListRun, IsNext};
 
-use gcd_event::Event;
+use gcd_event::{Entry, Event};
 use gcd_jobs::{FileJob, Job};
 use gcd_loop::{PutEnd, Recorder, Step};
 use gcd_machine::Machine;
@@ -23,7 +24,7 @@ use std::sync::Wait;
 // The journal, the values of the blocks, and the machine that stands for the journal.
 #[derive(Drop)]
 pub(crate) struct ListRun {
-    pub(crate) journal: Vec<Event>,
+    pub(crate) journal: Vec<Entry>,
     pub(crate) values: Vec<u64>,
     pub(crate) machine: Machine,
 }
@@ -111,7 +112,7 @@ impl ListRun {
         ensures journal { OnOk result (self.new.journal.items ≡ self.old.journal.items ++ e ∷ []) }
         ensures run { IsListRun most plan.now (contents files.now) self.new.journal.items self.new.values.items self.new.machine }
     {
-        self.journal.push(e)?;
+        self.journal.push(Entry::of(e))?;
         self.machine.apply(e);
         note_end(plan, files, &self.machine, e, &mut self.values);
         Ok(())
@@ -133,12 +134,59 @@ impl ListRun {
         self.journal.reserve(1)?;
         match self.machine.quick(0) {
             Some(e) => {
-                self.journal.push_reserved(e);
+                self.journal.push_reserved(Entry::of(e));
                 note_end(plan, files, &self.machine, e, &mut self.values);
                 Ok(Some(e))
             }
             None => Ok(None),
         }
+    }
+
+    // Takes the start of the block that worker 0 starts next and then its end, if that is quick ([`Machine::quick_run`]), and says whether
+    // it is. An `Err` leaves the run as it was.
+    #[inline(always)]
+    fn record_run(&mut self, plan: &Plan, most: u32, files: &[Vec<u8>]) -> Result<bool, AllocError>
+        requires room { length self.old.journal.items + 1 < most }
+        requires run { IsListRun most plan.now (contents files.now) self.old.journal.items self.old.values.items self.old.machine }
+        ensures run { IsListRun most plan.now (contents files.now) self.new.journal.items self.new.values.items self.new.machine }
+        ensures stepped { IfOk result (HasSteppedTwice plan.now self.old.journal.items self.new.journal.items) }
+    {
+        self.journal.reserve(2)?;
+        match self.machine.quick_run(0) {
+            Some(blk) => {
+                let start = Event::Start { worker: 0, blk };
+                let end = Event::End { worker: 0, blk };
+                self.journal.push_reserved(Entry::of(start));
+                self.journal.push_reserved(Entry::of(end));
+                note_end(plan, files, &self.machine, end, &mut self.values);
+                Ok(true)
+            }
+            None => Ok(false),
+        }
+    }
+
+    // Records starts and ends of blocks, as long as they are quick and nothing can come of the outside, and says whether nothing can. An
+    // `Err` leaves a run.
+    #[inline(always)]
+    fn rush_through(
+        &mut self,
+        plan: &Plan,
+        most: u32,
+        files: &[Vec<u8>],
+    ) -> Result<bool, AllocError>
+        requires run { IsListRun most plan.now (contents files.now) self.old.journal.items self.old.values.items self.old.machine }
+        ensures run { IsListRun most plan.now (contents files.now) self.new.journal.items self.new.values.items self.new.machine }
+        ensures rushed { OnOk result (IsRushed plan.now self.old.journal.items self.new.journal.items) }
+        ensures calm { IfOk result (λ calm. calm ≡ true → IsCalm plan.now self.new.journal.items) }
+    {
+        let mut calm = self.machine.is_calm();
+        while calm && most - self.machine.len() > 1 {
+            if !self.record_run(plan, most, files)? {
+                return Ok(true);
+            }
+            calm = self.machine.is_calm();
+        }
+        Ok(calm)
     }
 
     // Records worker 0's choice, and says whether there was one. An `Err` leaves the run as it was.
@@ -171,7 +219,11 @@ impl ListRun {
         let mut calm = self.machine.is_calm();
         while calm && self.machine.len() < most {
             match self.record_quick(plan, most, files)? {
-                Some(e) => calm = e.ended().is_none() || self.machine.is_calm(),
+                Some(e) => {
+                    if e.ended().is_some() {
+                        calm = self.rush_through(plan, most, files)?;
+                    }
+                }
                 None => {
                     if !self.record_choice(plan, most, files)? {
                         return Ok(());

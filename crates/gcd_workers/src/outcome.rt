@@ -1,5 +1,5 @@
 // What a run leaves.
-use gcd_event::Event;
+use gcd_event::Entry;
 use gcd_history::State;
 use gcd_machine::Machine;
 
@@ -7,7 +7,7 @@ use gcd_machine::Machine;
 #[derive(Drop)]
 pub struct Outcome {
     /// All events, in order.
-    pub journal: Vec<Event>,
+    pub journal: Vec<Entry>,
     /// For each block the value of its work where it has ended and is not cancelled, and else 0.
     pub values: Vec<u64>,
     /// How far the run has come.

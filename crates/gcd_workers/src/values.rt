@@ -9,7 +9,7 @@ ghost use Rattle.gcd_row.specs.declared.cell.Cell.TheVariants.{Done};
 ghost use Rattle.gcd_workers.specs.EndedValues.{HaveTheirValues, HasItsValue};
 
 use crate::opening::WorkCell;
-use gcd_event::Event;
+use gcd_event::{Entry, Event};
 use gcd_plan::{Plan, Run};
 use gcd_row::Cell;
 
@@ -48,7 +48,7 @@ pub fn note_all(
     plan: &Plan,
     files: &[Vec<u8>],
     cells: &[WorkCell],
-    journal: &[Event],
+    journal: &[Entry],
     values: &mut Vec<u64>,
 )
     requires zeros { values.old.items ≡ replicate (length plan.now.blocks) 0 }
@@ -58,6 +58,6 @@ pub fn note_all(
     ensures { AreValues plan.now (contents files.now) journal.now values.new.items }
 {
     for e in journal {
-        note_end(plan, files, cells, *e, values);
+        note_end(plan, files, cells, e.event(), values);
     }
 }

@@ -23,7 +23,7 @@ use crate::opening::{WorkBoard, WorkCell, WorkPass, open_board};
 use crate::outcome::Outcome;
 use crate::refused::RunRefused;
 use crate::values::note_all;
-use gcd_event::Event;
+use gcd_event::Entry;
 use gcd_outer::{Clock, Poller};
 use gcd_plan::Plan;
 use gcd_pool::Pool;
@@ -42,7 +42,7 @@ fn close<'a>(
     files: &'a [Vec<u8>],
     board: WorkBoard<'a>,
     pass: WorkPass<'a>,
-    gathered: Vec<Event>,
+    gathered: Vec<Entry>,
     mut values: Vec<u64>,
     _workers: u8,
 ) -> Result<Outcome, AllocError>

@@ -38,11 +38,11 @@ use Rattle.gcd_refinement.specs.AfterLimits.{limit_in_view}
 use Rattle.gcd_refinement.specs.Stands.{IsTied}
 use Rattle.gcd_refinement.proofs.LawfulActs.{proper, proper_parts}
 use Rattle.gcd_refinement.proofs.Step.Waits.{unparked}
-use Rattle.gcd_refinement.proofs.Limits.LimitRoom.{room_of_limit}
+use Rattle.gcd_refinement.proofs.Rooms.{room_of_act, room_of_limit}
 use Rattle.gcd_refinement.proofs.Tied.{tied_step}
 use Rattle.gcd_machine.specs.Conditions.{CanKeepLimit, CanBeAhead, CanSetFree, CanPark, CanLayDown, CanSubmit, CanSignal, CanRetain, CanRelease, CanHaveEffect, CanCall, CanWaitForGroup, CanWaitForSemaphore, CanWaitForStrip, CanWaitForBlock, CanSubmitStrip, CanParkBy, CanParkIn, CanCount, CanAct}
-use Rattle.gcd_blockobj.specs.MarkRoom.{mark_room}
-use Rattle.gcd_refinement.proofs.Blocks.MarkRoom.{room_of_act}
+use Rattle.gcd_plan.specs.Effects.{parks}
+use Rattle.gcd_plan.specs.Needs.{is_of_block, mark_room, park_room}
 use Rattle.gcd_machine.proofs.Conditions.NewBlocks.{unsubmitted, by_act, by_strip, by_notify, by_end_notify, nowhere}
 use Rattle.gcd_machine.proofs.Conditions.Groups.{can_let_go, can_submit, can_wake_at, position_low, can_enter, can_submit_member, can_leave_by_act, can_register, can_tell_of}
 use Rattle.gcd_machine.proofs.Conditions.Activity.{can_activate, can_resume, can_suspend, can_cancel, can_merge}
@@ -106,16 +106,16 @@ module _ (past : List Event) (m : MachineView) (t : IsTied m.plan past m) (room 
 
   -- ## Waits
 
-  can_park : (w : ℕ) (b : Blk) (why : Reason) (limit : Option ℕ) → CanSetFree m w → b.0 < length m.plan.blocks → Fits m.waits why → ((end : ℕ) → limit ≡ Some end → CanKeepLimit m b end) → CanPark m w b why limit
-  can_park w b why limit worker low fits keeps = let long = t.parts.reasons in record { worker = worker; blk = omega (arith, low, long); fits = fits; keeps = keeps }
+  can_park : (w : ℕ) (b : Blk) (why : Reason) (limit : Option ℕ) → park_room m.plan ≡ length m.plan.blocks → CanSetFree m w → b.0 < length m.plan.blocks → Fits m.waits why → ((end : ℕ) → limit ≡ Some end → CanKeepLimit m b end) → CanPark m w b why limit
+  can_park w b why limit all worker low fits keeps = let long = t.parts.reasons in record { worker = worker; blk = omega (arith, low, long, all); fits = fits; keeps = keeps }
 
-  can_lay_down : (o : Obj) (b : Blk) (w : ℕ) → has_run m.plan past w (Block b) ≡ true → o.0 < length m.plan.objects → b.0 < length m.plan.blocks → CanLayDown m o b
-  can_lay_down o b w own object block =
+  can_lay_down : (o : Obj) (b : Blk) (w : ℕ) → park_room m.plan ≡ length m.plan.blocks → has_run m.plan past w (Block b) ≡ true → o.0 < length m.plan.objects → b.0 < length m.plan.blocks → CanLayDown m o b
+  can_lay_down o b w all own object block =
       let long = t.own.sleepers in
       let blocks = t.own.sleeper_blocks in
       record {
         object = omega (arith, object, long);
-        blk = omega (arith, block, blocks);
+        blk = omega (arith, block, blocks, all);
         awake = t.places.awake b.0 (t.waits.reasons b.0 ∙ awake_now m.plan past (Block b) (unparked m.plan past w (Block b) own));
       }
 
@@ -138,24 +138,25 @@ module _ (past : List Event) (m : MachineView) (t : IsTied m.plan past m) (room 
       let all = room_of_limit m.plan m b i end (ap (limit_in_view m) at ∙ is) in
       record { kept = omega (arith, block, ahead, all); short = short_limit act end is }
 
-  can_call : (w : ℕ) (b c : Blk) → CanSetFree m w → b.0 < length m.plan.blocks → c.0 < length m.plan.blocks → CanCall m w b c
-  can_call w b c worker block called =
+  can_call : (w : ℕ) (b c : Blk) → park_room m.plan ≡ length m.plan.blocks → CanSetFree m w → b.0 < length m.plan.blocks → c.0 < length m.plan.blocks → CanCall m w b c
+  can_call w b c all worker block called =
       let long = t.own.blocks in
-      let reasons = t.parts.reasons in
+      let expired = t.parts.expired in
       let few = t.valid.few_blocks in
-      record { called = omega (arith, called, long); low = omega (arith, block, few); parks = can_park w b (EndOf c) None worker block (omega (arith, called, reasons)) (λ end is. cc) }
+      record { called = omega (arith, called, long); low = omega (arith, block, few); parks = can_park w b (EndOf c) None all worker block (omega (arith, called, expired)) (λ end is. cc) }
 
-  can_wait_for_group : (w : ℕ) (b : Blk) (i : ℕ) (act : Act) (g : Obj) → act_at m.plan (Block b) i ≡ Some act → has_run m.plan past w (Block b) ≡ true → CanSetFree m w → b.0 < length m.plan.blocks → g.0 < length m.plan.objects
+  can_wait_for_group : (w : ℕ) (b : Blk) (i : ℕ) (act : Act) (g : Obj) → act_at m.plan (Block b) i ≡ Some act → parks act ≡ true → has_run m.plan past w (Block b) ≡ true → CanSetFree m w → b.0 < length m.plan.blocks → g.0 < length m.plan.objects
       → CanWaitForGroup m w b g (limit_in_view m (Some act))
-  can_wait_for_group w b i act g at own worker block group =
+  can_wait_for_group w b i act g at parking own worker block group =
+      let all = room_of_act parks m.plan (Block b) i act at parking in
       let counts = t.parts.counts in
       let objects = t.parts.wait_objects in
       record {
         group = omega (arith, group, counts);
         over = can_let_go past m t room b block;
-        sleeps = can_lay_down g b w own group block;
+        sleeps = can_lay_down g b w all own group block;
         ahead = can_be_ahead b i act at block;
-        parks = can_park w b (Empty g m.len) (limit_in_view m (Some act)) worker block (omega (arith, group, objects), position_low past m t room) (can_keep b i act at block);
+        parks = can_park w b (Empty g m.len) (limit_in_view m (Some act)) all worker block (omega (arith, group, objects), position_low past m t room) (can_keep b i act at block);
       }
 
   -- the plan has room for each wait that its acts begin
@@ -167,61 +168,62 @@ module _ (past : List Event) (m : MachineView) (t : IsTied m.plan past m) (room 
       let split = length-append (expiries_at m.semas s.0) (false ∷ []) in
       omega (arith, now, one_more, split)
 
-  can_wait_for_semaphore : (w : ℕ) (b : Blk) (i : ℕ) (act : Act) (s : Obj) → act_at m.plan (Block b) i ≡ Some act → has_run m.plan past w (Block b) ≡ true → CanSetFree m w → b.0 < length m.plan.blocks → s.0 < length m.plan.objects → waits_at m.semas s.0 < room_at m.semas s.0
+  can_wait_for_semaphore : (w : ℕ) (b : Blk) (i : ℕ) (act : Act) (s : Obj) → act_at m.plan (Block b) i ≡ Some act → parks act ≡ true → has_run m.plan past w (Block b) ≡ true → CanSetFree m w → b.0 < length m.plan.blocks → s.0 < length m.plan.objects → waits_at m.semas s.0 < room_at m.semas s.0
       → CanWaitForSemaphore m w b s (limit_in_view m (Some act))
-  can_wait_for_semaphore w b i act s at own worker block semaphore has =
+  can_wait_for_semaphore w b i act s at parking own worker block semaphore has =
+      let all = room_of_act parks m.plan (Block b) i act at parking in
       let waits = t.parts.waits in
       let objects = t.parts.wait_objects in
       record {
         semaphore = omega (arith, semaphore, waits);
         room = has;
         over = can_let_go past m t room b block;
-        sleeps = can_lay_down s b w own semaphore block;
+        sleeps = can_lay_down s b w all own semaphore block;
         ahead = can_be_ahead b i act at block;
-        parks = can_park w b (Rank s (waits_at m.semas s.0 + 1)) (limit_in_view m (Some act)) worker block (omega (arith, semaphore, objects), omega arith) (can_keep b i act at block);
+        parks = can_park w b (Rank s (waits_at m.semas s.0 + 1)) (limit_in_view m (Some act)) all worker block (omega (arith, semaphore, objects), omega arith) (can_keep b i act at block);
       }
 
   -- a block that applies a strip waits for it
-  can_wait_for_strip : (w : ℕ) (b : Blk) (a : ℕ) → CanSetFree m w → b.0 < length m.plan.blocks → a < length m.plan.strips → CanWaitForStrip m w b a
-  can_wait_for_strip w b a worker block strip =
+  can_wait_for_strip : (w : ℕ) (b : Blk) (a : ℕ) → park_room m.plan ≡ length m.plan.blocks → CanSetFree m w → b.0 < length m.plan.blocks → a < length m.plan.strips → CanWaitForStrip m w b a
+  can_wait_for_strip w b a all worker block strip =
       let appliers = t.own.appliers in
       let strips = t.parts.wait_strips in
       record {
         strip = omega (arith, strip, appliers);
         over = can_let_go past m t room b block;
-        parks = can_park w b (Strip a) None worker block (omega (arith, strip, strips)) (λ end is. cc);
+        parks = can_park w b (Strip a) None all worker block (omega (arith, strip, strips)) (λ end is. cc);
       }
 
-  can_wait_for_block : (w : ℕ) (b c : Blk) → has_run m.plan past w (Block b) ≡ true → CanSetFree m w → b.0 < length m.plan.blocks → c.0 < length m.plan.blocks → mark_room m.plan ≡ length m.plan.blocks → CanWaitForBlock m w b c
-  can_wait_for_block w b c own worker block awaited whole =
+  can_wait_for_block : (w : ℕ) (b c : Blk) → park_room m.plan ≡ length m.plan.blocks → has_run m.plan past w (Block b) ≡ true → CanSetFree m w → b.0 < length m.plan.blocks → c.0 < length m.plan.blocks → mark_room m.plan ≡ length m.plan.blocks → CanWaitForBlock m w b c
+  can_wait_for_block w b c all own worker block awaited whole =
       let ended = t.own.ended in
       let waiters = t.own.waiters in
       let waiting = t.own.waiter_blocks in
-      let reasons = t.parts.reasons in
+      let expired = t.parts.expired in
       record {
         known = omega (arith, awaited, ended);
         awaited = omega (arith, awaited, waiters, whole);
         waiting = omega (arith, block, waiting, whole);
         waits_for_none = t.places.patient b.0 (t.waits.reasons b.0 ∙ awake_now m.plan past (Block b) (unparked m.plan past w (Block b) own));
         over = can_let_go past m t room b block;
-        parks = can_park w b (EndOf c) None worker block (omega (arith, awaited, reasons)) (λ end is. cc);
+        parks = can_park w b (EndOf c) None all worker block (omega (arith, awaited, expired)) (λ end is. cc);
       }
 
   can_park_by : (w : ℕ) (b : Blk) (i : ℕ) (act : Act) → IsLawful m.plan (Acted w (Block b) i ∷ past) → act_at m.plan (Block b) i ≡ Some act → has_run m.plan past w (Block b) ≡ true → CanSetFree m w → b.0 < length m.plan.blocks → is_act m.plan act ≡ true
       → CanParkBy m w b act
-  can_park_by w b i (Sync q c) lawful at own worker block fits = can_call w b c worker block (declared_within m.plan c (and_parts (is_queue m.plan q.0) _ fits).1)
-  can_park_by w b i (BarrierSync q c) lawful at own worker block fits = can_call w b c worker block (declared_within m.plan c (and_parts (is_queue m.plan q.0) _ fits).1)
-  can_park_by w b i (GroupWait g) lawful at own worker block fits = can_wait_for_group w b i (GroupWait g) g at own worker block (has_object is_group_kind m.plan g.0 fits)
+  can_park_by w b i (Sync q c) lawful at own worker block fits = can_call w b c (room_of_act parks m.plan (Block b) i (Sync q c) at refl) worker block (declared_within m.plan c (and_parts (is_queue m.plan q.0) _ fits).1)
+  can_park_by w b i (BarrierSync q c) lawful at own worker block fits = can_call w b c (room_of_act parks m.plan (Block b) i (BarrierSync q c) at refl) worker block (declared_within m.plan c (and_parts (is_queue m.plan q.0) _ fits).1)
+  can_park_by w b i (GroupWait g) lawful at own worker block fits = can_wait_for_group w b i (GroupWait g) g at refl own worker block (has_object is_group_kind m.plan g.0 fits)
   can_park_by w b i (GroupWaitFor g ms) lawful at own worker block fits =
-      can_wait_for_group w b i (GroupWaitFor g ms) g at own worker block (has_object is_group_kind m.plan g.0 (and_parts (has_kind is_group_kind m.plan g.0) _ fits).0)
+      can_wait_for_group w b i (GroupWaitFor g ms) g at refl own worker block (has_object is_group_kind m.plan g.0 (and_parts (has_kind is_group_kind m.plan g.0) _ fits).0)
   can_park_by w b i (Wait s) lawful at own worker block fits =
       let low = has_object is_semaphore_kind m.plan s.0 fits in
-      can_wait_for_semaphore w b i (Wait s) s at own worker block low (has_room (Acted w (Block b) i) s lawful (ap (semas_by m.semas) at) low)
+      can_wait_for_semaphore w b i (Wait s) s at refl own worker block low (has_room (Acted w (Block b) i) s lawful (ap (semas_by m.semas) at) low)
   can_park_by w b i (WaitFor s ms) lawful at own worker block fits =
       let low = has_object is_semaphore_kind m.plan s.0 (and_parts (has_kind is_semaphore_kind m.plan s.0) _ fits).0 in
-      can_wait_for_semaphore w b i (WaitFor s ms) s at own worker block low (has_room (Acted w (Block b) i) s lawful (ap (semas_by m.semas) at) low)
-  can_park_by w b i (Apply q a) lawful at own worker block fits = can_wait_for_strip w b a worker block (ltb-true a (length m.plan.strips) (and_parts (is_queue m.plan q.0) _ fits).1)
-  can_park_by w b i (WaitBlock c) lawful at own worker block fits = can_wait_for_block w b c own worker block (declared_within m.plan c fits) (room_of_act m.plan (Block b) i (WaitBlock c) at refl)
+      can_wait_for_semaphore w b i (WaitFor s ms) s at refl own worker block low (has_room (Acted w (Block b) i) s lawful (ap (semas_by m.semas) at) low)
+  can_park_by w b i (Apply q a) lawful at own worker block fits = can_wait_for_strip w b a (room_of_act parks m.plan (Block b) i (Apply q a) at refl) worker block (ltb-true a (length m.plan.strips) (and_parts (is_queue m.plan q.0) _ fits).1)
+  can_park_by w b i (WaitBlock c) lawful at own worker block fits = can_wait_for_block w b c (room_of_act parks m.plan (Block b) i (WaitBlock c) at refl) own worker block (declared_within m.plan c fits) (room_of_act is_of_block m.plan (Block b) i (WaitBlock c) at refl)
   can_park_by w b i act lawful at own worker block fits = tt
 
   can_park_in : (w : ℕ) (run : Run) (i : ℕ) (act : Act) → IsLawful m.plan (Acted w run i ∷ past) → act_at m.plan run i ≡ Some act → has_run m.plan past w run ≡ true → CanSetFree m w → is_run_of m.plan run ≡ true → is_act m.plan act ≡ true → CanParkIn m w run act
@@ -332,7 +334,7 @@ module _ (past : List Event) (m : MachineView) (t : IsTied m.plan past m) (room 
   have_effect w run i (NotifyBlock c q d) lawful at fits =
       let parts = and_parts (is_declared m.plan c) _ fits in
       let rest = and_parts (is_queue m.plan q.0) _ parts.1 in
-      let whole = room_of_act m.plan run i (NotifyBlock c q d) at refl in
+      let whole = room_of_act is_of_block m.plan run i (NotifyBlock c q d) at refl in
       can_tell_of past m t room c q d (by_end_notify m.plan past (Acted w run i) c q d t.valid lawful at) whole (declared_within m.plan c parts.0) (has_object is_queue_kind m.plan q.0 rest.0) (declared_within m.plan d rest.1)
   have_effect w run i (Release o) lawful at fits = let low = counted_low o fits in can_release (Acted w run i) o lawful at low.0 low.1
 

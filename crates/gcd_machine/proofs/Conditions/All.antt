@@ -13,6 +13,8 @@ use Rattle.gcd_plan.specs.StartRule.{first_of, is_held}
 use Rattle.gcd_plan.specs.declared.numbers.Blk.{Blk}
 use Rattle.gcd_plan.specs.declared.numbers.Obj.{Obj}
 use Rattle.gcd_plan.specs.declared.numbers.Run.TheVariants.{Block, Source}
+use Rattle.gcd_plan.specs.Needs.{has_limit, is_of_block}
+use Rattle.gcd_plan.proofs.Needed.{room_low}
 use Rattle.gcd_plan.proofs.Within.{has_object}
 use Rattle.gcd_event.specs.declared.event.Event.{Event}
 use Rattle.gcd_event.specs.declared.event.Event.TheVariants.{Start, Act as Acted, Wake, End, Deliver, DeliverEnd, Tick, Ready, FeedEnd, Misuse, Halt, Expire, Accept, Shut}
@@ -23,12 +25,11 @@ use Rattle.gcd_history.specs.Timers.{now}
 use Rattle.gcd_history.specs.Due.{may_tick}
 use Rattle.gcd_history.specs.Permitted.{is_worker, has_block, is_feed, knowledge, waiting_reasons, node_reasons, why}
 use Rattle.gcd_history.specs.History.{why as why_after}
-use Rattle.gcd_history.proofs.Permitted.Reasons.{allowed, at_start, at_end, at_deliver, at_deliver_end, at_tick, waiting_facts}
+use Rattle.gcd_history.proofs.Permitted.Reasons.{allowed, at_start, at_wake, at_end, at_deliver, at_deliver_end, at_tick, waiting_facts}
 use Rattle.gcd_history.proofs.Blocks.StartedOnce.{open_from_has_run}
 use Rattle.gcd_refinement.specs.MachineView.{MachineView, block_at}
 use Rattle.gcd_refinement.specs.Stands.{IsTied}
-use Rattle.gcd_refinement.proofs.Limits.LimitRoom.{room_low}
-use Rattle.gcd_refinement.proofs.Blocks.MarkRoom.{room_low as room_low_of_marks}
+use Rattle.gcd_refinement.proofs.Rooms.{kept_within}
 use Rattle.gcd_apply.specs.StripsView.{StripsView, left_at, strip_at}
 use Rattle.gcd_machine.specs.Conditions.{CanTakeUp, CanStart, CanWake, CanEnd, CanEndWaits, CanAccept, CanDeliver, CanEndDelivery, CanTick, CanChange, CanTake}
 use Rattle.gcd_machine.specs.Stands.{StandsFor, MayApply}
@@ -38,7 +39,7 @@ use Rattle.gcd_machine.proofs.Conditions.NewBlocks.{unsubmitted, by_accept, nowh
 use Rattle.gcd_machine.proofs.Conditions.Groups.{can_submit, can_let_go, position_low, can_leave_told, can_tell}
 use Rattle.gcd_machine.proofs.Conditions.Activity.{can_cancel, can_merge}
 use Rattle.gcd_machine.proofs.Conditions.Acts.{can_set_free, can_act}
-use Rattle.gcd_machine.proofs.Conditions.Expiries.{can_expire}
+use Rattle.gcd_machine.proofs.Conditions.Expiries.{waits_for, can_expire}
 use Rattle.gcd_plan.specs.Limits.{max_workers, max_value, max_intake}
 
 -- nothing on the chain of a block that may start is held
@@ -108,16 +109,20 @@ module _ (past : List Event) (m : MachineView) (t : IsTied m.plan past m) (room 
   can_wake w b may =
       let known = and_parts (is_worker w) (has_block m.plan b.0) (allowed m.plan past (Wake w b) may).known in
       let low = ltb-true b.0 (length m.plan.blocks) known.1 in
-      let reasons = t.parts.reasons in
+      let for = waits_for m.plan past b.0 (at_wake m.plan past w b may).parked in
       let wakeable = t.own.wakeable in
-      record { worker = can_take_up w known.0; blk = omega (arith, low, reasons); wakeable = omega (arith, low, wakeable) }
+      record {
+        worker = can_take_up w known.0;
+        blk = kept_within m.waits.reasons b.0 for.0 (t.waits.reasons b.0 ∙ for.1);
+        wakeable = omega (arith, low, wakeable);
+      }
 
   can_end_waits : (b : Blk) → CanEndWaits m b (block_at m b.0).caller
   can_end_waits b =
       let waiting = t.own.waiter_blocks in
       let wakeable = t.own.wakeable in
       let ripe = t.own.ripe in
-      let few = room_low_of_marks m.plan in
+      let few = room_low is_of_block m.plan in
       let left = t.parts.strips in
       let appliers = t.own.appliers in
       record {
@@ -185,7 +190,7 @@ module _ (past : List Event) (m : MachineView) (t : IsTied m.plan past m) (room 
       record {
         forward = omega (arith, within, moment);
         within = omega (arith, within, until);
-        limits = let room = room_low m.plan in omega (arith, ahead, ripe, room);
+        limits = let room = room_low has_limit m.plan in omega (arith, ahead, ripe, room);
         marked = busy ∙ sym (ap length kinds ∙ length-map m.plan.objects (λ o. o.kind));
       }
 

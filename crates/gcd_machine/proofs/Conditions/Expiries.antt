@@ -22,6 +22,7 @@ use Rattle.gcd_history.specs.Permitted.{why}
 use Rattle.gcd_history.proofs.Permitted.Reasons.{allowed, at_expire}
 use Rattle.gcd_lists.specs.ListsView.{ListsView, barrier_in, place_of}
 use Rattle.gcd_lists.proofs.Places.{in_list_of_place}
+use Rattle.gcd_refinement.proofs.Rooms.{kept_within}
 use Rattle.gcd_refinement.specs.MachineView.{MachineView}
 use Rattle.gcd_refinement.specs.Stands.{IsTied}
 use Rattle.gcd_machine.proofs.Views.Sleepers.{sleeps_in}
@@ -59,7 +60,7 @@ unfolding is_at_limit
 limit_some plan past b at = has_limit (limit plan past b) (λ end. nat_le end (now past)) at
 
 -- what a parked block waits for
-waits_for : (plan : PlanView) (past : List Event) (b : ℕ) → is_parked plan past b ≡ true → (why : Reason) × (awaited plan past (Block (record { 0 = b })) ≡ Some why)
+pub waits_for : (plan : PlanView) (past : List Event) (b : ℕ) → is_parked plan past b ≡ true → (why : Reason) × (awaited plan past (Block (record { 0 = b })) ≡ Some why)
 unfolding is_parked
 waits_for plan past b parked = some_from_is_some (awaited plan past (Block (record { 0 = b }))) parked
 
@@ -86,9 +87,10 @@ module _ (past : List Event) (m : MachineView) (t : IsTied m.plan past m) (room 
   can_end_wait : (b : Blk) (reason : Reason) → b.0 < length m.plan.blocks → awaited m.plan past (Block b) ≡ Some reason → is_over m.plan past reason ≡ false → CanEndWait m b (Some reason)
   can_end_wait b reason low is waits =
       let blocks = t.own.sleeper_blocks in
+      let within = kept_within m.waits.reasons b.0 reason (t.waits.reasons b.0 ∙ is) in
       let asleep = sleeps_in m.plan past m b reason t is waits in
       record {
-        listed = omega (arith, low, blocks);
+        listed = omega (arith, within, blocks, t.parts.reasons);
         objects = t.own.sleepers ∙ sym t.parts.waits;
         known = λ o at. place_within m.sleepers b.0 o (asleep ∙ at);
         asleep = asleep;
@@ -101,10 +103,9 @@ module _ (past : List Event) (m : MachineView) (t : IsTied m.plan past m) (room 
   can_expire b may =
       let facts = at_expire m.plan past b may in
       let low = ltb-true b.0 (length m.plan.blocks) (allowed m.plan past (Expire b) may).known in
-      let reasons = t.parts.reasons in
       let for = waits_for m.plan past b.0 facts.parked in
       record {
-        blk = omega (arith, low, reasons);
+        blk = kept_within m.waits.reasons b.0 for.0 (t.waits.reasons b.0 ∙ for.1);
         over = can_let_go past m t room b low;
         limited = ap is_some (t.waits.limits b.0) ∙ limit_some m.plan past b.0 facts.at_limit;
         ends = subst (CanEndWait m b) (sym (t.waits.reasons b.0 ∙ for.1)) (can_end_wait b for.0 low for.1 (not_over m.plan past b.0 for.0 facts.not_over for.1));

@@ -18,8 +18,9 @@ use Rattle.gcd_refinement.proofs.Groups.Members.{is_group}
 use Rattle.gcd_refinement.proofs.Step.Groups.{fits_at, end_counts}
 use Rattle.gcd_refinement.proofs.Step.Submits.{counts_of}
 use Rattle.gcd_machine.specs.Conditions.{CanLetGo, CanWakeAt, CanSubmit, HaveHomes, CanComeEmpty, CanLeave, CanLeaveTold, CanLeaveByAct, HaveHomesAtEnd, CanTell, CanTellOf, CanEnter, CanSubmitMember, CanRegister}
-use Rattle.gcd_blockobj.specs.MarkRoom.{mark_room}
-use Rattle.gcd_refinement.proofs.Blocks.MarkRoom.{room_low}
+use Rattle.gcd_plan.specs.Effects.{parks}
+use Rattle.gcd_plan.specs.Needs.{is_of_block, mark_room}
+use Rattle.gcd_plan.proofs.Needed.{room_low}
 use Rattle.gcd_machine.proofs.Conditions.NewBlocks.{IsNew, notified_nowhere, told_nowhere, of_no_group, of_no_block, waits_apart, new_nowhere, few_waiting, few_ending}
 
 module _ (past : List Event) (m : MachineView) (t : IsTied m.plan past m) (room : length past + 1 < 2 ^ 32) where
@@ -61,7 +62,7 @@ module _ (past : List Event) (m : MachineView) (t : IsTied m.plan past m) (room 
       let listed = t.parts.list_blocks in
       let told = t.parts.told_blocks in
       let blocks = t.own.blocks in
-      let few = room_low m.plan in
+      let few = room_low is_of_block m.plan in
       record {
         homes = λ b. let low = t.own.homes b in omega (arith, low, lists);
         nowhere = told_nowhere past m t;
@@ -104,10 +105,12 @@ module _ (past : List Event) (m : MachineView) (t : IsTied m.plan past m) (room 
   pub can_wake_at : (o : Obj) → o.0 < length m.plan.objects → CanWakeAt m o
   can_wake_at o low =
       let long = t.own.sleepers in
+      let blocks = t.own.sleeper_blocks in
+      let few = room_low parks m.plan in
       record {
         object = omega (arith, low, long);
-        blocks = t.own.sleeper_blocks ∙ sym t.own.wakeable;
-        ripe = t.own.sleeper_blocks ∙ sym t.own.ripe;
+        blocks = omega (arith, blocks, few, t.own.wakeable);
+        ripe = omega (arith, blocks, few, t.own.ripe);
       }
 
   pub can_let_go : (b : Blk) → b.0 < length m.plan.blocks → CanLetGo m b

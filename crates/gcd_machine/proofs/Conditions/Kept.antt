@@ -11,7 +11,7 @@ use Rattle.gcd_refinement.specs.MachineView.{MachineView, idle, block_at}
 use Rattle.gcd_refinement.specs.declared.progress.BlockProgress.{BlockProgress}
 use Rattle.gcd_refinement.specs.After.{with_block}
 use Rattle.gcd_machine.specs.Steps.{all_let_go, closed_block, set_free, run_closed, made_cancelled}
-use Rattle.gcd_machine.specs.Conditions.{CanBegin, CanCloseOn, CanSubmit, HaveHomes, CanFire, CanEmpty, CanComeEmpty, CanLeave, CanRegister, CanStart, CanCloseBlock}
+use Rattle.gcd_machine.specs.Conditions.{CanBegin, CanPass, CanTakeOff, CanCloseOn, CanSubmit, HaveHomes, CanFire, CanEmpty, CanComeEmpty, CanLeave, CanRegister, CanStart, CanCloseBlock}
 use Rattle.gcd_machine.proofs.Steps.Places.{waits_as_before}
 
 -- ## Blocks
@@ -45,12 +45,9 @@ written_few xs i n =
 -- ## A block that starts or ends
 
 -- whether a run may open says nothing of blocks
-begin_kept : {m : MachineView} {n : Obj} {barrier : Bool} (blocks : List BlockProgress) (marks : MarksView) → CanBegin m n barrier → CanBegin (record m { blocks = blocks; marks = marks }) n barrier
-begin_kept blocks marks can = record {
+off_kept : {m : MachineView} {n : Obj} (blocks : List BlockProgress) (marks : MarksView) → CanTakeOff m n → CanTakeOff (record m { blocks = blocks; marks = marks }) n
+off_kept blocks marks can = record {
   list = can.list;
-  opens = record { node = can.opens.node; still = can.opens.still; runs = can.opens.runs };
-  fenced = can.fenced;
-  barriers = can.barriers;
   marked = can.marked;
   pending = record {
     source = can.pending.source;
@@ -60,6 +57,19 @@ begin_kept blocks marks can = record {
     room = can.pending.room;
   };
 }
+
+begin_kept : {m : MachineView} {n : Obj} {barrier : Bool} (blocks : List BlockProgress) (marks : MarksView) → CanBegin m n barrier → CanBegin (record m { blocks = blocks; marks = marks }) n barrier
+begin_kept blocks marks can = record {
+  off = off_kept blocks marks can.off;
+  opens = record { node = can.opens.node; still = can.opens.still; runs = can.opens.runs };
+  fenced = can.fenced;
+  barriers = can.barriers;
+}
+
+pub may_take_off : (m : MachineView) {b : Blk} {read : BlockProgress} (blocks : List BlockProgress) (marks : MarksView) → read ≡ get_or m.blocks b.0 read → CanPass m b
+    → (n : Obj) → read.node ≡ Some n → CanTakeOff (record m { blocks = blocks; marks = marks }) n
+may_take_off m {b} {read} blocks marks is can = λ n at.
+    off_kept blocks marks (can.node n (ap (λ (r : BlockProgress). r.node) (sym (block_read m b is can.blk)) ∙ at))
 
 pub may_begin : (m : MachineView) {w : ℕ} {b : Blk} {read : BlockProgress} (blocks : List BlockProgress) (marks : MarksView) → read ≡ get_or m.blocks b.0 read → CanStart m w b
     → (n : Obj) → read.node ≡ Some n → CanBegin (record m { blocks = blocks; marks = marks }) n read.barrier
@@ -115,8 +125,8 @@ leave_same {m} {k} {g} same can =
         position = omega (arith, same.len, may.position);
         wakes = record {
           object = omega (arith, sleep, may.wakes.object);
-          blocks = listed ∙ (may.wakes.blocks ∙ sym same.wakeable);
-          ripe = listed ∙ (may.wakes.ripe ∙ sym same.ripe);
+          blocks = omega (arith, listed, may.wakes.blocks, same.wakeable);
+          ripe = omega (arith, listed, may.wakes.ripe, same.ripe);
         };
         homes = homes_same same may.homes;
         room = omega (arith, notify, same.left, may.room);

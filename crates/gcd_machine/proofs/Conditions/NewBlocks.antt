@@ -33,7 +33,8 @@ use Rattle.gcd_refinement.specs.MachineView.{MachineView}
 use Rattle.gcd_refinement.specs.Bounds.{place_in}
 use Rattle.gcd_refinement.specs.Ties.{notify_submission}
 use Rattle.gcd_refinement.specs.Stands.{IsTied}
-use Rattle.gcd_refinement.proofs.Blocks.MarkRoom.{room_low}
+use Rattle.gcd_plan.specs.Needs.{is_of_block}
+use Rattle.gcd_plan.proofs.Needed.{room_low}
 use Rattle.gcd_refinement.proofs.Lists.Places.{uncounted}
 
 -- ## What is submitted once
@@ -257,7 +258,7 @@ module _ (past : List Event) (m : MachineView) (t : IsTied m.plan past m) where
       uncounted m b (list_at m.marks.notify k) (omega (arith, none, term, same)))
       (λ (high : length m.plan.blocks ≤ k).
       let long = t.parts.told in
-      let few = room_low m.plan in
+      let few = room_low is_of_block m.plan in
       ap (barrier_in b) (get_or-eq_default m.marks.notify.lists [] (omega (arith, high, long, few))))
       (cases_lt k (length m.plan.blocks)))
 
@@ -298,7 +299,7 @@ module _ (past : List Event) (m : MachineView) (t : IsTied m.plan past m) where
       omega (arith, few, same, long))
       (λ (high : length m.plan.blocks ≤ c).
       let long = t.parts.told in
-      let few = room_low m.plan in
+      let few = room_low is_of_block m.plan in
       let none = ap length (get_or_past m.marks.notify.lists c [] (omega (arith, high, long, few))) in
       omega (arith, none))
       (cases_lt c (length m.plan.blocks))

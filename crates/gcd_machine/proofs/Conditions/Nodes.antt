@@ -105,12 +105,10 @@ module _ (past : List Event) (m : MachineView) (t : IsTied m.plan past m) (room 
       let busy = t.own.busy in
       let few = t.small.barriers n.0 in
       record {
-        list = has_list n low;
+        off = record { list = has_list n low; marked = omega (arith, low, busy); pending = has_pending n low };
         opens = can_open n low free;
         fenced = omega (arith, low, long);
         barriers = λ h. omega (arith, few, room);
-        marked = omega (arith, low, busy);
-        pending = has_pending n low;
       }
 
   barrier_told : (n : Obj) (b : Blk) → option_and_then (λ s. s.node) (submission_of m.plan past b.0) ≡ Some n → option_map_or (λ s. s.barrier) (submission_of m.plan past b.0) false ≡ true → is_barrier_on m.plan past n.0 (Block b) ≡ true

@@ -15,7 +15,7 @@ use Rattle.gcd_history.specs.Runs.{act_at}
 use Rattle.gcd_group.specs.GroupsView.{count_at}
 use Rattle.gcd_sema.specs.SemasView.{has_value_at}
 use Rattle.gcd_refinement.specs.MachineView.{MachineView}
-use Rattle.gcd_blockobj.specs.MarkRoom.{mark_room}
+use Rattle.gcd_plan.specs.Needs.{mark_room}
 use Rattle.gcd_refinement.specs.Ties.{GroupsAre, BlockMarksAre}
 use Rattle.gcd_refinement.specs.After.{after}
 use Rattle.gcd_machine.specs.Steps.{acted, act_taken, stepped}

@@ -14,7 +14,7 @@ use Rattle.gcd_history.specs.Runs.{act_at}
 use Rattle.gcd_history.specs.Submitted.{on_node}
 use Rattle.gcd_history.proofs.Blocks.NotifiedOnce.{ended_has_none}
 use Rattle.gcd_lists.specs.ListsView.{list_at}
-use Rattle.gcd_blockobj.specs.MarkRoom.{mark_room}
+use Rattle.gcd_plan.specs.Needs.{mark_room}
 use Rattle.gcd_blockobj.specs.MarksView.{MarksView, has_ended_at, with_notify}
 use Rattle.gcd_refinement.specs.MachineView.{MachineView, idle, block_at, ended_at}
 use Rattle.gcd_refinement.specs.declared.progress.BlockProgress.{BlockProgress}

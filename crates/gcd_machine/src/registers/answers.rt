@@ -79,8 +79,6 @@ impl Registers {
 
     /// What the block waits for, where it is parked.
     pub fn awaited(&self, blk: Blk) -> Option<Reason>
-        requires shape { IsShaped self.now }
-        requires blk { blk.0 < length self.now.plan.blocks }
         ensures { result ≡ reason_at self.now.waits blk.0 }
     {
         self.waits.reason(blk)

@@ -10,16 +10,16 @@ ghost use Rattle.gcd_source.specs.SourcesView.{sources_of};
 ghost use Rattle.gcd_timer.specs.TimersView.{timers_of};
 ghost use Rattle.gcd_plan.specs.Validity.{IsPlan};
 ghost use Rattle.gcd_plan.specs.Limits.{max_workers};
+ghost use Rattle.gcd_plan.specs.Needs.{limit_room};
 ghost use Rattle.std.specs.Arc.{arc_value};
 ghost use Rattle.gcd_apply.specs.StripsView.{strips_of};
 ghost use Rattle.gcd_blockobj.specs.MarksView.{marks_of};
-ghost use Rattle.gcd_sync.specs.LimitRoom.{limit_room};
-ghost use Rattle.gcd_refinement.specs.MachineView.{idle, undelivered, lists_of, waiters_of, machine_of};
+ghost use Rattle.gcd_refinement.specs.MachineView.{idle, undelivered, lists_of, sleepers_of, waiters_of, machine_of};
 
 use super::cell::BlockCell;
 use super::{BlockArrays, EndParts, EventParts, NodeParts, Registers, RunArrays};
 use gcd_apply::Strips;
-use gcd_blockobj::{Marks, mark_room};
+use gcd_blockobj::Marks;
 use gcd_drain::{Drains, HeldChains};
 use gcd_group::Groups;
 use gcd_hold::Holds;
@@ -30,7 +30,7 @@ use gcd_refinement::HandlerProgress;
 use gcd_sema::Semas;
 use gcd_sets::{BitSet, Times};
 use gcd_source::Sources;
-use gcd_sync::{Waits, limit_room};
+use gcd_sync::Waits;
 use gcd_timer::Timers;
 use gcd_tree::Tree;
 use std::alloc::{AllocError, Global};
@@ -113,7 +113,7 @@ fn arrays(
     blocks: u32,
 ) -> Result<(Arc<Plan>, Lists, BlockArrays, RunArrays), AllocError>
     ensures plan { IfOk result (λ arrays. arc_value arrays.0 ≡ plan.now) }
-    ensures sleepers { IfOk result (λ arrays. arrays.1 ≡ lists_of plan.now) }
+    ensures sleepers { IfOk result (λ arrays. arrays.1 ≡ sleepers_of plan.now) }
     ensures blocks { IfOk result (λ arrays. arrays.2.0.items ≡ replicate blocks idle) }
     ensures ended { IfOk result (λ arrays. arrays.2.1.items ≡ replicate blocks false) }
     ensures wakeable { IfOk result (λ arrays. arrays.2.2 ≡ replicate blocks false) }
@@ -126,8 +126,8 @@ fn arrays(
 {
     Ok((
         Arc::new(alloc, plan.copied(alloc)?)?,
-        Lists::new(alloc, plan)?,
-        block_arrays(alloc, blocks, limit_room(plan))?,
+        Lists::of(alloc, plan.objects(), plan.park_room())?,
+        block_arrays(alloc, blocks, plan.limit_room())?,
         run_arrays(alloc, plan)?,
     ))
 }
@@ -140,7 +140,7 @@ fn end_parts(alloc: Global, plan: &Plan) -> Result<EndParts, AllocError>
     ensures strips { IfOk result (λ parts. parts.2 ≡ strips_of plan.now) }
     ensures marks { IfOk result (λ parts. parts.3 ≡ marks_of plan.now) }
 {
-    let room = mark_room(plan);
+    let room = plan.mark_room();
     Ok((
         Lists::of(alloc, room, room)?,
         none_applied(alloc, plan.strips().len())?,

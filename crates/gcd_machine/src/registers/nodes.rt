@@ -1,10 +1,11 @@
 // What waits and runs on the nodes.
 ghost use Rattle.std.specs.Prelude.{◌≡◌, ◌<◌, Some, length};
+ghost use Rattle.std.specs.Option.{option_map_or};
 ghost use Rattle.gcd_plan.specs.declared.numbers.Obj.{Obj};
 ghost use Rattle.gcd_lists.specs.ListsView.{list_at};
 ghost use Rattle.gcd_refinement.specs.After.{pending_in, stays_busy};
-ghost use Rattle.gcd_machine.specs.Steps.{begun_on, closed_on, run_begun, run_closed, submitted};
-ghost use Rattle.gcd_machine.specs.Conditions.{CanBegin, CanCloseOn, CanSubmit, HasPending};
+ghost use Rattle.gcd_machine.specs.Steps.{begun_on, closed_on, run_begun, run_closed, submitted, taken_off};
+ghost use Rattle.gcd_machine.specs.Conditions.{CanBegin, CanCloseOn, CanSubmit, CanTakeOff, HasPending};
 
 use super::Registers;
 use gcd_plan::{Blk, Obj};
@@ -40,11 +41,32 @@ impl Registers {
         requires { CanBegin self.old node barrier }
         ensures { self.new ≡ begun_on self.old node barrier }
     {
-        self.lists.pop(node);
+        self.take_off(node);
         self.tree.opened(node);
         self.drains.began(node, barrier);
+    }
+
+    // The first block that waits on the node leaves its list.
+    #[inline(always)]
+    fn take_off(&mut self, node: Obj)
+        requires { CanTakeOff self.old node }
+        ensures { self.new ≡ taken_off self.old node }
+    {
+        self.lists.pop(node);
         let stays = self.is_left_busy(node);
         self.busy.put(node.0, stays);
+    }
+
+    // The same, if there is a node.
+    #[inline(always)]
+    pub fn take_off_node(&mut self, node: Option<Obj>)
+        requires { (n : Obj) → node ≡ Some n → CanTakeOff self.old n }
+        ensures { self.new ≡ option_map_or (taken_off self.old) node self.old }
+    {
+        match node {
+            Some(n) => self.take_off(n),
+            None => {}
+        }
     }
 
     // A run of the node closes there.

@@ -21,8 +21,8 @@ use Rattle.gcd_refinement.specs.Shape.{PartsFit}
 use Rattle.gcd_refinement.specs.Sleepers.{if_ahead, limit_ahead}
 use Rattle.gcd_refinement.specs.Stands.{IsTied}
 use Rattle.gcd_refinement.specs.Ties.{TimersAre}
-use Rattle.gcd_sync.specs.LimitRoom.{limit_room}
-use Rattle.gcd_refinement.proofs.Limits.LimitRoom.{room_cases}
+use Rattle.gcd_plan.specs.Needs.{has_limit, limit_room}
+use Rattle.gcd_plan.proofs.Needed.{room_cases}
 use Rattle.gcd_refinement.proofs.Step.Sources.{due_is}
 
 -- ## Searches over a range
@@ -148,7 +148,7 @@ any_limit_told plan past v t tied later =
     (λ none.
     none_in (is_limit_of plan past t) (length plan.blocks) 0 (λ k. unlimited plan past v k t tied none)
     ∙ sym (ap (list_any (is_time t)) (empty v.ahead (tied.own.ahead ∙ none))))
-    (room_cases plan)
+    (room_cases has_limit plan)
   where
     empty : (xs : List (Option ℕ)) → length xs ≡ 0 → xs ≡ []
     empty [] none = refl

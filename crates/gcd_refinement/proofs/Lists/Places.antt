@@ -25,7 +25,8 @@ use Rattle.gcd_refinement.specs.Shape.{PartsFit}
 use Rattle.gcd_refinement.specs.Bounds.{place_in, PlacesAre}
 use Rattle.gcd_refinement.specs.Ties.{ListsAre, GroupsAre, WaitsAre, WakesAre, WaitersAre, BlockMarksAre, waiter, notify_submission}
 use Rattle.gcd_refinement.proofs.Sleepers.Nowhere.{awake_from, called_from, patient_from, released_from}
-use Rattle.gcd_refinement.proofs.Blocks.MarkRoom.{room_low}
+use Rattle.gcd_plan.specs.Needs.{is_of_block}
+use Rattle.gcd_plan.proofs.Needed.{room_low}
 
 -- ## A submitted block waits in no notify list
 
@@ -70,7 +71,7 @@ untold_from plan past v b valid lawful fit marks some =
     uncounted v b (list_at v.marks.notify k) (omega (arith, once, one, term, same)))
     (λ (high : length plan.blocks ≤ k).
     let long = fit.told in
-    let room = room_low plan in
+    let room = room_low is_of_block plan in
     ap (barrier_in b) (get_or-eq_default v.marks.notify.lists [] (omega (arith, high, long, room))))
     (cases_lt k (length plan.blocks)))
 

@@ -21,7 +21,7 @@ use Rattle.gcd_history.proofs.Blocks.SubmittedOnNodes.{recorded_fits}
 use Rattle.gcd_history.proofs.Blocks.SubmittedOnce.{is_of}
 use Rattle.gcd_history.proofs.Blocks.NotifiedOnce.{ended_has_none}
 use Rattle.gcd_lists.specs.ListsView.{list_at}
-use Rattle.gcd_blockobj.specs.MarkRoom.{mark_room}
+use Rattle.gcd_plan.specs.Needs.{is_of_block, mark_room}
 use Rattle.gcd_blockobj.specs.MarksView.{MarksView, is_cancelled_at, has_begun_at, has_ended_at, with_notify}
 use Rattle.gcd_refinement.specs.MachineView.{MachineView, machine_of, block_at}
 use Rattle.gcd_refinement.specs.Shape.{PartsFit, OwnFit}
@@ -29,7 +29,8 @@ use Rattle.gcd_refinement.specs.Ties.{BlockMarksAre, notify_submission}
 use Rattle.gcd_refinement.specs.AfterStrips.{all_told, told_if_ended, marks_by, marks_after}
 use Rattle.gcd_refinement.specs.After.{after}
 use Rattle.gcd_refinement.proofs.Lists.Writes.{entry_set, entry_within, entry_cleared}
-use Rattle.gcd_refinement.proofs.Blocks.MarkRoom.{room_at, room_low}
+use Rattle.gcd_plan.proofs.Needed.{room_low}
+use Rattle.gcd_refinement.proofs.Rooms.{room_at}
 use Rattle.gcd_refinement.proofs.Groups.NotifyQueues.{home_of, homed, homes_after}
 use Rattle.gcd_refinement.proofs.Blocks.Registered.{registers_at}
 use Rattle.gcd_refinement.proofs.Blocks.Unregistered.{WaitsNowhere, at_group_once, at_block_once, not_at_block, Lacks, told_eq, told_as_before}
@@ -57,7 +58,7 @@ cancelled_by : (plan : PlanView) (past : List Event) (e : Event) (v : MachineVie
     → is_cancelled_at (marks_by v.marks act) b ≡ (is_block_cancelled plan past b || (cancels_block b act && not (is_started past b)))
 cancelled_by plan past e v b (Some (CancelBlock c)) valid fit ties at =
     let low = declared_within plan c (recorded_fits plan e (CancelBlock c) valid at) in
-    let room = room_at plan e (CancelBlock c) at refl in
+    let room = room_at is_of_block plan e (CancelBlock c) at refl in
     let long = fit.cancelled_blocks in
     ap (λ t. is_cancelled_at (cond t v.marks (record v.marks { cancelled = set v.marks.cancelled c.0 true })) b) (ties.began c.0 (omega (arith, low, room)))
     ∙ ⊎_elim
@@ -174,7 +175,7 @@ listed_by_act : (plan : PlanView) (past : List Event) (e : Event) (v : MachineVi
     → list_at (marks_by v.marks act).notify b ≡ cond (is_ended past b) [] (list_at v.marks.notify b ++ noted_by b act)
 listed_by_act plan past e v b (Some (NotifyBlock c q d)) valid fit ties at =
     let low = declared_within plan c (and_parts (is_declared plan c) _ (recorded_fits plan e (NotifyBlock c q d) valid at)).0 in
-    let room = room_at plan e (NotifyBlock c q d) at refl in
+    let room = room_at is_of_block plan e (NotifyBlock c q d) at refl in
     let long = fit.told in
     noted plan past v c d b ties (omega (arith, low, room, long)) (ties.ended c.0 (omega (arith, low, room)))
 listed_by_act plan past e v b (Some (CancelBlock c)) valid fit ties at =
@@ -207,7 +208,7 @@ lacks_at_block plan past e v k valid lawful fit ties =
         (λ (low : k < length plan.blocks). ap (count_by (is_of b)) (ties.notify k) ∙ not_at_block plan past b k none low)
         (λ (high : length plan.blocks ≤ k).
         let long = fit.told in
-        let room = room_low plan in
+        let room = room_low is_of_block plan in
         ap (λ l. count_by (is_of b) (map (notify_submission v) l)) (get_or_past v.marks.notify.lists k [] (omega (arith, high, long, room))))
         (cases_lt k (length plan.blocks))
 

@@ -26,7 +26,7 @@ use Rattle.gcd_history.proofs.Permitted.Reasons.{at_act, at_wake, at_tick}
 use Rattle.gcd_group.specs.GroupsView.{count_at}
 use Rattle.gcd_sema.specs.SemasView.{has_value_at}
 use Rattle.gcd_apply.specs.StripsView.{left_at}
-use Rattle.gcd_sync.specs.LimitRoom.{limit_room}
+use Rattle.gcd_plan.specs.Needs.{has_limit, limit_room}
 use Rattle.gcd_sync.specs.WaitsView.{WaitsView, limit_at}
 use Rattle.gcd_refinement.specs.MachineView.{MachineView, ended_at, ahead_at, is_ripe_at}
 use Rattle.gcd_refinement.specs.Shape.{PartsFit, OwnFit}
@@ -36,7 +36,8 @@ use Rattle.gcd_refinement.specs.Submits.{emptied_by, sleepers_at, come_at_once, 
 use Rattle.gcd_refinement.specs.AfterLimits.{limit_in_view, laid_ahead, laid_ripe, still_ahead, is_ripe_by, limit_asleep, ahead_at_event, ripe_at_event}
 use Rattle.gcd_refinement.specs.After.{awaited_in_view, parked_for, woken, waits_after, after}
 use Rattle.gcd_refinement.proofs.Lists.Writes.{entry_cleared, option_set}
-use Rattle.gcd_refinement.proofs.Limits.LimitRoom.{room_of_limit, room_low}
+use Rattle.gcd_plan.proofs.Needed.{room_low}
+use Rattle.gcd_refinement.proofs.Rooms.{room_of_limit}
 use Rattle.gcd_refinement.proofs.Step.Waits.{unparked_awaited}
 use Rattle.gcd_refinement.proofs.Lists.Among.{among}
 use Rattle.gcd_refinement.proofs.Step.Wakeable.{wakeable_fold, woken_wakeable, woken_long}
@@ -352,7 +353,7 @@ limit_beyond plan past v b high fit own waits =
     let ahead_fit = own.ahead in
     let ripe_fit = own.ripe in
     let limits_long = fit.limits in
-    let room = room_low plan in
+    let room = room_low has_limit plan in
     let none : limit plan past b ≡ None = sym (waits.limits b) ∙ get_or-eq_default v.waits.limits None (omega (arith, high, limits_long, room)) in
     record {
       ahead = get_or-eq_default v.ahead None (omega (arith, high, ahead_fit, room)) ∙ sym (ap (λ o. ahead_of (may_wake plan past b) o (now past)) none ∙ none_ahead (may_wake plan past b) (now past));

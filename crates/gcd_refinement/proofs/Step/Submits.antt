@@ -28,7 +28,8 @@ use Rattle.gcd_refinement.specs.MachineView.{MachineView, block_at}
 use Rattle.gcd_refinement.specs.Shape.{PartsFit, OwnFit}
 use Rattle.gcd_refinement.specs.Ties.{GroupsAre, BlocksAre, SourcesAre, BlockMarksAre, notify_submission}
 use Rattle.gcd_refinement.specs.Submits.{left_by, last_of, emptied_by, at_cancel, at_end, at_told, at_empty, at_notify, submits}
-use Rattle.gcd_refinement.proofs.Blocks.MarkRoom.{room_at}
+use Rattle.gcd_plan.specs.Needs.{is_of_block}
+use Rattle.gcd_refinement.proofs.Rooms.{room_at}
 use Rattle.gcd_refinement.proofs.Groups.Members.{is_group}
 use Rattle.gcd_refinement.proofs.Step.Groups.{CountsAre, counts_step, acts_count, end_counts, adds}
 
@@ -194,7 +195,7 @@ act_tells plan past e v _ at same noted =
 noted_at : (plan : PlanView) (past : List Event) (e : Event) (v : MachineView) → IsPlan plan → BlockMarksAre plan past v → Noted plan past v (act_of plan e)
 noted_at plan past e v valid marks c q d at =
     let low = declared_within plan c (and_parts (is_declared plan c) _ (recorded_fits plan e (NotifyBlock c q d) valid at)).0 in
-    let room = room_at plan e (NotifyBlock c q d) at refl in
+    let room = room_at is_of_block plan e (NotifyBlock c q d) at refl in
     (low, marks.ended c.0 (omega (arith, low, room)))
 
 tells : (plan : PlanView) (past : List Event) (e : Event) (v : MachineView) → IsPlan plan → IsLawful plan (e ∷ past) → BlockMarksAre plan past v

@@ -20,7 +20,7 @@ use Rattle.gcd_history.specs.Permitted.{IsLawful}
 use Rattle.gcd_history.proofs.Blocks.SubmittedOnNodes.{recorded_fits}
 use Rattle.gcd_lists.specs.ListsView.{ListsView, list_at}
 use Rattle.gcd_apply.specs.StripsView.{strip_of, left_at}
-use Rattle.gcd_blockobj.specs.MarkRoom.{mark_room}
+use Rattle.gcd_plan.specs.Needs.{is_of_block, mark_room}
 use Rattle.gcd_refinement.specs.MachineView.{MachineView, machine_of, ended_at, applier_at}
 use Rattle.gcd_refinement.specs.Shape.{PartsFit, OwnFit}
 use Rattle.gcd_refinement.specs.Sleepers.{waits_for_end, applies, end_waiters, is_done, strip_sleepers}
@@ -30,7 +30,7 @@ use Rattle.gcd_refinement.specs.AfterSleepers.{pushed_on, waiting_by, waiters_af
 use Rattle.gcd_refinement.specs.After.{after}
 use Rattle.gcd_refinement.proofs.Lists.Among.{among, itself}
 use Rattle.gcd_refinement.proofs.Lists.Writes.{entry_set, entry_cleared}
-use Rattle.gcd_refinement.proofs.Blocks.MarkRoom.{room_at}
+use Rattle.gcd_refinement.proofs.Rooms.{room_at}
 use Rattle.gcd_refinement.proofs.Sleepers.Callers.{none_waits_for}
 use Rattle.gcd_refinement.proofs.Blocks.StripBlocks.{is_its_strip, strip_at_is, left_of, all_ended_is}
 use Rattle.gcd_refinement.proofs.Step.Strips.{end_left, end_within}
@@ -91,7 +91,7 @@ waits_by_act : (plan : PlanView) (past : List Event) (w : ℕ) (b : Blk) (i : �
     → blocks_in_list (waiting_by v b act) c ≡ cond (is_ended past c) [] (end_waiters plan past c ++ cond (waits_for_end c act) (b ∷ []) [])
 waits_by_act plan past w b i v c (Some (WaitBlock d)) valid own blocks tie at =
     let low = declared_within plan d (recorded_fits plan (Acted w (Block b) i) (WaitBlock d) valid at) in
-    let room = room_at plan (Acted w (Block b) i) (WaitBlock d) at refl in
+    let room = room_at is_of_block plan (Acted w (Block b) i) (WaitBlock d) at refl in
     let long = own.waiters in
     comes plan past v b d c own blocks tie (omega (arith, low, room, long))
 waits_by_act plan past w b i v c act valid own blocks tie at = tie.of_block c ∙ sym (waits_on_still plan past c)

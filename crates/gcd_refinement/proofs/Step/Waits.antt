@@ -34,7 +34,7 @@ use Rattle.gcd_refinement.specs.Ties.{WaitsAre, SemasAre}
 use Rattle.gcd_refinement.specs.AfterLimits.{limit_in_view}
 use Rattle.gcd_refinement.specs.After.{awaited_in_view, parked_for, waits_after, after}
 use Rattle.gcd_refinement.proofs.Lists.Writes.{option_set}
-use Rattle.gcd_refinement.proofs.Limits.LimitRoom.{room_of_limit}
+use Rattle.gcd_refinement.proofs.Rooms.{room_of_limit, room_of_wait}
 use Rattle.gcd_refinement.proofs.Limits.Expiries.{expires_own}
 use Rattle.gcd_refinement.proofs.Limits.Expiring.{run_out_kept, run_out_new, expires_now, expired_now}
 
@@ -162,7 +162,7 @@ act_here plan past w c i v lawful fit low same_plan len moment semas ties =
           let three = fit.expired in
           let is : awaited plan (e ∷ past) (Block c) ≡ Some why = parked ∙ sym by in
           record {
-            reason = get_or-set_same v.waits.reasons c.0 (Some why) None (omega (arith, low, one)) ∙ sym is;
+            reason = get_or-set_same v.waits.reasons c.0 (Some why) None (omega (arith, low, one, room_of_wait plan past c i why (sym by))) ∙ sym is;
             end = option_set v.waits.limits c.0 (limit_in_view v act) (λ n told. let room = room_of_limit plan v c i n told in omega (arith, low, two, room))
                 ∙ (limits_same plan past v act same_plan moment
                 ∙ sym (limit_some plan (e ∷ past) c.0 why is ∙ ap (λ t. cond t (limit_by plan past act) (last_limit plan past c.0)) here));
@@ -200,11 +200,10 @@ known_block plan past w c i lawful =
 
 wake_here : (plan : PlanView) (past : List Event) (w : ℕ) (c : Blk) (v : MachineView) → PartsFit plan v → c.0 < length plan.blocks → WaitIs plan (Wake w c ∷ past) (waits_after plan v (Wake w c)) c.0
 wake_here plan past w c v fit low =
-    let one = fit.reasons in
     let three = fit.expired in
     wait_none plan (Wake w c ∷ past) (waits_after plan v (Wake w c)) c.0
     (none_awaited plan (Wake w c ∷ past) c.0 (ap (λ u. cond u None (parked_by plan past (Block c))) (eq-eqb c.0 c.0 refl)))
-    (get_or-set_same v.waits.reasons c.0 None None (omega (arith, low, one)))
+    (option_set v.waits.reasons c.0 None (λ why told. absurd (none-some why told)))
     (option_set v.waits.limits c.0 None (λ n told. absurd (none-some n told)))
     (get_or-set_same v.waits.expired c.0 false false (omega (arith, low, three)))
 

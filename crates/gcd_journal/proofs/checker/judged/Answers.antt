@@ -1,7 +1,9 @@
-use Rattle.std.proofs.Common.{◌≡◌, ◌∙◌, take, length, get_or, is_some, ap, sym, subst, arith}
+use Rattle.std.proofs.Common.{◌≡◌, ◌++◌, ◌∷◌, ◌∙◌, [], true, take, length, get_or, is_some, ap, sym, subst, arith}
 use Rattle.std.proofs.lemmas.List.{take_more, take_all, length-take-le}
 use Rattle.std.proofs.lemmas.Option.{slice_get-get_or}
 use Rattle.gcd_plan.proofs.Options.{none_from_is_some}
+use Rattle.gcd_event.specs.declared.event.Event.{Event}
+use Rattle.gcd_history.specs.History.{why}
 use Rattle.gcd_machine.specs.Stands.{StandsFor}
 use Rattle.gcd_machine.proofs.Views.Calls.{lawful_stands}
 use Rattle.gcd_journal.proofs.checker.judged.Goals as goal
@@ -25,7 +27,8 @@ loop-index-preserved c =
     let plan = c.args.plan.now in
     let h = take c.loop-index.index c.args.events.now in
     let none = sym (c.permits.ensures plan h c.loop-index.invariant) ∙ none_from_is_some c.permits.result (sym c.is_some.ensures ∙ c.if-is_some.false) in
-    subst (StandsFor c.apply.new.self plan) (sym (take_more c.args.events.now c.loop-index.index _ c.loop-index-test.true))
+    subst (StandsFor c.apply.new.self plan)
+    (ap (λ (e : Event). h ++ e ∷ []) (c.event-event.ensures.exact ∙ c.index-events-index.is) ∙ sym (take_more c.args.events.now c.loop-index.index _ c.loop-index-test.true))
     (c.apply.ensures.stands plan h c.loop-index.invariant none)
 
 pub returns-then-is_some-clause-fault : goal.returns-then-is_some-clause-fault
@@ -36,7 +39,9 @@ returns-then-is_some-clause-fault c =
       event = get_or c.args.events.now c.loop-index.index _;
       there = slice_get-get_or c.args.events.now c.loop-index.index _ c.loop-index-test.true;
       front = lawful_stands c.loop-index.machine plan h c.loop-index.invariant;
-      barred = ap is_some (sym (c.permits.ensures plan h c.loop-index.invariant)) ∙ sym c.is_some.ensures ∙ c.if-is_some.true;
+      barred =
+          subst (λ (e : Event). is_some (why plan h e) ≡ true) (c.event-event.ensures.exact ∙ c.index-events-index.is)
+          (ap is_some (sym (c.permits.ensures plan h c.loop-index.invariant)) ∙ sym c.is_some.ensures ∙ c.if-is_some.true);
     }
 
 pub returns-clause-lawful : goal.returns-clause-lawful

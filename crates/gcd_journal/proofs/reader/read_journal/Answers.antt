@@ -3,7 +3,7 @@ use Rattle.gcd_history.specs.JournalText.{count_line}
 use Rattle.gcd_journal.specs.Journals.{BeginsWith}
 use Rattle.gcd_journal.specs.Named.{look_of}
 use Rattle.gcd_journal.specs.NextLine.{IsFault}
-use Rattle.gcd_journal.proofs.NextLines.{nothing_read, one_more_read, whole_journal, fault_is_refused, line_length}
+use Rattle.gcd_journal.proofs.NextLines.{nothing_read, one_more_read, spelled_fits, whole_journal, fault_is_refused, line_length}
 use Rattle.gcd_journal.proofs.reader.read_journal.Goals as goal
 
 pub lines-init : goal.lines-init
@@ -11,6 +11,11 @@ lines-init c = rw c.new-events.ensures.items (nothing_read c.args.most c.args.pl
 
 pub lines-smaller : goal.lines-smaller
 lines-smaller c = line_length (look_of c.in_ok-names.names.runs) c.lines.rest.now c.in-Spoken.more.now c.in-Spoken.e c.in-Spoken.ensures.0
+
+pub add-requires : goal.add-requires
+add-requires c =
+    spelled_fits c.args.most c.args.plan.now (look_of c.in_ok-names.names.runs) c.in_ok-names.ensures.valid c.in_ok-names.ensures.known
+    c.lines.rest.now c.in-Spoken.more.now c.in-Spoken.e c.in-Spoken.ensures.0
 
 pub lines-preserved : goal.lines-preserved
 lines-preserved c =

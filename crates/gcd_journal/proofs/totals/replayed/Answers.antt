@@ -1,5 +1,7 @@
-use Rattle.std.proofs.Common.{◌≡◌, take, length, sym, subst, arith}
+use Rattle.std.proofs.Common.{◌≡◌, ◌++◌, ◌∷◌, ◌∙◌, [], None, take, length, ap, sym, subst, arith}
 use Rattle.std.proofs.lemmas.List.{take_more, length-take-le}
+use Rattle.gcd_event.specs.declared.event.Event.{Event}
+use Rattle.gcd_history.specs.History.{why}
 use Rattle.gcd_machine.specs.Stands.{StandsFor}
 use Rattle.gcd_journal.specs.Totals.{AreTotals}
 use Rattle.gcd_journal.proofs.TotalsOf.{none_delivered, allowed_at}
@@ -20,7 +22,7 @@ apply-requires c =
       plan = c.args.plan.now;
       history = h;
       stands = c.loop-e.invariant.stands;
-      permitted = allowed_at c.args.plan.now c.args.events.now c.loop-e.e-index _ c.requires.lawful c.loop-e-test.true;
+      permitted = subst (λ (e : Event). why c.args.plan.now h e ≡ None) (sym (c.event-event.ensures.exact ∙ c.e-item.is)) (allowed_at c.args.plan.now c.args.events.now c.loop-e.e-index _ c.requires.lawful c.loop-e-test.true);
       room = omega arith;
     }
 
@@ -30,7 +32,7 @@ note-requires c =
     let h = take c.loop-e.e-index c.args.events.now in
     let short : length h ≡ c.loop-e.e-index = length-take-le c.loop-e.e-index c.args.events.now (omega arith) in
     let few = c.requires.few in
-    let permitted = allowed_at plan c.args.events.now c.loop-e.e-index _ c.requires.lawful c.loop-e-test.true in
+    let permitted : why plan h c.event-event.result ≡ None = subst (λ (e : Event). why plan h e ≡ None) (sym (c.event-event.ensures.exact ∙ c.e-item.is)) (allowed_at plan c.args.events.now c.loop-e.e-index _ c.requires.lawful c.loop-e-test.true) in
     record {
       history = h;
       stands = c.apply.ensures.stands plan h c.loop-e.invariant.stands permitted;
@@ -43,9 +45,9 @@ pub loop-e-preserved : goal.loop-e-preserved
 loop-e-preserved c =
     let plan = c.args.plan.now in
     let h = take c.loop-e.e-index c.args.events.now in
-    let permitted = allowed_at plan c.args.events.now c.loop-e.e-index _ c.requires.lawful c.loop-e-test.true in
+    let permitted : why plan h c.event-event.result ≡ None = subst (λ (e : Event). why plan h e ≡ None) (sym (c.event-event.ensures.exact ∙ c.e-item.is)) (allowed_at plan c.args.events.now c.loop-e.e-index _ c.requires.lawful c.loop-e-test.true) in
     let stands = c.apply.ensures.stands plan h c.loop-e.invariant.stands permitted in
-    let more = sym (take_more c.args.events.now c.loop-e.e-index _ c.loop-e-test.true) in
+    let more = ap (λ (e : Event). h ++ e ∷ []) (c.event-event.ensures.exact ∙ c.e-item.is) ∙ sym (take_more c.args.events.now c.loop-e.e-index _ c.loop-e-test.true) in
     record {
       stands = subst (StandsFor c.apply.new.self plan) more stands;
       totals = subst (λ g. AreTotals plan g c.note.new.totals.items) more (c.note.ensures h stands permitted c.loop-e.invariant.totals);

@@ -1,13 +1,15 @@
-use Rattle.std.proofs.Common.{◌≡◌, ◌++◌, ◌∙◌, take, length, ap, append_assoc}
+use Rattle.std.proofs.Common.{◌≡◌, ◌++◌, ◌∙◌, take, length, ap, append_assoc, subst, sym}
 use Rattle.std.specs.List.{flat_map}
 use Rattle.std.proofs.lemmas.List.{take_all}
 use Rattle.std.proofs.lemmas.Result.{on_ok_weaker}
 use Rattle.std.proofs.lemmas.Option.{slice_get-get_or}
 use Rattle.gcd_history.specs.JournalText.{event_line, count_line, journal_text}
+use Rattle.gcd_journal.specs.Spoken.{IsNamed}
 use Rattle.gcd_journal.proofs.write.add_journal.Goals as goal
 
 pub add_event-requires : goal.add_event-requires
 add_event-requires c =
+    subst (IsNamed c.args.plan.now) (sym (c.event.ensures.exact ∙ c.e-item.is))
     (c.requires c.loop-e.e-index _ (slice_get-get_or c.args.events.now c.loop-e.e-index _ c.loop-e-test.true)).named
 
 pub returns-clause-ok : goal.returns-clause-ok

@@ -1,4 +1,4 @@
-use Rattle.std.proofs.Common.{◌≡◌, ◌∙◌, take, sym, subst}
+use Rattle.std.proofs.Common.{◌≡◌, ◌∙◌, Some, take, ap, sym, subst}
 use Rattle.std.proofs.lemmas.List.{take_all}
 use Rattle.std.proofs.lemmas.Option.{slice_get-get_or}
 use Rattle.gcd_machine.specs.Stands.{StandsFor}
@@ -10,7 +10,7 @@ returns-in-Some c =
     let plan = c.args.plan.now in
     let h = take c.loop-index.index c.args.events.now in
     record {
-      there = slice_get-get_or c.args.events.now c.loop-index.index _ c.loop-index-test.true;
+      there = slice_get-get_or c.args.events.now c.loop-index.index _ c.loop-index-test.true ∙ ap Some (sym (c.event-event.ensures.exact ∙ c.index-events-index.is));
       front = lawful_stands c.loop-index.machine plan h c.loop-index.invariant;
       barred = sym (c.permits.ensures plan h c.loop-index.invariant) ∙ c.in-Some.is;
     }

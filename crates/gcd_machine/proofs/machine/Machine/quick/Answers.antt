@@ -2,7 +2,7 @@ use Rattle.std.proofs.Common.{ap, sym, subst, ◌∙◌}
 use Rattle.gcd_refinement.specs.MachineView.{MachineView}
 use Rattle.gcd_machine.specs.Quick.{MayStep}
 use Rattle.gcd_machine.specs.Stands.{StandsFor}
-use Rattle.gcd_machine.proofs.Choice.QuickSteps.{chosen_applies, quick_plan, quick_shaped, quick_taken}
+use Rattle.gcd_machine.proofs.Choice.QuickSteps.{chosen_applies, quick_chosen, quick_plan, quick_shaped, quick_taken}
 use Rattle.gcd_machine.proofs.Conditions.All.{may_take}
 use Rattle.gcd_machine.proofs.machine.Machine.quick.Goals as goal
 
@@ -19,6 +19,11 @@ pub returns-clause-plan : goal.returns-clause-plan
 returns-clause-plan c =
     quick_plan c.self.inside.registers c.quick.new.self c.args.worker c.quick.result (subst MayStep (sym c.self.view_is) c.requires) c.quick.ensures
     ∙ ap (λ (m : MachineView). m.plan) c.self.view_is
+
+pub returns-clause-choice : goal.returns-clause-choice
+returns-clause-choice c = λ plan h stands.
+    quick_chosen c.self.inside.registers c.quick.new.self c.args.worker c.quick.result c.quick.ensures plan h
+    (subst (λ (m : MachineView). StandsFor m plan h) (sym c.self.view_is) stands)
 
 pub returns-clause-taken : goal.returns-clause-taken
 returns-clause-taken c = λ plan h stands.

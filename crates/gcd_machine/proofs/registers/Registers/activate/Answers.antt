@@ -1,4 +1,4 @@
-use Rattle.std.proofs.Common.{◌-◌, sym, subst}
+use Rattle.std.proofs.Common.{sym, subst}
 use Rattle.gcd_tree.specs.IsTree.{IsTree}
 use Rattle.gcd_refinement.specs.MachineView.{MachineView}
 use Rattle.gcd_drain.proofs.HeldAfter.{held_with_active}

@@ -1,10 +1,12 @@
-use Rattle.std.proofs.Common.{◌≡◌, ⊎_elim, ◌⊎◌, ◌-◌, ◌<◌, ◌≤◌, ap, sym, subst, arith}
+use Rattle.std.proofs.Common.{◌≡◌, ⊎_elim, ◌-◌, ◌<◌, ◌≤◌, None, slice_index_or, ap, sym, ◌∙◌, subst, arith}
 use Rattle.gcd_tree.specs.IsTree.{IsTree}
 use Rattle.gcd_refinement.specs.MachineView.{MachineView}
 use Rattle.std.proofs.lemmas.Bool.{cases_lt}
-use Rattle.gcd_tree.specs.TreeView.{open_on_at}
 use Rattle.gcd_drain.proofs.Holding.{held_by_target}
-use Rattle.gcd_drain.proofs.HeldAfter.{held_settled}
+use Rattle.gcd_drain.proofs.HeldAfter.{held_settled, held_with_open}
+use Rattle.gcd_plan.proofs.Options.{none_from_is_some}
+use Rattle.gcd_tree.specs.TreeView.{TreeView, open_on_at, settled_to, with_open}
+use Rattle.gcd_machine.specs.KnowsHeld.{KnowsHeld}
 use Rattle.gcd_machine.proofs.registers.Registers.end_delivery.Goals as goal
 
 pub rehold-requires-clause-others : goal.rehold-requires-clause-others
@@ -22,3 +24,20 @@ rehold-requires-clause-others c =
     let one : open_on_at i.tree c.args.src.0 ≡ 1 = omega (arith, few, same, c.requires.closes.is_open) in
     rw (c.closed.ensures.last one) (held_settled i.held i.tree i.holds c.self.invariant.are valid c.args.src.0 0))
     (cases_lt 1 (open_on_at i.tree c.args.src.0))
+
+pub invariant_of-self-else-moves : goal.invariant_of-self-else-moves
+invariant_of-self-else-moves c =
+    let i = c.self.inside in
+    let o = c.args.src.0 in
+    let same = ap (λ (m : MachineView). open_on_at m.tree o) c.self.view_is in
+    let none : slice_index_or i.tree.requests o None ≡ None =
+    none_from_is_some (slice_index_or i.tree.requests o None) (sym c.is_moving-moves.ensures ∙ c.if-moves.false) in
+    ⊎_elim
+    (λ (more : 1 < open_on_at i.tree o).
+    subst (λ (t : TreeView). KnowsHeld i.held t i.holds) (sym (c.closed.ensures.others more))
+    (record { long = c.self.invariant.long; are = held_with_open i.held i.tree i.holds c.self.invariant.are o (open_on_at i.tree o - 1) }))
+    (λ (few : open_on_at i.tree o ≤ 1).
+    let one : open_on_at i.tree o ≡ 1 = omega (arith, few, same, c.requires.closes.is_open) in
+    subst (λ (t : TreeView). KnowsHeld i.held t i.holds) (sym (c.closed.ensures.last one ∙ ap (settled_to (with_open i.tree o 0) o) none))
+    (record { long = c.self.invariant.long; are = held_with_open i.held i.tree i.holds c.self.invariant.are o 0 }))
+    (cases_lt 1 (open_on_at i.tree o))

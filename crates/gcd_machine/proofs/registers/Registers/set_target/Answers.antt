@@ -1,4 +1,4 @@
-use Rattle.std.proofs.Common.{◌≡◌, ⊎_elim, ◌⊎◌, inl, inr, ℕ, zero, suc, ◌-◌, ◌<◌, Some, sym, subst, refl, arith}
+use Rattle.std.proofs.Common.{◌≡◌, ⊎_elim, ◌⊎◌, inl, inr, ℕ, zero, suc, ◌<◌, Some, sym, subst, refl, arith}
 use Rattle.gcd_tree.specs.IsTree.{IsTree}
 use Rattle.gcd_refinement.specs.MachineView.{MachineView}
 use Rattle.gcd_tree.specs.TreeView.{open_on_at}

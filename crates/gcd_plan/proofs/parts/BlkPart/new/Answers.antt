@@ -2,4 +2,4 @@ use Rattle.std.proofs.Common.{refl}
 use Rattle.gcd_plan.proofs.parts.BlkPart.new.Goals as goal
 
 pub returns : goal.returns
-returns c = rw (c.in_ok-from_str.ensures.ok, c.new.ensures.items) refl
+returns c = rw (c.in_ok-new.ensures, c.new-2.ensures.items) refl

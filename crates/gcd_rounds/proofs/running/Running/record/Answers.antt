@@ -1,10 +1,18 @@
-use Rattle.std.proofs.Common.{◌∙◌, arith}
+use Rattle.std.proofs.Common.{◌≡◌, ◌++◌, ◌∷◌, ◌∙◌, [], ap, arith}
 use Rattle.std.proofs.lemmas.List.{length_push}
-use Rattle.gcd_machine.proofs.Views.Calls.{lawful_stands}
+use Rattle.gcd_event.specs.declared.event.Event.{Event}
+use Rattle.gcd_history.proofs.Permitted.Fitting.{permitted_fits}
+use Rattle.gcd_machine.proofs.Views.Calls.{lawful_stands, valid_stands}
 use Rattle.gcd_loop.proofs.Follows.{accepts_none_more, follows_more, workers_more}
 use Rattle.gcd_rounds.proofs.EndsKept.{kept_waits}
 use Rattle.gcd_rounds.proofs.Given.{given_same, wait_same}
 use Rattle.gcd_rounds.proofs.running.Running.record.Goals as goal
+
+pub of-requires : goal.of-requires
+of-requires g c =
+    let plan = c.args.plan.now in
+    let self = c.args.self.now in
+    permitted_fits plan self.journal.items c.args.e (valid_stands self.machine plan self.journal.items c.requires.run.stands) c.requires.next.permitted
 
 pub apply-requires : goal.apply-requires
 apply-requires g c =
@@ -40,7 +48,7 @@ returns-clause-run g c =
     let workers = c.args.self.now.terms.workers in
     let next = c.requires.next in
     let run = c.requires.run in
-    let more = c.in_ok-push.ensures.items in
+    let more : c.push.new.self.items ≡ h ++ e ∷ [] = c.in_ok-push.ensures.items ∙ ap (λ (x : Event). h ++ x ∷ []) c.of.ensures in
     let stands = c.apply.ensures.stands plan h run.stands next.permitted in
     record {
       some = run.some;
@@ -62,7 +70,7 @@ returns-clause-ready g c = λ kept only others ready.
     let h = self.journal.items in
     let e = c.args.e in
     let next = c.requires.next in
-    let more = c.in_ok-push.ensures.items in
+    let more : c.push.new.self.items ≡ h ++ e ∷ [] = c.in_ok-push.ensures.items ∙ ap (λ (x : Event). h ++ x ∷ []) c.of.ensures in
     record {
       given = rw more (given_same g.J.Job.gives plan self.terms.jobs.value.items h e self.values.items (lawful_stands self.machine plan h c.requires.run.stands) only ready.given);
       count = ready.count;

@@ -16,8 +16,8 @@ push_reserved-requires g c =
     let before = ap length c.requires.journal ∙ length-take v.marks.passed v.seen in
     grind (arith, len, read, before, old.low, old.room, c.requires.pass.passed, c.reserve.ensures.ok, c.is_err.ensures, c.if-is_err.false)
 
-pub event_of-requires : goal.event_of-requires
-event_of-requires g c =
+pub entry_of-requires : goal.entry_of-requires
+entry_of-requires g c =
     let p = c.args.self in let v = view p in let r = c.close_with-closed.result in let q = c.requires.pass in let i = c.loop-i.i in
     let z = closes _ _ c.args.board.table.shared.key p.seat.id v (slots_items r.words) (slots_items r.slots) c.close_with-closed.ensures.values.2 q.may_read c.requires.head c.requires.all_in q.back in
     let len : c.len-n.result ≡ length v.seen = c.len-n.ensures v.terms.plan v.seen q.stands in
@@ -32,11 +32,11 @@ loop-i-preserved g c =
     let len : c.len-n.result ≡ length v.seen = c.len-n.ensures v.terms.plan v.seen q.stands in
     let lt : i < length v.seen = omega (arith, len) in
     let a = event_at v.seen i z.fit lt in
-    let same : c.event_of.result ≡ a.event = c.event_of.ensures a.event a.fits (at_value (slots_items r.words) c.cell_of.result c.word.result c.word.ensures ∙ ap (λ (k : ℕ). get_or (slots_items r.words) k 0) c.cell_of.ensures ∙ z.words i (omega (arith, old.low, q.passed)) lt ∙ ap (λ (k : ℕ). k + lap i) a.word) in
+    let same : c.entry_of.result ≡ a.event = c.entry_of.ensures a.event a.fits (at_value (slots_items r.words) c.cell_of.result c.word.result c.word.ensures ∙ ap (λ (k : ℕ). get_or (slots_items r.words) k 0) c.cell_of.ensures ∙ z.words i (omega (arith, old.low, q.passed)) lt ∙ ap (λ (k : ℕ). k + lap i) a.word) in
     record {
       low = omega (arith, old.low);
       high = omega arith;
-      read = c.push_reserved.ensures.items ∙ ap (λ (l : List Event). l ++ c.event_of.result ∷ []) old.read ∙ ap (λ (e : Event). take i v.seen ++ e ∷ []) same ∙ sym (rw add-one a.next);
+      read = c.push_reserved.ensures.items ∙ ap (λ (l : List Event). l ++ c.entry_of.result ∷ []) old.read ∙ ap (λ (e : Event). take i v.seen ++ e ∷ []) same ∙ sym (rw add-one a.next);
       room = c.push_reserved.ensures.capacity ∙ old.room;
     }
 

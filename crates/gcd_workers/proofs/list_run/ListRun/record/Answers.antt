@@ -1,8 +1,17 @@
-use Rattle.std.proofs.Common.{◌∙◌, arith}
+use Rattle.std.proofs.Common.{◌≡◌, ◌++◌, ◌∷◌, ◌∙◌, [], ap, arith}
 use Rattle.std.proofs.lemmas.List.{length_push}
+use Rattle.gcd_event.specs.declared.event.Event.{Event}
+use Rattle.gcd_history.proofs.Permitted.Fitting.{permitted_fits}
 use Rattle.gcd_jobs.proofs.ValuesMore.{end_fits}
 use Rattle.gcd_loop.proofs.Follows.{accepts_none_more, alone_more, follows_more}
+use Rattle.gcd_machine.proofs.Views.Calls.{valid_stands}
 use Rattle.gcd_workers.proofs.list_run.ListRun.record.Goals as goal
+
+pub of-requires : goal.of-requires
+of-requires c =
+    let plan = c.args.plan.now in
+    let run = c.requires.run in
+    permitted_fits plan c.args.self.now.journal.items c.args.e (valid_stands c.args.self.now.machine plan c.args.self.now.journal.items run.stands) c.requires.next.permitted
 
 pub note_end-requires-clause-ends : goal.note_end-requires-clause-ends
 note_end-requires-clause-ends c = end_fits c.args.plan.now c.args.self.now.journal.items c.args.e c.requires.next.permitted
@@ -14,7 +23,7 @@ returns-clause-run c =
     let e = c.args.e in
     let next = c.requires.next in
     let run = c.requires.run in
-    let more = c.in_ok-push.ensures.items in
+    let more : c.push.new.self.items ≡ h ++ e ∷ [] = c.in_ok-push.ensures.items ∙ ap (λ (x : Event). h ++ x ∷ []) c.of.ensures in
     let stands = c.apply.ensures.stands plan h run.stands next.permitted in
     rw more (record {
       own = c.apply.ensures.plan ∙ run.own;
