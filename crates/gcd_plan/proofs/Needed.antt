@@ -1,21 +1,18 @@
 -- Whether some act of a plan passes a test, and of how many blocks a run then keeps something.
-use Rattle.std.proofs.Common.{◌≡◌, ℕ, ◌≤◌, Bool, true, false, ◌||◌, cond, List, [], ◌∷◌, length, map, ◌⊎◌, inl, inr, refl, sym, ap, ◌∙◌, arith}
+use Rattle.std.proofs.Common.{◌≡◌, ℕ, ◌≤◌, Bool, true, false, ◌||◌, cond, List, length, map, ◌⊎◌, inl, inr, refl, sym, ap, ◌∙◌, arith}
 use Rattle.std.specs.List.{list_any}
 use Rattle.gcd_plan.specs.PlanView.{PlanView, blk_view, obj_view}
 use Rattle.gcd_plan.specs.Needs.{is_in_block, is_in_handler, has_act, room}
 use Rattle.gcd_plan.specs.declared.act.Act.{Act}
 use Rattle.gcd_plan.specs.declared.parts.BlkPart.{BlkPart}
 use Rattle.gcd_plan.specs.declared.parts.ObjPart.{ObjPart}
+use Rattle.gcd_plan.proofs.MadeBlocks.{any_mapped}
 
 abbrev pub in_blocks : (Act → Bool) → List BlkPart → Bool
 in_blocks p = list_any (λ b. list_any p b.acts.items)
 
 abbrev pub in_objects : (Act → Bool) → List ObjPart → Bool
 in_objects p = list_any (λ o. list_any p o.handler.items)
-
-any_mapped : {X Y : Type 0} (p : Y → Bool) (f : X → Y) (xs : List X) → list_any p (map f xs) ≡ list_any (λ x. p (f x)) xs
-any_mapped p f [] = refl
-any_mapped p f (x ∷ xs) = ap (λ v. p (f x) || v) (any_mapped p f xs)
 
 -- what the parts say, the plan's view says
 pub some_seen : (p : Act → Bool) (blocks : List BlkPart) (objects : List ObjPart)

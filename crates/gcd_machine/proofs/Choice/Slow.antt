@@ -1,6 +1,6 @@
 -- What a quick step leaves to be chosen.
-use Rattle.std.proofs.Common.{◌≡◌, ℕ, zero, suc, ◌+◌, ◌-◌, ◌==◌, nat_lt, min, count_by, Bool, true, false, not, ◌&&◌, cond, List, length, reverse, Option, Some, None, is_some, inl, inr, refl, ap, sym, ◌∙◌, arith}
-use Rattle.std.specs.List.{list_any, slice_get}
+use Rattle.std.proofs.Common.{◌≡◌, ℕ, zero, suc, ◌+◌, ◌-◌, ◌==◌, nat_lt, min, Bool, true, false, not, ◌&&◌, cond, List, length, reverse, Option, Some, None, is_some, inl, inr, refl, ap, sym, ◌∙◌, arith}
+use Rattle.std.specs.List.{slice_get}
 use Rattle.std.specs.Option.{IfSome, option_and_then, option_map, option_map_or, option_or}
 use Rattle.std.proofs.lemmas.Bool.{cases_lt, lt-ltb, ne_eqb}
 use Rattle.std.proofs.lemmas.Option.{same_Some}
@@ -13,7 +13,6 @@ use Rattle.gcd_plan.specs.declared.numbers.Run.{Run}
 use Rattle.gcd_plan.specs.declared.numbers.Run.TheVariants.{Block, Source}
 use Rattle.gcd_plan.specs.Chains.{is_in}
 use Rattle.gcd_plan.specs.Kinds.{is_source}
-use Rattle.gcd_plan.proofs.Sums.{count_by_none, count_by_some}
 use Rattle.gcd_event.specs.Owners.{begun}
 use Rattle.gcd_event.specs.declared.event.Event.{Event}
 use Rattle.gcd_event.specs.declared.event.Event.TheVariants.{Start, Act as Acted, Wake, Deliver, Misuse}
@@ -31,7 +30,7 @@ use Rattle.gcd_machine.specs.Judged.{done_at, is_pending_at, misuse_by, next_act
 use Rattle.gcd_machine.specs.Quick.{async_of, is_quick, is_quick_at}
 use Rattle.gcd_machine.specs.Stands.{StandsFor}
 use Rattle.gcd_machine.proofs.Views.Calls.{tied_by}
-use Rattle.gcd_machine.proofs.Views.StartRule.{beneath_is}
+use Rattle.gcd_machine.proofs.Views.StartRule.{above_zero, beneath_is}
 
 -- ## Of a worker without a run
 
@@ -94,12 +93,12 @@ slow_beside m w (Wake v b) begin some = refl
 slow_beside m w (Deliver v s) begin some = refl
 slow_beside m w e begin some = absurd begin
 
-same_block : (b c : Blk) → Some (Block b) ≡ Some (Block c) → b ≡ c
-same_block b c is = cc
-
 -- one that begins the run of a block, and one that begins none
 pub start_of : (w : ℕ) (e : Event) (b : Blk) → begins w e → begun e ≡ Some (Block b) → e ≡ Start w b
-start_of w (Start v c) b begin is = ap (λ u. Start u c) begin ∙ ap (Start w) (same_block c b is)
+start_of w (Start v c) b begin is =
+    let run : Some (Block c) ≡ Some (Block b) = is in
+    let same : c ≡ b = cc in
+    ap (λ u. Start u c) begin ∙ ap (Start w) same
 start_of w (Wake v c) b begin is = cc
 start_of w (Deliver v s) b begin is = cc
 start_of w e b begin is = absurd begin
@@ -151,13 +150,6 @@ slow_act m w b act next at other =
 -- ## For each history
 
 -- the test asks whether the count is 0
-counted : {X : Type 0} (p : X → Bool) (xs : List X) → nat_lt 0 (count_by p xs) ≡ list_any p xs
-counted p xs =
-    elim (list_any p xs) as (λ v. list_any p xs ≡ v → nat_lt 0 (count_by p xs) ≡ v) [
-      | true ↦ λ some. lt-ltb 0 (count_by p xs) (count_by_some p xs some)
-      | false ↦ λ none. ap (nat_lt 0) (count_by_none p xs none)
-    ] refl
-
 none_open : (n : ℕ) → not (nat_lt 0 n) ≡ (n == 0)
 none_open n =
     elim (cases_lt 0 n) [
@@ -169,7 +161,7 @@ pub quick_same : (m : MachineView) (plan : PlanView) (h : List Event) → Stands
 unfolding open_beneath_of
 quick_same m plan h stands (Start w b) =
     let tied = tied_by m plan h stands in
-    ap not (beneath_is plan (reverse h) m 0 tied.valid tied.lawful tied.parts tied.tree ∙ sym (counted (λ run. is_in 0 (chain_of_run plan (reverse h) run)) (open_runs (reverse h))))
+    ap not (beneath_is plan (reverse h) m 0 tied.valid tied.lawful tied.parts tied.tree ∙ sym (above_zero (λ run. is_in 0 (chain_of_run plan (reverse h) run)) (open_runs (reverse h))))
     ∙ none_open (open_beneath_of plan h 0)
 quick_same m plan h stands (Acted w (Block b) i) = ap (λ p. is_some (option_and_then async_of (act_at p (Block b) i))) (tied_by m plan h stands).same_plan
 quick_same m plan h stands e = cc
