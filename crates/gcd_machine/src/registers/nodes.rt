@@ -57,7 +57,7 @@ impl Registers {
         self.busy.put(node.0, stays);
     }
 
-    // The same, if there is a node.
+    // The first block that waits on the node leaves its list, if there is a node.
     #[inline(always)]
     pub fn take_off_node(&mut self, node: Option<Obj>)
         requires { (n : Obj) → node ≡ Some n → CanTakeOff self.old n }
