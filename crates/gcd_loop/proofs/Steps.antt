@@ -1,8 +1,7 @@
 -- What the calls of the outlook and of the recorder come to, as goals ask for it.
-use Rattle.std.proofs.Common.{◌≡◌, ◌≤◌, ◌∙◌, ◌++◌, ◌&&◌, ℕ, Bool, true, false, List, [], ◌∷◌, length, ap, sym, subst, refl, arith, append-nil, inl, Option, Result, Ok, Err}
-use Rattle.std.specs.Prelude.{IfOk, OnOk}
+use Rattle.std.proofs.Common.{◌≡◌, ◌≤◌, ◌∙◌, ◌++◌, ◌&&◌, ℕ, Bool, true, false, List, [], ◌∷◌, length, ap, sym, subst, refl, arith, append-nil, inl, Result, Ok, Err}
+use Rattle.std.specs.Prelude.{OnOk}
 use Rattle.std.proofs.lemmas.Bool.{both_ways}
-use Rattle.std.proofs.lemmas.Result.{IfOk-weaker}
 use Rattle.gcd_plan.specs.PlanView.{PlanView}
 use Rattle.gcd_event.specs.declared.event.Event.{Event}
 use Rattle.gcd_event.specs.declared.event.Event.TheVariants.{Start, Act as Acted, Wake, End, Deliver, DeliverEnd, Tick, Ready, FeedEnd, Misuse, Halt, Expire, Accept, Shut}
@@ -15,32 +14,36 @@ use Rattle.gcd_outer.specs.Outside.{ClockState, Seen}
 use Rattle.gcd_outer.specs.Tells.{PollerState}
 use Rattle.gcd_outer.specs.declared.tell.Tell.{Tell}
 use Rattle.gcd_refinement.specs.MachineView.{MachineView}
-use Rattle.gcd_turn.specs.Asked.{AllWatched, IsPut, KeepsListens, MayIdle, WaitedFor}
+use Rattle.gcd_turn.specs.Asked.{AllWatched, IsPut, KeepsListens, WaitedFor}
 use Rattle.gcd_turn.specs.Hearing.{FeedHeard, Heard}
+use Rattle.gcd_turn.specs.Outsides.{Faced, IsFirst}
 use Rattle.gcd_turn.specs.Promises.{IsHeard, IsTimely}
 use Rattle.gcd_turn.specs.Timing.{TimeKept}
-use Rattle.gcd_turn.specs.Turns.{HasRoom, OutlookView}
+use Rattle.gcd_turn.specs.Turns.{OutlookView}
 use Rattle.gcd_turn.proofs.Promised.{are_told}
 use Rattle.gcd_turn.proofs.TimeSteps.{is_timely, time_on, time_waited}
-use Rattle.gcd_loop.specs.Going.{AfterTurn, IsGoing, IsRunOn, IsStopped, IsTrueTo, WatchesActive}
-use Rattle.gcd_loop.specs.Recorded.{Grows, IsGrown, IsSight, Says}
+use Rattle.gcd_loop.specs.Going.{GoesOn, GoesOnFrom, IsGoing, IsRunOn, IsTrueTo, WatchesActive, both, since}
+use Rattle.gcd_loop.specs.Recorded.{Bounds, Grows, IsGrown, IsSight, Says}
 use Rattle.gcd_loop.specs.Followed.{FollowsChoice, IsOfWorkers}
 use Rattle.gcd_loop.specs.Ran.{RunsPlan}
 use Rattle.gcd_loop.specs.declared.recorder.PutEnd.{PutEnd}
-use Rattle.gcd_loop.specs.declared.turns.TurnEnd.{TurnEnd}
-use Rattle.gcd_loop.specs.declared.turns.TurnEnd.TheVariants.{Placed, Waited, Stopped, Over}
 use Rattle.gcd_loop.proofs.Goings.{Listens, going_expire, going_halt, going_on, going_tick, keeps_same}
+
+-- the bounds of the run are as they were
+pub sight_kept : (b d : Bounds) (h : List Event) (m : MachineView) → d ≡ b → IsSight d.most d.plan h m → IsSight b.most b.plan h m
+sight_kept b d h m same sight = subst (λ (x : Bounds). IsSight x.most x.plan h m) same sight
 
 pub sight_lawful : (most : ℕ) (plan : PlanView) (h : List Event) (m : MachineView) → IsSight most plan h m → IsLawful plan h
 sight_lawful most plan h m s = lawful_stands m plan h s.stands
 
 module _ (most : ℕ) (pt ct : Bool) (plan : PlanView) (stood : List Event) (before : PollerState) (early : ClockState) where
   -- what `ask` does
-  pub asked_listens : (m : MachineView) (h : List Event) (p q : PollerState) (c d : ClockState) (o : OutlookView) → StandsFor m plan h
-      → ((stood placed : List Event) (before : PollerState) → StandsFor m plan (stood ++ placed) → pt ≡ true → Heard plan stood placed before p o → Heard plan stood placed before q o)
+  pub asked_listens : (m : MachineView) (h : List Event) (p q : PollerState) (c d : ClockState) (o u : OutlookView) → u ≡ o → StandsFor m plan h
+      → ((stood placed : List Event) (before : PollerState) → StandsFor m plan (stood ++ placed) → pt ≡ true → Heard plan stood placed before p o → Heard plan stood placed before q u)
       → KeepsListens pt p q → c.present ≤ d.present → (ct ≡ true → d.waited ≡ c.waited) → Listens most pt ct plan stood before early h p q c d o o
-  asked_listens m h p q c d o stands heard kept on waited = record {
-    heard = λ placed split tells hd. heard stood placed before (subst (StandsFor m plan) split stands) tells hd;
+  asked_listens m h p q c d o u same stands heard kept on waited = record {
+    heard = λ placed split tells hd.
+        subst (λ (x : OutlookView). Heard plan stood placed before q x) same (heard stood placed before (subst (StandsFor m plan) split stands) tells hd);
     timely = λ placed split t. time_on ct plan stood placed early c d o.start on waited t;
     kept = kept;
   }
@@ -53,6 +56,14 @@ module _ (most : ℕ) (pt ct : Bool) (plan : PlanView) (stood : List Event) (bef
     timely = λ placed split t. time_on ct plan stood placed early c d o.start on waited t;
     kept = keeps_same pt p;
   }
+
+  -- poller, clock and what is kept of them are as they were
+  pub same_going : (p q : PollerState) (c d : ClockState) (h : List Event) (o u : OutlookView) → q ≡ p → d ≡ c → u ≡ o
+      → IsGoing most pt ct plan stood before early p c h o → IsGoing most pt ct plan stood before early q d h u
+  same_going p q c d h o u poller clock same going =
+      subst (λ (x : PollerState). IsGoing most pt ct plan stood before early x d h u) (sym poller)
+      (subst (λ (x : ClockState). IsGoing most pt ct plan stood before early p x h u) (sym clock)
+      (subst (λ (x : OutlookView). IsGoing most pt ct plan stood before early p c h x) (sym same) going))
 
   -- what `idle` does
   pub idle_listens : (m : MachineView) (h : List Event) (p q : PollerState) (c d : ClockState) (o u : OutlookView) → StandsFor m plan h → is_halted h ≡ false → AllWatched plan h p
@@ -110,11 +121,9 @@ first_heard plan h p s active = record {
   ends = λ (k, within, at). absurd (omega (arith, within));
 }
 
-pub going_first : (most : ℕ) (pt ct : Bool) (plan : PlanView) (h : List Event) (p : PollerState) (early c : ClockState) (o : OutlookView)
-    → WatchesActive plan h p → o.news ≡ [] → o.empties ≡ 0 → o.len ≡ 0
-    → early.present ≤ o.start → o.start ≤ c.present → (ct ≡ true → o.start ≡ early.present) → (ct ≡ true → c.waited ≡ early.waited)
-    → IsGoing most pt ct plan h p early p c h o
-going_first most pt ct plan h p early c o active news empties len since reached exact waited = record {
+going_first : (most : ℕ) (pt ct : Bool) (plan : PlanView) (h : List Event) (p : PollerState) (early c : ClockState) (o : OutlookView)
+    → WatchesActive plan h p → IsFirst ct early c o → IsGoing most pt ct plan h p early p c h o
+going_first most pt ct plan h p early c o active first = record {
   placed = [];
   split = sym (append-nil h);
   heard = λ told. record {
@@ -125,19 +134,19 @@ going_first most pt ct plan h p early c o active news empties len since reached 
     watches = sym (append-nil p.watches);
     live = λ s path (k, within, at). absurd (omega (arith, within));
     paths = λ s path (k, within, at). absurd (omega (arith, within));
-    feeds = λ s. subst (λ (ns : List Tell). FeedHeard plan h [] p p [] ns s) (sym news) (first_heard plan h p s active);
-    pieces = rw news refl;
-    counted = sym empties;
+    feeds = λ s. subst (λ (ns : List Tell). FeedHeard plan h [] p p [] ns s) (sym first.news) (first_heard plan h p s active);
+    pieces = rw first.news refl;
+    counted = sym first.empties;
     empty = refl;
-    past = omega (arith, len);
-    silent = λ some at s live. absurd (omega (arith, some, empties));
+    past = let len = first.len in omega (arith, len);
+    silent = λ some at s live. let empties = first.empties in absurd (omega (arith, some, empties));
   };
   timely = record {
-    since = since;
-    reached = reached;
-    exact = exact;
+    since = first.not_before;
+    reached = first.reached;
+    exact = first.told;
     ticks = λ t (k, within, at). absurd (omega (arith, within));
-    waited = λ told. inl (waited told);
+    waited = λ told. inl (first.waited told);
   };
   faults = record {
     halts = λ (k, within, at). absurd (omega (arith, within));
@@ -146,66 +155,50 @@ going_first most pt ct plan h p early c o active news empties len since reached 
   kept = keeps_same pt p;
 }
 
-pub run_on : (most : ℕ) (pt ct : Bool) (plan : PlanView) (h k : List Event) (p q : PollerState) (c d : ClockState) (o : OutlookView) → HasEnded most plan k
-    → (WatchesActive plan h p → IsGoing most pt ct plan h p c q d k o)
-    → IsRunOn most plan h k (record { tells = pt; before = p; after = q }) (record { tells = ct; before = c; after = d })
-run_on most pt ct plan h k p q c d o ended goes = record {
+pub run_on : (b : Bounds) (h k : List Event) (f : Faced) (early : ClockState) → IsFirst f.clock.tells early f.clock.before f.before
+    → HasEnded b.most b.plan k → GoesOn b h k f → IsRunOn b.most b.plan h k f.poller (since early f.clock)
+run_on b h k f early first ended goes = record {
   ended = ended;
   true_to = λ active.
-      let going = goes active in
+      let going = goes h f.poller.before early (going_first b.most f.poller.tells f.clock.tells b.plan h f.poller.before early f.clock.before f.before active first) in
       record {
         placed = going.placed;
         split = going.split;
-        heard = record { told = λ tells. are_told plan h going.placed (record { tells = pt; before = p; after = q }) o (going.heard tells); faults = going.faults };
-        timely = is_timely plan h going.placed (record { tells = ct; before = c; after = d }) o.start going.timely;
+        heard = record { told = λ tells. are_told b.plan h going.placed f.poller f.after (going.heard tells); faults = going.faults };
+        timely = is_timely b.plan h going.placed (since early f.clock) f.after.start going.timely;
       };
 }
 
--- ## What a turn comes to
+-- two runs, one behind the other
+pub goes_through : (b : Bounds) (h k l : List Event) (first later : Faced) → GoesOnFrom first later → GoesOn b h k first → GoesOn b k l later → GoesOn b h l (both first later)
+goes_through b h k l first later from one two = λ stood before early going.
+    let at = one stood before early going in
+    subst (λ (t : Bool). IsGoing b.most t first.clock.tells b.plan stood before early later.poller.after later.clock.after l later.after) from.poller_tells
+    (subst (λ (t : Bool). IsGoing b.most later.poller.tells t b.plan stood before early later.poller.after later.clock.after l later.after) from.clock_tells
+    (two stood before early
+    (subst (λ (t : Bool). IsGoing b.most t later.clock.tells b.plan stood before early later.poller.before later.clock.before k later.before) (sym from.poller_tells)
+    (subst (λ (t : Bool). IsGoing b.most first.poller.tells t b.plan stood before early later.poller.before later.clock.before k later.before) (sym from.clock_tells)
+    (subst (λ (p : PollerState). IsGoing b.most first.poller.tells first.clock.tells b.plan stood before early p later.clock.before k later.before) (sym from.poller)
+    (subst (λ (c : ClockState). IsGoing b.most first.poller.tells first.clock.tells b.plan stood before early first.poller.after c k later.before) (sym from.clock)
+    (subst (λ (o : OutlookView). IsGoing b.most first.poller.tells first.clock.tells b.plan stood before early first.poller.after first.clock.after k o) (sym from.outlook) at)))))))
 
--- what was put, and what came of listening, neither stops a turn nor ends the run
-after_plain : (ready : Type 0) (stopped : Option ℕ → Type 0) (ended : Type 0) (t : TurnEnd) → AfterTurn ready (λ left. ⊥) ⊥ t → AfterTurn ready stopped ended t
-after_plain ready stopped ended Placed after = after
-after_plain ready stopped ended Waited after = after
-after_plain ready stopped ended (Stopped left) after = absurd after
-after_plain ready stopped ended Over after = absurd after
+-- ## The references of an outside that has ended hold what it had last
 
-pub ok_plain : {E : Type 0} (ready : Type 0) (stopped : Option ℕ → Type 0) (ended : Type 0) (r : Result TurnEnd E)
-    → IfOk r (AfterTurn ready (λ left. ⊥) ⊥) → IfOk r (AfterTurn ready stopped ended)
-ok_plain ready stopped ended r after = IfOk-weaker r (AfterTurn ready (λ left. ⊥) ⊥) (AfterTurn ready stopped ended) (after_plain ready stopped ended) after
+pub on_as : {P C : Type 0} (poller : P → PollerState) (clock : C → ClockState) (most : ℕ) (plan : PlanView) (h k : List Event) (pt ct : Bool) (p q : P) (a d : C) {r : P} {e : C}
+    → r ≡ q → e ≡ d → IsRunOn most plan h k (record { tells = pt; before = poller p; after = poller q }) (record { tells = ct; before = clock a; after = clock d })
+    → IsRunOn most plan h k (record { tells = pt; before = poller p; after = poller r }) (record { tells = ct; before = clock a; after = clock e })
+on_as poller clock most plan h k pt ct p q a d {r} {e} same_poller same_clock on =
+    subst (λ x. IsRunOn most plan h k (record { tells = pt; before = poller p; after = poller x }) (record { tells = ct; before = clock a; after = clock e })) (sym same_poller)
+    (subst (λ x. IsRunOn most plan h k (record { tells = pt; before = poller p; after = poller q }) (record { tells = ct; before = clock a; after = clock x })) (sym same_clock) on)
 
--- nothing more is seen where the recorder stops a turn
-pub stopped_at : (most : ℕ) (plan : PlanView) (stopped : Type 0) (h k : List Event) (news : List Tell) (p : PollerState) (left : Option ℕ)
-    → HasRoom most plan h → MayIdle plan h news p left → stopped → k ≡ h → IsStopped most plan stopped k news p left
-stopped_at most plan stopped h k news p left room idle is same =
-    subst (λ (l : List Event). IsStopped most plan stopped l news p left) (sym same) (record { is = is; room = room; idle = idle })
-
--- what worker 0 did of its choice
-after_work : (most : ℕ) (plan : PlanView) (ready stopped ended : Type 0) (h k : List Event) (news : List Tell) (p : PollerState) (left : Option ℕ)
-    → HasRoom most plan h → MayIdle plan h news p left → (t : TurnEnd) → AfterTurn ready (λ more. (more ≡ left) × stopped × (k ≡ h)) ended t
-    → AfterTurn ready (IsStopped most plan stopped k news p) ended t
-after_work most plan ready stopped ended h k news p left room idle Placed after = after
-after_work most plan ready stopped ended h k news p left room idle Waited after = after
-after_work most plan ready stopped ended h k news p left room idle (Stopped more) after =
-    subst (λ (l : Option ℕ). IsStopped most plan stopped k news p l) (sym after.0) (stopped_at most plan stopped h k news p left room idle after.1 after.2)
-after_work most plan ready stopped ended h k news p left room idle Over after = after
-
-pub ok_work : {E : Type 0} (most : ℕ) (plan : PlanView) (ready stopped ended : Type 0) (h k : List Event) (news : List Tell) (p : PollerState) (left : Option ℕ)
-    → HasRoom most plan h → MayIdle plan h news p left → (r : Result TurnEnd E) → IfOk r (AfterTurn ready (λ more. (more ≡ left) × stopped × (k ≡ h)) ended)
-    → IfOk r (AfterTurn ready (IsStopped most plan stopped k news p) ended)
-ok_work most plan ready stopped ended h k news p left room idle r after =
-    IfOk-weaker r (AfterTurn ready (λ more. (more ≡ left) × stopped × (k ≡ h)) ended) (AfterTurn ready (IsStopped most plan stopped k news p) ended)
-    (after_work most plan ready stopped ended h k news p left room idle) after
+pub kept_as : {P : Type 0} (poller : P → PollerState) (tells : Bool) (p q : P) {r : P} → r ≡ q → KeepsListens tells (poller p) (poller q) → KeepsListens tells (poller p) (poller r)
+kept_as poller tells p q same kept = subst (λ x. KeepsListens tells (poller p) (poller x)) (sym same) kept
 
 -- ## Answers that may be out of memory
 
 pub ok_both : {T E : Type 0} (P Q : Type 0) (r : Result T E) → OnOk r P → OnOk r Q → OnOk r (P × Q)
 ok_both P Q (Ok x) p q = (p, q)
 ok_both P Q (Err e) p q = tt
-
-pub ok_under : {T E : Type 0} (A P : Type 0) (r : Result T E) → (A → OnOk r P) → OnOk r (A → P)
-ok_under A P (Ok x) f = f
-ok_under A P (Err e) f = tt
 
 -- ## For recorders
 

@@ -9,11 +9,13 @@ use Rattle.gcd_outer.specs.Tells.{PollerState}
 use Rattle.gcd_outer.specs.declared.tell.Tell.{Tell}
 use Rattle.gcd_turn.specs.Asked.{KeepsListens, MayIdle}
 use Rattle.gcd_turn.specs.Hearing.{Heard}
+use Rattle.gcd_turn.specs.Outsides.{Faced}
 use Rattle.gcd_turn.specs.Promises.{HaltsAtFaults, IsHeard, IsTimely}
 use Rattle.gcd_turn.specs.Timing.{TimeKept}
 use Rattle.gcd_turn.specs.Turns.{HasRoom, OutlookView}
+use Rattle.gcd_loop.specs.Recorded.{Bounds}
 use Rattle.gcd_loop.specs.declared.turns.TurnEnd.{TurnEnd}
-use Rattle.gcd_loop.specs.declared.turns.TurnEnd.TheVariants.{Placed, Waited, Stopped, Over}
+use Rattle.gcd_loop.specs.declared.turns.TurnEnd.TheVariants.{Next, Stopped, Over}
 
 -- what is seen is what stood and what was placed since, in which stands what poller and clock said since these states, as far
 -- as the turns have come
@@ -26,18 +28,34 @@ pub record IsGoing (most : ℕ) (poller_tells clock_tells : Bool) (plan : PlanVi
   pub faults : HaltsAtFaults most stood placed before poller
   pub kept : KeepsListens poller_tells before poller
 
--- the recorder stopped a turn: there is room for an event, and worker 0 may listen or wait
-pub record IsStopped (most : ℕ) (plan : PlanView) (stopped : Type 0) (h : List Event) (news : List Tell) (poller : PollerState) (left : Option ℕ) : Type 0 where
-  pub is : stopped
-  pub room : HasRoom most plan h
-  pub idle : MayIdle plan h news poller left
+-- If what poller and clock had said before these calls stands in h, behind any beginning, then what they have said by now stands in k.
+abbrev pub GoesOn : Bounds → (h k : List Event) → Faced → Type 0
+GoesOn b h k f = (stood : List Event) (before : PollerState) (early : ClockState)
+    → IsGoing b.most f.poller.tells f.clock.tells b.plan stood before early f.poller.before f.clock.before h f.before
+    → IsGoing b.most f.poller.tells f.clock.tells b.plan stood before early f.poller.after f.clock.after k f.after
 
--- after a turn the next may come, or it is stopped, or the run has ended
-abbrev pub AfterTurn : (ready : Type 0) → (stopped : Option ℕ → Type 0) → (ended : Type 0) → TurnEnd → Type 0
-AfterTurn ready stopped ended Placed = ready
-AfterTurn ready stopped ended Waited = ready
-AfterTurn ready stopped ended (Stopped left) = stopped left
-AfterTurn ready stopped ended Over = ended
+-- there is room for an event, and worker 0 may listen or wait
+pub record MayRest (b : Bounds) (h : List Event) (news : List Tell) (poller : PollerState) (left : Option ℕ) : Type 0 where
+  pub room : HasRoom b.most b.plan h
+  pub idle : MayIdle b.plan h news poller left
+
+-- this holds if the next turn may come
+abbrev pub WhereNext : Type 0 → TurnEnd → Type 0
+WhereNext ready (Next placed) = ready
+WhereNext ready (Stopped left) = Unit {0}
+WhereNext ready Over = Unit {0}
+
+-- this holds if the recorder stopped the turn
+abbrev pub WhereStopped : (Option ℕ → Type 0) → TurnEnd → Type 0
+WhereStopped stopped (Next placed) = Unit {0}
+WhereStopped stopped (Stopped left) = stopped left
+WhereStopped stopped Over = Unit {0}
+
+-- this holds if the run has ended
+abbrev pub WhereOver : Type 0 → TurnEnd → Type 0
+WhereOver ended (Next placed) = Unit {0}
+WhereOver ended (Stopped left) = Unit {0}
+WhereOver ended Over = ended
 
 -- each feed that is watched is that of an active source
 abbrev pub WatchesActive : PlanView → List Event → PollerState → Type 0
@@ -54,3 +72,24 @@ pub record IsTrueTo (most : ℕ) (plan : PlanView) (stood h : List Event) (polle
 pub record IsRunOn (most : ℕ) (plan : PlanView) (stood h : List Event) (poller : Seen PollerState) (clock : Seen ClockState) : Type 0 where
   pub ended : HasEnded most plan h
   pub true_to : WatchesActive plan stood poller.before → IsTrueTo most plan stood h poller clock
+
+-- the later calls begin with the outside as the first leave it
+pub record GoesOnFrom (first later : Faced) : Type 0 where
+  pub poller_tells : later.poller.tells ≡ first.poller.tells
+  pub clock_tells : later.clock.tells ≡ first.clock.tells
+  pub poller : later.poller.before ≡ first.poller.after
+  pub clock : later.clock.before ≡ first.clock.after
+  pub outlook : later.before ≡ first.after
+
+-- both, as one
+abbrev pub both : Faced → Faced → Faced
+both first later = record {
+  poller = record { tells = first.poller.tells; before = first.poller.before; after = later.poller.after };
+  clock = record { tells = first.clock.tells; before = first.clock.before; after = later.clock.after };
+  before = first.before;
+  after = later.after;
+}
+
+-- what was seen of a clock, from an earlier state on
+abbrev pub since : ClockState → Seen ClockState → Seen ClockState
+since early clock = record clock { before = early }

@@ -15,6 +15,11 @@ use Rattle.gcd_loop.specs.declared.recorder.PutEnd.TheVariants.{Placed as PutPla
 use Rattle.gcd_loop.specs.declared.recorder.Step.{Step}
 use Rattle.gcd_loop.specs.declared.recorder.Step.TheVariants.{Placed, Waited, Stopped, Over}
 
+-- the plan of a run, and how many events the run may have
+pub record Bounds : Type 0 where
+  pub plan : PlanView
+  pub most : ℕ
+
 -- the machine stands for what is seen, which has at most `most` events
 pub record IsSight (most : ℕ) (plan : PlanView) (h : List Event) (m : MachineView) : Type 0 where
   pub own : m.plan ≡ plan
@@ -70,11 +75,11 @@ pub record IsGrown (most : ℕ) (plan : PlanView) (h k : List Event) : Type 0 wh
   pub few : length k ≤ most
 
 -- the event was put
-pub record WasPut (most : ℕ) (plan : PlanView) (e : Event) (h k : List Event) : Type 0 where
+pub record WasPut (bounds : Bounds) (e : Event) (h k : List Event) : Type 0 where
   pub answer : PutEnd
-  pub said : Says most plan e h k answer
-  pub lawful : IsLawful plan k
-  pub few : length k ≤ most
+  pub said : Says bounds.most bounds.plan e h k answer
+  pub lawful : IsLawful bounds.plan k
+  pub few : length k ≤ bounds.most
 
 -- what is kept after what was told was put: it is dropped from the news, unless it is to be put again
 abbrev pub after_put : PutEnd → OutlookView → OutlookView
@@ -83,9 +88,6 @@ after_put Barred o = record o { news = drop 1 o.news }
 after_put Later o = o
 
 -- the first of the news was put
-pub record WasTold (most : ℕ) (plan : PlanView) (e : Event) (h k : List Event) (o u : OutlookView) : Type 0 where
-  pub answer : PutEnd
-  pub said : Says most plan e h k answer
-  pub kept : u ≡ after_put answer o
-  pub lawful : IsLawful plan k
-  pub few : length k ≤ most
+pub record WasTold (bounds : Bounds) (e : Event) (h k : List Event) (o u : OutlookView) : Type 0 where
+  pub put : WasPut bounds e h k
+  pub kept : u ≡ after_put put.answer o

@@ -1,14 +1,16 @@
 //! The loop of worker 0, over whatever keeps the events of a run. (This project's own rules.)
 //!
 //! [`run_turns`] goes turn by turn (`gcd_turn`) until the run has ended. What keeps the events is a [`Recorder`]: a list that one
-//! worker keeps, the row that several share, or rounds. How time passes between two turns is a [`Backoff`]. A recorder that has
-//! to do something outside its methods stops a turn ([`Step::Stopped`]); its engine then goes by [`take_turn`] itself, and by
-//! [`idle`] where worker 0 is to listen or wait after that.
+//! worker keeps, the row that several share, or rounds. It knows the plan and how many events the run may have, and passes the time
+//! between two turns. A recorder that has to do something outside its methods stops a turn ([`Step::Stopped`]): then [`run_turns`] ends,
+//! and another recorder may go on with the same outside. An engine that goes on with the same recorder calls [`take_turn`] itself, and
+//! [`idle`] if worker 0 then has to listen or wait.
 //!
 //! | clause of `run_turns` | says |
 //! |---|---|
-//! | `run_on` (`IsRunOn`) | where memory sufficed: the run has ended; and on any beginning of which the poller watches active feeds alone, what poller and clock said since stands in what came since |
-//! | `left` | where memory sufficed: what the recorder says of a run that has ended |
+//! | `going` (`GoesOn`) | where memory sufficed: what poller and clock said since any beginning stands in what came since, if it did before. So two runs with one outside, one behind the other, are one ([`laws::two_runs_are_one`]); and from the first turn on, on any beginning of which the poller watches active feeds alone, it does ([`laws::first_run_is_true`]) |
+//! | `ended`, `left` | where the run has ended: that it has, and what the recorder says of it |
+//! | `stopped` | where the recorder stopped a turn: what it says of that |
 //! | `kept` | what no step of the recorder changes |
 //! | `listens` | no listen was made, and the poller's count of faults did not fall, where memory runs out too |
 //!
@@ -29,10 +31,9 @@
 //! outside callers shuts the intake, and no job is ever accepted (`AcceptsNone`).
 #![tactic(auto)]
 
-mod backoff;
+pub mod laws;
 mod recorder;
 mod turns;
 
-pub use backoff::{Backoff, NoBackoff};
 pub use recorder::{PutEnd, Recorder, Step};
-pub use turns::{TurnEnd, idle, run_turns, take_turn};
+pub use turns::{Stop, TurnEnd, idle, run_turns, take_turn};

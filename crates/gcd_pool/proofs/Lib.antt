@@ -11,6 +11,7 @@ pub mod Told
 pub mod Works
 pub mod Placing
 pub mod Splices
+mod Stays
 pub mod Teams
 pub mod Recording
 pub mod Throughs

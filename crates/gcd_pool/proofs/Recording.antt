@@ -27,11 +27,12 @@ use Rattle.gcd_row.specs.Plays.{HandsOn}
 use Rattle.gcd_row.specs.declared.view.Handed.{Handed}
 use Rattle.gcd_row.specs.declared.view.Terms.{Terms}
 use Rattle.gcd_row.specs.declared.view.View.{View}
+use Rattle.gcd_turn.specs.declared.outside.Outside.{Outside}
 use Rattle.gcd_pool.specs.Hands.{IsFresh, IsHandOf, Serving}
 use Rattle.gcd_outer.specs.Outside.{ClockState}
 use Rattle.gcd_outer.specs.Tells.{PollerState}
 use Rattle.gcd_pool.specs.Admitted.{HandedOn}
-use Rattle.gcd_pool.specs.Leads.{IsHead, Leads, Led}
+use Rattle.gcd_pool.specs.Leads.{IsHead, Leads, Led, bounds_of}
 use Rattle.gcd_pool.specs.Throughs.{HasWaited, WasPut}
 use Rattle.gcd_pool.specs.Works.{AddsNone, AddsOnly, AddsWork, is_own_work}
 use Rattle.gcd_pool.specs.declared.hand.Hand.{Hand}
@@ -40,7 +41,7 @@ use Rattle.gcd_row.proofs.Fronts.{starts_trans}
 use Rattle.gcd_history.specs.Team.{of_worker}
 use Rattle.gcd_pool.proofs.Puts.{looks_fresh, placed_seen}
 use Rattle.gcd_pool.proofs.Told.{to_lead}
-use Rattle.gcd_pool.proofs.Serves.{looks_serves, passing_fresh, serves_further, serves_nothing}
+use Rattle.gcd_pool.proofs.Serves.{looks_serves, most_of_hand, passing_fresh, serves_further, serves_nothing}
 use Rattle.gcd_pool.proofs.Works.{ahead_adds, still_all}
 
 -- what worker 0 adds of its own, and what others add, is work
@@ -143,34 +144,41 @@ never is = absurd (cc)
 pub never_ok : {T E A : Type 0} {e : E} {x : T} → Err e ≡ Ok x → A
 never_ok is = absurd (cc)
 
-module _ {S : Type 0} (shape : S → Shape) (gives : S → ℕ → Type 0) (most : ℕ) (plan : PlanView) (pool : Pool S) (a : Hand S) (is : IsHead shape gives most plan pool a) where
+module _ {S : Type 0} (shape : S → Shape) (gives : S → ℕ → Type 0) (pool : Pool S) (a : Hand S) (is : IsHead shape gives pool a) where
+  abbrev most : ℕ
+  most = (bounds_of pool).most
+
+  abbrev plan : PlanView
+  plan = (bounds_of pool).plan
+
   pub plan_of_head : (view a.pass).terms.plan ≡ plan
-  plan_of_head = sym is.ready.of.plan ∙ is.plan_is
+  plan_of_head = sym is.ready.of.plan
+
+  pub most_of_head : (view a.pass).terms.limits.most ≡ most
+  most_of_head = most_of_hand shape gives pool a is.ready.of
 
   -- worker 0's hand after a step
-  pub still_head : (b : Hand S) → Serving shape gives pool a b → IsFresh shape (view b.pass) (slots b.pass) → IsHead shape gives most plan pool b
+  pub still_head : (b : Hand S) → Serving shape gives pool a b → IsFresh shape (view b.pass) (slots b.pass) → IsHead shape gives pool b
   still_head b serving fresh = record {
     ready = record { of = serving.of; fresh = fresh };
     head = ap (λ (x : View S). x.worker) serving.view.is ∙ is.head;
-    plan_is = is.plan_is;
-    most_is = is.most_is ∙ sym (ap (λ (x : View S). x.terms.limits.most) serving.view.is);
   }
 
-  pub looked : (q : RowPass S) → IsPassOf shape gives pool.board.now q → Looks (view a.pass) (view q) → slots q ≡ slots a.pass → IsHead shape gives most plan pool (record { pass = q; bench = a.bench; journal = a.journal })
+  pub looked : (q : RowPass S) → IsPassOf shape gives pool.board.now q → Looks (view a.pass) (view q) → slots q ≡ slots a.pass → IsHead shape gives pool (record { pass = q; bench = a.bench; journal = a.journal })
   looked q pass looks same =
       still_head (record { pass = q; bench = a.bench; journal = a.journal }) (looks_serves shape gives pool a q is.ready.of pass looks) (looks_fresh shape gives pool.board.now a.pass q pass looks same is.ready.fresh)
 
   -- it has gathered, and seen no more
-  pub passed_head : (b : Hand S) → Serving shape gives pool a b → view b.pass ≡ knowing (view a.pass) (view a.pass).seen (view b.pass).marks → slots b.pass ≡ slots a.pass → IsHead shape gives most plan pool b
+  pub passed_head : (b : Hand S) → Serving shape gives pool a b → view b.pass ≡ knowing (view a.pass) (view a.pass).seen (view b.pass).marks → slots b.pass ≡ slots a.pass → IsHead shape gives pool b
   passed_head b serving same slots_same = still_head b serving (passing_fresh shape gives pool a.pass b.pass same slots_same is.ready.fresh)
 
   pub same_limit : (b : Hand S) → Serving shape gives pool a b → most ≡ (view b.pass).terms.limits.most
-  same_limit b serving = is.most_is ∙ sym (ap (λ (x : View S). x.terms.limits.most) serving.view.is)
+  same_limit b serving = sym (most_of_hand shape gives pool b serving.of)
 
   -- ## What no step changes
 
   pub leads_further : (first b : Hand S) (e : Event) → Serving shape gives pool a b → (pool.alone ≡ true → AddsOnly e (view a.pass) (view b.pass)) → (IsTrue (is_work e) → choice_of plan (view a.pass).seen 0 0 ≡ Some e)
-      → Leads shape gives plan pool first a → Leads shape gives plan pool first b
+      → Leads shape gives pool first a → Leads shape gives pool first b
   leads_further first b e serving only chosen kept = record {
     serving = serves_further shape gives pool first a b kept.serving serving;
     follows = λ alone all follows.
@@ -178,7 +186,7 @@ module _ {S : Type 0} (shape : S → Shape) (gives : S → ℕ → Type 0) (most
         (kept.follows alone (still_all 0 (view a.pass) (view b.pass) serving.view.more all) follows);
   }
 
-  pub look_leads : (first b : Hand S) → Serving shape gives pool a b → AddsNone (view a.pass) (view b.pass) → Leads shape gives plan pool first a → Leads shape gives plan pool first b
+  pub look_leads : (first b : Hand S) → Serving shape gives pool a b → AddsNone (view a.pass) (view b.pass) → Leads shape gives pool first a → Leads shape gives pool first b
   look_leads first b serving none kept = record {
     serving = serves_further shape gives pool first a b kept.serving serving;
     follows = λ alone all follows.
@@ -186,7 +194,7 @@ module _ {S : Type 0} (shape : S → Shape) (gives : S → ℕ → Type 0) (most
         (kept.follows alone (still_all 0 (view a.pass) (view b.pass) serving.view.more all) follows);
   }
 
-  pub passed_leads : (first b : Hand S) → Serving shape gives pool a b → view b.pass ≡ knowing (view a.pass) (view a.pass).seen (view b.pass).marks → Leads shape gives plan pool first a → Leads shape gives plan pool first b
+  pub passed_leads : (first b : Hand S) → Serving shape gives pool a b → view b.pass ≡ knowing (view a.pass) (view a.pass).seen (view b.pass).marks → Leads shape gives pool first a → Leads shape gives pool first b
   passed_leads first b serving same kept = look_leads first b serving (record { none = λ all. ap (λ (x : View S). x.seen) same }) kept
 
   -- what it chose before that it may record still
@@ -194,12 +202,12 @@ module _ {S : Type 0} (shape : S → Shape) (gives : S → ℕ → Type 0) (most
       → (worker_of e ≡ (view b.pass).worker) × (why (view b.pass).terms.plan (view b.pass).seen e ≡ None) × (is_work e ≡ true)
   passed_chosen b e serving same slots_same chosen =
       let head = passed_head b serving same slots_same in
-      to_lead shape gives pool.board.now b.pass head.ready.of.pass plan e (sym head.plan_is ∙ head.ready.of.plan) head.head (subst (λ (h : List Event). choice_of plan h 0 0 ≡ Some e) (sym (ap (λ (x : View S). x.seen) same)) chosen)
+      to_lead shape gives pool.board.now b.pass head.ready.of.pass plan e head.ready.of.plan head.head (subst (λ (h : List Event). choice_of plan h 0 0 ≡ Some e) (sym (ap (λ (x : View S). x.seen) same)) chosen)
 
   hand_sight : (b : Hand S) → Serving shape gives pool a b → IsSight most plan (view b.pass).seen (machine_of b.pass)
   hand_sight b serving =
       let m = machine_of b.pass in
-      let stands = subst (λ (q : PlanView). Rattle.gcd_machine.specs.Stands.StandsFor m q (view b.pass).seen) (sym serving.of.plan ∙ is.plan_is) serving.of.pass.stands in
+      let stands = subst (λ (q : PlanView). Rattle.gcd_machine.specs.Stands.StandsFor m q (view b.pass).seen) (sym serving.of.plan) serving.of.pass.stands in
       record { own = Rattle.gcd_machine.proofs.Views.Calls.plan_stands m plan (view b.pass).seen stands; stands = stands; few = subst (λ (n : ℕ). length (view b.pass).seen ≤ n) (sym (same_limit b serving)) serving.of.pass.few }
 
   pub worked : (b : Hand S) → Serving shape gives pool a b → AddsWork (view a.pass) (view b.pass) → IsGrown most plan (view a.pass).seen (view b.pass).seen
@@ -207,17 +215,18 @@ module _ {S : Type 0} (shape : S → Shape) (gives : S → ℕ → Type 0) (most
       grown most plan (view a.pass).seen (view b.pass).seen (machine_of b.pass) (hand_sight b serving) (adds_grows (view a.pass) (view b.pass) is.head adds)
 
   pub plan_after : (b : Hand S) → Serving shape gives pool a b → (view b.pass).terms.plan ≡ plan
-  plan_after b serving = sym serving.of.plan ∙ is.plan_is
+  plan_after b serving = sym serving.of.plan
 
-pub leads_nowhere : {S : Type 0} → (shape : S → Shape) (gives : S → ℕ → Type 0) (plan : PlanView) (pool : Pool S) (a : Hand S) → IsHandOf shape gives pool a → Leads shape gives plan pool a a
-leads_nowhere shape gives plan pool a of = record { serving = serves_nothing shape gives pool a of; follows = λ alone all follows. follows }
+pub leads_nowhere : {S : Type 0} → (shape : S → Shape) (gives : S → ℕ → Type 0) (pool : Pool S) (a : Hand S) → IsHandOf shape gives pool a → Leads shape gives pool a a
+leads_nowhere shape gives pool a of = record { serving = serves_nothing shape gives pool a of; follows = λ alone all follows. follows }
 
 -- who knows more of when a team has one hand, and of when worker 0 is done
-pub led_where : {S P C : Type 0} → (p c : Bool) (poller : P → PollerState) (clock : C → ClockState) (A B D E : Type 0) (old new : Hand S × P × C) → (B → A) → (E → D) → Led p c poller clock A D old new → Led p c poller clock B E old new
+pub led_where : {S P C : Type 0} → (p c : Bool) (poller : P → PollerState) (clock : C → ClockState) (A B D E : Type 0) (old new : Hand S × Outside P C) → (B → A) → (E → D) → Led p c poller clock A D old new → Led p c poller clock B E old new
 led_where p c poller clock A B D E old new more done led = record {
-  led = λ is. led.led (done is);
+  going = λ is. led.going (done is);
   ended = λ is. led.ended (done is);
   whole = λ is. led.whole (done is);
   follows = λ alone. led.follows (more alone);
   kept = led.kept;
+  same = led.same;
 }

@@ -24,9 +24,11 @@ use Rattle.gcd_loop.specs.declared.recorder.PutEnd.{PutEnd}
 use Rattle.gcd_outer.specs.Outside.{ClockState}
 use Rattle.gcd_outer.specs.Tells.{PollerState}
 use Rattle.gcd_loop.specs.declared.recorder.PutEnd.TheVariants.{Placed, Barred, Later}
+use Rattle.gcd_turn.specs.declared.outside.Outside.{Outside}
 use Rattle.gcd_pool.specs.Hands.{IsHandOf}
-use Rattle.gcd_pool.specs.Leads.{IsHead, Leads, Led, head_left, head_sight}
+use Rattle.gcd_pool.specs.Leads.{IsHead, Leads, Led, bounds_of, head_left, head_sight}
 use Rattle.gcd_pool.specs.declared.hand.Hand.{Hand}
+use Rattle.gcd_pool.specs.declared.head.Head.{Head}
 use Rattle.gcd_pool.specs.declared.hand.Pool.{Pool}
 
 -- more is seen, and nothing of it is of outside callers
@@ -74,16 +76,16 @@ HandedOn e v w Later = (w.handed ≡ v.handed) × (length w.seen ≡ v.terms.lim
 
 -- worker 0 between two turns: its hand, with the intake of this front, which has no more senders than there may be, of which it accepted
 -- what it took
-pub record IsLeading {S X : Type 0} (shape : S → Shape) (gives : S → ℕ → Type 0) (sent : X → ℕ → Type 0) (most : ℕ) (plan : PlanView) (pool : Pool S) (f : FrontView) (hand : Hand S) (i : IntakeView X) : Type 0 where
-  pub head : IsHead shape gives most plan pool hand
+pub record IsLeading {S X : Type 0} (shape : S → Shape) (gives : S → ℕ → Type 0) (sent : X → ℕ → Type 0) (pool : Pool S) (f : FrontView) (hand : Hand S) (i : IntakeView X) : Type 0 where
+  pub head : IsHead shape gives pool hand
   pub few : f.senders ≤ max_senders
   pub of_front : IsIntakeOf f i
   pub admitted : Admitted gives sent f (view hand.pass) i
 
 -- so its machine stands for what it has seen
-pub leading_sight : {S X : Type 0} (shape : S → Shape) (gives : S → ℕ → Type 0) (sent : X → ℕ → Type 0) (most : ℕ) (plan : PlanView) (pool : Pool S) (f : FrontView) (hand : Hand S) (i : IntakeView X)
-    → IsLeading shape gives sent most plan pool f hand i → IsSight most plan (view hand.pass).seen (machine_of hand.pass)
-leading_sight shape gives sent most plan pool f hand i is = head_sight shape gives most plan pool hand is.head
+pub leading_sight : {S X : Type 0} (shape : S → Shape) (gives : S → ℕ → Type 0) (sent : X → ℕ → Type 0) (pool : Pool S) (f : FrontView) (hand : Hand S) (i : IntakeView X)
+    → IsLeading shape gives sent pool f hand i → IsSight (bounds_of pool).most (bounds_of pool).plan (view hand.pass).seen (machine_of hand.pass)
+leading_sight shape gives sent pool f hand i is = head_sight shape gives pool hand is.head
 
 -- what holds of worker 0 where the run has ended
 pub record HasLed {S X : Type 0} (shape : S → Shape) (gives : S → ℕ → Type 0) (sent : X → ℕ → Type 0) (pool : Pool S) (f : FrontView) (hand : Hand S) (i : IntakeView X) : Type 0 where
@@ -91,14 +93,17 @@ pub record HasLed {S X : Type 0} (shape : S → Shape) (gives : S → ℕ → Ty
   pub of_front : IsIntakeOf f i
   pub admitted : Admitted gives sent f (view hand.pass) i
 
-pub leading_left : {S X : Type 0} (shape : S → Shape) (gives : S → ℕ → Type 0) (sent : X → ℕ → Type 0) (most : ℕ) (plan : PlanView) (pool : Pool S) (f : FrontView) (hand : Hand S) (i : IntakeView X)
-    → IsLeading shape gives sent most plan pool f hand i → HasLed shape gives sent pool f hand i
-leading_left shape gives sent most plan pool f hand i is = record { of = head_left shape gives most plan pool hand is.head; of_front = is.of_front; admitted = is.admitted }
+pub leading_left : {S X : Type 0} (shape : S → Shape) (gives : S → ℕ → Type 0) (sent : X → ℕ → Type 0) (pool : Pool S) (f : FrontView) (hand : Hand S) (i : IntakeView X)
+    → IsLeading shape gives sent pool f hand i → HasLed shape gives sent pool f hand i
+leading_left shape gives sent pool f hand i is = record { of = head_left shape gives pool hand is.head; of_front = is.of_front; admitted = is.admitted }
 
--- what no step of worker 0 changes, its front among it
-pub record KeepsHead {S : Type 0} (shape : S → Shape) (gives : S → ℕ → Type 0) (plan : PlanView) (pool : Pool S) (f : FrontView) (old : Hand S) (g : FrontView) (new : Hand S) : Type 0 where
-  pub leads : Leads shape gives plan pool old new
-  pub front : g ≡ f
+-- what no step of worker 0 changes: its pool, its front, and whose hand and intake they are
+pub record KeepsHead {S X : Type 0} (shape : S → Shape) (gives : S → ℕ → Type 0) (old new : Head S X) : Type 0 where
+  pub leads : Leads shape gives old.pool.now old.hand.now new.hand.now
+  pub pool : new.pool.now ≡ old.pool.now
+  pub front : new.front.now ≡ old.front.now
+  pub hand : new.hand.ghost_name ≡ old.hand.ghost_name
+  pub intake : new.intake.ghost_name ≡ old.intake.ghost_name
 
 -- the job of a sender was laid into the slot of block b, and its Accept was put
 pub record IsAccepted {S X : Type 0} (gives : S → ℕ → Type 0) (sent : X → ℕ → Type 0) (most : ℕ) (plan : PlanView) (b : Blk) (sender : ℕ) (job : X) (v w : View S) (answer : Option PutEnd) : Type 0 where
@@ -115,7 +120,7 @@ abbrev pub AsksOfFront : {S X : Type 0} → (gives : S → ℕ → Type 0) → (
 AsksOfFront gives sent f hand i = (view hand.pass).worker ≡ 0 → (f.senders ≤ max_senders) × IsIntakeOf f i × Admitted gives sent f (view hand.pass) i
 
 -- worker 0 has led, and what was taken was accepted
-pub record LedWithFront {S X P C : Type 0} (poller_tells clock_tells : Bool) (poller : P → PollerState) (clock : C → ClockState) (gives : S → ℕ → Type 0) (sent : X → ℕ → Type 0) (f : FrontView) (alone done : Type 0) (old new : Hand S × IntakeView X × P × C) : Type 0 where
-  pub led : Led poller_tells clock_tells poller clock alone done (old.0, old.2, old.3) (new.0, new.2, new.3)
+pub record LedWithFront {S X P C : Type 0} (poller_tells clock_tells : Bool) (poller : P → PollerState) (clock : C → ClockState) (gives : S → ℕ → Type 0) (sent : X → ℕ → Type 0) (f : FrontView) (alone done : Type 0) (old new : Hand S × IntakeView X × Outside P C) : Type 0 where
+  pub led : Led poller_tells clock_tells poller clock alone done (old.0, old.2) (new.0, new.2)
   pub of_front : done → (view old.0.pass).worker ≡ 0 → IsIntakeOf f new.1
   pub admitted : done → (view old.0.pass).worker ≡ 0 → Admitted gives sent f (view new.0.pass) new.1

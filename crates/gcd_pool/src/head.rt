@@ -10,7 +10,7 @@ ghost use Rattle.gcd_turn.specs.Turns.{HasRoom};
 ghost use Rattle.gcd_history.specs.Intake.{AllAccepted};
 ghost use Rattle.gcd_pool.specs.Admitted.{Admitted, IsAccepted, IsLeading};
 ghost use Rattle.gcd_pool.specs.Hands.{IsReady, Serving};
-ghost use Rattle.gcd_pool.specs.Leads.{IsHead, Leads, Led};
+ghost use Rattle.gcd_pool.specs.Leads.{IsHead, Leads, Led, bounds_of};
 ghost use Rattle.gcd_pool.specs.declared.hand.Hand.{Hand};
 
 use crate::admit_cells::AdmitCells;
@@ -22,10 +22,12 @@ use crate::serve::serve_to_the_end;
 use crate::team::Leader;
 use gcd_event::Event;
 use gcd_front::{Front, Intake, Sent};
-use gcd_loop::{PutEnd, Recorder, Step, run_turns};
+use gcd_loop::{PutEnd, Recorder, Step, Stop, run_turns};
 use gcd_machine::Machine;
 use gcd_outer::{Clock, Poller};
 use gcd_plan::{Blk, Plan};
+use gcd_row::Slot;
+use gcd_turn::Outside;
 use std::alloc::AllocError;
 use std::sync::Wait;
 
@@ -36,17 +38,15 @@ fn shut<S: AdmitCells<X>, X: Sent + Drop, R: Wait>(
     hand: &mut Hand<S>,
     _front: &Front<X>,
     _intake: &Intake<X>,
-    plan: &Plan,
-    most: u32,
 ) -> Result<Option<PutEnd>, AllocError>
-    requires leading { IsLeading S.shape S.gives X.gives most plan.now pool.now _front.now hand.old _intake.now }
-    requires room { HasRoom most plan.now (view hand.old.pass).seen }
-    requires why { AllAccepted plan.now (view hand.old.pass).seen ⊎ (KnowsAll _front.now _intake.now × TookAll _intake.now) }
-    ensures leading { OnOk result (IsLeading S.shape S.gives X.gives most plan.now pool.now _front.now hand.new _intake.now) }
-    ensures said { IfOk result (Admits most plan.now (view hand.old.pass).seen (view hand.new.pass).seen) }
-    ensures kept { (a : Hand S) → Leads S.shape S.gives plan.now pool.now a hand.old → Leads S.shape S.gives plan.now pool.now a hand.new }
+    requires leading { IsLeading S.shape S.gives X.gives pool.now _front.now hand.old _intake.now }
+    requires room { HasRoom (bounds_of pool.now).most pool.now.plan.now (view hand.old.pass).seen }
+    requires why { AllAccepted pool.now.plan.now (view hand.old.pass).seen ⊎ (KnowsAll _front.now _intake.now × TookAll _intake.now) }
+    ensures leading { OnOk result (IsLeading S.shape S.gives X.gives pool.now _front.now hand.new _intake.now) }
+    ensures said { IfOk result (Admits (bounds_of pool.now).most pool.now.plan.now (view hand.old.pass).seen (view hand.new.pass).seen) }
+    ensures kept { (a : Hand S) → Leads S.shape S.gives pool.now a hand.old → Leads S.shape S.gives pool.now a hand.new }
 {
-    let put = put_on(rt, pool, hand, plan, most, Event::Shut)?;
+    let put = put_on(rt, pool, hand, Event::Shut)?;
     Ok(Some(put))
 }
 
@@ -56,21 +56,19 @@ fn accept<S: AdmitCells<X>, X: Sent + Drop, R: Wait>(
     rt: &R,
     pool: &Pool<S>,
     hand: &mut Hand<S>,
-    plan: &Plan,
-    most: u32,
     b: Blk,
     sender: u8,
     job: X,
 ) -> Result<Option<PutEnd>, AllocError>
-    requires head { IsHead S.shape S.gives most plan.now pool.now hand.old }
-    requires next { next_of_intake plan.now (view hand.old.pass).seen ≡ Some b }
-    ensures head { OnOk result (IsHead S.shape S.gives most plan.now pool.now hand.new) }
-    ensures accepted { IfOk result (IsAccepted S.gives X.gives most plan.now b sender job (view hand.old.pass) (view hand.new.pass)) }
-    ensures said { IfOk result (Admits most plan.now (view hand.old.pass).seen (view hand.new.pass).seen) }
-    ensures kept { (a : Hand S) → Leads S.shape S.gives plan.now pool.now a hand.old → Leads S.shape S.gives plan.now pool.now a hand.new }
+    requires head { IsHead S.shape S.gives pool.now hand.old }
+    requires next { next_of_intake pool.now.plan.now (view hand.old.pass).seen ≡ Some b }
+    ensures head { OnOk result (IsHead S.shape S.gives pool.now hand.new) }
+    ensures accepted { IfOk result (IsAccepted S.gives X.gives (bounds_of pool.now).most pool.now.plan.now b sender job (view hand.old.pass) (view hand.new.pass)) }
+    ensures said { IfOk result (Admits (bounds_of pool.now).most pool.now.plan.now (view hand.old.pass).seen (view hand.new.pass).seen) }
+    ensures kept { (a : Hand S) → Leads S.shape S.gives pool.now a hand.old → Leads S.shape S.gives pool.now a hand.new }
 {
     S::lay(pool.board, &mut hand.pass, b, job);
-    let put = put_on(rt, pool, hand, plan, most, Event::Accept { blk: b, sender })?;
+    let put = put_on(rt, pool, hand, Event::Accept { blk: b, sender })?;
     Ok(Some(put))
 }
 
@@ -82,24 +80,22 @@ fn take_in<S: AdmitCells<X>, X: Sent + Drop, R: Wait>(
     hand: &mut Hand<S>,
     front: &Front<X>,
     intake: &mut Intake<X>,
-    plan: &Plan,
-    most: u32,
     b: Blk,
 ) -> Result<Option<PutEnd>, AllocError>
-    requires leading { IsLeading S.shape S.gives X.gives most plan.now pool.now front.now hand.old intake.old }
-    requires room { HasRoom most plan.now (view hand.old.pass).seen }
-    requires open { is_intake_open plan.now (view hand.old.pass).seen ≡ true }
-    requires next { next_of_intake plan.now (view hand.old.pass).seen ≡ Some b }
-    ensures leading { OnOk result (IsLeading S.shape S.gives X.gives most plan.now pool.now front.now hand.new intake.new) }
-    ensures said { IfOk result (Admits most plan.now (view hand.old.pass).seen (view hand.new.pass).seen) }
-    ensures kept { (a : Hand S) → Leads S.shape S.gives plan.now pool.now a hand.old → Leads S.shape S.gives plan.now pool.now a hand.new }
+    requires leading { IsLeading S.shape S.gives X.gives pool.now front.now hand.old intake.old }
+    requires room { HasRoom (bounds_of pool.now).most pool.now.plan.now (view hand.old.pass).seen }
+    requires open { is_intake_open pool.now.plan.now (view hand.old.pass).seen ≡ true }
+    requires next { next_of_intake pool.now.plan.now (view hand.old.pass).seen ≡ Some b }
+    ensures leading { OnOk result (IsLeading S.shape S.gives X.gives pool.now front.now hand.new intake.new) }
+    ensures said { IfOk result (Admits (bounds_of pool.now).most pool.now.plan.now (view hand.old.pass).seen (view hand.new.pass).seen) }
+    ensures kept { (a : Hand S) → Leads S.shape S.gives pool.now a hand.old → Leads S.shape S.gives pool.now a hand.new }
 {
     let all_shut = intake.all_shut(front);
     match intake.take(rt, front) {
-        Some((sender, _, job)) => accept(rt, pool, hand, plan, most, b, sender, job),
+        Some((sender, _, job)) => accept(rt, pool, hand, b, sender, job),
         None => {
             if all_shut {
-                return shut(rt, pool, hand, front, intake, plan, most);
+                return shut(rt, pool, hand, front, intake);
             }
             Ok(None)
         }
@@ -108,35 +104,50 @@ fn take_in<S: AdmitCells<X>, X: Sent + Drop, R: Wait>(
 
 // Worker 0 as its loop sees it. Its fields keep their references.
 #[derive(Drop)]
-pub(crate) struct Head<'h, S, X: Drop> {
-    pub(crate) hand: &'h mut Hand<S>,
-    pub(crate) front: &'h Front<X>,
-    pub(crate) intake: &'h mut Intake<X>,
+pub(crate) struct Head<'a, 'h, S: Slot, X: Drop> {
+    pool: &'h Pool<'a, S>,
+    hand: &'h mut Hand<S>,
+    front: &'h Front<X>,
+    intake: &'h mut Intake<X>,
+    idle: &'h mut HeadIdle,
 }
 
-impl<'a, 'h, S: AdmitCells<X>, X: Sent + Drop> Recorder<Pool<'a, S>> for Head<'h, S, X> {
+impl<'a, 'h, S: AdmitCells<X>, X: Sent + Drop> Recorder for Head<'a, 'h, S, X> {
     type Fault = AllocError;
 
     ghost use Rattle.gcd_row.specs.Passes.{machine_of, view};
     ghost use Rattle.gcd_pool.specs.Admitted.{HasLed, IsLeading, KeepsHead, leading_left, leading_sight};
+    ghost use Rattle.gcd_pool.specs.Leads.{bounds_of};
+
+    ghost bounds = { λ head. bounds_of head.pool.now };
 
     ghost seen = { λ head. (view head.hand.now.pass).seen };
 
     ghost sight = { λ head. machine_of head.hand.now.pass };
 
-    ghost ready = { λ most plan pool head. IsLeading S.shape S.gives X.gives most plan pool head.front.now head.hand.now head.intake.now };
+    ghost ready = { λ head. IsLeading S.shape S.gives X.gives head.pool.now head.front.now head.hand.now head.intake.now };
 
-    ghost kept = { λ most plan pool a b. KeepsHead S.shape S.gives plan pool a.front.now a.hand.now b.front.now b.hand.now
-        × Rattle.std.specs.Prelude.◌≡◌ b.hand.ghost_name a.hand.ghost_name × Rattle.std.specs.Prelude.◌≡◌ b.intake.ghost_name a.intake.ghost_name };
+    ghost kept = { λ a b. KeepsHead S.shape S.gives a b };
 
-    ghost left = { λ most plan pool head. HasLed S.shape S.gives X.gives pool head.front.now head.hand.now head.intake.now };
+    ghost left = { λ head. HasLed S.shape S.gives X.gives head.pool.now head.front.now head.hand.now head.intake.now };
 
-    // It stops no turn.
-    ghost stopped = { λ most plan pool head. ⊥ };
+    ghost stopped = { λ head. ⊥ };
 
-    ghost stands = { λ most plan pool head is. leading_sight S.shape S.gives X.gives most plan pool head.front.now head.hand.now head.intake.now is };
+    ghost stands = { λ head is. leading_sight S.shape S.gives X.gives head.pool.now head.front.now head.hand.now head.intake.now is };
 
-    ghost leaves = { λ most plan pool head is. leading_left S.shape S.gives X.gives most plan pool head.front.now head.hand.now head.intake.now is };
+    ghost leaves = { λ head is. leading_left S.shape S.gives X.gives head.pool.now head.front.now head.hand.now head.intake.now is };
+
+    #[inline(always)]
+    fn plan(&self) -> &Plan
+        ensures { result.now ≡ self.now.pool.now.plan.now }
+    {
+        self.pool.plan
+    }
+
+    #[inline(always)]
+    fn most(&self) -> u32 {
+        self.pool.board.most()
+    }
 
     #[inline(always)]
     fn machine(&self) -> &Machine
@@ -146,104 +157,77 @@ impl<'a, 'h, S: AdmitCells<X>, X: Sent + Drop> Recorder<Pool<'a, S>> for Head<'h
     }
 
     #[inline(always)]
-    fn look(&mut self, plan: &Plan, most: u32, shared: &Pool<'a, S>) {
-        look_on(shared, self.hand, plan, most);
+    fn look(&mut self) {
+        look_on(self.pool, self.hand);
     }
 
     // Whatever a team records it puts into the row.
     #[inline(always)]
-    fn rush(&mut self, _plan: &Plan, _most: u32, _shared: &Pool<'a, S>) -> Result<(), AllocError> {
+    fn rush(&mut self) -> Result<(), AllocError> {
         Ok(())
     }
 
     #[inline(always)]
-    fn put<R: Wait>(
-        &mut self,
-        rt: &R,
-        plan: &Plan,
-        most: u32,
-        shared: &Pool<'a, S>,
-        e: Event,
-    ) -> Result<PutEnd, AllocError> {
-        put_on(rt, shared, self.hand, plan, most, e)
+    fn put<R: Wait>(&mut self, rt: &R, e: Event) -> Result<PutEnd, AllocError> {
+        put_on(rt, self.pool, self.hand, e)
     }
 
     #[inline(always)]
-    fn admit<R: Wait>(
-        &mut self,
-        rt: &R,
-        plan: &Plan,
-        most: u32,
-        shared: &Pool<'a, S>,
-    ) -> Result<Option<PutEnd>, AllocError> {
-        if !pass_many(shared, self.hand) {
+    fn admit<R: Wait>(&mut self, rt: &R) -> Result<Option<PutEnd>, AllocError> {
+        if !pass_many(self.pool, self.hand) {
             return Err(AllocError);
         }
         match self.hand.pass.machine().next_intake() {
-            None => shut(rt, shared, self.hand, self.front, self.intake, plan, most),
-            Some(b) => take_in(
-                rt,
-                shared,
-                self.hand,
-                self.front,
-                self.intake,
-                plan,
-                most,
-                b,
-            ),
+            None => shut(rt, self.pool, self.hand, self.front, self.intake),
+            Some(b) => take_in(rt, self.pool, self.hand, self.front, self.intake, b),
         }
     }
 
     #[inline(always)]
-    fn work<R: Wait>(
-        &mut self,
-        rt: &R,
-        plan: &Plan,
-        most: u32,
-        shared: &Pool<'a, S>,
-        e: Event,
-    ) -> Result<Step, AllocError> {
-        work_on(rt, shared, self.hand, plan, most, e)
+    fn work<R: Wait>(&mut self, rt: &R, e: Event) -> Result<Step, AllocError> {
+        work_on(rt, self.pool, self.hand, e)
     }
 
     #[inline(always)]
-    fn rest<R: Wait>(
-        &mut self,
-        _rt: &R,
-        plan: &Plan,
-        most: u32,
-        shared: &Pool<'a, S>,
-    ) -> Result<Step, AllocError> {
-        rest_on(shared, self.hand, plan, most)
+    fn rest<R: Wait>(&mut self, _rt: &R) -> Result<Step, AllocError> {
+        rest_on(self.pool, self.hand)
+    }
+
+    #[inline(always)]
+    fn resume(&mut self) {
+        self.idle.reset(self.front);
+    }
+
+    #[inline(always)]
+    fn pause<R: Wait>(&mut self, rt: &R) {
+        self.idle.pause(rt, self.front);
     }
 }
 
 // Turn by turn to the end, and all that was seen is gathered. False where memory was refused to the journal, or the team was stopped.
+#[inline(always)]
 fn run_head<S: AdmitCells<X>, X: Sent + Drop, P: Poller, C: Clock, R: Wait>(
     rt: &R,
-    pool: &Pool<S>,
     head: &mut Head<S, X>,
-    poller: &mut P,
-    clock: &mut C,
+    outside: &mut Outside<P, C>,
 ) -> bool
-    requires ready { IsReady S.shape S.gives pool.now head.old.hand.now }
+    requires ready { IsReady S.shape S.gives head.old.pool.now head.old.hand.now }
     requires head { (view head.old.hand.now.pass).worker ≡ 0 }
     requires few { head.old.front.now.senders ≤ max_senders }
     requires intake { IsIntakeOf head.old.front.now head.old.intake.now }
     requires admitted { Admitted S.gives X.gives head.old.front.now (view head.old.hand.now.pass) head.old.intake.now }
     ensures same_hand { head.new.hand.ghost_name ≡ head.old.hand.ghost_name }
     ensures same_intake { head.new.intake.ghost_name ≡ head.old.intake.ghost_name }
-    ensures served { Serving S.shape S.gives pool.now head.old.hand.now head.new.hand.now }
-    ensures led { Led P.tells C.tells P.state C.state (pool.now.alone ≡ true) (result ≡ true) (head.old.hand.now, poller.old, clock.old) (head.new.hand.now, poller.new, clock.new) }
+    ensures served { Serving S.shape S.gives head.old.pool.now head.old.hand.now head.new.hand.now }
+    ensures led { Led P.tells C.tells P.state C.state (head.old.pool.now.alone ≡ true) (result ≡ true) (head.old.hand.now, outside.old) (head.new.hand.now, outside.new) }
     ensures intake { result ≡ true → IsIntakeOf head.old.front.now head.new.intake.now }
     ensures admitted { result ≡ true → Admitted S.gives X.gives head.old.front.now (view head.new.hand.now.pass) head.new.intake.now }
 {
-    let mut idle = HeadIdle::new(head.front);
-    let most = pool.board.most();
-    match run_turns(rt, pool.plan, most, pool, head, &mut idle, poller, clock) {
-        Ok(()) => gather_all(pool, head.hand),
-        Err(_) => {
-            pool.stop();
+    match run_turns(rt, head, outside) {
+        Ok(Stop::Ended) => gather_all(head.pool, head.hand),
+        Ok(Stop::Stopped) => unreachable!(),
+        Err(AllocError) => {
+            head.pool.stop();
             false
         }
     }
@@ -256,8 +240,7 @@ fn lead_to_the_end<S: AdmitCells<X>, X: Sent + Drop, P: Poller, C: Clock, R: Wai
     hand: &mut Hand<S>,
     front: &Front<X>,
     intake: &mut Intake<X>,
-    poller: &mut P,
-    clock: &mut C,
+    outside: &mut Outside<P, C>,
 ) -> bool
     requires ready { IsReady S.shape S.gives pool.now hand.old }
     requires head { (view hand.old.pass).worker ≡ 0 }
@@ -265,29 +248,31 @@ fn lead_to_the_end<S: AdmitCells<X>, X: Sent + Drop, P: Poller, C: Clock, R: Wai
     requires intake { IsIntakeOf front.now intake.old }
     requires admitted { Admitted S.gives X.gives front.now (view hand.old.pass) intake.old }
     ensures served { Serving S.shape S.gives pool.now hand.old hand.new }
-    ensures led { Led P.tells C.tells P.state C.state (pool.now.alone ≡ true) (result ≡ true) (hand.old, poller.old, clock.old) (hand.new, poller.new, clock.new) }
+    ensures led { Led P.tells C.tells P.state C.state (pool.now.alone ≡ true) (result ≡ true) (hand.old, outside.old) (hand.new, outside.new) }
     ensures intake { result ≡ true → IsIntakeOf front.now intake.new }
     ensures admitted { result ≡ true → Admitted S.gives X.gives front.now (view hand.new.pass) intake.new }
 {
     pool.begin_serving(0);
+    let mut idle = HeadIdle::new();
     let mut head = Head {
+        pool,
         hand,
         front,
         intake,
+        idle: &mut idle,
     };
-    run_head(rt, pool, &mut head, poller, clock)
+    run_head(rt, &mut head, outside)
 }
 
 /// Worker 0 of a pool. With the hand of another worker it serves as that helper.
 pub struct Worker0;
 
-impl<'a, S: AdmitCells<X>, X: Sent + Drop, P: Poller, C: Clock> Leader<
+impl<'a, 'o, S: AdmitCells<X>, X: Sent + Drop, P: Poller, C: Clock> Leader<
     Hand<S>,
     Pool<'a, S>,
     Front<X>,
     Intake<X>,
-    P,
-    C,
+    Outside<'o, P, C>,
 > for Worker0 {
     ghost use Rattle.gcd_pool.specs.Admitted.{AsksOfFront, LedWithFront};
 
@@ -300,12 +285,11 @@ impl<'a, S: AdmitCells<X>, X: Sent + Drop, P: Poller, C: Clock> Leader<
         shared: &Pool<'a, S>,
         front: &Front<X>,
         intake: &mut Intake<X>,
-        poller: &mut P,
-        clock: &mut C,
+        outside: &mut Outside<'o, P, C>,
         hand: &mut Hand<S>,
     ) -> bool {
         if hand.pass.worker() == 0 {
-            lead_to_the_end(rt, shared, hand, front, intake, poller, clock)
+            lead_to_the_end(rt, shared, hand, front, intake, outside)
         } else {
             serve_to_the_end(rt, shared, hand)
         }

@@ -1,7 +1,6 @@
 // How worker 0 passes time between two turns.
 use crate::idle::Idle;
 use gcd_front::Front;
-use gcd_loop::Backoff;
 use std::sync::Wait;
 use std::thread::yield_now;
 
@@ -10,57 +9,55 @@ const YIELDS: u32 = 256;
 
 // As every worker does. But where callers from outside may send jobs it yields for longer, and what they send ends its sleep.
 #[derive(Drop)]
-pub(crate) struct HeadIdle<'f, X: Drop> {
+pub(crate) struct HeadIdle {
     idle: Idle,
-    front: &'f Front<X>,
     // How often it has yielded since something came.
     yields: u32,
     // Whether it listens to what is sent.
     listens: bool,
 }
 
-impl<'f, X: Drop> HeadIdle<'f, X> {
+impl HeadIdle {
     // Nothing has been waited for yet.
-    pub(crate) fn new(front: &'f Front<X>) -> HeadIdle<'f, X> {
+    pub(crate) fn new() -> HeadIdle {
         HeadIdle {
             idle: Idle::new(),
-            front,
             yields: 0,
             listens: false,
         }
     }
 
     // A pause where jobs may come. It listens first, and sleeps only at a later pause: what came before is found by the turn between.
-    fn pause_beside_senders<R: Wait>(&mut self, rt: &R) {
+    fn pause_beside_senders<X: Drop, R: Wait>(&mut self, rt: &R, front: &Front<X>) {
         if self.yields < YIELDS {
             self.yields += 1;
             yield_now();
         } else if !self.listens {
-            self.front.listen();
+            front.listen();
             self.listens = true;
         } else if let Some(sleep) = self.idle.spin() {
-            self.front.sleep(rt, sleep);
+            front.sleep(rt, sleep);
         }
     }
-}
 
-impl<X: Drop> Backoff for HeadIdle<'_, X> {
+    // Something came: the next pause is the first again.
     #[inline(always)]
-    fn reset(&mut self) {
+    pub(crate) fn reset<X: Drop>(&mut self, front: &Front<X>) {
         if self.listens {
-            self.front.ignore();
+            front.ignore();
             self.listens = false;
         }
         self.yields = 0;
         self.idle.reset();
     }
 
+    // Nothing came.
     #[inline(always)]
-    fn pause<R: Wait>(&mut self, rt: &R) {
-        if self.front.senders() == 0 {
+    pub(crate) fn pause<X: Drop, R: Wait>(&mut self, rt: &R, front: &Front<X>) {
+        if front.senders() == 0 {
             self.idle.pause(rt);
         } else {
-            self.pause_beside_senders(rt);
+            self.pause_beside_senders(rt, front);
         }
     }
 }

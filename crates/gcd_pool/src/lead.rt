@@ -10,7 +10,7 @@ ghost use Rattle.gcd_row.specs.Views.{knowing};
 ghost use Rattle.gcd_row.specs.declared.view.View.{View};
 ghost use Rattle.gcd_pool.specs.Hands.{IsFresh, IsHandOf, IsReady, Serving};
 ghost use Rattle.gcd_pool.specs.Admitted.{HandedOn};
-ghost use Rattle.gcd_pool.specs.Leads.{IsHead, Leads};
+ghost use Rattle.gcd_pool.specs.Leads.{IsHead, Leads, bounds_of};
 ghost use Rattle.gcd_pool.specs.Turns.{AfterTurn};
 ghost use Rattle.gcd_pool.specs.Works.{AddsOnly, AddsWork};
 
@@ -23,7 +23,6 @@ use crate::run_cells::RunCells;
 use crate::turn::Turn;
 use gcd_event::Event;
 use gcd_loop::Step;
-use gcd_plan::Plan;
 use gcd_row::Slot;
 use std::alloc::AllocError;
 use std::sync::Wait;
@@ -108,12 +107,12 @@ fn lead_any<S: RunCells, R: Wait>(rt: &R, pool: &Pool<S>, hand: &mut Hand<S>, e:
 
 // Sees what the other workers have recorded.
 #[inline(always)]
-pub(crate) fn look_on<S: Slot>(pool: &Pool<S>, hand: &mut Hand<S>, _plan: &Plan, _most: u32)
-    requires head { IsHead S.shape S.gives _most _plan.now pool.now hand.old }
-    ensures head { IsHead S.shape S.gives _most _plan.now pool.now hand.new }
+pub(crate) fn look_on<S: Slot>(pool: &Pool<S>, hand: &mut Hand<S>)
+    requires head { IsHead S.shape S.gives pool.now hand.old }
+    ensures head { IsHead S.shape S.gives pool.now hand.new }
     ensures grows { Grows (view hand.old.pass).seen (view hand.new.pass).seen }
     ensures handed { (view hand.new.pass).handed ≡ (view hand.old.pass).handed }
-    ensures kept { (a : Hand S) → Leads S.shape S.gives _plan.now pool.now a hand.old → Leads S.shape S.gives _plan.now pool.now a hand.new }
+    ensures kept { (a : Hand S) → Leads S.shape S.gives pool.now a hand.old → Leads S.shape S.gives pool.now a hand.new }
 {
     pool.board.look(&mut hand.pass);
 }
@@ -124,17 +123,15 @@ pub(crate) fn put_on<S: Slot, R: Wait>(
     rt: &R,
     pool: &Pool<S>,
     hand: &mut Hand<S>,
-    _plan: &Plan,
-    _most: u32,
     e: Event,
 ) -> Result<gcd_loop::PutEnd, AllocError>
-    requires head { IsHead S.shape S.gives _most _plan.now pool.now hand.old }
+    requires head { IsHead S.shape S.gives pool.now hand.old }
     requires by { worker_of e ≡ 0 }
     requires no_work { is_work e ≡ false }
-    ensures head { OnOk result (IsHead S.shape S.gives _most _plan.now pool.now hand.new) }
-    ensures said { IfOk result (Says _most _plan.now e (view hand.old.pass).seen (view hand.new.pass).seen) }
+    ensures head { OnOk result (IsHead S.shape S.gives pool.now hand.new) }
+    ensures said { IfOk result (Says (bounds_of pool.now).most pool.now.plan.now e (view hand.old.pass).seen (view hand.new.pass).seen) }
     ensures handed { IfOk result (HandedOn e (view hand.old.pass) (view hand.new.pass)) }
-    ensures kept { (a : Hand S) → Leads S.shape S.gives _plan.now pool.now a hand.old → Leads S.shape S.gives _plan.now pool.now a hand.new }
+    ensures kept { (a : Hand S) → Leads S.shape S.gives pool.now a hand.old → Leads S.shape S.gives pool.now a hand.new }
 {
     if !pass_many(pool, hand) {
         return Err(AllocError);
@@ -148,17 +145,15 @@ pub(crate) fn work_on<S: RunCells, R: Wait>(
     rt: &R,
     pool: &Pool<S>,
     hand: &mut Hand<S>,
-    _plan: &Plan,
-    _most: u32,
     e: Event,
 ) -> Result<Step, AllocError>
-    requires head { IsHead S.shape S.gives _most _plan.now pool.now hand.old }
-    requires chosen { choice_of _plan.now (view hand.old.pass).seen 0 0 ≡ Some e }
-    ensures after { IfOk result (After (IsHead S.shape S.gives _most _plan.now pool.now hand.new) ⊥
-        (HasEnded _most _plan.now (view hand.new.pass).seen × IsHandOf S.shape S.gives pool.now hand.new)) }
-    ensures grown { OnOk result (IsGrown _most _plan.now (view hand.old.pass).seen (view hand.new.pass).seen) }
+    requires head { IsHead S.shape S.gives pool.now hand.old }
+    requires chosen { choice_of pool.now.plan.now (view hand.old.pass).seen 0 0 ≡ Some e }
+    ensures after { IfOk result (After (IsHead S.shape S.gives pool.now hand.new) ⊥
+        (HasEnded (bounds_of pool.now).most pool.now.plan.now (view hand.new.pass).seen × IsHandOf S.shape S.gives pool.now hand.new)) }
+    ensures grown { OnOk result (IsGrown (bounds_of pool.now).most pool.now.plan.now (view hand.old.pass).seen (view hand.new.pass).seen) }
     ensures handed { (view hand.new.pass).handed ≡ (view hand.old.pass).handed }
-    ensures kept { (a : Hand S) → Leads S.shape S.gives _plan.now pool.now a hand.old → Leads S.shape S.gives _plan.now pool.now a hand.new }
+    ensures kept { (a : Hand S) → Leads S.shape S.gives pool.now a hand.old → Leads S.shape S.gives pool.now a hand.new }
 {
     if !pass_many(pool, hand) {
         return Err(AllocError);
@@ -168,18 +163,13 @@ pub(crate) fn work_on<S: RunCells, R: Wait>(
 
 // Worker 0 has no choice. An `Err` where the team was stopped.
 #[inline(always)]
-pub(crate) fn rest_on<S: Slot>(
-    pool: &Pool<S>,
-    hand: &mut Hand<S>,
-    _plan: &Plan,
-    _most: u32,
-) -> Result<Step, AllocError>
-    requires head { IsHead S.shape S.gives _most _plan.now pool.now hand.old }
-    ensures head { IsHead S.shape S.gives _most _plan.now pool.now hand.new }
+pub(crate) fn rest_on<S: Slot>(pool: &Pool<S>, hand: &mut Hand<S>) -> Result<Step, AllocError>
+    requires head { IsHead S.shape S.gives pool.now hand.old }
+    ensures head { IsHead S.shape S.gives pool.now hand.new }
     ensures waited { IfOk result (λ step. step ≡ Step.Waited) }
     ensures same { (view hand.new.pass).seen ≡ (view hand.old.pass).seen }
     ensures handed { (view hand.new.pass).handed ≡ (view hand.old.pass).handed }
-    ensures kept { (a : Hand S) → Leads S.shape S.gives _plan.now pool.now a hand.old → Leads S.shape S.gives _plan.now pool.now a hand.new }
+    ensures kept { (a : Hand S) → Leads S.shape S.gives pool.now a hand.old → Leads S.shape S.gives pool.now a hand.new }
 {
     if pool.is_stopped() {
         return Err(AllocError);

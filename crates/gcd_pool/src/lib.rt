@@ -15,7 +15,7 @@
 //!
 //! A helper that has no run begins none, and waits, while others' runs begin and end within about a microsecond.
 //!
-//! Worker 0 ([`Worker0`]) looks, asks its outlook (`gcd_turn`), and puts what was told, an Accept, a Shut, a Tick, an Expire or a Halt; or else it does what its
+//! Worker 0 ([`Worker0`]) looks, asks the outside (`gcd_turn`), and puts what was told, an Accept, a Shut, a Tick, an Expire or a Halt; or else it does what its
 //! machine chooses, as a helper does, and polls or waits only where that is nothing. Where it is the team's only hand it needs no Drain and
 //! pushes none: it records at once what its machine chose, whatever the number of the rack's benches.
 //!
@@ -64,7 +64,7 @@
 //! | [`begin_near`] | it answers `Placed`, with an event that begins a run, `Waited` or `Out`, of the node that was asked for (`SaysBegun`, `SaysOut`) |
 //! | [`record_own`] | it answers `Placed` or `Ended` where this event is the one that is new; `Left` where the run has ended, `Waited` where the event is not permitted any more, and `Stopped` where the team was stopped, and none is new (`SaysRecorded`) |
 //! | [`Shared::serve`] of a [`Pool`] | the hand is still one of the pool, of the same worker and bench, and has seen no less (`Serving` of `specs/Hands`) |
-//! | [`Leader::lead`] of [`Worker0`] | the same; and where it answers true the hand has seen that the run has ended, all that it has seen is in its journal, and where its poller watches feeds of active sources alone, what poller and clock said stands in what it has seen since, whatever stood in the row before (`Led` of `specs/Leads`, by `IsRunOn` of `gcd_loop`) |
+//! | [`Leader::lead`] of [`Worker0`] | the same; and where it answers true the hand has seen that the run has ended, all that it has seen is in its journal, and what poller and clock said since any beginning stands in it, if it did before (`Led` of `specs/Leads`, by `GoesOn` of `gcd_loop`) |
 //! | | of each sender the jobs that were taken begin with those of the blocks that were accepted of it, in order, each of which gives only what its job may; they are all of them where the run is neither halted nor full, and where a Shut stands; no sender has another number than the front's; and a Shut stands only where each block of the intake is accepted, or all mouths were shut and all that was sent was taken (`Admitted` of `specs/Admitted`, in `LedWithFront`) |
 //! | [`AdmitCells::lay`] | the slot of the intake's next block has what gives only what the job that was sent may, and nothing else has changed |
 //! | [`run_in_threads`] | helpers serve in threads while worker 0 leads; what each did, place by place, and what worker 0 answers |

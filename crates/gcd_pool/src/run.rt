@@ -13,6 +13,7 @@ ghost use Rattle.gcd_pool.specs.Duties.{HasExit};
 ghost use Rattle.gcd_pool.specs.Each.{Each};
 ghost use Rattle.gcd_pool.specs.Hands.{IsHandOf, IsReady, Served, Serving};
 ghost use Rattle.gcd_pool.specs.Admitted.{AsksOfFront, LedWithFront};
+ghost use Rattle.gcd_turn.specs.Outsides.{IsSame};
 
 use crate::duty::{Exit, exit_of, has_ended};
 use crate::hand::{Hand, Pool};
@@ -22,6 +23,7 @@ use gcd_front::{Front, Intake, Sent};
 use gcd_jobs::{Admits, Handler, Job};
 use gcd_outer::{Clock, Poller};
 use gcd_row::{Cell, Slot};
+use gcd_turn::Outside;
 use std::alloc::AllocError;
 use std::sync::Wait;
 use std::thread::Threads;
@@ -72,15 +74,16 @@ fn exit_of_first<S>(hands: &Vec<Hand<S>>) -> Exit
     exit_of(hands[0].pass.machine())
 }
 
-/// Runs a pool: worker 0, the first hand, leads with poller and clock, and accepts the jobs of outside callers, which it takes by the
-/// intake of their front, while the other hands serve in threads of their own, until each has seen that the run has ended. A team of one needs no thread, and pushes no Drain, whatever the
-/// number of the rack's benches: where each event of the row is worker 0's, that is what its machine chooses. How the run has ended
-/// is what worker 0 has seen, and that is the whole of the row: nothing can follow it but a Halt, which worker 0 alone can put. It has
-/// all that in its journal then. An `Err` comes only where memory was refused to that journal, or where no thread was made for a worker:
-/// worker 0 leaves, the others leave when they have nothing to do or are held, and of the run nothing is said but that each hand is one of
-/// the pool still. Conditions where the first hand is worker 0's: the front has at most 64 senders, the intake is of this front, and of
-/// each sender the jobs that it has taken are those of the blocks that were accepted of it (`Admitted` of `specs/Admitted`); an intake that
-/// has taken nothing, before the first event, is such. A job that was taken and not accepted is dropped: the run was halted or full.
+/// Runs a pool: worker 0, the first hand, leads with the outside, and accepts the jobs of outside callers, which it takes by the intake of
+/// their front, while the other hands serve in threads of their own, until each has seen that the run has ended. A team of one needs no
+/// thread, and pushes no Drain, whatever the number of the rack's benches: where each event of the row is worker 0's, that is what its
+/// machine chooses. How the run has ended is what worker 0 has seen, and that is the whole of the row: nothing can follow it but a Halt,
+/// which worker 0 alone can put. It has all that in its journal then. An `Err` comes only where memory was refused to that journal, or where
+/// no thread was made for a worker: worker 0 leaves, the others leave when they have nothing to do or are held, and of the run nothing is
+/// said but that each hand is one of the pool still. Conditions where the first hand is worker 0's: the front has at most 64 senders, the
+/// intake is of this front, and of each sender the jobs that it has taken are those of the blocks that were accepted of it (`Admitted` of
+/// `specs/Admitted`); an intake that has taken nothing, before the first event, is such. A job that was taken and not accepted is dropped:
+/// the run was halted or full.
 pub fn pool_run<
     J: Job + Admits<X> + Drop + Send,
     H: Handler + Drop + Send,
@@ -91,21 +94,21 @@ pub fn pool_run<
 >(
     rt: &R,
     pool: &Pool<Cell<J, H>>,
-    mut hands: Vec<Hand<Cell<J, H>>>,
+    hands: &mut Vec<Hand<Cell<J, H>>>,
     front: &Front<X>,
     intake: &mut Intake<X>,
-    poller: &mut P,
-    clock: &mut C,
-) -> (Result<Exit, AllocError>, Vec<Hand<Cell<J, H>>>)
-    requires some { 0 < vec_len hands }
-    requires hands { All (IsReady (shape_of H.kind H.times H.total) (gives_of J.gives) pool.now) hands.items }
-    requires asks { (d : Hand (Cell J H)) → AsksOfFront (gives_of J.gives) X.gives front.now (slice_index_or hands.items 0 d) intake.old }
-    ensures count { length result.1.items ≡ length hands.items }
-    ensures hands { Each (Serving (shape_of H.kind H.times H.total) (gives_of J.gives) pool.now) hands.items result.1.items }
-    ensures served { OnOk result.0 (Each (Served (shape_of H.kind H.times H.total) (gives_of J.gives) pool.now) hands.items result.1.items) }
-    ensures led { (d : Hand (Cell J H)) → LedWithFront P.tells C.tells P.state C.state (gives_of J.gives) X.gives front.now (length hands.items ≡ 1) ((exit : Exit) × (result.0 ≡ Ok exit))
-        (slice_index_or hands.items 0 d, intake.old, poller.old, clock.old) (slice_index_or result.1.items 0 d, intake.new, poller.new, clock.new) }
-    ensures exit { (d : Hand (Cell J H)) → IfOk result.0 (HasExit (terms_of pool.now.board.now).limits.most pool.now.plan.now (view (slice_index_or result.1.items 0 d).pass).seen) }
+    outside: &mut Outside<P, C>,
+) -> Result<Exit, AllocError>
+    requires some { 0 < vec_len hands.old }
+    requires hands { All (IsReady (shape_of H.kind H.times H.total) (gives_of J.gives) pool.now) hands.old.items }
+    requires asks { (d : Hand (Cell J H)) → AsksOfFront (gives_of J.gives) X.gives front.now (slice_index_or hands.old.items 0 d) intake.old }
+    ensures count { length hands.new.items ≡ length hands.old.items }
+    ensures hands { Each (Serving (shape_of H.kind H.times H.total) (gives_of J.gives) pool.now) hands.old.items hands.new.items }
+    ensures served { OnOk result (Each (Served (shape_of H.kind H.times H.total) (gives_of J.gives) pool.now) hands.old.items hands.new.items) }
+    ensures led { (d : Hand (Cell J H)) → LedWithFront P.tells C.tells P.state C.state (gives_of J.gives) X.gives front.now (length hands.old.items ≡ 1) ((exit : Exit) × (result ≡ Ok exit))
+        (slice_index_or hands.old.items 0 d, intake.old, outside.old) (slice_index_or hands.new.items 0 d, intake.new, outside.new) }
+    ensures same { IsSame outside.old outside.new }
+    ensures exit { (d : Hand (Cell J H)) → IfOk result (HasExit (terms_of pool.now.board.now).limits.most pool.now.plan.now (view (slice_index_or hands.new.items 0 d).pass).seen) }
 {
     let team = pool.for_hands(hands.len());
     let done = run_hands::<
@@ -114,22 +117,12 @@ pub fn pool_run<
         Worker0,
         Front<X>,
         Intake<X>,
-        P,
-        C,
+        Outside<P, C>,
         R,
-    >(
-        rt,
-        &team,
-        hands.as_mut_slice(),
-        front,
-        intake,
-        poller,
-        clock,
-    );
+    >(rt, &team, hands.as_mut_slice(), front, intake, outside);
     if !done {
-        return (Err(AllocError), hands);
+        return Err(AllocError);
     }
-    see_the_ends(rt, &team, &mut hands);
-    let exit = exit_of_first(&hands);
-    (Ok(exit), hands)
+    see_the_ends(rt, &team, hands);
+    Ok(exit_of_first(hands))
 }

@@ -38,6 +38,7 @@ pub trait RunCells: Slot {
 }
 
 impl<J: Job + Drop, H: Handler + Drop> RunCells for Cell<J, H> {
+    #[inline(always)]
     fn run_body(board: &RowBoard<Cell<J, H>>, pass: &mut RowPass<Cell<J, H>>, b: Blk) {
         if pass.machine().is_cancelled(b) {
             board.give_done(pass, b, 0);

@@ -5,3 +5,4 @@ pub mod Grown
 pub mod Ready
 pub mod Taken
 pub mod Zips
+mod Rans

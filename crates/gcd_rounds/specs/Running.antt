@@ -1,6 +1,5 @@
 -- What holds of a run by rounds after each of its steps.
 use Rattle.std.specs.Prelude.{◌≡◌, ◌≤◌, ◌<◌, ◌^◌, [], ℕ, false, List, Option, Some, None, IsTrue, length, map, slice_get}
-use Rattle.std.proofs.Common.{subst}
 use Rattle.std.specs.List.{range_with_len}
 use Rattle.gcd_plan.specs.PlanView.{PlanView}
 use Rattle.gcd_plan.specs.declared.kind.Kind.{Kind}
@@ -11,7 +10,7 @@ use Rattle.gcd_history.specs.History.{choice_of, delivery_count_of, is_ended, re
 use Rattle.gcd_history.specs.Intake.{accepted, AcceptsNone}
 use Rattle.gcd_machine.specs.Stands.{StandsFor}
 use Rattle.gcd_loop.specs.Followed.{FollowsChoice, IsOfWorkers}
-use Rattle.gcd_loop.specs.Recorded.{IsSight}
+use Rattle.gcd_loop.specs.Recorded.{Bounds, IsSight}
 use Rattle.gcd_rounds.specs.declared.kept.Ending.{Ending}
 use Rattle.gcd_rounds.specs.declared.round.Round.{Round}
 use Rattle.gcd_rounds.specs.declared.running.Running.{Running}
@@ -79,26 +78,28 @@ pub record AreReady {J H : Type 0} (gives : J → ℕ → ℕ → Type 0) (plan 
   pub wait : AllWait r.terms.most plan r.terms.jobs.value.items r.journal.items r.jobs.items ends
   pub kept : AreKept plan r.terms.workers r.journal.items ends
 
--- a run between two turns of worker 0, of so many events at most: no End is kept back
-pub record AtTurn {J H : Type 0} (gives : J → ℕ → ℕ → Type 0) (kind : H → Kind) (times total : H → ℕ) (most : ℕ) (plan : PlanView) (o : Round J H) : Type 0 where
-  pub run : IsRun kind times total plan o.run
-  pub ready : AreReady gives plan o.run []
+-- a run between two turns of worker 0: no End is kept back
+pub record AtTurn {J H : Type 0} (gives : J → ℕ → ℕ → Type 0) (kind : H → Kind) (times total : H → ℕ) (o : Round J H) : Type 0 where
+  pub run : IsRun kind times total o.plan.now o.run
+  pub ready : AreReady gives o.plan.now o.run []
   pub none : o.kept.items ≡ []
-  pub limit : o.run.terms.most ≡ most
 
 -- a run where worker 0's turn is over in a round: an End of it may be kept back, and nobody else's
-pub record InRound {J H : Type 0} (gives : J → ℕ → ℕ → Type 0) (kind : H → Kind) (times total : H → ℕ) (most : ℕ) (plan : PlanView) (o : Round J H) : Type 0 where
-  pub run : IsRun kind times total plan o.run
-  pub ready : AreReady gives plan o.run (endings_of o.kept.items)
+pub record InRound {J H : Type 0} (gives : J → ℕ → ℕ → Type 0) (kind : H → Kind) (times total : H → ℕ) (o : Round J H) : Type 0 where
+  pub run : IsRun kind times total o.plan.now o.run
+  pub ready : AreReady gives o.plan.now o.run (endings_of o.kept.items)
   pub jobs : HaveJobs o.run.terms.jobs.value.items o.kept.items
   pub before : EndBefore 1 (endings_of o.kept.items)
-  pub limit : o.run.terms.most ≡ most
+
+-- its plan, and how many events it may have
+abbrev pub bounds_of : {J H : Type 0} → Round J H → Bounds
+bounds_of o = record { plan = o.plan.now; most = o.run.terms.most }
 
 -- its machine stands for its journal
-pub run_sight : {J H : Type 0} (kind : H → Kind) (times total : H → ℕ) (most : ℕ) (plan : PlanView) (r : Running J H) → IsRun kind times total plan r → r.terms.most ≡ most
-    → IsSight most plan r.journal.items r.machine
-run_sight kind times total most plan r run limit = record { own = run.own; stands = run.stands; few = subst (λ (n : ℕ). length r.journal.items ≤ n) limit run.few }
+pub run_sight : {J H : Type 0} (kind : H → Kind) (times total : H → ℕ) (plan : PlanView) (r : Running J H) → IsRun kind times total plan r
+    → IsSight r.terms.most plan r.journal.items r.machine
+run_sight kind times total plan r run = record { own = run.own; stands = run.stands; few = run.few }
 
-pub turn_sight : {J H : Type 0} (gives : J → ℕ → ℕ → Type 0) (kind : H → Kind) (times total : H → ℕ) (most : ℕ) (plan : PlanView) (o : Round J H)
-    → AtTurn gives kind times total most plan o → IsSight most plan o.run.journal.items o.run.machine
-turn_sight gives kind times total most plan o at = run_sight kind times total most plan o.run at.run at.limit
+pub turn_sight : {J H : Type 0} (gives : J → ℕ → ℕ → Type 0) (kind : H → Kind) (times total : H → ℕ) (o : Round J H)
+    → AtTurn gives kind times total o → IsSight o.run.terms.most o.plan.now o.run.journal.items o.run.machine
+turn_sight gives kind times total o at = run_sight kind times total o.plan.now o.run at.run

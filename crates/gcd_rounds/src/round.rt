@@ -20,35 +20,48 @@ use std::mem;
 use std::sync::Wait;
 use std::thread::Threads;
 
-// A run, and the Ends that are kept back in its round.
+// A run of a plan, and the Ends that are kept back in its round.
 #[derive(Drop)]
-pub(crate) struct Round<J, H> {
+pub(crate) struct Round<'a, J, H> {
+    pub(crate) plan: &'a Plan,
     pub(crate) run: Running<J, H>,
     pub(crate) kept: Vec<Kept<J>>,
 }
 
 // A turn of worker 0 is stopped where an End is kept back, and where worker 0 has no choice: then the round ends.
-impl<J: Job + Drop, H: Handler + Drop> Recorder<Global> for Round<J, H> {
+impl<'a, J: Job + Drop, H: Handler + Drop> Recorder for Round<'a, J, H> {
     type Fault = AllocError;
 
     ghost use Rattle.std.specs.Prelude.{◌≡◌};
-    ghost use Rattle.gcd_rounds.specs.Running.{AtTurn, InRound, turn_sight};
+    ghost use Rattle.gcd_rounds.specs.Running.{AtTurn, InRound, bounds_of, turn_sight};
+
+    ghost bounds = { λ o. bounds_of o };
 
     ghost seen = { λ o. o.run.journal.items };
 
     ghost sight = { λ o. o.run.machine };
 
-    ghost ready = { λ most plan d o. AtTurn J.gives H.kind H.times H.total most plan o };
+    ghost ready = { λ o. AtTurn J.gives H.kind H.times H.total o };
 
-    ghost kept = { λ most plan d a o. o.run.terms ≡ a.run.terms };
+    ghost kept = { λ a o. (o.run.terms ≡ a.run.terms) × (o.plan.now ≡ a.plan.now) };
 
-    ghost left = { λ most plan d o. AtTurn J.gives H.kind H.times H.total most plan o };
+    ghost left = { λ o. AtTurn J.gives H.kind H.times H.total o };
 
-    ghost stopped = { λ most plan d o. InRound J.gives H.kind H.times H.total most plan o };
+    ghost stopped = { λ o. InRound J.gives H.kind H.times H.total o };
 
-    ghost leaves = { λ most plan d o at. at };
+    ghost leaves = { λ o at. at };
 
-    ghost stands = { λ most plan d o at. turn_sight J.gives H.kind H.times H.total most plan o at };
+    ghost stands = { λ o at. turn_sight J.gives H.kind H.times H.total o at };
+
+    fn plan(&self) -> &Plan
+        ensures { result.now ≡ self.now.plan.now }
+    {
+        self.plan
+    }
+
+    fn most(&self) -> u32 {
+        self.run.terms.most
+    }
 
     fn machine(&self) -> &Machine
         ensures { result.now ≡ self.now.run.machine }
@@ -56,59 +69,38 @@ impl<J: Job + Drop, H: Handler + Drop> Recorder<Global> for Round<J, H> {
         &self.run.machine
     }
 
-    fn look(&mut self, _plan: &Plan, _most: u32, _shared: &Global) {}
+    fn look(&mut self) {}
 
     // Whatever is recorded is of a round.
-    fn rush(&mut self, _plan: &Plan, _most: u32, _shared: &Global) -> Result<(), Self::Fault> {
+    fn rush(&mut self) -> Result<(), Self::Fault> {
         Ok(())
     }
 
-    fn put<R: Wait>(
-        &mut self,
-        _rt: &R,
-        plan: &Plan,
-        _most: u32,
-        _shared: &Global,
-        e: Event,
-    ) -> Result<PutEnd, AllocError> {
-        self.run.put(plan, e)
+    fn put<R: Wait>(&mut self, _rt: &R, e: Event) -> Result<PutEnd, AllocError> {
+        self.run.put(self.plan, e)
     }
 
     // There are no outside callers.
-    fn admit<R: Wait>(
-        &mut self,
-        _rt: &R,
-        plan: &Plan,
-        _most: u32,
-        _shared: &Global,
-    ) -> Result<Option<PutEnd>, AllocError> {
-        let put = self.run.put(plan, Event::Shut)?;
+    fn admit<R: Wait>(&mut self, _rt: &R) -> Result<Option<PutEnd>, AllocError> {
+        let put = self.run.put(self.plan, Event::Shut)?;
         Ok(Some(put))
     }
 
-    fn work<R: Wait>(
-        &mut self,
-        _rt: &R,
-        plan: &Plan,
-        _most: u32,
-        _shared: &Global,
-        e: Event,
-    ) -> Result<Step, AllocError> {
-        if follow(&mut self.run, plan, e, &mut self.kept)? {
+    fn work<R: Wait>(&mut self, _rt: &R, e: Event) -> Result<Step, AllocError> {
+        if follow(&mut self.run, self.plan, e, &mut self.kept)? {
             return Ok(Step::Placed);
         }
         Ok(Step::Stopped)
     }
 
-    fn rest<R: Wait>(
-        &mut self,
-        _rt: &R,
-        _plan: &Plan,
-        _most: u32,
-        _shared: &Global,
-    ) -> Result<Step, AllocError> {
+    fn rest<R: Wait>(&mut self, _rt: &R) -> Result<Step, AllocError> {
         Ok(Step::Stopped)
     }
+
+    // Turn follows on turn.
+    fn resume(&mut self) {}
+
+    fn pause<R: Wait>(&mut self, _rt: &R) {}
 }
 
 // The Ends that were kept back are recorded in the order of the workers, as long as the run goes on.
@@ -147,15 +139,16 @@ fn is_quiet<J, H>(run: &Running<J, H>, kept: &Vec<Kept<J>>, len: u32) -> bool
 pub(crate) fn end_round<R: Threads + Wait + Sync, J: Job + Drop + Send, H: Handler + Drop>(
     rt: &R,
     alloc: Global,
-    plan: &Plan,
     round: &mut Round<J, H>,
 ) -> Result<bool, AllocError>
-    requires stopped { InRound J.gives H.kind H.times H.total round.old.run.terms.most plan.now round.old }
+    requires stopped { InRound J.gives H.kind H.times H.total round.old }
     ensures terms { round.new.run.terms ≡ round.old.run.terms }
-    ensures ready { OnOk result (AtTurn J.gives H.kind H.times H.total round.old.run.terms.most plan.now round.new) }
+    ensures plan { round.new.plan.now ≡ round.old.plan.now }
+    ensures ready { OnOk result (AtTurn J.gives H.kind H.times H.total round.new) }
     ensures grows { OnOk result (Grows round.old.run.journal.items round.new.run.journal.items) }
     ensures none { IfOk result (λ some. some ≡ false → round.new.run.journal.items ≡ round.old.run.journal.items) }
 {
+    let plan = round.plan;
     let len = round.run.machine.len();
     take_turns(rt, &mut round.run, plan, &mut round.kept)?;
     if is_quiet(&round.run, &round.kept, len) {

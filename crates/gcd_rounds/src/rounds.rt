@@ -1,18 +1,15 @@
 // Rounds of several workers.
-ghost use Rattle.std.specs.Prelude.{◌≡◌, ◌<◌, ◌≤◌, [], ℕ, List, Ok, true, false, OnOk, IfOk, length};
+ghost use Rattle.std.specs.Prelude.{◌≡◌, ◌<◌, ◌≤◌, ℕ, Ok, true, false, OnOk, IfOk, length};
 ghost use Rattle.gcd_plan.specs.Limits.{max_workers};
-ghost use Rattle.gcd_event.specs.declared.event.Event.{Event};
 ghost use Rattle.gcd_history.specs.Ends.{HasEnded};
 ghost use Rattle.gcd_history.specs.History.{delivery_count_of, received_of};
-ghost use Rattle.gcd_outer.specs.Outside.{ClockState};
-ghost use Rattle.gcd_outer.specs.Tells.{PollerState};
-ghost use Rattle.gcd_turn.specs.Asked.{KeepsListens, MayIdle};
-ghost use Rattle.gcd_turn.specs.Turns.{HasRoom};
+ghost use Rattle.gcd_turn.specs.Asked.{KeepsListens};
+ghost use Rattle.gcd_turn.specs.Outsides.{IsSame, faced};
 ghost use Rattle.gcd_history.specs.Intake.{AcceptsNone};
-ghost use Rattle.gcd_loop.specs.Going.{IsGoing};
+ghost use Rattle.gcd_loop.specs.Going.{GoesOn, MayRest};
 ghost use Rattle.gcd_loop.specs.Ran.{RunsPlan};
 ghost use Rattle.gcd_rounds.specs.Ran.{AreGiven, AreHandlers};
-ghost use Rattle.gcd_rounds.specs.Running.{AtTurn, InRound};
+ghost use Rattle.gcd_rounds.specs.Running.{AtTurn, InRound, bounds_of};
 
 use crate::round::{Round, end_round};
 use crate::running::Running;
@@ -21,7 +18,7 @@ use gcd_jobs::{Handler, Job};
 use gcd_loop::{TurnEnd, idle, take_turn};
 use gcd_outer::{Clock, Poller};
 use gcd_plan::Plan;
-use gcd_turn::Outlook;
+use gcd_turn::Outside;
 use std::alloc::{AllocError, Global};
 use std::sync::Wait;
 use std::thread::Threads;
@@ -54,26 +51,22 @@ fn close_round<
 >(
     rt: &R,
     alloc: Global,
-    plan: &Plan,
-    most: u32,
     round: &mut Round<J, H>,
-    outlook: &mut Outlook,
-    poller: &mut P,
-    clock: &mut C,
+    outside: &mut Outside<P, C>,
     left: Option<u32>,
 ) -> Result<(), AllocError>
-    requires stopped { InRound J.gives H.kind H.times H.total most plan.now round.old }
-    requires room { HasRoom most plan.now round.old.run.journal.items }
-    requires idle { MayIdle plan.now round.old.run.journal.items outlook.old.news (P.state poller.old) left }
+    requires stopped { InRound J.gives H.kind H.times H.total round.old }
+    requires rest { MayRest (bounds_of round.old) round.old.run.journal.items outside.old.outlook.news (P.state outside.old.poller.now) left }
     ensures terms { round.new.run.terms ≡ round.old.run.terms }
-    ensures ready { OnOk result (AtTurn J.gives H.kind H.times H.total most plan.now round.new) }
-    ensures listens { KeepsListens P.tells (P.state poller.old) (P.state poller.new) }
-    ensures going { (stood : List Event) (before : PollerState) (early : ClockState)
-        → IsGoing most P.tells C.tells plan.now stood before early (P.state poller.old) (C.state clock.old) round.old.run.journal.items outlook.old
-        → OnOk result (IsGoing most P.tells C.tells plan.now stood before early (P.state poller.new) (C.state clock.new) round.new.run.journal.items outlook.new) }
+    ensures plan { round.new.plan.now ≡ round.old.plan.now }
+    ensures ready { OnOk result (AtTurn J.gives H.kind H.times H.total round.new) }
+    ensures same { IsSame outside.old outside.new }
+    ensures listens { KeepsListens P.tells (P.state outside.old.poller.now) (P.state outside.new.poller.now) }
+    ensures going { OnOk result (GoesOn (bounds_of round.old) round.old.run.journal.items round.new.run.journal.items
+        (faced P.tells C.tells P.state C.state outside.old outside.new)) }
 {
-    if !end_round(rt, alloc, plan, round)? {
-        idle(rt, plan, most, &alloc, round, outlook, poller, clock, left)?;
+    if !end_round(rt, alloc, round)? {
+        idle(rt, round, outside, left)?;
     }
     Ok(())
 }
@@ -82,27 +75,23 @@ fn close_round<
 fn advance<R: Threads + Wait + Sync, J: Job + Drop + Send, H: Handler + Drop, P: Poller, C: Clock>(
     rt: &R,
     alloc: Global,
-    plan: &Plan,
-    most: u32,
     round: &mut Round<J, H>,
-    outlook: &mut Outlook,
-    poller: &mut P,
-    clock: &mut C,
+    outside: &mut Outside<P, C>,
 ) -> Result<bool, AllocError>
-    requires ready { AtTurn J.gives H.kind H.times H.total most plan.now round.old }
+    requires ready { AtTurn J.gives H.kind H.times H.total round.old }
     ensures terms { round.new.run.terms ≡ round.old.run.terms }
-    ensures ready { OnOk result (AtTurn J.gives H.kind H.times H.total most plan.now round.new) }
-    ensures over { result ≡ Ok false → HasEnded most plan.now round.new.run.journal.items }
-    ensures listens { KeepsListens P.tells (P.state poller.old) (P.state poller.new) }
-    ensures going { (stood : List Event) (before : PollerState) (early : ClockState)
-        → IsGoing most P.tells C.tells plan.now stood before early (P.state poller.old) (C.state clock.old) round.old.run.journal.items outlook.old
-        → OnOk result (IsGoing most P.tells C.tells plan.now stood before early (P.state poller.new) (C.state clock.new) round.new.run.journal.items outlook.new) }
+    ensures plan { round.new.plan.now ≡ round.old.plan.now }
+    ensures ready { OnOk result (AtTurn J.gives H.kind H.times H.total round.new) }
+    ensures over { result ≡ Ok false → HasEnded round.old.run.terms.most round.old.plan.now round.new.run.journal.items }
+    ensures same { IsSame outside.old outside.new }
+    ensures listens { KeepsListens P.tells (P.state outside.old.poller.now) (P.state outside.new.poller.now) }
+    ensures going { OnOk result (GoesOn (bounds_of round.old) round.old.run.journal.items round.new.run.journal.items
+        (faced P.tells C.tells P.state C.state outside.old outside.new)) }
 {
-    match take_turn(rt, plan, most, &alloc, round, outlook, poller, clock)? {
-        TurnEnd::Placed => Ok(true),
-        TurnEnd::Waited => Ok(true),
+    match take_turn(rt, round, outside)? {
+        TurnEnd::Next { .. } => Ok(true),
         TurnEnd::Stopped { left } => {
-            close_round(rt, alloc, plan, most, round, outlook, poller, clock, left)?;
+            close_round(rt, alloc, round, outside, left)?;
             Ok(true)
         }
         TurnEnd::Over => Ok(false),
@@ -113,24 +102,21 @@ fn advance<R: Threads + Wait + Sync, J: Job + Drop + Send, H: Handler + Drop, P:
 fn go_round<R: Threads + Wait + Sync, J: Job + Drop + Send, H: Handler + Drop, P: Poller, C: Clock>(
     rt: &R,
     alloc: Global,
-    plan: &Plan,
-    most: u32,
     round: &mut Round<J, H>,
-    outlook: &mut Outlook,
-    poller: &mut P,
-    clock: &mut C,
+    outside: &mut Outside<P, C>,
 ) -> Result<(), AllocError>
-    requires ready { AtTurn J.gives H.kind H.times H.total most plan.now round.old }
+    requires ready { AtTurn J.gives H.kind H.times H.total round.old }
     ensures terms { round.new.run.terms ≡ round.old.run.terms }
-    ensures ready { OnOk result (AtTurn J.gives H.kind H.times H.total most plan.now round.new) }
-    ensures ended { OnOk result (HasEnded most plan.now round.new.run.journal.items) }
-    ensures listens { KeepsListens P.tells (P.state poller.old) (P.state poller.new) }
-    ensures going { (stood : List Event) (before : PollerState) (early : ClockState)
-        → IsGoing most P.tells C.tells plan.now stood before early (P.state poller.old) (C.state clock.old) round.old.run.journal.items outlook.old
-        → OnOk result (IsGoing most P.tells C.tells plan.now stood before early (P.state poller.new) (C.state clock.new) round.new.run.journal.items outlook.new) }
+    ensures plan { round.new.plan.now ≡ round.old.plan.now }
+    ensures ready { OnOk result (AtTurn J.gives H.kind H.times H.total round.new) }
+    ensures ended { OnOk result (HasEnded round.old.run.terms.most round.old.plan.now round.new.run.journal.items) }
+    ensures same { IsSame outside.old outside.new }
+    ensures listens { KeepsListens P.tells (P.state outside.old.poller.now) (P.state outside.new.poller.now) }
+    ensures going { OnOk result (GoesOn (bounds_of round.old) round.old.run.journal.items round.new.run.journal.items
+        (faced P.tells C.tells P.state C.state outside.old outside.new)) }
 {
     for _ in rt.forever() {
-        if !advance(rt, alloc, plan, most, round, outlook, poller, clock)? {
+        if !advance(rt, alloc, round, outside)? {
             return Ok(());
         }
     }
@@ -139,9 +125,9 @@ fn go_round<R: Threads + Wait + Sync, J: Job + Drop + Send, H: Handler + Drop, P
 
 // What is left of a run, whether or not memory sufficed for it.
 fn end_of<J: Drop, H: Drop>(round: Round<J, H>) -> RoundsEnd<H>
-    ensures journal { result.journal ≡ round.run.journal }
-    ensures values { result.values ≡ round.run.values }
-    ensures handlers { result.handlers ≡ round.run.handlers }
+    ensures journal { result.journal ≡ round.entry.run.journal }
+    ensures values { result.values ≡ round.entry.run.values }
+    ensures handlers { result.handlers ≡ round.entry.run.handlers }
 {
     RoundsEnd {
         journal: round.run.journal,
@@ -177,20 +163,12 @@ fn ran<R: Threads + Wait + Sync, J: Job + Drop + Send, H: Handler + Drop, P: Pol
 {
     let run = Running::new(alloc, plan, most, jobs, handlers, workers)?;
     let mut round = Round {
+        plan,
         run,
         kept: Vec::new(alloc),
     };
-    let mut outlook = Outlook::new(clock);
-    let gone = go_round(
-        rt,
-        alloc,
-        plan,
-        most,
-        &mut round,
-        &mut outlook,
-        poller,
-        clock,
-    );
+    let mut outside = Outside::new(poller, clock);
+    let gone = go_round(rt, alloc, &mut round, &mut outside);
     let end = end_of(round);
     gone?;
     Ok(end)

@@ -1,5 +1,6 @@
 pub mod Asked
 pub mod Hearing
+pub mod Outsides
 pub mod Promises
 pub mod Times
 pub mod Timing

@@ -7,17 +7,17 @@ use gcd_event::Event;
 pub enum Ask {
     /// The run has ended: it is quiescent, halted or full.
     Leave,
-    /// To record this, which a poller told; then, or where it is not permitted, [`Outlook::settle`](crate::Outlook::settle).
+    /// To record this, which a poller told; then, or where it is not permitted, [`Outside::settle`](crate::Outside::settle).
     Told(Event),
     /// To see to the intake, which is open: to take in the next job of an outside caller, or to record a Shut. Where nothing comes
-    /// of it, [`Outlook::ask_on`](crate::Outlook::ask_on).
+    /// of it, [`Outside::ask_on`](crate::Outside::ask_on).
     Open {
         /// What worker 0 chooses, from object 0 on; None exactly where no event of worker 0 is permitted.
         chosen: Option<Event>,
     },
     /// To record this: a Halt, a Tick or an Expire.
     Put(Event),
-    /// To record `chosen`, what worker 0 chooses; where that is None, [`Outlook::idle`](crate::Outlook::idle). No wait may
+    /// To record `chosen`, what worker 0 chooses; where that is None, [`Outside::idle`](crate::Outside::idle). No wait may
     /// expire.
     Work {
         /// What worker 0 chooses, from object 0 on; None exactly where no event of worker 0 is permitted.

@@ -1,16 +1,17 @@
 //! The turn of worker 0, which alone has poller and clock. (This project's own rules; read sources and timers are those of
 //! dispatch_source_create(3), waits with a limit those of dispatch_semaphore_wait(3) and dispatch_group_wait(3).)
 //!
-//! A turn ends at its first recorded event. [`Outlook`] is what worker 0 keeps between its turns: the clock's answer before
-//! the first, what was told and is not yet recorded, and how many empty answers came in a row. It sees a machine and says
-//! what to record; the engine that keeps the machine records it in its own way. No call takes memory.
+//! A turn ends at its first recorded event. [`Outside`] has poller and clock, and what worker 0 keeps of them between its turns
+//! ([`Outlook`]): the clock's answer before the first turn, what was told and is not yet recorded, and how many empty answers came in a
+//! row. It sees a machine and says what to record; the engine that keeps the machine records it in its own way, and may hand the outside
+//! on to another. No call takes memory.
 //!
-//! | call | steps of a turn | answer |
+//! | call of [`Outside`] | steps of a turn | answer |
 //! |---|---|---|
-//! | `Outlook::new` | | asks the clock once |
+//! | `new` | | asks the clock once |
 //! | `ask` | 1. the run has ended | [`Ask::Leave`]: it is quiescent, halted or full, which is at `most` events |
 //! | | 2. each live feed that is not watched is watched, by number | at a fault [`Ask::Put`] of a Halt |
-//! | | 3. news | [`Ask::Told`]: the first piece, as a Ready or a FeedEnd; then, placed or barred, [`Outlook::settle`] |
+//! | | 3. news | [`Ask::Told`]: the first piece, as a Ready or a FeedEnd; then, placed or barred, [`Outside::settle`] |
 //! | | 4. the intake is open | [`Ask::Open`]: to take in a job of an outside caller, or to record a Shut; where neither comes, `ask_on` |
 //! | `ask_on`, and `ask` by it | 5. a due time is left: the clock is asked | [`Ask::Put`] of a Tick where one has come |
 //! | | 6. a wait may expire | [`Ask::Put`] of the Expire of the lowest-numbered block whose wait may |
@@ -30,6 +31,7 @@
 //! | `Promises` | what is promised of the outside, over the states of poller and clock before and after the calls: `IsHeard`, `IsTimely` |
 //! | `Hearing`, `Timing` | the invariants from which the promises follow: `Heard`, `TimeKept` |
 //! | `Turns`, `Asked`, `Times` | what each step answers |
+//! | `Outsides` | the outside before and after calls on it |
 //!
 //! The promises follow for every engine that places what it is told to, since the invariants speak of a history that grows:
 //! `proofs/HeardSteps`, `HeardPolls` and `TimeSteps` have a lemma for each step and for each kind of event, and
@@ -43,8 +45,10 @@ mod ask;
 mod limits;
 mod news;
 mod outlook;
+mod outside;
 mod steps;
 
 pub use ask::Ask;
 pub use limits::{EMPTY_ANSWERS, POLL_WAIT};
 pub use outlook::Outlook;
+pub use outside::Outside;

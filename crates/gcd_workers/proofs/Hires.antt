@@ -1,11 +1,8 @@
 -- A hand more, and the hands after their service.
-use Rattle.std.proofs.Common.{◌≡◌, ◌<◌, ◌+◌, ◌∙◌, ℕ, suc, Bool, List, [], ◌∷◌, ◌++◌, length, ap, sym, subst, arith}
+use Rattle.std.proofs.Common.{◌≡◌, ◌<◌, ◌+◌, ◌∙◌, ℕ, suc, List, [], ◌∷◌, ◌++◌, length, ap, sym, subst, arith}
 use Rattle.std.specs.Prelude.{All, slice_index_or}
 use Rattle.std.specs.List.{ShiftedDown}
 use Rattle.gcd_history.specs.Ends.{HasEnded}
-use Rattle.gcd_front.specs.Views.{FrontView, IntakeView}
-use Rattle.gcd_outer.specs.Outside.{ClockState}
-use Rattle.gcd_outer.specs.Tells.{PollerState}
 use Rattle.gcd_row.specs.Passes.{IsGathered, terms_of, view}
 use Rattle.gcd_row.specs.Shapes.{Shape}
 use Rattle.gcd_row.specs.declared.pass.RowPass.{RowPass}
@@ -13,7 +10,6 @@ use Rattle.gcd_row.specs.declared.view.Terms.{Terms}
 use Rattle.gcd_row.specs.declared.view.View.{View}
 use Rattle.gcd_pool.specs.Each.{Each}
 use Rattle.gcd_pool.specs.Hands.{IsReady, Served}
-use Rattle.gcd_pool.specs.Admitted.{LedWithFront}
 use Rattle.gcd_pool.specs.declared.hand.Hand.{Hand}
 use Rattle.gcd_pool.specs.declared.hand.Pool.{Pool}
 use Rattle.gcd_workers.specs.Teams.{EachFrom, IsHead, IsPassAt, IsReadyAt}
@@ -65,21 +61,10 @@ module _ {S : Type 0} (shape : S → Shape) (gives : S → ℕ → Type 0) where
       let place : n ≡ 1 + length hands = omega (arith, count) in
       each_push (IsReadyAt shape gives pool) 1 hands hand each (record { ready = ready; worker = worker ∙ place })
 
--- where worker 0 has led to the end, nothing more is asked
-pub led_to_the_end : {S X P C : Type 0} {poller_tells clock_tells : Bool} {poller : P → PollerState} {clock : C → ClockState} {gives : S → ℕ → Type 0} {sent : X → ℕ → Type 0}
-    {f : FrontView} {alone done : Type 0} (old new : Hand S × IntakeView X × P × C) → done → LedWithFront poller_tells clock_tells poller clock gives sent f alone done old new
-    → LedWithFront poller_tells clock_tells poller clock gives sent f alone (Unit {0}) old new
-led_to_the_end old new is led = record {
-  led = record {
-    led = λ all head. led.led.led is head;
-    ended = λ all. led.led.ended is;
-    whole = λ all head. led.led.whole is head;
-    follows = led.led.follows;
-    kept = led.led.kept;
-  };
-  of_front = λ all head. led.of_front is head;
-  admitted = λ all head. led.admitted is head;
-}
+-- what holds by the terms of a hand of the pool holds by those of its board
+pub by_board : {S : Type 0} (shape : S → Shape) (gives : S → ℕ → Type 0) (pool : Pool S) (hand : Hand S) (P : Terms S → Type 0) → IsReady shape gives pool hand
+    → P (view hand.pass).terms → P (terms_of pool.board.now)
+by_board shape gives pool hand P ready here = subst P ready.of.pass.terms here
 
 -- what holds of the first holds of what lies at place 0
 pub first_has : {T : Type 0} → (P : T → Type 0) {xs rest : List T} {x : T} (d : T) → xs ≡ x ∷ rest → P x → P (slice_index_or xs 0 d)

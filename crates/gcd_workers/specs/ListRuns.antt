@@ -1,5 +1,5 @@
 -- What holds of a run that one worker keeps in a list, after each of its steps.
-use Rattle.std.specs.Prelude.{◌≡◌, ◌≤◌, ◌<◌, ℕ, Bool, true, false, List, [], ◌∷◌, ◌++◌, Option, Some, None, IsTrue, length}
+use Rattle.std.specs.Prelude.{◌≡◌, ◌≤◌, ◌<◌, ◌^◌, ℕ, Bool, true, false, List, [], ◌∷◌, ◌++◌, Option, Some, None, IsTrue, length}
 use Rattle.gcd_plan.specs.PlanView.{PlanView}
 use Rattle.gcd_event.specs.Owners.{ended}
 use Rattle.gcd_event.specs.declared.event.Event.{Event}
@@ -7,15 +7,19 @@ use Rattle.gcd_history.specs.Choice.{is_work, worker_of}
 use Rattle.gcd_history.specs.History.{choice_of, why}
 use Rattle.gcd_history.specs.Intake.{accepted, AcceptsNone}
 use Rattle.gcd_jobs.specs.BlockValues.{AreValues}
+use Rattle.gcd_jobs.specs.Contents.{contents}
 use Rattle.gcd_machine.specs.Calm.{IsCalm}
 use Rattle.gcd_machine.specs.Stands.{StandsFor}
 use Rattle.gcd_refinement.specs.MachineView.{MachineView}
 use Rattle.gcd_loop.specs.Recorded.{IsSight}
 use Rattle.gcd_loop.specs.Followed.{FollowsChoice, IsAllWorker0}
+use Rattle.gcd_workers.specs.declared.list_run.Kept.{Kept}
+use Rattle.gcd_workers.specs.declared.list_run.Over.{Over}
 
 -- a run so far: the machine stands for its journal, of which each event is worker 0's and its choice, and none accepts a job of an
--- outside caller, and these are the values
+-- outside caller, and these are the values; the limit of events is a number of 32 bits, as the machine's count is
 pub record IsListRun (most : ℕ) (plan : PlanView) (files : List (List ℕ)) (h : List Event) (given : List ℕ) (m : MachineView) : Type 0 where
+  pub countable : most < 2 ^ 32
   pub own : m.plan ≡ plan
   pub stands : StandsFor m plan h
   pub few : length h ≤ most
@@ -24,10 +28,13 @@ pub record IsListRun (most : ℕ) (plan : PlanView) (files : List (List ℕ)) (h
   pub uncalled : AcceptsNone h
   pub values : AreValues plan files h given
 
+-- a run over this plan and these files has kept this so far
+abbrev pub IsKept : Over → Kept → Type 0
+IsKept over kept = IsListRun over.most over.plan.now (contents over.files.now) kept.journal.items kept.values.items kept.machine
+
 -- so the machine stands for what is seen
-pub list_sight : (most : ℕ) (plan : PlanView) (files : List (List ℕ)) (h : List Event) (given : List ℕ) (m : MachineView)
-    → IsListRun most plan files h given m → IsSight most plan h m
-list_sight most plan files h given m run = record { own = run.own; stands = run.stands; few = run.few }
+pub kept_sight : (over : Over) (kept : Kept) → IsKept over kept → IsSight over.most over.plan.now kept.journal.items kept.machine
+kept_sight over kept run = record { own = run.own; stands = run.stands; few = run.few }
 
 -- the event may come next, is worker 0's, and its choice where it is an event of a worker; there is room for it; and it accepts no job
 -- of an outside caller

@@ -1,19 +1,63 @@
 // A run by worker 0 alone.
-ghost use Rattle.std.specs.Prelude.{◌≡◌, ◌<◌, ℕ, false, length, IfOk, IsErrOf};
+ghost use Rattle.std.specs.Prelude.{◌≡◌, ◌<◌, ℕ, List, false, length, IfOk, OnOk, IsErrOf};
+ghost use Rattle.gcd_plan.specs.PlanView.{PlanView};
+ghost use Rattle.gcd_event.specs.declared.event.Event.{Event};
+ghost use Rattle.gcd_history.specs.Ends.{HasState};
 ghost use Rattle.gcd_jobs.specs.Contents.{contents};
 ghost use Rattle.gcd_machine.specs.Stands.{StandsFor};
 ghost use Rattle.gcd_turn.specs.Asked.{KeepsListens};
+ghost use Rattle.gcd_loop.specs.Going.{IsRunOn};
+ghost use Rattle.gcd_workers.specs.ListRuns.{IsKept};
 ghost use Rattle.gcd_workers.specs.Ran.{RunsOverFiles};
 ghost use Rattle.gcd_workers.specs.declared.refused.RunRefused.{RunRefused};
 
-use crate::list_run::{Files, ListRun};
+use crate::list_run::{Kept, ListRun, Over};
 use crate::outcome::Outcome;
 use crate::refused::RunRefused;
-use gcd_loop::{NoBackoff, run_turns};
+use gcd_loop::{Stop, run_turns};
 use gcd_outer::{Clock, Poller};
 use gcd_plan::Plan;
-use std::alloc::Global;
+use gcd_turn::Outside;
+use std::alloc::{AllocError, Global};
 use std::sync::Wait;
+
+// What is left of a run that has ended.
+fn outcome_of(kept: Kept) -> Outcome
+    ensures journal { result.journal ≡ kept.journal }
+    ensures values { result.values ≡ kept.values }
+    ensures machine { result.machine ≡ kept.machine }
+    ensures state { (plan : PlanView) (h : List Event) → StandsFor kept.machine plan h → HasState plan h result.state }
+{
+    let state = kept.machine.state();
+    Outcome {
+        journal: kept.journal,
+        values: kept.values,
+        state,
+        machine: kept.machine,
+    }
+}
+
+// Turn by turn, from the first to the end of the run.
+fn run_to_the_end<R: Wait, P: Poller, C: Clock>(
+    rt: &R,
+    run: &mut ListRun,
+    poller: &mut P,
+    clock: &mut C,
+) -> Result<(), AllocError>
+    requires run { IsKept run.old.over run.old.kept }
+    ensures over { OnOk result (run.new.over ≡ run.old.over) }
+    ensures run { OnOk result (IsKept run.new.over run.new.kept) }
+    ensures on { OnOk result (IsRunOn run.old.over.most run.old.over.plan.now run.old.kept.journal.items run.new.kept.journal.items
+        (record { tells = P.tells; before = P.state poller.old; after = P.state poller.new })
+        (record { tells = C.tells; before = C.state clock.old; after = C.state clock.new })) }
+    ensures kept { KeepsListens P.tells (P.state poller.old) (P.state poller.new) }
+{
+    let mut outside = Outside::new(poller, clock);
+    match run_turns(rt, run, &mut outside)? {
+        Stop::Ended => Ok(()),
+        Stop::Stopped => unreachable!(),
+    }
+}
 
 /// Runs the plan by worker 0 alone, turn by turn, until the run is quiescent, halted, or has `most` events, at least 1.
 /// One thread keeps the list of events, so it makes no row. `files` are the contents of the plan's files, in their order; the poller
@@ -41,26 +85,11 @@ pub fn run_alone<R: Wait, P: Poller, C: Clock>(
     ensures kept { KeepsListens P.tells (P.state poller.old) (P.state poller.new) }
     ensures before { IsErrOf result RunRefused.BeforeTheRun → (poller.new ≡ poller.old) × (clock.new ≡ clock.old) }
 {
-    let Ok(mut run) = ListRun::new(alloc, plan, most, files) else {
+    let Ok(mut run) = ListRun::new(alloc, Over { plan, files, most }) else {
         return Err(RunRefused::BeforeTheRun);
     };
-    let Ok(()) = run_turns(
-        rt,
-        plan,
-        most,
-        &Files { all: files },
-        &mut run,
-        &mut NoBackoff,
-        poller,
-        clock,
-    ) else {
-        return Err(RunRefused::InTheRun);
-    };
-    let state = run.machine.state();
-    Ok(Outcome {
-        journal: run.journal,
-        values: run.values,
-        state,
-        machine: run.machine,
-    })
+    match run_to_the_end(rt, &mut run, poller, clock) {
+        Ok(()) => Ok(outcome_of(run.kept)),
+        Err(AllocError) => Err(RunRefused::InTheRun),
+    }
 }

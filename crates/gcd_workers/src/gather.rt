@@ -1,5 +1,5 @@
 // What a team has seen, when its run has ended.
-ghost use Rattle.std.specs.Prelude.{◌≡◌, ◌<◌, ◌≤◌, ◌∷◌, [], ℕ, List, false, All, IfOk, IsErrOf, length, slice_index_or};
+ghost use Rattle.std.specs.Prelude.{◌≡◌, ◌<◌, ◌≤◌, ◌∷◌, [], ℕ, List, false, All, IfOk, OnOk, IsErrOf, length, slice_index_or};
 ghost use Rattle.gcd_event.specs.declared.event.Event.{Event};
 ghost use Rattle.gcd_plan.specs.Limits.{max_workers};
 ghost use Rattle.gcd_history.specs.Ends.{HasEnded};
@@ -11,9 +11,11 @@ ghost use Rattle.gcd_steal.specs.Racks.{IsBenchOf};
 ghost use Rattle.gcd_loop.specs.Ran.{RunsPlan};
 ghost use Rattle.gcd_front.specs.Fronts.{IsIntakeOf};
 ghost use Rattle.gcd_front.specs.Limits.{max_senders};
-ghost use Rattle.gcd_pool.specs.Admitted.{Admitted, AsksOfFront, LedWithFront};
+ghost use Rattle.gcd_loop.specs.Going.{IsRunOn};
+ghost use Rattle.gcd_pool.specs.Admitted.{Admitted, AsksOfFront};
 ghost use Rattle.gcd_pool.specs.Each.{Each};
 ghost use Rattle.gcd_pool.specs.Hands.{IsPool, IsReady, Served};
+ghost use Rattle.gcd_pool.specs.Leads.{Follows};
 ghost use Rattle.gcd_turn.specs.Asked.{KeepsListens};
 ghost use Rattle.gcd_pool.specs.declared.hand.Hand.{Hand};
 ghost use Rattle.gcd_history.specs.Intake.{AcceptsOf};
@@ -29,6 +31,7 @@ use gcd_outer::{Clock, Poller};
 use gcd_pool::{Hand, Pool, pool_run};
 use gcd_row::{Cell, Pass, RowBoard, RowPass, Slot};
 use gcd_steal::Bench;
+use gcd_turn::Outside;
 use std::alloc::{AllocError, Global};
 use std::sync::Wait;
 use std::thread::Threads;
@@ -93,8 +96,8 @@ fn look_round<S: Slot>(board: &RowBoard<S>, pass: &mut RowPass<S>, _workers: u8)
     board.look(pass);
 }
 
-// Runs the pool of the hands, which come back where the run has ended. An `Err` comes where memory was refused to worker 0's journal, or
-// no thread was made for a worker.
+// Runs the pool of the hands, from the first turn to the end. An `Err` comes where memory was refused to worker 0's journal, or no thread
+// was made for a worker.
 fn lead<
     J: Job + Admits<X> + Drop + Send,
     H: Handler + Drop + Send,
@@ -105,23 +108,31 @@ fn lead<
 >(
     rt: &R,
     pool: &Pool<Cell<J, H>>,
-    hands: Vec<Hand<Cell<J, H>>>,
+    hands: &mut Vec<Hand<Cell<J, H>>>,
     front: &Front<X>,
     intake: &mut Intake<X>,
     poller: &mut P,
     clock: &mut C,
-) -> Result<Vec<Hand<Cell<J, H>>>, AllocError>
-    requires some { 0 < length hands.items }
-    requires hands { All (IsReady (shape_of H.kind H.times H.total) (gives_of J.gives) pool.now) hands.items }
-    requires asks { (d : Hand (Cell J H)) → AsksOfFront (gives_of J.gives) X.gives front.now (slice_index_or hands.items 0 d) intake.old }
-    ensures count { IfOk result (λ after. length after.items ≡ length hands.items) }
-    ensures served { IfOk result (λ after. Each (Served (shape_of H.kind H.times H.total) (gives_of J.gives) pool.now) hands.items after.items) }
-    ensures led { IfOk result (λ after. (d : Hand (Cell J H)) → LedWithFront P.tells C.tells P.state C.state (gives_of J.gives) X.gives front.now (length hands.items ≡ 1) (Unit {0}) (slice_index_or hands.items 0 d, intake.old, poller.old, clock.old) (slice_index_or after.items 0 d, intake.new, poller.new, clock.new)) }
-    ensures kept { (d : Hand (Cell J H)) → (view (slice_index_or hands.items 0 d).pass).worker ≡ 0 → KeepsListens P.tells (P.state poller.old) (P.state poller.new) }
+) -> Result<(), AllocError>
+    requires some { 0 < length hands.old.items }
+    requires hands { All (IsReady (shape_of H.kind H.times H.total) (gives_of J.gives) pool.now) hands.old.items }
+    requires head { (d : Hand (Cell J H)) → (view (slice_index_or hands.old.items 0 d).pass).worker ≡ 0 }
+    requires asks { (d : Hand (Cell J H)) → AsksOfFront (gives_of J.gives) X.gives front.now (slice_index_or hands.old.items 0 d) intake.old }
+    ensures count { length hands.new.items ≡ length hands.old.items }
+    ensures served { OnOk result (Each (Served (shape_of H.kind H.times H.total) (gives_of J.gives) pool.now) hands.old.items hands.new.items) }
+    ensures on { OnOk result ((d : Hand (Cell J H)) → IsRunOn (terms_of pool.now.board.now).limits.most (terms_of pool.now.board.now).plan
+        (view (slice_index_or hands.old.items 0 d).pass).seen (view (slice_index_or hands.new.items 0 d).pass).seen
+        (record { tells = P.tells; before = P.state poller.old; after = P.state poller.new })
+        (record { tells = C.tells; before = C.state clock.old; after = C.state clock.new })) }
+    ensures follows { length hands.old.items ≡ 1 → (d : Hand (Cell J H)) → Follows (terms_of pool.now.board.now).plan
+        (view (slice_index_or hands.old.items 0 d).pass).seen (view (slice_index_or hands.new.items 0 d).pass).seen }
+    ensures intake { OnOk result (IsIntakeOf front.now intake.new) }
+    ensures admitted { OnOk result ((d : Hand (Cell J H)) → Admitted (gives_of J.gives) X.gives front.now (view (slice_index_or hands.new.items 0 d).pass) intake.new) }
+    ensures kept { KeepsListens P.tells (P.state poller.old) (P.state poller.new) }
 {
-    let (exit, after) = pool_run(rt, pool, hands, front, intake, poller, clock);
-    match exit {
-        Ok(_) => Ok(after),
+    let mut outside = Outside::new(poller, clock);
+    match pool_run(rt, pool, hands, front, intake, &mut outside) {
+        Ok(_) => Ok(()),
         Err(AllocError) => Err(AllocError),
     }
 }
@@ -137,7 +148,7 @@ fn run_team<
 >(
     rt: &R,
     pool: &Pool<Cell<J, H>>,
-    hands: Vec<Hand<Cell<J, H>>>,
+    mut hands: Vec<Hand<Cell<J, H>>>,
     front: &Front<X>,
     intake: &mut Intake<X>,
     poller: &mut P,
@@ -162,7 +173,7 @@ fn run_team<
     ensures kept { KeepsListens P.tells (P.state poller.old) (P.state poller.new) }
 {
     let workers = hands.len() as u8;
-    let hands = lead(rt, pool, hands, front, intake, poller, clock)?;
+    lead(rt, pool, &mut hands, front, intake, poller, clock)?;
     let (mut pass, journal) = take_all(pool.board, hands);
     look_round(pool.board, &mut pass, workers);
     Ok((pass, journal))

@@ -11,7 +11,7 @@ ghost use Rattle.gcd_loop.specs.Recorded.{Says};
 ghost use Rattle.gcd_loop.specs.Rushed.{IsRushed};
 ghost use Rattle.gcd_machine.specs.Calm.{IsCalm};
 ghost use Rattle.gcd_machine.specs.Stands.{StandsFor};
-ghost use Rattle.gcd_workers.specs.ListRuns.{HasChosen, HasStepped, HasSteppedTwice, IsListRun, IsNext};
+ghost use Rattle.gcd_workers.specs.ListRuns.{HasChosen, HasStepped, HasSteppedTwice, IsKept, IsNext};
 
 use gcd_event::{Entry, Event};
 use gcd_jobs::{FileJob, Job};
@@ -21,9 +21,17 @@ use gcd_plan::{Blk, Plan, Run};
 use std::alloc::{AllocError, Global};
 use std::sync::Wait;
 
+// What a run is over: a plan, the contents of its files, and how many events it may have.
+#[derive(Clone, Copy)]
+pub(crate) struct Over<'a> {
+    pub(crate) plan: &'a Plan,
+    pub(crate) files: &'a [Vec<u8>],
+    pub(crate) most: u32,
+}
+
 // The journal, the values of the blocks, and the machine that stands for the journal.
 #[derive(Drop)]
-pub(crate) struct ListRun {
+pub(crate) struct Kept {
     pub(crate) journal: Vec<Entry>,
     pub(crate) values: Vec<u64>,
     pub(crate) machine: Machine,
@@ -75,23 +83,18 @@ fn note_end(plan: &Plan, files: &[Vec<u8>], machine: &Machine, e: Event, values:
     }
 }
 
-impl ListRun {
-    // A run before its first event.
-    pub(crate) fn new(
-        alloc: Global,
-        plan: &Plan,
-        most: u32,
-        files: &[Vec<u8>],
-    ) -> Result<ListRun, AllocError>
+impl Kept {
+    // What is kept before the first event.
+    fn new(alloc: Global, over: &Over) -> Result<Kept, AllocError>
         ensures journal { IfOk result (λ r. r.journal.items ≡ []) }
-        ensures run { IfOk result (λ r. IsListRun most plan.now (contents files.now) r.journal.items r.values.items r.machine) }
+        ensures run { IfOk result (IsKept over.now) }
     {
-        let count = plan.blocks() as usize;
-        let room = (4 * count).max(FIRST_EVENTS).min(most as usize);
+        let count = over.plan.blocks() as usize;
+        let room = (4 * count).max(FIRST_EVENTS).min(over.most as usize);
         let journal = Vec::with_capacity(alloc, room)?;
         let values = Vec::from_elem(alloc, 0, count)?;
-        let machine = Machine::new(alloc, plan)?;
-        Ok(ListRun {
+        let machine = Machine::new(alloc, over.plan)?;
+        Ok(Kept {
             journal,
             values,
             machine,
@@ -100,42 +103,31 @@ impl ListRun {
 
     // Records an event that may come next. An `Err` leaves the run as it was.
     #[inline(always)]
-    fn record(
-        &mut self,
-        plan: &Plan,
-        most: u32,
-        files: &[Vec<u8>],
-        e: Event,
-    ) -> Result<(), AllocError>
-        requires next { IsNext most plan.now self.old.journal.items e }
-        requires run { IsListRun most plan.now (contents files.now) self.old.journal.items self.old.values.items self.old.machine }
+    fn record(&mut self, over: &Over, e: Event) -> Result<(), AllocError>
+        requires next { IsNext over.now.most over.now.plan.now self.old.journal.items e }
+        requires run { IsKept over.now self.old }
         ensures journal { OnOk result (self.new.journal.items ≡ self.old.journal.items ++ e ∷ []) }
-        ensures run { IsListRun most plan.now (contents files.now) self.new.journal.items self.new.values.items self.new.machine }
+        ensures run { IsKept over.now self.new }
     {
         self.journal.push(Entry::of(e))?;
         self.machine.apply(e);
-        note_end(plan, files, &self.machine, e, &mut self.values);
+        note_end(over.plan, over.files, &self.machine, e, &mut self.values);
         Ok(())
     }
 
     // Takes what worker 0 records next, if that is quick ([`Machine::quick`]). An `Err` leaves the run as it was.
     #[inline(always)]
-    fn record_quick(
-        &mut self,
-        plan: &Plan,
-        most: u32,
-        files: &[Vec<u8>],
-    ) -> Result<Option<Event>, AllocError>
-        requires room { length self.old.journal.items < most }
-        requires run { IsListRun most plan.now (contents files.now) self.old.journal.items self.old.values.items self.old.machine }
-        ensures run { IsListRun most plan.now (contents files.now) self.new.journal.items self.new.values.items self.new.machine }
-        ensures stepped { IfOk result (HasStepped plan.now self.old.journal.items self.new.journal.items) }
+    fn record_quick(&mut self, over: &Over) -> Result<Option<Event>, AllocError>
+        requires room { length self.old.journal.items < over.now.most }
+        requires run { IsKept over.now self.old }
+        ensures run { IsKept over.now self.new }
+        ensures stepped { IfOk result (HasStepped over.now.plan.now self.old.journal.items self.new.journal.items) }
     {
         self.journal.reserve(1)?;
         match self.machine.quick(0) {
             Some(e) => {
                 self.journal.push_reserved(Entry::of(e));
-                note_end(plan, files, &self.machine, e, &mut self.values);
+                note_end(over.plan, over.files, &self.machine, e, &mut self.values);
                 Ok(Some(e))
             }
             None => Ok(None),
@@ -145,11 +137,11 @@ impl ListRun {
     // Takes the start of the block that worker 0 starts next and then its end, if that is quick ([`Machine::quick_run`]), and says whether
     // it is. An `Err` leaves the run as it was.
     #[inline(always)]
-    fn record_run(&mut self, plan: &Plan, most: u32, files: &[Vec<u8>]) -> Result<bool, AllocError>
-        requires room { length self.old.journal.items + 1 < most }
-        requires run { IsListRun most plan.now (contents files.now) self.old.journal.items self.old.values.items self.old.machine }
-        ensures run { IsListRun most plan.now (contents files.now) self.new.journal.items self.new.values.items self.new.machine }
-        ensures stepped { IfOk result (HasSteppedTwice plan.now self.old.journal.items self.new.journal.items) }
+    fn record_run(&mut self, over: &Over) -> Result<bool, AllocError>
+        requires room { length self.old.journal.items + 1 < over.now.most }
+        requires run { IsKept over.now self.old }
+        ensures run { IsKept over.now self.new }
+        ensures stepped { IfOk result (HasSteppedTwice over.now.plan.now self.old.journal.items self.new.journal.items) }
     {
         self.journal.reserve(2)?;
         match self.machine.quick_run(0) {
@@ -158,7 +150,7 @@ impl ListRun {
                 let end = Event::End { worker: 0, blk };
                 self.journal.push_reserved(Entry::of(start));
                 self.journal.push_reserved(Entry::of(end));
-                note_end(plan, files, &self.machine, end, &mut self.values);
+                note_end(over.plan, over.files, &self.machine, end, &mut self.values);
                 Ok(true)
             }
             None => Ok(false),
@@ -168,20 +160,15 @@ impl ListRun {
     // Records starts and ends of blocks, as long as they are quick and nothing can come of the outside, and says whether nothing can. An
     // `Err` leaves a run.
     #[inline(always)]
-    fn rush_through(
-        &mut self,
-        plan: &Plan,
-        most: u32,
-        files: &[Vec<u8>],
-    ) -> Result<bool, AllocError>
-        requires run { IsListRun most plan.now (contents files.now) self.old.journal.items self.old.values.items self.old.machine }
-        ensures run { IsListRun most plan.now (contents files.now) self.new.journal.items self.new.values.items self.new.machine }
-        ensures rushed { OnOk result (IsRushed plan.now self.old.journal.items self.new.journal.items) }
-        ensures calm { IfOk result (λ calm. calm ≡ true → IsCalm plan.now self.new.journal.items) }
+    fn rush_through(&mut self, over: &Over) -> Result<bool, AllocError>
+        requires run { IsKept over.now self.old }
+        ensures run { IsKept over.now self.new }
+        ensures rushed { OnOk result (IsRushed over.now.plan.now self.old.journal.items self.new.journal.items) }
+        ensures calm { IfOk result (λ calm. calm ≡ true → IsCalm over.now.plan.now self.new.journal.items) }
     {
         let mut calm = self.machine.is_calm();
-        while calm && most - self.machine.len() > 1 {
-            if !self.record_run(plan, most, files)? {
+        while calm && over.most - self.machine.len() > 1 {
+            if !self.record_run(over)? {
                 return Ok(true);
             }
             calm = self.machine.is_calm();
@@ -190,20 +177,15 @@ impl ListRun {
     }
 
     // Records worker 0's choice, and says whether there was one. An `Err` leaves the run as it was.
-    fn record_choice(
-        &mut self,
-        plan: &Plan,
-        most: u32,
-        files: &[Vec<u8>],
-    ) -> Result<bool, AllocError>
-        requires room { length self.old.journal.items < most }
-        requires run { IsListRun most plan.now (contents files.now) self.old.journal.items self.old.values.items self.old.machine }
-        ensures run { IsListRun most plan.now (contents files.now) self.new.journal.items self.new.values.items self.new.machine }
-        ensures chosen { IfOk result (HasChosen plan.now self.old.journal.items self.new.journal.items) }
+    fn record_choice(&mut self, over: &Over) -> Result<bool, AllocError>
+        requires room { length self.old.journal.items < over.now.most }
+        requires run { IsKept over.now self.old }
+        ensures run { IsKept over.now self.new }
+        ensures chosen { IfOk result (HasChosen over.now.plan.now self.old.journal.items self.new.journal.items) }
     {
         match self.machine.choose(0, 0) {
             Some(e) => {
-                self.record(plan, most, files, e)?;
+                self.record(over, e)?;
                 Ok(true)
             }
             None => Ok(false),
@@ -211,21 +193,21 @@ impl ListRun {
     }
 
     // Records what worker 0 chooses, one event after another, while nothing can come of the outside. An `Err` leaves a run.
-    fn rush_on(&mut self, plan: &Plan, most: u32, files: &[Vec<u8>]) -> Result<(), AllocError>
-        requires run { IsListRun most plan.now (contents files.now) self.old.journal.items self.old.values.items self.old.machine }
-        ensures run { IsListRun most plan.now (contents files.now) self.new.journal.items self.new.values.items self.new.machine }
-        ensures rushed { OnOk result (IsRushed plan.now self.old.journal.items self.new.journal.items) }
+    fn rush_on(&mut self, over: &Over) -> Result<(), AllocError>
+        requires run { IsKept over.now self.old }
+        ensures run { IsKept over.now self.new }
+        ensures rushed { OnOk result (IsRushed over.now.plan.now self.old.journal.items self.new.journal.items) }
     {
         let mut calm = self.machine.is_calm();
-        while calm && self.machine.len() < most {
-            match self.record_quick(plan, most, files)? {
+        while calm && self.machine.len() < over.most {
+            match self.record_quick(over)? {
                 Some(e) => {
                     if e.ended().is_some() {
-                        calm = self.rush_through(plan, most, files)?;
+                        calm = self.rush_through(over)?;
                     }
                 }
                 None => {
-                    if !self.record_choice(plan, most, files)? {
+                    if !self.record_choice(over)? {
                         return Ok(());
                     }
                     calm = self.machine.is_calm();
@@ -237,118 +219,120 @@ impl ListRun {
 
     // Records an event that is no worker's and accepts no job, where it may come next.
     #[inline(always)]
-    fn put_one(
-        &mut self,
-        plan: &Plan,
-        most: u32,
-        files: &[Vec<u8>],
-        e: Event,
-    ) -> Result<PutEnd, AllocError>
-        requires run { IsListRun most plan.now (contents files.now) self.old.journal.items self.old.values.items self.old.machine }
-        requires room { length self.old.journal.items < most }
+    fn put_one(&mut self, over: &Over, e: Event) -> Result<PutEnd, AllocError>
+        requires run { IsKept over.now self.old }
+        requires room { length self.old.journal.items < over.now.most }
         requires by { worker_of e ≡ 0 }
         requires no_work { is_work e ≡ false }
         requires no_job { accepted e ≡ None }
-        ensures run { IsListRun most plan.now (contents files.now) self.new.journal.items self.new.values.items self.new.machine }
-        ensures said { IfOk result (Says most plan.now e self.old.journal.items self.new.journal.items) }
+        ensures run { IsKept over.now self.new }
+        ensures said { IfOk result (Says over.now.most over.now.plan.now e self.old.journal.items self.new.journal.items) }
     {
         if self.machine.permits(e).is_some() {
             return Ok(PutEnd::Barred);
         }
-        self.record(plan, most, files, e)?;
+        self.record(over, e)?;
         Ok(PutEnd::Placed)
     }
 }
 
-// The contents of the plan's files.
+// A run over a plan and its files, by worker 0 alone.
 #[derive(Drop)]
-pub(crate) struct Files<'a> {
-    pub(crate) all: &'a [Vec<u8>],
+pub(crate) struct ListRun<'a> {
+    over: Over<'a>,
+    pub(crate) kept: Kept,
 }
 
-impl<'a> Recorder<Files<'a>> for ListRun {
+impl<'a> ListRun<'a> {
+    // A run before its first event.
+    pub(crate) fn new(alloc: Global, over: Over<'a>) -> Result<ListRun<'a>, AllocError>
+        ensures over { IfOk result (λ r. r.over ≡ over.entry) }
+        ensures journal { IfOk result (λ r. r.kept.journal.items ≡ []) }
+        ensures run { IfOk result (λ r. IsKept r.over r.kept) }
+    {
+        let kept = Kept::new(alloc, &over)?;
+        Ok(ListRun { over, kept })
+    }
+}
+
+impl<'a> Recorder for ListRun<'a> {
     type Fault = AllocError;
 
-    ghost use Rattle.gcd_jobs.specs.Contents.{contents};
-    ghost use Rattle.gcd_workers.specs.ListRuns.{IsListRun, list_sight};
+    ghost use Rattle.std.specs.Prelude.{◌≡◌};
+    ghost use Rattle.gcd_workers.specs.ListRuns.{IsKept, kept_sight};
 
-    ghost seen = { λ r. r.journal.items };
+    ghost bounds = { λ r. record { plan = r.over.plan.now; most = r.over.most } };
 
-    ghost sight = { λ r. r.machine };
+    ghost seen = { λ r. r.kept.journal.items };
 
-    ghost ready = { λ most plan d r. IsListRun most plan (contents d.all.now) r.journal.items r.values.items r.machine };
+    ghost sight = { λ r. r.kept.machine };
 
-    ghost kept = { λ most plan d a r. IsListRun most plan (contents d.all.now) r.journal.items r.values.items r.machine };
+    ghost ready = { λ r. IsKept r.over r.kept };
 
-    ghost left = { λ most plan d r. IsListRun most plan (contents d.all.now) r.journal.items r.values.items r.machine };
+    ghost kept = { λ a r. r.over ≡ a.over };
 
-    ghost stopped = { λ most plan d r. ⊥ };
+    ghost left = { λ r. IsKept r.over r.kept };
 
-    ghost stands = { λ most plan d r run. list_sight most plan (contents d.all.now) r.journal.items r.values.items r.machine run };
+    ghost stopped = { λ r. ⊥ };
 
-    ghost leaves = { λ most plan d r run. run };
+    ghost stands = { λ r run. kept_sight r.over r.kept run };
+
+    ghost leaves = { λ r run. run };
+
+    #[inline(always)]
+    fn plan(&self) -> &Plan
+        ensures { result.now ≡ self.now.over.plan.now }
+    {
+        self.over.plan
+    }
+
+    #[inline(always)]
+    fn most(&self) -> u32 {
+        self.over.most
+    }
 
     #[inline(always)]
     fn machine(&self) -> &Machine
-        ensures { result.now ≡ self.now.machine }
+        ensures { result.now ≡ self.now.kept.machine }
     {
-        &self.machine
+        &self.kept.machine
     }
 
     #[inline(always)]
-    fn look(&mut self, _plan: &Plan, _most: u32, _shared: &Files<'a>) {}
+    fn look(&mut self) {}
 
     #[inline(always)]
-    fn rush(&mut self, plan: &Plan, most: u32, shared: &Files<'a>) -> Result<(), AllocError> {
-        self.rush_on(plan, most, shared.all)
+    fn rush(&mut self) -> Result<(), AllocError> {
+        self.kept.rush_on(&self.over)
     }
 
     #[inline(always)]
-    fn put<R: Wait>(
-        &mut self,
-        _rt: &R,
-        plan: &Plan,
-        most: u32,
-        shared: &Files<'a>,
-        e: Event,
-    ) -> Result<PutEnd, AllocError> {
-        self.put_one(plan, most, shared.all, e)
+    fn put<R: Wait>(&mut self, _rt: &R, e: Event) -> Result<PutEnd, AllocError> {
+        self.kept.put_one(&self.over, e)
     }
 
     // There are no outside callers.
     #[inline(always)]
-    fn admit<R: Wait>(
-        &mut self,
-        _rt: &R,
-        plan: &Plan,
-        most: u32,
-        shared: &Files<'a>,
-    ) -> Result<Option<PutEnd>, AllocError> {
-        let put = self.put_one(plan, most, shared.all, Event::Shut)?;
+    fn admit<R: Wait>(&mut self, _rt: &R) -> Result<Option<PutEnd>, AllocError> {
+        let put = self.kept.put_one(&self.over, Event::Shut)?;
         Ok(Some(put))
     }
 
     #[inline(always)]
-    fn work<R: Wait>(
-        &mut self,
-        _rt: &R,
-        plan: &Plan,
-        most: u32,
-        shared: &Files<'a>,
-        e: Event,
-    ) -> Result<Step, AllocError> {
-        self.record(plan, most, shared.all, e)?;
+    fn work<R: Wait>(&mut self, _rt: &R, e: Event) -> Result<Step, AllocError> {
+        self.kept.record(&self.over, e)?;
         Ok(Step::Placed)
     }
 
     #[inline(always)]
-    fn rest<R: Wait>(
-        &mut self,
-        _rt: &R,
-        _plan: &Plan,
-        _most: u32,
-        _shared: &Files<'a>,
-    ) -> Result<Step, AllocError> {
+    fn rest<R: Wait>(&mut self, _rt: &R) -> Result<Step, AllocError> {
         Ok(Step::Waited)
     }
+
+    // Nobody else places anything.
+    #[inline(always)]
+    fn resume(&mut self) {}
+
+    #[inline(always)]
+    fn pause<R: Wait>(&mut self, _rt: &R) {}
 }

@@ -1,76 +1,108 @@
-use Rattle.std.proofs.Common.{◌∙◌, refl, sym}
+use Rattle.std.proofs.Common.{◌∙◌, ap, refl, subst, sym}
 use Rattle.std.proofs.lemmas.Result.{on_ok_weaker}
 use Rattle.gcd_machine.proofs.Choice.Calls.{choice_stands}
+use Rattle.gcd_turn.specs.Asked.{MayIdle}
+use Rattle.gcd_turn.specs.Turns.{OutlookView}
 use Rattle.gcd_loop.proofs.Events.{put_is_outside}
 use Rattle.gcd_loop.proofs.Goings.{going_on}
-use Rattle.gcd_loop.proofs.Steps.{going_put, later_listens}
+use Rattle.gcd_loop.proofs.Steps.{going_put, later_listens, same_going}
 use Rattle.gcd_loop.proofs.turns.later.Goals as goal
 
 pub ask_on-requires-clause-chosen : goal.ask_on-requires-clause-chosen
 ask_on-requires-clause-chosen g c = λ h stands.
-    let plan = c.args.plan.now in
-    let sight = g.met.T.Recorder.stands c.args.most plan c.args.shared.now c.args.run.now c.requires.ready in
-    sym (choice_stands c.machine.result.now plan h 0 0 stands)
-    ∙ choice_stands c.machine.result.now plan (g.T.Recorder.seen c.args.run.now) 0 0 (rw c.machine.ensures sight.stands)
-    ∙ c.requires.may.choice
+    let b = g.T.Recorder.bounds c.args.run.now in
+    let m = c.machine.result.now in
+    let sight = g.met.T.Recorder.stands c.args.run.now c.requires.ready in
+    rw c.plan.ensures
+    (sym (choice_stands m b.plan h 0 0 (rw c.plan.ensures at stands))
+    ∙ choice_stands m b.plan (g.T.Recorder.seen c.args.run.now) 0 0 (rw c.machine.ensures sight.stands)
+    ∙ c.requires.may.choice)
 
 pub unreachable-requires : goal.unreachable-requires
 unreachable-requires g c =
-    let p = g.P.Poller.state c.args.poller.now in
-    let sight = g.met.T.Recorder.stands c.args.most c.args.plan.now c.args.shared.now c.args.run.now c.requires.ready in
-    c.in-Leave.ensures.asked c.args.most (g.T.Recorder.seen c.args.run.now) p p (rw c.machine.ensures sight.stands) c.requires.room c.requires.may.watched refl
+    let b = g.T.Recorder.bounds c.args.run.now in let h = g.T.Recorder.seen c.args.run.now in
+    let pt = g.P.Poller.tells in let ct = g.C.Clock.tells in
+    let old = c.args.outside.now in let p = g.P.Poller.state old.poller.now in let a = g.C.Clock.state old.clock.now in
+    let new = c.ask_on.new.self in let q = g.P.Poller.state new.poller.now in let d = g.C.Clock.state new.clock.now in
+    let sight = g.met.T.Recorder.stands c.args.run.now c.requires.ready in
+    let asked = (rw c.plan.ensures at c.in-Leave.ensures.asked) b.most h p p (rw c.machine.ensures sight.stands) c.requires.room c.requires.may.watched refl in
+    asked
 
 pub unreachable-requires-in-Told : goal.unreachable-requires-in-Told
 unreachable-requires-in-Told g c =
-    let p = g.P.Poller.state c.args.poller.now in
-    let sight = g.met.T.Recorder.stands c.args.most c.args.plan.now c.args.shared.now c.args.run.now c.requires.ready in
-    c.in-Told.ensures.asked c.args.most (g.T.Recorder.seen c.args.run.now) p p (rw c.machine.ensures sight.stands) c.requires.room c.requires.may.watched refl
+    let b = g.T.Recorder.bounds c.args.run.now in let h = g.T.Recorder.seen c.args.run.now in
+    let pt = g.P.Poller.tells in let ct = g.C.Clock.tells in
+    let old = c.args.outside.now in let p = g.P.Poller.state old.poller.now in let a = g.C.Clock.state old.clock.now in
+    let new = c.ask_on.new.self in let q = g.P.Poller.state new.poller.now in let d = g.C.Clock.state new.clock.now in
+    let sight = g.met.T.Recorder.stands c.args.run.now c.requires.ready in
+    let asked = (rw c.plan.ensures at c.in-Told.ensures.asked) b.most h p p (rw c.machine.ensures sight.stands) c.requires.room c.requires.may.watched refl in
+    asked
 
 pub unreachable-requires-in-Open : goal.unreachable-requires-in-Open
 unreachable-requires-in-Open g c =
-    let p = g.P.Poller.state c.args.poller.now in
-    let sight = g.met.T.Recorder.stands c.args.most c.args.plan.now c.args.shared.now c.args.run.now c.requires.ready in
-    c.in-Open.ensures.asked c.args.most (g.T.Recorder.seen c.args.run.now) p p (rw c.machine.ensures sight.stands) c.requires.room c.requires.may.watched refl
+    let b = g.T.Recorder.bounds c.args.run.now in let h = g.T.Recorder.seen c.args.run.now in
+    let pt = g.P.Poller.tells in let ct = g.C.Clock.tells in
+    let old = c.args.outside.now in let p = g.P.Poller.state old.poller.now in let a = g.C.Clock.state old.clock.now in
+    let new = c.ask_on.new.self in let q = g.P.Poller.state new.poller.now in let d = g.C.Clock.state new.clock.now in
+    let sight = g.met.T.Recorder.stands c.args.run.now c.requires.ready in
+    let asked = (rw c.plan.ensures at c.in-Open.ensures.asked) b.most h p p (rw c.machine.ensures sight.stands) c.requires.room c.requires.may.watched refl in
+    asked
 
 pub put-requires-clause-outside : goal.put-requires-clause-outside
 put-requires-clause-outside g c =
-    let p = g.P.Poller.state c.args.poller.now in let h = g.T.Recorder.seen c.args.run.now in
-    let sight = g.met.T.Recorder.stands c.args.most c.args.plan.now c.args.shared.now c.args.run.now c.requires.ready in
-    put_is_outside c.args.plan.now h c.args.outlook.now.start (g.C.Clock.state c.ask_on.new.clock).present p p c.in-Put.due
-    (c.in-Put.ensures.asked c.args.most h p p (rw c.machine.ensures sight.stands) c.requires.room c.requires.may.watched refl).1
+    let b = g.T.Recorder.bounds c.args.run.now in let h = g.T.Recorder.seen c.args.run.now in
+    let pt = g.P.Poller.tells in let ct = g.C.Clock.tells in
+    let old = c.args.outside.now in let p = g.P.Poller.state old.poller.now in let a = g.C.Clock.state old.clock.now in
+    let new = c.ask_on.new.self in let q = g.P.Poller.state new.poller.now in let d = g.C.Clock.state new.clock.now in
+    let sight = g.met.T.Recorder.stands c.args.run.now c.requires.ready in
+    let asked = (rw c.plan.ensures at c.in-Put.ensures.asked) b.most h p p (rw c.machine.ensures sight.stands) c.requires.room c.requires.may.watched refl in
+    put_is_outside b.plan h old.outlook.start d.present p p c.in-Put.due asked.1
 
 pub act-requires-clause-idle : goal.act-requires-clause-idle
 act-requires-clause-idle g c =
-    let p = g.P.Poller.state c.args.poller.now in
-    let sight = g.met.T.Recorder.stands c.args.most c.args.plan.now c.args.shared.now c.args.run.now c.requires.ready in
-    (c.in-Work.ensures.asked c.args.most (g.T.Recorder.seen c.args.run.now) p p (rw c.machine.ensures sight.stands) c.requires.room c.requires.may.watched refl).1
+    let b = g.T.Recorder.bounds c.args.run.now in let h = g.T.Recorder.seen c.args.run.now in
+    let pt = g.P.Poller.tells in let ct = g.C.Clock.tells in
+    let old = c.args.outside.now in let p = g.P.Poller.state old.poller.now in let a = g.C.Clock.state old.clock.now in
+    let new = c.ask_on.new.self in let q = g.P.Poller.state new.poller.now in let d = g.C.Clock.state new.clock.now in
+    let sight = g.met.T.Recorder.stands c.args.run.now c.requires.ready in
+    let asked = (rw c.plan.ensures at c.in-Work.ensures.asked) b.most h p p (rw c.machine.ensures sight.stands) c.requires.room c.requires.may.watched refl in
+    subst (λ (o : OutlookView). MayIdle b.plan h o.news q c.in-Work.left) (sym c.ask_on.ensures.outlook)
+    (subst (λ (x : g.row.P.Denot). MayIdle b.plan h old.outlook.news (g.P.Poller.state x) c.in-Work.left) (sym c.ask_on.ensures.poller) asked.1)
 
 pub act-requires-clause-chosen : goal.act-requires-clause-chosen
 act-requires-clause-chosen g c =
-    let p = g.P.Poller.state c.args.poller.now in
-    let sight = g.met.T.Recorder.stands c.args.most c.args.plan.now c.args.shared.now c.args.run.now c.requires.ready in
-    (c.in-Work.ensures.asked c.args.most (g.T.Recorder.seen c.args.run.now) p p (rw c.machine.ensures sight.stands) c.requires.room c.requires.may.watched refl).3
+    let b = g.T.Recorder.bounds c.args.run.now in let h = g.T.Recorder.seen c.args.run.now in
+    let pt = g.P.Poller.tells in let ct = g.C.Clock.tells in
+    let old = c.args.outside.now in let p = g.P.Poller.state old.poller.now in let a = g.C.Clock.state old.clock.now in
+    let new = c.ask_on.new.self in let q = g.P.Poller.state new.poller.now in let d = g.C.Clock.state new.clock.now in
+    let sight = g.met.T.Recorder.stands c.args.run.now c.requires.ready in
+    let asked = (rw c.plan.ensures at c.in-Work.ensures.asked) b.most h p p (rw c.machine.ensures sight.stands) c.requires.room c.requires.may.watched refl in
+    asked.3
 
-pub returns-in-Put-clause-going : goal.returns-in-Put-clause-going
-returns-in-Put-clause-going g c = λ stood before early going.
-    let pt = g.P.Poller.tells in let ct = g.C.Clock.tells in let plan = c.args.plan.now in
-    let h = g.T.Recorder.seen c.args.run.now in
-    let sight = g.met.T.Recorder.stands c.args.most plan c.args.shared.now c.args.run.now c.requires.ready in
-    let p = g.P.Poller.state c.args.poller.now in
-    let a = g.C.Clock.state c.args.clock.now in let b = g.C.Clock.state c.ask_on.new.clock in
-    let asked = c.in-Put.ensures.asked c.args.most h p p (rw c.machine.ensures sight.stands) c.requires.room c.requires.may.watched refl in
-    on_ok_weaker c.put.result
-    (λ was.
-    going_put c.args.most pt ct plan stood before early p p a b h (g.T.Recorder.seen c.put.new.run) c.args.outlook.now c.in-Put.due was.answer was.lawful was.few asked.1 was.said
-    (later_listens c.args.most pt ct plan stood before early h p a b c.args.outlook.now c.ask_on.ensures.goes_on c.ask_on.ensures.waited) going)
-    c.put.ensures.said
+pub returns-in_ok-placed-in-Put-clause-going : goal.returns-in_ok-placed-in-Put-clause-going
+returns-in_ok-placed-in-Put-clause-going g c = λ stood before early going.
+    let b = g.T.Recorder.bounds c.args.run.now in let h = g.T.Recorder.seen c.args.run.now in
+    let pt = g.P.Poller.tells in let ct = g.C.Clock.tells in
+    let old = c.args.outside.now in let p = g.P.Poller.state old.poller.now in let a = g.C.Clock.state old.clock.now in
+    let new = c.ask_on.new.self in let q = g.P.Poller.state new.poller.now in let d = g.C.Clock.state new.clock.now in
+    let sight = g.met.T.Recorder.stands c.args.run.now c.requires.ready in
+    let asked = (rw c.plan.ensures at c.in-Put.ensures.asked) b.most h p p (rw c.machine.ensures sight.stands) c.requires.room c.requires.may.watched refl in
+    let k = g.T.Recorder.seen c.put.new.run in
+    let was = c.in_ok-placed-in-Put.ensures.said in
+    same_going b.most pt ct b.plan stood before early p q d d k old.outlook new.outlook (ap g.P.Poller.state c.ask_on.ensures.poller) refl c.ask_on.ensures.outlook
+    (going_put b.most pt ct b.plan stood before early p p a d h k old.outlook c.in-Put.due was.answer was.lawful was.few asked.1 was.said
+    (later_listens b.most pt ct b.plan stood before early h p a d old.outlook c.ask_on.ensures.goes_on c.ask_on.ensures.waited) going)
 
 pub returns-in-Work-clause-going : goal.returns-in-Work-clause-going
-returns-in-Work-clause-going g c = λ stood before early going.
-    let pt = g.P.Poller.tells in let ct = g.C.Clock.tells in let plan = c.args.plan.now in
-    let h = g.T.Recorder.seen c.args.run.now in
-    let p = g.P.Poller.state c.args.poller.now in
-    let a = g.C.Clock.state c.args.clock.now in let b = g.C.Clock.state c.ask_on.new.clock in
-    c.act.ensures.going stood before early
-    (going_on c.args.most pt ct plan stood before early p p a b h c.args.outlook.now c.args.outlook.now
-    (later_listens c.args.most pt ct plan stood before early h p a b c.args.outlook.now c.ask_on.ensures.goes_on c.ask_on.ensures.waited) refl going)
+returns-in-Work-clause-going g c =
+    let b = g.T.Recorder.bounds c.args.run.now in let h = g.T.Recorder.seen c.args.run.now in
+    let pt = g.P.Poller.tells in let ct = g.C.Clock.tells in
+    let old = c.args.outside.now in let p = g.P.Poller.state old.poller.now in let a = g.C.Clock.state old.clock.now in
+    let new = c.ask_on.new.self in let q = g.P.Poller.state new.poller.now in let d = g.C.Clock.state new.clock.now in
+    let sight = g.met.T.Recorder.stands c.args.run.now c.requires.ready in
+    on_ok_weaker c.act.result
+    (λ goes. λ stood before early going. goes stood before early
+    (same_going b.most pt ct b.plan stood before early p q d d h old.outlook new.outlook (ap g.P.Poller.state c.ask_on.ensures.poller) refl c.ask_on.ensures.outlook
+    (going_on b.most pt ct b.plan stood before early p p a d h old.outlook old.outlook
+    (later_listens b.most pt ct b.plan stood before early h p a d old.outlook c.ask_on.ensures.goes_on c.ask_on.ensures.waited) refl going)))
+    c.act.ensures.going

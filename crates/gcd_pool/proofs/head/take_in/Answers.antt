@@ -6,8 +6,8 @@ use Rattle.gcd_pool.proofs.head.take_in.Goals as goal
 
 pub shut-requires-clause-leading : goal.shut-requires-clause-leading
 shut-requires-clause-leading g c =
-    subst (λ j. IsLeading g.S.Slot.shape g.S.Slot.gives g.X.Sent.gives c.args.most c.args.plan.now c.args.pool.now c.args.front.now c.args.hand.now j) (sym c.in-None.ensures.same)
-    (learns_leading g.S.Slot.shape g.S.Slot.gives g.X.Sent.gives c.args.most c.args.plan.now c.args.pool.now c.args.front.now c.args.hand.now c.args.intake.now c.requires.leading
+    subst (λ j. IsLeading g.S.Slot.shape g.S.Slot.gives g.X.Sent.gives c.args.pool.now c.args.front.now c.args.hand.now j) (sym c.in-None.ensures.same)
+    (learns_leading g.S.Slot.shape g.S.Slot.gives g.X.Sent.gives c.args.pool.now c.args.front.now c.args.hand.now c.args.intake.now c.requires.leading
     c.all_shut-all_shut.new.self c.requires.open c.all_shut-all_shut.ensures.more)
 
 pub shut-requires-clause-why : goal.shut-requires-clause-why
@@ -16,13 +16,13 @@ shut-requires-clause-why g c =
 
 pub returns-in-Some-clause-leading : goal.returns-in-Some-clause-leading
 returns-in-Some-clause-leading g c =
-    accept_answered g.S.Slot.shape g.S.Slot.gives g.X.Sent.gives c.args.most c.args.plan.now c.args.pool.now c.args.front.now c.args.hand.now c.all_shut-all_shut.new.self
-    (learns_leading g.S.Slot.shape g.S.Slot.gives g.X.Sent.gives c.args.most c.args.plan.now c.args.pool.now c.args.front.now c.args.hand.now c.args.intake.now c.requires.leading
+    accept_answered g.S.Slot.shape g.S.Slot.gives g.X.Sent.gives c.args.pool.now c.args.front.now c.args.hand.now c.all_shut-all_shut.new.self
+    (learns_leading g.S.Slot.shape g.S.Slot.gives g.X.Sent.gives c.args.pool.now c.args.front.now c.args.hand.now c.args.intake.now c.requires.leading
     c.all_shut-all_shut.new.self c.requires.open c.all_shut-all_shut.ensures.more)
     c.accept.new.hand c.take.new.self c.args.b _ _ _ c.accept.result c.requires.room c.requires.open c.requires.next c.in-Some.ensures.taken c.accept.ensures.head c.accept.ensures.accepted
 
 pub returns-else-all_shut-clause-leading : goal.returns-else-all_shut-clause-leading
 returns-else-all_shut-clause-leading g c =
-    subst (λ j. IsLeading g.S.Slot.shape g.S.Slot.gives g.X.Sent.gives c.args.most c.args.plan.now c.args.pool.now c.args.front.now c.args.hand.now j) (sym c.in-None.ensures.same)
-    (learns_leading g.S.Slot.shape g.S.Slot.gives g.X.Sent.gives c.args.most c.args.plan.now c.args.pool.now c.args.front.now c.args.hand.now c.args.intake.now c.requires.leading
+    subst (λ j. IsLeading g.S.Slot.shape g.S.Slot.gives g.X.Sent.gives c.args.pool.now c.args.front.now c.args.hand.now j) (sym c.in-None.ensures.same)
+    (learns_leading g.S.Slot.shape g.S.Slot.gives g.X.Sent.gives c.args.pool.now c.args.front.now c.args.hand.now c.args.intake.now c.requires.leading
     c.all_shut-all_shut.new.self c.requires.open c.all_shut-all_shut.ensures.more)

@@ -17,14 +17,14 @@ use Rattle.gcd_workers.proofs.gather.run_team.Goals as goal
 pub take_all-pass-requires-clause-gathered : goal.take_all-pass-requires-clause-gathered
 take_all-pass-requires-clause-gathered g c = λ d.
     gathered_after (shape_of g.H.Handler.kind g.H.Handler.times g.H.Handler.total) (gives_of g.J.Job.gives) c.args.pool.now c.args.hands.items
-    c.in_ok-hands.hands.items c.requires.some.0 c.in_ok-hands.ensures.served c.requires.head d
+    c.lead.new.hands.items c.requires.some.0 c.in_ok-lead.ensures.served c.requires.head d
 
 pub look_round-requires-clause-ended : goal.look_round-requires-clause-ended
 look_round-requires-clause-ended g c =
     let d = one_of c.args.hands.items c.requires.some.0 in
     let board = c.args.pool.now.board.now in
     subst (λ (h : List Event). HasEnded (terms_of board).limits.most (terms_of board).plan h) (sym (c.take_all-pass.ensures.seen d))
-    (ended_after (shape_of g.H.Handler.kind g.H.Handler.times g.H.Handler.total) (gives_of g.J.Job.gives) c.args.pool.now c.args.hands.items c.in_ok-hands.hands.items c.requires.some.0 c.in_ok-hands.ensures.served d)
+    (ended_after (shape_of g.H.Handler.kind g.H.Handler.times g.H.Handler.total) (gives_of g.J.Job.gives) c.args.pool.now c.args.hands.items c.lead.new.hands.items c.requires.some.0 c.in_ok-lead.ensures.served d)
 
 pub returns-clause-gathered : goal.returns-clause-gathered
 returns-clause-gathered g c = c.look_round.ensures.gathered c.take_all-pass.result.1.items c.take_all-pass.ensures.gathered
@@ -34,42 +34,28 @@ lead-requires-clause-asks g c = λ lifetimes outlive d.
     asks_at_first (gives_of g.J.Job.gives) g.X.Sent.gives c.args.front.now (slice_index_or c.args.hands.items 0 d) c.args.intake.now
     c.requires.few c.requires.intake (c.requires.none d) c.requires.untaken
 
+pub lead-requires-clause-head : goal.lead-requires-clause-head
+lead-requires-clause-head g c = λ lifetimes outlive d. (c.requires.head d).worker
+
 pub returns-clause-admitted : goal.returns-clause-admitted
 returns-clause-admitted g c =
     let d = one_of c.args.hands.items c.requires.some.0 in
-    let led = c.in_ok-hands.ensures.led d in
     admitted_after (gives_of g.J.Job.gives) g.X.Sent.gives c.args.front.now (shape_of g.H.Handler.kind g.H.Handler.times g.H.Handler.total) c.args.pool.now
-    c.args.hands.items c.in_ok-hands.hands.items c.look_round.new.pass c.lead.new.intake d c.requires.some.0 c.in_ok-hands.ensures.served c.look_round.ensures.pass
+    c.args.hands.items c.lead.new.hands.items c.look_round.new.pass c.lead.new.intake d c.requires.some.0 c.in_ok-lead.ensures.served c.look_round.ensures.pass
     (c.look_round.ensures.handed ∙ c.take_all-pass.ensures.handed d) (c.look_round.ensures.seen ∙ c.take_all-pass.ensures.seen d)
-    (led.admitted tt (c.requires.head d).worker)
-
-pub returns-clause-intake : goal.returns-clause-intake
-returns-clause-intake g c =
-    let d = one_of c.args.hands.items c.requires.some.0 in
-    (c.in_ok-hands.ensures.led d).of_front tt (c.requires.head d).worker
+    (c.in_ok-lead.ensures.admitted d)
 
 pub returns-clause-ran : goal.returns-clause-ran
 returns-clause-ran g c =
     let d = one_of c.args.hands.items c.requires.some.0 in
-    let led = (c.in_ok-hands.ensures.led d).led in
+    let board = c.args.pool.now.board.now in
     let told : Seen PollerState = record { tells = g.P.Poller.tells; before = g.P.Poller.state c.args.poller.now; after = g.P.Poller.state c.lead.new.poller } in
     let timed : Seen ClockState = record { tells = g.C.Clock.tells; before = g.C.Clock.state c.args.clock.now; after = g.C.Clock.state c.lead.new.clock } in
-    let old = view (slice_index_or c.args.hands.items 0 d).pass in
-    let last = view (slice_index_or c.in_ok-hands.hands.items 0 d).pass in
+    let stood = (view (slice_index_or c.args.hands.items 0 d).pass).seen in
+    let seen = (view (slice_index_or c.lead.new.hands.items 0 d).pass).seen in
     let count : c.len-workers.result ≡ length c.args.hands.items = omega arith in
     let all = subst (λ (n : ℕ). HasLed n (view c.look_round.new.pass)) count c.look_round.ensures.led in
-    team_ran (shape_of g.H.Handler.kind g.H.Handler.times g.H.Handler.total) (gives_of g.J.Job.gives) c.args.pool.now.board.now (length c.args.hands.items)
-    (AcceptsOf c.args.front.now.senders) old last c.look_round.new.pass told timed c.look_round.ensures.pass all (c.requires.hands 0 d c.requires.some.0).ready.of.pass.terms
-    (c.requires.none d) (c.look_round.ensures.seen ∙ c.take_all-pass.ensures.seen d) (led.led tt (c.requires.head d).worker)
-    (λ one. led.follows one (c.requires.head d).worker)
-    (returns-clause-admitted g c).senders c.requires.unwatched
-
-pub returns-clause-kept : goal.returns-clause-kept
-returns-clause-kept g c =
-    let d = one_of c.args.hands.items c.requires.some.0 in
-    c.lead.ensures.kept d (c.requires.head d).worker
-
-pub returns-in_err-hands-clause-kept : goal.returns-in_err-hands-clause-kept
-returns-in_err-hands-clause-kept g c =
-    let d = one_of c.args.hands.items c.requires.some.0 in
-    c.lead.ensures.kept d (c.requires.head d).worker
+    team_ran (shape_of g.H.Handler.kind g.H.Handler.times g.H.Handler.total) (gives_of g.J.Job.gives) board (length c.args.hands.items)
+    (AcceptsOf c.args.front.now.senders) stood seen c.look_round.new.pass told timed c.look_round.ensures.pass all
+    (c.requires.none d) (c.look_round.ensures.seen ∙ c.take_all-pass.ensures.seen d) (c.in_ok-lead.ensures.on d)
+    (λ one. c.lead.ensures.follows one d) (returns-clause-admitted g c).senders c.requires.unwatched

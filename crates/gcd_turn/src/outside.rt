@@ -1,0 +1,182 @@
+// The outside as worker 0 has it: poller and clock, which it alone has, and what it keeps of them.
+ghost use Rattle.std.specs.Prelude.{◌≡◌, ◌≤◌, ◌++◌, [], ℕ, true, false, List, drop, length, IfSome, OnSome, IfNone, OnOk, OnErr};
+ghost use Rattle.gcd_event.specs.declared.event.Event.{Event};
+ghost use Rattle.gcd_event.specs.declared.event.Event.TheVariants.{Halt};
+ghost use Rattle.gcd_history.specs.Ends.{is_halted};
+ghost use Rattle.gcd_history.specs.History.{choice_of};
+ghost use Rattle.gcd_machine.specs.Stands.{StandsFor};
+ghost use Rattle.gcd_outer.specs.Tells.{PollerState};
+ghost use Rattle.gcd_turn.specs.Asked.{AllWatched, HasFailed, HasNotFailed, KeepsListens, HasWatched, IsAsked, IsAskedOn, WaitedFor};
+ghost use Rattle.gcd_turn.specs.Hearing.{Heard};
+ghost use Rattle.gcd_turn.specs.Outsides.{IsFirst, IsSame};
+ghost use Rattle.gcd_turn.specs.Turns.{HasRoom};
+
+use crate::ask::Ask;
+use crate::outlook::Outlook;
+use crate::steps::{
+    Time, event_of, is_over, live_feed_from, next_time, poll_wait, wait, watch_new,
+};
+use gcd_event::Event;
+use gcd_machine::Machine;
+use gcd_outer::{Clock, Failed, Poller, Told};
+use gcd_plan::Plan;
+
+/// The outside of a run. It outlives the recorder of the events. A second recorder that gets the same outside goes on with what was told,
+/// with the moment at which the run began, and with what a wait counts from.
+#[derive(Drop)]
+pub struct Outside<'a, P, C> {
+    /// What worker 0 keeps of the two between its turns.
+    pub outlook: Outlook,
+    /// Tells of what the read sources of a plan read, and listens.
+    pub poller: &'a mut P,
+    /// Tells the time, and waits.
+    pub clock: &'a mut C,
+}
+
+impl<'a, P: Poller, C: Clock> Outside<'a, P, C> {
+    /// The outside before the first turn. It asks the clock once.
+    pub fn new(poller: &'a mut P, clock: &'a mut C) -> Outside<'a, P, C>
+        ensures same_poller { result.poller.ghost_name ≡ poller.entry.ghost_name }
+        ensures same_clock { result.clock.ghost_name ≡ clock.entry.ghost_name }
+        ensures poller { result.poller.now ≡ poller.old }
+        ensures first { IsFirst C.tells (C.state clock.old) (C.state result.clock.now) result.outlook }
+    {
+        Outside {
+            outlook: Outlook::new(clock.now()),
+            poller,
+            clock,
+        }
+    }
+
+    /// The first steps of a turn: it leaves where the run has ended, which may have `most` events; it watches what is live; and it gives the
+    /// first of what was told, where the intake is open asks to see to that, and else goes on as [`Outside::ask_on`] does. The clock is
+    /// asked only where there is no news, no intake is open and a due time is left, and the machine for a choice once, and once more only
+    /// where the run is quiescent.
+    #[inline(always)]
+    pub fn ask(&mut self, plan: &Plan, most: u32, machine: &Machine) -> Ask
+        requires { machine.now.plan ≡ plan.now }
+        ensures same { IsSame self.old self.new }
+        ensures outlook { self.new.outlook ≡ self.old.outlook }
+        ensures asked { (h : List Event) → StandsFor machine.now plan.now h → length h ≤ most
+            → IsAsked most plan.now h self.old.outlook (C.state self.new.clock.now).present
+            (P.state self.old.poller.now) (P.state self.new.poller.now) result }
+        ensures heard { (stood placed : List Event) (before : PollerState) → StandsFor machine.now plan.now (stood ++ placed)
+            → P.tells ≡ true → Heard plan.now stood placed before (P.state self.old.poller.now) self.old.outlook
+            → Heard plan.now stood placed before (P.state self.new.poller.now) self.new.outlook }
+        ensures kept { KeepsListens P.tells (P.state self.old.poller.now) (P.state self.new.poller.now) }
+        ensures goes_on { (C.state self.old.clock.now).present ≤ (C.state self.new.clock.now).present }
+        ensures waited { C.tells ≡ true → (C.state self.new.clock.now).waited ≡ (C.state self.old.clock.now).waited }
+    {
+        let chosen = machine.choose(0, 0);
+        if is_over(machine, most, chosen) {
+            return Ask::Leave;
+        }
+        if watch_new(plan, machine, self.poller).is_err() {
+            return Ask::Put(Event::Halt);
+        }
+        if let Some(tell) = self.outlook.first() {
+            return Ask::Told(event_of(tell));
+        }
+        if machine.intake_open() {
+            return Ask::Open { chosen };
+        }
+        self.ask_on(plan, machine, chosen)
+    }
+
+    /// The later steps of a turn, where there is no news, and nothing came of an intake that is open: it gives a Tick that is due, the
+    /// Expire of a wait that may expire, or else what worker 0 chooses, which is `chosen`. The clock is asked only where a due time
+    /// is left.
+    #[inline(always)]
+    pub fn ask_on(&mut self, plan: &Plan, machine: &Machine, chosen: Option<Event>) -> Ask
+        requires no_news { self.old.outlook.news ≡ [] }
+        requires chosen { (h : List Event) → StandsFor machine.now plan.now h → choice_of plan.now h 0 0 ≡ chosen }
+        ensures same { IsSame self.old self.new }
+        ensures outlook { self.new.outlook ≡ self.old.outlook }
+        ensures poller { self.new.poller.now ≡ self.old.poller.now }
+        ensures asked { (most : ℕ) (h : List Event) (old new : PollerState) → StandsFor machine.now plan.now h → HasRoom most plan.now h
+            → AllWatched plan.now h new → HasNotFailed old new
+            → IsAskedOn most plan.now h self.old.outlook (C.state self.new.clock.now).present old new result }
+        ensures goes_on { (C.state self.old.clock.now).present ≤ (C.state self.new.clock.now).present }
+        ensures waited { C.tells ≡ true → (C.state self.new.clock.now).waited ≡ (C.state self.old.clock.now).waited }
+    {
+        match next_time(self.outlook.start(), plan, machine, self.clock) {
+            Time::Tick(at) => Ask::Put(Event::Tick { at }),
+            Time::Left(left) => match machine.expiry() {
+                Some(expire) => Ask::Put(expire),
+                None => Ask::Work { chosen, left },
+            },
+        }
+    }
+
+    /// The first of what was told was recorded, or is not permitted and is dropped. Without news it does nothing.
+    pub fn settle(&mut self)
+        ensures same { IsSame self.old self.new }
+        ensures outlook { self.new.outlook ≡ record self.old.outlook { news = drop 1 self.old.outlook.news } }
+        ensures poller { self.new.poller.now ≡ self.old.poller.now }
+        ensures clock { self.new.clock.now ≡ self.old.clock.now }
+    {
+        self.outlook.settle();
+    }
+
+    // One poll.
+    fn listen(&mut self, plan: &Plan, machine: &Machine, left: Option<u32>) -> Result<(), Failed>
+        requires own { machine.now.plan ≡ plan.now }
+        requires no_news { self.old.outlook.news ≡ [] }
+        requires some { (feed : ℕ) × ((P.state self.old.poller.now).watched feed ≡ true) }
+        ensures same { IsSame self.old self.new }
+        ensures heard { (stood placed : List Event) (before : PollerState) → StandsFor machine.now plan.now (stood ++ placed)
+            → is_halted (stood ++ placed) ≡ false → AllWatched plan.now (stood ++ placed) (P.state self.old.poller.now)
+            → P.tells ≡ true → Heard plan.now stood placed before (P.state self.old.poller.now) self.old.outlook
+            → Heard plan.now stood placed before (P.state self.new.poller.now) self.new.outlook }
+        ensures start { self.new.outlook.start ≡ self.old.outlook.start }
+        ensures clock { self.new.clock.now ≡ self.old.clock.now }
+        ensures kept { KeepsListens P.tells (P.state self.old.poller.now) (P.state self.new.poller.now) }
+        ensures ok { OnOk result (HasNotFailed (P.state self.old.poller.now) (P.state self.new.poller.now)) }
+        ensures failed { OnErr result (HasFailed (P.state self.old.poller.now) (P.state self.new.poller.now)) }
+    {
+        let wait = poll_wait(machine, left);
+        let mut told = Told::new();
+        self.poller.poll(wait, &mut told)?;
+        if wait == 0 {
+            self.outlook.hear(&told);
+            return Ok(());
+        }
+        if told.is_empty_answer() {
+            self.outlook.count_empty(plan, machine);
+            return Ok(());
+        }
+        self.outlook.hear(&told);
+        Ok(())
+    }
+
+    /// The last steps of a turn, where worker 0 has no choice: it polls where a feed is live, and else waits for the next due time, where
+    /// there is one, no run is open and unparked, and no intake is open. `left` is how many milliseconds that is ahead. Some is a Halt, to be
+    /// recorded: the poller failed.
+    pub fn idle(&mut self, plan: &Plan, machine: &Machine, left: Option<u32>) -> Option<Event>
+        requires own { machine.now.plan ≡ plan.now }
+        requires no_news { self.old.outlook.news ≡ [] }
+        requires watched { HasWatched machine.now plan.now (P.state self.old.poller.now) }
+        ensures same { IsSame self.old self.new }
+        ensures heard { (stood placed : List Event) (before : PollerState) → StandsFor machine.now plan.now (stood ++ placed)
+            → is_halted (stood ++ placed) ≡ false → AllWatched plan.now (stood ++ placed) (P.state self.old.poller.now)
+            → P.tells ≡ true → Heard plan.now stood placed before (P.state self.old.poller.now) self.old.outlook
+            → Heard plan.now stood placed before (P.state self.new.poller.now) self.new.outlook }
+        ensures start { self.new.outlook.start ≡ self.old.outlook.start }
+        ensures kept { KeepsListens P.tells (P.state self.old.poller.now) (P.state self.new.poller.now) }
+        ensures halt { IfSome result (λ e. e ≡ Halt) }
+        ensures failed { OnSome result (HasFailed (P.state self.old.poller.now) (P.state self.new.poller.now)) }
+        ensures unfailed { IfNone result (HasNotFailed (P.state self.old.poller.now) (P.state self.new.poller.now)) }
+        ensures goes_on { (C.state self.old.clock.now).present ≤ (C.state self.new.clock.now).present }
+        ensures waited { (h : List Event) → StandsFor machine.now plan.now h → C.tells ≡ true
+            → WaitedFor plan.now h self.old.outlook.start (C.state self.old.clock.now) (C.state self.new.clock.now) }
+    {
+        if live_feed_from(plan, machine, 0).is_some() {
+            return match self.listen(plan, machine, left) {
+                Ok(()) => None,
+                Err(Failed) => Some(Event::Halt),
+            };
+        }
+        wait(self.outlook.start(), machine, self.clock);
+        None
+    }
+}

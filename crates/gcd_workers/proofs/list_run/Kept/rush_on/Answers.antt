@@ -1,0 +1,62 @@
+use Rattle.std.proofs.Common.{◌≡◌, ◌∙◌, List, is_some, ap, sym, subst}
+use Rattle.gcd_plan.proofs.Options.{none_from_is_some}
+use Rattle.gcd_plan.specs.PlanView.{PlanView}
+use Rattle.gcd_event.specs.Owners.{ended}
+use Rattle.gcd_event.specs.declared.event.Event.{Event}
+use Rattle.gcd_loop.specs.Rushed.{IsRushed}
+use Rattle.gcd_loop.proofs.Rushes.{rushed_more, rushed_on}
+use Rattle.gcd_machine.specs.Calm.{IsCalm}
+use Rattle.gcd_workers.specs.ListRuns.{HasChosen, HasStepped, IsChosen, IsOneMore, IsStep}
+use Rattle.gcd_workers.proofs.list_run.Kept.rush_on.Goals as goal
+
+-- one event more is rushed through
+one_more : (plan : PlanView) (h k l : List Event) (e : Event) → IsRushed plan h k → IsCalm plan k → IsChosen plan k l e → IsRushed plan h l
+one_more plan h k l e rushed calm one = subst (IsRushed plan h) (sym one.is) (rushed_more plan h k e rushed calm one.chosen)
+
+pub loop-calm-preserved-then-is_some : goal.loop-calm-preserved-then-is_some
+loop-calm-preserved-then-is_some c =
+    let plan = c.args.over.now.plan.now in
+    let start = c.args.self.now.journal.items in
+    let h = c.loop-calm.self.journal.items in
+    let k = c.record_quick.new.self.journal.items in
+    let l = c.rush_through.new.self.journal.items in
+    let before = c.loop-calm.invariant in
+    let step : IsStep plan h k c.in-Some.e = subst (HasStepped plan h k) c.in-Some.is c.in_ok-e.ensures.stepped in
+    let one = one_more plan start h k c.in-Some.e before.rushed (before.calm c.loop-calm-test.true) step.chosen in
+    record {
+      run = c.rush_through.ensures.run;
+      rushed = rushed_on plan start k l one c.in_ok-calm-in-Some.ensures.rushed;
+      calm = c.in_ok-calm-in-Some.ensures.calm;
+    }
+
+pub loop-calm-preserved-else-is_some : goal.loop-calm-preserved-else-is_some
+loop-calm-preserved-else-is_some c =
+    let plan = c.args.over.now.plan.now in
+    let start = c.args.self.now.journal.items in
+    let h = c.loop-calm.self.journal.items in
+    let k = c.record_quick.new.self.journal.items in
+    let e = c.in-Some.e in
+    let before = c.loop-calm.invariant in
+    let calm = before.calm c.loop-calm-test.true in
+    let step : IsStep plan h k e = subst (HasStepped plan h k) c.in-Some.is c.in_ok-e.ensures.stepped in
+    record {
+      run = c.record_quick.ensures.run;
+      rushed = one_more plan start h k e before.rushed calm step.chosen;
+      calm = λ still. step.calm (none_from_is_some (ended e) (sym (ap is_some c.ended.ensures) ∙ (sym c.is_some.ensures ∙ c.if-is_some.false))) calm;
+    }
+
+pub loop-calm-preserved : goal.loop-calm-preserved
+loop-calm-preserved c =
+    let plan = c.args.over.now.plan.now in
+    let h = c.loop-calm.self.journal.items in
+    let k = c.record_quick.new.self.journal.items in
+    let l = c.record_choice.new.self.journal.items in
+    let before = c.loop-calm.invariant in
+    let same : k ≡ h = subst (HasStepped plan h k) c.in-None.is c.in_ok-e.ensures.stepped in
+    let one : IsOneMore plan k l = subst (HasChosen plan k l) c.if-not-branch.false c.in_ok-record_choice-in-None.ensures.chosen in
+    let start = c.args.self.now.journal.items in
+    record {
+      run = c.record_choice.ensures.run;
+      rushed = one_more plan start k l one.event (subst (IsRushed plan start) (sym same) before.rushed) (subst (IsCalm plan) (sym same) (before.calm c.loop-calm-test.true)) one.chosen;
+      calm = λ calm. c.is_calm-calm-in-None.ensures.calm plan l c.record_choice.ensures.run.stands calm;
+    }
