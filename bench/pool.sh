@@ -16,7 +16,7 @@ cd "$(dirname "$0")/.."
 . bench/setup.sh
 folder=$(mktemp -d)
 trap 'rm -rf "$folder"' EXIT
-program pool "$folder" gcd_plan gcd_outer gcd_history gcd_script gcd_steal gcd_workers anyhow
+program pool "$folder" gcd_plan gcd_outer gcd_history gcd_front gcd_jobs gcd_script gcd_workers anyhow
 bench=$folder/crates/bench_pool/out/bench_pool
 "${CC:-gcc}" -O2 -o "$folder/peak" bench/peak.c
 

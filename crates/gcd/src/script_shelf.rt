@@ -28,7 +28,7 @@ pub struct ScriptShelf<'a, R: Files> {
 impl<'a, R: Files> ScriptShelf<'a, R> {
     /// The files of a script under this path, of which the first so many contents are kept; no fault is counted yet.
     pub fn new(rt: &'a R, alloc: Global, script: &'a str, keeps: usize) -> Self
-        ensures { ⟦<ScriptShelf<'a, R> as Shelf>⟧.faults result ≡ 0 }
+        ensures { (⟦<ScriptShelf<'a, R> as Shelf>⟧.state result).faults ≡ 0 }
     {
         ScriptShelf {
             rt,
@@ -127,11 +127,7 @@ impl<'a, R: Files> ScriptShelf<'a, R> {
 impl<'a, R: Files> Shelf for ScriptShelf<'a, R> {
     ghost tells = { false };
 
-    ghost content = { λ _ _. None };
-
-    ghost loads = { λ _. 0 };
-
-    ghost faults = { λ s. s.faults };
+    ghost state = { λ s. record { content = λ _. None; loads = 0; faults = s.faults } };
 
     fn load(&mut self, name: &str, most: usize, into: &mut Vec<u8>) -> Result<(), LoadFault> {
         match self.load_either(name, most, into) {

@@ -12,7 +12,7 @@ use Rattle.gcd_plan.specs.Limits.{max_events, max_intake}
 use Rattle.gcd_plan.specs.PlanView.{PlanView, IntakeView}
 use Rattle.gcd_plan.specs.Validity.{IsPlan, IsIntake}
 use Rattle.gcd_plan.specs.declared.numbers.Blk.{Blk}
-use Rattle.gcd_plan.proofs.Places.{slice_get_kept}
+use Rattle.gcd_plan.proofs.Places.{slice_get_kept, slice_get_some}
 use Rattle.gcd_event.specs.declared.event.Event.{Event}
 use Rattle.gcd_history.specs.Ends.{IsQuiescent}
 use Rattle.gcd_history.specs.History.{is_block_cancelled, is_ended, is_intake_open}
@@ -22,12 +22,15 @@ use Rattle.gcd_history.proofs.Public.Laws.{quiescent_is_rest}
 use Rattle.gcd_loop.specs.Ran.{RunsPlan}
 use Rattle.gcd_outer.specs.Outside.{ClockState, Seen}
 use Rattle.gcd_outer.specs.Tells.{PollerState}
+use Rattle.gcd_front.specs.Fronts.{IsTakenOf}
 use Rattle.gcd_front.specs.Queue.{jobs_of}
-use Rattle.gcd_front.specs.Views.{FrontView, IntakeView as TakenView}
+use Rattle.gcd_front.specs.Views.{IntakeView as TakenView}
 use Rattle.gcd_history.specs.Intake.{AcceptsOf, blocks_of_sender}
-use Rattle.gcd_workers.specs.declared.jobs_run.JobsRun.{JobsRun}
+use Rattle.gcd_workers.specs.declared.dispatch.Dispatch.{Dispatch}
+use Rattle.gcd_workers.specs.declared.ran.Ran.{Ran as Left}
 use Rattle.gcd_commands.specs.Fronts.{HasIntake, HearsSenders, RanBeside, value_or_0}
-use Rattle.gcd_commands.specs.Senders.{HasRun, IsTakenOf, told, told_by}
+use Rattle.gcd_commands.specs.Senders.{HasRun, told, told_by}
+use Rattle.gcd_commands.specs.declared.front_job.FrontJob.{FrontJob}
 use Rattle.gcd_commands.specs.declared.front_job.Told.{Told}
 use Rattle.gcd_commands.proofs.Counting.{all_shares}
 use Rattle.gcd_commands.proofs.Ran.{full_of}
@@ -78,11 +81,11 @@ value_past (v ∷ values) (suc b) past = value_past values b (omega (arith, past
 -- ## The intake
 
 -- the intake of a valid plan has from 1 to 4,096 blocks
-pub record IsFit (blocks : ℕ) : Type 0 where
+record IsFit (blocks : ℕ) : Type 0 where
   pub some : 0 < blocks
   pub few : blocks ≤ max_intake
 
-pub fits : (plan : PlanView) (blocks : ℕ) → IsPlan plan → HasIntake plan blocks → IsFit blocks
+fits : (plan : PlanView) (blocks : ℕ) → IsPlan plan → HasIntake plan blocks → IsFit blocks
 fits plan blocks valid has =
     let intake = has.intake in
     let is : IsIntake plan intake = subst (λ (o : Option IntakeView). IfSome o (IsIntake plan)) has.intake_is valid.intake in
@@ -103,9 +106,27 @@ shut_at_rest plan intake h is closed =
     let shut : not (list_any of_intake.shuts (reverse h)) ≡ false = ap (λ (c : Bool). c && not (list_any of_intake.shuts (reverse h))) (sym some) ∙ closed in
     sym (list_any-reverse of_intake.shuts h) ∙ true_from_ne_false (list_any of_intake.shuts (reverse h)) (λ no. both_ways (not (list_any of_intake.shuts (reverse h))) shut (ap not no))
 
-module _ (plan : PlanView) (blocks senders : ℕ) (f : FrontView) (i : TakenView Told) (poller : Seen PollerState) (clock : Seen ClockState)
-    (run : JobsRun) (valid : IsPlan plan) (has : HasIntake plan blocks) (of : f.senders ≡ senders) (left : HasRun plan f i poller clock run)
-    (taken : (s : ℕ) → s < senders → IsTakenOf f i (blocks / senders) s) where
+module _ (d : Dispatch FrontJob) (blocks senders : ℕ) (poller : Seen PollerState) (clock : Seen ClockState) (run : Left) (valid : IsPlan d.plan.now)
+    (has : HasIntake d.plan.now blocks) (workers_is : d.workers ≡ 4) (most_is : d.most ≡ max_events)
+    (share : ℕ) (share_is : share ≡ blocks / senders) (has_run : HasRun d senders share poller clock run) where
+  left : HasRun d senders (blocks / senders) poller clock run
+  left = subst (λ (n : ℕ). HasRun d senders n poller clock run) share_is has_run
+
+  abbrev plan : PlanView
+  plan = d.plan.now
+
+  abbrev i : TakenView Told
+  i = left.intake
+
+  -- what was taken of each sender is how its jobs begin
+  taken : (s : ℕ) → s < senders → IsTakenOf left.front i s (told_by s (blocks / senders))
+  taken s low =
+      let mouth = slice_get_some left.mouths s (omega (arith, low, left.count)) in
+      let sent = left.called s mouth.0 mouth.1 in
+      let t = left.taken s mouth.0 mouth.1 (omega (arith, low, sent.0)) in
+      subst (λ (n : ℕ). IsTakenOf left.front i n (told_by s (blocks / senders))) sent.0
+      (subst (λ (l : List Told). IsTakenOf left.front i mouth.0.sender l) sent.1 t)
+
   abbrev h : List Event
   h = run.journal.items
 
@@ -114,7 +135,7 @@ module _ (plan : PlanView) (blocks senders : ℕ) (f : FrontView) (i : TakenView
 
   -- no other sender has an Accept
   none_else : (s : ℕ) → senders ≤ s → blocks_of_sender h s ≡ []
-  none_else s over = left.runs.run.called s (subst (λ n. n ≤ s) (sym of) over)
+  none_else s over = left.runs.run.called s (subst (λ n. n ≤ s) (sym left.of_front) over)
 
   -- the jobs that were accepted of a sender begin its jobs
   few_of : (s : ℕ) → s < senders → length (blocks_of_sender h s) ≤ blocks / senders
@@ -181,14 +202,19 @@ module _ (plan : PlanView) (blocks senders : ℕ) (f : FrontView) (i : TakenView
       (cases_lt b (length plan.blocks))
 
   pub ran_beside : RanBeside plan blocks senders poller clock run
-  ran_beside = record {
-    ran = record {
-      run = subst (λ n. RunsPlan max_events plan 4 (AcceptsOf n) poller clock h) of left.runs.run;
-      over = record { state_is = left.runs.state_is; full = full_of max_events plan h run.state left.runs.state_is left.runs.run.ended };
-    };
-    hears = λ intake is.
-        let same : has.intake ≡ intake = cc in
-        hears intake is (subst (λ (n : IntakeView). n.count ≡ blocks) same has.count);
-    few = λ s. let mine = few s in let less = div-le_self blocks senders in let fit = fits plan blocks valid has in omega (arith, mine, less, fit.few);
-    others = no_value;
-  }
+  ran_beside =
+      let whole_run : RunsPlan max_events plan 4 (AcceptsOf senders) poller clock h =
+      subst (λ (n : ℕ). RunsPlan max_events plan 4 (AcceptsOf n) poller clock h) left.of_front
+      (subst (λ (n : ℕ). RunsPlan max_events plan n (AcceptsOf left.front.senders) poller clock h) workers_is
+      (subst (λ (n : ℕ). RunsPlan n plan d.workers (AcceptsOf left.front.senders) poller clock h) most_is left.runs.run)) in
+      record {
+        ran = record {
+          run = whole_run;
+          over = record { state_is = left.runs.state_is; full = full_of max_events plan h run.state left.runs.state_is whole_run.ended };
+        };
+        hears = λ intake is.
+            let same : has.intake ≡ intake = cc in
+            hears intake is (subst (λ (n : IntakeView). n.count ≡ blocks) same has.count);
+        few = λ s. let mine = few s in let less = div-le_self blocks senders in let fit = fits plan blocks valid has in omega (arith, mine, less, fit.few);
+        others = no_value;
+      }

@@ -8,7 +8,7 @@ use Rattle.std.proofs.lemmas.Option.{slice_get-map, slice_get-get_or, slice_get_
 use Rattle.gcd_plan.specs.Limits.{max_file_bytes, max_script_bytes}
 use Rattle.gcd_plan.specs.declared.parts.FilePart.{FilePart}
 use Rattle.gcd_plan.specs.PlanView.{PlanView, FileView, file_view}
-use Rattle.gcd_outer.specs.Outside.{Bytes, ShelfSeen, IsUnread, IsLonger, next_count}
+use Rattle.gcd_outer.specs.Outside.{Bytes, Seen, ShelfState, IsUnread, IsLonger, next_count}
 use Rattle.gcd_commands.specs.Calls.{MadeLoads, count_after}
 use Rattle.gcd_commands.specs.Checks.{StopsJournal}
 use Rattle.gcd_commands.specs.Checks.StopsJournal.{unloaded as journal_unloaded, refused as journal_refused, wanting as journal_wanting}
@@ -18,21 +18,21 @@ use Rattle.gcd_commands.specs.Loads.StopsScript.{unloaded as script_unloaded, re
 use Rattle.gcd_commands.specs.declared.stop.Stop.{Stop}
 
 -- two views of one shelf that tells the same
-pub record SameShelf (s t : ShelfSeen) : Type 0 where
+pub record SameShelf (s t : Seen ShelfState) : Type 0 where
   pub tells : s.tells ≡ t.tells
-  pub content : s.content ≡ t.content
+  pub content : s.before.content ≡ t.before.content
 
-same_content : (s t : ShelfSeen) → SameShelf s t → (name : Bytes) → s.content name ≡ t.content name
+same_content : (s t : Seen ShelfState) → SameShelf s t → (name : Bytes) → s.before.content name ≡ t.before.content name
 same_content s t same name = ap (λ (f : Bytes → Option Bytes). f name) same.content
 
-pub loaded_same : (s t : ShelfSeen) → SameShelf s t → (name : Bytes) (most : ℕ) (bytes : Bytes) → IsLoaded s name most bytes
+pub loaded_same : (s t : Seen ShelfState) → SameShelf s t → (name : Bytes) (most : ℕ) (bytes : Bytes) → IsLoaded s name most bytes
     → IsLoaded t name most bytes
 loaded_same s t same name most bytes loaded = record {
   holds = λ tells. sym (same_content s t same name) ∙ loaded.holds (same.tells ∙ tells);
   fits = loaded.fits;
 }
 
-pub are_loaded_same : (s t : ShelfSeen) → SameShelf s t → (files : List FileView) (contents : List Bytes)
+pub are_loaded_same : (s t : Seen ShelfState) → SameShelf s t → (files : List FileView) (contents : List Bytes)
     → AreLoaded s files contents → AreLoaded t files contents
 are_loaded_same s t same [] [] loaded = tt
 are_loaded_same s t same (file ∷ files) (bytes ∷ contents) loaded =
@@ -40,7 +40,7 @@ are_loaded_same s t same (file ∷ files) (bytes ∷ contents) loaded =
 are_loaded_same s t same [] (bytes ∷ contents) loaded = loaded
 are_loaded_same s t same (file ∷ files) [] loaded = loaded
 
-pub are_loaded_push : (s : ShelfSeen) (files : List FileView) (contents : List Bytes) (file : FileView) (bytes : Bytes)
+pub are_loaded_push : (s : Seen ShelfState) (files : List FileView) (contents : List Bytes) (file : FileView) (bytes : Bytes)
     → AreLoaded s files contents → IsLoaded s file.path max_file_bytes bytes
     → AreLoaded s (files ++ file ∷ []) (contents ++ bytes ∷ [])
 are_loaded_push s [] [] file bytes loaded one = (one, tt)
@@ -50,7 +50,7 @@ are_loaded_push s [] (c ∷ contents) file bytes loaded one = absurd loaded
 are_loaded_push s (f ∷ files) [] file bytes loaded one = absurd loaded
 
 -- a fault of a later load is a fault of the call
-pub unread_same : (s t : ShelfSeen) → SameShelf s t → t.faults_before ≤ s.faults_before → s.faults_after ≤ t.faults_after → (name : Bytes)
+pub unread_same : (s t : Seen ShelfState) → SameShelf s t → t.before.faults ≤ s.before.faults → s.after.faults ≤ t.after.faults → (name : Bytes)
     → IsUnread s name → IsUnread t name
 unread_same s t same before after name (inl failed) = inl (omega arith)
 unread_same s t same before after name (inr lacks) = inr (record {
@@ -58,13 +58,13 @@ unread_same s t same before after name (inr lacks) = inr (record {
   nothing = sym (same_content s t same name) ∙ lacks.nothing;
 })
 
-pub longer_same : (s t : ShelfSeen) → SameShelf s t → (name : Bytes) (most : ℕ) → IsLonger s name most → IsLonger t name most
+pub longer_same : (s t : Seen ShelfState) → SameShelf s t → (name : Bytes) (most : ℕ) → IsLonger s name most → IsLonger t name most
 longer_same s t same name most longer tells =
     let found = longer (same.tells ∙ tells) in
     (found.0, sym (same_content s t same name) ∙ found.1, found.2)
 
 -- one more file of a list was loaded
-pub loaded_more : (s : ShelfSeen) (files : List FilePart) (i : ℕ) (item : FilePart) (contents after : List (Vec ℕ Global)) (bytes : Vec ℕ Global)
+pub loaded_more : (s : Seen ShelfState) (files : List FilePart) (i : ℕ) (item : FilePart) (contents after : List (Vec ℕ Global)) (bytes : Vec ℕ Global)
     → i < length files → item ≡ get_or files i item → after ≡ contents ++ bytes ∷ []
     → AreLoaded s (map file_view (take i files)) (map (λ c. c.items) contents)
     → IsLoaded s (string_bytes item.path) max_file_bytes bytes.items
@@ -76,7 +76,7 @@ loaded_more s files i item contents after bytes within is more loaded one =
     (are_loaded_push s (map file_view (take i files)) (map (λ c. c.items) contents) (file_view item) bytes.items loaded one)
 
 -- the file at a place of a list is the next
-pub next_file : (s : ShelfSeen) (files : List FilePart) (i : ℕ) (item : FilePart) (contents : List (Vec ℕ Global))
+pub next_file : (s : Seen ShelfState) (files : List FilePart) (i : ℕ) (item : FilePart) (contents : List (Vec ℕ Global))
     → i < length files → item ≡ get_or files i item
     → AreLoaded s (map file_view (take i files)) (map (λ c. c.items) contents)
     → IsNextFile s (map file_view files) i (file_view item)
@@ -87,14 +87,14 @@ next_file s files i item contents within is loaded = record {
 }
 
 -- as many contents as files
-pub loaded_count : (s : ShelfSeen) (files : List FileView) (contents : List Bytes) → AreLoaded s files contents → length contents ≡ length files
+pub loaded_count : (s : Seen ShelfState) (files : List FileView) (contents : List Bytes) → AreLoaded s files contents → length contents ≡ length files
 loaded_count s [] [] loaded = refl
 loaded_count s (file ∷ files) (bytes ∷ contents) loaded = ap (λ n. suc n) (loaded_count s files contents loaded.1)
 loaded_count s [] (bytes ∷ contents) loaded = absurd loaded
 loaded_count s (file ∷ files) [] loaded = absurd loaded
 
 -- what a part of a call saw, said of the whole call
-module _ (s t : ShelfSeen) (same : SameShelf s t) (before : t.faults_before ≤ s.faults_before) (after : s.faults_after ≤ t.faults_after) where
+module _ (s t : Seen ShelfState) (same : SameShelf s t) (before : t.before.faults ≤ s.before.faults) (after : s.after.faults ≤ t.after.faults) where
   pub load_since : (name : Bytes) (most : ℕ) (longer stop : Stop) → StopsLoad s name most longer stop → StopsLoad t name most longer stop
   load_since name most longer stop (unread why is) = unread (unread_same s t same before after name why) is
   load_since name most longer stop (long why is) = long (longer_same s t same name most why) is
@@ -150,21 +150,21 @@ count_sum (suc m) n count =
     ap next_count (count_sum m n count) ∙ ap (λ k. count_after k count) e
 
 -- the first load of a call, and the loads after it
-pub made_later : (first later whole : ShelfSeen) → whole.tells ≡ first.tells → whole.tells ≡ later.tells
-    → whole.loads_before ≡ first.loads_before → first.loads_after ≡ later.loads_before → later.loads_after ≡ whole.loads_after
+pub made_later : (first later whole : Seen ShelfState) → whole.tells ≡ first.tells → whole.tells ≡ later.tells
+    → whole.before.loads ≡ first.before.loads → first.after.loads ≡ later.before.loads → later.after.loads ≡ whole.after.loads
     → (n : ℕ) → MadeLoads first 1 → MadeLoads later n → MadeLoads whole (n + 1)
 made_later first later whole own same before between after n one more tells =
     sym after
     ∙ more (sym same ∙ tells)
     ∙ ap (count_after n) (sym between ∙ one (sym own ∙ tells) ∙ ap (count_after 1) (sym before))
-    ∙ count_sum n 1 whole.loads_before
+    ∙ count_sum n 1 whole.before.loads
 
 -- one load for each file so far, and one more
 pub at_most : (i : ℕ) (files : List FilePart) → i < length files → i + 1 ≤ length (map file_view files)
 at_most i files within = omega (arith, length-map files file_view, within)
 
 -- a file that is next is among the files
-pub file_within : (shelf : ShelfSeen) (files : List FileView) (f : ℕ) (stop : Stop) → StopsFile shelf files f stop → f < length files
+pub file_within : (shelf : Seen ShelfState) (files : List FileView) (f : ℕ) (stop : Stop) → StopsFile shelf files f stop → f < length files
 file_within shelf files f stop stops = omega (arith, slice_get_within files f stops.file stops.next.next)
 
 -- ## Errors that are handed on

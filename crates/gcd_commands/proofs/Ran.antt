@@ -5,10 +5,12 @@ use Rattle.gcd_event.specs.declared.event.Event.{Event}
 use Rattle.gcd_history.specs.Ends.{HasEnded, HasState, IsFull, IsGoingOn}
 use Rattle.gcd_history.specs.declared.state.State.{State}
 use Rattle.gcd_history.specs.declared.state.State.TheVariants.{Live}
-use Rattle.gcd_outer.specs.Outside.{Bytes, ClockState, Seen}
+use Rattle.gcd_outer.specs.Outside.{ClockState, Seen}
 use Rattle.gcd_outer.specs.Tells.{PollerState}
 use Rattle.gcd_history.specs.Intake.{AcceptsNone}
 use Rattle.gcd_workers.specs.Ran.{RunsOverFiles}
+use Rattle.gcd_workers.specs.declared.outcome.Outcome.{Outcome}
+use Rattle.gcd_workers.specs.declared.over.Over.{Over}
 use Rattle.gcd_commands.specs.Runs.{Ran}
 
 -- a run that has ended and goes on is full
@@ -26,10 +28,9 @@ full_of most plan h state is ended live =
       going_on = going;
     }
 
-pub ran_is : (plan : PlanView) (workers most : ℕ) (files : List Bytes) (poller : Seen PollerState) (clock : Seen ClockState) (h : List Event)
-    (given : List ℕ) (state : State) → RunsOverFiles most plan workers files poller clock h given state
-    → Ran poller clock plan workers most AcceptsNone h state
-ran_is plan workers most files poller clock h given state r = record {
+pub ran_is : (over : Over) (workers : ℕ) (poller : Seen PollerState) (clock : Seen ClockState) (o : Outcome) → RunsOverFiles over workers poller clock o
+    → Ran poller clock over.plan.now workers over.most AcceptsNone o.journal.items o.state
+ran_is over workers poller clock o r = record {
   run = r.run;
-  over = record { state_is = r.state_is; full = full_of most plan h state r.state_is r.run.ended };
+  over = record { state_is = r.state_is; full = full_of over.most over.plan.now o.journal.items o.state r.state_is r.run.ended };
 }

@@ -1,6 +1,6 @@
 -- The calls that a command took, by what it tells.
 use Rattle.std.proofs.Common.{◌∙◌, ◌+◌, ℕ, length, ap, inl, inr, arith}
-use Rattle.gcd_outer.specs.Outside.{Bytes, ShelfSeen}
+use Rattle.gcd_outer.specs.Outside.{Bytes, Seen, ShelfState}
 use Rattle.gcd_words.specs.Asked.{RunAsked}
 use Rattle.gcd_commands.specs.Calls.{Calls, InputsSeen, only_loads}
 use Rattle.gcd_commands.specs.Checks.{IsCheckCount, StopsCheck}
@@ -25,7 +25,7 @@ stops_calls seen asked calls stop (at_listen plan contents address ready listen 
 stops_calls seen asked calls stop (wanting plan contents ready stop_is is) = of_run plan ready.plan_is is
 
 -- the loads of `front`
-pub front_stops_count : (shelf : ShelfSeen) (script : Bytes) (n : ℕ) (stop : Stop) → StopsFront shelf script n stop → IsFrontCount shelf script n
+pub front_stops_count : (shelf : Seen ShelfState) (script : Bytes) (n : ℕ) (stop : Stop) → StopsFront shelf script n stop → IsFrontCount shelf script n
 front_stops_count shelf script n stop (front_at_script why one) = count_of_script one
 front_stops_count shelf script n stop (at_intake plan plan_is none is one) = count_of_script one
 front_stops_count shelf script n stop (front_at_file plan intake f plan_is some stops two) =
@@ -34,6 +34,6 @@ front_stops_count shelf script n stop (front_at_file plan intake f plan_is some 
 front_stops_count shelf script n stop (front_wanting plan contents ready is many) = of_files plan (length plan.files) ready.plan_is (omega arith) many
 
 -- the loads of a check
-pub stops_count : (shelf : ShelfSeen) (script journal : Bytes) (n : ℕ) (stop : Stop) → StopsCheck shelf script journal n stop → IsCheckCount n
+pub stops_count : (shelf : Seen ShelfState) (script journal : Bytes) (n : ℕ) (stop : Stop) → StopsCheck shelf script journal n stop → IsCheckCount n
 stops_count shelf script journal n stop (check_at_script why one) = inl one
 stops_count shelf script journal n stop (at_journal plan plan_is why two) = inr two

@@ -1,17 +1,25 @@
 -- What a call saw of the outside, and how many calls it made on it.
-use Rattle.std.specs.Prelude.{◌≡◌, ◌++◌, ℕ, zero, suc, Bool, true, List, [], Option, length, option_to_list}
-use Rattle.gcd_outer.specs.Outside.{Bytes, ClockState, Rises, Seen, ShelfSeen, next_count}
+use Rattle.std.specs.Prelude.{◌≡◌, ◌++◌, ℕ, zero, suc, true, List, [], Option, length, option_to_list}
+use Rattle.gcd_outer.specs.Outside.{Bytes, ClockState, Rises, Seen, ShelfState, next_count, seen}
 use Rattle.gcd_outer.specs.Tells.{PollerState}
-
--- what a call saw of something that has a state
-abbrev pub seen_by : {T State : Type 0} → Bool → (T → State) → (old new : T) → Seen State
-seen_by tells state old new = record { tells = tells; before = state old; after = state new }
+use Rattle.gcd_outer.specs.declared.clock.Clock.{Ghosts as ClockGhosts}
+use Rattle.gcd_outer.specs.declared.poller.Poller.{Ghosts as PollerGhosts}
+use Rattle.gcd_outer.specs.declared.shelf.Shelf.{Ghosts as ShelfGhosts}
 
 -- what all inputs were seen to be
 pub record InputsSeen : Type 0 where
-  pub shelf : ShelfSeen
+  pub shelf : Seen ShelfState
   pub poller : Seen PollerState
   pub clock : Seen ClockState
+
+-- what calls saw of shelf, poller and clock, from the ghost members of each, and its values before and after the calls
+abbrev pub inputs : {S P C : Type 0} → ShelfGhosts S → (shelf later_shelf : S) → PollerGhosts P → (poller later_poller : P)
+    → ClockGhosts C → (clock later_clock : C) → InputsSeen
+inputs of_shelf shelf later_shelf of_poller poller later_poller of_clock clock later_clock = record {
+  shelf = seen of_shelf.tells of_shelf.state shelf later_shelf;
+  poller = seen of_poller.tells of_poller.state poller later_poller;
+  clock = seen of_clock.tells of_clock.state clock later_clock;
+}
 
 -- the poller failed in the call
 abbrev pub PollerFailed : Seen PollerState → Type 0
@@ -23,8 +31,8 @@ count_after zero count = count
 count_after (suc n) count = next_count (count_after n count)
 
 -- so many loads were made in the call, if the shelf tells
-abbrev pub MadeLoads : ShelfSeen → ℕ → Type 0
-MadeLoads shelf n = shelf.tells ≡ true → shelf.loads_after ≡ count_after n shelf.loads_before
+abbrev pub MadeLoads : Seen ShelfState → ℕ → Type 0
+MadeLoads shelf n = shelf.tells ≡ true → shelf.after.loads ≡ count_after n shelf.before.loads
 
 -- calls on the outside: loads, listens, and the address of each listen that succeeded
 pub record Calls : Type 0 where

@@ -8,20 +8,20 @@ use Rattle.gcd_history.specs.History.{IsLawful}
 use Rattle.gcd_history.specs.declared.state.State.{State}
 use Rattle.gcd_journal.specs.Journals.{IsJournal, IsRefusedAt}
 use Rattle.gcd_journal.specs.Judged.{IsFirstBarred}
-use Rattle.gcd_outer.specs.Outside.{Bytes, ShelfSeen}
+use Rattle.gcd_outer.specs.Outside.{Bytes, Seen, ShelfState}
 use Rattle.gcd_commands.specs.End.{End, lawful_end, stop_end, unlawful_end}
 use Rattle.gcd_commands.specs.Loads.{IsLoaded, IsPlanOf, StopsLoad, StopsScript}
 use Rattle.gcd_commands.specs.declared.stop.Stop.{Stop}
 use Rattle.gcd_commands.specs.declared.stop.Stop.TheVariants.{Journal, Memory}
 
 -- what stands under the name was loaded, and is a journal of these events
-pub record IsJournalAt (shelf : ShelfSeen) (name : Bytes) (plan : PlanView) (h : List Event) : Type 0 where
+pub record IsJournalAt (shelf : Seen ShelfState) (name : Bytes) (plan : PlanView) (h : List Event) : Type 0 where
   pub text : Bytes
   pub loaded : IsLoaded shelf name max_file_bytes text
   pub journal_is : IsJournal max_events plan text h
 
 -- why no journal was read: its text was not loaded, where line 0 is the journal as a whole; or it is none
-pub data StopsJournal (shelf : ShelfSeen) (name : Bytes) (plan : PlanView) (stop : Stop) : Type 0 where
+pub data StopsJournal (shelf : Seen ShelfState) (name : Bytes) (plan : PlanView) (stop : Stop) : Type 0 where
   unloaded : StopsLoad shelf name max_file_bytes (Journal 0) stop → StopsJournal shelf name plan stop
   refused : (text : Bytes) (line : ℕ) → IsLoaded shelf name max_file_bytes text → IsRefusedAt max_events plan text line → stop ≡ Journal line
       → StopsJournal shelf name plan stop
@@ -33,13 +33,13 @@ pub data IsJudged (plan : PlanView) (h : List Event) (end : End) : Type 0 where
   lawful : (state : State) → IsLawful plan h → HasState plan h state → end ≡ lawful_end h state → IsJudged plan h end
 
 -- why `check` stops, after so many loads: at the script, at its journal, or where memory ran out after that
-pub data StopsCheck (shelf : ShelfSeen) (script journal : Bytes) (n : ℕ) (stop : Stop) : Type 0 where
+pub data StopsCheck (shelf : Seen ShelfState) (script journal : Bytes) (n : ℕ) (stop : Stop) : Type 0 where
   at_script : StopsScript shelf script stop → n ≡ 1 → StopsCheck shelf script journal n stop
   at_journal : (plan : PlanView) → IsPlanOf shelf script plan → StopsJournal shelf journal plan stop → n ≡ 2
       → StopsCheck shelf script journal n stop
 
 -- what `check` tells after so many loads: why it stopped; or the journal was read, and its events were judged
-pub data CheckEnds (shelf : ShelfSeen) (script journal : Bytes) (n : ℕ) (end : End) : Type 0 where
+pub data CheckEnds (shelf : Seen ShelfState) (script journal : Bytes) (n : ℕ) (end : End) : Type 0 where
   stopped : (stop : Stop) → StopsCheck shelf script journal n stop → stop_end stop ≡ Some end → CheckEnds shelf script journal n end
   judged : (plan : PlanView) (h : List Event) → IsPlanOf shelf script plan → IsJournalAt shelf journal plan h → IsJudged plan h end
       → n ≡ 2 → CheckEnds shelf script journal n end

@@ -9,9 +9,9 @@ use Rattle.gcd_history.specs.Ends.{IsQuiescent}
 use Rattle.gcd_history.specs.History.{is_ended}
 use Rattle.gcd_history.specs.Intake.{accepted_of, AcceptsOf, blocks_of_sender}
 use Rattle.gcd_history.specs.Report.{front_text, line_end}
-use Rattle.gcd_outer.specs.Outside.{Bytes, ClockState, Seen, ShelfSeen}
+use Rattle.gcd_outer.specs.Outside.{Bytes, ClockState, Seen, ShelfState}
 use Rattle.gcd_outer.specs.Tells.{PollerState}
-use Rattle.gcd_workers.specs.declared.jobs_run.JobsRun.{JobsRun}
+use Rattle.gcd_workers.specs.declared.ran.Ran.{Ran as Left}
 use Rattle.gcd_commands.specs.Calls.{InputsSeen}
 use Rattle.gcd_commands.specs.End.{End, stop_end}
 use Rattle.gcd_commands.specs.Loads.{IsPlanOf, IsReady, StopsFile, StopsScript}
@@ -22,7 +22,7 @@ use Rattle.gcd_commands.specs.declared.stop.Stop.TheVariants.{NoIntake, Memory}
 -- ## Where it stops
 
 -- why `front` stops, after so many loads: at the script; where that has no intake; at a file of it; or where memory ran out after that
-pub data StopsFront (shelf : ShelfSeen) (script : Bytes) (n : ℕ) (stop : Stop) : Type 0 where
+pub data StopsFront (shelf : Seen ShelfState) (script : Bytes) (n : ℕ) (stop : Stop) : Type 0 where
   at_script : StopsScript shelf script stop → n ≡ 1 → StopsFront shelf script n stop
   at_intake : (plan : PlanView) → IsPlanOf shelf script plan → plan.intake ≡ None → stop ≡ NoIntake → n ≡ 1
       → StopsFront shelf script n stop
@@ -32,7 +32,7 @@ pub data StopsFront (shelf : ShelfSeen) (script : Bytes) (n : ℕ) (stop : Stop)
       → n ≡ length plan.files + 1 → StopsFront shelf script n stop
 
 -- the loads of `front` up to some step: one of the script; one of each file of its plan, up to some file
-pub data IsFrontCount (shelf : ShelfSeen) (script : Bytes) (n : ℕ) : Type 0 where
+pub data IsFrontCount (shelf : Seen ShelfState) (script : Bytes) (n : ℕ) : Type 0 where
   of_script : n ≡ 1 → IsFrontCount shelf script n
   of_files : (plan : PlanView) (f : ℕ) → IsPlanOf shelf script plan → f ≤ length plan.files → n ≡ f + 1 → IsFrontCount shelf script n
 
@@ -91,7 +91,7 @@ sender_text values h s =
     ++ (codes " total " ++ (decimal (sum (map (λ b. value_or_0 values b.0) (blocks_of_sender h s))) ++ line_end)))))
 
 -- a plan has run beside so many senders; a block that has not ended has no value
-pub record RanBeside (plan : PlanView) (blocks senders : ℕ) (poller : Seen PollerState) (clock : Seen ClockState) (run : JobsRun) : Type 0 where
+pub record RanBeside (plan : PlanView) (blocks senders : ℕ) (poller : Seen PollerState) (clock : Seen ClockState) (run : Left) : Type 0 where
   pub ran : Ran poller clock plan front_workers max_events (AcceptsOf senders) run.journal.items run.state
   pub hears : (intake : IntakeView) → plan.intake ≡ Some intake → HearsSenders plan intake senders (value_or_0 run.values.items) run.journal.items
   pub few : (s : ℕ) → length (blocks_of_sender run.journal.items s) ≤ max_blocks

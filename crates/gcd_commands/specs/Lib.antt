@@ -9,3 +9,4 @@ pub mod Fronts
 pub mod Pages
 pub mod Listens
 pub mod Checks
+pub mod Commands

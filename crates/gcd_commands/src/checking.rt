@@ -1,9 +1,10 @@
 // The command that judges a journal.
 ghost use Rattle.std.specs.Prelude.{◌≡◌, ◌≤◌, length, IfOk, IfErr, OnErr};
 ghost use Rattle.gcd_plan.specs.Limits.{max_events};
-ghost use Rattle.gcd_outer.specs.Outside.{shelf_seen};
+ghost use Rattle.gcd_outer.specs.Outside.{seen};
 ghost use Rattle.gcd_commands.specs.Calls.{MadeLoads};
-ghost use Rattle.gcd_commands.specs.Checks.{CheckEnds, IsCheckCount, IsJournalAt, IsJudged, StopsCheck, StopsJournal};
+ghost use Rattle.gcd_commands.specs.Checks.{IsCheckCount, IsJournalAt, IsJudged, StopsJournal};
+ghost use Rattle.gcd_commands.specs.Commands.{CheckStops, CheckTells};
 ghost use Rattle.gcd_commands.specs.Loads.{SomeLoads};
 ghost use Rattle.gcd_commands.specs.Stories.{end_of};
 ghost use Rattle.gcd_commands.specs.declared.stop.Stop.TheVariants.{Memory};
@@ -25,10 +26,10 @@ fn load_journal<S: Shelf>(
     shelf: &mut S,
     name: &str,
 ) -> Result<Vec<Entry>, Stop>
-    ensures read { IfOk result (λ h. IsJournalAt (shelf_seen S.tells S.content S.loads S.faults shelf.old shelf.new) name.now plan.now h.items) }
-    ensures stopped { IfErr result (StopsJournal (shelf_seen S.tells S.content S.loads S.faults shelf.old shelf.new) name.now plan.now) }
-    ensures loads { MadeLoads (shelf_seen S.tells S.content S.loads S.faults shelf.old shelf.new) 1 }
-    ensures faults { S.faults shelf.old ≤ S.faults shelf.new }
+    ensures read { IfOk result (λ h. IsJournalAt (seen S.tells S.state shelf.old shelf.new) name.now plan.now h.items) }
+    ensures stopped { IfErr result (StopsJournal (seen S.tells S.state shelf.old shelf.new) name.now plan.now) }
+    ensures loads { MadeLoads (seen S.tells S.state shelf.old shelf.new) 1 }
+    ensures faults { (S.state shelf.old).faults ≤ (S.state shelf.new).faults }
 {
     let too_long = Stop::Journal { line: 0 };
     let text = load_whole(alloc, shelf, name, MAX_FILE_BYTES, too_long)?;
@@ -57,8 +58,8 @@ fn check_journal<S: Shelf>(
     request: CheckRequest,
     shelf: &mut S,
 ) -> Result<Story, Stop>
-    ensures reported { IfOk result (λ s. SomeLoads (shelf_seen S.tells S.content S.loads S.faults shelf.old shelf.new) (λ n. CheckEnds (shelf_seen S.tells S.content S.loads S.faults shelf.old shelf.new) request.entry.script.now request.entry.journal.now n (end_of s))) }
-    ensures stopped { IfErr result (λ stop. SomeLoads (shelf_seen S.tells S.content S.loads S.faults shelf.old shelf.new) (λ n. StopsCheck (shelf_seen S.tells S.content S.loads S.faults shelf.old shelf.new) request.entry.script.now request.entry.journal.now n stop)) }
+    ensures reported { IfOk result (λ s. CheckTells (seen S.tells S.state shelf.old shelf.new) request.entry (end_of s)) }
+    ensures stopped { IfErr result (CheckStops (seen S.tells S.state shelf.old shelf.new) request.entry) }
 {
     let plan = load_plan(alloc, shelf, request.script)?;
     let journal = load_journal(alloc, &plan, shelf, request.journal)?;
@@ -84,8 +85,8 @@ pub fn tell_check<S: Shelf>(
     request: CheckRequest,
     shelf: &mut S,
 ) -> Result<Story, AllocError>
-    ensures reported { IfOk result (λ s. SomeLoads (shelf_seen S.tells S.content S.loads S.faults shelf.old shelf.new) (λ n. CheckEnds (shelf_seen S.tells S.content S.loads S.faults shelf.old shelf.new) request.entry.script.now request.entry.journal.now n (end_of s))) }
-    ensures wanting { OnErr result (SomeLoads (shelf_seen S.tells S.content S.loads S.faults shelf.old shelf.new) IsCheckCount) }
+    ensures reported { IfOk result (λ s. CheckTells (seen S.tells S.state shelf.old shelf.new) request.entry (end_of s)) }
+    ensures wanting { OnErr result (SomeLoads (seen S.tells S.state shelf.old shelf.new) IsCheckCount) }
 {
     match check_journal(alloc, request, shelf) {
         Ok(story) => Ok(story),

@@ -1,80 +1,71 @@
 // The command that runs a script beside senders of jobs for its intake.
 ghost use Rattle.std.specs.Prelude.{◌≡◌, ◌<◌, ◌≤◌, ◌++◌, ℕ, List, Some, false, length, map, sum, codes, IfOk, IfErr, OnOk, OnErr};
 ghost use Rattle.std.specs.Fmt.{decimal};
-ghost use Rattle.gcd_plan.specs.Limits.{max_blocks};
+ghost use Rattle.gcd_plan.specs.Limits.{max_blocks, max_events};
 ghost use Rattle.gcd_plan.specs.PlanView.{IntakeView};
 ghost use Rattle.gcd_plan.specs.Validity.{IsPlan};
 ghost use Rattle.gcd_history.specs.History.{is_ended};
 ghost use Rattle.gcd_history.specs.Intake.{accepted_of, blocks_of_sender};
 ghost use Rattle.gcd_history.specs.Report.{front_text, line_end};
 ghost use Rattle.gcd_journal.specs.Spoken.{AreSpoken};
-ghost use Rattle.gcd_outer.specs.Outside.{shelf_seen};
+ghost use Rattle.gcd_outer.specs.Outside.{seen};
 ghost use Rattle.gcd_turn.specs.Asked.{KeepsListens};
 ghost use Rattle.gcd_words.specs.CommandLine.{max_front_senders};
-ghost use Rattle.gcd_commands.specs.Calls.{seen_by};
 ghost use Rattle.gcd_commands.specs.End.{ran_end};
-ghost use Rattle.gcd_commands.specs.Fronts.{FrontEnds, HasIntake, IsFrontCount, RanBeside, StopsFront, TellsFront, sender_text, value_or_0, values_at};
-ghost use Rattle.gcd_commands.specs.Loads.{SomeLoads};
+ghost use Rattle.gcd_commands.specs.Calls.{inputs};
+ghost use Rattle.gcd_commands.specs.Commands.{FrontBegins, FrontStops, FrontTells};
+ghost use Rattle.gcd_commands.specs.Fronts.{HasIntake, RanBeside, TellsFront, sender_text, value_or_0, values_at};
 ghost use Rattle.gcd_commands.specs.Stories.{end_of};
 
-use crate::front_job::Told;
+use crate::front_job::front_jobs;
 use crate::large::total;
 use crate::load::load_front;
-use crate::pool_side::run_with_senders;
-use crate::senders::{open_senders, settle_all};
+use crate::senders::{Senders, Shares};
 use crate::stop::Stop;
 use crate::story::Story;
 use gcd_event::{Entry, Event};
-use gcd_front::Front;
 use gcd_history::State;
 use gcd_journal::write_last_line;
 use gcd_outer::{Clock, Poller, Shelf};
-use gcd_plan::{Blk, Plan};
+use gcd_plan::{Blk, MAX_EVENTS, Plan};
 use gcd_words::FrontRequest;
-use gcd_workers::JobsRun;
+use gcd_workers::{Dispatch, Over, Ran};
 use std::alloc::{AllocError, Global};
 use std::sync::Wait;
 use std::thread::Threads;
 
-// The plan runs beside so many senders, each of which hands in its share of the intake's blocks. An `Err` comes where memory runs out,
-// or the system makes no thread for a worker.
+// How many workers run the plan.
+const WORKERS: u8 = 4;
+
+// The plan runs beside the senders, each of which hands in its share of the intake's blocks. Returns `Err` if memory runs out, or the
+// system makes no thread for a worker.
 fn run_beside_senders<R: Threads + Wait + Sync, P: Poller + Send, C: Clock + Send>(
     rt: &R,
     alloc: Global,
-    plan: &Plan,
-    files: &[Vec<u8>],
-    blocks: u32,
-    senders: u8,
+    over: Over,
+    senders: Senders,
     poller: &mut P,
     clock: &mut C,
-) -> Result<JobsRun, AllocError>
-    requires valid { IsPlan plan.now }
-    requires intake { HasIntake plan.now blocks }
-    requires senders { (0 < senders) × (senders ≤ max_front_senders) }
+) -> Result<Ran, AllocError>
+    requires valid { IsPlan over.plan.now }
+    requires intake { HasIntake over.plan.now senders.blocks }
+    requires most { over.most ≡ max_events }
+    requires senders { (0 < senders.count) × (senders.count ≤ max_front_senders) }
     requires unwatched { (feed : ℕ) → (P.state poller.old).watched feed ≡ false }
-    ensures ran { IfOk result (RanBeside plan.now blocks senders (seen_by P.tells P.state poller.old poller.new) (seen_by C.tells C.state clock.old clock.new)) }
+    ensures ran { IfOk result (RanBeside over.entry.plan.now senders.blocks senders.count (seen P.tells P.state poller.old poller.new) (seen C.tells C.state clock.old clock.new)) }
     ensures kept { KeepsListens P.tells (P.state poller.old) (P.state poller.new) }
 {
-    let (front, mouths, mut intake) = Front::<Told>::new(alloc, blocks, senders)?;
-    let mut made = open_senders(alloc, mouths)?;
-    let share = (blocks / u32::from(senders)) as u16;
-    let mut left = Err(AllocError);
-    run_with_senders(
-        rt,
-        alloc,
-        plan,
-        files,
-        &front,
-        &mut intake,
-        share,
-        &mut made,
-        poller,
-        clock,
-        &mut left,
-    );
-    let run = left?;
-    settle_all(&front, &mut intake, share, made.as_mut_slice());
-    Ok(run)
+    let given = Dispatch {
+        plan: over.plan,
+        workers: WORKERS,
+        most: over.most,
+        jobs: front_jobs(alloc, over.plan, over.files)?,
+    };
+    let mut shares = Shares {
+        share: (senders.blocks / u32::from(senders.count)) as u16,
+    };
+    let ran = given.run_beside(rt, alloc, senders.count, &mut shares, poller, clock)?;
+    Ok(ran)
 }
 
 // The block that the event accepts of this sender.
@@ -173,7 +164,7 @@ fn text_of(
 }
 
 // The story of a run, of which no more is kept than its journal. An `Err` comes where memory runs out.
-fn story_of(alloc: Global, plan: &Plan, run: JobsRun, senders: u8) -> Result<Story, AllocError>
+fn story_of(alloc: Global, plan: &Plan, run: Ran, senders: u8) -> Result<Story, AllocError>
     requires few { (s : ℕ) → length (blocks_of_sender run.journal.items s) ≤ max_blocks }
     requires others { (b : ℕ) → is_ended run.journal.items b ≡ false → value_or_0 run.values.items b ≡ 0 }
     requires spoken { AreSpoken plan.now run.journal.items }
@@ -187,22 +178,21 @@ fn story_of(alloc: Global, plan: &Plan, run: JobsRun, senders: u8) -> Result<Sto
 fn run_plan<R: Threads + Wait + Sync, P: Poller + Send, C: Clock + Send>(
     rt: &R,
     alloc: Global,
-    plan: &Plan,
-    files: &[Vec<u8>],
-    blocks: u32,
-    senders: u8,
+    over: Over,
+    senders: Senders,
     poller: &mut P,
     clock: &mut C,
 ) -> Result<Story, AllocError>
-    requires valid { IsPlan plan.now }
-    requires intake { HasIntake plan.now blocks }
-    requires senders { (0 < senders) × (senders ≤ max_front_senders) }
+    requires valid { IsPlan over.plan.now }
+    requires intake { HasIntake over.plan.now senders.blocks }
+    requires most { over.most ≡ max_events }
+    requires senders { (0 < senders.count) × (senders.count ≤ max_front_senders) }
     requires unwatched { (feed : ℕ) → (P.state poller.old).watched feed ≡ false }
-    ensures told { IfOk result (λ s. (intake : IntakeView) → plan.now.intake ≡ Some intake → TellsFront (seen_by P.tells P.state poller.old poller.new) (seen_by C.tells C.state clock.old clock.new) plan.now intake senders (end_of s)) }
+    ensures told { IfOk result (λ s. (intake : IntakeView) → over.entry.plan.now.intake ≡ Some intake → TellsFront (seen P.tells P.state poller.old poller.new) (seen C.tells C.state clock.old clock.new) over.entry.plan.now intake senders.count (end_of s)) }
     ensures kept { KeepsListens P.tells (P.state poller.old) (P.state poller.new) }
 {
-    let run = run_beside_senders(rt, alloc, plan, files, blocks, senders, poller, clock)?;
-    let story = story_of(alloc, plan, run, senders)?;
+    let run = run_beside_senders(rt, alloc, over, senders, poller, clock)?;
+    let story = story_of(alloc, over.plan, run, senders.count)?;
     Ok(story)
 }
 
@@ -217,21 +207,21 @@ fn front_script<R: Threads + Wait + Sync, S: Shelf, P: Poller + Send, C: Clock +
 ) -> Result<Story, Stop>
     requires senders { (0 < request.senders) × (request.senders ≤ max_front_senders) }
     requires unwatched { (feed : ℕ) → (P.state poller.old).watched feed ≡ false }
-    ensures told { IfOk result (λ s. SomeLoads (shelf_seen S.tells S.content S.loads S.faults shelf.old shelf.new) (λ n. FrontEnds (record { shelf = shelf_seen S.tells S.content S.loads S.faults shelf.old shelf.new; poller = seen_by P.tells P.state poller.old poller.new; clock = seen_by C.tells C.state clock.old clock.new }) request.entry.script.now request.entry.senders n (end_of s))) }
-    ensures stopped { IfErr result (λ stop. SomeLoads (shelf_seen S.tells S.content S.loads S.faults shelf.old shelf.new) (λ n. StopsFront (shelf_seen S.tells S.content S.loads S.faults shelf.old shelf.new) request.entry.script.now n stop)) }
+    ensures told { IfOk result (λ s. FrontTells (inputs S.Shelf shelf.old shelf.new P.Poller poller.old poller.new C.Clock clock.old clock.new) request.entry (end_of s)) }
+    ensures stopped { IfErr result (FrontStops (seen S.tells S.state shelf.old shelf.new) request.entry) }
     ensures kept { KeepsListens P.tells (P.state poller.old) (P.state poller.new) }
 {
     let (plan, files, blocks) = load_front(alloc, shelf, request.script)?;
-    match run_plan(
-        rt,
-        alloc,
-        &plan,
-        &files,
+    let over = Over {
+        plan: &plan,
+        files: &files,
+        most: MAX_EVENTS,
+    };
+    let senders = Senders {
+        count: request.senders,
         blocks,
-        request.senders,
-        poller,
-        clock,
-    ) {
+    };
+    match run_plan(rt, alloc, over, senders, poller, clock) {
         Ok(story) => Ok(story),
         Err(AllocError) => Err(Stop::Memory),
     }
@@ -264,8 +254,8 @@ pub fn tell_front<R: Threads + Wait + Sync, S: Shelf, P: Poller + Send, C: Clock
 ) -> Result<Story, AllocError>
     requires senders { (0 < request.senders) × (request.senders ≤ max_front_senders) }
     requires unwatched { (feed : ℕ) → (P.state poller.old).watched feed ≡ false }
-    ensures told { IfOk result (λ s. SomeLoads (shelf_seen S.tells S.content S.loads S.faults shelf.old shelf.new) (λ n. FrontEnds (record { shelf = shelf_seen S.tells S.content S.loads S.faults shelf.old shelf.new; poller = seen_by P.tells P.state poller.old poller.new; clock = seen_by C.tells C.state clock.old clock.new }) request.entry.script.now request.entry.senders n (end_of s))) }
-    ensures wanting { OnErr result (SomeLoads (shelf_seen S.tells S.content S.loads S.faults shelf.old shelf.new) (IsFrontCount (shelf_seen S.tells S.content S.loads S.faults shelf.old shelf.new) request.entry.script.now)) }
+    ensures told { IfOk result (λ s. FrontTells (inputs S.Shelf shelf.old shelf.new P.Poller poller.old poller.new C.Clock clock.old clock.new) request.entry (end_of s)) }
+    ensures wanting { OnErr result (FrontBegins (seen S.tells S.state shelf.old shelf.new) request.entry) }
     ensures kept { KeepsListens P.tells (P.state poller.old) (P.state poller.new) }
 {
     match front_script(rt, alloc, request, shelf, poller, clock) {

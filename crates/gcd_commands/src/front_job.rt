@@ -1,8 +1,10 @@
 // The jobs of a run beside senders.
-ghost use Rattle.std.specs.Prelude.{◌≡◌};
+ghost use Rattle.std.specs.Prelude.{◌≡◌, IfOk, length};
 
 use gcd_front::Sent;
 use gcd_jobs::{Admits, FileJob, Job};
+use gcd_plan::{Blk, Plan};
+use std::alloc::{AllocError, Global};
 
 /// What a sender hands in: a job that gives this number.
 #[derive(Clone, Copy)]
@@ -42,4 +44,21 @@ impl Admits<Told> for FrontJob<'_> {
     fn admit(sent: Told) -> Self {
         FrontJob::Told(sent)
     }
+}
+
+/// Makes the jobs of the blocks' works over the files, by number. Those of the intake's blocks are never run. Returns `Err` if memory runs
+/// out.
+pub fn front_jobs<'a>(
+    alloc: Global,
+    plan: &Plan,
+    files: &'a [Vec<u8>],
+) -> Result<Vec<FrontJob<'a>>, AllocError>
+    ensures { IfOk result (λ jobs. length jobs.items ≡ length plan.now.blocks) }
+{
+    let mut jobs = Vec::with_capacity(alloc, plan.blocks() as usize)?;
+    for number in 0..plan.blocks() {
+        let job = FileJob::new(files, plan.work(Blk(number)));
+        jobs.push(FrontJob::File(job))?;
+    }
+    Ok(jobs)
 }

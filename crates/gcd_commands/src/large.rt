@@ -7,7 +7,7 @@ ghost use Rattle.gcd_plan.specs.Validity.{IsPlan};
 ghost use Rattle.gcd_history.specs.Report.{last_line, line_end};
 ghost use Rattle.gcd_journal.specs.Spoken.{AreSpoken};
 ghost use Rattle.gcd_turn.specs.Asked.{KeepsListens};
-ghost use Rattle.gcd_commands.specs.Calls.{seen_by};
+ghost use Rattle.gcd_outer.specs.Outside.{seen};
 ghost use Rattle.gcd_commands.specs.End.{large_file, ran_end};
 ghost use Rattle.gcd_commands.specs.Runs.{BigEnds, IsLargeScript};
 ghost use Rattle.gcd_commands.specs.Stories.{end_of};
@@ -19,7 +19,7 @@ use gcd_outer::{Clock, Poller};
 use gcd_plan::{MAX_EVENTS, Plan};
 use gcd_script::{ParseFault, big_text, parse};
 use gcd_words::BigRequest;
-use gcd_workers::Outcome;
+use gcd_workers::{Outcome, Over};
 use std::alloc::{AllocError, Global};
 use std::sync::Wait;
 use std::thread::Threads;
@@ -116,21 +116,17 @@ pub fn tell_large<R: Threads + Wait + Sync, P: Poller, C: Clock>(
     requires unwatched { (feed : ℕ) → (P.state poller.old).watched feed ≡ false }
     requires count { (0 < request.count) × (request.count < max_blocks) }
     requires workers { (0 < request.workers) × (request.workers ≤ max_workers) }
-    ensures reported { IfOk result (λ s. BigEnds (seen_by P.tells P.state poller.old poller.new) (seen_by C.tells C.state clock.old clock.new) request.count request.workers (end_of s)) }
+    ensures reported { IfOk result (λ s. BigEnds (seen P.tells P.state poller.old poller.new) (seen C.tells C.state clock.old clock.new) request.count request.workers (end_of s)) }
     ensures kept { KeepsListens P.tells (P.state poller.old) (P.state poller.new) }
 {
     let plan = large_plan(alloc, u32::from(request.count))?;
     let files = large_files(alloc, &plan)?;
-    let run = run_by(
-        rt,
-        alloc,
-        &plan,
-        request.workers,
-        MAX_EVENTS,
-        &files,
-        poller,
-        clock,
-    )?;
+    let over = Over {
+        plan: &plan,
+        files: &files,
+        most: MAX_EVENTS,
+    };
+    let run = run_by(rt, alloc, over, request.workers, poller, clock)?;
     let story = story_of(alloc, &plan, run, request.count)?;
     Ok(story)
 }

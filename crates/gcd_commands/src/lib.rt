@@ -13,20 +13,22 @@
 //! given, runs the plan by as many workers as are asked for, up to as many events as are asked for (`gcd_workers`), and makes the text of
 //! the journal, if it is asked for, and the report (`gcd_journal`). `check` loads a script and a journal, of as many events as a run can
 //! have, and judges it. `big` runs the large script over a file that is made, up to as many events as a run can have. `front` loads a
-//! script, looks whether it has an intake, loads its files, and runs it by four workers (`run_front` of `gcd_workers`) beside threads that
-//! are no workers: each sends its jobs by a mouth of a front (`gcd_front`), which has room for all of them, and shuts it. A command ends
-//! at the first step that cannot go on.
+//! script, looks whether it has an intake, loads its files, and runs it by four workers beside threads that are no workers
+//! (`Dispatch::run_beside` of `gcd_workers`): each sends its jobs by a mouth of a front (`gcd_front`), which has room for all of them, and
+//! shuts it. A command ends at the first step that cannot go on.
 //!
 //! The model of a story is an `End` (`end_of`): the same four, as plain values. The contracts speak of what the call saw of the shelf,
-//! the poller and the clock (`gcd_outer`), before and after, and of how many loads and listens it made (`Calls`).
+//! the poller and the clock (`gcd_outer`), before and after, and of how many loads and listens it made (`Calls`). `inputs` makes one value
+//! of the three; `S.Shelf` in a clause means the ghost members of the shelf, and so on. The words of the clauses are in `specs/Commands`:
+//! each says that some calls were made, and gives the relation of the command for them.
 //!
 //! | clause | says |
 //! |---|---|
-//! | `reported` of `tell_run` (`RunEnds`) | why it stopped, and the story of that stop; or the script declares a valid plan, it and each file was loaded once, a listen was made if an address is given, the plan ran (`Ran`), and the story is that of its journal and state |
-//! | `reported` of `tell_check` (`CheckEnds`) | why it stopped, and the story of that stop; or script and journal were loaded and read, and the story says that the events are lawful, or which is the first that is not permitted |
+//! | `reported` of `tell_run` (`RunTells`: `RunEnds`) | why it stopped, and the story of that stop; or the script declares a valid plan, it and each file was loaded once, a listen was made if an address is given, the plan ran (`Ran`), and the story is that of its journal and state |
+//! | `reported` of `tell_check` (`CheckTells`: `CheckEnds`) | why it stopped, and the story of that stop; or script and journal were loaded and read, and the story says that the events are lawful, or which is the first that is not permitted |
 //! | `reported` of `tell_large` (`BigEnds`) | the plan is that of the large script with so many blocks, its files are the large file, it ran, and the story is that of its journal and state |
-//! | `told` of `tell_front` (`FrontEnds`) | as `reported` of `tell_run`; each accepted job is one of a sender, those of each sender stand in its order, a block of the intake that has ended has the value of its sender's job, and if the run has come to rest each sender's jobs are all accepted (`HearsSenders`) |
-//! | `wanting` (`RunCalls`, `IsCheckCount`, `IsFrontCount`) | if the answer is `Err`, which loads and listens may have been made |
+//! | `told` of `tell_front` (`FrontTells`: `FrontEnds`) | as `reported` of `tell_run`; each accepted job is one of a sender, those of each sender stand in its order, a block of the intake that has ended has the value of its sender's job, and if the run has come to rest each sender's jobs are all accepted (`HearsSenders`) |
+//! | `wanting` (`RunBegins`, `IsCheckCount`, `FrontBegins`) | if the answer is `Err`, which loads and listens may have been made |
 //! | `kept` of `tell_large`, `tell_front` | no listen was made, and the poller's count of faults did not fall |
 //!
 //! `Ran` is `RunsPlan` of `gcd_loop` and the end that the state names: a lawful journal, of at most as many events as are asked for, of
@@ -46,7 +48,6 @@ mod front;
 mod front_job;
 mod large;
 mod load;
-mod pool_side;
 mod running;
 mod senders;
 mod status;

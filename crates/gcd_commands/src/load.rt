@@ -1,7 +1,7 @@
 // Contents from the shelf, and the plan of a script.
 ghost use Rattle.std.specs.Prelude.{◌≡◌, ◌≤◌, ◌+◌, length, map, IfOk, IfErr};
 ghost use Rattle.gcd_plan.specs.PlanView.{file_view};
-ghost use Rattle.gcd_outer.specs.Outside.{shelf_seen};
+ghost use Rattle.gcd_outer.specs.Outside.{seen};
 ghost use Rattle.gcd_commands.specs.Calls.{MadeLoads};
 ghost use Rattle.gcd_commands.specs.Fronts.{HasIntake, StopsFront};
 ghost use Rattle.gcd_commands.specs.Loads.{IsLoaded, AreLoaded, IsPlanOf, IsReady, StopsLoad, StopsScript, StopsFiles, StopsReady, SomeLoads};
@@ -20,11 +20,11 @@ pub fn load_whole<S: Shelf>(
     most: u32,
     longer: Stop,
 ) -> Result<Vec<u8>, Stop>
-    ensures loaded { IfOk result (λ bytes. IsLoaded (shelf_seen S.tells S.content S.loads S.faults shelf.old shelf.new) name.now most bytes.items) }
-    ensures stopped { IfErr result (StopsLoad (shelf_seen S.tells S.content S.loads S.faults shelf.old shelf.new) name.now most longer) }
-    ensures same { S.content shelf.new ≡ S.content shelf.old }
-    ensures faults { S.faults shelf.old ≤ S.faults shelf.new }
-    ensures loads { MadeLoads (shelf_seen S.tells S.content S.loads S.faults shelf.old shelf.new) 1 }
+    ensures loaded { IfOk result (λ bytes. IsLoaded (seen S.tells S.state shelf.old shelf.new) name.now most bytes.items) }
+    ensures stopped { IfErr result (StopsLoad (seen S.tells S.state shelf.old shelf.new) name.now most longer) }
+    ensures same { (S.state shelf.new).content ≡ (S.state shelf.old).content }
+    ensures faults { (S.state shelf.old).faults ≤ (S.state shelf.new).faults }
+    ensures loads { MadeLoads (seen S.tells S.state shelf.old shelf.new) 1 }
 {
     let mut bytes = Vec::new(alloc);
     match shelf.load(name, most as usize, &mut bytes) {
@@ -38,11 +38,11 @@ pub fn load_whole<S: Shelf>(
 
 /// Loads the script of this name, by one load, and reads its plan.
 pub fn load_plan<S: Shelf>(alloc: Global, shelf: &mut S, name: &str) -> Result<Plan, Stop>
-    ensures plan { IfOk result (IsPlanOf (shelf_seen S.tells S.content S.loads S.faults shelf.old shelf.new) name.now) }
-    ensures stopped { IfErr result (StopsScript (shelf_seen S.tells S.content S.loads S.faults shelf.old shelf.new) name.now) }
-    ensures same { S.content shelf.new ≡ S.content shelf.old }
-    ensures faults { S.faults shelf.old ≤ S.faults shelf.new }
-    ensures loads { MadeLoads (shelf_seen S.tells S.content S.loads S.faults shelf.old shelf.new) 1 }
+    ensures plan { IfOk result (IsPlanOf (seen S.tells S.state shelf.old shelf.new) name.now) }
+    ensures stopped { IfErr result (StopsScript (seen S.tells S.state shelf.old shelf.new) name.now) }
+    ensures same { (S.state shelf.new).content ≡ (S.state shelf.old).content }
+    ensures faults { (S.state shelf.old).faults ≤ (S.state shelf.new).faults }
+    ensures loads { MadeLoads (seen S.tells S.state shelf.old shelf.new) 1 }
 {
     let too_long = Stop::Script {
         line: 0,
@@ -62,11 +62,11 @@ pub fn load_files<S: Shelf>(
     shelf: &mut S,
     files: &[FilePart],
 ) -> Result<Vec<Vec<u8>>, Stop>
-    ensures loaded { IfOk result (λ contents. AreLoaded (shelf_seen S.tells S.content S.loads S.faults shelf.old shelf.new) (map file_view files.now) (map (λ c. c.items) contents.items)) }
-    ensures loads { IfOk result (λ _. MadeLoads (shelf_seen S.tells S.content S.loads S.faults shelf.old shelf.new) (length files.now)) }
-    ensures stopped { IfErr result (StopsFiles (shelf_seen S.tells S.content S.loads S.faults shelf.old shelf.new) (map file_view files.now)) }
-    ensures faults { S.faults shelf.old ≤ S.faults shelf.new }
-    ensures same { S.content shelf.new ≡ S.content shelf.old }
+    ensures loaded { IfOk result (λ contents. AreLoaded (seen S.tells S.state shelf.old shelf.new) (map file_view files.now) (map (λ c. c.items) contents.items)) }
+    ensures loads { IfOk result (λ _. MadeLoads (seen S.tells S.state shelf.old shelf.new) (length files.now)) }
+    ensures stopped { IfErr result (StopsFiles (seen S.tells S.state shelf.old shelf.new) (map file_view files.now)) }
+    ensures faults { (S.state shelf.old).faults ≤ (S.state shelf.new).faults }
+    ensures same { (S.state shelf.new).content ≡ (S.state shelf.old).content }
 {
     let mut contents = Vec::new(alloc);
     for file in files {
@@ -88,9 +88,9 @@ pub fn load_all<S: Shelf>(
     shelf: &mut S,
     name: &str,
 ) -> Result<(Plan, Vec<Vec<u8>>), Stop>
-    ensures ready { IfOk result (λ r. IsReady (shelf_seen S.tells S.content S.loads S.faults shelf.old shelf.new) name.now r.0 (map (λ c. c.items) r.1.items)) }
-    ensures loads { IfOk result (λ r. MadeLoads (shelf_seen S.tells S.content S.loads S.faults shelf.old shelf.new) (length r.0.files + 1)) }
-    ensures stopped { IfErr result (λ stop. SomeLoads (shelf_seen S.tells S.content S.loads S.faults shelf.old shelf.new) (λ n. StopsReady (shelf_seen S.tells S.content S.loads S.faults shelf.old shelf.new) name.now n stop)) }
+    ensures ready { IfOk result (λ r. IsReady (seen S.tells S.state shelf.old shelf.new) name.now r.0 (map (λ c. c.items) r.1.items)) }
+    ensures loads { IfOk result (λ r. MadeLoads (seen S.tells S.state shelf.old shelf.new) (length r.0.files + 1)) }
+    ensures stopped { IfErr result (λ stop. SomeLoads (seen S.tells S.state shelf.old shelf.new) (λ n. StopsReady (seen S.tells S.state shelf.old shelf.new) name.now n stop)) }
 {
     let plan = load_plan(alloc, shelf, name)?;
     let files = load_files(alloc, shelf, plan.files())?;
@@ -104,10 +104,10 @@ pub fn load_front<S: Shelf>(
     shelf: &mut S,
     name: &str,
 ) -> Result<(Plan, Vec<Vec<u8>>, u32), Stop>
-    ensures ready { IfOk result (λ r. IsReady (shelf_seen S.tells S.content S.loads S.faults shelf.old shelf.new) name.now r.0 (map (λ c. c.items) r.1.items)) }
+    ensures ready { IfOk result (λ r. IsReady (seen S.tells S.state shelf.old shelf.new) name.now r.0 (map (λ c. c.items) r.1.items)) }
     ensures intake { IfOk result (λ r. HasIntake r.0 r.2) }
-    ensures loads { IfOk result (λ r. MadeLoads (shelf_seen S.tells S.content S.loads S.faults shelf.old shelf.new) (length r.0.files + 1)) }
-    ensures stopped { IfErr result (λ stop. SomeLoads (shelf_seen S.tells S.content S.loads S.faults shelf.old shelf.new) (λ n. StopsFront (shelf_seen S.tells S.content S.loads S.faults shelf.old shelf.new) name.now n stop)) }
+    ensures loads { IfOk result (λ r. MadeLoads (seen S.tells S.state shelf.old shelf.new) (length r.0.files + 1)) }
+    ensures stopped { IfErr result (λ stop. SomeLoads (seen S.tells S.state shelf.old shelf.new) (λ n. StopsFront (seen S.tells S.state shelf.old shelf.new) name.now n stop)) }
 {
     let plan = load_plan(alloc, shelf, name)?;
     let Some((_, _, blocks)) = plan.intake() else {

@@ -10,14 +10,14 @@ ghost use Rattle.gcd_jobs.specs.BlockValues.{has_given};
 ghost use Rattle.gcd_history.specs.declared.state.State.{State};
 ghost use Rattle.gcd_history.specs.Intake.{AcceptsNone};
 ghost use Rattle.gcd_machine.specs.Stands.{StandsFor};
-ghost use Rattle.gcd_outer.specs.Outside.{shelf_seen};
+ghost use Rattle.gcd_outer.specs.Outside.{seen};
 ghost use Rattle.gcd_turn.specs.Asked.{KeepsListens};
-ghost use Rattle.gcd_commands.specs.Calls.{SomeCalls, seen_by};
+ghost use Rattle.gcd_commands.specs.Calls.{inputs};
+ghost use Rattle.gcd_commands.specs.Commands.{RunBegins, RunStops, RunTells};
 ghost use Rattle.gcd_commands.specs.Listens.{FailsToListen, Listened};
 ghost use Rattle.gcd_commands.specs.End.{ran_end, run_text};
-ghost use Rattle.gcd_commands.specs.Runs.{RunCalls, RunEnds, StopsRun, TellsRun};
+ghost use Rattle.gcd_commands.specs.Runs.{TellsRun};
 ghost use Rattle.gcd_commands.specs.Stories.{end_of};
-ghost use Rattle.gcd_words.specs.Requests.{run_asked};
 
 use crate::engine::{journal_of, run_by};
 use crate::load::load_all;
@@ -28,15 +28,15 @@ use gcd_journal::{write_journal, write_report_by};
 use gcd_outer::{Clock, Poller, Shelf};
 use gcd_plan::Plan;
 use gcd_words::RunRequest;
-use gcd_workers::Outcome;
+use gcd_workers::{Outcome, Over};
 use std::alloc::{AllocError, Global};
 use std::sync::Wait;
 use std::thread::Threads;
 
 // Connections are accepted at the address, if there is one.
 fn listen_at<P: Poller>(poller: &mut P, address: Option<&str>) -> Result<(), Stop>
-    ensures listened { OnOk result (Listened (seen_by P.tells P.state poller.old poller.new) (option_map (λ a. a.now) address.entry)) }
-    ensures failed { IfErr result (FailsToListen (seen_by P.tells P.state poller.old poller.new) (option_map (λ a. a.now) address.entry)) }
+    ensures listened { OnOk result (Listened (seen P.tells P.state poller.old poller.new) (option_map (λ a. a.now) address.entry)) }
+    ensures failed { IfErr result (FailsToListen (seen P.tells P.state poller.old poller.new) (option_map (λ a. a.now) address.entry)) }
     ensures unwatched { (feed : ℕ) → (P.state poller.new).watched feed ≡ (P.state poller.old).watched feed }
 {
     match address {
@@ -120,24 +120,21 @@ fn story_of(
 fn run_plan<R: Threads + Wait + Sync, P: Poller, C: Clock>(
     rt: &R,
     alloc: Global,
-    plan: &Plan,
-    workers: u8,
-    most: u32,
-    files: &[Vec<u8>],
-    with_journal: bool,
+    over: Over,
+    request: RunRequest,
     poller: &mut P,
     clock: &mut C,
 ) -> Result<Story, AllocError>
-    requires valid { IsPlan plan.now }
-    requires files { length files.now ≡ length plan.now.files }
-    requires workers { (0 < workers) × (workers ≤ max_workers) }
-    requires most { (0 < most) × (most ≤ max_events) }
+    requires valid { IsPlan over.plan.now }
+    requires files { length over.files.now ≡ length over.plan.now.files }
+    requires workers { (0 < request.workers) × (request.workers ≤ max_workers) }
+    requires most { (0 < over.most) × (over.most ≤ max_events) }
     requires unwatched { (feed : ℕ) → (P.state poller.old).watched feed ≡ false }
-    ensures reported { IfOk result (λ s. TellsRun (seen_by P.tells P.state poller.old poller.new) (seen_by C.tells C.state clock.old clock.new) plan.now workers most AcceptsNone (run_text with_journal plan.now (map (λ f. f.items) files.now)) (end_of s)) }
+    ensures reported { IfOk result (λ s. TellsRun (seen P.tells P.state poller.old poller.new) (seen C.tells C.state clock.old clock.new) over.entry.plan.now request.entry.workers over.entry.most AcceptsNone (run_text request.entry.journal over.entry.plan.now (map (λ f. f.items) over.entry.files.now)) (end_of s)) }
     ensures kept { KeepsListens P.tells (P.state poller.old) (P.state poller.new) }
 {
-    let run = run_by(rt, alloc, plan, workers, most, files, poller, clock)?;
-    let story = story_of(alloc, plan, run, with_journal)?;
+    let run = run_by(rt, alloc, over, request.workers, poller, clock)?;
+    let story = story_of(alloc, over.plan, run, request.journal)?;
     Ok(story)
 }
 
@@ -153,22 +150,17 @@ fn run_script<R: Threads + Wait + Sync, S: Shelf, P: Poller, C: Clock>(
     requires unwatched { (feed : ℕ) → (P.state poller.old).watched feed ≡ false }
     requires workers { (0 < request.workers) × (request.workers ≤ max_workers) }
     requires most { (0 < request.most) × (request.most ≤ max_events) }
-    ensures reported { IfOk result (λ s. SomeCalls (record { shelf = shelf_seen S.tells S.content S.loads S.faults shelf.old shelf.new; poller = seen_by P.tells P.state poller.old poller.new; clock = seen_by C.tells C.state clock.old clock.new }) (λ calls. RunEnds (record { shelf = shelf_seen S.tells S.content S.loads S.faults shelf.old shelf.new; poller = seen_by P.tells P.state poller.old poller.new; clock = seen_by C.tells C.state clock.old clock.new }) (run_asked request.entry) calls (end_of s))) }
-    ensures stopped { IfErr result (λ stop. SomeCalls (record { shelf = shelf_seen S.tells S.content S.loads S.faults shelf.old shelf.new; poller = seen_by P.tells P.state poller.old poller.new; clock = seen_by C.tells C.state clock.old clock.new }) (λ calls. StopsRun (record { shelf = shelf_seen S.tells S.content S.loads S.faults shelf.old shelf.new; poller = seen_by P.tells P.state poller.old poller.new; clock = seen_by C.tells C.state clock.old clock.new }) (run_asked request.entry) calls stop)) }
+    ensures reported { IfOk result (λ s. RunTells (inputs S.Shelf shelf.old shelf.new P.Poller poller.old poller.new C.Clock clock.old clock.new) request.entry (end_of s)) }
+    ensures stopped { IfErr result (RunStops (inputs S.Shelf shelf.old shelf.new P.Poller poller.old poller.new C.Clock clock.old clock.new) request.entry) }
 {
     let (plan, files) = load_all(alloc, shelf, request.script)?;
     listen_at(poller, request.listen)?;
-    match run_plan(
-        rt,
-        alloc,
-        &plan,
-        request.workers,
-        request.most,
-        &files,
-        request.journal,
-        poller,
-        clock,
-    ) {
+    let over = Over {
+        plan: &plan,
+        files: &files,
+        most: request.most,
+    };
+    match run_plan(rt, alloc, over, request, poller, clock) {
         Ok(story) => Ok(story),
         Err(AllocError) => Err(Stop::Memory),
     }
@@ -198,8 +190,8 @@ pub fn tell_run<R: Threads + Wait + Sync, S: Shelf, P: Poller, C: Clock>(
     requires unwatched { (feed : ℕ) → (P.state poller.old).watched feed ≡ false }
     requires workers { (0 < request.workers) × (request.workers ≤ max_workers) }
     requires most { (0 < request.most) × (request.most ≤ max_events) }
-    ensures reported { IfOk result (λ s. SomeCalls (record { shelf = shelf_seen S.tells S.content S.loads S.faults shelf.old shelf.new; poller = seen_by P.tells P.state poller.old poller.new; clock = seen_by C.tells C.state clock.old clock.new }) (λ calls. RunEnds (record { shelf = shelf_seen S.tells S.content S.loads S.faults shelf.old shelf.new; poller = seen_by P.tells P.state poller.old poller.new; clock = seen_by C.tells C.state clock.old clock.new }) (run_asked request.entry) calls (end_of s))) }
-    ensures wanting { OnErr result (SomeCalls (record { shelf = shelf_seen S.tells S.content S.loads S.faults shelf.old shelf.new; poller = seen_by P.tells P.state poller.old poller.new; clock = seen_by C.tells C.state clock.old clock.new }) (RunCalls (record { shelf = shelf_seen S.tells S.content S.loads S.faults shelf.old shelf.new; poller = seen_by P.tells P.state poller.old poller.new; clock = seen_by C.tells C.state clock.old clock.new }) (run_asked request.entry))) }
+    ensures reported { IfOk result (λ s. RunTells (inputs S.Shelf shelf.old shelf.new P.Poller poller.old poller.new C.Clock clock.old clock.new) request.entry (end_of s)) }
+    ensures wanting { OnErr result (RunBegins (inputs S.Shelf shelf.old shelf.new P.Poller poller.old poller.new C.Clock clock.old clock.new) request.entry) }
 {
     match run_script(rt, alloc, request, shelf, poller, clock) {
         Ok(story) => Ok(story),

@@ -1,48 +1,26 @@
-// The senders beside a run: threads that are no workers, each of which sends its jobs and then shuts its mouth.
-ghost use Rattle.std.specs.Prelude.{◌≡◌, ◌<◌, ◌^◌, ◌+◌, ◌++◌, ℕ, List, [], All, Some, IfOk, IfSome, length, map, slice_index_or};
-ghost use Rattle.gcd_front.specs.Fronts.{IsIntakeOf, IsLeftOf, IsMouthOf, KnowsAccount, TookAll};
-ghost use Rattle.gcd_front.specs.Queue.{jobs_of};
-ghost use Rattle.gcd_front.specs.Views.{LeftView, mouth_of, with_account, with_job};
-ghost use Rattle.gcd_commands.specs.Senders.{EachSends, HasSent, IsSender, IsTakenOf, Sends, sender_with, told_by};
-ghost use Rattle.gcd_commands.specs.declared.front_job.Told.{Told as AnyTold};
-ghost use Rattle.gcd_commands.specs.declared.senders.Sender.{Sender as AnySender};
+// The senders of a run, in threads that are no workers.
+ghost use Rattle.std.specs.Prelude.{◌≡◌, ◌<◌, ◌+◌, ◌^◌, [], All, length};
+ghost use Rattle.gcd_front.specs.Fronts.{IsMouthOf, new_mouths};
+ghost use Rattle.gcd_front.specs.Views.{mouth_of, with_job};
+ghost use Rattle.gcd_commands.specs.Senders.{EachSends, IsOpen, Sends, told_by};
 
 use crate::front_job::Told;
-use gcd_front::{Front, Intake, Left, MAX_SENDERS, Mouth};
-use gcd_workers::Side;
-use std::alloc::{AllocError, Global};
+use gcd_front::{Front, MAX_SENDERS, Mouth};
+use gcd_workers::Callers;
 use std::sync::Wait;
 use std::thread::{Threads, for_each_mut};
 
-/// A sender: its mouth, until it has sent all its jobs, and then what is left of that.
-#[derive(Drop)]
-pub struct Sender {
-    pub mouth: Option<Mouth<Told>>,
-    pub left: Option<Left<Told>>,
+/// Who hands in jobs: so many senders, at least 1, each its share of the jobs for so many blocks of an intake.
+#[derive(Clone, Copy)]
+pub struct Senders {
+    pub count: u8,
+    pub blocks: u32,
 }
 
-/// The senders of a run, each of which hands in so many jobs.
+/// Senders of which each hands in so many jobs.
 #[derive(Drop)]
-pub struct Senders<'a> {
-    pub front: &'a Front<Told>,
+pub struct Shares {
     pub share: u16,
-    pub senders: &'a mut Vec<Sender>,
-}
-
-fn open_sender(mouth: Mouth<Told>) -> Sender
-    ensures { result ≡ sender_with mouth }
-{
-    Sender {
-        mouth: Some(mouth),
-        left: None,
-    }
-}
-
-/// A sender for each mouth, in their order. An `Err` comes where memory runs out.
-pub fn open_senders(alloc: Global, mouths: Vec<Mouth<Told>>) -> Result<Vec<Sender>, AllocError>
-    ensures { IfOk result (λ made. made.items ≡ map sender_with mouths.items) }
-{
-    mouths.into_iter().map(open_sender).collect(alloc)
 }
 
 // Sends the job again until it is accepted.
@@ -71,75 +49,34 @@ fn send_all<R: Wait>(rt: &R, front: &Front<Told>, mouth: &mut Mouth<Told>, share
     }
 }
 
-// What one sender does, to the end.
-fn run_sender<R: Wait>(rt: &R, front: &Front<Told>, share: u16, sender: &mut Sender)
-    requires { IsSender front.now sender.old }
-    ensures { Sends front.now share sender.old sender.new }
-{
-    if let Some(mut mouth) = sender.mouth.take() {
-        send_all(rt, front, &mut mouth, share);
-        sender.left = Some(mouth.shut(front));
-    }
-}
-
-// Each sender in a thread of its own, or one after another where the system makes none.
-fn run_senders<R: Threads + Wait + Sync>(
+// Each sender sends so many jobs in a thread of its own, or after the one before it if the system makes none.
+fn send_each<R: Threads + Wait + Sync>(
     rt: &R,
     front: &Front<Told>,
     share: u16,
-    senders: &mut [Sender],
+    mouths: &mut [Mouth<Told>],
 )
-    requires { All (IsSender front.now) senders.old }
-    ensures { EachSends front.now share senders.old senders.new }
+    requires { All (IsOpen front.now) mouths.old }
+    ensures { EachSends share mouths.old mouths.new }
 {
-    let each = |_place: usize, sender: &mut Sender|
-        requires { IsSender front.now sender.old }
-        ensures { Sends front.entry.now share sender.old sender.new }
-    { run_sender(rt, front, share, sender) };
-    for_each_mut(rt, senders, usize::from(MAX_SENDERS), &each);
+    let each = |_place: usize, mouth: &mut Mouth<Told>|
+        requires { IsOpen front.now mouth.old }
+        ensures { Sends share mouth.old mouth.new }
+    { send_all(rt, front, mouth, share) };
+    for_each_mut(rt, mouths, usize::from(MAX_SENDERS), &each);
 }
 
-impl Side for Senders<'_> {
-    ghost use Rattle.gcd_commands.specs.Senders.{AreSenders, HaveSent};
+impl Callers<Told> for Shares {
+    ghost use Rattle.gcd_commands.specs.Senders.{HaveSent};
 
-    ghost ready = { AreSenders };
+    ghost called = { λ was is mouths. HaveSent was.share mouths };
 
-    ghost ran = { HaveSent };
-
-    fn run<R: Threads + Wait + Sync>(&mut self, rt: &R) {
-        run_senders(rt, self.front, self.share, self.senders.as_mut_slice());
-    }
-}
-
-// Holds what is left of a sender's mouth against what was taken of it.
-fn settle(front: &Front<Told>, intake: &mut Intake<Told>, sender: &mut Sender)
-    requires intake { IsIntakeOf front.now intake.old }
-    requires left { IfSome sender.old.left (IsLeftOf front.now) }
-    ensures same { sender.new ≡ sender.old }
-    ensures intake { (l : LeftView AnyTold) → sender.old.left ≡ Some l → intake.new ≡ with_account intake.old l }
-    ensures begins { (l : LeftView AnyTold) → sender.old.left ≡ Some l
-        → (rest : List AnyTold) × (l.sent ≡ jobs_of l.sender intake.old.taken ++ rest) }
-    ensures all { (l : LeftView AnyTold) → sender.old.left ≡ Some l → TookAll intake.old → KnowsAccount l.sender intake.old
-        → (l.sent ≡ jobs_of l.sender intake.old.taken) × TookAll intake.new }
-{
-    if let Some(left) = &mut sender.left {
-        intake.settle(front, left);
-    }
-}
-
-/// Holds what is left of each sender's mouth against what was taken of it.
-pub fn settle_all(
-    front: &Front<Told>,
-    intake: &mut Intake<Told>,
-    _share: u16,
-    senders: &mut [Sender],
-)
-    requires intake { IsIntakeOf front.now intake.old }
-    requires count { length senders.old ≡ front.now.senders }
-    requires sent { (s : ℕ) (d : AnySender) → s < length senders.old → HasSent front.now _share s (slice_index_or senders.old s d) }
-    ensures { (s : ℕ) → s < length senders.old → IsTakenOf front.now intake.old _share s }
-{
-    for place in 0..senders.len() {
-        settle(front, intake, &mut senders[place]);
+    fn call<R: Threads + Wait + Sync>(
+        &mut self,
+        rt: &R,
+        front: &Front<Told>,
+        mouths: &mut [Mouth<Told>],
+    ) {
+        send_each(rt, front, self.share, mouths);
     }
 }

@@ -1,3 +1,4 @@
 mod Queueing
 mod Noting
 mod Hearing
+mod Lefts

@@ -1,5 +1,5 @@
 -- What the calls of a front ask, and what they tell.
-use Rattle.std.specs.Prelude.{◌≡◌, ℕ, ◌+◌, ◌<◌, List, [], ◌∷◌, ◌++◌, length, map}
+use Rattle.std.specs.Prelude.{◌≡◌, ℕ, ◌+◌, ◌<◌, List, [], ◌∷◌, ◌++◌, Some, length, map, slice_get}
 use Rattle.std.specs.List.{range_with_len}
 use Rattle.crossbeam_queue.specs.Fifo.{Held}
 use Rattle.gcd_front.specs.declared.ledger.Account.{Account}
@@ -64,3 +64,21 @@ module _ {S : Type 0} where
     pub sender : ℕ
     pub of_front : sender < f.senders
     pub last : w.opens ≡ v.opens ++ sender ∷ []
+
+  -- What was taken of a sender of the front is how the jobs begin that were sent through its mouth; it is all of them where the intake
+  -- knew that all mouths were shut, and has taken all.
+  pub record IsTakenOf (f : FrontView) (i : IntakeView S) (sender : ℕ) (sent : List S) : Type 0 where
+    pub rest : List S
+    pub begins : sent ≡ jobs_of sender i.taken ++ rest
+    pub all : KnowsAll f i → TookAll i → sent ≡ jobs_of sender i.taken
+
+  -- so it is of each mouth of which this is left
+  abbrev pub AreTaken : FrontView → IntakeView S → List (LeftView S) → Type 0
+  AreTaken f i lefts = (k : ℕ) (l : LeftView S) → slice_get lefts k ≡ Some l → l.sender < f.senders → IsTakenOf f i l.sender l.sent
+
+  -- what is left of a mouth was held against the intake, which has taken nothing more
+  pub record Settles (f : FrontView) (l : LeftView S) (i j : IntakeView S) : Type 0 where
+    pub front : j.front ≡ i.front
+    pub taken : j.taken ≡ i.taken
+    pub of_sender : l.sender < f.senders → IsTakenOf f i l.sender l.sent
+    pub still : KnowsAll f i → TookAll i → KnowsAll f j × TookAll j

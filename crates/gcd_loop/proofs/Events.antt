@@ -1,7 +1,8 @@
 -- Which events are told, put or chosen.
-use Rattle.std.proofs.Common.{◌≡◌, ℕ, Bool, true, false, List, [], ◌∷◌, Some, None, ap, sym, refl, if◌then◌else◌}
+use Rattle.std.proofs.Common.{◌≡◌, ℕ, Bool, true, false, List, [], ◌∷◌, Some, None, Option, ap, sym, refl, if◌then◌else◌}
 use Rattle.std.proofs.lemmas.Option.{same_Some}
 use Rattle.gcd_plan.specs.PlanView.{PlanView}
+use Rattle.gcd_plan.specs.declared.why.Why.{Why}
 use Rattle.gcd_event.specs.declared.event.Event.{Event}
 use Rattle.gcd_event.specs.declared.event.Event.TheVariants.{Start, Act as Acted, Wake, End, Deliver, DeliverEnd, Tick, Ready, FeedEnd, Misuse, Halt, Expire, Accept, Shut}
 use Rattle.gcd_history.specs.Choice.{is_work}
@@ -104,6 +105,10 @@ halt_barred plan h barred = go (is_halted h) refl
     go : (b : Bool) → is_halted h ≡ b → is_halted h ≡ true
     go true at = at
     go false at = absurd (barred (halt_may_come plan h at))
+
+-- an event that is refused may not come
+pub refused : (o : Option Why) (y : Why) → o ≡ Some y → o ≡ None → ⊥
+refused o y some none = cc
 
 -- the time of a Tick, and 0 for any other event
 abbrev pub tick_time : Event → ℕ

@@ -11,6 +11,8 @@ use Rattle.gcd_history.specs.Choice.{is_work}
 use Rattle.gcd_history.specs.Ends.{is_halted}
 use Rattle.gcd_history.specs.History.{why, IsLawful}
 use Rattle.gcd_history.proofs.Permitted.Lawful.{lawful_front, lawful_next}
+use Rattle.gcd_machine.specs.declared.put.Put.{Put}
+use Rattle.gcd_machine.specs.declared.put.Put.TheVariants.{Placed, Barred, Held, Full}
 use Rattle.gcd_outer.specs.Outside.{ClockState}
 use Rattle.gcd_outer.specs.Tells.{PollerState}
 use Rattle.gcd_turn.specs.Asked.{HasFailed, KeepsListens}
@@ -23,9 +25,7 @@ use Rattle.gcd_turn.proofs.Promised.{faults_halted, faults_more, faults_same}
 use Rattle.gcd_turn.proofs.TimeSteps.{time_more}
 use Rattle.gcd_loop.specs.Going.{IsGoing}
 use Rattle.gcd_loop.specs.Recorded.{Grows, IsAdmitted, IsPlaced, Says, after_put}
-use Rattle.gcd_loop.specs.declared.recorder.PutEnd.{PutEnd}
-use Rattle.gcd_loop.specs.declared.recorder.PutEnd.TheVariants.{Placed, Barred, Later}
-use Rattle.gcd_loop.proofs.Events.{called_is_plain, first_is_told, halt_barred, tick_time, untold}
+use Rattle.gcd_loop.proofs.Events.{called_is_plain, first_is_told, halt_barred, refused, tick_time, untold}
 
 pub keeps_same : (tells : Bool) (p : PollerState) → KeepsListens tells p p
 keeps_same tells p = record { faults = omega arith; listens = λ told. refl; addresses = λ told. refl }
@@ -133,7 +133,7 @@ module _ (most : ℕ) (pt ct : Bool) (plan : PlanView) (stood : List Event) (bef
 
   -- ## What was put
 
-  module _ (h k : List Event) (lawful : IsLawful plan k) (few : length k ≤ most) (e : Event) (pl : IsPlaced e h k) where
+  module _ (h k : List Event) (lawful : IsLawful plan k) (few : length k ≤ most) (e : Event) (n : ℕ) (pl : IsPlaced n e h k) where
     front_lawful : IsLawful plan pl.front
     front_lawful = lawful_front plan pl.front (e ∷ []) (subst (IsLawful plan) pl.is lawful)
 
@@ -170,46 +170,49 @@ module _ (most : ℕ) (pt ct : Bool) (plan : PlanView) (stood : List Event) (bef
         }))
 
   -- nobody told it, it is no Halt, and no Tick ahead of the clock
-  going_untold : (p : PollerState) (c : ClockState) (h k : List Event) (o : OutlookView) (e : Event) (r : PutEnd) → IsLawful plan k → length k ≤ most
+  going_untold : (p : PollerState) (c : ClockState) (h k : List Event) (o : OutlookView) (e : Event) (r : Put) → IsLawful plan k → length k ≤ most
       → (e ≡ Halt → ⊥) → is_told e ≡ false → ((t : ℕ) → e ≡ Tick t → o.start + t ≤ c.present) → Says most plan e h k r
       → IsGoing most pt ct plan stood before early p c h o → IsGoing most pt ct plan stood before early p c k o
-  going_untold p c h k o e Placed lawful few other told tick said going = placed_untold h k lawful few e said p c o other told tick going
-  going_untold p c h k o e Barred lawful few other told tick said going = going_grown p c h k o lawful few said.0 going
-  going_untold p c h k o e Later lawful few other told tick said going = going_grown p c h k o lawful few said.0 going
+  going_untold p c h k o e (Placed n) lawful few other told tick said going = placed_untold h k lawful few e n said p c o other told tick going
+  going_untold p c h k o e (Barred at y) lawful few other told tick said going = going_grown p c h k o lawful few said.0 going
+  going_untold p c h k o e (Held by passed) lawful few other told tick said going = going_grown p c h k o lawful few said.0 going
+  going_untold p c h k o e Full lawful few other told tick said going = going_grown p c h k o lawful few said.0 going
 
-  pub going_tick : (p : PollerState) (c : ClockState) (h k : List Event) (o : OutlookView) (t : ℕ) (r : PutEnd) → IsLawful plan k → length k ≤ most → o.start + t ≤ c.present → Says most plan (Tick t) h k r
+  pub going_tick : (p : PollerState) (c : ClockState) (h k : List Event) (o : OutlookView) (t : ℕ) (r : Put) → IsLawful plan k → length k ≤ most → o.start + t ≤ c.present → Says most plan (Tick t) h k r
       → IsGoing most pt ct plan stood before early p c h o → IsGoing most pt ct plan stood before early p c k o
   going_tick p c h k o t r lawful few due said going =
       going_untold p c h k o (Tick t) r lawful few (λ (halt : Tick t ≡ Halt). cc) refl
       (λ x (tick : Tick t ≡ Tick x). let same : t ≡ x = ap tick_time tick in omega (arith, same, due)) said going
 
-  pub going_expire : (p : PollerState) (c : ClockState) (h k : List Event) (o : OutlookView) (b : Blk) (r : PutEnd) → IsLawful plan k → length k ≤ most → Says most plan (Expire b) h k r
+  pub going_expire : (p : PollerState) (c : ClockState) (h k : List Event) (o : OutlookView) (b : Blk) (r : Put) → IsLawful plan k → length k ≤ most → Says most plan (Expire b) h k r
       → IsGoing most pt ct plan stood before early p c h o → IsGoing most pt ct plan stood before early p c k o
   going_expire p c h k o b r lawful few said going =
       going_untold p c h k o (Expire b) r lawful few (λ (halt : Expire b ≡ Halt). cc) refl (λ x (tick : Expire b ≡ Tick x). cc) said going
 
-  pub going_admitted : (p : PollerState) (c : ClockState) (h k : List Event) (o : OutlookView) (r : PutEnd) → IsLawful plan k → length k ≤ most → IsAdmitted most plan h k r
+  pub going_admitted : (p : PollerState) (c : ClockState) (h k : List Event) (o : OutlookView) (r : Put) → IsLawful plan k → length k ≤ most → IsAdmitted most plan h k r
       → IsGoing most pt ct plan stood before early p c h o → IsGoing most pt ct plan stood before early p c k o
   going_admitted p c h k o r lawful few was going =
       let plain = called_is_plain was.event was.called in
       going_untold p c h k o was.event r lawful few plain.no_halt plain.untold (λ t tick. absurd (plain.no_tick t tick)) was.said going
 
-  pub going_told : (p : PollerState) (c : ClockState) (h k : List Event) (o u : OutlookView) (e : Event) (r : PutEnd) → IsLawful plan k → length k ≤ most → first_event o.news ≡ Some e → Says most plan e h k r
+  pub going_told : (p : PollerState) (c : ClockState) (h k : List Event) (o u : OutlookView) (e : Event) (r : Put) → IsLawful plan k → length k ≤ most → first_event o.news ≡ Some e → Says most plan e h k r
       → u ≡ after_put r o → IsGoing most pt ct plan stood before early p c h o → IsGoing most pt ct plan stood before early p c k u
-  going_told p c h k o u e Placed lawful few first said kept going =
-      subst (λ (x : OutlookView). IsGoing most pt ct plan stood before early p c k x) (sym kept) (placed_told h k lawful few e said p c o first going)
-  going_told p c h k o u e Barred lawful few first said kept going =
+  going_told p c h k o u e (Placed n) lawful few first said kept going =
+      subst (λ (x : OutlookView). IsGoing most pt ct plan stood before early p c k x) (sym kept) (placed_told h k lawful few e n said p c o first going)
+  going_told p c h k o u e (Barred at y) lawful few first said kept going =
       let g = going_grown p c h k o lawful few said.0 going in
       subst (λ (x : OutlookView). IsGoing most pt ct plan stood before early p c k x) (sym kept)
       (record {
         placed = g.placed;
         split = g.split;
-        heard = λ tells. heard_barred plan stood g.placed e before p o o.news first (λ may. said.1 (subst (λ (l : List Event). why plan l e ≡ None) (sym g.split) may)) (g.heard tells);
+        heard = λ tells. heard_barred plan stood g.placed e before p o o.news first (λ may. refused (why plan k e) y said.2 (subst (λ (l : List Event). why plan l e ≡ None) (sym g.split) may)) (g.heard tells);
         timely = g.timely;
         faults = g.faults;
         kept = g.kept;
       })
-  going_told p c h k o u e Later lawful few first said kept going =
+  going_told p c h k o u e (Held by passed) lawful few first said kept going =
+      subst (λ (x : OutlookView). IsGoing most pt ct plan stood before early p c k x) (sym kept) (going_grown p c h k o lawful few said.0 going)
+  going_told p c h k o u e Full lawful few first said kept going =
       subst (λ (x : OutlookView). IsGoing most pt ct plan stood before early p c k x) (sym kept) (going_grown p c h k o lawful few said.0 going)
 
   -- ## Where the poller failed
@@ -233,14 +236,14 @@ module _ (most : ℕ) (pt ct : Bool) (plan : PlanView) (stood : List Event) (bef
       }
 
   -- a Halt stands
-  fails_halted : (p q : PollerState) (c d : ClockState) (h k : List Event) (o u : OutlookView) → IsLawful plan k → length k ≤ most → IsPlaced Halt h k → Listens h p q c d o u → HasFailed p q
+  fails_halted : (p q : PollerState) (c d : ClockState) (h k : List Event) (o u : OutlookView) (n : ℕ) → IsLawful plan k → length k ≤ most → IsPlaced n Halt h k → Listens h p q c d o u → HasFailed p q
       → IsGoing most pt ct plan stood before early p c h o → IsGoing most pt ct plan stood before early q d k u
-  fails_halted p q c d h k o u lawful few pl l failed going =
+  fails_halted p q c d h k o u n lawful few pl l failed going =
       let g = pl.grown in
       let placed : List Event = going.placed ++ g.rest in
       let split : pl.front ≡ stood ++ placed = g.split ∙ ap (λ (x : List Event). x ++ g.rest) going.split ∙ append_assoc stood going.placed g.rest in
-      let t = told_one placed q d u Halt (subst (λ (x : List Event). why plan x Halt ≡ None) split (front_may h k lawful few Halt pl)) refl (λ t (tick : Halt ≡ Tick t). cc)
-      (told_grown q d u g.rest going.placed (subst (IsLawful plan) split (front_lawful h k lawful few Halt pl)) g.work (told_then h going.placed p q c d o u l going.split (told_in p c h o going))) in
+      let t = told_one placed q d u Halt (subst (λ (x : List Event). why plan x Halt ≡ None) split (front_may h k lawful few Halt n pl)) refl (λ t (tick : Halt ≡ Tick t). cc)
+      (told_grown q d u g.rest going.placed (subst (IsLawful plan) split (front_lawful h k lawful few Halt n pl)) g.work (told_then h going.placed p q c d o u l going.split (told_in p c h o going))) in
       record {
         placed = placed ++ Halt ∷ [];
         split = pl.is ∙ ap (λ (x : List Event). x ++ Halt ∷ []) split ∙ sym (more_at stood placed Halt);
@@ -250,8 +253,10 @@ module _ (most : ℕ) (pt ct : Bool) (plan : PlanView) (stood : List Event) (bef
         kept = keeps_through pt before p q going.kept l.kept;
       }
 
-  pub going_halt : (p q : PollerState) (c d : ClockState) (h k : List Event) (o u : OutlookView) (r : PutEnd) → IsLawful plan k → length k ≤ most → Says most plan Halt h k r → Listens h p q c d o u → HasFailed p q
+  pub going_halt : (p q : PollerState) (c d : ClockState) (h k : List Event) (o u : OutlookView) (r : Put) → IsLawful plan k → length k ≤ most → Says most plan Halt h k r → Listens h p q c d o u → HasFailed p q
       → IsGoing most pt ct plan stood before early p c h o → IsGoing most pt ct plan stood before early q d k u
-  going_halt p q c d h k o u Placed lawful few said l failed going = fails_halted p q c d h k o u lawful few said l failed going
-  going_halt p q c d h k o u Barred lawful few said l failed going = fails_over p q c d h k o u lawful said.0 l failed (inl (halt_barred plan k said.1)) going
-  going_halt p q c d h k o u Later lawful few said l failed going = fails_over p q c d h k o u lawful said.0 l failed (inr (said.1 refl)) going
+  going_halt p q c d h k o u (Placed n) lawful few said l failed going = fails_halted p q c d h k o u n lawful few said l failed going
+  going_halt p q c d h k o u (Barred at y) lawful few said l failed going =
+      fails_over p q c d h k o u lawful said.0 l failed (inl (halt_barred plan k (refused (why plan k Halt) y said.2))) going
+  going_halt p q c d h k o u (Held by passed) lawful few said l failed going = absurd (said.1 refl)
+  going_halt p q c d h k o u Full lawful few said l failed going = fails_over p q c d h k o u lawful said.0 l failed (inr said.1) going

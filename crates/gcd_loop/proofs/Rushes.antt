@@ -9,9 +9,14 @@ use Rattle.gcd_history.specs.Choice.{is_work}
 use Rattle.gcd_history.specs.History.{choice_of}
 use Rattle.gcd_history.proofs.Public.Laws.{choice_is_permitted}
 use Rattle.gcd_machine.specs.Calm.{IsCalm}
-use Rattle.gcd_loop.specs.Recorded.{Grows}
+use Rattle.gcd_refinement.specs.MachineView.{MachineView}
+use Rattle.gcd_turn.specs.Outsides.{Faced}
+use Rattle.gcd_loop.specs.Going.{GoesOn}
+use Rattle.gcd_loop.specs.Recorded.{Bounds, Grows, IsSight}
 use Rattle.gcd_loop.specs.Rushed.{IsRushed}
 use Rattle.gcd_loop.proofs.Follows.{each_more}
+use Rattle.gcd_loop.proofs.Goings.{going_grown}
+use Rattle.gcd_loop.proofs.Steps.{sight_kept, sight_lawful}
 
 -- nothing was done
 pub rushed_none : (plan : PlanView) (h : List Event) → IsRushed plan h h
@@ -66,3 +71,16 @@ rushed_grows plan h k rushed = record {
   split = rushed.split;
   work = all_work rushed.rest (λ i e at. (choice_is_permitted plan (h ++ take i rushed.rest) 0 0 e (rushed.chosen i e at)).work);
 }
+
+-- a turn that looked, rushed, and went on
+pub turn_goes : (b c d : Bounds) (h k j l : List Event) (m n : MachineView) (f : Faced) → c ≡ b → d ≡ c → IsSight c.most c.plan k m → IsSight d.most d.plan j n
+    → Grows h k → IsRushed c.plan k j → GoesOn d j l f → GoesOn b h l f
+turn_goes b c d h k j l m n f looks rushes looked rushed grows rush goes = λ stood before early going.
+    let all = rushes ∙ looks in
+    let first = sight_kept b c k m looks looked in
+    let then = sight_kept b d j n all rushed in
+    let grown = going_grown b.most f.poller.tells f.clock.tells b.plan stood before early f.poller.before f.clock.before in
+    subst (λ (x : Bounds). GoesOn x j l f) all goes stood before early
+    (grown k j f.before (sight_lawful b.most b.plan j n then) then.few
+    (rushed_grows b.plan k j (subst (λ (x : Bounds). IsRushed x.plan k j) looks rush))
+    (grown h k f.before (sight_lawful b.most b.plan k m first) first.few grows going))

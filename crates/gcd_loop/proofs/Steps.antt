@@ -9,6 +9,7 @@ use Rattle.gcd_history.specs.Choice.{is_work}
 use Rattle.gcd_history.specs.Ends.{HasEnded, is_halted}
 use Rattle.gcd_history.specs.History.{IsLawful, is_active}
 use Rattle.gcd_machine.specs.Stands.{StandsFor}
+use Rattle.gcd_machine.specs.declared.put.Put.{Put}
 use Rattle.gcd_machine.proofs.Views.Calls.{lawful_stands}
 use Rattle.gcd_outer.specs.Outside.{ClockState, Seen}
 use Rattle.gcd_outer.specs.Tells.{PollerState}
@@ -26,7 +27,6 @@ use Rattle.gcd_loop.specs.Going.{GoesOn, GoesOnFrom, IsGoing, IsRunOn, IsTrueTo,
 use Rattle.gcd_loop.specs.Recorded.{Bounds, Grows, IsGrown, IsSight, Says}
 use Rattle.gcd_loop.specs.Followed.{FollowsChoice, IsOfWorkers}
 use Rattle.gcd_loop.specs.Ran.{RunsPlan}
-use Rattle.gcd_loop.specs.declared.recorder.PutEnd.{PutEnd}
 use Rattle.gcd_loop.proofs.Goings.{Listens, going_expire, going_halt, going_on, going_tick, keeps_same}
 
 -- the bounds of the run are as they were
@@ -82,7 +82,7 @@ module _ (most : ℕ) (pt ct : Bool) (plan : PlanView) (stood : List Event) (bef
   }
 
   -- what the outlook asks to put of itself
-  pub going_put : (p q : PollerState) (c d : ClockState) (h k : List Event) (o : OutlookView) (e : Event) (r : PutEnd) → IsLawful plan k → length k ≤ most
+  pub going_put : (p q : PollerState) (c d : ClockState) (h k : List Event) (o : OutlookView) (e : Event) (r : Put) → IsLawful plan k → length k ≤ most
       → IsPut plan h o.start d.present p q e → Says most plan e h k r → Listens most pt ct plan stood before early h p q c d o o
       → IsGoing most pt ct plan stood before early p c h o → IsGoing most pt ct plan stood before early q d k o
   going_put p q c d h k o (Start w b) r lawful few put said l going = absurd put

@@ -9,7 +9,7 @@ use Rattle.gcd_outer.specs.Tells.{PollerState}
 use Rattle.gcd_outer.specs.declared.tell.Tell.{Tell}
 use Rattle.gcd_turn.specs.Asked.{KeepsListens, MayIdle}
 use Rattle.gcd_turn.specs.Hearing.{Heard}
-use Rattle.gcd_turn.specs.Outsides.{Faced}
+use Rattle.gcd_turn.specs.Outsides.{Faced, IsFirst}
 use Rattle.gcd_turn.specs.Promises.{HaltsAtFaults, IsHeard, IsTimely}
 use Rattle.gcd_turn.specs.Timing.{TimeKept}
 use Rattle.gcd_turn.specs.Turns.{HasRoom, OutlookView}
@@ -90,6 +90,14 @@ both first later = record {
   after = later.after;
 }
 
+-- the calls begin with the outside before the first turn, if the clock was so before it was first asked
+abbrev pub BeginsAt : ClockState → Faced → Type 0
+BeginsAt early f = IsFirst f.clock.tells early f.clock.before f.before
+
 -- what was seen of a clock, from an earlier state on
 abbrev pub since : ClockState → Seen ClockState → Seen ClockState
 since early clock = record clock { before = early }
+
+-- from the first turn on, what stood was run on to the end
+abbrev pub RunsOn : Bounds → (h k : List Event) → Faced → (early : ClockState) → Type 0
+RunsOn b h k f early = IsRunOn b.most b.plan h k f.poller (since early f.clock)

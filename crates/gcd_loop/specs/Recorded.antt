@@ -8,10 +8,10 @@ use Rattle.gcd_history.specs.Choice.{is_work, worker_of}
 use Rattle.gcd_history.specs.Facts.{is_of_callers}
 use Rattle.gcd_history.specs.History.{IsLawful, why}
 use Rattle.gcd_machine.specs.Stands.{StandsFor}
+use Rattle.gcd_machine.specs.declared.put.Put.{Put}
+use Rattle.gcd_machine.specs.declared.put.Put.TheVariants.{Placed as PutPlaced, Barred, Held, Full}
 use Rattle.gcd_refinement.specs.MachineView.{MachineView}
 use Rattle.gcd_turn.specs.Turns.{OutlookView}
-use Rattle.gcd_loop.specs.declared.recorder.PutEnd.{PutEnd}
-use Rattle.gcd_loop.specs.declared.recorder.PutEnd.TheVariants.{Placed as PutPlaced, Barred, Later}
 use Rattle.gcd_loop.specs.declared.recorder.Step.{Step}
 use Rattle.gcd_loop.specs.declared.recorder.Step.TheVariants.{Placed, Waited, Stopped, Over}
 
@@ -38,26 +38,28 @@ pub record Grows (h k : List Event) : Type 0 where
   pub split : k ≡ h ++ rest
   pub work : list_all is_work rest ≡ true
 
--- the event stands last, behind events of workers at most
-pub record IsPlaced (e : Event) (h k : List Event) : Type 0 where
+-- the event stands last, with n events before it, behind events of workers at most
+pub record IsPlaced (n : ℕ) (e : Event) (h k : List Event) : Type 0 where
   pub front : List Event
   pub grown : Grows h front
   pub is : k ≡ front ++ e ∷ []
+  pub place : n ≡ length front
 
--- what `put` says
-abbrev pub Says : (most : ℕ) → PlanView → Event → List Event → List Event → PutEnd → Type 0
-Says most plan e h k PutPlaced = IsPlaced e h k
-Says most plan e h k Barred = Grows h k × (why plan k e ≡ None → ⊥)
-Says most plan e h k Later = Grows h k × (e ≡ Halt → length k ≡ most)
+-- what `put` says: a Halt is never held
+abbrev pub Says : (most : ℕ) → PlanView → Event → List Event → List Event → Put → Type 0
+Says most plan e h k (PutPlaced n) = IsPlaced n e h k
+Says most plan e h k (Barred at y) = Grows h k × (at ≡ length k) × (why plan k e ≡ Some y)
+Says most plan e h k (Held by passed) = Grows h k × (e ≡ Halt → ⊥)
+Says most plan e h k Full = Grows h k × (length k ≡ most)
 
 -- an Accept or a Shut was put
-pub record IsAdmitted (most : ℕ) (plan : PlanView) (h k : List Event) (answer : PutEnd) : Type 0 where
+pub record IsAdmitted (most : ℕ) (plan : PlanView) (h k : List Event) (answer : Put) : Type 0 where
   pub event : Event
   pub called : is_of_callers event ≡ true
   pub said : Says most plan event h k answer
 
 -- what `admit` says: an Accept or a Shut was put, or none was, and nothing more is seen
-abbrev pub Admits : (most : ℕ) → PlanView → (h k : List Event) → Option PutEnd → Type 0
+abbrev pub Admits : (most : ℕ) → PlanView → (h k : List Event) → Option Put → Type 0
 Admits most plan h k None = k ≡ h
 Admits most plan h k (Some answer) = IsAdmitted most plan h k answer
 
@@ -76,16 +78,17 @@ pub record IsGrown (most : ℕ) (plan : PlanView) (h k : List Event) : Type 0 wh
 
 -- the event was put
 pub record WasPut (bounds : Bounds) (e : Event) (h k : List Event) : Type 0 where
-  pub answer : PutEnd
+  pub answer : Put
   pub said : Says bounds.most bounds.plan e h k answer
   pub lawful : IsLawful bounds.plan k
   pub few : length k ≤ bounds.most
 
 -- what is kept after what was told was put: it is dropped from the news, unless it is to be put again
-abbrev pub after_put : PutEnd → OutlookView → OutlookView
-after_put PutPlaced o = record o { news = drop 1 o.news }
-after_put Barred o = record o { news = drop 1 o.news }
-after_put Later o = o
+abbrev pub after_put : Put → OutlookView → OutlookView
+after_put (PutPlaced n) o = record o { news = drop 1 o.news }
+after_put (Barred at y) o = record o { news = drop 1 o.news }
+after_put (Held by passed) o = o
+after_put Full o = o
 
 -- the first of the news was put
 pub record WasTold (bounds : Bounds) (e : Event) (h k : List Event) (o u : OutlookView) : Type 0 where

@@ -3,19 +3,19 @@ ghost use Rattle.std.specs.Prelude.{List};
 ghost use Rattle.gcd_event.specs.declared.event.Event.{Event};
 ghost use Rattle.gcd_history.specs.Ends.{HasEnded};
 ghost use Rattle.gcd_outer.specs.Outside.{ClockState};
-ghost use Rattle.gcd_turn.specs.Outsides.{Faced, IsFirst};
-ghost use Rattle.gcd_loop.specs.Going.{GoesOn, GoesOnFrom, IsRunOn, both, since};
+ghost use Rattle.gcd_turn.specs.Outsides.{Faced};
+ghost use Rattle.gcd_loop.specs.Going.{BeginsAt, GoesOn, GoesOnFrom, RunsOn, both};
 ghost use Rattle.gcd_loop.specs.Recorded.{Bounds};
 
 /// Two runs with one outside, one behind the other, are one (this project's own rule).
 pub fn two_runs_are_one()
-    ensures { (b : Bounds) (h k l : List Event) (first later : Faced) → GoesOnFrom first later
-        → GoesOn b h k first → GoesOn b k l later → GoesOn b h l (both first later) }
+    ensures { (b : Bounds) (h k l : List Event) (f g : Faced) → GoesOnFrom f g
+        → GoesOn b h k f → GoesOn b k l g → GoesOn b h l (both f g) }
 {}
 
 /// A run from the first turn to its end is true to poller and clock: on any beginning of which the poller watches active feeds alone, what
 /// they said since stands in what came since (this project's own rule).
 pub fn first_run_is_true()
-    ensures { (b : Bounds) (h k : List Event) (f : Faced) (early : ClockState) → IsFirst f.clock.tells early f.clock.before f.before
-        → HasEnded b.most b.plan k → GoesOn b h k f → IsRunOn b.most b.plan h k f.poller (since early f.clock) }
+    ensures { (b : Bounds) (h k : List Event) (f : Faced) (t : ClockState) → BeginsAt t f
+        → HasEnded b.most b.plan k → GoesOn b h k f → RunsOn b h k f t }
 {}

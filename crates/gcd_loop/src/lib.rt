@@ -35,5 +35,5 @@ pub mod laws;
 mod recorder;
 mod turns;
 
-pub use recorder::{PutEnd, Recorder, Step};
+pub use recorder::{Recorder, Step};
 pub use turns::{Stop, TurnEnd, idle, run_turns, take_turn};

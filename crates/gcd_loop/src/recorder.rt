@@ -9,20 +9,9 @@ ghost use Rattle.gcd_loop.specs.Recorded.{Admits, After, Bounds, Grows, IsGrown,
 ghost use Rattle.gcd_loop.specs.Rushed.{IsRushed};
 
 use gcd_event::Event;
-use gcd_machine::Machine;
+use gcd_machine::{Machine, Put};
 use gcd_plan::Plan;
 use std::sync::Wait;
-
-/// What putting an event that is no worker's comes to.
-#[derive(Clone, Copy, PartialEq, Eq)]
-pub enum PutEnd {
-    /// It stands behind what is seen then, but for itself.
-    Placed,
-    /// It may not come next.
-    Barred,
-    /// It was not placed, and may be put again: there is no room for it. A Halt only where the history is full.
-    Later,
-}
 
 /// What a step of the recorder comes to.
 #[derive(Clone, Copy)]
@@ -92,8 +81,9 @@ pub trait Recorder {
         ensures rushed { OnOk result (IsRushed (bounds self.old).plan (seen self.old) (seen self.new)) }
         ensures kept { (a : Self) → kept a self.old → kept a self.new };
 
-    /// Records an event of poller or clock, where it may come next.
-    fn put<R: Wait>(&mut self, rt: &R, e: Event) -> Result<PutEnd, Self::Fault>
+    /// Records an event of poller or clock, where it may come next. [`Put::Held`] and [`Put::Full`] say that it may be put again. A Halt is
+    /// never held.
+    fn put<R: Wait>(&mut self, rt: &R, e: Event) -> Result<Put, Self::Fault>
         requires ready { ready self.old }
         requires room { HasRoom (bounds self.old).most (bounds self.old).plan (seen self.old) }
         requires outside { IsOutside e }
@@ -102,9 +92,9 @@ pub trait Recorder {
         ensures said { IfOk result (Says (bounds self.old).most (bounds self.old).plan e (seen self.old) (seen self.new)) }
         ensures kept { (a : Self) → kept a self.old → kept a self.new };
 
-    /// Sees to the intake, which is open: it puts an Accept, for the next job of an outside caller, or a Shut, where none comes any
-    /// more. None where there is nothing to put now: the turn goes on then.
-    fn admit<R: Wait>(&mut self, rt: &R) -> Result<Option<PutEnd>, Self::Fault>
+    /// Sees to the intake, which is open: it puts an Accept, for the next job of an outside caller, or a Shut if no job can come any more.
+    /// None if there is nothing to put now: the turn goes on then.
+    fn admit<R: Wait>(&mut self, rt: &R) -> Result<Option<Put>, Self::Fault>
         requires ready { ready self.old }
         requires room { HasRoom (bounds self.old).most (bounds self.old).plan (seen self.old) }
         requires open { is_intake_open (bounds self.old).plan (seen self.old) ≡ true }

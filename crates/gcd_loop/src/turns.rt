@@ -10,8 +10,9 @@ ghost use Rattle.gcd_loop.specs.Going.{GoesOn, MayRest, WhereNext, WhereOver, Wh
 ghost use Rattle.gcd_loop.specs.Recorded.{IsOutside, WasPut, WasTold};
 ghost use Rattle.gcd_loop.specs.declared.turns.Stop.{Stop};
 
-use crate::recorder::{PutEnd, Recorder, Step};
+use crate::recorder::{Recorder, Step};
 use gcd_event::Event;
+use gcd_machine::Put;
 use gcd_outer::{Clock, Poller};
 use gcd_turn::{Ask, Outside};
 use std::sync::Wait;
@@ -33,6 +34,17 @@ pub enum TurnEnd {
     Over,
 }
 
+// Whether the event stands.
+#[inline(always)]
+fn is_placed(answer: Put) -> bool {
+    match answer {
+        Put::Placed(_) => true,
+        Put::Barred { .. } => false,
+        Put::Held { .. } => false,
+        Put::Full => false,
+    }
+}
+
 // Puts an event of the outside, and says whether it was placed.
 #[inline(always)]
 fn put<T: Recorder, R: Wait>(rt: &R, run: &mut T, e: Event) -> Result<bool, T::Fault>
@@ -44,11 +56,8 @@ fn put<T: Recorder, R: Wait>(rt: &R, run: &mut T, e: Event) -> Result<bool, T::F
     ensures said { OnOk result (WasPut (T.bounds run.old) e (T.seen run.old) (T.seen run.new)) }
     ensures kept { (a : T) → T.kept a run.old → T.kept a run.new }
 {
-    match run.put(rt, e)? {
-        PutEnd::Placed => Ok(true),
-        PutEnd::Barred => Ok(false),
-        PutEnd::Later => Ok(false),
-    }
+    let answer = run.put(rt, e)?;
+    Ok(is_placed(answer))
 }
 
 // Puts the first of the news, settles it unless it is to be put again, and says whether it was placed.
@@ -71,15 +80,16 @@ fn tell<T: Recorder, P: Poller, C: Clock, R: Wait>(
     ensures kept { (a : T) → T.kept a run.old → T.kept a run.new }
 {
     match run.put(rt, e)? {
-        PutEnd::Placed => {
+        Put::Placed(_) => {
             outside.settle();
             Ok(true)
         }
-        PutEnd::Barred => {
+        Put::Barred { .. } => {
             outside.settle();
             Ok(false)
         }
-        PutEnd::Later => Ok(false),
+        Put::Held { .. } => Ok(false),
+        Put::Full => Ok(false),
     }
 }
 
@@ -235,44 +245,11 @@ fn admit<T: Recorder, P: Poller, C: Clock, R: Wait>(
         (faced P.tells C.tells P.state C.state outside.old outside.new)) }
 {
     match run.admit(rt)? {
-        Some(PutEnd::Placed) => Ok(TurnEnd::Next { placed: true }),
-        Some(PutEnd::Barred) => Ok(TurnEnd::Next { placed: false }),
-        Some(PutEnd::Later) => Ok(TurnEnd::Next { placed: false }),
+        Some(answer) => {
+            let placed = is_placed(answer);
+            Ok(TurnEnd::Next { placed })
+        }
         None => later(rt, run, outside, chosen),
-    }
-}
-
-// Does what the outside asks for.
-#[inline(always)]
-fn answer<T: Recorder, P: Poller, C: Clock, R: Wait>(
-    rt: &R,
-    run: &mut T,
-    outside: &mut Outside<P, C>,
-) -> Result<TurnEnd, T::Fault>
-    requires ready { T.ready run.old }
-    ensures bounds { OnOk result (T.bounds run.new ≡ T.bounds run.old) }
-    ensures ready { IfOk result (WhereNext (T.ready run.new)) }
-    ensures stopped { IfOk result (WhereStopped (λ left. T.stopped run.new)) }
-    ensures idle { IfOk result (WhereStopped (MayRest (T.bounds run.old) (T.seen run.new) outside.new.outlook.news (P.state outside.new.poller.now))) }
-    ensures over { IfOk result (WhereOver (HasEnded (T.bounds run.old).most (T.bounds run.old).plan (T.seen run.new) × T.left run.new)) }
-    ensures same { IsSame outside.old outside.new }
-    ensures kept { (a : T) → T.kept a run.old → T.kept a run.new }
-    ensures listens { KeepsListens P.tells (P.state outside.old.poller.now) (P.state outside.new.poller.now) }
-    ensures going { OnOk result (GoesOn (T.bounds run.old) (T.seen run.old) (T.seen run.new)
-        (faced P.tells C.tells P.state C.state outside.old outside.new)) }
-{
-    match outside.ask(run.plan(), run.most(), run.machine()) {
-        Ask::Leave => Ok(TurnEnd::Over),
-        Ask::Told(e) => {
-            let placed = tell(rt, run, outside, e)?;
-            Ok(TurnEnd::Next { placed })
-        }
-        Ask::Open { chosen } => admit(rt, run, outside, chosen),
-        Ask::Put(e) => {
-            let placed = put(rt, run, e)?;
-            Ok(TurnEnd::Next { placed })
-        }
-        Ask::Work { chosen, left } => act(rt, run, outside, chosen, left),
     }
 }
 
@@ -300,7 +277,19 @@ pub fn take_turn<T: Recorder, P: Poller, C: Clock, R: Wait>(
 {
     run.look();
     run.rush()?;
-    answer(rt, run, outside)
+    match outside.ask(run.plan(), run.most(), run.machine()) {
+        Ask::Leave => Ok(TurnEnd::Over),
+        Ask::Told(e) => {
+            let placed = tell(rt, run, outside, e)?;
+            Ok(TurnEnd::Next { placed })
+        }
+        Ask::Open { chosen } => admit(rt, run, outside, chosen),
+        Ask::Put(e) => {
+            let placed = put(rt, run, e)?;
+            Ok(TurnEnd::Next { placed })
+        }
+        Ask::Work { chosen, left } => act(rt, run, outside, chosen, left),
+    }
 }
 
 /// How a run of turns comes to its end.

@@ -22,6 +22,7 @@
 //! | `is_cancelled` | whether a block is cancelled: its run has no act and no work |
 //! | `intake_open`, `next_intake` | whether blocks may be accepted from outside, and which one is next |
 //! | `objects`, `blocks` | the plan's numbers, for the conditions of the calls |
+//! | [`Put`] | for the layers above: the answer of a call that puts an event behind a history |
 //! | [`laws::histories_are_lawful`] | the histories that a machine stands for are lawful, of its own plan, which is valid |
 //!
 //! # What each event checks, and what it changes
@@ -75,6 +76,8 @@
 
 pub mod laws;
 mod machine;
+mod put;
 mod registers;
 
 pub use machine::Machine;
+pub use put::Put;

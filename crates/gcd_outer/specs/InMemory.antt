@@ -1,7 +1,8 @@
 -- What the constructors and setters of the things in memory determine.
-use Rattle.std.specs.Prelude.{◌≡◌, ◌+◌, ℕ, Bool, List, map}
+use Rattle.std.specs.Prelude.{◌≡◌, ◌<◌, ◌+◌, ℕ, Bool, List, length, map, min}
 use Rattle.gcd_outer.specs.Feeds.{watched_in, ended_in, watched_at_in}
-use Rattle.gcd_outer.specs.Outside.{ClockState}
+use Rattle.gcd_outer.specs.Outside.{ClockState, ShelfState, SinkState}
+use Rattle.gcd_outer.specs.Pages.{content_of}
 use Rattle.gcd_outer.specs.Tells.{PollerState}
 use Rattle.gcd_outer.specs.Texts.{bytes_of}
 use Rattle.gcd_outer.specs.declared.jump_clock.JumpClock.{JumpClock}
@@ -10,9 +11,17 @@ use Rattle.gcd_outer.specs.declared.map_shelf.MapShelf.{MapShelf}
 use Rattle.gcd_outer.specs.declared.tell.Tell.{Tell}
 use Rattle.gcd_outer.specs.declared.vec_sink.VecSink.{VecSink}
 
+-- what a shelf holds under each name, the number of loads, and how often it has failed
+abbrev pub shelf_state : MapShelf → ShelfState
+shelf_state shelf = record { content = content_of shelf.pages; loads = shelf.loads.made; faults = shelf.faults }
+
 -- the loads, counted from 0, that are to fail
 abbrev pub failing_loads : MapShelf → List ℕ
 failing_loads shelf = shelf.loads.failing
+
+-- what a sink took, and how often it has failed
+abbrev pub sink_state : VecSink → SinkState
+sink_state sink = record { taken = sink.bytes.items; faults = sink.faults }
 
 -- the writes, counted from 0, that are to fail
 abbrev pub failing_writes : VecSink → List ℕ
@@ -29,6 +38,10 @@ room_of sink = sink.room
 -- how many bytes a sink takes at a write, at most
 abbrev pub most_of : VecSink → ℕ
 most_of sink = sink.most
+
+-- a write of so many bytes would pass the room of a sink
+abbrev pub IsPastRoom : VecSink → ℕ → Type 0
+IsPastRoom sink bytes = room_of sink < length (sink_state sink).taken + min bytes (most_of sink)
 
 -- by how many milliseconds an answer moves a clock on
 abbrev pub step_of : JumpClock → ℕ

@@ -29,10 +29,11 @@
 //! | `Clock::now` | the time | it is not below an earlier answer; where told, it is the present |
 //! | `Clock::wait_until` | | the present is at least the moment waited for |
 //!
-//! What is told is a ghost member of the trait, as `content` or `answers`, and the clauses on it hold
-//! where the member `tells` is true: in memory it is, over the system it isn't. A count rises at a
-//! fault, in memory by one and at nothing else; since it is a 64-bit number, it stops at 2^64 - 1, and
-//! "the count rose" (`Rises`) says: it rose, or it stands at that last number.
+//! Each trait has a ghost member `state`: what the thing holds or has told so far, and its count of faults. What is told is a field
+//! of that state, as `content` or `answers`, and the clauses on it hold if the ghost member `tells` is true: it is true in memory,
+//! and false over the system. The contracts of callers speak of what calls saw of it (`seen`): `tells`, and its state before and
+//! after them. A count rises at a fault, in memory by one and at nothing else; since it is a 64-bit number, it stops at 2^64 - 1,
+//! and "the count rose" (`Rises`) says: it rose, or it stands at that last number.
 //!
 //! `Poller::poll` and `Clock::wait_until` alone wait for others; no proof says that they return.
 //! Nothing is said of what a file, a socket or a terminal gives or takes, nor of how long a wait is.

@@ -17,13 +17,13 @@ pub struct MapShelf {
 }
 
 impl MapShelf {
-    ghost use Rattle.gcd_outer.specs.InMemory.{failing_loads};
+    ghost use Rattle.gcd_outer.specs.InMemory.{failing_loads, shelf_state};
 
     /// An empty shelf, which has not been asked for anything.
     pub fn new(alloc: Global) -> Self
-        ensures empty { (name : List ℕ) → ⟦<MapShelf as Shelf>⟧.content result name ≡ None }
-        ensures loads { ⟦<MapShelf as Shelf>⟧.loads result ≡ 0 }
-        ensures faults { ⟦<MapShelf as Shelf>⟧.faults result ≡ 0 }
+        ensures empty { (name : List ℕ) → (shelf_state result).content name ≡ None }
+        ensures loads { (shelf_state result).loads ≡ 0 }
+        ensures faults { (shelf_state result).faults ≡ 0 }
         ensures failing { failing_loads result ≡ [] }
     {
         MapShelf {
@@ -37,13 +37,12 @@ impl MapShelf {
     /// Puts these bytes under the name, in place of what stood there. Being out of memory leaves the shelf
     /// as it was.
     pub fn put(&mut self, name: &str, bytes: &[u8]) -> Result<(), AllocError>
-        ensures put { OnOk result (⟦<MapShelf as Shelf>⟧.content self.new name.now ≡ Some bytes.now) }
+        ensures put { OnOk result ((shelf_state self.new).content name.now ≡ Some bytes.now) }
         ensures others { (other : List ℕ) → other ≢ name.now
-            → ⟦<MapShelf as Shelf>⟧.content self.new other ≡ ⟦<MapShelf as Shelf>⟧.content self.old other }
-        ensures wanting { OnErr result (
-            ⟦<MapShelf as Shelf>⟧.content self.new ≡ ⟦<MapShelf as Shelf>⟧.content self.old) }
-        ensures loads { ⟦<MapShelf as Shelf>⟧.loads self.new ≡ ⟦<MapShelf as Shelf>⟧.loads self.old }
-        ensures faults { ⟦<MapShelf as Shelf>⟧.faults self.new ≡ ⟦<MapShelf as Shelf>⟧.faults self.old }
+            → (shelf_state self.new).content other ≡ (shelf_state self.old).content other }
+        ensures wanting { OnErr result ((shelf_state self.new).content ≡ (shelf_state self.old).content) }
+        ensures loads { (shelf_state self.new).loads ≡ (shelf_state self.old).loads }
+        ensures faults { (shelf_state self.new).faults ≡ (shelf_state self.old).faults }
         ensures failing { failing_loads self.new ≡ failing_loads self.old }
     {
         let name = String::from_str(self.alloc, name)?;
@@ -55,9 +54,9 @@ impl MapShelf {
     /// The load of this number, counted from 0, is to fail; nothing else changes. Being out of memory leaves
     /// the shelf as it was.
     pub fn fail(&mut self, load: u64) -> Result<(), AllocError>
-        ensures content { ⟦<MapShelf as Shelf>⟧.content self.new ≡ ⟦<MapShelf as Shelf>⟧.content self.old }
-        ensures loads { ⟦<MapShelf as Shelf>⟧.loads self.new ≡ ⟦<MapShelf as Shelf>⟧.loads self.old }
-        ensures faults { ⟦<MapShelf as Shelf>⟧.faults self.new ≡ ⟦<MapShelf as Shelf>⟧.faults self.old }
+        ensures content { (shelf_state self.new).content ≡ (shelf_state self.old).content }
+        ensures loads { (shelf_state self.new).loads ≡ (shelf_state self.old).loads }
+        ensures faults { (shelf_state self.new).faults ≡ (shelf_state self.old).faults }
         ensures ok { OnOk result (failing_loads self.new ≡ failing_loads self.old ++ load ∷ []) }
         ensures wanting { OnErr result (failing_loads self.new ≡ failing_loads self.old) }
     {
@@ -75,44 +74,36 @@ fn page_of<'a>(pages: &'a BTreeMap<String, Vec<u8>>, name: &str) -> Option<&'a [
 
 impl Shelf for MapShelf {
     ghost use Rattle.std.specs.Prelude.{◌≡◌, ◌≤◌, ◌<◌, List, ℕ, true, Some, None, [], length, Contains, OnOk, OnErr, IsErrOf};
-    ghost use Rattle.gcd_outer.specs.InMemory.{failing_loads};
+    ghost use Rattle.gcd_outer.specs.InMemory.{failing_loads, shelf_state};
     ghost use Rattle.gcd_outer.specs.Outside.{Rises, next_count};
-    ghost use Rattle.gcd_outer.specs.Pages.{content_of};
 
     ghost tells = { true };
 
-    ghost content = { λ s. content_of s.pages };
-
-    ghost loads = { λ s. s.loads.made };
-
-    ghost faults = { λ s. s.faults };
+    ghost state = { shelf_state };
 
     // What each shelf promises, and then: it fails just where that is planned, and counts just that.
     fn load(&mut self, name: &str, most: usize, into: &mut Vec<u8>) -> Result<(), LoadFault>
         ensures fits { OnOk result (length into.new.items ≤ most) }
-        ensures content { OnOk result (
-            ⟦<MapShelf as Shelf>⟧.content self.old name.now ≡ Some into.new.items) }
-        ensures missing { IsErrOf result LoadFault.Missing
-            → ⟦<MapShelf as Shelf>⟧.content self.old name.now ≡ None }
+        ensures content { OnOk result ((shelf_state self.old).content name.now ≡ Some into.new.items) }
+        ensures missing { IsErrOf result LoadFault.Missing → (shelf_state self.old).content name.now ≡ None }
         ensures seen { (n : ℕ) → IsErrOf result (LoadFault.TooLong n) → most < n }
         ensures longer { (n : ℕ) → IsErrOf result (LoadFault.TooLong n)
-            → (bytes : List ℕ) × (⟦<MapShelf as Shelf>⟧.content self.old name.now ≡ Some bytes) × (length bytes ≡ n) }
+            → (bytes : List ℕ) × ((shelf_state self.old).content name.now ≡ Some bytes) × (length bytes ≡ n) }
         ensures empty { OnErr result (into.new.items ≡ []) }
         ensures failed { IsErrOf result LoadFault.Failed
-            → Rises (⟦<MapShelf as Shelf>⟧.faults self.old) (⟦<MapShelf as Shelf>⟧.faults self.new) }
-        ensures faults { ⟦<MapShelf as Shelf>⟧.faults self.old ≤ ⟦<MapShelf as Shelf>⟧.faults self.new }
-        ensures same { ⟦<MapShelf as Shelf>⟧.content self.new ≡ ⟦<MapShelf as Shelf>⟧.content self.old }
-        ensures loads { ⟦<MapShelf as Shelf>⟧.loads self.new
-            ≡ next_count (⟦<MapShelf as Shelf>⟧.loads self.old) }
+            → Rises (shelf_state self.old).faults (shelf_state self.new).faults }
+        ensures faults { (shelf_state self.old).faults ≤ (shelf_state self.new).faults }
+        ensures same { (shelf_state self.new).content ≡ (shelf_state self.old).content }
+        ensures loads { (shelf_state self.new).loads ≡ next_count (shelf_state self.old).loads }
 
-        ensures planned { Contains (failing_loads self.old) (⟦<MapShelf as Shelf>⟧.loads self.old)
+        ensures planned { Contains (failing_loads self.old) (shelf_state self.old).loads
             → IsErrOf result LoadFault.Failed }
         ensures only_planned { IsErrOf result LoadFault.Failed
-            → Contains (failing_loads self.old) (⟦<MapShelf as Shelf>⟧.loads self.old) }
-        ensures one_fault { IsErrOf result LoadFault.Failed → ⟦<MapShelf as Shelf>⟧.faults self.new
-            ≡ next_count (⟦<MapShelf as Shelf>⟧.faults self.old) }
+            → Contains (failing_loads self.old) (shelf_state self.old).loads }
+        ensures one_fault { IsErrOf result LoadFault.Failed → (shelf_state self.new).faults
+            ≡ next_count (shelf_state self.old).faults }
         ensures no_fault { (IsErrOf result LoadFault.Failed → ⊥)
-            → ⟦<MapShelf as Shelf>⟧.faults self.new ≡ ⟦<MapShelf as Shelf>⟧.faults self.old }
+            → (shelf_state self.new).faults ≡ (shelf_state self.old).faults }
         ensures failing { failing_loads self.new ≡ failing_loads self.old }
     {
         into.clear();

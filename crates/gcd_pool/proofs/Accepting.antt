@@ -29,8 +29,9 @@ use Rattle.gcd_row.specs.declared.view.View.{View}
 use Rattle.gcd_row.specs.Views.{turning}
 use Rattle.gcd_row.proofs.Accepted.{next_of, next_unaccepted}
 use Rattle.gcd_loop.specs.Recorded.{Grows, Says}
-use Rattle.gcd_loop.specs.declared.recorder.PutEnd.{PutEnd}
-use Rattle.gcd_loop.specs.declared.recorder.PutEnd.TheVariants.{Placed, Barred, Later}
+use Rattle.gcd_loop.proofs.Events.{refused}
+use Rattle.gcd_machine.specs.declared.put.Put.{Put}
+use Rattle.gcd_machine.specs.declared.put.Put.TheVariants.{Placed, Barred, Held, Full}
 use Rattle.gcd_pool.specs.Admitted.{Admitted, HandedOn, IsAccepted, IsUnderWay}
 use Rattle.gcd_pool.proofs.Admitting.{admitted_accepted, admitted_lost, admitted_on, grows_no_call, shut_same, works_uncalled}
 
@@ -98,8 +99,8 @@ module _ {S X : Type 0} (gives : S → ℕ → Type 0) (sent : X → ℕ → Typ
       admitted_lost gives sent f w i j (parcel s n job) one_more over (shut_same v.seen w.seen a ∙ unshut plan v.seen is)
       (admitted_on gives sent f v w i terms placed a lawful old)
 
-  accept_keeps : (r : PutEnd) → Says most plan (Accept b s) v.seen w.seen r → HandedOn (Accept b s) (turning v (Laid c)) w r → Admitted gives sent f w j
-  accept_keeps Placed said handed =
+  accept_keeps : (r : Put) → Says most plan (Accept b s) v.seen w.seen r → HandedOn (Accept b s) (turning v (Laid c)) w r → Admitted gives sent f w j
+  accept_keeps (Placed k) said handed =
       admitted_accepted gives sent f v w i j said.front b s n job c terms
       (ap (λ (x : Handed S). x.placed) handed.1 ∙ ap (λ (x : S). (b.0, x) ∷ v.handed.placed) handed.2)
       (grows_no_call v.seen said.front said.grown) said.is one_more under_way (subst (λ (q : PlanView). is_of_intake q b.0 ≡ true) (sym own) (next_of plan v.seen b next))
@@ -108,16 +109,17 @@ module _ {S X : Type 0} (gives : S → ℕ → Type 0) (sent : X → ℕ → Typ
       unaccepted : (k : Bool) → list_any (accepts b.0) v.seen ≡ k → list_any (accepts b.0) v.seen ≡ false
       unaccepted true at = absurd (next_unaccepted plan v.seen b next at)
       unaccepted false at = at
-  accept_keeps Barred said handed =
+  accept_keeps (Barred at y) said handed =
       lost (ap (λ (x : Handed S). x.placed) handed) said.0 (λ under.
-      said.1 (subst (λ (l : List Event). why plan l (Accept b s) ≡ None) (sym said.0.split)
+      refused (why plan w.seen (Accept b s)) y said.2 (subst (λ (l : List Event). why plan l (Accept b s) ≡ None) (sym said.0.split)
       (accepts_stay_permitted plan v.seen said.0.rest b s (accept_may_come plan v.seen b s room.going_on.unhalted next (let low = took.sender in omega (arith, low, few)))
       (works_uncalled said.0.rest said.0.work) (subst (λ (l : List Event). is_halted l ≡ false) said.0.split under.unhalted))))
-  accept_keeps Later said handed =
+  accept_keeps (Held by passed) said handed = absurd handed
+  accept_keeps Full said handed =
       lost (ap (λ (x : Handed S). x.placed) handed.0) said.0 (λ under. let l = under.room in let same : w.terms.limits.most ≡ v.terms.limits.most = ap (λ t. t.limits.most) terms in let full = handed.1 in omega (arith, l, same, full))
 
 -- so it is for what `accept` says
-pub accepted_keeps : {S X : Type 0} (gives : S → ℕ → Type 0) (sent : X → ℕ → Type 0) (f : FrontView) (most : ℕ) (plan : PlanView) (v w : View S) (i j : IntakeView X) (b : Blk) (s n : ℕ) (job : X) (answer : Option PutEnd) → v.terms.plan ≡ plan → v.terms.limits.most ≡ most
+pub accepted_keeps : {S X : Type 0} (gives : S → ℕ → Type 0) (sent : X → ℕ → Type 0) (f : FrontView) (most : ℕ) (plan : PlanView) (v w : View S) (i j : IntakeView X) (b : Blk) (s n : ℕ) (job : X) (answer : Option Put) → v.terms.plan ≡ plan → v.terms.limits.most ≡ most
     → IsLawful w.terms.plan w.seen → f.senders ≤ max_senders → is_intake_open plan v.seen ≡ true → HasRoom most plan v.seen → next_of_intake plan v.seen ≡ Some b → TakesNext f i (parcel s n job) j
     → IsAccepted gives sent most plan b s job v w answer → Admitted gives sent f v i → Admitted gives sent f w j
 accepted_keeps gives sent f most plan v w i j b s n job answer own limit lawful few is room next took was old =

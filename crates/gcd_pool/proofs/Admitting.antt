@@ -28,8 +28,8 @@ use Rattle.gcd_row.specs.declared.view.Terms.{Terms}
 use Rattle.gcd_row.specs.declared.view.Handed.{Handed}
 use Rattle.gcd_row.specs.declared.view.View.{View}
 use Rattle.gcd_loop.specs.Recorded.{Grows, IsPlaced, Says}
-use Rattle.gcd_loop.specs.declared.recorder.PutEnd.{PutEnd}
-use Rattle.gcd_loop.specs.declared.recorder.PutEnd.TheVariants.{Placed, Barred, Later}
+use Rattle.gcd_machine.specs.declared.put.Put.{Put}
+use Rattle.gcd_machine.specs.declared.put.Put.TheVariants.{Placed, Barred, Held, Full}
 use Rattle.gcd_row.proofs.AfterPut.{handed_by}
 use Rattle.gcd_pool.specs.Admitted.{AddsNoCall, Admitted, AreTakenFor, BeginWithTaken, HandedOn, IsTakenFor, IsUnderWay}
 
@@ -304,8 +304,8 @@ pub grows_no_call : (h k : List Event) → Grows h k → AddsNoCall h k
 grows_no_call h k g = record { rest = g.rest; split = g.split; none = works_uncalled g.rest g.work }
 
 -- an event of poller or clock behind them is none either
-pub outside_no_call : (h k : List Event) (e : Event) → is_of_callers e ≡ false → IsPlaced e h k → AddsNoCall h k
-outside_no_call h k e uncalled p = record {
+pub outside_no_call : (h k : List Event) (n : ℕ) (e : Event) → is_of_callers e ≡ false → IsPlaced n e h k → AddsNoCall h k
+outside_no_call h k n e uncalled p = record {
   rest = p.grown.rest ++ e ∷ [];
   split = p.is ∙ ap (λ (l : List Event). l ++ e ∷ []) p.grown.split ∙ append_assoc h p.grown.rest (e ∷ []);
   none = list_any-append is_of_callers p.grown.rest (e ∷ []) ∙ rw (works_uncalled p.grown.rest p.grown.work, uncalled) refl;
@@ -319,17 +319,19 @@ module _ {S X : Type 0} (gives : S → ℕ → Type 0) (sent : X → ℕ → Typ
   quiet g same old = admitted_on gives sent f v w i terms (placed_of same) (grows_no_call v.seen w.seen g) lawful old
 
   -- an event of poller or clock
-  pub put_keeps : (e : Event) (r : PutEnd) → is_of_callers e ≡ false → Says most plan e v.seen w.seen r → HandedOn e v w r → Admitted gives sent f v i → Admitted gives sent f w i
-  put_keeps e Placed uncalled said handed old =
+  pub put_keeps : (e : Event) (r : Put) → is_of_callers e ≡ false → Says most plan e v.seen w.seen r → HandedOn e v w r → Admitted gives sent f v i → Admitted gives sent f w i
+  put_keeps e (Placed n) uncalled said handed old =
       admitted_on gives sent f v w i terms (placed_of (handed_by (accepted e) v.handed w.handed (uncalled_accepts_none e uncalled) handed))
-      (outside_no_call v.seen w.seen e uncalled said) lawful old
-  put_keeps e Barred uncalled said handed old = quiet said.0 handed old
-  put_keeps e Later uncalled said handed old = quiet said.0 handed.0 old
+      (outside_no_call v.seen w.seen n e uncalled said) lawful old
+  put_keeps e (Barred at y) uncalled said handed old = quiet said.0 handed old
+  put_keeps e (Held by passed) uncalled said handed old = absurd handed
+  put_keeps e Full uncalled said handed old = quiet said.0 handed.0 old
 
   -- a Shut
-  pub shut_keeps : (r : PutEnd) → Says most plan Shut v.seen w.seen r → HandedOn Shut v w r → IsUnderWay v.terms.limits.most v.seen → AllAccepted v.terms.plan v.seen ⊎ (KnowsAll f i × TookAll i)
+  pub shut_keeps : (r : Put) → Says most plan Shut v.seen w.seen r → HandedOn Shut v w r → IsUnderWay v.terms.limits.most v.seen → AllAccepted v.terms.plan v.seen ⊎ (KnowsAll f i × TookAll i)
       → Admitted gives sent f v i → Admitted gives sent f w i
-  shut_keeps Placed said handed on reason old =
+  shut_keeps (Placed n) said handed on reason old =
       admitted_shut gives sent f v w i said.front terms (placed_of handed) (grows_no_call v.seen said.front said.grown) said.is on reason old
-  shut_keeps Barred said handed on reason old = quiet said.0 handed old
-  shut_keeps Later said handed on reason old = quiet said.0 handed.0 old
+  shut_keeps (Barred at y) said handed on reason old = quiet said.0 handed old
+  shut_keeps (Held by passed) said handed on reason old = absurd handed
+  shut_keeps Full said handed on reason old = quiet said.0 handed.0 old

@@ -16,7 +16,7 @@ use Rattle.gcd_front.specs.Fronts.{KnowsAll, LearnsMore, TakesNext, TookAll}
 use Rattle.gcd_front.specs.Queue.{parcel}
 use Rattle.gcd_front.specs.Views.{FrontView, IntakeView}
 use Rattle.gcd_loop.specs.Recorded.{After, Grows, IsGrown, Says}
-use Rattle.gcd_loop.specs.declared.recorder.PutEnd.{PutEnd}
+use Rattle.gcd_machine.specs.declared.put.Put.{Put}
 use Rattle.gcd_loop.specs.declared.recorder.Step.{Step}
 use Rattle.gcd_loop.specs.declared.recorder.Step.TheVariants.{Placed, Waited, Stopped, Over}
 use Rattle.gcd_loop.proofs.Steps.{grown_same}
@@ -83,12 +83,12 @@ module _ {S X : Type 0} (shape : S → Shape) (gives : S → ℕ → Type 0) (se
     grows_leading grows same = leading_as (grows_admitted b head.ready.of grows same)
 
     -- an event of poller or clock was put
-    pub put_leading : (e : Event) (r : PutEnd) → is_of_callers e ≡ false → Says most plan e (view a.pass).seen (view b.pass).seen r → HandedOn e (view a.pass) (view b.pass) r → IsLeading shape gives sent pool f b i
+    pub put_leading : (e : Event) (r : Put) → is_of_callers e ≡ false → Says most plan e (view a.pass).seen (view b.pass).seen r → HandedOn e (view a.pass) (view b.pass) r → IsLeading shape gives sent pool f b i
     put_leading e r uncalled said handed =
         leading_as (put_keeps gives sent f most plan (view a.pass) (view b.pass) i (terms_same b head.ready.of) (lawful_now b head.ready.of) e r uncalled said handed was.admitted)
 
     -- a Shut was put, for this reason
-    pub shut_leading : (r : PutEnd) → HasRoom most plan (view a.pass).seen → Says most plan Shut (view a.pass).seen (view b.pass).seen r → HandedOn Shut (view a.pass) (view b.pass) r
+    pub shut_leading : (r : Put) → HasRoom most plan (view a.pass).seen → Says most plan Shut (view a.pass).seen (view b.pass).seen r → HandedOn Shut (view a.pass) (view b.pass) r
         → AllAccepted plan (view a.pass).seen ⊎ (KnowsAll f i × TookAll i) → IsLeading shape gives sent pool f b i
     shut_leading r room said handed reason =
         let v = view a.pass in
@@ -97,7 +97,7 @@ module _ {S X : Type 0} (shape : S → Shape) (gives : S → ℕ → Type 0) (se
         (subst (λ (q : PlanView). AllAccepted q v.seen ⊎ (KnowsAll f i × TookAll i)) (sym (plan_of_head shape gives pool a was.head)) reason) was.admitted)
 
     -- an Accept was put, of the job that was taken
-    pub accept_leading : (j : IntakeView X) (k : Blk) (s n : ℕ) (job : X) (answer : Option PutEnd) → HasRoom most plan (view a.pass).seen → is_intake_open plan (view a.pass).seen ≡ true → next_of_intake plan (view a.pass).seen ≡ Some k
+    pub accept_leading : (j : IntakeView X) (k : Blk) (s n : ℕ) (job : X) (answer : Option Put) → HasRoom most plan (view a.pass).seen → is_intake_open plan (view a.pass).seen ≡ true → next_of_intake plan (view a.pass).seen ≡ Some k
         → TakesNext f i (parcel s n job) j → IsAccepted gives sent most plan k s job (view a.pass) (view b.pass) answer → IsLeading shape gives sent pool f b j
     accept_leading j k s n job answer room is next took accepted = record {
       head = head;
@@ -114,12 +114,12 @@ module _ {S X : Type 0} (shape : S → Shape) (gives : S → ℕ → Type 0) (se
 
   -- ## By the answer of a call
 
-  pub put_answered : {E : Type 0} (b : Hand S) (e : Event) (r : Result PutEnd E) → is_of_callers e ≡ false → OnOk r (IsHead shape gives pool b) → IfOk r (Says most plan e (view a.pass).seen (view b.pass).seen)
+  pub put_answered : {E : Type 0} (b : Hand S) (e : Event) (r : Result Put E) → is_of_callers e ≡ false → OnOk r (IsHead shape gives pool b) → IfOk r (Says most plan e (view a.pass).seen (view b.pass).seen)
       → IfOk r (HandedOn e (view a.pass) (view b.pass)) → OnOk r (IsLeading shape gives sent pool f b i)
   put_answered b e (Ok answer) uncalled head said handed = put_leading b head e answer uncalled said handed
   put_answered b e (Err x) uncalled head said handed = tt
 
-  pub accept_answered : {E : Type 0} (b : Hand S) (j : IntakeView X) (k : Blk) (s n : ℕ) (job : X) (r : Result (Option PutEnd) E) → HasRoom most plan (view a.pass).seen → is_intake_open plan (view a.pass).seen ≡ true → next_of_intake plan (view a.pass).seen ≡ Some k
+  pub accept_answered : {E : Type 0} (b : Hand S) (j : IntakeView X) (k : Blk) (s n : ℕ) (job : X) (r : Result (Option Put) E) → HasRoom most plan (view a.pass).seen → is_intake_open plan (view a.pass).seen ≡ true → next_of_intake plan (view a.pass).seen ≡ Some k
       → TakesNext f i (parcel s n job) j → OnOk r (IsHead shape gives pool b) → IfOk r (IsAccepted gives sent most plan k s job (view a.pass) (view b.pass)) → OnOk r (IsLeading shape gives sent pool f b j)
   accept_answered b j k s n job (Ok answer) room is next took head accepted = accept_leading b head j k s n job answer room is next took accepted
   accept_answered b j k s n job (Err x) room is next took head accepted = tt
@@ -189,7 +189,7 @@ module _ {S : Type 0} (shape : S → Shape) (gives : S → ℕ → Type 0) (pool
   laid_leads first kept = look_leads shape gives pool a is first laid_hand laid_serves (record { none = λ all. ap (λ (x : View S). x.seen) laid }) kept
 
   -- its Accept was put
-  pub laid_accepted : {X : Type 0} (sent : X → ℕ → Type 0) (k : Blk) (s : ℕ) (job : X) (b : Hand S) (r : PutEnd) → ((n : ℕ) → gives c n → sent job n) → IsHead shape gives pool b
+  pub laid_accepted : {X : Type 0} (sent : X → ℕ → Type 0) (k : Blk) (s : ℕ) (job : X) (b : Hand S) (r : Put) → ((n : ℕ) → gives c n → sent job n) → IsHead shape gives pool b
       → Says (bounds_of pool).most pool.plan.now (Accept k s) (view q).seen (view b.pass).seen r → HandedOn (Accept k s) (view q) (view b.pass) r → IsAccepted gives sent (bounds_of pool).most pool.plan.now k s job (view a.pass) (view b.pass) (Some r)
   laid_accepted sent k s job b r that head said handed = record {
     put = r;

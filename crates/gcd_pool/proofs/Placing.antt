@@ -12,7 +12,7 @@ use Rattle.gcd_history.specs.Ends.{IsGoingOn}
 use Rattle.gcd_history.specs.Laws.{HasNoChoice}
 use Rattle.gcd_history.specs.Team.{of_worker}
 use Rattle.gcd_row.specs.Passes.{Says}
-use Rattle.gcd_row.specs.declared.put.Put.TheVariants.{Placed as PutPlaced, Barred, Full}
+use Rattle.gcd_machine.specs.declared.put.Put.TheVariants.{Placed as PutPlaced, Barred, Full}
 use Rattle.gcd_row.specs.declared.view.View.{View}
 use Rattle.gcd_pool.specs.Duties.{begun_on, node_of_run}
 use Rattle.gcd_pool.specs.Hands.{GoesOn}

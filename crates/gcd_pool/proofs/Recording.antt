@@ -1,5 +1,5 @@
 -- What worker 0's calls on the row are to its loop.
-use Rattle.std.proofs.Common.{◌≡◌, ◌≤◌, ◌∙◌, ℕ, Bool, true, false, List, [], ◌∷◌, Some, None, Option, length, ap, sym, subst, refl, IsTrue}
+use Rattle.std.proofs.Common.{◌≡◌, ◌≤◌, ◌∙◌, ℕ, Bool, true, false, List, [], ◌∷◌, Some, None, length, ap, sym, subst, refl, IsTrue}
 use Rattle.std.specs.List.{list_all}
 use Rattle.std.specs.Prelude.{Result, Ok, Err, IfOk, OnOk}
 use Rattle.std.proofs.lemmas.Bool.{and_from, and_parts}
@@ -8,21 +8,23 @@ use Rattle.gcd_plan.specs.declared.why.Why.{Why}
 use Rattle.gcd_event.specs.declared.event.Event.{Event}
 use Rattle.gcd_event.specs.declared.event.Event.TheVariants.{Start, Act as Acted, Wake, End, Deliver, DeliverEnd, Tick, Ready, FeedEnd, Misuse, Halt, Expire, Accept, Shut}
 use Rattle.gcd_history.specs.Choice.{is_work, worker_of}
+use Rattle.gcd_history.specs.Ends.{HasEnded}
 use Rattle.gcd_history.specs.History.{choice_of, why}
 use Rattle.gcd_history.specs.Intake.{accepted}
 use Rattle.gcd_loop.specs.Followed.{FollowsChoice}
 use Rattle.gcd_loop.proofs.Follows.{follows_only}
 use Rattle.gcd_history.specs.Held.{is_of}
-use Rattle.gcd_loop.specs.Recorded.{Grows, IsGrown, IsSight, Says}
-use Rattle.gcd_loop.specs.declared.recorder.PutEnd.{PutEnd}
-use Rattle.gcd_loop.specs.declared.recorder.PutEnd.TheVariants.{Placed as PutPlaced, Barred as PutBarred, Later}
+use Rattle.gcd_loop.specs.Recorded.{After, Grows, IsGrown, IsSight, Says}
+use Rattle.gcd_loop.specs.declared.recorder.Step.{Step}
+use Rattle.gcd_loop.specs.declared.recorder.Step.TheVariants.{Placed as StepPlaced, Waited, Stopped, Over}
 use Rattle.gcd_loop.proofs.Steps.{grown}
 use Rattle.gcd_row.specs.Shapes.{Shape}
 use Rattle.gcd_row.specs.Views.{knowing, seeing}
 use Rattle.gcd_row.specs.Passes.{Ahead, IsPassOf, Looks, slots, view, machine_of}
 use Rattle.gcd_row.specs.declared.pass.RowPass.{RowPass}
 use Rattle.gcd_row.specs.declared.board.RowBoard.{RowBoard}
-use Rattle.gcd_row.specs.declared.put.Put.TheVariants.{Placed, Barred, Full}
+use Rattle.gcd_machine.specs.declared.put.Put.{Put}
+use Rattle.gcd_machine.specs.declared.put.Put.TheVariants.{Placed, Barred, Held, Full}
 use Rattle.gcd_row.specs.Plays.{HandsOn}
 use Rattle.gcd_row.specs.declared.view.Handed.{Handed}
 use Rattle.gcd_row.specs.declared.view.Terms.{Terms}
@@ -33,7 +35,7 @@ use Rattle.gcd_outer.specs.Outside.{ClockState}
 use Rattle.gcd_outer.specs.Tells.{PollerState}
 use Rattle.gcd_pool.specs.Admitted.{HandedOn}
 use Rattle.gcd_pool.specs.Leads.{IsHead, Leads, Led, bounds_of}
-use Rattle.gcd_pool.specs.Throughs.{HasWaited, WasPut}
+use Rattle.gcd_pool.specs.Throughs.{HasWaited, SaysThrough, WasPut}
 use Rattle.gcd_pool.specs.Works.{AddsNone, AddsOnly, AddsWork, is_own_work}
 use Rattle.gcd_pool.specs.declared.hand.Hand.{Hand}
 use Rattle.gcd_pool.specs.declared.hand.Pool.{Pool}
@@ -42,6 +44,7 @@ use Rattle.gcd_history.specs.Team.{of_worker}
 use Rattle.gcd_pool.proofs.Puts.{looks_fresh, placed_seen}
 use Rattle.gcd_pool.proofs.Told.{to_lead}
 use Rattle.gcd_pool.proofs.Serves.{looks_serves, most_of_hand, passing_fresh, serves_further, serves_nothing}
+use Rattle.gcd_pool.proofs.Throughs.{barred_hands, full_hands, placed_hands}
 use Rattle.gcd_pool.proofs.Works.{ahead_adds, still_all}
 
 -- what worker 0 adds of its own, and what others add, is work
@@ -66,9 +69,6 @@ all_work [] h = refl
 all_work (e ∷ rest) h =
     let parts = and_parts (is_own_work 0 e) (list_all (is_own_work 0) rest) h in
     and_from (is_work e) (list_all is_work rest) (own_is_work e parts.0) (all_work rest parts.1)
-
-barred : (o : Option Why) (y : Why) → o ≡ None → o ≡ Some y → ⊥
-barred o y none some = cc
 
 module _ {S : Type 0} where
   pub adds_grows : (v w : View S) → v.worker ≡ 0 → AddsWork v w → Grows v.seen w.seen
@@ -98,24 +98,37 @@ module _ {S : Type 0} (shape : S → Shape) (gives : S → ℕ → Type 0) (b : 
   put_grows : (u : RowPass S) (h : List Event) → HasWaited p u → (view p).worker ≡ 0 → Ahead (view u) h → Grows (view p).seen h
   put_grows u h w head a = ahead_grows (view p) h head (ahead_further (view p) (view u) h (waited_worker u w) w.ahead a)
 
-  pub put_placed : (n : ℕ) → WasPut shape gives b e p q (Placed n) → (view p).worker ≡ 0 → Says (view p).terms.limits.most (view p).terms.plan e (view p).seen (view q).seen PutPlaced
-  put_placed n w head = record {
+  placed_said : (n : ℕ) → WasPut shape gives b e p q (Placed n) → (view p).worker ≡ 0
+      → Says (view p).terms.limits.most (view p).terms.plan e (view p).seen (view q).seen (Placed n)
+  placed_said n w head = record {
     front = w.says.history;
     grown = put_grows w.last w.says.history w.waited head w.says.ahead;
     is = placed_seen e (view w.last) (view q) n w.says;
+    place = w.says.place;
   }
 
-  pub put_barred : (at : ℕ) (y : Why) → WasPut shape gives b e p q (Barred at y) → (view p).worker ≡ 0 → Says (view p).terms.limits.most (view p).terms.plan e (view p).seen (view q).seen PutBarred
-  put_barred at y w head = (
+  barred_said : (at : ℕ) (y : Why) → WasPut shape gives b e p q (Barred at y) → (view p).worker ≡ 0
+      → Says (view p).terms.limits.most (view p).terms.plan e (view p).seen (view q).seen (Barred at y)
+  barred_said at y w head = (
     put_grows w.last (view q).seen w.waited head w.says.0.ahead,
-    λ may. barred (why (view p).terms.plan (view q).seen e) y may (subst (λ (t : Terms S). why t.plan (view q).seen e ≡ Some y) (waited_terms w.last w.waited) w.says.3),
+    w.says.1,
+    subst (λ (t : Terms S). why t.plan (view q).seen e ≡ Some y) (waited_terms w.last w.waited) w.says.3,
   )
 
-  pub put_full : WasPut shape gives b e p q Full → (view p).worker ≡ 0 → Says (view p).terms.limits.most (view p).terms.plan e (view p).seen (view q).seen Later
-  put_full w head = (
+  full_said : WasPut shape gives b e p q Full → (view p).worker ≡ 0
+      → Says (view p).terms.limits.most (view p).terms.plan e (view p).seen (view q).seen Full
+  full_said w head = (
     put_grows w.last (view q).seen w.waited head w.says.1,
-    λ halt. subst (λ (t : Terms S). length (view q).seen ≡ t.limits.most) (waited_terms w.last w.waited) w.says.2,
+    subst (λ (t : Terms S). length (view q).seen ≡ t.limits.most) (waited_terms w.last w.waited) w.says.2,
   )
+
+  -- what the answer of the last put says to the loop, where the team was not stopped
+  pub put_says : (r : Put) → ((by passed : ℕ) → r ≡ Held by passed → ⊥) → SaysThrough shape gives b e p q r → (view p).worker ≡ 0
+      → Says (view p).terms.limits.most (view p).terms.plan e (view p).seen (view q).seen r × HandedOn e (view p) (view q) r
+  put_says (Placed n) unheld w head = (placed_said n w head, placed_hands shape gives b e p q n w)
+  put_says (Barred at y) unheld w head = (barred_said at y w head, barred_hands shape gives b e p q at y w)
+  put_says (Held by passed) unheld w head = absurd (unheld by passed refl)
+  put_says Full unheld w head = (full_said w head, full_hands shape gives b e p q w)
 
 -- what is always so is so where it is Ok
 pub on_ok : {T E : Type 0} → (r : Result T E) (P : Type 0) → P → OnOk r P
@@ -128,14 +141,14 @@ if_ok P Q (Ok x) f is = f x is
 if_ok P Q (Err e) f is = tt
 
 -- what was handed in since worker 0 gathered was handed in since before that
-handed_as : {S : Type 0} (e : Event) (v u w : View S) (r : PutEnd) → u.handed ≡ v.handed → u.terms ≡ v.terms → HandedOn e u w r → HandedOn e v w r
-handed_as {S} e v u w PutPlaced same terms handed = subst (λ (n : Handed S). HandsOn (accepted e) n w.handed) same handed
-handed_as e v u w PutBarred same terms handed = handed ∙ same
-handed_as e v u w Later same terms handed = (handed.0 ∙ same, handed.1 ∙ ap (λ t. t.limits.most) terms)
+handed_as : {S : Type 0} (e : Event) (v u w : View S) (r : Put) → u.handed ≡ v.handed → u.terms ≡ v.terms → HandedOn e u w r → HandedOn e v w r
+handed_as {S} e v u w (Placed n) same terms handed = subst (λ (h : Handed S). HandsOn (accepted e) h w.handed) same handed
+handed_as e v u w (Barred at y) same terms handed = handed ∙ same
+handed_as e v u w (Held by passed) same terms handed = handed
+handed_as e v u w Full same terms handed = (handed.0 ∙ same, handed.1 ∙ ap (λ t. t.limits.most) terms)
 
-pub handed_since : {S E : Type 0} (e : Event) (v u w : View S) (r : Result PutEnd E) → u ≡ knowing v v.seen u.marks → IfOk r (HandedOn e u w) → IfOk r (HandedOn e v w)
-handed_since {S} e v u w r same handed =
-    if_ok (HandedOn e u w) (HandedOn e v w) r (λ answer. handed_as e v u w answer (ap (λ (x : View S). x.handed) same) (ap (λ (x : View S). x.terms) same)) handed
+pub handed_since : {S : Type 0} (e : Event) (v u w : View S) (r : Put) → u ≡ knowing v v.seen u.marks → HandedOn e u w r → HandedOn e v w r
+handed_since {S} e v u w r same handed = handed_as e v u w r (ap (λ (x : View S). x.handed) same) (ap (λ (x : View S). x.terms) same) handed
 
 -- what is said where it is done, where it is not
 pub never : {A : Type 0} → false ≡ true → A
@@ -210,12 +223,36 @@ module _ {S : Type 0} (shape : S → Shape) (gives : S → ℕ → Type 0) (pool
       let stands = subst (λ (q : PlanView). Rattle.gcd_machine.specs.Stands.StandsFor m q (view b.pass).seen) (sym serving.of.plan) serving.of.pass.stands in
       record { own = Rattle.gcd_machine.proofs.Views.Calls.plan_stands m plan (view b.pass).seen stands; stands = stands; few = subst (λ (n : ℕ). length (view b.pass).seen ≤ n) (sym (same_limit b serving)) serving.of.pass.few }
 
+  pub plan_after : (b : Hand S) → Serving shape gives pool a b → (view b.pass).terms.plan ≡ plan
+  plan_after b serving = sym serving.of.plan
+
+  -- what was put, by the plan and the limit of its pool
+  pub said_here : (e : Event) (h k : List Event) (r : Put) → Says (view a.pass).terms.limits.most (view a.pass).terms.plan e h k r → Says most plan e h k r
+  said_here e h k r said =
+      subst (λ (n : ℕ). Says n plan e h k r) most_of_head (subst (λ (q : PlanView). Says (view a.pass).terms.limits.most q e h k r) plan_of_head said)
+
+  -- what a turn of its work comes to
+  after_work : (b : Hand S) (step : Step) → Serving shape gives pool a b
+      → After (IsFresh shape (view b.pass) (slots b.pass)) ⊥ (HasEnded (view b.pass).terms.limits.most (view b.pass).terms.plan (view b.pass).seen) step
+      → After (IsHead shape gives pool b) ⊥ (HasEnded most plan (view b.pass).seen × IsHandOf shape gives pool b) step
+  after_work b StepPlaced serving after = still_head b serving after
+  after_work b Waited serving after = still_head b serving after
+  after_work b Stopped serving after = after
+  after_work b Over serving after = (
+    subst (λ (n : ℕ). HasEnded n plan (view b.pass).seen) (sym (same_limit b serving))
+        (subst (λ (q : PlanView). HasEnded (view b.pass).terms.limits.most q (view b.pass).seen) (plan_after b serving) after),
+    serving.of,
+  )
+
+  pub worked_after : {E : Type 0} (b : Hand S) (r : Result Step E) → Serving shape gives pool a b
+      → IfOk r (After (IsFresh shape (view b.pass) (slots b.pass)) ⊥ (HasEnded (view b.pass).terms.limits.most (view b.pass).terms.plan (view b.pass).seen))
+      → IfOk r (After (IsHead shape gives pool b) ⊥ (HasEnded most plan (view b.pass).seen × IsHandOf shape gives pool b))
+  worked_after b (Ok step) serving after = after_work b step serving after
+  worked_after b (Err x) serving after = tt
+
   pub worked : (b : Hand S) → Serving shape gives pool a b → AddsWork (view a.pass) (view b.pass) → IsGrown most plan (view a.pass).seen (view b.pass).seen
   worked b serving adds =
       grown most plan (view a.pass).seen (view b.pass).seen (machine_of b.pass) (hand_sight b serving) (adds_grows (view a.pass) (view b.pass) is.head adds)
-
-  pub plan_after : (b : Hand S) → Serving shape gives pool a b → (view b.pass).terms.plan ≡ plan
-  plan_after b serving = sym serving.of.plan
 
 pub leads_nowhere : {S : Type 0} → (shape : S → Shape) (gives : S → ℕ → Type 0) (pool : Pool S) (a : Hand S) → IsHandOf shape gives pool a → Leads shape gives pool a a
 leads_nowhere shape gives pool a of = record { serving = serves_nothing shape gives pool a of; follows = λ alone all follows. follows }

@@ -1,6 +1,7 @@
 -- What a pass is after an event was put until no passed word holds it.
 use Rattle.std.proofs.Common.{◌≡◌, ℕ, true, List, length, Some, None, sym, refl, ap, ◌∙◌, subst}
 use Rattle.gcd_plan.specs.declared.numbers.Run.{Run}
+use Rattle.gcd_plan.specs.declared.why.Why.{Why}
 use Rattle.gcd_event.specs.Owners.{ended}
 use Rattle.gcd_event.specs.declared.event.Event.{Event}
 use Rattle.gcd_history.specs.Choice.{is_work, worker_of}
@@ -12,8 +13,8 @@ use Rattle.gcd_row.specs.Views.{knowing}
 use Rattle.gcd_row.specs.Passes.{IsPassOf, Looks, Says, SaysSlots, slots, view}
 use Rattle.gcd_row.specs.declared.board.RowBoard.{RowBoard}
 use Rattle.gcd_row.specs.declared.pass.RowPass.{RowPass}
-use Rattle.gcd_row.specs.declared.put.Put.{Put}
-use Rattle.gcd_row.specs.declared.put.Put.TheVariants.{Placed as PutPlaced, Barred as PutBarred, Full as PutFull}
+use Rattle.gcd_machine.specs.declared.put.Put.{Put}
+use Rattle.gcd_machine.specs.declared.put.Put.TheVariants.{Placed, Barred, Held, Full}
 use Rattle.gcd_row.specs.Plays.{HandsOn}
 use Rattle.gcd_row.specs.declared.view.Handed.{Handed}
 use Rattle.gcd_row.specs.declared.view.View.{View}
@@ -22,8 +23,6 @@ use Rattle.gcd_pool.specs.Hands.{GoesOn, IsFresh, IsSettled}
 use Rattle.gcd_pool.specs.Throughs.{HasWaited, SaysThrough, WasPut}
 use Rattle.gcd_pool.specs.Placing.{HasPlaced, HasPlacedNone, SaysRecorded}
 use Rattle.gcd_pool.specs.Works.{AddsNone, AddsOnly, AddsWork}
-use Rattle.gcd_pool.specs.declared.putting.Through.{Through}
-use Rattle.gcd_pool.specs.declared.putting.Through.TheVariants.{Placed, Barred, Full, Stopped}
 use Rattle.gcd_pool.specs.declared.turn.Turn.{Turn}
 use Rattle.gcd_pool.specs.declared.turn.Turn.TheVariants.{Left, Waited, Placed as TurnPlaced, Ended, Stopped as TurnStopped}
 use Rattle.gcd_pool.proofs.Placing.{leaves_barred, leaves_full, one_further, put_barred, quiet_further, recorded_further, records, records_end, stops, waits_barred}
@@ -97,42 +96,56 @@ module _ {S : Type 0} (shape : S → Shape) (gives : S → ℕ → Type 0) (b : 
   pub put_then : (e : Event) (p q r : RowPass S) (said : Put) → HasWaited p q → IsPassOf shape gives b q → Says e (view q) (view r) said → SaysSlots shape gives e (slots q) (slots r) (view r) said → WasPut shape gives b e p r said
   put_then e p q r said w is says cells = put_after e p q r said w (put_at_once e q r said is says cells)
 
-  pub outcome_after : (e : Event) (p q r : RowPass S) (o : Through) → HasWaited p q → SaysThrough shape gives b e q r o → SaysThrough shape gives b e p r o
-  outcome_after e p q r Placed w x = (x.0, put_after e p q r (PutPlaced x.0) w x.1)
-  outcome_after e p q r Barred w x = (x.0, (x.1.0, put_after e p q r (PutBarred x.0 x.1.0) w x.1.1))
-  outcome_after e p q r Full w x = put_after e p q r PutFull w x
-  outcome_after e p q r Stopped w x = waits_further p q r w x
+  -- the last put gave this answer, and nothing has come since
+  pub put_said : (e : Event) (p q : RowPass S) (said : Put) → WasPut shape gives b e p q said → SaysThrough shape gives b e p q said
+  put_said e p q (Placed n) x = x
+  put_said e p q (Barred at y) x = x
+  put_said e p q (Held by passed) x = record { held = q; put = x; since = waits_nowhere q }
+  put_said e p q Full x = x
+
+  pub outcome_after : (e : Event) (p q r : RowPass S) (said : Put) → HasWaited p q → SaysThrough shape gives b e q r said → SaysThrough shape gives b e p r said
+  outcome_after e p q r (Placed n) w x = put_after e p q r (Placed n) w x
+  outcome_after e p q r (Barred at y) w x = put_after e p q r (Barred at y) w x
+  outcome_after e p q r (Held by passed) w x = record { held = x.held; put = put_after e p q x.held (Held by passed) w x.put; since = x.since }
+  outcome_after e p q r Full w x = put_after e p q r Full w x
+
+  -- where a passed word held the event, nothing of its own has come
+  pub held_waits : (e : Event) (p q : RowPass S) (by passed : ℕ) → SaysThrough shape gives b e p q (Held by passed) → HasWaited p q
+  held_waits e p q by passed x =
+      let put = x.put in
+      let looked = looks_waits put.last x.held put.says.0.looks put.slots_say in
+      waits_further p x.held q (waits_further p put.last x.held put.waited looked) x.since
 
   -- ## What it is then
 
   pub put_goes : (e : Event) (p q : RowPass S) (said : Put) → WasPut shape gives b e p q said → GoesOn (view p) (view q)
   put_goes e p q said x = goes_further (view p) (view x.last) (view q) (waited_goes p x.last x.waited) (says_goes_on e (view x.last) (view q) said x.says)
 
-  pub outcome_goes : (e : Event) (p q : RowPass S) (o : Through) → SaysThrough shape gives b e p q o → GoesOn (view p) (view q)
-  outcome_goes e p q Placed x = put_goes e p q (PutPlaced x.0) x.1
-  outcome_goes e p q Barred x = put_goes e p q (PutBarred x.0 x.1.0) x.1.1
-  outcome_goes e p q Full x = put_goes e p q PutFull x
-  outcome_goes e p q Stopped x = waited_goes p q x
+  pub outcome_goes : (e : Event) (p q : RowPass S) (said : Put) → SaysThrough shape gives b e p q said → GoesOn (view p) (view q)
+  outcome_goes e p q (Placed n) x = put_goes e p q (Placed n) x
+  outcome_goes e p q (Barred at y) x = put_goes e p q (Barred at y) x
+  outcome_goes e p q (Held by passed) x = waited_goes p q (held_waits e p q by passed x)
+  outcome_goes e p q Full x = put_goes e p q Full x
 
   pub put_adds : (e : Event) (p q : RowPass S) (said : Put) → is_work e ≡ true → WasPut shape gives b e p q said → AddsWork (view p) (view q)
   put_adds e p q said work x = adds_further (view p) (view x.last) (view q) (waited_adds p x.last x.waited) (says_adds e (view x.last) (view q) said work x.says)
 
-  pub outcome_adds : (e : Event) (p q : RowPass S) (o : Through) → is_work e ≡ true → SaysThrough shape gives b e p q o → AddsWork (view p) (view q)
-  outcome_adds e p q Placed work x = put_adds e p q (PutPlaced x.0) work x.1
-  outcome_adds e p q Barred work x = put_adds e p q (PutBarred x.0 x.1.0) work x.1.1
-  outcome_adds e p q Full work x = put_adds e p q PutFull work x
-  outcome_adds e p q Stopped work x = waited_adds p q x
+  pub outcome_adds : (e : Event) (p q : RowPass S) (said : Put) → is_work e ≡ true → SaysThrough shape gives b e p q said → AddsWork (view p) (view q)
+  outcome_adds e p q (Placed n) work x = put_adds e p q (Placed n) work x
+  outcome_adds e p q (Barred at y) work x = put_adds e p q (Barred at y) work x
+  outcome_adds e p q (Held by passed) work x = waited_adds p q (held_waits e p q by passed x)
+  outcome_adds e p q Full work x = put_adds e p q Full work x
 
   pub put_only : (e : Event) (p q : RowPass S) (said : Put) → WasPut shape gives b e p q said → AddsOnly e (view p) (view q)
   put_only e p q said x =
       none_then e (view p) (view x.last) (view q) (waited_worker p x.last x.waited) (says_goes_on e (view x.last) (view q) said x.says).more (waited_none p x.last x.waited)
       (says_only e (view x.last) (view q) said x.says)
 
-  pub outcome_only : (e : Event) (p q : RowPass S) (o : Through) → SaysThrough shape gives b e p q o → AddsOnly e (view p) (view q)
-  outcome_only e p q Placed x = put_only e p q (PutPlaced x.0) x.1
-  outcome_only e p q Barred x = put_only e p q (PutBarred x.0 x.1.0) x.1.1
-  outcome_only e p q Full x = put_only e p q PutFull x
-  outcome_only e p q Stopped x = none_only e (view p) (view q) (waited_none p q x)
+  pub outcome_only : (e : Event) (p q : RowPass S) (said : Put) → SaysThrough shape gives b e p q said → AddsOnly e (view p) (view q)
+  outcome_only e p q (Placed n) x = put_only e p q (Placed n) x
+  outcome_only e p q (Barred at y) x = put_only e p q (Barred at y) x
+  outcome_only e p q (Held by passed) x = none_only e (view p) (view q) (waited_none p q (held_waits e p q by passed x))
+  outcome_only e p q Full x = put_only e p q Full x
 
   pub put_fresh : (e : Event) (p q : RowPass S) (said : Put) → IsPassOf shape gives b q → worker_of e ≡ (view p).worker
       → WasPut shape gives b e p q said → IsFresh shape (view p) (slots p) → IsFresh shape (view q) (slots q)
@@ -141,24 +154,24 @@ module _ {S : Type 0} (shape : S → Shape) (gives : S → ℕ → Type 0) (b : 
       x.says x.slots_say
       (waited_fresh p x.last x.of x.waited fresh)
 
-  pub outcome_fresh : (e : Event) (p q : RowPass S) (o : Through) → IsPassOf shape gives b q → worker_of e ≡ (view p).worker
-      → SaysThrough shape gives b e p q o → IsFresh shape (view p) (slots p) → IsFresh shape (view q) (slots q)
-  outcome_fresh e p q Placed is mine x fresh = put_fresh e p q (PutPlaced x.0) is mine x.1 fresh
-  outcome_fresh e p q Barred is mine x fresh = put_fresh e p q (PutBarred x.0 x.1.0) is mine x.1.1 fresh
-  outcome_fresh e p q Full is mine x fresh = put_fresh e p q PutFull is mine x fresh
-  outcome_fresh e p q Stopped is mine x fresh = waited_fresh p q is x fresh
+  pub outcome_fresh : (e : Event) (p q : RowPass S) (said : Put) → IsPassOf shape gives b q → worker_of e ≡ (view p).worker
+      → SaysThrough shape gives b e p q said → IsFresh shape (view p) (slots p) → IsFresh shape (view q) (slots q)
+  outcome_fresh e p q (Placed n) is mine x fresh = put_fresh e p q (Placed n) is mine x fresh
+  outcome_fresh e p q (Barred at y) is mine x fresh = put_fresh e p q (Barred at y) is mine x fresh
+  outcome_fresh e p q (Held by passed) is mine x fresh = waited_fresh p q is (held_waits e p q by passed x) fresh
+  outcome_fresh e p q Full is mine x fresh = put_fresh e p q Full is mine x fresh
 
   -- ## What it has placed
 
-  pub placed_one : (e : Event) (p q : RowPass S) → SaysThrough shape gives b e p q Placed → HasPlaced e (view p) (view q)
-  placed_one e p q x =
-      let last = x.1.last in
-      one_further e (view p) (view last) (view q) (waited_goes p last x.1.waited) (waited_quiet p last x.1.waited) x.1.says.own
+  pub placed_one : (e : Event) (p q : RowPass S) (n : ℕ) → SaysThrough shape gives b e p q (Placed n) → HasPlaced e (view p) (view q)
+  placed_one e p q n x = one_further e (view p) (view x.last) (view q) (waited_goes p x.last x.waited) (waited_quiet p x.last x.waited) x.says.own
 
-  pub barred_none : (e : Event) (p q : RowPass S) → SaysThrough shape gives b e p q Barred → HasPlacedNone (view p) (view q)
-  barred_none e p q x =
-      let put = x.1.1 in
-      quiet_further (view p) (view put.last) (view q) (waited_goes p put.last put.waited) (waited_quiet p put.last put.waited) (put_barred e (view put.last) (view q) x.0 x.1.0 put.says)
+  pub barred_none : (e : Event) (p q : RowPass S) (at : ℕ) (y : Why) → SaysThrough shape gives b e p q (Barred at y) → HasPlacedNone (view p) (view q)
+  barred_none e p q at y x =
+      quiet_further (view p) (view x.last) (view q) (waited_goes p x.last x.waited) (waited_quiet p x.last x.waited) (put_barred e (view x.last) (view q) at y x.says)
+
+  pub held_none : (e : Event) (p q : RowPass S) (by passed : ℕ) → SaysThrough shape gives b e p q (Held by passed) → HasPlacedNone (view p) (view q)
+  held_none e p q by passed x = waited_quiet p q (held_waits e p q by passed x)
 
   pub full_none : (e : Event) (p q : RowPass S) → SaysThrough shape gives b e p q Full → HasPlacedNone (view p) (view q)
   full_none e p q x = quiet_further (view p) (view x.last) (view q) (waited_goes p x.last x.waited) (waited_quiet p x.last x.waited) x.says.1.own
@@ -166,23 +179,23 @@ module _ {S : Type 0} (shape : S → Shape) (gives : S → ℕ → Type 0) (b : 
   recorded_then : (e : Event) (p q : RowPass S) (said : Put) (t : Turn) → (x : WasPut shape gives b e p q said) → SaysRecorded e t (view x.last) (view q) → SaysRecorded e t (view p) (view q)
   recorded_then e p q said t x recorded = recorded_further e t (view p) (view x.last) (view q) (waited_goes p x.last x.waited) (waited_quiet p x.last x.waited) recorded
 
-  pub outcome_records : (e : Event) (p q : RowPass S) → SaysThrough shape gives b e p q Placed → ended e ≡ None → SaysRecorded e TurnPlaced (view p) (view q)
-  outcome_records e p q x ends = recorded_then e p q (PutPlaced x.0) TurnPlaced x.1 (records e (view x.1.last) (view q) x.0 x.1.says ends)
+  pub outcome_records : (e : Event) (p q : RowPass S) (n : ℕ) → SaysThrough shape gives b e p q (Placed n) → ended e ≡ None → SaysRecorded e TurnPlaced (view p) (view q)
+  outcome_records e p q n x ends = recorded_then e p q (Placed n) TurnPlaced x (records e (view x.last) (view q) n x.says ends)
 
-  pub outcome_ends : (e : Event) (r : Run) (p q : RowPass S) → SaysThrough shape gives b e p q Placed → ended e ≡ Some r → SaysRecorded e Ended (view p) (view q)
-  outcome_ends e r p q x ends = recorded_then e p q (PutPlaced x.0) Ended x.1 (records_end e r (view x.1.last) (view q) x.0 x.1.says ends)
+  pub outcome_ends : (e : Event) (r : Run) (p q : RowPass S) (n : ℕ) → SaysThrough shape gives b e p q (Placed n) → ended e ≡ Some r → SaysRecorded e Ended (view p) (view q)
+  outcome_ends e r p q n x ends = recorded_then e p q (Placed n) Ended x (records_end e r (view x.last) (view q) n x.says ends)
 
   pub outcome_leaves : (e : Event) (p q : RowPass S) → SaysThrough shape gives b e p q Full → SaysRecorded e Left (view p) (view q)
-  outcome_leaves e p q x = recorded_then e p q PutFull Left x (leaves_full e (view x.last) (view q) x.says)
+  outcome_leaves e p q x = recorded_then e p q Full Left x (leaves_full e (view x.last) (view q) x.says)
 
-  pub barred_leaves : (e : Event) (p q : RowPass S) → SaysThrough shape gives b e p q Barred → SaysRecorded e Left (view p) (view q)
-  barred_leaves e p q x = recorded_then e p q (PutBarred x.0 x.1.0) Left x.1.1 (leaves_barred e (view x.1.1.last) (view q) x.0 x.1.0 x.1.1.says)
+  pub barred_leaves : (e : Event) (p q : RowPass S) (at : ℕ) (y : Why) → SaysThrough shape gives b e p q (Barred at y) → SaysRecorded e Left (view p) (view q)
+  barred_leaves e p q at y x = recorded_then e p q (Barred at y) Left x (leaves_barred e (view x.last) (view q) at y x.says)
 
-  pub barred_waits : (e : Event) (p q : RowPass S) → SaysThrough shape gives b e p q Barred → SaysRecorded e Waited (view p) (view q)
-  barred_waits e p q x = recorded_then e p q (PutBarred x.0 x.1.0) Waited x.1.1 (waits_barred e (view x.1.1.last) (view q) x.0 x.1.0 x.1.1.says)
+  pub barred_waits : (e : Event) (p q : RowPass S) (at : ℕ) (y : Why) → SaysThrough shape gives b e p q (Barred at y) → SaysRecorded e Waited (view p) (view q)
+  barred_waits e p q at y x = recorded_then e p q (Barred at y) Waited x (waits_barred e (view x.last) (view q) at y x.says)
 
-  pub outcome_stops : (e : Event) (p q : RowPass S) → SaysThrough shape gives b e p q Stopped → SaysRecorded e TurnStopped (view p) (view q)
-  outcome_stops e p q x = stops e (view p) (view q) (waited_quiet p q x)
+  pub outcome_stops : (e : Event) (p q : RowPass S) (by passed : ℕ) → SaysThrough shape gives b e p q (Held by passed) → SaysRecorded e TurnStopped (view p) (view q)
+  outcome_stops e p q by passed x = stops e (view p) (view q) (held_none e p q by passed x)
 
   -- ## How full the row is
 
@@ -191,29 +204,26 @@ module _ {S : Type 0} (shape : S → Shape) (gives : S → ℕ → Type 0) (b : 
 
   -- ## What worker 0 has handed in
 
-  pub placed_hands : (e : Event) (p q : RowPass S) → SaysThrough shape gives b e p q Placed → HandsOn (accepted e) (view p).handed (view q).handed
-  placed_hands e p q x =
-      subst (λ (n : Handed S). HandsOn (accepted e) n (view q).handed) (ap (λ (y : View S). y.handed) x.1.waited.is) x.1.says.handed
+  pub placed_hands : (e : Event) (p q : RowPass S) (n : ℕ) → SaysThrough shape gives b e p q (Placed n) → HandsOn (accepted e) (view p).handed (view q).handed
+  placed_hands e p q n x =
+      subst (λ (h : Handed S). HandsOn (accepted e) h (view q).handed) (ap (λ (y : View S). y.handed) x.waited.is) x.says.handed
 
-  pub barred_hands : (e : Event) (p q : RowPass S) → SaysThrough shape gives b e p q Barred → (view q).handed ≡ (view p).handed
-  barred_hands e p q x = let put = x.1.1 in ap (λ (y : View S). y.handed) put.says.0.is ∙ ap (λ (y : View S). y.handed) put.waited.is
+  pub barred_hands : (e : Event) (p q : RowPass S) (at : ℕ) (y : Why) → SaysThrough shape gives b e p q (Barred at y) → (view q).handed ≡ (view p).handed
+  barred_hands e p q at y x = ap (λ (z : View S). z.handed) x.says.0.is ∙ ap (λ (z : View S). z.handed) x.waited.is
 
   pub full_hands : (e : Event) (p q : RowPass S) → SaysThrough shape gives b e p q Full → ((view q).handed ≡ (view p).handed) × (length (view q).seen ≡ (view p).terms.limits.most)
   full_hands e p q x = (ap (λ (y : View S). y.handed) x.says.0 ∙ ap (λ (y : View S). y.handed) x.waited.is, x.says.2 ∙ ap (λ (y : View S). y.terms.limits.most) x.waited.is)
 
   -- ## An end
 
-  pub outcome_settled : (e : Event) (p q : RowPass S) → IsPassOf shape gives b q → SaysThrough shape gives b e p q Barred → IsSettled shape (view p) e (slots p) → IsSettled shape (view q) e (slots q)
-  outcome_settled e p q is x settled =
-      let put = x.1.1 in
-      waited_settled put.last q e is (looks_waits put.last q put.says.0 put.slots_say) (waited_settled p put.last e put.of put.waited settled)
+  pub outcome_settled : (e : Event) (p q : RowPass S) (at : ℕ) (y : Why) → IsPassOf shape gives b q → SaysThrough shape gives b e p q (Barred at y) → IsSettled shape (view p) e (slots p) → IsSettled shape (view q) e (slots q)
+  outcome_settled e p q at y is x settled =
+      waited_settled x.last q e is (looks_waits x.last q x.says.0 x.slots_say) (waited_settled p x.last e x.of x.waited settled)
 
-  pub outcome_ended : (e : Event) (p q : RowPass S) → worker_of e ≡ (view p).worker → SaysThrough shape gives b e p q Placed → IsSettled shape (view p) e (slots p) → IsFresh shape (view q) (slots q)
-  outcome_ended e p q mine x settled =
-      let put = x.1 in
-      settled_placed shape gives b put.last q e x.0 (mine ∙ sym (waited_worker p put.last put.waited)) put.says (waited_settled p put.last e put.of put.waited settled)
+  pub outcome_ended : (e : Event) (p q : RowPass S) (n : ℕ) → worker_of e ≡ (view p).worker → SaysThrough shape gives b e p q (Placed n) → IsSettled shape (view p) e (slots p) → IsFresh shape (view q) (slots q)
+  outcome_ended e p q n mine x settled =
+      settled_placed shape gives b x.last q e n (mine ∙ sym (waited_worker p x.last x.waited)) x.says (waited_settled p x.last e x.of x.waited settled)
 
-  pub barred_adds_none : (e : Event) (p q : RowPass S) → SaysThrough shape gives b e p q Barred → AddsNone (view p) (view q)
-  barred_adds_none e p q x =
-      let put = x.1.1 in
-      waited_none p q (waits_further p put.last q put.waited (looks_waits put.last q put.says.0 put.slots_say))
+  pub barred_adds_none : (e : Event) (p q : RowPass S) (at : ℕ) (y : Why) → SaysThrough shape gives b e p q (Barred at y) → AddsNone (view p) (view q)
+  barred_adds_none e p q at y x =
+      waited_none p q (waits_further p x.last q x.waited (looks_waits x.last q x.says.0 x.slots_say))

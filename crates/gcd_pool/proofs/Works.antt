@@ -15,8 +15,8 @@ use Rattle.gcd_history.specs.Team.{of_worker, StartsWith}
 use Rattle.gcd_history.proofs.HeldRuns.OwnEvents.{none_of_worker}
 use Rattle.gcd_row.specs.Views.{seeing}
 use Rattle.gcd_row.specs.Passes.{Ahead, Looks, Says}
-use Rattle.gcd_row.specs.declared.put.Put.{Put}
-use Rattle.gcd_row.specs.declared.put.Put.TheVariants.{Placed, Barred, Held, Full}
+use Rattle.gcd_machine.specs.declared.put.Put.{Put}
+use Rattle.gcd_machine.specs.declared.put.Put.TheVariants.{Placed, Barred, Held, Full}
 use Rattle.gcd_row.specs.declared.view.View.{View}
 use Rattle.gcd_event.specs.Owners.{ended}
 use Rattle.gcd_row.proofs.AfterPut.{handed_by}

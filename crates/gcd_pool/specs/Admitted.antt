@@ -1,5 +1,5 @@
 -- What worker 0 of a pool took of outside callers, and what was accepted of it.
-use Rattle.std.specs.Prelude.{◌≡◌, ◌<◌, ◌≤◌, ◌⊎◌, ℕ, Bool, true, false, List, [], ◌++◌, Option, Some, length}
+use Rattle.std.specs.Prelude.{◌≡◌, ◌<◌, ◌≤◌, ◌⊎◌, ℕ, Bool, true, false, List, [], ◌++◌, Option, Some, length, Result, Ok, slice_index_or}
 use Rattle.std.specs.List.{AllZip, list_any}
 use Rattle.gcd_plan.specs.PlanView.{PlanView}
 use Rattle.gcd_plan.specs.declared.numbers.Blk.{Blk}
@@ -20,13 +20,16 @@ use Rattle.gcd_row.specs.Views.{turning}
 use Rattle.gcd_row.specs.declared.view.Next.TheVariants.{Laid}
 use Rattle.gcd_row.specs.declared.view.View.{View}
 use Rattle.gcd_loop.specs.Recorded.{IsSight, Says}
-use Rattle.gcd_loop.specs.declared.recorder.PutEnd.{PutEnd}
+use Rattle.gcd_machine.specs.declared.put.Put.{Put}
+use Rattle.gcd_machine.specs.declared.put.Put.TheVariants.{Placed, Barred, Held, Full}
 use Rattle.gcd_outer.specs.Outside.{ClockState}
 use Rattle.gcd_outer.specs.Tells.{PollerState}
-use Rattle.gcd_loop.specs.declared.recorder.PutEnd.TheVariants.{Placed, Barred, Later}
+use Rattle.gcd_outer.specs.declared.clock.Clock.{Ghosts as ClockGhosts}
+use Rattle.gcd_outer.specs.declared.poller.Poller.{Ghosts as PollerGhosts}
 use Rattle.gcd_turn.specs.declared.outside.Outside.{Outside}
 use Rattle.gcd_pool.specs.Hands.{IsHandOf}
 use Rattle.gcd_pool.specs.Leads.{IsHead, Leads, Led, bounds_of, head_left, head_sight}
+use Rattle.gcd_pool.specs.declared.duty.Exit.{Exit}
 use Rattle.gcd_pool.specs.declared.hand.Hand.{Hand}
 use Rattle.gcd_pool.specs.declared.head.Head.{Head}
 use Rattle.gcd_pool.specs.declared.hand.Pool.{Pool}
@@ -68,11 +71,13 @@ module _ {S X : Type 0} (gives : S → ℕ → Type 0) (sent : X → ℕ → Typ
     pub shut : list_any shuts v.seen ≡ true → (s : ℕ) → AreTakenFor v (jobs_of s i.taken) s
     pub why_shut : list_any shuts v.seen ≡ true → AllAccepted v.terms.plan v.seen ⊎ (KnowsAll f i × TookAll i)
 
--- what worker 0 has handed in after an event of its own was put: with an Accept what it laid into the block's slot, and else nothing more
-abbrev pub HandedOn : {S : Type 0} → Event → View S → View S → PutEnd → Type 0
-HandedOn e v w Placed = HandsOn (accepted e) v.handed w.handed
-HandedOn e v w Barred = w.handed ≡ v.handed
-HandedOn e v w Later = (w.handed ≡ v.handed) × (length w.seen ≡ v.terms.limits.most)
+-- What worker 0 has handed in after an event of its own was put: with an Accept what it laid into the block's slot, and else nothing more.
+-- It waits while a passed word holds the event, so it never answers `Held`.
+abbrev pub HandedOn : {S : Type 0} → Event → View S → View S → Put → Type 0
+HandedOn e v w (Placed n) = HandsOn (accepted e) v.handed w.handed
+HandedOn e v w (Barred at y) = w.handed ≡ v.handed
+HandedOn e v w (Held by passed) = ⊥
+HandedOn e v w Full = (w.handed ≡ v.handed) × (length w.seen ≡ v.terms.limits.most)
 
 -- worker 0 between two turns: its hand, with the intake of this front, which has no more senders than there may be, of which it accepted
 -- what it took
@@ -106,8 +111,8 @@ pub record KeepsHead {S X : Type 0} (shape : S → Shape) (gives : S → ℕ →
   pub intake : new.intake.ghost_name ≡ old.intake.ghost_name
 
 -- the job of a sender was laid into the slot of block b, and its Accept was put
-pub record IsAccepted {S X : Type 0} (gives : S → ℕ → Type 0) (sent : X → ℕ → Type 0) (most : ℕ) (plan : PlanView) (b : Blk) (sender : ℕ) (job : X) (v w : View S) (answer : Option PutEnd) : Type 0 where
-  pub put : PutEnd
+pub record IsAccepted {S X : Type 0} (gives : S → ℕ → Type 0) (sent : X → ℕ → Type 0) (most : ℕ) (plan : PlanView) (b : Blk) (sender : ℕ) (job : X) (v w : View S) (answer : Option Put) : Type 0 where
+  pub put : Put
   pub is : answer ≡ Some put
   pub said : Says most plan (Accept b sender) v.seen w.seen put
   pub cell : S
@@ -124,3 +129,10 @@ pub record LedWithFront {S X P C : Type 0} (poller_tells clock_tells : Bool) (po
   pub led : Led poller_tells clock_tells poller clock alone done (old.0, old.2) (new.0, new.2)
   pub of_front : done → (view old.0.pass).worker ≡ 0 → IsIntakeOf f new.1
   pub admitted : done → (view old.0.pass).worker ≡ 0 → Admitted gives sent f (view new.0.pass) new.1
+
+-- so has the first of these hands, and it is done if a run answers this: a team of one follows its choice
+abbrev pub AreLed : {S X P C E : Type 0} → PollerGhosts P → ClockGhosts C → (gives : S → ℕ → Type 0) → (sent : X → ℕ → Type 0) → FrontView
+    → Result Exit E → (old new : List (Hand S) × IntakeView X × Outside P C) → Type 0
+AreLed {S} poller clock gives sent f result old new = (d : Hand S)
+    → LedWithFront poller.tells clock.tells poller.state clock.state gives sent f (length old.0 ≡ 1) ((exit : Exit) × (result ≡ Ok exit))
+    (slice_index_or old.0 0 d, old.1, old.2) (slice_index_or new.0 0 d, new.1, new.2)

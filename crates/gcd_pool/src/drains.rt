@@ -9,14 +9,13 @@ ghost use Rattle.gcd_steal.specs.Drains.{node_of};
 ghost use Rattle.gcd_steal.specs.Racks.{IsBenchOf, IsRackDrain, number_of};
 ghost use Rattle.gcd_pool.specs.Duties.{begun_on};
 ghost use Rattle.gcd_pool.specs.Hands.{IsHandOf, IsReady, Serving};
-ghost use Rattle.gcd_pool.specs.Throughs.{SaysThrough};
 ghost use Rattle.gcd_pool.specs.Placing.{SaysBegun};
 ghost use Rattle.gcd_pool.specs.Turns.{AfterTurn, IsLaidDown, LaysFoundDown, SaysOut};
 ghost use Rattle.gcd_pool.specs.Works.{AddsWork};
 
 use crate::finding::find_drain;
 use crate::hand::{Hand, Pool};
-use crate::putting::{Through, put_chosen_through};
+use crate::putting::put_chosen_through;
 use crate::run_cells::RunCells;
 use crate::turn::Turn;
 use gcd_event::Event;
@@ -37,26 +36,6 @@ pub fn begin<S: Slot>(board: &RowBoard<S>, pass: &mut RowPass<S>, _drain: &Drain
     ensures slots { SaysSlots S.shape S.gives e (slots pass.old) (slots pass.new) (view pass.new) result }
 {
     board.put(pass, e)
-}
-
-// Puts one that the pass's machine permits until no passed word holds it. It is not judged again before the first exchange.
-#[inline(always)]
-fn put_begin<S: Slot, R: Wait>(
-    rt: &R,
-    pool: &Pool<S>,
-    hand: &mut Hand<S>,
-    _drain: &Drain,
-    e: Event,
-) -> Through
-    requires ready { IsReady S.shape S.gives pool.now hand.old }
-    requires worker { worker_of e ≡ (view hand.old.pass).worker }
-    requires begins { begun_on (view hand.old.pass).terms.plan (view hand.old.pass).seen e ≡ Some (node_of _drain.now) }
-    requires may { why (view hand.old.pass).terms.plan (view hand.old.pass).seen e ≡ None }
-    ensures serving { Serving S.shape S.gives pool.now hand.old hand.new }
-    ensures said { SaysThrough S.shape S.gives pool.now.board.now e hand.old.pass hand.new.pass result }
-    ensures bench { hand.new.bench ≡ hand.old.bench }
-{
-    put_chosen_through(rt, pool, hand, e)
 }
 
 // Puts the Drain at the back of the bench's own deque, or else into its sleeping place.
@@ -87,34 +66,6 @@ fn lay_down(rack: &Rack, bench: &mut Bench, drain: Drain, more: bool)
         push_or_sleep(rack, bench, drain);
     } else {
         rack.sleep(bench, drain);
-    }
-}
-
-// Puts an event that the pass's machine permits, and that begins a run on the Drain's node.
-#[inline(always)]
-fn begins_run<S: Slot, R: Wait>(
-    rt: &R,
-    pool: &Pool<S>,
-    hand: &mut Hand<S>,
-    drain: &Drain,
-    e: Event,
-) -> Turn
-    requires ready { IsReady S.shape S.gives pool.now hand.old }
-    requires worker { worker_of e ≡ (view hand.old.pass).worker }
-    requires begins { begun_on (view hand.old.pass).terms.plan (view hand.old.pass).seen e ≡ Some (node_of drain.now) }
-    requires may { why (view hand.old.pass).terms.plan (view hand.old.pass).seen e ≡ None }
-    requires work { is_work e ≡ true }
-    ensures serving { Serving S.shape S.gives pool.now hand.old hand.new }
-    ensures work { AddsWork (view hand.old.pass) (view hand.new.pass) }
-    ensures begun { (node : Obj) → SaysBegun node result (view hand.old.pass) (view hand.new.pass) }
-    ensures after { AfterTurn S.shape result (view hand.new.pass) (slots hand.new.pass) }
-    ensures bench { hand.new.bench ≡ hand.old.bench }
-{
-    match put_begin(rt, pool, hand, drain, e) {
-        Through::Placed => Turn::Placed,
-        Through::Barred => Turn::Waited,
-        Through::Full => Turn::Waited,
-        Through::Stopped => Turn::Stopped,
     }
 }
 
@@ -155,32 +106,22 @@ fn begin_with<S: Slot, R: Wait>(
     ensures laid { IsLaidDown hand.old.bench drain hand.new.bench }
 {
     let node = drain.node();
-    let turn = begins_run(rt, pool, hand, &drain, e);
-    if let Turn::Placed = turn {
-        let more = others_may_begin(pool.plan, pool.alone, hand.pass.machine(), node);
-        lay_down(pool.rack, &mut hand.bench, drain, more);
-        turn
-    } else {
-        pool.rack.sleep(&mut hand.bench, drain);
-        turn
-    }
-}
-
-// Begins what may begin on the Drain's node, and lays the Drain down.
-fn begin_any<S: Slot, R: Wait>(rt: &R, pool: &Pool<S>, hand: &mut Hand<S>, drain: Drain) -> Turn
-    requires ready { IsReady S.shape S.gives pool.now hand.old }
-    requires drain { IsRackDrain pool.now.rack.now drain }
-    ensures serving { Serving S.shape S.gives pool.now hand.old hand.new }
-    ensures work { AddsWork (view hand.old.pass) (view hand.new.pass) }
-    ensures begun { (node : Obj) → SaysBegun node result (view hand.old.pass) (view hand.new.pass) }
-    ensures after { AfterTurn S.shape result (view hand.new.pass) (slots hand.new.pass) }
-    ensures laid { IsLaidDown hand.old.bench drain hand.new.bench }
-{
-    let worker = hand.pass.worker();
-    match hand.pass.machine().begin_on(worker, drain.node()) {
-        Some(e) => begin_with(rt, pool, hand, drain, e),
-        None => {
-            pool.rack.sleep(&mut hand.bench, drain);
+    match put_chosen_through(rt, pool, hand, e) {
+        Put::Placed(_) => {
+            let more = others_may_begin(pool.plan, pool.alone, hand.pass.machine(), node);
+            lay_down(pool.rack, &mut hand.bench, drain, more);
+            Turn::Placed
+        }
+        Put::Barred { .. } => {
+            lay_down(pool.rack, &mut hand.bench, drain, false);
+            Turn::Waited
+        }
+        Put::Held { .. } => {
+            lay_down(pool.rack, &mut hand.bench, drain, false);
+            Turn::Stopped
+        }
+        Put::Full => {
+            lay_down(pool.rack, &mut hand.bench, drain, false);
             Turn::Waited
         }
     }
@@ -208,9 +149,16 @@ pub fn begin_near<S: RunCells, R: Wait>(
     ensures out { SaysOut result hand.old.bench hand.new.bench }
     ensures laid { LaysFoundDown hand.old.bench hand.new.bench result }
 {
-    match find_drain(rt, pool.rack, &mut hand.bench, node) {
-        Some(drain) => begin_any(rt, pool, hand, drain),
-        None => Turn::Out(node),
+    let Some(drain) = find_drain(rt, pool.rack, &mut hand.bench, node) else {
+        return Turn::Out(node);
+    };
+    let worker = hand.pass.worker();
+    match hand.pass.machine().begin_on(worker, drain.node()) {
+        Some(e) => begin_with(rt, pool, hand, drain, e),
+        None => {
+            pool.rack.sleep(&mut hand.bench, drain);
+            Turn::Waited
+        }
     }
 }
 

@@ -68,6 +68,24 @@ impl<'a, S: Slot> Pool<'a, S> {
         }
     }
 
+    /// The hand of a worker that has no event yet. Conditions: the pass is of the pool's board, the bench of its rack, and both are of its
+    /// plan; and worker 0's pass has passed nothing on, so its journal is empty.
+    pub fn hand(&self, alloc: Global, pass: RowPass<S>, bench: Bench) -> Hand<S>
+        requires pool { IsPool self.now }
+        requires pass { IsPassOf S.shape S.gives self.now.board.now pass }
+        requires bench { IsBenchOf self.now.rack.now bench }
+        requires none { of_worker (view pass).worker (view pass).seen ≡ [] }
+        requires passed { (view pass).worker ≡ 0 → (view pass).marks.passed ≡ 0 }
+        ensures ready { IsReady S.shape S.gives self.now result }
+        ensures parts { (result.pass ≡ pass) × (result.bench ≡ bench) × (result.journal.items ≡ []) }
+    {
+        Hand {
+            pass,
+            bench,
+            journal: Vec::new(alloc),
+        }
+    }
+
     // Memory was refused to worker 0's journal, or a worker's thread was never made.
     pub(crate) fn stop(&self) {
         self.stopped.store(true, Ordering::SeqCst);
@@ -99,24 +117,4 @@ pub struct Hand<S> {
     pub bench: Bench,
     /// The events that worker 0 has gathered, the oldest first: those that its pass has seen up to its passed word. A helper's is empty.
     pub journal: Vec<Entry>,
-}
-
-impl<S: Slot> Hand<S> {
-    /// The hand of a worker that has no event yet. Conditions: the pass is of the pool's board, the bench
-    /// of its rack, and both are of its plan; and worker 0's pass has passed nothing on, so its journal is empty.
-    pub fn new(alloc: Global, _pool: &Pool<S>, pass: RowPass<S>, bench: Bench) -> Hand<S>
-        requires pool { IsPool _pool.now }
-        requires pass { IsPassOf S.shape S.gives _pool.now.board.now pass }
-        requires bench { IsBenchOf _pool.now.rack.now bench }
-        requires none { of_worker (view pass).worker (view pass).seen ≡ [] }
-        requires passed { (view pass).worker ≡ 0 → (view pass).marks.passed ≡ 0 }
-        ensures ready { IsReady S.shape S.gives _pool.now result }
-        ensures parts { (result.pass ≡ pass) × (result.bench ≡ bench) × (result.journal.items ≡ []) }
-    {
-        Hand {
-            pass,
-            bench,
-            journal: Vec::new(alloc),
-        }
-    }
 }

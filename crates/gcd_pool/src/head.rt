@@ -1,13 +1,12 @@
 // Worker 0 of a pool, which alone has poller and clock, and the intake of the jobs of outside callers.
-ghost use Rattle.std.specs.Prelude.{◌≡◌, ◌≤◌, ◌⊎◌, true, false, ℕ, Some, None, IfOk, OnOk};
+ghost use Rattle.std.specs.Prelude.{◌≡◌, ◌≤◌, true, false, ℕ, Some, None, IfOk, OnOk};
 ghost use Rattle.gcd_history.specs.History.{is_intake_open, next_of_intake};
 ghost use Rattle.gcd_loop.specs.Recorded.{Admits};
-ghost use Rattle.gcd_front.specs.Fronts.{IsIntakeOf, KnowsAll, TookAll};
+ghost use Rattle.gcd_front.specs.Fronts.{IsIntakeOf};
 ghost use Rattle.gcd_front.specs.Limits.{max_senders};
 ghost use Rattle.gcd_plan.specs.PlanView.{PlanView};
 ghost use Rattle.gcd_row.specs.Passes.{view};
 ghost use Rattle.gcd_turn.specs.Turns.{HasRoom};
-ghost use Rattle.gcd_history.specs.Intake.{AllAccepted};
 ghost use Rattle.gcd_pool.specs.Admitted.{Admitted, IsAccepted, IsLeading};
 ghost use Rattle.gcd_pool.specs.Hands.{IsReady, Serving};
 ghost use Rattle.gcd_pool.specs.Leads.{IsHead, Leads, Led, bounds_of};
@@ -16,42 +15,23 @@ ghost use Rattle.gcd_pool.specs.declared.hand.Hand.{Hand};
 use crate::admit_cells::AdmitCells;
 use crate::hand::{Hand, Pool};
 use crate::head_idle::HeadIdle;
-use crate::lead::{gather_all, look_on, put_on, rest_on, work_on};
+use crate::lead::{gather_all, lead_any, put_on, step_of};
 use crate::putting::pass_many;
 use crate::serve::serve_to_the_end;
 use crate::team::Leader;
 use gcd_event::Event;
 use gcd_front::{Front, Intake, Sent};
-use gcd_loop::{PutEnd, Recorder, Step, Stop, run_turns};
+use gcd_loop::{Recorder, Step, Stop, run_turns};
 use gcd_machine::Machine;
 use gcd_outer::{Clock, Poller};
 use gcd_plan::{Blk, Plan};
-use gcd_row::Slot;
+use gcd_row::{Put, Slot};
 use gcd_turn::Outside;
 use std::alloc::AllocError;
 use std::sync::Wait;
 
-// The intake is shut: each of its blocks is accepted, or all mouths were shut, and all that was sent was taken.
-fn shut<S: AdmitCells<X>, X: Sent + Drop, R: Wait>(
-    rt: &R,
-    pool: &Pool<S>,
-    hand: &mut Hand<S>,
-    _front: &Front<X>,
-    _intake: &Intake<X>,
-) -> Result<Option<PutEnd>, AllocError>
-    requires leading { IsLeading S.shape S.gives X.gives pool.now _front.now hand.old _intake.now }
-    requires room { HasRoom (bounds_of pool.now).most pool.now.plan.now (view hand.old.pass).seen }
-    requires why { AllAccepted pool.now.plan.now (view hand.old.pass).seen ⊎ (KnowsAll _front.now _intake.now × TookAll _intake.now) }
-    ensures leading { OnOk result (IsLeading S.shape S.gives X.gives pool.now _front.now hand.new _intake.now) }
-    ensures said { IfOk result (Admits (bounds_of pool.now).most pool.now.plan.now (view hand.old.pass).seen (view hand.new.pass).seen) }
-    ensures kept { (a : Hand S) → Leads S.shape S.gives pool.now a hand.old → Leads S.shape S.gives pool.now a hand.new }
-{
-    let put = put_on(rt, pool, hand, Event::Shut)?;
-    Ok(Some(put))
-}
-
-// The job that was taken last, of this sender, becomes that of the intake's next block, and its Accept is put. Where that is barred the run
-// is halted, and where there is no room it is full: the job is dropped with the row then.
+// The job that was taken last, of this sender, becomes that of the intake's next block, and its Accept is put. If that is barred the run is
+// halted, and if there is no room it is full: the job is dropped with the row then.
 fn accept<S: AdmitCells<X>, X: Sent + Drop, R: Wait>(
     rt: &R,
     pool: &Pool<S>,
@@ -59,11 +39,12 @@ fn accept<S: AdmitCells<X>, X: Sent + Drop, R: Wait>(
     b: Blk,
     sender: u8,
     job: X,
-) -> Result<Option<PutEnd>, AllocError>
+) -> Result<Option<Put>, AllocError>
     requires head { IsHead S.shape S.gives pool.now hand.old }
     requires next { next_of_intake pool.now.plan.now (view hand.old.pass).seen ≡ Some b }
     ensures head { OnOk result (IsHead S.shape S.gives pool.now hand.new) }
-    ensures accepted { IfOk result (IsAccepted S.gives X.gives (bounds_of pool.now).most pool.now.plan.now b sender job (view hand.old.pass) (view hand.new.pass)) }
+    ensures accepted { IfOk result (IsAccepted S.gives X.gives (bounds_of pool.now).most pool.now.plan.now b sender job
+        (view hand.old.pass) (view hand.new.pass)) }
     ensures said { IfOk result (Admits (bounds_of pool.now).most pool.now.plan.now (view hand.old.pass).seen (view hand.new.pass).seen) }
     ensures kept { (a : Hand S) → Leads S.shape S.gives pool.now a hand.old → Leads S.shape S.gives pool.now a hand.new }
 {
@@ -72,8 +53,8 @@ fn accept<S: AdmitCells<X>, X: Sent + Drop, R: Wait>(
     Ok(Some(put))
 }
 
-// Takes in the next job, where there is a block for it; shuts the intake, where all mouths were shut and nothing was left to be taken; else
-// nothing comes of it now.
+// Takes in the next job, for block b. If there is none, and all mouths were shut before it looked, it shuts the intake. Else nothing comes of
+// it now.
 fn take_in<S: AdmitCells<X>, X: Sent + Drop, R: Wait>(
     rt: &R,
     pool: &Pool<S>,
@@ -81,7 +62,7 @@ fn take_in<S: AdmitCells<X>, X: Sent + Drop, R: Wait>(
     front: &Front<X>,
     intake: &mut Intake<X>,
     b: Blk,
-) -> Result<Option<PutEnd>, AllocError>
+) -> Result<Option<Put>, AllocError>
     requires leading { IsLeading S.shape S.gives X.gives pool.now front.now hand.old intake.old }
     requires room { HasRoom (bounds_of pool.now).most pool.now.plan.now (view hand.old.pass).seen }
     requires open { is_intake_open pool.now.plan.now (view hand.old.pass).seen ≡ true }
@@ -95,7 +76,8 @@ fn take_in<S: AdmitCells<X>, X: Sent + Drop, R: Wait>(
         Some((sender, _, job)) => accept(rt, pool, hand, b, sender, job),
         None => {
             if all_shut {
-                return shut(rt, pool, hand, front, intake);
+                let put = put_on(rt, pool, hand, Event::Shut)?;
+                return Ok(Some(put));
             }
             Ok(None)
         }
@@ -158,7 +140,7 @@ impl<'a, 'h, S: AdmitCells<X>, X: Sent + Drop> Recorder for Head<'a, 'h, S, X> {
 
     #[inline(always)]
     fn look(&mut self) {
-        look_on(self.pool, self.hand);
+        self.pool.board.look(&mut self.hand.pass);
     }
 
     // Whatever a team records it puts into the row.
@@ -168,29 +150,41 @@ impl<'a, 'h, S: AdmitCells<X>, X: Sent + Drop> Recorder for Head<'a, 'h, S, X> {
     }
 
     #[inline(always)]
-    fn put<R: Wait>(&mut self, rt: &R, e: Event) -> Result<PutEnd, AllocError> {
+    fn put<R: Wait>(&mut self, rt: &R, e: Event) -> Result<Put, AllocError> {
         put_on(rt, self.pool, self.hand, e)
     }
 
     #[inline(always)]
-    fn admit<R: Wait>(&mut self, rt: &R) -> Result<Option<PutEnd>, AllocError> {
+    fn admit<R: Wait>(&mut self, rt: &R) -> Result<Option<Put>, AllocError> {
         if !pass_many(self.pool, self.hand) {
             return Err(AllocError);
         }
         match self.hand.pass.machine().next_intake() {
-            None => shut(rt, self.pool, self.hand, self.front, self.intake),
+            None => {
+                let put = put_on(rt, self.pool, self.hand, Event::Shut)?;
+                Ok(Some(put))
+            }
             Some(b) => take_in(rt, self.pool, self.hand, self.front, self.intake, b),
         }
     }
 
     #[inline(always)]
     fn work<R: Wait>(&mut self, rt: &R, e: Event) -> Result<Step, AllocError> {
-        work_on(rt, self.pool, self.hand, e)
+        if !pass_many(self.pool, self.hand) {
+            return Err(AllocError);
+        }
+        step_of::<S>(lead_any(rt, self.pool, self.hand, e))
     }
 
     #[inline(always)]
     fn rest<R: Wait>(&mut self, _rt: &R) -> Result<Step, AllocError> {
-        rest_on(self.pool, self.hand)
+        if self.pool.is_stopped() {
+            return Err(AllocError);
+        }
+        if !pass_many(self.pool, self.hand) {
+            return Err(AllocError);
+        }
+        Ok(Step::Waited)
     }
 
     #[inline(always)]
@@ -204,7 +198,7 @@ impl<'a, 'h, S: AdmitCells<X>, X: Sent + Drop> Recorder for Head<'a, 'h, S, X> {
     }
 }
 
-// Turn by turn to the end, and all that was seen is gathered. False where memory was refused to the journal, or the team was stopped.
+// Goes turn by turn to the end, and gathers all that was seen. False if memory was refused to the journal, or the team was stopped.
 #[inline(always)]
 fn run_head<S: AdmitCells<X>, X: Sent + Drop, P: Poller, C: Clock, R: Wait>(
     rt: &R,
@@ -219,7 +213,8 @@ fn run_head<S: AdmitCells<X>, X: Sent + Drop, P: Poller, C: Clock, R: Wait>(
     ensures same_hand { head.new.hand.ghost_name ≡ head.old.hand.ghost_name }
     ensures same_intake { head.new.intake.ghost_name ≡ head.old.intake.ghost_name }
     ensures served { Serving S.shape S.gives head.old.pool.now head.old.hand.now head.new.hand.now }
-    ensures led { Led P.tells C.tells P.state C.state (head.old.pool.now.alone ≡ true) (result ≡ true) (head.old.hand.now, outside.old) (head.new.hand.now, outside.new) }
+    ensures led { Led P.tells C.tells P.state C.state (head.old.pool.now.alone ≡ true) (result ≡ true)
+        (head.old.hand.now, outside.old) (head.new.hand.now, outside.new) }
     ensures intake { result ≡ true → IsIntakeOf head.old.front.now head.new.intake.now }
     ensures admitted { result ≡ true → Admitted S.gives X.gives head.old.front.now (view head.new.hand.now.pass) head.new.intake.now }
 {
@@ -233,65 +228,39 @@ fn run_head<S: AdmitCells<X>, X: Sent + Drop, P: Poller, C: Clock, R: Wait>(
     }
 }
 
-// Worker 0 leads, from its first turn to the end. False where memory was refused to its journal, or the team was stopped.
-fn lead_to_the_end<S: AdmitCells<X>, X: Sent + Drop, P: Poller, C: Clock, R: Wait>(
-    rt: &R,
-    pool: &Pool<S>,
-    hand: &mut Hand<S>,
-    front: &Front<X>,
-    intake: &mut Intake<X>,
-    outside: &mut Outside<P, C>,
-) -> bool
-    requires ready { IsReady S.shape S.gives pool.now hand.old }
-    requires head { (view hand.old.pass).worker ≡ 0 }
-    requires few { front.now.senders ≤ max_senders }
-    requires intake { IsIntakeOf front.now intake.old }
-    requires admitted { Admitted S.gives X.gives front.now (view hand.old.pass) intake.old }
-    ensures served { Serving S.shape S.gives pool.now hand.old hand.new }
-    ensures led { Led P.tells C.tells P.state C.state (pool.now.alone ≡ true) (result ≡ true) (hand.old, outside.old) (hand.new, outside.new) }
-    ensures intake { result ≡ true → IsIntakeOf front.now intake.new }
-    ensures admitted { result ≡ true → Admitted S.gives X.gives front.now (view hand.new.pass) intake.new }
-{
-    pool.begin_serving(0);
-    let mut idle = HeadIdle::new();
-    let mut head = Head {
-        pool,
-        hand,
-        front,
-        intake,
-        idle: &mut idle,
-    };
-    run_head(rt, &mut head, outside)
-}
-
-/// Worker 0 of a pool. With the hand of another worker it serves as that helper.
-pub struct Worker0;
-
+// Worker 0 of a pool, with this front. With the hand of another worker it serves as that helper.
 impl<'a, 'o, S: AdmitCells<X>, X: Sent + Drop, P: Poller, C: Clock> Leader<
     Hand<S>,
     Pool<'a, S>,
-    Front<X>,
     Intake<X>,
     Outside<'o, P, C>,
-> for Worker0 {
+> for Front<X> {
     ghost use Rattle.gcd_pool.specs.Admitted.{AsksOfFront, LedWithFront};
 
-    ghost asks = { λ pool front hand intake. AsksOfFront S.gives X.gives front hand intake };
+    ghost asks = { λ front hand intake. AsksOfFront S.gives X.gives front hand intake };
 
-    ghost led = { λ pool front old new done. LedWithFront P.tells C.tells P.state C.state S.gives X.gives front (pool.alone ≡ true) (done ≡ true) old new };
+    ghost led = { λ front pool old new done. LedWithFront P.tells C.tells P.state C.state S.gives X.gives front (pool.alone ≡ true) (done ≡ true) old new };
 
     fn lead<R: Wait>(
+        &self,
         rt: &R,
-        shared: &Pool<'a, S>,
-        front: &Front<X>,
+        crew: &Pool<'a, S>,
+        hand: &mut Hand<S>,
         intake: &mut Intake<X>,
         outside: &mut Outside<'o, P, C>,
-        hand: &mut Hand<S>,
     ) -> bool {
-        if hand.pass.worker() == 0 {
-            lead_to_the_end(rt, shared, hand, front, intake, outside)
-        } else {
-            serve_to_the_end(rt, shared, hand)
+        if hand.pass.worker() != 0 {
+            return serve_to_the_end(rt, crew, hand);
         }
+        crew.begin_serving(0);
+        let mut idle = HeadIdle::new();
+        let mut head = Head {
+            pool: crew,
+            hand,
+            front: self,
+            intake,
+            idle: &mut idle,
+        };
+        run_head(rt, &mut head, outside)
     }
 }

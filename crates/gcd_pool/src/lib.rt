@@ -15,9 +15,9 @@
 //!
 //! A helper that has no run begins none, and waits, while others' runs begin and end within about a microsecond.
 //!
-//! Worker 0 ([`Worker0`]) looks, asks the outside (`gcd_turn`), and puts what was told, an Accept, a Shut, a Tick, an Expire or a Halt; or else it does what its
-//! machine chooses, as a helper does, and polls or waits only where that is nothing. Where it is the team's only hand it needs no Drain and
-//! pushes none: it records at once what its machine chose, whatever the number of the rack's benches.
+//! Worker 0 looks, asks the outside (`gcd_turn`), and puts what was told, an Accept, a Shut, a Tick, an Expire or a Halt. Or else it does
+//! what its machine chooses, as a helper does, and it polls or waits only if that is nothing. If it is the team's only hand it needs no
+//! Drain and pushes none: it records at once what its machine chose, whatever the number of the rack's benches.
 //!
 //! No worker holds a Drain from one turn to the next, so one that leaves, or whose run is parked, keeps none from the others.
 //!
@@ -63,11 +63,10 @@
 //! | [`take_turn`], [`free_turn`] | of the worker's own events exactly one is new where the answer is `Placed` or `Ended`, with which no run or one ends, and else none (`SaysPlaced` of `specs/Placing`); where it is `Rested` the run goes on and no event of the worker is permitted (`SaysRested`); where it is `Out` the call wrote to the place of that node's Drain, which did not sleep there (`SaysOut`) |
 //! | [`begin_near`] | it answers `Placed`, with an event that begins a run, `Waited` or `Out`, of the node that was asked for (`SaysBegun`, `SaysOut`) |
 //! | [`record_own`] | it answers `Placed` or `Ended` where this event is the one that is new; `Left` where the run has ended, `Waited` where the event is not permitted any more, and `Stopped` where the team was stopped, and none is new (`SaysRecorded`) |
-//! | [`Shared::serve`] of a [`Pool`] | the hand is still one of the pool, of the same worker and bench, and has seen no less (`Serving` of `specs/Hands`) |
-//! | [`Leader::lead`] of [`Worker0`] | the same; and where it answers true the hand has seen that the run has ended, all that it has seen is in its journal, and what poller and clock said since any beginning stands in it, if it did before (`Led` of `specs/Leads`, by `GoesOn` of `gcd_loop`) |
+//! | [`Crew::serve`] of a [`Pool`] | the hand is still one of the pool, of the same worker and bench, and has seen no less (`Serving` of `specs/Hands`) |
+//! | worker 0's part of [`pool_run`] | the hand is still one of the pool, as for a helper; and if worker 0 is done the hand has seen that the run has ended, all that it has seen is in its journal, and what poller and clock said since any beginning stands in it, if it did before (`Led` of `specs/Leads`, by `GoesOn` of `gcd_loop`) |
 //! | | of each sender the jobs that were taken begin with those of the blocks that were accepted of it, in order, each of which gives only what its job may; they are all of them where the run is neither halted nor full, and where a Shut stands; no sender has another number than the front's; and a Shut stands only where each block of the intake is accepted, or all mouths were shut and all that was sent was taken (`Admitted` of `specs/Admitted`, in `LedWithFront`) |
 //! | [`AdmitCells::lay`] | the slot of the intake's next block has what gives only what the job that was sent may, and nothing else has changed |
-//! | [`run_in_threads`] | helpers serve in threads while worker 0 leads; what each did, place by place, and what worker 0 answers |
 //! | [`pool_run`] | worker 0 has led, and an `Ok` says how the run has ended that it has seen, and that each hand has seen the run to end (`Served`), with the whole run in worker 0's journal, and of the jobs of outside callers what `LedWithFront` says; the hands come back either way, still of the pool; a team of one runs with no thread, and where each event of the row is worker 0's that hand follows its choice (`Follows`) |
 //!
 //! Worker 0's journal alone takes memory.
@@ -101,11 +100,10 @@ pub use admit_cells::AdmitCells;
 pub use drains::{begin, begin_near};
 pub use duty::{Duty, Exit, duty_of};
 pub use hand::{Hand, Pool};
-pub use head::Worker0;
 pub use idle::Idle;
 pub use own::record_own;
 pub use run::pool_run;
 pub use run_cells::RunCells;
 pub use serve::free_turn;
-pub use team::{Leader, Shared, run_in_threads, serve_all};
+pub use team::{Crew, serve_all};
 pub use turn::{Turn, take_turn};

@@ -4,10 +4,10 @@ ghost use Rattle.gcd_event.specs.declared.event.Event.{Event};
 ghost use Rattle.gcd_event.specs.Owners.{ended};
 ghost use Rattle.gcd_history.specs.Choice.{is_work, worker_of};
 ghost use Rattle.gcd_history.specs.History.{why};
-ghost use Rattle.gcd_plan.specs.declared.numbers.Run.TheVariants.{Block, Source};
 ghost use Rattle.gcd_row.specs.Passes.{IsPassOf, slots, view};
 ghost use Rattle.gcd_row.specs.declared.board.RowBoard.{RowBoard};
 ghost use Rattle.gcd_row.specs.declared.pass.RowPass.{RowPass};
+ghost use Rattle.gcd_plan.specs.declared.numbers.Run.TheVariants.{Source};
 ghost use Rattle.gcd_pool.specs.Hands.{IsFresh, IsHandOf, IsReady, IsSettled, Serving};
 ghost use Rattle.gcd_pool.specs.Throughs.{SaysThrough};
 ghost use Rattle.gcd_pool.specs.Placing.{SaysRecorded};
@@ -15,26 +15,26 @@ ghost use Rattle.gcd_pool.specs.Turns.{AfterTurn};
 ghost use Rattle.gcd_pool.specs.Works.{AddsOnly, AddsWork, WasEndPut};
 
 use crate::hand::{Hand, Pool};
-use crate::putting::{Through, put_chosen_through, put_through};
+use crate::putting::{put_chosen_through, put_through};
 use crate::run_cells::RunCells;
 use crate::turn::Turn;
 use gcd_event::Event;
-use gcd_plan::{Blk, Obj, Run};
-use gcd_row::{RowPass, Slot};
+use gcd_plan::{Obj, Run};
+use gcd_row::{Put, RowPass, Slot};
 use std::sync::Wait;
 
 // What has come of an end that was put. None where another event barred it and the run is not halted.
 #[inline(always)]
-fn end_said<S: Slot>(pass: &RowPass<S>, said: Through) -> Option<Turn>
+fn end_said<S: Slot>(pass: &RowPass<S>, said: Put) -> Option<Turn>
     ensures { (board : RowBoard S) (before : RowPass S) (e : Event) → IsPassOf S.shape S.gives board pass.now
         → SaysThrough S.shape S.gives board e before pass.now said → worker_of e ≡ (view before).worker
         → IsSettled S.shape (view before) e (slots before) → WasEndPut S.shape e before pass.now result }
 {
     match said {
-        Through::Placed => Some(Turn::Ended),
-        Through::Full => Some(Turn::Left),
-        Through::Stopped => Some(Turn::Stopped),
-        Through::Barred => {
+        Put::Placed(_) => Some(Turn::Ended),
+        Put::Full => Some(Turn::Left),
+        Put::Held { .. } => Some(Turn::Stopped),
+        Put::Barred { .. } => {
             if pass.machine().is_halted() {
                 Some(Turn::Left)
             } else {
@@ -86,31 +86,6 @@ fn put_end<S: Slot, R: Wait>(rt: &R, pool: &Pool<S>, hand: &mut Hand<S>, e: Even
     }
 }
 
-// Runs the block whose run the pass holds, unless that is cancelled, and records its end.
-#[inline(always)]
-fn end_block<S: RunCells, R: Wait>(
-    rt: &R,
-    pool: &Pool<S>,
-    hand: &mut Hand<S>,
-    b: Blk,
-    e: Event,
-) -> Turn
-    requires of { IsHandOf S.shape S.gives pool.now hand.old }
-    requires worker { worker_of e ≡ (view hand.old.pass).worker }
-    requires may { why (view hand.old.pass).terms.plan (view hand.old.pass).seen e ≡ None }
-    requires ends { ended e ≡ Some (Block b) }
-    requires fresh { IsFresh S.shape (view hand.old.pass) (slots hand.old.pass) }
-    ensures serving { Serving S.shape S.gives pool.now hand.old hand.new }
-    ensures bench { hand.new.bench ≡ hand.old.bench }
-    ensures work { AddsWork (view hand.old.pass) (view hand.new.pass) }
-    ensures only { AddsOnly e (view hand.old.pass) (view hand.new.pass) }
-    ensures recorded { SaysRecorded e result (view hand.old.pass) (view hand.new.pass) }
-    ensures after { AfterTurn S.shape result (view hand.new.pass) (slots hand.new.pass) }
-{
-    S::run_body(pool.board, &mut hand.pass, b);
-    put_end(rt, pool, hand, e)
-}
-
 // Calls the handler of the source whose run the pass holds, and records its end.
 fn end_source<S: RunCells, R: Wait>(
     rt: &R,
@@ -152,10 +127,10 @@ fn go_on<S: Slot, R: Wait>(rt: &R, pool: &Pool<S>, hand: &mut Hand<S>, e: Event)
     ensures after { AfterTurn S.shape result (view hand.new.pass) (slots hand.new.pass) }
 {
     match put_chosen_through(rt, pool, hand, e) {
-        Through::Placed => Turn::Placed,
-        Through::Full => Turn::Left,
-        Through::Barred => Turn::Waited,
-        Through::Stopped => Turn::Stopped,
+        Put::Placed(_) => Turn::Placed,
+        Put::Full => Turn::Left,
+        Put::Barred { .. } => Turn::Waited,
+        Put::Held { .. } => Turn::Stopped,
     }
 }
 
@@ -184,7 +159,10 @@ pub fn record_own<S: RunCells, R: Wait>(
     ensures after { AfterTurn S.shape result (view hand.new.pass) (slots hand.new.pass) }
 {
     match e.ended() {
-        Some(Run::Block(b)) => end_block(rt, pool, hand, b, e),
+        Some(Run::Block(b)) => {
+            S::run_body(pool.board, &mut hand.pass, b);
+            put_end(rt, pool, hand, e)
+        }
         Some(Run::Source(s)) => end_source(rt, pool, hand, s, e),
         None => go_on(rt, pool, hand, e),
     }

@@ -14,19 +14,6 @@ use gcd_event::Event;
 use gcd_row::{Put, Slot};
 use std::sync::Wait;
 
-// What comes of an event that is put until no passed word holds it.
-#[derive(Clone, Copy)]
-pub enum Through {
-    // It stands.
-    Placed,
-    // It may not come next.
-    Barred,
-    // The row is full.
-    Full,
-    // Memory was refused to the journal, or no thread was made for a worker.
-    Stopped,
-}
-
 // How many events worker 0 sees before it gathers them.
 const GATHERED_AT_ONCE: u32 = 1024;
 
@@ -101,15 +88,9 @@ fn let_go<S: Slot, R: Wait>(
     true
 }
 
-// Puts the event until no passed word holds it. Where its own does, the hand lets others write over what it has seen; where another's
-// does, it waits for that worker. It is stopped where memory was refused to the journal, its own or worker 0's, or where no thread was
-// made for a worker.
-pub fn put_through<S: Slot, R: Wait>(
-    rt: &R,
-    pool: &Pool<S>,
-    hand: &mut Hand<S>,
-    e: Event,
-) -> Through
+// Puts the event until no passed word holds it. If its own holds it, the hand lets others write over what it has seen. If another's does,
+// the hand waits for that worker. What it answers is the answer of the last put: `Held` only if the team was stopped.
+pub fn put_through<S: Slot, R: Wait>(rt: &R, pool: &Pool<S>, hand: &mut Hand<S>, e: Event) -> Put
     requires of { IsHandOf S.shape S.gives pool.now hand.old }
     requires worker { worker_of e ≡ (view hand.old.pass).worker }
     requires cell { GivesBack S.shape (view hand.old.pass).terms (view hand.old.pass).seen e (slots hand.old.pass) }
@@ -119,28 +100,26 @@ pub fn put_through<S: Slot, R: Wait>(
 {
     let mut idle = Idle::new();
     for _ in rt.forever() {
-        match pool.board.put(&mut hand.pass, e) {
-            Put::Placed(_) => return Through::Placed,
-            Put::Barred { .. } => return Through::Barred,
-            Put::Full => return Through::Full,
-            Put::Held { by, .. } => {
-                if !let_go(rt, pool, hand, by, &mut idle) {
-                    return Through::Stopped;
-                }
-            }
+        let answer = pool.board.put(&mut hand.pass, e);
+        let Put::Held { by, .. } = answer else {
+            return answer;
+        };
+        if !let_go(rt, pool, hand, by, &mut idle) {
+            return answer;
         }
     }
     unreachable!()
 }
 
-// The same for an event that the pass's machine permits: it is not judged again before the first exchange.
+// Puts an event that the pass's machine permits until no passed word holds it. It is not judged again before the first exchange. Each arm
+// names its answer, because a `Put` that is passed on whole is copied through memory at every event.
 #[inline(always)]
 pub fn put_chosen_through<S: Slot, R: Wait>(
     rt: &R,
     pool: &Pool<S>,
     hand: &mut Hand<S>,
     e: Event,
-) -> Through
+) -> Put
     requires of { IsHandOf S.shape S.gives pool.now hand.old }
     requires worker { worker_of e ≡ (view hand.old.pass).worker }
     requires may { why (view hand.old.pass).terms.plan (view hand.old.pass).seen e ≡ None }
@@ -150,9 +129,9 @@ pub fn put_chosen_through<S: Slot, R: Wait>(
     ensures bench { hand.new.bench ≡ hand.old.bench }
 {
     match pool.board.put_chosen(&mut hand.pass, e) {
-        Put::Placed(_) => Through::Placed,
-        Put::Barred { .. } => Through::Barred,
-        Put::Full => Through::Full,
+        Put::Placed(n) => Put::Placed(n),
+        Put::Barred { at, why } => Put::Barred { at, why },
+        Put::Full => Put::Full,
         Put::Held { .. } => put_through(rt, pool, hand, e),
     }
 }

@@ -1,10 +1,6 @@
 // A run of a pool: helpers in threads, and worker 0.
-ghost use Rattle.std.specs.Prelude.{◌≡◌, ◌<◌, ◌≤◌, ℕ, List, All, Ok, IfOk, OnOk, length, slice_index_or, vec_len};
-ghost use Rattle.gcd_event.specs.declared.event.Event.{Event};
-ghost use Rattle.gcd_history.specs.Ends.{HasEnded};
-ghost use Rattle.gcd_machine.specs.Stands.{StandsFor};
-ghost use Rattle.gcd_plan.specs.PlanView.{PlanView};
-ghost use Rattle.gcd_row.specs.Passes.{machine_of, terms_of, view};
+ghost use Rattle.std.specs.Prelude.{◌≡◌, ◌<◌, ◌≤◌, ℕ, All, Ok, IfOk, OnOk, length, slice_index_or, vec_len};
+ghost use Rattle.gcd_row.specs.Passes.{terms_of, view};
 ghost use Rattle.gcd_row.specs.Shapes.{shape_of, gives_of};
 ghost use Rattle.gcd_row.specs.declared.cell.Cell.{Cell};
 ghost use Rattle.gcd_pool.specs.declared.duty.Exit.{Exit};
@@ -12,12 +8,11 @@ ghost use Rattle.gcd_pool.specs.declared.hand.Hand.{Hand};
 ghost use Rattle.gcd_pool.specs.Duties.{HasExit};
 ghost use Rattle.gcd_pool.specs.Each.{Each};
 ghost use Rattle.gcd_pool.specs.Hands.{IsHandOf, IsReady, Served, Serving};
-ghost use Rattle.gcd_pool.specs.Admitted.{AsksOfFront, LedWithFront};
+ghost use Rattle.gcd_pool.specs.Admitted.{AreLed, AsksOfFront};
 ghost use Rattle.gcd_turn.specs.Outsides.{IsSame};
 
 use crate::duty::{Exit, exit_of, has_ended};
 use crate::hand::{Hand, Pool};
-use crate::head::Worker0;
 use crate::team::run_hands;
 use gcd_front::{Front, Intake, Sent};
 use gcd_jobs::{Admits, Handler, Job};
@@ -65,15 +60,6 @@ fn see_the_ends<S: Slot, R: Wait>(rt: &R, pool: &Pool<S>, hands: &mut Vec<Hand<S
     see_the_rest(rt, pool, hands.as_mut_slice());
 }
 
-// How the run has ended that the first of these hands has seen to end.
-fn exit_of_first<S>(hands: &Vec<Hand<S>>) -> Exit
-    requires { 0 < length hands.now.items }
-    ensures { (d : Hand S) (most : ℕ) (plan : PlanView) (h : List Event) → StandsFor (machine_of (slice_index_or hands.now.items 0 d).pass) plan h → HasEnded most plan h
-        → HasExit most plan h result }
-{
-    exit_of(hands[0].pass.machine())
-}
-
 /// Runs a pool: worker 0, the first hand, leads with the outside, and accepts the jobs of outside callers, which it takes by the intake of
 /// their front, while the other hands serve in threads of their own, until each has seen that the run has ended. A team of one needs no
 /// thread, and pushes no Drain, whatever the number of the rack's benches: where each event of the row is worker 0's, that is what its
@@ -105,8 +91,8 @@ pub fn pool_run<
     ensures count { length hands.new.items ≡ length hands.old.items }
     ensures hands { Each (Serving (shape_of H.kind H.times H.total) (gives_of J.gives) pool.now) hands.old.items hands.new.items }
     ensures served { OnOk result (Each (Served (shape_of H.kind H.times H.total) (gives_of J.gives) pool.now) hands.old.items hands.new.items) }
-    ensures led { (d : Hand (Cell J H)) → LedWithFront P.tells C.tells P.state C.state (gives_of J.gives) X.gives front.now (length hands.old.items ≡ 1) ((exit : Exit) × (result ≡ Ok exit))
-        (slice_index_or hands.old.items 0 d, intake.old, outside.old) (slice_index_or hands.new.items 0 d, intake.new, outside.new) }
+    ensures led { AreLed P.Poller C.Clock (gives_of J.gives) X.gives front.now result
+        (hands.old.items, intake.old, outside.old) (hands.new.items, intake.new, outside.new) }
     ensures same { IsSame outside.old outside.new }
     ensures exit { (d : Hand (Cell J H)) → IfOk result (HasExit (terms_of pool.now.board.now).limits.most pool.now.plan.now (view (slice_index_or hands.new.items 0 d).pass).seen) }
 {
@@ -114,7 +100,6 @@ pub fn pool_run<
     let done = run_hands::<
         Hand<Cell<J, H>>,
         Pool<Cell<J, H>>,
-        Worker0,
         Front<X>,
         Intake<X>,
         Outside<P, C>,
@@ -124,5 +109,5 @@ pub fn pool_run<
         return Err(AllocError);
     }
     see_the_ends(rt, &team, hands);
-    Ok(exit_of_first(hands))
+    Ok(exit_of(hands[0].pass.machine()))
 }

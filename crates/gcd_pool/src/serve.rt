@@ -11,7 +11,7 @@ use crate::hand::{Hand, Pool};
 use crate::idle::Idle;
 use crate::putting::pass_seen;
 use crate::run_cells::RunCells;
-use crate::team::Shared;
+use crate::team::Crew;
 use crate::turn::{Turn, take_turn};
 use gcd_plan::Plan;
 use gcd_row::Slot;
@@ -218,7 +218,7 @@ pub fn serve_to_the_end<S: RunCells, R: Wait>(rt: &R, pool: &Pool<S>, hand: &mut
     unreachable!()
 }
 
-impl<S: RunCells> Shared<Hand<S>> for Pool<'_, S> {
+impl<S: RunCells> Crew<Hand<S>> for Pool<'_, S> {
     ghost use Rattle.gcd_pool.specs.Hands.{IsReady, Serving};
 
     ghost ready = { IsReady S.shape S.gives };

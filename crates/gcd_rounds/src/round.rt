@@ -12,8 +12,8 @@ use crate::running::Running;
 use crate::turns::{follow, take_turns};
 use gcd_event::Event;
 use gcd_jobs::{Handler, Job};
-use gcd_loop::{PutEnd, Recorder, Step};
-use gcd_machine::Machine;
+use gcd_loop::{Recorder, Step};
+use gcd_machine::{Machine, Put};
 use gcd_plan::Plan;
 use std::alloc::{AllocError, Global};
 use std::mem;
@@ -76,12 +76,12 @@ impl<'a, J: Job + Drop, H: Handler + Drop> Recorder for Round<'a, J, H> {
         Ok(())
     }
 
-    fn put<R: Wait>(&mut self, _rt: &R, e: Event) -> Result<PutEnd, AllocError> {
+    fn put<R: Wait>(&mut self, _rt: &R, e: Event) -> Result<Put, AllocError> {
         self.run.put(self.plan, e)
     }
 
     // There are no outside callers.
-    fn admit<R: Wait>(&mut self, _rt: &R) -> Result<Option<PutEnd>, AllocError> {
+    fn admit<R: Wait>(&mut self, _rt: &R) -> Result<Option<Put>, AllocError> {
         let put = self.run.put(self.plan, Event::Shut)?;
         Ok(Some(put))
     }

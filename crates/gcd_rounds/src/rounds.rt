@@ -3,6 +3,7 @@ ghost use Rattle.std.specs.Prelude.{◌≡◌, ◌<◌, ◌≤◌, ℕ, Ok, true
 ghost use Rattle.gcd_plan.specs.Limits.{max_workers};
 ghost use Rattle.gcd_history.specs.Ends.{HasEnded};
 ghost use Rattle.gcd_history.specs.History.{delivery_count_of, received_of};
+ghost use Rattle.gcd_outer.specs.Outside.{seen};
 ghost use Rattle.gcd_turn.specs.Asked.{KeepsListens};
 ghost use Rattle.gcd_turn.specs.Outsides.{IsSame, faced};
 ghost use Rattle.gcd_history.specs.Intake.{AcceptsNone};
@@ -153,9 +154,7 @@ fn ran<R: Threads + Wait + Sync, J: Job + Drop + Send, H: Handler + Drop, P: Pol
     requires workers { 0 < workers }
     requires unwatched { (feed : ℕ) → (P.state poller.old).watched feed ≡ false }
     ensures ran { IfOk result (λ end. RunsPlan most plan.now workers AcceptsNone
-        (record { tells = P.tells; before = P.state poller.old; after = P.state poller.new })
-        (record { tells = C.tells; before = C.state clock.old; after = C.state clock.new })
-        end.journal.items) }
+        (seen P.tells P.state poller.old poller.new) (seen C.tells C.state clock.old clock.new) end.journal.items) }
     ensures values { IfOk result (λ end. AreGiven J.gives plan.now jobs.items end.journal.items end.values.items) }
     ensures handlers { IfOk result (λ end. AreHandlers H.kind H.times H.total plan.now
         (delivery_count_of end.journal.items) (received_of plan.now end.journal.items) end.handlers.items) }
@@ -199,9 +198,7 @@ pub fn run_rounds<
     requires workers { 0 < workers × workers ≤ max_workers }
     requires unwatched { (feed : ℕ) → (P.state poller.old).watched feed ≡ false }
     ensures ran { IfOk result (λ end. RunsPlan most plan.now workers AcceptsNone
-        (record { tells = P.tells; before = P.state poller.old; after = P.state poller.new })
-        (record { tells = C.tells; before = C.state clock.old; after = C.state clock.new })
-        end.journal.items) }
+        (seen P.tells P.state poller.old poller.new) (seen C.tells C.state clock.old clock.new) end.journal.items) }
     ensures values { IfOk result (λ end. AreGiven J.gives plan.now jobs.items end.journal.items end.values.items) }
     ensures handlers { IfOk result (λ end. AreHandlers H.kind H.times H.total plan.now
         (delivery_count_of end.journal.items) (received_of plan.now end.journal.items) end.handlers.items) }

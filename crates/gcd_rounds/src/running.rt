@@ -19,8 +19,7 @@ use crate::kept::Done;
 use crate::places::{place_of, places_of};
 use gcd_event::{Entry, Event};
 use gcd_jobs::{Handler, Job};
-use gcd_loop::PutEnd;
-use gcd_machine::Machine;
+use gcd_machine::{Machine, Put};
 use gcd_plan::Plan;
 use std::alloc::{AllocError, Global};
 use std::snapshot::Snapshot;
@@ -141,7 +140,7 @@ impl<J: Job + Drop, H: Handler + Drop> Running<J, H> {
     }
 
     // Records an event that is no worker's and accepts no job, or drops it where it may not come next. No End is kept back.
-    pub(crate) fn put(&mut self, plan: &Plan, e: Event) -> Result<PutEnd, AllocError>
+    pub(crate) fn put(&mut self, plan: &Plan, e: Event) -> Result<Put, AllocError>
         requires by { worker_of e ≡ 0 }
         requires no_work { is_work e ≡ false }
         requires no_job { accepted e ≡ None }
@@ -153,11 +152,12 @@ impl<J: Job + Drop, H: Handler + Drop> Running<J, H> {
         ensures run { OnOk result (IsRun H.kind H.times H.total plan.now self.new) }
         ensures ready { OnOk result (AreReady J.gives plan.now self.new []) }
     {
-        if self.machine.permits(e).is_some() {
-            return Ok(PutEnd::Barred);
+        let at = self.machine.len();
+        if let Some(why) = self.machine.permits(e) {
+            return Ok(Put::Barred { at, why });
         }
         self.record(plan, e)?;
-        Ok(PutEnd::Placed)
+        Ok(Put::Placed(at))
     }
 
     // Records an End that was kept back first, and the value that its job gave.

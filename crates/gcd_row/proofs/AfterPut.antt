@@ -21,13 +21,13 @@ use Rattle.gcd_row.specs.Lying.{slot_of, BodyLies, Lies, HasSlot, HasSlots, IsRe
 use Rattle.gcd_row.specs.Views.{held_run, knowing, known}
 use Rattle.gcd_row.specs.Plays.{front_cell, HandsOn}
 use Rattle.gcd_row.specs.Passes.{IsPassOf, Ahead, IsPlaced, Says, SaysSlots, HasSameNumbers, view, slots}
-use Rattle.gcd_row.specs.declared.put.Put.{Put}
+use Rattle.gcd_machine.specs.declared.put.Put.{Put}
 use Rattle.gcd_row.specs.declared.view.Handed.{Handed}
 use Rattle.gcd_row.specs.declared.board.RowBoard.{RowBoard}
 use Rattle.gcd_row.specs.declared.cell.Cell.{Cell}
 use Rattle.gcd_row.specs.declared.cell.Cell.TheVariants.{Body, Done, Handler, Away}
 use Rattle.gcd_row.specs.declared.pass.RowPass.{RowPass}
-use Rattle.gcd_row.specs.declared.put.Put.TheVariants.{Placed, Barred, Held, Full}
+use Rattle.gcd_machine.specs.declared.put.Put.TheVariants.{Placed, Barred, Held, Full}
 use Rattle.gcd_row.specs.declared.view.Terms.{Terms}
 use Rattle.gcd_row.specs.declared.view.View.{View}
 use Rattle.gcd_row.proofs.Holding.{head_of}

@@ -5,8 +5,8 @@ use Rattle.gcd_event.specs.declared.event.Event.{Event}
 use Rattle.gcd_history.specs.Team.{StartsWith}
 use Rattle.gcd_row.specs.Passes.{IsGathered, MayRead, Says}
 use Rattle.gcd_row.specs.Views.{knowing, passing}
-use Rattle.gcd_row.specs.declared.put.Put.{Put}
-use Rattle.gcd_row.specs.declared.put.Put.TheVariants.{Placed, Barred, Held, Full}
+use Rattle.gcd_machine.specs.declared.put.Put.{Put}
+use Rattle.gcd_machine.specs.declared.put.Put.TheVariants.{Placed, Barred, Held, Full}
 use Rattle.gcd_row.specs.declared.view.View.{View}
 use Rattle.gcd_row.proofs.AfterPut.{same_numbers}
 use Rattle.gcd_row.proofs.Fronts.{starts_more, starts_trans}

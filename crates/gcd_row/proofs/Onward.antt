@@ -9,8 +9,8 @@ use Rattle.gcd_history.specs.Team.{of_worker, StartsWith}
 use Rattle.gcd_row.specs.declared.view.Handed.{Handed}
 use Rattle.gcd_row.specs.declared.view.PassMarks.{PassMarks}
 use Rattle.gcd_row.specs.declared.view.View.{View}
-use Rattle.gcd_row.specs.declared.put.Put.{Put}
-use Rattle.gcd_row.specs.declared.put.Put.TheVariants.{Placed, Barred, Held, Full}
+use Rattle.gcd_machine.specs.declared.put.Put.{Put}
+use Rattle.gcd_machine.specs.declared.put.Put.TheVariants.{Placed, Barred, Held, Full}
 use Rattle.gcd_row.specs.Views.{saw, seeing, noting, knowing, known, passing}
 use Rattle.gcd_row.specs.Plays.{SeesMore, HandsOn}
 use Rattle.gcd_row.specs.Passes.{Ahead, Learnt, LearntOn, Looks, IsHolder, IsPlaced, Says, Knew, Turns}

@@ -23,7 +23,7 @@ use Rattle.gcd_row.specs.Views.{IsBack, saw, noting, held_run}
 use Rattle.gcd_row.specs.Plays.{SeesMore, HandsOn, Turned, Wins, LaysBack, first_after, front_cell}
 use Rattle.gcd_row.specs.declared.view.Handed.{Handed}
 use Rattle.gcd_row.specs.declared.view.Terms.{Terms}
-use Rattle.gcd_row.specs.Passes.{IsPassOf, MayRead, LearntOn, view, slots}
+use Rattle.gcd_row.specs.Passes.{IsPassOf, Knew, MayRead, LearntOn, view, slots}
 use Rattle.gcd_row.specs.declared.board.RowBoard.{RowBoard}
 use Rattle.gcd_row.specs.declared.pass.RowPass.{RowPass}
 use Rattle.gcd_row.specs.declared.view.View.{View}
@@ -120,3 +120,14 @@ module _ {S : Type 0} (shape : S → Shape) (gives : S → ℕ → Type 0) (b : 
       let v = view p in
       subst (λ (x : View S). GivesBack shape x.terms x.seen e (slots q)) (sym l.is)
       (subst (GivesBack shape v.terms (v.seen ++ l.event ∷ []) e) (sym same) (back_waits shape gives (held_jobs v) v.seen e l.event v.worker (slots p) (lawful_seen p is) l.may is.has back))
+
+-- what an event asks that is to be placed, it asks still where the pass knows more of the passed words
+pub still_asked : {S : Type 0} (shape : S → Shape) (v u : View S) (n : ℕ) (e : Event) (c d : List (ℕ × S)) → Knew v u → d ≡ c → n ≡ length v.seen
+    → worker_of e ≡ v.worker → why v.terms.plan v.seen e ≡ None → GivesBack shape v.terms v.seen e c
+    → (n ≡ length u.seen) × (worker_of e ≡ u.worker) × (why u.terms.plan u.seen e ≡ None) × GivesBack shape u.terms u.seen e d
+still_asked {S} shape v u n e c d k same place mine may back = (
+  subst (λ (x : View S). n ≡ length x.seen) (sym k.is) place,
+  subst (λ (x : View S). worker_of e ≡ x.worker) (sym k.is) mine,
+  subst (λ (x : View S). why x.terms.plan x.seen e ≡ None) (sym k.is) may,
+  subst (λ (x : View S). GivesBack shape x.terms x.seen e d) (sym k.is) (subst (λ (l : List (ℕ × S)). GivesBack shape v.terms v.seen e l) (sym same) back),
+)

@@ -16,7 +16,7 @@ use Rattle.gcd_machine.specs.Stands.{StandsFor}
 use Rattle.gcd_history.specs.Held.{taken}
 use Rattle.gcd_history.specs.Team.{of_worker, StartsWith}
 use Rattle.gcd_history.specs.TeamFacts.{IsNobodys}
-use Rattle.gcd_row.specs.Ring.{under}
+use Rattle.gcd_row.specs.Ring.{ring, under}
 use Rattle.gcd_row.specs.Shapes.{Shape}
 use Rattle.gcd_row.specs.Jobs.{Jobs, held_jobs}
 use Rattle.gcd_row.specs.Lying.{slots_of, slot_of, Lies, HasSlots}
@@ -26,8 +26,8 @@ use Rattle.gcd_row.specs.declared.view.Terms.{Terms}
 use Rattle.gcd_row.specs.declared.view.View.{View}
 use Rattle.gcd_row.specs.declared.pass.RowPass.{RowPass}
 use Rattle.gcd_row.specs.declared.board.RowBoard.{RowBoard}
-use Rattle.gcd_row.specs.declared.put.Put.{Put}
-use Rattle.gcd_row.specs.declared.put.Put.TheVariants.{Placed, Barred, Held, Full}
+use Rattle.gcd_machine.specs.declared.put.Put.{Put}
+use Rattle.gcd_machine.specs.declared.put.Put.TheVariants.{Placed, Barred, Held, Full}
 
 -- a pass that may read cells: it is not spent, its number is below 64, and its passed word is not gone
 pub record MayRead {S : Type 0} (v : View S) : Type 0 where
@@ -113,11 +113,11 @@ module _ {S : Type 0} where
   -- lower numbers let the next event be written
   pub record IsHolder (v w : View S) (by passed : ℕ) : Type 0 where
     pub worker : by < v.terms.limits.workers
-    pub lap_ago : passed + 4096 ≡ length w.seen
+    pub lap_ago : passed + ring ≡ length w.seen
     pub loaded : v.marks.loads < w.marks.loads
     pub held : w.marks.held ≡ Some (by, passed)
     pub below : w.marks.upto ≡ by
-    pub lowest : by ≢ 0 → length w.seen < w.marks.floor + 4096
+    pub lowest : by ≢ 0 → length w.seen < w.marks.floor + ring
     pub mine : by ≡ v.worker → passed ≡ v.marks.passed
 
   -- a passed word does not let the next event be written, and the row was what the pass has seen when it was loaded

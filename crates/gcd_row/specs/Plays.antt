@@ -11,7 +11,7 @@ use Rattle.gcd_history.specs.History.{why, next_of_intake}
 use Rattle.gcd_history.specs.Intake.{accepted}
 use Rattle.gcd_history.specs.Held.{taken, given}
 use Rattle.gcd_history.specs.Team.{of_worker, StartsWith}
-use Rattle.gcd_row.specs.Ring.{is_news, lap, under}
+use Rattle.gcd_row.specs.Ring.{is_news, lap, passed_words, ring, under}
 use Rattle.gcd_row.specs.Shapes.{Shape, body}
 use Rattle.gcd_row.specs.Jobs.{Jobs, held_jobs}
 use Rattle.gcd_row.specs.Lying.{slot_of, Lies}
@@ -99,14 +99,14 @@ module _ {S : Type 0} where
 
   -- what a load of worker k's passed word tells: the row is at most a lap longer, and where it is a lap longer the pass has seen it all
   pub record Asks (v : View S) (k x : ℕ) (w : View S) : Type 0 where
-    pub view : w ≡ knowing v v.seen (asked v.terms.limits v.marks k x (nat_lt (length v.seen) (x + 4096)))
-    pub slow : length v.seen ≤ x + 4096
-    pub ends : x + 4096 ≤ length v.seen → StartsWith v.seen v.relayed × KnowsFresh v
+    pub view : w ≡ knowing v v.seen (asked v.terms.limits v.marks k x (nat_lt (length v.seen) (x + ring)))
+    pub slow : length v.seen ≤ x + ring
+    pub ends : x + ring ≤ length v.seen → StartsWith v.seen v.relayed × KnowsFresh v
     pub mine : k ≡ v.worker → x ≡ v.marks.passed
 
   -- a load of a passed word
   abbrev pub Asked : Step S → Me S (View S) → ℕ → Me S (View S) → Type 0
-  Asked st m n k = (k.1 ≡ m.1) × ((j : ℕ) → st.word ≡ 4097 + j → Asks m.0 j n k.0)
+  Asked st m n k = (k.1 ≡ m.1) × ((j : ℕ) → st.word ≡ passed_words + j → Asks m.0 j n k.0)
 
   -- a store of one's own passed word
   abbrev pub PassedOn : Step S → Me S (View S) → ℕ → Me S (View S) → Type 0
@@ -114,7 +114,7 @@ module _ {S : Type 0} where
 
   -- a load again of the cell of an event that was seen and not passed
   abbrev pub Reread : Step S → Me S (View S) → ℕ → Me S (View S) → Type 0
-  Reread st m n k = (k ≡ m) × ((i : ℕ) → m.0.marks.passed ≤ i → i < length m.0.seen → st.word ≡ suc (i % 4096) → n ≡ slice_index (map word_of m.0.seen) i + lap i)
+  Reread st m n k = (k ≡ m) × ((i : ℕ) → m.0.marks.passed ≤ i → i < length m.0.seen → st.word ≡ suc (i % ring) → n ≡ slice_index (map word_of m.0.seen) i + lap i)
 
   -- any load, by a pass that has seen as many events as there can be
   abbrev pub Ended : Step S → Me S (View S) → ℕ → Me S (View S) → Type 0

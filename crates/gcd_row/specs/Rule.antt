@@ -17,7 +17,7 @@ use Rattle.gcd_history.specs.History.{IsLawful, next_of_intake}
 use Rattle.gcd_history.specs.Intake.{accepts}
 use Rattle.gcd_history.specs.Team.{of_worker, held_by, StartsWith}
 use Rattle.gcd_history.specs.TeamFacts.{IsNobodys}
-use Rattle.gcd_row.specs.Ring.{IsRing, passed_word, gone}
+use Rattle.gcd_row.specs.Ring.{IsRing, gone, passed_word, ring}
 use Rattle.gcd_row.specs.Shapes.{Shape}
 use Rattle.gcd_row.specs.Jobs.{May, placed_at, jobs_of, held_jobs}
 use Rattle.gcd_row.specs.Lying.{slots_of, slot_of, Lies}
@@ -60,7 +60,7 @@ module _ {S : Type 0} where
   -- the passed words
   pub record PassedWords (t : Terms S) (h : List Event) (words : List ℕ) (views : List (View S)) : Type 0 where
     -- the history is at most a lap longer than each; gone is a number above all lengths
-    pub slow : (k : ℕ) → k < 64 → length h ≤ passed_word words k + 4096
+    pub slow : (k : ℕ) → k < 64 → length h ≤ passed_word words k + ring
     pub rests : (k : ℕ) → k < 64 → Rests words views k
     -- each pass knows its own
     pub mine : (by : ℕ) (v : View S) → get_elem? views by ≡ some v → v.spent ≡ false → passed_word words v.worker ≡ v.marks.passed

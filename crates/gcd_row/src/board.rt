@@ -1,5 +1,6 @@
 // A board: the row of words that decides, and the slots.
 ghost use Rattle.std.specs.Prelude.{◌≡◌, ◌≤◌, ◌<◌};
+ghost use Rattle.gcd_row.specs.Ring.{ring_words};
 
 use crate::cell::{Cell, Slot};
 use crate::plays::Lawful;
@@ -16,7 +17,7 @@ pub type RowTable<S> = Table<S, View<S>, Copies<S>, Lawful, Global>;
 pub struct RowBoard<S: Slot> {
     pub(crate) table: RowTable<S>,
     pub(crate) limits: Limits,
-    ghost sized: { table.shared.table_id.words ≡ 4161 },
+    ghost sized: { table.shared.table_id.words ≡ ring_words },
     ghost same: { limits ≡ table.shared.key.limits },
     ghost bounds: { (0 < table.shared.key.limits.workers) × (table.shared.key.limits.workers ≤ 64) × (0 < table.shared.key.limits.most) × (table.shared.key.limits.most < 4294967296) },
 }

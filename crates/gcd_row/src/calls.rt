@@ -1,19 +1,19 @@
 // Looking and putting.
-ghost use Rattle.std.specs.Prelude.{◌≡◌, ◌+◌, ◌<◌, length, map, MatchOption, IfSome, None};
+ghost use Rattle.std.specs.Prelude.{◌≡◌, ◌+◌, ◌<◌, length, map, MatchOption, IfNone, IfSome, None};
 ghost use Rattle.gcd_event.specs.Words.{word_of};
 ghost use Rattle.gcd_history.specs.Choice.{worker_of};
 ghost use Rattle.gcd_history.specs.History.{why};
 ghost use Rattle.gcd_row.specs.Lying.{GivesBack};
-ghost use Rattle.gcd_row.specs.Passes.{IsPassOf, Learnt, Looks, Says, SaysSlots, Turns, TurnsSlots, slots, terms_of, view};
+ghost use Rattle.gcd_row.specs.Passes.{IsPassOf, Learnt, LearntOn, Looks, Says, SaysSlots, Turns, TurnsSlots, slots, terms_of, view};
 ghost use Rattle.gcd_row.specs.Plays.{EndsHere};
 ghost use Rattle.gcd_row.specs.Ring.{under};
 
 use crate::board::RowBoard;
 use crate::cell::Slot;
 use crate::pass::RowPass;
-use crate::put::Put;
-use crate::steps::{event_of, is_news};
+use crate::steps::{RING, event_of, is_news};
 use gcd_event::Event;
+use gcd_machine::Put;
 
 impl<S: Slot> RowBoard<S> {
     /// How many events the row can have at most.
@@ -43,29 +43,6 @@ impl<S: Slot> RowBoard<S> {
         Some(word)
     }
 
-    // Exchanges the cell of event n, or sees the event that another pass has placed there.
-    #[inline(always)]
-    fn place(&self, pass: &mut RowPass<S>, n: u32, old: u64, e: Event) -> Option<Put>
-        requires pass { IsPassOf S.shape S.gives self.now pass.old }
-        requires place { (n ≡ length (view pass.old).seen) × (n < self.now.table.shared.key.limits.most) }
-        requires old { old ≡ under (map word_of (view pass.old).seen) }
-        requires pair { ((view pass.old).marks.upto ≡ 64) × (n < (view pass.old).marks.floor + 4096) }
-        requires cell { GivesBack S.shape (view pass.old).terms (view pass.old).seen e (slots pass.old) }
-        requires event { (worker_of e ≡ (view pass.old).worker) × (why (view pass.old).terms.plan (view pass.old).seen e ≡ None) }
-        ensures pass { IsPassOf S.shape S.gives self.now pass.new }
-        ensures view { Turns e (view pass.old) (view pass.new) result }
-        ensures slots { TurnsSlots S.shape S.gives e (slots pass.old) (slots pass.new) (view pass.new) result }
-    {
-        let found = self.write(&mut pass.seat, n, old, e);
-        pass.beneath = None;
-        if found == old {
-            pass.machine.apply(e);
-            return Some(Put::Placed(n));
-        }
-        pass.machine.apply(event_of(n, found));
-        None
-    }
-
     // The event is placed, where it is permitted after what the pass has seen, and `old` lies in its cell; or a passed word holds it, or
     // one event more was seen.
     #[inline(always)]
@@ -79,13 +56,18 @@ impl<S: Slot> RowBoard<S> {
         ensures view { Turns e (view pass.old) (view pass.new) result }
         ensures slots { TurnsSlots S.shape S.gives e (slots pass.old) (slots pass.new) (view pass.new) result }
     {
-        match self.holder(pass, n) {
-            Some(by) => Some(Put::Held {
-                by,
-                passed: u64::from(n) - 4096,
-            }),
-            None => self.place(pass, n, old, e),
+        if let Some(by) = self.holder(pass, n) {
+            let passed = u64::from(n) - u64::from(RING);
+            return Some(Put::Held { by, passed });
         }
+        let found = self.write(&mut pass.seat, n, old, e);
+        pass.beneath = None;
+        if found == old {
+            pass.machine.apply(e);
+            return Some(Put::Placed(n));
+        }
+        pass.machine.apply(event_of(n, found));
+        None
     }
 
     // One turn: the event is placed, or its answer is known, or one event more was seen.
@@ -171,34 +153,33 @@ impl<S: Slot> RowBoard<S> {
         requires place { n ≡ length (view pass.now).seen }
         ensures { IfSome result (λ x. x ≡ under (map word_of (view pass.now).seen)) }
     {
-        if n < 4096 {
+        if n < RING {
             return Some(0);
         }
         pass.beneath
     }
 
-    // The first turn of an event that is permitted: it is placed, or a passed word holds it, or one event more was seen.
+    // What lies in the cell of event n, the next; or None, if one event more was seen.
     #[inline(always)]
-    fn first_turn(&self, pass: &mut RowPass<S>, n: u32, e: Event) -> Option<Put>
+    fn next_cell(&self, pass: &mut RowPass<S>, n: u32) -> Option<u64>
         requires pass { IsPassOf S.shape S.gives self.now pass.old }
         requires place { (n ≡ length (view pass.old).seen) × (n < self.now.table.shared.key.limits.most) }
-        requires event { (worker_of e ≡ (view pass.old).worker) × (why (view pass.old).terms.plan (view pass.old).seen e ≡ None) }
-        requires cell { GivesBack S.shape (view pass.old).terms (view pass.old).seen e (slots pass.old) }
         ensures pass { IsPassOf S.shape S.gives self.now pass.new }
-        ensures view { Turns e (view pass.old) (view pass.new) result }
-        ensures slots { TurnsSlots S.shape S.gives e (slots pass.old) (slots pass.new) (view pass.new) result }
+        ensures slots { slots pass.new ≡ slots pass.old }
+        ensures known { IfSome result (λ x. (view pass.new ≡ view pass.old) × (x ≡ under (map word_of (view pass.old).seen))) }
+        ensures seen { IfNone result (LearntOn (view pass.old) (view pass.new)) }
     {
         match self.beneath(pass, n) {
-            Some(old) => self.settle(pass, n, old, e),
+            Some(old) => Some(old),
             None => match self.advance(pass, n) {
-                Some(old) => self.settle(pass, n, old, e),
+                Some(old) => Some(old),
                 None => None,
             },
         }
     }
 
-    /// The same for an event that is permitted after what the pass has seen, as one that its machine chose: it is not judged
-    /// again before the first exchange, and where the pass's last step was a look no cell is loaded before it.
+    /// Places an event as [`RowBoard::put`] does, where it is permitted after what the pass has seen, as one that its machine chose. It is
+    /// not judged again before the first exchange. If the pass's last step was a look, no cell is loaded before that.
     #[inline(always)]
     pub fn put_chosen(&self, pass: &mut RowPass<S>, e: Event) -> Put
         requires pass { IsPassOf S.shape S.gives self.now pass.old }
@@ -213,7 +194,10 @@ impl<S: Slot> RowBoard<S> {
         if n >= self.limits.most {
             return Put::Full;
         }
-        match self.first_turn(pass, n, e) {
+        let Some(old) = self.next_cell(pass, n) else {
+            return self.put(pass, e);
+        };
+        match self.settle(pass, n, old, e) {
             Some(answer) => answer,
             None => self.put(pass, e),
         }

@@ -96,7 +96,6 @@ mod pairs;
 mod pass;
 mod placing;
 mod plays;
-mod put;
 mod shares;
 mod steps;
 mod view;
@@ -104,7 +103,7 @@ mod words;
 
 pub use board::{Board, RowBoard, RowTable};
 pub use cell::{Cell, Slot};
+pub use gcd_machine::Put;
 pub use pass::{Pass, RowPass};
 pub use plays::Lawful;
-pub use put::Put;
 pub use view::{Copies, Handed, Limits, Next, PassMarks, Standing, Terms, View};

@@ -1,6 +1,6 @@
 // Making a board.
 ghost use Rattle.std.specs.Prelude.{◌≡◌, ◌<◌, ◌≤◌, ◌++◌, [], length, map, drop, IfOk, OnOk, if◌then◌else◌};
-ghost use Rattle.gcd_row.specs.Ring.{AreFirstWords, first_word};
+ghost use Rattle.gcd_row.specs.Ring.{AreFirstWords, first_word, ring_words};
 ghost use Rattle.std.specs.Vec.Iter.{into_iter_items, into_iter_len};
 ghost use Rattle.gcd_plan.specs.Validity.{IsPlan};
 ghost use Rattle.gcd_row.specs.Opening.{AreHandlersOf, AreFirst, next_cell, object_cells, first_cells};
@@ -12,7 +12,7 @@ ghost use Rattle.gcd_row.specs.declared.cell.Cell.TheVariants.{Body, Away};
 use crate::board::{Board, RowBoard, RowTable};
 use crate::cell::{Cell, Slot};
 use crate::pass::{Pass, RowPass};
-use crate::steps::GONE;
+use crate::steps::{GONE, PASSED_WORDS, RING_WORDS};
 use crate::view::{Copies, Limits, View};
 use atomic_table::{Refused, Seat, Table};
 use gcd_jobs::{Handler, Job};
@@ -27,7 +27,7 @@ fn word_at(i: u32, workers: u8) -> u64
     requires { workers ≤ 64 }
     ensures { result ≡ first_word workers i }
 {
-    if i < 4097 + u32::from(workers) {
+    if i < PASSED_WORDS + u32::from(workers) {
         return 0;
     }
     GONE
@@ -38,9 +38,9 @@ fn first_words(alloc: Global, workers: u8) -> Result<Vec<u64>, AllocError>
     requires { workers ≤ 64 }
     ensures { IfOk result (λ w. AreFirstWords workers w.items) }
 {
-    let mut words = Vec::with_capacity(alloc, 4161)?;
+    let mut words = Vec::with_capacity(alloc, RING_WORDS as usize)?;
     let mut i = 0;
-    while i < 4161 {
+    while i < RING_WORDS {
         words.push_reserved(word_at(i, workers));
         i += 1;
     }
@@ -123,7 +123,7 @@ fn open_table<S: Slot + Drop>(
     requires limits { (0 < workers) × (workers ≤ 64) }
     requires valid { IsPlan plan.now }
     requires cells { AreFirst S.shape plan.now cells.items }
-    ensures words { IfOk result (λ made. made.0.shared.table_id.words ≡ 4161) }
+    ensures words { IfOk result (λ made. made.0.shared.table_id.words ≡ ring_words) }
     ensures limits { IfOk result (λ made. made.0.shared.key.limits ≡ record { workers = workers; most = most }) }
     ensures plan { IfOk result (λ made. made.0.shared.key.plan.value ≡ plan.now) }
     ensures cells { IfOk result (λ made. made.0.shared.key.cells.value.items ≡ cells.items) }
@@ -146,7 +146,7 @@ fn open_board<S: Slot + Drop>(
     seat: Seat<S, View<S>>,
     limits: Limits,
 ) -> Result<(RowBoard<S>, RowPass<S>), AllocError>
-    requires words { table.shared.table_id.words ≡ 4161 }
+    requires words { table.shared.table_id.words ≡ ring_words }
     requires limits { table.shared.key.limits ≡ limits }
     requires bounds { (0 < limits.workers) × (limits.workers ≤ 64) × (0 < limits.most) × (limits.most < 4294967296) }
     requires plan { table.shared.key.plan.value ≡ plan.now }

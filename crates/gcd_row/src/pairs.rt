@@ -2,20 +2,22 @@
 ghost use Rattle.std.specs.Prelude.{◌≡◌, ◌≢◌, ℕ, ◌<◌, ◌+◌, ◌-◌, nat_lt, length, true, MatchOption, IfNone};
 ghost use Rattle.gcd_row.specs.Passes.{IsPassOf, IsHeldAt, Knew, slots, view};
 ghost use Rattle.gcd_row.specs.Plays.{Asks};
+ghost use Rattle.gcd_row.specs.Ring.{ring};
 
 use crate::board::RowBoard;
 use crate::cell::Slot;
 use crate::pass::RowPass;
+use crate::steps::RING;
 
 // Whether a passed word lets event n be written.
 #[inline(always)]
 fn lets(passed: u64, n: u32) -> bool
-    ensures { result ≡ nat_lt n (passed + 4096) }
+    ensures { result ≡ nat_lt n (passed + ring) }
 {
     if passed >= 4_294_967_296 {
         return true;
     }
-    u64::from(n) < passed + 4096
+    u64::from(n) < passed + u64::from(RING)
 }
 
 impl<S: Slot> RowBoard<S> {
@@ -26,7 +28,7 @@ impl<S: Slot> RowBoard<S> {
         requires place { (k < self.now.table.shared.key.limits.workers) × (k ≢ 0 → (view pass.old).marks.upto ≡ k) × (n ≡ length (view pass.old).seen) }
         ensures pass { IsPassOf S.shape S.gives self.now pass.new }
         ensures slots { slots pass.new ≡ slots pass.old }
-        ensures asks { (x : ℕ) × Asks (view pass.old) k x (view pass.new) × (result ≡ nat_lt n (x + 4096)) }
+        ensures asks { (x : ℕ) × Asks (view pass.old) k x (view pass.new) × (result ≡ nat_lt n (x + ring)) }
     {
         let x = self.ask(&mut pass.seat, k);
         if !lets(x, n) {
@@ -48,8 +50,8 @@ impl<S: Slot> RowBoard<S> {
         requires place { n ≡ length (view pass.old).seen }
         ensures pass { IsPassOf S.shape S.gives self.now pass.new }
         ensures slots { slots pass.new ≡ slots pass.old }
-        ensures free { IfNone result (((view pass.new).marks.upto ≡ 64) × (n < (view pass.new).marks.floor + 4096)) }
-        ensures held { MatchOption result (Knew (view pass.old) (view pass.new)) (λ by. IsHeldAt (view pass.old) (view pass.new) by (n - 4096)) }
+        ensures free { IfNone result (((view pass.new).marks.upto ≡ 64) × (n < (view pass.new).marks.floor + ring)) }
+        ensures held { MatchOption result (Knew (view pass.old) (view pass.new)) (λ by. IsHeldAt (view pass.old) (view pass.new) by (n - ring)) }
     {
         let mut k = 0;
         while k < self.limits.workers {
@@ -65,7 +67,7 @@ impl<S: Slot> RowBoard<S> {
     #[inline(always)]
     fn is_free(&self, pass: &RowPass<S>, n: u32) -> bool
         requires pass { IsPassOf S.shape S.gives self.now pass.now }
-        ensures { result ≡ true → ((view pass.now).marks.upto ≡ 64) × (n < (view pass.now).marks.floor + 4096) }
+        ensures { result ≡ true → ((view pass.now).marks.upto ≡ 64) × (n < (view pass.now).marks.floor + ring) }
     {
         if pass.upto != 64 {
             return false;
@@ -80,8 +82,8 @@ impl<S: Slot> RowBoard<S> {
         requires place { n ≡ length (view pass.old).seen }
         ensures pass { IsPassOf S.shape S.gives self.now pass.new }
         ensures slots { slots pass.new ≡ slots pass.old }
-        ensures free { IfNone result (((view pass.new).marks.upto ≡ 64) × (n < (view pass.new).marks.floor + 4096)) }
-        ensures held { MatchOption result (Knew (view pass.old) (view pass.new)) (λ by. IsHeldAt (view pass.old) (view pass.new) by (n - 4096)) }
+        ensures free { IfNone result (((view pass.new).marks.upto ≡ 64) × (n < (view pass.new).marks.floor + ring)) }
+        ensures held { MatchOption result (Knew (view pass.old) (view pass.new)) (λ by. IsHeldAt (view pass.old) (view pass.new) by (n - ring)) }
     {
         if self.is_free(pass, n) {
             return None;

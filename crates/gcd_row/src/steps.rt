@@ -9,7 +9,7 @@ ghost use Rattle.gcd_history.specs.History.{why};
 ghost use Rattle.gcd_plan.specs.Validity.{IsPlan};
 ghost use Rattle.gcd_row.specs.Passes.{MayRead};
 ghost use Rattle.gcd_row.specs.Plays.{Asks, SeesMore, EndsHere, Found, Wins, LaysBack};
-ghost use Rattle.gcd_row.specs.Ring.{IsWord, is_news, lap, under, gone};
+ghost use Rattle.gcd_row.specs.Ring.{IsWord, gone, is_news, lap, ring, under};
 ghost use Rattle.gcd_row.specs.Views.{IsBack, knowing, passing};
 
 use crate::board::RowBoard;
@@ -20,6 +20,15 @@ use crate::words::{exchange_word, load_word};
 use atomic_table::Seat;
 use gcd_event::{Entry, Event, of_word, to_word};
 
+// How many events the ring has cells for.
+pub(crate) const RING: u32 = 4_096;
+
+// Where its passed words begin: behind word 0 and the cells.
+pub(crate) const PASSED_WORDS: u32 = 4_097;
+
+// How many words it has in all: these, and a passed word for each of 64 workers.
+pub(crate) const RING_WORDS: u32 = 4_161;
+
 // The lap bit.
 const LAP: u64 = 9_223_372_036_854_775_808;
 
@@ -29,9 +38,9 @@ pub(crate) const GONE: u64 = 18_446_744_073_709_551_615;
 // The word in which event n stands.
 #[inline(always)]
 pub(crate) fn cell_of(n: u32) -> usize
-    ensures { result ≡ suc (n % 4096) }
+    ensures { result ≡ suc (n % ring) }
 {
-    n as usize % 4096 + 1
+    n as usize % RING as usize + 1
 }
 
 // Whether a word found in the cell of event n is that event's.
@@ -42,7 +51,7 @@ pub fn is_news(n: u32, word: u64) -> bool
     if word == 0 {
         return false;
     }
-    word / LAP == u64::from(n / 4096 % 2)
+    word / LAP == u64::from(n / RING % 2)
 }
 
 // The word without its lap bit.
@@ -59,7 +68,7 @@ fn lapped(word: u64, n: u32) -> u64
     requires { IsWord word }
     ensures { result ≡ word + lap n }
 {
-    word + u64::from(n / 4096 % 2) * LAP
+    word + u64::from(n / RING % 2) * LAP
 }
 
 // The event whose word, with the lap bit of event n, was found in its cell.
@@ -104,7 +113,7 @@ impl<S: Slot> RowBoard<S> {
         requires may { MayRead seat.old.me.0 }
         requires place { (n ≡ length seat.old.me.0.seen) × (n < self.now.table.shared.key.limits.most) }
         requires old { old ≡ under (map word_of seat.old.me.0.seen) }
-        requires pair { (seat.old.me.0.marks.upto ≡ 64) × (n < seat.old.me.0.marks.floor + 4096) }
+        requires pair { (seat.old.me.0.marks.upto ≡ 64) × (n < seat.old.me.0.marks.floor + ring) }
         requires valid { IsPlan seat.old.me.0.terms.plan }
         requires slot { LaysBack S.shape S.gives e seat.old.me }
         requires back { IsBack seat.old.me.0.handed.next }
@@ -132,7 +141,11 @@ impl<S: Slot> RowBoard<S> {
         ensures board { (seat.new.table_id ≡ seat.old.table_id) × (seat.new.me.1 ≡ seat.old.me.1) }
         ensures asks { Asks seat.old.me.0 k result seat.new.me.0 }
     {
-        load_word::<S, View<S>, Copies<S>, Lawful, Ask>(&self.table.shared, seat, k as usize + 4097)
+        load_word::<S, View<S>, Copies<S>, Lawful, Ask>(
+            &self.table.shared,
+            seat,
+            k as usize + PASSED_WORDS as usize,
+        )
     }
 
     // Stores the pass's own passed word.
@@ -147,7 +160,7 @@ impl<S: Slot> RowBoard<S> {
     {
         self.table
             .shared
-            .store::<PassOn>(seat, k as usize + 4097, x);
+            .store::<PassOn>(seat, k as usize + PASSED_WORDS as usize, x);
     }
 
     // The pass reads no cell again: its passed word is gone.

@@ -53,38 +53,38 @@ comes_failed seen found end expected is (inr (inr none)) = absurd none
 
 module _ (seen : InputsSeen) (tells : seen.shelf.tells ≡ true) (script journal : Bytes) where
   -- the script that was read declares the plan that the shelf holds
-  same_plan : (plan other : PlanView) → HoldsScript seen.shelf.content script plan → IsPlanOf seen.shelf script other → other ≡ plan
+  same_plan : (plan other : PlanView) → HoldsScript seen.shelf.before.content script plan → IsPlanOf seen.shelf script other → other ≡ plan
   same_plan plan other held is =
-      one_plan seen.shelf.content script other plan (script_held seen.shelf tells script other is.script) held
+      one_plan seen.shelf.before.content script other plan (script_held seen.shelf tells script other is.script) held
 
   -- ## Where it has to stop
 
   -- why it stops is one
-  refuse_stops : (n : ℕ) (stop found : Stop) → MustRefuse seen.shelf.content script journal stop
+  refuse_stops : (n : ℕ) (stop found : Stop) → MustRefuse seen.shelf.before.content script journal stop
       → StopsCheck seen.shelf script journal n found → Fate seen.shelf found (found ≡ stop)
   refuse_stops n stop found (refuse_at_script no_script) (at_script why one) =
-      fate_map seen.shelf found (λ is. one_stop seen.shelf.content script found stop is no_script) (script_stops seen.shelf tells script found why)
+      fate_map seen.shelf found (λ is. one_stop seen.shelf.before.content script found stop is no_script) (script_stops seen.shelf tells script found why)
   refuse_stops n stop found (refuse_at_script no_script) (at_journal other plan_is why two) =
-      absurd (no_plan seen.shelf.content script other stop (script_held seen.shelf tells script other plan_is.script) no_script)
+      absurd (no_plan seen.shelf.before.content script other stop (script_held seen.shelf tells script other plan_is.script) no_script)
   refuse_stops n stop found (refuse_at_journal plan held none) (at_script why one) =
-      fate_map seen.shelf found (λ no_script. absurd (no_plan seen.shelf.content script plan found held no_script)) (script_stops seen.shelf tells script found why)
+      fate_map seen.shelf found (λ no_script. absurd (no_plan seen.shelf.before.content script plan found held no_script)) (script_stops seen.shelf tells script found why)
   refuse_stops n stop found (refuse_at_journal plan held none) (at_journal other plan_is why two) =
       let same : other ≡ plan = same_plan plan other held plan_is in
       fate_map seen.shelf found
-      (λ is. one_journal_stop seen.shelf.content journal plan (subst IsPlan same plan_is.valid) found stop is none)
+      (λ is. one_journal_stop seen.shelf.before.content journal plan (subst IsPlan same plan_is.valid) found stop is none)
       (journal_stops seen.shelf tells journal plan found (subst (λ (p : PlanView). StopsJournal seen.shelf journal p found) same why))
 
   -- no journal is judged
   unjudged : (plan : PlanView) (h : List Event) (stop : Stop) → IsPlanOf seen.shelf script plan → IsJournalAt seen.shelf journal plan h
-      → MustRefuse seen.shelf.content script journal stop → ⊥
+      → MustRefuse seen.shelf.before.content script journal stop → ⊥
   unjudged plan h stop plan_is read (refuse_at_script no_script) =
-      no_plan seen.shelf.content script plan stop (script_held seen.shelf tells script plan plan_is.script) no_script
+      no_plan seen.shelf.before.content script plan stop (script_held seen.shelf tells script plan plan_is.script) no_script
   unjudged plan h stop plan_is read (refuse_at_journal other held none) =
       let same : plan ≡ other = same_plan other plan held plan_is in
-      no_journal seen.shelf.content journal other (subst IsPlan same plan_is.valid) h stop
+      no_journal seen.shelf.before.content journal other (subst IsPlan same plan_is.valid) h stop
       (journal_held seen.shelf tells journal other h (subst (λ (p : PlanView). IsJournalAt seen.shelf journal p h) same read)) none
 
-  pub check_stops : (n : ℕ) (stop : Stop) (end expected : End) → MustRefuse seen.shelf.content script journal stop
+  pub check_stops : (n : ℕ) (stop : Stop) (end expected : End) → MustRefuse seen.shelf.before.content script journal stop
       → stop_end stop ≡ Some expected → CheckEnds seen.shelf script journal n end → Comes seen expected end
   check_stops n stop end expected must stop_is (stopped found why at) =
       comes_by seen stop found end expected at stop_is (refuse_stops n stop found must why)
@@ -92,16 +92,16 @@ module _ (seen : InputsSeen) (tells : seen.shelf.tells ≡ true) (script journal
 
   -- ## Where it has to judge
 
-  module _ (plan : PlanView) (h : List Event) (declares : HoldsScript seen.shelf.content script plan)
-      (holds : HoldsJournal seen.shelf.content journal plan h) where
+  module _ (plan : PlanView) (h : List Event) (declares : HoldsScript seen.shelf.before.content script plan)
+      (holds : HoldsJournal seen.shelf.before.content journal plan h) where
     -- there is no cause to stop
     goes_on : (n : ℕ) (found : Stop) → StopsCheck seen.shelf script journal n found → Fate seen.shelf found ⊥
     goes_on n found (at_script why one) =
-        fate_map seen.shelf found (λ no_script. no_plan seen.shelf.content script plan found declares no_script) (script_stops seen.shelf tells script found why)
+        fate_map seen.shelf found (λ no_script. no_plan seen.shelf.before.content script plan found declares no_script) (script_stops seen.shelf tells script found why)
     goes_on n found (at_journal other plan_is why two) =
         let same : other ≡ plan = same_plan plan other declares plan_is in
         fate_map seen.shelf found
-        (λ none. no_journal seen.shelf.content journal plan (subst IsPlan same plan_is.valid) h found holds none)
+        (λ none. no_journal seen.shelf.before.content journal plan (subst IsPlan same plan_is.valid) h found holds none)
         (journal_stops seen.shelf tells journal plan found (subst (λ (p : PlanView). StopsJournal seen.shelf journal p found) same why))
 
     -- what is judged is the journal that the shelf holds
@@ -110,7 +110,7 @@ module _ (seen : InputsSeen) (tells : seen.shelf.tells ≡ true) (script journal
     same_judged other k end plan_is read is =
         let same : other ≡ plan = same_plan plan other declares plan_is in
         let there : IsJournalAt seen.shelf journal plan k = subst (λ (p : PlanView). IsJournalAt seen.shelf journal p k) same read in
-        let events : k ≡ h = one_journal seen.shelf.content journal plan (subst IsPlan same plan_is.valid) k h
+        let events : k ≡ h = one_journal seen.shelf.before.content journal plan (subst IsPlan same plan_is.valid) k h
         (journal_held seen.shelf tells journal plan k there) holds in
         subst (λ (l : List Event). IsJudged plan l end) events (subst (λ (p : PlanView). IsJudged p k end) same is)
 
@@ -141,15 +141,15 @@ module _ (seen : InputsSeen) (tells : seen.shelf.tells ≡ true) (script journal
   abbrev pub Judged : End → Type 0
   Judged end = (end.status ≡ Drained) ⊎ (end.status ≡ JournalRefused)
 
-  module _ (works : ShelfFailed seen.shelf → ⊥) (plan : PlanView) (text : Bytes) (declares : HoldsScript seen.shelf.content script plan)
-      (holds : HoldsText seen.shelf.content journal text) where
+  module _ (works : ShelfFailed seen.shelf → ⊥) (plan : PlanView) (text : Bytes) (declares : HoldsScript seen.shelf.before.content script plan)
+      (holds : HoldsText seen.shelf.before.content journal text) where
     no_stop : (found : Stop) (end : End) → stop_end found ≡ Some end → Fate seen.shelf found ⊥ → Judged end
     no_stop found end at (inl failed) = absurd (works failed.0)
     no_stop found end at (inr (inl memory)) = untold found end at memory
     no_stop found end at (inr (inr none)) = absurd none
 
     is_refused : (other : PlanView) (found : Stop) (end : End) → stop_end found ≡ Some end
-        → Fate seen.shelf found (IsNoJournal seen.shelf.content journal other found) → Judged end
+        → Fate seen.shelf found (IsNoJournal seen.shelf.before.content journal other found) → Judged end
     is_refused other found end at (inl failed) = absurd (works failed.0)
     is_refused other found end at (inr (inl memory)) = untold found end at memory
     is_refused other found end at (inr (inr (no_journal_unloaded is))) = absurd (no_both holds is)
@@ -159,7 +159,7 @@ module _ (seen : InputsSeen) (tells : seen.shelf.tells ≡ true) (script journal
     pub is_judged : (n : ℕ) (end : End) → CheckEnds seen.shelf script journal n end → Judged end
     is_judged n end (stopped found (at_script why one) at) =
         no_stop found end at
-        (fate_map seen.shelf found (λ no_script. no_plan seen.shelf.content script plan found declares no_script) (script_stops seen.shelf tells script found why))
+        (fate_map seen.shelf found (λ no_script. no_plan seen.shelf.before.content script plan found declares no_script) (script_stops seen.shelf tells script found why))
     is_judged n end (stopped found (at_journal other plan_is why two) at) =
         is_refused other found end at (journal_stops seen.shelf tells journal other found why)
     is_judged n end (judged other k plan_is read (unlawful index barred is) two) = inr (ap (λ (e : End). e.status) is)

@@ -7,7 +7,7 @@ use Rattle.gcd_event.specs.declared.event.Event.{Event}
 use Rattle.gcd_history.specs.Report.{front_text}
 use Rattle.gcd_history.specs.declared.state.State.{State}
 use Rattle.gcd_history.specs.declared.state.State.TheVariants.{Drained as RunDrained, Stuck as RunStuck, Misused as RunMisused, Halted as RunHalted, Live as RunLive}
-use Rattle.gcd_outer.specs.Outside.{Bytes, SinkSeen, Took}
+use Rattle.gcd_outer.specs.Outside.{Bytes, Seen, SinkState, Took}
 use Rattle.gcd_history.specs.Intake.{AcceptsOf, AcceptsNone}
 use Rattle.gcd_words.specs.Asked.{Asked, RunAsked, request_of, run, check, big, front}
 use Rattle.gcd_commands.specs.Calls.{Calls, InputsSeen, Made, only_loads, with_listen}
@@ -15,7 +15,7 @@ use Rattle.gcd_commands.specs.Checks.{CheckEnds, IsJournalAt, IsJudged}
 use Rattle.gcd_commands.specs.Checks.CheckEnds.{stopped as check_stopped, judged}
 use Rattle.gcd_commands.specs.Checks.IsJudged.{lawful, unlawful}
 use Rattle.gcd_commands.specs.End.{End, read_fault, refused_end, no_journal_end, no_intake_end, run_text, large_text, lawful_text, stop_end}
-use Rattle.gcd_run.specs.Ends.{AskedEnds, Answers, CallEnds, HasStatus}
+use Rattle.gcd_run.specs.Ends.{AskedEnds, Answers, CallEnds, HasStatus, OutsideSeen}
 use Rattle.gcd_run.specs.Ends.CallEnds.{reported, wanting}
 use Rattle.gcd_run.specs.Ends.IsWritten.{whole, cut_off}
 use Rattle.gcd_commands.specs.Fronts.{FrontEnds, HearsSenders, TellsFront, front_workers}
@@ -71,13 +71,17 @@ same_status s t e = same_Some s t (sym (named_again s) ∙ ap status_named e ∙
 pub some_end : {a b : End} → Some a ≡ Some b → a ≡ b
 some_end e = cc
 
-module _ (seen : InputsSeen) (sink : SinkSeen) (words : List Bytes) (result : Ended) where
+module _ (seen : InputsSeen) (sink : Seen SinkState) (words : List Bytes) (result : Ended) where
+  -- what the call saw of the outside
+  abbrev pub outside : OutsideSeen
+  outside = record { inputs = seen; sink = sink }
+
   -- the status that is answered is one
   pub one_status : (s t : Status) → HasStatus result s → HasStatus result t → s ≡ t
   one_status s t is has = same_status s t (sym is ∙ has)
 
   -- what a run says by its state
-  says_run : (state : State) → Runs seen sink words result state → Says seen sink words result (status_of state)
+  says_run : (state : State) → Runs outside words result state → Says outside words result (status_of state)
   says_run RunDrained runs = inl runs
   says_run RunStuck runs = runs
   says_run RunMisused runs = runs
@@ -86,11 +90,11 @@ module _ (seen : InputsSeen) (sink : SinkSeen) (words : List Bytes) (result : En
 
   -- what is told and was written whole
   abbrev Written : End → Type 0
-  Written end = Took sink end.text → Answers result end end.status → Says seen sink words result end.status
+  Written end = Took sink end.text → Answers result end end.status → Says outside words result end.status
 
   module _ (calls : Calls) (made : Made seen calls) where
     stopped_by : (stop : Stop) (end : End) → end.journal ≡ [] → StopsAt seen words calls stop → Took sink end.text
-        → Answers result end end.status → Stopped seen sink words result stop end
+        → Answers result end end.status → Stopped outside words result stop end
     stopped_by stop end none why took answers = record {
       calls = calls;
       made = made;
@@ -116,7 +120,7 @@ module _ (seen : InputsSeen) (sink : SinkSeen) (words : List Bytes) (result : En
     pub runs_script : (asked : RunAsked) (plan : PlanView) (contents : List Bytes) (end : End) → Asks words (run asked)
         → IsReady seen.shelf asked.script plan contents → calls ≡ with_listen (length plan.files + 1) asked.listen
         → (t : TellsRun seen.poller seen.clock plan asked.workers asked.most AcceptsNone (run_text asked.journal plan contents) end)
-        → Took sink end.text → Answers result end end.status → RunsScript seen sink words result t.state
+        → Took sink end.text → Answers result end end.status → RunsScript outside words result t.state
     runs_script asked plan contents end asks ready calls_are t took answers =
         let journal_is : result.journal.items ≡ t.h = answers.journal_is ∙ ap (λ (e : End). e.journal) t.end_is in
         record {
@@ -136,7 +140,7 @@ module _ (seen : InputsSeen) (sink : SinkSeen) (words : List Bytes) (result : En
     -- a run of the large script, as it was told
     pub runs_large : (count workers : ℕ) (end : End) → Asks words (big count workers) → calls ≡ only_loads 0
         → (ends : BigEnds seen.poller seen.clock count workers end) → Took sink end.text → Answers result end end.status
-        → RunsLarge seen sink words result ends.tells.state
+        → RunsLarge outside words result ends.tells.state
     runs_large count workers end asks calls_are ends took answers =
         let t = ends.tells in
         let journal_is : result.journal.items ≡ t.h = answers.journal_is ∙ ap (λ (e : End). e.journal) t.end_is in
@@ -158,7 +162,7 @@ module _ (seen : InputsSeen) (sink : SinkSeen) (words : List Bytes) (result : En
     pub runs_beside : (script : Bytes) (senders : ℕ) (plan : PlanView) (contents : List Bytes) (intake : IntakeView) (end : End)
         → Asks words (front script senders) → IsReady seen.shelf script plan contents → plan.intake ≡ Some intake
         → calls ≡ only_loads (length plan.files + 1) → (f : TellsFront seen.poller seen.clock plan intake senders end) → Took sink end.text
-        → Answers result end end.status → RunsBeside seen sink words result f.tells.state
+        → Answers result end end.status → RunsBeside outside words result f.tells.state
     runs_beside script senders plan contents intake end asks ready intake_is calls_are f took answers =
         let t = f.tells in
         let journal_is : result.journal.items ≡ t.h = answers.journal_is ∙ ap (λ (e : End). e.journal) t.end_is in
@@ -186,14 +190,14 @@ module _ (seen : InputsSeen) (sink : SinkSeen) (words : List Bytes) (result : En
         → IsReady seen.shelf asked.script plan contents → calls ≡ with_listen (length plan.files + 1) asked.listen
         → TellsRun seen.poller seen.clock plan asked.workers asked.most AcceptsNone (run_text asked.journal plan contents) end → Written end
     says_script asked plan contents end asks ready calls_are t = λ took answers.
-        subst (λ (e : End). Says seen sink words result e.status) (sym t.end_is)
+        subst (λ (e : End). Says outside words result e.status) (sym t.end_is)
         (says_run t.state (inl (runs_script asked plan contents end asks ready calls_are t took answers)))
 
     -- a run of the large script says its state
     says_large : (count workers : ℕ) (end : End) → Asks words (big count workers) → calls ≡ only_loads 0
         → BigEnds seen.poller seen.clock count workers end → Written end
     says_large count workers end asks calls_are ends = λ took answers.
-        subst (λ (e : End). Says seen sink words result e.status) (sym ends.tells.end_is)
+        subst (λ (e : End). Says outside words result e.status) (sym ends.tells.end_is)
         (says_run ends.tells.state (inr (inl (runs_large count workers end asks calls_are ends took answers))))
 
     -- a run beside senders says its state
@@ -202,7 +206,7 @@ module _ (seen : InputsSeen) (sink : SinkSeen) (words : List Bytes) (result : En
     says_beside script senders n end asks calls_are (front_stopped stop why is) =
         says_stop stop end (of_front script senders n asks calls_are why) is
     says_beside script senders n end asks calls_are (front_ran plan contents intake ready intake_is many f) = λ took answers.
-        subst (λ (e : End). Says seen sink words result e.status) (sym f.tells.end_is)
+        subst (λ (e : End). Says outside words result e.status) (sym f.tells.end_is)
         (says_run f.tells.state (inr (inr (runs_beside script senders plan contents intake end asks ready intake_is
         (calls_are ∙ ap only_loads many) f took answers))))
 
@@ -210,7 +214,7 @@ module _ (seen : InputsSeen) (sink : SinkSeen) (words : List Bytes) (result : En
     judges_by : (script journal : Bytes) (plan : PlanView) (h : List Event) (claim : PlanView → List Event → Type 0) (at : Option (ℕ × ℕ))
         (text : Bytes) → Asks words (check script journal) → IsPlanOf seen.shelf script plan → IsJournalAt seen.shelf journal plan h
         → calls ≡ only_loads 2 → result.journal.items ≡ h → claim plan h → result.at ≡ at → Took sink text
-        → Judges seen sink words result claim at text
+        → Judges outside words result claim at text
     judges_by script journal plan h claim at text asks plan_is read calls_are same is at_is took = record {
       script = script;
       journal = journal;
@@ -263,12 +267,12 @@ module _ (seen : InputsSeen) (sink : SinkSeen) (words : List Bytes) (result : En
     says_asked (Some (front script senders)) end asks ends = says_beside script senders ends.loads end asks ends.calls_are ends.ends
 
   -- the status that the call answers says what it says
-  pub says : CallEnds seen sink words result → (s : Status) → HasStatus result s → Says seen sink words result s
+  pub says : CallEnds outside words result → (s : Status) → HasStatus result s → Says outside words result s
   says (reported end calls made ends (whole took answers)) s has =
-      subst (Says seen sink words result) (one_status end.status s answers.status_is has)
+      subst (Says outside words result) (one_status end.status s answers.status_is has)
       (says_asked calls made (request_of words) end refl ends took answers)
   says (reported end calls made ends (cut_off took failed answers)) s has =
-      subst (Says seen sink words result) (one_status CutOff s answers.status_is has)
+      subst (Says outside words result) (one_status CutOff s answers.status_is has)
       (record {
         end = end;
         calls = calls;
@@ -279,4 +283,4 @@ module _ (seen : InputsSeen) (sink : SinkSeen) (words : List Bytes) (result : En
         journal_is = answers.journal_is;
         at_is = answers.at_is;
       })
-  says (wanting calls made count is) s has = subst (Says seen sink words result) (one_status NoMemory s is.status_is has) is
+  says (wanting calls made count is) s has = subst (Says outside words result) (one_status NoMemory s is.status_is has) is

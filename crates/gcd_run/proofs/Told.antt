@@ -8,7 +8,7 @@ use Rattle.gcd_plan.specs.Validity.{IsPlan}
 use Rattle.gcd_event.specs.declared.event.Event.{Event}
 use Rattle.gcd_journal.specs.Journals.{IsJournal, IsRefusedAt}
 use Rattle.gcd_journal.proofs.OneWay.{journals_agree, journals_stand, faults_agree}
-use Rattle.gcd_outer.specs.Outside.{Bytes, ShelfFailed, ShelfSeen}
+use Rattle.gcd_outer.specs.Outside.{Bytes, ShelfFailed, Seen, ShelfState}
 use Rattle.gcd_script.specs.Codes.{refusal_code}
 use Rattle.gcd_script.specs.Faults.{fault_of, script_of, IsScriptOf}
 use Rattle.gcd_script.specs.declared.refusal.Refusal.TheVariants.{PastLimit}
@@ -24,21 +24,21 @@ use Rattle.gcd_commands.specs.declared.stop.Stop.{Stop}
 use Rattle.gcd_commands.specs.declared.stop.Stop.TheVariants.{Unread, Script, Journal, Memory}
 
 -- what became of a load that has to go so: the shelf failed, memory ran out, or it went so
-abbrev pub Fate : ShelfSeen → Stop → Type 0 → Type 0
+abbrev pub Fate : Seen ShelfState → Stop → Type 0 → Type 0
 Fate shelf stop expected = (ShelfFailed shelf × (stop ≡ Unread)) ⊎ ((stop ≡ Memory) ⊎ expected)
 
-pub fate_map : {A B : Type 0} (shelf : ShelfSeen) (stop : Stop) → (A → B) → Fate shelf stop A → Fate shelf stop B
+pub fate_map : {A B : Type 0} (shelf : Seen ShelfState) (stop : Stop) → (A → B) → Fate shelf stop A → Fate shelf stop B
 fate_map shelf stop f (inl failed) = inl failed
 fate_map shelf stop f (inr (inl wants)) = inr (inl wants)
 fate_map shelf stop f (inr (inr is)) = inr (inr (f is))
 
-module _ (shelf : ShelfSeen) (tells : shelf.tells ≡ true) where
+module _ (shelf : Seen ShelfState) (tells : shelf.tells ≡ true) where
   pub loaded_within : (name : Bytes) (most : ℕ) (longer : Stop) (bytes : Bytes) → IsLoaded shelf name most bytes
-      → within_limit longer most (shelf.content name) ≡ Ok bytes
+      → within_limit longer most (shelf.before.content name) ≡ Ok bytes
   loaded_within name most longer bytes loaded = rw (loaded.holds tells, le-ltb most (length bytes) loaded.fits) refl
 
   pub load_stops : (name : Bytes) (most : ℕ) (longer stop : Stop) → StopsLoad shelf name most longer stop
-      → Fate shelf stop (within_limit longer most (shelf.content name) ≡ Err stop)
+      → Fate shelf stop (within_limit longer most (shelf.before.content name) ≡ Err stop)
   load_stops name most longer stop (unread (inl failed) is) = inl (failed, is)
   load_stops name most longer stop (unread (inr lacks) is) = inr (inr (rw (lacks.nothing, is) refl))
   load_stops name most longer stop (long is_long is) =
@@ -46,27 +46,27 @@ module _ (shelf : ShelfSeen) (tells : shelf.tells ≡ true) where
       inr (inr (rw (found.1, lt-ltb most (length found.0) found.2, is) refl))
   load_stops name most longer stop (wanting is) = inr (inl is)
 
-  pub script_stops : (name : Bytes) (stop : Stop) → StopsScript shelf name stop → Fate shelf stop (IsNoScript shelf.content name stop)
+  pub script_stops : (name : Bytes) (stop : Stop) → StopsScript shelf name stop → Fate shelf stop (IsNoScript shelf.before.content name stop)
   script_stops name stop (unloaded why) = fate_map shelf stop (λ is. no_script_unloaded is) (load_stops name _ _ stop why)
   script_stops name stop (refused script line code loaded fault is) =
       inr (inr (no_script_refused script line code (loaded_within name _ _ script loaded) fault is))
   script_stops name stop (script_wanting is) = inr (inl is)
 
-  pub script_held : (name : Bytes) (plan : PlanView) → IsScript shelf name plan → HoldsScript shelf.content name plan
+  pub script_held : (name : Bytes) (plan : PlanView) → IsScript shelf name plan → HoldsScript shelf.before.content name plan
   script_held name plan is = record { bytes = is.script; held = loaded_within name _ _ is.script is.loaded; declares = is.declares }
 
   pub journal_stops : (name : Bytes) (plan : PlanView) (stop : Stop) → StopsJournal shelf name plan stop
-      → Fate shelf stop (IsNoJournal shelf.content name plan stop)
+      → Fate shelf stop (IsNoJournal shelf.before.content name plan stop)
   journal_stops name plan stop (journal_unloaded why) = fate_map shelf stop (λ is. no_journal_unloaded is) (load_stops name _ _ stop why)
   journal_stops name plan stop (journal_refused text line loaded fault is) =
       inr (inr (no_journal_refused text line (loaded_within name _ _ text loaded) fault is))
   journal_stops name plan stop (journal_wanting is) = inr (inl is)
 
   pub journal_held : (name : Bytes) (plan : PlanView) (h : List Event) → IsJournalAt shelf name plan h
-      → HoldsJournal shelf.content name plan h
+      → HoldsJournal shelf.before.content name plan h
   journal_held name plan h is = record { text = is.text; held = loaded_within name _ _ is.text is.loaded; journal_is = is.journal_is }
 
-  pub files_held : (files : List FileView) (contents : List Bytes) → AreLoaded shelf files contents → files_at shelf.content files ≡ Ok contents
+  pub files_held : (files : List FileView) (contents : List Bytes) → AreLoaded shelf files contents → files_at shelf.before.content files ≡ Ok contents
   files_held [] [] loaded = refl
   files_held (file ∷ files) (bytes ∷ contents) loaded =
       rw (files_at, loaded_within file.path max_file_bytes (Script file.line (refusal_code PastLimit)) bytes loaded.0, files_held files contents loaded.1) refl
@@ -76,18 +76,18 @@ module _ (shelf : ShelfSeen) (tells : shelf.tells ≡ true) where
   -- the files from the one that was not loaded on, after those that were
   files_stop_from : (files : List FileView) (f : ℕ) (file : FileView) (contents : List Bytes) (stop : Stop) → slice_get files f ≡ Some file
       → AreLoaded shelf (take f files) contents
-      → within_limit (Script file.line (refusal_code PastLimit)) max_file_bytes (shelf.content file.path) ≡ Err stop
-      → files_at shelf.content files ≡ Err stop
+      → within_limit (Script file.line (refusal_code PastLimit)) max_file_bytes (shelf.before.content file.path) ≡ Err stop
+      → files_at shelf.before.content files ≡ Err stop
   files_stop_from [] f file contents stop at before is = absurd cc
   files_stop_from (one ∷ files) zero file contents stop at before is =
       let same : file ≡ one = cc in
-      rw (files_at, subst (λ (x : FileView). within_limit (Script x.line (refusal_code PastLimit)) max_file_bytes (shelf.content x.path) ≡ Err stop) same is) refl
+      rw (files_at, subst (λ (x : FileView). within_limit (Script x.line (refusal_code PastLimit)) max_file_bytes (shelf.before.content x.path) ≡ Err stop) same is) refl
   files_stop_from (one ∷ files) (suc f) file [] stop at before is = absurd before
   files_stop_from (one ∷ files) (suc f) file (bytes ∷ contents) stop at before is =
       rw (files_at, loaded_within one.path max_file_bytes (Script one.line (refusal_code PastLimit)) bytes before.0, files_stop_from files f file contents stop at before.1 is) refl
 
   pub file_stops : (files : List FileView) (f : ℕ) (stop : Stop) → StopsFile shelf files f stop
-      → Fate shelf stop (files_at shelf.content files ≡ Err stop)
+      → Fate shelf stop (files_at shelf.before.content files ≡ Err stop)
   file_stops files f stop stops = fate_map shelf stop
       (λ is. files_stop_from files f stops.file stops.next.contents stop stops.next.next stops.next.before is)
       (load_stops stops.file.path max_file_bytes _ stop stops.unloaded)

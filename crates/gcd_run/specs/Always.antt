@@ -1,6 +1,6 @@
 -- What the call has to tell: what a shelf that tells gives of a script, its files and a journal, and what the call then answers
 -- and writes, a fault of the outside and out of memory aside.
-use Rattle.std.specs.Prelude.{◌≡◌, ◌≢◌, ◌⊎◌, ℕ, true, nat_lt, if◌then◌else◌, List, [], ◌∷◌, Option, Some, None, Result, Ok, Err, length}
+use Rattle.std.specs.Prelude.{◌≡◌, ◌≢◌, ◌⊎◌, ℕ, nat_lt, if◌then◌else◌, List, [], ◌∷◌, Option, Some, None, Result, Ok, Err, length}
 use Rattle.gcd_plan.specs.Limits.{max_events, max_file_bytes, max_script_bytes}
 use Rattle.gcd_plan.specs.PlanView.{PlanView, FileView, IntakeView}
 use Rattle.gcd_history.specs.declared.state.State.{State}
@@ -8,14 +8,14 @@ use Rattle.gcd_history.specs.declared.state.State.TheVariants.{Halted}
 use Rattle.gcd_event.specs.declared.event.Event.{Event}
 use Rattle.gcd_journal.specs.Journals.{IsJournal, IsRefusedAt}
 use Rattle.gcd_journal.specs.Judged.{IsFirstBarred}
-use Rattle.gcd_outer.specs.Outside.{Bytes, ShelfFailed, SinkSeen, SinkFailed}
+use Rattle.gcd_outer.specs.Outside.{Bytes, ShelfFailed, Seen, SinkState, SinkFailed}
 use Rattle.gcd_script.specs.Faults.{fault_of, IsScriptOf}
 use Rattle.gcd_script.specs.Codes.{refusal_code}
 use Rattle.gcd_script.specs.declared.refusal.Refusal.TheVariants.{PastLimit}
 use Rattle.gcd_words.specs.Asked.{RunAsked, request_of, run, check, big, front}
-use Rattle.gcd_commands.specs.Calls.{InputsSeen, PollerFailed}
+use Rattle.gcd_commands.specs.Calls.{PollerFailed}
 use Rattle.gcd_commands.specs.End.{End, lawful_end, read_fault, stop_end, unlawful_end, usage_end}
-use Rattle.gcd_run.specs.Ends.{HasStatus, IsWritten}
+use Rattle.gcd_run.specs.Ends.{HasStatus, IsWritten, OutsideSeen, ShelfTells, shelf_content}
 use Rattle.gcd_commands.specs.StatusCodes.{status_of}
 use Rattle.gcd_run.specs.Statuses.{Asks, IsLawfulTo, Runs}
 use Rattle.gcd_commands.specs.declared.status.Status.TheVariants.{Drained, NoMemory, JournalRefused}
@@ -110,18 +110,18 @@ pub record ChecksText (content : Bytes → Option Bytes) (words : List Bytes) : 
 -- ## What the call answers
 
 -- the call told this: it was written whole, or the sink failed in the call; or memory ran out
-abbrev pub Gives : SinkSeen → Ended → End → Type 0
+abbrev pub Gives : Seen SinkState → Ended → End → Type 0
 Gives sink result end = IsWritten sink end result ⊎ HasStatus result NoMemory
 
 -- the same, unless the shelf failed: then nothing could be read
-abbrev pub Answers : InputsSeen → SinkSeen → Ended → End → Type 0
-Answers seen sink result end = Gives sink result end ⊎ (ShelfFailed seen.shelf × Gives sink result read_fault)
+abbrev pub Answers : OutsideSeen → Ended → End → Type 0
+Answers outside result end = Gives outside.sink result end ⊎ (ShelfFailed outside.inputs.shelf × Gives outside.sink result read_fault)
 
 -- nothing failed in the call
-pub record NothingFailed (seen : InputsSeen) (sink : SinkSeen) : Type 0 where
-  pub shelf_works : ¬ ShelfFailed seen.shelf
-  pub poller_works : ¬ PollerFailed seen.poller
-  pub sink_works : ¬ SinkFailed sink
+pub record NothingFailed (outside : OutsideSeen) : Type 0 where
+  pub shelf_works : ¬ ShelfFailed outside.inputs.shelf
+  pub poller_works : ¬ PollerFailed outside.inputs.poller
+  pub sink_works : ¬ SinkFailed outside.sink
 
 -- What has to come. Where the words name no command, the usage line. Where the shelf tells: where a run or a check has to stop, what is
 -- told of that stop, and so of `front`, which has to stop also where the script has no intake; where a check is asked for of lawful events,
@@ -129,26 +129,26 @@ pub record NothingFailed (seen : InputsSeen) (sink : SinkSeen) : Type 0 where
 -- of any kind ends with Drained or JournalRefused. And where a script and its files are told, or the large script is asked for, and nothing
 -- fails, the run comes to its end and the status is that of its state, which is not halted; that of `front` too, where the script has an
 -- intake.
-pub record Always (seen : InputsSeen) (sink : SinkSeen) (words : List Bytes) (result : Ended) : Type 0 where
-  pub usage : request_of words ≡ None → Gives sink result usage_end
-  pub run_stops : seen.shelf.tells ≡ true → (asked : RunAsked) (stop : Stop) (end : End) → Asks words (run asked)
-      → MustStop seen.shelf.content asked.script stop → stop_end stop ≡ Some end → Answers seen sink result end
-  pub front_stops : seen.shelf.tells ≡ true → (script : Bytes) (senders : ℕ) (stop : Stop) (end : End) → Asks words (front script senders)
-      → MustStopFront seen.shelf.content script stop → stop_end stop ≡ Some end → Answers seen sink result end
-  pub check_stops : seen.shelf.tells ≡ true → (script journal : Bytes) (stop : Stop) (end : End) → Asks words (check script journal)
-      → MustRefuse seen.shelf.content script journal stop → stop_end stop ≡ Some end → Answers seen sink result end
-  pub check_passes : seen.shelf.tells ≡ true → (plan : PlanView) (h : List Event) (state : State)
-      → ChecksEvents seen.shelf.content words plan h → IsLawfulTo state plan h → Answers seen sink result (lawful_end h state)
-  pub check_bars : seen.shelf.tells ≡ true → (plan : PlanView) (h : List Event) (index : ℕ)
-      → ChecksEvents seen.shelf.content words plan h → IsFirstBarred plan h index → Answers seen sink result (unlawful_end h index)
-  pub check_ends : seen.shelf.tells ≡ true → NothingFailed seen sink → ChecksText seen.shelf.content words
+pub record Always (outside : OutsideSeen) (words : List Bytes) (result : Ended) : Type 0 where
+  pub usage : request_of words ≡ None → Gives outside.sink result usage_end
+  pub run_stops : ShelfTells outside → (asked : RunAsked) (stop : Stop) (end : End) → Asks words (run asked)
+      → MustStop (shelf_content outside) asked.script stop → stop_end stop ≡ Some end → Answers outside result end
+  pub front_stops : ShelfTells outside → (script : Bytes) (senders : ℕ) (stop : Stop) (end : End) → Asks words (front script senders)
+      → MustStopFront (shelf_content outside) script stop → stop_end stop ≡ Some end → Answers outside result end
+  pub check_stops : ShelfTells outside → (script journal : Bytes) (stop : Stop) (end : End) → Asks words (check script journal)
+      → MustRefuse (shelf_content outside) script journal stop → stop_end stop ≡ Some end → Answers outside result end
+  pub check_passes : ShelfTells outside → (plan : PlanView) (h : List Event) (state : State)
+      → ChecksEvents (shelf_content outside) words plan h → IsLawfulTo state plan h → Answers outside result (lawful_end h state)
+  pub check_bars : ShelfTells outside → (plan : PlanView) (h : List Event) (index : ℕ)
+      → ChecksEvents (shelf_content outside) words plan h → IsFirstBarred plan h index → Answers outside result (unlawful_end h index)
+  pub check_ends : ShelfTells outside → NothingFailed outside → ChecksText (shelf_content outside) words
       → HasStatus result NoMemory ⊎ (HasStatus result Drained ⊎ HasStatus result JournalRefused)
-  pub run_ends : seen.shelf.tells ≡ true → NothingFailed seen sink → (asked : RunAsked) (plan : PlanView) (contents : List Bytes)
-      → Asks words (run asked) → HoldsScript seen.shelf.content asked.script plan → files_at seen.shelf.content plan.files ≡ Ok contents
-      → HasStatus result NoMemory ⊎ ((state : State) × Runs seen sink words result state × HasStatus result (status_of state) × (state ≢ Halted))
-  pub large_ends : NothingFailed seen sink → (count workers : ℕ) → Asks words (big count workers)
-      → HasStatus result NoMemory ⊎ ((state : State) × Runs seen sink words result state × HasStatus result (status_of state) × (state ≢ Halted))
-  pub front_ends : seen.shelf.tells ≡ true → NothingFailed seen sink → (script : Bytes) (senders : ℕ) (plan : PlanView) (intake : IntakeView)
-      (contents : List Bytes) → Asks words (front script senders) → HoldsScript seen.shelf.content script plan
-      → plan.intake ≡ Some intake → files_at seen.shelf.content plan.files ≡ Ok contents
-      → HasStatus result NoMemory ⊎ ((state : State) × Runs seen sink words result state × HasStatus result (status_of state) × (state ≢ Halted))
+  pub run_ends : ShelfTells outside → NothingFailed outside → (asked : RunAsked) (plan : PlanView) (contents : List Bytes)
+      → Asks words (run asked) → HoldsScript (shelf_content outside) asked.script plan → files_at (shelf_content outside) plan.files ≡ Ok contents
+      → HasStatus result NoMemory ⊎ ((state : State) × Runs outside words result state × HasStatus result (status_of state) × (state ≢ Halted))
+  pub large_ends : NothingFailed outside → (count workers : ℕ) → Asks words (big count workers)
+      → HasStatus result NoMemory ⊎ ((state : State) × Runs outside words result state × HasStatus result (status_of state) × (state ≢ Halted))
+  pub front_ends : ShelfTells outside → NothingFailed outside → (script : Bytes) (senders : ℕ) (plan : PlanView) (intake : IntakeView)
+      (contents : List Bytes) → Asks words (front script senders) → HoldsScript (shelf_content outside) script plan
+      → plan.intake ≡ Some intake → files_at (shelf_content outside) plan.files ≡ Ok contents
+      → HasStatus result NoMemory ⊎ ((state : State) × Runs outside words result state × HasStatus result (status_of state) × (state ≢ Halted))

@@ -1,8 +1,13 @@
 -- The ways in which a call can end, one rule for each.
-use Rattle.std.specs.Prelude.{◌≡◌, ◌⊎◌, ℕ, List, [], Option, Some, None}
-use Rattle.gcd_outer.specs.Outside.{Bytes, SinkSeen, SinkFailed, Took, TookFront}
+use Rattle.std.specs.Borrow.{Bor}
+use Rattle.std.specs.Prelude.{◌≡◌, ◌⊎◌, ℕ, true, List, [], Option, Some, None, map}
+use Rattle.gcd_outer.specs.Outside.{Bytes, Seen, SinkState, SinkFailed, Took, TookFront, seen}
+use Rattle.gcd_outer.specs.declared.clock.Clock.{Ghosts as ClockGhosts}
+use Rattle.gcd_outer.specs.declared.poller.Poller.{Ghosts as PollerGhosts}
+use Rattle.gcd_outer.specs.declared.shelf.Shelf.{Ghosts as ShelfGhosts}
+use Rattle.gcd_outer.specs.declared.sink.Sink.{Ghosts as SinkGhosts}
 use Rattle.gcd_words.specs.Asked.{Asked, request_of, run, check, big, front}
-use Rattle.gcd_commands.specs.Calls.{Calls, InputsSeen, Made, only_loads}
+use Rattle.gcd_commands.specs.Calls.{Calls, InputsSeen, Made, SomeCalls, inputs, only_loads}
 use Rattle.gcd_commands.specs.Checks.{CheckEnds, IsCheckCount}
 use Rattle.gcd_commands.specs.End.{End, usage_end}
 use Rattle.gcd_commands.specs.Fronts.{FrontEnds, IsFrontCount}
@@ -11,6 +16,31 @@ use Rattle.gcd_commands.specs.StatusCodes.{status_code}
 use Rattle.gcd_commands.specs.declared.status.Status.{Status}
 use Rattle.gcd_commands.specs.declared.status.Status.TheVariants.{CutOff, NoMemory}
 use Rattle.gcd_run.specs.declared.ended.Ended.{Ended}
+
+-- the bytes of each text
+abbrev pub texts : List (Bor Bytes) → List Bytes
+texts words = map (λ word. word.now) words
+
+-- what a call saw of its inputs, and of the sink
+pub record OutsideSeen : Type 0 where
+  pub inputs : InputsSeen
+  pub sink : Seen SinkState
+
+-- what a call saw of shelf, poller, clock and sink, from the ghost members of each, and its values before and after the call
+abbrev pub outside : {S P C K : Type 0} → ShelfGhosts S → (shelf later_shelf : S) → PollerGhosts P → (poller later_poller : P)
+    → ClockGhosts C → (clock later_clock : C) → SinkGhosts K → (sink later_sink : K) → OutsideSeen
+outside of_shelf shelf later_shelf of_poller poller later_poller of_clock clock later_clock of_sink sink later_sink = record {
+  inputs = inputs of_shelf shelf later_shelf of_poller poller later_poller of_clock clock later_clock;
+  sink = seen of_sink.tells of_sink.state sink later_sink;
+}
+
+-- the shelf tells what it holds
+abbrev pub ShelfTells : OutsideSeen → Type 0
+ShelfTells outside = outside.inputs.shelf.tells ≡ true
+
+-- what the shelf holds under each name
+abbrev pub shelf_content : OutsideSeen → Bytes → Option Bytes
+shelf_content outside = outside.inputs.shelf.before.content
 
 -- `check` makes loads alone
 pub record OnlyChecks (seen : InputsSeen) (script journal : Bytes) (calls : Calls) (end : End) : Type 0 where
@@ -60,6 +90,14 @@ AskedCalls seen (Some (front script senders)) calls = OnlyFrontLoads seen script
 abbrev pub WordsCall : InputsSeen → List Bytes → Calls → Type 0
 WordsCall seen words calls = (calls ≡ only_loads 0) ⊎ AskedCalls seen (request_of words) calls
 
+-- some calls were made, and this is told at the words
+abbrev pub WordsTell : InputsSeen → List Bytes → End → Type 0
+WordsTell seen words end = SomeCalls seen (λ calls. WordsEnd seen words calls end)
+
+-- the calls at these words up to some step were made
+abbrev pub WordsBegin : InputsSeen → List Bytes → Type 0
+WordsBegin seen words = SomeCalls seen (WordsCall seen words)
+
 -- the call answers this status
 abbrev pub HasStatus : Ended → Status → Type 0
 HasStatus result status = result.status ≡ status_code status
@@ -71,20 +109,20 @@ pub record Answers (result : Ended) (end : End) (status : Status) : Type 0 where
   pub at_is : result.at ≡ end.at
 
 -- what became of the text: it was written whole, or the sink failed in the call
-pub data IsWritten (sink : SinkSeen) (end : End) (result : Ended) : Type 0 where
+pub data IsWritten (sink : Seen SinkState) (end : End) (result : Ended) : Type 0 where
   whole : Took sink end.text → Answers result end end.status → IsWritten sink end result
   cut_off : TookFront sink end.text → SinkFailed sink → Answers result end CutOff → IsWritten sink end result
 
 -- memory ran out: nothing was written, and nothing is told
-pub record IsWanting (sink : SinkSeen) (result : Ended) : Type 0 where
+pub record IsWanting (sink : Seen SinkState) (result : Ended) : Type 0 where
   pub status_is : HasStatus result NoMemory
   pub nothing : Took sink []
   pub journal_is : result.journal.items ≡ []
   pub at_is : result.at ≡ None
 
 -- how the call ends: something is told at the words, or memory ran out at some step
-pub data CallEnds (seen : InputsSeen) (sink : SinkSeen) (words : List Bytes) (result : Ended) : Type 0 where
-  reported : (end : End) (calls : Calls) → Made seen calls → WordsEnd seen words calls end → IsWritten sink end result
-      → CallEnds seen sink words result
-  wanting : (calls : Calls) → Made seen calls → WordsCall seen words calls → IsWanting sink result
-      → CallEnds seen sink words result
+pub data CallEnds (outside : OutsideSeen) (words : List Bytes) (result : Ended) : Type 0 where
+  reported : (end : End) (calls : Calls) → Made outside.inputs calls → WordsEnd outside.inputs words calls end
+      → IsWritten outside.sink end result → CallEnds outside words result
+  wanting : (calls : Calls) → Made outside.inputs calls → WordsCall outside.inputs words calls → IsWanting outside.sink result
+      → CallEnds outside words result

@@ -8,14 +8,15 @@
 //! The words are read (`gcd_words`), the command that they name is done (`gcd_commands`: `run`, `check`, `big` or `front`), and the text
 //! that it tells is written. A call ends at the first step that cannot go on; its text is made whole before the first byte is written.
 //!
-//! The contract of `gcd_main` speaks of what the call saw of the shelf, the poller, the clock and the sink (`gcd_outer`),
-//! before and after. `specs/` has what states the promise (`Ends`, `Statuses`, `Always`); the words of a single command that it cites,
-//! from loads to runs and texts, stand in `specs/` of `gcd_commands`.
+//! The contract of `gcd_main` speaks of one value (`outside`): what the call saw of the shelf, the poller, the clock and the sink
+//! (`gcd_outer`), which is whether each tells, and its state before and after the call. `S.Shelf` in a clause means the ghost members of
+//! the shelf, and so on. `specs/` has what states the promise (`Ends`, `Statuses`, `Always`). It cites the words of each command, from
+//! loads to runs and texts, which are in `specs/` of `gcd_commands`.
 //!
 //! | clause | says |
 //! |---|---|
 //! | `ended` (`CallEnds`) | one relation with a rule for each way in which a call ends, with the loads and listens that it took |
-//! | `says` (`Says`) | what each status says. Drained, Stuck, Misused, Full, and Unread after a Halt: the script declares a valid plan, it and each file was loaded once, the journal is a lawful run of the plan, of at most as many events as are asked for, that is over and has come to just this state (Full: it has that many, and goes on), with one worker each event of a worker is what it chooses at its place, what clock and poller said stands in it, and the sink took the journal, where it is asked for, and its report, in which each result is its block's value over the bytes that were loaded; the run of a script keeps the pages of strips and block objects (`KeepsPages`); and of `front` each accepted job is one of a sender, those of each sender stand in its order, a block of the intake that has ended has the value of its sender's job, and where the run has come to rest each sender's jobs are all accepted (`RunsBeside`, `HearsSenders`) |
+//! | `says` (`StatusSays`) | what the status of the answer says (`Says`, by cases). Drained, Stuck, Misused, Full, and Unread after a Halt: the script declares a valid plan, it and each file was loaded once, the journal is a lawful run of the plan, of at most as many events as are asked for, that is over and has come to just this state (Full: it has that many, and goes on), with one worker each event of a worker is what it chooses at its place, what clock and poller said stands in it, and the sink took the journal, where it is asked for, and its report, in which each result is its block's value over the bytes that were loaded; the run of a script keeps the pages of strips and block objects (`KeepsPages`); and of `front` each accepted job is one of a sender, those of each sender stand in its order, a block of the intake that has ended has the value of its sender's job, and where the run has come to rest each sender's jobs are all accepted (`RunsBeside`, `HearsSenders`) |
 //! | `always` (`Always`) | what has to be told, a fault of the outside and out of memory aside: the usage line where the words name no command; where a shelf that tells gives cause to stop at a script, a file of it or a journal, that cause; of a journal that `check` is asked for, that its events are lawful and their state, or the first that is not permitted; that a script without an intake has none, where `front` is asked for; and where nothing stands in the way, a run comes to its end, and a check to 0 or 9 |
 //! | `named` | words that name a command, and that the parser takes, are never answered by the usage line |
 //!

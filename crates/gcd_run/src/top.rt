@@ -1,13 +1,12 @@
 // The top call.
-ghost use Rattle.std.specs.Prelude.{◌≡◌, ℕ, true, false, map, is_some, IfOk, OnErr};
-ghost use Rattle.gcd_outer.specs.Outside.{shelf_seen, sink_seen};
-ghost use Rattle.gcd_commands.specs.Calls.{SomeCalls, seen_by};
+ghost use Rattle.std.specs.Prelude.{◌≡◌, ℕ, true, false, is_some, IfOk, OnErr};
+ghost use Rattle.gcd_outer.specs.Outside.{seen};
+ghost use Rattle.gcd_commands.specs.Calls.{inputs};
 ghost use Rattle.gcd_run.specs.Always.{Always};
-ghost use Rattle.gcd_run.specs.Statuses.{Says};
-ghost use Rattle.gcd_commands.specs.declared.status.Status.{Status as AnyStatus};
+ghost use Rattle.gcd_run.specs.Statuses.{StatusSays};
 ghost use Rattle.gcd_commands.specs.declared.status.Status.TheVariants.{NoCommand};
 ghost use Rattle.gcd_words.specs.Asked.{AreTaken, request_of};
-ghost use Rattle.gcd_run.specs.Ends.{CallEnds, HasStatus, IsWritten, WordsCall, WordsEnd};
+ghost use Rattle.gcd_run.specs.Ends.{CallEnds, HasStatus, IsWritten, WordsBegin, WordsTell, outside, texts};
 ghost use Rattle.gcd_commands.specs.Stories.{end_of};
 
 use crate::ended::Ended;
@@ -28,9 +27,9 @@ fn tell<R: Threads + Wait + Sync, S: Shelf, P: Poller + Send, C: Clock + Send>(
     clock: &mut C,
 ) -> Result<Story, AllocError>
     requires unwatched { (feed : ℕ) → (P.state poller.old).watched feed ≡ false }
-    ensures reported { IfOk result (λ s. SomeCalls (record { shelf = shelf_seen S.tells S.content S.loads S.faults shelf.old shelf.new; poller = seen_by P.tells P.state poller.old poller.new; clock = seen_by C.tells C.state clock.old clock.new }) (λ calls. WordsEnd (record { shelf = shelf_seen S.tells S.content S.loads S.faults shelf.old shelf.new; poller = seen_by P.tells P.state poller.old poller.new; clock = seen_by C.tells C.state clock.old clock.new }) (map (λ w. w.now) words.now) calls (end_of s))) }
-    ensures taken { IfOk result (λ s. AreTaken (map (λ w. w.now) words.now) → is_some (request_of (map (λ w. w.now) words.now)) ≡ true) }
-    ensures wanting { OnErr result (SomeCalls (record { shelf = shelf_seen S.tells S.content S.loads S.faults shelf.old shelf.new; poller = seen_by P.tells P.state poller.old poller.new; clock = seen_by C.tells C.state clock.old clock.new }) (WordsCall (record { shelf = shelf_seen S.tells S.content S.loads S.faults shelf.old shelf.new; poller = seen_by P.tells P.state poller.old poller.new; clock = seen_by C.tells C.state clock.old clock.new }) (map (λ w. w.now) words.now))) }
+    ensures reported { IfOk result (λ s. WordsTell (inputs S.Shelf shelf.old shelf.new P.Poller poller.old poller.new C.Clock clock.old clock.new) (texts words.now) (end_of s)) }
+    ensures taken { IfOk result (λ s. AreTaken (texts words.now) → is_some (request_of (texts words.now)) ≡ true) }
+    ensures wanting { OnErr result (WordsBegin (inputs S.Shelf shelf.old shelf.new P.Poller poller.old poller.new C.Clock clock.old clock.new) (texts words.now)) }
 {
     match read_words(alloc, words)? {
         None => Story::usage(alloc),
@@ -43,7 +42,7 @@ fn tell<R: Threads + Wait + Sync, S: Shelf, P: Poller + Send, C: Clock + Send>(
 
 // The text is written, whole where the sink does not fail.
 fn write_story<K: Sink>(out: &mut K, story: Story) -> Ended
-    ensures { IsWritten (sink_seen K.tells K.taken K.faults out.old out.new) (end_of story) result }
+    ensures { IsWritten (seen K.tells K.state out.old out.new) (end_of story) result }
 {
     let written = write_whole(out, story.text.as_slice());
     let status = match written {
@@ -54,30 +53,6 @@ fn write_story<K: Sink>(out: &mut K, story: Story) -> Ended
         status: status.code(),
         journal: story.journal,
         at: story.at,
-    }
-}
-
-// The call, by the one relation of its ways to end.
-fn call<R: Threads + Wait + Sync, S: Shelf, K: Sink, P: Poller + Send, C: Clock + Send>(
-    rt: &R,
-    alloc: Global,
-    words: &[&str],
-    shelf: &mut S,
-    out: &mut K,
-    poller: &mut P,
-    clock: &mut C,
-) -> Ended
-    requires unwatched { (feed : ℕ) → (P.state poller.old).watched feed ≡ false }
-    ensures ended { CallEnds (record { shelf = shelf_seen S.tells S.content S.loads S.faults shelf.old shelf.new; poller = seen_by P.tells P.state poller.old poller.new; clock = seen_by C.tells C.state clock.old clock.new }) (sink_seen K.tells K.taken K.faults out.old out.new) (map (λ w. w.now) words.now) result }
-    ensures named { HasStatus result NoCommand → AreTaken (map (λ w. w.now) words.now) → ⊥ }
-{
-    match tell(rt, alloc, words, shelf, poller, clock) {
-        Ok(story) => write_story(out, story),
-        Err(AllocError) => Ended {
-            status: Status::NoMemory.code(),
-            journal: Vec::new(alloc),
-            at: None,
-        },
     }
 }
 
@@ -111,16 +86,23 @@ pub fn gcd_main<R: Threads + Wait + Sync, S: Shelf, K: Sink, P: Poller + Send, C
 ) -> Ended
     requires unwatched { (feed : ℕ) → (P.state poller.old).watched feed ≡ false }
     // How the call ends: one relation, with a rule for each way, which counts the calls on the outside.
-    ensures ended { CallEnds (record { shelf = shelf_seen S.tells S.content S.loads S.faults shelf.old shelf.new; poller = seen_by P.tells P.state poller.old poller.new; clock = seen_by C.tells C.state clock.old clock.new }) (sink_seen K.tells K.taken K.faults out.old out.new) (map (λ w. w.now) words.now) result }
+    ensures ended { CallEnds (outside S.Shelf shelf.old shelf.new P.Poller poller.old poller.new C.Clock clock.old clock.new K.Sink out.old out.new) (texts words.now) result }
 
     // What the status that it answers says.
-    ensures says { (status : AnyStatus) → HasStatus result status → Says (record { shelf = shelf_seen S.tells S.content S.loads S.faults shelf.old shelf.new; poller = seen_by P.tells P.state poller.old poller.new; clock = seen_by C.tells C.state clock.old clock.new }) (sink_seen K.tells K.taken K.faults out.old out.new) (map (λ w. w.now) words.now) result status }
+    ensures says { StatusSays (outside S.Shelf shelf.old shelf.new P.Poller poller.old poller.new C.Clock clock.old clock.new K.Sink out.old out.new) (texts words.now) result }
 
     // Words that name a command, and that the parser takes, are never answered by the usage line.
-    ensures named { HasStatus result NoCommand → AreTaken (map (λ w. w.now) words.now) → ⊥ }
+    ensures named { HasStatus result NoCommand → AreTaken (texts words.now) → ⊥ }
 
     // What has to be told.
-    ensures always { Always (record { shelf = shelf_seen S.tells S.content S.loads S.faults shelf.old shelf.new; poller = seen_by P.tells P.state poller.old poller.new; clock = seen_by C.tells C.state clock.old clock.new }) (sink_seen K.tells K.taken K.faults out.old out.new) (map (λ w. w.now) words.now) result }
+    ensures always { Always (outside S.Shelf shelf.old shelf.new P.Poller poller.old poller.new C.Clock clock.old clock.new K.Sink out.old out.new) (texts words.now) result }
 {
-    call(rt, alloc, words, shelf, out, poller, clock)
+    match tell(rt, alloc, words, shelf, poller, clock) {
+        Ok(story) => write_story(out, story),
+        Err(AllocError) => Ended {
+            status: Status::NoMemory.code(),
+            journal: Vec::new(alloc),
+            at: None,
+        },
+    }
 }

@@ -17,7 +17,7 @@ pub struct FileShelf<'a, R: Files> {
 impl<'a, R: Files> FileShelf<'a, R> {
     /// A shelf that has not failed yet.
     pub fn new(rt: &'a R) -> Self
-        ensures { ⟦<FileShelf<'a, R> as Shelf>⟧.faults result ≡ 0 }
+        ensures { (⟦<FileShelf<'a, R> as Shelf>⟧.state result).faults ≡ 0 }
     {
         FileShelf { rt, faults: 0 }
     }
@@ -26,11 +26,7 @@ impl<'a, R: Files> FileShelf<'a, R> {
 impl<'a, R: Files> Shelf for FileShelf<'a, R> {
     ghost tells = { false };
 
-    ghost content = { λ _ _. None };
-
-    ghost loads = { λ _. 0 };
-
-    ghost faults = { λ s. s.faults };
+    ghost state = { λ s. record { content = λ _. None; loads = 0; faults = s.faults } };
 
     fn load(&mut self, name: &str, most: usize, into: &mut Vec<u8>) -> Result<(), LoadFault> {
         into.clear();

@@ -14,7 +14,7 @@ pub struct StdoutSink<'a, R: Print> {
 impl<'a, R: Print> StdoutSink<'a, R> {
     /// A sink that has not failed yet.
     pub fn new(rt: &'a R) -> Self
-        ensures { ⟦<StdoutSink<'a, R> as Sink>⟧.faults result ≡ 0 }
+        ensures { (⟦<StdoutSink<'a, R> as Sink>⟧.state result).faults ≡ 0 }
     {
         StdoutSink { rt, faults: 0 }
     }
@@ -23,9 +23,7 @@ impl<'a, R: Print> StdoutSink<'a, R> {
 impl<'a, R: Print> Sink for StdoutSink<'a, R> {
     ghost tells = { false };
 
-    ghost taken = { λ _. [] };
-
-    ghost faults = { λ s. s.faults };
+    ghost state = { λ s. record { taken = []; faults = s.faults } };
 
     fn write(&mut self, piece: &[u8]) -> Result<usize, Failed> {
         if piece.is_empty() {

@@ -1,15 +1,16 @@
 -- What worker 0 is asked to do next.
-use Rattle.std.specs.Prelude.{◌≡◌, ◌≤◌, ◌<◌, ◌+◌, ◌⊎◌, ℕ, Bool, true, false, List, [], Option, Some, None, IsSome, max, min}
+use Rattle.std.specs.Prelude.{◌≡◌, ◌≤◌, ◌<◌, ◌+◌, ◌⊎◌, ℕ, Bool, true, false, List, [], ◌++◌, Option, Some, None, IsSome, length, max, min}
 use Rattle.gcd_plan.specs.PlanView.{PlanView}
 use Rattle.gcd_event.specs.declared.event.Event.{Event}
 use Rattle.gcd_event.specs.declared.event.Event.TheVariants.{Start, Act as Acted, Wake, End, Deliver, DeliverEnd, Tick, Ready, FeedEnd, Misuse, Halt, Expire, Accept, Shut}
-use Rattle.gcd_history.specs.Ends.{HasEnded}
+use Rattle.gcd_history.specs.Ends.{HasEnded, is_halted}
 use Rattle.gcd_history.specs.History.{choice_of, expiry_of, is_intake_open, is_live_feed, next_due_of}
 use Rattle.gcd_machine.specs.Stands.{StandsFor}
 use Rattle.gcd_refinement.specs.MachineView.{MachineView}
 use Rattle.gcd_outer.specs.Outside.{ClockState, Rises}
 use Rattle.gcd_outer.specs.Tells.{PollerState}
 use Rattle.gcd_outer.specs.declared.tell.Tell.{Tell}
+use Rattle.gcd_turn.specs.Hearing.{Heard}
 use Rattle.gcd_turn.specs.Promises.{later_by}
 use Rattle.gcd_turn.specs.Turns.{HasRoom, OutlookView, first_event}
 use Rattle.gcd_turn.specs.declared.ask.Ask.{Ask}
@@ -110,3 +111,27 @@ IsAskedOn most plan h o present old new (Work chosen left) =
 abbrev pub WaitedFor : PlanView → List Event → (start : ℕ) → ClockState → ClockState → Type 0
 WaitedFor plan h start old new =
     (new.waited ≡ old.waited) ⊎ ((due : ℕ) × (next_due_of plan h ≡ Some due) × (new.waited ≡ max old.waited (later_by start due)))
+
+-- so it was at a history that the machine stands for
+abbrev pub WaitsFor : MachineView → PlanView → (tells : Bool) → (start : ℕ) → ClockState → ClockState → Type 0
+WaitsFor m plan tells start old new = (h : List Event) → StandsFor m plan h → tells ≡ true → WaitedFor plan h start old new
+
+-- this is asked at a history that the machine stands for, of at most `most` events
+abbrev pub AsksFor : MachineView → PlanView → (most : ℕ) → OutlookView → (present : ℕ) → (old new : PollerState) → Ask → Type 0
+AsksFor m plan most o present old new ask = (h : List Event) → StandsFor m plan h → length h ≤ most → IsAsked most plan h o present old new ask
+
+-- this is asked in the later steps at a history that the machine stands for, if each live feed is watched and no call has failed
+abbrev pub AsksOnFor : MachineView → PlanView → OutlookView → (present : ℕ) → Ask → Type 0
+AsksOnFor m plan o present ask = (most : ℕ) (h : List Event) (old new : PollerState) → StandsFor m plan h → HasRoom most plan h
+    → AllWatched plan h new → HasNotFailed old new → IsAskedOn most plan h o present old new ask
+
+-- if the calls up to now gave what stands in a history that the machine stands for, so have those up to the new state
+abbrev pub HearsOn : MachineView → PlanView → (tells : Bool) → (old new : PollerState) → (o u : OutlookView) → Type 0
+HearsOn m plan tells old new o u = (stood placed : List Event) (before : PollerState) → StandsFor m plan (stood ++ placed) → tells ≡ true
+    → Heard plan stood placed before old o → Heard plan stood placed before new u
+
+-- so it is for a history that is not halted, if each live feed is watched
+abbrev pub HearsIdle : MachineView → PlanView → (tells : Bool) → (old new : PollerState) → (o u : OutlookView) → Type 0
+HearsIdle m plan tells old new o u = (stood placed : List Event) (before : PollerState) → StandsFor m plan (stood ++ placed)
+    → is_halted (stood ++ placed) ≡ false → AllWatched plan (stood ++ placed) old → tells ≡ true
+    → Heard plan stood placed before old o → Heard plan stood placed before new u

@@ -1,6 +1,6 @@
 -- The outside of a run, before and after calls on it.
 use Rattle.std.specs.Prelude.{◌≡◌, ◌≤◌, Bool, true, []}
-use Rattle.gcd_outer.specs.Outside.{ClockState, Seen}
+use Rattle.gcd_outer.specs.Outside.{ClockState, Seen, seen}
 use Rattle.gcd_outer.specs.Tells.{PollerState}
 use Rattle.gcd_turn.specs.Turns.{OutlookView}
 use Rattle.gcd_turn.specs.declared.outside.Outside.{Outside}
@@ -20,8 +20,8 @@ pub record Faced : Type 0 where
 -- what calls saw, from what tells and the state of poller and clock
 abbrev pub faced : {P C : Type 0} → (poller_tells clock_tells : Bool) → (P → PollerState) → (C → ClockState) → (old new : Outside P C) → Faced
 faced poller_tells clock_tells poller clock old new = record {
-  poller = record { tells = poller_tells; before = poller old.poller.now; after = poller new.poller.now };
-  clock = record { tells = clock_tells; before = clock old.clock.now; after = clock new.clock.now };
+  poller = seen poller_tells poller old.poller.now new.poller.now;
+  clock = seen clock_tells clock old.clock.now new.clock.now;
   before = old.outlook;
   after = new.outlook;
 }

@@ -1,15 +1,11 @@
 // The outside as worker 0 has it: poller and clock, which it alone has, and what it keeps of them.
-ghost use Rattle.std.specs.Prelude.{◌≡◌, ◌≤◌, ◌++◌, [], ℕ, true, false, List, drop, length, IfSome, OnSome, IfNone, OnOk, OnErr};
+ghost use Rattle.std.specs.Prelude.{◌≡◌, ◌≤◌, [], ℕ, true, List, drop, IfSome, OnSome, IfNone, OnOk, OnErr};
 ghost use Rattle.gcd_event.specs.declared.event.Event.{Event};
 ghost use Rattle.gcd_event.specs.declared.event.Event.TheVariants.{Halt};
-ghost use Rattle.gcd_history.specs.Ends.{is_halted};
 ghost use Rattle.gcd_history.specs.History.{choice_of};
 ghost use Rattle.gcd_machine.specs.Stands.{StandsFor};
-ghost use Rattle.gcd_outer.specs.Tells.{PollerState};
-ghost use Rattle.gcd_turn.specs.Asked.{AllWatched, HasFailed, HasNotFailed, KeepsListens, HasWatched, IsAsked, IsAskedOn, WaitedFor};
-ghost use Rattle.gcd_turn.specs.Hearing.{Heard};
+ghost use Rattle.gcd_turn.specs.Asked.{AsksFor, AsksOnFor, HasFailed, HasNotFailed, HasWatched, HearsIdle, HearsOn, KeepsListens, WaitsFor};
 ghost use Rattle.gcd_turn.specs.Outsides.{IsFirst, IsSame};
-ghost use Rattle.gcd_turn.specs.Turns.{HasRoom};
 
 use crate::ask::Ask;
 use crate::outlook::Outlook;
@@ -57,12 +53,10 @@ impl<'a, P: Poller, C: Clock> Outside<'a, P, C> {
         requires { machine.now.plan ≡ plan.now }
         ensures same { IsSame self.old self.new }
         ensures outlook { self.new.outlook ≡ self.old.outlook }
-        ensures asked { (h : List Event) → StandsFor machine.now plan.now h → length h ≤ most
-            → IsAsked most plan.now h self.old.outlook (C.state self.new.clock.now).present
+        ensures asked { AsksFor machine.now plan.now most self.old.outlook (C.state self.new.clock.now).present
             (P.state self.old.poller.now) (P.state self.new.poller.now) result }
-        ensures heard { (stood placed : List Event) (before : PollerState) → StandsFor machine.now plan.now (stood ++ placed)
-            → P.tells ≡ true → Heard plan.now stood placed before (P.state self.old.poller.now) self.old.outlook
-            → Heard plan.now stood placed before (P.state self.new.poller.now) self.new.outlook }
+        ensures heard { HearsOn machine.now plan.now P.tells
+            (P.state self.old.poller.now) (P.state self.new.poller.now) self.old.outlook self.new.outlook }
         ensures kept { KeepsListens P.tells (P.state self.old.poller.now) (P.state self.new.poller.now) }
         ensures goes_on { (C.state self.old.clock.now).present ≤ (C.state self.new.clock.now).present }
         ensures waited { C.tells ≡ true → (C.state self.new.clock.now).waited ≡ (C.state self.old.clock.now).waited }
@@ -93,9 +87,7 @@ impl<'a, P: Poller, C: Clock> Outside<'a, P, C> {
         ensures same { IsSame self.old self.new }
         ensures outlook { self.new.outlook ≡ self.old.outlook }
         ensures poller { self.new.poller.now ≡ self.old.poller.now }
-        ensures asked { (most : ℕ) (h : List Event) (old new : PollerState) → StandsFor machine.now plan.now h → HasRoom most plan.now h
-            → AllWatched plan.now h new → HasNotFailed old new
-            → IsAskedOn most plan.now h self.old.outlook (C.state self.new.clock.now).present old new result }
+        ensures asked { AsksOnFor machine.now plan.now self.old.outlook (C.state self.new.clock.now).present result }
         ensures goes_on { (C.state self.old.clock.now).present ≤ (C.state self.new.clock.now).present }
         ensures waited { C.tells ≡ true → (C.state self.new.clock.now).waited ≡ (C.state self.old.clock.now).waited }
     {
@@ -124,10 +116,8 @@ impl<'a, P: Poller, C: Clock> Outside<'a, P, C> {
         requires no_news { self.old.outlook.news ≡ [] }
         requires some { (feed : ℕ) × ((P.state self.old.poller.now).watched feed ≡ true) }
         ensures same { IsSame self.old self.new }
-        ensures heard { (stood placed : List Event) (before : PollerState) → StandsFor machine.now plan.now (stood ++ placed)
-            → is_halted (stood ++ placed) ≡ false → AllWatched plan.now (stood ++ placed) (P.state self.old.poller.now)
-            → P.tells ≡ true → Heard plan.now stood placed before (P.state self.old.poller.now) self.old.outlook
-            → Heard plan.now stood placed before (P.state self.new.poller.now) self.new.outlook }
+        ensures heard { HearsIdle machine.now plan.now P.tells
+            (P.state self.old.poller.now) (P.state self.new.poller.now) self.old.outlook self.new.outlook }
         ensures start { self.new.outlook.start ≡ self.old.outlook.start }
         ensures clock { self.new.clock.now ≡ self.old.clock.now }
         ensures kept { KeepsListens P.tells (P.state self.old.poller.now) (P.state self.new.poller.now) }
@@ -157,18 +147,16 @@ impl<'a, P: Poller, C: Clock> Outside<'a, P, C> {
         requires no_news { self.old.outlook.news ≡ [] }
         requires watched { HasWatched machine.now plan.now (P.state self.old.poller.now) }
         ensures same { IsSame self.old self.new }
-        ensures heard { (stood placed : List Event) (before : PollerState) → StandsFor machine.now plan.now (stood ++ placed)
-            → is_halted (stood ++ placed) ≡ false → AllWatched plan.now (stood ++ placed) (P.state self.old.poller.now)
-            → P.tells ≡ true → Heard plan.now stood placed before (P.state self.old.poller.now) self.old.outlook
-            → Heard plan.now stood placed before (P.state self.new.poller.now) self.new.outlook }
+        ensures heard { HearsIdle machine.now plan.now P.tells
+            (P.state self.old.poller.now) (P.state self.new.poller.now) self.old.outlook self.new.outlook }
         ensures start { self.new.outlook.start ≡ self.old.outlook.start }
         ensures kept { KeepsListens P.tells (P.state self.old.poller.now) (P.state self.new.poller.now) }
         ensures halt { IfSome result (λ e. e ≡ Halt) }
         ensures failed { OnSome result (HasFailed (P.state self.old.poller.now) (P.state self.new.poller.now)) }
         ensures unfailed { IfNone result (HasNotFailed (P.state self.old.poller.now) (P.state self.new.poller.now)) }
         ensures goes_on { (C.state self.old.clock.now).present ≤ (C.state self.new.clock.now).present }
-        ensures waited { (h : List Event) → StandsFor machine.now plan.now h → C.tells ≡ true
-            → WaitedFor plan.now h self.old.outlook.start (C.state self.old.clock.now) (C.state self.new.clock.now) }
+        ensures waited { WaitsFor machine.now plan.now C.tells self.old.outlook.start
+            (C.state self.old.clock.now) (C.state self.new.clock.now) }
     {
         if live_feed_from(plan, machine, 0).is_some() {
             return match self.listen(plan, machine, left) {

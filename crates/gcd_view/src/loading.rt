@@ -35,8 +35,8 @@ fn load_whole<S: Shelf>(
     most: u32,
     longer: Stop,
 ) -> Result<Vec<u8>, Stop>
-    ensures loaded { IfOk result (λ bytes. IsLoaded S.tells (S.content shelf.old) name.now most bytes.items) }
-    ensures same { S.content shelf.new ≡ S.content shelf.old }
+    ensures loaded { IfOk result (λ bytes. IsLoaded S.tells (S.state shelf.old).content name.now most bytes.items) }
+    ensures same { (S.state shelf.new).content ≡ (S.state shelf.old).content }
 {
     let mut bytes = Vec::new(alloc);
     match shelf.load(name, most as usize, &mut bytes) {
@@ -50,8 +50,8 @@ fn load_whole<S: Shelf>(
 
 // The text of the script under this name, and the plan that it declares.
 fn load_plan<S: Shelf>(alloc: Global, shelf: &mut S, name: &str) -> Result<(Vec<u8>, Plan), Stop>
-    ensures script { IfOk result (λ r. IsScript S.tells (S.content shelf.old) name.now r.0.items r.1) }
-    ensures same { S.content shelf.new ≡ S.content shelf.old }
+    ensures script { IfOk result (λ r. IsScript S.tells (S.state shelf.old).content name.now r.0.items r.1) }
+    ensures same { (S.state shelf.new).content ≡ (S.state shelf.old).content }
 {
     let too_long = Stop::Script {
         line: 0,
@@ -72,7 +72,7 @@ fn load_journal<S: Shelf>(
     shelf: &mut S,
     name: &str,
 ) -> Result<Vec<Entry>, Stop>
-    ensures journal { IfOk result (λ events. IsJournalAt S.tells (S.content shelf.old) name.now plan.now events.items) }
+    ensures journal { IfOk result (λ events. IsJournalAt S.tells (S.state shelf.old).content name.now plan.now events.items) }
     ensures few { IfOk result (λ events. length events.items ≤ max_events) }
 {
     let too_long = Stop::Journal { line: 0 };
@@ -101,8 +101,8 @@ fn judge(alloc: Global, plan: &Plan, events: &[Entry]) -> Result<State, Stop>
 /// texts are what stands under the two names of the request, where the shelf tells what it holds. Else it says at which of these
 /// steps it stopped, and why: `Unread`, `Script`, `Journal` with a line, `Event`, or `Memory`.
 pub fn load_run<S: Shelf>(alloc: Global, shelf: &mut S, request: Request) -> Result<Loaded, Stop>
-    ensures script { IfOk result (λ r. IsScript S.tells (S.content shelf.old) request.entry.script.now r.script.items r.plan) }
-    ensures journal { IfOk result (λ r. IsJournalAt S.tells (S.content shelf.old) request.entry.journal.now r.plan r.events.items) }
+    ensures script { IfOk result (λ r. IsScript S.tells (S.state shelf.old).content request.entry.script.now r.script.items r.plan) }
+    ensures journal { IfOk result (λ r. IsJournalAt S.tells (S.state shelf.old).content request.entry.journal.now r.plan r.events.items) }
     ensures judged { IfOk result (λ r. IsLawfulWith r.plan r.events.items r.state) }
     ensures few { IfOk result (λ r. length r.events.items ≤ max_events) }
 {

@@ -1,4 +1,4 @@
--- The jobs of a board, and what its first cells give.
+-- The jobs of a board.
 use Rattle.std.proofs.Common.{◌≡◌, ◌<◌, ◌≤◌, ◌+◌, ◌∙◌, ℕ, zero, suc, List, [], ◌∷◌, ◌++◌, length, map, Option, Some, ap, sym, arith, ⊎_elim}
 use Rattle.std.specs.Option.{option_map_or}
 use Rattle.std.specs.Prelude.{slice_get}
@@ -7,15 +7,13 @@ use Rattle.std.proofs.lemmas.List.{length_push}
 use Rattle.std.proofs.lemmas.Option.{same_Some, slice_get_within}
 use Rattle.gcd_plan.specs.PlanView.{PlanView, work_of}
 use Rattle.gcd_plan.specs.declared.work.Work.{Work}
-use Rattle.gcd_plan.proofs.Places.{slice_get_some, slice_get-append_left, slice_get-append_seam}
+use Rattle.gcd_plan.proofs.Places.{slice_get-append_left, slice_get-append_seam}
 use Rattle.gcd_history.specs.Values.{value_of, work_value}
 use Rattle.gcd_jobs.specs.Jobs.{job_value}
 use Rattle.gcd_jobs.specs.declared.file_job.FileJob.{FileJob}
-use Rattle.gcd_jobs.specs.declared.tally.Tally.{Tally}
-use Rattle.gcd_row.specs.Opening.{first_cells, object_cells}
 use Rattle.gcd_row.specs.declared.cell.Cell.{Cell}
 use Rattle.gcd_row.specs.declared.cell.Cell.TheVariants.{Body}
-use Rattle.gcd_workers.specs.EndedValues.{AreJobs, GiveWorks}
+use Rattle.gcd_workers.specs.Works.{AreJobs}
 
 pub jobs_push : (plan : PlanView) (files : List (List ℕ)) (n : ℕ) (jobs : List FileJob) (job : FileJob) → job_value job ≡ value_of plan files n
     → AreJobs plan files n jobs → AreJobs plan files (n + 1) (jobs ++ job ∷ [])
@@ -41,13 +39,6 @@ pub body_at : {J H : Type 0} (jobs : List J) (rest : List (Cell J H)) (b : ℕ) 
 body_at [] rest b job at = absurd (cc)
 body_at {J} {H} (j ∷ jobs) rest zero job at = ap (λ (x : J). let cell : Cell J H = Body x in Some cell) (same_Some j job at)
 body_at (j ∷ jobs) rest (suc b) job at = body_at jobs rest b job at
-
-pub give_works : (plan : PlanView) (files : List (List ℕ)) (jobs : List FileJob) (tallies : List Tally) → AreJobs plan files (length plan.blocks) jobs
-    → GiveWorks plan files (first_cells plan jobs tallies)
-give_works plan files jobs tallies are b low =
-    let count = are.count in
-    let job = slice_get_some jobs b (omega (arith, count, low)) in
-    (Body job.0, body_at jobs (object_cells plan.objects tallies) b job.0 job.1, λ v is. is ∙ are.works b job.0 job.1)
 
 -- the job of a block's work gives its value
 pub job_is : (plan : PlanView) (files : List (List ℕ)) (b : ℕ) (work : Option Work) (job : FileJob) → work ≡ work_of plan b

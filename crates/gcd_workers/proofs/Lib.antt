@@ -1,4 +1,4 @@
-pub mod CalledFor
+pub mod Intakes
 pub mod Senders
 pub mod Giving
 pub mod Heads
@@ -11,3 +11,4 @@ pub mod Pools
 pub mod Runs
 pub mod Tellings
 pub mod Wholes
+pub mod Valued

@@ -1,5 +1,6 @@
 -- What a run beside outside callers leaves.
-use Rattle.std.proofs.Common.{◌≡◌, ◌<◌, ◌≤◌, ◌∙◌, not, ℕ, true, false, List, [], map, Option, Some, ap, sym, subst, refl, arith, length, append-nil}
+use Rattle.std.proofs.Common.{◌≡◌, ◌<◌, ◌≤◌, ◌∙◌, ◌⊎◌, not, ℕ, true, false, List, [], map, Option, Some, ap, sym, subst, refl, arith, length, append-nil}
+use Rattle.std.specs.List.{list_any}
 use Rattle.std.specs.Prelude.{slice_index_or}
 use Rattle.std.proofs.lemmas.Bool.{and_from, and_parts}
 use Rattle.std.proofs.lemmas.Option.{same_Some, slice_get-map}
@@ -12,9 +13,8 @@ use Rattle.gcd_plan.proofs.Places.{slice_get_some}
 use Rattle.gcd_event.specs.declared.event.Event.{Event}
 use Rattle.gcd_history.specs.Ends.{HasState}
 use Rattle.gcd_history.specs.History.{IsLawful, is_block_cancelled, is_ended}
-use Rattle.gcd_history.specs.Intake.{AcceptsOf, AcceptsNone, blocks_of_sender}
-use Rattle.gcd_history.specs.declared.state.State.{State}
-use Rattle.gcd_front.specs.Fronts.{IsIntakeOf}
+use Rattle.gcd_history.specs.Intake.{AcceptsOf, AcceptsNone, AllAccepted, blocks_of_sender, shuts}
+use Rattle.gcd_front.specs.Fronts.{IsIntakeOf, KnowsAll, TookAll}
 use Rattle.gcd_front.specs.Limits.{max_senders}
 use Rattle.gcd_front.specs.Queue.{jobs_of}
 use Rattle.gcd_front.specs.Views.{FrontView, IntakeView}
@@ -43,8 +43,10 @@ use Rattle.gcd_pool.specs.Each.{Each}
 use Rattle.gcd_pool.specs.Hands.{Served}
 use Rattle.gcd_pool.specs.declared.hand.Hand.{Hand}
 use Rattle.gcd_pool.specs.declared.hand.Pool.{Pool}
-use Rattle.gcd_workers.specs.CallersRuns.{OfSender, RanFor, RunsFront}
-use Rattle.gcd_workers.specs.JobsRuns.{AreLaid, AreOfJobs, IsGiven, RunsJobs, tally_shape}
+use Rattle.gcd_workers.specs.CallersRuns.{AreGivenBeside, OfSender, RanFor, RunsFront}
+use Rattle.gcd_workers.specs.JobsRuns.{AreGiven, AreLaid, AreOfJobs, IsGiven, RunsJobs, tally_shape}
+use Rattle.gcd_workers.specs.declared.dispatch.Dispatch.{Dispatch}
+use Rattle.gcd_workers.specs.declared.ran.Ran.{Ran}
 use Rattle.gcd_workers.proofs.Intake.{accepted_of_intake, accepted_within, ended_elsewhere, never_cancelled, none_of_any, zip_accepted}
 
 -- ## Before the run, and after it
@@ -113,44 +115,66 @@ module _ {J X : Type 0} (gives : J → ℕ → ℕ → Type 0) (sent : X → ℕ
             begun.front begun.taken;
       }
 
-  -- what the pass at the end, the values of its board and the intake tell of the run
-  runs_front_of : (v : View (Cell J Tally)) (jobs : List J) (m : ℕ) (f : FrontView) (i : IntakeView X) (poller : Seen PollerState) (clock : Seen ClockState)
-      (values : List (Option ℕ)) (state : State) → IsPlan v.terms.plan → AreLaid jobs v.terms.cells → length jobs ≡ length v.terms.plan.blocks
-      → AreOfJobs gives (placed_jobs v) v.seen values → Admitted (gives_of gives) sent f v i
-      → RunsPlan v.terms.limits.most v.terms.plan m (AcceptsOf f.senders) poller clock v.seen → HasState v.terms.plan v.seen state
-      → RunsFront gives sent v.terms.limits.most v.terms.plan jobs m f i poller clock v.seen values state
-  runs_front_of v jobs m f i poller clock values state valid laid count are admitted ran has = record {
-    run = ran;
-    state_is = has;
-    given = record {
-      count = are.count;
-      ended = λ b low other gave. is_given v jobs values b laid count are low other gave;
-      others = are.others;
-    };
-    callers = λ s. of_sender v values (jobs_of s i.taken) s valid ran.lawful are (admitted.first s);
-    all = λ shut s. AllZip-long (IsTakenFor (gives_of gives) sent v) (jobs_of s i.taken) (blocks_of_sender v.seen s) (admitted.shut shut s);
-    why_shut = admitted.why_shut;
-  }
-
-  -- the same, of the board that the pass is of, which is that of these jobs
-  pub runs_front : (mine board : RowBoard (Cell J Tally)) (p : RowPass (Cell J Tally)) (most : ℕ) (plan : PlanView) (jobs : List J) (m : ℕ) (f : FrontView)
-      (i : IntakeView X) (poller : Seen PollerState) (clock : Seen ClockState) (h : List Event) (values : List (Option ℕ)) (state : State)
-      → board ≡ mine → IsPassOf tally_shape (gives_of gives) board p → (terms_of mine).plan ≡ plan → (terms_of mine).limits.most ≡ most
-      → h ≡ (view p).seen → AreLaid jobs (terms_of mine).cells → length jobs ≡ length plan.blocks → AreOfJobs gives (placed_jobs (view p)) (view p).seen values
-      → Admitted (gives_of gives) sent f (view p) i → RunsPlan (terms_of board).limits.most (terms_of board).plan m (AcceptsOf f.senders) poller clock (view p).seen
-      → HasState (terms_of mine).plan (view p).seen state → RunsFront gives sent most plan jobs m f i poller clock h values state
-  runs_front mine board p most plan jobs m f i poller clock h values state same pass plan_is most_is seen laid count are admitted ran has =
+  -- what the pass at the end, the values of its board and the intake tell of the run of what was given
+  pub runs_front : (mine board : RowBoard (Cell J Tally)) (p : RowPass (Cell J Tally)) (d : Dispatch J) (n : ℕ) (f : FrontView) (i : IntakeView X)
+      (poller : Seen PollerState) (clock : Seen ClockState) (ran : Ran) → board ≡ mine → IsPassOf tally_shape (gives_of gives) board p
+      → (terms_of mine).plan ≡ d.plan.now → (terms_of mine).limits.most ≡ d.most → n ≡ d.workers → ran.journal.items ≡ (view p).seen
+      → AreLaid d.jobs.items (terms_of mine).cells → length d.jobs.items ≡ length d.plan.now.blocks
+      → AreOfJobs gives (placed_jobs (view p)) (view p).seen ran.values.items → Admitted (gives_of gives) sent f (view p) i
+      → RunsPlan (terms_of board).limits.most (terms_of board).plan n (AcceptsOf f.senders) poller clock (view p).seen
+      → HasState (terms_of mine).plan (view p).seen ran.state → RunsFront gives sent d f i poller clock ran
+  runs_front mine board p d n f i poller clock ran same pass plan_is most_is workers_is seen laid count are admitted run has =
       let v = view p in
+      let values = ran.values.items in
       let terms : v.terms ≡ terms_of mine = pass.terms ∙ ap terms_of same in
-      let own : v.terms.plan ≡ plan = ap (λ (t : Terms (Cell J Tally)). t.plan) terms ∙ plan_is in
-      let here = subst (λ (t : Terms (Cell J Tally)). RunsPlan t.limits.most t.plan m (AcceptsOf f.senders) poller clock v.seen) (sym pass.terms) ran in
-      let all = runs_front_of v jobs m f i poller clock values state (valid_plan tally_shape (gives_of gives) board p pass)
-      (subst (λ (t : Terms (Cell J Tally)). AreLaid jobs t.cells) (sym terms) laid)
-      (subst (λ (k : PlanView). length jobs ≡ length k.blocks) (sym own) count) are admitted here
-      (subst (λ (t : Terms (Cell J Tally)). HasState t.plan v.seen state) (sym terms) has) in
-      subst (λ (n : ℕ). RunsFront gives sent n plan jobs m f i poller clock h values state) (ap (λ (t : Terms (Cell J Tally)). t.limits.most) terms ∙ most_is)
-      (subst (λ (k : PlanView). RunsFront gives sent v.terms.limits.most k jobs m f i poller clock h values state) own
-      (subst (λ (l : List Event). RunsFront gives sent v.terms.limits.most v.terms.plan jobs m f i poller clock l values state) (sym seen) all))
+      let own : v.terms.plan ≡ d.plan.now = ap (λ (t : Terms (Cell J Tally)). t.plan) terms ∙ plan_is in
+      let board_plan : (terms_of board).plan ≡ d.plan.now = ap (λ (b : RowBoard (Cell J Tally)). (terms_of b).plan) same ∙ plan_is in
+      let board_most : (terms_of board).limits.most ≡ d.most = ap (λ (b : RowBoard (Cell J Tally)). (terms_of b).limits.most) same ∙ most_is in
+      let calls = AcceptsOf f.senders in
+      let run_here : RunsPlan d.most d.plan.now d.workers calls poller clock v.seen =
+      subst (λ (m : ℕ). RunsPlan m d.plan.now d.workers calls poller clock v.seen) board_most
+      (subst (λ (k : PlanView). RunsPlan (terms_of board).limits.most k d.workers calls poller clock v.seen) board_plan
+      (subst (λ (m : ℕ). RunsPlan (terms_of board).limits.most (terms_of board).plan m calls poller clock v.seen) workers_is run)) in
+      let lawful : IsLawful v.terms.plan v.seen = subst (λ (k : PlanView). IsLawful k v.seen) (sym own) run_here.lawful in
+      let laid_here = subst (λ (t : Terms (Cell J Tally)). AreLaid d.jobs.items t.cells) (sym terms) laid in
+      let count_here = subst (λ (k : PlanView). length d.jobs.items ≡ length k.blocks) (sym own) count in
+      let given : AreGivenBeside gives v.terms.plan d.jobs.items v.seen values = record {
+        count = are.count;
+        ended = λ b low other gave. is_given v d.jobs.items values b laid_here count_here are low other gave;
+        others = are.others;
+      } in
+      record {
+        run = subst (RunsPlan d.most d.plan.now d.workers calls poller clock) (sym seen) run_here;
+        state_is = subst (λ (k : PlanView). HasState k ran.journal.items ran.state) plan_is
+            (subst (λ (h : List Event). HasState (terms_of mine).plan h ran.state) (sym seen) has);
+        given = subst (λ (k : PlanView). AreGivenBeside gives k d.jobs.items ran.journal.items values) own
+            (subst (λ (h : List Event). AreGivenBeside gives v.terms.plan d.jobs.items h values) (sym seen) given);
+        callers = λ s. subst (λ (h : List Event). OfSender sent h values (jobs_of s i.taken) s) (sym seen)
+            (of_sender v values (jobs_of s i.taken) s (valid_plan tally_shape (gives_of gives) board p pass) lawful are (admitted.first s));
+        all = λ shut s.
+            subst (λ (h : List Event). length (blocks_of_sender h s) ≡ length (jobs_of s i.taken)) (sym seen)
+            (AllZip-long (IsTakenFor (gives_of gives) sent v) (jobs_of s i.taken) (blocks_of_sender v.seen s)
+            (admitted.shut (subst (λ (h : List Event). list_any shuts h ≡ true) seen shut) s));
+        why_shut = λ shut.
+            subst (λ (k : PlanView). AllAccepted k ran.journal.items ⊎ (KnowsAll f i × TookAll i)) own
+            (subst (λ (h : List Event). AllAccepted v.terms.plan h ⊎ (KnowsAll f i × TookAll i)) (sym seen)
+            (admitted.why_shut (subst (λ (h : List Event). list_any shuts h ≡ true) seen shut)));
+      }
+
+  -- beside a front without senders each block has its own job
+  pub all_given : (d : Dispatch J) (f : FrontView) (i : IntakeView X) (poller : Seen PollerState) (clock : Seen ClockState) (ran : Ran)
+      → IsPlan d.plan.now → f.senders ≡ 0 → RunsFront gives sent d f i poller clock ran
+      → AreGiven gives d.plan.now d.jobs.items ran.journal.items ran.values.items
+  all_given d f i poller clock ran valid nobody left =
+      let h = ran.journal.items in
+      let none = calls_none f.senders h nobody left.run.called in
+      record {
+        count = left.given.count;
+        ended = λ b within gave.
+            let ended = (and_parts (is_ended h b) (not (is_block_cancelled d.plan.now h b)) gave).0 in
+            left.given.ended b within (ended_elsewhere d.plan.now h b valid left.run.lawful none ended) gave;
+        others = left.given.others;
+      }
 
 module _ {J X : Type 0} (gives : J → ℕ → ℕ → Type 0) (sent : X → ℕ → Type 0) where
   -- a block whose job is one of these, and not none
@@ -167,27 +191,27 @@ module _ {J X : Type 0} (gives : J → ℕ → ℕ → Type 0) (sent : X → ℕ
         given = subst (λ (j : Option J). gives_or_zero gives j 0 is.value) (sym same) is.given;
       }
 
-  -- beside a front without senders each block has its own job
-  pub runs_jobs : (most : ℕ) (plan : PlanView) (jobs : List J) (m n : ℕ) (f : FrontView) (i : IntakeView X) (poller : Seen PollerState) (clock : Seen ClockState)
-      (h : List Event) (values : List (Option ℕ)) (state : State) → IsPlan plan → length jobs ≡ length plan.blocks → f.senders ≡ 0 → 0 < m → m ≤ n
-      → RunsFront (gives_or_zero gives) sent most plan (map Some jobs) m f i poller clock h values state → RunsJobs gives most plan jobs n h values state
-  runs_jobs most plan jobs m n f i poller clock h values state valid count nobody low more ran =
-      let run = ran.run in
-      let none = calls_none f.senders h nobody run.called in
+  -- so such a run is one of jobs of any type, by no more than so many workers
+  pub runs_jobs : (d : Dispatch (Option J)) (jobs : List J) (workers : ℕ) (f : FrontView) (i : IntakeView X) (poller : Seen PollerState)
+      (clock : Seen ClockState) (ran : Ran) → IsPlan d.plan.now → d.jobs.items ≡ map Some jobs → length jobs ≡ length d.plan.now.blocks → f.senders ≡ 0
+      → 0 < d.workers → d.workers ≤ workers → RunsFront (gives_or_zero gives) sent d f i poller clock ran
+      → RunsJobs gives d.most d.plan.now jobs workers ran
+  runs_jobs d jobs workers f i poller clock ran valid some count nobody low more left =
+      let run = left.run in
+      let h = ran.journal.items in
+      let given = subst (λ (l : List (Option J)). AreGiven (gives_or_zero gives) d.plan.now l h ran.values.items) some
+      (all_given (gives_or_zero gives) sent d f i poller clock ran valid nobody left) in
       record {
         lawful = run.lawful;
         ended = run.ended;
-        state_is = ran.state_is;
+        state_is = left.state_is;
         few = run.few;
         by = λ k e at. let by = run.by k e at in omega (arith, more, by);
         chosen = λ one. run.chosen (omega (arith, low, more, one));
-        uncalled = none;
+        uncalled = calls_none f.senders h nobody run.called;
         given = record {
-          count = ran.given.count;
-          ended = λ b within gave.
-              let ended = (and_parts (is_ended h b) (not (is_block_cancelled plan h b)) gave).0 in
-              own_given jobs values b (omega (arith, count, within))
-              (ran.given.ended b within (ended_elsewhere plan h b valid run.lawful none ended) gave);
-          others = ran.given.others;
+          count = given.count;
+          ended = λ b within gave. own_given jobs ran.values.items b (omega (arith, count, within)) (given.ended b within gave);
+          others = given.others;
         };
       }

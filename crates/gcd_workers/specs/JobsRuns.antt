@@ -5,7 +5,6 @@ use Rattle.gcd_plan.specs.PlanView.{PlanView}
 use Rattle.gcd_event.specs.declared.event.Event.{Event}
 use Rattle.gcd_history.specs.Ends.{HasEnded, HasState}
 use Rattle.gcd_history.specs.History.{IsLawful}
-use Rattle.gcd_history.specs.declared.state.State.{State}
 use Rattle.gcd_jobs.specs.BlockValues.{has_given}
 use Rattle.gcd_jobs.specs.declared.tally.Tally.{Tally}
 use Rattle.gcd_history.specs.Intake.{AcceptsNone}
@@ -14,6 +13,11 @@ use Rattle.gcd_row.specs.Jobs.{Jobs}
 use Rattle.gcd_row.specs.Shapes.{MayGive, Shape, shape_of}
 use Rattle.gcd_row.specs.declared.cell.Cell.{Cell}
 use Rattle.gcd_row.specs.declared.cell.Cell.TheVariants.{Body, Done}
+use Rattle.gcd_workers.specs.declared.ran.Ran.{Ran}
+
+-- a number of workers that a run may have
+abbrev pub AreWorkers : (workers : ℕ) → Type 0
+AreWorkers workers = (0 < workers) × (workers ≤ max_workers)
 
 -- no number of workers that a run may have: none, or too many
 abbrev pub IsNoTeam : (workers : ℕ) → Type 0
@@ -36,16 +40,15 @@ pub record AreGiven {J : Type 0} (gives : J → ℕ → ℕ → Type 0) (plan : 
 -- The run of a plan with these jobs by so many workers, of at most `most` events: its journal is lawful and has ended, in this state; each
 -- event is of one of the workers, and with one worker each event of a worker is what that worker chooses at its place; no job of an outside
 -- caller is accepted, since there are none; and these are the values of the blocks.
-pub record RunsJobs {J : Type 0} (gives : J → ℕ → ℕ → Type 0) (most : ℕ) (plan : PlanView) (jobs : List J) (workers : ℕ) (h : List Event)
-    (values : List (Option ℕ)) (state : State) : Type 0 where
-  pub lawful : IsLawful plan h
-  pub ended : HasEnded most plan h
-  pub state_is : HasState plan h state
-  pub few : length h ≤ most
-  pub by : IsOfWorkers workers h
-  pub chosen : workers ≡ 1 → FollowsChoice plan h
-  pub uncalled : AcceptsNone h
-  pub given : AreGiven gives plan jobs h values
+pub record RunsJobs {J : Type 0} (gives : J → ℕ → ℕ → Type 0) (most : ℕ) (plan : PlanView) (jobs : List J) (workers : ℕ) (ran : Ran) : Type 0 where
+  pub lawful : IsLawful plan ran.journal.items
+  pub ended : HasEnded most plan ran.journal.items
+  pub state_is : HasState plan ran.journal.items ran.state
+  pub few : length ran.journal.items ≤ most
+  pub by : IsOfWorkers workers ran.journal.items
+  pub chosen : workers ≡ 1 → FollowsChoice plan ran.journal.items
+  pub uncalled : AcceptsNone ran.journal.items
+  pub given : AreGiven gives plan jobs ran.journal.items ran.values.items
 
 module _ {J : Type 0} where
   -- what lies in a slot

@@ -4,4 +4,4 @@ pub mod JobsRuns
 pub mod ListRuns
 pub mod Ran
 pub mod Teams
-pub mod EndedValues
+pub mod Works

@@ -14,7 +14,7 @@ use Rattle.gcd_refinement.specs.MachineView.{MachineView}
 use Rattle.gcd_loop.specs.Recorded.{IsSight}
 use Rattle.gcd_loop.specs.Followed.{FollowsChoice, IsAllWorker0}
 use Rattle.gcd_workers.specs.declared.list_run.Kept.{Kept}
-use Rattle.gcd_workers.specs.declared.list_run.Over.{Over}
+use Rattle.gcd_workers.specs.declared.over.Over.{Over}
 
 -- a run so far: the machine stands for its journal, of which each event is worker 0's and its choice, and none accepts a job of an
 -- outside caller, and these are the values; the limit of events is a number of 32 bits, as the machine's count is

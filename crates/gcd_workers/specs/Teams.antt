@@ -1,8 +1,13 @@
 -- The hands of a team, and what worker 0 has given out.
 use Rattle.std.specs.Prelude.{◌≡◌, ◌≢◌, ◌<◌, ◌≤◌, ◌+◌, ℕ, List, [], length, Some, None, slice_index_or}
+use Rattle.gcd_event.specs.declared.event.Event.{Event}
 use Rattle.gcd_history.specs.Ends.{HasEnded}
+use Rattle.gcd_history.specs.Intake.{AcceptsOf}
+use Rattle.gcd_outer.specs.Outside.{ClockState, Seen}
+use Rattle.gcd_outer.specs.Tells.{PollerState}
 use Rattle.gcd_loop.specs.Followed.{IsOfWorkers}
-use Rattle.gcd_row.specs.Passes.{IsPassOf, view}
+use Rattle.gcd_loop.specs.Ran.{RunsPlan}
+use Rattle.gcd_row.specs.Passes.{IsPassOf, terms_of, view}
 use Rattle.gcd_row.specs.Shapes.{Shape}
 use Rattle.gcd_row.specs.Views.{standing_of}
 use Rattle.gcd_row.specs.declared.view.Standing.{Standing}
@@ -12,6 +17,7 @@ use Rattle.gcd_row.specs.declared.board.RowBoard.{RowBoard}
 use Rattle.gcd_pool.specs.Hands.{IsReady}
 use Rattle.gcd_pool.specs.declared.hand.Hand.{Hand}
 use Rattle.gcd_pool.specs.declared.hand.Pool.{Pool}
+use Rattle.gcd_workers.specs.declared.team.Team.{Team}
 
 -- a fact of each place of a list, by its number from n on
 abbrev pub EachFrom : {T : Type 0} → (ℕ → T → Type 0) → (n : ℕ) → List T → Type 0
@@ -51,3 +57,14 @@ pub record IsNew {S : Type 0} (v : View S) : Type 0 where
   pub hands : v.hands ≡ []
   pub none : v.seen ≡ []
   pub passed : v.marks.passed ≡ 0
+
+-- a team that has not begun: each hand is ready, by number, worker 0's first, which knows of all numbers that were given out
+pub record IsTeam {S : Type 0} (shape : S → Shape) (gives : S → ℕ → Type 0) (team : Team S) : Type 0 where
+  pub hands : EachFrom (IsReadyAt shape gives team.pool.now) 0 team.hands.items
+  pub head : (d : Hand S) → IsHead 1 (length team.hands.items) (view (slice_index_or team.hands.items 0 d).pass)
+  pub none : (d : Hand S) → (view (slice_index_or team.hands.items 0 d).pass).seen ≡ []
+
+-- what such a team promises of its run beside a front with so many senders, once worker 0 has seen this
+abbrev pub RunsTeam : {S : Type 0} → Team S → (senders : ℕ) → Seen PollerState → Seen ClockState → List Event → Type 0
+RunsTeam team senders poller clock h =
+    RunsPlan (terms_of team.pool.now.board.now).limits.most (terms_of team.pool.now.board.now).plan (length team.hands.items) (AcceptsOf senders) poller clock h

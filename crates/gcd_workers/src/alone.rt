@@ -3,20 +3,20 @@ ghost use Rattle.std.specs.Prelude.{◌≡◌, ◌<◌, ℕ, List, false, length
 ghost use Rattle.gcd_plan.specs.PlanView.{PlanView};
 ghost use Rattle.gcd_event.specs.declared.event.Event.{Event};
 ghost use Rattle.gcd_history.specs.Ends.{HasState};
-ghost use Rattle.gcd_jobs.specs.Contents.{contents};
 ghost use Rattle.gcd_machine.specs.Stands.{StandsFor};
+ghost use Rattle.gcd_outer.specs.Outside.{seen};
 ghost use Rattle.gcd_turn.specs.Asked.{KeepsListens};
 ghost use Rattle.gcd_loop.specs.Going.{IsRunOn};
 ghost use Rattle.gcd_workers.specs.ListRuns.{IsKept};
 ghost use Rattle.gcd_workers.specs.Ran.{RunsOverFiles};
 ghost use Rattle.gcd_workers.specs.declared.refused.RunRefused.{RunRefused};
 
-use crate::list_run::{Kept, ListRun, Over};
+use crate::list_run::{Kept, ListRun};
 use crate::outcome::Outcome;
+use crate::over::Over;
 use crate::refused::RunRefused;
 use gcd_loop::{Stop, run_turns};
 use gcd_outer::{Clock, Poller};
-use gcd_plan::Plan;
 use gcd_turn::Outside;
 use std::alloc::{AllocError, Global};
 use std::sync::Wait;
@@ -48,8 +48,8 @@ fn run_to_the_end<R: Wait, P: Poller, C: Clock>(
     ensures over { OnOk result (run.new.over ≡ run.old.over) }
     ensures run { OnOk result (IsKept run.new.over run.new.kept) }
     ensures on { OnOk result (IsRunOn run.old.over.most run.old.over.plan.now run.old.kept.journal.items run.new.kept.journal.items
-        (record { tells = P.tells; before = P.state poller.old; after = P.state poller.new })
-        (record { tells = C.tells; before = C.state clock.old; after = C.state clock.new })) }
+        (seen P.tells P.state poller.old poller.new)
+        (seen C.tells C.state clock.old clock.new)) }
     ensures kept { KeepsListens P.tells (P.state poller.old) (P.state poller.new) }
 {
     let mut outside = Outside::new(poller, clock);
@@ -59,33 +59,31 @@ fn run_to_the_end<R: Wait, P: Poller, C: Clock>(
     }
 }
 
-/// Runs the plan by worker 0 alone, turn by turn, until the run is quiescent, halted, or has `most` events, at least 1.
-/// One thread keeps the list of events, so it makes no row. `files` are the contents of the plan's files, in their order; the poller
-/// watches no feed yet. A turn costs what the machine's choice costs, the block's value, and a look at each live feed. The list begins
-/// with room for four events a block, and grows. An `Err` comes only where memory runs out: [`RunRefused::BeforeTheRun`] before the
-/// first turn, with poller and clock as they were (`before`), and [`RunRefused::InTheRun`] at an event for which there is no room. It
-/// leaves nothing of the run, and the poller listens where it did (`kept`); what the poller has told is told.
+/// Runs a plan over its files by worker 0 alone, turn by turn, until the run is quiescent or halted, or has as many events as it may have.
+/// One thread keeps the list of events, so it makes no row. The poller watches no feed yet. A turn costs what the machine's choice costs,
+/// the block's value, and a look at each live feed. The list begins with room for four events a block, and grows.
+///
+/// Returns `Err` only if memory runs out: [`RunRefused::BeforeTheRun`] before the first turn, with poller and clock as they were
+/// (`before`), and [`RunRefused::InTheRun`] at an event for which there is no room. It leaves nothing of the run, and the poller listens
+/// where it did (`kept`); what the poller has told is told.
 pub fn run_alone<R: Wait, P: Poller, C: Clock>(
     rt: &R,
     alloc: Global,
-    plan: &Plan,
-    most: u32,
-    files: &[Vec<u8>],
+    over: Over,
     poller: &mut P,
     clock: &mut C,
 ) -> Result<Outcome, RunRefused>
-    requires most { 0 < most }
-    requires files { length files.now ≡ length plan.now.files }
+    requires most { 0 < over.most }
+    requires files { length over.files.now ≡ length over.plan.now.files }
     requires unwatched { (feed : ℕ) → (P.state poller.old).watched feed ≡ false }
-    ensures ran { IfOk result (λ o. RunsOverFiles most plan.now 1 (contents files.now)
-        (record { tells = P.tells; before = P.state poller.old; after = P.state poller.new })
-        (record { tells = C.tells; before = C.state clock.old; after = C.state clock.new })
-        o.journal.items o.values.items o.state) }
-    ensures stands { IfOk result (λ o. StandsFor o.machine plan.now o.journal.items) }
+    ensures ran { IfOk result (RunsOverFiles over.entry 1
+        (seen P.tells P.state poller.old poller.new)
+        (seen C.tells C.state clock.old clock.new)) }
+    ensures stands { IfOk result (λ o. StandsFor o.machine over.entry.plan.now o.journal.items) }
     ensures kept { KeepsListens P.tells (P.state poller.old) (P.state poller.new) }
     ensures before { IsErrOf result RunRefused.BeforeTheRun → (poller.new ≡ poller.old) × (clock.new ≡ clock.old) }
 {
-    let Ok(mut run) = ListRun::new(alloc, Over { plan, files, most }) else {
+    let Ok(mut run) = ListRun::new(alloc, over) else {
         return Err(RunRefused::BeforeTheRun);
     };
     match run_to_the_end(rt, &mut run, poller, clock) {

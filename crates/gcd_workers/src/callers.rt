@@ -1,11 +1,10 @@
 // Callers from outside, as what runs beside the run of a plan.
 ghost use Rattle.std.specs.Prelude.{◌≡◌, ◌<◌, ◌≤◌, ◌+◌, [], List, All, length, vec_capacity};
 ghost use Rattle.std.specs.Thread.{IsSync};
-ghost use Rattle.gcd_front.specs.Fronts.{IsIntakeOf, IsLeftOf, IsMouthOf, new_mouths};
+ghost use Rattle.gcd_front.specs.Fronts.{IsLeftOf, IsMouthOf, new_mouths};
 ghost use Rattle.gcd_front.specs.Views.{MouthView};
-ghost use Rattle.gcd_workers.specs.CalledRuns.{AreTaken, Settles, ShutsLast, lefts_of};
+ghost use Rattle.gcd_workers.specs.CalledRuns.{AreNew, HaveCalled, ShutsLast, lefts_of};
 
-use crate::beside::Side;
 use gcd_front::{Front, Intake, Left, Mouth, Sent};
 use std::sync::Wait;
 use std::thread::Threads;
@@ -27,13 +26,12 @@ pub trait Callers<X: Sent + Drop> {
         ensures called { Self.called self.old self.new mouths.new };
 }
 
-// What the callers need, and what is left of their mouths.
+// The intake of a front, its mouths, and what is left of those that were shut.
 #[derive(Drop)]
-pub struct CallersSide<'a, X: Drop, C> {
-    pub front: &'a Front<X>,
-    pub mouths: &'a mut Vec<Mouth<X>>,
-    pub lefts: &'a mut Vec<Left<X>>,
-    pub callers: &'a mut C,
+pub struct Ends<X: Drop> {
+    pub intake: Intake<X>,
+    pub mouths: Vec<Mouth<X>>,
+    pub lefts: Vec<Left<X>>,
 }
 
 // Shuts the last of the mouths, which is none of them any more, and adds what is left of it.
@@ -65,43 +63,18 @@ fn shut_all<X: Drop>(front: &Front<X>, mouths: &mut Vec<Mouth<X>>, lefts: &mut V
     }
 }
 
-impl<X: Sent + Drop, C: Callers<X>> Side for CallersSide<'_, X, C> {
-    ghost use Rattle.std.specs.Prelude.{◌≡◌, ◌≤◌, [], All, length, vec_capacity};
-    ghost use Rattle.gcd_front.specs.Fronts.{IsMouthOf, new_mouths};
-    ghost use Rattle.gcd_workers.specs.CalledRuns.{HaveCalled};
-
-    ghost ready = { λ s. All (IsMouthOf s.front.now) s.mouths.now.items × (s.mouths.now.items ≡ new_mouths s.front.now)
-        × (s.lefts.now.items ≡ []) × (length s.mouths.now.items ≤ vec_capacity s.lefts.now) };
-
-    ghost ran = { λ old new. (new.lefts.ghost_name ≡ old.lefts.ghost_name) × (new.callers.ghost_name ≡ old.callers.ghost_name)
-        × HaveCalled (C.called old.callers.now new.callers.now) old.front.now new.lefts.now.items };
-
-    fn run<R: Threads + Wait + Sync>(&mut self, rt: &R) {
-        let mouths = &mut *self.mouths;
-        self.callers.call(rt, self.front, mouths.as_mut_slice());
-        shut_all(self.front, mouths, self.lefts);
-    }
-}
-
-// Holds what is left of a mouth against what was taken of its sender, one of the front's.
-fn settle<X: Drop>(front: &Front<X>, intake: &mut Intake<X>, left: &mut Left<X>)
-    requires intake { IsIntakeOf front.now intake.old }
-    requires left { IsLeftOf front.now left.old }
-    ensures same { left.new ≡ left.old }
-    ensures settles { Settles front.now left.old intake.old intake.new }
+// Calls the callers with the mouths of a new front, and shuts these.
+pub fn call_and_shut<X: Sent + Drop, K: Callers<X>, R: Threads + Wait + Sync>(
+    rt: &R,
+    front: &Front<X>,
+    mouths: &mut Vec<Mouth<X>>,
+    lefts: &mut Vec<Left<X>>,
+    callers: &mut K,
+)
+    requires sync { IsSync R.row }
+    requires new { AreNew front.now mouths.old.items lefts.old.items (vec_capacity lefts.old) }
+    ensures { HaveCalled (K.called callers.old callers.new) front.now lefts.new.items }
 {
-    if left.sender() < front.senders() {
-        intake.settle(front, left);
-    }
-}
-
-/// Holds what is left of each mouth against what was taken of its sender.
-pub fn settle_all<X: Drop>(front: &Front<X>, intake: &mut Intake<X>, lefts: &mut [Left<X>])
-    requires intake { IsIntakeOf front.now intake.old }
-    requires lefts { All (IsLeftOf front.now) lefts.old }
-    ensures { AreTaken front.now intake.old lefts.old }
-{
-    for place in 0..lefts.len() {
-        settle(front, intake, &mut lefts[place]);
-    }
+    callers.call(rt, front, mouths.as_mut_slice());
+    shut_all(front, mouths, lefts);
 }

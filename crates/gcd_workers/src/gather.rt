@@ -1,5 +1,5 @@
-// What a team has seen, when its run has ended.
-ghost use Rattle.std.specs.Prelude.{◌≡◌, ◌<◌, ◌≤◌, ◌∷◌, [], ℕ, List, false, All, IfOk, OnOk, IsErrOf, length, slice_index_or};
+// What a team does, and what it has seen when its run has ended.
+ghost use Rattle.std.specs.Prelude.{◌≡◌, ◌<◌, ◌≤◌, ◌∷◌, [], ℕ, List, false, All, IfOk, OnOk, length, slice_index_or};
 ghost use Rattle.gcd_event.specs.declared.event.Event.{Event};
 ghost use Rattle.gcd_plan.specs.Limits.{max_workers};
 ghost use Rattle.gcd_history.specs.Ends.{HasEnded};
@@ -7,32 +7,27 @@ ghost use Rattle.gcd_row.specs.Passes.{IsGathered, IsPassOf, terms_of, view};
 ghost use Rattle.gcd_row.specs.Shapes.{gives_of, shape_of};
 ghost use Rattle.gcd_row.specs.declared.cell.Cell.{Cell};
 ghost use Rattle.gcd_row.specs.declared.view.Standing.TheVariants.{Back};
-ghost use Rattle.gcd_steal.specs.Racks.{IsBenchOf};
-ghost use Rattle.gcd_loop.specs.Ran.{RunsPlan};
 ghost use Rattle.gcd_front.specs.Fronts.{IsIntakeOf};
 ghost use Rattle.gcd_front.specs.Limits.{max_senders};
 ghost use Rattle.gcd_loop.specs.Going.{IsRunOn};
 ghost use Rattle.gcd_pool.specs.Admitted.{Admitted, AsksOfFront};
 ghost use Rattle.gcd_pool.specs.Each.{Each};
-ghost use Rattle.gcd_pool.specs.Hands.{IsPool, IsReady, Served};
+ghost use Rattle.gcd_pool.specs.Hands.{IsReady, Served};
 ghost use Rattle.gcd_pool.specs.Leads.{Follows};
+ghost use Rattle.gcd_outer.specs.Outside.{seen};
 ghost use Rattle.gcd_turn.specs.Asked.{KeepsListens};
 ghost use Rattle.gcd_pool.specs.declared.hand.Hand.{Hand};
-ghost use Rattle.gcd_history.specs.Intake.{AcceptsOf};
-ghost use Rattle.gcd_workers.specs.declared.refused.RunRefused.{RunRefused};
-ghost use Rattle.gcd_workers.specs.Teams.{EachFrom, HasLed, IsHead, IsNew, IsPassAt, IsReadyAt};
+ghost use Rattle.gcd_workers.specs.Teams.{EachFrom, HasLed, IsHead, IsPassAt, IsTeam, RunsTeam};
 
-use crate::refused::RunRefused;
-use crate::team::hands_of;
+use crate::team::Team;
 use gcd_event::Entry;
 use gcd_front::{Front, Intake, Sent};
 use gcd_jobs::{Admits, Handler, Job};
 use gcd_outer::{Clock, Poller};
-use gcd_pool::{Hand, Pool, pool_run};
+use gcd_pool::{Hand, pool_run};
 use gcd_row::{Cell, Pass, RowBoard, RowPass, Slot};
-use gcd_steal::Bench;
 use gcd_turn::Outside;
-use std::alloc::{AllocError, Global};
+use std::alloc::AllocError;
 use std::sync::Wait;
 use std::thread::Threads;
 
@@ -82,161 +77,94 @@ fn take_all<S: Slot>(board: &RowBoard<S>, mut hands: Vec<Hand<S>>) -> (RowPass<S
 }
 
 // Looks at the row once more: an event of a number that was never given out is not there.
-fn look_round<S: Slot>(board: &RowBoard<S>, pass: &mut RowPass<S>, _workers: u8)
+fn look_round<S: Slot>(board: &RowBoard<S>, pass: &mut RowPass<S>)
     requires pass { IsPassOf S.shape S.gives board.now pass.old }
-    requires head { IsHead _workers _workers (view pass.old) }
-    requires some { 0 < _workers }
+    requires worker { (view pass.old).worker ≡ 0 }
     requires ended { HasEnded (terms_of board.now).limits.most (terms_of board.now).plan (view pass.old).seen }
     ensures pass { IsPassOf S.shape S.gives board.now pass.new }
     ensures seen { (view pass.new).seen ≡ (view pass.old).seen }
     ensures handed { (view pass.new).handed ≡ (view pass.old).handed }
-    ensures led { HasLed _workers (view pass.new) }
+    ensures led { (workers : ℕ) → 0 < workers → IsHead workers workers (view pass.old) → HasLed workers (view pass.new) }
     ensures gathered { (journal : List Event) → IsGathered (view pass.old) journal → IsGathered (view pass.new) journal }
 {
     board.look(pass);
 }
 
-// Runs the pool of the hands, from the first turn to the end. An `Err` comes where memory was refused to worker 0's journal, or no thread
-// was made for a worker.
-fn lead<
-    J: Job + Admits<X> + Drop + Send,
-    H: Handler + Drop + Send,
-    X: Sent + Drop + Send,
-    R: Threads + Wait + Sync,
-    P: Poller,
-    C: Clock,
->(
-    rt: &R,
-    pool: &Pool<Cell<J, H>>,
-    hands: &mut Vec<Hand<Cell<J, H>>>,
-    front: &Front<X>,
-    intake: &mut Intake<X>,
-    poller: &mut P,
-    clock: &mut C,
-) -> Result<(), AllocError>
-    requires some { 0 < length hands.old.items }
-    requires hands { All (IsReady (shape_of H.kind H.times H.total) (gives_of J.gives) pool.now) hands.old.items }
-    requires head { (d : Hand (Cell J H)) → (view (slice_index_or hands.old.items 0 d).pass).worker ≡ 0 }
-    requires asks { (d : Hand (Cell J H)) → AsksOfFront (gives_of J.gives) X.gives front.now (slice_index_or hands.old.items 0 d) intake.old }
-    ensures count { length hands.new.items ≡ length hands.old.items }
-    ensures served { OnOk result (Each (Served (shape_of H.kind H.times H.total) (gives_of J.gives) pool.now) hands.old.items hands.new.items) }
-    ensures on { OnOk result ((d : Hand (Cell J H)) → IsRunOn (terms_of pool.now.board.now).limits.most (terms_of pool.now.board.now).plan
-        (view (slice_index_or hands.old.items 0 d).pass).seen (view (slice_index_or hands.new.items 0 d).pass).seen
-        (record { tells = P.tells; before = P.state poller.old; after = P.state poller.new })
-        (record { tells = C.tells; before = C.state clock.old; after = C.state clock.new })) }
-    ensures follows { length hands.old.items ≡ 1 → (d : Hand (Cell J H)) → Follows (terms_of pool.now.board.now).plan
-        (view (slice_index_or hands.old.items 0 d).pass).seen (view (slice_index_or hands.new.items 0 d).pass).seen }
-    ensures intake { OnOk result (IsIntakeOf front.now intake.new) }
-    ensures admitted { OnOk result ((d : Hand (Cell J H)) → Admitted (gives_of J.gives) X.gives front.now (view (slice_index_or hands.new.items 0 d).pass) intake.new) }
-    ensures kept { KeepsListens P.tells (P.state poller.old) (P.state poller.new) }
-{
-    let mut outside = Outside::new(poller, clock);
-    match pool_run(rt, pool, hands, front, intake, &mut outside) {
-        Ok(_) => Ok(()),
-        Err(AllocError) => Err(AllocError),
+impl<J: Job + Drop + Send, H: Handler + Drop + Send> Team<'_, '_, Cell<J, H>> {
+    // Goes from the first turn to the end. Returns `Err` if memory was refused to worker 0's journal, or no thread was made for a worker.
+    fn lead<X: Sent + Drop + Send, R: Threads + Wait + Sync, P: Poller, C: Clock>(
+        &mut self,
+        rt: &R,
+        front: &Front<X>,
+        intake: &mut Intake<X>,
+        poller: &mut P,
+        clock: &mut C,
+    ) -> Result<(), AllocError>
+    where
+        J: Admits<X>,
+        requires some { 0 < length self.old.hands.items }
+        requires hands { All (IsReady (shape_of H.kind H.times H.total) (gives_of J.gives) self.old.pool.now) self.old.hands.items }
+        requires head { (d : Hand (Cell J H)) → (view (slice_index_or self.old.hands.items 0 d).pass).worker ≡ 0 }
+        requires asks { (d : Hand (Cell J H)) → AsksOfFront (gives_of J.gives) X.gives front.now (slice_index_or self.old.hands.items 0 d) intake.old }
+        ensures pool { self.new.pool ≡ self.old.pool }
+        ensures count { length self.new.hands.items ≡ length self.old.hands.items }
+        ensures served { OnOk result (Each (Served (shape_of H.kind H.times H.total) (gives_of J.gives) self.old.pool.now) self.old.hands.items self.new.hands.items) }
+        ensures on { OnOk result ((d : Hand (Cell J H)) → IsRunOn (terms_of self.old.pool.now.board.now).limits.most (terms_of self.old.pool.now.board.now).plan
+            (view (slice_index_or self.old.hands.items 0 d).pass).seen (view (slice_index_or self.new.hands.items 0 d).pass).seen
+            (seen P.tells P.state poller.old poller.new)
+            (seen C.tells C.state clock.old clock.new)) }
+        ensures follows { length self.old.hands.items ≡ 1 → (d : Hand (Cell J H)) → Follows (terms_of self.old.pool.now.board.now).plan
+            (view (slice_index_or self.old.hands.items 0 d).pass).seen (view (slice_index_or self.new.hands.items 0 d).pass).seen }
+        ensures intake { OnOk result (IsIntakeOf front.now intake.new) }
+        ensures admitted { OnOk result ((d : Hand (Cell J H)) → Admitted (gives_of J.gives) X.gives front.now (view (slice_index_or self.new.hands.items 0 d).pass) intake.new) }
+        ensures kept { KeepsListens P.tells (P.state poller.old) (P.state poller.new) }
+    {
+        let mut outside = Outside::new(poller, clock);
+        match pool_run(rt, self.pool, &mut self.hands, front, intake, &mut outside) {
+            Ok(_) => Ok(()),
+            Err(AllocError) => Err(AllocError),
+        }
     }
-}
 
-// Runs the pool of the hands to the end. What worker 0 has seen then is the whole row. Its pass, and what was gathered of it.
-fn run_team<
-    J: Job + Admits<X> + Drop + Send,
-    H: Handler + Drop + Send,
-    X: Sent + Drop + Send,
-    R: Threads + Wait + Sync,
-    P: Poller,
-    C: Clock,
->(
-    rt: &R,
-    pool: &Pool<Cell<J, H>>,
-    mut hands: Vec<Hand<Cell<J, H>>>,
-    front: &Front<X>,
-    intake: &mut Intake<X>,
-    poller: &mut P,
-    clock: &mut C,
-) -> Result<(Pass<J, H>, Vec<Entry>), AllocError>
-    requires some { (0 < length hands.items) × (length hands.items ≤ max_workers) }
-    requires hands { EachFrom (IsReadyAt (shape_of H.kind H.times H.total) (gives_of J.gives) pool.now) 0 hands.items }
-    requires head { (d : Hand (Cell J H)) → IsHead 1 (length hands.items) (view (slice_index_or hands.items 0 d).pass) }
-    requires none { (d : Hand (Cell J H)) → (view (slice_index_or hands.items 0 d).pass).seen ≡ [] }
-    requires few { front.now.senders ≤ max_senders }
-    requires intake { IsIntakeOf front.now intake.old }
-    requires untaken { intake.old.taken ≡ [] }
-    requires unwatched { (feed : ℕ) → (P.state poller.old).watched feed ≡ false }
-    ensures pass { IfOk result (λ r. IsPassOf (shape_of H.kind H.times H.total) (gives_of J.gives) pool.now.board.now r.0) }
-    ensures led { IfOk result (λ r. HasLed (length hands.items) (view r.0)) }
-    ensures gathered { IfOk result (λ r. IsGathered (view r.0) r.1.items) }
-    ensures ran { IfOk result (λ r. RunsPlan (terms_of pool.now.board.now).limits.most (terms_of pool.now.board.now).plan (length hands.items) (AcceptsOf front.now.senders)
-        (record { tells = P.tells; before = P.state poller.old; after = P.state poller.new })
-        (record { tells = C.tells; before = C.state clock.old; after = C.state clock.new }) (view r.0).seen) }
-    ensures admitted { IfOk result (λ r. Admitted (gives_of J.gives) X.gives front.now (view r.0) intake.new) }
-    ensures intake { IfOk result (λ _. IsIntakeOf front.now intake.new) }
-    ensures kept { KeepsListens P.tells (P.state poller.old) (P.state poller.new) }
-{
-    let workers = hands.len() as u8;
-    lead(rt, pool, &mut hands, front, intake, poller, clock)?;
-    let (mut pass, journal) = take_all(pool.board, hands);
-    look_round(pool.board, &mut pass, workers);
-    Ok((pass, journal))
-}
-
-/// Runs a pool whose board has just been made, by a worker for each bench, until the run is quiescent, halted or full. `pass` is worker
-/// 0's, and `benches` are those of the pool's rack, 1 to 64 and as many as the board was made for: a worker of the board without a
-/// bench would pass nothing on, and hold the others for ever after 4,096 events. `intake` is that of `front`, of which nothing was taken
-/// yet: what the senders of the front send while the run is under way is run as the blocks of the plan's intake. A front without senders
-/// has no callers.
-///
-/// What the pass that it leaves has seen is the whole row, which promises what a run of any engine does (`RunsPlan`), over the board's
-/// limit of events, and of each sender's blocks which jobs they ran (`Admitted`); no other pass is out, and the journal
-/// beside it is what was gathered of it, so the board may be closed with both. The poller watches no feed yet. An `Err` is
-/// [`RunRefused::BeforeTheRun`] where memory runs out before the first turn, with poller, clock and intake as they were (`before`), and
-/// [`RunRefused::InTheRun`] where it is refused to worker 0, which gathers what it has seen, or the system makes no thread for a worker
-/// on whom all others wait: blocks may have run then. All threads have ended, and of the run nothing is left; the poller listens where
-/// it did (`kept`).
-pub fn run_pool<
-    J: Job + Admits<X> + Drop + Send,
-    H: Handler + Drop + Send,
-    X: Sent + Drop + Send,
-    R: Threads + Wait + Sync,
-    P: Poller,
-    C: Clock,
->(
-    rt: &R,
-    alloc: Global,
-    pool: &Pool<Cell<J, H>>,
-    pass: Pass<J, H>,
-    mut benches: Vec<Bench>,
-    front: &Front<X>,
-    intake: &mut Intake<X>,
-    poller: &mut P,
-    clock: &mut C,
-) -> Result<(Pass<J, H>, Vec<Entry>), RunRefused>
-    requires pool { IsPool pool.now }
-    requires pass { IsPassOf (shape_of H.kind H.times H.total) (gives_of J.gives) pool.now.board.now pass }
-    requires new { IsNew (view pass) }
-    requires benches { All (IsBenchOf pool.now.rack.now) benches.items }
-    requires count { (0 < length benches.items) × (length benches.items ≤ max_workers) }
-    requires workers { (terms_of pool.now.board.now).limits.workers ≡ length benches.items }
-    requires few { front.now.senders ≤ max_senders }
-    requires intake { IsIntakeOf front.now intake.old }
-    requires untaken { intake.old.taken ≡ [] }
-    requires unwatched { (feed : ℕ) → (P.state poller.old).watched feed ≡ false }
-    ensures pass { IfOk result (λ r. IsPassOf (shape_of H.kind H.times H.total) (gives_of J.gives) pool.now.board.now r.0) }
-    ensures led { IfOk result (λ r. HasLed (length benches.items) (view r.0)) }
-    ensures gathered { IfOk result (λ r. IsGathered (view r.0) r.1.items) }
-    ensures ran { IfOk result (λ r. RunsPlan (terms_of pool.now.board.now).limits.most (terms_of pool.now.board.now).plan (length benches.items) (AcceptsOf front.now.senders)
-        (record { tells = P.tells; before = P.state poller.old; after = P.state poller.new })
-        (record { tells = C.tells; before = C.state clock.old; after = C.state clock.new }) (view r.0).seen) }
-    ensures admitted { IfOk result (λ r. Admitted (gives_of J.gives) X.gives front.now (view r.0) intake.new) }
-    ensures intake { IfOk result (λ _. IsIntakeOf front.now intake.new) }
-    ensures kept { KeepsListens P.tells (P.state poller.old) (P.state poller.new) }
-    ensures before { IsErrOf result RunRefused.BeforeTheRun → (poller.new ≡ poller.old) × (clock.new ≡ clock.old) × (intake.new ≡ intake.old) }
-{
-    let first = benches.remove(0);
-    let Ok(hands) = hands_of(alloc, pool, pass, first, benches) else {
-        return Err(RunRefused::BeforeTheRun);
-    };
-    match run_team(rt, pool, hands, front, intake, poller, clock) {
-        Ok(last) => Ok(last),
-        Err(AllocError) => Err(RunRefused::InTheRun),
+    /// Runs the team until the run is quiescent, halted or full. `intake` is that of `front`, of which nothing was taken yet: what the
+    /// senders of the front send while the run is under way is run as the blocks of the plan's intake. A front without senders has no
+    /// callers.
+    ///
+    /// What the pass that it leaves has seen is the whole row, which promises what a run of any engine does (`RunsPlan`), over the board's
+    /// limit of events, and of each sender's blocks which jobs they ran (`Admitted`); no other pass is out, and the journal beside it is
+    /// what was gathered of it, so the board may be closed with both. The poller watches no feed yet. Returns `Err` if memory is refused to
+    /// worker 0, which gathers what it has seen, or the system makes no thread for a worker on whom all others wait: blocks may have run
+    /// then. All threads have ended, and of the run nothing is left; the poller listens where it did (`kept`).
+    pub fn run<X: Sent + Drop + Send, R: Threads + Wait + Sync, P: Poller, C: Clock>(
+        mut self,
+        rt: &R,
+        front: &Front<X>,
+        intake: &mut Intake<X>,
+        poller: &mut P,
+        clock: &mut C,
+    ) -> Result<(Pass<J, H>, Vec<Entry>), AllocError>
+    where
+        J: Admits<X>,
+        requires some { (0 < length self.hands.items) × (length self.hands.items ≤ max_workers) }
+        requires team { IsTeam (shape_of H.kind H.times H.total) (gives_of J.gives) self }
+        requires few { front.now.senders ≤ max_senders }
+        requires intake { IsIntakeOf front.now intake.old }
+        requires untaken { intake.old.taken ≡ [] }
+        requires unwatched { (feed : ℕ) → (P.state poller.old).watched feed ≡ false }
+        ensures pass { IfOk result (λ r. IsPassOf (shape_of H.kind H.times H.total) (gives_of J.gives) self.entry.pool.now.board.now r.0) }
+        ensures led { IfOk result (λ r. HasLed (length self.entry.hands.items) (view r.0)) }
+        ensures gathered { IfOk result (λ r. IsGathered (view r.0) r.1.items) }
+        ensures ran { IfOk result (λ r. RunsTeam self.entry front.now.senders (seen P.tells P.state poller.old poller.new)
+            (seen C.tells C.state clock.old clock.new) (view r.0).seen) }
+        ensures admitted { IfOk result (λ r. Admitted (gives_of J.gives) X.gives front.now (view r.0) intake.new) }
+        ensures intake { IfOk result (λ _. IsIntakeOf front.now intake.new) }
+        ensures kept { KeepsListens P.tells (P.state poller.old) (P.state poller.new) }
+    {
+        let pool = self.pool;
+        self.lead(rt, front, intake, poller, clock)?;
+        let Team { pool: _, hands } = self;
+        let (mut pass, journal) = take_all(pool.board, hands);
+        look_round(pool.board, &mut pass);
+        Ok((pass, journal))
     }
 }

@@ -15,8 +15,8 @@ ghost use Rattle.gcd_row.specs.declared.view.Standing.TheVariants.{Out};
 ghost use Rattle.gcd_workers.specs.JobsRuns.{AreLaid, AreOfJobs, AreTaken, tally_shape};
 ghost use Rattle.gcd_workers.specs.Teams.{IsNew};
 
-use crate::jobs_run::JobsRun;
-use crate::opening::tallies_of;
+use crate::ran::Ran;
+use crate::tallies::tallies_of;
 use gcd_event::Entry;
 use gcd_jobs::{Job, Tally};
 use gcd_machine::Machine;
@@ -93,12 +93,13 @@ pub fn close<J: Job + Drop>(
     board: Board<J, Tally>,
     pass: Pass<J, Tally>,
     gathered: Vec<Entry>,
-) -> Result<JobsRun, AllocError>
+) -> Result<Ran, AllocError>
     requires pass { IsPassOf tally_shape (gives_of J.gives) board pass }
     requires head { (view pass).worker ≡ 0 }
     requires all_in { (w : ℕ) → standing_of (view pass).hands w ≢ Some Out }
     requires gathered { IsGathered (view pass) gathered.items }
     ensures journal { IfOk result (λ run. run.journal.items ≡ (view pass).seen) }
+    ensures stands { IfOk result (λ run. StandsFor run.machine (terms_of board).plan (view pass).seen) }
     ensures state { IfOk result (λ run. HasState (terms_of board).plan (view pass).seen run.state) }
     ensures values { IfOk result (λ run. AreOfJobs J.gives (placed_jobs (view pass)) (view pass).seen run.values.items) }
 {
@@ -106,9 +107,11 @@ pub fn close<J: Job + Drop>(
         return Err(AllocError);
     };
     let values = values_of(alloc, &machine, &cells)?;
-    Ok(JobsRun {
+    let state = machine.state();
+    Ok(Ran {
         journal,
         values,
-        state: machine.state(),
+        state,
+        machine,
     })
 }

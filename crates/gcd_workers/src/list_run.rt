@@ -13,21 +13,14 @@ ghost use Rattle.gcd_machine.specs.Calm.{IsCalm};
 ghost use Rattle.gcd_machine.specs.Stands.{StandsFor};
 ghost use Rattle.gcd_workers.specs.ListRuns.{HasChosen, HasStepped, HasSteppedTwice, IsKept, IsNext};
 
+use crate::over::Over;
 use gcd_event::{Entry, Event};
 use gcd_jobs::{FileJob, Job};
-use gcd_loop::{PutEnd, Recorder, Step};
-use gcd_machine::Machine;
+use gcd_loop::{Recorder, Step};
+use gcd_machine::{Machine, Put};
 use gcd_plan::{Blk, Plan, Run};
 use std::alloc::{AllocError, Global};
 use std::sync::Wait;
-
-// What a run is over: a plan, the contents of its files, and how many events it may have.
-#[derive(Clone, Copy)]
-pub(crate) struct Over<'a> {
-    pub(crate) plan: &'a Plan,
-    pub(crate) files: &'a [Vec<u8>],
-    pub(crate) most: u32,
-}
 
 // The journal, the values of the blocks, and the machine that stands for the journal.
 #[derive(Drop)]
@@ -217,9 +210,9 @@ impl Kept {
         Ok(())
     }
 
-    // Records an event that is no worker's and accepts no job, where it may come next.
+    // Records an event that is no worker's and accepts no job, if it may come next.
     #[inline(always)]
-    fn put_one(&mut self, over: &Over, e: Event) -> Result<PutEnd, AllocError>
+    fn put_one(&mut self, over: &Over, e: Event) -> Result<Put, AllocError>
         requires run { IsKept over.now self.old }
         requires room { length self.old.journal.items < over.now.most }
         requires by { worker_of e ≡ 0 }
@@ -228,11 +221,12 @@ impl Kept {
         ensures run { IsKept over.now self.new }
         ensures said { IfOk result (Says over.now.most over.now.plan.now e self.old.journal.items self.new.journal.items) }
     {
-        if self.machine.permits(e).is_some() {
-            return Ok(PutEnd::Barred);
+        let at = self.machine.len();
+        if let Some(why) = self.machine.permits(e) {
+            return Ok(Put::Barred { at, why });
         }
         self.record(over, e)?;
-        Ok(PutEnd::Placed)
+        Ok(Put::Placed(at))
     }
 }
 
@@ -307,13 +301,13 @@ impl<'a> Recorder for ListRun<'a> {
     }
 
     #[inline(always)]
-    fn put<R: Wait>(&mut self, _rt: &R, e: Event) -> Result<PutEnd, AllocError> {
+    fn put<R: Wait>(&mut self, _rt: &R, e: Event) -> Result<Put, AllocError> {
         self.kept.put_one(&self.over, e)
     }
 
     // There are no outside callers.
     #[inline(always)]
-    fn admit<R: Wait>(&mut self, _rt: &R) -> Result<Option<PutEnd>, AllocError> {
+    fn admit<R: Wait>(&mut self, _rt: &R) -> Result<Option<Put>, AllocError> {
         let put = self.kept.put_one(&self.over, Event::Shut)?;
         Ok(Some(put))
     }

@@ -1,11 +1,10 @@
-// The hands of a team.
-ghost use Rattle.std.specs.Prelude.{◌≡◌, ◌+◌, ◌<◌, ◌≤◌, [], All, IfOk, OnOk, length, slice_index_or};
+// A team, and how it is made.
+ghost use Rattle.std.specs.Prelude.{◌≡◌, ◌+◌, ◌<◌, ◌≤◌, [], All, IfOk, OnOk, length};
 ghost use Rattle.gcd_plan.specs.Limits.{max_workers};
 ghost use Rattle.gcd_row.specs.Passes.{IsPassOf, terms_of, view};
 ghost use Rattle.gcd_steal.specs.Racks.{IsBenchOf};
 ghost use Rattle.gcd_pool.specs.Hands.{IsPool};
-ghost use Rattle.gcd_pool.specs.declared.hand.Hand.{Hand};
-ghost use Rattle.gcd_workers.specs.Teams.{EachFrom, IsHead, IsReadyAt};
+ghost use Rattle.gcd_workers.specs.Teams.{EachFrom, IsHead, IsNew, IsReadyAt, IsTeam};
 
 use gcd_pool::{Hand, Pool};
 use gcd_row::{RowPass, Slot};
@@ -37,7 +36,7 @@ fn add_hand<S: Slot>(
     ensures hands { OnOk result (EachFrom (IsReadyAt S.shape S.gives pool.now) 1 hands.new.items) }
 {
     let other = pool.board.split(alloc, pass, number)?;
-    hands.push(Hand::new(alloc, pool, other, bench))?;
+    hands.push(pool.hand(alloc, other, bench))?;
     Ok(())
 }
 
@@ -73,30 +72,39 @@ fn add_hands<S: Slot>(
     Ok(())
 }
 
-// The hands of a team: worker 0's first, and one for each other bench.
-pub fn hands_of<S: Slot>(
-    alloc: Global,
-    pool: &Pool<S>,
-    mut pass: RowPass<S>,
-    first: Bench,
-    others: Vec<Bench>,
-) -> Result<Vec<Hand<S>>, AllocError>
-    requires pool { IsPool pool.now }
-    requires pass { IsPassOf S.shape S.gives pool.now.board.now pass }
-    requires head { IsHead 1 1 (view pass) }
-    requires none { (view pass).seen ≡ [] }
-    requires passed { (view pass).marks.passed ≡ 0 }
-    requires first { IsBenchOf pool.now.rack.now first }
-    requires others { All (IsBenchOf pool.now.rack.now) others.items }
-    requires few { length others.items < max_workers }
-    requires workers { length others.items < (terms_of pool.now.board.now).limits.workers }
-    ensures count { IfOk result (λ hands. length hands.items ≡ length others.items + 1) }
-    ensures hands { IfOk result (λ hands. EachFrom (IsReadyAt S.shape S.gives pool.now) 0 hands.items) }
-    ensures head { IfOk result (λ hands. (d : Hand S) → IsHead 1 (length others.items + 1) (view (slice_index_or hands.items 0 d).pass)) }
-    ensures none { IfOk result (λ hands. (d : Hand S) → (view (slice_index_or hands.items 0 d).pass).seen ≡ []) }
-{
-    let mut hands = Vec::new(alloc);
-    add_hands(alloc, pool, &mut pass, others, &mut hands)?;
-    hands.insert(0, Hand::new(alloc, pool, pass, first))?;
-    Ok(hands)
+/// A team that has not begun: the hands of a pool, worker 0's first.
+#[derive(Drop)]
+pub struct Team<'t, 'p, S: Slot> {
+    // What its workers share.
+    pub(crate) pool: &'t Pool<'p, S>,
+    // Their hands, by number.
+    pub(crate) hands: Vec<Hand<S>>,
+}
+
+impl<'t, 'p, S: Slot> Team<'t, 'p, S> {
+    /// Makes a hand for each bench. `pass` is worker 0's of the pool's board, which has just been made, for as many workers as there are
+    /// benches: a worker of the board without a bench would pass nothing on, and hold the others for ever after 4,096 events. `benches` are
+    /// those of the pool's rack, 1 to 64. Returns `Err` if memory runs out.
+    pub fn new(
+        alloc: Global,
+        pool: &'t Pool<'p, S>,
+        mut pass: RowPass<S>,
+        mut benches: Vec<Bench>,
+    ) -> Result<Team<'t, 'p, S>, AllocError>
+        requires pool { IsPool pool.now }
+        requires pass { IsPassOf S.shape S.gives pool.now.board.now pass }
+        requires new { IsNew (view pass) }
+        requires benches { All (IsBenchOf pool.now.rack.now) benches.items }
+        requires count { (0 < length benches.items) × (length benches.items ≤ max_workers) }
+        requires workers { (terms_of pool.now.board.now).limits.workers ≡ length benches.items }
+        ensures pool { IfOk result (λ team. team.pool.now ≡ pool.now) }
+        ensures count { IfOk result (λ team. length team.hands.items ≡ length benches.items) }
+        ensures team { IfOk result (IsTeam S.shape S.gives) }
+    {
+        let first = benches.remove(0);
+        let mut hands = Vec::new(alloc);
+        add_hands(alloc, pool, &mut pass, benches, &mut hands)?;
+        hands.insert(0, pool.hand(alloc, pass, first))?;
+        Ok(Team { pool, hands })
+    }
 }

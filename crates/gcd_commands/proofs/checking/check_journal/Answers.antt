@@ -1,6 +1,6 @@
 use Rattle.std.proofs.Common.{refl, arith}
 use Rattle.gcd_plan.specs.Limits.{max_file_bytes}
-use Rattle.gcd_outer.specs.Outside.{ShelfSeen, shelf_seen}
+use Rattle.gcd_outer.specs.Outside.{Seen, ShelfState, seen}
 use Rattle.gcd_commands.specs.Checks.CheckEnds.{judged}
 use Rattle.gcd_commands.specs.Checks.StopsCheck.{at_script, at_journal}
 use Rattle.gcd_commands.specs.Checks.StopsJournal.{wanting}
@@ -14,12 +14,11 @@ returns-in_err-plan-clause-stopped g c =
 
 pub returns-in_err-journal-clause-stopped : goal.returns-in_err-journal-clause-stopped
 returns-in_err-journal-clause-stopped g c =
-    let seen : g.row.S.Denot → g.row.S.Denot → ShelfSeen =
-    shelf_seen g.S.Shelf.tells g.S.Shelf.content g.S.Shelf.loads g.S.Shelf.faults in
+    let between : g.row.S.Denot → g.row.S.Denot → Seen ShelfState = seen g.S.Shelf.tells g.S.Shelf.state in
     let before = c.args.shelf.now in
-    let first = seen before c.load_plan.new.shelf in
-    let later = seen c.load_plan.new.shelf c.load_journal.new.shelf in
-    let whole = seen before c.load_journal.new.shelf in
+    let first = between before c.load_plan.new.shelf in
+    let later = between c.load_plan.new.shelf c.load_journal.new.shelf in
+    let whole = between before c.load_journal.new.shelf in
     let same_first : SameShelf first whole = record { tells = refl; content = refl } in
     let same_later : SameShelf later whole = record { tells = refl; content = c.load_plan.ensures.same } in
     let plan_is = plan_since first whole same_first (omega arith) (omega (arith, c.load_journal.ensures.faults)) _ c.in_ok-plan.plan c.in_ok-plan.ensures.plan in
@@ -31,12 +30,11 @@ returns-in_err-journal-clause-stopped g c =
 
 pub returns-in-Ok-clause-reported : goal.returns-in-Ok-clause-reported
 returns-in-Ok-clause-reported g c =
-    let seen : g.row.S.Denot → g.row.S.Denot → ShelfSeen =
-    shelf_seen g.S.Shelf.tells g.S.Shelf.content g.S.Shelf.loads g.S.Shelf.faults in
+    let between : g.row.S.Denot → g.row.S.Denot → Seen ShelfState = seen g.S.Shelf.tells g.S.Shelf.state in
     let before = c.args.shelf.now in
-    let first = seen before c.load_plan.new.shelf in
-    let later = seen c.load_plan.new.shelf c.load_journal.new.shelf in
-    let whole = seen before c.load_journal.new.shelf in
+    let first = between before c.load_plan.new.shelf in
+    let later = between c.load_plan.new.shelf c.load_journal.new.shelf in
+    let whole = between before c.load_journal.new.shelf in
     let same_first : SameShelf first whole = record { tells = refl; content = refl } in
     let same_later : SameShelf later whole = record { tells = refl; content = c.load_plan.ensures.same } in
     let plan_is = plan_since first whole same_first (omega arith) (omega (arith, c.load_journal.ensures.faults)) _ c.in_ok-plan.plan c.in_ok-plan.ensures.plan in
@@ -56,12 +54,11 @@ returns-in-Ok-clause-reported g c =
 
 pub returns-clause-stopped : goal.returns-clause-stopped
 returns-clause-stopped g c =
-    let seen : g.row.S.Denot → g.row.S.Denot → ShelfSeen =
-    shelf_seen g.S.Shelf.tells g.S.Shelf.content g.S.Shelf.loads g.S.Shelf.faults in
+    let between : g.row.S.Denot → g.row.S.Denot → Seen ShelfState = seen g.S.Shelf.tells g.S.Shelf.state in
     let before = c.args.shelf.now in
-    let first = seen before c.load_plan.new.shelf in
-    let later = seen c.load_plan.new.shelf c.load_journal.new.shelf in
-    let whole = seen before c.load_journal.new.shelf in
+    let first = between before c.load_plan.new.shelf in
+    let later = between c.load_plan.new.shelf c.load_journal.new.shelf in
+    let whole = between before c.load_journal.new.shelf in
     let same_first : SameShelf first whole = record { tells = refl; content = refl } in
     let same_later : SameShelf later whole = record { tells = refl; content = c.load_plan.ensures.same } in
     let plan_is = plan_since first whole same_first (omega arith) (omega (arith, c.load_journal.ensures.faults)) _ c.in_ok-plan.plan c.in_ok-plan.ensures.plan in

@@ -1,7 +1,7 @@
 use Rattle.std.proofs.Common.{◌≡◌, ◌+◌, ◌∙◌, None, length, option_map, ap, sym, refl, arith}
 use Rattle.std.proofs.lemmas.List.{length-map}
 use Rattle.gcd_plan.specs.PlanView.{file_view, intake_view}
-use Rattle.gcd_outer.specs.Outside.{ShelfSeen, shelf_seen}
+use Rattle.gcd_outer.specs.Outside.{Seen, ShelfState, seen}
 use Rattle.gcd_commands.specs.Fronts.StopsFront.{at_script, at_intake, at_file}
 use Rattle.gcd_commands.proofs.Loading.{SameShelf, are_loaded_same, file_since, handed_on, made_later, none_of, plan_since}
 use Rattle.gcd_commands.proofs.load.load_front.Goals as goal
@@ -18,12 +18,11 @@ returns-in_default-clause-stopped g c =
 
 pub returns-in_err-files-clause-stopped : goal.returns-in_err-files-clause-stopped
 returns-in_err-files-clause-stopped g c =
-    let seen : g.row.S.Denot → g.row.S.Denot → ShelfSeen =
-    shelf_seen g.S.Shelf.tells g.S.Shelf.content g.S.Shelf.loads g.S.Shelf.faults in
+    let between : g.row.S.Denot → g.row.S.Denot → Seen ShelfState = seen g.S.Shelf.tells g.S.Shelf.state in
     let before = c.args.shelf.now in
-    let first = seen before c.load_plan.new.shelf in
-    let later = seen c.load_plan.new.shelf c.load_files.new.shelf in
-    let whole = seen before c.load_files.new.shelf in
+    let first = between before c.load_plan.new.shelf in
+    let later = between c.load_plan.new.shelf c.load_files.new.shelf in
+    let whole = between before c.load_files.new.shelf in
     let stop = c.in_err-files.field-0.0 in
     let stops = c.in_err-files.ensures.stopped in
     let same_first : SameShelf first whole = record { tells = refl; content = refl } in
@@ -43,12 +42,11 @@ returns-in_err-files-clause-stopped g c =
 
 pub returns-clause-ready : goal.returns-clause-ready
 returns-clause-ready g c =
-    let seen : g.row.S.Denot → g.row.S.Denot → ShelfSeen =
-    shelf_seen g.S.Shelf.tells g.S.Shelf.content g.S.Shelf.loads g.S.Shelf.faults in
+    let between : g.row.S.Denot → g.row.S.Denot → Seen ShelfState = seen g.S.Shelf.tells g.S.Shelf.state in
     let before = c.args.shelf.now in
-    let first = seen before c.load_plan.new.shelf in
-    let later = seen c.load_plan.new.shelf c.load_files.new.shelf in
-    let whole = seen before c.load_files.new.shelf in
+    let first = between before c.load_plan.new.shelf in
+    let later = between c.load_plan.new.shelf c.load_files.new.shelf in
+    let whole = between before c.load_files.new.shelf in
     let same_first : SameShelf first whole = record { tells = refl; content = refl } in
     let same_later : SameShelf later whole = record { tells = refl; content = c.load_plan.ensures.same } in
     record {
@@ -58,10 +56,9 @@ returns-clause-ready g c =
 
 pub returns-clause-loads : goal.returns-clause-loads
 returns-clause-loads g c =
-    let seen : g.row.S.Denot → g.row.S.Denot → ShelfSeen =
-    shelf_seen g.S.Shelf.tells g.S.Shelf.content g.S.Shelf.loads g.S.Shelf.faults in
+    let between : g.row.S.Denot → g.row.S.Denot → Seen ShelfState = seen g.S.Shelf.tells g.S.Shelf.state in
     let before = c.args.shelf.now in
     let count : length c.files.result.now ≡ length c.in_ok-plan.plan.files =
     sym (length-map c.files.result.now file_view) ∙ ap length c.files.ensures.files in
-    made_later (seen before c.load_plan.new.shelf) (seen c.load_plan.new.shelf c.load_files.new.shelf) (seen before c.load_files.new.shelf)
+    made_later (between before c.load_plan.new.shelf) (between c.load_plan.new.shelf c.load_files.new.shelf) (between before c.load_files.new.shelf)
     refl refl refl refl refl _ c.load_plan.ensures.loads (rw (count) at c.in_ok-files.ensures.loads)

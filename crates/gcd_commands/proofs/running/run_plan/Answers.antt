@@ -14,5 +14,5 @@ returns-clause-reported g c =
       h = c.in_ok-run.run'.journal.items;
       state = c.in_ok-run.run'.state;
       ran = r;
-      end_is = c.in_ok-story.ensures (map (λ f. f.items) c.args.files.now) r.over.state_is c.in_ok-run.ensures.values.values;
+      end_is = c.in_ok-story.ensures (map (λ f. f.items) c.args.over.files.now) r.over.state_is c.in_ok-run.ensures.values.values;
     }

@@ -4,8 +4,8 @@ use Rattle.gcd_outer.proofs.sink.write_whole.Given as goal
 abbrev pub invariant-loop-done : goal.invariant-loop-done
 invariant-loop-done g l = record {
   within : l.done ≤ length l.text;
-  taken : g.K.Sink.tells ≡ true → g.K.Sink.taken l.out ≡ g.K.Sink.taken l.initial.out ++ take l.done l.text;
-  faults : g.K.Sink.faults l.initial.out ≤ g.K.Sink.faults l.out;
+  taken : g.K.Sink.tells ≡ true → (g.K.Sink.state l.out).taken ≡ (g.K.Sink.state l.initial.out).taken ++ take l.done l.text;
+  faults : (g.K.Sink.state l.initial.out).faults ≤ (g.K.Sink.state l.out).faults;
 }
 
 abbrev pub decreases-loop-done : goal.decreases-loop-done

@@ -1,6 +1,8 @@
 use Rattle.std.proofs.Common.{rules, sym, ap, subst, ◌∙◌, ◌≡◌, ◌<◌, ℕ, true, length}
 use Rattle.std.specs.Prelude.{slice_index_or}
 use Rattle.gcd_facts.proofs.Lists.{one_of}
+use Rattle.gcd_machine.specs.Stands.{StandsFor}
+use Rattle.gcd_refinement.specs.MachineView.{MachineView}
 use Rattle.gcd_row.specs.Shapes.{shape_of, gives_of}
 use Rattle.gcd_pool.specs.Hands.{Serving}
 use Rattle.gcd_pool.specs.Admitted.{LedWithFront}
@@ -8,7 +10,7 @@ use Rattle.gcd_pool.proofs.Ends.{HandEnded, all_served}
 use Rattle.gcd_pool.proofs.Leading.{led_front_where}
 use Rattle.gcd_pool.proofs.Recording.{never_ok}
 use Rattle.gcd_pool.proofs.Serves.{exit_served, other_way, ready_in, served_in, serving_in}
-use Rattle.gcd_pool.proofs.Splices.{each_same, spliced, spliced_length}
+use Rattle.gcd_pool.proofs.Splices.{each_same, first_machine, spliced, spliced_length}
 use Rattle.gcd_pool.proofs.run.pool_run.Goals as goal
 
 pub run_hands-done-requires-clause-hands : goal.run_hands-done-requires-clause-hands
@@ -66,8 +68,14 @@ returns-clause-led g c d =
 
 pub returns-clause-exit : goal.returns-clause-exit
 returns-clause-exit g c d =
-    exit_served (shape_of g.H.Handler.kind g.H.Handler.times g.H.Handler.total) (gives_of g.J.Job.gives) c.args.pool.now _ _ c.exit_of_first.result (returns-clause-served g c 0 d (search rules))
-    (λ most plan h. c.exit_of_first.ensures d most plan h)
+    exit_served (shape_of g.H.Handler.kind g.H.Handler.times g.H.Handler.total) (gives_of g.J.Job.gives) c.args.pool.now _ _ c.exit_of.result (returns-clause-served g c 0 d (search rules))
+    (λ most plan h stands ended.
+    c.exit_of.ensures most plan h
+    (subst (λ (m : MachineView). StandsFor m plan h)
+    (first_machine c.see_the_ends.new.hands.items d c.index.result.now c.machine.result.now
+    (subst (λ (n : ℕ). 0 < n)
+    (sym (c.see_the_ends.ensures.count ∙ spliced_length c.args.hands.now.len c.args.hands.now.items c.run_hands-done.new.hands (search rules) (search rules)))
+    (search rules)) c.index.ensures c.machine.ensures) stands) ended)
 
 pub returns-then-not-done-clause-same : goal.returns-then-not-done-clause-same
 returns-then-not-done-clause-same g c = (returns-then-not-done-clause-led g c (one_of c.args.hands.now.items (search rules))).led.same

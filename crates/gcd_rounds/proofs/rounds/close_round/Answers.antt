@@ -1,4 +1,3 @@
-use Rattle.std.proofs.Common.{ap, subst, sym}
 use Rattle.gcd_loop.proofs.Goings.{going_grown}
 use Rattle.gcd_loop.proofs.Steps.{sight_kept, sight_lawful}
 use Rattle.gcd_rounds.specs.Running.{bounds_of, turn_sight}

@@ -1,11 +1,9 @@
-use Rattle.std.proofs.Common.{◌≡◌, ◌∙◌, [], ℕ, List, ap, rules, subst, sym}
+use Rattle.std.proofs.Common.{◌∙◌, [], ℕ, List, ap, rules, subst}
 use Rattle.gcd_event.specs.declared.event.Event.{Event}
 use Rattle.gcd_outer.specs.Outside.{ClockState, Seen}
 use Rattle.gcd_outer.specs.Tells.{PollerState}
 use Rattle.gcd_history.specs.Ends.{HasEnded}
-use Rattle.gcd_history.specs.Intake.{AcceptsNone}
 use Rattle.gcd_loop.specs.Going.{GoesOn}
-use Rattle.gcd_loop.specs.Ran.{RunsPlan}
 use Rattle.gcd_loop.specs.Recorded.{Bounds}
 use Rattle.gcd_loop.proofs.Steps.{kept_as, on_as, run_on}
 use Rattle.gcd_turn.specs.Asked.{KeepsListens}

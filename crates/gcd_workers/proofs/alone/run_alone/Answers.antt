@@ -1,11 +1,10 @@
-use Rattle.std.proofs.Common.{ap, subst, List, []}
+use Rattle.std.proofs.Common.{subst, List, []}
 use Rattle.gcd_event.specs.declared.event.Event.{Event}
-use Rattle.gcd_jobs.specs.Contents.{contents}
 use Rattle.gcd_loop.specs.Going.{IsRunOn}
 use Rattle.gcd_outer.specs.Outside.{ClockState, Seen}
 use Rattle.gcd_outer.specs.Tells.{PollerState}
 use Rattle.gcd_workers.specs.Ran.{RunsOverFiles}
-use Rattle.gcd_workers.specs.declared.list_run.Over.{Over}
+use Rattle.gcd_workers.specs.declared.over.Over.{Over}
 use Rattle.gcd_workers.proofs.Runs.{alone_over_files}
 use Rattle.gcd_workers.proofs.alone.run_alone.Goals as goal
 
@@ -20,8 +19,6 @@ returns-in-Ok-run_to_the_end-clause-ran g c =
     let run = c.in-Ok-run_to_the_end.ensures.run in
     let on : IsRunOn over.most over.plan.now [] h told timed =
     subst (λ (s : List Event). IsRunOn over.most over.plan.now s h told timed) c.in-Ok.ensures.journal c.in-Ok-run_to_the_end.ensures.on in
-    let left = c.outcome_of.result in
-    let all = alone_over_files last.over over last.kept left.journal.items left.values.items left.state told timed c.in-Ok-run_to_the_end.ensures.over
-    (ap (λ v. v.items) c.outcome_of.ensures.journal) (ap (λ v. v.items) c.outcome_of.ensures.values) run
-    (c.outcome_of.ensures.state last.over.plan.now h run.stands) c.requires.unwatched on in
-    subst (λ (o : Over). RunsOverFiles o.most o.plan.now 1 (contents o.files.now) told timed left.journal.items left.values.items left.state) c.in-Ok.ensures.over all
+    let all = alone_over_files last.over over last.kept c.outcome_of.result told timed c.in-Ok-run_to_the_end.ensures.over
+    c.outcome_of.ensures.journal c.outcome_of.ensures.values run (c.outcome_of.ensures.state last.over.plan.now h run.stands) c.requires.unwatched on in
+    subst (λ (o : Over). RunsOverFiles o 1 told timed c.outcome_of.result) c.in-Ok.ensures.over all

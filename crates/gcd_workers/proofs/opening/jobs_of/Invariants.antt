@@ -1,6 +1,0 @@
-use Rattle.gcd_jobs.specs.Contents.{contents}
-use Rattle.gcd_workers.specs.EndedValues.{AreJobs}
-use Rattle.gcd_workers.proofs.opening.jobs_of.Given as goal
-
-abbrev pub invariant-loop-number : goal.invariant-loop-number
-invariant-loop-number l = AreJobs l.plan (contents l.files) l.number l.jobs.items

@@ -1,0 +1,55 @@
+use Rattle.std.proofs.Common.{◌≡◌, ◌∙◌, ◌+◌, ℕ, [], length, ap, sym, subst, arith}
+use Rattle.std.specs.Prelude.{slice_index_or}
+use Rattle.gcd_history.proofs.HeldRuns.OwnEvents.{none_own}
+use Rattle.gcd_row.specs.Passes.{view}
+use Rattle.gcd_steal.specs.Racks.{IsBenchOf}
+use Rattle.gcd_workers.specs.Teams.{EachFrom, IsHead, IsReadyAt}
+use Rattle.gcd_workers.proofs.Heads.{head_first}
+use Rattle.gcd_workers.proofs.Hires.{all_after, all_first, first_has, pass_has}
+use Rattle.gcd_workers.proofs.Places.{each_front}
+use Rattle.gcd_workers.proofs.team.Team.new.Goals as goal
+
+pub add_hands-requires-clause-head : goal.add_hands-requires-clause-head
+add_hands-requires-clause-head g c = head_first (view c.args.pass) c.requires.new.worker c.requires.new.hands
+
+pub add_hands-requires-clause-benches : goal.add_hands-requires-clause-benches
+add_hands-requires-clause-benches g c =
+    let fewer = c.remove-first.ensures.len in
+    all_after (IsBenchOf c.args.pool.now.rack.now) c.args.benches.items c.remove-first.new.self.items (omega (arith, fewer))
+    c.remove-first.ensures.by_index.1 c.requires.benches
+
+pub hand-requires-clause-none : goal.hand-requires-clause-none
+hand-requires-clause-none g c = none_own (view c.add_hands.new.pass).worker (view c.add_hands.new.pass).seen c.in_ok-add_hands.ensures.none
+
+pub hand-requires-clause-passed : goal.hand-requires-clause-passed
+hand-requires-clause-passed g c = λ zero. c.in_ok-add_hands.ensures.passed
+
+pub hand-requires-clause-bench : goal.hand-requires-clause-bench
+hand-requires-clause-bench g c =
+    all_first (IsBenchOf c.args.pool.now.rack.now) c.args.benches.items c.remove-first.result c.requires.count.0 c.remove-first.ensures.value c.requires.benches
+
+pub returns-clause-count : goal.returns-clause-count
+returns-clause-count g c =
+    let fewer = c.remove-first.ensures.len in
+    let long = ap length c.in_ok-insert.ensures.items in
+    let count = c.in_ok-add_hands.ensures.count in
+    omega (arith, long, count, fewer)
+
+pub returns-clause-team : goal.returns-clause-team
+returns-clause-team g c =
+    let hand = c.hand.result in
+    let items = c.in_ok-insert.ensures.items in
+    let parts = c.hand.ensures.parts.0 in
+    let many : length c.remove-first.new.self.items + 1 ≡ length c.insert.new.self.items =
+    let long = ap length items in let count = c.in_ok-add_hands.ensures.count in omega (arith, long, count) in
+    record {
+      hands = subst (EachFrom (IsReadyAt g.S.Slot.shape g.S.Slot.gives c.args.pool.now) 0) (sym items)
+          (each_front (IsReadyAt g.S.Slot.shape g.S.Slot.gives c.args.pool.now) c.add_hands.new.hands.items hand
+          (record { ready = c.hand.ensures.ready; worker = ap (λ p. (view p).worker) parts ∙ c.in_ok-add_hands.ensures.head.worker })
+          c.in_ok-add_hands.ensures.hands);
+      head = λ d.
+          subst (λ (n : ℕ). IsHead 1 n (view (slice_index_or c.insert.new.self.items 0 d).pass)) many
+          (first_has (λ hand. IsHead 1 (length c.remove-first.new.self.items + 1) (view hand.pass)) d items
+          (pass_has (IsHead 1 (length c.remove-first.new.self.items + 1)) hand parts c.in_ok-add_hands.ensures.head));
+      none = λ d. first_has (λ hand. (view hand.pass).seen ≡ []) d items (pass_has (λ v. v.seen ≡ []) hand parts c.in_ok-add_hands.ensures.none);
+    }
