@@ -2,9 +2,10 @@
 # Times whole runs in one process, from the plan to the journal and the values, with every event in the journal:
 #
 # - the large script that `gcd big` runs: 16,384 blocks that add up 64 bytes each, on six queues. It is run by worker 0 alone over a list,
-#   by a team of one over the log that workers share, and by teams of 2, 4 and 64. Peers that keep a journal (bench/peers) run a script of
-#   this shape, if they are installed: oneTBB, Boost.Asio and rayon (Debian's libtbb-dev, libboost-dev, and librust-rayon-dev with cargo);
-# - the large script with more bytes a block, which shows from which size on a team is faster than one worker;
+#   by at most 2, 4 and 64 workers, of whom `run_workers` takes as many as pay, and by teams of 1, 2 and 4 hands over the log that workers
+#   share, which are made whether they pay or not. Peers that keep a journal (bench/peers) run a script of this shape, if they are
+#   installed: oneTBB, Boost.Asio and rayon (Debian's libtbb-dev, libboost-dev, and librust-rayon-dev with cargo);
+# - the large script with more bytes a block, at which workers may cost no more than one;
 # - 16,384 blocks of 16 KiB each on 64 serial queues, and on one concurrent queue; and 64 blocks of 16 MiB each on a concurrent queue.
 #
 # Each time is nanoseconds a block: `first` is the first run of a process, `best` its fastest of nine. Processes take turns, the peers' too.
@@ -62,7 +63,7 @@ together() {
 
 for _ in 1 2 3 4 5 6 7 8 9; do
     once "$bench" large alone
-    once "$bench" large hand
+    for team in row1 row2 row4; do once "$bench" large "$team"; done
     for team in 2 4 64; do once "$bench" large "$team"; done
     for team in 1 2 4 64; do
         for peer in $peers; do once "$folder/$peer" "$team"; done
@@ -70,10 +71,9 @@ for _ in 1 2 3 4 5 6 7 8 9; do
     for bytes in 256 512 1024 2048 4096 16384; do
         for team in alone 2 4; do once "$bench" large "$team" "$bytes" | sed "s/^large/$bytes/"; done
     done
-    for count in 2 4; do together "$count" large alone 16384 | sed "s/^large/16384/"; done
     for plan in serial wide heavy; do
-        for team in alone 4; do once "$bench" "$plan" "$team"; done
-        together 4 "$plan" alone
+        for team in alone 2 4 64; do once "$bench" "$plan" "$team"; done
+        for count in 2 4; do together "$count" "$plan" alone; done
     done
 done >"$folder/times"
 

@@ -47,6 +47,7 @@ OPTIONS = ["front", "run", "check", "big", "script", "journal", "--workers", "--
 OPTIONS += ["64", "65", "+4", "007", "-1", "16384", "16385", "99999999999999999999", "--workers=4", "--journal=1"]
 OPTIONS += ["x", "é", "\x1b", "help"]
 
+FEED = b"source feed read text.txt on root\n"
 COMMANDS = [["run", "script"], ["run", "script", "--journal", "--workers", "4"], ["check", "script", "journal"], ["big", "3"]]
 COMMANDS += [["big", "3", "--workers", "64"], ["run", "script", "--listen", "127.0.0.1:0"], ["front", "script", "3"], []]
 
@@ -194,7 +195,9 @@ class Desk:
 
 
 def judge_script(desk, text, workers):
-    """What is wrong with the answers to a script, by the reader of docs/formats.md; and its journal is checked."""
+    """What is wrong with the answers to a script, by the reader of docs/formats.md; and its journal is checked. For several workers the
+    script gets a read source, so that a team runs it whatever its works cost."""
+    text = text if workers == "1" else FEED + text
     desk.write("script", text)
     answer = desk.call("run", "script", "--journal", "--workers", workers)
     why = why_not("run", answer, 8)

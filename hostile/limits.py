@@ -1,7 +1,8 @@
 #!/usr/bin/env python3
 """Scripts at the limits by 64 workers: each run ends, and its journal is judged by `gcd check`.
 
-The files are so long that the works take time, and several workers have a part in them.
+The files are so long that the works take time, and several workers have a part in them. Each script has a read source that is never
+activated, so that a team runs it whatever its works cost; only the one that has no object left for it has none.
 """
 
 import os
@@ -17,6 +18,9 @@ from common import Part, call, why_not, words_of
 
 HERE = Path(__file__).resolve().parent
 BLOCKS, OBJECTS, ACTS, FILES = 16_384, 1_023, 65_535, 64
+# With the other objects and the read source they are as many as there may be.
+SOURCES = OBJECTS - 1_001
+FEED = "source feed read f0.txt on root\n"
 STATES = {0: b"drained", 1: b"stuck", 8: b"open"}
 
 
@@ -39,7 +43,7 @@ def objects(chance):
         lines.append(f"queue q{k} {chance.choice(['serial', 'concurrent'])} on {chance.choice(['root', 'root', *queues[-20:]])}")
         queues.append(f"q{k}")
     lines += ["group e"] + [f"group g{k}" for k in range(99)] + [f"semaphore m{k} 1" for k in range(100)]
-    lines += [f"source s{k} {'or' if k % 2 else 'add'} on {chance.choice(queues)}" for k in range(OBJECTS - 1000)]
+    lines += [f"source s{k} {'or' if k % 2 else 'add'} on {chance.choice(queues)}" for k in range(SOURCES)]
     return lines, queues
 
 
@@ -52,10 +56,10 @@ def at_the_limits(chance):
         work = f" {chance.choice(['bytes', 'lines', 'words', 'sum'])} f{b % FILES}" if b % 2 else ""
         lines.append(f"block {name_of(b)}{work}")
         if b % 3 == 0:
-            lines.append(chance.choice([f"merge s{b % 23} 1", f"signal m{b % 100}", f"retain c{b % 500}"]))
+            lines.append(chance.choice([f"merge s{b % SOURCES} 1", f"signal m{b % 100}", f"retain c{b % 500}"]))
         submit = chance.choice(["async Q", "async Q", "barrier Q", f"group_async g{b % 99} Q"])
         acts.append(f"{submit.replace('Q', chance.choice(queues))} {name_of(b)}")
-    acts = [f"activate s{k}" for k in range(OBJECTS - 1000)] + acts
+    acts = [f"activate s{k}" for k in range(SOURCES)] + acts
     used = sum(line.split()[0] in ("merge", "signal", "retain") for line in lines) + len(acts)
     lines += ["block idle"] + ["enter e"] * (ACTS - used)
     return text_of(lines + ["main"] + acts), 0
@@ -146,6 +150,7 @@ def content_of(path):
 def try_script(part, program, room, make, workers, seed, seconds=120):
     """One run, and the judgement on its journal."""
     script, status = make(random.Random(seed))
+    script = script if make is none_starts else FEED + script
     at, values = value_lines(script)
     with open(f"{room}/script", "w", encoding="ascii") as it:
         it.write(script)

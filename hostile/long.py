@@ -14,6 +14,8 @@ from common import Part, call, words_of
 
 MEBIBYTE = 1 << 20
 LONGEST_JOURNAL = 16 * MEBIBYTE
+# A read source that is never activated: with it a team runs the script whatever its works cost.
+FEED = "source feed read script on root\n"
 
 
 def write(room, name, text):
@@ -97,7 +99,7 @@ def merges(program, room, events, seconds):
 def signals(program, room, seconds):
     """As many events of one block as there may be acts: the row's cells are used sixteen times."""
     part = Part("signals")
-    write(room, "script", "semaphore s 0\nmain\n" + "signal s\n" * 65_534)
+    write(room, "script", FEED + "semaphore s 0\nmain\n" + "signal s\n" * 65_534)
     for workers in (1, 2, 4, 64):
         events, _ = judged(part, program, room, f"{workers} workers", workers, seconds)
         if events != 65_536:
@@ -111,7 +113,7 @@ def long_block(program, room, seconds):
     with open(f"{room}/long", "wb") as it:
         it.truncate(16 * MEBIBYTE)
     write(room, "short", "a line\n" * 100)
-    lines = ["file f short", "queue q concurrent", "queue z concurrent"]
+    lines = [FEED.strip(), "file f short", "queue q concurrent", "queue z concurrent"]
     lines += [f"file l{k} long" for k in range(4)]
     lines += [f"block z{k} words l{k}" for k in range(4)]
     lines += [f"block b{k} lines f" for k in range(16_000)]

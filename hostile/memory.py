@@ -35,6 +35,7 @@ CALLS = [
     ("a forged journal", ["check", "first/script", "check_a_forgery/journal"], False),
     ("a large script", ["big", "300"], False),
     ("a large script by four workers", ["big", "300", "--workers", "4"], False),
+    ("a team", ["run", "stealing/script", "--workers", "4"], False),
     ("senders from outside", ["front", "front/plan", "2"], False),
     ("senders and no intake", ["front", "first/script", "2"], False),
     ("a feed", ["run", "feed/script", "--journal"], True),

@@ -132,7 +132,11 @@ def threads_fail(program):
     beside = f"{FOLDER.name}/beside"
     with open(beside, "w", encoding="ascii") as it:
         it.write("queue q serial\nintake q 64\nmain\n")
-    teams = (["big", "50", "--workers", "4"], ["big", "50", "--workers", "64"], ["run", "sources/script", "--workers", "8"])
+    # Its read source is never activated; with it there is a team whatever the works cost.
+    team = f"{FOLDER.name}/team"
+    with open(team, "w", encoding="ascii") as it:
+        it.write("source r read team on root\nqueue q serial\nblock a\nblock b\nblock c\nmain\nasync q a\nasync root b\nasync root c\n")
+    teams = (["run", team, "--workers", "2"], ["run", team, "--workers", "64"], ["run", "stealing/script", "--workers", "4"])
     for words in (*teams, ["front", beside, "8"]):
         ample = call(program, words, HERE)
         for later in (False, True):

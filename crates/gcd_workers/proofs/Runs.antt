@@ -94,6 +94,14 @@ runs_by_more most plan m n calls others poller clock h some more said run = reco
   heard = run.heard;
 }
 
+-- the same of a run over files
+pub over_files_by_more : (over : Over) (m n : ℕ) (poller : Seen PollerState) (clock : Seen ClockState) (o : Outcome) → 0 < m → m ≤ n → RunsOverFiles over m poller clock o → RunsOverFiles over n poller clock o
+over_files_by_more over m n poller clock o some more ran = record {
+  run = runs_by_more over.most over.plan.now m n AcceptsNone AcceptsNone poller clock o.journal.items some more (λ called. called) ran.run;
+  state_is = ran.state_is;
+  values = ran.values;
+}
+
 -- the run of the works' jobs by a team without outside callers, with what is left of it
 pub team_over_files : (over : Over) (d : Dispatch FileJob) (workers : ℕ) (f : FrontView) (i : IntakeView Nobody) (poller : Seen PollerState)
     (clock : Seen ClockState) (ran : Ran) (o : Outcome) → IsPlan over.plan.now → d.plan.now ≡ over.plan.now → d.most ≡ over.most → f.senders ≡ 0

@@ -97,7 +97,7 @@ fn wide_blocks(plan: &Plan, queue: Obj, count: u32) -> u32 {
 }
 
 // The queue to which the act submits blocks, and how many; None where it submits none.
-fn submitted(plan: &Plan, act: Act) -> Option<(Obj, u32)> {
+pub fn submitted(plan: &Plan, act: Act) -> Option<(Obj, u32)> {
     match act {
         Act::Async(q, _) | Act::Barrier(q, _) | Act::Sync(q, _) | Act::BarrierSync(q, _) => {
             Some((q, 1))

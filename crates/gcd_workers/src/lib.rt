@@ -25,6 +25,7 @@
 //! | call | answer |
 //! |---|---|
 //! | [`team_size`] | how many of so many workers there can be work for, at least 1 |
+//! | [`hands_worth`] | how many of so many workers a run over files has, at least 1: more than one only if a team pays, or if the plan has a read source |
 //! | [`tallies_of`], [`file_jobs`] | a tally for each source, and a job for each block's work, as a board has them, or out of memory |
 //! | [`run_workers`], [`run_alone`] | the journal, the blocks' values, the state and the machine of a run over files (`RunsOverFiles`), or out of memory |
 //! | [`run_jobs`] | the same of a run of the caller's own jobs ([`Ran`], `RunsJobs`), or why there is none: another number of jobs, no number of workers, no event, out of memory |
@@ -104,6 +105,7 @@ mod tallies;
 mod team;
 mod workers;
 mod works;
+mod worth;
 
 pub use alone::run_alone;
 pub use beside::{Side, run_beside};
@@ -123,3 +125,4 @@ pub use tallies::tallies_of;
 pub use team::Team;
 pub use workers::run_workers;
 pub use works::file_jobs;
+pub use worth::hands_worth;

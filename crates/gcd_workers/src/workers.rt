@@ -9,21 +9,21 @@ ghost use Rattle.gcd_workers.specs.declared.refused.RunRefused.{RunRefused};
 
 use crate::alone::run_alone;
 use crate::dispatch::Dispatch;
-use crate::hiring::team_size;
 use crate::nobodys_front::nobodys_front;
 use crate::outcome::Outcome;
 use crate::over::Over;
 use crate::refused::RunRefused;
 use crate::works::{file_jobs, outcome_of};
+use crate::worth::hands_worth;
 use gcd_outer::{Clock, Poller};
 use std::alloc::{AllocError, Global};
 use std::sync::Wait;
 use std::thread::Threads;
 
 /// Runs a plan over its files by at most so many workers, 1 to 64, until the run is quiescent or halted, or has as many events as it may
-/// have. With one worker, worker 0 runs it alone ([`run_alone`]). With more, every plan has a team over row, rack and pool, of as many hands
-/// as [`team_size`] says: worker 0, which alone has poller and clock, and helpers in threads of their own. There are no outside callers, so
-/// an intake of the plan is shut at once. The poller watches no feed yet.
+/// have. It has as many hands as [`hands_worth`] says. With one, worker 0 runs the plan alone ([`run_alone`]), and no thread is made. With
+/// more, there is a team over row, rack and pool from the first event on: worker 0, which alone has poller and clock, and helpers in threads
+/// of their own. There are no outside callers, so an intake of the plan is shut at once. The poller watches no feed yet.
 ///
 /// Returns `Err` only if memory runs out, or if the system makes no thread for a worker on whom all others wait (`gcd_pool`). Before the
 /// first turn that is [`RunRefused::BeforeTheRun`], with poller and clock as they were (`before`), and from then on
@@ -48,7 +48,8 @@ pub fn run_workers<R: Threads + Wait + Sync, P: Poller, C: Clock>(
     ensures kept { KeepsListens P.tells (P.state poller.old) (P.state poller.new) }
     ensures before { IsErrOf result RunRefused.BeforeTheRun → (poller.new ≡ poller.old) × (clock.new ≡ clock.old) }
 {
-    if workers == 1 {
+    let hands = hands_worth(rt, alloc, over, workers);
+    if hands == 1 {
         return run_alone(rt, alloc, over, poller, clock);
     }
     // It tells that the plan is valid.
@@ -61,7 +62,7 @@ pub fn run_workers<R: Threads + Wait + Sync, P: Poller, C: Clock>(
     };
     let given = Dispatch {
         plan: over.plan,
-        workers: team_size(over.plan, workers),
+        workers: hands,
         most: over.most,
         jobs,
     };
