@@ -53,8 +53,8 @@ fn accept<S: AdmitCells<X>, X: Sent + Drop, R: Wait>(
     Ok(Some(put))
 }
 
-// Takes in the next job, for block b. If there is none, and all mouths were shut before it looked, it shuts the intake. Else nothing comes of
-// it now.
+// Accepts the next job as block b. If there is no job, and all mouths were shut before the look, shuts the intake. Returns None if it put
+// neither event.
 fn take_in<S: AdmitCells<X>, X: Sent + Drop, R: Wait>(
     rt: &R,
     pool: &Pool<S>,

@@ -1,4 +1,4 @@
-// How many hands a run over files is worth. Times are estimates, in sixteenths of a nanosecond.
+// Estimates how many hands run a plan over files fastest. Times are in sixteenths of a nanosecond.
 ghost use Rattle.std.specs.Prelude.{◌<◌, ◌≤◌};
 
 use crate::hiring::{submitted, team_size};
@@ -7,20 +7,20 @@ use gcd_plan::{Act, Blk, How, Obj, Plan, Run, Work};
 use std::alloc::{AllocError, Global};
 use std::thread::{Threads, available_parallelism};
 
-// A run whose works all take less than this, a microsecond, is worth no team, however many they are.
+// No team pays if every work takes less than this, a microsecond.
 const LONG: u64 = 16_000;
 
-// What the row costs for each block, and for each block and hand.
+// The row adds this to each block, and the second figure for each hand.
 const ROW: u64 = 6_400;
 
 const ROW_HAND: u64 = 1_600;
 
-// What each hand costs: a thread, and for each block of the plan a part of its machine.
+// Each hand needs a thread, and a machine that grows with the plan's blocks.
 const HAND: u64 = 800_000;
 
 const HAND_BLOCK: u64 = 320;
 
-// What counting so many bytes takes while they are in a processor's cache.
+// Returns how long it takes to count these bytes, if a processor's cache holds them.
 fn time_of(how: How, bytes: u64) -> u64 {
     match how {
         How::Bytes => 0,
@@ -30,7 +30,7 @@ fn time_of(how: How, bytes: u64) -> u64 {
     }
 }
 
-// What a work takes over the bytes of its range.
+// Returns how long a work takes over its range of the file.
 fn work_time(files: &[Vec<u8>], work: Work) -> u64 {
     match files.get(work.file as usize) {
         Some(bytes) => {
@@ -41,7 +41,7 @@ fn work_time(files: &[Vec<u8>], work: Work) -> u64 {
     }
 }
 
-// What a block's work takes.
+// Returns how long a block's work takes.
 fn block_time(over: Over, b: Blk) -> u64 {
     if b.0 >= over.plan.blocks() {
         return 0;
@@ -52,7 +52,7 @@ fn block_time(over: Over, b: Blk) -> u64 {
     }
 }
 
-// Whether a file is so long that a work over it may be long.
+// Returns whether a work over one of the files can be long.
 fn has_long_file(files: &[Vec<u8>]) -> bool {
     for bytes in files {
         if time_of(How::Words, bytes.len() as u64) >= LONG {
@@ -62,7 +62,7 @@ fn has_long_file(files: &[Vec<u8>]) -> bool {
     false
 }
 
-// Whether a block's work is long.
+// Returns whether a block has a long work.
 fn has_long_work(over: Over) -> bool {
     for number in 0..over.plan.blocks() {
         if block_time(over, Blk(number)) >= LONG {
@@ -72,7 +72,7 @@ fn has_long_work(over: Over) -> bool {
     false
 }
 
-// Whether the plan has a read source.
+// Returns whether the plan has a read source.
 fn has_feed(plan: &Plan) -> bool {
     for number in 0..plan.objects() {
         if plan.kind(Obj(number)).is_read() {
@@ -82,7 +82,7 @@ fn has_feed(plan: &Plan) -> bool {
     false
 }
 
-// The highest exclusive object on an object's way to `root`, itself among them: what comes to it runs one after another.
+// Returns the exclusive object nearest to `root` among an object and its targets. It runs its blocks one after another.
 fn lane_of(plan: &Plan, o: Obj) -> Option<Obj> {
     let mut lane = None;
     let mut at = o;
@@ -98,20 +98,20 @@ fn lane_of(plan: &Plan, o: Obj) -> Option<Obj> {
     lane
 }
 
-// What a run takes.
+// How long the blocks of a run take.
 #[derive(Drop)]
 struct Costs {
-    // The blocks that acts submit: what all of them take, what the longest takes, and how many there are.
+    // The time of all submitted blocks, the time of the longest, and their number.
     all: u64,
     longest: u64,
     count: u64,
-    // For each object its lane, and what the blocks take that come to it as a lane.
+    // The lane of each object, and the time of the blocks in each lane.
     lanes: Vec<Option<Obj>>,
     sums: Vec<u64>,
 }
 
 impl Costs {
-    // Adds a block that comes to this queue.
+    // Adds a block that an act submits to this queue.
     fn add(&mut self, queue: Obj, time: u64) {
         self.all = self.all.saturating_add(time);
         self.longest = self.longest.max(time);
@@ -141,7 +141,7 @@ impl Costs {
         }
     }
 
-    // What they take by so many hands: a share of all blocks, but no less than the longest lane or block, and what row and hands cost.
+    // Returns how long a team takes. The hands share the blocks, but the longest lane or block limits them; row and hands cost extra.
     fn time_by(&self, plan: &Plan, hands: u8) -> u64 {
         let hands = u64::from(hands.max(1));
         let lane = self.sums.iter().copied().fold(self.longest, u64::max);
@@ -153,7 +153,7 @@ impl Costs {
             .saturating_add(team)
     }
 
-    // By how many hands, at most so many, they take least; 1 unless others save a tenth.
+    // Returns how many hands take the least time, at most `most`. A team has to save a tenth of the time of one hand.
     fn hands(&self, plan: &Plan, most: u8) -> u8
         requires { 0 < most }
         ensures some { 0 < result }
@@ -172,7 +172,7 @@ impl Costs {
     }
 }
 
-// What a run over these files takes.
+// Adds up the blocks of a run over these files. Returns `Err` if memory runs out.
 fn costs_of(alloc: Global, over: Over) -> Result<Costs, AllocError> {
     let plan = over.plan;
     let objects = plan.objects();
@@ -194,7 +194,7 @@ fn costs_of(alloc: Global, over: Over) -> Result<Costs, AllocError> {
     Ok(costs)
 }
 
-// How many processors there are for this process; the most where the system does not tell.
+// Returns how many processors this process may use, or 255 if the system does not tell.
 fn processors<R: Threads>(rt: &R) -> u8
     ensures { 0 < result }
 {
@@ -204,10 +204,11 @@ fn processors<R: Threads>(rt: &R) -> u8
     }
 }
 
-/// How many hands a run over files has that may have so many workers, at least 1. With a read source it is what [`team_size`] says, since
-/// the poller may hold worker 0. Else it is the number that an estimate over works and queues finds quickest, at most that and the number
-/// of processors. It is 1 unless a team saves a tenth of what the works take by one, so it is 1 where no work lasts a microsecond, and where
-/// there is no memory for the estimate. That it is the quickest is no clause.
+/// Returns how many hands [`crate::run_workers`] makes for at most so many workers, at least 1 (this project's own rule).
+///
+/// If the plan has a read source, the poller may hold worker 0, so the answer is [`team_size`]. Otherwise it is the number of hands that an
+/// estimate over works and queues finds fastest, at most `team_size` and the number of processors. The answer is 1 if no team saves a tenth
+/// of the time that one hand takes, if no work lasts a microsecond, or if memory runs out. No clause says that the estimate is right.
 pub fn hands_worth<R: Threads>(rt: &R, alloc: Global, over: Over, workers: u8) -> u8
     requires { 0 < workers }
     ensures some { 0 < result }
