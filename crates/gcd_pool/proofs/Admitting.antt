@@ -111,11 +111,12 @@ module _ {S X : Type 0} (gives : S → ℕ → Type 0) (sent : X → ℕ → Typ
   all_begin : (v : View S) (jobs : List X) (s : ℕ) → AreTakenFor gives sent v jobs s → BeginWithTaken gives sent v jobs s
   all_begin v jobs s taken = record { front = jobs; rest = []; split = sym (append-nil jobs); taken = taken }
 
-  -- before the first event, where nothing was taken
-  pub none_admitted : (v : View S) (i : IntakeView X) → v.seen ≡ [] → i.taken ≡ [] → Admitted gives sent f v i
-  none_admitted v i unseen untaken =
-      let none : (s : ℕ) → blocks_of_sender v.seen s ≡ [] = λ s. ap (λ (h : List Event). blocks_of_sender h s) unseen in
-      let unshut : list_any shuts v.seen ≡ false = ap (list_any shuts) unseen in
+  -- before the first event of outside callers, where nothing was taken
+  pub none_admitted : (v : View S) (i : IntakeView X) → list_any is_of_callers v.seen ≡ false → i.taken ≡ [] → Admitted gives sent f v i
+  none_admitted v i uncalled untaken =
+      let added : AddsNoCall [] v.seen = record { rest = v.seen; split = refl; none = uncalled } in
+      let none : (s : ℕ) → blocks_of_sender v.seen s ≡ [] = λ s. blocks_same [] v.seen s added in
+      let unshut : list_any shuts v.seen ≡ false = shut_same [] v.seen added in
       let all : (s : ℕ) → AreTakenFor gives sent v (jobs_of s i.taken) s = λ s.
       subst (λ (l : List X). AllZip (IsTakenFor gives sent v) l (blocks_of_sender v.seen s)) (sym (ap (jobs_of s) untaken))
       (subst (λ (l : List Blk). AllZip (IsTakenFor gives sent v) [] l) (sym (none s)) tt) in

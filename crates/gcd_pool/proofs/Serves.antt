@@ -1,13 +1,12 @@
 -- What a hand is after its pass or its bench has gone on.
-use Rattle.std.proofs.Common.{◌≡◌, ℕ, ◌≤◌, List, [], length, take, sym, refl, ap, ◌∙◌, subst}
+use Rattle.std.proofs.Common.{◌≡◌, ℕ, ◌≤◌, List, length, None, sym, refl, ap, ◌∙◌, subst}
 use Rattle.gcd_plan.specs.PlanView.{PlanView}
 use Rattle.gcd_event.specs.declared.event.Event.{Event}
 use Rattle.gcd_history.specs.Ends.{HasEnded}
 use Rattle.gcd_machine.specs.Stands.{StandsFor}
-use Rattle.gcd_history.specs.Team.{of_worker}
 use Rattle.gcd_row.specs.Shapes.{Shape}
 use Rattle.gcd_row.specs.Passes.{IsPassOf, Looks, slots, terms_of, view, machine_of}
-use Rattle.gcd_row.specs.Views.{knowing}
+use Rattle.gcd_row.specs.Views.{held_run, knowing}
 use Rattle.gcd_row.specs.declared.pass.RowPass.{RowPass}
 use Rattle.gcd_row.specs.declared.view.Terms.{Terms}
 use Rattle.gcd_row.specs.declared.view.View.{View}
@@ -16,7 +15,6 @@ use Rattle.gcd_row.specs.declared.board.RowBoard.{RowBoard}
 use Rattle.gcd_steal.specs.declared.bench.Bench.{Bench}
 use Rattle.gcd_steal.specs.declared.bench.Rack.{Rack}
 use Rattle.gcd_row.proofs.Gathered.{gathered_on}
-use Rattle.gcd_row.proofs.Holding.{holds_nothing}
 use Rattle.gcd_row.proofs.Running.{none_some}
 use Rattle.gcd_pool.specs.Duties.{HasExit}
 use Rattle.gcd_pool.specs.declared.duty.Exit.{Exit}
@@ -98,11 +96,9 @@ module _ {S : Type 0} (shape : S → Shape) (gives : S → ℕ → Type 0) (pool
   pub passing_ready : (a b : Hand S) → Serving shape gives pool a b → view b.pass ≡ knowing (view a.pass) (view a.pass).seen (view b.pass).marks → slots b.pass ≡ slots a.pass → IsFresh shape (view a.pass) (slots a.pass) → IsReady shape gives pool b
   passing_ready a b serving is same fresh = record { of = serving.of; fresh = passing_fresh a.pass b.pass is same fresh }
 
-  -- a worker that has no event yet
-  pub new_hand : (a : Hand S) → IsPool pool → IsPassOf shape gives pool.board.now a.pass → IsBenchOf pool.rack.now a.bench → of_worker (view a.pass).worker (view a.pass).seen ≡ [] → ((view a.pass).worker ≡ 0 → (view a.pass).marks.passed ≡ 0)
-      → a.journal.items ≡ [] → IsReady shape gives pool a
-  new_hand a is pass bench none passed empty =
-      let v = view a.pass in
+  -- a worker that holds no run
+  pub new_hand : (a : Hand S) → IsPool pool → IsPassOf shape gives pool.board.now a.pass → IsBenchOf pool.rack.now a.bench → held_run (view a.pass) ≡ None → IsGatheredBy (view a.pass) a.journal.items → IsReady shape gives pool a
+  new_hand a is pass bench none gathered =
       record {
         of = record {
           pass = pass;
@@ -110,9 +106,9 @@ module _ {S : Type 0} (shape : S → Shape) (gives : S → ℕ → Type 0) (pool
           rack = subst (λ (t : Terms S). plan_of pool.rack.now ≡ t.plan) (sym pass.terms) is.rack;
           plan = subst (λ (t : Terms S). pool.plan.now ≡ t.plan) (sym pass.terms) is.plan;
           cells = subst (λ (t : Terms S). length t.plan.blocks ≤ length t.cells) (sym pass.terms) is.cells;
-          gathered = λ head. empty ∙ ap (λ (n : ℕ). take n v.seen) (sym (passed head));
+          gathered = gathered;
         };
-        fresh = λ r c held here. absurd (none_some _ r (holds_nothing v.terms.plan v.seen v.worker none) held);
+        fresh = λ r c held here. absurd (none_some _ r none held);
       }
 
 -- ## Two pools of the same board, rack and plan

@@ -1,15 +1,14 @@
 // What workers share, and what each of them has.
-ghost use Rattle.std.specs.Prelude.{◌≡◌, true, []};
-ghost use Rattle.gcd_history.specs.Team.{of_worker};
+ghost use Rattle.std.specs.Prelude.{◌≡◌, true, None};
 ghost use Rattle.gcd_row.specs.Passes.{IsPassOf, view};
 ghost use Rattle.gcd_steal.specs.Racks.{IsBenchOf};
-ghost use Rattle.gcd_pool.specs.Hands.{IsPool, IsReady, IsSamePool};
+ghost use Rattle.gcd_row.specs.Views.{held_run};
+ghost use Rattle.gcd_pool.specs.Hands.{IsGatheredBy, IsPool, IsReady, IsSamePool};
 
 use gcd_event::Entry;
 use gcd_plan::Plan;
 use gcd_row::{RowBoard, RowPass, Slot};
 use gcd_steal::{Bench, Rack};
-use std::alloc::Global;
 use std::sync::atomic::{AtomicBool, AtomicU64, Ordering};
 
 // The bit of a worker, 0 to 63.
@@ -68,21 +67,21 @@ impl<'a, S: Slot> Pool<'a, S> {
         }
     }
 
-    /// The hand of a worker that has no event yet. Conditions: the pass is of the pool's board, the bench of its rack, and both are of its
-    /// plan; and worker 0's pass has passed nothing on, so its journal is empty.
-    pub fn hand(&self, alloc: Global, pass: RowPass<S>, bench: Bench) -> Hand<S>
+    /// The hand of a worker that holds no run. Conditions: the pass is of the pool's board, the bench of its rack, and both are of its plan;
+    /// and worker 0's journal is what its pass has seen up to its passed word. A helper's journal is not read.
+    pub fn hand(&self, pass: RowPass<S>, bench: Bench, journal: Vec<Entry>) -> Hand<S>
         requires pool { IsPool self.now }
         requires pass { IsPassOf S.shape S.gives self.now.board.now pass }
         requires bench { IsBenchOf self.now.rack.now bench }
-        requires none { of_worker (view pass).worker (view pass).seen ≡ [] }
-        requires passed { (view pass).worker ≡ 0 → (view pass).marks.passed ≡ 0 }
+        requires none { held_run (view pass) ≡ None }
+        requires gathered { IsGatheredBy (view pass) journal.items }
         ensures ready { IsReady S.shape S.gives self.now result }
-        ensures parts { (result.pass ≡ pass) × (result.bench ≡ bench) × (result.journal.items ≡ []) }
+        ensures parts { (result.pass ≡ pass) × (result.bench ≡ bench) × (result.journal ≡ journal) }
     {
         Hand {
             pass,
             bench,
-            journal: Vec::new(alloc),
+            journal,
         }
     }
 

@@ -17,6 +17,7 @@ pub mod Keeping
 pub mod Laying
 pub mod Onward
 pub mod Passing
+pub mod Filling
 pub mod Beginning
 pub mod FirstCells
 pub mod Ending

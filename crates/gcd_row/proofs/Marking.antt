@@ -52,13 +52,13 @@ module _ {S : Type 0} (t : Terms S) (log next : List Event) (words after : List 
   stands : get_elem? later id ≡ some w
   stands = set_here views id w (in_range views id v at)
 
-  rests_mine : Rests after later v.worker
+  rests_mine : Rests t.opened after later v.worker
   rests_mine = ⊎_elim (λ (is : w.marks.passed ≡ gone). inl (g.mine ∙ is)) (λ (le : w.marks.passed ≤ length w.seen). inr (inr (id, w, stands, g.spent, g.worker, omega (arith, g.mine, le)))) g.rests
 
-  rests_other : (n : ℕ) → n ≢ v.worker → Rests words views n → Rests after later n
+  rests_other : (n : ℕ) → n ≢ v.worker → Rests t.opened words views n → Rests t.opened after later n
   rests_other n ne r = ⊎_elim (λ (is : passed_word words n ≡ gone). inl (g.others n ne ∙ is))
-      (λ (r : (passed_word words n ≡ 0) ⊎ ((by : ℕ) × (u : View S) × (get_elem? views by ≡ some u) × (u.spent ≡ false) × (u.worker ≡ n) × (passed_word words n ≤ length u.seen))).
-      ⊎_elim (λ (is : passed_word words n ≡ 0). inr (inl (g.others n ne ∙ is)))
+      (λ (r : (passed_word words n ≡ t.opened) ⊎ ((by : ℕ) × (u : View S) × (get_elem? views by ≡ some u) × (u.spent ≡ false) × (u.worker ≡ n) × (passed_word words n ≤ length u.seen))).
+      ⊎_elim (λ (is : passed_word words n ≡ t.opened). inr (inl (g.others n ne ∙ is)))
       (λ (o : (by : ℕ) × (u : View S) × (get_elem? views by ≡ some u) × (u.spent ≡ false) × (u.worker ≡ n) × (passed_word words n ≤ length u.seen)).
       let not_me : o.0 ≢ id = λ is. ne (sym o.4 ∙ ap (λ (x : View S). x.worker) (at_once views id o.1 v (subst (λ (m : ℕ). get_elem? views m ≡ some o.1) is o.2) at)) in
       inr (inr (o.0, o.1, set_else views id o.0 w not_me ∙ o.2, o.3, o.4, omega (arith, g.others n ne, o.5))))
@@ -69,7 +69,7 @@ module _ {S : Type 0} (t : Terms S) (log next : List Event) (words after : List 
   moved = record {
     slow = g.slow;
     rests = λ n lt. dite (ℕ_discrete n v.worker)
-        (λ is. subst (Rests after later) (sym is) rests_mine)
+        (λ is. subst (Rests t.opened after later) (sym is) rests_mine)
         (λ ne. rests_other n ne (p.rests n lt));
     mine = λ j u e live. cases (passed_word after u.worker ≡ u.marks.passed) j u e
         (λ _ is. subst (λ (x : View S). passed_word after x.worker ≡ x.marks.passed) is (ap (passed_word after) g.worker ∙ g.mine))
@@ -77,7 +77,7 @@ module _ {S : Type 0} (t : Terms S) (log next : List Event) (words after : List 
     pair = λ j u e n lt. cases (u.marks.floor ≤ passed_word after n) j u e
         (λ _ is. subst (λ (x : View S). x.marks.floor ≤ passed_word after n) is (g.pair n (subst (λ (x : View S). n < x.marks.upto) (sym is) lt)))
         (λ _ was. let old = p.pair j u was n lt in omega (arith, old, grown_word n));
-    begin = λ j u e live zero_is n nz below unused. cases (passed_word after n ≡ 0) j u e
+    begin = λ j u e live zero_is n nz below unused. cases (passed_word after n ≡ t.opened) j u e
         (λ _ is. let number : v.worker ≡ 0 = sym g.worker ∙ ap (λ (x : View S). x.worker) is ∙ zero_is in
         g.others n (λ same. nz (same ∙ number)) ∙ p.begin id v at g.live number n nz below (ap (λ (l : List (ℕ × Standing)). standing_of l n) (sym g.hands) ∙ ap (λ (x : View S). standing_of x.hands n) is ∙ unused))
         (λ ne was. g.others n (λ same. out_not_none (standing_of u.hands n) (ap (standing_of u.hands) same ∙ (k.head j u was live zero_is).out id v at g.live (λ is. nz (same ∙ is))) unused) ∙ p.begin j u was live zero_is n nz below unused);

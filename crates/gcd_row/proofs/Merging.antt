@@ -50,26 +50,28 @@ module _ {S : Type 0} (shape : S → Shape) (gives : S → ℕ → Type 0) (b : 
     upto = upto ∙ is.upto ∙ sym (ap (λ (x : View S). x.marks.upto) now);
     beneath = same_beneath p.beneath q.beneath (view p).seen (view q).seen is.beneath beneath (ap (λ (x : View S). x.seen) now);
     few = subst (λ (x : View S). length x.seen ≤ x.terms.limits.most) (sym now) is.few;
+    began = subst (λ (x : View S). x.terms.opened ≤ length x.seen) (sym now) is.began;
     has = subst (λ (x : View S). HasSlots shape gives (held_jobs x) x.seen (held_run x) (slots q)) (sym now) (subst (HasSlots shape gives (held_jobs (view p)) (view p).seen (held_run (view p))) (sym has) is.has);
     back = subst (λ (x : View S). IsBack x.handed.next) (sym now) is.back;
     stands = subst (λ (x : View S). StandsFor q.machine x.terms.plan x.seen) (sym now) (subst (λ m. StandsFor m (view p).terms.plan (view p).seen) (sym machine) is.stands);
   }
 
   -- a pass that was split off
-  pub new_pass : (p q : RowPass S) (w : ℕ) → IsPassOf shape gives b p → of_worker w (view p).seen ≡ [] → q.seat.table_id ≡ p.seat.table_id → q.seat.me ≡ (newcomer (view p) w, []) → q.number ≡ w → q.machine ≡ p.machine → w < 64 → q.passed ≡ 0 → q.floor ≡ p.floor → q.upto ≡ p.upto → q.beneath ≡ p.beneath → IsPassOf shape gives b q
+  pub new_pass : (p q : RowPass S) (w : ℕ) → IsPassOf shape gives b p → of_worker w (view p).seen ≡ [] → q.seat.table_id ≡ p.seat.table_id → q.seat.me ≡ (newcomer (view p) w, []) → q.number ≡ w → q.machine ≡ p.machine → w < 64 → q.passed ≡ (view p).terms.opened → q.floor ≡ p.floor → q.upto ≡ p.upto → q.beneath ≡ p.beneath → IsPassOf shape gives b q
   new_pass p q w is none table me number machine low own floor upto beneath =
       let now : view q ≡ newcomer (view p) w = ap (λ (m : View S × List (ℕ × S)). m.0) me in
       let empty : slots q ≡ [] = ap (λ (m : View S × List (ℕ × S)). m.1) me in
       record {
         table = table ∙ is.table;
         terms = ap (λ (x : View S). x.terms) now ∙ is.terms;
-        may_read = subst (λ (x : View S). MayRead x) (sym now) (record { unspent = refl; number = low; passed = omega arith });
+        may_read = subst (λ (x : View S). MayRead x) (sym now) (record { unspent = refl; number = low; passed = is.began });
         number = number ∙ sym (ap (λ (x : View S). x.worker) now);
         passed = own ∙ sym (ap (λ (x : View S). x.marks.passed) now);
         floor = floor ∙ is.floor ∙ sym (ap (λ (x : View S). x.marks.floor) now);
         upto = upto ∙ is.upto ∙ sym (ap (λ (x : View S). x.marks.upto) now);
         beneath = same_beneath p.beneath q.beneath (view p).seen (view q).seen is.beneath beneath (ap (λ (x : View S). x.seen) now);
         few = subst (λ (x : View S). length x.seen ≤ x.terms.limits.most) (sym now) is.few;
+        began = subst (λ (x : View S). x.terms.opened ≤ length x.seen) (sym now) is.began;
         back = subst (λ (x : View S). IsBack x.handed.next) (sym now) tt;
         has = subst (λ (x : View S). HasSlots shape gives (held_jobs x) x.seen (held_run x) (slots q)) (sym now)
             (subst (λ (o : Option Run). HasSlots shape gives (held_jobs (newcomer (view p) w)) (view p).seen o (slots q)) (sym (holds_nothing (view p).terms.plan (view p).seen w none)) empty);
@@ -99,6 +101,7 @@ module _ {S : Type 0} (shape : S → Shape) (gives : S → ℕ → Type 0) (b : 
         upto = upto ∙ is.upto ∙ sym (ap (λ (x : View S). x.marks.upto) now);
         beneath = nothing_beneath q.beneath (map word_of (view q).seen) beneath;
         few = subst (λ (x : View S). length x.seen ≤ x.terms.limits.most) (sym now) (few_longer v.terms.limits.most v.seen (view o).seen is.few (subst (λ (q : Terms S). length (view o).seen ≤ q.limits.most) (other.terms ∙ sym is.terms) other.few));
+        began = subst (λ (x : View S). x.terms.opened ≤ length x.seen) (sym now) (omega (arith, is.began, starts_length h v.seen ahead.more));
         back = subst (λ (x : View S). IsBack x.handed.next) (sym now) is.back;
         has = subst (λ (x : View S). HasSlots shape gives (held_jobs x) x.seen (held_run x) (slots q)) (sym now)
             (subst (HasSlots shape gives (held_jobs v) h (held_by v.terms.plan h v.worker)) (sym has)

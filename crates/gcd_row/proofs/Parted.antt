@@ -49,9 +49,9 @@ module _ {S : Type 0} (t : Terms S) (log : List Event) (words : List ℕ) (views
   abbrev Witness : List (View S) → ℕ → Type 0
   Witness vs m = (by : ℕ) × (u : View S) × (get_elem? vs by ≡ some u) × (u.spent ≡ false) × (u.worker ≡ m) × (passed_word words m ≤ length u.seen)
 
-  cut_rests : (m : ℕ) → Rests words views m → Rests words cut m
+  cut_rests : (m : ℕ) → Rests t.opened words views m → Rests t.opened words cut m
   cut_rests m r = ⊎_elim (λ (is : passed_word words m ≡ gone). inl is)
-      (λ (r : (passed_word words m ≡ 0) ⊎ Witness views m). ⊎_elim (λ (is : passed_word words m ≡ 0). inr (inl is))
+      (λ (r : (passed_word words m ≡ t.opened) ⊎ Witness views m). ⊎_elim (λ (is : passed_word words m ≡ t.opened). inr (inl is))
       (λ (o : Witness views m). dite (ℕ_discrete o.0 id)
       (λ is. let mine : o.1 ≡ v = at_once views id o.1 v (subst (λ (x : ℕ). get_elem? views x ≡ some o.1) is o.2) at in
       inr (inr (id, lending v n, here_now, live, ap (λ (x : View S). x.worker) (sym mine) ∙ o.4, subst (λ (x : View S). passed_word words m ≤ length x.seen) mine o.5)))
@@ -65,13 +65,13 @@ module _ {S : Type 0} (t : Terms S) (log : List Event) (words : List ℕ) (views
     rests = λ m lt. cut_rests m (p.rests m lt);
     mine = λ j u e alive. cases (passed_word words u.worker ≡ u.marks.passed) j u e
         (λ _ is. subst (λ (x : View S). passed_word words x.worker ≡ x.marks.passed) is (p.mine id v at live))
-        (λ _ is. subst (λ (x : View S). passed_word words x.worker ≡ x.marks.passed) is (p.begin id v at live head_is n not_zero below unused))
+        (λ _ is. subst (λ (x : View S). passed_word words x.worker ≡ x.marks.passed) is (p.begin id v at live head_is n not_zero below unused ∙ ap (λ (x : Terms S). x.opened) (sym (k.fits id v at live).terms)))
         (λ _ was. p.mine j u was alive);
     pair = λ j u e m lt. cases (u.marks.floor ≤ passed_word words m) j u e
         (λ _ is. subst (λ (x : View S). x.marks.floor ≤ passed_word words m) is (p.pair id v at m (subst (λ (x : View S). m < x.marks.upto) (sym is) lt)))
         (λ _ is. subst (λ (x : View S). x.marks.floor ≤ passed_word words m) is (p.pair id v at m (subst (λ (x : View S). m < x.marks.upto) (sym is) lt)))
         (λ _ was. p.pair j u was m lt);
-    begin = λ j u e alive zero_is m nz low none. cases (passed_word words m ≡ 0) j u e
+    begin = λ j u e alive zero_is m nz low none. cases (passed_word words m ≡ t.opened) j u e
         (λ _ is. p.begin id v at live head_is m nz low (standing_less v.hands n Out m (ap (λ (x : View S). standing_of x.hands m) is ∙ none)))
         (λ _ is. absurd (not_zero (ap (λ (x : View S). x.worker) is ∙ zero_is)))
         (λ ne was. absurd (not_head j u ne was alive zero_is));
@@ -113,9 +113,9 @@ module _ {S : Type 0} (t : Terms S) (log : List Event) (words : List ℕ) (views
   abbrev Witness2 : List (View S) → ℕ → Type 0
   Witness2 vs m = (by : ℕ) × (x : View S) × (get_elem? vs by ≡ some x) × (x.spent ≡ false) × (x.worker ≡ m) × (passed_word words m ≤ length x.seen)
 
-  join_rests : (m : ℕ) → Rests words views m → Rests words joined m
+  join_rests : (m : ℕ) → Rests t.opened words views m → Rests t.opened words joined m
   join_rests m r = ⊎_elim (λ (is : passed_word words m ≡ gone). inl is)
-      (λ (r : (passed_word words m ≡ 0) ⊎ Witness2 views m). ⊎_elim (λ (is : passed_word words m ≡ 0). inr (inl is))
+      (λ (r : (passed_word words m ≡ t.opened) ⊎ Witness2 views m). ⊎_elim (λ (is : passed_word words m ≡ t.opened). inr (inl is))
       (λ (o : Witness2 views m). dite (ℕ_discrete o.0 id)
       (λ is. let mine : o.1 ≡ v = at_once views id o.1 v (subst (λ (x : ℕ). get_elem? views x ≡ some o.1) is o.2) at in
       let le : passed_word words m ≤ length v.seen = subst (λ (x : View S). passed_word words m ≤ length x.seen) mine o.5 in
@@ -138,7 +138,7 @@ module _ {S : Type 0} (t : Terms S) (log : List Event) (words : List ℕ) (views
         (λ is. subst (λ (y : View S). y.marks.floor ≤ passed_word words m) is (omega arith))
         (λ _ is. subst (λ (y : View S). y.marks.floor ≤ passed_word words m) is (p.pair id v at m (subst (λ (y : View S). m < y.marks.upto) (sym is) lt)))
         (λ _ _ was. p.pair j x was m lt);
-    begin = λ j x e fine zero_is m nz low none. alive_which (passed_word words m ≡ 0) j x e fine
+    begin = λ j x e fine zero_is m nz low none. alive_which (passed_word words m ≡ t.opened) j x e fine
         (λ _ is. p.begin id v at live head_is m nz low (other_unused m (ap (λ (y : View S). standing_of y.hands m) is ∙ none)))
         (λ ne _ was. absurd (other_head j x ne was fine zero_is));
     beyond = p.beyond;
@@ -153,13 +153,13 @@ noted_passed {S} t log words views x p gone_now none =
     record {
       slow = p.slow;
       rests = λ m lt. ⊎_elim (λ (is : passed_word words m ≡ gone). inl is)
-          (λ (r : (passed_word words m ≡ 0) ⊎ ((by : ℕ) × (u : View S) × (get_elem? views by ≡ some u) × (u.spent ≡ false) × (u.worker ≡ m) × (passed_word words m ≤ length u.seen))).
-          ⊎_elim (λ (is : passed_word words m ≡ 0). inr (inl is))
+          (λ (r : (passed_word words m ≡ t.opened) ⊎ ((by : ℕ) × (u : View S) × (get_elem? views by ≡ some u) × (u.spent ≡ false) × (u.worker ≡ m) × (passed_word words m ≤ length u.seen))).
+          ⊎_elim (λ (is : passed_word words m ≡ t.opened). inr (inl is))
           (λ (o : (by : ℕ) × (u : View S) × (get_elem? views by ≡ some u) × (u.spent ≡ false) × (u.worker ≡ m) × (passed_word words m ≤ length u.seen)). inr (inr (o.0, o.1, at_longer views (x ∷ []) o.0 o.1 o.2, o.3, o.4, o.5))) r)
           (p.rests m lt);
       mine = λ j u e alive. cases (passed_word words u.worker ≡ u.marks.passed) j u e (λ is. dead (passed_word words u.worker ≡ u.marks.passed) u is alive) (λ was. p.mine j u was alive);
       pair = λ j u e m lt. cases (u.marks.floor ≤ passed_word words m) j u e (λ is. absurd (omega (arith, none, subst (λ (y : View S). m < y.marks.upto) (sym is) lt))) (λ was. p.pair j u was m lt);
-      begin = λ j u e alive zero_is m nz low free. cases (passed_word words m ≡ 0) j u e (λ is. dead (passed_word words m ≡ 0) u is alive) (λ was. p.begin j u was alive zero_is m nz low free);
+      begin = λ j u e alive zero_is m nz low free. cases (passed_word words m ≡ t.opened) j u e (λ is. dead (passed_word words m ≡ t.opened) u is alive) (λ was. p.begin j u was alive zero_is m nz low free);
       beyond = p.beyond;
     }
 
@@ -173,13 +173,13 @@ wiped_passed {S} t log words views far u p at gone_now =
     record {
       slow = p.slow;
       rests = λ m lt. ⊎_elim (λ (is : passed_word words m ≡ gone). inl is)
-          (λ (r : (passed_word words m ≡ 0) ⊎ ((by : ℕ) × (x : View S) × (get_elem? views by ≡ some x) × (x.spent ≡ false) × (x.worker ≡ m) × (passed_word words m ≤ length x.seen))).
-          ⊎_elim (λ (is : passed_word words m ≡ 0). inr (inl is))
+          (λ (r : (passed_word words m ≡ t.opened) ⊎ ((by : ℕ) × (x : View S) × (get_elem? views by ≡ some x) × (x.spent ≡ false) × (x.worker ≡ m) × (passed_word words m ≤ length x.seen))).
+          ⊎_elim (λ (is : passed_word words m ≡ t.opened). inr (inl is))
           (λ (o : (by : ℕ) × (x : View S) × (get_elem? views by ≡ some x) × (x.spent ≡ false) × (x.worker ≡ m) × (passed_word words m ≤ length x.seen)).
           inr (inr (o.0, o.1, set_else views far o.0 spent_view (λ is. both_ways u.spent (ap (λ (y : View S). y.spent) (at_once views far u o.1 at (subst (λ (n : ℕ). get_elem? views n ≡ some o.1) is o.2)) ∙ o.3) gone_now) ∙ o.2, o.3, o.4, o.5))) r)
           (p.rests m lt);
       mine = λ j x e alive. cases (passed_word words x.worker ≡ x.marks.passed) j x e (λ is. dead (passed_word words x.worker ≡ x.marks.passed) x is alive) (λ was. p.mine j x was alive);
       pair = λ j x e m lt. cases (x.marks.floor ≤ passed_word words m) j x e (λ is. subst (λ (y : View S). y.marks.floor ≤ passed_word words m) is (omega arith)) (λ was. p.pair j x was m lt);
-      begin = λ j x e alive zero_is m nz low free. cases (passed_word words m ≡ 0) j x e (λ is. dead (passed_word words m ≡ 0) x is alive) (λ was. p.begin j x was alive zero_is m nz low free);
+      begin = λ j x e alive zero_is m nz low free. cases (passed_word words m ≡ t.opened) j x e (λ is. dead (passed_word words m ≡ t.opened) x is alive) (λ was. p.begin j x was alive zero_is m nz low free);
       beyond = p.beyond;
     }

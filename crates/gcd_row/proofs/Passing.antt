@@ -69,6 +69,7 @@ module _ {S : Type 0} (shape : S → Shape) (gives : S → ℕ → Type 0) (b : 
     upto = words.upto ∙ is.upto ∙ sym (ap (λ (x : View S). x.marks.upto) now);
     beneath = nothing_beneath q.beneath (map word_of (view q).seen) words.beneath;
     few = subst (λ (x : View S). length x.seen ≤ x.terms.limits.most) (sym now) (omega (arith, room, length-append (view p).seen (e ∷ [])));
+    began = subst (λ (x : View S). x.terms.opened ≤ length x.seen) (sym now) (omega (arith, is.began, length-append (view p).seen (e ∷ [])));
     has = subst (λ (x : View S). HasSlots shape gives (held_jobs x) x.seen (held_run x) (slots q)) (sym now) has;
     back = subst (λ (x : View S). IsBack x.handed.next) (sym now) back;
     stands = subst (λ (x : View S). StandsFor q.machine x.terms.plan x.seen) (sym now) stands;

@@ -7,7 +7,7 @@ pub mod Jobs
 pub mod Lying
 pub mod Views
 pub mod Ring
-pub mod Opening
 pub mod Rule
 pub mod Plays
 pub mod Passes
+pub mod Opening

@@ -1,5 +1,6 @@
--- What lies in the slots of a new board.
-use Rattle.std.specs.Prelude.{◌≡◌, ℕ, List, [], ◌∷◌, ◌++◌, length, map, filter, drop, if◌then◌else◌, All}
+-- What lies in the slots of a board at first, and what its row may begin with.
+use Rattle.std.specs.Prelude.{◌≡◌, ◌≢◌, ◌≤◌, ℕ, false, None, List, [], ◌∷◌, ◌++◌, length, map, filter, drop, if◌then◌else◌, All}
+use Rattle.std.specs.List.{list_any}
 use mathlib.Core.Option.{some}
 use lib.ListN.{get_elem?}
 use Rattle.gcd_plan.specs.PlanView.{PlanView, ObjView, IsRun}
@@ -7,11 +8,19 @@ use Rattle.gcd_plan.specs.Kinds.{is_source_kind}
 use Rattle.gcd_plan.specs.declared.kind.Kind.{Kind}
 use Rattle.gcd_plan.specs.declared.numbers.Run.{Run}
 use Rattle.gcd_plan.specs.declared.numbers.Run.TheVariants.{Block, Source}
+use Rattle.gcd_event.specs.declared.event.Event.{Event}
+use Rattle.gcd_history.specs.History.{IsLawful}
+use Rattle.gcd_history.specs.Intake.{accepts}
+use Rattle.gcd_history.specs.Team.{held_by, of_worker}
 use Rattle.gcd_jobs.specs.declared.tally.Tally.{Tally}
 use Rattle.gcd_row.specs.Shapes.{Shape, body}
+use Rattle.gcd_row.specs.Jobs.{jobs_of}
 use Rattle.gcd_row.specs.Lying.{slots_of, slot_of, source_shape}
+use Rattle.gcd_row.specs.Passes.{AtRest}
 use Rattle.gcd_row.specs.declared.cell.Cell.{Cell}
 use Rattle.gcd_row.specs.declared.cell.Cell.TheVariants.{Body, Handler, Away}
+use Rattle.gcd_row.specs.declared.view.Limits.{Limits}
+use Rattle.gcd_row.specs.declared.view.Terms.{Terms}
 
 -- one handler for each source, by number, of its kind, which has not been called yet
 pub record AreHandlersOf {H : Type 0} (kind : H → Kind) (times total : H → ℕ) (plan : PlanView) (handlers : List H) : Type 0 where
@@ -47,3 +56,17 @@ first_shape plan (Source s) = source_shape plan [] s.0
 pub record AreFirst {S : Type 0} (shape : S → Shape) (plan : PlanView) (cells : List S) : Type 0 where
   pub width : length cells ≡ slots_of plan
   pub first : (r : Run) → IsRun plan r → (c : S) × (get_elem? cells (slot_of plan r) ≡ some c) × (shape c ≡ first_shape plan r)
+
+-- the terms of a board of this plan, these cells and these limits, whose row begins with so many events
+abbrev pub terms_with : {S : Type 0} → PlanView → List S → Limits → ℕ → Terms S
+terms_with plan cells limits n = record { plan = plan; cells = cells; limits = limits; opened = n }
+
+-- the row may begin with this history: its events are worker 0's or of the outside, worker 0 holds no run, no block of the intake was
+-- accepted, and in each slot lies what lies there after them
+pub record Opens {S : Type 0} (shape : S → Shape) (gives : S → ℕ → Type 0) (t : Terms S) (h : List Event) : Type 0 where
+  pub lawful : IsLawful t.plan h
+  pub room : length h ≤ t.limits.most
+  pub others : (w : ℕ) → w ≢ 0 → of_worker w h ≡ []
+  pub holds_none : held_by t.plan h 0 ≡ None
+  pub accepts_none : (b : ℕ) → list_any (accepts b) h ≡ false
+  pub cells : AtRest shape gives (jobs_of t (λ b. None)) h t.cells

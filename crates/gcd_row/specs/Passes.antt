@@ -67,6 +67,7 @@ module _ {S : Type 0} where
     pub upto : p.upto ≡ (view p).marks.upto
     pub beneath : IfSome p.beneath (λ x. x ≡ under (map word_of (view p).seen))
     pub few : length (view p).seen ≤ (view p).terms.limits.most
+    pub began : (view p).terms.opened ≤ length (view p).seen
     pub has : HasSlots shape gives (held_jobs (view p)) (view p).seen (held_run (view p)) (slots p)
     pub back : IsBack (view p).handed.next
     pub stands : StandsFor (machine_of p) (view p).terms.plan (view p).seen

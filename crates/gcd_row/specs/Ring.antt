@@ -1,5 +1,5 @@
 -- The words of a ring: 4,096 cells in which events stand, and the passed words of 64 workers behind them.
-use Rattle.std.specs.Prelude.{◌≡◌, ◌==◌, ℕ, suc, ◌+◌, ◌-◌, ◌*◌, ◌/◌, ◌%◌, ◌<◌, ◌≤◌, Bool, false, cond, nat_lt, List, length, slice_index}
+use Rattle.std.specs.Prelude.{◌≡◌, ◌≢◌, ◌==◌, ℕ, suc, ◌+◌, ◌-◌, ◌*◌, ◌/◌, ◌%◌, ◌<◌, ◌≤◌, Bool, false, cond, nat_lt, List, length, slice_index}
 
 -- how many events it has cells for
 abbrev pub ring : ℕ
@@ -45,10 +45,22 @@ pub record IsRing (most : ℕ) (words h : List ℕ) : Type 0 where
   pub held : (n : ℕ) → n < length h → length h ≤ n + ring → slice_index words (suc (n % ring)) ≡ slice_index h n + lap n
   pub blank : (n : ℕ) → length h ≤ n → n < ring → slice_index words (suc n) ≡ 0
 
--- the words of a new ring
-abbrev pub first_word : ℕ → ℕ → ℕ
-first_word workers i = cond (nat_lt i (passed_words + workers)) 0 gone
+-- the words of a ring that begins with these events: each worker has passed them all
+pub record AreFirstWords (most workers : ℕ) (words h : List ℕ) : Type 0 where
+  pub ring : IsRing most words h
+  pub passed : (k : ℕ) → k < workers → passed_word words k ≡ length h
+  pub beyond : (k : ℕ) → workers ≤ k → k < 64 → passed_word words k ≡ gone
 
-pub record AreFirstWords (workers : ℕ) (words : List ℕ) : Type 0 where
+-- the word at a place of a ring without events, where each worker has passed so many
+abbrev pub blank_word : (workers passed place : ℕ) → ℕ
+blank_word workers passed i = cond (nat_lt i passed_words) 0 (cond (nat_lt i (passed_words + workers)) passed gone)
+
+pub record AreBlank (workers passed : ℕ) (words : List ℕ) : Type 0 where
   pub size : length words ≡ ring_words
-  pub words_at : (i : ℕ) → i < ring_words → slice_index words i ≡ first_word workers i
+  pub words_at : (i : ℕ) → i < ring_words → slice_index words i ≡ blank_word workers passed i
+
+-- the cells of the events from `first` up to n have their words, and all other places are blank
+pub record HasLap (workers passed : ℕ) (words h : List ℕ) (first n : ℕ) : Type 0 where
+  pub size : length words ≡ ring_words
+  pub held : (i : ℕ) → first ≤ i → i < n → slice_index words (suc (i % ring)) ≡ slice_index h i + lap i
+  pub others : (place : ℕ) → place < ring_words → ((i : ℕ) → first ≤ i → i < n → place ≢ suc (i % ring)) → slice_index words place ≡ blank_word workers passed place

@@ -53,21 +53,21 @@ module _ {S : Type 0} where
     -- some pass has seen all
     pub whole : (by : ℕ) × (v : View S) × (get_elem? views by ≡ some v) × (v.spent ≡ false) × (v.seen ≡ h)
 
-  -- the passed word of worker k is gone, 0, or at most what its pass has seen
-  abbrev pub Rests : List ℕ → List (View S) → ℕ → Type 0
-  Rests words views k = (passed_word words k ≡ gone) ⊎ (passed_word words k ≡ 0) ⊎ ((by : ℕ) × (v : View S) × (get_elem? views by ≡ some v) × (v.spent ≡ false) × (v.worker ≡ k) × (passed_word words k ≤ length v.seen))
+  -- the passed word of worker k is gone, this number of events that the row began with, or at most what its pass has seen
+  abbrev pub Rests : (opened : ℕ) → List ℕ → List (View S) → ℕ → Type 0
+  Rests opened words views k = (passed_word words k ≡ gone) ⊎ (passed_word words k ≡ opened) ⊎ ((by : ℕ) × (v : View S) × (get_elem? views by ≡ some v) × (v.spent ≡ false) × (v.worker ≡ k) × (passed_word words k ≤ length v.seen))
 
   -- the passed words
   pub record PassedWords (t : Terms S) (h : List Event) (words : List ℕ) (views : List (View S)) : Type 0 where
     -- the history is at most a lap longer than each; gone is a number above all lengths
     pub slow : (k : ℕ) → k < 64 → length h ≤ passed_word words k + ring
-    pub rests : (k : ℕ) → k < 64 → Rests words views k
+    pub rests : (k : ℕ) → k < 64 → Rests t.opened words views k
     -- each pass knows its own
     pub mine : (by : ℕ) (v : View S) → get_elem? views by ≡ some v → v.spent ≡ false → passed_word words v.worker ≡ v.marks.passed
     -- and that those below a number are at least another
     pub pair : (by : ℕ) (v : View S) → get_elem? views by ≡ some v → (k : ℕ) → k < v.marks.upto → v.marks.floor ≤ passed_word words k
-    -- that of a number which was not given out is 0, and from the number of workers on they are gone
-    pub begin : (by : ℕ) (v : View S) → get_elem? views by ≡ some v → v.spent ≡ false → v.worker ≡ 0 → (k : ℕ) → k ≢ 0 → k < t.limits.workers → standing_of v.hands k ≡ None → passed_word words k ≡ 0
+    -- that of a number which was not given out is what the row began with, and from the number of workers on they are gone
+    pub begin : (by : ℕ) (v : View S) → get_elem? views by ≡ some v → v.spent ≡ false → v.worker ≡ 0 → (k : ℕ) → k ≢ 0 → k < t.limits.workers → standing_of v.hands k ≡ None → passed_word words k ≡ t.opened
     pub beyond : (k : ℕ) → t.limits.workers ≤ k → k < 64 → passed_word words k ≡ gone
 
   -- worker 0 has the run's slot, to lay a body there: it is that of the next block of the intake

@@ -23,9 +23,9 @@ standing_of (x ∷ xs) w = cond (x.0 == w) (Some x.1) (standing_of xs w)
 abbrev pub longer : List Event → List Event → List Event
 longer a b = cond (nat_lt (length a) (length b)) b a
 
--- what a pass knows of the passed words at first: that they are at least 0
-abbrev pub first_marks : PassMarks
-first_marks = record { passed = 0; floor = 0; upto = 64; loads = 0; held = None }
+-- what a pass knows of the passed words at first: that they are at least this
+abbrev pub first_marks : ℕ → PassMarks
+first_marks n = record { passed = n; floor = n; upto = 64; loads = 0; held = None }
 
 abbrev pub no_marks : PassMarks
 no_marks = record { passed = 0; floor = 0; upto = 0; loads = 0; held = None }
@@ -50,18 +50,22 @@ module _ {S : Type 0} where
   IsBack NextOut = ⊥
   IsBack (Laid c) = Unit {0}
 
-  -- the terms of the plan and the cells that were copied
+  -- the terms of what was copied
   abbrev pub given_terms : Copies S → Terms S
-  given_terms k = record { plan = k.plan.value; cells = k.cells.value.items; limits = k.limits }
+  given_terms k = record { plan = k.plan.value; cells = k.cells.value.items; limits = k.limits; opened = length k.history.value.items }
 
-  -- what worker 0's first pass knows
+  -- what worker 0's first pass knows of a board with these terms whose row begins with this history
+  abbrev pub first_view : Terms S → List Event → View S
+  first_view t h = record { terms = t; spent = false; worker = 0; seen = h; relayed = []; hands = []; marks = first_marks (length h); first = None; handed = none_handed }
+
+  -- the same of what was copied
   abbrev pub opening_view : Copies S → View S
-  opening_view k = record { terms = given_terms k; spent = false; worker = 0; seen = []; relayed = []; hands = []; marks = first_marks; first = None; handed = none_handed }
+  opening_view k = first_view (given_terms k) k.history.value.items
 
   -- what a pass that was joined is left with
   abbrev pub spent_view : View S
   spent_view = record {
-    terms = record { plan = record { objects = []; blocks = []; files = []; until = 0; intake = None; strips = [] }; cells = []; limits = record { workers = 0; most = 0 } };
+    terms = record { plan = record { objects = []; blocks = []; files = []; until = 0; intake = None; strips = [] }; cells = []; limits = record { workers = 0; most = 0 }; opened = 0 };
     spent = true;
     worker = 0;
     seen = [];
@@ -108,9 +112,9 @@ module _ {S : Type 0} where
   abbrev pub lending : View S → ℕ → View S
   lending v w = record { terms = v.terms; spent = v.spent; worker = v.worker; seen = v.seen; relayed = v.relayed; hands = (w, Out) ∷ v.hands; marks = v.marks; first = v.first; handed = v.handed }
 
-  -- the new pass of worker w, which begins with what worker 0's has seen
+  -- the new pass of worker w, which begins with what worker 0's has seen, and has passed what the row began with
   abbrev pub newcomer : View S → ℕ → View S
-  newcomer v w = record { terms = v.terms; spent = false; worker = w; seen = v.seen; relayed = []; hands = []; marks = passing v.marks 0; first = None; handed = none_handed }
+  newcomer v w = record { terms = v.terms; spent = false; worker = w; seen = v.seen; relayed = []; hands = []; marks = passing v.marks v.terms.opened; first = None; handed = none_handed }
 
   -- a pass to which another relayed what it has seen
   abbrev pub hearing : View S → View S → View S

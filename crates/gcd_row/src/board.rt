@@ -1,5 +1,5 @@
 // A board: the row of words that decides, and the slots.
-ghost use Rattle.std.specs.Prelude.{◌≡◌, ◌≤◌, ◌<◌};
+ghost use Rattle.std.specs.Prelude.{◌≡◌, ◌≤◌, ◌<◌, length};
 ghost use Rattle.gcd_row.specs.Ring.{ring_words};
 
 use crate::cell::{Cell, Slot};
@@ -17,8 +17,11 @@ pub type RowTable<S> = Table<S, View<S>, Copies<S>, Lawful, Global>;
 pub struct RowBoard<S: Slot> {
     pub(crate) table: RowTable<S>,
     pub(crate) limits: Limits,
+    // How many events the row began with.
+    pub(crate) opened: u32,
     ghost sized: { table.shared.table_id.words ≡ ring_words },
     ghost same: { limits ≡ table.shared.key.limits },
+    ghost began: { opened ≡ length table.shared.key.history.value.items },
     ghost bounds: { (0 < table.shared.key.limits.workers) × (table.shared.key.limits.workers ≤ 64) × (0 < table.shared.key.limits.most) × (table.shared.key.limits.most < 4294967296) },
 }
 

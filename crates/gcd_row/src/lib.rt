@@ -41,7 +41,8 @@
 //!
 //! | call | answer | clause |
 //! |---|---|---|
-//! | [`RowBoard::new`] | a board with an empty row and worker 0's pass, or out of memory | `AreFirst`, `opening_view` |
+//! | [`RowBoard::new`] | a board with an empty row and worker 0's pass, or out of memory | `AreFirst`, `first_view` |
+//! | [`RowBoard::after`] | a board whose row begins with a history, and worker 0's pass, which has passed it; or cells and machine, where memory runs out | `Opens`, `first_view` |
 //! | [`RowBoard::most`] | how many events the row can have | `Limits` |
 //! | [`RowBoard::look`] | the length of the row at a moment of the call, which the pass has then seen | `Looks` |
 //! | [`RowBoard::put`], [`RowBoard::put_chosen`] | the event is event n; or the row was what the pass has now seen, after which the event is not permitted, with the first reason, or is held, with the lowest worker that has still to pass the event a lap ago; or the row is full | `Says`, `SaysSlots` |
@@ -90,6 +91,7 @@ mod bodies;
 mod calls;
 mod cell;
 mod closing;
+mod first_words;
 mod gathering;
 mod make;
 mod pairs;

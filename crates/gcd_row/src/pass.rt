@@ -126,7 +126,11 @@ impl<S: Slot + Drop> RowPass<S> {
         let Ok(cells) = Vec::with_capacity(alloc, board.table.slot_count()) else {
             return Err((board, self, journal));
         };
-        let RowBoard { table, limits: _ } = board;
+        let RowBoard {
+            table,
+            limits: _,
+            opened: _,
+        } = board;
         let RowPass {
             seat,
             machine,

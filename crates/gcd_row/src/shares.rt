@@ -48,7 +48,7 @@ impl<S: Slot> RowBoard<S> {
         self.table.shared.split_seat::<Cut<N>>(seat)
     }
 
-    /// A pass for a worker, which begins with what worker 0's pass has seen and has passed nothing. Conditions: worker 0's pass is given,
+    /// A pass for a worker, which begins with what worker 0's pass has seen and has passed what the row began with. Conditions: worker 0's pass is given,
     /// and the number, above 0 and below the board's number of workers, was never given out on this board. An `Err` comes only where
     /// memory runs out, and nothing is given out then. It copies the machine.
     pub fn split(
@@ -74,7 +74,7 @@ impl<S: Slot> RowBoard<S> {
             seat,
             machine,
             number: worker,
-            passed: 0,
+            passed: u64::from(self.opened),
             floor: pass.floor,
             upto: pass.upto,
             beneath: pass.beneath,

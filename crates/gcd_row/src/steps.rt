@@ -64,7 +64,7 @@ fn bare(word: u64) -> u64
 
 // The word of event n with its lap bit.
 #[inline(always)]
-fn lapped(word: u64, n: u32) -> u64
+pub(crate) fn lapped(word: u64, n: u32) -> u64
     requires { IsWord word }
     ensures { result ≡ word + lap n }
 {

@@ -1,5 +1,5 @@
 // What a board is made for, and what passes know. Contracts alone read these; no value of `Terms` or `View` is made.
-use gcd_event::Event;
+use gcd_event::{Entry, Event};
 use gcd_plan::Plan;
 use std::collections::LinkedList;
 use std::snapshot::Snapshot;
@@ -11,20 +11,22 @@ pub struct Limits {
     pub most: u32,
 }
 
-/// Copies for contracts of the plan that a board is made for, and of the cells that were in its slots at first. They have no
-/// bytes.
+/// Copies for contracts of the plan that a board is made for, of the cells that were in its slots at first, and of the history that it
+/// begins with. They have no bytes.
 #[derive(Drop)]
 pub struct Copies<S> {
     pub plan: Snapshot<Plan>,
     pub cells: Snapshot<Vec<S>>,
+    pub history: Snapshot<Vec<Entry>>,
     pub limits: Limits,
 }
 
-/// The plan that a board is made for, and the cells that were in its slots at first, by slot.
+/// The plan that a board is made for, the cells that were in its slots at first, by slot, and how many events its row began with.
 pub struct Terms<S> {
     pub plan: Plan,
     pub cells: LinkedList<S>,
     pub limits: Limits,
+    pub opened: u32,
 }
 
 /// Where the pass of a worker's number is that was given out.

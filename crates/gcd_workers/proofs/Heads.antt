@@ -12,7 +12,7 @@ use Rattle.gcd_row.specs.declared.view.Standing.{Standing}
 use Rattle.gcd_row.specs.declared.view.Standing.TheVariants.{Out, Back}
 use Rattle.gcd_row.specs.declared.view.View.{View}
 use Rattle.gcd_row.proofs.Parting.{standing_other, standing_same, back_out}
-use Rattle.gcd_workers.specs.Teams.{AreOut, IsHead, HasLed}
+use Rattle.gcd_workers.specs.Teams.{AreOut, HasLent, IsHead, HasLed}
 use Rattle.gcd_workers.proofs.Places.{none_at}
 
 none_is_home : (o : Option Standing) → o ≡ None → o ≢ Some Out
@@ -31,6 +31,10 @@ head_first v worker none = record {
     home = λ w low. none_is_home (standing_of v.hands w) (ap (λ (h : List (ℕ × Standing)). standing_of h w) none);
   };
 }
+
+-- what was lent to before, and what is lent to now
+pub lent_on : {S : Type 0} → (v w x : View S) → HasLent v w → HasLent w x → HasLent v x
+lent_on {S} v w x first later = later ∙ ap (λ (y : View S). record y { hands = x.hands }) first
 
 -- a number is given out
 pub head_out : {S : Type 0} → (n : ℕ) (v : View S) → 0 < n → IsHead 1 n v → IsHead 1 (n + 1) (lending v n)

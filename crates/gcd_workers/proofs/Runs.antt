@@ -64,21 +64,17 @@ module _ {S : Type 0} (shape : S → Shape) (gives : S → ℕ → Type 0) where
       record { own = plan_stands (machine_of p) (terms_of b).plan (view p).seen stands; stands = stands; few = few_pass shape gives b p pass }
 
   -- worker 0's pass, which knows all that came since the board was new, shows what the run promises
-  pub team_ran : (b : RowBoard S) (n : ℕ) (calls : List Event → Type 0) (stood seen : List Event) (p : RowPass S) (poller : Seen PollerState) (clock : Seen ClockState)
-      → IsPassOf shape gives b p → HasLed n (view p) → stood ≡ [] → (view p).seen ≡ seen
-      → IsRunOn (terms_of b).limits.most (terms_of b).plan stood seen poller clock → (n ≡ 1 → Follows (terms_of b).plan stood seen)
+  pub team_ran : (b : RowBoard S) (n : ℕ) (calls : List Event → Type 0) (stood : List Event) (p : RowPass S) (poller : Seen PollerState) (clock : Seen ClockState)
+      → IsPassOf shape gives b p → HasLed n (view p) → stood ≡ []
+      → IsRunOn (terms_of b).limits.most (terms_of b).plan stood (view p).seen poller clock → (n ≡ 1 → Follows (terms_of b).plan stood (view p).seen)
       → calls (view p).seen → ((s : ℕ) → poller.before.watched s ≡ false)
       → RunsPlan (terms_of b).limits.most (terms_of b).plan n calls poller clock (view p).seen
-  team_ran b n calls stood seen p poller clock pass led none same on follows called unwatched =
+  team_ran b n calls stood p poller clock pass led none on follows called unwatched =
       let most = (terms_of b).limits.most in let plan = (terms_of b).plan in
-      let from_none : IsRunOn most plan [] seen poller clock = subst (λ (h : List Event). IsRunOn most plan h seen poller clock) none on in
-      let whole : IsRunOn most plan [] (view p).seen poller clock = subst (λ (k : List Event). IsRunOn most plan [] k poller clock) (sym same) from_none in
-      runs_plan most plan n calls (view p).seen (machine_of p) poller clock (pass_sight b p pass) led.by
-      (λ (one : n ≡ 1).
-      let by : IsOfWorkers 1 seen = subst (IsOfWorkers 1) same (subst (λ (m : ℕ). IsOfWorkers m (view p).seen) one led.by) in
-      let first : FollowsChoice plan stood = subst (FollowsChoice plan) (sym none) (follows_none plan) in
-      subst (FollowsChoice plan) (sym same) (follows one (all_of_first seen by) first))
-      called unwatched whole
+      let h = (view p).seen in
+      runs_plan most plan n calls h (machine_of p) poller clock (pass_sight b p pass) led.by
+      (λ (one : n ≡ 1). follows one (all_of_first h (subst (λ (m : ℕ). IsOfWorkers m h) one led.by)) (subst (FollowsChoice plan) (sym none) (follows_none plan)))
+      called unwatched (subst (λ (l : List Event). IsRunOn most plan l h poller clock) none on)
 
 -- what fewer workers promise more do, and what is known of the callers' jobs may be said otherwise
 pub runs_by_more : (most : ℕ) (plan : PlanView) (m n : ℕ) (calls others : List Event → Type 0) (poller : Seen PollerState) (clock : Seen ClockState) (h : List Event)

@@ -15,7 +15,6 @@ use Rattle.gcd_history.specs.Ends.{HasState}
 use Rattle.gcd_history.specs.History.{IsLawful, is_block_cancelled, is_ended}
 use Rattle.gcd_history.specs.Intake.{AcceptsOf, AcceptsNone, AllAccepted, blocks_of_sender, shuts}
 use Rattle.gcd_front.specs.Fronts.{IsIntakeOf, KnowsAll, TookAll}
-use Rattle.gcd_front.specs.Limits.{max_senders}
 use Rattle.gcd_front.specs.Queue.{jobs_of}
 use Rattle.gcd_front.specs.Views.{FrontView, IntakeView}
 use Rattle.gcd_jobs.specs.BlockValues.{has_given}
@@ -37,8 +36,8 @@ use Rattle.gcd_row.specs.declared.view.Handed.{Handed}
 use Rattle.gcd_row.specs.declared.view.Terms.{Terms}
 use Rattle.gcd_row.specs.declared.view.View.{View}
 use Rattle.gcd_row.proofs.Passing.{valid_plan}
-use Rattle.gcd_pool.proofs.Admitting.{admitted_on, none_admitted}
-use Rattle.gcd_pool.specs.Admitted.{Admitted, AsksOfFront, BeginWithTaken, IsTakenFor}
+use Rattle.gcd_pool.proofs.Admitting.{admitted_on}
+use Rattle.gcd_pool.specs.Admitted.{Admitted, BeginWithTaken, IsTakenFor}
 use Rattle.gcd_pool.specs.Each.{Each}
 use Rattle.gcd_pool.specs.Hands.{Served}
 use Rattle.gcd_pool.specs.declared.hand.Hand.{Hand}
@@ -52,10 +51,6 @@ use Rattle.gcd_workers.proofs.Intake.{accepted_of_intake, accepted_within, ended
 -- ## Before the run, and after it
 
 module _ {S X : Type 0} (gives : S → ℕ → Type 0) (sent : X → ℕ → Type 0) (f : FrontView) where
-  -- so it is what worker 0 asks of a front and its intake
-  pub asks_at_first : (hand : Hand S) (i : IntakeView X) → f.senders ≤ max_senders → IsIntakeOf f i → (view hand.pass).seen ≡ [] → i.taken ≡ [] → AsksOfFront gives sent f hand i
-  asks_at_first hand i few of none untaken zero_is = (few, of, none_admitted gives sent f (view hand.pass) i none untaken)
-
   -- a view that has seen and handed in the same says the same of what was taken
   pub admitted_same : (v w : View S) (i : IntakeView X) → w.terms ≡ v.terms → w.handed ≡ v.handed → w.seen ≡ v.seen → IsLawful w.terms.plan w.seen
       → Admitted gives sent f v i → Admitted gives sent f w i

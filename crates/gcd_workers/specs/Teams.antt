@@ -3,18 +3,23 @@ use Rattle.std.specs.Prelude.{◌≡◌, ◌≢◌, ◌<◌, ◌≤◌, ◌+◌,
 use Rattle.gcd_event.specs.declared.event.Event.{Event}
 use Rattle.gcd_history.specs.Ends.{HasEnded}
 use Rattle.gcd_history.specs.Intake.{AcceptsOf}
+use Rattle.gcd_history.specs.Team.{StartsWith}
 use Rattle.gcd_outer.specs.Outside.{ClockState, Seen}
 use Rattle.gcd_outer.specs.Tells.{PollerState}
 use Rattle.gcd_loop.specs.Followed.{IsOfWorkers}
+use Rattle.gcd_loop.specs.Going.{GoesOn}
 use Rattle.gcd_loop.specs.Ran.{RunsPlan}
+use Rattle.gcd_loop.specs.Recorded.{Bounds}
 use Rattle.gcd_row.specs.Passes.{IsPassOf, terms_of, view}
 use Rattle.gcd_row.specs.Shapes.{Shape}
-use Rattle.gcd_row.specs.Views.{standing_of}
+use Rattle.gcd_row.specs.Views.{held_run, standing_of}
 use Rattle.gcd_row.specs.declared.view.Standing.{Standing}
 use Rattle.gcd_row.specs.declared.view.Standing.TheVariants.{Out}
 use Rattle.gcd_row.specs.declared.view.View.{View}
 use Rattle.gcd_row.specs.declared.board.RowBoard.{RowBoard}
 use Rattle.gcd_pool.specs.Hands.{IsReady}
+use Rattle.gcd_pool.specs.Leads.{Follows}
+use Rattle.gcd_turn.specs.Outsides.{Faced}
 use Rattle.gcd_pool.specs.declared.hand.Hand.{Hand}
 use Rattle.gcd_pool.specs.declared.hand.Pool.{Pool}
 use Rattle.gcd_workers.specs.declared.team.Team.{Team}
@@ -51,20 +56,38 @@ pub record HasLed {S : Type 0} (workers : ℕ) (v : View S) : Type 0 where
   pub ended : HasEnded v.terms.limits.most v.terms.plan v.seen
   pub by : IsOfWorkers workers v.seen
 
--- worker 0's pass of a new board: no number was given out, nothing has come, and nothing was passed
+-- worker 0's pass of a board that was just opened: no number was given out, and it holds no run
 pub record IsNew {S : Type 0} (v : View S) : Type 0 where
   pub worker : v.worker ≡ 0
   pub hands : v.hands ≡ []
-  pub none : v.seen ≡ []
-  pub passed : v.marks.passed ≡ 0
+  pub held : held_run v ≡ None
+
+-- numbers were given out, and nothing else has changed
+abbrev pub HasLent : {S : Type 0} → View S → View S → Type 0
+HasLent v w = w ≡ record v { hands = w.hands }
 
 -- a team that has not begun: each hand is ready, by number, worker 0's first, which knows of all numbers that were given out
 pub record IsTeam {S : Type 0} (shape : S → Shape) (gives : S → ℕ → Type 0) (team : Team S) : Type 0 where
   pub hands : EachFrom (IsReadyAt shape gives team.pool.now) 0 team.hands.items
   pub head : (d : Hand S) → IsHead 1 (length team.hands.items) (view (slice_index_or team.hands.items 0 d).pass)
-  pub none : (d : Hand S) → (view (slice_index_or team.hands.items 0 d).pass).seen ≡ []
+
+-- the plan of a team's board, and how many events its row may have
+abbrev pub bounds_on : {S : Type 0} → RowBoard S → Bounds
+bounds_on board = record { plan = (terms_of board).plan; most = (terms_of board).limits.most }
 
 -- what such a team promises of its run beside a front with so many senders, once worker 0 has seen this
 abbrev pub RunsTeam : {S : Type 0} → Team S → (senders : ℕ) → Seen PollerState → Seen ClockState → List Event → Type 0
 RunsTeam team senders poller clock h =
     RunsPlan (terms_of team.pool.now.board.now).limits.most (terms_of team.pool.now.board.now).plan (length team.hands.items) (AcceptsOf senders) poller clock h
+
+-- once worker 0 of a team has seen this, it begins with what its row began with
+abbrev pub Grew : {S : Type 0} → Team S → List Event → Type 0
+Grew {S} team h = (d : Hand S) → StartsWith h (view (slice_index_or team.hands.items 0 d).pass).seen
+
+-- once worker 0 of a team has seen this, what poller and clock said since its row began stands in what came since
+abbrev pub WentOn : {S : Type 0} → Team S → List Event → Faced → Type 0
+WentOn {S} team h f = (d : Hand S) → GoesOn (bounds_on team.pool.now.board.now) (view (slice_index_or team.hands.items 0 d).pass).seen h f
+
+-- and a team of one follows the choice of worker 0 as before
+abbrev pub FollowsOn : {S : Type 0} → Team S → List Event → Type 0
+FollowsOn {S} team h = length team.hands.items ≡ 1 → (d : Hand S) → Follows (terms_of team.pool.now.board.now).plan (view (slice_index_or team.hands.items 0 d).pass).seen h

@@ -21,7 +21,7 @@ use gcd_turn::Outside;
 use std::alloc::{AllocError, Global};
 use std::sync::Wait;
 
-// What is left of a run that has ended.
+// Turns a list into the result of its run.
 fn outcome_of(kept: Kept) -> Outcome
     ensures journal { result.journal ≡ kept.journal }
     ensures values { result.values ≡ kept.values }
@@ -37,7 +37,7 @@ fn outcome_of(kept: Kept) -> Outcome
     }
 }
 
-// Turn by turn, from the first to the end of the run.
+// Takes turns from the first to the end of the run.
 fn run_to_the_end<R: Wait, P: Poller, C: Clock>(
     rt: &R,
     run: &mut ListRun,
@@ -59,13 +59,13 @@ fn run_to_the_end<R: Wait, P: Poller, C: Clock>(
     }
 }
 
-/// Runs a plan over its files by worker 0 alone, turn by turn, until the run is quiescent or halted, or has as many events as it may have.
-/// One thread keeps the list of events, so it makes no row. The poller watches no feed yet. A turn costs what the machine's choice costs,
-/// the block's value, and a look at each live feed. The list begins with room for four events a block, and grows.
+/// Runs a plan over its files by worker 0 alone, until the run is quiescent or halted, or has as many events as it may have. One thread
+/// keeps the events in a list, and there is no row. The poller watches no feed yet. A turn costs one choice of the machine, the block's
+/// work, and a look at each live feed. The list begins with room for four events a block, and grows.
 ///
-/// Returns `Err` only if memory runs out: [`RunRefused::BeforeTheRun`] before the first turn, with poller and clock as they were
-/// (`before`), and [`RunRefused::InTheRun`] at an event for which there is no room. It leaves nothing of the run, and the poller listens
-/// where it did (`kept`); what the poller has told is told.
+/// Returns `Err` only if memory runs out. Before the first turn that is [`RunRefused::BeforeTheRun`], and poller and clock are as they
+/// were (`before`). Later it is [`RunRefused::InTheRun`], at an event for which there is no room, and news from the poller may be lost.
+/// Nothing is left of the run, and the poller listens where it did (`kept`).
 pub fn run_alone<R: Wait, P: Poller, C: Clock>(
     rt: &R,
     alloc: Global,

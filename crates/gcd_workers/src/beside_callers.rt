@@ -23,7 +23,7 @@ use std::mem;
 use std::sync::Wait;
 use std::thread::{Threads, join_mut};
 
-// What is run in a thread of its own.
+// A run that gets its own thread.
 #[derive(Drop)]
 struct Given<'a, J> {
     alloc: Global,
@@ -31,7 +31,7 @@ struct Given<'a, J> {
 }
 
 impl<'a, J: Job + Drop + Send> Given<'a, J> {
-    // What is run, without its jobs from then on.
+    // Takes the jobs out, and returns the run with them.
     fn take(&mut self) -> Dispatch<'a, J>
         ensures { result ≡ self.old.dispatch }
     {
@@ -43,7 +43,7 @@ impl<'a, J: Job + Drop + Send> Given<'a, J> {
         }
     }
 
-    // It runs in a thread of its own, or last if the system makes none, and beside it the callers, which have the front's mouths.
+    // Runs it in its own thread, or after the callers if the system makes no thread. The callers have the front's mouths.
     fn run_beside<
         X: Sent + Drop + Send,
         K: Callers<X>,
@@ -96,11 +96,11 @@ impl<'a, J: Job + Drop + Send> Given<'a, J> {
     }
 }
 
-// How many jobs the front has room for: one for each block of the plan's intake.
+// Returns how many jobs the front has room for: one for each block of the plan's intake.
 fn room_for(plan: &Plan) -> u32
     ensures { 0 < result }
 {
-    // It tells that the plan is valid; so its intake has a block.
+    // This call shows that the plan is valid, so its intake has a block.
     let _all = plan.blocks();
     match plan.intake() {
         Some((_, _, blocks)) => blocks,
@@ -109,18 +109,19 @@ fn room_for(plan: &Plan) -> u32
 }
 
 impl<J: Job + Drop + Send> Dispatch<'_, J> {
-    /// Runs the jobs, and beside them in this thread `callers`, which hand in jobs through the mouths of so many senders, at most
-    /// `MAX_SENDERS` of `gcd_front` (dispatch_async(3)). The run is that of [`Dispatch::run`] beside a front that has room for as many jobs
-    /// as the plan's intake has blocks. It has a thread of its own, or comes after the callers if the system makes none, with what lies in
-    /// the front then; so callers wait for no value, and give up sending in the end. Returns when both have ended.
+    /// Runs the jobs in another thread and `callers` in this one (dispatch_async(3)). The callers hand in jobs through one mouth for each
+    /// sender, and there are at most `MAX_SENDERS` of `gcd_front`. The run is that of [`Dispatch::run`] beside a front that has room for as
+    /// many jobs as the plan's intake has blocks. If the system makes no thread, the run follows the callers, and finds in the front what
+    /// they sent. So callers must not wait for a value, and must stop sending at some time. Returns when both have ended.
     ///
-    /// The mouths are shut when [`Callers::call`] returns, and the run waits for that, unless each block of the intake has a job before. What
-    /// the callers say of what they sent holds of what was taken (`ran`). That a front with room accepts, and that each job is run if the
-    /// run does not end early, is tested, and no clause. A job that is sent beyond the room is refused, or accepted and never run.
+    /// The mouths are shut when [`Callers::call`] returns. The run waits for that, unless each block of the intake has a job before. Whatever
+    /// the callers promise of the jobs that they send holds of the jobs that were taken (`ran`). Tests show, and no clause says, that a front
+    /// with room accepts a job, and that each job is run if the run does not end early. A job that is sent beyond the room is refused, or
+    /// accepted and never run.
     ///
     /// The poller watches no feed yet. Returns `Err` only if memory runs out, or if the system makes no thread for a worker on whom all
-    /// others wait; the callers may have been called. With [`RunRefused::BeforeTheRun`] no job has run, and poller and clock are as they
-    /// were (`before`). The poller listens where it did (`kept`).
+    /// others wait. The callers may have been called by then. After [`RunRefused::BeforeTheRun`] no job has run, and poller and clock are as
+    /// they were (`before`). The poller listens where it did (`kept`).
     pub fn run_beside<
         X: Sent + Drop + Send,
         K: Callers<X>,

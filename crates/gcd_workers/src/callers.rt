@@ -1,4 +1,4 @@
-// Callers from outside, as what runs beside the run of a plan.
+// Outside callers, which run beside a plan.
 ghost use Rattle.std.specs.Prelude.{◌≡◌, ◌<◌, ◌≤◌, ◌+◌, [], List, All, length, vec_capacity};
 ghost use Rattle.std.specs.Thread.{IsSync};
 ghost use Rattle.gcd_front.specs.Fronts.{IsLeftOf, IsMouthOf, new_mouths};
@@ -9,15 +9,15 @@ use gcd_front::{Front, Intake, Left, Mouth, Sent};
 use std::sync::Wait;
 use std::thread::Threads;
 
-/// Hands in jobs beside a run, in threads that are no workers (dispatch_async(3)).
+/// Hands in jobs while a plan runs, from threads that are not its workers (dispatch_async(3)).
 pub trait Callers<X: Sent + Drop> {
-    // what calling comes to: what the callers were and are, and the mouths as they leave them, each with all that was sent through it
+    // the callers before and after the call, and the mouths as they leave them, each with all that was sent through it
     ghost called: { Self → Self → List (MouthView X) → Type 0 };
 
-    /// Sends jobs through the mouths, of which there is one for each sender, by number, in this thread and in such as it makes, and
-    /// returns when there is nothing more to send. Then the mouths are shut. They are lent, so a caller cannot keep one open: that they
-    /// are mouths of this front still, and what it says of itself (`called`), is all that it promises. What it asks of a runtime beyond
-    /// threads, as to read what it sends, it has from one of its own.
+    /// Sends jobs through the mouths, one for each sender, by number, from this thread and from threads that it makes. Returns when there
+    /// is nothing more to send, and the mouths are shut then. The mouths are borrowed, so a caller cannot keep one open. It promises that
+    /// they are still mouths of this front, and what it says of itself (`called`). If it needs more of a runtime than threads, for example
+    /// to read its input, it keeps a runtime of its own.
     fn call<R: Threads + Wait + Sync>(&mut self, rt: &R, front: &Front<X>, mouths: &mut [Mouth<X>])
         requires sync { IsSync R.row }
         requires mouths { All (IsMouthOf front.now) mouths.old }
@@ -26,7 +26,7 @@ pub trait Callers<X: Sent + Drop> {
         ensures called { Self.called self.old self.new mouths.new };
 }
 
-// The intake of a front, its mouths, and what is left of those that were shut.
+// The intake of a front, its open mouths, and the accounts of those that were shut.
 #[derive(Drop)]
 pub struct Ends<X: Drop> {
     pub intake: Intake<X>,
@@ -34,7 +34,7 @@ pub struct Ends<X: Drop> {
     pub lefts: Vec<Left<X>>,
 }
 
-// Shuts the last of the mouths, which is none of them any more, and adds what is left of it.
+// Takes out the last mouth, shuts it, and adds its account.
 fn shut_last<X: Drop>(front: &Front<X>, mouths: &mut Vec<Mouth<X>>, lefts: &mut Vec<Left<X>>)
     requires mouths { All (IsMouthOf front.now) mouths.old.items }
     requires some { 0 < length mouths.old.items }
@@ -50,7 +50,7 @@ fn shut_last<X: Drop>(front: &Front<X>, mouths: &mut Vec<Mouth<X>>, lefts: &mut 
     }
 }
 
-// Shuts all mouths, and gives what is left of each, the last mouth's first. It takes no memory, so it never leaves one open.
+// Shuts all mouths, and returns their accounts, the last mouth's first. It needs no memory, so it leaves no mouth open.
 fn shut_all<X: Drop>(front: &Front<X>, mouths: &mut Vec<Mouth<X>>, lefts: &mut Vec<Left<X>>)
     requires mouths { All (IsMouthOf front.now) mouths.old.items }
     requires none { lefts.old.items ≡ [] }
@@ -63,7 +63,7 @@ fn shut_all<X: Drop>(front: &Front<X>, mouths: &mut Vec<Mouth<X>>, lefts: &mut V
     }
 }
 
-// Calls the callers with the mouths of a new front, and shuts these.
+// Calls the callers with the mouths of a new front, and then shuts the mouths.
 pub fn call_and_shut<X: Sent + Drop, K: Callers<X>, R: Threads + Wait + Sync>(
     rt: &R,
     front: &Front<X>,

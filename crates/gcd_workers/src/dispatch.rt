@@ -23,39 +23,38 @@ use std::alloc::{AllocError, Global};
 use std::sync::Wait;
 use std::thread::Threads;
 
-// How many Drains a bench may push; from then on they sleep.
+// A bench pushes at most this many Drains. Later ones sleep.
 const MOST_PUSHES: u32 = 4_096;
 
-/// What a run of jobs is given.
+/// The input of a run of jobs.
 #[derive(Drop)]
 pub struct Dispatch<'a, J> {
     /// The plan.
     pub plan: &'a Plan,
-    /// By how many workers it runs, 1 to 64. All of them are there, whatever the plan.
+    /// The number of workers, 1 to 64. The run has all of them, whatever the plan.
     pub workers: u8,
-    /// How many events the run may have, at least 1; `MAX_EVENTS` of `gcd_plan` is the limit of all runs.
+    /// The run ends at this many events, at least 1. `MAX_EVENTS` of `gcd_plan` is the limit of all runs.
     pub most: u32,
-    /// A job for each block of the plan, by number, so the first is `main`'s.
+    /// One job for each block of the plan, by number. The first is `main`'s.
     pub jobs: Vec<J>,
 }
 
 impl<J: Job + Drop + Send> Dispatch<'_, J> {
-    /// Runs the jobs, and beside them what callers from outside send to a front, until the run is quiescent or halted, or has as many
-    /// events as it may have. A job runs at most once, at the input 0, when its block comes to its end, and never if its block is
-    /// cancelled (dispatch_block_cancel(3)). A block of the plan's intake runs the job of the caller whose job was accepted for it, made
-    /// by [`Admits::admit`], and not the one of its number, which is dropped. A plan without an intake accepts nothing. Each source's
-    /// handler is a tally, of which nothing is told.
+    /// Runs the jobs, and the jobs that outside callers send to a front, until the run is quiescent or halted, or has as many events as it
+    /// may have. A job runs at most once, at the input 0, when its block comes to its end, and never if its block is cancelled
+    /// (dispatch_block_cancel(3)). A block of the plan's intake runs the job that was accepted for it, which [`Admits::admit`] makes. The job
+    /// that `jobs` has for such a block is dropped. A plan without an intake accepts nothing. Each source's handler is a tally, and the
+    /// result does not show it.
     ///
-    /// `front` and `intake` are what [`Front::new`] made together, and nothing was taken yet. Its senders, in threads beside this call or
-    /// before it, send while their mouths are open (dispatch_async(3)). Worker 0 takes jobs as long as a block of the intake is left; it
-    /// shuts the intake, with a `Shut` in the journal, once each of its blocks is accepted, or once each mouth is shut and all that was
-    /// sent is taken. So a run waits for open mouths: if one is never shut, the run waits until the intake is full. Jobs that are sent
-    /// beyond that stay in the queue of the front.
+    /// [`Front::new`] made `front` and `intake` together, and nothing was taken yet. Its senders send from other threads while their mouths
+    /// are open (dispatch_async(3)). Worker 0 takes jobs as long as a block of the intake is left. It shuts the intake, with a `Shut` in the
+    /// journal, once each block has a job, or once each mouth is shut and all jobs are taken. So if a mouth is never shut, the run waits
+    /// until the intake is full. Jobs that are sent beyond that stay in the queue of the front.
     ///
-    /// `poller` and `clock` are the outside; the poller watches no feed yet. Returns `Err` only if memory runs out, or if the system makes
-    /// no thread for a worker on whom all others wait. Before the first turn that is [`RunRefused::BeforeTheRun`], with poller, clock and
-    /// intake as they were (`before`), and from then on [`RunRefused::InTheRun`]: jobs may have run then, and what was taken is taken.
-    /// Nothing is left of the run; the jobs are dropped, the threads have ended, and the poller listens where it did (`kept`).
+    /// `poller` and `clock` are the outside, and the poller watches no feed yet. Returns `Err` only if memory runs out, or if the system
+    /// makes no thread for a worker on whom all others wait. Before the first turn that is [`RunRefused::BeforeTheRun`], and poller, clock
+    /// and intake are as they were (`before`). Later it is [`RunRefused::InTheRun`]: jobs may have run, and jobs that were taken are gone.
+    /// Nothing is left of the run: the jobs are dropped, the threads have ended, and the poller listens where it did (`kept`).
     pub fn run<X: Sent + Drop + Send, R: Threads + Wait + Sync, P: Poller, C: Clock>(
         self,
         rt: &R,
@@ -95,7 +94,7 @@ impl<J: Job + Drop + Send> Dispatch<'_, J> {
             return Err(RunRefused::BeforeTheRun);
         };
         let pool = Pool::new(&board, &rack, plan);
-        let Ok(team) = Team::new(alloc, &pool, pass, benches) else {
+        let Ok(team) = Team::new(alloc, &pool, pass, benches, Vec::new(alloc)) else {
             return Err(RunRefused::BeforeTheRun);
         };
         let Ok((last, gathered)) = team.run(rt, front, intake, poller, clock) else {

@@ -1,5 +1,5 @@
-// The board of a run of a caller's own jobs, and what its cells tell at the end.
-ghost use Rattle.std.specs.Prelude.{◌≡◌, ◌≢◌, ◌<◌, ◌≤◌, ℕ, List, true, false, IfOk, Some, None, length};
+// The board of a run of a caller's jobs, and the values in its cells at the end.
+ghost use Rattle.std.specs.Prelude.{◌≡◌, ◌≢◌, ◌<◌, ◌≤◌, ℕ, List, [], true, false, IfOk, Some, None, length};
 ghost use Rattle.gcd_plan.specs.Limits.{max_workers};
 ghost use Rattle.gcd_plan.specs.PlanView.{PlanView};
 ghost use Rattle.gcd_event.specs.declared.event.Event.{Event};
@@ -24,7 +24,7 @@ use gcd_plan::{Blk, Plan};
 use gcd_row::{Board, Cell, Pass};
 use std::alloc::{AllocError, Global};
 
-// A board of the jobs, for so many workers and at most so many events, and worker 0's pass.
+// Makes a board of the jobs for this many workers and at most this many events, and worker 0's pass.
 pub fn open<J: Job + Drop>(
     alloc: Global,
     plan: &Plan,
@@ -40,12 +40,13 @@ pub fn open<J: Job + Drop>(
     ensures cells { IfOk result (λ made. length (terms_of made.0).plan.blocks ≤ length (terms_of made.0).cells) }
     ensures pass { IfOk result (λ made. IsPassOf tally_shape (gives_of J.gives) made.0 made.1) }
     ensures new { IfOk result (λ made. IsNew (view made.1)) }
+    ensures first { IfOk result (λ made. ((view made.1).seen ≡ []) × IsGathered (view made.1) []) }
 {
     let tallies = tallies_of(alloc, plan)?;
     Ok(Board::new(alloc, plan, jobs, tallies, workers, most)?)
 }
 
-// Whether a block has given its value: it has ended, and is not cancelled.
+// Returns whether a block has given its value: it has ended and is not cancelled.
 fn has_given(machine: &Machine, b: Blk) -> bool
     requires { b.0 < length machine.now.plan.blocks }
     ensures { (plan : PlanView) (h : List Event) → StandsFor machine.now plan h → result ≡ has_given plan h b.0 }
@@ -53,7 +54,7 @@ fn has_given(machine: &Machine, b: Blk) -> bool
     machine.is_ended(b) && !machine.is_cancelled(b)
 }
 
-// What the slot of a block has: the value that its job gave, where it gave one.
+// Returns the value in the slot of a block, if the block has given one.
 fn value_in<J>(cell: &Cell<J, Tally>, given: bool) -> Option<u64>
     ensures ended { (v : ℕ) → given ≡ true → cell.now ≡ Done v → result ≡ Some v }
     ensures other { given ≡ false → result ≡ None }
@@ -69,7 +70,7 @@ fn value_in<J>(cell: &Cell<J, Tally>, given: bool) -> Option<u64>
     }
 }
 
-// The values of the blocks, by number, of the machine and the cells at the end.
+// Returns the values of the blocks, by number, from the machine and the cells at the end.
 fn values_of<J>(
     alloc: Global,
     machine: &Machine,
@@ -87,7 +88,7 @@ fn values_of<J>(
     Ok(values)
 }
 
-// Closes the board of a run that has ended. `gathered` is what was gathered of its events.
+// Closes the board of a run that has ended. `gathered` has the events that worker 0 gathered.
 pub fn close<J: Job + Drop>(
     alloc: Global,
     board: Board<J, Tally>,

@@ -1,4 +1,4 @@
-// A front that nobody outside hands jobs to.
+// A front without senders.
 ghost use Rattle.std.specs.Prelude.{◌≡◌, [], IfOk};
 ghost use Rattle.gcd_front.specs.Fronts.{IsIntakeOf};
 
@@ -6,7 +6,7 @@ use gcd_front::{Front, Intake};
 use gcd_jobs::Nobody;
 use std::alloc::{AllocError, Global};
 
-// A front without senders, and its intake. An `Err` comes where memory runs out.
+// Makes a front without senders, and its intake. Returns `Err` if memory runs out.
 pub fn nobodys_front(alloc: Global) -> Result<(Front<Nobody>, Intake<Nobody>), AllocError>
     ensures senders { IfOk result (λ r. r.0.senders ≡ 0) }
     ensures intake { IfOk result (λ r. IsIntakeOf r.0 r.1) }

@@ -1,14 +1,14 @@
-// What a run of jobs leaves.
+// The result of a run of jobs.
 use gcd_event::Entry;
 use gcd_history::State;
 use gcd_machine::Machine;
 
-/// What a run of jobs leaves.
+/// The result of a run of jobs.
 #[derive(Drop)]
 pub struct Ran {
     /// All events, in order.
     pub journal: Vec<Entry>,
-    /// For each block, by number, the value that its job gave if the block has ended and is not cancelled, and None otherwise.
+    /// The values of the blocks, by number. A block that has not ended, or that is cancelled, has None.
     pub values: Vec<Option<u64>>,
     /// How far the run has come.
     pub state: State,

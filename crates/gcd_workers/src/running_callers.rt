@@ -1,4 +1,4 @@
-// A run whose work comes from callers outside, by one call.
+// One call that runs the jobs of outside callers.
 ghost use Rattle.std.specs.Prelude.{◌≡◌, ◌≢◌, ◌<◌, ◌≤◌, ◌↔◌, None, IfOk, IsErrOf};
 ghost use Rattle.gcd_front.specs.Limits.{max_senders};
 ghost use Rattle.gcd_plan.specs.Limits.{max_workers};
@@ -19,7 +19,7 @@ use std::alloc::{AllocError, Global};
 use std::sync::Wait;
 use std::thread::Threads;
 
-// The jobs of so many blocks, of which none does anything.
+// Makes this many jobs that do nothing.
 fn nothings<X: Drop>(alloc: Global, blocks: u32) -> Result<Vec<Called<X>>, AllocError>
     ensures { IfOk result (λ jobs. jobs.items ≡ nothings blocks) }
 {
@@ -30,7 +30,7 @@ fn nothings<X: Drop>(alloc: Global, blocks: u32) -> Result<Vec<Called<X>>, Alloc
     Ok(jobs)
 }
 
-// A run beside callers with so many mouths.
+// Runs beside callers that have this many mouths.
 fn run_by_callers<X: Sent + Drop + Send, C: Callers<X>, R: Threads + Wait + Sync>(
     rt: &R,
     alloc: Global,

@@ -18,14 +18,14 @@ use std::alloc::{AllocError, Global};
 use std::sync::Wait;
 use std::thread::Threads;
 
-// The jobs as those of a run that nobody outside hands jobs to: such a run would have none for what nobody sends.
+// Wraps the jobs for a run without senders. A block of an intake would have None.
 fn some_of_each<J: Drop>(alloc: Global, jobs: Vec<J>) -> Result<Vec<Option<J>>, AllocError>
     ensures { IfOk result (λ v. v.items ≡ map Some jobs.items) }
 {
     jobs.into_iter().map(Some).collect(alloc)
 }
 
-// Runs as many jobs as there are blocks by a team of at most so many workers.
+// Runs one job for each block by a team of at most this many workers.
 fn run_by_team<J: Job + Drop + Send, R: Threads + Wait + Sync>(
     rt: &R,
     alloc: Global,

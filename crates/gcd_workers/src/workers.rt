@@ -52,7 +52,7 @@ pub fn run_workers<R: Threads + Wait + Sync, P: Poller, C: Clock>(
     if hands == 1 {
         return run_alone(rt, alloc, over, poller, clock);
     }
-    // It tells that the plan is valid.
+    // This call shows that the plan is valid.
     let _blocks = over.plan.blocks();
     let Ok(jobs) = file_jobs(alloc, over.plan, over.files) else {
         return Err(RunRefused::BeforeTheRun);

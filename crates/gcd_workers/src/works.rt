@@ -25,14 +25,14 @@ pub fn file_jobs<'a>(
     Ok(jobs)
 }
 
-// A block's value, 0 where it has none.
+// Returns a block's value, or 0 if it has none.
 fn or_0(value: Option<u64>) -> u64
     ensures { result ≡ unwrap_or value 0 }
 {
     value.unwrap_or(0)
 }
 
-// What is left of a run of these jobs.
+// Turns the result of these jobs into that of a run over files.
 pub fn outcome_of(alloc: Global, ran: Ran) -> Result<Outcome, AllocError>
     ensures journal { IfOk result (λ o. o.journal ≡ ran.journal) }
     ensures values { IfOk result (λ o. o.values.items ≡ map (λ v. unwrap_or v 0) ran.values.items) }

@@ -128,3 +128,11 @@ returns-in-Ok-Ended-clause-admitted g c = λ done.
     let mid = c.run_turns.new.run in
     gathered_admitted g.S.Slot.shape g.S.Slot.gives g.X.Sent.gives mid.pool.now old.front.now mid.intake.now mid.hand.now c.gather_all.new.hand c.gather_all.ensures.serving.of c.gather_all.ensures.view
     (subst (λ (f : FrontView). Admitted g.S.Slot.gives g.X.Sent.gives f (view mid.hand.now.pass) mid.intake.now) kept.front (c.in-Ok-Ended.ensures.left c.in-Ok-Ended.field-0-is).admitted)
+
+pub returns-in-Err-clause-same_hand : goal.returns-in-Err-clause-same_hand
+returns-in-Err-clause-same_hand g c =
+    let old = c.args.head.now in (c.run_turns.ensures.kept old (kept_head g.S.Slot.shape g.S.Slot.gives old c.requires.ready.of)).hand
+
+pub returns-in-Err-clause-same_intake : goal.returns-in-Err-clause-same_intake
+returns-in-Err-clause-same_intake g c =
+    let old = c.args.head.now in (c.run_turns.ensures.kept old (kept_head g.S.Slot.shape g.S.Slot.gives old c.requires.ready.of)).intake

@@ -1,6 +1,8 @@
-use Rattle.std.proofs.Common.{◌+◌, ◌∙◌, ap, sym, subst, arith}
-use Rattle.gcd_history.proofs.HeldRuns.OwnEvents.{none_own}
+use Rattle.std.proofs.Common.{◌≡◌, ◌+◌, ◌∙◌, [], ap, sym, subst, arith}
+use Rattle.gcd_history.specs.Team.{of_worker}
 use Rattle.gcd_row.specs.Passes.{view}
+use Rattle.gcd_row.specs.declared.view.View.{View}
+use Rattle.gcd_row.proofs.Holding.{holds_nothing}
 use Rattle.gcd_workers.specs.Teams.{EachFrom, IsHead, IsReadyAt}
 use Rattle.gcd_workers.proofs.Heads.{head_out}
 use Rattle.gcd_workers.proofs.Hires.{hired}
@@ -11,17 +13,17 @@ split-requires-clause-number g c = (c.requires.number.0, c.requires.number.1, c.
 
 pub hand-requires-clause-none : goal.hand-requires-clause-none
 hand-requires-clause-none g c =
-    let other = view c.in_ok-other.other in
-    none_own other.worker other.seen (ap (λ v. v.seen) c.in_ok-other.ensures.new.1 ∙ c.requires.none)
+    let v = view c.in_ok-other.other in
+    let worker : v.worker ≡ c.args.number = ap (λ v. v.worker) c.in_ok-other.ensures.new.1 in
+    holds_nothing v.terms.plan v.seen v.worker (subst (λ w. of_worker w v.seen ≡ []) (sym worker) c.in_ok-other.ensures.none)
 
-pub hand-requires-clause-passed : goal.hand-requires-clause-passed
-hand-requires-clause-passed g c = λ zero. ap (λ v. v.marks.passed) c.in_ok-other.ensures.new.1
+pub hand-requires-clause-gathered : goal.hand-requires-clause-gathered
+hand-requires-clause-gathered g c = λ zero.
+    let worker : (view c.in_ok-other.other).worker ≡ c.args.number = ap (λ v. v.worker) c.in_ok-other.ensures.new.1 in
+    absurd (omega (arith, zero, worker, c.requires.number.0))
 
-pub returns-clause-passed : goal.returns-clause-passed
-returns-clause-passed g c = ap (λ v. v.marks.passed) c.in_ok-other.ensures.lent ∙ c.requires.passed
-
-pub returns-clause-none : goal.returns-clause-none
-returns-clause-none g c = ap (λ v. v.seen) c.in_ok-other.ensures.lent ∙ c.requires.none
+pub returns-clause-lent : goal.returns-clause-lent
+returns-clause-lent g c = let is = c.in_ok-other.ensures.lent in is ∙ ap (λ (x : View _). record (view c.args.pass.now) { hands = x.hands }) (sym is)
 
 pub returns-clause-head : goal.returns-clause-head
 returns-clause-head g c =

@@ -2,6 +2,8 @@ use Rattle.std.proofs.Common.{◌≡◌, ◌∷◌, length, ap, subst, arith}
 use Rattle.std.specs.Prelude.{All}
 use Rattle.std.specs.Vec.Iter.{into_iter_items}
 use Rattle.gcd_steal.specs.Racks.{IsBenchOf}
+use Rattle.gcd_row.specs.Passes.{view}
+use Rattle.gcd_workers.proofs.Heads.{lent_on}
 use Rattle.gcd_workers.proofs.Hires.{all_rest}
 use Rattle.gcd_workers.proofs.team.add_hands.Goals as goal
 
@@ -25,8 +27,7 @@ loop-bench-preserved g c =
       number = omega (arith, longer);
       benches = all_rest (IsBenchOf c.args.pool.now.rack.now) x rest (subst (All (IsBenchOf c.args.pool.now.rack.now)) steps i.benches);
       pass = c.in_ok-add_hand.ensures.pass;
-      none = c.in_ok-add_hand.ensures.none;
-      passed = c.in_ok-add_hand.ensures.passed;
+      lent = lent_on (view c.args.pass.now) (view at.pass) (view c.add_hand.new.pass) i.lent c.in_ok-add_hand.ensures.lent;
       head = c.in_ok-add_hand.ensures.head;
       hands = c.in_ok-add_hand.ensures.hands;
     }

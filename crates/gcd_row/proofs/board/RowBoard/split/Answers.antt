@@ -1,4 +1,4 @@
-use Rattle.std.proofs.Common.{rules, arith, refl, ap, ◌∙◌, []}
+use Rattle.std.proofs.Common.{rules, arith, refl, sym, ap, ◌∙◌, []}
 use Rattle.gcd_row.specs.Views.{newcomer}
 use Rattle.gcd_row.proofs.Keeping.{learns_unused}
 use Rattle.gcd_row.proofs.Merging.{new_pass}
@@ -11,4 +11,4 @@ pub returns-clause-new : goal.returns-clause-new
 returns-clause-new g c =
     let me = c.cut-seat.ensures.new.1 ∙ ap (λ m. (newcomer m.0 c.args.worker, [])) c.load.ensures.2.0 in
     let none = c.load.ensures.2.1 c.requires.head c.args.worker (λ z. omega arith) c.requires.number.2 in
-    (new_pass _ _ c.args.self.now c.args.pass.now _ c.args.worker c.requires.pass none (c.cut-seat.ensures.new.0 ∙ c.load.ensures.0) me refl c.in_ok-machine.ensures (omega (arith, c.requires.number, c.args.self.now.bounds)) refl refl refl refl, ap (λ m. m.0) me)
+    (new_pass _ _ c.args.self.now c.args.pass.now _ c.args.worker c.requires.pass none (c.cut-seat.ensures.new.0 ∙ c.load.ensures.0) me refl c.in_ok-machine.ensures (omega (arith, c.requires.number, c.args.self.now.bounds)) (c.from.ensures ∙ c.args.self.now.began ∙ ap (λ t. t.opened) (sym c.requires.pass.terms)) refl refl refl, ap (λ m. m.0) me)

@@ -1,30 +1,13 @@
-use Rattle.std.proofs.Common.{◌∙◌, length, ap, subst, sym, arith}
-use Rattle.std.specs.Prelude.{All}
+use Rattle.std.proofs.Common.{◌∙◌, length, ap}
 use Rattle.gcd_outer.specs.Outside.{ClockState, Seen}
 use Rattle.gcd_outer.specs.Tells.{PollerState}
-use Rattle.gcd_steal.specs.Racks.{IsBenchOf}
-use Rattle.gcd_steal.specs.declared.bench.Rack.{Rack}
+use Rattle.gcd_row.specs.declared.view.View.{View}
 use Rattle.gcd_pool.specs.declared.hand.Pool.{Pool}
 use Rattle.gcd_workers.proofs.Senders.{runs_front}
-use Rattle.gcd_workers.proofs.Pools.{limits_along, pool_of}
 use Rattle.gcd_workers.proofs.dispatch.Dispatch.run.Goals as goal
 
-pub new-requires-2-clause-pool : goal.new-requires-2-clause-pool
-new-requires-2-clause-pool g c =
-    let made = c.new-pool in
-    pool_of made.result c.in-Ok-open.board c.in-Ok.rack c.args.self.plan.now made.ensures.board made.ensures.rack made.ensures.plan
-    c.in-Ok-open.ensures.plan c.in-Ok.ensures.plan c.in-Ok-open.ensures.cells
-
-pub new-requires-2-clause-benches : goal.new-requires-2-clause-benches
-new-requires-2-clause-benches g c =
-    subst (λ (r : Rack). All (IsBenchOf r) c.in-Ok.benches.items) (sym c.new-pool.ensures.rack) c.in-Ok.ensures.benches
-
-pub new-requires-2-clause-workers : goal.new-requires-2-clause-workers
-new-requires-2-clause-workers g c =
-    let limits = limits_along c.new-pool.ensures.board ∙ c.in-Ok-open.ensures.limits in
-    let workers = ap (λ l. l.workers) limits in
-    let count = c.in-Ok.ensures.count.1 in
-    omega (arith, workers, count)
+pub run-requires-clause-first : goal.run-requires-clause-first
+run-requires-clause-first g c = λ lifetimes outlive d. ap (λ (v : View _). v.seen) (c.in-Ok-new.ensures.begun d) ∙ c.in-Ok-open.ensures.first.0
 
 pub returns-in-Ok-close-clause-ran : goal.returns-in-Ok-close-clause-ran
 returns-in-Ok-close-clause-ran g c =

@@ -1,63 +1,57 @@
-use Rattle.std.proofs.Common.{◌≡◌, ◌∙◌, ℕ, List, length, subst, sym, arith}
+use Rattle.std.proofs.Common.{◌≡◌, length, ap, rules, subst}
+use Rattle.std.specs.List.{list_any}
 use Rattle.std.specs.Prelude.{slice_index_or}
 use Rattle.gcd_facts.proofs.Lists.{one_of}
-use Rattle.gcd_event.specs.declared.event.Event.{Event}
-use Rattle.gcd_row.specs.Passes.{terms_of, view}
-use Rattle.gcd_row.specs.Shapes.{gives_of, shape_of}
 use Rattle.gcd_history.specs.Ends.{HasEnded}
+use Rattle.gcd_history.specs.Facts.{is_of_callers}
+use Rattle.gcd_history.specs.Intake.{AcceptsOf}
 use Rattle.gcd_outer.specs.Outside.{ClockState, Seen}
 use Rattle.gcd_outer.specs.Tells.{PollerState}
-use Rattle.gcd_history.specs.Intake.{AcceptsOf}
-use Rattle.gcd_workers.specs.Teams.{HasLed}
-use Rattle.gcd_workers.proofs.Senders.{admitted_after, asks_at_first}
-use Rattle.gcd_workers.proofs.Hires.{ended_after, gathered_after}
+use Rattle.gcd_turn.specs.Asked.{KeepsListens}
+use Rattle.gcd_turn.specs.Outsides.{Faced}
+use Rattle.gcd_loop.specs.Going.{GoesOn}
+use Rattle.gcd_loop.proofs.Steps.{kept_as, on_as, run_on}
+use Rattle.gcd_row.specs.Passes.{view}
+use Rattle.gcd_row.specs.Shapes.{gives_of, shape_of}
+use Rattle.gcd_row.specs.declared.view.Terms.{Terms}
+use Rattle.gcd_pool.proofs.Admitting.{none_admitted}
+use Rattle.gcd_workers.specs.Teams.{bounds_on}
 use Rattle.gcd_workers.proofs.Runs.{team_ran}
 use Rattle.gcd_workers.proofs.gather.Team+Cell+J+H.run.Goals as goal
 
-pub take_all-pass-requires-clause-gathered : goal.take_all-pass-requires-clause-gathered
-take_all-pass-requires-clause-gathered g c = λ d.
-    gathered_after (shape_of g.H.Handler.kind g.H.Handler.times g.H.Handler.total) (gives_of g.J.Job.gives) c.args.self.pool.now c.args.self.hands.items
-    c.lead.new.self.hands.items c.requires.some.0 c.in_ok-lead.ensures.served c.requires.team.head d
+pub go_on-requires-clause-admitted : goal.go_on-requires-clause-admitted
+go_on-requires-clause-admitted g c = λ lifetimes outlive d.
+    none_admitted (gives_of g.J.Job.gives) g.X.Sent.gives c.args.front.now (view (slice_index_or c.args.self.hands.items 0 d).pass) c.args.intake.now
+    (ap (list_any is_of_callers) (c.requires.first d)) c.requires.untaken
 
-pub look_round-requires-clause-ended : goal.look_round-requires-clause-ended
-look_round-requires-clause-ended g c =
+pub returns-in-Ok-clause-ran : goal.returns-in-Ok-clause-ran
+returns-in-Ok-clause-ran g c =
     let d = one_of c.args.self.hands.items c.requires.some.0 in
-    let board = c.args.self.pool.now.board.now in
-    subst (λ (h : List Event). HasEnded (terms_of board).limits.most (terms_of board).plan h) (sym (c.take_all-pass.ensures.seen d))
-    (ended_after (shape_of g.H.Handler.kind g.H.Handler.times g.H.Handler.total) (gives_of g.J.Job.gives) c.args.self.pool.now c.args.self.hands.items c.lead.new.self.hands.items c.requires.some.0 c.in_ok-lead.ensures.served d)
-
-pub returns-clause-gathered : goal.returns-clause-gathered
-returns-clause-gathered g c = c.look_round.ensures.gathered c.take_all-pass.result.1.items c.take_all-pass.ensures.gathered
-
-pub lead-requires-clause-asks : goal.lead-requires-clause-asks
-lead-requires-clause-asks g c = λ lifetimes outlive d.
-    asks_at_first (gives_of g.J.Job.gives) g.X.Sent.gives c.args.front.now (slice_index_or c.args.self.hands.items 0 d) c.args.intake.now
-    c.requires.few c.requires.intake (c.requires.team.none d) c.requires.untaken
-
-pub lead-requires-clause-head : goal.lead-requires-clause-head
-lead-requires-clause-head g c = λ lifetimes outlive d. (c.requires.team.head d).worker
-
-pub returns-clause-admitted : goal.returns-clause-admitted
-returns-clause-admitted g c =
-    let d = one_of c.args.self.hands.items c.requires.some.0 in
-    admitted_after (gives_of g.J.Job.gives) g.X.Sent.gives c.args.front.now (shape_of g.H.Handler.kind g.H.Handler.times g.H.Handler.total) c.args.self.pool.now
-    c.args.self.hands.items c.lead.new.self.hands.items c.look_round.new.pass c.lead.new.intake d c.requires.some.0 c.in_ok-lead.ensures.served c.look_round.ensures.pass
-    (c.look_round.ensures.handed ∙ c.take_all-pass.ensures.handed d) (c.look_round.ensures.seen ∙ c.take_all-pass.ensures.seen d)
-    (c.in_ok-lead.ensures.admitted d)
-
-pub returns-clause-ran : goal.returns-clause-ran
-returns-clause-ran g c =
-    let d = one_of c.args.self.hands.items c.requires.some.0 in
-    let board = c.args.self.pool.now.board.now in
-    let told : Seen PollerState = record { tells = g.P.Poller.tells; before = g.P.Poller.state c.args.poller.now; after = g.P.Poller.state c.lead.new.poller } in
-    let timed : Seen ClockState = record { tells = g.C.Clock.tells; before = g.C.Clock.state c.args.clock.now; after = g.C.Clock.state c.lead.new.clock } in
-    let stood = (view (slice_index_or c.args.self.hands.items 0 d).pass).seen in
-    let seen = (view (slice_index_or c.lead.new.self.hands.items 0 d).pass).seen in
-    let count = c.lead.ensures.count in
-    let many = c.requires.some.0 in
-    let all = subst (λ (n : ℕ). HasLed n (view c.look_round.new.pass)) count
-    (c.look_round.ensures.led (length c.lead.new.self.hands.items) (omega (arith, count, many)) c.take_all-pass.ensures.head) in
+    let board = c.args.self.pool.now.board.now in let bounds = bounds_on board in
+    let pass = c.in-Ok.left.0 in
+    let h = (view (slice_index_or c.args.self.hands.items 0 d).pass).seen in let k = (view pass).seen in
+    let first = c.new-outside.result in let after = c.go_on.new.outside in
+    let told : g.row.P.Denot → Seen PollerState = λ (p : g.row.P.Denot). record { tells = g.P.Poller.tells; before = g.P.Poller.state p; after = g.P.Poller.state after.poller.now } in
+    let timed : Seen ClockState = record { tells = g.C.Clock.tells; before = g.C.Clock.state first.clock.now; after = g.C.Clock.state after.clock.now } in
+    let face : g.row.P.Denot → Faced = λ (p : g.row.P.Denot). record { poller = told p; clock = timed; before = first.outlook; after = after.outlook } in
+    let going : GoesOn bounds h k (face c.args.poller.now) =
+    subst (λ (p : g.row.P.Denot). GoesOn bounds h k (face p)) c.new-outside.ensures.poller (c.in-Ok.ensures.going d) in
+    let ended : HasEnded bounds.most bounds.plan k = subst (λ (t : Terms _). HasEnded t.limits.most t.plan k) c.in-Ok.ensures.pass.terms c.in-Ok.ensures.led.ended in
     team_ran (shape_of g.H.Handler.kind g.H.Handler.times g.H.Handler.total) (gives_of g.J.Job.gives) board (length c.args.self.hands.items)
-    (AcceptsOf c.args.front.now.senders) stood seen c.look_round.new.pass told timed c.look_round.ensures.pass all
-    (c.requires.team.none d) (c.look_round.ensures.seen ∙ c.take_all-pass.ensures.seen d) (c.in_ok-lead.ensures.on d)
-    (λ one. c.lead.ensures.follows one d) (returns-clause-admitted g c).senders c.requires.unwatched
+    (AcceptsOf c.args.front.now.senders) h pass _ _ c.in-Ok.ensures.pass c.in-Ok.ensures.led (c.requires.first d)
+    (on_as g.P.Poller.state g.C.Clock.state bounds.most bounds.plan h k g.P.Poller.tells g.C.Clock.tells c.args.poller.now after.poller.now c.args.clock.now after.clock.now
+    (search rules) (search rules)
+    (run_on bounds h k (face c.args.poller.now) (g.C.Clock.state c.args.clock.now) c.new-outside.ensures.first ended going))
+    (λ one. c.in-Ok.ensures.follows one d) c.in-Ok.ensures.admitted.senders c.requires.unwatched
+
+pub returns-in-Ok-clause-kept : goal.returns-in-Ok-clause-kept
+returns-in-Ok-clause-kept g c =
+    kept_as g.P.Poller.state g.P.Poller.tells c.args.poller.now c.go_on.new.outside.poller.now (search rules)
+    (subst (λ (p : g.row.P.Denot). KeepsListens g.P.Poller.tells (g.P.Poller.state p) (g.P.Poller.state c.go_on.new.outside.poller.now)) c.new-outside.ensures.poller
+    c.go_on.ensures.kept)
+
+pub returns-in-Err-clause-kept : goal.returns-in-Err-clause-kept
+returns-in-Err-clause-kept g c =
+    kept_as g.P.Poller.state g.P.Poller.tells c.args.poller.now c.go_on.new.outside.poller.now (search rules)
+    (subst (λ (p : g.row.P.Denot). KeepsListens g.P.Poller.tells (g.P.Poller.state p) (g.P.Poller.state c.go_on.new.outside.poller.now)) c.new-outside.ensures.poller
+    c.go_on.ensures.kept)

@@ -1,9 +1,10 @@
-use Rattle.std.proofs.Common.{◌≡◌, ◌∙◌, ◌+◌, ℕ, [], length, ap, sym, subst, arith}
+use Rattle.std.proofs.Common.{◌≡◌, ◌∙◌, ◌+◌, ℕ, None, length, ap, sym, subst, arith}
 use Rattle.std.specs.Prelude.{slice_index_or}
-use Rattle.gcd_history.proofs.HeldRuns.OwnEvents.{none_own}
-use Rattle.gcd_row.specs.Passes.{view}
+use Rattle.gcd_row.specs.Passes.{IsGathered, view}
+use Rattle.gcd_row.specs.Views.{held_run}
+use Rattle.gcd_row.specs.declared.view.View.{View}
 use Rattle.gcd_steal.specs.Racks.{IsBenchOf}
-use Rattle.gcd_workers.specs.Teams.{EachFrom, IsHead, IsReadyAt}
+use Rattle.gcd_workers.specs.Teams.{EachFrom, HasLent, IsHead, IsReadyAt}
 use Rattle.gcd_workers.proofs.Heads.{head_first}
 use Rattle.gcd_workers.proofs.Hires.{all_after, all_first, first_has, pass_has}
 use Rattle.gcd_workers.proofs.Places.{each_front}
@@ -19,10 +20,10 @@ add_hands-requires-clause-benches g c =
     c.remove-first.ensures.by_index.1 c.requires.benches
 
 pub hand-requires-clause-none : goal.hand-requires-clause-none
-hand-requires-clause-none g c = none_own (view c.add_hands.new.pass).worker (view c.add_hands.new.pass).seen c.in_ok-add_hands.ensures.none
+hand-requires-clause-none g c = subst (λ (v : View _). held_run v ≡ None) (sym c.in_ok-add_hands.ensures.lent) c.requires.new.held
 
-pub hand-requires-clause-passed : goal.hand-requires-clause-passed
-hand-requires-clause-passed g c = λ zero. c.in_ok-add_hands.ensures.passed
+pub hand-requires-clause-gathered : goal.hand-requires-clause-gathered
+hand-requires-clause-gathered g c = λ zero. subst (λ (v : View _). IsGathered v c.args.journal.items) (sym c.in_ok-add_hands.ensures.lent) c.requires.journal
 
 pub hand-requires-clause-bench : goal.hand-requires-clause-bench
 hand-requires-clause-bench g c =
@@ -51,5 +52,9 @@ returns-clause-team g c =
           subst (λ (n : ℕ). IsHead 1 n (view (slice_index_or c.insert.new.self.items 0 d).pass)) many
           (first_has (λ hand. IsHead 1 (length c.remove-first.new.self.items + 1) (view hand.pass)) d items
           (pass_has (IsHead 1 (length c.remove-first.new.self.items + 1)) hand parts c.in_ok-add_hands.ensures.head));
-      none = λ d. first_has (λ hand. (view hand.pass).seen ≡ []) d items (pass_has (λ v. v.seen ≡ []) hand parts c.in_ok-add_hands.ensures.none);
     }
+
+pub returns-clause-begun : goal.returns-clause-begun
+returns-clause-begun g c = λ d.
+    first_has (λ hand. HasLent (view c.args.pass) (view hand.pass)) d c.in_ok-insert.ensures.items
+    (pass_has (HasLent (view c.args.pass)) c.hand.result c.hand.ensures.parts.0 c.in_ok-add_hands.ensures.lent)
