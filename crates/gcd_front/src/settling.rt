@@ -1,4 +1,4 @@
-// Holding what is left of mouths against what was taken.
+// Compares the accounts of shut mouths with the jobs that were taken.
 ghost use Rattle.std.specs.Prelude.{◌≡◌, All};
 ghost use Rattle.gcd_front.specs.Fronts.{AreTaken, IsIntakeOf, IsLeftOf, Settles};
 

@@ -1,4 +1,4 @@
-// What keeps the events of a run, as the loop of worker 0 sees it.
+// The interface between worker 0's loop and whatever keeps the events of a run.
 ghost use Rattle.std.specs.Prelude.{◌≡◌, Some, None, true, List, OnOk, IfOk};
 ghost use Rattle.gcd_event.specs.declared.event.Event.{Event};
 ghost use Rattle.gcd_history.specs.Ends.{HasEnded};
@@ -13,43 +13,43 @@ use gcd_machine::{Machine, Put};
 use gcd_plan::Plan;
 use std::sync::Wait;
 
-/// What a step of the recorder comes to.
+/// The result of a step of the recorder.
 #[derive(Clone, Copy)]
 pub enum Step {
-    /// Something was done.
+    /// The step did something.
     Placed,
-    /// Nothing was done.
+    /// The step did nothing.
     Waited,
-    /// Nothing more is seen, and the turn stops: its engine has something to do first that no method of the recorder may.
+    /// The step saw nothing more, and the turn stops, because the engine must do something first that no method of a recorder may do.
     Stopped,
     /// The run has ended.
     Over,
 }
 
-/// What keeps the events of a run for worker 0. Of an `Err` nothing but `kept` is said.
+/// Keeps the events of a run for worker 0. After an `Err` only `kept` holds.
 pub trait Recorder {
-    /// Why it may not go on: out of memory, or never.
+    /// Why it cannot go on: out of memory, or never.
     type Fault;
 
     /// The plan of the run, and how many events it may have.
     ghost bounds: { Self → Bounds };
 
-    /// What it has seen of the run.
+    /// The events that it has seen.
     ghost seen: { Self → List Event };
 
     /// Its machine.
     ghost sight: { Self → MachineView };
 
-    /// What holds between two steps.
+    /// Holds between two steps.
     ghost ready: { Self → Type 0 };
 
-    /// What no step changes, from the first of two to the second.
+    /// Relates it to what it becomes by any number of steps.
     ghost kept: { Self → Self → Type 0 };
 
-    /// What holds where the run has ended.
+    /// Holds once the run has ended.
     ghost left: { Self → Type 0 };
 
-    /// What holds where a turn is stopped: nothing does, for one that never stops.
+    /// Holds once a turn was stopped. For a recorder that never stops it is false.
     ghost stopped: { Self → Type 0 };
 
     /// The plan of the run.
@@ -114,7 +114,7 @@ pub trait Recorder {
         ensures grown { OnOk result (IsGrown (bounds self.old).most (bounds self.old).plan (seen self.old) (seen self.new)) }
         ensures kept { (a : Self) → kept a self.old → kept a self.new };
 
-    /// Worker 0 has no choice: what others have done, or do now. Where that is nothing, worker 0 listens or waits.
+    /// Worker 0 has no choice. It sees what others have done, or does other work. If there is none, worker 0 listens or waits.
     fn rest<R: Wait>(&mut self, rt: &R) -> Result<Step, Self::Fault>
         requires ready { ready self.old }
         requires room { HasRoom (bounds self.old).most (bounds self.old).plan (seen self.old) }
@@ -126,7 +126,7 @@ pub trait Recorder {
         ensures grown { OnOk result (IsGrown (bounds self.old).most (bounds self.old).plan (seen self.old) (seen self.new)) }
         ensures kept { (a : Self) → kept a self.old → kept a self.new };
 
-    /// An event was placed: the next [`Recorder::pause`] is the first again.
+    /// An event was placed, so the next [`Recorder::pause`] counts as the first.
     fn resume(&mut self)
         requires ready { ready self.old }
         ensures ready { ready self.new }
@@ -134,7 +134,7 @@ pub trait Recorder {
         ensures same { seen self.new ≡ seen self.old }
         ensures kept { (a : Self) → kept a self.old → kept a self.new };
 
-    /// None was placed: time passes before the next turn, if others may place one.
+    /// No event was placed. If others may place one, time passes before the next turn.
     fn pause<R: Wait>(&mut self, rt: &R)
         requires ready { ready self.old }
         ensures ready { ready self.new }
@@ -145,6 +145,6 @@ pub trait Recorder {
     /// The machine stands for what is seen.
     ghost stands: { (r : Self) → ready r → IsSight (bounds r).most (bounds r).plan (seen r) (sight r) };
 
-    /// What holds between two steps is enough where the run has ended.
+    /// `left` follows from `ready`.
     ghost leaves: { (r : Self) → ready r → left r };
 }

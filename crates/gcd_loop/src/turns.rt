@@ -34,7 +34,7 @@ pub enum TurnEnd {
     Over,
 }
 
-// Whether the event stands.
+// Returns whether the event was placed.
 #[inline(always)]
 fn is_placed(answer: Put) -> bool {
     match answer {
@@ -60,7 +60,7 @@ fn put<T: Recorder, R: Wait>(rt: &R, run: &mut T, e: Event) -> Result<bool, T::F
     Ok(is_placed(answer))
 }
 
-// Puts the first of the news, settles it unless it is to be put again, and says whether it was placed.
+// Puts the first of the news, and says whether it was placed. Unless it is to be put again, it is settled.
 #[inline(always)]
 fn tell<T: Recorder, P: Poller, C: Clock, R: Wait>(
     rt: &R,
@@ -93,8 +93,8 @@ fn tell<T: Recorder, P: Poller, C: Clock, R: Wait>(
     }
 }
 
-/// Worker 0 listens or waits: the end of a turn in which nothing was done, so neither stopped nor over. Where the poller fails a Halt is
-/// put. True if it was placed.
+/// Worker 0 listens or waits, at the end of a turn in which nothing was done. If the poller fails, it puts a Halt, and returns true if that
+/// was placed.
 #[inline(always)]
 pub fn idle<T: Recorder, P: Poller, C: Clock, R: Wait>(
     rt: &R,
@@ -119,7 +119,7 @@ pub fn idle<T: Recorder, P: Poller, C: Clock, R: Wait>(
     }
 }
 
-// Worker 0 has no choice: the others work, or else it listens or waits.
+// Worker 0 has no choice. It lets the others work, or else listens or waits.
 #[inline(always)]
 fn rest<T: Recorder, P: Poller, C: Clock, R: Wait>(
     rt: &R,
@@ -153,7 +153,7 @@ fn rest<T: Recorder, P: Poller, C: Clock, R: Wait>(
     }
 }
 
-// Worker 0 does what it chooses, or else rests.
+// Worker 0 does what it chooses, or rests if it has no choice.
 #[inline(always)]
 fn act<T: Recorder, P: Poller, C: Clock, R: Wait>(
     rt: &R,
@@ -188,7 +188,7 @@ fn act<T: Recorder, P: Poller, C: Clock, R: Wait>(
     }
 }
 
-// The later steps of a turn, where nothing came of an intake that is open.
+// Takes the later steps of a turn in which the intake was shut, or nothing was put for it.
 #[inline(always)]
 fn later<T: Recorder, P: Poller, C: Clock, R: Wait>(
     rt: &R,
@@ -222,7 +222,7 @@ fn later<T: Recorder, P: Poller, C: Clock, R: Wait>(
     }
 }
 
-// The intake is open: the recorder sees to it, and where nothing comes of that the turn goes on.
+// The intake is open. The recorder sees to it, and if it puts nothing, the turn goes on.
 #[inline(always)]
 fn admit<T: Recorder, P: Poller, C: Clock, R: Wait>(
     rt: &R,
