@@ -43,7 +43,17 @@ none_of_any (e ∷ h) none (suc i) f at = none_of_any h (λ s. rest (accepted_of
     rest None bs is = is
     rest (Some b) bs is = absurd (cc)
 
-none_accepted_in : (h : List Event) (b : ℕ) → AcceptsNone h → list_any (accepts b) h ≡ false
+-- where nothing is accepted, nothing is accepted of a sender
+pub blocks_of_none : (h : List Event) (s : ℕ) → AcceptsNone h → blocks_of_sender h s ≡ []
+blocks_of_none [] s none = refl
+blocks_of_none (e ∷ h) s none =
+    ap (λ o. cons_option o (filter_map (accepted_of s) h)) (no_block e (none zero e refl)) ∙ blocks_of_none h s (λ i f at. none (suc i) f at)
+  where
+    no_block : (x : Event) → accepted x ≡ None → accepted_of s x ≡ None
+    no_block (Accept b t) is = absurd (cc)
+    no_block x is = refl
+
+pub none_accepted_in : (h : List Event) (b : ℕ) → AcceptsNone h → list_any (accepts b) h ≡ false
 none_accepted_in [] b none = refl
 none_accepted_in (e ∷ h) b none =
     ap (λ v. v || list_any (accepts b) h) (accepts_nothing e b (none zero e refl)) ∙ none_accepted_in h b (λ i f at. none (suc i) f at)

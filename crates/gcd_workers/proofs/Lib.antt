@@ -1,11 +1,14 @@
 pub mod Intakes
 pub mod Senders
 pub mod Giving
+pub mod GoingOn
 pub mod Heads
 pub mod Hires
 pub mod Intake
 pub mod Jobs
 pub mod Lefts
+pub mod Nobody
+pub mod Opened
 pub mod Places
 pub mod Pools
 pub mod Runs

@@ -1,14 +1,14 @@
 // A run by worker 0 alone.
-ghost use Rattle.std.specs.Prelude.{◌≡◌, ◌<◌, ℕ, List, false, length, IfOk, OnOk, IsErrOf};
+ghost use Rattle.std.specs.Prelude.{◌≡◌, ◌<◌, ℕ, List, false, length, IfOk, IsErrOf};
 ghost use Rattle.gcd_plan.specs.PlanView.{PlanView};
 ghost use Rattle.gcd_event.specs.declared.event.Event.{Event};
 ghost use Rattle.gcd_history.specs.Ends.{HasState};
 ghost use Rattle.gcd_machine.specs.Stands.{StandsFor};
 ghost use Rattle.gcd_outer.specs.Outside.{seen};
 ghost use Rattle.gcd_turn.specs.Asked.{KeepsListens};
-ghost use Rattle.gcd_loop.specs.Going.{IsRunOn};
+ghost use Rattle.gcd_turn.specs.Outsides.{IsSame, faced};
 ghost use Rattle.gcd_workers.specs.ListRuns.{IsKept};
-ghost use Rattle.gcd_workers.specs.Ran.{RunsOverFiles};
+ghost use Rattle.gcd_workers.specs.Ran.{GoesOnOverFiles, RunsOverFiles};
 ghost use Rattle.gcd_workers.specs.declared.refused.RunRefused.{RunRefused};
 
 use crate::list_run::{Kept, ListRun};
@@ -22,7 +22,7 @@ use std::alloc::{AllocError, Global};
 use std::sync::Wait;
 
 // Turns a list into the result of its run.
-fn outcome_of(kept: Kept) -> Outcome
+pub(crate) fn outcome_of(kept: Kept) -> Outcome
     ensures journal { result.journal ≡ kept.journal }
     ensures values { result.values ≡ kept.values }
     ensures machine { result.machine ≡ kept.machine }
@@ -37,26 +37,42 @@ fn outcome_of(kept: Kept) -> Outcome
     }
 }
 
-// Takes turns from the first to the end of the run.
-fn run_to_the_end<R: Wait, P: Poller, C: Clock>(
+// Goes on to the end of a run that makes no team.
+fn go_on_alone<R: Wait, P: Poller, C: Clock>(
     rt: &R,
-    run: &mut ListRun,
-    poller: &mut P,
-    clock: &mut C,
-) -> Result<(), AllocError>
-    requires run { IsKept run.old.over run.old.kept }
-    ensures over { OnOk result (run.new.over ≡ run.old.over) }
-    ensures run { OnOk result (IsKept run.new.over run.new.kept) }
-    ensures on { OnOk result (IsRunOn run.old.over.most run.old.over.plan.now run.old.kept.journal.items run.new.kept.journal.items
-        (seen P.tells P.state poller.old poller.new)
-        (seen C.tells C.state clock.old clock.new)) }
-    ensures kept { KeepsListens P.tells (P.state poller.old) (P.state poller.new) }
+    mut run: ListRun,
+    outside: &mut Outside<P, C>,
+) -> Result<Outcome, AllocError>
+    requires run { IsKept run.over run.kept }
+    requires alone { run.hire.most ≡ 1 }
+    ensures went { IfOk result (GoesOnOverFiles run.entry.over 1 run.entry.kept.journal.items (faced P.tells C.tells P.state C.state outside.old outside.new)) }
+    ensures same { IsSame outside.old outside.new }
+    ensures kept { KeepsListens P.tells (P.state outside.old.poller.now) (P.state outside.new.poller.now) }
 {
-    let mut outside = Outside::new(poller, clock);
-    match run_turns(rt, run, &mut outside)? {
-        Stop::Ended => Ok(()),
+    match run_turns(rt, &mut run, outside)? {
+        Stop::Ended => Ok(outcome_of(run.kept)),
         Stop::Stopped => unreachable!(),
     }
+}
+
+/// Goes on to the end of a run for which no team could be made, as at most this many workers may.
+pub(crate) fn without_team<R: Wait, P: Poller, C: Clock>(
+    rt: &R,
+    alloc: Global,
+    over: Over,
+    kept: Kept,
+    workers: u8,
+    outside: &mut Outside<P, C>,
+) -> Result<Outcome, AllocError>
+    requires some { 0 < workers }
+    requires run { IsKept over kept }
+    ensures went { IfOk result (GoesOnOverFiles over.entry workers kept.journal.items (faced P.tells C.tells P.state C.state outside.old outside.new)) }
+    ensures same { IsSame outside.old outside.new }
+    ensures kept { KeepsListens P.tells (P.state outside.old.poller.now) (P.state outside.new.poller.now) }
+{
+    let run = ListRun::alone(alloc, over, kept);
+    let outcome = go_on_alone(rt, run, outside)?;
+    Ok(outcome)
 }
 
 /// Runs a plan over its files by worker 0 alone, until the run is quiescent or halted, or has as many events as it may have. One thread
@@ -83,11 +99,12 @@ pub fn run_alone<R: Wait, P: Poller, C: Clock>(
     ensures kept { KeepsListens P.tells (P.state poller.old) (P.state poller.new) }
     ensures before { IsErrOf result RunRefused.BeforeTheRun → (poller.new ≡ poller.old) × (clock.new ≡ clock.old) }
 {
-    let Ok(mut run) = ListRun::new(alloc, over) else {
+    let Ok(run) = ListRun::new(alloc, over) else {
         return Err(RunRefused::BeforeTheRun);
     };
-    match run_to_the_end(rt, &mut run, poller, clock) {
-        Ok(()) => Ok(outcome_of(run.kept)),
+    let mut outside = Outside::new(poller, clock);
+    match go_on_alone(rt, run, &mut outside) {
+        Ok(outcome) => Ok(outcome),
         Err(AllocError) => Err(RunRefused::InTheRun),
     }
 }

@@ -24,7 +24,7 @@ use std::sync::Wait;
 use std::thread::Threads;
 
 // A bench pushes at most this many Drains. Later ones sleep.
-const MOST_PUSHES: u32 = 4_096;
+pub(crate) const MOST_PUSHES: u32 = 4_096;
 
 /// The input of a run of jobs.
 #[derive(Drop)]

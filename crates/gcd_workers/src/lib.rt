@@ -1,5 +1,5 @@
-//! The engines that run a plan: worker 0 alone over a list, and a team over a row. (This project's own rules: libdispatch's pool of
-//! threads promises an order of blocks, and not which thread runs one.)
+//! The engines that run a plan: worker 0 alone over a list, and a team over a row, which may go on from a list. (This project's own rules:
+//! libdispatch's pool of threads promises an order of blocks, and not which thread runs one.)
 //!
 //! | to run | call |
 //! |---|---|
@@ -10,11 +10,14 @@
 //! | the same beside a front (`gcd_front`) that the caller made, in a thread of its own by [`run_beside`], beside a [`Side`] | [`Dispatch::run`] |
 //! | a board with handlers of one's own, and a rack | [`Team`] |
 //!
-//! Each row stands on the last ones: one [`Dispatch::run`] makes rack, board and pool, and a [`Team`] of a hand for each worker, and closes the
-//! board at the end. The board is made for as many workers as there are hands, because a worker that never passes on what it has seen would
-//! hold the others. A plan over files has a job for each block's work ([`file_jobs`]), and with one worker it needs no board: worker 0 keeps
-//! the events in a list ([`run_alone`]). List and row are recorders of one loop, that of `gcd_loop`. (`gcd_example` and
-//! `gcd_callers_example` call [`run_jobs`] and [`run_callers`].)
+//! [`Dispatch::run`] makes rack, board and pool, and a [`Team`] of a hand for each worker, and closes the board at the end. The board is made
+//! for as many workers as there are hands, because a worker that never passes on what it has seen would hold the others.
+//!
+//! [`run_workers`] begins with worker 0 alone, which keeps the events in a list, as [`run_alone`] does to the end. Before the Start of a long
+//! block it asks [`hands_worth`] whether a team pays. If so, a board is made whose row begins with the list. Its slots have the values of the
+//! blocks that have ended, and the jobs of the others ([`file_jobs`] makes such jobs for a board of one's own). The team goes on with the same
+//! outside. List and row are recorders of one loop, that of `gcd_loop`. (`gcd_example` and `gcd_callers_example` call [`run_jobs`] and
+//! [`run_callers`].)
 //!
 //! A run goes on until it is quiescent or halted, or has so many events as its caller allows, `most`, which may be any number up to
 //! `MAX_EVENTS` of `gcd_plan`. Nothing of that size is taken at once: the journal grows with the run.
@@ -25,7 +28,7 @@
 //! | call | answer |
 //! |---|---|
 //! | [`team_size`] | how many of so many workers there can be work for, at least 1 |
-//! | [`hands_worth`] | how many of so many workers a run over files has, at least 1: more than one only if a team pays, or if the plan has a read source |
+//! | [`hands_worth`] | how many hands run fastest what is left of a run over files, at least 1 |
 //! | [`tallies_of`], [`file_jobs`] | a tally for each source, and a job for each block's work, as a board has them, or out of memory |
 //! | [`run_workers`], [`run_alone`] | the journal, the blocks' values, the state and the machine of a run over files (`RunsOverFiles`), or out of memory |
 //! | [`run_jobs`] | the same of a run of the caller's own jobs ([`Ran`], `RunsJobs`), or why there is none: another number of jobs, no number of workers, no event, out of memory |
@@ -89,11 +92,14 @@ mod callers;
 mod callers_refused;
 mod dispatch;
 mod gather;
+mod go_on;
+mod hire;
 mod hiring;
 mod jobs_board;
 mod jobs_refused;
 mod list_run;
 mod nobodys_front;
+mod opening;
 mod outcome;
 mod over;
 mod ran;

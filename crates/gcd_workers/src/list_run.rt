@@ -13,6 +13,7 @@ ghost use Rattle.gcd_machine.specs.Calm.{IsCalm};
 ghost use Rattle.gcd_machine.specs.Stands.{StandsFor};
 ghost use Rattle.gcd_workers.specs.ListRuns.{HasChosen, HasStepped, HasSteppedTwice, IsKept, IsNext};
 
+use crate::hire::Hire;
 use crate::over::Over;
 use gcd_event::{Entry, Event};
 use gcd_jobs::{FileJob, Job};
@@ -150,17 +151,29 @@ impl Kept {
         }
     }
 
-    // Records starts and ends of blocks, as long as they are quick and nothing can come of the outside, and says whether nothing can. An
-    // `Err` leaves a run.
+    // Returns whether worker 0 asks for a team before its next event.
     #[inline(always)]
-    fn rush_through(&mut self, over: &Over) -> Result<bool, AllocError>
+    fn asks_next(&self, over: &Over, hire: &Hire) -> bool {
+        if !hire.may_ask(self.machine.len()) {
+            return false;
+        }
+        match self.machine.choose(0, 0) {
+            Some(e) => hire.asks(*over, self.machine.len(), e),
+            None => false,
+        }
+    }
+
+    // Records starts and ends of blocks, as long as they are quick, nothing can come of the outside and worker 0 asks for no team, and says
+    // whether nothing can come. An `Err` leaves a run.
+    #[inline(always)]
+    fn rush_through(&mut self, over: &Over, hire: &Hire) -> Result<bool, AllocError>
         requires run { IsKept over.now self.old }
         ensures run { IsKept over.now self.new }
         ensures rushed { OnOk result (IsRushed over.now.plan.now self.old.journal.items self.new.journal.items) }
         ensures calm { IfOk result (λ calm. calm ≡ true → IsCalm over.now.plan.now self.new.journal.items) }
     {
         let mut calm = self.machine.is_calm();
-        while calm && over.most - self.machine.len() > 1 {
+        while calm && over.most - self.machine.len() > 1 && !self.asks_next(over, hire) {
             if !self.record_run(over)? {
                 return Ok(true);
             }
@@ -185,18 +198,19 @@ impl Kept {
         }
     }
 
-    // Records what worker 0 chooses, one event after another, while nothing can come of the outside. An `Err` leaves a run.
-    fn rush_on(&mut self, over: &Over) -> Result<(), AllocError>
+    // Records what worker 0 chooses, one event after another, while nothing can come of the outside and it asks for no team. An `Err`
+    // leaves a run.
+    fn rush_on(&mut self, over: &Over, hire: &Hire) -> Result<(), AllocError>
         requires run { IsKept over.now self.old }
         ensures run { IsKept over.now self.new }
         ensures rushed { OnOk result (IsRushed over.now.plan.now self.old.journal.items self.new.journal.items) }
     {
         let mut calm = self.machine.is_calm();
-        while calm && self.machine.len() < over.most {
+        while calm && self.machine.len() < over.most && !self.asks_next(over, hire) {
             match self.record_quick(over)? {
                 Some(e) => {
                     if e.ended().is_some() {
-                        calm = self.rush_through(over)?;
+                        calm = self.rush_through(over, hire)?;
                     }
                 }
                 None => {
@@ -233,8 +247,9 @@ impl Kept {
 // A run over a plan and its files, by worker 0 alone.
 #[derive(Drop)]
 pub(crate) struct ListRun<'a> {
-    over: Over<'a>,
+    pub(crate) over: Over<'a>,
     pub(crate) kept: Kept,
+    pub(crate) hire: Hire,
 }
 
 impl<'a> ListRun<'a> {
@@ -243,17 +258,31 @@ impl<'a> ListRun<'a> {
         ensures over { IfOk result (λ r. r.over ≡ over.entry) }
         ensures journal { IfOk result (λ r. r.kept.journal.items ≡ []) }
         ensures run { IfOk result (λ r. IsKept r.over r.kept) }
+        ensures alone { IfOk result (λ r. r.hire.most ≡ 1) }
     {
         let kept = Kept::new(alloc, &over)?;
-        Ok(ListRun { over, kept })
+        Ok(ListRun::alone(alloc, over, kept))
+    }
+
+    // A run that has come so far, and makes no team.
+    pub(crate) fn alone(alloc: Global, over: Over<'a>, kept: Kept) -> ListRun<'a>
+        ensures parts { (result.over ≡ over.entry) × (result.kept ≡ kept) }
+        ensures alone { result.hire.most ≡ 1 }
+    {
+        ListRun {
+            over,
+            kept,
+            hire: Hire::nobody(alloc),
+        }
     }
 }
 
 impl<'a> Recorder for ListRun<'a> {
     type Fault = AllocError;
 
-    ghost use Rattle.std.specs.Prelude.{◌≡◌};
+    ghost use Rattle.std.specs.Prelude.{◌≡◌, ◌<◌};
     ghost use Rattle.gcd_workers.specs.ListRuns.{IsKept, kept_sight};
+    ghost use Rattle.gcd_workers.specs.Opened.{IsStopped};
 
     ghost bounds = { λ r. record { plan = r.over.plan.now; most = r.over.most } };
 
@@ -263,11 +292,11 @@ impl<'a> Recorder for ListRun<'a> {
 
     ghost ready = { λ r. IsKept r.over r.kept };
 
-    ghost kept = { λ a r. r.over ≡ a.over };
+    ghost kept = { λ a r. (r.over ≡ a.over) × (r.hire.most ≡ a.hire.most) };
 
     ghost left = { λ r. IsKept r.over r.kept };
 
-    ghost stopped = { λ r. ⊥ };
+    ghost stopped = { λ r. IsKept r.over r.kept × IsStopped r.over.plan.now r.kept.journal.items × (1 < r.hire.most) };
 
     ghost stands = { λ r run. kept_sight r.over r.kept run };
 
@@ -297,7 +326,7 @@ impl<'a> Recorder for ListRun<'a> {
 
     #[inline(always)]
     fn rush(&mut self) -> Result<(), AllocError> {
-        self.kept.rush_on(&self.over)
+        self.kept.rush_on(&self.over, &self.hire)
     }
 
     #[inline(always)]
@@ -314,6 +343,9 @@ impl<'a> Recorder for ListRun<'a> {
 
     #[inline(always)]
     fn work<R: Wait>(&mut self, _rt: &R, e: Event) -> Result<Step, AllocError> {
+        if self.hire.stops(self.over, &self.kept.machine, e) {
+            return Ok(Step::Stopped);
+        }
         self.kept.record(&self.over, e)?;
         Ok(Step::Placed)
     }

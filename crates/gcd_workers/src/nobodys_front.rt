@@ -10,7 +10,7 @@ use std::alloc::{AllocError, Global};
 pub fn nobodys_front(alloc: Global) -> Result<(Front<Nobody>, Intake<Nobody>), AllocError>
     ensures senders { IfOk result (λ r. r.0.senders ≡ 0) }
     ensures intake { IfOk result (λ r. IsIntakeOf r.0 r.1) }
-    ensures untaken { IfOk result (λ r. r.1.taken ≡ []) }
+    ensures untaken { IfOk result (λ r. (r.1.taken ≡ []) × (r.1.known ≡ [])) }
 {
     let (front, _mouths, intake) = Front::new(alloc, 1, 0)?;
     Ok((front, intake))

@@ -1,34 +1,67 @@
 // A run of a plan over its files.
-ghost use Rattle.std.specs.Prelude.{◌≡◌, ◌≤◌, ◌<◌, ℕ, false, length, IfOk, IsErrOf};
+ghost use Rattle.std.specs.Prelude.{◌≡◌, ◌≤◌, ◌<◌, ℕ, [], false, length, IfOk, IsErrOf};
 ghost use Rattle.gcd_plan.specs.Limits.{max_workers};
 ghost use Rattle.gcd_machine.specs.Stands.{StandsFor};
 ghost use Rattle.gcd_outer.specs.Outside.{seen};
 ghost use Rattle.gcd_turn.specs.Asked.{KeepsListens};
-ghost use Rattle.gcd_workers.specs.Ran.{RunsOverFiles};
+ghost use Rattle.gcd_turn.specs.Outsides.{IsSame, faced};
+ghost use Rattle.gcd_workers.specs.ListRuns.{IsKept};
+ghost use Rattle.gcd_workers.specs.Ran.{GoesOnOverFiles, RunsOverFiles};
 ghost use Rattle.gcd_workers.specs.declared.refused.RunRefused.{RunRefused};
 
-use crate::alone::run_alone;
-use crate::dispatch::Dispatch;
-use crate::nobodys_front::nobodys_front;
+use crate::alone::outcome_of;
+use crate::go_on::go_on;
+use crate::hire::Hire;
+use crate::list_run::ListRun;
 use crate::outcome::Outcome;
 use crate::over::Over;
 use crate::refused::RunRefused;
-use crate::works::{file_jobs, outcome_of};
-use crate::worth::hands_worth;
+use gcd_loop::{Stop, run_turns};
 use gcd_outer::{Clock, Poller};
+use gcd_turn::Outside;
 use std::alloc::{AllocError, Global};
 use std::sync::Wait;
 use std::thread::Threads;
 
-/// Runs a plan over its files by at most so many workers, 1 to 64, until the run is quiescent or halted, or has as many events as it may
-/// have. It has as many hands as [`hands_worth`] says. With one, worker 0 runs the plan alone ([`run_alone`]), and no thread is made. With
-/// more, there is a team over row, rack and pool from the first event on: worker 0, which alone has poller and clock, and helpers in threads
-/// of their own. There are no outside callers, so an intake of the plan is shut at once. The poller watches no feed yet.
+// Goes from the first event to the end: by worker 0 in its list, and by a team from where that pays.
+fn run_on<R: Threads + Wait + Sync, P: Poller, C: Clock>(
+    rt: &R,
+    alloc: Global,
+    mut run: ListRun,
+    workers: u8,
+    outside: &mut Outside<P, C>,
+) -> Result<Outcome, AllocError>
+    requires most { 0 < run.over.most }
+    requires workers { (0 < workers) × (workers ≤ max_workers) }
+    requires run { IsKept run.over run.kept }
+    requires first { run.kept.journal.items ≡ [] }
+    ensures went { IfOk result (GoesOnOverFiles run.entry.over workers [] (faced P.tells C.tells P.state C.state outside.old outside.new)) }
+    ensures same { IsSame outside.old outside.new }
+    ensures kept { KeepsListens P.tells (P.state outside.old.poller.now) (P.state outside.new.poller.now) }
+{
+    if run.hire.is_team() {
+        let outcome = go_on(rt, alloc, run, workers, outside)?;
+        return Ok(outcome);
+    }
+    match run_turns(rt, &mut run, outside)? {
+        Stop::Ended => Ok(outcome_of(run.kept)),
+        Stop::Stopped => {
+            let outcome = go_on(rt, alloc, run, workers, outside)?;
+            Ok(outcome)
+        }
+    }
+}
+
+/// Runs a plan over its files by at most this many workers, 1 to 64, until the run is quiescent or halted, or has as many events as it may
+/// have. Worker 0 begins alone and keeps the events in a list. A team goes on from where it pays: before the Start of a long block, if an
+/// estimate over works and queues finds that several hands need less time for what is left. Its helpers have their own threads, and it
+/// shares row, rack and pool. If the plan has a read source, the team is there from the first event on, because the poller may hold
+/// worker 0. There are no outside callers, so an intake of the plan is shut at once. The poller watches no feed yet.
 ///
-/// Returns `Err` only if memory runs out, or if the system makes no thread for a worker on whom all others wait (`gcd_pool`). Before the
-/// first turn that is [`RunRefused::BeforeTheRun`], with poller and clock as they were (`before`), and from then on
-/// [`RunRefused::InTheRun`]: blocks may have run then, and what poller and clock have told is told. Nothing is left of the run; the threads
-/// have ended, and the poller listens where it did (`kept`).
+/// If memory for a team is refused, worker 0 goes on alone. Otherwise the call returns `Err` if memory runs out, or if the system makes no
+/// thread for a worker on whom all others wait (`gcd_pool`). Before the first turn that is [`RunRefused::BeforeTheRun`], and poller and
+/// clock are as they were (`before`). Later it is [`RunRefused::InTheRun`]: blocks may have run, and news from the poller may be lost.
+/// Nothing is left of the run: the threads have ended, and the poller listens where it did (`kept`).
 pub fn run_workers<R: Threads + Wait + Sync, P: Poller, C: Clock>(
     rt: &R,
     alloc: Global,
@@ -48,26 +81,12 @@ pub fn run_workers<R: Threads + Wait + Sync, P: Poller, C: Clock>(
     ensures kept { KeepsListens P.tells (P.state poller.old) (P.state poller.new) }
     ensures before { IsErrOf result RunRefused.BeforeTheRun → (poller.new ≡ poller.old) × (clock.new ≡ clock.old) }
 {
-    let hands = hands_worth(rt, alloc, over, workers);
-    if hands == 1 {
-        return run_alone(rt, alloc, over, poller, clock);
-    }
-    // This call shows that the plan is valid.
-    let _blocks = over.plan.blocks();
-    let Ok(jobs) = file_jobs(alloc, over.plan, over.files) else {
+    let Ok(mut run) = ListRun::new(alloc, over) else {
         return Err(RunRefused::BeforeTheRun);
     };
-    let Ok((front, mut intake)) = nobodys_front(alloc) else {
-        return Err(RunRefused::BeforeTheRun);
-    };
-    let given = Dispatch {
-        plan: over.plan,
-        workers: hands,
-        most: over.most,
-        jobs,
-    };
-    let ran = given.run(rt, alloc, &front, &mut intake, poller, clock)?;
-    match outcome_of(alloc, ran) {
+    run.hire = Hire::new(rt, alloc, over, &run.kept.machine, workers);
+    let mut outside = Outside::new(poller, clock);
+    match run_on(rt, alloc, run, workers, &mut outside) {
         Ok(outcome) => Ok(outcome),
         Err(AllocError) => Err(RunRefused::InTheRun),
     }

@@ -1,11 +1,11 @@
 // Estimates how many hands run a plan over files fastest. Times are in sixteenths of a nanosecond.
 ghost use Rattle.std.specs.Prelude.{◌<◌, ◌≤◌};
 
-use crate::hiring::{submitted, team_size};
+use crate::hiring::submitted;
 use crate::over::Over;
+use gcd_machine::Machine;
 use gcd_plan::{Act, Blk, How, Obj, Plan, Run, Work};
 use std::alloc::{AllocError, Global};
-use std::thread::{Threads, available_parallelism};
 
 // No team pays if every work takes less than this, a microsecond.
 const LONG: u64 = 16_000;
@@ -52,8 +52,14 @@ fn block_time(over: Over, b: Blk) -> u64 {
     }
 }
 
-// Returns whether a work over one of the files can be long.
-fn has_long_file(files: &[Vec<u8>]) -> bool {
+/// Returns whether the block's work is long.
+#[inline(always)]
+pub(crate) fn is_long(over: Over, b: Blk) -> bool {
+    block_time(over, b) >= LONG
+}
+
+/// Returns whether a work over one of the files can be long.
+pub(crate) fn has_long_file(files: &[Vec<u8>]) -> bool {
     for bytes in files {
         if time_of(How::Words, bytes.len() as u64) >= LONG {
             return true;
@@ -62,24 +68,19 @@ fn has_long_file(files: &[Vec<u8>]) -> bool {
     false
 }
 
-// Returns whether a block has a long work.
-fn has_long_work(over: Over) -> bool {
+/// Returns whether a block has a long work.
+pub(crate) fn has_long_work(over: Over) -> bool {
     for number in 0..over.plan.blocks() {
-        if block_time(over, Blk(number)) >= LONG {
+        if is_long(over, Blk(number)) {
             return true;
         }
     }
     false
 }
 
-// Returns whether the plan has a read source.
-fn has_feed(plan: &Plan) -> bool {
-    for number in 0..plan.objects() {
-        if plan.kind(Obj(number)).is_read() {
-            return true;
-        }
-    }
-    false
+// Returns whether a block has still to end.
+fn is_left(machine: &Machine, b: Blk) -> bool {
+    b.0 < machine.blocks() && !machine.is_ended(b)
 }
 
 // Returns the exclusive object nearest to `root` among an object and its targets. It runs its blocks one after another.
@@ -98,10 +99,10 @@ fn lane_of(plan: &Plan, o: Obj) -> Option<Obj> {
     lane
 }
 
-// How long the blocks of a run take.
+// How long the blocks take that are left of a run.
 #[derive(Drop)]
 struct Costs {
-    // The time of all submitted blocks, the time of the longest, and their number.
+    // The time of all these blocks that an act submits, the time of the longest, and their number.
     all: u64,
     longest: u64,
     count: u64,
@@ -124,19 +125,23 @@ impl Costs {
     }
 
     // Adds the blocks that an act submits.
-    fn add_act(&mut self, over: Over, act: Act) {
+    fn add_act(&mut self, over: Over, machine: &Machine, act: Act) {
         let Some((queue, _)) = submitted(over.plan, act) else {
             return;
         };
         if let Some(b) = act.block() {
-            self.add(queue, block_time(over, b));
+            if is_left(machine, b) {
+                self.add(queue, block_time(over, b));
+            }
         }
         let Some(number) = act.strip() else {
             return;
         };
         if let Some(strip) = over.plan.strips().get(number as usize) {
             for place in 0..strip.count {
-                self.add(queue, work_time(over.files, strip.work(place)));
+                if is_left(machine, Blk(strip.first.saturating_add(place))) {
+                    self.add(queue, work_time(over.files, strip.work(place)));
+                }
             }
         }
     }
@@ -172,8 +177,8 @@ impl Costs {
     }
 }
 
-// Adds up the blocks of a run over these files. Returns `Err` if memory runs out.
-fn costs_of(alloc: Global, over: Over) -> Result<Costs, AllocError> {
+// Adds up the blocks that are left of a run over these files. Returns `Err` if memory runs out.
+fn costs_of(alloc: Global, over: Over, machine: &Machine) -> Result<Costs, AllocError> {
     let plan = over.plan;
     let objects = plan.objects();
     let mut costs = Costs {
@@ -188,43 +193,21 @@ fn costs_of(alloc: Global, over: Over) -> Result<Costs, AllocError> {
     }
     for number in 0..plan.blocks() {
         for act in plan.acts(Run::Block(Blk(number))) {
-            costs.add_act(over, *act);
+            costs.add_act(over, machine, *act);
         }
     }
     Ok(costs)
 }
 
-// Returns how many processors this process may use, or 255 if the system does not tell.
-fn processors<R: Threads>(rt: &R) -> u8
-    ensures { 0 < result }
-{
-    match available_parallelism(rt) {
-        Ok(count) => u8::try_from(count.get()).unwrap_or(u8::MAX).max(1),
-        Err(_) => u8::MAX,
-    }
-}
-
-/// Returns how many hands [`crate::run_workers`] makes for at most so many workers, at least 1 (this project's own rule).
-///
-/// If the plan has a read source, the poller may hold worker 0, so the answer is [`team_size`]. Otherwise it is the number of hands that an
-/// estimate over works and queues finds fastest, at most `team_size` and the number of processors. The answer is 1 if no team saves a tenth
-/// of the time that one hand takes, if no work lasts a microsecond, or if memory runs out. No clause says that the estimate is right.
-pub fn hands_worth<R: Threads>(rt: &R, alloc: Global, over: Over, workers: u8) -> u8
-    requires { 0 < workers }
+/// Returns how many hands run fastest what is left of a run, at least 1 and at most `most` (this project's own rule). The machine stands for
+/// what has come. The answer is 1 if no team saves a tenth of the time that one hand takes, or if memory runs out. It is an estimate over works
+/// and queues, and no clause says that it is right.
+pub fn hands_worth(alloc: Global, over: Over, machine: &Machine, most: u8) -> u8
+    requires { 0 < most }
     ensures some { 0 < result }
-    ensures few { result ≤ workers }
+    ensures few { result ≤ most }
 {
-    if workers == 1 {
-        return 1;
-    }
-    if has_feed(over.plan) {
-        return team_size(over.plan, workers);
-    }
-    if !has_long_file(over.files) || !has_long_work(over) {
-        return 1;
-    }
-    let most = team_size(over.plan, workers).min(processors(rt));
-    match costs_of(alloc, over) {
+    match costs_of(alloc, over, machine) {
         Ok(costs) => costs.hands(over.plan, most),
         Err(AllocError) => 1,
     }

@@ -1,24 +1,37 @@
-use Rattle.std.proofs.Common.{subst, List, []}
+use Rattle.std.proofs.Common.{List, [], rules, subst}
 use Rattle.gcd_event.specs.declared.event.Event.{Event}
-use Rattle.gcd_loop.specs.Going.{IsRunOn}
 use Rattle.gcd_outer.specs.Outside.{ClockState, Seen}
 use Rattle.gcd_outer.specs.Tells.{PollerState}
-use Rattle.gcd_workers.specs.Ran.{RunsOverFiles}
+use Rattle.gcd_turn.specs.Asked.{KeepsListens}
+use Rattle.gcd_turn.specs.Outsides.{Faced}
+use Rattle.gcd_loop.proofs.Steps.{kept_as}
+use Rattle.gcd_workers.specs.Ran.{GoesOnOverFiles}
 use Rattle.gcd_workers.specs.declared.over.Over.{Over}
-use Rattle.gcd_workers.proofs.Runs.{alone_over_files}
+use Rattle.gcd_workers.proofs.GoingOn.{ran_as, went_whole}
 use Rattle.gcd_workers.proofs.alone.run_alone.Goals as goal
 
-pub returns-in-Ok-run_to_the_end-clause-ran : goal.returns-in-Ok-run_to_the_end-clause-ran
-returns-in-Ok-run_to_the_end-clause-ran g c =
-    let first = c.in-Ok.run' in
-    let over = first.over in
-    let last = c.run_to_the_end.new.run in
-    let h = last.kept.journal.items in
-    let told : Seen PollerState = record { tells = g.P.Poller.tells; before = g.P.Poller.state c.args.poller.now; after = g.P.Poller.state c.run_to_the_end.new.poller } in
-    let timed : Seen ClockState = record { tells = g.C.Clock.tells; before = g.C.Clock.state c.args.clock.now; after = g.C.Clock.state c.run_to_the_end.new.clock } in
-    let run = c.in-Ok-run_to_the_end.ensures.run in
-    let on : IsRunOn over.most over.plan.now [] h told timed =
-    subst (λ (s : List Event). IsRunOn over.most over.plan.now s h told timed) c.in-Ok.ensures.journal c.in-Ok-run_to_the_end.ensures.on in
-    let all = alone_over_files last.over over last.kept c.outcome_of.result told timed c.in-Ok-run_to_the_end.ensures.over
-    c.outcome_of.ensures.journal c.outcome_of.ensures.values run (c.outcome_of.ensures.state last.over.plan.now h run.stands) c.requires.unwatched on in
-    subst (λ (o : Over). RunsOverFiles o 1 told timed c.outcome_of.result) c.in-Ok.ensures.over all
+pub returns-in-Ok-go_on_alone-clause-ran : goal.returns-in-Ok-go_on_alone-clause-ran
+returns-in-Ok-go_on_alone-clause-ran g c =
+    let over = c.args.over in let o = c.in-Ok-go_on_alone.outcome in
+    let first = c.new-outside.result in let after = c.go_on_alone.new.outside in
+    let told : g.row.P.Denot → Seen PollerState = λ (p : g.row.P.Denot). record { tells = g.P.Poller.tells; before = g.P.Poller.state p; after = g.P.Poller.state after.poller.now } in
+    let timed : Seen ClockState = record { tells = g.C.Clock.tells; before = g.C.Clock.state first.clock.now; after = g.C.Clock.state after.clock.now } in
+    let face : g.row.P.Denot → Faced = λ (p : g.row.P.Denot). record { poller = told p; clock = timed; before = first.outlook; after = after.outlook } in
+    let went : GoesOnOverFiles over 1 [] (face c.args.poller.now) o =
+    subst (λ (p : g.row.P.Denot). GoesOnOverFiles over 1 [] (face p) o) c.new-outside.ensures.poller
+    (subst (λ (x : Over). GoesOnOverFiles x 1 [] (face first.poller.now) o) c.in-Ok.ensures.over (subst (λ (h : List Event). GoesOnOverFiles c.in-Ok.run'.over 1 h (face first.poller.now) o) c.in-Ok.ensures.journal c.in-Ok-go_on_alone.ensures.went)) in
+    ran_as g.P.Poller.state g.C.Clock.state over 1 o g.P.Poller.tells g.C.Clock.tells c.args.poller.now after.poller.now c.args.clock.now after.clock.now
+    (search rules) (search rules)
+    (went_whole over 1 (face c.args.poller.now) o (g.C.Clock.state c.args.clock.now) c.new-outside.ensures.first c.requires.unwatched went)
+
+pub returns-in-Ok-go_on_alone-clause-kept : goal.returns-in-Ok-go_on_alone-clause-kept
+returns-in-Ok-go_on_alone-clause-kept g c =
+    kept_as g.P.Poller.state g.P.Poller.tells c.args.poller.now c.go_on_alone.new.outside.poller.now (search rules)
+    (subst (λ (p : g.row.P.Denot). KeepsListens g.P.Poller.tells (g.P.Poller.state p) (g.P.Poller.state c.go_on_alone.new.outside.poller.now)) c.new-outside.ensures.poller
+    c.go_on_alone.ensures.kept)
+
+pub returns-in-Err-clause-kept : goal.returns-in-Err-clause-kept
+returns-in-Err-clause-kept g c =
+    kept_as g.P.Poller.state g.P.Poller.tells c.args.poller.now c.go_on_alone.new.outside.poller.now (search rules)
+    (subst (λ (p : g.row.P.Denot). KeepsListens g.P.Poller.tells (g.P.Poller.state p) (g.P.Poller.state c.go_on_alone.new.outside.poller.now)) c.new-outside.ensures.poller
+    c.go_on_alone.ensures.kept)

@@ -1,0 +1,170 @@
+// Decides when a team goes on with a run that worker 0 began in a list.
+ghost use Rattle.std.specs.Prelude.{◌≡◌, ◌<◌, ◌≤◌, ℕ, List, true, false, Some};
+ghost use Rattle.gcd_event.specs.declared.event.Event.{Event};
+ghost use Rattle.gcd_plan.specs.Kinds.{is_source_kind};
+ghost use Rattle.gcd_plan.specs.PlanView.{kind_of};
+ghost use Rattle.gcd_plan.specs.declared.kind.Kind.{Kind};
+ghost use Rattle.gcd_workers.specs.Opened.{HandsNothingOver, HasNoSource, IsStart};
+
+use crate::hiring::team_size;
+use crate::over::Over;
+use crate::worth::{hands_worth, has_long_file, has_long_work, is_long};
+use gcd_event::Event;
+use gcd_machine::Machine;
+use gcd_plan::{Obj, Plan};
+use std::alloc::Global;
+use std::thread::{Threads, available_parallelism};
+
+// Returns whether the plan has a read source.
+fn has_feed(plan: &Plan) -> bool {
+    for number in 0..plan.objects() {
+        if plan.kind(Obj(number)).is_read() {
+            return true;
+        }
+    }
+    false
+}
+
+// Returns whether the plan has a source.
+fn has_source(plan: &Plan) -> bool
+    ensures { result ≡ false → HasNoSource plan.now }
+{
+    for number in 0..plan.objects() {
+        if plan.kind(Obj(number)).is_source() {
+            return true;
+        }
+    }
+    false
+}
+
+// Returns how many processors this process may use, or 255 if the system does not tell.
+fn processors<R: Threads>(rt: &R) -> u8
+    ensures { 0 < result }
+{
+    match available_parallelism(rt) {
+        Ok(count) => u8::try_from(count.get()).unwrap_or(u8::MAX).max(1),
+        Err(_) => u8::MAX,
+    }
+}
+
+/// Decides when a team goes on with a run that worker 0 began in a list (this project's own rule). No clause says that it decides well.
+#[derive(Clone, Copy)]
+pub(crate) struct Hire {
+    alloc: Global,
+    // A team has at most this many hands.
+    pub(crate) most: u8,
+    // Worker 0 asks whether a team pays once the list has this many events.
+    ask_at: u32,
+    // The run goes on by this many hands.
+    hands: u8,
+}
+
+impl Hire {
+    /// No team goes on.
+    pub(crate) fn nobody(alloc: Global) -> Hire
+        ensures { result.most ≡ 1 }
+    {
+        Hire {
+            alloc,
+            most: 1,
+            ask_at: u32::MAX,
+            hands: 1,
+        }
+    }
+
+    /// Decides for a run by at most this many workers that has not begun. The machine stands for it. If the plan has a read source, the poller
+    /// may hold worker 0, so a team begins at once. If the plan has another source, a team begins at once if that pays, and otherwise never.
+    /// If no work is long, worker 0 stays alone.
+    pub(crate) fn new<R: Threads>(
+        rt: &R,
+        alloc: Global,
+        over: Over,
+        machine: &Machine,
+        workers: u8,
+    ) -> Hire
+        requires { 0 < workers }
+    {
+        let mut hire = Hire::nobody(alloc);
+        if workers == 1 {
+            return hire;
+        }
+        if has_feed(over.plan) {
+            hire.hands = team_size(over.plan, workers);
+            return hire;
+        }
+        if !has_long_file(over.files) || !has_long_work(over) {
+            return hire;
+        }
+        hire.most = team_size(over.plan, workers).min(processors(rt));
+        hire.ask_at = 0;
+        if has_source(over.plan) {
+            hire.hands = hands_worth(alloc, over, machine, hire.most);
+            hire.ask_at = u32::MAX;
+        }
+        hire
+    }
+
+    /// Returns whether a team goes on from here.
+    pub(crate) fn is_team(&self) -> bool {
+        self.hands > 1
+    }
+
+    /// Returns how many hands go on, at least 1 and at most `workers`.
+    pub(crate) fn hands(&self, workers: u8) -> u8
+        requires { 0 < workers }
+        ensures some { 0 < result }
+        ensures few { result ≤ workers }
+    {
+        self.hands.max(1).min(workers)
+    }
+
+    /// Returns whether worker 0 may ask once the list has this many events.
+    #[inline(always)]
+    pub(crate) fn may_ask(&self, len: u32) -> bool {
+        len >= self.ask_at
+    }
+
+    /// Returns whether the event is the Start of a long block, and worker 0 may ask before it.
+    #[inline(always)]
+    pub(crate) fn asks(&self, over: Over, len: u32, e: Event) -> bool
+        ensures { result ≡ true → IsStart e }
+    {
+        if !self.may_ask(len) {
+            return false;
+        }
+        let Event::Start { blk, .. } = e else {
+            return false;
+        };
+        is_long(over, blk)
+    }
+
+    // Asks whether a team pays for what is left of the run, for which the machine stands. None does if the plan has a source. Otherwise
+    // worker 0 asks again once the list is twice as long and has an event more for each block.
+    fn pays(&mut self, over: Over, machine: &Machine) -> bool
+        ensures most { self.new.most ≡ self.old.most }
+        ensures some { result ≡ true → 1 < self.old.most }
+        ensures nothing { result ≡ true → (h : List Event) → HandsNothingOver over.entry.plan.now h }
+    {
+        let len = machine.len();
+        self.ask_at = len.saturating_add(len.max(over.plan.blocks()));
+        if has_source(over.plan) {
+            return false;
+        }
+        self.hands = hands_worth(self.alloc, over, machine, self.most.max(1));
+        self.hands > 1
+    }
+
+    /// Returns whether the list stops before this event, so that a team goes on. The machine stands for the list.
+    #[inline(always)]
+    pub(crate) fn stops(&mut self, over: Over, machine: &Machine, e: Event) -> bool
+        ensures most { self.new.most ≡ self.old.most }
+        ensures some { result ≡ true → 1 < self.old.most }
+        ensures start { result ≡ true → IsStart e }
+        ensures nothing { result ≡ true → (h : List Event) → HandsNothingOver over.entry.plan.now h }
+    {
+        if self.asks(over, machine.len(), e) {
+            return self.pays(over, machine);
+        }
+        false
+    }
+}
