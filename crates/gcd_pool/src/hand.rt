@@ -1,4 +1,4 @@
-// What workers share, and what each of them has.
+// The parts that workers share, and the hand of each worker.
 ghost use Rattle.std.specs.Prelude.{◌≡◌, true, None};
 ghost use Rattle.gcd_row.specs.Passes.{IsPassOf, view};
 ghost use Rattle.gcd_steal.specs.Racks.{IsBenchOf};
@@ -11,12 +11,12 @@ use gcd_row::{RowBoard, RowPass, Slot};
 use gcd_steal::{Bench, Rack};
 use std::sync::atomic::{AtomicBool, AtomicU64, Ordering};
 
-// The bit of a worker, 0 to 63.
+// Returns the bit of a worker, 0 to 63.
 fn bit_of(worker: u8) -> u64 {
     1 << (worker % 64)
 }
 
-/// What the workers of a run share: the board, the rack and the plan of both. Threads share it by `&`.
+/// The workers of a run share this: the board, the rack and the plan of both. Threads share it by `&`.
 #[derive(Drop)]
 pub struct Pool<'a, S: Slot> {
     /// The row of events, and the slots.
@@ -25,18 +25,16 @@ pub struct Pool<'a, S: Slot> {
     pub rack: &'a Rack,
     /// The plan of the board and of the rack.
     pub plan: &'a Plan,
-    // Whether the team has one hand alone: then nobody else begins anything, and no Drain is pushed.
+    // The team has only one hand. Then nobody else begins anything, and no Drain is pushed.
     pub(crate) alone: bool,
-    // Set where memory was refused to worker 0's journal, or a worker's thread was never made, and nowhere else: then nobody waits any
-    // more.
+    // Worker 0's journal was refused memory, or a worker's thread was never made. From then on nobody waits.
     stopped: AtomicBool,
-    // Which workers have begun to serve or to lead, a bit for each.
+    // One bit for each worker that has begun to serve or to lead.
     begun: AtomicU64,
 }
 
 impl<'a, S: Slot> Pool<'a, S> {
-    /// What workers share of a board, a rack and a plan. Conditions, for the calls that ask for a hand of it:
-    /// the board is of this plan, with a cell for each block, and so is the rack.
+    /// Makes a pool. Calls that ask for a hand of it need a board and a rack of this plan, with a cell for each block.
     pub fn new(board: &'a RowBoard<S>, rack: &'a Rack, plan: &'a Plan) -> Pool<'a, S>
         ensures board { result.board.now ≡ board.now }
         ensures rack { result.rack.now ≡ rack.now }
@@ -52,7 +50,7 @@ impl<'a, S: Slot> Pool<'a, S> {
         }
     }
 
-    // The same for so many hands.
+    // Returns this pool for so many hands.
     pub(crate) fn for_hands(&self, hands: usize) -> Pool<'a, S>
         ensures same { IsSamePool self.now result }
         ensures alone { hands ≡ 1 → result.alone ≡ true }
@@ -67,8 +65,8 @@ impl<'a, S: Slot> Pool<'a, S> {
         }
     }
 
-    /// The hand of a worker that holds no run. Conditions: the pass is of the pool's board, the bench of its rack, and both are of its plan;
-    /// and worker 0's journal is what its pass has seen up to its passed word. A helper's journal is not read.
+    /// Makes the hand of a worker that holds no run. The pass is of the pool's board and the bench of its rack, and both are of its plan.
+    /// Worker 0's journal has what its pass has seen up to its passed word. A helper's journal is not read.
     pub fn hand(&self, pass: RowPass<S>, bench: Bench, journal: Vec<Entry>) -> Hand<S>
         requires pool { IsPool self.now }
         requires pass { IsPassOf S.shape S.gives self.now.board.now pass }
@@ -85,29 +83,28 @@ impl<'a, S: Slot> Pool<'a, S> {
         }
     }
 
-    // Memory was refused to worker 0's journal, or a worker's thread was never made.
+    // Stops the team: worker 0's journal was refused memory, or a worker's thread was never made.
     pub(crate) fn stop(&self) {
         self.stopped.store(true, Ordering::SeqCst);
     }
 
-    // Whether it was.
+    // Returns whether the team was stopped.
     pub(crate) fn is_stopped(&self) -> bool {
         self.stopped.load(Ordering::SeqCst)
     }
 
-    // The worker has begun to serve, or to lead.
+    // Notes that the worker has begun to serve or to lead.
     pub(crate) fn begin_serving(&self, worker: u8) {
         self.begun.fetch_or(bit_of(worker), Ordering::SeqCst);
     }
 
-    // Whether the worker has.
+    // Returns whether the worker has begun.
     pub(crate) fn has_begun(&self, worker: u8) -> bool {
         self.begun.load(Ordering::SeqCst) & bit_of(worker) != 0
     }
 }
 
-/// What one worker has: its pass of the board and its bench of the rack. It may go to a thread of its
-/// own.
+/// One worker's pass of the board and its bench of the rack. It may go to another thread.
 #[derive(Drop)]
 pub struct Hand<S> {
     /// Its pass.

@@ -30,8 +30,8 @@ use gcd_turn::Outside;
 use std::alloc::AllocError;
 use std::sync::Wait;
 
-// The job that was taken last, of this sender, becomes that of the intake's next block, and its Accept is put. If that is barred the run is
-// halted, and if there is no room it is full: the job is dropped with the row then.
+// Lays the job that was taken last, of this sender, into the slot of the intake's next block, and puts its Accept. If that is barred the run
+// is halted, and if there is no room the run is full. The job is dropped with the row then.
 fn accept<S: AdmitCells<X>, X: Sent + Drop, R: Wait>(
     rt: &R,
     pool: &Pool<S>,
@@ -84,7 +84,7 @@ fn take_in<S: AdmitCells<X>, X: Sent + Drop, R: Wait>(
     }
 }
 
-// Worker 0 as its loop sees it. Its fields keep their references.
+// Worker 0 as the recorder of its loop. Its fields keep their references.
 #[derive(Drop)]
 pub(crate) struct Head<'a, 'h, S: Slot, X: Drop> {
     pool: &'h Pool<'a, S>,
@@ -143,7 +143,7 @@ impl<'a, 'h, S: AdmitCells<X>, X: Sent + Drop> Recorder for Head<'a, 'h, S, X> {
         self.pool.board.look(&mut self.hand.pass);
     }
 
-    // Whatever a team records it puts into the row.
+    // A team puts each event into the row, so it has nothing to rush.
     #[inline(always)]
     fn rush(&mut self) -> Result<(), AllocError> {
         Ok(())
@@ -198,7 +198,7 @@ impl<'a, 'h, S: AdmitCells<X>, X: Sent + Drop> Recorder for Head<'a, 'h, S, X> {
     }
 }
 
-// Goes turn by turn to the end, and gathers all that was seen. False if memory was refused to the journal, or the team was stopped.
+// Takes turns to the end, and gathers all that was seen. Returns false if the journal was refused memory, or the team was stopped.
 #[inline(always)]
 fn run_head<S: AdmitCells<X>, X: Sent + Drop, P: Poller, C: Clock, R: Wait>(
     rt: &R,
@@ -228,7 +228,7 @@ fn run_head<S: AdmitCells<X>, X: Sent + Drop, P: Poller, C: Clock, R: Wait>(
     }
 }
 
-// Worker 0 of a pool, with this front. With the hand of another worker it serves as that helper.
+// Does worker 0's work with this front. With the hand of another worker it serves as that helper.
 impl<'a, 'o, S: AdmitCells<X>, X: Sent + Drop, P: Poller, C: Clock> Leader<
     Hand<S>,
     Pool<'a, S>,

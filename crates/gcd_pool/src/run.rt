@@ -1,4 +1,4 @@
-// A run of a pool: helpers in threads, and worker 0.
+// The run of a pool: helpers in threads, and worker 0.
 ghost use Rattle.std.specs.Prelude.{◌≡◌, ◌<◌, ◌≤◌, ℕ, All, Ok, IfOk, OnOk, length, slice_index_or, vec_len};
 ghost use Rattle.gcd_row.specs.Passes.{terms_of, view};
 ghost use Rattle.gcd_row.specs.Shapes.{shape_of, gives_of};
@@ -38,7 +38,7 @@ fn see_the_end<S: Slot, R: Wait>(rt: &R, pool: &Pool<S>, hand: &mut Hand<S>)
     unreachable!()
 }
 
-// The hands from the second on do.
+// Lets the hands from the second on do so.
 fn see_the_rest<S: Slot, R: Wait>(rt: &R, pool: &Pool<S>, hands: &mut [Hand<S>])
     requires { All (IsHandOf S.shape S.gives pool.now) hands.old }
     ensures first { (d : Hand S) → slice_index_or hands.new 0 d ≡ slice_index_or hands.old 0 d }
@@ -49,8 +49,8 @@ fn see_the_rest<S: Slot, R: Wait>(rt: &R, pool: &Pool<S>, hands: &mut [Hand<S>])
     }
 }
 
-// Each hand but the first, which has, looks until it has seen that the run has ended. One look does, since all that worker 0 has seen was
-// placed by then.
+// Lets each hand but the first look until it has seen that the run has ended. One look is enough, because all events that worker 0 has seen
+// were placed before.
 fn see_the_ends<S: Slot, R: Wait>(rt: &R, pool: &Pool<S>, hands: &mut Vec<Hand<S>>)
     requires { All (IsHandOf S.shape S.gives pool.now) hands.old.items }
     ensures count { length hands.new.items ≡ length hands.old.items }
@@ -60,16 +60,17 @@ fn see_the_ends<S: Slot, R: Wait>(rt: &R, pool: &Pool<S>, hands: &mut Vec<Hand<S
     see_the_rest(rt, pool, hands.as_mut_slice());
 }
 
-/// Runs a pool: worker 0, the first hand, leads with the outside, and accepts the jobs of outside callers, which it takes by the intake of
-/// their front, while the other hands serve in threads of their own, until each has seen that the run has ended. A team of one needs no
-/// thread, and pushes no Drain, whatever the number of the rack's benches: where each event of the row is worker 0's, that is what its
-/// machine chooses. How the run has ended is what worker 0 has seen, and that is the whole of the row: nothing can follow it but a Halt,
-/// which worker 0 alone can put. It has all that in its journal then. An `Err` comes only where memory was refused to that journal, or where
-/// no thread was made for a worker: worker 0 leaves, the others leave when they have nothing to do or are held, and of the run nothing is
-/// said but that each hand is one of the pool still. Conditions where the first hand is worker 0's: the front has at most 64 senders, the
-/// intake is of this front, and of each sender the jobs that it has taken are those of the blocks that were accepted of it (`Admitted` of
-/// `specs/Admitted`); an intake that has taken nothing, before the first event, is such. A job that was taken and not accepted is dropped:
-/// the run was halted or full.
+/// Runs a pool until each hand has seen that the run has ended. Worker 0, the first hand, leads with the outside, and accepts the jobs of
+/// outside callers, which it takes by the intake of their front. The other hands serve in their own threads. A team of one needs no thread
+/// and pushes no Drain. If each event of its row is worker 0's, it follows the choice of its machine.
+///
+/// The result tells how the run has ended. Worker 0 has seen the whole row then, and has it in its journal: only a Halt could follow, and
+/// only worker 0 puts a Halt. Returns `Err` only if the journal was refused memory, or no thread was made for a worker. Then worker 0 leaves,
+/// the others leave when they have nothing to do or are held, and each hand is still one of the pool.
+///
+/// Worker 0's front has at most 64 senders, and the intake is of this front. The jobs that it has taken of a sender are those of the blocks
+/// that were accepted of it (`Admitted` of `specs/Admitted`). Before the first event, an intake that has taken nothing is enough. A job that
+/// was taken and not accepted is dropped, because the run was halted or full.
 pub fn pool_run<
     J: Job + Admits<X> + Drop + Send,
     H: Handler + Drop + Send,

@@ -1,4 +1,4 @@
-// The threads of a team, over what it shares, of any type.
+// The threads of a team, for a pool of any type.
 ghost use Rattle.std.specs.Prelude.{◌≡◌, ◌<◌, All, Bool, length, slice_index_or};
 ghost use Rattle.std.specs.Thread.{IsSync, IsSend};
 ghost use Rattle.gcd_pool.specs.Each.{Each};
@@ -6,31 +6,30 @@ ghost use Rattle.gcd_pool.specs.Each.{Each};
 use std::sync::Wait;
 use std::thread::{Threads, for_each_mut, join_mut};
 
-/// What the workers of a team share, with what a helper does. Hands are of any type here, because the joins of threads lose what is known
-/// of a concrete one.
+/// A pool, and the work of a helper. Hands are of any type here, because a join of threads loses the facts of a concrete type.
 pub trait Crew<T> {
-    // what it asks of a hand
+    // it needs this of a hand
     ghost ready: { Self → T → Type 0 };
 
-    // what serving comes to: the hand before and after
+    // the hand before and after it has served
     ghost served: { Self → T → T → Type 0 };
 
-    /// What a helper does, to the end.
+    /// Does a helper's work, to the end of the run.
     fn serve<R: Wait>(&self, rt: &R, hand: &mut T)
         requires { Self.ready self.now hand.old }
         ensures { Self.served self.now hand.old hand.new };
 }
 
-// The front by which worker 0 leads a crew, with an intake and an outside of any type. It is a trait of its own, because a closure that goes
-// to a thread may rest on no bound of worker 0's poller and clock.
+// The front with which worker 0 leads a crew. Intake and outside are of any type. It is another trait than `Crew`, because a closure that
+// goes to a thread must not depend on the bounds of worker 0's poller and clock.
 pub trait Leader<T, D: Crew<T>, A, O> {
-    // what it asks of worker 0's hand and intake
+    // it needs this of worker 0's hand and intake
     ghost asks: { Self → T → A → Type 0 };
 
-    // what leading comes to: the hand, the intake and the outside before and after, and whether it is done
+    // the hand, the intake and the outside before and after it has led, and whether the run is done
     ghost led: { Self → D → T × A × O → T × A × O → Bool → Type 0 };
 
-    // What worker 0 does, to the end. False if it could not go on: memory was refused to it, or the team was stopped.
+    // Does worker 0's work, to the end of the run. Returns false if memory was refused, or the team was stopped.
     fn lead<R: Wait>(&self, rt: &R, crew: &D, hand: &mut T, intake: &mut A, outside: &mut O) -> bool
         requires ready { D.ready crew.now hand.old }
         requires asks { asks self.now hand.old intake.old }
@@ -38,7 +37,7 @@ pub trait Leader<T, D: Crew<T>, A, O> {
         ensures led { led self.now crew.now (hand.old, intake.old, outside.old) (hand.new, intake.new, outside.new) result };
 }
 
-/// Each helper serves in a thread of its own, until all have served.
+/// Lets each helper serve in its own thread, until all have served.
 pub fn serve_all<T: Send, D: Crew<T> + Sync, R: Threads + Wait + Sync>(
     rt: &R,
     crew: &D,
@@ -54,7 +53,7 @@ pub fn serve_all<T: Send, D: Crew<T> + Sync, R: Threads + Wait + Sync>(
     for_each_mut(rt, hands, 64, &each);
 }
 
-// Helpers serve in threads while worker 0, the first hand, leads. A team of one needs no thread. It answers what worker 0 answers.
+// Lets helpers serve in threads while worker 0, the first hand, leads. A team of one needs no thread. Returns what worker 0 returns.
 pub fn run_hands<T: Send, D: Crew<T> + Sync, L: Leader<T, D, A, O>, A, O, R: Threads + Wait + Sync>(
     rt: &R,
     crew: &D,

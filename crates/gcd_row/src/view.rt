@@ -1,4 +1,4 @@
-// What a board is made for, and what passes know. Contracts alone read these; no value of `Terms` or `View` is made.
+// The terms of a board, and what its passes know. Only contracts read these. No value of `Terms` or `View` is made.
 use gcd_event::{Entry, Event};
 use gcd_plan::Plan;
 use std::collections::LinkedList;
@@ -29,7 +29,7 @@ pub struct Terms<S> {
     pub opened: u32,
 }
 
-/// Where the pass of a worker's number is that was given out.
+/// Where the pass of a number is that was given out.
 pub enum Standing {
     /// It was made and not joined.
     Out,

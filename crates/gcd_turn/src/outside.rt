@@ -1,4 +1,4 @@
-// The outside as worker 0 has it: poller and clock, which it alone has, and what it keeps of them.
+// The outside of a run: poller and clock, which only worker 0 has, and its notes on them.
 ghost use Rattle.std.specs.Prelude.{◌≡◌, ◌≤◌, [], ℕ, true, List, drop, IfSome, OnSome, IfNone, OnOk, OnErr};
 ghost use Rattle.gcd_event.specs.declared.event.Event.{Event};
 ghost use Rattle.gcd_event.specs.declared.event.Event.TheVariants.{Halt};
@@ -17,11 +17,11 @@ use gcd_machine::Machine;
 use gcd_outer::{Clock, Failed, Poller, Told};
 use gcd_plan::Plan;
 
-/// The outside of a run. It outlives the recorder of the events. A second recorder that gets the same outside goes on with what was told,
-/// with the moment at which the run began, and with what a wait counts from.
+/// The outside of a run. It outlives the recorder of the events. A second recorder that gets the same outside goes on with the news that were
+/// not recorded yet, with the moment at which the run began, and with the moments from which waits count.
 #[derive(Drop)]
 pub struct Outside<'a, P, C> {
-    /// What worker 0 keeps of the two between its turns.
+    /// Worker 0's notes between its turns.
     pub outlook: Outlook,
     /// Tells of what the read sources of a plan read, and listens.
     pub poller: &'a mut P,
@@ -30,7 +30,7 @@ pub struct Outside<'a, P, C> {
 }
 
 impl<'a, P: Poller, C: Clock> Outside<'a, P, C> {
-    /// The outside before the first turn. It asks the clock once.
+    /// Makes the outside before the first turn. It asks the clock once.
     pub fn new(poller: &'a mut P, clock: &'a mut C) -> Outside<'a, P, C>
         ensures same_poller { result.poller.ghost_name ≡ poller.entry.ghost_name }
         ensures same_clock { result.clock.ghost_name ≡ clock.entry.ghost_name }
@@ -44,10 +44,10 @@ impl<'a, P: Poller, C: Clock> Outside<'a, P, C> {
         }
     }
 
-    /// The first steps of a turn: it leaves where the run has ended, which may have `most` events; it watches what is live; and it gives the
-    /// first of what was told, where the intake is open asks to see to that, and else goes on as [`Outside::ask_on`] does. The clock is
-    /// asked only where there is no news, no intake is open and a due time is left, and the machine for a choice once, and once more only
-    /// where the run is quiescent.
+    /// Takes the first steps of a turn of a run with at most `most` events. If the run has ended, it says to leave. Otherwise it watches new
+    /// live feeds, and returns the first of the news. Without news, it asks to see to an open intake, or goes on as [`Outside::ask_on`] does.
+    /// It asks the clock only if there is no news, no intake is open and a due time is left. It asks the machine for one choice, and for a
+    /// second one only if the run is quiescent.
     #[inline(always)]
     pub fn ask(&mut self, plan: &Plan, most: u32, machine: &Machine) -> Ask
         requires { machine.now.plan ≡ plan.now }
@@ -77,9 +77,8 @@ impl<'a, P: Poller, C: Clock> Outside<'a, P, C> {
         self.ask_on(plan, machine, chosen)
     }
 
-    /// The later steps of a turn, where there is no news, and nothing came of an intake that is open: it gives a Tick that is due, the
-    /// Expire of a wait that may expire, or else what worker 0 chooses, which is `chosen`. The clock is asked only where a due time
-    /// is left.
+    /// Takes the later steps of a turn without news, in which nothing was put for an open intake. It returns a Tick that is due, or the Expire
+    /// of a wait that may expire, or `chosen`, which is worker 0's choice. It asks the clock only if a due time is left.
     #[inline(always)]
     pub fn ask_on(&mut self, plan: &Plan, machine: &Machine, chosen: Option<Event>) -> Ask
         requires no_news { self.old.outlook.news ≡ [] }
@@ -100,7 +99,7 @@ impl<'a, P: Poller, C: Clock> Outside<'a, P, C> {
         }
     }
 
-    /// The first of what was told was recorded, or is not permitted and is dropped. Without news it does nothing.
+    /// Drops the first of the news, because it was recorded or is not permitted. Without news it does nothing.
     pub fn settle(&mut self)
         ensures same { IsSame self.old self.new }
         ensures outlook { self.new.outlook ≡ record self.old.outlook { news = drop 1 self.old.outlook.news } }
@@ -110,7 +109,7 @@ impl<'a, P: Poller, C: Clock> Outside<'a, P, C> {
         self.outlook.settle();
     }
 
-    // One poll.
+    // Polls once.
     fn listen(&mut self, plan: &Plan, machine: &Machine, left: Option<u32>) -> Result<(), Failed>
         requires own { machine.now.plan ≡ plan.now }
         requires no_news { self.old.outlook.news ≡ [] }
@@ -139,9 +138,9 @@ impl<'a, P: Poller, C: Clock> Outside<'a, P, C> {
         Ok(())
     }
 
-    /// The last steps of a turn, where worker 0 has no choice: it polls where a feed is live, and else waits for the next due time, where
-    /// there is one, no run is open and unparked, and no intake is open. `left` is how many milliseconds that is ahead. Some is a Halt, to be
-    /// recorded: the poller failed.
+    /// Takes the last steps of a turn in which worker 0 has no choice. If a feed is live, it polls. Otherwise it waits for the next due time, if
+    /// there is one, which is `left` milliseconds ahead, and if no run is open and unparked and no intake is open. If the poller failed, it
+    /// returns a Halt, to be recorded.
     pub fn idle(&mut self, plan: &Plan, machine: &Machine, left: Option<u32>) -> Option<Event>
         requires own { machine.now.plan ≡ plan.now }
         requires no_news { self.old.outlook.news ≡ [] }
