@@ -188,7 +188,7 @@ fn act<T: Recorder, P: Poller, C: Clock, R: Wait>(
     }
 }
 
-// Takes the later steps of a turn in which the intake was shut, or nothing was put for it.
+// Takes the later steps of a turn, after nothing was put for the open intake.
 #[inline(always)]
 fn later<T: Recorder, P: Poller, C: Clock, R: Wait>(
     rt: &R,

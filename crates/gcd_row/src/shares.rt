@@ -48,9 +48,9 @@ impl<S: Slot> RowBoard<S> {
         self.table.shared.split_seat::<Cut<N>>(seat)
     }
 
-    /// A pass for a worker, which begins with what worker 0's pass has seen and has passed what the row began with. Conditions: worker 0's pass is given,
-    /// and the number, above 0 and below the board's number of workers, was never given out on this board. An `Err` comes only where
-    /// memory runs out, and nothing is given out then. It copies the machine.
+    /// Makes the pass of a worker. It has seen what worker 0's pass has seen, and has passed what the row began with. `pass` is worker 0's. The
+    /// number is above 0 and below the board's number of workers, and was never given out on this board. It copies the machine. Returns
+    /// `Err` only if memory runs out, and gives nothing out then.
     pub fn split(
         &self,
         alloc: Global,

@@ -33,7 +33,7 @@ use Rattle.gcd_pool.specs.Leads.{Follows}
 use Rattle.gcd_workers.specs.JobsRuns.{AreOfJobs, tally_shape}
 use Rattle.gcd_workers.specs.ListRuns.{IsKept, kept_sight}
 use Rattle.gcd_workers.specs.Opened.{AreCellsOf, file_gives}
-use Rattle.gcd_workers.specs.Ran.{GoesOnOverFiles, RunsOverFiles, bounds_over}
+use Rattle.gcd_workers.specs.Ran.{GoesOnOverFiles, HasLeft, RunsOverFiles, bounds_over}
 use Rattle.gcd_workers.specs.Teams.{HasLed, bounds_on}
 use Rattle.gcd_workers.specs.declared.list_run.Kept.{Kept}
 use Rattle.gcd_workers.specs.declared.outcome.Outcome.{Outcome}
@@ -43,33 +43,25 @@ use Rattle.gcd_workers.proofs.Runs.{all_of_first}
 use Rattle.gcd_workers.proofs.Wholes.{few_pass, lawful_pass}
 
 -- what fewer workers promise more do
-pub went_by_more : (over : Over) (m n : ℕ) (h : List Event) (f : Faced) (o : Outcome) → 0 < m → m ≤ n → GoesOnOverFiles over m h f o → GoesOnOverFiles over n h f o
-went_by_more over m n h f o some more went = record {
-  going = went.going;
-  ended = went.ended;
-  stands = went.stands;
-  few = went.few;
-  by = λ i e at. let low = went.by i e at in omega (arith, more, low);
-  chosen = λ one. went.chosen (omega (arith, some, more, one));
-  uncalled = went.uncalled;
-  state_is = went.state_is;
-  values = went.values;
+left_by_more : (over : Over) (m n : ℕ) (o : Outcome) → 0 < m → m ≤ n → HasLeft over m o → HasLeft over n o
+left_by_more over m n o some more left = record {
+  ended = left.ended;
+  stands = left.stands;
+  few = left.few;
+  by = λ i e at. let low = left.by i e at in omega (arith, more, low);
+  chosen = λ one. left.chosen (omega (arith, some, more, one));
+  uncalled = left.uncalled;
+  state_is = left.state_is;
+  values = left.values;
 }
+
+pub went_by_more : (over : Over) (m n : ℕ) (h : List Event) (f : Faced) (o : Outcome) → 0 < m → m ≤ n → GoesOnOverFiles over m h f o → GoesOnOverFiles over n h f o
+went_by_more over m n h f o some more went = record { going = went.going; left = left_by_more over m n o some more went.left }
 
 -- two runs with one outside, one behind the other, are one
 pub went_through : (over : Over) (n : ℕ) (h k : List Event) (f g : Faced) (o : Outcome) → GoesOnFrom f g → GoesOn (bounds_over over) h k f
     → GoesOnOverFiles over n k g o → GoesOnOverFiles over n h (both f g) o
-went_through over n h k f g o from first went = record {
-  going = goes_through (bounds_over over) h k o.journal.items f g from first went.going;
-  ended = went.ended;
-  stands = went.stands;
-  few = went.few;
-  by = went.by;
-  chosen = went.chosen;
-  uncalled = went.uncalled;
-  state_is = went.state_is;
-  values = went.values;
-}
+went_through over n h k f g o from first went = record { going = goes_through (bounds_over over) h k o.journal.items f g from first went.going; left = went.left }
 
 -- worker 0 alone, in its list
 pub went_alone : (over : Over) (kept : Kept) (h : List Event) (f : Faced) (o : Outcome) → IsKept over kept → HasEnded over.most over.plan.now kept.journal.items
@@ -80,15 +72,17 @@ went_alone over kept h f o run ended going journal values machine state =
     let same : k ≡ o.journal.items = ap (λ v. v.items) (sym journal) in
     record {
       going = subst (λ (l : List Event). GoesOn (bounds_over over) h l f) same going;
-      ended = subst (HasEnded over.most plan) same ended;
-      stands = subst (λ m. StandsFor m plan o.journal.items) (sym machine) (subst (StandsFor kept.machine plan) same run.stands);
-      few = subst (λ (l : List Event). length l ≤ over.most) same run.few;
-      by = subst (IsOfWorkers 1) same (workers_of_alone 1 k (omega arith) run.alone);
-      chosen = λ one. subst (FollowsChoice plan) same run.chosen;
-      uncalled = subst AcceptsNone same run.uncalled;
-      state_is = subst (λ (l : List Event). HasState plan l o.state) same state;
-      values = subst (λ (l : List Event). AreValues plan (contents over.files.now) l o.values.items) same
-          (subst (AreValues plan (contents over.files.now) k) (ap (λ v. v.items) (sym values)) run.values);
+      left = record {
+        ended = subst (HasEnded over.most plan) same ended;
+        stands = subst (λ m. StandsFor m plan o.journal.items) (sym machine) (subst (StandsFor kept.machine plan) same run.stands);
+        few = subst (λ (l : List Event). length l ≤ over.most) same run.few;
+        by = subst (IsOfWorkers 1) same (workers_of_alone 1 k (omega arith) run.alone);
+        chosen = λ one. subst (FollowsChoice plan) same run.chosen;
+        uncalled = subst AcceptsNone same run.uncalled;
+        state_is = subst (λ (l : List Event). HasState plan l o.state) same state;
+        values = subst (λ (l : List Event). AreValues plan (contents over.files.now) l o.values.items) same
+            (subst (AreValues plan (contents over.files.now) k) (ap (λ v. v.items) (sym values)) run.values);
+      };
     }
 
 -- a team, over a row that began with what a list has kept
@@ -123,27 +117,29 @@ went_by_team over kept b p n f o values run plan_is most_is cells pass led none 
     let same : k ≡ o.journal.items = sym journal in
     record {
       going = subst (λ (l : List Event). GoesOn (bounds_over over) h l f) same goes;
-      ended = subst (HasEnded over.most plan) same ended;
-      stands = subst (StandsFor o.machine plan) same (subst (λ (q : PlanView). StandsFor o.machine q k) plan_is stands);
-      few = subst (λ (l : List Event). length l ≤ over.most) same few;
-      by = subst (IsOfWorkers n) same led.by;
-      chosen = λ one. subst (FollowsChoice plan) same (follows_on one);
-      uncalled = subst AcceptsNone same none;
-      state_is = subst (λ (l : List Event). HasState plan l o.state) same (subst (λ (q : PlanView). HasState q k o.state) plan_is state);
-      values = subst (λ (l : List Event). AreValues plan files l o.values.items) same (subst (AreValues plan files k) (sym values_are) of);
+      left = record {
+        ended = subst (HasEnded over.most plan) same ended;
+        stands = subst (StandsFor o.machine plan) same (subst (λ (q : PlanView). StandsFor o.machine q k) plan_is stands);
+        few = subst (λ (l : List Event). length l ≤ over.most) same few;
+        by = subst (IsOfWorkers n) same led.by;
+        chosen = λ one. subst (FollowsChoice plan) same (follows_on one);
+        uncalled = subst AcceptsNone same none;
+        state_is = subst (λ (l : List Event). HasState plan l o.state) same (subst (λ (q : PlanView). HasState q k o.state) plan_is state);
+        values = subst (λ (l : List Event). AreValues plan files l o.values.items) same (subst (AreValues plan files k) (sym values_are) of);
+      };
     }
 
 -- a run from the first event to its end
 pub went_whole : (over : Over) (n : ℕ) (f : Faced) (o : Outcome) (early : ClockState) → BeginsAt early f → ((s : ℕ) → f.poller.before.watched s ≡ false)
     → GoesOnOverFiles over n [] f o → RunsOverFiles over n f.poller (since early f.clock) o
 went_whole over n f o early begins unwatched went =
-    let plan = over.plan.now in let h = o.journal.items in
+    let plan = over.plan.now in let h = o.journal.items in let left = went.left in
     record {
       run = runs_plan over.most plan n AcceptsNone h o.machine f.poller (since early f.clock)
-          (record { own = plan_stands o.machine plan h went.stands; stands = went.stands; few = went.few })
-          went.by went.chosen went.uncalled unwatched (run_on (bounds_over over) [] h f early begins went.ended went.going);
-      state_is = went.state_is;
-      values = went.values;
+          (record { own = plan_stands o.machine plan h left.stands; stands = left.stands; few = left.few })
+          left.by left.chosen left.uncalled unwatched (run_on (bounds_over over) [] h f early begins left.ended went.going);
+      state_is = left.state_is;
+      values = left.values;
     }
 
 -- the outside is at the end as the last call left it

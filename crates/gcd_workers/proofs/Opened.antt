@@ -46,7 +46,7 @@ use Rattle.gcd_row.proofs.FirstCells.{first_source_shape}
 use Rattle.gcd_row.proofs.Jobs.{plain_job}
 use Rattle.gcd_workers.specs.JobsRuns.{AreOfJobs, tally_shape}
 use Rattle.gcd_workers.specs.ListRuns.{IsKept}
-use Rattle.gcd_workers.specs.Opened.{AreCellsOf, HandsNothingOver, HasNoSource, IsBlockCell, IsCellOf, IsStart, IsStopped, file_gives, object_cell}
+use Rattle.gcd_workers.specs.Opened.{AreCellsOf, HandsNothingOver, HasNoSource, IsBlockCell, IsCellOf, IsStopped, file_gives, object_cell}
 use Rattle.gcd_workers.specs.Teams.{EachFrom}
 use Rattle.gcd_workers.specs.declared.list_run.Kept.{Kept}
 use Rattle.gcd_workers.specs.declared.over.Over.{Over}
@@ -211,11 +211,11 @@ nothing_without_source plan none h s = by_kind (kind_of plan s) refl
         ap (λ (b : Bool). cond b (handler k (delivery_count_of h s) (received_of plan h s)) away) (none s k is)
         ∙ sym (ap (λ (b : Bool). cond b (handler k (delivery_count_of [] s) (received_of plan [] s)) away) (none s k is))
 
--- worker 0 holds nothing where it may start a block
-pub stops_at_start : (plan : PlanView) (h : List Event) (e : Event) → IsLawful plan h → IsStart e → why plan h e ≡ None → worker_of e ≡ 0
+-- worker 0 holds nothing where it may take a run
+pub stops_at_start : (plan : PlanView) (h : List Event) (e : Event) → IsLawful plan h → (r : Run) × (taken e ≡ Some r) → why plan h e ≡ None → worker_of e ≡ 0
     → HandsNothingOver plan h → IsStopped plan h
-stops_at_start plan h e lawful start may own nothing = record {
-  holds = subst (λ (w : ℕ). held_by plan h w ≡ None) own (takings_find_nobody plan h lawful e (Block start.block) (ap taken start.is) may).idle;
+stops_at_start plan h e lawful takes may own nothing = record {
+  holds = subst (λ (w : ℕ). held_by plan h w ≡ None) own (takings_find_nobody plan h lawful e takes.0 takes.1 may).idle;
   nothing = nothing;
 }
 

@@ -3,9 +3,7 @@ use Rattle.std.specs.Prelude.{◌≡◌, ◌+◌, ◌<◌, ℕ, true, false, Lis
 use Rattle.gcd_plan.specs.Kinds.{is_source_kind}
 use Rattle.gcd_plan.specs.PlanView.{PlanView, kind_of}
 use Rattle.gcd_plan.specs.declared.kind.Kind.{Kind}
-use Rattle.gcd_plan.specs.declared.numbers.Blk.{Blk}
 use Rattle.gcd_event.specs.declared.event.Event.{Event}
-use Rattle.gcd_event.specs.declared.event.Event.TheVariants.{Start}
 use Rattle.gcd_history.specs.History.{is_ended}
 use Rattle.gcd_history.specs.Team.{held_by}
 use Rattle.gcd_history.specs.Values.{value_of}
@@ -54,12 +52,6 @@ HasNoSource plan = (o : ℕ) (kind : Kind) → kind_of plan o ≡ Some kind → 
 -- no source has handed anything over
 abbrev pub HandsNothingOver : PlanView → List Event → Type 0
 HandsNothingOver plan h = (s : ℕ) → source_shape plan h s ≡ source_shape plan [] s
-
--- the event is the Start of a block
-pub record IsStart (e : Event) : Type 0 where
-  pub worker : ℕ
-  pub block : Blk
-  pub is : e ≡ Start worker block
 
 -- Worker 0 stops before an event of a list so that a team goes on: it holds no run, and no source has handed anything over.
 pub record IsStopped (plan : PlanView) (h : List Event) : Type 0 where

@@ -27,10 +27,9 @@ pub record RunsOverFiles (over : Over) (workers : ℕ) (poller : Seen PollerStat
 abbrev pub bounds_over : Over → Bounds
 bounds_over over = record { plan = over.plan.now; most = over.most }
 
--- The run of a plan over its files went on from this history to its end, by so many workers: what poller and clock said since stands in what
--- came since, and the whole history is what a run of so many workers leaves, with its state and its values.
-pub record GoesOnOverFiles (over : Over) (workers : ℕ) (h : List Event) (f : Faced) (o : Outcome) : Type 0 where
-  pub going : GoesOn (bounds_over over) h o.journal.items f
+-- A run of a plan over its files by so many workers has left this: its history has ended, and is what a run of so many workers without outside
+-- callers leaves, with its machine, its state and its values.
+pub record HasLeft (over : Over) (workers : ℕ) (o : Outcome) : Type 0 where
   pub ended : HasEnded over.most over.plan.now o.journal.items
   pub stands : StandsFor o.machine over.plan.now o.journal.items
   pub few : length o.journal.items ≤ over.most
@@ -39,3 +38,8 @@ pub record GoesOnOverFiles (over : Over) (workers : ℕ) (h : List Event) (f : F
   pub uncalled : AcceptsNone o.journal.items
   pub state_is : HasState over.plan.now o.journal.items o.state
   pub values : AreValues over.plan.now (contents over.files.now) o.journal.items o.values.items
+
+-- The same, and what poller and clock said since this history stands in what came since.
+pub record GoesOnOverFiles (over : Over) (workers : ℕ) (h : List Event) (f : Faced) (o : Outcome) : Type 0 where
+  pub going : GoesOn (bounds_over over) h o.journal.items f
+  pub left : HasLeft over workers o

@@ -55,7 +55,7 @@ fn go_on_alone<R: Wait, P: Poller, C: Clock>(
     }
 }
 
-/// Goes on to the end of a run for which no team could be made, as at most this many workers may.
+/// Goes on by worker 0 alone to the end of a run that could have this many workers, because memory for a team was refused.
 pub(crate) fn without_team<R: Wait, P: Poller, C: Clock>(
     rt: &R,
     alloc: Global,

@@ -4,7 +4,9 @@ ghost use Rattle.gcd_event.specs.declared.event.Event.{Event};
 ghost use Rattle.gcd_plan.specs.Kinds.{is_source_kind};
 ghost use Rattle.gcd_plan.specs.PlanView.{kind_of};
 ghost use Rattle.gcd_plan.specs.declared.kind.Kind.{Kind};
-ghost use Rattle.gcd_workers.specs.Opened.{HandsNothingOver, HasNoSource, IsStart};
+ghost use Rattle.gcd_plan.specs.declared.numbers.Run.{Run};
+ghost use Rattle.gcd_history.specs.Held.{taken};
+ghost use Rattle.gcd_workers.specs.Opened.{HandsNothingOver, HasNoSource};
 
 use crate::hiring::team_size;
 use crate::over::Over;
@@ -45,6 +47,16 @@ fn processors<R: Threads>(rt: &R) -> u8
         Ok(count) => u8::try_from(count.get()).unwrap_or(u8::MAX).max(1),
         Err(_) => u8::MAX,
     }
+}
+
+/// Returns whether the event is the Start of a long block, so that it takes a run.
+pub(crate) fn starts_long(over: Over, e: Event) -> bool
+    ensures { result ≡ true → (r : Run) × (taken e ≡ Some r) }
+{
+    let Event::Start { blk, .. } = e else {
+        return false;
+    };
+    is_long(over, blk)
 }
 
 /// Decides when a team goes on with a run that worker 0 began in a list (this project's own rule). No clause says that it decides well.
@@ -124,20 +136,6 @@ impl Hire {
         len >= self.ask_at
     }
 
-    /// Returns whether the event is the Start of a long block, and worker 0 may ask before it.
-    #[inline(always)]
-    pub(crate) fn asks(&self, over: Over, len: u32, e: Event) -> bool
-        ensures { result ≡ true → IsStart e }
-    {
-        if !self.may_ask(len) {
-            return false;
-        }
-        let Event::Start { blk, .. } = e else {
-            return false;
-        };
-        is_long(over, blk)
-    }
-
     // Asks whether a team pays for what is left of the run, for which the machine stands. None does if the plan has a source. Otherwise
     // worker 0 asks again once the list is twice as long and has an event more for each block.
     fn pays(&mut self, over: Over, machine: &Machine) -> bool
@@ -159,10 +157,10 @@ impl Hire {
     pub(crate) fn stops(&mut self, over: Over, machine: &Machine, e: Event) -> bool
         ensures most { self.new.most ≡ self.old.most }
         ensures some { result ≡ true → 1 < self.old.most }
-        ensures start { result ≡ true → IsStart e }
+        ensures start { result ≡ true → (r : Run) × (taken e ≡ Some r) }
         ensures nothing { result ≡ true → (h : List Event) → HandsNothingOver over.entry.plan.now h }
     {
-        if self.asks(over, machine.len(), e) {
+        if self.may_ask(machine.len()) && starts_long(over, e) {
             return self.pays(over, machine);
         }
         false

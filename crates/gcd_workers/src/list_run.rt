@@ -13,7 +13,7 @@ ghost use Rattle.gcd_machine.specs.Calm.{IsCalm};
 ghost use Rattle.gcd_machine.specs.Stands.{StandsFor};
 ghost use Rattle.gcd_workers.specs.ListRuns.{HasChosen, HasStepped, HasSteppedTwice, IsKept, IsNext};
 
-use crate::hire::Hire;
+use crate::hire::{Hire, starts_long};
 use crate::over::Over;
 use gcd_event::{Entry, Event};
 use gcd_jobs::{FileJob, Job};
@@ -154,11 +154,13 @@ impl Kept {
     // Returns whether worker 0 asks for a team before its next event.
     #[inline(always)]
     fn asks_next(&self, over: &Over, hire: &Hire) -> bool {
-        if !hire.may_ask(self.machine.len()) {
-            return false;
-        }
+        hire.may_ask(self.machine.len()) && self.starts_long(over)
+    }
+
+    // Returns whether worker 0 starts a long block next. Most runs never ask, so this stands outside of their loops.
+    fn starts_long(&self, over: &Over) -> bool {
         match self.machine.choose(0, 0) {
-            Some(e) => hire.asks(*over, self.machine.len(), e),
+            Some(e) => starts_long(*over, e),
             None => false,
         }
     }
