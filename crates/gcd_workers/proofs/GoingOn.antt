@@ -13,13 +13,12 @@ use Rattle.gcd_jobs.specs.Contents.{contents}
 use Rattle.gcd_jobs.specs.declared.file_job.FileJob.{FileJob}
 use Rattle.gcd_jobs.specs.declared.tally.Tally.{Tally}
 use Rattle.gcd_machine.specs.Stands.{StandsFor}
-use Rattle.gcd_machine.proofs.Views.Calls.{lawful_stands, plan_stands, valid_stands}
-use Rattle.gcd_outer.specs.Outside.{ClockState, Seen}
+use Rattle.gcd_machine.proofs.Views.Calls.{plan_stands, valid_stands}
+use Rattle.gcd_outer.specs.Outside.{ClockState}
 use Rattle.gcd_outer.specs.Tells.{PollerState}
 use Rattle.gcd_turn.specs.Outsides.{Faced}
 use Rattle.gcd_loop.specs.Followed.{FollowsChoice, IsOfWorkers}
 use Rattle.gcd_loop.specs.Going.{BeginsAt, GoesOn, GoesOnFrom, both, since}
-use Rattle.gcd_loop.specs.Ran.{RunsPlan}
 use Rattle.gcd_loop.proofs.Follows.{workers_of_alone}
 use Rattle.gcd_loop.proofs.Steps.{goes_through, run_on, runs_plan}
 use Rattle.gcd_row.specs.Jobs.{placed_jobs}
@@ -31,7 +30,7 @@ use Rattle.gcd_row.specs.declared.pass.RowPass.{RowPass}
 use Rattle.gcd_row.specs.declared.view.Terms.{Terms}
 use Rattle.gcd_pool.specs.Leads.{Follows}
 use Rattle.gcd_workers.specs.JobsRuns.{AreOfJobs, tally_shape}
-use Rattle.gcd_workers.specs.ListRuns.{IsKept, kept_sight}
+use Rattle.gcd_workers.specs.ListRuns.{IsKept}
 use Rattle.gcd_workers.specs.Opened.{AreCellsOf, file_gives}
 use Rattle.gcd_workers.specs.Ran.{GoesOnOverFiles, HasLeft, RunsOverFiles, bounds_over}
 use Rattle.gcd_workers.specs.Teams.{HasLed, bounds_on}

@@ -1,10 +1,10 @@
-pub mod Intakes
-pub mod Senders
 pub mod Giving
 pub mod GoingOn
+pub mod HandedOver
 pub mod Heads
 pub mod Hires
 pub mod Intake
+pub mod Intakes
 pub mod Jobs
 pub mod Lefts
 pub mod Nobody
@@ -12,6 +12,8 @@ pub mod Opened
 pub mod Places
 pub mod Pools
 pub mod Runs
+pub mod Rushing
+pub mod Senders
 pub mod Tellings
-pub mod Wholes
 pub mod Valued
+pub mod Wholes

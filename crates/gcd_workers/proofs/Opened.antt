@@ -1,52 +1,46 @@
 -- A row that begins with what a list has kept: it may begin so, and the values at its end are those of the works.
-use Rattle.std.proofs.Common.{◌≡◌, ◌≢◌, ◌<◌, ◌≤◌, ◌+◌, ◌++◌, ◌∙◌, ◌&&◌, ℕ, zero, suc, Bool, true, false, cond, not, List, [], ◌∷◌, length, map, filter, Option, Some, None, refl, ap, sym, subst, arith, ⊎_elim}
-use Rattle.std.specs.Prelude.{slice_get, slice_index_or, unwrap_or}
+use Rattle.std.proofs.Common.{◌≡◌, ◌≢◌, ◌<◌, ◌+◌, ◌++◌, ◌∙◌, ◌&&◌, ℕ, zero, suc, Bool, true, false, cond, not, List, [], ◌∷◌, length, map, filter, Option, Some, None, refl, ap, sym, subst, arith}
+use Rattle.std.specs.Prelude.{slice_index_or, unwrap_or}
 use Rattle.std.specs.List.{list_any}
-use Rattle.std.specs.Option.{option_map, option_map_or}
-use Rattle.std.proofs.lemmas.Bool.{and_from, and_parts, both_ways, cases_lt, eqb-true}
+use Rattle.std.proofs.lemmas.Bool.{and_from, and_parts, both_ways, eqb-true}
 use Rattle.std.proofs.lemmas.List.{length-map}
-use Rattle.std.proofs.lemmas.Option.{none-some, same_Some, slice_get_past}
+use Rattle.std.proofs.lemmas.Option.{same_Some}
 use mathlib.Core.Option.{some, some-injective, some-ne-none}
 use lib.ListN.{get_elem?}
-use Rattle.gcd_plan.specs.Kinds.{is_source_kind}
 use Rattle.gcd_plan.specs.Made.{is_of_intake}
-use Rattle.gcd_plan.specs.PlanView.{IsRun, PlanView, kind_of}
+use Rattle.gcd_plan.specs.PlanView.{IsRun, PlanView}
 use Rattle.gcd_plan.specs.Validity.{IsPlan}
-use Rattle.gcd_plan.specs.declared.kind.Kind.{Kind}
 use Rattle.gcd_plan.specs.declared.numbers.Run.{Run}
 use Rattle.gcd_plan.specs.declared.numbers.Run.TheVariants.{Block, Source}
 use Rattle.gcd_plan.proofs.Places.{slice_get_some}
 use Rattle.gcd_event.specs.declared.event.Event.{Event}
 use Rattle.gcd_history.specs.Choice.{worker_of}
 use Rattle.gcd_history.specs.Held.{is_of, taken}
-use Rattle.gcd_history.specs.History.{IsLawful, delivery_count_of, is_block_cancelled, is_ended, received_of, why}
+use Rattle.gcd_history.specs.History.{IsLawful, is_block_cancelled, is_ended, why}
 use Rattle.gcd_history.specs.Intake.{AcceptsNone, accepts}
 use Rattle.gcd_history.specs.Team.{held_by, of_worker}
 use Rattle.gcd_history.proofs.Blocks.CancelledStays.{begun_where_ended, cancelled_kept_on}
 use Rattle.gcd_history.proofs.Public.TeamLaws.{nothing_is_held_first, takings_find_nobody}
 use Rattle.gcd_jobs.specs.BlockValues.{AreValues, has_given}
 use Rattle.gcd_jobs.specs.Contents.{contents}
-use Rattle.gcd_jobs.specs.Jobs.{job_value}
 use Rattle.gcd_jobs.specs.declared.file_job.FileJob.{FileJob}
 use Rattle.gcd_jobs.specs.declared.tally.Tally.{Tally}
 use Rattle.gcd_history.specs.Values.{value_of}
 use Rattle.gcd_loop.specs.Followed.{IsAllWorker0}
 use Rattle.gcd_machine.proofs.Views.Calls.{lawful_stands}
-use Rattle.gcd_row.specs.Jobs.{Jobs, May, jobs_of, placed_at, placed_jobs}
-use Rattle.gcd_row.specs.Lying.{BodyLies, Lies, slot_of, source_shape}
+use Rattle.gcd_row.specs.Jobs.{May, jobs_of, placed_at, placed_jobs}
+use Rattle.gcd_row.specs.Lying.{BodyLies, Lies, slot_of}
 use Rattle.gcd_row.specs.Opening.{Opens, terms_with}
-use Rattle.gcd_row.specs.Shapes.{away, done, gives_of, handler}
+use Rattle.gcd_row.specs.Shapes.{done, gives_of}
 use Rattle.gcd_row.specs.declared.cell.Cell.{Cell}
-use Rattle.gcd_row.specs.declared.cell.Cell.TheVariants.{Away, Handler}
 use Rattle.gcd_row.specs.declared.view.Limits.{Limits}
 use Rattle.gcd_row.specs.declared.view.Terms.{Terms}
 use Rattle.gcd_row.specs.declared.view.View.{View}
 use Rattle.gcd_row.proofs.Beginning.{may_itself}
-use Rattle.gcd_row.proofs.FirstCells.{first_source_shape}
 use Rattle.gcd_row.proofs.Jobs.{plain_job}
 use Rattle.gcd_workers.specs.JobsRuns.{AreOfJobs, tally_shape}
 use Rattle.gcd_workers.specs.ListRuns.{IsKept}
-use Rattle.gcd_workers.specs.Opened.{AreCellsOf, HandsNothingOver, HasNoSource, IsBlockCell, IsCellOf, IsStopped, file_gives, object_cell}
+use Rattle.gcd_workers.specs.Opened.{AreCellsOf, IsBlockCell, IsCellOf, IsStopped, file_gives}
 use Rattle.gcd_workers.specs.Teams.{EachFrom}
 use Rattle.gcd_workers.specs.declared.list_run.Kept.{Kept}
 use Rattle.gcd_workers.specs.declared.over.Over.{Over}
@@ -75,17 +69,6 @@ none_of_others (e ∷ h) w alone other = by_owner (is_of w e) refl (none_of_othe
     by_owner true is rest = absurd (other (sym (eqb-true (worker_of e) w is) ∙ alone zero e refl))
     by_owner false is rest = rest
 
--- the shape of an object's cell is that of one which handed nothing over
-object_shape : (kind : Kind) → tally_shape (object_cell kind) ≡ cond (is_source_kind kind) (handler kind 0 0) away
-object_shape kind = by_kind (is_source_kind kind)
-  where
-    cell : Cell FileJob Tally
-    cell = Handler (record { kind = kind; times = 0; total = 0 })
-
-    by_kind : (b : Bool) → tally_shape (cond b cell Away) ≡ cond b (handler kind 0 0) away
-    by_kind true = refl
-    by_kind false = refl
-
 module _ (plan : PlanView) (files : List (List ℕ)) (h : List Event) (given : List ℕ) where
   -- what lies in the slot of a block
   block_lies : (t : Terms (Cell FileJob Tally)) (b : ℕ) (c : Cell FileJob Tally) → t.plan ≡ plan → b < length plan.blocks → get_elem? t.cells b ≡ some c
@@ -106,16 +89,6 @@ module _ (plan : PlanView) (files : List (List ℕ)) (h : List Event) (given : L
           let zero_is : it.0 ≡ 0 = same_Some it.0 0 (sym it.1 ∙ are.others b low none) in
           ap tally_shape it.2 ∙ ap done zero_is
 
--- what lies in the slot of an object
-object_lies : (plan : PlanView) (h : List Event) (s : ℕ) (c : Cell FileJob Tally) → s < length plan.objects → HandsNothingOver plan h
-    → ((kind : Kind) → kind_of plan s ≡ Some kind → c ≡ object_cell kind) → tally_shape c ≡ source_shape plan h s
-object_lies plan h s c low nothing of =
-    let o = slice_get_some plan.objects s low in
-    let kind : kind_of plan s ≡ Some o.0.kind = ap (option_map (λ obj. obj.kind)) o.1 in
-    ap tally_shape (of o.0.kind kind) ∙ object_shape o.0.kind
-    ∙ sym (ap (λ (x : Option Kind). option_map_or (λ k. cond (is_source_kind k) (handler k 0 0) away) x away) kind)
-    ∙ sym (first_source_shape plan s) ∙ sym (nothing s)
-
 -- a row may begin with what the list has kept
 pub opens_kept : (over : Over) (kept : Kept) (cells : List (Cell FileJob Tally)) (limits : Limits) → IsKept over kept → limits.most ≡ over.most
     → IsStopped over.plan.now kept.journal.items → AreCellsOf over kept cells
@@ -127,7 +100,7 @@ opens_kept over kept cells limits run most stopped are =
       lawful = lawful_stands kept.machine plan h run.stands;
       room = omega (arith, few, most);
       others = λ w other. none_of_others h w run.alone other;
-      holds_none = stopped.holds;
+      holds_none = stopped;
       accepts_none = λ b. none_accepted_in h b run.uncalled;
       cells = record {
         width = are.count;
@@ -150,7 +123,7 @@ opens_kept over kept cells limits run most stopped are =
         let count = are.count in
         let low : slot < length cells = omega (arith, known, count) in
         let of : IsCellOf plan files h given slot c = each_at (IsCellOf plan files h given) cells are.each slot c at low in
-        object_lies plan h s.0 c known stopped.nothing (λ kind is. of.object s.0 kind refl is)
+        of.object s.0 refl
 
 -- ## The values at the end
 
@@ -198,33 +171,12 @@ values_after over kept v rest values valid run own cells split lawful none are =
 
 -- ## Before the row
 
--- a plan without sources hands nothing over
-pub nothing_without_source : (plan : PlanView) → HasNoSource plan → (h : List Event) → HandsNothingOver plan h
-unfolding source_shape
-nothing_without_source plan none h s = by_kind (kind_of plan s) refl
-  where
-    by_kind : (o : Option Kind) → kind_of plan s ≡ o
-        → option_map_or (λ k. cond (is_source_kind k) (handler k (delivery_count_of h s) (received_of plan h s)) away) o away
-        ≡ option_map_or (λ k. cond (is_source_kind k) (handler k (delivery_count_of [] s) (received_of plan [] s)) away) o away
-    by_kind None is = refl
-    by_kind (Some k) is =
-        ap (λ (b : Bool). cond b (handler k (delivery_count_of h s) (received_of plan h s)) away) (none s k is)
-        ∙ sym (ap (λ (b : Bool). cond b (handler k (delivery_count_of [] s) (received_of plan [] s)) away) (none s k is))
-
 -- worker 0 holds nothing where it may take a run
 pub stops_at_start : (plan : PlanView) (h : List Event) (e : Event) → IsLawful plan h → (r : Run) × (taken e ≡ Some r) → why plan h e ≡ None → worker_of e ≡ 0
-    → HandsNothingOver plan h → IsStopped plan h
-stops_at_start plan h e lawful takes may own nothing = record {
-  holds = subst (λ (w : ℕ). held_by plan h w ≡ None) own (takings_find_nobody plan h lawful e takes.0 takes.1 may).idle;
-  nothing = nothing;
-}
+    → IsStopped plan h
+stops_at_start plan h e lawful takes may own =
+    subst (λ (w : ℕ). held_by plan h w ≡ None) own (takings_find_nobody plan h lawful e takes.0 takes.1 may).idle
 
 -- nor before the first event
 pub stops_at_first : (plan : PlanView) (h : List Event) → h ≡ [] → IsStopped plan h
-stops_at_first plan h first =
-    subst (IsStopped plan) (sym first) (record { holds = nothing_is_held_first plan 0; nothing = λ s. refl })
-
--- an object that has a kind is one of the plan
-pub kind_within : (plan : PlanView) (o : ℕ) (kind : Kind) → kind_of plan o ≡ Some kind → o < length plan.objects
-kind_within plan o kind at = ⊎_elim (λ (here : o < length plan.objects). here) (λ (past : length plan.objects ≤ o).
-    absurd (none-some kind (sym (ap (option_map (λ obj. obj.kind)) (slice_get_past plan.objects o past)) ∙ at))) (cases_lt o (length plan.objects))
+stops_at_first plan h first = subst (IsStopped plan) (sym first) (nothing_is_held_first plan 0)

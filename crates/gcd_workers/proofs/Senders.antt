@@ -14,7 +14,7 @@ use Rattle.gcd_event.specs.declared.event.Event.{Event}
 use Rattle.gcd_history.specs.Ends.{HasState}
 use Rattle.gcd_history.specs.History.{IsLawful, is_block_cancelled, is_ended}
 use Rattle.gcd_history.specs.Intake.{AcceptsOf, AcceptsNone, AllAccepted, blocks_of_sender, shuts}
-use Rattle.gcd_front.specs.Fronts.{IsIntakeOf, KnowsAll, TookAll}
+use Rattle.gcd_front.specs.Fronts.{KnowsAll, TookAll}
 use Rattle.gcd_front.specs.Queue.{jobs_of}
 use Rattle.gcd_front.specs.Views.{FrontView, IntakeView}
 use Rattle.gcd_jobs.specs.BlockValues.{has_given}

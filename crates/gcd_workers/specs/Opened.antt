@@ -1,8 +1,6 @@
 -- The cells of a board whose row begins with what a list has kept.
-use Rattle.std.specs.Prelude.{◌≡◌, ◌+◌, ◌<◌, ℕ, true, false, List, [], None, Some, length, slice_get, if◌then◌else◌}
-use Rattle.gcd_plan.specs.Kinds.{is_source_kind}
-use Rattle.gcd_plan.specs.PlanView.{PlanView, kind_of}
-use Rattle.gcd_plan.specs.declared.kind.Kind.{Kind}
+use Rattle.std.specs.Prelude.{◌≡◌, ◌+◌, ◌<◌, ℕ, true, false, List, None, Some, length, slice_get}
+use Rattle.gcd_plan.specs.PlanView.{PlanView}
 use Rattle.gcd_event.specs.declared.event.Event.{Event}
 use Rattle.gcd_history.specs.History.{is_ended}
 use Rattle.gcd_history.specs.Team.{held_by}
@@ -13,7 +11,8 @@ use Rattle.gcd_jobs.specs.declared.file_job.FileJob.{FileJob}
 use Rattle.gcd_jobs.specs.declared.tally.Tally.{Tally}
 use Rattle.gcd_row.specs.Lying.{source_shape}
 use Rattle.gcd_row.specs.declared.cell.Cell.{Cell}
-use Rattle.gcd_row.specs.declared.cell.Cell.TheVariants.{Body, Done, Handler, Away}
+use Rattle.gcd_row.specs.declared.cell.Cell.TheVariants.{Body, Done}
+use Rattle.gcd_workers.specs.JobsRuns.{tally_shape}
 use Rattle.gcd_workers.specs.Teams.{EachFrom}
 use Rattle.gcd_workers.specs.declared.list_run.Kept.{Kept}
 use Rattle.gcd_workers.specs.declared.over.Over.{Over}
@@ -31,29 +30,16 @@ pub record IsBlockCell (plan : PlanView) (files : List (List ℕ)) (h : List Eve
   pub ended : is_ended h b ≡ true → (v : ℕ) × (slice_get given b ≡ Some v) × (c ≡ Done v)
   pub other : is_ended h b ≡ false → (job : FileJob) × (c ≡ Body job) × IsJobOf plan files b job
 
--- the cell of an object of this kind: at a source a tally that has not been called yet, and else nothing
-abbrev pub object_cell : Kind → Cell FileJob Tally
-object_cell kind = if is_source_kind kind then Handler (record { kind = kind; times = 0; total = 0 }) else Away
-
--- the cell of a slot, which is a block's or, behind those, an object's
+-- the cell of a slot, which is a block's or, behind those, an object's, in which lies what a row's rule wants there
 pub record IsCellOf (plan : PlanView) (files : List (List ℕ)) (h : List Event) (given : List ℕ) (slot : ℕ) (c : Cell FileJob Tally) : Type 0 where
   pub block : slot < length plan.blocks → IsBlockCell plan files h given slot c
-  pub object : (o : ℕ) (kind : Kind) → slot ≡ length plan.blocks + o → kind_of plan o ≡ Some kind → c ≡ object_cell kind
+  pub object : (o : ℕ) → slot ≡ length plan.blocks + o → tally_shape c ≡ source_shape plan h o
 
 -- the cells are those of the slots after what a list has kept
 pub record AreCellsOf (over : Over) (kept : Kept) (cells : List (Cell FileJob Tally)) : Type 0 where
   pub count : length cells ≡ length over.plan.now.blocks + length over.plan.now.objects
   pub each : EachFrom (IsCellOf over.plan.now (contents over.files.now) kept.journal.items kept.values.items) 0 cells
 
--- no object of the plan is a source
-abbrev pub HasNoSource : PlanView → Type 0
-HasNoSource plan = (o : ℕ) (kind : Kind) → kind_of plan o ≡ Some kind → is_source_kind kind ≡ false
-
--- no source has handed anything over
-abbrev pub HandsNothingOver : PlanView → List Event → Type 0
-HandsNothingOver plan h = (s : ℕ) → source_shape plan h s ≡ source_shape plan [] s
-
--- Worker 0 stops before an event of a list so that a team goes on: it holds no run, and no source has handed anything over.
-pub record IsStopped (plan : PlanView) (h : List Event) : Type 0 where
-  pub holds : held_by plan h 0 ≡ None
-  pub nothing : HandsNothingOver plan h
+-- a team can go on from here: worker 0 holds no run
+abbrev pub IsStopped : PlanView → List Event → Type 0
+IsStopped plan h = held_by plan h 0 ≡ None

@@ -25,7 +25,7 @@ use std::sync::Wait;
 use std::thread::Threads;
 
 /// Goes on by a team from what a list has kept, until the run is quiescent or halted, or has as many events as it may have. Worker 0 holds
-/// no run, and no source has handed anything over. `outside` is that of the list. If memory for the team is refused, worker 0 goes on
+/// no run. `outside` is that of the list. If memory for the team is refused, worker 0 goes on
 /// alone. Returns `Err` if memory is refused later, or the system makes no thread for a worker on whom all others wait. Nothing is left of
 /// the run then.
 pub(crate) fn go_on<R: Threads + Wait + Sync, P: Poller, C: Clock>(

@@ -1,12 +1,7 @@
 // Decides when a team goes on with a run that worker 0 began in a list.
-ghost use Rattle.std.specs.Prelude.{◌≡◌, ◌<◌, ◌≤◌, ℕ, List, true, false, Some};
-ghost use Rattle.gcd_event.specs.declared.event.Event.{Event};
-ghost use Rattle.gcd_plan.specs.Kinds.{is_source_kind};
-ghost use Rattle.gcd_plan.specs.PlanView.{kind_of};
-ghost use Rattle.gcd_plan.specs.declared.kind.Kind.{Kind};
+ghost use Rattle.std.specs.Prelude.{◌≡◌, ◌<◌, ◌≤◌, false, min, true, Some};
 ghost use Rattle.gcd_plan.specs.declared.numbers.Run.{Run};
 ghost use Rattle.gcd_history.specs.Held.{taken};
-ghost use Rattle.gcd_workers.specs.Opened.{HandsNothingOver, HasNoSource};
 
 use crate::hiring::team_size;
 use crate::over::Over;
@@ -21,18 +16,6 @@ use std::thread::{Threads, available_parallelism};
 fn has_feed(plan: &Plan) -> bool {
     for number in 0..plan.objects() {
         if plan.kind(Obj(number)).is_read() {
-            return true;
-        }
-    }
-    false
-}
-
-// Returns whether the plan has a source.
-fn has_source(plan: &Plan) -> bool
-    ensures { result ≡ false → HasNoSource plan.now }
-{
-    for number in 0..plan.objects() {
-        if plan.kind(Obj(number)).is_source() {
             return true;
         }
     }
@@ -84,16 +67,9 @@ impl Hire {
         }
     }
 
-    /// Decides for a run by at most this many workers that has not begun. The machine stands for it. If the plan has a read source, the poller
-    /// may hold worker 0, so a team begins at once. If the plan has another source, a team begins at once if that pays, and otherwise never.
-    /// If no work is long, worker 0 stays alone.
-    pub(crate) fn new<R: Threads>(
-        rt: &R,
-        alloc: Global,
-        over: Over,
-        machine: &Machine,
-        workers: u8,
-    ) -> Hire
+    /// Decides for a run by at most this many workers that has not begun. If the plan has a read source, the poller may hold worker 0, so a
+    /// team begins at once. If no work is long, worker 0 stays alone.
+    pub(crate) fn new<R: Threads>(rt: &R, alloc: Global, over: Over, workers: u8) -> Hire
         requires { 0 < workers }
     {
         let mut hire = Hire::nobody(alloc);
@@ -109,10 +85,6 @@ impl Hire {
         }
         hire.most = team_size(over.plan, workers).min(processors(rt));
         hire.ask_at = 0;
-        if has_source(over.plan) {
-            hire.hands = hands_worth(alloc, over, machine, hire.most);
-            hire.ask_at = u32::MAX;
-        }
         hire
     }
 
@@ -132,22 +104,28 @@ impl Hire {
 
     /// Returns whether worker 0 may ask once the list has this many events.
     #[inline(always)]
-    pub(crate) fn may_ask(&self, len: u32) -> bool {
+    pub(crate) fn may_ask(&self, len: u32) -> bool
+        ensures { result ≡ false → len < self.now.ask_at }
+    {
         len >= self.ask_at
     }
 
-    // Asks whether a team pays for what is left of the run, for which the machine stands. None does if the plan has a source. Otherwise
-    // worker 0 asks again once the list is twice as long and has an event more for each block.
+    /// Returns how many events the list may have before worker 0 may ask, at most `most`.
+    #[inline(always)]
+    pub(crate) fn until(&self, most: u32) -> u32
+        ensures { result ≡ min self.now.ask_at most }
+    {
+        self.ask_at.min(most)
+    }
+
+    // Asks whether a team pays for what is left of the run, for which the machine stands. If none does, worker 0 asks again once the list is
+    // twice as long and has an event more for each block.
     fn pays(&mut self, over: Over, machine: &Machine) -> bool
         ensures most { self.new.most ≡ self.old.most }
         ensures some { result ≡ true → 1 < self.old.most }
-        ensures nothing { result ≡ true → (h : List Event) → HandsNothingOver over.entry.plan.now h }
     {
         let len = machine.len();
         self.ask_at = len.saturating_add(len.max(over.plan.blocks()));
-        if has_source(over.plan) {
-            return false;
-        }
         self.hands = hands_worth(self.alloc, over, machine, self.most.max(1));
         self.hands > 1
     }
@@ -158,7 +136,6 @@ impl Hire {
         ensures most { self.new.most ≡ self.old.most }
         ensures some { result ≡ true → 1 < self.old.most }
         ensures start { result ≡ true → (r : Run) × (taken e ≡ Some r) }
-        ensures nothing { result ≡ true → (h : List Event) → HandsNothingOver over.entry.plan.now h }
     {
         if self.may_ask(machine.len()) && starts_long(over, e) {
             return self.pays(over, machine);

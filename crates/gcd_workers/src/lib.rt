@@ -15,9 +15,9 @@
 //!
 //! [`run_workers`] begins with worker 0 alone, which keeps the events in a list, as [`run_alone`] does to the end. Before the Start of a long
 //! block it asks [`hands_worth`] whether a team pays. If so, a board is made whose row begins with the list. Its slots have the values of the
-//! blocks that have ended, and the jobs of the others ([`file_jobs`] makes such jobs for a board of one's own). The team goes on with the same
-//! outside. List and row are recorders of one loop, that of `gcd_loop`. (`gcd_example` and `gcd_callers_example` call [`run_jobs`] and
-//! [`run_callers`].)
+//! blocks that have ended, the jobs of the others ([`file_jobs`] makes such jobs for a board of one's own), and tallies that took what sources
+//! have handed over. The team goes on with the same outside. List and row are recorders of one loop, that of `gcd_loop`. (`gcd_example` and
+//! `gcd_callers_example` call [`run_jobs`] and [`run_callers`].)
 //!
 //! A run goes on until it is quiescent or halted, or has so many events as its caller allows, `most`, which may be any number up to
 //! `MAX_EVENTS` of `gcd_plan`. Nothing of that size is taken at once: the journal grows with the run.

@@ -15,19 +15,21 @@ ghost use Rattle.gcd_workers.specs.ListRuns.{HasChosen, HasStepped, HasSteppedTw
 
 use crate::hire::{Hire, starts_long};
 use crate::over::Over;
+use crate::tallies::{hand_over, tallies_by_object};
 use gcd_event::{Entry, Event};
-use gcd_jobs::{FileJob, Job};
+use gcd_jobs::{FileJob, Job, Tally};
 use gcd_loop::{Recorder, Step};
 use gcd_machine::{Machine, Put};
 use gcd_plan::{Blk, Plan, Run};
 use std::alloc::{AllocError, Global};
 use std::sync::Wait;
 
-// The journal, the values of the blocks, and the machine that stands for the journal.
+// The journal, the values of the blocks, a tally for each object, and the machine that stands for the journal.
 #[derive(Drop)]
 pub(crate) struct Kept {
     pub(crate) journal: Vec<Entry>,
     pub(crate) values: Vec<u64>,
+    pub(crate) tallies: Vec<Tally>,
     pub(crate) machine: Machine,
 }
 
@@ -87,10 +89,12 @@ impl Kept {
         let room = (4 * count).max(FIRST_EVENTS).min(over.most as usize);
         let journal = Vec::with_capacity(alloc, room)?;
         let values = Vec::from_elem(alloc, 0, count)?;
+        let tallies = tallies_by_object(alloc, over.plan)?;
         let machine = Machine::new(alloc, over.plan)?;
         Ok(Kept {
             journal,
             values,
+            tallies,
             machine,
         })
     }
@@ -106,6 +110,7 @@ impl Kept {
         self.journal.push(Entry::of(e))?;
         self.machine.apply(e);
         note_end(over.plan, over.files, &self.machine, e, &mut self.values);
+        hand_over(&self.machine, e, &mut self.tallies);
         Ok(())
     }
 
@@ -151,13 +156,7 @@ impl Kept {
         }
     }
 
-    // Returns whether worker 0 asks for a team before its next event.
-    #[inline(always)]
-    fn asks_next(&self, over: &Over, hire: &Hire) -> bool {
-        hire.may_ask(self.machine.len()) && self.starts_long(over)
-    }
-
-    // Returns whether worker 0 starts a long block next. Most runs never ask, so this stands outside of their loops.
+    // Returns whether worker 0 starts a long block next.
     fn starts_long(&self, over: &Over) -> bool {
         match self.machine.choose(0, 0) {
             Some(e) => starts_long(*over, e),
@@ -165,17 +164,17 @@ impl Kept {
         }
     }
 
-    // Records starts and ends of blocks, as long as they are quick, nothing can come of the outside and worker 0 asks for no team, and says
-    // whether nothing can come. An `Err` leaves a run.
+    // Records starts and ends of blocks, as long as they are quick and nothing can come of the outside, and says whether nothing can. An
+    // `Err` leaves a run.
     #[inline(always)]
-    fn rush_through(&mut self, over: &Over, hire: &Hire) -> Result<bool, AllocError>
+    fn rush_through(&mut self, over: &Over) -> Result<bool, AllocError>
         requires run { IsKept over.now self.old }
         ensures run { IsKept over.now self.new }
         ensures rushed { OnOk result (IsRushed over.now.plan.now self.old.journal.items self.new.journal.items) }
         ensures calm { IfOk result (λ calm. calm ≡ true → IsCalm over.now.plan.now self.new.journal.items) }
     {
         let mut calm = self.machine.is_calm();
-        while calm && over.most - self.machine.len() > 1 && !self.asks_next(over, hire) {
+        while calm && over.most - self.machine.len() > 1 {
             if !self.record_run(over)? {
                 return Ok(true);
             }
@@ -200,19 +199,18 @@ impl Kept {
         }
     }
 
-    // Records what worker 0 chooses, one event after another, while nothing can come of the outside and it asks for no team. An `Err`
-    // leaves a run.
-    fn rush_on(&mut self, over: &Over, hire: &Hire) -> Result<(), AllocError>
+    // Records what worker 0 chooses, one event after another, while nothing can come of the outside. An `Err` leaves a run.
+    fn rush_on(&mut self, over: &Over) -> Result<(), AllocError>
         requires run { IsKept over.now self.old }
         ensures run { IsKept over.now self.new }
         ensures rushed { OnOk result (IsRushed over.now.plan.now self.old.journal.items self.new.journal.items) }
     {
         let mut calm = self.machine.is_calm();
-        while calm && self.machine.len() < over.most && !self.asks_next(over, hire) {
+        while calm && self.machine.len() < over.most {
             match self.record_quick(over)? {
                 Some(e) => {
                     if e.ended().is_some() {
-                        calm = self.rush_through(over, hire)?;
+                        calm = self.rush_through(over)?;
                     }
                 }
                 None => {
@@ -222,6 +220,38 @@ impl Kept {
                     calm = self.machine.is_calm();
                 }
             }
+        }
+        Ok(())
+    }
+
+    // Records worker 0's choice, by a quick step if it can, and says whether there was one. An `Err` leaves a run.
+    fn record_next(&mut self, over: &Over) -> Result<bool, AllocError>
+        requires room { length self.old.journal.items < over.now.most }
+        requires run { IsKept over.now self.old }
+        ensures run { IsKept over.now self.new }
+        ensures chosen { IfOk result (HasChosen over.now.plan.now self.old.journal.items self.new.journal.items) }
+    {
+        match self.record_quick(over)? {
+            Some(_) => Ok(true),
+            None => {
+                let is_chosen = self.record_choice(over)?;
+                Ok(is_chosen)
+            }
+        }
+    }
+
+    // Records what worker 0 chooses up to the start of a long block, while nothing can come of the outside. An `Err` leaves a run.
+    fn rush_to_long(&mut self, over: &Over) -> Result<(), AllocError>
+        requires run { IsKept over.now self.old }
+        ensures run { IsKept over.now self.new }
+        ensures rushed { OnOk result (IsRushed over.now.plan.now self.old.journal.items self.new.journal.items) }
+    {
+        let mut calm = self.machine.is_calm();
+        while calm && self.machine.len() < over.most && !self.starts_long(over) {
+            if !self.record_next(over)? {
+                return Ok(());
+            }
+            calm = self.machine.is_calm();
         }
         Ok(())
     }
@@ -328,7 +358,18 @@ impl<'a> Recorder for ListRun<'a> {
 
     #[inline(always)]
     fn rush(&mut self) -> Result<(), AllocError> {
-        self.kept.rush_on(&self.over, &self.hire)
+        if self.hire.may_ask(self.kept.machine.len()) {
+            self.kept.rush_to_long(&self.over)?;
+            return Ok(());
+        }
+        // A bound in place of a look at each event keeps the loop of the rush short.
+        let near = Over {
+            plan: self.over.plan,
+            files: self.over.files,
+            most: self.hire.until(self.over.most),
+        };
+        self.kept.rush_on(&near)?;
+        Ok(())
     }
 
     #[inline(always)]

@@ -2,18 +2,19 @@
 ghost use Rattle.std.specs.Prelude.{◌≡◌, ◌+◌, ◌<◌, ◌≤◌, IfErr, IfOk, length};
 ghost use Rattle.gcd_jobs.specs.Contents.{contents};
 ghost use Rattle.gcd_plan.specs.Limits.{max_workers};
+ghost use Rattle.gcd_row.specs.Lying.{source_shape};
 ghost use Rattle.gcd_row.specs.Passes.{IsGathered, IsPassOf, terms_of, view};
 ghost use Rattle.gcd_row.specs.Shapes.{gives_of};
 ghost use Rattle.gcd_workers.specs.JobsRuns.{tally_shape};
 ghost use Rattle.gcd_workers.specs.ListRuns.{IsKept};
-ghost use Rattle.gcd_workers.specs.Opened.{AreCellsOf, IsBlockCell, IsCellOf, IsStopped, file_gives, object_cell};
+ghost use Rattle.gcd_workers.specs.Opened.{AreCellsOf, IsBlockCell, IsCellOf, IsStopped, file_gives};
 ghost use Rattle.gcd_workers.specs.Teams.{IsNew};
 
 use crate::list_run::Kept;
 use crate::over::Over;
 use gcd_event::Entry;
 use gcd_jobs::{FileJob, Tally};
-use gcd_plan::{Blk, Kind, Obj};
+use gcd_plan::{Blk, Obj};
 use gcd_row::{Board, Cell, Limits, Pass, RowBoard};
 use std::alloc::{AllocError, Global};
 
@@ -29,14 +30,21 @@ fn block_cell<'a>(over: Over<'a>, kept: &Kept, b: Blk) -> Cell<FileJob<'a>, Tall
     Cell::Body(FileJob::new(over.files, over.plan.work(b)))
 }
 
-// Makes the cell of an object of this kind: a new tally for a source, and nothing for another object.
-fn cell_of_kind<'a>(kind: Kind) -> Cell<FileJob<'a>, Tally>
-    ensures { result ≡ object_cell kind }
+// Makes the cell of an object: a tally that took what the list's took for a source, and nothing for another object.
+fn object_cell<'a>(over: Over<'a>, kept: &Kept, object: Obj) -> Cell<FileJob<'a>, Tally>
+    requires run { IsKept over kept.now }
+    requires within { object.0 < length over.plan.now.objects }
+    ensures { tally_shape result ≡ source_shape over.entry.plan.now kept.now.journal.items object.0 }
 {
-    if kind.is_source() {
-        return Cell::Handler(Tally::new(kind));
+    if !over.plan.kind(object).is_source() {
+        return Cell::Away;
     }
-    Cell::Away
+    let tally = &kept.tallies[object.0 as usize];
+    Cell::Handler(Tally {
+        kind: tally.kind,
+        times: tally.times,
+        total: tally.total,
+    })
 }
 
 // Makes the cell of a slot.
@@ -49,10 +57,10 @@ fn cell_of<'a>(over: Over<'a>, kept: &Kept, slot: u32) -> Cell<FileJob<'a>, Tall
     if slot < blocks {
         return block_cell(over, kept, Blk(slot));
     }
-    cell_of_kind(over.plan.kind(Obj(slot - blocks)))
+    object_cell(over, kept, Obj(slot - blocks))
 }
 
-// Makes the cells of a board whose row begins with the journal of a list. No tally of a source was called. Returns `Err` if memory runs out.
+// Makes the cells of a board whose row begins with the journal of a list. Returns `Err` if memory runs out.
 fn cells_after<'a>(
     alloc: Global,
     over: Over<'a>,
@@ -106,6 +114,7 @@ pub(crate) fn open_after<'a>(
     let Kept {
         journal,
         values,
+        tallies,
         machine,
     } = kept;
     match RowBoard::after(alloc, over.plan, cells, machine, &journal, limits) {
@@ -113,6 +122,7 @@ pub(crate) fn open_after<'a>(
         Err((_, machine)) => Err(Kept {
             journal,
             values,
+            tallies,
             machine,
         }),
     }

@@ -84,7 +84,7 @@ pub fn run_workers<R: Threads + Wait + Sync, P: Poller, C: Clock>(
     let Ok(mut run) = ListRun::new(alloc, over) else {
         return Err(RunRefused::BeforeTheRun);
     };
-    run.hire = Hire::new(rt, alloc, over, &run.kept.machine, workers);
+    run.hire = Hire::new(rt, alloc, over, workers);
     let mut outside = Outside::new(poller, clock);
     match run_on(rt, alloc, run, workers, &mut outside) {
         Ok(outcome) => Ok(outcome),

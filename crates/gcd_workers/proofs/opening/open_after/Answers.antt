@@ -23,7 +23,7 @@ returns-in-Ok-after-clause-new c =
     record {
       worker = ap (λ (v : View _). v.worker) is;
       hands = ap (λ (v : View _). v.hands) is;
-      held = subst (λ (v : View _). held_run v ≡ None) (sym is) (subst (λ t. held_by t.plan c.args.kept.journal.items 0 ≡ None) (sym c.in-Ok-after.ensures.terms) c.requires.stopped.holds);
+      held = subst (λ (v : View _). held_run v ≡ None) (sym is) (subst (λ t. held_by t.plan c.args.kept.journal.items 0 ≡ None) (sym c.in-Ok-after.ensures.terms) c.requires.stopped);
     }
 
 pub returns-in-Ok-after-clause-begun : goal.returns-in-Ok-after-clause-begun

@@ -1,4 +1,3 @@
-use Rattle.std.proofs.Common.{arith}
 use Rattle.gcd_workers.proofs.Senders.{runs_jobs}
 use Rattle.gcd_workers.proofs.running_jobs.run_by_team.Goals as goal
 

@@ -1,4 +1,4 @@
-use Rattle.std.proofs.Common.{◌≡◌, List, [], refl, sym, subst, arith}
+use Rattle.std.proofs.Common.{List, [], refl, subst, arith}
 use Rattle.gcd_event.specs.declared.event.Event.{Event}
 use Rattle.gcd_turn.specs.Outsides.{Faced, faced}
 use Rattle.gcd_loop.specs.Going.{GoesOn}

@@ -1,4 +1,4 @@
-use Rattle.std.proofs.Common.{◌≡◌, ◌∙◌, ℕ, List, length, subst, sym, arith}
+use Rattle.std.proofs.Common.{◌∙◌, ℕ, List, length, subst, sym, arith}
 use Rattle.std.specs.Prelude.{slice_index_or}
 use Rattle.gcd_facts.proofs.Lists.{one_of}
 use Rattle.gcd_event.specs.declared.event.Event.{Event}

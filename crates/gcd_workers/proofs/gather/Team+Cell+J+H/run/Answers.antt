@@ -1,4 +1,4 @@
-use Rattle.std.proofs.Common.{◌≡◌, length, ap, rules, subst}
+use Rattle.std.proofs.Common.{length, ap, rules, subst}
 use Rattle.std.specs.List.{list_any}
 use Rattle.std.specs.Prelude.{slice_index_or}
 use Rattle.gcd_facts.proofs.Lists.{one_of}

@@ -17,5 +17,6 @@ returns-clause-run c =
       alone = rw empty alone_none;
       chosen = rw empty (follows_none plan);
       uncalled = rw empty accepts_none_first;
+      tallies_are = rw empty c.in_ok-tallies.ensures;
       values = rw (empty, zeros, c.blocks-count.ensures.count) (no_values plan (contents c.args.over.now.files.now));
     }

@@ -23,6 +23,15 @@ of-requires c =
 pub note_end-requires-clause-ends : goal.note_end-requires-clause-ends
 note_end-requires-clause-ends c = end_fits c.args.over.now.plan.now c.args.self.now.journal.items c.args.e c.requires.next.permitted
 
+pub hand_over-requires : goal.hand_over-requires
+hand_over-requires c =
+    let plan = c.args.over.now.plan.now in
+    let h = c.args.self.now.journal.items in
+    let run = c.requires.run in
+    let room = c.requires.next.room in
+    let fits = run.countable in
+    record { plan = plan; history = h; stands = c.apply.ensures.stands plan h run.stands c.requires.next.permitted; tallies_are = run.tallies_are; room = omega (arith, room, fits) }
+
 pub returns-clause-run : goal.returns-clause-run
 returns-clause-run c =
     let plan = c.args.over.now.plan.now in
@@ -41,4 +50,5 @@ returns-clause-run c =
       chosen = follows_more plan h e run.chosen next.chosen;
       uncalled = accepts_none_more h e run.uncalled next.no_job;
       values = c.note_end.ensures.values h stands run.values;
+      tallies_are = c.hand_over.ensures plan h stands run.tallies_are;
     })

@@ -1,4 +1,4 @@
-use Rattle.std.proofs.Common.{◌≡◌, ◌++◌, ◌∷◌, ◌∙◌, List, [], ap, arith}
+use Rattle.std.proofs.Common.{◌≡◌, ◌++◌, ◌∷◌, ◌∙◌, List, [], ap, sym, arith}
 use Rattle.std.proofs.lemmas.List.{length_push}
 use Rattle.gcd_event.specs.declared.event.Event.{Event}
 use Rattle.gcd_history.proofs.Permitted.Fitting.{permitted_fits}
@@ -7,6 +7,7 @@ use Rattle.gcd_jobs.proofs.ValuesMore.{end_fits}
 use Rattle.gcd_loop.proofs.Events.{work_accepts_none}
 use Rattle.gcd_loop.proofs.Follows.{accepts_none_more, alone_more, follows_more}
 use Rattle.gcd_machine.proofs.Views.Calls.{valid_stands}
+use Rattle.gcd_workers.proofs.HandedOver.{quick_is_no_deliver, tallies_same}
 use Rattle.gcd_workers.proofs.list_run.Kept.record_quick.Goals as goal
 
 pub quick-requires : goal.quick-requires
@@ -50,4 +51,5 @@ returns-in-Some-clause-run c =
       chosen = follows_more plan h e run.chosen (λ work. taken.chosen);
       uncalled = accepts_none_more h e run.uncalled (work_accepts_none e choice.work);
       values = c.note_end.ensures.values h taken.stands run.values;
+      tallies_are = tallies_same plan h e c.args.self.now.tallies.items (quick_is_no_deliver plan h 0 e (sym (c.in-Some.ensures.choice plan h run.stands))) run.tallies_are;
     })

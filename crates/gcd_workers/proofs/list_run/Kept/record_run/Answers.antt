@@ -9,6 +9,7 @@ use Rattle.gcd_jobs.proofs.ValuesMore.{end_fits, none_ended, values_same}
 use Rattle.gcd_loop.proofs.Events.{work_accepts_none}
 use Rattle.gcd_loop.proofs.Follows.{accepts_none_more, alone_more, follows_more}
 use Rattle.gcd_machine.proofs.Views.Calls.{lawful_stands, valid_stands}
+use Rattle.gcd_workers.proofs.HandedOver.{tallies_same}
 use Rattle.gcd_workers.proofs.list_run.Kept.record_run.Goals as goal
 
 pub quick_run-requires : goal.quick_run-requires
@@ -59,6 +60,8 @@ returns-in-Some-clause-run c =
       chosen = follows_more plan between end (follows_more plan h start run.chosen (λ work. taken.chosen)) (λ work. taken.next.ends);
       uncalled =
           accepts_none_more between end (accepts_none_more h start run.uncalled (work_accepts_none start first.work)) (work_accepts_none end second.work);
+      tallies_are = tallies_same plan between end c.args.self.now.tallies.items (λ w s is. cc)
+          (tallies_same plan h start c.args.self.now.tallies.items (λ w s is. cc) run.tallies_are);
       values = c.note_end.ensures.values between taken.stands
           (values_same plan (contents c.args.over.now.files.now) h start c.args.self.now.values.items lawful (none_ended start refl) run.values);
     })

@@ -1,17 +1,12 @@
-use Rattle.std.proofs.Common.{◌≡◌, ◌∙◌, List, is_some, ap, sym, subst}
+use Rattle.std.proofs.Common.{◌≡◌, ◌∙◌, is_some, ap, sym, subst}
 use Rattle.gcd_plan.proofs.Options.{none_from_is_some}
-use Rattle.gcd_plan.specs.PlanView.{PlanView}
 use Rattle.gcd_event.specs.Owners.{ended}
-use Rattle.gcd_event.specs.declared.event.Event.{Event}
 use Rattle.gcd_loop.specs.Rushed.{IsRushed}
-use Rattle.gcd_loop.proofs.Rushes.{rushed_more, rushed_on}
+use Rattle.gcd_loop.proofs.Rushes.{rushed_on}
 use Rattle.gcd_machine.specs.Calm.{IsCalm}
-use Rattle.gcd_workers.specs.ListRuns.{HasChosen, HasStepped, IsChosen, IsOneMore, IsStep}
+use Rattle.gcd_workers.specs.ListRuns.{HasChosen, HasStepped, IsOneMore, IsStep}
+use Rattle.gcd_workers.proofs.Rushing.{one_more}
 use Rattle.gcd_workers.proofs.list_run.Kept.rush_on.Goals as goal
-
--- one event more is rushed through
-one_more : (plan : PlanView) (h k l : List Event) (e : Event) → IsRushed plan h k → IsCalm plan k → IsChosen plan k l e → IsRushed plan h l
-one_more plan h k l e rushed calm one = subst (IsRushed plan h) (sym one.is) (rushed_more plan h k e rushed calm one.chosen)
 
 pub loop-calm-preserved-then-is_some : goal.loop-calm-preserved-then-is_some
 loop-calm-preserved-then-is_some c =

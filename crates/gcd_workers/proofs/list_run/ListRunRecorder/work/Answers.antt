@@ -31,8 +31,7 @@ returns-then-stops-clause-after g c =
     let more = c.stops.ensures.some c.if-stops.true in (
       (
         ready,
-        stops_at_start plan h c.args.e (lawful_stands run.kept.machine plan h ready.stands) (c.stops.ensures.start c.if-stops.true) choice.permitted choice.by
-            (c.stops.ensures.nothing c.if-stops.true h),
+        stops_at_start plan h c.args.e (lawful_stands run.kept.machine plan h ready.stands) (c.stops.ensures.start c.if-stops.true) choice.permitted choice.by,
         omega (arith, most, more),
       ),
       refl,
