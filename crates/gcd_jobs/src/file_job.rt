@@ -5,6 +5,7 @@ ghost use Rattle.gcd_history.specs.Values.{work_value};
 ghost use Rattle.gcd_jobs.specs.Contents.{contents};
 
 use crate::Job;
+use crate::times::{LONG_TIME, work_time};
 use crate::works::counted_in;
 use gcd_plan::Work;
 
@@ -32,6 +33,14 @@ impl<'a> FileJob<'a> {
             None => FileJob::Nothing,
         }
     }
+
+    /// Returns how long the job takes if a processor's cache holds its bytes, in sixteenths of a nanosecond (this project's own rule).
+    pub fn time(&self) -> u64 {
+        match self {
+            FileJob::Nothing => 0,
+            FileJob::Counting { files, work } => work_time(files, *work),
+        }
+    }
 }
 
 impl Job for FileJob<'_> {
@@ -45,5 +54,10 @@ impl Job for FileJob<'_> {
             FileJob::Nothing => 0,
             FileJob::Counting { files, work } => counted_in(files, work),
         }
+    }
+
+    #[inline(always)]
+    fn is_long(&self) -> bool {
+        self.time() >= LONG_TIME
     }
 }

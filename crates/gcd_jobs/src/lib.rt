@@ -24,7 +24,8 @@
 //! In the program's runs a `Tally` folds what each delivery of a source hands over. A cancelled block has no value (`has_given` of
 //! `specs/BlockValues`).
 //!
-//! Nothing is said of when a job runs, or on which thread. bench/works.sh times the works.
+//! Nothing is said of when a job runs, or on which thread. `Job::is_long` says whether it pays to run a job beside others. `FileJob::time` and
+//! `counting_time` estimate how long a work takes, and bench/works.sh times the works. No clause says that an estimate is right.
 #![tactic(auto)]
 
 mod admits;
@@ -34,6 +35,7 @@ mod job;
 mod nobody;
 mod strip;
 mod tally;
+mod times;
 mod works;
 
 pub use admits::Admits;
@@ -43,3 +45,4 @@ pub use job::Job;
 pub use nobody::Nobody;
 pub use strip::one_thread;
 pub use tally::Tally;
+pub use times::{LONG_TIME, counting_time};

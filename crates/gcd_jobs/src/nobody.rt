@@ -29,6 +29,13 @@ impl<J: Job> Job for Option<J> {
             None => 0,
         }
     }
+
+    fn is_long(&self) -> bool {
+        match self {
+            Some(job) => job.is_long(),
+            None => false,
+        }
+    }
 }
 
 impl<J: Job> Admits<Nobody> for Option<J> {

@@ -25,6 +25,20 @@ fn some_of_each<J: Drop>(alloc: Global, jobs: Vec<J>) -> Result<Vec<Option<J>>, 
     jobs.into_iter().map(Some).collect(alloc)
 }
 
+// Returns how many hands there can be work for, at most `workers`: one if no job is long.
+fn hands_for<J: Job>(plan: &Plan, workers: u8, jobs: &[J]) -> u8
+    requires { 0 < workers }
+    ensures some { 0 < result }
+    ensures few { result ≤ workers }
+{
+    for job in jobs {
+        if job.is_long() {
+            return team_size(plan, workers);
+        }
+    }
+    1
+}
+
 // Runs one job for each block by a team of at most this many workers.
 fn run_by_team<J: Job + Drop + Send, R: Threads + Wait + Sync>(
     rt: &R,
@@ -44,7 +58,7 @@ fn run_by_team<J: Job + Drop + Send, R: Threads + Wait + Sync>(
     let (front, mut intake) = nobodys_front(alloc)?;
     let given = Dispatch {
         plan,
-        workers: team_size(plan, workers),
+        workers: hands_for(plan, workers, &jobs),
         most,
         jobs: some_of_each(alloc, jobs)?,
     };
@@ -57,7 +71,8 @@ fn run_by_team<J: Job + Drop + Send, R: Threads + Wait + Sync>(
 /// `MAX_EVENTS` there is no limit but that of all runs. There is one job for each block, by number, so the first is `main`'s; it runs at
 /// most once, at the input 0, when its block comes to its end, and never if its block is cancelled (dispatch_block_cancel(3)). A block has
 /// a value exactly if it has ended and is not cancelled. There are no outside callers: an intake is shut at once. Each source's handler is
-/// a tally, of which nothing is told. The call makes board, rack, tallies, poller and clock, and drops them.
+/// a tally, of which nothing is told. The call makes board, rack, tallies, poller and clock, and drops them. If no job is long
+/// ([`Job::is_long`]), worker 0 runs them all.
 ///
 /// The outside is in memory. No feed is told of: a read source delivers nothing, and its feed ends once worker 0 gives up a silent feed,
 /// after so many empty answers. Time jumps: each due time comes as soon as worker 0 has nothing else to do, so a run waits for no timer and

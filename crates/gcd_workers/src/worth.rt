@@ -3,12 +3,10 @@ ghost use Rattle.std.specs.Prelude.{◌<◌, ◌≤◌};
 
 use crate::hiring::submitted;
 use crate::over::Over;
+use gcd_jobs::{FileJob, Job, LONG_TIME, counting_time};
 use gcd_machine::Machine;
-use gcd_plan::{Act, Blk, How, Obj, Plan, Run, Work};
+use gcd_plan::{Act, Blk, How, Obj, Plan, Run};
 use std::alloc::{AllocError, Global};
-
-// No team pays if every work takes less than this, a microsecond.
-const LONG: u64 = 16_000;
 
 // The row adds this to each block, and the second figure for each hand.
 const ROW: u64 = 6_400;
@@ -20,48 +18,24 @@ const HAND: u64 = 800_000;
 
 const HAND_BLOCK: u64 = 320;
 
-// Returns how long it takes to count these bytes, if a processor's cache holds them.
-fn time_of(how: How, bytes: u64) -> u64 {
-    match how {
-        How::Bytes => 0,
-        How::Sum => bytes,
-        How::Lines | How::Count(_) => bytes.saturating_mul(3),
-        How::Words => bytes.saturating_mul(6),
-    }
-}
-
-// Returns how long a work takes over its range of the file.
-fn work_time(files: &[Vec<u8>], work: Work) -> u64 {
-    match files.get(work.file as usize) {
-        Some(bytes) => {
-            let rest = (bytes.len() as u64).saturating_sub(u64::from(work.start));
-            time_of(work.how, rest.min(u64::from(work.len)))
-        }
-        None => 0,
-    }
-}
-
-// Returns how long a block's work takes.
-fn block_time(over: Over, b: Blk) -> u64 {
+// Returns the job of a block, and one that does nothing for a number that no block has.
+fn job_of<'a>(over: Over<'a>, b: Blk) -> FileJob<'a> {
     if b.0 >= over.plan.blocks() {
-        return 0;
+        return FileJob::Nothing;
     }
-    match over.plan.work(b) {
-        Some(work) => work_time(over.files, work),
-        None => 0,
-    }
+    FileJob::new(over.files, over.plan.work(b))
 }
 
-/// Returns whether the block's work is long.
+/// Returns whether the block's work is long. No team pays if no work is.
 #[inline(always)]
 pub(crate) fn is_long(over: Over, b: Blk) -> bool {
-    block_time(over, b) >= LONG
+    job_of(over, b).is_long()
 }
 
 /// Returns whether a work over one of the files can be long.
 pub(crate) fn has_long_file(files: &[Vec<u8>]) -> bool {
     for bytes in files {
-        if time_of(How::Words, bytes.len() as u64) >= LONG {
+        if counting_time(How::Words, bytes.len() as u64) >= LONG_TIME {
             return true;
         }
     }
@@ -131,7 +105,7 @@ impl Costs {
         };
         if let Some(b) = act.block() {
             if is_left(machine, b) {
-                self.add(queue, block_time(over, b));
+                self.add(queue, job_of(over, b).time());
             }
         }
         let Some(number) = act.strip() else {
@@ -140,7 +114,8 @@ impl Costs {
         if let Some(strip) = over.plan.strips().get(number as usize) {
             for place in 0..strip.count {
                 if is_left(machine, Blk(strip.first.saturating_add(place))) {
-                    self.add(queue, work_time(over.files, strip.work(place)));
+                    let job = FileJob::new(over.files, Some(strip.work(place)));
+                    self.add(queue, job.time());
                 }
             }
         }
