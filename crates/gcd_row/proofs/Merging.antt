@@ -57,8 +57,8 @@ module _ {S : Type 0} (shape : S → Shape) (gives : S → ℕ → Type 0) (b : 
   }
 
   -- a pass that was split off
-  pub new_pass : (p q : RowPass S) (w : ℕ) → IsPassOf shape gives b p → of_worker w (view p).seen ≡ [] → q.seat.table_id ≡ p.seat.table_id → q.seat.me ≡ (newcomer (view p) w, []) → q.number ≡ w → q.machine ≡ p.machine → w < 64 → q.passed ≡ (view p).terms.opened → q.floor ≡ p.floor → q.upto ≡ p.upto → q.beneath ≡ p.beneath → IsPassOf shape gives b q
-  new_pass p q w is none table me number machine low own floor upto beneath =
+  pub new_pass : (p q : RowPass S) (w : ℕ) → IsPassOf shape gives b p → of_worker w (view p).seen ≡ [] → q.seat.table_id ≡ p.seat.table_id → q.seat.me ≡ (newcomer (view p) w, []) → q.number ≡ w → StandsFor q.machine (view p).terms.plan (view p).seen → w < 64 → q.passed ≡ (view p).terms.opened → q.floor ≡ p.floor → q.upto ≡ p.upto → q.beneath ≡ p.beneath → IsPassOf shape gives b q
+  new_pass p q w is none table me number stands low own floor upto beneath =
       let now : view q ≡ newcomer (view p) w = ap (λ (m : View S × List (ℕ × S)). m.0) me in
       let empty : slots q ≡ [] = ap (λ (m : View S × List (ℕ × S)). m.1) me in
       record {
@@ -75,7 +75,7 @@ module _ {S : Type 0} (shape : S → Shape) (gives : S → ℕ → Type 0) (b : 
         back = subst (λ (x : View S). IsBack x.handed.next) (sym now) tt;
         has = subst (λ (x : View S). HasSlots shape gives (held_jobs x) x.seen (held_run x) (slots q)) (sym now)
             (subst (λ (o : Option Run). HasSlots shape gives (held_jobs (newcomer (view p) w)) (view p).seen o (slots q)) (sym (holds_nothing (view p).terms.plan (view p).seen w none)) empty);
-        stands = subst (λ (x : View S). StandsFor q.machine x.terms.plan x.seen) (sym now) (subst (λ m. StandsFor m (view p).terms.plan (view p).seen) (sym machine) is.stands);
+        stands = subst (λ (x : View S). StandsFor q.machine x.terms.plan x.seen) (sym now) stands;
       }
 
   few_longer : (most : ℕ) (g h : List Event) → length g ≤ most → length h ≤ most → length (longer g h) ≤ most

@@ -48,7 +48,7 @@
 //! | [`RowBoard::put`], [`RowBoard::put_chosen`] | the event is event n; or the row was what the pass has now seen, after which the event is not permitted, with the first reason, or is held, with the lowest worker that has still to pass the event a lap ago; or the row is full | `Says`, `SaysSlots` |
 //! | [`RowBoard::pass_on`] | a helper's passed word is what its pass has seen | `passing` |
 //! | [`RowBoard::gather`] | worker 0's journal is what its pass has seen, and its passed word says how much that is; or out of memory | `IsGathered`, `passing` |
-//! | [`RowBoard::split`] | a pass for a new number, or out of memory | `lending`, `newcomer` |
+//! | [`RowBoard::split`] | a pass for a new number, with the machine that it was given | `lending`, `newcomer` |
 //! | [`RowBoard::join`] | worker 0's pass has taken in another | `Merges` |
 //! | [`RowBoard::take_body`], [`RowBoard::give_body`], [`RowBoard::give_done`] | a block's body or value, from the slot of the run that the pass holds and into it | `MayGive` |
 //! | [`RowBoard::place_body`] | what lay in the slot of the intake's next block, where the job lies then; with the block's Accept it is the block's job | `turning`, `IsLaid`, `HandsOn` |
@@ -57,7 +57,7 @@
 //! | [`RowPass::machine`], [`RowPass::worker`] | the machine, which stands for what the pass has seen, and the number | |
 //!
 //! A board takes 33,288 bytes for its words, however many events it is made for, and its slots; a pass takes a machine; a journal grows
-//! as it is gathered. No call but `new`, `split`, `gather` and those that close takes memory. `look` and `put` go on by one event each
+//! as it is gathered. No call but `new`, `after`, `gather` and those that close takes memory. `look` and `put` go on by one event each
 //! turn, so they return. A board may be shared by threads and a pass sent to one, where jobs and handlers may be sent.
 //!
 //! All numbers below the board's number of workers count from the outset, split or not: one that is never split holds the ring after

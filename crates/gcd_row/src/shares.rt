@@ -1,5 +1,5 @@
 // Splitting and joining passes.
-ghost use Rattle.std.specs.Prelude.{◌≡◌, ◌≢◌, ◌<◌, false, List, [], None, IfOk, IfErr};
+ghost use Rattle.std.specs.Prelude.{◌≡◌, ◌≢◌, ◌<◌, false, List, [], None};
 ghost use Rattle.gcd_event.specs.declared.event.Event.{Event};
 ghost use Rattle.gcd_machine.specs.Stands.{StandsFor};
 ghost use Rattle.gcd_plan.specs.PlanView.{PlanView};
@@ -15,7 +15,6 @@ use crate::plays::{Compare, Cut, Fresh, Numbered, Tell};
 use crate::view::View;
 use atomic_table::Seat;
 use gcd_machine::Machine;
-use std::alloc::{AllocError, Global};
 use std::marker::Brand;
 use std::mem;
 
@@ -49,28 +48,22 @@ impl<S: Slot> RowBoard<S> {
     }
 
     /// Makes the pass of a worker. It has seen what worker 0's pass has seen, and has passed what the row began with. `pass` is worker 0's. The
-    /// number is above 0 and below the board's number of workers, and was never given out on this board. It copies the machine. Returns
-    /// `Err` only if memory runs out, and gives nothing out then.
-    pub fn split(
-        &self,
-        alloc: Global,
-        pass: &mut RowPass<S>,
-        worker: u8,
-    ) -> Result<RowPass<S>, AllocError>
+    /// number is above 0 and below the board's number of workers, and was never given out on this board. `machine` stands for what worker 0's
+    /// pass has seen.
+    pub fn split(&self, pass: &mut RowPass<S>, worker: u8, machine: Machine) -> RowPass<S>
         requires pass { IsPassOf S.shape S.gives self.now pass.old }
         requires head { (view pass.old).worker ≡ 0 }
         requires number { (0 < worker) × (worker < (terms_of self.now).limits.workers) × (standing_of (view pass.old).hands worker ≡ None) }
+        requires stands { StandsFor machine (view pass.old).terms.plan (view pass.old).seen }
         ensures pass { IsPassOf S.shape S.gives self.now pass.new }
         ensures slots { slots pass.new ≡ slots pass.old }
-        ensures lent { IfOk result (λ new. view pass.new ≡ lending (view pass.old) worker) }
-        ensures new { IfOk result (λ new. IsPassOf S.shape S.gives self.now new × (view new ≡ newcomer (view pass.old) worker)) }
-        ensures none { IfOk result (λ new. of_worker worker (view new).seen ≡ []) }
-        ensures err { IfErr result (λ _. view pass.new ≡ view pass.old) }
+        ensures lent { view pass.new ≡ lending (view pass.old) worker }
+        ensures new { IsPassOf S.shape S.gives self.now result × (view result ≡ newcomer (view pass.old) worker) }
+        ensures none { of_worker worker (view result).seen ≡ [] }
     {
-        let machine = pass.machine.copy(alloc)?;
         self.table.shared.load::<Fresh>(&mut pass.seat, 0);
         let seat = self.cut::<Brand>(&mut pass.seat, worker);
-        Ok(RowPass {
+        RowPass {
             seat,
             machine,
             number: worker,
@@ -78,7 +71,7 @@ impl<S: Slot> RowBoard<S> {
             floor: pass.floor,
             upto: pass.upto,
             beneath: pass.beneath,
-        })
+        }
     }
 
     // Tells a pass what another has seen.

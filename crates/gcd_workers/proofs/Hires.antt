@@ -74,9 +74,16 @@ first_has {T} P d is holds = subst (λ (l : List T). P (slice_index_or l 0 d)) (
 pub pass_has : {S : Type 0} → (P : View S → Type 0) {pass : RowPass S} (hand : Hand S) → hand.pass ≡ pass → P (view pass) → P (view hand.pass)
 pass_has {S} P hand is holds = subst (λ (p : RowPass S). P (view p)) (sym is) holds
 
--- what holds of all holds of the rest
+-- what holds of all holds of the first, and of the rest
+pub all_head : {T : Type 0} → (P : T → Type 0) (x : T) (xs : List T) → All P (x ∷ xs) → P x
+all_head P x xs all = all 0 x (omega arith)
+
 pub all_rest : {T : Type 0} → (P : T → Type 0) (x : T) (xs : List T) → All P (x ∷ xs) → All P xs
 all_rest P x xs all k d low = all (suc k) d (omega arith)
+
+-- what holds of all and of one more holds of all with it
+pub all_push : {T : Type 0} → (P : T → Type 0) (xs : List T) (x : T) → All P xs → P x → All P (xs ++ x ∷ [])
+all_push P xs x all last = each_push (λ (n : ℕ) y. P y) 0 xs x all last
 
 -- what holds of all holds of one that was taken out at the front, and of those behind it
 pub all_first : {T : Type 0} → (P : T → Type 0) (xs : List T) (x : T) → 0 < length xs → x ≡ slice_index_or xs 0 x → All P xs → P x

@@ -1,5 +1,6 @@
 -- The hands of a team, and what worker 0 has given out.
-use Rattle.std.specs.Prelude.{◌≡◌, ◌≢◌, ◌<◌, ◌≤◌, ◌+◌, ℕ, List, [], length, Some, None, slice_index_or}
+use Rattle.std.specs.Prelude.{◌≡◌, ◌≢◌, ◌<◌, ◌≤◌, ◌+◌, ℕ, All, List, [], length, Some, None, slice_index_or, vec_capacity}
+use Rattle.gcd_plan.specs.PlanView.{PlanView}
 use Rattle.gcd_event.specs.declared.event.Event.{Event}
 use Rattle.gcd_history.specs.Ends.{HasEnded}
 use Rattle.gcd_history.specs.Intake.{AcceptsOf}
@@ -10,6 +11,8 @@ use Rattle.gcd_loop.specs.Followed.{IsOfWorkers}
 use Rattle.gcd_loop.specs.Going.{GoesOn}
 use Rattle.gcd_loop.specs.Ran.{RunsPlan}
 use Rattle.gcd_loop.specs.Recorded.{Bounds}
+use Rattle.gcd_machine.specs.Stands.{StandsFor}
+use Rattle.gcd_refinement.specs.MachineView.{MachineView}
 use Rattle.gcd_row.specs.Passes.{IsPassOf, terms_of, view}
 use Rattle.gcd_row.specs.Shapes.{Shape}
 use Rattle.gcd_row.specs.Views.{held_run, standing_of}
@@ -17,11 +20,15 @@ use Rattle.gcd_row.specs.declared.view.Standing.{Standing}
 use Rattle.gcd_row.specs.declared.view.Standing.TheVariants.{Out}
 use Rattle.gcd_row.specs.declared.view.View.{View}
 use Rattle.gcd_row.specs.declared.board.RowBoard.{RowBoard}
+use Rattle.gcd_steal.specs.Racks.{IsBenchOf}
+use Rattle.gcd_steal.specs.declared.bench.Bench.{Bench}
+use Rattle.gcd_steal.specs.declared.bench.Rack.{Rack}
 use Rattle.gcd_pool.specs.Hands.{IsReady}
 use Rattle.gcd_pool.specs.Leads.{Follows}
 use Rattle.gcd_turn.specs.Outsides.{Faced}
 use Rattle.gcd_pool.specs.declared.hand.Hand.{Hand}
 use Rattle.gcd_pool.specs.declared.hand.Pool.{Pool}
+use Rattle.gcd_workers.specs.declared.room.Room.{Room}
 use Rattle.gcd_workers.specs.declared.team.Team.{Team}
 
 -- a fact of each place of a list, by its number from n on
@@ -55,6 +62,19 @@ pub record HasLed {S : Type 0} (workers : ℕ) (v : View S) : Type 0 where
   pub home : (w : ℕ) → standing_of v.hands w ≢ Some Out
   pub ended : HasEnded v.terms.limits.most v.terms.plan v.seen
   pub by : IsOfWorkers workers v.seen
+
+-- what a helper brings: a bench of the rack, and a machine that stands for what worker 0's pass has seen
+pub record IsHelper (rack : Rack) (plan : PlanView) (h : List Event) (helper : Bench × MachineView) : Type 0 where
+  pub bench : IsBenchOf rack helper.0
+  pub machine : StandsFor helper.1 plan h
+
+-- the room of a team of so many hands
+pub record IsRoom {S : Type 0} (rack : Rack) (plan : PlanView) (h : List Event) (n : ℕ) (room : Room S) : Type 0 where
+  pub first : IsBenchOf rack room.first
+  pub helpers : All (IsHelper rack plan h) room.helpers.items
+  pub count : length room.helpers.items + 1 ≡ n
+  pub none : room.hands.items ≡ []
+  pub capacity : n ≤ vec_capacity room.hands
 
 -- worker 0's pass of a board that was just opened: no number was given out, and it holds no run
 pub record IsNew {S : Type 0} (v : View S) : Type 0 where

@@ -12,6 +12,7 @@ ghost use Rattle.gcd_workers.specs.declared.refused.RunRefused.{RunRefused};
 use crate::jobs_board::{close, open};
 use crate::ran::Ran;
 use crate::refused::RunRefused;
+use crate::room::Room;
 use crate::team::Team;
 use gcd_front::{Front, Intake, Sent};
 use gcd_jobs::{Admits, Job};
@@ -93,10 +94,11 @@ impl<J: Job + Drop + Send> Dispatch<'_, J> {
         let Ok((board, pass)) = open(alloc, plan, workers, most, jobs) else {
             return Err(RunRefused::BeforeTheRun);
         };
-        let pool = Pool::new(&board, &rack, plan);
-        let Ok(team) = Team::new(alloc, &pool, pass, benches, Vec::new(alloc)) else {
+        let Ok(room) = Room::new(alloc, pass.machine(), benches) else {
             return Err(RunRefused::BeforeTheRun);
         };
+        let pool = Pool::new(&board, &rack, plan);
+        let team = Team::new(&pool, pass, room, Vec::new(alloc));
         let Ok((last, gathered)) = team.run(rt, front, intake, poller, clock) else {
             return Err(RunRefused::InTheRun);
         };

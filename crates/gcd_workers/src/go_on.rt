@@ -14,6 +14,7 @@ use crate::list_run::ListRun;
 use crate::nobodys_front::nobodys_front;
 use crate::opening::open_after;
 use crate::outcome::Outcome;
+use crate::room::Room;
 use crate::team::Team;
 use crate::works::outcome_of;
 use gcd_outer::{Clock, Poller};
@@ -25,9 +26,8 @@ use std::sync::Wait;
 use std::thread::Threads;
 
 /// Goes on by a team from what a list has kept, until the run is quiescent or halted, or has as many events as it may have. Worker 0 holds
-/// no run. `outside` is that of the list. If memory for the team is refused, worker 0 goes on
-/// alone. Returns `Err` if memory is refused later, or the system makes no thread for a worker on whom all others wait. Nothing is left of
-/// the run then.
+/// no run. `outside` is that of the list. If memory for the team is refused, worker 0 goes on alone. Returns `Err` if memory is refused
+/// later, or the system makes no thread for a worker on whom all others wait. Nothing is left of the run then.
 pub(crate) fn go_on<R: Threads + Wait + Sync, P: Poller, C: Clock>(
     rt: &R,
     alloc: Global,
@@ -48,6 +48,9 @@ pub(crate) fn go_on<R: Threads + Wait + Sync, P: Poller, C: Clock>(
     let Ok((rack, benches)) = Rack::new(alloc, over.plan, hands, MOST_PUSHES) else {
         return without_team(rt, alloc, over, kept, workers, outside);
     };
+    let Ok(room) = Room::new(alloc, &kept.machine, benches) else {
+        return without_team(rt, alloc, over, kept, workers, outside);
+    };
     let Ok((front, mut intake)) = nobodys_front(alloc) else {
         return without_team(rt, alloc, over, kept, workers, outside);
     };
@@ -56,7 +59,7 @@ pub(crate) fn go_on<R: Threads + Wait + Sync, P: Poller, C: Clock>(
         Err(kept) => return without_team(rt, alloc, over, kept, workers, outside),
     };
     let pool = Pool::new(&board, &rack, over.plan);
-    let team = Team::new(alloc, &pool, pass, benches, journal)?;
+    let team = Team::new(&pool, pass, room, journal);
     let (last, gathered) = team.go_on(rt, &front, &mut intake, outside)?;
     drop(pool);
     let ran = close(alloc, board, last, gathered)?;

@@ -1,5 +1,5 @@
 use Rattle.std.proofs.Common.{◌≡◌, ◌∙◌, ℕ, List, length, ap, subst, sym, arith}
-use Rattle.std.specs.Prelude.{All, slice_index_or}
+use Rattle.std.specs.Prelude.{slice_index_or}
 use Rattle.gcd_facts.proofs.Lists.{one_of}
 use Rattle.gcd_plan.specs.PlanView.{PlanView}
 use Rattle.gcd_event.specs.declared.event.Event.{Event}
@@ -12,60 +12,64 @@ use Rattle.gcd_row.specs.Passes.{IsPassOf, terms_of, view}
 use Rattle.gcd_row.specs.declared.board.RowBoard.{RowBoard}
 use Rattle.gcd_row.specs.Shapes.{gives_of}
 use Rattle.gcd_row.specs.declared.view.View.{View}
-use Rattle.gcd_steal.specs.Racks.{IsBenchOf}
 use Rattle.gcd_steal.specs.declared.bench.Rack.{Rack}
 use Rattle.gcd_pool.specs.Leads.{Follows}
 use Rattle.gcd_pool.specs.declared.hand.Pool.{Pool}
 use Rattle.gcd_turn.specs.Outsides.{faced}
 use Rattle.gcd_workers.specs.JobsRuns.{tally_shape}
 use Rattle.gcd_workers.specs.Opened.{file_gives}
-use Rattle.gcd_workers.specs.Teams.{HasLed, bounds_on}
+use Rattle.gcd_workers.specs.Teams.{HasLed, IsRoom, bounds_on}
 use Rattle.gcd_workers.proofs.GoingOn.{went_by_more, went_by_team}
 use Rattle.gcd_workers.proofs.Nobody.{nobody_admitted}
 use Rattle.gcd_workers.proofs.Pools.{limits_along, pool_of}
 use Rattle.gcd_workers.proofs.Senders.{calls_none}
 use Rattle.gcd_workers.proofs.go_on.go_on.Goals as goal
 
-pub new-requires-2-clause-pool : goal.new-requires-2-clause-pool
-new-requires-2-clause-pool g c =
+pub new-team-requires-clause-pool : goal.new-team-requires-clause-pool
+new-team-requires-clause-pool g c =
     let made = c.new-pool in
     let count = c.in-Ok-open_after.ensures.cells.count in
     let blocks = ap (λ (p : PlanView). length p.blocks) c.in-Ok-open_after.ensures.plan in
     pool_of made.result c.in-Ok-open_after.opened.0 c.in-Ok.rack c.args.run.over.plan.now made.ensures.board made.ensures.rack made.ensures.plan
     c.in-Ok-open_after.ensures.plan c.in-Ok.ensures.plan (omega (arith, count, blocks))
 
-pub new-requires-2-clause-benches : goal.new-requires-2-clause-benches
-new-requires-2-clause-benches g c =
-    subst (λ (r : Rack). All (IsBenchOf r) c.in-Ok.benches.items) (sym c.new-pool.ensures.rack) c.in-Ok.ensures.benches
-
-pub new-requires-2-clause-workers : goal.new-requires-2-clause-workers
-new-requires-2-clause-workers g c =
-    let limits = limits_along c.new-pool.ensures.board ∙ c.in-Ok-open_after.ensures.limits in
-    let workers = ap (λ l. l.workers) limits in
-    let count = c.in-Ok.ensures.count.1 in
-    omega (arith, workers, count)
+pub new-team-requires-clause-room : goal.new-team-requires-clause-room
+new-team-requires-clause-room g c =
+    let over = c.args.run.over in let h = c.args.run.kept.journal.items in
+    let opened = c.in-Ok-open_after.ensures in
+    let v = view c.in-Ok-open_after.opened.1 in
+    let limits = limits_along c.new-pool.ensures.board ∙ opened.limits in
+    let count : length c.in-Ok.benches.items ≡ (terms_of c.new-pool.result.board.now).limits.workers = c.in-Ok.ensures.count.1 ∙ sym (ap (λ l. l.workers) limits) in
+    let plan : v.terms.plan ≡ over.plan.now = ap (λ t. t.plan) opened.pass.terms ∙ opened.plan in
+    let room = c.in-Ok-new.room in
+    subst (λ (r : Rack). IsRoom r v.terms.plan v.seen (terms_of c.new-pool.result.board.now).limits.workers room) (sym c.new-pool.ensures.rack)
+    (subst (λ (p : PlanView). IsRoom c.in-Ok.rack p v.seen (terms_of c.new-pool.result.board.now).limits.workers room) (sym plan)
+    (subst (λ (k : List Event). IsRoom c.in-Ok.rack over.plan.now k (terms_of c.new-pool.result.board.now).limits.workers room) (sym opened.begun)
+    (subst (λ (n : ℕ). IsRoom c.in-Ok.rack over.plan.now h n room) count
+    (c.in-Ok-new.ensures c.in-Ok.rack over.plan.now h c.in-Ok.ensures.benches c.requires.run.stands))))
 
 pub go_on-requires-clause-admitted : goal.go_on-requires-clause-admitted
 go_on-requires-clause-admitted g c = λ lifetimes outlive d.
-    nobody_admitted _ _ _ (view (slice_index_or c.in_ok-team.team.hands.items 0 d).pass) _ c.in-Ok-nobodys_front.ensures.senders
-    (subst AcceptsNone (sym (ap (λ (v : View _). v.seen) (c.in_ok-team.ensures.begun d) ∙ c.in-Ok-open_after.ensures.begun)) c.requires.run.uncalled)
+    nobody_admitted _ _ _ (view (slice_index_or c.new-team.result.hands.items 0 d).pass) _ c.in-Ok-nobodys_front.ensures.senders
+    (subst AcceptsNone (sym (ap (λ (v : View _). v.seen) (c.new-team.ensures.begun d) ∙ c.in-Ok-open_after.ensures.begun)) c.requires.run.uncalled)
     c.in-Ok-nobodys_front.ensures.untaken.0 c.in-Ok-nobodys_front.ensures.untaken.1
 
 pub returns-clause-went : goal.returns-clause-went
 returns-clause-went g c =
     let kept = c.args.run.kept in let h = kept.journal.items in
-    let team = c.in_ok-team.team in
+    let team = c.new-team.result in
     let board = c.in-Ok-open_after.opened.0 in let theirs = team.pool.now.board.now in
     let last = c.in_ok-last.ensures in
     let v = view c.in_ok-last.last in let k = v.seen in
     let ran = c.in_ok-ran.ran in
     let o = c.in_ok-outcome.outcome in
     let f = faced g.P.Poller.tells g.C.Clock.tells g.P.Poller.state g.C.Clock.state c.args.outside.now c.go_on.new.outside in
-    let same : theirs ≡ board = ap (λ (p : Pool _). p.board.now) c.in_ok-team.ensures.pool ∙ c.new-pool.ensures.board in
-    let count : length team.hands.items ≡ c.hands-hands.result = c.in_ok-team.ensures.count ∙ c.in-Ok.ensures.count.1 in
+    let same : theirs ≡ board = ap (λ (p : Pool _). p.board.now) c.new-team.ensures.pool ∙ c.new-pool.ensures.board in
+    let count : length team.hands.items ≡ c.hands-hands.result =
+    c.new-team.ensures.count ∙ ap (λ l. l.workers) (limits_along c.new-pool.ensures.board ∙ c.in-Ok-open_after.ensures.limits) in
     let some = c.hands-hands.ensures.some in
     let d = one_of team.hands.items (omega (arith, count, some)) in
-    let begun : (view (slice_index_or team.hands.items 0 d).pass).seen ≡ h = ap (λ (w : View _). w.seen) (c.in_ok-team.ensures.begun d) ∙ c.in-Ok-open_after.ensures.begun in
+    let begun : (view (slice_index_or team.hands.items 0 d).pass).seen ≡ h = ap (λ (w : View _). w.seen) (c.new-team.ensures.begun d) ∙ c.in-Ok-open_after.ensures.begun in
     went_by_more c.args.run.over c.hands-hands.result c.args.workers h f o c.hands-hands.ensures.some c.hands-hands.ensures.few
     (went_by_team c.args.run.over kept board c.in_ok-last.last c.hands-hands.result f o ran.values.items c.requires.run c.in-Ok-open_after.ensures.plan
     (ap (λ l. l.most) c.in-Ok-open_after.ensures.limits) c.in-Ok-open_after.ensures.cells
