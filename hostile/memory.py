@@ -7,7 +7,7 @@ import tempfile
 from pathlib import Path
 
 from common import TOP, Part, call, words_of
-from refused import FOLDER, call_refusing, each_refused, is_same
+from refused import FOLDER, each_refused, going_on, is_same
 
 CASES = TOP / "examples"
 
@@ -36,6 +36,7 @@ CALLS = [
     ("a large script", ["big", "300"], False),
     ("a large script by four workers", ["big", "300", "--workers", "4"], False),
     ("a team", ["run", "stealing/script", "--workers", "4"], False),
+    ("a team that goes on from worker 0's list", ["run", going_on(), "--workers", "4"], False),
     ("senders from outside", ["front", "front/plan", "2"], False),
     ("senders and no intake", ["front", "first/script", "2"], False),
     ("a feed", ["run", "feed/script", "--journal"], True),

@@ -21,6 +21,18 @@ def built_shim():
     return shim
 
 
+def going_on():
+    """A script by which worker 0 begins alone, and a team goes on before the first long block. It writes the script and its file."""
+    script, words = f"{FOLDER.name}/going_on", f"{FOLDER.name}/words"
+    if not os.path.exists(script):
+        Path(words).write_bytes(b"ab " * (1 << 21))
+        lines = ["file f words", "queue q serial", "queue wide concurrent", "block short bytes f 0 64", "block last"]
+        lines += [f"block long{n} words f" for n in range(4)]
+        lines += ["main", "async q short", "sync q last", *(f"async wide long{n}" for n in range(4))]
+        Path(script).write_text("\n".join(lines) + "\n", encoding="ascii")
+    return script
+
+
 def call_refusing(program, words, name, number, later=False, error=5, **how):
     """The answer of a run to which the call of this number is refused, with all later ones or not; and whether it came to that."""
     told, tell = os.pipe()
@@ -50,4 +62,4 @@ def is_same(answer, other):
     return (answer.status, answer.text, answer.errors) == (other.status, other.text, other.errors)
 
 
-__all__ = ["Answer", "call_refusing", "each_refused", "is_same", "FOLDER"]
+__all__ = ["Answer", "call_refusing", "each_refused", "going_on", "is_same", "FOLDER"]

@@ -12,7 +12,7 @@ import threading
 import time
 
 from common import TOP, USAGE, Answer, Part, call, why_not, words_of
-from refused import FOLDER, each_refused, is_same
+from refused import FOLDER, each_refused, going_on, is_same
 
 HERE = f"{TOP}/examples"
 READ_FAULT = b"read fault\n"
@@ -136,16 +136,16 @@ def threads_fail(program):
     team = f"{FOLDER.name}/team"
     with open(team, "w", encoding="ascii") as it:
         it.write("source r read team on root\nqueue q serial\nblock a\nblock b\nblock c\nmain\nasync q a\nasync root b\nasync root c\n")
-    teams = (["run", team, "--workers", "2"], ["run", team, "--workers", "64"], ["run", "stealing/script", "--workers", "4"])
+    teams = [["run", team, "--workers", "2"], ["run", team, "--workers", "64"], ["run", going_on(), "--workers", "4"]]
     for words in (*teams, ["front", beside, "8"]):
-        ample = call(program, words, HERE)
+        ample, before = call(program, words, HERE), count
         for later in (False, True):
             for number, answer in each_refused(program, words, "pthread_create", later=later, error=errno.EAGAIN, folder=HERE):
                 if why_not(words[0], answer) or not is_same(answer, ample):
                     part.refuse(f"{' '.join(words)}: thread {number}{' and all later' if later else ''}", "not allowed", answer)
                 count += number is not None
-    if not count:
-        part.refuse("no call", "asks for a thread", ample)
+        if count == before:
+            part.refuse(" ".join(words), "it asks for no thread", ample)
     part.tell(f"{count} refusals get the answer of all threads")
 
 
