@@ -1,6 +1,6 @@
 // Why a text is no journal.
 
-use crate::shown::{write_byte, write_misplaced, write_quoted};
+use crate::shown::{Word, write_bad_byte, write_expected, write_quoted};
 use gcd_plan::{Blk, MAX_ACTS, MAX_SENDERS, MAX_TIME, MAX_VALUE, MAX_WORKERS, Obj, Plan, Run};
 use gcd_text::{cut_at, number, printable};
 use std::alloc::{AllocError, Global};
@@ -41,16 +41,16 @@ impl Field {
     // In words.
     fn words(self) -> &'static str {
         match self {
-            Field::Worker => "a worker, 0 to 63,",
+            Field::Worker => "a worker, 0 to 63",
             Field::Block => "a block of the plan",
             Field::OtherBlock => "a block of the plan other than main",
             Field::Source => "a source of the plan",
             Field::Run => "a block or source of the plan",
-            Field::Index => "an index, 0 to 65534,",
-            Field::Sender => "a sender, 0 to 63,",
-            Field::Time => "a time, 1 to 86400000,",
-            Field::Bytes => "a number of bytes, 1 to 2147483647,",
-            Field::Code => "a code, M1 to M8,",
+            Field::Index => "an index, 0 to 65534",
+            Field::Sender => "a sender, 0 to 63",
+            Field::Time => "a time, 1 to 86400000",
+            Field::Bytes => "a number of bytes, 1 to 2147483647",
+            Field::Code => "a code, M1 to M8",
             Field::Count => "the number of events",
             Field::Nothing => "nothing",
         }
@@ -82,10 +82,9 @@ pub enum JournalCause<'a> {
     },
     /// The line lacks its end.
     NoEnd,
-    /// The line holds another byte than a journal's, in this column, from 1.
+    /// The line holds another byte than 32 to 126.
     BadByte {
-        column: usize,
-        byte: u8,
+        line: &'a [u8],
     },
     /// The line is empty.
     Empty,
@@ -100,7 +99,7 @@ pub enum JournalCause<'a> {
     },
     /// The field is not what is asked there.
     Misfit {
-        place: usize,
+        place: u8,
         word: &'a str,
         asked: Field,
     },
@@ -126,7 +125,7 @@ impl<'a> fmt::Display for JournalCause<'a> {
                 "the journal ends, and no line 'events {events}' stands after its events"
             ),
             JournalCause::NoEnd => f.write_str("the line lacks its end, the byte 10"),
-            JournalCause::BadByte { column, byte } => write_byte(f, column, byte, ""),
+            JournalCause::BadByte { line } => write_bad_byte(f, line, ""),
             JournalCause::Empty => f.write_str("the line is empty"),
             JournalCause::UnknownFirst { word } => {
                 write_quoted(f, "no line of a journal begins with ", word, "")
@@ -136,13 +135,16 @@ impl<'a> fmt::Display for JournalCause<'a> {
                 "the line is not '{first}{shape}', with one space between its words and none at its ends"
             ),
             JournalCause::Misfit { place, word, asked } => {
-                write_misplaced(f, word, asked.words(), place)
+                write_expected(f, asked.words(), word, place)
             }
-            JournalCause::OtherCount { told, events } => write!(
-                f,
-                "'events {told}' stands where 'events {events}' is asked"
-            ),
-            JournalCause::TooMany { most } => { write!(f, "a journal has at most {most} events") }
+            JournalCause::OtherCount { told, events } => {
+                let told = Word(told);
+                write!(f, "expected 'events {events}', found 'events {told}'")
+            }
+            JournalCause::TooMany { most } => {
+                let plural = if most == 1 { "" } else { "s" };
+                write!(f, "a journal has at most {most} event{plural}")
+            }
             JournalCause::Unclear => f.write_str("the line is no event's"),
         }
     }
@@ -303,24 +305,9 @@ fn fits(plan: &Plan, field: Field, word: &str) -> bool {
     }
 }
 
-// The first byte of the line that a journal does not hold, with its column.
-fn bad_byte<'a>(line: &[u8]) -> JournalCause<'a> {
-    let mut column = 0usize;
-    for byte in line {
-        column = column.saturating_add(1);
-        if *byte < b' ' || b'~' < *byte {
-            return JournalCause::BadByte {
-                column,
-                byte: *byte,
-            };
-        }
-    }
-    JournalCause::Unclear
-}
-
 // The first field that is not what is asked there.
 fn misfit<'a>(plan: &Plan, shape: &Shape, words: &[&'a str]) -> Option<JournalCause<'a>> {
-    let mut place = 1usize;
+    let mut place = 1u8;
     for (field, word) in shape.asked.iter().zip(words) {
         place = place.saturating_add(1);
         if !fits(plan, *field, word) {
@@ -416,6 +403,6 @@ pub fn cause_of_journal<'a>(
     match printable(bytes) {
         Some("") => Ok(JournalCause::Empty),
         Some(line) => cause_at(alloc, plan, line, events, most),
-        None => Ok(bad_byte(bytes)),
+        None => Ok(JournalCause::BadByte { line: bytes }),
     }
 }

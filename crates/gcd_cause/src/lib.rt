@@ -17,22 +17,20 @@
 //! Where an item names no manual page, what it says is this project's own rule.
 #![tactic(auto)]
 
+mod another;
 mod barred;
 mod blame;
 mod command;
-mod form;
 mod journal;
-mod known;
 mod lines;
 mod misuses;
 mod naming;
 mod pick;
 mod places;
 mod reasons;
-mod role;
 mod scene;
 mod script;
-mod script_cause;
+mod shapes;
 mod shown;
 mod sight;
 
@@ -45,7 +43,6 @@ pub use naming::{ActWords, EventWords, act_at, kind_of, why_name};
 pub use places::Places;
 pub use reasons::in_the_way;
 pub use scene::{BlockNow, Place, Scene};
-pub use script::cause_of_script;
-pub use script_cause::ScriptCause;
+pub use script::{ScriptCause, cause_of_script};
 pub use shown::Shown;
 pub use sight::Sight;

@@ -60,7 +60,7 @@ fn load_plan<S: Shelf>(alloc: Global, shelf: &mut S, name: &str) -> Result<(Vec<
     let script = load_whole(alloc, shelf, name, MAX_SCRIPT_BYTES, too_long)?;
     match parse(alloc, &script) {
         Ok(plan) => Ok((script, plan)),
-        Err(ParseFault::Refused { line, code }) => Err(Stop::Script { line, code }),
+        Err(ParseFault::Refused { line, code, .. }) => Err(Stop::Script { line, code }),
         Err(ParseFault::Memory) => Err(Stop::Memory),
     }
 }
