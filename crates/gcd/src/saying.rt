@@ -7,7 +7,8 @@ use gcd_plan::{MAX_EVENTS, MAX_SCRIPT_BYTES, Plan};
 use gcd_run::{Ended, Status};
 use gcd_script::parse;
 use gcd_why::{
-    CUT_OFF, NO_MEMORY, cause_at, why_event, why_journal, why_run, why_script, why_words,
+    CUT_OFF, NO_MEMORY, cause_at, journal_cause, why_event, why_journal, why_run, why_script,
+    why_words,
 };
 use gcd_words::{CheckRequest, Request, read_words};
 use std::alloc::Global;
@@ -87,7 +88,10 @@ fn say_journal<R: Eprint>(
     events: &[Entry],
 ) {
     if at.1 == 1 {
-        if let Ok(sentence) = why_journal(alloc, plan, MAX_EVENTS, name, text, at.0) {
+        let Ok(cause) = journal_cause(alloc, plan, MAX_EVENTS, text) else {
+            return;
+        };
+        if let Ok(sentence) = why_journal(alloc, MAX_EVENTS, name, text, at.0, cause) {
             say(rt, &sentence);
         }
         return;

@@ -37,7 +37,7 @@ mod sight;
 pub use barred::Barred;
 pub use blame::{chain, hold_words};
 pub use command::{WordsCause, why_words};
-pub use journal::{JournalCause, cause_of_journal};
+pub use journal::{JournalWords, cause_of_journal};
 pub use misuses::{code_name, misuse_words};
 pub use naming::{ActWords, EventWords, act_at, kind_of, why_name};
 pub use places::Places;

@@ -6,7 +6,6 @@ use crate::shapes::{is_first, write_fitting, write_forms};
 use crate::shown::{Shown, Word, write_at_place, write_bad_byte, write_expected, write_quoted};
 use gcd_plan::{MAX_ACTS, MAX_BLOCKS, MAX_FILES, MAX_OBJECTS, MAX_STRIPS};
 use gcd_script::{Amount, Asked, Cause, Choice, Limit};
-use gcd_text::number;
 use std::fmt;
 
 /// Why a script is refused at a line: the cause that the parser told, the line, and another line that the cause is about.
@@ -69,6 +68,12 @@ fn object_words(asked: Asked) -> &'static str {
         Asked::MergeSource => "a source of merged values",
         Asked::Any => "an object other than root",
     }
+}
+
+// Whether a word that is not empty writes a number of any size.
+fn is_decimal(word: &str) -> bool {
+    let has_zero = word.len() > 1 && word.starts_with('0');
+    !has_zero && word.as_bytes().iter().all(|c| c.is_ascii_digit())
 }
 
 // One more than a script may have.
@@ -215,7 +220,7 @@ impl<'a> ScriptCause<'a> {
         amount: Amount,
     ) -> fmt::Result {
         let word = self.words.at(place);
-        if number(word.as_bytes()).is_none() {
+        if !is_decimal(word) {
             return write_at_place(f, word, BAD_NUMBER, place);
         }
         let (least, most, word) = (amount.least(), amount.most(), Word(word));

@@ -79,7 +79,7 @@ fn load_journal<S: Shelf>(
     let text = load_whole(alloc, shelf, name, MAX_FILE_BYTES, too_long)?;
     match read_journal(alloc, plan, MAX_EVENTS, &text) {
         Ok(events) => Ok(events),
-        Err(JournalFault::Refused { line }) => Err(Stop::Journal { line: line as u32 }),
+        Err(JournalFault::Refused { line, .. }) => Err(Stop::Journal { line: line as u32 }),
         Err(JournalFault::Memory) => Err(Stop::Memory),
     }
 }
