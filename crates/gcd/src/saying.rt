@@ -6,7 +6,10 @@ use gcd_event::Entry;
 use gcd_plan::{MAX_EVENTS, MAX_SCRIPT_BYTES, Plan};
 use gcd_run::{Ended, Status};
 use gcd_script::parse;
-use gcd_why::{CUT_OFF, NO_MEMORY, why_event, why_journal, why_run, why_script, why_words};
+use gcd_why::{
+    CUT_OFF, NO_MEMORY, cause_at, journal_cause, why_event, why_journal, why_run, why_script,
+    why_words,
+};
 use gcd_words::{CheckRequest, Request, read_words};
 use std::alloc::Global;
 use std::fmt::Display;
@@ -42,6 +45,16 @@ fn plan_of(alloc: Global, script: &[u8]) -> Option<Plan> {
     parse(alloc, script).ok()
 }
 
+// Says why the script is refused at that line.
+fn say_script<R: Eprint>(rt: &R, alloc: Global, name: &str, script: &[u8], line: u32) {
+    let Ok(cause) = cause_at(alloc, script, line) else {
+        return;
+    };
+    if let Ok(sentence) = why_script(alloc, name, script, line, cause) {
+        say(rt, &sentence);
+    }
+}
+
 // Why a run of the script, of at most so many events, ended as it did.
 fn say_run<R: Eprint>(
     rt: &R,
@@ -75,7 +88,10 @@ fn say_journal<R: Eprint>(
     events: &[Entry],
 ) {
     if at.1 == 1 {
-        if let Ok(sentence) = why_journal(alloc, plan, MAX_EVENTS, name, text, at.0) {
+        let Ok(cause) = journal_cause(alloc, plan, MAX_EVENTS, text) else {
+            return;
+        };
+        if let Ok(sentence) = why_journal(alloc, MAX_EVENTS, name, text, at.0, cause) {
             say(rt, &sentence);
         }
         return;
@@ -107,11 +123,7 @@ fn say_refused<R: Eprint + Files>(
     };
     let text = shelf.kept(0).unwrap_or(b"".as_slice());
     if ended.status == Status::ScriptRefused.code() {
-        let code = u8::try_from(at.1).unwrap_or(0);
-        if let Ok(sentence) = why_script(alloc, script, text, at.0, code) {
-            say(rt, &sentence);
-        }
-        return;
+        return say_script(rt, alloc, script, text, at.0);
     }
     if let Some(plan) = plan_of(alloc, text) {
         let read = shelf.kept(1).unwrap_or(b"".as_slice());

@@ -17,35 +17,32 @@
 //! Where an item names no manual page, what it says is this project's own rule.
 #![tactic(auto)]
 
+mod another;
 mod barred;
 mod blame;
 mod command;
-mod form;
 mod journal;
-mod known;
 mod lines;
 mod misuses;
 mod naming;
 mod pick;
 mod places;
 mod reasons;
-mod role;
 mod scene;
 mod script;
-mod script_cause;
+mod shapes;
 mod shown;
 mod sight;
 
 pub use barred::Barred;
 pub use blame::{chain, hold_words};
 pub use command::{WordsCause, why_words};
-pub use journal::{JournalCause, cause_of_journal};
+pub use journal::{JournalWords, cause_of_journal};
 pub use misuses::{code_name, misuse_words};
 pub use naming::{ActWords, EventWords, act_at, kind_of, why_name};
 pub use places::Places;
 pub use reasons::in_the_way;
 pub use scene::{BlockNow, Place, Scene};
-pub use script::cause_of_script;
-pub use script_cause::ScriptCause;
+pub use script::{ScriptCause, cause_of_script};
 pub use shown::Shown;
 pub use sight::Sight;

@@ -50,22 +50,40 @@ pub struct Words<'a> {
 }
 
 impl<'a> Words<'a> {
+    // No words after the first.
+    fn none(first: &'a str) -> Words<'a> {
+        Words {
+            first,
+            after: [""; MAX_WORDS],
+            count: 0,
+            more: false,
+        }
+    }
+
+    /// The words of a line; all of them are empty where it has a byte other than 32 to 126, or is skipped.
+    pub fn of_any(line: &'a [u8]) -> Words<'a> {
+        match Words::of(line) {
+            Some(words) => words,
+            None => Words::none(""),
+        }
+    }
+
     /// The words of a line; None where it has a byte other than 32 to 126, or is skipped.
     pub fn of(line: &'a [u8]) -> Option<Words<'a>> {
         let (first, rest) = first_word(printable(line)?)?;
         if first.starts_with('#') {
             return None;
         }
-        let mut made = Words {
-            first,
-            after: [""; MAX_WORDS],
-            count: 0,
-            more: true,
-        };
-        if let Some(found) = words(rest) {
-            made.more = false;
-            for word in found.as_slice() {
-                made.push(*word);
+        let mut made = Words::none(first);
+        match words(rest) {
+            Some(found) => {
+                for word in found.as_slice() {
+                    made.push(*word);
+                }
+            }
+            None => {
+                made.count = MAX_WORDS;
+                made.more = true;
             }
         }
         Some(made)
@@ -76,6 +94,14 @@ impl<'a> Words<'a> {
         if let Some(place) = self.after.get_mut(count) {
             *place = word;
             self.count = count.saturating_add(1);
+        }
+    }
+
+    /// The word at this place, from 1, the first word; empty where there is none.
+    pub fn at(self, place: u8) -> &'a str {
+        match place.checked_sub(2) {
+            Some(after) => self.get(after as usize),
+            None => self.first,
         }
     }
 

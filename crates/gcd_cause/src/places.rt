@@ -1,11 +1,10 @@
 // On which line of a script an act stands.
 
-use crate::form::{Opening, opening_of};
-use crate::known::blocks_made;
 use crate::lines::{Lines, Words};
-use crate::pick::is_among;
+use crate::pick::{is_among, pick};
 use crate::scene::Place;
 use gcd_plan::{Blk, Obj, Plan, Run};
+use gcd_text::number;
 use std::alloc::{AllocError, Global};
 
 /// The lines of a script's acts.
@@ -14,6 +13,47 @@ pub struct Places {
     acts: Vec<(Place, u32)>,
     objects: Vec<u32>,
     intake: u32,
+}
+
+// The body that a line opens which declares something. An act stays in the open body.
+#[derive(Clone, Copy)]
+enum Opening {
+    Nothing,
+    Block,
+    Main,
+    Handler,
+}
+
+static DECLARATIONS: [(&str, Opening); 12] = [
+    ("file", Opening::Nothing),
+    ("queue", Opening::Nothing),
+    ("group", Opening::Nothing),
+    ("semaphore", Opening::Nothing),
+    ("source", Opening::Nothing),
+    ("cancelled", Opening::Nothing),
+    ("until", Opening::Nothing),
+    ("block", Opening::Block),
+    ("handler", Opening::Handler),
+    ("main", Opening::Main),
+    ("intake", Opening::Nothing),
+    ("strip", Opening::Nothing),
+];
+
+// The words after the first, from 0, that tell how many blocks an intake or a strip makes.
+static COUNTED: [(&str, usize); 2] = [("intake", 1), ("strip", 4)];
+
+// How many blocks a line of these words makes.
+fn blocks_made(words: Words) -> u32 {
+    if words.first == "block" {
+        return 1;
+    }
+    let Some(place) = pick(&COUNTED, words.first) else {
+        return 0;
+    };
+    match number(words.get(place).as_bytes()) {
+        Some(made) => u32::try_from(made).unwrap_or(0),
+        None => 0,
+    }
 }
 
 // The source of that name.
@@ -80,7 +120,7 @@ impl Places {
             if words.first == "intake" {
                 intake = at;
             }
-            if let Some(opening) = opening_of(words.first) {
+            if let Some(opening) = pick(&DECLARATIONS, words.first) {
                 reading = declared(plan, words, opening, reading);
             } else if let Some(run) = reading.body {
                 let index = reading.acts;

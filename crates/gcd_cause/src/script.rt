@@ -1,322 +1,298 @@
-// Why a script is refused.
+// Why a script is refused, in words.
 
-use crate::form::{Form, form_of, is_declaration, is_first};
-use crate::known::{Body, Known, Sought, line_of, submitted_by};
+use crate::another::{Found, declared_by, other_line, submitted_by};
 use crate::lines::{Words, line_at};
-use crate::pick::is_among;
-use crate::role::Role;
-use crate::script_cause::ScriptCause;
-use gcd_plan::{MAX_ACTS, MAX_BLOCKS, MAX_FILES, MAX_OBJECTS, is_name, is_path};
-use std::alloc::{AllocError, Global};
+use crate::shapes::{is_first, write_fitting, write_forms};
+use crate::shown::{Shown, Word, write_at_place, write_bad_byte, write_expected, write_quoted};
+use gcd_plan::{MAX_ACTS, MAX_BLOCKS, MAX_FILES, MAX_OBJECTS, MAX_STRIPS};
+use gcd_script::{Amount, Asked, Cause, Choice, Limit};
+use std::fmt;
 
-// The first byte of the line that a script may not hold, with its column.
-fn bad_byte<'a>(line: &[u8]) -> ScriptCause<'a> {
-    let mut column = 0usize;
-    for byte in line {
-        column = column.saturating_add(1);
-        if *byte < b' ' || b'~' < *byte {
-            return ScriptCause::BadByte {
-                column,
-                byte: *byte,
-            };
-        }
-    }
-    ScriptCause::Coded { code: 1 }
-}
-
-// What is at fault with one word, where it must be a keyword or a path.
-fn misplaced<'a>(role: Role, place: usize, word: &'a str) -> Option<ScriptCause<'a>> {
-    if role.is_path() {
-        if is_path(word.as_bytes()) {
-            return None;
-        }
-        return Some(ScriptCause::LongPath {
-            place,
-            bytes: word.len(),
-        });
-    }
-    let keywords = role.keywords()?;
-    if is_among(keywords, word) {
-        return None;
-    }
-    Some(ScriptCause::Misplaced {
-        place,
-        word,
-        asked: role,
-    })
-}
-
-// Code 1: the line has no form.
-fn no_form<'a>(words: Words<'a>, body: Body<'a>) -> ScriptCause<'a> {
-    let first = words.first;
-    if !is_first(first) {
-        return ScriptCause::UnknownFirst { word: first };
-    }
-    let count = words.count;
-    let Some(form) = form_of(first, if words.more { 7 } else { count }) else {
-        return ScriptCause::WordCount {
-            first,
-            count: if words.more { 6 } else { count },
-            more: words.more,
-        };
-    };
-    let mut place = 1usize;
-    for role in form.roles.as_slice() {
-        let word = words.get(place.saturating_sub(1));
-        place = place.saturating_add(1);
-        if let Some(cause) = misplaced(*role, place, word) {
-            return cause;
-        }
-    }
-    if form.is_act() && body.is_closed() {
-        return ScriptCause::OutsideBody { act: first };
-    }
-    ScriptCause::Coded { code: 1 }
-}
-
-// The first line above that one which is looked for; 0 if there is none.
-fn earlier_line(text: &[u8], line: u32, sought: Sought) -> u32 {
-    line_of(text, 1, line, sought).unwrap_or(0)
-}
-
-// Code 2: the declared name, or a second `until` or `intake`.
-fn bad_name<'a>(text: &[u8], line: u32, words: Words<'a>, known: &Known<'a>) -> ScriptCause<'a> {
-    if words.first == "until" {
-        let earlier = earlier_line(text, line, Sought::First("until"));
-        return ScriptCause::SecondUntil { earlier };
-    }
-    if words.first == "intake" {
-        let earlier = earlier_line(text, line, Sought::First("intake"));
-        return ScriptCause::SecondIntake { earlier };
-    }
-    let name = words.get(0);
-    if name == "root" || name == "main" {
-        return ScriptCause::ReservedName { name };
-    }
-    if !is_name(name.as_bytes()) {
-        return ScriptCause::IllFormedName { name };
-    }
-    match known.find(name) {
-        Some(declared) => ScriptCause::TakenName {
-            name,
-            what: declared.what,
-            earlier: declared.line,
-        },
-        None => ScriptCause::Coded { code: 2 },
-    }
-}
-
-// A used name that is not known.
-fn unknown<'a>(text: &[u8], line: u32, place: usize, name: &'a str) -> ScriptCause<'a> {
-    if name == "main" {
-        return ScriptCause::MainNamed { place };
-    }
-    match line_of(text, line, u32::MAX, Sought::Declaring(name)) {
-        Some(later) => ScriptCause::DeclaredBelow { place, name, later },
-        None => ScriptCause::Undeclared { place, name },
-    }
-}
-
-// Code 3: the first used name that is not known.
-fn unknown_name<'a>(
-    text: &[u8],
-    line: u32,
+/// Why a script is refused at a line: the cause that the parser told, the line, and another line that the cause is about.
+#[derive(Clone, Copy)]
+pub struct ScriptCause<'a> {
+    cause: Cause,
+    bytes: &'a [u8],
     words: Words<'a>,
-    form: &Form,
-    known: &Known<'a>,
-) -> ScriptCause<'a> {
-    let mut place = 1usize;
-    for role in form.roles.as_slice() {
-        let name = words.get(place.saturating_sub(1));
-        place = place.saturating_add(1);
-        if role.is_used_name() && known.find(name).is_none() {
-            return unknown(text, line, place, name);
-        }
-    }
-    ScriptCause::Coded { code: 3 }
+    other: Option<Found<'a>>,
 }
 
-// What is at fault with one used name, where it is known.
-fn misfit<'a>(
-    role: Role,
-    place: usize,
-    name: &'a str,
-    known: &Known<'a>,
-) -> Option<ScriptCause<'a>> {
-    if !role.is_used_name() {
-        return None;
-    }
-    let declared = known.find(name)?;
-    if name == "root" && !role.is_queue() {
-        return Some(ScriptCause::RootNamed { place, asked: role });
-    }
-    if declared.what.fits(role) {
-        return None;
-    }
-    Some(ScriptCause::OtherKind {
-        place,
-        name,
-        what: declared.what,
-        earlier: declared.line,
-        asked: role,
-    })
-}
-
-// Code 4: the first used name of another kind than is asked.
-fn other_kind<'a>(words: Words<'a>, form: &Form, known: &Known<'a>) -> ScriptCause<'a> {
-    let mut place = 1usize;
-    for role in form.roles.as_slice() {
-        let name = words.get(place.saturating_sub(1));
-        place = place.saturating_add(1);
-        if let Some(cause) = misfit(*role, place, name, known) {
-            return cause;
-        }
-    }
-    ScriptCause::Coded { code: 4 }
-}
-
-// What is at fault with one word, where it must be a number.
-fn no_number<'a>(role: Role, place: usize, word: &'a str) -> Option<ScriptCause<'a>> {
-    let (low, high) = role.range()?;
-    match gcd_text::number(word.as_bytes()) {
-        Some(number) if u64::from(low) <= number && number <= u64::from(high) => None,
-        Some(_) => Some(ScriptCause::OutOfRange {
-            place,
-            word,
-            low,
-            high,
-        }),
-        None => Some(ScriptCause::NoNumber { place, word }),
+/// Returns why the script is refused at that line, with the cause that the parser or the loading of its files told.
+pub fn cause_of_script<'a>(text: &'a [u8], line: u32, cause: Cause) -> ScriptCause<'a> {
+    let bytes = line_at(text, line).unwrap_or(&[]);
+    let words = Words::of_any(bytes);
+    ScriptCause {
+        cause,
+        bytes,
+        words,
+        other: other_line(text, line, cause, words),
     }
 }
 
-// Code 5: the first word that is no number, or out of its range.
-fn bad_number<'a>(words: Words<'a>, form: &Form) -> ScriptCause<'a> {
-    let mut place = 1usize;
-    for role in form.roles.as_slice() {
-        let word = words.get(place.saturating_sub(1));
-        place = place.saturating_add(1);
-        if let Some(cause) = no_number(*role, place, word) {
-            return cause;
-        }
-    }
-    ScriptCause::Coded { code: 5 }
-}
+const BYTES: &str = ": a line, a comment too, holds only bytes from 32 to 126";
 
-// Code 6: what an earlier line has taken.
-fn repeated<'a>(text: &[u8], line: u32, words: Words<'a>) -> ScriptCause<'a> {
-    let source = words.get(0);
-    if words.first == "handler" {
-        let earlier = earlier_line(text, line, Sought::Naming("handler", 0, source));
-        return ScriptCause::SecondHandler { source, earlier };
-    }
-    if words.first == "apply" {
-        let strip = words.get(1);
-        let earlier = earlier_line(text, line, Sought::Naming("apply", 1, strip));
-        return ScriptCause::AppliedTwice { strip, earlier };
-    }
-    if let Some(block) = submitted_by(words) {
-        if let Some(earlier) = line_of(text, 1, line, Sought::Submitting(block)) {
-            return ScriptCause::SubmittedTwice { block, earlier };
-        }
-    }
-    match line_of(text, 1, line, Sought::Naming("cancelled", 0, source)) {
-        Some(earlier) => ScriptCause::SecondCancel { source, earlier },
-        None => ScriptCause::Coded { code: 6 },
+const NO_BODY: &str =
+    " is outside every body: no line 'block', 'handler' or 'main' is open above it";
+
+const BAD_NAME: &str =
+    " is not a valid name: 1 to 32 lower-case letters, digits and _, the first a letter";
+
+const RESERVED: &str = " is predefined and cannot be declared";
+
+const UNDECLARED: &str = " is not declared on an earlier line";
+
+const BAD_NUMBER: &str = " is not a valid number: digits only, without a leading zero";
+
+// The words that a form spells out.
+fn choice_words(choice: Choice) -> &'static str {
+    match choice {
+        Choice::On => "'on'",
+        Choice::Inactive => "'inactive'",
+        Choice::Read => "'read'",
+        Choice::Timer => "'timer'",
+        Choice::Count => "'count'",
+        Choice::QueueKind => "'serial' or 'concurrent'",
+        Choice::MergeKind => "'add', 'or' or 'replace'",
+        Choice::Work => "'bytes', 'lines', 'words' or 'sum'",
     }
 }
 
-// Code 7: an act that is not for handlers.
-fn in_handler<'a>(words: Words<'a>, body: Body<'a>) -> ScriptCause<'a> {
-    match body {
-        Body::Handler(source) => ScriptCause::InHandler {
-            act: words.first,
-            source,
-        },
-        Body::Block | Body::Closed => ScriptCause::Coded { code: 7 },
+// Such an object.
+fn object_words(asked: Asked) -> &'static str {
+    match asked {
+        Asked::Queue => "a queue",
+        Asked::Node => "a queue other than root, or a source",
+        Asked::Group => "a group",
+        Asked::Semaphore => "a semaphore",
+        Asked::Source => "a source",
+        Asked::MergeSource => "a source of merged values",
+        Asked::Any => "an object other than root",
     }
+}
+
+// Whether a word that is not empty writes a number of any size.
+fn is_decimal(word: &str) -> bool {
+    let has_zero = word.len() > 1 && word.starts_with('0');
+    !has_zero && word.as_bytes().iter().all(|c| c.is_ascii_digit())
 }
 
 // One more than a script may have.
-fn limit<'a>(what: &'static str, most: u32) -> ScriptCause<'a> {
-    ScriptCause::PastLimit { what, most }
+fn write_limit<W: fmt::Write>(f: &mut fmt::Formatter<W>, what: &str, most: u32) -> fmt::Result {
+    write!(f, "one {what} too many: a script has at most {most}")
 }
 
-static BLOCK_MAKERS: [&str; 3] = ["block", "intake", "strip"];
-
-// Code 8: one more than the limit, or a file that is too long.
-fn past_limit<'a>(words: Words<'a>, known: &Known<'a>) -> ScriptCause<'a> {
-    if words.first == "file" {
-        let files = known.names.iter().filter(|d| d.what.is_file()).count();
-        if files < MAX_FILES as usize {
-            return ScriptCause::LongFile {
-                name: words.get(0),
-                path: words.get(1),
-            };
-        }
-        return limit("file", MAX_FILES);
-    }
-    if is_among(&BLOCK_MAKERS, words.first) {
-        return limit("block", MAX_BLOCKS - 1);
-    }
-    if is_declaration(words.first) {
-        return limit("object", MAX_OBJECTS - 1);
-    }
-    limit("act", MAX_ACTS)
-}
-
-// Code 9: a second `main`, or none.
-fn not_one_main<'a>(text: &[u8], line: u32) -> ScriptCause<'a> {
-    match line_of(text, 1, line, Sought::First("main")) {
-        Some(earlier) => ScriptCause::SecondMain { earlier },
-        None => ScriptCause::NoMain,
-    }
-}
-
-// Why the line of these words is refused with that code.
-fn cause_at<'a>(
-    text: &[u8],
+// That an earlier line does it to that name.
+fn write_done<W: fmt::Write>(
+    f: &mut fmt::Formatter<W>,
     line: u32,
-    code: u8,
-    words: Words<'a>,
-    known: &Known<'a>,
-) -> ScriptCause<'a> {
-    let Some(form) = form_of(words.first, words.count) else {
-        return no_form(words, known.body);
-    };
-    match code {
-        1 => no_form(words, known.body),
-        2 => bad_name(text, line, words, known),
-        3 => unknown_name(text, line, words, form, known),
-        4 => other_kind(words, form, known),
-        5 => bad_number(words, form),
-        6 => repeated(text, line, words),
-        7 => in_handler(words, known.body),
-        8 => past_limit(words, known),
-        9 => not_one_main(text, line),
-        _ => ScriptCause::Coded { code },
+    does: &str,
+    name: &str,
+) -> fmt::Result {
+    write!(f, "line {line} {does} '{name}' already")
+}
+
+impl<'a> ScriptCause<'a> {
+    // The number of the other line.
+    fn other_number(&self) -> u32 {
+        match self.other {
+            Some(found) => found.line,
+            None => 0,
+        }
+    }
+
+    // What the other line declares.
+    fn other_words(&self) -> &'static str {
+        match self.other {
+            Some(found) => declared_by(found.words).unwrap_or("a name"),
+            None => "a name",
+        }
+    }
+
+    // How many words the line has, where its first word has no form of so many.
+    fn write_count<W: fmt::Write>(&self, f: &mut fmt::Formatter<W>) -> fmt::Result {
+        let first = self.words.first;
+        if !is_first(first) {
+            return write_quoted(f, "no line begins with ", first, "");
+        }
+        let (count, more) = (self.words.count, self.words.more);
+        let about = if more { "more than " } else { "" };
+        let plural = if count == 1 { "" } else { "s" };
+        write!(
+            f,
+            "'{first}' has {about}{count} word{plural} after it here, and may be: "
+        )?;
+        write_forms(f, first)
+    }
+
+    // Why the line has no form.
+    fn write_form<W: fmt::Write>(&self, f: &mut fmt::Formatter<W>) -> fmt::Result {
+        match self.cause {
+            Cause::BadByte => write_bad_byte(f, self.bytes, BYTES),
+            Cause::Misplaced { place, expected } => {
+                write_expected(f, choice_words(expected), self.words.at(place), place)?;
+                write_fitting(f, "; the forms that fit are: ", &self.words, place)
+            }
+            Cause::LongPath { place } => {
+                let bytes = self.words.at(place).len();
+                write!(
+                    f,
+                    "the path has {bytes} bytes, and a path has at most 255 (word {place})"
+                )
+            }
+            Cause::OutsideBody => write_quoted(f, "", self.words.first, NO_BODY),
+            _ => self.write_count(f),
+        }
+    }
+
+    // Why the line may not declare its name, or not again.
+    fn write_name<W: fmt::Write>(&self, f: &mut fmt::Formatter<W>) -> fmt::Result {
+        let name = self.words.get(0);
+        match self.cause {
+            Cause::IllFormedName => write_quoted(f, "", name, BAD_NAME),
+            Cause::ReservedName => write_quoted(f, "", name, RESERVED),
+            Cause::TakenName => {
+                let (line, what) = (self.other_number(), self.other_words());
+                write!(f, "'{name}' is taken: line {line} declares it as {what}")
+            }
+            _ => self.write_second(f),
+        }
+    }
+
+    // That an earlier line begins with the word too, which only one line may.
+    fn write_second<W: fmt::Write>(&self, f: &mut fmt::Formatter<W>) -> fmt::Result {
+        let (first, line) = (self.words.first, self.other_number());
+        write!(f, "a second '{first}': line {line} has the first")
+    }
+
+    // Why the name at that place is unknown.
+    fn write_unknown<W: fmt::Write>(&self, f: &mut fmt::Formatter<W>, place: u8) -> fmt::Result {
+        let name = self.words.at(place);
+        if name == "main" {
+            return write_at_place(f, name, " cannot be used as a name", place);
+        }
+        match self.other {
+            Some(found) => {
+                let line = found.line;
+                write!(
+                    f,
+                    "'{name}' is not declared on an earlier line, but on line {line} (word {place})"
+                )
+            }
+            None => write_at_place(f, name, UNDECLARED, place),
+        }
+    }
+
+    // That the name at that place is of another kind.
+    fn write_kind<W: fmt::Write>(
+        &self,
+        f: &mut fmt::Formatter<W>,
+        place: u8,
+        expected: &str,
+    ) -> fmt::Result {
+        let name = self.words.at(place);
+        if name == "root" {
+            return write_expected(f, expected, name, place);
+        }
+        let (line, what) = (self.other_number(), self.other_words());
+        write!(
+            f,
+            "expected {expected}, found '{name}' (word {place}): line {line} declares it as {what}"
+        )
+    }
+
+    // Why a used name does not fit.
+    fn write_used<W: fmt::Write>(&self, f: &mut fmt::Formatter<W>) -> fmt::Result {
+        match self.cause {
+            Cause::UnknownName { place } => self.write_unknown(f, place),
+            Cause::NotFile { place } => self.write_kind(f, place, "a file"),
+            Cause::NotBlock { place } => self.write_kind(f, place, "a block"),
+            Cause::NotStrip { place } => self.write_kind(f, place, "a strip"),
+            Cause::NotObject { place, asked } => self.write_kind(f, place, object_words(asked)),
+            _ => Ok(()),
+        }
+    }
+
+    // Why the number at that place does not fit.
+    fn write_number<W: fmt::Write>(
+        &self,
+        f: &mut fmt::Formatter<W>,
+        place: u8,
+        amount: Amount,
+    ) -> fmt::Result {
+        let word = self.words.at(place);
+        if !is_decimal(word) {
+            return write_at_place(f, word, BAD_NUMBER, place);
+        }
+        let (least, most, word) = (amount.least(), amount.most(), Word(word));
+        write!(
+            f,
+            "{word} is out of its range, {least} to {most} (word {place})"
+        )
+    }
+
+    // What the line does a second time, or where it may not.
+    fn write_repeated<W: fmt::Write>(&self, f: &mut fmt::Formatter<W>) -> fmt::Result {
+        let (line, name) = (self.other_number(), self.words.get(0));
+        match self.cause {
+            Cause::SubmittedTwice => {
+                let block = submitted_by(self.words).unwrap_or("");
+                write_done(f, line, "submits", block)
+            }
+            Cause::AppliedTwice => write_done(f, line, "applies", self.words.get(1)),
+            Cause::SecondHandler => write!(f, "'{name}' has a handler already, on line {line}"),
+            Cause::SecondCancel => {
+                write!(
+                    f,
+                    "'{name}' has a cancellation block already, on line {line}"
+                )
+            }
+            _ => self.write_in_handler(f),
+        }
+    }
+
+    // That the act may not be in a handler.
+    fn write_in_handler<W: fmt::Write>(&self, f: &mut fmt::Formatter<W>) -> fmt::Result {
+        let act = self.words.first;
+        let source = match self.other {
+            Some(found) => found.words.get(0),
+            None => "",
+        };
+        write!(
+            f,
+            "'{act}' may not be in a handler, and that of '{source}' is open: a handler submits no block and waits for nothing"
+        )
+    }
+
+    // What there is no room for.
+    fn write_past<W: fmt::Write>(&self, f: &mut fmt::Formatter<W>, limit: Limit) -> fmt::Result {
+        match limit {
+            Limit::Files => write_limit(f, "file", MAX_FILES),
+            Limit::Objects => write_limit(f, "object", MAX_OBJECTS - 1),
+            Limit::Blocks => write_limit(f, "block", MAX_BLOCKS - 1),
+            Limit::Strips => write_limit(f, "strip", MAX_STRIPS),
+            Limit::Acts => write_limit(f, "act", MAX_ACTS),
+            Limit::Script => f.write_str("the script has more than 1048576 bytes"),
+            Limit::File => {
+                let (name, path) = (self.words.get(0), Shown(self.words.get(1)));
+                write!(f, "{path}, the file '{name}', has more than 16777216 bytes")
+            }
+        }
     }
 }
 
-/// Why the script is refused at that line with that code, as the parser or the loading of its files told them. An `Err` comes only
-/// where memory runs out.
-pub fn cause_of_script<'a>(
-    alloc: Global,
-    text: &'a [u8],
-    line: u32,
-    code: u8,
-) -> Result<ScriptCause<'a>, AllocError> {
-    if line == 0 {
-        return Ok(ScriptCause::LongScript);
-    }
-    let Some(bytes) = line_at(text, line) else {
-        return Ok(ScriptCause::NoMain);
-    };
-    match Words::of(bytes) {
-        Some(words) => {
-            let known = Known::above(alloc, text, line)?;
-            Ok(cause_at(text, line, code, words, &known))
+impl<'a> fmt::Display for ScriptCause<'a> {
+    fn fmt<W: fmt::Write>(&self, f: &mut fmt::Formatter<W>) -> fmt::Result {
+        match self.cause {
+            Cause::BadNumber { place, amount } => self.write_number(f, place, amount),
+            Cause::PastLimit(limit) => self.write_past(f, limit),
+            Cause::SecondMain => self.write_second(f),
+            Cause::NoMain => f.write_str("the script ends, and no line is 'main'"),
+            _ => match self.cause.code() {
+                1 => self.write_form(f),
+                2 => self.write_name(f),
+                3 | 4 => self.write_used(f),
+                _ => self.write_repeated(f),
+            },
         }
-        None => Ok(bad_byte(bytes)),
     }
 }

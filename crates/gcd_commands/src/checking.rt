@@ -35,7 +35,7 @@ fn load_journal<S: Shelf>(
     let text = load_whole(alloc, shelf, name, MAX_FILE_BYTES, too_long)?;
     match read_journal(alloc, plan, MAX_EVENTS, &text) {
         Ok(journal) => Ok(journal),
-        Err(JournalFault::Refused { line }) => Err(Stop::Journal { line: line as u32 }),
+        Err(JournalFault::Refused { line, .. }) => Err(Stop::Journal { line: line as u32 }),
         Err(JournalFault::Memory) => Err(Stop::Memory),
     }
 }

@@ -51,7 +51,7 @@ pub fn load_plan<S: Shelf>(alloc: Global, shelf: &mut S, name: &str) -> Result<P
     let script = load_whole(alloc, shelf, name, MAX_SCRIPT_BYTES, too_long)?;
     match parse(alloc, &script) {
         Ok(plan) => Ok(plan),
-        Err(ParseFault::Refused { line, code }) => Err(Stop::Script { line, code }),
+        Err(ParseFault::Refused { line, code, .. }) => Err(Stop::Script { line, code }),
         Err(ParseFault::Memory) => Err(Stop::Memory),
     }
 }

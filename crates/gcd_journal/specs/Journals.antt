@@ -33,10 +33,10 @@ pub record IsRefusedAt (most : ℕ) (plan : PlanView) (text : List ℕ) (line : 
 
 -- what the reader's fault says of the text
 abbrev pub IsRefusal : (most : ℕ) → PlanView → List ℕ → JournalFault → Type 0
-IsRefusal most plan text (Refused line) = IsRefusedAt most plan text line
+IsRefusal most plan text (Refused line cause) = IsRefusedAt most plan text line
 IsRefusal most plan text Memory = ⊤
 
 -- the fault's line is at most one past the text's bytes: each line before it has a byte of its own
 abbrev pub IsNear : List ℕ → JournalFault → Type 0
-IsNear text (Refused line) = line ≤ length text + 1
+IsNear text (Refused line cause) = line ≤ length text + 1
 IsNear text Memory = ⊤

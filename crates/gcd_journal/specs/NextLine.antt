@@ -24,4 +24,4 @@ pub record IsFault (most : ℕ) (look : Look) (text : List ℕ) (count : ℕ) : 
 abbrev pub IsNext : (most : ℕ) → Look → List ℕ → ℕ → Line → Type 0
 IsNext most look text count (Spoken e rest) = LineSpells look text rest.now e × (count < most)
 IsNext most look text count Count = BeginsWith text (count_line count)
-IsNext most look text count Fault = IsFault most look text count
+IsNext most look text count (Fault cause) = IsFault most look text count

@@ -7,7 +7,7 @@
 //! | call | answer |
 //! |---|---|
 //! | [`write_journal`] | adds the text (`journal_text`), or nothing where memory runs out |
-//! | [`read_journal`] | the events of the text's front up to its line `events N` (`IsJournal`); else `Refused` at exactly the first line at fault (`IsRefusedAt`), or `Memory` |
+//! | [`read_journal`] | the events of the text's front up to its line `events N` (`IsJournal`); else `Refused` at exactly the first line at fault (`IsRefusedAt`), with its cause, or `Memory` |
 //! | [`check`] | the state to which lawful events have come (`IsLawfulWith`); else `Unlawful` at exactly the first event that is not permitted (`IsFirstBarred`), or `Memory` |
 //! | [`write_report`] | adds the report of a run (`report_by`), or nothing where memory runs out; it takes the events by a machine of its own |
 //! | [`write_report_by`] | the same by a machine that stands for the events; it takes no step of a machine where no object of the plan is a source |
@@ -25,6 +25,7 @@
 //! Nothing here says that a run exists whose journal a text is, or that a lawful journal was recorded by anyone.
 #![tactic(auto)]
 
+mod cause;
 mod checker;
 pub mod laws;
 mod lines;
@@ -35,6 +36,7 @@ mod spelling;
 mod totals;
 mod write;
 
+pub use cause::{Field, JournalCause};
 pub use checker::{CheckFault, check};
 pub use reader::{JournalFault, read_journal};
 pub use report::{write_last_line, write_report, write_report_by};

@@ -7,6 +7,7 @@ ghost use Rattle.gcd_journal.specs.Journals.{IsJournal, IsNear, IsRefusal};
 ghost use Rattle.gcd_journal.specs.Named.{look_of};
 ghost use Rattle.gcd_journal.specs.NextLine.{IsNext};
 
+use crate::cause::JournalCause;
 use crate::names::Names;
 use crate::spelling::event_in;
 use gcd_event::{Entry, Event};
@@ -14,15 +15,26 @@ use gcd_plan::Plan;
 use gcd_text::cut_at;
 use itoa::Buffer;
 use std::alloc::{AllocError, Global};
+use std::fmt;
 
 /// Why a text is not read.
-#[derive(Clone, Copy, Debug)]
+#[derive(Clone, Copy)]
 pub enum JournalFault {
     /// The line, from 1, is the first at fault: it is neither one event's line more nor the line `events N` with the number
-    /// of events before it. It is one of 64 bits, since 2 ^ 32 - 1 events may stand before it.
-    Refused { line: u64 },
+    /// of events before it. It is one of 64 bits, since 2 ^ 32 - 1 events may stand before it. The cause says what is wrong with it.
+    Refused { line: u64, cause: JournalCause },
     /// Memory ran out.
     Memory,
+}
+
+// The cause is left out.
+impl fmt::Debug for JournalFault {
+    fn fmt<W: fmt::Write>(&self, f: &mut fmt::Formatter<W>) -> fmt::Result {
+        match *self {
+            JournalFault::Refused { line, .. } => write!(f, "line {line}"),
+            JournalFault::Memory => f.write_str("out of memory"),
+        }
+    }
 }
 
 impl From<AllocError> for JournalFault {
@@ -41,8 +53,8 @@ enum Line<'a> {
     Spoken(Event, &'a [u8]),
     // The line `events N`, with the number of events before it.
     Count,
-    // Neither.
-    Fault,
+    // Neither, for this cause.
+    Fault(JournalCause),
 }
 
 // Whether the line is `events N` with this number.
@@ -61,18 +73,18 @@ fn line_of<'a>(names: &Names, line: &[u8], rest: &'a [u8], count: usize, most: u
     ensures { IsNext most (look_of names.now.runs) (line.now ++ 10 ∷ rest.now) count result }
 {
     match event_in(names, line) {
-        Some(e) => {
+        Ok(e) => {
             if count < most as usize {
                 Line::Spoken(e, rest)
             } else {
-                Line::Fault
+                Line::Fault(JournalCause::TooMany)
             }
         }
-        None => {
+        Err(cause) => {
             if is_count(line, count) {
                 Line::Count
             } else {
-                Line::Fault
+                Line::Fault(cause)
             }
         }
     }
@@ -83,7 +95,7 @@ fn next_line<'a>(names: &Names, text: &'a [u8], count: usize, most: u32) -> Line
     ensures { IsNext most (look_of names.now.runs) text.now count result }
 {
     match cut_at(text, b'\n') {
-        None => Line::Fault,
+        None => Line::Fault(JournalCause::NoEnd),
         Some((line, rest)) => line_of(names, line, rest, count, most),
     }
 }
@@ -121,9 +133,9 @@ pub fn read_journal(
                 rest = more;
             }
             Line::Count => return Ok(events),
-            Line::Fault => {
+            Line::Fault(cause) => {
                 let line = events.len() as u64 + 1;
-                return Err(JournalFault::Refused { line });
+                return Err(JournalFault::Refused { line, cause });
             }
         }
     }

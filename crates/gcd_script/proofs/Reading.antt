@@ -93,7 +93,7 @@ module _ (bytes rest : List ℕ) (d : DraftView) (leads : Leads bytes d rest) wh
 
     -- a line at fault was met
     pub refusal : (fault : ParseFault) → IsLineRefusal d line fault → IsRefusal bytes fault
-    refusal (Refused at code) h = at_fault (after_line d line) code refl h.1 ∙ ap (λ n. Some (n, code)) (sym h.0)
+    refusal (Refused at code why) h = at_fault (after_line d line) code refl h.1 ∙ ap (λ n. Some (n, code)) (sym h.0)
     refusal Memory h = tt
 
   module _ (end : lines_of rest ≡ []) where

@@ -1,7 +1,9 @@
 pub use Rattle.gcd_plan.specs.PlanView
 pub use Rattle.gcd_text.specs.Lines
 pub mod Codes
+pub mod Amounts
 pub mod Meant
+pub mod Causes
 pub mod Names
 pub mod Drafts
 pub mod Changes

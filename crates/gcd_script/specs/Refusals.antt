@@ -9,11 +9,11 @@ use Rattle.gcd_script.specs.Faults.{after_line, fault_of}
 
 -- the line and the code are those of the text's first fault; out of memory says nothing of the text
 abbrev pub IsRefusal : List ℕ → ParseFault → Type 0
-IsRefusal bytes (Refused line code) = fault_of bytes ≡ Some (line, code)
+IsRefusal bytes (Refused line code why) = fault_of bytes ≡ Some (line, code)
 IsRefusal bytes Memory = Unit {0}
 
 -- the same of the line after those of a draft
 abbrev pub IsLineRefusal : DraftView → List ℕ → ParseFault → Type 0
-IsLineRefusal d line (Refused at code) =
+IsLineRefusal d line (Refused at code why) =
     (at ≡ d.lines + 1) × (option_map refusal_code (result_err (after_line d line)) ≡ Some code)
 IsLineRefusal d line Memory = Unit {0}

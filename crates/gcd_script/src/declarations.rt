@@ -4,20 +4,20 @@ ghost use Rattle.gcd_plan.specs.Limits.{max_blocks, max_file_bytes, max_time, ma
 ghost use Rattle.gcd_plan.specs.PlanView.{view_of};
 ghost use Rattle.gcd_plan.specs.declared.kind.Kind.TheVariants.{Semaphore, Timer, Read};
 ghost use Rattle.std.specs.Str.{bytes_eq};
+ghost use Rattle.gcd_script.specs.Causes.{coded};
 ghost use Rattle.gcd_script.specs.Declarations.{one_of, root, work, counting};
 ghost use Rattle.gcd_script.specs.Keywords.{counts};
 ghost use Rattle.gcd_script.specs.Meant.{meant, both, given};
 ghost use Rattle.gcd_script.specs.Words.{file, path, number, queue};
 
+use crate::amount::Amount;
+use crate::cause::{Cause, Choice};
 use crate::draft::Draft;
 use crate::line::Line;
 use crate::meant::{Meant, both, must};
 use crate::names::Asked;
-use crate::refusal::Refusal;
 use crate::words::{count, counting, merge_kind, number, path, queue_kind, range, work};
-use gcd_plan::{
-    How, Kind, MAX_BLOCKS, MAX_FILE_BYTES, MAX_INTAKE, MAX_TIME, MAX_VALUE, Obj, WHOLE_FILE,
-};
+use gcd_plan::{How, Kind, Obj, WHOLE_FILE};
 
 const ROOT: Obj = Obj(0);
 
@@ -29,19 +29,19 @@ impl<'a> Draft<'a> {
     /// `file F PATH`.
     pub fn file_line(&self, words: &[&'a str]) -> Meant<Line<&'a str>>
         requires { DraftAgrees self.now }
-        ensures { meant line_view result ≡ file_line (view_of self.now.parts) (map (λ w. w.now) words.now) }
+        ensures { meant line_view (coded result) ≡ file_line (view_of self.now.parts) (map (λ w. w.now) words.now) }
     {
         match *words {
             [name, feed] => self.named_file(name, feed),
-            _ => Err(Refusal::NoForm),
+            _ => Err(Cause::WordCount),
         }
     }
 
     fn named_file(&self, name: &'a str, place: &'a str) -> Meant<Line<&'a str>>
         requires { DraftAgrees self.now }
-        ensures { meant line_view result ≡ file_line (view_of self.now.parts) (name.now ∷ place.now ∷ []) }
+        ensures { meant line_view (coded result) ≡ file_line (view_of self.now.parts) (name.now ∷ place.now ∷ []) }
     {
-        both(self.new_name(name), path(place))?;
+        both(self.new_name(name), path(3, place))?;
         Ok(Line::DeclareFile { name, path: place })
     }
 
@@ -54,7 +54,7 @@ impl<'a> Draft<'a> {
         path: &'a str,
     ) -> Meant<Line<&'a str>>
         requires { DraftAgrees self.now }
-        ensures { meant line_view result ≡ object_line (view_of self.now.parts) name.now what active path.now }
+        ensures { meant line_view (coded result) ≡ object_line (view_of self.now.parts) name.now (coded what) active path.now }
     {
         let ((), (kind, target)) = both(self.new_name(name), what)?;
         Ok(Line::DeclareObject {
@@ -69,56 +69,68 @@ impl<'a> Draft<'a> {
     /// `queue Q K`, `queue Q K inactive`, `queue Q K on T`, `queue Q K on T inactive` (dispatch_queue_create(3)).
     pub fn queue_line(&self, words: &[&'a str]) -> Meant<Line<&'a str>>
         requires { DraftAgrees self.now }
-        ensures { meant line_view result ≡ queue_line (view_of self.now.parts) (map (λ w. w.now) words.now) }
+        ensures { meant line_view (coded result) ≡ queue_line (view_of self.now.parts) (map (λ w. w.now) words.now) }
     {
         match *words {
             [name, kind] => self.object_line(name, both(queue_kind(kind), Ok(ROOT)), true, ""),
             [name, kind, inactive] => {
                 if inactive != "inactive" {
-                    return Err(Refusal::NoForm);
+                    return Err(Cause::Misplaced {
+                        place: 4,
+                        expected: Choice::Inactive,
+                    });
                 }
                 self.object_line(name, both(queue_kind(kind), Ok(ROOT)), false, "")
             }
             [name, kind, on, target] => {
                 if on != "on" {
-                    return Err(Refusal::NoForm);
+                    return Err(Cause::Misplaced {
+                        place: 4,
+                        expected: Choice::On,
+                    });
                 }
-                let target = self.object(Asked::Queue, target);
+                let target = self.object(Asked::Queue, 5, target);
                 self.object_line(name, both(queue_kind(kind), target), true, "")
             }
             [name, kind, on, target, inactive] => {
                 if on != "on" {
-                    return Err(Refusal::NoForm);
+                    return Err(Cause::Misplaced {
+                        place: 4,
+                        expected: Choice::On,
+                    });
                 }
                 if inactive != "inactive" {
-                    return Err(Refusal::NoForm);
+                    return Err(Cause::Misplaced {
+                        place: 6,
+                        expected: Choice::Inactive,
+                    });
                 }
-                let target = self.object(Asked::Queue, target);
+                let target = self.object(Asked::Queue, 5, target);
                 self.object_line(name, both(queue_kind(kind), target), false, "")
             }
-            _ => Err(Refusal::NoForm),
+            _ => Err(Cause::WordCount),
         }
     }
 
     /// `group G` (dispatch_group_create(3)).
     pub fn group_line(&self, words: &[&'a str]) -> Meant<Line<&'a str>>
         requires { DraftAgrees self.now }
-        ensures { meant line_view result ≡ group_line (view_of self.now.parts) (map (λ w. w.now) words.now) }
+        ensures { meant line_view (coded result) ≡ group_line (view_of self.now.parts) (map (λ w. w.now) words.now) }
     {
         match *words {
             [name] => self.object_line(name, Ok((Kind::Group, ROOT)), true, ""),
-            _ => Err(Refusal::NoForm),
+            _ => Err(Cause::WordCount),
         }
     }
 
     /// `semaphore S N` (dispatch_semaphore_create(3)).
     pub fn semaphore_line(&self, words: &[&'a str]) -> Meant<Line<&'a str>>
         requires { DraftAgrees self.now }
-        ensures { meant line_view result ≡ semaphore_line (view_of self.now.parts) (map (λ w. w.now) words.now) }
+        ensures { meant line_view (coded result) ≡ semaphore_line (view_of self.now.parts) (map (λ w. w.now) words.now) }
     {
         match *words {
             [name, value] => self.object_line(name, semaphore_kind(value), true, ""),
-            _ => Err(Refusal::NoForm),
+            _ => Err(Cause::WordCount),
         }
     }
 
@@ -126,7 +138,7 @@ impl<'a> Draft<'a> {
     /// (dispatch_source_create(3)).
     pub fn source_line(&self, words: &[&'a str]) -> Meant<Line<&'a str>>
         requires { DraftAgrees self.now }
-        ensures { meant line_view result ≡ source_line (view_of self.now.parts) (map (λ w. w.now) words.now) }
+        ensures { meant line_view (coded result) ≡ source_line (view_of self.now.parts) (map (λ w. w.now) words.now) }
     {
         match *words {
             [name, kind, on, target] => self.merge_source(name, kind, on, target),
@@ -134,7 +146,7 @@ impl<'a> Draft<'a> {
             [name, timer, start, every, on, target] => {
                 self.timer_source(name, timer, timer_kind(start, every), on, target)
             }
-            _ => Err(Refusal::NoForm),
+            _ => Err(Cause::WordCount),
         }
     }
 
@@ -146,12 +158,15 @@ impl<'a> Draft<'a> {
         target: &str,
     ) -> Meant<Line<&'a str>>
         requires { DraftAgrees self.now }
-        ensures { meant line_view result ≡ source_line (view_of self.now.parts) (name.now ∷ kind.now ∷ on.now ∷ target.now ∷ []) }
+        ensures { meant line_view (coded result) ≡ source_line (view_of self.now.parts) (name.now ∷ kind.now ∷ on.now ∷ target.now ∷ []) }
     {
         if on != "on" {
-            return Err(Refusal::NoForm);
+            return Err(Cause::Misplaced {
+                place: 4,
+                expected: Choice::On,
+            });
         }
-        let target = self.object(Asked::Queue, target);
+        let target = self.object(Asked::Queue, 5, target);
         self.object_line(name, both(merge_kind(kind), target), false, "")
     }
 
@@ -164,13 +179,19 @@ impl<'a> Draft<'a> {
         target: &str,
     ) -> Meant<Line<&'a str>>
         requires { DraftAgrees self.now }
-        ensures { meant line_view result ≡ source_line (view_of self.now.parts) (name.now ∷ read.now ∷ feed.now ∷ on.now ∷ target.now ∷ []) }
+        ensures { meant line_view (coded result) ≡ source_line (view_of self.now.parts) (name.now ∷ read.now ∷ feed.now ∷ on.now ∷ target.now ∷ []) }
     {
         if read != "read" {
-            return Err(Refusal::NoForm);
+            return Err(Cause::Misplaced {
+                place: 3,
+                expected: Choice::Read,
+            });
         }
         if on != "on" {
-            return Err(Refusal::NoForm);
+            return Err(Cause::Misplaced {
+                place: 5,
+                expected: Choice::On,
+            });
         }
         self.object_line(name, self.read_kind(feed, target), false, feed)
     }
@@ -184,77 +205,83 @@ impl<'a> Draft<'a> {
         target: &str,
     ) -> Meant<Line<&'a str>>
         requires { DraftAgrees self.now }
-        ensures { meant line_view result ≡ given (bytes_eq timer.now (codes "timer") && bytes_eq on.now (codes "on"))
-            (object_line (view_of self.now.parts) name.now (both kind (queue (view_of self.now.parts) target.now)) false []) }
+        ensures { meant line_view (coded result) ≡ given (bytes_eq timer.now (codes "timer") && bytes_eq on.now (codes "on"))
+            (object_line (view_of self.now.parts) name.now (both (coded kind) (queue (view_of self.now.parts) target.now)) false []) }
     {
         if timer != "timer" {
-            return Err(Refusal::NoForm);
+            return Err(Cause::Misplaced {
+                place: 3,
+                expected: Choice::Timer,
+            });
         }
         if on != "on" {
-            return Err(Refusal::NoForm);
+            return Err(Cause::Misplaced {
+                place: 6,
+                expected: Choice::On,
+            });
         }
-        let target = self.object(Asked::Queue, target);
+        let target = self.object(Asked::Queue, 7, target);
         self.object_line(name, both(kind, target), false, "")
     }
 
     // A read source of this feed on this target.
     fn read_kind(&self, feed: &str, target: &str) -> Meant<(Kind, Obj)>
         requires { DraftAgrees self.now }
-        ensures { result ≡ meant (λ (fits, queue). (Read, queue)) (both (path feed.now) (queue (view_of self.now.parts) target.now)) }
+        ensures { coded result ≡ meant (λ (fits, queue). (Read, queue)) (both (path feed.now) (queue (view_of self.now.parts) target.now)) }
     {
-        let ((), queue) = both(path(feed), self.object(Asked::Queue, target))?;
+        let ((), queue) = both(path(4, feed), self.object(Asked::Queue, 6, target))?;
         Ok((Kind::Read, queue))
     }
 
     /// `cancelled S B` (dispatch_source_set_cancel_handler(3)).
     pub fn cancelled_line(&self, words: &[&'a str]) -> Meant<Line<&'a str>>
         requires { DraftAgrees self.now }
-        ensures { meant line_view result ≡ cancelled_line (view_of self.now.parts) (map (λ w. w.now) words.now) }
+        ensures { meant line_view (coded result) ≡ cancelled_line (view_of self.now.parts) (map (λ w. w.now) words.now) }
     {
         match *words {
             [source, block] => {
-                let source = self.object(Asked::Source, source);
-                let (source, block) = both(source, self.block(block))?;
+                let source = self.object(Asked::Source, 2, source);
+                let (source, block) = both(source, self.block(3, block))?;
                 Ok(Line::SetCancel { source, block })
             }
-            _ => Err(Refusal::NoForm),
+            _ => Err(Cause::WordCount),
         }
     }
 
     /// `until MS`.
     pub fn until_line(&self, words: &[&'a str]) -> Meant<Line<&'a str>>
-        ensures { meant line_view result ≡ until_line self.now.has_until (map (λ w. w.now) words.now) }
+        ensures { meant line_view (coded result) ≡ until_line self.now.has_until (map (λ w. w.now) words.now) }
     {
         match *words {
             [ms] => {
-                let first = must(!self.has_until, Refusal::BadName);
-                let ((), ms) = both(first, number(1, MAX_TIME, ms))?;
+                let first = must(!self.has_until, Cause::SecondUntil);
+                let ((), ms) = both(first, number(2, Amount::Time, ms))?;
                 Ok(Line::SetUntil(ms))
             }
-            _ => Err(Refusal::NoForm),
+            _ => Err(Cause::WordCount),
         }
     }
 
     fn plain_block(&self, name: &'a str) -> Meant<Line<&'a str>>
         requires { DraftAgrees self.now }
-        ensures { meant line_view result ≡ block_line (view_of self.now.parts) (name.now ∷ []) }
+        ensures { meant line_view (coded result) ≡ block_line (view_of self.now.parts) (name.now ∷ []) }
     {
         self.new_name(name)?;
         Ok(Line::DeclareBlock { name, work: None })
     }
 
-    // A block with a new name and a work over this part of the file.
+    // Returns a block with a new name and a work over this part of the file.
     fn work_line(
         &self,
         name: &'a str,
         how: Meant<How>,
-        from: &str,
+        file: Meant<u32>,
         part: Meant<(u32, u32)>,
     ) -> Meant<Line<&'a str>>
         requires { DraftAgrees self.now }
-        ensures { meant line_view result ≡ work_line (view_of self.now.parts) name.now (work how (file (view_of self.now.parts) from.now) part) }
+        ensures { meant line_view (coded result) ≡ work_line (view_of self.now.parts) name.now (work (coded how) (coded file) (coded part)) }
     {
-        let work = work(how, self.file(from), part);
+        let work = work(how, file, part);
         let ((), work) = both(self.new_name(name), work)?;
         Ok(Line::DeclareBlock {
             name,
@@ -272,23 +299,28 @@ impl<'a> Draft<'a> {
         part: Meant<(u32, u32)>,
     ) -> Meant<Line<&'a str>>
         requires { DraftAgrees self.now }
-        ensures { meant line_view result ≡ given (bytes_eq count.now (codes "count"))
-            (work_line (view_of self.now.parts) name.now (work (counting value.now) (file (view_of self.now.parts) from.now) part)) }
+        ensures { meant line_view (coded result) ≡ given (bytes_eq count.now (codes "count"))
+            (work_line (view_of self.now.parts) name.now (work (counting value.now) (file (view_of self.now.parts) from.now) (coded part))) }
     {
         if count != "count" {
-            return Err(Refusal::NoForm);
+            return Err(Cause::Misplaced {
+                place: 3,
+                expected: Choice::Count,
+            });
         }
-        self.work_line(name, counting(value), from, part)
+        self.work_line(name, counting(value), self.file(5, from), part)
     }
 
     /// `block B`, `block B W F`, `block B count V F`, `block B W F FROM LEN`, `block B count V F FROM LEN`.
     pub fn block_line(&self, words: &[&'a str]) -> Meant<Line<&'a str>>
         requires { DraftAgrees self.now }
-        ensures { meant line_view result ≡ block_line (view_of self.now.parts) (map (λ w. w.now) words.now) }
+        ensures { meant line_view (coded result) ≡ block_line (view_of self.now.parts) (map (λ w. w.now) words.now) }
     {
         match *words {
             [name] => self.plain_block(name),
-            [name, how, file] => self.work_line(name, count(how), file, Ok((0, WHOLE_FILE))),
+            [name, how, file] => {
+                self.work_line(name, count(how), self.file(4, file), Ok((0, WHOLE_FILE)))
+            }
             [name, count, value, file] => self.counting_line(
                 name,
                 count,
@@ -297,34 +329,39 @@ impl<'a> Draft<'a> {
                 Ok((0, WHOLE_FILE)),
             ),
             [name, how, file, from, len] => {
-                self.work_line(name, count(how), file, range(from, len))
+                self.work_line(
+                    name,
+                    count(how),
+                    self.file(4, file),
+                    range((5, 6), from, len),
+                )
             }
             [name, count, value, file, from, len] => {
-                self.counting_line(name, count, value, file, range(from, len))
+                self.counting_line(name, count, value, file, range((6, 7), from, len))
             }
-            _ => Err(Refusal::NoForm),
+            _ => Err(Cause::WordCount),
         }
     }
 
     /// `intake Q N`.
     pub fn intake_line(&self, words: &[&'a str]) -> Meant<Line<&'a str>>
         requires { DraftAgrees self.now }
-        ensures { meant line_view result ≡ intake_line (view_of self.now.parts) (map (λ w. w.now) words.now) }
+        ensures { meant line_view (coded result) ≡ intake_line (view_of self.now.parts) (map (λ w. w.now) words.now) }
     {
         match *words {
             [queue, count] => self.intake_of(queue, count),
-            _ => Err(Refusal::NoForm),
+            _ => Err(Cause::WordCount),
         }
     }
 
     fn intake_of(&self, queue: &str, blocks: &str) -> Meant<Line<&'a str>>
         requires { DraftAgrees self.now }
-        ensures { meant line_view result ≡ intake_line (view_of self.now.parts) (queue.now ∷ blocks.now ∷ []) }
+        ensures { meant line_view (coded result) ≡ intake_line (view_of self.now.parts) (queue.now ∷ blocks.now ∷ []) }
     {
-        let first = must(self.has_no_intake(), Refusal::BadName);
+        let first = must(self.has_no_intake(), Cause::SecondIntake);
         let what = both(
-            self.object(Asked::Queue, queue),
-            number(1, MAX_INTAKE, blocks),
+            self.object(Asked::Queue, 2, queue),
+            number(3, Amount::Intake, blocks),
         );
         let ((), (queue, count)) = both(first, what)?;
         Ok(Line::DeclareIntake { queue, count })
@@ -340,11 +377,11 @@ impl<'a> Draft<'a> {
     /// `strip A W F LEN N` (dispatch_apply(3)).
     pub fn strip_line(&self, words: &[&'a str]) -> Meant<Line<&'a str>>
         requires { DraftAgrees self.now }
-        ensures { meant line_view result ≡ strip_line (view_of self.now.parts) (map (λ w. w.now) words.now) }
+        ensures { meant line_view (coded result) ≡ strip_line (view_of self.now.parts) (map (λ w. w.now) words.now) }
     {
         match *words {
             [name, how, file, len, count] => self.named_strip(name, how, file, len, count),
-            _ => Err(Refusal::NoForm),
+            _ => Err(Cause::WordCount),
         }
     }
 
@@ -357,15 +394,15 @@ impl<'a> Draft<'a> {
         blocks: &str,
     ) -> Meant<(How, (u32, (u32, u32)))>
         requires { DraftAgrees self.now }
-        ensures { result ≡ both (one_of counts how.now)
+        ensures { coded result ≡ both (one_of counts how.now)
             (both (file (view_of self.now.parts) from.now)
             (both (number 1 max_file_bytes len.now) (number 0 (max_blocks - 1) blocks.now))) }
     {
         let parts = both(
-            number(1, MAX_FILE_BYTES, len),
-            number(0, MAX_BLOCKS - 1, blocks),
+            number(5, Amount::Part, len),
+            number(6, Amount::Parts, blocks),
         );
-        both(count(how), both(self.file(from), parts))
+        both(count(how), both(self.file(4, from), parts))
     }
 
     fn named_strip(
@@ -377,7 +414,7 @@ impl<'a> Draft<'a> {
         blocks: &str,
     ) -> Meant<Line<&'a str>>
         requires { DraftAgrees self.now }
-        ensures { meant line_view result ≡ strip_line (view_of self.now.parts) (name.now ∷ how.now ∷ file.now ∷ len.now ∷ blocks.now ∷ []) }
+        ensures { meant line_view (coded result) ≡ strip_line (view_of self.now.parts) (name.now ∷ how.now ∷ file.now ∷ len.now ∷ blocks.now ∷ []) }
     {
         let what = self.strip_parts(how, file, len, blocks);
         let ((), (how, (file, (len, count)))) = both(self.new_name(name), what)?;
@@ -393,45 +430,46 @@ impl<'a> Draft<'a> {
     /// `handler S` (dispatch_source_set_event_handler(3)).
     pub fn handler_line(&self, words: &[&'a str]) -> Meant<Line<&'a str>>
         requires { DraftAgrees self.now }
-        ensures { meant line_view result ≡ handler_line (view_of self.now.parts) (map (λ w. w.now) words.now) }
+        ensures { meant line_view (coded result) ≡ handler_line (view_of self.now.parts) (map (λ w. w.now) words.now) }
     {
         match *words {
             [source] => {
-                let source = self.object(Asked::Source, source)?;
+                let source = self.object(Asked::Source, 2, source)?;
                 Ok(Line::OpenHandler(source))
             }
-            _ => Err(Refusal::NoForm),
+            _ => Err(Cause::WordCount),
         }
     }
 
     /// `main`.
     pub fn main_line(&self, words: &[&'a str]) -> Meant<Line<&'a str>>
-        ensures { meant line_view result ≡ main_line self.now.has_main (map (λ w. w.now) words.now) }
+        ensures { meant line_view (coded result) ≡ main_line self.now.has_main (map (λ w. w.now) words.now) }
     {
         match *words {
             [] => {
                 if self.has_main {
-                    return Err(Refusal::NotOneMain);
+                    return Err(Cause::SecondMain);
                 }
                 Ok(Line::OpenMain)
             }
-            _ => Err(Refusal::NoForm),
+            _ => Err(Cause::WordCount),
         }
     }
 }
 
 // A semaphore with this first value.
 fn semaphore_kind(value: &str) -> Meant<(Kind, Obj)>
-    ensures { result ≡ meant (λ value. (Semaphore value, root)) (number 0 max_value value.now) }
+    ensures { coded result ≡ meant (λ value. (Semaphore value, root)) (number 0 max_value value.now) }
 {
-    let value = number(0, MAX_VALUE, value)?;
+    let value = number(3, Amount::Value, value)?;
     Ok((Kind::Semaphore(value), ROOT))
 }
 
 // A timer with these times.
 fn timer_kind(start: &str, every: &str) -> Meant<Kind>
-    ensures { result ≡ meant (λ (m, n). Timer m n) (both (number 1 max_time start.now) (number 1 max_time every.now)) }
+    ensures { coded result ≡ meant (λ (m, n). Timer m n) (both (number 1 max_time start.now) (number 1 max_time every.now)) }
 {
-    let (start, every) = both(number(1, MAX_TIME, start), number(1, MAX_TIME, every))?;
+    let start = number(4, Amount::Time, start);
+    let (start, every) = both(start, number(5, Amount::Time, every))?;
     Ok(Kind::Timer { start, every })
 }

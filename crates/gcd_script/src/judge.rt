@@ -1,14 +1,16 @@
 // What all words of a line mean, and what is judged of the whole line.
 ghost use Rattle.std.specs.Prelude.{◌≡◌, ◌∷◌, map};
 ghost use Rattle.gcd_plan.specs.PlanView.{view_of};
+ghost use Rattle.gcd_script.specs.Causes.{cause_refusal, coded};
+ghost use Rattle.gcd_script.specs.declared.refusal.Refusal.TheVariants.{Repeated};
 ghost use Rattle.gcd_script.specs.Judged.{may_have, is_allowed};
 ghost use Rattle.gcd_script.specs.Views.{line_view};
 
+use crate::cause::{Cause, Limit};
 use crate::draft::Draft;
 use crate::keyword::Keyword;
 use crate::line::Line;
 use crate::meant::Meant;
-use crate::refusal::Refusal;
 use gcd_plan::{Act, Blk, MAX_ACTS, MAX_BLOCKS, MAX_FILES, MAX_OBJECTS, MAX_STRIPS, Obj, Run};
 
 // Whether the body may have the act.
@@ -54,7 +56,7 @@ impl<'a> Draft<'a> {
     // What the words after a known first one mean.
     fn line_by(&self, keyword: Keyword, words: &[&'a str]) -> Meant<Line<&'a str>>
         requires { DraftAgrees self.now }
-        ensures { meant line_view result ≡ line_by (draft_view self.now) (map (λ w. w.now) words.now) keyword }
+        ensures { meant line_view (coded result) ≡ line_by (draft_view self.now) (map (λ w. w.now) words.now) keyword }
     {
         match keyword {
             Keyword::File => self.file_line(words),
@@ -84,11 +86,11 @@ impl<'a> Draft<'a> {
     // What all words together mean.
     fn form_of(&self, first: &str, words: &[&'a str]) -> Meant<Line<&'a str>>
         requires { DraftAgrees self.now }
-        ensures { meant line_view result ≡ form_of (draft_view self.now) (first.now ∷ map (λ w. w.now) words.now) }
+        ensures { meant line_view (coded result) ≡ form_of (draft_view self.now) (first.now ∷ map (λ w. w.now) words.now) }
     {
         match Keyword::of_word(first) {
             Some(keyword) => self.line_by(keyword, words),
-            None => Err(Refusal::NoForm),
+            None => Err(Cause::UnknownFirst),
         }
     }
 
@@ -195,20 +197,44 @@ impl<'a> Draft<'a> {
         }
     }
 
-    /// What the words of a line mean; `words` are those after the first.
+    // Returns what an earlier line has taken of a line that is not untaken.
+    fn repeated(&self, line: &Line<&str>) -> Cause
+        requires { DraftAgrees self.now }
+        ensures { cause_refusal result ≡ Repeated }
+    {
+        match *line {
+            Line::OpenHandler(_) => Cause::SecondHandler,
+            Line::SetCancel { block, .. } if self.is_free(block) => Cause::SecondCancel,
+            Line::AddAct(_, Act::Apply(..)) => Cause::AppliedTwice,
+            _ => Cause::SubmittedTwice,
+        }
+    }
+
+    // Returns what there is no room for, of a line that has no room.
+    fn limit(&self, line: &Line<&str>) -> Limit {
+        match *line {
+            Line::DeclareFile { .. } => Limit::Files,
+            Line::DeclareObject { .. } => Limit::Objects,
+            Line::DeclareStrip { count, .. } if self.has_block_room(count) => Limit::Strips,
+            Line::AddAct(..) => Limit::Acts,
+            _ => Limit::Blocks,
+        }
+    }
+
+    /// Returns what the words of a line mean; `words` are those after the first.
     pub fn line_of(&self, first: &str, words: &[&'a str]) -> Meant<Line<&'a str>>
         requires { DraftAgrees self.now }
-        ensures { meant line_view result ≡ line_of (draft_view self.now) (first.now ∷ map (λ w. w.now) words.now) }
+        ensures { meant line_view (coded result) ≡ line_of (draft_view self.now) (first.now ∷ map (λ w. w.now) words.now) }
     {
         let line = self.form_of(first, words)?;
         if !self.is_untaken(&line) {
-            return Err(Refusal::Repeated);
+            return Err(self.repeated(&line));
         }
         if !is_allowed(&line) {
-            return Err(Refusal::InHandler);
+            return Err(Cause::InHandler);
         }
         if !self.has_room(&line) {
-            return Err(Refusal::PastLimit);
+            return Err(Cause::PastLimit(self.limit(&line)));
         }
         Ok(line)
     }

@@ -2,9 +2,10 @@
 //!
 //! | call | answer |
 //! |---|---|
-//! | `parse` | the plan that the script declares (`IsScriptOf`), which is valid (`IsPlan`); or the first line at fault with the lowest code that applies to it (`IsRefusal`: `fault_of`); or `Memory` |
+//! | `parse` | the plan that the script declares (`IsScriptOf`), which is valid (`IsPlan`); or the first line at fault with the lowest code that applies to it (`IsRefusal`: `fault_of`) and a cause of that code (`HasItsCause`); or `Memory` |
 //! | `big_text` | the script of the large input with n blocks (`big_script`), which is a script; or out of memory |
-//! | `Refusal::code` | the code of a refusal, from 1 to 9 |
+//! | `Refusal::code`, `Cause::code` | the code of a refusal, and of a cause, from 1 to 9 |
+//! | `Amount::least`, `Amount::most` | the range of a number |
 //! | `laws` | the plan that a script declares is valid |
 //!
 //! The model is a text as a list of bytes, which `gcd_text` cuts into lines and words. `keyword_of` says what kind of line a
@@ -79,7 +80,9 @@
 
 mod acts;
 mod additions;
+mod amount;
 mod big;
+mod cause;
 mod changes;
 mod declarations;
 mod draft;
@@ -97,7 +100,10 @@ mod parser;
 mod refusal;
 mod words;
 
+pub use amount::Amount;
 pub use big::big_text;
+pub use cause::{Cause, Choice, Limit};
 pub use fault::ParseFault;
+pub use names::Asked;
 pub use parser::parse;
 pub use refusal::Refusal;

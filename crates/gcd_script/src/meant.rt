@@ -1,22 +1,23 @@
 // What words mean: a value, or why they are refused.
 ghost use Rattle.std.specs.Prelude.{◌≡◌};
+ghost use Rattle.gcd_script.specs.Causes.{cause_refusal, coded};
 ghost use Rattle.gcd_script.specs.Meant.{lower, both, must};
 
-use crate::refusal::Refusal;
+use crate::cause::Cause;
 
-/// What words mean, or the refusal of the lowest code that applies to them.
-pub type Meant<T> = Result<T, Refusal>;
+/// What words mean, or the cause of the lowest code that applies to them.
+pub type Meant<T> = Result<T, Cause>;
 
-// The refusal of the lower code.
-fn lower(p: Refusal, q: Refusal) -> Refusal
-    ensures { result ≡ lower p q }
+// Returns the cause of the lower code; the first if both have the same.
+fn lower(p: Cause, q: Cause) -> Cause
+    ensures { cause_refusal result ≡ lower (cause_refusal p) (cause_refusal q) }
 {
     if p.code() <= q.code() { p } else { q }
 }
 
-/// Both values, or the refusal of the lower code.
+/// Returns both values, or the cause of the lower code.
 pub fn both<A: Drop, B: Drop>(a: Meant<A>, b: Meant<B>) -> Meant<(A, B)>
-    ensures { result ≡ both a b }
+    ensures { coded result ≡ both (coded a) (coded b) }
 {
     match a {
         Ok(a) => match b {
@@ -30,9 +31,9 @@ pub fn both<A: Drop, B: Drop>(a: Meant<A>, b: Meant<B>) -> Meant<(A, B)>
     }
 }
 
-/// The refusal where the test fails.
-pub fn must(test: bool, refusal: Refusal) -> Meant<()>
-    ensures { result ≡ must test refusal }
+/// Returns the cause where the test fails.
+pub fn must(test: bool, cause: Cause) -> Meant<()>
+    ensures { coded result ≡ must test (cause_refusal cause) }
 {
-    if test { Ok(()) } else { Err(refusal) }
+    if test { Ok(()) } else { Err(cause) }
 }

@@ -1,12 +1,14 @@
 // What a form asks of one word that names something.
 ghost use Rattle.std.specs.Prelude.{◌≡◌};
 ghost use Rattle.gcd_plan.specs.PlanView.{view_of};
+ghost use Rattle.gcd_script.specs.Causes.{cause_refusal, coded};
+ghost use Rattle.gcd_script.specs.declared.refusal.Refusal.TheVariants.{BadName};
 
+use crate::cause::Cause;
 use crate::draft::Draft;
 use crate::keyword::ObjectAct;
 use crate::meaning::Meaning;
-use crate::meant::{Meant, must};
-use crate::refusal::Refusal;
+use crate::meant::Meant;
 use gcd_plan::{Blk, Kind, Obj, is_name};
 
 /// What a form asks of an object's kind.
@@ -40,6 +42,19 @@ impl Asked {
     }
 }
 
+// Returns why a line may not declare the name.
+fn bad_name(name: &str) -> Cause
+    ensures { cause_refusal result ≡ BadName }
+{
+    if name == "root" || name == "main" {
+        Cause::ReservedName
+    } else if is_name(name.as_bytes()) {
+        Cause::TakenName
+    } else {
+        Cause::IllFormedName
+    }
+}
+
 impl<'a> Draft<'a> {
     ghost use Rattle.gcd_plan.specs.Kinds.{has_kind};
     ghost use Rattle.gcd_script.specs.Agreement.{DraftAgrees};
@@ -58,50 +73,54 @@ impl<'a> Draft<'a> {
     /// That it is a new name.
     pub fn new_name(&self, name: &str) -> Meant<()>
         requires { DraftAgrees self.now }
-        ensures { result ≡ new_name (view_of self.now.parts) name.now }
+        ensures { coded result ≡ new_name (view_of self.now.parts) name.now }
     {
-        must(self.is_unused(name), Refusal::BadName)
+        if self.is_unused(name) {
+            Ok(())
+        } else {
+            Err(bad_name(name))
+        }
     }
 
-    /// A file's number, by its name.
-    pub fn file(&self, name: &str) -> Meant<u32>
+    /// Returns a file's number, by its name at that place.
+    pub fn file(&self, place: u8, name: &str) -> Meant<u32>
         requires { DraftAgrees self.now }
-        ensures { result ≡ file (view_of self.now.parts) name.now }
+        ensures { coded result ≡ file (view_of self.now.parts) name.now }
     {
         match self.meaning(name) {
             Some(Meaning::File(file)) => Ok(file),
-            Some(Meaning::Object(_)) => Err(Refusal::OtherKind),
-            Some(Meaning::Block(_)) => Err(Refusal::OtherKind),
-            Some(Meaning::Strip(_)) => Err(Refusal::OtherKind),
-            None => Err(Refusal::UnknownName),
+            Some(Meaning::Object(_)) => Err(Cause::NotFile { place }),
+            Some(Meaning::Block(_)) => Err(Cause::NotFile { place }),
+            Some(Meaning::Strip(_)) => Err(Cause::NotFile { place }),
+            None => Err(Cause::UnknownName { place }),
         }
     }
 
-    /// A block, by its name.
-    pub fn block(&self, name: &str) -> Meant<Blk>
+    /// Returns a block, by its name at that place.
+    pub fn block(&self, place: u8, name: &str) -> Meant<Blk>
         requires { DraftAgrees self.now }
-        ensures { result ≡ block (view_of self.now.parts) name.now }
+        ensures { coded result ≡ block (view_of self.now.parts) name.now }
     {
         match self.meaning(name) {
-            Some(Meaning::File(_)) => Err(Refusal::OtherKind),
-            Some(Meaning::Object(_)) => Err(Refusal::OtherKind),
+            Some(Meaning::File(_)) => Err(Cause::NotBlock { place }),
+            Some(Meaning::Object(_)) => Err(Cause::NotBlock { place }),
             Some(Meaning::Block(block)) => Ok(block),
-            Some(Meaning::Strip(_)) => Err(Refusal::OtherKind),
-            None => Err(Refusal::UnknownName),
+            Some(Meaning::Strip(_)) => Err(Cause::NotBlock { place }),
+            None => Err(Cause::UnknownName { place }),
         }
     }
 
-    /// A strip's number, by its name (dispatch_apply(3)).
-    pub fn strip(&self, name: &str) -> Meant<u32>
+    /// Returns a strip's number, by its name at that place (dispatch_apply(3)).
+    pub fn strip(&self, place: u8, name: &str) -> Meant<u32>
         requires { DraftAgrees self.now }
-        ensures { result ≡ strip (view_of self.now.parts) name.now }
+        ensures { coded result ≡ strip (view_of self.now.parts) name.now }
     {
         match self.meaning(name) {
-            Some(Meaning::File(_)) => Err(Refusal::OtherKind),
-            Some(Meaning::Object(_)) => Err(Refusal::OtherKind),
-            Some(Meaning::Block(_)) => Err(Refusal::OtherKind),
+            Some(Meaning::File(_)) => Err(Cause::NotStrip { place }),
+            Some(Meaning::Object(_)) => Err(Cause::NotStrip { place }),
+            Some(Meaning::Block(_)) => Err(Cause::NotStrip { place }),
             Some(Meaning::Strip(strip)) => Ok(strip),
-            None => Err(Refusal::UnknownName),
+            None => Err(Cause::UnknownName { place }),
         }
     }
 
@@ -115,36 +134,36 @@ impl<'a> Draft<'a> {
         }
     }
 
-    /// An object of such a kind, by its name.
-    pub fn object(&self, asked: Asked, name: &str) -> Meant<Obj>
+    /// Returns an object of such a kind, by its name at that place.
+    pub fn object(&self, asked: Asked, place: u8, name: &str) -> Meant<Obj>
         requires { DraftAgrees self.now }
-        ensures { result ≡ object (view_of self.now.parts) (asks asked) name.now }
+        ensures { coded result ≡ object (view_of self.now.parts) (asks asked) name.now }
     {
         match self.meaning(name) {
-            Some(Meaning::File(_)) => Err(Refusal::OtherKind),
+            Some(Meaning::File(_)) => Err(Cause::NotObject { place, asked }),
             Some(Meaning::Object(o)) => {
                 if self.has_kind(asked, o) {
                     Ok(o)
                 } else {
-                    Err(Refusal::OtherKind)
+                    Err(Cause::NotObject { place, asked })
                 }
             }
-            Some(Meaning::Block(_)) => Err(Refusal::OtherKind),
-            Some(Meaning::Strip(_)) => Err(Refusal::OtherKind),
-            None => Err(Refusal::UnknownName),
+            Some(Meaning::Block(_)) => Err(Cause::NotObject { place, asked }),
+            Some(Meaning::Strip(_)) => Err(Cause::NotObject { place, asked }),
+            None => Err(Cause::UnknownName { place }),
         }
     }
 
-    /// The same of an object other than `root`.
-    pub fn object_but_root(&self, asked: Asked, name: &str) -> Meant<Obj>
+    /// Returns an object of such a kind other than `root`, by its name at that place.
+    pub fn object_but_root(&self, asked: Asked, place: u8, name: &str) -> Meant<Obj>
         requires { DraftAgrees self.now }
-        ensures { result ≡ object_but_root (view_of self.now.parts) (asks asked) name.now }
+        ensures { coded result ≡ object_but_root (view_of self.now.parts) (asks asked) name.now }
     {
-        let o = self.object(asked, name)?;
+        let o = self.object(asked, place, name)?;
         if 0 < o.0 {
             Ok(o)
         } else {
-            Err(Refusal::OtherKind)
+            Err(Cause::NotObject { place, asked })
         }
     }
 }

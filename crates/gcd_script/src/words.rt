@@ -1,65 +1,79 @@
 // What a form asks of one word, where nothing that is declared counts.
 ghost use Rattle.std.specs.Prelude.{◌≡◌, ◌≤◌, Ok, IfOk, IfSome};
+ghost use Rattle.gcd_script.specs.Amounts.{least, most};
+ghost use Rattle.gcd_script.specs.Causes.{coded};
 ghost use Rattle.gcd_script.specs.Declarations.{one_of, range, counting, work};
 ghost use Rattle.gcd_script.specs.Keywords.{queue_kinds, merge_kinds, counts};
 ghost use Rattle.gcd_script.specs.Words.{path, number};
 
+use crate::amount::Amount;
+use crate::cause::{Cause, Choice};
 use crate::meant::{Meant, both, must};
-use crate::refusal::Refusal;
-use gcd_plan::{How, Kind, MAX_FILE_BYTES, Work, is_path};
+use gcd_plan::{How, Kind, Work, is_path};
 
-/// That it is a path.
-pub fn path(word: &str) -> Meant<()>
-    ensures { result ≡ path word.now }
+/// Returns whether the word at that place is a path.
+pub fn path(place: u8, word: &str) -> Meant<()>
+    ensures { coded result ≡ path word.now }
 {
-    must(is_path(word.as_bytes()), Refusal::NoForm)
+    must(is_path(word.as_bytes()), Cause::LongPath { place })
 }
 
-/// The number that the word writes, from `low` to `high`.
-pub fn number(low: u32, high: u32, word: &str) -> Meant<u32>
-    ensures value { result ≡ number low high word.now }
+/// Returns the number that the word at that place writes.
+pub fn number(place: u8, amount: Amount, word: &str) -> Meant<u32>
+    ensures value { coded result ≡ number (least amount) (most amount) word.now }
+    ensures within { IfOk result (λ n. n ≤ most amount) }
+{
+    within(place, amount, amount.least(), amount.most(), word)
+}
+
+// Returns the number that the word writes, from `low` to `high`.
+fn within(place: u8, amount: Amount, low: u32, high: u32, word: &str) -> Meant<u32>
+    ensures value { coded result ≡ number low high word.now }
     ensures within { IfOk result (λ n. n ≤ high) }
 {
     match gcd_text::number(word.as_bytes()) {
         Some(n) => {
             if n < u64::from(low) {
-                return Err(Refusal::BadNumber);
+                return Err(Cause::BadNumber { place, amount });
             }
             if u64::from(high) < n {
-                return Err(Refusal::BadNumber);
+                return Err(Cause::BadNumber { place, amount });
             }
             Ok(n as u32)
         }
-        None => Err(Refusal::BadNumber),
+        None => Err(Cause::BadNumber { place, amount }),
     }
 }
 
-/// The range of a work: where it starts, and how many bytes it has at most.
-pub fn range(from: &str, len: &str) -> Meant<(u32, u32)>
-    ensures { result ≡ range from.now len.now }
+/// Returns the range of a work: where it starts, and how many bytes it has at most. The two words are at these places.
+pub fn range(places: (u8, u8), from: &str, len: &str) -> Meant<(u32, u32)>
+    ensures { coded result ≡ range from.now len.now }
 {
     both(
-        number(0, MAX_FILE_BYTES, from),
-        number(0, MAX_FILE_BYTES, len),
+        number(places.0, Amount::Extent, from),
+        number(places.1, Amount::Extent, len),
     )
 }
 
-/// The kind of a queue.
+/// Returns the kind of a queue, the third word of its line.
 pub fn queue_kind(word: &str) -> Meant<Kind>
-    ensures { result ≡ one_of queue_kinds word.now }
+    ensures { coded result ≡ one_of queue_kinds word.now }
 {
     if word == "serial" {
         Ok(Kind::Serial)
     } else if word == "concurrent" {
         Ok(Kind::Concurrent)
     } else {
-        Err(Refusal::NoForm)
+        Err(Cause::Misplaced {
+            place: 3,
+            expected: Choice::QueueKind,
+        })
     }
 }
 
-/// The kind of a source of merged values.
+/// Returns the kind of a source of merged values, the third word of its line.
 pub fn merge_kind(word: &str) -> Meant<Kind>
-    ensures { result ≡ one_of merge_kinds word.now }
+    ensures { coded result ≡ one_of merge_kinds word.now }
 {
     if word == "add" {
         Ok(Kind::Add)
@@ -68,7 +82,10 @@ pub fn merge_kind(word: &str) -> Meant<Kind>
     } else if word == "replace" {
         Ok(Kind::Replace)
     } else {
-        Err(Refusal::NoForm)
+        Err(Cause::Misplaced {
+            place: 3,
+            expected: Choice::MergeKind,
+        })
     }
 }
 
@@ -85,9 +102,9 @@ fn known_count(word: &str) -> Option<How>
     }
 }
 
-/// What a work counts, but for the bytes of a value.
+/// Returns what a work counts, the third word of its line. `count` is read by [`counting`].
 pub fn count(word: &str) -> Meant<How>
-    ensures { result ≡ one_of counts word.now }
+    ensures { coded result ≡ one_of counts word.now }
 {
     if let Some(how) = known_count(word) {
         return Ok(how);
@@ -101,21 +118,24 @@ pub fn count(word: &str) -> Meant<How>
     } else if word == "sum" {
         Ok(How::Sum)
     } else {
-        Err(Refusal::NoForm)
+        Err(Cause::Misplaced {
+            place: 3,
+            expected: Choice::Work,
+        })
     }
 }
 
-/// The work that counts the bytes of a value.
+/// Returns the work that counts the bytes of a value, the fourth word of its line.
 pub fn counting(word: &str) -> Meant<How>
-    ensures { result ≡ counting word.now }
+    ensures { coded result ≡ counting word.now }
 {
-    let value = number(0, 255, word)?;
+    let value = number(4, Amount::Byte, word)?;
     Ok(How::Count(value as u8))
 }
 
 /// A work: what it counts, and over which part of a file.
 pub fn work(how: Meant<How>, file: Meant<u32>, part: Meant<(u32, u32)>) -> Meant<Work>
-    ensures { result ≡ work how file part }
+    ensures { coded result ≡ work (coded how) (coded file) (coded part) }
 {
     let (how, (file, (start, len))) = both(how, both(file, part))?;
     Ok(Work {

@@ -60,7 +60,7 @@ fn load_plan<S: Shelf>(alloc: Global, shelf: &mut S, name: &str) -> Result<(Vec<
     let script = load_whole(alloc, shelf, name, MAX_SCRIPT_BYTES, too_long)?;
     match parse(alloc, &script) {
         Ok(plan) => Ok((script, plan)),
-        Err(ParseFault::Refused { line, code }) => Err(Stop::Script { line, code }),
+        Err(ParseFault::Refused { line, code, .. }) => Err(Stop::Script { line, code }),
         Err(ParseFault::Memory) => Err(Stop::Memory),
     }
 }
@@ -79,7 +79,7 @@ fn load_journal<S: Shelf>(
     let text = load_whole(alloc, shelf, name, MAX_FILE_BYTES, too_long)?;
     match read_journal(alloc, plan, MAX_EVENTS, &text) {
         Ok(events) => Ok(events),
-        Err(JournalFault::Refused { line }) => Err(Stop::Journal { line: line as u32 }),
+        Err(JournalFault::Refused { line, .. }) => Err(Stop::Journal { line: line as u32 }),
         Err(JournalFault::Memory) => Err(Stop::Memory),
     }
 }

@@ -5,7 +5,7 @@ use Rattle.gcd_journal.proofs.reader.line_of.Goals as goal
 
 pub returns-else-count-most : goal.returns-else-count-most
 returns-else-count-most c =
-    one_too_many c.args.most (look_of c.args.names.now.runs) c.args.line.now c.args.rest.now c.args.count c.requires (omega arith) c.in-Some.e c.in-Some.ensures (omega arith)
+    one_too_many c.args.most (look_of c.args.names.now.runs) c.args.line.now c.args.rest.now c.args.count c.requires (omega arith) c.in-Ok.e c.in-Ok.ensures (omega arith)
 
 pub returns-then-is_count : goal.returns-then-is_count
 returns-then-is_count c =
@@ -13,4 +13,4 @@ returns-then-is_count c =
 
 pub returns-else-is_count : goal.returns-else-is_count
 returns-else-is_count c =
-    no_form c.args.most (look_of c.args.names.now.runs) c.args.line.now c.args.rest.now c.args.count c.requires (omega arith) c.in-None.ensures c.if-is_count.ensures
+    no_form c.args.most (look_of c.args.names.now.runs) c.args.line.now c.args.rest.now c.args.count c.requires (omega arith) c.in-Err.ensures c.if-is_count.ensures

@@ -24,3 +24,8 @@ returns-in_err-take_line-clause-refused c =
     rw (p.1, p.2)
     (refusal c.args.bytes.now c.loop-line.rest.now (draft_view c.loop-line.draft) c.loop-line.invariant.leads
     c.in-Some.line.now c.in-Some.more.now c.in-Some.ensures.0 c.in_err-take_line.field-0.0 c.in_err-take_line.ensures.refused)
+
+pub returns-in_err-take_line-clause-cause : goal.returns-in_err-take_line-clause-cause
+returns-in_err-take_line-clause-cause c =
+    let p = err_from_is_err_and c.from_residual-in_err-take_line.result c.from_residual-in_err-take_line.ensures.1 in
+    rw (p.1, p.2) c.in_err-take_line.ensures.cause

@@ -1,6 +1,6 @@
 use Rattle.std.proofs.Common.{◌<◌, ◌≤◌, sym, ◌∙◌, arith}
 use Rattle.gcd_script.proofs.Numbers.{number_in, number_low, number_high}
-use Rattle.gcd_script.proofs.words.number.Goals as goal
+use Rattle.gcd_script.proofs.words.within.Goals as goal
 
 pub returns-then-n-from-clause-value : goal.returns-then-n-from-clause-value
 returns-then-n-from-clause-value c =

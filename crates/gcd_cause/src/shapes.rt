@@ -1,0 +1,132 @@
+// How the lines of a script are written.
+
+use crate::lines::Words;
+use crate::pick::is_among;
+use std::fmt;
+
+// Each form of line: its first word, and how the words after it are written. Those of one first word are neighbours.
+static SHAPES: [(&str, &str); 46] = [
+    ("file", "F PATH"),
+    ("queue", "Q K"),
+    ("queue", "Q K inactive"),
+    ("queue", "Q K on T"),
+    ("queue", "Q K on T inactive"),
+    ("group", "G"),
+    ("semaphore", "S N"),
+    ("source", "S add on T"),
+    ("source", "S read PATH on T"),
+    ("source", "S timer START EVERY on T"),
+    ("cancelled", "S B"),
+    ("until", "MS"),
+    ("block", "B"),
+    ("block", "B W F"),
+    ("block", "B count V F"),
+    ("block", "B W F FROM LEN"),
+    ("block", "B count V F FROM LEN"),
+    ("handler", "S"),
+    ("main", ""),
+    ("intake", "Q N"),
+    ("strip", "A W F LEN N"),
+    ("async", "Q B"),
+    ("barrier", "Q B"),
+    ("sync", "Q B"),
+    ("barrier_sync", "Q B"),
+    ("group_async", "G Q B"),
+    ("notify", "G Q B"),
+    ("enter", "G"),
+    ("leave", "G"),
+    ("group_wait", "G"),
+    ("group_wait_for", "G MS"),
+    ("signal", "S"),
+    ("wait", "S"),
+    ("wait_for", "S MS"),
+    ("suspend", "O"),
+    ("resume", "O"),
+    ("activate", "O"),
+    ("target", "O T"),
+    ("merge", "S N"),
+    ("cancel", "S"),
+    ("retain", "O"),
+    ("release", "O"),
+    ("apply", "Q A"),
+    ("cancel_block", "B"),
+    ("wait_block", "B"),
+    ("notify_block", "B Q C"),
+];
+
+static WORKS: [&str; 4] = ["bytes", "lines", "words", "sum"];
+
+static QUEUE_KINDS: [&str; 2] = ["serial", "concurrent"];
+
+static MERGE_KINDS: [&str; 3] = ["add", "or", "replace"];
+
+/// Whether a line may begin with the word.
+pub fn is_first(word: &str) -> bool {
+    SHAPES.as_slice().iter().any(|(first, _)| *first == word)
+}
+
+// Whether a word may be what the form has in its place. A name, a path and a number may be any word.
+fn is_met(asked: &str, word: &str) -> bool {
+    match asked {
+        "K" => is_among(&QUEUE_KINDS, word),
+        "W" => is_among(&WORKS, word),
+        "add" => is_among(&MERGE_KINDS, word),
+        "count" | "inactive" | "on" | "read" | "timer" => asked == word,
+        _ => true,
+    }
+}
+
+// Whether the words of a line fit a form up to that place, from 1, the first word.
+fn fits(shape: &str, words: &Words, place: u8) -> bool {
+    let mut at = 1u8;
+    for (asked, word) in shape.split(' ').zip(words.after.as_slice()) {
+        at = at.saturating_add(1);
+        if !is_met(asked, *word) {
+            return false;
+        }
+        if at == place {
+            return true;
+        }
+    }
+    false
+}
+
+// A form, after what separates it from the one before.
+fn write_shape<W: fmt::Write>(
+    f: &mut fmt::Formatter<W>,
+    between: &str,
+    first: &str,
+    shape: &str,
+) -> fmt::Result {
+    let space = if shape.is_empty() { "" } else { " " };
+    write!(f, "{between}{first}{space}{shape}")
+}
+
+/// All forms of the first word of a line.
+pub fn write_forms<W: fmt::Write>(f: &mut fmt::Formatter<W>, first: &str) -> fmt::Result {
+    let mut between = "";
+    for (other, shape) in SHAPES.as_slice() {
+        if *other == first {
+            write_shape(f, between, first, *shape)?;
+            between = "; ";
+        }
+    }
+    Ok(())
+}
+
+/// The forms that the words of a line fit up to that place, from 1, after what introduces them. Nothing if there is none.
+pub fn write_fitting<W: fmt::Write>(
+    f: &mut fmt::Formatter<W>,
+    before: &str,
+    words: &Words,
+    place: u8,
+) -> fmt::Result {
+    let mut between = before;
+    for (first, shape) in SHAPES.as_slice() {
+        if *first == words.first && fits(*shape, words, place) {
+            write_shape(f, between, *first, *shape)?;
+            between = "; ";
+        }
+    }
+    Ok(())
+}
