@@ -46,4 +46,4 @@ HaveSent share mouths = (s : ℕ) (m : MouthView Told) → slice_get mouths s �
 -- what the run of what was given has left beside so many senders, each of which handed in its share of the jobs for so many blocks
 abbrev pub HasRun : (d : Dispatch FrontJob) (senders share : ℕ) → Seen PollerState → Seen ClockState → Ran → Type 0
 HasRun d senders share poller clock ran =
-    RunsBeside (λ job input value. value ≡ front_value job) (λ told value. value ≡ told.0) (HaveSent share) d senders poller clock ran
+    RunsBeside (λ job input value. value ≡ front_value job) (λ told value. value ≡ told.0) (HaveSent share) d senders (record { poller = poller; clock = clock }) ran

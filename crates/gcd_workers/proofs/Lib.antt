@@ -14,6 +14,7 @@ pub mod Pools
 pub mod Runs
 pub mod Rushing
 pub mod Senders
+pub mod Unhalted
 pub mod Tellings
 pub mod Valued
 pub mod Wholes

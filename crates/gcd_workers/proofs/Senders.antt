@@ -20,7 +20,7 @@ use Rattle.gcd_front.specs.Views.{FrontView, IntakeView}
 use Rattle.gcd_jobs.specs.BlockValues.{has_given}
 use Rattle.gcd_jobs.specs.Jobs.{gives_or_zero}
 use Rattle.gcd_jobs.specs.declared.tally.Tally.{Tally}
-use Rattle.gcd_outer.specs.Outside.{ClockState, Seen}
+use Rattle.gcd_outer.specs.Outside.{ClockState, Rises, Seen}
 use Rattle.gcd_outer.specs.Tells.{PollerState}
 use Rattle.gcd_loop.specs.Ran.{RunsPlan}
 use Rattle.gcd_machine.proofs.Views.Calls.{lawful_stands}
@@ -189,9 +189,9 @@ module _ {J X : Type 0} (gives : J → ℕ → ℕ → Type 0) (sent : X → ℕ
   -- so such a run is one of jobs of any type, by no more than so many workers
   pub runs_jobs : (d : Dispatch (Option J)) (jobs : List J) (workers : ℕ) (f : FrontView) (i : IntakeView X) (poller : Seen PollerState)
       (clock : Seen ClockState) (ran : Ran) → IsPlan d.plan.now → d.jobs.items ≡ map Some jobs → length jobs ≡ length d.plan.now.blocks → f.senders ≡ 0
-      → 0 < d.workers → d.workers ≤ workers → RunsFront (gives_or_zero gives) sent d f i poller clock ran
+      → 0 < d.workers → d.workers ≤ workers → (Rises poller.before.faults poller.after.faults → ⊥) → RunsFront (gives_or_zero gives) sent d f i poller clock ran
       → RunsJobs gives d.most d.plan.now jobs workers ran
-  runs_jobs d jobs workers f i poller clock ran valid some count nobody low more left =
+  runs_jobs d jobs workers f i poller clock ran valid some count nobody low more never left =
       let run = left.run in
       let h = ran.journal.items in
       let given = subst (λ (l : List (Option J)). AreGiven (gives_or_zero gives) d.plan.now l h ran.values.items) some
@@ -204,6 +204,7 @@ module _ {J X : Type 0} (gives : J → ℕ → ℕ → Type 0) (sent : X → ℕ
         by = λ k e at. let by = run.by k e at in omega (arith, more, by);
         chosen = λ one. run.chosen (omega (arith, low, more, one));
         uncalled = calls_none f.senders h nobody run.called;
+        unhalted = λ has. never (run.heard.faults.halts has);
         given = record {
           count = given.count;
           ended = λ b within gave. own_given jobs ran.values.items b (omega (arith, count, within)) (given.ended b within gave);

@@ -1,13 +1,13 @@
 -- What a run leaves whose work comes from outside.
-use Rattle.std.specs.Prelude.{◌≡◌, ◌<◌, ◌⊎◌, ◌++◌, ◌∷◌, [], ℕ, List, All, length, Some, replicate, slice_get, ◌≤◌}
+use Rattle.std.specs.Prelude.{◌≡◌, ◌<◌, ◌⊎◌, ◌++◌, ◌∷◌, [], ℕ, Contains, List, All, length, Some, replicate, slice_get, ◌≤◌}
 use Rattle.gcd_plan.specs.Limits.{max_events}
 use Rattle.gcd_plan.specs.PlanView.{PlanView}
+use Rattle.gcd_event.specs.declared.event.Event.TheVariants.{Halt}
 use Rattle.gcd_front.specs.Limits.{max_senders}
 use Rattle.gcd_front.specs.Fronts.{IsLeftOf, IsMouthOf, IsTakenOf, new_mouths}
 use Rattle.gcd_front.specs.Views.{FrontView, IntakeView, LeftView, MouthView, left_of}
-use Rattle.gcd_outer.specs.Outside.{ClockState, Seen}
-use Rattle.gcd_outer.specs.Tells.{PollerState}
 use Rattle.gcd_workers.specs.CallersRuns.{RunsFront}
+use Rattle.gcd_workers.specs.Met.{Met}
 use Rattle.gcd_workers.specs.declared.called.Called.{Called}
 use Rattle.gcd_workers.specs.declared.called.Called.TheVariants.{Nothing, Sent}
 use Rattle.gcd_workers.specs.declared.dispatch.Dispatch.{Dispatch}
@@ -57,18 +57,18 @@ module _ {X : Type 0} where
 -- does (`RunsFront`), and as many mouths, which the callers left as they say. Of each of these, one of a sender of the front, what was taken
 -- of the sender is how the jobs begin that were sent through it (`IsTakenOf`).
 pub record RunsBeside {J X : Type 0} (gives : J → ℕ → ℕ → Type 0) (sent : X → ℕ → Type 0) (leave : List (MouthView X) → Type 0) (d : Dispatch J)
-    (senders : ℕ) (poller : Seen PollerState) (clock : Seen ClockState) (ran : Ran) : Type 0 where
+    (senders : ℕ) (outside : Met) (ran : Ran) : Type 0 where
   pub front : FrontView
   pub intake : IntakeView X
   pub mouths : List (MouthView X)
   pub of_front : front.senders ≡ senders
   pub count : length mouths ≡ senders
-  pub runs : RunsFront gives sent d front intake poller clock ran
+  pub runs : RunsFront gives sent d front intake outside.poller outside.clock ran
   pub called : leave mouths
   pub taken : (k : ℕ) (m : MouthView X) → slice_get mouths k ≡ Some m → m.sender < senders → IsTakenOf front intake m.sender m.sent
 
 -- The run of a plan beside callers, by so many workers, with the outside in memory: the plan's own blocks do nothing, and there are a poller
--- and a clock, with which it promises what a run beside callers does (`RunsBeside`).
+-- and a clock, with which it promises what a run beside callers does (`RunsBeside`). Nothing halts it from outside.
 pub record RunsCallers {X : Type 0} (sent : X → ℕ → Type 0) (leave : List (MouthView X) → Type 0) (plan : PlanView) (workers senders : ℕ)
     (ran : Ran) : Type 0 where
   pub given : Dispatch (Called X)
@@ -76,6 +76,6 @@ pub record RunsCallers {X : Type 0} (sent : X → ℕ → Type 0) (leave : List 
   pub workers_is : given.workers ≡ workers
   pub most_is : given.most ≡ max_events
   pub jobs_are : given.jobs.items ≡ nothings (length plan.blocks)
-  pub poller : Seen PollerState
-  pub clock : Seen ClockState
-  pub runs : RunsBeside (called_gives sent) sent leave given senders poller clock ran
+  pub outside : Met
+  pub runs : RunsBeside (called_gives sent) sent leave given senders outside ran
+  pub unhalted : Contains ran.journal.items Halt → ⊥

@@ -1,8 +1,9 @@
 -- What a run of a caller's own jobs leaves.
-use Rattle.std.specs.Prelude.{◌≡◌, ◌<◌, ◌≤◌, ◌⊎◌, ℕ, true, false, List, length, Option, Some, None, slice_get}
+use Rattle.std.specs.Prelude.{◌≡◌, ◌<◌, ◌≤◌, ◌⊎◌, ℕ, true, false, Contains, List, length, Option, Some, None, slice_get}
 use Rattle.gcd_plan.specs.Limits.{max_workers}
 use Rattle.gcd_plan.specs.PlanView.{PlanView}
 use Rattle.gcd_event.specs.declared.event.Event.{Event}
+use Rattle.gcd_event.specs.declared.event.Event.TheVariants.{Halt}
 use Rattle.gcd_history.specs.Ends.{HasEnded, HasState}
 use Rattle.gcd_history.specs.History.{IsLawful}
 use Rattle.gcd_jobs.specs.BlockValues.{has_given}
@@ -39,7 +40,7 @@ pub record AreGiven {J : Type 0} (gives : J → ℕ → ℕ → Type 0) (plan : 
 
 -- The run of a plan with these jobs by so many workers, of at most `most` events: its journal is lawful and has ended, in this state; each
 -- event is of one of the workers, and with one worker each event of a worker is what that worker chooses at its place; no job of an outside
--- caller is accepted, since there are none; and these are the values of the blocks.
+-- caller is accepted, since there are none; nothing halts it from outside; and these are the values of the blocks.
 pub record RunsJobs {J : Type 0} (gives : J → ℕ → ℕ → Type 0) (most : ℕ) (plan : PlanView) (jobs : List J) (workers : ℕ) (ran : Ran) : Type 0 where
   pub lawful : IsLawful plan ran.journal.items
   pub ended : HasEnded most plan ran.journal.items
@@ -48,6 +49,7 @@ pub record RunsJobs {J : Type 0} (gives : J → ℕ → ℕ → Type 0) (most : 
   pub by : IsOfWorkers workers ran.journal.items
   pub chosen : workers ≡ 1 → FollowsChoice plan ran.journal.items
   pub uncalled : AcceptsNone ran.journal.items
+  pub unhalted : Contains ran.journal.items Halt → ⊥
   pub given : AreGiven gives plan jobs ran.journal.items ran.values.items
 
 module _ {J : Type 0} where

@@ -2,7 +2,9 @@ pub mod CalledRuns
 pub mod CallersRuns
 pub mod JobsRuns
 pub mod ListRuns
+pub mod Met
 pub mod Opened
 pub mod Ran
+pub mod Silent
 pub mod Teams
 pub mod Works

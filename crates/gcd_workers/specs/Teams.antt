@@ -76,6 +76,11 @@ pub record IsRoom {S : Type 0} (rack : Rack) (plan : PlanView) (h : List Event) 
   pub none : room.hands.items ≡ []
   pub capacity : n ≤ vec_capacity room.hands
 
+-- the room of a team of a hand for each bench, each helper with a copy of the machine
+abbrev pub IsRoomFor : {S : Type 0} → MachineView → List Bench → Room S → Type 0
+IsRoomFor machine benches room = (rack : Rack) (plan : PlanView) (h : List Event) → All (IsBenchOf rack) benches → StandsFor machine plan h
+    → IsRoom rack plan h (length benches) room
+
 -- worker 0's pass of a board that was just opened: no number was given out, and it holds no run
 pub record IsNew {S : Type 0} (v : View S) : Type 0 where
   pub worker : v.worker ≡ 0

@@ -8,6 +8,7 @@ ghost use Rattle.gcd_outer.specs.Outside.{seen};
 ghost use Rattle.gcd_turn.specs.Asked.{KeepsListens};
 ghost use Rattle.gcd_workers.specs.CalledRuns.{AreNew, HaveCalled, RunsBeside};
 ghost use Rattle.gcd_workers.specs.CallersRuns.{IsReadyBeside, RunsFront};
+ghost use Rattle.gcd_workers.specs.Met.{met};
 ghost use Rattle.gcd_workers.specs.declared.refused.RunRefused.{RunRefused};
 
 use crate::callers::{Callers, Ends, call_and_shut};
@@ -145,8 +146,7 @@ impl<J: Job + Drop + Send> Dispatch<'_, J> {
         requires senders { senders ≤ max_senders }
         requires unwatched { (feed : ℕ) → (P.state poller.old).watched feed ≡ false }
         ensures ran { IfOk result (RunsBeside J.gives X.gives (K.called callers.old callers.new) self.entry senders
-            (seen P.tells P.state poller.old poller.new)
-            (seen C.tells C.state clock.old clock.new)) }
+            (met P.Poller poller.old poller.new C.Clock clock.old clock.new)) }
         ensures kept { KeepsListens P.tells (P.state poller.old) (P.state poller.new) }
         ensures before { IsErrOf result RunRefused.BeforeTheRun → (poller.new ≡ poller.old) × (clock.new ≡ clock.old) }
     {

@@ -46,7 +46,7 @@
 //!
 //! | clause of `run_jobs` | says |
 //! |---|---|
-//! | `ran` (`RunsJobs`) | the journal is lawful, has at most `most` events, and has ended, in the state told; whose its events are, as above; and a block has a value exactly if it has ended and is not cancelled, which is one that its own job may give (`AreGiven`) |
+//! | `ran` (`RunsJobs`) | the journal is lawful, has at most `most` events, and has ended, in the state told, and nothing halts it from outside; whose its events are, as above; and a block has a value exactly if it has ended and is not cancelled, which is one that its own job may give (`AreGiven`) |
 //! | `job_count`, `worker_count`, `event_count` | it is refused by that name exactly if there is not one job for each block; if otherwise the number of workers is 0 or above 64; and if otherwise there may be no event |
 //!
 //! | part of `RunsFront` | says |
@@ -61,7 +61,7 @@
 //!
 //! | clause of `run_callers` | says |
 //! |---|---|
-//! | `ran` (`RunsCallers`) | there are a front with so many senders, its intake, beside which `RunsFront` holds, with a job that gives 0 for each block of the plan itself, and mouths that the callers left as they say, of whose senders the intake took what was sent first (`RunsBeside`). So of each sender the blocks that were accepted ran jobs that were taken of it, in order, each once, and their values are those that these may give |
+//! | `ran` (`RunsCallers`) | there are a front with so many senders, its intake, beside which `RunsFront` holds, with a job that gives 0 for each block of the plan itself, and mouths that the callers left as they say, of whose senders the intake took what was sent first (`RunsBeside`), and nothing halts the run from outside. So of each sender the blocks that were accepted ran jobs that were taken of it, in order, each once, and their values are those that these may give |
 //! | `no_intake`, `worker_count`, `sender_count` | it is refused by that name exactly if the plan has no intake; if otherwise the number of workers is 0 or above 64; and if otherwise that of senders is |
 //!
 //! The callers say of themselves what calling comes to (`called` of [`Callers`]): what they were and are, and the mouths as they leave them,

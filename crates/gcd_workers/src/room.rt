@@ -5,7 +5,7 @@ ghost use Rattle.gcd_machine.specs.Stands.{StandsFor};
 ghost use Rattle.gcd_plan.specs.PlanView.{PlanView};
 ghost use Rattle.gcd_steal.specs.Racks.{IsBenchOf};
 ghost use Rattle.gcd_steal.specs.declared.bench.Rack.{Rack};
-ghost use Rattle.gcd_workers.specs.Teams.{IsHelper, IsRoom};
+ghost use Rattle.gcd_workers.specs.Teams.{IsHelper, IsRoomFor};
 
 use gcd_machine::Machine;
 use gcd_pool::Hand;
@@ -53,8 +53,7 @@ impl<S: Slot> Room<S> {
         mut benches: Vec<Bench>,
     ) -> Result<Room<S>, AllocError>
         requires { 0 < length benches.items }
-        ensures { (rack : Rack) (plan : PlanView) (h : List Event) → All (IsBenchOf rack) benches.items → StandsFor machine.now plan h
-            → IfOk result (IsRoom rack plan h (length benches.items)) }
+        ensures { IfOk result (IsRoomFor machine.now benches.items) }
     {
         let count = benches.len();
         let hands = Vec::with_capacity(alloc, count)?;

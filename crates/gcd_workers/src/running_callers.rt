@@ -11,7 +11,7 @@ use crate::callers::Callers;
 use crate::callers_refused::CallersRefused;
 use crate::dispatch::Dispatch;
 use crate::ran::Ran;
-use crate::silent::silent_poller;
+use crate::silent::SilentPoller;
 use gcd_front::{MAX_SENDERS, Sent};
 use gcd_outer::JumpClock;
 use gcd_plan::{MAX_EVENTS, MAX_WORKERS, Plan};
@@ -43,7 +43,7 @@ fn run_by_callers<X: Sent + Drop + Send, C: Callers<X>, R: Threads + Wait + Sync
     requires senders { senders ≤ max_senders }
     ensures { IfOk result (RunsCallers X.gives (C.called callers.old callers.new) plan.now workers senders) }
 {
-    let mut poller = silent_poller(alloc, plan)?;
+    let mut poller = SilentPoller::new();
     let given = Dispatch {
         plan,
         workers,
@@ -56,7 +56,7 @@ fn run_by_callers<X: Sent + Drop + Send, C: Callers<X>, R: Threads + Wait + Sync
 }
 
 /// Runs a plan whose work comes from callers outside, and the callers beside it: the plan by so many workers, each in a thread of its own,
-/// until the run is quiescent or halted, or has as many events as a run can have; and in this thread `callers`, which hand in jobs through
+/// until the run is quiescent, or a misuse ends it, or it has as many events as a run can have; and in this thread `callers`, which hand in jobs through
 /// the mouths of so many senders (dispatch_async(3)). The next block of the plan's intake runs each job that is accepted, and the values lie
 /// by block ([`Ran`]); the journal tells by an `Accept` each which block is whose job. The blocks of the plan itself have no work of their
 /// own, and give 0 ([`Called`](crate::Called)). How mouths, front and threads go along is told at

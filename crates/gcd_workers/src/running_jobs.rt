@@ -10,7 +10,7 @@ use crate::hiring::team_size;
 use crate::jobs_refused::JobsRefused;
 use crate::nobodys_front::nobodys_front;
 use crate::ran::Ran;
-use crate::silent::silent_poller;
+use crate::silent::SilentPoller;
 use gcd_jobs::Job;
 use gcd_outer::JumpClock;
 use gcd_plan::{MAX_WORKERS, Plan};
@@ -54,7 +54,7 @@ fn run_by_team<J: Job + Drop + Send, R: Threads + Wait + Sync>(
     requires most { 0 < most }
     ensures { IfOk result (RunsJobs J.gives most plan.now jobs.items workers) }
 {
-    let mut poller = silent_poller(alloc, plan)?;
+    let mut poller = SilentPoller::new();
     let (front, mut intake) = nobodys_front(alloc)?;
     let given = Dispatch {
         plan,
@@ -67,8 +67,8 @@ fn run_by_team<J: Job + Drop + Send, R: Threads + Wait + Sync>(
     Ok(ran)
 }
 
-/// Runs a caller's own jobs: the plan by at most so many workers, until the run is quiescent or halted, or has `most` events. With
-/// `MAX_EVENTS` there is no limit but that of all runs. There is one job for each block, by number, so the first is `main`'s; it runs at
+/// Runs a caller's own jobs: the plan by at most so many workers, until the run is quiescent, or a misuse ends it, or it has `most` events.
+/// With `MAX_EVENTS` there is no limit but that of all runs. There is one job for each block, by number, so the first is `main`'s; it runs at
 /// most once, at the input 0, when its block comes to its end, and never if its block is cancelled (dispatch_block_cancel(3)). A block has
 /// a value exactly if it has ended and is not cancelled. There are no outside callers: an intake is shut at once. Each source's handler is
 /// a tally, of which nothing is told. The call makes board, rack, tallies, poller and clock, and drops them. If no job is long

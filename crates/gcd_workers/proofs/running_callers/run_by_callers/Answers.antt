@@ -1,5 +1,6 @@
 use Rattle.std.proofs.Common.{◌∙◌, refl, ap}
 use Rattle.gcd_workers.specs.CalledRuns.{nothings}
+use Rattle.gcd_workers.proofs.Unhalted.{never_rises}
 use Rattle.gcd_workers.proofs.running_callers.run_by_callers.Goals as goal
 
 pub returns : goal.returns
@@ -9,7 +10,7 @@ returns g c = record {
   workers_is = refl;
   most_is = refl;
   jobs_are = c.in_ok-nothings.ensures ∙ ap nothings c.blocks-2.ensures.count;
-  poller = _;
-  clock = _;
+  outside = _;
   runs = c.in_ok-ran.ensures.ran;
+  unhalted = λ has. never_rises (c.in_ok-ran.ensures.ran.runs.run.heard.faults.halts has);
 }
